@@ -1,4 +1,9 @@
 pub mod Code
+pub mod Spelling
+pub mod IsCode
+pub mod View
+pub mod ImageView
+pub mod Readers
 pub mod Effect
 pub mod Typed
 pub mod Config
