@@ -7,7 +7,8 @@ use Rattle.std.proofs.lemmas.Str.{IsCharBoundary-from_take}
 use Rattle.std.specs.Str.{IsUtf8, IsCharBoundary}
 use Rattle.std.proofs.lemmas.Bool.Decides.{nat_tests}
 use Rattle.std.proofs.lemmas.List.Concat.{flat_map-append}
-use Rattle.jt_escape.specs.Escaping.{escaped, escaped_byte, entity, Extends}
+use Rattle.jt_escape.specs.Escaping.{escaped, escaped_byte, entity}
+use Rattle.jt_escape.specs.Appending.{Extends}
 
 pub escaped_more : (text : List ℕ) (at : ℕ) → at < length text → escaped (take (at + 1) text) ≡ escaped (take at text) ++ escaped_byte (get_or text at 0)
 escaped_more text at inside =

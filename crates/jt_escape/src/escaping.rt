@@ -1,6 +1,7 @@
 //! The five characters that HTML gives a meaning, written as its entities.
 ghost use Rattle.std.specs.Prelude.{◌≡◌, ◌++◌, option_map, OnOk, OnErr, string_bytes};
-ghost use Rattle.jt_escape.specs.Escaping.{escaped, entity, Extends};
+ghost use Rattle.jt_escape.specs.Escaping.{escaped, entity};
+ghost use Rattle.jt_escape.specs.Appending.{Extends};
 
 use jt_value::NoMemory;
 use std::alloc::AllocError;
@@ -48,5 +49,27 @@ fn entity_of(byte: u8) -> Option<&'static str>
         b'\'' => Some("&#39;"),
         b'"' => Some("&#34;"),
         _ => None,
+    }
+}
+
+#[cfg(test)]
+mod tests {
+    use super::*;
+    use std::test::Fail;
+
+    #[test]
+    fn escapes_the_five_characters(rt: HostRuntime) -> Result<(), Fail> {
+        for (text, written) in [
+            ("", ""),
+            ("<b id=\"x\">'&'</b>", "&lt;b id=&#34;x&#34;&gt;&#39;&amp;&#39;&lt;/b&gt;"),
+            ("&lt;", "&amp;lt;"),
+            ("größer als 3 €", "größer als 3 €"),
+            ("ä<ü", "ä&lt;ü"),
+        ] {
+            let mut into = String::from_str(rt.alloc(), ">")?;
+            escape_into(text, &mut into)?;
+            assert_eq!(rt; into.strip_prefix(">"), Some(written));
+        }
+        Ok(())
     }
 }

@@ -1,6 +1,7 @@
 use Rattle.std.proofs.Common.{◌≡◌, ◌++◌, string_bytes, ℕ, ◌+◌, ◌-◌, ◌<◌, ◌≤◌, List, [], length, get_or, take, drop, Some, None, refl, ap, sym, ◌∙◌, arith}
 use Rattle.std.proofs.lemmas.Str.{IsCharBoundary-start, IsCharBoundary-after_ascii}
-use Rattle.jt_escape.specs.Escaping.{escaped, entity, Extends}
+use Rattle.jt_escape.specs.Escaping.{escaped, entity}
+use Rattle.jt_escape.specs.Appending.{Extends}
 use Rattle.jt_escape.proofs.Runs.{goes_on, replaced, entity_is_ascii, extends_refl, extends_more}
 use Rattle.jt_escape.proofs.escaping.append_escaped.Goals as goal
 use Rattle.jt_escape.proofs.escaping.append_escaped.Goals.{in-Some+in_ok-push_str+in_ok-push_str-2, in_default}

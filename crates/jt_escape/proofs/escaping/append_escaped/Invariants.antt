@@ -1,6 +1,7 @@
 use Rattle.std.proofs.Common.{◌≡◌, ◌++◌, string_bytes, ◌-◌, ◌≤◌, take, drop}
 use Rattle.std.specs.Str.{IsCharBoundary}
-use Rattle.jt_escape.specs.Escaping.{escaped, Extends}
+use Rattle.jt_escape.specs.Escaping.{escaped}
+use Rattle.jt_escape.specs.Appending.{Extends}
 use Rattle.jt_escape.proofs.escaping.append_escaped.Given as goal
 
 abbrev pub invariant-loop-at : goal.invariant-loop-at
