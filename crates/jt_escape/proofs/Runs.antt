@@ -1,5 +1,5 @@
 -- A text escaped from its start to a place, where the bytes from `written` on need no entity.
-use Rattle.std.proofs.Common.{◌≡◌, ℕ, ◌+◌, ◌-◌, ◌<◌, ◌≤◌, List, [], ◌∷◌, ◌++◌, length, get_or, take, drop, Option, Some, None, refl, sym, ap, ◌∙◌, append_assoc, length-drop, length-append, subst, arith}
+use Rattle.std.proofs.Common.{◌≡◌, ℕ, ◌+◌, ◌-◌, ◌<◌, ◌≤◌, List, [], ◌∷◌, ◌++◌, length, get_or, take, drop, Option, Some, None, sym, ap, ◌∙◌, append_assoc, length-drop, length-append, subst, arith}
 use Rattle.std.specs.Prelude.{unwrap_or}
 use Rattle.std.proofs.lemmas.List.{take_more, get_or-drop, append-nil}
 use Rattle.std.proofs.Math.Seq.{take-append_seam}
@@ -22,8 +22,8 @@ run_more text written at order inside =
     let far : at - written < length (drop written text) = omega (arith, length-drop written text) in
     let place : written + (at - written) ≡ at = omega arith in
     rw n (
-      take_more (drop written text) (at - written) 0 far
-      ∙ ap (λ (b : ℕ). take (at - written) (drop written text) ++ (b ∷ [])) (get_or-drop written text (at - written) 0 ∙ ap (λ (i : ℕ). get_or text i 0) place)
+    take_more (drop written text) (at - written) 0 far
+    ∙ ap (λ (b : ℕ). take (at - written) (drop written text) ++ (b ∷ [])) (get_or-drop written text (at - written) 0 ∙ ap (λ (i : ℕ). get_or text i 0) place)
     )
 
 -- a byte that stands for itself
@@ -46,11 +46,11 @@ replaced text before into mid entity_text after written at inside special same r
     let one : escaped_byte (get_or text at 0) ≡ entity_text = ap (λ (e : Option (List ℕ)). unwrap_or e (get_or text at 0 ∷ [])) special in
     let none : (at + 1) - (at + 1) ≡ 0 = omega arith in
     rw none (
-      append-nil after
-      ∙ out
-      ∙ ap (λ (xs : List ℕ). xs ++ entity_text) (run ∙ same)
-      ∙ append_assoc before (escaped (take at text)) entity_text
-      ∙ ap (λ (xs : List ℕ). before ++ xs) (ap (λ (xs : List ℕ). escaped (take at text) ++ xs) (sym one) ∙ sym (escaped_more text at inside))
+    append-nil after
+    ∙ out
+    ∙ ap (λ (xs : List ℕ). xs ++ entity_text) (run ∙ same)
+    ∙ append_assoc before (escaped (take at text)) entity_text
+    ∙ ap (λ (xs : List ℕ). before ++ xs) (ap (λ (xs : List ℕ). escaped (take at text) ++ xs) (sym one) ∙ sym (escaped_more text at inside))
     )
 
 pub extends_refl : (xs : List ℕ) → Extends xs xs

@@ -61,7 +61,10 @@ mod tests {
     fn escapes_the_five_characters(rt: HostRuntime) -> Result<(), Fail> {
         for (text, written) in [
             ("", ""),
-            ("<b id=\"x\">'&'</b>", "&lt;b id=&#34;x&#34;&gt;&#39;&amp;&#39;&lt;/b&gt;"),
+            (
+                "<b id=\"x\">'&'</b>",
+                "&lt;b id=&#34;x&#34;&gt;&#39;&amp;&#39;&lt;/b&gt;",
+            ),
             ("&lt;", "&amp;lt;"),
             ("größer als 3 €", "größer als 3 €"),
             ("ä<ü", "ä&lt;ü"),

@@ -9,5 +9,5 @@ invariant-loop-at l = record {
   order : l.written ≤ l.at;
   boundary : IsCharBoundary l.text l.written;
   grown : Extends (string_bytes l.initial.into) (string_bytes l.into);
-  same : string_bytes l.into ++ take (l.at - l.written) (drop l.written l.text) ≡ string_bytes l.initial.into ++ escaped (take l.at l.text)
+  same : string_bytes l.into ++ take (l.at - l.written) (drop l.written l.text) ≡ string_bytes l.initial.into ++ escaped (take l.at l.text);
 }
