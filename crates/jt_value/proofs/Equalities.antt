@@ -154,3 +154,12 @@ pub equal_at-same : (xs ys : List Pair) (i : ℕ) (e f : Pair) → same_keys (en
     → has_key (string_bytes e.0) (entries_view (take i xs)) ≡ false → equal_at (entries_view xs) (string_bytes e.0) (entry_of (string_bytes e.0) (entries_view ys)) ≡ equal (view e.1) (view f.1)
 equal_at-same xs ys i e f h lt is at p =
     equal_at-first xs i e lt is p (entry_of (string_bytes e.0) (entries_view ys)) ∙ ap (λ o. option_map_or (equal (view e.1)) o false) (same_first xs ys i e f h lt is at p)
+
+-- what a look behind the entries below an index says, for the names that a proof has for them
+pub seen : (k m : List ℕ) (xs ys : List Pair) (i j : ℕ) (b : Bool) → b ≡ has_key k (entries_view (take j ys)) → k ≡ m → j ≡ i → ys ≡ xs → has_key m (entries_view (take i xs)) ≡ b
+seen k m xs ys i j b h p q r =
+    ap (λ n. has_key n (entries_view (take i xs))) (sym p) ∙ ap (λ n. has_key k (entries_view (take n xs))) (sym q) ∙ ap (λ (l : List Pair). has_key k (entries_view (take j l))) (sym r) ∙ sym h
+
+-- the same of a look for the first value of a key
+pub found : (t : Tree) (k m : List ℕ) (fs : Entries) (b : Bool) → b ≡ option_map_or (equal t) (entry_of k fs) false → k ≡ m → option_map_or (equal t) (entry_of m fs) false ≡ b
+found t k m fs b h p = ap (λ n. option_map_or (equal t) (entry_of n fs) false) (sym p) ∙ sym h
