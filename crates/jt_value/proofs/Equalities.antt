@@ -163,3 +163,11 @@ seen k m xs ys i j b h p q r =
 -- the same of a look for the first value of a key
 pub found : (t : Tree) (k m : List ℕ) (fs : Entries) (b : Bool) → b ≡ option_map_or (equal t) (entry_of k fs) false → k ≡ m → option_map_or (equal t) (entry_of m fs) false ≡ b
 found t k m fs b h p = ap (λ n. option_map_or (equal t) (entry_of n fs) false) (sym p) ∙ sym h
+
+-- the same of a test for the same keys
+pub told_same : (vs xs ws ys : List Pair) → true ≡ same_keys (entries_view vs) (entries_view ws) → vs ≡ xs → ws ≡ ys → same_keys (entries_view xs) (entries_view ys) ≡ true
+told_same vs xs ws ys h p q = ap (λ (l : List Pair). same_keys (entries_view l) (entries_view ys)) (sym p) ∙ ap (λ (l : List Pair). same_keys (entries_view vs) (entries_view l)) (sym q) ∙ sym h
+
+pub and_known : (a b : Bool) → b ≡ true → a ≡ (a && b)
+and_known true b h = sym h
+and_known false b h = refl
