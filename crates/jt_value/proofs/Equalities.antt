@@ -1,9 +1,9 @@
 -- Equality of lists and maps, item by item and key by key.
-use Rattle.std.proofs.Common.{◌≡◌, ◌≢◌, ℕ, zero, suc, ◌+◌, ◌<◌, Bool, true, false, cond, ◌&&◌, List, [], ◌∷◌, ◌++◌, length, take, get_or, Option, Some, None, String, Global, string_bytes, refl, sym, ap, ◌∙◌, subst, true≢false, arith}
+use Rattle.std.proofs.Common.{◌≡◌, ◌≢◌, ℕ, zero, suc, ◌+◌, ◌<◌, Bool, true, false, cond, ◌&&◌, List, [], ◌∷◌, length, take, get_or, Option, Some, string_bytes, refl, sym, ap, ◌∙◌, subst, true≢false, arith}
 use Rattle.std.specs.Option.{option_map_or}
 use Rattle.std.specs.Str.{bytes_eq}
 use Rattle.std.specs.Cmp.Lexicographic.{nat_list_eq_equiv, same_text}
-use Rattle.jt_value.specs.Tree.{Tree, Items, Entries, no_entries, entry}
+use Rattle.jt_value.specs.Tree.{Tree, Entries, no_entries, entry}
 use Rattle.jt_value.specs.View.{view, items_view, entries_view}
 use Rattle.jt_value.specs.Entries.{entry_of, has_key, all_keys, same_keys}
 use Rattle.jt_value.specs.Equality.{equal, equal_items, equal_at}
@@ -134,8 +134,8 @@ same_first [] ys i e f h lt is at p = absurd (omega arith)
 same_first (x ∷ xs) [] i e f h lt is at p = absurd (true≢false (sym h))
 same_first (x ∷ xs) (y ∷ ys) zero e f h lt is at p =
     let same : bytes_eq (string_bytes y.0) (string_bytes e.0) ≡ true =
-        subst (λ (z : Pair). bytes_eq (string_bytes y.0) (string_bytes z.0) ≡ true) (sym is)
-        (nat_list_eq_equiv.symm (string_bytes y.0) (string_bytes x.0) ∙ left_true (bytes_eq (string_bytes x.0) (string_bytes y.0)) (same_keys (entries_view xs) (entries_view ys)) h) in
+    subst (λ (z : Pair). bytes_eq (string_bytes y.0) (string_bytes z.0) ≡ true) (sym is)
+    (nat_list_eq_equiv.symm (string_bytes y.0) (string_bytes x.0) ∙ left_true (bytes_eq (string_bytes x.0) (string_bytes y.0)) (same_keys (entries_view xs) (entries_view ys)) h) in
     ap (λ b. cond b (Some (view y.1)) (entry_of (string_bytes e.0) (entries_view ys))) same ∙ ap (λ (z : Pair). Some (view z.1)) (sym at)
 same_first (x ∷ xs) (y ∷ ys) (suc i) e f h lt is at p =
     let same = same_text (string_bytes x.0) (string_bytes y.0) (sym (left_true (bytes_eq (string_bytes x.0) (string_bytes y.0)) (same_keys (entries_view xs) (entries_view ys)) h)) in

@@ -1,9 +1,9 @@
 -- Rows of the definition of items.
-use Rattle.std.proofs.Common.{◌≡◌, true, List, [], ◌∷◌, refl}
-use Rattle.std.specs.Prelude.{Result, Ok, Err, pos}
+use Rattle.std.proofs.Common.{◌≡◌, true, [], ◌∷◌, refl}
+use Rattle.std.specs.Prelude.{Ok, Err, pos}
 use Rattle.std.specs.Char.{encode_utf8}
 use Rattle.std.specs.Str.{chars}
-use Rattle.jt_value.specs.Tree.{undefined, nothing, truth_value, number, text, markup, list, map, no_items, item, no_entries, entry}
+use Rattle.jt_value.specs.Tree.{undefined, nothing, truth_value, number, text, markup, map, no_items, item, no_entries, entry}
 use Rattle.jt_value.specs.Iteration.{items_of_tree}
 use Rattle.jt_value.specs.declared.fault.Fault.TheVariants.{NotIterable}
 

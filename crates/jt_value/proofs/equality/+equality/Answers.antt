@@ -1,5 +1,4 @@
-use Rattle.std.proofs.Common.{◌≡◌, ◌≢◌, ◌<◌, ◌+◌, true, false, not, List, length, get_or, take, sym, ap, ◌∙◌, refl, true≢false, arith, string_bytes}
-use Rattle.std.specs.Vec.{vec_len}
+use Rattle.std.proofs.Common.{◌≡◌, ◌≢◌, ◌<◌, true, false, List, length, get_or, sym, ap, ◌∙◌, true≢false, arith, string_bytes}
 use Rattle.jt_value.specs.Entries.{entry_of, has_key, all_keys}
 use Rattle.jt_value.specs.Equality.{equal_at}
 use Rattle.jt_value.specs.View.{view, entries_view}
@@ -39,10 +38,11 @@ are_first_values_equal-loop-key-preserved t c =
       index = omega arith;
       so_far = passes (λ n. equal_at (entries_view xs) n (entry_of n fs)) xs i e lt is c.loop-key.invariant.so_far (λ new.
           elim c.else-counts.branch [
-            are_first_values_equal-else-counts-via-then-counts+else-not-is_first_value w ↦
-              equal_at-first xs i e lt is new (entry_of k fs) ∙ found (view e.1) w.deref-then-counts.result.now k fs true (w.if-not-is_first_value.ensures) w.deref-then-counts.ensures
-          | are_first_values_equal-else-counts-via-else-counts w ↦
-              absurd (true≢false (sym (seen c.deref-in-loop-key.result.now k xs c.deref.result.now i c.loop-key.index true w.if-counts.ensures c.deref-in-loop-key.ensures c.loop-key.invariant.index c.deref.ensures.value) ∙ new)) ]);
+            | are_first_values_equal-else-counts-via-then-counts+else-not-is_first_value w ↦
+                equal_at-first xs i e lt is new (entry_of k fs) ∙ found (view e.1) w.deref-then-counts.result.now k fs true (w.if-not-is_first_value.ensures) w.deref-then-counts.ensures
+            | are_first_values_equal-else-counts-via-else-counts w ↦
+                absurd (true≢false (sym (seen c.deref-in-loop-key.result.now k xs c.deref.result.now i c.loop-key.index true w.if-counts.ensures c.deref-in-loop-key.ensures c.loop-key.invariant.index c.deref.ensures.value) ∙ new))
+          ]);
     }
 
 pub are_maps_equal-returns-then-have_same_keys : goal.are_maps_equal-returns-then-have_same_keys
@@ -86,8 +86,9 @@ are_values_equal_in_place-loop-key-preserved t c =
       same_keys = c.loop-key.invariant.same_keys;
       so_far = passes (λ n. equal_at (entries_view xs) n (entry_of n (entries_view ys))) xs i e lt is c.loop-key.invariant.so_far (λ new.
           elim c.else-not-are_equal.branch [
-            are_values_equal_in_place-else-not-are_equal-via-then-not-are_equal+else-not-has w ↦
-              absurd (true≢false (sym (seen w.deref-then-not-are_equal.result.now (string_bytes e.0) xs w.deref.result.now i c.loop-key.index true w.if-not-has.ensures w.deref-then-not-are_equal.ensures c.loop-key.invariant.index w.deref.ensures.value) ∙ new))
-          | are_values_equal_in_place-else-not-are_equal-via-else-not-are_equal w ↦
-              equal_at-same xs ys i e f c.loop-key.invariant.same_keys lt is at new ∙ sym w.if-not-are_equal.ensures ]);
+            | are_values_equal_in_place-else-not-are_equal-via-then-not-are_equal+else-not-has w ↦
+                absurd (true≢false (sym (seen w.deref-then-not-are_equal.result.now (string_bytes e.0) xs w.deref.result.now i c.loop-key.index true w.if-not-has.ensures w.deref-then-not-are_equal.ensures c.loop-key.invariant.index w.deref.ensures.value) ∙ new))
+            | are_values_equal_in_place-else-not-are_equal-via-else-not-are_equal w ↦
+                equal_at-same xs ys i e f c.loop-key.invariant.same_keys lt is at new ∙ sym w.if-not-are_equal.ensures
+          ]);
     }
