@@ -14,18 +14,18 @@ and_false : (a : Bool) → (a && false) ≡ false
 and_false true = refl
 and_false false = refl
 
-left_true : (a b : Bool) → (a && b) ≡ true → a ≡ true
+pub left_true : (a b : Bool) → (a && b) ≡ true → a ≡ true
 left_true true b h = refl
 left_true false b h = h
 
-right_true : (a b : Bool) → (a && b) ≡ true → b ≡ true
+pub right_true : (a b : Bool) → (a && b) ≡ true → b ≡ true
 right_true true b h = h
 right_true false b h = absurd (true≢false (sym h))
 
-both_true : (a b : Bool) → a ≡ true → b ≡ true → (a && b) ≡ true
+pub both_true : (a b : Bool) → a ≡ true → b ≡ true → (a && b) ≡ true
 both_true a b p q = ap (λ x. x && b) p ∙ q
 
-reflexive : (k : List ℕ) → bytes_eq k k ≡ true
+pub reflexive : (k : List ℕ) → bytes_eq k k ≡ true
 reflexive k = nat_list_eq_equiv.refl k
 
 -- lists of other lengths are unequal
@@ -51,7 +51,7 @@ all_keys-more test no_entries k u h p = both_true (test k) true p refl
 all_keys-more test (entry l t es) k u h p = both_true (test l) (all_keys test (more_entries es k u)) (left_true (test l) (all_keys test es) h) (all_keys-more test es k u (right_true (test l) (all_keys test es) h) p)
 
 -- a test of all keys holds of each key that is there
-holds_of : (test : List ℕ → Bool) (es : Entries) (k : List ℕ) → all_keys test es ≡ true → has_key k es ≡ true → test k ≡ true
+pub holds_of : (test : List ℕ → Bool) (es : Entries) (k : List ℕ) → all_keys test es ≡ true → has_key k es ≡ true → test k ≡ true
 holds_of test no_entries k h there = absurd (true≢false (sym there))
 holds_of test (entry l t es) k h there = by (bytes_eq l k) refl there (holds_of test es k (right_true (test l) (all_keys test es) h))
   where
@@ -60,7 +60,7 @@ holds_of test (entry l t es) k h there = by (bytes_eq l k) refl there (holds_of 
     by false e p rest = rest p
 
 -- a test that holds of each key holds of all
-all_of : (test : List ℕ → Bool) (es : Entries) → ((k : List ℕ) → has_key k es ≡ true → test k ≡ true) → all_keys test es ≡ true
+pub all_of : (test : List ℕ → Bool) (es : Entries) → ((k : List ℕ) → has_key k es ≡ true → test k ≡ true) → all_keys test es ≡ true
 all_of test no_entries h = refl
 all_of test (entry l t es) h = both_true (test l) (all_keys test es) (h l (ap (λ b. cond b true (has_key l es)) (reflexive l))) (all_of test es (λ k there. h k (later (bytes_eq l k) (has_key k es) there)))
   where

@@ -1,9 +1,10 @@
 //! Equality.
-ghost use Rattle.std.specs.Prelude.{◌≡◌, true, false};
+ghost use Rattle.std.specs.Prelude.{◌≡◌, ◌↔◌, true, false, IsTrue};
 ghost use Rattle.std.specs.Option.{option_map_or};
 ghost use Rattle.jt_value.specs.Tree as tree;
+ghost use Rattle.jt_value.specs.Tree.{Entries};
 ghost use Rattle.jt_value.specs.Entries.{entry_of, all_keys, same_keys};
-ghost use Rattle.jt_value.specs.Equality.{equal, equal_items, equal_at, truth_number};
+ghost use Rattle.jt_value.specs.Equality.{equal, equal_items, equal_at, truth_number, AgreeAtEachKey};
 ghost use Rattle.jt_value.specs.View.{view, items_view, entries_view};
 
 use crate::entries::{first_value, has, has_all_keys, have_same_keys};
@@ -13,7 +14,8 @@ impl Value {
     /// Whether two values are equal: numbers and truth values as numbers, texts by their characters, markup or not, lists item by
     /// item, maps by their keys' first values in any order; none equals none, and undefined undefined.
     pub fn equals(&self, other: &Value) -> bool
-        ensures { result ≡ equal (view self.now) (view other.now) }
+        ensures value { result ≡ equal (view self.now) (view other.now) }
+        ensures maps { (es fs : Entries) → view self.now ≡ tree.map es → view other.now ≡ tree.map fs → IsTrue result ↔ AgreeAtEachKey es fs }
     {
         are_equal(self, other)
     }
