@@ -104,7 +104,12 @@ fn truth_and_printed_text(rt: HostRuntime) -> Result<(), Fail> {
     }
     let numbers = list(alloc, &[1])?;
     assert!(rt; numbers.truth());
-    assert!(rt; matches!(numbers.printed(alloc), Err(ValueError::Fault(Fault::Unprintable))));
+    assert!(rt;
+        matches!(
+            numbers.printed(alloc),
+            Err(ValueError::Fault(Fault::Unprintable))
+        )
+    );
     Ok(())
 }
 
@@ -157,6 +162,9 @@ fn refusals_print(rt: HostRuntime) -> Result<(), Fail> {
         assert_eq!(rt; ValueError::Fault(fault).to_string(alloc)?.as_str(), want);
     }
     assert_eq!(rt; NoMemory.to_string(alloc)?.as_str(), "no memory");
-    assert_eq!(rt; ValueError::NoMemory.to_string(alloc)?.as_str(), "no memory");
+    assert_eq!(rt;
+        ValueError::NoMemory.to_string(alloc)?.as_str(),
+        "no memory"
+    );
     Ok(())
 }
