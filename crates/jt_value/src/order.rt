@@ -1,6 +1,8 @@
 //! Order.
-ghost use Rattle.std.specs.Prelude.{◌≡◌};
-ghost use Rattle.jt_value.specs.Order.{order};
+ghost use Rattle.std.specs.Prelude.{◌≡◌, ℕ, List, Ok};
+ghost use Rattle.std.specs.Cmp.Lexicographic.{slice_cmp};
+ghost use Rattle.std.specs.Ordering.{nat_cmp};
+ghost use Rattle.jt_value.specs.Order.{order, Spells};
 ghost use Rattle.jt_value.specs.View.{view};
 
 use crate::fault::Fault;
@@ -14,16 +16,23 @@ impl Value {
     ///
     /// For all other operands `Undefined` if one of them is undefined, else `BadType`.
     pub fn compare(&self, other: &Value) -> Result<Ordering, Fault>
-        ensures { result ≡ order (view self.now) (view other.now) }
+        ensures value { result ≡ order (view self.now) (view other.now) }
+        ensures code_points { (cs ds : List ℕ) → Spells cs (view self.now) → Spells ds (view other.now) → result ≡ Ok (slice_cmp nat_cmp cs ds) }
     {
-        match (self, other) {
-            (Value::Int(left), Value::Int(right)) => Ok(left.cmp(right)),
-            (Value::Text(left), Value::Text(right)) => Ok(left.as_str().cmp(right.as_str())),
-            (Value::Text(left), Value::Markup(right)) => Ok(left.as_str().cmp(right.as_str())),
-            (Value::Markup(left), Value::Text(right)) => Ok(left.as_str().cmp(right.as_str())),
-            (Value::Markup(left), Value::Markup(right)) => Ok(left.as_str().cmp(right.as_str())),
-            (Value::Undefined, _) | (_, Value::Undefined) => Err(Fault::Undefined),
-            _ => Err(Fault::BadType),
-        }
+        ordering_of(self, other)
+    }
+}
+
+fn ordering_of(left: &Value, right: &Value) -> Result<Ordering, Fault>
+    ensures { result ≡ order (view left.now) (view right.now) }
+{
+    match (left, right) {
+        (Value::Int(left), Value::Int(right)) => Ok(left.cmp(right)),
+        (Value::Text(left), Value::Text(right)) => Ok(left.as_str().cmp(right.as_str())),
+        (Value::Text(left), Value::Markup(right)) => Ok(left.as_str().cmp(right.as_str())),
+        (Value::Markup(left), Value::Text(right)) => Ok(left.as_str().cmp(right.as_str())),
+        (Value::Markup(left), Value::Markup(right)) => Ok(left.as_str().cmp(right.as_str())),
+        (Value::Undefined, _) | (_, Value::Undefined) => Err(Fault::Undefined),
+        _ => Err(Fault::BadType),
     }
 }
