@@ -1,0 +1,6 @@
+pub mod Names
+pub mod Tops
+pub mod Shapes
+pub mod Typing
+pub mod Refusing
+pub mod Working
