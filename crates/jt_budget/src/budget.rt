@@ -81,6 +81,7 @@ impl Budget {
 #[cfg(test)]
 mod tests {
     use crate::{Budget, Spent};
+    use std::test::Fail;
 
     const BUDGET: Budget = Budget {
         fuel: 5,
@@ -103,7 +104,13 @@ mod tests {
         let mut budget = BUDGET;
         assert_eq!(rt; budget.emit(4), Err(Spent::Output));
         assert_eq!(rt; budget.emit(3), Ok(()));
-        assert_eq!(rt; budget, Budget { output: 0, ..BUDGET });
+        assert_eq!(rt;
+            budget,
+            Budget {
+                output: 0,
+                ..BUDGET
+            }
+        );
     }
 
     #[test]
@@ -128,7 +135,7 @@ mod tests {
     }
 
     #[test]
-    fn names(rt: HostRuntime) {
+    fn names(rt: HostRuntime) -> Result<(), Fail> {
         let alloc = rt.alloc();
         for (spent, name) in [
             (Spent::Fuel, "Fuel"),
@@ -137,7 +144,9 @@ mod tests {
             (Spent::Size, "Size"),
             (Spent::Nesting, "Nesting"),
         ] {
-            assert_eq!(rt; format!(in alloc; "{spent}").unwrap_or_default().as_str(), name);
+            let shown = format!(in alloc; "{spent}")?;
+            assert_eq!(rt; shown.as_str(), name);
         }
+        Ok(())
     }
 }
