@@ -1,0 +1,10 @@
+//! Runs verified images under budgets.
+#![tactic(auto)]
+
+mod limits;
+mod outcome;
+mod start;
+mod state;
+mod step;
+
+pub use outcome::Outcome;
