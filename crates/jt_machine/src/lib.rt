@@ -3,6 +3,7 @@
 
 mod limits;
 mod outcome;
+mod runs;
 mod start;
 mod state;
 mod step;
