@@ -9,3 +9,4 @@ mod state;
 mod step;
 
 pub use outcome::Outcome;
+pub use runs::run;

@@ -14,10 +14,26 @@ use crate::step::step;
 use jt_budget::Budget;
 use jt_image::Code;
 use jt_value::{Context, NoMemory};
+use jt_verify::Verified;
 use std::alloc::Global;
 
-/// Runs a typed code.
-pub(crate) fn run_code<C: Code>(
+/// Runs an image for a context under a budget. No memory is the one error.
+pub fn run(
+    alloc: Global,
+    verified: &Verified,
+    context: &Context,
+    budget: Budget,
+) -> Result<Outcome, NoMemory>
+    // The outcome is that of the run.
+    ensures outcome { IfOk result (λ o. Run verified.now (pairs_of context.now) (budget_view budget) (outcome_view o)) }
+    // Every run of the image has one outcome, stays within its fuel and is never wrong.
+    ensures safe { (x : Pairs) (b : config.Budget) → IsSafe verified.now x b }
+{
+    run_code(alloc, verified.image(), context, budget)
+}
+
+// Runs a typed code.
+fn run_code<C: Code>(
     alloc: Global,
     code: &C,
     context: &Context,

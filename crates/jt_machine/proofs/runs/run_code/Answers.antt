@@ -1,9 +1,8 @@
-use Rattle.std.proofs.Common.{◌≡◌, ◌≤◌, ◌∙◌, sym, ap, subst, refl, None}
-use Rattle.std.specs.List.{AllByRecursion}
+use Rattle.std.proofs.Common.{◌≡◌, ◌∙◌, sym, refl, None}
 use Rattle.jt_value.specs.ContextView.{pairs_of}
-use Rattle.jt_image.specs.Run.{Next, next, Goes, Ends, Run, Ending, passed}
+use Rattle.jt_image.specs.Run.{next, Goes, Ends, passed}
 use Rattle.jt_image.proofs.Runs.{start_good}
-use Rattle.jt_machine.specs.View.{budget_view, config_view, next_view, outcome_view, entries_view}
+use Rattle.jt_machine.specs.View.{budget_view, config_view, outcome_view, entries_view}
 use Rattle.jt_machine.proofs.Steps.{ending_now, ending_back, goes_good, goes_down, not_wrong, sizes}
 use Rattle.jt_machine.proofs.runs.run_code.Goals as goal
 
