@@ -1,7 +1,9 @@
 pub mod Code
 pub mod Spelling
 pub mod IsCode
+pub mod Reading
 pub mod View
+pub mod HeaderView
 pub mod ImageView
 pub mod Readers
 pub mod Effect

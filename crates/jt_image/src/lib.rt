@@ -2,11 +2,20 @@
 #![tactic(auto)]
 
 mod code;
+mod decoding;
+mod error;
+mod fields;
 mod image;
 mod instruction;
 mod kind;
+mod tables;
+mod units;
+mod wire;
 
 pub use code::{Code, ConstantRef, UnitHeader};
+pub use decoding::decode;
+pub use error::ImageError;
 pub use image::{Constant, Image};
 pub use instruction::Instruction;
 pub use kind::{Flaw, Kind};
+pub use wire::Instr;
