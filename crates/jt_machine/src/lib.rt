@@ -10,3 +10,6 @@ mod step;
 
 pub use outcome::Outcome;
 pub use runs::run;
+
+#[cfg(test)]
+mod tests;
