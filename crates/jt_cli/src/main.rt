@@ -1,0 +1,52 @@
+//! The program `jt`.
+#![tactic(auto)]
+
+mod files;
+mod jobs;
+mod line;
+mod machine;
+mod messages;
+mod program;
+
+use crate::machine::Machine;
+use crate::messages::Status;
+use crate::program::perform;
+use std::io;
+use std::process::ExitCode;
+
+fn main(rt: HostRuntime) -> ExitCode {
+    match arguments(&rt) {
+        Ok(words) => ExitCode::from(perform_on(&rt, words.as_slice())),
+        Err(error) => ExitCode::from(unread(&error).code()),
+    }
+}
+
+/// The words of the line without the program's name.
+fn arguments(rt: &HostRuntime) -> io::Result<Vec<String>> {
+    let words = std::env::args(rt)?.skip(1).collect(rt.alloc())?;
+    Ok(words)
+}
+
+/// Why there are no words: memory ran out, or one of them is no text.
+fn unread(error: &io::Error) -> Status {
+    if error.kind() == io::ErrorKind::OutOfMemory {
+        Status::Memory
+    } else {
+        Status::Usage
+    }
+}
+
+fn perform_on(rt: &HostRuntime, words: &[String]) -> u8 {
+    let alloc = rt.alloc();
+    let mut texts = Vec::new(alloc);
+    for word in words {
+        if texts.push(word.as_str()).is_err() {
+            return Status::Memory.code();
+        }
+    }
+    let mut files = Machine::new(rt);
+    perform(alloc, texts.as_slice(), &mut files, &mut rt.stdout(), &mut rt.stderr())
+}
+
+#[cfg(test)]
+mod tests;

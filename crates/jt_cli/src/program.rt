@@ -1,0 +1,82 @@
+//! A whole run of the program.
+
+use crate::files::{FileError, Files};
+use crate::jobs::{Command, Job};
+use crate::line::job;
+use crate::messages::{Failure, Status, no_code, no_image, text_of};
+use jt_image::decode;
+use jt_machine::{Budget, run, verify};
+use jt_value::Context;
+use std::alloc::Global;
+use std::io::Write;
+
+/// Does what `words`, the line without the program's name, ask for, and answers the status:
+/// 0 done, 1 fault, 2 usage, 3 refused, 4 spent, 5 file, 6 no memory.
+///
+/// The text goes to `out`, with nothing added. Where the status is not 0 nothing stands there,
+/// unless writing it failed, and `errors` says why: by the usage, or by one line.
+pub fn perform<F: Files, W: Write, E: Write>(
+    alloc: Global,
+    words: &[&str],
+    files: &mut F,
+    out: &mut W,
+    errors: &mut E,
+) -> u8 {
+    match printed(alloc, words, files, out) {
+        Ok(()) => Status::Done.code(),
+        Err(failure) => {
+            // Where standard error takes nothing, the status alone says how the run ended.
+            let _ = write!(errors, "{failure}");
+            failure.status().code()
+        }
+    }
+}
+
+fn printed<F: Files, W: Write>(
+    alloc: Global,
+    words: &[&str],
+    files: &mut F,
+    out: &mut W,
+) -> Result<(), Failure> {
+    let text = done(alloc, words, files)?;
+    match out.write_all(text.as_bytes()) {
+        Ok(()) => Ok(()),
+        Err(_) => Err(Failure::Output),
+    }
+}
+
+/// Does what the line asks for, but for printing. The text is what it prints.
+fn done<F: Files>(alloc: Global, words: &[&str], files: &mut F) -> Result<String, Failure> {
+    let Job { command, budget } = job(alloc, words)?;
+    match command {
+        Command::Run { image } => {
+            let bytes = bytes_at(files, image)?;
+            run_image(alloc, &bytes, budget)
+        }
+    }
+}
+
+/// The bytes of the file at `path`.
+fn bytes_at<F: Files>(files: &mut F, path: String) -> Result<Vec<u8>, Failure> {
+    match files.read(path.as_str()) {
+        Ok(bytes) => Ok(bytes),
+        Err(FileError::Failed) => Err(Failure::File(path)),
+        Err(FileError::NoMemory) => Err(Failure::NoMemory),
+    }
+}
+
+/// The text of the image that `bytes` spell, run in the empty context.
+fn run_image(alloc: Global, bytes: &[u8], budget: Budget) -> Result<String, Failure> {
+    let image = match decode(alloc, bytes) {
+        Ok(image) => image,
+        Err(error) => return Err(no_image(error)),
+    };
+    let verified = match verify(alloc, image) {
+        Ok(verified) => verified,
+        Err((_, refusal)) => return Err(no_code(refusal)),
+    };
+    match run(alloc, &verified, &Context::new(alloc), budget) {
+        Ok(outcome) => text_of(outcome),
+        Err(_) => Err(Failure::NoMemory),
+    }
+}
