@@ -1,13 +1,29 @@
 //! The command line.
 
-use crate::jobs::{Command, DEFAULT, Job, JobError};
+ghost use Rattle.std.specs.Prelude.{◌≡◌, ◌≢◌, false, codes, option_map, IfOk, IfErr, OnOk};
+ghost use Rattle.clap.specs.Words.{app_of, rule_of, fields_of, found_of, rows_of, one_of, kind_of};
+ghost use Rattle.clap.specs.Words.{subcommand_of, subcommand_rows_of};
+ghost use Rattle.clap.specs.Walk.{texts};
+ghost use Rattle.jt_cli.specs.Line.{Takes, IsAsked, IsBudget, IsGiven, IfUsage, option_rule, program_app, run_app};
+ghost use Rattle.jt_cli.specs.Line.{with_budget, word_of};
+
+use crate::jobs;
+use crate::jobs::{DEFAULT, Job, JobError};
+use clap::builder::ValueParser;
 use clap::error::ErrorKind;
-use clap::{Arg, ArgMatches, value_parser};
+use clap::{Arg, ArgMatches, Command, value_parser};
 use jt_machine::Budget;
 use std::alloc::{AllocError, Global};
 
-/// Reads `words`, the line without the program's name.
-pub fn job(alloc: Global, words: &[&str]) -> Result<Job, JobError> {
+/// Reads `words`, the line without the program's name: a command, and then its words and options.
+///
+/// A line that the program does not take is `Usage`, with the text for standard error; so is one
+/// that asks for help.
+pub fn job(alloc: Global, words: &[&str]) -> Result<Job, JobError>
+    ensures taken { OnOk result (Takes (texts words.now)) }
+    ensures asked { IfOk result (IsAsked (subcommand_of program_app (texts words.now))) }
+    ensures usage { IfErr result (IfUsage (¬ Takes (texts words.now))) }
+{
     let Ok(program) = program(alloc) else {
         return Err(JobError::NoMemory);
     };
@@ -17,83 +33,124 @@ pub fn job(alloc: Global, words: &[&str]) -> Result<Job, JobError> {
     }
 }
 
-/// The line's grammar: a command, and then its words and options.
-fn program<'a>(alloc: Global) -> Result<clap::Command<'a>, AllocError> {
-    clap::Command::new(alloc, "jt")
+/// The line's grammar.
+fn program<'a>(alloc: Global) -> Result<Command<'a>, AllocError>
+    ensures { IfOk result (λ c. app_of c ≡ program_app) }
+{
+    let run = run_command(alloc)?;
+    Command::new(alloc, "jt")
         .about("A compiler and sandbox for the Jinja template language")
         .no_binary_name(true)
         .disable_help_subcommand(true)
         .subcommand_required(true)
-        .subcommand(run_command(alloc)?)
+        .subcommand(run)
 }
 
-fn run_command<'a>(alloc: Global) -> Result<clap::Command<'a>, AllocError> {
+fn run_command<'a>(alloc: Global) -> Result<Command<'a>, AllocError>
+    ensures { IfOk result (λ c. (app_of c ≡ run_app) × ((fields_of c).has_globals ≡ false)) }
+{
     let image = Arg::new(alloc, "IMAGE")
         .required(true)
         .help("The image's file");
-    let command = clap::Command::new(alloc, "run")
+    let command = Command::new(alloc, "run")
         .about("Runs an image and prints its text")
         .arg(image)?;
-    with_budget(alloc, command)
+    add_budget(alloc, command)
 }
 
-/// The command with the options of a budget.
-fn with_budget<'a>(alloc: Global, command: clap::Command<'a>) -> Result<clap::Command<'a>, AllocError> {
-    let fuel = Arg::new(alloc, "fuel")
-        .long("fuel")
-        .value_parser(value_parser!(u64))
-        .help("How much instructions may cost [default: 1000000]");
-    let depth = Arg::new(alloc, "depth")
-        .long("depth")
-        .value_parser(value_parser!(u32))
-        .help("How many calls may be open [default: 64]");
-    let output = Arg::new(alloc, "output")
-        .long("output")
-        .value_parser(value_parser!(u64))
+/// Adds the options of a budget.
+fn add_budget<'a>(alloc: Global, command: Command<'a>) -> Result<Command<'a>, AllocError>
+    ensures { IfOk result (λ c. (app_of c ≡ with_budget (app_of command.entry))
+        × ((fields_of c).has_globals ≡ (fields_of command.entry).has_globals)) }
+{
+    let fuel = option(alloc, "fuel", value_parser!(u64))
+        .help("How much the instructions may cost [default: 1000000]");
+    let depth = option(alloc, "depth", value_parser!(u32)).help("How many calls may be open [default: 64]");
+    let output = option(alloc, "output", value_parser!(u64))
         .help("How many bytes may be put out [default: 1048576]");
-    let size = Arg::new(alloc, "size")
-        .long("size")
-        .value_parser(value_parser!(u32))
-        .help("How large a value may be [default: 1048576]");
-    let nesting = Arg::new(alloc, "nesting")
-        .long("nesting")
-        .value_parser(value_parser!(u8))
-        .help("How deep a value may nest [default: 32]");
+    let size = option(alloc, "size", value_parser!(u32)).help("How large a value may be [default: 1048576]");
+    let nesting = option(alloc, "nesting", value_parser!(u8)).help("How deep a value may nest [default: 32]");
     command.arg(fuel)?.arg(depth)?.arg(output)?.arg(size)?.arg(nesting)
 }
 
+/// An option with one value.
+fn option<'a>(alloc: Global, name: &'a str, parser: ValueParser<'a>) -> Arg<'a>
+    ensures rule { rule_of result ≡ option_rule name.entry.now parser.entry }
+    ensures local { result.global ≡ false }
+{
+    Arg::new(alloc, name).long(name).value_parser(parser)
+}
+
 /// The job of a line that was taken.
-fn asked(alloc: Global, matches: &ArgMatches<'_>) -> Result<Job, JobError> {
+fn asked(alloc: Global, matches: &ArgMatches<'_>) -> Result<Job, JobError>
+    requires { option_map (λ p. p.0) (subcommand_rows_of matches.now) ≡ Some (codes "run") }
+    ensures ok { IfOk result (IsAsked (subcommand_rows_of matches.now)) }
+    ensures err { IfErr result (λ e. e ≡ JobError.NoMemory) }
+{
     match matches.subcommand() {
-        Some((_, found)) => run_job(alloc, found),
-        None => unreachable!(),
+        Some(("run", found)) => run_job(alloc, found),
+        _ => unreachable!(),
     }
 }
 
-fn run_job(alloc: Global, found: &ArgMatches<'_>) -> Result<Job, JobError> {
-    let image = found.get_str("IMAGE").unwrap_or("");
-    let Ok(image) = String::from_str(alloc, image) else {
+fn run_job(alloc: Global, found: &ArgMatches<'_>) -> Result<Job, JobError>
+    ensures ok { IfOk result (IsAsked (Some (codes "run", rows_of (found_of found.now)))) }
+    ensures err { IfErr result (λ e. e ≡ JobError.NoMemory) }
+{
+    let Ok(image) = String::from_str(alloc, word(found, "IMAGE")) else {
         return Err(JobError::NoMemory);
     };
     Ok(Job {
-        command: Command::Run { image },
+        command: jobs::Command::Run { image },
         budget: budget(found),
     })
 }
 
+/// The text of a word.
+fn word<'a>(found: &ArgMatches<'a>, name: &str) -> &'a str
+    ensures { result.now ≡ word_of name.now (rows_of (found_of found.now)) }
+{
+    found.get_str(name).unwrap_or("")
+}
+
 /// The numbers that were given, and the defaults of the others.
-fn budget(found: &ArgMatches<'_>) -> Budget {
+fn budget(found: &ArgMatches<'_>) -> Budget
+    ensures { IsBudget (rows_of (found_of found.now)) result }
+{
     Budget {
-        fuel: found.get_one("fuel").unwrap_or(DEFAULT.fuel),
-        depth: found.get_one("depth").unwrap_or(DEFAULT.depth),
-        output: found.get_one("output").unwrap_or(DEFAULT.output),
-        size: found.get_one("size").unwrap_or(DEFAULT.size),
-        nesting: found.get_one("nesting").unwrap_or(DEFAULT.nesting),
+        fuel: long_number(found, "fuel", DEFAULT.fuel),
+        depth: number(found, "depth", DEFAULT.depth),
+        output: long_number(found, "output", DEFAULT.output),
+        size: number(found, "size", DEFAULT.size),
+        nesting: short_number(found, "nesting", DEFAULT.nesting),
     }
 }
 
+/// A number of 64 bits.
+fn long_number(found: &ArgMatches<'_>, name: &str, default: u64) -> u64
+    ensures { IsGiven 64 default (one_of name.now (rows_of (found_of found.now))) result }
+{
+    found.get_one(name).unwrap_or(default)
+}
+
+/// A number of 32 bits.
+fn number(found: &ArgMatches<'_>, name: &str, default: u32) -> u32
+    ensures { IsGiven 32 default (one_of name.now (rows_of (found_of found.now))) result }
+{
+    found.get_one(name).unwrap_or(default)
+}
+
+/// A number of 8 bits.
+fn short_number(found: &ArgMatches<'_>, name: &str, default: u8) -> u8
+    ensures { IsGiven 8 default (one_of name.now (rows_of (found_of found.now))) result }
+{
+    found.get_one(name).unwrap_or(default)
+}
+
 /// What a line that was not taken comes to.
-fn refused(alloc: Global, mistake: &clap::Error) -> JobError {
+fn refused(alloc: Global, mistake: &clap::Error) -> JobError
+    ensures { IfUsage (kind_of mistake.now ≢ ErrorKind.OutOfMemory) result }
+{
     if mistake.kind() == ErrorKind::OutOfMemory {
         return JobError::NoMemory;
     }

@@ -1,5 +1,8 @@
 //! How a run of the program ends: its status, and the text that says why.
 
+ghost use Rattle.std.specs.Prelude.{◌≡◌};
+ghost use Rattle.jt_cli.specs.Ending.{code_of, status_of, of_line, of_image, of_code, of_outcome};
+
 use crate::jobs::JobError;
 use jt_image::ImageError;
 use jt_machine::{Outcome, Refusal, Spent};
@@ -20,7 +23,9 @@ pub enum Status {
 
 impl Status {
     /// The number of the status.
-    pub fn code(self) -> u8 {
+    pub fn code(self) -> u8
+        ensures { result ≡ code_of self }
+    {
         match self {
             Status::Done => 0,
             Status::Fault => 1,
@@ -64,7 +69,9 @@ pub enum Failure {
 
 impl Failure {
     /// The status that the program ends with.
-    pub fn status(&self) -> Status {
+    pub fn status(&self) -> Status
+        ensures { result ≡ status_of self.now }
+    {
         match self {
             Failure::Usage(_) => Status::Usage,
             Failure::Fault(_) => Status::Fault,
@@ -79,6 +86,8 @@ impl Failure {
 }
 
 impl From<JobError> for Failure {
+    ghost from_gives = { λ e f. f ≡ of_line e };
+
     fn from(error: JobError) -> Failure {
         match error {
             JobError::Usage(text) => Failure::Usage(text),
@@ -88,7 +97,9 @@ impl From<JobError> for Failure {
 }
 
 /// What bytes that are no image come to.
-pub fn no_image(error: ImageError) -> Failure {
+pub fn no_image(error: ImageError) -> Failure
+    ensures { result ≡ of_image error }
+{
     match error {
         ImageError::NoMemory => Failure::NoMemory,
         fault => Failure::Image(fault),
@@ -96,7 +107,9 @@ pub fn no_image(error: ImageError) -> Failure {
 }
 
 /// What an image that is refused comes to.
-pub fn no_code(refusal: Refusal) -> Failure {
+pub fn no_code(refusal: Refusal) -> Failure
+    ensures { result ≡ of_code refusal }
+{
     match refusal {
         Refusal::NoMemory => Failure::NoMemory,
         flaw => Failure::Code(flaw),
@@ -104,7 +117,9 @@ pub fn no_code(refusal: Refusal) -> Failure {
 }
 
 /// The text that a run ended with, or what it failed by.
-pub fn text_of(outcome: Outcome) -> Result<String, Failure> {
+pub fn text_of(outcome: Outcome) -> Result<String, Failure>
+    ensures { result ≡ of_outcome outcome }
+{
     match outcome {
         Outcome::Text(text) => Ok(text),
         Outcome::Fault(fault) => Err(Failure::Fault(fault)),
