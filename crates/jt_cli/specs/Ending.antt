@@ -1,5 +1,6 @@
 -- How a run of the program ends.
 use Rattle.std.specs.Prelude.{ℕ, Result, Ok, Err, String}
+use Rattle.std.specs.declared.alloc.Global.{Global}
 use Rattle.jt_cli.specs.declared.messages.Status.{Status}
 use Rattle.jt_cli.specs.declared.messages.Status.TheVariants as status
 use Rattle.jt_cli.specs.declared.messages.Failure.{Failure}
@@ -50,7 +51,7 @@ of_code refusal.NoMemory = failure.NoMemory
 of_code r = failure.Code r
 
 -- what the end of a run comes to: its text, or a failure
-abbrev pub of_outcome : Outcome → Result String Failure
+abbrev pub of_outcome : Outcome → Result (String Global) Failure
 of_outcome (outcome.Text text) = Ok text
 of_outcome (outcome.Fault f) = Err (failure.Fault f)
 of_outcome (outcome.Spent s) = Err (failure.Spent s)

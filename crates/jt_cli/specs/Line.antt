@@ -4,7 +4,9 @@ use Rattle.std.specs.Prelude.{◌≡◌, ◌≢◌, ◌<◌, ◌^◌, ◌⊎◌,
 use Rattle.std.specs.Borrow.{Bor}
 use Rattle.std.specs.String.{string_bytes}
 use Rattle.std.specs.Str.Parse.{IsNumeral, digits_value, without_leading_plus}
-use Rattle.clap.specs.Words.{App, Row, Rule, Shape, Text, first_of, new_app, new_rule, one_of, with_rule, with_subcommand, fault_of}
+use Rattle.clap.specs.Words.{App, app_of, Row, Rule, Shape, Text, first_of, new_app, new_rule, one_of, with_rule, with_subcommand, fault_of}
+use Rattle.clap.specs.declared.builder.Command.{Command as Built}
+use Rattle.clap.specs.declared.builder.Command.TheViews.{out-Command as fields_of}
 use Rattle.clap.specs.declared.builder.ValueParser.{ValueParser}
 use Rattle.clap.specs.declared.builder.ValueParser.TheVariants as parser
 use Rattle.jt_machine.specs.declared.Budget.{Budget}
@@ -23,6 +25,11 @@ option_rule name p = record (new_rule name) { long = Some name; parser = Some p 
 -- a word that has to be there
 abbrev pub word_rule : Text → Rule
 word_rule name = record (new_rule name) { required = true }
+
+-- a command with one more argument, for itself alone
+abbrev pub Adds : Built → Rule → Built → Type 0
+Adds old rule new = (app_of new ≡ with_rule (app_of old) rule)
+    × ((fields_of new).has_globals ≡ (fields_of old).has_globals)
 
 -- a command with the options of a budget, each a whole number in the range of its type
 abbrev pub with_budget : App → App

@@ -1,11 +1,12 @@
 //! The command line.
 
 ghost use Rattle.std.specs.Prelude.{◌≡◌, ◌≢◌, false, codes, option_map, IfOk, IfErr, OnOk};
-ghost use Rattle.clap.specs.Words.{app_of, rule_of, fields_of, found_of, rows_of, one_of, kind_of};
+ghost use Rattle.clap.specs.Words.{app_of, rule_of, found_of, rows_of, one_of, kind_of};
 ghost use Rattle.clap.specs.Words.{subcommand_of, subcommand_rows_of};
 ghost use Rattle.clap.specs.Walk.{texts};
-ghost use Rattle.jt_cli.specs.Line.{Takes, IsAsked, IsBudget, IsGiven, IfUsage, option_rule, program_app, run_app};
-ghost use Rattle.jt_cli.specs.Line.{with_budget, word_of};
+ghost use Rattle.clap.specs.declared.builder.Command.TheViews.{out-Command as fields_of};
+ghost use Rattle.jt_cli.specs.Line.{Takes, IsAsked, IsBudget, IsGiven, IfUsage, Adds, option_rule, program_app};
+ghost use Rattle.jt_cli.specs.Line.{run_app, with_budget, word_of, word_rule};
 
 use crate::jobs;
 use crate::jobs::{DEFAULT, Job, JobError};
@@ -49,13 +50,9 @@ fn program<'a>(alloc: Global) -> Result<Command<'a>, AllocError>
 fn run_command<'a>(alloc: Global) -> Result<Command<'a>, AllocError>
     ensures { IfOk result (λ c. (app_of c ≡ run_app) × ((fields_of c).has_globals ≡ false)) }
 {
-    let image = Arg::new(alloc, "IMAGE")
-        .required(true)
-        .help("The image's file");
-    let command = Command::new(alloc, "run")
-        .about("Runs an image and prints its text")
-        .arg(image)?;
-    add_budget(alloc, command)
+    let run = Command::new(alloc, "run").about("Runs an image and prints its text");
+    let run = add_word(alloc, run, "IMAGE", "The image's file")?;
+    add_budget(alloc, run)
 }
 
 /// Adds the options of a budget.
@@ -63,22 +60,36 @@ fn add_budget<'a>(alloc: Global, command: Command<'a>) -> Result<Command<'a>, Al
     ensures { IfOk result (λ c. (app_of c ≡ with_budget (app_of command.entry))
         × ((fields_of c).has_globals ≡ (fields_of command.entry).has_globals)) }
 {
-    let fuel = option(alloc, "fuel", value_parser!(u64))
-        .help("How much the instructions may cost [default: 1000000]");
-    let depth = option(alloc, "depth", value_parser!(u32)).help("How many calls may be open [default: 64]");
-    let output = option(alloc, "output", value_parser!(u64))
-        .help("How many bytes may be put out [default: 1048576]");
-    let size = option(alloc, "size", value_parser!(u32)).help("How large a value may be [default: 1048576]");
-    let nesting = option(alloc, "nesting", value_parser!(u8)).help("How deep a value may nest [default: 32]");
-    command.arg(fuel)?.arg(depth)?.arg(output)?.arg(size)?.arg(nesting)
+    let fuel = "What the instructions may cost [default: 1000000]";
+    let with_fuel = add_option(alloc, command, "fuel", value_parser!(u64), fuel)?;
+    let depth = "How many calls may be open [default: 64]";
+    let with_depth = add_option(alloc, with_fuel, "depth", value_parser!(u32), depth)?;
+    let output = "How many bytes may be put out [default: 1048576]";
+    let with_output = add_option(alloc, with_depth, "output", value_parser!(u64), output)?;
+    let size = "How large a value may be [default: 1048576]";
+    let with_size = add_option(alloc, with_output, "size", value_parser!(u32), size)?;
+    let nesting = "How deep a value may nest [default: 32]";
+    add_option(alloc, with_size, "nesting", value_parser!(u8), nesting)
 }
 
-/// An option with one value.
-fn option<'a>(alloc: Global, name: &'a str, parser: ValueParser<'a>) -> Arg<'a>
-    ensures rule { rule_of result ≡ option_rule name.entry.now parser.entry }
-    ensures local { result.global ≡ false }
+/// Adds a word that has to be there.
+fn add_word<'a>(alloc: Global, command: Command<'a>, name: &'a str, help: &'a str) -> Result<Command<'a>, AllocError>
+    ensures { IfOk result (Adds command.entry (word_rule name.entry.now)) }
 {
-    Arg::new(alloc, name).long(name).value_parser(parser)
+    command.arg(Arg::new(alloc, name).required(true).help(help))
+}
+
+/// Adds an option with one value.
+fn add_option<'a>(
+    alloc: Global,
+    command: Command<'a>,
+    name: &'a str,
+    parser: ValueParser<'a>,
+    help: &'a str,
+) -> Result<Command<'a>, AllocError>
+    ensures { IfOk result (Adds command.entry (option_rule name.entry.now parser.entry)) }
+{
+    command.arg(Arg::new(alloc, name).long(name).value_parser(parser).help(help))
 }
 
 /// The job of a line that was taken.
