@@ -9,7 +9,7 @@ use Rattle.clap.specs.declared.builder.Command.{Command as Built}
 use Rattle.clap.specs.declared.builder.Command.TheViews.{out-Command as fields_of}
 use Rattle.clap.specs.declared.builder.ValueParser.{ValueParser}
 use Rattle.clap.specs.declared.builder.ValueParser.TheVariants as parser
-use Rattle.jt_machine.specs.declared.Budget.{Budget}
+use Rattle.jt_budget.specs.declared.Budget.{Budget}
 use Rattle.jt_cli.specs.declared.jobs.Command.{Command}
 use Rattle.jt_cli.specs.declared.jobs.Command.TheVariants as command
 use Rattle.jt_cli.specs.declared.jobs.Job.{Job}

@@ -1,6 +1,6 @@
 //! What a line asks for.
 
-use jt_machine::Budget;
+use jt_budget::Budget;
 use thiserror::Error;
 
 /// What the program is to do, with its words.

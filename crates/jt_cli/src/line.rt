@@ -13,7 +13,7 @@ use crate::jobs::{DEFAULT, Job, JobError};
 use clap::builder::ValueParser;
 use clap::error::ErrorKind;
 use clap::{Arg, ArgMatches, Command, value_parser};
-use jt_machine::Budget;
+use jt_budget::Budget;
 use std::alloc::{AllocError, Global};
 
 /// Reads `words`, the line without the program's name: a command, and then its words and options.

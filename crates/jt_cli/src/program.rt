@@ -1,11 +1,14 @@
 //! A whole run of the program.
+ghost use Rattle.std.specs.Prelude.{◌≡◌, ◌≢◌, ◌≤◌, ℕ, List, IfErr, OnOk};
+ghost use Rattle.std.specs.Io.KnownBytes.{Appends};
 
 use crate::files::{FileError, Files};
 use crate::jobs::{Command, Job};
 use crate::line::job;
 use crate::messages::{Failure, Status, no_code, no_image, text_of};
 use jt_image::decode;
-use jt_machine::{Budget, run, verify};
+use jt_budget::Budget;
+use jt_machine::{run, verify};
 use jt_value::Context;
 use std::alloc::Global;
 use std::io::Write;
@@ -21,8 +24,16 @@ pub fn perform<F: Files, W: Write, E: Write>(
     files: &mut F,
     out: &mut W,
     errors: &mut E,
-) -> u8 {
-    match printed(alloc, words, files, out) {
+) -> u8
+    // it is one of the statuses
+    ensures status { result ≤ 6 }
+    // where it is 0 a text was added to standard output, and nothing to standard error
+    ensures printed { result ≡ 0 → (text : List ℕ) × Appends (W.contents out.old) (W.contents out.new) text }
+    ensures silent { result ≡ 0 → errors.new ≡ errors.old }
+    // where it is neither 0 nor 5 standard output is as it was
+    ensures untouched { result ≢ 0 → result ≢ 5 → out.new ≡ out.old }
+{
+    match print(alloc, words, files, out) {
         Ok(()) => Status::Done.code(),
         Err(failure) => {
             // Where standard error takes nothing, the status alone says how the run ended.
@@ -32,12 +43,15 @@ pub fn perform<F: Files, W: Write, E: Write>(
     }
 }
 
-fn printed<F: Files, W: Write>(
+fn print<F: Files, W: Write>(
     alloc: Global,
     words: &[&str],
     files: &mut F,
     out: &mut W,
-) -> Result<(), Failure> {
+) -> Result<(), Failure>
+    ensures printed { OnOk result ((text : List ℕ) × Appends (W.contents out.old) (W.contents out.new) text) }
+    ensures untouched { IfErr result (λ e. e ≢ Failure.Output → out.new ≡ out.old) }
+{
     let text = done(alloc, words, files)?;
     match out.write_all(text.as_bytes()) {
         Ok(()) => Ok(()),
