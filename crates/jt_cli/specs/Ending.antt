@@ -28,6 +28,7 @@ code_of status.Memory = 6
 abbrev pub status_of : Failure → Status
 status_of (failure.Fault f) = status.Fault
 status_of (failure.Usage text) = status.Usage
+status_of failure.Words = status.Usage
 status_of (failure.Image e) = status.Refused
 status_of (failure.Code r) = status.Refused
 status_of (failure.Spent s) = status.Spent
@@ -55,3 +56,10 @@ abbrev pub of_outcome : Outcome → Result (String Global) Failure
 of_outcome (outcome.Text text) = Ok text
 of_outcome (outcome.Fault f) = Err (failure.Fault f)
 of_outcome (outcome.Spent s) = Err (failure.Spent s)
+
+-- the usage, or no memory: what a line that the program does not take comes to
+abbrev pub IfUntaken : {T : Type 0} → Result T Failure → Type 0
+IfUntaken (Ok x) = ⊥
+IfUntaken (Err (failure.Usage text)) = Unit {0}
+IfUntaken (Err failure.NoMemory) = Unit {0}
+IfUntaken (Err e) = ⊥

@@ -9,16 +9,17 @@ mod messages;
 mod program;
 
 use crate::machine::Machine;
-use crate::messages::Status;
-use crate::program::perform;
+use crate::messages::Failure;
+use crate::program::{perform, report};
 use std::io;
 use std::process::ExitCode;
 
 fn main(rt: HostRuntime) -> ExitCode {
-    match arguments(&rt) {
-        Ok(words) => ExitCode::from(perform_on(&rt, words.as_slice())),
-        Err(error) => ExitCode::from(unread(&error).code()),
-    }
+    let status = match arguments(&rt) {
+        Ok(words) => perform_on(&rt, words.as_slice()),
+        Err(error) => report(&mut rt.stderr(), &unread(&error)),
+    };
+    ExitCode::from(status)
 }
 
 /// The words of the line without the program's name.
@@ -28,20 +29,21 @@ fn arguments(rt: &HostRuntime) -> io::Result<Vec<String>> {
 }
 
 /// Why there are no words: memory ran out, or one of them is no text.
-fn unread(error: &io::Error) -> Status {
+fn unread(error: &io::Error) -> Failure {
     if error.kind() == io::ErrorKind::OutOfMemory {
-        Status::Memory
+        Failure::NoMemory
     } else {
-        Status::Usage
+        Failure::Words
     }
 }
 
+/// Does what `words` ask for on the machine's own files and outputs, and answers the status.
 fn perform_on(rt: &HostRuntime, words: &[String]) -> u8 {
     let alloc = rt.alloc();
     let mut texts = Vec::new(alloc);
     for word in words {
         if texts.push(word.as_str()).is_err() {
-            return Status::Memory.code();
+            return report(&mut rt.stderr(), &Failure::NoMemory);
         }
     }
     let mut files = Machine::new(rt);

@@ -45,6 +45,9 @@ pub enum Failure {
     /// The line is none that the program takes.
     #[error("{0}")]
     Usage(String),
+    /// The words of the line are no texts.
+    #[error("jt: usage\n")]
+    Words,
     /// The template ended with a fault.
     #[error("jt: fault {0}\n")]
     Fault(Fault),
@@ -75,6 +78,7 @@ impl Failure {
     {
         match self {
             Failure::Usage(_) => Status::Usage,
+            Failure::Words => Status::Usage,
             Failure::Fault(_) => Status::Fault,
             Failure::Image(_) => Status::Refused,
             Failure::Code(_) => Status::Refused,

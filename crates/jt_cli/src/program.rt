@@ -1,6 +1,10 @@
 //! A whole run of the program.
-ghost use Rattle.std.specs.Prelude.{◌≡◌, ◌≢◌, ◌≤◌, ℕ, List, IfErr, OnOk};
+ghost use Rattle.std.specs.Prelude.{◌≡◌, ◌≢◌, ◌≤◌, ◌⊎◌, ℕ, List, IfErr, OnOk};
 ghost use Rattle.std.specs.Io.KnownBytes.{Appends};
+ghost use Rattle.clap.specs.Walk.{texts};
+ghost use Rattle.jt_cli.specs.Ending.{IfUntaken, code_of, status_of};
+ghost use Rattle.jt_cli.specs.Line.{Takes};
+ghost use Rattle.jt_cli.specs.Program.{ComesTo};
 
 use crate::files::{FileError, Files};
 use crate::jobs::{Command, Job};
@@ -27,6 +31,9 @@ pub fn perform<F: Files, W: Write, E: Write>(
 ) -> u8
     // it is one of the statuses
     ensures status { result ≤ 6 }
+    // it is 2 where the program does not take the line, unless memory ran out, and only there
+    ensures usage { ¬ Takes (texts words.now) → (result ≡ 2) ⊎ (result ≡ 6) }
+    ensures taken { Takes (texts words.now) → result ≢ 2 }
     // where it is 0 a text was added to standard output, and nothing to standard error
     ensures printed { result ≡ 0 → (text : List ℕ) × Appends (W.contents out.old) (W.contents out.new) text }
     ensures silent { result ≡ 0 → errors.new ≡ errors.old }
@@ -35,12 +42,17 @@ pub fn perform<F: Files, W: Write, E: Write>(
 {
     match print(alloc, words, files, out) {
         Ok(()) => Status::Done.code(),
-        Err(failure) => {
-            // Where standard error takes nothing, the status alone says how the run ended.
-            let _ = write!(errors, "{failure}");
-            failure.status().code()
-        }
+        Err(failure) => report(errors, &failure),
     }
+}
+
+/// Says on `errors` what went wrong, and answers the status.
+pub fn report<E: Write>(errors: &mut E, failure: &Failure) -> u8
+    ensures { result ≡ code_of (status_of failure.now) }
+{
+    // Where standard error takes nothing, the status alone says how the run ended.
+    let _ = write!(errors, "{failure}");
+    failure.status().code()
 }
 
 fn print<F: Files, W: Write>(
@@ -49,6 +61,8 @@ fn print<F: Files, W: Write>(
     files: &mut F,
     out: &mut W,
 ) -> Result<(), Failure>
+    ensures usage { ¬ Takes (texts words.now) → IfUntaken result }
+    ensures taken { Takes (texts words.now) → IfErr result (λ e. status_of e ≢ Status.Usage) }
     ensures printed { OnOk result ((text : List ℕ) × Appends (W.contents out.old) (W.contents out.new) text) }
     ensures untouched { IfErr result (λ e. e ≢ Failure.Output → out.new ≡ out.old) }
 {
@@ -60,7 +74,10 @@ fn print<F: Files, W: Write>(
 }
 
 /// Does what the line asks for, but for printing. The text is what it prints.
-fn done<F: Files>(alloc: Global, words: &[&str], files: &mut F) -> Result<String, Failure> {
+fn done<F: Files>(alloc: Global, words: &[&str], files: &mut F) -> Result<String, Failure>
+    ensures usage { ¬ Takes (texts words.now) → IfUntaken result }
+    ensures taken { Takes (texts words.now) → IfErr result (λ e. (status_of e ≢ Status.Usage) × (e ≢ Failure.Output)) }
+{
     let Job { command, budget } = job(alloc, words)?;
     match command {
         Command::Run { image } => {
@@ -71,7 +88,9 @@ fn done<F: Files>(alloc: Global, words: &[&str], files: &mut F) -> Result<String
 }
 
 /// The bytes of the file at `path`.
-fn bytes_at<F: Files>(files: &mut F, path: String) -> Result<Vec<u8>, Failure> {
+fn bytes_at<F: Files>(files: &mut F, path: String) -> Result<Vec<u8>, Failure>
+    ensures { IfErr result (λ e. (e ≡ Failure.File path) ⊎ (e ≡ Failure.NoMemory)) }
+{
     match files.read(path.as_str()) {
         Ok(bytes) => Ok(bytes),
         Err(FileError::Failed) => Err(Failure::File(path)),
@@ -80,7 +99,9 @@ fn bytes_at<F: Files>(files: &mut F, path: String) -> Result<Vec<u8>, Failure> {
 }
 
 /// The text of the image that `bytes` spell, run in the empty context.
-fn run_image(alloc: Global, bytes: &[u8], budget: Budget) -> Result<String, Failure> {
+fn run_image(alloc: Global, bytes: &[u8], budget: Budget) -> Result<String, Failure>
+    ensures { ComesTo bytes.now budget result }
+{
     let image = match decode(alloc, bytes) {
         Ok(image) => image,
         Err(error) => return Err(no_image(error)),

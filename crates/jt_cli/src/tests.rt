@@ -1,8 +1,12 @@
 use crate::files::{FileError, Files};
+use crate::jobs::{Command, DEFAULT, Job};
+use crate::line::job;
 use crate::program::perform;
+use jt_budget::Budget;
 use std::alloc::Global;
 use std::io;
 use std::process::Abort;
+use std::test::Fail;
 
 /// Image X: its one unit prints `x`.
 const X: [u8; 44] = [
@@ -134,4 +138,23 @@ fn says_where_a_text_is_not_taken(rt: HostRuntime) {
     assert_eq!(rt; said.as_slice(), b"jt: file -\n".as_slice());
     assert_eq!(rt; perform(alloc, words.as_slice(), &mut files, &mut said, &mut Closed), 0);
     assert_eq!(rt; perform(alloc, &["run"], &mut files, &mut said, &mut Closed), 2);
+}
+
+#[test]
+fn reads_a_line(rt: HostRuntime) -> Result<(), Fail> {
+    let alloc = rt.alloc();
+    let rows: [(&[&str], &str, Budget); 3] = [
+        (&["run", "a b"], "a b", DEFAULT),
+        (&["run", "--depth=+7", "--", "--fuel"], "--fuel", Budget { depth: 7, ..DEFAULT }),
+        (
+            &["run", "--fuel", "18446744073709551615", "--depth", "1", "--output", "2", "x", "--size", "3", "--nesting=255"],
+            "x",
+            Budget { fuel: u64::MAX, depth: 1, output: 2, size: 3, nesting: 255 },
+        ),
+    ];
+    for (words, image, budget) in rows {
+        let image = String::from_str(alloc, image)?;
+        assert!(rt; job(alloc, words)? == Job { command: Command::Run { image }, budget }, "{words:?}");
+    }
+    Ok(())
 }
