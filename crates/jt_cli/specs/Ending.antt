@@ -1,0 +1,65 @@
+-- How a run of the program ends.
+use Rattle.std.specs.Prelude.{ℕ, Result, Ok, Err, String}
+use Rattle.std.specs.declared.alloc.Global.{Global}
+use Rattle.jt_cli.specs.declared.messages.Status.{Status}
+use Rattle.jt_cli.specs.declared.messages.Status.TheVariants as status
+use Rattle.jt_cli.specs.declared.messages.Failure.{Failure}
+use Rattle.jt_cli.specs.declared.messages.Failure.TheVariants as failure
+use Rattle.jt_cli.specs.declared.jobs.JobError.{JobError}
+use Rattle.jt_cli.specs.declared.jobs.JobError.TheVariants as job_error
+use Rattle.jt_image.specs.declared.ImageError.{ImageError}
+use Rattle.jt_image.specs.declared.ImageError.TheVariants as image_error
+use Rattle.jt_machine.specs.declared.Refusal.{Refusal}
+use Rattle.jt_machine.specs.declared.Refusal.TheVariants as refusal
+use Rattle.jt_machine.specs.declared.Outcome.{Outcome}
+use Rattle.jt_machine.specs.declared.Outcome.TheVariants as outcome
+
+-- the number of each status
+abbrev pub code_of : Status → ℕ
+code_of status.Done = 0
+code_of status.Fault = 1
+code_of status.Usage = 2
+code_of status.Refused = 3
+code_of status.Spent = 4
+code_of status.File = 5
+code_of status.Memory = 6
+
+-- the status of each failure
+abbrev pub status_of : Failure → Status
+status_of (failure.Fault f) = status.Fault
+status_of (failure.Usage text) = status.Usage
+status_of failure.Words = status.Usage
+status_of (failure.Image e) = status.Refused
+status_of (failure.Code r) = status.Refused
+status_of (failure.Spent s) = status.Spent
+status_of (failure.File path) = status.File
+status_of failure.Output = status.File
+status_of failure.NoMemory = status.Memory
+
+-- what an error of the line comes to
+abbrev pub of_line : JobError → Failure
+of_line (job_error.Usage text) = failure.Usage text
+of_line job_error.NoMemory = failure.NoMemory
+
+-- what a refused reading of an image comes to: its fault, or no memory
+abbrev pub of_image : ImageError → Failure
+of_image image_error.NoMemory = failure.NoMemory
+of_image e = failure.Image e
+
+-- what a refusal of the verifier comes to: its flaw, or no memory
+abbrev pub of_code : Refusal → Failure
+of_code refusal.NoMemory = failure.NoMemory
+of_code r = failure.Code r
+
+-- what the end of a run comes to: its text, or a failure
+abbrev pub of_outcome : Outcome → Result (String Global) Failure
+of_outcome (outcome.Text text) = Ok text
+of_outcome (outcome.Fault f) = Err (failure.Fault f)
+of_outcome (outcome.Spent s) = Err (failure.Spent s)
+
+-- the usage, or no memory: what a line that the program does not take comes to
+abbrev pub IfUntaken : {T : Type 0} → Result T Failure → Type 0
+IfUntaken (Ok x) = ⊥
+IfUntaken (Err (failure.Usage text)) = Unit {0}
+IfUntaken (Err failure.NoMemory) = Unit {0}
+IfUntaken (Err e) = ⊥

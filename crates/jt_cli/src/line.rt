@@ -1,0 +1,172 @@
+//! The command line.
+
+ghost use Rattle.std.specs.Prelude.{◌≡◌, ◌≢◌, false, codes, option_map, IfOk, IfErr, OnOk};
+ghost use Rattle.clap.specs.Words.{app_of, rule_of, found_of, rows_of, one_of, kind_of};
+ghost use Rattle.clap.specs.Words.{subcommand_of, subcommand_rows_of};
+ghost use Rattle.clap.specs.Walk.{texts};
+ghost use Rattle.clap.specs.declared.builder.Command.TheViews.{out-Command as fields_of};
+ghost use Rattle.jt_cli.specs.Line.{Takes, IsAsked, IsBudget, IsGiven, IfUsage, Adds, option_rule, program_app};
+ghost use Rattle.jt_cli.specs.Line.{run_app, with_budget, word_of, word_rule};
+
+use crate::jobs;
+use crate::jobs::{DEFAULT, Job, JobError};
+use clap::builder::ValueParser;
+use clap::error::ErrorKind;
+use clap::{Arg, ArgMatches, Command, value_parser};
+use jt_budget::Budget;
+use std::alloc::{AllocError, Global};
+
+/// Reads `words`, the line without the program's name: a command, and then its words and options.
+///
+/// A line that the program does not take is `Usage`, with the text for standard error; so is one
+/// that asks for help.
+pub fn job(alloc: Global, words: &[&str]) -> Result<Job, JobError>
+    ensures taken { OnOk result (Takes (texts words.now)) }
+    ensures asked { IfOk result (IsAsked (subcommand_of program_app (texts words.now))) }
+    ensures usage { IfErr result (IfUsage (¬ Takes (texts words.now))) }
+{
+    let Ok(program) = program(alloc) else {
+        return Err(JobError::NoMemory);
+    };
+    match program.try_get_matches_from(words) {
+        Ok(matches) => asked(alloc, &matches),
+        Err(mistake) => Err(refused(alloc, &mistake)),
+    }
+}
+
+/// The line's grammar.
+fn program<'a>(alloc: Global) -> Result<Command<'a>, AllocError>
+    ensures { IfOk result (λ c. app_of c ≡ program_app) }
+{
+    let run = run_command(alloc)?;
+    Command::new(alloc, "jt")
+        .about("A compiler and sandbox for the Jinja template language")
+        .no_binary_name(true)
+        .disable_help_subcommand(true)
+        .subcommand_required(true)
+        .subcommand(run)
+}
+
+fn run_command<'a>(alloc: Global) -> Result<Command<'a>, AllocError>
+    ensures { IfOk result (λ c. (app_of c ≡ run_app) × ((fields_of c).has_globals ≡ false)) }
+{
+    let run = Command::new(alloc, "run").about("Runs an image and prints its text");
+    let run = add_word(alloc, run, "IMAGE", "The image's file")?;
+    add_budget(alloc, run)
+}
+
+/// Adds the options of a budget.
+fn add_budget<'a>(alloc: Global, command: Command<'a>) -> Result<Command<'a>, AllocError>
+    ensures { IfOk result (λ c. (app_of c ≡ with_budget (app_of command.entry))
+        × ((fields_of c).has_globals ≡ (fields_of command.entry).has_globals)) }
+{
+    let fuel = "What the instructions may cost [default: 1000000]";
+    let with_fuel = add_option(alloc, command, "fuel", value_parser!(u64), fuel)?;
+    let depth = "How many calls may be open [default: 64]";
+    let with_depth = add_option(alloc, with_fuel, "depth", value_parser!(u32), depth)?;
+    let output = "How many bytes may be put out [default: 1048576]";
+    let with_output = add_option(alloc, with_depth, "output", value_parser!(u64), output)?;
+    let size = "How large a value may be [default: 1048576]";
+    let with_size = add_option(alloc, with_output, "size", value_parser!(u32), size)?;
+    let nesting = "How deep a value may nest [default: 32]";
+    add_option(alloc, with_size, "nesting", value_parser!(u8), nesting)
+}
+
+/// Adds a word that has to be there.
+fn add_word<'a>(alloc: Global, command: Command<'a>, name: &'a str, help: &'a str) -> Result<Command<'a>, AllocError>
+    ensures { IfOk result (Adds command.entry (word_rule name.entry.now)) }
+{
+    command.arg(Arg::new(alloc, name).required(true).help(help))
+}
+
+/// Adds an option with one value.
+fn add_option<'a>(
+    alloc: Global,
+    command: Command<'a>,
+    name: &'a str,
+    parser: ValueParser<'a>,
+    help: &'a str,
+) -> Result<Command<'a>, AllocError>
+    ensures { IfOk result (Adds command.entry (option_rule name.entry.now parser.entry)) }
+{
+    command.arg(Arg::new(alloc, name).long(name).value_parser(parser).help(help))
+}
+
+/// The job of a line that was taken.
+fn asked(alloc: Global, matches: &ArgMatches<'_>) -> Result<Job, JobError>
+    requires { option_map (λ p. p.0) (subcommand_rows_of matches.now) ≡ Some (codes "run") }
+    ensures ok { IfOk result (IsAsked (subcommand_rows_of matches.now)) }
+    ensures err { IfErr result (λ e. e ≡ JobError.NoMemory) }
+{
+    match matches.subcommand() {
+        Some(("run", found)) => run_job(alloc, found),
+        _ => unreachable!(),
+    }
+}
+
+fn run_job(alloc: Global, found: &ArgMatches<'_>) -> Result<Job, JobError>
+    ensures ok { IfOk result (IsAsked (Some (codes "run", rows_of (found_of found.now)))) }
+    ensures err { IfErr result (λ e. e ≡ JobError.NoMemory) }
+{
+    let Ok(image) = String::from_str(alloc, word(found, "IMAGE")) else {
+        return Err(JobError::NoMemory);
+    };
+    Ok(Job {
+        command: jobs::Command::Run { image },
+        budget: budget(found),
+    })
+}
+
+/// The text of a word.
+fn word<'a>(found: &ArgMatches<'a>, name: &str) -> &'a str
+    ensures { result.now ≡ word_of name.now (rows_of (found_of found.now)) }
+{
+    found.get_str(name).unwrap_or("")
+}
+
+/// The numbers that were given, and the defaults of the others.
+fn budget(found: &ArgMatches<'_>) -> Budget
+    ensures { IsBudget (rows_of (found_of found.now)) result }
+{
+    Budget {
+        fuel: long_number(found, "fuel", DEFAULT.fuel),
+        depth: number(found, "depth", DEFAULT.depth),
+        output: long_number(found, "output", DEFAULT.output),
+        size: number(found, "size", DEFAULT.size),
+        nesting: short_number(found, "nesting", DEFAULT.nesting),
+    }
+}
+
+/// A number of 64 bits.
+fn long_number(found: &ArgMatches<'_>, name: &str, default: u64) -> u64
+    ensures { IsGiven 64 default (one_of name.now (rows_of (found_of found.now))) result }
+{
+    found.get_one(name).unwrap_or(default)
+}
+
+/// A number of 32 bits.
+fn number(found: &ArgMatches<'_>, name: &str, default: u32) -> u32
+    ensures { IsGiven 32 default (one_of name.now (rows_of (found_of found.now))) result }
+{
+    found.get_one(name).unwrap_or(default)
+}
+
+/// A number of 8 bits.
+fn short_number(found: &ArgMatches<'_>, name: &str, default: u8) -> u8
+    ensures { IsGiven 8 default (one_of name.now (rows_of (found_of found.now))) result }
+{
+    found.get_one(name).unwrap_or(default)
+}
+
+/// What a line that was not taken comes to.
+fn refused(alloc: Global, mistake: &clap::Error) -> JobError
+    ensures { IfUsage (kind_of mistake.now ≢ ErrorKind.OutOfMemory) result }
+{
+    if mistake.kind() == ErrorKind::OutOfMemory {
+        return JobError::NoMemory;
+    }
+    match mistake.to_string(alloc) {
+        Ok(text) => JobError::Usage(text),
+        Err(_) => JobError::NoMemory,
+    }
+}

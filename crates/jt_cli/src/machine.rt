@@ -1,0 +1,63 @@
+//! The files of the machine that the program runs on.
+
+use crate::files::{FileError, Files};
+use std::alloc::{AllocError, AllocFailed};
+use std::rt::Runtime;
+use std::{fs, io};
+
+/// The file system that a runtime reaches.
+#[derive(Drop)]
+pub struct Machine<'a, R> {
+    rt: &'a R,
+}
+
+impl<'a, R> Machine<'a, R> {
+    pub fn new(rt: &'a R) -> Machine<'a, R> {
+        Machine { rt }
+    }
+}
+
+impl From<io::Error> for FileError {
+    fn from(error: io::Error) -> FileError {
+        if error.kind() == io::ErrorKind::OutOfMemory {
+            FileError::NoMemory
+        } else {
+            FileError::Failed
+        }
+    }
+}
+
+impl From<AllocError> for FileError {
+    fn from(_error: AllocError) -> FileError {
+        FileError::NoMemory
+    }
+}
+
+impl<T: Drop> From<AllocFailed<T>> for FileError {
+    fn from(_error: AllocFailed<T>) -> FileError {
+        FileError::NoMemory
+    }
+}
+
+impl<R: Runtime + AllocGlobal> Files for Machine<'_, R> {
+    fn list(&mut self, dir: &str) -> Result<Vec<String>, FileError> {
+        let mut names = Vec::new(self.rt.alloc());
+        for entry in fs::read_dir(self.rt, dir)? {
+            let entry = entry?;
+            if entry.file_type()?.is_file() {
+                names.push(String::from_str(self.rt.alloc(), entry.file_name())?)?;
+            }
+        }
+        Ok(names)
+    }
+
+    fn read(&mut self, path: &str) -> Result<Vec<u8>, FileError> {
+        let bytes = fs::read(self.rt, path)?;
+        Ok(bytes)
+    }
+
+    fn write(&mut self, path: &str, bytes: &[u8]) -> Result<(), FileError> {
+        fs::write(self.rt, path, bytes)?;
+        Ok(())
+    }
+}

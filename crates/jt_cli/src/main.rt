@@ -1,0 +1,54 @@
+//! The program `jt`.
+#![tactic(auto)]
+
+mod files;
+mod jobs;
+mod line;
+mod machine;
+mod messages;
+mod program;
+
+use crate::machine::Machine;
+use crate::messages::Failure;
+use crate::program::{perform, report};
+use std::io;
+use std::process::ExitCode;
+
+fn main(rt: HostRuntime) -> ExitCode {
+    let status = match arguments(&rt) {
+        Ok(words) => perform_on(&rt, words.as_slice()),
+        Err(error) => report(&mut rt.stderr(), &unread(&error)),
+    };
+    ExitCode::from(status)
+}
+
+/// The words of the line without the program's name.
+fn arguments(rt: &HostRuntime) -> io::Result<Vec<String>> {
+    let words = std::env::args(rt)?.skip(1).collect(rt.alloc())?;
+    Ok(words)
+}
+
+/// Why there are no words: memory ran out, or one of them is no text.
+fn unread(error: &io::Error) -> Failure {
+    if error.kind() == io::ErrorKind::OutOfMemory {
+        Failure::NoMemory
+    } else {
+        Failure::Words
+    }
+}
+
+/// Does what `words` ask for on the machine's own files and outputs, and answers the status.
+fn perform_on(rt: &HostRuntime, words: &[String]) -> u8 {
+    let alloc = rt.alloc();
+    let mut texts = Vec::new(alloc);
+    for word in words {
+        if texts.push(word.as_str()).is_err() {
+            return report(&mut rt.stderr(), &Failure::NoMemory);
+        }
+    }
+    let mut files = Machine::new(rt);
+    perform(alloc, texts.as_slice(), &mut files, &mut rt.stdout(), &mut rt.stderr())
+}
+
+#[cfg(test)]
+mod tests;
