@@ -1,0 +1,10 @@
+//! Operators, tests and `range` on values, under limits of size and nesting.
+#![tactic(auto)]
+
+mod limits;
+mod op_id;
+mod test_id;
+
+pub use limits::{Limits, OpError};
+pub use op_id::OpId;
+pub use test_id::TestId;
