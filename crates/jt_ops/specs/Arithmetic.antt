@@ -4,7 +4,8 @@ use Rattle.std.specs.Int.{div_ceil, int_pow}
 use Rattle.jt_value.specs.declared.fault.Fault.{Fault}
 use Rattle.jt_value.specs.declared.fault.Fault.TheVariants.{BadType, Overflow, ZeroDivide}
 use Rattle.jt_value.specs.Tree.{Tree, number}
-use Rattle.jt_ops.specs.Operands.{unfit, unfit_one}
+use Rattle.jt_value.specs.Order.{misfit}
+use Rattle.jt_ops.specs.Operands.{misfit_of_one}
 
 -- the number has 64 signed bits: it lies from -2^63 to 2^63 - 1
 abbrev pub is_in_range : ℤ → Bool
@@ -62,9 +63,9 @@ as_number (Err fault) = Err fault
 -- an operation on two numbers; no other values fit
 abbrev pub on_numbers : (ℤ → ℤ → Result ℤ Fault) → Tree → Tree → Result Tree Fault
 on_numbers compute (number x) (number y) = as_number (compute x y)
-on_numbers compute x y = Err (unfit x y)
+on_numbers compute x y = Err (misfit x y)
 
 -- an operation on one number; no other value fits
 abbrev pub on_number : (ℤ → Result ℤ Fault) → Tree → Result Tree Fault
 on_number compute (number x) = as_number (compute x)
-on_number compute x = Err (unfit_one x)
+on_number compute x = Err (misfit_of_one x)

@@ -3,3 +3,10 @@ pub mod TestTable
 pub mod Limited
 pub mod Operands
 pub mod Arithmetic
+pub mod Joining
+pub mod Membership
+pub mod ItemOf
+pub mod Ranges
+pub mod Comparing
+pub mod Operation
+pub mod Testing
