@@ -4,6 +4,7 @@ use Rattle.jt_value.specs.Tree.{Tree, size, nesting}
 use Rattle.jt_value.specs.View.{view}
 use Rattle.jt_value.specs.declared.value.Value.{Value}
 use Rattle.jt_value.specs.declared.fault.Fault.{Fault}
+use Rattle.jt_ops.specs.declared.limits.Limits.{Limits}
 use Rattle.jt_ops.specs.declared.limits.OpError.{OpError}
 use Rattle.jt_ops.specs.declared.limits.OpError.TheVariants as error
 
@@ -12,6 +13,9 @@ abbrev pub limited : ℕ → ℕ → Result Tree Fault → Result Tree OpError
 limited most deepest (Err fault) = Err (error.Fault fault)
 limited most deepest (Ok t) =
     if nat_lt most (size t) then Err error.TooLarge else (if nat_lt deepest (nesting t) then Err error.TooDeep else Ok t)
+
+abbrev pub limited_by : Limits → Result Tree Fault → Result Tree OpError
+limited_by limits given = limited limits.size limits.nesting given
 
 -- a call answers what the operation gives; want of memory says nothing
 abbrev pub Answers : Result Value OpError → Result Tree OpError → Type 0
