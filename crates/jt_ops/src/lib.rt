@@ -1,8 +1,10 @@
 //! Operators, tests and `range` on values, under limits of size and nesting.
 #![tactic(auto)]
 
+mod arithmetic;
 mod limits;
 mod op_id;
+mod operands;
 mod test_id;
 
 pub use limits::{Limits, OpError};
