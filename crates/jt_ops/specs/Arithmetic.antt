@@ -36,13 +36,18 @@ floor (pos a) (negsuc b) = neg_ℤ (pos (div_ceil a (suc b)))
 floor (negsuc a) (pos b) = neg_ℤ (pos (div_ceil (suc a) b))
 floor (negsuc a) (negsuc b) = pos (suc a / suc b)
 
+-- the number of a size, with the sign of another number
+abbrev pub with_sign : ℤ → ℕ → ℤ
+with_sign (pos y) size = pos size
+with_sign (negsuc y) size = neg_ℤ (pos size)
+
 -- `//`: the quotient rounded down
 abbrev pub quotient : ℤ → ℤ → Result ℤ Fault
 quotient x y = if is_zero y then Err ZeroDivide else in_range (floor x y)
 
 -- `%`: what `//` leaves, so it is 0 or has the divisor's sign
 abbrev pub remainder : ℤ → ℤ → Result ℤ Fault
-remainder x y = if is_zero y then Err ZeroDivide else in_range (x -ℤ floor x y *ℤ y)
+remainder x y = if is_zero y then Err ZeroDivide else in_range (x -ℤ (floor x y *ℤ y))
 
 -- `**`: x to the power n, 1 where n is 0; no power has a negative exponent
 abbrev pub power : ℤ → ℤ → Result ℤ Fault

@@ -10,3 +10,4 @@ pub mod Ranges
 pub mod Comparing
 pub mod Operation
 pub mod Testing
+pub mod Pieces

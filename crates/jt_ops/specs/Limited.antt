@@ -7,6 +7,8 @@ use Rattle.jt_value.specs.declared.fault.Fault.{Fault}
 use Rattle.jt_ops.specs.declared.limits.Limits.{Limits}
 use Rattle.jt_ops.specs.declared.limits.OpError.{OpError}
 use Rattle.jt_ops.specs.declared.limits.OpError.TheVariants as error
+use Rattle.jt_value.specs.declared.fault.ValueError.{ValueError}
+use Rattle.jt_value.specs.declared.fault.ValueError.TheVariants as value_error
 
 -- the fault if there is one; else TooLarge where the result's size passes its limit; else TooDeep where its nesting does; else the result
 abbrev pub limited : ℕ → ℕ → Result Tree Fault → Result Tree OpError
@@ -24,3 +26,8 @@ Answers (Err (error.Fault fault)) wanted = wanted ≡ Err (error.Fault fault)
 Answers (Err error.TooLarge) wanted = wanted ≡ Err error.TooLarge
 Answers (Err error.TooDeep) wanted = wanted ≡ Err error.TooDeep
 Answers (Err error.NoMemory) wanted = Unit {0}
+
+-- why a value could not be printed, as an operation's error
+abbrev pub of_value_error : ValueError → OpError
+of_value_error (value_error.Fault fault) = error.Fault fault
+of_value_error value_error.NoMemory = error.NoMemory

@@ -1,10 +1,11 @@
 //! Operators on numbers. A result without 64 signed bits is an overflow.
-ghost use Rattle.std.specs.Prelude.{◌≡◌, ◌≤ℤ◌, ℤ, pos, Result, Ok, Err, IfOk, IfErr};
+ghost use Rattle.std.specs.Prelude.{◌≡◌, ◌≤◌, ◌≢◌, ◌-ℤ◌, ◌*ℤ◌, ℤ, pos, Result, Ok, Err, IfOk, IfErr};
+ghost use Rattle.std.specs.Int.{int_pow};
 ghost use Rattle.jt_value.specs.Tree.{number};
 ghost use Rattle.jt_value.specs.Tree as tree;
 ghost use Rattle.jt_value.specs.View.{view};
 ghost use Rattle.jt_value.specs.declared.fault.Fault.{Fault};
-ghost use Rattle.jt_ops.specs.Arithmetic.{as_number, on_numbers, on_number};
+ghost use Rattle.jt_ops.specs.Arithmetic.{as_number, on_numbers, on_number, in_range, floor};
 ghost use Rattle.jt_ops.specs.Arithmetic as arithmetic;
 
 use crate::operands::{misfit, misfit_of_one};
@@ -34,6 +35,18 @@ pub(crate) fn product(x: i64, y: i64) -> Result<i64, Fault>
     x.checked_mul(y).ok_or(Fault::Overflow)
 }
 
+/// The number of a size, with the sign of another number.
+fn with_sign(sign: i64, size: u64) -> Result<i64, Fault>
+    ensures { result ≡ in_range (arithmetic.with_sign sign size) }
+{
+    let signed = if sign < 0 {
+        0i64.checked_sub_unsigned(size)
+    } else {
+        0i64.checked_add_unsigned(size)
+    };
+    signed.ok_or(Fault::Overflow)
+}
+
 /// The quotient of two numbers, rounded down: the sizes' quotient where the signs agree, and else
 /// that quotient rounded up and negated.
 fn quotient(x: i64, y: i64) -> Result<i64, Fault>
@@ -52,6 +65,22 @@ fn quotient(x: i64, y: i64) -> Result<i64, Fault>
     quotient.ok_or(Fault::Overflow)
 }
 
+/// The size of what the rounded quotient leaves.
+fn rest_size(x: i64, y: i64) -> u64
+    requires { pos 0 ≢ y }
+    ensures { x -ℤ (floor x y *ℤ y) ≡ arithmetic.with_sign y result }
+{
+    let divisor = y.unsigned_abs();
+    let rest = x.unsigned_abs() % divisor;
+    if (x < 0) == (y < 0) {
+        return rest;
+    }
+    if rest == 0 {
+        return 0;
+    }
+    divisor - rest
+}
+
 /// What the rounded quotient leaves: 0, or of the divisor's sign.
 pub(crate) fn remainder(x: i64, y: i64) -> Result<i64, Fault>
     ensures { result ≡ arithmetic.remainder x y }
@@ -59,19 +88,7 @@ pub(crate) fn remainder(x: i64, y: i64) -> Result<i64, Fault>
     if y == 0 {
         return Err(Fault::ZeroDivide);
     }
-    let divisor = y.unsigned_abs();
-    let rest = x.unsigned_abs() % divisor;
-    let size = if rest == 0 || (x < 0) == (y < 0) {
-        rest
-    } else {
-        divisor - rest
-    };
-    let remainder = if y < 0 {
-        0i64.checked_sub_unsigned(size)
-    } else {
-        0i64.checked_add_unsigned(size)
-    };
-    remainder.ok_or(Fault::Overflow)
+    with_sign(y, rest_size(x, y))
 }
 
 /// A number to the power of another. A negative exponent doesn't fit.
@@ -83,14 +100,15 @@ fn power(x: i64, exponent: i64) -> Result<i64, Fault>
     }
     match u32::try_from(exponent) {
         Ok(exponent) => x.checked_pow(exponent).ok_or(Fault::Overflow),
-        Err(_) => great_power(x, exponent),
+        Err(_) => great_power(x, exponent.unsigned_abs()),
     }
 }
 
-/// A power whose exponent is so great that all but 0, 1 and -1 pass the range.
-fn great_power(x: i64, exponent: i64) -> Result<i64, Fault>
-    requires { pos 64 ≤ℤ exponent }
-    ensures { result ≡ arithmetic.power x exponent }
+/// A power whose exponent is so great that all but those of 0, 1 and -1 pass the range.
+#[tactic(auto, using(crate::proofs::Numbers::power_of_zero, crate::proofs::Numbers::power_of_one, crate::proofs::Numbers::power_even, crate::proofs::Numbers::power_odd, crate::proofs::Numbers::power_beyond))]
+fn great_power(x: i64, exponent: u64) -> Result<i64, Fault>
+    requires { 64 ≤ exponent }
+    ensures { result ≡ in_range (int_pow x exponent) }
 {
     match x {
         0 => Ok(0),

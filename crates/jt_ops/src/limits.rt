@@ -50,6 +50,19 @@ impl From<NoMemory> for OpError {
     }
 }
 
+impl From<ValueError> for OpError {
+    ghost use Rattle.jt_ops.specs.Limited.{of_value_error};
+
+    ghost from_gives = { λ error e. e ≡ of_value_error error };
+
+    fn from(error: ValueError) -> OpError {
+        match error {
+            ValueError::Fault(fault) => OpError::Fault(fault),
+            ValueError::NoMemory => OpError::NoMemory,
+        }
+    }
+}
+
 impl From<AllocError> for OpError {
     ghost use Rattle.jt_ops.specs.declared.limits.OpError.TheVariants as error;
 
