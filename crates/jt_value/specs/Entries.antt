@@ -22,3 +22,9 @@ all_keys test (entry k t es) = test k && all_keys test es
 abbrev pub keys : Entries → List (List ℕ)
 keys no_entries = []
 keys (entry k t es) = k ∷ keys es
+
+-- whether two maps have the same keys at the same places
+abbrev pub same_keys : Entries → Entries → Bool
+same_keys no_entries no_entries = true
+same_keys (entry k t es) (entry l u fs) = bytes_eq k l && same_keys es fs
+same_keys es fs = false
