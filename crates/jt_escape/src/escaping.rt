@@ -3,6 +3,7 @@ ghost use Rattle.std.specs.Prelude.{◌≡◌, ◌++◌, option_map, OnOk, OnErr
 ghost use Rattle.jt_escape.specs.Escaping.{escaped, entity, Extends};
 
 use jt_value::NoMemory;
+use std::alloc::AllocError;
 
 /// Appends the text with `&`, `<`, `>`, `'` and `"` written as `&amp;`, `&lt;`, `&gt;`, `&#39;` and
 /// `&#34;`. Where memory is refused, the string keeps the bytes that it had.
@@ -11,15 +12,15 @@ pub fn escape_into(text: &str, into: &mut String) -> Result<(), NoMemory>
     ensures unchanged { OnErr result (string_bytes into.new ≡ string_bytes into.old) }
 {
     let start = into.len();
-    let done = append_escaped(text, into);
-    if done.is_err() {
+    if append_escaped(text, into).is_err() {
         into.truncate(start);
+        return Err(NoMemory);
     }
-    done
+    Ok(())
 }
 
 /// Appends the escaped text. A refusal leaves what was appended before it.
-fn append_escaped(text: &str, into: &mut String) -> Result<(), NoMemory>
+pub(crate) fn append_escaped(text: &str, into: &mut String) -> Result<(), AllocError>
     ensures ok { OnOk result (string_bytes into.new ≡ string_bytes into.old ++ escaped text.now) }
     ensures grown { Extends (string_bytes into.old) (string_bytes into.new) }
 {
