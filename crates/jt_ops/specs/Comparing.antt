@@ -6,12 +6,14 @@ use Rattle.jt_value.specs.declared.fault.Fault.{Fault}
 use Rattle.jt_value.specs.Order.{order}
 use Rattle.jt_value.specs.Tree.{Tree}
 
+-- a test of an order, if there is one
+abbrev pub of_order : (Ordering → Bool) → Result Ordering Fault → Result Bool Fault
+of_order test (Ok o) = Ok (test o)
+of_order test (Err fault) = Err fault
+
 -- a test of how two values are ordered; others than two numbers or two texts aren't
 abbrev pub compared : (Ordering → Bool) → Tree → Tree → Result Bool Fault
-compared test t u = of_order (order t u) where
-  of_order : Result Ordering Fault → Result Bool Fault
-  of_order (Ok o) = Ok (test o)
-  of_order (Err fault) = Err fault
+compared test t u = of_order test (order t u)
 
 abbrev pub is_less : Ordering → Bool
 is_less Less = true

@@ -7,12 +7,14 @@ use Rattle.jt_value.specs.Order.{misfit}
 use Rattle.jt_value.specs.Tree.{Tree, number, list, Items, no_items, item}
 use Rattle.jt_ops.specs.Operands.{misfit_of_one, misfit_of_three}
 
+-- a number, 0 for one below
+abbrev pub natural : ℤ → ℕ
+natural (pos n) = n
+natural (negsuc n) = 0
+
 -- how far y lies above x, 0 if it doesn't
 abbrev pub distance : ℤ → ℤ → ℕ
-distance x y = natural (y -ℤ x) where
-  natural : ℤ → ℕ
-  natural (pos n) = n
-  natural (negsuc n) = 0
+distance x y = natural (y -ℤ x)
 
 -- how many of the numbers from start by a step lie before stop: upwards below it, downwards above it
 abbrev pub range_count : ℤ → ℤ → ℤ → ℕ

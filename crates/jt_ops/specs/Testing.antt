@@ -5,6 +5,8 @@ use Rattle.jt_value.specs.declared.fault.Fault.TheVariants.{BadType}
 use Rattle.jt_value.specs.Equality.{equal}
 use Rattle.jt_value.specs.Order.{misfit}
 use Rattle.jt_value.specs.Tree.{Tree, undefined, nothing, truth_value, number, text, markup, list, map}
+use Rattle.jt_ops.specs.declared.limits.OpError.{OpError}
+use Rattle.jt_ops.specs.declared.limits.OpError.TheVariants as error
 use Rattle.jt_ops.specs.declared.test_id.TestId.{TestId}
 use Rattle.jt_ops.specs.declared.test_id.TestId.TheVariants as test
 use Rattle.jt_ops.specs.Arithmetic.{is_zero, remainder}
@@ -49,12 +51,14 @@ abbrev pub is_map : Tree → Bool
 is_map (map es) = true
 is_map t = false
 
+-- whether a remainder is 0
+abbrev pub is_none_left : Result ℤ Fault → Result Bool Fault
+is_none_left (Ok r) = Ok (is_zero r)
+is_none_left (Err fault) = Err fault
+
 -- whether a number is a multiple of another: the remainder is 0
 abbrev pub is_multiple : ℤ → ℤ → Result Bool Fault
-is_multiple x y = of_remainder (remainder x y) where
-  of_remainder : Result ℤ Fault → Result Bool Fault
-  of_remainder (Ok r) = Ok (is_zero r)
-  of_remainder (Err fault) = Err fault
+is_multiple x y = is_none_left (remainder x y)
 
 -- numbers alone
 abbrev pub is_divisible : Tree → Tree → Result Bool Fault
@@ -65,11 +69,12 @@ abbrev pub is_even : Tree → Result Bool Fault
 is_even (number x) = is_multiple x (pos 2)
 is_even t = Err (misfit_of_one t)
 
+abbrev pub turned_round : Result Bool Fault → Result Bool Fault
+turned_round (Ok b) = Ok (not b)
+turned_round (Err fault) = Err fault
+
 abbrev pub is_odd : Tree → Result Bool Fault
-is_odd t = turned_round (is_even t) where
-  turned_round : Result Bool Fault → Result Bool Fault
-  turned_round (Ok b) = Ok (not b)
-  turned_round (Err fault) = Err fault
+is_odd t = turned_round (is_even t)
 
 -- a test of its values, the tested one first; a call never has another number of them than the test takes
 abbrev pub tested : TestId → List Tree → Result Bool Fault
@@ -94,3 +99,8 @@ tested test.None (t ∷ []) = Ok (is_none t)
 tested test.String (t ∷ []) = Ok (is_text t)
 tested test.Undefined (t ∷ []) = Ok (is_undefined t)
 tested other ts = Err BadType
+
+-- the answer of a call: a test has no limits and takes no memory
+abbrev pub as_answer : Result Bool Fault → Result Bool OpError
+as_answer (Ok b) = Ok b
+as_answer (Err fault) = Err (error.Fault fault)

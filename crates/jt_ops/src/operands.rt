@@ -26,3 +26,15 @@ pub(crate) fn misfit_of_one(operand: &Value) -> Fault
         _ => Fault::BadType,
     }
 }
+
+/// The fault of three operands that fit no case.
+pub(crate) fn misfit_of_three(first: &Value, second: &Value, third: &Value) -> Fault
+    ensures { result ≡ operands.misfit_of_three (view first.now) (view second.now) (view third.now) }
+{
+    match (first, second, third) {
+        (Value::Undefined, _, _) => Fault::Undefined,
+        (_, Value::Undefined, _) => Fault::Undefined,
+        (_, _, Value::Undefined) => Fault::Undefined,
+        _ => Fault::BadType,
+    }
+}
