@@ -19,8 +19,7 @@ begins_split [] (n ∷ ns) e = absurd (false≢true e)
 begins_split (h ∷ hs) (n ∷ ns) e =
     let parts = and_parts (h == n) (begins_with hs ns) e in
     let more = begins_split hs ns parts.1 in
-    let same : h ≡ n = eqb-true h n parts.0 in
-    (more.0, rw (same, more.1) refl)
+    (more.0, ap (λ (x : ℕ). x ∷ hs) (eqb-true h n parts.0) ∙ ap (λ (xs : List ℕ). n ∷ xs) more.1)
 
 occurs_drop : (k : ℕ) (hay needle : List ℕ) → begins_with (drop k hay) needle ≡ true → occurs_in needle hay ≡ true
 occurs_drop zero [] needle e = e

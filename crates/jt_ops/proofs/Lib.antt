@@ -1,3 +1,4 @@
 pub mod Finding
 pub mod Loops
 pub mod Numbers
+pub mod Places

@@ -9,20 +9,38 @@ use Rattle.std.proofs.lemmas.Bool.{cases_eq}
 use Rattle.std.proofs.lemmas.Int.{ints}
 use Rattle.std.proofs.lemmas.List.{append-nil}
 use Rattle.jt_value.proofs.Lists.{more_items, items_view-take_more, items_view-push, items_size-more, items_nesting-more}
-use Rattle.jt_value.specs.Tree.{Tree, number, Items, no_items, item, size, nesting, items_size, items_nesting}
+use Rattle.std.specs.Prelude.{Ok, Err, Result}
+use Rattle.std.proofs.Common.{subst}
+use Rattle.jt_value.specs.Tree.{Tree, number, list, Items, no_items, item, size, nesting, items_size, items_nesting}
 use Rattle.jt_value.specs.View.{view, items_view}
 use Rattle.jt_value.specs.declared.value.Value.{Value}
 use Rattle.jt_escape.specs.Escaping.{escaped, escaped_byte}
 use Rattle.jt_escape.proofs.Runs.{escaped_more}
 use Rattle.jt_ops.specs.Joining.{joined_items}
-use Rattle.jt_ops.specs.Ranges.{stepped, range_count, distance, natural}
+use Rattle.jt_ops.specs.Ranges.{stepped, range_count, distance, natural, numbers_between}
 
 pub escaped_length_more : (text : List ℕ) (at : ℕ) → at < length text → length (escaped (take (at + 1) text)) ≡ length (escaped (take at text)) + length (escaped_byte (get_or text at 0))
 escaped_length_more text at inside = ap length (escaped_more text at inside) ∙ length-append (escaped (take at text)) (escaped_byte (get_or text at 0))
 
 pub repeat_more : (n : ℕ) (s : List ℕ) → repeat (n + 1) s ≡ repeat n s ++ s
 repeat_more zero s = append-nil s
-repeat_more (suc n) s = rw (add-one, ← add-one n) (ap (λ (xs : List ℕ). s ++ xs) (repeat_more n s) ∙ sym (append_assoc s (repeat n s) s))
+repeat_more (suc n) s =
+    ap (λ (m : ℕ). repeat m s) (add-one (suc n))
+    ∙ ap (λ (xs : List ℕ). s ++ xs) (ap (λ (m : ℕ). repeat m s) (sym (add-one n)) ∙ repeat_more n s)
+    ∙ sym (append_assoc s (repeat n s) s)
+
+pub repeat_length : (n : ℕ) (s : List ℕ) → length (repeat n s) ≡ length s * n
+repeat_length zero s = omega arith
+repeat_length (suc n) s = length-append s (repeat n s) ∙ omega (arith, repeat_length n s)
+
+repeat_nothing : (n : ℕ) → repeat {A = ℕ} n [] ≡ []
+repeat_nothing zero = refl
+repeat_nothing (suc n) = repeat_nothing n
+
+-- an empty text repeated is empty
+pub repeat_empty : (n : ℕ) (s : List ℕ) → length s ≡ 0 → [] ≡ repeat n s
+repeat_empty n [] e = sym (repeat_nothing n)
+repeat_empty n (b ∷ bs) e = absurd (omega arith)
 
 pub items_size_more : (vs : List Value) (i : ℕ) (v : Value) → i < length vs → v ≡ get_or vs i v → items_size (items_view (take (i + 1) vs)) ≡ items_size (items_view (take i vs)) + size (view v)
 items_size_more vs i v lt is = ap items_size (items_view-take_more vs i v lt is) ∙ items_size-more _ _
@@ -33,6 +51,17 @@ items_nesting_more vs i v lt is = ap items_nesting (items_view-take_more vs i v 
 pub joined_more : (ts us : Items) (u : Tree) → joined_items ts (more_items us u) ≡ more_items (joined_items ts us) u
 joined_more no_items us u = refl
 joined_more (item t ts) us u = ap (item t) (joined_more ts us u)
+
+-- one more item behind the copies
+pub joined_push : (ts : Items) (before after xs : List Value) (copy v : Value) (i : ℕ) → i < length xs → v ≡ get_or xs i v → after ≡ before ++ copy ∷ [] → view copy ≡ view v
+    → items_view before ≡ joined_items ts (items_view (take i xs)) → items_view after ≡ joined_items ts (items_view (take (i + 1) xs))
+joined_push ts before after xs copy v i lt is push same inv =
+    ap items_view push
+    ∙ items_view-push before copy
+    ∙ ap (λ (u : Tree). more_items (items_view before) u) same
+    ∙ ap (λ (us : Items). more_items us (view v)) inv
+    ∙ sym (joined_more ts (items_view (take i xs)) (view v))
+    ∙ ap (joined_items ts) (sym (items_view-take_more xs i v lt is))
 
 pub joined_none : (ts : Items) → joined_items ts no_items ≡ ts
 joined_none no_items = refl
@@ -60,6 +89,29 @@ stepped_more (suc n) s d =
     let later : stepped (n + 1) (s +ℤ d) d ≡ more_items (stepped n (s +ℤ d) d) (number (s +ℤ pos (suc n) *ℤ d)) =
         stepped_more n (s +ℤ d) d ∙ ap (λ (z : ℤ). more_items (stepped n (s +ℤ d) d) (number z)) (one_further s d n) in
     ap (λ (m : ℕ). stepped m s d) (add-one (suc n)) ∙ ap (item (number s)) (ap (λ (m : ℕ). stepped m (s +ℤ d) d) (sym (add-one n)) ∙ later)
+
+-- one more number of a range
+pub stepped_push : (before after : List Value) (next : Value) (n : ℕ) (s d z : ℤ) → after ≡ before ++ next ∷ [] → view next ≡ number z → items_view before ≡ stepped n s d → z ≡ s +ℤ pos n *ℤ d → items_view after ≡ stepped (n + 1) s d
+stepped_push before after next n s d z push shown inv is =
+    ap items_view push
+    ∙ items_view-push before next
+    ∙ ap (λ (u : Tree). more_items (items_view before) u) (shown ∙ ap number is)
+    ∙ ap (λ (us : Items). more_items us (number (s +ℤ pos n *ℤ d))) inv
+    ∙ sym (stepped_more n s d)
+
+one_behind : (n : ℕ) (s d : ℤ) → (s +ℤ pos n *ℤ d) +ℤ d ≡ s +ℤ pos (n + 1) *ℤ d
+one_behind n s (pos d) = omega (arith, ints)
+one_behind n s (negsuc d) = omega (arith, ints)
+
+pub next_number : (n : ℕ) (s d z r : ℤ) → z ≡ s +ℤ pos n *ℤ d → (FitsSigned w64 (z +ℤ d) → r ≡ z +ℤ d) → FitsSigned w64 (s +ℤ pos (n + 1) *ℤ d) → r ≡ s +ℤ pos (n + 1) *ℤ d
+next_number n s d z r is add fits =
+    let e : z +ℤ d ≡ s +ℤ pos (n + 1) *ℤ d = ap (λ (x : ℤ). x +ℤ d) is ∙ one_behind n s d in
+    add (subst (FitsSigned w64) (sym e) fits) ∙ e
+
+pub numbers_nonzero : (start stop step : ℤ) → pos 0 ≢ step → numbers_between start stop step ≡ Ok (list (stepped (range_count start stop step) start step))
+numbers_nonzero start stop (pos zero) n = absurd (n refl)
+numbers_nonzero start stop (pos (suc d)) n = refl
+numbers_nonzero start stop (negsuc d) n = refl
 
 pub stepped_size : (n : ℕ) (s d : ℤ) → items_size (stepped n s d) ≡ n
 stepped_size zero s d = refl

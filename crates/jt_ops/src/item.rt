@@ -4,7 +4,7 @@ ghost use Rattle.std.specs.Option.{option_and_then};
 ghost use Rattle.std.specs.Str.{chars};
 ghost use Rattle.jt_value.specs.Entries.{entry_of};
 ghost use Rattle.jt_value.specs.View.{view, items_view, entries_view};
-ghost use Rattle.jt_ops.specs.ItemOf.{item_of, indexed_item, indexed_character, or_undefined};
+ghost use Rattle.jt_ops.specs.ItemOf.{item_of, item_at, indexed_item, indexed_character, or_undefined};
 ghost use Rattle.jt_ops.specs.ItemOf as items;
 ghost use Rattle.jt_ops.specs.Limited.{limited_by, Answers};
 
@@ -23,8 +23,8 @@ pub(crate) fn item(
 {
     match (value, key) {
         (Value::Undefined, _) => Err(Fault::Undefined.into()),
-        (Value::Map(entries), Value::Text(name)) => found(alloc, entry(entries, name), limits),
-        (Value::Map(entries), Value::Markup(name)) => found(alloc, entry(entries, name), limits),
+        (Value::Map(entries), Value::Text(name)) => keyed(alloc, entries, name, limits),
+        (Value::Map(entries), Value::Markup(name)) => keyed(alloc, entries, name, limits),
         (Value::List(items), Value::Int(index)) => found(alloc, indexed(items, *index), limits),
         (Value::Text(text), Value::Int(index)) => character(alloc, text, *index, limits),
         (Value::Markup(text), Value::Int(index)) => character(alloc, text, *index, limits),
@@ -40,6 +40,18 @@ fn found(alloc: Global, found: Option<&Value>, limits: Limits) -> Result<Value, 
         Some(value) => copy_within(alloc, value, limits),
         None => within(Value::Undefined, limits),
     }
+}
+
+/// A copy of the first value of a key, undefined where there is none.
+fn keyed(
+    alloc: Global,
+    entries: &Vec<(String, Value)>,
+    name: &str,
+    limits: Limits,
+) -> Result<Value, OpError>
+    ensures { Answers result (limited_by limits (Ok (or_undefined (entry_of name.now (entries_view entries.now.items))))) }
+{
+    found(alloc, entry(entries, name), limits)
 }
 
 /// The first value of a key.
@@ -73,13 +85,21 @@ fn place(index: i64, count: usize) -> Option<usize>
 }
 
 /// The item that an index names.
+#[tactic(auto, using(crate::proofs::Places::items_count_view))]
 fn indexed(items: &[Value], index: i64) -> Option<&Value>
     ensures { option_map view (option_copied result) ≡ indexed_item (items_view items.now) index }
 {
     match place(index, items.len()) {
-        Some(place) => items.get(place),
+        Some(place) => at(items, place),
         None => None,
     }
+}
+
+/// The item at a place.
+fn at(items: &[Value], place: usize) -> Option<&Value>
+    ensures { option_map view (option_copied result) ≡ item_at (items_view items.now) place }
+{
+    items.get(place)
 }
 
 /// The character that an index names, as a plain text.
@@ -97,10 +117,24 @@ fn character(alloc: Global, text: &str, index: i64, limits: Limits) -> Result<Va
 fn nth_character(text: &str, index: i64) -> Option<char>
     ensures { result ≡ option_and_then (slice_get (chars text.now)) (items.place index (length (chars text.now))) }
 {
-    match place(index, text.chars().count()) {
-        Some(place) => text.chars().nth(place),
+    match place(index, character_count(text)) {
+        Some(place) => character_at(text, place),
         None => None,
     }
+}
+
+/// How many characters a text has.
+fn character_count(text: &str) -> usize
+    ensures { result ≡ length (chars text.now) }
+{
+    text.chars().count()
+}
+
+/// The character at a place.
+fn character_at(text: &str, place: usize) -> Option<char>
+    ensures { result ≡ slice_get (chars text.now) place }
+{
+    text.chars().nth(place)
 }
 
 /// The text of one character.

@@ -1,5 +1,5 @@
 //! Sums, products and joins of texts and lists.
-ghost use Rattle.std.specs.Prelude.{◌≡◌, ◌-◌, ◌^◌, min, Ok, OnOk};
+ghost use Rattle.std.specs.Prelude.{◌≡◌, ◌-◌, ◌^◌, min, Ok, IfOk, OnOk};
 ghost use Rattle.jt_value.specs.Tree as tree;
 ghost use Rattle.jt_value.specs.Tree.{items_size, items_nesting};
 ghost use Rattle.jt_value.specs.View.{view, items_view};
@@ -110,15 +110,38 @@ fn joined_lists(
 ) -> Result<Value, OpError>
     ensures { Answers result (limited_by limits (Ok (tree.list (joined_items (items_view items.now.items) (items_view more.now.items))))) }
 {
-    let (size, nesting) = measure(items);
-    let (more_size, more_nesting) = measure(more);
-    let size = size.saturating_add(more_size).saturating_add(1);
-    let nesting = nesting.max(more_nesting).saturating_add(1);
+    let (size, nesting) = joined_measure(items, more);
     allow(size, nesting, limits)?;
+    Ok(Value::List(joined_copies(alloc, items, more)?))
+}
+
+/// Copies of the items of two lists.
+fn joined_copies(
+    alloc: Global,
+    items: &Vec<Value>,
+    more: &Vec<Value>,
+) -> Result<Vec<Value>, NoMemory>
+    ensures { IfOk result (λ v. items_view v.items ≡ joined_items (items_view items.now.items) (items_view more.now.items)) }
+{
     let mut joined = Vec::new(alloc);
     append_copies(alloc, &mut joined, items)?;
     append_copies(alloc, &mut joined, more)?;
-    Ok(Value::List(joined))
+    Ok(joined)
+}
+
+/// The size and the nesting of the list of two lists' items, each the greatest number where it is
+/// greater.
+#[tactic(auto, using(crate::proofs::Loops::joined_size, crate::proofs::Loops::joined_nesting))]
+fn joined_measure(items: &Vec<Value>, more: &Vec<Value>) -> (u64, u32)
+    ensures size { result.0 ≡ min (tree.size (tree.list (joined_items (items_view items.now.items) (items_view more.now.items)))) (2 ^ 64 - 1) }
+    ensures nesting { result.1 ≡ min (tree.nesting (tree.list (joined_items (items_view items.now.items) (items_view more.now.items)))) (2 ^ 32 - 1) }
+{
+    let (size, nesting) = measure(items);
+    let (more_size, more_nesting) = measure(more);
+    (
+        size.saturating_add(more_size).saturating_add(1),
+        nesting.max(more_nesting).saturating_add(1),
+    )
 }
 
 /// The size and the nesting of some items, each the greatest number where it is greater.

@@ -1,5 +1,5 @@
 //! `range`: lists of numbers.
-ghost use Rattle.std.specs.Prelude.{◌≡◌, ◌≢◌, ◌≤◌, ◌<◌, ◌∷◌, [], ℕ, map, pos, ◌+ℤ◌, ◌*ℤ◌, length, FitsSigned, IfOk};
+ghost use Rattle.std.specs.Prelude.{◌≡◌, ◌≢◌, ◌≤◌, ◌<◌, ◌∷◌, [], ℕ, map, pos, ◌+ℤ◌, ◌*ℤ◌, length, FitsSigned, Ok, IfOk};
 ghost use Rattle.std.specs.Int.{w64};
 ghost use Rattle.jt_value.specs.Tree as tree;
 ghost use Rattle.jt_value.specs.View.{view, items_view};
@@ -78,6 +78,7 @@ fn range_by(
 }
 
 /// The numbers from a start by a step, before a stop.
+#[tactic(auto, using(crate::proofs::Loops::numbers_nonzero))]
 fn numbers(
     alloc: Global,
     start: i64,
@@ -90,6 +91,21 @@ fn numbers(
     if step == 0 {
         return Err(Fault::Range.into());
     }
+    list_of(alloc, start, stop, step, limits)
+}
+
+/// The list of the numbers from a start by a step, before a stop, measured before it is built.
+#[tactic(auto, using(crate::proofs::Loops::stepped_size, crate::proofs::Loops::stepped_nesting, crate::proofs::Loops::inside))]
+fn list_of(
+    alloc: Global,
+    start: i64,
+    stop: i64,
+    step: i64,
+    limits: Limits,
+) -> Result<Value, OpError>
+    requires { pos 0 ≢ step }
+    ensures { Answers result (limited_by limits (Ok (tree.list (stepped (range_count start stop step) start step)))) }
+{
     let count = count(start, stop, step);
     allow(count.saturating_add(1), 1, limits)?;
     Ok(Value::List(listed(alloc, start, step, count)?))

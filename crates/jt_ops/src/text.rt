@@ -66,6 +66,7 @@ impl<'a> Piece<'a> {
     }
 }
 
+#[tactic(auto, using(crate::proofs::Loops::escaped_length_more))]
 /// How many bytes a text has once it is escaped, or the greatest number where they are more.
 fn escaped_len(text: &str) -> u64
     ensures { result ≡ min (length (escaped text.now)) (2 ^ 64 - 1) }
@@ -107,6 +108,7 @@ pub(crate) fn concatenated(
 }
 
 /// A text, repeated; nothing for 0 and below.
+#[tactic(auto, using(crate::proofs::Loops::repeat_length))]
 pub(crate) fn repeated(
     alloc: Global,
     text: &str,
@@ -116,18 +118,26 @@ pub(crate) fn repeated(
 ) -> Result<Value, OpError>
     ensures { Answers result (limited_by limits (Ok (of_kind kind (repeat (times number) text.now)))) }
 {
-    // An empty text is repeated at once, however often.
-    let count = if number <= 0 || text.is_empty() {
-        0
-    } else {
-        number.unsigned_abs()
-    };
+    let count = repetitions(text, number);
     let size = (text.len() as u64).saturating_mul(count).saturating_add(1);
     allow(size, 0, limits)?;
     Ok(kind.value(repetition(alloc, text, count)?))
 }
 
+/// How often a text is to be written for a number of repetitions: an empty one never.
+#[tactic(auto, using(crate::proofs::Loops::repeat_empty))]
+fn repetitions(text: &str, number: i64) -> u64
+    ensures { repeat result text.now ≡ repeat (times number) text.now }
+{
+    if number <= 0 || text.is_empty() {
+        0
+    } else {
+        number.unsigned_abs()
+    }
+}
+
 /// A text, so many times.
+#[tactic(auto, using(crate::proofs::Loops::repeat_more))]
 fn repetition(alloc: Global, text: &str, count: u64) -> Result<String, NoMemory>
     ensures { IfOk result (λ s. string_bytes s ≡ repeat count text.now) }
 {

@@ -6,4 +6,4 @@ use Rattle.jt_ops.proofs.ranges.listed.Given as goal
 
 abbrev pub invariant-loop : goal.invariant-loop
 invariant-loop l =
-    (items_view l.numbers.items ≡ stepped l.counter l.start l.step) × (l.counter < l.count → l.next ≡ l.start +ℤ pos l.counter *ℤ l.step)
+    (items_view l.numbers.items ≡ stepped l.counter l.fn.start l.fn.step) × (l.counter < l.count → l.next ≡ l.fn.start +ℤ pos l.counter *ℤ l.fn.step)
