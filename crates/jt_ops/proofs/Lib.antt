@@ -1,3 +1,4 @@
+pub mod Answering
 pub mod Finding
 pub mod Loops
 pub mod Numbers

@@ -6,14 +6,15 @@ use Rattle.std.specs.Prelude.{◌≢◌, ◌≤ℤ◌, ◌-ℤ◌, FitsSigned}
 use Rattle.std.proofs.Common.{⊎_elim}
 use Rattle.std.proofs.Math.Nat.{mul-le-mul_right}
 use Rattle.std.proofs.lemmas.Bool.{cases_eq}
-use Rattle.std.proofs.lemmas.Int.{ints}
+use Rattle.std.proofs.lemmas.Int.{ints, to_z-of_z}
+use Rattle.std.proofs.Common.{rules, to_z, of_z}
 use Rattle.std.proofs.lemmas.List.{append-nil}
 use Rattle.jt_value.proofs.Lists.{more_items, items_view-take_more, items_view-push, items_size-more, items_nesting-more}
 use Rattle.std.specs.Prelude.{Ok, Err, Result}
 use Rattle.std.proofs.Common.{subst}
 use Rattle.jt_value.specs.Tree.{Tree, number, list, Items, no_items, item, size, nesting, items_size, items_nesting}
 use Rattle.jt_value.specs.View.{view, items_view}
-use Rattle.jt_value.specs.declared.value.Value.{Value}
+use Rattle.jt_value.specs.declared.value.Value.{Value, Int as IntOf, the_lemmas}
 use Rattle.jt_escape.specs.Escaping.{escaped, escaped_byte}
 use Rattle.jt_escape.proofs.Runs.{escaped_more}
 use Rattle.jt_ops.specs.Joining.{joined_items}
@@ -148,3 +149,18 @@ inside start stop (pos (suc d)) n f g k lt =
 inside start stop (negsuc d) n f g k lt =
     let b = below_natural (k * suc d) (start -ℤ stop) (below_ceil k (distance stop start) (suc d) (omega arith) lt) in
     between stop _ start (omega (arith, ints, b)) (omega (arith, ints)) g f
+
+-- what a call gives at arguments of 64 bits, which it sees by their bits
+pub count_is : (start stop step : ℤ) (n : ℕ) → FitsSigned w64 start → FitsSigned w64 stop → FitsSigned w64 step → n ≡ range_count (to_z w64 (of_z w64 start)) (to_z w64 (of_z w64 stop)) (to_z w64 (of_z w64 step)) → n ≡ range_count start stop step
+count_is start stop step n f g h e =
+    e
+    ∙ ap (λ (x : ℤ). range_count x (to_z w64 (of_z w64 stop)) (to_z w64 (of_z w64 step))) (to_z-of_z w64 start f)
+    ∙ ap (λ (x : ℤ). range_count start x (to_z w64 (of_z w64 step))) (to_z-of_z w64 stop g)
+    ∙ ap (range_count start stop) (to_z-of_z w64 step h)
+
+pub listed_is : (start step : ℤ) (n : ℕ) (ts : Items) → FitsSigned w64 start → FitsSigned w64 step → ts ≡ stepped n (to_z w64 (of_z w64 start)) (to_z w64 (of_z w64 step)) → ts ≡ stepped n start step
+listed_is start step n ts f g e =
+    e ∙ ap (λ (x : ℤ). stepped n x (to_z w64 (of_z w64 step))) (to_z-of_z w64 start f) ∙ ap (stepped n start) (to_z-of_z w64 step g)
+
+pub view_int : (z : ℤ) → view (IntOf z) ≡ number z
+view_int z = search (rules, the_lemmas)
