@@ -1,5 +1,5 @@
 -- The order of UTF-8 bytes is the order of the code points that they spell.
-use Rattle.std.proofs.Common.{◌≡◌, ℕ, zero, suc, ◌+◌, ◌*◌, ◌/◌, ◌%◌, ◌<◌, ◌≤◌, Bool, true, false, cond, List, [], ◌∷◌, ◌++◌, refl, sym, ap, ◌∙◌, subst, arith}
+use Rattle.std.proofs.Common.{◌≡◌, ℕ, zero, suc, ◌+◌, ◌/◌, ◌<◌, ◌≤◌, Bool, true, false, cond, List, [], ◌∷◌, ◌++◌, refl, sym, ap, ◌∙◌, subst, arith}
 use mathlib.Core.Logic.{◌⊎◌, inl, inr, ⊎_elim}
 use Rattle.std.specs.Prelude.{nat_lt, Ok}
 use Rattle.std.specs.declared.cmp.Ordering.TheVariants.{Less, Equal, Greater}
@@ -72,7 +72,7 @@ four_less : (c d : ℕ) (xs ys : List ℕ) → c < d
 four_less c d xs ys h =
     lex (240 + c / 262144) (240 + d / 262144) (next (c / 4096) ∷ next (c / 64) ∷ next c ∷ xs) (next (d / 4096) ∷ next (d / 64) ∷ next d ∷ ys) (omega arith)
     (λ e. lex (next (c / 4096)) (next (d / 4096)) (next (c / 64) ∷ next c ∷ xs) (next (d / 64) ∷ next d ∷ ys) (omega arith)
-        (λ e2. lex (next (c / 64)) (next (d / 64)) (next c ∷ xs) (next d ∷ ys) (omega arith) (λ e3. first_less (next c) (next d) xs ys (omega arith))))
+    (λ e2. lex (next (c / 64)) (next (d / 64)) (next c ∷ xs) (next d ∷ ys) (omega arith) (λ e3. first_less (next c) (next d) xs ys (omega arith))))
 
 spelled_less : (c d : ℕ) (bs cs xs ys : List ℕ) → Spelling c bs → Spelling d cs → c < d → slice_cmp nat_cmp (bs ++ xs) (cs ++ ys) ≡ Less
 spelled_less c d bs cs xs ys (one l e) (one m f) h = rw (e, f) (first_less c d xs ys h)
