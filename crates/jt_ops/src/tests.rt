@@ -74,6 +74,21 @@ fn shown(alloc: Global, answer: &Result<Value, OpError>) -> Result<String, Alloc
     }
 }
 
+/// What an operator of two operands answers, shown.
+fn answer_of_two(
+    alloc: Global,
+    op: OpId,
+    left: &str,
+    right: &str,
+) -> Result<String, AllocError> {
+    if !op.takes(2) {
+        return String::from_str(alloc, "another number of operands");
+    }
+    let left = value(alloc, left)?;
+    let right = value(alloc, right)?;
+    shown(alloc, &binary(alloc, op, &left, &right, WIDE))
+}
+
 #[test]
 fn operators_of_two(rt: HostRuntime) {
     let alloc = rt.alloc();
@@ -142,11 +157,7 @@ fn operators_of_two(rt: HostRuntime) {
         (OpId::RangeFromStart, "n2", "n4", "l 2 3"),
     ];
     for (op, left, right, wanted) in rows {
-        let left = value(alloc, left).expect(&rt, "a row");
-        let right = value(alloc, right).expect(&rt, "a row");
-        assert!(rt; op.takes(2));
-        let answer = binary(alloc, op, &left, &right, WIDE);
-        let text = shown(alloc, &answer).expect(&rt, "a row");
+        let text = answer_of_two(alloc, op, left, right).expect(&rt, "a row");
         assert_eq!(rt; text.as_str(), wanted);
     }
 }
