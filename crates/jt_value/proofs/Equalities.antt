@@ -1,9 +1,9 @@
 -- Equality of lists and maps, item by item and key by key.
-use Rattle.std.proofs.Common.{◌≡◌, ◌≢◌, ℕ, zero, suc, ◌+◌, ◌<◌, Bool, true, false, cond, ◌&&◌, List, [], ◌∷◌, ◌++◌, length, take, get_or, Option, Some, None, String, Global, string_bytes, refl, sym, ap, ◌∙◌, subst, true≢false, arith}
+use Rattle.std.proofs.Common.{◌≡◌, ◌≢◌, ℕ, zero, suc, ◌+◌, ◌<◌, Bool, true, false, cond, ◌&&◌, List, [], ◌∷◌, length, take, get_or, Option, Some, string_bytes, refl, sym, ap, ◌∙◌, subst, true≢false, arith}
 use Rattle.std.specs.Option.{option_map_or}
 use Rattle.std.specs.Str.{bytes_eq}
 use Rattle.std.specs.Cmp.Lexicographic.{nat_list_eq_equiv, same_text}
-use Rattle.jt_value.specs.Tree.{Tree, Items, Entries, no_entries, entry}
+use Rattle.jt_value.specs.Tree.{Tree, Entries, no_entries, entry}
 use Rattle.jt_value.specs.View.{view, items_view, entries_view}
 use Rattle.jt_value.specs.Entries.{entry_of, has_key, all_keys, same_keys}
 use Rattle.jt_value.specs.Equality.{equal, equal_items, equal_at}
@@ -14,18 +14,18 @@ and_false : (a : Bool) → (a && false) ≡ false
 and_false true = refl
 and_false false = refl
 
-left_true : (a b : Bool) → (a && b) ≡ true → a ≡ true
+pub left_true : (a b : Bool) → (a && b) ≡ true → a ≡ true
 left_true true b h = refl
 left_true false b h = h
 
-right_true : (a b : Bool) → (a && b) ≡ true → b ≡ true
+pub right_true : (a b : Bool) → (a && b) ≡ true → b ≡ true
 right_true true b h = h
 right_true false b h = absurd (true≢false (sym h))
 
-both_true : (a b : Bool) → a ≡ true → b ≡ true → (a && b) ≡ true
+pub both_true : (a b : Bool) → a ≡ true → b ≡ true → (a && b) ≡ true
 both_true a b p q = ap (λ x. x && b) p ∙ q
 
-reflexive : (k : List ℕ) → bytes_eq k k ≡ true
+pub reflexive : (k : List ℕ) → bytes_eq k k ≡ true
 reflexive k = nat_list_eq_equiv.refl k
 
 -- lists of other lengths are unequal
@@ -51,7 +51,7 @@ all_keys-more test no_entries k u h p = both_true (test k) true p refl
 all_keys-more test (entry l t es) k u h p = both_true (test l) (all_keys test (more_entries es k u)) (left_true (test l) (all_keys test es) h) (all_keys-more test es k u (right_true (test l) (all_keys test es) h) p)
 
 -- a test of all keys holds of each key that is there
-holds_of : (test : List ℕ → Bool) (es : Entries) (k : List ℕ) → all_keys test es ≡ true → has_key k es ≡ true → test k ≡ true
+pub holds_of : (test : List ℕ → Bool) (es : Entries) (k : List ℕ) → all_keys test es ≡ true → has_key k es ≡ true → test k ≡ true
 holds_of test no_entries k h there = absurd (true≢false (sym there))
 holds_of test (entry l t es) k h there = by (bytes_eq l k) refl there (holds_of test es k (right_true (test l) (all_keys test es) h))
   where
@@ -60,7 +60,7 @@ holds_of test (entry l t es) k h there = by (bytes_eq l k) refl there (holds_of 
     by false e p rest = rest p
 
 -- a test that holds of each key holds of all
-all_of : (test : List ℕ → Bool) (es : Entries) → ((k : List ℕ) → has_key k es ≡ true → test k ≡ true) → all_keys test es ≡ true
+pub all_of : (test : List ℕ → Bool) (es : Entries) → ((k : List ℕ) → has_key k es ≡ true → test k ≡ true) → all_keys test es ≡ true
 all_of test no_entries h = refl
 all_of test (entry l t es) h = both_true (test l) (all_keys test es) (h l (ap (λ b. cond b true (has_key l es)) (reflexive l))) (all_of test es (λ k there. h k (later (bytes_eq l k) (has_key k es) there)))
   where
@@ -134,8 +134,8 @@ same_first [] ys i e f h lt is at p = absurd (omega arith)
 same_first (x ∷ xs) [] i e f h lt is at p = absurd (true≢false (sym h))
 same_first (x ∷ xs) (y ∷ ys) zero e f h lt is at p =
     let same : bytes_eq (string_bytes y.0) (string_bytes e.0) ≡ true =
-        subst (λ (z : Pair). bytes_eq (string_bytes y.0) (string_bytes z.0) ≡ true) (sym is)
-        (nat_list_eq_equiv.symm (string_bytes y.0) (string_bytes x.0) ∙ left_true (bytes_eq (string_bytes x.0) (string_bytes y.0)) (same_keys (entries_view xs) (entries_view ys)) h) in
+    subst (λ (z : Pair). bytes_eq (string_bytes y.0) (string_bytes z.0) ≡ true) (sym is)
+    (nat_list_eq_equiv.symm (string_bytes y.0) (string_bytes x.0) ∙ left_true (bytes_eq (string_bytes x.0) (string_bytes y.0)) (same_keys (entries_view xs) (entries_view ys)) h) in
     ap (λ b. cond b (Some (view y.1)) (entry_of (string_bytes e.0) (entries_view ys))) same ∙ ap (λ (z : Pair). Some (view z.1)) (sym at)
 same_first (x ∷ xs) (y ∷ ys) (suc i) e f h lt is at p =
     let same = same_text (string_bytes x.0) (string_bytes y.0) (sym (left_true (bytes_eq (string_bytes x.0) (string_bytes y.0)) (same_keys (entries_view xs) (entries_view ys)) h)) in
@@ -163,3 +163,11 @@ seen k m xs ys i j b h p q r =
 -- the same of a look for the first value of a key
 pub found : (t : Tree) (k m : List ℕ) (fs : Entries) (b : Bool) → b ≡ option_map_or (equal t) (entry_of k fs) false → k ≡ m → option_map_or (equal t) (entry_of m fs) false ≡ b
 found t k m fs b h p = ap (λ n. option_map_or (equal t) (entry_of n fs) false) (sym p) ∙ sym h
+
+-- the same of a test for the same keys
+pub told_same : (vs xs ws ys : List Pair) → true ≡ same_keys (entries_view vs) (entries_view ws) → vs ≡ xs → ws ≡ ys → same_keys (entries_view xs) (entries_view ys) ≡ true
+told_same vs xs ws ys h p q = ap (λ (l : List Pair). same_keys (entries_view l) (entries_view ys)) (sym p) ∙ ap (λ (l : List Pair). same_keys (entries_view vs) (entries_view l)) (sym q) ∙ sym h
+
+pub and_known : (a b : Bool) → b ≡ true → a ≡ (a && b)
+and_known true b h = sym h
+and_known false b h = refl

@@ -1,5 +1,5 @@
 -- When two values are equal: what `==`, `in` and the tests `eq` and `ne` ask.
-use Rattle.std.specs.Prelude.{ℕ, ℤ, pos, List, Bool, true, false, ◌&&◌, Option, if◌then◌else◌}
+use Rattle.std.specs.Prelude.{◌≡◌, ℕ, ℤ, pos, List, Bool, true, false, ◌&&◌, Option, Some, None, if◌then◌else◌}
 use Rattle.std.specs.Option.{option_map_or}
 use Rattle.std.specs.Ordering.{int_eq}
 use Rattle.std.specs.Str.{bytes_eq}
@@ -40,3 +40,14 @@ abbrev mutual
   pub equal_at : Entries → List ℕ → Option Tree → Bool
   equal_at no_entries k other = false
   equal_at (entry l t es) k other = if bytes_eq l k then option_map_or (equal t) other false else equal_at es k other
+
+-- whether the first values of a key are both missing, or both there and equal
+abbrev pub agree : Option Tree → Option Tree → Bool
+agree None None = true
+agree None (Some u) = false
+agree (Some t) None = false
+agree (Some t) (Some u) = equal t u
+
+-- what equality of two maps comes to: their first values agree at every key that there could be
+abbrev pub AgreeAtEachKey : Entries → Entries → Type 0
+AgreeAtEachKey es fs = (k : List ℕ) → agree (entry_of k es) (entry_of k fs) ≡ true

@@ -1,5 +1,6 @@
 -- How two values are ordered: what `<`, `<=`, `>` and `>=` ask.
-use Rattle.std.specs.Prelude.{Result, Ok, Err}
+use Rattle.std.specs.Prelude.{◌≡◌, ℕ, List, Result, Ok, Err}
+use Rattle.std.specs.Str.{encode_utf8_all}
 use Rattle.std.specs.declared.cmp.Ordering.{Ordering}
 use Rattle.std.specs.Ordering.{int_cmp, nat_cmp}
 use Rattle.std.specs.Cmp.Lexicographic.{slice_cmp}
@@ -21,3 +22,9 @@ order (text x) (markup y) = Ok (slice_cmp nat_cmp x y)
 order (markup x) (text y) = Ok (slice_cmp nat_cmp x y)
 order (markup x) (markup y) = Ok (slice_cmp nat_cmp x y)
 order t u = Err (misfit t u)
+
+-- the value is a text, markup or not, of these code points
+abbrev pub Spells : List ℕ → Tree → Type 0
+Spells cs (text bytes) = bytes ≡ encode_utf8_all cs
+Spells cs (markup bytes) = bytes ≡ encode_utf8_all cs
+Spells cs t = ⊥

@@ -23,9 +23,9 @@ pub enum Fault {
     NotIterable,
     /// F7: another number of items than of names.
     Unpack,
-    /// F8: a range with too many items, or a step of 0.
+    /// F8: a range with the step 0.
     Range,
-    /// F9: an argument outside what a filter takes.
+    /// F9: an argument that the operation does not take.
     BadArgument,
 }
 

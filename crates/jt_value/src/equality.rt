@@ -1,42 +1,23 @@
-//! Equality and order.
-ghost use Rattle.std.specs.Prelude.{◌≡◌, false, option_map, option_copied};
+//! Equality.
+ghost use Rattle.std.specs.Prelude.{◌≡◌, ◌↔◌, true, false, IsTrue};
 ghost use Rattle.std.specs.Option.{option_map_or};
 ghost use Rattle.jt_value.specs.Tree as tree;
-ghost use Rattle.jt_value.specs.Entries.{entry_of, has_key, all_keys};
-ghost use Rattle.jt_value.specs.Equality.{equal, equal_items, equal_at, truth_number};
-ghost use Rattle.jt_value.specs.Order.{order};
+ghost use Rattle.jt_value.specs.Tree.{Entries};
+ghost use Rattle.jt_value.specs.Entries.{entry_of, all_keys, same_keys};
+ghost use Rattle.jt_value.specs.Equality.{equal, equal_items, equal_at, truth_number, AgreeAtEachKey};
 ghost use Rattle.jt_value.specs.View.{view, items_view, entries_view};
 
-use crate::fault::Fault;
+use crate::entries::{first_value, has, has_all_keys, have_same_keys};
 use crate::value::Value;
-use std::cmp::Ordering;
 
 impl Value {
     /// Whether two values are equal: numbers and truth values as numbers, texts by their characters, markup or not, lists item by
     /// item, maps by their keys' first values in any order; none equals none, and undefined undefined.
     pub fn equals(&self, other: &Value) -> bool
-        ensures { result ≡ equal (view self.now) (view other.now) }
+        ensures value { result ≡ equal (view self.now) (view other.now) }
+        ensures maps { (es fs : Entries) → view self.now ≡ tree.map es → view other.now ≡ tree.map fs → IsTrue result ↔ AgreeAtEachKey es fs }
     {
         are_equal(self, other)
-    }
-
-    /// The order of two numbers or two texts, markup or not; texts go by code points.
-    ///
-    /// # Errors
-    ///
-    /// For all other operands `Undefined` if one of them is undefined, else `BadType`.
-    pub fn compare(&self, other: &Value) -> Result<Ordering, Fault>
-        ensures { result ≡ order (view self.now) (view other.now) }
-    {
-        match (self, other) {
-            (Value::Int(left), Value::Int(right)) => Ok(left.cmp(right)),
-            (Value::Text(left), Value::Text(right)) => Ok(left.as_str().cmp(right.as_str())),
-            (Value::Text(left), Value::Markup(right)) => Ok(left.as_str().cmp(right.as_str())),
-            (Value::Markup(left), Value::Text(right)) => Ok(left.as_str().cmp(right.as_str())),
-            (Value::Markup(left), Value::Markup(right)) => Ok(left.as_str().cmp(right.as_str())),
-            (Value::Undefined, _) | (_, Value::Undefined) => Err(Fault::Undefined),
-            _ => Err(Fault::BadType),
-        }
     }
 }
 
@@ -112,7 +93,26 @@ fn are_items_equal(items: &Vec<Value>, others: &Vec<Value>) -> bool
 fn are_maps_equal(entries: &Vec<(String, Value)>, others: &Vec<(String, Value)>) -> bool
     ensures { result ≡ equal (tree.map (entries_view entries.now.items)) (tree.map (entries_view others.now.items)) }
 {
+    if have_same_keys(entries, others) {
+        return are_values_equal_in_place(entries, others);
+    }
     has_all_keys(entries, others) && are_first_values_equal(entries, others)
+}
+
+/// The same as `are_first_values_equal`, in one pass, for maps that have the same keys at the same places.
+#[cycle(equality)]
+fn are_values_equal_in_place(entries: &Vec<(String, Value)>, others: &Vec<(String, Value)>) -> bool
+    requires { same_keys (entries_view entries.now.items) (entries_view others.now.items) ≡ true }
+    ensures { result ≡ all_keys (λ k. equal_at (entries_view entries.now.items) k (entry_of k (entries_view others.now.items))) (entries_view entries.now.items) }
+{
+    let mut index = 0;
+    for (key, value) in entries {
+        if !are_equal(value, &others[index].1) && !has(&entries[..index], key) {
+            return false;
+        }
+        index += 1;
+    }
+    true
 }
 
 /// Whether the first value of each key of the entries equals that key's first value in the others.
@@ -140,38 +140,4 @@ fn is_first_value(value: &Value, key: &str, entries: &Vec<(String, Value)>) -> b
         Some(first) => are_equal(value, first),
         None => false,
     }
-}
-
-fn first_value<'a>(entries: &'a [(String, Value)], key: &str) -> Option<&'a Value>
-    ensures { option_map view (option_copied result) ≡ entry_of key.now (entries_view entries.now) }
-{
-    for entry in entries {
-        if entry.0.as_str() == key {
-            return Some(&entry.1);
-        }
-    }
-    None
-}
-
-fn has(entries: &[(String, Value)], key: &str) -> bool
-    ensures { result ≡ has_key key.now (entries_view entries.now) }
-{
-    for entry in entries {
-        if entry.0.as_str() == key {
-            return true;
-        }
-    }
-    false
-}
-
-/// Whether the entries have each key of the others.
-fn has_all_keys(entries: &[(String, Value)], others: &[(String, Value)]) -> bool
-    ensures { result ≡ all_keys (λ k. has_key k (entries_view entries.now)) (entries_view others.now) }
-{
-    for other in others {
-        if !has(entries, other.0.as_str()) {
-            return false;
-        }
-    }
-    true
 }
