@@ -1,5 +1,5 @@
 -- What a join has still to write.
-use Rattle.std.proofs.Common.{◌≡◌, ℕ, Bool, List, ◌++◌, Option}
+use Rattle.std.proofs.Common.{ℕ, Bool, List, ◌++◌, Option}
 use Rattle.std.specs.Prelude.{option_map}
 use Rattle.jt_value.specs.Tree.{Items}
 use Rattle.jt_escape.specs.Appending.{led_pieces}

@@ -1,8 +1,7 @@
--- What the private functions of joins say: a text is appended, or there is none.
+-- What the private functions say of a string to which they append.
 use Rattle.std.specs.Prelude.{◌≡◌, ℕ, Bool, List, ◌++◌, flat_map, Option, Some, None, option_map, Result, Ok, Err, String, string_bytes}
 use Rattle.std.specs.declared.alloc.Global.{Global}
 use Rattle.jt_value.specs.Tree.{Items}
-use Rattle.jt_value.specs.declared.fault.Fault.{Fault}
 use Rattle.jt_value.specs.declared.fault.Fault.TheVariants as fault
 use Rattle.jt_value.specs.declared.fault.ValueError.{ValueError}
 use Rattle.jt_value.specs.declared.fault.ValueError.TheVariants as error
@@ -23,3 +22,7 @@ abbrev pub Makes : Option (List ℕ) → Result (String Global) ValueError → T
 Makes text (Ok s) = text ≡ Some (string_bytes s)
 Makes text (Err (error.Fault f)) = (f ≡ fault.Unprintable) × (text ≡ None)
 Makes text (Err error.NoMemory) = Unit {0}
+
+-- the second text is the first with some text behind it
+abbrev pub Extends : List ℕ → List ℕ → Type 0
+Extends before after = (more : List ℕ) × (after ≡ before ++ more)

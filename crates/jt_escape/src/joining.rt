@@ -13,11 +13,7 @@ use std::alloc::{AllocError, Global};
 /// The items' printed texts with the separator's between them, as `join` gives them under
 /// autoescaping: markup where an item or the separator is, with all else escaped, and else a plain
 /// text. The only fault is `Unprintable`, the separator's included where there is nothing to separate.
-pub fn join_markup(
-    alloc: Global,
-    items: &[Value],
-    separator: &Value,
-) -> Result<Value, ValueError>
+pub fn join_markup(alloc: Global, items: &[Value], separator: &Value) -> Result<Value, ValueError>
     ensures { IsAnswer (joined_markup (items_view items.now) (view separator.now)) result }
 {
     if is_markup(separator) || has_markup(items) {
@@ -28,22 +24,14 @@ pub fn join_markup(
 
 /// The items' printed texts with the separator's between them, as `join` gives them without
 /// autoescaping: a plain text. The only fault is `Unprintable`.
-pub fn join_plain(
-    alloc: Global,
-    items: &[Value],
-    separator: &Value,
-) -> Result<Value, ValueError>
+pub fn join_plain(alloc: Global, items: &[Value], separator: &Value) -> Result<Value, ValueError>
     ensures { IsAnswer (joined_plain (items_view items.now) (view separator.now)) result }
 {
     let text = join_text(alloc, items, separator, false)?;
     Ok(Value::Text(text))
 }
 
-fn join_as_markup(
-    alloc: Global,
-    items: &[Value],
-    separator: &Value,
-) -> Result<Value, ValueError>
+fn join_as_markup(alloc: Global, items: &[Value], separator: &Value) -> Result<Value, ValueError>
     ensures { IsAnswer (joined_as_markup (items_view items.now) (view separator.now)) result }
 {
     let text = join_text(alloc, items, separator, true)?;
@@ -141,4 +129,80 @@ fn append_text(text: &str, escaping: bool, into: &mut String) -> Result<(), Allo
         return append_escaped(text, into);
     }
     into.push_str(text)
+}
+
+#[cfg(test)]
+mod tests {
+    use super::*;
+    use jt_value::Fault;
+    use std::test::Fail;
+
+    fn text(alloc: Global, text: &str) -> Result<Value, AllocError> {
+        Ok(Value::Text(String::from_str(alloc, text)?))
+    }
+
+    fn markup(alloc: Global, text: &str) -> Result<Value, AllocError> {
+        Ok(Value::Markup(String::from_str(alloc, text)?))
+    }
+
+    /// The text, and whether it is markup.
+    fn shown(value: &Value) -> Option<(bool, &str)> {
+        match value {
+            Value::Text(text) => Some((false, text.as_str())),
+            Value::Markup(text) => Some((true, text.as_str())),
+            _ => None,
+        }
+    }
+
+    #[test]
+    fn joins_under_autoescaping(rt: HostRuntime) -> Result<(), Fail> {
+        let alloc = rt.alloc();
+        let plain = [text(alloc, "a")?, text(alloc, "<")?];
+        let mixed = [
+            text(alloc, "<")?,
+            markup(alloc, "<")?,
+            Value::Int(-7),
+            Value::None,
+        ];
+        for (separator, is_mixed, is_markup, joined) in [
+            (text(alloc, "&")?, false, false, "a&<"),
+            (markup(alloc, "&")?, false, true, "a&&lt;"),
+            (text(alloc, "")?, true, true, "&lt;<-7None"),
+            (text(alloc, "&")?, true, true, "&lt;&amp;<&amp;-7&amp;None"),
+        ] {
+            let items = if is_mixed {
+                mixed.as_slice()
+            } else {
+                plain.as_slice()
+            };
+            let value = join_markup(alloc, items, &separator)?;
+            assert_eq!(rt; shown(&value), Some((is_markup, joined)));
+        }
+        let nothing = join_markup(alloc, &[], &text(alloc, "&")?)?;
+        assert_eq!(rt; shown(&nothing), Some((false, "")));
+        Ok(())
+    }
+
+    #[test]
+    fn joins_plainly(rt: HostRuntime) -> Result<(), Fail> {
+        let alloc = rt.alloc();
+        let items = [markup(alloc, "<")?, Value::Undefined, Value::Bool(true)];
+        let value = join_plain(alloc, &items, &text(alloc, ", ")?)?;
+        assert_eq!(rt; shown(&value), Some((false, "<, , True")));
+        Ok(())
+    }
+
+    #[test]
+    fn asks_for_each_text(rt: HostRuntime) -> Result<(), Fail> {
+        let alloc = rt.alloc();
+        let list = Value::List(Vec::new(alloc));
+        let unprintable = Some(ValueError::Fault(Fault::Unprintable));
+        assert_eq!(rt; join_markup(alloc, &[], &list).err(), unprintable);
+        let items = [Value::Int(1), list];
+        assert_eq!(rt;
+            join_plain(alloc, &items, &text(alloc, ",")?).err(),
+            unprintable
+        );
+        Ok(())
+    }
 }

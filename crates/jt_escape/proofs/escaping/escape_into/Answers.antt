@@ -1,7 +1,6 @@
-use Rattle.std.proofs.Common.{◌≡◌, ◌++◌, string_bytes, ℕ, ◌+◌, ◌<◌, ◌≤◌, length, List, refl, ap, sym, ◌∙◌, subst, arith}
+use Rattle.std.proofs.Common.{◌≡◌, string_bytes, ℕ, length, subst, arith}
 use Rattle.std.specs.Str.{IsCharBoundary}
 use Rattle.std.proofs.lemmas.Str.{IsUtf8-string_bytes}
-use Rattle.jt_escape.specs.Escaping.{escaped, entity, Extends}
 use Rattle.jt_escape.proofs.Runs.{cut_back}
 use Rattle.jt_escape.proofs.escaping.escape_into.Goals as goal
 
