@@ -1,5 +1,5 @@
 //! Operators on numbers. A result without 64 signed bits is an overflow.
-ghost use Rattle.std.specs.Prelude.{◌≡◌, ◌≤◌, ◌≢◌, ◌-ℤ◌, ◌*ℤ◌, ℤ, pos, Result, Ok, Err, IfOk, IfErr};
+ghost use Rattle.std.specs.Prelude.{◌≡◌, ◌≤◌, ◌<◌, ◌≢◌, unsigned_abs, ◌-ℤ◌, ◌*ℤ◌, ℤ, pos, Result, Ok, Err, IfOk, IfErr};
 ghost use Rattle.std.specs.Int.{int_pow};
 ghost use Rattle.jt_value.specs.Tree.{number};
 ghost use Rattle.jt_value.specs.Tree as tree;
@@ -65,10 +65,12 @@ fn quotient(x: i64, y: i64) -> Result<i64, Fault>
     quotient.ok_or(Fault::Overflow)
 }
 
-/// The size of what the rounded quotient leaves.
+/// The size of what the rounded quotient leaves. That it has the divisor's sign and is smaller is
+/// what rounding down means.
 fn rest_size(x: i64, y: i64) -> u64
     requires { pos 0 ≢ y }
-    ensures { x -ℤ (floor x y *ℤ y) ≡ arithmetic.with_sign y result }
+    ensures left { x -ℤ (floor x y *ℤ y) ≡ arithmetic.with_sign y result }
+    ensures smaller { result < unsigned_abs y }
 {
     let divisor = y.unsigned_abs();
     let rest = x.unsigned_abs() % divisor;

@@ -9,6 +9,7 @@ ghost use Rattle.jt_ops.specs.Operation.{as_truth};
 
 use jt_value::{Fault, NoMemory, Value, ValueError};
 use std::alloc::{AllocError, AllocFailed, Global};
+use thiserror::Error;
 
 /// The greatest size and nesting that a result may have.
 #[derive(Clone, Copy, Debug, PartialEq, Eq)]
@@ -17,16 +18,20 @@ pub struct Limits {
     pub nesting: u8,
 }
 
-/// Why an operation gave no result.
-#[derive(Clone, Copy, Debug, PartialEq, Eq)]
+/// Why an operation gave no result. A fault prints as it does alone.
+#[derive(Clone, Copy, Debug, PartialEq, Eq, Error)]
 pub enum OpError {
     /// The operation has this fault, whatever the limits.
+    #[error("{0}")]
     Fault(Fault),
     /// The result's size passes the limit.
+    #[error("too large")]
     TooLarge,
     /// The result's nesting passes the limit, and its size doesn't.
+    #[error("too deep")]
     TooDeep,
     /// A growth was refused.
+    #[error("no memory")]
     NoMemory,
 }
 

@@ -74,6 +74,21 @@ fn shown(alloc: Global, answer: &Result<Value, OpError>) -> Result<String, Alloc
     }
 }
 
+/// What an operator of two operands answers, shown.
+fn answer_of_two(
+    alloc: Global,
+    op: OpId,
+    left: &str,
+    right: &str,
+) -> Result<String, AllocError> {
+    if !op.takes(2) {
+        return String::from_str(alloc, "another number of operands");
+    }
+    let left = value(alloc, left)?;
+    let right = value(alloc, right)?;
+    shown(alloc, &binary(alloc, op, &left, &right, WIDE))
+}
+
 #[test]
 fn operators_of_two(rt: HostRuntime) {
     let alloc = rt.alloc();
@@ -142,11 +157,7 @@ fn operators_of_two(rt: HostRuntime) {
         (OpId::RangeFromStart, "n2", "n4", "l 2 3"),
     ];
     for (op, left, right, wanted) in rows {
-        let left = value(alloc, left).unwrap(&rt);
-        let right = value(alloc, right).unwrap(&rt);
-        assert!(rt; op.takes(2));
-        let answer = binary(alloc, op, &left, &right, WIDE);
-        let text = shown(alloc, &answer).unwrap(&rt);
+        let text = answer_of_two(alloc, op, left, right).expect(&rt, "a row");
         assert_eq!(rt; text.as_str(), wanted);
     }
 }
@@ -164,10 +175,10 @@ fn operators_of_one(rt: HostRuntime) {
         (OpId::RangeToStop, "n3", "l 0 1 2"),
     ];
     for (op, operand, wanted) in rows {
-        let operand = value(alloc, operand).unwrap(&rt);
+        let operand = value(alloc, operand).expect(&rt, "a row");
         assert!(rt; op.takes(1));
         let answer = unary(alloc, op, &operand, WIDE);
-        let text = shown(alloc, &answer).unwrap(&rt);
+        let text = shown(alloc, &answer).expect(&rt, "a row");
         assert_eq!(rt; text.as_str(), wanted);
     }
 }
@@ -185,11 +196,11 @@ fn ranges(rt: HostRuntime) {
         ("n9223372036854775806", "n9223372036854775807", "n9", "l 9223372036854775806"),
     ];
     for (start, stop, step, wanted) in rows {
-        let start = value(alloc, start).unwrap(&rt);
-        let stop = value(alloc, stop).unwrap(&rt);
-        let step = value(alloc, step).unwrap(&rt);
+        let start = value(alloc, start).expect(&rt, "a row");
+        let stop = value(alloc, stop).expect(&rt, "a row");
+        let step = value(alloc, step).expect(&rt, "a row");
         let answer = range(alloc, &[start, stop, step], WIDE);
-        let text = shown(alloc, &answer).unwrap(&rt);
+        let text = shown(alloc, &answer).expect(&rt, "a row");
         assert_eq!(rt; text.as_str(), wanted);
     }
 }
@@ -197,11 +208,11 @@ fn ranges(rt: HostRuntime) {
 #[test]
 fn limits(rt: HostRuntime) {
     let alloc = rt.alloc();
-    let list = value(alloc, "l1").unwrap(&rt);
+    let list = value(alloc, "l1").expect(&rt, "a row");
     let rows = [(3, 1, "l 1 1"), (2, 0, "too large"), (3, 0, "too deep")];
     for (size, nesting, wanted) in rows {
         let answer = binary(alloc, OpId::Add, &list, &list, Limits { size, nesting });
-        let text = shown(alloc, &answer).unwrap(&rt);
+        let text = shown(alloc, &answer).expect(&rt, "a row");
         assert_eq!(rt; text.as_str(), wanted);
     }
 }
@@ -224,10 +235,11 @@ fn tests_of_one(rt: HostRuntime) {
         ("undefined", "u", true),
     ];
     for (name, tested, wanted) in rows {
-        let tested = value(alloc, tested).unwrap(&rt);
-        let id = TestId::by_name(name).unwrap(&rt);
+        let tested = value(alloc, tested).expect(&rt, "a row");
+        let id = TestId::by_name(name).expect(&rt, "a row");
         assert!(rt; id.takes(1));
-        assert!(rt; test(id, &[tested]) == Ok(wanted), "at {name}");
+        let answer = test(id, &[tested]);
+        assert_eq!(rt; answer, Ok(wanted), "at {name}");
     }
 }
 
@@ -248,10 +260,11 @@ fn tests_of_two(rt: HostRuntime) {
         ("in", "tb", "tabc", true),
     ];
     for (name, tested, argument, wanted) in rows {
-        let tested = value(alloc, tested).unwrap(&rt);
-        let argument = value(alloc, argument).unwrap(&rt);
-        let id = TestId::by_name(name).unwrap(&rt);
+        let tested = value(alloc, tested).expect(&rt, "a row");
+        let argument = value(alloc, argument).expect(&rt, "a row");
+        let id = TestId::by_name(name).expect(&rt, "a row");
         assert!(rt; id.takes(2));
-        assert!(rt; test(id, &[tested, argument]) == Ok(wanted), "at {name}");
+        let answer = test(id, &[tested, argument]);
+        assert_eq!(rt; answer, Ok(wanted), "at {name}");
     }
 }

@@ -127,7 +127,8 @@ pub(crate) fn repeated(
 /// How often a text is to be written for a number of repetitions: an empty one never.
 #[tactic(auto, using(crate::proofs::Loops::repeat_empty))]
 fn repetitions(text: &str, number: i64) -> u64
-    ensures { repeat result text.now ≡ repeat (times number) text.now }
+    ensures same { repeat result text.now ≡ repeat (times number) text.now }
+    ensures empty { length text.now ≡ 0 → result ≡ 0 }
 {
     if number <= 0 || text.is_empty() {
         0
