@@ -1,6 +1,6 @@
 -- The spelling of a code is read as that code.
 use Rattle.std.proofs.Common.{◌≡◌, ℕ, zero, suc, ◌+◌, ◌<◌, ◌≤◌, ◌^◌, Bool, true, false, cond, ltb, leb, eqb, List, [], ◌∷◌, ◌++◌, length, map, take, drop, Option, Some, None, Result, Ok, Err, refl, sym, ap, subst, ◌∙◌, arith, append_assoc, nat_cmp}
-use Rattle.std.specs.Prelude.{ℤ, ◌==◌, ◌&&◌, ◌||◌, ◌≢◌, not, nat_lt, nat_le, slice_get, IsUtf8, IfOk, MatchResult}
+use Rattle.std.specs.Prelude.{ℤ, ◌==◌, ◌&&◌, ◌||◌, ◌≢◌, not, nat_lt, nat_le, slice_get, IsUtf8, IfOk, MatchResult, MatchOption}
 use Rattle.std.specs.Int.{w16, w32, w64, to_le_bytes, cast_signed, cast_unsigned}
 use Rattle.std.specs.List.{flat_map, AllByRecursion}
 use Rattle.std.specs.Str.{bytes_eq}
@@ -15,13 +15,14 @@ use Rattle.jt_image.specs.declared.error.ImageError.{ImageError}
 use Rattle.jt_image.specs.declared.error.ImageError.TheVariants.{BadMagic, BadVersion, Truncated, Trailing, BadText, BadOpcode, BadTable, LimitPassed, NoMemory}
 use Rattle.jt_image.specs.declared.instruction.Instruction.{Instruction}
 use Rattle.jt_image.specs.declared.instruction.Instruction.TheVariants as op
+use Rattle.jt_image.specs.declared.wire.Instr.{Instr}
 use Rattle.jt_image.specs.Code.{Constant, undefined, nothing, truth_value, number, text, markup, Name, Section, Code}
-use Rattle.jt_image.specs.Spelling.{magic, version, name_bytes, constant_bytes, header_bytes, instruction_bytes, spelling}
+use Rattle.jt_image.specs.Spelling.{magic, version, name_bytes, constant_bytes, header_bytes, wire_of, wire_bytes, instruction_bytes, spelling}
 use Rattle.jt_image.specs.IsCode.{IsName, Ascend, AreDistinct, IsConstant, IsInstruction, IsSection, total_len, HasEntry, IsCode, max_locals, max_instructions, max_bytes}
 use Rattle.jt_image.specs.Reading.{◌>>=◌, Gives, check, number_at, byte_at, text_at, is_used, may_follow, slot_at, name_text_at, name_at, names_at, long_text_at, constant_of, constant_at, constants_at, Header, header_total, is_first, parameters_at, kind_at, locals_at, len_at, header_of, header_at, headers_at, known, known_of, instruction_of, instruction_at, instructions_at, section_of, section_at, sections_at, magic_at, start_at, units_at, all_names_at, all_constants_at, code_of}
 use Rattle.jt_image.proofs.Parts.{header_total-push, is_first-push, is_used-push}
 use Rattle.jt_image.proofs.Found.{Read, IsBytes, all_at, wide16, wide32, wide64, AllGood}
-use Rattle.jt_image.proofs.Sound.{good_instruction, IsFree, IsNext, IsNamed, short_bytes, long_bytes, IsPlain, IsHeader, head_bytes, code_bytes, head_of, HasCode}
+use Rattle.jt_image.proofs.Sound.{wire_from, good_instruction, IsFree, IsNext, IsNamed, short_bytes, long_bytes, IsPlain, IsHeader, head_bytes, code_bytes, head_of, HasCode}
 use Rattle.jt_image.proofs.Whole.{IsSpelledBy, code_found, may_follow-push, AreNames, good_constant, AreConstants, good_header, HasFirst, AreUnits, units_bytes, head_spelled, length-map_of}
 use Rattle.jt_image.proofs.Again.{number_again, text_again, bind_again, many_again, each_again}
 
@@ -192,22 +193,65 @@ by_fields i j0 j1 j2 opcode a b c rest small_b small_c e0 e1 e2 e3 =
     (bind_again (number_at w32 (to_le_bytes w32 c ++ rest)) (λ c. known_of opcode a b c.0 >>= λ i. Ok (i, c.1)) c rest (Ok (i, rest)) (number_again w32 (2 ^ 32) wide32 c rest small_c)
     (step_again (known_of opcode a b c) (λ i. Ok (i, rest)) i (Ok (i, rest)) e3 refl)))))
 
-only_c : (i j : Instruction) (opcode c : ℕ) (rest : List ℕ) → c < 2 ^ 32 → known_of opcode 0 0 0 ≡ Ok j → known_of opcode 0 0 c ≡ Ok i → instruction_at (opcode ∷ 0 ∷ (to_le_bytes w16 0 ++ to_le_bytes w32 c) ++ rest) ≡ Ok (i, rest)
-only_c i j opcode c rest small e f = by_fields i j j j opcode 0 0 c rest (omega arith) small e e e f
+-- an instruction is read from its fields, and each beginning of them is in order
+pub record IsWired (w : Instr) (i : Instruction) : Type 0 where
+  pub by_op : (j : Instruction) × (known_of w.op 0 0 0 ≡ Ok j)
+  pub by_a : (j : Instruction) × (known_of w.op w.a 0 0 ≡ Ok j)
+  pub by_b : (j : Instruction) × (known_of w.op w.a w.b 0 ≡ Ok j)
+  pub whole : known_of w.op w.a w.b w.c ≡ Ok i
+
+wired : (i : Instruction) → IsWired (wire_of i) i
+unfolding known_of instruction_of
+wired (op.Const c) = record { by_op = (op.Const 0, refl); by_a = (op.Const 0, refl); by_b = (op.Const 0, refl); whole = refl }
+wired (op.GLoad c) = record { by_op = (op.GLoad 0, refl); by_a = (op.GLoad 0, refl); by_b = (op.GLoad 0, refl); whole = refl }
+wired (op.GStore c) = record { by_op = (op.GStore 0, refl); by_a = (op.GStore 0, refl); by_b = (op.GStore 0, refl); whole = refl }
+wired op.Drop = record { by_op = (op.Drop, refl); by_a = (op.Drop, refl); by_b = (op.Drop, refl); whole = refl }
+wired op.Dup = record { by_op = (op.Dup, refl); by_a = (op.Dup, refl); by_b = (op.Dup, refl); whole = refl }
+wired (op.Emit a) = record { by_op = (op.Emit 0, refl); by_a = (op.Emit a, refl); by_b = (op.Emit a, refl); whole = refl }
+wired (op.Data c) = record { by_op = (op.Data 0, refl); by_a = (op.Data 0, refl); by_b = (op.Data 0, refl); whole = refl }
+wired (op.Jump c) = record { by_op = (op.Jump 0, refl); by_a = (op.Jump 0, refl); by_b = (op.Jump 0, refl); whole = refl }
+wired (op.JumpIfFalse c) = record { by_op = (op.JumpIfFalse 0, refl); by_a = (op.JumpIfFalse 0, refl); by_b = (op.JumpIfFalse 0, refl); whole = refl }
+wired (op.JumpIfTrue c) = record { by_op = (op.JumpIfTrue 0, refl); by_a = (op.JumpIfTrue 0, refl); by_b = (op.JumpIfTrue 0, refl); whole = refl }
+wired op.Return = record { by_op = (op.Return, refl); by_a = (op.Return, refl); by_b = (op.Return, refl); whole = refl }
+
+-- the fields of an instruction fit the wire's
+abbrev HasSmallWire : Instruction → Type 0
+HasSmallWire i = ((wire_of i).b < 2 ^ 16) × ((wire_of i).c < 2 ^ 32)
+
+small_wire : (i : Instruction) → IsInstruction i → HasSmallWire i
+small_wire (op.Const c) h = (omega arith, h)
+small_wire (op.GLoad c) h = (omega arith, h)
+small_wire (op.GStore c) h = (omega arith, h)
+small_wire op.Drop h = (omega arith, omega arith)
+small_wire op.Dup h = (omega arith, omega arith)
+small_wire (op.Emit a) h = (omega arith, omega arith)
+small_wire (op.Data c) h = (omega arith, h)
+small_wire (op.Jump c) h = (omega arith, h)
+small_wire (op.JumpIfFalse c) h = (omega arith, h)
+small_wire (op.JumpIfTrue c) h = (omega arith, h)
+small_wire op.Return h = (omega arith, omega arith)
+
+-- the fields of an instruction are read as it
+pub by_wire : (w : Instr) (i : Instruction) (rest : List ℕ) → wire_of i ≡ w → w.b < 2 ^ 16 → w.c < 2 ^ 32 → instruction_at (wire_bytes w ++ rest) ≡ Ok (i, rest)
+by_wire w i rest e small_b small_c =
+    let h : IsWired w i = subst (λ (v : Instr). IsWired v i) e (wired i) in
+    by_fields i h.by_op.0 h.by_a.0 h.by_b.0 w.op w.a w.b w.c rest small_b small_c h.by_op.1 h.by_a.1 h.by_b.1 h.whole
 
 instruction_again : (before : List Instruction) (i : Instruction) (rest : List ℕ) → IsInstruction i → instruction_at (instruction_bytes i ++ rest) ≡ Ok (i, rest)
-unfolding known_of instruction_of
-instruction_again before (op.Const c) rest h = only_c (op.Const c) (op.Const 0) 1 c rest h refl refl
-instruction_again before (op.GLoad c) rest h = only_c (op.GLoad c) (op.GLoad 0) 4 c rest h refl refl
-instruction_again before (op.GStore c) rest h = only_c (op.GStore c) (op.GStore 0) 5 c rest h refl refl
-instruction_again before op.Drop rest h = only_c op.Drop op.Drop 6 0 rest (omega arith) refl refl
-instruction_again before op.Dup rest h = only_c op.Dup op.Dup 7 0 rest (omega arith) refl refl
-instruction_again before (op.Emit a) rest h = by_fields (op.Emit a) (op.Emit 0) (op.Emit a) (op.Emit a) 8 a 0 0 rest (omega arith) (omega arith) refl refl refl refl
-instruction_again before (op.Data c) rest h = only_c (op.Data c) (op.Data 0) 9 c rest h refl refl
-instruction_again before (op.Jump c) rest h = only_c (op.Jump c) (op.Jump 0) 10 c rest h refl refl
-instruction_again before (op.JumpIfFalse c) rest h = only_c (op.JumpIfFalse c) (op.JumpIfFalse 0) 11 c rest h refl refl
-instruction_again before (op.JumpIfTrue c) rest h = only_c (op.JumpIfTrue c) (op.JumpIfTrue 0) 12 c rest h refl refl
-instruction_again before op.Return rest h = only_c op.Return op.Return 28 0 rest (omega arith) refl refl
+instruction_again before i rest h = let small = small_wire i h in by_wire (wire_of i) i rest refl small.0 small.1
+
+-- fields that no instruction has
+no_instruction : (w : Instr) (i : Instruction) → instruction_of w ≡ None → IsWired w i → ⊥
+unfolding known_of
+no_instruction w i e h = fault (sym (ap known e) ∙ h.whole)
+  where
+    fault : (let r : Result Instruction ImageError = Err BadOpcode in r ≡ Ok i) → ⊥
+    fault f = cc
+
+-- the table of opcodes gives the one instruction with these fields
+pub instruction_exact : (w : Instr) (o : Option Instruction) → o ≡ instruction_of w → MatchOption o ((i : Instruction) → wire_of i ≢ w) (λ i. wire_of i ≡ w)
+instruction_exact w (Some i) e = wire_from w i (sym e)
+instruction_exact w None e = λ i f. no_instruction w i (sym e) (subst (λ (v : Instr). IsWired v i) f (wired i))
 
 -- ---- units
 

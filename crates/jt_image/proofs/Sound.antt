@@ -208,7 +208,7 @@ abbrev HasWire : Instr → Option Instruction → Type 0
 HasWire w None = Unit {0}
 HasWire w (Some i) = wire_of i ≡ w
 
-abbrev wire_at : ℕ → ℕ → ℕ → ℕ → Instr
+abbrev pub wire_at : ℕ → ℕ → ℕ → ℕ → Instr
 wire_at opcode a b c = record { op = opcode; a = a; b = b; c = c }
 
 same_wire : (w : Instr) (opcode a b c : ℕ) → eqb w.op opcode ≡ true → a ≡ w.a → b ≡ w.b → c ≡ w.c → wire_at opcode a b c ≡ w
@@ -259,6 +259,10 @@ instruction_wire w =
     choose w (eqb w.op 11) _ _ (λ e. c_wire w 11 (op.JumpIfFalse w.c) e refl) (
     choose w (eqb w.op 12) _ _ (λ e. c_wire w 12 (op.JumpIfTrue w.c) e refl) (
     choose w (eqb w.op 28) _ _ (λ e. none_wire w 28 op.Return e refl) tt))))))))))
+
+-- the fields from which an instruction was made
+pub wire_from : (w : Instr) (i : Instruction) → instruction_of w ≡ Some i → wire_of i ≡ w
+wire_from w i e = subst (HasWire w) e (instruction_wire w)
 
 -- the fields of an instruction fit
 small_instruction : (i : Instruction) (w : Instr) → wire_of i ≡ w → w.a < 2 ^ 8 → w.c < 2 ^ 32 → IsInstruction i

@@ -131,7 +131,7 @@ fn known(instr: Instr) -> Result<Instruction, ImageError>
 }
 
 #[tactic(auto, unfolding(crate::specs::Reading::instruction_at))]
-fn instruction_at(bytes: &[u8]) -> Result<(Instruction, &[u8]), ImageError>
+fn by_fields(bytes: &[u8]) -> Result<(Instruction, &[u8]), ImageError>
     ensures { Gives (λ x. (x.0, x.1.now)) result (instruction_at bytes.now) }
 {
     let (op, rest) = u8_at(bytes)?;
@@ -143,6 +143,23 @@ fn instruction_at(bytes: &[u8]) -> Result<(Instruction, &[u8]), ImageError>
     let (c, rest) = u32_at(rest)?;
     let instruction = known(Instr { op, a, b, c })?;
     Ok((instruction, rest))
+}
+
+// eight bytes at once where they are an instruction, else field by field for the first fault
+fn instruction_at(bytes: &[u8]) -> Result<(Instruction, &[u8]), ImageError>
+    ensures { Gives (λ x. (x.0, x.1.now)) result (instruction_at bytes.now) }
+{
+    if bytes.len() < 8 {
+        return by_fields(bytes);
+    }
+    let (front, rest) = bytes.split_at(8);
+    let b = u16::from_le_bytes([front[2], front[3]]);
+    let c = u32::from_le_bytes([front[4], front[5], front[6], front[7]]);
+    let instr = Instr { op: front[0], a: front[1], b, c };
+    match instr.instruction() {
+        Some(instruction) => Ok((instruction, rest)),
+        None => by_fields(bytes),
+    }
 }
 
 fn instructions_at(

@@ -76,10 +76,8 @@ impl Instr {
         if self.a == 0 && self.b == 0 { Some(instruction) } else { None }
     }
 
-    /// The instruction with these fields: `None` for an opcode that there is not, or a field that
-    /// is not used and not 0.
     #[tactic(auto, unfolding(crate::specs::Reading::instruction_of))]
-    pub fn instruction(self) -> Option<Instruction>
+    fn by_opcode(self) -> Option<Instruction>
         ensures { result ≡ instruction_of self }
     {
         let (a, c) = (self.a, self.c);
@@ -97,5 +95,16 @@ impl Instr {
             28 => self.uses_none(Instruction::Return),
             _ => None,
         }
+    }
+
+    /// The instruction with these fields: `None` for an opcode that there is not, or a field that
+    /// is not used and not 0.
+    pub fn instruction(self) -> Option<Instruction>
+        // by the table of opcodes
+        ensures table { result ≡ instruction_of self }
+        // the one instruction with these fields
+        ensures exact { MatchOption result ((i : Instruction) → wire_of i ≢ self) (λ i. wire_of i ≡ self) }
+    {
+        self.by_opcode()
     }
 }
