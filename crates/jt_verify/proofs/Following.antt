@@ -1,13 +1,12 @@
 -- What a unit's table and paths say stays true while paths are followed.
-use Rattle.std.proofs.Common.{◌≡◌, ◌≢◌, ℕ, zero, suc, ◌+◌, ◌<◌, ◌≤◌, ◌⊎◌, List, [], ◌∷◌, ◌++◌, length, Option, Some, None, Result, Ok, Err, refl, sym, subst, ◌∙◌, arith, inl, inr}
+use Rattle.std.proofs.Common.{◌≡◌, ℕ, ◌<◌, ◌≤◌, List, [], ◌∷◌, ◌++◌, length, Option, Some, None, Ok, refl, sym, subst, ◌∙◌, arith, inl, inr}
 use Rattle.std.specs.Prelude.{slice_set, replicate}
-use Rattle.std.specs.List.{AllByRecursion}
 use Rattle.std.proofs.lemmas.List.{length-set, length-append}
 use Rattle.jt_image.specs.Code.{Section, Code}
 use Rattle.jt_image.specs.Effect.{Shape, effect_at}
 use Rattle.jt_image.specs.Typed.{Reaches, at_start, along, IsTypedUnit, Equal, HasSame, Among, max_entries}
 use Rattle.jt_verify.specs.Typing.{as_list, points_of, AreWithin}
-use Rattle.jt_verify.specs.Working.{Table, shape_at, unknown, work_left, Waits, IsDue, IsFollowed, Comes, IsWorking, sent}
+use Rattle.jt_verify.specs.Working.{Table, shape_at, work_left, IsDue, IsFollowed, Comes, IsWorking, sent}
 use Rattle.jt_verify.specs.declared.typing.Leads.{Leads}
 use Rattle.jt_verify.specs.declared.verifier.Path.{Path}
 use Rattle.jt_verify.proofs.Tables.{same_or, set_here, set_there, set_keeps, set_gives, unknown-set, none_at, length-replicate, among_swapped, all_weaker, all_among, all_of, waits_left, waits_right, waits_either, waits_sent, all_to, paths_last, paths_append, paths_sent}
@@ -20,9 +19,9 @@ module _ (k : Code) (u : Section) (t : Table) (w : List Path) (x : Path) (is : s
   due_met s q (inr h) = elim (waits_either w (x ∷ []) s q h) [
     | inl a ↦ inr a
     | inr b ↦ elim b [
-        | inl e ↦ inl (subst (λ (n : ℕ). shape_at t n ≡ Some s) e.0 (subst (λ (r : Shape). shape_at t x.point ≡ Some r) e.1 is))
-        | inr c ↦ absurd c
-      ]
+      | inl e ↦ inl (subst (λ (n : ℕ). shape_at t n ≡ Some s) e.0 (subst (λ (r : Shape). shape_at t x.point ≡ Some r) e.1 is))
+      | inr c ↦ absurd c
+    ]
   ]
 
   pub met : IsWorking k u t (w ++ x ∷ []) → IsWorking k u t w
@@ -50,9 +49,9 @@ module _ (k : Code) (u : Section) (t : Table) (w : List Path) (x : Path) (l : Le
   due_set s q (inr h) = elim (waits_either w (x ∷ []) s q h) [
     | inl a ↦ inr (waits_left w (sent l r) s q a)
     | inr b ↦ elim b [
-        | inl e ↦ inl (subst (λ (n : ℕ). shape_at after_set n ≡ Some s) e.0 (subst (λ (y : Shape). shape_at after_set x.point ≡ Some y) e.1 (set_here t x.point x.shape lt)))
-        | inr c ↦ absurd c
-      ]
+      | inl e ↦ inl (subst (λ (n : ℕ). shape_at after_set n ≡ Some s) e.0 (subst (λ (y : Shape). shape_at after_set x.point ≡ Some y) e.1 (set_here t x.point x.shape lt)))
+      | inr c ↦ absurd c
+    ]
   ]
 
   due_next : (q : ℕ) → Among q (points_of l) → IsDue after_set (w ++ sent l r) r q
@@ -73,16 +72,16 @@ module _ (k : Code) (u : Section) (t : Table) (w : List Path) (x : Path) (l : Le
           | inr other ↦ i.reached p s (sym (set_there t x.point p x.shape other) ∙ e)
         ];
         coming = paths_append (Comes k u) w (sent l r) last.1 (paths_sent (Comes k u) r (as_list l.target ++ as_list l.next) (λ q a.
-          let b = among_swapped q (as_list l.target) (as_list l.next) a in
-          (all_among (λ n. n < length u.code) (points_of l) q within b, along x.point x.shape (record { shape = r; points = points_of l }) q last.0.1 effect b)));
+            let b = among_swapped q (as_list l.target) (as_list l.next) a in
+            (all_among (λ n. n < length u.code) (points_of l) q within b, along x.point x.shape (record { shape = r; points = points_of l }) q last.0.1 effect b)));
         fine = λ p s e. elim (same_or p x.point) [
           | inl same ↦ subst (λ (y : Shape). IsFollowed k u after_set (w ++ sent l r) p y) (set_gives t x.point x.shape lt p s same e)
-            (subst (λ (n : ℕ). IsFollowed k u after_set (w ++ sent l r) n x.shape) (sym same) new)
+              (subst (λ (n : ℕ). IsFollowed k u after_set (w ++ sent l r) n x.shape) (sym same) new)
           | inr other ↦ let f = i.fine p s (sym (set_there t x.point p x.shape other) ∙ e) in record {
-              leads = f.leads;
-              effect = f.effect;
-              due = all_weaker (IsDue t (w ++ x ∷ []) f.leads.shape) (IsDue after_set (w ++ sent l r) f.leads.shape) f.leads.points (λ q d. due_set f.leads.shape q d) f.due;
-            }
+            leads = f.leads;
+            effect = f.effect;
+            due = all_weaker (IsDue t (w ++ x ∷ []) f.leads.shape) (IsDue after_set (w ++ sent l r) f.leads.shape) f.leads.points (λ q d. due_set f.leads.shape q d) f.due;
+          }
         ];
       }
     where
@@ -137,15 +136,18 @@ known_if_due t s q (inr h) = absurd h
 
 -- where no path waits, the unit is typed
 pub is_typed : (k : Code) (u : Section) (t : Table) → IsWorking k u t [] → IsTypedUnit Equal k u
-is_typed k u t i = (shape_at t, record {
-  start = known_if_due t [] 0 i.start;
-  small = i.small;
-  fine = λ p s e. let f = i.fine p s e in record {
-    leads = f.leads;
-    effect = f.effect;
-    agree = all_weaker (IsDue t [] f.leads.shape) (HasSame Equal (shape_at t) f.leads.shape) f.leads.points (λ q d. (f.leads.shape, known_if_due t f.leads.shape q d, refl)) f.due;
-  };
-})
+is_typed k u t i = (
+  shape_at t,
+  record {
+    start = known_if_due t [] 0 i.start;
+    small = i.small;
+    fine = λ p s e. let f = i.fine p s e in record {
+      leads = f.leads;
+      effect = f.effect;
+      agree = all_weaker (IsDue t [] f.leads.shape) (HasSame Equal (shape_at t) f.leads.shape) f.leads.points (λ q d. (f.leads.shape, known_if_due t f.leads.shape q d, refl)) f.due;
+    };
+  },
+)
 
 pub no_paths : (k : Code) (u : Section) (t : Table) (w : List Path) → length w ≡ 0 → IsWorking k u t w → IsTypedUnit Equal k u
 no_paths k u t [] e i = is_typed k u t i

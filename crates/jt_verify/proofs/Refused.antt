@@ -1,5 +1,5 @@
 -- A refusal that holds refuses no typed code.
-use Rattle.std.proofs.Common.{◌≡◌, ◌≢◌, ℕ, ◌<◌, ◌⊎◌, List, [], ◌∷◌, ◌++◌, length, Option, Some, None, Result, Ok, Err, refl, sym, ap, subst, ◌∙◌, arith, inl, inr}
+use Rattle.std.proofs.Common.{◌≡◌, ℕ, List, [], ◌∷◌, ◌++◌, length, Option, Some, None, Result, Ok, Err, refl, sym, ap, subst, ◌∙◌, arith, inl, inr}
 use Rattle.std.specs.Prelude.{slice_get}
 use Rattle.std.specs.List.{AllByRecursion}
 use Rattle.jt_image.specs.declared.kind.Flaw.{Flaw}
@@ -7,7 +7,7 @@ use Rattle.jt_image.specs.declared.kind.Flaw.TheVariants as flaw
 use Rattle.jt_image.specs.declared.instruction.Instruction.{Instruction}
 use Rattle.jt_image.specs.Code.{Section, Code}
 use Rattle.jt_image.specs.Effect.{Shape, Leads, effect_of, effect_at}
-use Rattle.jt_image.specs.Typed.{Shapes, Reaches, at_start, along, IsTypedBy, IsTypedUnit, IsTyped, Equal, HasSame, max_entries}
+use Rattle.jt_image.specs.Typed.{Shapes, Reaches, at_start, along, IsTypedBy, IsTypedUnit, IsTyped, Equal, HasSame}
 use Rattle.jt_verify.specs.Refusing.{HasClash, HasFlaw, HoldsAt, RefusalHolds}
 use Rattle.jt_verify.specs.Working.{Table, shape_at, unit_of, ClashesAt, Clashes, Steps, Comes, IsWorking, RefusesUnit}
 use Rattle.jt_verify.specs.declared.refusal.Refusal.{Refusal}

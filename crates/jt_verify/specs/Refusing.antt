@@ -1,5 +1,5 @@
 -- What a refusal says of a code.
-use Rattle.std.specs.Prelude.{◌≡◌, ◌≢◌, ◌⊎◌, ℕ, ◌<◌, length, Option, Some, Err, slice_get}
+use Rattle.std.specs.Prelude.{◌≡◌, ◌≢◌, ◌⊎◌, ℕ, ◌<◌, length, Some, Err, slice_get}
 use Rattle.jt_image.specs.declared.kind.Flaw.{Flaw}
 use Rattle.jt_image.specs.declared.kind.Flaw.TheVariants as flaw
 use Rattle.jt_image.specs.Code.{Section, Code}

@@ -11,7 +11,11 @@ use thiserror::Error;
 #[derive(Clone, Copy, Debug, PartialEq, Eq, Error)]
 pub enum Refusal {
     #[error("{name} unit {unit} point {point}", name = flaw_name(.flaw))]
-    Flaw { flaw: Flaw, unit: usize, point: usize },
+    Flaw {
+        flaw: Flaw,
+        unit: usize,
+        point: usize,
+    },
     #[error("K10 NoMemory")]
     NoMemory,
 }
@@ -73,9 +77,17 @@ mod tests {
 
     #[test]
     fn shows_its_name_and_place(rt: HostRuntime) {
-        let shown: InlineText<64> = InlineText::of(Refusal::Flaw { flaw: Flaw::JumpOut, unit: 0, point: 0 });
+        let shown: InlineText<64> = InlineText::of(Refusal::Flaw {
+            flaw: Flaw::JumpOut,
+            unit: 0,
+            point: 0,
+        });
         assert_eq!(rt; shown.as_str(), "K5 JumpOut unit 0 point 0");
-        let shown: InlineText<64> = InlineText::of(Refusal::Flaw { flaw: Flaw::TooDeep, unit: 2, point: 1025 });
+        let shown: InlineText<64> = InlineText::of(Refusal::Flaw {
+            flaw: Flaw::TooDeep,
+            unit: 2,
+            point: 1025,
+        });
         assert_eq!(rt; shown.as_str(), "K9 TooDeep unit 2 point 1025");
         let shown: InlineText<64> = InlineText::of(Refusal::NoMemory);
         assert_eq!(rt; shown.as_str(), "K10 NoMemory");

@@ -53,7 +53,10 @@ impl Shape {
     pub fn new() -> Shape
         ensures { result ≡ [] }
     {
-        Shape { len: 0, top: Top::None }
+        Shape {
+            len: 0,
+            top: Top::None,
+        }
     }
 
     /// How many entries there are.
@@ -101,7 +104,10 @@ impl Shape {
         let len = below.len + 1;
         match Rc::new(alloc, below) {
             Ok(below) => {
-                *self = Shape { len, top: Top::On(kind, below) };
+                *self = Shape {
+                    len,
+                    top: Top::On(kind, below),
+                };
                 Ok(())
             }
             Err(failed) => {
@@ -153,10 +159,18 @@ pub fn join(left: &Shape, right: &Shape) -> Result<(), Refusal>
     ensures { MatchResult result (λ _. left.now ≡ right.now) (λ e. Differ left.now right.now e) }
 {
     if left.len != right.len {
-        return Err(Refusal::Flaw { flaw: Flaw::DepthDiffers, unit: 0, point: 0 });
+        return Err(Refusal::Flaw {
+            flaw: Flaw::DepthDiffers,
+            unit: 0,
+            point: 0,
+        });
     }
     if !are_same(left, right) {
-        return Err(Refusal::Flaw { flaw: Flaw::KindDiffers, unit: 0, point: 0 });
+        return Err(Refusal::Flaw {
+            flaw: Flaw::KindDiffers,
+            unit: 0,
+            point: 0,
+        });
     }
     Ok(())
 }
@@ -172,8 +186,16 @@ mod tests {
         let mut frame = Shape::new();
         assert!(rt; value.push(rt.alloc(), Kind::Value).is_ok());
         assert!(rt; frame.push(rt.alloc(), Kind::Frame).is_ok());
-        let depth = Err(Refusal::Flaw { flaw: Flaw::DepthDiffers, unit: 0, point: 0 });
-        let kind = Err(Refusal::Flaw { flaw: Flaw::KindDiffers, unit: 0, point: 0 });
+        let depth = Err(Refusal::Flaw {
+            flaw: Flaw::DepthDiffers,
+            unit: 0,
+            point: 0,
+        });
+        let kind = Err(Refusal::Flaw {
+            flaw: Flaw::KindDiffers,
+            unit: 0,
+            point: 0,
+        });
         for (left, right, want) in [
             (&empty, &empty, Ok(())),
             (&value, &value, Ok(())),

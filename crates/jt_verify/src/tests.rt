@@ -8,10 +8,15 @@ use std::test::*;
 type Line = (u8, u32);
 
 const CONST: u8 = 1;
+
 const DROP: u8 = 6;
+
 const EMIT: u8 = 8;
+
 const JUMP: u8 = 10;
+
 const JUMP_IF_FALSE: u8 = 11;
+
 const RETURN: u8 = 28;
 
 // The image that puts the text x: Data 0; Return.
@@ -55,15 +60,25 @@ fn accepts_x_and_its_loop(rt: HostRuntime) -> Result<(), Fail> {
     let image = decode(rt.alloc(), &X)?;
     assert_eq!(rt; verify_code(rt.alloc(), &image), Ok(()));
     match verify(rt.alloc(), image) {
-        Ok(verified) => assert_eq!(rt; (verified.image().units(), verified.code().instructions()), (1, 2)),
+        Ok(verified) => assert_eq!(rt;
+            (verified.image().units(), verified.code().instructions()),
+            (1, 2)
+        ),
         Err(_) => assert!(rt; false),
     }
     let mut bytes = X;
     bytes[28] = JUMP;
     assert_eq!(rt; refusal_of(rt.alloc(), decode(rt.alloc(), &bytes)?), None);
     bytes[32] = 2;
-    let out = Refusal::Flaw { flaw: Flaw::JumpOut, unit: 0, point: 0 };
-    assert_eq!(rt; refusal_of(rt.alloc(), decode(rt.alloc(), &bytes)?), Some(out));
+    let out = Refusal::Flaw {
+        flaw: Flaw::JumpOut,
+        unit: 0,
+        point: 0,
+    };
+    assert_eq!(rt;
+        refusal_of(rt.alloc(), decode(rt.alloc(), &bytes)?),
+        Some(out)
+    );
     Ok(())
 }
 
@@ -75,18 +90,31 @@ fn names_the_flaw_and_its_place(rt: HostRuntime) -> Result<(), Fail> {
         (&[(CONST, 0)], Some((Flaw::FallsOff, 0))),
         (&[], Some((Flaw::FallsOff, 0))),
         (&[(CONST, 0), (JUMP, 0)], Some((Flaw::DepthDiffers, 0))),
-        (&[(CONST, 1), (DROP, 0), (RETURN, 0)], Some((Flaw::BadIndex, 0))),
+        (
+            &[(CONST, 1), (DROP, 0), (RETURN, 0)],
+            Some((Flaw::BadIndex, 0)),
+        ),
         (&[(CONST, 0), (RETURN, 0)], Some((Flaw::BadReturn, 1))),
         // points that are not reached carry nothing
         (&[(RETURN, 0), (EMIT, 0)], None),
         // the next point and all that it leads to come before the target
-        (&[(CONST, 0), (CONST, 0), (JUMP_IF_FALSE, 0), (CONST, 9)], Some((Flaw::BadIndex, 3))),
-        (&[(CONST, 0), (JUMP_IF_FALSE, 3), (RETURN, 0), (DROP, 0)], Some((Flaw::MissingOperand, 3))),
+        (
+            &[(CONST, 0), (CONST, 0), (JUMP_IF_FALSE, 0), (CONST, 9)],
+            Some((Flaw::BadIndex, 3)),
+        ),
+        (
+            &[(CONST, 0), (JUMP_IF_FALSE, 3), (RETURN, 0), (DROP, 0)],
+            Some((Flaw::MissingOperand, 3)),
+        ),
         (&[(CONST, 0), (JUMP_IF_FALSE, 0), (RETURN, 0)], None),
     ];
     for (lines, want) in rows {
         for unit in 0..2usize {
-            let (first, second) = if unit == 0 { (lines, plain) } else { (plain, lines) };
+            let (first, second) = if unit == 0 {
+                (lines, plain)
+            } else {
+                (plain, lines)
+            };
             let bytes = bytes_of(rt.alloc(), first, second)?;
             let found = refusal_of(rt.alloc(), decode(rt.alloc(), &bytes)?);
             let want = match want {
@@ -101,7 +129,11 @@ fn names_the_flaw_and_its_place(rt: HostRuntime) -> Result<(), Fail> {
 
 #[test]
 fn entries_are_counted_on_arrival(rt: HostRuntime) -> Result<(), Fail> {
-    let deep = Refusal::Flaw { flaw: Flaw::TooDeep, unit: 0, point: 1025 };
+    let deep = Refusal::Flaw {
+        flaw: Flaw::TooDeep,
+        unit: 0,
+        point: 1025,
+    };
     for (count, want) in [(1024usize, None), (1025, Some(deep))] {
         let mut lines: Vec<Line> = Vec::new(rt.alloc());
         for _ in 0..count {

@@ -45,7 +45,10 @@ fn goes_on(header: &UnitHeader, point: usize) -> Result<Leads, EffectError>
 {
     let instructions = header.instructions;
     if point + 1 < instructions {
-        Ok(Leads { next: Some(point + 1), target: None })
+        Ok(Leads {
+            next: Some(point + 1),
+            target: None,
+        })
     } else {
         Err(EffectError::Flaw(Flaw::FallsOff))
     }
@@ -57,7 +60,10 @@ fn jumps(header: &UnitHeader, point: usize, target: u32) -> Result<Leads, Effect
     ensures within { IfOk result (λ l. AreWithin header.now.instructions l) }
 {
     if (target as usize) < header.instructions {
-        Ok(Leads { next: None, target: Some(target as usize) })
+        Ok(Leads {
+            next: None,
+            target: Some(target as usize),
+        })
     } else {
         Err(EffectError::Flaw(Flaw::JumpOut))
     }
@@ -76,14 +82,21 @@ fn branches(header: &UnitHeader, point: usize, target: u32) -> Result<Leads, Eff
     if point + 1 >= instructions {
         return Err(EffectError::Flaw(Flaw::FallsOff));
     }
-    Ok(Leads { next: Some(point + 1), target: Some(target as usize) })
+    Ok(Leads {
+        next: Some(point + 1),
+        target: Some(target as usize),
+    })
 }
 
 // Whether a unit of this kind may return with the shape.
 fn may_return(kind: u8, shape: &Shape) -> bool
     ensures { result ≡ may_return_of kind shape.now }
 {
-    if kind == 0 { shape.is_empty() } else { shape.is_value() }
+    if kind == 0 {
+        shape.is_empty()
+    } else {
+        shape.is_value()
+    }
 }
 
 fn is_text<C: Code>(code: &C, constant: u32) -> bool
@@ -170,7 +183,10 @@ pub(crate) fn effect<C: Code>(
             if !may_return(header.kind, shape) {
                 return Err(EffectError::Flaw(Flaw::BadReturn));
             }
-            Ok(Leads { next: None, target: None })
+            Ok(Leads {
+                next: None,
+                target: None,
+            })
         }
     }
 }

@@ -29,7 +29,11 @@ fn arrive(shapes: &[Option<Shape>], unit: usize, path: &Path) -> Result<bool, Re
 {
     let point = path.point;
     if path.shape.len() > MAX_ENTRIES {
-        return Err(Refusal::Flaw { flaw: Flaw::TooDeep, unit, point });
+        return Err(Refusal::Flaw {
+            flaw: Flaw::TooDeep,
+            unit,
+            point,
+        });
     }
     let Some(known) = &shapes[point] else {
         return Ok(false);
@@ -73,7 +77,10 @@ fn send(paths: &mut Vec<Path>, leads: Leads, shape: Shape) -> Result<(), NoMemor
     match (leads.next, leads.target) {
         (Some(next), Some(target)) => {
             let copy = shape.share()?;
-            paths.push(Path { point: target, shape: copy })?;
+            paths.push(Path {
+                point: target,
+                shape: copy,
+            })?;
             paths.push(Path { point: next, shape })?;
         }
         (Some(point), None) => paths.push(Path { point, shape })?,
@@ -134,11 +141,18 @@ fn verify_unit<C: Code>(
     ensures err { IfErr result (λ e. RefusesUnit (C.code code.now) (unit_of (C.code code.now) unit) unit e) }
 {
     if header.instructions == 0 {
-        return Err(Refusal::Flaw { flaw: Flaw::FallsOff, unit, point: 0 });
+        return Err(Refusal::Flaw {
+            flaw: Flaw::FallsOff,
+            unit,
+            point: 0,
+        });
     }
     let mut shapes = unknown_shapes(alloc, header.instructions)?;
     let mut paths: Vec<Path> = Vec::new(alloc);
-    paths.push(Path { point: 0, shape: Shape::new() })?;
+    paths.push(Path {
+        point: 0,
+        shape: Shape::new(),
+    })?;
     'paths: while let Some(path) = paths.pop() {
         follow(alloc, code, unit, header, path, &mut shapes, &mut paths)?;
     }
