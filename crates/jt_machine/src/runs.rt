@@ -17,7 +17,7 @@ use jt_value::{Context, NoMemory};
 use jt_verify::Verified;
 use std::alloc::Global;
 
-/// Runs an image for a context under a budget. No memory is the one error.
+/// Runs an image for a context under a budget. `NoMemory` is answered only where a growth was refused.
 pub fn run(
     alloc: Global,
     verified: &Verified,

@@ -25,11 +25,7 @@ fn named_passes(name: &str, context: &Context, budget: &Budget) -> Option<Spent>
 }
 
 /// The first limit that a value of the context passes, in the order of the code's names.
-pub(crate) fn context_passes<C: Code>(
-    code: &C,
-    context: &Context,
-    budget: &Budget,
-) -> Option<Spent>
+pub(crate) fn context_passes<C: Code>(code: &C, context: &Context, budget: &Budget) -> Option<Spent>
     ensures { option_map limit_view result ≡ passed (budget_view budget.now) (pairs_of context.now) (C.code code.now).names }
 {
     'names: for i in 0..code.names() {

@@ -97,7 +97,16 @@ fn a_constant_is_put(rt: HostRuntime) -> Result<(), Fail> {
         (1, 0, "spent Output"),
         (0, 0, "spent Fuel"),
     ] {
-        let found = outcome(alloc, &X, &context, Budget { fuel, output, ..AMPLE })?;
+        let found = outcome(
+            alloc,
+            &X,
+            &context,
+            Budget {
+                fuel,
+                output,
+                ..AMPLE
+            },
+        )?;
         assert_eq!(rt; found.as_str(), wanted);
     }
     Ok(())
@@ -155,7 +164,12 @@ fn the_context_is_tested_first(rt: HostRuntime) -> Result<(), Fail> {
         ("m", 1, 0, "spent Fuel"),
     ] {
         let context = context_of(alloc, name, list(alloc, 1)?)?;
-        let budget = Budget { fuel: 0, size, nesting, ..AMPLE };
+        let budget = Budget {
+            fuel: 0,
+            size,
+            nesting,
+            ..AMPLE
+        };
         let found = outcome(alloc, &N, &context, budget)?;
         assert_eq!(rt; found.as_str(), wanted);
     }
