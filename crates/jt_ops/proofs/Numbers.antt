@@ -76,3 +76,6 @@ power_beyond (pos (suc zero)) e a b c h = absurd (b refl)
 power_beyond (pos (suc (suc n))) e a b c h = sym (far_up _ (great_pow (suc (suc n)) e (omega arith) h))
 power_beyond (negsuc zero) e a b c h = absurd (c refl)
 power_beyond (negsuc (suc n)) e a b c h = sym (far_either _ _ (great_pow (suc (suc n)) e (omega arith) h))
+
+-- each power whose exponent is great
+pub ruleset great_powers = (power_of_zero, power_of_one, power_even, power_odd, power_beyond)

@@ -107,7 +107,7 @@ fn power(x: i64, exponent: i64) -> Result<i64, Fault>
 }
 
 /// A power whose exponent is so great that all but those of 0, 1 and -1 pass the range.
-#[tactic(auto, using(crate::proofs::Numbers::power_of_zero, crate::proofs::Numbers::power_of_one, crate::proofs::Numbers::power_even, crate::proofs::Numbers::power_odd, crate::proofs::Numbers::power_beyond))]
+#[tactic(auto, using(crate::proofs::Numbers::great_powers))]
 fn great_power(x: i64, exponent: u64) -> Result<i64, Fault>
     requires { 64 ≤ exponent }
     ensures { result ≡ in_range (int_pow x exponent) }

@@ -34,7 +34,8 @@ pub(crate) fn item(
 
 /// A copy of what was found, undefined where that is nothing.
 fn found(alloc: Global, found: Option<&Value>, limits: Limits) -> Result<Value, OpError>
-    ensures { Answers result (limited_by limits (Ok (or_undefined (option_map view (option_copied found.entry))))) }
+    ensures { Answers result
+        (limited_by limits (Ok (or_undefined (option_map view (option_copied found.entry))))) }
 {
     match found {
         Some(value) => copy_within(alloc, value, limits),
@@ -49,7 +50,8 @@ fn keyed(
     name: &str,
     limits: Limits,
 ) -> Result<Value, OpError>
-    ensures { Answers result (limited_by limits (Ok (or_undefined (entry_of name.now (entries_view entries.now.items))))) }
+    ensures { Answers result
+        (limited_by limits (Ok (or_undefined (entry_of name.now (entries_view entries.now.items))))) }
 {
     found(alloc, entry(entries, name), limits)
 }
@@ -115,7 +117,8 @@ fn character(alloc: Global, text: &str, index: i64, limits: Limits) -> Result<Va
 
 /// The character that an index names.
 fn nth_character(text: &str, index: i64) -> Option<char>
-    ensures { result ≡ option_and_then (slice_get (chars text.now)) (items.place index (length (chars text.now))) }
+    ensures { result
+        ≡ option_and_then (slice_get (chars text.now)) (items.place index (length (chars text.now))) }
 {
     match place(index, character_count(text)) {
         Some(place) => character_at(text, place),

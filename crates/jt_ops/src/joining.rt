@@ -108,7 +108,8 @@ fn joined_lists(
     more: &Vec<Value>,
     limits: Limits,
 ) -> Result<Value, OpError>
-    ensures { Answers result (limited_by limits (Ok (tree.list (joined_items (items_view items.now.items) (items_view more.now.items))))) }
+    ensures { let joined = joined_items (items_view items.now.items) (items_view more.now.items) in
+        Answers result (limited_by limits (Ok (tree.list joined))) }
 {
     let (size, nesting) = joined_measure(items, more);
     allow(size, nesting, limits)?;
@@ -121,7 +122,8 @@ fn joined_copies(
     items: &Vec<Value>,
     more: &Vec<Value>,
 ) -> Result<Vec<Value>, NoMemory>
-    ensures { IfOk result (λ v. items_view v.items ≡ joined_items (items_view items.now.items) (items_view more.now.items)) }
+    ensures { let joined = joined_items (items_view items.now.items) (items_view more.now.items) in
+        IfOk result (λ v. items_view v.items ≡ joined) }
 {
     let mut joined = Vec::new(alloc);
     append_copies(alloc, &mut joined, items)?;
@@ -133,8 +135,10 @@ fn joined_copies(
 /// greater.
 #[tactic(auto, using(crate::proofs::Loops::joined_size, crate::proofs::Loops::joined_nesting))]
 fn joined_measure(items: &Vec<Value>, more: &Vec<Value>) -> (u64, u32)
-    ensures size { result.0 ≡ min (tree.size (tree.list (joined_items (items_view items.now.items) (items_view more.now.items)))) (2 ^ 64 - 1) }
-    ensures nesting { result.1 ≡ min (tree.nesting (tree.list (joined_items (items_view items.now.items) (items_view more.now.items)))) (2 ^ 32 - 1) }
+    ensures size { let joined = joined_items (items_view items.now.items) (items_view more.now.items) in
+        result.0 ≡ min (tree.size (tree.list joined)) (2 ^ 64 - 1) }
+    ensures nesting { let joined = joined_items (items_view items.now.items) (items_view more.now.items) in
+        result.1 ≡ min (tree.nesting (tree.list joined)) (2 ^ 32 - 1) }
 {
     let (size, nesting) = measure(items);
     let (more_size, more_nesting) = measure(more);
@@ -160,7 +164,9 @@ fn measure(items: &Vec<Value>) -> (u64, u32)
 
 /// Puts copies of some items behind others.
 fn append_copies(alloc: Global, into: &mut Vec<Value>, items: &Vec<Value>) -> Result<(), NoMemory>
-    ensures { OnOk result (items_view into.new.items ≡ joined_items (items_view into.old.items) (items_view items.now.items)) }
+    ensures { OnOk result
+        (items_view into.new.items
+            ≡ joined_items (items_view into.old.items) (items_view items.now.items)) }
 {
     for item in items {
         into.push(item.try_clone(alloc)?)?;

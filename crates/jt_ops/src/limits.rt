@@ -91,9 +91,13 @@ impl<T: Drop> From<AllocFailed<T>> for OpError {
 /// Tests the size and nesting of a result that need not be built yet. Either stands at the greatest
 /// number of its type where the true one is greater.
 pub(crate) fn allow(size: u64, nesting: u32, limits: Limits) -> Result<(), OpError>
-    ensures ok { (t : Tree) → size ≡ min (tree.size t) (2 ^ 64 - 1) → nesting ≡ min (tree.nesting t) (2 ^ 32 - 1)
+    ensures ok { (t : Tree)
+        → size ≡ min (tree.size t) (2 ^ 64 - 1)
+        → nesting ≡ min (tree.nesting t) (2 ^ 32 - 1)
         → OnOk result (limited_by limits (Ok t) ≡ Ok t) }
-    ensures refused { (t : Tree) → size ≡ min (tree.size t) (2 ^ 64 - 1) → nesting ≡ min (tree.nesting t) (2 ^ 32 - 1)
+    ensures refused { (t : Tree)
+        → size ≡ min (tree.size t) (2 ^ 64 - 1)
+        → nesting ≡ min (tree.nesting t) (2 ^ 32 - 1)
         → IfErr result (λ e. limited_by limits (Ok t) ≡ Err e) }
 {
     if size > u64::from(limits.size) {

@@ -30,7 +30,8 @@ pub fn binary(
     limits: Limits,
 ) -> Result<Value, OpError>
     requires { op_operands op ≡ 2 }
-    ensures { Answers result (limited_by limits (operation op (view left.now ∷ view right.now ∷ []))) }
+    ensures { Answers result
+        (limited_by limits (operation op (view left.now ∷ view right.now ∷ []))) }
 {
     match op {
         OpId::Add => add(alloc, left, right, limits),

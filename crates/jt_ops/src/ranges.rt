@@ -67,7 +67,8 @@ fn range_by(
     step: &Value,
     limits: Limits,
 ) -> Result<Value, OpError>
-    ensures { Answers result (limited_by limits (ranged (view start.now ∷ view stop.now ∷ view step.now ∷ []))) }
+    ensures { Answers result
+        (limited_by limits (ranged (view start.now ∷ view stop.now ∷ view step.now ∷ []))) }
 {
     match (start, stop, step) {
         (Value::Int(start), Value::Int(stop), Value::Int(step)) => {
@@ -95,7 +96,7 @@ fn numbers(
 }
 
 /// The list of the numbers from a start by a step, before a stop, measured before it is built.
-#[tactic(auto, using(crate::proofs::Loops::stepped_size, crate::proofs::Loops::stepped_nesting, crate::proofs::Loops::inside))]
+#[tactic(auto, using(crate::proofs::Loops::inside))]
 fn list_of(
     alloc: Global,
     start: i64,
@@ -104,7 +105,8 @@ fn list_of(
     limits: Limits,
 ) -> Result<Value, OpError>
     requires { pos 0 ≢ step }
-    ensures { Answers result (limited_by limits (Ok (tree.list (stepped (range_count start stop step) start step)))) }
+    ensures { let count = range_count start stop step in
+        Answers result (limited_by limits (Ok (tree.list (stepped count start step)))) }
 {
     let count = count(start, stop, step);
     allow(count.saturating_add(1), 1, limits)?;

@@ -97,7 +97,8 @@ pub(crate) fn concatenated(
     kind: Kind,
     limits: Limits,
 ) -> Result<Value, OpError>
-    ensures { Answers result (limited_by limits (Ok (of_kind kind (written left.now ++ written right.now)))) }
+    ensures { let text = written left.now ++ written right.now in
+        Answers result (limited_by limits (Ok (of_kind kind text))) }
 {
     let size = left.len().saturating_add(right.len()).saturating_add(1);
     allow(size, 0, limits)?;
@@ -116,7 +117,8 @@ pub(crate) fn repeated(
     kind: Kind,
     limits: Limits,
 ) -> Result<Value, OpError>
-    ensures { Answers result (limited_by limits (Ok (of_kind kind (repeat (times number) text.now)))) }
+    ensures { Answers result
+        (limited_by limits (Ok (of_kind kind (repeat (times number) text.now)))) }
 {
     let count = repetitions(text, number);
     let size = (text.len() as u64).saturating_mul(count).saturating_add(1);
@@ -155,7 +157,8 @@ pub(crate) fn printed_text<'a>(
     value: &'a Value,
 ) -> Result<CowStr<'a, Global>, ValueError>
     ensures ok { IfOk result (λ s. tree.printed (view value.now) ≡ Some (cow_str_bytes s)) }
-    ensures fault { IfErr result (λ e. (f : Fault) → e ≡ ValueError.Fault f → (f ≡ Fault.Unprintable) × (tree.printed (view value.now) ≡ None)) }
+    ensures fault { IfErr result (λ e. (f : Fault) → e ≡ ValueError.Fault f
+        → (f ≡ Fault.Unprintable) × (tree.printed (view value.now) ≡ None)) }
 {
     match value {
         Value::Text(text) => Ok(CowStr::Borrowed(text.as_str())),
