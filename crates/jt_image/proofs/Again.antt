@@ -1,5 +1,5 @@
 -- What is spelled is read again: the tools.
-use Rattle.std.proofs.Common.{◌≡◌, ℕ, zero, suc, ◌+◌, ◌<◌, ◌≤◌, ◌^◌, Bool, true, false, ltb, List, [], ◌∷◌, ◌++◌, length, map, take, drop, Result, Ok, Err, refl, sym, ap, ◌∙◌, arith, append_assoc}
+use Rattle.std.proofs.Common.{◌≡◌, ℕ, ◌<◌, true, false, ltb, List, [], ◌∷◌, ◌++◌, length, map, Result, Ok, refl, sym, ap, ◌∙◌, arith, append_assoc}
 use Rattle.std.specs.Int.{Width, byte_len, to_le_bytes}
 use Rattle.std.specs.List.{flat_map, AllByRecursion}
 use Rattle.std.specs.Str.{is_utf8}
@@ -37,7 +37,7 @@ module _ {A : Type 0} (step : List A → List ℕ → Read A) (spell : A → Lis
       let regroup : flat_map spell (x ∷ xs) ++ rest ≡ spell x ++ (flat_map spell xs ++ rest) = ap (λ (t : List ℕ). t ++ rest) (flat_map-cons spell x xs) ∙ append_assoc (spell x) (flat_map spell xs) rest in
       let first : step before (flat_map spell (x ∷ xs) ++ rest) ≡ Ok (x, flat_map spell xs ++ rest) = ap (step before) regroup ∙ again before x (flat_map spell xs ++ rest) h.0 in
       bind_again (step before (flat_map spell (x ∷ xs) ++ rest)) (λ y. many_at step (length xs) (before ++ y.0 ∷ []) y.1) x (flat_map spell xs ++ rest) (Ok (before ++ (x ∷ xs), rest)) first
-        (many_again (before ++ x ∷ []) xs rest h.1 ∙ ap (λ (ys : List A). let r : List A × List ℕ = (ys, rest) in Ok r) (append_assoc before (x ∷ []) xs))
+      (many_again (before ++ x ∷ []) xs rest h.1 ∙ ap (λ (ys : List A). let r : List A × List ℕ = (ys, rest) in Ok r) (append_assoc before (x ∷ []) xs))
 
 module _ {H A : Type 0} (step : H → List ℕ → Read A) (spell : A → List ℕ) (head : A → H) (good : A → Type 0) (again : (x : A) (rest : List ℕ) → good x → step (head x) (spell x ++ rest) ≡ Ok (x, rest)) where
   pub each_again : (before more : List A) (rest : List ℕ) → AllByRecursion good more → each_at step (map head more) before (flat_map spell more ++ rest) ≡ Ok (before ++ more, rest)
@@ -47,4 +47,4 @@ module _ {H A : Type 0} (step : H → List ℕ → Read A) (spell : A → List �
       let regroup : flat_map spell (x ∷ xs) ++ rest ≡ spell x ++ (flat_map spell xs ++ rest) = ap (λ (t : List ℕ). t ++ rest) (flat_map-cons spell x xs) ∙ append_assoc (spell x) (flat_map spell xs) rest in
       let first : step (head x) (flat_map spell (x ∷ xs) ++ rest) ≡ Ok (x, flat_map spell xs ++ rest) = ap (step (head x)) regroup ∙ again x (flat_map spell xs ++ rest) h.0 in
       bind_again (step (head x) (flat_map spell (x ∷ xs) ++ rest)) (λ y. each_at step (map head xs) (before ++ y.0 ∷ []) y.1) x (flat_map spell xs ++ rest) (Ok (before ++ (x ∷ xs), rest)) first
-        (each_again (before ++ x ∷ []) xs rest h.1 ∙ ap (λ (ys : List A). let r : List A × List ℕ = (ys, rest) in Ok r) (append_assoc before (x ∷ []) xs))
+      (each_again (before ++ x ∷ []) xs rest h.1 ∙ ap (λ (ys : List A). let r : List A × List ℕ = (ys, rest) in Ok r) (append_assoc before (x ∷ []) xs))

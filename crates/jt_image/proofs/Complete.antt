@@ -1,6 +1,6 @@
 -- The spelling of a code is read as that code.
-use Rattle.std.proofs.Common.{◌≡◌, ℕ, zero, suc, ◌+◌, ◌<◌, ◌≤◌, ◌^◌, Bool, true, false, cond, ltb, leb, eqb, List, [], ◌∷◌, ◌++◌, length, map, take, drop, Option, Some, None, Result, Ok, Err, refl, sym, ap, subst, ◌∙◌, arith, append_assoc, nat_cmp}
-use Rattle.std.specs.Prelude.{ℤ, ◌==◌, ◌&&◌, ◌||◌, ◌≢◌, not, nat_lt, nat_le, slice_get, IsUtf8, IfOk, MatchResult, MatchOption}
+use Rattle.std.proofs.Common.{◌≡◌, ℕ, ◌+◌, ◌<◌, ◌≤◌, ◌^◌, Bool, true, false, cond, ltb, leb, eqb, List, [], ◌∷◌, ◌++◌, length, map, take, drop, Option, Some, None, Result, Ok, Err, refl, sym, ap, subst, ◌∙◌, arith, append_assoc}
+use Rattle.std.specs.Prelude.{ℤ, ◌==◌, ◌&&◌, ◌||◌, ◌≢◌, not, nat_lt, nat_le, IsUtf8, IfOk, MatchResult, MatchOption}
 use Rattle.std.specs.Int.{w16, w32, w64, to_le_bytes, cast_signed, cast_unsigned}
 use Rattle.std.specs.List.{flat_map, AllByRecursion}
 use Rattle.std.specs.Str.{bytes_eq}
@@ -9,8 +9,7 @@ use Rattle.std.proofs.lemmas.Int.{to_z-of_z}
 use Rattle.std.proofs.lemmas.Slice.Eq.{bytes_eq-Decides}
 use Rattle.std.proofs.lemmas.Bool.{lt-ltb, le-leb, le-ltb}
 use Rattle.std.proofs.lemmas.Bool.Decides.{nat_tests}
-use Rattle.std.proofs.lemmas.List.{append-nil, length-append, take_at, drop_at}
-use Rattle.std.proofs.lemmas.List.Folds.{flat_map-map}
+use Rattle.std.proofs.lemmas.List.{append-nil, take_at, drop_at}
 use Rattle.jt_image.specs.declared.error.ImageError.{ImageError}
 use Rattle.jt_image.specs.declared.error.ImageError.TheVariants.{BadMagic, BadVersion, Truncated, Trailing, BadText, BadOpcode, BadTable, LimitPassed, NoMemory}
 use Rattle.jt_image.specs.declared.instruction.Instruction.{Instruction}
@@ -21,7 +20,7 @@ use Rattle.jt_image.specs.Spelling.{magic, version, name_bytes, constant_bytes, 
 use Rattle.jt_image.specs.IsCode.{IsName, Ascend, AreDistinct, IsConstant, IsInstruction, IsSection, total_len, HasEntry, IsCode, max_locals, max_instructions, max_bytes}
 use Rattle.jt_image.specs.Reading.{◌>>=◌, Gives, check, number_at, byte_at, text_at, is_used, may_follow, slot_at, name_text_at, name_at, names_at, long_text_at, constant_of, constant_at, constants_at, Header, header_total, is_first, parameters_at, kind_at, locals_at, len_at, header_of, header_at, headers_at, known, known_of, instruction_of, instruction_at, instructions_at, section_of, section_at, sections_at, magic_at, start_at, units_at, all_names_at, all_constants_at, code_of}
 use Rattle.jt_image.proofs.Parts.{header_total-push, is_first-push, is_used-push}
-use Rattle.jt_image.proofs.Found.{Read, IsBytes, all_at, wide16, wide32, wide64, AllGood}
+use Rattle.jt_image.proofs.Found.{IsBytes, all_at, wide16, wide32, wide64, AllGood}
 use Rattle.jt_image.proofs.Sound.{wire_from, good_instruction, IsFree, IsNext, IsNamed, short_bytes, long_bytes, IsPlain, IsHeader, head_bytes, code_bytes, head_of, HasCode}
 use Rattle.jt_image.proofs.Whole.{IsSpelledBy, code_found, may_follow-push, AreNames, good_constant, AreConstants, good_header, HasFirst, AreUnits, units_bytes, head_spelled, length-map_of}
 use Rattle.jt_image.proofs.Again.{number_again, text_again, bind_again, many_again, each_again}
@@ -39,22 +38,22 @@ slot_again globals before slot rest small h =
     let below : ltb slot globals ≡ true = lt-ltb _ _ h.below in
     let test : (nat_lt slot globals && not (is_used slot before)) ≡ true = rw (below, h.free) refl in
     bind_again (number_at w16 (to_le_bytes w16 slot ++ rest)) (λ s. check (nat_lt s.0 globals && not (is_used s.0 before)) BadTable (Ok s)) slot rest (Ok (slot, rest)) (number_again w16 (2 ^ 16) wide16 slot rest (omega (arith, h.below, small)))
-      (check_again (nat_lt slot globals && not (is_used slot before)) BadTable (Ok (slot, rest)) test)
+    (check_again (nat_lt slot globals && not (is_used slot before)) BadTable (Ok (slot, rest)) test)
 
 name_text_again : (before : List Name) (t rest : List ℕ) → IsNext before t → name_text_at before (short_bytes t ++ rest) ≡ Ok (t, rest)
 unfolding name_text_at
 name_text_again before t rest h =
     ap (name_text_at before) (append_assoc (to_le_bytes w16 (length t)) t rest)
     ∙ bind_again (number_at w16 (to_le_bytes w16 (length t) ++ (t ++ rest))) (λ len. text_at len.0 len.1 >>= λ t. check (may_follow before t.0) BadTable (Ok t)) (length t) (t ++ rest) (Ok (t, rest)) (number_again w16 (2 ^ 16) wide16 (length t) (t ++ rest) h.fits)
-      (bind_again (text_at (length t) (t ++ rest)) (λ t. check (may_follow before t.0) BadTable (Ok t)) t rest (Ok (t, rest)) (text_again t rest h.utf8)
-        (check_again (may_follow before t) BadTable (Ok (t, rest)) h.follows))
+    (bind_again (text_at (length t) (t ++ rest)) (λ t. check (may_follow before t.0) BadTable (Ok t)) t rest (Ok (t, rest)) (text_again t rest h.utf8)
+    (check_again (may_follow before t) BadTable (Ok (t, rest)) h.follows))
 
 name_again : (globals : ℕ) → globals < 2 ^ 16 → (before : List Name) (n : Name) (rest : List ℕ) → IsNamed globals before n → name_at globals before (name_bytes n ++ rest) ≡ Ok (n, rest)
 unfolding name_at
 name_again globals small before n rest h =
     ap (name_at globals before) (append_assoc (to_le_bytes w16 n.slot) (short_bytes n.text) rest)
     ∙ bind_again (slot_at globals before (to_le_bytes w16 n.slot ++ (short_bytes n.text ++ rest))) (λ slot. name_text_at before slot.1 >>= λ t. Ok (record { slot = slot.0; text = t.0 }, t.1)) n.slot (short_bytes n.text ++ rest) (Ok (n, rest)) (slot_again globals before n.slot (short_bytes n.text ++ rest) small h.slot)
-      (bind_again (name_text_at before (short_bytes n.text ++ rest)) (λ t. Ok (record { slot = n.slot; text = t.0 }, t.1)) n.text rest (Ok (n, rest)) (name_text_again before n.text rest h.next) refl)
+    (bind_again (name_text_at before (short_bytes n.text ++ rest)) (λ t. Ok (record { slot = n.slot; text = t.0 }, t.1)) n.text rest (Ok (n, rest)) (name_text_again before n.text rest h.next) refl)
 
 -- none of these slots has a name yet
 abbrev IsClear : List Name → List Name → Type 0
@@ -85,9 +84,10 @@ rest_ascends n (m ∷ ns) h = h.1
 
 named : (globals : ℕ) (before ns : List Name) → AllByRecursion (IsName globals) ns → Ascend ns → AreDistinct ns → IsClear before ns → Starts before ns → AllGood (IsNamed globals) before ns
 named globals before [] all up distinct clear starts = tt
-named globals before (n ∷ ns) all up distinct clear starts =
-    (record { slot = record { below = all.0.slot; free = clear.0 }; next = record { fits = all.0.fits; utf8 = all.0.utf8; follows = starts } },
-     named globals (before ++ n ∷ []) ns all.1 (rest_ascends n ns up) distinct.1 (still_clear before n ns clear.1 distinct.0) (next_starts before n ns up))
+named globals before (n ∷ ns) all up distinct clear starts = (
+  record { slot = record { below = all.0.slot; free = clear.0 }; next = record { fits = all.0.fits; utf8 = all.0.utf8; follows = starts } },
+  named globals (before ++ n ∷ []) ns all.1 (rest_ascends n ns up) distinct.1 (still_clear before n ns clear.1 distinct.0) (next_starts before n ns up),
+)
 
 all_clear : (ns : List Name) → IsClear [] ns
 all_clear [] = tt
@@ -101,7 +101,7 @@ names_again : (globals : ℕ) → globals < 2 ^ 16 → (ns : List Name) (rest : 
 unfolding all_names_at
 names_again globals small ns rest h =
     bind_again (number_at w16 (to_le_bytes w16 (length ns) ++ (flat_map name_bytes ns ++ rest))) (λ n. names_at globals n.0 n.1) (length ns) (flat_map name_bytes ns ++ rest) (Ok (ns, rest)) (number_again w16 (2 ^ 16) wide16 (length ns) (flat_map name_bytes ns ++ rest) h.count)
-      (many_again (name_at globals) name_bytes (IsNamed globals) (name_again globals small) [] ns rest (named globals [] ns h.all h.ascend h.distinct (all_clear ns) (first_starts globals ns h.all)))
+    (many_again (name_at globals) name_bytes (IsNamed globals) (name_again globals small) [] ns rest (named globals [] ns h.all h.ascend h.distinct (all_clear ns) (first_starts globals ns h.all)))
 
 -- ---- constants
 
@@ -120,7 +120,7 @@ constant_again before (truth_value true) rest h = refl
 constant_again before (number z) rest h =
     let bits = cast_unsigned w64 z in
     bind_again (number_at w64 (to_le_bytes w64 bits ++ rest)) (λ n. Ok (number (cast_signed w64 n.0), n.1)) bits rest (Ok (number z, rest)) (number_again w64 (2 ^ 64) wide64 bits rest (Fits-lt-pow {w = w64} {n = bits} (Fits-of_z {w = w64} {z = z} h)))
-      (ap (λ (i : ℤ). let r : Constant × List ℕ = (number i, rest) in Ok r) (to_z-of_z w64 z h))
+    (ap (λ (i : ℤ). let r : Constant × List ℕ = (number i, rest) in Ok r) (to_z-of_z w64 z h))
 constant_again before (text t) rest h = bind_again (long_text_at (long_bytes t ++ rest)) (λ t. Ok (text t.0, t.1)) t rest (Ok (text t, rest)) (long_text_again t rest h) refl
 constant_again before (markup t) rest h = bind_again (long_text_at (long_bytes t ++ rest)) (λ t. Ok (markup t.0, t.1)) t rest (Ok (markup t, rest)) (long_text_again t rest h) refl
 
@@ -132,7 +132,7 @@ constants_again : (cs : List Constant) (rest : List ℕ) → AreConstants cs →
 unfolding all_constants_at
 constants_again cs rest h =
     bind_again (number_at w16 (to_le_bytes w16 (length cs) ++ (flat_map constant_bytes cs ++ rest))) (λ n. constants_at n.0 n.1) (length cs) (flat_map constant_bytes cs ++ rest) (Ok (cs, rest)) (number_again w16 (2 ^ 16) wide16 (length cs) (flat_map constant_bytes cs ++ rest) h.0)
-      (many_again (λ _. constant_at) constant_bytes good_constant constant_again [] cs rest (good_constants [] cs h.1))
+    (many_again (λ _. constant_at) constant_bytes good_constant constant_again [] cs rest (good_constants [] cs h.1))
 
 -- ---- headers
 
@@ -156,13 +156,13 @@ locals_again : (p n : ℕ) (rest : List ℕ) → n ≤ max_locals → p ≤ n �
 unfolding locals_at
 locals_again p n rest small within =
     bind_again (number_at w16 (to_le_bytes w16 n ++ rest)) (λ n. check (nat_le n.0 max_locals) LimitPassed (check (nat_le p n.0) BadTable (Ok n))) n rest (Ok (n, rest)) (number_again w16 (2 ^ 16) wide16 n rest (omega (arith, small)))
-      (check_again (nat_le n max_locals) LimitPassed (check (nat_le p n) BadTable (Ok (n, rest))) (le-leb _ _ small) ∙ check_again (nat_le p n) BadTable (Ok (n, rest)) (le-leb _ _ within))
+    (check_again (nat_le n max_locals) LimitPassed (check (nat_le p n) BadTable (Ok (n, rest))) (le-leb _ _ small) ∙ check_again (nat_le p n) BadTable (Ok (n, rest)) (le-leb _ _ within))
 
 len_again : (total n : ℕ) (rest : List ℕ) → total + n ≤ max_instructions → len_at total (to_le_bytes w32 n ++ rest) ≡ Ok (n, rest)
 unfolding len_at
 len_again total n rest small =
     bind_again (number_at w32 (to_le_bytes w32 n ++ rest)) (λ n. check (nat_le (total + n.0) max_instructions) LimitPassed (Ok n)) n rest (Ok (n, rest)) (number_again w32 (2 ^ 32) wide32 n rest (omega (arith, small)))
-      (check_again (nat_le (total + n) max_instructions) LimitPassed (Ok (n, rest)) (le-leb _ _ small))
+    (check_again (nat_le (total + n) max_instructions) LimitPassed (Ok (n, rest)) (le-leb _ _ small))
 
 header_again : (first : Bool) (total : ℕ) (h : Header) (rest : List ℕ) → IsHeader first total h → header_of first total (head_bytes h ++ rest) ≡ Ok (h, rest)
 unfolding header_of
@@ -281,9 +281,10 @@ not_first h before (u ∷ us) =
 
 headers_good : (before : List Header) (us : List Section) → AllByRecursion IsSection us → header_total before + total_len us ≤ max_instructions → IsPlainFirst (is_first before) us → AllGood good_header before (map head_of us)
 headers_good before [] all small plain = tt
-headers_good before (u ∷ us) all small plain =
-    (record { parameters = all.0.parameters; kind = all.0.kind; locals = all.0.locals; within = all.0.within; plain = plain.0; emits = plain.1; fits = omega (arith, small) },
-     headers_good (before ++ head_of u ∷ []) us all.1 (omega (arith, small, header_total-push before (head_of u))) (not_first (head_of u) before us))
+headers_good before (u ∷ us) all small plain = (
+  record { parameters = all.0.parameters; kind = all.0.kind; locals = all.0.locals; within = all.0.within; plain = plain.0; emits = plain.1; fits = omega (arith, small) },
+  headers_good (before ++ head_of u ∷ []) us all.1 (omega (arith, small, header_total-push before (head_of u))) (not_first (head_of u) before us),
+)
 
 plain_first : (us : List Section) → HasFirst us → IsPlainFirst true us
 plain_first [] h = tt
@@ -309,11 +310,11 @@ units_again us h =
     let good = headers_good [] us h.all (omega (arith, h.total)) (plain_first us h.first) in
     let many : headers_at (length (map head_of us)) (flat_map head_bytes (map head_of us) ++ codes) ≡ Ok (map head_of us, codes) = many_again header_at head_bytes good_header (λ before x rest g. header_again (is_first before) (header_total before) x rest g) [] (map head_of us) codes good in
     let heads : headers_at (length us) after ≡ Ok (map head_of us, codes) =
-      ap (λ (n : ℕ). headers_at n after) (sym (length-map_of us)) ∙ ap (λ (t : List ℕ). headers_at (length (map head_of us)) (t ++ codes)) (sym (head_spelled us)) ∙ many in
+    ap (λ (n : ℕ). headers_at n after) (sym (length-map_of us)) ∙ ap (λ (t : List ℕ). headers_at (length (map head_of us)) (t ++ codes)) (sym (head_spelled us)) ∙ many in
     let each : sections_at (map head_of us) codes ≡ Ok (us, []) = ap (sections_at (map head_of us)) (sym (append-nil codes)) ∙ each_again section_at code_bytes head_of HasCode section_again [] us [] (codes_of us h.all) in
     bind_again (number_at w16 (units_bytes us)) (λ n. check (nat_lt 0 n.0) BadTable (headers_at n.0 n.1 >>= λ hs. sections_at hs.0 hs.1)) (length us) after (Ok (us, [])) (number_again w16 (2 ^ 16) wide16 (length us) after h.count)
-      (check_again (nat_lt 0 (length us)) BadTable (headers_at (length us) after >>= λ hs. sections_at hs.0 hs.1) (lt-ltb _ _ (some_units us h.first))
-        ∙ bind_again (headers_at (length us) after) (λ hs. sections_at hs.0 hs.1) (map head_of us) codes (Ok (us, [])) heads each)
+    (check_again (nat_lt 0 (length us)) BadTable (headers_at (length us) after >>= λ hs. sections_at hs.0 hs.1) (lt-ltb _ _ (some_units us h.first))
+    ∙ bind_again (headers_at (length us) after) (λ hs. sections_at hs.0 hs.1) (map head_of us) codes (Ok (us, [])) heads each)
 
 -- ---- the whole
 
@@ -334,7 +335,7 @@ start_again : (rest : List ℕ) → start_at (magic ++ (to_le_bytes w16 version 
 unfolding start_at
 start_again rest =
     step_again (magic_at (magic ++ (to_le_bytes w16 version ++ rest))) (λ rest. number_at w16 rest >>= λ found. check (found.0 == version) BadVersion (Ok found.1)) (to_le_bytes w16 version ++ rest) (Ok rest) (magic_again (to_le_bytes w16 version ++ rest))
-      (bind_again (number_at w16 (to_le_bytes w16 version ++ rest)) (λ found. check (found.0 == version) BadVersion (Ok found.1)) version rest (Ok rest) (number_again w16 (2 ^ 16) wide16 version rest (omega arith)) refl)
+    (bind_again (number_at w16 (to_le_bytes w16 version ++ rest)) (λ found. check (found.0 == version) BadVersion (Ok found.1)) version rest (Ok rest) (number_again w16 (2 ^ 16) wide16 version rest (omega arith)) refl)
 
 -- what a code's entry says of its units
 first_of : (k : Code) → HasEntry k → HasFirst k.units

@@ -1,10 +1,9 @@
 -- An instruction whose eight bytes are there, read at once.
-use Rattle.std.proofs.Common.{◌≡◌, ℕ, zero, suc, ◌+◌, ◌<◌, ◌^◌, List, [], ◌∷◌, ◌++◌, length, get_or, Option, Some, None, Result, Ok, refl, sym, ap, subst, ◌∙◌, arith}
+use Rattle.std.proofs.Common.{◌≡◌, ℕ, zero, suc, List, [], ◌∷◌, ◌++◌, length, get_or, Some, Ok, refl, sym, ap, ◌∙◌, arith}
 use Rattle.std.specs.Int.{w16, w32, from_le_bytes, to_le_bytes}
-use Rattle.jt_image.specs.declared.error.ImageError.{ImageError}
 use Rattle.jt_image.specs.declared.instruction.Instruction.{Instruction}
 use Rattle.jt_image.specs.declared.wire.Instr.{Instr}
-use Rattle.jt_image.specs.Spelling.{wire_of, wire_bytes}
+use Rattle.jt_image.specs.Spelling.{wire_bytes}
 use Rattle.jt_image.specs.Reading.{instruction_of, instruction_at}
 use Rattle.jt_image.proofs.Found.{IsBytes, wide16, wide32}
 use Rattle.jt_image.proofs.Sound.{wire_at, wire_from}
@@ -43,8 +42,8 @@ read_at_once front rest i len fits e =
     let b = wide16.back (b_of front) refl (b_fits front fits) in
     let c = wide32.back (c_of front) refl (c_fits front fits) in
     let spelled : wire_bytes (eight_of front) ≡ front =
-      ap (λ (t : List ℕ). get_or front 0 0 ∷ get_or front 1 0 ∷ (t ++ to_le_bytes w32 (from_le_bytes w32 (c_of front)))) b
-      ∙ ap (λ (t : List ℕ). get_or front 0 0 ∷ get_or front 1 0 ∷ (b_of front ++ t)) c
-      ∙ eight front len in
+    ap (λ (t : List ℕ). get_or front 0 0 ∷ get_or front 1 0 ∷ (t ++ to_le_bytes w32 (from_le_bytes w32 (c_of front)))) b
+    ∙ ap (λ (t : List ℕ). get_or front 0 0 ∷ get_or front 1 0 ∷ (b_of front ++ t)) c
+    ∙ eight front len in
     ap (λ (t : List ℕ). instruction_at (t ++ rest)) (sym spelled)
     ∙ by_wire (eight_of front) i rest (wire_from (eight_of front) i e) (wide16.below (b_of front) (b_fits front fits)) (wide32.below (c_of front) (c_fits front fits))

@@ -1,5 +1,5 @@
 -- What is read from bytes is spelled so: the tools.
-use Rattle.std.proofs.Common.{◌≡◌, ℕ, zero, suc, ◌+◌, ◌<◌, ◌≤◌, ◌^◌, Bool, true, false, cond, ltb, leb, eqb, List, [], ◌∷◌, ◌++◌, length, map, get_or, take, drop, Option, Some, None, Result, Ok, Err, refl, sym, ap, subst, ◌∙◌, arith, append_assoc, inl, inr}
+use Rattle.std.proofs.Common.{◌≡◌, ℕ, zero, suc, ◌+◌, ◌<◌, ◌≤◌, ◌^◌, Bool, true, false, cond, ltb, List, [], ◌∷◌, ◌++◌, length, map, get_or, take, drop, Result, Ok, Err, refl, sym, ap, subst, ◌∙◌, arith, append_assoc, inl, inr}
 use Rattle.std.specs.Int.{Width, w16, w32, w64, byte_len, from_le_bytes, to_le_bytes}
 use Rattle.std.specs.List.{flat_map, AllByRecursion}
 use Rattle.std.specs.Str.{is_utf8}
@@ -11,7 +11,7 @@ use Rattle.std.proofs.lemmas.List.Concat.{flat_map-cons}
 use Rattle.std.proofs.lemmas.Nat.{le_bytes_2, le_bytes_4, le_bytes_8, from_le_bytes-to_le_bytes_2, from_le_bytes-to_le_bytes_4, from_le_bytes-to_le_bytes_8}
 use Rattle.jt_image.specs.declared.error.ImageError.{ImageError}
 use Rattle.jt_image.specs.declared.error.ImageError.TheVariants.{Truncated, BadText}
-use Rattle.jt_image.specs.Reading.{◌>>=◌, check, number_at, byte_at, text_at, long_text_at, many_at, each_at}
+use Rattle.jt_image.specs.Reading.{◌>>=◌, check, number_at, byte_at, text_at, many_at, each_at}
 
 abbrev pub Read : Type 0 → Type 0
 Read A = Result (A × List ℕ) ImageError
@@ -108,9 +108,9 @@ wide64 = record {
 pub number_found : (w : Width) (limit : ℕ) → IsWide w limit → (bytes : List ℕ) → IsBytes bytes → Found (to_le_bytes w) (λ n. n < limit) bytes (number_at w bytes)
 number_found w limit wide bytes fits =
     unless_all (ltb (length bytes) (byte_len w)) Truncated (Ok (from_le_bytes w (take (byte_len w) bytes), drop (byte_len w) bytes)) (λ n. Takes bytes (to_le_bytes w n.0) n.1 × (n.0 < limit)) (λ e.
-      let long : byte_len w ≤ length bytes = ltb-false _ _ e in
-      let front : to_le_bytes w (from_le_bytes w (take (byte_len w) bytes)) ≡ take (byte_len w) bytes = wide.back (take (byte_len w) bytes) (omega (arith, length-take (byte_len w) bytes)) (IsBytes-take (byte_len w) bytes fits) in
-      (record { parts = rw front (sym (take-append-drop (byte_len w) bytes)); fits = IsBytes-drop (byte_len w) bytes fits }, wide.below (take (byte_len w) bytes) (IsBytes-take (byte_len w) bytes fits)))
+    let long : byte_len w ≤ length bytes = ltb-false _ _ e in
+    let front : to_le_bytes w (from_le_bytes w (take (byte_len w) bytes)) ≡ take (byte_len w) bytes = wide.back (take (byte_len w) bytes) (omega (arith, length-take (byte_len w) bytes)) (IsBytes-take (byte_len w) bytes fits) in
+    (record { parts = rw front (sym (take-append-drop (byte_len w) bytes)); fits = IsBytes-drop (byte_len w) bytes fits }, wide.below (take (byte_len w) bytes) (IsBytes-take (byte_len w) bytes fits)))
 
 abbrev pub single : ℕ → List ℕ
 single b = b ∷ []
@@ -129,9 +129,9 @@ unfolding text_at
 text_found n bytes fits =
     let P : List ℕ × List ℕ → Type 0 = λ x. Takes bytes x.0 x.1 × IsText n x.0 in
     unless_all (ltb (length bytes) n) Truncated (check (is_utf8 (take n bytes)) BadText (Ok (take n bytes, drop n bytes))) P (λ e.
-      check_all (is_utf8 (take n bytes)) BadText (Ok (take n bytes, drop n bytes)) P (λ u.
-        let long : n ≤ length bytes = ltb-false _ _ e in
-        (record { parts = sym (take-append-drop n bytes); fits = IsBytes-drop n bytes fits }, (omega (arith, length-take n bytes), IsUtf8-from_is_utf8 (take n bytes) u))))
+    check_all (is_utf8 (take n bytes)) BadText (Ok (take n bytes, drop n bytes)) P (λ u.
+    let long : n ≤ length bytes = ltb-false _ _ e in
+    (record { parts = sym (take-append-drop n bytes); fits = IsBytes-drop n bytes fits }, (omega (arith, length-take n bytes), IsUtf8-from_is_utf8 (take n bytes) u))))
 
 -- ---- one after the other
 
@@ -154,14 +154,14 @@ module _ {A : Type 0} (step : List A → List ℕ → Read A) (spell : A → Lis
   many_found zero before bytes fits = record { more = []; is = sym (append-nil before); count = refl; takes = record { parts = refl; fits = fits }; all = tt }
   many_found (suc n) before bytes fits =
       bind_from (step before bytes) (λ x. many_at step n (before ++ x.0 ∷ []) x.1) (λ x. Takes bytes (spell x.0) x.1 × good before x.0) (Many spell good (suc n) before bytes) (found before bytes fits) (λ x t.
-        all_map (many_at step n (before ++ x.0 ∷ []) x.1) (Many spell good n (before ++ x.0 ∷ []) x.1) (Many spell good (suc n) before bytes) (many_found n (before ++ x.0 ∷ []) x.1 t.0.fits) (λ y m.
-          record {
-            more = x.0 ∷ m.more;
-            is = m.is ∙ append_assoc before (x.0 ∷ []) m.more;
-            count = ap suc m.count;
-            takes = Takes-as bytes (spell x.0 ++ flat_map spell m.more) (flat_map spell (x.0 ∷ m.more)) y.1 (sym (flat_map-cons spell x.0 m.more)) (Takes-then bytes (spell x.0) x.1 (flat_map spell m.more) y.1 t.0 m.takes);
-            all = (t.1, m.all);
-          }))
+      all_map (many_at step n (before ++ x.0 ∷ []) x.1) (Many spell good n (before ++ x.0 ∷ []) x.1) (Many spell good (suc n) before bytes) (many_found n (before ++ x.0 ∷ []) x.1 t.0.fits) (λ y m.
+      record {
+        more = x.0 ∷ m.more;
+        is = m.is ∙ append_assoc before (x.0 ∷ []) m.more;
+        count = ap suc m.count;
+        takes = Takes-as bytes (spell x.0 ++ flat_map spell m.more) (flat_map spell (x.0 ∷ m.more)) y.1 (sym (flat_map-cons spell x.0 m.more)) (Takes-then bytes (spell x.0) x.1 (flat_map spell m.more) y.1 t.0 m.takes);
+        all = (t.1, m.all);
+      }))
 
 -- what was read, one for each head
 pub record Each {H A : Type 0} (spell : A → List ℕ) (head : A → H) (good : A → Type 0) (hs : List H) (before : List A) (bytes : List ℕ) (x : List A × List ℕ) : Type 0 where
@@ -177,11 +177,11 @@ module _ {H A : Type 0} (step : H → List ℕ → Read A) (spell : A → List �
   each_found [] before bytes fits = record { more = []; is = sym (append-nil before); heads = refl; takes = record { parts = refl; fits = fits }; all = tt }
   each_found (h ∷ hs) before bytes fits =
       bind_from (step h bytes) (λ x. each_at step hs (before ++ x.0 ∷ []) x.1) (λ x. Takes bytes (spell x.0) x.1 × ((head x.0 ≡ h) × good x.0)) (Each spell head good (h ∷ hs) before bytes) (found h bytes fits) (λ x t.
-        all_map (each_at step hs (before ++ x.0 ∷ []) x.1) (Each spell head good hs (before ++ x.0 ∷ []) x.1) (Each spell head good (h ∷ hs) before bytes) (each_found hs (before ++ x.0 ∷ []) x.1 t.0.fits) (λ y m.
-          record {
-            more = x.0 ∷ m.more;
-            is = m.is ∙ append_assoc before (x.0 ∷ []) m.more;
-            heads = ap (λ (g : H). g ∷ map head m.more) t.1.0 ∙ ap (λ (gs : List H). h ∷ gs) m.heads;
-            takes = Takes-as bytes (spell x.0 ++ flat_map spell m.more) (flat_map spell (x.0 ∷ m.more)) y.1 (sym (flat_map-cons spell x.0 m.more)) (Takes-then bytes (spell x.0) x.1 (flat_map spell m.more) y.1 t.0 m.takes);
-            all = (t.1.1, m.all);
-          }))
+      all_map (each_at step hs (before ++ x.0 ∷ []) x.1) (Each spell head good hs (before ++ x.0 ∷ []) x.1) (Each spell head good (h ∷ hs) before bytes) (each_found hs (before ++ x.0 ∷ []) x.1 t.0.fits) (λ y m.
+      record {
+        more = x.0 ∷ m.more;
+        is = m.is ∙ append_assoc before (x.0 ∷ []) m.more;
+        heads = ap (λ (g : H). g ∷ map head m.more) t.1.0 ∙ ap (λ (gs : List H). h ∷ gs) m.heads;
+        takes = Takes-as bytes (spell x.0 ++ flat_map spell m.more) (flat_map spell (x.0 ∷ m.more)) y.1 (sym (flat_map-cons spell x.0 m.more)) (Takes-then bytes (spell x.0) x.1 (flat_map spell m.more) y.1 t.0 m.takes);
+        all = (t.1.1, m.all);
+      }))

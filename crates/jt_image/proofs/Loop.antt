@@ -3,7 +3,7 @@ use Rattle.std.proofs.Common.{◌≡◌, ℕ, suc, ◌-◌, ◌+◌, ◌≤◌, 
 use Rattle.std.proofs.lemmas.List.{drop_all}
 use Rattle.jt_image.specs.declared.error.ImageError.{ImageError}
 use Rattle.jt_image.specs.declared.error.ImageError.TheVariants.{BadMagic, BadVersion, Truncated, Trailing, BadText, BadOpcode, BadTable, LimitPassed, NoMemory}
-use Rattle.jt_image.specs.Reading.{◌>>=◌, Fails, many_at, each_at}
+use Rattle.jt_image.specs.Reading.{Fails, many_at, each_at}
 
 -- a reader that stops at a fault of an earlier one
 Fails-along : {X Y : Type 0} (e : ImageError) (r : Result X ImageError) (t : Result Y ImageError) → Fails e r → (r ≡ Err e → t ≡ Err e) → Fails e t

@@ -1,7 +1,6 @@
 -- Names, texts and headers in the reader, as the definitions see them.
-use Rattle.std.proofs.Common.{◌≡◌, ℕ, suc, ◌+◌, ◌-◌, ◌++◌, false, true, ◌<◌, ◌≤◌, Bool, take, drop, ltb, replicate, inl, inr, ◌⊎◌, ◌≢◌, Result, Ok, Err, List, [], ◌∷◌, length, map, get_or, eqb, set, refl, sym, ap, ◌∙◌, arith, String, Global, string_bytes, nat_cmp}
+use Rattle.std.proofs.Common.{◌≡◌, ℕ, suc, ◌+◌, ◌-◌, ◌++◌, false, true, ◌<◌, ◌≤◌, Bool, take, drop, ltb, replicate, inl, inr, ◌⊎◌, ◌≢◌, Ok, Err, List, [], ◌∷◌, length, get_or, set, refl, sym, ap, ◌∙◌, arith, string_bytes, nat_cmp}
 use Rattle.std.specs.Prelude.{◌==◌, ◌||◌}
-use Rattle.std.specs.List.{list_any}
 use Rattle.std.specs.Str.{IsUtf8, is_utf8}
 use Rattle.std.proofs.lemmas.Str.{is_utf8-from_IsUtf8, IsUtf8-from_is_utf8}
 use Rattle.std.proofs.lemmas.Bool.{le-ltb, cases_eq}
@@ -11,7 +10,7 @@ use Rattle.jt_image.specs.declared.error.ImageError.TheVariants.{BadText}
 use Rattle.std.specs.Ordering.{is_lt}
 use Rattle.std.specs.Cmp.Lexicographic.{slice_cmp}
 use Rattle.jt_image.specs.Code as code
-use Rattle.jt_image.specs.View.{name_view, names_view}
+use Rattle.jt_image.specs.View.{names_view}
 use Rattle.jt_image.specs.Reading.{Header, IsTable, is_used, may_follow, text_at, header_total, is_first}
 use Rattle.jt_image.specs.declared.image.Name.{Name}
 

@@ -1,5 +1,5 @@
 -- Runs of two small codes, computed from the definitions.
-use Rattle.std.proofs.Common.{◌≡◌, ℕ, List, [], ◌∷◌, Bool, refl}
+use Rattle.std.proofs.Common.{◌≡◌, ℕ, [], ◌∷◌, refl}
 use Rattle.std.specs.Prelude.{pos}
 use Rattle.jt_value.specs.Tree as tree
 use Rattle.jt_value.specs.Pairs.{Pairs}
@@ -9,7 +9,7 @@ use Rattle.jt_image.specs.Code as code
 use Rattle.jt_image.specs.Code.{Code}
 use Rattle.jt_image.specs.Config as config
 use Rattle.jt_image.specs.Config.{Budget}
-use Rattle.jt_image.specs.Run.{Next, Ends, start, after}
+use Rattle.jt_image.specs.Run.{Ends, start, after}
 
 -- puts the text constant x
 abbrev x_code : Code
@@ -48,4 +48,3 @@ a_list = refl
 
 a_list_short : after n_code 10 (start n_code (n_is (tree.list (tree.item one tree.no_items))) (ample 3)) ≡ Ends (config.spent config.fuel)
 a_list_short = refl
-

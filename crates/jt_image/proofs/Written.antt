@@ -1,5 +1,5 @@
 -- What encoding needs of the parts of a code.
-use Rattle.std.proofs.Common.{◌≡◌, ℕ, zero, suc, ◌+◌, ◌<◌, ◌^◌, List, [], ◌∷◌, length, map, get_or, arith}
+use Rattle.std.proofs.Common.{ℕ, zero, suc, ◌<◌, ◌^◌, List, [], ◌∷◌, length, map, get_or, arith}
 use Rattle.std.specs.List.{AllByRecursion}
 use Rattle.jt_image.specs.Code.{Section}
 use Rattle.jt_image.specs.IsCode.{total_len}

@@ -1,5 +1,5 @@
 -- What contracts see of the parts of an image.
-use Rattle.std.specs.Prelude.{ℕ, List, map, string_bytes}
+use Rattle.std.specs.Prelude.{List, map, string_bytes}
 use Rattle.jt_image.specs.Code as code
 use Rattle.jt_image.specs.declared.image.Name.{Name}
 use Rattle.jt_image.specs.declared.image.Constant.{Constant}

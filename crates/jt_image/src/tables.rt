@@ -5,7 +5,7 @@ ghost use Rattle.jt_image.specs.View.{name_view, names_view, constant_view, cons
 ghost use Rattle.jt_image.specs.Reading.{Gives, IsTable, is_used, may_follow, slot_at, name_text_at, name_at, names_at, all_names_at, constant_of, constant_at, constants_at, all_constants_at};
 
 use crate::error::ImageError;
-use crate::fields::{long_text_at, text_at, u16_at, u64_at, u8_at};
+use crate::fields::{long_text_at, text_at, u8_at, u16_at, u64_at};
 use crate::image::{Constant, Name};
 use std::alloc::Global;
 
@@ -136,7 +136,11 @@ fn constant_at(alloc: Global, bytes: &[u8]) -> Result<(Constant, &[u8]), ImageEr
     constant_of(alloc, tag, rest)
 }
 
-fn constants_at(alloc: Global, count: u16, bytes: &[u8]) -> Result<(Vec<Constant>, &[u8]), ImageError>
+fn constants_at(
+    alloc: Global,
+    count: u16,
+    bytes: &[u8],
+) -> Result<(Vec<Constant>, &[u8]), ImageError>
     ensures { Gives (λ x. (constants_view x.0.items, x.1.now)) result (constants_at count bytes.now) }
 {
     let mut constants = Vec::new(alloc);

@@ -10,14 +10,25 @@ const X: [u8; 44] = [
 #[test]
 fn reads_and_writes_x(rt: HostRuntime) -> Result<(), Fail> {
     let image = decode(rt.alloc(), &X)?;
-    assert_eq!(rt; (image.globals(), image.names(), image.constants()), (0, 0, 1));
+    assert_eq!(rt;
+        (image.globals(), image.names(), image.constants()),
+        (0, 0, 1)
+    );
     assert_eq!(rt; (image.units(), image.instructions()), (1, 2));
     assert!(rt; matches!(image.constant(0), Some(ConstantRef::Text("x"))));
     assert!(rt; image.constant(1).is_none());
     assert!(rt; image.name(0).is_none());
-    let header = UnitHeader { parameters: 0, kind: 0, locals: 0, instructions: 2 };
+    let header = UnitHeader {
+        parameters: 0,
+        kind: 0,
+        locals: 0,
+        instructions: 2,
+    };
     assert_eq!(rt; image.unit(0), Some(header));
-    assert_eq!(rt; image.instruction(0, 0), Some(Instruction::Data { constant: 0 }));
+    assert_eq!(rt;
+        image.instruction(0, 0),
+        Some(Instruction::Data { constant: 0 })
+    );
     assert_eq!(rt; image.instruction(0, 1), Some(Instruction::Return));
     assert_eq!(rt; image.instruction(0, 2), None);
     let bytes = encode(rt.alloc(), &image).ok().ok_or("an image has bytes")?;
@@ -28,7 +39,11 @@ fn reads_and_writes_x(rt: HostRuntime) -> Result<(), Fail> {
 #[test]
 fn beginnings_are_cut_off(rt: HostRuntime) {
     for end in 0..44 {
-        assert_eq!(rt; decode(rt.alloc(), &X[..end]).err(), Some(ImageError::Truncated), "{end}");
+        assert_eq!(rt;
+            decode(rt.alloc(), &X[..end]).err(),
+            Some(ImageError::Truncated),
+            "{end}"
+        );
     }
 }
 

@@ -7,13 +7,14 @@ ghost use Rattle.jt_image.specs.IsCode.{max_instructions, total_len};
 ghost use Rattle.jt_image.specs.Reading.{Gives, parameters_at, kind_at, locals_at, len_at, header_of, header_total, headers_at, known_of, instruction_at, instructions_at, section_at, sections_at, units_at};
 
 use crate::error::ImageError;
-use crate::fields::{u16_at, u32_at, u8_at};
+use crate::fields::{u8_at, u16_at, u32_at};
 use crate::image::Section;
 use crate::instruction::Instruction;
 use crate::wire::Instr;
 use std::alloc::Global;
 
 const MAX_LOCALS: u16 = 4096;
+
 const MAX_INSTRUCTIONS: u32 = 262_144;
 
 /// The numbers of a unit.
@@ -92,7 +93,15 @@ fn header_at(first: bool, total: u32, bytes: &[u8]) -> Result<(Header, &[u8]), I
     let (kind, rest) = kind_at(first, rest)?;
     let (locals, rest) = locals_at(parameters, rest)?;
     let (len, rest) = len_at(total, rest)?;
-    Ok((Header { parameters, kind, locals, len }, rest))
+    Ok((
+        Header {
+            parameters,
+            kind,
+            locals,
+            len,
+        },
+        rest,
+    ))
 }
 
 /// The numbers of all units, and how many instructions there are.
@@ -117,7 +126,13 @@ fn headers_at(alloc: Global, count: u16, bytes: &[u8]) -> Result<(Headers, &[u8]
         rest = after;
         first = false;
     }
-    Ok((Headers { items: headers, total }, rest))
+    Ok((
+        Headers {
+            items: headers,
+            total,
+        },
+        rest,
+    ))
 }
 
 #[tactic(auto, unfolding(crate::specs::Reading::known_of))]
@@ -135,7 +150,12 @@ fn by_fields(bytes: &[u8]) -> Result<(Instruction, &[u8]), ImageError>
     ensures { Gives (λ x. (x.0, x.1.now)) result (instruction_at bytes.now) }
 {
     let (op, rest) = u8_at(bytes)?;
-    known(Instr { op, a: 0, b: 0, c: 0 })?;
+    known(Instr {
+        op,
+        a: 0,
+        b: 0,
+        c: 0,
+    })?;
     let (a, rest) = u8_at(rest)?;
     known(Instr { op, a, b: 0, c: 0 })?;
     let (b, rest) = u16_at(rest)?;
@@ -155,7 +175,12 @@ fn instruction_at(bytes: &[u8]) -> Result<(Instruction, &[u8]), ImageError>
     let (front, rest) = bytes.split_at(8);
     let b = u16::from_le_bytes([front[2], front[3]]);
     let c = u32::from_le_bytes([front[4], front[5], front[6], front[7]]);
-    let instr = Instr { op: front[0], a: front[1], b, c };
+    let instr = Instr {
+        op: front[0],
+        a: front[1],
+        b,
+        c,
+    };
     match instr.instruction() {
         Some(instruction) => Ok((instruction, rest)),
         None => by_fields(bytes),
@@ -226,6 +251,9 @@ pub(crate) fn units_at(alloc: Global, bytes: &[u8]) -> Result<(Units, &[u8]), Im
     }
     let (headers, rest) = headers_at(alloc, count, rest)?;
     let (sections, rest) = sections_at(alloc, &headers.items, rest)?;
-    let units = Units { sections, instructions: headers.total };
+    let units = Units {
+        sections,
+        instructions: headers.total,
+    };
     Ok((units, rest))
 }

@@ -21,7 +21,12 @@ pub struct Instr {
 fn plain(op: u8) -> Instr
     ensures { result ≡ record { op = op; a = 0; b = 0; c = 0 } }
 {
-    Instr { op, a: 0, b: 0, c: 0 }
+    Instr {
+        op,
+        a: 0,
+        b: 0,
+        c: 0,
+    }
 }
 
 fn with_c(op: u8, c: u32) -> Instr
@@ -61,19 +66,31 @@ impl Instr {
     fn uses_none(self, instruction: Instruction) -> Option<Instruction>
         ensures { result ≡ uses_none self instruction }
     {
-        if self.a == 0 && self.b == 0 && self.c == 0 { Some(instruction) } else { None }
+        if self.a == 0 && self.b == 0 && self.c == 0 {
+            Some(instruction)
+        } else {
+            None
+        }
     }
 
     fn uses_a(self, instruction: Instruction) -> Option<Instruction>
         ensures { result ≡ uses_a self instruction }
     {
-        if self.b == 0 && self.c == 0 { Some(instruction) } else { None }
+        if self.b == 0 && self.c == 0 {
+            Some(instruction)
+        } else {
+            None
+        }
     }
 
     fn uses_c(self, instruction: Instruction) -> Option<Instruction>
         ensures { result ≡ uses_c self instruction }
     {
-        if self.a == 0 && self.b == 0 { Some(instruction) } else { None }
+        if self.a == 0 && self.b == 0 {
+            Some(instruction)
+        } else {
+            None
+        }
     }
 
     #[tactic(auto, unfolding(crate::specs::Reading::instruction_of))]

@@ -1,4 +1,4 @@
-use Rattle.std.proofs.Common.{◌≡◌, ◌∙◌, sym, arith}
+use Rattle.std.proofs.Common.{◌∙◌, sym, arith}
 use Rattle.jt_image.proofs.Parts.{may_follow_last}
 use Rattle.jt_image.proofs.tables.may_follow.Goals as goal
 

@@ -1,4 +1,4 @@
-use Rattle.std.proofs.Common.{◌≡◌, ◌-◌, [], map}
+use Rattle.std.proofs.Common.{◌≡◌, ◌-◌, []}
 use Rattle.jt_image.specs.View.{names_view}
 use Rattle.jt_image.specs.Reading.{many_at, name_at, IsTable}
 use Rattle.jt_image.proofs.tables.names_at.Given as goal

@@ -1,8 +1,8 @@
-use Rattle.std.proofs.Common.{◌≡◌, ◌+◌, ◌++◌, ◌∷◌, [], ap, sym, ◌∙◌, subst, arith, refl, false, Bool, ℕ}
+use Rattle.std.proofs.Common.{◌≡◌, ◌+◌, ◌++◌, ◌∷◌, [], ap, arith, refl, ℕ}
 use Rattle.std.proofs.lemmas.Result.{err_from_is_err_and}
 use Rattle.std.proofs.lemmas.List.{map_push}
 use Rattle.jt_image.specs.HeaderView.{header_view, headers_view}
-use Rattle.jt_image.specs.Reading.{Gives, Fails, many_at, header_at, header_of, header_total, is_first}
+use Rattle.jt_image.specs.Reading.{many_at, header_at}
 use Rattle.jt_image.proofs.Loop.{goes_on, ends, is_done}
 use Rattle.jt_image.proofs.Parts.{header_total-push, is_first-push}
 use Rattle.jt_image.proofs.units.headers_at.Goals as goal

@@ -1,4 +1,4 @@
-use Rattle.std.proofs.Common.{◌≡◌, ◌-◌, ◌≤◌, [], map}
+use Rattle.std.proofs.Common.{◌≡◌, ◌-◌, ◌≤◌, []}
 use Rattle.jt_image.specs.HeaderView.{headers_view}
 use Rattle.jt_image.specs.Reading.{many_at, header_at, header_total, is_first}
 use Rattle.jt_image.proofs.units.headers_at.Given as goal

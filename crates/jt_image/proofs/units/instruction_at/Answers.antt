@@ -15,7 +15,7 @@ returns-in-Some c =
     let len : length front ≡ 8 = rw c.split_at.ensures.front (omega (arith, length-take 8 c.args.bytes.now)) in
     let fits : IsBytes front = rw c.split_at.ensures.front (IsBytes-take 8 c.args.bytes.now (λ i. omega (arith, c.type_inv.bytes i))) in
     let table : instruction_of (eight_of front) ≡ Some c.in-Some.instruction =
-      ap (λ (n : ℕ). instruction_of (wire_at (get_or front 0 0) (get_or front 1 0) n (from_le_bytes w32 (c_of front)))) (sym c.from_le_bytes-b.ensures)
-      ∙ ap (λ (n : ℕ). instruction_of (wire_at (get_or front 0 0) (get_or front 1 0) c.from_le_bytes-b.result n)) (sym c.from_le_bytes-c.ensures)
-      ∙ sym c.in-Some.ensures.table in
+    ap (λ (n : ℕ). instruction_of (wire_at (get_or front 0 0) (get_or front 1 0) n (from_le_bytes w32 (c_of front)))) (sym c.from_le_bytes-b.ensures)
+    ∙ ap (λ (n : ℕ). instruction_of (wire_at (get_or front 0 0) (get_or front 1 0) c.from_le_bytes-b.result n)) (sym c.from_le_bytes-c.ensures)
+    ∙ sym c.in-Some.ensures.table in
     ap instruction_at whole ∙ read_at_once front rest c.in-Some.instruction len fits table

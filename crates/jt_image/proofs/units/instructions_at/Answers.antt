@@ -1,8 +1,6 @@
 use Rattle.std.proofs.Common.{◌≡◌, ◌++◌, ◌∷◌, []}
 use Rattle.std.proofs.lemmas.Result.{err_from_is_err_and}
-use Rattle.std.proofs.lemmas.List.{map_push}
-use Rattle.jt_image.specs.View.{name_view, names_view, constant_view, constants_view}
-use Rattle.jt_image.specs.Reading.{many_at, name_at, constant_at, header_at, instruction_at}
+use Rattle.jt_image.specs.Reading.{many_at, instruction_at}
 use Rattle.jt_image.proofs.Loop.{goes_on, ends, is_done}
 use Rattle.jt_image.proofs.units.instructions_at.Goals as goal
 

@@ -1,7 +1,6 @@
-use Rattle.std.proofs.Common.{◌∙◌, sym, ap}
+use Rattle.std.proofs.Common.{◌∙◌, sym}
 use Rattle.jt_image.specs.View.{sections_view}
 use Rattle.jt_image.specs.HeaderView.{headers_view}
-use Rattle.jt_image.specs.Reading.{sections_at}
 use Rattle.jt_image.proofs.Sound.{sections_total}
 use Rattle.jt_image.proofs.units.units_at.Goals as goal
 
