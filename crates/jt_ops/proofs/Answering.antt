@@ -1,6 +1,6 @@
 -- Answers that pass on a refusal.
 use Rattle.std.proofs.Common.{◌≡◌, sym, subst}
-use Rattle.std.specs.Prelude.{Ok, Err, Result}
+use Rattle.std.specs.Prelude.{Err, Result}
 use Rattle.jt_value.specs.Tree.{Tree}
 use Rattle.jt_value.specs.declared.value.Value.{Value}
 use Rattle.jt_ops.specs.Limited.{Answers}

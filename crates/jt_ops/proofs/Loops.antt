@@ -1,5 +1,5 @@
 -- Lists and texts, one more at the end.
-use Rattle.std.proofs.Common.{◌≡◌, ℕ, zero, suc, ◌+◌, ◌*◌, ◌/◌, ◌%◌, ◌<◌, ◌≤◌, max, min, List, [], ◌∷◌, ◌++◌, length, take, get_or, ℤ, pos, negsuc, ◌+ℤ◌, ◌*ℤ◌, refl, sym, ap, ◌∙◌, append_assoc, add-one, arith, length-append}
+use Rattle.std.proofs.Common.{◌≡◌, ℕ, zero, suc, ◌+◌, ◌*◌, ◌/◌, ◌%◌, ◌<◌, ◌≤◌, max, List, [], ◌∷◌, ◌++◌, length, take, get_or, ℤ, pos, negsuc, ◌+ℤ◌, ◌*ℤ◌, refl, sym, ap, ◌∙◌, append_assoc, add-one, arith, length-append}
 use Rattle.std.specs.List.{repeat}
 use Rattle.std.specs.Int.{div_ceil, w64}
 use Rattle.std.specs.Prelude.{◌≢◌, ◌≤ℤ◌, ◌-ℤ◌, FitsSigned}
@@ -10,7 +10,7 @@ use Rattle.std.proofs.lemmas.Int.{ints, to_z-of_z}
 use Rattle.std.proofs.Common.{rules, to_z, of_z}
 use Rattle.std.proofs.lemmas.List.{append-nil}
 use Rattle.jt_value.proofs.Lists.{more_items, items_view-take_more, items_view-push, items_size-more, items_nesting-more}
-use Rattle.std.specs.Prelude.{Ok, Err, Result}
+use Rattle.std.specs.Prelude.{Ok}
 use Rattle.std.proofs.Common.{subst}
 use Rattle.jt_value.specs.Tree.{Tree, number, list, Items, no_items, item, size, nesting, items_size, items_nesting}
 use Rattle.jt_value.specs.View.{view, items_view}

@@ -1,15 +1,13 @@
 -- Numbers in their range.
-use Rattle.std.proofs.Common.{◌≡◌, ℕ, zero, suc, ◌+◌, ◌-◌, ◌*◌, ◌/◌, ◌%◌, ◌^◌, ◌<◌, ◌≤◌, min, Bool, true, false, cond, Option, Some, None, ℤ, pos, negsuc, ◌+ℤ◌, ◌-ℤ◌, ◌*ℤ◌, ◌≤ℤ◌, neg_ℤ, refl, ap, sym, ◌∙◌, arith}
-use Rattle.std.specs.Prelude.{◌≢◌, Result, Ok, Err, SomeIff, FitsSigned, nat_lt, unsigned_abs, int_lt}
-use Rattle.std.specs.Int.{w64, int_pow, div_ceil}
+use Rattle.std.proofs.Common.{◌≡◌, ℕ, zero, suc, ◌%◌, ◌^◌, ◌<◌, ◌≤◌, Bool, true, false, cond, Option, Some, None, ℤ, pos, negsuc, neg_ℤ, refl, sym, ◌∙◌, arith}
+use Rattle.std.specs.Prelude.{◌≢◌, Ok, Err, SomeIff, FitsSigned, nat_lt}
+use Rattle.std.specs.Int.{w64, int_pow}
 use Rattle.std.specs.Option.{ok_or}
 use Rattle.std.proofs.lemmas.Bool.Decides.{nat_tests}
-use Rattle.std.proofs.lemmas.Int.{ints}
 use Rattle.std.proofs.Math.Nat.{pow-zero, pow-suc, mul-le-mul}
 use Rattle.std.proofs.Math.Pow.{pow_mono}
-use Rattle.jt_value.specs.declared.fault.Fault.{Fault}
 use Rattle.jt_value.specs.declared.fault.Fault.TheVariants.{Overflow}
-use Rattle.jt_ops.specs.Arithmetic.{in_range, is_in_range, floor, power, with_sign}
+use Rattle.jt_ops.specs.Arithmetic.{in_range}
 
 -- a checked operation answers the number in range
 pub in_range_is : (r : Option ℤ) (z : ℤ) → SomeIff r (FitsSigned w64 z) z → ok_or r Overflow ≡ in_range z

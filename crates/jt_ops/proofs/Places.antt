@@ -1,9 +1,8 @@
 -- Items and entries of values, by place and by key.
-use Rattle.std.proofs.Common.{◌≡◌, ℕ, zero, suc, ◌+◌, ◌<◌, ◌≤◌, List, [], ◌∷◌, length, get_or, Option, Some, None, String, Vec, Global, Bor, string_bytes, refl, sym, ap, ◌∙◌, subst, arith}
+use Rattle.std.proofs.Common.{◌≡◌, ℕ, zero, suc, ◌<◌, ◌≤◌, List, [], ◌∷◌, length, get_or, Option, Some, None, Bor, refl, ap, arith}
 use Rattle.std.specs.Prelude.{option_map, option_copied}
 use Rattle.std.specs.Slice.{IsItemAt}
-use Rattle.jt_value.specs.Tree.{Tree}
-use Rattle.jt_value.specs.View.{view, items_view, entries_view}
+use Rattle.jt_value.specs.View.{view, items_view}
 use Rattle.jt_value.specs.declared.value.Value.{Value}
 use Rattle.jt_ops.specs.ItemOf.{item_at, items_count}
 

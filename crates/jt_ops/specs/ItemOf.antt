@@ -1,5 +1,5 @@
 -- The item of a value: `v[k]`, and `v.k` with the text `k`.
-use Rattle.std.specs.Prelude.{ℕ, zero, suc, ◌+◌, ◌-◌, ◌<◌, ℤ, pos, negsuc, List, length, nat_lt, if◌then◌else◌, Option, Some, None, option_map, Result, Ok, Err, slice_get, encode_utf8}
+use Rattle.std.specs.Prelude.{ℕ, zero, suc, ◌+◌, ◌-◌, ℤ, pos, negsuc, List, length, nat_lt, if◌then◌else◌, Option, Some, None, option_map, Result, Ok, Err, slice_get, encode_utf8}
 use Rattle.std.specs.Option.{option_and_then, unwrap_or}
 use Rattle.std.specs.Str.{chars}
 use Rattle.jt_value.specs.declared.fault.Fault.{Fault}

@@ -4,7 +4,7 @@ use Rattle.jt_value.specs.declared.fault.Fault.{Fault}
 use Rattle.jt_value.specs.declared.fault.Fault.TheVariants.{BadType}
 use Rattle.jt_value.specs.Equality.{equal}
 use Rattle.jt_value.specs.Order.{misfit}
-use Rattle.jt_value.specs.Tree.{Tree, undefined, nothing, truth_value, number, text, markup, list, map}
+use Rattle.jt_value.specs.Tree.{Tree, undefined, nothing, truth_value, number, text, markup, map}
 use Rattle.jt_ops.specs.declared.limits.OpError.{OpError}
 use Rattle.jt_ops.specs.declared.limits.OpError.TheVariants as error
 use Rattle.jt_ops.specs.declared.test_id.TestId.{TestId}
