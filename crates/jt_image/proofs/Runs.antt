@@ -1,0 +1,175 @@
+-- Whole runs of a typed code.
+use Rattle.std.proofs.Common.{◌≡◌, ◌≢◌, ◌↔◌, ℕ, zero, suc, ◌+◌, ◌-◌, ◌<◌, ◌≤◌, Bool, true, false, cond, ltb, List, [], ◌∷◌, length, Option, Some, None, refl, sym, ap, subst, ◌∙◌, arith, if◌then◌else◌}
+use Rattle.std.specs.Prelude.{slice_get, slice_set, unwrap_or, replicate, nat_lt}
+use Rattle.std.proofs.lemmas.Bool.{ltb-true, ltb-false}
+use Rattle.std.proofs.lemmas.Bool.Decides.{nat_tests}
+use Rattle.std.proofs.lemmas.List.{length-set}
+use Rattle.jt_value.specs.Tree as tree
+use Rattle.jt_value.specs.Tree.{Tree}
+use Rattle.jt_value.specs.Pairs.{Pairs, look}
+use Rattle.jt_image.specs.declared.instruction.Instruction.{Instruction}
+use Rattle.jt_image.specs.Code.{Name, Section, Code}
+use Rattle.jt_image.specs.IsCode.{HasEntry, IsCode}
+use Rattle.jt_image.specs.Typed.{IsTyped}
+use Rattle.jt_image.specs.Config as config
+use Rattle.jt_image.specs.Config.{Budget, Outcome, Config}
+use Rattle.jt_image.specs.Step.{Demand, Action, goes_on, ends, faulty, wrong, strict, cost, fetch}
+use Rattle.jt_image.specs.Run.{Next, Goes, Ends, Wrong, spared, unless, spends, next_at, next, passed, filled, start, then_goes, after, Ending, RunFrom, Run, cost_at, next_cost, taken, then_costs, costs, IsSafe}
+use Rattle.jt_image.proofs.Safe.{IsGood, IsFineStep, step_fine}
+
+-- an end within so many steps
+ends_at : (k : Code) (m fuel : ℕ) (n : Next) → fuel < suc m → IsFineStep k fuel n → ((d : Config) → IsGood k d → d.left.fuel < m → (o : Outcome) × (after k m d ≡ Ends o)) → (o : Outcome) × (then_goes n (after k m) ≡ Ends o)
+ends_at k m fuel (Goes d) lt f h = h d f.0 (omega (arith, f.1))
+ends_at k m fuel (Ends o) lt f h = (o, refl)
+ends_at k m fuel Wrong lt f h = absurd f
+
+pub ends_within : (k : Code) (m : ℕ) (c : Config) → IsGood k c → c.left.fuel < m → (o : Outcome) × (after k m c ≡ Ends o)
+ends_within k zero c g lt = absurd (omega arith)
+ends_within k (suc m) c g lt = ends_at k m c.left.fuel (next k c) lt (step_fine k c g) (λ d e less. ends_within k m d e less)
+
+not_wrong_at : (k : Code) (n fuel : ℕ) (x : Next) → IsFineStep k fuel x → ((d : Config) → IsGood k d → after k n d ≢ Wrong) → then_goes x (after k n) ≢ Wrong
+not_wrong_at k n fuel (Goes d) f h = h d f.0
+not_wrong_at k n fuel (Ends o) f h = λ e. absurd cc
+not_wrong_at k n fuel Wrong f h = absurd f
+
+pub never_wrong : (k : Code) (n : ℕ) (c : Config) → IsGood k c → after k n c ≢ Wrong
+never_wrong k zero c g = λ e. absurd cc
+never_wrong k (suc n) c g = not_wrong_at k n c.left.fuel (next k c) (step_fine k c g) (λ d e. never_wrong k n d e)
+
+same_end : (k : Code) (n m : ℕ) (x : Next) (o p : Outcome) → then_goes x (after k n) ≡ Ends o → then_goes x (after k m) ≡ Ends p → ((d : Config) → after k n d ≡ Ends o → after k m d ≡ Ends p → o ≡ p) → o ≡ p
+same_end k n m (Goes d) o p e f h = h d e f
+same_end k n m (Ends q) o p e f h = cc
+same_end k n m Wrong o p e f h = absurd cc
+
+pub one_end : (k : Code) (n m : ℕ) (c : Config) (o p : Outcome) → after k n c ≡ Ends o → after k m c ≡ Ends p → o ≡ p
+one_end k zero m c o p e f = absurd cc
+one_end k (suc n) zero c o p e f = absurd cc
+one_end k (suc n) (suc m) c o p e f = same_end k n m (next k c) o p e f (λ d a b. one_end k n m d o p a b)
+
+length-filled : (x : Pairs) (ns : List Name) (gs : List Tree) → length (filled x ns gs) ≡ length gs
+length-filled x [] gs = refl
+length-filled x (n ∷ ns) gs = length-filled x ns (slice_set gs n.slot (unwrap_or (look n.text x) tree.undefined)) ∙ length-set gs n.slot (unwrap_or (look n.text x) tree.undefined)
+
+length-replicate : {A : Type 0} (n : ℕ) (a : A) → length (replicate n a) ≡ n
+length-replicate zero a = refl
+length-replicate (suc n) a = ap suc (length-replicate n a)
+
+pub start_good : (k : Code) → IsCode k → IsTyped k → (x : Pairs) (b : Budget) → IsGood k (start k x b)
+start_good k code t x b =
+    let h = code.entry in
+    let typed = t 0 h.entry h.is in
+    record {
+      fit = record {
+        unit = h.entry;
+        is_unit = h.is;
+        emits = h.emits;
+        shapes = typed.0;
+        typed = typed.1;
+        here = typed.1.start;
+        globals = length-filled x k.names (replicate k.globals tree.undefined) ∙ length-replicate k.globals tree.undefined;
+        callers = refl;
+        buffers = refl;
+      };
+      sized = tt;
+    }
+
+-- ---- what is taken of the fuel
+
+-- what follows a step costs at most what the step leaves
+fuel_left : (n : ℕ) (a : Action) (b : Budget) (go : Config → ℕ) → ((c : Config) → go c ≤ c.left.fuel) → taken b.fuel n + then_costs (spends n a b) go ≤ b.fuel
+fuel_left n (goes_on m d) b go h = through (nat_lt b.fuel n) (nat_lt b.depth d.calls) (nat_lt b.output d.bytes) (nat_lt b.size d.size) (nat_lt b.nesting d.nesting) refl
+  where
+    through : (p q r s t : Bool) → nat_lt b.fuel n ≡ p → cond p 0 n + then_costs (unless p config.fuel (unless q config.depth (unless r config.output (unless s config.size (unless t config.nesting (Goes (record { machine = m; left = spared n d b }))))))) go ≤ b.fuel
+    through true q r s t e = omega arith
+    through false true r s t e = omega (arith, ltb-false _ _ e)
+    through false false true s t e = omega (arith, ltb-false _ _ e)
+    through false false false true t e = omega (arith, ltb-false _ _ e)
+    through false false false false true e = omega (arith, ltb-false _ _ e)
+    through false false false false false e = omega (arith, ltb-false _ _ e, h (record { machine = m; left = spared n d b }))
+fuel_left n (ends t) b go h = through (nat_lt b.fuel n) refl
+  where
+    through : (p : Bool) → nat_lt b.fuel n ≡ p → cond p 0 n + then_costs (unless p config.fuel (Ends (config.text t))) go ≤ b.fuel
+    through true e = omega arith
+    through false e = omega (arith, ltb-false _ _ e)
+fuel_left n (faulty f) b go h = through (nat_lt b.fuel n) refl
+  where
+    through : (p : Bool) → nat_lt b.fuel n ≡ p → cond p 0 n + then_costs (unless p config.fuel (Ends (config.fault f))) go ≤ b.fuel
+    through true e = omega arith
+    through false e = omega (arith, ltb-false _ _ e)
+fuel_left n wrong b go h = through (nat_lt b.fuel n) refl
+  where
+    through : (p : Bool) → nat_lt b.fuel n ≡ p → cond p 0 n + 0 ≤ b.fuel
+    through true e = omega arith
+    through false e = omega (arith, ltb-false _ _ e)
+
+cost_within : (k : Code) (o : Option (Section × Instruction)) (c : Config) (go : Config → ℕ) → ((d : Config) → go d ≤ d.left.fuel) → taken c.left.fuel (cost_at o c) + then_costs (next_at k o c) go ≤ c.left.fuel
+cost_within k None c go h = through (nat_lt c.left.fuel 0)
+  where
+    through : (p : Bool) → cond p 0 0 + 0 ≤ c.left.fuel
+    through true = omega arith
+    through false = omega arith
+cost_within k (Some (u, i)) c go h = fuel_left (cost i c.machine.state) (strict k u i c.machine) c.left go h
+
+pub costs_within : (k : Code) (n : ℕ) (c : Config) → costs k n c ≤ c.left.fuel
+costs_within k zero c = omega arith
+costs_within k (suc n) c = cost_within k (fetch k c.machine.unit c.machine.point) c (costs k n) (λ d. costs_within k n d)
+
+-- ---- when the fuel is spent
+
+spent_iff : (n : ℕ) (a : Action) (b : Budget) → spends n a b ≢ Wrong → (spends n a b ≡ Ends (config.spent config.fuel)) ↔ (b.fuel < n)
+spent_iff n (goes_on m d) b ok = through (nat_lt b.fuel n) (nat_lt b.depth d.calls) (nat_lt b.output d.bytes) (nat_lt b.size d.size) (nat_lt b.nesting d.nesting) refl
+  where
+    through : (p q r s t : Bool) → nat_lt b.fuel n ≡ p → (unless p config.fuel (unless q config.depth (unless r config.output (unless s config.size (unless t config.nesting (Goes (record { machine = m; left = spared n d b })))))) ≡ Ends (config.spent config.fuel)) ↔ (b.fuel < n)
+    through true q r s t e = (λ _. ltb-true _ _ e, λ _. refl)
+    through false true r s t e = (λ f. absurd cc, λ lt. absurd (omega (arith, ltb-false _ _ e)))
+    through false false true s t e = (λ f. absurd cc, λ lt. absurd (omega (arith, ltb-false _ _ e)))
+    through false false false true t e = (λ f. absurd cc, λ lt. absurd (omega (arith, ltb-false _ _ e)))
+    through false false false false true e = (λ f. absurd cc, λ lt. absurd (omega (arith, ltb-false _ _ e)))
+    through false false false false false e = (λ f. absurd cc, λ lt. absurd (omega (arith, ltb-false _ _ e)))
+spent_iff n (ends t) b ok = through (nat_lt b.fuel n) refl
+  where
+    through : (p : Bool) → nat_lt b.fuel n ≡ p → (unless p config.fuel (Ends (config.text t)) ≡ Ends (config.spent config.fuel)) ↔ (b.fuel < n)
+    through true e = (λ _. ltb-true _ _ e, λ _. refl)
+    through false e = (λ f. absurd cc, λ lt. absurd (omega (arith, ltb-false _ _ e)))
+spent_iff n (faulty x) b ok = through (nat_lt b.fuel n) refl
+  where
+    through : (p : Bool) → nat_lt b.fuel n ≡ p → (unless p config.fuel (Ends (config.fault x)) ≡ Ends (config.spent config.fuel)) ↔ (b.fuel < n)
+    through true e = (λ _. ltb-true _ _ e, λ _. refl)
+    through false e = (λ f. absurd cc, λ lt. absurd (omega (arith, ltb-false _ _ e)))
+spent_iff n wrong b ok = absurd (ok refl)
+
+spent_at : (k : Code) (o : Option (Section × Instruction)) (c : Config) → next_at k o c ≢ Wrong → (next_at k o c ≡ Ends (config.spent config.fuel)) ↔ (c.left.fuel < cost_at o c)
+spent_at k None c ok = absurd (ok refl)
+spent_at k (Some (u, i)) c ok = spent_iff (cost i c.machine.state) (strict k u i c.machine) c.left ok
+
+-- one step more than those that led here
+then_more : (k : Code) (n : ℕ) (d : Config) (x : Next) → ((f : Config) → after k n f ≡ Goes d → after k (suc n) f ≡ Wrong) → then_goes x (after k n) ≡ Goes d → then_goes x (after k (suc n)) ≡ Wrong
+then_more k n d (Goes f) h e = h f e
+then_more k n d (Ends o) h e = absurd cc
+then_more k n d Wrong h e = absurd cc
+
+after_more : (k : Code) (n : ℕ) (c d : Config) → after k n c ≡ Goes d → next k d ≡ Wrong → after k (suc n) c ≡ Wrong
+after_more k zero c d e w = let same : c ≡ d = cc in ap (λ x. then_goes x (after k zero)) (ap (next k) same ∙ w)
+after_more k (suc n) c d e w = then_more k n d (next k c) (λ f e'. after_more k n f d e' w) e
+
+-- ---- all of it
+
+-- the outcome of the context's test, or of the run
+run_of : (k : Code) → IsCode k → IsTyped k → (x : Pairs) (b : Budget) (p : Option config.Limit) → (o : Outcome) × RunFrom p k x b o × ((q : Outcome) → RunFrom p k x b q → q ≡ o)
+run_of k h t x b (Some l) = (config.spent l, refl, λ q e. e)
+run_of k h t x b None =
+    let e = ends_within k (suc b.fuel) (start k x b) (start_good k h t x b) (omega arith) in
+    (e.0, (suc b.fuel, e.1), λ q f. one_end k f.0 (suc b.fuel) (start k x b) q e.0 f.1 e.1)
+
+pub safe : (k : Code) → IsCode k → IsTyped k → (x : Pairs) (b : Budget) → IsSafe k x b
+safe k h t x b =
+    let r = run_of k h t x b (passed b x k.names) in
+    let whole : (n : ℕ) → after k n (start k x b) ≢ Wrong = λ n. never_wrong k n (start k x b) (start_good k h t x b) in
+    record {
+      outcome = r.0;
+      runs = r.1;
+      only = r.2;
+      never_wrong = whole;
+      within = λ n. costs_within k n (start k x b);
+      fuel = λ n c e. spent_at k (fetch k c.machine.unit c.machine.point) c (λ w. whole (suc n) (after_more k n (start k x b) c e w));
+    }

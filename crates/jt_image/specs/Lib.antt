@@ -1,0 +1,13 @@
+pub mod Code
+pub mod Spelling
+pub mod IsCode
+pub mod Reading
+pub mod View
+pub mod HeaderView
+pub mod ImageView
+pub mod Readers
+pub mod Effect
+pub mod Typed
+pub mod Config
+pub mod Step
+pub mod Run

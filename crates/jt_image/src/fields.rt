@@ -1,0 +1,103 @@
+//! Fields of an image: each reader answers a value and the bytes behind it.
+ghost use Rattle.std.specs.Prelude.{◌≡◌, List, length, take, drop, Ok, Err};
+ghost use Rattle.std.specs.Int.{w16, w32, w64, from_le_bytes};
+ghost use Rattle.jt_image.specs.Reading.{Gives, number_at, byte_at, text_at, long_text_at, magic_at, start_at};
+
+use crate::error::ImageError;
+
+const VERSION: u16 = 1;
+
+pub(crate) fn u8_at(bytes: &[u8]) -> Result<(u8, &[u8]), ImageError>
+    ensures { Gives (λ x. (x.0, x.1.now)) result (byte_at bytes.now) }
+{
+    match bytes {
+        [] => Err(ImageError::Truncated),
+        [b, rest @ ..] => Ok((*b, rest)),
+    }
+}
+
+pub(crate) fn u16_at(bytes: &[u8]) -> Result<(u16, &[u8]), ImageError>
+    ensures { Gives (λ x. (x.0, x.1.now)) result (number_at w16 bytes.now) }
+{
+    if bytes.len() < 2 {
+        return Err(ImageError::Truncated);
+    }
+    let (front, rest) = bytes.split_at(2);
+    let number = u16::from_le_bytes([front[0], front[1]]);
+    Ok((number, rest))
+}
+
+pub(crate) fn u32_at(bytes: &[u8]) -> Result<(u32, &[u8]), ImageError>
+    ensures { Gives (λ x. (x.0, x.1.now)) result (number_at w32 bytes.now) }
+{
+    if bytes.len() < 4 {
+        return Err(ImageError::Truncated);
+    }
+    let (front, rest) = bytes.split_at(4);
+    let number = u32::from_le_bytes([front[0], front[1], front[2], front[3]]);
+    Ok((number, rest))
+}
+
+pub(crate) fn u64_at(bytes: &[u8]) -> Result<(u64, &[u8]), ImageError>
+    ensures { Gives (λ x. (x.0, x.1.now)) result (number_at w64 bytes.now) }
+{
+    if bytes.len() < 8 {
+        return Err(ImageError::Truncated);
+    }
+    let (front, rest) = bytes.split_at(8);
+    let number = u64::from_le_bytes([
+        front[0], front[1], front[2], front[3], front[4], front[5], front[6], front[7],
+    ]);
+    Ok((number, rest))
+}
+
+/// That many bytes, which are UTF-8.
+#[tactic(auto, unfolding(crate::specs::Reading::text_at))]
+pub(crate) fn text_at(len: usize, bytes: &[u8]) -> Result<(&str, &[u8]), ImageError>
+    ensures { Gives (λ x. (x.0.now, x.1.now)) result (text_at len bytes.now) }
+{
+    if bytes.len() < len {
+        return Err(ImageError::Truncated);
+    }
+    let (front, rest) = bytes.split_at(len);
+    match str::from_utf8(front) {
+        Ok(text) => Ok((text, rest)),
+        Err(_) => Err(ImageError::BadText),
+    }
+}
+
+/// A text behind its length.
+#[tactic(auto, unfolding(crate::specs::Reading::long_text_at))]
+pub(crate) fn long_text_at(bytes: &[u8]) -> Result<(&str, &[u8]), ImageError>
+    ensures { Gives (λ x. (x.0.now, x.1.now)) result (long_text_at bytes.now) }
+{
+    let (len, rest) = u32_at(bytes)?;
+    text_at(len as usize, rest)
+}
+
+#[tactic(auto, unfolding(crate::specs::Reading::magic_at))]
+fn magic_at(bytes: &[u8]) -> Result<&[u8], ImageError>
+    ensures { Gives (λ x. x.now) result (magic_at bytes.now) }
+{
+    if bytes.len() < 4 {
+        return Err(ImageError::Truncated);
+    }
+    let (front, rest) = bytes.split_at(4);
+    if front != b"JTBC".as_slice() {
+        return Err(ImageError::BadMagic);
+    }
+    Ok(rest)
+}
+
+/// Magic and version.
+#[tactic(auto, unfolding(crate::specs::Reading::start_at))]
+pub(crate) fn start_at(bytes: &[u8]) -> Result<&[u8], ImageError>
+    ensures { Gives (λ x. x.now) result (start_at bytes.now) }
+{
+    let rest = magic_at(bytes)?;
+    let (version, rest) = u16_at(rest)?;
+    if version != VERSION {
+        return Err(ImageError::BadVersion);
+    }
+    Ok(rest)
+}

@@ -1,0 +1,121 @@
+//! An image, which contracts see as its code.
+ghost use Rattle.std.specs.Prelude.{◌≡◌, length, option_map, slice_get};
+ghost use Rattle.jt_image.specs.IsCode.{IsCode, total_len};
+ghost use Rattle.jt_image.specs.Readers.{constant_ref_view, header_of, instruction_at};
+
+use crate::code::{Code, ConstantRef, UnitHeader};
+use crate::instruction::Instruction;
+use std::marker::Model;
+
+/// The name of a global, and its slot.
+#[derive(Drop)]
+pub(crate) struct Name {
+    pub(crate) slot: u16,
+    pub(crate) text: String,
+}
+
+/// A constant.
+#[derive(Drop)]
+pub enum Constant {
+    Undefined,
+    None,
+    Bool(bool),
+    Int(i64),
+    Text(String),
+    Markup(String),
+}
+
+/// A unit: its numbers and its instructions.
+#[derive(Drop)]
+pub(crate) struct Section {
+    pub(crate) parameters: u8,
+    pub(crate) kind: u8,
+    pub(crate) locals: u16,
+    pub(crate) code: Vec<Instruction>,
+}
+
+/// An image.
+#[derive(Drop)]
+pub struct Image {
+    pub(crate) globals: u16,
+    pub(crate) names: Vec<Name>,
+    pub(crate) constants: Vec<Constant>,
+    pub(crate) units: Vec<Section>,
+    pub(crate) instructions: u32,
+}
+
+impl Model for Image {
+    ghost use Rattle.std.specs.Prelude.{◌≡◌};
+    ghost use Rattle.jt_image.specs.Code.{Code};
+
+    ghost Value = { Code };
+
+    ghost use Rattle.jt_image.specs.ImageView.{code_view};
+    ghost use Rattle.jt_image.specs.IsCode.{IsCode, total_len};
+
+    ghost view = { code_view };
+
+    ghost invariant = { λ i. IsCode (code_view i) × (i.instructions ≡ total_len (code_view i).units) };
+}
+
+impl Code for Image {
+    ghost code = { λ i. i };
+
+    fn globals(&self) -> u16 {
+        self.globals
+    }
+
+    fn names(&self) -> usize {
+        self.names.len()
+    }
+
+    fn name(&self, index: usize) -> Option<(u16, &str)> {
+        match self.names.get(index) {
+            Some(name) => Some((name.slot, name.text.as_str())),
+            None => None,
+        }
+    }
+
+    fn constants(&self) -> usize {
+        self.constants.len()
+    }
+
+    fn constant(&self, index: usize) -> Option<ConstantRef<'_>> {
+        match self.constants.get(index) {
+            None => None,
+            Some(Constant::Undefined) => Some(ConstantRef::Undefined),
+            Some(Constant::None) => Some(ConstantRef::None),
+            Some(Constant::Bool(truth)) => Some(ConstantRef::Bool(*truth)),
+            Some(Constant::Int(number)) => Some(ConstantRef::Int(*number)),
+            Some(Constant::Text(text)) => Some(ConstantRef::Text(text.as_str())),
+            Some(Constant::Markup(text)) => Some(ConstantRef::Markup(text.as_str())),
+        }
+    }
+
+    fn units(&self) -> usize {
+        self.units.len()
+    }
+
+    fn unit(&self, unit: usize) -> Option<UnitHeader> {
+        match self.units.get(unit) {
+            Some(section) => Some(UnitHeader {
+                parameters: section.parameters,
+                kind: section.kind,
+                locals: section.locals,
+                instructions: section.code.len(),
+            }),
+            None => None,
+        }
+    }
+
+    fn instruction(&self, unit: usize, point: usize) -> Option<Instruction> {
+        match self.units.get(unit) {
+            Some(section) => section.code.get(point).copied(),
+            None => None,
+        }
+    }
+
+    fn instructions(&self) -> usize {
+        self.instructions as usize
+    }
+}

@@ -1,0 +1,28 @@
+//! The instructions of a unit.
+
+/// One instruction, with the fields that it uses.
+#[derive(Clone, Copy, Debug, PartialEq, Eq)]
+pub enum Instruction {
+    /// Pushes a constant.
+    Const { constant: u32 },
+    /// Pushes a global.
+    GLoad { global: u32 },
+    /// Takes a value into a global.
+    GStore { global: u32 },
+    /// Takes a value and forgets it.
+    Drop,
+    /// Pushes the top value once more.
+    Dup,
+    /// Takes a value and puts its printed text into the buffer.
+    Emit { flag: u8 },
+    /// Puts a text constant into the buffer.
+    Data { constant: u32 },
+    /// Goes to a point.
+    Jump { target: u32 },
+    /// Takes a value and goes to a point if it is false.
+    JumpIfFalse { target: u32 },
+    /// Takes a value and goes to a point if it is true.
+    JumpIfTrue { target: u32 },
+    /// Ends the unit.
+    Return,
+}

@@ -1,0 +1,162 @@
+//! Reading the tables of names and constants.
+ghost use Rattle.std.specs.Prelude.{◌≡◌, ◌<◌, ◌==◌, ◌&&◌, not, nat_lt, List, length, IfOk, Ok, Some, None, string_bytes, [], true, Err};
+ghost use Rattle.std.specs.Int.{w16, w64, cast_signed};
+ghost use Rattle.jt_image.specs.View.{name_view, names_view, constant_view, constants_view};
+ghost use Rattle.jt_image.specs.Reading.{Gives, IsTable, is_used, may_follow, slot_at, name_text_at, name_at, names_at, all_names_at, constant_of, constant_at, constants_at, all_constants_at};
+
+use crate::error::ImageError;
+use crate::fields::{long_text_at, text_at, u16_at, u64_at, u8_at};
+use crate::image::{Constant, Name};
+use std::alloc::Global;
+
+/// A slot that is below the globals and has no name yet.
+#[tactic(auto, unfolding(crate::specs::Reading::slot_at))]
+fn slot_at<'a>(
+    globals: u16,
+    used: &[bool],
+    before: &[Name],
+    bytes: &'a [u8],
+) -> Result<(u16, &'a [u8]), ImageError>
+    requires { IsTable used.now globals (names_view before.now) }
+    ensures gives { Gives (λ x. (x.0, x.1.now)) result (slot_at globals (names_view before.now) bytes.now) }
+    ensures below { IfOk result (λ x. x.0 < globals) }
+{
+    let (slot, rest) = u16_at(bytes)?;
+    if slot >= globals {
+        return Err(ImageError::BadTable);
+    }
+    if used[usize::from(slot)] {
+        return Err(ImageError::BadTable);
+    }
+    Ok((slot, rest))
+}
+
+fn may_follow(names: &[Name], text: &str) -> bool
+    ensures { result ≡ may_follow (names_view names.now) text.now }
+{
+    match names {
+        [] => !text.is_empty(),
+        [.., last] => last.text.as_str() < text,
+    }
+}
+
+#[tactic(auto, unfolding(crate::specs::Reading::name_text_at))]
+fn name_text_at<'a>(before: &[Name], bytes: &'a [u8]) -> Result<(&'a str, &'a [u8]), ImageError>
+    ensures { Gives (λ x. (x.0.now, x.1.now)) result (name_text_at (names_view before.now) bytes.now) }
+{
+    let (len, rest) = u16_at(bytes)?;
+    let (text, rest) = text_at(len as usize, rest)?;
+    if !may_follow(before, text) {
+        return Err(ImageError::BadTable);
+    }
+    Ok((text, rest))
+}
+
+#[tactic(auto, unfolding(crate::specs::Reading::name_at))]
+fn name_at<'a>(
+    alloc: Global,
+    globals: u16,
+    used: &[bool],
+    before: &[Name],
+    bytes: &'a [u8],
+) -> Result<(Name, &'a [u8]), ImageError>
+    requires { IsTable used.now globals (names_view before.now) }
+    ensures gives { Gives (λ x. (name_view x.0, x.1.now)) result (name_at globals (names_view before.now) bytes.now) }
+    ensures below { IfOk result (λ x. x.0.slot < globals) }
+{
+    let (slot, rest) = slot_at(globals, used, before, bytes)?;
+    let (text, rest) = name_text_at(before, rest)?;
+    let text = String::from_str(alloc, text)?;
+    Ok((Name { slot, text }, rest))
+}
+
+fn names_at(
+    alloc: Global,
+    globals: u16,
+    count: u16,
+    bytes: &[u8],
+) -> Result<(Vec<Name>, &[u8]), ImageError>
+    ensures { Gives (λ x. (names_view x.0.items, x.1.now)) result (names_at globals count bytes.now) }
+{
+    let mut names = Vec::new(alloc);
+    let mut used = vec![in alloc; false; usize::from(globals)]?;
+    let mut rest = bytes;
+    'names: for _ in 0..count {
+        let (name, after) = name_at(alloc, globals, &used, &names, rest)?;
+        used[usize::from(name.slot)] = true;
+        names.push(name)?;
+        rest = after;
+    }
+    Ok((names, rest))
+}
+
+/// The names of globals.
+#[tactic(auto, unfolding(crate::specs::Reading::all_names_at))]
+pub(crate) fn all_names_at(
+    alloc: Global,
+    globals: u16,
+    bytes: &[u8],
+) -> Result<(Vec<Name>, &[u8]), ImageError>
+    ensures { Gives (λ x. (names_view x.0.items, x.1.now)) result (all_names_at globals bytes.now) }
+{
+    let (count, rest) = u16_at(bytes)?;
+    names_at(alloc, globals, count, rest)
+}
+
+#[tactic(auto, unfolding(crate::specs::Reading::constant_of))]
+fn constant_of(alloc: Global, tag: u8, bytes: &[u8]) -> Result<(Constant, &[u8]), ImageError>
+    ensures { Gives (λ x. (constant_view x.0, x.1.now)) result (constant_of tag bytes.now) }
+{
+    match tag {
+        0 => Ok((Constant::Undefined, bytes)),
+        1 => Ok((Constant::None, bytes)),
+        2 => Ok((Constant::Bool(false), bytes)),
+        3 => Ok((Constant::Bool(true), bytes)),
+        4 => {
+            let (number, rest) = u64_at(bytes)?;
+            Ok((Constant::Int(number.cast_signed()), rest))
+        }
+        5 => {
+            let (text, rest) = long_text_at(bytes)?;
+            Ok((Constant::Text(String::from_str(alloc, text)?), rest))
+        }
+        6 => {
+            let (text, rest) = long_text_at(bytes)?;
+            Ok((Constant::Markup(String::from_str(alloc, text)?), rest))
+        }
+        _ => Err(ImageError::BadTable),
+    }
+}
+
+#[tactic(auto, unfolding(crate::specs::Reading::constant_at))]
+fn constant_at(alloc: Global, bytes: &[u8]) -> Result<(Constant, &[u8]), ImageError>
+    ensures { Gives (λ x. (constant_view x.0, x.1.now)) result (constant_at bytes.now) }
+{
+    let (tag, rest) = u8_at(bytes)?;
+    constant_of(alloc, tag, rest)
+}
+
+fn constants_at(alloc: Global, count: u16, bytes: &[u8]) -> Result<(Vec<Constant>, &[u8]), ImageError>
+    ensures { Gives (λ x. (constants_view x.0.items, x.1.now)) result (constants_at count bytes.now) }
+{
+    let mut constants = Vec::new(alloc);
+    let mut rest = bytes;
+    'constants: for _ in 0..count {
+        let (constant, after) = constant_at(alloc, rest)?;
+        constants.push(constant)?;
+        rest = after;
+    }
+    Ok((constants, rest))
+}
+
+/// The constants.
+#[tactic(auto, unfolding(crate::specs::Reading::all_constants_at))]
+pub(crate) fn all_constants_at(
+    alloc: Global,
+    bytes: &[u8],
+) -> Result<(Vec<Constant>, &[u8]), ImageError>
+    ensures { Gives (λ x. (constants_view x.0.items, x.1.now)) result (all_constants_at bytes.now) }
+{
+    let (count, rest) = u16_at(bytes)?;
+    constants_at(alloc, count, rest)
+}

@@ -1,0 +1,214 @@
+//! Reading units: their numbers first, then the instructions of each.
+ghost use Rattle.std.specs.Prelude.{◌≡◌, ◌+◌, ◌≤◌, ◌==◌, ◌||◌, not, nat_le, nat_lt, List, length, IfOk, Ok, Some, None, [], true, Err};
+ghost use Rattle.std.specs.Int.{w16, w32};
+ghost use Rattle.jt_image.specs.View.{section_view, sections_view};
+ghost use Rattle.jt_image.specs.HeaderView.{header_view, headers_view};
+ghost use Rattle.jt_image.specs.IsCode.{max_instructions, total_len};
+ghost use Rattle.jt_image.specs.Reading.{Gives, parameters_at, kind_at, locals_at, len_at, header_of, header_total, headers_at, known_of, instruction_at, instructions_at, section_at, sections_at, units_at};
+
+use crate::error::ImageError;
+use crate::fields::{u16_at, u32_at, u8_at};
+use crate::image::Section;
+use crate::instruction::Instruction;
+use crate::wire::Instr;
+use std::alloc::Global;
+
+const MAX_LOCALS: u16 = 4096;
+const MAX_INSTRUCTIONS: u32 = 262_144;
+
+/// The numbers of a unit.
+#[derive(Drop)]
+pub(crate) struct Header {
+    parameters: u8,
+    kind: u8,
+    locals: u16,
+    len: u32,
+}
+
+/// Units, and how many instructions they have together.
+#[derive(Drop)]
+pub(crate) struct Units {
+    pub(crate) sections: Vec<Section>,
+    pub(crate) instructions: u32,
+}
+
+#[tactic(auto, unfolding(crate::specs::Reading::parameters_at))]
+fn parameters_at(first: bool, bytes: &[u8]) -> Result<(u8, &[u8]), ImageError>
+    ensures { Gives (λ x. (x.0, x.1.now)) result (parameters_at first bytes.now) }
+{
+    let (parameters, rest) = u8_at(bytes)?;
+    if first && parameters != 0 {
+        return Err(ImageError::BadTable);
+    }
+    Ok((parameters, rest))
+}
+
+#[tactic(auto, unfolding(crate::specs::Reading::kind_at))]
+fn kind_at(first: bool, bytes: &[u8]) -> Result<(u8, &[u8]), ImageError>
+    ensures { Gives (λ x. (x.0, x.1.now)) result (kind_at first bytes.now) }
+{
+    let (kind, rest) = u8_at(bytes)?;
+    let most = if first { 0 } else { 1 };
+    if kind > most {
+        return Err(ImageError::BadTable);
+    }
+    Ok((kind, rest))
+}
+
+#[tactic(auto, unfolding(crate::specs::Reading::locals_at))]
+fn locals_at(parameters: u8, bytes: &[u8]) -> Result<(u16, &[u8]), ImageError>
+    ensures { Gives (λ x. (x.0, x.1.now)) result (locals_at parameters bytes.now) }
+{
+    let (locals, rest) = u16_at(bytes)?;
+    if locals > MAX_LOCALS {
+        return Err(ImageError::LimitPassed);
+    }
+    if u16::from(parameters) > locals {
+        return Err(ImageError::BadTable);
+    }
+    Ok((locals, rest))
+}
+
+#[tactic(auto, unfolding(crate::specs::Reading::len_at))]
+fn len_at(total: u32, bytes: &[u8]) -> Result<(u32, &[u8]), ImageError>
+    requires { total ≤ max_instructions }
+    ensures gives { Gives (λ x. (x.0, x.1.now)) result (len_at total bytes.now) }
+    ensures within { IfOk result (λ x. total + x.0 ≤ max_instructions) }
+{
+    let (len, rest) = u32_at(bytes)?;
+    if len > MAX_INSTRUCTIONS - total {
+        return Err(ImageError::LimitPassed);
+    }
+    Ok((len, rest))
+}
+
+#[tactic(auto, unfolding(crate::specs::Reading::header_of))]
+fn header_at(first: bool, total: u32, bytes: &[u8]) -> Result<(Header, &[u8]), ImageError>
+    requires { total ≤ max_instructions }
+    ensures gives { Gives (λ x. (header_view x.0, x.1.now)) result (header_of first total bytes.now) }
+    ensures within { IfOk result (λ x. total + x.0.len ≤ max_instructions) }
+{
+    let (parameters, rest) = parameters_at(first, bytes)?;
+    let (kind, rest) = kind_at(first, rest)?;
+    let (locals, rest) = locals_at(parameters, rest)?;
+    let (len, rest) = len_at(total, rest)?;
+    Ok((Header { parameters, kind, locals, len }, rest))
+}
+
+/// The numbers of all units, and how many instructions there are.
+#[derive(Drop)]
+pub(crate) struct Headers {
+    items: Vec<Header>,
+    total: u32,
+}
+
+fn headers_at(alloc: Global, count: u16, bytes: &[u8]) -> Result<(Headers, &[u8]), ImageError>
+    ensures gives { Gives (λ x. (headers_view x.0.items.items, x.1.now)) result (headers_at count bytes.now) }
+    ensures total { IfOk result (λ x. x.0.total ≡ header_total (headers_view x.0.items.items)) }
+{
+    let mut headers: Vec<Header> = Vec::new(alloc);
+    let mut rest = bytes;
+    let mut total = 0;
+    let mut first = true;
+    'headers: for _ in 0..count {
+        let (header, after) = header_at(first, total, rest)?;
+        total += header.len;
+        headers.push(header)?;
+        rest = after;
+        first = false;
+    }
+    Ok((Headers { items: headers, total }, rest))
+}
+
+#[tactic(auto, unfolding(crate::specs::Reading::known_of))]
+fn known(instr: Instr) -> Result<Instruction, ImageError>
+    ensures { Gives (λ i. i) result (known_of instr.op instr.a instr.b instr.c) }
+{
+    match instr.instruction() {
+        Some(instruction) => Ok(instruction),
+        None => Err(ImageError::BadOpcode),
+    }
+}
+
+#[tactic(auto, unfolding(crate::specs::Reading::instruction_at))]
+fn instruction_at(bytes: &[u8]) -> Result<(Instruction, &[u8]), ImageError>
+    ensures { Gives (λ x. (x.0, x.1.now)) result (instruction_at bytes.now) }
+{
+    let (op, rest) = u8_at(bytes)?;
+    known(Instr { op, a: 0, b: 0, c: 0 })?;
+    let (a, rest) = u8_at(rest)?;
+    known(Instr { op, a, b: 0, c: 0 })?;
+    let (b, rest) = u16_at(rest)?;
+    known(Instr { op, a, b, c: 0 })?;
+    let (c, rest) = u32_at(rest)?;
+    let instruction = known(Instr { op, a, b, c })?;
+    Ok((instruction, rest))
+}
+
+fn instructions_at(
+    alloc: Global,
+    count: u32,
+    bytes: &[u8],
+) -> Result<(Vec<Instruction>, &[u8]), ImageError>
+    ensures { Gives (λ x. (x.0.items, x.1.now)) result (instructions_at count bytes.now) }
+{
+    let mut code = Vec::new(alloc);
+    let mut rest = bytes;
+    'code: for _ in 0..count {
+        let (instruction, after) = instruction_at(rest)?;
+        code.push(instruction)?;
+        rest = after;
+    }
+    Ok((code, rest))
+}
+
+#[tactic(auto, unfolding(crate::specs::Reading::section_at))]
+fn section_at<'a>(
+    alloc: Global,
+    header: &Header,
+    bytes: &'a [u8],
+) -> Result<(Section, &'a [u8]), ImageError>
+    ensures { Gives (λ x. (section_view x.0, x.1.now)) result (section_at (header_view header.now) bytes.now) }
+{
+    let (code, rest) = instructions_at(alloc, header.len, bytes)?;
+    let section = Section {
+        parameters: header.parameters,
+        kind: header.kind,
+        locals: header.locals,
+        code,
+    };
+    Ok((section, rest))
+}
+
+fn sections_at<'a>(
+    alloc: Global,
+    headers: &[Header],
+    bytes: &'a [u8],
+) -> Result<(Vec<Section>, &'a [u8]), ImageError>
+    ensures { Gives (λ x. (sections_view x.0.items, x.1.now)) result (sections_at (headers_view headers.now) bytes.now) }
+{
+    let mut sections = Vec::new(alloc);
+    let mut rest = bytes;
+    'sections: for header in headers {
+        let (section, after) = section_at(alloc, header, rest)?;
+        sections.push(section)?;
+        rest = after;
+    }
+    Ok((sections, rest))
+}
+
+/// The units, and how many instructions they have.
+#[tactic(auto, unfolding(crate::specs::Reading::units_at))]
+pub(crate) fn units_at(alloc: Global, bytes: &[u8]) -> Result<(Units, &[u8]), ImageError>
+    ensures gives { Gives (λ x. (sections_view x.0.sections.items, x.1.now)) result (units_at bytes.now) }
+    ensures total { IfOk result (λ x. x.0.instructions ≡ total_len (sections_view x.0.sections.items)) }
+{
+    let (count, rest) = u16_at(bytes)?;
+    if count == 0 {
+        return Err(ImageError::BadTable);
+    }
+    let (headers, rest) = headers_at(alloc, count, rest)?;
+    let (sections, rest) = sections_at(alloc, &headers.items, rest)?;
+    let units = Units { sections, instructions: headers.total };
+    Ok((units, rest))
+}

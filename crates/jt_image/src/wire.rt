@@ -1,0 +1,101 @@
+//! Instructions as they stand in an image: the one table of opcodes.
+ghost use Rattle.std.specs.Prelude.{◌≡◌, ◌≢◌, MatchOption};
+ghost use Rattle.jt_image.specs.Spelling.{wire_of};
+ghost use Rattle.jt_image.specs.Reading.{uses_none, uses_a, uses_c, instruction_of};
+
+use crate::instruction::Instruction;
+
+/// The four fields of an instruction. A field that the instruction does not use is 0.
+#[derive(Clone, Copy, Debug, PartialEq, Eq)]
+pub struct Instr {
+    /// The opcode.
+    pub op: u8,
+    /// A number of an operator, filter, test or loop field, or a flag.
+    pub a: u8,
+    /// A count of arguments.
+    pub b: u16,
+    /// An index, a target or a count.
+    pub c: u32,
+}
+
+fn plain(op: u8) -> Instr
+    ensures { result ≡ record { op = op; a = 0; b = 0; c = 0 } }
+{
+    Instr { op, a: 0, b: 0, c: 0 }
+}
+
+fn with_c(op: u8, c: u32) -> Instr
+    ensures { result ≡ record { op = op; a = 0; b = 0; c = c } }
+{
+    Instr { op, a: 0, b: 0, c }
+}
+
+fn with_a(op: u8, a: u8) -> Instr
+    ensures { result ≡ record { op = op; a = a; b = 0; c = 0 } }
+{
+    Instr { op, a, b: 0, c: 0 }
+}
+
+impl Instruction {
+    /// The fields of the instruction.
+    pub fn wire(self) -> Instr
+        ensures { result ≡ wire_of self }
+    {
+        match self {
+            Instruction::Const { constant } => with_c(1, constant),
+            Instruction::GLoad { global } => with_c(4, global),
+            Instruction::GStore { global } => with_c(5, global),
+            Instruction::Drop => plain(6),
+            Instruction::Dup => plain(7),
+            Instruction::Emit { flag } => with_a(8, flag),
+            Instruction::Data { constant } => with_c(9, constant),
+            Instruction::Jump { target } => with_c(10, target),
+            Instruction::JumpIfFalse { target } => with_c(11, target),
+            Instruction::JumpIfTrue { target } => with_c(12, target),
+            Instruction::Return => plain(28),
+        }
+    }
+}
+
+impl Instr {
+    fn uses_none(self, instruction: Instruction) -> Option<Instruction>
+        ensures { result ≡ uses_none self instruction }
+    {
+        if self.a == 0 && self.b == 0 && self.c == 0 { Some(instruction) } else { None }
+    }
+
+    fn uses_a(self, instruction: Instruction) -> Option<Instruction>
+        ensures { result ≡ uses_a self instruction }
+    {
+        if self.b == 0 && self.c == 0 { Some(instruction) } else { None }
+    }
+
+    fn uses_c(self, instruction: Instruction) -> Option<Instruction>
+        ensures { result ≡ uses_c self instruction }
+    {
+        if self.a == 0 && self.b == 0 { Some(instruction) } else { None }
+    }
+
+    /// The instruction with these fields: `None` for an opcode that there is not, or a field that
+    /// is not used and not 0.
+    #[tactic(auto, unfolding(crate::specs::Reading::instruction_of))]
+    pub fn instruction(self) -> Option<Instruction>
+        ensures { result ≡ instruction_of self }
+    {
+        let (a, c) = (self.a, self.c);
+        match self.op {
+            1 => self.uses_c(Instruction::Const { constant: c }),
+            4 => self.uses_c(Instruction::GLoad { global: c }),
+            5 => self.uses_c(Instruction::GStore { global: c }),
+            6 => self.uses_none(Instruction::Drop),
+            7 => self.uses_none(Instruction::Dup),
+            8 => self.uses_a(Instruction::Emit { flag: a }),
+            9 => self.uses_c(Instruction::Data { constant: c }),
+            10 => self.uses_c(Instruction::Jump { target: c }),
+            11 => self.uses_c(Instruction::JumpIfFalse { target: c }),
+            12 => self.uses_c(Instruction::JumpIfTrue { target: c }),
+            28 => self.uses_none(Instruction::Return),
+            _ => None,
+        }
+    }
+}

@@ -1,0 +1,47 @@
+use Rattle.std.proofs.Common.{◌≡◌, ◌∙◌, sym, refl, None}
+use Rattle.jt_value.specs.ContextView.{pairs_of}
+use Rattle.jt_image.specs.Run.{next, Goes, Ends, passed}
+use Rattle.jt_image.proofs.Runs.{start_good}
+use Rattle.jt_machine.specs.View.{budget_view, config_view, outcome_view, entries_view}
+use Rattle.jt_machine.proofs.Steps.{ending_now, ending_back, goes_good, goes_down, not_wrong, sizes}
+use Rattle.jt_machine.proofs.runs.run_code.Goals as goal
+
+pub steps-init : goal.steps-init
+steps-init g c =
+    let k = g.C.Code.code c.args.code.now in
+    record {
+      good = rw c.in_ok-state.ensures (start_good k c.requires.whole c.requires.typed (pairs_of c.args.context.now) (budget_view c.args.budget));
+      same = λ o e. rw c.in_ok-state.ensures at e;
+    }
+
+pub step-requires-clause-not_wrong : goal.step-requires-clause-not_wrong
+step-requires-clause-not_wrong g c = not_wrong (g.C.Code.code c.args.code.now) (config_view c.steps.state) c.steps.invariant.good
+
+pub step-requires-clause-sized : goal.step-requires-clause-sized
+step-requires-clause-sized g c = sizes c.steps.state.left.size (entries_view c.steps.state.entries.items) c.steps.invariant.good.sized
+
+pub steps-preserved : goal.steps-preserved
+steps-preserved g c =
+    let k = g.C.Code.code c.args.code.now in
+    let e : next k (config_view c.steps.state) ≡ Goes (config_view c.step.new.state) = c.in_ok-outcome.ensures ∙ rw c.in_default-2.is refl in
+    record {
+      good = goes_good k (config_view c.steps.state) (config_view c.step.new.state) c.steps.invariant.good e;
+      same = λ o r. c.steps.invariant.same o (ending_back k (config_view c.steps.state) (config_view c.step.new.state) o e r);
+    }
+
+pub steps-smaller : goal.steps-smaller
+steps-smaller g c =
+    let k = g.C.Code.code c.args.code.now in
+    let e : next k (config_view c.steps.state) ≡ Goes (config_view c.step.new.state) = c.in_ok-outcome.ensures ∙ rw c.in_default-2.is refl in
+    goes_down k (config_view c.steps.state) (config_view c.step.new.state) c.steps.invariant.good e
+
+pub returns-in-Some-2 : goal.returns-in-Some-2
+returns-in-Some-2 g c =
+    let k = g.C.Code.code c.args.code.now in
+    let o = outcome_view c.in-Some-2.outcome in
+    let x = pairs_of c.args.context.now in
+    let b = budget_view c.args.budget in
+    let e : next k (config_view c.steps.state) ≡ Ends o = c.in_ok-outcome.ensures ∙ rw c.in-Some-2.is refl in
+    let r = c.steps.invariant.same o (ending_now k (config_view c.steps.state) o e) in
+    let n : passed b x k.names ≡ None = sym c.in_default.ensures in
+    rw n r

@@ -1,0 +1,7 @@
+use Rattle.std.proofs.Common.{refl}
+use Rattle.jt_image.specs.Run.{entry_locals}
+use Rattle.jt_machine.proofs.Steps.{no_locals}
+use Rattle.jt_machine.proofs.start.start.Goals as goal
+
+pub returns : goal.returns
+returns g c = rw (c.in_ok-locals.ensures, c.in_ok-globals.ensures, c.new.ensures.items, c.new-2.ensures.bytes, c.entry_locals.ensures, no_locals (entry_locals (g.C.Code.code c.args.code.now).units)) refl

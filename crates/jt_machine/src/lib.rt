@@ -1,0 +1,15 @@
+//! Runs verified images under budgets.
+#![tactic(auto)]
+
+mod limits;
+mod outcome;
+mod runs;
+mod start;
+mod state;
+mod step;
+
+pub use outcome::Outcome;
+pub use runs::run;
+
+#[cfg(test)]
+mod tests;

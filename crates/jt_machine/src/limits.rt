@@ -1,0 +1,20 @@
+//! Values against the limits of a budget.
+ghost use Rattle.std.specs.Prelude.{◌≡◌, option_map};
+ghost use Rattle.jt_value.specs.View.{view};
+ghost use Rattle.jt_image.specs.Run.{limit_of};
+ghost use Rattle.jt_machine.specs.View.{budget_view, limit_view};
+
+use jt_budget::{Budget, Spent};
+use jt_value::Value;
+
+/// The limit that a value passes: its size is tested first, then its nesting.
+pub(crate) fn passed_limit(value: &Value, budget: &Budget) -> Option<Spent>
+    ensures { option_map limit_view result ≡ limit_of (budget_view budget.now) (view value.now) }
+{
+    let _size = budget.size;
+    let _nesting = budget.nesting;
+    match budget.fits(value.size(), value.nesting()) {
+        Ok(()) => None,
+        Err(spent) => Some(spent),
+    }
+}

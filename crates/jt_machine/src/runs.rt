@@ -1,0 +1,55 @@
+//! Whole runs.
+ghost use Rattle.std.specs.Prelude.{IfOk};
+ghost use Rattle.jt_value.specs.Pairs.{Pairs};
+ghost use Rattle.jt_value.specs.ContextView.{pairs_of};
+ghost use Rattle.jt_image.specs.IsCode.{IsCode};
+ghost use Rattle.jt_image.specs.Typed.{IsTyped};
+ghost use Rattle.jt_image.specs.Config as config;
+ghost use Rattle.jt_image.specs.Run.{Run, IsSafe};
+ghost use Rattle.jt_machine.specs.View.{budget_view, outcome_view};
+
+use crate::outcome::Outcome;
+use crate::start::{context_passes, start};
+use crate::step::step;
+use jt_budget::Budget;
+use jt_image::Code;
+use jt_value::{Context, NoMemory};
+use jt_verify::Verified;
+use std::alloc::Global;
+
+/// Runs an image for a context under a budget. No memory is the one error.
+pub fn run(
+    alloc: Global,
+    verified: &Verified,
+    context: &Context,
+    budget: Budget,
+) -> Result<Outcome, NoMemory>
+    // The outcome is that of the run.
+    ensures outcome { IfOk result (λ o. Run verified.now (pairs_of context.now) (budget_view budget) (outcome_view o)) }
+    // Every run of the image has one outcome, stays within its fuel and is never wrong.
+    ensures safe { (x : Pairs) (b : config.Budget) → IsSafe verified.now x b }
+{
+    run_code(alloc, verified.image(), context, budget)
+}
+
+// Runs a typed code.
+fn run_code<C: Code>(
+    alloc: Global,
+    code: &C,
+    context: &Context,
+    budget: Budget,
+) -> Result<Outcome, NoMemory>
+    requires whole { IsCode (C.code code.now) }
+    requires typed { IsTyped (C.code code.now) }
+    ensures { IfOk result (λ o. Run (C.code code.now) (pairs_of context.now) (budget_view budget) (outcome_view o)) }
+{
+    if let Some(spent) = context_passes(code, context, &budget) {
+        return Ok(Outcome::Spent(spent));
+    }
+    let mut state = start(alloc, code, context, budget)?;
+    'steps: loop {
+        if let Some(outcome) = step(alloc, code, &mut state)? {
+            return Ok(outcome);
+        }
+    }
+}

@@ -1,0 +1,4 @@
+pub mod KindTests
+pub mod Tables
+pub mod Following
+pub mod Refused

@@ -1,0 +1,106 @@
+-- A refusal that holds refuses no typed code.
+use Rattle.std.proofs.Common.{◌≡◌, ◌≢◌, ℕ, ◌<◌, ◌⊎◌, List, [], ◌∷◌, ◌++◌, length, Option, Some, None, Result, Ok, Err, refl, sym, ap, subst, ◌∙◌, arith, inl, inr}
+use Rattle.std.specs.Prelude.{slice_get}
+use Rattle.std.specs.List.{AllByRecursion}
+use Rattle.jt_image.specs.declared.kind.Flaw.{Flaw}
+use Rattle.jt_image.specs.declared.kind.Flaw.TheVariants as flaw
+use Rattle.jt_image.specs.declared.instruction.Instruction.{Instruction}
+use Rattle.jt_image.specs.Code.{Section, Code}
+use Rattle.jt_image.specs.Effect.{Shape, Leads, effect_of, effect_at}
+use Rattle.jt_image.specs.Typed.{Shapes, Reaches, at_start, along, IsTypedBy, IsTypedUnit, IsTyped, Equal, HasSame, max_entries}
+use Rattle.jt_verify.specs.Refusing.{HasClash, HasFlaw, HoldsAt, RefusalHolds}
+use Rattle.jt_verify.specs.Working.{Table, shape_at, unit_of, ClashesAt, Clashes, Steps, Comes, IsWorking, RefusesUnit}
+use Rattle.jt_verify.specs.declared.refusal.Refusal.{Refusal}
+use Rattle.jt_verify.specs.declared.refusal.Refusal.TheVariants as refusal
+use Rattle.jt_verify.specs.declared.verifier.Path.{Path}
+use Rattle.jt_verify.proofs.Tables.{all_among, paths_last}
+
+one_shape : (a b : Shape) → Some a ≡ Some b → a ≡ b
+one_shape a b e = cc
+
+-- ---- what is refused holds
+
+module _ (k : Code) (u : Section) (q : ℕ) (s : Shape) (reached : Reaches k u q s) where
+  clash_at : (o : Option Shape) (f : Flaw) → ((r : Shape) → o ≡ Some r → Reaches k u q r) → ClashesAt o s f → HasClash k u q f
+  clash_at o flaw.TooDeep known c = (s, reached, c)
+  clash_at (Some r) flaw.DepthDiffers known c = (r, s, known r refl, reached, c)
+  clash_at (Some r) flaw.KindDiffers known c = (r, s, known r refl, reached, c.0, c.1)
+  clash_at None flaw.DepthDiffers known c = absurd c
+  clash_at None flaw.KindDiffers known c = absurd c
+  clash_at None flaw.MissingOperand known c = absurd c
+  clash_at None flaw.WrongKind known c = absurd c
+  clash_at None flaw.JumpOut known c = absurd c
+  clash_at None flaw.BadIndex known c = absurd c
+  clash_at None flaw.BadReturn known c = absurd c
+  clash_at None flaw.FallsOff known c = absurd c
+  clash_at (Some r) flaw.MissingOperand known c = absurd c
+  clash_at (Some r) flaw.WrongKind known c = absurd c
+  clash_at (Some r) flaw.JumpOut known c = absurd c
+  clash_at (Some r) flaw.BadIndex known c = absurd c
+  clash_at (Some r) flaw.BadReturn known c = absurd c
+  clash_at (Some r) flaw.FallsOff known c = absurd c
+
+pub clash_refuses : (k : Code) (u : Section) (n : ℕ) (t : Table) (w : List Path) (x : Path) (e : Refusal) → IsWorking k u t (w ++ x ∷ []) → Clashes t n x e → RefusesUnit k u n e
+clash_refuses k u n t w x e i c =
+    let comes = (paths_last (Comes k u) w x i.coming).0 in
+    let holds = inr (clash_at k u x.point x.shape comes.1 (shape_at t x.point) c.0 (λ r found. i.reached x.point r found) c.2) in
+    subst (λ (r : Refusal). RefusesUnit k u n r) (sym c.1) (refl, holds)
+
+pub flaw_refuses : (k : Code) (u : Section) (n : ℕ) (t : Table) (w : List Path) (x : Path) (f : Flaw) (m p : ℕ) → IsWorking k u t (w ++ x ∷ []) → m ≡ n → p ≡ x.point → effect_at k u x.point x.shape ≡ Err f → RefusesUnit k u n (refusal.Flaw f m p)
+flaw_refuses k u n t w x f m p i is at e =
+    let comes = (paths_last (Comes k u) w x i.coming).0 in
+    (is, subst (λ (q : ℕ). HoldsAt k u q f) (sym at) (inl (x.shape, comes.1, e)))
+
+pub step_refuses : (k : Code) (u : Section) (n : ℕ) (t : Table) (w : List Path) (x : Path) (r : Shape) (e : Refusal) → IsWorking k u t (w ++ x ∷ []) → Steps k u n x.point x.shape r (Err e) → RefusesUnit k u n e
+step_refuses k u n t w x r (refusal.Flaw f m p) i h = flaw_refuses k u n t w x f m p i h.0 h.1 h.2
+step_refuses k u n t w x r refusal.NoMemory i h = tt
+
+pub empty_refuses : (k : Code) (u : Section) (n : ℕ) → length u.code ≡ 0 → RefusesUnit k u n (refusal.Flaw flaw.FallsOff n 0)
+empty_refuses k u n e = (refl, inl ([], at_start, falls u.code e))
+  where
+    falls : (c : List Instruction) → length c ≡ 0 → effect_of k u 0 (slice_get c 0) [] ≡ Err flaw.FallsOff
+    falls [] e = refl
+    falls (i ∷ c) e = absurd (omega arith)
+
+pub unit_refused : (k : Code) (n : ℕ) (r : Refusal) → slice_get k.units n ≡ Some (unit_of k n) → RefusesUnit k (unit_of k n) n r → RefusalHolds k r
+unit_refused k n refusal.NoMemory is h = tt
+unit_refused k n (refusal.Flaw f m p) is h = subst (λ (i : ℕ). RefusalHolds k (refusal.Flaw f i p)) (sym h.0) (unit_of k n, is, h.1)
+
+-- ---- a path's shapes are those of any typing
+
+module _ (k : Code) (u : Section) (shapes : Shapes) (h : IsTypedBy Equal k u shapes) where
+  agrees : (p : ℕ) (s : Shape) → Reaches k u p s → shapes p ≡ Some s
+  agrees _ _ at_start = h.start
+  agrees _ _ (along p r leads q before e a) =
+      let f = h.fine p r (agrees p r before) in
+      let same : f.leads ≡ leads = ok_same f.leads leads (sym f.effect ∙ e) in
+      let has = all_among (HasSame Equal shapes leads.shape) leads.points q (subst (λ (l : Leads). AllByRecursion (HasSame Equal shapes l.shape) l.points) same f.agree) a in
+      subst (λ (y : Shape). shapes q ≡ Some y) has.2 has.1
+    where
+      ok_of : Leads → Result Leads Flaw
+      ok_of l = Ok l
+
+      ok_same : (a b : Leads) → ◌≡◌ {A = Result Leads Flaw} (Ok a) (Ok b) → a ≡ b
+      ok_same a b e = cc
+
+  clash_untyped : (p : ℕ) (f : Flaw) → HasClash k u p f → ⊥
+  clash_untyped p flaw.TooDeep c = let m = h.small p c.0 (agrees p c.0 c.1) in absurd (omega (arith, m, c.2))
+  clash_untyped p flaw.DepthDiffers c = c.4 (ap (λ (x : Shape). length x) (one_shape c.0 c.1 (sym (agrees p c.0 c.2) ∙ agrees p c.1 c.3)))
+  clash_untyped p flaw.KindDiffers c = c.5 (one_shape c.0 c.1 (sym (agrees p c.0 c.2) ∙ agrees p c.1 c.3))
+  clash_untyped p flaw.MissingOperand c = c
+  clash_untyped p flaw.WrongKind c = c
+  clash_untyped p flaw.JumpOut c = c
+  clash_untyped p flaw.BadIndex c = c
+  clash_untyped p flaw.BadReturn c = c
+  clash_untyped p flaw.FallsOff c = c
+
+  flaw_untyped : (p : ℕ) (f : Flaw) → HasFlaw k u p f → ⊥
+  flaw_untyped p f c = let g = h.fine p c.0 (agrees p c.0 c.1) in let e : ◌≡◌ {A = Result Leads Flaw} (Err f) (Ok g.leads) = sym c.2 ∙ g.effect in cc
+
+untyped : (k : Code) (u : Section) (p : ℕ) (f : Flaw) → HoldsAt k u p f → IsTypedUnit Equal k u → ⊥
+untyped k u p f (inl c) (shapes, h) = flaw_untyped k u shapes h p f c
+untyped k u p f (inr c) (shapes, h) = clash_untyped k u shapes h p f c
+
+pub exact : (k : Code) (r : Refusal) → RefusalHolds k r → IsTyped k → r ≡ refusal.NoMemory
+exact k refusal.NoMemory h t = refl
+exact k (refusal.Flaw f n p) h t = absurd (untyped k h.0 p f h.2 (t n h.0 h.1))

@@ -1,0 +1,24 @@
+use Rattle.std.proofs.Common.{arith, ap}
+use Rattle.jt_image.specs.declared.code.UnitHeader.{UnitHeader}
+use Rattle.jt_verify.specs.Working.{unit_of}
+use Rattle.jt_verify.proofs.Following.{starts, no_paths}
+use Rattle.jt_verify.proofs.Refused.{empty_refuses}
+use Rattle.jt_verify.proofs.verifier.verify_unit.Goals as goal
+
+pub returns-then-header-eq0-clause-err : goal.returns-then-header-eq0-clause-err
+returns-then-header-eq0-clause-err g c =
+    let k = g.C.Code.code c.args.code.now in
+    let len = ap (λ (h : UnitHeader). h.instructions) c.requires.unit.header in
+    empty_refuses k (unit_of k c.args.unit) c.args.unit (omega (arith, len, c.if-header-eq0.true))
+
+pub paths-init : goal.paths-init
+paths-init g c =
+    let k = g.C.Code.code c.args.code.now in
+    let len = ap (λ (h : UnitHeader). h.instructions) c.requires.unit.header in
+    let i = starts k (unit_of k c.args.unit) c.args.header.now.instructions len (omega (arith, c.if-header-eq0.false)) in
+    rw (c.in_ok-push.ensures.items, c.new-paths.ensures.items, c.in_ok-shapes.ensures, c.new.ensures) i
+
+pub returns-clause-ok : goal.returns-clause-ok
+returns-clause-ok g c =
+    let k = g.C.Code.code c.args.code.now in
+    no_paths k (unit_of k c.args.unit) c.paths.shapes.items c.paths.paths.items (omega (arith, c.in_default.ensures.cases, c.paths.paths.ok.0)) c.paths.invariant

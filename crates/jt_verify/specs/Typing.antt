@@ -1,0 +1,27 @@
+-- What the verifier's effect gives.
+use Rattle.std.specs.Prelude.{◌≡◌, ℕ, ◌<◌, List, [], ◌∷◌, ◌++◌, Option, Some, None, Result, Ok, Err}
+use Rattle.std.specs.List.{AllByRecursion}
+use Rattle.jt_image.specs.declared.kind.Flaw.{Flaw}
+use Rattle.jt_image.specs.Effect as effects
+use Rattle.jt_image.specs.Effect.{Shape}
+use Rattle.jt_verify.specs.declared.typing.Leads.{Leads}
+use Rattle.jt_verify.specs.declared.typing.EffectError.{EffectError}
+use Rattle.jt_verify.specs.declared.typing.EffectError.TheVariants as errors
+
+abbrev pub as_list : Option ℕ → List ℕ
+as_list None = []
+as_list (Some p) = p ∷ []
+
+-- the points that are led to, the next one first
+abbrev pub points_of : Leads → List ℕ
+points_of l = as_list l.next ++ as_list l.target
+
+-- what the effect of an instruction is, where s is the shape behind it; want of memory says nothing
+abbrev pub EffectGives : Shape → Result Leads EffectError → Result effects.Leads Flaw → Type 0
+EffectGives s (Ok l) effect = effect ≡ Ok (record { shape = s; points = points_of l })
+EffectGives s (Err (errors.Flaw f)) effect = effect ≡ Err f
+EffectGives s (Err errors.NoMemory) effect = Unit {0}
+
+-- the points lie in a code of so many instructions
+abbrev pub AreWithin : ℕ → Leads → Type 0
+AreWithin n l = AllByRecursion (λ p. p < n) (points_of l)

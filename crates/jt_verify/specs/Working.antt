@@ -1,0 +1,106 @@
+-- What is known of a unit while it is verified.
+use Rattle.std.specs.Prelude.{◌≡◌, ◌≢◌, ◌⊎◌, ℕ, ◌+◌, ◌<◌, ◌≤◌, Bool, true, false, List, [], ◌∷◌, ◌++◌, length, map, Option, Some, None, unwrap_or, Result, Ok, Err, slice_get}
+use Rattle.std.specs.List.{AllByRecursion}
+use Rattle.jt_image.specs.declared.kind.Flaw.{Flaw}
+use Rattle.jt_image.specs.declared.kind.Flaw.TheVariants as flaw
+use Rattle.jt_image.specs.declared.code.UnitHeader.{UnitHeader}
+use Rattle.jt_image.specs.Code.{Section, Code}
+use Rattle.jt_image.specs.Readers.{header_of}
+use Rattle.jt_image.specs.Effect as effects
+use Rattle.jt_image.specs.Effect.{Shape, effect_at}
+use Rattle.jt_image.specs.Typed.{Shapes, Reaches, max_entries}
+use Rattle.jt_verify.specs.Typing.{as_list, points_of}
+use Rattle.jt_verify.specs.Refusing.{HoldsAt}
+use Rattle.jt_verify.specs.declared.typing.Leads.{Leads}
+use Rattle.jt_verify.specs.declared.refusal.Refusal.{Refusal}
+use Rattle.jt_verify.specs.declared.refusal.Refusal.TheVariants as refusal
+use Rattle.jt_verify.specs.declared.verifier.Path.{Path}
+
+-- a unit of a code; one outside its table is empty, but none is asked for
+abbrev pub unit_of : Code → ℕ → Section
+unit_of k n = unwrap_or (slice_get k.units n) (record { parameters = 0; kind = 0; locals = 0; code = [] })
+
+-- there is such a unit, with these numbers
+pub record IsUnit (k : Code) (n : ℕ) (h : UnitHeader) : Type 0 where
+  pub is : slice_get k.units n ≡ Some (unit_of k n)
+  pub header : h ≡ header_of (unit_of k n)
+
+-- the shapes that are known, one place a point
+abbrev pub Table : Type 0
+Table = List (Option Shape)
+
+abbrev pub known : Option (Option Shape) → Option Shape
+known None = None
+known (Some o) = o
+
+abbrev pub shape_at : Table → Shapes
+shape_at t p = known (slice_get t p)
+
+-- how many points have no shape
+abbrev pub unknown : Table → ℕ
+unknown [] = 0
+unknown (None ∷ t) = 1 + unknown t
+unknown (Some s ∷ t) = unknown t
+
+-- how much work is left: a point without a shape sends two paths at the most
+abbrev pub work_left : Table → List Path → ℕ
+work_left t w = (unknown t + unknown t) + length w
+
+-- one of the paths brings this shape to the point
+abbrev pub Waits : List Path → Shape → ℕ → Type 0
+Waits [] s q = ⊥
+Waits (x ∷ w) s q = ((x.point ≡ q) × (x.shape ≡ s)) ⊎ Waits w s q
+
+-- the shape is known at the point, or comes to it
+abbrev pub IsDue : Table → List Path → Shape → ℕ → Type 0
+IsDue t w s q = (shape_at t q ≡ Some s) ⊎ Waits w s q
+
+-- the effect at a point has no flaw, and what it gives is due at each successor
+pub record IsFollowed (k : Code) (u : Section) (t : Table) (w : List Path) (p : ℕ) (s : Shape) : Type 0 where
+  pub leads : effects.Leads
+  pub effect : effect_at k u p s ≡ Ok leads
+  pub due : AllByRecursion (IsDue t w leads.shape) leads.points
+
+-- effects bring the shape to the point, which lies in the code
+abbrev pub Comes : Code → Section → Path → Type 0
+Comes k u x = (x.point < length u.code) × Reaches k u x.point x.shape
+
+-- what is known comes from paths, and each point with a shape was followed
+pub record IsWorking (k : Code) (u : Section) (t : Table) (w : List Path) : Type 0 where
+  pub len : length t ≡ length u.code
+  pub start : IsDue t w [] 0
+  pub small : (p : ℕ) (s : Shape) → shape_at t p ≡ Some s → length s ≤ max_entries
+  pub reached : (p : ℕ) (s : Shape) → shape_at t p ≡ Some s → Reaches k u p s
+  pub coming : AllByRecursion (Comes k u) w
+  pub fine : (p : ℕ) (s : Shape) → shape_at t p ≡ Some s → IsFollowed k u t w p s
+
+-- a path ends where its shape is known, or at a point that is new and may have its shape
+abbrev pub Arrives : Table → Path → Bool → Type 0
+Arrives t x true = shape_at t x.point ≡ Some x.shape
+Arrives t x false = (length x.shape ≤ max_entries) × (shape_at t x.point ≡ None)
+
+-- why a shape may not come to a point, where a shape may be known
+abbrev pub ClashesAt : Option Shape → Shape → Flaw → Type 0
+ClashesAt o s flaw.TooDeep = max_entries < length s
+ClashesAt (Some r) s flaw.DepthDiffers = length r ≢ length s
+ClashesAt (Some r) s flaw.KindDiffers = (length r ≡ length s) × (r ≢ s)
+ClashesAt o s f = ⊥
+
+-- a path may not end at its point
+abbrev pub Clashes : Table → ℕ → Path → Refusal → Type 0
+Clashes t n x r = (f : Flaw) × (r ≡ refusal.Flaw f n x.point) × ClashesAt (shape_at t x.point) x.shape f
+
+-- the effect at a point of unit n, where r is the shape behind it
+abbrev pub Steps : Code → Section → ℕ → ℕ → Shape → Shape → Result Leads Refusal → Type 0
+Steps k u n p s r (Ok l) = effect_at k u p s ≡ Ok (record { shape = r; points = points_of l })
+Steps k u n p s r (Err (refusal.Flaw f m q)) = (m ≡ n) × (q ≡ p) × (effect_at k u p s ≡ Err f)
+Steps k u n p s r (Err refusal.NoMemory) = Unit {0}
+
+-- the paths that an instruction sends; the last is followed first
+abbrev pub sent : Leads → Shape → List Path
+sent l s = map (λ p. record { point = p; shape = s }) (as_list l.target ++ as_list l.next)
+
+-- why unit n is refused
+abbrev pub RefusesUnit : Code → Section → ℕ → Refusal → Type 0
+RefusesUnit k u n (refusal.Flaw f m p) = (m ≡ n) × HoldsAt k u p f
+RefusesUnit k u n refusal.NoMemory = Unit {0}

@@ -1,0 +1,80 @@
+//! Codes that are in order.
+ghost use Rattle.std.specs.Prelude.{◌≡◌, IfOk, IfErr};
+ghost use Rattle.jt_image.specs.Typed.{IsTyped};
+ghost use Rattle.jt_verify.specs.Refusing.{RefusalHolds};
+
+use crate::refusal::Refusal;
+use crate::verifier::verify_code;
+use jt_image::{Code, Image};
+use std::alloc::Global;
+use std::marker::Model;
+
+/// What has a code that is in order.
+#[derive(Drop)]
+pub struct Checked<C: Code> {
+    inner: C,
+}
+
+impl<C: Code> Model for Checked<C> {
+    ghost use Rattle.jt_image.specs.Code.{Code as CodeOf};
+
+    ghost Value = { CodeOf };
+
+    ghost use Rattle.jt_image.specs.IsCode.{IsCode};
+    ghost use Rattle.jt_image.specs.Typed.{IsTyped};
+
+    ghost view = { λ v. C.code v.inner };
+
+    ghost invariant = { λ v. IsTyped (C.code v.inner) × IsCode (C.code v.inner) };
+}
+
+impl<C: Code> Checked<C> {
+    ghost use Rattle.std.specs.Prelude.{◌≡◌};
+    ghost use Rattle.jt_image.specs.IsCode.{IsCode};
+    ghost use Rattle.jt_image.specs.Typed.{IsTyped};
+
+    /// What was verified.
+    pub fn code(&self) -> &C
+        ensures code { C.code result.now ≡ self.now }
+        ensures typed { IsTyped self.now }
+        ensures whole { IsCode self.now }
+    {
+        &self.inner
+    }
+}
+
+/// An image that is in order.
+pub type Verified = Checked<Image>;
+
+impl Checked<Image> {
+    ghost use Rattle.std.specs.Prelude.{◌≡◌};
+    ghost use Rattle.jt_image.specs.IsCode.{IsCode};
+    ghost use Rattle.jt_image.specs.Typed.{IsTyped};
+
+    /// The image that was verified.
+    pub fn image(&self) -> &Image
+        ensures image { result.now ≡ self.now }
+        ensures typed { IsTyped self.now }
+        ensures whole { IsCode self.now }
+    {
+        &self.inner
+    }
+}
+
+/// Accepts an image exactly where it is in order.
+pub fn verify(alloc: Global, image: Image) -> Result<Verified, (Image, Refusal)>
+    // What is accepted is that image, and it is typed.
+    ensures ok { IfOk result (λ v. (v ≡ image) × IsTyped image) }
+    // A refusal hands the image back, and holds.
+    ensures err { IfErr result (λ e. (e.0 ≡ image) × RefusalHolds image e.1) }
+    // A typed image is refused only for want of memory.
+    ensures exact { IfErr result (λ e. IsTyped image → e.1 ≡ Refusal.NoMemory) }
+{
+    match verify_code(alloc, &image) {
+        Ok(()) => {
+            let _units = image.units();
+            Ok(Checked { inner: image })
+        }
+        Err(refusal) => Err((image, refusal)),
+    }
+}

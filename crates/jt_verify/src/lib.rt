@@ -1,0 +1,13 @@
+//! Verifies codes: each point that is reached has one shape, and every instruction there is in order.
+#![tactic(auto)]
+
+mod checked;
+mod refusal;
+mod shape;
+mod typing;
+mod verifier;
+
+pub use checked::{Checked, Verified, verify};
+pub use refusal::Refusal;
+pub use shape::{Shape, join};
+pub use verifier::verify_code;

@@ -1,0 +1,183 @@
+//! What an instruction does to a shape, and where it leads.
+ghost use Rattle.std.specs.Prelude.{◌≡◌, ◌<◌, List, Err, IfOk, slice_get};
+ghost use Rattle.jt_image.specs.Code.{Section, is_text as is_text_of};
+ghost use Rattle.jt_image.specs.Effect.{goes_on as goes_on_of, jumps as jumps_of, branches as branches_of, may_return as may_return_of, effect as effect_of};
+ghost use Rattle.jt_image.specs.Readers.{header_of};
+ghost use Rattle.jt_image.specs.declared.kind.Kind.{Kind};
+ghost use Rattle.jt_verify.specs.Typing.{EffectGives, AreWithin};
+
+use crate::shape::Shape;
+use jt_image::{Code, ConstantRef, Flaw, Instruction, Kind, UnitHeader};
+use jt_value::NoMemory;
+
+/// The points that an instruction leads to.
+#[derive(Clone, Copy, Debug, PartialEq, Eq)]
+pub(crate) struct Leads {
+    pub(crate) next: Option<usize>,
+    pub(crate) target: Option<usize>,
+}
+
+/// What is wrong with an instruction, or no memory.
+#[derive(Clone, Copy, Debug)]
+pub(crate) enum EffectError {
+    Flaw(Flaw),
+    NoMemory,
+}
+
+impl From<Flaw> for EffectError {
+    ghost use Rattle.std.specs.Prelude.{◌≡◌};
+    ghost use Rattle.jt_verify.specs.declared.typing.EffectError.TheVariants as errors;
+
+    ghost from_gives = { λ f e. e ≡ errors.Flaw f };
+
+    fn from(flaw: Flaw) -> EffectError {
+        EffectError::Flaw(flaw)
+    }
+}
+
+impl From<NoMemory> for EffectError {
+    ghost use Rattle.std.specs.Prelude.{◌≡◌};
+    ghost use Rattle.jt_verify.specs.declared.typing.EffectError.TheVariants as errors;
+
+    ghost from_gives = { λ _ e. e ≡ errors.NoMemory };
+
+    fn from(_e: NoMemory) -> EffectError {
+        EffectError::NoMemory
+    }
+}
+
+// To the next instruction.
+fn goes_on(header: &UnitHeader, point: usize) -> Result<Leads, EffectError>
+    requires { point < header.now.instructions }
+    ensures gives { (u : Section) → header.now ≡ header_of u → (s : List Kind) → EffectGives s result (goes_on_of u point s) }
+    ensures within { IfOk result (λ l. AreWithin header.now.instructions l) }
+{
+    let instructions = header.instructions;
+    if point + 1 < instructions {
+        Ok(Leads { next: Some(point + 1), target: None })
+    } else {
+        Err(EffectError::Flaw(Flaw::FallsOff))
+    }
+}
+
+// To the target of a jump.
+fn jumps(header: &UnitHeader, point: usize, target: u32) -> Result<Leads, EffectError>
+    ensures gives { (u : Section) → header.now ≡ header_of u → (s : List Kind) → EffectGives s result (jumps_of u target s) }
+    ensures within { IfOk result (λ l. AreWithin header.now.instructions l) }
+{
+    if (target as usize) < header.instructions {
+        Ok(Leads { next: None, target: Some(target as usize) })
+    } else {
+        Err(EffectError::Flaw(Flaw::JumpOut))
+    }
+}
+
+// To the next instruction or to the target.
+fn branches(header: &UnitHeader, point: usize, target: u32) -> Result<Leads, EffectError>
+    requires { point < header.now.instructions }
+    ensures gives { (u : Section) → header.now ≡ header_of u → (s : List Kind) → EffectGives s result (branches_of u point target s) }
+    ensures within { IfOk result (λ l. AreWithin header.now.instructions l) }
+{
+    let instructions = header.instructions;
+    if target as usize >= instructions {
+        return Err(EffectError::Flaw(Flaw::JumpOut));
+    }
+    if point + 1 >= instructions {
+        return Err(EffectError::Flaw(Flaw::FallsOff));
+    }
+    Ok(Leads { next: Some(point + 1), target: Some(target as usize) })
+}
+
+// Whether a unit of this kind may return with the shape.
+fn may_return(kind: u8, shape: &Shape) -> bool
+    ensures { result ≡ may_return_of kind shape.now }
+{
+    if kind == 0 { shape.is_empty() } else { shape.is_value() }
+}
+
+fn is_text<C: Code>(code: &C, constant: u32) -> bool
+    ensures { result ≡ is_text_of (slice_get (C.code code.now).constants constant) }
+{
+    matches!(code.constant(constant as usize), Some(ConstantRef::Text(_)))
+}
+
+fn bad_index<T>() -> Result<T, EffectError>
+    ensures { result ≡ Err (EffectError.Flaw Flaw.BadIndex) }
+{
+    Err(EffectError::Flaw(Flaw::BadIndex))
+}
+
+/// Changes the shape as the instruction at a point does, and says where it leads.
+pub(crate) fn effect<C: Code>(
+    code: &C,
+    header: &UnitHeader,
+    point: usize,
+    instruction: Instruction,
+    shape: &mut Shape,
+) -> Result<Leads, EffectError>
+    requires { point < header.now.instructions }
+    ensures within { IfOk result (λ l. AreWithin header.now.instructions l) }
+    ensures gives { (u : Section) → header.now ≡ header_of u → EffectGives shape.new result (effect_of (C.code code.now) u point instruction shape.old) }
+{
+    match instruction {
+        Instruction::Const { constant } => {
+            if constant as usize >= code.constants() {
+                return bad_index();
+            }
+            shape.push(Kind::Value)?;
+            goes_on(header, point)
+        }
+        Instruction::GLoad { global } => {
+            if global >= u32::from(code.globals()) {
+                return bad_index();
+            }
+            shape.push(Kind::Value)?;
+            goes_on(header, point)
+        }
+        Instruction::GStore { global } => {
+            if global >= u32::from(code.globals()) {
+                return bad_index();
+            }
+            shape.pop_value()?;
+            goes_on(header, point)
+        }
+        Instruction::Drop => {
+            shape.pop_value()?;
+            goes_on(header, point)
+        }
+        Instruction::Dup => {
+            shape.pop_value()?;
+            shape.push(Kind::Value)?;
+            shape.push(Kind::Value)?;
+            goes_on(header, point)
+        }
+        Instruction::Emit { flag } => {
+            if flag != 0 {
+                return bad_index();
+            }
+            shape.pop_value()?;
+            goes_on(header, point)
+        }
+        Instruction::Data { constant } => {
+            if !is_text(code, constant) {
+                return bad_index();
+            }
+            goes_on(header, point)
+        }
+        Instruction::Jump { target } => jumps(header, point, target),
+        Instruction::JumpIfFalse { target } => {
+            shape.pop_value()?;
+            branches(header, point, target)
+        }
+        Instruction::JumpIfTrue { target } => {
+            shape.pop_value()?;
+            branches(header, point, target)
+        }
+        Instruction::Return => {
+            if !may_return(header.kind, shape) {
+                return Err(EffectError::Flaw(Flaw::BadReturn));
+            }
+            Ok(Leads { next: None, target: None })
+        }
+    }
+}
