@@ -9,8 +9,8 @@ use Rattle.jt_cli.specs.declared.jobs.JobError.{JobError}
 use Rattle.jt_cli.specs.declared.jobs.JobError.TheVariants as job_error
 use Rattle.jt_image.specs.declared.ImageError.{ImageError}
 use Rattle.jt_image.specs.declared.ImageError.TheVariants as image_error
-use Rattle.jt_machine.specs.declared.Refusal.{Refusal}
-use Rattle.jt_machine.specs.declared.Refusal.TheVariants as refusal
+use Rattle.jt_verify.specs.declared.Refusal.{Refusal}
+use Rattle.jt_verify.specs.declared.Refusal.TheVariants as refusal
 use Rattle.jt_machine.specs.declared.Outcome.{Outcome}
 use Rattle.jt_machine.specs.declared.Outcome.TheVariants as outcome
 

@@ -7,11 +7,11 @@ use Rattle.jt_image.specs.Run.{Run}
 use Rattle.jt_image.specs.Typed.{IsTyped}
 use Rattle.jt_image.specs.declared.ImageError.TheVariants as image_error
 use Rattle.jt_budget.specs.declared.Budget.{Budget}
-use Rattle.jt_machine.specs.Refusing.{RefusalHolds}
+use Rattle.jt_verify.specs.Refusing.{RefusalHolds}
 use Rattle.jt_machine.specs.View.{budget_view, outcome_view}
 use Rattle.jt_machine.specs.declared.Outcome.{Outcome}
 use Rattle.jt_machine.specs.declared.Outcome.TheVariants as outcome
-use Rattle.jt_machine.specs.declared.Refusal.{Refusal}
+use Rattle.jt_verify.specs.declared.Refusal.{Refusal}
 use Rattle.jt_cli.specs.declared.messages.Failure.{Failure}
 use Rattle.jt_cli.specs.declared.messages.Failure.TheVariants as failure
 

@@ -6,8 +6,9 @@ ghost use Rattle.jt_cli.specs.Ending.{code_of, status_of, of_line, of_image, of_
 use crate::jobs::JobError;
 use jt_image::ImageError;
 use jt_budget::Spent;
-use jt_machine::{Outcome, Refusal};
+use jt_machine::Outcome;
 use jt_value::Fault;
+use jt_verify::Refusal;
 use thiserror::Error;
 
 /// What the program ends with.

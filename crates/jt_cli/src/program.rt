@@ -12,8 +12,9 @@ use crate::line::job;
 use crate::messages::{Failure, Status, no_code, no_image, text_of};
 use jt_image::decode;
 use jt_budget::Budget;
-use jt_machine::{run, verify};
+use jt_machine::run;
 use jt_value::Context;
+use jt_verify::verify;
 use std::alloc::Global;
 use std::io::Write;
 

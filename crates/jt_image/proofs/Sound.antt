@@ -317,7 +317,7 @@ head_of u = record { parameters = u.parameters; kind = u.kind; locals = u.locals
 abbrev pub HasCode : Section → Type 0
 HasCode u = AllByRecursion IsInstruction u.code
 
-abbrev good_instruction : List Instruction → Instruction → Type 0
+abbrev pub good_instruction : List Instruction → Instruction → Type 0
 good_instruction before i = IsInstruction i
 
 all_instructions : (before code : List Instruction) → AllGood good_instruction before code → AllByRecursion IsInstruction code

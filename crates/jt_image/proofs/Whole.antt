@@ -156,10 +156,10 @@ pub record AreUnits (us : List Section) : Type 0 where
 abbrev pub units_bytes : List Section → List ℕ
 units_bytes us = to_le_bytes w16 (length us) ++ (flat_map header_bytes us ++ flat_map code_bytes us)
 
-head_spelled : (us : List Section) → flat_map head_bytes (map head_of us) ≡ flat_map header_bytes us
+pub head_spelled : (us : List Section) → flat_map head_bytes (map head_of us) ≡ flat_map header_bytes us
 head_spelled us = flat_map-map head_bytes head_of us
 
-length-map_of : (us : List Section) → length (map head_of us) ≡ length us
+pub length-map_of : (us : List Section) → length (map head_of us) ≡ length us
 length-map_of [] = refl
 length-map_of (u ∷ us) = ap suc (length-map_of us)
 

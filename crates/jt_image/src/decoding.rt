@@ -1,9 +1,10 @@
 //! Bytes to images.
 ghost use Rattle.std.specs.Prelude.{◌≡◌, ◌==◌, nat_le, List, length, IfOk, MatchResult, Ok, Err, true};
 ghost use Rattle.std.specs.Int.{w16};
-ghost use Rattle.jt_image.specs.Code as codes;
+ghost use Rattle.jt_image.specs.Code.{Code};
 ghost use Rattle.jt_image.specs.Spelling.{spelling};
 ghost use Rattle.jt_image.specs.IsCode.{IsCode};
+ghost use Rattle.jt_image.specs.declared.error.ImageError.TheVariants.{NoMemory};
 ghost use Rattle.jt_image.specs.Reading.{Gives, code_of};
 
 use crate::error::ImageError;
@@ -43,6 +44,10 @@ fn read(alloc: Global, bytes: &[u8]) -> Result<Image, ImageError>
 pub fn decode(alloc: Global, bytes: &[u8]) -> Result<Image, ImageError>
     // the code, or the first fault
     ensures reads { Gives (λ i. i) result (code_of bytes.now) }
+    // what is read is a code, and the bytes are its spelling
+    ensures found { IfOk result (λ i. IsCode i × (bytes.now ≡ spelling i)) }
+    // the spelling of a code is read as that code, unless memory runs out
+    ensures only { (k : Code) → IsCode k → bytes.now ≡ spelling k → MatchResult result (λ i. i ≡ k) (λ e. e ≡ NoMemory) }
 {
     read(alloc, bytes)
 }

@@ -3,6 +3,7 @@
 
 mod code;
 mod decoding;
+mod encoding;
 mod error;
 mod fields;
 mod image;
@@ -14,8 +15,12 @@ mod wire;
 
 pub use code::{Code, ConstantRef, UnitHeader};
 pub use decoding::decode;
+pub use encoding::encode;
 pub use error::ImageError;
 pub use image::{Constant, Image};
 pub use instruction::Instruction;
 pub use kind::{Flaw, Kind};
 pub use wire::Instr;
+
+#[cfg(test)]
+mod tests;

@@ -1,4 +1,3 @@
-pub mod KindTests
 pub mod Tables
 pub mod Following
 pub mod Refused

@@ -1,4 +1,5 @@
 pub mod Names
+pub mod Tops
 pub mod Shapes
 pub mod Typing
 pub mod Refusing

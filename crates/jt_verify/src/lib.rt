@@ -8,6 +8,9 @@ mod typing;
 mod verifier;
 
 pub use checked::{Checked, Verified, verify};
-pub use refusal::Refusal;
+pub use refusal::{Refusal, flaw_name};
 pub use shape::{Shape, join};
 pub use verifier::verify_code;
+
+#[cfg(test)]
+mod tests;

@@ -1,88 +1,150 @@
 //! Shapes: the kinds of the entries of an activation.
-ghost use Rattle.std.specs.Prelude.{◌≡◌, [], ◌∷◌, length, IfOk, IfErr, OnOk, MatchResult, Err};
+ghost use Rattle.std.specs.Prelude.{◌≡◌, ◌≢◌, ◌≤◌, [], ◌∷◌, length, IfOk, OnOk, OnErr, MatchBool, MatchResult};
 ghost use Rattle.jt_image.specs.Effect.{may_return};
-ghost use Rattle.jt_verify.specs.Shapes.{below_value, Differ};
+ghost use Rattle.jt_image.specs.Typed.{max_entries};
+ghost use Rattle.jt_verify.specs.Shapes.{Differ, Pops};
 
 use crate::refusal::Refusal;
+use crate::typing::EffectError;
 use jt_image::{Flaw, Kind};
 use jt_value::NoMemory;
 use std::alloc::Global;
 use std::marker::Model;
+use std::mem;
+use std::rc::Rc;
 
-/// The kinds of the entries. Contracts see the top first.
+/// The kinds of the entries. Contracts see the top first. A shape shares what is below its top with the shapes that it came from.
+#[cycle(shape)]
 #[derive(Drop)]
 pub struct Shape {
-    // the top last
-    kinds: Vec<Kind>,
+    len: usize,
+    top: Top,
+}
+
+/// The top of a shape.
+#[cycle(shape)]
+#[derive(Drop)]
+pub(crate) enum Top {
+    None,
+    On(Kind, Rc<Shape>),
 }
 
 impl Model for Shape {
-    ghost use Rattle.std.specs.Prelude.{List, reverse};
+    ghost use Rattle.std.specs.Prelude.{◌≡◌, List, length};
     ghost use Rattle.jt_image.specs.declared.kind.Kind.{Kind};
 
     ghost Value = { List Kind };
 
-    ghost view = { λ s. reverse s.kinds.items };
+    ghost use Rattle.jt_verify.specs.Tops.{kinds};
+
+    ghost view = { λ s. kinds s.top };
+
+    ghost invariant = { λ s. s.len ≡ length (kinds s.top) };
+
+    ghost size = { length };
+
+    ghost use Rattle.std.proofs.Common.{arith, length-append};
+
+    ghost size_decreases = { λ a h. Prim.grind (arith, length-append) };
 }
 
 impl Shape {
     /// No entries.
-    pub fn new(alloc: Global) -> Shape
+    pub fn new() -> Shape
         ensures { result ≡ [] }
     {
-        Shape {
-            kinds: Vec::new(alloc),
-        }
+        Shape { len: 0, top: Top::None }
     }
 
     /// How many entries there are.
     pub fn len(&self) -> usize
         ensures { result ≡ length self.now }
     {
-        self.kinds.len()
+        self.len
     }
 
     /// Whether there is no entry.
     pub fn is_empty(&self) -> bool
         ensures { result ≡ may_return 0 self.now }
     {
-        self.kinds.is_empty()
+        matches!(&self.top, Top::None)
     }
 
     /// Whether there is one entry, a value.
     pub fn is_value(&self) -> bool
         ensures { result ≡ may_return 1 self.now }
     {
-        matches!(self.kinds.as_slice(), [Kind::Value])
+        match &self.top {
+            Top::On(Kind::Value, below) => below.is_empty(),
+            _ => false,
+        }
     }
 
-    /// The same shape again.
-    pub fn try_clone(&self, alloc: Global) -> Result<Shape, NoMemory>
+    /// The same shape again. The two share their entries.
+    pub fn share(&self) -> Result<Shape, NoMemory>
         ensures { IfOk result (λ s. s ≡ self.now) }
     {
-        Ok(Shape {
-            kinds: Vec::from_slice(alloc, &self.kinds)?,
-        })
+        let top = match &self.top {
+            Top::None => Top::None,
+            Top::On(kind, below) => Top::On(*kind, below.clone()?),
+        };
+        Ok(Shape { len: self.len, top })
     }
 
-    /// Puts an entry on top.
-    pub fn push(&mut self, kind: Kind) -> Result<(), NoMemory>
-        ensures { OnOk result (self.new ≡ kind ∷ self.old) }
+    /// Puts an entry on top of a shape that is not too long. Without memory nothing changes.
+    pub fn push(&mut self, alloc: Global, kind: Kind) -> Result<(), NoMemory>
+        requires { length self.old ≤ max_entries }
+        ensures ok { OnOk result (self.new ≡ kind ∷ self.old) }
+        ensures err { OnErr result (self.new ≡ self.old) }
     {
-        self.kinds.push(kind)?;
-        Ok(())
+        let below = mem::replace(self, Shape::new());
+        let len = below.len + 1;
+        match Rc::new(alloc, below) {
+            Ok(below) => {
+                *self = Shape { len, top: Top::On(kind, below) };
+                Ok(())
+            }
+            Err(failed) => {
+                *self = failed.value;
+                Err(NoMemory)
+            }
+        }
     }
 
     /// Takes a value off the top.
-    pub fn pop_value(&mut self) -> Result<(), Flaw>
-        ensures ok { OnOk result (self.old ≡ Kind.Value ∷ self.new) }
-        ensures err { IfErr result (λ e. below_value self.old ≡ Err e) }
+    pub(crate) fn pop_value(&mut self) -> Result<(), EffectError>
+        ensures { Pops self.old self.new result }
     {
-        match self.kinds.pop() {
-            Some(Kind::Value) => Ok(()),
-            Some(_) => Err(Flaw::WrongKind),
-            None => Err(Flaw::MissingOperand),
+        let below = match &self.top {
+            Top::On(Kind::Value, below) => below.share()?,
+            Top::On(_, _) => return Err(EffectError::Flaw(Flaw::WrongKind)),
+            Top::None => return Err(EffectError::Flaw(Flaw::MissingOperand)),
+        };
+        *self = below;
+        Ok(())
+    }
+}
+
+// Whether two kinds are the same.
+fn is_same(left: Kind, right: Kind) -> bool
+    ensures { MatchBool result (left ≡ right) (left ≢ right) }
+{
+    matches!(
+        (left, right),
+        (Kind::Value, Kind::Value) | (Kind::Frame, Kind::Frame) | (Kind::Capture, Kind::Capture)
+    )
+}
+
+// Whether two shapes have the same kinds, from the top down.
+fn are_same(left: &Shape, right: &Shape) -> bool
+    ensures { MatchBool result (left.now ≡ right.now) (left.now ≢ right.now) }
+{
+    match (&left.top, &right.top) {
+        (Top::None, Top::None) => true,
+        (Top::On(a, left_below), Top::On(b, right_below)) => {
+            is_same(*a, *b) && are_same(left_below, right_below)
         }
+        _ => false,
     }
 }
 
@@ -90,11 +152,36 @@ impl Shape {
 pub fn join(left: &Shape, right: &Shape) -> Result<(), Refusal>
     ensures { MatchResult result (λ _. left.now ≡ right.now) (λ e. Differ left.now right.now e) }
 {
-    if left.kinds.len() != right.kinds.len() {
+    if left.len != right.len {
         return Err(Refusal::Flaw { flaw: Flaw::DepthDiffers, unit: 0, point: 0 });
     }
-    if left.kinds != right.kinds {
+    if !are_same(left, right) {
         return Err(Refusal::Flaw { flaw: Flaw::KindDiffers, unit: 0, point: 0 });
     }
     Ok(())
+}
+
+#[cfg(test)]
+mod tests {
+    use super::*;
+
+    #[test]
+    fn joins_equal_shapes_alone(rt: HostRuntime) {
+        let empty = Shape::new();
+        let mut value = Shape::new();
+        let mut frame = Shape::new();
+        assert!(rt; value.push(rt.alloc(), Kind::Value).is_ok());
+        assert!(rt; frame.push(rt.alloc(), Kind::Frame).is_ok());
+        let depth = Err(Refusal::Flaw { flaw: Flaw::DepthDiffers, unit: 0, point: 0 });
+        let kind = Err(Refusal::Flaw { flaw: Flaw::KindDiffers, unit: 0, point: 0 });
+        for (left, right, want) in [
+            (&empty, &empty, Ok(())),
+            (&value, &value, Ok(())),
+            (&value, &empty, depth),
+            (&empty, &frame, depth),
+            (&value, &frame, kind),
+        ] {
+            assert_eq!(rt; join(left, right), want);
+        }
+    }
 }

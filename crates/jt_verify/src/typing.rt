@@ -1,14 +1,16 @@
 //! What an instruction does to a shape, and where it leads.
-ghost use Rattle.std.specs.Prelude.{◌≡◌, ◌<◌, List, Err, IfOk, slice_get};
+ghost use Rattle.std.specs.Prelude.{◌≡◌, ◌<◌, ◌≤◌, List, length, Err, IfOk, slice_get};
 ghost use Rattle.jt_image.specs.Code.{Section, is_text as is_text_of};
 ghost use Rattle.jt_image.specs.Effect.{goes_on as goes_on_of, jumps as jumps_of, branches as branches_of, may_return as may_return_of, effect as effect_of};
 ghost use Rattle.jt_image.specs.Readers.{header_of};
+ghost use Rattle.jt_image.specs.Typed.{max_entries};
 ghost use Rattle.jt_image.specs.declared.kind.Kind.{Kind};
 ghost use Rattle.jt_verify.specs.Typing.{EffectGives, AreWithin};
 
 use crate::shape::Shape;
 use jt_image::{Code, ConstantRef, Flaw, Instruction, Kind, UnitHeader};
 use jt_value::NoMemory;
+use std::alloc::Global;
 
 /// The points that an instruction leads to.
 #[derive(Clone, Copy, Debug, PartialEq, Eq)]
@@ -22,17 +24,6 @@ pub(crate) struct Leads {
 pub(crate) enum EffectError {
     Flaw(Flaw),
     NoMemory,
-}
-
-impl From<Flaw> for EffectError {
-    ghost use Rattle.std.specs.Prelude.{◌≡◌};
-    ghost use Rattle.jt_verify.specs.declared.typing.EffectError.TheVariants as errors;
-
-    ghost from_gives = { λ f e. e ≡ errors.Flaw f };
-
-    fn from(flaw: Flaw) -> EffectError {
-        EffectError::Flaw(flaw)
-    }
 }
 
 impl From<NoMemory> for EffectError {
@@ -109,13 +100,15 @@ fn bad_index<T>() -> Result<T, EffectError>
 
 /// Changes the shape as the instruction at a point does, and says where it leads.
 pub(crate) fn effect<C: Code>(
+    alloc: Global,
     code: &C,
     header: &UnitHeader,
     point: usize,
     instruction: Instruction,
     shape: &mut Shape,
 ) -> Result<Leads, EffectError>
-    requires { point < header.now.instructions }
+    requires point { point < header.now.instructions }
+    requires small { length shape.old ≤ max_entries }
     ensures within { IfOk result (λ l. AreWithin header.now.instructions l) }
     ensures gives { (u : Section) → header.now ≡ header_of u → EffectGives shape.new result (effect_of (C.code code.now) u point instruction shape.old) }
 {
@@ -124,14 +117,14 @@ pub(crate) fn effect<C: Code>(
             if constant as usize >= code.constants() {
                 return bad_index();
             }
-            shape.push(Kind::Value)?;
+            shape.push(alloc, Kind::Value)?;
             goes_on(header, point)
         }
         Instruction::GLoad { global } => {
             if global >= u32::from(code.globals()) {
                 return bad_index();
             }
-            shape.push(Kind::Value)?;
+            shape.push(alloc, Kind::Value)?;
             goes_on(header, point)
         }
         Instruction::GStore { global } => {
@@ -147,8 +140,8 @@ pub(crate) fn effect<C: Code>(
         }
         Instruction::Dup => {
             shape.pop_value()?;
-            shape.push(Kind::Value)?;
-            shape.push(Kind::Value)?;
+            shape.push(alloc, Kind::Value)?;
+            shape.push(alloc, Kind::Value)?;
             goes_on(header, point)
         }
         Instruction::Emit { flag } => {

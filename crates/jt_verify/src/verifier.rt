@@ -1,6 +1,6 @@
 //! The verifier: it follows each path through a unit, and keeps the shape of each point that it comes to.
-ghost use Rattle.std.specs.Prelude.{◌≡◌, ℕ, ◌+◌, ◌<◌, [], ◌∷◌, ◌++◌, None, length, replicate, IfOk, IfErr, OnOk, MatchResult};
-ghost use Rattle.jt_image.specs.Typed.{IsTyped, IsTypedUnit, Equal};
+ghost use Rattle.std.specs.Prelude.{◌≡◌, ◌<◌, ◌≤◌, [], ◌∷◌, ◌++◌, None, length, replicate, IfOk, IfErr, OnOk, MatchResult};
+ghost use Rattle.jt_image.specs.Typed.{IsTyped, IsTypedUnit, Equal, max_entries};
 ghost use Rattle.jt_verify.specs.Typing.{AreWithin};
 ghost use Rattle.jt_verify.specs.Working.{unit_of, IsUnit, IsWorking, Arrives, Clashes, Steps, sent, work_left, RefusesUnit};
 ghost use Rattle.jt_verify.specs.Refusing.{RefusalHolds};
@@ -43,6 +43,7 @@ fn arrive(shapes: &[Option<Shape>], unit: usize, path: &Path) -> Result<bool, Re
 
 // Changes a shape as the instruction at a point does.
 fn step<C: Code>(
+    alloc: Global,
     code: &C,
     unit: usize,
     header: &UnitHeader,
@@ -51,13 +52,14 @@ fn step<C: Code>(
 ) -> Result<Leads, Refusal>
     requires unit { IsUnit (C.code code.now) unit header.now }
     requires point { point < header.now.instructions }
+    requires small { length shape.old ≤ max_entries }
     ensures steps { Steps (C.code code.now) (unit_of (C.code code.now) unit) unit point shape.old shape.new result }
     ensures within { IfOk result (λ l. AreWithin header.now.instructions l) }
 {
     let Some(instruction) = code.instruction(unit, point) else {
         unreachable!()
     };
-    match effect(code, header, point, instruction, shape) {
+    match effect(alloc, code, header, point, instruction, shape) {
         Ok(leads) => Ok(leads),
         Err(EffectError::Flaw(flaw)) => Err(Refusal::Flaw { flaw, unit, point }),
         Err(EffectError::NoMemory) => Err(Refusal::NoMemory),
@@ -65,12 +67,12 @@ fn step<C: Code>(
 }
 
 // Sends a shape on to each point that is led to; the next one is followed first.
-fn send(alloc: Global, paths: &mut Vec<Path>, leads: Leads, shape: Shape) -> Result<(), NoMemory>
+fn send(paths: &mut Vec<Path>, leads: Leads, shape: Shape) -> Result<(), NoMemory>
     ensures { OnOk result (paths.new.items ≡ paths.old.items ++ sent leads shape) }
 {
     match (leads.next, leads.target) {
         (Some(next), Some(target)) => {
-            let copy = shape.try_clone(alloc)?;
+            let copy = shape.share()?;
             paths.push(Path { point: target, shape: copy })?;
             paths.push(Path { point: next, shape })?;
         }
@@ -102,10 +104,10 @@ fn follow<C: Code>(
         return Ok(());
     }
     let Path { point, mut shape } = path;
-    let known = shape.try_clone(alloc)?;
-    let leads = step(code, unit, header, point, &mut shape)?;
+    let known = shape.share()?;
+    let leads = step(alloc, code, unit, header, point, &mut shape)?;
     shapes[point] = Some(known);
-    send(alloc, paths, leads, shape)?;
+    send(paths, leads, shape)?;
     Ok(())
 }
 
@@ -136,7 +138,7 @@ fn verify_unit<C: Code>(
     }
     let mut shapes = unknown_shapes(alloc, header.instructions)?;
     let mut paths: Vec<Path> = Vec::new(alloc);
-    paths.push(Path { point: 0, shape: Shape::new(alloc) })?;
+    paths.push(Path { point: 0, shape: Shape::new() })?;
     'paths: while let Some(path) = paths.pop() {
         follow(alloc, code, unit, header, path, &mut shapes, &mut paths)?;
     }

@@ -25,6 +25,11 @@ step-requires-clause-point g c =
     let lt = in_table k (unit_of k c.args.unit) c.args.shapes.now.items c.args.paths.now.items c.args.path c.requires.works in
     omega (arith, lt, c.requires.works.len, ap (λ (h : UnitHeader). h.instructions) c.requires.unit.header)
 
+pub step-requires-clause-small : goal.step-requires-clause-small
+step-requires-clause-small g c =
+    let new = rw (c.deref.ensures.value, c.if-is_known.false) at c.in_ok-is_known.ensures in
+    new.0
+
 pub returns-in_err-leads-clause-err : goal.returns-in_err-leads-clause-err
 returns-in_err-leads-clause-err g c =
     let k = g.C.Code.code c.args.code.now in

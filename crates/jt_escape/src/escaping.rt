@@ -1,0 +1,82 @@
+//! The five characters that HTML gives a meaning, written as its entities.
+ghost use Rattle.std.specs.Prelude.{◌≡◌, ◌+◌, ◌<◌, ◌++◌, length, option_map, OnOk, OnErr, string_bytes, string_len, string_capacity};
+ghost use Rattle.jt_escape.specs.Escaping.{escaped, entity};
+ghost use Rattle.jt_escape.specs.Appending.{Extends};
+
+use jt_value::NoMemory;
+use std::alloc::AllocError;
+
+/// Appends the text with `&`, `<`, `>`, `'` and `"` written as `&amp;`, `&lt;`, `&gt;`, `&#39;` and
+/// `&#34;`. Where memory is refused, the string keeps the bytes that it had.
+pub fn escape_into(text: &str, into: &mut String) -> Result<(), NoMemory>
+    ensures ok { OnOk result (string_bytes into.new ≡ string_bytes into.old ++ escaped text.now) }
+    ensures unchanged { OnErr result (string_bytes into.new ≡ string_bytes into.old) }
+
+    // It fails only where the string had to grow.
+    ensures full { OnErr result (string_capacity into.old < string_len into.old + length (escaped text.now)) }
+{
+    let start = into.len();
+    if append_escaped(text, into).is_err() {
+        into.truncate(start);
+        return Err(NoMemory);
+    }
+    Ok(())
+}
+
+/// Appends the escaped text. A refusal leaves what was appended before it.
+pub(crate) fn append_escaped(text: &str, into: &mut String) -> Result<(), AllocError>
+    ensures ok { OnOk result (string_bytes into.new ≡ string_bytes into.old ++ escaped text.now) }
+    ensures full { OnErr result (string_capacity into.old < string_len into.old + length (escaped text.now)) }
+    ensures grown { Extends (string_bytes into.old) (string_bytes into.new) }
+{
+    // All before `written` is appended. What lies between it and `at` needs no entity.
+    let mut written = 0;
+    for (at, byte) in text.as_bytes().iter().enumerate() {
+        if let Some(entity) = entity_of(*byte) {
+            into.push_str(&text[written..at])?;
+            into.push_str(entity)?;
+            written = at + 1;
+        }
+    }
+    into.push_str(&text[written..])?;
+    Ok(())
+}
+
+/// What stands for a byte, if it can't stand for itself.
+fn entity_of(byte: u8) -> Option<&'static str>
+    ensures { option_map (λ text. text.now) result ≡ entity byte }
+{
+    match byte {
+        b'&' => Some("&amp;"),
+        b'<' => Some("&lt;"),
+        b'>' => Some("&gt;"),
+        b'\'' => Some("&#39;"),
+        b'"' => Some("&#34;"),
+        _ => None,
+    }
+}
+
+#[cfg(test)]
+mod tests {
+    use super::*;
+    use std::test::Fail;
+
+    #[test]
+    fn escapes_the_five_characters(rt: HostRuntime) -> Result<(), Fail> {
+        for (text, written) in [
+            ("", ""),
+            (
+                "<b id=\"x\">'&'</b>",
+                "&lt;b id=&#34;x&#34;&gt;&#39;&amp;&#39;&lt;/b&gt;",
+            ),
+            ("&lt;", "&amp;lt;"),
+            ("größer als 3 €", "größer als 3 €"),
+            ("ä<ü", "ä&lt;ü"),
+        ] {
+            let mut into = String::from_str(rt.alloc(), ">")?;
+            escape_into(text, &mut into)?;
+            assert_eq!(rt; into.strip_prefix(">"), Some(written));
+        }
+        Ok(())
+    }
+}

@@ -1,0 +1,338 @@
+-- The spelling of a code is read as that code.
+use Rattle.std.proofs.Common.{◌≡◌, ℕ, zero, suc, ◌+◌, ◌<◌, ◌≤◌, ◌^◌, Bool, true, false, cond, ltb, leb, eqb, List, [], ◌∷◌, ◌++◌, length, map, take, drop, Option, Some, None, Result, Ok, Err, refl, sym, ap, subst, ◌∙◌, arith, append_assoc, nat_cmp}
+use Rattle.std.specs.Prelude.{ℤ, ◌==◌, ◌&&◌, ◌||◌, ◌≢◌, not, nat_lt, nat_le, slice_get, IsUtf8, IfOk, MatchResult}
+use Rattle.std.specs.Int.{w16, w32, w64, to_le_bytes, cast_signed, cast_unsigned}
+use Rattle.std.specs.List.{flat_map, AllByRecursion}
+use Rattle.std.specs.Str.{bytes_eq}
+use Rattle.std.proofs.Math.Facts.{Fits-of_z, Fits-lt-pow}
+use Rattle.std.proofs.lemmas.Int.{to_z-of_z}
+use Rattle.std.proofs.lemmas.Slice.Eq.{bytes_eq-Decides}
+use Rattle.std.proofs.lemmas.Bool.{lt-ltb, le-leb, le-ltb}
+use Rattle.std.proofs.lemmas.Bool.Decides.{nat_tests}
+use Rattle.std.proofs.lemmas.List.{append-nil, length-append, take_at, drop_at}
+use Rattle.std.proofs.lemmas.List.Folds.{flat_map-map}
+use Rattle.jt_image.specs.declared.error.ImageError.{ImageError}
+use Rattle.jt_image.specs.declared.error.ImageError.TheVariants.{BadMagic, BadVersion, Truncated, Trailing, BadText, BadOpcode, BadTable, LimitPassed, NoMemory}
+use Rattle.jt_image.specs.declared.instruction.Instruction.{Instruction}
+use Rattle.jt_image.specs.declared.instruction.Instruction.TheVariants as op
+use Rattle.jt_image.specs.Code.{Constant, undefined, nothing, truth_value, number, text, markup, Name, Section, Code}
+use Rattle.jt_image.specs.Spelling.{magic, version, name_bytes, constant_bytes, header_bytes, instruction_bytes, spelling}
+use Rattle.jt_image.specs.IsCode.{IsName, Ascend, AreDistinct, IsConstant, IsInstruction, IsSection, total_len, HasEntry, IsCode, max_locals, max_instructions, max_bytes}
+use Rattle.jt_image.specs.Reading.{◌>>=◌, Gives, check, number_at, byte_at, text_at, is_used, may_follow, slot_at, name_text_at, name_at, names_at, long_text_at, constant_of, constant_at, constants_at, Header, header_total, is_first, parameters_at, kind_at, locals_at, len_at, header_of, header_at, headers_at, known, known_of, instruction_of, instruction_at, instructions_at, section_of, section_at, sections_at, magic_at, start_at, units_at, all_names_at, all_constants_at, code_of}
+use Rattle.jt_image.proofs.Parts.{header_total-push, is_first-push, is_used-push}
+use Rattle.jt_image.proofs.Found.{Read, IsBytes, all_at, wide16, wide32, wide64, AllGood}
+use Rattle.jt_image.proofs.Sound.{good_instruction, IsFree, IsNext, IsNamed, short_bytes, long_bytes, IsPlain, IsHeader, head_bytes, code_bytes, head_of, HasCode}
+use Rattle.jt_image.proofs.Whole.{IsSpelledBy, code_found, may_follow-push, AreNames, good_constant, AreConstants, good_header, HasFirst, AreUnits, units_bytes, head_spelled, length-map_of}
+use Rattle.jt_image.proofs.Again.{number_again, text_again, bind_again, many_again, each_again}
+
+-- a test that holds
+check_again : {A : Type 0} (b : Bool) (d : ImageError) (r : Result A ImageError) → b ≡ true → check b d r ≡ r
+check_again true d r e = refl
+check_again false d r e = absurd cc
+
+-- ---- names
+
+slot_again : (globals : ℕ) (before : List Name) (slot : ℕ) (rest : List ℕ) → globals < 2 ^ 16 → IsFree globals before slot → slot_at globals before (to_le_bytes w16 slot ++ rest) ≡ Ok (slot, rest)
+unfolding slot_at
+slot_again globals before slot rest small h =
+    let below : ltb slot globals ≡ true = lt-ltb _ _ h.below in
+    let test : (nat_lt slot globals && not (is_used slot before)) ≡ true = rw (below, h.free) refl in
+    bind_again (number_at w16 (to_le_bytes w16 slot ++ rest)) (λ s. check (nat_lt s.0 globals && not (is_used s.0 before)) BadTable (Ok s)) slot rest (Ok (slot, rest)) (number_again w16 (2 ^ 16) wide16 slot rest (omega (arith, h.below, small)))
+      (check_again (nat_lt slot globals && not (is_used slot before)) BadTable (Ok (slot, rest)) test)
+
+name_text_again : (before : List Name) (t rest : List ℕ) → IsNext before t → name_text_at before (short_bytes t ++ rest) ≡ Ok (t, rest)
+unfolding name_text_at
+name_text_again before t rest h =
+    ap (name_text_at before) (append_assoc (to_le_bytes w16 (length t)) t rest)
+    ∙ bind_again (number_at w16 (to_le_bytes w16 (length t) ++ (t ++ rest))) (λ len. text_at len.0 len.1 >>= λ t. check (may_follow before t.0) BadTable (Ok t)) (length t) (t ++ rest) (Ok (t, rest)) (number_again w16 (2 ^ 16) wide16 (length t) (t ++ rest) h.fits)
+      (bind_again (text_at (length t) (t ++ rest)) (λ t. check (may_follow before t.0) BadTable (Ok t)) t rest (Ok (t, rest)) (text_again t rest h.utf8)
+        (check_again (may_follow before t) BadTable (Ok (t, rest)) h.follows))
+
+name_again : (globals : ℕ) → globals < 2 ^ 16 → (before : List Name) (n : Name) (rest : List ℕ) → IsNamed globals before n → name_at globals before (name_bytes n ++ rest) ≡ Ok (n, rest)
+unfolding name_at
+name_again globals small before n rest h =
+    ap (name_at globals before) (append_assoc (to_le_bytes w16 n.slot) (short_bytes n.text) rest)
+    ∙ bind_again (slot_at globals before (to_le_bytes w16 n.slot ++ (short_bytes n.text ++ rest))) (λ slot. name_text_at before slot.1 >>= λ t. Ok (record { slot = slot.0; text = t.0 }, t.1)) n.slot (short_bytes n.text ++ rest) (Ok (n, rest)) (slot_again globals before n.slot (short_bytes n.text ++ rest) small h.slot)
+      (bind_again (name_text_at before (short_bytes n.text ++ rest)) (λ t. Ok (record { slot = n.slot; text = t.0 }, t.1)) n.text rest (Ok (n, rest)) (name_text_again before n.text rest h.next) refl)
+
+-- none of these slots has a name yet
+abbrev IsClear : List Name → List Name → Type 0
+IsClear before ns = AllByRecursion (λ m. is_used m.slot before ≡ false) ns
+
+-- the first of these may stand behind those before
+abbrev Starts : List Name → List Name → Type 0
+Starts before [] = Unit {0}
+Starts before (n ∷ ns) = may_follow before n.text ≡ true
+
+unequal : (a b : ℕ) → a ≢ b → eqb a b ≡ false
+unequal a b ne = grind (arith, nat_tests)
+
+still_clear : (before : List Name) (n : Name) (ns : List Name) → IsClear before ns → AllByRecursion (λ m. n.slot ≢ m.slot) ns → IsClear (before ++ n ∷ []) ns
+still_clear before n [] clear ne = tt
+still_clear before n (m ∷ ns) clear ne =
+    let free : is_used m.slot before ≡ false = clear.0 in
+    let other : eqb n.slot m.slot ≡ false = unequal n.slot m.slot ne.0 in
+    (is_used-push m.slot before n ∙ rw (free, other) refl, still_clear before n ns clear.1 ne.1)
+
+next_starts : (before : List Name) (n : Name) (ns : List Name) → Ascend (n ∷ ns) → Starts (before ++ n ∷ []) ns
+next_starts before n [] h = tt
+next_starts before n (m ∷ ns) h = may_follow-push before n m.text ∙ h.0
+
+rest_ascends : (n : Name) (ns : List Name) → Ascend (n ∷ ns) → Ascend ns
+rest_ascends n [] h = tt
+rest_ascends n (m ∷ ns) h = h.1
+
+named : (globals : ℕ) (before ns : List Name) → AllByRecursion (IsName globals) ns → Ascend ns → AreDistinct ns → IsClear before ns → Starts before ns → AllGood (IsNamed globals) before ns
+named globals before [] all up distinct clear starts = tt
+named globals before (n ∷ ns) all up distinct clear starts =
+    (record { slot = record { below = all.0.slot; free = clear.0 }; next = record { fits = all.0.fits; utf8 = all.0.utf8; follows = starts } },
+     named globals (before ++ n ∷ []) ns all.1 (rest_ascends n ns up) distinct.1 (still_clear before n ns clear.1 distinct.0) (next_starts before n ns up))
+
+all_clear : (ns : List Name) → IsClear [] ns
+all_clear [] = tt
+all_clear (n ∷ ns) = (refl, all_clear ns)
+
+first_starts : (globals : ℕ) (ns : List Name) → AllByRecursion (IsName globals) ns → Starts [] ns
+first_starts globals [] all = tt
+first_starts globals (n ∷ ns) all = lt-ltb _ _ all.0.some
+
+names_again : (globals : ℕ) → globals < 2 ^ 16 → (ns : List Name) (rest : List ℕ) → AreNames globals ns → all_names_at globals (to_le_bytes w16 (length ns) ++ (flat_map name_bytes ns ++ rest)) ≡ Ok (ns, rest)
+unfolding all_names_at
+names_again globals small ns rest h =
+    bind_again (number_at w16 (to_le_bytes w16 (length ns) ++ (flat_map name_bytes ns ++ rest))) (λ n. names_at globals n.0 n.1) (length ns) (flat_map name_bytes ns ++ rest) (Ok (ns, rest)) (number_again w16 (2 ^ 16) wide16 (length ns) (flat_map name_bytes ns ++ rest) h.count)
+      (many_again (name_at globals) name_bytes (IsNamed globals) (name_again globals small) [] ns rest (named globals [] ns h.all h.ascend h.distinct (all_clear ns) (first_starts globals ns h.all)))
+
+-- ---- constants
+
+long_text_again : (t rest : List ℕ) → (length t < 2 ^ 32) × IsUtf8 t → long_text_at (long_bytes t ++ rest) ≡ Ok (t, rest)
+unfolding long_text_at
+long_text_again t rest h =
+    ap long_text_at (append_assoc (to_le_bytes w32 (length t)) t rest)
+    ∙ bind_again (number_at w32 (to_le_bytes w32 (length t) ++ (t ++ rest))) (λ len. text_at len.0 len.1) (length t) (t ++ rest) (Ok (t, rest)) (number_again w32 (2 ^ 32) wide32 (length t) (t ++ rest) h.0) (text_again t rest h.1)
+
+constant_again : (before : List Constant) (x : Constant) (rest : List ℕ) → IsConstant x → constant_at (constant_bytes x ++ rest) ≡ Ok (x, rest)
+unfolding constant_at constant_of
+constant_again before undefined rest h = refl
+constant_again before nothing rest h = refl
+constant_again before (truth_value false) rest h = refl
+constant_again before (truth_value true) rest h = refl
+constant_again before (number z) rest h =
+    let bits = cast_unsigned w64 z in
+    bind_again (number_at w64 (to_le_bytes w64 bits ++ rest)) (λ n. Ok (number (cast_signed w64 n.0), n.1)) bits rest (Ok (number z, rest)) (number_again w64 (2 ^ 64) wide64 bits rest (Fits-lt-pow {w = w64} {n = bits} (Fits-of_z {w = w64} {z = z} h)))
+      (ap (λ (i : ℤ). let r : Constant × List ℕ = (number i, rest) in Ok r) (to_z-of_z w64 z h))
+constant_again before (text t) rest h = bind_again (long_text_at (long_bytes t ++ rest)) (λ t. Ok (text t.0, t.1)) t rest (Ok (text t, rest)) (long_text_again t rest h) refl
+constant_again before (markup t) rest h = bind_again (long_text_at (long_bytes t ++ rest)) (λ t. Ok (markup t.0, t.1)) t rest (Ok (markup t, rest)) (long_text_again t rest h) refl
+
+good_constants : (before cs : List Constant) → AllByRecursion IsConstant cs → AllGood good_constant before cs
+good_constants before [] h = tt
+good_constants before (x ∷ cs) h = (h.0, good_constants (before ++ x ∷ []) cs h.1)
+
+constants_again : (cs : List Constant) (rest : List ℕ) → AreConstants cs → all_constants_at (to_le_bytes w16 (length cs) ++ (flat_map constant_bytes cs ++ rest)) ≡ Ok (cs, rest)
+unfolding all_constants_at
+constants_again cs rest h =
+    bind_again (number_at w16 (to_le_bytes w16 (length cs) ++ (flat_map constant_bytes cs ++ rest))) (λ n. constants_at n.0 n.1) (length cs) (flat_map constant_bytes cs ++ rest) (Ok (cs, rest)) (number_again w16 (2 ^ 16) wide16 (length cs) (flat_map constant_bytes cs ++ rest) h.0)
+      (many_again (λ _. constant_at) constant_bytes good_constant constant_again [] cs rest (good_constants [] cs h.1))
+
+-- ---- headers
+
+parameters_again : (first : Bool) (p : ℕ) (rest : List ℕ) → IsPlain first p → parameters_at first (p ∷ rest) ≡ Ok (p, rest)
+unfolding parameters_at
+parameters_again first p rest plain = check_again (not first || p == 0) BadTable (Ok (p, rest)) (holds first plain)
+  where
+    holds : (f : Bool) → IsPlain f p → (not f || eqb p 0) ≡ true
+    holds true h = let e : p ≡ 0 = h refl in rw e refl
+    holds false h = refl
+
+kind_again : (first : Bool) (k : ℕ) (rest : List ℕ) → k ≤ 1 → IsPlain first k → kind_at first (k ∷ rest) ≡ Ok (k, rest)
+unfolding kind_at
+kind_again first k rest le plain = check_again (nat_le k (cond first 0 1)) BadTable (Ok (k, rest)) (holds first plain)
+  where
+    holds : (f : Bool) → IsPlain f k → leb k (cond f 0 1) ≡ true
+    holds true h = le-leb _ _ (omega (arith, h refl))
+    holds false h = le-leb _ _ le
+
+locals_again : (p n : ℕ) (rest : List ℕ) → n ≤ max_locals → p ≤ n → locals_at p (to_le_bytes w16 n ++ rest) ≡ Ok (n, rest)
+unfolding locals_at
+locals_again p n rest small within =
+    bind_again (number_at w16 (to_le_bytes w16 n ++ rest)) (λ n. check (nat_le n.0 max_locals) LimitPassed (check (nat_le p n.0) BadTable (Ok n))) n rest (Ok (n, rest)) (number_again w16 (2 ^ 16) wide16 n rest (omega (arith, small)))
+      (check_again (nat_le n max_locals) LimitPassed (check (nat_le p n) BadTable (Ok (n, rest))) (le-leb _ _ small) ∙ check_again (nat_le p n) BadTable (Ok (n, rest)) (le-leb _ _ within))
+
+len_again : (total n : ℕ) (rest : List ℕ) → total + n ≤ max_instructions → len_at total (to_le_bytes w32 n ++ rest) ≡ Ok (n, rest)
+unfolding len_at
+len_again total n rest small =
+    bind_again (number_at w32 (to_le_bytes w32 n ++ rest)) (λ n. check (nat_le (total + n.0) max_instructions) LimitPassed (Ok n)) n rest (Ok (n, rest)) (number_again w32 (2 ^ 32) wide32 n rest (omega (arith, small)))
+      (check_again (nat_le (total + n) max_instructions) LimitPassed (Ok (n, rest)) (le-leb _ _ small))
+
+header_again : (first : Bool) (total : ℕ) (h : Header) (rest : List ℕ) → IsHeader first total h → header_of first total (head_bytes h ++ rest) ≡ Ok (h, rest)
+unfolding header_of
+header_again first total h rest g =
+    let after = to_le_bytes w16 h.locals ++ (to_le_bytes w32 h.len ++ rest) in
+    ap (λ (t : List ℕ). header_of first total (h.parameters ∷ h.kind ∷ t)) (append_assoc (to_le_bytes w16 h.locals) (to_le_bytes w32 h.len) rest)
+    ∙ bind_again (parameters_at first (h.parameters ∷ h.kind ∷ after)) (λ p. kind_at first p.1 >>= λ k. locals_at p.0 k.1 >>= λ l. len_at total l.1 >>= λ n. Ok (record { parameters = p.0; kind = k.0; locals = l.0; len = n.0 }, n.1)) h.parameters (h.kind ∷ after) (Ok (h, rest)) (parameters_again first h.parameters (h.kind ∷ after) g.plain)
+    (bind_again (kind_at first (h.kind ∷ after)) (λ k. locals_at h.parameters k.1 >>= λ l. len_at total l.1 >>= λ n. Ok (record { parameters = h.parameters; kind = k.0; locals = l.0; len = n.0 }, n.1)) h.kind after (Ok (h, rest)) (kind_again first h.kind after g.kind g.emits)
+    (bind_again (locals_at h.parameters after) (λ l. len_at total l.1 >>= λ n. Ok (record { parameters = h.parameters; kind = h.kind; locals = l.0; len = n.0 }, n.1)) h.locals (to_le_bytes w32 h.len ++ rest) (Ok (h, rest)) (locals_again h.parameters h.locals (to_le_bytes w32 h.len ++ rest) g.locals g.within)
+    (bind_again (len_at total (to_le_bytes w32 h.len ++ rest)) (λ n. Ok (record { parameters = h.parameters; kind = h.kind; locals = h.locals; len = n.0 }, n.1)) h.len rest (Ok (h, rest)) (len_again total h.len rest g.fits) refl)))
+
+-- ---- instructions
+
+-- the next reader reads on, where no bytes are read
+step_again : {A B : Type 0} (r : Result A ImageError) (f : A → Result B ImageError) (x : A) (y : Result B ImageError) → r ≡ Ok x → f x ≡ y → (r >>= f) ≡ y
+step_again {A} {B} r f x y e g = ap (λ (q : Result A ImageError). q >>= f) e ∙ g
+
+-- each beginning of the fields is in order
+by_fields : (i j0 j1 j2 : Instruction) (opcode a b c : ℕ) (rest : List ℕ) → b < 2 ^ 16 → c < 2 ^ 32 → known_of opcode 0 0 0 ≡ Ok j0 → known_of opcode a 0 0 ≡ Ok j1 → known_of opcode a b 0 ≡ Ok j2 → known_of opcode a b c ≡ Ok i
+    → instruction_at (opcode ∷ a ∷ (to_le_bytes w16 b ++ to_le_bytes w32 c) ++ rest) ≡ Ok (i, rest)
+unfolding instruction_at
+by_fields i j0 j1 j2 opcode a b c rest small_b small_c e0 e1 e2 e3 =
+    ap (λ (t : List ℕ). instruction_at (opcode ∷ a ∷ t)) (append_assoc (to_le_bytes w16 b) (to_le_bytes w32 c) rest)
+    ∙ step_again (known_of opcode 0 0 0) (λ _. byte_at (a ∷ (to_le_bytes w16 b ++ (to_le_bytes w32 c ++ rest))) >>= λ a. known_of opcode a.0 0 0 >>= λ _. number_at w16 a.1 >>= λ b. known_of opcode a.0 b.0 0 >>= λ _. number_at w32 b.1 >>= λ c. known_of opcode a.0 b.0 c.0 >>= λ i. Ok (i, c.1)) j0 (Ok (i, rest)) e0
+    (step_again (known_of opcode a 0 0) (λ _. number_at w16 (to_le_bytes w16 b ++ (to_le_bytes w32 c ++ rest)) >>= λ b. known_of opcode a b.0 0 >>= λ _. number_at w32 b.1 >>= λ c. known_of opcode a b.0 c.0 >>= λ i. Ok (i, c.1)) j1 (Ok (i, rest)) e1
+    (bind_again (number_at w16 (to_le_bytes w16 b ++ (to_le_bytes w32 c ++ rest))) (λ b. known_of opcode a b.0 0 >>= λ _. number_at w32 b.1 >>= λ c. known_of opcode a b.0 c.0 >>= λ i. Ok (i, c.1)) b (to_le_bytes w32 c ++ rest) (Ok (i, rest)) (number_again w16 (2 ^ 16) wide16 b (to_le_bytes w32 c ++ rest) small_b)
+    (step_again (known_of opcode a b 0) (λ _. number_at w32 (to_le_bytes w32 c ++ rest) >>= λ c. known_of opcode a b c.0 >>= λ i. Ok (i, c.1)) j2 (Ok (i, rest)) e2
+    (bind_again (number_at w32 (to_le_bytes w32 c ++ rest)) (λ c. known_of opcode a b c.0 >>= λ i. Ok (i, c.1)) c rest (Ok (i, rest)) (number_again w32 (2 ^ 32) wide32 c rest small_c)
+    (step_again (known_of opcode a b c) (λ i. Ok (i, rest)) i (Ok (i, rest)) e3 refl)))))
+
+only_c : (i j : Instruction) (opcode c : ℕ) (rest : List ℕ) → c < 2 ^ 32 → known_of opcode 0 0 0 ≡ Ok j → known_of opcode 0 0 c ≡ Ok i → instruction_at (opcode ∷ 0 ∷ (to_le_bytes w16 0 ++ to_le_bytes w32 c) ++ rest) ≡ Ok (i, rest)
+only_c i j opcode c rest small e f = by_fields i j j j opcode 0 0 c rest (omega arith) small e e e f
+
+instruction_again : (before : List Instruction) (i : Instruction) (rest : List ℕ) → IsInstruction i → instruction_at (instruction_bytes i ++ rest) ≡ Ok (i, rest)
+unfolding known_of instruction_of
+instruction_again before (op.Const c) rest h = only_c (op.Const c) (op.Const 0) 1 c rest h refl refl
+instruction_again before (op.GLoad c) rest h = only_c (op.GLoad c) (op.GLoad 0) 4 c rest h refl refl
+instruction_again before (op.GStore c) rest h = only_c (op.GStore c) (op.GStore 0) 5 c rest h refl refl
+instruction_again before op.Drop rest h = only_c op.Drop op.Drop 6 0 rest (omega arith) refl refl
+instruction_again before op.Dup rest h = only_c op.Dup op.Dup 7 0 rest (omega arith) refl refl
+instruction_again before (op.Emit a) rest h = by_fields (op.Emit a) (op.Emit 0) (op.Emit a) (op.Emit a) 8 a 0 0 rest (omega arith) (omega arith) refl refl refl refl
+instruction_again before (op.Data c) rest h = only_c (op.Data c) (op.Data 0) 9 c rest h refl refl
+instruction_again before (op.Jump c) rest h = only_c (op.Jump c) (op.Jump 0) 10 c rest h refl refl
+instruction_again before (op.JumpIfFalse c) rest h = only_c (op.JumpIfFalse c) (op.JumpIfFalse 0) 11 c rest h refl refl
+instruction_again before (op.JumpIfTrue c) rest h = only_c (op.JumpIfTrue c) (op.JumpIfTrue 0) 12 c rest h refl refl
+instruction_again before op.Return rest h = only_c op.Return op.Return 28 0 rest (omega arith) refl refl
+
+-- ---- units
+
+good_instructions : (before code : List Instruction) → AllByRecursion IsInstruction code → AllGood good_instruction before code
+good_instructions before [] h = tt
+good_instructions before (i ∷ is) h = (h.0, good_instructions (before ++ i ∷ []) is h.1)
+
+section_again : (u : Section) (rest : List ℕ) → HasCode u → section_at (head_of u) (code_bytes u ++ rest) ≡ Ok (u, rest)
+unfolding section_at
+section_again u rest h =
+    bind_again (instructions_at (length u.code) (code_bytes u ++ rest)) (λ code. Ok (section_of (head_of u) code.0, code.1)) u.code rest (Ok (u, rest)) (many_again (λ _. instruction_at) instruction_bytes good_instruction instruction_again [] u.code rest (good_instructions [] u.code h)) refl
+
+codes_of : (us : List Section) → AllByRecursion IsSection us → AllByRecursion HasCode us
+codes_of [] h = tt
+codes_of (u ∷ us) h = (h.0.code, codes_of us h.1)
+
+-- the first unit is plain
+abbrev IsPlainFirst : Bool → List Section → Type 0
+IsPlainFirst first [] = Unit {0}
+IsPlainFirst first (u ∷ us) = IsPlain first u.parameters × IsPlain first u.kind
+
+not_first : (h : Header) (before : List Header) (us : List Section) → IsPlainFirst (is_first (before ++ h ∷ [])) us
+not_first h before [] = tt
+not_first h before (u ∷ us) =
+    let e : is_first (before ++ h ∷ []) ≡ false = is_first-push before h in
+    (λ f. absurd (cc), λ f. absurd (cc))
+
+headers_good : (before : List Header) (us : List Section) → AllByRecursion IsSection us → header_total before + total_len us ≤ max_instructions → IsPlainFirst (is_first before) us → AllGood good_header before (map head_of us)
+headers_good before [] all small plain = tt
+headers_good before (u ∷ us) all small plain =
+    (record { parameters = all.0.parameters; kind = all.0.kind; locals = all.0.locals; within = all.0.within; plain = plain.0; emits = plain.1; fits = omega (arith, small) },
+     headers_good (before ++ head_of u ∷ []) us all.1 (omega (arith, small, header_total-push before (head_of u))) (not_first (head_of u) before us))
+
+plain_first : (us : List Section) → HasFirst us → IsPlainFirst true us
+plain_first [] h = tt
+plain_first (u ∷ us) h =
+    let same : u ≡ h.entry = some_is u h.entry h.is in
+    ((λ _. ap (λ (v : Section). v.parameters) same ∙ h.plain), (λ _. ap (λ (v : Section). v.kind) same ∙ h.emits))
+  where
+    some_is : (x y : Section) → (let o : Option Section = Some x in o ≡ Some y) → x ≡ y
+    some_is x y e = cc
+
+some_units : (us : List Section) → HasFirst us → 0 < length us
+some_units [] h = absurd (none h.entry h.is)
+  where
+    none : (u : Section) → (let o : Option Section = None in o ≡ Some u) → ⊥
+    none u e = cc
+some_units (u ∷ us) h = omega arith
+
+units_again : (us : List Section) → AreUnits us → units_at (units_bytes us) ≡ Ok (us, [])
+unfolding units_at
+units_again us h =
+    let codes = flat_map code_bytes us in
+    let after = flat_map header_bytes us ++ codes in
+    let good = headers_good [] us h.all (omega (arith, h.total)) (plain_first us h.first) in
+    let many : headers_at (length (map head_of us)) (flat_map head_bytes (map head_of us) ++ codes) ≡ Ok (map head_of us, codes) = many_again header_at head_bytes good_header (λ before x rest g. header_again (is_first before) (header_total before) x rest g) [] (map head_of us) codes good in
+    let heads : headers_at (length us) after ≡ Ok (map head_of us, codes) =
+      ap (λ (n : ℕ). headers_at n after) (sym (length-map_of us)) ∙ ap (λ (t : List ℕ). headers_at (length (map head_of us)) (t ++ codes)) (sym (head_spelled us)) ∙ many in
+    let each : sections_at (map head_of us) codes ≡ Ok (us, []) = ap (sections_at (map head_of us)) (sym (append-nil codes)) ∙ each_again section_at code_bytes head_of HasCode section_again [] us [] (codes_of us h.all) in
+    bind_again (number_at w16 (units_bytes us)) (λ n. check (nat_lt 0 n.0) BadTable (headers_at n.0 n.1 >>= λ hs. sections_at hs.0 hs.1)) (length us) after (Ok (us, [])) (number_again w16 (2 ^ 16) wide16 (length us) after h.count)
+      (check_again (nat_lt 0 (length us)) BadTable (headers_at (length us) after >>= λ hs. sections_at hs.0 hs.1) (lt-ltb _ _ (some_units us h.first))
+        ∙ bind_again (headers_at (length us) after) (λ hs. sections_at hs.0 hs.1) (map head_of us) codes (Ok (us, [])) heads each)
+
+-- ---- the whole
+
+magic_again : (rest : List ℕ) → magic_at (magic ++ rest) ≡ Ok rest
+unfolding magic_at
+magic_again rest =
+    let long : ltb (length (magic ++ rest)) 4 ≡ false = le-ltb _ _ (omega arith) in
+    let same : bytes_eq (take 4 (magic ++ rest)) magic ≡ true = (bytes_eq-Decides (take 4 (magic ++ rest)) magic).1 (take_at magic rest 4 refl) in
+    unless_again (ltb (length (magic ++ rest)) 4) Truncated (check (bytes_eq (take 4 (magic ++ rest)) magic) BadMagic (Ok (drop 4 (magic ++ rest)))) long
+    ∙ check_again (bytes_eq (take 4 (magic ++ rest)) magic) BadMagic (Ok (drop 4 (magic ++ rest))) same
+    ∙ ap (λ (t : List ℕ). let r : Result (List ℕ) ImageError = Ok t in r) (drop_at magic rest 4 refl)
+  where
+    unless_again : {A : Type 0} (b : Bool) (d : ImageError) (r : Result A ImageError) → b ≡ false → cond b (Err d) r ≡ r
+    unless_again true d r e = absurd cc
+    unless_again false d r e = refl
+
+start_again : (rest : List ℕ) → start_at (magic ++ (to_le_bytes w16 version ++ rest)) ≡ Ok rest
+unfolding start_at
+start_again rest =
+    step_again (magic_at (magic ++ (to_le_bytes w16 version ++ rest))) (λ rest. number_at w16 rest >>= λ found. check (found.0 == version) BadVersion (Ok found.1)) (to_le_bytes w16 version ++ rest) (Ok rest) (magic_again (to_le_bytes w16 version ++ rest))
+      (bind_again (number_at w16 (to_le_bytes w16 version ++ rest)) (λ found. check (found.0 == version) BadVersion (Ok found.1)) version rest (Ok rest) (number_again w16 (2 ^ 16) wide16 version rest (omega arith)) refl)
+
+-- what a code's entry says of its units
+first_of : (k : Code) → HasEntry k → HasFirst k.units
+first_of k e = record { entry = e.entry; is = e.is; emits = e.emits; plain = e.plain }
+
+-- the code of its spelling
+pub code_again : (k : Code) → IsCode k → code_of (spelling k) ≡ Ok k
+unfolding code_of
+code_again k h =
+    let r4 = units_bytes k.units in
+    let r3 = to_le_bytes w16 (length k.constants) ++ (flat_map constant_bytes k.constants ++ r4) in
+    let r2 = to_le_bytes w16 (length k.names) ++ (flat_map name_bytes k.names ++ r3) in
+    let r1 = to_le_bytes w16 k.globals ++ r2 in
+    check_again (nat_le (length (spelling k)) max_bytes) LimitPassed _ (le-leb _ _ h.bytes)
+    ∙ step_again (start_at (spelling k)) _ r1 (Ok k) (start_again r1)
+    (bind_again (number_at w16 r1) _ k.globals r2 (Ok k) (number_again w16 (2 ^ 16) wide16 k.globals r2 h.globals)
+    (bind_again (all_names_at k.globals r2) _ k.names r3 (Ok k) (names_again k.globals h.globals k.names r3 (record { count = h.count_names; all = h.names; ascend = h.ascend; distinct = h.distinct }))
+    (bind_again (all_constants_at r3) _ k.constants r4 (Ok k) (constants_again k.constants r4 (h.count_constants, h.constants))
+    (bind_again (units_at r4) (λ units. check (length units.1 == 0) Trailing (Ok (record { globals = k.globals; names = k.names; constants = k.constants; units = units.0 }))) k.units [] (Ok k) (units_again k.units (record { count = h.count_units; all = h.units; first = first_of k h.entry; total = h.instructions })) refl))))
+
+-- ---- what decode says
+
+-- what is read from the bytes is spelled so
+pub is_found : (bytes : List ℕ) (r : Result Code ImageError) → IsBytes bytes → Gives (λ k. k) r (code_of bytes) → IfOk r (λ k. IsCode k × (bytes ≡ spelling k))
+is_found bytes (Ok k) fits e = all_at (code_of bytes) (IsSpelledBy bytes) k e (code_found bytes fits)
+is_found bytes (Err d) fits e = tt
+
+-- where there is a code, it is answered, unless memory ran out
+no_fault : (k : Code) (d : ImageError) (read : Result Code ImageError) → read ≡ Ok k → read ≡ Err d → ⊥
+no_fault k d read e f = cc
+
+pub is_only : (k : Code) (r read : Result Code ImageError) → read ≡ Ok k → Gives (λ k. k) r read → MatchResult r (λ i. i ≡ k) (λ e. e ≡ NoMemory)
+is_only k (Ok i) read e g = same (sym g ∙ e)
+  where
+    same : {x y : Code} → (let a : Result Code ImageError = Ok x in a ≡ Ok y) → x ≡ y
+    same e = cc
+is_only k (Err NoMemory) read e g = refl
+is_only k (Err BadMagic) read e g = absurd (no_fault k BadMagic read e g)
+is_only k (Err BadVersion) read e g = absurd (no_fault k BadVersion read e g)
+is_only k (Err Truncated) read e g = absurd (no_fault k Truncated read e g)
+is_only k (Err Trailing) read e g = absurd (no_fault k Trailing read e g)
+is_only k (Err BadText) read e g = absurd (no_fault k BadText read e g)
+is_only k (Err BadOpcode) read e g = absurd (no_fault k BadOpcode read e g)
+is_only k (Err BadTable) read e g = absurd (no_fault k BadTable read e g)
+is_only k (Err LimitPassed) read e g = absurd (no_fault k LimitPassed read e g)

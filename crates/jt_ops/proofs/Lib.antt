@@ -1,0 +1,5 @@
+pub mod Answering
+pub mod Finding
+pub mod Loops
+pub mod Numbers
+pub mod Places

@@ -1,0 +1,166 @@
+-- Lists and texts, one more at the end.
+use Rattle.std.proofs.Common.{◌≡◌, ℕ, zero, suc, ◌+◌, ◌*◌, ◌/◌, ◌%◌, ◌<◌, ◌≤◌, max, min, List, [], ◌∷◌, ◌++◌, length, take, get_or, ℤ, pos, negsuc, ◌+ℤ◌, ◌*ℤ◌, refl, sym, ap, ◌∙◌, append_assoc, add-one, arith, length-append}
+use Rattle.std.specs.List.{repeat}
+use Rattle.std.specs.Int.{div_ceil, w64}
+use Rattle.std.specs.Prelude.{◌≢◌, ◌≤ℤ◌, ◌-ℤ◌, FitsSigned}
+use Rattle.std.proofs.Common.{⊎_elim}
+use Rattle.std.proofs.Math.Nat.{mul-le-mul_right}
+use Rattle.std.proofs.lemmas.Bool.{cases_eq}
+use Rattle.std.proofs.lemmas.Int.{ints, to_z-of_z}
+use Rattle.std.proofs.Common.{rules, to_z, of_z}
+use Rattle.std.proofs.lemmas.List.{append-nil}
+use Rattle.jt_value.proofs.Lists.{more_items, items_view-take_more, items_view-push, items_size-more, items_nesting-more}
+use Rattle.std.specs.Prelude.{Ok, Err, Result}
+use Rattle.std.proofs.Common.{subst}
+use Rattle.jt_value.specs.Tree.{Tree, number, list, Items, no_items, item, size, nesting, items_size, items_nesting}
+use Rattle.jt_value.specs.View.{view, items_view}
+use Rattle.jt_value.specs.declared.value.Value.{Value, Int as IntOf, the_lemmas}
+use Rattle.jt_escape.specs.Escaping.{escaped, escaped_byte}
+use Rattle.jt_escape.proofs.Runs.{escaped_more}
+use Rattle.jt_ops.specs.Joining.{joined_items}
+use Rattle.jt_ops.specs.Ranges.{stepped, range_count, distance, natural, numbers_between}
+
+pub escaped_length_more : (text : List ℕ) (at : ℕ) → at < length text → length (escaped (take (at + 1) text)) ≡ length (escaped (take at text)) + length (escaped_byte (get_or text at 0))
+escaped_length_more text at inside = ap length (escaped_more text at inside) ∙ length-append (escaped (take at text)) (escaped_byte (get_or text at 0))
+
+pub repeat_more : (n : ℕ) (s : List ℕ) → repeat (n + 1) s ≡ repeat n s ++ s
+repeat_more zero s = append-nil s
+repeat_more (suc n) s =
+    ap (λ (m : ℕ). repeat m s) (add-one (suc n))
+    ∙ ap (λ (xs : List ℕ). s ++ xs) (ap (λ (m : ℕ). repeat m s) (sym (add-one n)) ∙ repeat_more n s)
+    ∙ sym (append_assoc s (repeat n s) s)
+
+pub repeat_length : (n : ℕ) (s : List ℕ) → length (repeat n s) ≡ length s * n
+repeat_length zero s = omega arith
+repeat_length (suc n) s = length-append s (repeat n s) ∙ omega (arith, repeat_length n s)
+
+repeat_nothing : (n : ℕ) → repeat {A = ℕ} n [] ≡ []
+repeat_nothing zero = refl
+repeat_nothing (suc n) = repeat_nothing n
+
+-- an empty text repeated is empty
+pub repeat_empty : (n : ℕ) (s : List ℕ) → length s ≡ 0 → [] ≡ repeat n s
+repeat_empty n [] e = sym (repeat_nothing n)
+repeat_empty n (b ∷ bs) e = absurd (omega arith)
+
+pub items_size_more : (vs : List Value) (i : ℕ) (v : Value) → i < length vs → v ≡ get_or vs i v → items_size (items_view (take (i + 1) vs)) ≡ items_size (items_view (take i vs)) + size (view v)
+items_size_more vs i v lt is = ap items_size (items_view-take_more vs i v lt is) ∙ items_size-more _ _
+
+pub items_nesting_more : (vs : List Value) (i : ℕ) (v : Value) → i < length vs → v ≡ get_or vs i v → items_nesting (items_view (take (i + 1) vs)) ≡ max (items_nesting (items_view (take i vs))) (nesting (view v))
+items_nesting_more vs i v lt is = ap items_nesting (items_view-take_more vs i v lt is) ∙ items_nesting-more _ _
+
+pub joined_more : (ts us : Items) (u : Tree) → joined_items ts (more_items us u) ≡ more_items (joined_items ts us) u
+joined_more no_items us u = refl
+joined_more (item t ts) us u = ap (item t) (joined_more ts us u)
+
+-- one more item behind the copies
+pub joined_push : (ts : Items) (before after xs : List Value) (copy v : Value) (i : ℕ) → i < length xs → v ≡ get_or xs i v → after ≡ before ++ copy ∷ [] → view copy ≡ view v
+    → items_view before ≡ joined_items ts (items_view (take i xs)) → items_view after ≡ joined_items ts (items_view (take (i + 1) xs))
+joined_push ts before after xs copy v i lt is push same inv =
+    ap items_view push
+    ∙ items_view-push before copy
+    ∙ ap (λ (u : Tree). more_items (items_view before) u) same
+    ∙ ap (λ (us : Items). more_items us (view v)) inv
+    ∙ sym (joined_more ts (items_view (take i xs)) (view v))
+    ∙ ap (joined_items ts) (sym (items_view-take_more xs i v lt is))
+
+pub joined_none : (ts : Items) → joined_items ts no_items ≡ ts
+joined_none no_items = refl
+joined_none (item t ts) = ap (item t) (joined_none ts)
+
+pub joined_size : (ts us : Items) → items_size (joined_items ts us) ≡ items_size ts + items_size us
+joined_size no_items us = omega arith
+joined_size (item t ts) us = omega (arith, joined_size ts us)
+
+pub joined_nesting : (ts us : Items) → items_nesting (joined_items ts us) ≡ max (items_nesting ts) (items_nesting us)
+joined_nesting no_items us = omega arith
+joined_nesting (item t ts) us = omega (arith, joined_nesting ts us)
+
+nothing_further : (s d : ℤ) → s ≡ s +ℤ pos 0 *ℤ d
+nothing_further s (pos d) = omega (arith, ints)
+nothing_further s (negsuc d) = omega (arith, ints)
+
+pub one_further : (s d : ℤ) (n : ℕ) → (s +ℤ d) +ℤ pos n *ℤ d ≡ s +ℤ pos (suc n) *ℤ d
+one_further s (pos d) n = omega (arith, ints)
+one_further s (negsuc d) n = omega (arith, ints)
+
+pub stepped_more : (n : ℕ) (s d : ℤ) → stepped (n + 1) s d ≡ more_items (stepped n s d) (number (s +ℤ pos n *ℤ d))
+stepped_more zero s d = ap (λ (z : ℤ). item (number z) no_items) (nothing_further s d)
+stepped_more (suc n) s d =
+    let later : stepped (n + 1) (s +ℤ d) d ≡ more_items (stepped n (s +ℤ d) d) (number (s +ℤ pos (suc n) *ℤ d)) =
+        stepped_more n (s +ℤ d) d ∙ ap (λ (z : ℤ). more_items (stepped n (s +ℤ d) d) (number z)) (one_further s d n) in
+    ap (λ (m : ℕ). stepped m s d) (add-one (suc n)) ∙ ap (item (number s)) (ap (λ (m : ℕ). stepped m (s +ℤ d) d) (sym (add-one n)) ∙ later)
+
+-- one more number of a range
+pub stepped_push : (before after : List Value) (next : Value) (n : ℕ) (s d z : ℤ) → after ≡ before ++ next ∷ [] → view next ≡ number z → items_view before ≡ stepped n s d → z ≡ s +ℤ pos n *ℤ d → items_view after ≡ stepped (n + 1) s d
+stepped_push before after next n s d z push shown inv is =
+    ap items_view push
+    ∙ items_view-push before next
+    ∙ ap (λ (u : Tree). more_items (items_view before) u) (shown ∙ ap number is)
+    ∙ ap (λ (us : Items). more_items us (number (s +ℤ pos n *ℤ d))) inv
+    ∙ sym (stepped_more n s d)
+
+one_behind : (n : ℕ) (s d : ℤ) → (s +ℤ pos n *ℤ d) +ℤ d ≡ s +ℤ pos (n + 1) *ℤ d
+one_behind n s (pos d) = omega (arith, ints)
+one_behind n s (negsuc d) = omega (arith, ints)
+
+pub next_number : (n : ℕ) (s d z r : ℤ) → z ≡ s +ℤ pos n *ℤ d → (FitsSigned w64 (z +ℤ d) → r ≡ z +ℤ d) → FitsSigned w64 (s +ℤ pos (n + 1) *ℤ d) → r ≡ s +ℤ pos (n + 1) *ℤ d
+next_number n s d z r is add fits =
+    let e : z +ℤ d ≡ s +ℤ pos (n + 1) *ℤ d = ap (λ (x : ℤ). x +ℤ d) is ∙ one_behind n s d in
+    add (subst (FitsSigned w64) (sym e) fits) ∙ e
+
+pub numbers_nonzero : (start stop step : ℤ) → pos 0 ≢ step → numbers_between start stop step ≡ Ok (list (stepped (range_count start stop step) start step))
+numbers_nonzero start stop (pos zero) n = absurd (n refl)
+numbers_nonzero start stop (pos (suc d)) n = refl
+numbers_nonzero start stop (negsuc d) n = refl
+
+pub stepped_size : (n : ℕ) (s d : ℤ) → items_size (stepped n s d) ≡ n
+stepped_size zero s d = refl
+stepped_size (suc n) s d = omega (arith, stepped_size n (s +ℤ d) d)
+
+pub stepped_nesting : (n : ℕ) (s d : ℤ) → items_nesting (stepped n s d) ≡ 0
+stepped_nesting zero s d = refl
+stepped_nesting (suc n) s d = omega (arith, stepped_nesting n (s +ℤ d) d)
+
+pub below_ceil : (k n d : ℕ) → 0 < d → k < div_ceil n d → k * d < n
+below_ceil k n d h lt =
+    ⊎_elim
+    (λ e. let m : (k + 1) * d ≤ n / d * d = mul-le-mul_right d (omega arith) in omega arith)
+    (λ e. let m : k * d ≤ n / d * d = mul-le-mul_right d (omega arith) in omega arith)
+    (cases_eq (n % d) 0)
+
+-- a number between two in range is in range
+between : (x y z : ℤ) → x ≤ℤ y → y ≤ℤ z → FitsSigned w64 x → FitsSigned w64 z → FitsSigned w64 y
+between x (pos n) (pos m) l h f g = record { sfits = omega (arith, ints, g.sfits) }
+between x (pos n) (negsuc m) l h f g = absurd (omega (arith, ints))
+between (pos m) (negsuc n) z l h f g = absurd (omega (arith, ints))
+between (negsuc m) (negsuc n) z l h f g = record { sfits = omega (arith, ints, f.sfits) }
+
+below_natural : (n : ℕ) (z : ℤ) → n < natural z → pos n ≤ℤ z
+below_natural n (pos m) h = omega (arith, ints)
+below_natural n (negsuc m) h = absurd (omega arith)
+
+-- each number of a range has 64 bits
+pub inside : (start stop step : ℤ) → pos 0 ≢ step → FitsSigned w64 start → FitsSigned w64 stop → (k : ℕ) → k < range_count start stop step → FitsSigned w64 (start +ℤ pos k *ℤ step)
+inside start stop (pos zero) n f g k lt = absurd (n refl)
+inside start stop (pos (suc d)) n f g k lt =
+    let b = below_natural (k * suc d) (stop -ℤ start) (below_ceil k (distance start stop) (suc d) (omega arith) lt) in
+    between start _ stop (omega (arith, ints)) (omega (arith, ints, b)) f g
+inside start stop (negsuc d) n f g k lt =
+    let b = below_natural (k * suc d) (start -ℤ stop) (below_ceil k (distance stop start) (suc d) (omega arith) lt) in
+    between stop _ start (omega (arith, ints, b)) (omega (arith, ints)) g f
+
+-- what a call gives at arguments of 64 bits, which it sees by their bits
+pub count_is : (start stop step : ℤ) (n : ℕ) → FitsSigned w64 start → FitsSigned w64 stop → FitsSigned w64 step → n ≡ range_count (to_z w64 (of_z w64 start)) (to_z w64 (of_z w64 stop)) (to_z w64 (of_z w64 step)) → n ≡ range_count start stop step
+count_is start stop step n f g h e =
+    e
+    ∙ ap (λ (x : ℤ). range_count x (to_z w64 (of_z w64 stop)) (to_z w64 (of_z w64 step))) (to_z-of_z w64 start f)
+    ∙ ap (λ (x : ℤ). range_count start x (to_z w64 (of_z w64 step))) (to_z-of_z w64 stop g)
+    ∙ ap (range_count start stop) (to_z-of_z w64 step h)
+
+pub listed_is : (start step : ℤ) (n : ℕ) (ts : Items) → FitsSigned w64 start → FitsSigned w64 step → ts ≡ stepped n (to_z w64 (of_z w64 start)) (to_z w64 (of_z w64 step)) → ts ≡ stepped n start step
+listed_is start step n ts f g e =
+    e ∙ ap (λ (x : ℤ). stepped n x (to_z w64 (of_z w64 step))) (to_z-of_z w64 start f) ∙ ap (stepped n start) (to_z-of_z w64 step g)
+
+pub view_int : (z : ℤ) → view (IntOf z) ≡ number z
+view_int z = search (rules, the_lemmas)

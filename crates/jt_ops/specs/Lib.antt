@@ -1,0 +1,13 @@
+pub mod OpTable
+pub mod TestTable
+pub mod Limited
+pub mod Operands
+pub mod Arithmetic
+pub mod Joining
+pub mod Membership
+pub mod ItemOf
+pub mod Ranges
+pub mod Comparing
+pub mod Operation
+pub mod Testing
+pub mod Pieces

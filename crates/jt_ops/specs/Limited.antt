@@ -1,0 +1,33 @@
+-- What an operation gives under limits of size and nesting.
+use Rattle.std.specs.Prelude.{◌≡◌, ℕ, Result, Ok, Err, nat_lt, if◌then◌else◌}
+use Rattle.jt_value.specs.Tree.{Tree, size, nesting}
+use Rattle.jt_value.specs.View.{view}
+use Rattle.jt_value.specs.declared.value.Value.{Value}
+use Rattle.jt_value.specs.declared.fault.Fault.{Fault}
+use Rattle.jt_ops.specs.declared.limits.Limits.{Limits}
+use Rattle.jt_ops.specs.declared.limits.OpError.{OpError}
+use Rattle.jt_ops.specs.declared.limits.OpError.TheVariants as error
+use Rattle.jt_value.specs.declared.fault.ValueError.{ValueError}
+use Rattle.jt_value.specs.declared.fault.ValueError.TheVariants as value_error
+
+-- the fault if there is one; else TooLarge where the result's size passes its limit; else TooDeep where its nesting does; else the result
+abbrev pub limited : ℕ → ℕ → Result Tree Fault → Result Tree OpError
+limited most deepest (Err fault) = Err (error.Fault fault)
+limited most deepest (Ok t) =
+    if nat_lt most (size t) then Err error.TooLarge else (if nat_lt deepest (nesting t) then Err error.TooDeep else Ok t)
+
+abbrev pub limited_by : Limits → Result Tree Fault → Result Tree OpError
+limited_by limits given = limited limits.size limits.nesting given
+
+-- a call answers what the operation gives; want of memory says nothing
+abbrev pub Answers : Result Value OpError → Result Tree OpError → Type 0
+Answers (Ok value) wanted = wanted ≡ Ok (view value)
+Answers (Err (error.Fault fault)) wanted = wanted ≡ Err (error.Fault fault)
+Answers (Err error.TooLarge) wanted = wanted ≡ Err error.TooLarge
+Answers (Err error.TooDeep) wanted = wanted ≡ Err error.TooDeep
+Answers (Err error.NoMemory) wanted = Unit {0}
+
+-- why a value could not be printed, as an operation's error
+abbrev pub of_value_error : ValueError → OpError
+of_value_error (value_error.Fault fault) = error.Fault fault
+of_value_error value_error.NoMemory = error.NoMemory

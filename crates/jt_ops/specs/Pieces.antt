@@ -1,0 +1,18 @@
+-- The pieces that a text is put together from.
+use Rattle.std.specs.Prelude.{ℕ, List}
+use Rattle.jt_value.specs.Tree.{Tree, text, markup}
+use Rattle.jt_escape.specs.Escaping.{escaped}
+use Rattle.jt_ops.specs.declared.text.Kind.{Kind}
+use Rattle.jt_ops.specs.declared.text.Kind.TheVariants as kind
+use Rattle.jt_ops.specs.declared.text.Piece.{Piece}
+use Rattle.jt_ops.specs.declared.text.Piece.TheVariants as piece
+
+-- what a piece writes
+abbrev pub written : Piece → List ℕ
+written (piece.Raw t) = t.now
+written (piece.Escaped t) = escaped t.now
+
+-- the value of a text
+abbrev pub of_kind : Kind → List ℕ → Tree
+of_kind kind.Plain bytes = text bytes
+of_kind kind.Markup bytes = markup bytes

@@ -1,0 +1,192 @@
+//! Operators on numbers. A result without 64 signed bits is an overflow.
+ghost use Rattle.std.specs.Prelude.{◌≡◌, ◌≤◌, ◌<◌, ◌≢◌, unsigned_abs, ◌-ℤ◌, ◌*ℤ◌, ℤ, pos, Result, Ok, Err, IfOk, IfErr};
+ghost use Rattle.std.specs.Int.{int_pow};
+ghost use Rattle.jt_value.specs.Tree.{number};
+ghost use Rattle.jt_value.specs.Tree as tree;
+ghost use Rattle.jt_value.specs.View.{view};
+ghost use Rattle.jt_value.specs.declared.fault.Fault.{Fault};
+ghost use Rattle.jt_ops.specs.Arithmetic.{as_number, on_numbers, on_number, in_range, floor};
+ghost use Rattle.jt_ops.specs.Arithmetic as arithmetic;
+
+use crate::operands::{misfit, misfit_of_one};
+use jt_value::{Fault, Value};
+
+/// The sum of two numbers.
+#[tactic(auto, using(crate::proofs::Numbers::in_range_is))]
+pub(crate) fn sum(x: i64, y: i64) -> Result<i64, Fault>
+    ensures { result ≡ arithmetic.sum x y }
+{
+    x.checked_add(y).ok_or(Fault::Overflow)
+}
+
+/// What is left of the first number without the second.
+#[tactic(auto, using(crate::proofs::Numbers::in_range_is))]
+fn difference(x: i64, y: i64) -> Result<i64, Fault>
+    ensures { result ≡ arithmetic.difference x y }
+{
+    x.checked_sub(y).ok_or(Fault::Overflow)
+}
+
+/// The product of two numbers.
+#[tactic(auto, using(crate::proofs::Numbers::in_range_is))]
+pub(crate) fn product(x: i64, y: i64) -> Result<i64, Fault>
+    ensures { result ≡ arithmetic.product x y }
+{
+    x.checked_mul(y).ok_or(Fault::Overflow)
+}
+
+/// The number of a size, with the sign of another number.
+fn with_sign(sign: i64, size: u64) -> Result<i64, Fault>
+    ensures { result ≡ in_range (arithmetic.with_sign sign size) }
+{
+    let signed = if sign < 0 {
+        0i64.checked_sub_unsigned(size)
+    } else {
+        0i64.checked_add_unsigned(size)
+    };
+    signed.ok_or(Fault::Overflow)
+}
+
+/// The quotient of two numbers, rounded down: the sizes' quotient where the signs agree, and else
+/// that quotient rounded up and negated.
+fn quotient(x: i64, y: i64) -> Result<i64, Fault>
+    ensures { result ≡ arithmetic.quotient x y }
+{
+    if y == 0 {
+        return Err(Fault::ZeroDivide);
+    }
+    let size = x.unsigned_abs();
+    let divisor = y.unsigned_abs();
+    let quotient = if (x < 0) == (y < 0) {
+        0i64.checked_add_unsigned(size / divisor)
+    } else {
+        0i64.checked_sub_unsigned(size.div_ceil(divisor))
+    };
+    quotient.ok_or(Fault::Overflow)
+}
+
+/// The size of what the rounded quotient leaves. That it has the divisor's sign and is smaller is
+/// what rounding down means.
+fn rest_size(x: i64, y: i64) -> u64
+    requires { pos 0 ≢ y }
+    ensures left { x -ℤ (floor x y *ℤ y) ≡ arithmetic.with_sign y result }
+    ensures smaller { result < unsigned_abs y }
+{
+    let divisor = y.unsigned_abs();
+    let rest = x.unsigned_abs() % divisor;
+    if (x < 0) == (y < 0) {
+        return rest;
+    }
+    if rest == 0 {
+        return 0;
+    }
+    divisor - rest
+}
+
+/// What the rounded quotient leaves: 0, or of the divisor's sign.
+pub(crate) fn remainder(x: i64, y: i64) -> Result<i64, Fault>
+    ensures { result ≡ arithmetic.remainder x y }
+{
+    if y == 0 {
+        return Err(Fault::ZeroDivide);
+    }
+    with_sign(y, rest_size(x, y))
+}
+
+/// A number to the power of another. A negative exponent doesn't fit.
+fn power(x: i64, exponent: i64) -> Result<i64, Fault>
+    ensures { result ≡ arithmetic.power x exponent }
+{
+    if exponent < 0 {
+        return Err(Fault::BadType);
+    }
+    match u32::try_from(exponent) {
+        Ok(exponent) => x.checked_pow(exponent).ok_or(Fault::Overflow),
+        Err(_) => great_power(x, exponent.unsigned_abs()),
+    }
+}
+
+/// A power whose exponent is so great that all but those of 0, 1 and -1 pass the range.
+#[tactic(auto, using(crate::proofs::Numbers::power_of_zero, crate::proofs::Numbers::power_of_one, crate::proofs::Numbers::power_even, crate::proofs::Numbers::power_odd, crate::proofs::Numbers::power_beyond))]
+fn great_power(x: i64, exponent: u64) -> Result<i64, Fault>
+    requires { 64 ≤ exponent }
+    ensures { result ≡ in_range (int_pow x exponent) }
+{
+    match x {
+        0 => Ok(0),
+        1 => Ok(1),
+        -1 => Ok(if exponent % 2 == 0 { 1 } else { -1 }),
+        _ => Err(Fault::Overflow),
+    }
+}
+
+/// The numbers of two operands.
+fn numbers(left: &Value, right: &Value) -> Result<(i64, i64), Fault>
+    ensures ok { IfOk result (λ n. (view left.now ≡ number n.0) × (view right.now ≡ number n.1)) }
+    ensures err { IfErr result (λ f. (compute : ℤ → ℤ → Result ℤ Fault)
+        → on_numbers compute (view left.now) (view right.now) ≡ Err f) }
+{
+    match (left, right) {
+        (Value::Int(x), Value::Int(y)) => Ok((*x, *y)),
+        _ => Err(misfit(left, right)),
+    }
+}
+
+/// The number of an operand.
+fn number(operand: &Value) -> Result<i64, Fault>
+    ensures ok { IfOk result (λ n. view operand.now ≡ tree.number n) }
+    ensures err { IfErr result (λ f. (compute : ℤ → Result ℤ Fault)
+        → on_number compute (view operand.now) ≡ Err f) }
+{
+    match operand {
+        Value::Int(x) => Ok(*x),
+        _ => Err(misfit_of_one(operand)),
+    }
+}
+
+/// Operator `-`.
+pub(crate) fn subtract(left: &Value, right: &Value) -> Result<i64, Fault>
+    ensures { as_number result ≡ on_numbers arithmetic.difference (view left.now) (view right.now) }
+{
+    let (x, y) = numbers(left, right)?;
+    difference(x, y)
+}
+
+/// Operator `//`.
+pub(crate) fn floor_divide(left: &Value, right: &Value) -> Result<i64, Fault>
+    ensures { as_number result ≡ on_numbers arithmetic.quotient (view left.now) (view right.now) }
+{
+    let (x, y) = numbers(left, right)?;
+    quotient(x, y)
+}
+
+/// Operator `%`.
+pub(crate) fn modulo(left: &Value, right: &Value) -> Result<i64, Fault>
+    ensures { as_number result ≡ on_numbers arithmetic.remainder (view left.now) (view right.now) }
+{
+    let (x, y) = numbers(left, right)?;
+    remainder(x, y)
+}
+
+/// Operator `**`.
+pub(crate) fn raise(left: &Value, right: &Value) -> Result<i64, Fault>
+    ensures { as_number result ≡ on_numbers arithmetic.power (view left.now) (view right.now) }
+{
+    let (x, y) = numbers(left, right)?;
+    power(x, y)
+}
+
+/// Operator `-` of one operand.
+pub(crate) fn negate(operand: &Value) -> Result<i64, Fault>
+    ensures { as_number result ≡ on_number arithmetic.negation (view operand.now) }
+{
+    let x = number(operand)?;
+    x.checked_neg().ok_or(Fault::Overflow)
+}
+
+/// Operator `+` of one operand.
+pub(crate) fn plus(operand: &Value) -> Result<i64, Fault>
+    ensures { as_number result ≡ on_number arithmetic.same_number (view operand.now) }
+{
+    number(operand)
+}

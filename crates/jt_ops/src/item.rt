@@ -1,0 +1,147 @@
+//! Items of values: of a map by its key, of a list and a text by an index.
+ghost use Rattle.std.specs.Prelude.{◌≡◌, length, Ok, IfOk, option_map, option_copied, slice_get, string_bytes, encode_utf8};
+ghost use Rattle.std.specs.Option.{option_and_then};
+ghost use Rattle.std.specs.Str.{chars};
+ghost use Rattle.jt_value.specs.Entries.{entry_of};
+ghost use Rattle.jt_value.specs.View.{view, items_view, entries_view};
+ghost use Rattle.jt_ops.specs.ItemOf.{item_of, item_at, indexed_item, indexed_character, or_undefined};
+ghost use Rattle.jt_ops.specs.ItemOf as items;
+ghost use Rattle.jt_ops.specs.Limited.{limited_by, Answers};
+
+use crate::limits::{Limits, OpError, copy_within, within};
+use jt_value::{Fault, NoMemory, Value};
+use std::alloc::Global;
+
+/// The item of a value.
+pub(crate) fn item(
+    alloc: Global,
+    value: &Value,
+    key: &Value,
+    limits: Limits,
+) -> Result<Value, OpError>
+    ensures { Answers result (limited_by limits (item_of (view value.now) (view key.now))) }
+{
+    match (value, key) {
+        (Value::Undefined, _) => Err(Fault::Undefined.into()),
+        (Value::Map(entries), Value::Text(name)) => keyed(alloc, entries, name, limits),
+        (Value::Map(entries), Value::Markup(name)) => keyed(alloc, entries, name, limits),
+        (Value::List(items), Value::Int(index)) => found(alloc, indexed(items, *index), limits),
+        (Value::Text(text), Value::Int(index)) => character(alloc, text, *index, limits),
+        (Value::Markup(text), Value::Int(index)) => character(alloc, text, *index, limits),
+        _ => within(Value::Undefined, limits),
+    }
+}
+
+/// A copy of what was found, undefined where that is nothing.
+fn found(alloc: Global, found: Option<&Value>, limits: Limits) -> Result<Value, OpError>
+    ensures { Answers result (limited_by limits (Ok (or_undefined (option_map view (option_copied found.entry))))) }
+{
+    match found {
+        Some(value) => copy_within(alloc, value, limits),
+        None => within(Value::Undefined, limits),
+    }
+}
+
+/// A copy of the first value of a key, undefined where there is none.
+fn keyed(
+    alloc: Global,
+    entries: &Vec<(String, Value)>,
+    name: &str,
+    limits: Limits,
+) -> Result<Value, OpError>
+    ensures { Answers result (limited_by limits (Ok (or_undefined (entry_of name.now (entries_view entries.now.items))))) }
+{
+    found(alloc, entry(entries, name), limits)
+}
+
+/// The first value of a key.
+fn entry<'a>(entries: &'a [(String, Value)], key: &str) -> Option<&'a Value>
+    ensures { option_map view (option_copied result) ≡ entry_of key.now (entries_view entries.now) }
+{
+    for entry in entries {
+        if entry.0.as_str() == key {
+            return Some(&entry.1);
+        }
+    }
+    None
+}
+
+/// The place that an index names among some items.
+fn place(index: i64, count: usize) -> Option<usize>
+    ensures { result ≡ items.place index count }
+{
+    let size = index.unsigned_abs();
+    if index < 0 {
+        if size <= count as u64 {
+            Some(count - size as usize)
+        } else {
+            None
+        }
+    } else if size < count as u64 {
+        Some(size as usize)
+    } else {
+        None
+    }
+}
+
+/// The item that an index names.
+#[tactic(auto, using(crate::proofs::Places::items_count_view))]
+fn indexed(items: &[Value], index: i64) -> Option<&Value>
+    ensures { option_map view (option_copied result) ≡ indexed_item (items_view items.now) index }
+{
+    match place(index, items.len()) {
+        Some(place) => at(items, place),
+        None => None,
+    }
+}
+
+/// The item at a place.
+fn at(items: &[Value], place: usize) -> Option<&Value>
+    ensures { option_map view (option_copied result) ≡ item_at (items_view items.now) place }
+{
+    items.get(place)
+}
+
+/// The character that an index names, as a plain text.
+fn character(alloc: Global, text: &str, index: i64, limits: Limits) -> Result<Value, OpError>
+    ensures { Answers result (limited_by limits (Ok (or_undefined (indexed_character text.now index)))) }
+{
+    let value = match nth_character(text, index) {
+        Some(c) => Value::Text(text_of(alloc, c)?),
+        None => Value::Undefined,
+    };
+    within(value, limits)
+}
+
+/// The character that an index names.
+fn nth_character(text: &str, index: i64) -> Option<char>
+    ensures { result ≡ option_and_then (slice_get (chars text.now)) (items.place index (length (chars text.now))) }
+{
+    match place(index, character_count(text)) {
+        Some(place) => character_at(text, place),
+        None => None,
+    }
+}
+
+/// How many characters a text has.
+fn character_count(text: &str) -> usize
+    ensures { result ≡ length (chars text.now) }
+{
+    text.chars().count()
+}
+
+/// The character at a place.
+fn character_at(text: &str, place: usize) -> Option<char>
+    ensures { result ≡ slice_get (chars text.now) place }
+{
+    text.chars().nth(place)
+}
+
+/// The text of one character.
+fn text_of(alloc: Global, c: char) -> Result<String, NoMemory>
+    ensures { IfOk result (λ s. string_bytes s ≡ encode_utf8 c) }
+{
+    let mut text = String::new(alloc);
+    text.push(c)?;
+    Ok(text)
+}

@@ -1,0 +1,140 @@
+//! Limits of an operation's result, and why an operation has none.
+ghost use Rattle.std.specs.Prelude.{◌≡◌, ◌-◌, ◌^◌, min, Ok, Err, OnOk, IfErr};
+ghost use Rattle.jt_value.specs.Tree.{Tree};
+ghost use Rattle.jt_value.specs.Tree as tree;
+ghost use Rattle.jt_value.specs.View.{view};
+ghost use Rattle.jt_ops.specs.Arithmetic.{as_number};
+ghost use Rattle.jt_ops.specs.Limited.{limited_by, Answers};
+ghost use Rattle.jt_ops.specs.Operation.{as_truth};
+
+use jt_value::{Fault, NoMemory, Value, ValueError};
+use std::alloc::{AllocError, AllocFailed, Global};
+use thiserror::Error;
+
+/// The greatest size and nesting that a result may have.
+#[derive(Clone, Copy, Debug, PartialEq, Eq)]
+pub struct Limits {
+    pub size: u32,
+    pub nesting: u8,
+}
+
+/// Why an operation gave no result. A fault prints as it does alone.
+#[derive(Clone, Copy, Debug, PartialEq, Eq, Error)]
+pub enum OpError {
+    /// The operation has this fault, whatever the limits.
+    #[error("{0}")]
+    Fault(Fault),
+    /// The result's size passes the limit.
+    #[error("too large")]
+    TooLarge,
+    /// The result's nesting passes the limit, and its size doesn't.
+    #[error("too deep")]
+    TooDeep,
+    /// A growth was refused.
+    #[error("no memory")]
+    NoMemory,
+}
+
+impl From<Fault> for OpError {
+    ghost use Rattle.jt_ops.specs.declared.limits.OpError.TheVariants as error;
+
+    ghost from_gives = { λ fault e. e ≡ error.Fault fault };
+
+    fn from(fault: Fault) -> OpError {
+        OpError::Fault(fault)
+    }
+}
+
+impl From<NoMemory> for OpError {
+    ghost use Rattle.jt_ops.specs.declared.limits.OpError.TheVariants as error;
+
+    ghost from_gives = { λ _ e. e ≡ error.NoMemory };
+
+    fn from(_e: NoMemory) -> OpError {
+        OpError::NoMemory
+    }
+}
+
+impl From<ValueError> for OpError {
+    ghost use Rattle.jt_ops.specs.Limited.{of_value_error};
+
+    ghost from_gives = { λ error e. e ≡ of_value_error error };
+
+    fn from(error: ValueError) -> OpError {
+        match error {
+            ValueError::Fault(fault) => OpError::Fault(fault),
+            ValueError::NoMemory => OpError::NoMemory,
+        }
+    }
+}
+
+impl From<AllocError> for OpError {
+    ghost use Rattle.jt_ops.specs.declared.limits.OpError.TheVariants as error;
+
+    ghost from_gives = { λ _ e. e ≡ error.NoMemory };
+
+    fn from(_e: AllocError) -> OpError {
+        OpError::NoMemory
+    }
+}
+
+impl<T: Drop> From<AllocFailed<T>> for OpError {
+    ghost use Rattle.jt_ops.specs.declared.limits.OpError.TheVariants as error;
+
+    ghost from_gives = { λ _ e. e ≡ error.NoMemory };
+
+    fn from(_e: AllocFailed<T>) -> OpError {
+        OpError::NoMemory
+    }
+}
+
+/// Tests the size and nesting of a result that need not be built yet. Either stands at the greatest
+/// number of its type where the true one is greater.
+pub(crate) fn allow(size: u64, nesting: u32, limits: Limits) -> Result<(), OpError>
+    ensures ok { (t : Tree) → size ≡ min (tree.size t) (2 ^ 64 - 1) → nesting ≡ min (tree.nesting t) (2 ^ 32 - 1)
+        → OnOk result (limited_by limits (Ok t) ≡ Ok t) }
+    ensures refused { (t : Tree) → size ≡ min (tree.size t) (2 ^ 64 - 1) → nesting ≡ min (tree.nesting t) (2 ^ 32 - 1)
+        → IfErr result (λ e. limited_by limits (Ok t) ≡ Err e) }
+{
+    if size > u64::from(limits.size) {
+        return Err(OpError::TooLarge);
+    }
+    if nesting > u32::from(limits.nesting) {
+        return Err(OpError::TooDeep);
+    }
+    Ok(())
+}
+
+/// A value that is at hand, under the limits.
+pub(crate) fn within(value: Value, limits: Limits) -> Result<Value, OpError>
+    ensures { Answers result (limited_by limits (Ok (view value))) }
+{
+    allow(value.size(), value.nesting(), limits)?;
+    Ok(value)
+}
+
+/// A copy of a value, under the limits.
+pub(crate) fn copy_within(
+    alloc: Global,
+    value: &Value,
+    limits: Limits,
+) -> Result<Value, OpError>
+    ensures { Answers result (limited_by limits (Ok (view value.now))) }
+{
+    allow(value.size(), value.nesting(), limits)?;
+    Ok(value.try_clone(alloc)?)
+}
+
+/// A computed number, under the limits.
+pub(crate) fn number_within(computed: Result<i64, Fault>, limits: Limits) -> Result<Value, OpError>
+    ensures { Answers result (limited_by limits (as_number computed)) }
+{
+    within(Value::Int(computed?), limits)
+}
+
+/// A computed truth value, under the limits.
+pub(crate) fn truth_within(computed: Result<bool, Fault>, limits: Limits) -> Result<Value, OpError>
+    ensures { Answers result (limited_by limits (as_truth computed)) }
+{
+    within(Value::Bool(computed?), limits)
+}

@@ -1,0 +1,62 @@
+//! Whether a value is in another.
+ghost use Rattle.std.specs.Prelude.{◌≡◌};
+ghost use Rattle.jt_value.specs.Entries as keys;
+ghost use Rattle.jt_value.specs.View.{view, items_view, entries_view};
+ghost use Rattle.jt_ops.specs.Membership as membership;
+
+use crate::operands::misfit;
+use jt_value::{Fault, Value};
+use memchr::memmem;
+
+/// Whether a value is in another: a text in a text, an item of a list, a key of a map.
+pub(crate) fn is_in(value: &Value, container: &Value) -> Result<bool, Fault>
+    ensures { result ≡ membership.is_in (view value.now) (view container.now) }
+{
+    match (value, container) {
+        (_, Value::Undefined) => Ok(false),
+        (_, Value::None) => Err(Fault::NotIterable),
+        (_, Value::Bool(_)) => Err(Fault::NotIterable),
+        (_, Value::Int(_)) => Err(Fault::NotIterable),
+        (Value::Text(part), Value::Text(whole)) => Ok(occurs_in(part, whole)),
+        (Value::Text(part), Value::Markup(whole)) => Ok(occurs_in(part, whole)),
+        (Value::Markup(part), Value::Text(whole)) => Ok(occurs_in(part, whole)),
+        (Value::Markup(part), Value::Markup(whole)) => Ok(occurs_in(part, whole)),
+        (_, Value::List(items)) => Ok(has_item(value, items)),
+        (Value::Text(key), Value::Map(entries)) => Ok(has_key(key, entries)),
+        (Value::Markup(key), Value::Map(entries)) => Ok(has_key(key, entries)),
+        (_, Value::Map(_)) => Ok(false),
+        _ => Err(misfit(value, container)),
+    }
+}
+
+#[tactic(auto, using(crate::proofs::Finding::is_found))]
+/// Whether a text stands somewhere in another.
+fn occurs_in(part: &str, whole: &str) -> bool
+    ensures { result ≡ membership.occurs_in part.now whole.now }
+{
+    memmem::find(whole.as_bytes(), part.as_bytes()).is_some()
+}
+
+/// Whether a list has an item that equals a value.
+fn has_item(value: &Value, items: &[Value]) -> bool
+    ensures { result ≡ membership.has_item (view value.now) (items_view items.now) }
+{
+    for item in items {
+        if value.equals(item) {
+            return true;
+        }
+    }
+    false
+}
+
+/// Whether a map has a key.
+fn has_key(key: &str, entries: &[(String, Value)]) -> bool
+    ensures { result ≡ keys.has_key key.now (entries_view entries.now) }
+{
+    for entry in entries {
+        if entry.0.as_str() == key {
+            return true;
+        }
+    }
+    false
+}

@@ -1,0 +1,153 @@
+//! `range`: lists of numbers.
+ghost use Rattle.std.specs.Prelude.{◌≡◌, ◌≢◌, ◌≤◌, ◌<◌, ◌∷◌, [], ℕ, map, pos, ◌+ℤ◌, ◌*ℤ◌, length, FitsSigned, Ok, IfOk};
+ghost use Rattle.std.specs.Int.{w64};
+ghost use Rattle.jt_value.specs.Tree as tree;
+ghost use Rattle.jt_value.specs.View.{view, items_view};
+ghost use Rattle.jt_ops.specs.Limited.{limited_by, Answers};
+ghost use Rattle.jt_ops.specs.Ranges.{ranged, numbers_between, range_count, stepped};
+ghost use Rattle.jt_ops.specs.Ranges as ranges;
+
+use crate::limits::{Limits, OpError, allow};
+use crate::operands::{misfit, misfit_of_one, misfit_of_three};
+use jt_value::{Fault, NoMemory, Value};
+use std::alloc::Global;
+
+/// The list of numbers from a start by a step, before a stop.
+///
+/// `values` are the stop; the start and the stop; or the start, the stop and the step. The start is
+/// 0 and the step 1 where they aren't given.
+///
+/// # Errors
+///
+/// `Undefined` or `BadType` where a value is no number, `Range` where the step is 0, `TooLarge` and
+/// `TooDeep` where the list passes the limits, which it does before it is built.
+pub fn range(alloc: Global, values: &[Value], limits: Limits) -> Result<Value, OpError>
+    requires some { 1 ≤ length values.now }
+    requires few { length values.now ≤ 3 }
+    ensures { Answers result (limited_by limits (ranged (map view values.now))) }
+{
+    match values {
+        [stop] => range_to(alloc, stop, limits),
+        [start, stop] => range_from(alloc, start, stop, limits),
+        [start, stop, step] => range_by(alloc, start, stop, step, limits),
+        _ => unreachable!(),
+    }
+}
+
+/// The numbers from 0 before a stop.
+pub(crate) fn range_to(alloc: Global, stop: &Value, limits: Limits) -> Result<Value, OpError>
+    ensures { Answers result (limited_by limits (ranged (view stop.now ∷ []))) }
+{
+    match stop {
+        Value::Int(stop) => numbers(alloc, 0, *stop, 1, limits),
+        _ => Err(misfit_of_one(stop).into()),
+    }
+}
+
+/// The numbers from a start before a stop.
+pub(crate) fn range_from(
+    alloc: Global,
+    start: &Value,
+    stop: &Value,
+    limits: Limits,
+) -> Result<Value, OpError>
+    ensures { Answers result (limited_by limits (ranged (view start.now ∷ view stop.now ∷ []))) }
+{
+    match (start, stop) {
+        (Value::Int(start), Value::Int(stop)) => numbers(alloc, *start, *stop, 1, limits),
+        _ => Err(misfit(start, stop).into()),
+    }
+}
+
+/// The numbers from a start by a step, before a stop.
+fn range_by(
+    alloc: Global,
+    start: &Value,
+    stop: &Value,
+    step: &Value,
+    limits: Limits,
+) -> Result<Value, OpError>
+    ensures { Answers result (limited_by limits (ranged (view start.now ∷ view stop.now ∷ view step.now ∷ []))) }
+{
+    match (start, stop, step) {
+        (Value::Int(start), Value::Int(stop), Value::Int(step)) => {
+            numbers(alloc, *start, *stop, *step, limits)
+        }
+        _ => Err(misfit_of_three(start, stop, step).into()),
+    }
+}
+
+/// The numbers from a start by a step, before a stop.
+#[tactic(auto, using(crate::proofs::Loops::numbers_nonzero))]
+fn numbers(
+    alloc: Global,
+    start: i64,
+    stop: i64,
+    step: i64,
+    limits: Limits,
+) -> Result<Value, OpError>
+    ensures { Answers result (limited_by limits (numbers_between start stop step)) }
+{
+    if step == 0 {
+        return Err(Fault::Range.into());
+    }
+    list_of(alloc, start, stop, step, limits)
+}
+
+/// The list of the numbers from a start by a step, before a stop, measured before it is built.
+#[tactic(auto, using(crate::proofs::Loops::stepped_size, crate::proofs::Loops::stepped_nesting, crate::proofs::Loops::inside))]
+fn list_of(
+    alloc: Global,
+    start: i64,
+    stop: i64,
+    step: i64,
+    limits: Limits,
+) -> Result<Value, OpError>
+    requires { pos 0 ≢ step }
+    ensures { Answers result (limited_by limits (Ok (tree.list (stepped (range_count start stop step) start step)))) }
+{
+    let count = count(start, stop, step);
+    allow(count.saturating_add(1), 1, limits)?;
+    Ok(Value::List(listed(alloc, start, step, count)?))
+}
+
+/// How many of the numbers from a start by a step lie before a stop.
+fn count(start: i64, stop: i64, step: i64) -> u64
+    requires { pos 0 ≢ step }
+    ensures { result ≡ range_count start stop step }
+{
+    let (low, high) = if step < 0 { (stop, start) } else { (start, stop) };
+    distance(low, high).div_ceil(step.unsigned_abs())
+}
+
+/// How far a number lies above another, 0 if it doesn't.
+fn distance(low: i64, high: i64) -> u64
+    ensures { result ≡ ranges.distance low high }
+{
+    if low < high {
+        high.abs_diff(low)
+    } else {
+        0
+    }
+}
+
+/// So many numbers from a start by a step, each of which has 64 bits.
+fn listed(alloc: Global, start: i64, step: i64, count: u64) -> Result<Vec<Value>, NoMemory>
+    requires { (k : ℕ) → k < count → FitsSigned w64 (start +ℤ pos k *ℤ step) }
+    ensures { IfOk result (λ v. items_view v.items ≡ stepped count start step) }
+{
+    let mut numbers = Vec::new(alloc);
+    let mut next = start;
+    for _ in 0..count {
+        numbers.push(Value::Int(next))?;
+        next = sum_in_range(next, step);
+    }
+    Ok(numbers)
+}
+
+/// The sum of two numbers. Where it has no 64 bits, which is behind the last number, any other.
+fn sum_in_range(x: i64, y: i64) -> i64
+    ensures { FitsSigned w64 (x +ℤ y) → result ≡ x +ℤ y }
+{
+    x.checked_add(y).unwrap_or(x)
+}

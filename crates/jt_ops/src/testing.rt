@@ -1,0 +1,98 @@
+//! Tests of values.
+ghost use Rattle.std.specs.Prelude.{◌≡◌, ◌∷◌, [], map, length};
+ghost use Rattle.jt_value.specs.View.{view};
+ghost use Rattle.jt_ops.specs.TestTable.{test_values};
+ghost use Rattle.jt_ops.specs.Testing.{tested, as_answer};
+ghost use Rattle.jt_ops.specs.Testing as testing;
+
+use crate::arithmetic::remainder;
+use crate::comparing::{greater, greater_or_equal, less, less_or_equal};
+use crate::limits::OpError;
+use crate::membership::is_in;
+use crate::operands::{misfit, misfit_of_one};
+use crate::test_id::TestId;
+use jt_value::{Fault, Value};
+
+/// Whether a test is true of values: the tested one, and the test's argument behind it where it
+/// takes one.
+///
+/// # Errors
+///
+/// The test's fault, and no other error: a test has no limits and takes no memory.
+pub fn test(test: TestId, values: &[Value]) -> Result<bool, OpError>
+    requires { length values.now ≡ test_values test }
+    ensures { result ≡ as_answer (tested test (map view values.now)) }
+{
+    match values {
+        [value] => Ok(test_one(test, value)?),
+        [value, argument] => Ok(test_two(test, value, argument)?),
+        _ => unreachable!(),
+    }
+}
+
+/// A test without an argument.
+fn test_one(test: TestId, value: &Value) -> Result<bool, Fault>
+    requires { test_values test ≡ 1 }
+    ensures { result ≡ tested test (view value.now ∷ []) }
+{
+    match test {
+        TestId::Boolean => Ok(matches!(value, Value::Bool(_))),
+        TestId::Defined => Ok(!matches!(value, Value::Undefined)),
+        TestId::Escaped => Ok(matches!(value, Value::Markup(_))),
+        TestId::Even => is_even(value),
+        TestId::Odd => Ok(!is_even(value)?),
+        TestId::False => Ok(matches!(value, Value::Bool(false))),
+        TestId::True => Ok(matches!(value, Value::Bool(true))),
+        TestId::Integer => Ok(matches!(value, Value::Int(_))),
+        TestId::Mapping => Ok(matches!(value, Value::Map(_))),
+        TestId::None => Ok(matches!(value, Value::None)),
+        TestId::String => Ok(matches!(value, Value::Text(_) | Value::Markup(_))),
+        TestId::Undefined => Ok(matches!(value, Value::Undefined)),
+        _ => unreachable!(),
+    }
+}
+
+/// A test with an argument.
+fn test_two(test: TestId, value: &Value, argument: &Value) -> Result<bool, Fault>
+    requires { test_values test ≡ 2 }
+    ensures { result ≡ tested test (view value.now ∷ view argument.now ∷ []) }
+{
+    match test {
+        TestId::DivisibleBy => is_divisible(value, argument),
+        TestId::Equal => Ok(value.equals(argument)),
+        TestId::NotEqual => Ok(!value.equals(argument)),
+        TestId::GreaterOrEqual => greater_or_equal(value, argument),
+        TestId::Greater => greater(value, argument),
+        TestId::LessOrEqual => less_or_equal(value, argument),
+        TestId::Less => less(value, argument),
+        TestId::In => is_in(value, argument),
+        _ => unreachable!(),
+    }
+}
+
+/// Whether a number is divisible by another.
+fn is_divisible(value: &Value, divisor: &Value) -> Result<bool, Fault>
+    ensures { result ≡ testing.is_divisible (view value.now) (view divisor.now) }
+{
+    match (value, divisor) {
+        (Value::Int(x), Value::Int(y)) => is_multiple(*x, *y),
+        _ => Err(misfit(value, divisor)),
+    }
+}
+
+/// Whether a number is even.
+fn is_even(value: &Value) -> Result<bool, Fault>
+    ensures { result ≡ testing.is_even (view value.now) }
+{
+    match value {
+        Value::Int(x) => is_multiple(*x, 2),
+        _ => Err(misfit_of_one(value)),
+    }
+}
+
+/// Whether a number is a multiple of another.
+fn is_multiple(x: i64, y: i64) -> Result<bool, Fault>
+    ensures { result ≡ testing.is_multiple x y }
+{
+    Ok(remainder(x, y)? == 0)
+}

@@ -1,0 +1,165 @@
+//! Texts put together from pieces, measured before they are built.
+ghost use Rattle.std.specs.Prelude.{◌≡◌, ◌-◌, ◌^◌, ◌++◌, min, length, Some, None, Ok, IfOk, IfErr, OnOk, string_bytes};
+ghost use Rattle.std.specs.Cow.{cow_str_bytes};
+ghost use Rattle.std.specs.List.{repeat};
+ghost use Rattle.jt_value.specs.Tree as tree;
+ghost use Rattle.jt_value.specs.View.{view};
+ghost use Rattle.jt_escape.specs.Escaping.{escaped, escaped_byte};
+ghost use Rattle.jt_ops.specs.Pieces.{of_kind, written};
+ghost use Rattle.jt_ops.specs.Joining.{times};
+ghost use Rattle.jt_ops.specs.Limited.{limited_by, Answers};
+
+use crate::limits::{Limits, OpError, allow};
+use jt_escape::escape_into;
+use jt_value::{Fault, NoMemory, Value, ValueError};
+use std::alloc::Global;
+use std::borrow::CowStr;
+
+/// Whether a text is plain or markup.
+#[derive(Clone, Copy)]
+pub(crate) enum Kind {
+    Plain,
+    Markup,
+}
+
+impl Kind {
+    /// The value of a text.
+    fn value(self, text: String) -> Value
+        ensures { view result ≡ of_kind self (string_bytes text) }
+    {
+        match self {
+            Kind::Plain => Value::Text(text),
+            Kind::Markup => Value::Markup(text),
+        }
+    }
+}
+
+/// A piece of a text that is put together.
+#[derive(Clone, Copy)]
+pub(crate) enum Piece<'a> {
+    /// As it is.
+    Raw(&'a str),
+    /// With its special characters escaped.
+    Escaped(&'a str),
+}
+
+impl<'a> Piece<'a> {
+    /// How many bytes the piece writes, or the greatest number where they are more.
+    fn len(&self) -> u64
+        ensures { result ≡ min (length (written self.now)) (2 ^ 64 - 1) }
+    {
+        match self {
+            Piece::Raw(text) => text.len() as u64,
+            Piece::Escaped(text) => escaped_len(text),
+        }
+    }
+
+    /// Writes the piece behind a text.
+    fn write(&self, into: &mut String) -> Result<(), NoMemory>
+        ensures { OnOk result (string_bytes into.new ≡ string_bytes into.old ++ written self.now) }
+    {
+        match self {
+            Piece::Raw(text) => into.push_str(text)?,
+            Piece::Escaped(text) => escape_into(text, into)?,
+        }
+        Ok(())
+    }
+}
+
+#[tactic(auto, using(crate::proofs::Loops::escaped_length_more))]
+/// How many bytes a text has once it is escaped, or the greatest number where they are more.
+fn escaped_len(text: &str) -> u64
+    ensures { result ≡ min (length (escaped text.now)) (2 ^ 64 - 1) }
+{
+    let mut total = 0u64;
+    for byte in text.as_bytes() {
+        total = total.saturating_add(escaped_byte_len(*byte));
+    }
+    total
+}
+
+/// How many bytes stand for a byte of an escaped text.
+fn escaped_byte_len(byte: u8) -> u64
+    ensures { result ≡ length (escaped_byte byte) }
+{
+    match byte {
+        b'&' | b'\'' | b'"' => 5,
+        b'<' | b'>' => 4,
+        _ => 1,
+    }
+}
+
+/// The text of two pieces.
+pub(crate) fn concatenated(
+    alloc: Global,
+    left: &Piece<'_>,
+    right: &Piece<'_>,
+    kind: Kind,
+    limits: Limits,
+) -> Result<Value, OpError>
+    ensures { Answers result (limited_by limits (Ok (of_kind kind (written left.now ++ written right.now)))) }
+{
+    let size = left.len().saturating_add(right.len()).saturating_add(1);
+    allow(size, 0, limits)?;
+    let mut text = String::new(alloc);
+    left.write(&mut text)?;
+    right.write(&mut text)?;
+    Ok(kind.value(text))
+}
+
+/// A text, repeated; nothing for 0 and below.
+#[tactic(auto, using(crate::proofs::Loops::repeat_length))]
+pub(crate) fn repeated(
+    alloc: Global,
+    text: &str,
+    number: i64,
+    kind: Kind,
+    limits: Limits,
+) -> Result<Value, OpError>
+    ensures { Answers result (limited_by limits (Ok (of_kind kind (repeat (times number) text.now)))) }
+{
+    let count = repetitions(text, number);
+    let size = (text.len() as u64).saturating_mul(count).saturating_add(1);
+    allow(size, 0, limits)?;
+    Ok(kind.value(repetition(alloc, text, count)?))
+}
+
+/// How often a text is to be written for a number of repetitions: an empty one never.
+#[tactic(auto, using(crate::proofs::Loops::repeat_empty))]
+fn repetitions(text: &str, number: i64) -> u64
+    ensures same { repeat result text.now ≡ repeat (times number) text.now }
+    ensures empty { length text.now ≡ 0 → result ≡ 0 }
+{
+    if number <= 0 || text.is_empty() {
+        0
+    } else {
+        number.unsigned_abs()
+    }
+}
+
+/// A text, so many times.
+#[tactic(auto, using(crate::proofs::Loops::repeat_more))]
+fn repetition(alloc: Global, text: &str, count: u64) -> Result<String, NoMemory>
+    ensures { IfOk result (λ s. string_bytes s ≡ repeat count text.now) }
+{
+    let mut repeated = String::new(alloc);
+    for _ in 0..count {
+        repeated.push_str(text)?;
+    }
+    Ok(repeated)
+}
+
+/// The printed text of a value, lent where the value has it.
+pub(crate) fn printed_text<'a>(
+    alloc: Global,
+    value: &'a Value,
+) -> Result<CowStr<'a, Global>, ValueError>
+    ensures ok { IfOk result (λ s. tree.printed (view value.now) ≡ Some (cow_str_bytes s)) }
+    ensures fault { IfErr result (λ e. (f : Fault) → e ≡ ValueError.Fault f → (f ≡ Fault.Unprintable) × (tree.printed (view value.now) ≡ None)) }
+{
+    match value {
+        Value::Text(text) => Ok(CowStr::Borrowed(text.as_str())),
+        Value::Markup(text) => Ok(CowStr::Borrowed(text.as_str())),
+        _ => Ok(CowStr::Owned(value.printed(alloc)?)),
+    }
+}

@@ -1,0 +1,118 @@
+//! Small images, accepted and refused.
+use super::*;
+use jt_image::{Code, Flaw, Image, decode};
+use std::alloc::{AllocError, Global};
+use std::test::*;
+
+// An opcode and its field c.
+type Line = (u8, u32);
+
+const CONST: u8 = 1;
+const DROP: u8 = 6;
+const EMIT: u8 = 8;
+const JUMP: u8 = 10;
+const JUMP_IF_FALSE: u8 = 11;
+const RETURN: u8 = 28;
+
+// The image that puts the text x: Data 0; Return.
+const X: [u8; 44] = [
+    0x4a, 0x54, 0x42, 0x43, 1, 0, 0, 0, 0, 0, 1, 0, 5, 1, 0, 0, 0, 0x78, 1, 0, 0, 0, 0, 0, 2, 0, 0,
+    0, 9, 0, 0, 0, 0, 0, 0, 0, 0x1c, 0, 0, 0, 0, 0, 0, 0,
+];
+
+// Up to the units: no globals, no names, and one constant, which is undefined.
+const HEAD: [u8; 13] = [0x4a, 0x54, 0x42, 0x43, 1, 0, 0, 0, 0, 0, 1, 0, 0];
+
+// An image of two units that emit.
+fn bytes_of(alloc: Global, first: &[Line], second: &[Line]) -> Result<Vec<u8>, AllocError> {
+    let mut bytes: Vec<u8> = Vec::new(alloc);
+    bytes.extend_from_slice(&HEAD)?;
+    bytes.extend_from_slice(&[2, 0])?;
+    for unit in [first, second] {
+        let count = u32::try_from(unit.len()).unwrap_or(u32::MAX);
+        bytes.extend_from_slice(&[0, 0, 0, 0])?;
+        bytes.extend_from_slice(&count.to_le_bytes())?;
+    }
+    for unit in [first, second] {
+        for line in unit {
+            bytes.extend_from_slice(&[line.0, 0, 0, 0])?;
+            bytes.extend_from_slice(&line.1.to_le_bytes())?;
+        }
+    }
+    Ok(bytes)
+}
+
+// What the verifier answers.
+fn refusal_of(alloc: Global, image: Image) -> Option<Refusal> {
+    match verify(alloc, image) {
+        Ok(_) => None,
+        Err((_, refusal)) => Some(refusal),
+    }
+}
+
+#[test]
+fn accepts_x_and_its_loop(rt: HostRuntime) -> Result<(), Fail> {
+    let image = decode(rt.alloc(), &X)?;
+    assert_eq!(rt; verify_code(rt.alloc(), &image), Ok(()));
+    match verify(rt.alloc(), image) {
+        Ok(verified) => assert_eq!(rt; (verified.image().units(), verified.code().instructions()), (1, 2)),
+        Err(_) => assert!(rt; false),
+    }
+    let mut bytes = X;
+    bytes[28] = JUMP;
+    assert_eq!(rt; refusal_of(rt.alloc(), decode(rt.alloc(), &bytes)?), None);
+    bytes[32] = 2;
+    let out = Refusal::Flaw { flaw: Flaw::JumpOut, unit: 0, point: 0 };
+    assert_eq!(rt; refusal_of(rt.alloc(), decode(rt.alloc(), &bytes)?), Some(out));
+    Ok(())
+}
+
+#[test]
+fn names_the_flaw_and_its_place(rt: HostRuntime) -> Result<(), Fail> {
+    let plain: &[Line] = &[(RETURN, 0)];
+    let rows: [(&[Line], Option<(Flaw, usize)>); 10] = [
+        (&[(EMIT, 0), (RETURN, 0)], Some((Flaw::MissingOperand, 0))),
+        (&[(CONST, 0)], Some((Flaw::FallsOff, 0))),
+        (&[], Some((Flaw::FallsOff, 0))),
+        (&[(CONST, 0), (JUMP, 0)], Some((Flaw::DepthDiffers, 0))),
+        (&[(CONST, 1), (DROP, 0), (RETURN, 0)], Some((Flaw::BadIndex, 0))),
+        (&[(CONST, 0), (RETURN, 0)], Some((Flaw::BadReturn, 1))),
+        // points that are not reached carry nothing
+        (&[(RETURN, 0), (EMIT, 0)], None),
+        // the next point and all that it leads to come before the target
+        (&[(CONST, 0), (CONST, 0), (JUMP_IF_FALSE, 0), (CONST, 9)], Some((Flaw::BadIndex, 3))),
+        (&[(CONST, 0), (JUMP_IF_FALSE, 3), (RETURN, 0), (DROP, 0)], Some((Flaw::MissingOperand, 3))),
+        (&[(CONST, 0), (JUMP_IF_FALSE, 0), (RETURN, 0)], None),
+    ];
+    for (lines, want) in rows {
+        for unit in 0..2usize {
+            let (first, second) = if unit == 0 { (lines, plain) } else { (plain, lines) };
+            let bytes = bytes_of(rt.alloc(), first, second)?;
+            let found = refusal_of(rt.alloc(), decode(rt.alloc(), &bytes)?);
+            let want = match want {
+                Some((flaw, point)) => Some(Refusal::Flaw { flaw, unit, point }),
+                None => None,
+            };
+            assert_eq!(rt; found, want);
+        }
+    }
+    Ok(())
+}
+
+#[test]
+fn entries_are_counted_on_arrival(rt: HostRuntime) -> Result<(), Fail> {
+    let deep = Refusal::Flaw { flaw: Flaw::TooDeep, unit: 0, point: 1025 };
+    for (count, want) in [(1024usize, None), (1025, Some(deep))] {
+        let mut lines: Vec<Line> = Vec::new(rt.alloc());
+        for _ in 0..count {
+            lines.push((CONST, 0))?;
+        }
+        for _ in 0..count {
+            lines.push((DROP, 0))?;
+        }
+        lines.push((RETURN, 0))?;
+        let bytes = bytes_of(rt.alloc(), &lines, &[(RETURN, 0)])?;
+        assert_eq!(rt; refusal_of(rt.alloc(), decode(rt.alloc(), &bytes)?), want);
+    }
+    Ok(())
+}
