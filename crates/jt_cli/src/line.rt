@@ -73,7 +73,12 @@ fn add_budget<'a>(alloc: Global, command: Command<'a>) -> Result<Command<'a>, Al
 }
 
 /// Adds a word that has to be there.
-fn add_word<'a>(alloc: Global, command: Command<'a>, name: &'a str, help: &'a str) -> Result<Command<'a>, AllocError>
+fn add_word<'a>(
+    alloc: Global,
+    command: Command<'a>,
+    name: &'a str,
+    help: &'a str,
+) -> Result<Command<'a>, AllocError>
     ensures { IfOk result (Adds command.entry (word_rule name.entry.now)) }
 {
     command.arg(Arg::new(alloc, name).required(true).help(help))
@@ -89,7 +94,12 @@ fn add_option<'a>(
 ) -> Result<Command<'a>, AllocError>
     ensures { IfOk result (Adds command.entry (option_rule name.entry.now parser.entry)) }
 {
-    command.arg(Arg::new(alloc, name).long(name).value_parser(parser).help(help))
+    command.arg(
+        Arg::new(alloc, name)
+            .long(name)
+            .value_parser(parser)
+            .help(help),
+    )
 }
 
 /// The job of a line that was taken.

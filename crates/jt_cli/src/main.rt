@@ -47,7 +47,13 @@ fn perform_on(rt: &HostRuntime, words: &[String]) -> u8 {
         }
     }
     let mut files = Machine::new(rt);
-    perform(alloc, texts.as_slice(), &mut files, &mut rt.stdout(), &mut rt.stderr())
+    perform(
+        alloc,
+        texts.as_slice(),
+        &mut files,
+        &mut rt.stdout(),
+        &mut rt.stderr(),
+    )
 }
 
 #[cfg(test)]

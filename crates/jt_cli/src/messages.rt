@@ -4,8 +4,8 @@ ghost use Rattle.std.specs.Prelude.{◌≡◌};
 ghost use Rattle.jt_cli.specs.Ending.{code_of, status_of, of_line, of_image, of_code, of_outcome};
 
 use crate::jobs::JobError;
-use jt_image::ImageError;
 use jt_budget::Spent;
+use jt_image::ImageError;
 use jt_machine::Outcome;
 use jt_value::Fault;
 use jt_verify::Refusal;

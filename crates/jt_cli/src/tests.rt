@@ -10,8 +10,8 @@ use std::test::Fail;
 
 /// Image X: its one unit prints `x`.
 const X: [u8; 44] = [
-    0x4a, 0x54, 0x42, 0x43, 1, 0, 0, 0, 0, 0, 1, 0, 5, 1, 0, 0, 0, 0x78, 1, 0, 0, 0, 0, 0, 2, 0, 0, 0, 9, 0, 0, 0, 0, 0,
-    0, 0, 0x1c, 0, 0, 0, 0, 0, 0, 0,
+    0x4a, 0x54, 0x42, 0x43, 1, 0, 0, 0, 0, 0, 1, 0, 5, 1, 0, 0, 0, 0x78, 1, 0, 0, 0, 0, 0, 2, 0, 0,
+    0, 9, 0, 0, 0, 0, 0, 0, 0, 0x1c, 0, 0, 0, 0, 0, 0, 0,
 ];
 
 /// One file, `image`, with these bytes. Other paths fail, but for `memory`.
@@ -57,16 +57,31 @@ impl io::Write for Closed {
 }
 
 /// Checks the status of a run over `bytes`, what stands on standard output, and how standard error begins.
-fn shows(rt: &(impl Abort + AllocGlobal), bytes: &[u8], words: &[&str], status: u8, out: &str, errors: &str) {
+fn shows(
+    rt: &(impl Abort + AllocGlobal),
+    bytes: &[u8],
+    words: &[&str],
+    status: u8,
+    out: &str,
+    errors: &str,
+) {
     let alloc = rt.alloc();
     let mut files = OneFile { alloc, bytes };
     let mut printed = Vec::new(alloc);
     let mut said = Vec::new(alloc);
     let got = perform(alloc, words, &mut files, &mut printed, &mut said);
     assert_eq!(rt; got, status, "{words:?}");
-    assert_eq!(rt; std::str::from_utf8(printed.as_slice()), Ok(out), "{words:?}");
+    assert_eq!(rt;
+        std::str::from_utf8(printed.as_slice()),
+        Ok(out),
+        "{words:?}"
+    );
     let said = std::str::from_utf8(said.as_slice()).unwrap_or("");
-    let line = if status == 2 { said.lines().next().unwrap_or("") } else { said };
+    let line = if status == 2 {
+        said.lines().next().unwrap_or("")
+    } else {
+        said
+    };
     assert_eq!(rt; line, errors, "{words:?}");
 }
 
@@ -76,11 +91,21 @@ fn runs_an_image(rt: HostRuntime) {
         (["run", "image", "--fuel", "2"], 0, "x", ""),
         (["run", "image", "--fuel", "1"], 4, "", "jt: spent Fuel\n"),
         (["run", "image", "--fuel", "0"], 4, "", "jt: spent Fuel\n"),
-        (["run", "image", "--output", "0"], 4, "", "jt: spent Output\n"),
+        (
+            ["run", "image", "--output", "0"],
+            4,
+            "",
+            "jt: spent Output\n",
+        ),
         (["run", "--fuel=2", "--output=1", "image"], 0, "x", ""),
         (["run", "--depth=0", "--nesting=1", "image"], 0, "x", ""),
         (["run", "image", "--size", "4294967295"], 0, "x", ""),
-        (["run", "nowhere", "--fuel", "2"], 5, "", "jt: file nowhere\n"),
+        (
+            ["run", "nowhere", "--fuel", "2"],
+            5,
+            "",
+            "jt: file nowhere\n",
+        ),
         (["run", "memory", "--fuel", "2"], 6, "", "jt: no memory\n"),
     ];
     for (words, status, out, errors) in rows {
@@ -112,14 +137,35 @@ fn refuses_what_is_no_image(rt: HostRuntime) {
 #[test]
 fn says_what_is_wrong_with_the_line(rt: HostRuntime) {
     let rows: [(&[&str], &str); 9] = [
-        (&[], "error: 'jt' requires a subcommand but one was not provided"),
+        (
+            &[],
+            "error: 'jt' requires a subcommand but one was not provided",
+        ),
         (&["walk", "image"], "error: unrecognized subcommand 'walk'"),
-        (&["run"], "error: the following required arguments were not provided:"),
-        (&["run", "image", "more"], "error: unexpected argument 'more' found"),
-        (&["run", "image", "--fuel"], "error: a value is required for '--fuel <fuel>' but none was supplied"),
-        (&["run", "image", "--nesting", "256"], "error: invalid value '256' for '--nesting <nesting>': 256 is not in 0..=255"),
-        (&["run", "image", "--fuel", "-1"], "error: unexpected argument '-1' found"),
-        (&["--help"], "A compiler and sandbox for the Jinja template language"),
+        (
+            &["run"],
+            "error: the following required arguments were not provided:",
+        ),
+        (
+            &["run", "image", "more"],
+            "error: unexpected argument 'more' found",
+        ),
+        (
+            &["run", "image", "--fuel"],
+            "error: a value is required for '--fuel <fuel>' but none was supplied",
+        ),
+        (
+            &["run", "image", "--nesting", "256"],
+            "error: invalid value '256' for '--nesting <nesting>': 256 is not in 0..=255",
+        ),
+        (
+            &["run", "image", "--fuel", "-1"],
+            "error: unexpected argument '-1' found",
+        ),
+        (
+            &["--help"],
+            "A compiler and sandbox for the Jinja template language",
+        ),
         (&["run", "--help"], "Runs an image and prints its text"),
     ];
     for (words, usage) in rows {
@@ -130,14 +176,23 @@ fn says_what_is_wrong_with_the_line(rt: HostRuntime) {
 #[test]
 fn says_where_a_text_is_not_taken(rt: HostRuntime) {
     let alloc = rt.alloc();
-    let mut files = OneFile { alloc, bytes: X.as_slice() };
+    let mut files = OneFile {
+        alloc,
+        bytes: X.as_slice(),
+    };
     let mut said = Vec::new(alloc);
     let words = ["run", "image"];
     let status = perform(alloc, words.as_slice(), &mut files, &mut Closed, &mut said);
     assert_eq!(rt; status, 5);
     assert_eq!(rt; said.as_slice(), b"jt: file -\n".as_slice());
-    assert_eq!(rt; perform(alloc, words.as_slice(), &mut files, &mut said, &mut Closed), 0);
-    assert_eq!(rt; perform(alloc, &["run"], &mut files, &mut said, &mut Closed), 2);
+    assert_eq!(rt;
+        perform(alloc, words.as_slice(), &mut files, &mut said, &mut Closed),
+        0
+    );
+    assert_eq!(rt;
+        perform(alloc, &["run"], &mut files, &mut said, &mut Closed),
+        2
+    );
 }
 
 #[test]
@@ -145,16 +200,48 @@ fn reads_a_line(rt: HostRuntime) -> Result<(), Fail> {
     let alloc = rt.alloc();
     let rows: [(&[&str], &str, Budget); 3] = [
         (&["run", "a b"], "a b", DEFAULT),
-        (&["run", "--depth=+7", "--", "--fuel"], "--fuel", Budget { depth: 7, ..DEFAULT }),
         (
-            &["run", "--fuel", "18446744073709551615", "--depth", "1", "--output", "2", "x", "--size", "3", "--nesting=255"],
+            &["run", "--depth=+7", "--", "--fuel"],
+            "--fuel",
+            Budget {
+                depth: 7,
+                ..DEFAULT
+            },
+        ),
+        (
+            &[
+                "run",
+                "--fuel",
+                "18446744073709551615",
+                "--depth",
+                "1",
+                "--output",
+                "2",
+                "x",
+                "--size",
+                "3",
+                "--nesting=255",
+            ],
             "x",
-            Budget { fuel: u64::MAX, depth: 1, output: 2, size: 3, nesting: 255 },
+            Budget {
+                fuel: u64::MAX,
+                depth: 1,
+                output: 2,
+                size: 3,
+                nesting: 255,
+            },
         ),
     ];
     for (words, image, budget) in rows {
         let image = String::from_str(alloc, image)?;
-        assert!(rt; job(alloc, words)? == Job { command: Command::Run { image }, budget }, "{words:?}");
+        assert!(rt;
+            job(alloc, words)?
+                == Job {
+                    command: Command::Run { image },
+                    budget
+                },
+            "{words:?}"
+        );
     }
     Ok(())
 }
