@@ -145,12 +145,11 @@ Suffices go m o = (a : Budget) × ((b : Budget) → AtLeast a b → go (on_machi
 enough_step : (n : ℕ) (a : Action) (go : Config → Next) (free : Machine → Free) (o : Free) → IsMeant o → ((m : Machine) → free m ≡ o → Suffices go m o)
     → on_action a free ≡ o → (l : Budget) × ((b : Budget) → AtLeast l b → then_goes (spends n a b) go ≡ Ends (outcome_of o))
 enough_step n (goes_on m d) go free o h rest e =
-    let r = rest m e in
-    (
+    let r = rest m e in (
       more_for n d r.0,
       λ b at. ap (λ x. then_goes x go)
-        (lets b.fuel n config.fuel _ (omega (arith, at.fuel)) ∙ lets b.depth d.calls config.depth _ (omega (arith, at.depth)) ∙ lets b.output d.bytes config.output _ (omega (arith, at.output)) ∙ lets b.size d.size config.size _ (omega (arith, at.size)) ∙ lets b.nesting d.nesting config.nesting _ (omega (arith, at.nesting)))
-        ∙ r.1 (spared n d b) (record { fuel = omega (arith, at.fuel); depth = omega (arith, at.depth); output = omega (arith, at.output); size = omega (arith, at.size); nesting = omega (arith, at.nesting) }),
+          (lets b.fuel n config.fuel _ (omega (arith, at.fuel)) ∙ lets b.depth d.calls config.depth _ (omega (arith, at.depth)) ∙ lets b.output d.bytes config.output _ (omega (arith, at.output)) ∙ lets b.size d.size config.size _ (omega (arith, at.size)) ∙ lets b.nesting d.nesting config.nesting _ (omega (arith, at.nesting)))
+          ∙ r.1 (spared n d b) (record { fuel = omega (arith, at.fuel); depth = omega (arith, at.depth); output = omega (arith, at.output); size = omega (arith, at.size); nesting = omega (arith, at.nesting) }),
     )
 enough_step n (ends t) go free o h rest e =
     (only_fuel n, λ b at. ap (λ x. then_goes x go) (lets b.fuel n config.fuel (Ends (config.text t)) at.fuel) ∙ ap (λ f. Ends (outcome_of f)) e)
@@ -205,11 +204,13 @@ start_machine k x = (start k x (only_fuel 0)).machine
 pub enough_run : (k : Code) (x : Pairs) (n : ℕ) (o : Free) → IsMeant o → exec_strict k n (start_machine k x) ≡ o → Enough k x (outcome_of o)
 enough_run k x n o h e =
     let a = enough k n (start_machine k x) o h e in
-    let c = context_fits x k.names in
-    (sum_of a.0 c.0, λ b at.
-      let fits : passed b x k.names ≡ None = c.1 b (second_at_least a.0 c.0 b at) in
-      let ending : Ending k (start k x b) (outcome_of o) = (n, a.1 b (first_at_least a.0 c.0 b at)) in
-      subst (λ p. RunFrom p k x b (outcome_of o)) (sym fits) ending)
+    let c = context_fits x k.names in (
+      sum_of a.0 c.0,
+      λ b at.
+          let fits : passed b x k.names ≡ None = c.1 b (second_at_least a.0 c.0 b at) in
+          let ending : Ending k (start k x b) (outcome_of o) = (n, a.1 b (first_at_least a.0 c.0 b at)) in
+          subst (λ p. RunFrom p k x b (outcome_of o)) (sym fits) ending,
+    )
 
 run_from_erased : (k : Code) (x : Pairs) (b : Budget) (p : Option config.Limit) (o : Free) → IsMeant o → RunFrom p k x b (outcome_of o) → (n : ℕ) × (exec_strict k n (start_machine k x) ≡ o)
 run_from_erased k x b (Some l) (Finished t) h r = absurd cc

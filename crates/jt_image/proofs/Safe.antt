@@ -182,7 +182,7 @@ module _ (k : Code) (m : Machine) (g : IsFit k m) (l : Leads) (agree : Agrees k 
   drop_fine e =
       let a = pops_ok s (λ r. goes_on g.unit m.point r) l e in
       taken a.0 broken (λ t fs. goes (with_entries m.state fs) no_demand) (λ x. Fine (straight x m)) a.1
-        (λ t fs is kinds count sized. (lands (m.point + 1) fs m.state.globals m.state.buffers (rw kinds (goes_on_ok k g.unit g.shapes m.point a.0 l a.2 agree)) refl (rw count g.buffers), λ n z _. (sized n z).1))
+      (λ t fs is kinds count sized. (lands (m.point + 1) fs m.state.globals m.state.buffers (rw kinds (goes_on_ok k g.unit g.shapes m.point a.0 l a.2 agree)) refl (rw count g.buffers), λ n z _. (sized n z).1))
 
   store_fine : (c : ℕ) → effect k g.unit m.point (op.GStore c) s ≡ Ok l → Fine (strict k g.unit (op.GStore c) m)
   store_fine c e =
@@ -190,13 +190,13 @@ module _ (k : Code) (m : Machine) (g : IsFit k m) (l : Leads) (agree : Agrees k 
       let a = pops_ok s (λ r. goes_on g.unit m.point r) l b.1 in
       let there : ltb c (length m.state.globals) ≡ true = rw g.globals b.0 in
       in_place _ _ there (taken a.0 broken (λ t fs. goes (record m.state { entries = fs; globals = slice_set m.state.globals c t }) no_demand) (λ x. Fine (straight x m)) a.1
-        (λ t fs is kinds count sized. (lands (m.point + 1) fs (slice_set m.state.globals c t) m.state.buffers (rw kinds (goes_on_ok k g.unit g.shapes m.point a.0 l a.2 agree)) (length-set m.state.globals c t) (rw count g.buffers), λ n z _. (sized n z).1)))
+      (λ t fs is kinds count sized. (lands (m.point + 1) fs (slice_set m.state.globals c t) m.state.buffers (rw kinds (goes_on_ok k g.unit g.shapes m.point a.0 l a.2 agree)) (length-set m.state.globals c t) (rw count g.buffers), λ n z _. (sized n z).1)))
 
   dup_fine : effect k g.unit m.point op.Dup s ≡ Ok l → Fine (strict k g.unit op.Dup m)
   dup_fine e =
       let a = pops_ok s (λ r. goes_on g.unit m.point (kind.Value ∷ kind.Value ∷ r)) l e in
       taken a.0 broken (λ t fs. push t (value t ∷ fs) m.state) (λ x. Fine (straight x m)) a.1
-        (λ t fs is kinds count sized. (lands (m.point + 1) (value t ∷ value t ∷ fs) m.state.globals m.state.buffers (rw kinds (goes_on_ok k g.unit g.shapes m.point (kind.Value ∷ kind.Value ∷ a.0) l a.2 agree)) refl (rw count g.buffers), λ n z fits. (fits, sized n z)))
+      (λ t fs is kinds count sized. (lands (m.point + 1) (value t ∷ value t ∷ fs) m.state.globals m.state.buffers (rw kinds (goes_on_ok k g.unit g.shapes m.point (kind.Value ∷ kind.Value ∷ a.0) l a.2 agree)) refl (rw count g.buffers), λ n z fits. (fits, sized n z)))
 
   -- bytes into the innermost buffer, with entries that hold as many captures
   put_fine : (bytes : List ℕ) (bs : List (List ℕ)) (fs : List Entry) → length bs ≡ suc (captures fs) → g.shapes (m.point + 1) ≡ Some (kinds_of fs) → ((n : ℕ) → AreSized n es → AreSized n fs) → Fine (straight (put bytes bs (with_entries m.state fs)) m)
@@ -212,7 +212,7 @@ module _ (k : Code) (m : Machine) (g : IsFit k m) (l : Leads) (agree : Agrees k 
       let b = require_ok _ _ _ l e in
       let q = pops_ok s (λ r. goes_on g.unit m.point r) l b.1 in
       in_place _ _ b.0 (taken q.0 broken (λ t fs. put_printed (printed t) (with_entries m.state fs)) (λ x. Fine (straight x m)) q.1
-        (λ t fs is kinds count sized. printed_fine (printed t) fs (rw count g.buffers) (rw kinds (goes_on_ok k g.unit g.shapes m.point q.0 l q.2 agree)) (λ n z. (sized n z).1)))
+      (λ t fs is kinds count sized. printed_fine (printed t) fs (rw count g.buffers) (rw kinds (goes_on_ok k g.unit g.shapes m.point q.0 l q.2 agree)) (λ n z. (sized n z).1)))
 
   data_fine : (c : ℕ) → effect k g.unit m.point (op.Data c) s ≡ Ok l → Fine (strict k g.unit (op.Data c) m)
   data_fine c e =
@@ -230,7 +230,7 @@ module _ (k : Code) (m : Machine) (g : IsFit k m) (l : Leads) (agree : Agrees k 
   branch_fine : (to : Tree → ℕ) (r : Shape) → s ≡ kind.Value ∷ r → ((t : Tree) → g.shapes (to t) ≡ Some r) → Fine (jump_on to m)
   branch_fine to r is here =
       taken r wrong (λ t fs. step.goes_on (record m { point = to t; state = with_entries m.state fs }) no_demand) Fine is
-        (λ t fs e kinds count sized. (lands (to t) fs m.state.globals m.state.buffers (rw kinds (here t)) refl (rw count g.buffers), λ n z _. (sized n z).1))
+      (λ t fs e kinds count sized. (lands (to t) fs m.state.globals m.state.buffers (rw kinds (here t)) refl (rw count g.buffers), λ n z _. (sized n z).1))
 
   if_false_fine : (p : ℕ) → effect k g.unit m.point (op.JumpIfFalse p) s ≡ Ok l → Fine (strict k g.unit (op.JumpIfFalse p) m)
   if_false_fine p e =
@@ -294,12 +294,12 @@ unless_fine k fuel false l n h = h refl
 spends_fine : (k : Code) (es : List Entry) (n : ℕ) (a : Action) (b : Budget) → 1 ≤ n → AreSized b.size es → IsFineAction k es a → IsFineStep k b.fuel (spends n a b)
 spends_fine k es n (step.goes_on m d) b positive sized fine =
     unless_fine k b.fuel (nat_lt b.fuel n) config.fuel _ (λ enough.
-      unless_fine k b.fuel (nat_lt b.depth d.calls) config.depth _ (λ _.
-        unless_fine k b.fuel (nat_lt b.output d.bytes) config.output _ (λ _.
-          unless_fine k b.fuel (nat_lt b.size d.size) config.size _ (λ small.
-            unless_fine k b.fuel (nat_lt b.nesting d.nesting) config.nesting (Goes (record { machine = m; left = spared n d b })) (λ _.
-              let fuel : n ≤ b.fuel = ltb-false _ _ enough in
-              (record { fit = fine.0; sized = fine.1 b.size sized (ltb-false _ _ small) }, omega arith))))))
+    unless_fine k b.fuel (nat_lt b.depth d.calls) config.depth _ (λ _.
+    unless_fine k b.fuel (nat_lt b.output d.bytes) config.output _ (λ _.
+    unless_fine k b.fuel (nat_lt b.size d.size) config.size _ (λ small.
+    unless_fine k b.fuel (nat_lt b.nesting d.nesting) config.nesting (Goes (record { machine = m; left = spared n d b })) (λ _.
+    let fuel : n ≤ b.fuel = ltb-false _ _ enough in
+    (record { fit = fine.0; sized = fine.1 b.size sized (ltb-false _ _ small) }, omega arith))))))
 spends_fine k es n (ends t) b positive sized fine = unless_fine k b.fuel (nat_lt b.fuel n) config.fuel (Ends (config.text t)) (λ _. tt)
 spends_fine k es n (faulty f) b positive sized fine = unless_fine k b.fuel (nat_lt b.fuel n) config.fuel (Ends (config.fault f)) (λ _. tt)
 spends_fine k es n wrong b positive sized fine = absurd fine
