@@ -88,7 +88,7 @@ pub stepped_more : (n : ℕ) (s d : ℤ) → stepped (n + 1) s d ≡ more_items 
 stepped_more zero s d = ap (λ (z : ℤ). item (number z) no_items) (nothing_further s d)
 stepped_more (suc n) s d =
     let later : stepped (n + 1) (s +ℤ d) d ≡ more_items (stepped n (s +ℤ d) d) (number (s +ℤ pos (suc n) *ℤ d)) =
-        stepped_more n (s +ℤ d) d ∙ ap (λ (z : ℤ). more_items (stepped n (s +ℤ d) d) (number z)) (one_further s d n) in
+    stepped_more n (s +ℤ d) d ∙ ap (λ (z : ℤ). more_items (stepped n (s +ℤ d) d) (number z)) (one_further s d n) in
     ap (λ (m : ℕ). stepped m s d) (add-one (suc n)) ∙ ap (item (number s)) (ap (λ (m : ℕ). stepped m (s +ℤ d) d) (sym (add-one n)) ∙ later)
 
 -- one more number of a range

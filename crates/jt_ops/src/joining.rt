@@ -28,10 +28,22 @@ pub(crate) fn add(
             concatenated(alloc, &Piece::Raw(s), &Piece::Raw(t), Kind::Plain, limits)
         }
         (Value::Text(s), Value::Markup(t)) => {
-            concatenated(alloc, &Piece::Escaped(s), &Piece::Raw(t), Kind::Markup, limits)
+            concatenated(
+                alloc,
+                &Piece::Escaped(s),
+                &Piece::Raw(t),
+                Kind::Markup,
+                limits,
+            )
         }
         (Value::Markup(s), Value::Text(t)) => {
-            concatenated(alloc, &Piece::Raw(s), &Piece::Escaped(t), Kind::Markup, limits)
+            concatenated(
+                alloc,
+                &Piece::Raw(s),
+                &Piece::Escaped(t),
+                Kind::Markup,
+                limits,
+            )
         }
         (Value::Markup(s), Value::Markup(t)) => {
             concatenated(alloc, &Piece::Raw(s), &Piece::Raw(t), Kind::Markup, limits)
@@ -166,7 +178,7 @@ fn measure(items: &Vec<Value>) -> (u64, u32)
 fn append_copies(alloc: Global, into: &mut Vec<Value>, items: &Vec<Value>) -> Result<(), NoMemory>
     ensures { OnOk result
         (items_view into.new.items
-            ≡ joined_items (items_view into.old.items) (items_view items.now.items)) }
+        ≡ joined_items (items_view into.old.items) (items_view items.now.items)) }
 {
     for item in items {
         into.push(item.try_clone(alloc)?)?;

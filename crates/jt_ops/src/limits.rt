@@ -118,11 +118,7 @@ pub(crate) fn within(value: Value, limits: Limits) -> Result<Value, OpError>
 }
 
 /// A copy of a value, under the limits.
-pub(crate) fn copy_within(
-    alloc: Global,
-    value: &Value,
-    limits: Limits,
-) -> Result<Value, OpError>
+pub(crate) fn copy_within(alloc: Global, value: &Value, limits: Limits) -> Result<Value, OpError>
     ensures { Answers result (limited_by limits (Ok (view value.now))) }
 {
     allow(value.size(), value.nesting(), limits)?;

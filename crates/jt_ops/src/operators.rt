@@ -60,12 +60,7 @@ pub fn binary(
 /// # Errors
 ///
 /// Those of `binary`.
-pub fn unary(
-    alloc: Global,
-    op: OpId,
-    operand: &Value,
-    limits: Limits,
-) -> Result<Value, OpError>
+pub fn unary(alloc: Global, op: OpId, operand: &Value, limits: Limits) -> Result<Value, OpError>
     requires { op_operands op ≡ 1 }
     ensures { Answers result (limited_by limits (operation op (view operand.now ∷ []))) }
 {

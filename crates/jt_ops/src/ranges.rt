@@ -118,7 +118,11 @@ fn count(start: i64, stop: i64, step: i64) -> u64
     requires { pos 0 ≢ step }
     ensures { result ≡ range_count start stop step }
 {
-    let (low, high) = if step < 0 { (stop, start) } else { (start, stop) };
+    let (low, high) = if step < 0 {
+        (stop, start)
+    } else {
+        (start, stop)
+    };
     distance(low, high).div_ceil(step.unsigned_abs())
 }
 
@@ -126,11 +130,7 @@ fn count(start: i64, stop: i64, step: i64) -> u64
 fn distance(low: i64, high: i64) -> u64
     ensures { result ≡ ranges.distance low high }
 {
-    if low < high {
-        high.abs_diff(low)
-    } else {
-        0
-    }
+    if low < high { high.abs_diff(low) } else { 0 }
 }
 
 /// So many numbers from a start by a step, each of which has 64 bits.

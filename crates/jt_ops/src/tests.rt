@@ -75,12 +75,7 @@ fn shown(alloc: Global, answer: &Result<Value, OpError>) -> Result<String, Alloc
 }
 
 /// What an operator of two operands answers, shown.
-fn answer_of_two(
-    alloc: Global,
-    op: OpId,
-    left: &str,
-    right: &str,
-) -> Result<String, AllocError> {
+fn answer_of_two(alloc: Global, op: OpId, left: &str, right: &str) -> Result<String, AllocError> {
     if !op.takes(2) {
         return String::from_str(alloc, "another number of operands");
     }
@@ -112,7 +107,12 @@ fn operators_of_two(rt: HostRuntime) {
         (OpId::FloorDivide, "n-7", "n2", "n-4"),
         (OpId::FloorDivide, "n7", "n-2", "n-4"),
         (OpId::FloorDivide, "n1", "n0", "F4 ZeroDivide"),
-        (OpId::FloorDivide, "n-9223372036854775808", "n-1", "F3 Overflow"),
+        (
+            OpId::FloorDivide,
+            "n-9223372036854775808",
+            "n-1",
+            "F3 Overflow",
+        ),
         (OpId::Remainder, "n-7", "n3", "n2"),
         (OpId::Remainder, "n7", "n-3", "n-2"),
         (OpId::Remainder, "n-9223372036854775808", "n-1", "n0"),
@@ -193,7 +193,12 @@ fn ranges(rt: HostRuntime) {
         ("n1", "n2", "n0", "F8 Range"),
         ("u", "n1", "n0", "F2 Undefined"),
         ("n0", "n9223372036854775807", "n1", "too large"),
-        ("n9223372036854775806", "n9223372036854775807", "n9", "l 9223372036854775806"),
+        (
+            "n9223372036854775806",
+            "n9223372036854775807",
+            "n9",
+            "l 9223372036854775806",
+        ),
     ];
     for (start, stop, step, wanted) in rows {
         let start = value(alloc, start).expect(&rt, "a row");

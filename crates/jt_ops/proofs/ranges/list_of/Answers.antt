@@ -26,7 +26,7 @@ returns c =
     let size : c.saturating_add.result ≡ min (tree.size t) (2 ^ 64 - 1) = omega (arith, stepped_size n c.args.start c.args.step, count, c.saturating_add.ensures) in
     let nesting : 1 ≡ min (tree.nesting t) (2 ^ 32 - 1) = omega (arith, stepped_nesting n c.args.start c.args.step) in
     let items : items_view c.in_ok-listed.field-0.items ≡ stepped c.count-count.result c.args.start c.args.step =
-        listed_is c.args.start c.args.step c.count-count.result _ c.ranges.start c.ranges.step c.in_ok-listed.ensures in
+    listed_is c.args.start c.args.step c.count-count.result _ c.ranges.start c.ranges.step c.in_ok-listed.ensures in
     c.in_ok-allow.ensures.ok t size nesting
     ∙ ap (λ (m : ℕ). Ok (tree.list (stepped m c.args.start c.args.step))) (sym count)
     ∙ ap (λ (ts : Items). Ok (tree.list ts)) (sym items)
