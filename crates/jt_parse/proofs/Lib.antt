@@ -1,0 +1,10 @@
+pub mod Bodies
+pub mod Words
+pub mod Complete
+pub mod Sound
+pub mod Exact
+pub mod Weighs
+pub mod Short
+pub mod Texts
+pub mod Views
+pub mod Answers

@@ -1,0 +1,19 @@
+//! Sources of templates, cut into segments and tokens.
+#![tactic(auto)]
+
+mod error;
+mod find;
+mod options;
+mod scanner;
+mod segment;
+mod source;
+#[cfg(test)]
+mod tests;
+mod text;
+mod tokens;
+
+pub use error::ScanError;
+pub use options::Options;
+pub use scanner::scan;
+pub use segment::{Kind, Segment, Tag, Token};
+pub use source::{MAX_SOURCE_LEN, Source};
