@@ -1,0 +1,126 @@
+-- How the text of a source is cut into segments, and a tag's inside into tokens.
+-- A text is a list of characters, each by its code point.
+use Rattle.std.specs.Prelude.{◌≡◌, ℕ, ◌+◌, ◌-◌, Bool, true, false, ◌==◌, ◌&&◌, ◌||◌, List, [], ◌∷◌, ◌++◌, count_by, length}
+use Rattle.unicode_ident.specs.Ident.{is_xid_start, is_xid_continue}
+
+abbrev pub Text : Type 0
+Text = List ℕ
+
+-- ---- tokens
+
+pub data Token : Type 0 where
+  -- a name, or a reserved word
+  name : Text → Token
+
+-- space, tab, LF, VT, FF and CR
+abbrev pub is_space : ℕ → Bool
+is_space c = c == 32 || c == 9 || c == 10 || c == 11 || c == 12 || c == 13
+
+-- a name may start with the character
+abbrev pub starts_name : ℕ → Bool
+starts_name c = is_xid_start c || c == 95
+
+-- the characters may stand behind a name's first
+abbrev pub AllContinue : Text → Type 0
+AllContinue [] = Unit {0}
+AllContinue (c ∷ cs) = (is_xid_continue c ≡ true) × AllContinue cs
+
+-- no name goes on here
+abbrev pub NameEnds : Text → Type 0
+NameEnds [] = Unit {0}
+NameEnds (c ∷ rest) = is_xid_continue c ≡ false
+
+-- `Spelled t s rest`: the token's spelling, the longest that stands in front of the rest
+pub data Spelled : Token → Text → Text → Type 0 where
+  a_name : {c : ℕ} {x rest : Text} → starts_name c ≡ true → AllContinue x → NameEnds rest → Spelled (name (c ∷ x)) (c ∷ x) rest
+
+-- ---- a tag's inside
+
+pub data Kind : Type 0 where
+  variable : Kind
+  block : Kind
+
+-- `}}` closes a variable tag, and `%}` a block tag: the first character of the two
+abbrev pub closer : Kind → ℕ
+closer variable = 125
+closer block = 37
+
+-- the two characters stand in front
+abbrev pub begins : ℕ → ℕ → Text → Bool
+begins a b [] = false
+begins a b (c ∷ []) = false
+begins a b (c ∷ d ∷ rest) = c == a && d == b
+
+-- `Inside k ts x rest`: x begins with the tokens ts, with any whitespace between or none,
+-- and the tag's closer, and the rest stands behind it
+pub data Inside (k : Kind) : List Token → Text → Text → Type 0 where
+  closed : {rest : Text} → Inside k [] (closer k ∷ 125 ∷ rest) rest
+  space : {c : ℕ} {ts : List Token} {x rest : Text} → is_space c ≡ true → Inside k ts x rest → Inside k ts (c ∷ x) rest
+  token : {t : Token} {ts : List Token} {s x rest : Text} → Spelled t s x → Inside k ts x rest → Inside k (t ∷ ts) (s ++ x) rest
+
+-- ---- segments
+
+pub data Segment : Type 0 where
+  data_of : Text → Segment
+  -- with its line
+  tag : Kind → ℕ → List Token → Segment
+  comment : Text → Segment
+
+-- `{{`, `{%` or `{#` stands in front
+abbrev pub opens : Text → Bool
+opens [] = false
+opens (c ∷ []) = false
+opens (c ∷ d ∷ rest) = c == 123 && (d == 123 || d == 37 || d == 35)
+
+-- `#}` stands in front
+abbrev pub ends_comment : Text → Bool
+ends_comment = begins 35 125
+
+-- the test holds at no place of d, read together with the text x behind it
+abbrev pub NoneBegins : (Text → Bool) → Text → Text → Type 0
+NoneBegins test [] x = Unit {0}
+NoneBegins test (c ∷ d) x = (test (c ∷ (d ++ x)) ≡ false) × NoneBegins test d x
+
+-- data goes up to an opener, or to the end
+abbrev pub EndsData : Text → Type 0
+EndsData [] = Unit {0}
+EndsData (c ∷ cs) = opens (c ∷ cs) ≡ true
+
+-- the second character of a tag's opener
+abbrev pub second : Kind → ℕ
+second variable = 123
+second block = 37
+
+-- the number of line ends
+abbrev pub lines : Text → ℕ
+lines = count_by (λ c. c == 10)
+
+-- the line of the place of a source that x stands behind, counted from 1
+abbrev pub line_at : Text → Text → ℕ
+line_at source x = 1 + lines source - lines x
+
+-- `Cuts source Ends ss x`: what is left of the source, x, is cut into the segments ss
+-- up to a place where the fact `Ends` holds of the text behind it.
+-- Data is never empty, and no opener begins in it, not even one that ends behind it.
+-- A comment ends at the first `#}` behind its opener.
+pub data Cuts (source : Text) (Ends : Text → Type 0) : List Segment → Text → Type 0 where
+  no_more : {x : Text} → Ends x → Cuts source Ends [] x
+  some_data : {c : ℕ} {d x : Text} {ss : List Segment} → NoneBegins opens (c ∷ d) x → EndsData x → Cuts source Ends ss x → Cuts source Ends (data_of (c ∷ d) ∷ ss) (c ∷ (d ++ x))
+  a_tag : {k : Kind} {ts : List Token} {ss : List Segment} {x rest : Text} → Inside k ts x rest → Cuts source Ends ss rest → Cuts source Ends (tag k (line_at source (123 ∷ second k ∷ x)) ts ∷ ss) (123 ∷ second k ∷ x)
+  a_comment : {x rest : Text} {ss : List Segment} → NoneBegins ends_comment x (35 ∷ 125 ∷ rest) → Cuts source Ends ss rest → Cuts source Ends (comment x ∷ ss) (123 ∷ 35 ∷ (x ++ (35 ∷ 125 ∷ rest)))
+
+-- the whole source is cut into the segments
+abbrev pub IsCut : List Segment → Text → Type 0
+IsCut ss source = Cuts source (λ x. x ≡ []) ss source
+
+-- ---- how much stands in segments
+
+-- a tag counts 4 for its delimiters and 1 a token, data 1 and a comment nothing
+abbrev pub weight : Segment → ℕ
+weight (data_of d) = 1
+weight (tag k n ts) = 4 + length ts
+weight (comment x) = 0
+
+abbrev pub weight_of : List Segment → ℕ
+weight_of [] = 0
+weight_of (s ∷ ss) = weight s + weight_of ss
