@@ -99,15 +99,19 @@ lines = count_by (λ c. c == 10)
 abbrev pub line_at : Text → Text → ℕ
 line_at source x = 1 + lines source - lines x
 
--- `Cuts source Ends ss x`: what is left of the source, x, is cut into the segments ss
--- up to a place where the fact `Ends` holds of the text behind it.
--- Data is never empty, and no opener begins in it, not even one that ends behind it.
--- A comment ends at the first `#}` behind its opener.
+-- `IsSegment n s x rest`: x begins with the segment s, which a tag of line n may be, and the rest
+-- stands behind it. Data is never empty, and no opener begins in it, not even one that ends
+-- behind it. A comment ends at the first `#}` behind its opener.
+pub data IsSegment (n : ℕ) : Segment → Text → Text → Type 0 where
+  some_data : {c : ℕ} {d rest : Text} → NoneBegins opens (c ∷ d) rest → EndsData rest → IsSegment n (data_of (c ∷ d)) (c ∷ (d ++ rest)) rest
+  a_tag : {k : Kind} {ts : List Token} {x rest : Text} → Inside k ts x rest → IsSegment n (tag k n ts) (123 ∷ second k ∷ x) rest
+  a_comment : {x rest : Text} → NoneBegins ends_comment x (35 ∷ 125 ∷ rest) → IsSegment n (comment x) (123 ∷ 35 ∷ (x ++ (35 ∷ 125 ∷ rest))) rest
+
+-- `Cuts source Ends ss x`: what is left of the source, x, is cut into the segments ss,
+-- up to a place where the fact `Ends` holds of the text behind it
 pub data Cuts (source : Text) (Ends : Text → Type 0) : List Segment → Text → Type 0 where
   no_more : {x : Text} → Ends x → Cuts source Ends [] x
-  some_data : {c : ℕ} {d x : Text} {ss : List Segment} → NoneBegins opens (c ∷ d) x → EndsData x → Cuts source Ends ss x → Cuts source Ends (data_of (c ∷ d) ∷ ss) (c ∷ (d ++ x))
-  a_tag : {k : Kind} {ts : List Token} {ss : List Segment} {x rest : Text} → Inside k ts x rest → Cuts source Ends ss rest → Cuts source Ends (tag k (line_at source (123 ∷ second k ∷ x)) ts ∷ ss) (123 ∷ second k ∷ x)
-  a_comment : {x rest : Text} {ss : List Segment} → NoneBegins ends_comment x (35 ∷ 125 ∷ rest) → Cuts source Ends ss rest → Cuts source Ends (comment x ∷ ss) (123 ∷ 35 ∷ (x ++ (35 ∷ 125 ∷ rest)))
+  more : {s : Segment} {ss : List Segment} {x rest : Text} → IsSegment (line_at source x) s x rest → Cuts source Ends ss rest → Cuts source Ends (s ∷ ss) x
 
 -- the whole source is cut into the segments
 abbrev pub IsCut : List Segment → Text → Type 0

@@ -60,11 +60,16 @@ opened line d x =
 abbrev pub data_at : Text × Text → Outcome Segment
 data_at p = Ok (data_of p.0, p.1)
 
+abbrev pub second_of : Text → ℕ
+second_of [] = 0
+second_of (d ∷ x) = d
+
 -- the segment in front of a text that is not empty
 unfoldable pub segment_at : ℕ → Text → Outcome Segment
 segment_at line [] = Err (UnclosedTag line)
-segment_at line (c ∷ []) = data_at (c ∷ [], [])
-segment_at line (c ∷ d ∷ x) = if opens (c ∷ d ∷ x) then opened line d x else data_at (clear_run opens (c ∷ d ∷ x))
+segment_at line (c ∷ cs) =
+    if opens (c ∷ cs) then opened line (second_of cs) (drop 1 cs)
+    else data_at (clear_run opens (c ∷ cs))
 
 abbrev pub with_segment : Segment → Result (List Segment) ScanError → Result (List Segment) ScanError
 with_segment s (Ok ss) = Ok (s ∷ ss)
