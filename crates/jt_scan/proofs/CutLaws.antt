@@ -3,9 +3,11 @@ use Rattle.std.proofs.Common.{◌≡◌, ℕ, zero, suc, ◌+◌, ◌<◌, ◌�
 use Rattle.std.proofs.lemmas.Bool.Decides.{nat_tests}
 use Rattle.jt_scan.specs.declared.error.ScanError.{ScanError}
 use Rattle.jt_scan.specs.declared.error.ScanError.TheVariants.{UnclosedTag}
-use Rattle.jt_scan.specs.Cut.{Text, Token, Kind, variable, block, second, Segment, data_of, tag, comment, opens, ends_comment, NoneBegins, EndsData, IsSegment, some_data, a_tag, a_comment, Cuts, no_more, more, line_at}
+use Rattle.jt_scan.specs.declared.segment.Kind.{Kind}
+use Rattle.jt_scan.specs.declared.segment.Kind.TheVariants.{Variable, Block}
+use Rattle.jt_scan.specs.Cut.{Text, Token, second, Segment, data_of, tag, comment, opens, begins, ends_comment, NoneBegins, EndsData, IsSegment, some_data, a_tag, a_comment, Cuts, no_more, more, line_at}
 use Rattle.jt_scan.specs.Refused.{IsFaulty, in_tag, in_comment}
-use Rattle.jt_scan.specs.Scanning.{Outcome, ◌>>=◌, clear_run, inside, tag_at, ended_comment, comment_at, opened, data_at, second_of, segment_at, with_segment, then_cut, cut}
+use Rattle.jt_scan.specs.Scanning.{Outcome, ◌>>=◌, clear_run, inside, tag_at, ended_comment, comment_at, data_at, segment_at, with_segment, then_cut, cut}
 use Rattle.jt_scan.proofs.Steps.{by_test, ok_parts, bind_ok, both, begins_says, Stops, clear_of, clear_says}
 use Rattle.jt_scan.proofs.InsideLaws.{inside_found, inside_says, inside_refuses}
 use Rattle.jt_scan.proofs.Weight.{shrinks}
@@ -23,17 +25,26 @@ ends (c ∷ cs) h = h
 comment_found : (n : ℕ) (x rest : Text) → NoneBegins ends_comment x (35 ∷ 125 ∷ rest) → comment_at n (x ++ (35 ∷ 125 ∷ rest)) ≡ Ok (comment x, rest)
 comment_found n x rest h = rw (clear_of ends_comment x (35 ∷ 125 ∷ rest) h refl) refl
 
+none : (a b c : Bool) → (a || b || c) ≡ false → (a ≡ false) × (b ≡ false) × (c ≡ false)
+none false false false h = (refl, refl, refl)
+none true b c h = cc
+none false true c h = cc
+none false false true h = cc
+
+opens_none : (x : Text) → opens x ≡ false → (begins 123 123 x ≡ false) × (begins 123 37 x ≡ false) × (begins 123 35 x ≡ false)
+opens_none x h = none (begins 123 123 x) (begins 123 37 x) (begins 123 35 x) h
+
 pub segment_found : {n : ℕ} {s : Segment} {x rest : Text} → IsSegment n s x rest → segment_at n x ≡ Ok (s, rest)
 unfolding segment_at
-segment_found (some_data {c} {d} {rest} h e) = rw (h.0, clear_of opens (c ∷ d) rest h (stops rest e))
-segment_found {n} (a_tag {k = variable} {x} i) = rw (inside_found i n (length x + 1) (omega arith))
-segment_found {n} (a_tag {k = block} {x} i) = rw (inside_found i n (length x + 1) (omega arith))
+segment_found (some_data {c} {d} {rest} h e) = let o = opens_none (c ∷ (d ++ rest)) h.0 in rw (o.0, o.1, o.2, clear_of opens (c ∷ d) rest h (stops rest e))
+segment_found {n} (a_tag {k = Variable} {x} i) = rw (inside_found i n (length x + 1) (omega arith))
+segment_found {n} (a_tag {k = Block} {x} i) = rw (inside_found i n (length x + 1) (omega arith))
 segment_found {n} (a_comment {x} {rest} h) = comment_found n x rest h
 
-pub cut_more : (source x rest : Text) (m : ℕ) (s : Segment) (ss : List Segment) → segment_at (line_at source x) x ≡ Ok (s, rest) → cut source m rest ≡ Ok ss → cut source (suc m) x ≡ Ok (s ∷ ss)
-unfolding cut segment_at
-cut_more source [] rest m s ss e f = cc
-cut_more source (c ∷ cs) rest m s ss e f = rw (e, f)
+pub cut_more : (source x rest : Text) (m : ℕ) (s : Segment) (ss : List Segment) → 0 < length x → segment_at (line_at source x) x ≡ Ok (s, rest) → cut source m rest ≡ Ok ss → cut source (suc m) x ≡ Ok (s ∷ ss)
+unfolding cut
+cut_more source [] rest m s ss le e f = absurd (omega arith)
+cut_more source (c ∷ cs) rest m s ss le e f = rw (e, f)
 
 cut_end : (source x : Text) (m : ℕ) → x ≡ [] → cut source (suc m) x ≡ Ok []
 unfolding cut
@@ -44,13 +55,14 @@ pub cut_found : {source : Text} {ss : List Segment} {x : Text} → Cuts source (
 cut_found (no_more e) zero le = absurd (omega arith)
 cut_found (more p c) zero le = absurd (omega arith)
 cut_found {source} {ss} {x} (no_more e) (suc m) le = cut_end source x m e
-cut_found {source} {ss} {x} (more {s} {ss = us} {rest} p c) (suc m) le = cut_more source x rest m s us (segment_found p) (cut_found c m (omega (arith, (shrinks p).0)))
+cut_found {source} {ss} {x} (more {s} {ss = us} {rest} p c) (suc m) le = cut_more source x rest m s us (omega (arith, (shrinks p).0)) (segment_found p) (cut_found c m (omega (arith, (shrinks p).0)))
 
 -- ---- and nothing else is
 
-opener_says : (c : ℕ) (cs : Text) → opens (c ∷ cs) ≡ true → (c ≡ 123) × (cs ≡ second_of cs ∷ drop 1 cs) × ((second_of cs == 123 || second_of cs == 37 || second_of cs == 35) ≡ true)
-opener_says c [] h = cc
-opener_says c (d ∷ x) h = let q = both (c == 123) _ h in (grind (arith, nat_tests), refl, q.1)
+pub opener_says : (a b : ℕ) (x : Text) → begins a b x ≡ true → x ≡ a ∷ b ∷ drop 2 x
+opener_says a b [] h = cc
+opener_says a b (c ∷ []) h = cc
+opener_says a b (c ∷ d ∷ x) h = let p = begins_says a b c (d ∷ x) h in ap (λ k. k ∷ d ∷ x) p.0 ∙ ap (λ z. a ∷ z) p.1
 
 tag_says : (k : Kind) (n : ℕ) (s : Segment) (x rest : Text) → tag_at k n x ≡ Ok (s, rest) → IsSegment n s (123 ∷ second k ∷ x) rest
 tag_says k n s x rest e =
@@ -72,33 +84,28 @@ comment_says n s x rest e =
     let r = clear_says ends_comment x in
     subst (λ z. IsSegment n s (123 ∷ 35 ∷ z) rest) (sym r.0) (comment_behind n s (clear_run ends_comment x).0 (clear_run ends_comment x).1 rest r.1 r.2 e)
 
-opened_says : (n d : ℕ) (s : Segment) (x rest : Text) → (d == 123 || d == 37 || d == 35) ≡ true → opened n d x ≡ Ok (s, rest) → IsSegment n s (123 ∷ d ∷ x) rest
-opened_says n d s x rest is e =
-    by_test (d == 123) _ _ _ e
-    (λ h q. let same : 123 ≡ d = grind (arith, nat_tests) in subst (λ k. IsSegment n s (123 ∷ k ∷ x) rest) same (tag_says variable n s x rest q))
-    (λ h q. by_test (d == 37) _ _ _ q
-      (λ h2 q2. let same : 37 ≡ d = grind (arith, nat_tests) in subst (λ k. IsSegment n s (123 ∷ k ∷ x) rest) same (tag_says block n s x rest q2))
-      (λ h2 q2. let same : 35 ≡ d = grind (arith, nat_tests) in subst (λ k. IsSegment n s (123 ∷ k ∷ x) rest) same (comment_says n s x rest q2)))
-
-data_behind : (n : ℕ) (s : Segment) (c : ℕ) (cs d y rest : Text) → (c ∷ cs ≡ d ++ y) → opens (c ∷ cs) ≡ false → NoneBegins opens d y → Stops opens y → data_at (d, y) ≡ Ok (s, rest) → IsSegment n s (c ∷ cs) rest
-data_behind n s c cs [] [] rest w o h t e = cc
-data_behind n s c cs [] (a ∷ y) rest w o h t e = let f = ap opens w in cc
-data_behind n s c cs (a ∷ d) y rest w o h t e =
+data_behind : (n : ℕ) (s : Segment) (x d y rest : Text) → (x ≡ d ++ y) → 0 < length x → opens x ≡ false → NoneBegins opens d y → Stops opens y → data_at (d, y) ≡ Ok (s, rest) → IsSegment n s x rest
+data_behind n s x [] [] rest w le o h t e = absurd (omega (arith, ap length w))
+data_behind n s x [] (a ∷ y) rest w le o h t e = let f = ap opens w in cc
+data_behind n s x (a ∷ d) y rest w le o h t e =
     let p = ok_parts e in
-    subst (λ u. IsSegment n u (c ∷ cs) rest) p.0
+    subst (λ u. IsSegment n u x rest) p.0
     (subst (λ z. IsSegment n (data_of (a ∷ d)) z rest) (sym w)
     (subst (λ z. IsSegment n (data_of (a ∷ d)) (a ∷ (d ++ y)) z) p.1 (some_data h (ends y t))))
 
-pub segment_says : (n : ℕ) (s : Segment) (x rest : Text) → segment_at n x ≡ Ok (s, rest) → IsSegment n s x rest
+none_opens : (x : Text) → begins 123 123 x ≡ false → begins 123 37 x ≡ false → begins 123 35 x ≡ false → opens x ≡ false
+none_opens x a b c = rw (a, b, c) refl
+
+pub segment_says : (n : ℕ) (s : Segment) (x rest : Text) → 0 < length x → segment_at n x ≡ Ok (s, rest) → IsSegment n s x rest
 unfolding segment_at
-segment_says n s [] rest e = cc
-segment_says n s (c ∷ cs) rest e =
-    by_test (opens (c ∷ cs)) _ _ _ e
-    (λ h q.
-      let o = opener_says c cs h in
-      subst (λ k. IsSegment n s (k ∷ cs) rest) (sym o.0)
-      (subst (λ z. IsSegment n s (123 ∷ z) rest) (sym o.1) (opened_says n (second_of cs) s (drop 1 cs) rest o.2 q)))
-    (λ h q. let r = clear_says opens (c ∷ cs) in data_behind n s c cs (clear_run opens (c ∷ cs)).0 (clear_run opens (c ∷ cs)).1 rest r.0 h r.1 r.2 q)
+segment_says n s x rest le e =
+    by_test (begins 123 123 x) _ _ _ e
+    (λ h q. subst (λ z. IsSegment n s z rest) (sym (opener_says 123 123 x h)) (tag_says Variable n s (drop 2 x) rest q))
+    (λ h q. by_test (begins 123 37 x) _ _ _ q
+      (λ h2 q2. subst (λ z. IsSegment n s z rest) (sym (opener_says 123 37 x h2)) (tag_says Block n s (drop 2 x) rest q2))
+      (λ h2 q2. by_test (begins 123 35 x) _ _ _ q2
+        (λ h3 q3. subst (λ z. IsSegment n s z rest) (sym (opener_says 123 35 x h3)) (comment_says n s (drop 2 x) rest q3))
+        (λ h3 q3. let r = clear_says opens x in data_behind n s x (clear_run opens x).0 (clear_run opens x).1 rest r.0 le (none_opens x h h2 h3) r.1 r.2 q3)))
 
 -- the first segment and the others
 then_says : (s : Segment) (o : Result (List Segment) ScanError) (ss : List Segment) → with_segment s o ≡ Ok ss → (us : List Segment) × (o ≡ Ok us) × (s ∷ us ≡ ss)
@@ -116,7 +123,7 @@ cut_says source (suc m) ss [] e = let same : [] ≡ ss = cc in subst (λ us. Cut
 cut_says source (suc m) ss (c ∷ cs) e =
     let t = first_says (segment_at (line_at source (c ∷ cs)) (c ∷ cs)) (cut source m) ss e in
     subst (λ us. Cuts source (λ y. y ≡ []) us (c ∷ cs)) t.5
-    (more (segment_says (line_at source (c ∷ cs)) t.0 (c ∷ cs) t.1 t.3) (cut_says source m t.2 t.1 t.4))
+    (more (segment_says (line_at source (c ∷ cs)) t.0 (c ∷ cs) t.1 (omega arith) t.3) (cut_says source m t.2 t.1 t.4))
 
 -- ---- refusals
 
@@ -136,23 +143,16 @@ comment_refuses n x e q =
     let r = clear_says ends_comment x in
     subst (λ z. IsFaulty n e (123 ∷ 35 ∷ z)) (sym r.0) (comment_open n e (clear_run ends_comment x).0 (clear_run ends_comment x).1 r.1 q)
 
-opened_refuses : (n d : ℕ) (x : Text) (e : ScanError) → (d == 123 || d == 37 || d == 35) ≡ true → opened n d x ≡ Err e → IsFaulty n e (123 ∷ d ∷ x)
-opened_refuses n d x e is q =
-    by_test (d == 123) _ _ _ q
-    (λ h q1. let same : 123 ≡ d = grind (arith, nat_tests) in subst (λ k. IsFaulty n e (123 ∷ k ∷ x)) same (tag_refuses variable n x e _ refl q1))
-    (λ h q1. by_test (d == 37) _ _ _ q1
-      (λ h2 q2. let same : 37 ≡ d = grind (arith, nat_tests) in subst (λ k. IsFaulty n e (123 ∷ k ∷ x)) same (tag_refuses block n x e _ refl q2))
-      (λ h2 q2. let same : 35 ≡ d = grind (arith, nat_tests) in subst (λ k. IsFaulty n e (123 ∷ k ∷ x)) same (comment_refuses n x e q2)))
-
-segment_refuses : (n c : ℕ) (cs : Text) (e : ScanError) → segment_at n (c ∷ cs) ≡ Err e → IsFaulty n e (c ∷ cs)
+segment_refuses : (n : ℕ) (x : Text) (e : ScanError) → segment_at n x ≡ Err e → IsFaulty n e x
 unfolding segment_at
-segment_refuses n c cs e q =
-    by_test (opens (c ∷ cs)) _ _ _ q
-    (λ h q1.
-      let o = opener_says c cs h in
-      subst (λ k. IsFaulty n e (k ∷ cs)) (sym o.0)
-      (subst (λ z. IsFaulty n e (123 ∷ z)) (sym o.1) (opened_refuses n (second_of cs) (drop 1 cs) e o.2 q1)))
-    (λ h q1. cc)
+segment_refuses n x e q =
+    by_test (begins 123 123 x) _ _ _ q
+    (λ h q1. subst (IsFaulty n e) (sym (opener_says 123 123 x h)) (tag_refuses Variable n (drop 2 x) e _ refl q1))
+    (λ h q1. by_test (begins 123 37 x) _ _ _ q1
+      (λ h2 q2. subst (IsFaulty n e) (sym (opener_says 123 37 x h2)) (tag_refuses Block n (drop 2 x) e _ refl q2))
+      (λ h2 q2. by_test (begins 123 35 x) _ _ _ q2
+        (λ h3 q3. subst (IsFaulty n e) (sym (opener_says 123 35 x h3)) (comment_refuses n (drop 2 x) e q3))
+        (λ h3 q3. cc)))
 
 refused_by : (o : Outcome Segment) (f : Text → Result (List Segment) ScanError) (e : ScanError) → then_cut o f ≡ Err e → (o ≡ Err e) ⊎ ((s : Segment) × (rest : Text) × (o ≡ Ok (s, rest)) × (f rest ≡ Err e))
 refused_by (Err d) f e h = inl (let same : d ≡ e = cc in ap (λ u. Err u) same)
@@ -171,9 +171,9 @@ cut_refuses source zero e x le h = absurd (omega arith)
 cut_refuses source (suc m) e [] le h = cc
 cut_refuses source (suc m) e (c ∷ cs) le h =
     elim (refused_by (segment_at (line_at source (c ∷ cs)) (c ∷ cs)) (cut source m) e h) [
-      inl q ↦ ([], no_more (segment_refuses (line_at source (c ∷ cs)) c cs e q))
+      inl q ↦ ([], no_more (segment_refuses (line_at source (c ∷ cs)) (c ∷ cs) e q))
       | inr q ↦
-        let p = segment_says (line_at source (c ∷ cs)) q.0 (c ∷ cs) q.1 q.2 in
+        let p = segment_says (line_at source (c ∷ cs)) q.0 (c ∷ cs) q.1 (omega arith) q.2 in
         let i = cut_refuses source m e q.1 (omega (arith, (shrinks p).0)) q.3 in
         (q.0 ∷ i.0, more p i.1)
     ]

@@ -1,6 +1,8 @@
 -- How the text of a source is cut into segments, and a tag's inside into tokens.
 -- A text is a list of characters, each by its code point.
 use Rattle.std.specs.Prelude.{◌≡◌, ℕ, ◌+◌, ◌-◌, Bool, true, false, ◌==◌, ◌&&◌, ◌||◌, List, [], ◌∷◌, ◌++◌, count_by, length}
+use Rattle.jt_scan.specs.declared.segment.Kind.{Kind}
+use Rattle.jt_scan.specs.declared.segment.Kind.TheVariants as kind
 use Rattle.unicode_ident.specs.Ident.{is_xid_start, is_xid_continue}
 
 abbrev pub Text : Type 0
@@ -36,14 +38,10 @@ pub data Spelled : Token → Text → Text → Type 0 where
 
 -- ---- a tag's inside
 
-pub data Kind : Type 0 where
-  variable : Kind
-  block : Kind
-
 -- `}}` closes a variable tag, and `%}` a block tag: the first character of the two
 abbrev pub closer : Kind → ℕ
-closer variable = 125
-closer block = 37
+closer kind.Variable = 125
+closer kind.Block = 37
 
 -- the two characters stand in front
 abbrev pub begins : ℕ → ℕ → Text → Bool
@@ -68,9 +66,7 @@ pub data Segment : Type 0 where
 
 -- `{{`, `{%` or `{#` stands in front
 abbrev pub opens : Text → Bool
-opens [] = false
-opens (c ∷ []) = false
-opens (c ∷ d ∷ rest) = c == 123 && (d == 123 || d == 37 || d == 35)
+opens x = begins 123 123 x || begins 123 37 x || begins 123 35 x
 
 -- `#}` stands in front
 abbrev pub ends_comment : Text → Bool
@@ -88,8 +84,8 @@ EndsData (c ∷ cs) = opens (c ∷ cs) ≡ true
 
 -- the second character of a tag's opener
 abbrev pub second : Kind → ℕ
-second variable = 123
-second block = 37
+second kind.Variable = 123
+second kind.Block = 37
 
 -- the number of line ends
 abbrev pub lines : Text → ℕ

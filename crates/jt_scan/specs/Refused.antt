@@ -2,7 +2,8 @@
 use Rattle.std.specs.Prelude.{◌≡◌, ℕ, false, true, List, [], ◌∷◌, ◌++◌}
 use Rattle.jt_scan.specs.declared.error.ScanError.{ScanError}
 use Rattle.jt_scan.specs.declared.error.ScanError.TheVariants.{UnclosedTag, UnclosedText, BadCharacter, BadEscape, NumberTooLarge, UnclosedRaw, SourceTooLong, NoMemory}
-use Rattle.jt_scan.specs.Cut.{Text, Token, Segment, Kind, second, closer, begins, is_space, starts_name, Spelled, NoneBegins, ends_comment, Cuts, line_at}
+use Rattle.jt_scan.specs.declared.segment.Kind.{Kind}
+use Rattle.jt_scan.specs.Cut.{Text, Token, Segment, second, closer, begins, is_space, starts_name, Spelled, NoneBegins, ends_comment, Cuts, line_at}
 
 -- `IsBroken k n e x`: behind whitespace and tokens, the inside x of a tag of line n has the fault e
 pub data IsBroken (k : Kind) (n : ℕ) : ScanError → Text → Type 0 where

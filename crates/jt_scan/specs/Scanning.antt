@@ -1,9 +1,11 @@
 -- What the scanner computes. No public contract names it: the cut is found by it.
-use Rattle.std.specs.Prelude.{ℕ, zero, suc, ◌+◌, Bool, true, false, ◌==◌, List, [], ◌∷◌, length, drop, Result, Ok, Err, if◌then◌else◌}
+use Rattle.std.specs.Prelude.{◌≡◌, ℕ, zero, suc, ◌+◌, Bool, true, false, ◌==◌, List, [], ◌∷◌, length, drop, Result, Ok, Err, if◌then◌else◌}
 use Rattle.unicode_ident.specs.Ident.{is_xid_continue}
 use Rattle.jt_scan.specs.declared.error.ScanError.{ScanError}
-use Rattle.jt_scan.specs.declared.error.ScanError.TheVariants.{UnclosedTag, BadCharacter}
-use Rattle.jt_scan.specs.Cut.{Text, Token, name, Segment, data_of, tag, comment, Kind, variable, block, closer, begins, is_space, starts_name, opens, ends_comment, line_at}
+use Rattle.jt_scan.specs.declared.error.ScanError.TheVariants.{UnclosedTag, BadCharacter, NoMemory}
+use Rattle.jt_scan.specs.declared.segment.Kind.{Kind}
+use Rattle.jt_scan.specs.declared.segment.Kind.TheVariants.{Variable, Block}
+use Rattle.jt_scan.specs.Cut.{Text, Token, name, Segment, data_of, tag, comment, closer, begins, is_space, starts_name, opens, ends_comment, line_at}
 
 abbrev pub Outcome : Type 0 → Type 0
 Outcome A = Result (A × Text) ScanError
@@ -26,8 +28,25 @@ unfoldable pub clear_run : (Text → Bool) → Text → Text × Text
 clear_run test [] = ([], [])
 clear_run test (c ∷ cs) = if test (c ∷ cs) then ([], c ∷ cs) else front c (clear_run test cs)
 
+-- what stands in front in a tag, where no whitespace does
+pub data Front : Type 0 where
+  -- the closer
+  closes : Front
+  spells : Token → Front
+
+unfoldable pub front_at : Kind → ℕ → Text → Outcome Front
+front_at k line [] = Err (UnclosedTag line)
+front_at k line (c ∷ cs) =
+    if begins (closer k) 125 (c ∷ cs) then Ok (closes, drop 1 cs)
+    else if starts_name c then (let p = run cs in Ok (spells (name (c ∷ p.0)), p.1))
+    else Err (BadCharacter line)
+
 abbrev pub with_token : Token → Outcome (List Token) → Outcome (List Token)
 with_token t o = o >>= λ ts rest. Ok (t ∷ ts, rest)
+
+abbrev pub then_inside : (Text → Outcome (List Token)) → Front → Text → Outcome (List Token)
+then_inside f closes rest = Ok ([], rest)
+then_inside f (spells t) rest = with_token t (f rest)
 
 -- the tokens up to the closer, and what is behind it; the number bounds the turns, and each takes a character
 unfoldable pub inside : Kind → ℕ → ℕ → Text → Outcome (List Token)
@@ -35,9 +54,7 @@ inside k line zero x = Err (UnclosedTag line)
 inside k line (suc m) [] = Err (UnclosedTag line)
 inside k line (suc m) (c ∷ cs) =
     if is_space c then inside k line m cs
-    else if begins (closer k) 125 (c ∷ cs) then Ok ([], drop 1 cs)
-    else if starts_name c then with_token (name (c ∷ (run cs).0)) (inside k line m (run cs).1)
-    else Err (BadCharacter line)
+    else (front_at k line (c ∷ cs) >>= then_inside (inside k line m))
 
 abbrev pub tag_at : Kind → ℕ → Text → Outcome Segment
 tag_at k line x = inside k line (length x + 1) x >>= λ ts rest. Ok (tag k line ts, rest)
@@ -50,26 +67,16 @@ ended_comment line x (c ∷ rest) = Ok (comment x, drop 1 rest)
 abbrev pub comment_at : ℕ → Text → Outcome Segment
 comment_at line x = ended_comment line (clear_run ends_comment x).0 (clear_run ends_comment x).1
 
--- what stands behind an opener that ends with the character
-abbrev pub opened : ℕ → ℕ → Text → Outcome Segment
-opened line d x =
-    if d == 123 then tag_at variable line x
-    else if d == 37 then tag_at block line x
-    else comment_at line x
-
 abbrev pub data_at : Text × Text → Outcome Segment
 data_at p = Ok (data_of p.0, p.1)
 
-abbrev pub second_of : Text → ℕ
-second_of [] = 0
-second_of (d ∷ x) = d
-
 -- the segment in front of a text that is not empty
 unfoldable pub segment_at : ℕ → Text → Outcome Segment
-segment_at line [] = Err (UnclosedTag line)
-segment_at line (c ∷ cs) =
-    if opens (c ∷ cs) then opened line (second_of cs) (drop 1 cs)
-    else data_at (clear_run opens (c ∷ cs))
+segment_at line x =
+    if begins 123 123 x then tag_at Variable line (drop 2 x)
+    else if begins 123 37 x then tag_at Block line (drop 2 x)
+    else if begins 123 35 x then comment_at line (drop 2 x)
+    else data_at (clear_run opens x)
 
 abbrev pub with_segment : Segment → Result (List Segment) ScanError → Result (List Segment) ScanError
 with_segment s (Ok ss) = Ok (s ∷ ss)
@@ -84,3 +91,8 @@ unfoldable pub cut : Text → ℕ → Text → Result (List Segment) ScanError
 cut source zero x = Err (UnclosedTag 0)
 cut source (suc m) [] = Ok []
 cut source (suc m) (c ∷ cs) = then_cut (segment_at (line_at source (c ∷ cs)) (c ∷ cs)) (cut source m)
+
+-- a refusal is the outcome's, where it is not a want of memory
+abbrev pub IsGiven : {A : Type 0} → ScanError → Outcome A → Type 0
+IsGiven NoMemory o = Unit {0}
+IsGiven e o = o ≡ Err e

@@ -12,8 +12,7 @@ token_view (t.Name x) = cut.name (chars x.now)
 
 abbrev pub segment_view : Segment → cut.Segment
 segment_view (s.Data x) = cut.data_of (chars x.now)
-segment_view (s.Variable tag) = cut.tag cut.variable tag.line (map token_view tag.tokens.items)
-segment_view (s.Block tag) = cut.tag cut.block tag.line (map token_view tag.tokens.items)
+segment_view (s.Tag tag) = cut.tag tag.kind tag.line (map token_view tag.tokens.items)
 segment_view (s.Comment x) = cut.comment (chars x.now)
 
 -- the segments that a row of them stands for

@@ -9,5 +9,5 @@ mod text;
 
 pub use error::ScanError;
 pub use options::Options;
-pub use segment::{Segment, Tag, Token};
+pub use segment::{Kind, Segment, Tag, Token};
 pub use source::{MAX_SOURCE_LEN, Source};

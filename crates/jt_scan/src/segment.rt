@@ -7,9 +7,20 @@ pub enum Token<'a> {
     Name(&'a str),
 }
 
+/// The kind of a tag.
+#[derive(Clone, Copy, Debug, PartialEq, Eq)]
+pub enum Kind {
+    /// `{{ .. }}`
+    Variable,
+    /// `{% .. %}`
+    Block,
+}
+
 /// A variable or a block tag.
 #[derive(Debug, Drop)]
 pub struct Tag<'a> {
+    /// Which of the two it is.
+    pub kind: Kind,
     /// The line of the tag's first `{`, counted from 1.
     pub line: u32,
     /// The tokens between the delimiters.
@@ -21,10 +32,8 @@ pub struct Tag<'a> {
 pub enum Segment<'a> {
     /// Text outside tags, never empty.
     Data(&'a str),
-    /// `{{ .. }}`
-    Variable(Tag<'a>),
-    /// `{% .. %}`
-    Block(Tag<'a>),
+    /// A variable or a block tag.
+    Tag(Tag<'a>),
     /// `{# .. #}`, with the text between the delimiters.
     Comment(&'a str),
 }
