@@ -1,0 +1,179 @@
+-- The one cut of a source is found, and a refusal holds.
+use Rattle.std.proofs.Common.{◌≡◌, ℕ, zero, suc, ◌+◌, ◌<◌, ◌≤◌, ◌==◌, ◌&&◌, ◌||◌, ◌⊎◌, inl, inr, Bool, true, false, List, [], ◌∷◌, ◌++◌, length, drop, refl, sym, ap, subst, ◌∙◌, arith, Result, Ok, Err, length-append, append-nil}
+use Rattle.std.proofs.lemmas.Bool.Decides.{nat_tests}
+use Rattle.jt_scan.specs.declared.error.ScanError.{ScanError}
+use Rattle.jt_scan.specs.declared.error.ScanError.TheVariants.{UnclosedTag}
+use Rattle.jt_scan.specs.declared.segment.Kind.{Kind}
+use Rattle.jt_scan.specs.declared.segment.Kind.TheVariants.{Variable, Block}
+use Rattle.jt_scan.specs.Cut.{Text, Token, second, Segment, data_of, tag, comment, opens, begins, ends_comment, NoneBegins, EndsData, IsSegment, some_data, a_tag, a_comment, Cuts, no_more, more, line_at}
+use Rattle.jt_scan.specs.Refused.{IsFaulty, in_tag, in_comment}
+use Rattle.jt_scan.specs.Scanning.{Outcome, ◌>>=◌, clear_run, inside, tag_at, ended_comment, comment_at, data_at, segment_at, with_segment, then_cut, cut}
+use Rattle.jt_scan.proofs.Steps.{by_test, ok_parts, bind_ok, both, begins_says, Stops, clear_of, clear_says}
+use Rattle.jt_scan.proofs.InsideLaws.{inside_found, inside_says, inside_refuses}
+use Rattle.jt_scan.proofs.Weight.{shrinks}
+
+stops : (x : Text) → EndsData x → Stops opens x
+stops [] h = h
+stops (c ∷ cs) h = h
+
+ends : (x : Text) → Stops opens x → EndsData x
+ends [] h = h
+ends (c ∷ cs) h = h
+
+-- ---- what the definitions have is found
+
+comment_found : (n : ℕ) (x rest : Text) → NoneBegins ends_comment x (35 ∷ 125 ∷ rest) → comment_at n (x ++ (35 ∷ 125 ∷ rest)) ≡ Ok (comment x, rest)
+comment_found n x rest h = rw (clear_of ends_comment x (35 ∷ 125 ∷ rest) h refl) refl
+
+none : (a b c : Bool) → (a || b || c) ≡ false → (a ≡ false) × (b ≡ false) × (c ≡ false)
+none false false false h = (refl, refl, refl)
+none true b c h = cc
+none false true c h = cc
+none false false true h = cc
+
+opens_none : (x : Text) → opens x ≡ false → (begins 123 123 x ≡ false) × (begins 123 37 x ≡ false) × (begins 123 35 x ≡ false)
+opens_none x h = none (begins 123 123 x) (begins 123 37 x) (begins 123 35 x) h
+
+pub segment_found : {n : ℕ} {s : Segment} {x rest : Text} → IsSegment n s x rest → segment_at n x ≡ Ok (s, rest)
+unfolding segment_at
+segment_found (some_data {c} {d} {rest} h e) = let o = opens_none (c ∷ (d ++ rest)) h.0 in rw (o.0, o.1, o.2, clear_of opens (c ∷ d) rest h (stops rest e))
+segment_found {n} (a_tag {k = Variable} {x} i) = rw (inside_found i n (length x + 1) (omega arith))
+segment_found {n} (a_tag {k = Block} {x} i) = rw (inside_found i n (length x + 1) (omega arith))
+segment_found {n} (a_comment {x} {rest} h) = comment_found n x rest h
+
+pub cut_more : (source x rest : Text) (m : ℕ) (s : Segment) (ss : List Segment) → 0 < length x → segment_at (line_at source x) x ≡ Ok (s, rest) → cut source m rest ≡ Ok ss → cut source (suc m) x ≡ Ok (s ∷ ss)
+unfolding cut
+cut_more source [] rest m s ss le e f = absurd (omega arith)
+cut_more source (c ∷ cs) rest m s ss le e f = rw (e, f)
+
+cut_end : (source x : Text) (m : ℕ) → x ≡ [] → cut source (suc m) x ≡ Ok []
+unfolding cut
+cut_end source [] m e = refl
+cut_end source (c ∷ cs) m e = cc
+
+pub cut_found : {source : Text} {ss : List Segment} {x : Text} → Cuts source (λ y. y ≡ []) ss x → (m : ℕ) → length x < m → cut source m x ≡ Ok ss
+cut_found (no_more e) zero le = absurd (omega arith)
+cut_found (more p c) zero le = absurd (omega arith)
+cut_found {source} {ss} {x} (no_more e) (suc m) le = cut_end source x m e
+cut_found {source} {ss} {x} (more {s} {ss = us} {rest} p c) (suc m) le = cut_more source x rest m s us (omega (arith, (shrinks p).0)) (segment_found p) (cut_found c m (omega (arith, (shrinks p).0)))
+
+-- ---- and nothing else is
+
+pub opener_says : (a b : ℕ) (x : Text) → begins a b x ≡ true → x ≡ a ∷ b ∷ drop 2 x
+opener_says a b [] h = cc
+opener_says a b (c ∷ []) h = cc
+opener_says a b (c ∷ d ∷ x) h = let p = begins_says a b c (d ∷ x) h in ap (λ k. k ∷ d ∷ x) p.0 ∙ ap (λ z. a ∷ z) p.1
+
+tag_says : (k : Kind) (n : ℕ) (s : Segment) (x rest : Text) → tag_at k n x ≡ Ok (s, rest) → IsSegment n s (123 ∷ second k ∷ x) rest
+tag_says k n s x rest e =
+    let b = bind_ok (inside k n (length x + 1) x) (λ ts z. Ok (tag k n ts, z)) s rest e in
+    let p = ok_parts b.3 in
+    subst (λ u. IsSegment n u (123 ∷ second k ∷ x) rest) p.0
+    (a_tag (inside_says k n (length x + 1) b.0 x rest (subst (λ z. inside k n (length x + 1) x ≡ Ok (b.0, z)) p.1 b.2)))
+
+comment_behind : (n : ℕ) (s : Segment) (d y rest : Text) → NoneBegins ends_comment d y → Stops ends_comment y → ended_comment n d y ≡ Ok (s, rest) → IsSegment n s (123 ∷ 35 ∷ (d ++ y)) rest
+comment_behind n s d [] rest h t e = cc
+comment_behind n s d (c ∷ y) rest h t e =
+    let p = ok_parts e in let b = begins_says 35 125 c y t in
+    let is : c ∷ y ≡ 35 ∷ 125 ∷ rest = ap (λ k. k ∷ y) b.0 ∙ ap (λ z. 35 ∷ z) (b.1 ∙ ap (λ z. 125 ∷ z) p.1) in
+    subst (λ u. IsSegment n u (123 ∷ 35 ∷ (d ++ (c ∷ y))) rest) p.0
+    (subst (λ z. IsSegment n (comment d) (123 ∷ 35 ∷ (d ++ z)) rest) (sym is) (a_comment (subst (NoneBegins ends_comment d) is h)))
+
+comment_says : (n : ℕ) (s : Segment) (x rest : Text) → comment_at n x ≡ Ok (s, rest) → IsSegment n s (123 ∷ 35 ∷ x) rest
+comment_says n s x rest e =
+    let r = clear_says ends_comment x in
+    subst (λ z. IsSegment n s (123 ∷ 35 ∷ z) rest) (sym r.0) (comment_behind n s (clear_run ends_comment x).0 (clear_run ends_comment x).1 rest r.1 r.2 e)
+
+data_behind : (n : ℕ) (s : Segment) (x d y rest : Text) → (x ≡ d ++ y) → 0 < length x → opens x ≡ false → NoneBegins opens d y → Stops opens y → data_at (d, y) ≡ Ok (s, rest) → IsSegment n s x rest
+data_behind n s x [] [] rest w le o h t e = absurd (omega (arith, ap length w))
+data_behind n s x [] (a ∷ y) rest w le o h t e = let f = ap opens w in cc
+data_behind n s x (a ∷ d) y rest w le o h t e =
+    let p = ok_parts e in
+    subst (λ u. IsSegment n u x rest) p.0
+    (subst (λ z. IsSegment n (data_of (a ∷ d)) z rest) (sym w)
+    (subst (λ z. IsSegment n (data_of (a ∷ d)) (a ∷ (d ++ y)) z) p.1 (some_data h (ends y t))))
+
+none_opens : (x : Text) → begins 123 123 x ≡ false → begins 123 37 x ≡ false → begins 123 35 x ≡ false → opens x ≡ false
+none_opens x a b c = rw (a, b, c) refl
+
+pub segment_says : (n : ℕ) (s : Segment) (x rest : Text) → 0 < length x → segment_at n x ≡ Ok (s, rest) → IsSegment n s x rest
+unfolding segment_at
+segment_says n s x rest le e =
+    by_test (begins 123 123 x) _ _ _ e
+    (λ h q. subst (λ z. IsSegment n s z rest) (sym (opener_says 123 123 x h)) (tag_says Variable n s (drop 2 x) rest q))
+    (λ h q. by_test (begins 123 37 x) _ _ _ q
+      (λ h2 q2. subst (λ z. IsSegment n s z rest) (sym (opener_says 123 37 x h2)) (tag_says Block n s (drop 2 x) rest q2))
+      (λ h2 q2. by_test (begins 123 35 x) _ _ _ q2
+        (λ h3 q3. subst (λ z. IsSegment n s z rest) (sym (opener_says 123 35 x h3)) (comment_says n s (drop 2 x) rest q3))
+        (λ h3 q3. let r = clear_says opens x in data_behind n s x (clear_run opens x).0 (clear_run opens x).1 rest r.0 le (none_opens x h h2 h3) r.1 r.2 q3)))
+
+-- the first segment and the others
+then_says : (s : Segment) (o : Result (List Segment) ScanError) (ss : List Segment) → with_segment s o ≡ Ok ss → (us : List Segment) × (o ≡ Ok us) × (s ∷ us ≡ ss)
+then_says s (Ok us) ss e = (us, refl, cc)
+then_says s (Err x) ss e = cc
+
+first_says : (o : Outcome Segment) (f : Text → Result (List Segment) ScanError) (ss : List Segment) → then_cut o f ≡ Ok ss → (s : Segment) × (rest : Text) × (us : List Segment) × (o ≡ Ok (s, rest)) × (f rest ≡ Ok us) × (s ∷ us ≡ ss)
+first_says (Err x) f ss e = cc
+first_says (Ok p) f ss e = let t = then_says p.0 (f p.1) ss e in (p.0, p.1, t.0, refl, t.1, t.2)
+
+pub cut_says : (source : Text) (m : ℕ) (ss : List Segment) (x : Text) → cut source m x ≡ Ok ss → Cuts source (λ y. y ≡ []) ss x
+unfolding cut
+cut_says source zero ss x e = cc
+cut_says source (suc m) ss [] e = let same : [] ≡ ss = cc in subst (λ us. Cuts source (λ y. y ≡ []) us []) same (no_more refl)
+cut_says source (suc m) ss (c ∷ cs) e =
+    let t = first_says (segment_at (line_at source (c ∷ cs)) (c ∷ cs)) (cut source m) ss e in
+    subst (λ us. Cuts source (λ y. y ≡ []) us (c ∷ cs)) t.5
+    (more (segment_says (line_at source (c ∷ cs)) t.0 (c ∷ cs) t.1 (omega arith) t.3) (cut_says source m t.2 t.1 t.4))
+
+-- ---- refusals
+
+err_same : {A : Type 0} {d e : ScanError} → ◌≡◌ {A = Outcome A} (Err d) (Err e) → d ≡ e
+err_same h = cc
+
+tag_refuses : (k : Kind) (n : ℕ) (x : Text) (e : ScanError) (o : Outcome (List Token)) → inside k n (length x + 1) x ≡ o → (o >>= λ ts z. Ok (tag k n ts, z)) ≡ Err e → IsFaulty n e (123 ∷ second k ∷ x)
+tag_refuses k n x e (Ok p) w h = cc
+tag_refuses k n x e (Err d) w h = in_tag (inside_refuses k n (length x + 1) x e (omega arith) (w ∙ ap (λ u. Err u) (err_same h)))
+
+comment_open : (n : ℕ) (e : ScanError) (d y : Text) → NoneBegins ends_comment d y → ended_comment n d y ≡ Err e → IsFaulty n e (123 ∷ 35 ∷ (d ++ y))
+comment_open n e d [] h q = subst (λ u. IsFaulty n u (123 ∷ 35 ∷ (d ++ []))) (err_same q) (subst (λ z. IsFaulty n (UnclosedTag n) (123 ∷ 35 ∷ z)) (search (append-nil)) (in_comment h))
+comment_open n e d (c ∷ y) h q = cc
+
+comment_refuses : (n : ℕ) (x : Text) (e : ScanError) → comment_at n x ≡ Err e → IsFaulty n e (123 ∷ 35 ∷ x)
+comment_refuses n x e q =
+    let r = clear_says ends_comment x in
+    subst (λ z. IsFaulty n e (123 ∷ 35 ∷ z)) (sym r.0) (comment_open n e (clear_run ends_comment x).0 (clear_run ends_comment x).1 r.1 q)
+
+segment_refuses : (n : ℕ) (x : Text) (e : ScanError) → segment_at n x ≡ Err e → IsFaulty n e x
+unfolding segment_at
+segment_refuses n x e q =
+    by_test (begins 123 123 x) _ _ _ q
+    (λ h q1. subst (IsFaulty n e) (sym (opener_says 123 123 x h)) (tag_refuses Variable n (drop 2 x) e _ refl q1))
+    (λ h q1. by_test (begins 123 37 x) _ _ _ q1
+      (λ h2 q2. subst (IsFaulty n e) (sym (opener_says 123 37 x h2)) (tag_refuses Block n (drop 2 x) e _ refl q2))
+      (λ h2 q2. by_test (begins 123 35 x) _ _ _ q2
+        (λ h3 q3. subst (IsFaulty n e) (sym (opener_says 123 35 x h3)) (comment_refuses n (drop 2 x) e q3))
+        (λ h3 q3. cc)))
+
+refused_by : (o : Outcome Segment) (f : Text → Result (List Segment) ScanError) (e : ScanError) → then_cut o f ≡ Err e → (o ≡ Err e) ⊎ ((s : Segment) × (rest : Text) × (o ≡ Ok (s, rest)) × (f rest ≡ Err e))
+refused_by (Err d) f e h = inl (let same : d ≡ e = cc in ap (λ u. Err u) same)
+refused_by (Ok p) f e h = inr (p.0, p.1, refl, others p.0 (f p.1) h)
+  where
+    others : (s : Segment) (o : Result (List Segment) ScanError) → with_segment s o ≡ Err e → o ≡ Err e
+    others s (Ok us) q = cc
+    others s (Err d) q = let same : d ≡ e = cc in ap (λ u. Err u) same
+
+abbrev pub FaultyAt : Text → ScanError → Text → Type 0
+FaultyAt source e x = IsFaulty (line_at source x) e x
+
+pub cut_refuses : (source : Text) (m : ℕ) (e : ScanError) (x : Text) → length x < m → cut source m x ≡ Err e → (ss : List Segment) × Cuts source (FaultyAt source e) ss x
+unfolding cut
+cut_refuses source zero e x le h = absurd (omega arith)
+cut_refuses source (suc m) e [] le h = cc
+cut_refuses source (suc m) e (c ∷ cs) le h =
+    elim (refused_by (segment_at (line_at source (c ∷ cs)) (c ∷ cs)) (cut source m) e h) [
+      inl q ↦ ([], no_more (segment_refuses (line_at source (c ∷ cs)) (c ∷ cs) e q))
+      | inr q ↦
+        let p = segment_says (line_at source (c ∷ cs)) q.0 (c ∷ cs) q.1 (omega arith) q.2 in
+        let i = cut_refuses source m e q.1 (omega (arith, (shrinks p).0)) q.3 in
+        (q.0 ∷ i.0, more p i.1)
+    ]

@@ -1,0 +1,5 @@
+pub mod Steps
+pub mod Tables
+pub mod InsideLaws
+pub mod CutLaws
+pub mod Weight

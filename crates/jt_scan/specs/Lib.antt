@@ -1,0 +1,6 @@
+pub mod Cut
+pub mod LineEnds
+pub mod Scanning
+pub mod SourceView
+pub mod Refused
+pub mod View

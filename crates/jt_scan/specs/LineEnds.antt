@@ -1,0 +1,21 @@
+-- A source's text, with one kind of line end.
+use Rattle.std.specs.Prelude.{ℕ, Bool, true, false, ◌==◌, ◌&&◌, List, [], ◌∷◌, if◌then◌else◌}
+
+-- CR LF and a lone CR become LF: a CR is written as LF, and an LF directly behind a CR is left out
+unfoldable pub lf_ends : Bool → List ℕ → List ℕ
+lf_ends after_cr [] = []
+lf_ends after_cr (c ∷ cs) =
+    if c == 13 then 10 ∷ lf_ends true cs
+    else if after_cr && c == 10 then lf_ends false cs
+    else c ∷ lf_ends false cs
+
+-- one LF at the end is dropped
+unfoldable pub without_last_lf : List ℕ → List ℕ
+without_last_lf [] = []
+without_last_lf (c ∷ []) = if c == 10 then [] else c ∷ []
+without_last_lf (c ∷ d ∷ rest) = c ∷ without_last_lf (d ∷ rest)
+
+-- the text that is scanned, in bytes: line ends first, then the last LF, unless it is kept
+abbrev pub normalized : Bool → List ℕ → List ℕ
+normalized true text = lf_ends false text
+normalized false text = without_last_lf (lf_ends false text)

@@ -1,0 +1,20 @@
+-- What contracts see of segments and tokens: characters, and not where they lie in memory.
+use Rattle.std.specs.Prelude.{List, map}
+use Rattle.std.specs.Str.{chars}
+use Rattle.jt_scan.specs.declared.segment.Segment.{Segment}
+use Rattle.jt_scan.specs.declared.segment.Segment.TheVariants as s
+use Rattle.jt_scan.specs.declared.segment.Token.{Token}
+use Rattle.jt_scan.specs.declared.segment.Token.TheVariants as t
+use Rattle.jt_scan.specs.Cut as cut
+
+abbrev pub token_view : Token → cut.Token
+token_view (t.Name x) = cut.name (chars x.now)
+
+abbrev pub segment_view : Segment → cut.Segment
+segment_view (s.Data x) = cut.data_of (chars x.now)
+segment_view (s.Tag tag) = cut.tag tag.kind tag.line (map token_view tag.tokens.items)
+segment_view (s.Comment x) = cut.comment (chars x.now)
+
+-- the segments that a row of them stands for
+abbrev pub cut_of : List Segment → List cut.Segment
+cut_of = map segment_view

@@ -1,0 +1,56 @@
+//! Why a source is refused.
+
+use std::alloc::{AllocError, AllocFailed};
+use thiserror::Error;
+
+/// Why a source is refused. The line is that of the first `{` of the tag in which the fault was
+/// found, counted from 1 after CR LF and CR have become LF, or 1 where there is no tag.
+#[derive(Clone, Copy, Debug, Drop, Error, PartialEq, Eq)]
+pub enum ScanError {
+    /// The source ends inside a tag or a comment.
+    #[error("S1 UnclosedTag")]
+    UnclosedTag { line: u32 },
+    /// The source ends inside a text literal of a tag.
+    #[error("S2 UnclosedText")]
+    UnclosedText { line: u32 },
+    /// A character of a tag begins no token.
+    #[error("S3 BadCharacter")]
+    BadCharacter { line: u32 },
+    /// A text literal has an escape without meaning.
+    #[error("S4 BadEscape")]
+    BadEscape { line: u32 },
+    /// A number is above 9223372036854775807.
+    #[error("S5 NumberTooLarge")]
+    NumberTooLarge { line: u32 },
+    /// A `raw` tag has no `endraw` tag behind it.
+    #[error("S6 UnclosedRaw")]
+    UnclosedRaw { line: u32 },
+    /// The text has more than [`MAX_SOURCE_LEN`](crate::MAX_SOURCE_LEN) bytes.
+    #[error("S7 SourceTooLong")]
+    SourceTooLong,
+    /// A growth was refused.
+    #[error("S8 NoMemory")]
+    NoMemory,
+}
+
+impl From<AllocError> for ScanError {
+    ghost use Rattle.std.specs.Prelude.{◌≡◌};
+    ghost use Rattle.jt_scan.specs.declared.error.ScanError.TheVariants.{NoMemory};
+
+    ghost from_gives = { λ _ e. e ≡ NoMemory };
+
+    fn from(_e: AllocError) -> ScanError {
+        ScanError::NoMemory
+    }
+}
+
+impl<T: Drop> From<AllocFailed<T>> for ScanError {
+    ghost use Rattle.std.specs.Prelude.{◌≡◌};
+    ghost use Rattle.jt_scan.specs.declared.error.ScanError.TheVariants.{NoMemory};
+
+    ghost from_gives = { λ _ e. e ≡ NoMemory };
+
+    fn from(_e: AllocFailed<T>) -> ScanError {
+        ScanError::NoMemory
+    }
+}

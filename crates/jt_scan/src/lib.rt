@@ -1,0 +1,13 @@
+//! Sources of templates, cut into segments and tokens.
+#![tactic(auto)]
+
+mod error;
+mod options;
+mod segment;
+mod source;
+mod text;
+
+pub use error::ScanError;
+pub use options::Options;
+pub use segment::{Kind, Segment, Tag, Token};
+pub use source::{MAX_SOURCE_LEN, Source};

@@ -1,0 +1,39 @@
+//! Segments and tokens, which are slices of their source.
+
+/// A token of a tag.
+#[derive(Clone, Copy, Debug, PartialEq, Eq)]
+pub enum Token<'a> {
+    /// A name, or a reserved word.
+    Name(&'a str),
+}
+
+/// The kind of a tag.
+#[derive(Clone, Copy, Debug, PartialEq, Eq)]
+pub enum Kind {
+    /// `{{ .. }}`
+    Variable,
+    /// `{% .. %}`
+    Block,
+}
+
+/// A variable or a block tag.
+#[derive(Debug, Drop)]
+pub struct Tag<'a> {
+    /// Which of the two it is.
+    pub kind: Kind,
+    /// The line of the tag's first `{`, counted from 1.
+    pub line: u32,
+    /// The tokens between the delimiters.
+    pub tokens: Vec<Token<'a>>,
+}
+
+/// A part of a source.
+#[derive(Debug, Drop)]
+pub enum Segment<'a> {
+    /// Text outside tags, never empty.
+    Data(&'a str),
+    /// A variable or a block tag.
+    Tag(Tag<'a>),
+    /// `{# .. #}`, with the text between the delimiters.
+    Comment(&'a str),
+}
