@@ -1,0 +1,2 @@
+//! Trees of templates.
+#![tactic(auto)]
