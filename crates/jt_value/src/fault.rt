@@ -1,25 +1,76 @@
 //! Why a value could not be made or printed.
-
+ghost use Rattle.std.specs.Prelude.{◌≡◌, Some, codes};
+ghost use Rattle.jt_value.specs.FaultText.{fault_text, error_text};
 
 use std::alloc::{AllocError, AllocFailed};
+use std::error::Error;
+use std::fmt;
 
-/// A fault of a template.
+/// A fault of a template. It prints as its code and its name, as `F2 Undefined`.
 #[derive(Clone, Copy, Debug, PartialEq, Eq)]
 pub enum Fault {
+    /// F1: an operand of a type that no case of the operation takes.
     BadType,
+    /// F2: an operand that is undefined, where no case takes it.
     Undefined,
+    /// F3: a number outside 64 bits.
     Overflow,
+    /// F4: a division by 0.
     ZeroDivide,
+    /// F5: a list or a map where a text is printed.
     Unprintable,
+    /// F6: a value without items.
     NotIterable,
+    /// F7: another number of items than of names.
     Unpack,
+    /// F8: a range with too many items, or a step of 0.
     Range,
+    /// F9: an argument outside what a filter takes.
     BadArgument,
 }
+
+impl Fault {
+    /// The code and the name.
+    fn text(self) -> &'static str
+        ensures { result.now ≡ fault_text self }
+    {
+        match self {
+            Fault::BadType => "F1 BadType",
+            Fault::Undefined => "F2 Undefined",
+            Fault::Overflow => "F3 Overflow",
+            Fault::ZeroDivide => "F4 ZeroDivide",
+            Fault::Unprintable => "F5 Unprintable",
+            Fault::NotIterable => "F6 NotIterable",
+            Fault::Unpack => "F7 Unpack",
+            Fault::Range => "F8 Range",
+            Fault::BadArgument => "F9 BadArgument",
+        }
+    }
+}
+
+impl fmt::Display for Fault {
+    ghost output = { λ f. Some (fault_text f) };
+
+    fn fmt<W: fmt::Write>(&self, f: &mut fmt::Formatter<W>) -> fmt::Result {
+        f.write_str(self.text())
+    }
+}
+
+impl Error for Fault {}
 
 /// A growth was refused.
 #[derive(Clone, Copy, Debug, PartialEq, Eq)]
 pub struct NoMemory;
+
+impl fmt::Display for NoMemory {
+    ghost output = { λ _. Some (codes "no memory") };
+
+    fn fmt<W: fmt::Write>(&self, f: &mut fmt::Formatter<W>) -> fmt::Result {
+        f.write_str("no memory")
+    }
+}
+
+impl Error for NoMemory {}
 
 impl From<AllocError> for NoMemory {
     fn from(_e: AllocError) -> NoMemory {
@@ -33,14 +84,29 @@ impl<T: Drop> From<AllocFailed<T>> for NoMemory {
     }
 }
 
+/// Why a call on values gave nothing: a fault of the template, or a growth that was refused.
 #[derive(Clone, Copy, Debug, PartialEq, Eq)]
 pub enum ValueError {
+    /// The template's fault.
     Fault(Fault),
+    /// A growth was refused.
     NoMemory,
 }
 
+impl fmt::Display for ValueError {
+    ghost output = { λ e. Some (error_text e) };
+
+    fn fmt<W: fmt::Write>(&self, f: &mut fmt::Formatter<W>) -> fmt::Result {
+        match self {
+            ValueError::Fault(fault) => f.write_str(fault.text()),
+            ValueError::NoMemory => f.write_str("no memory"),
+        }
+    }
+}
+
+impl Error for ValueError {}
+
 impl From<AllocError> for ValueError {
-    ghost use Rattle.std.specs.Prelude.{◌≡◌};
     ghost use Rattle.jt_value.specs.declared.fault.ValueError.TheVariants.{NoMemory};
 
     ghost from_gives = { λ _ e. e ≡ NoMemory };

@@ -1,0 +1,19 @@
+use Rattle.std.proofs.Common.{ap, sym, ◌∙◌}
+use Rattle.std.specs.Prelude.{option_map}
+use Rattle.std.specs.String.{string_bytes}
+use Rattle.jt_value.specs.Pairs.{pairs}
+use Rattle.jt_value.specs.View.{view}
+use Rattle.jt_value.proofs.Names.{look-lookup, put-insert_entry, distinct-pairs}
+use Rattle.jt_value.proofs.context.Context.insert.Goals as goal
+
+pub returns-in-Ok-clause-ok : goal.returns-in-Ok-clause-ok
+returns-in-Ok-clause-ok c = ap pairs c.in-Ok.ensures.entries ∙ put-insert_entry c.args.name c.args.value c.args.self.now.entries.entries
+
+pub returns-in-Ok-clause-distinct : goal.returns-in-Ok-clause-distinct
+returns-in-Ok-clause-distinct c = distinct-pairs c.insert.new.self.entries c.insert.ensures.unique
+
+pub returns-clause-absent : goal.returns-clause-absent
+returns-clause-absent c = sym (look-lookup (string_bytes c.args.name) c.args.self.now.entries.entries) ∙ ap (option_map view) c.in-Err.ensures.absent
+
+pub returns-clause-distinct : goal.returns-clause-distinct
+returns-clause-distinct c = distinct-pairs c.insert.new.self.entries c.insert.ensures.unique

@@ -1,0 +1,141 @@
+//! Equality.
+ghost use Rattle.std.specs.Prelude.{◌≡◌, true, false};
+ghost use Rattle.std.specs.Option.{option_map_or};
+ghost use Rattle.jt_value.specs.Tree as tree;
+ghost use Rattle.jt_value.specs.Entries.{entry_of, all_keys, same_keys};
+ghost use Rattle.jt_value.specs.Equality.{equal, equal_items, equal_at, truth_number};
+ghost use Rattle.jt_value.specs.View.{view, items_view, entries_view};
+
+use crate::entries::{first_value, has, has_all_keys, have_same_keys};
+use crate::value::Value;
+
+impl Value {
+    /// Whether two values are equal: numbers and truth values as numbers, texts by their characters, markup or not, lists item by
+    /// item, maps by their keys' first values in any order; none equals none, and undefined undefined.
+    pub fn equals(&self, other: &Value) -> bool
+        ensures { result ≡ equal (view self.now) (view other.now) }
+    {
+        are_equal(self, other)
+    }
+}
+
+/// The number that a truth value equals.
+fn number_of_truth(truth: bool) -> i64
+    ensures { result ≡ truth_number truth }
+{
+    if truth { 1 } else { 0 }
+}
+
+/// Whether the value is the number, or the truth value that equals it.
+fn is_number(value: &Value, wanted: i64) -> bool
+    ensures { result ≡ equal (tree.number wanted) (view value.now) }
+{
+    match value {
+        Value::Int(number) => wanted == *number,
+        Value::Bool(truth) => wanted == number_of_truth(*truth),
+        _ => false,
+    }
+}
+
+/// Whether the value is the text, markup or not.
+fn is_text(value: &Value, wanted: &str) -> bool
+    ensures { result ≡ equal (tree.text wanted.now) (view value.now) }
+{
+    match value {
+        Value::Text(text) => wanted == text.as_str(),
+        Value::Markup(text) => wanted == text.as_str(),
+        _ => false,
+    }
+}
+
+#[cycle(equality)]
+fn are_equal(left: &Value, right: &Value) -> bool
+    ensures { result ≡ equal (view left.now) (view right.now) }
+{
+    match left {
+        Value::Undefined => matches!(right, Value::Undefined),
+        Value::None => matches!(right, Value::None),
+        Value::Bool(truth) => is_number(right, number_of_truth(*truth)),
+        Value::Int(number) => is_number(right, *number),
+        Value::Text(text) => is_text(right, text.as_str()),
+        Value::Markup(text) => is_text(right, text.as_str()),
+        Value::List(items) => match right {
+            Value::List(others) => are_items_equal(items, others),
+            _ => false,
+        },
+        Value::Map(entries) => match right {
+            Value::Map(others) => are_maps_equal(entries, others),
+            _ => false,
+        },
+    }
+}
+
+#[cycle(equality)]
+fn are_items_equal(items: &Vec<Value>, others: &Vec<Value>) -> bool
+    ensures { result ≡ equal_items (items_view items.now.items) (items_view others.now.items) }
+{
+    if items.len() != others.len() {
+        return false;
+    }
+    let mut index = 0;
+    for item in items {
+        if !are_equal(item, &others[index]) {
+            return false;
+        }
+        index += 1;
+    }
+    true
+}
+
+#[cycle(equality)]
+fn are_maps_equal(entries: &Vec<(String, Value)>, others: &Vec<(String, Value)>) -> bool
+    ensures { result ≡ equal (tree.map (entries_view entries.now.items)) (tree.map (entries_view others.now.items)) }
+{
+    if have_same_keys(entries, others) {
+        return are_values_equal_in_place(entries, others);
+    }
+    has_all_keys(entries, others) && are_first_values_equal(entries, others)
+}
+
+/// The same as `are_first_values_equal`, in one pass, for maps that have the same keys at the same places.
+#[cycle(equality)]
+fn are_values_equal_in_place(entries: &Vec<(String, Value)>, others: &Vec<(String, Value)>) -> bool
+    requires { same_keys (entries_view entries.now.items) (entries_view others.now.items) ≡ true }
+    ensures { result ≡ all_keys (λ k. equal_at (entries_view entries.now.items) k (entry_of k (entries_view others.now.items))) (entries_view entries.now.items) }
+{
+    let mut index = 0;
+    for (key, value) in entries {
+        if !are_equal(value, &others[index].1) && !has(&entries[..index], key) {
+            return false;
+        }
+        index += 1;
+    }
+    true
+}
+
+/// Whether the first value of each key of the entries equals that key's first value in the others.
+#[cycle(equality)]
+fn are_first_values_equal(entries: &Vec<(String, Value)>, others: &Vec<(String, Value)>) -> bool
+    ensures { result ≡ all_keys (λ k. equal_at (entries_view entries.now.items) k (entry_of k (entries_view others.now.items))) (entries_view entries.now.items) }
+{
+    let mut index = 0;
+    for (key, value) in entries {
+        let counts = !has(&entries[..index], key);
+        if counts && !is_first_value(value, key, others) {
+            return false;
+        }
+        index += 1;
+    }
+    true
+}
+
+/// Whether the value equals the first value of the key.
+#[cycle(equality)]
+fn is_first_value(value: &Value, key: &str, entries: &Vec<(String, Value)>) -> bool
+    ensures { result ≡ option_map_or (equal (view value.now)) (entry_of key.now (entries_view entries.now.items)) false }
+{
+    match first_value(entries, key) {
+        Some(first) => are_equal(value, first),
+        None => false,
+    }
+}

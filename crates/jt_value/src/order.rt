@@ -1,0 +1,29 @@
+//! Order.
+ghost use Rattle.std.specs.Prelude.{◌≡◌};
+ghost use Rattle.jt_value.specs.Order.{order};
+ghost use Rattle.jt_value.specs.View.{view};
+
+use crate::fault::Fault;
+use crate::value::Value;
+use std::cmp::Ordering;
+
+impl Value {
+    /// The order of two numbers or two texts, markup or not; texts go by code points.
+    ///
+    /// # Errors
+    ///
+    /// For all other operands `Undefined` if one of them is undefined, else `BadType`.
+    pub fn compare(&self, other: &Value) -> Result<Ordering, Fault>
+        ensures { result ≡ order (view self.now) (view other.now) }
+    {
+        match (self, other) {
+            (Value::Int(left), Value::Int(right)) => Ok(left.cmp(right)),
+            (Value::Text(left), Value::Text(right)) => Ok(left.as_str().cmp(right.as_str())),
+            (Value::Text(left), Value::Markup(right)) => Ok(left.as_str().cmp(right.as_str())),
+            (Value::Markup(left), Value::Text(right)) => Ok(left.as_str().cmp(right.as_str())),
+            (Value::Markup(left), Value::Markup(right)) => Ok(left.as_str().cmp(right.as_str())),
+            (Value::Undefined, _) | (_, Value::Undefined) => Err(Fault::Undefined),
+            _ => Err(Fault::BadType),
+        }
+    }
+}
