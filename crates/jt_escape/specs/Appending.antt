@@ -1,0 +1,25 @@
+-- What the private functions of joins say: a text is appended, or there is none.
+use Rattle.std.specs.Prelude.{◌≡◌, ℕ, Bool, List, ◌++◌, flat_map, Option, Some, None, option_map, Result, Ok, Err, String, string_bytes}
+use Rattle.std.specs.declared.alloc.Global.{Global}
+use Rattle.jt_value.specs.Tree.{Items}
+use Rattle.jt_value.specs.declared.fault.Fault.{Fault}
+use Rattle.jt_value.specs.declared.fault.Fault.TheVariants as fault
+use Rattle.jt_value.specs.declared.fault.ValueError.{ValueError}
+use Rattle.jt_value.specs.declared.fault.ValueError.TheVariants as error
+use Rattle.jt_escape.specs.Joining.{pieces}
+
+-- the items' pieces, each behind a text
+abbrev pub led_pieces : Bool → List ℕ → Items → Option (List ℕ)
+led_pieces escaping between items = option_map (flat_map (λ text. between ++ text)) (pieces escaping items)
+
+-- a text was appended, if there is one; else the fault says so
+abbrev pub Appends : Option (List ℕ) → List ℕ → Result (Unit {0}) ValueError → List ℕ → Type 0
+Appends more before (Ok u) after = option_map (λ text. before ++ text) more ≡ Some after
+Appends more before (Err (error.Fault f)) after = (f ≡ fault.Unprintable) × (more ≡ None)
+Appends more before (Err error.NoMemory) after = Unit {0}
+
+-- a text was made, if there is one; else the fault says so
+abbrev pub Makes : Option (List ℕ) → Result (String Global) ValueError → Type 0
+Makes text (Ok s) = text ≡ Some (string_bytes s)
+Makes text (Err (error.Fault f)) = (f ≡ fault.Unprintable) × (text ≡ None)
+Makes text (Err error.NoMemory) = Unit {0}

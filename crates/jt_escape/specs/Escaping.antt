@@ -1,0 +1,25 @@
+-- Escaping of texts, which are their UTF-8 bytes. The five characters are ASCII, and no byte of a
+-- longer character is ASCII: so a byte with the code of one of them is that character.
+use Rattle.std.specs.Prelude.{◌≡◌, ℕ, ◌==◌, if◌then◌else◌, List, [], ◌∷◌, ◌++◌, flat_map, Option, Some, None, unwrap_or, codes}
+
+-- the entity that stands for a character, by the character's code: `&` is 38, `<` 60, `>` 62, `'` 39 and `"` 34
+abbrev pub entity : ℕ → Option (List ℕ)
+entity byte =
+    if byte == 38 then Some (codes "&amp;") else
+    if byte == 60 then Some (codes "&lt;") else
+    if byte == 62 then Some (codes "&gt;") else
+    if byte == 39 then Some (codes "&#39;") else
+    if byte == 34 then Some (codes "&#34;") else
+    None
+
+-- what is written for one byte: its entity, or else the byte itself
+abbrev pub escaped_byte : ℕ → List ℕ
+escaped_byte byte = unwrap_or (entity byte) (byte ∷ [])
+
+-- what is written for a text
+abbrev pub escaped : List ℕ → List ℕ
+escaped text = flat_map escaped_byte text
+
+-- the second text is the first with some text behind it
+abbrev pub Extends : List ℕ → List ℕ → Type 0
+Extends before after = (more : List ℕ) × (after ≡ before ++ more)

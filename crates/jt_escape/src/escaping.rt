@@ -1,0 +1,52 @@
+//! The five characters that HTML gives a meaning, written as its entities.
+ghost use Rattle.std.specs.Prelude.{◌≡◌, ◌++◌, option_map, OnOk, OnErr, string_bytes};
+ghost use Rattle.jt_escape.specs.Escaping.{escaped, entity, Extends};
+
+use jt_value::NoMemory;
+use std::alloc::AllocError;
+
+/// Appends the text with `&`, `<`, `>`, `'` and `"` written as `&amp;`, `&lt;`, `&gt;`, `&#39;` and
+/// `&#34;`. Where memory is refused, the string keeps the bytes that it had.
+pub fn escape_into(text: &str, into: &mut String) -> Result<(), NoMemory>
+    ensures ok { OnOk result (string_bytes into.new ≡ string_bytes into.old ++ escaped text.now) }
+    ensures unchanged { OnErr result (string_bytes into.new ≡ string_bytes into.old) }
+{
+    let start = into.len();
+    if append_escaped(text, into).is_err() {
+        into.truncate(start);
+        return Err(NoMemory);
+    }
+    Ok(())
+}
+
+/// Appends the escaped text. A refusal leaves what was appended before it.
+pub(crate) fn append_escaped(text: &str, into: &mut String) -> Result<(), AllocError>
+    ensures ok { OnOk result (string_bytes into.new ≡ string_bytes into.old ++ escaped text.now) }
+    ensures grown { Extends (string_bytes into.old) (string_bytes into.new) }
+{
+    // All before `written` is appended. What lies between it and `at` needs no entity.
+    let mut written = 0;
+    for (at, byte) in text.as_bytes().iter().enumerate() {
+        if let Some(entity) = entity_of(*byte) {
+            into.push_str(&text[written..at])?;
+            into.push_str(entity)?;
+            written = at + 1;
+        }
+    }
+    into.push_str(&text[written..])?;
+    Ok(())
+}
+
+/// What stands for a byte, if it can't stand for itself.
+fn entity_of(byte: u8) -> Option<&'static str>
+    ensures { option_map (λ text. text.now) result ≡ entity byte }
+{
+    match byte {
+        b'&' => Some("&amp;"),
+        b'<' => Some("&lt;"),
+        b'>' => Some("&gt;"),
+        b'\'' => Some("&#39;"),
+        b'"' => Some("&#34;"),
+        _ => None,
+    }
+}

@@ -1,0 +1,144 @@
+//! The rule of filter `join`.
+ghost use Rattle.std.specs.Prelude.{◌≡◌, ◌++◌, OnOk, if◌then◌else◌, option_map, string_bytes};
+ghost use Rattle.std.specs.List.{join_by};
+ghost use Rattle.jt_value.specs.View.{view, items_view};
+ghost use Rattle.jt_escape.specs.Escaping.{escaped};
+ghost use Rattle.jt_escape.specs.Joining.{is_markup, has_markup, piece, pieces, joined_text, joined_plain, joined_as_markup, joined_markup, IsAnswer};
+ghost use Rattle.jt_escape.specs.Appending.{led_pieces, Appends, Makes};
+
+use crate::escaping::append_escaped;
+use jt_value::{Value, ValueError};
+use std::alloc::{AllocError, Global};
+
+/// The items' printed texts with the separator's between them, as `join` gives them under
+/// autoescaping: markup where an item or the separator is, with all else escaped, and else a plain
+/// text. The only fault is `Unprintable`, the separator's included where there is nothing to separate.
+pub fn join_markup(
+    alloc: Global,
+    items: &[Value],
+    separator: &Value,
+) -> Result<Value, ValueError>
+    ensures { IsAnswer (joined_markup (items_view items.now) (view separator.now)) result }
+{
+    if is_markup(separator) || has_markup(items) {
+        return join_as_markup(alloc, items, separator);
+    }
+    join_plain(alloc, items, separator)
+}
+
+/// The items' printed texts with the separator's between them, as `join` gives them without
+/// autoescaping: a plain text. The only fault is `Unprintable`.
+pub fn join_plain(
+    alloc: Global,
+    items: &[Value],
+    separator: &Value,
+) -> Result<Value, ValueError>
+    ensures { IsAnswer (joined_plain (items_view items.now) (view separator.now)) result }
+{
+    let text = join_text(alloc, items, separator, false)?;
+    Ok(Value::Text(text))
+}
+
+fn join_as_markup(
+    alloc: Global,
+    items: &[Value],
+    separator: &Value,
+) -> Result<Value, ValueError>
+    ensures { IsAnswer (joined_as_markup (items_view items.now) (view separator.now)) result }
+{
+    let text = join_text(alloc, items, separator, true)?;
+    Ok(Value::Markup(text))
+}
+
+fn is_markup(value: &Value) -> bool
+    ensures { result ≡ is_markup (view value.now) }
+{
+    match value {
+        Value::Markup(_) => true,
+        _ => false,
+    }
+}
+
+fn has_markup(items: &[Value]) -> bool
+    ensures { result ≡ has_markup (items_view items.now) }
+{
+    for item in items {
+        if is_markup(item) {
+            return true;
+        }
+    }
+    false
+}
+
+/// The separator is printed first: its fault is an argument's, and counts before the items'.
+fn join_text(
+    alloc: Global,
+    items: &[Value],
+    separator: &Value,
+    escaping: bool,
+) -> Result<String, ValueError>
+    ensures { Makes (joined_text escaping (items_view items.now) (view separator.now)) result }
+{
+    let mut between = String::new(alloc);
+    append_piece(alloc, separator, escaping, &mut between)?;
+    join_between(alloc, items, &between, escaping)
+}
+
+fn join_between(
+    alloc: Global,
+    items: &[Value],
+    between: &str,
+    escaping: bool,
+) -> Result<String, ValueError>
+    ensures { Makes (option_map (join_by (λ text. text) between.now) (pieces escaping (items_view items.now))) result }
+{
+    let mut joined = String::new(alloc);
+    let Some((first, rest)) = items.split_first() else {
+        return Ok(joined);
+    };
+    append_piece(alloc, first, escaping, &mut joined)?;
+    append_led(alloc, between, rest, escaping, &mut joined)?;
+    Ok(joined)
+}
+
+/// Appends each item's piece behind the separator's.
+fn append_led(
+    alloc: Global,
+    between: &str,
+    items: &[Value],
+    escaping: bool,
+    into: &mut String,
+) -> Result<(), ValueError>
+    ensures { Appends (led_pieces escaping between.now (items_view items.now)) (string_bytes into.old) result (string_bytes into.new) }
+{
+    for item in items {
+        into.push_str(between)?;
+        append_piece(alloc, item, escaping, into)?;
+    }
+    Ok(())
+}
+
+fn append_piece(
+    alloc: Global,
+    value: &Value,
+    escaping: bool,
+    into: &mut String,
+) -> Result<(), ValueError>
+    ensures { Appends (piece escaping (view value.now)) (string_bytes into.old) result (string_bytes into.new) }
+{
+    match value {
+        Value::Markup(text) => into.push_str(text)?,
+        Value::Text(text) => append_text(text, escaping, into)?,
+        _ => append_text(&value.printed(alloc)?, escaping, into)?,
+    }
+    Ok(())
+}
+
+fn append_text(text: &str, escaping: bool, into: &mut String) -> Result<(), AllocError>
+    ensures { OnOk result (string_bytes into.new ≡ string_bytes into.old ++ (if escaping then escaped text.now else text.now)) }
+{
+    if escaping {
+        return append_escaped(text, into);
+    }
+    into.push_str(text)
+}

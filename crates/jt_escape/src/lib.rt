@@ -1,0 +1,8 @@
+//! Escaping: texts written so that HTML reads them as text, and joins that keep markup.
+#![tactic(auto)]
+
+mod escaping;
+mod joining;
+
+pub use escaping::escape_into;
+pub use joining::{join_markup, join_plain};
