@@ -1,0 +1,4 @@
+pub mod Env
+pub mod Got
+pub mod Meaning
+pub mod Slots

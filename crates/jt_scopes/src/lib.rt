@@ -1,0 +1,2 @@
+//! Names to slots.
+#![tactic(auto)]
