@@ -314,3 +314,20 @@ pub step_fine : (k : Code) (c : Config) → IsGood k c → IsFineStep k c.left.f
 step_fine k c g =
     let f = g.fit.typed.fine c.machine.point (kinds_of c.machine.state.entries) g.fit.here in
     at_instruction k c g f.leads (slice_get g.fit.unit.code c.machine.point) refl f.agree f.effect
+
+-- what stands at the point of a machine that fits, and that its action is fine
+pub record IsReady (k : Code) (m : Machine) : Type 0 where
+  pub unit : Section
+  pub instruction : Instruction
+  pub is : fetch k m.unit m.point ≡ Some (unit, instruction)
+  pub fine : IsFineAction k m.state.entries (strict k unit instruction m)
+
+ready_at : (k : Code) (m : Machine) (g : IsFit k m) (l : Leads) (o : Option Instruction) → slice_get g.unit.code m.point ≡ o → Agrees k g.unit g.shapes l
+    → effect_of k g.unit m.point o (kinds_of m.state.entries) ≡ Ok l → IsReady k m
+ready_at k m g l None is a e = absurd cc
+ready_at k m g l (Some i) is a e = record { unit = g.unit; instruction = i; is = rw (g.is_unit, is) refl; fine = strict_fine k m g l a i e }
+
+pub ready : (k : Code) (m : Machine) → IsFit k m → IsReady k m
+ready k m g =
+    let f = g.typed.fine m.point (kinds_of m.state.entries) g.here in
+    ready_at k m g f.leads (slice_get g.unit.code m.point) refl f.agree f.effect

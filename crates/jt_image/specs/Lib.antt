@@ -9,3 +9,4 @@ pub mod Typed
 pub mod Config
 pub mod Step
 pub mod Run
+pub mod Enough

@@ -1,0 +1,274 @@
+-- Runs without a budget: a budget changes nothing of a run that it does not cut off, and each run that ends has a budget.
+use Rattle.std.proofs.Common.{◌≡◌, ◌≢◌, ℕ, zero, suc, ◌+◌, ◌-◌, ◌<◌, ◌≤◌, max, Bool, true, false, cond, List, [], ◌∷◌, length, Option, Some, None, refl, sym, ap, subst, ◌∙◌, arith, ⊎_elim, if◌then◌else◌}
+use Rattle.std.specs.Prelude.{slice_get, nat_lt, replicate}
+use Rattle.std.proofs.lemmas.Bool.{cases_lt}
+use Rattle.std.proofs.lemmas.Bool.Decides.{nat_tests}
+use Rattle.jt_value.specs.Tree as tree
+use Rattle.jt_value.specs.Tree.{Tree}
+use Rattle.jt_value.specs.Pairs.{Pairs, look}
+use Rattle.jt_value.specs.declared.fault.Fault.{Fault}
+use Rattle.jt_image.specs.declared.instruction.Instruction.{Instruction}
+use Rattle.jt_image.specs.Code.{Name, Section, Code}
+use Rattle.jt_image.specs.Config as config
+use Rattle.jt_image.specs.Config.{Budget, Outcome, Machine, Config}
+use Rattle.jt_image.specs.Step.{Demand, Action, goes_on, ends, faulty, wrong, action, in_tables, strict, cost, fetch}
+use Rattle.jt_image.specs.Run.{Next, Goes, Ends, Wrong, spared, unless, spends, next_at, next, limit_of, first_of, limit_of_named, passed, start, then_goes, after, Ending, RunFrom, Run}
+use Rattle.jt_image.specs.Enough.{AtLeast, Enough}
+use Rattle.jt_image.proofs.Safe.{IsFit, IsFineAction, IsReady, ready}
+
+-- how a run without a budget stands
+pub data Free : Type 0 where
+  Finished : List ℕ → Free
+  Failed : Fault → Free
+  Stuck : Free
+  Going : Free
+
+abbrev pub on_action : Action → (Machine → Free) → Free
+on_action (goes_on m d) go = go m
+on_action (ends t) go = Finished t
+on_action (faulty f) go = Failed f
+on_action wrong go = Stuck
+
+abbrev pub exec_at : Code → Option (Section × Instruction) → Machine → (Machine → Free) → Free
+exec_at k None m go = Stuck
+exec_at k (Some (u, i)) m go = on_action (action k u i m) go
+
+-- at most n instructions; numbers outside their tables read as undefined
+abbrev pub exec : Code → ℕ → Machine → Free
+exec k zero m = Going
+exec k (suc n) m = exec_at k (fetch k m.unit m.point) m (exec k n)
+
+abbrev pub strict_at : Code → Option (Section × Instruction) → Machine → (Machine → Free) → Free
+strict_at k None m go = Stuck
+strict_at k (Some (u, i)) m go = on_action (strict k u i m) go
+
+-- at most n instructions, with the tests of the tables
+abbrev pub exec_strict : Code → ℕ → Machine → Free
+exec_strict k zero m = Going
+exec_strict k (suc n) m = strict_at k (fetch k m.unit m.point) m (exec_strict k n)
+
+-- a run that has ended with a text or a fault
+abbrev pub IsMeant : Free → Type 0
+IsMeant (Finished t) = Unit {0}
+IsMeant (Failed f) = Unit {0}
+IsMeant Stuck = ⊥
+IsMeant Going = ⊥
+
+-- the outcome of such a run
+abbrev pub outcome_of : Free → Outcome
+outcome_of (Finished t) = config.text t
+outcome_of (Failed f) = config.fault f
+outcome_of Stuck = config.text []
+outcome_of Going = config.text []
+
+abbrev pub on_machine : Machine → Budget → Config
+on_machine m b = record { machine = m; left = b }
+
+-- ---- a text or a fault under a budget is that of the run without one
+
+-- what a test let through
+passes : (b : Bool) (l : config.Limit) (n : Next) (o : Free) → IsMeant o → unless b l n ≡ Ends (outcome_of o) → n ≡ Ends (outcome_of o)
+passes true l n (Finished t) h e = absurd cc
+passes true l n (Failed f) h e = absurd cc
+passes true l n Stuck h e = absurd h
+passes true l n Going h e = absurd h
+passes false l n o h e = e
+
+text_is : (t : List ℕ) (o : Free) → IsMeant o → Ends (config.text t) ≡ Ends (outcome_of o) → Finished t ≡ o
+text_is t (Finished s) h e = cc
+text_is t (Failed f) h e = absurd cc
+text_is t Stuck h e = absurd h
+text_is t Going h e = absurd h
+
+fault_is : (f : Fault) (o : Free) → IsMeant o → Ends (config.fault f) ≡ Ends (outcome_of o) → Failed f ≡ o
+fault_is f (Finished s) h e = absurd cc
+fault_is f (Failed g) h e = cc
+fault_is f Stuck h e = absurd h
+fault_is f Going h e = absurd h
+
+erased_step : (n : ℕ) (a : Action) (b : Budget) (go : Config → Next) (free : Machine → Free) (o : Free) → IsMeant o → ((m : Machine) (b : Budget) → go (on_machine m b) ≡ Ends (outcome_of o) → free m ≡ o)
+    → then_goes (spends n a b) go ≡ Ends (outcome_of o) → on_action a free ≡ o
+erased_step n (goes_on m d) b go free o h rest e = through (nat_lt b.fuel n) (nat_lt b.depth d.calls) (nat_lt b.output d.bytes) (nat_lt b.size d.size) (nat_lt b.nesting d.nesting) e
+  where
+    spent_is : (l : config.Limit) → Ends (config.spent l) ≡ Ends (outcome_of o) → free m ≡ o
+    spent_is l e' = absurd (no_spent o h e')
+      where
+        no_spent : (o : Free) → IsMeant o → Ends (config.spent l) ≡ Ends (outcome_of o) → ⊥
+        no_spent (Finished t) h e' = cc
+        no_spent (Failed f) h e' = cc
+        no_spent Stuck h e' = h
+        no_spent Going h e' = h
+
+    through : (p q r s t : Bool) → then_goes (unless p config.fuel (unless q config.depth (unless r config.output (unless s config.size (unless t config.nesting (Goes (on_machine m (spared n d b)))))))) go ≡ Ends (outcome_of o) → free m ≡ o
+    through true q r s t e' = spent_is config.fuel e'
+    through false true r s t e' = spent_is config.depth e'
+    through false false true s t e' = spent_is config.output e'
+    through false false false true t e' = spent_is config.size e'
+    through false false false false true e' = spent_is config.nesting e'
+    through false false false false false e' = rest m (spared n d b) e'
+erased_step n (ends t) b go free o h rest e = text_is t o h (passes (nat_lt b.fuel n) config.fuel (Ends (config.text t)) o h (ended (nat_lt b.fuel n) e))
+  where
+    ended : (p : Bool) → then_goes (unless p config.fuel (Ends (config.text t))) go ≡ Ends (outcome_of o) → unless p config.fuel (Ends (config.text t)) ≡ Ends (outcome_of o)
+    ended true e' = e'
+    ended false e' = e'
+erased_step n (faulty f) b go free o h rest e = fault_is f o h (passes (nat_lt b.fuel n) config.fuel (Ends (config.fault f)) o h (ended (nat_lt b.fuel n) e))
+  where
+    ended : (p : Bool) → then_goes (unless p config.fuel (Ends (config.fault f))) go ≡ Ends (outcome_of o) → unless p config.fuel (Ends (config.fault f)) ≡ Ends (outcome_of o)
+    ended true e' = e'
+    ended false e' = e'
+erased_step n wrong b go free o h rest e = absurd cc
+
+erased_at : (k : Code) (q : Option (Section × Instruction)) (m : Machine) (b : Budget) (go : Config → Next) (free : Machine → Free) (o : Free) → IsMeant o → ((m : Machine) (b : Budget) → go (on_machine m b) ≡ Ends (outcome_of o) → free m ≡ o)
+    → then_goes (next_at k q (on_machine m b)) go ≡ Ends (outcome_of o) → strict_at k q m free ≡ o
+erased_at k None m b go free o h rest e = absurd cc
+erased_at k (Some (u, i)) m b go free o h rest e = erased_step (cost i m.state) (strict k u i m) b go free o h rest e
+
+pub erased : (k : Code) (n : ℕ) (m : Machine) (b : Budget) (o : Free) → IsMeant o → after k n (on_machine m b) ≡ Ends (outcome_of o) → exec_strict k n m ≡ o
+erased k zero m b o h e = absurd cc
+erased k (suc n) m b o h e = erased_at k (fetch k m.unit m.point) m b (after k n) (exec_strict k n) o h (λ m' b' e'. erased k n m' b' o h e') e
+
+-- ---- a run that ends has a budget
+
+lets : (x y : ℕ) (l : config.Limit) (n : Next) → y ≤ x → unless (nat_lt x y) l n ≡ n
+lets x y l n h = let t : nat_lt x y ≡ false = grind (arith, nat_tests) in ap (λ b. unless b l n) t
+
+abbrev more_for : ℕ → Demand → Budget → Budget
+more_for n d a = record { fuel = n + a.fuel; depth = d.calls + a.depth; output = d.bytes + a.output; size = d.size + a.size; nesting = d.nesting + a.nesting }
+
+abbrev only_fuel : ℕ → Budget
+only_fuel n = record { fuel = n; depth = 0; output = 0; size = 0; nesting = 0 }
+
+-- each large enough budget gives the outcome
+abbrev Suffices : (Config → Next) → Machine → Free → Type 0
+Suffices go m o = (a : Budget) × ((b : Budget) → AtLeast a b → go (on_machine m b) ≡ Ends (outcome_of o))
+
+enough_step : (n : ℕ) (a : Action) (go : Config → Next) (free : Machine → Free) (o : Free) → IsMeant o → ((m : Machine) → free m ≡ o → Suffices go m o)
+    → on_action a free ≡ o → (l : Budget) × ((b : Budget) → AtLeast l b → then_goes (spends n a b) go ≡ Ends (outcome_of o))
+enough_step n (goes_on m d) go free o h rest e =
+    let r = rest m e in
+    (
+      more_for n d r.0,
+      λ b at. ap (λ x. then_goes x go)
+        (lets b.fuel n config.fuel _ (omega (arith, at.fuel)) ∙ lets b.depth d.calls config.depth _ (omega (arith, at.depth)) ∙ lets b.output d.bytes config.output _ (omega (arith, at.output)) ∙ lets b.size d.size config.size _ (omega (arith, at.size)) ∙ lets b.nesting d.nesting config.nesting _ (omega (arith, at.nesting)))
+        ∙ r.1 (spared n d b) (record { fuel = omega (arith, at.fuel); depth = omega (arith, at.depth); output = omega (arith, at.output); size = omega (arith, at.size); nesting = omega (arith, at.nesting) }),
+    )
+enough_step n (ends t) go free o h rest e =
+    (only_fuel n, λ b at. ap (λ x. then_goes x go) (lets b.fuel n config.fuel (Ends (config.text t)) at.fuel) ∙ ap (λ f. Ends (outcome_of f)) e)
+enough_step n (faulty f) go free o h rest e =
+    (only_fuel n, λ b at. ap (λ x. then_goes x go) (lets b.fuel n config.fuel (Ends (config.fault f)) at.fuel) ∙ ap (λ g. Ends (outcome_of g)) e)
+enough_step n wrong go free o h rest e = absurd (subst IsMeant (sym e) h)
+
+enough_at : (k : Code) (q : Option (Section × Instruction)) (m : Machine) (go : Config → Next) (free : Machine → Free) (o : Free) → IsMeant o → ((m : Machine) → free m ≡ o → Suffices go m o)
+    → strict_at k q m free ≡ o → (l : Budget) × ((b : Budget) → AtLeast l b → then_goes (next_at k q (on_machine m b)) go ≡ Ends (outcome_of o))
+enough_at k None m go free o h rest e = absurd (subst IsMeant (sym e) h)
+enough_at k (Some (u, i)) m go free o h rest e = enough_step (cost i m.state) (strict k u i m) go free o h rest e
+
+pub enough : (k : Code) (n : ℕ) (m : Machine) (o : Free) → IsMeant o → exec_strict k n m ≡ o → Suffices (after k n) m o
+enough k zero m o h e = absurd (subst IsMeant (sym e) h)
+enough k (suc n) m o h e = enough_at k (fetch k m.unit m.point) m (after k n) (exec_strict k n) o h (λ m' e'. enough k n m' o h e') e
+
+-- ---- the context's test lets every large enough budget through
+
+limit_passes : (b : Budget) (t : Tree) → tree.size t ≤ b.size → tree.nesting t ≤ b.nesting → limit_of b t ≡ None
+limit_passes b t s n =
+    let p : nat_lt b.size (tree.size t) ≡ false = grind (arith, nat_tests) in
+    let q : nat_lt b.nesting (tree.nesting t) ≡ false = grind (arith, nat_tests) in
+    ap (λ x. if x then Some config.size else if nat_lt b.nesting (tree.nesting t) then Some config.nesting else None) p ∙ ap (λ x. if x then Some config.nesting else None) q
+
+named_fits : (o : Option Tree) → (a : Budget) × ((b : Budget) → AtLeast a b → limit_of_named b o ≡ None)
+named_fits None = (only_fuel 0, λ b at. refl)
+named_fits (Some t) = (record { fuel = 0; depth = 0; output = 0; size = tree.size t; nesting = tree.nesting t }, λ b at. limit_passes b t at.size at.nesting)
+
+abbrev sum_of : Budget → Budget → Budget
+sum_of a b = record { fuel = a.fuel + b.fuel; depth = a.depth + b.depth; output = a.output + b.output; size = a.size + b.size; nesting = a.nesting + b.nesting }
+
+first_at_least : (a b c : Budget) → AtLeast (sum_of a b) c → AtLeast a c
+first_at_least a b c at = record { fuel = omega (arith, at.fuel); depth = omega (arith, at.depth); output = omega (arith, at.output); size = omega (arith, at.size); nesting = omega (arith, at.nesting) }
+
+second_at_least : (a b c : Budget) → AtLeast (sum_of a b) c → AtLeast b c
+second_at_least a b c at = record { fuel = omega (arith, at.fuel); depth = omega (arith, at.depth); output = omega (arith, at.output); size = omega (arith, at.size); nesting = omega (arith, at.nesting) }
+
+context_fits : (x : Pairs) (ns : List Name) → (a : Budget) × ((b : Budget) → AtLeast a b → passed b x ns ≡ None)
+context_fits x [] = (only_fuel 0, λ b at. refl)
+context_fits x (n ∷ ns) =
+    let f = named_fits (look n.text x) in
+    let r = context_fits x ns in
+    (sum_of f.0 r.0, λ b at. ap (λ o. first_of o (passed b x ns)) (f.1 b (first_at_least f.0 r.0 b at)) ∙ r.1 b (second_at_least f.0 r.0 b at))
+
+-- ---- for whole runs
+
+-- the machine of a run's start
+abbrev pub start_machine : Code → Pairs → Machine
+start_machine k x = (start k x (only_fuel 0)).machine
+
+-- a run without a budget that ends has enough
+pub enough_run : (k : Code) (x : Pairs) (n : ℕ) (o : Free) → IsMeant o → exec_strict k n (start_machine k x) ≡ o → Enough k x (outcome_of o)
+enough_run k x n o h e =
+    let a = enough k n (start_machine k x) o h e in
+    let c = context_fits x k.names in
+    (sum_of a.0 c.0, λ b at.
+      let fits : passed b x k.names ≡ None = c.1 b (second_at_least a.0 c.0 b at) in
+      let ending : Ending k (start k x b) (outcome_of o) = (n, a.1 b (first_at_least a.0 c.0 b at)) in
+      subst (λ p. RunFrom p k x b (outcome_of o)) (sym fits) ending)
+
+run_from_erased : (k : Code) (x : Pairs) (b : Budget) (p : Option config.Limit) (o : Free) → IsMeant o → RunFrom p k x b (outcome_of o) → (n : ℕ) × (exec_strict k n (start_machine k x) ≡ o)
+run_from_erased k x b (Some l) (Finished t) h r = absurd cc
+run_from_erased k x b (Some l) (Failed f) h r = absurd cc
+run_from_erased k x b (Some l) Stuck h r = absurd h
+run_from_erased k x b (Some l) Going h r = absurd h
+run_from_erased k x b None o h r = (r.0, erased k r.0 (start_machine k x) b o h r.1)
+
+-- a text or a fault that a run ends with is that of the run without a budget
+pub run_erased : (k : Code) (x : Pairs) (b : Budget) (o : Free) → IsMeant o → Run k x b (outcome_of o) → (n : ℕ) × (exec_strict k n (start_machine k x) ≡ o)
+run_erased k x b o h r = run_from_erased k x b (passed b x k.names) o h r
+
+-- ---- one end
+
+longer_at : (k : Code) (q : Option (Section × Instruction)) (m : Machine) (go go' : Machine → Free) (o : Free) → ((m : Machine) → go m ≡ o → go' m ≡ o) → exec_at k q m go ≡ o → exec_at k q m go' ≡ o
+longer_at k None m go go' o h e = e
+longer_at k (Some (u, i)) m go go' o h e = through (action k u i m) e
+  where
+    through : (a : Action) → on_action a go ≡ o → on_action a go' ≡ o
+    through (goes_on m' d) e' = h m' e'
+    through (ends t) e' = e'
+    through (faulty f) e' = e'
+    through wrong e' = e'
+
+-- a run that is over stays so with more instructions
+pub longer : (k : Code) (a b : ℕ) (m : Machine) (o : Free) → IsMeant o → a ≤ b → exec k a m ≡ o → exec k b m ≡ o
+longer k zero b m o h le e = absurd (subst IsMeant (sym e) h)
+longer k (suc a) zero m o h le e = absurd (omega arith)
+longer k (suc a) (suc b) m o h le e = longer_at k (fetch k m.unit m.point) m (exec k a) (exec k b) o (λ m' e'. longer k a b m' o h (omega arith) e') e
+
+pub one_free_end : (k : Code) (a b : ℕ) (m : Machine) (o p : Free) → IsMeant o → IsMeant p → exec k a m ≡ o → exec k b m ≡ p → o ≡ p
+one_free_end k a b m o p ho hp e f =
+    ⊎_elim
+    (λ lt. sym (longer k a b m o ho (omega arith) e) ∙ f)
+    (λ le. sym e ∙ longer k b a m p hp le f)
+    (cases_lt a b)
+
+-- ---- the tests of the tables change nothing for a typed code
+
+-- an action that is not wrong passed its test
+same_action : (k : Code) (u : Section) (i : Instruction) (m : Machine) (es : List config.Entry) → IsFineAction k es (strict k u i m) → strict k u i m ≡ action k u i m
+same_action k u i m es fine = through (in_tables k i m.state) fine
+  where
+    through : (b : Bool) → IsFineAction k es (cond b (action k u i m) wrong) → cond b (action k u i m) wrong ≡ action k u i m
+    through true f = refl
+    through false f = absurd f
+
+same_on : (k : Code) (es : List config.Entry) (a : Action) (go go' : Machine → Free) → IsFineAction k es a → ((m : Machine) → IsFit k m → go m ≡ go' m) → on_action a go ≡ on_action a go'
+same_on k es (goes_on m d) go go' fine h = h m fine.0
+same_on k es (ends t) go go' fine h = refl
+same_on k es (faulty f) go go' fine h = refl
+same_on k es wrong go go' fine h = absurd fine
+
+same_at : (k : Code) (n : ℕ) (m : Machine) (r : IsReady k m) → ((m : Machine) → IsFit k m → exec_strict k n m ≡ exec k n m) → exec_strict k (suc n) m ≡ exec k (suc n) m
+same_at k n m r h =
+    let left : exec_strict k (suc n) m ≡ on_action (strict k r.unit r.instruction m) (exec_strict k n) = ap (λ q. strict_at k q m (exec_strict k n)) r.is in
+    let right : exec k (suc n) m ≡ on_action (action k r.unit r.instruction m) (exec k n) = ap (λ q. exec_at k q m (exec k n)) r.is in
+    left ∙ same_on k m.state.entries (strict k r.unit r.instruction m) (exec_strict k n) (exec k n) r.fine h ∙ ap (λ a. on_action a (exec k n)) (same_action k r.unit r.instruction m m.state.entries r.fine) ∙ sym right
+
+pub same_exec : (k : Code) (n : ℕ) (m : Machine) → IsFit k m → exec_strict k n m ≡ exec k n m
+same_exec k zero m g = refl
+same_exec k (suc n) m g = same_at k n m (ready k m g) (λ m' g'. same_exec k n m' g')
