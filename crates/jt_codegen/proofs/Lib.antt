@@ -1,0 +1,4 @@
+pub mod Correct
+pub mod Follows
+pub mod Lowered
+pub mod Typed

@@ -1,0 +1,3 @@
+pub mod Asm
+pub mod Lower
+pub mod Fits
