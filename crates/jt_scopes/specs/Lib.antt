@@ -2,3 +2,4 @@ pub mod Env
 pub mod Got
 pub mod Meaning
 pub mod Slots
+pub mod Resolve
