@@ -2,3 +2,4 @@ pub mod Correct
 pub mod Follows
 pub mod Lowered
 pub mod Typed
+pub mod Whole
