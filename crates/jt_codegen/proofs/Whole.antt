@@ -9,18 +9,22 @@ use Rattle.std.proofs.lemmas.Slice.Eq.{bytes_eq-Decides}
 use Rattle.jt_value.specs.Tree as tree
 use Rattle.jt_value.specs.Tree.{Tree}
 use Rattle.jt_image.specs.Code.{Constant, Section, Code, is_text}
+use Rattle.jt_image.specs.IsCode.{IsCode}
+use Rattle.jt_value.specs.Pairs.{Pairs}
 use Rattle.jt_image.specs.Typed.{Equal, IsTypedUnit, IsTyped}
 use Rattle.jt_image.specs.Step.{constant_value, text_of}
 use Rattle.jt_parse.specs.Trees.{Text, Literal, truth, nothing, Expr, constant, name, Stmt, data_of, print, choose, Body, end, stmt, Branches, no_branches, branch}
-use Rattle.jt_scopes.specs.Meaning.{literal}
+use Rattle.jt_scopes.specs.Meaning.{literal, mean}
 use Rattle.jt_scopes.specs.Slots as slots
-use Rattle.jt_scopes.specs.Slots.{SBody, Program, Routine, value_at, bytes_of}
+use Rattle.jt_scopes.specs.Slots.{SBody, Program, Routine, value_at, bytes_of, smean}
 use Rattle.jt_scopes.specs.Resolve.{expr_names, stmt_names, body_names, branch_names, ascending, slot_of, expr_pool, stmt_pool, body_pool, branch_pool, resolved_expr, resolved_stmt, resolved_body, resolved_choice, program}
-use Rattle.jt_scopes.proofs.Resolved.{Among, AllAmong, all_ascending}
+use Rattle.jt_scopes.proofs.Resolved.{Among, AllAmong, all_ascending, program_means}
 use Rattle.jt_codegen.specs.Lower.{constant_of, unit_of, compiled}
 use Rattle.jt_codegen.specs.Fits.{ExprFits, BodyFits}
 use Rattle.jt_codegen.proofs.Lowered.{HasPool}
+use Rattle.jt_codegen.specs.Compiles.{CompilesTo}
 use Rattle.jt_codegen.proofs.Typed.{unit_typed}
+use Rattle.jt_codegen.proofs.Correct.{text_means, fault_means, enough_text, enough_fault}
 
 -- ---- a name that is in the table has a slot there
 
@@ -218,3 +222,19 @@ module _ (template : Text) (escaping : Bool) (b : Body) where
   -- the code of every template is typed
   pub compiled_typed : IsTyped (compiled p)
   compiled_typed = typed_at
+
+  means : (x : Pairs) (n : ℕ) → smean p x n ≡ mean escaping template b x n
+  means x n = program_means template escaping b x n
+
+  abbrev only : Routine
+  only = record { parameters = 0; locals = 0; body = resolved_body template escaping (ascending (body_names b)) b 0 slots.end }
+
+  -- from source to text, and enough budget: wherever the code has a spelling
+  pub compiles : IsCode (compiled p) → CompilesTo template escaping b (compiled p)
+  compiles whole = record {
+    typed = compiled_typed;
+    texts = λ x g t r. let m = text_means p only [] refl has_pool whole compiled_typed x g t r in (m.0, sym (means x m.0) ∙ m.1);
+    faults = λ x g f r. let m = fault_means p only [] refl has_pool whole compiled_typed x g f r in (m.0, m.1, sym (means x m.0) ∙ m.2);
+    enough_text = λ x n t e. enough_text p only [] refl has_pool whole compiled_typed x n t (means x n ∙ e);
+    enough_fault = λ x n f q e. enough_fault p only [] refl has_pool whole compiled_typed x n f q (means x n ∙ e);
+  }
