@@ -3,3 +3,4 @@ pub mod Tables
 pub mod InsideLaws
 pub mod CutLaws
 pub mod Weight
+pub mod Bytes

@@ -2,6 +2,7 @@
 #![tactic(auto)]
 
 mod error;
+mod find;
 mod options;
 mod segment;
 mod source;
