@@ -4,3 +4,7 @@ pub mod InsideLaws
 pub mod CutLaws
 pub mod Weight
 pub mod Bytes
+pub mod Turns
+
+pub mod Answer
+pub mod EndsLaws

@@ -93,7 +93,7 @@ cut source (suc m) [] = Ok []
 cut source (suc m) (c ∷ cs) = then_cut (segment_at (line_at source (c ∷ cs)) (c ∷ cs)) (cut source m)
 
 -- a refusal is the outcome's, where it is not a want of memory
-abbrev pub IsGiven : {A : Type 0} → ScanError → Outcome A → Type 0
+abbrev pub IsGiven : {A : Type 0} → ScanError → Result A ScanError → Type 0
 IsGiven NoMemory o = Unit {0}
 IsGiven e o = o ≡ Err e
 
