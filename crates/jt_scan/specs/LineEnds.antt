@@ -19,3 +19,8 @@ without_last_lf (c ∷ d ∷ rest) = c ∷ without_last_lf (d ∷ rest)
 abbrev pub normalized : Bool → List ℕ → List ℕ
 normalized true text = lf_ends false text
 normalized false text = without_last_lf (lf_ends false text)
+
+-- what is behind the LF in front, if one stands there
+abbrev pub without_first_lf : List ℕ → List ℕ
+without_first_lf [] = []
+without_first_lf (c ∷ cs) = if c == 10 then cs else c ∷ cs
