@@ -1,7 +1,7 @@
 -- One turn of the loop over a tag's tokens, and of the loop over segments.
 use Rattle.std.proofs.Common.{◌≡◌, ℕ, zero, suc, ◌+◌, ◌-◌, ◌<◌, ◌≤◌, ◌==◌, ◌&&◌, ◌||◌, Bool, true, false, List, [], ◌∷◌, ◌++◌, length, drop, refl, sym, ap, ap₂, subst, ◌∙◌, arith, append_assoc, append-nil, Result, Ok, Err, length-append, IsUtf8, cond}
 use Rattle.std.proofs.lemmas.List.Sums.{sum_by-append, count_by-le-length}
-use Rattle.std.proofs.lemmas.Str.{encodes-chars, length-le-encodes}
+use Rattle.std.proofs.lemmas.Str.{encodes-chars, chars-nil, length-le-encodes}
 use Rattle.std.specs.Str.{chars}
 use lib.Utf8.{encodes}
 use Rattle.jt_scan.specs.declared.error.ScanError.{ScanError}
@@ -218,6 +218,10 @@ not_empty t u le = at (chars t) (encodes-chars t u)
     at : (cs : Text) → encodes cs ≡ t → 0 < length cs
     at [] e = absurd (omega (arith, ap length e))
     at (c ∷ cs) e = omega arith
+
+pub no_chars : (t : List ℕ) → length t ≡ 0 → chars t ≡ []
+no_chars [] h = chars-nil
+no_chars (c ∷ cs) h = absurd (omega arith)
 
 pub few_chars : (t : List ℕ) → IsUtf8 t → length (chars t) ≤ length t
 few_chars t u = omega (arith, length-le-encodes (chars t), ap length (encodes-chars t u))

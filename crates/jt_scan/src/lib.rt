@@ -7,6 +7,8 @@ mod options;
 mod scanner;
 mod segment;
 mod source;
+#[cfg(test)]
+mod tests;
 mod text;
 mod tokens;
 

@@ -2,7 +2,7 @@
 
 ghost use Rattle.std.specs.Prelude.{◌≡◌, ◌+◌, ◌*◌, ◌<◌, ◌≤◌, ◌≢◌, length, MatchResult, Err, IfOk, false, [], ◌∷◌, ◌++◌};
 ghost use Rattle.std.specs.String.{string_bytes};
-ghost use Rattle.jt_scan.specs.LineEnds.{normalized, lf_ends, without_first_lf, without_last_lf};
+ghost use Rattle.jt_scan.specs.LineEnds.{normalized, lf_ends, without_first_lf, ends_with_lf, without_last_lf};
 ghost use Rattle.jt_scan.specs.declared.error.ScanError.TheVariants as error;
 
 use memchr::memchr;
@@ -46,14 +46,8 @@ impl Source {
         if text.len() > MAX_SOURCE_LEN {
             return Err(ScanError::SourceTooLong);
         }
-        let mut held = with_lf_ends(alloc, text)?;
-        if !options.keep_trailing_newline {
-            drop_last_lf(&mut held);
-        }
-        Ok(Source {
-            text: held,
-            options,
-        })
+        let text = normalize(alloc, text, options.keep_trailing_newline)?;
+        Ok(Source { text, options })
     }
 
     /// The text that is scanned.
@@ -70,6 +64,18 @@ impl Source {
     {
         self.options
     }
+}
+
+/// The text with one kind of line end, and without an LF at its end unless that is kept.
+fn normalize(alloc: Global, text: &str, keep_last: bool) -> Result<String, AllocError>
+    ensures { IfOk result (λ held. string_bytes held ≡ normalized keep_last text.now) }
+{
+    let mut held = with_lf_ends(alloc, text)?;
+    if keep_last {
+        return Ok(held);
+    }
+    drop_last_lf(&mut held);
+    Ok(held)
 }
 
 /// The text with LF in place of each CR LF and each lone CR.
@@ -95,12 +101,19 @@ fn behind_lf(text: &str) -> &str
     if !bytes.is_empty() && bytes[0] == b'\n' { &text[1..] } else { text }
 }
 
+/// Whether the last byte is LF.
+fn ends_with_lf(text: &str) -> bool
+    ensures { result ≡ ends_with_lf text.now }
+{
+    let len = text.len();
+    len > 0 && text.as_bytes()[len - 1] == b'\n'
+}
+
 /// Drops one LF at the end.
 fn drop_last_lf(text: &mut String)
     ensures { string_bytes text.new ≡ without_last_lf (string_bytes text.old) }
 {
-    let len = text.len();
-    if len > 0 && text.as_bytes()[len - 1] == b'\n' {
-        text.truncate(len - 1);
+    if ends_with_lf(text.as_str()) {
+        text.truncate(text.len() - 1);
     }
 }

@@ -11,7 +11,9 @@ pub returns-in-Some-behind_pair : goal.returns-in-Some-behind_pair
 returns-in-Some-behind_pair c = rw (segment_of_tag c.args.line Block (chars c.args.text.now) (chars c.in-Some-behind_pair.inside.now) c.in-Some-behind_pair.ensures) c.read_tag-in-Some-behind_pair.ensures
 
 pub returns-in-Some-behind_pair-2 : goal.returns-in-Some-behind_pair-2
-returns-in-Some-behind_pair-2 c = ?
+returns-in-Some-behind_pair-2 c = rw (segment_of_comment c.args.line (chars c.args.text.now) (chars c.in-Some-behind_pair-2.inside.now) c.in-Some-behind_pair-2.ensures) c.read_comment.ensures
 
 pub returns : goal.returns
-returns c = ?
+returns c =
+    segment_of_data c.args.line (chars c.args.text.now) (chars c.split_data.result.0.now) (chars c.split_data.result.1.now)
+    c.in_default.ensures c.in_default-behind_pair.ensures c.in_default-behind_pair-2.ensures c.split_data.ensures
