@@ -1,5 +1,5 @@
 -- Reads an expression from the tokens of a tag.
-use Rattle.std.specs.Prelude.{◌≡◌, ℕ, Bool, true, false, List, [], ◌∷◌, codes, encode_utf8_all, bytes_eq, if◌then◌else◌, Result, Ok, Err}
+use Rattle.std.specs.Prelude.{◌≡◌, ℕ, Bool, true, false, List, [], ◌∷◌, codes, encode_utf8_all, bytes_eq, if◌then◌else◌, Option, Some, None, Result, Ok, Err}
 use Rattle.jt_scan.specs.Cut as cut
 use Rattle.jt_scan.specs.Cut.{Token}
 use Rattle.jt_parse.specs.Trees.{Text, Literal, truth, nothing, Expr, constant, name}
@@ -11,17 +11,24 @@ pub data Fault : Type 0 where
   -- each tree that is spelled so has more levels than are allowed
   deep : Fault
 
+-- what a word is that stands for itself
+unfoldable pub literal_at : Text → Option Literal
+literal_at x =
+    if bytes_eq x (codes "true") then Some (truth true)
+    else if bytes_eq x (codes "True") then Some (truth true)
+    else if bytes_eq x (codes "false") then Some (truth false)
+    else if bytes_eq x (codes "False") then Some (truth false)
+    else if bytes_eq x (codes "none") then Some nothing
+    else if bytes_eq x (codes "None") then Some nothing
+    else None
+
+abbrev pub literal_or_name : Option Literal → Text → Result Expr Fault
+literal_or_name (Some l) x = Ok (constant l)
+literal_or_name None x = if is_reserved x then Err syntax else Ok (name (encode_utf8_all x))
+
 -- what a word stands for by itself
-unfoldable pub word_read : Text → Result Expr Fault
-word_read x =
-    if bytes_eq x (codes "true") then Ok (constant (truth true))
-    else if bytes_eq x (codes "True") then Ok (constant (truth true))
-    else if bytes_eq x (codes "false") then Ok (constant (truth false))
-    else if bytes_eq x (codes "False") then Ok (constant (truth false))
-    else if bytes_eq x (codes "none") then Ok (constant nothing)
-    else if bytes_eq x (codes "None") then Ok (constant nothing)
-    else if is_reserved x then Err syntax
-    else Ok (name (encode_utf8_all x))
+abbrev pub word_read : Text → Result Expr Fault
+word_read x = literal_or_name (literal_at x) x
 
 -- the expression that all the tokens spell
 abbrev pub expression : List Token → Result Expr Fault

@@ -33,6 +33,9 @@ pub record State : Type 0 where
   pub body : Body
   pub frames : List Frame
 
+abbrev pub state : Body → List Frame → State
+state body frames = record { body = body; frames = frames }
+
 infixl 10 ◌>>=◌
 abbrev pub ◌>>=◌ : {A B : Type 0} → Result A Fault → (A → Result B Fault) → Result B Fault
 (Ok a) >>= f = f a
@@ -44,7 +47,7 @@ within l n r = if nat_le l n then r else Err deep
 
 -- one statement more
 abbrev pub grown : State → Stmt → State
-grown st s = record { body = then_one st.body s; frames = st.frames }
+grown st s = state (then_one st.body s) st.frames
 
 -- {{ e }}
 unfoldable pub print_tag : ℕ → ℕ → List Token → State → Result State Fault
@@ -53,28 +56,28 @@ print_tag n line ts st = expression ts >>= λ e. within (length st.frames + suc 
 -- {% if c %}
 unfoldable pub if_tag : ℕ → ℕ → List Token → State → Result State Fault
 if_tag n line ts st = expression ts >>= λ c.
-    within (length st.frames + suc (levels c)) n (Ok (record { body = end; frames = in_branch st.body no_branches line c ∷ st.frames }))
+    within (length st.frames + suc (levels c)) n (Ok (state end (in_branch st.body no_branches line c ∷ st.frames)))
 
 -- {% elif c %}
 unfoldable pub elif_tag : ℕ → ℕ → List Token → Body → List Frame → Result State Fault
 elif_tag n line ts body [] = Err syntax
 elif_tag n line ts body (in_else before done ∷ fs) = Err syntax
 elif_tag n line ts body (in_branch before done l c ∷ fs) = expression ts >>= λ d.
-    within (suc (length fs) + levels d) n (Ok (record { body = end; frames = in_branch before (then_branch done l c body) line d ∷ fs }))
+    within (suc (length fs) + levels d) n (Ok (state end (in_branch before (then_branch done l c body) line d ∷ fs)))
 
 -- {% else %}
 unfoldable pub else_tag : List Token → Body → List Frame → Result State Fault
 else_tag (t ∷ ts) body fs = Err syntax
 else_tag [] body [] = Err syntax
 else_tag [] body (in_else before done ∷ fs) = Err syntax
-else_tag [] body (in_branch before done l c ∷ fs) = Ok (record { body = end; frames = in_else before (then_branch done l c body) ∷ fs })
+else_tag [] body (in_branch before done l c ∷ fs) = Ok (state end (in_else before (then_branch done l c body) ∷ fs))
 
 -- {% endif %}
 unfoldable pub endif_tag : List Token → Body → List Frame → Result State Fault
 endif_tag (t ∷ ts) body fs = Err syntax
 endif_tag [] body [] = Err syntax
-endif_tag [] body (in_else before done ∷ fs) = Ok (record { body = then_one before (choose done body); frames = fs })
-endif_tag [] body (in_branch before done l c ∷ fs) = Ok (record { body = then_one before (choose (then_branch done l c body) end); frames = fs })
+endif_tag [] body (in_else before done ∷ fs) = Ok (state (then_one before (choose done body)) fs)
+endif_tag [] body (in_branch before done l c ∷ fs) = Ok (state (then_one before (choose (then_branch done l c body) end)) fs)
 
 unfoldable pub block_tag : ℕ → ℕ → Text → List Token → State → Result State Fault
 block_tag n line x ts st =
@@ -101,7 +104,7 @@ whole body [] = Ok body
 whole body (f ∷ fs) = Err syntax
 
 abbrev pub start : State
-start = record { body = end; frames = [] }
+start = state end []
 
 -- the statements that all the segments spell, of at most n levels
 unfoldable pub parsed : ℕ → List Segment → Result Body Fault
