@@ -10,10 +10,10 @@ use Rattle.jt_parse.proofs.Bodies.{within_in, within_out}
 use Rattle.jt_parse.proofs.Complete.{read_whole}
 use Rattle.jt_parse.proofs.Sound.{read_is_spelled}
 
-different : {A G : Type 0} (f : Fault) (a : A) → ◌≡◌ {A = Result A Fault} (Ok a) (Err f) → G
+pub different : {A G : Type 0} (f : Fault) (a : A) → ◌≡◌ {A = Result A Fault} (Ok a) (Err f) → G
 different f a e = absurd (cc)
 
-errors : {A : Type 0} (f g : Fault) → ◌≡◌ {A = Result A Fault} (Err f) (Err g) → f ≡ g
+pub errors : {A : Type 0} (f g : Fault) → ◌≡◌ {A = Result A Fault} (Err f) (Err g) → f ≡ g
 errors f g e = cc
 
 not_both : {G : Type 0} → deep ≡ syntax → G
