@@ -1,16 +1,16 @@
 -- What is answered of segments.
-use Rattle.std.proofs.Common.{◌≡◌, ℕ, ◌<◌, ◌≤◌, List, refl, sym, ◌∙◌, Result, Ok, Err, IfOk, IfErr, MatchResult}
+use Rattle.std.proofs.Common.{◌≡◌, ◌≤◌, List, refl, sym, ◌∙◌, Result, Ok, Err, IfOk, IfErr, MatchResult}
 use Rattle.jt_scan.specs.Cut.{Segment, weight_of}
 use Rattle.jt_parse.specs.Trees.{Body, body_levels, body_weight}
 use Rattle.jt_parse.specs.Grammar.{Forms}
-use Rattle.jt_parse.specs.Expressions.{Fault, syntax, deep}
+use Rattle.jt_parse.specs.Expressions.{syntax, deep}
 use Rattle.jt_parse.specs.Reading.{parsed}
 use Rattle.jt_parse.specs.View.{body_of}
 use Rattle.jt_parse.specs.Gives.{GivesTemplate, IsRefusal}
 use Rattle.jt_parse.specs.declared.error.ParseError.{ParseError}
 use Rattle.jt_parse.specs.declared.error.ParseError.TheVariants as e
 use Rattle.jt_parse.specs.declared.tree.Template.{Template}
-use Rattle.jt_parse.proofs.Exact.{found, exact, syntax_only, deep_only, different, errors}
+use Rattle.jt_parse.proofs.Exact.{found, exact, syntax_only, deep_only, different}
 use Rattle.jt_parse.proofs.Weighs.{forms_weighs}
 use Rattle.jt_parse.proofs.Short.{forms_short}
 use Rattle.jt_parse.specs.Bytes.{body_bytes, bytes_of}

@@ -7,6 +7,4 @@ pub mod Weighs
 pub mod Short
 pub mod Texts
 pub mod Views
-pub mod Runs
-pub mod Frames
 pub mod Answers

@@ -1,5 +1,5 @@
 -- The names and texts of a tree are no longer than those of its segments.
-use Rattle.std.proofs.Common.{◌≡◌, ℕ, ◌+◌, ◌≤◌, List, [], ◌∷◌, ◌++◌, length, codes, arith, encode_utf8_all}
+use Rattle.std.proofs.Common.{◌≡◌, ◌+◌, ◌≤◌, List, [], ◌∷◌, ◌++◌, codes, arith}
 use Rattle.jt_scan.specs.Cut.{Token, Segment}
 use Rattle.jt_parse.specs.Bytes.{expr_bytes, body_bytes, branch_bytes, tokens_bytes, bytes_of}
 use Rattle.jt_parse.specs.Trees.{Expr, Body, Branches}

@@ -1,5 +1,5 @@
 -- Texts and their characters.
-use Rattle.std.proofs.Common.{◌≡◌, ℕ, zero, suc, ◌<◌, Bool, true, false, ◌&&◌, List, [], ◌∷◌, slice_index, refl, sym, ap, ◌∙◌, arith, chars, bytes_eq, encode_utf8_all, IsUtf8, IsAscii, Decides}
+use Rattle.std.proofs.Common.{◌≡◌, ℕ, zero, suc, ◌<◌, Bool, true, false, ◌&&◌, List, [], ◌∷◌, slice_index, refl, sym, ap, ◌∙◌, arith, chars, bytes_eq, encode_utf8_all, IsUtf8, IsAscii}
 use Rattle.std.specs.Bool.{one_answer}
 use lib.Utf8.{scalars}
 use Rattle.std.specs.Str.{is_utf8}
@@ -27,6 +27,7 @@ plain_ascii (c ∷ cs) e (suc i) = plain_ascii cs (both _ (is_plain cs) e).1 i
 pub same_text : (t w : List ℕ) → IsUtf8 t → is_plain w ≡ true → bytes_eq t w ≡ bytes_eq (chars t) w
 same_text t w u p =
     let a : IsAscii w = plain_ascii w p in
-    one_answer (bytes_eq t w) (bytes_eq (chars t) w) (bytes_eq-Decides t w)
-        (λ h. sym (spelled_again t u) ∙ ap encode_utf8_all ((bytes_eq-Decides (chars t) w).0 h) ∙ ap encode_utf8_all (sym (chars-IsAscii w a)) ∙ spelled_again w (IsUtf8-from_ascii w a),
-         λ h. (bytes_eq-Decides (chars t) w).1 (ap chars h ∙ chars-IsAscii w a))
+    one_answer (bytes_eq t w) (bytes_eq (chars t) w) (bytes_eq-Decides t w) (
+      λ h. sym (spelled_again t u) ∙ ap encode_utf8_all ((bytes_eq-Decides (chars t) w).0 h) ∙ ap encode_utf8_all (sym (chars-IsAscii w a)) ∙ spelled_again w (IsUtf8-from_ascii w a),
+      λ h. (bytes_eq-Decides (chars t) w).1 (ap chars h ∙ chars-IsAscii w a),
+    )

@@ -1,8 +1,8 @@
 -- Trees with one statement or branch more.
-use Rattle.std.proofs.Common.{◌≡◌, ℕ, List, [], ◌∷◌, ◌++◌, map, refl, sym, ap, ap₂, ◌∙◌, rules, Vec, Global, string_bytes}
+use Rattle.std.proofs.Common.{◌≡◌, ℕ, List, [], ◌∷◌, ◌++◌, map, refl, sym, ap, ◌∙◌, rules, Vec, Global, string_bytes}
 use Rattle.jt_parse.specs.Trees as trees
 use Rattle.jt_parse.specs.Trees.{Body, end, Branches, no_branches}
-use Rattle.jt_parse.specs.Reading.{then_all, then_one, then_branches, then_branch}
+use Rattle.jt_parse.specs.Reading.{then_one, then_branch}
 use Rattle.jt_parse.specs.View.{expr_view, stmts_of, branches_of, stmt_step, stmt_view, body_view, branches_view}
 use Rattle.jt_parse.specs.declared.tree.Expr.{Expr}
 use Rattle.jt_parse.specs.declared.tree.Stmt.{Stmt, the_lemmas, fold-roll-Stmt}

@@ -1,5 +1,5 @@
 -- What the functions of the parser give, and what a refusal says.
-use Rattle.std.specs.Prelude.{◌≡◌, ℕ, ◌<◌, List, [], ◌∷◌, map, reverse, Option, Some, None, Result, Ok, Err, ⊤}
+use Rattle.std.specs.Prelude.{◌≡◌, ℕ, ◌<◌, List, map, reverse, Option, Some, None, Result, Ok, Err}
 use Rattle.jt_scan.specs.Cut.{Segment}
 use Rattle.jt_parse.specs.Trees as trees
 use Rattle.jt_parse.specs.Trees.{Body, Branches, body_levels}

@@ -1,5 +1,5 @@
 -- Words of ASCII letters.
-use Rattle.std.specs.Prelude.{ℕ, Bool, true, false, ◌&&◌, List, [], ◌∷◌, nat_lt}
+use Rattle.std.specs.Prelude.{ℕ, Bool, true, ◌&&◌, List, [], ◌∷◌, nat_lt}
 
 -- each byte is ASCII
 abbrev pub is_plain : List ℕ → Bool

@@ -4,10 +4,9 @@
 mod error;
 mod expression;
 mod parser;
-mod tree;
-
 #[cfg(test)]
 mod tests;
+mod tree;
 
 pub use error::ParseError;
 pub use parser::{MAX_LEVELS, parse};

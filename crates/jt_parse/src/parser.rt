@@ -225,12 +225,7 @@ impl Parser {
 
     /// A block tag, by its first word.
     #[tactic(auto, unfolding(crate::specs::Reading::block_tag))]
-    fn block_tag(
-        &mut self,
-        line: u32,
-        word: &str,
-        tokens: &[Token<'_>],
-    ) -> Result<(), ParseError>
+    fn block_tag(&mut self, line: u32, word: &str, tokens: &[Token<'_>]) -> Result<(), ParseError>
         ensures { GivesState (reading.block_tag MAX_LEVELS line (chars word.now) (map token_view tokens.now) (state_view self.old)) result self.new }
     {
         if is_word(word, "if") {

@@ -1,11 +1,10 @@
 //! Rows of sources, with their trees or their refusals.
 
-use std::alloc::{AllocError, Global};
-use std::test::Fail;
-
 use crate::parser::parse;
 use crate::tree::{Expr, Literal, Stmt};
 use jt_scan::{Options, Source, scan};
+use std::alloc::{AllocError, Global};
+use std::test::Fail;
 
 /// An expression as it is written.
 fn tell_expression(told: &mut String, expr: &Expr) -> Result<(), AllocError> {
@@ -74,18 +73,36 @@ fn sources_are_parsed(rt: HostRuntime) -> Result<(), Fail> {
     let rows = [
         ("", ""),
         ("a{# b #}{{ c }}", "<a>{c}"),
-        ("{% if a %}x{% elif b %}y{% else %}z{% endif %}", "[a?<x>|b?<y>|:<z>]"),
-        ("{% if true %}{% if False %}{% endif %}{{ none }}{% endif %}!", "[T?[F?|:]{N}|:]<!>"),
+        (
+            "{% if a %}x{% elif b %}y{% else %}z{% endif %}",
+            "[a?<x>|b?<y>|:<z>]",
+        ),
+        (
+            "{% if true %}{% if False %}{% endif %}{{ none }}{% endif %}!",
+            "[T?[F?|:]{N}|:]<!>",
+        ),
         ("{{ endif }}{{ truex }}", "{endif}{truex}"),
         ("{{ a b }}", "P1 Syntax: Syntax { line: 1 }"),
         ("{{ if }}", "P1 Syntax: Syntax { line: 1 }"),
         ("{{ }}", "P1 Syntax: Syntax { line: 1 }"),
         ("\n{% %}", "P1 Syntax: Syntax { line: 2 }"),
         ("{% else %}", "P1 Syntax: Syntax { line: 1 }"),
-        ("{% if a %}{% else x %}{% endif %}", "P1 Syntax: Syntax { line: 1 }"),
-        ("{% if a %}{% else %}{% else %}{% endif %}", "P1 Syntax: Syntax { line: 1 }"),
-        ("{% if a %}{% else %}\n{% elif b %}{% endif %}", "P1 Syntax: Syntax { line: 2 }"),
-        ("{% if a %}\n\n{% endif x %}", "P1 Syntax: Syntax { line: 3 }"),
+        (
+            "{% if a %}{% else x %}{% endif %}",
+            "P1 Syntax: Syntax { line: 1 }",
+        ),
+        (
+            "{% if a %}{% else %}{% else %}{% endif %}",
+            "P1 Syntax: Syntax { line: 1 }",
+        ),
+        (
+            "{% if a %}{% else %}\n{% elif b %}{% endif %}",
+            "P1 Syntax: Syntax { line: 2 }",
+        ),
+        (
+            "{% if a %}\n\n{% endif x %}",
+            "P1 Syntax: Syntax { line: 3 }",
+        ),
         ("\n{% if a %}\n{{ b }}", "P1 Syntax: Syntax { line: 2 }"),
         ("{% for %}", "P1 Syntax: Syntax { line: 1 }"),
     ];
@@ -112,15 +129,26 @@ fn nested(alloc: Global, count: usize, closed: bool) -> Result<String, AllocErro
 #[test]
 fn levels_are_limited(rt: HostRuntime) -> Result<(), Fail> {
     let alloc = rt.alloc();
-    let rows = [(99, true, "["), (100, true, "P"), (200, false, "P"), (99, false, "P")];
+    let rows = [
+        (99, true, "["),
+        (100, true, "P"),
+        (200, false, "P"),
+        (99, false, "P"),
+    ];
     for (count, closed, want) in rows {
         let text = nested(alloc, count, closed)?;
         let answer = told(alloc, text.as_str())?;
         assert!(rt; answer.starts_with(want), "{count}");
     }
     let deep = nested(alloc, 100, true)?;
-    assert_eq!(rt; told(alloc, deep.as_str())?.as_str(), "P2 TooDeep: TooDeep { line: 1 }");
+    assert_eq!(rt;
+        told(alloc, deep.as_str())?.as_str(),
+        "P2 TooDeep: TooDeep { line: 1 }"
+    );
     let long = nested(alloc, 104_857, false)?;
-    assert_eq!(rt; told(alloc, long.as_str())?.as_str(), "P2 TooDeep: TooDeep { line: 1 }");
+    assert_eq!(rt;
+        told(alloc, long.as_str())?.as_str(),
+        "P2 TooDeep: TooDeep { line: 1 }"
+    );
     Ok(())
 }

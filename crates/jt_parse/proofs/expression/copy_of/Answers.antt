@@ -1,4 +1,4 @@
-use Rattle.std.proofs.Common.{◌∙◌, sym, rules}
+use Rattle.std.proofs.Common.{rules}
 use Rattle.jt_parse.proofs.Texts.{spelled_again}
 use Rattle.jt_parse.proofs.expression.copy_of.Goals as goal
 
