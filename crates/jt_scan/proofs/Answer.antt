@@ -3,7 +3,7 @@ use Rattle.std.proofs.Common.{◌≡◌, ℕ, ◌+◌, ◌≤◌, List, length, 
 use Rattle.jt_scan.specs.declared.error.ScanError.{ScanError}
 use Rattle.jt_scan.specs.declared.error.ScanError.TheVariants as error
 use Rattle.jt_scan.specs.declared.segment.Kind.{Kind}
-use Rattle.jt_scan.specs.Cut.{Text, Segment, Cuts, no_more, more, IsCut, weight_of, line_at}
+use Rattle.jt_scan.specs.Cut.{Text, Segment, Cuts, no_more, more, IsCut, weight_of}
 use Rattle.jt_scan.specs.Refused.{IsBroken, no_closer, no_token, behind_space, behind_token, IsFaulty, in_tag, in_comment, IsFaultOf, IsRefusal}
 use Rattle.jt_scan.specs.Scanning.{cut, IsGiven}
 use Rattle.jt_scan.proofs.CutLaws.{cut_found, cut_says, cut_refuses, FaultyAt}

@@ -1,5 +1,5 @@
 -- Bytes of a text against its characters.
-use Rattle.std.proofs.Common.{◌≡◌, ℕ, zero, suc, ◌+◌, ◌-◌, ◌<◌, ◌≤◌, ◌==◌, ◌&&◌, ◌||◌, ◌⊎◌, inl, inr, Bool, true, false, cond, List, [], ◌∷◌, ◌++◌, length, take, drop, get_or, count_by, refl, sym, ap, ap₂, subst, ◌∙◌, append_assoc, append-nil, arith, zero-add, length-append, length-take, IsUtf8, slice_range, Option, Some, None, unwrap_or}
+use Rattle.std.proofs.Common.{◌≡◌, ℕ, zero, suc, ◌+◌, ◌-◌, ◌<◌, ◌≤◌, ◌==◌, ◌||◌, ◌⊎◌, inl, inr, Bool, true, false, cond, List, [], ◌∷◌, ◌++◌, length, take, drop, get_or, count_by, refl, sym, ap, ap₂, subst, ◌∙◌, append-nil, arith, zero-add, length-append, length-take, IsUtf8, slice_range, Option, Some, None, unwrap_or}
 use Rattle.std.proofs.lemmas.Bool.{cases_lt}
 use Rattle.std.proofs.lemmas.Bool.Decides.{nat_tests}
 use Rattle.std.proofs.lemmas.List.{take-append-drop}
@@ -11,7 +11,7 @@ use lib.Utf8.{encode, encodes}
 use Rattle.memchr.specs.Find.{IsFirst, FindsNeedle, OccursAt}
 use Rattle.jt_scan.specs.Cut.{Text, begins, opens, ends_comment, NoneBegins}
 use Rattle.jt_scan.specs.Scanning.{EndsWith, clear_run, is_second, OpensAt}
-use Rattle.jt_scan.proofs.Steps.{both, begins_says, Stops, clear_of}
+use Rattle.jt_scan.proofs.Steps.{both, Stops, clear_of}
 
 -- ---- an end of a text
 
@@ -47,7 +47,7 @@ chars_before t r b n u e d =
 
 high : (c : ℕ) → 128 ≤ c → (k : ℕ) → k < length (encode c) → 128 ≤ get_or (encode c) k 0
 high c h k below = elim (cases_lt (get_or (encode c) k 0) 128) [
-  inl low ↦ absurd (omega (arith, inside_one c [] (encode c) k (sym (append-nil _)) below low))
+  | inl low ↦ absurd (omega (arith, inside_one c [] (encode c) k (sym (append-nil _)) below low))
   | inr big ↦ big
 ]
 
@@ -68,7 +68,7 @@ count_high (x ∷ xs) ys h =
 
 count_one : (c : ℕ) (ys : List ℕ) → count_by is_lf (encode c ++ ys) ≡ count_by is_lf (c ∷ ys)
 count_one c ys = elim (cases_lt c 128) [
-  inl low ↦ ap (λ (z : List ℕ). count_by is_lf (z ++ ys)) (encode_ascii c low)
+  | inl low ↦ ap (λ (z : List ℕ). count_by is_lf (z ++ ys)) (encode_ascii c low)
   | inr big ↦ (let other : (c == 10) ≡ false = grind (arith, nat_tests) in count_high (encode c) ys (high c big) ∙ sym (uncounted c ys other))
 ]
 
@@ -121,9 +121,10 @@ pub record IsTested (test : Text → Bool) (P : List ℕ → ℕ → Type 0) : T
 none_begins : (test : Text → Bool) (P : List ℕ → ℕ → Type 0) → IsTested test P → (d x : Text) → ((k : ℕ) → k < length (encodes d) → P (encodes (d ++ x)) k → ⊥) → NoneBegins test d x
 none_begins test P t [] x h = tt
 none_begins test P t (c ∷ d) x h =
-    let long : 1 ≤ length (encode c) = omega (arith, length-encode c, (len_utf8_bounds c).0) in
-    (is_not (test (c ∷ (d ++ x))) (λ e. h 0 (omega (arith, length-append (encode c) (encodes d))) (t.up (c ∷ (d ++ x)) e)),
-      none_begins test P t d x (λ k below p. h (length (encode c) + k) (omega (arith, length-append (encode c) (encodes d))) (t.shift (encode c) (encodes (d ++ x)) k p)))
+    let long : 1 ≤ length (encode c) = omega (arith, length-encode c, (len_utf8_bounds c).0) in (
+      is_not (test (c ∷ (d ++ x))) (λ e. h 0 (omega (arith, length-append (encode c) (encodes d))) (t.up (c ∷ (d ++ x)) e)),
+      none_begins test P t d x (λ k below p. h (length (encode c) + k) (omega (arith, length-append (encode c) (encodes d))) (t.shift (encode c) (encodes (d ++ x)) k p)),
+    )
   where
     is_not : (b : Bool) → (b ≡ true → ⊥) → b ≡ false
     is_not true f = absurd (f refl)
@@ -189,9 +190,9 @@ second_cases c h = grind (arith, nat_tests)
 
 opens_up : (cs : Text) → opens cs ≡ true → OpensAt (encodes cs) 0
 opens_up cs h = elim (opens_cases cs h) [
-  inl a ↦ (let p = pair_up 123 123 cs (omega arith) (omega arith) a in (p.0, rw p.1 refl))
+  | inl a ↦ (let p = pair_up 123 123 cs (omega arith) (omega arith) a in (p.0, rw p.1 refl))
   | inr o ↦ elim o [
-    inl a ↦ (let p = pair_up 123 37 cs (omega arith) (omega arith) a in (p.0, rw p.1 refl))
+    | inl a ↦ (let p = pair_up 123 37 cs (omega arith) (omega arith) a in (p.0, rw p.1 refl))
     | inr a ↦ (let p = pair_up 123 35 cs (omega arith) (omega arith) a in (p.0, rw p.1 refl))
   ]
 ]
@@ -204,9 +205,9 @@ any_of false false false h = elim h [ inl e ↦ cc | inr o ↦ elim o [ inl e �
 
 opens_down : (cs : Text) → OpensAt (encodes cs) 0 → opens cs ≡ true
 opens_down cs p = any_of (begins 123 123 cs) (begins 123 37 cs) (begins 123 35 cs) (elim (second_cases (get_or (encodes cs) 1 0) p.1) [
-  inl e ↦ inl (pair_down 123 123 cs (omega arith) (omega arith) (omega arith) (omega arith) p.0 e)
+  | inl e ↦ inl (pair_down 123 123 cs (omega arith) (omega arith) (omega arith) (omega arith) p.0 e)
   | inr o ↦ elim o [
-    inl e ↦ inr (inl (pair_down 123 37 cs (omega arith) (omega arith) (omega arith) (omega arith) p.0 e))
+    | inl e ↦ inr (inl (pair_down 123 37 cs (omega arith) (omega arith) (omega arith) (omega arith) p.0 e))
     | inr e ↦ inr (inr (pair_down 123 35 cs (omega arith) (omega arith) (omega arith) (omega arith) p.0 e))
   ]
 ])
@@ -248,7 +249,7 @@ reads b k p (suc (suc j)) h = absurd (omega arith)
 
 fits : (b : List ℕ) (k : ℕ) → get_or b (k + 1) 0 ≡ 125 → k + 2 ≤ length b
 fits b k h = elim (cases_lt (k + 1) (length b)) [
-  inl low ↦ omega arith
+  | inl low ↦ omega arith
   | inr past ↦ absurd (omega (arith, past_end b (k + 1) past, h))
 ]
 
@@ -257,6 +258,7 @@ occurs b k p = record { fits = fits b k p.1; reads = reads b k p }
 
 pub needle_first : (b : List ℕ) (r : Option ℕ) → FindsNeedle b (35 ∷ 125 ∷ []) 0 r → IsFirst (PairAt 35 125 b) 0 (length b + 1) r
 needle_first b None h = λ k low below p. h k low below (occurs b k p)
-needle_first b (Some k) h =
-    (record { low = h.0.low; high = h.0.high; before = λ j low below p. h.0.before j low below (occurs b j p) },
-      (ap (λ m. get_or b m 0) (let e : k ≡ k + 0 = omega arith in e) ∙ h.1.reads 0 (omega arith), h.1.reads 1 (omega arith)))
+needle_first b (Some k) h = (
+  record { low = h.0.low; high = h.0.high; before = λ j low below p. h.0.before j low below (occurs b j p) },
+  (ap (λ m. get_or b m 0) (let e : k ≡ k + 0 = omega arith in e) ∙ h.1.reads 0 (omega arith), h.1.reads 1 (omega arith)),
+)

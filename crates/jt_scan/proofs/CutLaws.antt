@@ -1,6 +1,5 @@
 -- The one cut of a source is found, and a refusal holds.
-use Rattle.std.proofs.Common.{◌≡◌, ℕ, zero, suc, ◌+◌, ◌<◌, ◌≤◌, ◌==◌, ◌&&◌, ◌||◌, ◌⊎◌, inl, inr, Bool, true, false, List, [], ◌∷◌, ◌++◌, length, drop, refl, sym, ap, subst, ◌∙◌, arith, Result, Ok, Err, length-append, append-nil}
-use Rattle.std.proofs.lemmas.Bool.Decides.{nat_tests}
+use Rattle.std.proofs.Common.{◌≡◌, ℕ, zero, suc, ◌+◌, ◌<◌, ◌||◌, ◌⊎◌, inl, inr, Bool, true, false, List, [], ◌∷◌, ◌++◌, length, drop, refl, sym, ap, subst, ◌∙◌, arith, Result, Ok, Err, append-nil}
 use Rattle.jt_scan.specs.declared.error.ScanError.{ScanError}
 use Rattle.jt_scan.specs.declared.error.ScanError.TheVariants.{UnclosedTag}
 use Rattle.jt_scan.specs.declared.segment.Kind.{Kind}
@@ -8,7 +7,7 @@ use Rattle.jt_scan.specs.declared.segment.Kind.TheVariants.{Variable, Block}
 use Rattle.jt_scan.specs.Cut.{Text, Token, second, Segment, data_of, tag, comment, opens, begins, ends_comment, NoneBegins, EndsData, IsSegment, some_data, a_tag, a_comment, Cuts, no_more, more, line_at}
 use Rattle.jt_scan.specs.Refused.{IsFaulty, in_tag, in_comment}
 use Rattle.jt_scan.specs.Scanning.{Outcome, ◌>>=◌, clear_run, inside, tag_at, ended_comment, comment_at, data_at, segment_at, with_segment, then_cut, cut}
-use Rattle.jt_scan.proofs.Steps.{by_test, ok_parts, bind_ok, both, begins_says, Stops, clear_of, clear_says}
+use Rattle.jt_scan.proofs.Steps.{by_test, ok_parts, bind_ok, begins_says, Stops, clear_of, clear_says}
 use Rattle.jt_scan.proofs.InsideLaws.{inside_found, inside_says, inside_refuses}
 use Rattle.jt_scan.proofs.Weight.{shrinks}
 
@@ -102,10 +101,10 @@ segment_says n s x rest le e =
     by_test (begins 123 123 x) _ _ _ e
     (λ h q. subst (λ z. IsSegment n s z rest) (sym (opener_says 123 123 x h)) (tag_says Variable n s (drop 2 x) rest q))
     (λ h q. by_test (begins 123 37 x) _ _ _ q
-      (λ h2 q2. subst (λ z. IsSegment n s z rest) (sym (opener_says 123 37 x h2)) (tag_says Block n s (drop 2 x) rest q2))
-      (λ h2 q2. by_test (begins 123 35 x) _ _ _ q2
-        (λ h3 q3. subst (λ z. IsSegment n s z rest) (sym (opener_says 123 35 x h3)) (comment_says n s (drop 2 x) rest q3))
-        (λ h3 q3. let r = clear_says opens x in data_behind n s x (clear_run opens x).0 (clear_run opens x).1 rest r.0 le (none_opens x h h2 h3) r.1 r.2 q3)))
+    (λ h2 q2. subst (λ z. IsSegment n s z rest) (sym (opener_says 123 37 x h2)) (tag_says Block n s (drop 2 x) rest q2))
+    (λ h2 q2. by_test (begins 123 35 x) _ _ _ q2
+    (λ h3 q3. subst (λ z. IsSegment n s z rest) (sym (opener_says 123 35 x h3)) (comment_says n s (drop 2 x) rest q3))
+    (λ h3 q3. let r = clear_says opens x in data_behind n s x (clear_run opens x).0 (clear_run opens x).1 rest r.0 le (none_opens x h h2 h3) r.1 r.2 q3)))
 
 -- the first segment and the others
 then_says : (s : Segment) (o : Result (List Segment) ScanError) (ss : List Segment) → with_segment s o ≡ Ok ss → (us : List Segment) × (o ≡ Ok us) × (s ∷ us ≡ ss)
@@ -149,10 +148,10 @@ segment_refuses n x e q =
     by_test (begins 123 123 x) _ _ _ q
     (λ h q1. subst (IsFaulty n e) (sym (opener_says 123 123 x h)) (tag_refuses Variable n (drop 2 x) e _ refl q1))
     (λ h q1. by_test (begins 123 37 x) _ _ _ q1
-      (λ h2 q2. subst (IsFaulty n e) (sym (opener_says 123 37 x h2)) (tag_refuses Block n (drop 2 x) e _ refl q2))
-      (λ h2 q2. by_test (begins 123 35 x) _ _ _ q2
-        (λ h3 q3. subst (IsFaulty n e) (sym (opener_says 123 35 x h3)) (comment_refuses n (drop 2 x) e q3))
-        (λ h3 q3. cc)))
+    (λ h2 q2. subst (IsFaulty n e) (sym (opener_says 123 37 x h2)) (tag_refuses Block n (drop 2 x) e _ refl q2))
+    (λ h2 q2. by_test (begins 123 35 x) _ _ _ q2
+    (λ h3 q3. subst (IsFaulty n e) (sym (opener_says 123 35 x h3)) (comment_refuses n (drop 2 x) e q3))
+    (λ h3 q3. cc)))
 
 refused_by : (o : Outcome Segment) (f : Text → Result (List Segment) ScanError) (e : ScanError) → then_cut o f ≡ Err e → (o ≡ Err e) ⊎ ((s : Segment) × (rest : Text) × (o ≡ Ok (s, rest)) × (f rest ≡ Err e))
 refused_by (Err d) f e h = inl (let same : d ≡ e = cc in ap (λ u. Err u) same)
@@ -171,9 +170,9 @@ cut_refuses source zero e x le h = absurd (omega arith)
 cut_refuses source (suc m) e [] le h = cc
 cut_refuses source (suc m) e (c ∷ cs) le h =
     elim (refused_by (segment_at (line_at source (c ∷ cs)) (c ∷ cs)) (cut source m) e h) [
-      inl q ↦ ([], no_more (segment_refuses (line_at source (c ∷ cs)) (c ∷ cs) e q))
+      | inl q ↦ ([], no_more (segment_refuses (line_at source (c ∷ cs)) (c ∷ cs) e q))
       | inr q ↦
-        let p = segment_says (line_at source (c ∷ cs)) q.0 (c ∷ cs) q.1 (omega arith) q.2 in
-        let i = cut_refuses source m e q.1 (omega (arith, (shrinks p).0)) q.3 in
-        (q.0 ∷ i.0, more p i.1)
+          let p = segment_says (line_at source (c ∷ cs)) q.0 (c ∷ cs) q.1 (omega arith) q.2 in
+          let i = cut_refuses source m e q.1 (omega (arith, (shrinks p).0)) q.3 in
+          (q.0 ∷ i.0, more p i.1)
     ]

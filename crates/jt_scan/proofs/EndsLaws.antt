@@ -1,9 +1,9 @@
 -- Line ends of a text, piece by piece.
-use Rattle.std.proofs.Common.{◌≡◌, ℕ, zero, suc, ◌+◌, ◌-◌, ◌<◌, ◌≤◌, ◌==◌, ◌&&◌, Bool, true, false, List, [], ◌∷◌, ◌++◌, length, take, drop, get_or, refl, sym, ap, ap₂, subst, ◌∙◌, append_assoc, append-nil, arith, length-take, get_or-take, drop-cons, nat_lt, if◌then◌else◌}
+use Rattle.std.proofs.Common.{◌≡◌, ℕ, suc, ◌+◌, ◌-◌, ◌<◌, ◌≤◌, ◌==◌, ◌&&◌, Bool, true, false, List, [], ◌∷◌, ◌++◌, length, take, drop, get_or, refl, sym, ap, ap₂, subst, ◌∙◌, append_assoc, arith, length-take, get_or-take, drop-cons, nat_lt, if◌then◌else◌}
 use Rattle.std.proofs.lemmas.List.{take-append-drop, length-take-le}
 use Rattle.std.proofs.lemmas.Bool.Decides.{nat_tests}
 use Rattle.memchr.specs.Find.{IsFirstByte, is_byte}
-use Rattle.std.proofs.Common.{Option, Some, None}
+use Rattle.std.proofs.Common.{Some, None}
 use Rattle.jt_scan.specs.LineEnds.{lf_ends, without_first_lf, without_last_lf, ends_with_lf, normalized}
 
 is_not : (b : Bool) → (b ≡ true → ⊥) → b ≡ false
@@ -96,7 +96,7 @@ ends_turn held rest piece more whole at e none le here p m =
     let parts : rest ≡ take at rest ++ (13 ∷ drop (at + 1) rest) = sym (take-append-drop at rest) ∙ ap (λ z. take at rest ++ z) (drop-cons rest at 0 le ∙ ap₂ (λ c m. c ∷ drop m rest) here (let e : suc at ≡ at + 1 = omega arith in e)) in
     let clean : (k : ℕ) → k < length (take at rest) → get_or (take at rest) k 0 ≡ 13 → ⊥ = λ k below is. none k (omega (arith, long)) (sym (get_or-take at rest k 0 (omega (arith, long))) ∙ is) in
     let lf : lf_ends false rest ≡ take at rest ++ (10 ∷ lf_ends false (without_first_lf (drop (at + 1) rest))) =
-      ap (lf_ends false) parts ∙ ends_piece (take at rest) (13 ∷ drop (at + 1) rest) clean ∙ ap (λ z. take at rest ++ z) (ends_cr (drop (at + 1) rest)) in
+    ap (lf_ends false) parts ∙ ends_piece (take at rest) (13 ∷ drop (at + 1) rest) clean ∙ ap (λ z. take at rest ++ z) (ends_cr (drop (at + 1) rest)) in
     rw (p, m) (append_assoc (held ++ take at rest) (10 ∷ []) _ ∙ append_assoc held (take at rest) _ ∙ ap (λ z. held ++ z) (sym lf) ∙ e)
 
 -- the first CR, and none
@@ -107,6 +107,7 @@ cr_at b rest at same f =
   where
     is_cr : (n : ℕ) → (n == 13) ≡ true → n ≡ 13
     is_cr n h = grind (arith, nat_tests)
+
     cr_is : (n : ℕ) → n ≡ 13 → (n == 13) ≡ true
     cr_is n h = grind (arith, nat_tests)
 

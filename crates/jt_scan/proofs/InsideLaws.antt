@@ -1,9 +1,7 @@
 -- The tokens of a tag's inside are found, and nothing else is.
-use Rattle.std.proofs.Common.{◌≡◌, ℕ, zero, suc, ◌+◌, ◌<◌, ◌≤◌, Bool, true, false, List, [], ◌∷◌, ◌++◌, length, drop, refl, sym, ap, subst, ◌∙◌, arith, Ok, Err, length-append}
+use Rattle.std.proofs.Common.{◌≡◌, ℕ, zero, suc, ◌<◌, false, List, [], ◌∷◌, ◌++◌, length, refl, sym, ap, subst, ◌∙◌, arith, Ok, Err, length-append}
 use Rattle.jt_scan.specs.declared.error.ScanError.{ScanError}
-use Rattle.jt_scan.specs.declared.error.ScanError.TheVariants.{UnclosedTag, BadCharacter}
 use Rattle.jt_scan.specs.declared.segment.Kind.{Kind}
-use Rattle.jt_scan.specs.declared.segment.Kind.TheVariants.{Variable, Block}
 use Rattle.jt_scan.specs.Cut.{Text, Token, name, closer, begins, starts_name, is_space, Spelled, a_name, Inside, closed, space, token}
 use Rattle.jt_scan.specs.Refused.{IsBroken, no_closer as has_no_closer, no_token, behind_space, behind_token}
 use Rattle.jt_scan.specs.Scanning.{Outcome, ◌>>=◌, run, inside, with_token, Front, closes, spells, front_at, then_inside}
@@ -38,15 +36,15 @@ front_says k line f [] rest e = cc
 front_says k line f (c ∷ cs) rest e =
     by_test (begins (closer k) 125 (c ∷ cs)) _ _ _ e
     (λ h q.
-      let p = ok_parts q in let b = begins_says (closer k) 125 c cs h in
-      subst (λ g. IsFront k g (c ∷ cs) rest) p.0 (ap (λ d. d ∷ cs) b.0 ∙ ap (λ z. closer k ∷ z) (b.1 ∙ ap (λ z. 125 ∷ z) p.1)))
+    let p = ok_parts q in let b = begins_says (closer k) 125 c cs h in
+    subst (λ g. IsFront k g (c ∷ cs) rest) p.0 (ap (λ d. d ∷ cs) b.0 ∙ ap (λ z. closer k ∷ z) (b.1 ∙ ap (λ z. 125 ∷ z) p.1)))
     (λ h q. by_test (starts_name c) _ _ _ q
-      (λ h2 q2.
-        let p = ok_parts q2 in let r = run_says cs in
-        subst (λ g. IsFront k g (c ∷ cs) rest) p.0
-        (subst (λ z. IsFront k (spells (name (c ∷ (run cs).0))) (c ∷ cs) z) p.1
-        (c ∷ (run cs).0, ap (λ z. c ∷ z) r.0, a_name h2 r.1 r.2, omega (arith, ap length r.0, length-append (run cs).0 (run cs).1))))
-      (λ h2 q2. cc))
+    (λ h2 q2.
+    let p = ok_parts q2 in let r = run_says cs in
+    subst (λ g. IsFront k g (c ∷ cs) rest) p.0
+    (subst (λ z. IsFront k (spells (name (c ∷ (run cs).0))) (c ∷ cs) z) p.1
+    (c ∷ (run cs).0, ap (λ z. c ∷ z) r.0, a_name h2 r.1 r.2, omega (arith, ap length r.0, length-append (run cs).0 (run cs).1))))
+    (λ h2 q2. cc))
 
 err_same : {A : Type 0} {d e : ScanError} → ◌≡◌ {A = Outcome A} (Err d) (Err e) → d ≡ e
 err_same h = cc
@@ -58,8 +56,8 @@ front_refuses k line (c ∷ cs) e s h =
     by_test (begins (closer k) 125 (c ∷ cs)) _ _ _ h
     (λ b q. cc)
     (λ b q. by_test (starts_name c) _ _ _ q
-      (λ d q2. cc)
-      (λ d q2. subst (λ f. IsBroken k line f (c ∷ cs)) (err_same q2) (no_token (s c cs refl) d b)))
+    (λ d q2. cc)
+    (λ d q2. subst (λ f. IsBroken k line f (c ∷ cs)) (err_same q2) (no_token (s c cs refl) d b)))
 
 pub inside_says : (k : Kind) (line m : ℕ) (ts : List Token) (x rest : Text) → inside k line m x ≡ Ok (ts, rest) → Inside k ts x rest
 unfolding inside
@@ -69,8 +67,8 @@ inside_says k line (suc m) ts (c ∷ cs) rest e =
     by_test (is_space c) _ _ _ e
     (λ h q. space h (inside_says k line m ts cs rest q))
     (λ h q.
-      let b = bind_ok (front_at k line (c ∷ cs)) (then_inside (inside k line m)) ts rest q in
-      turned b.0 b.1 (front_says k line b.0 (c ∷ cs) b.1 b.2) b.3 (λ us z q2. inside_says k line m us b.1 z q2))
+    let b = bind_ok (front_at k line (c ∷ cs)) (then_inside (inside k line m)) ts rest q in
+    turned b.0 b.1 (front_says k line b.0 (c ∷ cs) b.1 b.2) b.3 (λ us z q2. inside_says k line m us b.1 z q2))
   where
     turned : (f : Front) (u : Text) → IsFront k f (c ∷ cs) u → then_inside (inside k line m) f u ≡ Ok (ts, rest) → ((us : List Token) (z : Text) → inside k line m u ≡ Ok (us, z) → Inside k us u z) → Inside k ts (c ∷ cs) rest
     turned closes u is q next =

@@ -5,6 +5,5 @@ pub mod CutLaws
 pub mod Weight
 pub mod Bytes
 pub mod Turns
-
 pub mod Answer
 pub mod EndsLaws

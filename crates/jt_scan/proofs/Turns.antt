@@ -1,5 +1,5 @@
 -- One turn of the loop over a tag's tokens, and of the loop over segments.
-use Rattle.std.proofs.Common.{◌≡◌, ℕ, zero, suc, ◌+◌, ◌-◌, ◌<◌, ◌≤◌, ◌==◌, ◌&&◌, ◌||◌, Bool, true, false, List, [], ◌∷◌, ◌++◌, length, drop, refl, sym, ap, ap₂, subst, ◌∙◌, arith, append_assoc, append-nil, Result, Ok, Err, length-append, IsUtf8, cond}
+use Rattle.std.proofs.Common.{◌≡◌, ℕ, zero, suc, ◌+◌, ◌<◌, ◌≤◌, ◌==◌, Bool, true, false, List, [], ◌∷◌, ◌++◌, length, drop, refl, sym, ap, ap₂, subst, ◌∙◌, arith, append_assoc, append-nil, Result, Ok, Err, length-append, IsUtf8, cond}
 use Rattle.std.proofs.lemmas.List.Sums.{sum_by-append, count_by-le-length}
 use Rattle.std.proofs.lemmas.Str.{encodes-chars, chars-nil, length-le-encodes}
 use Rattle.std.specs.Str.{chars}
@@ -8,11 +8,11 @@ use Rattle.jt_scan.specs.declared.error.ScanError.{ScanError}
 use Rattle.jt_scan.specs.declared.error.ScanError.TheVariants as error
 use Rattle.jt_scan.specs.declared.segment.Kind.{Kind}
 use Rattle.jt_scan.specs.declared.segment.Kind.TheVariants.{Variable, Block}
-use Rattle.jt_scan.specs.Cut.{Text, Token, Segment, data_of, comment, begins, opens, ends_comment, is_space, IsSegment, some_data, a_tag, a_comment, Inside, closed, space, token, closer, second, starts_name, name, NoneBegins, line_at, lines}
-use Rattle.jt_scan.specs.Scanning.{Outcome, ◌>>=◌, EndsWith, after_space, Front, closes, spells, front_at, with_token, then_inside, inside, tag_at, run, clear_run, ended_comment, comment_at, data_at, segment_at, with_segment, then_cut, cut, IsGiven}
+use Rattle.jt_scan.specs.Cut.{Text, Token, Segment, data_of, comment, begins, opens, ends_comment, is_space, IsSegment, some_data, a_tag, a_comment, Inside, closed, space, token, closer, second, starts_name, name, line_at, lines}
+use Rattle.jt_scan.specs.Scanning.{Outcome, ◌>>=◌, EndsWith, after_space, closes, spells, front_at, with_token, then_inside, inside, tag_at, run, clear_run, ended_comment, comment_at, segment_at, with_segment, then_cut, cut, IsGiven}
 use Rattle.jt_scan.proofs.Steps.{Stops, clear_says, run_says}
-use Rattle.jt_scan.proofs.InsideLaws.{IsFront, front_says, inside_says}
-use Rattle.jt_scan.proofs.CutLaws.{segment_says, opener_says}
+use Rattle.jt_scan.proofs.InsideLaws.{IsFront, front_says}
+use Rattle.jt_scan.proofs.CutLaws.{segment_says}
 use Rattle.jt_scan.proofs.Weight.{shrinks}
 
 -- what is given of one outcome is given of another that has the same refusals
@@ -161,9 +161,11 @@ pub cut_goes_on : (source : Text) (ss : List Segment) (s : Segment) (x rest : Te
 cut_goes_on source ss s x rest line r z at e =
     let j = cut_step source x r.0 z r.1 in
     let here : segment_at (line_at source x) x ≡ Ok (s, rest) = subst (λ n. segment_at n x ≡ Ok (s, rest)) at e in
-    let p = segment_says (line_at source x) s x rest z here in
-    (j.0, omega (arith, j.1, (shrinks p).0),
-      sym (before_one s ss (cut source j.0 rest)) ∙ ap (λ o. before_all ss (then_cut o (cut source j.0))) (sym here) ∙ ap (before_all ss) (sym j.2) ∙ r.2)
+    let p = segment_says (line_at source x) s x rest z here in (
+      j.0,
+      omega (arith, j.1, (shrinks p).0),
+      sym (before_one s ss (cut source j.0 rest)) ∙ ap (λ o. before_all ss (then_cut o (cut source j.0))) (sym here) ∙ ap (before_all ss) (sym j.2) ∙ r.2,
+    )
 
 pub cut_refused : (source : Text) (ss : List Segment) (x : Text) (line : ℕ) (e : ScanError) → IsCutOff source ss x → 0 < length x → line ≡ line_at source x → segment_at line x ≡ Err e → cut source (length source + 1) source ≡ Err e
 cut_refused source ss x line e r z at h =

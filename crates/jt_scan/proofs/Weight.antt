@@ -1,8 +1,7 @@
 -- What stands in segments takes room in their source.
-use Rattle.std.proofs.Common.{◌≡◌, ℕ, ◌+◌, ◌<◌, ◌≤◌, List, [], ◌∷◌, ◌++◌, length, arith, length-append}
+use Rattle.std.proofs.Common.{ℕ, ◌+◌, ◌<◌, ◌≤◌, List, ◌∷◌, length, arith, length-append}
 use Rattle.jt_scan.specs.declared.segment.Kind.{Kind}
-use Rattle.jt_scan.specs.declared.segment.Kind.TheVariants.{Variable, Block}
-use Rattle.jt_scan.specs.Cut.{Text, Token, Segment, weight, weight_of, Spelled, a_name, Inside, closed, space, token, Cuts, no_more, IsSegment, some_data, a_tag, a_comment, more}
+use Rattle.jt_scan.specs.Cut.{Text, Token, Segment, weight, weight_of, a_name, Inside, closed, space, token, Cuts, no_more, IsSegment, some_data, a_tag, a_comment, more}
 
 inside_weighs : {k : Kind} {ts : List Token} {x rest : Text} → Inside k ts x rest → 2 + length ts + length rest ≤ length x
 inside_weighs closed = omega arith

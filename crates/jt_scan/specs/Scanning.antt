@@ -1,5 +1,5 @@
 -- What the scanner computes. No public contract names it: the cut is found by it.
-use Rattle.std.specs.Prelude.{◌≡◌, ℕ, zero, suc, ◌+◌, Bool, true, false, ◌==◌, List, [], ◌∷◌, ◌++◌, ◌||◌, slice_index, length, drop, Result, Ok, Err, if◌then◌else◌}
+use Rattle.std.specs.Prelude.{◌≡◌, ℕ, zero, suc, ◌+◌, Bool, true, ◌==◌, List, [], ◌∷◌, ◌++◌, ◌||◌, slice_index, length, drop, Result, Ok, Err, if◌then◌else◌}
 use Rattle.unicode_ident.specs.Ident.{is_xid_continue}
 use Rattle.jt_scan.specs.declared.error.ScanError.{ScanError}
 use Rattle.jt_scan.specs.declared.error.ScanError.TheVariants.{UnclosedTag, BadCharacter, NoMemory}

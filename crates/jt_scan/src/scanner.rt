@@ -8,14 +8,13 @@ ghost use Rattle.jt_scan.specs.Scanning as spec;
 ghost use Rattle.jt_scan.specs.View.{segment_view, cut_of};
 ghost use Rattle.jt_scan.specs.declared.error.ScanError.TheVariants as error;
 
-use std::alloc::Global;
-
 use crate::error::ScanError;
 use crate::find::{split_comment, split_data};
 use crate::segment::{Kind, Segment, Tag};
 use crate::source::Source;
 use crate::text::{before, behind_pair, lines};
 use crate::tokens::read_tokens;
+use std::alloc::Global;
 
 /// The tag whose opener is in front of the text, and what is behind it.
 fn read_tag<'a>(
@@ -71,8 +70,7 @@ fn read_segment<'a>(
 /// The segments of a text.
 fn read_segments<'a>(alloc: Global, text: &'a str) -> Result<Vec<Segment<'a>>, ScanError>
     requires { length text.now ≤ 1048576 }
-    ensures {
-        let outcome = spec.cut (chars text.now) (length (chars text.now) + 1) (chars text.now) in
+    ensures { let outcome = spec.cut (chars text.now) (length (chars text.now) + 1) (chars text.now) in
         MatchResult result (λ v. outcome ≡ Ok (cut_of v.items)) (λ e. spec.IsGiven e outcome) }
 {
     let mut segments = Vec::new(alloc);

@@ -5,12 +5,11 @@ ghost use Rattle.std.specs.String.{string_bytes};
 ghost use Rattle.jt_scan.specs.LineEnds.{normalized, lf_ends, without_first_lf, ends_with_lf, without_last_lf};
 ghost use Rattle.jt_scan.specs.declared.error.ScanError.TheVariants as error;
 
+use crate::error::ScanError;
+use crate::options::Options;
 use memchr::memchr;
 use std::alloc::{AllocError, Global};
 use std::marker::Model;
-
-use crate::error::ScanError;
-use crate::options::Options;
 
 /// The greatest length of a source, in bytes as it is given.
 pub const MAX_SOURCE_LEN: usize = 1_048_576;
@@ -98,7 +97,11 @@ fn behind_lf(text: &str) -> &str
     ensures { result.now ≡ without_first_lf text.now }
 {
     let bytes = text.as_bytes();
-    if !bytes.is_empty() && bytes[0] == b'\n' { &text[1..] } else { text }
+    if !bytes.is_empty() && bytes[0] == b'\n' {
+        &text[1..]
+    } else {
+        text
+    }
 }
 
 /// Whether the last byte is LF.

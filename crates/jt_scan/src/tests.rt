@@ -1,13 +1,12 @@
 //! Rows of sources, with their segments or their refusal.
 
-use std::alloc::{AllocError, Global};
-use std::test::Fail;
-
 use crate::error::ScanError;
 use crate::options::Options;
 use crate::scanner::scan;
 use crate::segment::{Kind, Segment, Token};
 use crate::source::{MAX_SOURCE_LEN, Source};
+use std::alloc::{AllocError, Global};
+use std::test::Fail;
 
 /// What a segment is: `<data>`, `{#comment#}`, or a tag's closing delimiter, line and tokens.
 fn tell(alloc: Global, segment: &Segment<'_>) -> Result<String, AllocError> {

@@ -23,7 +23,11 @@ pub fn behind_pair(text: &str, one: char, two: char) -> Option<&str>
 {
     let (c, more) = first(text)?;
     let (d, rest) = first(more)?;
-    if c == one && d == two { Some(rest) } else { None }
+    if c == one && d == two {
+        Some(rest)
+    } else {
+        None
+    }
 }
 
 /// Whether the character is a space, a tab, LF, VT, FF or CR.

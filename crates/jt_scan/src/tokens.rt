@@ -6,11 +6,10 @@ ghost use Rattle.jt_scan.specs.Cut as cut;
 ghost use Rattle.jt_scan.specs.Scanning as spec;
 ghost use Rattle.jt_scan.specs.View.{token_view, front_view};
 
-use std::alloc::Global;
-
 use crate::error::ScanError;
 use crate::segment::{Kind, Token};
 use crate::text::{before, behind_name, behind_pair, behind_space, first, starts_name};
+use std::alloc::Global;
 
 /// What stands in front in a tag, where no whitespace does.
 #[derive(Clone, Copy)]
@@ -55,8 +54,7 @@ pub fn read_tokens<'a>(
     kind: Kind,
     line: u32,
 ) -> Result<(Vec<Token<'a>>, &'a str), ScanError>
-    ensures {
-        let outcome = spec.inside kind line (length (chars text.now) + 1) (chars text.now) in
+    ensures { let outcome = spec.inside kind line (length (chars text.now) + 1) (chars text.now) in
         MatchResult result
         (λ p. outcome ≡ Ok (map token_view p.0.items, chars p.1.now))
         (λ e. spec.IsGiven e outcome) }

@@ -1,6 +1,6 @@
 use Rattle.std.proofs.Common.{◌≡◌, ℕ, ◌+◌, ◌-◌, ◌<◌, ◌≤◌, ◌==◌, List, length, take, drop, get_or, true, sym, ap, subst, ◌∙◌, arith, get_or-take, get_or-drop, length-take, length-drop}
 use Rattle.std.proofs.lemmas.Bool.Decides.{nat_tests}
-use Rattle.memchr.specs.Find.{is_byte, NoneBefore, Nowhere, Passes, IsFirst}
+use Rattle.memchr.specs.Find.{is_byte, Nowhere, Passes}
 use Rattle.jt_scan.proofs.find.next_brace.Goals as goal
 
 -- a place in the part from start on
@@ -26,9 +26,10 @@ returns-in-Some c =
     let s = c.args.text.now in let a = c.args.start in let k = c.in-Some.step in
     let f = c.in-Some.ensures in
     let le : a ≤ length s = c.requires in
-    let high : k < length s - a = omega (arith, long s a le, f.0.high) in
-    (record { low = omega arith; high = omega arith; before = nowhere s a k (a + k) le (omega arith) f.0.before (omega arith) },
-      sym (shifted s a k le high) ∙ is_brace _ f.1)
+    let high : k < length s - a = omega (arith, long s a le, f.0.high) in (
+      record { low = omega arith; high = omega arith; before = nowhere s a k (a + k) le (omega arith) f.0.before (omega arith) },
+      sym (shifted s a k le high) ∙ is_brace _ f.1,
+    )
 
 pub returns-in-None : goal.returns-in-None
 returns-in-None c =

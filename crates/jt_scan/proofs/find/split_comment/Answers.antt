@@ -1,5 +1,4 @@
-use Rattle.std.proofs.Common.{◌≡◌, ◌+◌, length, arith, ap}
-use Rattle.std.specs.Str.{chars}
+use Rattle.std.proofs.Common.{◌+◌, length, arith, ap}
 use Rattle.jt_scan.specs.Cut.{ends_comment}
 use Rattle.jt_scan.proofs.Bytes.{PairAt, ends_comment_tested, split_by, needle_first}
 use Rattle.jt_scan.proofs.find.split_comment.Goals as goal

@@ -1,9 +1,7 @@
-use Rattle.std.proofs.Common.{◌≡◌, ℕ, ◌<◌, ◌≤◌, List, [], length, take, drop, Option, Some, None, unwrap_or, arith, refl, sym, ap, ap₂, subst, ◌∙◌, IsUtf8, slice_range}
-use Rattle.std.specs.Str.{chars}
-use Rattle.memchr.specs.Find.{IsFirst}
-use Rattle.jt_scan.specs.Cut.{Text, opens}
-use Rattle.jt_scan.specs.Scanning.{OpensAt, clear_run}
-use Rattle.jt_scan.proofs.Bytes.{IsTested, opens_tested, split_by}
+use Rattle.std.proofs.Common.{length, arith, ap}
+use Rattle.jt_scan.specs.Cut.{opens}
+use Rattle.jt_scan.specs.Scanning.{OpensAt}
+use Rattle.jt_scan.proofs.Bytes.{opens_tested, split_by}
 use Rattle.jt_scan.proofs.find.split_data.Goals as goal
 
 pub returns : goal.returns

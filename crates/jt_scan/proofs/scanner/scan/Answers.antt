@@ -1,4 +1,4 @@
-use Rattle.std.proofs.Common.{◌≡◌, subst}
+use Rattle.std.proofs.Common.{subst}
 use Rattle.std.specs.Str.{chars}
 use Rattle.jt_scan.specs.View.{cut_of}
 use Rattle.jt_scan.proofs.Answer.{Answers, answers_cut, answers_only, answers_refused, answers_weigh}

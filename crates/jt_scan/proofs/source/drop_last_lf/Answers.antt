@@ -1,4 +1,4 @@
-use Rattle.std.proofs.Common.{◌≡◌, ◌-◌, length, take, true, false, ap, sym, ◌∙◌, rules}
+use Rattle.std.proofs.Common.{◌≡◌, ◌-◌, length, take, ap, sym, ◌∙◌, rules}
 use Rattle.std.specs.String.{string_bytes, string_len}
 use Rattle.jt_scan.specs.LineEnds.{ends_with_lf}
 use Rattle.jt_scan.proofs.EndsLaws.{last_yes, last_no}

@@ -1,4 +1,4 @@
-use Rattle.std.proofs.Common.{◌≡◌, ◌-◌, length}
+use Rattle.std.proofs.Common.{◌-◌, length}
 use Rattle.jt_scan.proofs.Bytes.{bytes_end, end_fits, end_at, drop_end, chars_before}
 use Rattle.jt_scan.proofs.text.before.Goals as goal
 

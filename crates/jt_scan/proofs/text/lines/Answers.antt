@@ -1,4 +1,4 @@
-use Rattle.std.proofs.Common.{◌≡◌, ◌==◌, count_by, length, take, arith, ap, sym, ◌∙◌}
+use Rattle.std.proofs.Common.{◌==◌, count_by, ap, ◌∙◌}
 use Rattle.std.proofs.lemmas.List.{take_all}
 use Rattle.jt_scan.proofs.Bytes.{count_lines}
 use Rattle.jt_scan.proofs.text.lines.Goals as goal

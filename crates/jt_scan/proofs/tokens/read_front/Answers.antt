@@ -1,7 +1,6 @@
-use Rattle.std.proofs.Common.{◌≡◌, ◌∷◌, ◌++◌, false, ap, sym, subst, ◌∙◌}
+use Rattle.std.proofs.Common.{◌≡◌, ◌∷◌, false, ap, sym, subst, ◌∙◌}
 use Rattle.std.specs.Str.{chars}
 use Rattle.jt_scan.specs.Cut as cut
-use Rattle.jt_scan.specs.Scanning as spec
 use Rattle.jt_scan.proofs.Turns.{front_ended, front_closed, front_bad, name_end, front_named}
 use Rattle.jt_scan.proofs.tokens.read_front.Goals as goal
 

@@ -1,4 +1,4 @@
-use Rattle.std.proofs.Common.{◌≡◌, ◌+◌, ◌++◌, ◌∷◌, [], length, map, ap, ◌∙◌, rules}
+use Rattle.std.proofs.Common.{◌+◌, ◌∷◌, [], length, map, ap, ◌∙◌, rules}
 use Rattle.std.proofs.lemmas.List.{map-append}
 use Rattle.std.specs.Str.{chars}
 use Rattle.jt_scan.specs.Scanning.{inside, IsGiven}
@@ -21,7 +21,8 @@ tokens-smaller c =
     tokens_shrink c.args.kind c.args.line _ _ _ _ c.behind_space.ensures (rw c.in-Token.is at c.in_ok-found.ensures)
 
 pub tokens-preserved : goal.tokens-preserved
-tokens-preserved c =
-    (search rules,
-      tokens_go_on c.args.kind c.args.line _ _ _ (token_view c.in-Token.token) _ _ _ c.tokens.invariant.1 c.behind_space.ensures (rw c.in-Token.is at c.in_ok-found.ensures)
-      (ap (map token_view) c.in_ok-push.ensures.items ∙ map-append token_view c.tokens.tokens.items (c.in-Token.token ∷ [])))
+tokens-preserved c = (
+  search rules,
+  tokens_go_on c.args.kind c.args.line _ _ _ (token_view c.in-Token.token) _ _ _ c.tokens.invariant.1 c.behind_space.ensures (rw c.in-Token.is at c.in_ok-found.ensures)
+      (ap (map token_view) c.in_ok-push.ensures.items ∙ map-append token_view c.tokens.tokens.items (c.in-Token.token ∷ [])),
+)

@@ -1,4 +1,4 @@
-use Rattle.std.proofs.Common.{◌≡◌, ◌≤◌, length, ap, arith}
+use Rattle.std.proofs.Common.{length, ap, arith}
 use Rattle.jt_scan.proofs.EndsLaws.{never_longer}
 use Rattle.jt_scan.proofs.source.Source.new.Goals as goal
 
