@@ -1,8 +1,8 @@
 //! Where data and comments end, found by their bytes.
 
-ghost use Rattle.std.specs.Prelude.{◌≡◌, ◌≤◌, true, length, drop, slice_index};
+ghost use Rattle.std.specs.Prelude.{◌≡◌, ◌≤◌, true, length, drop, slice_index, codes};
 ghost use Rattle.std.specs.Str.{chars};
-ghost use Rattle.memchr.specs.Find.{IsFirst};
+ghost use Rattle.memchr.specs.Find.{FindsNeedle, IsFirst};
 ghost use Rattle.jt_scan.specs.Cut as cut;
 ghost use Rattle.jt_scan.specs.Scanning as spec;
 
@@ -52,11 +52,18 @@ pub fn split_data(text: &str) -> (&str, &str)
     (&text[..end], &text[end..])
 }
 
+/// The first place where `#}` stands.
+fn find_end(text: &[u8]) -> Option<usize>
+    ensures { FindsNeedle text.now (codes "#}") 0 result }
+{
+    memmem::find(text, b"#}")
+}
+
 /// What is in front of the first `#}`, and what is from there on.
 pub fn split_comment(text: &str) -> (&str, &str)
     ensures { spec.clear_run cut.ends_comment (chars text.now)
         ≡ (chars result.0.now, chars result.1.now) }
 {
-    let end = memmem::find(text.as_bytes(), b"#}").unwrap_or(text.len());
+    let end = find_end(text.as_bytes()).unwrap_or(text.len());
     (&text[..end], &text[end..])
 }
