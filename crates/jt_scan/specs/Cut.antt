@@ -3,6 +3,8 @@
 use Rattle.std.specs.Prelude.{◌≡◌, ℕ, ◌+◌, ◌-◌, Bool, true, false, ◌==◌, ◌&&◌, ◌||◌, List, [], ◌∷◌, ◌++◌, count_by, length}
 use Rattle.jt_scan.specs.declared.segment.Kind.{Kind}
 use Rattle.jt_scan.specs.declared.segment.Kind.TheVariants as kind
+use Rattle.jt_scan.specs.declared.segment.Sign.{Sign}
+use Rattle.jt_scan.specs.declared.segment.Sign.TheVariants as s
 use Rattle.unicode_ident.specs.Ident.{is_xid_start, is_xid_continue}
 
 abbrev pub Text : Type 0
@@ -13,6 +15,7 @@ Text = List ℕ
 pub data Token : Type 0 where
   -- a name, or a reserved word
   name : Text → Token
+  sign : Sign → Token
 
 -- space, tab, LF, VT, FF and CR
 abbrev pub is_space : ℕ → Bool
@@ -32,9 +35,69 @@ abbrev pub NameEnds : Text → Type 0
 NameEnds [] = Unit {0}
 NameEnds (c ∷ rest) = is_xid_continue c ≡ false
 
+-- how a sign is spelled
+abbrev pub sign_text : Sign → Text
+sign_text s.Plus = 43 ∷ []
+sign_text s.Minus = 45 ∷ []
+sign_text s.Times = 42 ∷ []
+sign_text s.Percent = 37 ∷ []
+sign_text s.Tilde = 126 ∷ []
+sign_text s.Less = 60 ∷ []
+sign_text s.Greater = 62 ∷ []
+sign_text s.Assign = 61 ∷ []
+sign_text s.Dot = 46 ∷ []
+sign_text s.Comma = 44 ∷ []
+sign_text s.Colon = 58 ∷ []
+sign_text s.Pipe = 124 ∷ []
+sign_text s.LeftParen = 40 ∷ []
+sign_text s.RightParen = 41 ∷ []
+sign_text s.LeftBracket = 91 ∷ []
+sign_text s.RightBracket = 93 ∷ []
+sign_text s.Power = 42 ∷ 42 ∷ []
+sign_text s.FloorDivide = 47 ∷ 47 ∷ []
+sign_text s.Equal = 61 ∷ 61 ∷ []
+sign_text s.NotEqual = 33 ∷ 61 ∷ []
+sign_text s.LessEqual = 60 ∷ 61 ∷ []
+sign_text s.GreaterEqual = 62 ∷ 61 ∷ []
+
+-- the sign and the character are together the beginning of a longer sign
+abbrev pub goes_on : Sign → ℕ → Bool
+goes_on s.Plus c = false
+goes_on s.Minus c = false
+goes_on s.Times c = c == 42
+goes_on s.Percent c = false
+goes_on s.Tilde c = false
+goes_on s.Less c = c == 61
+goes_on s.Greater c = c == 61
+goes_on s.Assign c = c == 61
+goes_on s.Dot c = false
+goes_on s.Comma c = false
+goes_on s.Colon c = false
+goes_on s.Pipe c = false
+goes_on s.LeftParen c = false
+goes_on s.RightParen c = false
+goes_on s.LeftBracket c = false
+goes_on s.RightBracket c = false
+goes_on s.Power c = false
+goes_on s.FloorDivide c = false
+goes_on s.Equal c = false
+goes_on s.NotEqual c = false
+goes_on s.LessEqual c = false
+goes_on s.GreaterEqual c = false
+
+-- no longer sign stands here
+abbrev pub SignEnds : Sign → Text → Type 0
+SignEnds s [] = Unit {0}
+SignEnds s (c ∷ rest) = goes_on s c ≡ false
+
+-- no sign is in front
+abbrev pub NoSign : Text → Type 0
+NoSign x = (s : Sign) (rest : Text) → x ≡ sign_text s ++ rest → ⊥
+
 -- `Spelled t s rest`: the token's spelling, the longest that stands in front of the rest
 pub data Spelled : Token → Text → Text → Type 0 where
   a_name : {c : ℕ} {x rest : Text} → starts_name c ≡ true → AllContinue x → NameEnds rest → Spelled (name (c ∷ x)) (c ∷ x) rest
+  a_sign : {s : Sign} {rest : Text} → SignEnds s rest → Spelled (sign s) (sign_text s) rest
 
 -- ---- a tag's inside
 
@@ -50,11 +113,11 @@ begins a b (c ∷ []) = false
 begins a b (c ∷ d ∷ rest) = c == a && d == b
 
 -- `Inside k ts x rest`: x begins with the tokens ts, with any whitespace between or none,
--- and the tag's closer, and the rest stands behind it
+-- and the tag's first closer, and the rest stands behind it
 pub data Inside (k : Kind) : List Token → Text → Text → Type 0 where
   closed : {rest : Text} → Inside k [] (closer k ∷ 125 ∷ rest) rest
   space : {c : ℕ} {ts : List Token} {x rest : Text} → is_space c ≡ true → Inside k ts x rest → Inside k ts (c ∷ x) rest
-  token : {t : Token} {ts : List Token} {s x rest : Text} → Spelled t s x → Inside k ts x rest → Inside k (t ∷ ts) (s ++ x) rest
+  token : {t : Token} {ts : List Token} {s x rest : Text} → begins (closer k) 125 (s ++ x) ≡ false → Spelled t s x → Inside k ts x rest → Inside k (t ∷ ts) (s ++ x) rest
 
 -- ---- segments
 

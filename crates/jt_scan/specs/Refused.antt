@@ -3,16 +3,16 @@ use Rattle.std.specs.Prelude.{◌≡◌, ℕ, false, true, List, [], ◌∷◌, 
 use Rattle.jt_scan.specs.declared.error.ScanError.{ScanError}
 use Rattle.jt_scan.specs.declared.error.ScanError.TheVariants.{UnclosedTag, UnclosedText, BadCharacter, BadEscape, NumberTooLarge, UnclosedRaw, SourceTooLong, NoMemory}
 use Rattle.jt_scan.specs.declared.segment.Kind.{Kind}
-use Rattle.jt_scan.specs.Cut.{Text, Token, Segment, second, closer, begins, is_space, starts_name, Spelled, NoneBegins, ends_comment, Cuts, line_at}
+use Rattle.jt_scan.specs.Cut.{Text, Token, Segment, second, closer, begins, is_space, starts_name, Spelled, NoneBegins, ends_comment, Cuts, line_at, NoSign}
 
 -- `IsBroken k n e x`: behind whitespace and tokens, the inside x of a tag of line n has the fault e
 pub data IsBroken (k : Kind) (n : ℕ) : ScanError → Text → Type 0 where
   -- the source ends inside the tag
   no_closer : IsBroken k n (UnclosedTag n) []
   -- a character that begins no token, and not the closer, and is no whitespace
-  no_token : {c : ℕ} {x : Text} → is_space c ≡ false → starts_name c ≡ false → begins (closer k) 125 (c ∷ x) ≡ false → IsBroken k n (BadCharacter n) (c ∷ x)
+  no_token : {c : ℕ} {x : Text} → is_space c ≡ false → starts_name c ≡ false → NoSign (c ∷ x) → begins (closer k) 125 (c ∷ x) ≡ false → IsBroken k n (BadCharacter n) (c ∷ x)
   behind_space : {e : ScanError} {c : ℕ} {x : Text} → is_space c ≡ true → IsBroken k n e x → IsBroken k n e (c ∷ x)
-  behind_token : {e : ScanError} {t : Token} {s x : Text} → Spelled t s x → IsBroken k n e x → IsBroken k n e (s ++ x)
+  behind_token : {e : ScanError} {t : Token} {s x : Text} → begins (closer k) 125 (s ++ x) ≡ false → Spelled t s x → IsBroken k n e x → IsBroken k n e (s ++ x)
 
 -- a tag or a comment of line n begins here and has the fault
 pub data IsFaulty (n : ℕ) : ScanError → Text → Type 0 where

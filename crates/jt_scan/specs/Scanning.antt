@@ -1,11 +1,13 @@
 -- What the scanner computes. No public contract names it: the cut is found by it.
-use Rattle.std.specs.Prelude.{◌≡◌, ℕ, zero, suc, ◌+◌, Bool, true, ◌==◌, List, [], ◌∷◌, ◌++◌, ◌||◌, slice_index, length, drop, Result, Ok, Err, if◌then◌else◌}
+use Rattle.std.specs.Prelude.{◌≡◌, ℕ, zero, suc, ◌+◌, Bool, true, ◌==◌, List, [], ◌∷◌, ◌++◌, ◌||◌, slice_index, length, drop, Option, Some, None, ◌&&◌, Result, Ok, Err, if◌then◌else◌}
 use Rattle.unicode_ident.specs.Ident.{is_xid_continue}
 use Rattle.jt_scan.specs.declared.error.ScanError.{ScanError}
 use Rattle.jt_scan.specs.declared.error.ScanError.TheVariants.{UnclosedTag, BadCharacter, NoMemory}
 use Rattle.jt_scan.specs.declared.segment.Kind.{Kind}
 use Rattle.jt_scan.specs.declared.segment.Kind.TheVariants.{Variable, Block}
-use Rattle.jt_scan.specs.Cut.{Text, Token, name, Segment, data_of, tag, comment, closer, begins, is_space, starts_name, opens, ends_comment, line_at}
+use Rattle.jt_scan.specs.declared.segment.Sign.{Sign}
+use Rattle.jt_scan.specs.declared.segment.Sign.TheVariants as s
+use Rattle.jt_scan.specs.Cut.{Text, Token, name, sign, Segment, data_of, tag, comment, closer, begins, is_space, starts_name, opens, ends_comment, line_at}
 
 abbrev pub Outcome : Type 0 → Type 0
 Outcome A = Result (A × Text) ScanError
@@ -28,18 +30,66 @@ unfoldable pub clear_run : (Text → Bool) → Text → Text × Text
 clear_run test [] = ([], [])
 clear_run test (c ∷ cs) = if test (c ∷ cs) then ([], c ∷ cs) else front c (clear_run test cs)
 
+abbrev pub one_sign : ℕ → Option Sign
+one_sign c =
+    if c == 43 then Some s.Plus
+    else if c == 45 then Some s.Minus
+    else if c == 42 then Some s.Times
+    else if c == 37 then Some s.Percent
+    else if c == 126 then Some s.Tilde
+    else if c == 60 then Some s.Less
+    else if c == 62 then Some s.Greater
+    else if c == 61 then Some s.Assign
+    else if c == 46 then Some s.Dot
+    else if c == 44 then Some s.Comma
+    else if c == 58 then Some s.Colon
+    else if c == 124 then Some s.Pipe
+    else if c == 40 then Some s.LeftParen
+    else if c == 41 then Some s.RightParen
+    else if c == 91 then Some s.LeftBracket
+    else if c == 93 then Some s.RightBracket
+    else None
+
+abbrev pub two_sign : ℕ → ℕ → Option Sign
+two_sign c d =
+    if c == 42 && d == 42 then Some s.Power
+    else if c == 47 && d == 47 then Some s.FloorDivide
+    else if c == 61 && d == 61 then Some s.Equal
+    else if c == 33 && d == 61 then Some s.NotEqual
+    else if c == 60 && d == 61 then Some s.LessEqual
+    else if c == 62 && d == 61 then Some s.GreaterEqual
+    else None
+
+abbrev pub alone : Option Sign → Text → Option (Sign × Text)
+alone None rest = None
+alone (Some s) rest = Some (s, rest)
+
+abbrev pub longest : Option Sign → Option Sign → Text → Text → Option (Sign × Text)
+longest (Some s) o more rest = Some (s, more)
+longest None o more rest = alone o rest
+
+-- the longest sign in front
+unfoldable pub sign_at : Text → Option (Sign × Text)
+sign_at [] = None
+sign_at (c ∷ []) = alone (one_sign c) []
+sign_at (c ∷ d ∷ more) = longest (two_sign c d) (one_sign c) more (d ∷ more)
+
 -- what stands in front in a tag, where no whitespace does
 pub data Front : Type 0 where
   -- the closer
   closes : Front
   spells : Token → Front
 
+abbrev pub signed : ℕ → Option (Sign × Text) → Outcome Front
+signed line None = Err (BadCharacter line)
+signed line (Some p) = Ok (spells (sign p.0), p.1)
+
 unfoldable pub front_at : Kind → ℕ → Text → Outcome Front
 front_at k line [] = Err (UnclosedTag line)
 front_at k line (c ∷ cs) =
     if begins (closer k) 125 (c ∷ cs) then Ok (closes, drop 1 cs)
     else if starts_name c then (let p = run cs in Ok (spells (name (c ∷ p.0)), p.1))
-    else Err (BadCharacter line)
+    else signed line (sign_at (c ∷ cs))
 
 abbrev pub with_token : Token → Outcome (List Token) → Outcome (List Token)
 with_token t o = o >>= λ ts rest. Ok (t ∷ ts, rest)

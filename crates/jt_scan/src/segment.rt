@@ -1,10 +1,60 @@
 //! Segments and tokens, which are slices of their source.
 
+/// A sign, by its spelling.
+#[derive(Clone, Copy, Debug, PartialEq, Eq)]
+pub enum Sign {
+    /// `+`
+    Plus,
+    /// `-`
+    Minus,
+    /// `*`
+    Times,
+    /// `%`
+    Percent,
+    /// `~`
+    Tilde,
+    /// `<`
+    Less,
+    /// `>`
+    Greater,
+    /// `=`
+    Assign,
+    /// `.`
+    Dot,
+    /// `,`
+    Comma,
+    /// `:`
+    Colon,
+    /// `|`
+    Pipe,
+    /// `(`
+    LeftParen,
+    /// `)`
+    RightParen,
+    /// `[`
+    LeftBracket,
+    /// `]`
+    RightBracket,
+    /// `**`
+    Power,
+    /// `//`
+    FloorDivide,
+    /// `==`
+    Equal,
+    /// `!=`
+    NotEqual,
+    /// `<=`
+    LessEqual,
+    /// `>=`
+    GreaterEqual,
+}
+
 /// A token of a tag.
 #[derive(Clone, Copy, Debug, PartialEq, Eq)]
 pub enum Token<'a> {
     /// A name, or a reserved word.
     Name(&'a str),
+    Sign(Sign),
 }
 
 /// The kind of a tag.
