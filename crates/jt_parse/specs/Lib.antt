@@ -1,2 +1,4 @@
 pub mod Trees
 pub mod Grammar
+pub mod Expressions
+pub mod Reading

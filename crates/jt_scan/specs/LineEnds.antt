@@ -1,5 +1,5 @@
 -- A source's text, with one kind of line end.
-use Rattle.std.specs.Prelude.{ℕ, Bool, true, false, ◌==◌, ◌&&◌, List, [], ◌∷◌, if◌then◌else◌}
+use Rattle.std.specs.Prelude.{ℕ, ◌-◌, nat_lt, length, slice_index, Bool, true, false, ◌==◌, ◌&&◌, List, [], ◌∷◌, if◌then◌else◌}
 
 -- CR LF and a lone CR become LF: a CR is written as LF, and an LF directly behind a CR is left out
 unfoldable pub lf_ends : Bool → List ℕ → List ℕ
@@ -19,3 +19,12 @@ without_last_lf (c ∷ d ∷ rest) = c ∷ without_last_lf (d ∷ rest)
 abbrev pub normalized : Bool → List ℕ → List ℕ
 normalized true text = lf_ends false text
 normalized false text = without_last_lf (lf_ends false text)
+
+-- what is behind the LF in front, if one stands there
+abbrev pub without_first_lf : List ℕ → List ℕ
+without_first_lf [] = []
+without_first_lf (c ∷ cs) = if c == 10 then cs else c ∷ cs
+
+-- the last byte is LF
+abbrev pub ends_with_lf : List ℕ → Bool
+ends_with_lf x = nat_lt 0 (length x) && slice_index x (length x - 1) == 10

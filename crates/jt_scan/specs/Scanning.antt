@@ -1,5 +1,5 @@
 -- What the scanner computes. No public contract names it: the cut is found by it.
-use Rattle.std.specs.Prelude.{◌≡◌, ℕ, zero, suc, ◌+◌, Bool, true, false, ◌==◌, List, [], ◌∷◌, length, drop, Result, Ok, Err, if◌then◌else◌}
+use Rattle.std.specs.Prelude.{◌≡◌, ℕ, zero, suc, ◌+◌, Bool, true, false, ◌==◌, List, [], ◌∷◌, ◌++◌, ◌||◌, slice_index, length, drop, Result, Ok, Err, if◌then◌else◌}
 use Rattle.unicode_ident.specs.Ident.{is_xid_continue}
 use Rattle.jt_scan.specs.declared.error.ScanError.{ScanError}
 use Rattle.jt_scan.specs.declared.error.ScanError.TheVariants.{UnclosedTag, BadCharacter, NoMemory}
@@ -93,6 +93,23 @@ cut source (suc m) [] = Ok []
 cut source (suc m) (c ∷ cs) = then_cut (segment_at (line_at source (c ∷ cs)) (c ∷ cs)) (cut source m)
 
 -- a refusal is the outcome's, where it is not a want of memory
-abbrev pub IsGiven : {A : Type 0} → ScanError → Outcome A → Type 0
+abbrev pub IsGiven : {A : Type 0} → ScanError → Result A ScanError → Type 0
 IsGiven NoMemory o = Unit {0}
 IsGiven e o = o ≡ Err e
+
+-- what is behind whitespace
+unfoldable pub after_space : Text → Text
+after_space [] = []
+after_space (c ∷ cs) = if is_space c then after_space cs else c ∷ cs
+
+-- the text ends with the other one
+abbrev pub EndsWith : Text → Text → Type 0
+EndsWith x rest = (y : Text) × (x ≡ y ++ rest)
+
+-- the byte behind `{` that makes an opener of the two
+abbrev pub is_second : ℕ → Bool
+is_second c = c == 123 || c == 37 || c == 35
+
+-- an opener begins at the place of a list of bytes
+abbrev pub OpensAt : List ℕ → ℕ → Type 0
+OpensAt text k = (slice_index text k ≡ 123) × (is_second (slice_index text (k + 1)) ≡ true)

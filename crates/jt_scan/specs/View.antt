@@ -5,7 +5,10 @@ use Rattle.jt_scan.specs.declared.segment.Segment.{Segment}
 use Rattle.jt_scan.specs.declared.segment.Segment.TheVariants as s
 use Rattle.jt_scan.specs.declared.segment.Token.{Token}
 use Rattle.jt_scan.specs.declared.segment.Token.TheVariants as t
+use Rattle.jt_scan.specs.declared.tokens.Front.{Front}
+use Rattle.jt_scan.specs.declared.tokens.Front.TheVariants as f
 use Rattle.jt_scan.specs.Cut as cut
+use Rattle.jt_scan.specs.Scanning as scanning
 
 abbrev pub token_view : Token → cut.Token
 token_view (t.Name x) = cut.name (chars x.now)
@@ -18,3 +21,7 @@ segment_view (s.Comment x) = cut.comment (chars x.now)
 -- the segments that a row of them stands for
 abbrev pub cut_of : List Segment → List cut.Segment
 cut_of = map segment_view
+
+abbrev pub front_view : Front → scanning.Front
+front_view f.Closer = scanning.closes
+front_view (f.Token t) = scanning.spells (token_view t)

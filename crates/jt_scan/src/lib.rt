@@ -2,12 +2,18 @@
 #![tactic(auto)]
 
 mod error;
+mod find;
 mod options;
+mod scanner;
 mod segment;
 mod source;
+#[cfg(test)]
+mod tests;
 mod text;
+mod tokens;
 
 pub use error::ScanError;
 pub use options::Options;
+pub use scanner::scan;
 pub use segment::{Kind, Segment, Tag, Token};
 pub use source::{MAX_SOURCE_LEN, Source};

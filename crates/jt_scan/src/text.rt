@@ -1,14 +1,92 @@
-//! Steps over a text.
+//! Steps over a text, character by character.
 
-ghost use Rattle.std.specs.Prelude.{◌≡◌, ◌++◌, ◌∷◌, [], MatchOption, encode_utf8};
+ghost use Rattle.std.specs.Prelude.{◌≡◌, ◌≤◌, ◌++◌, ◌∷◌, [], false, length, MatchOption, slice_index};
 ghost use Rattle.std.specs.Str.{chars};
+ghost use Rattle.jt_scan.specs.Cut as cut;
+ghost use Rattle.jt_scan.specs.Scanning as spec;
+
+use unicode_ident::{is_xid_continue, is_xid_start};
 
 /// The first character, and what is behind it.
 pub fn first(text: &str) -> Option<(char, &str)>
-    ensures chars { MatchOption result (chars text.now ≡ []) (λ p. chars text.now ≡ p.0 ∷ chars p.1.now) }
-    ensures bytes { MatchOption result (text.now ≡ []) (λ p. text.now ≡ encode_utf8 p.0 ++ p.1.now) }
+    ensures { MatchOption result (chars text.now ≡ []) (λ p. chars text.now ≡ p.0 ∷ chars p.1.now) }
 {
     let mut rest = text.chars();
     let c = rest.next()?;
     Some((c, rest.as_str()))
+}
+
+/// What is behind the two characters, where they stand in front.
+pub fn behind_pair(text: &str, one: char, two: char) -> Option<&str>
+    ensures { MatchOption result (cut.begins one two (chars text.now) ≡ false)
+        (λ rest. chars text.now ≡ one ∷ two ∷ chars rest.now) }
+{
+    let (c, more) = first(text)?;
+    let (d, rest) = first(more)?;
+    if c == one && d == two { Some(rest) } else { None }
+}
+
+/// Whether the character is a space, a tab, LF, VT, FF or CR.
+fn is_space(c: char) -> bool
+    ensures { result ≡ cut.is_space c }
+{
+    c == ' ' || c == '\t' || c == '\n' || c == '\u{b}' || c == '\u{c}' || c == '\r'
+}
+
+/// Whether a name may start with the character.
+pub fn starts_name(c: char) -> bool
+    ensures { result ≡ cut.starts_name c }
+{
+    is_xid_start(c) || c == '_'
+}
+
+#[tactic(auto, unfolding(crate::specs::Scanning::after_space))]
+/// What is behind the whitespace in front.
+pub fn behind_space(text: &str) -> &str
+    ensures { chars result.now ≡ spec.after_space (chars text.now) }
+{
+    let mut rest = text;
+    'space: while let Some((c, more)) = first(rest) {
+        if !is_space(c) {
+            return rest;
+        }
+        rest = more;
+    }
+    rest
+}
+
+#[tactic(auto, unfolding(crate::specs::Scanning::run))]
+/// What is behind the characters in front that go on with a name.
+pub fn behind_name(text: &str) -> &str
+    ensures { chars result.now ≡ (spec.run (chars text.now)).1 }
+{
+    let mut rest = text;
+    'name: while let Some((c, more)) = first(rest) {
+        if !is_xid_continue(c) {
+            return rest;
+        }
+        rest = more;
+    }
+    rest
+}
+
+/// The part of a text before its end.
+pub fn before<'a>(text: &'a str, end: &str) -> &'a str
+    requires { spec.EndsWith (chars text.now) (chars end.now) }
+    ensures { chars text.now ≡ chars result.now ++ chars end.now }
+{
+    &text[..text.len() - end.len()]
+}
+
+/// The number of line ends.
+pub fn lines(text: &str) -> usize
+    ensures { result ≡ cut.lines (chars text.now) }
+{
+    let mut count = 0;
+    for b in text.as_bytes() {
+        if *b == b'\n' {
+            count += 1;
+        }
+    }
+    count
 }

@@ -1,0 +1,49 @@
+-- Statements and branches behind others, and levels that are allowed.
+use Rattle.std.proofs.Common.{◌≡◌, ℕ, suc, ◌+◌, ◌<◌, ◌≤◌, max, Bool, true, false, List, [], ◌∷◌, refl, sym, ap, ◌∙◌, ⊎_elim, arith, Result, Ok, Err}
+use Rattle.std.proofs.lemmas.Bool.{cases_lt}
+use Rattle.std.proofs.lemmas.Bool.Decides.{nat_tests}
+use Rattle.jt_parse.specs.Trees.{Expr, Stmt, Body, end, stmt, Branches, no_branches, branch}
+use Rattle.jt_parse.specs.Expressions.{Fault, syntax, deep}
+use Rattle.jt_parse.specs.Reading.{then_all, then_one, then_branches, then_branch, within, ◌>>=◌}
+
+pub all_end : (a : Body) → then_all a end ≡ a
+all_end end = refl
+all_end (stmt s a) = ap (stmt s) (all_end a)
+
+pub all_all : (a b c : Body) → then_all (then_all a b) c ≡ then_all a (then_all b c)
+all_all end b c = refl
+all_all (stmt s a) b c = ap (stmt s) (all_all a b c)
+
+pub branches_end : (a : Branches) → then_branches a no_branches ≡ a
+branches_end no_branches = refl
+branches_end (branch l c b a) = ap (branch l c b) (branches_end a)
+
+pub branches_all : (a b c : Branches) → then_branches (then_branches a b) c ≡ then_branches a (then_branches b c)
+branches_all no_branches b c = refl
+branches_all (branch l x y a) b c = ap (branch l x y) (branches_all a b c)
+
+pub within_in : {A : Type 0} (l n : ℕ) (r : Result A Fault) → l ≤ n → within l n r ≡ r
+within_in l n r h = grind (arith, nat_tests)
+
+pub within_out : {A : Type 0} (l n : ℕ) (r : Result A Fault) → n < l → within l n r ≡ Err deep
+within_out l n r h = grind (arith, nat_tests)
+
+-- what goes on from levels that are allowed
+pub within_bind : {A B : Type 0} (l n : ℕ) (r : Result A Fault) (f : A → Result B Fault) → (within l n r >>= f) ≡ within l n (r >>= f)
+within_bind l n r f =
+    ⊎_elim
+    (λ gt. ap (λ o. o >>= f) (within_out l n r gt) ∙ sym (within_out l n (r >>= f) gt))
+    (λ le. ap (λ o. o >>= f) (within_in l n r le) ∙ sym (within_in l n (r >>= f) le))
+    (cases_lt n l)
+
+-- two tests one after the other are one
+pub chained : {A : Type 0} (l k m n : ℕ) (r q : Result A Fault) → m ≡ max l k → (l ≤ n → r ≡ within k n q) → within l n r ≡ within m n q
+chained l k m n r q e f =
+    ⊎_elim
+    (λ (gt : n < l). within_out l n r gt ∙ sym (within_out m n q (omega arith)))
+    (λ (le : l ≤ n). within_in l n r le ∙ f le
+        ∙ ⊎_elim
+            (λ (gt : n < k). within_out k n q gt ∙ sym (within_out m n q (omega arith)))
+            (λ (less : k ≤ n). within_in k n q less ∙ sym (within_in m n q (omega arith)))
+            (cases_lt n k))
+    (cases_lt n l)

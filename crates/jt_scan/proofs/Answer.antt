@@ -1,0 +1,78 @@
+-- What the scanner's outcome says of a source's cut.
+use Rattle.std.proofs.Common.{◌≡◌, ℕ, ◌+◌, ◌≤◌, List, length, Result, Ok, Err, MatchResult, IfOk, IfErr, refl, arith}
+use Rattle.jt_scan.specs.declared.error.ScanError.{ScanError}
+use Rattle.jt_scan.specs.declared.error.ScanError.TheVariants as error
+use Rattle.jt_scan.specs.declared.segment.Kind.{Kind}
+use Rattle.jt_scan.specs.Cut.{Text, Segment, Cuts, no_more, more, IsCut, weight_of, line_at}
+use Rattle.jt_scan.specs.Refused.{IsBroken, no_closer, no_token, behind_space, behind_token, IsFaulty, in_tag, in_comment, IsFaultOf, IsRefusal}
+use Rattle.jt_scan.specs.Scanning.{cut, IsGiven}
+use Rattle.jt_scan.proofs.CutLaws.{cut_found, cut_says, cut_refuses, FaultyAt}
+use Rattle.jt_scan.proofs.Weight.{weighs}
+
+-- what the code answers
+abbrev pub Answers : {V : Type 0} → (V → List Segment) → Text → Result V ScanError → Type 0
+Answers f x r = MatchResult r (λ v. cut x (length x + 1) x ≡ Ok (f v)) (λ e. IsGiven e (cut x (length x + 1) x))
+
+pub answers_cut : {V : Type 0} (f : V → List Segment) (x : Text) (r : Result V ScanError) → Answers f x r → IfOk r (λ v. IsCut (f v) x)
+answers_cut f x (Ok v) a = cut_says x (length x + 1) (f v) x a
+answers_cut f x (Err e) a = tt
+
+pub answers_weigh : {V : Type 0} (f : V → List Segment) (x : Text) (r : Result V ScanError) → Answers f x r → IfOk r (λ v. weight_of (f v) ≤ length x)
+answers_weigh f x (Ok v) a = weighs (cut_says x (length x + 1) (f v) x a)
+answers_weigh f x (Err e) a = tt
+
+only_memory : (e : ScanError) (o : Result (List Segment) ScanError) (ss : List Segment) → o ≡ Ok ss → IsGiven e o → e ≡ error.NoMemory
+only_memory (error.UnclosedTag n) o ss h g = cc
+only_memory (error.UnclosedText n) o ss h g = cc
+only_memory (error.BadCharacter n) o ss h g = cc
+only_memory (error.BadEscape n) o ss h g = cc
+only_memory (error.NumberTooLarge n) o ss h g = cc
+only_memory (error.UnclosedRaw n) o ss h g = cc
+only_memory error.SourceTooLong o ss h g = cc
+only_memory error.NoMemory o ss h g = refl
+
+pub answers_only : {V : Type 0} (f : V → List Segment) (x : Text) (r : Result V ScanError) → Answers f x r → (ss : List Segment) → IsCut ss x → MatchResult r (λ v. f v ≡ ss) (λ e. e ≡ error.NoMemory)
+answers_only f x (Ok v) a ss c = let h = cut_found c (length x + 1) (omega arith) in cc
+answers_only f x (Err e) a ss c = only_memory e (cut x (length x + 1) x) ss (cut_found c (length x + 1) (omega arith)) a
+
+-- the faults that a tag may have
+abbrev MayBe : ScanError → Type 0
+MayBe (error.UnclosedTag n) = Unit {0}
+MayBe (error.UnclosedText n) = ⊥
+MayBe (error.BadCharacter n) = Unit {0}
+MayBe (error.BadEscape n) = ⊥
+MayBe (error.NumberTooLarge n) = ⊥
+MayBe (error.UnclosedRaw n) = ⊥
+MayBe error.SourceTooLong = ⊥
+MayBe error.NoMemory = ⊥
+
+broken_may : {k : Kind} {n : ℕ} {e : ScanError} {x : Text} → IsBroken k n e x → MayBe e
+broken_may no_closer = tt
+broken_may (no_token a b c) = tt
+broken_may (behind_space h i) = broken_may i
+broken_may (behind_token s i) = broken_may i
+
+faulty_may : {n : ℕ} {e : ScanError} {x : Text} → IsFaulty n e x → MayBe e
+faulty_may (in_tag i) = broken_may i
+faulty_may (in_comment h) = tt
+
+cuts_may : {source : Text} {e : ScanError} {ss : List Segment} {x : Text} → Cuts source (FaultyAt source e) ss x → MayBe e
+cuts_may (no_more f) = faulty_may f
+cuts_may (more p c) = cuts_may c
+
+found : (e : ScanError) (x : Text) → cut x (length x + 1) x ≡ Err e → IsFaultOf e x
+found e x h = cut_refuses x (length x + 1) e x (omega arith) h
+
+holds : (e : ScanError) (x : Text) → IsGiven e (cut x (length x + 1) x) → IsRefusal e x
+holds (error.UnclosedTag n) x h = found _ x h
+holds (error.UnclosedText n) x h = cuts_may (found _ x h).1
+holds (error.BadCharacter n) x h = found _ x h
+holds (error.BadEscape n) x h = cuts_may (found _ x h).1
+holds (error.NumberTooLarge n) x h = cuts_may (found _ x h).1
+holds (error.UnclosedRaw n) x h = cuts_may (found _ x h).1
+holds error.SourceTooLong x h = cuts_may (found _ x h).1
+holds error.NoMemory x h = tt
+
+pub answers_refused : {V : Type 0} (f : V → List Segment) (x : Text) (r : Result V ScanError) → Answers f x r → IfErr r (λ e. IsRefusal e x)
+answers_refused f x (Ok v) a = tt
+answers_refused f x (Err e) a = holds e x a

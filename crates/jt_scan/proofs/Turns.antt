@@ -1,0 +1,283 @@
+-- One turn of the loop over a tag's tokens, and of the loop over segments.
+use Rattle.std.proofs.Common.{◌≡◌, ℕ, zero, suc, ◌+◌, ◌-◌, ◌<◌, ◌≤◌, ◌==◌, ◌&&◌, ◌||◌, Bool, true, false, List, [], ◌∷◌, ◌++◌, length, drop, refl, sym, ap, ap₂, subst, ◌∙◌, arith, append_assoc, append-nil, Result, Ok, Err, length-append, IsUtf8, cond}
+use Rattle.std.proofs.lemmas.List.Sums.{sum_by-append, count_by-le-length}
+use Rattle.std.proofs.lemmas.Str.{encodes-chars, chars-nil, length-le-encodes}
+use Rattle.std.specs.Str.{chars}
+use lib.Utf8.{encodes}
+use Rattle.jt_scan.specs.declared.error.ScanError.{ScanError}
+use Rattle.jt_scan.specs.declared.error.ScanError.TheVariants as error
+use Rattle.jt_scan.specs.declared.segment.Kind.{Kind}
+use Rattle.jt_scan.specs.declared.segment.Kind.TheVariants.{Variable, Block}
+use Rattle.jt_scan.specs.Cut.{Text, Token, Segment, data_of, comment, begins, opens, ends_comment, is_space, IsSegment, some_data, a_tag, a_comment, Inside, closed, space, token, closer, second, starts_name, name, NoneBegins, line_at, lines}
+use Rattle.jt_scan.specs.Scanning.{Outcome, ◌>>=◌, EndsWith, after_space, Front, closes, spells, front_at, with_token, then_inside, inside, tag_at, run, clear_run, ended_comment, comment_at, data_at, segment_at, with_segment, then_cut, cut, IsGiven}
+use Rattle.jt_scan.proofs.Steps.{Stops, clear_says, run_says}
+use Rattle.jt_scan.proofs.InsideLaws.{IsFront, front_says, inside_says}
+use Rattle.jt_scan.proofs.CutLaws.{segment_says, opener_says}
+use Rattle.jt_scan.proofs.Weight.{shrinks}
+
+-- what is given of one outcome is given of another that has the same refusals
+pub given_along : {A B : Type 0} (e : ScanError) (o : Result A ScanError) (p : Result B ScanError) → (o ≡ Err e → p ≡ Err e) → IsGiven e o → IsGiven e p
+given_along (error.UnclosedTag n) o p f g = f g
+given_along (error.UnclosedText n) o p f g = f g
+given_along (error.BadCharacter n) o p f g = f g
+given_along (error.BadEscape n) o p f g = f g
+given_along (error.NumberTooLarge n) o p f g = f g
+given_along (error.UnclosedRaw n) o p f g = f g
+given_along error.SourceTooLong o p f g = f g
+given_along error.NoMemory o p f g = tt
+
+pub no_memory_given : {A : Type 0} (e : ScanError) (o : Result A ScanError) → e ≡ error.NoMemory → IsGiven e o
+no_memory_given e o h = subst (λ k. IsGiven k o) (sym h) tt
+
+-- ---- tokens
+
+-- the tokens in front of an outcome's
+abbrev pub prefixed : List Token → Outcome (List Token) → Outcome (List Token)
+prefixed ts o = o >>= λ us z. Ok (ts ++ us, z)
+
+-- the tokens ts are read, and x is left
+abbrev pub IsRead : Kind → ℕ → Outcome (List Token) → List Token → Text → Type 0
+IsRead k line whole ts x = (m : ℕ) × (length x < m) × (prefixed ts (inside k line m x) ≡ whole)
+
+prefixed_none : (o : Outcome (List Token)) → prefixed [] o ≡ o
+prefixed_none (Ok p) = refl
+prefixed_none (Err e) = refl
+
+pub read_none : (k : Kind) (line : ℕ) (x : Text) → IsRead k line (inside k line (length x + 1) x) [] x
+read_none k line x = (length x + 1, omega arith, prefixed_none (inside k line (length x + 1) x))
+
+-- no whitespace stands in front
+abbrev NoSpace : Text → Type 0
+NoSpace [] = Unit {0}
+NoSpace (c ∷ cs) = is_space c ≡ false
+
+skipped : (k : Kind) (line : ℕ) (x : Text) (m : ℕ) → length x < m → (n : ℕ) × (length (after_space x) < n) × (inside k line m x ≡ inside k line n (after_space x)) × NoSpace (after_space x)
+unfolding inside after_space
+skipped k line x zero le = absurd (omega arith)
+skipped k line [] (suc m) le = (suc m, le, refl, tt)
+skipped k line (c ∷ cs) (suc m) le = stepped (is_space c) refl (skipped k line cs m (omega arith))
+  where
+    stepped : (b : Bool) → is_space c ≡ b → (n : ℕ) × (length (after_space cs) < n) × (inside k line m cs ≡ inside k line n (after_space cs)) × NoSpace (after_space cs) →
+        (n : ℕ) × (length (after_space (c ∷ cs)) < n) × (inside k line (suc m) (c ∷ cs) ≡ inside k line n (after_space (c ∷ cs))) × NoSpace (after_space (c ∷ cs))
+    stepped true h r = rw h r
+    stepped false h r = rw h (suc m, le, rw h refl, h)
+
+opened : (k : Kind) (line : ℕ) (y : Text) (n : ℕ) → length y < n → NoSpace y → (j : ℕ) × (length y < suc j) × (inside k line n y ≡ (front_at k line y >>= then_inside (inside k line j)))
+unfolding inside front_at
+opened k line y zero le s = absurd (omega arith)
+opened k line [] (suc n) le s = (n, le, refl)
+opened k line (c ∷ cs) (suc n) le s = (n, le, rw s refl)
+
+abbrev pub IsTurn : Kind → ℕ → Outcome (List Token) → List Token → Text → Type 0
+IsTurn k line whole ts y = (j : ℕ) × (length y < suc j) × (prefixed ts (front_at k line y >>= then_inside (inside k line j)) ≡ whole)
+
+pub turn : (k : Kind) (line : ℕ) (whole : Outcome (List Token)) (ts : List Token) (x : Text) → IsRead k line whole ts x → IsTurn k line whole ts (after_space x)
+turn k line whole ts x r =
+    let s = skipped k line x r.0 r.1 in
+    let o = opened k line (after_space x) s.0 s.1 s.3 in
+    (o.0, o.1, ap (prefixed ts) (sym (s.2 ∙ o.2)) ∙ r.2)
+
+pub turn_ends : (k : Kind) (line : ℕ) (whole : Outcome (List Token)) (ts : List Token) (y rest : Text) → IsTurn k line whole ts y → front_at k line y ≡ Ok (closes, rest) → whole ≡ Ok (ts, rest)
+turn_ends k line whole ts y rest t e = sym t.2 ∙ (rw (e, append-nil ts) refl)
+
+after_one : (t : Token) (ts : List Token) (o : Outcome (List Token)) → prefixed ts (with_token t o) ≡ prefixed (ts ++ (t ∷ [])) o
+after_one t ts (Ok p) = rw (append_assoc ts (t ∷ []) p.0) refl
+after_one t ts (Err e) = refl
+
+pub turn_goes_on : (k : Kind) (line : ℕ) (whole : Outcome (List Token)) (ts : List Token) (t : Token) (y rest : Text) → IsTurn k line whole ts y → front_at k line y ≡ Ok (spells t, rest) → IsRead k line whole (ts ++ (t ∷ [])) rest
+turn_goes_on k line whole ts t y rest r e =
+    let f : IsFront k (spells t) y rest = front_says k line (spells t) y rest e in
+    (r.0, omega (arith, r.1, f.3), sym (after_one t ts (inside k line r.0 rest)) ∙ ap (λ o. prefixed ts (o >>= then_inside (inside k line r.0))) (sym e) ∙ r.2)
+
+pub turn_refused : (k : Kind) (line : ℕ) (whole : Outcome (List Token)) (ts : List Token) (y : Text) (e : ScanError) → IsTurn k line whole ts y → front_at k line y ≡ Err e → whole ≡ Err e
+turn_refused k line whole ts y e r h = sym r.2 ∙ ap (λ o. prefixed ts (o >>= then_inside (inside k line r.0))) h
+
+no_longer : (x : Text) → length (after_space x) ≤ length x
+unfolding after_space
+no_longer [] = omega arith
+no_longer (c ∷ cs) = stepped (is_space c) refl (no_longer cs)
+  where
+    stepped : (b : Bool) → is_space c ≡ b → length (after_space cs) ≤ length cs → length (after_space (c ∷ cs)) ≤ length (c ∷ cs)
+    stepped true h r = rw h (omega arith)
+    stepped false h r = rw h (omega arith)
+
+pub shorter : (k : Kind) (line : ℕ) (t : Token) (x rest : Text) → front_at k line (after_space x) ≡ Ok (spells t, rest) → length rest < length x
+shorter k line t x rest e =
+    let f : IsFront k (spells t) (after_space x) rest = front_says k line (spells t) (after_space x) rest e in omega (arith, f.3, no_longer x)
+
+-- the same at the text behind whitespace
+pub tokens_end : (k : Kind) (line : ℕ) (whole : Outcome (List Token)) (ts : List Token) (x y rest : Text) → IsRead k line whole ts x → y ≡ after_space x → front_at k line y ≡ Ok (closes, rest) → whole ≡ Ok (ts, rest)
+tokens_end k line whole ts x y rest r same e = turn_ends k line whole ts (after_space x) rest (turn k line whole ts x r) (subst (λ z. front_at k line z ≡ Ok (closes, rest)) same e)
+
+pub tokens_go_on : (k : Kind) (line : ℕ) (whole : Outcome (List Token)) (ts us : List Token) (t : Token) (x y rest : Text) → IsRead k line whole ts x → y ≡ after_space x → front_at k line y ≡ Ok (spells t, rest) → us ≡ ts ++ (t ∷ []) → IsRead k line whole us rest
+tokens_go_on k line whole ts us t x y rest r same e more = subst (λ vs. IsRead k line whole vs rest) (sym more) (turn_goes_on k line whole ts t (after_space x) rest (turn k line whole ts x r) (subst (λ z. front_at k line z ≡ Ok (spells t, rest)) same e))
+
+pub tokens_shrink : (k : Kind) (line : ℕ) (t : Token) (x y rest : Text) → y ≡ after_space x → front_at k line y ≡ Ok (spells t, rest) → length rest < length x
+tokens_shrink k line t x y rest same e = shorter k line t x rest (subst (λ z. front_at k line z ≡ Ok (spells t, rest)) same e)
+
+pub tokens_refused : (k : Kind) (line : ℕ) (whole : Outcome (List Token)) (ts : List Token) (x y : Text) (e : ScanError) → IsRead k line whole ts x → y ≡ after_space x → IsGiven e (front_at k line y) → IsGiven e whole
+tokens_refused k line whole ts x y e r same g =
+    given_along e (front_at k line y) whole (λ h. turn_refused k line whole ts (after_space x) e (turn k line whole ts x r) (subst (λ z. front_at k line z ≡ Err e) same h)) g
+
+-- ---- segments
+
+pub with_opener : (a b : ℕ) (x y : Text) → begins a b x ≡ true → x ≡ a ∷ b ∷ y → drop 2 x ≡ y
+with_opener a b x y h e = ap (λ z. drop 2 z) e
+
+abbrev pub before_all : List Segment → Result (List Segment) ScanError → Result (List Segment) ScanError
+before_all ss (Ok us) = Ok (ss ++ us)
+before_all ss (Err e) = Err e
+
+-- the segments ss are cut off, and x is left
+abbrev pub IsCutOff : Text → List Segment → Text → Type 0
+IsCutOff source ss x = (m : ℕ) × (length x < m) × (before_all ss (cut source m x) ≡ cut source (length source + 1) source)
+
+before_none : (o : Result (List Segment) ScanError) → before_all [] o ≡ o
+before_none (Ok us) = refl
+before_none (Err e) = refl
+
+pub cut_none : (source : Text) → IsCutOff source [] source
+cut_none source = (length source + 1, omega arith, before_none (cut source (length source + 1) source))
+
+pub cut_ends : (source : Text) (ss : List Segment) → IsCutOff source ss [] → cut source (length source + 1) source ≡ Ok ss
+unfolding cut
+cut_ends source ss r = sym r.2 ∙ ended r.0 r.1
+  where
+    ended : (m : ℕ) → 0 < m → before_all ss (cut source m []) ≡ Ok ss
+    ended zero le = absurd (omega arith)
+    ended (suc m) le = rw (append-nil ss) refl
+
+before_one : (s : Segment) (ss : List Segment) (o : Result (List Segment) ScanError) → before_all ss (with_segment s o) ≡ before_all (ss ++ (s ∷ [])) o
+before_one s ss (Ok us) = rw (append_assoc ss (s ∷ []) us) refl
+before_one s ss (Err e) = refl
+
+cut_step : (source x : Text) (m : ℕ) → 0 < length x → length x < m → (j : ℕ) × (length x < suc j) × (cut source m x ≡ then_cut (segment_at (line_at source x) x) (cut source j))
+unfolding cut
+cut_step source [] m z le = absurd (omega arith)
+cut_step source (c ∷ cs) zero z le = absurd (omega arith)
+cut_step source (c ∷ cs) (suc m) z le = (m, le, refl)
+
+pub cut_goes_on : (source : Text) (ss : List Segment) (s : Segment) (x rest : Text) (line : ℕ) → IsCutOff source ss x → 0 < length x → line ≡ line_at source x → segment_at line x ≡ Ok (s, rest) → IsCutOff source (ss ++ (s ∷ [])) rest
+cut_goes_on source ss s x rest line r z at e =
+    let j = cut_step source x r.0 z r.1 in
+    let here : segment_at (line_at source x) x ≡ Ok (s, rest) = subst (λ n. segment_at n x ≡ Ok (s, rest)) at e in
+    let p = segment_says (line_at source x) s x rest z here in
+    (j.0, omega (arith, j.1, (shrinks p).0),
+      sym (before_one s ss (cut source j.0 rest)) ∙ ap (λ o. before_all ss (then_cut o (cut source j.0))) (sym here) ∙ ap (before_all ss) (sym j.2) ∙ r.2)
+
+pub cut_refused : (source : Text) (ss : List Segment) (x : Text) (line : ℕ) (e : ScanError) → IsCutOff source ss x → 0 < length x → line ≡ line_at source x → segment_at line x ≡ Err e → cut source (length source + 1) source ≡ Err e
+cut_refused source ss x line e r z at h =
+    let j = cut_step source x r.0 z r.1 in
+    let here : segment_at (line_at source x) x ≡ Err e = subst (λ n. segment_at n x ≡ Err e) at h in
+    sym r.2 ∙ ap (before_all ss) j.2 ∙ ap (λ o. before_all ss (then_cut o (cut source j.0))) here
+
+-- a segment's text and the rest are what stood there
+inside_end : {k : Kind} {ts : List Token} {x rest : Text} → Inside k ts x rest → EndsWith x rest
+inside_end {k} (closed {rest}) = (closer k ∷ 125 ∷ [], refl)
+inside_end (space {c} h i) = let e = inside_end i in (c ∷ e.0, ap (λ z. c ∷ z) e.1)
+inside_end (token {s} {rest} p i) = let e = inside_end i in (s ++ e.0, ap (λ z. s ++ z) e.1 ∙ sym (append_assoc s e.0 rest))
+
+segment_end : {n : ℕ} {s : Segment} {x rest : Text} → IsSegment n s x rest → EndsWith x rest
+segment_end (some_data {c} {d} h e) = (c ∷ d, refl)
+segment_end (a_tag {k} i) = let e = inside_end i in (123 ∷ second k ∷ e.0, ap (λ z. 123 ∷ second k ∷ z) e.1)
+segment_end (a_comment {x} {rest} h) = (123 ∷ 35 ∷ (x ++ (35 ∷ 125 ∷ [])), ap (λ z. 123 ∷ 35 ∷ z) (sym (append_assoc x (35 ∷ 125 ∷ []) rest)))
+
+pub ends_with : (n : ℕ) (s : Segment) (x rest : Text) → 0 < length x → segment_at n x ≡ Ok (s, rest) → EndsWith x rest
+ends_with n s x rest z e = segment_end (segment_says n s x rest z e)
+
+pub leaves_less : (n : ℕ) (s : Segment) (x rest : Text) → 0 < length x → segment_at n x ≡ Ok (s, rest) → length rest < length x
+leaves_less n s x rest z e = (shrinks (segment_says n s x rest z e)).0
+
+pub segments_refused : (source : Text) (ss : List Segment) (x : Text) (line : ℕ) (e : ScanError) → IsCutOff source ss x → 0 < length x → line ≡ line_at source x → IsGiven e (segment_at line x) → IsGiven e (cut source (length source + 1) source)
+segments_refused source ss x line e r z at g = given_along e (segment_at line x) (cut source (length source + 1) source) (cut_refused source ss x line e r z at) g
+
+pub segments_go_on : (source : Text) (ss us : List Segment) (s : Segment) (x rest : Text) (line : ℕ) → IsCutOff source ss x → 0 < length x → line ≡ line_at source x → segment_at line x ≡ Ok (s, rest) → us ≡ ss ++ (s ∷ []) → IsCutOff source us rest
+segments_go_on source ss us s x rest line r z at e more = subst (λ vs. IsCutOff source vs rest) (sym more) (cut_goes_on source ss s x rest line r z at e)
+
+-- ---- lines
+
+pub lines-append : (x y : Text) → lines (x ++ y) ≡ lines x + lines y
+lines-append x y = sum_by-append (λ c. cond (c == 10) 1 0) x y
+
+pub few_lines : (x : Text) → lines x ≤ length x
+few_lines x = count_by-le-length (λ c. c == 10) x
+
+pub line_is : (line : ℕ) (source x : Text) → line + lines x ≡ 1 + lines source → line ≡ line_at source x
+line_is line source x e = omega (arith, e)
+
+-- the lines of a part fit in a short text
+pub lines_fit : (line : ℕ) (source x part rest : Text) (n : ℕ) → line + lines x ≡ 1 + lines source → x ≡ part ++ rest → length source ≤ n → line + lines part ≤ n + 1
+lines_fit line source x part rest n e w le = omega (arith, few_lines source, ap lines w, lines-append part rest, e)
+
+pub line_goes_on : (line : ℕ) (source x part rest : Text) → line + lines x ≡ 1 + lines source → x ≡ part ++ rest → line + lines part + lines rest ≡ 1 + lines source
+line_goes_on line source x part rest e w = omega (arith, ap lines w, lines-append part rest, e)
+
+pub not_empty : (t : List ℕ) → IsUtf8 t → 0 < length t → 0 < length (chars t)
+not_empty t u le = at (chars t) (encodes-chars t u)
+  where
+    at : (cs : Text) → encodes cs ≡ t → 0 < length cs
+    at [] e = absurd (omega (arith, ap length e))
+    at (c ∷ cs) e = omega arith
+
+pub no_chars : (t : List ℕ) → length t ≡ 0 → chars t ≡ []
+no_chars [] h = chars-nil
+no_chars (c ∷ cs) h = absurd (omega arith)
+
+pub few_chars : (t : List ℕ) → IsUtf8 t → length (chars t) ≤ length t
+few_chars t u = omega (arith, length-le-encodes (chars t), ap length (encodes-chars t u))
+
+-- ---- what stands in front of a text
+
+pub segment_of_tag : (n : ℕ) (k : Kind) (x y : Text) → x ≡ 123 ∷ second k ∷ y → segment_at n x ≡ tag_at k n y
+unfolding segment_at
+segment_of_tag n Variable x y e = rw e refl
+segment_of_tag n Block x y e = rw e refl
+
+pub segment_of_comment : (n : ℕ) (x y : Text) → x ≡ 123 ∷ 35 ∷ y → segment_at n x ≡ comment_at n y
+unfolding segment_at
+segment_of_comment n x y e = rw e refl
+
+pub segment_of_data : (n : ℕ) (x d y : Text) → begins 123 123 x ≡ false → begins 123 37 x ≡ false → begins 123 35 x ≡ false → clear_run opens x ≡ (d, y) → segment_at n x ≡ Ok (data_of d, y)
+unfolding segment_at
+segment_of_data n x d y a b c e = rw (a, b, c, e) refl
+
+pub comment_read : (n : ℕ) (x d y rest : Text) → clear_run ends_comment x ≡ (d, y) → y ≡ 35 ∷ 125 ∷ rest → comment_at n x ≡ Ok (comment d, rest)
+comment_read n x d y rest e f = rw (e, f) refl
+
+pub comment_open : (n : ℕ) (x d y : Text) → clear_run ends_comment x ≡ (d, y) → begins 35 125 y ≡ false → comment_at n x ≡ Err (error.UnclosedTag n)
+comment_open n x d y e f = rw e (at_end y (subst (Stops ends_comment) (ap (λ (p : Text × Text). p.1) e) (clear_says ends_comment x).2) f)
+  where
+    at_end : (y : Text) → Stops ends_comment y → begins 35 125 y ≡ false → ended_comment n d y ≡ Err (error.UnclosedTag n)
+    at_end [] s f = refl
+    at_end (c ∷ cs) s f = cc
+
+-- ---- names
+
+pub cancel_end : (x y z : Text) → x ++ z ≡ y ++ z → x ≡ y
+cancel_end [] [] z e = refl
+cancel_end [] (b ∷ y) z e = absurd (omega (arith, ap length e, length-append y z))
+cancel_end (a ∷ x) [] z e = absurd (omega (arith, ap length e, length-append x z))
+cancel_end (a ∷ x) (b ∷ y) z e = let h : a ≡ b = cc in let t : x ++ z ≡ y ++ z = cc in ap₂ (λ c cs. c ∷ cs) h (cancel_end x y z t)
+
+pub front_ended : (k : Kind) (line : ℕ) (x : Text) → x ≡ [] → front_at k line x ≡ Err (error.UnclosedTag line)
+unfolding front_at
+front_ended k line x e = rw e refl
+
+pub front_closed : (k : Kind) (line : ℕ) (x rest : Text) → x ≡ closer k ∷ 125 ∷ rest → front_at k line x ≡ Ok (closes, rest)
+unfolding front_at
+front_closed Variable line x rest e = rw e refl
+front_closed Block line x rest e = rw e refl
+
+pub front_bad : (k : Kind) (line c : ℕ) (x cs : Text) → x ≡ c ∷ cs → begins (closer k) 125 x ≡ false → starts_name c ≡ false → front_at k line x ≡ Err (error.BadCharacter line)
+unfolding front_at
+front_bad k line c x cs e b s = rw e (rw (subst (λ z. begins (closer k) 125 z ≡ false) e b, s) refl)
+
+pub name_end : (c : ℕ) (x cs rest : Text) → x ≡ c ∷ cs → rest ≡ (run cs).1 → EndsWith x rest
+name_end c x cs rest e r = (c ∷ (run cs).0, e ∙ ap (λ z. c ∷ z) ((run_says cs).0 ∙ ap (λ z. (run cs).0 ++ z) (sym r)))
+
+pub front_named : (k : Kind) (line c : ℕ) (x cs found rest : Text) → x ≡ c ∷ cs → begins (closer k) 125 x ≡ false → starts_name c ≡ true → rest ≡ (run cs).1 → x ≡ found ++ rest → front_at k line x ≡ Ok (spells (name found), rest)
+unfolding front_at name_end
+front_named k line c x cs found rest e b s r w =
+    let n = name_end c x cs rest e r in
+    let same : c ∷ (run cs).0 ≡ found = cancel_end (c ∷ (run cs).0) found rest (sym n.1 ∙ w) in
+    rw e (rw (subst (λ z. begins (closer k) 125 z ≡ false) e b, s, r) (ap (λ z. Ok (spells (name z), (run cs).1)) same))

@@ -1,0 +1,14 @@
+use Rattle.std.proofs.Common.{◌≡◌, ◌+◌, length, map}
+use denote.Text.{Utf8}
+use denote.Shadow.{shadow}
+use Rattle.std.specs.Str.{chars}
+use Rattle.jt_scan.specs.Scanning.{inside}
+use Rattle.jt_scan.specs.View.{token_view}
+use Rattle.jt_scan.proofs.Turns.{IsRead}
+use Rattle.jt_scan.proofs.tokens.read_tokens.Given as goal
+
+abbrev pub invariant-tokens : goal.invariant-tokens
+invariant-tokens l = shadow (Utf8 l.rest) × IsRead l.kind l.line (inside l.kind l.line (length (chars l.text) + 1) (chars l.text)) (map token_view l.tokens.items) (chars l.rest)
+
+abbrev pub decreases-tokens : goal.decreases-tokens
+decreases-tokens l = length (chars l.rest)

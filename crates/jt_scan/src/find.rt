@@ -1,0 +1,62 @@
+//! Where data and comments end, found by their bytes.
+
+ghost use Rattle.std.specs.Prelude.{◌≡◌, ◌≤◌, true, length, drop, slice_index};
+ghost use Rattle.std.specs.Str.{chars};
+ghost use Rattle.memchr.specs.Find.{IsFirst};
+ghost use Rattle.jt_scan.specs.Cut as cut;
+ghost use Rattle.jt_scan.specs.Scanning as spec;
+
+use memchr::{memchr, memmem};
+
+/// Whether the byte at the place makes an opener of a `{` before it. There is none past the end.
+fn is_second(text: &[u8], at: usize) -> bool
+    ensures { result ≡ spec.is_second (slice_index text.now at) }
+{
+    if at < text.len() {
+        text[at] == b'{' || text[at] == b'%' || text[at] == b'#'
+    } else {
+        false
+    }
+}
+
+/// The next `{` from `start` on.
+fn next_brace(text: &[u8], start: usize) -> Option<usize>
+    requires { start ≤ length text.now }
+    ensures { IsFirst (λ k. slice_index text.now k ≡ 123) start (length text.now) result }
+{
+    match memchr(b'{', &text[start..]) {
+        Some(step) => Some(start + step),
+        None => None,
+    }
+}
+
+/// The first place where `{{`, `{%` or `{#` begins.
+fn find_opener(text: &[u8]) -> Option<usize>
+    ensures { IsFirst (spec.OpensAt text.now) 0 (length text.now) result }
+{
+    let mut at = 0;
+    'braces: while let Some(place) = next_brace(text, at) {
+        if is_second(text, place + 1) {
+            return Some(place);
+        }
+        at = place + 1;
+    }
+    None
+}
+
+/// The data in front of the first opener, and what is from there on.
+pub fn split_data(text: &str) -> (&str, &str)
+    ensures { spec.clear_run cut.opens (chars text.now) ≡ (chars result.0.now, chars result.1.now) }
+{
+    let end = find_opener(text.as_bytes()).unwrap_or(text.len());
+    (&text[..end], &text[end..])
+}
+
+/// What is in front of the first `#}`, and what is from there on.
+pub fn split_comment(text: &str) -> (&str, &str)
+    ensures { spec.clear_run cut.ends_comment (chars text.now)
+        ≡ (chars result.0.now, chars result.1.now) }
+{
+    let end = memmem::find(text.as_bytes(), b"#}").unwrap_or(text.len());
+    (&text[..end], &text[end..])
+}

@@ -1,0 +1,113 @@
+//! Rows of sources, with their segments or their refusal.
+
+use std::alloc::{AllocError, Global};
+use std::test::Fail;
+
+use crate::error::ScanError;
+use crate::options::Options;
+use crate::scanner::scan;
+use crate::segment::{Kind, Segment, Token};
+use crate::source::{MAX_SOURCE_LEN, Source};
+
+/// What a segment is: `<data>`, `{#comment#}`, or a tag's closing delimiter, line and tokens.
+fn tell(alloc: Global, segment: &Segment<'_>) -> Result<String, AllocError> {
+    match segment {
+        Segment::Data(text) => format!(in alloc; "<{text}>"),
+        Segment::Comment(text) => format!(in alloc; "#{text}#"),
+        Segment::Tag(tag) => {
+            let mut told = match tag.kind {
+                Kind::Variable => format!(in alloc; "v{}:", tag.line)?,
+                Kind::Block => format!(in alloc; "b{}:", tag.line)?,
+            };
+            for token in tag.tokens.as_slice() {
+                let Token::Name(name) = token;
+                told.push_str(*name)?;
+                told.push(';')?;
+            }
+            Ok(told)
+        }
+    }
+}
+
+/// What the segments of a text are, or its refusal.
+fn told(alloc: Global, text: &str) -> Result<String, AllocError> {
+    let source = match Source::new(alloc, text, Options::new()) {
+        Ok(source) => source,
+        Err(e) => return format!(in alloc; "{e:?}"),
+    };
+    let segments = match scan(alloc, &source) {
+        Ok(segments) => segments,
+        Err(e) => return format!(in alloc; "{e:?}"),
+    };
+    let mut told = String::new(alloc);
+    for segment in segments.as_slice() {
+        told.push_str(tell(alloc, segment)?.as_str())?;
+    }
+    Ok(told)
+}
+
+#[test]
+fn sources_are_cut(rt: HostRuntime) -> Result<(), Fail> {
+    let rows = [
+        ("", ""),
+        ("a b", "<a b>"),
+        ("a\r\nb\rc\n", "<a\nb\nc>"),
+        ("a\n\n", "<a\n>"),
+        ("\r\r\n\n", "<\n\n>"),
+        ("{{ x }}", "v1:x;"),
+        ("{{\tnot\u{b}x_1\n}}", "v1:not;x_1;"),
+        ("é{{é_1 ß}}è", "<é>v1:é_1;ß;<è>"),
+        ("a\n{# b\n{{ #}{% if x %}", "<a\n># b\n{{ #b3:if;x;"),
+        ("{# a #} b #}", "# a #< b #}>"),
+        ("{{}}{%%}{##}", "v1:b1:##"),
+        ("{ { } }{", "<{ { } }{>"),
+        ("a{{{ x }}", "BadCharacter { line: 1 }"),
+        ("{{ a }}\n\r\n{{\n1 }}", "BadCharacter { line: 3 }"),
+        ("{{ a %}", "BadCharacter { line: 1 }"),
+        ("{{ a ", "UnclosedTag { line: 1 }"),
+        ("\n{%", "UnclosedTag { line: 2 }"),
+        ("\n\n{# #", "UnclosedTag { line: 3 }"),
+    ];
+    for (text, want) in rows {
+        assert_eq!(rt; told(rt.alloc(), text)?.as_str(), want, "{text}");
+    }
+    Ok(())
+}
+
+#[test]
+fn options_and_length(rt: HostRuntime) -> Result<(), Fail> {
+    let alloc = rt.alloc();
+    let keeping = Options {
+        keep_trailing_newline: true,
+        ..Options::new()
+    };
+    let source = Source::new(alloc, "a\r\n", keeping);
+    assert!(rt; matches!(&source, Ok(s) if s.text() == "a\n" && s.options() == keeping));
+    let mut text = String::with_capacity(alloc, MAX_SOURCE_LEN + 1)?;
+    for _n in 0..MAX_SOURCE_LEN {
+        text.push('\n')?;
+    }
+    assert!(rt; Source::new(alloc, text.as_str(), Options::new()).is_ok());
+    text.push('\n')?;
+    let refused = Source::new(alloc, text.as_str(), Options::new());
+    assert!(rt; matches!(refused, Err(ScanError::SourceTooLong)));
+    Ok(())
+}
+
+#[test]
+fn refusals_have_names(rt: HostRuntime) -> Result<(), Fail> {
+    let rows = [
+        (ScanError::UnclosedTag { line: 1 }, "S1 UnclosedTag"),
+        (ScanError::UnclosedText { line: 1 }, "S2 UnclosedText"),
+        (ScanError::BadCharacter { line: 1 }, "S3 BadCharacter"),
+        (ScanError::BadEscape { line: 1 }, "S4 BadEscape"),
+        (ScanError::NumberTooLarge { line: 1 }, "S5 NumberTooLarge"),
+        (ScanError::UnclosedRaw { line: 1 }, "S6 UnclosedRaw"),
+        (ScanError::SourceTooLong, "S7 SourceTooLong"),
+        (ScanError::NoMemory, "S8 NoMemory"),
+    ];
+    for (refusal, name) in rows {
+        assert_eq!(rt; format!(in rt.alloc(); "{refusal}")?.as_str(), name);
+    }
+    Ok(())
+}
