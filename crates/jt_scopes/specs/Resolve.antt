@@ -36,10 +36,14 @@ abbrev pub inserted : Text → List Text → List Text
 inserted x [] = x ∷ []
 inserted x (y ∷ ys) = if bytes_eq y x then y ∷ ys else if is_lt (slice_cmp nat_cmp x y) then x ∷ y ∷ ys else y ∷ inserted x ys
 
+-- ascending texts, with each of these at its place
+abbrev pub all_inserted : List Text → List Text → List Text
+all_inserted [] ns = ns
+all_inserted (x ∷ xs) ns = all_inserted xs (inserted x ns)
+
 -- the different ones of these texts, in ascending order
 abbrev pub ascending : List Text → List Text
-ascending [] = []
-ascending (x ∷ xs) = inserted x (ascending xs)
+ascending xs = all_inserted xs []
 
 -- the place of a name in a table
 abbrev pub slot_of : Text → List Text → ℕ
@@ -92,7 +96,7 @@ module _ (template : Text) (escaping : Bool) (names : List Text) where
     resolved_choice no_branches other n behind = other n behind
     resolved_choice (branch line c body rest) other n behind =
         slots.stmt (if_else (place line) (resolved_expr c n) (resolved_body body (n + length (expr_pool c)) slots.end)
-          (resolved_choice rest other (n + length (expr_pool c) + length (body_pool body)) slots.end)) behind
+        (resolved_choice rest other (n + length (expr_pool c) + length (body_pool body)) slots.end)) behind
 
 -- the program of a template
 abbrev pub program : Text → Bool → Body → Program

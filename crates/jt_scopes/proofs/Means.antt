@@ -19,7 +19,7 @@ use Rattle.jt_scopes.specs.Meaning as meaning
 use Rattle.jt_scopes.specs.Meaning.{Around, State, Calls, literal, value, shown, put, meanings, chosen, performed, calls, mean}
 use Rattle.jt_scopes.specs.Slots as slots
 use Rattle.jt_scopes.specs.Slots.{SBody, Memory, SCalls, value_at, svalue, smeaning, smeanings, globals_of, scalls, smean}
-use Rattle.jt_scopes.specs.Resolve.{expr_names, stmt_names, body_names, branch_names, inserted, ascending, slot_of, expr_pool, stmt_pool, body_pool, branch_pool, place, resolved_expr, resolved_stmt, resolved_body, resolved_choice, program}
+use Rattle.jt_scopes.specs.Resolve.{expr_names, stmt_names, body_names, branch_names, inserted, all_inserted, ascending, slot_of, expr_pool, stmt_pool, body_pool, branch_pool, place, resolved_expr, resolved_stmt, resolved_body, resolved_choice, program}
 
 -- ---- names and their slots
 
@@ -67,14 +67,18 @@ inserted_keeps x z (y ∷ ys) h = through (bytes_eq y x) (is_lt (slice_cmp nat_c
     through false false (inl e) f = inl e
     through false false (inr k) f = inr (f k)
 
-all_inserted : (x : Text) (zs ns : List Text) → AllAmong zs ns → AllAmong zs (inserted x ns)
-all_inserted x [] ns h = tt
-all_inserted x (z ∷ zs) ns h = (inserted_keeps x z ns h.0, all_inserted x zs ns h.1)
+-- texts that are put among others are there, and so are the others
+all_keep : (xs : List Text) (z : Text) (ns : List Text) → Among z ns → Among z (all_inserted xs ns)
+all_keep [] z ns h = h
+all_keep (x ∷ xs) z ns h = all_keep xs z (inserted x ns) (inserted_keeps x z ns h)
+
+all_there : (xs ns : List Text) → AllAmong xs (all_inserted xs ns)
+all_there [] ns = tt
+all_there (x ∷ xs) ns = (all_keep xs x (inserted x ns) (inserted_there x ns), all_there xs (inserted x ns))
 
 -- all texts are among those in ascending order
 pub all_ascending : (xs : List Text) → AllAmong xs (ascending xs)
-all_ascending [] = tt
-all_ascending (x ∷ xs) = (inserted_there x (ascending xs), all_inserted x xs (ascending xs) (all_ascending xs))
+all_ascending xs = all_there xs []
 
 -- the slot of a name holds the context's value of the name
 slot_holds : (context : Pairs) (x : Text) (ns : List Text) → Among x ns → value_at (globals_of context ns) (slot_of x ns) ≡ unwrap_or (look x context) tree.undefined
@@ -209,16 +213,16 @@ module _ (template : Text) (escaping : Bool) (context : Pairs) (call : Calls) (s
         (q.0, q.1, ap (λ g. bind (at (place template escaping names line) (bind g (λ v. bind (shown escaping v) (λ s. gives (record (slotted out) { out = out ++ s }))))) (smeanings pool scall behind)) (values_same e n out here has) ∙ q.2)
     stmt_same (choose bs other) n behind out f here has rest =
         choice_same bs (body_pool other) (meanings call other a) (resolved_body template escaping names other)
-          (λ n' behind' out' f' has' rest'. body_same other n' behind' out' f' (among_back (branch_names bs) (body_names other) names here) has' rest')
-          n behind out f (among_front (branch_names bs) (body_names other) names here) has rest
+        (λ n' behind' out' f' has' rest'. body_same other n' behind' out' f' (among_back (branch_names bs) (body_names other) names here) has' rest')
+        n behind out f (among_front (branch_names bs) (body_names other) names here) has rest
 
     body_same : (b : Body) (n : ℕ) (behind : SBody) (out : Text) (f : State → Got State) → AllAmong (body_names b) names → PoolHas pool n (body_pool b) → SameFrom f (smeanings pool scall behind)
         → Same (bind (meanings call b a (named out)) f) (smeanings pool scall (resolved_body template escaping names b n behind) (slotted out))
     body_same end n behind out f here has rest = rest out
     body_same (stmt s later) n behind out f here has rest =
         let q = stmt_same s n (resolved_body template escaping names later (n + length (stmt_pool s)) behind) out (λ st. bind (meanings call later a st) f)
-            (among_front (stmt_names s) (body_names later) names here) (pool_front pool n (stmt_pool s) (body_pool later) has)
-            (λ o. body_same later (n + length (stmt_pool s)) behind o f (among_back (stmt_names s) (body_names later) names here) (pool_back pool n (stmt_pool s) (body_pool later) has) rest) in
+        (among_front (stmt_names s) (body_names later) names here) (pool_front pool n (stmt_pool s) (body_pool later) has)
+        (λ o. body_same later (n + length (stmt_pool s)) behind o f (among_back (stmt_names s) (body_names later) names here) (pool_back pool n (stmt_pool s) (body_pool later) has) rest) in
         (q.0, bind_assoc (meaning.meaning call s a (named out)) (meanings call later a) f ∙ q.1, q.2)
 
     -- the else part is given by its pool, its meaning, its resolved form and that they mean the same
@@ -230,7 +234,7 @@ module _ (template : Text) (escaping : Bool) (context : Pairs) (call : Calls) (s
         let m = n + length (expr_pool c) in
         let l = m + length (body_pool body) in
         let has' : PoolHas pool n (expr_pool c ++ (body_pool body ++ (branch_pool later ++ other_pool))) =
-            subst (λ ts. PoolHas pool n ts) (append_assoc (expr_pool c) (body_pool body ++ branch_pool later) (other_pool) ∙ ap (λ ts. expr_pool c ++ ts) (append_assoc (body_pool body) (branch_pool later) (other_pool))) has in
+        subst (λ ts. PoolHas pool n ts) (append_assoc (expr_pool c) (body_pool body ++ branch_pool later) (other_pool) ∙ ap (λ ts. expr_pool c ++ ts) (append_assoc (body_pool body) (branch_pool later) (other_pool))) has in
         let behind_c = pool_back pool n (expr_pool c) (body_pool body ++ (branch_pool later ++ other_pool)) has' in
         let behind_b = pool_back pool m (body_pool body) (branch_pool later ++ other_pool) behind_c in
         let names_c = among_front (expr_names c) (body_names body ++ branch_names later) names here in
@@ -241,17 +245,16 @@ module _ (template : Text) (escaping : Bool) (context : Pairs) (call : Calls) (s
         let second = choice_same later other_pool other resolved_other others l slots.end out (λ st. gives st) (among_back (body_names body) (branch_names later) names names_rest) behind_b nothing_more in
         let p = place template escaping names line in
         let q = then_same p (value c a (top context))
-            (λ v. bind (if tree.truth v then meanings call body a (named out) else chosen call later a (named out) other) f)
-            (λ v. bind (if tree.truth v then smeanings pool scall yes (slotted out) else smeanings pool scall else_part (slotted out)) (smeanings pool scall behind))
-            (λ v. either_same (tree.truth v) (meanings call body a (named out)) (chosen call later a (named out) other) (smeanings pool scall yes (slotted out)) (smeanings pool scall else_part (slotted out)) f (smeanings pool scall behind)
-              (ended_same f (smeanings pool scall behind) (meanings call body a (named out)) (smeanings pool scall yes (slotted out)) (unbound (meanings call body a (named out)) (smeanings pool scall yes (slotted out)) first) rest)
-              (ended_same f (smeanings pool scall behind) (chosen call later a (named out) other) (smeanings pool scall else_part (slotted out)) (unbound (chosen call later a (named out) other) (smeanings pool scall else_part (slotted out)) second) rest)) in
-        (
+        (λ v. bind (if tree.truth v then meanings call body a (named out) else chosen call later a (named out) other) f)
+        (λ v. bind (if tree.truth v then smeanings pool scall yes (slotted out) else smeanings pool scall else_part (slotted out)) (smeanings pool scall behind))
+        (λ v. either_same (tree.truth v) (meanings call body a (named out)) (chosen call later a (named out) other) (smeanings pool scall yes (slotted out)) (smeanings pool scall else_part (slotted out)) f (smeanings pool scall behind)
+        (ended_same f (smeanings pool scall behind) (meanings call body a (named out)) (smeanings pool scall yes (slotted out)) (unbound (meanings call body a (named out)) (smeanings pool scall yes (slotted out)) first) rest)
+        (ended_same f (smeanings pool scall behind) (chosen call later a (named out) other) (smeanings pool scall else_part (slotted out)) (unbound (chosen call later a (named out) other) (smeanings pool scall else_part (slotted out)) second) rest)) in (
           q.0,
           bind_assoc (at p (value c a (top context))) (λ v. if tree.truth v then meanings call body a (named out) else chosen call later a (named out) other) f ∙ q.1,
           bind_assoc (at p (svalue pool scall (resolved_expr template escaping names c n) (slotted out))) (λ v. if tree.truth v then smeanings pool scall yes (slotted out) else smeanings pool scall else_part (slotted out)) (smeanings pool scall behind)
-            ∙ ap (λ g. bind (at p g) (λ v. bind (if tree.truth v then smeanings pool scall yes (slotted out) else smeanings pool scall else_part (slotted out)) (smeanings pool scall behind))) (values_same c n out names_c (pool_front pool n (expr_pool c) (body_pool body ++ (branch_pool later ++ other_pool)) has'))
-            ∙ q.2,
+              ∙ ap (λ g. bind (at p g) (λ v. bind (if tree.truth v then smeanings pool scall yes (slotted out) else smeanings pool scall else_part (slotted out)) (smeanings pool scall behind))) (values_same c n out names_c (pool_front pool n (expr_pool c) (body_pool body ++ (branch_pool later ++ other_pool)) has'))
+              ∙ q.2,
         )
 
 -- the program of a template means what the template means, for every context and depth of calls
