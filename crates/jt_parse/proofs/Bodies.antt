@@ -1,10 +1,10 @@
 -- Statements and branches behind others, and levels that are allowed.
-use Rattle.std.proofs.Common.{◌≡◌, ℕ, suc, ◌+◌, ◌<◌, ◌≤◌, max, Bool, true, false, List, [], ◌∷◌, refl, sym, ap, ◌∙◌, ⊎_elim, arith, Result, Ok, Err}
+use Rattle.std.proofs.Common.{◌≡◌, ℕ, ◌<◌, ◌≤◌, max, refl, sym, ap, ◌∙◌, ⊎_elim, arith, Result, Err}
 use Rattle.std.proofs.lemmas.Bool.{cases_lt}
 use Rattle.std.proofs.lemmas.Bool.Decides.{nat_tests}
-use Rattle.jt_parse.specs.Trees.{Expr, Stmt, Body, end, stmt, Branches, no_branches, branch}
-use Rattle.jt_parse.specs.Expressions.{Fault, syntax, deep}
-use Rattle.jt_parse.specs.Reading.{then_all, then_one, then_branches, then_branch, within, ◌>>=◌}
+use Rattle.jt_parse.specs.Trees.{Body, end, stmt, Branches, no_branches, branch}
+use Rattle.jt_parse.specs.Expressions.{Fault, deep}
+use Rattle.jt_parse.specs.Reading.{then_all, then_branches, within, ◌>>=◌}
 
 pub all_end : (a : Body) → then_all a end ≡ a
 all_end end = refl
@@ -42,8 +42,8 @@ chained l k m n r q e f =
     ⊎_elim
     (λ (gt : n < l). within_out l n r gt ∙ sym (within_out m n q (omega arith)))
     (λ (le : l ≤ n). within_in l n r le ∙ f le
-        ∙ ⊎_elim
-            (λ (gt : n < k). within_out k n q gt ∙ sym (within_out m n q (omega arith)))
-            (λ (less : k ≤ n). within_in k n q less ∙ sym (within_in m n q (omega arith)))
-            (cases_lt n k))
+    ∙ ⊎_elim
+    (λ (gt : n < k). within_out k n q gt ∙ sym (within_out m n q (omega arith)))
+    (λ (less : k ≤ n). within_in k n q less ∙ sym (within_in m n q (omega arith)))
+    (cases_lt n k))
     (cases_lt n l)

@@ -1,5 +1,5 @@
 -- What all the segments spell, and what is answered.
-use Rattle.std.proofs.Common.{◌≡◌, ℕ, ◌<◌, ◌≤◌, List, [], ◌∷◌, refl, sym, ap, subst, ◌∙◌, arith, Result, Ok, Err, ⊎_elim}
+use Rattle.std.proofs.Common.{◌≡◌, ℕ, ◌<◌, ◌≤◌, List, sym, ◌∙◌, Result, Ok, Err, ⊎_elim}
 use Rattle.std.proofs.lemmas.Bool.{cases_lt}
 use Rattle.jt_scan.specs.Cut.{Segment}
 use Rattle.jt_parse.specs.Trees.{Body, body_levels}
@@ -10,10 +10,10 @@ use Rattle.jt_parse.proofs.Bodies.{within_in, within_out}
 use Rattle.jt_parse.proofs.Complete.{read_whole}
 use Rattle.jt_parse.proofs.Sound.{read_is_spelled}
 
-different : {A G : Type 0} (f : Fault) (a : A) → ◌≡◌ {A = Result A Fault} (Ok a) (Err f) → G
+pub different : {A G : Type 0} (f : Fault) (a : A) → ◌≡◌ {A = Result A Fault} (Ok a) (Err f) → G
 different f a e = absurd (cc)
 
-errors : {A : Type 0} (f g : Fault) → ◌≡◌ {A = Result A Fault} (Err f) (Err g) → f ≡ g
+pub errors : {A : Type 0} (f g : Fault) → ◌≡◌ {A = Result A Fault} (Err f) (Err g) → f ≡ g
 errors f g e = cc
 
 not_both : {G : Type 0} → deep ≡ syntax → G
@@ -30,11 +30,13 @@ too_deep n b ss f gt = read_whole n f ∙ within_out (body_levels b) n (Ok b) gt
 -- what is read is spelled so, within the levels
 pub exact : (n : ℕ) (b : Body) (ss : List Segment) → parsed n ss ≡ Ok b → Forms b ss × (body_levels b ≤ n)
 exact n b ss e =
-    let f : Forms b ss = read_is_spelled n ss b e in
-    (f, ⊎_elim
-        (λ (gt : n < body_levels b). different deep b (sym e ∙ too_deep n b ss f gt))
-        (λ (le : body_levels b ≤ n). le)
-        (cases_lt n (body_levels b)))
+    let f : Forms b ss = read_is_spelled n ss b e in (
+      f,
+      ⊎_elim
+          (λ (gt : n < body_levels b). different deep b (sym e ∙ too_deep n b ss f gt))
+          (λ (le : body_levels b ≤ n). le)
+          (cases_lt n (body_levels b)),
+    )
 
 -- no tree is spelled so
 pub syntax_only : (n : ℕ) (b : Body) (ss : List Segment) → parsed n ss ≡ Err syntax → Forms b ss → ⊥

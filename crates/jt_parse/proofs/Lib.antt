@@ -4,3 +4,7 @@ pub mod Complete
 pub mod Sound
 pub mod Exact
 pub mod Weighs
+pub mod Short
+pub mod Texts
+pub mod Views
+pub mod Answers

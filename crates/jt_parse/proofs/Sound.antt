@@ -1,5 +1,5 @@
 -- What is read is spelled so.
-use Rattle.std.proofs.Common.{◌≡◌, ℕ, suc, ◌+◌, ◌<◌, ◌≤◌, Bool, true, false, cond, List, [], ◌∷◌, ◌++◌, length, codes, refl, sym, ap, subst, ◌∙◌, append_assoc, append-nil, arith, Result, Ok, Err, encode_utf8_all, bytes_eq, nat_le}
+use Rattle.std.proofs.Common.{◌≡◌, ℕ, suc, ◌+◌, true, List, [], ◌∷◌, ◌++◌, length, codes, refl, sym, ap, subst, ◌∙◌, append_assoc, Result, Ok, Err, encode_utf8_all, bytes_eq, nat_le}
 use Rattle.std.proofs.lemmas.Slice.Eq.{bytes_eq-Decides}
 use Rattle.jt_scan.specs.declared.segment.Kind.TheVariants as kind
 use Rattle.jt_scan.specs.Cut as cut
@@ -32,9 +32,9 @@ grows : {a w : Body} {fs : List Frame} {ss : List Segment} (t : Body) (x : List 
 grows {a} {w} {ss = ss} t x more (outside b f e) = outside (then_all t b) (more b ss f) (sym (all_all a t b) ∙ e)
 grows {a} t x more (inside_if {done = done} {line = line} {c = c} inner other bs q last xs ys rest f g qe e r) =
     inside_if (then_all t inner) other bs q last (x ++ xs) ys rest (more inner xs f) g
-        (ap (λ i. then_branches done (branch line c i bs)) (sym (all_all a t inner)) ∙ qe)
-        (append_assoc x xs (ys ++ (endif last ∷ rest)) ∙ ap (λ z. x ++ z) e)
-        r
+    (ap (λ i. then_branches done (branch line c i bs)) (sym (all_all a t inner)) ∙ qe)
+    (append_assoc x xs (ys ++ (endif last ∷ rest)) ∙ ap (λ z. x ++ z) e)
+    r
 grows {a} t x more (inside_else inner other last xs rest f i e r) =
     inside_else (then_all t inner) other last (x ++ xs) rest (more inner xs f) (sym (all_all a t inner) ∙ i) (append_assoc x xs (endif last ∷ rest) ∙ ap (λ z. x ++ z) e) r
 
@@ -45,27 +45,27 @@ opened {a} {w} {line} {c} {ts} {fs} {ss} d (inside_if inner other bs q last xs y
     let tag : Segment = block line (word (codes "if") ∷ ts) in
     let x : List Segment = xs ++ (ys ++ (endif last ∷ [])) in
     let split : (tail : List Segment) → x ++ tail ≡ xs ++ (ys ++ (endif last ∷ tail)) =
-        λ tail. append_assoc xs (ys ++ (endif last ∷ [])) tail ∙ ap (λ z. xs ++ z) (append_assoc ys (endif last ∷ []) tail) in
+    λ tail. append_assoc xs (ys ++ (endif last ∷ [])) tail ∙ ap (λ z. xs ++ z) (append_assoc ys (endif last ∷ []) tail) in
     subst (λ z. Ends a fs (tag ∷ z) w) (split rest ∙ se)
-        (grows (stmt s end) (tag ∷ x)
-            (λ b tail k. subst (λ z. Forms (stmt s b) (tag ∷ z)) (sym (split tail)) (an_if last d f g k))
-            (subst (λ z. Ends (then_one a (choose z other)) fs rest w) (sym qe) r))
+    (grows (stmt s end) (tag ∷ x)
+    (λ b tail k. subst (λ z. Forms (stmt s b) (tag ∷ z)) (sym (split tail)) (an_if last d f g k))
+    (subst (λ z. Ends (then_one a (choose z other)) fs rest w) (sym qe) r))
 
 elif_in : {a before w : Body} {done : Branches} {l line : ℕ} {c e : Expr} {ts : List Token} {fs : List Frame} {ss : List Segment} → Spells e ts
     → Ends end (in_branch before (then_branch done l c a) line e ∷ fs) ss w → Ends a (in_branch before done l c ∷ fs) (block line (word (codes "elif") ∷ ts) ∷ ss) w
 elif_in {a} {done = done} {l} {line} {c} {e} {ts} d (inside_if inner other bs q last xs ys rest f g qe se r) =
     inside_if end other (branch line e inner bs) q last [] (block line (word (codes "elif") ∷ ts) ∷ (xs ++ ys)) rest nothing_more (an_elif d f g)
-        (ap (λ i. then_branches done (branch l c i (branch line e inner bs))) (all_end a) ∙ sym (branches_all done (branch l c a no_branches) (branch line e inner bs)) ∙ qe)
-        (ap (λ z. block line (word (codes "elif") ∷ ts) ∷ z) (append_assoc xs ys (endif last ∷ rest) ∙ se))
-        r
+    (ap (λ i. then_branches done (branch l c i (branch line e inner bs))) (all_end a) ∙ sym (branches_all done (branch l c a no_branches) (branch line e inner bs)) ∙ qe)
+    (ap (λ z. block line (word (codes "elif") ∷ ts) ∷ z) (append_assoc xs ys (endif last ∷ rest) ∙ se))
+    r
 
 else_in : {a before w : Body} {done : Branches} {l line : ℕ} {c : Expr} {fs : List Frame} {ss : List Segment}
     → Ends end (in_else before (then_branch done l c a) ∷ fs) ss w → Ends a (in_branch before done l c ∷ fs) (block line (word (codes "else") ∷ []) ∷ ss) w
 else_in {a} {before} {w} {done} {l} {line} {c} {fs} (inside_else inner other last xs rest f i se r) =
     inside_if end inner no_branches (then_branch done l c a) last [] (block line (word (codes "else") ∷ []) ∷ xs) rest nothing_more (an_else f)
-        (ap (λ j. then_branches done (branch l c j no_branches)) (all_end a))
-        (ap (λ z. block line (word (codes "else") ∷ []) ∷ z) se)
-        (subst (λ z. Ends (then_one before (choose (then_branch done l c a) z)) fs rest w) (sym i) r)
+    (ap (λ j. then_branches done (branch l c j no_branches)) (all_end a))
+    (ap (λ z. block line (word (codes "else") ∷ []) ∷ z) se)
+    (subst (λ z. Ends (then_one before (choose (then_branch done l c a) z)) fs rest w) (sym i) r)
 
 -- ---- one segment
 

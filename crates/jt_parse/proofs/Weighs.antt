@@ -1,7 +1,6 @@
 -- A tree is no heavier than its segments.
-use Rattle.std.proofs.Common.{◌≡◌, ℕ, ◌+◌, ◌≤◌, List, [], ◌∷◌, ◌++◌, length, codes, refl, sym, ap, subst, ◌∙◌, arith}
-use Rattle.jt_scan.specs.Cut as cut
-use Rattle.jt_scan.specs.Cut.{Token, Segment, weight, weight_of}
+use Rattle.std.proofs.Common.{◌≡◌, ◌+◌, ◌≤◌, List, [], ◌∷◌, ◌++◌, length, codes, arith}
+use Rattle.jt_scan.specs.Cut.{Token, Segment, weight_of}
 use Rattle.jt_parse.specs.Trees as trees
 use Rattle.jt_parse.specs.Trees.{Expr, Body, Branches, body_weight, branch_weight}
 use Rattle.jt_parse.specs.Grammar.{word, block, Spells, is_true, is_True, is_false, is_False, is_none, is_None, is_name, Forms, nothing_more, a_comment, some_data, a_print, an_if, GoesOn, no_else, an_else, an_elif}

@@ -1,5 +1,5 @@
 -- Words as expressions.
-use Rattle.std.proofs.Common.{◌≡◌, ℕ, zero, suc, ◌<◌, Bool, true, false, ◌||◌, cond, List, [], ◌∷◌, get_or, length, codes, refl, sym, ap, subst, ◌∙◌, arith, Option, Some, None, Result, Ok, Err, encode_utf8_all, bytes_eq, if◌then◌else◌, Decides}
+use Rattle.std.proofs.Common.{◌≡◌, ℕ, ◌<◌, Bool, true, false, cond, List, [], ◌∷◌, get_or, length, codes, refl, sym, ap, subst, ◌∙◌, arith, Option, Some, None, Result, Ok, Err, encode_utf8_all, bytes_eq}
 use Rattle.std.specs.List.{list_any}
 use Rattle.std.proofs.lemmas.List.Folds.{list_any_at}
 use Rattle.std.proofs.lemmas.Slice.Eq.{bytes_eq-Decides}
@@ -7,7 +7,7 @@ use Rattle.jt_scan.specs.Cut as cut
 use Rattle.jt_scan.specs.Cut.{Token}
 use Rattle.jt_parse.specs.Trees.{Text, Literal, Expr, name, constant, truth, nothing}
 use Rattle.jt_parse.specs.Grammar.{word, reserved, is_reserved, Spells, is_true, is_True, is_false, is_False, is_none, is_None, is_name}
-use Rattle.jt_parse.specs.Expressions.{Fault, syntax, deep, expression, literal_at, literal_or_name, word_read}
+use Rattle.jt_parse.specs.Expressions.{Fault, syntax, expression, literal_at, literal_or_name, word_read}
 
 -- what goes on from a test
 pub by_test : {A G : Type 0} (b : Bool) (x y z : A) → cond b x y ≡ z → (b ≡ true → x ≡ z → G) → (b ≡ false → y ≡ z → G) → G
@@ -30,9 +30,9 @@ unfolding literal_at
 no_literal x h =
     let p : Text → Bool = bytes_eq x in
     chain (bytes_eq x (codes "true")) (bytes_eq x (codes "True")) (bytes_eq x (codes "false")) (bytes_eq x (codes "False")) (bytes_eq x (codes "none")) (bytes_eq x (codes "None"))
-        (Some (truth true)) (Some (truth true)) (Some (truth false)) (Some (truth false)) (Some nothing) (Some nothing) None
-        (missed p reserved 7 (omega arith) h) (missed p reserved 10 (omega arith) h) (missed p reserved 8 (omega arith) h) (missed p reserved 11 (omega arith) h)
-        (missed p reserved 9 (omega arith) h) (missed p reserved 12 (omega arith) h)
+    (Some (truth true)) (Some (truth true)) (Some (truth false)) (Some (truth false)) (Some nothing) (Some nothing) None
+    (missed p reserved 7 (omega arith) h) (missed p reserved 10 (omega arith) h) (missed p reserved 8 (omega arith) h) (missed p reserved 11 (omega arith) h)
+    (missed p reserved 9 (omega arith) h) (missed p reserved 12 (omega arith) h)
 
 -- a name is no reserved word
 pub name_read : (x : Text) → is_reserved x ≡ false → word_read x ≡ Ok (name (encode_utf8_all x))
@@ -68,8 +68,8 @@ either_sound : (o : Option Literal) (x : Text) (e : Expr) → ((l : Literal) →
 either_sound (Some l) x e d given = let q : constant l ≡ e = cc in subst (λ i. Spells i (cut.name x ∷ [])) q (d l refl)
 either_sound None x e d given =
     by_test (is_reserved x) _ _ _ given (λ h q. no_error syntax e q) (λ h q.
-        let same : name (encode_utf8_all x) ≡ e = cc in
-        subst (λ i. Spells i (cut.name x ∷ [])) same (is_name h))
+    let same : name (encode_utf8_all x) ≡ e = cc in
+    subst (λ i. Spells i (cut.name x ∷ [])) same (is_name h))
 
 pub word_sound : (x : Text) (e : Expr) → word_read x ≡ Ok e → Spells e (cut.name x ∷ [])
 word_sound x e given = either_sound (literal_at x) x e (literal_sound x) given

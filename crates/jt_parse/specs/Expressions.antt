@@ -1,5 +1,5 @@
 -- Reads an expression from the tokens of a tag.
-use Rattle.std.specs.Prelude.{◌≡◌, ℕ, Bool, true, false, List, [], ◌∷◌, codes, encode_utf8_all, bytes_eq, if◌then◌else◌, Option, Some, None, Result, Ok, Err}
+use Rattle.std.specs.Prelude.{true, false, List, [], ◌∷◌, codes, encode_utf8_all, bytes_eq, if◌then◌else◌, Option, Some, None, Result, Ok, Err}
 use Rattle.jt_scan.specs.Cut as cut
 use Rattle.jt_scan.specs.Cut.{Token}
 use Rattle.jt_parse.specs.Trees.{Text, Literal, truth, nothing, Expr, constant, name}

@@ -1,10 +1,10 @@
 -- Which tree the segments of a source spell: one rule a form. The tokens are those of the cut.
-use Rattle.std.specs.Prelude.{◌≡◌, ℕ, Bool, true, false, ◌||◌, List, [], ◌∷◌, ◌++◌, codes, encode_utf8_all, bytes_eq}
+use Rattle.std.specs.Prelude.{◌≡◌, ℕ, Bool, true, false, List, [], ◌∷◌, ◌++◌, codes, encode_utf8_all, bytes_eq}
 use Rattle.std.specs.List.{list_any}
 use Rattle.jt_scan.specs.declared.segment.Kind.TheVariants as kind
 use Rattle.jt_scan.specs.Cut as cut
 use Rattle.jt_scan.specs.Cut.{Token, Segment}
-use Rattle.jt_parse.specs.Trees.{Text, Literal, truth, nothing, Expr, constant, name, Stmt, data_of, print, choose, Body, end, stmt, Branches, no_branches, branch}
+use Rattle.jt_parse.specs.Trees.{Text, truth, nothing, Expr, constant, name, data_of, print, choose, Body, end, stmt, Branches, no_branches, branch}
 
 -- a word of the language, as a token
 abbrev pub word : Text → Token

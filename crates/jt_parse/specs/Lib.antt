@@ -2,3 +2,7 @@ pub mod Trees
 pub mod Grammar
 pub mod Expressions
 pub mod Reading
+pub mod Bytes
+pub mod Words
+pub mod View
+pub mod Gives

@@ -1,5 +1,5 @@
 -- Reads the statements of a template from its segments, one segment after the other.
-use Rattle.std.specs.Prelude.{◌≡◌, ℕ, suc, ◌+◌, Bool, true, false, List, [], ◌∷◌, length, codes, encode_utf8_all, bytes_eq, if◌then◌else◌, nat_le, Result, Ok, Err}
+use Rattle.std.specs.Prelude.{ℕ, suc, ◌+◌, List, [], ◌∷◌, length, codes, encode_utf8_all, bytes_eq, if◌then◌else◌, nat_le, Result, Ok, Err}
 use Rattle.jt_scan.specs.declared.segment.Kind.TheVariants as kind
 use Rattle.jt_scan.specs.Cut as cut
 use Rattle.jt_scan.specs.Cut.{Token, Segment}

@@ -1,2 +1,13 @@
 //! Trees of templates.
 #![tactic(auto)]
+
+mod error;
+mod expression;
+mod parser;
+#[cfg(test)]
+mod tests;
+mod tree;
+
+pub use error::ParseError;
+pub use parser::{MAX_LEVELS, parse};
+pub use tree::{Expr, Literal, Stmt, Template};

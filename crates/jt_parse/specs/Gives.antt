@@ -1,0 +1,62 @@
+-- What the functions of the parser give, and what a refusal says.
+use Rattle.std.specs.Prelude.{◌≡◌, ℕ, ◌<◌, List, map, reverse, Option, Some, None, Result, Ok, Err}
+use Rattle.jt_scan.specs.Cut.{Segment}
+use Rattle.jt_parse.specs.Trees as trees
+use Rattle.jt_parse.specs.Trees.{Body, Branches, body_levels}
+use Rattle.jt_parse.specs.Grammar.{Forms}
+use Rattle.jt_parse.specs.Expressions.{Fault, syntax, deep}
+use Rattle.jt_parse.specs.Reading as reading
+use Rattle.jt_parse.specs.Reading.{State, state, Frame}
+use Rattle.jt_parse.specs.View.{expr_view, body_view, branches_view, body_of}
+use Rattle.jt_parse.specs.declared.error.ParseError.{ParseError}
+use Rattle.jt_parse.specs.declared.error.ParseError.TheVariants as e
+use Rattle.jt_parse.specs.declared.tree.Expr.{Expr}
+use Rattle.jt_parse.specs.declared.tree.Template.{Template}
+use Rattle.jt_parse.specs.declared.parser.Frame.{Frame as Open}
+use Rattle.jt_parse.specs.declared.parser.Parser.{Parser}
+
+-- a refusal is the reader's, or want of memory
+abbrev pub Refuses : {A : Type 0} → Result A Fault → ParseError → Type 0
+Refuses o (e.Syntax line) = o ≡ Err syntax
+Refuses o (e.TooDeep line) = o ≡ Err deep
+Refuses o (e.UnknownFilter line) = ⊥
+Refuses o (e.UnknownTest line) = ⊥
+Refuses o e.NoMemory = Unit {0}
+
+abbrev pub GivesExpr : Result trees.Expr Fault → Result Expr ParseError → Type 0
+GivesExpr o (Ok x) = o ≡ Ok (expr_view x)
+GivesExpr o (Err f) = Refuses o f
+
+-- the branch that is being read, or the else part
+abbrev pub frame_by : Body → Branches → Option (ℕ × Expr) → Frame
+frame_by before done (Some p) = reading.in_branch before done p.0 (expr_view p.1)
+frame_by before done None = reading.in_else before done
+
+abbrev pub frame_view : Open → Frame
+frame_view f = frame_by (body_view f.before.items) (branches_view f.branches.items) f.open
+
+-- the last frame is the innermost
+abbrev pub frames_view : List Open → List Frame
+frames_view fs = reverse (map frame_view fs)
+
+abbrev pub state_view : Parser → State
+state_view p = state (body_view p.body.items) (frames_view p.frames.items)
+
+abbrev pub GivesState : Result State Fault → Result (Unit {0}) ParseError → Parser → Type 0
+GivesState o (Ok u) new = o ≡ Ok (state_view new)
+GivesState o (Err f) new = Refuses o f
+
+abbrev pub GivesTemplate : Result Body Fault → Result Template ParseError → Type 0
+GivesTemplate o (Ok t) = o ≡ Ok (body_of t)
+GivesTemplate o (Err f) = Refuses o f
+
+-- what a refusal says of the segments
+abbrev pub IsRefusal : ParseError → List Segment → Type 0
+-- no tree is spelled so
+IsRefusal (e.Syntax line) ss = (b : Body) → Forms b ss → ⊥
+-- each tree that is spelled so has more than 100 levels
+IsRefusal (e.TooDeep line) ss = (b : Body) → Forms b ss → 100 < body_levels b
+IsRefusal (e.UnknownFilter line) ss = ⊥
+IsRefusal (e.UnknownTest line) ss = ⊥
+-- a growth was refused
+IsRefusal e.NoMemory ss = Unit {0}
