@@ -6,3 +6,4 @@ pub mod Resolve
 pub mod View
 pub mod Names
 pub mod Rules
+pub mod Scoped

@@ -2,9 +2,14 @@
 use Rattle.std.specs.Prelude.{◌≡◌, ℕ, ◌≤◌, ◌<◌, Bool, true, false, ◌||◌, List, length, codes}
 use Rattle.std.specs.List.{list_any}
 use Rattle.std.specs.Str.{bytes_eq}
-use Rattle.jt_parse.specs.Trees.{Text}
+use Rattle.jt_parse.specs.Trees.{Text, Body}
+use Rattle.jt_scopes.specs.Resolve.{body_names, ascending}
 use Rattle.jt_scopes.specs.declared.error.ScopeError.{ScopeError}
 use Rattle.jt_scopes.specs.declared.error.ScopeError.TheVariants as error
+
+-- the names that a template reads, each once
+abbrev pub names_read : Body → List Text
+names_read b = ascending (body_names b)
 
 -- a name is among these
 abbrev pub has : Text → List Text → Bool

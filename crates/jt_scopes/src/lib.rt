@@ -4,7 +4,9 @@
 mod error;
 mod names;
 mod program;
+mod resolving;
 mod rules;
 
 pub use error::ScopeError;
 pub use program::{Resolved, SExpr, SStmt};
+pub use resolving::resolve;
