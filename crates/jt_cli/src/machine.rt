@@ -28,12 +28,22 @@ impl From<io::Error> for FileError {
 }
 
 impl From<AllocError> for FileError {
+    ghost use Rattle.std.specs.Prelude.{◌≡◌};
+    ghost use Rattle.jt_cli.specs.declared.files.FileError.TheVariants.{NoMemory};
+
+    ghost from_gives = { λ _ e. e ≡ NoMemory };
+
     fn from(_error: AllocError) -> FileError {
         FileError::NoMemory
     }
 }
 
 impl<T: Drop> From<AllocFailed<T>> for FileError {
+    ghost use Rattle.std.specs.Prelude.{◌≡◌};
+    ghost use Rattle.jt_cli.specs.declared.files.FileError.TheVariants.{NoMemory};
+
+    ghost from_gives = { λ _ e. e ≡ NoMemory };
+
     fn from(_error: AllocFailed<T>) -> FileError {
         FileError::NoMemory
     }
