@@ -19,7 +19,7 @@ use Rattle.jt_image.specs.Code.{Constant, undefined, nothing, truth_value, numbe
 use Rattle.jt_image.specs.Spelling.{magic, version, name_bytes, constant_bytes, header_bytes, wire_of, wire_bytes, instruction_bytes, spelling}
 use Rattle.jt_image.specs.IsCode.{IsName, Ascend, AreDistinct, IsConstant, IsInstruction, IsSection, total_len, HasEntry, IsCode, max_locals, max_instructions, max_bytes}
 use Rattle.jt_image.specs.Reading.{◌>>=◌, Gives, check, number_at, byte_at, text_at, is_used, may_follow, slot_at, name_text_at, name_at, names_at, long_text_at, constant_of, constant_at, constants_at, Header, header_total, is_first, parameters_at, kind_at, locals_at, len_at, header_of, header_at, headers_at, known, known_of, instruction_of, instruction_at, instructions_at, section_of, section_at, sections_at, magic_at, start_at, units_at, all_names_at, all_constants_at, code_of}
-use Rattle.jt_image.proofs.Parts.{header_total-push, is_first-push, is_used-push}
+use Rattle.jt_image.proofs.ReaderParts.{header_total-push, is_first-push, is_used-push}
 use Rattle.jt_image.proofs.Found.{IsBytes, all_at, wide16, wide32, wide64, AllGood}
 use Rattle.jt_image.proofs.Sound.{wire_from, good_instruction, IsFree, IsNext, IsNamed, short_bytes, long_bytes, IsPlain, IsHeader, head_bytes, code_bytes, head_of, HasCode}
 use Rattle.jt_image.proofs.Whole.{IsSpelledBy, code_found, may_follow-push, AreNames, good_constant, AreConstants, good_header, HasFirst, AreUnits, units_bytes, head_spelled, length-map_of}
@@ -56,11 +56,11 @@ name_again globals small before n rest h =
     (bind_again (name_text_at before (short_bytes n.text ++ rest)) (λ t. Ok (record { slot = n.slot; text = t.0 }, t.1)) n.text rest (Ok (n, rest)) (name_text_again before n.text rest h.next) refl)
 
 -- none of these slots has a name yet
-abbrev IsClear : List Name → List Name → Type 0
+abbrev pub IsClear : List Name → List Name → Type 0
 IsClear before ns = AllByRecursion (λ m. is_used m.slot before ≡ false) ns
 
 -- the first of these may stand behind those before
-abbrev Starts : List Name → List Name → Type 0
+abbrev pub Starts : List Name → List Name → Type 0
 Starts before [] = Unit {0}
 Starts before (n ∷ ns) = may_follow before n.text ≡ true
 
@@ -82,18 +82,18 @@ rest_ascends : (n : Name) (ns : List Name) → Ascend (n ∷ ns) → Ascend ns
 rest_ascends n [] h = tt
 rest_ascends n (m ∷ ns) h = h.1
 
-named : (globals : ℕ) (before ns : List Name) → AllByRecursion (IsName globals) ns → Ascend ns → AreDistinct ns → IsClear before ns → Starts before ns → AllGood (IsNamed globals) before ns
+pub named : (globals : ℕ) (before ns : List Name) → AllByRecursion (IsName globals) ns → Ascend ns → AreDistinct ns → IsClear before ns → Starts before ns → AllGood (IsNamed globals) before ns
 named globals before [] all up distinct clear starts = tt
 named globals before (n ∷ ns) all up distinct clear starts = (
   record { slot = record { below = all.0.slot; free = clear.0 }; next = record { fits = all.0.fits; utf8 = all.0.utf8; follows = starts } },
   named globals (before ++ n ∷ []) ns all.1 (rest_ascends n ns up) distinct.1 (still_clear before n ns clear.1 distinct.0) (next_starts before n ns up),
 )
 
-all_clear : (ns : List Name) → IsClear [] ns
+pub all_clear : (ns : List Name) → IsClear [] ns
 all_clear [] = tt
 all_clear (n ∷ ns) = (refl, all_clear ns)
 
-first_starts : (globals : ℕ) (ns : List Name) → AllByRecursion (IsName globals) ns → Starts [] ns
+pub first_starts : (globals : ℕ) (ns : List Name) → AllByRecursion (IsName globals) ns → Starts [] ns
 first_starts globals [] all = tt
 first_starts globals (n ∷ ns) all = lt-ltb _ _ all.0.some
 

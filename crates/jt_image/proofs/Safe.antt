@@ -19,7 +19,7 @@ use Rattle.jt_image.specs.Typed.{Shapes, Equal, HasSame, IsFineBy, IsTypedBy, Is
 use Rattle.jt_image.specs.Config as config
 use Rattle.jt_image.specs.Config.{Budget, Outcome, Entry, value, frame, capture, kind_of, State, Caller, Machine, Config}
 use Rattle.jt_image.specs.Step as step
-use Rattle.jt_image.specs.Step.{Demand, no_demand, pushing, emitting, Plain, goes, faults_by, broken, with_entries, push, on_value, put, put_printed, slot, constant_value, text_of, plain, Action, ends, faulty, wrong, at_point, straight, jump_on, Given, nothing, result, disorder, given_by, back_to, action, in_tables, strict, cost, fetch}
+use Rattle.jt_image.specs.Step.{Demand, no_demand, pushing, emitting, Plain, goes, faults_by, broken, with_entries, push, on_value, put, put_printed, shown, slot, constant_value, text_of, plain, Action, ends, faulty, wrong, at_point, straight, jump_on, Given, nothing, result, disorder, given_by, back_to, action, in_tables, strict, cost, fetch}
 use Rattle.jt_image.specs.Run.{Next, Goes, Ends, Wrong, spared, unless, spends, next_at, next}
 
 -- the kinds of the entries
@@ -211,8 +211,8 @@ module _ (k : Code) (m : Machine) (g : IsFit k m) (l : Leads) (agree : Agrees k 
   emit_fine a e =
       let b = require_ok _ _ _ l e in
       let q = pops_ok s (λ r. goes_on g.unit m.point r) l b.1 in
-      in_place _ _ b.0 (taken q.0 broken (λ t fs. put_printed (printed t) (with_entries m.state fs)) (λ x. Fine (straight x m)) q.1
-      (λ t fs is kinds count sized. printed_fine (printed t) fs (rw count g.buffers) (rw kinds (goes_on_ok k g.unit g.shapes m.point q.0 l q.2 agree)) (λ n z. (sized n z).1)))
+      in_place _ _ b.0 (taken q.0 broken (λ t fs. put_printed (shown (eqb a 1) t) (with_entries m.state fs)) (λ x. Fine (straight x m)) q.1
+        (λ t fs is kinds count sized. printed_fine (shown (eqb a 1) t) fs (rw count g.buffers) (rw kinds (goes_on_ok k g.unit g.shapes m.point q.0 l q.2 agree)) (λ n z. (sized n z).1)))
 
   data_fine : (c : ℕ) → effect k g.unit m.point (op.Data c) s ≡ Ok l → Fine (strict k g.unit (op.Data c) m)
   data_fine c e =

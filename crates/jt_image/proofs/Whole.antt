@@ -16,7 +16,7 @@ use Rattle.jt_image.specs.Code.{Constant, Name, Section, Code}
 use Rattle.jt_image.specs.Spelling.{magic, version, name_bytes, constant_bytes, header_bytes, spelling}
 use Rattle.jt_image.specs.IsCode.{IsName, Ascend, AreDistinct, IsConstant, IsSection, total_len, IsCode, max_instructions, max_bytes}
 use Rattle.jt_image.specs.Reading.{◌>>=◌, check, number_at, is_used, may_follow, name_at, names_at, constant_at, constants_at, Header, header_total, is_first, header_at, headers_at, sections_at, magic_at, start_at, units_at, all_names_at, all_constants_at, code_of}
-use Rattle.jt_image.proofs.Parts.{header_total-push}
+use Rattle.jt_image.proofs.ReaderParts.{header_total-push}
 use Rattle.jt_image.proofs.Found.{AllOk, all_map, bind_from, check_all, unless_all, IsBytes, IsBytes-drop, Takes, Takes-then, Takes-as, Found, wide16, number_found, AllGood, Many, many_found, Each}
 use Rattle.jt_image.proofs.Sound.{IsNamed, name_found, constant_found, IsHeader, head_bytes, header_found, code_bytes, head_of, HasCode, sections_found}
 
@@ -37,7 +37,7 @@ follows_some [] t e = ltb-true _ _ e
 follows_some (n ∷ []) t e = above_some n.text t e
 follows_some (n ∷ m ∷ ns) t e = follows_some (m ∷ ns) t e
 
-are_names : (globals : ℕ) (before ns : List Name) → AllGood (IsNamed globals) before ns → AllByRecursion (IsName globals) ns
+pub are_names : (globals : ℕ) (before ns : List Name) → AllGood (IsNamed globals) before ns → AllByRecursion (IsName globals) ns
 are_names globals before [] h = tt
 are_names globals before (n ∷ ns) h =
     (record { slot = h.0.slot.below; some = follows_some before n.text h.0.next.follows; fits = h.0.next.fits; utf8 = h.0.next.utf8 }, are_names globals (before ++ n ∷ []) ns h.1)
@@ -46,7 +46,7 @@ ascend_from : (globals : ℕ) (n : Name) (before ns : List Name) → AllGood (Is
 ascend_from globals n before [] h = tt
 ascend_from globals n before (m ∷ ns) h = (sym (may_follow-push before n m.text) ∙ h.0.next.follows, ascend_from globals m (before ++ n ∷ []) ns h.1)
 
-ascend : (globals : ℕ) (ns : List Name) → AllGood (IsNamed globals) [] ns → Ascend ns
+pub ascend : (globals : ℕ) (ns : List Name) → AllGood (IsNamed globals) [] ns → Ascend ns
 ascend globals [] h = tt
 ascend globals (n ∷ ns) h = ascend_from globals n [] ns h.1
 
@@ -68,7 +68,7 @@ apart globals n before after (m ∷ ns) h = (
   apart globals n before (after ++ m ∷ []) ns (subst (λ (b : List Name). AllGood (IsNamed globals) b ns) (append_assoc before (n ∷ after) (m ∷ [])) h.1),
 )
 
-distinct : (globals : ℕ) (before ns : List Name) → AllGood (IsNamed globals) before ns → AreDistinct ns
+pub distinct : (globals : ℕ) (before ns : List Name) → AllGood (IsNamed globals) before ns → AreDistinct ns
 distinct globals before [] h = tt
 distinct globals before (n ∷ ns) h = (apart globals n before [] ns h.1, distinct globals (before ++ n ∷ []) ns h.1)
 

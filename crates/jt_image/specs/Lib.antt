@@ -12,3 +12,4 @@ pub mod Config
 pub mod Step
 pub mod Run
 pub mod Enough
+pub mod Parts

@@ -1,15 +1,16 @@
 -- What contracts see of the parts of an image.
-use Rattle.std.specs.Prelude.{List, map, string_bytes}
+use Rattle.std.specs.Prelude.{ℕ, List, map, String, string_bytes}
+use Rattle.std.specs.declared.alloc.Global.{Global}
 use Rattle.jt_image.specs.Code as code
-use Rattle.jt_image.specs.declared.image.Name.{Name}
 use Rattle.jt_image.specs.declared.image.Constant.{Constant}
 use Rattle.jt_image.specs.declared.image.Constant.TheVariants as constant
 use Rattle.jt_image.specs.declared.image.Section.{Section}
 
-abbrev pub name_view : Name → code.Name
-name_view n = record { slot = n.slot; text = string_bytes n.text }
+-- a slot and its name
+abbrev pub name_view : ℕ × String Global → code.Name
+name_view n = record { slot = n.0; text = string_bytes n.1 }
 
-abbrev pub names_view : List Name → List code.Name
+abbrev pub names_view : List (ℕ × String Global) → List code.Name
 names_view ns = map name_view ns
 
 abbrev pub constant_view : Constant → code.Constant

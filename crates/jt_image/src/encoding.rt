@@ -6,7 +6,7 @@ ghost use Rattle.jt_image.specs.View.{name_view, names_view, constant_view, cons
 ghost use Rattle.jt_image.specs.IsCode.{IsConstant};
 ghost use Rattle.jt_image.specs.Spelling.{name_bytes, constant_bytes, header_bytes, wire_bytes, instruction_bytes, spelling};
 
-use crate::image::{Constant, Image, Name, Section};
+use crate::image::{Constant, Image, Section};
 use crate::instruction::Instruction;
 use crate::wire::Instr;
 use jt_value::NoMemory;
@@ -20,17 +20,17 @@ fn put_count(out: &mut Vec<u8>, count: usize) -> Result<(), NoMemory>
     Ok(())
 }
 
-fn put_name(out: &mut Vec<u8>, name: &Name) -> Result<(), NoMemory>
+fn put_name(out: &mut Vec<u8>, name: &(u16, String)) -> Result<(), NoMemory>
     requires { length (name_view name.now).text < 2 ^ 16 }
     ensures { OnOk result (out.new.items ≡ out.old.items ++ name_bytes (name_view name.now)) }
 {
-    out.extend_from_slice(&name.slot.to_le_bytes())?;
-    put_count(out, name.text.len())?;
-    out.extend_from_slice(name.text.as_bytes())?;
+    out.extend_from_slice(&name.0.to_le_bytes())?;
+    put_count(out, name.1.len())?;
+    out.extend_from_slice(name.1.as_bytes())?;
     Ok(())
 }
 
-fn put_names(out: &mut Vec<u8>, names: &[Name]) -> Result<(), NoMemory>
+fn put_names(out: &mut Vec<u8>, names: &[(u16, String)]) -> Result<(), NoMemory>
     requires { AllByRecursion (λ n. length n.text < 2 ^ 16) (names_view names.now) }
     ensures { OnOk result (out.new.items ≡ out.old.items ++ flat_map name_bytes (names_view names.now)) }
 {

@@ -7,13 +7,6 @@ use crate::code::{Code, ConstantRef, UnitHeader};
 use crate::instruction::Instruction;
 use std::marker::Model;
 
-/// The name of a global, and its slot.
-#[derive(Drop)]
-pub(crate) struct Name {
-    pub(crate) slot: u16,
-    pub(crate) text: String,
-}
-
 /// A constant.
 #[derive(Drop)]
 pub enum Constant {
@@ -34,11 +27,11 @@ pub(crate) struct Section {
     pub(crate) code: Vec<Instruction>,
 }
 
-/// An image.
+/// An image. Its names are slots of globals, each with its name.
 #[derive(Drop)]
 pub struct Image {
     pub(crate) globals: u16,
-    pub(crate) names: Vec<Name>,
+    pub(crate) names: Vec<(u16, String)>,
     pub(crate) constants: Vec<Constant>,
     pub(crate) units: Vec<Section>,
     pub(crate) instructions: u32,
@@ -71,7 +64,7 @@ impl Code for Image {
 
     fn name(&self, index: usize) -> Option<(u16, &str)> {
         match self.names.get(index) {
-            Some(name) => Some((name.slot, name.text.as_str())),
+            Some(name) => Some((name.0, name.1.as_str())),
             None => None,
         }
     }

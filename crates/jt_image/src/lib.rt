@@ -1,6 +1,7 @@
 //! Images: codes as bytes, and what a code means.
 #![tactic(auto)]
 
+mod assembling;
 mod code;
 mod decoding;
 mod encoding;
@@ -9,10 +10,12 @@ mod fields;
 mod image;
 mod instruction;
 mod kind;
+mod parts;
 mod tables;
 mod units;
 mod wire;
 
+pub use assembling::assemble;
 pub use code::{Code, ConstantRef, UnitHeader};
 pub use decoding::decode;
 pub use encoding::encode;
@@ -20,6 +23,7 @@ pub use error::ImageError;
 pub use image::{Constant, Image};
 pub use instruction::Instruction;
 pub use kind::{Flaw, Kind};
+pub use parts::{Parts, Unit};
 pub use wire::Instr;
 
 #[cfg(test)]

@@ -6,7 +6,7 @@ ghost use Rattle.jt_image.specs.Reading.{Gives, IsTable, is_used, may_follow, sl
 
 use crate::error::ImageError;
 use crate::fields::{long_text_at, text_at, u8_at, u16_at, u64_at};
-use crate::image::{Constant, Name};
+use crate::image::Constant;
 use std::alloc::Global;
 
 /// A slot that is below the globals and has no name yet.
@@ -14,7 +14,7 @@ use std::alloc::Global;
 fn slot_at<'a>(
     globals: u16,
     used: &[bool],
-    before: &[Name],
+    before: &[(u16, String)],
     bytes: &'a [u8],
 ) -> Result<(u16, &'a [u8]), ImageError>
     requires { IsTable used.now globals (names_view before.now) }
@@ -31,17 +31,20 @@ fn slot_at<'a>(
     Ok((slot, rest))
 }
 
-fn may_follow(names: &[Name], text: &str) -> bool
+pub(crate) fn may_follow(names: &[(u16, String)], text: &str) -> bool
     ensures { result ≡ may_follow (names_view names.now) text.now }
 {
     match names {
         [] => !text.is_empty(),
-        [.., last] => last.text.as_str() < text,
+        [.., last] => last.1.as_str() < text,
     }
 }
 
 #[tactic(auto, unfolding(crate::specs::Reading::name_text_at))]
-fn name_text_at<'a>(before: &[Name], bytes: &'a [u8]) -> Result<(&'a str, &'a [u8]), ImageError>
+fn name_text_at<'a>(
+    before: &[(u16, String)],
+    bytes: &'a [u8],
+) -> Result<(&'a str, &'a [u8]), ImageError>
     ensures { Gives (λ x. (x.0.now, x.1.now)) result (name_text_at (names_view before.now) bytes.now) }
 {
     let (len, rest) = u16_at(bytes)?;
@@ -57,17 +60,17 @@ fn name_at<'a>(
     alloc: Global,
     globals: u16,
     used: &[bool],
-    before: &[Name],
+    before: &[(u16, String)],
     bytes: &'a [u8],
-) -> Result<(Name, &'a [u8]), ImageError>
+) -> Result<((u16, String), &'a [u8]), ImageError>
     requires { IsTable used.now globals (names_view before.now) }
     ensures gives { Gives (λ x. (name_view x.0, x.1.now)) result (name_at globals (names_view before.now) bytes.now) }
-    ensures below { IfOk result (λ x. x.0.slot < globals) }
+    ensures below { IfOk result (λ x. x.0.0 < globals) }
 {
     let (slot, rest) = slot_at(globals, used, before, bytes)?;
     let (text, rest) = name_text_at(before, rest)?;
     let text = String::from_str(alloc, text)?;
-    Ok((Name { slot, text }, rest))
+    Ok(((slot, text), rest))
 }
 
 fn names_at(
@@ -75,7 +78,7 @@ fn names_at(
     globals: u16,
     count: u16,
     bytes: &[u8],
-) -> Result<(Vec<Name>, &[u8]), ImageError>
+) -> Result<(Vec<(u16, String)>, &[u8]), ImageError>
     ensures { Gives (λ x. (names_view x.0.items, x.1.now)) result (names_at globals count bytes.now) }
 {
     let mut names = Vec::new(alloc);
@@ -83,7 +86,7 @@ fn names_at(
     let mut rest = bytes;
     'names: for _ in 0..count {
         let (name, after) = name_at(alloc, globals, &used, &names, rest)?;
-        used[usize::from(name.slot)] = true;
+        used[usize::from(name.0)] = true;
         names.push(name)?;
         rest = after;
     }
@@ -96,7 +99,7 @@ pub(crate) fn all_names_at(
     alloc: Global,
     globals: u16,
     bytes: &[u8],
-) -> Result<(Vec<Name>, &[u8]), ImageError>
+) -> Result<(Vec<(u16, String)>, &[u8]), ImageError>
     ensures { Gives (λ x. (names_view x.0.items, x.1.now)) result (all_names_at globals bytes.now) }
 {
     let (count, rest) = u16_at(bytes)?;

@@ -1,5 +1,6 @@
 //! The image of 44 bytes that prints `x`, whole and damaged.
 use super::*;
+use std::alloc::Global;
 use std::test::*;
 
 const X: [u8; 44] = [
@@ -74,4 +75,121 @@ fn one_byte_changed(rt: HostRuntime) {
         }
         assert_eq!(rt; decode(rt.alloc(), &bytes).err(), Some(want), "{at}");
     }
+}
+
+const RETURN: Instr = Instr {
+    op: 28,
+    a: 0,
+    b: 0,
+    c: 0,
+};
+
+fn text_unit(alloc: Global, numbers: (u8, u8, u16), last: Instr) -> Result<Unit, Fail> {
+    let data = Instr {
+        op: 9,
+        a: 0,
+        b: 0,
+        c: 0,
+    };
+    Ok(Unit {
+        parameters: numbers.0,
+        kind: numbers.1,
+        locals: numbers.2,
+        code: vec![in alloc; data, last]?,
+    })
+}
+
+#[test]
+fn assembles_x(rt: HostRuntime) -> Result<(), Fail> {
+    let alloc = rt.alloc();
+    let parts = Parts {
+        globals: 0,
+        names: Vec::new(alloc),
+        constants: vec![in alloc; Constant::Text(String::from_str(alloc, "x")?)]?,
+        units: vec![in alloc; text_unit(alloc, (0, 0, 0), RETURN)?]?,
+    };
+    let image = assemble(alloc, parts).ok().ok_or("the parts are a code")?;
+    assert_eq!(rt; image.instructions(), 2);
+    let bytes = encode(alloc, &image).ok().ok_or("an image has bytes")?;
+    assert_eq!(rt; bytes.as_slice(), X.as_slice());
+    Ok(())
+}
+
+#[test]
+fn refuses_and_hands_back(rt: HostRuntime) -> Result<(), Fail> {
+    let unknown = Instr {
+        op: 29,
+        a: 0,
+        b: 0,
+        c: 0,
+    };
+    let unused = Instr {
+        op: 28,
+        a: 0,
+        b: 0,
+        c: 1,
+    };
+    let names = [(1, "a"), (0, "b")];
+    let rows = [
+        (names, (0, 0, 4096), RETURN, None),
+        (names, (0, 0, 0), unknown, Some(ImageError::BadOpcode)),
+        (names, (0, 0, 0), unused, Some(ImageError::BadOpcode)),
+        (names, (0, 0, 4097), RETURN, Some(ImageError::LimitPassed)),
+        (names, (1, 0, 1), RETURN, Some(ImageError::BadTable)),
+        (names, (0, 1, 0), RETURN, Some(ImageError::BadTable)),
+        (
+            [(1, "a"), (2, "b")],
+            (0, 0, 0),
+            RETURN,
+            Some(ImageError::BadTable),
+        ),
+        (
+            [(1, "a"), (1, "b")],
+            (0, 0, 0),
+            RETURN,
+            Some(ImageError::BadTable),
+        ),
+        (
+            [(1, "b"), (0, "a")],
+            (0, 0, 0),
+            RETURN,
+            Some(ImageError::BadTable),
+        ),
+        (
+            [(1, "a"), (0, "a")],
+            (0, 0, 0),
+            RETURN,
+            Some(ImageError::BadTable),
+        ),
+        (
+            [(1, ""), (0, "a")],
+            (0, 0, 0),
+            RETURN,
+            Some(ImageError::BadTable),
+        ),
+    ];
+    let alloc = rt.alloc();
+    for (names, numbers, last, want) in rows {
+        let [first, second] = names;
+        let parts = Parts {
+            globals: 2,
+            names: vec![in alloc;
+                (first.0, String::from_str(alloc, first.1)?),
+                (second.0, String::from_str(alloc, second.1)?),
+            ]?,
+            constants: Vec::new(alloc),
+            units: vec![in alloc; text_unit(alloc, numbers, last)?]?,
+        };
+        match assemble(alloc, parts) {
+            Ok(image) => {
+                assert_eq!(rt; want, None);
+                assert_eq!(rt; image.names(), 2);
+            }
+            Err((parts, error)) => {
+                assert_eq!(rt; Some(error), want);
+                assert_eq!(rt; (parts.names.len(), parts.units.len()), (2, 1));
+            }
+        }
+    }
+    Ok(())
 }

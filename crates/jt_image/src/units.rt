@@ -13,9 +13,9 @@ use crate::instruction::Instruction;
 use crate::wire::Instr;
 use std::alloc::Global;
 
-const MAX_LOCALS: u16 = 4096;
+pub(crate) const MAX_LOCALS: u16 = 4096;
 
-const MAX_INSTRUCTIONS: u32 = 262_144;
+pub(crate) const MAX_INSTRUCTIONS: u32 = 262_144;
 
 /// The numbers of a unit.
 #[derive(Drop)]

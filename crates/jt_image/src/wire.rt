@@ -1,6 +1,7 @@
 //! Instructions as they stand in an image: the one table of opcodes.
-ghost use Rattle.std.specs.Prelude.{◌≡◌, ◌≢◌, MatchOption};
+ghost use Rattle.std.specs.Prelude.{◌≡◌, ◌≢◌, MatchOption, IfSome};
 ghost use Rattle.jt_image.specs.Spelling.{wire_of};
+ghost use Rattle.jt_image.specs.IsCode.{IsInstruction};
 ghost use Rattle.jt_image.specs.Reading.{uses_none, uses_a, uses_c, instruction_of};
 
 use crate::instruction::Instruction;
@@ -121,6 +122,8 @@ impl Instr {
         ensures table { result ≡ instruction_of self }
         // the one instruction with these fields
         ensures exact { MatchOption result ((i : Instruction) → wire_of i ≢ self) (λ i. wire_of i ≡ self) }
+        // its fields fit the wire's
+        ensures fits { IfSome result (λ i. IsInstruction i) }
     {
         self.by_opcode()
     }

@@ -1,5 +1,5 @@
 use Rattle.std.proofs.Common.{arith}
-use Rattle.jt_image.proofs.Parts.{text_ok, text_bad}
+use Rattle.jt_image.proofs.ReaderParts.{text_ok, text_bad}
 use Rattle.jt_image.proofs.fields.text_at.Goals as goal
 
 pub returns-in-Ok : goal.returns-in-Ok

@@ -1,5 +1,5 @@
 use Rattle.std.proofs.Common.{◌∙◌, sym, arith}
-use Rattle.jt_image.proofs.Parts.{may_follow_last}
+use Rattle.jt_image.proofs.ReaderParts.{may_follow_last}
 use Rattle.jt_image.proofs.tables.may_follow.Goals as goal
 
 pub returns-in-len1-up : goal.returns-in-len1-up

@@ -4,7 +4,7 @@ use Rattle.std.proofs.lemmas.List.{map_push}
 use Rattle.jt_image.specs.View.{name_view, names_view}
 use Rattle.jt_image.specs.Reading.{many_at, name_at}
 use Rattle.jt_image.proofs.Loop.{goes_on, ends, is_done}
-use Rattle.jt_image.proofs.Parts.{IsTable-push}
+use Rattle.jt_image.proofs.ReaderParts.{IsTable-push}
 use Rattle.jt_image.proofs.tables.names_at.Goals as goal
 
 pub returns-in_err-name : goal.returns-in_err-name

@@ -4,7 +4,7 @@ use Rattle.std.proofs.lemmas.List.{map_push}
 use Rattle.jt_image.specs.HeaderView.{header_view, headers_view}
 use Rattle.jt_image.specs.Reading.{many_at, header_at}
 use Rattle.jt_image.proofs.Loop.{goes_on, ends, is_done}
-use Rattle.jt_image.proofs.Parts.{header_total-push, is_first-push}
+use Rattle.jt_image.proofs.ReaderParts.{header_total-push, is_first-push}
 use Rattle.jt_image.proofs.units.headers_at.Goals as goal
 
 pub returns-in_err-header-clause-gives : goal.returns-in_err-header-clause-gives

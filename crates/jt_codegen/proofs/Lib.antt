@@ -1,0 +1,5 @@
+pub mod Correct
+pub mod Follows
+pub mod Lowered
+pub mod Typed
+pub mod Whole

@@ -1,0 +1,2 @@
+//! Templates to images.
+#![tactic(auto)]

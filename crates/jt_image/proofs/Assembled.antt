@@ -1,0 +1,248 @@
+-- When parts are a code that has a spelling.
+use Rattle.std.proofs.Common.{◌≡◌, ℕ, ◌+◌, ◌-◌, ◌*◌, min, ◌<◌, ◌≤◌, ◌^◌, Bool, true, false, List, [], ◌∷◌, ◌++◌, length, Option, Some, None, Result, Ok, Err, refl, sym, ap, subst, ◌∙◌, arith, map}
+use Rattle.std.specs.Prelude.{◌&&◌, ◌↔◌, IsTrue, not, nat_lt, IsUtf8, IfOk, MatchResult, slice_get}
+use Rattle.std.specs.Int.{w16, w32, w64, to_le_bytes, cast_unsigned}
+use Rattle.std.specs.List.{flat_map, AllByRecursion}
+use Rattle.std.proofs.lemmas.List.{length-append}
+use Rattle.std.proofs.lemmas.List.Concat.{flat_map-cons}
+use Rattle.std.proofs.lemmas.Bool.{lt-ltb, ltb-true}
+use Rattle.jt_image.specs.declared.error.ImageError.{ImageError}
+use Rattle.jt_image.specs.declared.error.ImageError.TheVariants.{BadMagic, BadVersion, Truncated, Trailing, BadText, BadOpcode, BadTable, LimitPassed, NoMemory}
+use Rattle.jt_image.specs.declared.instruction.Instruction.{Instruction}
+use Rattle.jt_image.specs.declared.instruction.Instruction.TheVariants as op
+use Rattle.jt_image.specs.declared.wire.Instr.{Instr}
+use Rattle.jt_image.specs.Code.{Constant, undefined, nothing, truth_value, number, text, markup, Name, Section, Code}
+use Rattle.jt_image.specs.Spelling.{magic, version, name_bytes, constant_bytes, header_bytes, wire_of, instruction_bytes, spelling}
+use Rattle.jt_image.specs.IsCode.{IsName, Ascend, AreDistinct, IsConstant, IsInstruction, IsSection, total_len, HasEntry, IsCode, max_locals, max_instructions, max_bytes}
+use Rattle.jt_image.specs.Reading.{is_used, may_follow}
+use Rattle.jt_image.specs.Parts.{AreInOrder, IsUnitInOrder, HasTables, KeepsLimits, IsRefusal, Finds, IsWritable, IsHeld, Starts, IsShort}
+use Rattle.jt_image.proofs.Found.{AllGood, wide16, wide32, wide64}
+use Rattle.jt_image.proofs.Sound.{IsNamed, code_bytes}
+use Rattle.jt_image.proofs.Whole.{are_names, ascend, distinct, HasFirst}
+use Rattle.jt_image.proofs.Complete.{named, all_clear, first_starts}
+use Rattle.jt_image.proofs.Passed.{all_weaker, all_both}
+
+-- ---- instructions
+
+pub wire_fits : (w : Instr) (i : Instruction) → w.a < 2 ^ 8 → w.c < 2 ^ 32 → wire_of i ≡ w → IsInstruction i
+wire_fits w (op.Const n) a c e = omega (arith, ap (λ (v : Instr). v.c) e)
+wire_fits w (op.GLoad n) a c e = omega (arith, ap (λ (v : Instr). v.c) e)
+wire_fits w (op.GStore n) a c e = omega (arith, ap (λ (v : Instr). v.c) e)
+wire_fits w op.Drop a c e = tt
+wire_fits w op.Dup a c e = tt
+wire_fits w (op.Emit n) a c e = omega (arith, ap (λ (v : Instr). v.a) e)
+wire_fits w (op.Data n) a c e = omega (arith, ap (λ (v : Instr). v.c) e)
+wire_fits w (op.Jump n) a c e = omega (arith, ap (λ (v : Instr). v.c) e)
+wire_fits w (op.JumpIfFalse n) a c e = omega (arith, ap (λ (v : Instr). v.c) e)
+wire_fits w (op.JumpIfTrue n) a c e = omega (arith, ap (λ (v : Instr). v.c) e)
+wire_fits w op.Return a c e = tt
+
+-- ---- how long a spelling is
+
+pub name_len : (n : Name) → length (name_bytes n) ≡ length n.text + 4
+name_len n = omega (arith, length-append (to_le_bytes w16 n.slot) (to_le_bytes w16 (length n.text) ++ n.text), length-append (to_le_bytes w16 (length n.text)) n.text, wide16.len n.slot, wide16.len (length n.text))
+
+pub text_len : (t : List ℕ) (tag : ℕ) → length (tag ∷ (to_le_bytes w32 (length t) ++ t)) ≡ length t + 5
+text_len t tag = omega (arith, length-append (to_le_bytes w32 (length t)) t, wide32.len (length t))
+
+pub number_len : (n : ℕ) (tag : ℕ) → length (tag ∷ to_le_bytes w64 n) ≡ 9
+number_len n tag = omega (arith, wide64.len n)
+
+header_len : (u : Section) → length (header_bytes u) ≡ 8
+header_len u = omega (arith, length-append (to_le_bytes w16 u.locals) (to_le_bytes w32 (length u.code)), wide16.len u.locals, wide32.len (length u.code))
+
+headers_len : (us : List Section) → length (flat_map header_bytes us) ≡ 8 * length us
+headers_len [] = omega arith
+headers_len (u ∷ us) = omega (arith, ap length (flat_map-cons header_bytes u us), length-append (header_bytes u) (flat_map header_bytes us), header_len u, headers_len us)
+
+instruction_len : (i : Instruction) → length (instruction_bytes i) ≡ 8
+instruction_len i = let w = wire_of i in omega (arith, length-append (to_le_bytes w16 w.b) (to_le_bytes w32 w.c), wide16.len w.b, wide32.len w.c)
+
+instructions_len : (is : List Instruction) → length (flat_map instruction_bytes is) ≡ 8 * length is
+instructions_len [] = omega arith
+instructions_len (i ∷ is) = omega (arith, ap length (flat_map-cons instruction_bytes i is), length-append (instruction_bytes i) (flat_map instruction_bytes is), instruction_len i, instructions_len is)
+
+codes_len : (us : List Section) → length (flat_map code_bytes us) ≡ 8 * total_len us
+codes_len [] = omega arith
+codes_len (u ∷ us) = omega (arith, ap length (flat_map-cons code_bytes u us), length-append (code_bytes u) (flat_map code_bytes us), instructions_len u.code, codes_len us)
+
+ten : (a b c d e f g h i j : List ℕ) → length (a ++ (b ++ (c ++ (d ++ (e ++ (f ++ (g ++ (h ++ (i ++ j))))))))) ≡ length a + (length b + (length c + (length d + (length e + (length f + (length g + (length h + (length i + length j))))))))
+ten a b c d e f g h i j = simp length-append
+
+pub spelled_len : (k : Code) → length (spelling k) ≡ 14 + (length (flat_map name_bytes k.names) + length (flat_map constant_bytes k.constants)) + 8 * (length k.units + total_len k.units)
+spelled_len k =
+    let parts = ten magic (to_le_bytes w16 version) (to_le_bytes w16 k.globals) (to_le_bytes w16 (length k.names)) (flat_map name_bytes k.names) (to_le_bytes w16 (length k.constants)) (flat_map constant_bytes k.constants) (to_le_bytes w16 (length k.units)) (flat_map header_bytes k.units) (flat_map code_bytes k.units) in
+    omega (arith, parts, wide16.len version, wide16.len k.globals, wide16.len (length k.names), wide16.len (length k.constants), wide16.len (length k.units), headers_len k.units, codes_len k.units)
+
+-- ---- names
+
+pub in_order : (globals : ℕ) (ns : List Name) → AllGood (IsNamed globals) [] ns → AreInOrder globals ns
+in_order globals ns h =
+    let all = are_names globals [] ns h in
+    record {
+      slots = all_weaker (IsName globals) (λ n. n.slot < globals) ns (λ n is. is.slot) all;
+      some = all_weaker (IsName globals) (λ n. 0 < length n.text) ns (λ n is. is.some) all;
+      ascend = ascend globals ns h;
+      distinct = distinct globals [] ns h;
+    }
+
+are_named : (globals : ℕ) (ns : List Name) → AllByRecursion IsShort ns → AllByRecursion (λ n. n.slot < globals) ns → AllByRecursion (λ n. 0 < length n.text) ns → AllByRecursion (IsName globals) ns
+are_named globals [] short slots some = tt
+are_named globals (n ∷ ns) short slots some = (record { slot = slots.0; some = some.0; fits = short.0.fits; utf8 = short.0.utf8 }, are_named globals ns short.1 slots.1 some.1)
+
+pub all_named : (globals : ℕ) (ns : List Name) → AllByRecursion IsShort ns → AreInOrder globals ns → AllGood (IsNamed globals) [] ns
+all_named globals ns short h =
+    let all = are_named globals ns short h.slots h.some in
+    named globals [] ns all h.ascend h.distinct (all_clear ns) (first_starts globals ns all)
+
+-- the test of a name behind others
+abbrev pub is_next : ℕ → List Name → Name → Bool
+is_next globals before n = nat_lt n.slot globals && (not (is_used n.slot before) && may_follow before n.text)
+
+and_true : (a b : Bool) → (a && b) ≡ true → (a ≡ true) × (b ≡ true)
+and_true true b e = (refl, e)
+and_true false b e = absurd cc
+
+not_true : (b : Bool) → not b ≡ true → b ≡ false
+not_true true e = absurd cc
+not_true false e = refl
+
+pub next_named : (globals : ℕ) (before : List Name) (n : Name) → IsShort n → is_next globals before n ≡ true → IsNamed globals before n
+next_named globals before n short e =
+    let one = and_true (nat_lt n.slot globals) (not (is_used n.slot before) && may_follow before n.text) e in
+    let two = and_true (not (is_used n.slot before)) (may_follow before n.text) one.1 in
+    record {
+      slot = record { below = ltb-true n.slot globals one.0; free = not_true (is_used n.slot before) two.0 };
+      next = record { fits = short.fits; utf8 = short.utf8; follows = two.1 };
+    }
+
+pub named_next : (globals : ℕ) (before : List Name) (n : Name) → IsNamed globals before n → is_next globals before n ≡ true
+named_next globals before n h =
+    let below : nat_lt n.slot globals ≡ true = lt-ltb _ _ h.slot.below in
+    rw (below, h.slot.free, h.next.follows) refl
+
+pub short_names : (ns : List Name) → AllByRecursion (λ n. length n.text < 2 ^ 16) ns → AllByRecursion (λ n. IsUtf8 n.text) ns → AllByRecursion IsShort ns
+short_names ns fits utf8 = all_both (λ n. length n.text < 2 ^ 16) (λ n. IsUtf8 n.text) IsShort ns (λ n short text. record { fits = short; utf8 = text }) fits utf8
+
+-- ---- the whole
+
+-- the limits are kept exactly where the spelling is short enough, its length counted by parts
+pub limits_from : (k : Code) (names constants tables : ℕ) → names ≡ min (length (flat_map name_bytes k.names)) (2 ^ 64 - 1) → constants ≡ min (length (flat_map constant_bytes k.constants)) (2 ^ 64 - 1) → tables ≡ min (names + constants) (2 ^ 64 - 1)
+    → length k.names < 2 ^ 16 → length k.constants < 2 ^ 16 → length k.units < 2 ^ 16 → total_len k.units ≤ max_instructions → AllByRecursion (λ n. length n.text < 2 ^ 16) k.names → AllByRecursion (λ u. u.locals ≤ max_locals) k.units
+    → (14 + tables + 8 * (length k.units + total_len k.units) ≤ max_bytes) ↔ KeepsLimits k
+limits_from k names constants tables a b t count_names count_constants count_units instructions texts locals = (
+  λ le. record { names = count_names; texts = texts; constants = count_constants; units = count_units; locals = locals; instructions = instructions; bytes = omega (arith, le, a, b, t, spelled_len k) },
+  λ h. omega (arith, h.bytes, a, b, t, spelled_len k),
+)
+
+-- a constant of an image that is not too long fits its field
+constant_fits : (c : Constant) → length (constant_bytes c) ≤ max_bytes → IsHeld c → IsConstant c
+constant_fits undefined le h = tt
+constant_fits nothing le h = tt
+constant_fits (truth_value b) le h = tt
+constant_fits (number z) le h = h
+constant_fits (text t) le h = (omega (arith, le, text_len t 5), h)
+constant_fits (markup t) le h = (omega (arith, le, text_len t 6), h)
+
+constants_fit : (cs : List Constant) → length (flat_map constant_bytes cs) ≤ max_bytes → AllByRecursion IsHeld cs → AllByRecursion IsConstant cs
+constants_fit [] le h = tt
+constants_fit (c ∷ cs) le h =
+    let whole : length (flat_map constant_bytes (c ∷ cs)) ≡ length (constant_bytes c) + length (flat_map constant_bytes cs) = ap length (flat_map-cons constant_bytes c cs) ∙ length-append (constant_bytes c) (flat_map constant_bytes cs) in
+    (constant_fits c (omega (arith, le, whole)) h.0, constants_fit cs (omega (arith, le, whole)) h.1)
+
+sections_fit : (us : List Section) → AllByRecursion IsWritable us → AllByRecursion IsUnitInOrder us → AllByRecursion (λ u. u.locals ≤ max_locals) us → AllByRecursion IsSection us
+sections_fit [] written order locals = tt
+sections_fit (u ∷ us) written order locals = (record { parameters = written.0.parameters; kind = order.0.0; locals = locals.0; within = order.0.1; code = written.0.code }, sections_fit us written.1 order.1 locals.1)
+
+first_from : (us : List Section) → Starts us → HasFirst us
+first_from [] h = absurd h
+first_from (u ∷ us) h = record { entry = u; is = refl; emits = h.0; plain = h.1 }
+
+pub entry_from : (k : Code) → Starts k.units → HasEntry k
+entry_from k h =
+    let first = first_from k.units h in
+    record { entry = first.entry; is = first.is; emits = first.emits; plain = first.plain }
+
+starts_from : (us : List Section) (e : Section) → slice_get us 0 ≡ Some e → e.kind ≡ 0 → e.parameters ≡ 0 → Starts us
+starts_from [] e is kind parameters = absurd cc
+starts_from (u ∷ us) e is kind parameters =
+    let same : u ≡ e = cc in
+    (ap (λ (s : Section). s.kind) same ∙ kind, ap (λ (s : Section). s.parameters) same ∙ parameters)
+
+pub entry_starts : (k : Code) → HasEntry k → Starts k.units
+entry_starts k h = starts_from k.units h.entry h.is h.emits h.plain
+
+-- what the types of the parts say
+pub record AreHeld (k : Code) : Type 0 where
+  pub globals : k.globals < 2 ^ 16
+  pub names : AllByRecursion (λ n. IsUtf8 n.text) k.names
+  pub constants : AllByRecursion IsHeld k.constants
+  pub units : AllByRecursion IsWritable k.units
+
+pub is_code : (k : Code) → AreHeld k → HasTables k → KeepsLimits k → IsCode k
+is_code k held tables limits =
+    let short = short_names k.names limits.texts held.names in
+    record {
+      globals = held.globals;
+      count_names = limits.names;
+      names = are_named k.globals k.names short tables.names.slots tables.names.some;
+      ascend = tables.names.ascend;
+      distinct = tables.names.distinct;
+      count_constants = limits.constants;
+      constants = constants_fit k.constants (omega (arith, spelled_len k, limits.bytes)) held.constants;
+      count_units = limits.units;
+      units = sections_fit k.units held.units tables.units limits.locals;
+      entry = tables.entry;
+      instructions = limits.instructions;
+      bytes = limits.bytes;
+    }
+
+code_tables : (k : Code) → IsCode k → HasTables k
+code_tables k is = record {
+  names = record {
+    slots = all_weaker (IsName k.globals) (λ n. n.slot < k.globals) k.names (λ n h. h.slot) is.names;
+    some = all_weaker (IsName k.globals) (λ n. 0 < length n.text) k.names (λ n h. h.some) is.names;
+    ascend = is.ascend;
+    distinct = is.distinct;
+  };
+  units = all_weaker IsSection IsUnitInOrder k.units (λ u h. (h.kind, h.within)) is.units;
+  entry = is.entry;
+}
+
+code_limits : (k : Code) → IsCode k → KeepsLimits k
+code_limits k is = record {
+  names = is.count_names;
+  texts = all_weaker (IsName k.globals) (λ n. length n.text < 2 ^ 16) k.names (λ n h. h.fits) is.names;
+  constants = is.count_constants;
+  units = is.count_units;
+  locals = all_weaker IsSection (λ u. u.locals ≤ max_locals) k.units (λ u h. h.locals) is.units;
+  instructions = is.instructions;
+  bytes = is.bytes;
+}
+
+-- a code with a spelling is refused for memory alone
+refused_for : (k : Code) (e : ImageError) → IsCode k → IsRefusal e (Some k) → e ≡ NoMemory
+refused_for k BadOpcode is r = absurd cc
+refused_for k BadTable is r = absurd (r (code_tables k is))
+refused_for k LimitPassed is r = absurd (r (code_limits k is))
+refused_for k NoMemory is r = refl
+refused_for k BadMagic is r = absurd r
+refused_for k BadVersion is r = absurd r
+refused_for k Truncated is r = absurd r
+refused_for k Trailing is r = absurd r
+refused_for k BadText is r = absurd r
+
+pub only_memory : (o : Option Code) (k : Code) (e : ImageError) → o ≡ Some k → IsCode k → IsRefusal e o → e ≡ NoMemory
+only_memory o k e is code r = refused_for k e code (subst (λ (p : Option Code). IsRefusal e p) is r)
+
+-- a refusal of a part is one of the whole
+pub finds_along : {X Y V W : Type 0} (view : X → Y) (seen : V → W) (e : ImageError) (o : Option Y) (p : Option W) → Finds view (Err e) o → (o ≡ None → p ≡ None) → Finds seen (Err e) p
+finds_along view seen BadOpcode o p f h = h f
+finds_along view seen NoMemory o p f h = tt
+finds_along view seen BadTable o p f h = f
+finds_along view seen LimitPassed o p f h = f
+finds_along view seen BadMagic o p f h = f
+finds_along view seen BadVersion o p f h = f
+finds_along view seen Truncated o p f h = f
+finds_along view seen Trailing o p f h = f
+finds_along view seen BadText o p f h = f

@@ -1,0 +1,89 @@
+-- Names, texts and headers in the reader, as the definitions see them.
+use Rattle.std.proofs.Common.{◌≡◌, ℕ, suc, ◌+◌, ◌-◌, ◌++◌, false, true, ◌<◌, ◌≤◌, Bool, take, drop, ltb, replicate, inl, inr, ◌⊎◌, ◌≢◌, Ok, Err, List, [], ◌∷◌, length, get_or, set, refl, sym, ap, ◌∙◌, arith, string_bytes, nat_cmp}
+use Rattle.std.specs.Prelude.{◌==◌, ◌||◌, String}
+use Rattle.std.specs.Str.{IsUtf8, is_utf8}
+use Rattle.std.proofs.lemmas.Str.{is_utf8-from_IsUtf8, IsUtf8-from_is_utf8}
+use Rattle.std.proofs.lemmas.Bool.{le-ltb, cases_eq}
+use Rattle.std.proofs.lemmas.Bool.Decides.{nat_tests}
+use Rattle.std.proofs.lemmas.List.{length-set, get_or-set_same, get_or-set_other, get_or-replicate, length-replicate}
+use Rattle.jt_image.specs.declared.error.ImageError.TheVariants.{BadText}
+use Rattle.std.specs.Ordering.{is_lt}
+use Rattle.std.specs.Cmp.Lexicographic.{slice_cmp}
+use Rattle.jt_image.specs.Code as code
+use Rattle.jt_image.specs.View.{names_view}
+use Rattle.jt_image.specs.Reading.{Header, IsTable, is_used, may_follow, text_at, header_total, is_first}
+use Rattle.std.specs.declared.alloc.Global.{Global}
+
+-- a slot and its name, as the reader holds them
+abbrev pub Name : Type 0
+Name = ℕ × String Global
+
+last_of : (m l : Name) (ns : List Name) (d : Name) → get_or (m ∷ l ∷ ns) (length (m ∷ l ∷ ns) - 1) d ≡ get_or (l ∷ ns) (length (l ∷ ns) - 1) d
+last_of m l ns d =
+    let e : length (m ∷ l ∷ ns) - 1 ≡ suc (length (l ∷ ns) - 1) = omega arith in
+    rw e refl
+
+pub may_follow_last : (ns : List Name) (n : Name) (t : List ℕ) → 0 < length ns → n ≡ get_or ns (length ns - 1) n → may_follow (names_view ns) t ≡ is_lt (slice_cmp nat_cmp (string_bytes n.1) t)
+may_follow_last [] n t lt e = absurd (omega arith)
+may_follow_last (m ∷ []) n t lt e = ap (λ (x : Name). is_lt (slice_cmp nat_cmp (string_bytes x.1) t)) (sym e)
+may_follow_last (m ∷ l ∷ ns) n t lt e = may_follow_last (l ∷ ns) n t (omega arith) (e ∙ last_of m l ns n)
+
+pub header_total-push : (hs : List Header) (h : Header) → header_total (hs ++ h ∷ []) ≡ header_total hs + h.len
+header_total-push [] h = omega arith
+header_total-push (g ∷ hs) h = omega (arith, header_total-push hs h)
+
+pub is_first-push : (hs : List Header) (h : Header) → is_first (hs ++ h ∷ []) ≡ false
+is_first-push [] h = refl
+is_first-push (g ∷ hs) h = refl
+
+pub text_ok : (n : ℕ) (bytes : List ℕ) → n ≤ length bytes → IsUtf8 (take n bytes) → text_at n bytes ≡ Ok (take n bytes, drop n bytes)
+unfolding text_at
+text_ok n bytes le u =
+    let short : ltb (length bytes) n ≡ false = le-ltb _ _ le in
+    let good : is_utf8 (take n bytes) ≡ true = is_utf8-from_IsUtf8 _ u in
+    rw (short, good) refl
+
+not_utf8 : (bs : List ℕ) (b : Bool) → is_utf8 bs ≡ b → ¬ (IsUtf8 bs) → b ≡ false
+not_utf8 bs true e h = absurd (h (IsUtf8-from_is_utf8 bs e))
+not_utf8 bs false e h = refl
+
+pub text_bad : (n : ℕ) (bytes : List ℕ) → n ≤ length bytes → ¬ (IsUtf8 (take n bytes)) → text_at n bytes ≡ Err BadText
+unfolding text_at
+text_bad n bytes le u =
+    let short : ltb (length bytes) n ≡ false = le-ltb _ _ le in
+    let bad : is_utf8 (take n bytes) ≡ false = not_utf8 (take n bytes) _ refl u in
+    rw (short, bad) refl
+
+-- ---- the table of used slots
+
+pub is_used-push : (s : ℕ) (ns : List code.Name) (n : code.Name) → is_used s (ns ++ n ∷ []) ≡ (is_used s ns || (n.slot == s))
+is_used-push s [] n = grind (arith, nat_tests)
+is_used-push s (m ∷ ns) n = or_again (m.slot == s) (is_used s ns) (n.slot == s) _ (is_used-push s ns n)
+  where
+    or_again : (a b c d : Bool) → d ≡ (b || c) → (a || d) ≡ ((a || b) || c)
+    or_again true b c d e = refl
+    or_again false b c d e = e
+
+pub IsTable-none : (globals : ℕ) → IsTable (replicate globals false) globals []
+IsTable-none globals = record { len = length-replicate globals false; each = λ s lt. get_or-replicate globals s false false lt }
+
+same_slot : (n s : ℕ) → n ≡ s → (b : Bool) → (b || (n == s)) ≡ true
+same_slot n s e true = refl
+same_slot n s e false = grind (arith, nat_tests)
+
+other_slot : (n s : ℕ) → s ≢ n → (b : Bool) → (b || (n == s)) ≡ b
+other_slot n s ne true = refl
+other_slot n s ne false = grind (arith, nat_tests)
+
+pub IsTable-push : (used : List Bool) (globals : ℕ) (ns : List code.Name) (n : code.Name) → n.slot < globals → IsTable used globals ns → IsTable (set used n.slot true) globals (ns ++ n ∷ [])
+IsTable-push used globals ns n lt t = record {
+  len = length-set used n.slot true ∙ t.len;
+  each = λ s below. at s below (cases_eq s n.slot);
+}
+  where
+    at : (s : ℕ) → s < globals → (s ≡ n.slot) ⊎ (s ≢ n.slot) → get_or (set used n.slot true) s false ≡ is_used s (ns ++ n ∷ [])
+    at s below (inl e) =
+        let same : get_or (set used n.slot true) n.slot false ≡ true = get_or-set_same used n.slot true false (omega (arith, t.len)) in
+        ap (λ (i : ℕ). get_or (set used n.slot true) i false) e ∙ same ∙ sym (is_used-push s ns n ∙ same_slot n.slot s (sym e) (is_used s ns))
+    at s below (inr ne) =
+        get_or-set_other used n.slot s true false ne ∙ t.each s below ∙ sym (is_used-push s ns n ∙ other_slot n.slot s ne (is_used s ns))

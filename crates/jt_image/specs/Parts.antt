@@ -1,0 +1,122 @@
+-- What code parts are, and what a refusal to assemble them says of it.
+use Rattle.std.specs.Prelude.{◌≡◌, ℕ, ◌<◌, ◌≤◌, ◌^◌, List, [], ◌∷◌, length, Option, Some, None, option_map, Result, Ok, Err, IsUtf8, FitsSigned}
+use Rattle.std.specs.List.{AllByRecursion}
+use Rattle.std.specs.Int.{w64}
+use Rattle.jt_image.specs.declared.error.ImageError.{ImageError}
+use Rattle.jt_image.specs.declared.error.ImageError.TheVariants.{BadMagic, BadVersion, Truncated, Trailing, BadText, BadOpcode, BadTable, LimitPassed, NoMemory}
+use Rattle.jt_image.specs.declared.instruction.Instruction.{Instruction}
+use Rattle.jt_image.specs.declared.parts.Unit as given
+use Rattle.jt_image.specs.declared.parts.Parts.{Parts}
+use Rattle.jt_image.specs.Code.{Constant, undefined, nothing, truth_value, number, text, markup, Name, Section, Code}
+use Rattle.jt_image.specs.View.{names_view, constants_view}
+use Rattle.jt_image.specs.Spelling.{spelling}
+use Rattle.jt_image.specs.IsCode.{Ascend, AreDistinct, IsInstruction, HasEntry, total_len, max_locals, max_instructions, max_bytes}
+use Rattle.jt_image.specs.Reading.{instruction_of}
+
+abbrev pub in_front : {A : Type 0} → Option A → Option (List A) → Option (List A)
+in_front None ys = None
+in_front (Some y) None = None
+in_front (Some y) (Some ys) = Some (y ∷ ys)
+
+-- what each of them gives, if each gives something
+abbrev pub each_of : {A B : Type 0} → (A → Option B) → List A → Option (List B)
+each_of f [] = Some []
+each_of f (x ∷ xs) = in_front (f x) (each_of f xs)
+
+-- the unit, if each of its instructions is one
+abbrev pub section_of_unit : given.Unit → Option Section
+section_of_unit u = option_map (λ code. record { parameters = u.parameters; kind = u.kind; locals = u.locals; code = code }) (each_of instruction_of u.code.items)
+
+-- these tables, with these units
+abbrev pub code_with : Parts → List Section → Code
+code_with p us = record { globals = p.globals; names = names_view p.names.items; constants = constants_view p.constants.items; units = us }
+
+-- the code that the parts are: none where an instruction is none
+abbrev pub code_of_parts : Parts → Option Code
+code_of_parts p = option_map (code_with p) (each_of section_of_unit p.units.items)
+
+-- the names of globals: each slot is there, no name is empty, they strictly ascend, and no slot has two
+pub record AreInOrder (globals : ℕ) (ns : List Name) : Type 0 where
+  pub slots : AllByRecursion (λ n. n.slot < globals) ns
+  pub some : AllByRecursion (λ n. 0 < length n.text) ns
+  pub ascend : Ascend ns
+  pub distinct : AreDistinct ns
+
+-- a unit emits (0) or gives a value (1), and its parameters are locals
+abbrev pub IsUnitInOrder : Section → Type 0
+IsUnitInOrder u = (u.kind ≤ 1) × (u.parameters ≤ u.locals)
+
+-- the tables are in order, and there is a first unit that emits and has no parameters
+pub record HasTables (k : Code) : Type 0 where
+  pub names : AreInOrder k.globals k.names
+  pub units : AllByRecursion IsUnitInOrder k.units
+  pub entry : HasEntry k
+
+-- tables and names are not too long for their fields, and the limits are kept; so a constant's text fits its field too
+pub record KeepsLimits (k : Code) : Type 0 where
+  pub names : length k.names < 2 ^ 16
+  pub texts : AllByRecursion (λ n. length n.text < 2 ^ 16) k.names
+  pub constants : length k.constants < 2 ^ 16
+  pub units : length k.units < 2 ^ 16
+  pub locals : AllByRecursion (λ u. u.locals ≤ max_locals) k.units
+  pub instructions : total_len k.units ≤ max_instructions
+  pub bytes : length (spelling k) ≤ max_bytes
+
+abbrev pub BreaksTable : Option Code → Type 0
+BreaksTable None = ⊥
+BreaksTable (Some k) = ¬ (HasTables k)
+
+abbrev pub PassesLimit : Option Code → Type 0
+PassesLimit None = ⊥
+PassesLimit (Some k) = ¬ (KeepsLimits k)
+
+-- what a refusal says of the code that the parts are
+abbrev pub IsRefusal : ImageError → Option Code → Type 0
+IsRefusal BadOpcode k = k ≡ None
+IsRefusal BadTable k = BreaksTable k
+IsRefusal LimitPassed k = PassesLimit k
+IsRefusal NoMemory k = Unit {0}
+IsRefusal BadMagic k = ⊥
+IsRefusal BadVersion k = ⊥
+IsRefusal Truncated k = ⊥
+IsRefusal Trailing k = ⊥
+IsRefusal BadText k = ⊥
+
+-- ---- what the checks say of the parts of a code
+
+-- what was found, seen by view, is there; BadOpcode says that there is none
+abbrev pub Finds : {X Y : Type 0} → (X → Y) → Result X ImageError → Option Y → Type 0
+Finds view (Ok x) found = found ≡ Some (view x)
+Finds view (Err BadOpcode) found = found ≡ None
+Finds view (Err NoMemory) found = Unit {0}
+Finds view (Err BadTable) found = ⊥
+Finds view (Err LimitPassed) found = ⊥
+Finds view (Err BadMagic) found = ⊥
+Finds view (Err BadVersion) found = ⊥
+Finds view (Err Truncated) found = ⊥
+Finds view (Err Trailing) found = ⊥
+Finds view (Err BadText) found = ⊥
+
+-- the numbers of a unit and of its instructions fit their fields
+pub record IsWritable (u : Section) : Type 0 where
+  pub parameters : u.parameters < 2 ^ 8
+  pub code : AllByRecursion IsInstruction u.code
+
+-- a number of 64 bits, a text in UTF-8
+abbrev pub IsHeld : Constant → Type 0
+IsHeld undefined = Unit {0}
+IsHeld nothing = Unit {0}
+IsHeld (truth_value b) = Unit {0}
+IsHeld (number z) = FitsSigned w64 z
+IsHeld (text t) = IsUtf8 t
+IsHeld (markup t) = IsUtf8 t
+
+-- a first unit that emits and has no parameters
+abbrev pub Starts : List Section → Type 0
+Starts [] = ⊥
+Starts (u ∷ us) = (u.kind ≡ 0) × (u.parameters ≡ 0)
+
+-- a text in UTF-8 that fits its field
+pub record IsShort (n : Name) : Type 0 where
+  pub fits : length n.text < 2 ^ 16
+  pub utf8 : IsUtf8 n.text

@@ -1,0 +1,13 @@
+use Rattle.std.proofs.Common.{◌≡◌, drop}
+use Rattle.jt_parse.specs.View as parsed
+use Rattle.jt_scopes.specs.Resolve.{body_names, branch_names, all_inserted}
+use Rattle.jt_scopes.specs.Names.{texts}
+use Rattle.jt_scopes.proofs.names.+add.Given as goal
+
+abbrev pub invariant-add_statements-loop-statement : goal.invariant-add_statements-loop-statement
+invariant-add_statements-loop-statement l =
+    all_inserted (body_names (parsed.body_view (drop l.statement-index l.body))) (texts l.names.keys) ≡ all_inserted (body_names (parsed.body_view l.body)) (texts l.initial.names.keys)
+
+abbrev pub invariant-add_branches-loop-branch : goal.invariant-add_branches-loop-branch
+invariant-add_branches-loop-branch l =
+    all_inserted (branch_names (parsed.branches_view (drop l.branch-index l.branches))) (texts l.names.keys) ≡ all_inserted (branch_names (parsed.branches_view l.branches)) (texts l.initial.names.keys)
