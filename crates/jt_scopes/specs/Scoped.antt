@@ -37,9 +37,3 @@ module _ (scope : Scope) where
 
   abbrev pub choice_in : Branches → (ℕ → Front) → ℕ → Front
   choice_in bs other n behind = resolved_choice name_of scope.escaping (table scope.names) bs other n behind
-
-  -- a branch with its line, its condition resolved, and its statements, the values of which stand behind the condition's
-  pub record IsBranch (b : ℕ × Expr × Vec Stmt Global) (n : ℕ) (r : ℕ × SExpr × Vec SStmt Global) : Type 0 where
-    pub line : r.0 ≡ b.0
-    pub condition : expr_view r.1 ≡ expr_in (parsed.expr_view b.1) n
-    pub body : (behind : SBody) → body_view name_of r.2.items behind ≡ body_in (parsed.body_view b.2.items) (n + length (expr_pool (parsed.expr_view b.1))) behind
