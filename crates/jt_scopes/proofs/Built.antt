@@ -1,5 +1,5 @@
 -- Resolved templates that are built part by part.
-use Rattle.std.proofs.Common.{◌≡◌, ℕ, suc, ◌+◌, ◌<◌, ◌≤◌, Bool, true, false, cond, if◌then◌else◌, List, [], ◌∷◌, ◌++◌, length, map, drop, get_or, refl, sym, ap, ◌∙◌, subst, String, Global, string_bytes, Vec, Option, Some, None, arith, append_assoc, length-append}
+use Rattle.std.proofs.Common.{◌≡◌, ℕ, suc, ◌+◌, ◌<◌, ◌≤◌, Bool, true, false, cond, if◌then◌else◌, List, [], ◌∷◌, ◌++◌, length, map, drop, get_or, refl, sym, ap, ◌∙◌, String, Global, string_bytes, Vec, Option, Some, None, arith, append_assoc, length-append}
 use Rattle.std.specs.Prelude.{unwrap_or, not, nat_lt}
 use Rattle.std.specs.List.{position, position_or_len}
 use Rattle.std.specs.Str.{bytes_eq}
@@ -17,7 +17,6 @@ use Rattle.jt_parse.specs.declared.tree.Stmt.TheVariants as stmt
 use Rattle.jt_scopes.specs.Slots as slots
 use Rattle.jt_scopes.specs.Slots.{SBody, Program}
 use Rattle.jt_scopes.specs.Resolve.{expr_pool, stmt_pool, body_pool, branch_pool, body_names, ascending, slot_of, resolved_body, program}
-use Rattle.jt_scopes.specs.Names.{table}
 use Rattle.jt_scopes.specs.View.{Front, expr_view, stmt_view, body_view, choice_view}
 use Rattle.jt_scopes.specs.Scoped.{name_of, expr_in, stmt_in, body_in, choice_in}
 use Rattle.jt_scopes.specs.declared.program.SExpr.{SExpr}

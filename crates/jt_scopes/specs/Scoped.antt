@@ -1,21 +1,16 @@
 -- What the parts of a template are resolved to, in the scope that the code keeps.
-use Rattle.std.specs.Prelude.{◌≡◌, ℕ, ◌+◌, List, length, map, string_bytes, Vec}
+use Rattle.std.specs.Prelude.{ℕ, List, map, string_bytes, Vec}
 use Rattle.std.specs.declared.alloc.Global.{Global}
 use Rattle.jt_value.specs.Tree.{Tree}
 use Rattle.jt_value.specs.View.{view}
 use Rattle.jt_value.specs.declared.value.Value.{Value}
 use Rattle.jt_parse.specs.Trees as trees
 use Rattle.jt_parse.specs.Trees.{Text, Body, Branches}
-use Rattle.jt_parse.specs.View as parsed
-use Rattle.jt_parse.specs.declared.tree.Expr.{Expr}
-use Rattle.jt_parse.specs.declared.tree.Stmt.{Stmt}
 use Rattle.jt_scopes.specs.Slots as slots
 use Rattle.jt_scopes.specs.Slots.{SBody}
-use Rattle.jt_scopes.specs.Resolve.{expr_pool, resolved_expr, resolved_stmt, resolved_body, resolved_choice}
+use Rattle.jt_scopes.specs.Resolve.{resolved_expr, resolved_stmt, resolved_body, resolved_choice}
 use Rattle.jt_scopes.specs.Names.{table}
-use Rattle.jt_scopes.specs.View.{Front, expr_view, body_view}
-use Rattle.jt_scopes.specs.declared.program.SExpr.{SExpr}
-use Rattle.jt_scopes.specs.declared.program.SStmt.{SStmt}
+use Rattle.jt_scopes.specs.View.{Front}
 use Rattle.jt_scopes.specs.declared.resolving.Scope.{Scope}
 
 -- the values of a pool

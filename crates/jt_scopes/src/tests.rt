@@ -23,11 +23,7 @@ fn template(alloc: Global, text: &str) -> Result<Template, Fail> {
 }
 
 /// A place of the pool as `#n`, and a slot as `@n`.
-fn tell_expression(
-    alloc: Global,
-    told: &mut String,
-    expression: SExpr,
-) -> Result<(), AllocError> {
+fn tell_expression(alloc: Global, told: &mut String, expression: SExpr) -> Result<(), AllocError> {
     let word = match expression {
         SExpr::Pooled(place) => format!(in alloc; "#{place}")?,
         SExpr::Global(slot) => format!(in alloc; "@{slot}")?,
@@ -136,10 +132,7 @@ fn templates_are_resolved(rt: HostRuntime) -> Result<(), Fail> {
     for (text, want) in rows {
         assert_eq!(rt; told(rt.alloc(), text, true)?.as_str(), want, "{text}");
     }
-    assert_eq!(rt;
-        told(rt.alloc(), "{{ a }}", false)?.as_str(),
-        "t:a,;;{@0}"
-    );
+    assert_eq!(rt; told(rt.alloc(), "{{ a }}", false)?.as_str(), "t:a,;;{@0}");
     Ok(())
 }
 

@@ -16,8 +16,8 @@ add_statement-loop-condition-preserved t c =
     let l = c.loop-condition in
     let b = c.loop-condition-item.result in
     let step =
-        c.in_ok-add_statements-in-If.ensures.added ∙ ap (λ z. all_inserted (body_names (parsed.body_view z)) (texts c.add_expression-in-loop-condition.new.names.keys)) c.deref.ensures.value
-        ∙ ap (all_inserted (body_names (parsed.body_view b.2.items))) c.in_ok-add_expression-in-If.ensures.added in
+    c.in_ok-add_statements-in-If.ensures.added ∙ ap (λ z. all_inserted (body_names (parsed.body_view z)) (texts c.add_expression-in-loop-condition.new.names.keys)) c.deref.ensures.value
+    ∙ ap (all_inserted (body_names (parsed.body_view b.2.items))) c.in_ok-add_expression-in-If.ensures.added in
     branch_added c.deref-condition-items.result.now l.condition-index b (texts l.names.keys) (texts c.add_statements.new.names.keys) c.loop-condition-test.true c.loop-condition-item.is step ∙ l.invariant
 
 pub add_statement-returns-in_ok-add_statements-in-If-2-clause-added : goal.add_statement-returns-in_ok-add_statements-in-If-2-clause-added

@@ -34,7 +34,7 @@ resolve_statement-loop-line-preserved t c =
     let q = values c.resolve_expression-in-loop-line.new.pool in
     let p' = values c.resolve_statements.new.pool in
     let k : (z : SBody) → body_view (name_of scope) c.in_ok-body-in-If.body.items z ≡ body_in scope (parsed.body_view b.2.items) (length q) z =
-        λ z. c.in_ok-body-in-If.ensures.resolved z ∙ ap (λ ss. body_in scope (parsed.body_view ss) (length q) z) c.deref-in-loop-line.ensures.value in
+    λ z. c.in_ok-body-in-If.ensures.resolved z ∙ ap (λ ss. body_in scope (parsed.body_view ss) (length q) z) c.deref-in-loop-line.ensures.value in
     let f : p' ≡ q ++ body_pool (parsed.body_view b.2.items) = c.in_ok-body-in-If.ensures.pooled ∙ ap (λ ss. q ++ body_pool (parsed.body_view ss)) c.deref-in-loop-line.ensures.value in
     record {
       resolved = λ other behind. ap (λ rs. choice_view (name_of scope) rs (choice_in scope (parsed.branches_view (drop (l.line-index + 1) bs)) other (length p')) behind) c.in_ok-push-in-If.ensures.items
@@ -49,7 +49,7 @@ resolve_statement-returns-in_ok-last-in-If-clause-resolved t c =
     let scope = c.args.scope.now in
     let bs = c.deref-line-items.result.now in
     let all : (f : ℕ → Front) (behind : SBody) → choice_view (name_of scope) l.chosen.items (f (length (values l.pool))) behind ≡ choice_in scope (parsed.branches_view bs) f (length (values c.args.pool.now)) behind =
-        λ f behind. sym (at_drop_all (λ (z : List Branch). choice_view (name_of scope) l.chosen.items (choice_in scope (parsed.branches_view z) f (length (values l.pool))) behind) bs l.line-index (omega arith)) ∙ l.invariant.resolved f behind in
+    λ f behind. sym (at_drop_all (λ (z : List Branch). choice_view (name_of scope) l.chosen.items (choice_in scope (parsed.branches_view z) f (length (values l.pool))) behind) bs l.line-index (omega arith)) ∙ l.invariant.resolved f behind in
     choice_built scope c.args.statement.now c.in-If.branches c.in-If.other bs c.deref-in-If.result.now l.chosen c.in_ok-last-in-If.last
     (values c.args.pool.now) (values l.pool) c.in-If.is c.deref-line-items.ensures.value c.deref-in-If.ensures.value all c.in_ok-last-in-If.ensures.resolved
 
@@ -58,6 +58,6 @@ resolve_statement-returns-in_ok-last-in-If-clause-pooled t c =
     let l = c.loop-line in
     let bs = c.deref-line-items.result.now in
     let all : values l.pool ≡ values c.args.pool.now ++ branch_pool (parsed.branches_view bs) =
-        sym (append-nil (values l.pool)) ∙ sym (at_drop_all (λ (z : List Branch). values l.pool ++ branch_pool (parsed.branches_view z)) bs l.line-index (omega arith)) ∙ l.invariant.pooled in
+    sym (append-nil (values l.pool)) ∙ sym (at_drop_all (λ (z : List Branch). values l.pool ++ branch_pool (parsed.branches_view z)) bs l.line-index (omega arith)) ∙ l.invariant.pooled in
     choice_pooled c.args.statement.now c.in-If.branches c.in-If.other bs c.deref-in-If.result.now
     (values c.args.pool.now) (values l.pool) (values c.resolve_statements-in-If.new.pool) c.in-If.is c.deref-line-items.ensures.value c.deref-in-If.ensures.value all c.in_ok-last-in-If.ensures.pooled
