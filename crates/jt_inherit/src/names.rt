@@ -11,7 +11,10 @@ const MAX_NAME_LEN: usize = 255;
 pub(crate) fn is_name(name: &str) -> bool
     ensures { IsTrue result ↔ IsName name.now }
 {
-    name.len() <= MAX_NAME_LEN && has_name_bytes(name.as_bytes()) && has_parts(name)
+    if name.len() > MAX_NAME_LEN {
+        return false;
+    }
+    has_name_bytes(name.as_bytes()) && has_parts(name)
 }
 
 /// Whether each byte may stand in a name.
@@ -32,5 +35,5 @@ fn has_parts(name: &str) -> bool
 fn is_part(part: &str) -> bool
     ensures { IsTrue result ↔ IsPart part.now }
 {
-    !part.is_empty() && part != "." && part != ".."
+    !matches!(part, "" | "." | "..")
 }
