@@ -1,7 +1,7 @@
 -- When parts are a code that has a spelling.
-use Rattle.std.proofs.Common.{◌≡◌, ℕ, ◌+◌, ◌-◌, ◌*◌, min, ◌<◌, ◌≤◌, ◌^◌, Bool, true, false, List, [], ◌∷◌, ◌++◌, length, Option, Some, None, Result, Ok, Err, refl, sym, ap, subst, ◌∙◌, arith, map}
-use Rattle.std.specs.Prelude.{◌&&◌, ◌↔◌, IsTrue, not, nat_lt, IsUtf8, IfOk, MatchResult, slice_get}
-use Rattle.std.specs.Int.{w16, w32, w64, to_le_bytes, cast_unsigned}
+use Rattle.std.proofs.Common.{◌≡◌, ℕ, ◌+◌, ◌-◌, ◌*◌, min, ◌<◌, ◌≤◌, ◌^◌, Bool, true, false, List, [], ◌∷◌, ◌++◌, length, Option, Some, None, Err, refl, ap, subst, ◌∙◌, arith}
+use Rattle.std.specs.Prelude.{◌&&◌, ◌↔◌, not, nat_lt, IsUtf8, slice_get}
+use Rattle.std.specs.Int.{w16, w32, w64, to_le_bytes}
 use Rattle.std.specs.List.{flat_map, AllByRecursion}
 use Rattle.std.proofs.lemmas.List.{length-append}
 use Rattle.std.proofs.lemmas.List.Concat.{flat_map-cons}
@@ -13,7 +13,7 @@ use Rattle.jt_image.specs.declared.instruction.Instruction.TheVariants as op
 use Rattle.jt_image.specs.declared.wire.Instr.{Instr}
 use Rattle.jt_image.specs.Code.{Constant, undefined, nothing, truth_value, number, text, markup, Name, Section, Code}
 use Rattle.jt_image.specs.Spelling.{magic, version, name_bytes, constant_bytes, header_bytes, wire_of, instruction_bytes, spelling}
-use Rattle.jt_image.specs.IsCode.{IsName, Ascend, AreDistinct, IsConstant, IsInstruction, IsSection, total_len, HasEntry, IsCode, max_locals, max_instructions, max_bytes}
+use Rattle.jt_image.specs.IsCode.{IsName, IsConstant, IsInstruction, IsSection, total_len, HasEntry, IsCode, max_locals, max_instructions, max_bytes}
 use Rattle.jt_image.specs.Reading.{is_used, may_follow}
 use Rattle.jt_image.specs.Parts.{AreInOrder, IsUnitInOrder, HasTables, KeepsLimits, IsRefusal, Finds, IsWritable, IsHeld, Starts, IsShort}
 use Rattle.jt_image.proofs.Found.{AllGood, wide16, wide32, wide64}
