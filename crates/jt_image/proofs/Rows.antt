@@ -19,6 +19,10 @@ x_code = record { globals = 0; names = []; constants = code.text (120 ∷ []) �
 abbrev n_code : Code
 n_code = record { globals = 1; names = record { slot = 0; text = 110 ∷ [] } ∷ []; constants = []; units = record { parameters = 0; kind = 0; locals = 0; code = op.GLoad 0 ∷ op.JumpIfFalse 4 ∷ op.GLoad 0 ∷ op.Emit 0 ∷ op.Return ∷ [] } ∷ [] }
 
+-- prints the global n, escaped
+abbrev e_code : Code
+e_code = record { globals = 1; names = record { slot = 0; text = 110 ∷ [] } ∷ []; constants = []; units = record { parameters = 0; kind = 0; locals = 0; code = op.GLoad 0 ∷ op.Emit 1 ∷ op.Return ∷ [] } ∷ [] }
+
 abbrev ample : ℕ → Budget
 ample fuel = record { fuel = fuel; depth = 64; output = 1048576; size = 1048576; nesting = 32 }
 
@@ -48,3 +52,12 @@ a_list = refl
 
 a_list_short : after n_code 10 (start n_code (n_is (tree.list (tree.item one tree.no_items))) (ample 3)) ≡ Ends (config.spent config.fuel)
 a_list_short = refl
+
+escapes_text : after e_code 10 (start e_code (n_is (tree.text (60 ∷ []))) (ample 3)) ≡ Ends (config.text (38 ∷ 108 ∷ 116 ∷ 59 ∷ []))
+escapes_text = refl
+
+keeps_markup : after e_code 10 (start e_code (n_is (tree.markup (60 ∷ []))) (ample 3)) ≡ Ends (config.text (60 ∷ []))
+keeps_markup = refl
+
+counts_escaped : after e_code 10 (start e_code (n_is (tree.text (60 ∷ []))) (record (ample 3) { output = 3 })) ≡ Ends (config.spent config.output)
+counts_escaped = refl

@@ -1,26 +1,24 @@
 -- A machine of a typed code goes on or ends, and is never wrong.
-use Rattle.std.proofs.Common.{◌≡◌, ◌≢◌, ℕ, zero, suc, ◌+◌, ◌-◌, ◌/◌, ◌<◌, ◌≤◌, Bool, true, false, cond, ltb, eqb, List, [], ◌∷◌, ◌++◌, length, map, Option, Some, None, Result, Ok, Err, refl, sym, ap, subst, ◌∙◌, arith, if◌then◌else◌}
+use Rattle.std.proofs.Common.{◌≡◌, ℕ, zero, suc, ◌+◌, ◌<◌, ◌≤◌, Bool, true, false, cond, ltb, eqb, List, [], ◌∷◌, ◌++◌, length, map, Option, Some, None, Result, Ok, refl, sym, ap, subst, ◌∙◌, arith}
 use Rattle.std.specs.Prelude.{slice_get, slice_set, nat_lt}
 use Rattle.std.specs.List.{AllByRecursion}
-use Rattle.std.proofs.lemmas.Bool.{ltb-false, ltb-true}
+use Rattle.std.proofs.lemmas.Bool.{ltb-false}
 use Rattle.std.proofs.lemmas.List.{length-set}
 use Rattle.jt_value.specs.Tree as tree
 use Rattle.jt_value.specs.Tree.{Tree, truth, printed}
 use Rattle.jt_image.specs.declared.instruction.Instruction.{Instruction}
 use Rattle.jt_image.specs.declared.instruction.Instruction.TheVariants as op
-use Rattle.jt_image.specs.declared.kind.Kind.{Kind}
 use Rattle.jt_image.specs.declared.kind.Kind.TheVariants as kind
 use Rattle.jt_image.specs.declared.kind.Flaw.{Flaw}
 use Rattle.jt_image.specs.declared.kind.Flaw.TheVariants as flaw
-use Rattle.jt_image.specs.Code as code
-use Rattle.jt_image.specs.Code.{Constant, tree_of, is_text, Section, Code}
-use Rattle.jt_image.specs.Effect.{Shape, Leads, require, pops, goes_on, jumps, branches, may_return, effect, effect_of, effect_at}
-use Rattle.jt_image.specs.Typed.{Shapes, Equal, HasSame, IsFineBy, IsTypedBy, IsTyped}
+use Rattle.jt_image.specs.Code.{Section, Code}
+use Rattle.jt_image.specs.Effect.{Shape, Leads, require, pops, goes_on, jumps, branches, may_return, effect, effect_of}
+use Rattle.jt_image.specs.Typed.{Shapes, Equal, HasSame, IsTypedBy}
 use Rattle.jt_image.specs.Config as config
 use Rattle.jt_image.specs.Config.{Budget, Outcome, Entry, value, frame, capture, kind_of, State, Caller, Machine, Config}
 use Rattle.jt_image.specs.Step as step
 use Rattle.jt_image.specs.Step.{Demand, no_demand, pushing, emitting, Plain, goes, faults_by, broken, with_entries, push, on_value, put, put_printed, shown, slot, constant_value, text_of, plain, Action, ends, faulty, wrong, at_point, straight, jump_on, Given, nothing, result, disorder, given_by, back_to, action, in_tables, strict, cost, fetch}
-use Rattle.jt_image.specs.Run.{Next, Goes, Ends, Wrong, spared, unless, spends, next_at, next}
+use Rattle.jt_image.specs.Run.{Next, Goes, Ends, Wrong, spared, unless, spends, next}
 
 -- the kinds of the entries
 abbrev pub kinds_of : List Entry → Shape
@@ -212,7 +210,7 @@ module _ (k : Code) (m : Machine) (g : IsFit k m) (l : Leads) (agree : Agrees k 
       let b = require_ok _ _ _ l e in
       let q = pops_ok s (λ r. goes_on g.unit m.point r) l b.1 in
       in_place _ _ b.0 (taken q.0 broken (λ t fs. put_printed (shown (eqb a 1) t) (with_entries m.state fs)) (λ x. Fine (straight x m)) q.1
-        (λ t fs is kinds count sized. printed_fine (shown (eqb a 1) t) fs (rw count g.buffers) (rw kinds (goes_on_ok k g.unit g.shapes m.point q.0 l q.2 agree)) (λ n z. (sized n z).1)))
+      (λ t fs is kinds count sized. printed_fine (shown (eqb a 1) t) fs (rw count g.buffers) (rw kinds (goes_on_ok k g.unit g.shapes m.point q.0 l q.2 agree)) (λ n z. (sized n z).1)))
 
   data_fine : (c : ℕ) → effect k g.unit m.point (op.Data c) s ≡ Ok l → Fine (strict k g.unit (op.Data c) m)
   data_fine c e =

@@ -13,7 +13,8 @@ pub enum Instruction {
     Drop,
     /// Pushes the top value once more.
     Dup,
-    /// Takes a value and puts its printed text into the buffer.
+    /// Takes a value and puts its printed text into the buffer, escaped if the flag is 1 and the value
+    /// is no markup.
     Emit { flag: u8 },
     /// Puts a text constant into the buffer.
     Data { constant: u32 },
