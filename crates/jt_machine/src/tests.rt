@@ -79,6 +79,15 @@ fn letters(alloc: Global, count: usize) -> Result<Value, Fail> {
     Ok(Value::Text(text))
 }
 
+// The text, or the markup of it.
+fn text_of(alloc: Global, text: &str, is_markup: bool) -> Result<Value, Fail> {
+    let text = String::from_str(alloc, text)?;
+    if is_markup {
+        return Ok(Value::Markup(text));
+    }
+    Ok(Value::Text(text))
+}
+
 // The list of a number.
 fn list(alloc: Global, number: i64) -> Result<Value, Fail> {
     let mut items = Vec::new(alloc);
@@ -136,6 +145,38 @@ fn a_list_is_not_printed(rt: HostRuntime) -> Result<(), Fail> {
     let context = context_of(alloc, "n", list(alloc, 1)?)?;
     for (fuel, wanted) in [(4, "fault Unprintable"), (3, "spent Fuel")] {
         let found = outcome(alloc, &N, &context, Budget { fuel, ..AMPLE })?;
+        assert_eq!(rt; found.as_str(), wanted);
+    }
+    Ok(())
+}
+
+#[test]
+fn texts_are_escaped_and_markup_is_not(rt: HostRuntime) -> Result<(), Fail> {
+    let alloc = rt.alloc();
+    for (flag, is_markup, output, wanted) in [
+        (0, false, 1, "text <"),
+        (1, false, 4, "text &lt;"),
+        (1, false, 3, "spent Output"),
+        (1, true, 1, "text <"),
+        (1, true, 0, "spent Output"),
+    ] {
+        let mut image = N;
+        image[52] = flag;
+        let context = context_of(alloc, "n", text_of(alloc, "<", is_markup)?)?;
+        let found = outcome(alloc, &image, &context, Budget { output, ..AMPLE })?;
+        assert_eq!(rt; found.as_str(), wanted);
+    }
+    Ok(())
+}
+
+#[test]
+fn an_escaped_list_costs_before_its_fault(rt: HostRuntime) -> Result<(), Fail> {
+    let alloc = rt.alloc();
+    let mut image = N;
+    image[52] = 1;
+    let context = context_of(alloc, "n", list(alloc, 1)?)?;
+    for (fuel, wanted) in [(4, "fault Unprintable"), (3, "spent Fuel")] {
+        let found = outcome(alloc, &image, &context, Budget { fuel, ..AMPLE })?;
         assert_eq!(rt; found.as_str(), wanted);
     }
     Ok(())

@@ -25,6 +25,12 @@ const X: [u8; 44] = [
     0, 9, 0, 0, 0, 0, 0, 0, 0, 0x1c, 0, 0, 0, 0, 0, 0, 0,
 ];
 
+// Emits an undefined value: Const 0; Emit; Return. The flag of Emit is byte 32.
+const EMITS: [u8; 47] = [
+    0x4a, 0x54, 0x42, 0x43, 1, 0, 0, 0, 0, 0, 1, 0, 0, 1, 0, 0, 0, 0, 0, 3, 0, 0, 0, 1, 0, 0, 0, 0,
+    0, 0, 0, 8, 0, 0, 0, 0, 0, 0, 0, 0x1c, 0, 0, 0, 0, 0, 0, 0,
+];
+
 // Up to the units: no globals, no names, and one constant, which is undefined.
 const HEAD: [u8; 13] = [0x4a, 0x54, 0x42, 0x43, 1, 0, 0, 0, 0, 0, 1, 0, 0];
 
@@ -123,6 +129,21 @@ fn names_the_flaw_and_its_place(rt: HostRuntime) -> Result<(), Fail> {
             };
             assert_eq!(rt; found, want);
         }
+    }
+    Ok(())
+}
+
+#[test]
+fn emit_has_two_flags(rt: HostRuntime) -> Result<(), Fail> {
+    let bad = Refusal::Flaw {
+        flaw: Flaw::BadIndex,
+        unit: 0,
+        point: 1,
+    };
+    for (flag, want) in [(0, None), (1, None), (2, Some(bad)), (255, Some(bad))] {
+        let mut bytes = EMITS;
+        bytes[32] = flag;
+        assert_eq!(rt; refusal_of(rt.alloc(), decode(rt.alloc(), &bytes)?), want);
     }
     Ok(())
 }

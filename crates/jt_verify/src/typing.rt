@@ -158,7 +158,7 @@ pub(crate) fn effect<C: Code>(
             goes_on(header, point)
         }
         Instruction::Emit { flag } => {
-            if flag != 0 {
+            if flag > 1 {
                 return bad_index();
             }
             shape.pop_value()?;
