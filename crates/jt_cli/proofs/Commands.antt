@@ -1,5 +1,5 @@
 -- A line that the program takes names one of its commands.
-use Rattle.std.proofs.Common.{◌≡◌, ◌∙◌, ℕ, Bool, true, false, not, List, [], ◌∷◌, Option, Some, None, ap, subst, sym, refl, rules, codes, is_some, option_map, option_and_then, length, find, cond, ◌&&◌}
+use Rattle.std.proofs.Common.{◌≡◌, ◌∙◌, ℕ, Bool, true, false, not, List, [], ◌∷◌, Option, Some, None, ap, subst, sym, refl, rules, codes, is_some, option_map, option_and_then, length, find, cond, ◌&&◌, ◌⊎◌, inl, inr}
 use Rattle.clap.specs.Words.{App, Kinds, Row, Shape, Text, subcommand_of, fault_of, built, is_simple_and_free, is_simple}
 use Rattle.clap.specs.Faults.{built_fault, check_fault, level_fault, entered_fault, walk_fault, settle_fault, defaults_fault}
 use Rattle.clap.specs.Kinds.{check_kinds, or_else}
@@ -9,7 +9,7 @@ use Rattle.clap.specs.Takes.{is_given}
 use Rattle.std.specs.List.{list_any}
 use Rattle.clap.specs.Walk.{Names, answers_to, finished, nothing_held, settled, stop_after, walk, walk_from, Held}
 use Rattle.clap.proofs.OnLiterals.{clap_on_literals}
-use Rattle.jt_cli.specs.Line.{program_app, run_app, Takes}
+use Rattle.jt_cli.specs.Line.{program_app, run_app, compile_app, Takes, IsKnown}
 
 or_else-right : (a b : Kinds) → or_else a b ≡ [] → b ≡ []
 or_else-right [] b e = e
@@ -22,21 +22,23 @@ has_command true true w false e = absurd (cc)
 has_command true false w false e = absurd (cc)
 has_command false g w false e = absurd (cc)
 
--- where there is one command, it is the one that was met
-only_command : (s : Shape) (name : Text) (words : List Text) (o : Option Shape)
-    → o ≡ find (λ x. answers_to name (label_of x)) (s ∷ [])
+-- where there are two commands, one of them is the one that was met
+two_commands : (s t : Shape) (name : Text) (words : List Text) (o : Option Shape)
+    → o ≡ find (λ x. answers_to name (label_of x)) (s ∷ t ∷ [])
     → is_some (option_map (λ x. rows_at x words) o) ≡ true
-    → option_map (λ p. p.0) (option_map (λ x. rows_at x words) o) ≡ Some s.name
-only_command s name words None f e = absurd (cc)
-only_command s name words (Some x) f e = found (answers_to name (label_of s)) f where
-  found : (b : Bool) → Some x ≡ cond b (Some s) None → Some x.name ≡ Some s.name
-  found true f = ap (option_map (λ y. y.name)) f
-  found false f = absurd (cc)
+    → (option_map (λ p. p.0) (option_map (λ x. rows_at x words) o) ≡ Some s.name)
+    ⊎ (option_map (λ p. p.0) (option_map (λ x. rows_at x words) o) ≡ Some t.name)
+two_commands s t name words None f e = absurd (cc)
+two_commands s t name words (Some x) f e = found (answers_to name (label_of s)) (answers_to name (label_of t)) f where
+  found : (b d : Bool) → Some x ≡ cond b (Some s) (cond d (Some t) None) → (Some x.name ≡ Some s.name) ⊎ (Some x.name ≡ Some t.name)
+  found true d f = inl (ap (option_map (λ y. y.name)) f)
+  found false true f = inr (ap (option_map (λ y. y.name)) f)
+  found false false f = absurd (cc)
 
-met : (a : App) (s : Shape) (stop : Option (Text × List Text)) → a.subs ≡ s ∷ [] → is_some (entered a stop) ≡ true
-    → option_map (λ p. p.0) (entered a stop) ≡ Some s.name
-met a s None e h = absurd (cc)
-met a s (Some p) e h = only_command s p.0 p.1 (find (λ x. answers_to p.0 (label_of x)) a.subs) (ap (find (λ x. answers_to p.0 (label_of x))) e) h
+met : (a : App) (s t : Shape) (stop : Option (Text × List Text)) → a.subs ≡ s ∷ t ∷ [] → is_some (entered a stop) ≡ true
+    → (option_map (λ p. p.0) (entered a stop) ≡ Some s.name) ⊎ (option_map (λ p. p.0) (entered a stop) ≡ Some t.name)
+met a s t None e h = absurd (cc)
+met a s t (Some p) e h = two_commands s t p.0 p.1 (find (λ x. answers_to p.0 (label_of x)) a.subs) (ap (find (λ x. answers_to p.0 (label_of x))) e) h
 
 pub is_clear : is_simple_and_free program_app ≡ true
 unfolding clap_on_literals
@@ -53,9 +55,13 @@ last_clear a b c d e h = or_else-right d e (or_else-right c (or_else d e) (or_el
 abbrev run_built : Shape
 run_built = built_leaf (inherited (with_leaf_noted (marked_built program_app.top)) run_app.top)
 
-only_run : (built program_app).subs ≡ run_built ∷ []
+-- `compile`, as clap builds it
+abbrev compile_built : Shape
+compile_built = built_leaf (inherited (with_leaf_noted (marked_built program_app.top)) compile_app.top)
+
+both_built : (built program_app).subs ≡ run_built ∷ compile_built ∷ []
 unfolding clap_on_literals
-only_run = refl
+both_built = refl
 
 level_clear : (s : Shape) (names : Names) (h : Held) (words : List Text) (has : Bool) (below : Kinds) → s.subcommand_required ≡ true
     → level_fault s names h words has below ≡ [] → has ≡ true
@@ -73,9 +79,9 @@ wants_command : (built program_app).top.subcommand_required ≡ true
 unfolding clap_on_literals
 wants_command = refl
 
-pub named : (words : List Text) → Takes words → option_map (λ p. p.0) (subcommand_of program_app words) ≡ Some (codes "run")
+pub named : (words : List Text) → Takes words → IsKnown (option_map (λ p. p.0) (subcommand_of program_app words))
 named words e =
     let a : App = built program_app in
     let line : List Text = argument_words program_app words in
     let stop : Option (Text × List Text) = stop_after a.top.rules (names_of a) line in
-    met a run_built stop only_run (level_clear a.top (names_of a) nothing_held line (is_some (entered a stop)) (entered_fault a stop) wants_command e)
+    met a run_built compile_built stop both_built (level_clear a.top (names_of a) nothing_held line (is_some (entered a stop)) (entered_fault a stop) wants_command e)

@@ -1,8 +1,8 @@
 -- What is read of the rows of a line.
-use Rattle.std.proofs.Common.{◌≡◌, ◌∙◌, ℕ, List, [], Option, Some, None, Result, Ok, Err, ap, sym, refl, option_map, unwrap_or, inl, inr, Bor}
+use Rattle.std.proofs.Common.{◌≡◌, ◌∙◌, ℕ, Bool, true, false, codes, List, [], Option, Some, None, Result, Ok, Err, ap, sym, refl, option_map, unwrap_or, inl, inr, Bor}
 use Rattle.std.specs.Str.Parse.{ParsesUnsigned}
 use Rattle.clap.specs.Words.{ReadsOne, Text}
-use Rattle.jt_cli.specs.Line.{IsGiven}
+use Rattle.jt_cli.specs.Line.{IsGiven, IsFlag}
 
 pub given : (E : Type 0) (G : List ℕ → Result ℕ E → Type 0) (bits default : ℕ) (text : Option Text) (r : Option ℕ) (n : ℕ)
     → ((t : Text) (x : Result ℕ E) → G t x → ParsesUnsigned bits 10 t x)
@@ -16,3 +16,8 @@ pub text_or_none : (o : Option (Bor Text)) (d : Bor Text) (v : Option Text) → 
     → (unwrap_or o d).now ≡ unwrap_or v []
 text_or_none None d v e f = e ∙ ap (λ x. unwrap_or x []) f
 text_or_none (Some s) d v e f = ap (λ x. unwrap_or x []) f
+
+pub flagged : (text : Option Text) (b : Bool) → (text ≡ None → b ≡ false) → (text ≡ Some (codes "true") → b ≡ true)
+    → (text ≡ Some (codes "false") → b ≡ false) → IsFlag text b
+flagged None b none yes no = none refl
+flagged (Some t) b none yes no = (λ e. yes (ap Some e), λ e. no (ap Some e))

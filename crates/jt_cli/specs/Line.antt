@@ -1,14 +1,16 @@
 -- What a line asks for. How a line is read is clap's written rule: `fault_of` lists what is wrong
 -- with it, and `subcommand_of` gives its command with the rows of what was found.
-use Rattle.std.specs.Prelude.{◌≡◌, ◌≢◌, ◌<◌, ◌^◌, ◌⊎◌, ℕ, true, List, [], ◌∷◌, Option, Some, None, codes, pos, unwrap_or, map}
+use Rattle.std.specs.Prelude.{◌≡◌, ◌≢◌, ◌<◌, ◌^◌, ◌⊎◌, ℕ, Bool, true, false, not, List, [], ◌∷◌, Option, Some, None, codes, pos, unwrap_or, map}
 use Rattle.std.specs.Borrow.{Bor}
 use Rattle.std.specs.String.{string_bytes}
 use Rattle.std.specs.Str.Parse.{IsNumeral, digits_value, without_leading_plus}
 use Rattle.clap.specs.Words.{App, app_of, Row, Rule, Shape, Text, first_of, new_app, new_rule, one_of, with_rule, with_subcommand, fault_of}
 use Rattle.clap.specs.declared.builder.Command.{Command as Built}
 use Rattle.clap.specs.declared.builder.Command.TheViews.{out-Command as fields_of}
+use Rattle.clap.specs.declared.builder.ArgAction.TheVariants.{SetTrue}
 use Rattle.clap.specs.declared.builder.ValueParser.{ValueParser}
 use Rattle.clap.specs.declared.builder.ValueParser.TheVariants as parser
+use Rattle.jt_scan.specs.declared.options.Options.{Options}
 use Rattle.jt_budget.specs.declared.Budget.{Budget}
 use Rattle.jt_cli.specs.declared.jobs.Command.{Command}
 use Rattle.jt_cli.specs.declared.jobs.Command.TheVariants as command
@@ -21,6 +23,10 @@ use Rattle.jt_cli.specs.declared.jobs.JobError.TheVariants as job_error
 -- an option with one value, which passes the parser
 abbrev pub option_rule : Text → ValueParser → Rule
 option_rule name p = record (new_rule name) { long = Some name; parser = Some p }
+
+-- an option without a value
+abbrev pub flag_rule : Text → Rule
+flag_rule name = record (new_rule name) { long = Some name; action = Some SetTrue }
 
 -- a word that has to be there
 abbrev pub word_rule : Text → Rule
@@ -45,16 +51,22 @@ with_budget a =
 abbrev pub run_app : App
 run_app = with_budget (with_rule (new_app (codes "run")) (word_rule (codes "IMAGE")))
 
--- the program: one command, and then the words and options of that command
+-- `compile DIR NAME OUT`
+abbrev pub compile_app : App
+compile_app = with_rule (with_rule (with_rule (with_rule (with_rule (new_app (codes "compile"))
+    (word_rule (codes "DIR"))) (word_rule (codes "NAME"))) (word_rule (codes "OUT")))
+    (flag_rule (codes "keep-trailing-newline"))) (flag_rule (codes "no-autoescape"))
+
+-- the program: a command, and then the words and options of that command
 abbrev pub program_app : App
 program_app = let a = new_app (codes "jt") in
-    with_subcommand (record a {
+    with_subcommand (with_subcommand (record a {
       top = record a.top {
         no_binary_name = true;
         disable_help_subcommand = true;
         subcommand_required = true;
       };
-    }) run_app.top
+    }) run_app.top) compile_app.top
 
 -- the program takes the line
 abbrev pub Takes : List Text → Type 0
@@ -81,19 +93,47 @@ IsBudget rows b = IsGiven 64 1000000 (one_of (codes "fuel") rows) b.fuel
     × IsGiven 32 1048576 (one_of (codes "size") rows) b.size
     × IsGiven 8 32 (one_of (codes "nesting") rows) b.nesting
 
+-- a flag, by the text of its row: `true` where it is given, and `false` or none where it isn't
+abbrev pub IsFlag : Option Text → Bool → Type 0
+IsFlag None b = b ≡ false
+IsFlag (Some text) b = (text ≡ codes "true" → b ≡ true) × (text ≡ codes "false" → b ≡ false)
+
+-- how templates are read: a last newline is dropped unless it is kept, and what is printed is
+-- escaped unless it isn't
+abbrev pub IsOptions : List Row → Options → Type 0
+IsOptions rows o = IsFlag (one_of (codes "keep-trailing-newline") rows) o.keep_trailing_newline
+    × IsFlag (one_of (codes "no-autoescape") rows) (not o.autoescape)
+
+abbrev pub usual_options : Options
+usual_options = record { keep_trailing_newline = false; autoescape = true }
+
+abbrev pub usual_budget : Budget
+usual_budget =
+    record { fuel = 1000000; depth = 64; output = 1048576; size = 1048576; nesting = 32 }
+
 -- the text of a word
 abbrev pub word_of : Text → List Row → Text
 word_of name rows = unwrap_or (first_of name rows) []
 
--- the command of this name, with its words
-abbrev pub IsCommand : Text → List Row → Command → Type 0
-IsCommand name rows (command.Run image) = (name ≡ codes "run")
+-- the command of this name, with its words; what it doesn't take is as usual
+abbrev pub IsCommand : Text → List Row → Command → Options → Budget → Type 0
+IsCommand name rows (command.Run image) o b = (name ≡ codes "run")
     × (string_bytes image ≡ word_of (codes "IMAGE") rows)
+    × (o ≡ usual_options) × IsBudget rows b
+IsCommand name rows (command.Compile dir template out) o b = (name ≡ codes "compile")
+    × (string_bytes dir ≡ word_of (codes "DIR") rows)
+    × (string_bytes template ≡ word_of (codes "NAME") rows)
+    × (string_bytes out ≡ word_of (codes "OUT") rows)
+    × IsOptions rows o × (b ≡ usual_budget)
 
 -- the job that the command of a line asks for, by its name and what was found
 abbrev pub IsAsked : Option (Text × List Row) → Job → Type 0
 IsAsked None j = ⊥
-IsAsked (Some c) j = IsCommand c.0 c.1 j.command × IsBudget c.1 j.budget
+IsAsked (Some c) j = IsCommand c.0 c.1 j.command j.options j.budget
+
+-- the name of a command
+abbrev pub IsKnown : Option Text → Type 0
+IsKnown name = (name ≡ Some (codes "run")) ⊎ (name ≡ Some (codes "compile"))
 
 -- P, where the error is not for want of memory
 abbrev pub IfUsage : Type 0 → JobError → Type 0

@@ -1,6 +1,8 @@
 //! What a line asks for.
 
 use jt_budget::Budget;
+use jt_scan::Options;
+use std::alloc::AllocError;
 use thiserror::Error;
 
 /// What the program is to do, with its words.
@@ -8,12 +10,19 @@ use thiserror::Error;
 pub enum Command {
     /// Run the image at a path and print its text.
     Run { image: String },
+    /// Compile the template of a name, from the files of a directory, into an image.
+    Compile {
+        dir: String,
+        name: String,
+        out: String,
+    },
 }
 
-/// A command with its numbers.
+/// A command with its options and numbers. Those that it does not take are the usual ones.
 #[derive(Debug, Drop, PartialEq, Eq)]
 pub struct Job {
     pub command: Command,
+    pub options: Options,
     pub budget: Budget,
 }
 
@@ -26,6 +35,17 @@ pub enum JobError {
     /// A growth was refused.
     #[error("no memory")]
     NoMemory,
+}
+
+impl From<AllocError> for JobError {
+    ghost use Rattle.std.specs.Prelude.{◌≡◌};
+    ghost use Rattle.jt_cli.specs.declared.jobs.JobError.TheVariants.{NoMemory};
+
+    ghost from_gives = { λ _ e. e ≡ NoMemory };
+
+    fn from(_error: AllocError) -> JobError {
+        JobError::NoMemory
+    }
 }
 
 /// What a run may use where the line does not say.

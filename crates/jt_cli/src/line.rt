@@ -5,15 +5,16 @@ ghost use Rattle.clap.specs.Words.{app_of, rule_of, found_of, rows_of, one_of, k
 ghost use Rattle.clap.specs.Words.{subcommand_of, subcommand_rows_of};
 ghost use Rattle.clap.specs.Walk.{texts};
 ghost use Rattle.clap.specs.declared.builder.Command.TheViews.{out-Command as fields_of};
-ghost use Rattle.jt_cli.specs.Line.{Takes, IsAsked, IsBudget, IsGiven, IfUsage, Adds, option_rule, program_app};
-ghost use Rattle.jt_cli.specs.Line.{run_app, with_budget, word_of, word_rule};
+ghost use Rattle.jt_cli.specs.Line.{Takes, IsAsked, IsKnown, IsBudget, IsOptions, IsGiven, IsFlag, IfUsage, Adds};
+ghost use Rattle.jt_cli.specs.Line.{program_app, run_app, compile_app, with_budget, word_of, option_rule, word_rule, flag_rule};
 
 use crate::jobs;
 use crate::jobs::{DEFAULT, Job, JobError};
 use clap::builder::ValueParser;
 use clap::error::ErrorKind;
-use clap::{Arg, ArgMatches, Command, value_parser};
+use clap::{Arg, ArgAction, ArgMatches, Command, value_parser};
 use jt_budget::Budget;
+use jt_scan::Options;
 use std::alloc::{AllocError, Global};
 
 /// Reads `words`, the line without the program's name: a command, and then its words and options.
@@ -39,12 +40,14 @@ fn program<'a>(alloc: Global) -> Result<Command<'a>, AllocError>
     ensures { IfOk result (λ c. app_of c ≡ program_app) }
 {
     let run = run_command(alloc)?;
+    let compile = compile_command(alloc)?;
     Command::new(alloc, "jt")
         .about("A compiler and sandbox for the Jinja template language")
         .no_binary_name(true)
         .disable_help_subcommand(true)
         .subcommand_required(true)
-        .subcommand(run)
+        .subcommand(run)?
+        .subcommand(compile)
 }
 
 fn run_command<'a>(alloc: Global) -> Result<Command<'a>, AllocError>
@@ -53,6 +56,19 @@ fn run_command<'a>(alloc: Global) -> Result<Command<'a>, AllocError>
     let run = Command::new(alloc, "run").about("Runs an image and prints its text");
     let run = add_word(alloc, run, "IMAGE", "The image's file")?;
     add_budget(alloc, run)
+}
+
+fn compile_command<'a>(alloc: Global) -> Result<Command<'a>, AllocError>
+    ensures { IfOk result (λ c. (app_of c ≡ compile_app) × ((fields_of c).has_globals ≡ false)) }
+{
+    let compile = Command::new(alloc, "compile").about("Compiles a template into an image");
+    let with_dir = add_word(alloc, compile, "DIR", "The directory of the templates")?;
+    let with_name = add_word(alloc, with_dir, "NAME", "The template's name")?;
+    let with_out = add_word(alloc, with_name, "OUT", "The file for the image")?;
+    let newline = "Keeps the last newline of each template";
+    let with_newline = add_flag(alloc, with_out, "keep-trailing-newline", newline)?;
+    let plain = "Escapes nothing unless a template says so";
+    add_flag(alloc, with_newline, "no-autoescape", plain)
 }
 
 /// Adds the options of a budget.
@@ -102,14 +118,32 @@ fn add_option<'a>(
     )
 }
 
+/// Adds an option without a value.
+fn add_flag<'a>(
+    alloc: Global,
+    command: Command<'a>,
+    name: &'a str,
+    help: &'a str,
+) -> Result<Command<'a>, AllocError>
+    ensures { IfOk result (Adds command.entry (flag_rule name.entry.now)) }
+{
+    command.arg(
+        Arg::new(alloc, name)
+            .long(name)
+            .action(ArgAction::SetTrue)
+            .help(help),
+    )
+}
+
 /// The job of a line that was taken.
 fn asked(alloc: Global, matches: &ArgMatches<'_>) -> Result<Job, JobError>
-    requires { option_map (λ p. p.0) (subcommand_rows_of matches.now) ≡ Some (codes "run") }
+    requires { IsKnown (option_map (λ p. p.0) (subcommand_rows_of matches.now)) }
     ensures ok { IfOk result (IsAsked (subcommand_rows_of matches.now)) }
     ensures err { IfErr result (λ e. e ≡ JobError.NoMemory) }
 {
     match matches.subcommand() {
         Some(("run", found)) => run_job(alloc, found),
+        Some(("compile", found)) => compile_job(alloc, found),
         _ => unreachable!(),
     }
 }
@@ -118,12 +152,25 @@ fn run_job(alloc: Global, found: &ArgMatches<'_>) -> Result<Job, JobError>
     ensures ok { IfOk result (IsAsked (Some (codes "run", rows_of (found_of found.now)))) }
     ensures err { IfErr result (λ e. e ≡ JobError.NoMemory) }
 {
-    let Ok(image) = String::from_str(alloc, word(found, "IMAGE")) else {
-        return Err(JobError::NoMemory);
-    };
+    let image = String::from_str(alloc, word(found, "IMAGE"))?;
     Ok(Job {
         command: jobs::Command::Run { image },
+        options: Options::new(),
         budget: budget(found),
+    })
+}
+
+fn compile_job(alloc: Global, found: &ArgMatches<'_>) -> Result<Job, JobError>
+    ensures ok { IfOk result (IsAsked (Some (codes "compile", rows_of (found_of found.now)))) }
+    ensures err { IfErr result (λ e. e ≡ JobError.NoMemory) }
+{
+    let dir = String::from_str(alloc, word(found, "DIR"))?;
+    let name = String::from_str(alloc, word(found, "NAME"))?;
+    let out = String::from_str(alloc, word(found, "OUT"))?;
+    Ok(Job {
+        command: jobs::Command::Compile { dir, name, out },
+        options: options(found),
+        budget: DEFAULT,
     })
 }
 
@@ -132,6 +179,23 @@ fn word<'a>(found: &ArgMatches<'a>, name: &str) -> &'a str
     ensures { result.now ≡ word_of name.now (rows_of (found_of found.now)) }
 {
     found.get_str(name).unwrap_or("")
+}
+
+/// How templates are read: as usual but for the flags that were given.
+fn options(found: &ArgMatches<'_>) -> Options
+    ensures { IsOptions (rows_of (found_of found.now)) result }
+{
+    Options {
+        keep_trailing_newline: flag(found, "keep-trailing-newline"),
+        autoescape: !flag(found, "no-autoescape"),
+    }
+}
+
+/// Whether a flag was given.
+fn flag(found: &ArgMatches<'_>, name: &str) -> bool
+    ensures { IsFlag (one_of name.now (rows_of (found_of found.now))) result }
+{
+    found.get_flag(name)
 }
 
 /// The numbers that were given, and the defaults of the others.

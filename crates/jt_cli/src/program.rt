@@ -79,8 +79,13 @@ fn done<F: Files>(alloc: Global, words: &[&str], files: &mut F) -> Result<String
     ensures usage { ¬ Takes (texts words.now) → IfUntaken result }
     ensures taken { Takes (texts words.now) → IfErr result (λ e. (status_of e ≢ Status.Usage) × (e ≢ Failure.Output)) }
 {
-    let Job { command, budget } = job(alloc, words)?;
+    let Job {
+        command,
+        options: _options,
+        budget,
+    } = job(alloc, words)?;
     match command {
+        Command::Compile { .. } => Err(Failure::NoMemory),
         Command::Run { image } => {
             let bytes = bytes_at(files, image)?;
             run_image(alloc, &bytes, budget)
