@@ -4,3 +4,5 @@ pub mod Lowered
 pub mod Typed
 pub mod Whole
 pub mod Small
+pub mod Spelled
+pub mod Entries

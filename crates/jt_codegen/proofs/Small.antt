@@ -27,7 +27,7 @@ use Rattle.jt_scopes.proofs.Ascending.{Above, Ascends, ascending_ascends}
 use Rattle.jt_codegen.specs.Asm.{flat}
 use Rattle.jt_codegen.specs.Lower.{expr_asm, flag, stmt_asm, body_asm, unit_of, constant_of, numbered, compiled}
 
-all_append : {A : Type 0} (P : A → Type 0) (xs ys : List A) → AllByRecursion P xs → AllByRecursion P ys → AllByRecursion P (xs ++ ys)
+pub all_append : {A : Type 0} (P : A → Type 0) (xs ys : List A) → AllByRecursion P xs → AllByRecursion P ys → AllByRecursion P (xs ++ ys)
 all_append P [] ys h g = g
 all_append P (x ∷ xs) ys h g = (h.0, all_append P xs ys h.1 g)
 
@@ -103,7 +103,7 @@ module _ (template : Text) (escaping : Bool) (names : List Text) (m : ℕ) (slot
     stmt_below (print line e) n behind room rest = (expr_below e n room, rest)
     stmt_below (choose bs other) n behind room rest =
         choice_below bs (length (body_pool other)) (resolved_body template escaping names other) (λ n' behind' room' rest'. body_below other n' behind' room' rest')
-          n behind (omega (arith, room, length-append (branch_pool bs) (body_pool other))) rest
+        n behind (omega (arith, room, length-append (branch_pool bs) (body_pool other))) rest
 
     body_below : (b : Body) (n : ℕ) (behind : SBody) → n + length (body_pool b) ≤ m → BodyBelow m behind → BodyBelow m (resolved_body template escaping names b n behind)
     body_below end n behind room rest = rest
@@ -114,13 +114,12 @@ module _ (template : Text) (escaping : Bool) (names : List Text) (m : ℕ) (slot
 
     choice_below : (bs : Branches) (count : ℕ) (other : ℕ → SBody → SBody) → Leaves count other → (n : ℕ) (behind : SBody) → n + (length (branch_pool bs) + count) ≤ m → BodyBelow m behind
         → BodyBelow m (resolved_choice template escaping names bs other n behind)
-    choice_below no_branches count other others n behind room rest = others n behind room rest
+    choice_below no_branches count other others n behind room rest = others n behind (omega (arith, room)) rest
     choice_below (branch line c body later) count other others n behind room rest =
         let i = n + length (expr_pool c) in
         let l = i + length (body_pool body) in
         let whole = length-append (expr_pool c) (body_pool body ++ branch_pool later) in
-        let back = length-append (body_pool body) (branch_pool later) in
-        (
+        let back = length-append (body_pool body) (branch_pool later) in (
           (expr_below c n (omega (arith, room, whole)), body_below body i slots.end (omega (arith, room, whole, back)) tt, choice_below later count other others l slots.end (omega (arith, room, whole, back)) tt),
           rest,
         )
@@ -146,9 +145,11 @@ mutual
       let lens = expr_len c p in
       let len_a = body_len a (m + 1) in
       let len_b = body_len b l in
-      all_append IsInstruction (flat (expr_asm c) p) (op.JumpIfFalse l ∷ (ca ++ jump ∷ cb)) (expr_fits c p h.0)
-        (omega (arith, room, lens, len_a), all_append IsInstruction ca (jump ∷ cb) (body_fits a (m + 1) h.1 (omega (arith, room, lens)))
-          (omega (arith, room, lens, len_a, len_b), body_fits b l h.2 (omega (arith, room, lens, len_a))))
+      all_append IsInstruction (flat (expr_asm c) p) (op.JumpIfFalse l ∷ (ca ++ jump ∷ cb)) (expr_fits c p h.0) (
+        omega (arith, room, lens, len_a),
+        all_append IsInstruction ca (jump ∷ cb) (body_fits a (m + 1) h.1 (omega (arith, room, lens)))
+            (omega (arith, room, lens, len_a, len_b), body_fits b l h.2 (omega (arith, room, lens, len_a))),
+      )
 
   body_fits : (b : SBody) (p : ℕ) → BodyBelow (2 ^ 32) b → p + body_size b < 2 ^ 32 → AllByRecursion IsInstruction (flat (body_asm b) p)
   body_fits slots.end p h room = tt
@@ -268,8 +269,8 @@ module _ (template : Text) (escaping : Bool) (b : Body) where
 
   below : KeepsLimits (compiled p) → BodyBelow (2 ^ 32) body
   below limits =
-      let names = omega (arith, limits.names, numbered_len 0 p.names) in
-      let pool = omega (arith, limits.constants, mapped_len constant_of p.pool) in
+      let names : length p.names < 2 ^ 32 = omega (arith, limits.names, numbered_len 0 p.names) in
+      let pool : 0 + length (body_pool b) ≤ 2 ^ 32 = omega (arith, limits.constants, mapped_len constant_of p.pool) in
       body_below template escaping (ascending (body_names b)) (2 ^ 32) names b 0 slots.end pool tt
 
   writable : KeepsLimits (compiled p) → IsWritable (unit_of only)
@@ -284,13 +285,13 @@ module _ (template : Text) (escaping : Bool) (b : Body) where
   pub is_coded : AllByRecursion (λ x. 0 < length x) p.names → AllByRecursion IsUtf8 p.names → AllByRecursion IsText p.pool → KeepsLimits (compiled p) → IsCode (compiled p)
   is_coded some names pool limits =
       is_code (compiled p)
-        (record {
-          globals = omega (arith, limits.names, numbered_len 0 p.names);
-          names = numbered_texts IsUtf8 0 p.names names;
-          constants = held_constants p.pool pool;
-          units = (writable limits, tt);
-        })
-        (tables some) limits
+      (record {
+        globals = omega (arith, limits.names, numbered_len 0 p.names);
+        names = numbered_texts IsUtf8 0 p.names names;
+        constants = held_constants p.pool pool;
+        units = (writable limits, tt);
+      })
+      (tables some) limits
 
   -- ---- a small template: its weight and its texts are within 2,000
 
@@ -300,7 +301,7 @@ module _ (template : Text) (escaping : Bool) (b : Body) where
       let texts = names_short b in
       let short = each_short p.names 2000 (omega (arith, texts, bytes)) in
       limits_by_counts (omega (arith, names, weight)) (wide p.names short) (omega (arith, pool_few template escaping b, weight)) (omega (arith, program_sized template escaping b, weight))
-        (omega (arith, names, texts, pool_few template escaping b, pool_short template escaping b, program_sized template escaping b, weight, bytes))
+      (omega (arith, names, texts, pool_few template escaping b, pool_short template escaping b, program_sized template escaping b, weight, bytes))
     where
       wide : (xs : List Text) → AllByRecursion (λ x. length x ≤ 2000) xs → AllByRecursion (λ x. length x < 2 ^ 16) xs
       wide [] h = tt

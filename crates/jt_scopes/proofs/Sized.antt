@@ -79,7 +79,7 @@ module _ (template : Text) (escaping : Bool) (names : List Text) where
         let low_inside : 2 * inside ≤ w = body_low body w m slots.end (omega (arith, le)) (omega arith) in
         let low_later : 2 * later ≤ w = choice_low rest w other g l slots.end (omega (arith, le)) (omega arith) in
         both_low (max test (max inside later)) (body_height behind) w
-          (both_low test (max inside later) w (omega (arith, le, expr_low c n)) (both_low inside later w low_inside low_later)) h
+        (both_low test (max inside later) w (omega (arith, le, expr_low c n)) (both_low inside later w low_inside low_later)) h
 
 -- ---- names
 
