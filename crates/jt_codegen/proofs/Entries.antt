@@ -1,10 +1,10 @@
 -- A unit that is typed never needs too many entries.
-use Rattle.std.proofs.Common.{◌≡◌, ℕ, ◌<◌, ◌≤◌, List, [], ◌∷◌, length, Some, Result, Ok, sym, ap, ◌∙◌, subst, arith, inl, inr}
+use Rattle.std.proofs.Common.{◌≡◌, ℕ, List, [], ◌∷◌, Some, Result, Ok, sym, ap, ◌∙◌, subst, arith, inl, inr}
 use Rattle.std.specs.List.{AllByRecursion}
 use Rattle.jt_image.specs.declared.kind.Flaw.{Flaw}
 use Rattle.jt_image.specs.Code.{Section, Code}
 use Rattle.jt_image.specs.Effect.{Shape, Leads, effect_at}
-use Rattle.jt_image.specs.Typed.{Shapes, Equal, HasSame, IsTypedBy, IsTyped, Among, Reaches, at_start, along, max_entries}
+use Rattle.jt_image.specs.Typed.{Shapes, Equal, HasSame, IsTypedBy, IsTyped, Among, Reaches, at_start, along}
 use Rattle.jt_codegen.specs.Limits.{NeedsTooMany}
 
 module _ (k : Code) (u : Section) (shapes : Shapes) (typed : IsTypedBy Equal k u shapes) where

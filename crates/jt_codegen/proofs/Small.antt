@@ -1,6 +1,6 @@
 -- How long the code of a template is, and that its code has a spelling where the limits of images are kept. A small
 -- template keeps them.
-use Rattle.std.proofs.Common.{◌≡◌, ◌≢◌, ℕ, zero, suc, ◌+◌, ◌*◌, ◌<◌, ◌≤◌, ◌^◌, Bool, true, false, if◌then◌else◌, List, [], ◌∷◌, ◌++◌, length, map, refl, sym, ap, ◌∙◌, arith, append_assoc, length-append}
+use Rattle.std.proofs.Common.{◌≡◌, ◌≢◌, ℕ, suc, ◌+◌, ◌*◌, ◌<◌, ◌≤◌, ◌^◌, Bool, true, false, if◌then◌else◌, List, [], ◌∷◌, ◌++◌, length, map, refl, ap, arith, length-append}
 use Rattle.std.specs.Prelude.{IsUtf8}
 use Rattle.std.specs.Int.{w64, cast_unsigned}
 use Rattle.std.specs.List.{flat_map, AllByRecursion}
@@ -8,15 +8,13 @@ use Rattle.std.specs.Str.{bytes_eq}
 use Rattle.std.proofs.lemmas.List.Concat.{flat_map-cons}
 use Rattle.jt_value.specs.Tree as tree
 use Rattle.jt_value.specs.Tree.{Tree}
-use Rattle.jt_image.specs.declared.instruction.Instruction.{Instruction}
 use Rattle.jt_image.specs.declared.instruction.Instruction.TheVariants as op
-use Rattle.jt_image.specs.Code as code
-use Rattle.jt_image.specs.Code.{Name, Constant, Section, Code}
+use Rattle.jt_image.specs.Code.{Name}
 use Rattle.jt_image.specs.Spelling.{name_bytes, constant_bytes, spelling}
 use Rattle.jt_image.specs.IsCode.{Ascend, AreDistinct, IsInstruction, IsCode, total_len, max_instructions, max_bytes}
-use Rattle.jt_image.specs.Parts.{IsUnitInOrder, HasTables, KeepsLimits, IsWritable, IsHeld}
-use Rattle.jt_image.proofs.Assembled.{name_len, text_len, number_len, spelled_len, AreHeld, is_code}
-use Rattle.jt_parse.specs.Trees.{Text, Literal, truth, nothing, Expr, constant, name, Stmt, data_of, print, choose, Body, end, stmt, body_weight, Branches, no_branches, branch}
+use Rattle.jt_image.specs.Parts.{HasTables, KeepsLimits, IsWritable, IsHeld}
+use Rattle.jt_image.proofs.Assembled.{name_len, text_len, number_len, spelled_len, is_code}
+use Rattle.jt_parse.specs.Trees.{Text, Expr, constant, name, Stmt, data_of, print, choose, Body, end, stmt, body_weight, Branches, no_branches, branch}
 use Rattle.jt_parse.specs.Bytes.{body_bytes}
 use Rattle.jt_scopes.specs.Slots as slots
 use Rattle.jt_scopes.specs.Slots.{SExpr, pooled, global, SStmt, put_pooled, if_else, SBody, Routine, Program}
