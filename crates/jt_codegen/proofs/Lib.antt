@@ -6,3 +6,4 @@ pub mod Whole
 pub mod Small
 pub mod Spelled
 pub mod Entries
+pub mod SmallRows
