@@ -7,7 +7,7 @@ use Rattle.std.proofs.lemmas.Str.{length-le-encodes}
 use lib.Utf8.{scalar}
 use Rattle.jt_scan.specs.declared.segment.Kind.{Kind}
 use Rattle.jt_scan.specs.Cut as cut
-use Rattle.jt_scan.specs.Cut.{Token, Segment, closer, second, a_name, Inside, closed, space, token, IsSegment, some_data, a_tag, a_comment, Cuts, no_more, more, IsCut}
+use Rattle.jt_scan.specs.Cut.{Token, Segment, closer, second, Spelled, a_name, Inside, closed, space, token, IsSegment, some_data, a_tag, a_comment, Cuts, no_more, more, IsCut}
 use Rattle.jt_value.specs.Tree as tree
 use Rattle.jt_value.specs.Tree.{Tree}
 use Rattle.jt_parse.specs.Trees.{Text, Expr, Body, body_weight, Branches}
@@ -41,12 +41,15 @@ module _ (P : List ℕ → Type 0) (front : (x y : List ℕ) → P (x ++ y) → 
   HasWords (cut.tag k n ts) = AllByRecursion IsWord ts
   HasWords (cut.comment x) = Unit {0}
 
+  token_word : {t : Token} {s rest : Text} → Spelled t s rest → P s → IsWord t
+  token_word (a_name s a w) h = (omega arith, h)
+
   inside_words : {k : Kind} {ts : List Token} {x rest : Text} → Inside k ts x rest → P x → AllByRecursion IsWord ts × P rest
   inside_words {k} {x} {rest} closed h = (tt, back (closer k ∷ 125 ∷ []) rest h)
   inside_words (space {c} {x} s i) h = inside_words i (back (c ∷ []) x h)
-  inside_words (token {x} (a_name {c} {x = y} s a w) i) h =
-      let rest = inside_words i (back (c ∷ y) x h) in
-      (((omega arith, front (c ∷ y) x h), rest.0), rest.1)
+  inside_words (token {s} {x} t i) h =
+      let rest = inside_words i (back s x h) in
+      ((token_word t (front s x h), rest.0), rest.1)
 
   segment_words : {n : ℕ} {s : Segment} {x rest : Text} → IsSegment n s x rest → P x → HasWords s × P rest
   segment_words (some_data {c} {d} {rest} n e) h = (front (c ∷ d) rest h, back (c ∷ d) rest h)
