@@ -3,3 +3,7 @@ pub mod Follows
 pub mod Lowered
 pub mod Typed
 pub mod Whole
+pub mod Small
+pub mod Spelled
+pub mod Entries
+pub mod SmallRows
