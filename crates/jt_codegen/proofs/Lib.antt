@@ -3,3 +3,4 @@ pub mod Follows
 pub mod Lowered
 pub mod Typed
 pub mod Whole
+pub mod Patched

@@ -55,7 +55,3 @@ run k nil m = does m
 run k (one i) m = of_plain (plain k i m)
 run k (both a b) m = and_then (run k a m) (run k b)
 run k (choose a b) m = on_value m.entries bad (λ t es. if truth t then run k a (with_entries m es) else run k b (with_entries m es))
-
--- the code has these instructions put behind it
-abbrev pub Emitted : List Instruction → Asm → List Instruction → Type 0
-Emitted old a new = new ≡ old ++ flat a (length old)

@@ -1,4 +1,5 @@
 pub mod Asm
 pub mod Lower
+pub mod Emission
 pub mod Fits
 pub mod Compiles

@@ -1,2 +1,5 @@
 //! Templates to images.
 #![tactic(auto)]
+
+mod emission;
+mod tables;
