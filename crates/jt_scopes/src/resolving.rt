@@ -6,11 +6,11 @@ ghost use Rattle.jt_value.specs.Pairs.{Pairs};
 ghost use Rattle.jt_parse.specs.View as parsed;
 ghost use Rattle.jt_scopes.specs.Meaning as meaning;
 ghost use Rattle.jt_scopes.specs.Slots.{SBody, smean};
-ghost use Rattle.jt_scopes.specs.Resolve.{expr_pool, stmt_pool, body_pool, branch_pool, slot_of, program};
+ghost use Rattle.jt_scopes.specs.Resolve.{expr_pool, stmt_pool, body_pool, slot_of, program};
 ghost use Rattle.jt_scopes.specs.Names.{table};
 ghost use Rattle.jt_scopes.specs.Rules.{KeepsRules, Breaks, names_read};
-ghost use Rattle.jt_scopes.specs.View.{Front, expr_view, stmt_view, body_view, choice_view, program_of};
-ghost use Rattle.jt_scopes.specs.Scoped.{values, name_of, expr_in, stmt_in, body_in, choice_in, IsBranch};
+ghost use Rattle.jt_scopes.specs.View.{expr_view, stmt_view, body_view, program_of};
+ghost use Rattle.jt_scopes.specs.Scoped.{values, name_of, expr_in, stmt_in, body_in};
 ghost use Rattle.jt_scopes.specs.declared.error.ScopeError.TheVariants as error;
 
 use crate::error::ScopeError;
@@ -142,7 +142,12 @@ fn resolve_statement(
             Ok(SStmt::Print(*line, scope.escaping, printed))
         }
         Stmt::If(branches, other) => {
-            let chosen = resolve_branches(alloc, scope, branches, pool)?;
+            let mut chosen = Vec::new(alloc);
+            for (line, asked, inside) in branches {
+                let condition = resolve_expression(scope, asked, pool)?;
+                let body = resolve_statements(alloc, scope, inside, pool)?;
+                chosen.push((*line, condition, body))?;
+            }
             let last = resolve_statements(alloc, scope, other, pool)?;
             Ok(SStmt::If(chosen, last))
         }
@@ -167,41 +172,4 @@ fn resolve_statements(
         resolved.push(next)?;
     }
     Ok(resolved)
-}
-
-/// Resolves branches.
-#[cycle(resolve)]
-fn resolve_branches(
-    alloc: Global,
-    scope: &Scope,
-    branches: &[(u32, Expr, Vec<Stmt>)],
-    pool: &mut Vec<Value>,
-) -> Result<Vec<(u32, SExpr, Vec<SStmt>)>, ScopeError>
-    ensures resolved { IfOk result (λ bs. (other : ℕ → Front) (behind : SBody) → choice_view (name_of scope.now) bs.items (other (length (values pool.new))) behind ≡ choice_in scope.now (parsed.branches_view branches.now) other (length (values pool.old)) behind) }
-    ensures pooled { IfOk result (λ bs. values pool.new ≡ values pool.old ++ branch_pool (parsed.branches_view branches.now)) }
-    ensures refused { IfErr result (λ e. e ≡ error.NoMemory) }
-{
-    let mut resolved = Vec::new(alloc);
-    for branch in branches {
-        let next = resolve_branch(alloc, scope, branch, pool)?;
-        resolved.push(next)?;
-    }
-    Ok(resolved)
-}
-
-/// Resolves a branch.
-#[cycle(resolve)]
-fn resolve_branch(
-    alloc: Global,
-    scope: &Scope,
-    branch: &(u32, Expr, Vec<Stmt>),
-    pool: &mut Vec<Value>,
-) -> Result<(u32, SExpr, Vec<SStmt>), ScopeError>
-    ensures resolved { IfOk result (λ b. IsBranch scope.now branch.now (length (values pool.old)) b) }
-    ensures pooled { IfOk result (λ b. values pool.new ≡ values pool.old ++ (expr_pool (parsed.expr_view branch.now.1) ++ body_pool (parsed.body_view branch.now.2.items))) }
-    ensures refused { IfErr result (λ e. e ≡ error.NoMemory) }
-{
-    let condition = resolve_expression(scope, &branch.1, pool)?;
-    let body = resolve_statements(alloc, scope, &branch.2, pool)?;
-    Ok((branch.0, condition, body))
 }
