@@ -15,10 +15,11 @@ use Rattle.jt_parse.specs.Trees.{Text}
 use Rattle.jt_scopes.specs.Slots as slots
 use Rattle.jt_scopes.specs.Slots.{SBody, end}
 use Rattle.jt_scopes.specs.View.{Front, expr_view, stmt_view, body_view, choice_view}
+use Rattle.jt_scopes.specs.declared.program.SExpr.{SExpr}
 use Rattle.jt_scopes.specs.declared.program.SStmt.{SStmt}
 use Rattle.jt_codegen.specs.Asm.{Asm, nil, one, both, choose, flat}
 use Rattle.jt_codegen.specs.Lower.{expr_asm, body_asm}
-use Rattle.jt_codegen.specs.Emission.{Emitted, HasPlace, Refuses, Emits, none_left, Branch, branches_asm, closed, Opens}
+use Rattle.jt_codegen.specs.Emission.{Emitted, HasPlace, Refuses, Emits, none_left, Branch, branches_asm, closed, Begins, Ends, Opens}
 use Rattle.jt_codegen.specs.declared.emission.EmitError.{EmitError}
 use Rattle.jt_codegen.specs.declared.emission.EmitError.TheVariants as error
 
@@ -132,6 +133,10 @@ place_last n a h = record { len = omega (arith, h.len, length-append (flat a n) 
 pub place_behind : (c d : List Instr) (a b : Asm) → Emitted c a d → HasPlace (length c) (both a b) → HasPlace (length d) b
 place_behind c d a b e h = subst (λ n. HasPlace n b) (sym (emitted_len c d a e)) (place_second (length c) a b h)
 
+-- a condition that is tested
+pub begun_place : (c d : List Instr) (x a other : Asm) → Emitted c x d → HasPlace (length c) (both x (choose a other)) → HasPlace (length d) (one (op.JumpIfFalse 0))
+begun_place c d x a other e p = let q = place_behind c d x (choose a other) e p in record { len = omega (arith, q.len); fields = (omega arith, tt) }
+
 -- ---- refusals
 
 pub refused_by : (e : EmitError) (n m : ℕ) (a b : Asm) → (HasPlace n a → HasPlace m b) → Refuses e m b → Refuses e n a
@@ -172,7 +177,7 @@ within_more [] n m e le lt h = (lt, tt)
 within_more (i ∷ es) n m e le lt h = (omega (arith, h.0, le), within_more es n m e le lt h.1)
 
 pub within_at : (es : List ℕ) (n i e : ℕ) → i < length es → e ≡ get_or es i e → AllByRecursion (λ x. x < n) es → e < n
-within_at [] n i e lt is h = absurd lt
+within_at [] n i e lt is h = absurd (omega (arith, lt))
 within_at (x ∷ es) n zero e lt is h = omega (arith, is, h.0)
 within_at (x ∷ es) n (suc i) e lt is h = within_at es n i e (omega (arith, lt)) is h.1
 
@@ -205,7 +210,7 @@ module _ (template : Text) where
       ap (λ l. branches_asm template l other) (drop_more bs i b lt) ∙ ap (λ (x : Branch). branches_asm template (x ∷ []) (branches_asm template (drop (i + 1) bs) other)) (sym is)
 
   pub opens_none : (old : List Instr) (all : List Branch) → Opens template old all old all []
-  opens_none old all = record { counted = refl; longer = omega arith; within = tt; code = λ other final e. e; place = λ other p. p }
+  opens_none old all = record { counted = omega arith; longer = omega arith; within = tt; code = λ other final e. e; place = λ other p. p }
 
   -- one branch more
   pub opens_more : (bs : List Branch) (i : ℕ) (b : Branch) (old now new : List Instr) (ends : List ℕ) (m : ℕ) → i < length bs → b ≡ get_or bs i b → Opens template old bs now (drop i bs) ends → Opens template now (b ∷ []) new [] (m ∷ [])
@@ -238,13 +243,12 @@ module _ (template : Text) where
       refused_by x (length old) (length now) (branches_asm template bs other) (branches_asm template (b ∷ []) rest) (λ p. subst (HasPlace (length now)) (branches_left bs i b lt is other) (h.place other p)) (r rest)
 
   -- a branch, the last jump of which isn't written yet
-  pub branch_opens : (b : Branch) (ss : List SStmt) (c0 c1 c2 c3 c4 c5 : List Instr) (n m t : ℕ) → ss ≡ b.2.items → Emitted c0 (expr_asm (expr_view b.1)) c1 → Emitted c1 (one (op.JumpIfFalse 0)) c2 → Emits c2 (body_view template ss) c3 none_left
-      → Emitted c3 (one (op.Jump 0)) c4 → n ≡ length c1 → m ≡ length c3 → t ≡ length c4 → c5 ≡ slice_set c4 n (wire_of (op.JumpIfFalse t)) → Opens template c0 (b ∷ []) c5 [] (m ∷ [])
-  branch_opens b ss c0 c1 c2 c3 c4 c5 n m t same e1 e2 h e4 en em et e5 = record {
+  pub branch_opens : (b : Branch) (ss : List SStmt) (c0 c2 c3 c5 : List Instr) (n m : ℕ) → ss ≡ b.2.items → Begins c0 b.1 c2 n → Emits c2 (body_view template ss) c3 none_left → Ends c3 n c5 m → Opens template c0 (b ∷ []) c5 [] (m ∷ [])
+  branch_opens b ss c0 c2 c3 c5 n m same begun h ended = record {
     counted = refl;
     longer = omega (arith, len1, len2, len3, len4, len5);
-    within = (omega (arith, em, len4, len5), tt);
-    code = λ other final e. emitted_last c0 _ (both x (choose a other)) (emitted_then c0 c1 _ x (choose a other) e1 (choose_opened c1 c2 c3 c4 c5 final a other n m t e2 e3 e4 en em et e5 e));
+    within = (omega (arith, ended.at, len4, len5), tt);
+    code = λ other final e. emitted_last c0 _ (both x (choose a other)) (emitted_then c0 c1 _ x (choose a other) begun.tests (choose_opened c1 c2 c3 c4 c5 final a other n m (length c3 + 1) begun.jumps e3 refl begun.at ended.at (sym len4) ended.jumps e));
     place = λ other p. let q = place_other _ a other (place_second (length c0) x (choose a other) (place_first (length c0) (both x (choose a other)) nil p)) in subst (λ i. HasPlace i other) at q;
   }
     where
@@ -254,35 +258,47 @@ module _ (template : Text) where
       a : Asm
       a = body_asm (body_view template b.2.items end)
 
+      c1 : List Instr
+      c1 = begun.tested
+
+      c4 : List Instr
+      c4 = c3 ++ wire_of (op.Jump 0) ∷ []
+
       e3 : Emitted c2 a c3
       e3 = subst (λ l. Emitted c2 (body_asm (body_view template l end)) c3) same (h.code end c3 (emitted_nothing c3))
 
       len1 : length c1 ≡ length c0 + length (flat x (length c0))
-      len1 = emitted_len c0 c1 x e1
+      len1 = emitted_len c0 c1 x begun.tests
 
       len2 : length c2 ≡ length c1 + 1
-      len2 = emitted_len c1 c2 (one (op.JumpIfFalse 0)) e2
+      len2 = emitted_len c1 c2 (one (op.JumpIfFalse 0)) begun.jumps
 
       len3 : length c3 ≡ length c2 + length (flat a (length c2))
       len3 = emitted_len c2 c3 a e3
 
       len4 : length c4 ≡ length c3 + 1
-      len4 = emitted_len c3 c4 (one (op.Jump 0)) e4
+      len4 = length-append c3 (wire_of (op.Jump 0) ∷ [])
 
       len5 : length c5 ≡ length c4
-      len5 = ap length e5 ∙ length-set c4 n (wire_of (op.JumpIfFalse t))
+      len5 = ap length ended.jumps ∙ length-set c4 n (wire_of (op.JumpIfFalse (length c3 + 1)))
 
       at : length c0 + length (flat x (length c0)) + 1 + length (flat a (length c0 + length (flat x (length c0)) + 1)) + 1 ≡ length c5
       at =
           let to : length c2 ≡ length c0 + length (flat x (length c0)) + 1 = omega (arith, len1, len2) in
           omega (arith, len3, len4, len5, to, ap (λ i. length (flat a i)) to)
 
-  -- the parts of a branch that are refused
-  pub condition_refused : (e : EmitError) (b : Branch) (n : ℕ) (other : Asm) → Refuses e n (expr_asm (expr_view b.1)) → Refuses e n (branches_asm template (b ∷ []) other)
-  condition_refused e b n other r =
+  -- the jump that a branch begins with is there when its statements are
+  pub begun_within : (e : SExpr) (ss : List SStmt) (c0 c2 c3 : List Instr) (n : ℕ) → Begins c0 e c2 n → Emits c2 (body_view template ss) c3 none_left → n < length c3
+  begun_within e ss c0 c2 c3 n begun h =
+      omega (arith, begun.at, emitted_len begun.tested c2 (one (op.JumpIfFalse 0)) begun.jumps, emitted_len c2 c3 (body_asm (body_view template ss end)) (h.code end c3 (emitted_nothing c3)))
+
+  -- ---- a branch that is refused
+
+  pub begin_refused : (e : EmitError) (b : Branch) (n : ℕ) (other : Asm) → ((taken last : Asm) → Refuses e n (both (expr_asm (expr_view b.1)) (choose taken last))) → Refuses e n (branches_asm template (b ∷ []) other)
+  begin_refused e b n other r =
       let x : Asm = expr_asm (expr_view b.1) in
       let a : Asm = body_asm (body_view template b.2.items end) in
-      refused_by e n n (branches_asm template (b ∷ []) other) x (λ p. place_first n x (choose a other) (place_first n (both x (choose a other)) nil p)) r
+      refused_by e n n (branches_asm template (b ∷ []) other) (both x (choose a other)) (λ p. place_first n (both x (choose a other)) nil p) (r a other)
 
   choice_place : (b : Branch) (c0 c1 : List Instr) (other : Asm) → Emitted c0 (expr_asm (expr_view b.1)) c1 → HasPlace (length c0) (branches_asm template (b ∷ []) other) → HasPlace (length c1) (choose (body_asm (body_view template b.2.items end)) other)
   choice_place b c0 c1 other e1 p =
@@ -290,40 +306,30 @@ module _ (template : Text) where
       let a : Asm = body_asm (body_view template b.2.items end) in
       place_behind c0 c1 x (choose a other) e1 (place_first (length c0) (both x (choose a other)) nil p)
 
-  pub choice_refused : (e : EmitError) (b : Branch) (c0 c1 : List Instr) (other : Asm) → Emitted c0 (expr_asm (expr_view b.1)) c1 → Refuses e (length c1) (one (op.JumpIfFalse 0)) → Refuses e (length c0) (branches_asm template (b ∷ []) other)
-  choice_refused e b c0 c1 other e1 r =
-      refused_by e (length c0) (length c1) (branches_asm template (b ∷ []) other) (one (op.JumpIfFalse 0)) (λ p. let q = choice_place b c0 c1 other e1 p in record { len = omega (arith, q.len); fields = (omega arith, tt) }) r
-
-  body_place : (b : Branch) (ss : List SStmt) (c0 c1 c2 : List Instr) (other : Asm) → ss ≡ b.2.items → Emitted c0 (expr_asm (expr_view b.1)) c1 → Emitted c1 (one (op.JumpIfFalse 0)) c2 → HasPlace (length c0) (branches_asm template (b ∷ []) other)
-      → HasPlace (length c2) (body_asm (body_view template ss end))
-  body_place b ss c0 c1 c2 other same e1 e2 p =
+  body_place : (b : Branch) (ss : List SStmt) (c0 c2 : List Instr) (n : ℕ) (other : Asm) → ss ≡ b.2.items → Begins c0 b.1 c2 n → HasPlace (length c0) (branches_asm template (b ∷ []) other) → HasPlace (length c2) (body_asm (body_view template ss end))
+  body_place b ss c0 c2 n other same begun p =
       let a : Asm = body_asm (body_view template b.2.items end) in
-      let q = place_taken (length c1) a other (choice_place b c0 c1 other e1 p) in
-      let r : HasPlace (length c2) a = subst (λ i. HasPlace i a) (sym (emitted_len c1 c2 (one (op.JumpIfFalse 0)) e2)) q in
+      let q = place_taken (length begun.tested) a other (choice_place b c0 begun.tested other begun.tests p) in
+      let r : HasPlace (length c2) a = subst (λ i. HasPlace i a) (sym (emitted_len begun.tested c2 (one (op.JumpIfFalse 0)) begun.jumps)) q in
       subst (λ l. HasPlace (length c2) (body_asm (body_view template l end))) (sym same) r
 
-  pub body_refused : (e : EmitError) (b : Branch) (ss : List SStmt) (c0 c1 c2 : List Instr) (other : Asm) → ss ≡ b.2.items → Emitted c0 (expr_asm (expr_view b.1)) c1 → Emitted c1 (one (op.JumpIfFalse 0)) c2
-      → ((behind : SBody) → Refuses e (length c2) (body_asm (body_view template ss behind))) → Refuses e (length c0) (branches_asm template (b ∷ []) other)
-  body_refused e b ss c0 c1 c2 other same e1 e2 r = refused_by e (length c0) (length c2) (branches_asm template (b ∷ []) other) (body_asm (body_view template ss end)) (body_place b ss c0 c1 c2 other same e1 e2) (r end)
+  pub body_refused : (e : EmitError) (b : Branch) (ss : List SStmt) (c0 c2 : List Instr) (n : ℕ) (other : Asm) → ss ≡ b.2.items → Begins c0 b.1 c2 n → ((behind : SBody) → Refuses e (length c2) (body_asm (body_view template ss behind)))
+      → Refuses e (length c0) (branches_asm template (b ∷ []) other)
+  body_refused e b ss c0 c2 n other same begun r = refused_by e (length c0) (length c2) (branches_asm template (b ∷ []) other) (body_asm (body_view template ss end)) (body_place b ss c0 c2 n other same begun) (r end)
 
-  last_place : (b : Branch) (ss : List SStmt) (c0 c1 c2 c3 : List Instr) (other : Asm) → ss ≡ b.2.items → Emitted c0 (expr_asm (expr_view b.1)) c1 → Emitted c1 (one (op.JumpIfFalse 0)) c2 → Emits c2 (body_view template ss) c3 none_left
+  last_place : (b : Branch) (ss : List SStmt) (c0 c2 c3 : List Instr) (n : ℕ) (other : Asm) → ss ≡ b.2.items → Begins c0 b.1 c2 n → Emits c2 (body_view template ss) c3 none_left
       → HasPlace (length c0) (branches_asm template (b ∷ []) other) → length c3 + 1 ≤ max_instructions
-  last_place b ss c0 c1 c2 c3 other same e1 e2 h p =
+  last_place b ss c0 c2 c3 n other same begun h p =
       let a : Asm = body_asm (body_view template b.2.items end) in
       let e3 : Emitted c2 a c3 = subst (λ l. Emitted c2 (body_asm (body_view template l end)) c3) same (h.code end c3 (emitted_nothing c3)) in
-      let q = place_other (length c1) a other (choice_place b c0 c1 other e1 p) in
-      let to : length c2 ≡ length c1 + 1 = emitted_len c1 c2 (one (op.JumpIfFalse 0)) e2 in
+      let q = place_other (length begun.tested) a other (choice_place b c0 begun.tested other begun.tests p) in
+      let to : length c2 ≡ length begun.tested + 1 = emitted_len begun.tested c2 (one (op.JumpIfFalse 0)) begun.jumps in
       omega (arith, q.len, emitted_len c2 c3 a e3, to, ap (λ i. length (flat a i)) to)
 
-  pub last_refused : (e : EmitError) (b : Branch) (ss : List SStmt) (c0 c1 c2 c3 : List Instr) (other : Asm) → ss ≡ b.2.items → Emitted c0 (expr_asm (expr_view b.1)) c1 → Emitted c1 (one (op.JumpIfFalse 0)) c2 → Emits c2 (body_view template ss) c3 none_left
-      → Refuses e (length c3) (one (op.Jump 0)) → Refuses e (length c0) (branches_asm template (b ∷ []) other)
-  last_refused e b ss c0 c1 c2 c3 other same e1 e2 h r =
-      refused_by e (length c0) (length c3) (branches_asm template (b ∷ []) other) (one (op.Jump 0)) (λ p. record { len = last_place b ss c0 c1 c2 c3 other same e1 e2 h p; fields = (omega arith, tt) }) r
-
-  pub target_refused : (e : EmitError) (b : Branch) (ss : List SStmt) (c0 c1 c2 c3 c4 : List Instr) (other : Asm) → ss ≡ b.2.items → Emitted c0 (expr_asm (expr_view b.1)) c1 → Emitted c1 (one (op.JumpIfFalse 0)) c2 → Emits c2 (body_view template ss) c3 none_left
-      → Emitted c3 (one (op.Jump 0)) c4 → e ≡ error.CodeTooLong → 2 ^ 32 ≤ length c4 → Refuses e (length c0) (branches_asm template (b ∷ []) other)
-  target_refused e b ss c0 c1 c2 c3 c4 other same e1 e2 h e4 is above =
-      refused_above e (length c0) (length c4) (branches_asm template (b ∷ []) other) (λ p. omega (arith, last_place b ss c0 c1 c2 c3 other same e1 e2 h p, emitted_len c3 c4 (one (op.Jump 0)) e4)) is above
+  pub end_refused : (e : EmitError) (b : Branch) (ss : List SStmt) (c0 c2 c3 : List Instr) (n : ℕ) (other : Asm) → ss ≡ b.2.items → Begins c0 b.1 c2 n → Emits c2 (body_view template ss) c3 none_left → Refuses e (length c3) (one (op.Jump 0))
+      → Refuses e (length c0) (branches_asm template (b ∷ []) other)
+  end_refused e b ss c0 c2 c3 n other same begun h r =
+      refused_by e (length c0) (length c3) (branches_asm template (b ∷ []) other) (one (op.Jump 0)) (λ p. record { len = last_place b ss c0 c2 c3 n other same begun h p; fields = (omega arith, tt) }) r
 
   -- ---- branches with an else part
 
@@ -331,7 +337,7 @@ module _ (template : Text) where
   choice_asm [] f = refl
   choice_asm (b ∷ bs) f = ap (λ o. both (both (expr_asm (expr_view b.1)) (choose (body_asm (body_view template b.2.items end)) o)) nil) (choice_asm bs f)
 
-  branch_first : Branch → Asm → Asm
+  abbrev branch_first : Branch → Asm → Asm
   branch_first b o = both (expr_asm (expr_view b.1)) (choose (body_asm (body_view template b.2.items end)) o)
 
   choice_place_all : (bs : List Branch) (f : Front) (n : ℕ) (behind : SBody) → HasPlace n (body_asm (choice_view template bs f behind)) → (z : SBody) × HasPlace n (branches_asm template bs (body_asm (f z)))
