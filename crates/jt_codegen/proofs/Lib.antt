@@ -4,3 +4,6 @@ pub mod Lowered
 pub mod Typed
 pub mod Whole
 pub mod Patched
+pub mod Small
+pub mod Spelled
+pub mod Entries

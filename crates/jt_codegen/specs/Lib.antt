@@ -3,3 +3,4 @@ pub mod Lower
 pub mod Emission
 pub mod Fits
 pub mod Compiles
+pub mod Limits
