@@ -7,3 +7,6 @@ pub mod Patched
 pub mod Small
 pub mod Spelled
 pub mod Entries
+pub mod Named
+pub mod Images
+pub mod Tabled

@@ -1,9 +1,9 @@
 -- Instructions put behind others, and jumps that are written when their target is known.
-use Rattle.std.proofs.Common.{◌≡◌, ℕ, zero, suc, ◌+◌, ◌<◌, ◌≤◌, ◌^◌, List, [], ◌∷◌, ◌++◌, length, map, drop, get_or, Option, Some, None, refl, sym, ap, ◌∙◌, subst, arith, append_assoc, append-nil, length-append, Vec, Global}
+use Rattle.std.proofs.Common.{◌≡◌, ℕ, zero, suc, ◌+◌, ◌<◌, ◌≤◌, ◌^◌, Bool, rules, List, [], ◌∷◌, ◌++◌, length, map, drop, get_or, Option, Some, None, refl, sym, ap, ◌∙◌, subst, arith, append_assoc, append-nil, length-append, Vec, Global}
 use Rattle.std.specs.Prelude.{slice_set, option_map}
 use Rattle.std.specs.List.{AllByRecursion}
 use Rattle.std.proofs.Math.Seq.{set-append_seam}
-use Rattle.std.proofs.lemmas.List.{map-append, length-map, length-set, drop_more}
+use Rattle.std.proofs.lemmas.List.{map-append, length-map, length-set, drop_more, at_drop_all}
 use Rattle.jt_image.specs.declared.instruction.Instruction.{Instruction}
 use Rattle.jt_image.specs.declared.instruction.Instruction.TheVariants as op
 use Rattle.jt_image.specs.declared.wire.Instr.{Instr}
@@ -16,9 +16,11 @@ use Rattle.jt_scopes.specs.Slots as slots
 use Rattle.jt_scopes.specs.Slots.{SBody, end}
 use Rattle.jt_scopes.specs.View.{Front, expr_view, stmt_view, body_view, choice_view}
 use Rattle.jt_scopes.specs.declared.program.SExpr.{SExpr}
-use Rattle.jt_scopes.specs.declared.program.SStmt.{SStmt}
+use Rattle.jt_scopes.specs.declared.program.SStmt.{SStmt, the_lemmas}
+use Rattle.jt_scopes.specs.declared.program.SStmt.TheVariants as stmts
+use Rattle.jt_scopes.proofs.Fronts.{view-PutPooled, view-If}
 use Rattle.jt_codegen.specs.Asm.{Asm, nil, one, both, choose, flat}
-use Rattle.jt_codegen.specs.Lower.{expr_asm, body_asm}
+use Rattle.jt_codegen.specs.Lower.{flag, expr_asm, stmt_asm, body_asm}
 use Rattle.jt_codegen.specs.Emission.{Emitted, HasPlace, Refuses, Emits, none_left, Branch, branches_asm, closed, Begins, Ends, Opens}
 use Rattle.jt_codegen.specs.declared.emission.EmitError.{EmitError}
 use Rattle.jt_codegen.specs.declared.emission.EmitError.TheVariants as error
@@ -176,10 +178,18 @@ within_more : (es : List ℕ) (n m e : ℕ) → n ≤ m → e < m → AllByRecur
 within_more [] n m e le lt h = (lt, tt)
 within_more (i ∷ es) n m e le lt h = (omega (arith, h.0, le), within_more es n m e le lt h.1)
 
-pub within_at : (es : List ℕ) (n i e : ℕ) → i < length es → e ≡ get_or es i e → AllByRecursion (λ x. x < n) es → e < n
-within_at [] n i e lt is h = absurd (omega (arith, lt))
-within_at (x ∷ es) n zero e lt is h = omega (arith, is, h.0)
-within_at (x ∷ es) n (suc i) e lt is h = within_at es n i e (omega (arith, lt)) is h.1
+all_below : (es : List ℕ) (n m : ℕ) → n ≤ m → AllByRecursion (λ i. i < n) es → AllByRecursion (λ i. i < m) es
+all_below [] n m le h = tt
+all_below (i ∷ es) n m le h = (omega (arith, h.0, le), all_below es n m le h.1)
+
+pub within_get : (es : List ℕ) (n i : ℕ) → i < length es → AllByRecursion (λ x. x < n) es → get_or es i 0 < n
+within_get [] n i lt h = absurd (omega (arith, lt))
+within_get (x ∷ es) n zero lt h = h.0
+within_get (x ∷ es) n (suc i) lt h = within_get es n i (omega (arith, lt)) h.1
+
+-- one jump more is written
+pub closed_step : (code : List Instr) (es : List ℕ) (i t : ℕ) (w : Instr) → i < length es → w ≡ wire_of (op.Jump t) → closed (slice_set code (get_or es i 0) w) (drop (i + 1) es) t ≡ closed code (drop i es) t
+closed_step code es i t w lt is = ap (λ v. closed (slice_set code (get_or es i 0) v) (drop (i + 1) es) t) is ∙ ap (λ l. closed code l t) (sym (drop_more es i 0 lt))
 
 -- ---- statements
 
@@ -292,6 +302,12 @@ module _ (template : Text) where
   begun_within e ss c0 c2 c3 n begun h =
       omega (arith, begun.at, emitted_len begun.tested c2 (one (op.JumpIfFalse 0)) begun.jumps, emitted_len c2 c3 (body_asm (body_view template ss end)) (h.code end c3 (emitted_nothing c3)))
 
+  -- the jumps that are to be written are there when the else part is
+  pub ends_within : (old mid new : List Instr) (bs left : List Branch) (ss : List SStmt) (ends es : List ℕ) → Opens template old bs mid left ends → Emits mid (body_view template ss) new none_left → es ≡ ends → AllByRecursion (λ e. e < length new) es
+  ends_within old mid new bs left ss ends es h k same =
+      let longer : length mid ≤ length new = omega (arith, emitted_len mid new (body_asm (body_view template ss end)) (k.code end new (emitted_nothing new))) in
+      subst (AllByRecursion (λ e. e < length new)) (sym same) (all_below ends (length mid) (length new) longer h.within)
+
   -- ---- a branch that is refused
 
   pub begin_refused : (e : EmitError) (b : Branch) (n : ℕ) (other : Asm) → ((taken last : Asm) → Refuses e n (both (expr_asm (expr_view b.1)) (choose taken last))) → Refuses e n (branches_asm template (b ∷ []) other)
@@ -381,6 +397,82 @@ module _ (template : Text) where
 
       first : Emitted old (branch_first b o) final
       first = emitted_alone old final (branch_first b o) (subst (λ x. Emitted old (both (branch_first b x) nil) final) (sym (choice_asm bs f)) all)
+
+  -- ---- whole statements
+
+  -- all of the statements
+  pub emits_all : (ss : List SStmt) (i : ℕ) (old new : List Instr) → length ss ≤ i → Emits old (body_view template ss) new (body_view template (drop i ss)) → Emits old (body_view template ss) new none_left
+  emits_all ss i old new le h = record {
+    code = λ behind final e. h.code behind final (subst (λ b. Emitted new (body_asm b) final) (gone behind) e);
+    place = λ behind p. subst (λ b. HasPlace (length new) (body_asm b)) (sym (gone behind)) (h.place behind p);
+  }
+    where
+      gone : (behind : SBody) → behind ≡ body_view template (drop i ss) behind
+      gone behind = sym (at_drop_all (λ l. body_view template l behind) ss i le)
+
+  -- all of the branches
+  pub opens_all : (bs : List Branch) (i : ℕ) (old new : List Instr) (ends : List ℕ) → length bs ≤ i → Opens template old bs new (drop i bs) ends → Opens template old bs new [] ends
+  opens_all bs i old new ends le h = subst (λ l. Opens template old bs new l ends) (at_drop_all (λ l. l) bs i le) h
+
+  -- a statement that is seen as one, in front of others
+  one_emits : (s : SStmt) (shown : SBody → slots.SStmt) (old new : List Instr) (a : Asm) → ((behind : SBody) → stmt_view template s behind ≡ slots.stmt (shown behind) behind) → ((behind : SBody) → stmt_asm (shown behind) ≡ a) → Emitted old a new → Emits old (stmt_view template s) new none_left
+  one_emits s shown old new a view same e = record {
+    code = λ behind final f. subst (λ x. Emitted old x final) (sym (whole behind)) (emitted_then old new final a (body_asm behind) e f);
+    place = λ behind p. place_behind old new a (body_asm behind) e (subst (HasPlace (length old)) (whole behind) p);
+  }
+    where
+      whole : (behind : SBody) → body_asm (stmt_view template s behind) ≡ both a (body_asm behind)
+      whole behind = ap body_asm (view behind) ∙ ap (λ x. both x (body_asm behind)) (same behind)
+
+  one_refused : (x : EmitError) (n : ℕ) (s : SStmt) (shown : SBody → slots.SStmt) (a : Asm) → ((behind : SBody) → stmt_view template s behind ≡ slots.stmt (shown behind) behind) → ((behind : SBody) → stmt_asm (shown behind) ≡ a) → Refuses x n a
+      → (behind : SBody) → Refuses x n (body_asm (stmt_view template s behind))
+  one_refused x n s shown a view same r behind =
+      let whole : body_asm (stmt_view template s behind) ≡ both a (body_asm behind) = ap body_asm (view behind) ∙ ap (λ y. both y (body_asm behind)) (same behind) in
+      refused_by x n n (body_asm (stmt_view template s behind)) a (λ p. place_first n a (body_asm behind) (subst (HasPlace n) whole p)) r
+
+  data_view : (s : SStmt) (i : ℕ) → s ≡ stmts.PutPooled i → (behind : SBody) → stmt_view template s behind ≡ slots.stmt (slots.put_pooled i) behind
+  data_view s i is behind = ap (λ z. stmt_view template z behind) is ∙ view-PutPooled template i behind
+
+  print_view : (s : SStmt) (line : ℕ) (escaping : Bool) (e : SExpr) → s ≡ stmts.Print line escaping e → (behind : SBody) → stmt_view template s behind ≡ slots.stmt (slots.print (record { template = template; line = line }) escaping (expr_view e)) behind
+  print_view s line escaping e is behind = ap (λ z. stmt_view template z behind) is ∙ view-Print line escaping e behind
+    where
+      view-Print : (line : ℕ) (escaping : Bool) (e : SExpr) (behind : SBody) → stmt_view template (stmts.Print line escaping e) behind ≡ slots.stmt (slots.print (record { template = template; line = line }) escaping (expr_view e)) behind
+      view-Print line escaping e behind = search (rules, the_lemmas)
+
+  pub data_emits : (s : SStmt) (i : ℕ) (old new : List Instr) → s ≡ stmts.PutPooled i → Emitted old (one (op.Data i)) new → Emits old (stmt_view template s) new none_left
+  data_emits s i old new is e = one_emits s (λ behind. slots.put_pooled i) old new (one (op.Data i)) (data_view s i is) (λ behind. refl) e
+
+  pub data_refused : (x : EmitError) (n : ℕ) (s : SStmt) (i : ℕ) → s ≡ stmts.PutPooled i → Refuses x n (one (op.Data i)) → (behind : SBody) → Refuses x n (body_asm (stmt_view template s behind))
+  data_refused x n s i is r = one_refused x n s (λ behind. slots.put_pooled i) (one (op.Data i)) (data_view s i is) (λ behind. refl) r
+
+  pub print_emits : (s : SStmt) (line : ℕ) (escaping : Bool) (e : SExpr) (old now new : List Instr) → s ≡ stmts.Print line escaping e → Emitted old (expr_asm (expr_view e)) now → Emitted now (one (op.Emit (flag escaping))) new → Emits old (stmt_view template s) new none_left
+  print_emits s line escaping e old now new is f g =
+      let a : Asm = both (expr_asm (expr_view e)) (one (op.Emit (flag escaping))) in
+      one_emits s (λ behind. slots.print (record { template = template; line = line }) escaping (expr_view e)) old new a (print_view s line escaping e is) (λ behind. refl) (emitted_then old now new (expr_asm (expr_view e)) (one (op.Emit (flag escaping))) f g)
+
+  pub print_refused : (x : EmitError) (n : ℕ) (s : SStmt) (line : ℕ) (escaping : Bool) (e : SExpr) → s ≡ stmts.Print line escaping e → Refuses x n (both (expr_asm (expr_view e)) (one (op.Emit (flag escaping)))) → (behind : SBody) → Refuses x n (body_asm (stmt_view template s behind))
+  print_refused x n s line escaping e is r =
+      one_refused x n s (λ behind. slots.print (record { template = template; line = line }) escaping (expr_view e)) (both (expr_asm (expr_view e)) (one (op.Emit (flag escaping)))) (print_view s line escaping e is) (λ behind. refl) r
+
+  if_view : (s : SStmt) (bs : Vec Branch Global) (other : Vec SStmt Global) (bs' : List Branch) (other' : List SStmt) → s ≡ stmts.If bs other → bs' ≡ bs.items → other' ≡ other.items → (behind : SBody) → stmt_view template s behind ≡ choice_view template bs' (body_view template other') behind
+  if_view s bs other bs' other' is p q behind =
+      ap (λ z. stmt_view template z behind) is ∙ view-If template bs other behind
+      ∙ ap (λ (l : List Branch). choice_view template l (body_view template other.items) behind) (sym p) ∙ ap (λ (l : List SStmt). choice_view template bs' (body_view template l) behind) (sym q)
+
+  pub if_emits : (s : SStmt) (bs : Vec Branch Global) (other : Vec SStmt Global) (bs' : List Branch) (other' : List SStmt) (old mid new final : List Instr) (ends : List ℕ) → s ≡ stmts.If bs other → bs' ≡ bs.items → other' ≡ other.items
+      → Opens template old bs' mid [] ends → Emits mid (body_view template other') new none_left → final ≡ closed new ends (length new) → Emits old (stmt_view template s) final none_left
+  if_emits s bs other bs' other' old mid new final ends is p q h k same =
+      let g = choice_emits bs' (body_view template other') old mid new final ends h k same in
+      let view = if_view s bs other bs' other' is p q in
+      record {
+        code = λ behind z e. subst (λ b. Emitted old (body_asm b) z) (sym (view behind)) (g.code behind z e);
+        place = λ behind r. g.place behind (subst (λ b. HasPlace (length old) (body_asm b)) (view behind) r);
+      }
+
+  -- whatever refuses the branches, or the else part, refuses the statement
+  pub if_refused : (x : EmitError) (n : ℕ) (s : SStmt) (bs : Vec Branch Global) (other : Vec SStmt Global) (bs' : List Branch) (other' : List SStmt) → s ≡ stmts.If bs other → bs' ≡ bs.items → other' ≡ other.items
+      → ((behind : SBody) → Refuses x n (body_asm (choice_view template bs' (body_view template other') behind))) → (behind : SBody) → Refuses x n (body_asm (stmt_view template s behind))
+  if_refused x n s bs other bs' other' is p q r behind = subst (λ b. Refuses x n (body_asm b)) (sym (if_view s bs other bs' other' is p q behind)) (r behind)
 
 -- ---- instructions by their fields
 

@@ -271,7 +271,7 @@ module _ (template : Text) (escaping : Bool) (b : Body) where
       let pool : 0 + length (body_pool b) ≤ 2 ^ 32 = omega (arith, limits.constants, mapped_len constant_of p.pool) in
       body_below template escaping (ascending (body_names b)) (2 ^ 32) names b 0 slots.end pool tt
 
-  writable : KeepsLimits (compiled p) → IsWritable (unit_of only)
+  pub writable : KeepsLimits (compiled p) → IsWritable (unit_of only)
   writable limits =
       let size : body_size body + 1 ≤ max_instructions = omega (arith, limits.instructions, unit_len only) in
       record {

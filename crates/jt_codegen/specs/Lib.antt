@@ -4,3 +4,5 @@ pub mod Emission
 pub mod Fits
 pub mod Compiles
 pub mod Limits
+pub mod Refusals
+pub mod Compiled

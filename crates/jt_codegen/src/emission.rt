@@ -197,9 +197,9 @@ fn close(code: &mut Vec<Instr>, ends: &[usize]) -> Result<(), EmitError>
     ensures closed { OnOk result (code.new.items ≡ closed code.old.items ends.now (length code.old.items)) }
     ensures refused { IfErr result (λ e. (e ≡ CodeTooLong) × (2 ^ 32 ≤ length code.old.items)) }
 {
-    let target = field(code.len())?;
+    let behind = field(code.len())?;
     for end in ends {
-        code[*end] = Instruction::Jump { target }.wire();
+        code[*end] = Instruction::Jump { target: behind }.wire();
     }
     Ok(())
 }

@@ -1,5 +1,10 @@
 //! Templates to images.
 #![tactic(auto)]
 
+mod compiling;
 mod emission;
+mod error;
 mod tables;
+
+pub use compiling::compile;
+pub use error::CompileError;

@@ -51,9 +51,11 @@ fn names_of(
 {
     let mut names = Vec::with_capacity(alloc, usize::from(slots))?;
     for slot in 0..slots {
-        if let Some(name) = resolved.name(usize::from(slot)) {
-            names.push((slot, String::from_str(alloc, name)?))?;
-        }
+        let Some(name) = resolved.name(usize::from(slot)) else {
+            unreachable!()
+        };
+        let copy = String::from_str(alloc, name)?;
+        names.push((slot, copy))?;
     }
     Ok(names)
 }
