@@ -1,9 +1,12 @@
 -- A tree is no longer than its source.
-use Rattle.std.proofs.Common.{◌≡◌, ℕ, ◌+◌, ◌≤◌, List, [], ◌∷◌, ◌++◌, length, ap, subst, sym, ◌∙◌, arith, chars, encode_utf8_all, IsUtf8, length-append}
+use Rattle.std.proofs.Common.{◌≡◌, ℕ, ◌+◌, ◌<◌, ◌≤◌, Bool, List, [], ◌∷◌, ◌++◌, length, ap, ◌∙◌, arith, chars, encode_utf8_all, IsUtf8, length-append, ⊎_elim}
+use Rattle.std.proofs.lemmas.Bool.{cases_lt}
 use Rattle.std.proofs.lemmas.Str.{encodes-append, encodes-chars, length-le-encodes}
 use Rattle.jt_scan.specs.declared.segment.Kind.{Kind}
-use Rattle.jt_scan.specs.Cut.{Text, Token, name, Segment, weight_of, a_name, Inside, closed, space, token, Cuts, no_more, more, IsSegment, some_data, a_tag, a_comment, closer, second}
+use Rattle.jt_scan.specs.Cut.{Text, Token, Segment, a_name, Inside, closed, space, token, Cuts, no_more, more, IsSegment, some_data, a_tag, a_comment, closer, second}
 use Rattle.jt_scan.specs.LineEnds.{normalized}
+use Rattle.jt_scan.specs.SourceView.{Held}
+use Rattle.jt_scan.specs.declared.options.Options.{Options}
 use Rattle.jt_scan.proofs.EndsLaws.{never_longer}
 use Rattle.jt_parse.specs.Bytes.{tokens_bytes, segment_bytes, bytes_of}
 
@@ -34,11 +37,18 @@ cut_short (no_more e) = omega arith
 cut_short (more p c) = omega (arith, segment_short p, cut_short c)
 
 -- a text has no more characters than its source has bytes
-pub few_chars : (keep : _) (source text : List ℕ) → IsUtf8 text → text ≡ normalized keep source → length (chars text) ≤ length source
+pub few_chars : (keep : Bool) (source text : List ℕ) → IsUtf8 text → text ≡ normalized keep source → length (chars text) ≤ length source
 few_chars keep source text u e =
     omega (arith, length-le-encodes (chars text), ap length (encodes-chars text u), ap length e, never_longer keep source)
 
 -- and spells no more bytes than it has
-pub few_bytes : (keep : _) (source text : List ℕ) → IsUtf8 text → text ≡ normalized keep source → bytes (chars text) ≤ length source
+pub few_bytes : (keep : Bool) (source text : List ℕ) → IsUtf8 text → text ≡ normalized keep source → bytes (chars text) ≤ length source
 few_bytes keep source text u e =
     omega (arith, ap length (encodes-chars text u), ap length e, never_longer keep source)
+
+-- the text of a source that is not refused for its length
+pub taken : (options : Options) (given : Text) (s : Held) → (1048576 < length given → ⊥)
+    → (length given ≤ 1048576 → s ≡ record { text = normalized options.keep_trailing_newline given; options = options })
+    → s.text ≡ normalized options.keep_trailing_newline given
+taken options given s long short =
+    ap (λ (h : Held). h.text) (short (⊎_elim (λ (gt : 1048576 < length given). absurd (long gt)) (λ (le : length given ≤ 1048576). le) (cases_lt 1048576 (length given))))

@@ -1,5 +1,5 @@
 -- When a text is a name.
-use Rattle.std.proofs.Common.{◌≡◌, ◌≢◌, ℕ, ◌<◌, ◌≤◌, ◌==◌, Bool, true, false, List, [], ◌∷◌, length, refl, sym, arith, All, IsTrue, ◌↔◌, MatchBool}
+use Rattle.std.proofs.Common.{ℕ, ◌<◌, ◌≤◌, ◌==◌, Bool, true, false, List, [], ◌∷◌, length, refl, arith, All, IsTrue, ◌↔◌, MatchBool}
 use Rattle.std.specs.List.{slice_split, AllWithin, HoldsAt}
 use Rattle.jt_inherit.specs.Names.{Text, IsNameByte, IsPart, IsName}
 

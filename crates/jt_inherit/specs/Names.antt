@@ -1,5 +1,5 @@
 -- Which texts are names of templates. A text is its UTF-8 bytes.
-use Rattle.std.specs.Prelude.{◌≡◌, ◌≢◌, ℕ, ◌≤◌, ◌==◌, List, [], length, codes, All}
+use Rattle.std.specs.Prelude.{◌≢◌, ℕ, ◌≤◌, ◌==◌, List, [], length, codes, All}
 use Rattle.std.specs.List.{slice_split}
 
 abbrev pub Text : Type 0

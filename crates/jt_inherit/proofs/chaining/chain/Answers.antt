@@ -1,4 +1,4 @@
-use Rattle.std.proofs.Common.{◌≡◌, rules}
+use Rattle.std.proofs.Common.{rules}
 use Rattle.jt_inherit.proofs.Found.{tree_of}
 use Rattle.jt_inherit.proofs.chaining.chain.Goals as goal
 
