@@ -28,7 +28,7 @@ use Rattle.jt_codegen.specs.Compiles.{CompilesTo}
 use Rattle.jt_codegen.specs.Compiled.{IsCompiled}
 use Rattle.jt_codegen.specs.Limits.{IsTooLong}
 use Rattle.jt_codegen.specs.Emission.{FitsImage, RefusesCode}
-use Rattle.jt_codegen.specs.Refusals.{of_chain, of_scope, of_emit, BreaksRule, HasCode, Breaks, NamesLimit}
+use Rattle.jt_codegen.specs.Refusals.{of_chain, of_scope, of_emit, of_image, BreaksRule, HasCode, Breaks, NamesLimit}
 use Rattle.jt_codegen.specs.declared.emission.EmitError.{EmitError}
 use Rattle.jt_codegen.specs.declared.emission.EmitError.TheVariants as emit_error
 use Rattle.jt_codegen.specs.declared.error.CompileError.TheVariants as error
@@ -133,3 +133,25 @@ module _ (sources : Sources) (entry : Text) (options : Options) (c : Seen) (is :
   pub emission_not_small : (e : EmitError) (q : Program) → q ≡ p → ((source : Text) → sources entry ≡ Some source → body_weight c.body ≤ length source) → ((source : Text) → sources entry ≡ Some source → body_bytes c.body ≤ length source) → RefusesCode e (compiled q) → NamesLimit (of_emit e) → ¬ (IsSmall sources entry options)
   emission_not_small emit_error.CodeTooLong q same weighs short r limit = not_small weighs short (emission_passed q same r)
   emission_not_small emit_error.NoMemory q same weighs short r limit = absurd limit
+
+  pub assembly_refused : (e : ImageError) (q : Program) (o : Option Code) → q ≡ p → KeepsRules (names_read c.body) → o ≡ Some (compiled q) → IsRefusal e o → Breaks sources entry options (of_image e)
+  assembly_refused image_error.BadOpcode q o same lawful code r = limit_passed lawful (assembly_passed image_error.BadOpcode q o same code (λ x. cc) r)
+  assembly_refused image_error.BadTable q o same lawful code r = limit_passed lawful (assembly_passed image_error.BadTable q o same code (λ x. cc) r)
+  assembly_refused image_error.LimitPassed q o same lawful code r = limit_passed lawful (assembly_passed image_error.LimitPassed q o same code (λ x. cc) r)
+  assembly_refused image_error.NoMemory q o same lawful code r = tt
+  assembly_refused image_error.BadMagic q o same lawful code r = absurd r
+  assembly_refused image_error.BadVersion q o same lawful code r = absurd r
+  assembly_refused image_error.Truncated q o same lawful code r = absurd r
+  assembly_refused image_error.Trailing q o same lawful code r = absurd r
+  assembly_refused image_error.BadText q o same lawful code r = absurd r
+
+  pub assembly_not_small : (e : ImageError) (q : Program) (o : Option Code) → q ≡ p → ((source : Text) → sources entry ≡ Some source → body_weight c.body ≤ length source) → ((source : Text) → sources entry ≡ Some source → body_bytes c.body ≤ length source) → o ≡ Some (compiled q) → IsRefusal e o → NamesLimit (of_image e) → ¬ (IsSmall sources entry options)
+  assembly_not_small image_error.BadOpcode q o same weighs short code r limit = not_small weighs short (assembly_passed image_error.BadOpcode q o same code (λ x. cc) r)
+  assembly_not_small image_error.BadTable q o same weighs short code r limit = not_small weighs short (assembly_passed image_error.BadTable q o same code (λ x. cc) r)
+  assembly_not_small image_error.LimitPassed q o same weighs short code r limit = not_small weighs short (assembly_passed image_error.LimitPassed q o same code (λ x. cc) r)
+  assembly_not_small image_error.NoMemory q o same weighs short code r limit = absurd limit
+  assembly_not_small image_error.BadMagic q o same weighs short code r limit = absurd r
+  assembly_not_small image_error.BadVersion q o same weighs short code r limit = absurd r
+  assembly_not_small image_error.Truncated q o same weighs short code r limit = absurd r
+  assembly_not_small image_error.Trailing q o same weighs short code r limit = absurd r
+  assembly_not_small image_error.BadText q o same weighs short code r limit = absurd r

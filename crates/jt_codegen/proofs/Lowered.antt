@@ -89,15 +89,15 @@ module _ (k : Code) (pool : List Tree) (call : SCalls) (has : HasPool k pool) wh
     stmt_lowered (put_pooled i) es bufs m = ap (λ t. does (at_memory es bufs (put_text m t))) (has.texts i)
     stmt_lowered (print p escaping e) es bufs m =
         lowered (run k (expr_asm e) (at_memory es bufs m)) (svalue pool call e m) (λ v. at_memory (value v ∷ es) bufs m) (run k (one (op.Emit (flag escaping)))) (λ v. bind (shown escaping v) (λ s. gives (put_text m s))) (λ m'. does (at_memory es bufs m'))
-          (expr_lowered e es bufs m) (λ v. shown_same escaping v es bufs m)
+        (expr_lowered e es bufs m) (λ v. shown_same escaping v es bufs m)
         ∙ follow_at p (bind (svalue pool call e m) (λ v. bind (shown escaping v) (λ s. gives (put_text m s)))) (λ m'. does (at_memory es bufs m'))
     stmt_lowered (if_else p c a b) es bufs m =
         lowered (run k (expr_asm c) (at_memory es bufs m)) (at p (svalue pool call c m)) (λ v. at_memory (value v ∷ es) bufs m) (run k (choose (body_asm a) (body_asm b))) (λ v. if tree.truth v then smeanings pool call a m else smeanings pool call b m) (λ m'. does (at_memory es bufs m'))
-          (expr_lowered c es bufs m ∙ follow_at p (svalue pool call c m) (λ v. does (at_memory (value v ∷ es) bufs m)))
-          (λ v. either (tree.truth v) (run k (body_asm a) (at_memory es bufs m)) (run k (body_asm b) (at_memory es bufs m)) (smeanings pool call a m) (smeanings pool call b m) (λ m'. does (at_memory es bufs m')) (body_lowered a es bufs m) (body_lowered b es bufs m))
+        (expr_lowered c es bufs m ∙ follow_at p (svalue pool call c m) (λ v. does (at_memory (value v ∷ es) bufs m)))
+        (λ v. either (tree.truth v) (run k (body_asm a) (at_memory es bufs m)) (run k (body_asm b) (at_memory es bufs m)) (smeanings pool call a m) (smeanings pool call b m) (λ m'. does (at_memory es bufs m')) (body_lowered a es bufs m) (body_lowered b es bufs m))
 
     pub body_lowered : (b : SBody) (es : List Entry) (bufs : List (List ℕ)) (m : Memory) → run k (body_asm b) (at_memory es bufs m) ≡ follow (smeanings pool call b m) (λ m'. does (at_memory es bufs m'))
     body_lowered end es bufs m = refl
     body_lowered (stmt s rest) es bufs m =
         lowered (run k (stmt_asm s) (at_memory es bufs m)) (smeaning pool call s m) (λ m'. at_memory es bufs m') (run k (body_asm rest)) (smeanings pool call rest) (λ m'. does (at_memory es bufs m'))
-          (stmt_lowered s es bufs m) (λ m'. body_lowered rest es bufs m')
+        (stmt_lowered s es bufs m) (λ m'. body_lowered rest es bufs m')

@@ -88,10 +88,10 @@ mutual
       let behind = segments_back xs (ys ++ after) h.1 in
       let later = goes_some g (segments_front ys after behind) in
       all_append ((expr_names c ++ (body_names inside ++ branch_names bs)) ++ body_names other) (body_names b)
-        (all_append (expr_names c ++ (body_names inside ++ branch_names bs)) (body_names other)
-          (all_append (expr_names c) (body_names inside ++ branch_names bs) (spells_some d h.0.1) (all_append (body_names inside) (branch_names bs) (forms_some i inner) later.0))
-          later.1)
-        (forms_some f (segments_back ys after behind).1)
+      (all_append (expr_names c ++ (body_names inside ++ branch_names bs)) (body_names other)
+      (all_append (expr_names c) (body_names inside ++ branch_names bs) (spells_some d h.0.1) (all_append (body_names inside) (branch_names bs) (forms_some i inner) later.0))
+      later.1)
+      (forms_some f (segments_back ys after behind).1)
 
   goes_some : {bs : Branches} {other : Body} {ss : List Segment} → GoesOn bs other ss → SegmentsSome ss → AllSome (branch_names bs) × AllSome (body_names other)
   goes_some no_else h = (tt, tt)

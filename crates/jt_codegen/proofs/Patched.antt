@@ -70,18 +70,18 @@ choose_opened c1 c2 c3 c4 c5 z a x n m t e2 e3 e4 en em et e5 e =
     let l3 : length c3 ≡ p + 1 + length ca = omega (arith, l2, ap length f3, length-append c2 (W ca), len_wired ca) in
     let l4 : length c4 ≡ q = omega (arith, l3, emitted_len c3 c4 (one (op.Jump 0)) e4) in
     let s4 : c4 ≡ c1 ++ x0 ∷ (W ca ++ y0 ∷ []) =
-        e4 ∙ ap (λ l. l ++ y0 ∷ []) f3 ∙ ap (λ l. (l ++ W ca) ++ y0 ∷ []) e2 ∙ ap (λ l. l ++ y0 ∷ []) (append_assoc c1 (x0 ∷ []) (W ca)) ∙ append_assoc c1 (x0 ∷ W ca) (y0 ∷ []) in
+    e4 ∙ ap (λ l. l ++ y0 ∷ []) f3 ∙ ap (λ l. (l ++ W ca) ++ y0 ∷ []) e2 ∙ ap (λ l. l ++ y0 ∷ []) (append_assoc c1 (x0 ∷ []) (W ca)) ∙ append_assoc c1 (x0 ∷ W ca) (y0 ∷ []) in
     let whole = c1 ++ x0 ∷ (W ca ++ y0 ∷ []) in
     let s5 : c5 ≡ c1 ++ j ∷ (W ca ++ y0 ∷ []) =
-        e5 ∙ ap (λ l. slice_set l n (wire_of (op.JumpIfFalse t))) s4
-        ∙ ap (λ i. slice_set whole i (wire_of (op.JumpIfFalse t))) en
-        ∙ ap (λ v. slice_set whole p (wire_of (op.JumpIfFalse v))) (et ∙ l4)
-        ∙ set-append_seam c1 x0 (W ca ++ y0 ∷ []) j in
+    e5 ∙ ap (λ l. slice_set l n (wire_of (op.JumpIfFalse t))) s4
+    ∙ ap (λ i. slice_set whole i (wire_of (op.JumpIfFalse t))) en
+    ∙ ap (λ v. slice_set whole p (wire_of (op.JumpIfFalse v))) (et ∙ l4)
+    ∙ set-append_seam c1 x0 (W ca ++ y0 ∷ []) j in
     let l5 : length c5 ≡ q = omega (arith, ap length s5, length-append c1 (j ∷ (W ca ++ y0 ∷ [])), length-append (W ca) (y0 ∷ []), len_wired ca) in
     let fz : z ≡ c5 ++ W cx = e ∙ ap (λ i. c5 ++ W (flat x i)) l5 in
     let lz : length z ≡ q + length cx = omega (arith, ap length fz, length-append c5 (W cx), len_wired cx, l5) in
     let sz : z ≡ (c1 ++ j ∷ W ca) ++ y0 ∷ W cx =
-        fz ∙ ap (λ l. l ++ W cx) s5 ∙ append_assoc c1 (j ∷ (W ca ++ y0 ∷ [])) (W cx) ∙ ap (λ l. c1 ++ j ∷ l) (append_assoc (W ca) (y0 ∷ []) (W cx)) ∙ sym (append_assoc c1 (j ∷ W ca) (y0 ∷ W cx)) in
+    fz ∙ ap (λ l. l ++ W cx) s5 ∙ append_assoc c1 (j ∷ (W ca ++ y0 ∷ [])) (W cx) ∙ ap (λ l. c1 ++ j ∷ l) (append_assoc (W ca) (y0 ∷ []) (W cx)) ∙ sym (append_assoc c1 (j ∷ W ca) (y0 ∷ W cx)) in
     let lm : m ≡ length (c1 ++ j ∷ W ca) = omega (arith, em, l3, length-append c1 (j ∷ W ca), len_wired ca) in
     ap (λ v. slice_set z m (wire_of (op.Jump v))) lz
     ∙ ap (λ l. slice_set l m k) sz

@@ -1,5 +1,5 @@
 -- The tables of a resolved template, and its only unit.
-use Rattle.std.proofs.Common.{◌≡◌, ℕ, zero, suc, ◌+◌, ◌<◌, ◌≤◌, ◌^◌, List, [], ◌∷◌, ◌++◌, length, map, drop, get_or, Option, Some, None, String, string_bytes, Vec, Global, refl, sym, ap, ◌∙◌, subst, arith, append_assoc, append-nil, length-append}
+use Rattle.std.proofs.Common.{◌≡◌, ℕ, zero, suc, ◌+◌, ◌<◌, ◌≤◌, ◌^◌, List, [], ◌∷◌, ◌++◌, length, map, drop, get_or, Option, Some, None, String, string_bytes, Vec, Global, refl, sym, ap, ◌∙◌, subst, arith, append_assoc, append-nil, length-append, ◌⊎◌, inl, inr}
 use Rattle.std.specs.Prelude.{slice_get, option_map}
 use Rattle.std.specs.List.{AllByRecursion}
 use Rattle.std.proofs.lemmas.List.{map-append, length-map, drop_more, at_drop_all}
@@ -49,7 +49,7 @@ module _ (template : Text) (ss : List SStmt) where
 
 -- ---- names
 
-drop_at : (ns : List Text) (i : ℕ) (x : Text) → slice_get ns i ≡ Some x → drop i ns ≡ x ∷ drop (i + 1) ns
+drop_at : (ns : List Text) (i : ℕ) (x : Text) → slice_get ns i ≡ Some x → drop i ns ≡ x ∷ drop (suc i) ns
 drop_at [] i x e = absurd cc
 drop_at (y ∷ ns) zero x e = let same : y ≡ x = cc in ap (λ z. z ∷ ns) same
 drop_at (y ∷ ns) (suc i) x e = drop_at ns i x e
@@ -69,7 +69,7 @@ name_more vs ns i x s at same so_far =
     ∙ append_assoc (names_view vs) (name_view (i, s) ∷ []) (numbered (i + 1) rest)
     ∙ ap (λ (t : Text). names_view vs ++ record { slot = i; text = t } ∷ numbered (i + 1) rest) same
     ∙ ap (λ n. names_view vs ++ record { slot = i; text = x } ∷ numbered n rest) (sym next)
-    ∙ ap (λ l. names_view vs ++ numbered i l) (sym (drop_at ns i x at))
+    ∙ ap (λ l. names_view vs ++ numbered i l) (sym (drop_at ns i x at ∙ ap (λ n. x ∷ drop n ns) next))
     ∙ so_far
 
 pub names_all : (vs : List (ℕ × String Global)) (ns : List Text) (i : ℕ) → length ns ≤ i → names_view vs ++ numbered i (drop i ns) ≡ numbered 0 ns → names_view vs ≡ numbered 0 ns
@@ -99,11 +99,10 @@ numbered_len i [] = refl
 numbered_len i (x ∷ xs) = ap suc (numbered_len (suc i) xs)
 
 module _ (r : Resolved) where
-  pub too_many_names : 65535 < length (program_of r).names → ¬ (FitsImage (compiled (program_of r)))
-  too_many_names many = λ fits. absurd (omega (arith, many, fits.limits.names, numbered_len 0 (program_of r).names))
-
-  pub too_many_values : (vs : List Value) → map view vs ≡ (program_of r).pool → 65535 < length vs → ¬ (FitsImage (compiled (program_of r)))
-  too_many_values vs same many = λ fits. absurd (omega (arith, many, fits.limits.constants, length-map (program_of r).pool constant_of, ap length same, length-map vs view))
+  -- more names or values than an image may have
+  pub too_many : (vs : List Value) (n : ℕ) → n ≡ length (program_of r).names → map view vs ≡ (program_of r).pool → (65535 < n) ⊎ ((n ≤ 65535) × (65535 < length vs)) → ¬ (FitsImage (compiled (program_of r)))
+  too_many vs n count same (inl many) = λ fits. absurd (omega (arith, many, count, fits.limits.names, numbered_len 0 (program_of r).names))
+  too_many vs n count same (inr many) = λ fits. absurd (omega (arith, many.1, fits.limits.constants, length-map (program_of r).pool constant_of, ap length same, length-map vs view))
 
   module _ (ss : List SStmt) (bodies : map (λ (q : Routine). q.body) (program_of r).routines ≡ body_view (template_of r) ss end ∷ []) where
     body_same : body_view (template_of r) r.body.items end ≡ body_view (template_of r) ss end
@@ -114,7 +113,7 @@ module _ (r : Resolved) where
     parts_emitted p u globals names constants units unit =
         let us = map unit_of (program_of r).routines in
         let sections : each_of section_of_unit p.units.items ≡ Some us =
-            ap (each_of section_of_unit) units ∙ ap (λ o. in_front o (Some [])) unit ∙ ap (λ b. Some (unit_of (record { parameters = 0; locals = 0; body = b }) ∷ [])) (sym body_same) in
+        ap (each_of section_of_unit) units ∙ ap (λ o. in_front o (Some [])) unit ∙ ap (λ b. Some (unit_of (record { parameters = 0; locals = 0; body = b }) ∷ [])) (sym body_same) in
         ap (option_map (code_with p)) sections
         ∙ ap (λ g. Some (record { globals = g; names = names_view p.names.items; constants = constants_view p.constants.items; units = us })) globals
         ∙ ap (λ ns. Some (record { globals = length (program_of r).names; names = ns; constants = constants_view p.constants.items; units = us })) names

@@ -49,8 +49,6 @@ abbrev pub numbered : ℕ → List Text → List Name
 numbered n [] = []
 numbered n (x ∷ xs) = record { slot = n; text = x } ∷ numbered (suc n) xs
 
-
-
 -- the code of a program
 abbrev pub compiled : Program → Code
 compiled p = record { globals = length p.names; names = numbered 0 p.names; constants = map constant_of p.pool; units = map unit_of p.routines }

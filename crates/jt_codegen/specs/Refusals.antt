@@ -2,6 +2,8 @@
 use Rattle.std.specs.Prelude.{◌≡◌, ◌≢◌}
 use Rattle.jt_scan.specs.declared.options.Options.{Options}
 use Rattle.jt_image.specs.Code.{Code}
+use Rattle.jt_image.specs.declared.error.ImageError.{ImageError}
+use Rattle.jt_image.specs.declared.error.ImageError.TheVariants as image_error
 use Rattle.jt_inherit.specs.Chains.{Text, Sources, IsChain}
 use Rattle.jt_inherit.specs.View.{Seen}
 use Rattle.jt_inherit.specs.Refusals as inherit
@@ -32,6 +34,11 @@ of_scope e = error.Scope e
 abbrev pub of_emit : EmitError → CompileError
 of_emit emit_error.CodeTooLong = error.CodeTooLong
 of_emit emit_error.NoMemory = error.NoMemory
+
+-- parts that are no image pass a limit
+abbrev pub of_image : ImageError → CompileError
+of_image image_error.NoMemory = error.NoMemory
+of_image e = error.CodeTooLong
 
 -- ---- when they hold
 

@@ -7,7 +7,7 @@ ghost use Rattle.jt_codegen.specs.Refusals.{Breaks, NamesLimit};
 
 use crate::error::CompileError;
 use crate::tables::parts_of;
-use jt_image::{Image, ImageError, assemble};
+use jt_image::{Image, assemble};
 use jt_inherit::{Library, chain};
 use jt_scan::Options;
 use jt_scopes::resolve;
@@ -33,11 +33,10 @@ pub fn compile<L: Library>(
     ensures small { IfErr result (λ e. NamesLimit e → ¬ (IsSmall (L.sources library.now) entry.now options)) }
 {
     let chain = chain(alloc, entry, library, options)?;
-    let resolved = resolve(alloc, chain.name(), chain.template(), chain.autoescape())?;
+    let resolved = resolve(alloc, &chain)?;
     let parts = parts_of(alloc, &resolved)?;
     match assemble(alloc, parts) {
         Ok(image) => Ok(image),
-        Err((_, ImageError::NoMemory)) => Err(CompileError::NoMemory),
-        Err(_) => Err(CompileError::CodeTooLong),
+        Err((_, refusal)) => Err(CompileError::from(refusal)),
     }
 }

@@ -116,11 +116,7 @@ fn emit_expression(code: &mut Vec<Instr>, expr: SExpr) -> Result<(), EmitError>
 
 /// Puts the code of a statement behind the others.
 #[cycle(emission)]
-fn emit_statement(
-    alloc: Global,
-    code: &mut Vec<Instr>,
-    statement: &SStmt,
-) -> Result<(), EmitError>
+fn emit_statement(alloc: Global, code: &mut Vec<Instr>, statement: &SStmt) -> Result<(), EmitError>
     ensures emitted { OnOk result ((template : Text) → Emits code.old.items (stmt_view template statement.now) code.new.items none_left) }
     ensures refused { IfErr result (λ e. (template : Text) (behind : SBody) → Refuses e (length code.old.items) (body_asm (stmt_view template statement.now behind))) }
 {
@@ -153,11 +149,7 @@ fn emit_statement(
 
 /// Puts the code of statements behind the others.
 #[cycle(emission)]
-fn emit_statements(
-    alloc: Global,
-    code: &mut Vec<Instr>,
-    body: &[SStmt],
-) -> Result<(), EmitError>
+fn emit_statements(alloc: Global, code: &mut Vec<Instr>, body: &[SStmt]) -> Result<(), EmitError>
     ensures emitted { OnOk result ((template : Text) → Emits code.old.items (body_view template body.now) code.new.items none_left) }
     ensures refused { IfErr result (λ e. (template : Text) (behind : SBody) → Refuses e (length code.old.items) (body_asm (body_view template body.now behind))) }
 {

@@ -1,6 +1,7 @@
 //! Why no image is made.
 
 use crate::emission::EmitError;
+use jt_image::ImageError;
 use jt_inherit::ChainError;
 use jt_scopes::ScopeError;
 use thiserror::Error;
@@ -63,6 +64,20 @@ impl From<EmitError> for CompileError {
         match refusal {
             EmitError::NoMemory => CompileError::NoMemory,
             EmitError::CodeTooLong => CompileError::CodeTooLong,
+        }
+    }
+}
+
+impl From<ImageError> for CompileError {
+    ghost use Rattle.std.specs.Prelude.{◌≡◌};
+    ghost use Rattle.jt_codegen.specs.Refusals.{of_image};
+
+    ghost from_gives = { λ refusal e. e ≡ of_image refusal };
+
+    fn from(refusal: ImageError) -> CompileError {
+        match refusal {
+            ImageError::NoMemory => CompileError::NoMemory,
+            _ => CompileError::CodeTooLong,
         }
     }
 }

@@ -8,3 +8,6 @@ mod tables;
 
 pub use compiling::compile;
 pub use error::CompileError;
+
+#[cfg(test)]
+mod tests;

@@ -40,11 +40,7 @@ pub(crate) fn parts_of(alloc: Global, resolved: &Resolved) -> Result<Parts, Emit
 }
 
 /// The names of a resolved template, each with its slot.
-fn names_of(
-    alloc: Global,
-    resolved: &Resolved,
-    slots: u16,
-) -> Result<Vec<(u16, String)>, EmitError>
+fn names_of(alloc: Global, resolved: &Resolved, slots: u16) -> Result<Vec<(u16, String)>, EmitError>
     requires { slots ≡ length (program_of resolved.now).names }
     ensures named { IfOk result (λ ns. names_view ns.items ≡ numbered 0 (program_of resolved.now).names) }
     ensures refused { IfErr result (λ e. e ≡ NoMemory) }

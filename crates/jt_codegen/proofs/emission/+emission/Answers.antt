@@ -1,4 +1,4 @@
-use Rattle.std.proofs.Common.{◌≡◌, ℕ, ◌+◌, List, [], ◌∷◌, length, drop, sym, ap, ◌∙◌, subst, arith}
+use Rattle.std.proofs.Common.{◌≡◌, ℕ, ◌+◌, List, [], ◌∷◌, length, drop, refl, sym, ap, ◌∙◌, subst, arith}
 use Rattle.std.proofs.lemmas.Result.{err_from_is_err_and}
 use Rattle.jt_image.specs.declared.instruction.Instruction.TheVariants as op
 use Rattle.jt_scopes.specs.View.{body_view}
@@ -46,9 +46,9 @@ emit_statement-returns-in_ok-close-in-If-clause-emitted t c =
     let now = l.code.items in
     let new = c.emit_statements-in-If.new.code.items in
     λ template. if_emits template c.args.statement.now c.in-If.branches c.in-If.other bs c.deref-in-If.result.now c.args.code.now.items now new c.close.new.code.items l.ends.items c.in-If.is c.deref-condition-items.ensures.value c.deref-in-If.ensures.value
-        (opens_all template bs l.condition-index c.args.code.now.items now l.ends.items (omega arith) (l.invariant template))
-        (c.in_ok-emit_statements-in-If-2.ensures.emitted template)
-        (subst (λ es. c.close.new.code.items ≡ closed new es (length new)) c.deref-in-If-2.ensures.value c.in_ok-close-in-If.ensures.closed)
+    (opens_all template bs l.condition-index c.args.code.now.items now l.ends.items (omega arith) (l.invariant template))
+    (c.in_ok-emit_statements-in-If-2.ensures.emitted template)
+    (subst (λ es. c.close.new.code.items ≡ closed new es (length new)) c.deref-in-If-2.ensures.value c.in_ok-close-in-If.ensures.closed)
 
 pub emit_statement-loop-condition-preserved : goal.emit_statement-loop-condition-preserved
 emit_statement-loop-condition-preserved t c =
@@ -58,9 +58,9 @@ emit_statement-loop-condition-preserved t c =
     let old = c.args.code.now.items in
     let new = c.end_branch.new.code.items in
     λ template. subst (λ es. Opens template old bs new (drop (l.condition-index + 1) bs) es) (sym c.in_ok-push-in-If.ensures.items)
-        (opens_more template bs l.condition-index b old l.code.items new l.ends.items c.in_ok-last-in-If.last c.loop-condition-test.true c.loop-condition-item.is (l.invariant template)
-        (branch_opens template b c.deref.result.now l.code.items c.begin_branch.new.code.items c.emit_statements.new.code.items new c.in_ok-choice-in-If.choice c.in_ok-last-in-If.last
-        c.deref.ensures.value c.in_ok-choice-in-If.ensures.begun (c.in_ok-emit_statements-in-If.ensures.emitted template) c.in_ok-last-in-If.ensures.ended))
+    (opens_more template bs l.condition-index b old l.code.items new l.ends.items c.in_ok-last-in-If.last c.loop-condition-test.true c.loop-condition-item.is (l.invariant template)
+    (branch_opens template b c.deref.result.now l.code.items c.begin_branch.new.code.items c.emit_statements.new.code.items new c.in_ok-choice-in-If.choice c.in_ok-last-in-If.last
+    c.deref.ensures.value c.in_ok-choice-in-If.ensures.begun (c.in_ok-emit_statements-in-If.ensures.emitted template) c.in_ok-last-in-If.ensures.ended))
 
 pub emit_statement-end_branch-requires : goal.emit_statement-end_branch-requires
 emit_statement-end_branch-requires t c =
@@ -76,16 +76,59 @@ emit_statement-close-requires t c =
 -- ---- a statement that is refused
 
 pub emit_statement-returns-in_err-choice-in-If-clause-refused : goal.emit_statement-returns-in_err-choice-in-If-clause-refused
-emit_statement-returns-in_err-choice-in-If-clause-refused t c = ?
+emit_statement-returns-in_err-choice-in-If-clause-refused t c =
+    let l = c.loop-condition in
+    let bs = c.deref-condition-items.result.now in
+    let old = c.args.code.now.items in
+    let x = c.in_err-choice-in-If.field-0.0 in
+    let p = err_from_is_err_and c.from_residual-in_err-choice-in-If.result c.from_residual-in_err-choice-in-If.ensures.1 in
+    rw (p.1, p.2)
+    (λ template. if_refused template x (length old) c.args.statement.now c.in-If.branches c.in-If.other bs c.in-If.other.items c.in-If.is c.deref-condition-items.ensures.value refl
+    (branches_refused template x bs (body_view template c.in-If.other.items) (length old) (opens_refused template x bs l.condition-index c.loop-condition-item.result old l.code.items l.ends.items c.loop-condition-test.true c.loop-condition-item.is (l.invariant template)
+    (λ rest. begin_refused template x c.loop-condition-item.result (length l.code.items) rest c.in_err-choice-in-If.ensures.refused))))
 
 pub emit_statement-returns-in_err-emit_statements-in-If-clause-refused : goal.emit_statement-returns-in_err-emit_statements-in-If-clause-refused
-emit_statement-returns-in_err-emit_statements-in-If-clause-refused t c = ?
+emit_statement-returns-in_err-emit_statements-in-If-clause-refused t c =
+    let l = c.loop-condition in
+    let bs = c.deref-condition-items.result.now in
+    let old = c.args.code.now.items in
+    let x = c.in_err-emit_statements-in-If.field-0.0 in
+    let p = err_from_is_err_and c.from_residual-in_err-emit_statements-in-If.result c.from_residual-in_err-emit_statements-in-If.ensures.1 in
+    rw (p.1, p.2)
+    (λ template. if_refused template x (length old) c.args.statement.now c.in-If.branches c.in-If.other bs c.in-If.other.items c.in-If.is c.deref-condition-items.ensures.value refl
+    (branches_refused template x bs (body_view template c.in-If.other.items) (length old) (opens_refused template x bs l.condition-index c.loop-condition-item.result old l.code.items l.ends.items c.loop-condition-test.true c.loop-condition-item.is (l.invariant template)
+    (λ rest. body_refused template x c.loop-condition-item.result c.deref.result.now l.code.items c.begin_branch.new.code.items c.in_ok-choice-in-If.choice rest c.deref.ensures.value c.in_ok-choice-in-If.ensures.begun (c.in_err-emit_statements-in-If.ensures.refused template)))))
 
 pub emit_statement-returns-in_err-last-in-If-clause-refused : goal.emit_statement-returns-in_err-last-in-If-clause-refused
-emit_statement-returns-in_err-last-in-If-clause-refused t c = ?
+emit_statement-returns-in_err-last-in-If-clause-refused t c =
+    let l = c.loop-condition in
+    let bs = c.deref-condition-items.result.now in
+    let old = c.args.code.now.items in
+    let x = c.in_err-last-in-If.field-0.0 in
+    let p = err_from_is_err_and c.from_residual-in_err-last-in-If.result c.from_residual-in_err-last-in-If.ensures.1 in
+    rw (p.1, p.2)
+    (λ template. if_refused template x (length old) c.args.statement.now c.in-If.branches c.in-If.other bs c.in-If.other.items c.in-If.is c.deref-condition-items.ensures.value refl
+    (branches_refused template x bs (body_view template c.in-If.other.items) (length old) (opens_refused template x bs l.condition-index c.loop-condition-item.result old l.code.items l.ends.items c.loop-condition-test.true c.loop-condition-item.is (l.invariant template)
+    (λ rest. end_refused template x c.loop-condition-item.result c.deref.result.now l.code.items c.begin_branch.new.code.items c.emit_statements.new.code.items c.in_ok-choice-in-If.choice rest c.deref.ensures.value c.in_ok-choice-in-If.ensures.begun (c.in_ok-emit_statements-in-If.ensures.emitted template) c.in_err-last-in-If.ensures.refused))))
 
 pub emit_statement-returns-in_err-emit_statements-in-If-2-clause-refused : goal.emit_statement-returns-in_err-emit_statements-in-If-2-clause-refused
-emit_statement-returns-in_err-emit_statements-in-If-2-clause-refused t c = ?
+emit_statement-returns-in_err-emit_statements-in-If-2-clause-refused t c =
+    let l = c.loop-condition in
+    let bs = c.deref-condition-items.result.now in
+    let old = c.args.code.now.items in
+    let x = c.in_err-emit_statements-in-If-2.field-0.0 in
+    let p = err_from_is_err_and c.from_residual-in_err-emit_statements-in-If-2.result c.from_residual-in_err-emit_statements-in-If-2.ensures.1 in
+    rw (p.1, p.2)
+    (λ template. if_refused template x (length old) c.args.statement.now c.in-If.branches c.in-If.other bs c.deref-in-If.result.now c.in-If.is c.deref-condition-items.ensures.value c.deref-in-If.ensures.value
+    (other_refused template x bs (body_view template c.deref-in-If.result.now) old l.code.items l.ends.items (opens_all template bs l.condition-index old l.code.items l.ends.items (omega arith) (l.invariant template)) (c.in_err-emit_statements-in-If-2.ensures.refused template)))
 
 pub emit_statement-returns-in_err-close-in-If-clause-refused : goal.emit_statement-returns-in_err-close-in-If-clause-refused
-emit_statement-returns-in_err-close-in-If-clause-refused t c = ?
+emit_statement-returns-in_err-close-in-If-clause-refused t c =
+    let l = c.loop-condition in
+    let bs = c.deref-condition-items.result.now in
+    let old = c.args.code.now.items in
+    let x = c.in_err-close-in-If.field-0.0 in
+    let p = err_from_is_err_and c.from_residual-in_err-close-in-If.result c.from_residual-in_err-close-in-If.ensures.1 in
+    rw (p.1, p.2)
+    (λ template. if_refused template x (length old) c.args.statement.now c.in-If.branches c.in-If.other bs c.deref-in-If.result.now c.in-If.is c.deref-condition-items.ensures.value c.deref-in-If.ensures.value
+    (close_refused template x bs (body_view template c.deref-in-If.result.now) old l.code.items c.emit_statements-in-If.new.code.items l.ends.items (opens_all template bs l.condition-index old l.code.items l.ends.items (omega arith) (l.invariant template)) (c.in_ok-emit_statements-in-If-2.ensures.emitted template) c.in_err-close-in-If.ensures.refused.0 c.in_err-close-in-If.ensures.refused.1))
