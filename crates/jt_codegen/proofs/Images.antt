@@ -1,12 +1,11 @@
--- A chain that is compiled, and refusals to compile.
-use Rattle.std.proofs.Common.{◌≡◌, ℕ, ◌<◌, ◌≤◌, List, [], ◌∷◌, length, map, Option, Some, None, refl, sym, ap, ◌∙◌, subst, arith}
+-- A chain that breaks no rule: its image, and what its refusals say.
+use Rattle.std.proofs.Common.{◌≡◌, ◌<◌, ◌≤◌, length, Option, Some, refl, sym, ap, ◌∙◌, subst, arith}
 use Rattle.std.specs.Prelude.{◌≢◌}
 use Rattle.std.specs.List.{AllByRecursion}
 use Rattle.jt_scan.specs.declared.options.Options.{Options}
 use Rattle.jt_image.specs.Code.{Code}
 use Rattle.jt_image.specs.IsCode.{IsCode}
-use Rattle.jt_image.specs.Parts.{code_of_parts, IsRefusal, KeepsLimits}
-use Rattle.jt_image.specs.declared.parts.Parts.{Parts}
+use Rattle.jt_image.specs.Parts.{IsRefusal, KeepsLimits}
 use Rattle.jt_image.specs.declared.error.ImageError.{ImageError}
 use Rattle.jt_image.specs.declared.error.ImageError.TheVariants as image_error
 use Rattle.jt_parse.specs.Trees.{body_weight}
@@ -14,77 +13,20 @@ use Rattle.jt_parse.specs.Bytes.{body_bytes}
 use Rattle.jt_inherit.specs.Chains.{Text, Sources, IsChain, scanned}
 use Rattle.jt_inherit.specs.View.{Seen}
 use Rattle.jt_inherit.specs.Small.{IsSmall}
-use Rattle.jt_inherit.specs.Refusals as inherit
-use Rattle.jt_inherit.specs.declared.error.ChainError.{ChainError}
-use Rattle.jt_inherit.specs.declared.error.ChainError.TheVariants as chain_error
 use Rattle.jt_scopes.specs.Slots.{Program}
 use Rattle.jt_scopes.specs.Resolve.{program}
-use Rattle.jt_scopes.specs.Rules as scopes
 use Rattle.jt_scopes.specs.Rules.{KeepsRules, names_read}
-use Rattle.jt_scopes.specs.declared.error.ScopeError.{ScopeError}
-use Rattle.jt_scopes.specs.declared.error.ScopeError.TheVariants as scope_error
 use Rattle.jt_codegen.specs.Lower.{compiled}
 use Rattle.jt_codegen.specs.Compiles.{CompilesTo}
 use Rattle.jt_codegen.specs.Compiled.{IsCompiled}
 use Rattle.jt_codegen.specs.Limits.{IsTooLong}
 use Rattle.jt_codegen.specs.Emission.{FitsImage, RefusesCode}
-use Rattle.jt_codegen.specs.Refusals.{of_chain, of_scope, of_emit, of_image, BreaksRule, HasCode, Breaks, NamesLimit}
+use Rattle.jt_codegen.specs.Refusals.{of_emit, of_image, HasCode, Breaks, NamesLimit}
 use Rattle.jt_codegen.specs.declared.emission.EmitError.{EmitError}
 use Rattle.jt_codegen.specs.declared.emission.EmitError.TheVariants as emit_error
-use Rattle.jt_codegen.specs.declared.error.CompileError.TheVariants as error
 use Rattle.jt_codegen.proofs.Whole.{compiles}
 use Rattle.jt_codegen.proofs.Small.{tables, writable, small_limits}
 use Rattle.jt_codegen.proofs.Named.{names_some}
-
--- ---- refusals of the chain and of its names
-
-module _ (sources : Sources) (entry : Text) (options : Options) where
-  pub chain_refused : (e : ChainError) → inherit.Breaks e sources entry options → Breaks sources entry options (of_chain e)
-  chain_refused chain_error.Missing h = ((λ q. cc), h)
-  chain_refused chain_error.BadName h = ((λ q. cc), h)
-  chain_refused chain_error.ExtendsCycle h = absurd h
-  chain_refused chain_error.ChainTooLong h = absurd h
-  chain_refused chain_error.DoubleBlock h = absurd h
-  chain_refused chain_error.RequiredNotGiven h = absurd h
-  chain_refused chain_error.NoSuper h = absurd h
-  chain_refused chain_error.IncludeCycle h = absurd h
-  chain_refused chain_error.MacroTwice h = absurd h
-  chain_refused chain_error.NoMemory h = tt
-  chain_refused (chain_error.Scan n f) h = ((λ q. cc), h)
-  chain_refused (chain_error.Parse n f) h = ((λ q. cc), h)
-
-  pub scope_refused : (c : Seen) → IsChain sources entry options c → (e : ScopeError) → scopes.Breaks e (names_read c.body) → Breaks sources entry options (of_scope e)
-  scope_refused c is scope_error.LoopOutside h = record { chain = c; is = is; fault = λ q. cc; broken = h }
-  scope_refused c is scope_error.MacroAsValue h = absurd h
-  scope_refused c is scope_error.NotCallable h = record { chain = c; is = is; fault = λ q. cc; broken = h }
-  scope_refused c is scope_error.BadArguments h = absurd h
-  scope_refused c is scope_error.TooManySlots h = record { chain = c; is = is; fault = λ q. cc; broken = h }
-  scope_refused c is scope_error.NoMemory h = tt
-
--- they name no limit
-pub chain_unlimited : (e : ChainError) → NamesLimit (of_chain e) → ⊥
-chain_unlimited chain_error.Missing h = h
-chain_unlimited chain_error.BadName h = h
-chain_unlimited chain_error.ExtendsCycle h = h
-chain_unlimited chain_error.ChainTooLong h = h
-chain_unlimited chain_error.DoubleBlock h = h
-chain_unlimited chain_error.RequiredNotGiven h = h
-chain_unlimited chain_error.NoSuper h = h
-chain_unlimited chain_error.IncludeCycle h = h
-chain_unlimited chain_error.MacroTwice h = h
-chain_unlimited chain_error.NoMemory h = h
-chain_unlimited (chain_error.Scan n f) h = h
-chain_unlimited (chain_error.Parse n f) h = h
-
-pub scope_unlimited : (e : ScopeError) → NamesLimit (of_scope e) → ⊥
-scope_unlimited scope_error.LoopOutside h = h
-scope_unlimited scope_error.MacroAsValue h = h
-scope_unlimited scope_error.NotCallable h = h
-scope_unlimited scope_error.BadArguments h = h
-scope_unlimited scope_error.TooManySlots h = h
-scope_unlimited scope_error.NoMemory h = h
-
--- ---- a chain that breaks no rule
 
 module _ (sources : Sources) (entry : Text) (options : Options) (c : Seen) (is : IsChain sources entry options c) where
   abbrev p : Program

@@ -1,9 +1,8 @@
 -- The code of a resolved template does what the template means.
-use Rattle.std.proofs.Common.{◌≡◌, ℕ, zero, suc, ◌+◌, Bool, true, false, if◌then◌else◌, eqb, List, [], ◌∷◌, ◌++◌, length, map, Option, Some, None, refl, sym, ap, ◌∙◌, subst}
-use Rattle.std.specs.Prelude.{slice_get, unwrap_or, option_map}
+use Rattle.std.proofs.Common.{◌≡◌, ℕ, Bool, true, false, if◌then◌else◌, eqb, List, ◌∷◌, ◌++◌, Option, Some, None, refl, ap, ◌∙◌}
+use Rattle.std.specs.Prelude.{slice_get, option_map}
 use Rattle.jt_value.specs.Tree as tree
 use Rattle.jt_value.specs.Tree.{Tree}
-use Rattle.jt_value.specs.declared.fault.Fault.{Fault}
 use Rattle.jt_escape.specs.Escaping.{escaped}
 use Rattle.jt_image.specs.declared.instruction.Instruction.TheVariants as op
 use Rattle.jt_image.specs.Code.{Code}
@@ -14,7 +13,7 @@ use Rattle.jt_parse.specs.Trees.{Text}
 use Rattle.jt_scopes.specs.Got.{Place, Got, gives, fails, deeper, bind, at}
 use Rattle.jt_scopes.specs.Meaning.{shown, shown_text}
 use Rattle.jt_scopes.specs.Slots.{SExpr, pooled, global, SStmt, put_pooled, print, if_else, SBody, end, stmt, Memory, value_at, bytes_of, SCalls, svalue, smeaning, smeanings}
-use Rattle.jt_codegen.specs.Asm.{Asm, nil, one, both, choose, Ran, does, stops, too_deep, bad, and_then, of_plain, run}
+use Rattle.jt_codegen.specs.Asm.{one, choose, Ran, does, stops, too_deep, and_then, of_plain, run}
 use Rattle.jt_codegen.specs.Lower.{expr_asm, flag, stmt_asm, body_asm}
 
 -- the state with the variables and the text of a memory

@@ -1,6 +1,6 @@
 -- Instructions put behind others, and jumps that are written when their target is known.
-use Rattle.std.proofs.Common.{◌≡◌, ℕ, zero, suc, ◌+◌, ◌<◌, ◌≤◌, ◌^◌, Bool, rules, List, [], ◌∷◌, ◌++◌, length, map, drop, get_or, Option, Some, None, refl, sym, ap, ◌∙◌, subst, arith, append_assoc, append-nil, length-append, Vec, Global}
-use Rattle.std.specs.Prelude.{slice_set, option_map}
+use Rattle.std.proofs.Common.{◌≡◌, ℕ, zero, suc, ◌+◌, ◌<◌, ◌≤◌, ◌^◌, Bool, rules, List, [], ◌∷◌, ◌++◌, length, map, drop, get_or, Some, refl, sym, ap, ◌∙◌, subst, arith, append_assoc, append-nil, length-append, Vec, Global}
+use Rattle.std.specs.Prelude.{slice_set}
 use Rattle.std.specs.List.{AllByRecursion}
 use Rattle.std.proofs.Math.Seq.{set-append_seam}
 use Rattle.std.proofs.lemmas.List.{map-append, length-map, length-set, drop_more, at_drop_all}
@@ -135,10 +135,6 @@ place_last n a h = record { len = omega (arith, h.len, length-append (flat a n) 
 pub place_behind : (c d : List Instr) (a b : Asm) → Emitted c a d → HasPlace (length c) (both a b) → HasPlace (length d) b
 place_behind c d a b e h = subst (λ n. HasPlace n b) (sym (emitted_len c d a e)) (place_second (length c) a b h)
 
--- a condition that is tested
-pub begun_place : (c d : List Instr) (x a other : Asm) → Emitted c x d → HasPlace (length c) (both x (choose a other)) → HasPlace (length d) (one (op.JumpIfFalse 0))
-begun_place c d x a other e p = let q = place_behind c d x (choose a other) e p in record { len = omega (arith, q.len); fields = (omega arith, tt) }
-
 -- ---- refusals
 
 pub refused_by : (e : EmitError) (n m : ℕ) (a b : Asm) → (HasPlace n a → HasPlace m b) → Refuses e m b → Refuses e n a
@@ -148,10 +144,6 @@ refused_by error.NoMemory n m a b f r = tt
 pub refused_above : (e : EmitError) (n m : ℕ) (a : Asm) → (HasPlace n a → m < 2 ^ 32) → e ≡ error.CodeTooLong → 2 ^ 32 ≤ m → Refuses e n a
 refused_above error.CodeTooLong n m a f is above = λ h. let below = f h in omega (arith, below, above)
 refused_above error.NoMemory n m a f is above = tt
-
-pub refused_memory : (e : EmitError) (n : ℕ) (a : Asm) → e ≡ error.NoMemory → Refuses e n a
-refused_memory error.CodeTooLong n a is = absurd cc
-refused_memory error.NoMemory n a is = tt
 
 -- ---- jumps that are written afterwards
 
@@ -170,10 +162,6 @@ closed_more : (es : List ℕ) (z : List Instr) (m t : ℕ) → closed z (es ++ m
 closed_more [] z m t = refl
 closed_more (e ∷ es) z m t = closed_more es (slice_set z e (wire_of (op.Jump t))) m t
 
-pub closed_len : (es : List ℕ) (z : List Instr) (t : ℕ) → length (closed z es t) ≡ length z
-closed_len [] z t = refl
-closed_len (e ∷ es) z t = closed_len es (slice_set z e (wire_of (op.Jump t))) t ∙ length-set z e (wire_of (op.Jump t))
-
 within_more : (es : List ℕ) (n m e : ℕ) → n ≤ m → e < m → AllByRecursion (λ i. i < n) es → AllByRecursion (λ i. i < m) (es ++ e ∷ [])
 within_more [] n m e le lt h = (lt, tt)
 within_more (i ∷ es) n m e le lt h = (omega (arith, h.0, le), within_more es n m e le lt h.1)
@@ -181,11 +169,6 @@ within_more (i ∷ es) n m e le lt h = (omega (arith, h.0, le), within_more es n
 all_below : (es : List ℕ) (n m : ℕ) → n ≤ m → AllByRecursion (λ i. i < n) es → AllByRecursion (λ i. i < m) es
 all_below [] n m le h = tt
 all_below (i ∷ es) n m le h = (omega (arith, h.0, le), all_below es n m le h.1)
-
-pub within_get : (es : List ℕ) (n i : ℕ) → i < length es → AllByRecursion (λ x. x < n) es → get_or es i 0 < n
-within_get [] n i lt h = absurd (omega (arith, lt))
-within_get (x ∷ es) n zero lt h = h.0
-within_get (x ∷ es) n (suc i) lt h = within_get es n i (omega (arith, lt)) h.1
 
 -- one jump more is written
 pub closed_step : (code : List Instr) (es : List ℕ) (i t : ℕ) (w : Instr) → i < length es → w ≡ wire_of (op.Jump t) → closed (slice_set code (get_or es i 0) w) (drop (i + 1) es) t ≡ closed code (drop i es) t
@@ -218,9 +201,6 @@ module _ (template : Text) where
   branches_left : (bs : List Branch) (i : ℕ) (b : Branch) → i < length bs → b ≡ get_or bs i b → (other : Asm) → branches_asm template (drop i bs) other ≡ branches_asm template (b ∷ []) (branches_asm template (drop (i + 1) bs) other)
   branches_left bs i b lt is other =
       ap (λ l. branches_asm template l other) (drop_more bs i b lt) ∙ ap (λ (x : Branch). branches_asm template (x ∷ []) (branches_asm template (drop (i + 1) bs) other)) (sym is)
-
-  pub opens_none : (old : List Instr) (all : List Branch) → Opens template old all old all []
-  opens_none old all = record { counted = omega arith; longer = omega arith; within = tt; code = λ other final e. e; place = λ other p. p }
 
   -- one branch more
   pub opens_more : (bs : List Branch) (i : ℕ) (b : Branch) (old now new : List Instr) (ends : List ℕ) (m : ℕ) → i < length bs → b ≡ get_or bs i b → Opens template old bs now (drop i bs) ends → Opens template now (b ∷ []) new [] (m ∷ [])
@@ -424,12 +404,6 @@ module _ (template : Text) where
       whole : (behind : SBody) → body_asm (stmt_view template s behind) ≡ both a (body_asm behind)
       whole behind = ap body_asm (view behind) ∙ ap (λ x. both x (body_asm behind)) (same behind)
 
-  one_refused : (x : EmitError) (n : ℕ) (s : SStmt) (shown : SBody → slots.SStmt) (a : Asm) → ((behind : SBody) → stmt_view template s behind ≡ slots.stmt (shown behind) behind) → ((behind : SBody) → stmt_asm (shown behind) ≡ a) → Refuses x n a
-      → (behind : SBody) → Refuses x n (body_asm (stmt_view template s behind))
-  one_refused x n s shown a view same r behind =
-      let whole : body_asm (stmt_view template s behind) ≡ both a (body_asm behind) = ap body_asm (view behind) ∙ ap (λ y. both y (body_asm behind)) (same behind) in
-      refused_by x n n (body_asm (stmt_view template s behind)) a (λ p. place_first n a (body_asm behind) (subst (HasPlace n) whole p)) r
-
   data_view : (s : SStmt) (i : ℕ) → s ≡ stmts.PutPooled i → (behind : SBody) → stmt_view template s behind ≡ slots.stmt (slots.put_pooled i) behind
   data_view s i is behind = ap (λ z. stmt_view template z behind) is ∙ view-PutPooled template i behind
 
@@ -442,17 +416,10 @@ module _ (template : Text) where
   pub data_emits : (s : SStmt) (i : ℕ) (old new : List Instr) → s ≡ stmts.PutPooled i → Emitted old (one (op.Data i)) new → Emits old (stmt_view template s) new none_left
   data_emits s i old new is e = one_emits s (λ behind. slots.put_pooled i) old new (one (op.Data i)) (data_view s i is) (λ behind. refl) e
 
-  pub data_refused : (x : EmitError) (n : ℕ) (s : SStmt) (i : ℕ) → s ≡ stmts.PutPooled i → Refuses x n (one (op.Data i)) → (behind : SBody) → Refuses x n (body_asm (stmt_view template s behind))
-  data_refused x n s i is r = one_refused x n s (λ behind. slots.put_pooled i) (one (op.Data i)) (data_view s i is) (λ behind. refl) r
-
   pub print_emits : (s : SStmt) (line : ℕ) (escaping : Bool) (e : SExpr) (old now new : List Instr) → s ≡ stmts.Print line escaping e → Emitted old (expr_asm (expr_view e)) now → Emitted now (one (op.Emit (flag escaping))) new → Emits old (stmt_view template s) new none_left
   print_emits s line escaping e old now new is f g =
       let a : Asm = both (expr_asm (expr_view e)) (one (op.Emit (flag escaping))) in
       one_emits s (λ behind. slots.print (record { template = template; line = line }) escaping (expr_view e)) old new a (print_view s line escaping e is) (λ behind. refl) (emitted_then old now new (expr_asm (expr_view e)) (one (op.Emit (flag escaping))) f g)
-
-  pub print_refused : (x : EmitError) (n : ℕ) (s : SStmt) (line : ℕ) (escaping : Bool) (e : SExpr) → s ≡ stmts.Print line escaping e → Refuses x n (both (expr_asm (expr_view e)) (one (op.Emit (flag escaping)))) → (behind : SBody) → Refuses x n (body_asm (stmt_view template s behind))
-  print_refused x n s line escaping e is r =
-      one_refused x n s (λ behind. slots.print (record { template = template; line = line }) escaping (expr_view e)) (both (expr_asm (expr_view e)) (one (op.Emit (flag escaping)))) (print_view s line escaping e is) (λ behind. refl) r
 
   if_view : (s : SStmt) (bs : Vec Branch Global) (other : Vec SStmt Global) (bs' : List Branch) (other' : List SStmt) → s ≡ stmts.If bs other → bs' ≡ bs.items → other' ≡ other.items → (behind : SBody) → stmt_view template s behind ≡ choice_view template bs' (body_view template other') behind
   if_view s bs other bs' other' is p q behind =

@@ -1,24 +1,19 @@
 -- The tables of a resolved template, and its only unit.
-use Rattle.std.proofs.Common.{◌≡◌, ℕ, zero, suc, ◌+◌, ◌<◌, ◌≤◌, ◌^◌, List, [], ◌∷◌, ◌++◌, length, map, drop, get_or, Option, Some, None, String, string_bytes, Vec, Global, refl, sym, ap, ◌∙◌, subst, arith, append_assoc, append-nil, length-append, ◌⊎◌, inl, inr}
+use Rattle.std.proofs.Common.{◌≡◌, ℕ, zero, suc, ◌+◌, ◌<◌, ◌≤◌, List, [], ◌∷◌, ◌++◌, length, map, drop, Some, String, string_bytes, Vec, Global, refl, sym, ap, ◌∙◌, subst, arith, append_assoc, ◌⊎◌, inl, inr}
 use Rattle.std.specs.Prelude.{slice_get, option_map}
-use Rattle.std.specs.List.{AllByRecursion}
-use Rattle.std.proofs.lemmas.List.{map-append, length-map, drop_more, at_drop_all}
-use Rattle.jt_value.specs.Tree.{Tree}
+use Rattle.std.proofs.lemmas.List.{map-append, length-map}
 use Rattle.jt_value.specs.View.{view}
 use Rattle.jt_value.specs.declared.value.Value.{Value}
 use Rattle.jt_image.specs.declared.instruction.Instruction.TheVariants as op
 use Rattle.jt_image.specs.declared.wire.Instr.{Instr}
-use Rattle.jt_image.specs.declared.image.Constant.{Constant}
 use Rattle.jt_image.specs.declared.parts.Unit as given
 use Rattle.jt_image.specs.declared.parts.Parts.{Parts}
-use Rattle.jt_image.specs.Code as code
-use Rattle.jt_image.specs.Code.{Name, Section, Code}
 use Rattle.jt_image.specs.Spelling.{wire_of}
 use Rattle.jt_image.specs.Reading.{instruction_of}
-use Rattle.jt_image.specs.View.{name_view, names_view, constant_view, constants_view}
+use Rattle.jt_image.specs.View.{name_view, names_view, constants_view}
 use Rattle.jt_image.specs.Parts.{in_front, each_of, section_of_unit, code_with, code_of_parts}
 use Rattle.jt_parse.specs.Trees.{Text}
-use Rattle.jt_scopes.specs.Slots.{SBody, end, Routine, Program}
+use Rattle.jt_scopes.specs.Slots.{SBody, end, Routine}
 use Rattle.jt_scopes.specs.View.{body_view, template_of, program_of}
 use Rattle.jt_scopes.specs.declared.program.SStmt.{SStmt}
 use Rattle.jt_scopes.specs.declared.program.Resolved.{Resolved}
@@ -54,11 +49,6 @@ drop_at [] i x e = absurd cc
 drop_at (y ∷ ns) zero x e = let same : y ≡ x = cc in ap (λ z. z ∷ ns) same
 drop_at (y ∷ ns) (suc i) x e = drop_at ns i x e
 
-pub get_past : (ns : List Text) (i : ℕ) → slice_get ns i ≡ None → length ns ≤ i
-get_past [] i e = omega arith
-get_past (y ∷ ns) zero e = absurd cc
-get_past (y ∷ ns) (suc i) e = omega (arith, get_past ns i e)
-
 -- one name more
 pub name_more : (vs : List (ℕ × String Global)) (ns : List Text) (i : ℕ) (x : Text) (s : String Global) → slice_get ns i ≡ Some x → string_bytes s ≡ x → names_view vs ++ numbered i (drop i ns) ≡ numbered 0 ns
     → names_view (vs ++ (i, s) ∷ []) ++ numbered (i + 1) (drop (i + 1) ns) ≡ numbered 0 ns
@@ -71,26 +61,6 @@ name_more vs ns i x s at same so_far =
     ∙ ap (λ n. names_view vs ++ record { slot = i; text = x } ∷ numbered n rest) (sym next)
     ∙ ap (λ l. names_view vs ++ numbered i l) (sym (drop_at ns i x at ∙ ap (λ n. x ∷ drop n ns) next))
     ∙ so_far
-
-pub names_all : (vs : List (ℕ × String Global)) (ns : List Text) (i : ℕ) → length ns ≤ i → names_view vs ++ numbered i (drop i ns) ≡ numbered 0 ns → names_view vs ≡ numbered 0 ns
-names_all vs ns i le so_far = sym (append-nil (names_view vs)) ∙ ap (λ l. names_view vs ++ l) (sym (at_drop_all (numbered i) ns i le)) ∙ so_far
-
--- ---- constants
-
--- one constant more
-pub constant_more : (cs : List Constant) (vs : List Value) (i : ℕ) (v : Value) (c : Constant) → i < length vs → v ≡ get_or vs i v → constant_view c ≡ constant_of (view v) → constants_view cs ++ map constant_of (map view (drop i vs)) ≡ map constant_of (map view vs)
-    → constants_view (cs ++ c ∷ []) ++ map constant_of (map view (drop (i + 1) vs)) ≡ map constant_of (map view vs)
-constant_more cs vs i v c lt is same so_far =
-    let rest = map constant_of (map view (drop (i + 1) vs)) in
-    ap (λ l. l ++ rest) (map-append constant_view cs (c ∷ []))
-    ∙ append_assoc (constants_view cs) (constant_view c ∷ []) rest
-    ∙ ap (λ (k : code.Constant). constants_view cs ++ k ∷ rest) same
-    ∙ ap (λ (w : Value). constants_view cs ++ constant_of (view w) ∷ rest) is
-    ∙ ap (λ (l : List Value). constants_view cs ++ map constant_of (map view l)) (sym (drop_more vs i v lt))
-    ∙ so_far
-
-pub constants_all : (cs : List Constant) (vs : List Value) (i : ℕ) → length vs ≤ i → constants_view cs ++ map constant_of (map view (drop i vs)) ≡ map constant_of (map view vs) → constants_view cs ≡ map constant_of (map view vs)
-constants_all cs vs i le so_far = sym (append-nil (constants_view cs)) ∙ ap (λ l. constants_view cs ++ l) (sym (at_drop_all (λ (l : List Value). map constant_of (map view l)) vs i le)) ∙ so_far
 
 -- ---- the whole
 
@@ -123,7 +93,3 @@ module _ (r : Resolved) where
     unit_refused error.NoMemory refused = tt
     unit_refused error.CodeTooLong refused = λ fits.
         refused (subst (λ b. HasPlace 0 (both (body_asm b) (one op.Return))) body_same (record { len = omega (arith, fits.limits.instructions); fields = fits.units.0.code }))
-
-pub memory_refuses : (e : EmitError) (k : Code) → e ≡ error.NoMemory → RefusesCode e k
-memory_refuses error.NoMemory k is = tt
-memory_refuses error.CodeTooLong k is = absurd cc

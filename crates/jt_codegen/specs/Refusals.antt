@@ -1,5 +1,5 @@
 -- What a refusal to compile says of a library and an entry.
-use Rattle.std.specs.Prelude.{◌≡◌, ◌≢◌}
+use Rattle.std.specs.Prelude.{◌≢◌}
 use Rattle.jt_scan.specs.declared.options.Options.{Options}
 use Rattle.jt_image.specs.Code.{Code}
 use Rattle.jt_image.specs.declared.error.ImageError.{ImageError}

@@ -1,4 +1,4 @@
-use Rattle.std.proofs.Common.{◌≡◌, length, drop, get_or, sym, ap, ◌∙◌}
+use Rattle.std.proofs.Common.{get_or, sym, ap, ◌∙◌}
 use Rattle.std.proofs.lemmas.List.{length-set, at_drop_all}
 use Rattle.jt_codegen.specs.Emission.{closed}
 use Rattle.jt_codegen.proofs.Patched.{closed_step}
