@@ -1,9 +1,12 @@
-pub mod Correct
 pub mod Follows
 pub mod Lowered
+pub mod Correct
 pub mod Typed
 pub mod Whole
 pub mod Small
 pub mod Spelled
-pub mod Entries
 pub mod SmallRows
+pub mod Entries
+pub mod Patched
+pub mod Tabled
+pub mod Images

@@ -6,30 +6,11 @@ use Rattle.std.specs.Cmp.Lexicographic.{slice_cmp}
 use Rattle.jt_value.specs.Tree as tree
 use Rattle.jt_value.specs.Tree.{Tree}
 use Rattle.jt_parse.specs.Trees.{Text, Expr, constant, name, Stmt, data_of, print, choose, Body, end, stmt, Branches, no_branches, branch}
+pub use Rattle.jt_inherit.specs.Small.{expr_names, stmt_names, body_names, branch_names}
 use Rattle.jt_scopes.specs.Got.{Place}
 use Rattle.jt_scopes.specs.Meaning.{literal}
 use Rattle.jt_scopes.specs.Slots as slots
 use Rattle.jt_scopes.specs.Slots.{SExpr, pooled, global, SStmt, put_pooled, if_else, SBody, Routine, Program}
-
--- ---- the names that a template reads, as often as they stand there
-
-abbrev pub expr_names : Expr → List Text
-expr_names (constant l) = []
-expr_names (name x) = x ∷ []
-
-abbrev mutual
-  pub stmt_names : Stmt → List Text
-  stmt_names (data_of t) = []
-  stmt_names (print line e) = expr_names e
-  stmt_names (choose bs other) = branch_names bs ++ body_names other
-
-  pub body_names : Body → List Text
-  body_names end = []
-  body_names (stmt s rest) = stmt_names s ++ body_names rest
-
-  pub branch_names : Branches → List Text
-  branch_names no_branches = []
-  branch_names (branch line c body rest) = expr_names c ++ (body_names body ++ branch_names rest)
 
 -- a text at its place among ascending ones; one that is there isn't put again
 abbrev pub inserted : Text → List Text → List Text
