@@ -82,7 +82,7 @@ fn codes_and_refusals(rt: HostRuntime) -> Result<(), Fail> {
         ),
         (
             "{% if a %}{% if b %}x{% endif %}y{% endif %}",
-            "g0 f7 g1 f5 d0 j5 d1 j7 r",
+            "g0 f8 g1 f6 d0 j6 d1 j8 r",
         ),
         ("{{ x", "S1 UnclosedTag in a line 1"),
         ("\n{{ 1 }}", "S3 BadCharacter in a line 2"),
