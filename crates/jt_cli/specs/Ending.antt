@@ -5,6 +5,8 @@ use Rattle.jt_cli.specs.declared.messages.Status.{Status}
 use Rattle.jt_cli.specs.declared.messages.Status.TheVariants as status
 use Rattle.jt_cli.specs.declared.messages.Failure.{Failure}
 use Rattle.jt_cli.specs.declared.messages.Failure.TheVariants as failure
+use Rattle.jt_cli.specs.declared.files.FileError.{FileError}
+use Rattle.jt_cli.specs.declared.files.FileError.TheVariants as file_error
 use Rattle.jt_cli.specs.declared.jobs.JobError.{JobError}
 use Rattle.jt_cli.specs.declared.jobs.JobError.TheVariants as job_error
 use Rattle.jt_image.specs.declared.ImageError.{ImageError}
@@ -41,6 +43,11 @@ abbrev pub of_line : JobError → Failure
 of_line (job_error.Usage text) = failure.Usage text
 of_line job_error.NoMemory = failure.NoMemory
 
+-- what a fault of a file comes to: the file's path, or no memory
+abbrev pub of_file : FileError → String Global → Failure
+of_file file_error.Failed path = failure.File path
+of_file file_error.NoMemory path = failure.NoMemory
+
 -- what a refused reading of an image comes to: its fault, or no memory
 abbrev pub of_image : ImageError → Failure
 of_image image_error.NoMemory = failure.NoMemory
@@ -63,3 +70,9 @@ IfUntaken (Ok x) = ⊥
 IfUntaken (Err (failure.Usage text)) = Unit {0}
 IfUntaken (Err failure.NoMemory) = Unit {0}
 IfUntaken (Err e) = ⊥
+
+-- a fault of some file, or no memory
+abbrev pub IsOfFiles : Failure → Type 0
+IsOfFiles (failure.File path) = Unit {0}
+IsOfFiles failure.NoMemory = Unit {0}
+IsOfFiles e = ⊥

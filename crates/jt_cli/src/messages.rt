@@ -1,14 +1,16 @@
 //! How a run of the program ends: its status, and the text that says why.
 
 ghost use Rattle.std.specs.Prelude.{◌≡◌};
-ghost use Rattle.jt_cli.specs.Ending.{code_of, status_of, of_line, of_image, of_code, of_outcome};
+ghost use Rattle.jt_cli.specs.Ending.{code_of, status_of, of_line, of_file, of_image, of_code, of_outcome};
 
+use crate::files::FileError;
 use crate::jobs::JobError;
 use jt_budget::Spent;
 use jt_image::ImageError;
 use jt_machine::Outcome;
 use jt_value::Fault;
 use jt_verify::Refusal;
+use std::alloc::AllocError;
 use thiserror::Error;
 
 /// What the program ends with.
@@ -91,6 +93,16 @@ impl Failure {
     }
 }
 
+impl From<AllocError> for Failure {
+    ghost use Rattle.jt_cli.specs.declared.messages.Failure.TheVariants.{NoMemory};
+
+    ghost from_gives = { λ _ f. f ≡ NoMemory };
+
+    fn from(_error: AllocError) -> Failure {
+        Failure::NoMemory
+    }
+}
+
 impl From<JobError> for Failure {
     ghost from_gives = { λ e f. f ≡ of_line e };
 
@@ -99,6 +111,16 @@ impl From<JobError> for Failure {
             JobError::Usage(text) => Failure::Usage(text),
             JobError::NoMemory => Failure::NoMemory,
         }
+    }
+}
+
+/// What a fault of the file at a path comes to.
+pub fn no_file(error: FileError, path: String) -> Failure
+    ensures { result ≡ of_file error path }
+{
+    match error {
+        FileError::Failed => Failure::File(path),
+        FileError::NoMemory => Failure::NoMemory,
     }
 }
 

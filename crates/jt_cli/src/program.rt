@@ -1,15 +1,18 @@
 //! A whole run of the program.
-ghost use Rattle.std.specs.Prelude.{◌≡◌, ◌≢◌, ◌≤◌, ◌⊎◌, ℕ, List, IfErr, OnOk};
+ghost use Rattle.std.specs.Prelude.{◌≡◌, ◌≢◌, ◌≤◌, ◌⊎◌, ℕ, List, IfOk, IfErr, OnOk};
+ghost use Rattle.std.specs.List.Sorted.{IsSorted};
+ghost use Rattle.std.specs.String.{string_cmp};
 ghost use Rattle.std.specs.Io.KnownBytes.{Appends};
 ghost use Rattle.clap.specs.Walk.{texts};
-ghost use Rattle.jt_cli.specs.Ending.{IfUntaken, code_of, status_of};
+ghost use Rattle.jt_cli.specs.Ending.{IfUntaken, IsOfFiles, code_of, status_of};
 ghost use Rattle.jt_cli.specs.Line.{Takes};
 ghost use Rattle.jt_cli.specs.Program.{ComesTo};
 
 use crate::files::{FileError, Files};
 use crate::jobs::{Command, Job};
 use crate::line::job;
-use crate::messages::{Failure, Status, no_code, no_image, text_of};
+use crate::messages::{Failure, Status, no_code, no_file, no_image, text_of};
+use crate::templates::Templates;
 use jt_budget::Budget;
 use jt_image::decode;
 use jt_machine::run;
@@ -85,7 +88,11 @@ fn done<F: Files>(alloc: Global, words: &[&str], files: &mut F) -> Result<String
         budget,
     } = job(alloc, words)?;
     match command {
-        Command::Compile { .. } => Err(Failure::NoMemory),
+        Command::Compile { dir, name: _name, out } => {
+            let _templates = templates_in(alloc, files, dir)?;
+            put_at(files, out, b"")?;
+            Ok(String::new(alloc))
+        }
         Command::Run { image } => {
             let bytes = bytes_at(files, image)?;
             run_image(alloc, &bytes, budget)
@@ -99,9 +106,46 @@ fn bytes_at<F: Files>(files: &mut F, path: String) -> Result<Vec<u8>, Failure>
 {
     match files.read(path.as_str()) {
         Ok(bytes) => Ok(bytes),
-        Err(FileError::Failed) => Err(Failure::File(path)),
-        Err(FileError::NoMemory) => Err(Failure::NoMemory),
+        Err(error) => Err(no_file(error, path)),
     }
+}
+
+/// Makes `bytes` the contents of the file at `path`.
+fn put_at<F: Files>(files: &mut F, path: String, bytes: &[u8]) -> Result<(), Failure>
+    ensures { IfErr result (λ e. (e ≡ Failure.File path) ⊎ (e ≡ Failure.NoMemory)) }
+{
+    match files.write(path.as_str(), bytes) {
+        Ok(()) => Ok(()),
+        Err(error) => Err(no_file(error, path)),
+    }
+}
+
+/// The names of the files directly in `dir`, in the order of their bytes.
+fn names_in<F: Files>(files: &mut F, dir: &str) -> Result<Vec<String>, FileError>
+    ensures { IfOk result (λ names. IsSorted string_cmp names.items) }
+{
+    let mut names = files.list(dir)?;
+    names.sort_unstable();
+    Ok(names)
+}
+
+/// The templates of the files directly in `dir`, by their names. A file that is no text is none.
+fn templates_in<F: Files>(alloc: Global, files: &mut F, dir: String) -> Result<Templates, Failure>
+    ensures { IfErr result IsOfFiles }
+{
+    let names = match names_in(files, dir.as_str()) {
+        Ok(names) => names,
+        Err(error) => return Err(no_file(error, dir)),
+    };
+    let mut templates = Templates::new(alloc);
+    for name in names {
+        let path = format!(in alloc; "{dir}/{name}")?;
+        let bytes = bytes_at(files, path)?;
+        if let Ok(source) = String::from_utf8(bytes) {
+            templates.insert(name, source)?;
+        }
+    }
+    Ok(templates)
 }
 
 /// The text of the image that `bytes` spell, run in the empty context.
