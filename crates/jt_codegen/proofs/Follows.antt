@@ -1,13 +1,13 @@
 -- The machine follows code whose jumps stand in pairs.
-use Rattle.std.proofs.Common.{◌≡◌, ℕ, zero, suc, ◌+◌, ◌-◌, ◌<◌, ◌≤◌, List, [], ◌∷◌, ◌++◌, length, Option, Some, None, Bool, true, false, if◌then◌else◌, refl, sym, ap, ◌∙◌, subst, arith, length-append}
+use Rattle.std.proofs.Common.{◌≡◌, ℕ, suc, ◌+◌, ◌≤◌, List, [], ◌∷◌, ◌++◌, length, Some, Bool, true, false, if◌then◌else◌, refl, ap, ◌∙◌, subst, arith, length-append}
 use Rattle.std.specs.Prelude.{slice_get}
-use Rattle.jt_value.specs.Tree.{Tree, truth}
+use Rattle.jt_value.specs.Tree.{truth}
 use Rattle.jt_image.specs.declared.instruction.Instruction.{Instruction}
 use Rattle.jt_image.specs.declared.instruction.Instruction.TheVariants as op
 use Rattle.jt_image.specs.Code.{Section, Code}
 use Rattle.jt_image.specs.Config.{Entry, value, frame, capture, State, Caller, Machine}
-use Rattle.jt_image.specs.Step.{Plain, goes, faults_by, broken, plain, on_value, with_entries, Action, goes_on, ends, faulty, wrong, straight, jump_on, action, fetch}
-use Rattle.jt_image.proofs.Free.{Free, Finished, Failed, Stuck, Going, on_action, exec_at, exec}
+use Rattle.jt_image.specs.Step.{Plain, goes, faults_by, broken, plain, on_value, with_entries, goes_on, wrong, straight, action, fetch}
+use Rattle.jt_image.proofs.Free.{Failed, Going, on_action, exec_at, exec}
 use Rattle.jt_codegen.specs.Asm.{Asm, nil, one, both, choose, flat, Ran, does, stops, too_deep, bad, and_then, of_plain, run}
 
 -- the instructions stand in the code at this point

@@ -3,3 +3,10 @@ pub mod Follows
 pub mod Lowered
 pub mod Typed
 pub mod Whole
+pub mod Patched
+pub mod Small
+pub mod Spelled
+pub mod Entries
+pub mod Named
+pub mod Images
+pub mod Tabled

@@ -1,9 +1,8 @@
 -- The code of a resolved template does what the template means.
-use Rattle.std.proofs.Common.{◌≡◌, ℕ, zero, suc, ◌+◌, Bool, true, false, if◌then◌else◌, eqb, List, [], ◌∷◌, ◌++◌, length, map, Option, Some, None, refl, sym, ap, ◌∙◌, subst}
-use Rattle.std.specs.Prelude.{slice_get, unwrap_or, option_map}
+use Rattle.std.proofs.Common.{◌≡◌, ℕ, Bool, true, false, if◌then◌else◌, eqb, List, ◌∷◌, ◌++◌, Option, Some, None, refl, ap, ◌∙◌}
+use Rattle.std.specs.Prelude.{slice_get, option_map}
 use Rattle.jt_value.specs.Tree as tree
 use Rattle.jt_value.specs.Tree.{Tree}
-use Rattle.jt_value.specs.declared.fault.Fault.{Fault}
 use Rattle.jt_escape.specs.Escaping.{escaped}
 use Rattle.jt_image.specs.declared.instruction.Instruction.TheVariants as op
 use Rattle.jt_image.specs.Code.{Code}
@@ -14,7 +13,7 @@ use Rattle.jt_parse.specs.Trees.{Text}
 use Rattle.jt_scopes.specs.Got.{Place, Got, gives, fails, deeper, bind, at}
 use Rattle.jt_scopes.specs.Meaning.{shown, shown_text}
 use Rattle.jt_scopes.specs.Slots.{SExpr, pooled, global, SStmt, put_pooled, print, if_else, SBody, end, stmt, Memory, value_at, bytes_of, SCalls, svalue, smeaning, smeanings}
-use Rattle.jt_codegen.specs.Asm.{Asm, nil, one, both, choose, Ran, does, stops, too_deep, bad, and_then, of_plain, run}
+use Rattle.jt_codegen.specs.Asm.{one, choose, Ran, does, stops, too_deep, and_then, of_plain, run}
 use Rattle.jt_codegen.specs.Lower.{expr_asm, flag, stmt_asm, body_asm}
 
 -- the state with the variables and the text of a memory
@@ -89,15 +88,15 @@ module _ (k : Code) (pool : List Tree) (call : SCalls) (has : HasPool k pool) wh
     stmt_lowered (put_pooled i) es bufs m = ap (λ t. does (at_memory es bufs (put_text m t))) (has.texts i)
     stmt_lowered (print p escaping e) es bufs m =
         lowered (run k (expr_asm e) (at_memory es bufs m)) (svalue pool call e m) (λ v. at_memory (value v ∷ es) bufs m) (run k (one (op.Emit (flag escaping)))) (λ v. bind (shown escaping v) (λ s. gives (put_text m s))) (λ m'. does (at_memory es bufs m'))
-          (expr_lowered e es bufs m) (λ v. shown_same escaping v es bufs m)
+        (expr_lowered e es bufs m) (λ v. shown_same escaping v es bufs m)
         ∙ follow_at p (bind (svalue pool call e m) (λ v. bind (shown escaping v) (λ s. gives (put_text m s)))) (λ m'. does (at_memory es bufs m'))
     stmt_lowered (if_else p c a b) es bufs m =
         lowered (run k (expr_asm c) (at_memory es bufs m)) (at p (svalue pool call c m)) (λ v. at_memory (value v ∷ es) bufs m) (run k (choose (body_asm a) (body_asm b))) (λ v. if tree.truth v then smeanings pool call a m else smeanings pool call b m) (λ m'. does (at_memory es bufs m'))
-          (expr_lowered c es bufs m ∙ follow_at p (svalue pool call c m) (λ v. does (at_memory (value v ∷ es) bufs m)))
-          (λ v. either (tree.truth v) (run k (body_asm a) (at_memory es bufs m)) (run k (body_asm b) (at_memory es bufs m)) (smeanings pool call a m) (smeanings pool call b m) (λ m'. does (at_memory es bufs m')) (body_lowered a es bufs m) (body_lowered b es bufs m))
+        (expr_lowered c es bufs m ∙ follow_at p (svalue pool call c m) (λ v. does (at_memory (value v ∷ es) bufs m)))
+        (λ v. either (tree.truth v) (run k (body_asm a) (at_memory es bufs m)) (run k (body_asm b) (at_memory es bufs m)) (smeanings pool call a m) (smeanings pool call b m) (λ m'. does (at_memory es bufs m')) (body_lowered a es bufs m) (body_lowered b es bufs m))
 
     pub body_lowered : (b : SBody) (es : List Entry) (bufs : List (List ℕ)) (m : Memory) → run k (body_asm b) (at_memory es bufs m) ≡ follow (smeanings pool call b m) (λ m'. does (at_memory es bufs m'))
     body_lowered end es bufs m = refl
     body_lowered (stmt s rest) es bufs m =
         lowered (run k (stmt_asm s) (at_memory es bufs m)) (smeaning pool call s m) (λ m'. at_memory es bufs m') (run k (body_asm rest)) (smeanings pool call rest) (λ m'. does (at_memory es bufs m'))
-          (stmt_lowered s es bufs m) (λ m'. body_lowered rest es bufs m')
+        (stmt_lowered s es bufs m) (λ m'. body_lowered rest es bufs m')

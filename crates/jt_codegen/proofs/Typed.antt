@@ -1,5 +1,5 @@
 -- Code whose jumps stand in pairs is typed, and so is a unit.
-use Rattle.std.proofs.Common.{◌≡◌, ℕ, zero, suc, ◌+◌, ◌-◌, ◌<◌, ◌≤◌, List, [], ◌∷◌, ◌++◌, length, Option, Some, None, Result, Ok, Err, Bool, true, false, refl, sym, ap, ◌∙◌, subst, arith, append_assoc, length-append}
+use Rattle.std.proofs.Common.{◌≡◌, ℕ, zero, suc, ◌+◌, ◌<◌, ◌≤◌, List, [], ◌∷◌, ◌++◌, length, Some, Result, Ok, Bool, true, false, refl, sym, ap, ◌∙◌, subst, arith, append_assoc, length-append}
 use Rattle.std.specs.Prelude.{slice_get, nat_lt}
 use Rattle.std.specs.List.{AllByRecursion}
 use Rattle.std.proofs.Math.Seq.{get_or-append_seam}
@@ -10,9 +10,9 @@ use Rattle.jt_image.specs.declared.instruction.Instruction.TheVariants as op
 use Rattle.jt_image.specs.declared.kind.Kind.TheVariants as kind
 use Rattle.jt_image.specs.declared.kind.Flaw.TheVariants as flaw
 use Rattle.jt_image.specs.declared.kind.Flaw.{Flaw}
-use Rattle.jt_image.specs.Code.{Section, Code, is_text}
-use Rattle.jt_image.specs.Effect.{Shape, Leads, require, effect, effect_at, effect_of}
-use Rattle.jt_image.specs.Typed.{Shapes, Equal, HasSame, IsFineBy, IsTypedBy, IsTypedUnit, max_entries}
+use Rattle.jt_image.specs.Code.{Section, Code}
+use Rattle.jt_image.specs.Effect.{Shape, Leads, require, effect, effect_of}
+use Rattle.jt_image.specs.Typed.{Equal, HasSame, IsTypedUnit, max_entries}
 use Rattle.jt_scopes.specs.Slots.{SExpr, pooled, global, SStmt, put_pooled, print, if_else, SBody, end, stmt, Routine}
 use Rattle.jt_codegen.specs.Asm.{Asm, nil, one, both, choose, flat}
 use Rattle.jt_codegen.specs.Lower.{expr_asm, flag, stmt_asm, body_asm, unit_of}
@@ -128,7 +128,7 @@ module _ (k : Code) where
               let in_p : nat_lt (p + 1) (length u.code) ≡ true = lt_true (p + 1) (length u.code) (omega (arith, length-append ca (jump ∷ cb))) in
               let in_end : nat_lt (q + length cb) (length u.code) ≡ true = lt_true (q + length cb) (length u.code) (omega (arith, length-append ca (jump ∷ cb))) in
               let first : effect k u p (op.JumpIfFalse q) S ≡ Ok (record { shape = h.0; points = (p + 1) ∷ q ∷ [] }) =
-                  ap (λ s. effect k u p (op.JumpIfFalse q) s) h.1 ∙ required _ flaw.JumpOut _ in_q ∙ required _ flaw.FallsOff _ in_p in
+              ap (λ s. effect k u p (op.JumpIfFalse q) s) h.1 ∙ required _ flaw.JumpOut _ in_q ∙ required _ flaw.FallsOff _ in_p in
               let last : effect k u e jump T ≡ Ok (record { shape = T; points = (q + length cb) ∷ [] }) = required _ flaw.JumpOut _ in_end in (
                 has.0,
                 (
@@ -179,19 +179,21 @@ module _ (k : Code) where
       let fine = fr.fine sh (omega (arith, length-append is (op.Return ∷ []))) (shapes_front sh 0 fr.shapes ([] ∷ []) has) back.0 in
       let all : AllFine u sh 0 u.code = fine_append u sh 0 (0 + length is) is (op.Return ∷ []) refl fine.1 (([], back.0, omega arith, (record { shape = []; points = [] }, refl, tt)), tt) in
       let each : (p : ℕ) (s : Shape) → slice_get sh p ≡ Some s → (i : Instruction) × (slice_get u.code p ≡ Some i) × FineAt u sh p i = λ p s e.
-          let x = there u.code p (omega (arith, within sh p s e)) in (x.0, x.1, fine_at u sh u.code 0 p p x.0 (omega arith) all x.1) in
-      (λ p. slice_get sh p, record {
-        start = fine.0;
-        small = λ p s e. let x = each p s e in let same : x.2.0 ≡ s = some_is x.2.0 s (sym x.2.1 ∙ e) in subst (λ y. length y ≤ max_entries) same x.2.2;
-        fine = λ p s e.
-            let x = each p s e in
-            let same : x.2.0 ≡ s = some_is x.2.0 s (sym x.2.1 ∙ e) in
-            record {
-              leads = x.2.3.0;
-              effect = ap (λ o. effect_of k u p o s) x.1 ∙ subst (λ y. effect k u p x.0 y ≡ Ok x.2.3.0) same x.2.3.1;
-              agree = x.2.3.2;
-            };
-      })
+      let x = there u.code p (omega (arith, within sh p s e)) in (x.0, x.1, fine_at u sh u.code 0 p p x.0 (omega arith) all x.1) in (
+        λ p. slice_get sh p,
+        record {
+          start = fine.0;
+          small = λ p s e. let x = each p s e in let same : x.2.0 ≡ s = some_is x.2.0 s (sym x.2.1 ∙ e) in subst (λ y. length y ≤ max_entries) same x.2.2;
+          fine = λ p s e.
+              let x = each p s e in
+              let same : x.2.0 ≡ s = some_is x.2.0 s (sym x.2.1 ∙ e) in
+              record {
+                leads = x.2.3.0;
+                effect = ap (λ o. effect_of k u p o s) x.1 ∙ subst (λ y. effect k u p x.0 y ≡ Ok x.2.3.0) same x.2.3.1;
+                agree = x.2.3.2;
+              };
+        },
+      )
     where
       some_is : (a b : Shape) → Some a ≡ Some b → a ≡ b
       some_is a b e = cc

@@ -1,6 +1,6 @@
 -- The code of a resolved template names what is there, has the pool's values as its constants, and is typed.
-use Rattle.std.proofs.Common.{◌≡◌, ℕ, zero, suc, ◌+◌, ◌<◌, ◌≤◌, Bool, true, false, if◌then◌else◌, List, [], ◌∷◌, ◌++◌, length, map, Option, Some, None, refl, sym, ap, ◌∙◌, subst, arith, append_assoc, length-append, ◌⊎◌, inl, inr}
-use Rattle.std.specs.Prelude.{slice_get, unwrap_or, nat_lt, option_map}
+use Rattle.std.proofs.Common.{◌≡◌, ℕ, zero, suc, ◌+◌, ◌<◌, Bool, true, false, if◌then◌else◌, List, [], ◌∷◌, ◌++◌, length, map, Some, refl, sym, ap, ◌∙◌, subst, arith, append_assoc, length-append, inl, inr}
+use Rattle.std.specs.Prelude.{slice_get, nat_lt, option_map}
 use Rattle.std.specs.Str.{bytes_eq}
 use Rattle.std.proofs.Math.Seq.{get_or-append_seam}
 use Rattle.std.proofs.lemmas.Option.{slice_get-get_or}
@@ -8,12 +8,12 @@ use Rattle.std.proofs.lemmas.Bool.Decides.{nat_tests}
 use Rattle.std.proofs.lemmas.Slice.Eq.{bytes_eq-Decides}
 use Rattle.jt_value.specs.Tree as tree
 use Rattle.jt_value.specs.Tree.{Tree}
-use Rattle.jt_image.specs.Code.{Constant, Section, Code, is_text}
+use Rattle.jt_image.specs.Code.{Section, Code, is_text}
 use Rattle.jt_image.specs.IsCode.{IsCode}
 use Rattle.jt_value.specs.Pairs.{Pairs}
 use Rattle.jt_image.specs.Typed.{Equal, IsTypedUnit, IsTyped}
 use Rattle.jt_image.specs.Step.{constant_value, text_of}
-use Rattle.jt_parse.specs.Trees.{Text, Literal, truth, nothing, Expr, constant, name, Stmt, data_of, print, choose, Body, end, stmt, Branches, no_branches, branch}
+use Rattle.jt_parse.specs.Trees.{Text, truth, nothing, Expr, constant, name, Stmt, data_of, print, choose, Body, end, stmt, Branches, no_branches, branch}
 use Rattle.jt_scopes.specs.Meaning.{literal, mean}
 use Rattle.jt_scopes.specs.Slots as slots
 use Rattle.jt_scopes.specs.Slots.{SBody, Program, Routine, value_at, bytes_of, smean}
@@ -106,14 +106,14 @@ module _ (template : Text) (escaping : Bool) (names : List Text) (pool : List Tr
     stmt_fits (print line e) n behind here has rest = (expr_fits e n here has, rest)
     stmt_fits (choose bs other) n behind here has rest =
         choice_fits bs (body_pool other) (resolved_body template escaping names other)
-          (λ n' behind' has' rest'. body_fits other n' behind' (back (branch_names bs) (body_names other) names here) has' rest')
-          n behind (front (branch_names bs) (body_names other) names here) has rest
+        (λ n' behind' has' rest'. body_fits other n' behind' (back (branch_names bs) (body_names other) names here) has' rest')
+        n behind (front (branch_names bs) (body_names other) names here) has rest
 
     body_fits : (b : Body) (n : ℕ) (behind : SBody) → AllAmong (body_names b) names → PoolAt pool n (body_pool b) → BodyFits k behind → BodyFits k (resolved_body template escaping names b n behind)
     body_fits end n behind here has rest = rest
     body_fits (stmt s later) n behind here has rest =
         stmt_fits s n (resolved_body template escaping names later (n + length (stmt_pool s)) behind) (front (stmt_names s) (body_names later) names here) (pool_front pool n (stmt_pool s) (body_pool later) has)
-          (body_fits later (n + length (stmt_pool s)) behind (back (stmt_names s) (body_names later) names here) (pool_back pool n (stmt_pool s) (body_pool later) has) rest)
+        (body_fits later (n + length (stmt_pool s)) behind (back (stmt_names s) (body_names later) names here) (pool_back pool n (stmt_pool s) (body_pool later) has) rest)
 
     choice_fits : (bs : Branches) (other_pool : List Tree) (other : ℕ → SBody → SBody) → OtherFits other_pool other
         → (n : ℕ) (behind : SBody) → AllAmong (branch_names bs) names → PoolAt pool n (branch_pool bs ++ other_pool) → BodyFits k behind → BodyFits k (resolved_choice template escaping names bs other n behind)
@@ -122,12 +122,11 @@ module _ (template : Text) (escaping : Bool) (names : List Text) (pool : List Tr
         let m = n + length (expr_pool c) in
         let l = m + length (body_pool body) in
         let has' : PoolAt pool n (expr_pool c ++ (body_pool body ++ (branch_pool later ++ other_pool))) =
-            subst (λ ts. PoolAt pool n ts) (append_assoc (expr_pool c) (body_pool body ++ branch_pool later) other_pool ∙ ap (λ ts. expr_pool c ++ ts) (append_assoc (body_pool body) (branch_pool later) other_pool)) has in
+        subst (λ ts. PoolAt pool n ts) (append_assoc (expr_pool c) (body_pool body ++ branch_pool later) other_pool ∙ ap (λ ts. expr_pool c ++ ts) (append_assoc (body_pool body) (branch_pool later) other_pool)) has in
         let behind_c = pool_back pool n (expr_pool c) (body_pool body ++ (branch_pool later ++ other_pool)) has' in
         let behind_b = pool_back pool m (body_pool body) (branch_pool later ++ other_pool) behind_c in
         let names_c = front (expr_names c) (body_names body ++ branch_names later) names here in
-        let names_rest = back (expr_names c) (body_names body ++ branch_names later) names here in
-        (
+        let names_rest = back (expr_names c) (body_names body ++ branch_names later) names here in (
           (
             expr_fits c n names_c (pool_front pool n (expr_pool c) (body_pool body ++ (branch_pool later ++ other_pool)) has'),
             body_fits body m slots.end (front (body_names body) (branch_names later) names names_rest) (pool_front pool m (body_pool body) (branch_pool later ++ other_pool) behind_c) tt,

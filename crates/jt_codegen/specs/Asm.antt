@@ -1,11 +1,11 @@
 -- Code with its jumps still in pairs: what it does, and its instructions.
-use Rattle.std.specs.Prelude.{◌≡◌, ℕ, ◌+◌, Bool, List, [], ◌∷◌, ◌++◌, length, if◌then◌else◌}
-use Rattle.jt_value.specs.Tree.{Tree, truth}
+use Rattle.std.specs.Prelude.{ℕ, ◌+◌, List, [], ◌∷◌, ◌++◌, length, if◌then◌else◌}
+use Rattle.jt_value.specs.Tree.{truth}
 use Rattle.jt_value.specs.declared.fault.Fault.{Fault}
 use Rattle.jt_image.specs.declared.instruction.Instruction.{Instruction}
 use Rattle.jt_image.specs.declared.instruction.Instruction.TheVariants as op
 use Rattle.jt_image.specs.Code.{Code}
-use Rattle.jt_image.specs.Config.{Entry, State}
+use Rattle.jt_image.specs.Config.{State}
 use Rattle.jt_image.specs.Step.{Plain, goes, faults_by, broken, on_value, with_entries, plain}
 
 pub data Asm : Type 0 where
@@ -55,7 +55,3 @@ run k nil m = does m
 run k (one i) m = of_plain (plain k i m)
 run k (both a b) m = and_then (run k a m) (run k b)
 run k (choose a b) m = on_value m.entries bad (λ t es. if truth t then run k a (with_entries m es) else run k b (with_entries m es))
-
--- the code has these instructions put behind it
-abbrev pub Emitted : List Instruction → Asm → List Instruction → Type 0
-Emitted old a new = new ≡ old ++ flat a (length old)

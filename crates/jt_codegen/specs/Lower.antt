@@ -2,7 +2,6 @@
 use Rattle.std.specs.Prelude.{ℕ, Bool, true, false, List, [], ◌∷◌, ◌++◌, length, map, suc}
 use Rattle.jt_value.specs.Tree as tree
 use Rattle.jt_value.specs.Tree.{Tree}
-use Rattle.jt_image.specs.declared.instruction.Instruction.{Instruction}
 use Rattle.jt_image.specs.declared.instruction.Instruction.TheVariants as op
 use Rattle.jt_image.specs.Code as code
 use Rattle.jt_image.specs.Code.{Constant, Name, Section, Code}
@@ -48,8 +47,6 @@ constant_of (tree.map es) = code.undefined
 abbrev pub numbered : ℕ → List Text → List Name
 numbered n [] = []
 numbered n (x ∷ xs) = record { slot = n; text = x } ∷ numbered (suc n) xs
-
-
 
 -- the code of a program
 abbrev pub compiled : Program → Code

@@ -1,2 +1,13 @@
 //! Templates to images.
 #![tactic(auto)]
+
+mod compiling;
+mod emission;
+mod error;
+mod tables;
+
+pub use compiling::compile;
+pub use error::CompileError;
+
+#[cfg(test)]
+mod tests;

@@ -16,9 +16,10 @@ use Rattle.jt_parse.specs.declared.tree.Stmt.{Stmt}
 use Rattle.jt_parse.specs.declared.tree.Stmt.TheVariants as stmt
 use Rattle.jt_scopes.specs.Slots as slots
 use Rattle.jt_scopes.specs.Slots.{SBody, Program}
-use Rattle.jt_scopes.specs.Resolve.{expr_pool, stmt_pool, body_pool, branch_pool, body_names, ascending, slot_of, resolved_body, program}
+use Rattle.jt_scopes.specs.Resolve.{expr_pool, stmt_pool, body_pool, branch_pool, body_names, ascending, slot_of, resolved_body, resolved_choice, program}
+use Rattle.jt_scopes.specs.Names.{table}
 use Rattle.jt_scopes.specs.View.{Front, expr_view, stmt_view, body_view, choice_view}
-use Rattle.jt_scopes.specs.Scoped.{name_of, expr_in, stmt_in, body_in, choice_in}
+use Rattle.jt_scopes.specs.Scoped.{name_of, expr_in, stmt_in, body_in}
 use Rattle.jt_scopes.specs.declared.program.SExpr.{SExpr}
 use Rattle.jt_scopes.specs.declared.program.SStmt.{SStmt}
 use Rattle.jt_scopes.specs.declared.program.SStmt.TheVariants as s
@@ -29,33 +30,36 @@ use Rattle.jt_scopes.proofs.Fronts.{SBranch, body_push, choice_push, choice_same
 -- ---- slots
 
 -- whether a key has the bytes
-abbrev is : Text → String Global → Bool
-is x k = bytes_eq x (string_bytes k)
+abbrev is_text : Text → String Global → Bool
+is_text x k = bytes_eq x (string_bytes k)
 
-slot_place : (x : Text) (ks : List (String Global)) → slot_of x (map string_bytes ks) ≡ position_or_len (is x) ks
-slot_place x ks = is_position_or_len (λ l. slot_of x (map string_bytes l)) (is x) refl step ks
+slot_place : (x : Text) (ks : List (String Global)) → slot_of x (map string_bytes ks) ≡ position_or_len (is_text x) ks
+slot_place x ks = is_position_or_len (λ l. slot_of x (map string_bytes l)) (is_text x) refl step ks
   where
     through : (b : Bool) (n : ℕ) → (if b then 0 else suc n) ≡ cond b 0 (1 + n)
     through true n = refl
     through false n = omega arith
 
-    step : (k : String Global) (l : List (String Global)) → (if bytes_eq (string_bytes k) x then 0 else suc (slot_of x (map string_bytes l))) ≡ cond (is x k) 0 (1 + slot_of x (map string_bytes l))
-    step k l = ap (λ b. if b then 0 else suc (slot_of x (map string_bytes l))) (nat_list_eq_equiv.symm (string_bytes k) x) ∙ through (is x k) (slot_of x (map string_bytes l))
+    step : (k : String Global) (l : List (String Global)) → (if bytes_eq (string_bytes k) x then 0 else suc (slot_of x (map string_bytes l))) ≡ cond (is_text x k) 0 (1 + slot_of x (map string_bytes l))
+    step k l = ap (λ b. if b then 0 else suc (slot_of x (map string_bytes l))) (nat_list_eq_equiv.symm (string_bytes k) x) ∙ through (is_text x k) (slot_of x (map string_bytes l))
 
 -- the place of a name, or as many as there are
-pub slot_found : (x : Text) (ks : List (String Global)) (r : Option ℕ) (n : ℕ) → r ≡ position (is x) ks → n ≡ length ks → unwrap_or r n ≡ slot_of x (map string_bytes ks)
-slot_found x ks r n e l = through (nat_lt (position_or_len (is x) ks) (length ks)) refl e ∙ sym (slot_place x ks)
+pub slot_found : (x : Text) (ks : List (String Global)) (r : Option ℕ) (n : ℕ) → r ≡ position (is_text x) ks → n ≡ length ks → unwrap_or r n ≡ slot_of x (map string_bytes ks)
+slot_found x ks r n e l = through (nat_lt (position_or_len (is_text x) ks) (length ks)) refl e ∙ sym (slot_place x ks)
   where
-    below : position_or_len (is x) ks ≤ length ks
-    below = prefix_len-le-length (λ k. not (is x k)) ks
+    below : position_or_len (is_text x) ks ≤ length ks
+    below = prefix_len-le-length (λ k. not (is_text x k)) ks
 
-    through : (b : Bool) → nat_lt (position_or_len (is x) ks) (length ks) ≡ b → r ≡ cond b (Some (position_or_len (is x) ks)) None → unwrap_or r n ≡ position_or_len (is x) ks
+    through : (b : Bool) → nat_lt (position_or_len (is_text x) ks) (length ks) ≡ b → r ≡ cond b (Some (position_or_len (is_text x) ks)) None → unwrap_or r n ≡ position_or_len (is_text x) ks
     through true h e = ap (λ o. unwrap_or o n) e
     through false h e =
-        let same : n ≡ position_or_len (is x) ks = grind (arith, nat_tests, below) in
+        let same : n ≡ position_or_len (is_text x) ks = grind (arith, nat_tests, below) in
         ap (λ o. unwrap_or o n) e ∙ same
 
 -- ---- one statement or branch more
+
+abbrev pub choice_in : Scope → Branches → (ℕ → Front) → ℕ → Front
+choice_in scope bs other n behind = resolved_choice (name_of scope) scope.escaping (table scope.names) bs other n behind
 
 module _ (scope : Scope) where
   pub statement_built : (ss : List Stmt) (i : ℕ) (x : Stmt) (done : List SStmt) (y : SStmt) (p p' : List Tree) → i < length ss → x ≡ get_or ss i x

@@ -7,3 +7,4 @@ pub mod View
 pub mod Names
 pub mod Rules
 pub mod Scoped
+pub mod Size

@@ -5,10 +5,10 @@ use Rattle.jt_value.specs.Tree.{Tree}
 use Rattle.jt_value.specs.View.{view}
 use Rattle.jt_value.specs.declared.value.Value.{Value}
 use Rattle.jt_parse.specs.Trees as trees
-use Rattle.jt_parse.specs.Trees.{Text, Body, Branches}
+use Rattle.jt_parse.specs.Trees.{Text, Body}
 use Rattle.jt_scopes.specs.Slots as slots
 use Rattle.jt_scopes.specs.Slots.{SBody}
-use Rattle.jt_scopes.specs.Resolve.{resolved_expr, resolved_stmt, resolved_body, resolved_choice}
+use Rattle.jt_scopes.specs.Resolve.{resolved_expr, resolved_stmt, resolved_body}
 use Rattle.jt_scopes.specs.Names.{table}
 use Rattle.jt_scopes.specs.View.{Front}
 use Rattle.jt_scopes.specs.declared.resolving.Scope.{Scope}
@@ -29,6 +29,3 @@ module _ (scope : Scope) where
 
   abbrev pub body_in : Body → ℕ → Front
   body_in b n behind = resolved_body name_of scope.escaping (table scope.names) b n behind
-
-  abbrev pub choice_in : Branches → (ℕ → Front) → ℕ → Front
-  choice_in bs other n behind = resolved_choice name_of scope.escaping (table scope.names) bs other n behind

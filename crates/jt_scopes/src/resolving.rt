@@ -1,9 +1,10 @@
-//! Resolves a template: its names to slots, and its literals and data to places of a pool.
+//! Resolves a chain: its names to slots, and its literals and data to places of a pool.
 
 ghost use Rattle.std.specs.Prelude.{◌≡◌, ℕ, ◌++◌, ◌∷◌, [], length, IfOk, IfErr, OnOk};
 ghost use Rattle.jt_value.specs.View.{view};
 ghost use Rattle.jt_value.specs.Pairs.{Pairs};
 ghost use Rattle.jt_parse.specs.View as parsed;
+ghost use Rattle.jt_inherit.specs.View.{chain_view};
 ghost use Rattle.jt_scopes.specs.Meaning as meaning;
 ghost use Rattle.jt_scopes.specs.Slots.{SBody, smean};
 ghost use Rattle.jt_scopes.specs.Resolve.{expr_pool, stmt_pool, body_pool, slot_of, program};
@@ -18,11 +19,12 @@ use crate::names::names_of;
 use crate::program::{Resolved, SExpr, SStmt};
 use crate::rules::check;
 use indexmap::IndexSet;
-use jt_parse::{Expr, Literal, Stmt, Template};
+use jt_inherit::Chain;
+use jt_parse::{Expr, Literal, Stmt};
 use jt_value::Value;
 use std::alloc::Global;
 
-/// What the parts of a template are resolved in.
+/// What the parts of a chain are resolved in.
 #[derive(Drop)]
 struct Scope {
     /// The name of the template.
@@ -33,29 +35,24 @@ struct Scope {
     escaping: bool,
 }
 
-/// Resolves the template of a name. Where escaping is on, what it prints is escaped, markup aside.
+/// Resolves a chain. Where its escaping is on, what it prints is escaped, markup aside.
 ///
 /// # Errors
 ///
-/// The rule that the template breaks; `NoMemory` where a growth was refused.
-pub fn resolve(
-    alloc: Global,
-    name: &str,
-    template: &Template,
-    escaping: bool,
-) -> Result<Resolved, ScopeError>
-    ensures resolved { IfOk result (λ r. program_of r ≡ program name.now escaping (parsed.body_of template.now)) }
-    ensures means { IfOk result (λ r. (context : Pairs) (n : ℕ) → smean (program_of r) context n ≡ meaning.mean escaping name.now (parsed.body_of template.now) context n) }
-    ensures lawful { OnOk result (KeepsRules (names_read (parsed.body_of template.now))) }
-    ensures refused { IfErr result (λ e. Breaks e (names_read (parsed.body_of template.now))) }
+/// The rule that the chain breaks; `NoMemory` where a growth was refused.
+pub fn resolve(alloc: Global, chain: &Chain) -> Result<Resolved, ScopeError>
+    ensures resolved { IfOk result (λ r. program_of r ≡ program (chain_view chain.now).name (chain_view chain.now).escaping (chain_view chain.now).body) }
+    ensures means { IfOk result (λ r. (context : Pairs) (n : ℕ) → smean (program_of r) context n ≡ meaning.mean (chain_view chain.now).escaping (chain_view chain.now).name (chain_view chain.now).body context n) }
+    ensures lawful { OnOk result (KeepsRules (names_read (chain_view chain.now).body)) }
+    ensures refused { IfErr result (λ e. Breaks e (names_read (chain_view chain.now).body)) }
 {
-    let statements = template.body();
+    let statements = chain.template().body();
     let names = names_of(alloc, statements)?;
     check(&names)?;
     let scope = Scope {
-        template: String::from_str(alloc, name)?,
+        template: String::from_str(alloc, chain.name())?,
         names,
-        escaping,
+        escaping: chain.autoescape(),
     };
     let mut pool = Vec::new(alloc);
     let body = resolve_statements(alloc, &scope, statements, &mut pool)?;

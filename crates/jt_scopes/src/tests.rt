@@ -1,25 +1,40 @@
 //! Rows of templates, with their names, pools and statements, or their refusals.
 
+ghost use Rattle.std.specs.Prelude.{Some};
+
+use crate::error::ScopeError;
 use crate::program::{SExpr, SStmt};
 use crate::resolving::resolve;
-use jt_parse::{Template, parse};
-use jt_scan::{Options, Source, scan};
+use jt_inherit::{Chain, Library, chain};
+use jt_scan::Options;
 use jt_value::Value;
 use std::alloc::{AllocError, Global};
 use std::test::Fail;
 
-/// The tree of a text.
-fn template(alloc: Global, text: &str) -> Result<Template, Fail> {
-    let Ok(source) = Source::new(alloc, text, Options::new()) else {
-        return Err(Fail::from("source"));
+/// A library that has this text as the source of every name.
+#[derive(Drop)]
+struct Page<'a> {
+    text: &'a str,
+}
+
+impl Library for Page<'_> {
+    ghost sources = { λ s name. Some s.text.now };
+
+    fn source(&self, _name: &str) -> Option<&str> {
+        Some(self.text)
+    }
+}
+
+/// The chain of a text.
+fn chain_of(alloc: Global, text: &str, autoescape: bool) -> Result<Chain, Fail> {
+    let options = Options {
+        keep_trailing_newline: false,
+        autoescape,
     };
-    let Ok(segments) = scan(alloc, &source) else {
-        return Err(Fail::from("segments"));
-    };
-    let Ok(template) = parse(alloc, &segments) else {
-        return Err(Fail::from("tree"));
-    };
-    Ok(template)
+    match chain(alloc, "t", &Page { text }, options) {
+        Ok(chain) => Ok(chain),
+        Err(_) => Err(Fail::from("chain")),
+    }
 }
 
 /// A place of the pool as `#n`, and a slot as `@n`.
@@ -75,10 +90,10 @@ fn tell_value(told: &mut String, value: &Value) -> Result<(), AllocError> {
     Ok(())
 }
 
-/// The names by their slots, the pool and the statements of a text's template, or its refusal.
+/// The names by their slots, the pool and the statements of a text, or its refusal.
 fn told(alloc: Global, text: &str, escaping: bool) -> Result<String, Fail> {
-    let template = template(alloc, text)?;
-    match resolve(alloc, "t", &template, escaping) {
+    let chain = chain_of(alloc, text, escaping)?;
+    match resolve(alloc, &chain) {
         Ok(resolved) => {
             let mut told = String::from_str(alloc, resolved.template())?;
             told.push(':')?;
@@ -136,24 +151,24 @@ fn templates_are_resolved(rt: HostRuntime) -> Result<(), Fail> {
     Ok(())
 }
 
-/// A template that reads so many names.
-fn reading(alloc: Global, count: usize) -> Result<Template, Fail> {
+/// A chain that reads so many names.
+fn reading(alloc: Global, count: usize) -> Result<Chain, Fail> {
     let mut text = String::new(alloc);
     for i in 0..count {
         let tag = format!(in alloc; "{{{{n{i}}}}}")?;
         text.push_str(tag.as_str())?;
     }
-    template(alloc, text.as_str())
+    chain_of(alloc, text.as_str(), true)
 }
 
 #[test]
 fn slots_are_limited(rt: HostRuntime) -> Result<(), Fail> {
     let alloc = rt.alloc();
     let most = reading(alloc, 65_535)?;
-    let slots = resolve(alloc, "t", &most, true).ok().map(|r| r.slots());
+    let slots = resolve(alloc, &most).ok().map(|r| r.slots());
     assert_eq!(rt; slots, Some(65_535));
     let more = reading(alloc, 65_536)?;
-    let refusal = resolve(alloc, "t", &more, true).err();
-    assert!(rt; matches!(refusal, Some(crate::ScopeError::TooManySlots)));
+    let refusal = resolve(alloc, &more).err();
+    assert!(rt; matches!(refusal, Some(ScopeError::TooManySlots)));
     Ok(())
 }

@@ -1,0 +1,42 @@
+//! Templates to images.
+
+ghost use Rattle.std.specs.Prelude.{IfOk, IfErr};
+ghost use Rattle.jt_inherit.specs.Small.{IsSmall};
+ghost use Rattle.jt_codegen.specs.Compiled.{IsCompiled};
+ghost use Rattle.jt_codegen.specs.Refusals.{Breaks, NamesLimit};
+
+use crate::error::CompileError;
+use crate::tables::parts_of;
+use jt_image::{Image, assemble};
+use jt_inherit::{Library, chain};
+use jt_scan::Options;
+use jt_scopes::resolve;
+use std::alloc::Global;
+
+/// The image of the entry, of which the library has the source.
+///
+/// # Errors
+///
+/// What the chain or the names break; `CodeTooLong` where the image would pass a limit; `NoMemory`
+/// where a growth was refused.
+pub fn compile<L: Library>(
+    alloc: Global,
+    entry: &str,
+    library: &L,
+    options: Options,
+) -> Result<Image, CompileError>
+    // typed code, with the meaning of the entry's template, which breaks no rule
+    ensures compiled { IfOk result (λ image. IsCompiled (L.sources library.now) entry.now options image) }
+    // the refusal holds
+    ensures refused { IfErr result (λ e. Breaks (L.sources library.now) entry.now options e) }
+    // a limit is never named where the chain is small
+    ensures small { IfErr result (λ e. NamesLimit e → ¬ (IsSmall (L.sources library.now) entry.now options)) }
+{
+    let chain = chain(alloc, entry, library, options)?;
+    let resolved = resolve(alloc, &chain)?;
+    let parts = parts_of(alloc, &resolved)?;
+    match assemble(alloc, parts) {
+        Ok(image) => Ok(image),
+        Err((_, refusal)) => Err(CompileError::from(refusal)),
+    }
+}

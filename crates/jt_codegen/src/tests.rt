@@ -1,0 +1,178 @@
+//! Rows of templates with their code, or why they have none.
+
+ghost use Rattle.std.specs.Prelude.{bytes_eq, option_map};
+ghost use Rattle.std.specs.List.{find};
+
+use crate::compiling::compile;
+use crate::error::CompileError;
+use jt_image::{Code, ConstantRef, Image, Instruction};
+use jt_inherit::Library;
+use jt_scan::Options;
+use std::alloc::{AllocError, Global};
+use std::test::Fail;
+
+/// Templates by their names, one after the other.
+#[derive(Drop)]
+struct Shelf<'a> {
+    templates: &'a [(&'a str, &'a str)],
+}
+
+impl Library for Shelf<'_> {
+    ghost sources = { λ s name. option_map (λ p. p.1.now) (find (λ p. bytes_eq p.0.now name) s.templates.now) };
+
+    fn source(&self, name: &str) -> Option<&str> {
+        match self.templates.iter().find(|pair| pair.0 == name) {
+            Some(pair) => Some(pair.1),
+            None => None,
+        }
+    }
+}
+
+/// An instruction in a word: its kind, and its field.
+fn word(alloc: Global, instruction: Instruction) -> Result<String, AllocError> {
+    match instruction {
+        Instruction::Const { constant } => format!(in alloc; "c{constant} "),
+        Instruction::GLoad { global } => format!(in alloc; "g{global} "),
+        Instruction::Emit { flag } => format!(in alloc; "e{flag} "),
+        Instruction::Data { constant } => format!(in alloc; "d{constant} "),
+        Instruction::Jump { target } => format!(in alloc; "j{target} "),
+        Instruction::JumpIfFalse { target } => format!(in alloc; "f{target} "),
+        Instruction::Return => format!(in alloc; "r"),
+        other => format!(in alloc; "{other:?} "),
+    }
+}
+
+/// The instructions of an image, in words.
+fn code_of(alloc: Global, image: &Image) -> Result<String, AllocError> {
+    let mut words = String::new(alloc);
+    for point in 0..image.instructions() {
+        if let Some(instruction) = image.instruction(0, point) {
+            words.push_str(word(alloc, instruction)?.as_str())?;
+        }
+    }
+    Ok(words)
+}
+
+/// The code of the template `a`, or why it has none.
+fn told(alloc: Global, source: &str, options: Options) -> Result<String, AllocError> {
+    let templates = [("a", source)];
+    let shelf = Shelf {
+        templates: &templates,
+    };
+    match compile(alloc, "a", &shelf, options) {
+        Ok(image) => code_of(alloc, &image),
+        Err(refusal) => format!(in alloc; "{refusal}"),
+    }
+}
+
+#[test]
+fn codes_and_refusals(rt: HostRuntime) -> Result<(), Fail> {
+    let alloc = rt.alloc();
+    let rows = [
+        ("", "r"),
+        ("Hello {{ name }}!", "d0 g0 e1 d1 r"),
+        ("{{ b }}{{ a }}{{ b }}", "g1 e1 g0 e1 g1 e1 r"),
+        ("{# {{ #}{{ a }}", "g0 e1 r"),
+        ("{{ true }}{{ none }}", "c0 e1 c1 e1 r"),
+        ("{% if true %}{% endif %}", "c0 f3 j3 r"),
+        ("{% if a %}x{% else %}y{% endif %}", "g0 f4 d0 j5 d1 r"),
+        (
+            "{% if a %}x{% elif b %}y{% else %}z{% endif %}w",
+            "g0 f4 d0 j9 g1 f8 d1 j9 d2 d3 r",
+        ),
+        (
+            "{% if a %}{% if b %}x{% endif %}y{% endif %}",
+            "g0 f7 g1 f5 d0 j5 d1 j7 r",
+        ),
+        ("{{ x", "S1 UnclosedTag in a line 1"),
+        ("\n{{ 1 }}", "S3 BadCharacter in a line 2"),
+        ("{% if %}{% endif %}", "P1 Syntax in a line 1"),
+        ("{{ loop }}", "V1 LoopOutside"),
+        ("{{ self }}", "V3 NotCallable"),
+    ];
+    for (source, want) in rows {
+        let got = told(alloc, source, Options::new())?;
+        assert_eq!(rt; got.as_str(), want, "{source}");
+    }
+    let plain = Options {
+        keep_trailing_newline: false,
+        autoescape: false,
+    };
+    assert_eq!(rt; told(alloc, "{{ a }}", plain)?.as_str(), "g0 e0 r");
+    Ok(())
+}
+
+#[test]
+fn names_and_constants(rt: HostRuntime) -> Result<(), Fail> {
+    let alloc = rt.alloc();
+    let templates = [("a", "x{{ b }}{{ a }}{{ true }}")];
+    let shelf = Shelf {
+        templates: &templates,
+    };
+    let Ok(image) = compile(alloc, "a", &shelf, Options::new()) else {
+        return Err(Fail::from("compile"));
+    };
+    assert_eq!(rt; image.globals(), 2);
+    assert!(rt; matches!(image.name(0), Some((0, "a"))), "the first name");
+    assert!(rt; matches!(image.name(1), Some((1, "b"))), "the second name");
+    assert!(rt;
+        matches!(image.constant(0), Some(ConstantRef::Text("x"))),
+        "the text"
+    );
+    assert!(rt;
+        matches!(image.constant(1), Some(ConstantRef::Bool(true))),
+        "the truth value"
+    );
+    assert_eq!(rt; image.constants(), 2);
+    Ok(())
+}
+
+/// That many print tags.
+fn tags(alloc: Global, count: usize) -> Result<String, AllocError> {
+    let mut source = String::new(alloc);
+    for _n in 0..count {
+        source.push_str("{{a}}")?;
+    }
+    Ok(source)
+}
+
+#[test]
+fn long_templates(rt: HostRuntime) -> Result<(), Fail> {
+    let alloc = rt.alloc();
+    let source = tags(alloc, 2_000)?;
+    let templates = [("a", source.as_str())];
+    let shelf = Shelf {
+        templates: &templates,
+    };
+    match compile(alloc, "a", &shelf, Options::new()) {
+        Ok(image) => assert_eq!(rt; image.instructions(), 4_001),
+        Err(_) => return Err(Fail::from("compile")),
+    }
+    let long = tags(alloc, 131_072)?;
+    let refused = told(alloc, long.as_str(), Options::new())?;
+    assert_eq!(rt; refused.as_str(), "G1 CodeTooLong");
+    Ok(())
+}
+
+#[test]
+fn refusals_have_names(rt: HostRuntime) -> Result<(), Fail> {
+    let alloc = rt.alloc();
+    let shelf = Shelf { templates: &[] };
+    match compile(alloc, "a", &shelf, Options::new()) {
+        Ok(_) => return Err(Fail::from("compile")),
+        Err(refusal) => {
+            let text = format!(in alloc; "{refusal}")?;
+            assert_eq!(rt; text.as_str(), "C1 Missing");
+        }
+    }
+    let rows = [
+        (CompileError::CodeTooLong, "G1 CodeTooLong"),
+        (CompileError::NoMemory, "G2 NoMemory"),
+        (CompileError::StackTooDeep, "G3 StackTooDeep"),
+    ];
+    for (refusal, want) in rows {
+        let text = format!(in alloc; "{refusal}")?;
+        assert_eq!(rt; text.as_str(), want);
+    }
+    Ok(())
+}
