@@ -11,6 +11,8 @@ use Rattle.jt_cli.specs.declared.jobs.JobError.{JobError}
 use Rattle.jt_cli.specs.declared.jobs.JobError.TheVariants as job_error
 use Rattle.jt_image.specs.declared.ImageError.{ImageError}
 use Rattle.jt_image.specs.declared.ImageError.TheVariants as image_error
+use Rattle.jt_codegen.specs.declared.error.CompileError.{CompileError}
+use Rattle.jt_codegen.specs.declared.error.CompileError.TheVariants as compile_error
 use Rattle.jt_verify.specs.declared.Refusal.{Refusal}
 use Rattle.jt_verify.specs.declared.Refusal.TheVariants as refusal
 use Rattle.jt_machine.specs.declared.Outcome.{Outcome}
@@ -33,6 +35,7 @@ status_of (failure.Usage text) = status.Usage
 status_of failure.Words = status.Usage
 status_of (failure.Image e) = status.Refused
 status_of (failure.Code r) = status.Refused
+status_of (failure.Template e) = status.Refused
 status_of (failure.Spent s) = status.Spent
 status_of (failure.File path) = status.File
 status_of failure.Output = status.File
@@ -57,6 +60,11 @@ of_image e = failure.Image e
 abbrev pub of_code : Refusal → Failure
 of_code refusal.NoMemory = failure.NoMemory
 of_code r = failure.Code r
+
+-- what a refusal to compile comes to: its reason, or no memory
+abbrev pub of_compile : CompileError → Failure
+of_compile compile_error.NoMemory = failure.NoMemory
+of_compile e = failure.Template e
 
 -- what the end of a run comes to: its text, or a failure
 abbrev pub of_outcome : Outcome → Result (String Global) Failure

@@ -6,16 +6,19 @@ ghost use Rattle.std.specs.Io.KnownBytes.{Appends};
 ghost use Rattle.clap.specs.Walk.{texts};
 ghost use Rattle.jt_cli.specs.Ending.{IfUntaken, IsOfFiles, code_of, status_of};
 ghost use Rattle.jt_cli.specs.Line.{Takes};
-ghost use Rattle.jt_cli.specs.Program.{ComesTo};
+ghost use Rattle.jt_cli.specs.Program.{ComesTo, GivesImage};
+ghost use Rattle.jt_cli.specs.Templates.{source_of};
 
 use crate::files::{FileError, Files};
 use crate::jobs::{Command, Job};
 use crate::line::job;
-use crate::messages::{Failure, Status, no_code, no_file, no_image, text_of};
+use crate::messages::{Failure, Status, no_code, no_file, no_image, no_template, text_of};
 use crate::templates::Templates;
 use jt_budget::Budget;
-use jt_image::decode;
+use jt_codegen::compile;
+use jt_image::{decode, encode};
 use jt_machine::run;
+use jt_scan::Options;
 use jt_value::Context;
 use jt_verify::verify;
 use std::alloc::Global;
@@ -84,18 +87,19 @@ fn done<F: Files>(alloc: Global, words: &[&str], files: &mut F) -> Result<String
 {
     let Job {
         command,
-        options: _options,
+        options,
         budget,
     } = job(alloc, words)?;
     match command {
-        Command::Compile { dir, name: _name, out } => {
-            let _templates = templates_in(alloc, files, dir)?;
-            put_at(files, out, b"")?;
-            Ok(String::new(alloc))
-        }
         Command::Run { image } => {
             let bytes = bytes_at(files, image)?;
             run_image(alloc, &bytes, budget)
+        }
+        Command::Compile { dir, name, out } => {
+            let templates = templates_in(alloc, files, dir)?;
+            let bytes = image_of(alloc, name.as_str(), &templates, options)?;
+            put_at(files, out, &bytes)?;
+            Ok(String::new(alloc))
         }
     }
 }
@@ -146,6 +150,25 @@ fn templates_in<F: Files>(alloc: Global, files: &mut F, dir: String) -> Result<T
         }
     }
     Ok(templates)
+}
+
+/// The bytes of the image of the template of a name.
+fn image_of(
+    alloc: Global,
+    name: &str,
+    templates: &Templates,
+    options: Options,
+) -> Result<Vec<u8>, Failure>
+    ensures { GivesImage (source_of templates.now) name.now options result }
+{
+    let image = match compile(alloc, name, templates, options) {
+        Ok(image) => image,
+        Err(refusal) => return Err(no_template(refusal)),
+    };
+    match encode(alloc, &image) {
+        Ok(bytes) => Ok(bytes),
+        Err(_) => Err(Failure::NoMemory),
+    }
 }
 
 /// The text of the image that `bytes` spell, run in the empty context.
