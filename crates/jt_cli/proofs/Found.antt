@@ -1,5 +1,5 @@
 -- What is read of the rows of a line.
-use Rattle.std.proofs.Common.{◌≡◌, ◌∙◌, ℕ, Bool, true, false, codes, List, [], Option, Some, None, Result, Ok, Err, ap, sym, refl, option_map, unwrap_or, inl, inr, Bor}
+use Rattle.std.proofs.Common.{◌≡◌, ◌∙◌, ℕ, Bool, true, false, codes, List, [], Option, Some, None, Result, Ok, Err, ap, refl, option_map, unwrap_or, inl, inr, Bor}
 use Rattle.std.specs.Str.Parse.{ParsesUnsigned}
 use Rattle.clap.specs.Words.{ReadsOne, Text}
 use Rattle.jt_cli.specs.Line.{IsGiven, IsFlag}

@@ -291,12 +291,7 @@ fn says_why_nothing_is_compiled(rt: HostRuntime) {
             5,
             "jt: file site/unread\n",
         ),
-        (
-            &most,
-            ["compile", "site", "a", "out"],
-            6,
-            "jt: no memory\n",
-        ),
+        (&most, ["compile", "site", "a", "out"], 6, "jt: no memory\n"),
         (
             &none,
             ["compile", "nowhere", "a", "out"],
