@@ -1,7 +1,7 @@
 -- A line that the program takes names one of its commands.
-use Rattle.std.proofs.Common.{◌≡◌, ◌∙◌, ℕ, Bool, true, false, not, List, [], ◌∷◌, Option, Some, None, ap, subst, sym, refl, rules, codes, is_some, option_map, option_and_then, length, find, cond, ◌&&◌, ◌⊎◌, inl, inr}
-use Rattle.clap.specs.Words.{App, Kinds, Row, Shape, Text, subcommand_of, fault_of, built, is_simple_and_free, is_simple}
-use Rattle.clap.specs.Faults.{built_fault, check_fault, level_fault, entered_fault, walk_fault, settle_fault, defaults_fault}
+use Rattle.std.proofs.Common.{◌≡◌, Bool, true, false, not, List, [], ◌∷◌, Option, Some, None, ap, subst, refl, is_some, option_map, find, cond, ◌&&◌, ◌⊎◌, inl, inr}
+use Rattle.clap.specs.Words.{App, Kinds, Shape, Text, subcommand_of, built, is_simple_and_free, is_simple}
+use Rattle.clap.specs.Faults.{check_fault, level_fault, entered_fault, walk_fault, settle_fault, defaults_fault}
 use Rattle.clap.specs.Kinds.{check_kinds, or_else}
 use Rattle.clap.specs.Simple.{built_leaf, inherited, marked_built, with_leaf_noted, argument_words, entered, label_of, names_of, rows_at}
 use Rattle.clap.specs.Facts.{explicit_source}

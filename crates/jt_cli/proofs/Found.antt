@@ -1,5 +1,5 @@
 -- What is read of the rows of a line.
-use Rattle.std.proofs.Common.{◌≡◌, ◌∙◌, ℕ, Bool, true, false, codes, List, [], Option, Some, None, Result, Ok, Err, ap, sym, refl, option_map, unwrap_or, inl, inr, Bor}
+use Rattle.std.proofs.Common.{◌≡◌, ◌∙◌, ℕ, Bool, true, false, codes, List, [], Option, Some, None, Result, Ok, Err, ap, refl, option_map, unwrap_or, inl, inr, Bor}
 use Rattle.std.specs.Str.Parse.{ParsesUnsigned}
 use Rattle.clap.specs.Words.{ReadsOne, Text}
 use Rattle.jt_cli.specs.Line.{IsGiven, IsFlag}
@@ -19,5 +19,5 @@ text_or_none (Some s) d v e f = ap (λ x. unwrap_or x []) f
 
 pub flagged : (text : Option Text) (b : Bool) → (text ≡ None → b ≡ false) → (text ≡ Some (codes "true") → b ≡ true)
     → (text ≡ Some (codes "false") → b ≡ false) → IsFlag text b
-flagged None b none yes no = none refl
-flagged (Some t) b none yes no = (λ e. yes (ap Some e), λ e. no (ap Some e))
+flagged None b none given not_given = none refl
+flagged (Some t) b none given not_given = (λ e. given (ap Some e), λ e. not_given (ap Some e))

@@ -1,3 +1,4 @@
 mod Adding
 mod Commands
 mod Found
+pub mod Taking

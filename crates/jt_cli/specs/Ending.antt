@@ -5,10 +5,14 @@ use Rattle.jt_cli.specs.declared.messages.Status.{Status}
 use Rattle.jt_cli.specs.declared.messages.Status.TheVariants as status
 use Rattle.jt_cli.specs.declared.messages.Failure.{Failure}
 use Rattle.jt_cli.specs.declared.messages.Failure.TheVariants as failure
+use Rattle.jt_cli.specs.declared.files.FileError.{FileError}
+use Rattle.jt_cli.specs.declared.files.FileError.TheVariants as file_error
 use Rattle.jt_cli.specs.declared.jobs.JobError.{JobError}
 use Rattle.jt_cli.specs.declared.jobs.JobError.TheVariants as job_error
 use Rattle.jt_image.specs.declared.ImageError.{ImageError}
 use Rattle.jt_image.specs.declared.ImageError.TheVariants as image_error
+use Rattle.jt_codegen.specs.declared.error.CompileError.{CompileError}
+use Rattle.jt_codegen.specs.declared.error.CompileError.TheVariants as compile_error
 use Rattle.jt_verify.specs.declared.Refusal.{Refusal}
 use Rattle.jt_verify.specs.declared.Refusal.TheVariants as refusal
 use Rattle.jt_machine.specs.declared.Outcome.{Outcome}
@@ -31,6 +35,7 @@ status_of (failure.Usage text) = status.Usage
 status_of failure.Words = status.Usage
 status_of (failure.Image e) = status.Refused
 status_of (failure.Code r) = status.Refused
+status_of (failure.Template e) = status.Refused
 status_of (failure.Spent s) = status.Spent
 status_of (failure.File path) = status.File
 status_of failure.Output = status.File
@@ -41,6 +46,11 @@ abbrev pub of_line : JobError → Failure
 of_line (job_error.Usage text) = failure.Usage text
 of_line job_error.NoMemory = failure.NoMemory
 
+-- what a fault of a file comes to: the file's path, or no memory
+abbrev pub of_file : FileError → String Global → Failure
+of_file file_error.Failed path = failure.File path
+of_file file_error.NoMemory path = failure.NoMemory
+
 -- what a refused reading of an image comes to: its fault, or no memory
 abbrev pub of_image : ImageError → Failure
 of_image image_error.NoMemory = failure.NoMemory
@@ -50,6 +60,11 @@ of_image e = failure.Image e
 abbrev pub of_code : Refusal → Failure
 of_code refusal.NoMemory = failure.NoMemory
 of_code r = failure.Code r
+
+-- what a refusal to compile comes to: its reason, or no memory
+abbrev pub of_compile : CompileError → Failure
+of_compile compile_error.NoMemory = failure.NoMemory
+of_compile e = failure.Template e
 
 -- what the end of a run comes to: its text, or a failure
 abbrev pub of_outcome : Outcome → Result (String Global) Failure
@@ -63,3 +78,9 @@ IfUntaken (Ok x) = ⊥
 IfUntaken (Err (failure.Usage text)) = Unit {0}
 IfUntaken (Err failure.NoMemory) = Unit {0}
 IfUntaken (Err e) = ⊥
+
+-- a fault of some file, or no memory
+abbrev pub IsOfFiles : Failure → Type 0
+IsOfFiles (failure.File path) = Unit {0}
+IsOfFiles failure.NoMemory = Unit {0}
+IsOfFiles e = ⊥

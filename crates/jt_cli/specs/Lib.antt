@@ -1,3 +1,4 @@
 pub mod Ending
 pub mod Line
 pub mod Program
+pub mod Templates

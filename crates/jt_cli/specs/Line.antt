@@ -1,10 +1,9 @@
 -- What a line asks for. How a line is read is clap's written rule: `fault_of` lists what is wrong
 -- with it, and `subcommand_of` gives its command with the rows of what was found.
-use Rattle.std.specs.Prelude.{◌≡◌, ◌≢◌, ◌<◌, ◌^◌, ◌⊎◌, ℕ, Bool, true, false, not, List, [], ◌∷◌, Option, Some, None, codes, pos, unwrap_or, map}
-use Rattle.std.specs.Borrow.{Bor}
+use Rattle.std.specs.Prelude.{◌≡◌, ◌<◌, ◌^◌, ◌⊎◌, ℕ, Bool, true, false, not, List, [], Option, Some, None, codes, pos, unwrap_or}
 use Rattle.std.specs.String.{string_bytes}
 use Rattle.std.specs.Str.Parse.{IsNumeral, digits_value, without_leading_plus}
-use Rattle.clap.specs.Words.{App, app_of, Row, Rule, Shape, Text, first_of, new_app, new_rule, one_of, with_rule, with_subcommand, fault_of}
+use Rattle.clap.specs.Words.{App, app_of, Row, Rule, Text, first_of, new_app, new_rule, one_of, with_rule, with_subcommand, fault_of}
 use Rattle.clap.specs.declared.builder.Command.{Command as Built}
 use Rattle.clap.specs.declared.builder.Command.TheViews.{out-Command as fields_of}
 use Rattle.clap.specs.declared.builder.ArgAction.TheVariants.{SetTrue}

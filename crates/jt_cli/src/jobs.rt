@@ -9,7 +9,9 @@ use thiserror::Error;
 #[derive(Debug, Drop, PartialEq, Eq)]
 pub enum Command {
     /// Run the image at a path and print its text.
-    Run { image: String },
+    Run {
+        image: String,
+    },
     /// Compile the template of a name, from the files of a directory, into an image.
     Compile {
         dir: String,

@@ -7,6 +7,7 @@ mod line;
 mod machine;
 mod messages;
 mod program;
+mod templates;
 
 use crate::machine::Machine;
 use crate::messages::Failure;

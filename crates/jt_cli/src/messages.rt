@@ -1,14 +1,17 @@
 //! How a run of the program ends: its status, and the text that says why.
 
 ghost use Rattle.std.specs.Prelude.{◌≡◌};
-ghost use Rattle.jt_cli.specs.Ending.{code_of, status_of, of_line, of_image, of_code, of_outcome};
+ghost use Rattle.jt_cli.specs.Ending.{code_of, status_of, of_line, of_file, of_image, of_code, of_compile, of_outcome};
 
+use crate::files::FileError;
 use crate::jobs::JobError;
 use jt_budget::Spent;
+use jt_codegen::CompileError;
 use jt_image::ImageError;
 use jt_machine::Outcome;
 use jt_value::Fault;
 use jt_verify::Refusal;
+use std::alloc::AllocError;
 use thiserror::Error;
 
 /// What the program ends with.
@@ -58,6 +61,9 @@ pub enum Failure {
     /// The image has a flaw.
     #[error("jt: refused {0}\n")]
     Code(Refusal),
+    /// A template does not compile.
+    #[error("jt: refused {0}\n")]
+    Template(CompileError),
     /// The budget was spent.
     #[error("jt: spent {0}\n")]
     Spent(Spent),
@@ -83,11 +89,22 @@ impl Failure {
             Failure::Fault(_) => Status::Fault,
             Failure::Image(_) => Status::Refused,
             Failure::Code(_) => Status::Refused,
+            Failure::Template(_) => Status::Refused,
             Failure::Spent(_) => Status::Spent,
             Failure::File(_) => Status::File,
             Failure::Output => Status::File,
             Failure::NoMemory => Status::Memory,
         }
+    }
+}
+
+impl From<AllocError> for Failure {
+    ghost use Rattle.jt_cli.specs.declared.messages.Failure.TheVariants.{NoMemory};
+
+    ghost from_gives = { λ _ f. f ≡ NoMemory };
+
+    fn from(_error: AllocError) -> Failure {
+        Failure::NoMemory
     }
 }
 
@@ -99,6 +116,16 @@ impl From<JobError> for Failure {
             JobError::Usage(text) => Failure::Usage(text),
             JobError::NoMemory => Failure::NoMemory,
         }
+    }
+}
+
+/// What a fault of the file at a path comes to.
+pub fn no_file(error: FileError, path: String) -> Failure
+    ensures { result ≡ of_file error path }
+{
+    match error {
+        FileError::Failed => Failure::File(path),
+        FileError::NoMemory => Failure::NoMemory,
     }
 }
 
@@ -119,6 +146,16 @@ pub fn no_code(refusal: Refusal) -> Failure
     match refusal {
         Refusal::NoMemory => Failure::NoMemory,
         flaw => Failure::Code(flaw),
+    }
+}
+
+/// What a template that does not compile comes to.
+pub fn no_template(refusal: CompileError) -> Failure
+    ensures { result ≡ of_compile refusal }
+{
+    match refusal {
+        CompileError::NoMemory => Failure::NoMemory,
+        fault => Failure::Template(fault),
     }
 }
 

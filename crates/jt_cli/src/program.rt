@@ -1,18 +1,24 @@
 //! A whole run of the program.
-ghost use Rattle.std.specs.Prelude.{◌≡◌, ◌≢◌, ◌≤◌, ◌⊎◌, ℕ, List, IfErr, OnOk};
+ghost use Rattle.std.specs.Prelude.{◌≡◌, ◌≢◌, ◌≤◌, ◌⊎◌, ℕ, List, IfOk, IfErr, OnOk};
+ghost use Rattle.std.specs.List.Sorted.{IsSorted};
+ghost use Rattle.std.specs.String.{string_cmp};
 ghost use Rattle.std.specs.Io.KnownBytes.{Appends};
 ghost use Rattle.clap.specs.Walk.{texts};
-ghost use Rattle.jt_cli.specs.Ending.{IfUntaken, code_of, status_of};
+ghost use Rattle.jt_cli.specs.Ending.{IfUntaken, IsOfFiles, code_of, status_of};
 ghost use Rattle.jt_cli.specs.Line.{Takes};
-ghost use Rattle.jt_cli.specs.Program.{ComesTo};
+ghost use Rattle.jt_cli.specs.Program.{ComesTo, GivesImage};
+ghost use Rattle.jt_cli.specs.Templates.{source_of};
 
 use crate::files::{FileError, Files};
 use crate::jobs::{Command, Job};
 use crate::line::job;
-use crate::messages::{Failure, Status, no_code, no_image, text_of};
+use crate::messages::{Failure, Status, no_code, no_file, no_image, no_template, text_of};
+use crate::templates::Templates;
 use jt_budget::Budget;
-use jt_image::decode;
+use jt_codegen::compile;
+use jt_image::{decode, encode};
 use jt_machine::run;
+use jt_scan::Options;
 use jt_value::Context;
 use jt_verify::verify;
 use std::alloc::Global;
@@ -81,14 +87,19 @@ fn done<F: Files>(alloc: Global, words: &[&str], files: &mut F) -> Result<String
 {
     let Job {
         command,
-        options: _options,
+        options,
         budget,
     } = job(alloc, words)?;
     match command {
-        Command::Compile { .. } => Err(Failure::NoMemory),
         Command::Run { image } => {
             let bytes = bytes_at(files, image)?;
             run_image(alloc, &bytes, budget)
+        }
+        Command::Compile { dir, name, out } => {
+            let templates = templates_in(alloc, files, dir)?;
+            let bytes = image_of(alloc, name.as_str(), &templates, options)?;
+            put_at(files, out, &bytes)?;
+            Ok(String::new(alloc))
         }
     }
 }
@@ -99,8 +110,64 @@ fn bytes_at<F: Files>(files: &mut F, path: String) -> Result<Vec<u8>, Failure>
 {
     match files.read(path.as_str()) {
         Ok(bytes) => Ok(bytes),
-        Err(FileError::Failed) => Err(Failure::File(path)),
-        Err(FileError::NoMemory) => Err(Failure::NoMemory),
+        Err(error) => Err(no_file(error, path)),
+    }
+}
+
+/// Makes `bytes` the contents of the file at `path`.
+fn put_at<F: Files>(files: &mut F, path: String, bytes: &[u8]) -> Result<(), Failure>
+    ensures { IfErr result (λ e. (e ≡ Failure.File path) ⊎ (e ≡ Failure.NoMemory)) }
+{
+    match files.write(path.as_str(), bytes) {
+        Ok(()) => Ok(()),
+        Err(error) => Err(no_file(error, path)),
+    }
+}
+
+/// The names of the files directly in `dir`, in the order of their bytes.
+fn names_in<F: Files>(files: &mut F, dir: &str) -> Result<Vec<String>, FileError>
+    ensures { IfOk result (λ names. IsSorted string_cmp names.items) }
+{
+    let mut names = files.list(dir)?;
+    names.sort_unstable();
+    Ok(names)
+}
+
+/// The templates of the files directly in `dir`, by their names. A file that is no text is none.
+fn templates_in<F: Files>(alloc: Global, files: &mut F, dir: String) -> Result<Templates, Failure>
+    ensures { IfErr result IsOfFiles }
+{
+    let names = match names_in(files, dir.as_str()) {
+        Ok(names) => names,
+        Err(error) => return Err(no_file(error, dir)),
+    };
+    let mut templates = Templates::new(alloc);
+    for name in names {
+        let path = format!(in alloc; "{dir}/{name}")?;
+        let bytes = bytes_at(files, path)?;
+        if let Ok(source) = String::from_utf8(bytes) {
+            templates.insert(name, source)?;
+        }
+    }
+    Ok(templates)
+}
+
+/// The bytes of the image of the template of a name.
+fn image_of(
+    alloc: Global,
+    name: &str,
+    templates: &Templates,
+    options: Options,
+) -> Result<Vec<u8>, Failure>
+    ensures { GivesImage (source_of templates.now) name.now options result }
+{
+    let image = match compile(alloc, name, templates, options) {
+        Ok(image) => image,
+        Err(refusal) => return Err(no_template(refusal)),
+    };
+    match encode(alloc, &image) {
+        Ok(bytes) => Ok(bytes),
+        Err(_) => Err(Failure::NoMemory),
     }
 }
 

@@ -3,6 +3,7 @@ use crate::jobs::{Command, DEFAULT, Job};
 use crate::line::job;
 use crate::program::perform;
 use jt_budget::Budget;
+use jt_scan::Options;
 use std::alloc::Global;
 use std::io;
 use std::process::Abort;
@@ -42,6 +43,53 @@ impl Files for OneFile<'_> {
     }
 }
 
+/// The files of the directory `site`, and the file `out`. Two of their names don't open.
+#[derive(Drop)]
+struct Site<'a> {
+    alloc: Global,
+    files: &'a [(&'a str, &'a [u8])],
+    out: Vec<u8>,
+}
+
+impl Files for Site<'_> {
+    fn list(&mut self, dir: &str) -> Result<Vec<String>, FileError> {
+        match dir {
+            "site" => {}
+            "memory" => return Err(FileError::NoMemory),
+            _ => return Err(FileError::Failed),
+        }
+        let mut names = Vec::new(self.alloc);
+        for file in self.files {
+            names.push(String::from_str(self.alloc, file.0)?)?;
+        }
+        Ok(names)
+    }
+
+    fn read(&mut self, path: &str) -> Result<Vec<u8>, FileError> {
+        match path {
+            "out" => return Ok(Vec::from_slice(self.alloc, self.out.as_slice())?),
+            "site/memory" => return Err(FileError::NoMemory),
+            "site/unread" => return Err(FileError::Failed),
+            _ => {}
+        }
+        let name = path.strip_prefix("site/").unwrap_or("");
+        for file in self.files {
+            if file.0 == name {
+                return Ok(Vec::from_slice(self.alloc, file.1)?);
+            }
+        }
+        Err(FileError::Failed)
+    }
+
+    fn write(&mut self, path: &str, bytes: &[u8]) -> Result<(), FileError> {
+        if path != "out" {
+            return Err(FileError::Failed);
+        }
+        self.out = Vec::from_slice(self.alloc, bytes)?;
+        Ok(())
+    }
+}
+
 /// A writer that takes nothing.
 #[derive(Drop)]
 struct Closed;
@@ -65,11 +113,26 @@ fn shows(
     out: &str,
     errors: &str,
 ) {
+    let mut files = OneFile {
+        alloc: rt.alloc(),
+        bytes,
+    };
+    shows_on(rt, &mut files, words, status, out, errors);
+}
+
+/// The same over any files.
+fn shows_on<F: Files>(
+    rt: &(impl Abort + AllocGlobal),
+    files: &mut F,
+    words: &[&str],
+    status: u8,
+    out: &str,
+    errors: &str,
+) {
     let alloc = rt.alloc();
-    let mut files = OneFile { alloc, bytes };
     let mut printed = Vec::new(alloc);
     let mut said = Vec::new(alloc);
-    let got = perform(alloc, words, &mut files, &mut printed, &mut said);
+    let got = perform(alloc, words, files, &mut printed, &mut said);
     assert_eq!(rt; got, status, "{words:?}");
     assert_eq!(rt;
         std::str::from_utf8(printed.as_slice()),
@@ -135,8 +198,128 @@ fn refuses_what_is_no_image(rt: HostRuntime) {
 }
 
 #[test]
+fn compiles_a_template(rt: HostRuntime) {
+    let files: [(&str, &[u8]); 3] = [
+        ("b", b"{% if x %}1{% elif true %}2{% endif %}"),
+        ("a", b"x{# y #}\n"),
+        ("bytes", b"\xff"),
+    ];
+    let rows: [(&[&str], &str); 4] = [
+        (&["compile", "site", "a", "out"], "x"),
+        (
+            &["compile", "--keep-trailing-newline", "site", "a", "out"],
+            "x\n",
+        ),
+        (&["compile", "site", "a", "--no-autoescape", "out"], "x"),
+        (&["compile", "site", "b", "out"], "2"),
+    ];
+    for (words, text) in rows {
+        let alloc = rt.alloc();
+        let mut site = Site {
+            alloc,
+            files: files.as_slice(),
+            out: Vec::new(alloc),
+        };
+        shows_on(&rt, &mut site, words, 0, "", "");
+        shows_on(&rt, &mut site, &["run", "out"], 0, text, "");
+    }
+}
+
+#[test]
+fn says_why_nothing_is_compiled(rt: HostRuntime) {
+    let files: [(&str, &[u8]); 4] = [
+        ("odd", b"\n{{ 1 }}"),
+        ("bytes", b"\xff"),
+        ("self", b"{{ self }}"),
+        ("open", b"{% if x %}"),
+    ];
+    let more: [(&str, &[u8]); 2] = [("unread", b""), ("a", b"x")];
+    let most: [(&str, &[u8]); 3] = [("unread", b""), ("memory", b""), ("a", b"x")];
+    let none: [(&str, &[u8]); 0] = [];
+    let rows: [(&[(&str, &[u8])], [&str; 4], u8, &str); 12] = [
+        (
+            &files,
+            ["compile", "site", "odd", "out"],
+            3,
+            "jt: refused S3 BadCharacter in odd line 2\n",
+        ),
+        (
+            &files,
+            ["compile", "site", "open", "out"],
+            3,
+            "jt: refused P1 Syntax in open line 1\n",
+        ),
+        (
+            &files,
+            ["compile", "site", "self", "out"],
+            3,
+            "jt: refused V3 NotCallable\n",
+        ),
+        (
+            &files,
+            ["compile", "site", "a", "out"],
+            3,
+            "jt: refused C1 Missing\n",
+        ),
+        (
+            &files,
+            ["compile", "site", "bytes", "out"],
+            3,
+            "jt: refused C1 Missing\n",
+        ),
+        (
+            &files,
+            ["compile", "site", "../a", "out"],
+            3,
+            "jt: refused C2 BadName\n",
+        ),
+        (
+            &files,
+            ["compile", "site", "a", "shut"],
+            3,
+            "jt: refused C1 Missing\n",
+        ),
+        (
+            &more[1..],
+            ["compile", "site", "a", "shut"],
+            5,
+            "jt: file shut\n",
+        ),
+        (
+            &more,
+            ["compile", "site", "a", "shut"],
+            5,
+            "jt: file site/unread\n",
+        ),
+        (&most, ["compile", "site", "a", "out"], 6, "jt: no memory\n"),
+        (
+            &none,
+            ["compile", "nowhere", "a", "out"],
+            5,
+            "jt: file nowhere\n",
+        ),
+        (
+            &none,
+            ["compile", "memory", "a", "out"],
+            6,
+            "jt: no memory\n",
+        ),
+    ];
+    for (files, words, status, errors) in rows {
+        let alloc = rt.alloc();
+        let mut site = Site {
+            alloc,
+            files,
+            out: Vec::new(alloc),
+        };
+        shows_on(&rt, &mut site, words.as_slice(), status, "", errors);
+        assert!(rt; site.out.is_empty(), "{words:?}");
+    }
+}
+
+#[test]
 fn says_what_is_wrong_with_the_line(rt: HostRuntime) {
-    let rows: [(&[&str], &str); 9] = [
+    let rows: [(&[&str], &str); 12] = [
         (
             &[],
             "error: 'jt' requires a subcommand but one was not provided",
@@ -167,6 +350,15 @@ fn says_what_is_wrong_with_the_line(rt: HostRuntime) {
             "A compiler and sandbox for the Jinja template language",
         ),
         (&["run", "--help"], "Runs an image and prints its text"),
+        (&["compile", "--help"], "Compiles a template into an image"),
+        (
+            &["compile", "site", "a"],
+            "error: the following required arguments were not provided:",
+        ),
+        (
+            &["compile", "site", "a", "out", "--fuel", "1"],
+            "error: unexpected argument '--fuel' found",
+        ),
     ];
     for (words, usage) in rows {
         shows(&rt, X.as_slice(), words, 2, "", usage);
@@ -238,7 +430,55 @@ fn reads_a_line(rt: HostRuntime) -> Result<(), Fail> {
             job(alloc, words)?
                 == Job {
                     command: Command::Run { image },
+                    options: Options::new(),
                     budget
+                },
+            "{words:?}"
+        );
+    }
+    Ok(())
+}
+
+#[test]
+fn reads_a_line_of_compile(rt: HostRuntime) -> Result<(), Fail> {
+    let alloc = rt.alloc();
+    let rows: [(&[&str], bool, bool); 4] = [
+        (&["compile", "d", "n", "o"], false, true),
+        (
+            &["compile", "--keep-trailing-newline", "d", "n", "o"],
+            true,
+            true,
+        ),
+        (&["compile", "d", "--no-autoescape", "n", "o"], false, false),
+        (
+            &[
+                "compile",
+                "d",
+                "n",
+                "o",
+                "--no-autoescape",
+                "--keep-trailing-newline",
+            ],
+            true,
+            false,
+        ),
+    ];
+    for (words, keep_trailing_newline, autoescape) in rows {
+        let command = Command::Compile {
+            dir: String::from_str(alloc, "d")?,
+            name: String::from_str(alloc, "n")?,
+            out: String::from_str(alloc, "o")?,
+        };
+        let options = Options {
+            keep_trailing_newline,
+            autoescape,
+        };
+        assert!(rt;
+            job(alloc, words)?
+                == Job {
+                    command,
+                    options,
+                    budget: DEFAULT
                 },
             "{words:?}"
         );

@@ -1,4 +1,4 @@
-use Rattle.std.proofs.Common.{◌≡◌, ◌∙◌, ap, subst, sym, option_map, [], rules}
+use Rattle.std.proofs.Common.{◌≡◌, ◌∙◌, ap, subst, sym, option_map, []}
 use Rattle.clap.specs.Words.{App, app_of, fault_of, is_simple, is_simple_and_free, subcommand_of}
 use Rattle.clap.specs.Walk.{texts}
 use Rattle.jt_cli.specs.Line.{program_app, IsKnown}

@@ -1,4 +1,4 @@
-use Rattle.std.proofs.Common.{◌≡◌, ◌∙◌, List, ℕ, Bor, ap, refl}
+use Rattle.std.proofs.Common.{◌∙◌, Bor, ap, refl}
 use Rattle.clap.specs.Words.{Text, found_of}
 use Rattle.clap.proofs.WalkLemmas.{first_value-rows}
 use Rattle.jt_cli.proofs.Found.{text_or_none}
