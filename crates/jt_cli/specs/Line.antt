@@ -1,9 +1,9 @@
 -- What a line asks for. How a line is read is clap's written rule: `fault_of` lists what is wrong
 -- with it, and `subcommand_of` gives its command with the rows of what was found.
-use Rattle.std.specs.Prelude.{◌≡◌, ◌<◌, ◌^◌, ◌⊎◌, ℕ, Bool, true, false, not, List, [], Option, Some, None, codes, pos, unwrap_or}
+use Rattle.std.specs.Prelude.{◌≡◌, ◌<◌, ◌^◌, ◌⊎◌, ℕ, Bool, true, false, not, List, [], Option, Some, None, codes, pos, unwrap_or, option_map}
 use Rattle.std.specs.String.{string_bytes}
 use Rattle.std.specs.Str.Parse.{IsNumeral, digits_value, without_leading_plus}
-use Rattle.clap.specs.Words.{App, app_of, Row, Rule, Text, first_of, new_app, new_rule, one_of, with_rule, with_subcommand, fault_of}
+use Rattle.clap.specs.Words.{App, app_of, Row, Rule, Text, first_of, new_app, new_rule, one_of, with_rule, with_subcommand, fault_of, subcommand_of}
 use Rattle.clap.specs.declared.builder.Command.{Command as Built}
 use Rattle.clap.specs.declared.builder.Command.TheViews.{out-Command as fields_of}
 use Rattle.clap.specs.declared.builder.ArgAction.TheVariants.{SetTrue}
@@ -133,6 +133,10 @@ IsAsked (Some c) j = IsCommand c.0 c.1 j.command j.options j.budget
 -- the name of a command
 abbrev pub IsKnown : Option Text → Type 0
 IsKnown name = (name ≡ Some (codes "run")) ⊎ (name ≡ Some (codes "compile"))
+
+-- the line names this command
+abbrev pub Asks : Text → List Text → Type 0
+Asks name words = option_map (λ c. c.0) (subcommand_of program_app words) ≡ Some name
 
 -- P, where the error is not for want of memory
 abbrev pub IfUsage : Type 0 → JobError → Type 0

@@ -1,11 +1,11 @@
 //! A whole run of the program.
-ghost use Rattle.std.specs.Prelude.{◌≡◌, ◌≢◌, ◌≤◌, ◌⊎◌, ℕ, List, IfOk, IfErr, OnOk};
+ghost use Rattle.std.specs.Prelude.{◌≡◌, ◌≢◌, ◌≤◌, ◌⊎◌, ℕ, List, [], codes, string_bytes, IfOk, IfErr, OnOk};
 ghost use Rattle.std.specs.List.Sorted.{IsSorted};
 ghost use Rattle.std.specs.String.{string_cmp};
 ghost use Rattle.std.specs.Io.KnownBytes.{Appends};
 ghost use Rattle.clap.specs.Walk.{texts};
 ghost use Rattle.jt_cli.specs.Ending.{IfUntaken, IsOfFiles, code_of, status_of};
-ghost use Rattle.jt_cli.specs.Line.{Takes};
+ghost use Rattle.jt_cli.specs.Line.{Takes, Asks};
 ghost use Rattle.jt_cli.specs.Program.{ComesTo, GivesImage};
 ghost use Rattle.jt_cli.specs.Templates.{source_of};
 
@@ -44,6 +44,9 @@ pub fn perform<F: Files, W: Write, E: Write>(
     // where it is 0 a text was added to standard output, and nothing to standard error
     ensures printed { result ≡ 0 → (text : List ℕ) × Appends (W.contents out.old) (W.contents out.new) text }
     ensures silent { result ≡ 0 → errors.new ≡ errors.old }
+    // the text is empty where the line asks for a template to be compiled
+    ensures quiet { result ≡ 0 → Asks (codes "compile") (texts words.now) →
+        Appends (W.contents out.old) (W.contents out.new) [] }
     // where it is neither 0 nor 5 standard output is as it was
     ensures untouched { result ≢ 0 → result ≢ 5 → out.new ≡ out.old }
 {
@@ -70,6 +73,7 @@ fn print<F: Files, W: Write>(
 ) -> Result<(), Failure>
     ensures usage { ¬ Takes (texts words.now) → IfUntaken result }
     ensures taken { Takes (texts words.now) → IfErr result (λ e. status_of e ≢ Status.Usage) }
+    ensures quiet { OnOk result (Asks (codes "compile") (texts words.now) → Appends (W.contents out.old) (W.contents out.new) []) }
     ensures printed { OnOk result ((text : List ℕ) × Appends (W.contents out.old) (W.contents out.new) text) }
     ensures untouched { IfErr result (λ e. e ≢ Failure.Output → out.new ≡ out.old) }
 {
@@ -83,6 +87,7 @@ fn print<F: Files, W: Write>(
 /// Does what the line asks for, but for printing. The text is what it prints.
 fn done<F: Files>(alloc: Global, words: &[&str], files: &mut F) -> Result<String, Failure>
     ensures usage { ¬ Takes (texts words.now) → IfUntaken result }
+    ensures quiet { IfOk result (λ text. Asks (codes "compile") (texts words.now) → string_bytes text ≡ []) }
     ensures taken { Takes (texts words.now) → IfErr result (λ e. (status_of e ≢ Status.Usage) × (e ≢ Failure.Output)) }
 {
     let Job {
