@@ -58,4 +58,6 @@ fn perform_on(rt: &HostRuntime, words: &[String]) -> u8 {
 }
 
 #[cfg(test)]
+mod rows;
+#[cfg(test)]
 mod tests;
