@@ -18,34 +18,32 @@ const AMPLE: Budget = Budget {
     nesting: 32,
 };
 
-const USUAL: Options = Options {
-    keep_trailing_newline: false,
-    autoescape: true,
-};
-
-/// A value of a context.
+/// The value of the one name that a context has, or that it has none.
 #[derive(Clone, Copy)]
 enum Given {
+    Nothing,
     True,
-    Text(&'static str),
-    Markup(&'static str),
+    Text,
+    Markup,
 }
 
-fn value_of(alloc: Global, given: Given) -> Result<Value, Fail> {
+fn value_of(alloc: Global, given: Given, text: &str) -> Result<Value, Fail> {
     match given {
+        Given::Nothing => Ok(Value::Undefined),
         Given::True => Ok(Value::Bool(true)),
-        Given::Text(text) => Ok(Value::Text(String::from_str(alloc, text)?)),
-        Given::Markup(text) => Ok(Value::Markup(String::from_str(alloc, text)?)),
+        Given::Text => Ok(Value::Text(String::from_str(alloc, text)?)),
+        Given::Markup => Ok(Value::Markup(String::from_str(alloc, text)?)),
     }
 }
 
-fn context_of(alloc: Global, values: &[(&str, Given)]) -> Result<Context, Fail> {
+fn context_of(alloc: Global, name: &str, given: Given, text: &str) -> Result<Context, Fail> {
     let mut context = Context::new(alloc);
-    for value in values {
-        let name = String::from_str(alloc, value.0)?;
-        if context.insert(name, value_of(alloc, value.1)?).is_err() {
-            return Err(Fail::from("insert"));
-        }
+    let value = value_of(alloc, given, text)?;
+    if context
+        .insert(String::from_str(alloc, name)?, value)
+        .is_err()
+    {
+        return Err(Fail::from("insert"));
     }
     Ok(context)
 }
@@ -55,7 +53,7 @@ fn outcome(
     alloc: Global,
     source: &str,
     options: Options,
-    values: &[(&str, Given)],
+    context: &Context,
 ) -> Result<String, Fail> {
     let mut templates = Templates::new(alloc);
     templates.insert(
@@ -69,7 +67,7 @@ fn outcome(
     let Ok(verified) = verify(alloc, image) else {
         return Err(Fail::from("verify"));
     };
-    match run(alloc, &verified, &context_of(alloc, values)?, AMPLE) {
+    match run(alloc, &verified, context, AMPLE) {
         Ok(Outcome::Text(text)) => Ok(text),
         Ok(Outcome::Fault(fault)) => Ok(format!(in alloc; "fault {fault}")?),
         Ok(Outcome::Spent(spent)) => Ok(format!(in alloc; "spent {spent}")?),
@@ -80,45 +78,94 @@ fn outcome(
 #[test]
 fn sources_give_their_texts(rt: HostRuntime) -> Result<(), Fail> {
     let alloc = rt.alloc();
-    let branches = "{% if a %}x{% elif b %}y{% else %}z{% endif %}";
-    let rows: [(&str, &[(&str, Given)], &str); 18] = [
-        ("", &[], ""),
+    for (source, name, given, text, wanted) in [
+        ("", "a", Given::Nothing, "", ""),
         (
             "Hello {{ name }}!\n",
-            &[("name", Given::Text("World"))],
+            "name",
+            Given::Text,
+            "World",
             "Hello World!",
         ),
-        ("a\r\nb\rc", &[], "a\nb\nc"),
-        (branches, &[("b", Given::True)], "y"),
-        (branches, &[("a", Given::True), ("b", Given::True)], "x"),
-        (branches, &[], "z"),
-        ("{# {{ #}{{ a }}", &[("a", Given::Text("<"))], "&lt;"),
-        ("{# {{ #}{{ a }}", &[("a", Given::Markup("<"))], "<"),
+        ("a\r\nb\rc", "a", Given::Nothing, "", "a\nb\nc"),
+        (
+            "{% if a %}x{% elif b %}y{% else %}z{% endif %}",
+            "a",
+            Given::True,
+            "",
+            "x",
+        ),
+        (
+            "{% if a %}x{% elif b %}y{% else %}z{% endif %}",
+            "b",
+            Given::True,
+            "",
+            "y",
+        ),
+        (
+            "{% if a %}x{% elif b %}y{% else %}z{% endif %}",
+            "c",
+            Given::True,
+            "",
+            "z",
+        ),
+        ("{# {{ #}{{ a }}", "a", Given::Text, "<", "&lt;"),
+        ("{# {{ #}{{ a }}", "a", Given::Markup, "<", "<"),
         (
             "{{ a }}",
-            &[("a", Given::Text("<&'\">"))],
+            "a",
+            Given::Text,
+            "<&'\">",
             "&lt;&amp;&#39;&#34;&gt;",
         ),
-        ("<&'\">{{ a }}", &[], "<&'\">"),
-        ("a\n\n", &[], "a\n"),
-        ("a{{ nope }}b", &[], "ab"),
-        ("{{ true }}{{ False }}{{ none }}", &[], "TrueFalseNone"),
+        ("<&'\">{{ a }}", "b", Given::True, "", "<&'\">"),
+        ("a\n\n", "a", Given::Nothing, "", "a\n"),
+        ("a{{ nope }}b", "a", Given::True, "", "ab"),
+        (
+            "{{ true }}{{ False }}{{ none }}",
+            "a",
+            Given::True,
+            "",
+            "TrueFalseNone",
+        ),
         (
             "{% if a %}1{% if b %}2{% endif %}3{% endif %}4",
-            &[("a", Given::True)],
+            "a",
+            Given::True,
+            "",
             "134",
         ),
-        ("{{ x", &[], "refused S1 UnclosedTag in t line 1"),
-        ("{{ loop }}", &[], "refused V1 LoopOutside"),
         (
-            "a\n{% if true %}{{ super }}{% endif %}",
-            &[],
+            "{{ x",
+            "a",
+            Given::Nothing,
+            "",
+            "refused S1 UnclosedTag in t line 1",
+        ),
+        (
+            "{{ loop }}",
+            "loop",
+            Given::True,
+            "",
+            "refused V1 LoopOutside",
+        ),
+        (
+            "{% if a %}{{ super }}{% endif %}",
+            "a",
+            Given::Nothing,
+            "",
             "refused V3 NotCallable",
         ),
-        ("a{{{ x }}", &[], "refused S3 BadCharacter in t line 1"),
-    ];
-    for (source, values, wanted) in rows {
-        let found = outcome(alloc, source, USUAL, values)?;
+        (
+            "a\na{{{ x }}",
+            "x",
+            Given::True,
+            "",
+            "refused S3 BadCharacter in t line 2",
+        ),
+    ] {
+        let context = context_of(alloc, name, given, text)?;
+        let found = outcome(alloc, source, Options::new(), &context)?;
         assert_eq!(rt; found.as_str(), wanted, "{source}");
     }
     Ok(())
@@ -127,22 +174,18 @@ fn sources_give_their_texts(rt: HostRuntime) -> Result<(), Fail> {
 #[test]
 fn options_are_kept(rt: HostRuntime) -> Result<(), Fail> {
     let alloc = rt.alloc();
-    let kept = Options {
-        keep_trailing_newline: true,
-        ..USUAL
-    };
-    let plain = Options {
-        autoescape: false,
-        ..USUAL
-    };
-    let values: [(&str, Given); 1] = [("a", Given::Text("<"))];
-    for (source, options, wanted) in [
-        ("a\n\n", kept, "a\n\n"),
-        ("a\r\n", kept, "a\n"),
-        ("{{ a }}", plain, "<"),
-        ("{{ a }}", USUAL, "&lt;"),
+    let context = context_of(alloc, "a", Given::Text, "<")?;
+    for (source, keep_trailing_newline, autoescape, wanted) in [
+        ("a\n\n", true, true, "a\n\n"),
+        ("a\r\n", true, true, "a\n"),
+        ("{{ a }}", false, false, "<"),
+        ("{{ a }}", false, true, "&lt;"),
     ] {
-        let found = outcome(alloc, source, options, values.as_slice())?;
+        let options = Options {
+            keep_trailing_newline,
+            autoescape,
+        };
+        let found = outcome(alloc, source, options, &context)?;
         assert_eq!(rt; found.as_str(), wanted, "{source}");
     }
     Ok(())
