@@ -11,7 +11,7 @@ ghost use Rattle.jt_image.specs.Step.{listed, mapped};
 ghost use Rattle.jt_image.specs.Run.{Wrong, limit_of};
 ghost use Rattle.jt_machine.specs.Parts.{make, operate as operate_next, apply_test as test_next, answering, push as pushes, step_on as steps_on};
 ghost use Rattle.jt_machine.specs.View.{budget_view, config_view, next_view, entries_view, values_on, HasValues, AreSized, AreFew};
-ghost use Rattle.jt_machine.specs.Making.{makes_with};
+ghost use Rattle.jt_machine.specs.Making.{makes_with, AreMany};
 
 use crate::maps::map_of;
 use crate::outcome::Outcome;
@@ -63,6 +63,7 @@ fn take_paid(alloc: Global, state: &mut State, count: usize) -> Result<Taken, No
     requires sized { AreSized state.old }
     requires few { AreFew state.old }
     ensures next { IfOk result (λ o. (f : List Tree → Result Tree Fault) → make count f (config_view state.old) ≡ makes_with f o state.new) }
+    ensures many { IfOk result (λ o. AreMany count o) }
     ensures point { state.new.point ≡ state.old.point }
 {
     let _size = state.left.size;
@@ -80,7 +81,7 @@ fn push_answer(
 ) -> Result<Option<Outcome>, NoMemory>
     requires room { state.old.point + 1 < 2 ^ 64 }
     requires fits { IfOk answer (λ v. limit_of (budget_view state.old.left) (view v) ≡ None) }
-    ensures { IfOk result (λ o. (r : Result Tree Fault) → Answers answer (limited state.old.left.size state.old.left.nesting r) → answering r (λ t. pushes t (config_view state.old) steps_on) ≡ next_view o state.new) }
+    ensures { (r : Result Tree Fault) → Answers answer (limited state.old.left.size state.old.left.nesting r) → IfOk result (λ o. answering r (λ t. pushes t (config_view state.old) steps_on) ≡ next_view o state.new) }
 {
     match answer {
         Ok(value) => push_fitting(state, value),

@@ -92,6 +92,20 @@ fn pop_pair(values: &mut Vec<Value>) -> Option<(String, Value)>
     Some((key_text(key), value))
 }
 
+// Puts a value at a key. A key that is there keeps its place.
+fn put_pair(
+    entries: &mut IndexMap<String, Value>,
+    key: String,
+    value: Value,
+) -> Result<(), NoMemory>
+    ensures { OnOk result (entries_view entries.new.entries ≡ put_entry (string_bytes key) (view value) (entries_view entries.old.entries)) }
+{
+    match entries.insert(key, value) {
+        Ok(_) => Ok(()),
+        Err(_) => Err(NoMemory),
+    }
+}
+
 // The entries of keys and values in turn.
 fn entries_of(alloc: Global, mut values: Vec<Value>) -> Result<Vec<(String, Value)>, NoMemory>
     requires { list_all is_text (keys_of (map view values.items)) ≡ true }
@@ -100,7 +114,7 @@ fn entries_of(alloc: Global, mut values: Vec<Value>) -> Result<Vec<(String, Valu
     values.reverse();
     let mut entries: IndexMap<String, Value> = IndexMap::new(alloc);
     'pairs: while let Some((key, value)) = pop_pair(&mut values) {
-        entries.insert(key, value)?;
+        put_pair(&mut entries, key, value)?;
     }
     Ok(entries.into_iter().collect(alloc)?)
 }

@@ -356,7 +356,13 @@ fn lists_and_maps(rt: HostRuntime) -> Result<(), Fail> {
         ITEM,
     ];
     let number: &[Fields] = &[constant(1), constant(1), map_with(1)];
-    let undefined: &[Fields] = &[constant(1), constant(1), constant(7), constant(1), map_with(2)];
+    let undefined: &[Fields] = &[
+        constant(1),
+        constant(1),
+        constant(7),
+        constant(1),
+        map_with(2),
+    ];
     let none: &[Fields] = &[map_with(0), list_of(0), EQUAL];
     for (instructions, wanted) in [
         (first, "text 3"),
@@ -414,6 +420,9 @@ fn a_doubled_key_keeps_its_place(rt: HostRuntime) -> Result<(), Fail> {
         assert!(rt; value.equals(&Value::Int(number)));
     }
     let keys = vec![in alloc; Value::None, Value::None, Value::Undefined, Value::None]?;
-    assert_eq!(rt; map_of(alloc, keys).err(), Some(ValueError::Fault(Fault::Undefined)));
+    assert_eq!(rt;
+        map_of(alloc, keys).err(),
+        Some(ValueError::Fault(Fault::Undefined))
+    );
     Ok(())
 }
