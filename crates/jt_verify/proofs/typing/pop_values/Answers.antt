@@ -1,5 +1,4 @@
 use Rattle.std.proofs.Common.{◌≡◌, ◌∙◌, ◌-◌, ◌+◌, suc, sym, Err, rules, arith}
-use Rattle.jt_verify.specs.Typing.{PopsMany}
 use Rattle.jt_verify.proofs.Popping.{pop_one, below_shorter, error_many}
 use Rattle.jt_verify.proofs.typing.pop_values.Goals as goal
 

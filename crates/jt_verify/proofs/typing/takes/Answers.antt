@@ -1,4 +1,4 @@
-use Rattle.std.proofs.Common.{◌≡◌, Some, None, ap, ◌∙◌}
+use Rattle.std.proofs.Common.{Some, None, ap}
 use Rattle.jt_image.specs.Ids.{takes}
 use Rattle.jt_image.proofs.ById.{test_is}
 use Rattle.jt_verify.proofs.typing.takes.Goals as goal
