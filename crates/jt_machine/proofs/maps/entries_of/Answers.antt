@@ -1,9 +1,7 @@
 use Rattle.std.proofs.Common.{◌≡◌, ◌∙◌, map, reverse, sym, ap, refl}
 use Rattle.std.proofs.lemmas.List.{reverse-reverse}
 use Rattle.indexmap.proofs.ReorderLemmas.{map-reverse}
-use Rattle.jt_value.specs.Tree.{no_entries}
 use Rattle.jt_value.specs.View.{view, entries_view}
-use Rattle.jt_image.specs.Step.{put_entries}
 use Rattle.jt_machine.specs.Making.{upward}
 use Rattle.jt_machine.proofs.maps.entries_of.Goals as goal
 
