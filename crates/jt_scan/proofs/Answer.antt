@@ -48,9 +48,9 @@ MayBe error.NoMemory = ⊥
 
 broken_may : {k : Kind} {n : ℕ} {e : ScanError} {x : Text} → IsBroken k n e x → MayBe e
 broken_may no_closer = tt
-broken_may (no_token a b c) = tt
+broken_may (no_token a b n c) = tt
 broken_may (behind_space h i) = broken_may i
-broken_may (behind_token s i) = broken_may i
+broken_may (behind_token b s i) = broken_may i
 
 faulty_may : {n : ℕ} {e : ScanError} {x : Text} → IsFaulty n e x → MayBe e
 faulty_may (in_tag i) = broken_may i

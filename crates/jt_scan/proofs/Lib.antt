@@ -1,5 +1,6 @@
 pub mod Steps
 pub mod Tables
+pub mod SignLaws
 pub mod InsideLaws
 pub mod CutLaws
 pub mod Weight

@@ -1,5 +1,5 @@
 -- One turn of the loop over a tag's tokens, and of the loop over segments.
-use Rattle.std.proofs.Common.{◌≡◌, ℕ, zero, suc, ◌+◌, ◌<◌, ◌≤◌, ◌==◌, Bool, true, false, List, [], ◌∷◌, ◌++◌, length, drop, refl, sym, ap, ap₂, subst, ◌∙◌, arith, append_assoc, append-nil, Result, Ok, Err, length-append, IsUtf8, cond}
+use Rattle.std.proofs.Common.{◌≡◌, ℕ, zero, suc, ◌+◌, ◌<◌, ◌≤◌, ◌==◌, Bool, true, false, List, [], ◌∷◌, ◌++◌, length, drop, refl, sym, ap, ap₂, subst, ◌∙◌, arith, append_assoc, append-nil, Result, None, Ok, Err, length-append, IsUtf8, cond}
 use Rattle.std.proofs.lemmas.List.Sums.{sum_by-append, count_by-le-length}
 use Rattle.std.proofs.lemmas.Str.{encodes-chars, chars-nil, length-le-encodes}
 use Rattle.std.specs.Str.{chars}
@@ -9,7 +9,7 @@ use Rattle.jt_scan.specs.declared.error.ScanError.TheVariants as error
 use Rattle.jt_scan.specs.declared.segment.Kind.{Kind}
 use Rattle.jt_scan.specs.declared.segment.Kind.TheVariants.{Variable, Block}
 use Rattle.jt_scan.specs.Cut.{Text, Token, Segment, data_of, comment, begins, opens, ends_comment, is_space, IsSegment, some_data, a_tag, a_comment, Inside, closed, space, token, closer, second, starts_name, name, line_at, lines}
-use Rattle.jt_scan.specs.Scanning.{Outcome, ◌>>=◌, EndsWith, after_space, closes, spells, front_at, with_token, then_inside, inside, tag_at, run, clear_run, ended_comment, comment_at, segment_at, with_segment, then_cut, cut, IsGiven}
+use Rattle.jt_scan.specs.Scanning.{Outcome, ◌>>=◌, EndsWith, after_space, closes, spells, front_at, with_token, then_inside, inside, sign_at, tag_at, run, clear_run, ended_comment, comment_at, segment_at, with_segment, then_cut, cut, IsGiven}
 use Rattle.jt_scan.proofs.Steps.{Stops, clear_says, run_says}
 use Rattle.jt_scan.proofs.InsideLaws.{IsFront, front_says}
 use Rattle.jt_scan.proofs.CutLaws.{segment_says}
@@ -177,7 +177,7 @@ cut_refused source ss x line e r z at h =
 inside_end : {k : Kind} {ts : List Token} {x rest : Text} → Inside k ts x rest → EndsWith x rest
 inside_end {k} (closed {rest}) = (closer k ∷ 125 ∷ [], refl)
 inside_end (space {c} h i) = let e = inside_end i in (c ∷ e.0, ap (λ z. c ∷ z) e.1)
-inside_end (token {s} {rest} p i) = let e = inside_end i in (s ++ e.0, ap (λ z. s ++ z) e.1 ∙ sym (append_assoc s e.0 rest))
+inside_end (token {s} {rest} b p i) = let e = inside_end i in (s ++ e.0, ap (λ z. s ++ z) e.1 ∙ sym (append_assoc s e.0 rest))
 
 segment_end : {n : ℕ} {s : Segment} {x rest : Text} → IsSegment n s x rest → EndsWith x rest
 segment_end (some_data {c} {d} h e) = (c ∷ d, refl)
@@ -270,9 +270,9 @@ unfolding front_at
 front_closed Variable line x rest e = rw e refl
 front_closed Block line x rest e = rw e refl
 
-pub front_bad : (k : Kind) (line c : ℕ) (x cs : Text) → x ≡ c ∷ cs → begins (closer k) 125 x ≡ false → starts_name c ≡ false → front_at k line x ≡ Err (error.BadCharacter line)
+pub front_bad : (k : Kind) (line c : ℕ) (x cs : Text) → x ≡ c ∷ cs → begins (closer k) 125 x ≡ false → starts_name c ≡ false → sign_at x ≡ None → front_at k line x ≡ Err (error.BadCharacter line)
 unfolding front_at
-front_bad k line c x cs e b s = rw e (rw (subst (λ z. begins (closer k) 125 z ≡ false) e b, s) refl)
+front_bad k line c x cs e b s n = rw e (rw (subst (λ z. begins (closer k) 125 z ≡ false) e b, s, subst (λ z. sign_at z ≡ None) e n) refl)
 
 pub name_end : (c : ℕ) (x cs rest : Text) → x ≡ c ∷ cs → rest ≡ (run cs).1 → EndsWith x rest
 name_end c x cs rest e r = (c ∷ (run cs).0, e ∙ ap (λ z. c ∷ z) ((run_says cs).0 ∙ ap (λ z. (run cs).0 ++ z) (sym r)))

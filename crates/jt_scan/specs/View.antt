@@ -8,10 +8,14 @@ use Rattle.jt_scan.specs.declared.segment.Token.TheVariants as t
 use Rattle.jt_scan.specs.declared.tokens.Front.{Front}
 use Rattle.jt_scan.specs.declared.tokens.Front.TheVariants as f
 use Rattle.jt_scan.specs.Cut as cut
+use Rattle.jt_scan.specs.Literals.{unescaped}
 use Rattle.jt_scan.specs.Scanning as scanning
 
 abbrev pub token_view : Token → cut.Token
 token_view (t.Name x) = cut.name (chars x.now)
+token_view (t.Number n) = cut.number n
+token_view (t.Text raw) = cut.text (unescaped (chars raw.now))
+token_view (t.Sign s) = cut.sign s
 
 abbrev pub segment_view : Segment → cut.Segment
 segment_view (s.Data x) = cut.data_of (chars x.now)
@@ -23,5 +27,5 @@ abbrev pub cut_of : List Segment → List cut.Segment
 cut_of = map segment_view
 
 abbrev pub front_view : Front → scanning.Front
-front_view f.Closer = scanning.closes
+front_view f.Closer = scanning.closing
 front_view (f.Token t) = scanning.spells (token_view t)

@@ -6,6 +6,7 @@ mod find;
 mod options;
 mod scanner;
 mod segment;
+mod signs;
 mod source;
 #[cfg(test)]
 mod tests;
@@ -15,5 +16,5 @@ mod tokens;
 pub use error::ScanError;
 pub use options::Options;
 pub use scanner::scan;
-pub use segment::{Kind, Segment, Tag, Token};
+pub use segment::{Kind, Segment, Sign, Tag, Token};
 pub use source::{MAX_SOURCE_LEN, Source};

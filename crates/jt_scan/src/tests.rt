@@ -19,8 +19,10 @@ fn tell(alloc: Global, segment: &Segment<'_>) -> Result<String, AllocError> {
                 Kind::Block => format!(in alloc; "b{}:", tag.line)?,
             };
             for token in tag.tokens.as_slice() {
-                let Token::Name(name) = token;
-                told.push_str(*name)?;
+                match token {
+                    Token::Name(name) => told.push_str(*name)?,
+                    Token::Sign(sign) => told.push_str(format!(in alloc; "{sign:?}")?.as_str())?,
+                }
                 told.push(';')?;
             }
             Ok(told)
@@ -60,6 +62,11 @@ fn sources_are_cut(rt: HostRuntime) -> Result<(), Fail> {
         ("{# a #} b #}", "# a #< b #}>"),
         ("{{}}{%%}{##}", "v1:b1:##"),
         ("{ { } }{", "<{ { } }{>"),
+        ("{{ a***-b }}", "v1:a;Power;Times;Minus;b;"),
+        ("{{ a<=b>==c }}", "v1:a;LessEqual;b;GreaterEqual;Assign;c;"),
+        ("{% a%%}", "b1:a;Percent;"),
+        ("{{ a/b }}", "BadCharacter { line: 1 }"),
+        ("{{ !a }}", "BadCharacter { line: 1 }"),
         ("a{{{ x }}", "BadCharacter { line: 1 }"),
         ("{{ a }}\n\r\n{{\n1 }}", "BadCharacter { line: 3 }"),
         ("{{ a %}", "BadCharacter { line: 1 }"),

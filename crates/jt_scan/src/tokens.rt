@@ -8,6 +8,7 @@ ghost use Rattle.jt_scan.specs.View.{token_view, front_view};
 
 use crate::error::ScanError;
 use crate::segment::{Kind, Token};
+use crate::signs::read_sign;
 use crate::text::{before, behind_name, behind_pair, behind_space, first, starts_name};
 use std::alloc::Global;
 
@@ -41,7 +42,10 @@ fn read_front<'a>(text: &'a str, kind: Kind, line: u32) -> Result<(Front<'a>, &'
         return Ok((Front::Closer, rest));
     }
     if !starts_name(c) {
-        return Err(ScanError::BadCharacter { line });
+        return match read_sign(text) {
+            Some((sign, rest)) => Ok((Front::Token(Token::Sign(sign)), rest)),
+            None => Err(ScanError::BadCharacter { line }),
+        };
     }
     let rest = behind_name(more);
     Ok((Front::Token(Token::Name(before(text, rest))), rest))

@@ -1,6 +1,7 @@
 use Rattle.std.proofs.Common.{◌≡◌, ◌∷◌, false, ap, sym, subst, ◌∙◌}
 use Rattle.std.specs.Str.{chars}
 use Rattle.jt_scan.specs.Cut as cut
+use Rattle.jt_scan.proofs.InsideLaws.{front_signed}
 use Rattle.jt_scan.proofs.Turns.{front_ended, front_closed, front_bad, name_end, front_named}
 use Rattle.jt_scan.proofs.tokens.read_front.Goals as goal
 
@@ -12,10 +13,15 @@ returns-in-Some-behind_pair c =
     front_closed c.args.kind c.args.line (chars c.args.text.now) (chars c.in-Some-behind_pair.rest.now)
     (c.in-Some-behind_pair.ensures ∙ ap (λ d. d ∷ 125 ∷ chars c.in-Some-behind_pair.rest.now) c.closer.ensures)
 
-pub returns-then-not-starts_name : goal.returns-then-not-starts_name
-returns-then-not-starts_name c =
+pub returns-in-Some-read_sign : goal.returns-in-Some-read_sign
+returns-in-Some-read_sign c =
+    front_signed c.args.kind c.args.line c.in-Some.c (chars c.args.text.now) (chars c.in-Some.more.now) (chars c.in-Some-read_sign.rest.now) c.in-Some-read_sign.sign c.in-Some.ensures
+    (subst (λ d. cut.begins d 125 (chars c.args.text.now) ≡ false) c.closer.ensures c.in_default-behind_pair.ensures) (sym c.if-not-starts_name.ensures) c.in-Some-read_sign.ensures
+
+pub returns-in-None : goal.returns-in-None
+returns-in-None c =
     front_bad c.args.kind c.args.line c.in-Some.c (chars c.args.text.now) (chars c.in-Some.more.now) c.in-Some.ensures
-    (subst (λ d. cut.begins d 125 (chars c.args.text.now) ≡ false) c.closer.ensures c.in_default-behind_pair.ensures) (sym c.if-not-starts_name.ensures)
+    (subst (λ d. cut.begins d 125 (chars c.args.text.now) ≡ false) c.closer.ensures c.in_default-behind_pair.ensures) (sym c.if-not-starts_name.ensures) c.in-None.ensures
 
 pub before-requires : goal.before-requires
 before-requires c =
