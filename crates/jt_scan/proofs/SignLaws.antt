@@ -4,6 +4,7 @@ use Rattle.std.proofs.lemmas.Bool.Decides.{nat_tests}
 use Rattle.jt_scan.specs.declared.segment.Sign.{Sign}
 use Rattle.jt_scan.specs.declared.segment.Sign.TheVariants as s
 use Rattle.jt_scan.specs.Cut.{Text, sign_text, goes_on, SignEnds, NoSign, starts_name, is_space}
+use Rattle.jt_scan.specs.Literals.{digit_value, is_digit, is_quote}
 use Rattle.jt_scan.specs.Scanning.{one_sign, two_sign, alone, longest, sign_at}
 use Rattle.jt_scan.proofs.Steps.{by_test, both}
 use Rattle.jt_scan.proofs.Tables.{no_start}
@@ -42,6 +43,10 @@ sign_found s.LeftBracket [] h = refl
 sign_found s.LeftBracket (d ∷ rest) h = refl
 sign_found s.RightBracket [] h = refl
 sign_found s.RightBracket (d ∷ rest) h = refl
+sign_found s.LeftBrace [] h = refl
+sign_found s.LeftBrace (d ∷ rest) h = refl
+sign_found s.RightBrace [] h = refl
+sign_found s.RightBrace (d ∷ rest) h = refl
 sign_found s.Power rest h = refl
 sign_found s.FloorDivide rest h = refl
 sign_found s.Equal rest h = refl
@@ -88,6 +93,10 @@ sign_there s.LeftBracket [] h = cc
 sign_there s.LeftBracket (d ∷ rest) h = cc
 sign_there s.RightBracket [] h = cc
 sign_there s.RightBracket (d ∷ rest) h = cc
+sign_there s.LeftBrace [] h = cc
+sign_there s.LeftBrace (d ∷ rest) h = cc
+sign_there s.RightBrace [] h = cc
+sign_there s.RightBrace (d ∷ rest) h = cc
 sign_there s.Power rest h = cc
 sign_there s.FloorDivide rest h = cc
 sign_there s.Equal rest h = cc
@@ -119,7 +128,9 @@ one_says c u e =
     by_test (c == 41) _ _ _ q (λ h q. hit c 41 s.RightParen u h refl q) (λ h q.
     by_test (c == 91) _ _ _ q (λ h q. hit c 91 s.LeftBracket u h refl q) (λ h q.
     by_test (c == 93) _ _ _ q (λ h q. hit c 93 s.RightBracket u h refl q) (λ h q.
-    cc))))))))))))))))
+    by_test (c == 123) _ _ _ q (λ h q. hit c 123 s.LeftBrace u h refl q) (λ h q.
+    by_test (c == 125) _ _ _ q (λ h q. hit c 125 s.RightBrace u h refl q) (λ h q.
+    cc))))))))))))))))))
 
 hit_two : (c d m n : ℕ) (t u : Sign) → (c == m && d == n) ≡ true → sign_text t ≡ m ∷ n ∷ [] → ((x : Text) → SignEnds t x) → ◌≡◌ {A = Option Sign} (Some t) (Some u) → (sign_text u ≡ c ∷ d ∷ []) × ((x : Text) → SignEnds u x)
 hit_two c d m n t u h w a e =
@@ -186,6 +197,8 @@ shut c d s.LeftParen e h = refl
 shut c d s.RightParen e h = refl
 shut c d s.LeftBracket e h = refl
 shut c d s.RightBracket e h = refl
+shut c d s.LeftBrace e h = refl
+shut c d s.RightBrace e h = refl
 shut c d s.Power e h = refl
 shut c d s.FloorDivide e h = refl
 shut c d s.Equal e h = refl
@@ -222,27 +235,30 @@ sign_says [] u rest e = cc
 sign_says (c ∷ []) u rest e = let a = alone_says c [] u rest (one_sign c) refl e in short c [] u rest tt a.0 a.1
 sign_says (c ∷ d ∷ more) u rest e = long c d more u rest (two_sign c d) refl e
 
--- a sign begins with no whitespace and no character of a name
-pub sign_head : (t : Sign) → (c : ℕ) × (cs : Text) × (sign_text t ≡ c ∷ cs) × (starts_name c ≡ false) × (is_space c ≡ false)
-sign_head s.Plus = (43, [], refl, no_start 43 (omega arith) refl, refl)
-sign_head s.Minus = (45, [], refl, no_start 45 (omega arith) refl, refl)
-sign_head s.Times = (42, [], refl, no_start 42 (omega arith) refl, refl)
-sign_head s.Percent = (37, [], refl, no_start 37 (omega arith) refl, refl)
-sign_head s.Tilde = (126, [], refl, no_start 126 (omega arith) refl, refl)
-sign_head s.Less = (60, [], refl, no_start 60 (omega arith) refl, refl)
-sign_head s.Greater = (62, [], refl, no_start 62 (omega arith) refl, refl)
-sign_head s.Assign = (61, [], refl, no_start 61 (omega arith) refl, refl)
-sign_head s.Dot = (46, [], refl, no_start 46 (omega arith) refl, refl)
-sign_head s.Comma = (44, [], refl, no_start 44 (omega arith) refl, refl)
-sign_head s.Colon = (58, [], refl, no_start 58 (omega arith) refl, refl)
-sign_head s.Pipe = (124, [], refl, no_start 124 (omega arith) refl, refl)
-sign_head s.LeftParen = (40, [], refl, no_start 40 (omega arith) refl, refl)
-sign_head s.RightParen = (41, [], refl, no_start 41 (omega arith) refl, refl)
-sign_head s.LeftBracket = (91, [], refl, no_start 91 (omega arith) refl, refl)
-sign_head s.RightBracket = (93, [], refl, no_start 93 (omega arith) refl, refl)
-sign_head s.Power = (42, 42 ∷ [], refl, no_start 42 (omega arith) refl, refl)
-sign_head s.FloorDivide = (47, 47 ∷ [], refl, no_start 47 (omega arith) refl, refl)
-sign_head s.Equal = (61, 61 ∷ [], refl, no_start 61 (omega arith) refl, refl)
-sign_head s.NotEqual = (33, 61 ∷ [], refl, no_start 33 (omega arith) refl, refl)
-sign_head s.LessEqual = (60, 61 ∷ [], refl, no_start 60 (omega arith) refl, refl)
-sign_head s.GreaterEqual = (62, 61 ∷ [], refl, no_start 62 (omega arith) refl, refl)
+-- a sign begins with no whitespace, and no other token begins with it
+pub sign_head : (t : Sign) → (c : ℕ) × (cs : Text) × (sign_text t ≡ c ∷ cs) × (starts_name c ≡ false) × (is_space c ≡ false) × (is_digit 10 c ≡ false) × (is_quote c ≡ false)
+unfolding digit_value
+sign_head s.Plus = (43, [], refl, no_start 43 (omega arith) refl, refl, refl, refl)
+sign_head s.Minus = (45, [], refl, no_start 45 (omega arith) refl, refl, refl, refl)
+sign_head s.Times = (42, [], refl, no_start 42 (omega arith) refl, refl, refl, refl)
+sign_head s.Percent = (37, [], refl, no_start 37 (omega arith) refl, refl, refl, refl)
+sign_head s.Tilde = (126, [], refl, no_start 126 (omega arith) refl, refl, refl, refl)
+sign_head s.Less = (60, [], refl, no_start 60 (omega arith) refl, refl, refl, refl)
+sign_head s.Greater = (62, [], refl, no_start 62 (omega arith) refl, refl, refl, refl)
+sign_head s.Assign = (61, [], refl, no_start 61 (omega arith) refl, refl, refl, refl)
+sign_head s.Dot = (46, [], refl, no_start 46 (omega arith) refl, refl, refl, refl)
+sign_head s.Comma = (44, [], refl, no_start 44 (omega arith) refl, refl, refl, refl)
+sign_head s.Colon = (58, [], refl, no_start 58 (omega arith) refl, refl, refl, refl)
+sign_head s.Pipe = (124, [], refl, no_start 124 (omega arith) refl, refl, refl, refl)
+sign_head s.LeftParen = (40, [], refl, no_start 40 (omega arith) refl, refl, refl, refl)
+sign_head s.RightParen = (41, [], refl, no_start 41 (omega arith) refl, refl, refl, refl)
+sign_head s.LeftBracket = (91, [], refl, no_start 91 (omega arith) refl, refl, refl, refl)
+sign_head s.RightBracket = (93, [], refl, no_start 93 (omega arith) refl, refl, refl, refl)
+sign_head s.LeftBrace = (123, [], refl, no_start 123 (omega arith) refl, refl, refl, refl)
+sign_head s.RightBrace = (125, [], refl, no_start 125 (omega arith) refl, refl, refl, refl)
+sign_head s.Power = (42, 42 ∷ [], refl, no_start 42 (omega arith) refl, refl, refl, refl)
+sign_head s.FloorDivide = (47, 47 ∷ [], refl, no_start 47 (omega arith) refl, refl, refl, refl)
+sign_head s.Equal = (61, 61 ∷ [], refl, no_start 61 (omega arith) refl, refl, refl, refl)
+sign_head s.NotEqual = (33, 61 ∷ [], refl, no_start 33 (omega arith) refl, refl, refl, refl)
+sign_head s.LessEqual = (60, 61 ∷ [], refl, no_start 60 (omega arith) refl, refl, refl, refl)
+sign_head s.GreaterEqual = (62, 61 ∷ [], refl, no_start 62 (omega arith) refl, refl, refl, refl)

@@ -106,10 +106,11 @@ pub data Escape : Type 0 where
   -- it stays, and the backslash too
   stays : Escape
 
--- LF; `\`, `'` and `"`; `a`, `b`, `t`, `n`, `v`, `f` and `r`; an octal digit; `x`, `u` and `U`; `N`
+-- an octal digit; LF; `\`, `'` and `"`; `a`, `b`, `t`, `n`, `v`, `f` and `r`; `x`, `u` and `U`; `N`
 unfoldable pub escape : ℕ → Escape
 escape c =
-    if c == 10 then drops
+    if is_digit 8 c then octal
+    else if c == 10 then drops
     else if c == 92 || c == 39 || c == 34 then gives c
     else if c == 97 then gives 7
     else if c == 98 then gives 8
@@ -118,7 +119,6 @@ escape c =
     else if c == 118 then gives 11
     else if c == 102 then gives 12
     else if c == 114 then gives 13
-    else if is_digit 8 c then octal
     else if c == 120 then hexadecimal 2
     else if c == 117 then hexadecimal 4
     else if c == 85 then hexadecimal 8

@@ -14,7 +14,7 @@ pub data IsBroken (k : Kind) (n : ℕ) : ℕ → ScanError → Text → Type 0 w
   -- the source ends inside a text
   no_quote : {depth quote : ℕ} {x : Text} → is_quote quote ≡ true → Unended quote x → IsBroken k n depth (UnclosedText n) (quote ∷ x)
   -- a text has an escape without meaning
-  bad_escape : {depth quote : ℕ} {x rest : Text} → is_quote quote ≡ true → Enclosed quote x → HasBadEscape x → IsBroken k n depth (BadEscape n) (quote ∷ (x ++ (quote ∷ rest)))
+  bad_escape : {depth quote : ℕ} {x : Text} (rest : Text) → is_quote quote ≡ true → Enclosed quote x → HasBadEscape x → IsBroken k n depth (BadEscape n) (quote ∷ (x ++ (quote ∷ rest)))
   -- a number is above the greatest
   too_large : {depth m : ℕ} {s x : Text} → Numeral s m x → max_number < m → IsBroken k n depth (NumberTooLarge n) (s ++ x)
   -- a character that begins no token, and not the closer, and is no whitespace

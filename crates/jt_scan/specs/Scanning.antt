@@ -124,34 +124,39 @@ enclosed_at quote false (c ∷ cs) = if c == quote then Some ([], cs) else longe
 
 -- ---- a tag's inside
 
+abbrev pub signed : ℕ → Option (Sign × Text) → Outcome Token
+signed line None = Err (BadCharacter line)
+signed line (Some p) = Ok (sign p.0, p.1)
+
+abbrev pub numbered : ℕ → ℕ × Text → Outcome Token
+numbered line p = if nat_lt max_number p.0 then Err (NumberTooLarge line) else Ok (number p.0, p.1)
+
+abbrev pub meant : ℕ → Text × Text → Outcome Token
+meant line p = if (pieces 0 p.0).1 then Ok (text (unescaped p.0), p.1) else Err (BadEscape line)
+
+abbrev pub quoted : ℕ → Option (Text × Text) → Outcome Token
+quoted line None = Err (UnclosedText line)
+quoted line (Some p) = meant line p
+
+-- the token in front, where no whitespace and no closer is
+unfoldable pub token_at : ℕ → Text → Outcome Token
+token_at line [] = Err (UnclosedTag line)
+token_at line (c ∷ cs) =
+    if starts_name c then (let p = run cs in Ok (name (c ∷ p.0), p.1))
+    else if is_digit 10 c then numbered line (number_at c cs)
+    else if is_quote c then quoted line (enclosed_at c false cs)
+    else signed line (sign_at (c ∷ cs))
+
 -- what stands in front in a tag, where no whitespace does
 pub data Front : Type 0 where
   -- the closer
   closing : Front
   spells : Token → Front
 
-abbrev pub signed : ℕ → Option (Sign × Text) → Outcome Front
-signed line None = Err (BadCharacter line)
-signed line (Some p) = Ok (spells (sign p.0), p.1)
-
-abbrev pub numbered : ℕ → ℕ × Text → Outcome Front
-numbered line p = if nat_lt max_number p.0 then Err (NumberTooLarge line) else Ok (spells (number p.0), p.1)
-
-abbrev pub meant : ℕ → Text × Text → Outcome Front
-meant line p = if (pieces 0 p.0).1 then Ok (spells (text (unescaped p.0)), p.1) else Err (BadEscape line)
-
-abbrev pub quoted : ℕ → Option (Text × Text) → Outcome Front
-quoted line None = Err (UnclosedText line)
-quoted line (Some p) = meant line p
-
 unfoldable pub front_at : Kind → ℕ → ℕ → Text → Outcome Front
-front_at k line depth [] = Err (UnclosedTag line)
-front_at k line depth (c ∷ cs) =
-    if closes k depth (c ∷ cs) then Ok (closing, drop 1 cs)
-    else if starts_name c then (let p = run cs in Ok (spells (name (c ∷ p.0)), p.1))
-    else if is_digit 10 c then numbered line (number_at c cs)
-    else if is_quote c then quoted line (enclosed_at c false cs)
-    else signed line (sign_at (c ∷ cs))
+front_at k line depth x =
+    if closes k depth x then Ok (closing, drop 2 x)
+    else (token_at line x >>= λ t rest. Ok (spells t, rest))
 
 abbrev pub with_token : Token → Outcome (List Token) → Outcome (List Token)
 with_token t o = o >>= λ ts rest. Ok (t ∷ ts, rest)

@@ -28,6 +28,8 @@ fn one_sign(c: char) -> Option<Sign>
         ')' => Some(Sign::RightParen),
         '[' => Some(Sign::LeftBracket),
         ']' => Some(Sign::RightBracket),
+        '{' => Some(Sign::LeftBrace),
+        '}' => Some(Sign::RightBrace),
         _ => None,
     }
 }
