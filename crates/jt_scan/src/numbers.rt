@@ -92,7 +92,7 @@ fn base_of(letter: char) -> u32
 fn named_base(text: &str) -> Option<(u32, &str)>
     ensures { MatchOption result (literal.names_base (chars text.now) ≡ false)
         (λ p. (literal.names_base (chars text.now) ≡ true)
-            × (spec.based_at (chars text.now) ≡ spec.digits_at p.0 0 (chars p.1.now))) }
+        × (spec.based_at (chars text.now) ≡ spec.digits_at p.0 0 (chars p.1.now))) }
 {
     let (letter, more) = first(text)?;
     let base = base_of(letter);

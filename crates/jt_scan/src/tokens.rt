@@ -38,7 +38,7 @@ fn closer(kind: Kind) -> char
 fn behind_closer(text: &str, kind: Kind, depth: usize) -> Option<&str>
     ensures { MatchOption result (cut.closes kind depth (chars text.now) ≡ false)
         (λ rest. (cut.closes kind depth (chars text.now) ≡ true)
-            × (chars text.now ≡ cut.closer kind ∷ 125 ∷ chars rest.now)) }
+        × (chars text.now ≡ cut.closer kind ∷ 125 ∷ chars rest.now)) }
 {
     if depth == 0 {
         behind_pair(text, closer(kind), '}')
@@ -64,7 +64,7 @@ fn number_token(c: char, more: &str, line: u32) -> Result<(Token<'_>, &str), Sca
 fn text_token(quote: char, more: &str, line: u32) -> Result<(Token<'_>, &str), ScanError>
     ensures { MatchResult result
         (λ p. spec.quoted line (spec.enclosed_at quote false (chars more.now))
-            ≡ Ok (token_view p.0, chars p.1.now))
+        ≡ Ok (token_view p.0, chars p.1.now))
         (λ e. spec.IsGiven e (spec.quoted line (spec.enclosed_at quote false (chars more.now)))) }
 {
     let Some((raw, rest)) = split_quoted(more, quote) else {
