@@ -2,8 +2,7 @@
 use Rattle.std.proofs.Common.{◌≡◌, ℕ, ◌+◌, ◌*◌, ◌-◌, ◌<◌, ◌≤◌, ◌==◌, ◌&&◌, ◌||◌, nat_lt, nat_le, Bool, true, false, cond, [], ◌∷◌, ◌++◌, length, refl, sym, ap, subst, ◌∙◌, arith, length-append, Option, Some, None}
 use Rattle.std.proofs.lemmas.Bool.Decides.{nat_tests}
 use Rattle.jt_scan.specs.Literals.{Text, digit_value, is_digit, digit_first, Digits, no_digit, digit, spaced, goes_on, base_of, names_base, Numeral, decimal, zeros, based}
-use Rattle.jt_scan.specs.Scanning.{digits_at, plain_digit, next_digit, based_at, number_at}
-use Rattle.jt_scan.proofs.Steps.{by_test, both}
+use Rattle.jt_scan.specs.Scanning.{digits_at, next_digit, based_at, number_at}
 
 -- ---- digits
 

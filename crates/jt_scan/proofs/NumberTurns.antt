@@ -1,8 +1,8 @@
 -- One turn of the loop over a number's digits.
-use Rattle.std.proofs.Common.{◌≡◌, ℕ, ◌+◌, ◌*◌, ◌-◌, ◌^◌, ◌<◌, ◌≤◌, ◌==◌, min, nat_lt, Bool, true, false, [], ◌∷◌, ◌++◌, length, refl, sym, ap, subst, ◌∙◌, arith, inl, inr, Option, Some, None}
+use Rattle.std.proofs.Common.{◌≡◌, ℕ, ◌+◌, ◌*◌, ◌-◌, ◌^◌, ◌<◌, ◌≤◌, ◌==◌, min, true, false, [], ◌∷◌, length, refl, sym, ap, subst, ◌∙◌, arith, inl, inr, Some, None}
 use Rattle.std.proofs.lemmas.Bool.{cases_lt}
 use Rattle.std.proofs.Math.Nat.{le-mul_of_pos_right}
-use Rattle.jt_scan.specs.Literals.{Text, digit_value, is_digit, goes_on, base_of, names_base}
+use Rattle.jt_scan.specs.Literals.{Text, digit_value, goes_on, base_of, names_base}
 use Rattle.jt_scan.specs.Scanning.{digits_at, next_digit, based_at, number_at}
 use Rattle.jt_scan.proofs.NumberLaws.{no_further, further, goes_on_none, goes_on_some}
 

@@ -1,4 +1,4 @@
-use Rattle.std.proofs.Common.{◌≡◌, ◌+◌, ◌≤◌, ◌∷◌, [], length, map, ap, ◌∙◌, rules, arith, vec_len}
+use Rattle.std.proofs.Common.{◌+◌, ◌∷◌, [], length, map, ap, ◌∙◌, rules, arith, vec_len}
 use Rattle.std.proofs.lemmas.List.{map-append}
 use Rattle.std.specs.Str.{chars}
 use Rattle.jt_scan.specs.Scanning.{inside, IsGiven}
