@@ -1,5 +1,5 @@
 -- What a tree's tokens spell is read, or too deep.
-use Rattle.std.proofs.Common.{◌≡◌, ℕ, zero, suc, ◌+◌, ◌<◌, ◌≤◌, max, Bool, true, false, List, [], ◌∷◌, ◌++◌, length, drop, codes, encode_utf8_all, bytes_eq, refl, sym, ap, subst, ◌∙◌, append_assoc, arith, Option, Some, None, Result, Ok, Err, length-append}
+use Rattle.std.proofs.Common.{◌≡◌, ℕ, zero, suc, ◌+◌, ◌<◌, ◌≤◌, max, if◌then◌else◌, Bool, true, false, List, [], ◌∷◌, ◌++◌, length, drop, codes, encode_utf8_all, bytes_eq, refl, sym, ap, subst, ◌∙◌, append_assoc, arith, Option, Some, None, Result, Ok, Err, length-append}
 use Rattle.jt_scan.specs.declared.segment.Sign.{Sign}
 use Rattle.jt_scan.specs.declared.segment.Sign.TheVariants as s
 use Rattle.jt_scan.specs.Cut as cut
@@ -185,10 +185,10 @@ goes_stops (called d g) rest h = tt
 
 -- ---- levels
 
-abbrev parts_levels : Parts → ℕ
+abbrev pub parts_levels : Parts → ℕ
 parts_levels p = max (exprs_levels p.0) (pairs_levels p.1)
 
-put_levels : (k : Option Text) (t : Expr) (p : Parts) → parts_levels (put k t p) ≡ max (levels t) (parts_levels p)
+pub put_levels : (k : Option Text) (t : Expr) (p : Parts) → parts_levels (put k t p) ≡ max (levels t) (parts_levels p)
 put_levels None t p = omega arith
 put_levels (Some k) t p = omega arith
 
@@ -479,14 +479,14 @@ called_on a t p x y d g le n (suc turns) rest la lt st =
 
 -- ---- what stands in brackets
 
+unnamed : {A : Type 0} (a : A) (c d : Bool) → d ≡ false → (if c then None else (if d then Some a else None)) ≡ None
+unnamed a true d h = refl
+unnamed a false d h = rw h
+
 no_keyword : (x rest : Tokens) → begins_operand x ≡ true → sees s.Assign (drop 1 (x ++ rest)) ≡ false → keyword (x ++ rest) ≡ None
 unfolding keyword
 no_keyword [] rest b h = cc
-no_keyword (cut.name n ∷ x) rest b h = unnamed (is_reserved n) (sees s.Assign (x ++ rest)) h
-  where
-    unnamed : {A : Type 0} {a : A} (c d : Bool) → d ≡ false → (if c then None else (if d then Some a else None)) ≡ None
-    unnamed true d h = refl
-    unnamed false d h = rw h
+no_keyword (cut.name n ∷ x) rest b h = unnamed (encode_utf8_all n, drop 1 (x ++ rest)) (is_reserved n) (sees s.Assign (x ++ rest)) h
 no_keyword (cut.number m ∷ x) rest b h = refl
 no_keyword (cut.text v ∷ x) rest b h = refl
 no_keyword (cut.sign k ∷ x) rest b h = refl
@@ -506,10 +506,13 @@ named_key items n ts e h = cc
 named_key entries n ts e h = cc
 
 -- a part's expression, with its key
-keyed : (k : Option Text) (t : Expr) (x : Tokens) → At whole t x → (n : ℕ) (rest : Tokens) → Stops whole rest → (read n whole (x ++ rest) >>= λ t v. Ok ((k, t), v)) ≡ cap (levels t) n (k, t) rest
+abbrev pub with_key : Option Text → Expr → Reader (Option Text × Expr)
+with_key k t v = Ok ((k, t), v)
+
+keyed : (k : Option Text) (t : Expr) (x : Tokens) → At whole t x → (n : ℕ) (rest : Tokens) → Stops whole rest → (read n whole (x ++ rest) >>= with_key k) ≡ cap (levels t) n (k, t) rest
 keyed k t x d n rest st =
-    ap (λ o. o >>= λ t v. Ok ((k, t), v)) (inside whole t x d n rest st)
-    ∙ bound (levels t) n (levels t) n t (k, t) rest rest (λ t v. Ok ((k, t), v)) (λ le. sym (cap_within (levels t) n (k, t) rest le)) (λ gt. gt)
+    ap (λ o. o >>= with_key k) (inside whole t x d n rest st)
+    ∙ bound (levels t) n (levels t) n t (k, t) rest rest (with_key k) (λ le. sym (cap_within (levels t) n (k, t) rest le)) (λ gt. gt)
 
 without_key_at : (w : Row) (t : Expr) (x : Tokens) → takes_plain w ≡ true → begins_operand x ≡ true → sees s.Assign (drop 1 x) ≡ false → At whole t x → PartAt w None t x
 unfolding r.part
@@ -813,14 +816,14 @@ mutual
   test_arguments_at (bare {t} {x} b d) = bare_at t x b (spells_at d)
 
   row_at : {w : Row} {p : Parts} {x : Tokens} → Holds w p x → RowAt w p x
-  row_at (closed {w}) = closed_at w
-  row_at (last {w} {k} {t} {x} d) = last_at w k t x (part_open d) (part_at d)
-  row_at (more {w} {k} {t} {p} {x} {y} d g) = more_at w k t p x y (part_open d) (part_at d) (row_at g)
+  row_at (closed {r = w}) = closed_at w
+  row_at (last {r = w} {k} {t} {x} d) = last_at w k t x (part_open d) (part_at d)
+  row_at (more {r = w} {k} {t} {p} {x} {y} d g) = more_at w k t p x y (part_open d) (part_at d) (row_at g)
 
   part_at : {w : Row} {k : Option Text} {t : Expr} {x : Tokens} → IsPart w k t x → PartAt w k t x
-  part_at (without_key {w} {t} {x} e d) = without_key_at w t x e (begins d) (second d) (spells_at d)
+  part_at (without_key {r = w} {t} {x} e d) = without_key_at w t x e (begins d) (second d) (spells_at d)
   part_at (an_entry {v} {t} {x} d) = an_entry_at v t x (spells_at d)
-  part_at (by_name {w} {n} {t} {x} e h d) = by_name_at w n t x e h (spells_at d)
+  part_at (by_name {r = w} {n} {t} {x} e h d) = by_name_at w n t x e h (spells_at d)
 
 -- what the tokens spell is read where its levels are allowed, and else refused as too deep
 pub spelled_is_read : {k : Level} {t : Expr} {x : Tokens} → Spells k t x → (n : ℕ) (rest : Tokens) → Stops k rest → read n k (x ++ rest) ≡ cap (levels t) n t rest
