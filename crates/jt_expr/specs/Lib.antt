@@ -1,3 +1,9 @@
 pub mod Trees
 pub mod Grammar
 pub mod Reading
+pub mod Words
+pub mod View
+pub mod Cursor
+pub mod Elements
+pub mod Collecting
+pub mod Gives

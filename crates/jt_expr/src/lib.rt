@@ -1,6 +1,12 @@
 //! Expressions of templates: trees, and the tokens that spell them.
 #![tactic(auto)]
 
+mod cursor;
+mod error;
+mod part;
+mod rows;
 mod tree;
+mod words;
 
+pub use error::ExprError;
 pub use tree::{BinaryOperator, Expr, Literal, UnaryOperator};
