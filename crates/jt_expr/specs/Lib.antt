@@ -7,3 +7,5 @@ pub mod Cursor
 pub mod Elements
 pub mod Collecting
 pub mod Gives
+pub mod Sizes
+pub mod Named
