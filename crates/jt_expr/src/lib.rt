@@ -3,10 +3,13 @@
 
 mod cursor;
 mod error;
+mod tag;
+mod grammar;
 mod part;
 mod rows;
 mod tree;
 mod words;
 
 pub use error::ExprError;
+pub use tag::expression;
 pub use tree::{BinaryOperator, Expr, Literal, UnaryOperator};
