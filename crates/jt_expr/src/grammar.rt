@@ -96,13 +96,25 @@ impl<F: Fn(Global, &mut Cursor<'_>, usize, Form) -> Result<Part, ExprError>> Gra
             return Err(ExprError::TooDeep);
         }
         Ok(Part {
-            expr: tree::make_filter(self.alloc, value.expr, name, arguments.items, arguments.pairs)?,
+            expr: tree::make_filter(
+                self.alloc,
+                value.expr,
+                name,
+                arguments.items,
+                arguments.pairs,
+            )?,
             height: inside + 1,
         })
     }
 
     /// `a is t(..)`, or with true `a is not t(..)`
-    fn test(&self, value: Part, negated: bool, name: &str, arguments: Parts) -> Result<Part, ExprError>
+    fn test(
+        &self,
+        value: Part,
+        negated: bool,
+        name: &str,
+        arguments: Parts,
+    ) -> Result<Part, ExprError>
         requires { Nests self.now.below (F.pre self.now.inner) (F.post self.now.inner) }
         ensures { Fits (suc self.now.below) (trees.test (expr_view value.expr) negated (encode_utf8_all (chars name.now)) (exprs_view arguments.items.items) (pairs_view arguments.pairs.items)) result }
     {
@@ -111,7 +123,14 @@ impl<F: Fn(Global, &mut Cursor<'_>, usize, Form) -> Result<Part, ExprError>> Gra
             return Err(ExprError::TooDeep);
         }
         Ok(Part {
-            expr: tree::make_test(self.alloc, value.expr, negated, name, arguments.items, arguments.pairs)?,
+            expr: tree::make_test(
+                self.alloc,
+                value.expr,
+                negated,
+                name,
+                arguments.items,
+                arguments.pairs,
+            )?,
             height: inside + 1,
         })
     }
@@ -354,7 +373,12 @@ impl<F: Fn(Global, &mut Cursor<'_>, usize, Form) -> Result<Part, ExprError>> Gra
     }
 
     /// An operator in front of a form one level deeper.
-    fn prefixed(&self, cursor: &mut Cursor<'_>, op: UnaryOperator, form: Form) -> Result<Part, ExprError>
+    fn prefixed(
+        &self,
+        cursor: &mut Cursor<'_>,
+        op: UnaryOperator,
+        form: Form,
+    ) -> Result<Part, ExprError>
         requires { Nests self.now.below (F.pre self.now.inner) (F.post self.now.inner) }
         ensures { Gives (elements.under op (spec.read self.now.below (level_of_form form) (ahead cursor.old))) result (ahead cursor.new) }
     {
@@ -664,7 +688,12 @@ impl<F: Fn(Global, &mut Cursor<'_>, usize, Form) -> Result<Part, ExprError>> Gra
 
     /// What stands behind the condition of an inline if.
     #[tactic(auto, unfolding(crate::specs::Reading::else_part))]
-    fn else_part(&self, cursor: &mut Cursor<'_>, value: Part, condition: Part) -> Result<Part, ExprError>
+    fn else_part(
+        &self,
+        cursor: &mut Cursor<'_>,
+        value: Part,
+        condition: Part,
+    ) -> Result<Part, ExprError>
         requires { Nests self.now.below (F.pre self.now.inner) (F.post self.now.inner) }
         ensures { Gives (spec.else_part (spec.read self.now.below) (suc self.now.below) (expr_view value.expr) (expr_view condition.expr) (ahead cursor.old)) result (ahead cursor.new) }
     {

@@ -3,10 +3,10 @@
 
 mod cursor;
 mod error;
-mod tag;
 mod grammar;
 mod part;
 mod rows;
+mod tag;
 mod tree;
 mod words;
 
