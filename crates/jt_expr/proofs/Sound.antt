@@ -221,7 +221,7 @@ item_plain (without_key h d) e = refl
 item_plain (an_entry d) e = absurd (cc)
 item_plain (by_name {r = w} h g d) e = let q : takes_names items ≡ true = subst (λ z. takes_names z ≡ true) e h in absurd (cc)
 
-items_plain : {w : Row} {p : Parts} {x : Tokens} → Holds w p x → w ≡ items → p.1 ≡ no_pairs
+pub items_plain : {w : Row} {p : Parts} {x : Tokens} → Holds w p x → w ≡ items → p.1 ≡ no_pairs
 items_plain closed e = refl
 items_plain (last {r = w} {k} {t} {x} d) e = subst (λ j. (put j t no_parts).1 ≡ no_pairs) (sym (item_plain d e)) refl
 items_plain (more {r = w} {k} {t} {p} {x} {y} d g) e =
@@ -233,7 +233,7 @@ entry_keyed (without_key {r = w} h d) e = let q : takes_plain entries ≡ true =
 entry_keyed (an_entry {v} d) e = (encode_utf8_all v, refl)
 entry_keyed (by_name {r = w} {n} h g d) e = (encode_utf8_all n, refl)
 
-entries_keyed : {w : Row} {p : Parts} {x : Tokens} → Holds w p x → w ≡ entries → p.0 ≡ no_exprs
+pub entries_keyed : {w : Row} {p : Parts} {x : Tokens} → Holds w p x → w ≡ entries → p.0 ≡ no_exprs
 entries_keyed closed e = refl
 entries_keyed (last {r = w} {k} {t} {x} d) e = let j = entry_keyed d e in subst (λ i. (put i t no_parts).0 ≡ no_exprs) (sym j.1) refl
 entries_keyed (more {r = w} {k} {t} {p} {x} {y} d g) e =

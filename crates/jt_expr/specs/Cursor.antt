@@ -2,7 +2,7 @@
 use Rattle.std.specs.Prelude.{◌≡◌, ℕ, List, [], ◌∷◌, map, encode_utf8_all, Option, Some, None, Result, Ok, Err}
 use Rattle.std.specs.Str.{chars}
 use denote.Ref.{Bor}
-use Rattle.jt_scan.specs.Cut as cut
+use Rattle.jt_scan.specs.Literals.{unescaped}
 use Rattle.jt_scan.specs.declared.segment.Token.{Token}
 use Rattle.jt_scan.specs.View.{token_view}
 use Rattle.jt_expr.specs.declared.tree.BinaryOperator.{BinaryOperator}
@@ -34,7 +34,7 @@ TakesName found ts (Some s) new = found ≡ Some (encode_utf8_all (chars s.now),
 -- a text, as it stands between its quotes, is taken with the sign behind it, or nothing is
 abbrev pub TakesText : Option (Text × Tokens) → Tokens → Option (Bor (List ℕ)) → Tokens → Type 0
 TakesText found ts None new = (found ≡ None) × (new ≡ ts)
-TakesText found ts (Some s) new = found ≡ Some (encode_utf8_all (cut.unescaped (chars s.now)), new)
+TakesText found ts (Some s) new = found ≡ Some (encode_utf8_all (unescaped (chars s.now)), new)
 
 -- a refusal is the reader's, or want of memory
 abbrev pub Refuses : {A : Type 0} → Outcome A → ExprError → Type 0

@@ -6,7 +6,7 @@ use Rattle.jt_expr.proofs.Collected.{row_starts, row_closed, row_last, row_next,
 use Rattle.jt_expr.proofs.grammar.Grammar.row.Goals as goal
 
 pub loop-turn-init : goal.loop-turn-init
-loop-turn-init g c = let n = c.args.self.now.below in row_starts (read n) (suc n) _ _ _ _ _ c.left-turn-end.ensures c.new.ensures
+loop-turn-init g c = let n = c.args.self.now.below in row_starts (read n) (suc n) _ _ _ _ _ c.left-turn-end.ensures c.new-found.ensures
 
 pub returns-in_err-element : goal.returns-in_err-element
 returns-in_err-element g c =
@@ -22,12 +22,12 @@ returns-in-Closed g c =
 pub returns-in-Last : goal.returns-in-Last
 returns-in-Last g c =
     let n = c.args.self.now.below in
-    row_last (read n) (suc n) _ _ _ _ _ _ c.loop-turn.invariant c.loop-turn-test.true _ _ (rw c.in-Last.is at c.in_ok-element.ensures) _ c.in_ok-push.ensures
+    row_last (read n) (suc n) _ _ _ _ _ _ c.loop-turn.invariant c.loop-turn-test.true _ _ (rw c.in-Last.is at c.in_ok-element.ensures) _ c.in_ok-push-in-Last.ensures
 
 pub loop-turn-preserved : goal.loop-turn-preserved
 loop-turn-preserved g c =
     let n = c.args.self.now.below in
-    row_next (read n) (suc n) _ _ _ _ _ _ c.loop-turn.invariant c.loop-turn-test.true _ _ (rw c.in-Further.is at c.in_ok-element.ensures) _ c.in_ok-push-2.ensures _ c.behind_key.ensures
+    row_next (read n) (suc n) _ _ _ _ _ _ c.loop-turn.invariant c.loop-turn-test.true _ _ (rw c.in-Further.is at c.in_ok-element.ensures) _ c.in_ok-push-in-Further.ensures _ c.behind_key-row.ensures
 
 pub returns : goal.returns
 returns g c =
