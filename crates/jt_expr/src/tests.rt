@@ -18,69 +18,53 @@ fn tell_literal(alloc: Global, told: &mut String, literal: &Literal) -> Result<(
     }
 }
 
-/// A tree: behind a space each, names and constants as they are written, and each other form in
+/// What begins a tree: of a name or a constant all of it.
+fn tell_head(alloc: Global, told: &mut String, expr: &Expr) -> Result<(), AllocError> {
+    match expr {
+        Expr::Constant(literal) => tell_literal(alloc, told, literal),
+        Expr::Name(name) => told.push_str(name.as_str()),
+        Expr::Group(_) => told.push_str("(group"),
+        Expr::List(_) => told.push_str("(list"),
+        Expr::Map(_) => told.push_str("(map"),
+        Expr::Attribute(_, name) => told.push_str(format!(in alloc; "(.{name}")?.as_str()),
+        Expr::Item(_, _) => told.push_str("(item"),
+        Expr::Call(_, _, _) => told.push_str("(call"),
+        Expr::Filter(_, name, _, _) => told.push_str(format!(in alloc; "(|{name}")?.as_str()),
+        Expr::Test(_, true, name, _, _) => {
+            told.push_str(format!(in alloc; "(is not {name}")?.as_str())
+        }
+        Expr::Test(_, false, name, _, _) => told.push_str(format!(in alloc;
+            "(is {name}"
+        )?.as_str()),
+        Expr::Unary(op, _) => told.push_str(format!(in alloc; "({op:?}")?.as_str()),
+        Expr::Binary(op, _, _) => told.push_str(format!(in alloc; "({op:?}")?.as_str()),
+        Expr::When(_, _) | Expr::Choice(_, _, _) => told.push_str("(if"),
+    }
+}
+
+/// A tree behind a space: names and constants as they are written, and each other form in
 /// parentheses, with its name before what it holds.
 #[cycle(tell)]
 fn tell(alloc: Global, told: &mut String, expr: &Expr) -> Result<(), AllocError> {
     told.push_str(" ")?;
+    tell_head(alloc, told, expr)?;
     match expr {
-        Expr::Constant(literal) => return tell_literal(alloc, told, literal),
-        Expr::Name(name) => return told.push_str(name.as_str()),
-        Expr::Group(a) => {
-            told.push_str("(group")?;
-            tell(alloc, told, a)?;
-        }
-        Expr::List(items) => {
-            told.push_str("(list")?;
-            tell_all(alloc, told, items)?;
-        }
-        Expr::Map(pairs) => {
-            told.push_str("(map")?;
-            tell_pairs(alloc, told, pairs)?;
-        }
-        Expr::Attribute(a, name) => {
-            told.push_str(format!(in alloc; "(.{name}")?.as_str())?;
-            tell(alloc, told, a)?;
-        }
-        Expr::Item(a, b) => {
-            told.push_str("(item")?;
+        Expr::Constant(_) | Expr::Name(_) => return Ok(()),
+        Expr::Group(a) | Expr::Attribute(a, _) | Expr::Unary(_, a) => tell(alloc, told, a)?,
+        Expr::List(items) => tell_all(alloc, told, items)?,
+        Expr::Map(pairs) => tell_pairs(alloc, told, pairs)?,
+        Expr::Item(a, b) | Expr::Binary(_, a, b) | Expr::When(a, b) => {
             tell(alloc, told, a)?;
             tell(alloc, told, b)?;
         }
-        Expr::Call(a, items, pairs) => {
-            told.push_str("(call")?;
+        Expr::Call(a, items, pairs)
+        | Expr::Filter(a, _, items, pairs)
+        | Expr::Test(a, _, _, items, pairs) => {
             tell(alloc, told, a)?;
             tell_all(alloc, told, items)?;
             tell_pairs(alloc, told, pairs)?;
-        }
-        Expr::Filter(a, name, items, pairs) => {
-            told.push_str(format!(in alloc; "(|{name}")?.as_str())?;
-            tell(alloc, told, a)?;
-            tell_all(alloc, told, items)?;
-            tell_pairs(alloc, told, pairs)?;
-        }
-        Expr::Test(a, negated, name, items, pairs) => {
-            told.push_str(format!(in alloc; "(is {negated} {name}")?.as_str())?;
-            tell(alloc, told, a)?;
-            tell_all(alloc, told, items)?;
-            tell_pairs(alloc, told, pairs)?;
-        }
-        Expr::Unary(op, a) => {
-            told.push_str(format!(in alloc; "({op:?}")?.as_str())?;
-            tell(alloc, told, a)?;
-        }
-        Expr::Binary(op, a, b) => {
-            told.push_str(format!(in alloc; "({op:?}")?.as_str())?;
-            tell(alloc, told, a)?;
-            tell(alloc, told, b)?;
-        }
-        Expr::When(c, a) => {
-            told.push_str("(if")?;
-            tell(alloc, told, c)?;
-            tell(alloc, told, a)?;
         }
         Expr::Choice(c, a, b) => {
-            told.push_str("(if")?;
             tell(alloc, told, c)?;
             tell(alloc, told, a)?;
             tell(alloc, told, b)?;
@@ -143,16 +127,25 @@ fn told(alloc: Global, text: &str) -> Result<String, AllocError> {
 #[test]
 fn expressions_are_read(rt: HostRuntime) -> Result<(), Fail> {
     let rows = [
-        ("{{ 1 + 2 * 3 - a }}", " (Subtract (Add 1 (Multiply 2 3)) a)"),
+        (
+            "{{ 1 + 2 * 3 - a }}",
+            " (Subtract (Add 1 (Multiply 2 3)) a)",
+        ),
         ("{{ 2 ** 3 ** 2 }}", " (Power (Power 2 3) 2)"),
-        ("{{ a ~ 'b' ~ \"c\" }}", " (Concatenate (Concatenate a 'b') 'c')"),
+        (
+            "{{ a ~ 'b' ~ \"c\" }}",
+            " (Concatenate (Concatenate a 'b') 'c')",
+        ),
         ("{{ 7 // 2 % 2 }}", " (Remainder (FloorDivide 7 2) 2)"),
         ("{{ not a in b }}", " (Not (In a b))"),
         ("{{ a not in b }}", " (NotIn a b)"),
-        ("{{ a or b and not c == 1 }}", " (Or a (And b (Not (Equal c 1))))"),
+        (
+            "{{ a or b and not c == 1 }}",
+            " (Or a (And b (Not (Equal c 1))))",
+        ),
         ("{{ -a.b[0]|f }}", " P3 UnknownFilter"),
         ("{{ -a.b[0] }}", " (Negate (item (.b a) 0))"),
-        ("{{ -a is even }}", " (is false even (Negate a))"),
+        ("{{ -a is even }}", " (is even (Negate a))"),
         ("{{ +(1, ) }}", " P1 Syntax"),
         ("{{ (a) }}", " (group a)"),
         ("{{ [] }}{{ [1, [2], ] }}", " (list) (list 1 (list 2))"),
@@ -161,10 +154,13 @@ fn expressions_are_read(rt: HostRuntime) -> Result<(), Fail> {
         ("{{ f()(1, k=2) }}", " (call (call f) 1 k: 2)"),
         ("{{ a if b else c if d }}", " (if b a (if d c))"),
         ("{{ a if b or c }}", " (if (Or b c) a)"),
-        ("{{ a is eq b.c == true }}", " (Equal (is false eq a (.c b)) true)"),
-        ("{{ a is not in [1] }}", " (is true in a (list 1))"),
-        ("{{ a is defined and None }}", " (And (is false defined a) none)"),
-        ("{{ a is divisibleby(by=3) }}", " (is false divisibleby a by: 3)"),
+        (
+            "{{ a is eq b.c == true }}",
+            " (Equal (is eq a (.c b)) true)",
+        ),
+        ("{{ a is not in [1] }}", " (is not in a (list 1))"),
+        ("{{ a is defined and None }}", " (And (is defined a) none)"),
+        ("{{ a is divisibleby(by=3) }}", " (is divisibleby a by: 3)"),
     ];
     for (text, want) in rows {
         assert_eq!(rt; told(rt.alloc(), text)?.as_str(), want, "{text}");
@@ -202,6 +198,11 @@ fn levels(rt: HostRuntime) -> Result<(), Fail> {
     }
     tokens.push(Token::Name("true"))?;
     assert!(rt; expression(rt.alloc(), tokens.as_slice(), 99).is_ok());
-    assert!(rt; matches!(expression(rt.alloc(), tokens.as_slice(), 98), Err(ExprError::TooDeep)));
+    assert!(rt;
+        matches!(
+            expression(rt.alloc(), tokens.as_slice(), 98),
+            Err(ExprError::TooDeep)
+        )
+    );
     Ok(())
 }
