@@ -1,10 +1,10 @@
 -- Parts of a row that are collected from the front, and one turn of the loop over them.
-use Rattle.std.proofs.Common.{◌≡◌, ℕ, suc, ◌+◌, ◌-◌, ◌<◌, ◌≤◌, max, Bool, true, false, if◌then◌else◌, drop, sym, subst, Option, Some, None, Ok, Err, refl, ap, ◌∙◌, arith}
+use Rattle.std.proofs.Common.{◌≡◌, ℕ, suc, ◌+◌, ◌-◌, ◌<◌, ◌≤◌, max, Bool, true, false, if◌then◌else◌, drop, sym, Option, Some, None, Ok, Err, refl, ap, ◌∙◌, arith}
 use Rattle.jt_scan.specs.declared.segment.Sign.TheVariants as s
 use Rattle.jt_expr.specs.declared.error.ExprError.{ExprError}
 use Rattle.jt_expr.specs.Trees.{Text, Expr, levels, Exprs, no_exprs, expr, Pairs, no_pairs, pair, exprs_levels, pairs_levels}
 use Rattle.jt_expr.specs.Grammar.{Tokens, Level, Row, closer, behind_key, Parts, no_parts, put}
-use Rattle.jt_expr.specs.Reading.{Fault, syntax, Reader, Outcome, ◌>>=◌, sees, expect, part, row}
+use Rattle.jt_expr.specs.Reading.{syntax, Reader, Outcome, ◌>>=◌, sees, expect, part, row}
 use Rattle.jt_expr.specs.Elements.{Element, shut, last, further, element}
 use Rattle.jt_expr.specs.Collecting.{then_exprs, then_pairs, then_parts, then_part}
 use Rattle.jt_expr.specs.Cursor.{Refuses}

@@ -1,5 +1,5 @@
 -- What all the tokens spell, and what is answered.
-use Rattle.std.proofs.Common.{◌≡◌, ℕ, ◌<◌, ◌≤◌, List, [], ◌∷◌, ◌++◌, refl, sym, ap, subst, ◌∙◌, arith, append-nil, Result, Ok, Err, ⊎_elim, IfOk, MatchResult}
+use Rattle.std.proofs.Common.{◌≡◌, ℕ, ◌<◌, ◌≤◌, [], ◌∷◌, refl, sym, ap, subst, ◌∙◌, arith, append-nil, Result, Ok, Err, ⊎_elim, IfOk, MatchResult}
 use Rattle.std.specs.Prelude.{IsErrOf}
 use Rattle.std.proofs.lemmas.Bool.{cases_lt}
 use Rattle.jt_expr.specs.declared.error.ExprError.{ExprError}
@@ -8,7 +8,7 @@ use Rattle.jt_expr.specs.declared.tree.Expr.{Expr as Tree}
 use Rattle.jt_expr.specs.View.{expr_view}
 use Rattle.jt_expr.specs.Trees.{Expr, levels}
 use Rattle.jt_expr.specs.Grammar.{Tokens, Spells, whole}
-use Rattle.jt_expr.specs.Reading.{Fault, syntax, deep, Outcome, read, parsed, all_of, all_taken}
+use Rattle.jt_expr.specs.Reading.{syntax, deep, Outcome, read, parsed, all_of, all_taken}
 use Rattle.jt_expr.specs.Gives.{GivesWhole}
 use Rattle.jt_expr.proofs.Caps.{cap_within, cap_beyond}
 use Rattle.jt_expr.proofs.Complete.{spelled_is_read, nothing_stops}

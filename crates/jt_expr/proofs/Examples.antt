@@ -1,11 +1,11 @@
 -- What rows of tokens spell.
-use Rattle.std.proofs.Common.{◌≡◌, ℕ, Bool, true, false, List, [], ◌∷◌, codes, refl, Result, Ok, Err}
+use Rattle.std.proofs.Common.{◌≡◌, ℕ, true, false, [], ◌∷◌, codes, refl, Ok, Err}
 use Rattle.jt_scan.specs.declared.segment.Sign.TheVariants as s
 use Rattle.jt_scan.specs.Cut as cut
 use Rattle.jt_expr.specs.declared.tree.UnaryOperator.TheVariants as u
 use Rattle.jt_expr.specs.declared.tree.BinaryOperator.TheVariants as o
-use Rattle.jt_expr.specs.Trees.{Text, Expr, constant, number, text, truth, name, group, list_of, map_of, attribute, item, call, filter, test, unary, binary, when, choice, no_exprs, expr, no_pairs, pair, weight, levels}
-use Rattle.jt_expr.specs.Grammar.{Tokens, word}
+use Rattle.jt_expr.specs.Trees.{Expr, constant, number, truth, name, list_of, map_of, attribute, call, filter, test, unary, binary, when, choice, no_exprs, expr, no_pairs, pair}
+use Rattle.jt_expr.specs.Grammar.{word}
 use Rattle.jt_expr.specs.Reading.{syntax, deep, parsed, read, read_at, read_whole, read_disjunction, read_conjunction, read_inversion, read_comparison, read_sum, read_concatenation, read_product, read_power, read_postscript, read_signed, read_postfix, primary, loop, arguments_at, chain_step, else_part, if_part, entry_key, expect, filter_step, keyword, name_at, opened, operator, part, postfix_step, postscript_step, row, test_arguments, test_step, word_at}
 
 abbrev n : ℕ → Expr

@@ -1,5 +1,5 @@
 -- What is read deeper has no more levels than are allowed there.
-use Rattle.std.proofs.Common.{◌≡◌, ℕ, suc, ◌≤◌, max, length, Result, Ok, Err, IfOk, refl, ap, arith}
+use Rattle.std.proofs.Common.{◌≡◌, ℕ, suc, ◌≤◌, length, Result, Ok, Err, IfOk, refl, ap, arith}
 use Rattle.jt_expr.specs.declared.error.ExprError.{ExprError}
 use Rattle.jt_expr.specs.declared.part.Part.{Part}
 use Rattle.jt_expr.specs.declared.part.Parts.{Parts}

@@ -1,10 +1,10 @@
 -- One turn of a loop of the reader, beside a loop that counts its turns.
-use Rattle.std.proofs.Common.{◌≡◌, ℕ, suc, ◌+◌, ◌-◌, ◌<◌, ◌≤◌, Bool, true, false, sym, Option, Some, None, Ok, Err, refl, ap, ◌∙◌, arith}
+use Rattle.std.proofs.Common.{◌≡◌, ℕ, suc, ◌+◌, ◌-◌, ◌<◌, ◌≤◌, Option, Some, None, Ok, Err, ap, ◌∙◌, arith}
 use Rattle.jt_expr.specs.declared.error.ExprError.{ExprError}
 use Rattle.jt_expr.specs.declared.error.ExprError.TheVariants as e
 use Rattle.jt_expr.specs.Trees.{Expr}
 use Rattle.jt_expr.specs.Grammar.{Tokens}
-use Rattle.jt_expr.specs.Reading.{Fault, deep, Reader, Outcome, ◌>>=◌, again, loop}
+use Rattle.jt_expr.specs.Reading.{deep, Reader, Outcome, ◌>>=◌, again, loop}
 use Rattle.jt_expr.specs.Cursor.{Refuses}
 
 -- a refusal of a step is one of the whole

@@ -1,5 +1,5 @@
 -- What is read is spelled so, within the levels that are allowed.
-use Rattle.std.proofs.Common.{◌≡◌, ℕ, zero, suc, ◌+◌, ◌<◌, ◌≤◌, max, nat_le, Bool, true, false, cond, if◌then◌else◌, List, [], ◌∷◌, ◌++◌, length, drop, codes, encode_utf8_all, bytes_eq, refl, sym, ap, subst, ◌∙◌, append_assoc, arith, Option, Some, None, Result, Ok, Err}
+use Rattle.std.proofs.Common.{◌≡◌, ℕ, zero, suc, ◌≤◌, nat_le, Bool, true, false, if◌then◌else◌, [], ◌∷◌, ◌++◌, length, drop, codes, encode_utf8_all, bytes_eq, refl, sym, ap, subst, ◌∙◌, append_assoc, arith, Option, Some, None, Ok, Err}
 use Rattle.std.proofs.lemmas.Bool.Decides.{nat_tests}
 use Rattle.jt_scan.specs.declared.segment.Sign.{Sign}
 use Rattle.jt_scan.specs.declared.segment.Sign.TheVariants as s
@@ -8,7 +8,7 @@ use Rattle.jt_scan.specs.Cut.{Token}
 use Rattle.jt_expr.specs.declared.tree.UnaryOperator.TheVariants as u
 use Rattle.jt_expr.specs.declared.tree.BinaryOperator.{BinaryOperator}
 use Rattle.jt_expr.specs.declared.tree.BinaryOperator.TheVariants as o
-use Rattle.jt_expr.specs.Trees.{Text, Literal, number, text, Expr, constant, name, group, list_of, map_of, attribute, item, call, filter, test, unary, binary, when, choice, Exprs, no_exprs, expr, Pairs, no_pairs, pair, levels, exprs_levels, pairs_levels}
+use Rattle.jt_expr.specs.Trees.{Text, Literal, Expr, group, list_of, map_of, attribute, item, call, filter, test, unary, binary, when, choice, no_exprs, expr, no_pairs, levels}
 use Rattle.jt_expr.specs.Grammar.{Tokens, word, is_reserved, literal_of, names_test, Level, whole, disjunction, conjunction, inversion, comparison, sum, concatenation, product, power, postscript, signed, postfix, next, is_chain, level_of, operator_tokens, is_tokens, begins_argument, Row, items, entries, arguments, keywords, closer, takes_plain, takes_names, behind_key, Parts, no_parts, put, Spells, plain, an_if, an_if_else, chain, inverted, upright, compared, alone, postscripts, minus, plus, unsigned, postfixes, Goes, stay, operated, filtered, tested, attributed, indexed, called, Primary, a_number, a_text, a_constant, a_name, a_group, a_list, a_map, Arguments, without, within, TestArguments, as_filter, bare, Holds, closed, last, more, IsPart, without_key, an_entry, by_name}
 use Rattle.jt_expr.specs.Reading as r
 use Rattle.jt_expr.specs.Reading.{code, sees, says, past, cap, deep, syntax, Reader, Outcome, ◌>>=◌, operator, key_at, keyword, entry_key, read, read_at, again, loop, chain_step, chain_by, filter_step, test_step, postscript_step, postfix_step, read_whole, read_disjunction, read_conjunction, read_inversion, read_comparison, read_sum, read_concatenation, read_product, read_power, read_postscript, read_signed, read_postfix, expect, word_at, name_at, unreserved, if_part, else_part}

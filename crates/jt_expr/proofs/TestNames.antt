@@ -1,5 +1,5 @@
 -- The names of tests, and rows of which some parts are looked at.
-use Rattle.std.proofs.Common.{◌≡◌, ℕ, suc, ◌+◌, ◌<◌, Bool, true, false, not, ◌||◌, List, [], ◌∷◌, get_or, length, drop, map, refl, sym, ap, ◌∙◌, arith, Option, Some, None, is_some, IfSome, Contains, bytes_eq, String, Global, string_bytes, drop-cons}
+use Rattle.std.proofs.Common.{◌≡◌, ℕ, suc, ◌<◌, Bool, true, false, ◌||◌, List, [], ◌∷◌, get_or, length, drop, refl, sym, ap, ◌∙◌, arith, Option, Some, None, is_some, IfSome, Contains, bytes_eq, String, Global, drop-cons}
 use Rattle.std.specs.List.{list_any}
 use Rattle.std.proofs.lemmas.List.Folds.{list_any_at}
 use Rattle.std.proofs.lemmas.Map.Views.{Contains-from_any}
@@ -9,7 +9,7 @@ use Rattle.jt_ops.specs.declared.test_id.TestId.TheVariants as t
 use Rattle.jt_ops.specs.TestTable.{test_names}
 use Rattle.jt_expr.specs.declared.tree.Expr.{Expr}
 use Rattle.jt_expr.specs.declared.named.Named.{Named}
-use Rattle.jt_expr.specs.Trees.{Text, expr, pair}
+use Rattle.jt_expr.specs.Trees.{Text}
 use Rattle.jt_expr.specs.View.{expr_view, exprs_view, pairs_view}
 use Rattle.jt_expr.specs.Named.{all_tests, is_test, has_unknown, exprs_have_unknown, pairs_have_unknown}
 use Rattle.jt_expr.proofs.Tests.{false_unless}

@@ -1,5 +1,5 @@
 -- Tests of the tokens in front, and of words.
-use Rattle.std.proofs.Common.{◌≡◌, ℕ, ◌<◌, Bool, true, false, not, ◌||◌, cond, List, [], ◌∷◌, get_or, length, drop, codes, refl, sym, ap, subst, ◌∙◌, arith, ◌==◌, Option, Some, None, bytes_eq}
+use Rattle.std.proofs.Common.{◌≡◌, ℕ, ◌<◌, Bool, true, false, not, ◌||◌, cond, List, [], ◌∷◌, get_or, length, drop, codes, refl, sym, ap, subst, ◌∙◌, arith, ◌==◌, Some, None, bytes_eq}
 use Rattle.std.specs.List.{list_any}
 use Rattle.std.proofs.lemmas.Bool.Decides.{nat_tests}
 use Rattle.std.proofs.lemmas.List.Folds.{list_any_at}

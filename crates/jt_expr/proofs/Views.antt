@@ -1,13 +1,13 @@
 -- The trees of expressions, and rows with one part more.
-use Rattle.std.proofs.Common.{◌≡◌, ℕ, max, List, [], ◌∷◌, ◌++◌, map, refl, sym, ap, ◌∙◌, arith, rules, Bool, Vec, Box, String, Global, string_bytes}
+use Rattle.std.proofs.Common.{◌≡◌, List, [], ◌∷◌, ◌++◌, map, refl, sym, ap, ◌∙◌, Bool, Vec, Box, String, Global, string_bytes}
 use Rattle.jt_expr.specs.Trees as trees
 use Rattle.jt_expr.specs.Trees.{Exprs, no_exprs, expr, Pairs, no_pairs, pair, exprs_levels, pairs_levels, levels}
 use Rattle.jt_expr.specs.Collecting.{then_exprs, then_pairs}
-use Rattle.jt_expr.specs.View.{exprs_of, pairs_of, expr_step, expr_view, exprs_view, pairs_view, literal_view}
+use Rattle.jt_expr.specs.View.{pairs_of, expr_step, expr_view, exprs_view, pairs_view, literal_view}
 use Rattle.jt_expr.specs.declared.tree.Literal.{Literal}
 use Rattle.jt_expr.specs.declared.tree.UnaryOperator.{UnaryOperator}
 use Rattle.jt_expr.specs.declared.tree.BinaryOperator.{BinaryOperator}
-use Rattle.jt_expr.specs.declared.tree.Expr.{Expr, the_lemmas, fold-roll-Expr}
+use Rattle.jt_expr.specs.declared.tree.Expr.{Expr, fold-roll-Expr}
 use Rattle.jt_expr.specs.declared.tree.Expr.TheOpen.{Expr-F}
 use Rattle.jt_expr.specs.declared.tree.Expr.TheVariants as e
 use Rattle.jt_expr.specs.declared.tree.Expr.TheVariants.{rolls-Constant, rolls-Name, rolls-Group, rolls-List, rolls-Map, rolls-Attribute, rolls-Item, rolls-Call, rolls-Filter, rolls-Test, rolls-Unary, rolls-Binary, rolls-When, rolls-Choice}

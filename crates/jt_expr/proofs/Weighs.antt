@@ -1,12 +1,12 @@
 -- A tree is no heavier than the tokens that spell it.
-use Rattle.std.proofs.Common.{◌≡◌, ℕ, ◌+◌, ◌-◌, ◌≤◌, max, Bool, true, false, List, [], ◌∷◌, ◌++◌, codes, refl, subst, arith, Option, Some, None}
+use Rattle.std.proofs.Common.{◌≡◌, ℕ, ◌+◌, ◌-◌, ◌≤◌, max, Bool, true, false, [], ◌∷◌, ◌++◌, codes, refl, subst, arith, Option, Some, None}
 use Rattle.jt_scan.specs.declared.segment.Sign.TheVariants as s
 use Rattle.jt_scan.specs.Cut as cut
 use Rattle.jt_scan.specs.Cut.{tokens_weight}
 use Rattle.jt_expr.specs.declared.tree.BinaryOperator.{BinaryOperator}
 use Rattle.jt_expr.specs.declared.tree.BinaryOperator.TheVariants as o
-use Rattle.jt_expr.specs.Trees.{Text, Literal, number, text, truth, nothing, Expr, Exprs, Pairs, weight, exprs_weight, pairs_weight, perhaps_enclosed, literal_weight, is_weight, operator_weight}
-use Rattle.jt_expr.specs.Grammar.{Tokens, word, literal_of, Level, whole, postfix, operator_tokens, is_tokens, Row, items, entries, arguments, keywords, closer, takes_names, behind_key, Parts, no_parts, put, Spells, plain, an_if, an_if_else, chain, inverted, upright, compared, alone, postscripts, minus, plus, unsigned, postfixes, Goes, stay, operated, filtered, tested, attributed, indexed, called, Primary, a_number, a_text, a_constant, a_name, a_group, a_list, a_map, Arguments, without, within, TestArguments, as_filter, bare, Holds, closed, last, more, IsPart, without_key, an_entry, by_name}
+use Rattle.jt_expr.specs.Trees.{Text, Literal, Expr, weight, exprs_weight, pairs_weight, perhaps_enclosed, literal_weight, is_weight, operator_weight}
+use Rattle.jt_expr.specs.Grammar.{Tokens, word, literal_of, Level, operator_tokens, is_tokens, Row, items, entries, arguments, keywords, closer, takes_names, behind_key, Parts, no_parts, put, Spells, plain, an_if, an_if_else, chain, inverted, upright, compared, alone, postscripts, minus, plus, unsigned, postfixes, Goes, stay, operated, filtered, tested, attributed, indexed, called, Primary, a_number, a_text, a_constant, a_name, a_group, a_list, a_map, Arguments, without, within, TestArguments, as_filter, bare, Holds, closed, last, more, IsPart, without_key, an_entry, by_name}
 use Rattle.jt_expr.proofs.Constants.{each_constant}
 
 weight-append : (x y : Tokens) → tokens_weight (x ++ y) ≡ tokens_weight x + tokens_weight y

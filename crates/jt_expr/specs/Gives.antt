@@ -1,5 +1,5 @@
 -- What the functions of the grammar give.
-use Rattle.std.specs.Prelude.{◌≡◌, ℕ, suc, ◌+◌, ◌≤◌, ◌<◌, ◌^◌, max, List, Option, Some, None, option_map, Result, Ok, Err, String, string_bytes}
+use Rattle.std.specs.Prelude.{◌≡◌, ℕ, ◌≤◌, ◌<◌, ◌^◌, Option, Some, None, option_map, Result, Ok, Err, String, string_bytes}
 use Rattle.std.specs.declared.alloc.Global.{Global}
 use denote.Ref.{MutBor}
 use Rattle.jt_expr.specs.declared.cursor.Cursor.{Cursor}
@@ -17,7 +17,7 @@ use Rattle.jt_expr.specs.declared.rows.Element.TheVariants as l
 use Rattle.jt_expr.specs.declared.rows.Step.{Step}
 use Rattle.jt_expr.specs.declared.rows.Step.TheVariants.{Grown, Ended}
 use Rattle.jt_expr.specs.declared.tree.Expr.{Expr as Tree}
-use Rattle.jt_expr.specs.Trees.{Text, Expr, levels, exprs_levels, pairs_levels}
+use Rattle.jt_expr.specs.Trees.{Text, Expr, levels}
 use Rattle.jt_expr.specs.View.{expr_view, exprs_view, pairs_view}
 use Rattle.jt_expr.specs.Grammar as grammar
 use Rattle.jt_expr.specs.Grammar.{Tokens, Level, whole, inversion, signed, postfix}

@@ -1,5 +1,5 @@
 -- A reader of expressions from lists of tokens, which allows a number of levels.
-use Rattle.std.specs.Prelude.{◌≡◌, ℕ, zero, suc, Bool, true, false, ◌==◌, List, [], ◌∷◌, length, drop, codes, encode_utf8_all, bytes_eq, Option, Some, None, Result, Ok, Err, if◌then◌else◌, nat_le}
+use Rattle.std.specs.Prelude.{ℕ, zero, suc, Bool, false, ◌==◌, [], ◌∷◌, length, drop, codes, encode_utf8_all, bytes_eq, Option, Some, None, Result, Ok, Err, if◌then◌else◌, nat_le}
 use Rattle.jt_scan.specs.declared.segment.Sign.{Sign}
 use Rattle.jt_scan.specs.declared.segment.Sign.TheVariants as s
 use Rattle.jt_scan.specs.Cut as cut
@@ -7,7 +7,7 @@ use Rattle.jt_scan.specs.Cut.{Token}
 use Rattle.jt_expr.specs.declared.tree.UnaryOperator.TheVariants as u
 use Rattle.jt_expr.specs.declared.tree.BinaryOperator.{BinaryOperator}
 use Rattle.jt_expr.specs.declared.tree.BinaryOperator.TheVariants as o
-use Rattle.jt_expr.specs.Trees.{Text, Literal, number, text, Expr, constant, name, group, list_of, map_of, attribute, item, call, filter, test, unary, binary, when, choice, Exprs, no_exprs, expr, Pairs, no_pairs, pair, levels}
+use Rattle.jt_expr.specs.Trees.{Text, Literal, number, text, Expr, constant, name, group, list_of, map_of, attribute, item, call, filter, test, unary, binary, when, choice, no_exprs, expr, no_pairs, levels}
 use Rattle.jt_expr.specs.Grammar.{Tokens, is_reserved, literal_of, Level, whole, disjunction, conjunction, inversion, comparison, sum, concatenation, product, power, postscript, signed, postfix, begins_argument, Row, items, entries, arguments, keywords, closer, takes_plain, behind_key, Parts, no_parts, put}
 
 pub data Fault : Type 0 where

@@ -1,5 +1,5 @@
 -- What contracts see of an expression: its tree, and not where it lies in memory.
-use Rattle.std.specs.Prelude.{ℕ, List, [], ◌∷◌, map, string_bytes, String}
+use Rattle.std.specs.Prelude.{List, [], ◌∷◌, map, string_bytes, String}
 use Rattle.std.specs.declared.alloc.Global.{Global}
 use Rattle.jt_expr.specs.Trees as trees
 use Rattle.jt_expr.specs.Trees.{Exprs, no_exprs, expr, Pairs, no_pairs, pair}

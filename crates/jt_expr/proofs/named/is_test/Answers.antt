@@ -1,4 +1,4 @@
-use Rattle.std.proofs.Common.{◌≡◌, ◌∙◌}
+use Rattle.std.proofs.Common.{◌∙◌}
 use Rattle.jt_expr.proofs.TestNames.{test_found}
 use Rattle.jt_expr.proofs.named.is_test.Goals as goal
 

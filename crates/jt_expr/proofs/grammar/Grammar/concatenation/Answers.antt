@@ -1,6 +1,6 @@
-use Rattle.std.proofs.Common.{suc, rules, arith, ◌∙◌, sym, ap, Ok}
+use Rattle.std.proofs.Common.{suc, rules}
 use Rattle.jt_expr.specs.Cursor.{ahead, Refuses}
-use Rattle.jt_expr.specs.Grammar.{disjunction, conjunction, sum, concatenation, product, power}
+use Rattle.jt_expr.specs.Grammar.{concatenation}
 use Rattle.jt_expr.specs.Reading.{read, chain_step, read_concatenation, read_product}
 use Rattle.jt_expr.proofs.Loops.{loop_next, loop_ends, loop_refused, loop_too_deep}
 use Rattle.jt_expr.proofs.grammar.Grammar.concatenation.Goals as goal

@@ -1,7 +1,6 @@
 use Rattle.std.proofs.Common.{◌≡◌, ◌-◌, suc}
 use Rattle.jt_expr.specs.View.{expr_view}
 use Rattle.jt_expr.specs.Cursor.{ahead}
-use Rattle.jt_expr.specs.Grammar.{disjunction, conjunction, sum, concatenation, product, power}
 use Rattle.jt_expr.specs.Reading.{read, loop, postfix_step, read_postfix}
 use Rattle.jt_expr.proofs.grammar.Grammar.postfix.Given as goal
 

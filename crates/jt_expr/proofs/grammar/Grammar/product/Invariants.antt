@@ -1,7 +1,7 @@
 use Rattle.std.proofs.Common.{◌≡◌, ◌-◌, suc}
 use Rattle.jt_expr.specs.View.{expr_view}
 use Rattle.jt_expr.specs.Cursor.{ahead}
-use Rattle.jt_expr.specs.Grammar.{disjunction, conjunction, sum, concatenation, product, power}
+use Rattle.jt_expr.specs.Grammar.{product}
 use Rattle.jt_expr.specs.Reading.{read, loop, chain_step, read_product, read_power}
 use Rattle.jt_expr.proofs.grammar.Grammar.product.Given as goal
 

@@ -1,4 +1,4 @@
-use Rattle.std.proofs.Common.{◌≡◌, ◌∙◌, ap, arith, string_bytes}
+use Rattle.std.proofs.Common.{◌∙◌, ap, arith, string_bytes}
 use Rattle.jt_expr.specs.Trees.{Exprs, Pairs, pairs_levels}
 use Rattle.jt_expr.specs.View.{expr_view, exprs_view, pairs_view}
 use Rattle.jt_expr.proofs.Views.{pairs-push}
