@@ -12,7 +12,7 @@ use Rattle.jt_expr.specs.Grammar.{Tokens, word, is_reserved, literal_of, names_t
 use Rattle.jt_expr.specs.Reading as r
 use Rattle.jt_expr.specs.Reading.{code, sees, says, past, cap, deep, Reader, Outcome, ◌>>=◌, operator, key_at, keyword, entry_key, read, read_at, again, loop, chain_step, chain_by, filter_step, test_step, postscript_step, postfix_step, read_whole, read_disjunction, read_conjunction, read_inversion, read_comparison, read_sum, read_concatenation, read_product, read_power, read_postscript, read_signed, read_postfix, expect, word_at, name_at, if_part, else_part}
 use Rattle.jt_expr.proofs.Caps.{bound, cap_within, cap_beyond}
-use Rattle.jt_expr.proofs.Tests.{no_literal, not_false, sees_self}
+use Rattle.jt_expr.proofs.Branches.{no_literal, not_false, sees_self}
 use Rattle.jt_expr.proofs.Begins.{begins, begins_primary, begins_signed, begins_operand, primary-append, signed-append, argument-append, no_minus-primary, no_plus-primary, no_not-signed, part_open, second, second-append}
 
 -- ---- what stands behind a form

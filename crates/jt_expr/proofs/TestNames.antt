@@ -12,7 +12,7 @@ use Rattle.jt_expr.specs.declared.named.Named.{Named}
 use Rattle.jt_expr.specs.Trees.{Text}
 use Rattle.jt_expr.specs.View.{expr_view, exprs_view, pairs_view}
 use Rattle.jt_expr.specs.Named.{all_tests, is_test, has_unknown, exprs_have_unknown, pairs_have_unknown}
-use Rattle.jt_expr.proofs.Tests.{false_unless}
+use Rattle.jt_expr.proofs.Branches.{false_unless}
 
 contained : (x : Text) (ks : List Text) → Contains ks x → list_any (bytes_eq x) ks ≡ true
 contained x ks c = list_any_at (bytes_eq x) ks c.0 x c.1 ((bytes_eq-Decides x (get_or ks c.0 x)).1 (sym c.2))
