@@ -138,6 +138,9 @@ step_sound n (cut.data_of d) st next ss w e r =
 step_sound n (cut.tag kind.Variable line ts) st next ss w e r = print_sound n line ts st next ss w e r
 step_sound n (cut.tag kind.Block line []) st next ss w e r = no_error syntax next e
 step_sound n (cut.tag kind.Block line (cut.name x ∷ ts)) st next ss w e r = block_sound n line x ts st next ss w e r
+step_sound n (cut.tag kind.Block line (cut.number m ∷ ts)) st next ss w e r = no_error syntax next e
+step_sound n (cut.tag kind.Block line (cut.text x ∷ ts)) st next ss w e r = no_error syntax next e
+step_sound n (cut.tag kind.Block line (cut.sign s ∷ ts)) st next ss w e r = no_error syntax next e
 
 -- ---- all segments
 

@@ -1,6 +1,6 @@
 -- A tree is no heavier than its segments.
-use Rattle.std.proofs.Common.{◌≡◌, ◌+◌, ◌≤◌, List, [], ◌∷◌, ◌++◌, length, codes, arith}
-use Rattle.jt_scan.specs.Cut.{Token, Segment, weight_of}
+use Rattle.std.proofs.Common.{◌≡◌, ◌+◌, ◌≤◌, List, [], ◌∷◌, ◌++◌, codes, arith}
+use Rattle.jt_scan.specs.Cut.{Token, Segment, tokens_weight, weight_of}
 use Rattle.jt_parse.specs.Trees as trees
 use Rattle.jt_parse.specs.Trees.{Expr, Body, Branches, body_weight, branch_weight}
 use Rattle.jt_parse.specs.Grammar.{word, block, Spells, is_true, is_True, is_false, is_False, is_none, is_None, is_name, Forms, nothing_more, a_comment, some_data, a_print, an_if, GoesOn, no_else, an_else, an_elif}
@@ -9,7 +9,7 @@ weight-append : (x y : List Segment) → weight_of (x ++ y) ≡ weight_of x + we
 weight-append [] y = omega arith
 weight-append (s ∷ x) y = omega (arith, weight-append x y)
 
-spells_weighs : {e : Expr} {ts : List Token} → Spells e ts → trees.weight e ≤ length ts
+spells_weighs : {e : Expr} {ts : List Token} → Spells e ts → trees.weight e ≤ tokens_weight ts
 spells_weighs is_true = omega arith
 spells_weighs is_True = omega arith
 spells_weighs is_false = omega arith

@@ -77,4 +77,7 @@ word_sound x e given = either_sound (literal_at x) x e (literal_sound x) given
 pub expression_sound : (ts : List Token) (e : Expr) → expression ts ≡ Ok e → Spells e ts
 expression_sound [] e given = no_error syntax e given
 expression_sound (cut.name x ∷ []) e given = word_sound x e given
-expression_sound (t ∷ u ∷ ts) e given = no_error syntax e given
+expression_sound (cut.name x ∷ u ∷ ts) e given = no_error syntax e given
+expression_sound (cut.number n ∷ ts) e given = no_error syntax e given
+expression_sound (cut.text x ∷ ts) e given = no_error syntax e given
+expression_sound (cut.sign s ∷ ts) e given = no_error syntax e given

@@ -25,6 +25,7 @@ abbrev mutual
 abbrev pub tokens_bytes : List Token → ℕ
 tokens_bytes [] = 0
 tokens_bytes (cut.name x ∷ ts) = length (encode_utf8_all x) + tokens_bytes ts
+tokens_bytes (t ∷ ts) = tokens_bytes ts
 
 abbrev pub segment_bytes : Segment → ℕ
 segment_bytes (cut.data_of d) = length (encode_utf8_all d)

@@ -34,4 +34,4 @@ word_read x = literal_or_name (literal_at x) x
 abbrev pub expression : List Token → Result Expr Fault
 expression [] = Err syntax
 expression (cut.name x ∷ []) = word_read x
-expression (t ∷ u ∷ ts) = Err syntax
+expression (t ∷ ts) = Err syntax

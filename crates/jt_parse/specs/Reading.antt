@@ -94,6 +94,7 @@ step n st (cut.data_of d) = Ok (grown st (data_of (encode_utf8_all d)))
 step n st (cut.tag kind.Variable line ts) = print_tag n line ts st
 step n st (cut.tag kind.Block line []) = Err syntax
 step n st (cut.tag kind.Block line (cut.name x ∷ ts)) = block_tag n line x ts st
+step n st (cut.tag kind.Block line (t ∷ ts)) = Err syntax
 
 unfoldable pub run : ℕ → State → List Segment → Result State Fault
 run n st [] = Ok st

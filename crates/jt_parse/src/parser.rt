@@ -249,7 +249,7 @@ impl Parser {
             Kind::Variable => self.print_tag(line, tokens),
             Kind::Block => match tokens {
                 [Token::Name(word), rest @ ..] => self.block_tag(line, word, rest),
-                [] => Err(ParseError::Syntax { line }),
+                _ => Err(ParseError::Syntax { line }),
             },
         }
     }

@@ -85,6 +85,8 @@ fn sources_are_parsed(rt: HostRuntime) -> Result<(), Fail> {
         ("{{ a b }}", "P1 Syntax: Syntax { line: 1 }"),
         ("{{ if }}", "P1 Syntax: Syntax { line: 1 }"),
         ("{{ }}", "P1 Syntax: Syntax { line: 1 }"),
+        ("{{ 1 }}", "P1 Syntax: Syntax { line: 1 }"),
+        ("{% 'if' a %}", "P1 Syntax: Syntax { line: 1 }"),
         ("\n{% %}", "P1 Syntax: Syntax { line: 2 }"),
         ("{% else %}", "P1 Syntax: Syntax { line: 1 }"),
         (

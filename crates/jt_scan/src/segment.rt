@@ -58,9 +58,10 @@ pub enum Sign {
 pub enum Token<'a> {
     /// A name, or a reserved word.
     Name(&'a str),
-    /// A number.
+    /// A number, by its value.
     Number(u64),
-    /// A text literal, as it stands between its quotes.
+    /// What stands between the quotes of a text, as it is in the source:
+    /// [`text_value`](crate::text_value) has what it means.
     Text(&'a str),
     Sign(Sign),
 }
