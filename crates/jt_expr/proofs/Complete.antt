@@ -192,7 +192,7 @@ pub put_levels : (k : Option Text) (t : Expr) (p : Parts) → parts_levels (put 
 put_levels None t p = omega arith
 put_levels (Some k) t p = omega arith
 
-some_levels : (t : Expr) → 0 < levels t
+pub some_levels : (t : Expr) → 0 < levels t
 some_levels (constant l) = omega arith
 some_levels (name x) = omega arith
 some_levels (group t) = omega arith

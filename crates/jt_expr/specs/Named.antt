@@ -1,5 +1,5 @@
 -- Filters and tests whose names have a meaning.
-use Rattle.std.specs.Prelude.{◌≡◌, Bool, true, false, not, ◌||◌, List, [], ◌∷◌, bytes_eq}
+use Rattle.std.specs.Prelude.{◌≡◌, Bool, true, false, not, ◌||◌, List, [], ◌∷◌, bytes_eq, if◌then◌else◌, Option, Some, None}
 use Rattle.std.specs.List.{list_any}
 use Rattle.jt_ops.specs.declared.test_id.TestId.{TestId}
 use Rattle.jt_ops.specs.declared.test_id.TestId.TheVariants as test_of
@@ -53,6 +53,10 @@ abbrev mutual
   pub pairs_have_unknown : Named → Pairs → Bool
   pairs_have_unknown u no_pairs = false
   pairs_have_unknown u (pair k t ps) = has_unknown u t || pairs_have_unknown u ps
+
+-- what has a name without a meaning, a filter before a test
+abbrev pub unknown : Expr → Option Named
+unknown t = if has_unknown n.Filter t then Some n.Filter else if has_unknown n.Test t then Some n.Test else None
 
 abbrev pub IsKnown : Expr → Type 0
 IsKnown t = (has_unknown n.Filter t ≡ false) × (has_unknown n.Test t ≡ false)

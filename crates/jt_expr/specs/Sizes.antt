@@ -1,21 +1,9 @@
--- What tokens weigh, and how long the names and texts of trees and of tokens are, in bytes.
+-- What tokens weigh, as the cut has it, and how long the names and texts of trees and of tokens are, in bytes.
+pub use Rattle.jt_scan.specs.Cut.{tokens_weight}
 use Rattle.std.specs.Prelude.{ℕ, ◌+◌, List, [], ◌∷◌, length, encode_utf8_all}
 use Rattle.jt_scan.specs.Cut as cut
 use Rattle.jt_scan.specs.Cut.{Token}
 use Rattle.jt_expr.specs.Trees.{Literal, number, text, truth, nothing, Expr, constant, name, group, list_of, map_of, attribute, item, call, filter, test, unary, binary, when, choice, Exprs, no_exprs, expr, Pairs, no_pairs, pair}
-
--- a text counts 2, and every other token 1
-abbrev pub token_weight : Token → ℕ
-token_weight (cut.name x) = 1
-token_weight (cut.number n) = 1
-token_weight (cut.text v) = 2
-token_weight (cut.sign k) = 1
-
-abbrev pub tokens_weight : List Token → ℕ
-tokens_weight [] = 0
-tokens_weight (t ∷ ts) = token_weight t + tokens_weight ts
-
--- ---- bytes
 
 abbrev pub literal_bytes : Literal → ℕ
 literal_bytes (number n) = 0

@@ -10,5 +10,5 @@ mod tree;
 mod words;
 
 pub use error::ExprError;
-pub use named::check_names;
+pub use named::{Named, check_names, unknown};
 pub use tree::{BinaryOperator, Expr, Literal, UnaryOperator};

@@ -10,7 +10,7 @@ use jt_ops::TestId;
 
 /// What has a name that may have no meaning.
 #[derive(Clone, Copy, Debug, PartialEq, Eq)]
-enum Named {
+pub enum Named {
     Filter,
     Test,
 }
@@ -30,6 +30,19 @@ pub fn check_names(expr: &Expr) -> Result<(), ExprError>
         return Err(ExprError::UnknownTest);
     }
     Ok(())
+}
+
+/// What in an expression has a name without a meaning: a filter, else a test, else nothing.
+pub fn unknown(expr: &Expr) -> Option<Named>
+    ensures { result ≡ spec.unknown (expr_view expr.now) }
+{
+    if has_unknown(expr, Named::Filter) {
+        Some(Named::Filter)
+    } else if has_unknown(expr, Named::Test) {
+        Some(Named::Test)
+    } else {
+        None
+    }
 }
 
 /// Whether a test has the name.
