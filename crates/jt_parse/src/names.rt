@@ -7,7 +7,8 @@ ghost use Rattle.jt_expr.specs.View.{expr_view};
 ghost use Rattle.jt_parse.specs.View.{stmt_view, body_view, branches_view};
 
 use crate::tree::Stmt;
-use jt_expr::{Expr, Named, unknown};
+use jt_expr::Expr;
+use jt_expr::named::{Named, unknown};
 
 /// The first name without a meaning in the expression of a tag, with the tag's line.
 fn unknown_at(line: u32, expr: &Expr) -> Option<(u32, Named)>
@@ -21,13 +22,12 @@ fn unknown_at(line: u32, expr: &Expr) -> Option<(u32, Named)>
 
 /// The first name without a meaning in statements, with its tag's line.
 #[cycle(names)]
-pub(crate) fn unknown_in(body: &[Stmt]) -> Option<(u32, Named)>
-    ensures { result ≡ spec.body_unknown (body_view body.now) }
+pub(crate) fn unknown_in(body: &Vec<Stmt>) -> Option<(u32, Named)>
+    ensures { result ≡ spec.body_unknown (body_view body.now.items) }
 {
     for statement in body {
-        let found = in_statement(statement);
-        if found.is_some() {
-            return found;
+        if let Some(found) = in_statement(statement) {
+            return Some(found);
         }
     }
     None
@@ -47,13 +47,12 @@ fn in_statement(statement: &Stmt) -> Option<(u32, Named)>
 
 /// The first one in branches.
 #[cycle(names)]
-fn in_branches(branches: &[(u32, Expr, Vec<Stmt>)]) -> Option<(u32, Named)>
-    ensures { result ≡ spec.branch_unknown (branches_view branches.now) }
+fn in_branches(branches: &Vec<(u32, Expr, Vec<Stmt>)>) -> Option<(u32, Named)>
+    ensures { result ≡ spec.branch_unknown (branches_view branches.now.items) }
 {
     for branch in branches {
-        let found = in_branch(branch);
-        if found.is_some() {
-            return found;
+        if let Some(found) = in_branch(branch) {
+            return Some(found);
         }
     }
     None

@@ -3,7 +3,7 @@
 //! The segments are read one after the other, and each `if` that is open is kept in a row of
 //! frames, so that no source, however deep, reaches the end of the stack.
 
-ghost use Rattle.std.specs.Prelude.{◌≡◌, ◌≤◌, ◌-◌, suc, None, map, IfOk, IfErr, MatchOption, MatchResult, [], ◌∷◌};
+ghost use Rattle.std.specs.Prelude.{◌≡◌, ◌≤◌, ◌-◌, suc, length, None, map, IfOk, IfErr, MatchOption, MatchResult, [], ◌∷◌};
 ghost use Rattle.std.specs.Str.{chars};
 ghost use Rattle.jt_scan.specs.Cut as cut;
 ghost use Rattle.jt_scan.specs.View.{token_view, segment_view, cut_of};
@@ -22,7 +22,8 @@ use crate::error::ParseError;
 use crate::expression::{copy_of, expression, is_word};
 use crate::names::unknown_in;
 use crate::tree::{Stmt, Template};
-use jt_expr::{Expr, Named};
+use jt_expr::Expr;
+use jt_expr::named::Named;
 use jt_scan::{Kind, Segment, Token};
 use std::alloc::Global;
 use std::mem;
@@ -53,11 +54,11 @@ struct Parser {
     frames: Vec<Frame>,
 }
 
-/// How many levels an expression may have in a statement inside so many others.
-fn levels_left(outer: usize) -> usize
-    ensures { result ≡ MAX_LEVELS - suc outer }
+/// How many levels an expression may have in a statement inside the open ones.
+fn levels_left(frames: &Vec<Frame>) -> usize
+    ensures { result ≡ MAX_LEVELS - suc (length (frames_view frames.now.items)) }
 {
-    MAX_LEVELS.saturating_sub(outer).saturating_sub(1)
+    MAX_LEVELS.saturating_sub(frames.len()).saturating_sub(1)
 }
 
 /// One statement behind the others.
@@ -113,7 +114,7 @@ impl Parser {
     fn print_tag(&mut self, line: u32, tokens: &[Token<'_>]) -> Result<(), ParseError>
         ensures { GivesState (reading.print_tag MAX_LEVELS line (map token_view tokens.now) (state_view self.old)) result self.new }
     {
-        let printed = expression(self.alloc, tokens, levels_left(self.frames.len()), line)?;
+        let printed = expression(self.alloc, tokens, levels_left(&self.frames), line)?;
         push_statement(&mut self.body, Stmt::Print(line, printed))?;
         Ok(())
     }
@@ -123,7 +124,7 @@ impl Parser {
     fn if_tag(&mut self, line: u32, tokens: &[Token<'_>]) -> Result<(), ParseError>
         ensures { GivesState (reading.if_tag MAX_LEVELS line (map token_view tokens.now) (state_view self.old)) result self.new }
     {
-        let condition = expression(self.alloc, tokens, levels_left(self.frames.len()), line)?;
+        let condition = expression(self.alloc, tokens, levels_left(&self.frames), line)?;
         let before = mem::replace(&mut self.body, Vec::new(self.alloc));
         let frame = Frame {
             before,
@@ -152,7 +153,7 @@ impl Parser {
         let Some((first, condition)) = open else {
             return Err(ParseError::Syntax { line });
         };
-        let next = expression(self.alloc, tokens, levels_left(self.frames.len()), line)?;
+        let next = expression(self.alloc, tokens, levels_left(&self.frames), line)?;
         let body = mem::replace(&mut self.body, Vec::new(self.alloc));
         push_branch(&mut branches, first, condition, body)?;
         let frame = Frame {
