@@ -98,10 +98,7 @@ fn sources_are_parsed(rt: HostRuntime) -> Result<(), Fail> {
             "{% if a %}{% elif b is\nc %}{% endif %}",
             "P4 UnknownTest: UnknownTest { line: 1 }",
         ),
-        (
-            "{{ a is b }}\n{{ ( }}",
-            "P1 Syntax: Syntax { line: 2 }",
-        ),
+        ("{{ a is b }}\n{{ ( }}", "P1 Syntax: Syntax { line: 2 }"),
         ("{% 'if' a %}", "P1 Syntax: Syntax { line: 1 }"),
         ("\n{% %}", "P1 Syntax: Syntax { line: 2 }"),
         ("{% else %}", "P1 Syntax: Syntax { line: 1 }"),
