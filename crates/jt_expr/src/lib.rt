@@ -3,12 +3,12 @@
 
 mod cursor;
 mod error;
-mod named;
+pub mod named;
 mod part;
 mod rows;
 mod tree;
 mod words;
 
 pub use error::ExprError;
-pub use named::{Named, check_names, unknown};
+pub use named::check_names;
 pub use tree::{BinaryOperator, Expr, Literal, UnaryOperator};
