@@ -115,6 +115,11 @@ pub found_none : (o : Outcome Parts) → o ≡ (o >>= after_found no_parts)
 found_none (Ok p) = refl
 found_none (Err x) = refl
 
+pub row_starts : (inner : Level → Reader Expr) (n count end : ℕ) (found : Parts) (r : Row) (ts : Tokens) → end ≡ count → found ≡ no_parts → row inner n count r ts ≡ (row inner n (end - 0) r ts >>= after_found found)
+row_starts inner n count end found r ts e f =
+    let same : end - 0 ≡ count = omega (arith, e) in
+    found_none (row inner n count r ts) ∙ ap (λ m. row inner n m r ts >>= after_found no_parts) (sym same) ∙ ap (λ p. row inner n (end - 0) r ts >>= after_found p) (sym f)
+
 -- ---- levels of parts
 
 exprs_levels-then : (ts us : Exprs) → exprs_levels (then_exprs ts us) ≡ max (exprs_levels ts) (exprs_levels us)

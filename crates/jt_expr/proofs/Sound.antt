@@ -272,8 +272,8 @@ module _ (inner : Level → Reader Expr) (n : ℕ) (sound : (k : Level) (t : Exp
       subst (λ z. FoundRow w n z ts rest) q.0 (cut.sign (closer w) ∷ [], sees_sound (closer w) ts h ∙ ap (λ z. cut.sign (closer w) ∷ z) q.1, closed, omega arith))
       (λ h k.
       let f : Option Text × Expr → Reader Parts = λ g v.
-        if sees s.Comma v then (r.row inner (suc n) turns (behind_key w g.0) (drop 1 v) >>= λ q z. Ok (put g.0 g.1 q, z))
-        else (expect (closer w) v >>= λ _ z. Ok (put g.0 g.1 no_parts, z)) in
+      if sees s.Comma v then (r.row inner (suc n) turns (behind_key w g.0) (drop 1 v) >>= λ q z. Ok (put g.0 g.1 q, z))
+      else (expect (closer w) v >>= λ _ z. Ok (put g.0 g.1 no_parts, z)) in
       let a = bind_ok (r.part inner (suc n) w ts) f p rest k in
       let key = (a.0).0 in
       let made = (a.0).1 in

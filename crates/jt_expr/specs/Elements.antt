@@ -4,7 +4,7 @@ use Rattle.jt_scan.specs.declared.segment.Sign.TheVariants as s
 use Rattle.jt_expr.specs.declared.tree.UnaryOperator.{UnaryOperator}
 use Rattle.jt_expr.specs.Trees.{Text, Expr, unary}
 use Rattle.jt_expr.specs.Grammar.{Level, Row, closer}
-use Rattle.jt_expr.specs.Reading.{Reader, ◌>>=◌, sees, expect, part}
+use Rattle.jt_expr.specs.Reading.{Outcome, Reader, ◌>>=◌, sees, expect, part}
 
 pub data Element : Type 0 where
   -- the closing sign alone
@@ -22,5 +22,5 @@ element inner n r ts =
     else (expect (closer r) v >>= λ _ w. Ok (last p, w)))
 
 -- a tree as the operand of an operator in front
-abbrev pub under : UnaryOperator → Expr → Reader Expr
-under op t v = Ok (unary op t, v)
+abbrev pub under : UnaryOperator → Outcome Expr → Outcome Expr
+under op o = o >>= λ t v. Ok (unary op t, v)

@@ -213,8 +213,7 @@ impl<'a> Cursor<'a> {
     {
         match self.rest {
             [Token::Name(one), Token::Name(two), rest @ ..]
-                if is_word(one, "not") && is_word(two, "in") =>
-            {
+                if is_word(one, "not") && is_word(two, "in") => {
                 self.rest = rest;
                 Some(BinaryOperator::NotIn)
             }

@@ -3,12 +3,15 @@
 
 mod cursor;
 mod error;
+mod grammar;
 pub mod named;
 mod part;
 mod rows;
+mod tag;
 mod tree;
 mod words;
 
 pub use error::ExprError;
 pub use named::check_names;
+pub use tag::expression;
 pub use tree::{BinaryOperator, Expr, Literal, UnaryOperator};

@@ -167,12 +167,7 @@ pub fn make_filter(
 ) -> Result<Expr, AllocError>
     ensures { IfOk result (λ e. expr_view e ≡ trees.filter (expr_view value) (encode_utf8_all (chars text.now)) (exprs_view items.items) (pairs_view pairs.items)) }
 {
-    Ok(Expr::Filter(
-        Box::new(alloc, value)?,
-        copy_of(alloc, text)?,
-        items,
-        pairs,
-    ))
+    Ok(Expr::Filter(Box::new(alloc, value)?, copy_of(alloc, text)?, items, pairs))
 }
 
 pub fn make_test(

@@ -1,7 +1,5 @@
 use Rattle.std.proofs.Common.{◌≡◌, ◌∙◌}
 use Rattle.jt_expr.proofs.TestNames.{test_found}
-use Rattle.jt_expr.proofs.Weighs.{spells_weighs}
-use Rattle.jt_expr.proofs.Short.{spells_short}
 use Rattle.jt_expr.proofs.named.is_test.Goals as goal
 
 pub returns : goal.returns
