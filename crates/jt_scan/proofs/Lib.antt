@@ -7,3 +7,4 @@ pub mod Bytes
 pub mod Turns
 pub mod Answer
 pub mod EndsLaws
+pub mod Texts

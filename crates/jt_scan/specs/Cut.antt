@@ -3,6 +3,7 @@
 use Rattle.std.specs.Prelude.{◌≡◌, ℕ, ◌+◌, ◌-◌, Bool, true, false, ◌==◌, ◌&&◌, ◌||◌, List, [], ◌∷◌, ◌++◌, count_by, length}
 use Rattle.jt_scan.specs.declared.segment.Kind.{Kind}
 use Rattle.jt_scan.specs.declared.segment.Kind.TheVariants as kind
+use Rattle.jt_scan.specs.declared.segment.Sign.{Sign}
 use Rattle.unicode_ident.specs.Ident.{is_xid_start, is_xid_continue}
 
 abbrev pub Text : Type 0
@@ -13,6 +14,14 @@ Text = List ℕ
 pub data Token : Type 0 where
   -- a name, or a reserved word
   name : Text → Token
+  number : ℕ → Token
+  -- a text literal, by its value
+  text : Text → Token
+  sign : Sign → Token
+
+-- the value of a text literal, of what stands between its quotes
+unfoldable pub unescaped : Text → Text
+unescaped x = x
 
 -- space, tab, LF, VT, FF and CR
 abbrev pub is_space : ℕ → Bool

@@ -12,6 +12,9 @@ use Rattle.jt_scan.specs.Scanning as scanning
 
 abbrev pub token_view : Token → cut.Token
 token_view (t.Name x) = cut.name (chars x.now)
+token_view (t.Number n) = cut.number n
+token_view (t.Text x) = cut.text (cut.unescaped (chars x.now))
+token_view (t.Sign s) = cut.sign s
 
 abbrev pub segment_view : Segment → cut.Segment
 segment_view (s.Data x) = cut.data_of (chars x.now)

@@ -15,5 +15,6 @@ mod tokens;
 pub use error::ScanError;
 pub use options::Options;
 pub use scanner::scan;
-pub use segment::{Kind, Segment, Tag, Token};
+pub use segment::{Kind, Segment, Sign, Tag, Token};
 pub use source::{MAX_SOURCE_LEN, Source};
+pub use text::text_value;

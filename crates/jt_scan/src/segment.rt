@@ -1,10 +1,68 @@
 //! Segments and tokens, which are slices of their source.
 
+/// A sign, by its spelling.
+#[derive(Clone, Copy, Debug, PartialEq, Eq)]
+pub enum Sign {
+    /// `+`
+    Plus,
+    /// `-`
+    Minus,
+    /// `*`
+    Times,
+    /// `%`
+    Percent,
+    /// `~`
+    Tilde,
+    /// `<`
+    Less,
+    /// `>`
+    Greater,
+    /// `=`
+    Assign,
+    /// `.`
+    Dot,
+    /// `,`
+    Comma,
+    /// `:`
+    Colon,
+    /// `|`
+    Pipe,
+    /// `(`
+    LeftParen,
+    /// `)`
+    RightParen,
+    /// `[`
+    LeftBracket,
+    /// `]`
+    RightBracket,
+    /// `{`
+    LeftBrace,
+    /// `}`
+    RightBrace,
+    /// `**`
+    Power,
+    /// `//`
+    FloorDivide,
+    /// `==`
+    Equal,
+    /// `!=`
+    NotEqual,
+    /// `<=`
+    LessEqual,
+    /// `>=`
+    GreaterEqual,
+}
+
 /// A token of a tag.
 #[derive(Clone, Copy, Debug, PartialEq, Eq)]
 pub enum Token<'a> {
     /// A name, or a reserved word.
     Name(&'a str),
+    /// A number.
+    Number(u64),
+    /// A text literal, as it stands between its quotes.
+    Text(&'a str),
+    Sign(Sign),
 }
 
 /// The kind of a tag.

@@ -19,7 +19,9 @@ fn tell(alloc: Global, segment: &Segment<'_>) -> Result<String, AllocError> {
                 Kind::Block => format!(in alloc; "b{}:", tag.line)?,
             };
             for token in tag.tokens.as_slice() {
-                let Token::Name(name) = token;
+                let Token::Name(name) = token else {
+                    continue;
+                };
                 told.push_str(*name)?;
                 told.push(';')?;
             }

@@ -1,10 +1,11 @@
 //! Steps over a text, character by character.
 
-ghost use Rattle.std.specs.Prelude.{◌≡◌, ◌≤◌, ◌++◌, ◌∷◌, [], false, length, MatchOption, slice_index};
+ghost use Rattle.std.specs.Prelude.{◌≡◌, ◌≤◌, ◌++◌, ◌∷◌, [], false, length, MatchOption, slice_index, IfOk, string_bytes, encode_utf8_all};
 ghost use Rattle.std.specs.Str.{chars};
 ghost use Rattle.jt_scan.specs.Cut as cut;
 ghost use Rattle.jt_scan.specs.Scanning as spec;
 
+use std::alloc::{AllocError, Global};
 use unicode_ident::{is_xid_continue, is_xid_start};
 
 /// The first character, and what is behind it.
@@ -93,4 +94,12 @@ pub fn lines(text: &str) -> usize
         }
     }
     count
+}
+
+#[tactic(auto, unfolding(crate::specs::Cut::unescaped))]
+/// The value of a text literal, of what stands between its quotes.
+pub fn text_value(alloc: Global, raw: &str) -> Result<String, AllocError>
+    ensures { IfOk result (λ s. string_bytes s ≡ encode_utf8_all (cut.unescaped (chars raw.now))) }
+{
+    String::from_str(alloc, raw)
 }
