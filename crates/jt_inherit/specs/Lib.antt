@@ -1,0 +1,5 @@
+pub mod Names
+pub mod View
+pub mod Chains
+pub mod Small
+pub mod Refusals

@@ -1,0 +1,21 @@
+-- Which texts are names of templates. A text is its UTF-8 bytes.
+use Rattle.std.specs.Prelude.{◌≡◌, ◌≢◌, ℕ, ◌≤◌, ◌==◌, List, [], length, codes, All}
+use Rattle.std.specs.List.{slice_split}
+
+abbrev pub Text : Type 0
+Text = List ℕ
+
+-- no control character, and no `\`
+abbrev pub IsNameByte : ℕ → Type 0
+IsNameByte b = (32 ≤ b) × (b ≢ 92)
+
+-- what stands between two `/` isn't empty, `.` or `..`
+abbrev pub IsPart : Text → Type 0
+IsPart p = (p ≢ []) × (p ≢ codes ".") × (p ≢ codes "..")
+
+-- 1 to 255 bytes; the parts between `/` name no directory above, and none twice
+pub record IsName (x : Text) : Type 0 where
+  pub some : 1 ≤ length x
+  pub short : length x ≤ 255
+  pub bytes : All IsNameByte x
+  pub parts : All IsPart (slice_split (λ b. b == 47) x)

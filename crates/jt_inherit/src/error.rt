@@ -1,0 +1,82 @@
+//! Why there is no chain.
+
+use jt_parse::ParseError;
+use jt_scan::ScanError;
+use std::alloc::AllocError;
+use thiserror::Error;
+
+/// Why there is no chain.
+#[derive(Debug, Drop, Error, PartialEq, Eq)]
+pub enum ChainError {
+    /// The library has no source of the name.
+    #[error("C1 Missing")]
+    Missing,
+    /// The name is none that a template may have.
+    #[error("C2 BadName")]
+    BadName,
+    /// A template extends itself, by way of others or not.
+    #[error("C3 ExtendsCycle")]
+    ExtendsCycle,
+    /// A chain has more than 16 templates, or includes reach more than 1,024 chains.
+    #[error("C4 ChainTooLong")]
+    ChainTooLong,
+    /// A template has two blocks of one name.
+    #[error("C5 DoubleBlock")]
+    DoubleBlock,
+    /// A required block has no body.
+    #[error("C6 RequiredNotGiven")]
+    RequiredNotGiven,
+    /// `super()` stands where no further body is.
+    #[error("C7 NoSuper")]
+    NoSuper,
+    /// A chain includes itself, by way of others or not.
+    #[error("C8 IncludeCycle")]
+    IncludeCycle,
+    /// A chain has two macros of one name.
+    #[error("C9 MacroTwice")]
+    MacroTwice,
+    /// A growth was refused.
+    #[error("C10 NoMemory")]
+    NoMemory,
+    /// The source of the template of this name has no cut.
+    #[error("{1} in {0} line {line}", line = scan_line(.1))]
+    Scan(String, ScanError),
+    /// The source of the template of this name spells no tree.
+    #[error("{1} in {0} line {line}", line = parse_line(.1))]
+    Parse(String, ParseError),
+}
+
+/// The line that a refusal of the scanner names, or 1.
+fn scan_line(refusal: &ScanError) -> u32 {
+    match refusal {
+        ScanError::UnclosedTag { line } => *line,
+        ScanError::UnclosedText { line } => *line,
+        ScanError::BadCharacter { line } => *line,
+        ScanError::BadEscape { line } => *line,
+        ScanError::NumberTooLarge { line } => *line,
+        ScanError::UnclosedRaw { line } => *line,
+        ScanError::SourceTooLong | ScanError::NoMemory => 1,
+    }
+}
+
+/// The line that a refusal of the parser names, or 1.
+fn parse_line(refusal: &ParseError) -> u32 {
+    match refusal {
+        ParseError::Syntax { line } => *line,
+        ParseError::TooDeep { line } => *line,
+        ParseError::UnknownFilter { line } => *line,
+        ParseError::UnknownTest { line } => *line,
+        ParseError::NoMemory => 1,
+    }
+}
+
+impl From<AllocError> for ChainError {
+    ghost use Rattle.std.specs.Prelude.{◌≡◌};
+    ghost use Rattle.jt_inherit.specs.declared.error.ChainError.TheVariants.{NoMemory};
+
+    ghost from_gives = { λ _ e. e ≡ NoMemory };
+
+    fn from(_e: AllocError) -> ChainError {
+        ChainError::NoMemory
+    }
+}
