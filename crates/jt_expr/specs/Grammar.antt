@@ -228,7 +228,7 @@ mutual
         → Goes k a t (operator_tokens op ++ (x ++ y))
     filtered : {a t : Expr} {n : Text} {ts : Exprs} {ps : Pairs} {x y : Tokens} → is_reserved n ≡ false → Arguments (ts, ps) x
         → Goes postscript (filter a (encode_utf8_all n) ts ps) t y → Goes postscript a t (cut.sign s.Pipe ∷ cut.name n ∷ (x ++ y))
-    tested : {a t : Expr} {b : Bool} {n : Text} {ts : Exprs} {ps : Pairs} {x y : Tokens} → names_test b n ≡ true → TestArguments (ts, ps) x
+    tested : {a t : Expr} {b : Bool} {ts : Exprs} {ps : Pairs} {x y : Tokens} → (n : Text) → names_test b n ≡ true → TestArguments (ts, ps) x
         → Goes postscript (test a b (encode_utf8_all n) ts ps) t y → Goes postscript a t (is_tokens b ++ (cut.name n ∷ (x ++ y)))
     attributed : {a t : Expr} {n : Text} {y : Tokens} → Goes postfix (attribute a (encode_utf8_all n)) t y → Goes postfix a t (cut.sign s.Dot ∷ cut.name n ∷ y)
     indexed : {a i t : Expr} {x y : Tokens} → Spells whole i x → Goes postfix (item a i) t y

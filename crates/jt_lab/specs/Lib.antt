@@ -1,0 +1,10 @@
+pub mod Trees
+pub mod Making
+pub mod Operators
+pub mod Tests
+pub mod Env
+pub mod Got
+pub mod Expressions
+pub mod Meaning
+pub mod Slots
+pub mod Resolve
