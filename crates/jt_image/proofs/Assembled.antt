@@ -1,7 +1,7 @@
 -- When parts are a code that has a spelling.
-use Rattle.std.proofs.Common.{◌≡◌, ℕ, ◌+◌, ◌-◌, ◌*◌, min, ◌<◌, ◌≤◌, ◌^◌, Bool, true, false, List, [], ◌∷◌, ◌++◌, length, Option, Some, None, Result, Ok, Err, refl, sym, ap, subst, ◌∙◌, arith, map}
-use Rattle.std.specs.Prelude.{◌&&◌, ◌↔◌, IsTrue, not, nat_lt, IsUtf8, IfOk, MatchResult, slice_get}
-use Rattle.std.specs.Int.{w16, w32, w64, to_le_bytes, cast_unsigned}
+use Rattle.std.proofs.Common.{◌≡◌, ℕ, ◌+◌, ◌-◌, ◌*◌, min, ◌<◌, ◌≤◌, ◌^◌, Bool, true, false, List, [], ◌∷◌, ◌++◌, length, Option, Some, None, Err, refl, ap, subst, ◌∙◌, arith}
+use Rattle.std.specs.Prelude.{◌&&◌, ◌↔◌, not, nat_lt, IsUtf8, slice_get}
+use Rattle.std.specs.Int.{w16, w32, w64, to_le_bytes}
 use Rattle.std.specs.List.{flat_map, AllByRecursion}
 use Rattle.std.proofs.lemmas.List.{length-append}
 use Rattle.std.proofs.lemmas.List.Concat.{flat_map-cons}
@@ -9,11 +9,9 @@ use Rattle.std.proofs.lemmas.Bool.{lt-ltb, ltb-true}
 use Rattle.jt_image.specs.declared.error.ImageError.{ImageError}
 use Rattle.jt_image.specs.declared.error.ImageError.TheVariants.{BadMagic, BadVersion, Truncated, Trailing, BadText, BadOpcode, BadTable, LimitPassed, NoMemory}
 use Rattle.jt_image.specs.declared.instruction.Instruction.{Instruction}
-use Rattle.jt_image.specs.declared.instruction.Instruction.TheVariants as op
-use Rattle.jt_image.specs.declared.wire.Instr.{Instr}
 use Rattle.jt_image.specs.Code.{Constant, undefined, nothing, truth_value, number, text, markup, Name, Section, Code}
 use Rattle.jt_image.specs.Spelling.{magic, version, name_bytes, constant_bytes, header_bytes, wire_of, instruction_bytes, spelling}
-use Rattle.jt_image.specs.IsCode.{IsName, Ascend, AreDistinct, IsConstant, IsInstruction, IsSection, total_len, HasEntry, IsCode, max_locals, max_instructions, max_bytes}
+use Rattle.jt_image.specs.IsCode.{IsName, IsConstant, IsSection, total_len, HasEntry, IsCode, max_locals, max_instructions, max_bytes}
 use Rattle.jt_image.specs.Reading.{is_used, may_follow}
 use Rattle.jt_image.specs.Parts.{AreInOrder, IsUnitInOrder, HasTables, KeepsLimits, IsRefusal, Finds, IsWritable, IsHeld, Starts, IsShort}
 use Rattle.jt_image.proofs.Found.{AllGood, wide16, wide32, wide64}
@@ -21,21 +19,6 @@ use Rattle.jt_image.proofs.Sound.{IsNamed, code_bytes}
 use Rattle.jt_image.proofs.Whole.{are_names, ascend, distinct, HasFirst}
 use Rattle.jt_image.proofs.Complete.{named, all_clear, first_starts}
 use Rattle.jt_image.proofs.Passed.{all_weaker, all_both}
-
--- ---- instructions
-
-pub wire_fits : (w : Instr) (i : Instruction) → w.a < 2 ^ 8 → w.c < 2 ^ 32 → wire_of i ≡ w → IsInstruction i
-wire_fits w (op.Const n) a c e = omega (arith, ap (λ (v : Instr). v.c) e)
-wire_fits w (op.GLoad n) a c e = omega (arith, ap (λ (v : Instr). v.c) e)
-wire_fits w (op.GStore n) a c e = omega (arith, ap (λ (v : Instr). v.c) e)
-wire_fits w op.Drop a c e = tt
-wire_fits w op.Dup a c e = tt
-wire_fits w (op.Emit n) a c e = omega (arith, ap (λ (v : Instr). v.a) e)
-wire_fits w (op.Data n) a c e = omega (arith, ap (λ (v : Instr). v.c) e)
-wire_fits w (op.Jump n) a c e = omega (arith, ap (λ (v : Instr). v.c) e)
-wire_fits w (op.JumpIfFalse n) a c e = omega (arith, ap (λ (v : Instr). v.c) e)
-wire_fits w (op.JumpIfTrue n) a c e = omega (arith, ap (λ (v : Instr). v.c) e)
-wire_fits w op.Return a c e = tt
 
 -- ---- how long a spelling is
 

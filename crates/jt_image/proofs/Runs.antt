@@ -1,20 +1,19 @@
 -- Whole runs of a typed code.
-use Rattle.std.proofs.Common.{◌≡◌, ◌≢◌, ◌↔◌, ℕ, zero, suc, ◌+◌, ◌-◌, ◌<◌, ◌≤◌, Bool, true, false, cond, ltb, List, [], ◌∷◌, length, Option, Some, None, refl, sym, ap, subst, ◌∙◌, arith, if◌then◌else◌}
-use Rattle.std.specs.Prelude.{slice_get, slice_set, unwrap_or, replicate, nat_lt}
+use Rattle.std.proofs.Common.{◌≡◌, ◌≢◌, ◌↔◌, ℕ, zero, suc, ◌+◌, ◌<◌, ◌≤◌, Bool, true, false, cond, List, [], ◌∷◌, length, Option, Some, None, refl, ap, ◌∙◌, arith}
+use Rattle.std.specs.Prelude.{slice_set, unwrap_or, replicate, nat_lt}
 use Rattle.std.proofs.lemmas.Bool.{ltb-true, ltb-false}
-use Rattle.std.proofs.lemmas.Bool.Decides.{nat_tests}
 use Rattle.std.proofs.lemmas.List.{length-set}
 use Rattle.jt_value.specs.Tree as tree
 use Rattle.jt_value.specs.Tree.{Tree}
 use Rattle.jt_value.specs.Pairs.{Pairs, look}
 use Rattle.jt_image.specs.declared.instruction.Instruction.{Instruction}
 use Rattle.jt_image.specs.Code.{Name, Section, Code}
-use Rattle.jt_image.specs.IsCode.{HasEntry, IsCode}
+use Rattle.jt_image.specs.IsCode.{IsCode}
 use Rattle.jt_image.specs.Typed.{IsTyped}
 use Rattle.jt_image.specs.Config as config
 use Rattle.jt_image.specs.Config.{Budget, Outcome, Config}
-use Rattle.jt_image.specs.Step.{Demand, Action, goes_on, ends, faulty, wrong, strict, cost, fetch}
-use Rattle.jt_image.specs.Run.{Next, Goes, Ends, Wrong, spared, unless, spends, next_at, next, passed, filled, start, then_goes, after, Ending, RunFrom, Run, cost_at, next_cost, taken, then_costs, costs, IsSafe}
+use Rattle.jt_image.specs.Step.{Action, goes_on, ends, faulty, wrong, strict, cost, fetch}
+use Rattle.jt_image.specs.Run.{Next, Goes, Ends, Wrong, spared, unless, spends, next_at, next, passed, filled, start, then_goes, after, RunFrom, cost_at, taken, then_costs, costs, IsSafe}
 use Rattle.jt_image.proofs.Safe.{IsGood, IsFineStep, step_fine}
 
 -- an end within so many steps

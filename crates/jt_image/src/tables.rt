@@ -31,6 +31,7 @@ fn slot_at<'a>(
     Ok((slot, rest))
 }
 
+#[tactic(auto, using(crate::proofs::ReaderParts::may_follow_last))]
 pub(crate) fn may_follow(names: &[(u16, String)], text: &str) -> bool
     ensures { result ≡ may_follow (names_view names.now) text.now }
 {

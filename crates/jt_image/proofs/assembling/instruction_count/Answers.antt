@@ -1,4 +1,4 @@
-use Rattle.std.proofs.Common.{◌≡◌, length, get_or, refl, sym, ap, arith}
+use Rattle.std.proofs.Common.{◌≡◌, length, get_or, refl, ap, arith}
 use Rattle.jt_image.specs.declared.image.Section.{Section}
 use Rattle.jt_image.specs.View.{section_view}
 use Rattle.jt_image.proofs.Passed.{total_more, total_within}

@@ -1,4 +1,4 @@
-use Rattle.std.proofs.Common.{◌≡◌, ◌<◌, ◌^◌, length, true, arith}
+use Rattle.std.proofs.Common.{◌≡◌, true, arith}
 use Rattle.jt_image.specs.Code.{Code}
 use Rattle.jt_image.specs.View.{name_view, constant_view, section_view, sections_view}
 use Rattle.jt_image.specs.Parts.{code_with}

@@ -1,4 +1,4 @@
-use Rattle.std.proofs.Common.{◌≡◌, ℕ, ◌+◌, List, [], ◌∷◌, ◌++◌, take, true, refl, sym, ap, subst, ◌∙◌, arith, String, Global}
+use Rattle.std.proofs.Common.{◌≡◌, ℕ, ◌+◌, List, [], ◌∷◌, ◌++◌, take, true, refl, sym, ap, subst, ◌∙◌, String, Global}
 use Rattle.std.proofs.lemmas.List.{take_all}
 use Rattle.jt_image.specs.View.{name_view, names_view}
 use Rattle.jt_image.specs.Parts.{IsShort}
