@@ -19,7 +19,7 @@ use Rattle.jt_ops.specs.Operation as operators
 use Rattle.jt_ops.specs.Ranges.{ranged}
 use Rattle.jt_expr.specs.Trees as written
 use Rattle.jt_expr.specs.Trees.{Expr, constant, name, group, list_of, map_of, attribute, item, filter, test, unary, binary, when, choice, Exprs, no_exprs, expr, Pairs as Entries, no_pairs, pair}
-use Rattle.jt_lab.specs.Making.{listed, mapped}
+use Rattle.jt_ops.specs.Making.{listed, mapped}
 use Rattle.jt_lab.specs.Operators.{unary_operation, Form, operation, negation, conjunction, disjunction, form, range_of}
 use Rattle.jt_lab.specs.Tests.{test_named}
 use Rattle.jt_lab.specs.Expressions.{literal, operated, asked, turned, either, combined, value, values, entries}

@@ -13,7 +13,7 @@ use Rattle.jt_ops.specs.Ranges.{ranged}
 use Rattle.jt_ops.specs.Testing.{tested}
 use Rattle.jt_expr.specs.Trees as trees
 use Rattle.jt_expr.specs.Trees.{Text, Literal, Expr, constant, name, group, list_of, map_of, attribute, item, call, filter, test, unary, binary, when, choice, Exprs, no_exprs, expr, Pairs, no_pairs, pair}
-use Rattle.jt_lab.specs.Making.{listed, mapped}
+use Rattle.jt_ops.specs.Making.{listed, mapped}
 use Rattle.jt_lab.specs.Operators.{unary_operation, Form, operation, negation, conjunction, disjunction, form}
 use Rattle.jt_lab.specs.Tests.{test_named}
 use Rattle.jt_lab.specs.Env.{Env, read}

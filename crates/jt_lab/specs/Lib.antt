@@ -1,5 +1,4 @@
 pub mod Trees
-pub mod Making
 pub mod Operators
 pub mod Tests
 pub mod Env
@@ -8,3 +7,4 @@ pub mod Expressions
 pub mod Meaning
 pub mod Slots
 pub mod Resolve
+pub mod Size

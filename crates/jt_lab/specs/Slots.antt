@@ -8,7 +8,7 @@ use Rattle.jt_ops.specs.declared.op_id.OpId.{OpId}
 use Rattle.jt_ops.specs.declared.test_id.TestId.{TestId}
 use Rattle.jt_ops.specs.Operation.{operation, as_truth}
 use Rattle.jt_ops.specs.Testing.{tested}
-use Rattle.jt_lab.specs.Making.{listed, mapped}
+use Rattle.jt_ops.specs.Making.{listed, mapped}
 use Rattle.jt_lab.specs.Trees.{Text}
 use Rattle.jt_lab.specs.Got.{Place, Got, gives, fails, deeper, bind, checked, at}
 use Rattle.jt_lab.specs.Meaning.{shown}

@@ -1,0 +1,4 @@
+pub mod Follows
+pub mod Lowered
+pub mod Typed
+pub mod Correct

@@ -1,0 +1,2 @@
+//! A lab.
+#![tactic(auto)]
