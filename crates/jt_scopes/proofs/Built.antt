@@ -1,5 +1,5 @@
 -- Resolved templates that are built part by part.
-use Rattle.std.proofs.Common.{◌≡◌, ℕ, suc, ◌+◌, ◌<◌, ◌≤◌, Bool, true, false, cond, if◌then◌else◌, List, [], ◌∷◌, ◌++◌, length, map, drop, get_or, refl, sym, ap, ◌∙◌, subst, String, Global, string_bytes, Vec, Option, Some, None, arith, append_assoc, length-append}
+use Rattle.std.proofs.Common.{◌≡◌, ℕ, suc, ◌+◌, ◌<◌, ◌≤◌, Bool, true, false, cond, if◌then◌else◌, List, [], ◌∷◌, ◌++◌, length, map, drop, get_or, refl, sym, ap, ◌∙◌, String, Global, string_bytes, Vec, Option, Some, None, arith, append_assoc, length-append}
 use Rattle.std.specs.Prelude.{unwrap_or, not, nat_lt}
 use Rattle.std.specs.List.{position, position_or_len}
 use Rattle.std.specs.Str.{bytes_eq}
@@ -16,10 +16,11 @@ use Rattle.jt_parse.specs.declared.tree.Stmt.{Stmt}
 use Rattle.jt_parse.specs.declared.tree.Stmt.TheVariants as stmt
 use Rattle.jt_scopes.specs.Slots as slots
 use Rattle.jt_scopes.specs.Slots.{SBody, Program}
-use Rattle.jt_scopes.specs.Resolve.{expr_pool, stmt_pool, body_pool, branch_pool, body_names, ascending, slot_of, resolved_body, program}
+use Rattle.jt_scopes.specs.Resolve.{expr_pool, stmt_pool, body_pool, branch_pool, body_names, ascending, slot_of, resolved_body, resolved_choice, program}
 use Rattle.jt_scopes.specs.Names.{table}
 use Rattle.jt_scopes.specs.View.{Front, expr_view, stmt_view, body_view, choice_view}
-use Rattle.jt_scopes.specs.Scoped.{name_of, expr_in, stmt_in, body_in, choice_in, IsBranch}
+use Rattle.jt_scopes.specs.Scoped.{name_of, expr_in, stmt_in, body_in}
+use Rattle.jt_scopes.specs.declared.program.SExpr.{SExpr}
 use Rattle.jt_scopes.specs.declared.program.SStmt.{SStmt}
 use Rattle.jt_scopes.specs.declared.program.SStmt.TheVariants as s
 use Rattle.jt_scopes.specs.declared.resolving.Scope.{Scope}
@@ -29,33 +30,36 @@ use Rattle.jt_scopes.proofs.Fronts.{SBranch, body_push, choice_push, choice_same
 -- ---- slots
 
 -- whether a key has the bytes
-abbrev is : Text → String Global → Bool
-is x k = bytes_eq x (string_bytes k)
+abbrev is_text : Text → String Global → Bool
+is_text x k = bytes_eq x (string_bytes k)
 
-slot_place : (x : Text) (ks : List (String Global)) → slot_of x (map string_bytes ks) ≡ position_or_len (is x) ks
-slot_place x ks = is_position_or_len (λ l. slot_of x (map string_bytes l)) (is x) refl step ks
+slot_place : (x : Text) (ks : List (String Global)) → slot_of x (map string_bytes ks) ≡ position_or_len (is_text x) ks
+slot_place x ks = is_position_or_len (λ l. slot_of x (map string_bytes l)) (is_text x) refl step ks
   where
     through : (b : Bool) (n : ℕ) → (if b then 0 else suc n) ≡ cond b 0 (1 + n)
     through true n = refl
     through false n = omega arith
 
-    step : (k : String Global) (l : List (String Global)) → (if bytes_eq (string_bytes k) x then 0 else suc (slot_of x (map string_bytes l))) ≡ cond (is x k) 0 (1 + slot_of x (map string_bytes l))
-    step k l = ap (λ b. if b then 0 else suc (slot_of x (map string_bytes l))) (nat_list_eq_equiv.symm (string_bytes k) x) ∙ through (is x k) (slot_of x (map string_bytes l))
+    step : (k : String Global) (l : List (String Global)) → (if bytes_eq (string_bytes k) x then 0 else suc (slot_of x (map string_bytes l))) ≡ cond (is_text x k) 0 (1 + slot_of x (map string_bytes l))
+    step k l = ap (λ b. if b then 0 else suc (slot_of x (map string_bytes l))) (nat_list_eq_equiv.symm (string_bytes k) x) ∙ through (is_text x k) (slot_of x (map string_bytes l))
 
 -- the place of a name, or as many as there are
-pub slot_found : (x : Text) (ks : List (String Global)) (r : Option ℕ) (n : ℕ) → r ≡ position (is x) ks → n ≡ length ks → unwrap_or r n ≡ slot_of x (map string_bytes ks)
-slot_found x ks r n e l = through (nat_lt (position_or_len (is x) ks) (length ks)) refl e ∙ sym (slot_place x ks)
+pub slot_found : (x : Text) (ks : List (String Global)) (r : Option ℕ) (n : ℕ) → r ≡ position (is_text x) ks → n ≡ length ks → unwrap_or r n ≡ slot_of x (map string_bytes ks)
+slot_found x ks r n e l = through (nat_lt (position_or_len (is_text x) ks) (length ks)) refl e ∙ sym (slot_place x ks)
   where
-    below : position_or_len (is x) ks ≤ length ks
-    below = prefix_len-le-length (λ k. not (is x k)) ks
+    below : position_or_len (is_text x) ks ≤ length ks
+    below = prefix_len-le-length (λ k. not (is_text x k)) ks
 
-    through : (b : Bool) → nat_lt (position_or_len (is x) ks) (length ks) ≡ b → r ≡ cond b (Some (position_or_len (is x) ks)) None → unwrap_or r n ≡ position_or_len (is x) ks
+    through : (b : Bool) → nat_lt (position_or_len (is_text x) ks) (length ks) ≡ b → r ≡ cond b (Some (position_or_len (is_text x) ks)) None → unwrap_or r n ≡ position_or_len (is_text x) ks
     through true h e = ap (λ o. unwrap_or o n) e
     through false h e =
-        let same : n ≡ position_or_len (is x) ks = grind (arith, nat_tests, below) in
+        let same : n ≡ position_or_len (is_text x) ks = grind (arith, nat_tests, below) in
         ap (λ o. unwrap_or o n) e ∙ same
 
 -- ---- one statement or branch more
+
+abbrev pub choice_in : Scope → Branches → (ℕ → Front) → ℕ → Front
+choice_in scope bs other n behind = resolved_choice (name_of scope) scope.escaping (table scope.names) bs other n behind
 
 module _ (scope : Scope) where
   pub statement_built : (ss : List Stmt) (i : ℕ) (x : Stmt) (done : List SStmt) (y : SStmt) (p p' : List Tree) → i < length ss → x ≡ get_or ss i x
@@ -70,27 +74,31 @@ module _ (scope : Scope) where
       ∙ ap (λ b. body_in scope b (length p) behind) (sym (statements_left ss i x lt at)))
 
   -- the branch in front of the later ones
-  branch_joined : (b : Branch) (r : SBranch) (p p' : List Tree) (rest : Branches) (other : ℕ → Front) → IsBranch scope b (length p) r
-      → p' ≡ p ++ (expr_pool (parsed.expr_view b.1) ++ body_pool (parsed.body_view b.2.items)) → (z : SBody)
-      → joined (name_of scope) r (choice_in scope rest other (length p') slots.end) z ≡ choice_in scope (trees.branch b.0 (parsed.expr_view b.1) (parsed.body_view b.2.items) rest) other (length p) z
-  branch_joined b r p p' rest other is e z =
+  branch_joined : (b : Branch) (c' : SExpr) (d' : Vec SStmt Global) (p q p' : List Tree) (rest : Branches) (other : ℕ → Front)
+      → expr_view c' ≡ expr_in scope (parsed.expr_view b.1) (length p) → q ≡ p ++ expr_pool (parsed.expr_view b.1)
+      → ((z : SBody) → body_view (name_of scope) d'.items z ≡ body_in scope (parsed.body_view b.2.items) (length q) z) → p' ≡ q ++ body_pool (parsed.body_view b.2.items) → (z : SBody)
+      → joined (name_of scope) (b.0, c', d') (choice_in scope rest other (length p') slots.end) z ≡ choice_in scope (trees.branch b.0 (parsed.expr_view b.1) (parsed.body_view b.2.items) rest) other (length p) z
+  branch_joined b c' d' p q p' rest other h e k f z =
       let c = expr_pool (parsed.expr_view b.1) in
       let d = body_pool (parsed.body_view b.2.items) in
-      let count : length p' ≡ length p + length c + length d = omega (arith, ap length e, length-append p (c ++ d), length-append c d) in
-      let shown = λ (l : ℕ) (x : slots.SExpr) (body : SBody) (later : SBody). slots.stmt (slots.if_else (record { template = name_of scope; line = l }) x body later) z in
+      let first : length q ≡ length p + length c = ap length e ∙ length-append p c in
+      let count : length p' ≡ length p + length c + length d = ap length f ∙ length-append q d ∙ ap (λ n. n + length d) first in
+      let shown = λ (x : slots.SExpr) (body : SBody) (later : SBody). slots.stmt (slots.if_else (record { template = name_of scope; line = b.0 }) x body later) z in
       let last = λ (n : ℕ). choice_in scope rest other n slots.end in
-      ap (λ l. shown l (expr_view r.1) (body_view (name_of scope) r.2.items slots.end) (last (length p'))) is.line
-      ∙ ap (λ x. shown b.0 x (body_view (name_of scope) r.2.items slots.end) (last (length p'))) is.condition
-      ∙ ap (λ body. shown b.0 (expr_in scope (parsed.expr_view b.1) (length p)) body (last (length p'))) (is.body slots.end)
-      ∙ ap (λ n. shown b.0 (expr_in scope (parsed.expr_view b.1) (length p)) (body_in scope (parsed.body_view b.2.items) (length p + length c) slots.end) (last n)) count
+      let asked = expr_in scope (parsed.expr_view b.1) (length p) in
+      ap (λ x. shown x (body_view (name_of scope) d'.items slots.end) (last (length p'))) h
+      ∙ ap (λ body. shown asked body (last (length p'))) (k slots.end ∙ ap (λ n. body_in scope (parsed.body_view b.2.items) n slots.end) first)
+      ∙ ap (λ n. shown asked (body_in scope (parsed.body_view b.2.items) (length p + length c) slots.end) (last n)) count
 
-  pub branch_built : (bs : List Branch) (i : ℕ) (b : Branch) (done : List SBranch) (r : SBranch) (p p' : List Tree) → i < length bs → b ≡ get_or bs i b → IsBranch scope b (length p) r
-      → p' ≡ p ++ (expr_pool (parsed.expr_view b.1) ++ body_pool (parsed.body_view b.2.items)) → (other : ℕ → Front) (behind : SBody)
-      → choice_view (name_of scope) (done ++ r ∷ []) (choice_in scope (parsed.branches_view (drop (i + 1) bs)) other (length p')) behind ≡ choice_view (name_of scope) done (choice_in scope (parsed.branches_view (drop i bs)) other (length p)) behind
-  branch_built bs i b done r p p' lt at is e other behind =
+  pub branch_built : (bs : List Branch) (i : ℕ) (b : Branch) (done : List SBranch) (c' : SExpr) (d' : Vec SStmt Global) (p q p' : List Tree) → i < length bs → b ≡ get_or bs i b
+      → expr_view c' ≡ expr_in scope (parsed.expr_view b.1) (length p) → q ≡ p ++ expr_pool (parsed.expr_view b.1)
+      → ((z : SBody) → body_view (name_of scope) d'.items z ≡ body_in scope (parsed.body_view b.2.items) (length q) z) → p' ≡ q ++ body_pool (parsed.body_view b.2.items)
+      → (other : ℕ → Front) (behind : SBody)
+      → choice_view (name_of scope) (done ++ (b.0, c', d') ∷ []) (choice_in scope (parsed.branches_view (drop (i + 1) bs)) other (length p')) behind ≡ choice_view (name_of scope) done (choice_in scope (parsed.branches_view (drop i bs)) other (length p)) behind
+  branch_built bs i b done c' d' p q p' lt at h e k f other behind =
       let rest = parsed.branches_view (drop (i + 1) bs) in
-      choice_push (name_of scope) done r (choice_in scope rest other (length p')) behind
-      ∙ choice_same (name_of scope) done _ _ behind (λ z. branch_joined b r p p' rest other is e z ∙ ap (λ c. choice_in scope c other (length p) z) (sym (branches_left bs i b lt at)))
+      choice_push (name_of scope) done (b.0, c', d') (choice_in scope rest other (length p')) behind
+      ∙ choice_same (name_of scope) done _ _ behind (λ z. branch_joined b c' d' p q p' rest other h e k f z ∙ ap (λ c. choice_in scope c other (length p) z) (sym (branches_left bs i b lt at)))
 
   -- branches and the else part
   pub choice_built : (x : Stmt) (bs : Vec Branch Global) (other : Vec Stmt Global) (bs' : List Branch) (other' : List Stmt) (rs : Vec SBranch Global) (last : Vec SStmt Global) (p q : List Tree) → x ≡ stmt.If bs other → bs' ≡ bs.items → other' ≡ other.items
@@ -118,13 +126,13 @@ statement_pooled ss i x p p' lt at e =
     let rest = body_pool (parsed.body_view (drop (i + 1) ss)) in
     ap (λ l. l ++ rest) e ∙ append_assoc p (stmt_pool (parsed.stmt_view x)) rest ∙ ap (λ b. p ++ body_pool b) (sym (statements_left ss i x lt at))
 
-pub branch_pooled : (bs : List Branch) (i : ℕ) (b : Branch) (p p' : List Tree) → i < length bs → b ≡ get_or bs i b → p' ≡ p ++ (expr_pool (parsed.expr_view b.1) ++ body_pool (parsed.body_view b.2.items))
+pub branch_pooled : (bs : List Branch) (i : ℕ) (b : Branch) (p q p' : List Tree) → i < length bs → b ≡ get_or bs i b → q ≡ p ++ expr_pool (parsed.expr_view b.1) → p' ≡ q ++ body_pool (parsed.body_view b.2.items)
     → p' ++ branch_pool (parsed.branches_view (drop (i + 1) bs)) ≡ p ++ branch_pool (parsed.branches_view (drop i bs))
-branch_pooled bs i b p p' lt at e =
+branch_pooled bs i b p q p' lt at e f =
     let c = expr_pool (parsed.expr_view b.1) in
     let d = body_pool (parsed.body_view b.2.items) in
     let rest = branch_pool (parsed.branches_view (drop (i + 1) bs)) in
-    ap (λ l. l ++ rest) e ∙ append_assoc p (c ++ d) rest ∙ ap (λ l. p ++ l) (append_assoc c d rest) ∙ ap (λ x. p ++ branch_pool x) (sym (branches_left bs i b lt at))
+    ap (λ l. l ++ rest) (f ∙ ap (λ l. l ++ d) e) ∙ append_assoc (p ++ c) d rest ∙ append_assoc p c (d ++ rest) ∙ ap (λ x. p ++ branch_pool x) (sym (branches_left bs i b lt at))
 
 -- the program of the parts
 pub program_built : (t n : Text) (escaping : Bool) (b : Body) (names : List Text) (pool : List Tree) (body : SBody) → n ≡ t → names ≡ ascending (body_names b) → pool ≡ body_pool b → body ≡ resolved_body n escaping names b 0 slots.end

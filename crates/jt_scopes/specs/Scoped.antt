@@ -1,21 +1,16 @@
 -- What the parts of a template are resolved to, in the scope that the code keeps.
-use Rattle.std.specs.Prelude.{◌≡◌, ℕ, ◌+◌, List, length, map, string_bytes, Vec}
+use Rattle.std.specs.Prelude.{ℕ, List, map, string_bytes, Vec}
 use Rattle.std.specs.declared.alloc.Global.{Global}
 use Rattle.jt_value.specs.Tree.{Tree}
 use Rattle.jt_value.specs.View.{view}
 use Rattle.jt_value.specs.declared.value.Value.{Value}
 use Rattle.jt_parse.specs.Trees as trees
-use Rattle.jt_parse.specs.Trees.{Text, Body, Branches}
-use Rattle.jt_parse.specs.View as parsed
-use Rattle.jt_parse.specs.declared.tree.Expr.{Expr}
-use Rattle.jt_parse.specs.declared.tree.Stmt.{Stmt}
+use Rattle.jt_parse.specs.Trees.{Text, Body}
 use Rattle.jt_scopes.specs.Slots as slots
 use Rattle.jt_scopes.specs.Slots.{SBody}
-use Rattle.jt_scopes.specs.Resolve.{expr_pool, resolved_expr, resolved_stmt, resolved_body, resolved_choice}
+use Rattle.jt_scopes.specs.Resolve.{resolved_expr, resolved_stmt, resolved_body}
 use Rattle.jt_scopes.specs.Names.{table}
-use Rattle.jt_scopes.specs.View.{Front, expr_view, body_view}
-use Rattle.jt_scopes.specs.declared.program.SExpr.{SExpr}
-use Rattle.jt_scopes.specs.declared.program.SStmt.{SStmt}
+use Rattle.jt_scopes.specs.View.{Front}
 use Rattle.jt_scopes.specs.declared.resolving.Scope.{Scope}
 
 -- the values of a pool
@@ -34,12 +29,3 @@ module _ (scope : Scope) where
 
   abbrev pub body_in : Body → ℕ → Front
   body_in b n behind = resolved_body name_of scope.escaping (table scope.names) b n behind
-
-  abbrev pub choice_in : Branches → (ℕ → Front) → ℕ → Front
-  choice_in bs other n behind = resolved_choice name_of scope.escaping (table scope.names) bs other n behind
-
-  -- a branch with its line, its condition resolved, and its statements, the values of which stand behind the condition's
-  pub record IsBranch (b : ℕ × Expr × Vec Stmt Global) (n : ℕ) (r : ℕ × SExpr × Vec SStmt Global) : Type 0 where
-    pub line : r.0 ≡ b.0
-    pub condition : expr_view r.1 ≡ expr_in (parsed.expr_view b.1) n
-    pub body : (behind : SBody) → body_view name_of r.2.items behind ≡ body_in (parsed.body_view b.2.items) (n + length (expr_pool (parsed.expr_view b.1))) behind

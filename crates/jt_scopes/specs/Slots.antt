@@ -4,7 +4,7 @@ use Rattle.jt_value.specs.Tree as tree
 use Rattle.jt_value.specs.Tree.{Tree}
 use Rattle.jt_value.specs.Pairs.{Pairs, look}
 use Rattle.jt_parse.specs.Trees.{Text}
-use Rattle.jt_scopes.specs.Got.{Place, Got, gives, fails, deeper, bind, at}
+use Rattle.jt_scopes.specs.Got.{Place, Got, gives, deeper, bind, at}
 use Rattle.jt_scopes.specs.Meaning.{shown}
 
 pub data SExpr : Type 0 where

@@ -6,6 +6,8 @@ mod names;
 mod program;
 mod resolving;
 mod rules;
+#[cfg(test)]
+mod tests;
 
 pub use error::ScopeError;
 pub use program::{Resolved, SExpr, SStmt};

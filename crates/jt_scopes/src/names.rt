@@ -2,7 +2,7 @@
 
 ghost use Rattle.std.specs.Prelude.{◌≡◌, IfOk, IfErr};
 ghost use Rattle.jt_parse.specs.View as parsed;
-ghost use Rattle.jt_scopes.specs.Resolve.{expr_names, stmt_names, body_names, branch_names, inserted, all_inserted, ascending};
+ghost use Rattle.jt_scopes.specs.Resolve.{expr_names, stmt_names, body_names, inserted, all_inserted, ascending};
 ghost use Rattle.jt_scopes.specs.Names.{texts, table};
 ghost use Rattle.jt_scopes.specs.declared.error.ScopeError.TheVariants as error;
 
@@ -65,7 +65,10 @@ fn add_statement<'a>(names: &mut BTreeSet<&'a str>, statement: &'a Stmt) -> Resu
         Stmt::Data(_) => Ok(()),
         Stmt::Print(_, expr) => add_expression(names, expr),
         Stmt::If(branches, other) => {
-            add_branches(names, branches)?;
+            for (_, condition, body) in branches {
+                add_expression(names, condition)?;
+                add_statements(names, body)?;
+            }
             add_statements(names, other)?;
             Ok(())
         }
@@ -81,34 +84,5 @@ fn add_statements<'a>(names: &mut BTreeSet<&'a str>, body: &'a [Stmt]) -> Result
     for statement in body {
         add_statement(names, statement)?;
     }
-    Ok(())
-}
-
-/// Adds the names of branches.
-#[cycle(add)]
-fn add_branches<'a>(
-    names: &mut BTreeSet<&'a str>,
-    branches: &'a [(u32, Expr, Vec<Stmt>)],
-) -> Result<(), ScopeError>
-    ensures added { IfOk result (λ u. texts names.new.keys ≡ all_inserted (branch_names (parsed.branches_view branches.now)) (texts names.old.keys)) }
-    ensures refused { IfErr result (λ e. e ≡ error.NoMemory) }
-{
-    for branch in branches {
-        add_branch(names, branch)?;
-    }
-    Ok(())
-}
-
-/// Adds the names of a branch.
-#[cycle(add)]
-fn add_branch<'a>(
-    names: &mut BTreeSet<&'a str>,
-    branch: &'a (u32, Expr, Vec<Stmt>),
-) -> Result<(), ScopeError>
-    ensures added { IfOk result (λ u. texts names.new.keys ≡ all_inserted (body_names (parsed.body_view branch.now.2.items)) (all_inserted (expr_names (parsed.expr_view branch.now.1)) (texts names.old.keys))) }
-    ensures refused { IfErr result (λ e. e ≡ error.NoMemory) }
-{
-    add_expression(names, &branch.1)?;
-    add_statements(names, &branch.2)?;
     Ok(())
 }

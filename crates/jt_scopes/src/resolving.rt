@@ -1,16 +1,17 @@
-//! Resolves a template: its names to slots, and its literals and data to places of a pool.
+//! Resolves a chain: its names to slots, and its literals and data to places of a pool.
 
 ghost use Rattle.std.specs.Prelude.{◌≡◌, ℕ, ◌++◌, ◌∷◌, [], length, IfOk, IfErr, OnOk};
 ghost use Rattle.jt_value.specs.View.{view};
 ghost use Rattle.jt_value.specs.Pairs.{Pairs};
 ghost use Rattle.jt_parse.specs.View as parsed;
+ghost use Rattle.jt_inherit.specs.View.{chain_view};
 ghost use Rattle.jt_scopes.specs.Meaning as meaning;
 ghost use Rattle.jt_scopes.specs.Slots.{SBody, smean};
-ghost use Rattle.jt_scopes.specs.Resolve.{expr_pool, stmt_pool, body_pool, branch_pool, slot_of, program};
+ghost use Rattle.jt_scopes.specs.Resolve.{expr_pool, stmt_pool, body_pool, slot_of, program};
 ghost use Rattle.jt_scopes.specs.Names.{table};
 ghost use Rattle.jt_scopes.specs.Rules.{KeepsRules, Breaks, names_read};
-ghost use Rattle.jt_scopes.specs.View.{Front, expr_view, stmt_view, body_view, choice_view, program_of};
-ghost use Rattle.jt_scopes.specs.Scoped.{values, name_of, expr_in, stmt_in, body_in, choice_in, IsBranch};
+ghost use Rattle.jt_scopes.specs.View.{expr_view, stmt_view, body_view, program_of};
+ghost use Rattle.jt_scopes.specs.Scoped.{values, name_of, expr_in, stmt_in, body_in};
 ghost use Rattle.jt_scopes.specs.declared.error.ScopeError.TheVariants as error;
 
 use crate::error::ScopeError;
@@ -18,11 +19,12 @@ use crate::names::names_of;
 use crate::program::{Resolved, SExpr, SStmt};
 use crate::rules::check;
 use indexmap::IndexSet;
-use jt_parse::{Expr, Literal, Stmt, Template};
+use jt_inherit::Chain;
+use jt_parse::{Expr, Literal, Stmt};
 use jt_value::Value;
 use std::alloc::Global;
 
-/// What the parts of a template are resolved in.
+/// What the parts of a chain are resolved in.
 #[derive(Drop)]
 struct Scope {
     /// The name of the template.
@@ -33,29 +35,24 @@ struct Scope {
     escaping: bool,
 }
 
-/// Resolves the template of a name. Where escaping is on, what it prints is escaped, markup aside.
+/// Resolves a chain. Where its escaping is on, what it prints is escaped, markup aside.
 ///
 /// # Errors
 ///
-/// The rule that the template breaks; `NoMemory` where a growth was refused.
-pub fn resolve(
-    alloc: Global,
-    name: &str,
-    template: &Template,
-    escaping: bool,
-) -> Result<Resolved, ScopeError>
-    ensures resolved { IfOk result (λ r. program_of r ≡ program name.now escaping (parsed.body_of template.now)) }
-    ensures means { IfOk result (λ r. (context : Pairs) (n : ℕ) → smean (program_of r) context n ≡ meaning.mean escaping name.now (parsed.body_of template.now) context n) }
-    ensures lawful { OnOk result (KeepsRules (names_read (parsed.body_of template.now))) }
-    ensures refused { IfErr result (λ e. Breaks e (names_read (parsed.body_of template.now))) }
+/// The rule that the chain breaks; `NoMemory` where a growth was refused.
+pub fn resolve(alloc: Global, chain: &Chain) -> Result<Resolved, ScopeError>
+    ensures resolved { IfOk result (λ r. program_of r ≡ program (chain_view chain.now).name (chain_view chain.now).escaping (chain_view chain.now).body) }
+    ensures means { IfOk result (λ r. (context : Pairs) (n : ℕ) → smean (program_of r) context n ≡ meaning.mean (chain_view chain.now).escaping (chain_view chain.now).name (chain_view chain.now).body context n) }
+    ensures lawful { OnOk result (KeepsRules (names_read (chain_view chain.now).body)) }
+    ensures refused { IfErr result (λ e. Breaks e (names_read (chain_view chain.now).body)) }
 {
-    let statements = template.body();
+    let statements = chain.template().body();
     let names = names_of(alloc, statements)?;
     check(&names)?;
     let scope = Scope {
-        template: String::from_str(alloc, name)?,
+        template: String::from_str(alloc, chain.name())?,
         names,
-        escaping,
+        escaping: chain.autoescape(),
     };
     let mut pool = Vec::new(alloc);
     let body = resolve_statements(alloc, &scope, statements, &mut pool)?;
@@ -142,7 +139,12 @@ fn resolve_statement(
             Ok(SStmt::Print(*line, scope.escaping, printed))
         }
         Stmt::If(branches, other) => {
-            let chosen = resolve_branches(alloc, scope, branches, pool)?;
+            let mut chosen = Vec::new(alloc);
+            for (line, asked, inside) in branches {
+                let condition = resolve_expression(scope, asked, pool)?;
+                let body = resolve_statements(alloc, scope, inside, pool)?;
+                chosen.push((*line, condition, body))?;
+            }
             let last = resolve_statements(alloc, scope, other, pool)?;
             Ok(SStmt::If(chosen, last))
         }
@@ -167,41 +169,4 @@ fn resolve_statements(
         resolved.push(next)?;
     }
     Ok(resolved)
-}
-
-/// Resolves branches.
-#[cycle(resolve)]
-fn resolve_branches(
-    alloc: Global,
-    scope: &Scope,
-    branches: &[(u32, Expr, Vec<Stmt>)],
-    pool: &mut Vec<Value>,
-) -> Result<Vec<(u32, SExpr, Vec<SStmt>)>, ScopeError>
-    ensures resolved { IfOk result (λ bs. (other : ℕ → Front) (behind : SBody) → choice_view (name_of scope.now) bs.items (other (length (values pool.new))) behind ≡ choice_in scope.now (parsed.branches_view branches.now) other (length (values pool.old)) behind) }
-    ensures pooled { IfOk result (λ bs. values pool.new ≡ values pool.old ++ branch_pool (parsed.branches_view branches.now)) }
-    ensures refused { IfErr result (λ e. e ≡ error.NoMemory) }
-{
-    let mut resolved = Vec::new(alloc);
-    for branch in branches {
-        let next = resolve_branch(alloc, scope, branch, pool)?;
-        resolved.push(next)?;
-    }
-    Ok(resolved)
-}
-
-/// Resolves a branch.
-#[cycle(resolve)]
-fn resolve_branch(
-    alloc: Global,
-    scope: &Scope,
-    branch: &(u32, Expr, Vec<Stmt>),
-    pool: &mut Vec<Value>,
-) -> Result<(u32, SExpr, Vec<SStmt>), ScopeError>
-    ensures resolved { IfOk result (λ b. IsBranch scope.now branch.now (length (values pool.old)) b) }
-    ensures pooled { IfOk result (λ b. values pool.new ≡ values pool.old ++ (expr_pool (parsed.expr_view branch.now.1) ++ body_pool (parsed.body_view branch.now.2.items))) }
-    ensures refused { IfErr result (λ e. e ≡ error.NoMemory) }
-{
-    let condition = resolve_expression(scope, &branch.1, pool)?;
-    let body = resolve_statements(alloc, scope, &branch.2, pool)?;
-    Ok((branch.0, condition, body))
 }

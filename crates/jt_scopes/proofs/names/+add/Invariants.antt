@@ -8,6 +8,6 @@ abbrev pub invariant-add_statements-loop-statement : goal.invariant-add_statemen
 invariant-add_statements-loop-statement l =
     all_inserted (body_names (parsed.body_view (drop l.statement-index l.body))) (texts l.names.keys) ≡ all_inserted (body_names (parsed.body_view l.body)) (texts l.initial.names.keys)
 
-abbrev pub invariant-add_branches-loop-branch : goal.invariant-add_branches-loop-branch
-invariant-add_branches-loop-branch l =
-    all_inserted (branch_names (parsed.branches_view (drop l.branch-index l.branches))) (texts l.names.keys) ≡ all_inserted (branch_names (parsed.branches_view l.branches)) (texts l.initial.names.keys)
+abbrev pub invariant-add_statement-loop-condition : goal.invariant-add_statement-loop-condition
+invariant-add_statement-loop-condition l =
+    all_inserted (branch_names (parsed.branches_view (drop l.condition-index l.condition-items))) (texts l.names.keys) ≡ all_inserted (branch_names (parsed.branches_view l.condition-items)) (texts l.initial.names.keys)
