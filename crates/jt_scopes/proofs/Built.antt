@@ -23,7 +23,7 @@ use Rattle.jt_scopes.specs.Scoped.{name_of, expr_in, stmt_in, body_in}
 use Rattle.jt_scopes.specs.declared.program.SExpr.{SExpr}
 use Rattle.jt_scopes.specs.declared.program.SStmt.{SStmt}
 use Rattle.jt_scopes.specs.declared.program.SStmt.TheVariants as s
-use Rattle.jt_scopes.specs.declared.resolving.Scope.{Scope}
+use Rattle.jt_scopes.specs.declared.scope.Scope.{Scope}
 use Rattle.jt_scopes.proofs.Gathered.{Branch, statements_left, branches_left}
 use Rattle.jt_scopes.proofs.Fronts.{SBranch, body_push, choice_push, choice_same, joined, view-If}
 
