@@ -17,8 +17,9 @@ use Rattle.std.specs.String.{string_eq}
 use denote.Ref.{Bor}
 use Rattle.jt_parse.specs.Trees as trees
 use Rattle.jt_parse.specs.Trees.{Text, Body, Branches}
+use Rattle.jt_expr.specs.View as written
 use Rattle.jt_parse.specs.View as parsed
-use Rattle.jt_parse.specs.declared.tree.Expr.{Expr}
+use Rattle.jt_expr.specs.declared.tree.Expr.{Expr}
 use Rattle.jt_parse.specs.declared.tree.Stmt.{Stmt}
 use Rattle.jt_parse.specs.declared.tree.Stmt.TheVariants.{If}
 use Rattle.jt_parse.proofs.Views.{view-If}
@@ -59,8 +60,8 @@ abbrev pub Branch : Type 0
 Branch = ℕ × Expr × Vec Stmt Global
 
 -- what is left of branches
-pub branches_left : (bs : List Branch) (i : ℕ) (b : Branch) → i < length bs → b ≡ get_or bs i b → parsed.branches_view (drop i bs) ≡ trees.branch b.0 (parsed.expr_view b.1) (parsed.body_view b.2.items) (parsed.branches_view (drop (i + 1) bs))
-branches_left bs i b lt is = ap parsed.branches_view (drop_more bs i b lt) ∙ ap (λ (z : Branch). trees.branch z.0 (parsed.expr_view z.1) (parsed.body_view z.2.items) (parsed.branches_view (drop (i + 1) bs))) (sym is)
+pub branches_left : (bs : List Branch) (i : ℕ) (b : Branch) → i < length bs → b ≡ get_or bs i b → parsed.branches_view (drop i bs) ≡ trees.branch b.0 (written.expr_view b.1) (parsed.body_view b.2.items) (parsed.branches_view (drop (i + 1) bs))
+branches_left bs i b lt is = ap parsed.branches_view (drop_more bs i b lt) ∙ ap (λ (z : Branch). trees.branch z.0 (written.expr_view z.1) (parsed.body_view z.2.items) (parsed.branches_view (drop (i + 1) bs))) (sym is)
 
 pub statement_added : (ss : List Stmt) (i : ℕ) (s : Stmt) (ns ns' : List Text) → i < length ss → s ≡ get_or ss i s → ns' ≡ all_inserted (stmt_names (parsed.stmt_view s)) ns
     → all_inserted (body_names (parsed.body_view (drop (i + 1) ss))) ns' ≡ all_inserted (body_names (parsed.body_view (drop i ss))) ns
@@ -69,11 +70,11 @@ statement_added ss i s ns ns' lt is e =
     ap (all_inserted rest) e ∙ sym (inserted_both (stmt_names (parsed.stmt_view s)) rest ns) ∙ ap (λ b. all_inserted (body_names b) ns) (sym (statements_left ss i s lt is))
 
 pub branch_added : (bs : List Branch) (i : ℕ) (b : Branch) (ns ns' : List Text) → i < length bs → b ≡ get_or bs i b
-    → ns' ≡ all_inserted (body_names (parsed.body_view b.2.items)) (all_inserted (expr_names (parsed.expr_view b.1)) ns)
+    → ns' ≡ all_inserted (body_names (parsed.body_view b.2.items)) (all_inserted (expr_names (written.expr_view b.1)) ns)
     → all_inserted (branch_names (parsed.branches_view (drop (i + 1) bs))) ns' ≡ all_inserted (branch_names (parsed.branches_view (drop i bs))) ns
 branch_added bs i b ns ns' lt is e =
     let rest = branch_names (parsed.branches_view (drop (i + 1) bs)) in
-    let first = expr_names (parsed.expr_view b.1) in
+    let first = expr_names (written.expr_view b.1) in
     let second = body_names (parsed.body_view b.2.items) in
     ap (all_inserted rest) e ∙ sym (inserted_both second rest (all_inserted first ns)) ∙ sym (inserted_both first (second ++ rest) ns)
     ∙ ap (λ c. all_inserted (branch_names c) ns) (sym (branches_left bs i b lt is))

@@ -8,6 +8,7 @@ pub mod Slots
 pub mod Resolve
 pub mod Size
 pub mod Takes
+pub mod Known
 pub mod View
 pub mod Names
 pub mod Rules
