@@ -11,22 +11,23 @@ use Rattle.jt_value.specs.Tree.{Tree}
 use Rattle.jt_parse.specs.Trees as trees
 use Rattle.jt_parse.specs.Trees.{Text, Body, Branches}
 use Rattle.jt_expr.specs.View as written
+use Rattle.jt_expr.specs.declared.tree.Expr.{Expr}
 use Rattle.jt_parse.specs.View as parsed
 use Rattle.jt_parse.proofs.Views as parse
 use Rattle.jt_parse.specs.declared.tree.Stmt.{Stmt}
 use Rattle.jt_parse.specs.declared.tree.Stmt.TheVariants as stmt
 use Rattle.jt_scopes.specs.Slots as slots
 use Rattle.jt_scopes.specs.Slots.{SBody, Program}
-use Rattle.jt_scopes.specs.Resolve.{expr_pool, stmt_pool, body_pool, branch_pool, body_names, ascending, slot_of, resolved_body, resolved_choice, program}
+use Rattle.jt_scopes.specs.Resolve.{expr_pool, row_pool, stmt_pool, body_pool, branch_pool, body_names, ascending, slot_of, resolved_body, resolved_choice, program}
 use Rattle.jt_scopes.specs.Names.{table}
-use Rattle.jt_scopes.specs.View.{Front, expr_view, stmt_view, body_view, choice_view}
-use Rattle.jt_scopes.specs.Scoped.{name_of, expr_in, stmt_in, body_in}
+use Rattle.jt_scopes.specs.View.{Front, expr_view, row_view, stmt_view, body_view, choice_view}
+use Rattle.jt_scopes.specs.Scoped.{name_of, expr_in, row_in, stmt_in, body_in}
 use Rattle.jt_scopes.specs.declared.program.SExpr.{SExpr}
 use Rattle.jt_scopes.specs.declared.program.SStmt.{SStmt}
 use Rattle.jt_scopes.specs.declared.program.SStmt.TheVariants as s
 use Rattle.jt_scopes.specs.declared.scope.Scope.{Scope}
-use Rattle.jt_scopes.proofs.Gathered.{Branch, statements_left, branches_left}
-use Rattle.jt_scopes.proofs.Fronts.{SBranch, body_push, choice_push, choice_same, joined, view-If}
+use Rattle.jt_scopes.proofs.Gathered.{Branch, row_left, statements_left, branches_left}
+use Rattle.jt_scopes.proofs.Fronts.{SBranch, row_push, body_push, choice_push, choice_same, joined, view-If}
 
 -- ---- slots
 
@@ -142,3 +143,25 @@ program_built t n escaping b names pool body e f g h =
     let made = λ (ns : List Text) (vs : List Tree) (x : SBody). let r : Program = record { names = ns; pool = vs; routines = record { parameters = 0; locals = 0; body = x } ∷ [] } in r in
     ap (made names pool) h ∙ ap (λ n. made names pool (resolved_body n escaping names b 0 slots.end)) e ∙ ap (λ ns. made ns pool (resolved_body t escaping ns b 0 slots.end)) f
     ∙ ap (λ vs. made (ascending (body_names b)) vs (resolved_body t escaping (ascending (body_names b)) b 0 slots.end)) g
+
+-- ---- expressions
+
+pub pooled_length : (p xs : List Tree) → length (p ++ xs) ≡ length p + length xs
+pooled_length p xs = length-append p xs
+
+pub row_built : (scope : Scope) (ts : List Expr) (i : ℕ) (t : Expr) (done : List SExpr) (y : SExpr) (p p' : List Tree) → i < length ts → t ≡ get_or ts i t
+    → expr_view y ≡ expr_in scope (written.expr_view t) (length p) → p' ≡ p ++ expr_pool (written.expr_view t)
+    → row_view (done ++ y ∷ []) (row_in scope (written.exprs_view (drop (i + 1) ts)) (length p')) ≡ row_view done (row_in scope (written.exprs_view (drop i ts)) (length p))
+row_built scope ts i t done y p p' lt is h e =
+    let rest = written.exprs_view (drop (i + 1) ts) in
+    let count : length p' ≡ length p + length (expr_pool (written.expr_view t)) = ap length e ∙ length-append p (expr_pool (written.expr_view t)) in
+    row_push done y (row_in scope rest (length p'))
+    ∙ ap (λ x. row_view done (slots.item x (row_in scope rest (length p')))) h
+    ∙ ap (λ n. row_view done (slots.item (expr_in scope (written.expr_view t) (length p)) (row_in scope rest n))) count
+    ∙ ap (λ r. row_view done (row_in scope r (length p))) (sym (row_left ts i t lt is))
+
+pub row_pooled : (ts : List Expr) (i : ℕ) (t : Expr) (p p' : List Tree) → i < length ts → t ≡ get_or ts i t → p' ≡ p ++ expr_pool (written.expr_view t)
+    → p' ++ row_pool (written.exprs_view (drop (i + 1) ts)) ≡ p ++ row_pool (written.exprs_view (drop i ts))
+row_pooled ts i t p p' lt is e =
+    let rest = row_pool (written.exprs_view (drop (i + 1) ts)) in
+    ap (λ l. l ++ rest) e ∙ append_assoc p (expr_pool (written.expr_view t)) rest ∙ ap (λ r. p ++ row_pool r) (sym (row_left ts i t lt is))

@@ -1,7 +1,8 @@
 -- Where the rules are kept and each test is known, what is resolved gets as many values as it takes.
-use Rattle.std.proofs.Common.{◌≡◌, ℕ, zero, suc, ◌+◌, ◌==◌, Bool, true, false, ◌&&◌, if◌then◌else◌, List, length, Option, Some, None, refl, sym, ap, ◌∙◌, subst}
+use Rattle.std.proofs.Common.{◌≡◌, ℕ, zero, suc, ◌+◌, ◌≤◌, ◌==◌, Bool, true, false, ◌&&◌, if◌then◌else◌, List, length, Option, Some, None, refl, sym, ap, ◌∙◌, subst, arith}
 use Rattle.std.specs.Prelude.{nat_lt}
 use Rattle.std.specs.Option.{option_or}
+use Rattle.std.proofs.lemmas.Bool.Decides.{nat_tests}
 use Rattle.jt_ops.specs.declared.op_id.OpId.TheVariants as op
 use Rattle.jt_ops.specs.declared.test_id.TestId.{TestId}
 use Rattle.jt_ops.specs.OpTable.{op_operands}
@@ -96,7 +97,7 @@ turned_takes false e h = h
 turned_takes true e h = (refl, (h, tt))
 
 same_number : (m n : ℕ) → (m == n) ≡ true → m ≡ n
-same_number m n h = grind (nat_tests)
+same_number m n h = grind (arith, nat_tests, h)
 
 tested_takes : (t : Option TestId) (ts : Exprs) (ps : Pairs) (es : SRow) → IsTest t → test_broken t ts ps ≡ None → row_count es ≡ suc (count ts) → RowTakes es → ExprTakes (tested_by t es)
 tested_takes None ts ps es k h c r = absurd k
@@ -109,7 +110,10 @@ range_takes zero h k = absurd (cc)
 range_takes (suc zero) h k = refl
 range_takes (suc (suc zero)) h k = refl
 range_takes (suc (suc (suc zero))) h k = refl
-range_takes (suc (suc (suc (suc n)))) h k = absurd (cc)
+range_takes (suc (suc (suc (suc n)))) h k = absurd (never (suc (suc (suc (suc n)))) (omega arith) k)
+  where
+    never : (m : ℕ) → 4 ≤ m → nat_lt m 4 ≡ true → ⊥
+    never m le e = grind (arith, nat_tests)
 
 called_takes : (b : Bool) (f : Option ScopeError) (ts : Exprs) (ps : Pairs) → (if b then range_broken ts ps else option_or f (Some error.NotCallable)) ≡ None → op_operands (range_of (count ts)) ≡ count ts
 called_takes false f ts ps h = absurd (never_some f error.NotCallable h)

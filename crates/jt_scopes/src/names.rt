@@ -1,6 +1,6 @@
 //! The names that a template reads, each once, in ascending order.
 
-ghost use Rattle.std.specs.Prelude.{◌≡◌, ◌++◌, IfOk, IfErr};
+ghost use Rattle.std.specs.Prelude.{◌≡◌, IfOk, IfErr};
 ghost use Rattle.jt_parse.specs.View as parsed;
 ghost use Rattle.jt_expr.specs.View.{expr_view, exprs_view, pairs_view};
 ghost use Rattle.jt_scopes.specs.Resolve.{expr_names, row_names, pair_names, stmt_names, body_names, inserted, all_inserted, ascending};
@@ -47,6 +47,7 @@ fn add_name<'a>(names: &mut BTreeSet<&'a str>, name: &'a str) -> Result<(), Scop
 }
 
 /// Adds the names of an expression.
+#[tactic(auto, using(crate::proofs::Gathered::inserted_both, crate::proofs::Shown::shown_Map, crate::proofs::Shown::shown_Call, crate::proofs::Shown::shown_Filter, crate::proofs::Shown::shown_Test))]
 #[cycle(gather)]
 fn add_expression<'a>(names: &mut BTreeSet<&'a str>, expr: &'a Expr) -> Result<(), ScopeError>
     ensures added { IfOk result (λ u. texts names.new.keys ≡ all_inserted (expr_names (expr_view expr.now)) (texts names.old.keys)) }
@@ -59,61 +60,46 @@ fn add_expression<'a>(names: &mut BTreeSet<&'a str>, expr: &'a Expr) -> Result<(
         Expr::List(row) => add_row(names, row),
         Expr::Map(pairs) => add_pairs(names, pairs),
         Expr::Attribute(value, _) => add_expression(names, value),
-        Expr::Item(value, index) => add_two(names, value, index),
-        Expr::Call(_, row, pairs) => add_arguments(names, row, pairs),
-        Expr::Filter(value, _, row, pairs) => add_applied(names, value, row, pairs),
-        Expr::Test(value, _, _, row, pairs) => add_applied(names, value, row, pairs),
+        Expr::Item(value, index) => {
+            add_expression(names, value)?;
+            add_expression(names, index)?;
+            Ok(())
+        }
+        Expr::Call(_, row, pairs) => {
+            add_row(names, row)?;
+            add_pairs(names, pairs)?;
+            Ok(())
+        }
+        Expr::Filter(value, _, row, pairs) => {
+            add_expression(names, value)?;
+            add_row(names, row)?;
+            add_pairs(names, pairs)?;
+            Ok(())
+        }
+        Expr::Test(value, _, _, row, pairs) => {
+            add_expression(names, value)?;
+            add_row(names, row)?;
+            add_pairs(names, pairs)?;
+            Ok(())
+        }
         Expr::Unary(_, operand) => add_expression(names, operand),
-        Expr::Binary(_, left, right) => add_two(names, left, right),
-        Expr::When(condition, value) => add_two(names, condition, value),
+        Expr::Binary(_, left, right) => {
+            add_expression(names, left)?;
+            add_expression(names, right)?;
+            Ok(())
+        }
+        Expr::When(condition, value) => {
+            add_expression(names, condition)?;
+            add_expression(names, value)?;
+            Ok(())
+        }
         Expr::Choice(condition, value, other) => {
             add_expression(names, condition)?;
-            add_two(names, value, other)?;
+            add_expression(names, value)?;
+            add_expression(names, other)?;
             Ok(())
         }
     }
-}
-
-/// Adds the names of two expressions.
-#[cycle(gather)]
-fn add_two<'a>(names: &mut BTreeSet<&'a str>, a: &'a Expr, b: &'a Expr) -> Result<(), ScopeError>
-    ensures added { IfOk result (λ u. texts names.new.keys ≡ all_inserted (expr_names (expr_view a.now) ++ expr_names (expr_view b.now)) (texts names.old.keys)) }
-    ensures refused { IfErr result (λ e. e ≡ error.NoMemory) }
-{
-    add_expression(names, a)?;
-    add_expression(names, b)?;
-    Ok(())
-}
-
-/// Adds the names of what is applied to a value with arguments.
-#[cycle(gather)]
-fn add_applied<'a>(
-    names: &mut BTreeSet<&'a str>,
-    value: &'a Expr,
-    row: &'a [Expr],
-    pairs: &'a [(String, Expr)],
-) -> Result<(), ScopeError>
-    ensures added { IfOk result (λ u. texts names.new.keys ≡ all_inserted (expr_names (expr_view value.now) ++ (row_names (exprs_view row.now) ++ pair_names (pairs_view pairs.now))) (texts names.old.keys)) }
-    ensures refused { IfErr result (λ e. e ≡ error.NoMemory) }
-{
-    add_expression(names, value)?;
-    add_arguments(names, row, pairs)?;
-    Ok(())
-}
-
-/// Adds the names of arguments.
-#[cycle(gather)]
-fn add_arguments<'a>(
-    names: &mut BTreeSet<&'a str>,
-    row: &'a [Expr],
-    pairs: &'a [(String, Expr)],
-) -> Result<(), ScopeError>
-    ensures added { IfOk result (λ u. texts names.new.keys ≡ all_inserted (row_names (exprs_view row.now) ++ pair_names (pairs_view pairs.now)) (texts names.old.keys)) }
-    ensures refused { IfErr result (λ e. e ≡ error.NoMemory) }
-{
-    add_row(names, row)?;
-    add_pairs(names, pairs)?;
-    Ok(())
 }
 
 /// Adds the names of a row of expressions.

@@ -33,6 +33,7 @@ fn unless(right: bool) -> Option<ScopeError>
 }
 
 /// What the arguments of `range` break.
+#[tactic(auto, using(crate::proofs::Shown::counted, crate::proofs::Shown::keyless))]
 fn range_broken(row: &[Expr], pairs: &[(String, Expr)]) -> Option<ScopeError>
     ensures { result ≡ rules.range_broken (exprs_view row.now) (pairs_view pairs.now) }
 {
@@ -41,6 +42,7 @@ fn range_broken(row: &[Expr], pairs: &[(String, Expr)]) -> Option<ScopeError>
 }
 
 /// What the arguments of a test break.
+#[tactic(auto, using(crate::proofs::Shown::counted, crate::proofs::Shown::keyless))]
 fn test_broken(name: &str, row: &[Expr], pairs: &[(String, Expr)]) -> Option<ScopeError>
     ensures { result ≡ rules.test_broken (test_named name.now) (exprs_view row.now) (pairs_view pairs.now) }
 {
@@ -59,6 +61,7 @@ fn names_range(expr: &Expr) -> bool
 }
 
 /// The first rule that an expression breaks.
+#[tactic(auto, using(crate::proofs::Shown::shown_Map, crate::proofs::Shown::shown_Call, crate::proofs::Shown::shown_Filter, crate::proofs::Shown::shown_Test))]
 #[cycle(broken)]
 fn broken(expr: &Expr) -> Option<ScopeError>
     ensures { result ≡ rules.broken (expr_view expr.now) }
@@ -72,11 +75,14 @@ fn broken(expr: &Expr) -> Option<ScopeError>
         Expr::Attribute(value, _) => broken(value),
         Expr::Item(value, index) => broken(value).or(broken(index)),
         Expr::Call(called, row, pairs) => {
-            call_broken(called, row, pairs).or(arguments_broken(row, pairs))
+            call_broken(called, row, pairs).or(row_broken(row).or(pairs_broken(pairs)))
         }
-        Expr::Filter(value, _, row, pairs) => broken(value).or(arguments_broken(row, pairs)),
+        Expr::Filter(value, _, row, pairs) => {
+            broken(value).or(row_broken(row).or(pairs_broken(pairs)))
+        }
         Expr::Test(value, _, name, row, pairs) => {
-            test_broken(name, row, pairs).or(broken(value).or(arguments_broken(row, pairs)))
+            let called = test_broken(name, row, pairs);
+            called.or(broken(value).or(row_broken(row).or(pairs_broken(pairs))))
         }
         Expr::Unary(_, operand) => broken(operand),
         Expr::Binary(_, left, right) => broken(left).or(broken(right)),
@@ -101,14 +107,6 @@ fn call_broken(
     } else {
         broken(called).or(Some(ScopeError::NotCallable))
     }
-}
-
-/// The first rule that arguments break.
-#[cycle(broken)]
-fn arguments_broken(row: &[Expr], pairs: &[(String, Expr)]) -> Option<ScopeError>
-    ensures { result ≡ option_or (rules.row_broken (exprs_view row.now)) (rules.pairs_broken (pairs_view pairs.now)) }
-{
-    row_broken(row).or(pairs_broken(pairs))
 }
 
 /// The first rule that a row of expressions breaks.
