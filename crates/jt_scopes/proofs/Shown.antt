@@ -1,10 +1,12 @@
 -- Expressions as they are written, by their forms, and what a caller of a function counts in them.
-use Rattle.std.proofs.Common.{◌≡◌, ℕ, suc, Bool, List, [], ◌∷◌, length, refl, ap, nat_eq, Vec, Box, String, Global, string_bytes}
+use Rattle.std.proofs.Common.{◌≡◌, ℕ, suc, Bool, false, List, [], ◌∷◌, length, refl, sym, ap, ◌∙◌, arith, nat_eq, Vec, Box, String, Global, string_bytes}
+use Rattle.std.proofs.lemmas.Bool.Decides.{nat_tests}
 use Rattle.jt_expr.specs.Trees as trees
+use Rattle.jt_expr.specs.declared.tree.BinaryOperator.{BinaryOperator}
 use Rattle.jt_expr.specs.View.{expr_view, exprs_view, pairs_view}
 use Rattle.jt_expr.specs.declared.tree.Expr.{Expr}
 use Rattle.jt_expr.specs.declared.tree.Expr.TheVariants as e
-use Rattle.jt_expr.proofs.Views.{view-Map, view-Call, view-Filter, view-Test}
+use Rattle.jt_expr.proofs.Views.{view-Item, view-Map, view-Call, view-Filter, view-Test, view-Binary, view-When, view-Choice}
 use Rattle.jt_scopes.specs.Resolve.{count}
 use Rattle.jt_scopes.specs.Rules.{no_keywords}
 
@@ -26,4 +28,29 @@ counted (t ∷ ts) = ap suc (counted ts)
 
 pub keyless : (ps : List (String Global × Expr)) → no_keywords (pairs_view ps) ≡ nat_eq (length ps) 0
 keyless [] = refl
-keyless (p ∷ ps) = refl
+keyless (p ∷ ps) = sym (some_left (length ps))
+  where
+    some_left : (n : ℕ) → nat_eq (suc n) 0 ≡ false
+    some_left n = grind (arith, nat_tests)
+
+-- ---- by what stands behind the references
+
+pub shown_item : (x a b : Expr) (p q : Box Expr Global) → x ≡ e.Item p q → a ≡ p.value → b ≡ q.value → trees.item (expr_view a) (expr_view b) ≡ expr_view x
+shown_item x a b p q is f g = ap (λ z. trees.item (expr_view z) (expr_view b)) f ∙ ap (λ z. trees.item (expr_view p.value) (expr_view z)) g ∙ sym (ap expr_view is ∙ view-Item p q)
+
+pub shown_binary : (x a b : Expr) (o : BinaryOperator) (p q : Box Expr Global) → x ≡ e.Binary o p q → a ≡ p.value → b ≡ q.value → trees.binary o (expr_view a) (expr_view b) ≡ expr_view x
+shown_binary x a b o p q is f g = ap (λ z. trees.binary o (expr_view z) (expr_view b)) f ∙ ap (λ z. trees.binary o (expr_view p.value) (expr_view z)) g ∙ sym (ap expr_view is ∙ view-Binary o p q)
+
+pub shown_when : (x a b : Expr) (p q : Box Expr Global) → x ≡ e.When p q → a ≡ p.value → b ≡ q.value → trees.when (expr_view a) (expr_view b) ≡ expr_view x
+shown_when x a b p q is f g = ap (λ z. trees.when (expr_view z) (expr_view b)) f ∙ ap (λ z. trees.when (expr_view p.value) (expr_view z)) g ∙ sym (ap expr_view is ∙ view-When p q)
+
+pub shown_choice : (x a b c : Expr) (p q r : Box Expr Global) → x ≡ e.Choice p q r → a ≡ p.value → b ≡ q.value → c ≡ r.value → trees.choice (expr_view a) (expr_view b) (expr_view c) ≡ expr_view x
+shown_choice x a b c p q r is f g h =
+    ap (λ z. trees.choice (expr_view z) (expr_view b) (expr_view c)) f ∙ ap (λ z. trees.choice (expr_view p.value) (expr_view z) (expr_view c)) g
+    ∙ ap (λ z. trees.choice (expr_view p.value) (expr_view q.value) (expr_view z)) h ∙ sym (ap expr_view is ∙ view-Choice p q r)
+
+pub shown_test : (x a : Expr) (n : Bool) (k : String Global) (us : List Expr) (qs : List (String Global × Expr)) (p : Box Expr Global) (ts : Vec Expr Global) (ps : Vec (String Global × Expr) Global)
+    → x ≡ e.Test p n k ts ps → a ≡ p.value → us ≡ ts.items → qs ≡ ps.items → trees.test (expr_view a) n (string_bytes k) (exprs_view us) (pairs_view qs) ≡ expr_view x
+shown_test x a n k us qs p ts ps is f g h =
+    ap (λ z. trees.test (expr_view z) n (string_bytes k) (exprs_view us) (pairs_view qs)) f ∙ ap (λ z. trees.test (expr_view p.value) n (string_bytes k) (exprs_view z) (pairs_view qs)) g
+    ∙ ap (λ z. trees.test (expr_view p.value) n (string_bytes k) (exprs_view ts.items) (pairs_view z)) h ∙ sym (ap expr_view is ∙ view-Test p n k ts ps)

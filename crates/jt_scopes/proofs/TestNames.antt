@@ -37,11 +37,11 @@ one_of p t.Undefined h = list_any_at p tests 19 t.Boolean (omega arith) h
 -- what alone passes is found
 found_here : (p : TestId → Bool) (i : TestId) → ((j : TestId) → p j ≡ true → j ≡ i) → (is : List TestId) → list_any p is ≡ true → find p is ≡ Some i
 found_here p i only [] h = absurd (cc)
-found_here p i only (j ∷ js) h = through (p j) refl h
+found_here p i only (j ∷ js) h = through (p j) refl h (found_here p i only js)
   where
-    through : (b : Bool) → p j ≡ b → b || list_any p js ≡ true → cond b (Some j) (find p js) ≡ Some i
-    through true e k = ap Some (only j e)
-    through false e k = found_here p i only js k
+    through : (b : Bool) → p j ≡ b → b || list_any p js ≡ true → (list_any p js ≡ true → find p js ≡ Some i) → cond b (Some j) (find p js) ≡ Some i
+    through true e k f = ap Some (only j e)
+    through false e k f = f k
 
 none_found : (p : TestId → Bool) (is : List TestId) → ((i : TestId) → p i ≡ false) → find p is ≡ None
 none_found p [] f = refl
