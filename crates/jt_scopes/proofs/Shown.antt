@@ -1,12 +1,19 @@
 -- Expressions as they are written, by their forms, and what a caller of a function counts in them.
-use Rattle.std.proofs.Common.{◌≡◌, ℕ, suc, Bool, false, List, [], ◌∷◌, length, refl, sym, ap, ◌∙◌, arith, nat_eq, Vec, Box, String, Global, string_bytes}
+use Rattle.std.proofs.Common.{◌≡◌, ℕ, suc, Bool, false, List, [], ◌∷◌, length, refl, sym, ap, ◌∙◌, arith, nat_eq, Option, Vec, Box, String, Global, string_bytes}
 use Rattle.std.proofs.lemmas.Bool.Decides.{nat_tests}
+use Rattle.std.specs.Option.{option_or}
 use Rattle.jt_expr.specs.Trees as trees
+use Rattle.jt_parse.specs.Trees as written
+use Rattle.jt_parse.specs.View as parsed
+use Rattle.jt_parse.specs.declared.tree.Stmt.{Stmt}
+use Rattle.jt_parse.specs.declared.tree.Stmt.TheVariants as statement
+use Rattle.jt_parse.proofs.Views.{view-If}
+use Rattle.jt_scopes.specs.declared.error.ScopeError.{ScopeError}
 use Rattle.jt_expr.specs.declared.tree.BinaryOperator.{BinaryOperator}
 use Rattle.jt_expr.specs.View.{expr_view, exprs_view, pairs_view}
 use Rattle.jt_expr.specs.declared.tree.Expr.{Expr}
 use Rattle.jt_expr.specs.declared.tree.Expr.TheVariants as e
-use Rattle.jt_expr.proofs.Views.{view-Item, view-Map, view-Call, view-Filter, view-Test, view-Binary, view-When, view-Choice}
+use Rattle.jt_expr.proofs.Views.{view-Attribute, view-Item, view-Map, view-Call, view-Filter, view-Test, view-Binary, view-When, view-Choice}
 use Rattle.jt_scopes.specs.Resolve.{count}
 use Rattle.jt_scopes.specs.Rules.{no_keywords}
 
@@ -54,3 +61,29 @@ pub shown_test : (x a : Expr) (n : Bool) (k : String Global) (us : List Expr) (q
 shown_test x a n k us qs p ts ps is f g h =
     ap (λ z. trees.test (expr_view z) n (string_bytes k) (exprs_view us) (pairs_view qs)) f ∙ ap (λ z. trees.test (expr_view p.value) n (string_bytes k) (exprs_view z) (pairs_view qs)) g
     ∙ ap (λ z. trees.test (expr_view p.value) n (string_bytes k) (exprs_view ts.items) (pairs_view z)) h ∙ sym (ap expr_view is ∙ view-Test p n k ts ps)
+
+pub shown_call : (x f : Expr) (us : List Expr) (qs : List (String Global × Expr)) (p : Box Expr Global) (ts : Vec Expr Global) (ps : Vec (String Global × Expr) Global)
+    → x ≡ e.Call p ts ps → f ≡ p.value → us ≡ ts.items → qs ≡ ps.items → trees.call (expr_view f) (exprs_view us) (pairs_view qs) ≡ expr_view x
+shown_call x f us qs p ts ps is g h k =
+    ap (λ z. trees.call (expr_view z) (exprs_view us) (pairs_view qs)) g ∙ ap (λ z. trees.call (expr_view p.value) (exprs_view z) (pairs_view qs)) h
+    ∙ ap (λ z. trees.call (expr_view p.value) (exprs_view ts.items) (pairs_view z)) k ∙ sym (ap expr_view is ∙ view-Call p ts ps)
+
+pub shown_filter : (x a : Expr) (k : String Global) (us : List Expr) (qs : List (String Global × Expr)) (p : Box Expr Global) (ts : Vec Expr Global) (ps : Vec (String Global × Expr) Global)
+    → x ≡ e.Filter p k ts ps → a ≡ p.value → us ≡ ts.items → qs ≡ ps.items → trees.filter (expr_view a) (string_bytes k) (exprs_view us) (pairs_view qs) ≡ expr_view x
+shown_filter x a k us qs p ts ps is f g h =
+    ap (λ z. trees.filter (expr_view z) (string_bytes k) (exprs_view us) (pairs_view qs)) f ∙ ap (λ z. trees.filter (expr_view p.value) (string_bytes k) (exprs_view z) (pairs_view qs)) g
+    ∙ ap (λ z. trees.filter (expr_view p.value) (string_bytes k) (exprs_view ts.items) (pairs_view z)) h ∙ sym (ap expr_view is ∙ view-Filter p k ts ps)
+
+pub shown_map : (x : Expr) (qs : List (String Global × Expr)) (ps : Vec (String Global × Expr) Global) → x ≡ e.Map ps → qs ≡ ps.items → trees.map_of (pairs_view qs) ≡ expr_view x
+shown_map x qs ps is h = ap (λ z. trees.map_of (pairs_view z)) h ∙ sym (ap expr_view is ∙ view-Map ps)
+
+pub shown_attribute : (x a : Expr) (p : Box Expr Global) (k : String Global) → x ≡ e.Attribute p k → a ≡ p.value → trees.attribute (expr_view a) (string_bytes k) ≡ expr_view x
+shown_attribute x a p k is f = ap (λ z. trees.attribute (expr_view z) (string_bytes k)) f ∙ sym (ap expr_view is ∙ view-Attribute p k)
+
+pub shown_If : (bs : Vec (ℕ × Expr × Vec Stmt Global) Global) (other : Vec Stmt Global) → parsed.stmt_view (statement.If bs other) ≡ written.choose (parsed.branches_view bs.items) (parsed.body_view other.items)
+shown_If bs other = view-If bs other
+
+-- ---- the first of two
+
+pub or_both : (r r' s s' : Option ScopeError) → r ≡ r' → s ≡ s' → option_or r s ≡ option_or r' s'
+or_both r r' s s' h k = ap (λ z. option_or z s) h ∙ ap (λ z. option_or r' z) k

@@ -136,6 +136,7 @@ fn pairs_broken(pairs: &[(String, Expr)]) -> Option<ScopeError>
 }
 
 /// The first rule that a statement breaks.
+#[tactic(auto, using(crate::proofs::Shown::shown_If))]
 #[cycle(body)]
 fn statement_broken(statement: &Stmt) -> Option<ScopeError>
     ensures { result ≡ rules.stmt_broken (parsed.stmt_view statement.now) }
@@ -143,21 +144,15 @@ fn statement_broken(statement: &Stmt) -> Option<ScopeError>
     match statement {
         Stmt::Data(_) => None,
         Stmt::Print(_, expr) => broken(expr),
-        Stmt::If(branches, other) => branches_broken(branches).or(body_broken(other)),
-    }
-}
-
-/// The first rule that branches break.
-#[cycle(body)]
-fn branches_broken(branches: &[(u32, Expr, Vec<Stmt>)]) -> Option<ScopeError>
-    ensures { result ≡ rules.branches_broken (parsed.branches_view branches.now) }
-{
-    for (_, condition, body) in branches {
-        if let Some(rule) = broken(condition).or(body_broken(body)) {
-            return Some(rule);
+        Stmt::If(branches, other) => {
+            for (_, condition, inside) in branches {
+                if let Some(rule) = broken(condition).or(body_broken(inside)) {
+                    return Some(rule);
+                }
+            }
+            body_broken(other)
         }
     }
-    None
 }
 
 /// The first rule that statements break.
