@@ -243,11 +243,11 @@ module _ (template : Text) (escaping : Bool) (context : Pairs) (call : Calls) (s
     values_same (attribute e k) n out here has =
         let last = pool_back pool n (expr_pool e) (tree.text k ∷ []) has in
         two_same op.Item (resolved_expr template escaping names e n) (slots.pooled (n + length (expr_pool e))) (value escaping (top context) e) (gives (tree.text k)) out
-          (values_same e n out here (pool_front pool n (expr_pool e) (tree.text k ∷ []) has)) (ap gives last.0)
+        (values_same e n out here (pool_front pool n (expr_pool e) (tree.text k ∷ []) has)) (ap gives last.0)
     values_same (item e i) n out here has =
         two_same op.Item (resolved_expr template escaping names e n) (resolved_expr template escaping names i (n + length (expr_pool e))) (value escaping (top context) e) (value escaping (top context) i) out
-          (values_same e n out (among_front (expr_names e) (expr_names i) names here) (pool_front pool n (expr_pool e) (expr_pool i) has))
-          (values_same i (n + length (expr_pool e)) out (among_back (expr_names e) (expr_names i) names here) (pool_back pool n (expr_pool e) (expr_pool i) has))
+        (values_same e n out (among_front (expr_names e) (expr_names i) names here) (pool_front pool n (expr_pool e) (expr_pool i) has))
+        (values_same i (n + length (expr_pool e)) out (among_back (expr_names e) (expr_names i) names here) (pool_back pool n (expr_pool e) (expr_pool i) has))
     values_same (written.call f ts ps) n out here has =
         ap (λ g. bind g (λ vs. checked (operators.operation (range_of (count ts)) vs))) (row_same ts n out (among_front (row_names ts) (pair_names ps) names here) has)
         ∙ ranges_same (values escaping (top context) ts) (count ts)
@@ -255,48 +255,48 @@ module _ (template : Text) (escaping : Bool) (context : Pairs) (call : Calls) (s
     values_same (test e t x ts ps) n out here has =
         let back = among_back (expr_names e) (row_names ts ++ pair_names ps) names here in
         turned_same t (tested_by (test_named x) (slots.item (resolved_expr template escaping names e n) (resolved_row template escaping names ts (n + length (expr_pool e)))))
-          (asked (test_named x) (Before (value escaping (top context) e) (values escaping (top context) ts))) out
-          (asked_same (test_named x) (slots.item (resolved_expr template escaping names e n) (resolved_row template escaping names ts (n + length (expr_pool e)))) (Before (value escaping (top context) e) (values escaping (top context) ts)) out
-            (before_same (resolved_expr template escaping names e n) (resolved_row template escaping names ts (n + length (expr_pool e))) (value escaping (top context) e) (values escaping (top context) ts) out
-              (values_same e n out (among_front (expr_names e) (row_names ts ++ pair_names ps) names here) (pool_front pool n (expr_pool e) (row_pool ts) has))
-              (row_same ts (n + length (expr_pool e)) out (among_front (row_names ts) (pair_names ps) names back) (pool_back pool n (expr_pool e) (row_pool ts) has))))
+        (asked (test_named x) (Before (value escaping (top context) e) (values escaping (top context) ts))) out
+        (asked_same (test_named x) (slots.item (resolved_expr template escaping names e n) (resolved_row template escaping names ts (n + length (expr_pool e)))) (Before (value escaping (top context) e) (values escaping (top context) ts)) out
+        (before_same (resolved_expr template escaping names e n) (resolved_row template escaping names ts (n + length (expr_pool e))) (value escaping (top context) e) (values escaping (top context) ts) out
+        (values_same e n out (among_front (expr_names e) (row_names ts ++ pair_names ps) names here) (pool_front pool n (expr_pool e) (row_pool ts) has))
+        (row_same ts (n + length (expr_pool e)) out (among_front (row_names ts) (pair_names ps) names back) (pool_back pool n (expr_pool e) (row_pool ts) has))))
     values_same (unary o e) n out here has =
         on_one (seen (resolved_expr template escaping names e n) out) (operated (unary_operation o))
         ∙ ap (λ x. bind x (λ v. operated (unary_operation o) (v ∷ []))) (values_same e n out here has)
     values_same (binary o e f) n out here has =
         form_same (form escaping o) (resolved_expr template escaping names e n) (resolved_expr template escaping names f (n + length (expr_pool e))) (value escaping (top context) e) (value escaping (top context) f) out
-          (values_same e n out (among_front (expr_names e) (expr_names f) names here) (pool_front pool n (expr_pool e) (expr_pool f) has))
-          (values_same f (n + length (expr_pool e)) out (among_back (expr_names e) (expr_names f) names here) (pool_back pool n (expr_pool e) (expr_pool f) has))
+        (values_same e n out (among_front (expr_names e) (expr_names f) names here) (pool_front pool n (expr_pool e) (expr_pool f) has))
+        (values_same f (n + length (expr_pool e)) out (among_back (expr_names e) (expr_names f) names here) (pool_back pool n (expr_pool e) (expr_pool f) has))
     values_same (when c e) n out here has =
         let rest = pool_back pool n (expr_pool c) (expr_pool e ++ tree.undefined ∷ []) has in
         let last = pool_back pool (n + length (expr_pool c)) (expr_pool e) (tree.undefined ∷ []) rest in
         choice_value_same (resolved_expr template escaping names c n) (resolved_expr template escaping names e (n + length (expr_pool c))) (slots.pooled (n + length (expr_pool c) + length (expr_pool e))) (value escaping (top context) c) (value escaping (top context) e) (gives tree.undefined) out
-          (values_same c n out (among_front (expr_names c) (expr_names e) names here) (pool_front pool n (expr_pool c) (expr_pool e ++ tree.undefined ∷ []) has))
-          (values_same e (n + length (expr_pool c)) out (among_back (expr_names c) (expr_names e) names here) (pool_front pool (n + length (expr_pool c)) (expr_pool e) (tree.undefined ∷ []) rest))
-          (ap gives last.0)
+        (values_same c n out (among_front (expr_names c) (expr_names e) names here) (pool_front pool n (expr_pool c) (expr_pool e ++ tree.undefined ∷ []) has))
+        (values_same e (n + length (expr_pool c)) out (among_back (expr_names c) (expr_names e) names here) (pool_front pool (n + length (expr_pool c)) (expr_pool e) (tree.undefined ∷ []) rest))
+        (ap gives last.0)
     values_same (choice c e f) n out here has =
         let rest = pool_back pool n (expr_pool c) (expr_pool e ++ expr_pool f) has in
         let back = among_back (expr_names c) (expr_names e ++ expr_names f) names here in
         choice_value_same (resolved_expr template escaping names c n) (resolved_expr template escaping names e (n + length (expr_pool c))) (resolved_expr template escaping names f (n + length (expr_pool c) + length (expr_pool e))) (value escaping (top context) c) (value escaping (top context) e) (value escaping (top context) f) out
-          (values_same c n out (among_front (expr_names c) (expr_names e ++ expr_names f) names here) (pool_front pool n (expr_pool c) (expr_pool e ++ expr_pool f) has))
-          (values_same e (n + length (expr_pool c)) out (among_front (expr_names e) (expr_names f) names back) (pool_front pool (n + length (expr_pool c)) (expr_pool e) (expr_pool f) rest))
-          (values_same f (n + length (expr_pool c) + length (expr_pool e)) out (among_back (expr_names e) (expr_names f) names back) (pool_back pool (n + length (expr_pool c)) (expr_pool e) (expr_pool f) rest))
+        (values_same c n out (among_front (expr_names c) (expr_names e ++ expr_names f) names here) (pool_front pool n (expr_pool c) (expr_pool e ++ expr_pool f) has))
+        (values_same e (n + length (expr_pool c)) out (among_front (expr_names e) (expr_names f) names back) (pool_front pool (n + length (expr_pool c)) (expr_pool e) (expr_pool f) rest))
+        (values_same f (n + length (expr_pool c) + length (expr_pool e)) out (among_back (expr_names e) (expr_names f) names back) (pool_back pool (n + length (expr_pool c)) (expr_pool e) (expr_pool f) rest))
 
     row_same : (ts : Exprs) (n : ℕ) (out : Text) → AllAmong (row_names ts) names → PoolHas pool n (row_pool ts) → seen_row (resolved_row template escaping names ts n) out ≡ values escaping (top context) ts
     row_same no_exprs n out here has = refl
     row_same (expr e ts) n out here has =
         before_same (resolved_expr template escaping names e n) (resolved_row template escaping names ts (n + length (expr_pool e))) (value escaping (top context) e) (values escaping (top context) ts) out
-          (values_same e n out (among_front (expr_names e) (row_names ts) names here) (pool_front pool n (expr_pool e) (row_pool ts) has))
-          (row_same ts (n + length (expr_pool e)) out (among_back (expr_names e) (row_names ts) names here) (pool_back pool n (expr_pool e) (row_pool ts) has))
+        (values_same e n out (among_front (expr_names e) (row_names ts) names here) (pool_front pool n (expr_pool e) (row_pool ts) has))
+        (row_same ts (n + length (expr_pool e)) out (among_back (expr_names e) (row_names ts) names here) (pool_back pool n (expr_pool e) (row_pool ts) has))
 
     pairs_same : (ps : Entries) (n : ℕ) (out : Text) → AllAmong (pair_names ps) names → PoolHas pool n (pair_pool ps) → seen_row (resolved_pairs template escaping names ps n) out ≡ entries escaping (top context) ps
     pairs_same no_pairs n out here has = refl
     pairs_same (pair k e ps) n out here has =
         before_same (slots.pooled n) (slots.item (resolved_expr template escaping names e (n + 1)) (resolved_pairs template escaping names ps (n + 1 + length (expr_pool e)))) (gives (tree.text k)) (Before (value escaping (top context) e) (entries escaping (top context) ps)) out
-          (ap gives has.0)
-          (before_same (resolved_expr template escaping names e (n + 1)) (resolved_pairs template escaping names ps (n + 1 + length (expr_pool e))) (value escaping (top context) e) (entries escaping (top context) ps) out
-            (values_same e (n + 1) out (among_front (expr_names e) (pair_names ps) names here) (pool_front pool (n + 1) (expr_pool e) (pair_pool ps) has.1))
-            (pairs_same ps (n + 1 + length (expr_pool e)) out (among_back (expr_names e) (pair_names ps) names here) (pool_back pool (n + 1) (expr_pool e) (pair_pool ps) has.1)))
+        (ap gives has.0)
+        (before_same (resolved_expr template escaping names e (n + 1)) (resolved_pairs template escaping names ps (n + 1 + length (expr_pool e))) (value escaping (top context) e) (entries escaping (top context) ps) out
+        (values_same e (n + 1) out (among_front (expr_names e) (pair_names ps) names here) (pool_front pool (n + 1) (expr_pool e) (pair_pool ps) has.1))
+        (pairs_same ps (n + 1 + length (expr_pool e)) out (among_back (expr_names e) (pair_names ps) names here) (pool_back pool (n + 1) (expr_pool e) (pair_pool ps) has.1)))
         ∙ entry_same (value escaping (top context) e) (entries escaping (top context) ps) (tree.text k)
 
   -- a value that both have, and the rest

@@ -154,12 +154,12 @@ module _ (template : Text) (escaping : Bool) (names : List Text) where
         let rest = none_second first (option_or (broken a) later) h in
         let m = n + length (expr_pool a) in
         turned_takes t (tested_by (test_named x) (slots.item (resolved_expr template escaping names a n) (resolved_row template escaping names ts m)))
-          (tested_takes (test_named x) ts ps (slots.item (resolved_expr template escaping names a n) (resolved_row template escaping names ts m)) k.0 (none_first first (option_or (broken a) later) h) (ap suc (row_counted ts m))
-            (expr_takes a n (none_first (broken a) later rest) k.1, row_takes ts m (none_first (row_broken ts) (pairs_broken ps) (none_second (broken a) later rest)) k.2))
+        (tested_takes (test_named x) ts ps (slots.item (resolved_expr template escaping names a n) (resolved_row template escaping names ts m)) k.0 (none_first first (option_or (broken a) later) h) (ap suc (row_counted ts m))
+        (expr_takes a n (none_first (broken a) later rest) k.1, row_takes ts m (none_first (row_broken ts) (pairs_broken ps) (none_second (broken a) later rest)) k.2))
     expr_takes (unary p a) n h k = (unary_one p, (expr_takes a n h k, tt))
     expr_takes (binary p a b) n h k =
         form_takes (form escaping p) (resolved_expr template escaping names a n) (resolved_expr template escaping names b (n + length (expr_pool a))) (form_two escaping p)
-          (expr_takes a n (none_first (broken a) (broken b) h) k.0) (expr_takes b (n + length (expr_pool a)) (none_second (broken a) (broken b) h) k.1)
+        (expr_takes a n (none_first (broken a) (broken b) h) k.0) (expr_takes b (n + length (expr_pool a)) (none_second (broken a) (broken b) h) k.1)
     expr_takes (when c a) n h k = (expr_takes c n (none_first (broken c) (broken a) h) k.0, expr_takes a (n + length (expr_pool c)) (none_second (broken c) (broken a) h) k.1, tt)
     expr_takes (choice c a b) n h k =
         let rest = none_second (broken c) (option_or (broken a) (broken b)) h in
@@ -184,14 +184,18 @@ module _ (template : Text) (escaping : Bool) (names : List Text) where
     body_takes end n behind h k b = b
     body_takes (stmt s rest) n behind h k b =
         stmt_takes s n (resolved_body template escaping names rest (n + length (stmt_pool s)) behind) (none_first (stmt_broken s) (body_broken rest) h) k.0
-          (body_takes rest (n + length (stmt_pool s)) behind (none_second (stmt_broken s) (body_broken rest) h) k.1 b)
+        (body_takes rest (n + length (stmt_pool s)) behind (none_second (stmt_broken s) (body_broken rest) h) k.1 b)
 
     choice_takes : (bs : Branches) (other : ℕ → SBody → SBody) → ((m : ℕ) (z : SBody) → BodyTakes z → BodyTakes (other m z)) → (n : ℕ) (behind : SBody) → branches_broken bs ≡ None → BranchesKnown bs → BodyTakes behind
         → BodyTakes (resolved_choice template escaping names bs other n behind)
     choice_takes no_branches other t n behind h k b = t n behind b
     choice_takes (branch line c body rest) other t n behind h k b =
         let first = none_first (option_or (broken c) (body_broken body)) (branches_broken rest) h in
-        let m = n + length (expr_pool c) in
-        ((expr_takes c n (none_first (broken c) (body_broken body) first) k.0,
-          body_takes body m slots.end (none_second (broken c) (body_broken body) first) k.1 tt,
-          choice_takes rest other t (m + length (body_pool body)) slots.end (none_second (option_or (broken c) (body_broken body)) (branches_broken rest) h) k.2 tt), b)
+        let m = n + length (expr_pool c) in (
+          (
+            expr_takes c n (none_first (broken c) (body_broken body) first) k.0,
+            body_takes body m slots.end (none_second (broken c) (body_broken body) first) k.1 tt,
+            choice_takes rest other t (m + length (body_pool body)) slots.end (none_second (option_or (broken c) (body_broken body)) (branches_broken rest) h) k.2 tt,
+          ),
+          b,
+        )

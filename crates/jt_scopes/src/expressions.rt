@@ -11,7 +11,8 @@ ghost use Rattle.jt_scopes.specs.declared.error.ScopeError.TheVariants as error;
 
 use crate::error::ScopeError;
 use crate::forms::{
-    chosen, form_of, formed, literal_value, on_one, on_two, range_of, tested, turned, unary_operation,
+    chosen, form_of, formed, literal_value, on_one, on_two, range_of, tested, turned,
+    unary_operation,
 };
 use crate::program::{Maker, SExpr};
 use crate::scope::{Scope, add_value, slot};

@@ -110,7 +110,11 @@ pub(crate) fn form_of(escaping: bool, operator: BinaryOperator) -> Form
 fn join(escaping: bool) -> OpId
     ensures { result ≡ operators.join escaping }
 {
-    if escaping { OpId::JoinEscaping } else { OpId::Join }
+    if escaping {
+        OpId::JoinEscaping
+    } else {
+        OpId::Join
+    }
 }
 
 /// An operation on one operand.

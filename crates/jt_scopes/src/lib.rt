@@ -9,6 +9,8 @@ mod program;
 mod resolving;
 mod rules;
 mod scope;
+#[cfg(test)]
+mod tests;
 
 pub use error::ScopeError;
 pub use program::{Maker, Resolved, SExpr, SStmt};

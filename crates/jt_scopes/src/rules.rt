@@ -29,7 +29,11 @@ fn read_alone(name: &str) -> Option<ScopeError>
 fn unless(right: bool) -> Option<ScopeError>
     ensures { result ≡ rules.unless right }
 {
-    if right { None } else { Some(ScopeError::BadArguments) }
+    if right {
+        None
+    } else {
+        Some(ScopeError::BadArguments)
+    }
 }
 
 /// What the arguments of `range` break.
@@ -95,11 +99,7 @@ fn broken(expr: &Expr) -> Option<ScopeError>
 
 /// What a call breaks by itself, and what it calls.
 #[cycle(broken)]
-fn call_broken(
-    called: &Expr,
-    row: &[Expr],
-    pairs: &[(String, Expr)],
-) -> Option<ScopeError>
+fn call_broken(called: &Expr, row: &[Expr], pairs: &[(String, Expr)]) -> Option<ScopeError>
     ensures { result ≡ (if is_range (expr_view called.now) then rules.range_broken (exprs_view row.now) (pairs_view pairs.now) else option_or (rules.broken (expr_view called.now)) (Some error.NotCallable)) }
 {
     if names_range(called) {
