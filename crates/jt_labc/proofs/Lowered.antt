@@ -98,7 +98,7 @@ pushed [] es = es
 pushed (v ∷ vs) es = pushed vs (value v ∷ es)
 
 popped : {A : Type 0} (vs acc : List Tree) (es : List Entry) (n : ℕ) (z : A) (f : List Tree → List Entry → A) → on_values (length vs + n) acc (pushed vs es) z f ≡ on_values n (vs ++ acc) es z f
-popped [] acc es n z f = refl
+popped [] acc es n z f = let e : 0 + n ≡ n = omega arith in ap (λ i. on_values i acc es z f) e
 popped (v ∷ vs) acc es n z f =
     let e : length (v ∷ vs) + n ≡ length vs + suc n = omega arith in
     ap (λ i. on_values i acc (pushed vs (value v ∷ es)) z f) e ∙ popped vs acc (value v ∷ es) (suc n) z f
@@ -220,7 +220,7 @@ module _ (k : Code) (pool : List Tree) (call : SCalls) (has : HasPool k pool) wh
           (λ v. chosen_by v (run k (expr_asm a) (at_memory es bufs m)) (run k (expr_asm b) (at_memory es bufs m)) (svalue pool call a m) (svalue pool call b m) (λ v'. does (at_memory (value v' ∷ es) bufs m)) (expr_lowered a es bufs m fit.1) (expr_lowered b es bufs m fit.2))
 
     -- a row, and what follows it: there are as many values as the row has parts
-    row_lowered : {B : Type 0} (r : SRow) (es : List Entry) (bufs : List (List ℕ)) (m : Memory) (g : State → Ran) (f : List Tree → Got B) (post : B → Ran) → RowFits k r
+    row_lowered : (r : SRow) (es : List Entry) (bufs : List (List ℕ)) (m : Memory) (g : State → Ran) (f : List Tree → Got Tree) (post : Tree → Ran) → RowFits k r
         → ((vs : List Tree) → length vs ≡ row_count r → g (at_memory (pushed vs es) bufs m) ≡ follow (f vs) post)
         → and_then (run k (row_asm r) (at_memory es bufs m)) g ≡ follow (bind (svalues pool call r m) f) post
     row_lowered slots.none es bufs m g f post fit h = h [] refl

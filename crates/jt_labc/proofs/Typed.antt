@@ -163,8 +163,8 @@ module _ (k : Code) where
   stack_on (suc n) S = ap (λ T. kind.Value ∷ T) (stack_on n S)
 
   stack_long : (n : ℕ) (S : Shape) → length (stack n S) ≡ n + length S
-  stack_long zero S = refl
-  stack_long (suc n) S = ap suc (stack_long n S)
+  stack_long zero S = omega arith
+  stack_long (suc n) S = omega (arith, stack_long n S)
 
   unstacked : (n : ℕ) (S : Shape) (go : Shape → Result Leads Flaw) → pops_many n (stack n S) go ≡ go S
   unstacked zero S go = refl
