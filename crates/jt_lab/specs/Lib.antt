@@ -8,3 +8,4 @@ pub mod Meaning
 pub mod Slots
 pub mod Resolve
 pub mod Size
+pub mod Takes

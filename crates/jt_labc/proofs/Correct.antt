@@ -25,7 +25,7 @@ use Rattle.jt_lab.specs.Got.{Place, Got, gives, fails, deeper, bind}
 use Rattle.jt_lab.specs.Slots.{Routine, Program, Memory, SCalls, smeanings, with_locals, sperformed, scalls, globals_of, smean}
 use Rattle.jt_labc.specs.Asm.{Asm, flat, Ran, does, stops, too_deep, bad, run}
 use Rattle.jt_labc.specs.Lower.{body_asm, unit_of, numbered, compiled}
-use Rattle.jt_labc.specs.Fits.{BodyFits}
+use Rattle.jt_lab.specs.Takes.{BodyTakes}
 use Rattle.jt_labc.proofs.Follows.{HasAt, has_front, has_back, machine, Comes, Reaches, fetched, step, flat_runs}
 use Rattle.jt_labc.proofs.Lowered.{at_memory, follow, HasPool, body_lowered}
 
@@ -69,7 +69,7 @@ as_free deeper = Going
 abbrev out_of : Got Memory → Got Text
 out_of g = bind g (λ m. gives m.out)
 
-module _ (p : Program) (r : Routine) (rs : List Routine) (is : p.routines ≡ r ∷ rs) (has : HasPool (compiled p) p.pool) (fits : BodyFits (compiled p) r.body) where
+module _ (p : Program) (r : Routine) (rs : List Routine) (is : p.routines ≡ r ∷ rs) (has : HasPool (compiled p) p.pool) (takes : BodyTakes r.body) where
   abbrev k : Code
   k = compiled p
 
@@ -106,7 +106,7 @@ module _ (p : Program) (r : Routine) (rs : List Routine) (is : p.routines ≡ r 
   body_follows : (x : Pairs) (n : ℕ) → Follows k (machine 0 0 [] (at_memory [] [] (memory x))) n (out_of (smeanings p.pool (call n) r.body (memory x)))
   body_follows x n =
       ends n (machine 0 0 [] (at_memory [] [] (memory x))) (smeanings p.pool (call n) r.body (memory x))
-        (subst (λ (y : Ran). Reaches k n (machine 0 0 [] (at_memory [] [] (memory x))) y (machine 0 (0 + length code) [])) (body_lowered k p.pool (call n) has r.body [] [] (memory x) fits)
+        (subst (λ (y : Ran). Reaches k n (machine 0 0 [] (at_memory [] [] (memory x))) y (machine 0 (0 + length code) [])) (body_lowered k p.pool (call n) has r.body [] [] (memory x) takes)
           (flat_runs k n (body_asm r.body) (unit_of r) 0 0 [] (at_memory [] [] (memory x)) first (has_front (unit_of r).code 0 code (op.Return ∷ []) all)))
 
   follows : (x : Pairs) (n : ℕ) → Follows k (start_machine k x) n (smean p x n)

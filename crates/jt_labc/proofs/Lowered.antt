@@ -20,7 +20,7 @@ use Rattle.jt_ops.specs.TestTable.{test_id}
 use Rattle.jt_ops.specs.Making.{listed, mapped}
 use Rattle.jt_lab.specs.Size.{row_count}
 use Rattle.jt_lab.specs.Slots as slots
-use Rattle.jt_labc.specs.Fits.{MakerFits, ExprFits, RowFits, StmtFits, BodyFits}
+use Rattle.jt_lab.specs.Takes.{InPairs, MakerTakes, ExprTakes, RowTakes, StmtTakes, BodyTakes}
 use Rattle.jt_lab.specs.Trees.{Text}
 use Rattle.jt_lab.specs.Got.{Place, Got, gives, fails, deeper, bind, checked, at}
 use Rattle.jt_lab.specs.Meaning.{shown, shown_text}
@@ -156,6 +156,12 @@ has_test t.None = refl
 has_test t.String = refl
 has_test t.Undefined = refl
 
+-- keys and values in turn are two for each entry
+pub halved : (n : ℕ) → InPairs n → 2 * half n ≡ n
+halved zero h = refl
+halved (suc zero) h = absurd h
+halved (suc (suc n)) h = omega (arith, halved n h)
+
 checked_follow : (r : Result Tree Fault) (es : List Entry) (bufs : List (List ℕ)) (m : Memory) (fs : List Entry) → of_plain (push_given r es (at_memory fs bufs m)) ≡ follow (checked r) (λ v. does (at_memory (value v ∷ es) bufs m))
 checked_follow (Ok t) es bufs m fs = refl
 checked_follow (Err e) es bufs m fs = refl
@@ -183,21 +189,21 @@ module _ (k : Code) (pool : List Tree) (call : SCalls) (has : HasPool k pool) wh
   Push es bufs m v = does (at_memory (value v ∷ es) bufs m)
 
   -- what makes a value of a row does so
-  made_lowered : (h : Maker) (n : ℕ) (vs : List Tree) (es : List Entry) (bufs : List (List ℕ)) (m : Memory) → MakerFits k h n → length vs ≡ n
+  made_lowered : (h : Maker) (n : ℕ) (vs : List Tree) (es : List Entry) (bufs : List (List ℕ)) (m : Memory) → MakerTakes h n → length vs ≡ n
       → of_plain (plain k (maker h n) (at_memory (pushed vs es) bufs m)) ≡ follow (checked (make h vs)) (Push es bufs m)
   made_lowered (slots.operator o) n vs es bufs m fit e =
       ap (λ x. of_plain (makes (operands_of x) (operated x) (at_memory (pushed vs es) bufs m))) (has_operator o) ∙ made_by (op_operands o) (operated (Some o)) vs es bufs m (e ∙ sym fit)
   made_lowered (slots.test t) n vs es bufs m fit e =
       ap (λ x. of_plain (makes n (tested_by x) (at_memory (pushed vs es) bufs m))) (has_test t) ∙ made_by n (tested_by (Some t)) vs es bufs m e
   made_lowered slots.a_list n vs es bufs m fit e = made_by n listed vs es bufs m e
-  made_lowered slots.a_map n vs es bufs m fit e = made_by (2 * half n) mapped vs es bufs m (e ∙ sym fit)
+  made_lowered slots.a_map n vs es bufs m fit e = made_by (2 * half n) mapped vs es bufs m (e ∙ sym (halved n fit))
 
   -- a true value lets the second be taken
   chosen_by : (t : Tree) (r r' : Ran) (g g' : Got Tree) (post : Tree → Ran) → r ≡ follow g post → r' ≡ follow g' post → (if tree.truth t then r else r') ≡ follow (if tree.truth t then g else g') post
   chosen_by t r r' g g' post e e' = either (tree.truth t) r r' g g' post e e'
 
   mutual
-    expr_lowered : (e : SExpr) (es : List Entry) (bufs : List (List ℕ)) (m : Memory) → ExprFits k e → run k (expr_asm e) (at_memory es bufs m) ≡ follow (svalue pool call e m) (λ v. does (at_memory (value v ∷ es) bufs m))
+    expr_lowered : (e : SExpr) (es : List Entry) (bufs : List (List ℕ)) (m : Memory) → ExprTakes e → run k (expr_asm e) (at_memory es bufs m) ≡ follow (svalue pool call e m) (λ v. does (at_memory (value v ∷ es) bufs m))
     expr_lowered (pooled i) es bufs m fit = ap (λ v. does (at_memory (value v ∷ es) bufs m)) (has.values i)
     expr_lowered (global i) es bufs m fit = refl
     expr_lowered (slots.made h r) es bufs m fit =
@@ -220,7 +226,7 @@ module _ (k : Code) (pool : List Tree) (call : SCalls) (has : HasPool k pool) wh
           (λ v. chosen_by v (run k (expr_asm a) (at_memory es bufs m)) (run k (expr_asm b) (at_memory es bufs m)) (svalue pool call a m) (svalue pool call b m) (λ v'. does (at_memory (value v' ∷ es) bufs m)) (expr_lowered a es bufs m fit.1) (expr_lowered b es bufs m fit.2))
 
     -- a row, and what follows it: there are as many values as the row has parts
-    row_lowered : (r : SRow) (es : List Entry) (bufs : List (List ℕ)) (m : Memory) (g : State → Ran) (f : List Tree → Got Tree) (post : Tree → Ran) → RowFits k r
+    row_lowered : (r : SRow) (es : List Entry) (bufs : List (List ℕ)) (m : Memory) (g : State → Ran) (f : List Tree → Got Tree) (post : Tree → Ran) → RowTakes r
         → ((vs : List Tree) → length vs ≡ row_count r → g (at_memory (pushed vs es) bufs m) ≡ follow (f vs) post)
         → and_then (run k (row_asm r) (at_memory es bufs m)) g ≡ follow (bind (svalues pool call r m) f) post
     row_lowered slots.none es bufs m g f post fit h = h [] refl
@@ -232,7 +238,7 @@ module _ (k : Code) (pool : List Tree) (call : SCalls) (has : HasPool k pool) wh
         ∙ ap (λ x. follow x post) (sym (bind_row (svalue pool call e m) (svalues pool call r m) f))
 
   mutual
-    stmt_lowered : (s : SStmt) (es : List Entry) (bufs : List (List ℕ)) (m : Memory) → StmtFits k s → run k (stmt_asm s) (at_memory es bufs m) ≡ follow (smeaning pool call s m) (λ m'. does (at_memory es bufs m'))
+    stmt_lowered : (s : SStmt) (es : List Entry) (bufs : List (List ℕ)) (m : Memory) → StmtTakes s → run k (stmt_asm s) (at_memory es bufs m) ≡ follow (smeaning pool call s m) (λ m'. does (at_memory es bufs m'))
     stmt_lowered (put_pooled i) es bufs m fit = ap (λ t. does (at_memory es bufs (put_text m t))) (has.texts i)
     stmt_lowered (print p escaping e) es bufs m fit =
         lowered (run k (expr_asm e) (at_memory es bufs m)) (svalue pool call e m) (λ v. at_memory (value v ∷ es) bufs m) (run k (one (op.Emit (flag escaping)))) (λ v. bind (shown escaping v) (λ s. gives (put_text m s))) (λ m'. does (at_memory es bufs m'))
@@ -243,7 +249,7 @@ module _ (k : Code) (pool : List Tree) (call : SCalls) (has : HasPool k pool) wh
           (expr_lowered c es bufs m fit.0 ∙ follow_at p (svalue pool call c m) (λ v. does (at_memory (value v ∷ es) bufs m)))
           (λ v. either (tree.truth v) (run k (body_asm a) (at_memory es bufs m)) (run k (body_asm b) (at_memory es bufs m)) (smeanings pool call a m) (smeanings pool call b m) (λ m'. does (at_memory es bufs m')) (body_lowered a es bufs m fit.1) (body_lowered b es bufs m fit.2))
 
-    pub body_lowered : (b : SBody) (es : List Entry) (bufs : List (List ℕ)) (m : Memory) → BodyFits k b → run k (body_asm b) (at_memory es bufs m) ≡ follow (smeanings pool call b m) (λ m'. does (at_memory es bufs m'))
+    pub body_lowered : (b : SBody) (es : List Entry) (bufs : List (List ℕ)) (m : Memory) → BodyTakes b → run k (body_asm b) (at_memory es bufs m) ≡ follow (smeanings pool call b m) (λ m'. does (at_memory es bufs m'))
     body_lowered end es bufs m fit = refl
     body_lowered (stmt s rest) es bufs m fit =
         lowered (run k (stmt_asm s) (at_memory es bufs m)) (smeaning pool call s m) (λ m'. at_memory es bufs m') (run k (body_asm rest)) (smeanings pool call rest) (λ m'. does (at_memory es bufs m'))

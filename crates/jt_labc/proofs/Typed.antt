@@ -16,12 +16,13 @@ use Rattle.jt_image.specs.Ids.{operator_of, operands_of, test_of, takes}
 use Rattle.std.specs.Option.{is_some}
 use Rattle.jt_lab.specs.Slots as slots
 use Rattle.jt_lab.specs.Size.{row_count, expr_height, row_height, stmt_height, body_height}
-use Rattle.jt_labc.proofs.Lowered.{has_operator, has_test}
+use Rattle.jt_labc.proofs.Lowered.{has_operator, has_test, halved}
 use Rattle.jt_image.specs.Typed.{Shapes, Equal, HasSame, IsFineBy, IsTypedBy, IsTypedUnit, max_entries}
 use Rattle.jt_lab.specs.Slots.{Maker, SExpr, pooled, global, SRow, SStmt, put_pooled, print, if_else, SBody, end, stmt, Routine}
 use Rattle.jt_labc.specs.Asm.{Asm, nil, one, both, choose, flat}
 use Rattle.jt_labc.specs.Lower.{maker, expr_asm, row_asm, flag, stmt_asm, body_asm, unit_of}
-use Rattle.jt_labc.specs.Fits.{MakerFits, ExprFits, RowFits, StmtFits, BodyFits}
+use Rattle.jt_labc.specs.Fits.{ExprFits, RowFits, StmtFits, BodyFits}
+use Rattle.jt_lab.specs.Takes.{MakerTakes, ExprTakes, RowTakes, StmtTakes, BodyTakes}
 
 lt_true : (a b : ℕ) → a < b → nat_lt a b ≡ true
 lt_true a b h = grind (arith, nat_tests)
@@ -177,7 +178,7 @@ module _ (k : Code) where
   is_same n = grind (arith, nat_tests)
 
   -- what makes a value of a row leads from its values to the one
-  maker_types : (h : Maker) (n : ℕ) (S : Shape) → MakerFits k h n → Straight (maker h n) (stack n S) (kind.Value ∷ S)
+  maker_types : (h : Maker) (n : ℕ) (S : Shape) → MakerTakes h n → Straight (maker h n) (stack n S) (kind.Value ∷ S)
   maker_types (slots.operator o) n S fit u p room =
       ap (λ x. require (is_some x) flaw.BadIndex (makes u p (operands_of x) (stack n S))) (has_operator o)
       ∙ ap (λ i. makes u p i (stack n S)) fit ∙ makes_one u p n S room
@@ -185,7 +186,7 @@ module _ (k : Code) where
       ap (λ x. require (takes x n) flaw.BadIndex (makes u p n (stack n S))) (has_test t)
       ∙ required _ flaw.BadIndex _ (ap (λ i. n == i) fit ∙ is_same n) ∙ makes_one u p n S room
   maker_types slots.a_list n S fit u p room = makes_one u p n S room
-  maker_types slots.a_map n S fit u p room = ap (λ i. makes u p i (stack n S)) fit ∙ makes_one u p n S room
+  maker_types slots.a_map n S fit u p room = ap (λ i. makes u p i (stack n S)) (halved n fit) ∙ makes_one u p n S room
 
   -- a form needs an entry, and a row one for each of its parts
   mutual
@@ -202,64 +203,64 @@ module _ (k : Code) where
     row_room (slots.item e r) = omega (arith, row_room r)
 
   mutual
-    expr_types : (e : SExpr) (S : Shape) → ExprFits k e → length S + expr_height e ≤ max_entries → Types (expr_asm e) S (kind.Value ∷ S)
-    expr_types (pooled i) S f le = (omega arith, λ u p room. required _ flaw.BadIndex _ f ∙ required _ flaw.FallsOff _ (lt_true (p + 1) (length u.code) room))
-    expr_types (global i) S f le = (omega arith, λ u p room. required _ flaw.BadIndex _ f ∙ required _ flaw.FallsOff _ (lt_true (p + 1) (length u.code) room))
-    expr_types (slots.made h r) S f le =
-        (stack (row_count r) S, row_types r S f.1 (omega arith), (omega (arith, stack_long (row_count r) S, row_room r), maker_types h (row_count r) S f.0))
-    expr_types (slots.conjunction a b) S f le =
+    expr_types : (e : SExpr) (S : Shape) → ExprFits k e → ExprTakes e → length S + expr_height e ≤ max_entries → Types (expr_asm e) S (kind.Value ∷ S)
+    expr_types (pooled i) S f t le = (omega arith, λ u p room. required _ flaw.BadIndex _ f ∙ required _ flaw.FallsOff _ (lt_true (p + 1) (length u.code) room))
+    expr_types (global i) S f t le = (omega arith, λ u p room. required _ flaw.BadIndex _ f ∙ required _ flaw.FallsOff _ (lt_true (p + 1) (length u.code) room))
+    expr_types (slots.made h r) S f t le =
+        (stack (row_count r) S, row_types r S f t.1 (omega arith), (omega (arith, stack_long (row_count r) S, row_room r), maker_types h (row_count r) S t.0))
+    expr_types (slots.conjunction a b) S f t le =
         let one_more : length (kind.Value ∷ S) ≤ max_entries = omega (arith, some_height a) in
         let two_more : length (kind.Value ∷ kind.Value ∷ S) ≤ max_entries = omega arith in
         (
           kind.Value ∷ S,
-          expr_types a S f.0 (omega arith),
+          expr_types a S f.0 t.0 (omega arith),
           (
             kind.Value ∷ kind.Value ∷ S,
             (one_more, λ u p room. required _ flaw.FallsOff _ (lt_true (p + 1) (length u.code) room)),
-            (kind.Value ∷ S, refl, two_more, one_more, (S, (one_more, λ u p room. required _ flaw.FallsOff _ (lt_true (p + 1) (length u.code) room)), expr_types b S f.1 (omega arith)), refl),
+            (kind.Value ∷ S, refl, two_more, one_more, (S, (one_more, λ u p room. required _ flaw.FallsOff _ (lt_true (p + 1) (length u.code) room)), expr_types b S f.1 t.1 (omega arith)), refl),
           ),
         )
-    expr_types (slots.disjunction a b) S f le =
+    expr_types (slots.disjunction a b) S f t le =
         let one_more : length (kind.Value ∷ S) ≤ max_entries = omega (arith, some_height a) in
         let two_more : length (kind.Value ∷ kind.Value ∷ S) ≤ max_entries = omega arith in
         (
           kind.Value ∷ S,
-          expr_types a S f.0 (omega arith),
+          expr_types a S f.0 t.0 (omega arith),
           (
             kind.Value ∷ kind.Value ∷ S,
             (one_more, λ u p room. required _ flaw.FallsOff _ (lt_true (p + 1) (length u.code) room)),
-            (kind.Value ∷ S, refl, two_more, one_more, refl, (S, (one_more, λ u p room. required _ flaw.FallsOff _ (lt_true (p + 1) (length u.code) room)), expr_types b S f.1 (omega arith))),
+            (kind.Value ∷ S, refl, two_more, one_more, refl, (S, (one_more, λ u p room. required _ flaw.FallsOff _ (lt_true (p + 1) (length u.code) room)), expr_types b S f.1 t.1 (omega arith))),
           ),
         )
-    expr_types (slots.choice c a b) S f le =
+    expr_types (slots.choice c a b) S f t le =
         let one_more : length (kind.Value ∷ S) ≤ max_entries = omega (arith, some_height c) in
-        (kind.Value ∷ S, expr_types c S f.0 (omega arith), (S, refl, one_more, one_more, expr_types a S f.1 (omega arith), expr_types b S f.2 (omega arith)))
+        (kind.Value ∷ S, expr_types c S f.0 t.0 (omega arith), (S, refl, one_more, one_more, expr_types a S f.1 t.1 (omega arith), expr_types b S f.2 t.2 (omega arith)))
 
-    row_types : (r : SRow) (S : Shape) → RowFits k r → length S + row_height r ≤ max_entries → Types (row_asm r) S (stack (row_count r) S)
-    row_types slots.none S f le = refl
-    row_types (slots.item e r) S f le =
-        (kind.Value ∷ S, expr_types e S f.0 (omega arith), subst (λ T. Types (row_asm r) (kind.Value ∷ S) T) (stack_on (row_count r) S) (row_types r (kind.Value ∷ S) f.1 (omega arith)))
+    row_types : (r : SRow) (S : Shape) → RowFits k r → RowTakes r → length S + row_height r ≤ max_entries → Types (row_asm r) S (stack (row_count r) S)
+    row_types slots.none S f t le = refl
+    row_types (slots.item e r) S f t le =
+        (kind.Value ∷ S, expr_types e S f.0 t.0 (omega arith), subst (λ T. Types (row_asm r) (kind.Value ∷ S) T) (stack_on (row_count r) S) (row_types r (kind.Value ∷ S) f.1 t.1 (omega arith)))
 
   emits : (escaping : Bool) (S : Shape) → Straight (op.Emit (flag escaping)) (kind.Value ∷ S) S
   emits true S u p room = required _ flaw.FallsOff _ (lt_true (p + 1) (length u.code) room)
   emits false S u p room = required _ flaw.FallsOff _ (lt_true (p + 1) (length u.code) room)
 
   mutual
-    stmt_types : (s : SStmt) (S : Shape) → StmtFits k s → length S + stmt_height s ≤ max_entries → Types (stmt_asm s) S S
-    stmt_types (put_pooled i) S f le = (omega arith, λ u p room. required _ flaw.BadIndex _ f ∙ required _ flaw.FallsOff _ (lt_true (p + 1) (length u.code) room))
-    stmt_types (print q escaping e) S f le = (kind.Value ∷ S, expr_types e S f (omega arith), (omega (arith, some_height e), emits escaping S))
-    stmt_types (if_else q c a b) S f le = (kind.Value ∷ S, expr_types c S f.0 (omega arith), (S, refl, omega (arith, some_height c), omega arith, body_types a S f.1 (omega arith), body_types b S f.2 (omega arith)))
+    stmt_types : (s : SStmt) (S : Shape) → StmtFits k s → StmtTakes s → length S + stmt_height s ≤ max_entries → Types (stmt_asm s) S S
+    stmt_types (put_pooled i) S f t le = (omega arith, λ u p room. required _ flaw.BadIndex _ f ∙ required _ flaw.FallsOff _ (lt_true (p + 1) (length u.code) room))
+    stmt_types (print q escaping e) S f t le = (kind.Value ∷ S, expr_types e S f t (omega arith), (omega (arith, some_height e), emits escaping S))
+    stmt_types (if_else q c a b) S f t le = (kind.Value ∷ S, expr_types c S f.0 t.0 (omega arith), (S, refl, omega (arith, some_height c), omega arith, body_types a S f.1 t.1 (omega arith), body_types b S f.2 t.2 (omega arith)))
 
-    body_types : (b : SBody) (S : Shape) → BodyFits k b → length S + body_height b ≤ max_entries → Types (body_asm b) S S
-    body_types end S f le = refl
-    body_types (stmt s rest) S f le = (S, stmt_types s S f.0 (omega arith), body_types rest S f.1 (omega arith))
+    body_types : (b : SBody) (S : Shape) → BodyFits k b → BodyTakes b → length S + body_height b ≤ max_entries → Types (body_asm b) S S
+    body_types end S f t le = refl
+    body_types (stmt s rest) S f t le = (S, stmt_types s S f.0 t.0 (omega arith), body_types rest S f.1 t.1 (omega arith))
 
-  pub unit_typed : (r : Routine) → BodyFits k r.body → body_height r.body ≤ max_entries → IsTypedUnit Equal k (unit_of r)
-  unit_typed r f low =
+  pub unit_typed : (r : Routine) → BodyFits k r.body → BodyTakes r.body → body_height r.body ≤ max_entries → IsTypedUnit Equal k (unit_of r)
+  unit_typed r f t low =
       let u = unit_of r in
       let a = body_asm r.body in
       let is = flat a 0 in
-      let fr = flat_types u a 0 [] [] (body_types r.body [] f (omega arith)) in
+      let fr = flat_types u a 0 [] [] (body_types r.body [] f t (omega (arith, low))) in
       let sh = fr.shapes ++ [] ∷ [] in
       let has = has_shapes sh [] in
       let long : length sh ≡ length u.code = length-append fr.shapes ([] ∷ []) ∙ omega (arith, fr.long, length-append is (op.Return ∷ [])) in
