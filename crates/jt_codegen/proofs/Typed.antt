@@ -1,5 +1,5 @@
--- Code whose jumps stand in pairs is typed, and so is a unit.
-use Rattle.std.proofs.Common.{◌≡◌, ℕ, zero, suc, ◌+◌, ◌-◌, ◌<◌, ◌≤◌, List, [], ◌∷◌, ◌++◌, length, Option, Some, None, Result, Ok, Err, Bool, true, false, refl, sym, ap, ◌∙◌, subst, arith, append_assoc, length-append}
+-- Code whose jumps stand in pairs is typed, with as many entries as its height, and so is a unit.
+use Rattle.std.proofs.Common.{◌≡◌, ℕ, zero, suc, ◌+◌, ◌<◌, ◌≤◌, List, [], ◌∷◌, ◌++◌, length, Some, Result, Ok, Bool, true, false, refl, sym, ap, ◌∙◌, subst, arith, append_assoc, length-append}
 use Rattle.std.specs.Prelude.{slice_get, nat_lt}
 use Rattle.std.specs.List.{AllByRecursion}
 use Rattle.std.proofs.Math.Seq.{get_or-append_seam}
@@ -10,10 +10,11 @@ use Rattle.jt_image.specs.declared.instruction.Instruction.TheVariants as op
 use Rattle.jt_image.specs.declared.kind.Kind.TheVariants as kind
 use Rattle.jt_image.specs.declared.kind.Flaw.TheVariants as flaw
 use Rattle.jt_image.specs.declared.kind.Flaw.{Flaw}
-use Rattle.jt_image.specs.Code.{Section, Code, is_text}
-use Rattle.jt_image.specs.Effect.{Shape, Leads, require, effect, effect_at, effect_of}
-use Rattle.jt_image.specs.Typed.{Shapes, Equal, HasSame, IsFineBy, IsTypedBy, IsTypedUnit, max_entries}
+use Rattle.jt_image.specs.Code.{Section, Code}
+use Rattle.jt_image.specs.Effect.{Shape, Leads, require, effect, effect_of}
+use Rattle.jt_image.specs.Typed.{Equal, HasSame, IsFineBy, IsTypedUnit, max_entries}
 use Rattle.jt_scopes.specs.Slots.{SExpr, pooled, global, SStmt, put_pooled, print, if_else, SBody, end, stmt, Routine}
+use Rattle.jt_scopes.specs.Size.{expr_height, stmt_height, body_height}
 use Rattle.jt_codegen.specs.Asm.{Asm, nil, one, both, choose, flat}
 use Rattle.jt_codegen.specs.Lower.{expr_asm, flag, stmt_asm, body_asm, unit_of}
 use Rattle.jt_codegen.specs.Fits.{ExprFits, StmtFits, BodyFits}
@@ -36,9 +37,16 @@ within [] n x e = absurd cc
 within (y ∷ xs) zero x e = omega arith
 within (y ∷ xs) (suc n) x e = omega (arith, within xs n x e)
 
-module _ (k : Code) where
+-- an expression needs an entry, for its value
+some_height : (e : SExpr) → 1 ≤ expr_height e
+some_height (pooled i) = omega arith
+some_height (global i) = omega arith
+
+-- ---- shapes of so many entries at the most
+
+module _ (k : Code) (most : ℕ) where
   abbrev Low : Shape → Type 0
-  Low S = length S ≤ max_entries
+  Low S = length S ≤ most
 
   -- the effect behind an instruction that goes on
   abbrev Straight : Instruction → Shape → Shape → Type 0
@@ -128,7 +136,7 @@ module _ (k : Code) where
               let in_p : nat_lt (p + 1) (length u.code) ≡ true = lt_true (p + 1) (length u.code) (omega (arith, length-append ca (jump ∷ cb))) in
               let in_end : nat_lt (q + length cb) (length u.code) ≡ true = lt_true (q + length cb) (length u.code) (omega (arith, length-append ca (jump ∷ cb))) in
               let first : effect k u p (op.JumpIfFalse q) S ≡ Ok (record { shape = h.0; points = (p + 1) ∷ q ∷ [] }) =
-                  ap (λ s. effect k u p (op.JumpIfFalse q) s) h.1 ∙ required _ flaw.JumpOut _ in_q ∙ required _ flaw.FallsOff _ in_p in
+              ap (λ s. effect k u p (op.JumpIfFalse q) s) h.1 ∙ required _ flaw.JumpOut _ in_q ∙ required _ flaw.FallsOff _ in_p in
               let last : effect k u e jump T ≡ Ok (record { shape = T; points = (q + length cb) ∷ [] }) = required _ flaw.JumpOut _ in_end in (
                 has.0,
                 (
@@ -148,30 +156,39 @@ module _ (k : Code) where
 
   -- ---- the code of resolved templates
 
-  expr_types : (e : SExpr) (S : Shape) → ExprFits k e → length S + 1 ≤ max_entries → Types (expr_asm e) S (kind.Value ∷ S)
-  expr_types (pooled i) S f le = (omega arith, λ u p room. required _ flaw.BadIndex _ f ∙ required _ flaw.FallsOff _ (lt_true (p + 1) (length u.code) room))
-  expr_types (global i) S f le = (omega arith, λ u p room. required _ flaw.BadIndex _ f ∙ required _ flaw.FallsOff _ (lt_true (p + 1) (length u.code) room))
+  expr_types : (e : SExpr) (S : Shape) → ExprFits k e → length S + expr_height e ≤ most → Types (expr_asm e) S (kind.Value ∷ S)
+  expr_types (pooled i) S f le = (omega (arith, le), λ u p room. required _ flaw.BadIndex _ f ∙ required _ flaw.FallsOff _ (lt_true (p + 1) (length u.code) room))
+  expr_types (global i) S f le = (omega (arith, le), λ u p room. required _ flaw.BadIndex _ f ∙ required _ flaw.FallsOff _ (lt_true (p + 1) (length u.code) room))
 
   emits : (escaping : Bool) (S : Shape) → Straight (op.Emit (flag escaping)) (kind.Value ∷ S) S
   emits true S u p room = required _ flaw.FallsOff _ (lt_true (p + 1) (length u.code) room)
   emits false S u p room = required _ flaw.FallsOff _ (lt_true (p + 1) (length u.code) room)
 
   mutual
-    stmt_types : (s : SStmt) (S : Shape) → StmtFits k s → length S + 1 ≤ max_entries → Types (stmt_asm s) S S
-    stmt_types (put_pooled i) S f le = (omega arith, λ u p room. required _ flaw.BadIndex _ f ∙ required _ flaw.FallsOff _ (lt_true (p + 1) (length u.code) room))
-    stmt_types (print q escaping e) S f le = (kind.Value ∷ S, expr_types e S f le, (omega arith, emits escaping S))
-    stmt_types (if_else q c a b) S f le = (kind.Value ∷ S, expr_types c S f.0 le, (S, refl, omega arith, omega arith, body_types a S f.1 le, body_types b S f.2 le))
+    stmt_types : (s : SStmt) (S : Shape) → StmtFits k s → length S + stmt_height s ≤ most → Types (stmt_asm s) S S
+    stmt_types (put_pooled i) S f le = (omega (arith, le), λ u p room. required _ flaw.BadIndex _ f ∙ required _ flaw.FallsOff _ (lt_true (p + 1) (length u.code) room))
+    stmt_types (print q escaping e) S f le = (kind.Value ∷ S, expr_types e S f le, (omega (arith, le, some_height e), emits escaping S))
+    stmt_types (if_else q c a b) S f le =
+        let some = some_height c in
+        (kind.Value ∷ S, expr_types c S f.0 (omega (arith, le)), (S, refl, omega (arith, le, some), omega (arith, le), body_types a S f.1 (omega (arith, le)), body_types b S f.2 (omega (arith, le))))
 
-    body_types : (b : SBody) (S : Shape) → BodyFits k b → length S + 1 ≤ max_entries → Types (body_asm b) S S
+    body_types : (b : SBody) (S : Shape) → BodyFits k b → length S + body_height b ≤ most → Types (body_asm b) S S
     body_types end S f le = refl
-    body_types (stmt s rest) S f le = (S, stmt_types s S f.0 le, body_types rest S f.1 le)
+    body_types (stmt s rest) S f le = (S, stmt_types s S f.0 (omega (arith, le)), body_types rest S f.1 (omega (arith, le)))
 
-  pub unit_typed : (r : Routine) → BodyFits k r.body → IsTypedUnit Equal k (unit_of r)
-  unit_typed r f =
+  -- the shapes of a unit: the first one is empty, each is in order, and none has more entries than that
+  pub record HasLow (u : Section) : Type 0 where
+    pub shapes : List Shape
+    pub start : slice_get shapes 0 ≡ Some []
+    pub low : (p : ℕ) (s : Shape) → slice_get shapes p ≡ Some s → length s ≤ most
+    pub fine : (p : ℕ) (s : Shape) → slice_get shapes p ≡ Some s → IsFineBy Equal k u (slice_get shapes) p s
+
+  pub unit_low : (r : Routine) → BodyFits k r.body → body_height r.body ≤ most → HasLow (unit_of r)
+  unit_low r f le =
       let u = unit_of r in
       let a = body_asm r.body in
       let is = flat a 0 in
-      let fr = flat_types u a 0 [] [] (body_types r.body [] f (omega arith)) in
+      let fr = flat_types u a 0 [] [] (body_types r.body [] f (omega (arith, le))) in
       let sh = fr.shapes ++ [] ∷ [] in
       let has = has_shapes sh [] in
       let long : length sh ≡ length u.code = length-append fr.shapes ([] ∷ []) ∙ omega (arith, fr.long, length-append is (op.Return ∷ [])) in
@@ -179,10 +196,11 @@ module _ (k : Code) where
       let fine = fr.fine sh (omega (arith, length-append is (op.Return ∷ []))) (shapes_front sh 0 fr.shapes ([] ∷ []) has) back.0 in
       let all : AllFine u sh 0 u.code = fine_append u sh 0 (0 + length is) is (op.Return ∷ []) refl fine.1 (([], back.0, omega arith, (record { shape = []; points = [] }, refl, tt)), tt) in
       let each : (p : ℕ) (s : Shape) → slice_get sh p ≡ Some s → (i : Instruction) × (slice_get u.code p ≡ Some i) × FineAt u sh p i = λ p s e.
-          let x = there u.code p (omega (arith, within sh p s e)) in (x.0, x.1, fine_at u sh u.code 0 p p x.0 (omega arith) all x.1) in
-      (λ p. slice_get sh p, record {
+      let x = there u.code p (omega (arith, within sh p s e)) in (x.0, x.1, fine_at u sh u.code 0 p p x.0 (omega arith) all x.1) in
+      record {
+        shapes = sh;
         start = fine.0;
-        small = λ p s e. let x = each p s e in let same : x.2.0 ≡ s = some_is x.2.0 s (sym x.2.1 ∙ e) in subst (λ y. length y ≤ max_entries) same x.2.2;
+        low = λ p s e. let x = each p s e in let same : x.2.0 ≡ s = some_is x.2.0 s (sym x.2.1 ∙ e) in subst (λ y. length y ≤ most) same x.2.2;
         fine = λ p s e.
             let x = each p s e in
             let same : x.2.0 ≡ s = some_is x.2.0 s (sym x.2.1 ∙ e) in
@@ -191,7 +209,12 @@ module _ (k : Code) where
               effect = ap (λ o. effect_of k u p o s) x.1 ∙ subst (λ y. effect k u p x.0 y ≡ Ok x.2.3.0) same x.2.3.1;
               agree = x.2.3.2;
             };
-      })
+      }
     where
       some_is : (a b : Shape) → Some a ≡ Some b → a ≡ b
       some_is a b e = cc
+
+pub unit_typed : (k : Code) (r : Routine) → BodyFits k r.body → body_height r.body ≤ max_entries → IsTypedUnit Equal k (unit_of r)
+unit_typed k r f le =
+    let low = unit_low k max_entries r f le in
+    (λ p. slice_get low.shapes p, record { start = low.start; small = low.low; fine = low.fine })

@@ -19,6 +19,7 @@ use Rattle.jt_scopes.specs.Slots as slots
 use Rattle.jt_scopes.specs.Slots.{SBody, Program, Routine, value_at, bytes_of, smean}
 use Rattle.jt_scopes.specs.Resolve.{expr_names, stmt_names, body_names, branch_names, ascending, slot_of, expr_pool, stmt_pool, body_pool, branch_pool, resolved_expr, resolved_stmt, resolved_body, resolved_choice, program}
 use Rattle.jt_scopes.proofs.Means.{Among, AllAmong, all_ascending, program_means}
+use Rattle.jt_scopes.proofs.Sized.{body_one}
 use Rattle.jt_codegen.specs.Lower.{constant_of, unit_of, compiled}
 use Rattle.jt_codegen.specs.Fits.{ExprFits, BodyFits}
 use Rattle.jt_codegen.proofs.Lowered.{HasPool}
@@ -106,14 +107,14 @@ module _ (template : Text) (escaping : Bool) (names : List Text) (pool : List Tr
     stmt_fits (print line e) n behind here has rest = (expr_fits e n here has, rest)
     stmt_fits (choose bs other) n behind here has rest =
         choice_fits bs (body_pool other) (resolved_body template escaping names other)
-          (λ n' behind' has' rest'. body_fits other n' behind' (back (branch_names bs) (body_names other) names here) has' rest')
-          n behind (front (branch_names bs) (body_names other) names here) has rest
+        (λ n' behind' has' rest'. body_fits other n' behind' (back (branch_names bs) (body_names other) names here) has' rest')
+        n behind (front (branch_names bs) (body_names other) names here) has rest
 
     body_fits : (b : Body) (n : ℕ) (behind : SBody) → AllAmong (body_names b) names → PoolAt pool n (body_pool b) → BodyFits k behind → BodyFits k (resolved_body template escaping names b n behind)
     body_fits end n behind here has rest = rest
     body_fits (stmt s later) n behind here has rest =
         stmt_fits s n (resolved_body template escaping names later (n + length (stmt_pool s)) behind) (front (stmt_names s) (body_names later) names here) (pool_front pool n (stmt_pool s) (body_pool later) has)
-          (body_fits later (n + length (stmt_pool s)) behind (back (stmt_names s) (body_names later) names here) (pool_back pool n (stmt_pool s) (body_pool later) has) rest)
+        (body_fits later (n + length (stmt_pool s)) behind (back (stmt_names s) (body_names later) names here) (pool_back pool n (stmt_pool s) (body_pool later) has) rest)
 
     choice_fits : (bs : Branches) (other_pool : List Tree) (other : ℕ → SBody → SBody) → OtherFits other_pool other
         → (n : ℕ) (behind : SBody) → AllAmong (branch_names bs) names → PoolAt pool n (branch_pool bs ++ other_pool) → BodyFits k behind → BodyFits k (resolved_choice template escaping names bs other n behind)
@@ -122,12 +123,11 @@ module _ (template : Text) (escaping : Bool) (names : List Text) (pool : List Tr
         let m = n + length (expr_pool c) in
         let l = m + length (body_pool body) in
         let has' : PoolAt pool n (expr_pool c ++ (body_pool body ++ (branch_pool later ++ other_pool))) =
-            subst (λ ts. PoolAt pool n ts) (append_assoc (expr_pool c) (body_pool body ++ branch_pool later) other_pool ∙ ap (λ ts. expr_pool c ++ ts) (append_assoc (body_pool body) (branch_pool later) other_pool)) has in
+        subst (λ ts. PoolAt pool n ts) (append_assoc (expr_pool c) (body_pool body ++ branch_pool later) other_pool ∙ ap (λ ts. expr_pool c ++ ts) (append_assoc (body_pool body) (branch_pool later) other_pool)) has in
         let behind_c = pool_back pool n (expr_pool c) (body_pool body ++ (branch_pool later ++ other_pool)) has' in
         let behind_b = pool_back pool m (body_pool body) (branch_pool later ++ other_pool) behind_c in
         let names_c = front (expr_names c) (body_names body ++ branch_names later) names here in
-        let names_rest = back (expr_names c) (body_names body ++ branch_names later) names here in
-        (
+        let names_rest = back (expr_names c) (body_names body ++ branch_names later) names here in (
           (
             expr_fits c n names_c (pool_front pool n (expr_pool c) (body_pool body ++ (branch_pool later ++ other_pool)) has'),
             body_fits body m slots.end (front (body_names body) (branch_names later) names names_rest) (pool_front pool m (body_pool body) (branch_pool later ++ other_pool) behind_c) tt,
@@ -209,14 +209,14 @@ module _ (template : Text) (escaping : Bool) (b : Body) where
   pub has_pool : HasPool (compiled p) p.pool
   has_pool = record { values = values_same (body_pool b) (body_pooled b); texts = texts_same (body_pool b) (body_pooled b) }
 
-  fits : BodyFits (compiled p) (resolved_body template escaping (ascending (body_names b)) b 0 slots.end)
+  pub fits : BodyFits (compiled p) (resolved_body template escaping (ascending (body_names b)) b 0 slots.end)
   fits = body_fits template escaping (ascending (body_names b)) (body_pool b) (compiled p) refl refl b 0 slots.end (all_ascending (body_names b)) (pool_whole (body_pool b) []) tt
 
   typed_at : (n : ℕ) (u : Section) → slice_get (compiled p).units n ≡ Some u → IsTypedUnit Equal (compiled p) u
   typed_at zero u e =
       let r : Routine = record { parameters = 0; locals = 0; body = resolved_body template escaping (ascending (body_names b)) b 0 slots.end } in
       let same : unit_of r ≡ u = cc in
-      subst (IsTypedUnit Equal (compiled p)) same (unit_typed (compiled p) r fits)
+      subst (IsTypedUnit Equal (compiled p)) same (unit_typed (compiled p) r fits (omega (arith, body_one r.body)))
   typed_at (suc n) u e = absurd cc
 
   -- the code of every template is typed
@@ -226,7 +226,7 @@ module _ (template : Text) (escaping : Bool) (b : Body) where
   means : (x : Pairs) (n : ℕ) → smean p x n ≡ mean escaping template b x n
   means x n = program_means template escaping b x n
 
-  abbrev only : Routine
+  abbrev pub only : Routine
   only = record { parameters = 0; locals = 0; body = resolved_body template escaping (ascending (body_names b)) b 0 slots.end }
 
   -- from source to text, and enough budget: wherever the code has a spelling

@@ -11,7 +11,7 @@ use Rattle.jt_parse.specs.Bytes.{expr_bytes, stmt_bytes, body_bytes, branch_byte
 use Rattle.jt_scopes.specs.Slots as slots
 use Rattle.jt_scopes.specs.Slots.{SBody}
 use Rattle.jt_scopes.specs.Resolve.{expr_names, stmt_names, body_names, branch_names, inserted, all_inserted, ascending, expr_pool, stmt_pool, body_pool, branch_pool, resolved_expr, resolved_stmt, resolved_body, resolved_choice, program}
-use Rattle.jt_scopes.specs.Size.{expr_size, body_size, routines_size, expr_height, body_height, names_bytes, pool_bytes}
+use Rattle.jt_scopes.specs.Size.{expr_size, body_size, routines_size, expr_height, stmt_height, body_height, names_bytes, pool_bytes}
 
 -- ---- instructions and entries
 
@@ -80,6 +80,21 @@ module _ (template : Text) (escaping : Bool) (names : List Text) where
         let low_later : 2 * later ≤ w = choice_low rest w other g l slots.end (omega (arith, le)) (omega arith) in
         both_low (max test (max inside later)) (body_height behind) w
         (both_low test (max inside later) w (omega (arith, le, expr_low c n)) (both_low inside later w low_inside low_later)) h
+
+-- no form needs more than an entry yet
+expr_one : (e : slots.SExpr) → expr_height e ≤ 1
+expr_one (slots.pooled i) = omega arith
+expr_one (slots.global i) = omega arith
+
+mutual
+  stmt_one : (s : slots.SStmt) → stmt_height s ≤ 1
+  stmt_one (slots.put_pooled i) = omega arith
+  stmt_one (slots.print p escaping e) = expr_one e
+  stmt_one (slots.if_else p c a b) = omega (arith, expr_one c, body_one a, body_one b)
+
+  pub body_one : (b : SBody) → body_height b ≤ 1
+  body_one slots.end = omega arith
+  body_one (slots.stmt s rest) = omega (arith, stmt_one s, body_one rest)
 
 -- ---- names
 
