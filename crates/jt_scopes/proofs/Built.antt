@@ -10,6 +10,7 @@ use Rattle.std.proofs.lemmas.Bool.Decides.{nat_tests}
 use Rattle.jt_value.specs.Tree.{Tree}
 use Rattle.jt_parse.specs.Trees as trees
 use Rattle.jt_parse.specs.Trees.{Text, Body, Branches}
+use Rattle.jt_expr.specs.View as written
 use Rattle.jt_parse.specs.View as parsed
 use Rattle.jt_parse.proofs.Views as parse
 use Rattle.jt_parse.specs.declared.tree.Stmt.{Stmt}
@@ -23,7 +24,7 @@ use Rattle.jt_scopes.specs.Scoped.{name_of, expr_in, stmt_in, body_in}
 use Rattle.jt_scopes.specs.declared.program.SExpr.{SExpr}
 use Rattle.jt_scopes.specs.declared.program.SStmt.{SStmt}
 use Rattle.jt_scopes.specs.declared.program.SStmt.TheVariants as s
-use Rattle.jt_scopes.specs.declared.resolving.Scope.{Scope}
+use Rattle.jt_scopes.specs.declared.scope.Scope.{Scope}
 use Rattle.jt_scopes.proofs.Gathered.{Branch, statements_left, branches_left}
 use Rattle.jt_scopes.proofs.Fronts.{SBranch, body_push, choice_push, choice_same, joined, view-If}
 
@@ -75,23 +76,23 @@ module _ (scope : Scope) where
 
   -- the branch in front of the later ones
   branch_joined : (b : Branch) (c' : SExpr) (d' : Vec SStmt Global) (p q p' : List Tree) (rest : Branches) (other : ℕ → Front)
-      → expr_view c' ≡ expr_in scope (parsed.expr_view b.1) (length p) → q ≡ p ++ expr_pool (parsed.expr_view b.1)
+      → expr_view c' ≡ expr_in scope (written.expr_view b.1) (length p) → q ≡ p ++ expr_pool (written.expr_view b.1)
       → ((z : SBody) → body_view (name_of scope) d'.items z ≡ body_in scope (parsed.body_view b.2.items) (length q) z) → p' ≡ q ++ body_pool (parsed.body_view b.2.items) → (z : SBody)
-      → joined (name_of scope) (b.0, c', d') (choice_in scope rest other (length p') slots.end) z ≡ choice_in scope (trees.branch b.0 (parsed.expr_view b.1) (parsed.body_view b.2.items) rest) other (length p) z
+      → joined (name_of scope) (b.0, c', d') (choice_in scope rest other (length p') slots.end) z ≡ choice_in scope (trees.branch b.0 (written.expr_view b.1) (parsed.body_view b.2.items) rest) other (length p) z
   branch_joined b c' d' p q p' rest other h e k f z =
-      let c = expr_pool (parsed.expr_view b.1) in
+      let c = expr_pool (written.expr_view b.1) in
       let d = body_pool (parsed.body_view b.2.items) in
       let first : length q ≡ length p + length c = ap length e ∙ length-append p c in
       let count : length p' ≡ length p + length c + length d = ap length f ∙ length-append q d ∙ ap (λ n. n + length d) first in
       let shown = λ (x : slots.SExpr) (body : SBody) (later : SBody). slots.stmt (slots.if_else (record { template = name_of scope; line = b.0 }) x body later) z in
       let last = λ (n : ℕ). choice_in scope rest other n slots.end in
-      let asked = expr_in scope (parsed.expr_view b.1) (length p) in
+      let asked = expr_in scope (written.expr_view b.1) (length p) in
       ap (λ x. shown x (body_view (name_of scope) d'.items slots.end) (last (length p'))) h
       ∙ ap (λ body. shown asked body (last (length p'))) (k slots.end ∙ ap (λ n. body_in scope (parsed.body_view b.2.items) n slots.end) first)
       ∙ ap (λ n. shown asked (body_in scope (parsed.body_view b.2.items) (length p + length c) slots.end) (last n)) count
 
   pub branch_built : (bs : List Branch) (i : ℕ) (b : Branch) (done : List SBranch) (c' : SExpr) (d' : Vec SStmt Global) (p q p' : List Tree) → i < length bs → b ≡ get_or bs i b
-      → expr_view c' ≡ expr_in scope (parsed.expr_view b.1) (length p) → q ≡ p ++ expr_pool (parsed.expr_view b.1)
+      → expr_view c' ≡ expr_in scope (written.expr_view b.1) (length p) → q ≡ p ++ expr_pool (written.expr_view b.1)
       → ((z : SBody) → body_view (name_of scope) d'.items z ≡ body_in scope (parsed.body_view b.2.items) (length q) z) → p' ≡ q ++ body_pool (parsed.body_view b.2.items)
       → (other : ℕ → Front) (behind : SBody)
       → choice_view (name_of scope) (done ++ (b.0, c', d') ∷ []) (choice_in scope (parsed.branches_view (drop (i + 1) bs)) other (length p')) behind ≡ choice_view (name_of scope) done (choice_in scope (parsed.branches_view (drop i bs)) other (length p)) behind
@@ -126,10 +127,10 @@ statement_pooled ss i x p p' lt at e =
     let rest = body_pool (parsed.body_view (drop (i + 1) ss)) in
     ap (λ l. l ++ rest) e ∙ append_assoc p (stmt_pool (parsed.stmt_view x)) rest ∙ ap (λ b. p ++ body_pool b) (sym (statements_left ss i x lt at))
 
-pub branch_pooled : (bs : List Branch) (i : ℕ) (b : Branch) (p q p' : List Tree) → i < length bs → b ≡ get_or bs i b → q ≡ p ++ expr_pool (parsed.expr_view b.1) → p' ≡ q ++ body_pool (parsed.body_view b.2.items)
+pub branch_pooled : (bs : List Branch) (i : ℕ) (b : Branch) (p q p' : List Tree) → i < length bs → b ≡ get_or bs i b → q ≡ p ++ expr_pool (written.expr_view b.1) → p' ≡ q ++ body_pool (parsed.body_view b.2.items)
     → p' ++ branch_pool (parsed.branches_view (drop (i + 1) bs)) ≡ p ++ branch_pool (parsed.branches_view (drop i bs))
 branch_pooled bs i b p q p' lt at e f =
-    let c = expr_pool (parsed.expr_view b.1) in
+    let c = expr_pool (written.expr_view b.1) in
     let d = body_pool (parsed.body_view b.2.items) in
     let rest = branch_pool (parsed.branches_view (drop (i + 1) bs)) in
     ap (λ l. l ++ rest) (f ∙ ap (λ l. l ++ d) e) ∙ append_assoc (p ++ c) d rest ∙ append_assoc p c (d ++ rest) ∙ ap (λ x. p ++ branch_pool x) (sym (branches_left bs i b lt at))

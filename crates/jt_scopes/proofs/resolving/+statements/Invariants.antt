@@ -5,7 +5,7 @@ use Rattle.jt_scopes.specs.Resolve.{body_pool, branch_pool}
 use Rattle.jt_scopes.specs.View.{Front, body_view, choice_view}
 use Rattle.jt_scopes.specs.Scoped.{values, name_of, body_in}
 use Rattle.jt_scopes.proofs.Built.{choice_in}
-use Rattle.jt_scopes.proofs.resolving.+resolve.Given as goal
+use Rattle.jt_scopes.proofs.resolving.+statements.Given as goal
 
 abbrev pub invariant-resolve_statements-loop-statement : goal.invariant-resolve_statements-loop-statement
 invariant-resolve_statements-loop-statement l = record {

@@ -7,7 +7,7 @@ use Rattle.jt_scopes.specs.View.{Front, body_view, choice_view}
 use Rattle.jt_scopes.specs.Scoped.{values, name_of, body_in}
 use Rattle.jt_scopes.proofs.Gathered.{Branch}
 use Rattle.jt_scopes.proofs.Built.{choice_in, statement_built, statement_pooled, branch_built, branch_pooled, choice_built, choice_pooled}
-use Rattle.jt_scopes.proofs.resolving.+resolve.Goals as goal
+use Rattle.jt_scopes.proofs.resolving.+statements.Goals as goal
 
 pub resolve_statements-loop-statement-preserved : goal.resolve_statements-loop-statement-preserved
 resolve_statements-loop-statement-preserved t c =
