@@ -289,12 +289,14 @@ mutual
   expr_few (item a b) =
       let h = few_append (expr_names a) (expr_names b) (weight a) (weight b) (expr_bytes a) (expr_bytes b) (expr_few a) (expr_few b) in
       (omega (arith, h.0), h.1)
-  expr_few (written.call a ts ps) = let h = arguments_few ts ps in (omega (arith, h.0), omega (arith, h.1))
+  expr_few (written.call a ts ps) = let h = few_append (row_names ts) (pair_names ps) (exprs_weight ts) (pairs_weight 2 ps) (exprs_bytes ts) (pairs_bytes ps) (row_few ts) (pairs_few 2 ps) in (omega (arith, h.0), omega (arith, h.1))
   expr_few (filter a x ts ps) =
-      let h = few_append (expr_names a) (row_names ts ++ pair_names ps) (weight a) (exprs_weight ts + pairs_weight 2 ps) (expr_bytes a) (exprs_bytes ts + pairs_bytes ps) (expr_few a) (arguments_few ts ps) in
+      let h = few_append (expr_names a) (row_names ts ++ pair_names ps) (weight a) (exprs_weight ts + pairs_weight 2 ps) (expr_bytes a) (exprs_bytes ts + pairs_bytes ps) (expr_few a)
+          (few_append (row_names ts) (pair_names ps) (exprs_weight ts) (pairs_weight 2 ps) (exprs_bytes ts) (pairs_bytes ps) (row_few ts) (pairs_few 2 ps)) in
       (omega (arith, h.0), omega (arith, h.1))
   expr_few (test a t x ts ps) =
-      let h = few_append (expr_names a) (row_names ts ++ pair_names ps) (weight a) (exprs_weight ts + pairs_weight 2 ps) (expr_bytes a) (exprs_bytes ts + pairs_bytes ps) (expr_few a) (arguments_few ts ps) in
+      let h = few_append (expr_names a) (row_names ts ++ pair_names ps) (weight a) (exprs_weight ts + pairs_weight 2 ps) (expr_bytes a) (exprs_bytes ts + pairs_bytes ps) (expr_few a)
+          (few_append (row_names ts) (pair_names ps) (exprs_weight ts) (pairs_weight 2 ps) (exprs_bytes ts) (pairs_bytes ps) (row_few ts) (pairs_few 2 ps)) in
       (omega (arith, h.0, is_some_weight t), omega (arith, h.1))
   expr_few (unary u a) = let h = expr_few a in (omega (arith, h.0), h.1)
   expr_few (binary x a b) =
@@ -319,9 +321,6 @@ mutual
   pairs_few key (pair k a ps) =
       let h = few_append (expr_names a) (pair_names ps) (weight a) (pairs_weight key ps) (expr_bytes a) (pairs_bytes ps) (expr_few a) (pairs_few key ps) in
       (omega (arith, h.0), omega (arith, h.1))
-
-  arguments_few : (ts : Exprs) (ps : Pairs) → Few (row_names ts ++ pair_names ps) (exprs_weight ts + pairs_weight 2 ps) (exprs_bytes ts + pairs_bytes ps)
-  arguments_few ts ps = few_append (row_names ts) (pair_names ps) (exprs_weight ts) (pairs_weight 2 ps) (exprs_bytes ts) (pairs_bytes ps) (row_few ts) (pairs_few 2 ps)
 
 mutual
   stmt_few : (s : Stmt) → Few (stmt_names s) (stmt_weight s) (stmt_bytes s)
