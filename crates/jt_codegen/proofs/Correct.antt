@@ -46,7 +46,7 @@ fills x (n ∷ ns) before i e =
     let v = unwrap_or (look n x) tree.undefined in
     let rest = replicate (length ns) tree.undefined in
     let set : slice_set (before ++ tree.undefined ∷ rest) i v ≡ (before ++ v ∷ []) ++ rest =
-        ap (λ j. slice_set (before ++ tree.undefined ∷ rest) j v) (sym e) ∙ set-append_seam before tree.undefined rest v ∙ sym (append_assoc before (v ∷ []) rest) in
+    ap (λ j. slice_set (before ++ tree.undefined ∷ rest) j v) (sym e) ∙ set-append_seam before tree.undefined rest v ∙ sym (append_assoc before (v ∷ []) rest) in
     let len : length (before ++ v ∷ []) ≡ suc i = omega (arith, length-append before (v ∷ [])) in
     ap (λ gs. filled x (numbered (suc i) ns) gs) set ∙ fills x ns (before ++ v ∷ []) (suc i) len ∙ append_assoc before (v ∷ []) (globals_of x ns)
 
@@ -106,8 +106,8 @@ module _ (p : Program) (r : Routine) (rs : List Routine) (is : p.routines ≡ r 
   body_follows : (x : Pairs) (n : ℕ) → Follows k (machine 0 0 [] (at_memory [] [] (memory x))) n (out_of (smeanings p.pool (call n) r.body (memory x)))
   body_follows x n =
       ends n (machine 0 0 [] (at_memory [] [] (memory x))) (smeanings p.pool (call n) r.body (memory x))
-        (subst (λ (y : Ran). Reaches k n (machine 0 0 [] (at_memory [] [] (memory x))) y (machine 0 (0 + length code) [])) (body_lowered k p.pool (call n) has r.body [] [] (memory x) takes)
-          (flat_runs k n (body_asm r.body) (unit_of r) 0 0 [] (at_memory [] [] (memory x)) first (has_front (unit_of r).code 0 code (op.Return ∷ []) all)))
+      (subst (λ (y : Ran). Reaches k n (machine 0 0 [] (at_memory [] [] (memory x))) y (machine 0 (0 + length code) [])) (body_lowered k p.pool (call n) has r.body [] [] (memory x) takes)
+      (flat_runs k n (body_asm r.body) (unit_of r) 0 0 [] (at_memory [] [] (memory x)) first (has_front (unit_of r).code 0 code (op.Return ∷ []) all)))
 
   follows : (x : Pairs) (n : ℕ) → Follows k (start_machine k x) n (smean p x n)
   follows x n =

@@ -17,7 +17,13 @@ use Rattle.jt_scopes.specs.Size.{expr_height, body_height}
 pub both_low : (a b c : ℕ) → nat_le (max a b) c ≡ nat_le a c && nat_le b c
 both_low a b c = grind (arith, nat_tests)
 
-zero_low : (n : ℕ) → nat_le 0 n ≡ true
+pub low_le : (a b : ℕ) → nat_le a b ≡ true → a ≤ b
+low_le a b h = grind (arith, nat_tests)
+
+pub high_lt : (a b : ℕ) → nat_le a b ≡ false → b < a
+high_lt a b h = grind (arith, nat_tests)
+
+pub zero_low : (n : ℕ) → nat_le 0 n ≡ true
 zero_low n = grind (arith, nat_tests)
 
 -- a value is one entry
@@ -72,7 +78,6 @@ module _ (room : ℕ) where
         ∙ ap (λ z. (nat_le c room && (nat_le x room && ((branches_low bs && o) && z))) && nat_le (body_height behind) room) (zero_low room)
         ∙ all_of (nat_le c room) (nat_le x room) (branches_low bs) o (nat_le (body_height behind) room)
 
-
     pub choice_high : (bs : List SBranch) (other : Front) (behind : SBody) → branches_low bs ≡ false → nat_le (body_height (choice_view template bs other behind)) room ≡ false
     choice_high [] other behind h = absurd cc
     choice_high (b ∷ bs) other behind h =
@@ -106,13 +111,13 @@ module _ (room : ℕ) where
         branches_next bs i b lt is ∙ ap (λ z. z && branches_low (drop (i + 1) bs)) (branch_same b ss t u same e f ∙ ap (λ z. z && u) yes ∙ too)
 
     pub condition_high : (bs : List SBranch) (i : ℕ) (b : SBranch) (t : Bool) → i < length bs → b ≡ get_or bs i b → t ≡ nat_le (expr_height (expr_view b.1)) room → t ≡ false → branches_low (drop i bs) ≡ false
-    condition_high bs i b t lt is e no =
-        branches_next bs i b lt is ∙ ap (λ z. (z && nat_le (body_height (body_view template b.2.items end)) room) && branches_low (drop (i + 1) bs)) (sym e ∙ no)
+    condition_high bs i b t lt is e high =
+        branches_next bs i b lt is ∙ ap (λ z. (z && nat_le (body_height (body_view template b.2.items end)) room) && branches_low (drop (i + 1) bs)) (sym e ∙ high)
 
     pub inside_high : (bs : List SBranch) (i : ℕ) (b : SBranch) (ss : List SStmt) (t u : Bool) → i < length bs → b ≡ get_or bs i b → ss ≡ b.2.items → t ≡ nat_le (expr_height (expr_view b.1)) room
         → nat_le (body_height (body_view template ss end)) room ≡ u && nat_le 0 room → u ≡ false → branches_low (drop i bs) ≡ false
-    inside_high bs i b ss t u lt is same e f no =
-        branches_next bs i b lt is ∙ ap (λ z. z && branches_low (drop (i + 1) bs)) (branch_same b ss t u same e f ∙ ap (λ z. t && z) no ∙ none t)
+    inside_high bs i b ss t u lt is same e f high =
+        branches_next bs i b lt is ∙ ap (λ z. z && branches_low (drop (i + 1) bs)) (branch_same b ss t u same e f ∙ ap (λ z. t && z) high ∙ none t)
       where
         none : (t : Bool) → (t && false) ≡ false
         none true = refl

@@ -1,7 +1,6 @@
 -- A chain that breaks no rule: its image, and what its refusals say.
 use Rattle.std.proofs.Common.{◌≡◌, ◌<◌, ◌≤◌, Bool, true, false, ◌&&◌, List, [], ◌∷◌, map, length, Option, Some, refl, sym, ap, ◌∙◌, subst, arith}
 use Rattle.std.specs.Prelude.{◌≢◌, nat_le}
-use Rattle.std.proofs.lemmas.Bool.Decides.{nat_tests}
 use Rattle.std.specs.List.{AllByRecursion}
 use Rattle.jt_scan.specs.declared.options.Options.{Options}
 use Rattle.jt_image.specs.Code.{Code}
@@ -29,6 +28,7 @@ use Rattle.jt_codegen.specs.Refusals.{of_emit, of_image, HasProgram, Breaks, Nam
 use Rattle.jt_codegen.specs.declared.emission.EmitError.{EmitError}
 use Rattle.jt_codegen.specs.declared.emission.EmitError.TheVariants as emit_error
 use Rattle.jt_codegen.proofs.Whole.{compiles}
+use Rattle.jt_codegen.proofs.Heights.{zero_low, low_le, high_lt}
 use Rattle.jt_codegen.proofs.Knowing.{lawful_takes}
 use Rattle.jt_codegen.proofs.Small.{tables, writable, small_limits, small_low}
 use Rattle.jt_codegen.proofs.Spelled.{names_some}
@@ -51,7 +51,8 @@ module _ (sources : Sources) (entry : Text) (options : Options) (c : Seen) (is :
   body_same q b same bodies = let e : map (λ (r : Routine). r.body) p.routines ≡ b ∷ [] = ap (λ (x : Program). map (λ (r : Routine). r.body) x.routines) (sym same) ∙ bodies in cc
 
   low : (q : Program) (b : SBody) (t : Bool) → q ≡ p → map (λ (r : Routine). r.body) q.routines ≡ b ∷ [] → nat_le (body_height b) max_entries ≡ t && nat_le 0 max_entries → t ≡ true → body_height body ≤ max_entries
-  low q b t same bodies e yes = let f = body_same q b same bodies in grind (arith, nat_tests)
+  low q b t same bodies e yes =
+      low_le (body_height body) max_entries (ap (λ (x : SBody). nat_le (body_height x) max_entries) (sym (body_same q b same bodies)) ∙ e ∙ ap (λ z. z && nat_le 0 max_entries) yes ∙ zero_low max_entries)
 
   pub image_compiled : (q : Program) (o : Option Code) (k : Code) (b : SBody) (t : Bool) → q ≡ p → KeepsRules c.body → map (λ (r : Routine). r.body) q.routines ≡ b ∷ [] → nat_le (body_height b) max_entries ≡ t && nat_le 0 max_entries → t ≡ true
       → o ≡ Some (compiled q) → IsCode k → o ≡ Some k → IsCompiled sources entry options k
@@ -120,17 +121,18 @@ module _ (sources : Sources) (entry : Text) (options : Options) (c : Seen) (is :
   -- ---- entries
 
   many : (q : Program) (b : SBody) (t : Bool) → q ≡ p → map (λ (r : Routine). r.body) q.routines ≡ b ∷ [] → nat_le (body_height b) max_entries ≡ t && nat_le 0 max_entries → t ≡ false → max_entries < body_height body
-  many q b t same bodies e no = let f = body_same q b same bodies in grind (arith, nat_tests)
+  many q b t same bodies e high =
+      high_lt (body_height body) max_entries (ap (λ (x : SBody). nat_le (body_height x) max_entries) (sym (body_same q b same bodies)) ∙ e ∙ ap (λ z. z && nat_le 0 max_entries) high)
 
   pub stack_refused : (q : Program) (b : SBody) (t : Bool) → q ≡ p → KeepsRules c.body → map (λ (r : Routine). r.body) q.routines ≡ b ∷ [] → nat_le (body_height b) max_entries ≡ t && nat_le 0 max_entries → t ≡ false → HasProgram sources entry options NeedsTooMany
-  stack_refused q b t same lawful bodies e no = record {
+  stack_refused q b t same lawful bodies e high = record {
     chain = c;
     is = is;
     lawful = lawful;
-    fact = record { n = 0; routine = record { parameters = 0; locals = 0; body = body }; is = refl; many = many q b t same bodies e no };
+    fact = record { n = 0; routine = record { parameters = 0; locals = 0; body = body }; is = refl; many = many q b t same bodies e high };
   }
 
   pub stack_not_small : (q : Program) (b : SBody) (t : Bool) → q ≡ p → ((source : Text) → sources entry ≡ Some source → body_weight c.body ≤ length source) → map (λ (r : Routine). r.body) q.routines ≡ b ∷ []
       → nat_le (body_height b) max_entries ≡ t && nat_le 0 max_entries → t ≡ false → ¬ (IsSmall sources entry options)
-  stack_not_small q b t same weighs bodies e no = λ small.
-      absurd (omega (arith, many q b t same bodies e no, small_low c.name c.escaping c.body (omega (arith, weighs small.source small.found, small.bytes))))
+  stack_not_small q b t same weighs bodies e high = λ small.
+      absurd (omega (arith, many q b t same bodies e high, small_low c.name c.escaping c.body (omega (arith, weighs small.source small.found, small.bytes))))

@@ -66,15 +66,13 @@ mutual
   expr_known (list_of ts) f t = row_known ts f t
   expr_known (map_of ps) f t = pairs_known ps f t
   expr_known (attribute a k) f t = expr_known a f t
-  expr_known (item a b) f t =
-      (
-        expr_known a (first (has_unknown n.Filter a) (has_unknown n.Filter b) f) (first (has_unknown n.Test a) (has_unknown n.Test b) t),
-        expr_known b (second (has_unknown n.Filter a) (has_unknown n.Filter b) f) (second (has_unknown n.Test a) (has_unknown n.Test b) t),
-      )
+  expr_known (item a b) f t = (
+    expr_known a (first (has_unknown n.Filter a) (has_unknown n.Filter b) f) (first (has_unknown n.Test a) (has_unknown n.Test b) t),
+    expr_known b (second (has_unknown n.Filter a) (has_unknown n.Filter b) f) (second (has_unknown n.Test a) (has_unknown n.Test b) t),
+  )
   expr_known (written.call a ts ps) f t =
       let g = second (has_unknown n.Filter a) (exprs_have_unknown n.Filter ts || pairs_have_unknown n.Filter ps) f in
-      let u = second (has_unknown n.Test a) (exprs_have_unknown n.Test ts || pairs_have_unknown n.Test ps) t in
-      (
+      let u = second (has_unknown n.Test a) (exprs_have_unknown n.Test ts || pairs_have_unknown n.Test ps) t in (
         row_known ts (first (exprs_have_unknown n.Filter ts) (pairs_have_unknown n.Filter ps) g) (first (exprs_have_unknown n.Test ts) (pairs_have_unknown n.Test ps) u),
         pairs_known ps (second (exprs_have_unknown n.Filter ts) (pairs_have_unknown n.Filter ps) g) (second (exprs_have_unknown n.Test ts) (pairs_have_unknown n.Test ps) u),
       )
@@ -83,28 +81,24 @@ mutual
       let inner = has_unknown n.Test a || (exprs_have_unknown n.Test ts || pairs_have_unknown n.Test ps) in
       let inside = second (not (is_test x)) inner t in
       let g = second (has_unknown n.Filter a) (exprs_have_unknown n.Filter ts || pairs_have_unknown n.Filter ps) f in
-      let u = second (has_unknown n.Test a) (exprs_have_unknown n.Test ts || pairs_have_unknown n.Test ps) inside in
-      (
+      let u = second (has_unknown n.Test a) (exprs_have_unknown n.Test ts || pairs_have_unknown n.Test ps) inside in (
         test_found x (first (not (is_test x)) inner t),
         expr_known a (first (has_unknown n.Filter a) (exprs_have_unknown n.Filter ts || pairs_have_unknown n.Filter ps) f) (first (has_unknown n.Test a) (exprs_have_unknown n.Test ts || pairs_have_unknown n.Test ps) inside),
         row_known ts (first (exprs_have_unknown n.Filter ts) (pairs_have_unknown n.Filter ps) g) (first (exprs_have_unknown n.Test ts) (pairs_have_unknown n.Test ps) u),
         pairs_known ps (second (exprs_have_unknown n.Filter ts) (pairs_have_unknown n.Filter ps) g) (second (exprs_have_unknown n.Test ts) (pairs_have_unknown n.Test ps) u),
       )
   expr_known (unary o a) f t = expr_known a f t
-  expr_known (binary o a b) f t =
-      (
-        expr_known a (first (has_unknown n.Filter a) (has_unknown n.Filter b) f) (first (has_unknown n.Test a) (has_unknown n.Test b) t),
-        expr_known b (second (has_unknown n.Filter a) (has_unknown n.Filter b) f) (second (has_unknown n.Test a) (has_unknown n.Test b) t),
-      )
-  expr_known (when c a) f t =
-      (
-        expr_known c (first (has_unknown n.Filter c) (has_unknown n.Filter a) f) (first (has_unknown n.Test c) (has_unknown n.Test a) t),
-        expr_known a (second (has_unknown n.Filter c) (has_unknown n.Filter a) f) (second (has_unknown n.Test c) (has_unknown n.Test a) t),
-      )
+  expr_known (binary o a b) f t = (
+    expr_known a (first (has_unknown n.Filter a) (has_unknown n.Filter b) f) (first (has_unknown n.Test a) (has_unknown n.Test b) t),
+    expr_known b (second (has_unknown n.Filter a) (has_unknown n.Filter b) f) (second (has_unknown n.Test a) (has_unknown n.Test b) t),
+  )
+  expr_known (when c a) f t = (
+    expr_known c (first (has_unknown n.Filter c) (has_unknown n.Filter a) f) (first (has_unknown n.Test c) (has_unknown n.Test a) t),
+    expr_known a (second (has_unknown n.Filter c) (has_unknown n.Filter a) f) (second (has_unknown n.Test c) (has_unknown n.Test a) t),
+  )
   expr_known (choice c a b) f t =
       let g = second (has_unknown n.Filter c) (has_unknown n.Filter a || has_unknown n.Filter b) f in
-      let u = second (has_unknown n.Test c) (has_unknown n.Test a || has_unknown n.Test b) t in
-      (
+      let u = second (has_unknown n.Test c) (has_unknown n.Test a || has_unknown n.Test b) t in (
         expr_known c (first (has_unknown n.Filter c) (has_unknown n.Filter a || has_unknown n.Filter b) f) (first (has_unknown n.Test c) (has_unknown n.Test a || has_unknown n.Test b) t),
         expr_known a (first (has_unknown n.Filter a) (has_unknown n.Filter b) g) (first (has_unknown n.Test a) (has_unknown n.Test b) u),
         expr_known b (second (has_unknown n.Filter a) (has_unknown n.Filter b) g) (second (has_unknown n.Test a) (has_unknown n.Test b) u),
@@ -112,19 +106,17 @@ mutual
 
   row_known : (ts : Exprs) → exprs_have_unknown n.Filter ts ≡ false → exprs_have_unknown n.Test ts ≡ false → RowKnown ts
   row_known no_exprs f t = tt
-  row_known (expr a ts) f t =
-      (
-        expr_known a (first (has_unknown n.Filter a) (exprs_have_unknown n.Filter ts) f) (first (has_unknown n.Test a) (exprs_have_unknown n.Test ts) t),
-        row_known ts (second (has_unknown n.Filter a) (exprs_have_unknown n.Filter ts) f) (second (has_unknown n.Test a) (exprs_have_unknown n.Test ts) t),
-      )
+  row_known (expr a ts) f t = (
+    expr_known a (first (has_unknown n.Filter a) (exprs_have_unknown n.Filter ts) f) (first (has_unknown n.Test a) (exprs_have_unknown n.Test ts) t),
+    row_known ts (second (has_unknown n.Filter a) (exprs_have_unknown n.Filter ts) f) (second (has_unknown n.Test a) (exprs_have_unknown n.Test ts) t),
+  )
 
   pairs_known : (ps : Pairs) → pairs_have_unknown n.Filter ps ≡ false → pairs_have_unknown n.Test ps ≡ false → PairsKnown ps
   pairs_known no_pairs f t = tt
-  pairs_known (pair k a ps) f t =
-      (
-        expr_known a (first (has_unknown n.Filter a) (pairs_have_unknown n.Filter ps) f) (first (has_unknown n.Test a) (pairs_have_unknown n.Test ps) t),
-        pairs_known ps (second (has_unknown n.Filter a) (pairs_have_unknown n.Filter ps) f) (second (has_unknown n.Test a) (pairs_have_unknown n.Test ps) t),
-      )
+  pairs_known (pair k a ps) f t = (
+    expr_known a (first (has_unknown n.Filter a) (pairs_have_unknown n.Filter ps) f) (first (has_unknown n.Test a) (pairs_have_unknown n.Test ps) t),
+    pairs_known ps (second (has_unknown n.Filter a) (pairs_have_unknown n.Filter ps) f) (second (has_unknown n.Test a) (pairs_have_unknown n.Test ps) t),
+  )
 
 at_known : (line : ℕ) (e : Expr) → unknown_at line e ≡ None → ExprKnown e
 at_known line e h = by (has_unknown n.Filter e) (has_unknown n.Test e) refl refl h

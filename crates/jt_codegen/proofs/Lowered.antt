@@ -208,22 +208,22 @@ module _ (k : Code) (pool : List Tree) (call : SCalls) (has : HasPool k pool) wh
     expr_lowered (global i) es bufs m fit = refl
     expr_lowered (slots.made h r) es bufs m fit =
         row_lowered r es bufs m (run k (one (maker h (row_count r)))) (λ vs. checked (make h vs)) (λ v. does (at_memory (value v ∷ es) bufs m)) fit.1
-          (λ vs e. made_lowered h (row_count r) vs es bufs m fit.0 e)
+        (λ vs e. made_lowered h (row_count r) vs es bufs m fit.0 e)
     expr_lowered (slots.conjunction a b) es bufs m fit =
         lowered (run k (expr_asm a) (at_memory es bufs m)) (svalue pool call a m) (λ v. at_memory (value v ∷ es) bufs m) (run k (both (one op.Dup) (choose (both (one op.Drop) (expr_asm b)) nil)))
-          (λ v. if tree.truth v then svalue pool call b m else gives v) (λ v. does (at_memory (value v ∷ es) bufs m))
-          (expr_lowered a es bufs m fit.0)
-          (λ v. chosen_by v (run k (expr_asm b) (at_memory es bufs m)) (does (at_memory (value v ∷ es) bufs m)) (svalue pool call b m) (gives v) (λ v'. does (at_memory (value v' ∷ es) bufs m)) (expr_lowered b es bufs m fit.1) refl)
+        (λ v. if tree.truth v then svalue pool call b m else gives v) (λ v. does (at_memory (value v ∷ es) bufs m))
+        (expr_lowered a es bufs m fit.0)
+        (λ v. chosen_by v (run k (expr_asm b) (at_memory es bufs m)) (does (at_memory (value v ∷ es) bufs m)) (svalue pool call b m) (gives v) (λ v'. does (at_memory (value v' ∷ es) bufs m)) (expr_lowered b es bufs m fit.1) refl)
     expr_lowered (slots.disjunction a b) es bufs m fit =
         lowered (run k (expr_asm a) (at_memory es bufs m)) (svalue pool call a m) (λ v. at_memory (value v ∷ es) bufs m) (run k (both (one op.Dup) (choose nil (both (one op.Drop) (expr_asm b)))))
-          (λ v. if tree.truth v then gives v else svalue pool call b m) (λ v. does (at_memory (value v ∷ es) bufs m))
-          (expr_lowered a es bufs m fit.0)
-          (λ v. chosen_by v (does (at_memory (value v ∷ es) bufs m)) (run k (expr_asm b) (at_memory es bufs m)) (gives v) (svalue pool call b m) (λ v'. does (at_memory (value v' ∷ es) bufs m)) refl (expr_lowered b es bufs m fit.1))
+        (λ v. if tree.truth v then gives v else svalue pool call b m) (λ v. does (at_memory (value v ∷ es) bufs m))
+        (expr_lowered a es bufs m fit.0)
+        (λ v. chosen_by v (does (at_memory (value v ∷ es) bufs m)) (run k (expr_asm b) (at_memory es bufs m)) (gives v) (svalue pool call b m) (λ v'. does (at_memory (value v' ∷ es) bufs m)) refl (expr_lowered b es bufs m fit.1))
     expr_lowered (slots.choice c a b) es bufs m fit =
         lowered (run k (expr_asm c) (at_memory es bufs m)) (svalue pool call c m) (λ v. at_memory (value v ∷ es) bufs m) (run k (choose (expr_asm a) (expr_asm b)))
-          (λ v. if tree.truth v then svalue pool call a m else svalue pool call b m) (λ v. does (at_memory (value v ∷ es) bufs m))
-          (expr_lowered c es bufs m fit.0)
-          (λ v. chosen_by v (run k (expr_asm a) (at_memory es bufs m)) (run k (expr_asm b) (at_memory es bufs m)) (svalue pool call a m) (svalue pool call b m) (λ v'. does (at_memory (value v' ∷ es) bufs m)) (expr_lowered a es bufs m fit.1) (expr_lowered b es bufs m fit.2))
+        (λ v. if tree.truth v then svalue pool call a m else svalue pool call b m) (λ v. does (at_memory (value v ∷ es) bufs m))
+        (expr_lowered c es bufs m fit.0)
+        (λ v. chosen_by v (run k (expr_asm a) (at_memory es bufs m)) (run k (expr_asm b) (at_memory es bufs m)) (svalue pool call a m) (svalue pool call b m) (λ v'. does (at_memory (value v' ∷ es) bufs m)) (expr_lowered a es bufs m fit.1) (expr_lowered b es bufs m fit.2))
 
     -- a row, and what follows it: there are as many values as the row has parts
     row_lowered : (r : SRow) (es : List Entry) (bufs : List (List ℕ)) (m : Memory) (g : State → Ran) (f : List Tree → Got Tree) (post : Tree → Ran) → RowTakes r
@@ -233,8 +233,8 @@ module _ (k : Code) (pool : List Tree) (call : SCalls) (has : HasPool k pool) wh
     row_lowered (slots.item e r) es bufs m g f post fit h =
         and_then_assoc (run k (expr_asm e) (at_memory es bufs m)) (run k (row_asm r)) g
         ∙ lowered (run k (expr_asm e) (at_memory es bufs m)) (svalue pool call e m) (λ v. at_memory (value v ∷ es) bufs m) (λ s. and_then (run k (row_asm r) s) g) (λ v. bind (svalues pool call r m) (λ vs. f (v ∷ vs))) post
-          (expr_lowered e es bufs m fit.0)
-          (λ v. row_lowered r (value v ∷ es) bufs m g (λ vs. f (v ∷ vs)) post fit.1 (λ vs l. h (v ∷ vs) (ap suc l)))
+        (expr_lowered e es bufs m fit.0)
+        (λ v. row_lowered r (value v ∷ es) bufs m g (λ vs. f (v ∷ vs)) post fit.1 (λ vs l. h (v ∷ vs) (ap suc l)))
         ∙ ap (λ x. follow x post) (sym (bind_row (svalue pool call e m) (svalues pool call r m) f))
 
   mutual
@@ -242,15 +242,15 @@ module _ (k : Code) (pool : List Tree) (call : SCalls) (has : HasPool k pool) wh
     stmt_lowered (put_pooled i) es bufs m fit = ap (λ t. does (at_memory es bufs (put_text m t))) (has.texts i)
     stmt_lowered (print p escaping e) es bufs m fit =
         lowered (run k (expr_asm e) (at_memory es bufs m)) (svalue pool call e m) (λ v. at_memory (value v ∷ es) bufs m) (run k (one (op.Emit (flag escaping)))) (λ v. bind (shown escaping v) (λ s. gives (put_text m s))) (λ m'. does (at_memory es bufs m'))
-          (expr_lowered e es bufs m fit) (λ v. shown_same escaping v es bufs m)
+        (expr_lowered e es bufs m fit) (λ v. shown_same escaping v es bufs m)
         ∙ follow_at p (bind (svalue pool call e m) (λ v. bind (shown escaping v) (λ s. gives (put_text m s)))) (λ m'. does (at_memory es bufs m'))
     stmt_lowered (if_else p c a b) es bufs m fit =
         lowered (run k (expr_asm c) (at_memory es bufs m)) (at p (svalue pool call c m)) (λ v. at_memory (value v ∷ es) bufs m) (run k (choose (body_asm a) (body_asm b))) (λ v. if tree.truth v then smeanings pool call a m else smeanings pool call b m) (λ m'. does (at_memory es bufs m'))
-          (expr_lowered c es bufs m fit.0 ∙ follow_at p (svalue pool call c m) (λ v. does (at_memory (value v ∷ es) bufs m)))
-          (λ v. either (tree.truth v) (run k (body_asm a) (at_memory es bufs m)) (run k (body_asm b) (at_memory es bufs m)) (smeanings pool call a m) (smeanings pool call b m) (λ m'. does (at_memory es bufs m')) (body_lowered a es bufs m fit.1) (body_lowered b es bufs m fit.2))
+        (expr_lowered c es bufs m fit.0 ∙ follow_at p (svalue pool call c m) (λ v. does (at_memory (value v ∷ es) bufs m)))
+        (λ v. either (tree.truth v) (run k (body_asm a) (at_memory es bufs m)) (run k (body_asm b) (at_memory es bufs m)) (smeanings pool call a m) (smeanings pool call b m) (λ m'. does (at_memory es bufs m')) (body_lowered a es bufs m fit.1) (body_lowered b es bufs m fit.2))
 
     pub body_lowered : (b : SBody) (es : List Entry) (bufs : List (List ℕ)) (m : Memory) → BodyTakes b → run k (body_asm b) (at_memory es bufs m) ≡ follow (smeanings pool call b m) (λ m'. does (at_memory es bufs m'))
     body_lowered end es bufs m fit = refl
     body_lowered (stmt s rest) es bufs m fit =
         lowered (run k (stmt_asm s) (at_memory es bufs m)) (smeaning pool call s m) (λ m'. at_memory es bufs m') (run k (body_asm rest)) (smeanings pool call rest) (λ m'. does (at_memory es bufs m'))
-          (stmt_lowered s es bufs m fit.0) (λ m'. body_lowered rest es bufs m' fit.1)
+        (stmt_lowered s es bufs m fit.0) (λ m'. body_lowered rest es bufs m' fit.1)

@@ -349,7 +349,7 @@ mutual
       both_fits (expr_asm a) (both (one op.Dup) (choose nil behind)) (expr_size a) (1 + (2 + 0 + n)) (λ q. expr_len a q) (λ q r. expr_fits a q h.0 k.0 r) kept p (omega (arith, room))
   expr_fits (slots.choice c a b) p h k room =
       let chosen : Fits (choose (expr_asm a) (expr_asm b)) (2 + expr_size a + expr_size b) =
-          choose_fits (expr_asm a) (expr_asm b) (expr_size a) (expr_size b) (λ q. expr_len a q) (λ q. expr_len b q) (λ q r. expr_fits a q h.1 k.1 r) (λ q r. expr_fits b q h.2 k.2 r) in
+      choose_fits (expr_asm a) (expr_asm b) (expr_size a) (expr_size b) (λ q. expr_len a q) (λ q. expr_len b q) (λ q r. expr_fits a q h.1 k.1 r) (λ q r. expr_fits b q h.2 k.2 r) in
       both_fits (expr_asm c) (choose (expr_asm a) (expr_asm b)) (expr_size c) (2 + expr_size a + expr_size b) (λ q. expr_len c q) (λ q r. expr_fits c q h.0 k.0 r) chosen p (omega (arith, room))
 
   row_fits : (es : SRow) (p : ℕ) → RowBelow (2 ^ 32) es → RowTakes es → p + row_size es < 2 ^ 32 → AllByRecursion IsInstruction (flat (row_asm es) p)

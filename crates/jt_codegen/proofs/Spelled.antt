@@ -93,7 +93,7 @@ module _ (P : List ℕ → Type 0) (front : (x y : List ℕ) → P (x ++ y) → 
     spells_named (an_if_else {c = c} {a = a} {b = b} {x = x} {y = y} {z = z} d e f) h =
         let later = (all_back IsWord x (word (codes "if") ∷ (y ++ (word (codes "else") ∷ z))) h).1 in
         both_named (expr_names c) (expr_names a ++ expr_names b) (spells_named e (all_front IsWord y (word (codes "else") ∷ z) later))
-          (both_named (expr_names a) (expr_names b) (spells_named d (all_front IsWord x (word (codes "if") ∷ (y ++ (word (codes "else") ∷ z))) h)) (spells_named f (all_back IsWord y (word (codes "else") ∷ z) later).1))
+        (both_named (expr_names a) (expr_names b) (spells_named d (all_front IsWord x (word (codes "if") ∷ (y ++ (word (codes "else") ∷ z))) h)) (spells_named f (all_back IsWord y (word (codes "else") ∷ z) later).1))
     spells_named (chain {x = x} {y = y} e d i) h = goes_named i (all_back IsWord x y h) (spells_named d (all_front IsWord x y h))
     spells_named (inverted d) h = spells_named d h.1
     spells_named (upright d) h = spells_named d h

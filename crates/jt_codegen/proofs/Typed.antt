@@ -134,7 +134,7 @@ module _ (k : Code) where
               let in_p : nat_lt (p + 1) (length u.code) ≡ true = lt_true (p + 1) (length u.code) (omega (arith, length-append ca (jump ∷ cb))) in
               let in_end : nat_lt (q + length cb) (length u.code) ≡ true = lt_true (q + length cb) (length u.code) (omega (arith, length-append ca (jump ∷ cb))) in
               let first : effect k u p (op.JumpIfFalse q) S ≡ Ok (record { shape = h.0; points = (p + 1) ∷ q ∷ [] }) =
-                  ap (λ s. effect k u p (op.JumpIfFalse q) s) h.1 ∙ required _ flaw.JumpOut _ in_q ∙ required _ flaw.FallsOff _ in_p in
+              ap (λ s. effect k u p (op.JumpIfFalse q) s) h.1 ∙ required _ flaw.JumpOut _ in_q ∙ required _ flaw.FallsOff _ in_p in
               let last : effect k u e jump T ≡ Ok (record { shape = T; points = (q + length cb) ∷ [] }) = required _ flaw.JumpOut _ in_end in (
                 has.0,
                 (
@@ -210,8 +210,7 @@ module _ (k : Code) where
         (stack (row_count r) S, row_types r S f t.1 (omega arith), (omega (arith, stack_long (row_count r) S, row_room r), maker_types h (row_count r) S t.0))
     expr_types (slots.conjunction a b) S f t le =
         let one_more : length (kind.Value ∷ S) ≤ max_entries = omega (arith, some_height a) in
-        let two_more : length (kind.Value ∷ kind.Value ∷ S) ≤ max_entries = omega arith in
-        (
+        let two_more : length (kind.Value ∷ kind.Value ∷ S) ≤ max_entries = omega arith in (
           kind.Value ∷ S,
           expr_types a S f.0 t.0 (omega arith),
           (
@@ -222,8 +221,7 @@ module _ (k : Code) where
         )
     expr_types (slots.disjunction a b) S f t le =
         let one_more : length (kind.Value ∷ S) ≤ max_entries = omega (arith, some_height a) in
-        let two_more : length (kind.Value ∷ kind.Value ∷ S) ≤ max_entries = omega arith in
-        (
+        let two_more : length (kind.Value ∷ kind.Value ∷ S) ≤ max_entries = omega arith in (
           kind.Value ∷ S,
           expr_types a S f.0 t.0 (omega arith),
           (
@@ -268,19 +266,21 @@ module _ (k : Code) where
       let fine = fr.fine sh (omega (arith, length-append is (op.Return ∷ []))) (shapes_front sh 0 fr.shapes ([] ∷ []) has) back.0 in
       let all : AllFine u sh 0 u.code = fine_append u sh 0 (0 + length is) is (op.Return ∷ []) refl fine.1 (([], back.0, omega arith, (record { shape = []; points = [] }, refl, tt)), tt) in
       let each : (p : ℕ) (s : Shape) → slice_get sh p ≡ Some s → (i : Instruction) × (slice_get u.code p ≡ Some i) × FineAt u sh p i = λ p s e.
-          let x = there u.code p (omega (arith, within sh p s e)) in (x.0, x.1, fine_at u sh u.code 0 p p x.0 (omega arith) all x.1) in
-      (λ p. slice_get sh p, record {
-        start = fine.0;
-        small = λ p s e. let x = each p s e in let same : x.2.0 ≡ s = some_is x.2.0 s (sym x.2.1 ∙ e) in subst (λ y. length y ≤ max_entries) same x.2.2;
-        fine = λ p s e.
-            let x = each p s e in
-            let same : x.2.0 ≡ s = some_is x.2.0 s (sym x.2.1 ∙ e) in
-            record {
-              leads = x.2.3.0;
-              effect = ap (λ o. effect_of k u p o s) x.1 ∙ subst (λ y. effect k u p x.0 y ≡ Ok x.2.3.0) same x.2.3.1;
-              agree = x.2.3.2;
-            };
-      })
+      let x = there u.code p (omega (arith, within sh p s e)) in (x.0, x.1, fine_at u sh u.code 0 p p x.0 (omega arith) all x.1) in (
+        λ p. slice_get sh p,
+        record {
+          start = fine.0;
+          small = λ p s e. let x = each p s e in let same : x.2.0 ≡ s = some_is x.2.0 s (sym x.2.1 ∙ e) in subst (λ y. length y ≤ max_entries) same x.2.2;
+          fine = λ p s e.
+              let x = each p s e in
+              let same : x.2.0 ≡ s = some_is x.2.0 s (sym x.2.1 ∙ e) in
+              record {
+                leads = x.2.3.0;
+                effect = ap (λ o. effect_of k u p o s) x.1 ∙ subst (λ y. effect k u p x.0 y ≡ Ok x.2.3.0) same x.2.3.1;
+                agree = x.2.3.2;
+              };
+        },
+      )
     where
       some_is : (a b : Shape) → Some a ≡ Some b → a ≡ b
       some_is a b e = cc

@@ -125,38 +125,35 @@ module _ (template : Text) (escaping : Bool) (names : List Text) (pool : List Tr
     expr_fits (attribute a x) n here has =
         let last = pool_back pool n (expr_pool a) (tree.text x ∷ []) has in
         (expr_fits a n here (pool_front pool n (expr_pool a) (tree.text x ∷ []) has), (pooled_fits (n + length (expr_pool a)) (tree.text x) last.0, tt))
-    expr_fits (item a b) n here has =
-        (
-          expr_fits a n (front (expr_names a) (expr_names b) names here) (pool_front pool n (expr_pool a) (expr_pool b) has),
-          (expr_fits b (n + length (expr_pool a)) (back (expr_names a) (expr_names b) names here) (pool_back pool n (expr_pool a) (expr_pool b) has), tt),
-        )
+    expr_fits (item a b) n here has = (
+      expr_fits a n (front (expr_names a) (expr_names b) names here) (pool_front pool n (expr_pool a) (expr_pool b) has),
+      (expr_fits b (n + length (expr_pool a)) (back (expr_names a) (expr_names b) names here) (pool_back pool n (expr_pool a) (expr_pool b) has), tt),
+    )
     expr_fits (written.call a ts ps) n here has = row_fits ts n (front (row_names ts) (pair_names ps) names here) has
     expr_fits (filter a x ts ps) n here has = tt
     expr_fits (test a t x ts ps) n here has =
         let rest = back (expr_names a) (row_names ts ++ pair_names ps) names here in
         let es = slots.item (resolved_expr template escaping names a n) (resolved_row template escaping names ts (n + length (expr_pool a))) in
         turned_fits t (tested_by (test_named x) es)
-          (tested_fits (test_named x) es (
-            expr_fits a n (front (expr_names a) (row_names ts ++ pair_names ps) names here) (pool_front pool n (expr_pool a) (row_pool ts) has),
-            row_fits ts (n + length (expr_pool a)) (front (row_names ts) (pair_names ps) names rest) (pool_back pool n (expr_pool a) (row_pool ts) has),
-          ))
+        (tested_fits (test_named x) es (
+          expr_fits a n (front (expr_names a) (row_names ts ++ pair_names ps) names here) (pool_front pool n (expr_pool a) (row_pool ts) has),
+          row_fits ts (n + length (expr_pool a)) (front (row_names ts) (pair_names ps) names rest) (pool_back pool n (expr_pool a) (row_pool ts) has),
+        ))
     expr_fits (unary u a) n here has = (expr_fits a n here has, tt)
     expr_fits (binary o a b) n here has =
         form_fits (form escaping o) (resolved_expr template escaping names a n) (resolved_expr template escaping names b (n + length (expr_pool a)))
-          (expr_fits a n (front (expr_names a) (expr_names b) names here) (pool_front pool n (expr_pool a) (expr_pool b) has))
-          (expr_fits b (n + length (expr_pool a)) (back (expr_names a) (expr_names b) names here) (pool_back pool n (expr_pool a) (expr_pool b) has))
+        (expr_fits a n (front (expr_names a) (expr_names b) names here) (pool_front pool n (expr_pool a) (expr_pool b) has))
+        (expr_fits b (n + length (expr_pool a)) (back (expr_names a) (expr_names b) names here) (pool_back pool n (expr_pool a) (expr_pool b) has))
     expr_fits (when c a) n here has =
         let rest = pool_back pool n (expr_pool c) (expr_pool a ++ tree.undefined ∷ []) has in
-        let last = pool_back pool (n + length (expr_pool c)) (expr_pool a) (tree.undefined ∷ []) rest in
-        (
+        let last = pool_back pool (n + length (expr_pool c)) (expr_pool a) (tree.undefined ∷ []) rest in (
           expr_fits c n (front (expr_names c) (expr_names a) names here) (pool_front pool n (expr_pool c) (expr_pool a ++ tree.undefined ∷ []) has),
           expr_fits a (n + length (expr_pool c)) (back (expr_names c) (expr_names a) names here) (pool_front pool (n + length (expr_pool c)) (expr_pool a) (tree.undefined ∷ []) rest),
           pooled_fits (n + length (expr_pool c) + length (expr_pool a)) tree.undefined last.0,
         )
     expr_fits (choice c a b) n here has =
         let rest = pool_back pool n (expr_pool c) (expr_pool a ++ expr_pool b) has in
-        let names_rest = back (expr_names c) (expr_names a ++ expr_names b) names here in
-        (
+        let names_rest = back (expr_names c) (expr_names a ++ expr_names b) names here in (
           expr_fits c n (front (expr_names c) (expr_names a ++ expr_names b) names here) (pool_front pool n (expr_pool c) (expr_pool a ++ expr_pool b) has),
           expr_fits a (n + length (expr_pool c)) (front (expr_names a) (expr_names b) names names_rest) (pool_front pool (n + length (expr_pool c)) (expr_pool a) (expr_pool b) rest),
           expr_fits b (n + length (expr_pool c) + length (expr_pool a)) (back (expr_names a) (expr_names b) names names_rest) (pool_back pool (n + length (expr_pool c)) (expr_pool a) (expr_pool b) rest),
@@ -164,22 +161,20 @@ module _ (template : Text) (escaping : Bool) (names : List Text) (pool : List Tr
 
     row_fits : (ts : Exprs) (n : ℕ) → AllAmong (row_names ts) names → PoolAt pool n (row_pool ts) → RowFits k (resolved_row template escaping names ts n)
     row_fits no_exprs n here has = tt
-    row_fits (expr a ts) n here has =
-        (
-          expr_fits a n (front (expr_names a) (row_names ts) names here) (pool_front pool n (expr_pool a) (row_pool ts) has),
-          row_fits ts (n + length (expr_pool a)) (back (expr_names a) (row_names ts) names here) (pool_back pool n (expr_pool a) (row_pool ts) has),
-        )
+    row_fits (expr a ts) n here has = (
+      expr_fits a n (front (expr_names a) (row_names ts) names here) (pool_front pool n (expr_pool a) (row_pool ts) has),
+      row_fits ts (n + length (expr_pool a)) (back (expr_names a) (row_names ts) names here) (pool_back pool n (expr_pool a) (row_pool ts) has),
+    )
 
     pairs_fits : (ps : Entries) (n : ℕ) → AllAmong (pair_names ps) names → PoolAt pool n (pair_pool ps) → RowFits k (resolved_pairs template escaping names ps n)
     pairs_fits no_pairs n here has = tt
-    pairs_fits (pair x a ps) n here has =
-        (
-          pooled_fits n (tree.text x) has.0,
-          (
-            expr_fits a (n + 1) (front (expr_names a) (pair_names ps) names here) (pool_front pool (n + 1) (expr_pool a) (pair_pool ps) has.1),
-            pairs_fits ps (n + 1 + length (expr_pool a)) (back (expr_names a) (pair_names ps) names here) (pool_back pool (n + 1) (expr_pool a) (pair_pool ps) has.1),
-          ),
-        )
+    pairs_fits (pair x a ps) n here has = (
+      pooled_fits n (tree.text x) has.0,
+      (
+        expr_fits a (n + 1) (front (expr_names a) (pair_names ps) names here) (pool_front pool (n + 1) (expr_pool a) (pair_pool ps) has.1),
+        pairs_fits ps (n + 1 + length (expr_pool a)) (back (expr_names a) (pair_names ps) names here) (pool_back pool (n + 1) (expr_pool a) (pair_pool ps) has.1),
+      ),
+    )
 
   text_fits : (n : ℕ) (t : Text) → slice_get pool n ≡ Some (tree.text t) → is_text (slice_get k.constants n) ≡ true
   text_fits n t e = ap (λ cs. is_text (slice_get cs n)) constants ∙ ap is_text (constants_at pool n) ∙ ap (λ o. is_text (option_map constant_of o)) e
@@ -193,14 +188,14 @@ module _ (template : Text) (escaping : Bool) (names : List Text) (pool : List Tr
     stmt_fits (print line e) n behind here has rest = (expr_fits e n here has, rest)
     stmt_fits (choose bs other) n behind here has rest =
         choice_fits bs (body_pool other) (resolved_body template escaping names other)
-          (λ n' behind' has' rest'. body_fits other n' behind' (back (branch_names bs) (body_names other) names here) has' rest')
-          n behind (front (branch_names bs) (body_names other) names here) has rest
+        (λ n' behind' has' rest'. body_fits other n' behind' (back (branch_names bs) (body_names other) names here) has' rest')
+        n behind (front (branch_names bs) (body_names other) names here) has rest
 
     body_fits : (b : Body) (n : ℕ) (behind : SBody) → AllAmong (body_names b) names → PoolAt pool n (body_pool b) → BodyFits k behind → BodyFits k (resolved_body template escaping names b n behind)
     body_fits end n behind here has rest = rest
     body_fits (stmt s later) n behind here has rest =
         stmt_fits s n (resolved_body template escaping names later (n + length (stmt_pool s)) behind) (front (stmt_names s) (body_names later) names here) (pool_front pool n (stmt_pool s) (body_pool later) has)
-          (body_fits later (n + length (stmt_pool s)) behind (back (stmt_names s) (body_names later) names here) (pool_back pool n (stmt_pool s) (body_pool later) has) rest)
+        (body_fits later (n + length (stmt_pool s)) behind (back (stmt_names s) (body_names later) names here) (pool_back pool n (stmt_pool s) (body_pool later) has) rest)
 
     choice_fits : (bs : Branches) (other_pool : List Tree) (other : ℕ → SBody → SBody) → OtherFits other_pool other
         → (n : ℕ) (behind : SBody) → AllAmong (branch_names bs) names → PoolAt pool n (branch_pool bs ++ other_pool) → BodyFits k behind → BodyFits k (resolved_choice template escaping names bs other n behind)
@@ -209,12 +204,11 @@ module _ (template : Text) (escaping : Bool) (names : List Text) (pool : List Tr
         let m = n + length (expr_pool c) in
         let l = m + length (body_pool body) in
         let has' : PoolAt pool n (expr_pool c ++ (body_pool body ++ (branch_pool later ++ other_pool))) =
-            subst (λ ts. PoolAt pool n ts) (append_assoc (expr_pool c) (body_pool body ++ branch_pool later) other_pool ∙ ap (λ ts. expr_pool c ++ ts) (append_assoc (body_pool body) (branch_pool later) other_pool)) has in
+        subst (λ ts. PoolAt pool n ts) (append_assoc (expr_pool c) (body_pool body ++ branch_pool later) other_pool ∙ ap (λ ts. expr_pool c ++ ts) (append_assoc (body_pool body) (branch_pool later) other_pool)) has in
         let behind_c = pool_back pool n (expr_pool c) (body_pool body ++ (branch_pool later ++ other_pool)) has' in
         let behind_b = pool_back pool m (body_pool body) (branch_pool later ++ other_pool) behind_c in
         let names_c = front (expr_names c) (body_names body ++ branch_names later) names here in
-        let names_rest = back (expr_names c) (body_names body ++ branch_names later) names here in
-        (
+        let names_rest = back (expr_names c) (body_names body ++ branch_names later) names here in (
           (
             expr_fits c n names_c (pool_front pool n (expr_pool c) (body_pool body ++ (branch_pool later ++ other_pool)) has'),
             body_fits body m slots.end (front (body_names body) (branch_names later) names names_rest) (pool_front pool m (body_pool body) (branch_pool later ++ other_pool) behind_c) tt,
