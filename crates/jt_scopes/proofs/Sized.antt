@@ -292,11 +292,11 @@ mutual
   expr_few (written.call a ts ps) = let h = few_append (row_names ts) (pair_names ps) (exprs_weight ts) (pairs_weight 2 ps) (exprs_bytes ts) (pairs_bytes ps) (row_few ts) (pairs_few 2 ps) in (omega (arith, h.0), omega (arith, h.1))
   expr_few (filter a x ts ps) =
       let h = few_append (expr_names a) (row_names ts ++ pair_names ps) (weight a) (exprs_weight ts + pairs_weight 2 ps) (expr_bytes a) (exprs_bytes ts + pairs_bytes ps) (expr_few a)
-          (few_append (row_names ts) (pair_names ps) (exprs_weight ts) (pairs_weight 2 ps) (exprs_bytes ts) (pairs_bytes ps) (row_few ts) (pairs_few 2 ps)) in
+      (few_append (row_names ts) (pair_names ps) (exprs_weight ts) (pairs_weight 2 ps) (exprs_bytes ts) (pairs_bytes ps) (row_few ts) (pairs_few 2 ps)) in
       (omega (arith, h.0), omega (arith, h.1))
   expr_few (test a t x ts ps) =
       let h = few_append (expr_names a) (row_names ts ++ pair_names ps) (weight a) (exprs_weight ts + pairs_weight 2 ps) (expr_bytes a) (exprs_bytes ts + pairs_bytes ps) (expr_few a)
-          (few_append (row_names ts) (pair_names ps) (exprs_weight ts) (pairs_weight 2 ps) (exprs_bytes ts) (pairs_bytes ps) (row_few ts) (pairs_few 2 ps)) in
+      (few_append (row_names ts) (pair_names ps) (exprs_weight ts) (pairs_weight 2 ps) (exprs_bytes ts) (pairs_bytes ps) (row_few ts) (pairs_few 2 ps)) in
       (omega (arith, h.0, is_some_weight t), omega (arith, h.1))
   expr_few (unary u a) = let h = expr_few a in (omega (arith, h.0), h.1)
   expr_few (binary x a b) =
