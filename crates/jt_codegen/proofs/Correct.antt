@@ -1,5 +1,5 @@
 -- A program's code does what the program means.
-use Rattle.std.proofs.Common.{◌≡◌, ℕ, zero, suc, ◌+◌, ◌<◌, ◌≤◌, List, [], ◌∷◌, ◌++◌, length, map, Option, Some, refl, sym, ap, ◌∙◌, subst, arith, append_assoc, length-append}
+use Rattle.std.proofs.Common.{◌≡◌, ℕ, zero, suc, ◌+◌, ◌-◌, ◌<◌, ◌≤◌, List, [], ◌∷◌, ◌++◌, length, map, Option, Some, None, Bool, true, false, refl, sym, ap, ◌∙◌, subst, arith, append_assoc, length-append}
 use Rattle.std.specs.Prelude.{slice_get, slice_set, unwrap_or, replicate}
 use Rattle.std.proofs.Math.Seq.{get_or-append_seam, set-append_seam}
 use Rattle.std.proofs.lemmas.Option.{slice_get-get_or}
@@ -9,22 +9,24 @@ use Rattle.jt_value.specs.Pairs.{Pairs, look}
 use Rattle.jt_value.specs.declared.fault.Fault.{Fault}
 use Rattle.jt_image.specs.declared.instruction.Instruction.{Instruction}
 use Rattle.jt_image.specs.declared.instruction.Instruction.TheVariants as op
-use Rattle.jt_image.specs.Code.{Code}
+use Rattle.jt_image.specs.Code.{Section, Code}
 use Rattle.jt_image.specs.IsCode.{IsCode}
 use Rattle.jt_image.specs.Typed.{IsTyped}
 use Rattle.jt_image.specs.Config as config
 use Rattle.jt_image.specs.Config.{State, Machine}
-use Rattle.jt_image.specs.Run.{filled, locals_of, entry_locals, Run}
+use Rattle.jt_image.specs.Step.{action, fetch}
+use Rattle.jt_image.specs.Run.{filled, locals_of, entry_locals, start, Run}
 use Rattle.jt_image.specs.Enough.{Enough}
 use Rattle.jt_image.proofs.Safe.{IsFit}
 use Rattle.jt_image.proofs.Runs.{start_good}
-use Rattle.jt_image.proofs.Free.{Free, Finished, Failed, Going, exec, IsMeant, start_machine, enough_run, run_erased, one_free_end, longer, same_exec}
+use Rattle.jt_image.proofs.Free.{Free, Finished, Failed, Stuck, Going, on_action, exec_at, exec, exec_strict, IsMeant, outcome_of, start_machine, enough_run, run_erased, one_free_end, longer, same_exec}
 use Rattle.jt_parse.specs.Trees.{Text}
 use Rattle.jt_scopes.specs.Got.{Place, Got, gives, fails, deeper, bind}
 use Rattle.jt_scopes.specs.Slots.{Routine, Program, Memory, SCalls, smeanings, with_locals, sperformed, scalls, globals_of, smean}
-use Rattle.jt_codegen.specs.Asm.{flat, Ran, does}
+use Rattle.jt_codegen.specs.Asm.{Asm, flat, Ran, does, stops, too_deep, bad, run}
 use Rattle.jt_codegen.specs.Lower.{body_asm, unit_of, numbered, compiled}
-use Rattle.jt_codegen.proofs.Follows.{HasAt, has_front, has_back, machine, Reaches, fetched, step, flat_runs}
+use Rattle.jt_scopes.specs.Takes.{BodyTakes}
+use Rattle.jt_codegen.proofs.Follows.{HasAt, has_front, has_back, machine, Comes, Reaches, fetched, step, flat_runs}
 use Rattle.jt_codegen.proofs.Lowered.{at_memory, follow, HasPool, body_lowered}
 
 has_all : (is pre : List Instruction) → HasAt (pre ++ is) (length pre) is
@@ -67,7 +69,7 @@ as_free deeper = Going
 abbrev out_of : Got Memory → Got Text
 out_of g = bind g (λ m. gives m.out)
 
-module _ (p : Program) (r : Routine) (rs : List Routine) (is : p.routines ≡ r ∷ rs) (has : HasPool (compiled p) p.pool) where
+module _ (p : Program) (r : Routine) (rs : List Routine) (is : p.routines ≡ r ∷ rs) (has : HasPool (compiled p) p.pool) (takes : BodyTakes r.body) where
   abbrev k : Code
   k = compiled p
 
@@ -104,7 +106,7 @@ module _ (p : Program) (r : Routine) (rs : List Routine) (is : p.routines ≡ r 
   body_follows : (x : Pairs) (n : ℕ) → Follows k (machine 0 0 [] (at_memory [] [] (memory x))) n (out_of (smeanings p.pool (call n) r.body (memory x)))
   body_follows x n =
       ends n (machine 0 0 [] (at_memory [] [] (memory x))) (smeanings p.pool (call n) r.body (memory x))
-      (subst (λ (y : Ran). Reaches k n (machine 0 0 [] (at_memory [] [] (memory x))) y (machine 0 (0 + length code) [])) (body_lowered k p.pool (call n) has r.body [] [] (memory x))
+      (subst (λ (y : Ran). Reaches k n (machine 0 0 [] (at_memory [] [] (memory x))) y (machine 0 (0 + length code) [])) (body_lowered k p.pool (call n) has r.body [] [] (memory x) takes)
       (flat_runs k n (body_asm r.body) (unit_of r) 0 0 [] (at_memory [] [] (memory x)) first (has_front (unit_of r).code 0 code (op.Return ∷ []) all)))
 
   follows : (x : Pairs) (n : ℕ) → Follows k (start_machine k x) n (smean p x n)

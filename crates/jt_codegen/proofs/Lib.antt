@@ -6,7 +6,10 @@ pub mod Whole
 pub mod Small
 pub mod Spelled
 pub mod SmallRows
-pub mod Entries
 pub mod Patched
+pub mod Viewed
+pub mod Choosing
+pub mod Heights
+pub mod Knowing
 pub mod Tabled
 pub mod Images

@@ -112,7 +112,7 @@ place_second n a b h =
     let fb = flat b (n + length fa) in
     record { len = omega (arith, h.len, length-append fa fb); fields = all_back fa fb h.fields }
 
-place_taken : (n : ℕ) (a b : Asm) → HasPlace n (choose a b) → HasPlace (n + 1) a
+pub place_taken : (n : ℕ) (a b : Asm) → HasPlace n (choose a b) → HasPlace (n + 1) a
 place_taken n a b h =
     let ca = flat a (n + 1) in
     let q = n + 1 + length ca + 1 in
@@ -120,7 +120,7 @@ place_taken n a b h =
     let last = op.Jump (q + length cb) ∷ cb in
     record { len = omega (arith, h.len, length-append ca last); fields = all_front ca last h.fields.1 }
 
-place_other : (n : ℕ) (a b : Asm) → HasPlace n (choose a b) → HasPlace (n + 1 + length (flat a (n + 1)) + 1) b
+pub place_other : (n : ℕ) (a b : Asm) → HasPlace n (choose a b) → HasPlace (n + 1 + length (flat a (n + 1)) + 1) b
 place_other n a b h =
     let ca = flat a (n + 1) in
     let q = n + 1 + length ca + 1 in
@@ -177,7 +177,7 @@ closed_step code es i t w lt is = ap (λ v. closed (slice_set code (get_or es i 
 -- ---- statements
 
 module _ (template : Text) where
-  statements_left : (ss : List SStmt) (i : ℕ) (s : SStmt) → i < length ss → s ≡ get_or ss i s → (behind : SBody) → body_view template (drop i ss) behind ≡ stmt_view template s (body_view template (drop (i + 1) ss) behind)
+  pub statements_left : (ss : List SStmt) (i : ℕ) (s : SStmt) → i < length ss → s ≡ get_or ss i s → (behind : SBody) → body_view template (drop i ss) behind ≡ stmt_view template s (body_view template (drop (i + 1) ss) behind)
   statements_left ss i s lt is behind =
       ap (λ l. body_view template l behind) (drop_more ss i s lt) ∙ ap (λ x. stmt_view template x (body_view template (drop (i + 1) ss) behind)) (sym is)
 
@@ -421,7 +421,23 @@ module _ (template : Text) where
       let a : Asm = both (expr_asm (expr_view e)) (one (op.Emit (flag escaping))) in
       one_emits s (λ behind. slots.print (record { template = template; line = line }) escaping (expr_view e)) old new a (print_view s line escaping e is) (λ behind. refl) (emitted_then old now new (expr_asm (expr_view e)) (one (op.Emit (flag escaping))) f g)
 
-  if_view : (s : SStmt) (bs : Vec Branch Global) (other : Vec SStmt Global) (bs' : List Branch) (other' : List SStmt) → s ≡ stmts.If bs other → bs' ≡ bs.items → other' ≡ other.items → (behind : SBody) → stmt_view template s behind ≡ choice_view template bs' (body_view template other') behind
+  -- what refuses a part of a print statement refuses the statement
+  pub print_refused : (x : EmitError) (n : ℕ) (s : SStmt) (line : ℕ) (escaping : Bool) (e : SExpr) → s ≡ stmts.Print line escaping e → Refuses x n (expr_asm (expr_view e)) → (behind : SBody) → Refuses x n (body_asm (stmt_view template s behind))
+  print_refused x n s line escaping e is r behind =
+      let ea = expr_asm (expr_view e) in
+      let all = both ea (one (op.Emit (flag escaping))) in
+      subst (λ b. Refuses x n (body_asm b)) (sym (print_view s line escaping e is behind))
+      (refused_by x n n (both all (body_asm behind)) ea (λ p. place_first n ea (one (op.Emit (flag escaping))) (place_first n all (body_asm behind) p)) r)
+
+  pub print_end_refused : (x : EmitError) (c0 c1 : List Instr) (s : SStmt) (line : ℕ) (escaping : Bool) (e : SExpr) → s ≡ stmts.Print line escaping e → Emitted c0 (expr_asm (expr_view e)) c1 → Refuses x (length c1) (one (op.Emit (flag escaping))) → (behind : SBody)
+      → Refuses x (length c0) (body_asm (stmt_view template s behind))
+  print_end_refused x c0 c1 s line escaping e is f r behind =
+      let ea = expr_asm (expr_view e) in
+      let last = one (op.Emit (flag escaping)) in
+      subst (λ b. Refuses x (length c0) (body_asm b)) (sym (print_view s line escaping e is behind))
+      (refused_by x (length c0) (length c1) (both (both ea last) (body_asm behind)) last (λ p. place_behind c0 c1 ea last f (place_first (length c0) (both ea last) (body_asm behind) p)) r)
+
+  pub if_view : (s : SStmt) (bs : Vec Branch Global) (other : Vec SStmt Global) (bs' : List Branch) (other' : List SStmt) → s ≡ stmts.If bs other → bs' ≡ bs.items → other' ≡ other.items → (behind : SBody) → stmt_view template s behind ≡ choice_view template bs' (body_view template other') behind
   if_view s bs other bs' other' is p q behind =
       ap (λ z. stmt_view template z behind) is ∙ view-If template bs other behind
       ∙ ap (λ (l : List Branch). choice_view template l (body_view template other.items) behind) (sym p) ∙ ap (λ (l : List SStmt). choice_view template bs' (body_view template l) behind) (sym q)
@@ -455,6 +471,10 @@ read_wire (op.Data n) = refl
 read_wire (op.Jump n) = refl
 read_wire (op.JumpIfFalse n) = refl
 read_wire (op.JumpIfTrue n) = refl
+read_wire (op.Op n) = refl
+read_wire (op.Test n m) = refl
+read_wire (op.MakeList n) = refl
+read_wire (op.MakeMap n) = refl
 read_wire op.Return = refl
 
 pub read_wires : (is : List Instruction) → each_of instruction_of (map wire_of is) ≡ Some is

@@ -1,6 +1,6 @@
 -- How long the code of a template is, and that its code has a spelling where the limits of images are kept. A small
 -- template keeps them.
-use Rattle.std.proofs.Common.{◌≡◌, ◌≢◌, ℕ, suc, ◌+◌, ◌*◌, ◌<◌, ◌≤◌, ◌^◌, Bool, true, false, if◌then◌else◌, List, [], ◌∷◌, ◌++◌, length, map, refl, ap, arith, length-append}
+use Rattle.std.proofs.Common.{◌≡◌, ◌≢◌, ℕ, zero, suc, ◌+◌, ◌*◌, max, ◌<◌, ◌≤◌, ◌^◌, Bool, true, false, if◌then◌else◌, List, [], ◌∷◌, ◌++◌, length, map, Option, Some, None, refl, ap, ◌∙◌, subst, arith, length-append}
 use Rattle.std.specs.Prelude.{IsUtf8}
 use Rattle.std.specs.Int.{w64, cast_unsigned}
 use Rattle.std.specs.List.{flat_map, AllByRecursion}
@@ -8,22 +8,34 @@ use Rattle.std.specs.Str.{bytes_eq}
 use Rattle.std.proofs.lemmas.List.Concat.{flat_map-cons}
 use Rattle.jt_value.specs.Tree as tree
 use Rattle.jt_value.specs.Tree.{Tree}
+use Rattle.jt_ops.specs.declared.op_id.OpId.{OpId}
+use Rattle.jt_ops.specs.declared.op_id.OpId.TheVariants as operators
+use Rattle.jt_ops.specs.declared.test_id.TestId.{TestId}
+use Rattle.jt_ops.specs.declared.test_id.TestId.TheVariants as tests
+use Rattle.jt_ops.specs.OpTable.{op_id}
+use Rattle.jt_ops.specs.TestTable.{test_id, test_values}
 use Rattle.jt_image.specs.declared.instruction.Instruction.TheVariants as op
 use Rattle.jt_image.specs.Code.{Name}
 use Rattle.jt_image.specs.Spelling.{name_bytes, constant_bytes, spelling}
 use Rattle.jt_image.specs.IsCode.{Ascend, AreDistinct, IsInstruction, IsCode, total_len, max_instructions, max_bytes}
+use Rattle.jt_image.specs.Typed.{max_entries}
 use Rattle.jt_image.specs.Parts.{HasTables, KeepsLimits, IsWritable, IsHeld}
 use Rattle.jt_image.proofs.Assembled.{name_len, text_len, number_len, spelled_len, is_code}
-use Rattle.jt_parse.specs.Trees.{Text, Expr, constant, name, Stmt, data_of, print, choose, Body, end, stmt, body_weight, Branches, no_branches, branch}
+use Rattle.jt_expr.specs.Trees as written
+use Rattle.jt_expr.specs.Trees.{Expr, constant, name, group, list_of, map_of, attribute, item, filter, test, unary, binary, when, choice, Exprs, no_exprs, expr, Pairs, no_pairs, pair}
+use Rattle.jt_parse.specs.Trees.{Text, Stmt, data_of, print, choose, Body, end, stmt, body_weight, Branches, no_branches, branch}
 use Rattle.jt_parse.specs.Bytes.{body_bytes}
 use Rattle.jt_scopes.specs.Slots as slots
-use Rattle.jt_scopes.specs.Slots.{SExpr, pooled, global, SStmt, put_pooled, if_else, SBody, Routine, Program}
-use Rattle.jt_scopes.specs.Resolve.{body_names, ascending, slot_of, expr_pool, stmt_pool, body_pool, branch_pool, resolved_expr, resolved_stmt, resolved_body, resolved_choice, program}
-use Rattle.jt_scopes.specs.Size.{expr_size, stmt_size, body_size, routines_size, names_bytes, value_bytes, pool_bytes}
-use Rattle.jt_scopes.proofs.Sized.{program_sized, names_few, names_short, each_short, pool_few, pool_short}
+use Rattle.jt_scopes.specs.Slots.{Maker, SExpr, pooled, global, made, SRow, SStmt, put_pooled, if_else, SBody, Routine, Program}
+use Rattle.jt_scopes.specs.Operators.{Form, operation, negation, conjunction, disjunction, form}
+use Rattle.jt_scopes.specs.Tests.{test_named}
+use Rattle.jt_scopes.specs.Takes.{MakerTakes, ExprTakes, RowTakes, StmtTakes, BodyTakes}
+use Rattle.jt_scopes.specs.Resolve.{body_names, ascending, slot_of, expr_pool, row_pool, pair_pool, stmt_pool, body_pool, branch_pool, turned_round, tested_by, in_form, resolved_expr, resolved_row, resolved_pairs, resolved_stmt, resolved_body, resolved_choice, program}
+use Rattle.jt_scopes.specs.Size.{row_count, expr_size, row_size, stmt_size, body_size, body_height, routines_size, names_bytes, value_bytes, pool_bytes}
+use Rattle.jt_scopes.proofs.Sized.{program_sized, program_low, names_few, names_short, each_short, pool_few, pool_short}
 use Rattle.jt_scopes.proofs.Ascending.{Above, Ascends, ascending_ascends}
-use Rattle.jt_codegen.specs.Asm.{flat}
-use Rattle.jt_codegen.specs.Lower.{expr_asm, flag, stmt_asm, body_asm, unit_of, constant_of, numbered, compiled}
+use Rattle.jt_codegen.specs.Asm.{Asm, nil, one, both, choose, flat}
+use Rattle.jt_codegen.specs.Lower.{half, maker, expr_asm, row_asm, flag, stmt_asm, body_asm, unit_of, constant_of, numbered, compiled}
 
 pub all_append : {A : Type 0} (P : A → Type 0) (xs ys : List A) → AllByRecursion P xs → AllByRecursion P ys → AllByRecursion P (xs ++ ys)
 all_append P [] ys h g = g
@@ -31,9 +43,46 @@ all_append P (x ∷ xs) ys h g = (h.0, all_append P xs ys h.1 g)
 
 -- ---- the instructions of a part are as many as its size
 
-expr_len : (e : SExpr) (p : ℕ) → length (flat (expr_asm e) p) ≡ expr_size e
-expr_len (pooled i) p = refl
-expr_len (global i) p = refl
+-- a part has so many instructions wherever it stands
+abbrev HasLen : Asm → ℕ → Type 0
+HasLen a n = (p : ℕ) → length (flat a p) ≡ n
+
+both_len : (a b : Asm) (n m : ℕ) → HasLen a n → HasLen b m → HasLen (both a b) (n + m)
+both_len a b n m h g p =
+    let q = p + length (flat a p) in
+    omega (arith, length-append (flat a p) (flat b q), h p, g q)
+
+choose_len : (a b : Asm) (n m : ℕ) → HasLen a n → HasLen b m → HasLen (choose a b) (2 + n + m)
+choose_len a b n m h g p =
+    let ca = flat a (p + 1) in
+    let q = p + 1 + length ca + 1 in
+    let cb = flat b q in
+    omega (arith, length-append ca (op.Jump (q + length cb) ∷ cb), h (p + 1), g q)
+
+mutual
+  expr_len : (e : SExpr) (p : ℕ) → length (flat (expr_asm e) p) ≡ expr_size e
+  expr_len (pooled i) p = refl
+  expr_len (global i) p = refl
+  expr_len (made k es) p = both_len (row_asm es) (one (maker k (row_count es))) (row_size es) 1 (λ q. row_len es q) (λ q. refl) p
+  expr_len (slots.conjunction a b) p =
+      let behind = both (one op.Drop) (expr_asm b) in
+      let right : HasLen behind (1 + expr_size b) = both_len (one op.Drop) (expr_asm b) 1 (expr_size b) (λ q. refl) (λ q. expr_len b q) in
+      let chosen : HasLen (choose behind nil) (2 + (1 + expr_size b) + 0) = choose_len behind nil (1 + expr_size b) 0 right (λ q. refl) in
+      let kept : HasLen (both (one op.Dup) (choose behind nil)) (1 + (2 + (1 + expr_size b) + 0)) = both_len (one op.Dup) (choose behind nil) 1 (2 + (1 + expr_size b) + 0) (λ q. refl) chosen in
+      omega (arith, both_len (expr_asm a) (both (one op.Dup) (choose behind nil)) (expr_size a) (1 + (2 + (1 + expr_size b) + 0)) (λ q. expr_len a q) kept p)
+  expr_len (slots.disjunction a b) p =
+      let behind = both (one op.Drop) (expr_asm b) in
+      let right : HasLen behind (1 + expr_size b) = both_len (one op.Drop) (expr_asm b) 1 (expr_size b) (λ q. refl) (λ q. expr_len b q) in
+      let chosen : HasLen (choose nil behind) (2 + 0 + (1 + expr_size b)) = choose_len nil behind 0 (1 + expr_size b) (λ q. refl) right in
+      let kept : HasLen (both (one op.Dup) (choose nil behind)) (1 + (2 + 0 + (1 + expr_size b))) = both_len (one op.Dup) (choose nil behind) 1 (2 + 0 + (1 + expr_size b)) (λ q. refl) chosen in
+      omega (arith, both_len (expr_asm a) (both (one op.Dup) (choose nil behind)) (expr_size a) (1 + (2 + 0 + (1 + expr_size b))) (λ q. expr_len a q) kept p)
+  expr_len (slots.choice c a b) p =
+      let chosen : HasLen (choose (expr_asm a) (expr_asm b)) (2 + expr_size a + expr_size b) = choose_len (expr_asm a) (expr_asm b) (expr_size a) (expr_size b) (λ q. expr_len a q) (λ q. expr_len b q) in
+      omega (arith, both_len (expr_asm c) (choose (expr_asm a) (expr_asm b)) (expr_size c) (2 + expr_size a + expr_size b) (λ q. expr_len c q) chosen p)
+
+  row_len : (es : SRow) (p : ℕ) → length (flat (row_asm es) p) ≡ row_size es
+  row_len slots.none p = refl
+  row_len (slots.item e es) p = both_len (expr_asm e) (row_asm es) (expr_size e) (row_size es) (λ q. expr_len e q) (λ q. row_len es q) p
 
 mutual
   stmt_len : (s : SStmt) (p : ℕ) → length (flat (stmt_asm s) p) ≡ stmt_size s
@@ -64,9 +113,18 @@ total_sized (r ∷ rs) = omega (arith, unit_len r, total_sized rs)
 
 module _ (m : ℕ) where
   -- slots and places of the pool are below the number
-  abbrev ExprBelow : SExpr → Type 0
-  ExprBelow (pooled i) = i < m
-  ExprBelow (global i) = i < m
+  abbrev mutual
+    ExprBelow : SExpr → Type 0
+    ExprBelow (pooled i) = i < m
+    ExprBelow (global i) = i < m
+    ExprBelow (made k es) = RowBelow es
+    ExprBelow (slots.conjunction a b) = ExprBelow a × ExprBelow b
+    ExprBelow (slots.disjunction a b) = ExprBelow a × ExprBelow b
+    ExprBelow (slots.choice c a b) = ExprBelow c × ExprBelow a × ExprBelow b
+
+    RowBelow : SRow → Type 0
+    RowBelow slots.none = Unit {0}
+    RowBelow (slots.item e es) = ExprBelow e × RowBelow es
 
   abbrev mutual
     StmtBelow : SStmt → Type 0
@@ -87,9 +145,65 @@ slot_within x (y ∷ ys) = through (bytes_eq y x) (slot_within x ys)
     through false h = omega (arith, h)
 
 module _ (template : Text) (escaping : Bool) (names : List Text) (m : ℕ) (slotted : length names < m) where
-  expr_below : (e : Expr) (n : ℕ) → n + length (expr_pool e) ≤ m → ExprBelow m (resolved_expr template escaping names e n)
-  expr_below (constant l) n room = omega (arith, room)
-  expr_below (name x) n room = omega (arith, slot_within x names, slotted)
+  turned_below : (b : Bool) (e : SExpr) → ExprBelow m e → ExprBelow m (turned_round b e)
+  turned_below false e h = h
+  turned_below true e h = (h, tt)
+
+  tested_below : (x : Option TestId) (es : SRow) → RowBelow m es → ExprBelow m (tested_by x es)
+  tested_below None es h = tt
+  tested_below (Some x) es h = h
+
+  form_below : (f : Form) (a b : SExpr) → ExprBelow m a → ExprBelow m b → ExprBelow m (in_form f a b)
+  form_below (operation x) a b h g = (h, (g, tt))
+  form_below (negation x) a b h g = ((h, (g, tt)), tt)
+  form_below conjunction a b h g = (h, g)
+  form_below disjunction a b h g = (h, g)
+
+  mutual
+    expr_below : (e : Expr) (n : ℕ) → n + length (expr_pool e) ≤ m → ExprBelow m (resolved_expr template escaping names e n)
+    expr_below (constant l) n room = omega (arith, room)
+    expr_below (name x) n room = omega (arith, slot_within x names, slotted)
+    expr_below (group a) n room = expr_below a n room
+    expr_below (list_of ts) n room = row_below ts n room
+    expr_below (map_of ps) n room = pairs_below ps n room
+    expr_below (attribute a k) n room =
+        let whole = length-append (expr_pool a) (tree.text k ∷ []) in
+        (expr_below a n (omega (arith, room, whole)), (omega (arith, room, whole), tt))
+    expr_below (item a b) n room =
+        let whole = length-append (expr_pool a) (expr_pool b) in
+        (expr_below a n (omega (arith, room, whole)), (expr_below b (n + length (expr_pool a)) (omega (arith, room, whole)), tt))
+    expr_below (written.call a ts ps) n room = row_below ts n room
+    expr_below (filter a x ts ps) n room = tt
+    expr_below (test a b x ts ps) n room =
+        let whole = length-append (expr_pool a) (row_pool ts) in
+        let l = n + length (expr_pool a) in
+        let es = slots.item (resolved_expr template escaping names a n) (resolved_row template escaping names ts l) in
+        turned_below b (tested_by (test_named x) es) (tested_below (test_named x) es (expr_below a n (omega (arith, room, whole)), row_below ts l (omega (arith, room, whole))))
+    expr_below (unary u a) n room = (expr_below a n room, tt)
+    expr_below (binary x a b) n room =
+        let whole = length-append (expr_pool a) (expr_pool b) in
+        let l = n + length (expr_pool a) in
+        form_below (form escaping x) (resolved_expr template escaping names a n) (resolved_expr template escaping names b l) (expr_below a n (omega (arith, room, whole))) (expr_below b l (omega (arith, room, whole)))
+    expr_below (when c a) n room =
+        let whole = length-append (expr_pool c) (expr_pool a ++ tree.undefined ∷ []) in
+        let back = length-append (expr_pool a) (tree.undefined ∷ []) in
+        (expr_below c n (omega (arith, room, whole)), expr_below a (n + length (expr_pool c)) (omega (arith, room, whole, back)), omega (arith, room, whole, back))
+    expr_below (choice c a b) n room =
+        let whole = length-append (expr_pool c) (expr_pool a ++ expr_pool b) in
+        let back = length-append (expr_pool a) (expr_pool b) in
+        (expr_below c n (omega (arith, room, whole)), expr_below a (n + length (expr_pool c)) (omega (arith, room, whole, back)), expr_below b (n + length (expr_pool c) + length (expr_pool a)) (omega (arith, room, whole, back)))
+
+    row_below : (ts : Exprs) (n : ℕ) → n + length (row_pool ts) ≤ m → RowBelow m (resolved_row template escaping names ts n)
+    row_below no_exprs n room = tt
+    row_below (expr a ts) n room =
+        let whole = length-append (expr_pool a) (row_pool ts) in
+        (expr_below a n (omega (arith, room, whole)), row_below ts (n + length (expr_pool a)) (omega (arith, room, whole)))
+
+    pairs_below : (ps : Pairs) (n : ℕ) → n + length (pair_pool ps) ≤ m → RowBelow m (resolved_pairs template escaping names ps n)
+    pairs_below no_pairs n room = tt
+    pairs_below (pair k a ps) n room =
+        let whole = length-append (expr_pool a) (pair_pool ps) in
+        (omega (arith, room), (expr_below a (n + 1) (omega (arith, room, whole)), pairs_below ps (n + 1 + length (expr_pool a)) (omega (arith, room, whole))))
 
   -- so many values more leave places below the number
   abbrev Leaves : ℕ → (ℕ → SBody → SBody) → Type 0
@@ -126,15 +240,128 @@ flag_fits : (b : Bool) → flag b < 2 ^ 8
 flag_fits true = omega arith
 flag_fits false = omega arith
 
-expr_fits : (e : SExpr) (p : ℕ) → ExprBelow (2 ^ 32) e → AllByRecursion IsInstruction (flat (expr_asm e) p)
-expr_fits (pooled i) p h = (h, tt)
-expr_fits (global i) p h = (h, tt)
+op_fits : (x : OpId) → op_id x < 2 ^ 8
+op_fits operators.Add = omega arith
+op_fits operators.Subtract = omega arith
+op_fits operators.Multiply = omega arith
+op_fits operators.FloorDivide = omega arith
+op_fits operators.Remainder = omega arith
+op_fits operators.Power = omega arith
+op_fits operators.Negate = omega arith
+op_fits operators.Plus = omega arith
+op_fits operators.Not = omega arith
+op_fits operators.Join = omega arith
+op_fits operators.JoinEscaping = omega arith
+op_fits operators.Equal = omega arith
+op_fits operators.NotEqual = omega arith
+op_fits operators.Less = omega arith
+op_fits operators.LessOrEqual = omega arith
+op_fits operators.Greater = omega arith
+op_fits operators.GreaterOrEqual = omega arith
+op_fits operators.In = omega arith
+op_fits operators.Item = omega arith
+op_fits operators.RangeToStop = omega arith
+op_fits operators.RangeFromStart = omega arith
+op_fits operators.RangeByStep = omega arith
+
+test_fits : (x : TestId) → (test_id x < 2 ^ 8) × (test_values x < 2 ^ 16)
+test_fits tests.Boolean = (omega arith, omega arith)
+test_fits tests.Defined = (omega arith, omega arith)
+test_fits tests.DivisibleBy = (omega arith, omega arith)
+test_fits tests.Equal = (omega arith, omega arith)
+test_fits tests.NotEqual = (omega arith, omega arith)
+test_fits tests.Escaped = (omega arith, omega arith)
+test_fits tests.Even = (omega arith, omega arith)
+test_fits tests.Odd = (omega arith, omega arith)
+test_fits tests.False = (omega arith, omega arith)
+test_fits tests.True = (omega arith, omega arith)
+test_fits tests.GreaterOrEqual = (omega arith, omega arith)
+test_fits tests.Greater = (omega arith, omega arith)
+test_fits tests.LessOrEqual = (omega arith, omega arith)
+test_fits tests.Less = (omega arith, omega arith)
+test_fits tests.In = (omega arith, omega arith)
+test_fits tests.Integer = (omega arith, omega arith)
+test_fits tests.Mapping = (omega arith, omega arith)
+test_fits tests.None = (omega arith, omega arith)
+test_fits tests.String = (omega arith, omega arith)
+test_fits tests.Undefined = (omega arith, omega arith)
+
+half_le : (n : ℕ) → half n ≤ n
+half_le zero = omega arith
+half_le (suc zero) = omega arith
+half_le (suc (suc n)) = omega (arith, half_le n)
+
+maker_fits : (k : Maker) (n : ℕ) → MakerTakes k n → n < 2 ^ 32 → IsInstruction (maker k n)
+maker_fits (slots.operator x) n takes room = op_fits x
+maker_fits (slots.test x) n takes room = let h = test_fits x in (h.0, subst (λ i. i < 2 ^ 16) takes h.1)
+maker_fits slots.a_list n takes room = room
+maker_fits slots.a_map n takes room = omega (arith, half_le n, room)
+
+size_some : (e : SExpr) → 1 ≤ expr_size e
+size_some (pooled i) = omega arith
+size_some (global i) = omega arith
+size_some (made k es) = omega arith
+size_some (slots.conjunction a b) = omega arith
+size_some (slots.disjunction a b) = omega arith
+size_some (slots.choice c a b) = omega arith
+
+row_sized : (es : SRow) → row_count es ≤ row_size es
+row_sized slots.none = omega arith
+row_sized (slots.item e es) = omega (arith, size_some e, row_sized es)
+
+-- all instructions of a part fit their fields, where points stay below a limit
+abbrev Fits : Asm → ℕ → Type 0
+Fits a n = (p : ℕ) → p + n < 2 ^ 32 → AllByRecursion IsInstruction (flat a p)
+
+both_fits : (a b : Asm) (n m : ℕ) → HasLen a n → Fits a n → Fits b m → Fits (both a b) (n + m)
+both_fits a b n m l h g p room =
+    let q = p + length (flat a p) in
+    all_append IsInstruction (flat a p) (flat b q) (h p (omega (arith, room))) (g q (omega (arith, room, l p)))
+
+choose_fits : (a b : Asm) (n m : ℕ) → HasLen a n → HasLen b m → Fits a n → Fits b m → Fits (choose a b) (2 + n + m)
+choose_fits a b n m l k h g p room =
+    let ca = flat a (p + 1) in
+    let q = p + 1 + length ca + 1 in
+    let cb = flat b q in
+    (omega (arith, room, l (p + 1)), all_append IsInstruction ca (op.Jump (q + length cb) ∷ cb) (h (p + 1) (omega (arith, room))) (omega (arith, room, l (p + 1), k q), g q (omega (arith, room, l (p + 1)))))
 
 mutual
-  stmt_fits : (s : SStmt) (p : ℕ) → StmtBelow (2 ^ 32) s → p + stmt_size s < 2 ^ 32 → AllByRecursion IsInstruction (flat (stmt_asm s) p)
-  stmt_fits (put_pooled i) p h room = (h, tt)
-  stmt_fits (slots.print q escaping e) p h room = all_append IsInstruction (flat (expr_asm e) p) (op.Emit (flag escaping) ∷ []) (expr_fits e p h) (flag_fits escaping, tt)
-  stmt_fits (if_else q c a b) p h room =
+  expr_fits : (e : SExpr) (p : ℕ) → ExprBelow (2 ^ 32) e → ExprTakes e → p + expr_size e < 2 ^ 32 → AllByRecursion IsInstruction (flat (expr_asm e) p)
+  expr_fits (pooled i) p h k room = (h, tt)
+  expr_fits (global i) p h k room = (h, tt)
+  expr_fits (made x es) p h k room =
+      both_fits (row_asm es) (one (maker x (row_count es))) (row_size es) 1 (λ q. row_len es q) (λ q r. row_fits es q h k.1 r) (λ q r. (maker_fits x (row_count es) k.0 (omega (arith, room, row_sized es)), tt)) p room
+  expr_fits (slots.conjunction a b) p h k room =
+      let behind = both (one op.Drop) (expr_asm b) in
+      let n = 1 + expr_size b in
+      let len : HasLen behind n = both_len (one op.Drop) (expr_asm b) 1 (expr_size b) (λ q. refl) (λ q. expr_len b q) in
+      let right : Fits behind n = both_fits (one op.Drop) (expr_asm b) 1 (expr_size b) (λ q. refl) (λ q r. (tt, tt)) (λ q r. expr_fits b q h.1 k.1 r) in
+      let chosen : Fits (choose behind nil) (2 + n + 0) = choose_fits behind nil n 0 len (λ q. refl) right (λ q r. tt) in
+      let kept : Fits (both (one op.Dup) (choose behind nil)) (1 + (2 + n + 0)) = both_fits (one op.Dup) (choose behind nil) 1 (2 + n + 0) (λ q. refl) (λ q r. (tt, tt)) chosen in
+      both_fits (expr_asm a) (both (one op.Dup) (choose behind nil)) (expr_size a) (1 + (2 + n + 0)) (λ q. expr_len a q) (λ q r. expr_fits a q h.0 k.0 r) kept p (omega (arith, room))
+  expr_fits (slots.disjunction a b) p h k room =
+      let behind = both (one op.Drop) (expr_asm b) in
+      let n = 1 + expr_size b in
+      let len : HasLen behind n = both_len (one op.Drop) (expr_asm b) 1 (expr_size b) (λ q. refl) (λ q. expr_len b q) in
+      let right : Fits behind n = both_fits (one op.Drop) (expr_asm b) 1 (expr_size b) (λ q. refl) (λ q r. (tt, tt)) (λ q r. expr_fits b q h.1 k.1 r) in
+      let chosen : Fits (choose nil behind) (2 + 0 + n) = choose_fits nil behind 0 n (λ q. refl) len (λ q r. tt) right in
+      let kept : Fits (both (one op.Dup) (choose nil behind)) (1 + (2 + 0 + n)) = both_fits (one op.Dup) (choose nil behind) 1 (2 + 0 + n) (λ q. refl) (λ q r. (tt, tt)) chosen in
+      both_fits (expr_asm a) (both (one op.Dup) (choose nil behind)) (expr_size a) (1 + (2 + 0 + n)) (λ q. expr_len a q) (λ q r. expr_fits a q h.0 k.0 r) kept p (omega (arith, room))
+  expr_fits (slots.choice c a b) p h k room =
+      let chosen : Fits (choose (expr_asm a) (expr_asm b)) (2 + expr_size a + expr_size b) =
+      choose_fits (expr_asm a) (expr_asm b) (expr_size a) (expr_size b) (λ q. expr_len a q) (λ q. expr_len b q) (λ q r. expr_fits a q h.1 k.1 r) (λ q r. expr_fits b q h.2 k.2 r) in
+      both_fits (expr_asm c) (choose (expr_asm a) (expr_asm b)) (expr_size c) (2 + expr_size a + expr_size b) (λ q. expr_len c q) (λ q r. expr_fits c q h.0 k.0 r) chosen p (omega (arith, room))
+
+  row_fits : (es : SRow) (p : ℕ) → RowBelow (2 ^ 32) es → RowTakes es → p + row_size es < 2 ^ 32 → AllByRecursion IsInstruction (flat (row_asm es) p)
+  row_fits slots.none p h k room = tt
+  row_fits (slots.item e es) p h k room =
+      both_fits (expr_asm e) (row_asm es) (expr_size e) (row_size es) (λ q. expr_len e q) (λ q r. expr_fits e q h.0 k.0 r) (λ q r. row_fits es q h.1 k.1 r) p room
+
+mutual
+  stmt_fits : (s : SStmt) (p : ℕ) → StmtBelow (2 ^ 32) s → StmtTakes s → p + stmt_size s < 2 ^ 32 → AllByRecursion IsInstruction (flat (stmt_asm s) p)
+  stmt_fits (put_pooled i) p h k room = (h, tt)
+  stmt_fits (slots.print q escaping e) p h k room = all_append IsInstruction (flat (expr_asm e) p) (op.Emit (flag escaping) ∷ []) (expr_fits e p h k (omega (arith, room))) (flag_fits escaping, tt)
+  stmt_fits (if_else q c a b) p h k room =
       let m = p + length (flat (expr_asm c) p) in
       let ca = flat (body_asm a) (m + 1) in
       let l = m + 1 + length ca + 1 in
@@ -143,17 +370,17 @@ mutual
       let lens = expr_len c p in
       let len_a = body_len a (m + 1) in
       let len_b = body_len b l in
-      all_append IsInstruction (flat (expr_asm c) p) (op.JumpIfFalse l ∷ (ca ++ jump ∷ cb)) (expr_fits c p h.0) (
+      all_append IsInstruction (flat (expr_asm c) p) (op.JumpIfFalse l ∷ (ca ++ jump ∷ cb)) (expr_fits c p h.0 k.0 (omega (arith, room))) (
         omega (arith, room, lens, len_a),
-        all_append IsInstruction ca (jump ∷ cb) (body_fits a (m + 1) h.1 (omega (arith, room, lens)))
-            (omega (arith, room, lens, len_a, len_b), body_fits b l h.2 (omega (arith, room, lens, len_a))),
+        all_append IsInstruction ca (jump ∷ cb) (body_fits a (m + 1) h.1 k.1 (omega (arith, room, lens)))
+            (omega (arith, room, lens, len_a, len_b), body_fits b l h.2 k.2 (omega (arith, room, lens, len_a))),
       )
 
-  body_fits : (b : SBody) (p : ℕ) → BodyBelow (2 ^ 32) b → p + body_size b < 2 ^ 32 → AllByRecursion IsInstruction (flat (body_asm b) p)
-  body_fits slots.end p h room = tt
-  body_fits (slots.stmt s rest) p h room =
+  body_fits : (b : SBody) (p : ℕ) → BodyBelow (2 ^ 32) b → BodyTakes b → p + body_size b < 2 ^ 32 → AllByRecursion IsInstruction (flat (body_asm b) p)
+  body_fits slots.end p h k room = tt
+  body_fits (slots.stmt s rest) p h k room =
       let l = p + length (flat (stmt_asm s) p) in
-      all_append IsInstruction (flat (stmt_asm s) p) (flat (body_asm rest) l) (stmt_fits s p h.0 (omega (arith, room))) (body_fits rest l h.1 (omega (arith, room, stmt_len s p)))
+      all_append IsInstruction (flat (stmt_asm s) p) (flat (body_asm rest) l) (stmt_fits s p h.0 k.0 (omega (arith, room))) (body_fits rest l h.1 k.1 (omega (arith, room, stmt_len s p)))
 
 -- ---- the table of names
 
@@ -272,23 +499,23 @@ module _ (template : Text) (escaping : Bool) (b : Body) where
       body_below template escaping (ascending (body_names b)) (2 ^ 32) names b 0 slots.end pool tt
 
   -- each instruction fits its field
-  pub writable : KeepsLimits (compiled p) → IsWritable (unit_of only)
-  writable limits =
+  pub writable : BodyTakes body → KeepsLimits (compiled p) → IsWritable (unit_of only)
+  writable takes limits =
       let size : body_size body + 1 ≤ max_instructions = omega (arith, limits.instructions, unit_len only) in
       record {
         parameters = omega arith;
-        code = all_append IsInstruction (flat (body_asm body) 0) (op.Return ∷ []) (body_fits body 0 (below limits) (omega (arith, size))) (tt, tt);
+        code = all_append IsInstruction (flat (body_asm body) 0) (op.Return ∷ []) (body_fits body 0 (below limits) takes (omega (arith, size))) (tt, tt);
       }
 
   -- a code that keeps the limits has a spelling
-  pub is_coded : AllByRecursion (λ x. 0 < length x) p.names → AllByRecursion IsUtf8 p.names → AllByRecursion IsText p.pool → KeepsLimits (compiled p) → IsCode (compiled p)
-  is_coded some names pool limits =
+  pub is_coded : BodyTakes body → AllByRecursion (λ x. 0 < length x) p.names → AllByRecursion IsUtf8 p.names → AllByRecursion IsText p.pool → KeepsLimits (compiled p) → IsCode (compiled p)
+  is_coded takes some names pool limits =
       is_code (compiled p)
       (record {
         globals = omega (arith, limits.names, numbered_len 0 p.names);
         names = numbered_texts IsUtf8 0 p.names names;
         constants = held_constants p.pool pool;
-        units = (writable limits, tt);
+        units = (writable takes limits, tt);
       })
       (tables some) limits
 
@@ -307,5 +534,9 @@ module _ (template : Text) (escaping : Bool) (b : Body) where
       wide (x ∷ xs) h = (omega (arith, h.0), wide xs h.1)
 
   -- the code of a small template has a spelling
-  pub small_code : body_weight b ≤ 2000 → body_bytes b ≤ 2000 → AllByRecursion (λ x. 0 < length x) p.names → AllByRecursion IsUtf8 p.names → AllByRecursion IsText p.pool → IsCode (compiled p)
-  small_code weight bytes some names pool = is_coded some names pool (small_limits weight bytes)
+  pub small_code : BodyTakes body → body_weight b ≤ 2000 → body_bytes b ≤ 2000 → AllByRecursion (λ x. 0 < length x) p.names → AllByRecursion IsUtf8 p.names → AllByRecursion IsText p.pool → IsCode (compiled p)
+  small_code takes weight bytes some names pool = is_coded takes some names pool (small_limits weight bytes)
+
+  -- and needs no more entries than a shape may have
+  pub small_low : body_weight b ≤ 2000 → body_height body ≤ max_entries
+  small_low weight = omega (arith, weight, program_low template escaping b)

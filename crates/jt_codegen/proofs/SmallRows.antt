@@ -2,7 +2,8 @@
 use Rattle.std.proofs.Common.{◌≡◌, true, length, codes, refl}
 use Rattle.jt_image.specs.Spelling.{spelling}
 use Rattle.jt_image.specs.IsCode.{total_len}
-use Rattle.jt_parse.specs.Trees.{Body, end, stmt, data_of, print, choose, branch, no_branches, name, constant, nothing, body_weight}
+use Rattle.jt_expr.specs.Trees.{name, constant, nothing}
+use Rattle.jt_parse.specs.Trees.{Body, end, stmt, data_of, print, choose, branch, no_branches, body_weight}
 use Rattle.jt_parse.specs.Bytes.{body_bytes}
 use Rattle.jt_scopes.specs.Slots.{Program}
 use Rattle.jt_scopes.specs.Resolve.{program}

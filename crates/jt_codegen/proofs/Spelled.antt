@@ -1,25 +1,23 @@
--- What the tokens and the data of a source give to its tree: no name is empty, and where the source is of characters, names and
--- texts are UTF-8.
-use Rattle.std.proofs.Common.{◌≡◌, ℕ, ◌<◌, ◌≤◌, Bool, true, false, ◌&&◌, List, [], ◌∷◌, ◌++◌, length, codes, encode_utf8_all, IsUtf8, refl, arith}
+-- What the tokens of a source give to the names of its tree: none is empty, and where the source is of characters, all are UTF-8.
+use Rattle.std.proofs.Common.{◌≡◌, ℕ, ◌<◌, ◌≤◌, Bool, true, false, ◌&&◌, List, [], ◌∷◌, ◌++◌, length, codes, encode_utf8_all, IsUtf8, Option, Some, None, refl, arith}
 use Rattle.std.specs.List.{AllByRecursion}
 use Rattle.std.specs.Str.{all_scalars}
 use Rattle.std.proofs.lemmas.Str.{length-le-encodes}
 use lib.Utf8.{scalar}
 use Rattle.jt_scan.specs.declared.segment.Kind.{Kind}
+use Rattle.jt_scan.specs.declared.segment.Sign.TheVariants as s
 use Rattle.jt_scan.specs.Cut as cut
-use Rattle.jt_scan.specs.Cut.{Token, Segment, closer, second, Spelled, a_name, Inside, closed, space, token, IsSegment, some_data, a_tag, a_comment, Cuts, no_more, more, IsCut}
-use Rattle.jt_value.specs.Tree as tree
-use Rattle.jt_value.specs.Tree.{Tree}
-use Rattle.jt_parse.specs.Trees.{Text, Expr, Body, body_weight, Branches}
-use Rattle.jt_parse.specs.Bytes.{body_bytes}
+use Rattle.jt_scan.specs.Cut.{Token, Segment, closer, second, sign_text, Spelled, a_name, a_number, a_text, a_sign, Inside, closed, space, token, IsSegment, some_data, a_tag, a_comment, Cuts, no_more, more, IsCut}
+use Rattle.jt_expr.specs.Trees.{Expr}
+use Rattle.jt_expr.specs.Grammar as g
+use Rattle.jt_expr.specs.Grammar.{Tokens, word, Level, operator_tokens, is_tokens, Row, Parts, no_parts, put, Spells, plain, an_if_else, chain, inverted, upright, compared, alone, postscripts, minus, plus, unsigned, postfixes, Goes, stay, operated, filtered, tested, attributed, indexed, called, Primary, a_constant, a_group, a_list, a_map, Arguments, without, within, TestArguments, as_filter, bare, Holds, last, IsPart, without_key, an_entry, by_name}
+use Rattle.jt_parse.specs.Trees.{Text, Body, Branches}
 use Rattle.jt_parse.specs.Grammar as grammar
-use Rattle.jt_parse.specs.Grammar.{word, block, Spells, is_true, is_True, is_false, is_False, is_none, is_None, is_name, Forms, nothing_more, a_print, an_if, GoesOn, no_else, an_else, an_elif}
-use Rattle.jt_scopes.specs.Resolve.{expr_names, body_names, branch_names, ascending, expr_pool, body_pool, branch_pool, program}
+use Rattle.jt_parse.specs.Grammar.{block, Forms, nothing_more, a_print, an_if, GoesOn, no_else, an_else, an_elif}
+use Rattle.jt_scopes.specs.Resolve.{expr_names, row_names, pair_names, body_names, branch_names, ascending}
 use Rattle.jt_scopes.proofs.Sized.{all_inserted_all}
-use Rattle.jt_image.specs.IsCode.{IsCode}
 use Rattle.jt_image.proofs.Passed.{all_weaker}
-use Rattle.jt_codegen.specs.Lower.{compiled}
-use Rattle.jt_codegen.proofs.Small.{all_append, IsText, small_code}
+use Rattle.jt_codegen.proofs.Small.{all_append}
 
 all_front : {A : Type 0} (P : A → Type 0) (xs ys : List A) → AllByRecursion P (xs ++ ys) → AllByRecursion P xs
 all_front P [] ys h = tt
@@ -29,30 +27,39 @@ all_back : {A : Type 0} (P : A → Type 0) (xs ys : List A) → AllByRecursion P
 all_back P [] ys h = h
 all_back P (x ∷ xs) ys h = all_back P xs ys h.1
 
--- ---- what each part of a source has, each token and each piece of data has
+-- ---- what each part of a source has, each name has
 
 module _ (P : List ℕ → Type 0) (front : (x y : List ℕ) → P (x ++ y) → P x) (back : (x y : List ℕ) → P (x ++ y) → P y) where
-  -- a token is not empty
+  -- a name is not empty
   abbrev IsWord : Token → Type 0
   IsWord (cut.name x) = (0 < length x) × P x
+  IsWord (cut.number n) = Unit {0}
+  IsWord (cut.text v) = Unit {0}
+  IsWord (cut.sign k) = Unit {0}
+
+  abbrev AreWords : Tokens → Type 0
+  AreWords = AllByRecursion IsWord
 
   abbrev HasWords : Segment → Type 0
-  HasWords (cut.data_of d) = P d
-  HasWords (cut.tag k n ts) = AllByRecursion IsWord ts
+  HasWords (cut.data_of d) = Unit {0}
+  HasWords (cut.tag k n ts) = AreWords ts
   HasWords (cut.comment x) = Unit {0}
 
   token_word : {t : Token} {s rest : Text} → Spelled t s rest → P s → IsWord t
-  token_word (a_name s a w) h = (omega arith, h)
+  token_word (a_name i a w) h = (omega arith, h)
+  token_word (a_number m le) h = tt
+  token_word (a_text i e m) h = tt
+  token_word (a_sign e) h = tt
 
-  inside_words : {k : Kind} {ts : List Token} {x rest : Text} → Inside k ts x rest → P x → AllByRecursion IsWord ts × P rest
-  inside_words {k} {x} {rest} closed h = (tt, back (closer k ∷ 125 ∷ []) rest h)
-  inside_words (space {c} {x} s i) h = inside_words i (back (c ∷ []) x h)
-  inside_words (token {s} {x} t i) h =
+  inside_words : {k : Kind} {depth : ℕ} {ts : List Token} {x rest : Text} → Inside k depth ts x rest → P x → AreWords ts × P rest
+  inside_words {k} {rest} closed h = (tt, back (closer k ∷ 125 ∷ []) rest h)
+  inside_words (space {c} {x} i j) h = inside_words j (back (c ∷ []) x h)
+  inside_words (token {s} {x} c t i) h =
       let rest = inside_words i (back s x h) in
       ((token_word t (front s x h), rest.0), rest.1)
 
   segment_words : {n : ℕ} {s : Segment} {x rest : Text} → IsSegment n s x rest → P x → HasWords s × P rest
-  segment_words (some_data {c} {d} {rest} n e) h = (front (c ∷ d) rest h, back (c ∷ d) rest h)
+  segment_words (some_data {c} {d} {rest} n e) h = (tt, back (c ∷ d) rest h)
   segment_words (a_tag {k} {x} i) h = inside_words i (back (123 ∷ second k ∷ []) x h)
   segment_words (a_comment {x} {rest} n) h = (tt, back (35 ∷ 125 ∷ []) rest (back x (35 ∷ 125 ∷ rest) (back (123 ∷ 35 ∷ []) (x ++ (35 ∷ 125 ∷ rest)) h)))
 
@@ -60,74 +67,124 @@ module _ (P : List ℕ → Type 0) (front : (x y : List ℕ) → P (x ++ y) → 
   cut_words (no_more e) h = tt
   cut_words (more p c) h = let s = segment_words p h in (s.0, cut_words c s.1)
 
-  -- the text is spelled by such characters
-  abbrev IsOf : Text → Type 0
-  IsOf t = (x : List ℕ) × P x × (encode_utf8_all x ≡ t)
-
+  -- the text is spelled by such characters, and not empty
   abbrev IsNamed : Text → Type 0
-  IsNamed t = (0 < length t) × IsOf t
+  IsNamed t = (0 < length t) × ((x : List ℕ) × P x × (encode_utf8_all x ≡ t))
 
-  -- a truth value, none, or such a text
-  abbrev IsPiece : Tree → Type 0
-  IsPiece (tree.truth_value b) = Unit {0}
-  IsPiece tree.nothing = Unit {0}
-  IsPiece (tree.text t) = IsOf t
-  IsPiece t = ⊥
+  abbrev AreNamed : List Text → Type 0
+  AreNamed = AllByRecursion IsNamed
 
-  -- names and pool are of such characters, and no name is empty
-  abbrev AreWell : List Text → List Tree → Type 0
-  AreWell xs ts = AllByRecursion IsNamed xs × AllByRecursion IsPiece ts
+  -- of a row's parts
+  abbrev AreParts : Parts → Type 0
+  AreParts p = AreNamed (row_names p.0) × AreNamed (pair_names p.1)
 
-  well_append : (xs ys : List Text) (ts us : List Tree) → AreWell xs ts → AreWell ys us → AreWell (xs ++ ys) (ts ++ us)
-  well_append xs ys ts us h g = (all_append IsNamed xs ys h.0 g.0, all_append IsPiece ts us h.1 g.1)
+  abbrev both_named : (xs ys : List Text) → AreNamed xs → AreNamed ys → AreNamed (xs ++ ys)
+  both_named xs ys h g = all_append IsNamed xs ys h g
 
-  spells_well : {e : Expr} {ts : List Token} → Spells e ts → AllByRecursion IsWord ts → AreWell (expr_names e) (expr_pool e)
-  spells_well is_true h = (tt, (tt, tt))
-  spells_well is_True h = (tt, (tt, tt))
-  spells_well is_false h = (tt, (tt, tt))
-  spells_well is_False h = (tt, (tt, tt))
-  spells_well is_none h = (tt, (tt, tt))
-  spells_well is_None h = (tt, (tt, tt))
-  spells_well (is_name {x} r) h = (((omega (arith, h.0.0, length-le-encodes x), (x, h.0.1, refl)), tt), tt)
+  put_named : (k : Option Text) (t : Expr) (p : Parts) → AreNamed (expr_names t) → AreParts p → AreParts (put k t p)
+  put_named None t p h q = (both_named (expr_names t) (row_names p.0) h q.0, q.1)
+  put_named (Some k) t p h q = (q.0, both_named (expr_names t) (pair_names p.1) h q.1)
 
   mutual
-    forms_well : {b : Body} {ss : List Segment} → Forms b ss → AllByRecursion HasWords ss → AreWell (body_names b) (body_pool b)
-    forms_well nothing_more h = (tt, tt)
-    forms_well (grammar.a_comment f) h = forms_well f h.1
-    forms_well (grammar.some_data {d} f) h = let rest = forms_well f h.1 in (rest.0, ((d, h.0, refl), rest.1))
-    forms_well (a_print {body} {e} s f) h = well_append (expr_names e) (body_names body) (expr_pool e) (body_pool body) (spells_well s h.0) (forms_well f h.1)
-    forms_well (an_if {body} {inside} {other} {bs} {c} {xs} {ys} {ss} last s i g f) h =
-        let tag : Segment = block last (word (codes "endif") ∷ []) in
+    spells_named : {k : Level} {t : Expr} {x : Tokens} → Spells k t x → AreWords x → AreNamed (expr_names t)
+    spells_named (plain d) h = spells_named d h
+    spells_named (g.an_if {c = c} {a = a} {x = x} {y = y} d e) h =
+        both_named (expr_names c) (expr_names a) (spells_named e (all_back IsWord x (word (codes "if") ∷ y) h).1) (spells_named d (all_front IsWord x (word (codes "if") ∷ y) h))
+    spells_named (an_if_else {c = c} {a = a} {b = b} {x = x} {y = y} {z = z} d e f) h =
+        let later = (all_back IsWord x (word (codes "if") ∷ (y ++ (word (codes "else") ∷ z))) h).1 in
+        both_named (expr_names c) (expr_names a ++ expr_names b) (spells_named e (all_front IsWord y (word (codes "else") ∷ z) later))
+        (both_named (expr_names a) (expr_names b) (spells_named d (all_front IsWord x (word (codes "if") ∷ (y ++ (word (codes "else") ∷ z))) h)) (spells_named f (all_back IsWord y (word (codes "else") ∷ z) later).1))
+    spells_named (chain {x = x} {y = y} e d i) h = goes_named i (all_back IsWord x y h) (spells_named d (all_front IsWord x y h))
+    spells_named (inverted d) h = spells_named d h.1
+    spells_named (upright d) h = spells_named d h
+    spells_named (compared {op = op} {a = a} {b = b} {x = x} {y = y} e d f) h =
+        both_named (expr_names a) (expr_names b) (spells_named d (all_front IsWord x (operator_tokens op ++ y) h)) (spells_named f (all_back IsWord (operator_tokens op) y (all_back IsWord x (operator_tokens op ++ y) h)))
+    spells_named (alone d) h = spells_named d h
+    spells_named (postscripts {x = x} {y = y} d i) h = goes_named i (all_back IsWord x y h) (spells_named d (all_front IsWord x y h))
+    spells_named (minus d) h = spells_named d h.1
+    spells_named (plus d) h = spells_named d h.1
+    spells_named (unsigned d) h = spells_named d h
+    spells_named (postfixes {x = x} {y = y} d i) h = goes_named i (all_back IsWord x y h) (primary_named d (all_front IsWord x y h))
+
+    goes_named : {k : Level} {a t : Expr} {y : Tokens} → Goes k a t y → AreWords y → AreNamed (expr_names a) → AreNamed (expr_names t)
+    goes_named stay h n = n
+    goes_named (operated {op = op} {a = a} {b = b} {x = x} {y = y} c l d i) h n =
+        let later = all_back IsWord (operator_tokens op) (x ++ y) h in
+        goes_named i (all_back IsWord x y later) (both_named (expr_names a) (expr_names b) n (spells_named d (all_front IsWord x y later)))
+    goes_named (filtered {a = a} {ts = ts} {ps = ps} {x = x} {y = y} r d i) h n =
+        let parts = arguments_named d (all_front IsWord x y h.1.1) in
+        goes_named i (all_back IsWord x y h.1.1) (both_named (expr_names a) (row_names ts ++ pair_names ps) n (both_named (row_names ts) (pair_names ps) parts.0 parts.1))
+    goes_named (tested {a = a} {b = b} {ts = ts} {ps = ps} {x = x} {y = y} w r d i) h n =
+        let later = (all_back IsWord (is_tokens b) (cut.name w ∷ (x ++ y)) h).1 in
+        let parts = test_arguments_named d (all_front IsWord x y later) in
+        goes_named i (all_back IsWord x y later) (both_named (expr_names a) (row_names ts ++ pair_names ps) n (both_named (row_names ts) (pair_names ps) parts.0 parts.1))
+    goes_named (attributed i) h n = goes_named i h.1.1 n
+    goes_named (indexed {a = a} {i = e} {x = x} {y = y} d i) h n =
+        goes_named i (all_back IsWord x (cut.sign s.RightBracket ∷ y) h.1).1 (both_named (expr_names a) (expr_names e) n (spells_named d (all_front IsWord x (cut.sign s.RightBracket ∷ y) h.1)))
+    goes_named (called {ts = ts} {ps = ps} {x = x} {y = y} d i) h n =
+        let parts = holds_named d (all_front IsWord x y h.1) in
+        goes_named i (all_back IsWord x y h.1) (both_named (row_names ts) (pair_names ps) parts.0 parts.1)
+
+    primary_named : {t : Expr} {x : Tokens} → Primary t x → AreWords x → AreNamed (expr_names t)
+    primary_named g.a_number h = tt
+    primary_named g.a_text h = tt
+    primary_named (a_constant e) h = tt
+    primary_named (g.a_name {x = x} r) h = ((omega (arith, h.0.0, length-le-encodes x), (x, h.0.1, refl)), tt)
+    primary_named (a_group {x = x} d) h = spells_named d (all_front IsWord x (cut.sign s.RightParen ∷ []) h.1)
+    primary_named (a_list d) h = (holds_named d h.1).0
+    primary_named (a_map d) h = (holds_named d h.1).1
+
+    arguments_named : {p : Parts} {x : Tokens} → Arguments p x → AreWords x → AreParts p
+    arguments_named without h = (tt, tt)
+    arguments_named (within d) h = holds_named d h.1
+
+    test_arguments_named : {p : Parts} {x : Tokens} → TestArguments p x → AreWords x → AreParts p
+    test_arguments_named (as_filter d) h = arguments_named d h
+    test_arguments_named (bare {t = t} b d) h = (both_named (expr_names t) [] (spells_named d h) tt, tt)
+
+    holds_named : {r : Row} {p : Parts} {x : Tokens} → Holds r p x → AreWords x → AreParts p
+    holds_named g.closed h = (tt, tt)
+    holds_named (last {r = r} {k = k} {t = t} {x = x} d) h = put_named k t no_parts (part_named d (all_front IsWord x (cut.sign (g.closer r) ∷ []) h)) (tt, tt)
+    holds_named (g.more {k = k} {t = t} {p = p} {x = x} {y = y} d i) h =
+        put_named k t p (part_named d (all_front IsWord x (cut.sign s.Comma ∷ y) h)) (holds_named i (all_back IsWord x (cut.sign s.Comma ∷ y) h).1)
+
+    part_named : {r : Row} {k : Option Text} {t : Expr} {x : Tokens} → IsPart r k t x → AreWords x → AreNamed (expr_names t)
+    part_named (without_key p d) h = spells_named d h
+    part_named (an_entry d) h = spells_named d h.1.1
+    part_named (by_name p r d) h = spells_named d h.1.1
+
+  mutual
+    forms_named : {b : Body} {ss : List Segment} → Forms b ss → AllByRecursion HasWords ss → AreNamed (body_names b)
+    forms_named nothing_more h = tt
+    forms_named (grammar.a_comment f) h = forms_named f h.1
+    forms_named (grammar.some_data f) h = forms_named f h.1
+    forms_named (a_print {body} {e} d f) h = both_named (expr_names e) (body_names body) (spells_named d h.0) (forms_named f h.1)
+    forms_named (an_if {body} {inside} {other} {bs} {c} {xs} {ys} {ss} n d i j f) h =
+        let tag : Segment = block n (word (codes "endif") ∷ []) in
         let behind = all_back HasWords xs (ys ++ (tag ∷ ss)) h.1 in
-        let test = spells_well s h.0.1 in
-        let first = forms_well i (all_front HasWords xs (ys ++ (tag ∷ ss)) h.1) in
-        let goes = goes_well g (all_front HasWords ys (tag ∷ ss) behind) in
-        let rest = forms_well f (all_back HasWords ys (tag ∷ ss) behind).1 in
-        let branches = well_append (body_names inside) (branch_names bs) (body_pool inside) (branch_pool bs) first goes.0 in
-        let tested = well_append (expr_names c) (body_names inside ++ branch_names bs) (expr_pool c) (body_pool inside ++ branch_pool bs) test branches in
-        let all = well_append (expr_names c ++ (body_names inside ++ branch_names bs)) (body_names other) (expr_pool c ++ (body_pool inside ++ branch_pool bs)) (body_pool other) tested goes.1 in
-        well_append ((expr_names c ++ (body_names inside ++ branch_names bs)) ++ body_names other) (body_names body) ((expr_pool c ++ (body_pool inside ++ branch_pool bs)) ++ body_pool other) (body_pool body) all rest
+        let first = forms_named i (all_front HasWords xs (ys ++ (tag ∷ ss)) h.1) in
+        let goes = goes_on_named j (all_front HasWords ys (tag ∷ ss) behind) in
+        let rest = forms_named f (all_back HasWords ys (tag ∷ ss) behind).1 in
+        let branches = both_named (expr_names c) (body_names inside ++ branch_names bs) (spells_named d h.0.1) (both_named (body_names inside) (branch_names bs) first goes.0) in
+        both_named ((expr_names c ++ (body_names inside ++ branch_names bs)) ++ body_names other) (body_names body) (both_named (expr_names c ++ (body_names inside ++ branch_names bs)) (body_names other) branches goes.1) rest
 
-    goes_well : {bs : Branches} {other : Body} {ys : List Segment} → GoesOn bs other ys → AllByRecursion HasWords ys → AreWell (branch_names bs) (branch_pool bs) × AreWell (body_names other) (body_pool other)
-    goes_well no_else h = ((tt, tt), (tt, tt))
-    goes_well (an_else f) h = ((tt, tt), forms_well f h.1)
-    goes_well (an_elif {inside} {bs} {c} {xs} {ys} s i g) h =
-        let goes = goes_well g (all_back HasWords xs ys h.1) in
-        let first = forms_well i (all_front HasWords xs ys h.1) in
-        let branches = well_append (body_names inside) (branch_names bs) (body_pool inside) (branch_pool bs) first goes.0 in
-        (well_append (expr_names c) (body_names inside ++ branch_names bs) (expr_pool c) (body_pool inside ++ branch_pool bs) (spells_well s h.0.1) branches, goes.1)
+    goes_on_named : {bs : Branches} {other : Body} {ys : List Segment} → GoesOn bs other ys → AllByRecursion HasWords ys → AreNamed (branch_names bs) × AreNamed (body_names other)
+    goes_on_named no_else h = (tt, tt)
+    goes_on_named (an_else f) h = (tt, forms_named f h.1)
+    goes_on_named (an_elif {inside} {bs} {c} {xs} {ys} d i j) h =
+        let goes = goes_on_named j (all_back HasWords xs ys h.1) in
+        let first = forms_named i (all_front HasWords xs ys h.1) in
+        (both_named (expr_names c) (body_names inside ++ branch_names bs) (spells_named d h.0.1) (both_named (body_names inside) (branch_names bs) first goes.0), goes.1)
 
-  source_well : (b : Body) (ss : List Segment) (x : Text) → IsCut ss x → P x → Forms b ss → AreWell (ascending (body_names b)) (body_pool b)
-  source_well b ss x is_cut p forms =
-      let well = forms_well forms (cut_words is_cut p) in
-      (all_inserted_all IsNamed (body_names b) [] well.0 tt, well.1)
+  source_named : (b : Body) (ss : List Segment) (x : Text) → IsCut ss x → P x → Forms b ss → AreNamed (ascending (body_names b))
+  source_named b ss x is_cut p forms = all_inserted_all IsNamed (body_names b) [] (forms_named forms (cut_words is_cut p)) tt
 
 -- ---- no name is empty
 
 pub names_some : (b : Body) (ss : List Segment) (x : Text) → IsCut ss x → Forms b ss → AllByRecursion (λ y. 0 < length y) (ascending (body_names b))
 names_some b ss x is_cut forms =
     let any : List ℕ → Type 0 = λ y. Unit {0} in
-    all_weaker (IsNamed any (λ y z h. tt) (λ y z h. tt)) (λ y. 0 < length y) (ascending (body_names b)) (λ y h. h.0) (source_well any (λ y z h. tt) (λ y z h. tt) b ss x is_cut tt forms).0
+    all_weaker (IsNamed any (λ y z h. tt) (λ y z h. tt)) (λ y. 0 < length y) (ascending (body_names b)) (λ y h. h.0) (source_named any (λ y z h. tt) (λ y z h. tt) b ss x is_cut tt forms)
 
 -- ---- a source of characters
 
@@ -146,26 +203,6 @@ scalars_back : (x y : List ℕ) → AreScalars (x ++ y) → AreScalars y
 scalars_back [] y h = h
 scalars_back (c ∷ x) y h = scalars_back x y (both (scalar c) (all_scalars (x ++ y)) h).1
 
-module _ (b : Body) (ss : List Segment) (x : Text) (is_cut : IsCut ss x) (scalars : AreScalars x) (forms : Forms b ss) where
-  well : AreWell AreScalars scalars_front scalars_back (ascending (body_names b)) (body_pool b)
-  well = source_well AreScalars scalars_front scalars_back b ss x is_cut scalars forms
-
-  pub names_utf8 : AllByRecursion IsUtf8 (ascending (body_names b))
-  names_utf8 = all_weaker (IsNamed AreScalars scalars_front scalars_back) IsUtf8 (ascending (body_names b)) (λ y h. (h.1.0, (h.1.1, h.1.2))) well.0
-
-  piece_utf8 : (t : Tree) → IsPiece AreScalars scalars_front scalars_back t → IsText t
-  piece_utf8 (tree.truth_value c) h = tt
-  piece_utf8 tree.nothing h = tt
-  piece_utf8 (tree.text t) h = (h.0, (h.1, h.2))
-  piece_utf8 tree.undefined h = absurd h
-  piece_utf8 (tree.number z) h = absurd h
-  piece_utf8 (tree.markup t) h = absurd h
-  piece_utf8 (tree.list ts) h = absurd h
-  piece_utf8 (tree.map es) h = absurd h
-
-  pub texts_utf8 : AllByRecursion IsText (body_pool b)
-  texts_utf8 = all_weaker (IsPiece AreScalars scalars_front scalars_back) IsText (body_pool b) piece_utf8 well.1
-
-  -- the code of a small template has a spelling
-  pub small_source : (template : Text) (escaping : Bool) → body_weight b ≤ 2000 → body_bytes b ≤ 2000 → IsCode (compiled (program template escaping b))
-  small_source template escaping weight bytes = small_code template escaping b weight bytes (names_some b ss x is_cut forms) names_utf8 texts_utf8
+pub names_utf8 : (b : Body) (ss : List Segment) (x : Text) → IsCut ss x → AreScalars x → Forms b ss → AllByRecursion IsUtf8 (ascending (body_names b))
+names_utf8 b ss x is_cut scalars forms =
+    all_weaker (IsNamed AreScalars scalars_front scalars_back) IsUtf8 (ascending (body_names b)) (λ y h. (h.1.0, (h.1.1, h.1.2))) (source_named AreScalars scalars_front scalars_back b ss x is_cut scalars forms)

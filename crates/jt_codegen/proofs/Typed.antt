@@ -1,6 +1,6 @@
 -- Code whose jumps stand in pairs is typed, and so is a unit.
-use Rattle.std.proofs.Common.{◌≡◌, ℕ, zero, suc, ◌+◌, ◌<◌, ◌≤◌, List, [], ◌∷◌, ◌++◌, length, Some, Result, Ok, Bool, true, false, refl, sym, ap, ◌∙◌, subst, arith, append_assoc, length-append}
-use Rattle.std.specs.Prelude.{slice_get, nat_lt}
+use Rattle.std.proofs.Common.{◌≡◌, ℕ, zero, suc, ◌+◌, ◌-◌, ◌<◌, ◌≤◌, List, [], ◌∷◌, ◌++◌, length, Option, Some, None, Result, Ok, Err, Bool, true, false, refl, sym, ap, ◌∙◌, subst, arith, append_assoc, length-append}
+use Rattle.std.specs.Prelude.{slice_get, nat_lt, max, ◌==◌}
 use Rattle.std.specs.List.{AllByRecursion}
 use Rattle.std.proofs.Math.Seq.{get_or-append_seam}
 use Rattle.std.proofs.lemmas.Option.{slice_get-get_or}
@@ -10,13 +10,19 @@ use Rattle.jt_image.specs.declared.instruction.Instruction.TheVariants as op
 use Rattle.jt_image.specs.declared.kind.Kind.TheVariants as kind
 use Rattle.jt_image.specs.declared.kind.Flaw.TheVariants as flaw
 use Rattle.jt_image.specs.declared.kind.Flaw.{Flaw}
-use Rattle.jt_image.specs.Code.{Section, Code}
-use Rattle.jt_image.specs.Effect.{Shape, Leads, require, effect, effect_of}
-use Rattle.jt_image.specs.Typed.{Equal, HasSame, IsTypedUnit, max_entries}
-use Rattle.jt_scopes.specs.Slots.{SExpr, pooled, global, SStmt, put_pooled, print, if_else, SBody, end, stmt, Routine}
+use Rattle.jt_image.specs.Code.{Section, Code, is_text}
+use Rattle.jt_image.specs.Effect.{Shape, Leads, require, pops_many, makes, goes_on, effect, effect_at, effect_of}
+use Rattle.jt_image.specs.Ids.{operator_of, operands_of, test_of, takes}
+use Rattle.std.specs.Option.{is_some}
+use Rattle.jt_scopes.specs.Slots as slots
+use Rattle.jt_scopes.specs.Size.{row_count, expr_height, row_height, stmt_height, body_height}
+use Rattle.jt_codegen.proofs.Lowered.{has_operator, has_test, halved}
+use Rattle.jt_image.specs.Typed.{Shapes, Equal, HasSame, IsFineBy, IsTypedBy, IsTypedUnit, max_entries}
+use Rattle.jt_scopes.specs.Slots.{Maker, SExpr, pooled, global, SRow, SStmt, put_pooled, print, if_else, SBody, end, stmt, Routine}
 use Rattle.jt_codegen.specs.Asm.{Asm, nil, one, both, choose, flat}
-use Rattle.jt_codegen.specs.Lower.{expr_asm, flag, stmt_asm, body_asm, unit_of}
-use Rattle.jt_codegen.specs.Fits.{ExprFits, StmtFits, BodyFits}
+use Rattle.jt_codegen.specs.Lower.{maker, expr_asm, row_asm, flag, stmt_asm, body_asm, unit_of}
+use Rattle.jt_codegen.specs.Fits.{ExprFits, RowFits, StmtFits, BodyFits}
+use Rattle.jt_scopes.specs.Takes.{MakerTakes, ExprTakes, RowTakes, StmtTakes, BodyTakes}
 
 lt_true : (a b : ℕ) → a < b → nat_lt a b ≡ true
 lt_true a b h = grind (arith, nat_tests)
@@ -148,30 +154,111 @@ module _ (k : Code) where
 
   -- ---- the code of resolved templates
 
-  expr_types : (e : SExpr) (S : Shape) → ExprFits k e → length S + 1 ≤ max_entries → Types (expr_asm e) S (kind.Value ∷ S)
-  expr_types (pooled i) S f le = (omega arith, λ u p room. required _ flaw.BadIndex _ f ∙ required _ flaw.FallsOff _ (lt_true (p + 1) (length u.code) room))
-  expr_types (global i) S f le = (omega arith, λ u p room. required _ flaw.BadIndex _ f ∙ required _ flaw.FallsOff _ (lt_true (p + 1) (length u.code) room))
+  -- that many values on top of a shape
+  abbrev stack : ℕ → Shape → Shape
+  stack zero S = S
+  stack (suc n) S = kind.Value ∷ stack n S
+
+  stack_on : (n : ℕ) (S : Shape) → stack n (kind.Value ∷ S) ≡ kind.Value ∷ stack n S
+  stack_on zero S = refl
+  stack_on (suc n) S = ap (λ T. kind.Value ∷ T) (stack_on n S)
+
+  stack_long : (n : ℕ) (S : Shape) → length (stack n S) ≡ n + length S
+  stack_long zero S = omega arith
+  stack_long (suc n) S = omega (arith, stack_long n S)
+
+  unstacked : (n : ℕ) (S : Shape) (go : Shape → Result Leads Flaw) → pops_many n (stack n S) go ≡ go S
+  unstacked zero S go = refl
+  unstacked (suc n) S go = unstacked n S go
+
+  makes_one : (u : Section) (p n : ℕ) (S : Shape) → p + 1 < length u.code → makes u p n (stack n S) ≡ Ok (record { shape = kind.Value ∷ S; points = (p + 1) ∷ [] })
+  makes_one u p n S room = unstacked n S (λ r. goes_on u p (kind.Value ∷ r)) ∙ required _ flaw.FallsOff _ (lt_true (p + 1) (length u.code) room)
+
+  is_same : (n : ℕ) → (n == n) ≡ true
+  is_same n = grind (arith, nat_tests)
+
+  -- what makes a value of a row leads from its values to the one
+  maker_types : (h : Maker) (n : ℕ) (S : Shape) → MakerTakes h n → Straight (maker h n) (stack n S) (kind.Value ∷ S)
+  maker_types (slots.operator o) n S fit u p room =
+      ap (λ x. require (is_some x) flaw.BadIndex (makes u p (operands_of x) (stack n S))) (has_operator o)
+      ∙ ap (λ i. makes u p i (stack n S)) fit ∙ makes_one u p n S room
+  maker_types (slots.test t) n S fit u p room =
+      ap (λ x. require (takes x n) flaw.BadIndex (makes u p n (stack n S))) (has_test t)
+      ∙ required _ flaw.BadIndex _ (ap (λ i. n == i) fit ∙ is_same n) ∙ makes_one u p n S room
+  maker_types slots.a_list n S fit u p room = makes_one u p n S room
+  maker_types slots.a_map n S fit u p room = ap (λ i. makes u p i (stack n S)) (halved n fit) ∙ makes_one u p n S room
+
+  -- a form needs an entry, and a row one for each of its parts
+  mutual
+    some_height : (e : SExpr) → 1 ≤ expr_height e
+    some_height (pooled i) = omega arith
+    some_height (global i) = omega arith
+    some_height (slots.made h r) = omega arith
+    some_height (slots.conjunction a b) = omega (arith, some_height a)
+    some_height (slots.disjunction a b) = omega (arith, some_height a)
+    some_height (slots.choice c a b) = omega (arith, some_height c)
+
+    row_room : (r : SRow) → row_count r ≤ row_height r
+    row_room slots.none = omega arith
+    row_room (slots.item e r) = omega (arith, row_room r)
+
+  mutual
+    expr_types : (e : SExpr) (S : Shape) → ExprFits k e → ExprTakes e → length S + expr_height e ≤ max_entries → Types (expr_asm e) S (kind.Value ∷ S)
+    expr_types (pooled i) S f t le = (omega arith, λ u p room. required _ flaw.BadIndex _ f ∙ required _ flaw.FallsOff _ (lt_true (p + 1) (length u.code) room))
+    expr_types (global i) S f t le = (omega arith, λ u p room. required _ flaw.BadIndex _ f ∙ required _ flaw.FallsOff _ (lt_true (p + 1) (length u.code) room))
+    expr_types (slots.made h r) S f t le =
+        (stack (row_count r) S, row_types r S f t.1 (omega arith), (omega (arith, stack_long (row_count r) S, row_room r), maker_types h (row_count r) S t.0))
+    expr_types (slots.conjunction a b) S f t le =
+        let one_more : length (kind.Value ∷ S) ≤ max_entries = omega (arith, some_height a) in
+        let two_more : length (kind.Value ∷ kind.Value ∷ S) ≤ max_entries = omega arith in (
+          kind.Value ∷ S,
+          expr_types a S f.0 t.0 (omega arith),
+          (
+            kind.Value ∷ kind.Value ∷ S,
+            (one_more, λ u p room. required _ flaw.FallsOff _ (lt_true (p + 1) (length u.code) room)),
+            (kind.Value ∷ S, refl, two_more, one_more, (S, (one_more, λ u p room. required _ flaw.FallsOff _ (lt_true (p + 1) (length u.code) room)), expr_types b S f.1 t.1 (omega arith)), refl),
+          ),
+        )
+    expr_types (slots.disjunction a b) S f t le =
+        let one_more : length (kind.Value ∷ S) ≤ max_entries = omega (arith, some_height a) in
+        let two_more : length (kind.Value ∷ kind.Value ∷ S) ≤ max_entries = omega arith in (
+          kind.Value ∷ S,
+          expr_types a S f.0 t.0 (omega arith),
+          (
+            kind.Value ∷ kind.Value ∷ S,
+            (one_more, λ u p room. required _ flaw.FallsOff _ (lt_true (p + 1) (length u.code) room)),
+            (kind.Value ∷ S, refl, two_more, one_more, refl, (S, (one_more, λ u p room. required _ flaw.FallsOff _ (lt_true (p + 1) (length u.code) room)), expr_types b S f.1 t.1 (omega arith))),
+          ),
+        )
+    expr_types (slots.choice c a b) S f t le =
+        let one_more : length (kind.Value ∷ S) ≤ max_entries = omega (arith, some_height c) in
+        (kind.Value ∷ S, expr_types c S f.0 t.0 (omega arith), (S, refl, one_more, one_more, expr_types a S f.1 t.1 (omega arith), expr_types b S f.2 t.2 (omega arith)))
+
+    row_types : (r : SRow) (S : Shape) → RowFits k r → RowTakes r → length S + row_height r ≤ max_entries → Types (row_asm r) S (stack (row_count r) S)
+    row_types slots.none S f t le = refl
+    row_types (slots.item e r) S f t le =
+        (kind.Value ∷ S, expr_types e S f.0 t.0 (omega arith), subst (λ T. Types (row_asm r) (kind.Value ∷ S) T) (stack_on (row_count r) S) (row_types r (kind.Value ∷ S) f.1 t.1 (omega arith)))
 
   emits : (escaping : Bool) (S : Shape) → Straight (op.Emit (flag escaping)) (kind.Value ∷ S) S
   emits true S u p room = required _ flaw.FallsOff _ (lt_true (p + 1) (length u.code) room)
   emits false S u p room = required _ flaw.FallsOff _ (lt_true (p + 1) (length u.code) room)
 
   mutual
-    stmt_types : (s : SStmt) (S : Shape) → StmtFits k s → length S + 1 ≤ max_entries → Types (stmt_asm s) S S
-    stmt_types (put_pooled i) S f le = (omega arith, λ u p room. required _ flaw.BadIndex _ f ∙ required _ flaw.FallsOff _ (lt_true (p + 1) (length u.code) room))
-    stmt_types (print q escaping e) S f le = (kind.Value ∷ S, expr_types e S f le, (omega arith, emits escaping S))
-    stmt_types (if_else q c a b) S f le = (kind.Value ∷ S, expr_types c S f.0 le, (S, refl, omega arith, omega arith, body_types a S f.1 le, body_types b S f.2 le))
+    stmt_types : (s : SStmt) (S : Shape) → StmtFits k s → StmtTakes s → length S + stmt_height s ≤ max_entries → Types (stmt_asm s) S S
+    stmt_types (put_pooled i) S f t le = (omega arith, λ u p room. required _ flaw.BadIndex _ f ∙ required _ flaw.FallsOff _ (lt_true (p + 1) (length u.code) room))
+    stmt_types (print q escaping e) S f t le = (kind.Value ∷ S, expr_types e S f t (omega arith), (omega (arith, some_height e), emits escaping S))
+    stmt_types (if_else q c a b) S f t le = (kind.Value ∷ S, expr_types c S f.0 t.0 (omega arith), (S, refl, omega (arith, some_height c), omega arith, body_types a S f.1 t.1 (omega arith), body_types b S f.2 t.2 (omega arith)))
 
-    body_types : (b : SBody) (S : Shape) → BodyFits k b → length S + 1 ≤ max_entries → Types (body_asm b) S S
-    body_types end S f le = refl
-    body_types (stmt s rest) S f le = (S, stmt_types s S f.0 le, body_types rest S f.1 le)
+    body_types : (b : SBody) (S : Shape) → BodyFits k b → BodyTakes b → length S + body_height b ≤ max_entries → Types (body_asm b) S S
+    body_types end S f t le = refl
+    body_types (stmt s rest) S f t le = (S, stmt_types s S f.0 t.0 (omega arith), body_types rest S f.1 t.1 (omega arith))
 
-  pub unit_typed : (r : Routine) → BodyFits k r.body → IsTypedUnit Equal k (unit_of r)
-  unit_typed r f =
+  pub unit_typed : (r : Routine) → BodyFits k r.body → BodyTakes r.body → body_height r.body ≤ max_entries → IsTypedUnit Equal k (unit_of r)
+  unit_typed r f t low =
       let u = unit_of r in
       let a = body_asm r.body in
       let is = flat a 0 in
-      let fr = flat_types u a 0 [] [] (body_types r.body [] f (omega arith)) in
+      let fr = flat_types u a 0 [] [] (body_types r.body [] f t (omega (arith, low))) in
       let sh = fr.shapes ++ [] ∷ [] in
       let has = has_shapes sh [] in
       let long : length sh ≡ length u.code = length-append fr.shapes ([] ∷ []) ∙ omega (arith, fr.long, length-append is (op.Return ∷ [])) in

@@ -1,6 +1,6 @@
 -- The code of a resolved template names what is there, has the pool's values as its constants, and is typed.
-use Rattle.std.proofs.Common.{◌≡◌, ℕ, zero, suc, ◌+◌, ◌<◌, Bool, true, false, if◌then◌else◌, List, [], ◌∷◌, ◌++◌, length, map, Some, refl, sym, ap, ◌∙◌, subst, arith, append_assoc, length-append, inl, inr}
-use Rattle.std.specs.Prelude.{slice_get, nat_lt, option_map}
+use Rattle.std.proofs.Common.{◌≡◌, ℕ, zero, suc, ◌+◌, ◌<◌, ◌≤◌, Bool, true, false, if◌then◌else◌, List, [], ◌∷◌, ◌++◌, length, map, Option, Some, None, refl, sym, ap, ◌∙◌, subst, arith, append_assoc, length-append, ◌⊎◌, inl, inr}
+use Rattle.std.specs.Prelude.{slice_get, unwrap_or, nat_lt, option_map}
 use Rattle.std.specs.Str.{bytes_eq}
 use Rattle.std.proofs.Math.Seq.{get_or-append_seam}
 use Rattle.std.proofs.lemmas.Option.{slice_get-get_or}
@@ -8,19 +8,27 @@ use Rattle.std.proofs.lemmas.Bool.Decides.{nat_tests}
 use Rattle.std.proofs.lemmas.Slice.Eq.{bytes_eq-Decides}
 use Rattle.jt_value.specs.Tree as tree
 use Rattle.jt_value.specs.Tree.{Tree}
-use Rattle.jt_image.specs.Code.{Section, Code, is_text}
+use Rattle.jt_image.specs.Code.{Constant, Section, Code, is_text}
 use Rattle.jt_image.specs.IsCode.{IsCode}
 use Rattle.jt_value.specs.Pairs.{Pairs}
-use Rattle.jt_image.specs.Typed.{Equal, IsTypedUnit, IsTyped}
+use Rattle.jt_image.specs.Typed.{Equal, IsTypedUnit, IsTyped, max_entries}
 use Rattle.jt_image.specs.Step.{constant_value, text_of}
-use Rattle.jt_parse.specs.Trees.{Text, truth, nothing, Expr, constant, name, Stmt, data_of, print, choose, Body, end, stmt, Branches, no_branches, branch}
-use Rattle.jt_scopes.specs.Meaning.{literal, mean}
+use Rattle.jt_ops.specs.declared.test_id.TestId.{TestId}
+use Rattle.jt_expr.specs.Trees as written
+use Rattle.jt_expr.specs.Trees.{Literal, Expr, constant, name, group, list_of, map_of, attribute, item, filter, test, unary, binary, when, choice, Exprs, no_exprs, expr, Pairs as Entries, no_pairs, pair}
+use Rattle.jt_scopes.specs.Operators.{Form, operation, negation, conjunction, disjunction, form}
+use Rattle.jt_scopes.specs.Tests.{test_named}
+use Rattle.jt_scopes.specs.Expressions.{literal}
+use Rattle.jt_scopes.specs.Size.{body_height}
+use Rattle.jt_scopes.specs.Takes.{BodyTakes}
+use Rattle.jt_parse.specs.Trees.{Text, Stmt, data_of, print, choose, Body, end, stmt, Branches, no_branches, branch}
+use Rattle.jt_scopes.specs.Meaning.{mean}
 use Rattle.jt_scopes.specs.Slots as slots
-use Rattle.jt_scopes.specs.Slots.{SBody, Program, Routine, value_at, bytes_of, smean}
-use Rattle.jt_scopes.specs.Resolve.{expr_names, stmt_names, body_names, branch_names, ascending, slot_of, expr_pool, stmt_pool, body_pool, branch_pool, resolved_expr, resolved_stmt, resolved_body, resolved_choice, program}
+use Rattle.jt_scopes.specs.Slots.{SExpr, SRow, SBody, Program, Routine, value_at, bytes_of, smean}
+use Rattle.jt_scopes.specs.Resolve.{expr_names, row_names, pair_names, stmt_names, body_names, branch_names, ascending, slot_of, expr_pool, row_pool, pair_pool, stmt_pool, body_pool, branch_pool, turned_round, tested_by, in_form, resolved_expr, resolved_row, resolved_pairs, resolved_stmt, resolved_body, resolved_choice, program}
 use Rattle.jt_scopes.proofs.Means.{Among, AllAmong, all_ascending, program_means}
 use Rattle.jt_codegen.specs.Lower.{constant_of, unit_of, compiled}
-use Rattle.jt_codegen.specs.Fits.{ExprFits, BodyFits}
+use Rattle.jt_codegen.specs.Fits.{ExprFits, RowFits, BodyFits}
 use Rattle.jt_codegen.proofs.Lowered.{HasPool}
 use Rattle.jt_codegen.specs.Compiles.{CompilesTo}
 use Rattle.jt_codegen.proofs.Typed.{unit_typed}
@@ -90,9 +98,83 @@ lt_true a b h = grind (arith, nat_tests)
 -- ---- what a resolved template names is there
 
 module _ (template : Text) (escaping : Bool) (names : List Text) (pool : List Tree) (k : Code) (constants : k.constants ≡ map constant_of pool) (globals : k.globals ≡ length names) where
-  expr_fits : (e : Expr) (n : ℕ) → AllAmong (expr_names e) names → PoolAt pool n (expr_pool e) → ExprFits k (resolved_expr template escaping names e n)
-  expr_fits (constant l) n here has = ap (λ cs. nat_lt n (length cs)) constants ∙ lt_true n (length (map constant_of pool)) (within pool n (literal l) has.0)
-  expr_fits (name x) n here has = ap (nat_lt (slot_of x names)) globals ∙ lt_true (slot_of x names) (length names) (slot_within x names here.0)
+  pooled_fits : (n : ℕ) (t : Tree) → slice_get pool n ≡ Some t → nat_lt n (length k.constants) ≡ true
+  pooled_fits n t e = ap (λ cs. nat_lt n (length cs)) constants ∙ lt_true n (length (map constant_of pool)) (within pool n t e)
+
+  turned_fits : (b : Bool) (e : SExpr) → ExprFits k e → ExprFits k (turned_round b e)
+  turned_fits false e f = f
+  turned_fits true e f = (f, tt)
+
+  tested_fits : (t : Option TestId) (es : SRow) → RowFits k es → ExprFits k (tested_by t es)
+  tested_fits None es f = tt
+  tested_fits (Some t) es f = f
+
+  form_fits : (f : Form) (a b : SExpr) → ExprFits k a → ExprFits k b → ExprFits k (in_form f a b)
+  form_fits (operation o) a b f g = (f, (g, tt))
+  form_fits (negation o) a b f g = ((f, (g, tt)), tt)
+  form_fits conjunction a b f g = (f, g)
+  form_fits disjunction a b f g = (f, g)
+
+  mutual
+    expr_fits : (e : Expr) (n : ℕ) → AllAmong (expr_names e) names → PoolAt pool n (expr_pool e) → ExprFits k (resolved_expr template escaping names e n)
+    expr_fits (constant l) n here has = pooled_fits n (literal l) has.0
+    expr_fits (name x) n here has = ap (nat_lt (slot_of x names)) globals ∙ lt_true (slot_of x names) (length names) (slot_within x names here.0)
+    expr_fits (group a) n here has = expr_fits a n here has
+    expr_fits (list_of ts) n here has = row_fits ts n here has
+    expr_fits (map_of ps) n here has = pairs_fits ps n here has
+    expr_fits (attribute a x) n here has =
+        let last = pool_back pool n (expr_pool a) (tree.text x ∷ []) has in
+        (expr_fits a n here (pool_front pool n (expr_pool a) (tree.text x ∷ []) has), (pooled_fits (n + length (expr_pool a)) (tree.text x) last.0, tt))
+    expr_fits (item a b) n here has = (
+      expr_fits a n (front (expr_names a) (expr_names b) names here) (pool_front pool n (expr_pool a) (expr_pool b) has),
+      (expr_fits b (n + length (expr_pool a)) (back (expr_names a) (expr_names b) names here) (pool_back pool n (expr_pool a) (expr_pool b) has), tt),
+    )
+    expr_fits (written.call a ts ps) n here has = row_fits ts n (front (row_names ts) (pair_names ps) names here) has
+    expr_fits (filter a x ts ps) n here has = tt
+    expr_fits (test a t x ts ps) n here has =
+        let rest = back (expr_names a) (row_names ts ++ pair_names ps) names here in
+        let es = slots.item (resolved_expr template escaping names a n) (resolved_row template escaping names ts (n + length (expr_pool a))) in
+        turned_fits t (tested_by (test_named x) es)
+        (tested_fits (test_named x) es (
+          expr_fits a n (front (expr_names a) (row_names ts ++ pair_names ps) names here) (pool_front pool n (expr_pool a) (row_pool ts) has),
+          row_fits ts (n + length (expr_pool a)) (front (row_names ts) (pair_names ps) names rest) (pool_back pool n (expr_pool a) (row_pool ts) has),
+        ))
+    expr_fits (unary u a) n here has = (expr_fits a n here has, tt)
+    expr_fits (binary o a b) n here has =
+        form_fits (form escaping o) (resolved_expr template escaping names a n) (resolved_expr template escaping names b (n + length (expr_pool a)))
+        (expr_fits a n (front (expr_names a) (expr_names b) names here) (pool_front pool n (expr_pool a) (expr_pool b) has))
+        (expr_fits b (n + length (expr_pool a)) (back (expr_names a) (expr_names b) names here) (pool_back pool n (expr_pool a) (expr_pool b) has))
+    expr_fits (when c a) n here has =
+        let rest = pool_back pool n (expr_pool c) (expr_pool a ++ tree.undefined ∷ []) has in
+        let last = pool_back pool (n + length (expr_pool c)) (expr_pool a) (tree.undefined ∷ []) rest in (
+          expr_fits c n (front (expr_names c) (expr_names a) names here) (pool_front pool n (expr_pool c) (expr_pool a ++ tree.undefined ∷ []) has),
+          expr_fits a (n + length (expr_pool c)) (back (expr_names c) (expr_names a) names here) (pool_front pool (n + length (expr_pool c)) (expr_pool a) (tree.undefined ∷ []) rest),
+          pooled_fits (n + length (expr_pool c) + length (expr_pool a)) tree.undefined last.0,
+        )
+    expr_fits (choice c a b) n here has =
+        let rest = pool_back pool n (expr_pool c) (expr_pool a ++ expr_pool b) has in
+        let names_rest = back (expr_names c) (expr_names a ++ expr_names b) names here in (
+          expr_fits c n (front (expr_names c) (expr_names a ++ expr_names b) names here) (pool_front pool n (expr_pool c) (expr_pool a ++ expr_pool b) has),
+          expr_fits a (n + length (expr_pool c)) (front (expr_names a) (expr_names b) names names_rest) (pool_front pool (n + length (expr_pool c)) (expr_pool a) (expr_pool b) rest),
+          expr_fits b (n + length (expr_pool c) + length (expr_pool a)) (back (expr_names a) (expr_names b) names names_rest) (pool_back pool (n + length (expr_pool c)) (expr_pool a) (expr_pool b) rest),
+        )
+
+    row_fits : (ts : Exprs) (n : ℕ) → AllAmong (row_names ts) names → PoolAt pool n (row_pool ts) → RowFits k (resolved_row template escaping names ts n)
+    row_fits no_exprs n here has = tt
+    row_fits (expr a ts) n here has = (
+      expr_fits a n (front (expr_names a) (row_names ts) names here) (pool_front pool n (expr_pool a) (row_pool ts) has),
+      row_fits ts (n + length (expr_pool a)) (back (expr_names a) (row_names ts) names here) (pool_back pool n (expr_pool a) (row_pool ts) has),
+    )
+
+    pairs_fits : (ps : Entries) (n : ℕ) → AllAmong (pair_names ps) names → PoolAt pool n (pair_pool ps) → RowFits k (resolved_pairs template escaping names ps n)
+    pairs_fits no_pairs n here has = tt
+    pairs_fits (pair x a ps) n here has = (
+      pooled_fits n (tree.text x) has.0,
+      (
+        expr_fits a (n + 1) (front (expr_names a) (pair_names ps) names here) (pool_front pool (n + 1) (expr_pool a) (pair_pool ps) has.1),
+        pairs_fits ps (n + 1 + length (expr_pool a)) (back (expr_names a) (pair_names ps) names here) (pool_back pool (n + 1) (expr_pool a) (pair_pool ps) has.1),
+      ),
+    )
 
   text_fits : (n : ℕ) (t : Text) → slice_get pool n ≡ Some (tree.text t) → is_text (slice_get k.constants n) ≡ true
   text_fits n t e = ap (λ cs. is_text (slice_get cs n)) constants ∙ ap is_text (constants_at pool n) ∙ ap (λ o. is_text (option_map constant_of o)) e
@@ -150,10 +232,36 @@ pooled_append : (xs ys : List Tree) → ArePooled xs → ArePooled ys → ArePoo
 pooled_append [] ys h g = g
 pooled_append (x ∷ xs) ys h g = (h.0, pooled_append xs ys h.1 g)
 
-expr_pooled : (e : Expr) → ArePooled (expr_pool e)
-expr_pooled (constant (truth b)) = (tt, tt)
-expr_pooled (constant nothing) = (tt, tt)
-expr_pooled (name x) = tt
+literal_pooled : (l : Literal) → IsPooled (literal l)
+literal_pooled (written.number n) = tt
+literal_pooled (written.text s) = tt
+literal_pooled (written.truth b) = tt
+literal_pooled written.nothing = tt
+
+mutual
+  expr_pooled : (e : Expr) → ArePooled (expr_pool e)
+  expr_pooled (constant l) = (literal_pooled l, tt)
+  expr_pooled (name x) = tt
+  expr_pooled (group a) = expr_pooled a
+  expr_pooled (list_of ts) = row_pooled ts
+  expr_pooled (map_of ps) = pair_pooled ps
+  expr_pooled (attribute a x) = pooled_append (expr_pool a) (tree.text x ∷ []) (expr_pooled a) (tt, tt)
+  expr_pooled (item a b) = pooled_append (expr_pool a) (expr_pool b) (expr_pooled a) (expr_pooled b)
+  expr_pooled (written.call a ts ps) = row_pooled ts
+  expr_pooled (filter a x ts ps) = tt
+  expr_pooled (test a t x ts ps) = pooled_append (expr_pool a) (row_pool ts) (expr_pooled a) (row_pooled ts)
+  expr_pooled (unary u a) = expr_pooled a
+  expr_pooled (binary o a b) = pooled_append (expr_pool a) (expr_pool b) (expr_pooled a) (expr_pooled b)
+  expr_pooled (when c a) = pooled_append (expr_pool c) (expr_pool a ++ tree.undefined ∷ []) (expr_pooled c) (pooled_append (expr_pool a) (tree.undefined ∷ []) (expr_pooled a) (tt, tt))
+  expr_pooled (choice c a b) = pooled_append (expr_pool c) (expr_pool a ++ expr_pool b) (expr_pooled c) (pooled_append (expr_pool a) (expr_pool b) (expr_pooled a) (expr_pooled b))
+
+  row_pooled : (ts : Exprs) → ArePooled (row_pool ts)
+  row_pooled no_exprs = tt
+  row_pooled (expr a ts) = pooled_append (expr_pool a) (row_pool ts) (expr_pooled a) (row_pooled ts)
+
+  pair_pooled : (ps : Entries) → ArePooled (pair_pool ps)
+  pair_pooled no_pairs = tt
+  pair_pooled (pair x a ps) = (tt, pooled_append (expr_pool a) (pair_pool ps) (expr_pooled a) (pair_pooled ps))
 
 mutual
   stmt_pooled : (s : Stmt) → ArePooled (stmt_pool s)
@@ -211,29 +319,31 @@ module _ (template : Text) (escaping : Bool) (b : Body) where
   fits : BodyFits (compiled p) (resolved_body template escaping (ascending (body_names b)) b 0 slots.end)
   fits = body_fits template escaping (ascending (body_names b)) (body_pool b) (compiled p) refl refl b 0 slots.end (all_ascending (body_names b)) (pool_whole (body_pool b) []) tt
 
-  typed_at : (n : ℕ) (u : Section) → slice_get (compiled p).units n ≡ Some u → IsTypedUnit Equal (compiled p) u
-  typed_at zero u e =
-      let r : Routine = record { parameters = 0; locals = 0; body = resolved_body template escaping (ascending (body_names b)) b 0 slots.end } in
-      let same : unit_of r ≡ u = cc in
-      subst (IsTypedUnit Equal (compiled p)) same (unit_typed (compiled p) r fits)
-  typed_at (suc n) u e = absurd cc
+  abbrev body : SBody
+  body = resolved_body template escaping (ascending (body_names b)) b 0 slots.end
 
-  -- the code of every template is typed
-  pub compiled_typed : IsTyped (compiled p)
-  compiled_typed = typed_at
+  abbrev only : Routine
+  only = record { parameters = 0; locals = 0; body = body }
 
   means : (x : Pairs) (n : ℕ) → smean p x n ≡ mean escaping template b x n
   means x n = program_means template escaping b x n
 
-  abbrev only : Routine
-  only = record { parameters = 0; locals = 0; body = resolved_body template escaping (ascending (body_names b)) b 0 slots.end }
+  -- where each operation gets what it takes, and no more entries are needed than a shape may have
+  module _ (takes : BodyTakes body) (low : body_height body ≤ max_entries) where
+    typed_at : (n : ℕ) (u : Section) → slice_get (compiled p).units n ≡ Some u → IsTypedUnit Equal (compiled p) u
+    typed_at zero u e = let same : unit_of only ≡ u = cc in subst (IsTypedUnit Equal (compiled p)) same (unit_typed (compiled p) only fits takes low)
+    typed_at (suc n) u e = absurd cc
 
-  -- from source to text, and enough budget: wherever the code has a spelling
-  pub compiles : IsCode (compiled p) → CompilesTo template escaping b (compiled p)
-  compiles whole = record {
-    typed = compiled_typed;
-    texts = λ x g t r. let m = text_means p only [] refl has_pool whole compiled_typed x g t r in (m.0, sym (means x m.0) ∙ m.1);
-    faults = λ x g f r. let m = fault_means p only [] refl has_pool whole compiled_typed x g f r in (m.0, m.1, sym (means x m.0) ∙ m.2);
-    enough_text = λ x n t e. enough_text p only [] refl has_pool whole compiled_typed x n t (means x n ∙ e);
-    enough_fault = λ x n f q e. enough_fault p only [] refl has_pool whole compiled_typed x n f q (means x n ∙ e);
-  }
+    -- the code of every template is typed
+    pub compiled_typed : IsTyped (compiled p)
+    compiled_typed = typed_at
+
+    -- from source to text, and enough budget: wherever the code has a spelling
+    pub compiles : IsCode (compiled p) → CompilesTo template escaping b (compiled p)
+    compiles whole = record {
+      typed = compiled_typed;
+      texts = λ x g t r. let m = text_means p only [] refl has_pool takes whole compiled_typed x g t r in (m.0, sym (means x m.0) ∙ m.1);
+      faults = λ x g f r. let m = fault_means p only [] refl has_pool takes whole compiled_typed x g f r in (m.0, m.1, sym (means x m.0) ∙ m.2);
+      enough_text = λ x n t e. enough_text p only [] refl has_pool takes whole compiled_typed x n t (means x n ∙ e);
+      enough_fault = λ x n f q e. enough_fault p only [] refl has_pool takes whole compiled_typed x n f q (means x n ∙ e);
+    }

@@ -42,6 +42,61 @@ abbrev pub RefusesCode : EmitError → Code → Type 0
 RefusesCode error.CodeTooLong k = ¬ (FitsImage k)
 RefusesCode error.NoMemory k = Unit {0}
 
+-- ---- expressions
+
+-- the first asm stands behind the old code when the second one stands behind the new
+pub record Leaves (old : List Instr) (all : Asm) (new : List Instr) (left : Asm) : Type 0 where
+  pub code : (final : List Instr) → Emitted new left final → Emitted old all final
+  pub place : HasPlace (length old) all → HasPlace (length new) left
+
+-- a jump behind the code, at this point
+pub record Tests (old new : List Instr) (choice : ℕ) : Type 0 where
+  pub at : choice ≡ length old
+  pub jumps : Emitted old (one (op.JumpIfFalse 0)) new
+
+-- what a true value is replaced by, and what a false one is
+abbrev pub instead_asm : Asm → Asm
+instead_asm a = both (one op.Dup) (choose (both (one op.Drop) a) nil)
+
+abbrev pub otherwise_asm : Asm → Asm
+otherwise_asm a = both (one op.Dup) (choose nil (both (one op.Drop) a))
+
+-- a copy of the value behind the code, a jump at this point, and the value is dropped
+pub record BeginsInstead (old new : List Instr) (choice : ℕ) : Type 0 where
+  pub kept : List Instr
+  pub keeps : Emitted old (one op.Dup) kept
+  pub tested : List Instr
+  pub tests : Tests kept tested choice
+  pub drops : Emitted tested (one op.Drop) new
+
+-- a jump behind the code, at this point, and one behind it where the branch began
+pub record Ends (old : List Instr) (choice : ℕ) (new : List Instr) (last : ℕ) : Type 0 where
+  pub at : last ≡ length old
+  pub jumps : new ≡ slice_set (old ++ wire_of (op.Jump 0) ∷ []) choice (wire_of (op.JumpIfFalse (length old + 1)))
+
+-- a jump to the target at each of these points
+abbrev pub closed : List Instr → List ℕ → ℕ → List Instr
+closed is [] target = is
+closed is (e ∷ es) target = closed (slice_set is e (wire_of (op.Jump target))) es target
+
+-- both jumps of a choice without a second side are written
+pub record EndsInstead (old : List Instr) (choice : ℕ) (new : List Instr) : Type 0 where
+  pub last : ℕ
+  pub ended : List Instr
+  pub ends : Ends old choice ended last
+  pub closes : new ≡ closed ended (last ∷ []) (length ended)
+
+-- a copy of the value behind the code, a choice without a first side, the jump past the other one at this point, and the value is dropped
+pub record BeginsOtherwise (old new : List Instr) (last : ℕ) : Type 0 where
+  pub kept : List Instr
+  pub keeps : Emitted old (one op.Dup) kept
+  pub choice : ℕ
+  pub tested : List Instr
+  pub tests : Tests kept tested choice
+  pub ended : List Instr
+  pub ends : Ends tested choice ended last
+  pub drops : Emitted ended (one op.Drop) new
+
 -- ---- statements
 
 -- whatever comes last: the code of the first statements stands behind the old code when that of the others stands behind the new one
@@ -74,16 +129,6 @@ pub record Begins (old : List Instr) (condition : SExpr) (new : List Instr) (cho
   pub tests : Emitted old (expr_asm (expr_view condition)) tested
   pub at : choice ≡ length tested
   pub jumps : Emitted tested (one (op.JumpIfFalse 0)) new
-
--- a jump behind the code, at this point, and one behind it where the branch began
-pub record Ends (old : List Instr) (choice : ℕ) (new : List Instr) (last : ℕ) : Type 0 where
-  pub at : last ≡ length old
-  pub jumps : new ≡ slice_set (old ++ wire_of (op.Jump 0) ∷ []) choice (wire_of (op.JumpIfFalse (length old + 1)))
-
--- a jump to the target at each of these points
-abbrev pub closed : List Instr → List ℕ → ℕ → List Instr
-closed is [] target = is
-closed is (e ∷ es) target = closed (slice_set is e (wire_of (op.Jump target))) es target
 
 -- the same of branches, the last jumps of which aren't written yet: they stand at the ends, and go behind whatever comes last
 pub record Opens (template : Text) (old : List Instr) (all : List Branch) (new : List Instr) (left : List Branch) (ends : List ℕ) : Type 0 where

@@ -1,12 +1,21 @@
 -- What a resolved template may name in a code.
 use Rattle.std.specs.Prelude.{◌≡◌, true, length, slice_get, nat_lt}
 use Rattle.jt_image.specs.Code.{Code, is_text}
-use Rattle.jt_scopes.specs.Slots.{SExpr, pooled, global, SStmt, put_pooled, print, if_else, SBody, end, stmt}
+use Rattle.jt_scopes.specs.Slots.{SExpr, pooled, global, made, conjunction, disjunction, choice, SRow, none, item, SStmt, put_pooled, print, if_else, SBody, end, stmt}
 
 module _ (k : Code) where
-  abbrev pub ExprFits : SExpr → Type 0
-  ExprFits (pooled i) = nat_lt i (length k.constants) ≡ true
-  ExprFits (global i) = nat_lt i k.globals ≡ true
+  abbrev mutual
+    pub ExprFits : SExpr → Type 0
+    ExprFits (pooled i) = nat_lt i (length k.constants) ≡ true
+    ExprFits (global i) = nat_lt i k.globals ≡ true
+    ExprFits (made m es) = RowFits es
+    ExprFits (conjunction a b) = ExprFits a × ExprFits b
+    ExprFits (disjunction a b) = ExprFits a × ExprFits b
+    ExprFits (choice c a b) = ExprFits c × ExprFits a × ExprFits b
+
+    pub RowFits : SRow → Type 0
+    RowFits none = Unit {0}
+    RowFits (item e es) = ExprFits e × RowFits es
 
   abbrev mutual
     pub StmtFits : SStmt → Type 0

@@ -1,20 +1,18 @@
--- Which codes are refused: those that pass a limit of images, and those of which a unit needs too many entries.
-use Rattle.std.specs.Prelude.{◌≡◌, ℕ, ◌<◌, length, Some, slice_get}
-use Rattle.jt_image.specs.Code.{Section, Code}
-use Rattle.jt_image.specs.Effect.{Shape}
-use Rattle.jt_image.specs.Typed.{Reaches, max_entries}
+-- Which templates are refused: those whose code passes a limit of images, and those of which a routine needs too many entries.
+use Rattle.std.specs.Prelude.{◌≡◌, ℕ, ◌<◌, Some, slice_get}
+use Rattle.jt_image.specs.Typed.{max_entries}
 use Rattle.jt_image.specs.Parts.{KeepsLimits}
+use Rattle.jt_scopes.specs.Slots.{Routine, Program}
+use Rattle.jt_scopes.specs.Size.{body_height}
+use Rattle.jt_codegen.specs.Lower.{compiled}
 
--- some limit of images is passed
-abbrev pub IsTooLong : Code → Type 0
-IsTooLong k = ¬ (KeepsLimits k)
+-- the code of the program passes some limit of images
+abbrev pub IsTooLong : Program → Type 0
+IsTooLong p = ¬ (KeepsLimits (compiled p))
 
--- a path of effects in one of the units brings a shape of more entries to a point than a shape may have
-pub record NeedsTooMany (k : Code) : Type 0 where
+-- one of the routines needs more entries than a shape may have
+pub record NeedsTooMany (p : Program) : Type 0 where
   pub n : ℕ
-  pub unit : Section
-  pub is : slice_get k.units n ≡ Some unit
-  pub point : ℕ
-  pub shape : Shape
-  pub reached : Reaches k unit point shape
-  pub many : max_entries < length shape
+  pub routine : Routine
+  pub is : slice_get p.routines n ≡ Some routine
+  pub many : max_entries < body_height routine.body

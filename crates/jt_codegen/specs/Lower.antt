@@ -1,17 +1,44 @@
 -- The code of resolved templates, its jumps still in pairs.
-use Rattle.std.specs.Prelude.{ℕ, Bool, true, false, List, [], ◌∷◌, ◌++◌, length, map, suc}
+use Rattle.std.specs.Prelude.{ℕ, zero, Bool, true, false, List, [], ◌∷◌, ◌++◌, length, map, suc}
 use Rattle.jt_value.specs.Tree as tree
 use Rattle.jt_value.specs.Tree.{Tree}
+use Rattle.jt_image.specs.declared.instruction.Instruction.{Instruction}
 use Rattle.jt_image.specs.declared.instruction.Instruction.TheVariants as op
 use Rattle.jt_image.specs.Code as code
 use Rattle.jt_image.specs.Code.{Constant, Name, Section, Code}
 use Rattle.jt_parse.specs.Trees.{Text}
-use Rattle.jt_scopes.specs.Slots.{SExpr, pooled, global, SStmt, put_pooled, print, if_else, SBody, end, stmt, Routine, Program}
+use Rattle.jt_ops.specs.OpTable.{op_id}
+use Rattle.jt_ops.specs.TestTable.{test_id}
+use Rattle.jt_scopes.specs.Size.{row_count}
+use Rattle.jt_scopes.specs.Slots.{Maker, operator, test, a_list, a_map, SExpr, pooled, global, made, conjunction, disjunction, choice, SRow, none, item, SStmt, put_pooled, print, if_else, SBody, end, stmt, Routine, Program}
 use Rattle.jt_codegen.specs.Asm.{Asm, nil, one, both, choose, flat}
 
-abbrev pub expr_asm : SExpr → Asm
-expr_asm (pooled i) = one (op.Const i)
-expr_asm (global i) = one (op.GLoad i)
+-- keys and values in turn are half as many entries
+abbrev pub half : ℕ → ℕ
+half zero = zero
+half (suc zero) = zero
+half (suc (suc n)) = suc (half n)
+
+-- what makes one value of that many
+abbrev pub maker : Maker → ℕ → Instruction
+maker (operator o) n = op.Op (op_id o)
+maker (test t) n = op.Test (test_id t) n
+maker a_list n = op.MakeList n
+maker a_map n = op.MakeMap (half n)
+
+abbrev mutual
+  pub expr_asm : SExpr → Asm
+  expr_asm (pooled i) = one (op.Const i)
+  expr_asm (global i) = one (op.GLoad i)
+  expr_asm (made k es) = both (row_asm es) (one (maker k (row_count es)))
+  -- the right operand in place of the left one
+  expr_asm (conjunction a b) = both (expr_asm a) (both (one op.Dup) (choose (both (one op.Drop) (expr_asm b)) nil))
+  expr_asm (disjunction a b) = both (expr_asm a) (both (one op.Dup) (choose nil (both (one op.Drop) (expr_asm b))))
+  expr_asm (choice c a b) = both (expr_asm c) (choose (expr_asm a) (expr_asm b))
+
+  pub row_asm : SRow → Asm
+  row_asm none = nil
+  row_asm (item e es) = both (expr_asm e) (row_asm es)
 
 -- what is printed is escaped or not
 abbrev pub flag : Bool → ℕ

@@ -6,6 +6,7 @@ ghost use Rattle.jt_codegen.specs.Compiled.{IsCompiled};
 ghost use Rattle.jt_codegen.specs.Refusals.{Breaks, NamesLimit};
 
 use crate::error::CompileError;
+use crate::height::fits_entries;
 use crate::tables::parts_of;
 use jt_image::{Image, assemble};
 use jt_inherit::{Library, chain};
@@ -13,12 +14,16 @@ use jt_scan::Options;
 use jt_scopes::resolve;
 use std::alloc::Global;
 
+/// How many entries a unit may need.
+const MAX_ENTRIES: usize = 1_024;
+
 /// The image of the entry, of which the library has the source.
 ///
 /// # Errors
 ///
-/// What the chain or the names break; `CodeTooLong` where the image would pass a limit; `NoMemory`
-/// where a growth was refused.
+/// What the chain, the names or the calls break; `CodeTooLong` where the image would pass a limit;
+/// `StackTooDeep` where its unit would need more than 1,024 entries; `NoMemory` where a growth was
+/// refused.
 pub fn compile<L: Library>(
     alloc: Global,
     entry: &str,
@@ -34,6 +39,9 @@ pub fn compile<L: Library>(
 {
     let chain = chain(alloc, entry, library, options)?;
     let resolved = resolve(alloc, &chain)?;
+    if !fits_entries(resolved.body(), MAX_ENTRIES) {
+        return Err(CompileError::StackTooDeep);
+    }
     let parts = parts_of(alloc, &resolved)?;
     match assemble(alloc, parts) {
         Ok(image) => Ok(image),

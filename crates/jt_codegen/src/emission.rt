@@ -1,19 +1,20 @@
 //! The code of a resolved template.
 
-ghost use Rattle.std.specs.Prelude.{◌≡◌, ◌<◌, ◌≤◌, ◌^◌, length, Some, IfOk, IfErr, OnOk, MatchResult};
+ghost use Rattle.std.specs.Prelude.{◌≡◌, ◌<◌, ◌≤◌, ◌^◌, [], ◌∷◌, length, Some, IfOk, IfErr, OnOk, MatchResult};
 ghost use Rattle.std.specs.List.{AllByRecursion};
+ghost use Rattle.jt_image.specs.IsCode.{IsInstruction};
 ghost use Rattle.jt_image.specs.Parts.{section_of_unit};
 ghost use Rattle.jt_parse.specs.Trees.{Text};
-ghost use Rattle.jt_scopes.specs.Slots.{SBody};
-ghost use Rattle.jt_scopes.specs.View.{expr_view, stmt_view, body_view};
+ghost use Rattle.jt_scopes.specs.Slots.{SBody, none};
+ghost use Rattle.jt_scopes.specs.View.{maker_view, expr_view, row_view, stmt_view, body_view};
 ghost use Rattle.jt_codegen.specs.Asm.{Asm, one, both, choose};
-ghost use Rattle.jt_codegen.specs.Lower.{flag, expr_asm, body_asm, unit_of};
-ghost use Rattle.jt_codegen.specs.Emission.{Emitted, Refuses, Emits, none_left, routine_of, closed, Begins, Ends};
+ghost use Rattle.jt_codegen.specs.Lower.{flag, maker, expr_asm, row_asm, body_asm, unit_of};
+ghost use Rattle.jt_codegen.specs.Emission.{Emitted, Refuses, Tests, instead_asm, BeginsInstead, EndsInstead, otherwise_asm, BeginsOtherwise, Emits, none_left, routine_of, closed, Begins, Ends};
 ghost use Rattle.jt_codegen.specs.declared.emission.EmitError.TheVariants.{CodeTooLong};
 ghost use Rattle.jt_image.specs.declared.instruction.Instruction.TheVariants as op;
 
 use jt_image::{Instr, Instruction, Unit};
-use jt_scopes::{SExpr, SStmt};
+use jt_scopes::{Maker, SExpr, SStmt};
 use std::alloc::{AllocError, AllocFailed, Global};
 
 /// How many instructions an image may have.
@@ -95,23 +96,136 @@ fn put(code: &mut Vec<Instr>, instruction: Instruction) -> Result<(), EmitError>
     Ok(())
 }
 
+/// The instruction that makes one value of that many.
+fn instruction_of(kind: Maker, count: usize) -> Result<Instruction, EmitError>
+    ensures made { IfOk result (λ i. i ≡ maker (maker_view kind) count) }
+    ensures refused { IfErr result (λ e. (e ≡ CodeTooLong) × ¬ (IsInstruction (maker (maker_view kind) count))) }
+{
+    match kind {
+        Maker::Operator(operator) => Ok(Instruction::Op {
+            operator: operator.id(),
+        }),
+        Maker::Test(test) => match u16::try_from(count) {
+            Ok(values) => Ok(Instruction::Test {
+                test: test.id(),
+                values,
+            }),
+            Err(_) => Err(EmitError::CodeTooLong),
+        },
+        Maker::List => {
+            let items = field(count)?;
+            Ok(Instruction::MakeList { items })
+        }
+        Maker::Map => {
+            let entries = field(count / 2)?;
+            Ok(Instruction::MakeMap { entries })
+        }
+    }
+}
+
 /// Puts the code of an expression behind the others.
-fn emit_expression(code: &mut Vec<Instr>, expr: SExpr) -> Result<(), EmitError>
-    ensures emitted { OnOk result (Emitted code.old.items (expr_asm (expr_view expr)) code.new.items) }
-    ensures refused { IfErr result (λ e. Refuses e (length code.old.items) (expr_asm (expr_view expr))) }
+#[cycle(expressions)]
+fn emit_expression(code: &mut Vec<Instr>, expr: &SExpr) -> Result<(), EmitError>
+    ensures emitted { OnOk result (Emitted code.old.items (expr_asm (expr_view expr.now)) code.new.items) }
+    ensures refused { IfErr result (λ e. Refuses e (length code.old.items) (expr_asm (expr_view expr.now))) }
 {
     match expr {
         SExpr::Pooled(place) => {
-            let constant = field(place)?;
+            let constant = field(*place)?;
             put(code, Instruction::Const { constant })?;
             Ok(())
         }
         SExpr::Global(slot) => {
-            let global = field(slot)?;
+            let global = field(*slot)?;
             put(code, Instruction::GLoad { global })?;
             Ok(())
         }
+        SExpr::Made(kind, row) => {
+            emit_row(code, row)?;
+            let made = instruction_of(*kind, row.len())?;
+            put(code, made)?;
+            Ok(())
+        }
+        SExpr::Conjunction(left, right) => {
+            emit_expression(code, left)?;
+            let choice = begin_instead(code)?;
+            emit_expression(code, right)?;
+            end_instead(code, choice)?;
+            Ok(())
+        }
+        SExpr::Disjunction(left, right) => {
+            emit_expression(code, left)?;
+            let last = begin_otherwise(code)?;
+            emit_expression(code, right)?;
+            close_one(code, last)?;
+            Ok(())
+        }
+        SExpr::Choice(condition, taken, other) => {
+            emit_expression(code, condition)?;
+            let choice = begin_choice(code)?;
+            emit_expression(code, taken)?;
+            let last = end_branch(code, choice)?;
+            emit_expression(code, other)?;
+            close_one(code, last)?;
+            Ok(())
+        }
     }
+}
+
+/// Puts the code of a row of expressions behind the others, from left to right.
+#[cycle(expressions)]
+fn emit_row(code: &mut Vec<Instr>, row: &[SExpr]) -> Result<(), EmitError>
+    ensures emitted { OnOk result (Emitted code.old.items (row_asm (row_view row.now none)) code.new.items) }
+    ensures refused { IfErr result (λ e. Refuses e (length code.old.items) (row_asm (row_view row.now none))) }
+{
+    for expr in row {
+        emit_expression(code, expr)?;
+    }
+    Ok(())
+}
+
+/// Puts a jump behind the others that is written when its target is known.
+fn begin_choice(code: &mut Vec<Instr>) -> Result<usize, EmitError>
+    ensures begun { IfOk result (λ choice. Tests code.old.items code.new.items choice) }
+    ensures refused { IfErr result (λ e. Refuses e (length code.old.items) (one (op.JumpIfFalse 0))) }
+{
+    let choice = code.len();
+    put(code, Instruction::JumpIfFalse { target: 0 })?;
+    Ok(choice)
+}
+
+/// Begins what a true value is replaced by.
+fn begin_instead(code: &mut Vec<Instr>) -> Result<usize, EmitError>
+    ensures begun { IfOk result (λ choice. BeginsInstead code.old.items code.new.items choice) }
+    ensures refused { IfErr result (λ e. (a : Asm) → Refuses e (length code.old.items) (instead_asm a)) }
+{
+    put(code, Instruction::Dup)?;
+    let choice = begin_choice(code)?;
+    put(code, Instruction::Drop)?;
+    Ok(choice)
+}
+
+/// Ends what a true value is replaced by.
+fn end_instead(code: &mut Vec<Instr>, choice: usize) -> Result<(), EmitError>
+    requires { choice < length code.old.items }
+    ensures ended { OnOk result (EndsInstead code.old.items choice code.new.items) }
+    ensures refused { IfErr result (λ e. Refuses e (length code.old.items) (one (op.Jump 0))) }
+{
+    let last = end_branch(code, choice)?;
+    close_one(code, last)?;
+    Ok(())
+}
+
+/// Begins what a false value is replaced by, and gives the jump past it.
+fn begin_otherwise(code: &mut Vec<Instr>) -> Result<usize, EmitError>
+    ensures begun { IfOk result (λ last. BeginsOtherwise code.old.items code.new.items last) }
+    ensures refused { IfErr result (λ e. (a : Asm) → Refuses e (length code.old.items) (otherwise_asm a)) }
+{
+    put(code, Instruction::Dup)?;
+    let choice = begin_choice(code)?;
+    let last = end_branch(code, choice)?;
+    put(code, Instruction::Drop)?;
+    Ok(last)
 }
 
 /// Puts the code of a statement behind the others.
@@ -127,7 +241,7 @@ fn emit_statement(alloc: Global, code: &mut Vec<Instr>, statement: &SStmt) -> Re
             Ok(())
         }
         SStmt::Print(_, escaping, expr) => {
-            emit_expression(code, *expr)?;
+            emit_expression(code, expr)?;
             let printed = flag(*escaping);
             put(code, Instruction::Emit { flag: printed })?;
             Ok(())
@@ -135,7 +249,7 @@ fn emit_statement(alloc: Global, code: &mut Vec<Instr>, statement: &SStmt) -> Re
         SStmt::If(branches, other) => {
             let mut ends = Vec::new(alloc);
             for (_, condition, body) in branches {
-                let choice = begin_branch(code, *condition)?;
+                let choice = begin_branch(code, condition)?;
                 emit_statements(alloc, code, body)?;
                 let last = end_branch(code, choice)?;
                 ends.push(last)?;
@@ -160,13 +274,12 @@ fn emit_statements(alloc: Global, code: &mut Vec<Instr>, body: &[SStmt]) -> Resu
 }
 
 /// Puts a condition behind the others, and a jump that is written when its target is known.
-fn begin_branch(code: &mut Vec<Instr>, condition: SExpr) -> Result<usize, EmitError>
-    ensures begun { IfOk result (λ choice. Begins code.old.items condition code.new.items choice) }
-    ensures refused { IfErr result (λ e. (taken other : Asm) → Refuses e (length code.old.items) (both (expr_asm (expr_view condition)) (choose taken other))) }
+fn begin_branch(code: &mut Vec<Instr>, condition: &SExpr) -> Result<usize, EmitError>
+    ensures begun { IfOk result (λ choice. Begins code.old.items condition.now code.new.items choice) }
+    ensures refused { IfErr result (λ e. (taken other : Asm) → Refuses e (length code.old.items) (both (expr_asm (expr_view condition.now)) (choose taken other))) }
 {
     emit_expression(code, condition)?;
-    let choice = code.len();
-    put(code, Instruction::JumpIfFalse { target: 0 })?;
+    let choice = begin_choice(code)?;
     Ok(choice)
 }
 
@@ -193,5 +306,16 @@ fn close(code: &mut Vec<Instr>, ends: &[usize]) -> Result<(), EmitError>
     for end in ends {
         code[*end] = Instruction::Jump { target: behind }.wire();
     }
+    Ok(())
+}
+
+/// Lets the jump at this point go behind all instructions.
+fn close_one(code: &mut Vec<Instr>, last: usize) -> Result<(), EmitError>
+    requires { last < length code.old.items }
+    ensures closed { OnOk result (code.new.items ≡ closed code.old.items (last ∷ []) (length code.old.items)) }
+    ensures refused { IfErr result (λ e. (e ≡ CodeTooLong) × (2 ^ 32 ≤ length code.old.items)) }
+{
+    let past = field(code.len())?;
+    code[last] = Instruction::Jump { target: past }.wire();
     Ok(())
 }

@@ -4,6 +4,7 @@
 mod compiling;
 mod emission;
 mod error;
+mod height;
 mod tables;
 
 pub use compiling::compile;

@@ -37,6 +37,12 @@ fn word(alloc: Global, instruction: Instruction) -> Result<String, AllocError> {
         Instruction::Data { constant } => format!(in alloc; "d{constant} "),
         Instruction::Jump { target } => format!(in alloc; "j{target} "),
         Instruction::JumpIfFalse { target } => format!(in alloc; "f{target} "),
+        Instruction::Op { operator } => format!(in alloc; "o{operator} "),
+        Instruction::Test { test, values } => format!(in alloc; "t{test}.{values} "),
+        Instruction::MakeList { items } => format!(in alloc; "l{items} "),
+        Instruction::MakeMap { entries } => format!(in alloc; "m{entries} "),
+        Instruction::Dup => format!(in alloc; "k "),
+        Instruction::Drop => format!(in alloc; "x "),
         Instruction::Return => format!(in alloc; "r"),
         other => format!(in alloc; "{other:?} "),
     }
@@ -85,7 +91,7 @@ fn codes_and_refusals(rt: HostRuntime) -> Result<(), Fail> {
             "g0 f8 g1 f6 d0 j6 d1 j8 r",
         ),
         ("{{ x", "S1 UnclosedTag in a line 1"),
-        ("\n{{ 1 }}", "S3 BadCharacter in a line 2"),
+        ("\n{{ ? }}", "S3 BadCharacter in a line 2"),
         ("{% if %}{% endif %}", "P1 Syntax in a line 1"),
         ("{{ loop }}", "V1 LoopOutside"),
         ("{{ self }}", "V3 NotCallable"),
@@ -99,6 +105,61 @@ fn codes_and_refusals(rt: HostRuntime) -> Result<(), Fail> {
         autoescape: false,
     };
     assert_eq!(rt; told(alloc, "{{ a }}", plain)?.as_str(), "g0 e0 r");
+    Ok(())
+}
+
+#[test]
+fn codes_of_expressions(rt: HostRuntime) -> Result<(), Fail> {
+    let alloc = rt.alloc();
+    let rows = [
+        ("{{ 1 + a }}", "c0 g0 o0 e1 r"),
+        ("{{ -a }}", "g0 o6 e1 r"),
+        ("{{ a ~ b }}", "g0 g1 o10 e1 r"),
+        ("{{ a not in b }}", "g0 g1 o17 o8 e1 r"),
+        ("{{ a and b }}", "g0 k f6 x g1 j6 e1 r"),
+        ("{{ a or b }}", "g0 k f4 j6 x g1 e1 r"),
+        ("{{ a if b else c }}", "g1 f4 g0 j5 g2 e1 r"),
+        ("{{ a if b }}", "g1 f4 g0 j5 c0 e1 r"),
+        ("{{ [1, a, 'x'] }}", "c0 g0 c1 l3 e1 r"),
+        ("{{ {'k': a, 'l': 2} }}", "c0 g0 c1 c2 m2 e1 r"),
+        ("{{ a.k }}{{ a[0] }}", "g0 c0 o18 e1 g0 c1 o18 e1 r"),
+        ("{{ a is defined }}", "g0 t1.1 e1 r"),
+        ("{{ a is not divisibleby(3) }}", "g0 c0 t2.2 o8 e1 r"),
+        ("{{ range(3) }}", "c0 o19 e1 r"),
+        ("{% if a == 1 %}x{% endif %}", "g0 c0 o11 f6 d1 j6 r"),
+    ];
+    for (source, want) in rows {
+        let got = told(alloc, source, Options::new())?;
+        assert_eq!(rt; got.as_str(), want, "{source}");
+    }
+    Ok(())
+}
+
+/// A list of that many values, printed.
+fn list(alloc: Global, count: usize) -> Result<String, AllocError> {
+    let mut source = String::from_str(alloc, "{{[")?;
+    for _n in 0..count {
+        source.push_str("a,")?;
+    }
+    source.push_str("]}}")?;
+    Ok(source)
+}
+
+#[test]
+fn high_stacks(rt: HostRuntime) -> Result<(), Fail> {
+    let alloc = rt.alloc();
+    let low = list(alloc, 1_024)?;
+    let templates = [("a", low.as_str())];
+    let shelf = Shelf {
+        templates: &templates,
+    };
+    match compile(alloc, "a", &shelf, Options::new()) {
+        Ok(image) => assert_eq!(rt; image.instructions(), 1_027),
+        Err(_) => return Err(Fail::from("compile")),
+    }
+    let high = list(alloc, 1_025)?;
+    let refused = told(alloc, high.as_str(), Options::new())?;
+    assert_eq!(rt; refused.as_str(), "G3 StackTooDeep");
     Ok(())
 }
 

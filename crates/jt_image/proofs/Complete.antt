@@ -212,6 +212,10 @@ wired (op.Data c) = record { by_op = (op.Data 0, refl); by_a = (op.Data 0, refl)
 wired (op.Jump c) = record { by_op = (op.Jump 0, refl); by_a = (op.Jump 0, refl); by_b = (op.Jump 0, refl); whole = refl }
 wired (op.JumpIfFalse c) = record { by_op = (op.JumpIfFalse 0, refl); by_a = (op.JumpIfFalse 0, refl); by_b = (op.JumpIfFalse 0, refl); whole = refl }
 wired (op.JumpIfTrue c) = record { by_op = (op.JumpIfTrue 0, refl); by_a = (op.JumpIfTrue 0, refl); by_b = (op.JumpIfTrue 0, refl); whole = refl }
+wired (op.Op a) = record { by_op = (op.Op 0, refl); by_a = (op.Op a, refl); by_b = (op.Op a, refl); whole = refl }
+wired (op.Test a b) = record { by_op = (op.Test 0 0, refl); by_a = (op.Test a 0, refl); by_b = (op.Test a b, refl); whole = refl }
+wired (op.MakeList c) = record { by_op = (op.MakeList 0, refl); by_a = (op.MakeList 0, refl); by_b = (op.MakeList 0, refl); whole = refl }
+wired (op.MakeMap c) = record { by_op = (op.MakeMap 0, refl); by_a = (op.MakeMap 0, refl); by_b = (op.MakeMap 0, refl); whole = refl }
 wired op.Return = record { by_op = (op.Return, refl); by_a = (op.Return, refl); by_b = (op.Return, refl); whole = refl }
 
 -- the fields of an instruction fit the wire's
@@ -229,6 +233,10 @@ small_wire (op.Data c) h = (omega arith, h)
 small_wire (op.Jump c) h = (omega arith, h)
 small_wire (op.JumpIfFalse c) h = (omega arith, h)
 small_wire (op.JumpIfTrue c) h = (omega arith, h)
+small_wire (op.Op a) h = (omega arith, omega arith)
+small_wire (op.Test a b) h = (h.1, omega arith)
+small_wire (op.MakeList c) h = (omega arith, h)
+small_wire (op.MakeMap c) h = (omega arith, h)
 small_wire op.Return h = (omega arith, omega arith)
 
 -- the fields of an instruction are read as it

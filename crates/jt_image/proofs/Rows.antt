@@ -1,15 +1,21 @@
--- Runs of two small codes, computed from the definitions.
-use Rattle.std.proofs.Common.{◌≡◌, ℕ, [], ◌∷◌, refl}
-use Rattle.std.specs.Prelude.{pos}
+-- Runs of small codes, computed from the definitions.
+use Rattle.std.proofs.Common.{◌≡◌, ℕ, List, [], ◌∷◌, ◌++◌, Ok, Err, refl}
+use Rattle.std.specs.Prelude.{pos, replicate}
 use Rattle.jt_value.specs.Tree as tree
 use Rattle.jt_value.specs.Pairs.{Pairs}
 use Rattle.jt_value.specs.declared.fault.Fault.TheVariants as faults
+use Rattle.jt_image.specs.declared.instruction.Instruction.{Instruction}
 use Rattle.jt_image.specs.declared.instruction.Instruction.TheVariants as op
+use Rattle.jt_image.specs.declared.kind.Kind.TheVariants as kind
+use Rattle.jt_image.specs.declared.kind.Flaw.TheVariants as flaw
 use Rattle.jt_image.specs.Code as code
-use Rattle.jt_image.specs.Code.{Code}
+use Rattle.jt_image.specs.Code.{Section, Code}
+use Rattle.jt_image.specs.Ids.{operator_of, test_of}
+use Rattle.jt_image.specs.Effect.{effect}
 use Rattle.jt_image.specs.Config as config
 use Rattle.jt_image.specs.Config.{Budget}
-use Rattle.jt_image.specs.Run.{Ends, start, after}
+use Rattle.jt_image.specs.Step.{mapped, cost}
+use Rattle.jt_image.specs.Run.{Next, Ends, start, after}
 
 -- puts the text constant x
 abbrev x_code : Code
@@ -61,3 +67,78 @@ keeps_markup = refl
 
 counts_escaped : after e_code 10 (start e_code (n_is (tree.text (60 ∷ []))) (record (ample 3) { output = 3 })) ≡ Ends (config.spent config.output)
 counts_escaped = refl
+
+-- ---- operators, tests, lists and maps
+
+-- prints what these instructions leave
+abbrev printing : List code.Constant → List Instruction → Code
+printing cs is = record { globals = 0; names = []; constants = cs; units = record { parameters = 0; kind = 0; locals = 0; code = is ++ (op.Emit 0 ∷ op.Return ∷ []) } ∷ [] }
+
+abbrev ends_of : List code.Constant → List Instruction → ℕ → Next
+ends_of cs is fuel = after (printing cs is) 20 (start (printing cs is) [] (ample fuel))
+
+abbrev numbers : List code.Constant
+numbers = code.number (pos 7) ∷ code.number (pos 3) ∷ code.text (97 ∷ []) ∷ code.undefined ∷ code.number (pos 4) ∷ code.number (pos 1) ∷ []
+
+abbrev yes : List ℕ
+yes = 84 ∷ 114 ∷ 117 ∷ 101 ∷ []
+
+-- 7 - 3 == 4: the left one is pushed first
+subtracts : ends_of numbers (op.Const 0 ∷ op.Const 1 ∷ op.Op 1 ∷ op.Const 4 ∷ op.Op 11 ∷ []) 7 ≡ Ends (config.text yes)
+unfolding operator_of
+subtracts = refl
+
+subtracts_short : ends_of numbers (op.Const 0 ∷ op.Const 1 ∷ op.Op 1 ∷ op.Const 4 ∷ op.Op 11 ∷ []) 6 ≡ Ends (config.spent config.fuel)
+unfolding operator_of
+subtracts_short = refl
+
+subtracts_text : ends_of numbers (op.Const 0 ∷ op.Const 2 ∷ op.Op 1 ∷ []) 5 ≡ Ends (config.fault faults.BadType)
+unfolding operator_of
+subtracts_text = refl
+
+-- 7 is even
+is_even : ends_of numbers (op.Const 0 ∷ op.Test 6 1 ∷ []) 4 ≡ Ends (config.text (70 ∷ 97 ∷ 108 ∷ 115 ∷ 101 ∷ []))
+unfolding test_of
+is_even = refl
+
+-- [7, 3][1] == 3
+second_item : ends_of numbers (op.Const 0 ∷ op.Const 1 ∷ op.MakeList 2 ∷ op.Const 5 ∷ op.Op 18 ∷ op.Const 1 ∷ op.Op 11 ∷ []) 9 ≡ Ends (config.text yes)
+unfolding operator_of
+second_item = refl
+
+-- a doubled key keeps its place and takes the later value
+doubled_key : mapped (tree.text (97 ∷ []) ∷ tree.nothing ∷ tree.text (98 ∷ []) ∷ tree.nothing ∷ tree.markup (97 ∷ []) ∷ one ∷ []) ≡ Ok (tree.map (tree.entry (97 ∷ []) one (tree.entry (98 ∷ []) tree.nothing tree.no_entries)))
+doubled_key = refl
+
+number_as_key : ends_of numbers (op.Const 0 ∷ op.Const 1 ∷ op.MakeMap 1 ∷ []) 5 ≡ Ends (config.fault faults.BadType)
+number_as_key = refl
+
+undefined_as_key : ends_of numbers (op.Const 0 ∷ op.Const 1 ∷ op.Const 3 ∷ op.Const 1 ∷ op.MakeMap 2 ∷ []) 7 ≡ Ends (config.fault faults.Undefined)
+undefined_as_key = refl
+
+-- a map is nested once more than what it holds; its size is tested first
+map_too_deep : after (printing numbers (op.Const 2 ∷ op.Const 1 ∷ op.MakeMap 1 ∷ [])) 20 (start (printing numbers (op.Const 2 ∷ op.Const 1 ∷ op.MakeMap 1 ∷ [])) [] (record (ample 9) { nesting = 0 })) ≡ Ends (config.spent config.nesting)
+map_too_deep = refl
+
+map_too_large : after (printing numbers (op.Const 2 ∷ op.Const 1 ∷ op.MakeMap 1 ∷ [])) 20 (start (printing numbers (op.Const 2 ∷ op.Const 1 ∷ op.MakeMap 1 ∷ [])) [] (record (ample 9) { size = 3; nesting = 0 })) ≡ Ends (config.spent config.size)
+map_too_large = refl
+
+-- not, of a text of 63 bytes, whose size is 64
+reads_whole : cost (op.Op 8) (record { entries = config.value (tree.text (replicate 63 97)) ∷ []; locals = []; globals = []; buffers = [] }) ≡ 2
+unfolding operator_of
+reads_whole = refl
+
+abbrev a_unit : Section
+a_unit = record { parameters = 0; kind = 0; locals = 0; code = op.Return ∷ [] }
+
+no_operator : effect (printing [] []) a_unit 0 (op.Op 22) (kind.Value ∷ kind.Value ∷ []) ≡ Err flaw.BadIndex
+unfolding operator_of
+no_operator = refl
+
+other_number : effect (printing [] []) a_unit 0 (op.Test 6 2) (kind.Value ∷ kind.Value ∷ []) ≡ Err flaw.BadIndex
+unfolding test_of
+other_number = refl
+
+no_operand : effect (printing [] []) a_unit 0 (op.Op 0) (kind.Value ∷ []) ≡ Err flaw.MissingOperand
+unfolding operator_of
+no_operand = refl

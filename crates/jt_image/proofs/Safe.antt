@@ -1,10 +1,11 @@
 -- A machine of a typed code goes on or ends, and is never wrong.
-use Rattle.std.proofs.Common.{◌≡◌, ℕ, zero, suc, ◌+◌, ◌<◌, ◌≤◌, Bool, true, false, cond, ltb, eqb, List, [], ◌∷◌, ◌++◌, length, map, Option, Some, None, Result, Ok, refl, sym, ap, subst, ◌∙◌, arith}
+use Rattle.std.proofs.Common.{◌≡◌, ℕ, zero, suc, ◌+◌, ◌*◌, ◌<◌, ◌≤◌, Bool, true, false, cond, ltb, eqb, List, [], ◌∷◌, ◌++◌, length, map, Option, Some, None, Result, Ok, Err, refl, sym, ap, subst, ◌∙◌, arith}
 use Rattle.std.specs.Prelude.{slice_get, slice_set, nat_lt}
 use Rattle.std.specs.List.{AllByRecursion}
 use Rattle.std.proofs.lemmas.Bool.{ltb-false}
 use Rattle.std.proofs.lemmas.List.{length-set}
 use Rattle.jt_value.specs.Tree as tree
+use Rattle.jt_value.specs.declared.fault.Fault.{Fault}
 use Rattle.jt_value.specs.Tree.{Tree, truth, printed}
 use Rattle.jt_image.specs.declared.instruction.Instruction.{Instruction}
 use Rattle.jt_image.specs.declared.instruction.Instruction.TheVariants as op
@@ -12,12 +13,13 @@ use Rattle.jt_image.specs.declared.kind.Kind.TheVariants as kind
 use Rattle.jt_image.specs.declared.kind.Flaw.{Flaw}
 use Rattle.jt_image.specs.declared.kind.Flaw.TheVariants as flaw
 use Rattle.jt_image.specs.Code.{Section, Code}
-use Rattle.jt_image.specs.Effect.{Shape, Leads, require, pops, goes_on, jumps, branches, may_return, effect, effect_of}
+use Rattle.jt_image.specs.Effect.{Shape, Leads, require, pops, pops_many, goes_on, jumps, branches, may_return, effect, effect_of}
 use Rattle.jt_image.specs.Typed.{Shapes, Equal, HasSame, IsTypedBy}
+use Rattle.jt_image.specs.Ids.{operator_of, operands_of, test_of}
 use Rattle.jt_image.specs.Config as config
 use Rattle.jt_image.specs.Config.{Budget, Outcome, Entry, value, frame, capture, kind_of, State, Caller, Machine, Config}
 use Rattle.jt_image.specs.Step as step
-use Rattle.jt_image.specs.Step.{Demand, no_demand, pushing, emitting, Plain, goes, faults_by, broken, with_entries, push, on_value, put, put_printed, shown, slot, constant_value, text_of, plain, Action, ends, faulty, wrong, at_point, straight, jump_on, Given, nothing, result, disorder, given_by, back_to, action, in_tables, strict, cost, fetch}
+use Rattle.jt_image.specs.Step.{Demand, no_demand, pushing, emitting, Plain, goes, faults_by, broken, with_entries, push, on_value, on_values, push_given, makes, put, put_printed, shown, slot, constant_value, text_of, operated, tested_by, listed, mapped, plain, Action, ends, faulty, wrong, at_point, straight, jump_on, Given, nothing, result, disorder, given_by, back_to, action, in_tables, strict, cost, fetch}
 use Rattle.jt_image.specs.Run.{Next, Goes, Ends, Wrong, spared, unless, spends, next}
 
 -- the kinds of the entries
@@ -79,6 +81,16 @@ pops_ok [] go l e = absurd cc
 pops_ok (kind.Value ∷ s) go l e = (s, refl, e)
 pops_ok (kind.Frame ∷ s) go l e = absurd cc
 pops_ok (kind.Capture ∷ s) go l e = absurd cc
+
+-- values taken that a shape lets be taken, with what follows
+taken_many : {A : Type 0} (n : ℕ) (ts : List Tree) (es : List Entry) (go : Shape → Result Leads Flaw) (l : Leads) (none : A) (f : List Tree → List Entry → A) (P : A → Type 0) → pops_many n (kinds_of es) go ≡ Ok l
+    → ((us : List Tree) (fs : List Entry) → go (kinds_of fs) ≡ Ok l → captures fs ≡ captures es → ((z : ℕ) → AreSized z es → AreSized z fs) → P (f us fs))
+    → P (on_values n ts es none f)
+taken_many zero ts es go l none f P e h = h ts es e refl (λ z x. x)
+taken_many (suc n) ts [] go l none f P e h = absurd cc
+taken_many (suc n) ts (value t ∷ es) go l none f P e h = taken_many n (t ∷ ts) es go l none f P e (λ us fs kinds count sized. h us fs kinds count (λ z x. sized z x.1))
+taken_many (suc n) ts (frame x ∷ es) go l none f P e h = absurd cc
+taken_many (suc n) ts (capture ∷ es) go l none f P e h = absurd cc
 
 -- the top entry is a value
 pub record HasValue (es : List Entry) (r : Shape) : Type 0 where
@@ -242,6 +254,26 @@ module _ (k : Code) (m : Machine) (g : IsFit k m) (l : Leads) (agree : Agrees k 
       let b = branches_ok k g.unit g.shapes m.point p a.0 l a.2 agree in
       branch_fine (λ t. cond (truth t) p (m.point + 1)) a.0 a.1 (λ t. either_place (truth t) p (m.point + 1) a.0 b.1 b.0)
 
+  -- what an operation gives, in place of the values that it took
+  given_fine : (r : Result Tree Fault) (fs : List Entry) → length m.state.buffers ≡ suc (captures fs) → g.shapes (m.point + 1) ≡ Some (kind.Value ∷ kinds_of fs) → ((n : ℕ) → AreSized n es → AreSized n fs) → Fine (straight (push_given r fs m.state) m)
+  given_fine (Ok t) fs count here sized = (lands (m.point + 1) (value t ∷ fs) m.state.globals m.state.buffers here refl count, λ n z fits. (fits, sized n z))
+  given_fine (Err e) fs count here sized = tt
+
+  makes_fine : (n : ℕ) (operate : List Tree → Result Tree Fault) → pops_many n s (λ r. goes_on g.unit m.point (kind.Value ∷ r)) ≡ Ok l → Fine (straight (makes n operate m.state) m)
+  makes_fine n operate e =
+      taken_many n [] es (λ r. goes_on g.unit m.point (kind.Value ∷ r)) l broken (λ ts fs. push_given (operate ts) fs m.state) (λ x. Fine (straight x m)) e
+      (λ ts fs e' count sized. given_fine (operate ts) fs (rw count g.buffers) (goes_on_ok k g.unit g.shapes m.point (kind.Value ∷ kinds_of fs) l e' agree) sized)
+
+  op_fine : (a : ℕ) → effect k g.unit m.point (op.Op a) s ≡ Ok l → Fine (strict k g.unit (op.Op a) m)
+  op_fine a e =
+      let b = require_ok _ _ _ l e in
+      in_place _ _ b.0 (makes_fine (operands_of (operator_of a)) (operated (operator_of a)) b.1)
+
+  test_fine : (a n : ℕ) → effect k g.unit m.point (op.Test a n) s ≡ Ok l → Fine (strict k g.unit (op.Test a n) m)
+  test_fine a n e =
+      let b = require_ok _ _ _ l e in
+      in_place _ _ b.0 (makes_fine n (tested_by (test_of a)) b.1)
+
   -- the first activation returns with no entries, so one buffer is left
   ends_fine : (fs : List Entry) (bs : List (List ℕ)) → may_return 0 (kinds_of fs) ≡ true → length bs ≡ suc (captures fs) → Fine (back_to [] (given_by 0 fs) bs m)
   ends_fine [] [] e count = absurd (omega arith)
@@ -268,6 +300,10 @@ module _ (k : Code) (m : Machine) (g : IsFit k m) (l : Leads) (agree : Agrees k 
   strict_fine (op.Jump p) e = jump_fine p e
   strict_fine (op.JumpIfFalse p) e = if_false_fine p e
   strict_fine (op.JumpIfTrue p) e = if_true_fine p e
+  strict_fine (op.Op a) e = op_fine a e
+  strict_fine (op.Test a n) e = test_fine a n e
+  strict_fine (op.MakeList c) e = makes_fine c listed e
+  strict_fine (op.MakeMap c) e = makes_fine (2 * c) mapped e
   strict_fine op.Return e = return_fine e
 
 -- ---- a step under a budget
@@ -283,6 +319,10 @@ cost_positive (op.Data c) m = omega arith
 cost_positive (op.Jump p) m = omega arith
 cost_positive (op.JumpIfFalse p) m = omega arith
 cost_positive (op.JumpIfTrue p) m = omega arith
+cost_positive (op.Op a) m = omega arith
+cost_positive (op.Test a n) m = omega arith
+cost_positive (op.MakeList c) m = omega arith
+cost_positive (op.MakeMap c) m = omega arith
 cost_positive op.Return m = omega arith
 
 unless_fine : (k : Code) (fuel : ℕ) (b : Bool) (l : config.Limit) (n : Next) → (b ≡ false → IsFineStep k fuel n) → IsFineStep k fuel (unless b l n)

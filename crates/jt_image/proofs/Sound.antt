@@ -15,7 +15,7 @@ use Rattle.jt_image.specs.declared.wire.Instr.{Instr}
 use Rattle.jt_image.specs.Code.{Constant, number, text, markup, Name, Section}
 use Rattle.jt_image.specs.Spelling.{name_bytes, constant_bytes, wire_of, wire_bytes, instruction_bytes}
 use Rattle.jt_image.specs.IsCode.{total_len, IsConstant, IsInstruction, max_locals, max_instructions}
-use Rattle.jt_image.specs.Reading.{◌>>=◌, check, number_at, byte_at, text_at, is_used, may_follow, slot_at, name_text_at, name_at, long_text_at, constant_of, constant_at, Header, parameters_at, kind_at, locals_at, len_at, header_of, uses_none, uses_c, uses_a, instruction_of, known, known_of, instruction_at, instructions_at, section_of, section_at, sections_at, header_total, many_at, each_at}
+use Rattle.jt_image.specs.Reading.{◌>>=◌, check, number_at, byte_at, text_at, is_used, may_follow, slot_at, name_text_at, name_at, long_text_at, constant_of, constant_at, Header, parameters_at, kind_at, locals_at, len_at, header_of, uses_none, uses_c, uses_a, uses_ab, instruction_of, known, known_of, instruction_at, instructions_at, section_of, section_at, sections_at, header_total, many_at, each_at}
 use Rattle.jt_image.proofs.Found.{Read, AllOk, all_at, all_map, bind_from, check_all, cond_all, IsBytes, Takes, Takes-then, Takes-as, Found, wide16, wide32, wide64, number_found, single, byte_found, IsText, text_found, AllGood, Many, many_found, Each, each_found}
 
 and_true : (a b : Bool) → (a && b) ≡ true → (a ≡ true) × (b ≡ true)
@@ -243,6 +243,13 @@ a_wire w opcode i e is = by_tests (eqb w.b 0) (eqb w.c 0) refl refl
     by_tests true false x y = tt
     by_tests false d x y = tt
 
+ab_wire : (w : Instr) (opcode : ℕ) (i : Instruction) → eqb w.op opcode ≡ true → wire_of i ≡ wire_at opcode w.a w.b 0 → HasWire w (uses_ab w i)
+ab_wire w opcode i e is = by_test (eqb w.c 0) refl
+  where
+    by_test : (x : Bool) → eqb w.c 0 ≡ x → HasWire w (cond x (Some i) None)
+    by_test true x = is ∙ same_wire w opcode w.a w.b 0 e refl refl (sym (eqb-true w.c 0 x))
+    by_test false x = tt
+
 choose : (w : Instr) (b : Bool) (x y : Option Instruction) → (b ≡ true → HasWire w x) → HasWire w y → HasWire w (cond b x y)
 choose w true x y h k = h refl
 choose w false x y h k = k
@@ -260,25 +267,33 @@ instruction_wire w =
     choose w (eqb w.op 10) _ _ (λ e. c_wire w 10 (op.Jump w.c) e refl) (
     choose w (eqb w.op 11) _ _ (λ e. c_wire w 11 (op.JumpIfFalse w.c) e refl) (
     choose w (eqb w.op 12) _ _ (λ e. c_wire w 12 (op.JumpIfTrue w.c) e refl) (
-    choose w (eqb w.op 28) _ _ (λ e. none_wire w 28 op.Return e refl) tt))))))))))
+    choose w (eqb w.op 13) _ _ (λ e. a_wire w 13 (op.Op w.a) e refl) (
+    choose w (eqb w.op 15) _ _ (λ e. ab_wire w 15 (op.Test w.a w.b) e refl) (
+    choose w (eqb w.op 16) _ _ (λ e. c_wire w 16 (op.MakeList w.c) e refl) (
+    choose w (eqb w.op 17) _ _ (λ e. c_wire w 17 (op.MakeMap w.c) e refl) (
+    choose w (eqb w.op 28) _ _ (λ e. none_wire w 28 op.Return e refl) tt))))))))))))))
 
 -- the fields from which an instruction was made
 pub wire_from : (w : Instr) (i : Instruction) → instruction_of w ≡ Some i → wire_of i ≡ w
 wire_from w i e = subst (HasWire w) e (instruction_wire w)
 
 -- the fields of an instruction fit
-small_instruction : (i : Instruction) (w : Instr) → wire_of i ≡ w → w.a < 2 ^ 8 → w.c < 2 ^ 32 → IsInstruction i
-small_instruction (op.Const c) w e a l = subst (λ (n : ℕ). n < 2 ^ 32) (ap (λ (v : Instr). v.c) (sym e)) l
-small_instruction (op.GLoad c) w e a l = subst (λ (n : ℕ). n < 2 ^ 32) (ap (λ (v : Instr). v.c) (sym e)) l
-small_instruction (op.GStore c) w e a l = subst (λ (n : ℕ). n < 2 ^ 32) (ap (λ (v : Instr). v.c) (sym e)) l
-small_instruction op.Drop w e a l = tt
-small_instruction op.Dup w e a l = tt
-small_instruction (op.Emit c) w e a l = subst (λ (n : ℕ). n < 2 ^ 8) (ap (λ (v : Instr). v.a) (sym e)) a
-small_instruction (op.Data c) w e a l = subst (λ (n : ℕ). n < 2 ^ 32) (ap (λ (v : Instr). v.c) (sym e)) l
-small_instruction (op.Jump c) w e a l = subst (λ (n : ℕ). n < 2 ^ 32) (ap (λ (v : Instr). v.c) (sym e)) l
-small_instruction (op.JumpIfFalse c) w e a l = subst (λ (n : ℕ). n < 2 ^ 32) (ap (λ (v : Instr). v.c) (sym e)) l
-small_instruction (op.JumpIfTrue c) w e a l = subst (λ (n : ℕ). n < 2 ^ 32) (ap (λ (v : Instr). v.c) (sym e)) l
-small_instruction op.Return w e a l = tt
+small_instruction : (i : Instruction) (w : Instr) → wire_of i ≡ w → w.a < 2 ^ 8 → w.b < 2 ^ 16 → w.c < 2 ^ 32 → IsInstruction i
+small_instruction (op.Const c) w e a m l = subst (λ (n : ℕ). n < 2 ^ 32) (ap (λ (v : Instr). v.c) (sym e)) l
+small_instruction (op.GLoad c) w e a m l = subst (λ (n : ℕ). n < 2 ^ 32) (ap (λ (v : Instr). v.c) (sym e)) l
+small_instruction (op.GStore c) w e a m l = subst (λ (n : ℕ). n < 2 ^ 32) (ap (λ (v : Instr). v.c) (sym e)) l
+small_instruction op.Drop w e a m l = tt
+small_instruction op.Dup w e a m l = tt
+small_instruction (op.Emit c) w e a m l = subst (λ (n : ℕ). n < 2 ^ 8) (ap (λ (v : Instr). v.a) (sym e)) a
+small_instruction (op.Data c) w e a m l = subst (λ (n : ℕ). n < 2 ^ 32) (ap (λ (v : Instr). v.c) (sym e)) l
+small_instruction (op.Jump c) w e a m l = subst (λ (n : ℕ). n < 2 ^ 32) (ap (λ (v : Instr). v.c) (sym e)) l
+small_instruction (op.JumpIfFalse c) w e a m l = subst (λ (n : ℕ). n < 2 ^ 32) (ap (λ (v : Instr). v.c) (sym e)) l
+small_instruction (op.JumpIfTrue c) w e a m l = subst (λ (n : ℕ). n < 2 ^ 32) (ap (λ (v : Instr). v.c) (sym e)) l
+small_instruction (op.Op c) w e a m l = subst (λ (n : ℕ). n < 2 ^ 8) (ap (λ (v : Instr). v.a) (sym e)) a
+small_instruction (op.Test c d) w e a m l = (subst (λ (n : ℕ). n < 2 ^ 8) (ap (λ (v : Instr). v.a) (sym e)) a, subst (λ (n : ℕ). n < 2 ^ 16) (ap (λ (v : Instr). v.b) (sym e)) m)
+small_instruction (op.MakeList c) w e a m l = subst (λ (n : ℕ). n < 2 ^ 32) (ap (λ (v : Instr). v.c) (sym e)) l
+small_instruction (op.MakeMap c) w e a m l = subst (λ (n : ℕ). n < 2 ^ 32) (ap (λ (v : Instr). v.c) (sym e)) l
+small_instruction op.Return w e a m l = tt
 
 -- whatever the test says
 bind_any : {A B : Type 0} (r : Result A ImageError) (f : A → Result B ImageError) (Q : B → Type 0) → ((x : A) → AllOk (f x) Q) → AllOk (r >>= f) Q
@@ -309,7 +324,7 @@ instruction_found bytes fits =
     let two = Takes-then o.1 (single a.0) a.1 (to_le_bytes w16 b.0 ++ to_le_bytes w32 c.0) c.1 ta.0 back in
     let all : Takes bytes (wire_bytes w) c.1 = Takes-then bytes (single o.0) o.1 (a.0 ∷ (to_le_bytes w16 b.0 ++ to_le_bytes w32 c.0)) c.1 to.0 two in
     bind_from (known_of o.0 a.0 b.0 c.0) (λ i. Ok (i, c.1)) (λ i. wire_of i ≡ w) P (known_found o.0 a.0 b.0 c.0) (λ i e.
-    (Takes-as bytes (wire_bytes w) (instruction_bytes i) c.1 (ap wire_bytes (sym e)) all, small_instruction i w e ta.1 tc.1)))))))))
+    (Takes-as bytes (wire_bytes w) (instruction_bytes i) c.1 (ap wire_bytes (sym e)) all, small_instruction i w e ta.1 tb.1 tc.1)))))))))
 
 -- ---- units
 

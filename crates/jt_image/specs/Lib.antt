@@ -6,6 +6,7 @@ pub mod View
 pub mod HeaderView
 pub mod ImageView
 pub mod Readers
+pub mod Ids
 pub mod Effect
 pub mod Typed
 pub mod Config

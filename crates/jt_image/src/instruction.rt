@@ -24,6 +24,14 @@ pub enum Instruction {
     JumpIfFalse { target: u32 },
     /// Takes a value and goes to a point if it is true.
     JumpIfTrue { target: u32 },
+    /// Takes an operator's operands and pushes what it gives.
+    Op { operator: u8 },
+    /// Takes that many values, the tested one deepest, and pushes whether the test holds.
+    Test { test: u8, values: u16 },
+    /// Takes that many values and pushes their list, the deepest first.
+    MakeList { items: u32 },
+    /// Takes a key and a value for each entry and pushes their map, the deepest first.
+    MakeMap { entries: u32 },
     /// Ends the unit.
     Return,
 }

@@ -193,3 +193,33 @@ fn refuses_and_hands_back(rt: HostRuntime) -> Result<(), Fail> {
     }
     Ok(())
 }
+
+#[test]
+fn fields_of_instructions(rt: HostRuntime) {
+    let op = Instruction::Op { operator: 5 };
+    let test = Instruction::Test { test: 2, values: 2 };
+    let list = Instruction::MakeList { items: 3 };
+    let map = Instruction::MakeMap { entries: 3 };
+    let rows = [
+        ((13, 5, 0, 0), Some(op)),
+        ((13, 5, 1, 0), None),
+        ((13, 5, 0, 1), None),
+        ((15, 2, 2, 0), Some(test)),
+        ((15, 2, 2, 1), None),
+        ((16, 0, 0, 3), Some(list)),
+        ((16, 1, 0, 3), None),
+        ((16, 0, 1, 3), None),
+        ((17, 0, 0, 3), Some(map)),
+        ((17, 1, 0, 3), None),
+        ((17, 0, 1, 3), None),
+        ((14, 0, 1, 0), None),
+    ];
+    for (fields, want) in rows {
+        let (op, a, b, c) = fields;
+        let instr = Instr { op, a, b, c };
+        assert_eq!(rt; instr.instruction(), want, "{op}");
+        if let Some(instruction) = want {
+            assert_eq!(rt; instruction.wire(), instr);
+        }
+    }
+}

@@ -2,7 +2,7 @@
 ghost use Rattle.std.specs.Prelude.{◌≡◌, ◌≢◌, MatchOption, IfSome};
 ghost use Rattle.jt_image.specs.Spelling.{wire_of};
 ghost use Rattle.jt_image.specs.IsCode.{IsInstruction};
-ghost use Rattle.jt_image.specs.Reading.{uses_none, uses_a, uses_c, instruction_of};
+ghost use Rattle.jt_image.specs.Reading.{uses_none, uses_a, uses_ab, uses_c, instruction_of};
 
 use crate::instruction::Instruction;
 
@@ -13,7 +13,7 @@ pub struct Instr {
     pub op: u8,
     /// A number of an operator, filter, test or loop field, or a flag.
     pub a: u8,
-    /// A count of arguments.
+    /// A count of values.
     pub b: u16,
     /// An index, a target or a count.
     pub c: u32,
@@ -42,6 +42,12 @@ fn with_a(op: u8, a: u8) -> Instr
     Instr { op, a, b: 0, c: 0 }
 }
 
+fn with_ab(op: u8, a: u8, b: u16) -> Instr
+    ensures { result ≡ record { op = op; a = a; b = b; c = 0 } }
+{
+    Instr { op, a, b, c: 0 }
+}
+
 impl Instruction {
     /// The fields of the instruction.
     pub fn wire(self) -> Instr
@@ -58,6 +64,10 @@ impl Instruction {
             Instruction::Jump { target } => with_c(10, target),
             Instruction::JumpIfFalse { target } => with_c(11, target),
             Instruction::JumpIfTrue { target } => with_c(12, target),
+            Instruction::Op { operator } => with_a(13, operator),
+            Instruction::Test { test, values } => with_ab(15, test, values),
+            Instruction::MakeList { items } => with_c(16, items),
+            Instruction::MakeMap { entries } => with_c(17, entries),
             Instruction::Return => plain(28),
         }
     }
@@ -84,6 +94,12 @@ impl Instr {
         }
     }
 
+    fn uses_ab(self, instruction: Instruction) -> Option<Instruction>
+        ensures { result ≡ uses_ab self instruction }
+    {
+        if self.c == 0 { Some(instruction) } else { None }
+    }
+
     fn uses_c(self, instruction: Instruction) -> Option<Instruction>
         ensures { result ≡ uses_c self instruction }
     {
@@ -98,7 +114,7 @@ impl Instr {
     fn by_opcode(self) -> Option<Instruction>
         ensures { result ≡ instruction_of self }
     {
-        let (a, c) = (self.a, self.c);
+        let (a, b, c) = (self.a, self.b, self.c);
         match self.op {
             1 => self.uses_c(Instruction::Const { constant: c }),
             4 => self.uses_c(Instruction::GLoad { global: c }),
@@ -110,6 +126,10 @@ impl Instr {
             10 => self.uses_c(Instruction::Jump { target: c }),
             11 => self.uses_c(Instruction::JumpIfFalse { target: c }),
             12 => self.uses_c(Instruction::JumpIfTrue { target: c }),
+            13 => self.uses_a(Instruction::Op { operator: a }),
+            15 => self.uses_ab(Instruction::Test { test: a, values: b }),
+            16 => self.uses_c(Instruction::MakeList { items: c }),
+            17 => self.uses_c(Instruction::MakeMap { entries: c }),
             28 => self.uses_none(Instruction::Return),
             _ => None,
         }

@@ -1,2 +1,4 @@
 pub mod Bridge
 pub mod Steps
+pub mod Taking
+pub mod Mapping

@@ -2,7 +2,10 @@
 #![tactic(auto)]
 
 mod limits;
+mod making;
+mod maps;
 mod outcome;
+mod parts;
 mod runs;
 mod start;
 mod state;

@@ -1,9 +1,10 @@
 //! Runs of small images.
 
+use crate::maps::map_of;
 use crate::{Outcome, run};
 use jt_budget::Budget;
-use jt_image::decode;
-use jt_value::{Context, Value};
+use jt_image::{Constant, Image, Instr, Parts, Unit, assemble, decode};
+use jt_value::{Context, Fault, Value, ValueError};
 use jt_verify::verify;
 use std::alloc::Global;
 use std::test::Fail;
@@ -46,6 +47,16 @@ fn outcome(alloc: Global, bytes: &[u8], context: &Context, budget: Budget) -> Re
     let Ok(image) = decode(alloc, bytes) else {
         return Err(Fail::from("decode"));
     };
+    outcome_of(alloc, image, context, budget)
+}
+
+// The outcome of an image that is read, in words.
+fn outcome_of(
+    alloc: Global,
+    image: Image,
+    context: &Context,
+    budget: Budget,
+) -> Result<String, Fail> {
     let Ok(verified) = verify(alloc, image) else {
         return Err(Fail::from("verify"));
     };
@@ -224,5 +235,194 @@ fn two_values_of_a_context(rt: HostRuntime) -> Result<(), Fail> {
     insert(alloc, &mut context, "b", Value::Int(2))?;
     let found = outcome(alloc, &AB, &context, AMPLE)?;
     assert_eq!(rt; found.as_str(), "text 21");
+    Ok(())
+}
+
+// The fields of an instruction.
+type Fields = (u8, u8, u16, u32);
+
+const MINUS: Fields = (13, 1, 0, 0);
+
+const FLOOR: Fields = (13, 3, 0, 0);
+
+const EQUAL: Fields = (13, 11, 0, 0);
+
+const ITEM: Fields = (13, 18, 0, 0);
+
+const RANGE: Fields = (13, 19, 0, 0);
+
+const EVEN: Fields = (15, 6, 1, 0);
+
+const DIVISIBLE: Fields = (15, 2, 2, 0);
+
+fn constant(index: u32) -> Fields {
+    (1, 0, 0, index)
+}
+
+fn list_of(count: u32) -> Fields {
+    (16, 0, 0, count)
+}
+
+fn map_with(count: u32) -> Fields {
+    (17, 0, 0, count)
+}
+
+// The image that carries out some instructions and prints what they leave. The constants are the numbers 0 to 3, -7, the texts
+// `a` and `b`, and undefined.
+fn image_of(alloc: Global, instructions: &[Fields]) -> Result<Image, Fail> {
+    let mut code = Vec::new(alloc);
+    for fields in instructions {
+        code.push(instr(*fields))?;
+    }
+    code.push(instr((8, 0, 0, 0)))?;
+    code.push(instr((28, 0, 0, 0)))?;
+    let unit = Unit {
+        parameters: 0,
+        kind: 0,
+        locals: 0,
+        code,
+    };
+    let constants = vec![in alloc;
+        Constant::Int(0),
+        Constant::Int(1),
+        Constant::Int(2),
+        Constant::Int(3),
+        Constant::Int(-7),
+        Constant::Text(String::from_str(alloc, "a")?),
+        Constant::Markup(String::from_str(alloc, "b")?),
+        Constant::Undefined,
+    ]?;
+    let parts = Parts {
+        globals: 0,
+        names: Vec::new(alloc),
+        constants,
+        units: vec![in alloc; unit]?,
+    };
+    Ok(assemble(alloc, parts).ok().ok_or("the parts are a code")?)
+}
+
+fn instr(fields: Fields) -> Instr {
+    let (op, a, b, c) = fields;
+    Instr { op, a, b, c }
+}
+
+// What some instructions print under a budget.
+fn printed(alloc: Global, instructions: &[Fields], budget: Budget) -> Result<String, Fail> {
+    let image = image_of(alloc, instructions)?;
+    outcome_of(alloc, image, &Context::new(alloc), budget)
+}
+
+#[test]
+fn operators_and_tests(rt: HostRuntime) -> Result<(), Fail> {
+    let alloc = rt.alloc();
+    let subtract: &[Fields] = &[constant(1), constant(3), MINUS];
+    let floor: &[Fields] = &[constant(4), constant(2), FLOOR];
+    let zero: &[Fields] = &[constant(4), constant(0), FLOOR];
+    let text: &[Fields] = &[constant(4), constant(5), MINUS];
+    let even: &[Fields] = &[constant(3), EVEN];
+    let divisible: &[Fields] = &[constant(2), constant(1), DIVISIBLE];
+    let by_zero: &[Fields] = &[constant(2), constant(0), DIVISIBLE];
+    for (instructions, fuel, wanted) in [
+        (subtract, 5, "text -2"),
+        (subtract, 4, "spent Fuel"),
+        (floor, 5, "text -4"),
+        (zero, 3, "fault ZeroDivide"),
+        (zero, 2, "spent Fuel"),
+        (text, 3, "fault BadType"),
+        (even, 4, "text False"),
+        (divisible, 5, "text True"),
+        (by_zero, 3, "fault ZeroDivide"),
+        (by_zero, 2, "spent Fuel"),
+    ] {
+        let found = printed(alloc, instructions, Budget { fuel, ..AMPLE })?;
+        assert_eq!(rt; found.as_str(), wanted);
+    }
+    Ok(())
+}
+
+#[test]
+fn lists_and_maps(rt: HostRuntime) -> Result<(), Fail> {
+    let alloc = rt.alloc();
+    let first: &[Fields] = &[constant(3), constant(1), list_of(2), constant(0), ITEM];
+    let later: &[Fields] = &[
+        constant(5),
+        constant(1),
+        constant(6),
+        constant(2),
+        constant(5),
+        constant(3),
+        map_with(3),
+        constant(5),
+        ITEM,
+    ];
+    let number: &[Fields] = &[constant(1), constant(1), map_with(1)];
+    let undefined: &[Fields] = &[
+        constant(1),
+        constant(1),
+        constant(7),
+        constant(1),
+        map_with(2),
+    ];
+    let none: &[Fields] = &[map_with(0), list_of(0), EQUAL];
+    for (instructions, wanted) in [
+        (first, "text 3"),
+        (later, "text 3"),
+        (number, "fault BadType"),
+        (undefined, "fault Undefined"),
+        (none, "text False"),
+    ] {
+        assert_eq!(rt; printed(alloc, instructions, AMPLE)?.as_str(), wanted);
+    }
+    Ok(())
+}
+
+#[test]
+fn what_is_made_is_within_the_limits(rt: HostRuntime) -> Result<(), Fail> {
+    let alloc = rt.alloc();
+    let range: &[Fields] = &[constant(3), RANGE, constant(2), ITEM];
+    let nested: &[Fields] = &[list_of(0), list_of(1), constant(0), ITEM];
+    for (instructions, size, nesting, wanted) in [
+        (range, 4, 1, "text 2"),
+        (range, 3, 1, "spent Size"),
+        (range, 3, 0, "spent Size"),
+        (range, 4, 0, "spent Nesting"),
+        (nested, 2, 2, "fault Unprintable"),
+        (nested, 1, 1, "spent Size"),
+        (nested, 2, 1, "spent Nesting"),
+    ] {
+        let budget = Budget {
+            size,
+            nesting,
+            ..AMPLE
+        };
+        assert_eq!(rt; printed(alloc, instructions, budget)?.as_str(), wanted);
+    }
+    Ok(())
+}
+
+#[test]
+fn a_doubled_key_keeps_its_place(rt: HostRuntime) -> Result<(), Fail> {
+    let alloc = rt.alloc();
+    let values = vec![in alloc;
+        text_of(alloc, "a", false)?,
+        Value::Int(1),
+        text_of(alloc, "b", true)?,
+        Value::Int(2),
+        text_of(alloc, "a", true)?,
+        Value::Int(3),
+    ]?;
+    let Ok(Value::Map(entries)) = map_of(alloc, values) else {
+        return Err(Fail::from("map"));
+    };
+    assert_eq!(rt; entries.len(), 2);
+    for ((key, value), (wanted, number)) in entries.iter().zip([("a", 3), ("b", 2)]) {
+        assert_eq!(rt; key.as_str(), wanted);
+        assert!(rt; value.equals(&Value::Int(number)));
+    }
+    let keys = vec![in alloc; Value::None, Value::None, Value::Undefined, Value::None]?;
+    assert_eq!(rt;
+        map_of(alloc, keys).err(),
+        Some(ValueError::Fault(Fault::Undefined))
+    );
     Ok(())
 }

@@ -11,3 +11,4 @@ pub mod Comparing
 pub mod Operation
 pub mod Testing
 pub mod Pieces
+pub mod Making

@@ -1,10 +1,10 @@
 -- Statements and branches behind others, and levels that are allowed.
-use Rattle.std.proofs.Common.{◌≡◌, ℕ, ◌<◌, ◌≤◌, max, refl, sym, ap, ◌∙◌, ⊎_elim, arith, Result, Err}
+use Rattle.std.proofs.Common.{◌≡◌, ℕ, suc, ◌+◌, ◌-◌, ◌<◌, ◌≤◌, max, nat_le, if◌then◌else◌, refl, sym, ap, ◌∙◌, ⊎_elim, arith, Result, Err}
 use Rattle.std.proofs.lemmas.Bool.{cases_lt}
 use Rattle.std.proofs.lemmas.Bool.Decides.{nat_tests}
 use Rattle.jt_parse.specs.Trees.{Body, end, stmt, Branches, no_branches, branch}
-use Rattle.jt_parse.specs.Expressions.{Fault, deep}
-use Rattle.jt_parse.specs.Reading.{then_all, then_branches, within, ◌>>=◌}
+use Rattle.jt_expr.specs.Reading.{Fault, deep}
+use Rattle.jt_parse.specs.Reading.{then_all, then_branches, ◌>>=◌}
 
 pub all_end : (a : Body) → then_all a end ≡ a
 all_end end = refl
@@ -21,6 +21,10 @@ branches_end (branch l c b a) = ap (branch l c b) (branches_end a)
 pub branches_all : (a b c : Branches) → then_branches (then_branches a b) c ≡ then_branches a (then_branches b c)
 branches_all no_branches b c = refl
 branches_all (branch l x y a) b c = ap (branch l x y) (branches_all a b c)
+
+-- so many levels are there, where n are allowed
+abbrev pub within : {A : Type 0} → ℕ → ℕ → Result A Fault → Result A Fault
+within l n r = if nat_le l n then r else Err deep
 
 pub within_in : {A : Type 0} (l n : ℕ) (r : Result A Fault) → l ≤ n → within l n r ≡ r
 within_in l n r h = grind (arith, nat_tests)
@@ -47,3 +51,11 @@ chained l k m n r q e f =
     (λ (less : k ≤ n). within_in k n q less ∙ sym (within_in m n q (omega arith)))
     (cases_lt n k))
     (cases_lt n l)
+
+-- levels in so many others and a statement
+pub within_left : {A : Type 0} (l d n : ℕ) (r : Result A Fault) → 0 < l → within l (n - suc d) r ≡ within (d + suc l) n r
+within_left l d n r some =
+    ⊎_elim
+    (λ (gt : n - suc d < l). within_out l (n - suc d) r gt ∙ sym (within_out (d + suc l) n r (omega arith)))
+    (λ (le : l ≤ n - suc d). within_in l (n - suc d) r le ∙ sym (within_in (d + suc l) n r (omega arith)))
+    (cases_lt (n - suc d) l)

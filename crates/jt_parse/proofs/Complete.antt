@@ -1,29 +1,25 @@
 -- What segments spell is read, or too deep.
-use Rattle.std.proofs.Common.{◌≡◌, ℕ, suc, ◌+◌, ◌≤◌, max, List, [], ◌∷◌, ◌++◌, length, codes, refl, sym, ap, ◌∙◌, append_assoc, append-nil, arith, Result, Ok, encode_utf8_all}
+use Rattle.std.proofs.Common.{◌≡◌, ℕ, suc, ◌+◌, ◌-◌, ◌≤◌, max, List, [], ◌∷◌, ◌++◌, length, codes, refl, sym, ap, ◌∙◌, append_assoc, append-nil, arith, Result, Ok, encode_utf8_all}
 use Rattle.jt_scan.specs.Cut.{Token, Segment}
-use Rattle.jt_parse.specs.Trees.{Expr, levels, Stmt, data_of, print, choose, Body, end, stmt, Branches, no_branches, branch, body_levels, branch_levels}
-use Rattle.jt_parse.specs.Grammar.{word, block, Spells, is_true, is_True, is_false, is_False, is_none, is_None, is_name, Forms, nothing_more, a_comment, some_data, a_print, an_if, GoesOn, no_else, an_else, an_elif}
-use Rattle.jt_parse.specs.Expressions.{Fault, expression, literal_at}
-use Rattle.jt_parse.specs.Reading.{then_all, then_one, then_branches, then_branch, Frame, in_branch, in_else, State, state, start, ◌>>=◌, within, run, whole, parsed, print_tag, if_tag, elif_tag, else_tag, endif_tag, block_tag}
-use Rattle.jt_parse.proofs.Bodies.{all_end, all_all, branches_all, within_in, within_bind, chained}
-use Rattle.jt_parse.proofs.Words.{name_read}
-
-pub spelled_is_read : {e : Expr} {ts : List Token} → Spells e ts → expression ts ≡ Ok e
-unfolding literal_at
-spelled_is_read is_true = refl
-spelled_is_read is_True = refl
-spelled_is_read is_false = refl
-spelled_is_read is_False = refl
-spelled_is_read is_none = refl
-spelled_is_read is_None = refl
-spelled_is_read (is_name {x} h) = name_read x h
+use Rattle.jt_expr.specs.Trees.{Expr, levels}
+use Rattle.jt_expr.specs.Grammar.{word, whole as expression_level, Spells}
+use Rattle.jt_expr.specs.Reading.{Fault}
+use Rattle.jt_expr.proofs.Complete.{some_levels}
+use Rattle.jt_parse.specs.Trees.{Stmt, data_of, print, choose, Body, end, stmt, Branches, no_branches, branch, body_levels, branch_levels}
+use Rattle.jt_parse.specs.Grammar.{block, Forms, nothing_more, a_comment, some_data, a_print, an_if, GoesOn, no_else, an_else, an_elif}
+use Rattle.jt_parse.specs.Reading.{then_all, then_one, then_branches, then_branch, Frame, in_branch, in_else, State, state, start, ◌>>=◌, expression, run, whole, parsed, print_tag, if_tag, elif_tag, else_tag, endif_tag, block_tag}
+use Rattle.jt_parse.proofs.Bodies.{all_end, all_all, branches_all, within, within_in, within_bind, within_left, chained}
+use Rattle.jt_parse.proofs.Expressions.{spelled_is_read}
 
 -- the rest is read behind an expression that is allowed
-reads_on : (n : ℕ) {e : Expr} {ts : List Token} → Spells e ts → (l : Expr → ℕ) (next : Expr → State) (ss : List Segment)
-    → ((expression ts >>= λ x. within (l x) n (Ok (next x))) >>= λ st. run n st ss) ≡ within (l e) n (run n (next e) ss)
-reads_on n {e} {ts} d l next ss =
-    ap (λ o. (o >>= λ x. within (l x) n (Ok (next x))) >>= λ st. run n st ss) (spelled_is_read d)
-    ∙ within_bind (l e) n (Ok (next e)) (λ st. run n st ss)
+reads_on : (n d l : ℕ) {e : Expr} {ts : List Token} → Spells expression_level e ts → l ≡ d + suc (levels e) → (next : Expr → State) (ss : List Segment)
+    → ((expression n d ts >>= λ x. Ok (next x)) >>= λ st. run n st ss) ≡ within l n (run n (next e) ss)
+reads_on n d l {e} {ts} s same next ss =
+    ap (λ o. (o >>= λ x. Ok (next x)) >>= λ st. run n st ss) (spelled_is_read (n - suc d) s)
+    ∙ ap (λ o. o >>= λ st. run n st ss) (within_bind (levels e) (n - suc d) (Ok e) (λ x. Ok (next x)))
+    ∙ within_bind (levels e) (n - suc d) (Ok (next e)) (λ st. run n st ss)
+    ∙ within_left (levels e) d n (run n (next e) ss) (some_levels e)
+    ∙ ap (λ k. within k n (run n (next e) ss)) (sym same)
 
 if_levels : (d c i bs o b : ℕ) → d + max (suc (max (max (max c i) bs) o)) b ≡ max (d + suc c) (max (suc d + i) (max (suc d + max bs o) (d + b)))
 if_levels d c i bs o b = omega arith
@@ -53,7 +49,7 @@ mutual
       ∙ ap (λ k. within k n (run n (state (then_all a (stmt s body)) fs) rest)) l
   forms_are_read (a_print {body} {line} {e} {ts} {ss} d f) n a fs rest h =
       let s : Stmt = print line e in
-      reads_on n d (λ x. length fs + suc (levels x)) (λ x. state (then_one a (print line x)) fs) (ss ++ rest)
+      reads_on n (length fs) (length fs + suc (levels e)) d refl (λ x. state (then_one a (print line x)) fs) (ss ++ rest)
       ∙ chained (length fs + suc (levels e)) (length fs + body_levels body) (length fs + body_levels (stmt s body)) n
       (run n (state (then_one a s) fs) (ss ++ rest)) (run n (state (then_all a (stmt s body)) fs) rest) (omega arith) (λ le.
       forms_are_read f n (then_one a s) fs rest h
@@ -70,7 +66,7 @@ mutual
       let target : Result State Fault = run n (state (then_all a (stmt s body)) fs) rest in
       let after_if : Result State Fault = run n (state (then_one a s) fs) (ss ++ rest) in
       let after_inside : Result State Fault = run n (state inside (fr ∷ fs)) (ys ++ (closing ∷ (ss ++ rest))) in
-      reads_on n d (λ x. length fs + suc (levels x)) (λ x. state end (in_branch a no_branches line x ∷ fs)) ((xs ++ (ys ++ (closing ∷ ss))) ++ rest)
+      reads_on n (length fs) (length fs + suc (levels c)) d refl (λ x. state end (in_branch a no_branches line x ∷ fs)) ((xs ++ (ys ++ (closing ∷ ss))) ++ rest)
       ∙ chained (length fs + suc (levels c)) (max m2 (max m3 m4)) (length fs + body_levels (stmt s body)) n
       (run n (state end (fr ∷ fs)) ((xs ++ (ys ++ (closing ∷ ss))) ++ rest)) target (if_levels (length fs) (levels c) (body_levels inside) (branch_levels bs) (body_levels other) (body_levels body)) (λ le.
       ap (run n (state end (fr ∷ fs))) split
@@ -99,7 +95,7 @@ mutual
       let m2 : ℕ = suc (length fs) + body_levels b in
       let m3 : ℕ = suc (length fs) + max (branch_levels bs) (body_levels other) in
       let target : Result State Fault = run n (state (then_one a (choose (then_branches done (branch line c inside (branch l e b bs))) other)) fs) rest in
-      reads_on n d (λ x. suc (length fs) + levels x) (λ x. state end (in_branch a before l x ∷ fs)) ((xs ++ ys) ++ tail)
+      reads_on n (length fs) (suc (length fs) + levels e) d (omega arith) (λ x. state end (in_branch a before l x ∷ fs)) ((xs ++ ys) ++ tail)
       ∙ chained (suc (length fs) + levels e) (max m2 m3) (suc (length fs) + max (branch_levels (branch l e b bs)) (body_levels other)) n
       (run n (state end (fr ∷ fs)) ((xs ++ ys) ++ tail)) target (elif_levels (length fs) (levels e) (body_levels b) (branch_levels bs) (body_levels other)) (λ le.
       ap (run n (state end (fr ∷ fs))) (append_assoc xs ys tail)

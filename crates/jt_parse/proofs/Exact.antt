@@ -4,7 +4,7 @@ use Rattle.std.proofs.lemmas.Bool.{cases_lt}
 use Rattle.jt_scan.specs.Cut.{Segment}
 use Rattle.jt_parse.specs.Trees.{Body, body_levels}
 use Rattle.jt_parse.specs.Grammar.{Forms}
-use Rattle.jt_parse.specs.Expressions.{Fault, syntax, deep}
+use Rattle.jt_expr.specs.Reading.{Fault, syntax, deep}
 use Rattle.jt_parse.specs.Reading.{parsed}
 use Rattle.jt_parse.proofs.Bodies.{within_in, within_out}
 use Rattle.jt_parse.proofs.Complete.{read_whole}

@@ -1,5 +1,5 @@
 pub mod Bodies
-pub mod Words
+pub mod Expressions
 pub mod Complete
 pub mod Sound
 pub mod Exact

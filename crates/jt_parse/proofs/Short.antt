@@ -1,22 +1,15 @@
 -- The names and texts of a tree are no longer than those of its segments.
 use Rattle.std.proofs.Common.{◌≡◌, ◌+◌, ◌≤◌, List, [], ◌∷◌, ◌++◌, codes, arith}
-use Rattle.jt_scan.specs.Cut.{Token, Segment}
-use Rattle.jt_parse.specs.Bytes.{expr_bytes, body_bytes, branch_bytes, tokens_bytes, bytes_of}
-use Rattle.jt_parse.specs.Trees.{Expr, Body, Branches}
-use Rattle.jt_parse.specs.Grammar.{word, block, Spells, is_true, is_True, is_false, is_False, is_none, is_None, is_name, Forms, nothing_more, a_comment, some_data, a_print, an_if, GoesOn, no_else, an_else, an_elif}
+use Rattle.jt_scan.specs.Cut.{Segment}
+use Rattle.jt_expr.specs.Grammar.{word}
+use Rattle.jt_expr.proofs.Short.{spells_short}
+use Rattle.jt_parse.specs.Bytes.{body_bytes, branch_bytes, bytes_of}
+use Rattle.jt_parse.specs.Trees.{Body, Branches}
+use Rattle.jt_parse.specs.Grammar.{block, Forms, nothing_more, a_comment, some_data, a_print, an_if, GoesOn, no_else, an_else, an_elif}
 
 bytes-append : (x y : List Segment) → bytes_of (x ++ y) ≡ bytes_of x + bytes_of y
 bytes-append [] y = omega arith
 bytes-append (s ∷ x) y = omega (arith, bytes-append x y)
-
-spells_short : {e : Expr} {ts : List Token} → Spells e ts → expr_bytes e ≤ tokens_bytes ts
-spells_short is_true = omega arith
-spells_short is_True = omega arith
-spells_short is_false = omega arith
-spells_short is_False = omega arith
-spells_short is_none = omega arith
-spells_short is_None = omega arith
-spells_short (is_name h) = omega arith
 
 mutual
   pub forms_short : {b : Body} {ss : List Segment} → Forms b ss → body_bytes b ≤ bytes_of ss

@@ -1,15 +1,18 @@
 -- What is read is spelled so.
-use Rattle.std.proofs.Common.{◌≡◌, ℕ, suc, ◌+◌, true, List, [], ◌∷◌, ◌++◌, length, codes, refl, sym, ap, subst, ◌∙◌, append_assoc, Result, Ok, Err, encode_utf8_all, bytes_eq, nat_le}
+use Rattle.std.proofs.Common.{◌≡◌, ℕ, suc, ◌-◌, true, List, [], ◌∷◌, ◌++◌, length, codes, refl, sym, ap, subst, ◌∙◌, append_assoc, Result, Ok, Err, encode_utf8_all, bytes_eq}
 use Rattle.std.proofs.lemmas.Slice.Eq.{bytes_eq-Decides}
 use Rattle.jt_scan.specs.declared.segment.Kind.TheVariants as kind
 use Rattle.jt_scan.specs.Cut as cut
 use Rattle.jt_scan.specs.Cut.{Token, Segment}
-use Rattle.jt_parse.specs.Trees.{Text, Expr, levels, Stmt, data_of, print, choose, Body, end, stmt, Branches, no_branches, branch}
-use Rattle.jt_parse.specs.Grammar.{word, block, Spells, Forms, nothing_more, a_comment, some_data, a_print, an_if, GoesOn, no_else, an_else, an_elif}
-use Rattle.jt_parse.specs.Expressions.{Fault, syntax, deep, expression}
-use Rattle.jt_parse.specs.Reading.{then_all, then_one, then_branches, then_branch, Frame, in_branch, in_else, State, state, ◌>>=◌, within, step, run, whole, start, parsed, print_tag, if_tag, elif_tag, else_tag, endif_tag, block_tag}
+use Rattle.jt_expr.specs.Trees.{Expr}
+use Rattle.jt_expr.specs.Grammar.{word, whole as expression_level, Spells}
+use Rattle.jt_expr.specs.Reading.{Fault, syntax}
+use Rattle.jt_expr.proofs.Tests.{by_test}
+use Rattle.jt_parse.specs.Trees.{Text, Stmt, data_of, print, choose, Body, end, stmt, Branches, no_branches, branch}
+use Rattle.jt_parse.specs.Grammar.{block, Forms, nothing_more, a_comment, some_data, a_print, an_if, GoesOn, no_else, an_else, an_elif}
+use Rattle.jt_parse.specs.Reading.{then_all, then_one, then_branches, then_branch, Frame, in_branch, in_else, State, state, ◌>>=◌, expression, step, run, whole, start, parsed, print_tag, if_tag, elif_tag, else_tag, endif_tag, block_tag}
 use Rattle.jt_parse.proofs.Bodies.{all_end, all_all, branches_all}
-use Rattle.jt_parse.proofs.Words.{by_test, expression_sound, no_error}
+use Rattle.jt_parse.proofs.Expressions.{expression_sound, no_error}
 
 abbrev endif : ℕ → Segment
 endif last = block last (word (codes "endif") ∷ [])
@@ -38,7 +41,7 @@ grows {a} t x more (inside_if {done = done} {line = line} {c = c} inner other bs
 grows {a} t x more (inside_else inner other last xs rest f i e r) =
     inside_else (then_all t inner) other last (x ++ xs) rest (more inner xs f) (sym (all_all a t inner) ∙ i) (append_assoc x xs (endif last ∷ rest) ∙ ap (λ z. x ++ z) e) r
 
-opened : {a w : Body} {line : ℕ} {c : Expr} {ts : List Token} {fs : List Frame} {ss : List Segment} → Spells c ts
+opened : {a w : Body} {line : ℕ} {c : Expr} {ts : List Token} {fs : List Frame} {ss : List Segment} → Spells expression_level c ts
     → Ends end (in_branch a no_branches line c ∷ fs) ss w → Ends a fs (block line (word (codes "if") ∷ ts) ∷ ss) w
 opened {a} {w} {line} {c} {ts} {fs} {ss} d (inside_if inner other bs q last xs ys rest f g qe se r) =
     let s : Stmt = choose (branch line c inner bs) other in
@@ -51,7 +54,7 @@ opened {a} {w} {line} {c} {ts} {fs} {ss} d (inside_if inner other bs q last xs y
     (λ b tail k. subst (λ z. Forms (stmt s b) (tag ∷ z)) (sym (split tail)) (an_if last d f g k))
     (subst (λ z. Ends (then_one a (choose z other)) fs rest w) (sym qe) r))
 
-elif_in : {a before w : Body} {done : Branches} {l line : ℕ} {c e : Expr} {ts : List Token} {fs : List Frame} {ss : List Segment} → Spells e ts
+elif_in : {a before w : Body} {done : Branches} {l line : ℕ} {c e : Expr} {ts : List Token} {fs : List Frame} {ss : List Segment} → Spells expression_level e ts
     → Ends end (in_branch before (then_branch done l c a) line e ∷ fs) ss w → Ends a (in_branch before done l c ∷ fs) (block line (word (codes "elif") ∷ ts) ∷ ss) w
 elif_in {a} {done = done} {l} {line} {c} {e} {ts} d (inside_if inner other bs q last xs ys rest f g qe se r) =
     inside_if end other (branch line e inner bs) q last [] (block line (word (codes "elif") ∷ ts) ∷ (xs ++ ys)) rest nothing_more (an_elif d f g)
@@ -72,10 +75,9 @@ else_in {a} {before} {w} {done} {l} {line} {c} {fs} (inside_else inner other las
 ok_is : {A : Type 0} {a b : A} → ◌≡◌ {A = Result A Fault} (Ok a) (Ok b) → a ≡ b
 ok_is e = cc
 
-expression_ok : (o : Result Expr Fault) (l : Expr → ℕ) (n : ℕ) (next : Expr → State) (st : State) → (o >>= λ x. within (l x) n (Ok (next x))) ≡ Ok st
-    → (x : Expr) × (o ≡ Ok x) × (next x ≡ st)
-expression_ok (Ok x) l n next st e = by_test (nat_le (l x) n) _ _ _ e (λ h q. (x, refl, ok_is q)) (λ h q. no_error deep st q)
-expression_ok (Err f) l n next st e = no_error f st e
+expression_ok : (o : Result Expr Fault) (next : Expr → State) (st : State) → (o >>= λ x. Ok (next x)) ≡ Ok st → (x : Expr) × (o ≡ Ok x) × (next x ≡ st)
+expression_ok (Ok x) next st e = (x, refl, ok_is e)
+expression_ok (Err f) next st e = no_error f st e
 
 -- the rest of a reading
 abbrev Rest : List Segment → Body → State → Type 0
@@ -84,22 +86,22 @@ Rest ss w st = Ends st.body st.frames ss w
 print_sound : (n line : ℕ) (ts : List Token) (st next : State) (ss : List Segment) (w : Body) → print_tag n line ts st ≡ Ok next → Rest ss w next → Rest (cut.tag kind.Variable line ts ∷ ss) w st
 unfolding print_tag
 print_sound n line ts st next ss w e r =
-    let q = expression_ok (expression ts) (λ x. length st.frames + suc (levels x)) n (λ x. state (then_one st.body (print line x)) st.frames) next e in
-    grows (stmt (print line q.0) end) (cut.tag kind.Variable line ts ∷ []) (λ b tail f. a_print (expression_sound ts q.0 q.1) f) (subst (Rest ss w) (sym q.2) r)
+    let q = expression_ok (expression n (length st.frames) ts) (λ x. state (then_one st.body (print line x)) st.frames) next e in
+    grows (stmt (print line q.0) end) (cut.tag kind.Variable line ts ∷ []) (λ b tail f. a_print (expression_sound (n - suc (length st.frames)) ts q.0 q.1) f) (subst (Rest ss w) (sym q.2) r)
 
 if_sound : (n line : ℕ) (ts : List Token) (st next : State) (ss : List Segment) (w : Body) → if_tag n line ts st ≡ Ok next → Rest ss w next → Rest (block line (word (codes "if") ∷ ts) ∷ ss) w st
 unfolding if_tag
 if_sound n line ts st next ss w e r =
-    let q = expression_ok (expression ts) (λ x. length st.frames + suc (levels x)) n (λ x. state end (in_branch st.body no_branches line x ∷ st.frames)) next e in
-    opened (expression_sound ts q.0 q.1) (subst (Rest ss w) (sym q.2) r)
+    let q = expression_ok (expression n (length st.frames) ts) (λ x. state end (in_branch st.body no_branches line x ∷ st.frames)) next e in
+    opened (expression_sound (n - suc (length st.frames)) ts q.0 q.1) (subst (Rest ss w) (sym q.2) r)
 
 elif_sound : (n line : ℕ) (ts : List Token) (a : Body) (fs : List Frame) (next : State) (ss : List Segment) (w : Body) → elif_tag n line ts a fs ≡ Ok next → Rest ss w next → Ends a fs (block line (word (codes "elif") ∷ ts) ∷ ss) w
 unfolding elif_tag
 elif_sound n line ts a [] next ss w e r = no_error syntax next e
 elif_sound n line ts a (in_else before done ∷ fs) next ss w e r = no_error syntax next e
 elif_sound n line ts a (in_branch before done l c ∷ fs) next ss w e r =
-    let q = expression_ok (expression ts) (λ x. suc (length fs) + levels x) n (λ x. state end (in_branch before (then_branch done l c a) line x ∷ fs)) next e in
-    elif_in (expression_sound ts q.0 q.1) (subst (Rest ss w) (sym q.2) r)
+    let q = expression_ok (expression n (length fs) ts) (λ x. state end (in_branch before (then_branch done l c a) line x ∷ fs)) next e in
+    elif_in (expression_sound (n - suc (length fs)) ts q.0 q.1) (subst (Rest ss w) (sym q.2) r)
 
 else_sound : (line : ℕ) (ts : List Token) (a : Body) (fs : List Frame) (next : State) (ss : List Segment) (w : Body) → else_tag ts a fs ≡ Ok next → Rest ss w next → Ends a fs (block line (word (codes "else") ∷ ts) ∷ ss) w
 unfolding else_tag
@@ -138,6 +140,9 @@ step_sound n (cut.data_of d) st next ss w e r =
 step_sound n (cut.tag kind.Variable line ts) st next ss w e r = print_sound n line ts st next ss w e r
 step_sound n (cut.tag kind.Block line []) st next ss w e r = no_error syntax next e
 step_sound n (cut.tag kind.Block line (cut.name x ∷ ts)) st next ss w e r = block_sound n line x ts st next ss w e r
+step_sound n (cut.tag kind.Block line (cut.number m ∷ ts)) st next ss w e r = no_error syntax next e
+step_sound n (cut.tag kind.Block line (cut.text x ∷ ts)) st next ss w e r = no_error syntax next e
+step_sound n (cut.tag kind.Block line (cut.sign s ∷ ts)) st next ss w e r = no_error syntax next e
 
 -- ---- all segments
 

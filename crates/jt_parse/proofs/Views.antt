@@ -3,8 +3,9 @@ use Rattle.std.proofs.Common.{◌≡◌, ℕ, List, [], ◌∷◌, ◌++◌, map
 use Rattle.jt_parse.specs.Trees as trees
 use Rattle.jt_parse.specs.Trees.{Body, end, Branches, no_branches}
 use Rattle.jt_parse.specs.Reading.{then_one, then_branch}
-use Rattle.jt_parse.specs.View.{expr_view, stmts_of, branches_of, stmt_step, stmt_view, body_view, branches_view}
-use Rattle.jt_parse.specs.declared.tree.Expr.{Expr}
+use Rattle.jt_expr.specs.View.{expr_view}
+use Rattle.jt_expr.specs.declared.tree.Expr.{Expr}
+use Rattle.jt_parse.specs.View.{stmts_of, branches_of, stmt_step, stmt_view, body_view, branches_view}
 use Rattle.jt_parse.specs.declared.tree.Stmt.{Stmt, the_lemmas, fold-roll-Stmt}
 use Rattle.jt_parse.specs.declared.tree.Stmt.TheOpen.{Stmt-F}
 use Rattle.jt_parse.specs.declared.tree.Stmt.TheVariants as s

@@ -1,22 +1,14 @@
 -- A tree is no heavier than its segments.
-use Rattle.std.proofs.Common.{◌≡◌, ◌+◌, ◌≤◌, List, [], ◌∷◌, ◌++◌, length, codes, arith}
-use Rattle.jt_scan.specs.Cut.{Token, Segment, weight_of}
-use Rattle.jt_parse.specs.Trees as trees
-use Rattle.jt_parse.specs.Trees.{Expr, Body, Branches, body_weight, branch_weight}
-use Rattle.jt_parse.specs.Grammar.{word, block, Spells, is_true, is_True, is_false, is_False, is_none, is_None, is_name, Forms, nothing_more, a_comment, some_data, a_print, an_if, GoesOn, no_else, an_else, an_elif}
+use Rattle.std.proofs.Common.{◌≡◌, ◌+◌, ◌≤◌, List, [], ◌∷◌, ◌++◌, codes, arith}
+use Rattle.jt_scan.specs.Cut.{Segment, weight_of}
+use Rattle.jt_expr.specs.Grammar.{word}
+use Rattle.jt_expr.proofs.Weighs.{spells_weighs}
+use Rattle.jt_parse.specs.Trees.{Body, Branches, body_weight, branch_weight}
+use Rattle.jt_parse.specs.Grammar.{block, Forms, nothing_more, a_comment, some_data, a_print, an_if, GoesOn, no_else, an_else, an_elif}
 
 weight-append : (x y : List Segment) → weight_of (x ++ y) ≡ weight_of x + weight_of y
 weight-append [] y = omega arith
 weight-append (s ∷ x) y = omega (arith, weight-append x y)
-
-spells_weighs : {e : Expr} {ts : List Token} → Spells e ts → trees.weight e ≤ length ts
-spells_weighs is_true = omega arith
-spells_weighs is_True = omega arith
-spells_weighs is_false = omega arith
-spells_weighs is_False = omega arith
-spells_weighs is_none = omega arith
-spells_weighs is_None = omega arith
-spells_weighs (is_name h) = omega arith
 
 mutual
   pub forms_weighs : {b : Body} {ss : List Segment} → Forms b ss → body_weight b ≤ weight_of ss

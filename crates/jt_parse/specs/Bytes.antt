@@ -1,12 +1,9 @@
 -- How long the names and texts of trees and of segments are, in bytes.
 use Rattle.std.specs.Prelude.{ℕ, ◌+◌, List, [], ◌∷◌, length, encode_utf8_all}
 use Rattle.jt_scan.specs.Cut as cut
-use Rattle.jt_scan.specs.Cut.{Token, Segment}
-use Rattle.jt_parse.specs.Trees.{Expr, constant, name, Stmt, data_of, print, choose, Body, end, stmt, Branches, no_branches, branch}
-
-abbrev pub expr_bytes : Expr → ℕ
-expr_bytes (constant l) = 0
-expr_bytes (name x) = length x
+use Rattle.jt_scan.specs.Cut.{Segment}
+use Rattle.jt_expr.specs.Sizes.{expr_bytes, tokens_bytes}
+use Rattle.jt_parse.specs.Trees.{Stmt, data_of, print, choose, Body, end, stmt, Branches, no_branches, branch}
 
 abbrev mutual
   pub stmt_bytes : Stmt → ℕ
@@ -21,10 +18,6 @@ abbrev mutual
   pub branch_bytes : Branches → ℕ
   branch_bytes no_branches = 0
   branch_bytes (branch line c body rest) = expr_bytes c + body_bytes body + branch_bytes rest
-
-abbrev pub tokens_bytes : List Token → ℕ
-tokens_bytes [] = 0
-tokens_bytes (cut.name x ∷ ts) = length (encode_utf8_all x) + tokens_bytes ts
 
 abbrev pub segment_bytes : Segment → ℕ
 segment_bytes (cut.data_of d) = length (encode_utf8_all d)

@@ -1,16 +1,20 @@
 -- What the functions of the parser give, and what a refusal says.
-use Rattle.std.specs.Prelude.{◌≡◌, ℕ, ◌<◌, List, map, reverse, Option, Some, None, Result, Ok, Err}
+use Rattle.std.specs.Prelude.{◌≡◌, ℕ, ◌<◌, ◌≤◌, List, map, reverse, Option, Some, None, Result, Ok, Err}
 use Rattle.jt_scan.specs.Cut.{Segment}
-use Rattle.jt_parse.specs.Trees as trees
+use Rattle.jt_expr.specs.Trees as trees
+use Rattle.jt_expr.specs.Reading.{Fault, syntax, deep}
+use Rattle.jt_expr.specs.View.{expr_view}
+use Rattle.jt_expr.specs.declared.tree.Expr.{Expr}
+use Rattle.jt_expr.specs.declared.named.Named.{Named}
+use Rattle.jt_expr.specs.declared.named.Named.TheVariants as named
+use Rattle.jt_parse.specs.Names.{body_unknown}
 use Rattle.jt_parse.specs.Trees.{Body, Branches, body_levels}
 use Rattle.jt_parse.specs.Grammar.{Forms}
-use Rattle.jt_parse.specs.Expressions.{Fault, syntax, deep}
 use Rattle.jt_parse.specs.Reading as reading
 use Rattle.jt_parse.specs.Reading.{State, state, Frame}
-use Rattle.jt_parse.specs.View.{expr_view, body_view, branches_view, body_of}
+use Rattle.jt_parse.specs.View.{body_view, branches_view, body_of}
 use Rattle.jt_parse.specs.declared.error.ParseError.{ParseError}
 use Rattle.jt_parse.specs.declared.error.ParseError.TheVariants as e
-use Rattle.jt_parse.specs.declared.tree.Expr.{Expr}
 use Rattle.jt_parse.specs.declared.tree.Template.{Template}
 use Rattle.jt_parse.specs.declared.parser.Frame.{Frame as Open}
 use Rattle.jt_parse.specs.declared.parser.Parser.{Parser}
@@ -50,13 +54,33 @@ abbrev pub GivesTemplate : Result Body Fault → Result Template ParseError → 
 GivesTemplate o (Ok t) = o ≡ Ok (body_of t)
 GivesTemplate o (Err f) = Refuses o f
 
+abbrev pub refusal_of : ℕ × Named → ParseError
+refusal_of (line, named.Filter) = e.UnknownFilter line
+refusal_of (line, named.Test) = e.UnknownTest line
+
+-- what is read has this name as its first without a meaning
+abbrev pub Finds : Result Body Fault → ℕ × Named → Type 0
+Finds o p = (b : Body) × (o ≡ Ok b) × (body_unknown b ≡ Some p)
+
+abbrev pub GivesKnown : Result Body Fault → Result Template ParseError → Type 0
+GivesKnown o (Ok t) = (o ≡ Ok (body_of t)) × (body_unknown (body_of t) ≡ None)
+GivesKnown o (Err (e.Syntax line)) = o ≡ Err syntax
+GivesKnown o (Err (e.TooDeep line)) = o ≡ Err deep
+GivesKnown o (Err (e.UnknownFilter line)) = Finds o (line, named.Filter)
+GivesKnown o (Err (e.UnknownTest line)) = Finds o (line, named.Test)
+GivesKnown o (Err e.NoMemory) = Unit {0}
+
+-- the tree that the segments spell, of at most 100 levels, has this name as its first without a meaning
+abbrev pub HoldsUnknown : ℕ → Named → List Segment → Type 0
+HoldsUnknown line x ss = (b : Body) × Forms b ss × (body_levels b ≤ 100) × (body_unknown b ≡ Some (line, x))
+
 -- what a refusal says of the segments
 abbrev pub IsRefusal : ParseError → List Segment → Type 0
 -- no tree is spelled so
 IsRefusal (e.Syntax line) ss = (b : Body) → Forms b ss → ⊥
 -- each tree that is spelled so has more than 100 levels
 IsRefusal (e.TooDeep line) ss = (b : Body) → Forms b ss → 100 < body_levels b
-IsRefusal (e.UnknownFilter line) ss = ⊥
-IsRefusal (e.UnknownTest line) ss = ⊥
+IsRefusal (e.UnknownFilter line) ss = HoldsUnknown line named.Filter ss
+IsRefusal (e.UnknownTest line) ss = HoldsUnknown line named.Test ss
 -- a growth was refused
 IsRefusal e.NoMemory ss = Unit {0}

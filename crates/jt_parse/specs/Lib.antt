@@ -1,6 +1,6 @@
 pub mod Trees
 pub mod Grammar
-pub mod Expressions
+pub mod Names
 pub mod Reading
 pub mod Bytes
 pub mod Words

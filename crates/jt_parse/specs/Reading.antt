@@ -1,10 +1,12 @@
 -- Reads the statements of a template from its segments, one segment after the other.
-use Rattle.std.specs.Prelude.{ℕ, suc, ◌+◌, List, [], ◌∷◌, length, codes, encode_utf8_all, bytes_eq, if◌then◌else◌, nat_le, Result, Ok, Err}
+use Rattle.std.specs.Prelude.{ℕ, suc, ◌-◌, List, [], ◌∷◌, length, codes, encode_utf8_all, bytes_eq, if◌then◌else◌, Result, Ok, Err}
 use Rattle.jt_scan.specs.declared.segment.Kind.TheVariants as kind
 use Rattle.jt_scan.specs.Cut as cut
 use Rattle.jt_scan.specs.Cut.{Token, Segment}
-use Rattle.jt_parse.specs.Trees.{Text, Expr, levels, Stmt, data_of, print, choose, Body, end, stmt, Branches, no_branches, branch}
-use Rattle.jt_parse.specs.Expressions.{Fault, syntax, deep, expression}
+use Rattle.jt_expr.specs.Trees.{Expr}
+use Rattle.jt_expr.specs.Reading as expressions
+use Rattle.jt_expr.specs.Reading.{Fault, syntax}
+use Rattle.jt_parse.specs.Trees.{Text, Stmt, data_of, print, choose, Body, end, stmt, Branches, no_branches, branch}
 
 abbrev pub then_all : Body → Body → Body
 then_all end b = b
@@ -41,9 +43,9 @@ abbrev pub ◌>>=◌ : {A B : Type 0} → Result A Fault → (A → Result B Fau
 (Ok a) >>= f = f a
 (Err e) >>= f = Err e
 
--- so many levels are there, where n are allowed
-abbrev pub within : {A : Type 0} → ℕ → ℕ → Result A Fault → Result A Fault
-within l n r = if nat_le l n then r else Err deep
+-- the expression of a tag of a statement in so many others, where n levels are allowed
+abbrev pub expression : ℕ → ℕ → List Token → Result Expr Fault
+expression n outer ts = expressions.parsed (n - suc outer) ts
 
 -- one statement more
 abbrev pub grown : State → Stmt → State
@@ -51,19 +53,17 @@ grown st s = state (then_one st.body s) st.frames
 
 -- {{ e }}
 unfoldable pub print_tag : ℕ → ℕ → List Token → State → Result State Fault
-print_tag n line ts st = expression ts >>= λ e. within (length st.frames + suc (levels e)) n (Ok (grown st (print line e)))
+print_tag n line ts st = expression n (length st.frames) ts >>= λ e. Ok (grown st (print line e))
 
 -- {% if c %}
 unfoldable pub if_tag : ℕ → ℕ → List Token → State → Result State Fault
-if_tag n line ts st = expression ts >>= λ c.
-    within (length st.frames + suc (levels c)) n (Ok (state end (in_branch st.body no_branches line c ∷ st.frames)))
+if_tag n line ts st = expression n (length st.frames) ts >>= λ c. Ok (state end (in_branch st.body no_branches line c ∷ st.frames))
 
 -- {% elif c %}
 unfoldable pub elif_tag : ℕ → ℕ → List Token → Body → List Frame → Result State Fault
 elif_tag n line ts body [] = Err syntax
 elif_tag n line ts body (in_else before done ∷ fs) = Err syntax
-elif_tag n line ts body (in_branch before done l c ∷ fs) = expression ts >>= λ d.
-    within (suc (length fs) + levels d) n (Ok (state end (in_branch before (then_branch done l c body) line d ∷ fs)))
+elif_tag n line ts body (in_branch before done l c ∷ fs) = expression n (length fs) ts >>= λ d. Ok (state end (in_branch before (then_branch done l c body) line d ∷ fs))
 
 -- {% else %}
 unfoldable pub else_tag : List Token → Body → List Frame → Result State Fault
@@ -94,6 +94,7 @@ step n st (cut.data_of d) = Ok (grown st (data_of (encode_utf8_all d)))
 step n st (cut.tag kind.Variable line ts) = print_tag n line ts st
 step n st (cut.tag kind.Block line []) = Err syntax
 step n st (cut.tag kind.Block line (cut.name x ∷ ts)) = block_tag n line x ts st
+step n st (cut.tag kind.Block line (t ∷ ts)) = Err syntax
 
 unfoldable pub run : ℕ → State → List Segment → Result State Fault
 run n st [] = Ok st

@@ -1,17 +1,9 @@
 -- Templates as trees, as they are written: no name is looked up yet. Texts are UTF-8 bytes.
-use Rattle.std.specs.Prelude.{ℕ, suc, ◌+◌, max, Bool, List}
+use Rattle.std.specs.Prelude.{ℕ, suc, ◌+◌, max, List}
+use Rattle.jt_expr.specs.Trees.{Expr, levels, weight}
 
 abbrev pub Text : Type 0
 Text = List ℕ
-
--- what stands for itself
-pub data Literal : Type 0 where
-  truth : Bool → Literal
-  nothing : Literal
-
-pub data Expr : Type 0 where
-  constant : Literal → Expr
-  name : Text → Expr
 
 -- The first number of a statement and of a branch is the line of its tag.
 mutual
@@ -31,10 +23,6 @@ mutual
 
 -- ---- levels: each statement and each expression is one, around what it holds; data, elif and else add none
 
-abbrev pub levels : Expr → ℕ
-levels (constant l) = 1
-levels (name x) = 1
-
 abbrev mutual
   pub stmt_levels : Stmt → ℕ
   stmt_levels (data_of t) = 0
@@ -50,10 +38,6 @@ abbrev mutual
   branch_levels (branch line c body rest) = max (max (levels c) (body_levels body)) (branch_levels rest)
 
 -- ---- weight: the tokens that a tree's source has at least; a tag's delimiters count 4 and data 1
-
-abbrev pub weight : Expr → ℕ
-weight (constant l) = 1
-weight (name x) = 1
 
 abbrev mutual
   pub stmt_weight : Stmt → ℕ

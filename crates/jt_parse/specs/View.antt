@@ -3,21 +3,11 @@ use Rattle.std.specs.Prelude.{ℕ, List, [], ◌∷◌, map, string_bytes, Vec}
 use Rattle.std.specs.declared.alloc.Global.{Global}
 use Rattle.jt_parse.specs.Trees as trees
 use Rattle.jt_parse.specs.Trees.{Body, end, Branches, no_branches}
-use Rattle.jt_parse.specs.declared.tree.Literal.{Literal}
-use Rattle.jt_parse.specs.declared.tree.Literal.TheVariants as l
-use Rattle.jt_parse.specs.declared.tree.Expr.{Expr}
-use Rattle.jt_parse.specs.declared.tree.Expr.TheVariants as e
+use Rattle.jt_expr.specs.declared.tree.Expr.{Expr}
+use Rattle.jt_expr.specs.View.{expr_view}
 use Rattle.jt_parse.specs.declared.tree.Stmt.{Stmt, fold-Stmt}
 use Rattle.jt_parse.specs.declared.tree.Stmt.TheOpen.{Stmt-F}
 use Rattle.jt_parse.specs.declared.tree.Template.{Template}
-
-abbrev pub literal_view : Literal → trees.Literal
-literal_view (l.Truth b) = trees.truth b
-literal_view l.None = trees.nothing
-
-abbrev pub expr_view : Expr → trees.Expr
-expr_view (e.Constant c) = trees.constant (literal_view c)
-expr_view (e.Name s) = trees.name (string_bytes s)
 
 abbrev pub stmts_of : List trees.Stmt → Body
 stmts_of [] = end

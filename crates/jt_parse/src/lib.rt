@@ -3,6 +3,7 @@
 
 mod error;
 mod expression;
+mod names;
 mod parser;
 #[cfg(test)]
 mod tests;
@@ -10,4 +11,4 @@ mod tree;
 
 pub use error::ParseError;
 pub use parser::{MAX_LEVELS, parse};
-pub use tree::{Expr, Literal, Stmt, Template};
+pub use tree::{Stmt, Template};

@@ -3,22 +3,27 @@
 //! The segments are read one after the other, and each `if` that is open is kept in a row of
 //! frames, so that no source, however deep, reaches the end of the stack.
 
-ghost use Rattle.std.specs.Prelude.{◌≡◌, ◌≤◌, map, IfOk, IfErr, MatchOption, MatchResult, [], ◌∷◌};
+ghost use Rattle.std.specs.Prelude.{◌≡◌, ◌≤◌, ◌-◌, suc, length, None, map, IfOk, IfErr, MatchOption, MatchResult, [], ◌∷◌};
 ghost use Rattle.std.specs.Str.{chars};
 ghost use Rattle.jt_scan.specs.Cut as cut;
 ghost use Rattle.jt_scan.specs.View.{token_view, segment_view, cut_of};
+ghost use Rattle.jt_expr.specs.View.{expr_view};
+ghost use Rattle.jt_parse.specs.Names.{body_unknown};
 ghost use Rattle.jt_parse.specs.Trees as trees;
 ghost use Rattle.jt_parse.specs.Trees.{Body, body_levels, body_weight};
 ghost use Rattle.jt_parse.specs.Bytes.{body_bytes, bytes_of};
 ghost use Rattle.jt_parse.specs.Grammar.{Forms};
 ghost use Rattle.jt_parse.specs.Reading as reading;
-ghost use Rattle.jt_parse.specs.View.{expr_view, stmt_view, body_view, branches_view, body_of};
-ghost use Rattle.jt_parse.specs.Gives.{GivesState, GivesTemplate, IsRefusal, frame_view, frames_view, state_view};
+ghost use Rattle.jt_parse.specs.View.{stmt_view, body_view, branches_view, body_of};
+ghost use Rattle.jt_parse.specs.Gives.{GivesState, GivesTemplate, GivesKnown, IsRefusal, refusal_of, frame_view, frames_view, state_view};
 ghost use Rattle.jt_parse.specs.declared.error.ParseError.TheVariants as error;
 
 use crate::error::ParseError;
 use crate::expression::{copy_of, expression, is_word};
-use crate::tree::{Expr, Stmt, Template, height};
+use crate::names::unknown_in;
+use crate::tree::{Stmt, Template};
+use jt_expr::Expr;
+use jt_expr::named::Named;
 use jt_scan::{Kind, Segment, Token};
 use std::alloc::Global;
 use std::mem;
@@ -47,6 +52,13 @@ struct Parser {
     body: Vec<Stmt>,
     /// The open `if`s, the innermost last.
     frames: Vec<Frame>,
+}
+
+/// How many levels an expression may have in a statement inside the open ones.
+fn levels_left(frames: &Vec<Frame>) -> usize
+    ensures { result ≡ MAX_LEVELS - suc (length (frames_view frames.now.items)) }
+{
+    MAX_LEVELS.saturating_sub(frames.len()).saturating_sub(1)
 }
 
 /// One statement behind the others.
@@ -102,10 +114,7 @@ impl Parser {
     fn print_tag(&mut self, line: u32, tokens: &[Token<'_>]) -> Result<(), ParseError>
         ensures { GivesState (reading.print_tag MAX_LEVELS line (map token_view tokens.now) (state_view self.old)) result self.new }
     {
-        let printed = expression(self.alloc, tokens, line)?;
-        if self.frames.len() + (1 + height(&printed)) > MAX_LEVELS {
-            return Err(ParseError::TooDeep { line });
-        }
+        let printed = expression(self.alloc, tokens, levels_left(&self.frames), line)?;
         push_statement(&mut self.body, Stmt::Print(line, printed))?;
         Ok(())
     }
@@ -115,10 +124,7 @@ impl Parser {
     fn if_tag(&mut self, line: u32, tokens: &[Token<'_>]) -> Result<(), ParseError>
         ensures { GivesState (reading.if_tag MAX_LEVELS line (map token_view tokens.now) (state_view self.old)) result self.new }
     {
-        let condition = expression(self.alloc, tokens, line)?;
-        if self.frames.len() + (1 + height(&condition)) > MAX_LEVELS {
-            return Err(ParseError::TooDeep { line });
-        }
+        let condition = expression(self.alloc, tokens, levels_left(&self.frames), line)?;
         let before = mem::replace(&mut self.body, Vec::new(self.alloc));
         let frame = Frame {
             before,
@@ -147,10 +153,7 @@ impl Parser {
         let Some((first, condition)) = open else {
             return Err(ParseError::Syntax { line });
         };
-        let next = expression(self.alloc, tokens, line)?;
-        if self.frames.len() + 1 + height(&next) > MAX_LEVELS {
-            return Err(ParseError::TooDeep { line });
-        }
+        let next = expression(self.alloc, tokens, levels_left(&self.frames), line)?;
         let body = mem::replace(&mut self.body, Vec::new(self.alloc));
         push_branch(&mut branches, first, condition, body)?;
         let frame = Frame {
@@ -249,7 +252,7 @@ impl Parser {
             Kind::Variable => self.print_tag(line, tokens),
             Kind::Block => match tokens {
                 [Token::Name(word), rest @ ..] => self.block_tag(line, word, rest),
-                [] => Err(ParseError::Syntax { line }),
+                _ => Err(ParseError::Syntax { line }),
             },
         }
     }
@@ -289,17 +292,41 @@ fn read(alloc: Global, segments: &[Segment<'_>]) -> Result<Template, ParseError>
     }
 }
 
-/// The tree that the segments spell. P1 Syntax, where no tree is spelled so, P2 TooDeep, where
-/// each has more than [`MAX_LEVELS`] levels, or P5 NoMemory, where a growth was refused. The line
-/// is that of the tag in which the fault was found, and of an `if` that is never closed its own.
+/// The refusal of a name that has no meaning.
+fn refusal(line: u32, unknown: Named) -> ParseError
+    ensures { result ≡ refusal_of (line, unknown) }
+{
+    match unknown {
+        Named::Filter => ParseError::UnknownFilter { line },
+        Named::Test => ParseError::UnknownTest { line },
+    }
+}
+
+/// The same, if each filter and each test has a meaning.
+fn read_known(alloc: Global, segments: &[Segment<'_>]) -> Result<Template, ParseError>
+    ensures { GivesKnown (reading.parsed MAX_LEVELS (cut_of segments.now)) result }
+{
+    let template = read(alloc, segments)?;
+    match unknown_in(&template.body) {
+        Some((line, unknown)) => Err(refusal(line, unknown)),
+        None => Ok(template),
+    }
+}
+
+/// The tree that the segments spell, in which each filter and each test has a meaning. P1 Syntax,
+/// where no tree is spelled so, P2 TooDeep, where each has more than [`MAX_LEVELS`] levels, P3
+/// UnknownFilter or P4 UnknownTest, where the tree has a name without a meaning, or P5 NoMemory,
+/// where a growth was refused. The line is that of the tag in which the fault was found, and of an
+/// `if` that is never closed its own.
 pub fn parse(alloc: Global, segments: &[Segment<'_>]) -> Result<Template, ParseError>
     ensures spelled { IfOk result
         (λ t. Forms (body_of t) (cut_of segments.now) × (body_levels (body_of t) ≤ MAX_LEVELS)) }
-    ensures only { (b : Body) → Forms b (cut_of segments.now) → body_levels b ≤ MAX_LEVELS →
+    ensures known { IfOk result (λ t. body_unknown (body_of t) ≡ None) }
+    ensures only { (b : Body) → Forms b (cut_of segments.now) → body_levels b ≤ MAX_LEVELS → body_unknown b ≡ None →
         MatchResult result (λ t. body_of t ≡ b) (λ e. e ≡ error.NoMemory) }
     ensures refused { IfErr result (λ e. IsRefusal e (cut_of segments.now)) }
     ensures weighs { IfOk result (λ t. body_weight (body_of t) ≤ cut.weight_of (cut_of segments.now)) }
     ensures short { IfOk result (λ t. body_bytes (body_of t) ≤ bytes_of (cut_of segments.now)) }
 {
-    read(alloc, segments)
+    read_known(alloc, segments)
 }

@@ -1,18 +1,22 @@
 //! Rows of sources, with their trees or their refusals.
 
 use crate::parser::parse;
-use crate::tree::{Expr, Literal, Stmt};
+use crate::tree::Stmt;
+use jt_expr::{Expr, Literal};
 use jt_scan::{Options, Source, scan};
 use std::alloc::{AllocError, Global};
 use std::test::Fail;
 
-/// An expression as it is written.
+/// A constant or a name as it is written, and `..` for any other expression.
 fn tell_expression(told: &mut String, expr: &Expr) -> Result<(), AllocError> {
     match expr {
         Expr::Constant(Literal::Truth(true)) => told.push_str("T")?,
         Expr::Constant(Literal::Truth(false)) => told.push_str("F")?,
         Expr::Constant(Literal::None) => told.push_str("N")?,
+        Expr::Constant(Literal::Number(_)) => told.push_str("0")?,
+        Expr::Constant(Literal::Text(text)) => told.push_str(text.as_str())?,
         Expr::Name(name) => told.push_str(name.as_str())?,
+        _ => told.push_str("..")?,
     }
     Ok(())
 }
@@ -85,6 +89,17 @@ fn sources_are_parsed(rt: HostRuntime) -> Result<(), Fail> {
         ("{{ a b }}", "P1 Syntax: Syntax { line: 1 }"),
         ("{{ if }}", "P1 Syntax: Syntax { line: 1 }"),
         ("{{ }}", "P1 Syntax: Syntax { line: 1 }"),
+        ("{{ 1 }}{{ 'a' }}", "{0}{a}"),
+        ("{{ 1 + 2 }}{{ 7 is odd }}", "{..}{..}"),
+        ("{% if not a %}b{% endif %}", "[..?<b>|:]"),
+        ("{{ 1 < 2 < 3 }}", "P1 Syntax: Syntax { line: 1 }"),
+        ("\n{{ a|b }}", "P3 UnknownFilter: UnknownFilter { line: 2 }"),
+        (
+            "{% if a %}{% elif b is\nc %}{% endif %}",
+            "P4 UnknownTest: UnknownTest { line: 1 }",
+        ),
+        ("{{ a is b }}\n{{ ( }}", "P1 Syntax: Syntax { line: 2 }"),
+        ("{% 'if' a %}", "P1 Syntax: Syntax { line: 1 }"),
         ("\n{% %}", "P1 Syntax: Syntax { line: 2 }"),
         ("{% else %}", "P1 Syntax: Syntax { line: 1 }"),
         (

@@ -4,7 +4,7 @@ use Rattle.jt_scan.specs.declared.error.ScanError.{ScanError}
 use Rattle.jt_scan.specs.declared.error.ScanError.TheVariants as error
 use Rattle.jt_scan.specs.declared.segment.Kind.{Kind}
 use Rattle.jt_scan.specs.Cut.{Text, Segment, Cuts, no_more, more, IsCut, weight_of}
-use Rattle.jt_scan.specs.Refused.{IsBroken, no_closer, no_token, behind_space, behind_token, IsFaulty, in_tag, in_comment, IsFaultOf, IsRefusal}
+use Rattle.jt_scan.specs.Refused.{IsBroken, no_closer, no_quote, bad_escape, too_large, no_token, behind_space, behind_token, IsFaulty, in_tag, in_comment, IsFaultOf, IsRefusal}
 use Rattle.jt_scan.specs.Scanning.{cut, IsGiven}
 use Rattle.jt_scan.proofs.CutLaws.{cut_found, cut_says, cut_refuses, FaultyAt}
 use Rattle.jt_scan.proofs.Weight.{weighs}
@@ -38,19 +38,22 @@ answers_only f x (Err e) a ss c = only_memory e (cut x (length x + 1) x) ss (cut
 -- the faults that a tag may have
 abbrev MayBe : ScanError → Type 0
 MayBe (error.UnclosedTag n) = Unit {0}
-MayBe (error.UnclosedText n) = ⊥
+MayBe (error.UnclosedText n) = Unit {0}
 MayBe (error.BadCharacter n) = Unit {0}
-MayBe (error.BadEscape n) = ⊥
-MayBe (error.NumberTooLarge n) = ⊥
+MayBe (error.BadEscape n) = Unit {0}
+MayBe (error.NumberTooLarge n) = Unit {0}
 MayBe (error.UnclosedRaw n) = ⊥
 MayBe error.SourceTooLong = ⊥
 MayBe error.NoMemory = ⊥
 
-broken_may : {k : Kind} {n : ℕ} {e : ScanError} {x : Text} → IsBroken k n e x → MayBe e
+broken_may : {k : Kind} {n depth : ℕ} {e : ScanError} {x : Text} → IsBroken k n depth e x → MayBe e
 broken_may no_closer = tt
-broken_may (no_token a b c) = tt
+broken_may (no_quote q u) = tt
+broken_may (bad_escape z q n h) = tt
+broken_may (too_large m l) = tt
+broken_may (no_token a b d q n c) = tt
 broken_may (behind_space h i) = broken_may i
-broken_may (behind_token s i) = broken_may i
+broken_may (behind_token b s i) = broken_may i
 
 faulty_may : {n : ℕ} {e : ScanError} {x : Text} → IsFaulty n e x → MayBe e
 faulty_may (in_tag i) = broken_may i
@@ -65,10 +68,10 @@ found e x h = cut_refuses x (length x + 1) e x (omega arith) h
 
 holds : (e : ScanError) (x : Text) → IsGiven e (cut x (length x + 1) x) → IsRefusal e x
 holds (error.UnclosedTag n) x h = found _ x h
-holds (error.UnclosedText n) x h = cuts_may (found _ x h).1
+holds (error.UnclosedText n) x h = found _ x h
 holds (error.BadCharacter n) x h = found _ x h
-holds (error.BadEscape n) x h = cuts_may (found _ x h).1
-holds (error.NumberTooLarge n) x h = cuts_may (found _ x h).1
+holds (error.BadEscape n) x h = found _ x h
+holds (error.NumberTooLarge n) x h = found _ x h
 holds (error.UnclosedRaw n) x h = cuts_may (found _ x h).1
 holds error.SourceTooLong x h = cuts_may (found _ x h).1
 holds error.NoMemory x h = tt

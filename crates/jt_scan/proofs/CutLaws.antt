@@ -7,7 +7,7 @@ use Rattle.jt_scan.specs.declared.segment.Kind.TheVariants.{Variable, Block}
 use Rattle.jt_scan.specs.Cut.{Text, Token, second, Segment, data_of, tag, comment, opens, begins, ends_comment, NoneBegins, EndsData, IsSegment, some_data, a_tag, a_comment, Cuts, no_more, more, line_at}
 use Rattle.jt_scan.specs.Refused.{IsFaulty, in_tag, in_comment}
 use Rattle.jt_scan.specs.Scanning.{Outcome, ◌>>=◌, clear_run, inside, tag_at, ended_comment, comment_at, data_at, segment_at, with_segment, then_cut, cut}
-use Rattle.jt_scan.proofs.Steps.{by_test, ok_parts, bind_ok, begins_says, Stops, clear_of, clear_says}
+use Rattle.jt_scan.proofs.Steps.{by_test, ok_parts, bind_ok, begins_says, opener_says, Stops, clear_of, clear_says}
 use Rattle.jt_scan.proofs.InsideLaws.{inside_found, inside_says, inside_refuses}
 use Rattle.jt_scan.proofs.Weight.{shrinks}
 
@@ -58,17 +58,12 @@ cut_found {source} {ss} {x} (more {s} {ss = us} {rest} p c) (suc m) le = cut_mor
 
 -- ---- and nothing else is
 
-pub opener_says : (a b : ℕ) (x : Text) → begins a b x ≡ true → x ≡ a ∷ b ∷ drop 2 x
-opener_says a b [] h = cc
-opener_says a b (c ∷ []) h = cc
-opener_says a b (c ∷ d ∷ x) h = let p = begins_says a b c (d ∷ x) h in ap (λ k. k ∷ d ∷ x) p.0 ∙ ap (λ z. a ∷ z) p.1
-
 tag_says : (k : Kind) (n : ℕ) (s : Segment) (x rest : Text) → tag_at k n x ≡ Ok (s, rest) → IsSegment n s (123 ∷ second k ∷ x) rest
 tag_says k n s x rest e =
-    let b = bind_ok (inside k n (length x + 1) x) (λ ts z. Ok (tag k n ts, z)) s rest e in
+    let b = bind_ok (inside k n (length x + 1) 0 x) (λ ts z. Ok (tag k n ts, z)) s rest e in
     let p = ok_parts b.3 in
     subst (λ u. IsSegment n u (123 ∷ second k ∷ x) rest) p.0
-    (a_tag (inside_says k n (length x + 1) b.0 x rest (subst (λ z. inside k n (length x + 1) x ≡ Ok (b.0, z)) p.1 b.2)))
+    (a_tag (inside_says k n (length x + 1) 0 b.0 x rest (subst (λ z. inside k n (length x + 1) 0 x ≡ Ok (b.0, z)) p.1 b.2)))
 
 comment_behind : (n : ℕ) (s : Segment) (d y rest : Text) → NoneBegins ends_comment d y → Stops ends_comment y → ended_comment n d y ≡ Ok (s, rest) → IsSegment n s (123 ∷ 35 ∷ (d ++ y)) rest
 comment_behind n s d [] rest h t e = cc
@@ -129,9 +124,9 @@ cut_says source (suc m) ss (c ∷ cs) e =
 err_same : {A : Type 0} {d e : ScanError} → ◌≡◌ {A = Outcome A} (Err d) (Err e) → d ≡ e
 err_same h = cc
 
-tag_refuses : (k : Kind) (n : ℕ) (x : Text) (e : ScanError) (o : Outcome (List Token)) → inside k n (length x + 1) x ≡ o → (o >>= λ ts z. Ok (tag k n ts, z)) ≡ Err e → IsFaulty n e (123 ∷ second k ∷ x)
+tag_refuses : (k : Kind) (n : ℕ) (x : Text) (e : ScanError) (o : Outcome (List Token)) → inside k n (length x + 1) 0 x ≡ o → (o >>= λ ts z. Ok (tag k n ts, z)) ≡ Err e → IsFaulty n e (123 ∷ second k ∷ x)
 tag_refuses k n x e (Ok p) w h = cc
-tag_refuses k n x e (Err d) w h = in_tag (inside_refuses k n (length x + 1) x e (omega arith) (w ∙ ap (λ u. Err u) (err_same h)))
+tag_refuses k n x e (Err d) w h = in_tag (inside_refuses k n (length x + 1) 0 x e (omega arith) (w ∙ ap (λ u. Err u) (err_same h)))
 
 comment_open : (n : ℕ) (e : ScanError) (d y : Text) → NoneBegins ends_comment d y → ended_comment n d y ≡ Err e → IsFaulty n e (123 ∷ 35 ∷ (d ++ y))
 comment_open n e d [] h q = subst (λ u. IsFaulty n u (123 ∷ 35 ∷ (d ++ []))) (err_same q) (subst (λ z. IsFaulty n (UnclosedTag n) (123 ∷ 35 ∷ z)) (search (append-nil)) (in_comment h))

@@ -1,9 +1,15 @@
 pub mod Steps
 pub mod Tables
+pub mod NumberLaws
+pub mod QuoteLaws
+pub mod NumberTurns
+pub mod SignLaws
+pub mod TokenLaws
 pub mod InsideLaws
 pub mod CutLaws
 pub mod Weight
 pub mod Bytes
 pub mod Turns
+pub mod QuoteTurns
 pub mod Answer
 pub mod EndsLaws

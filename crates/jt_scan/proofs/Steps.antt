@@ -32,6 +32,11 @@ begins_says a b c (d ∷ cs) h =
     let q = both (c == a) (d == b) h in let e : d ≡ b = grind (arith, nat_tests) in
     (grind (arith, nat_tests), ap (λ k. k ∷ cs) e)
 
+pub opener_says : (a b : ℕ) (x : Text) → begins a b x ≡ true → x ≡ a ∷ b ∷ drop 2 x
+opener_says a b [] h = cc
+opener_says a b (c ∷ []) h = cc
+opener_says a b (c ∷ d ∷ x) h = let p = begins_says a b c (d ∷ x) h in ap (λ k. k ∷ d ∷ x) p.0 ∙ ap (λ z. a ∷ z) p.1
+
 -- a run is the longest
 run_ends : (rest : Text) → NameEnds rest → run rest ≡ ([], rest)
 unfolding run

@@ -7,7 +7,7 @@ use Rattle.jt_scan.specs.declared.segment.Kind.{Kind}
 use Rattle.jt_scan.specs.declared.segment.Kind.TheVariants.{Variable, Block}
 use Rattle.jt_scan.specs.Cut.{Text, closer, begins, starts_name, is_space}
 
-no_start : (c : ℕ) → c < 128 → (is_ascii_alphabetic c || (c == 95)) ≡ false → starts_name c ≡ false
+pub no_start : (c : ℕ) → c < 128 → (is_ascii_alphabetic c || (c == 95)) ≡ false → starts_name c ≡ false
 no_start c h e = subst (λ b. (b || (c == 95)) ≡ false) (sym (is_xid_start-ascii c h)) e
 
 turned : (a b : Bool) → (a ≡ true → b ≡ false) → b ≡ true → a ≡ false

@@ -1,5 +1,5 @@
 -- One turn of the loop over a tag's tokens, and of the loop over segments.
-use Rattle.std.proofs.Common.{◌≡◌, ℕ, zero, suc, ◌+◌, ◌<◌, ◌≤◌, ◌==◌, Bool, true, false, List, [], ◌∷◌, ◌++◌, length, drop, refl, sym, ap, ap₂, subst, ◌∙◌, arith, append_assoc, append-nil, Result, Ok, Err, length-append, IsUtf8, cond}
+use Rattle.std.proofs.Common.{◌≡◌, ℕ, zero, suc, ◌+◌, ◌<◌, ◌≤◌, ◌==◌, ◌&&◌, Bool, true, false, List, [], ◌∷◌, ◌++◌, length, drop, refl, sym, ap, ap₂, subst, ◌∙◌, arith, append_assoc, append-nil, Result, Ok, Err, length-append, IsUtf8, cond}
 use Rattle.std.proofs.lemmas.List.Sums.{sum_by-append, count_by-le-length}
 use Rattle.std.proofs.lemmas.Str.{encodes-chars, chars-nil, length-le-encodes}
 use Rattle.std.specs.Str.{chars}
@@ -8,8 +8,11 @@ use Rattle.jt_scan.specs.declared.error.ScanError.{ScanError}
 use Rattle.jt_scan.specs.declared.error.ScanError.TheVariants as error
 use Rattle.jt_scan.specs.declared.segment.Kind.{Kind}
 use Rattle.jt_scan.specs.declared.segment.Kind.TheVariants.{Variable, Block}
-use Rattle.jt_scan.specs.Cut.{Text, Token, Segment, data_of, comment, begins, opens, ends_comment, is_space, IsSegment, some_data, a_tag, a_comment, Inside, closed, space, token, closer, second, starts_name, name, line_at, lines}
-use Rattle.jt_scan.specs.Scanning.{Outcome, ◌>>=◌, EndsWith, after_space, closes, spells, front_at, with_token, then_inside, inside, tag_at, run, clear_run, ended_comment, comment_at, segment_at, with_segment, then_cut, cut, IsGiven}
+use Rattle.jt_scan.specs.declared.segment.Sign.{Sign}
+use Rattle.jt_scan.specs.declared.segment.Sign.TheVariants as s
+use Rattle.jt_scan.specs.Cut as cuts
+use Rattle.jt_scan.specs.Cut.{Text, Token, Segment, data_of, comment, begins, closes, braces, opens, ends_comment, is_space, IsSegment, some_data, a_tag, a_comment, Inside, closed, space, token, closer, second, starts_name, name, line_at, lines}
+use Rattle.jt_scan.specs.Scanning.{Outcome, ◌>>=◌, EndsWith, after_space, closing, spells, token_at, front_at, with_token, then_inside, inside, tag_at, run, clear_run, ended_comment, comment_at, segment_at, with_segment, then_cut, cut, IsGiven}
 use Rattle.jt_scan.proofs.Steps.{Stops, clear_says, run_says}
 use Rattle.jt_scan.proofs.InsideLaws.{IsFront, front_says}
 use Rattle.jt_scan.proofs.CutLaws.{segment_says}
@@ -35,62 +38,70 @@ no_memory_given e o h = subst (λ k. IsGiven k o) (sym h) tt
 abbrev pub prefixed : List Token → Outcome (List Token) → Outcome (List Token)
 prefixed ts o = o >>= λ us z. Ok (ts ++ us, z)
 
--- the tokens ts are read, and x is left
-abbrev pub IsRead : Kind → ℕ → Outcome (List Token) → List Token → Text → Type 0
-IsRead k line whole ts x = (m : ℕ) × (length x < m) × (prefixed ts (inside k line m x) ≡ whole)
+-- the tokens ts are read, x is left, and so many braces are open
+abbrev pub IsRead : Kind → ℕ → Outcome (List Token) → List Token → ℕ → Text → Type 0
+IsRead k line whole ts depth x = (m : ℕ) × (length x < m) × (prefixed ts (inside k line m depth x) ≡ whole)
 
 prefixed_none : (o : Outcome (List Token)) → prefixed [] o ≡ o
 prefixed_none (Ok p) = refl
 prefixed_none (Err e) = refl
 
-pub read_none : (k : Kind) (line : ℕ) (x : Text) → IsRead k line (inside k line (length x + 1) x) [] x
-read_none k line x = (length x + 1, omega arith, prefixed_none (inside k line (length x + 1) x))
+pub read_none : (k : Kind) (line : ℕ) (x : Text) → IsRead k line (inside k line (length x + 1) 0 x) [] 0 x
+read_none k line x = (length x + 1, omega arith, prefixed_none (inside k line (length x + 1) 0 x))
 
 -- no whitespace stands in front
 abbrev NoSpace : Text → Type 0
 NoSpace [] = Unit {0}
 NoSpace (c ∷ cs) = is_space c ≡ false
 
-skipped : (k : Kind) (line : ℕ) (x : Text) (m : ℕ) → length x < m → (n : ℕ) × (length (after_space x) < n) × (inside k line m x ≡ inside k line n (after_space x)) × NoSpace (after_space x)
+skipped : (k : Kind) (line depth : ℕ) (x : Text) (m : ℕ) → length x < m → (n : ℕ) × (length (after_space x) < n) × (inside k line m depth x ≡ inside k line n depth (after_space x)) × NoSpace (after_space x)
 unfolding inside after_space
-skipped k line x zero le = absurd (omega arith)
-skipped k line [] (suc m) le = (suc m, le, refl, tt)
-skipped k line (c ∷ cs) (suc m) le = stepped (is_space c) refl (skipped k line cs m (omega arith))
+skipped k line depth x zero le = absurd (omega arith)
+skipped k line depth [] (suc m) le = (suc m, le, refl, tt)
+skipped k line depth (c ∷ cs) (suc m) le = stepped (is_space c) refl (skipped k line depth cs m (omega arith))
   where
-    stepped : (b : Bool) → is_space c ≡ b → (n : ℕ) × (length (after_space cs) < n) × (inside k line m cs ≡ inside k line n (after_space cs)) × NoSpace (after_space cs) →
-        (n : ℕ) × (length (after_space (c ∷ cs)) < n) × (inside k line (suc m) (c ∷ cs) ≡ inside k line n (after_space (c ∷ cs))) × NoSpace (after_space (c ∷ cs))
+    stepped : (b : Bool) → is_space c ≡ b → (n : ℕ) × (length (after_space cs) < n) × (inside k line m depth cs ≡ inside k line n depth (after_space cs)) × NoSpace (after_space cs) →
+        (n : ℕ) × (length (after_space (c ∷ cs)) < n) × (inside k line (suc m) depth (c ∷ cs) ≡ inside k line n depth (after_space (c ∷ cs))) × NoSpace (after_space (c ∷ cs))
     stepped true h r = rw h r
     stepped false h r = rw h (suc m, le, rw h refl, h)
 
-opened : (k : Kind) (line : ℕ) (y : Text) (n : ℕ) → length y < n → NoSpace y → (j : ℕ) × (length y < suc j) × (inside k line n y ≡ (front_at k line y >>= then_inside (inside k line j)))
-unfolding inside front_at
-opened k line y zero le s = absurd (omega arith)
-opened k line [] (suc n) le s = (n, le, refl)
-opened k line (c ∷ cs) (suc n) le s = (n, le, rw s refl)
+front_of_none : (k : Kind) (line depth : ℕ) → front_at k line depth [] ≡ Err (error.UnclosedTag line)
+unfolding front_at token_at
+front_of_none k line depth = rw (shut (depth == 0)) refl
+  where
+    shut : (b : Bool) → (b && false) ≡ false
+    shut true = refl
+    shut false = refl
 
-abbrev pub IsTurn : Kind → ℕ → Outcome (List Token) → List Token → Text → Type 0
-IsTurn k line whole ts y = (j : ℕ) × (length y < suc j) × (prefixed ts (front_at k line y >>= then_inside (inside k line j)) ≡ whole)
+opened : (k : Kind) (line depth : ℕ) (y : Text) (n : ℕ) → length y < n → NoSpace y → (j : ℕ) × (length y < suc j) × (inside k line n depth y ≡ (front_at k line depth y >>= then_inside (inside k line j) depth))
+unfolding inside
+opened k line depth y zero le s = absurd (omega arith)
+opened k line depth [] (suc n) le s = (n, le, sym (ap (λ o. o >>= then_inside (inside k line n) depth) (front_of_none k line depth)))
+opened k line depth (c ∷ cs) (suc n) le s = (n, le, rw s refl)
 
-pub turn : (k : Kind) (line : ℕ) (whole : Outcome (List Token)) (ts : List Token) (x : Text) → IsRead k line whole ts x → IsTurn k line whole ts (after_space x)
-turn k line whole ts x r =
-    let s = skipped k line x r.0 r.1 in
-    let o = opened k line (after_space x) s.0 s.1 s.3 in
+abbrev pub IsTurn : Kind → ℕ → Outcome (List Token) → List Token → ℕ → Text → Type 0
+IsTurn k line whole ts depth y = (j : ℕ) × (length y < suc j) × (prefixed ts (front_at k line depth y >>= then_inside (inside k line j) depth) ≡ whole)
+
+pub turn : (k : Kind) (line : ℕ) (whole : Outcome (List Token)) (ts : List Token) (depth : ℕ) (x : Text) → IsRead k line whole ts depth x → IsTurn k line whole ts depth (after_space x)
+turn k line whole ts depth x r =
+    let s = skipped k line depth x r.0 r.1 in
+    let o = opened k line depth (after_space x) s.0 s.1 s.3 in
     (o.0, o.1, ap (prefixed ts) (sym (s.2 ∙ o.2)) ∙ r.2)
 
-pub turn_ends : (k : Kind) (line : ℕ) (whole : Outcome (List Token)) (ts : List Token) (y rest : Text) → IsTurn k line whole ts y → front_at k line y ≡ Ok (closes, rest) → whole ≡ Ok (ts, rest)
-turn_ends k line whole ts y rest t e = sym t.2 ∙ (rw (e, append-nil ts) refl)
+pub turn_ends : (k : Kind) (line : ℕ) (whole : Outcome (List Token)) (ts : List Token) (depth : ℕ) (y rest : Text) → IsTurn k line whole ts depth y → front_at k line depth y ≡ Ok (closing, rest) → whole ≡ Ok (ts, rest)
+turn_ends k line whole ts depth y rest t e = sym t.2 ∙ (rw (e, append-nil ts) refl)
 
 after_one : (t : Token) (ts : List Token) (o : Outcome (List Token)) → prefixed ts (with_token t o) ≡ prefixed (ts ++ (t ∷ [])) o
 after_one t ts (Ok p) = rw (append_assoc ts (t ∷ []) p.0) refl
 after_one t ts (Err e) = refl
 
-pub turn_goes_on : (k : Kind) (line : ℕ) (whole : Outcome (List Token)) (ts : List Token) (t : Token) (y rest : Text) → IsTurn k line whole ts y → front_at k line y ≡ Ok (spells t, rest) → IsRead k line whole (ts ++ (t ∷ [])) rest
-turn_goes_on k line whole ts t y rest r e =
-    let f : IsFront k (spells t) y rest = front_says k line (spells t) y rest e in
-    (r.0, omega (arith, r.1, f.3), sym (after_one t ts (inside k line r.0 rest)) ∙ ap (λ o. prefixed ts (o >>= then_inside (inside k line r.0))) (sym e) ∙ r.2)
+pub turn_goes_on : (k : Kind) (line : ℕ) (whole : Outcome (List Token)) (ts : List Token) (depth : ℕ) (t : Token) (y rest : Text) → IsTurn k line whole ts depth y → front_at k line depth y ≡ Ok (spells t, rest) → IsRead k line whole (ts ++ (t ∷ [])) (braces depth t) rest
+turn_goes_on k line whole ts depth t y rest r e =
+    let f : IsFront k depth (spells t) y rest = front_says k line depth (spells t) y rest e in
+    (r.0, omega (arith, r.1, f.3), sym (after_one t ts (inside k line r.0 (braces depth t) rest)) ∙ ap (λ o. prefixed ts (o >>= then_inside (inside k line r.0) depth)) (sym e) ∙ r.2)
 
-pub turn_refused : (k : Kind) (line : ℕ) (whole : Outcome (List Token)) (ts : List Token) (y : Text) (e : ScanError) → IsTurn k line whole ts y → front_at k line y ≡ Err e → whole ≡ Err e
-turn_refused k line whole ts y e r h = sym r.2 ∙ ap (λ o. prefixed ts (o >>= then_inside (inside k line r.0))) h
+pub turn_refused : (k : Kind) (line : ℕ) (whole : Outcome (List Token)) (ts : List Token) (depth : ℕ) (y : Text) (e : ScanError) → IsTurn k line whole ts depth y → front_at k line depth y ≡ Err e → whole ≡ Err e
+turn_refused k line whole ts depth y e r h = sym r.2 ∙ ap (λ o. prefixed ts (o >>= then_inside (inside k line r.0) depth)) h
 
 no_longer : (x : Text) → length (after_space x) ≤ length x
 unfolding after_space
@@ -98,26 +109,43 @@ no_longer [] = omega arith
 no_longer (c ∷ cs) = stepped (is_space c) refl (no_longer cs)
   where
     stepped : (b : Bool) → is_space c ≡ b → length (after_space cs) ≤ length cs → length (after_space (c ∷ cs)) ≤ length (c ∷ cs)
-    stepped true h r = rw h (omega arith)
+    stepped true h r = rw h (omega (arith, r))
     stepped false h r = rw h (omega arith)
 
-pub shorter : (k : Kind) (line : ℕ) (t : Token) (x rest : Text) → front_at k line (after_space x) ≡ Ok (spells t, rest) → length rest < length x
-shorter k line t x rest e =
-    let f : IsFront k (spells t) (after_space x) rest = front_says k line (spells t) (after_space x) rest e in omega (arith, f.3, no_longer x)
+pub shorter : (k : Kind) (line depth : ℕ) (t : Token) (x rest : Text) → front_at k line depth (after_space x) ≡ Ok (spells t, rest) → length rest < length x
+shorter k line depth t x rest e =
+    let f : IsFront k depth (spells t) (after_space x) rest = front_says k line depth (spells t) (after_space x) rest e in omega (arith, f.3, no_longer x)
 
 -- the same at the text behind whitespace
-pub tokens_end : (k : Kind) (line : ℕ) (whole : Outcome (List Token)) (ts : List Token) (x y rest : Text) → IsRead k line whole ts x → y ≡ after_space x → front_at k line y ≡ Ok (closes, rest) → whole ≡ Ok (ts, rest)
-tokens_end k line whole ts x y rest r same e = turn_ends k line whole ts (after_space x) rest (turn k line whole ts x r) (subst (λ z. front_at k line z ≡ Ok (closes, rest)) same e)
+pub tokens_end : (k : Kind) (line : ℕ) (whole : Outcome (List Token)) (ts : List Token) (depth : ℕ) (x y rest : Text) → IsRead k line whole ts depth x → y ≡ after_space x → front_at k line depth y ≡ Ok (closing, rest) → whole ≡ Ok (ts, rest)
+tokens_end k line whole ts depth x y rest r same e = turn_ends k line whole ts depth (after_space x) rest (turn k line whole ts depth x r) (subst (λ z. front_at k line depth z ≡ Ok (closing, rest)) same e)
 
-pub tokens_go_on : (k : Kind) (line : ℕ) (whole : Outcome (List Token)) (ts us : List Token) (t : Token) (x y rest : Text) → IsRead k line whole ts x → y ≡ after_space x → front_at k line y ≡ Ok (spells t, rest) → us ≡ ts ++ (t ∷ []) → IsRead k line whole us rest
-tokens_go_on k line whole ts us t x y rest r same e more = subst (λ vs. IsRead k line whole vs rest) (sym more) (turn_goes_on k line whole ts t (after_space x) rest (turn k line whole ts x r) (subst (λ z. front_at k line z ≡ Ok (spells t, rest)) same e))
+pub tokens_go_on : (k : Kind) (line : ℕ) (whole : Outcome (List Token)) (ts us : List Token) (depth more : ℕ) (t : Token) (x y rest : Text) → IsRead k line whole ts depth x → y ≡ after_space x → front_at k line depth y ≡ Ok (spells t, rest) → us ≡ ts ++ (t ∷ []) → more ≡ braces depth t → IsRead k line whole us more rest
+tokens_go_on k line whole ts us depth more t x y rest r same e all braced =
+    subst (λ d. IsRead k line whole us d rest) (sym braced)
+    (subst (λ vs. IsRead k line whole vs (braces depth t) rest) (sym all) (turn_goes_on k line whole ts depth t (after_space x) rest (turn k line whole ts depth x r) (subst (λ z. front_at k line depth z ≡ Ok (spells t, rest)) same e)))
 
-pub tokens_shrink : (k : Kind) (line : ℕ) (t : Token) (x y rest : Text) → y ≡ after_space x → front_at k line y ≡ Ok (spells t, rest) → length rest < length x
-tokens_shrink k line t x y rest same e = shorter k line t x rest (subst (λ z. front_at k line z ≡ Ok (spells t, rest)) same e)
+pub tokens_shrink : (k : Kind) (line depth : ℕ) (t : Token) (x y rest : Text) → y ≡ after_space x → front_at k line depth y ≡ Ok (spells t, rest) → length rest < length x
+tokens_shrink k line depth t x y rest same e = shorter k line depth t x rest (subst (λ z. front_at k line depth z ≡ Ok (spells t, rest)) same e)
 
-pub tokens_refused : (k : Kind) (line : ℕ) (whole : Outcome (List Token)) (ts : List Token) (x y : Text) (e : ScanError) → IsRead k line whole ts x → y ≡ after_space x → IsGiven e (front_at k line y) → IsGiven e whole
-tokens_refused k line whole ts x y e r same g =
-    given_along e (front_at k line y) whole (λ h. turn_refused k line whole ts (after_space x) e (turn k line whole ts x r) (subst (λ z. front_at k line z ≡ Err e) same h)) g
+pub tokens_refused : (k : Kind) (line : ℕ) (whole : Outcome (List Token)) (ts : List Token) (depth : ℕ) (x y : Text) (e : ScanError) → IsRead k line whole ts depth x → y ≡ after_space x → IsGiven e (front_at k line depth y) → IsGiven e whole
+tokens_refused k line whole ts depth x y e r same g =
+    given_along e (front_at k line depth y) whole (λ h. turn_refused k line whole ts depth (after_space x) e (turn k line whole ts depth x r) (subst (λ z. front_at k line depth z ≡ Err e) same h)) g
+
+-- at most one brace more is open
+pub braces_fit : (depth n more : ℕ) (t : Token) → depth ≤ n → more ≡ braces depth t → more ≤ n + 1
+braces_fit depth n more t le e = omega (arith, e, few t)
+  where
+    few : (t : Token) → braces depth t ≤ n + 1
+    few (cuts.name x) = omega arith
+    few (cuts.number m) = omega arith
+    few (cuts.text x) = omega arith
+    few (cuts.sign u) = sign_few u
+      where
+        sign_few : (u : Sign) → braces depth (cuts.sign u) ≤ n + 1
+        sign_few s.LeftBrace = omega arith
+        sign_few s.RightBrace = omega arith
+        sign_few u = omega arith
 
 -- ---- segments
 
@@ -174,10 +202,10 @@ cut_refused source ss x line e r z at h =
     sym r.2 ∙ ap (before_all ss) j.2 ∙ ap (λ o. before_all ss (then_cut o (cut source j.0))) here
 
 -- a segment's text and the rest are what stood there
-inside_end : {k : Kind} {ts : List Token} {x rest : Text} → Inside k ts x rest → EndsWith x rest
+inside_end : {k : Kind} {depth : ℕ} {ts : List Token} {x rest : Text} → Inside k depth ts x rest → EndsWith x rest
 inside_end {k} (closed {rest}) = (closer k ∷ 125 ∷ [], refl)
 inside_end (space {c} h i) = let e = inside_end i in (c ∷ e.0, ap (λ z. c ∷ z) e.1)
-inside_end (token {s} {rest} p i) = let e = inside_end i in (s ++ e.0, ap (λ z. s ++ z) e.1 ∙ sym (append_assoc s e.0 rest))
+inside_end (token {s} {rest} b p i) = let e = inside_end i in (s ++ e.0, ap (λ z. s ++ z) e.1 ∙ sym (append_assoc s e.0 rest))
 
 segment_end : {n : ℕ} {s : Segment} {x rest : Text} → IsSegment n s x rest → EndsWith x rest
 segment_end (some_data {c} {d} h e) = (c ∷ d, refl)
@@ -261,25 +289,26 @@ cancel_end [] (b ∷ y) z e = absurd (omega (arith, ap length e, length-append y
 cancel_end (a ∷ x) [] z e = absurd (omega (arith, ap length e, length-append x z))
 cancel_end (a ∷ x) (b ∷ y) z e = let h : a ≡ b = cc in let t : x ++ z ≡ y ++ z = cc in ap₂ (λ c cs. c ∷ cs) h (cancel_end x y z t)
 
-pub front_ended : (k : Kind) (line : ℕ) (x : Text) → x ≡ [] → front_at k line x ≡ Err (error.UnclosedTag line)
-unfolding front_at
-front_ended k line x e = rw e refl
-
-pub front_closed : (k : Kind) (line : ℕ) (x rest : Text) → x ≡ closer k ∷ 125 ∷ rest → front_at k line x ≡ Ok (closes, rest)
-unfolding front_at
-front_closed Variable line x rest e = rw e refl
-front_closed Block line x rest e = rw e refl
-
-pub front_bad : (k : Kind) (line c : ℕ) (x cs : Text) → x ≡ c ∷ cs → begins (closer k) 125 x ≡ false → starts_name c ≡ false → front_at k line x ≡ Err (error.BadCharacter line)
-unfolding front_at
-front_bad k line c x cs e b s = rw e (rw (subst (λ z. begins (closer k) 125 z ≡ false) e b, s) refl)
-
 pub name_end : (c : ℕ) (x cs rest : Text) → x ≡ c ∷ cs → rest ≡ (run cs).1 → EndsWith x rest
 name_end c x cs rest e r = (c ∷ (run cs).0, e ∙ ap (λ z. c ∷ z) ((run_says cs).0 ∙ ap (λ z. (run cs).0 ++ z) (sym r)))
 
-pub front_named : (k : Kind) (line c : ℕ) (x cs found rest : Text) → x ≡ c ∷ cs → begins (closer k) 125 x ≡ false → starts_name c ≡ true → rest ≡ (run cs).1 → x ≡ found ++ rest → front_at k line x ≡ Ok (spells (name found), rest)
-unfolding front_at name_end
-front_named k line c x cs found rest e b s r w =
+pub token_named : (line c : ℕ) (x cs found rest : Text) → x ≡ c ∷ cs → starts_name c ≡ true → rest ≡ (run cs).1 → x ≡ found ++ rest → token_at line x ≡ Ok (name found, rest)
+unfolding token_at name_end
+token_named line c x cs found rest e s r w =
     let n = name_end c x cs rest e r in
     let same : c ∷ (run cs).0 ≡ found = cancel_end (c ∷ (run cs).0) found rest (sym n.1 ∙ w) in
-    rw e (rw (subst (λ z. begins (closer k) 125 z ≡ false) e b, s, r) (ap (λ z. Ok (spells (name z), (run cs).1)) same))
+    rw e (rw (s, r) (ap (λ z. Ok (name z, (run cs).1)) same))
+
+-- ---- the closer, or a token
+
+pub front_closed : (k : Kind) (line depth : ℕ) (x rest : Text) → closes k depth x ≡ true → x ≡ closer k ∷ 125 ∷ rest → front_at k line depth x ≡ Ok (closing, rest)
+unfolding front_at
+front_closed k line depth x rest h e = rw h (ap (λ z. Ok (closing, drop 2 z)) e)
+
+pub front_spelled : (k : Kind) (line depth : ℕ) (x : Text) (t : Token) (rest : Text) → closes k depth x ≡ false → token_at line x ≡ Ok (t, rest) → front_at k line depth x ≡ Ok (spells t, rest)
+unfolding front_at
+front_spelled k line depth x t rest h e = rw (h, e) refl
+
+pub front_refused : (k : Kind) (line depth : ℕ) (x : Text) (e : ScanError) → closes k depth x ≡ false → IsGiven e (token_at line x) → IsGiven e (front_at k line depth x)
+unfolding front_at
+front_refused k line depth x e h g = given_along e (token_at line x) (front_at k line depth x) (λ w. rw (h, w) refl) g

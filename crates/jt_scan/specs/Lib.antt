@@ -1,3 +1,4 @@
+pub mod Literals
 pub mod Cut
 pub mod LineEnds
 pub mod Scanning

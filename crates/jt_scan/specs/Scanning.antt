@@ -1,11 +1,14 @@
 -- What the scanner computes. No public contract names it: the cut is found by it.
-use Rattle.std.specs.Prelude.{◌≡◌, ℕ, zero, suc, ◌+◌, Bool, true, ◌==◌, List, [], ◌∷◌, ◌++◌, ◌||◌, slice_index, length, drop, Result, Ok, Err, if◌then◌else◌}
+use Rattle.std.specs.Prelude.{◌≡◌, ℕ, zero, suc, ◌+◌, ◌*◌, nat_lt, Bool, true, false, ◌==◌, List, [], ◌∷◌, ◌++◌, ◌||◌, slice_index, length, drop, Option, Some, None, ◌&&◌, Result, Ok, Err, if◌then◌else◌}
 use Rattle.unicode_ident.specs.Ident.{is_xid_continue}
 use Rattle.jt_scan.specs.declared.error.ScanError.{ScanError}
-use Rattle.jt_scan.specs.declared.error.ScanError.TheVariants.{UnclosedTag, BadCharacter, NoMemory}
+use Rattle.jt_scan.specs.declared.error.ScanError.TheVariants.{UnclosedTag, UnclosedText, BadCharacter, BadEscape, NumberTooLarge, NoMemory}
 use Rattle.jt_scan.specs.declared.segment.Kind.{Kind}
 use Rattle.jt_scan.specs.declared.segment.Kind.TheVariants.{Variable, Block}
-use Rattle.jt_scan.specs.Cut.{Text, Token, name, Segment, data_of, tag, comment, closer, begins, is_space, starts_name, opens, ends_comment, line_at}
+use Rattle.jt_scan.specs.declared.segment.Sign.{Sign}
+use Rattle.jt_scan.specs.declared.segment.Sign.TheVariants as s
+use Rattle.jt_scan.specs.Cut.{Text, Token, name, number, text, sign, max_number, Segment, data_of, tag, comment, begins, closes, braces, is_space, starts_name, opens, ends_comment, line_at}
+use Rattle.jt_scan.specs.Literals.{digit_value, is_digit, digit_first, base_of, names_base, is_quote, pieces, unescaped}
 
 abbrev pub Outcome : Type 0 → Type 0
 Outcome A = Result (A × Text) ScanError
@@ -28,36 +31,151 @@ unfoldable pub clear_run : (Text → Bool) → Text → Text × Text
 clear_run test [] = ([], [])
 clear_run test (c ∷ cs) = if test (c ∷ cs) then ([], c ∷ cs) else front c (clear_run test cs)
 
+abbrev pub one_sign : ℕ → Option Sign
+one_sign c =
+    if c == 43 then Some s.Plus
+    else if c == 45 then Some s.Minus
+    else if c == 42 then Some s.Times
+    else if c == 37 then Some s.Percent
+    else if c == 126 then Some s.Tilde
+    else if c == 60 then Some s.Less
+    else if c == 62 then Some s.Greater
+    else if c == 61 then Some s.Assign
+    else if c == 46 then Some s.Dot
+    else if c == 44 then Some s.Comma
+    else if c == 58 then Some s.Colon
+    else if c == 124 then Some s.Pipe
+    else if c == 40 then Some s.LeftParen
+    else if c == 41 then Some s.RightParen
+    else if c == 91 then Some s.LeftBracket
+    else if c == 93 then Some s.RightBracket
+    else if c == 123 then Some s.LeftBrace
+    else if c == 125 then Some s.RightBrace
+    else None
+
+abbrev pub two_sign : ℕ → ℕ → Option Sign
+two_sign c d =
+    if c == 42 && d == 42 then Some s.Power
+    else if c == 47 && d == 47 then Some s.FloorDivide
+    else if c == 61 && d == 61 then Some s.Equal
+    else if c == 33 && d == 61 then Some s.NotEqual
+    else if c == 60 && d == 61 then Some s.LessEqual
+    else if c == 62 && d == 61 then Some s.GreaterEqual
+    else None
+
+abbrev pub alone : Option Sign → Text → Option (Sign × Text)
+alone None rest = None
+alone (Some s) rest = Some (s, rest)
+
+abbrev pub longest : Option Sign → Option Sign → Text → Text → Option (Sign × Text)
+longest (Some s) o more rest = Some (s, more)
+longest None o more rest = alone o rest
+
+-- the longest sign in front
+unfoldable pub sign_at : Text → Option (Sign × Text)
+sign_at [] = None
+sign_at (c ∷ []) = alone (one_sign c) []
+sign_at (c ∷ d ∷ more) = longest (two_sign c d) (one_sign c) more (d ∷ more)
+
+-- ---- numbers
+
+-- the number that further digits make of n, and what is behind them
+unfoldable pub digits_at : ℕ → ℕ → Text → ℕ × Text
+digits_at base n [] = (n, [])
+digits_at base n (c ∷ cs) =
+    if is_digit base c then digits_at base (n * base + digit_value c) cs
+    else if c == 95 && digit_first base cs then digits_at base n cs
+    else (n, c ∷ cs)
+
+abbrev pub plain_digit : ℕ → Text → Option (ℕ × Text)
+plain_digit base [] = None
+plain_digit base (c ∷ cs) = if is_digit base c then Some (digit_value c, cs) else None
+
+-- the next digit's value and what is behind it, where one goes on
+unfoldable pub next_digit : ℕ → Text → Option (ℕ × Text)
+next_digit base [] = None
+next_digit base (c ∷ cs) =
+    if is_digit base c then Some (digit_value c, cs)
+    else if c == 95 then plain_digit base cs
+    else None
+
+-- behind the letter of a base
+abbrev pub based_at : Text → ℕ × Text
+based_at [] = (0, [])
+based_at (c ∷ cs) = digits_at (base_of c) 0 cs
+
+-- the number whose first digit is c
+abbrev pub number_at : ℕ → Text → ℕ × Text
+number_at c cs =
+    if c == 48 then (if names_base cs then based_at cs else digits_at 1 0 cs)
+    else digits_at 10 (digit_value c) cs
+
+-- ---- texts
+
+abbrev pub longer : ℕ → Option (Text × Text) → Option (Text × Text)
+longer c None = None
+longer c (Some p) = Some (c ∷ p.0, p.1)
+
+-- up to the second quote; the flag says that a backslash stands before
+unfoldable pub enclosed_at : ℕ → Bool → Text → Option (Text × Text)
+enclosed_at quote b [] = None
+enclosed_at quote true (c ∷ cs) = longer c (enclosed_at quote false cs)
+enclosed_at quote false (c ∷ cs) = if c == quote then Some ([], cs) else longer c (enclosed_at quote (c == 92) cs)
+
+-- ---- a tag's inside
+
+abbrev pub signed : ℕ → Option (Sign × Text) → Outcome Token
+signed line None = Err (BadCharacter line)
+signed line (Some p) = Ok (sign p.0, p.1)
+
+abbrev pub numbered : ℕ → ℕ × Text → Outcome Token
+numbered line p = if nat_lt max_number p.0 then Err (NumberTooLarge line) else Ok (number p.0, p.1)
+
+abbrev pub meant : ℕ → Text × Text → Outcome Token
+meant line p = if (pieces 0 p.0).1 then Ok (text (unescaped p.0), p.1) else Err (BadEscape line)
+
+abbrev pub quoted : ℕ → Option (Text × Text) → Outcome Token
+quoted line None = Err (UnclosedText line)
+quoted line (Some p) = meant line p
+
+-- the token in front, where no whitespace and no closer is
+unfoldable pub token_at : ℕ → Text → Outcome Token
+token_at line [] = Err (UnclosedTag line)
+token_at line (c ∷ cs) =
+    if starts_name c then (let p = run cs in Ok (name (c ∷ p.0), p.1))
+    else if is_digit 10 c then numbered line (number_at c cs)
+    else if is_quote c then quoted line (enclosed_at c false cs)
+    else signed line (sign_at (c ∷ cs))
+
 -- what stands in front in a tag, where no whitespace does
 pub data Front : Type 0 where
   -- the closer
-  closes : Front
+  closing : Front
   spells : Token → Front
 
-unfoldable pub front_at : Kind → ℕ → Text → Outcome Front
-front_at k line [] = Err (UnclosedTag line)
-front_at k line (c ∷ cs) =
-    if begins (closer k) 125 (c ∷ cs) then Ok (closes, drop 1 cs)
-    else if starts_name c then (let p = run cs in Ok (spells (name (c ∷ p.0)), p.1))
-    else Err (BadCharacter line)
+unfoldable pub front_at : Kind → ℕ → ℕ → Text → Outcome Front
+front_at k line depth x =
+    if closes k depth x then Ok (closing, drop 2 x)
+    else (token_at line x >>= λ t rest. Ok (spells t, rest))
 
 abbrev pub with_token : Token → Outcome (List Token) → Outcome (List Token)
 with_token t o = o >>= λ ts rest. Ok (t ∷ ts, rest)
 
-abbrev pub then_inside : (Text → Outcome (List Token)) → Front → Text → Outcome (List Token)
-then_inside f closes rest = Ok ([], rest)
-then_inside f (spells t) rest = with_token t (f rest)
+-- f reads on where so many braces are open
+abbrev pub then_inside : (ℕ → Text → Outcome (List Token)) → ℕ → Front → Text → Outcome (List Token)
+then_inside f depth closing rest = Ok ([], rest)
+then_inside f depth (spells t) rest = with_token t (f (braces depth t) rest)
 
--- the tokens up to the closer, and what is behind it; the number bounds the turns, and each takes a character
-unfoldable pub inside : Kind → ℕ → ℕ → Text → Outcome (List Token)
-inside k line zero x = Err (UnclosedTag line)
-inside k line (suc m) [] = Err (UnclosedTag line)
-inside k line (suc m) (c ∷ cs) =
-    if is_space c then inside k line m cs
-    else (front_at k line (c ∷ cs) >>= then_inside (inside k line m))
+-- the tokens up to the closer, and what is behind it; the number m bounds the turns, and each takes a character
+unfoldable pub inside : Kind → ℕ → ℕ → ℕ → Text → Outcome (List Token)
+inside k line zero depth x = Err (UnclosedTag line)
+inside k line (suc m) depth [] = Err (UnclosedTag line)
+inside k line (suc m) depth (c ∷ cs) =
+    if is_space c then inside k line m depth cs
+    else (front_at k line depth (c ∷ cs) >>= then_inside (inside k line m) depth)
 
 abbrev pub tag_at : Kind → ℕ → Text → Outcome Segment
-tag_at k line x = inside k line (length x + 1) x >>= λ ts rest. Ok (tag k line ts, rest)
+tag_at k line x = inside k line (length x + 1) 0 x >>= λ ts rest. Ok (tag k line ts, rest)
 
 -- the comment in front of its end, if it has one
 abbrev pub ended_comment : ℕ → Text → Text → Outcome Segment
@@ -112,4 +230,4 @@ is_second c = c == 123 || c == 37 || c == 35
 
 -- an opener begins at the place of a list of bytes
 abbrev pub OpensAt : List ℕ → ℕ → Type 0
-OpensAt text k = (slice_index text k ≡ 123) × (is_second (slice_index text (k + 1)) ≡ true)
+OpensAt bytes k = (slice_index bytes k ≡ 123) × (is_second (slice_index bytes (k + 1)) ≡ true)

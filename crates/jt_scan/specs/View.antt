@@ -1,5 +1,5 @@
 -- What contracts see of segments and tokens: characters, and not where they lie in memory.
-use Rattle.std.specs.Prelude.{List, map}
+use Rattle.std.specs.Prelude.{List, [], ◌∷◌, map}
 use Rattle.std.specs.Str.{chars}
 use Rattle.jt_scan.specs.declared.segment.Segment.{Segment}
 use Rattle.jt_scan.specs.declared.segment.Segment.TheVariants as s
@@ -8,10 +8,19 @@ use Rattle.jt_scan.specs.declared.segment.Token.TheVariants as t
 use Rattle.jt_scan.specs.declared.tokens.Front.{Front}
 use Rattle.jt_scan.specs.declared.tokens.Front.TheVariants as f
 use Rattle.jt_scan.specs.Cut as cut
+use Rattle.jt_scan.specs.Literals.{Text, unescaped}
+use Rattle.jt_scan.specs.Literals as literal
+use Rattle.jt_scan.specs.declared.quotes.Escape.{Escape}
+use Rattle.jt_scan.specs.declared.quotes.Escape.TheVariants as e
+use Rattle.jt_scan.specs.declared.quotes.Piece.{Piece}
+use Rattle.jt_scan.specs.declared.quotes.Piece.TheVariants as p
 use Rattle.jt_scan.specs.Scanning as scanning
 
 abbrev pub token_view : Token → cut.Token
 token_view (t.Name x) = cut.name (chars x.now)
+token_view (t.Number n) = cut.number n
+token_view (t.Text raw) = cut.text (unescaped (chars raw.now))
+token_view (t.Sign s) = cut.sign s
 
 abbrev pub segment_view : Segment → cut.Segment
 segment_view (s.Data x) = cut.data_of (chars x.now)
@@ -23,5 +32,20 @@ abbrev pub cut_of : List Segment → List cut.Segment
 cut_of = map segment_view
 
 abbrev pub front_view : Front → scanning.Front
-front_view f.Closer = scanning.closes
+front_view f.Closer = scanning.closing
 front_view (f.Token t) = scanning.spells (token_view t)
+
+-- what a character means behind a backslash
+abbrev pub escape_view : Escape → literal.Escape
+escape_view e.Drops = literal.drops
+escape_view (e.Gives c) = literal.gives c
+escape_view e.Octal = literal.octal
+escape_view (e.Hexadecimal n) = literal.hexadecimal n
+escape_view e.Refused = literal.refused
+escape_view e.Stays = literal.stays
+
+-- the characters of a piece of a text
+abbrev pub piece_text : Piece → Text
+piece_text p.Nothing = []
+piece_text (p.Character c) = c ∷ []
+piece_text (p.Pair c) = 92 ∷ c ∷ []

@@ -3,9 +3,12 @@
 
 mod error;
 mod find;
+mod numbers;
 mod options;
+mod quotes;
 mod scanner;
 mod segment;
+mod signs;
 mod source;
 #[cfg(test)]
 mod tests;
@@ -14,6 +17,7 @@ mod tokens;
 
 pub use error::ScanError;
 pub use options::Options;
+pub use quotes::text_value;
 pub use scanner::scan;
-pub use segment::{Kind, Segment, Tag, Token};
+pub use segment::{Kind, Segment, Sign, Tag, Token};
 pub use source::{MAX_SOURCE_LEN, Source};

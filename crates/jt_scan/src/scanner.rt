@@ -86,8 +86,9 @@ fn read_segments<'a>(alloc: Global, text: &'a str) -> Result<Vec<Segment<'a>>, S
 }
 
 /// The segments of a source: data, tags with their tokens, and comments, all of them slices of
-/// the source, in its order. A refusal is `UnclosedTag` or `BadCharacter`, with the line of the
-/// tag, or `NoMemory`.
+/// the source, in its order. A refusal has the line of the tag: the source ends inside it or
+/// inside a text of it, a character begins no token, an escape has no meaning, or a number is
+/// above the greatest. `NoMemory` has none.
 pub fn scan(alloc: Global, source: &Source) -> Result<Vec<Segment<'_>>, ScanError>
     ensures cut { IfOk result (λ v. cut.IsCut (cut_of v.items) (chars source.now.text)) }
     ensures only { (ss : List cut.Segment) → cut.IsCut ss (chars source.now.text) →

@@ -1,10 +1,69 @@
 //! Segments and tokens, which are slices of their source.
 
+/// A sign, by its spelling.
+#[derive(Clone, Copy, Debug, PartialEq, Eq)]
+pub enum Sign {
+    /// `+`
+    Plus,
+    /// `-`
+    Minus,
+    /// `*`
+    Times,
+    /// `%`
+    Percent,
+    /// `~`
+    Tilde,
+    /// `<`
+    Less,
+    /// `>`
+    Greater,
+    /// `=`
+    Assign,
+    /// `.`
+    Dot,
+    /// `,`
+    Comma,
+    /// `:`
+    Colon,
+    /// `|`
+    Pipe,
+    /// `(`
+    LeftParen,
+    /// `)`
+    RightParen,
+    /// `[`
+    LeftBracket,
+    /// `]`
+    RightBracket,
+    /// `{`
+    LeftBrace,
+    /// `}`
+    RightBrace,
+    /// `**`
+    Power,
+    /// `//`
+    FloorDivide,
+    /// `==`
+    Equal,
+    /// `!=`
+    NotEqual,
+    /// `<=`
+    LessEqual,
+    /// `>=`
+    GreaterEqual,
+}
+
 /// A token of a tag.
 #[derive(Clone, Copy, Debug, PartialEq, Eq)]
 pub enum Token<'a> {
     /// A name, or a reserved word.
     Name(&'a str),
+    /// A number, by its value.
+    Number(u64),
+    /// What stands between the quotes of a text, as it is in the source:
+    /// [`text_value`](crate::text_value) has what it means.
+    Text(&'a str),
+    Sign(Sign),
 }
 
 /// The kind of a tag.

@@ -2,6 +2,7 @@
 
 use crate::error::ScanError;
 use crate::options::Options;
+use crate::quotes::text_value;
 use crate::scanner::scan;
 use crate::segment::{Kind, Segment, Token};
 use crate::source::{MAX_SOURCE_LEN, Source};
@@ -19,8 +20,17 @@ fn tell(alloc: Global, segment: &Segment<'_>) -> Result<String, AllocError> {
                 Kind::Block => format!(in alloc; "b{}:", tag.line)?,
             };
             for token in tag.tokens.as_slice() {
-                let Token::Name(name) = token;
-                told.push_str(*name)?;
+                match token {
+                    Token::Name(name) => told.push_str(*name)?,
+                    Token::Number(number) => told.push_str(format!(in alloc;
+                        "{number}"
+                    )?.as_str())?,
+                    Token::Text(raw) => {
+                        let value = text_value(alloc, *raw)?;
+                        told.push_str(format!(in alloc; "'{value}'")?.as_str())?;
+                    }
+                    Token::Sign(sign) => told.push_str(format!(in alloc; "{sign:?}")?.as_str())?,
+                }
                 told.push(';')?;
             }
             Ok(told)
@@ -60,15 +70,102 @@ fn sources_are_cut(rt: HostRuntime) -> Result<(), Fail> {
         ("{# a #} b #}", "# a #< b #}>"),
         ("{{}}{%%}{##}", "v1:b1:##"),
         ("{ { } }{", "<{ { } }{>"),
-        ("a{{{ x }}", "BadCharacter { line: 1 }"),
-        ("{{ a }}\n\r\n{{\n1 }}", "BadCharacter { line: 3 }"),
-        ("{{ a %}", "BadCharacter { line: 1 }"),
+        ("{{ a***-b }}", "v1:a;Power;Times;Minus;b;"),
+        ("{{ a<=b>==c }}", "v1:a;LessEqual;b;GreaterEqual;Assign;c;"),
+        ("{% a%%}", "b1:a;Percent;"),
+        ("{{ 0x1F + 0b1_0 }}", "v1:31;Plus;2;"),
+        (
+            "{{ 007 0b 1_ 1__0 0x 0_0 0O17}}",
+            "v1:0;7;0;b;1;_;1;__0;0;x;0;15;",
+        ),
+        ("{{ 9_223_372_036854775807 }}", "v1:9223372036854775807;"),
+        ("{{ 9223372036854775808 }}", "NumberTooLarge { line: 1 }"),
+        (
+            "{{\n0xfffffffffffffffffffff }}",
+            "NumberTooLarge { line: 1 }",
+        ),
+        (r#"{{ "\x41\103\d" }}"#, r"v1:'AC\d';"),
+        (
+            r#"{{ '\'"\\' "\12341" "\u00e9\U0001F600" }}"#,
+            "v1:''\"\\';'S41';'é😀';",
+        ),
+        ("{{ 'a\\\nb' \"a\nb\" }}", "v1:'ab';'a\nb';"),
+        (
+            r"{{ '\a\b\t\n\v\f\r' }}",
+            "v1:'\u{7}\u{8}\t\n\u{b}\u{c}\r';",
+        ),
+        (r#"{{ "\x4" }}"#, "BadEscape { line: 1 }"),
+        (r#"{{ "\ud800" }}"#, "BadEscape { line: 1 }"),
+        (r#"{{ "\U00110000" }}"#, "BadEscape { line: 1 }"),
+        (r#"{{ "\N{DASH}" }}"#, "BadEscape { line: 1 }"),
+        (r#"{{ "x }}"#, "UnclosedText { line: 1 }"),
+        (r#"{{ "x\" }}"#, "UnclosedText { line: 1 }"),
+        (r#"{{ "}}" }}"#, "v1:'}}';"),
+        (
+            r#"{{ {"a": {"b": 1}} }}"#,
+            "v1:LeftBrace;'a';Colon;LeftBrace;'b';Colon;1;RightBrace;RightBrace;",
+        ),
+        (
+            "{{ {{}}}}}",
+            "v1:LeftBrace;LeftBrace;RightBrace;RightBrace;<}>",
+        ),
+        (
+            "{% } %} {% {%} %}",
+            "b1:RightBrace;< >b1:LeftBrace;Percent;RightBrace;",
+        ),
+        ("{{ } }}", "v1:RightBrace;"),
+        ("{{ { }}", "UnclosedTag { line: 1 }"),
+        ("{{ a\u{a0}b }}", "BadCharacter { line: 1 }"),
+        ("{{ a/b }}", "BadCharacter { line: 1 }"),
+        ("{{ !a }}", "BadCharacter { line: 1 }"),
+        ("a{{{ x }}", "UnclosedTag { line: 1 }"),
+        ("{{ a }}\n\r\n{{\n? }}", "BadCharacter { line: 3 }"),
+        ("{{ a %}", "UnclosedTag { line: 1 }"),
         ("{{ a ", "UnclosedTag { line: 1 }"),
         ("\n{%", "UnclosedTag { line: 2 }"),
         ("\n\n{# #", "UnclosedTag { line: 3 }"),
     ];
     for (text, want) in rows {
         assert_eq!(rt; told(rt.alloc(), text)?.as_str(), want, "{text}");
+    }
+    Ok(())
+}
+
+/// A text with the same piece so many times behind its beginning.
+fn filled(
+    alloc: Global,
+    start: &str,
+    piece: &str,
+    times: u32,
+    end: &str,
+) -> Result<String, AllocError> {
+    let mut text = String::new(alloc);
+    text.push_str(start)?;
+    for _n in 0..times {
+        text.push_str(piece)?;
+    }
+    text.push_str(end)?;
+    Ok(text)
+}
+
+#[test]
+fn long_sources_are_answered(rt: HostRuntime) -> Result<(), Fail> {
+    let rows = [
+        ("{{ 1", "0", 1_000_000, "}}", "NumberTooLarge { line: 1 }"),
+        ("{{ 0", "_0", 500_000, "}}", "v1:0;"),
+        ("{{ ", "\"\"", 500_000, "", "UnclosedTag { line: 1 }"),
+        ("{{ '", "\\", 1_000_000, "", "UnclosedText { line: 1 }"),
+        ("{{ '", "\\x41", 250_000, "\\x4'}}", "BadEscape { line: 1 }"),
+        ("{{ ", "{", 1_000_000, "", "UnclosedTag { line: 1 }"),
+        ("{{ ", "} ", 500_000, "/", "BadCharacter { line: 1 }"),
+    ];
+    for (start, piece, times, end, want) in rows {
+        let text = filled(rt.alloc(), start, piece, times, end)?;
+        assert_eq!(rt;
+            told(rt.alloc(), text.as_str())?.as_str(),
+            want,
+            "{start}{piece}"
+        );
     }
     Ok(())
 }

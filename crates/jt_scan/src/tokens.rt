@@ -1,15 +1,21 @@
 //! The tokens of a tag.
 
-ghost use Rattle.std.specs.Prelude.{◌≡◌, ◌+◌, Ok, length, map, MatchResult};
+ghost use Rattle.std.specs.Prelude.{◌≡◌, ◌<◌, ◌+◌, ◌-◌, ◌^◌, ◌∷◌, true, false, Ok, length, map, MatchOption, MatchResult};
 ghost use Rattle.std.specs.Str.{chars};
 ghost use Rattle.jt_scan.specs.Cut as cut;
 ghost use Rattle.jt_scan.specs.Scanning as spec;
 ghost use Rattle.jt_scan.specs.View.{token_view, front_view};
 
 use crate::error::ScanError;
-use crate::segment::{Kind, Token};
+use crate::numbers::{digit_value, read_number};
+use crate::quotes::{has_meaning, is_quote, split_quoted};
+use crate::segment::{Kind, Sign, Token};
+use crate::signs::read_sign;
 use crate::text::{before, behind_name, behind_pair, behind_space, first, starts_name};
 use std::alloc::Global;
+
+/// The greatest number.
+const MAX_NUMBER: u64 = 9_223_372_036_854_775_807;
 
 /// What stands in front in a tag, where no whitespace does.
 #[derive(Clone, Copy)]
@@ -28,23 +34,101 @@ fn closer(kind: Kind) -> char
     }
 }
 
-/// What stands in front in a tag, and what is behind it.
-fn read_front<'a>(text: &'a str, kind: Kind, line: u32) -> Result<(Front<'a>, &'a str), ScanError>
+/// What is behind the tag's closer, where it is in front and no brace is open.
+fn behind_closer(text: &str, kind: Kind, depth: usize) -> Option<&str>
+    ensures { MatchOption result (cut.closes kind depth (chars text.now) ≡ false)
+        (λ rest. (cut.closes kind depth (chars text.now) ≡ true)
+        × (chars text.now ≡ cut.closer kind ∷ 125 ∷ chars rest.now)) }
+{
+    if depth == 0 {
+        behind_pair(text, closer(kind), '}')
+    } else {
+        None
+    }
+}
+
+/// The number whose first digit is given, and what is behind it.
+fn number_token(c: char, more: &str, line: u32) -> Result<(Token<'_>, &str), ScanError>
     ensures { MatchResult result
-        (λ p. spec.front_at kind line (chars text.now) ≡ Ok (front_view p.0, chars p.1.now))
-        (λ e. spec.IsGiven e (spec.front_at kind line (chars text.now))) }
+        (λ p. spec.numbered line (spec.number_at c (chars more.now)) ≡ Ok (token_view p.0, chars p.1.now))
+        (λ e. spec.IsGiven e (spec.numbered line (spec.number_at c (chars more.now)))) }
+{
+    let (number, rest) = read_number(c, more);
+    if number > MAX_NUMBER {
+        return Err(ScanError::NumberTooLarge { line });
+    }
+    Ok((Token::Number(number), rest))
+}
+
+/// The text whose first quote is given, and what is behind it.
+fn text_token(quote: char, more: &str, line: u32) -> Result<(Token<'_>, &str), ScanError>
+    ensures { MatchResult result
+        (λ p. spec.quoted line (spec.enclosed_at quote false (chars more.now))
+        ≡ Ok (token_view p.0, chars p.1.now))
+        (λ e. spec.IsGiven e (spec.quoted line (spec.enclosed_at quote false (chars more.now)))) }
+{
+    let Some((raw, rest)) = split_quoted(more, quote) else {
+        return Err(ScanError::UnclosedText { line });
+    };
+    if !has_meaning(raw) {
+        return Err(ScanError::BadEscape { line });
+    }
+    Ok((Token::Text(raw), rest))
+}
+
+/// The token in front, and what is behind it.
+fn read_token(text: &str, line: u32) -> Result<(Token<'_>, &str), ScanError>
+    ensures { MatchResult result
+        (λ p. spec.token_at line (chars text.now) ≡ Ok (token_view p.0, chars p.1.now))
+        (λ e. spec.IsGiven e (spec.token_at line (chars text.now))) }
 {
     let Some((c, more)) = first(text) else {
         return Err(ScanError::UnclosedTag { line });
     };
-    if let Some(rest) = behind_pair(text, closer(kind), '}') {
+    if starts_name(c) {
+        let rest = behind_name(more);
+        return Ok((Token::Name(before(text, rest)), rest));
+    }
+    if digit_value(c) < 10 {
+        return number_token(c, more, line);
+    }
+    if is_quote(c) {
+        return text_token(c, more, line);
+    }
+    match read_sign(text) {
+        Some((sign, rest)) => Ok((Token::Sign(sign), rest)),
+        None => Err(ScanError::BadCharacter { line }),
+    }
+}
+
+/// What stands in front in a tag where so many braces are open, and what is behind it.
+fn read_front(
+    text: &str,
+    kind: Kind,
+    depth: usize,
+    line: u32,
+) -> Result<(Front<'_>, &str), ScanError>
+    ensures { MatchResult result
+        (λ p. spec.front_at kind line depth (chars text.now) ≡ Ok (front_view p.0, chars p.1.now))
+        (λ e. spec.IsGiven e (spec.front_at kind line depth (chars text.now))) }
+{
+    if let Some(rest) = behind_closer(text, kind, depth) {
         return Ok((Front::Closer, rest));
     }
-    if !starts_name(c) {
-        return Err(ScanError::BadCharacter { line });
+    let (token, rest) = read_token(text, line)?;
+    Ok((Front::Token(token), rest))
+}
+
+/// How many braces are open behind a token, where so many were before it.
+fn braces(depth: usize, token: Token<'_>) -> usize
+    requires { depth < 2 ^ 64 - 1 }
+    ensures { result ≡ cut.braces depth (token_view token.entry) }
+{
+    match token {
+        Token::Sign(Sign::LeftBrace) => depth + 1,
+        Token::Sign(Sign::RightBrace) => depth.saturating_sub(1),
+        _ => depth,
     }
-    let rest = behind_name(more);
-    Ok((Front::Token(Token::Name(before(text, rest))), rest))
 }
 
 /// The tokens of a tag's inside up to its closer, and what is behind it.
@@ -54,19 +138,21 @@ pub fn read_tokens<'a>(
     kind: Kind,
     line: u32,
 ) -> Result<(Vec<Token<'a>>, &'a str), ScanError>
-    ensures { let outcome = spec.inside kind line (length (chars text.now) + 1) (chars text.now) in
+    ensures { let outcome = spec.inside kind line (length (chars text.now) + 1) 0 (chars text.now) in
         MatchResult result
         (λ p. outcome ≡ Ok (map token_view p.0.items, chars p.1.now))
         (λ e. spec.IsGiven e outcome) }
 {
     let mut tokens = Vec::new(alloc);
     let mut rest = text;
+    let mut depth = 0;
     'tokens: loop {
-        let (found, behind) = read_front(behind_space(rest), kind, line)?;
+        let (found, behind) = read_front(behind_space(rest), kind, depth, line)?;
         let Front::Token(token) = found else {
             return Ok((tokens, behind));
         };
         tokens.push(token)?;
+        depth = braces(depth, token);
         rest = behind;
     }
 }

@@ -10,22 +10,24 @@ use Rattle.std.proofs.lemmas.Bool.Decides.{nat_tests}
 use Rattle.jt_value.specs.Tree.{Tree}
 use Rattle.jt_parse.specs.Trees as trees
 use Rattle.jt_parse.specs.Trees.{Text, Body, Branches}
+use Rattle.jt_expr.specs.View as written
+use Rattle.jt_expr.specs.declared.tree.Expr.{Expr}
 use Rattle.jt_parse.specs.View as parsed
 use Rattle.jt_parse.proofs.Views as parse
 use Rattle.jt_parse.specs.declared.tree.Stmt.{Stmt}
 use Rattle.jt_parse.specs.declared.tree.Stmt.TheVariants as stmt
 use Rattle.jt_scopes.specs.Slots as slots
 use Rattle.jt_scopes.specs.Slots.{SBody, Program}
-use Rattle.jt_scopes.specs.Resolve.{expr_pool, stmt_pool, body_pool, branch_pool, body_names, ascending, slot_of, resolved_body, resolved_choice, program}
+use Rattle.jt_scopes.specs.Resolve.{expr_pool, row_pool, stmt_pool, body_pool, branch_pool, body_names, ascending, slot_of, resolved_body, resolved_choice, program}
 use Rattle.jt_scopes.specs.Names.{table}
-use Rattle.jt_scopes.specs.View.{Front, expr_view, stmt_view, body_view, choice_view}
-use Rattle.jt_scopes.specs.Scoped.{name_of, expr_in, stmt_in, body_in}
+use Rattle.jt_scopes.specs.View.{Front, expr_view, row_view, stmt_view, body_view, choice_view}
+use Rattle.jt_scopes.specs.Scoped.{name_of, expr_in, row_in, stmt_in, body_in}
 use Rattle.jt_scopes.specs.declared.program.SExpr.{SExpr}
 use Rattle.jt_scopes.specs.declared.program.SStmt.{SStmt}
 use Rattle.jt_scopes.specs.declared.program.SStmt.TheVariants as s
-use Rattle.jt_scopes.specs.declared.resolving.Scope.{Scope}
-use Rattle.jt_scopes.proofs.Gathered.{Branch, statements_left, branches_left}
-use Rattle.jt_scopes.proofs.Fronts.{SBranch, body_push, choice_push, choice_same, joined, view-If}
+use Rattle.jt_scopes.specs.declared.scope.Scope.{Scope}
+use Rattle.jt_scopes.proofs.Gathered.{Branch, row_left, statements_left, branches_left}
+use Rattle.jt_scopes.proofs.Fronts.{SBranch, row_push, body_push, choice_push, choice_same, joined, view-If}
 
 -- ---- slots
 
@@ -75,23 +77,23 @@ module _ (scope : Scope) where
 
   -- the branch in front of the later ones
   branch_joined : (b : Branch) (c' : SExpr) (d' : Vec SStmt Global) (p q p' : List Tree) (rest : Branches) (other : ℕ → Front)
-      → expr_view c' ≡ expr_in scope (parsed.expr_view b.1) (length p) → q ≡ p ++ expr_pool (parsed.expr_view b.1)
+      → expr_view c' ≡ expr_in scope (written.expr_view b.1) (length p) → q ≡ p ++ expr_pool (written.expr_view b.1)
       → ((z : SBody) → body_view (name_of scope) d'.items z ≡ body_in scope (parsed.body_view b.2.items) (length q) z) → p' ≡ q ++ body_pool (parsed.body_view b.2.items) → (z : SBody)
-      → joined (name_of scope) (b.0, c', d') (choice_in scope rest other (length p') slots.end) z ≡ choice_in scope (trees.branch b.0 (parsed.expr_view b.1) (parsed.body_view b.2.items) rest) other (length p) z
+      → joined (name_of scope) (b.0, c', d') (choice_in scope rest other (length p') slots.end) z ≡ choice_in scope (trees.branch b.0 (written.expr_view b.1) (parsed.body_view b.2.items) rest) other (length p) z
   branch_joined b c' d' p q p' rest other h e k f z =
-      let c = expr_pool (parsed.expr_view b.1) in
+      let c = expr_pool (written.expr_view b.1) in
       let d = body_pool (parsed.body_view b.2.items) in
       let first : length q ≡ length p + length c = ap length e ∙ length-append p c in
       let count : length p' ≡ length p + length c + length d = ap length f ∙ length-append q d ∙ ap (λ n. n + length d) first in
       let shown = λ (x : slots.SExpr) (body : SBody) (later : SBody). slots.stmt (slots.if_else (record { template = name_of scope; line = b.0 }) x body later) z in
       let last = λ (n : ℕ). choice_in scope rest other n slots.end in
-      let asked = expr_in scope (parsed.expr_view b.1) (length p) in
+      let asked = expr_in scope (written.expr_view b.1) (length p) in
       ap (λ x. shown x (body_view (name_of scope) d'.items slots.end) (last (length p'))) h
       ∙ ap (λ body. shown asked body (last (length p'))) (k slots.end ∙ ap (λ n. body_in scope (parsed.body_view b.2.items) n slots.end) first)
       ∙ ap (λ n. shown asked (body_in scope (parsed.body_view b.2.items) (length p + length c) slots.end) (last n)) count
 
   pub branch_built : (bs : List Branch) (i : ℕ) (b : Branch) (done : List SBranch) (c' : SExpr) (d' : Vec SStmt Global) (p q p' : List Tree) → i < length bs → b ≡ get_or bs i b
-      → expr_view c' ≡ expr_in scope (parsed.expr_view b.1) (length p) → q ≡ p ++ expr_pool (parsed.expr_view b.1)
+      → expr_view c' ≡ expr_in scope (written.expr_view b.1) (length p) → q ≡ p ++ expr_pool (written.expr_view b.1)
       → ((z : SBody) → body_view (name_of scope) d'.items z ≡ body_in scope (parsed.body_view b.2.items) (length q) z) → p' ≡ q ++ body_pool (parsed.body_view b.2.items)
       → (other : ℕ → Front) (behind : SBody)
       → choice_view (name_of scope) (done ++ (b.0, c', d') ∷ []) (choice_in scope (parsed.branches_view (drop (i + 1) bs)) other (length p')) behind ≡ choice_view (name_of scope) done (choice_in scope (parsed.branches_view (drop i bs)) other (length p)) behind
@@ -126,10 +128,10 @@ statement_pooled ss i x p p' lt at e =
     let rest = body_pool (parsed.body_view (drop (i + 1) ss)) in
     ap (λ l. l ++ rest) e ∙ append_assoc p (stmt_pool (parsed.stmt_view x)) rest ∙ ap (λ b. p ++ body_pool b) (sym (statements_left ss i x lt at))
 
-pub branch_pooled : (bs : List Branch) (i : ℕ) (b : Branch) (p q p' : List Tree) → i < length bs → b ≡ get_or bs i b → q ≡ p ++ expr_pool (parsed.expr_view b.1) → p' ≡ q ++ body_pool (parsed.body_view b.2.items)
+pub branch_pooled : (bs : List Branch) (i : ℕ) (b : Branch) (p q p' : List Tree) → i < length bs → b ≡ get_or bs i b → q ≡ p ++ expr_pool (written.expr_view b.1) → p' ≡ q ++ body_pool (parsed.body_view b.2.items)
     → p' ++ branch_pool (parsed.branches_view (drop (i + 1) bs)) ≡ p ++ branch_pool (parsed.branches_view (drop i bs))
 branch_pooled bs i b p q p' lt at e f =
-    let c = expr_pool (parsed.expr_view b.1) in
+    let c = expr_pool (written.expr_view b.1) in
     let d = body_pool (parsed.body_view b.2.items) in
     let rest = branch_pool (parsed.branches_view (drop (i + 1) bs)) in
     ap (λ l. l ++ rest) (f ∙ ap (λ l. l ++ d) e) ∙ append_assoc (p ++ c) d rest ∙ append_assoc p c (d ++ rest) ∙ ap (λ x. p ++ branch_pool x) (sym (branches_left bs i b lt at))
@@ -141,3 +143,25 @@ program_built t n escaping b names pool body e f g h =
     let made = λ (ns : List Text) (vs : List Tree) (x : SBody). let r : Program = record { names = ns; pool = vs; routines = record { parameters = 0; locals = 0; body = x } ∷ [] } in r in
     ap (made names pool) h ∙ ap (λ n. made names pool (resolved_body n escaping names b 0 slots.end)) e ∙ ap (λ ns. made ns pool (resolved_body t escaping ns b 0 slots.end)) f
     ∙ ap (λ vs. made (ascending (body_names b)) vs (resolved_body t escaping (ascending (body_names b)) b 0 slots.end)) g
+
+-- ---- expressions
+
+pub pooled_length : (p xs : List Tree) → length (p ++ xs) ≡ length p + length xs
+pooled_length p xs = length-append p xs
+
+pub row_built : (scope : Scope) (ts : List Expr) (i : ℕ) (t : Expr) (done : List SExpr) (y : SExpr) (p p' : List Tree) → i < length ts → t ≡ get_or ts i t
+    → expr_view y ≡ expr_in scope (written.expr_view t) (length p) → p' ≡ p ++ expr_pool (written.expr_view t)
+    → row_view (done ++ y ∷ []) (row_in scope (written.exprs_view (drop (i + 1) ts)) (length p')) ≡ row_view done (row_in scope (written.exprs_view (drop i ts)) (length p))
+row_built scope ts i t done y p p' lt is h e =
+    let rest = written.exprs_view (drop (i + 1) ts) in
+    let count : length p' ≡ length p + length (expr_pool (written.expr_view t)) = ap length e ∙ length-append p (expr_pool (written.expr_view t)) in
+    row_push done y (row_in scope rest (length p'))
+    ∙ ap (λ x. row_view done (slots.item x (row_in scope rest (length p')))) h
+    ∙ ap (λ n. row_view done (slots.item (expr_in scope (written.expr_view t) (length p)) (row_in scope rest n))) count
+    ∙ ap (λ r. row_view done (row_in scope r (length p))) (sym (row_left ts i t lt is))
+
+pub row_pooled : (ts : List Expr) (i : ℕ) (t : Expr) (p p' : List Tree) → i < length ts → t ≡ get_or ts i t → p' ≡ p ++ expr_pool (written.expr_view t)
+    → p' ++ row_pool (written.exprs_view (drop (i + 1) ts)) ≡ p ++ row_pool (written.exprs_view (drop i ts))
+row_pooled ts i t p p' lt is e =
+    let rest = row_pool (written.exprs_view (drop (i + 1) ts)) in
+    ap (λ l. l ++ rest) e ∙ append_assoc p (expr_pool (written.expr_view t)) rest ∙ ap (λ r. p ++ row_pool r) (sym (row_left ts i t lt is))

@@ -3,7 +3,7 @@ use Rattle.std.proofs.Common.{◌≡◌, ℕ, List, [], ◌∷◌, ◌++◌, map
 use Rattle.jt_parse.specs.Trees.{Text}
 use Rattle.jt_scopes.specs.Slots as slots
 use Rattle.jt_scopes.specs.Slots.{SBody}
-use Rattle.jt_scopes.specs.View.{Front, expr_view, body_front, choice_front, stmt_step, stmt_view, body_view, choice_view}
+use Rattle.jt_scopes.specs.View.{Front, expr_view, row_view, body_front, choice_front, stmt_step, stmt_view, body_view, choice_view}
 use Rattle.jt_scopes.specs.declared.program.SExpr.{SExpr}
 use Rattle.jt_scopes.specs.declared.program.SStmt.{SStmt, the_lemmas, fold-roll-SStmt}
 use Rattle.jt_scopes.specs.declared.program.SStmt.TheOpen.{SStmt-F}
@@ -51,3 +51,9 @@ module _ (template : Text) where
 
   pub view-PutPooled : (i : ℕ) (behind : SBody) → stmt_view template (s.PutPooled i) behind ≡ slots.stmt (slots.put_pooled i) behind
   view-PutPooled i behind = search (rules, the_lemmas)
+
+-- ---- rows
+
+pub row_push : (es : List SExpr) (x : SExpr) (behind : slots.SRow) → row_view (es ++ x ∷ []) behind ≡ row_view es (slots.item (expr_view x) behind)
+row_push [] x behind = refl
+row_push (e ∷ es) x behind = ap (slots.item (expr_view e)) (row_push es x behind)

@@ -17,13 +17,15 @@ use Rattle.std.specs.String.{string_eq}
 use denote.Ref.{Bor}
 use Rattle.jt_parse.specs.Trees as trees
 use Rattle.jt_parse.specs.Trees.{Text, Body, Branches}
+use Rattle.jt_expr.specs.Trees as expressions
+use Rattle.jt_expr.specs.View as written
 use Rattle.jt_parse.specs.View as parsed
-use Rattle.jt_parse.specs.declared.tree.Expr.{Expr}
+use Rattle.jt_expr.specs.declared.tree.Expr.{Expr}
 use Rattle.jt_parse.specs.declared.tree.Stmt.{Stmt}
 use Rattle.jt_parse.specs.declared.tree.Stmt.TheVariants.{If}
 use Rattle.jt_parse.proofs.Views.{view-If}
 use Rattle.jt_scopes.specs.Names.{texts}
-use Rattle.jt_scopes.specs.Resolve.{expr_names, stmt_names, body_names, branch_names, inserted, all_inserted}
+use Rattle.jt_scopes.specs.Resolve.{expr_names, row_names, pair_names, stmt_names, body_names, branch_names, inserted, all_inserted}
 
 symmetric : (x y : Text) → bytes_eq x y ≡ bytes_eq y x
 symmetric x y = nat_list_eq_equiv.symm x y
@@ -59,8 +61,8 @@ abbrev pub Branch : Type 0
 Branch = ℕ × Expr × Vec Stmt Global
 
 -- what is left of branches
-pub branches_left : (bs : List Branch) (i : ℕ) (b : Branch) → i < length bs → b ≡ get_or bs i b → parsed.branches_view (drop i bs) ≡ trees.branch b.0 (parsed.expr_view b.1) (parsed.body_view b.2.items) (parsed.branches_view (drop (i + 1) bs))
-branches_left bs i b lt is = ap parsed.branches_view (drop_more bs i b lt) ∙ ap (λ (z : Branch). trees.branch z.0 (parsed.expr_view z.1) (parsed.body_view z.2.items) (parsed.branches_view (drop (i + 1) bs))) (sym is)
+pub branches_left : (bs : List Branch) (i : ℕ) (b : Branch) → i < length bs → b ≡ get_or bs i b → parsed.branches_view (drop i bs) ≡ trees.branch b.0 (written.expr_view b.1) (parsed.body_view b.2.items) (parsed.branches_view (drop (i + 1) bs))
+branches_left bs i b lt is = ap parsed.branches_view (drop_more bs i b lt) ∙ ap (λ (z : Branch). trees.branch z.0 (written.expr_view z.1) (parsed.body_view z.2.items) (parsed.branches_view (drop (i + 1) bs))) (sym is)
 
 pub statement_added : (ss : List Stmt) (i : ℕ) (s : Stmt) (ns ns' : List Text) → i < length ss → s ≡ get_or ss i s → ns' ≡ all_inserted (stmt_names (parsed.stmt_view s)) ns
     → all_inserted (body_names (parsed.body_view (drop (i + 1) ss))) ns' ≡ all_inserted (body_names (parsed.body_view (drop i ss))) ns
@@ -69,11 +71,11 @@ statement_added ss i s ns ns' lt is e =
     ap (all_inserted rest) e ∙ sym (inserted_both (stmt_names (parsed.stmt_view s)) rest ns) ∙ ap (λ b. all_inserted (body_names b) ns) (sym (statements_left ss i s lt is))
 
 pub branch_added : (bs : List Branch) (i : ℕ) (b : Branch) (ns ns' : List Text) → i < length bs → b ≡ get_or bs i b
-    → ns' ≡ all_inserted (body_names (parsed.body_view b.2.items)) (all_inserted (expr_names (parsed.expr_view b.1)) ns)
+    → ns' ≡ all_inserted (body_names (parsed.body_view b.2.items)) (all_inserted (expr_names (written.expr_view b.1)) ns)
     → all_inserted (branch_names (parsed.branches_view (drop (i + 1) bs))) ns' ≡ all_inserted (branch_names (parsed.branches_view (drop i bs))) ns
 branch_added bs i b ns ns' lt is e =
     let rest = branch_names (parsed.branches_view (drop (i + 1) bs)) in
-    let first = expr_names (parsed.expr_view b.1) in
+    let first = expr_names (written.expr_view b.1) in
     let second = body_names (parsed.body_view b.2.items) in
     ap (all_inserted rest) e ∙ sym (inserted_both second rest (all_inserted first ns)) ∙ sym (inserted_both first (second ++ rest) ns)
     ∙ ap (λ c. all_inserted (branch_names c) ns) (sym (branches_left bs i b lt is))
@@ -126,3 +128,30 @@ slot_added ks xs x ys sorted e =
 pub any_text : (x : Text) (ks : List (String Global)) → list_any (λ k. bytes_eq x (string_bytes k)) ks ≡ list_any (bytes_eq x) (map string_bytes ks)
 any_text x [] = refl
 any_text x (k ∷ ks) = ap (λ b. bytes_eq x (string_bytes k) || b) (any_text x ks)
+
+-- ---- expressions
+
+pub both_inserted : (xs ys ns ms ns' : List Text) → ms ≡ all_inserted xs ns → ns' ≡ all_inserted ys ms → ns' ≡ all_inserted (xs ++ ys) ns
+both_inserted xs ys ns ms ns' e f = f ∙ ap (all_inserted ys) e ∙ sym (inserted_both xs ys ns)
+
+abbrev pub Entry : Type 0
+Entry = String Global × Expr
+
+-- what is left of a row, and of pairs
+pub row_left : (ts : List Expr) (i : ℕ) (t : Expr) → i < length ts → t ≡ get_or ts i t → written.exprs_view (drop i ts) ≡ expressions.expr (written.expr_view t) (written.exprs_view (drop (i + 1) ts))
+row_left ts i t lt is = ap written.exprs_view (drop_more ts i t lt) ∙ ap (λ (z : Expr). expressions.expr (written.expr_view z) (written.exprs_view (drop (i + 1) ts))) (sym is)
+
+pub pairs_left : (ps : List Entry) (i : ℕ) (p : Entry) → i < length ps → p ≡ get_or ps i p → written.pairs_view (drop i ps) ≡ expressions.pair (string_bytes p.0) (written.expr_view p.1) (written.pairs_view (drop (i + 1) ps))
+pairs_left ps i p lt is = ap written.pairs_view (drop_more ps i p lt) ∙ ap (λ (z : Entry). expressions.pair (string_bytes z.0) (written.expr_view z.1) (written.pairs_view (drop (i + 1) ps))) (sym is)
+
+pub expression_added : (ts : List Expr) (i : ℕ) (t : Expr) (ns ns' : List Text) → i < length ts → t ≡ get_or ts i t → ns' ≡ all_inserted (expr_names (written.expr_view t)) ns
+    → all_inserted (row_names (written.exprs_view (drop (i + 1) ts))) ns' ≡ all_inserted (row_names (written.exprs_view (drop i ts))) ns
+expression_added ts i t ns ns' lt is e =
+    let rest = row_names (written.exprs_view (drop (i + 1) ts)) in
+    ap (all_inserted rest) e ∙ sym (inserted_both (expr_names (written.expr_view t)) rest ns) ∙ ap (λ r. all_inserted (row_names r) ns) (sym (row_left ts i t lt is))
+
+pub entry_added : (ps : List Entry) (i : ℕ) (p : Entry) (ns ns' : List Text) → i < length ps → p ≡ get_or ps i p → ns' ≡ all_inserted (expr_names (written.expr_view p.1)) ns
+    → all_inserted (pair_names (written.pairs_view (drop (i + 1) ps))) ns' ≡ all_inserted (pair_names (written.pairs_view (drop i ps))) ns
+entry_added ps i p ns ns' lt is e =
+    let rest = pair_names (written.pairs_view (drop (i + 1) ps)) in
+    ap (all_inserted rest) e ∙ sym (inserted_both (expr_names (written.expr_view p.1)) rest ns) ∙ ap (λ r. all_inserted (pair_names r) ns) (sym (pairs_left ps i p lt is))

@@ -1,6 +1,6 @@
 -- A resolved template means what the template means.
-use Rattle.std.proofs.Common.{◌≡◌, ℕ, suc, ◌+◌, Bool, true, false, if◌then◌else◌, List, [], ◌∷◌, ◌++◌, length, ◌<◌, Some, None, refl, sym, ap, ◌∙◌, subst, arith, append_assoc, length-append, ◌⊎◌, inl, inr}
-use Rattle.std.specs.Prelude.{unwrap_or}
+use Rattle.std.proofs.Common.{◌≡◌, ℕ, zero, suc, ◌+◌, Bool, true, false, if◌then◌else◌, List, [], ◌∷◌, ◌++◌, length, ◌<◌, map, Option, Some, None, refl, sym, ap, ◌∙◌, subst, arith, append_assoc, append-nil, length-append, ◌⊎◌, inl, inr}
+use Rattle.std.specs.Prelude.{slice_get, unwrap_or}
 use Rattle.std.specs.Bool.{Decides}
 use Rattle.std.specs.Str.{bytes_eq}
 use Rattle.std.proofs.lemmas.Slice.Eq.{bytes_eq-Decides}
@@ -11,14 +11,26 @@ use Rattle.std.specs.Cmp.Lexicographic.{slice_cmp}
 use Rattle.jt_value.specs.Tree as tree
 use Rattle.jt_value.specs.Tree.{Tree}
 use Rattle.jt_value.specs.Pairs.{Pairs, look}
-use Rattle.jt_parse.specs.Trees.{Text, Expr, constant, name, Stmt, data_of, print, choose, Body, end, stmt, Branches, no_branches, branch}
-use Rattle.jt_scopes.specs.Env.{top}
-use Rattle.jt_scopes.specs.Got.{Place, Got, gives, fails, deeper, bind, at}
+use Rattle.jt_value.specs.declared.fault.Fault.{Fault}
+use Rattle.jt_ops.specs.declared.op_id.OpId.{OpId}
+use Rattle.jt_ops.specs.declared.op_id.OpId.TheVariants as op
+use Rattle.jt_ops.specs.declared.test_id.TestId.{TestId}
+use Rattle.jt_ops.specs.Operation as operators
+use Rattle.jt_ops.specs.Ranges.{ranged}
+use Rattle.jt_expr.specs.Trees as written
+use Rattle.jt_expr.specs.Trees.{Expr, constant, name, group, list_of, map_of, attribute, item, filter, test, unary, binary, when, choice, Exprs, no_exprs, expr, Pairs as Entries, no_pairs, pair}
+use Rattle.jt_ops.specs.Making.{listed, mapped}
+use Rattle.jt_scopes.specs.Operators.{unary_operation, Form, operation, negation, conjunction, disjunction, form, range_of}
+use Rattle.jt_scopes.specs.Tests.{test_named}
+use Rattle.jt_scopes.specs.Expressions.{literal, operated, asked, turned, either, combined, value, values, entries}
+use Rattle.jt_parse.specs.Trees.{Text, Stmt, data_of, print, choose, Body, end, stmt, Branches, no_branches, branch}
+use Rattle.jt_scopes.specs.Env.{Env, read, top}
+use Rattle.jt_scopes.specs.Got.{Place, Got, gives, fails, deeper, bind, checked, at}
 use Rattle.jt_scopes.specs.Meaning as meaning
-use Rattle.jt_scopes.specs.Meaning.{Around, State, Calls, literal, value, shown, put, meanings, chosen, performed, calls, mean}
+use Rattle.jt_scopes.specs.Meaning.{Around, State, Calls, shown, put, meanings, chosen, performed, calls, mean}
 use Rattle.jt_scopes.specs.Slots as slots
-use Rattle.jt_scopes.specs.Slots.{SBody, Memory, SCalls, value_at, svalue, smeaning, smeanings, globals_of, scalls, smean}
-use Rattle.jt_scopes.specs.Resolve.{expr_names, stmt_names, body_names, branch_names, inserted, all_inserted, ascending, slot_of, expr_pool, stmt_pool, body_pool, branch_pool, place, resolved_expr, resolved_stmt, resolved_body, resolved_choice, program}
+use Rattle.jt_scopes.specs.Slots.{SExpr, SRow, none, operator, a_list, a_map, made, SBody, Memory, SCalls, value_at, make, svalue, svalues, smeaning, smeanings, globals_of, scalls, smean}
+use Rattle.jt_scopes.specs.Resolve.{expr_names, row_names, pair_names, stmt_names, body_names, branch_names, inserted, all_inserted, ascending, slot_of, expr_pool, row_pool, pair_pool, stmt_pool, body_pool, branch_pool, place, count, operation_of, turned_round, tested_by, in_form, resolved_expr, resolved_row, resolved_pairs, resolved_stmt, resolved_body, resolved_choice, program}
 
 -- ---- names and their slots
 
@@ -149,9 +161,143 @@ module _ (template : Text) (escaping : Bool) (context : Pairs) (call : Calls) (s
   abbrev SameFrom : (State → Got State) → (Memory → Got Memory) → Type 0
   SameFrom f h = (out : Text) → Same (f (named out)) (h (slotted out))
 
-  values_same : (e : Expr) (n : ℕ) (out : Text) → AllAmong (expr_names e) names → PoolHas pool n (expr_pool e) → svalue pool scall (resolved_expr template escaping names e n) (slotted out) ≡ value e a (top context)
-  values_same (constant l) n out here has = ap gives has.0
-  values_same (name x) n out here has = ap gives (slot_holds context x names here.0)
+  -- the meanings of rows of one, of two and of more operands
+  abbrev One : Got Tree → Got (List Tree)
+  One g = bind g (λ v. bind (gives []) (λ vs. gives (v ∷ vs)))
+
+  abbrev Before : Got Tree → Got (List Tree) → Got (List Tree)
+  Before g h = bind g (λ v. bind h (λ vs. gives (v ∷ vs)))
+
+  on_one : (g : Got Tree) (f : List Tree → Got Tree) → bind (One g) f ≡ bind g (λ v. f (v ∷ []))
+  on_one (gives v) f = refl
+  on_one (fails e p) f = refl
+  on_one deeper f = refl
+
+  on_two : (g h : Got Tree) (f : List Tree → Got Tree) → bind (Before g (One h)) f ≡ bind g (λ v. bind h (λ w. f (v ∷ w ∷ [])))
+  on_two (gives v) (gives w) f = refl
+  on_two (gives v) (fails e p) f = refl
+  on_two (gives v) deeper f = refl
+  on_two (fails e p) h f = refl
+  on_two deeper h f = refl
+
+  -- the slots' value of an expression
+  abbrev seen : SExpr → Text → Got Tree
+  seen e out = svalue pool scall e (slotted out)
+
+  abbrev seen_row : SRow → Text → Got (List Tree)
+  seen_row es out = svalues pool scall es (slotted out)
+
+  two_same : (o : OpId) (e f : SExpr) (g h : Got Tree) (out : Text) → seen e out ≡ g → seen f out ≡ h → seen (operation_of o e f) out ≡ bind g (λ v. bind h (λ w. operated o (v ∷ w ∷ [])))
+  two_same o e f g h out p q = on_two (seen e out) (seen f out) (operated o) ∙ ap (λ x. bind x (λ v. bind (seen f out) (λ w. operated o (v ∷ w ∷ [])))) p ∙ ap (λ x. bind g (λ v. bind x (λ w. operated o (v ∷ w ∷ [])))) q
+
+  turned_same : (b : Bool) (e : SExpr) (g : Got Tree) (out : Text) → seen e out ≡ g → seen (turned_round b e) out ≡ turned b g
+  turned_same false e g out p = p
+  turned_same true e g out p = on_one (seen e out) (operated op.Not) ∙ ap (λ x. bind x (λ v. operated op.Not (v ∷ []))) p
+
+  asked_same : (t : Option TestId) (es : SRow) (g : Got (List Tree)) (out : Text) → seen_row es out ≡ g → seen (tested_by t es) out ≡ asked t g
+  asked_same None es g out p = refl
+  asked_same (Some t) es g out p = ap (λ x. asked (Some t) x) p
+
+  form_same : (f : Form) (e k : SExpr) (g h : Got Tree) (out : Text) → seen e out ≡ g → seen k out ≡ h → seen (in_form f e k) out ≡ combined f g h
+  form_same (operation o) e k g h out p q = two_same o e k g h out p q
+  form_same (negation o) e k g h out p q = turned_same true (operation_of o e k) (bind g (λ v. bind h (λ w. operated o (v ∷ w ∷ [])))) out (two_same o e k g h out p q)
+  form_same conjunction e k g h out p q = ap (λ x. bind x (λ v. if tree.truth v then seen k out else gives v)) p ∙ ap (λ x. bind g (λ v. if tree.truth v then x else gives v)) q
+  form_same disjunction e k g h out p q = ap (λ x. bind x (λ v. if tree.truth v then gives v else seen k out)) p ∙ ap (λ x. bind g (λ v. if tree.truth v then gives v else x)) q
+
+  before_same : (e : SExpr) (es : SRow) (g : Got Tree) (h : Got (List Tree)) (out : Text) → seen e out ≡ g → seen_row es out ≡ h → seen_row (slots.item e es) out ≡ Before g h
+  before_same e es g h out p q = ap (λ x. Before x (seen_row es out)) p ∙ ap (λ x. Before g x) q
+
+  choice_value_same : (c e k : SExpr) (f g h : Got Tree) (out : Text) → seen c out ≡ f → seen e out ≡ g → seen k out ≡ h → seen (slots.choice c e k) out ≡ either f g h
+  choice_value_same c e k f g h out p q r =
+      ap (λ x. bind x (λ v. if tree.truth v then seen e out else seen k out)) p
+      ∙ ap (λ x. bind f (λ v. if tree.truth v then x else seen k out)) q
+      ∙ ap (λ x. bind f (λ v. if tree.truth v then g else x)) r
+
+  -- an entry of a map: its key, and its value
+  entry_same : (g : Got Tree) (h : Got (List Tree)) (k : Tree) → Before (gives k) (Before g h) ≡ bind g (λ v. bind h (λ vs. gives (k ∷ v ∷ vs)))
+  entry_same (gives v) (gives vs) k = refl
+  entry_same (gives v) (fails e p) k = refl
+  entry_same (gives v) deeper k = refl
+  entry_same (fails e p) h k = refl
+  entry_same deeper h k = refl
+
+  -- `range` of any number of arguments
+  range_same : (n : ℕ) (vs : List Tree) → operators.operation (range_of n) vs ≡ ranged vs
+  range_same zero vs = refl
+  range_same (suc zero) vs = refl
+  range_same (suc (suc zero)) vs = refl
+  range_same (suc (suc (suc n))) vs = refl
+
+  ranges_same : (g : Got (List Tree)) (n : ℕ) → bind g (λ vs. checked (operators.operation (range_of n) vs)) ≡ bind g (λ vs. checked (ranged vs))
+  ranges_same (gives vs) n = ap checked (range_same n vs)
+  ranges_same (fails e p) n = refl
+  ranges_same deeper n = refl
+
+  mutual
+    values_same : (e : Expr) (n : ℕ) (out : Text) → AllAmong (expr_names e) names → PoolHas pool n (expr_pool e) → seen (resolved_expr template escaping names e n) out ≡ value escaping (top context) e
+    values_same (constant l) n out here has = ap gives has.0
+    values_same (name x) n out here has = ap gives (slot_holds context x names here.0)
+    values_same (group e) n out here has = values_same e n out here has
+    values_same (list_of ts) n out here has = ap (λ g. bind g (λ vs. checked (listed vs))) (row_same ts n out here has)
+    values_same (map_of ps) n out here has = ap (λ g. bind g (λ vs. checked (mapped vs))) (pairs_same ps n out here has)
+    values_same (attribute e k) n out here has =
+        let last = pool_back pool n (expr_pool e) (tree.text k ∷ []) has in
+        two_same op.Item (resolved_expr template escaping names e n) (slots.pooled (n + length (expr_pool e))) (value escaping (top context) e) (gives (tree.text k)) out
+        (values_same e n out here (pool_front pool n (expr_pool e) (tree.text k ∷ []) has)) (ap gives last.0)
+    values_same (item e i) n out here has =
+        two_same op.Item (resolved_expr template escaping names e n) (resolved_expr template escaping names i (n + length (expr_pool e))) (value escaping (top context) e) (value escaping (top context) i) out
+        (values_same e n out (among_front (expr_names e) (expr_names i) names here) (pool_front pool n (expr_pool e) (expr_pool i) has))
+        (values_same i (n + length (expr_pool e)) out (among_back (expr_names e) (expr_names i) names here) (pool_back pool n (expr_pool e) (expr_pool i) has))
+    values_same (written.call f ts ps) n out here has =
+        ap (λ g. bind g (λ vs. checked (operators.operation (range_of (count ts)) vs))) (row_same ts n out (among_front (row_names ts) (pair_names ps) names here) has)
+        ∙ ranges_same (values escaping (top context) ts) (count ts)
+    values_same (filter e x ts ps) n out here has = refl
+    values_same (test e t x ts ps) n out here has =
+        let back = among_back (expr_names e) (row_names ts ++ pair_names ps) names here in
+        turned_same t (tested_by (test_named x) (slots.item (resolved_expr template escaping names e n) (resolved_row template escaping names ts (n + length (expr_pool e)))))
+        (asked (test_named x) (Before (value escaping (top context) e) (values escaping (top context) ts))) out
+        (asked_same (test_named x) (slots.item (resolved_expr template escaping names e n) (resolved_row template escaping names ts (n + length (expr_pool e)))) (Before (value escaping (top context) e) (values escaping (top context) ts)) out
+        (before_same (resolved_expr template escaping names e n) (resolved_row template escaping names ts (n + length (expr_pool e))) (value escaping (top context) e) (values escaping (top context) ts) out
+        (values_same e n out (among_front (expr_names e) (row_names ts ++ pair_names ps) names here) (pool_front pool n (expr_pool e) (row_pool ts) has))
+        (row_same ts (n + length (expr_pool e)) out (among_front (row_names ts) (pair_names ps) names back) (pool_back pool n (expr_pool e) (row_pool ts) has))))
+    values_same (unary o e) n out here has =
+        on_one (seen (resolved_expr template escaping names e n) out) (operated (unary_operation o))
+        ∙ ap (λ x. bind x (λ v. operated (unary_operation o) (v ∷ []))) (values_same e n out here has)
+    values_same (binary o e f) n out here has =
+        form_same (form escaping o) (resolved_expr template escaping names e n) (resolved_expr template escaping names f (n + length (expr_pool e))) (value escaping (top context) e) (value escaping (top context) f) out
+        (values_same e n out (among_front (expr_names e) (expr_names f) names here) (pool_front pool n (expr_pool e) (expr_pool f) has))
+        (values_same f (n + length (expr_pool e)) out (among_back (expr_names e) (expr_names f) names here) (pool_back pool n (expr_pool e) (expr_pool f) has))
+    values_same (when c e) n out here has =
+        let rest = pool_back pool n (expr_pool c) (expr_pool e ++ tree.undefined ∷ []) has in
+        let last = pool_back pool (n + length (expr_pool c)) (expr_pool e) (tree.undefined ∷ []) rest in
+        choice_value_same (resolved_expr template escaping names c n) (resolved_expr template escaping names e (n + length (expr_pool c))) (slots.pooled (n + length (expr_pool c) + length (expr_pool e))) (value escaping (top context) c) (value escaping (top context) e) (gives tree.undefined) out
+        (values_same c n out (among_front (expr_names c) (expr_names e) names here) (pool_front pool n (expr_pool c) (expr_pool e ++ tree.undefined ∷ []) has))
+        (values_same e (n + length (expr_pool c)) out (among_back (expr_names c) (expr_names e) names here) (pool_front pool (n + length (expr_pool c)) (expr_pool e) (tree.undefined ∷ []) rest))
+        (ap gives last.0)
+    values_same (choice c e f) n out here has =
+        let rest = pool_back pool n (expr_pool c) (expr_pool e ++ expr_pool f) has in
+        let back = among_back (expr_names c) (expr_names e ++ expr_names f) names here in
+        choice_value_same (resolved_expr template escaping names c n) (resolved_expr template escaping names e (n + length (expr_pool c))) (resolved_expr template escaping names f (n + length (expr_pool c) + length (expr_pool e))) (value escaping (top context) c) (value escaping (top context) e) (value escaping (top context) f) out
+        (values_same c n out (among_front (expr_names c) (expr_names e ++ expr_names f) names here) (pool_front pool n (expr_pool c) (expr_pool e ++ expr_pool f) has))
+        (values_same e (n + length (expr_pool c)) out (among_front (expr_names e) (expr_names f) names back) (pool_front pool (n + length (expr_pool c)) (expr_pool e) (expr_pool f) rest))
+        (values_same f (n + length (expr_pool c) + length (expr_pool e)) out (among_back (expr_names e) (expr_names f) names back) (pool_back pool (n + length (expr_pool c)) (expr_pool e) (expr_pool f) rest))
+
+    row_same : (ts : Exprs) (n : ℕ) (out : Text) → AllAmong (row_names ts) names → PoolHas pool n (row_pool ts) → seen_row (resolved_row template escaping names ts n) out ≡ values escaping (top context) ts
+    row_same no_exprs n out here has = refl
+    row_same (expr e ts) n out here has =
+        before_same (resolved_expr template escaping names e n) (resolved_row template escaping names ts (n + length (expr_pool e))) (value escaping (top context) e) (values escaping (top context) ts) out
+        (values_same e n out (among_front (expr_names e) (row_names ts) names here) (pool_front pool n (expr_pool e) (row_pool ts) has))
+        (row_same ts (n + length (expr_pool e)) out (among_back (expr_names e) (row_names ts) names here) (pool_back pool n (expr_pool e) (row_pool ts) has))
+
+    pairs_same : (ps : Entries) (n : ℕ) (out : Text) → AllAmong (pair_names ps) names → PoolHas pool n (pair_pool ps) → seen_row (resolved_pairs template escaping names ps n) out ≡ entries escaping (top context) ps
+    pairs_same no_pairs n out here has = refl
+    pairs_same (pair k e ps) n out here has =
+        before_same (slots.pooled n) (slots.item (resolved_expr template escaping names e (n + 1)) (resolved_pairs template escaping names ps (n + 1 + length (expr_pool e)))) (gives (tree.text k)) (Before (value escaping (top context) e) (entries escaping (top context) ps)) out
+        (ap gives has.0)
+        (before_same (resolved_expr template escaping names e (n + 1)) (resolved_pairs template escaping names ps (n + 1 + length (expr_pool e))) (value escaping (top context) e) (entries escaping (top context) ps) out
+        (values_same e (n + 1) out (among_front (expr_names e) (pair_names ps) names here) (pool_front pool (n + 1) (expr_pool e) (pair_pool ps) has.1))
+        (pairs_same ps (n + 1 + length (expr_pool e)) out (among_back (expr_names e) (pair_names ps) names here) (pool_back pool (n + 1) (expr_pool e) (pair_pool ps) has.1)))
+        ∙ entry_same (value escaping (top context) e) (entries escaping (top context) ps) (tree.text k)
 
   -- a value that both have, and the rest
   then_same : (p : Place) (g : Got Tree) (f : Tree → Got State) (h : Tree → Got Memory) → ((v : Tree) → Same (f v) (h v)) → Same (bind (at p g) f) (bind (at p g) h)
@@ -208,7 +354,7 @@ module _ (template : Text) (escaping : Bool) (context : Pairs) (call : Calls) (s
         let q = rest (out ++ t) in
         (q.0, q.1, ap (λ v. smeanings pool scall behind (slotted (out ++ slots.bytes_of v))) has.0 ∙ q.2)
     stmt_same (print line e) n behind out f here has rest =
-        let q = printed_same (place template escaping names line) (value e a (top context)) out f (smeanings pool scall behind) rest in
+        let q = printed_same (place template escaping names line) (value escaping (top context) e) out f (smeanings pool scall behind) rest in
         (q.0, q.1, ap (λ g. bind (at (place template escaping names line) (bind g (λ v. bind (shown escaping v) (λ s. gives (record (slotted out) { out = out ++ s }))))) (smeanings pool scall behind)) (values_same e n out here has) ∙ q.2)
     stmt_same (choose bs other) n behind out f here has rest =
         choice_same bs (body_pool other) (meanings call other a) (resolved_body template escaping names other)
@@ -243,14 +389,14 @@ module _ (template : Text) (escaping : Bool) (context : Pairs) (call : Calls) (s
         let first = body_same body m slots.end out (λ st. gives st) (among_front (body_names body) (branch_names later) names names_rest) (pool_front pool m (body_pool body) (branch_pool later ++ other_pool) behind_c) nothing_more in
         let second = choice_same later other_pool other resolved_other others l slots.end out (λ st. gives st) (among_back (body_names body) (branch_names later) names names_rest) behind_b nothing_more in
         let p = place template escaping names line in
-        let q = then_same p (value c a (top context))
+        let q = then_same p (value escaping (top context) c)
         (λ v. bind (if tree.truth v then meanings call body a (named out) else chosen call later a (named out) other) f)
         (λ v. bind (if tree.truth v then smeanings pool scall yes (slotted out) else smeanings pool scall else_part (slotted out)) (smeanings pool scall behind))
         (λ v. either_same (tree.truth v) (meanings call body a (named out)) (chosen call later a (named out) other) (smeanings pool scall yes (slotted out)) (smeanings pool scall else_part (slotted out)) f (smeanings pool scall behind)
         (ended_same f (smeanings pool scall behind) (meanings call body a (named out)) (smeanings pool scall yes (slotted out)) (unbound (meanings call body a (named out)) (smeanings pool scall yes (slotted out)) first) rest)
         (ended_same f (smeanings pool scall behind) (chosen call later a (named out) other) (smeanings pool scall else_part (slotted out)) (unbound (chosen call later a (named out) other) (smeanings pool scall else_part (slotted out)) second) rest)) in (
           q.0,
-          bind_assoc (at p (value c a (top context))) (λ v. if tree.truth v then meanings call body a (named out) else chosen call later a (named out) other) f ∙ q.1,
+          bind_assoc (at p (value escaping (top context) c)) (λ v. if tree.truth v then meanings call body a (named out) else chosen call later a (named out) other) f ∙ q.1,
           bind_assoc (at p (svalue pool scall (resolved_expr template escaping names c n) (slotted out))) (λ v. if tree.truth v then smeanings pool scall yes (slotted out) else smeanings pool scall else_part (slotted out)) (smeanings pool scall behind)
               ∙ ap (λ g. bind (at p g) (λ v. bind (if tree.truth v then smeanings pool scall yes (slotted out) else smeanings pool scall else_part (slotted out)) (smeanings pool scall behind))) (values_same c n out names_c (pool_front pool n (expr_pool c) (body_pool body ++ (branch_pool later ++ other_pool)) has'))
               ∙ q.2,

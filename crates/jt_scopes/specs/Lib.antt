@@ -1,10 +1,16 @@
+pub mod Operators
+pub mod Tests
 pub mod Env
 pub mod Got
+pub mod Expressions
 pub mod Meaning
 pub mod Slots
 pub mod Resolve
+pub mod Size
+pub mod Takes
+pub mod Known
 pub mod View
 pub mod Names
 pub mod Rules
 pub mod Scoped
-pub mod Size
+pub mod Formed

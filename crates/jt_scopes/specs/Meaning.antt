@@ -1,12 +1,13 @@
 -- What expressions, statements and templates mean, by names.
-use Rattle.std.specs.Prelude.{ℕ, zero, suc, Bool, ◌++◌, [], Option, Some, None, if◌then◌else◌}
+use Rattle.std.specs.Prelude.{ℕ, zero, suc, Bool, List, ◌++◌, [], Option, Some, None, if◌then◌else◌}
 use Rattle.jt_value.specs.Tree as tree
 use Rattle.jt_value.specs.Tree.{Tree}
 use Rattle.jt_value.specs.Pairs.{Pairs}
 use Rattle.jt_value.specs.declared.fault.Fault.TheVariants as faults
 use Rattle.jt_escape.specs.Escaping.{escaped}
-use Rattle.jt_parse.specs.Trees.{Text, Literal, truth, nothing, Expr, constant, name, Stmt, data_of, print, choose, Body, end, stmt, Branches, no_branches, branch}
-use Rattle.jt_scopes.specs.Env.{Env, read, top}
+use Rattle.jt_scopes.specs.Expressions.{value}
+use Rattle.jt_parse.specs.Trees.{Text, Stmt, data_of, print, choose, Body, end, stmt, Branches, no_branches, branch}
+use Rattle.jt_scopes.specs.Env.{Env, top}
 use Rattle.jt_scopes.specs.Got.{Place, Got, gives, fails, deeper, bind, at}
 
 -- what stands around an expression or a statement in its template
@@ -31,16 +32,6 @@ Calls = Called → Got Text
 abbrev pub tag : Around → ℕ → Place
 tag a line = record { template = a.template; line = line }
 
--- ---- expressions
-
-abbrev pub literal : Literal → Tree
-literal (truth b) = tree.truth_value b
-literal nothing = tree.nothing
-
-abbrev pub value : Expr → Around → Env → Got Tree
-value (constant l) a env = gives (literal l)
-value (name x) a env = gives (read env x)
-
 -- ---- what printing gives: all but markup is escaped where escaping is on; a list or a map has no printed text
 
 abbrev pub shown_text : Bool → Option Text → Got Text
@@ -60,7 +51,7 @@ module _ (call : Calls) where
   abbrev mutual
     pub meaning : Stmt → Around → State → Got State
     meaning (data_of s) a st = gives (put st s)
-    meaning (print line e) a st = at (tag a line) (bind (value e a st.env) (λ v. bind (shown a.escaping v) (λ s. gives (put st s))))
+    meaning (print line e) a st = at (tag a line) (bind (value a.escaping st.env e) (λ v. bind (shown a.escaping v) (λ s. gives (put st s))))
     meaning (choose bs other) a st = chosen bs a st (meanings other a)
 
     pub meanings : Body → Around → State → Got State
@@ -71,7 +62,7 @@ module _ (call : Calls) where
     pub chosen : Branches → Around → State → (State → Got State) → Got State
     chosen no_branches a st other = other st
     chosen (branch line c body rest) a st other =
-        bind (at (tag a line) (value c a st.env)) (λ v. if tree.truth v then meanings body a st else chosen rest a st other)
+        bind (at (tag a line) (value a.escaping st.env c)) (λ v. if tree.truth v then meanings body a st else chosen rest a st other)
 
   -- a call that is carried out: the template's text, from its globals alone
   abbrev pub performed : Bool → Called → Got Text

@@ -1,15 +1,40 @@
 -- Resolved templates: each name is a slot of the globals, each literal and each piece of data a place in a pool of values.
-use Rattle.std.specs.Prelude.{ℕ, zero, suc, Bool, List, [], ◌∷◌, ◌++◌, map, Option, Some, None, unwrap_or, slice_get, if◌then◌else◌}
+use Rattle.std.specs.Prelude.{ℕ, zero, suc, Bool, List, [], ◌∷◌, ◌++◌, map, Option, Some, None, Result, unwrap_or, slice_get, if◌then◌else◌}
 use Rattle.jt_value.specs.Tree as tree
 use Rattle.jt_value.specs.Tree.{Tree}
 use Rattle.jt_value.specs.Pairs.{Pairs, look}
+use Rattle.jt_value.specs.declared.fault.Fault.{Fault}
+use Rattle.jt_ops.specs.declared.op_id.OpId.{OpId}
+use Rattle.jt_ops.specs.declared.test_id.TestId.{TestId}
+use Rattle.jt_ops.specs.Operation.{operation, as_truth}
+use Rattle.jt_ops.specs.Testing.{tested}
+use Rattle.jt_ops.specs.Making.{listed, mapped}
 use Rattle.jt_parse.specs.Trees.{Text}
-use Rattle.jt_scopes.specs.Got.{Place, Got, gives, deeper, bind, at}
+use Rattle.jt_scopes.specs.Got.{Place, Got, gives, fails, deeper, bind, checked, at}
 use Rattle.jt_scopes.specs.Meaning.{shown}
 
-pub data SExpr : Type 0 where
-  pooled : ℕ → SExpr
-  global : ℕ → SExpr
+-- what is made of a row of values
+pub data Maker : Type 0 where
+  operator : OpId → Maker
+  test : TestId → Maker
+  a_list : Maker
+  -- of keys and values in turn
+  a_map : Maker
+
+mutual
+  pub data SExpr : Type 0 where
+    pooled : ℕ → SExpr
+    global : ℕ → SExpr
+    made : Maker → SRow → SExpr
+    -- the first if it is false, else the second; the first if it is true, else the second
+    conjunction : SExpr → SExpr → SExpr
+    disjunction : SExpr → SExpr → SExpr
+    -- the second if the first is true, else the third
+    choice : SExpr → SExpr → SExpr → SExpr
+
+  pub data SRow : Type 0 where
+    none : SRow
+    item : SExpr → SRow → SRow
 
 mutual
   pub data SStmt : Type 0 where
@@ -54,10 +79,25 @@ bytes_of t = []
 abbrev pub SCalls : Type 0
 SCalls = ℕ → List Tree → List Tree → Got Memory
 
+abbrev pub make : Maker → List Tree → Result Tree Fault
+make (operator o) vs = operation o vs
+make (test t) vs = as_truth (tested t vs)
+make a_list vs = listed vs
+make a_map vs = mapped vs
+
 module _ (pool : List Tree) (call : SCalls) where
-  abbrev pub svalue : SExpr → Memory → Got Tree
-  svalue (pooled i) m = gives (value_at pool i)
-  svalue (global i) m = gives (value_at m.globals i)
+  abbrev mutual
+    pub svalue : SExpr → Memory → Got Tree
+    svalue (pooled i) m = gives (value_at pool i)
+    svalue (global i) m = gives (value_at m.globals i)
+    svalue (made k es) m = bind (svalues es m) (λ vs. checked (make k vs))
+    svalue (conjunction a b) m = bind (svalue a m) (λ v. if tree.truth v then svalue b m else gives v)
+    svalue (disjunction a b) m = bind (svalue a m) (λ v. if tree.truth v then gives v else svalue b m)
+    svalue (choice c a b) m = bind (svalue c m) (λ v. if tree.truth v then svalue a m else svalue b m)
+
+    pub svalues : SRow → Memory → Got (List Tree)
+    svalues none m = gives []
+    svalues (item e es) m = bind (svalue e m) (λ v. bind (svalues es m) (λ vs. gives (v ∷ vs)))
 
   abbrev mutual
     pub smeaning : SStmt → Memory → Got Memory

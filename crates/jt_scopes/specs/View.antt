@@ -4,16 +4,40 @@ use Rattle.std.specs.declared.alloc.Global.{Global}
 use Rattle.jt_value.specs.View.{view}
 use Rattle.jt_parse.specs.Trees.{Text}
 use Rattle.jt_scopes.specs.Slots as slots
-use Rattle.jt_scopes.specs.Slots.{SBody, Program}
-use Rattle.jt_scopes.specs.declared.program.SExpr.{SExpr}
-use Rattle.jt_scopes.specs.declared.program.SExpr.TheVariants as e
+use Rattle.jt_scopes.specs.Slots.{SRow, SBody, Program}
+use Rattle.jt_scopes.specs.declared.program.Maker.{Maker}
+use Rattle.jt_scopes.specs.declared.program.Maker.TheVariants as m
+use Rattle.jt_scopes.specs.declared.program.SExpr.{SExpr, fold-SExpr}
+use Rattle.jt_scopes.specs.declared.program.SExpr.TheOpen.{SExpr-F}
 use Rattle.jt_scopes.specs.declared.program.SStmt.{SStmt, fold-SStmt}
 use Rattle.jt_scopes.specs.declared.program.SStmt.TheOpen.{SStmt-F}
 use Rattle.jt_scopes.specs.declared.program.Resolved.{Resolved}
 
+abbrev pub maker_view : Maker → slots.Maker
+maker_view (m.Operator o) = slots.operator o
+maker_view (m.Test t) = slots.test t
+maker_view m.List = slots.a_list
+maker_view m.Map = slots.a_map
+
+-- expressions in front of a row
+abbrev pub row_front : List slots.SExpr → SRow → SRow
+row_front [] behind = behind
+row_front (e ∷ es) behind = slots.item e (row_front es behind)
+
+-- one expression, with each expression inside already seen
+abbrev pub expr_step : SExpr-F slots.SExpr → slots.SExpr
+expr_step (SExpr-F.Pooled i) = slots.pooled i
+expr_step (SExpr-F.Global i) = slots.global i
+expr_step (SExpr-F.Made k es) = slots.made (maker_view k) (row_front es.items slots.none)
+expr_step (SExpr-F.Conjunction a b) = slots.conjunction a.value b.value
+expr_step (SExpr-F.Disjunction a b) = slots.disjunction a.value b.value
+expr_step (SExpr-F.Choice c a b) = slots.choice c.value a.value b.value
+
 abbrev pub expr_view : SExpr → slots.SExpr
-expr_view (e.Pooled i) = slots.pooled i
-expr_view (e.Global i) = slots.global i
+expr_view = fold-SExpr slots.SExpr expr_step
+
+abbrev pub row_view : List SExpr → SRow → SRow
+row_view es = row_front (map expr_view es)
 
 -- what puts statements in front of others
 abbrev pub Front : Type 0

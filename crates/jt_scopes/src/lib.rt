@@ -2,13 +2,16 @@
 #![tactic(auto)]
 
 mod error;
+mod expressions;
+mod forms;
 mod names;
 mod program;
 mod resolving;
 mod rules;
+mod scope;
 #[cfg(test)]
 mod tests;
 
 pub use error::ScopeError;
-pub use program::{Resolved, SExpr, SStmt};
+pub use program::{Maker, Resolved, SExpr, SStmt};
 pub use resolving::resolve;

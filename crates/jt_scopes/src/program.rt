@@ -6,15 +6,37 @@ ghost use Rattle.jt_scopes.specs.Slots as slots;
 ghost use Rattle.jt_scopes.specs.View.{body_view, program_of, template_of};
 
 use indexmap::IndexSet;
+use jt_ops::{OpId, TestId};
 use jt_value::Value;
 
-/// An expression.
+/// What is made of a row of values.
 #[derive(Clone, Copy, Debug, PartialEq, Eq)]
+pub enum Maker {
+    /// What an operation gives.
+    Operator(OpId),
+    /// Whether a test holds.
+    Test(TestId),
+    /// The list of the values.
+    List,
+    /// The map of keys and values in turn.
+    Map,
+}
+
+/// An expression.
+#[derive(Drop)]
 pub enum SExpr {
     /// The value at a place of the pool.
     Pooled(usize),
     /// The global of a slot.
     Global(usize),
+    /// What is made of the values of a row.
+    Made(Maker, Vec<SExpr>),
+    /// The first if it is false, else the second.
+    Conjunction(Box<SExpr>, Box<SExpr>),
+    /// The first if it is true, else the second.
+    Disjunction(Box<SExpr>, Box<SExpr>),
+    /// The second if the first is true, else the third.
+    Choice(Box<SExpr>, Box<SExpr>, Box<SExpr>),
 }
 
 /// A statement. The lines are those of its tags.

@@ -3,7 +3,7 @@
 ghost use Rattle.std.specs.Prelude.{Some};
 
 use crate::error::ScopeError;
-use crate::program::{SExpr, SStmt};
+use crate::program::{Maker, SExpr, SStmt};
 use crate::resolving::resolve;
 use jt_inherit::{Chain, Library, chain};
 use jt_scan::Options;
@@ -37,13 +37,58 @@ fn chain_of(alloc: Global, text: &str, autoescape: bool) -> Result<Chain, Fail> 
     }
 }
 
-/// A place of the pool as `#n`, and a slot as `@n`.
-fn tell_expression(alloc: Global, told: &mut String, expression: SExpr) -> Result<(), AllocError> {
-    let word = match expression {
-        SExpr::Pooled(place) => format!(in alloc; "#{place}")?,
-        SExpr::Global(slot) => format!(in alloc; "@{slot}")?,
+/// What is made of a row, in a word: `o` and the id of an operation, `t` and that of a test, `l` or `m`.
+fn tell_maker(alloc: Global, told: &mut String, maker: Maker) -> Result<(), AllocError> {
+    let word = match maker {
+        Maker::Operator(op) => format!(in alloc; "o{}", op.id())?,
+        Maker::Test(test) => format!(in alloc; "t{}", test.id())?,
+        Maker::List => format!(in alloc; "l")?,
+        Maker::Map => format!(in alloc; "m")?,
     };
     told.push_str(word.as_str())
+}
+
+/// A place of the pool as `#n`, a slot as `@n`, and the others with what they hold in parentheses,
+/// `and` by `&`, `or` by `|` and a choice by `?`.
+fn tell_expression(alloc: Global, told: &mut String, expression: &SExpr) -> Result<(), AllocError> {
+    match expression {
+        SExpr::Pooled(place) => {
+            let word = format!(in alloc; "#{place}")?;
+            told.push_str(word.as_str())?;
+        }
+        SExpr::Global(slot) => {
+            let word = format!(in alloc; "@{slot}")?;
+            told.push_str(word.as_str())?;
+        }
+        SExpr::Made(maker, row) => {
+            tell_maker(alloc, told, *maker)?;
+            told.push('(')?;
+            for inside in row {
+                tell_expression(alloc, told, inside)?;
+            }
+            told.push(')')?;
+        }
+        SExpr::Conjunction(a, b) => {
+            told.push_str("&(")?;
+            tell_expression(alloc, told, a)?;
+            tell_expression(alloc, told, b)?;
+            told.push(')')?;
+        }
+        SExpr::Disjunction(a, b) => {
+            told.push_str("|(")?;
+            tell_expression(alloc, told, a)?;
+            tell_expression(alloc, told, b)?;
+            told.push(')')?;
+        }
+        SExpr::Choice(c, a, b) => {
+            told.push_str("?(")?;
+            tell_expression(alloc, told, c)?;
+            tell_expression(alloc, told, a)?;
+            tell_expression(alloc, told, b)?;
+            told.push(')')?;
+        }
+    }
+    Ok(())
 }
 
 /// Data as `<n>`, prints as `{e}` or, where they are escaped, `{!e}`, and an `if` as
@@ -57,13 +102,13 @@ fn tell(alloc: Global, told: &mut String, body: &[SStmt]) -> Result<(), AllocErr
             }
             SStmt::Print(_, escaping, expression) => {
                 told.push_str(if *escaping { "{!" } else { "{" })?;
-                tell_expression(alloc, told, *expression)?;
+                tell_expression(alloc, told, expression)?;
                 told.push('}')?;
             }
             SStmt::If(branches, other) => {
                 told.push('[')?;
                 for branch in branches.as_slice() {
-                    tell_expression(alloc, told, branch.1)?;
+                    tell_expression(alloc, told, &branch.1)?;
                     told.push('?')?;
                     tell(alloc, told, &branch.2)?;
                     told.push('|')?;
@@ -84,6 +129,8 @@ fn tell_value(told: &mut String, value: &Value) -> Result<(), AllocError> {
         Value::Bool(true) => told.push_str("T")?,
         Value::Bool(false) => told.push_str("F")?,
         Value::None => told.push_str("N")?,
+        Value::Int(1) => told.push_str("1")?,
+        Value::Undefined => told.push_str("U")?,
         _ => told.push_str("?")?,
     }
     told.push(',')?;
@@ -135,7 +182,7 @@ fn templates_are_resolved(rt: HostRuntime) -> Result<(), Fail> {
             "t:a,b,;1,2,;[@0?[@1?|:<0>]|:]<1>",
         ),
         ("{{ loop }}", "V1 LoopOutside"),
-        ("{{ range }}{{ loop }}", "V1 LoopOutside"),
+        ("{{ range }}{{ loop }}", "V3 NotCallable"),
         ("{% if false %}{{ self }}{% endif %}", "V3 NotCallable"),
         ("{% if super %}{% endif %}", "V3 NotCallable"),
         (
@@ -143,6 +190,22 @@ fn templates_are_resolved(rt: HostRuntime) -> Result<(), Fail> {
             "V3 NotCallable",
         ),
         ("{{ loops }}", "t:loops,;;{!@0}"),
+        ("{{ a and b or c }}", "t:a,b,c,;;{!|(&(@0@1)@2)}"),
+        ("{{ a not in b }}", "t:a,b,;;{!o8(o17(@0@1))}"),
+        ("{{ a ~ 1 }}", "t:a,;1,;{!o10(@0#0)}"),
+        ("{{ [b, a.k] }}", "t:a,b,;k,;{!l(@1o18(@0#0))}"),
+        ("{{ {'k': a} }}", "t:a,;k,;{!m(#0@0)}"),
+        ("{{ a if b }}", "t:a,b,;U,;{!?(@1@0#0)}"),
+        ("{{ range(a, 1) }}", "t:a,;1,;{!o20(@0#0)}"),
+        ("{{ a is not divisibleby 1 }}", "t:a,;1,;{!o8(t2(@0#0))}"),
+        ("{{ loop.cycle(1) }}", "V1 LoopOutside"),
+        ("{{ f(1) }}", "V3 NotCallable"),
+        ("{{ self.b() }}", "V3 NotCallable"),
+        ("{{ range() }}", "V4 BadArguments"),
+        ("{{ range(1, 1, 1, 1) }}", "V4 BadArguments"),
+        ("{{ range(stop=1) }}", "V4 BadArguments"),
+        ("{{ a is odd(1) }}", "V4 BadArguments"),
+        ("{{ a is divisibleby(num=1) }}", "V4 BadArguments"),
     ];
     for (text, want) in rows {
         assert_eq!(rt; told(rt.alloc(), text, true)?.as_str(), want, "{text}");

@@ -1,3 +1,4 @@
 pub mod Tables
 pub mod Following
 pub mod Refused
+pub mod Popping

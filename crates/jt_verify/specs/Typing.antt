@@ -3,7 +3,7 @@ use Rattle.std.specs.Prelude.{◌≡◌, ℕ, ◌<◌, List, [], ◌∷◌, ◌+
 use Rattle.std.specs.List.{AllByRecursion}
 use Rattle.jt_image.specs.declared.kind.Flaw.{Flaw}
 use Rattle.jt_image.specs.Effect as effects
-use Rattle.jt_image.specs.Effect.{Shape}
+use Rattle.jt_image.specs.Effect.{Shape, pops_many}
 use Rattle.jt_verify.specs.declared.typing.Leads.{Leads}
 use Rattle.jt_verify.specs.declared.typing.EffectError.{EffectError}
 use Rattle.jt_verify.specs.declared.typing.EffectError.TheVariants as errors
@@ -21,6 +21,12 @@ abbrev pub EffectGives : Shape → Result Leads EffectError → Result effects.L
 EffectGives s (Ok l) effect = effect ≡ Ok (record { shape = s; points = points_of l })
 EffectGives s (Err (errors.Flaw f)) effect = effect ≡ Err f
 EffectGives s (Err errors.NoMemory) effect = Unit {0}
+
+-- r is what is below that many values, or the flaw is named; want of memory says nothing
+abbrev pub PopsMany : ℕ → Shape → Shape → Result (Unit {0}) EffectError → Type 0
+PopsMany n s r (Ok u) = (go : Shape → Result effects.Leads Flaw) → pops_many n s go ≡ go r
+PopsMany n s r (Err (errors.Flaw f)) = (go : Shape → Result effects.Leads Flaw) → pops_many n s go ≡ Err f
+PopsMany n s r (Err errors.NoMemory) = Unit {0}
 
 -- the points lie in a code of so many instructions
 abbrev pub AreWithin : ℕ → Leads → Type 0

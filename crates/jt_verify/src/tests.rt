@@ -1,6 +1,6 @@
 //! Small images, accepted and refused.
 use super::*;
-use jt_image::{Code, Flaw, Image, decode};
+use jt_image::{Code, Constant, Flaw, Image, Instr, Parts, Unit, assemble, decode};
 use std::alloc::{AllocError, Global};
 use std::test::*;
 
@@ -166,6 +166,75 @@ fn entries_are_counted_on_arrival(rt: HostRuntime) -> Result<(), Fail> {
         lines.push((RETURN, 0))?;
         let bytes = bytes_of(rt.alloc(), &lines, &[(RETURN, 0)])?;
         assert_eq!(rt; refusal_of(rt.alloc(), decode(rt.alloc(), &bytes)?), want);
+    }
+    Ok(())
+}
+
+// The fields of Const 0.
+const A_CONSTANT: (u8, u8, u16, u32) = (1, 0, 0, 0);
+
+// The image that puts some constants on the stack, carries out one instruction, and drops what it gives.
+fn image_of(alloc: Global, constants: usize, fields: (u8, u8, u16, u32)) -> Result<Image, Fail> {
+    let mut code = Vec::new(alloc);
+    for _ in 0..constants {
+        code.push(instr(A_CONSTANT))?;
+    }
+    code.push(instr(fields))?;
+    code.push(instr((DROP, 0, 0, 0)))?;
+    code.push(instr((RETURN, 0, 0, 0)))?;
+    let unit = Unit {
+        parameters: 0,
+        kind: 0,
+        locals: 0,
+        code,
+    };
+    let parts = Parts {
+        globals: 0,
+        names: Vec::new(alloc),
+        constants: vec![in alloc; Constant::Undefined]?,
+        units: vec![in alloc; unit]?,
+    };
+    Ok(assemble(alloc, parts).ok().ok_or("the parts are a code")?)
+}
+
+fn instr(fields: (u8, u8, u16, u32)) -> Instr {
+    let (op, a, b, c) = fields;
+    Instr { op, a, b, c }
+}
+
+#[test]
+fn operands_are_counted(rt: HostRuntime) -> Result<(), Fail> {
+    for (constants, fields, want) in [
+        (1, (13, 8, 0, 0), None),
+        (2, (13, 0, 0, 0), None),
+        (1, (13, 0, 0, 0), Some(Flaw::MissingOperand)),
+        (3, (13, 21, 0, 0), None),
+        (2, (13, 21, 0, 0), Some(Flaw::MissingOperand)),
+        (3, (13, 22, 0, 0), Some(Flaw::BadIndex)),
+        (1, (15, 6, 1, 0), None),
+        (2, (15, 2, 2, 0), None),
+        (2, (15, 6, 2, 0), Some(Flaw::BadIndex)),
+        (1, (15, 6, 0, 0), Some(Flaw::BadIndex)),
+        (1, (15, 20, 1, 0), Some(Flaw::BadIndex)),
+        (0, (16, 0, 0, 0), None),
+        (3, (16, 0, 0, 3), None),
+        (2, (16, 0, 0, 3), Some(Flaw::MissingOperand)),
+        (2, (16, 0, 0, u32::MAX), Some(Flaw::MissingOperand)),
+        (0, (17, 0, 0, 0), None),
+        (4, (17, 0, 0, 2), None),
+        (3, (17, 0, 0, 2), Some(Flaw::MissingOperand)),
+        (3, (17, 0, 0, u32::MAX), Some(Flaw::MissingOperand)),
+    ] {
+        let want = match want {
+            Some(flaw) => Some(Refusal::Flaw {
+                flaw,
+                unit: 0,
+                point: constants,
+            }),
+            None => None,
+        };
+        let image = image_of(rt.alloc(), constants, fields)?;
+        assert_eq!(rt; refusal_of(rt.alloc(), image), want);
     }
     Ok(())
 }

@@ -1,14 +1,17 @@
 //! What an instruction does to a shape, and where it leads.
-ghost use Rattle.std.specs.Prelude.{◌≡◌, ◌<◌, ◌≤◌, List, length, Err, IfOk, slice_get};
+ghost use Rattle.std.specs.Prelude.{◌≡◌, ◌<◌, ◌≤◌, List, length, Err, IfOk, OnOk, option_map, slice_get};
 ghost use Rattle.jt_image.specs.Code.{Section, is_text as is_text_of};
-ghost use Rattle.jt_image.specs.Effect.{goes_on as goes_on_of, jumps as jumps_of, branches as branches_of, may_return as may_return_of, effect as effect_of};
+ghost use Rattle.jt_image.specs.Effect.{goes_on as goes_on_of, makes as makes_of, jumps as jumps_of, branches as branches_of, may_return as may_return_of, effect as effect_of};
+ghost use Rattle.jt_image.specs.Ids.{operator_of, test_of, takes as takes_of};
 ghost use Rattle.jt_image.specs.Readers.{header_of};
 ghost use Rattle.jt_image.specs.Typed.{max_entries};
 ghost use Rattle.jt_image.specs.declared.kind.Kind.{Kind};
-ghost use Rattle.jt_verify.specs.Typing.{EffectGives, AreWithin};
+ghost use Rattle.jt_ops.specs.OpTable.{op_operands};
+ghost use Rattle.jt_verify.specs.Typing.{EffectGives, AreWithin, PopsMany};
 
 use crate::shape::Shape;
 use jt_image::{Code, ConstantRef, Flaw, Instruction, Kind, UnitHeader};
+use jt_ops::{OpId, TestId};
 use jt_value::NoMemory;
 use std::alloc::Global;
 
@@ -86,6 +89,68 @@ fn branches(header: &UnitHeader, point: usize, target: u32) -> Result<Leads, Eff
         next: Some(point + 1),
         target: Some(target as usize),
     })
+}
+
+// Takes that many values off the top.
+fn pop_values(shape: &mut Shape, count: usize) -> Result<(), EffectError>
+    ensures pops { PopsMany count shape.old shape.new result }
+    ensures small { OnOk result (length shape.new ≤ length shape.old) }
+{
+    'values: for _ in 0..count {
+        shape.pop_value()?;
+    }
+    Ok(())
+}
+
+// One value in place of that many, to the next instruction.
+fn makes(
+    alloc: Global,
+    header: &UnitHeader,
+    point: usize,
+    count: usize,
+    shape: &mut Shape,
+) -> Result<Leads, EffectError>
+    requires point { point < header.now.instructions }
+    requires small { length shape.old ≤ max_entries }
+    ensures within { IfOk result (λ l. AreWithin header.now.instructions l) }
+    ensures gives { (u : Section) → header.now ≡ header_of u → EffectGives shape.new result (makes_of u point count shape.old) }
+{
+    pop_values(shape, count)?;
+    shape.push(alloc, Kind::Value)?;
+    goes_on(header, point)
+}
+
+// How many operands an operator takes.
+fn operands(operator: OpId) -> usize
+    ensures { result ≡ op_operands operator }
+{
+    if operator.takes(1) {
+        1
+    } else if operator.takes(2) {
+        2
+    } else {
+        3
+    }
+}
+
+// How many operands the operator of an id takes, if there is one.
+fn operands_of(operator: u8) -> Option<usize>
+    ensures { result ≡ option_map op_operands (operator_of operator) }
+{
+    match OpId::by_id(operator) {
+        Some(operator) => Some(operands(operator)),
+        None => None,
+    }
+}
+
+// Whether there is a test of the id, and it takes that many values.
+fn takes(test: u8, values: u16) -> bool
+    ensures { result ≡ takes_of (test_of test) values }
+{
+    match TestId::by_id(test) {
+        Some(test) => test.takes(usize::from(values)),
+        None => false,
+    }
 }
 
 // Whether a unit of this kind may return with the shape.
@@ -178,6 +243,22 @@ pub(crate) fn effect<C: Code>(
         Instruction::JumpIfTrue { target } => {
             shape.pop_value()?;
             branches(header, point, target)
+        }
+        Instruction::Op { operator } => {
+            let Some(count) = operands_of(operator) else {
+                return bad_index();
+            };
+            makes(alloc, header, point, count, shape)
+        }
+        Instruction::Test { test, values } => {
+            if !takes(test, values) {
+                return bad_index();
+            }
+            makes(alloc, header, point, usize::from(values), shape)
+        }
+        Instruction::MakeList { items } => makes(alloc, header, point, items as usize, shape),
+        Instruction::MakeMap { entries } => {
+            makes(alloc, header, point, 2 * entries as usize, shape)
         }
         Instruction::Return => {
             if !may_return(header.kind, shape) {

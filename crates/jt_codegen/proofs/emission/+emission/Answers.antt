@@ -3,8 +3,8 @@ use Rattle.std.proofs.lemmas.Result.{err_from_is_err_and}
 use Rattle.jt_image.specs.declared.instruction.Instruction.TheVariants as op
 use Rattle.jt_scopes.specs.View.{body_view}
 use Rattle.jt_codegen.specs.Asm.{one}
-use Rattle.jt_codegen.specs.Emission.{Emitted, Opens, closed}
-use Rattle.jt_codegen.proofs.Patched.{emits_more, emits_refused, emits_all, opens_more, opens_all, opens_refused, branch_opens, begun_within, ends_within, begin_refused, body_refused, end_refused, data_emits, print_emits, if_emits, if_refused, branches_refused, other_refused, close_refused}
+use Rattle.jt_codegen.specs.Emission.{Emitted, Refuses, Opens, closed}
+use Rattle.jt_codegen.proofs.Patched.{emits_more, emits_refused, emits_all, opens_more, opens_all, opens_refused, branch_opens, begun_within, ends_within, begin_refused, body_refused, end_refused, data_emits, print_emits, print_refused, print_end_refused, if_emits, if_refused, branches_refused, other_refused, close_refused}
 use Rattle.jt_codegen.proofs.emission.+emission.Goals as goal
 
 -- ---- statements
@@ -132,3 +132,20 @@ emit_statement-returns-in_err-close-in-If-clause-refused t c =
     rw (p.1, p.2)
     (λ template. if_refused template x (length old) c.args.statement.now c.in-If.branches c.in-If.other bs c.deref-in-If.result.now c.in-If.is c.deref-condition-items.ensures.value c.deref-in-If.ensures.value
     (close_refused template x bs (body_view template c.deref-in-If.result.now) old l.code.items c.emit_statements-in-If.new.code.items l.ends.items (opens_all template bs l.condition-index old l.code.items l.ends.items (omega arith) (l.invariant template)) (c.in_ok-emit_statements-in-If-2.ensures.emitted template) c.in_err-close-in-If.ensures.refused.0 c.in_err-close-in-If.ensures.refused.1))
+
+pub emit_statement-returns-in_err-emit_expression-in-Print-clause-refused : goal.emit_statement-returns-in_err-emit_expression-in-Print-clause-refused
+emit_statement-returns-in_err-emit_expression-in-Print-clause-refused t c =
+    let x = c.in_err-emit_expression-in-Print.field-0.0 in
+    let p = err_from_is_err_and c.from_residual-in_err-emit_expression-in-Print.result c.from_residual-in_err-emit_expression-in-Print.ensures.1 in
+    rw (p.1, p.2)
+    (λ template. print_refused template x (length c.args.code.now.items) c.args.statement.now c.in-Print.field-0 c.in-Print.escaping c.in-Print.expr c.in-Print.is c.in_err-emit_expression-in-Print.ensures.refused)
+
+pub emit_statement-returns-in_err-put-in-Print-clause-refused : goal.emit_statement-returns-in_err-put-in-Print-clause-refused
+emit_statement-returns-in_err-put-in-Print-clause-refused t c =
+    let x = c.in_err-put-in-Print.field-0.0 in
+    let old = c.args.code.now.items in
+    let now = c.emit_expression.new.code.items in
+    let p = err_from_is_err_and c.from_residual-in_err-put-in-Print.result c.from_residual-in_err-put-in-Print.ensures.1 in
+    let r = subst (λ n. Refuses x (length now) (one (op.Emit n))) c.flag-printed.ensures c.in_err-put-in-Print.ensures.refused in
+    rw (p.1, p.2)
+    (λ template. print_end_refused template x old now c.args.statement.now c.in-Print.field-0 c.in-Print.escaping c.in-Print.expr c.in-Print.is c.in_ok-emit_expression-in-Print.ensures.emitted r)

@@ -3,7 +3,7 @@ use Rattle.jt_value.specs.ContextView.{pairs_of}
 use Rattle.jt_image.specs.Run.{next, Goes, Ends, passed}
 use Rattle.jt_image.proofs.Runs.{start_good}
 use Rattle.jt_machine.specs.View.{budget_view, config_view, outcome_view, entries_view}
-use Rattle.jt_machine.proofs.Steps.{ending_now, ending_back, goes_good, goes_down, not_wrong, sizes}
+use Rattle.jt_machine.proofs.Steps.{ending_now, ending_back, goes_good, goes_down, not_wrong, sizes, few_entries}
 use Rattle.jt_machine.proofs.runs.run_code.Goals as goal
 
 pub steps-init : goal.steps-init
@@ -19,6 +19,9 @@ step-requires-clause-not_wrong g c = not_wrong (g.C.Code.code c.args.code.now) (
 
 pub step-requires-clause-sized : goal.step-requires-clause-sized
 step-requires-clause-sized g c = sizes c.steps.state.left.size (entries_view c.steps.state.entries.items) c.steps.invariant.good.sized
+
+pub step-requires-clause-few : goal.step-requires-clause-few
+step-requires-clause-few g c = few_entries (g.C.Code.code c.args.code.now) (config_view c.steps.state) c.steps.invariant.good
 
 pub steps-preserved : goal.steps-preserved
 steps-preserved g c =

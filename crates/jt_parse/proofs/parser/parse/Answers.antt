@@ -1,17 +1,20 @@
-use Rattle.jt_parse.proofs.Answers.{answer_spelled, answer_only, answer_refused, answer_weighs, answer_short}
+use Rattle.jt_parse.proofs.Answers.{answer_spelled, answer_known, answer_only, answer_refused, answer_weighs, answer_short}
 use Rattle.jt_parse.proofs.parser.parse.Goals as goal
 
 pub returns-clause-spelled : goal.returns-clause-spelled
-returns-clause-spelled c = answer_spelled _ _ c.read.ensures
+returns-clause-spelled c = answer_spelled _ _ c.read_known.ensures
+
+pub returns-clause-known : goal.returns-clause-known
+returns-clause-known c = answer_known _ _ c.read_known.ensures
 
 pub returns-clause-only : goal.returns-clause-only
-returns-clause-only c = answer_only _ _ c.read.ensures
+returns-clause-only c = answer_only _ _ c.read_known.ensures
 
 pub returns-clause-refused : goal.returns-clause-refused
-returns-clause-refused c = answer_refused _ _ c.read.ensures
+returns-clause-refused c = answer_refused _ _ c.read_known.ensures
 
 pub returns-clause-weighs : goal.returns-clause-weighs
-returns-clause-weighs c = answer_weighs _ _ c.read.ensures
+returns-clause-weighs c = answer_weighs _ _ c.read_known.ensures
 
 pub returns-clause-short : goal.returns-clause-short
-returns-clause-short c = answer_short _ _ c.read.ensures
+returns-clause-short c = answer_short _ _ c.read_known.ensures

@@ -1,27 +1,18 @@
-use Rattle.std.proofs.Common.{◌≡◌, ◌∷◌, false, ap, sym, subst, ◌∙◌}
+use Rattle.std.proofs.Common.{rules}
 use Rattle.std.specs.Str.{chars}
-use Rattle.jt_scan.specs.Cut as cut
-use Rattle.jt_scan.proofs.Turns.{front_ended, front_closed, front_bad, name_end, front_named}
+use Rattle.jt_scan.specs.Scanning.{front_at, IsGiven}
+use Rattle.jt_scan.specs.View.{token_view}
+use Rattle.jt_scan.proofs.Turns.{front_closed, front_spelled, front_refused}
 use Rattle.jt_scan.proofs.tokens.read_front.Goals as goal
 
-pub returns-in_default : goal.returns-in_default
-returns-in_default c = front_ended c.args.kind c.args.line (chars c.args.text.now) c.in_default.ensures
+pub returns-in-Some : goal.returns-in-Some
+returns-in-Some c = front_closed c.args.kind c.args.line c.args.depth (chars c.args.text.now) (chars c.in-Some.rest.now) c.in-Some.ensures.0 c.in-Some.ensures.1
 
-pub returns-in-Some-behind_pair : goal.returns-in-Some-behind_pair
-returns-in-Some-behind_pair c =
-    front_closed c.args.kind c.args.line (chars c.args.text.now) (chars c.in-Some-behind_pair.rest.now)
-    (c.in-Some-behind_pair.ensures ∙ ap (λ d. d ∷ 125 ∷ chars c.in-Some-behind_pair.rest.now) c.closer.ensures)
-
-pub returns-then-not-starts_name : goal.returns-then-not-starts_name
-returns-then-not-starts_name c =
-    front_bad c.args.kind c.args.line c.in-Some.c (chars c.args.text.now) (chars c.in-Some.more.now) c.in-Some.ensures
-    (subst (λ d. cut.begins d 125 (chars c.args.text.now) ≡ false) c.closer.ensures c.in_default-behind_pair.ensures) (sym c.if-not-starts_name.ensures)
-
-pub before-requires : goal.before-requires
-before-requires c =
-    name_end c.in-Some.c (chars c.args.text.now) (chars c.in-Some.more.now) (chars c.behind_name-rest.result.now) c.in-Some.ensures c.behind_name-rest.ensures
+pub returns-in_err-token : goal.returns-in_err-token
+returns-in_err-token c =
+    let g : IsGiven c.in_err-token.field-0.0 (front_at c.args.kind c.args.line c.args.depth (chars c.args.text.now)) =
+    front_refused c.args.kind c.args.line c.args.depth (chars c.args.text.now) c.in_err-token.field-0.0 c.in_default.ensures c.in_err-token.ensures in
+    search rules
 
 pub returns : goal.returns
-returns c =
-    front_named c.args.kind c.args.line c.in-Some.c (chars c.args.text.now) (chars c.in-Some.more.now) (chars c.before-2.result.now) (chars c.behind_name-rest.result.now) c.in-Some.ensures
-    (subst (λ d. cut.begins d 125 (chars c.args.text.now) ≡ false) c.closer.ensures c.in_default-behind_pair.ensures) (sym c.if-not-starts_name.ensures) c.behind_name-rest.ensures c.before-2.ensures
+returns c = front_spelled c.args.kind c.args.line c.args.depth (chars c.args.text.now) (token_view c.in_ok-token.token) (chars c.in_ok-token.rest.now) c.in_default.ensures c.in_ok-token.ensures

@@ -1,0 +1,12 @@
+use Rattle.std.proofs.Common.{ap, arith}
+use Rattle.jt_expr.specs.Trees.{levels}
+use Rattle.jt_expr.proofs.Heights.{height_of_row, height_of_entries}
+use Rattle.jt_expr.proofs.grammar.Grammar.map.Goals as goal
+
+pub overflow_add-result : goal.overflow_add-result
+overflow_add-result g c = omega (arith, c.requires.small, height_of_row _ _ _ _ c.in_ok-parts.parts c.in_ok-parts.ensures)
+
+pub invariant_of-result : goal.invariant_of-result
+invariant_of-result g c =
+    let e = ap levels c.make_map.ensures in
+    record { counted = omega (arith, e, height_of_entries _ _ _ c.in_ok-parts.parts c.in_ok-parts.ensures) }

@@ -1,0 +1,28 @@
+use Rattle.std.proofs.Common.{suc, rules}
+use Rattle.jt_expr.specs.Cursor.{ahead, Refuses}
+use Rattle.jt_expr.specs.Grammar.{sum}
+use Rattle.jt_expr.specs.Reading.{read, chain_step, read_sum, read_concatenation}
+use Rattle.jt_expr.proofs.Loops.{loop_next, loop_ends, loop_refused, loop_too_deep}
+use Rattle.jt_expr.proofs.grammar.Grammar.sum.Goals as goal
+
+pub returns-in_err-part : goal.returns-in_err-part
+returns-in_err-part g c =
+    let n = c.args.self.now.below in
+    let q : Refuses (read_sum (read n) (suc n) (ahead c.args.cursor.now)) c.in_err-part.field-0.0 = loop_refused (chain_step (read n) (suc n) sum (read_concatenation (read n) (suc n))) _ _ _ _ _ c.loop-turn.invariant c.loop-turn-test.true _ c.in_err-part.ensures in
+    search rules
+
+pub returns-in-Ended : goal.returns-in-Ended
+returns-in-Ended g c =
+    let n = c.args.self.now.below in
+    let s = rw c.in-Ended.is at c.in_ok-part.ensures in
+    loop_ends (chain_step (read n) (suc n) sum (read_concatenation (read n) (suc n))) _ _ _ _ _ c.loop-turn.invariant c.loop-turn-test.true _ s.0 _ s.1
+
+pub loop-turn-preserved : goal.loop-turn-preserved
+loop-turn-preserved g c =
+    let n = c.args.self.now.below in
+    loop_next (chain_step (read n) (suc n) sum (read_concatenation (read n) (suc n))) _ _ _ _ _ c.loop-turn.invariant c.loop-turn-test.true _ _ (rw c.in-Grown.is at c.in_ok-part.ensures)
+
+pub returns : goal.returns
+returns g c =
+    let n = c.args.self.now.below in
+    loop_too_deep (chain_step (read n) (suc n) sum (read_concatenation (read n) (suc n))) _ _ _ _ _ c.loop-turn.invariant c.loop-turn-test.false

@@ -1,0 +1,11 @@
+pub mod Trees
+pub mod Grammar
+pub mod Reading
+pub mod Words
+pub mod View
+pub mod Cursor
+pub mod Elements
+pub mod Collecting
+pub mod Gives
+pub mod Sizes
+pub mod Named

@@ -1,0 +1,66 @@
+-- Filters and tests whose names have a meaning.
+use Rattle.std.specs.Prelude.{◌≡◌, Bool, true, false, not, ◌||◌, List, [], ◌∷◌, bytes_eq}
+use Rattle.std.specs.List.{list_any}
+use Rattle.jt_ops.specs.declared.test_id.TestId.{TestId}
+use Rattle.jt_ops.specs.declared.test_id.TestId.TheVariants as test_of
+use Rattle.jt_ops.specs.TestTable.{test_names}
+use Rattle.jt_expr.specs.declared.named.Named.{Named}
+use Rattle.jt_expr.specs.declared.named.Named.TheVariants as n
+use Rattle.jt_expr.specs.declared.error.ExprError.{ExprError}
+use Rattle.jt_expr.specs.declared.error.ExprError.TheVariants as e
+use Rattle.jt_expr.specs.Trees.{Text, Expr, constant, name, group, list_of, map_of, attribute, item, call, filter, test, unary, binary, when, choice, Exprs, no_exprs, expr, Pairs, no_pairs, pair}
+
+abbrev pub all_tests : List TestId
+all_tests =
+    test_of.Boolean ∷ test_of.Defined ∷ test_of.DivisibleBy ∷ test_of.Equal ∷ test_of.NotEqual ∷ test_of.Escaped ∷ test_of.Even ∷ test_of.Odd ∷ test_of.False ∷ test_of.True
+    ∷ test_of.GreaterOrEqual ∷ test_of.Greater ∷ test_of.LessOrEqual ∷ test_of.Less ∷ test_of.In ∷ test_of.Integer ∷ test_of.Mapping ∷ test_of.None ∷ test_of.String ∷ test_of.Undefined ∷ []
+
+-- a test has the name
+unfoldable pub is_test : Text → Bool
+is_test x = list_any (λ t. list_any (bytes_eq x) (test_names t)) all_tests
+
+-- no filter has a meaning
+abbrev pub unknown_filter : Named → Text → Bool
+unknown_filter n.Filter x = true
+unknown_filter n.Test x = false
+
+abbrev pub unknown_test : Named → Text → Bool
+unknown_test n.Filter x = false
+unknown_test n.Test x = not (is_test x)
+
+-- in the tree stands a filter, or a test, whose name has no meaning
+abbrev mutual
+  pub has_unknown : Named → Expr → Bool
+  has_unknown u (constant l) = false
+  has_unknown u (name x) = false
+  has_unknown u (group a) = has_unknown u a
+  has_unknown u (list_of ts) = exprs_have_unknown u ts
+  has_unknown u (map_of ps) = pairs_have_unknown u ps
+  has_unknown u (attribute a k) = has_unknown u a
+  has_unknown u (item a b) = has_unknown u a || has_unknown u b
+  has_unknown u (call a ts ps) = has_unknown u a || (exprs_have_unknown u ts || pairs_have_unknown u ps)
+  has_unknown u (filter a x ts ps) = unknown_filter u x || (has_unknown u a || (exprs_have_unknown u ts || pairs_have_unknown u ps))
+  has_unknown u (test a b x ts ps) = unknown_test u x || (has_unknown u a || (exprs_have_unknown u ts || pairs_have_unknown u ps))
+  has_unknown u (unary op a) = has_unknown u a
+  has_unknown u (binary op a b) = has_unknown u a || has_unknown u b
+  has_unknown u (when c a) = has_unknown u c || has_unknown u a
+  has_unknown u (choice c a b) = has_unknown u c || (has_unknown u a || has_unknown u b)
+
+  pub exprs_have_unknown : Named → Exprs → Bool
+  exprs_have_unknown u no_exprs = false
+  exprs_have_unknown u (expr t ts) = has_unknown u t || exprs_have_unknown u ts
+
+  pub pairs_have_unknown : Named → Pairs → Bool
+  pairs_have_unknown u no_pairs = false
+  pairs_have_unknown u (pair k t ps) = has_unknown u t || pairs_have_unknown u ps
+
+abbrev pub IsKnown : Expr → Type 0
+IsKnown t = (has_unknown n.Filter t ≡ false) × (has_unknown n.Test t ≡ false)
+
+-- the refusal is for such a name in the tree
+abbrev pub Blames : ExprError → Expr → Type 0
+Blames e.Syntax t = ⊥
+Blames e.TooDeep t = ⊥
+Blames e.UnknownFilter t = has_unknown n.Filter t ≡ true
+Blames e.UnknownTest t = has_unknown n.Test t ≡ true
+Blames e.NoMemory t = ⊥

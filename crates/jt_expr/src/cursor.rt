@@ -1,0 +1,277 @@
+//! A cursor over the tokens of a tag.
+
+ghost use Rattle.std.specs.Prelude.{◌≡◌, length, IsTrue};
+ghost use Rattle.jt_expr.specs.Words.{is_plain};
+ghost use Rattle.jt_expr.specs.Reading as reading;
+ghost use Rattle.jt_expr.specs.Grammar as grammar;
+ghost use Rattle.jt_expr.specs.Cursor.{ahead, Takes, Operates, TakesName, TakesText, GivesDone, GivesWord};
+
+use crate::error::ExprError;
+use crate::tree::BinaryOperator;
+use crate::words::{is_operand, is_reserved, is_word};
+use jt_scan::{Sign, Token};
+
+/// The tokens that are still to be read.
+#[derive(Drop)]
+pub struct Cursor<'a> {
+    pub rest: &'a [Token<'a>],
+}
+
+impl<'a> Cursor<'a> {
+    /// How many tokens there are.
+    pub fn left(&self) -> usize
+        ensures { result ≡ length (ahead self.now) }
+    {
+        self.rest.len()
+    }
+
+    /// Whether the sign stands in front.
+    pub fn sees(&self, sign: Sign) -> bool
+        ensures { result ≡ reading.sees sign (ahead self.now) }
+    {
+        match self.rest {
+            [Token::Sign(found), ..] => *found == sign,
+            _ => false,
+        }
+    }
+
+    /// Whether the word stands in front.
+    pub fn says(&self, word: &str) -> bool
+        requires { IsTrue (is_plain word.now) }
+        ensures { result ≡ reading.says word.now (ahead self.now) }
+    {
+        match self.rest {
+            [Token::Name(found), ..] => is_word(found, word),
+            _ => false,
+        }
+    }
+
+    /// Whether a test's argument without parentheses stands in front.
+    pub fn begins_argument(&self) -> bool
+        ensures { result ≡ grammar.begins_argument (ahead self.now) }
+    {
+        match self.rest {
+            [Token::Name(word), ..] => is_operand(word),
+            [Token::Sign(sign), ..] => matches!(*sign, Sign::LeftBracket | Sign::LeftBrace),
+            [_, ..] => true,
+            [] => false,
+        }
+    }
+
+    /// Takes the first token.
+    pub fn take(&mut self) -> Option<Token<'a>>
+        ensures { Takes (ahead self.old) result (ahead self.new) }
+    {
+        match self.rest {
+            [first, rest @ ..] => {
+                self.rest = rest;
+                Some(*first)
+            }
+            [] => None,
+        }
+    }
+
+    /// Takes the sign, if it stands in front.
+    pub fn eat(&mut self, sign: Sign) -> bool
+        ensures found { result ≡ reading.sees sign (ahead self.old) }
+        ensures rest { ahead self.new ≡ reading.past (reading.sees sign (ahead self.old)) (ahead self.old) }
+    {
+        let found = self.sees(sign);
+        if found {
+            self.take();
+        }
+        found
+    }
+
+    /// Takes the word, if it stands in front.
+    pub fn eat_word(&mut self, word: &str) -> bool
+        requires { IsTrue (is_plain word.now) }
+        ensures found { result ≡ reading.says word.now (ahead self.old) }
+        ensures rest { ahead self.new ≡ reading.past (reading.says word.now (ahead self.old)) (ahead self.old) }
+    {
+        let found = self.says(word);
+        if found {
+            self.take();
+        }
+        found
+    }
+
+    /// Takes the sign, which must stand in front.
+    #[tactic(auto, unfolding(crate::specs::Reading::expect))]
+    pub fn expect(&mut self, sign: Sign) -> Result<(), ExprError>
+        ensures { GivesDone (reading.expect sign (ahead self.old)) result (ahead self.new) }
+    {
+        if self.eat(sign) {
+            Ok(())
+        } else {
+            Err(ExprError::Syntax)
+        }
+    }
+
+    /// Takes any word.
+    #[tactic(auto, unfolding(crate::specs::Reading::word_at))]
+    pub fn word(&mut self) -> Result<&'a str, ExprError>
+        ensures { GivesWord (reading.word_at (ahead self.old)) result (ahead self.new) }
+    {
+        match self.take() {
+            Some(Token::Name(word)) => Ok(word),
+            _ => Err(ExprError::Syntax),
+        }
+    }
+
+    /// Takes a name.
+    #[tactic(auto, unfolding(crate::specs::Reading::name_at))]
+    pub fn name(&mut self) -> Result<&'a str, ExprError>
+        ensures { GivesWord (reading.name_at (ahead self.old)) result (ahead self.new) }
+    {
+        let word = self.word()?;
+        if is_reserved(word) {
+            return Err(ExprError::Syntax);
+        }
+        Ok(word)
+    }
+
+    /// Takes a name and the `=` behind it.
+    #[tactic(auto, unfolding(crate::specs::Reading::keyword))]
+    pub fn keyword(&mut self) -> Option<&'a str>
+        ensures { TakesName (reading.keyword (ahead self.old)) (ahead self.old) result (ahead self.new) }
+    {
+        match self.rest {
+            [Token::Name(name), Token::Sign(Sign::Assign), rest @ ..] if !is_reserved(name) => {
+                self.rest = rest;
+                Some(*name)
+            }
+            _ => None,
+        }
+    }
+
+    /// Takes a text and the colon behind it.
+    #[tactic(auto, unfolding(crate::specs::Reading::entry_key))]
+    pub fn entry_key(&mut self) -> Option<&'a str>
+        ensures { TakesText (reading.entry_key (ahead self.old)) (ahead self.old) result (ahead self.new) }
+    {
+        match self.rest {
+            [Token::Text(raw), Token::Sign(Sign::Colon), rest @ ..] => {
+                self.rest = rest;
+                Some(*raw)
+            }
+            _ => None,
+        }
+    }
+
+    /// `or`
+    #[tactic(auto, unfolding(crate::specs::Reading::operator))]
+    pub fn or_operator(&mut self) -> Option<BinaryOperator>
+        ensures { Operates (reading.operator grammar.disjunction (ahead self.old)) (ahead self.old) result (ahead self.new) }
+    {
+        if self.eat_word("or") {
+            Some(BinaryOperator::Or)
+        } else {
+            None
+        }
+    }
+
+    /// `and`
+    #[tactic(auto, unfolding(crate::specs::Reading::operator))]
+    pub fn and_operator(&mut self) -> Option<BinaryOperator>
+        ensures { Operates (reading.operator grammar.conjunction (ahead self.old)) (ahead self.old) result (ahead self.new) }
+    {
+        if self.eat_word("and") {
+            Some(BinaryOperator::And)
+        } else {
+            None
+        }
+    }
+
+    /// `==` and its like, `in` and `not in`
+    #[tactic(auto, unfolding(crate::specs::Reading::operator))]
+    pub fn comparison(&mut self) -> Option<BinaryOperator>
+        ensures { Operates (reading.operator grammar.comparison (ahead self.old)) (ahead self.old) result (ahead self.new) }
+    {
+        if self.eat(Sign::Equal) {
+            Some(BinaryOperator::Equal)
+        } else if self.eat(Sign::NotEqual) {
+            Some(BinaryOperator::NotEqual)
+        } else if self.eat(Sign::Less) {
+            Some(BinaryOperator::Less)
+        } else if self.eat(Sign::LessEqual) {
+            Some(BinaryOperator::LessOrEqual)
+        } else if self.eat(Sign::Greater) {
+            Some(BinaryOperator::Greater)
+        } else if self.eat(Sign::GreaterEqual) {
+            Some(BinaryOperator::GreaterOrEqual)
+        } else if self.eat_word("in") {
+            Some(BinaryOperator::In)
+        } else {
+            self.not_in()
+        }
+    }
+
+    /// `not in`, and nothing is taken where only the `not` stands.
+    fn not_in(&mut self) -> Option<BinaryOperator>
+        ensures { Operates (reading.not_in (ahead self.old)) (ahead self.old) result (ahead self.new) }
+    {
+        match self.rest {
+            [Token::Name(one), Token::Name(two), rest @ ..]
+                if is_word(one, "not") && is_word(two, "in") => {
+                self.rest = rest;
+                Some(BinaryOperator::NotIn)
+            }
+            _ => None,
+        }
+    }
+
+    /// `+` and `-`
+    #[tactic(auto, unfolding(crate::specs::Reading::operator))]
+    pub fn sum_operator(&mut self) -> Option<BinaryOperator>
+        ensures { Operates (reading.operator grammar.sum (ahead self.old)) (ahead self.old) result (ahead self.new) }
+    {
+        if self.eat(Sign::Plus) {
+            Some(BinaryOperator::Add)
+        } else if self.eat(Sign::Minus) {
+            Some(BinaryOperator::Subtract)
+        } else {
+            None
+        }
+    }
+
+    /// `~`
+    #[tactic(auto, unfolding(crate::specs::Reading::operator))]
+    pub fn concatenation_operator(&mut self) -> Option<BinaryOperator>
+        ensures { Operates (reading.operator grammar.concatenation (ahead self.old)) (ahead self.old) result (ahead self.new) }
+    {
+        if self.eat(Sign::Tilde) {
+            Some(BinaryOperator::Concatenate)
+        } else {
+            None
+        }
+    }
+
+    /// `*`, `//` and `%`
+    #[tactic(auto, unfolding(crate::specs::Reading::operator))]
+    pub fn product_operator(&mut self) -> Option<BinaryOperator>
+        ensures { Operates (reading.operator grammar.product (ahead self.old)) (ahead self.old) result (ahead self.new) }
+    {
+        if self.eat(Sign::Times) {
+            Some(BinaryOperator::Multiply)
+        } else if self.eat(Sign::FloorDivide) {
+            Some(BinaryOperator::FloorDivide)
+        } else if self.eat(Sign::Percent) {
+            Some(BinaryOperator::Remainder)
+        } else {
+            None
+        }
+    }
+
+    /// `**`
+    #[tactic(auto, unfolding(crate::specs::Reading::operator))]
+    pub fn power_operator(&mut self) -> Option<BinaryOperator>
+        ensures { Operates (reading.operator grammar.power (ahead self.old)) (ahead self.old) result (ahead self.new) }
+    {
+        if self.eat(Sign::Power) {
+            Some(BinaryOperator::Power)
+        } else {
+            None
+        }
+    }
+}

@@ -1,0 +1,764 @@
+//! The rules of the grammar. They take the reader of what lies deeper as a parameter, so that each is
+//! proved by itself.
+
+ghost use Rattle.std.specs.Prelude.{◌≡◌, ◌≤◌, ◌^◌, suc, max, length, true, false, codes, encode_utf8_all, IfOk};
+ghost use Rattle.std.specs.Str.{chars};
+ghost use Rattle.jt_expr.specs.Trees as trees;
+ghost use Rattle.jt_expr.specs.View.{expr_view, exprs_view, pairs_view};
+ghost use Rattle.jt_expr.specs.Reading as spec;
+ghost use Rattle.jt_expr.specs.Grammar as grammar;
+ghost use Rattle.jt_expr.specs.Elements as elements;
+ghost use Rattle.jt_expr.specs.Cursor.{ahead};
+ghost use Rattle.jt_expr.specs.Gives.{Gives, GivesParts, GivesKeyed, GivesElement, GivesKey, Nests, Fits, GivesStep, level_of_form, row_view};
+ghost use Rattle.jt_scan.specs.declared.segment.Sign.TheVariants as sign;
+
+use crate::cursor::Cursor;
+use crate::error::ExprError;
+use crate::part::{Part, Parts};
+use crate::rows::{Element, Form, Keyed, Row, Step};
+use crate::tree;
+use crate::tree::{BinaryOperator, Expr, Literal, UnaryOperator};
+use crate::words::{is_reserved, literal_of};
+use jt_scan::{Sign, Token, text_value};
+use std::alloc::Global;
+
+/// The rules, over the reader of what lies deeper.
+#[derive(Clone, Copy)]
+pub struct Grammar<F> {
+    pub alloc: Global,
+    /// How many levels may lie deeper.
+    pub below: usize,
+    pub inner: F,
+}
+
+impl<F: Fn(Global, &mut Cursor<'_>, usize, Form) -> Result<Part, ExprError>> Grammar<F> {
+    /// A form that lies one level deeper.
+    fn inner(&self, cursor: &mut Cursor<'_>, form: Form) -> Result<Part, ExprError>
+        requires { Nests self.now.below (F.pre self.now.inner) (F.post self.now.inner) }
+        ensures tree { Gives (spec.read self.now.below (level_of_form form) (ahead cursor.old)) result (ahead cursor.new) }
+        ensures height { IfOk result (λ p. p.height ≤ self.now.below) }
+    {
+        (self.inner)(self.alloc, cursor, self.below, form)
+    }
+
+    /// `a.k`
+    fn attribute(&self, value: Part, name: &str) -> Result<Part, ExprError>
+        requires { Nests self.now.below (F.pre self.now.inner) (F.post self.now.inner) }
+        ensures { Fits (suc self.now.below) (trees.attribute (expr_view value.expr) (encode_utf8_all (chars name.now))) result }
+    {
+        let inside = value.height;
+        if inside > self.below {
+            return Err(ExprError::TooDeep);
+        }
+        Ok(Part {
+            expr: tree::make_attribute(self.alloc, value.expr, name)?,
+            height: inside + 1,
+        })
+    }
+
+    /// `a[b]`
+    fn item(&self, value: Part, index: Part) -> Result<Part, ExprError>
+        requires { Nests self.now.below (F.pre self.now.inner) (F.post self.now.inner) }
+        ensures { Fits (suc self.now.below) (trees.item (expr_view value.expr) (expr_view index.expr)) result }
+    {
+        let inside = value.height.max(index.height);
+        if inside > self.below {
+            return Err(ExprError::TooDeep);
+        }
+        Ok(Part {
+            expr: tree::make_item(self.alloc, value.expr, index.expr)?,
+            height: inside + 1,
+        })
+    }
+
+    /// `a(..)`
+    fn call(&self, value: Part, arguments: Parts) -> Result<Part, ExprError>
+        requires { Nests self.now.below (F.pre self.now.inner) (F.post self.now.inner) }
+        ensures { Fits (suc self.now.below) (trees.call (expr_view value.expr) (exprs_view arguments.items.items) (pairs_view arguments.pairs.items)) result }
+    {
+        let inside = value.height.max(arguments.height);
+        if inside > self.below {
+            return Err(ExprError::TooDeep);
+        }
+        Ok(Part {
+            expr: tree::make_call(self.alloc, value.expr, arguments.items, arguments.pairs)?,
+            height: inside + 1,
+        })
+    }
+
+    /// `a|f(..)`
+    fn filter(&self, value: Part, name: &str, arguments: Parts) -> Result<Part, ExprError>
+        requires { Nests self.now.below (F.pre self.now.inner) (F.post self.now.inner) }
+        ensures { Fits (suc self.now.below) (trees.filter (expr_view value.expr) (encode_utf8_all (chars name.now)) (exprs_view arguments.items.items) (pairs_view arguments.pairs.items)) result }
+    {
+        let inside = value.height.max(arguments.height);
+        if inside > self.below {
+            return Err(ExprError::TooDeep);
+        }
+        Ok(Part {
+            expr: tree::make_filter(
+                self.alloc,
+                value.expr,
+                name,
+                arguments.items,
+                arguments.pairs,
+            )?,
+            height: inside + 1,
+        })
+    }
+
+    /// `a is t(..)`, or with true `a is not t(..)`
+    fn test(
+        &self,
+        value: Part,
+        negated: bool,
+        name: &str,
+        arguments: Parts,
+    ) -> Result<Part, ExprError>
+        requires { Nests self.now.below (F.pre self.now.inner) (F.post self.now.inner) }
+        ensures { Fits (suc self.now.below) (trees.test (expr_view value.expr) negated (encode_utf8_all (chars name.now)) (exprs_view arguments.items.items) (pairs_view arguments.pairs.items)) result }
+    {
+        let inside = value.height.max(arguments.height);
+        if inside > self.below {
+            return Err(ExprError::TooDeep);
+        }
+        Ok(Part {
+            expr: tree::make_test(
+                self.alloc,
+                value.expr,
+                negated,
+                name,
+                arguments.items,
+                arguments.pairs,
+            )?,
+            height: inside + 1,
+        })
+    }
+
+    /// An operator and its operands.
+    fn binary(&self, op: BinaryOperator, left: Part, right: Part) -> Result<Part, ExprError>
+        requires { Nests self.now.below (F.pre self.now.inner) (F.post self.now.inner) }
+        ensures { Fits (suc self.now.below) (trees.binary op (expr_view left.expr) (expr_view right.expr)) result }
+    {
+        let inside = left.height.max(right.height);
+        if inside > self.below {
+            return Err(ExprError::TooDeep);
+        }
+        Ok(Part {
+            expr: tree::make_binary(self.alloc, op, left.expr, right.expr)?,
+            height: inside + 1,
+        })
+    }
+
+    /// `a if c`
+    fn when(&self, condition: Part, value: Part) -> Result<Part, ExprError>
+        requires { Nests self.now.below (F.pre self.now.inner) (F.post self.now.inner) }
+        ensures { Fits (suc self.now.below) (trees.when (expr_view condition.expr) (expr_view value.expr)) result }
+    {
+        let inside = condition.height.max(value.height);
+        if inside > self.below {
+            return Err(ExprError::TooDeep);
+        }
+        Ok(Part {
+            expr: tree::make_when(self.alloc, condition.expr, value.expr)?,
+            height: inside + 1,
+        })
+    }
+
+    /// `a if c else b`
+    fn choice(&self, condition: Part, value: Part, other: Part) -> Result<Part, ExprError>
+        requires { Nests self.now.below (F.pre self.now.inner) (F.post self.now.inner) }
+        ensures { Fits (suc self.now.below) (trees.choice (expr_view condition.expr) (expr_view value.expr) (expr_view other.expr)) result }
+    {
+        let inside = condition.height.max(value.height.max(other.height));
+        if inside > self.below {
+            return Err(ExprError::TooDeep);
+        }
+        Ok(Part {
+            expr: tree::make_choice(self.alloc, condition.expr, value.expr, other.expr)?,
+            height: inside + 1,
+        })
+    }
+
+    /// The key of a part, if it has one.
+    fn key(&self, cursor: &mut Cursor<'_>, row: Row) -> Result<Option<String>, ExprError>
+        requires { Nests self.now.below (F.pre self.now.inner) (F.post self.now.inner) }
+        ensures { GivesKey (spec.key_at (row_view row) (ahead cursor.old)) (ahead cursor.old) result (ahead cursor.new) }
+    {
+        match row {
+            Row::Items => Ok(None),
+            Row::Entries => match cursor.entry_key() {
+                Some(raw) => Ok(Some(text_value(self.alloc, raw)?)),
+                None => Ok(None),
+            },
+            Row::Arguments | Row::Keywords => match cursor.keyword() {
+                Some(name) => Ok(Some(tree::copy_of(self.alloc, name)?)),
+                None => Ok(None),
+            },
+        }
+    }
+
+    /// One part of a row.
+    #[tactic(auto, unfolding(crate::specs::Reading::part))]
+    fn part(&self, cursor: &mut Cursor<'_>, row: Row) -> Result<Keyed, ExprError>
+        requires { Nests self.now.below (F.pre self.now.inner) (F.post self.now.inner) }
+        ensures { GivesKeyed (spec.part (spec.read self.now.below) (suc self.now.below) (row_view row) (ahead cursor.old)) result (ahead cursor.new) }
+    {
+        let key = self.key(cursor, row)?;
+        if key.is_none() && !row.takes_plain() {
+            return Err(ExprError::Syntax);
+        }
+        let part = self.inner(cursor, Form::Whole)?;
+        Ok(Keyed { key, part })
+    }
+
+    /// One part of a row, with the sign behind it.
+    #[tactic(auto, unfolding(crate::specs::Elements::element))]
+    fn element(&self, cursor: &mut Cursor<'_>, row: Row) -> Result<Element, ExprError>
+        requires { Nests self.now.below (F.pre self.now.inner) (F.post self.now.inner) }
+        ensures { GivesElement (elements.element (spec.read self.now.below) (suc self.now.below) (row_view row) (ahead cursor.old)) result (ahead cursor.new) }
+    {
+        if cursor.eat(row.closer()) {
+            return Ok(Element::Closed);
+        }
+        let keyed = self.part(cursor, row)?;
+        if cursor.eat(Sign::Comma) {
+            return Ok(Element::Further(keyed));
+        }
+        cursor.expect(row.closer())?;
+        Ok(Element::Last(keyed))
+    }
+
+    /// What stands in brackets, up to the closing sign.
+    fn row(&self, cursor: &mut Cursor<'_>, first: Row) -> Result<Parts, ExprError>
+        requires { Nests self.now.below (F.pre self.now.inner) (F.post self.now.inner) }
+        ensures { GivesParts (spec.row (spec.read self.now.below) (suc self.now.below) (length (ahead cursor.old)) (row_view first) (ahead cursor.old)) result (ahead cursor.new) }
+    {
+        let mut found = Parts::new(self.alloc);
+        let mut row = first;
+        for _turn in 0..cursor.left() {
+            match self.element(cursor, row)? {
+                Element::Closed => return Ok(found),
+                Element::Last(keyed) => {
+                    found.push(keyed)?;
+                    return Ok(found);
+                }
+                Element::Further(keyed) => {
+                    row = row.behind_key(&keyed.key);
+                    found.push(keyed)?;
+                }
+            }
+        }
+        Err(ExprError::Syntax)
+    }
+
+    /// An expression in parentheses.
+    #[tactic(auto, unfolding(crate::specs::Reading::opened))]
+    fn group(&self, cursor: &mut Cursor<'_>) -> Result<Part, ExprError>
+        requires { Nests self.now.below (F.pre self.now.inner) (F.post self.now.inner) }
+        ensures { Gives (spec.opened (spec.read self.now.below) (suc self.now.below) sign.LeftParen (ahead cursor.old)) result (ahead cursor.new) }
+    {
+        let inner = self.inner(cursor, Form::Whole)?;
+        cursor.expect(Sign::RightParen)?;
+        Ok(Part {
+            expr: tree::make_group(self.alloc, inner.expr)?,
+            height: inner.height + 1,
+        })
+    }
+
+    /// `[..]`
+    #[tactic(auto, unfolding(crate::specs::Reading::opened))]
+    fn list(&self, cursor: &mut Cursor<'_>) -> Result<Part, ExprError>
+        requires { Nests self.now.below (F.pre self.now.inner) (F.post self.now.inner) }
+        ensures { Gives (spec.opened (spec.read self.now.below) (suc self.now.below) sign.LeftBracket (ahead cursor.old)) result (ahead cursor.new) }
+    {
+        let parts = self.row(cursor, Row::Items)?;
+        Ok(Part {
+            expr: tree::make_list(parts.items),
+            height: parts.height + 1,
+        })
+    }
+
+    /// `{..}`
+    #[tactic(auto, unfolding(crate::specs::Reading::opened))]
+    fn map(&self, cursor: &mut Cursor<'_>) -> Result<Part, ExprError>
+        requires { Nests self.now.below (F.pre self.now.inner) (F.post self.now.inner) }
+        ensures { Gives (spec.opened (spec.read self.now.below) (suc self.now.below) sign.LeftBrace (ahead cursor.old)) result (ahead cursor.new) }
+    {
+        let parts = self.row(cursor, Row::Entries)?;
+        Ok(Part {
+            expr: tree::make_map(parts.pairs),
+            height: parts.height + 1,
+        })
+    }
+
+    /// A constant or a name.
+    fn word(&self, cursor: &mut Cursor<'_>, word: &str) -> Result<Part, ExprError>
+        requires { Nests self.now.below (F.pre self.now.inner) (F.post self.now.inner) }
+        ensures { Gives (spec.word_by (spec.read self.now.below) (suc self.now.below) (grammar.literal_of (chars word.now)) (chars word.now) (ahead cursor.old)) result (ahead cursor.new) }
+    {
+        if let Some(literal) = literal_of(word) {
+            return Ok(Part {
+                expr: Expr::Constant(literal),
+                height: 1,
+            });
+        }
+        if is_reserved(word) {
+            return Err(ExprError::Syntax);
+        }
+        Ok(Part {
+            expr: tree::make_name(self.alloc, word)?,
+            height: 1,
+        })
+    }
+
+    /// What postfix forms stand behind.
+    #[tactic(auto, unfolding(crate::specs::Reading::primary, crate::specs::Reading::opened))]
+    fn primary(&self, cursor: &mut Cursor<'_>) -> Result<Part, ExprError>
+        requires { Nests self.now.below (F.pre self.now.inner) (F.post self.now.inner) }
+        ensures { Gives (spec.primary (spec.read self.now.below) (suc self.now.below) (ahead cursor.old)) result (ahead cursor.new) }
+    {
+        match cursor.take() {
+            Some(Token::Name(word)) => self.word(cursor, word),
+            Some(Token::Number(value)) => Ok(Part {
+                expr: Expr::Constant(Literal::Number(value)),
+                height: 1,
+            }),
+            Some(Token::Text(raw)) => Ok(Part {
+                expr: Expr::Constant(Literal::Text(text_value(self.alloc, raw)?)),
+                height: 1,
+            }),
+            Some(Token::Sign(Sign::LeftParen)) => self.group(cursor),
+            Some(Token::Sign(Sign::LeftBracket)) => self.list(cursor),
+            Some(Token::Sign(Sign::LeftBrace)) => self.map(cursor),
+            _ => Err(ExprError::Syntax),
+        }
+    }
+
+    /// One attribute, item or call more, or none.
+    #[tactic(auto, unfolding(crate::specs::Reading::postfix_step))]
+    fn postfix_step(&self, cursor: &mut Cursor<'_>, left: Part) -> Result<Step, ExprError>
+        requires { Nests self.now.below (F.pre self.now.inner) (F.post self.now.inner) }
+        ensures { GivesStep (spec.postfix_step (spec.read self.now.below) (suc self.now.below) (expr_view left.expr) (ahead cursor.old)) (expr_view left.expr) result (ahead cursor.new) }
+    {
+        if cursor.eat(Sign::Dot) {
+            let name = cursor.word()?;
+            Ok(Step::Grown(self.attribute(left, name)?))
+        } else if cursor.eat(Sign::LeftBracket) {
+            let index = self.inner(cursor, Form::Whole)?;
+            cursor.expect(Sign::RightBracket)?;
+            Ok(Step::Grown(self.item(left, index)?))
+        } else if cursor.eat(Sign::LeftParen) {
+            let arguments = self.row(cursor, Row::Arguments)?;
+            Ok(Step::Grown(self.call(left, arguments)?))
+        } else {
+            Ok(Step::Ended(left))
+        }
+    }
+
+    /// A primary and its postfix forms.
+    #[tactic(auto, unfolding(crate::specs::Reading::read_postfix))]
+    fn postfix(&self, cursor: &mut Cursor<'_>) -> Result<Part, ExprError>
+        requires { Nests self.now.below (F.pre self.now.inner) (F.post self.now.inner) }
+        ensures { Gives (spec.read_postfix (spec.read self.now.below) (suc self.now.below) (ahead cursor.old)) result (ahead cursor.new) }
+    {
+        let mut left = self.primary(cursor)?;
+        for _turn in 0..self.below + 1 {
+            match self.postfix_step(cursor, left)? {
+                Step::Grown(part) => left = part,
+                Step::Ended(part) => return Ok(part),
+            }
+        }
+        Err(ExprError::TooDeep)
+    }
+
+    /// An operator in front of a form one level deeper.
+    fn prefixed(
+        &self,
+        cursor: &mut Cursor<'_>,
+        op: UnaryOperator,
+        form: Form,
+    ) -> Result<Part, ExprError>
+        requires { Nests self.now.below (F.pre self.now.inner) (F.post self.now.inner) }
+        ensures { Gives (elements.under op (spec.read self.now.below (level_of_form form) (ahead cursor.old))) result (ahead cursor.new) }
+    {
+        let value = self.inner(cursor, form)?;
+        Ok(Part {
+            expr: tree::make_unary(self.alloc, op, value.expr)?,
+            height: value.height + 1,
+        })
+    }
+
+    /// Signs in front.
+    #[tactic(auto, unfolding(crate::specs::Reading::read_signed))]
+    fn signed(&self, cursor: &mut Cursor<'_>) -> Result<Part, ExprError>
+        requires { Nests self.now.below (F.pre self.now.inner) (F.post self.now.inner) }
+        ensures { Gives (spec.read_signed (spec.read self.now.below) (suc self.now.below) (ahead cursor.old)) result (ahead cursor.new) }
+    {
+        if cursor.eat(Sign::Minus) {
+            self.prefixed(cursor, UnaryOperator::Negate, Form::Signed)
+        } else if cursor.eat(Sign::Plus) {
+            self.prefixed(cursor, UnaryOperator::Plus, Form::Signed)
+        } else {
+            self.postfix(cursor)
+        }
+    }
+
+    /// Arguments of a filter or a test, or none.
+    #[tactic(auto, unfolding(crate::specs::Reading::arguments_at))]
+    fn arguments(&self, cursor: &mut Cursor<'_>) -> Result<Parts, ExprError>
+        requires { Nests self.now.below (F.pre self.now.inner) (F.post self.now.inner) }
+        ensures { GivesParts (spec.arguments_at (spec.read self.now.below) (suc self.now.below) (ahead cursor.old)) result (ahead cursor.new) }
+    {
+        if cursor.eat(Sign::LeftParen) {
+            self.row(cursor, Row::Arguments)
+        } else {
+            Ok(Parts::new(self.alloc))
+        }
+    }
+
+    /// Arguments of a test, one of which needs no parentheses.
+    #[tactic(auto, unfolding(crate::specs::Reading::test_arguments))]
+    fn test_arguments(&self, cursor: &mut Cursor<'_>) -> Result<Parts, ExprError>
+        requires { Nests self.now.below (F.pre self.now.inner) (F.post self.now.inner) }
+        ensures { GivesParts (spec.test_arguments (spec.read self.now.below) (suc self.now.below) (ahead cursor.old)) result (ahead cursor.new) }
+    {
+        if !cursor.begins_argument() {
+            return self.arguments(cursor);
+        }
+        let mut found = Parts::new(self.alloc);
+        let part = self.inner(cursor, Form::Postfix)?;
+        found.push(Keyed { key: None, part })?;
+        Ok(found)
+    }
+
+    /// A filter, behind its sign.
+    #[tactic(auto, unfolding(crate::specs::Reading::filter_step))]
+    fn filter_step(&self, cursor: &mut Cursor<'_>, left: Part) -> Result<Step, ExprError>
+        requires { Nests self.now.below (F.pre self.now.inner) (F.post self.now.inner) }
+        ensures { GivesStep (spec.filter_step (spec.read self.now.below) (suc self.now.below) (expr_view left.expr) (ahead cursor.old)) (expr_view left.expr) result (ahead cursor.new) }
+    {
+        let name = cursor.name()?;
+        let arguments = self.arguments(cursor)?;
+        Ok(Step::Grown(self.filter(left, name, arguments)?))
+    }
+
+    /// A test, behind the word `is`.
+    #[tactic(auto, unfolding(crate::specs::Reading::test_step))]
+    fn test_step(&self, cursor: &mut Cursor<'_>, left: Part) -> Result<Step, ExprError>
+        requires { Nests self.now.below (F.pre self.now.inner) (F.post self.now.inner) }
+        ensures { GivesStep (spec.test_step (spec.read self.now.below) (suc self.now.below) (spec.says (codes "not") (ahead cursor.old)) (expr_view left.expr) (ahead cursor.old)) (expr_view left.expr) result (ahead cursor.new) }
+    {
+        let negated = cursor.eat_word("not");
+        let name = cursor.word()?;
+        let arguments = self.test_arguments(cursor)?;
+        Ok(Step::Grown(self.test(left, negated, name, arguments)?))
+    }
+
+    /// One filter or test more, or none.
+    #[tactic(auto, unfolding(crate::specs::Reading::postscript_step))]
+    fn postscript_step(&self, cursor: &mut Cursor<'_>, left: Part) -> Result<Step, ExprError>
+        requires { Nests self.now.below (F.pre self.now.inner) (F.post self.now.inner) }
+        ensures { GivesStep (spec.postscript_step (spec.read self.now.below) (suc self.now.below) (expr_view left.expr) (ahead cursor.old)) (expr_view left.expr) result (ahead cursor.new) }
+    {
+        if cursor.eat(Sign::Pipe) {
+            self.filter_step(cursor, left)
+        } else if cursor.eat_word("is") {
+            self.test_step(cursor, left)
+        } else {
+            Ok(Step::Ended(left))
+        }
+    }
+
+    /// Filters and tests behind what they apply to.
+    #[tactic(auto, unfolding(crate::specs::Reading::read_postscript))]
+    fn postscript(&self, cursor: &mut Cursor<'_>) -> Result<Part, ExprError>
+        requires { Nests self.now.below (F.pre self.now.inner) (F.post self.now.inner) }
+        ensures { Gives (spec.read_postscript (spec.read self.now.below) (suc self.now.below) (ahead cursor.old)) result (ahead cursor.new) }
+    {
+        let mut left = self.signed(cursor)?;
+        for _turn in 0..self.below + 1 {
+            match self.postscript_step(cursor, left)? {
+                Step::Grown(part) => left = part,
+                Step::Ended(part) => return Ok(part),
+            }
+        }
+        Err(ExprError::TooDeep)
+    }
+
+    /// One operator more, or none: `**`.
+    #[tactic(auto, unfolding(crate::specs::Reading::chain_step))]
+    fn power_step(&self, cursor: &mut Cursor<'_>, left: Part) -> Result<Step, ExprError>
+        requires { Nests self.now.below (F.pre self.now.inner) (F.post self.now.inner) }
+        ensures { GivesStep (spec.chain_step (spec.read self.now.below) (suc self.now.below) grammar.power (spec.read_postscript (spec.read self.now.below) (suc self.now.below)) (expr_view left.expr) (ahead cursor.old)) (expr_view left.expr) result (ahead cursor.new) }
+    {
+        let Some(op) = cursor.power_operator() else {
+            return Ok(Step::Ended(left));
+        };
+        let right = self.postscript(cursor)?;
+        Ok(Step::Grown(self.binary(op, left, right)?))
+    }
+
+    /// Operands with `**` between them.
+    #[tactic(auto, unfolding(crate::specs::Reading::read_power))]
+    fn power(&self, cursor: &mut Cursor<'_>) -> Result<Part, ExprError>
+        requires { Nests self.now.below (F.pre self.now.inner) (F.post self.now.inner) }
+        ensures { Gives (spec.read_power (spec.read self.now.below) (suc self.now.below) (ahead cursor.old)) result (ahead cursor.new) }
+    {
+        let mut left = self.postscript(cursor)?;
+        for _turn in 0..self.below + 1 {
+            match self.power_step(cursor, left)? {
+                Step::Grown(part) => left = part,
+                Step::Ended(part) => return Ok(part),
+            }
+        }
+        Err(ExprError::TooDeep)
+    }
+
+    /// One operator more, or none: `*`, `//` and `%`.
+    #[tactic(auto, unfolding(crate::specs::Reading::chain_step))]
+    fn product_step(&self, cursor: &mut Cursor<'_>, left: Part) -> Result<Step, ExprError>
+        requires { Nests self.now.below (F.pre self.now.inner) (F.post self.now.inner) }
+        ensures { GivesStep (spec.chain_step (spec.read self.now.below) (suc self.now.below) grammar.product (spec.read_power (spec.read self.now.below) (suc self.now.below)) (expr_view left.expr) (ahead cursor.old)) (expr_view left.expr) result (ahead cursor.new) }
+    {
+        let Some(op) = cursor.product_operator() else {
+            return Ok(Step::Ended(left));
+        };
+        let right = self.power(cursor)?;
+        Ok(Step::Grown(self.binary(op, left, right)?))
+    }
+
+    /// Operands with `*`, `//` and `%` between them.
+    #[tactic(auto, unfolding(crate::specs::Reading::read_product))]
+    fn product(&self, cursor: &mut Cursor<'_>) -> Result<Part, ExprError>
+        requires { Nests self.now.below (F.pre self.now.inner) (F.post self.now.inner) }
+        ensures { Gives (spec.read_product (spec.read self.now.below) (suc self.now.below) (ahead cursor.old)) result (ahead cursor.new) }
+    {
+        let mut left = self.power(cursor)?;
+        for _turn in 0..self.below + 1 {
+            match self.product_step(cursor, left)? {
+                Step::Grown(part) => left = part,
+                Step::Ended(part) => return Ok(part),
+            }
+        }
+        Err(ExprError::TooDeep)
+    }
+
+    /// One operator more, or none: `~`.
+    #[tactic(auto, unfolding(crate::specs::Reading::chain_step))]
+    fn concatenation_step(&self, cursor: &mut Cursor<'_>, left: Part) -> Result<Step, ExprError>
+        requires { Nests self.now.below (F.pre self.now.inner) (F.post self.now.inner) }
+        ensures { GivesStep (spec.chain_step (spec.read self.now.below) (suc self.now.below) grammar.concatenation (spec.read_product (spec.read self.now.below) (suc self.now.below)) (expr_view left.expr) (ahead cursor.old)) (expr_view left.expr) result (ahead cursor.new) }
+    {
+        let Some(op) = cursor.concatenation_operator() else {
+            return Ok(Step::Ended(left));
+        };
+        let right = self.product(cursor)?;
+        Ok(Step::Grown(self.binary(op, left, right)?))
+    }
+
+    /// Operands with `~` between them.
+    #[tactic(auto, unfolding(crate::specs::Reading::read_concatenation))]
+    fn concatenation(&self, cursor: &mut Cursor<'_>) -> Result<Part, ExprError>
+        requires { Nests self.now.below (F.pre self.now.inner) (F.post self.now.inner) }
+        ensures { Gives (spec.read_concatenation (spec.read self.now.below) (suc self.now.below) (ahead cursor.old)) result (ahead cursor.new) }
+    {
+        let mut left = self.product(cursor)?;
+        for _turn in 0..self.below + 1 {
+            match self.concatenation_step(cursor, left)? {
+                Step::Grown(part) => left = part,
+                Step::Ended(part) => return Ok(part),
+            }
+        }
+        Err(ExprError::TooDeep)
+    }
+
+    /// One operator more, or none: `+` and `-`.
+    #[tactic(auto, unfolding(crate::specs::Reading::chain_step))]
+    fn sum_step(&self, cursor: &mut Cursor<'_>, left: Part) -> Result<Step, ExprError>
+        requires { Nests self.now.below (F.pre self.now.inner) (F.post self.now.inner) }
+        ensures { GivesStep (spec.chain_step (spec.read self.now.below) (suc self.now.below) grammar.sum (spec.read_concatenation (spec.read self.now.below) (suc self.now.below)) (expr_view left.expr) (ahead cursor.old)) (expr_view left.expr) result (ahead cursor.new) }
+    {
+        let Some(op) = cursor.sum_operator() else {
+            return Ok(Step::Ended(left));
+        };
+        let right = self.concatenation(cursor)?;
+        Ok(Step::Grown(self.binary(op, left, right)?))
+    }
+
+    /// Operands with `+` and `-` between them.
+    #[tactic(auto, unfolding(crate::specs::Reading::read_sum))]
+    fn sum(&self, cursor: &mut Cursor<'_>) -> Result<Part, ExprError>
+        requires { Nests self.now.below (F.pre self.now.inner) (F.post self.now.inner) }
+        ensures { Gives (spec.read_sum (spec.read self.now.below) (suc self.now.below) (ahead cursor.old)) result (ahead cursor.new) }
+    {
+        let mut left = self.concatenation(cursor)?;
+        for _turn in 0..self.below + 1 {
+            match self.sum_step(cursor, left)? {
+                Step::Grown(part) => left = part,
+                Step::Ended(part) => return Ok(part),
+            }
+        }
+        Err(ExprError::TooDeep)
+    }
+
+    /// At most one comparison.
+    #[tactic(auto, unfolding(crate::specs::Reading::read_comparison))]
+    fn comparison(&self, cursor: &mut Cursor<'_>) -> Result<Part, ExprError>
+        requires { Nests self.now.below (F.pre self.now.inner) (F.post self.now.inner) }
+        ensures { Gives (spec.read_comparison (spec.read self.now.below) (suc self.now.below) (ahead cursor.old)) result (ahead cursor.new) }
+    {
+        let left = self.sum(cursor)?;
+        let Some(op) = cursor.comparison() else {
+            return Ok(left);
+        };
+        let right = self.sum(cursor)?;
+        self.binary(op, left, right)
+    }
+
+    /// `not` in front.
+    #[tactic(auto, unfolding(crate::specs::Reading::read_inversion))]
+    fn inversion(&self, cursor: &mut Cursor<'_>) -> Result<Part, ExprError>
+        requires { Nests self.now.below (F.pre self.now.inner) (F.post self.now.inner) }
+        ensures { Gives (spec.read_inversion (spec.read self.now.below) (suc self.now.below) (ahead cursor.old)) result (ahead cursor.new) }
+    {
+        if !cursor.eat_word("not") {
+            return self.comparison(cursor);
+        }
+        self.prefixed(cursor, UnaryOperator::Not, Form::Inversion)
+    }
+
+    /// One operator more, or none: `and`.
+    #[tactic(auto, unfolding(crate::specs::Reading::chain_step))]
+    fn conjunction_step(&self, cursor: &mut Cursor<'_>, left: Part) -> Result<Step, ExprError>
+        requires { Nests self.now.below (F.pre self.now.inner) (F.post self.now.inner) }
+        ensures { GivesStep (spec.chain_step (spec.read self.now.below) (suc self.now.below) grammar.conjunction (spec.read_inversion (spec.read self.now.below) (suc self.now.below)) (expr_view left.expr) (ahead cursor.old)) (expr_view left.expr) result (ahead cursor.new) }
+    {
+        let Some(op) = cursor.and_operator() else {
+            return Ok(Step::Ended(left));
+        };
+        let right = self.inversion(cursor)?;
+        Ok(Step::Grown(self.binary(op, left, right)?))
+    }
+
+    /// Operands with `and` between them.
+    #[tactic(auto, unfolding(crate::specs::Reading::read_conjunction))]
+    fn conjunction(&self, cursor: &mut Cursor<'_>) -> Result<Part, ExprError>
+        requires { Nests self.now.below (F.pre self.now.inner) (F.post self.now.inner) }
+        ensures { Gives (spec.read_conjunction (spec.read self.now.below) (suc self.now.below) (ahead cursor.old)) result (ahead cursor.new) }
+    {
+        let mut left = self.inversion(cursor)?;
+        for _turn in 0..self.below + 1 {
+            match self.conjunction_step(cursor, left)? {
+                Step::Grown(part) => left = part,
+                Step::Ended(part) => return Ok(part),
+            }
+        }
+        Err(ExprError::TooDeep)
+    }
+
+    /// One operator more, or none: `or`.
+    #[tactic(auto, unfolding(crate::specs::Reading::chain_step))]
+    fn disjunction_step(&self, cursor: &mut Cursor<'_>, left: Part) -> Result<Step, ExprError>
+        requires { Nests self.now.below (F.pre self.now.inner) (F.post self.now.inner) }
+        ensures { GivesStep (spec.chain_step (spec.read self.now.below) (suc self.now.below) grammar.disjunction (spec.read_conjunction (spec.read self.now.below) (suc self.now.below)) (expr_view left.expr) (ahead cursor.old)) (expr_view left.expr) result (ahead cursor.new) }
+    {
+        let Some(op) = cursor.or_operator() else {
+            return Ok(Step::Ended(left));
+        };
+        let right = self.conjunction(cursor)?;
+        Ok(Step::Grown(self.binary(op, left, right)?))
+    }
+
+    /// Operands with `or` between them.
+    #[tactic(auto, unfolding(crate::specs::Reading::read_disjunction))]
+    fn disjunction(&self, cursor: &mut Cursor<'_>) -> Result<Part, ExprError>
+        requires { Nests self.now.below (F.pre self.now.inner) (F.post self.now.inner) }
+        ensures { Gives (spec.read_disjunction (spec.read self.now.below) (suc self.now.below) (ahead cursor.old)) result (ahead cursor.new) }
+    {
+        let mut left = self.conjunction(cursor)?;
+        for _turn in 0..self.below + 1 {
+            match self.disjunction_step(cursor, left)? {
+                Step::Grown(part) => left = part,
+                Step::Ended(part) => return Ok(part),
+            }
+        }
+        Err(ExprError::TooDeep)
+    }
+
+    /// What stands behind the condition of an inline if.
+    #[tactic(auto, unfolding(crate::specs::Reading::else_part))]
+    fn else_part(
+        &self,
+        cursor: &mut Cursor<'_>,
+        value: Part,
+        condition: Part,
+    ) -> Result<Part, ExprError>
+        requires { Nests self.now.below (F.pre self.now.inner) (F.post self.now.inner) }
+        ensures { Gives (spec.else_part (spec.read self.now.below) (suc self.now.below) (expr_view value.expr) (expr_view condition.expr) (ahead cursor.old)) result (ahead cursor.new) }
+    {
+        if !cursor.eat_word("else") {
+            return self.when(condition, value);
+        }
+        let other = self.inner(cursor, Form::Whole)?;
+        self.choice(condition, value, other)
+    }
+
+    /// What stands behind the value of an inline if.
+    #[tactic(auto, unfolding(crate::specs::Reading::if_part))]
+    fn if_part(&self, cursor: &mut Cursor<'_>, value: Part) -> Result<Part, ExprError>
+        requires { Nests self.now.below (F.pre self.now.inner) (F.post self.now.inner) }
+        ensures { Gives (spec.if_part (spec.read self.now.below) (suc self.now.below) (expr_view value.expr) (ahead cursor.old)) result (ahead cursor.new) }
+    {
+        if !cursor.eat_word("if") {
+            return Ok(value);
+        }
+        let condition = self.disjunction(cursor)?;
+        self.else_part(cursor, value, condition)
+    }
+
+    /// An expression.
+    #[tactic(auto, unfolding(crate::specs::Reading::read_whole))]
+    fn whole(&self, cursor: &mut Cursor<'_>) -> Result<Part, ExprError>
+        requires { Nests self.now.below (F.pre self.now.inner) (F.post self.now.inner) }
+        ensures { Gives (spec.read_whole (spec.read self.now.below) (suc self.now.below) (ahead cursor.old)) result (ahead cursor.new) }
+    {
+        let value = self.disjunction(cursor)?;
+        self.if_part(cursor, value)
+    }
+
+    /// A form of the level.
+    #[tactic(auto, unfolding(crate::specs::Reading::read_at))]
+    fn form(&self, cursor: &mut Cursor<'_>, form: Form) -> Result<Part, ExprError>
+        requires { Nests self.now.below (F.pre self.now.inner) (F.post self.now.inner) }
+        ensures { Gives (spec.read_at (spec.read self.now.below) (suc self.now.below) (level_of_form form) (ahead cursor.old)) result (ahead cursor.new) }
+    {
+        match form {
+            Form::Whole => self.whole(cursor),
+            Form::Inversion => self.inversion(cursor),
+            Form::Signed => self.signed(cursor),
+            Form::Postfix => self.postfix(cursor),
+        }
+    }
+}
+
+/// A form of at most so many levels.
+pub fn read(
+    alloc: Global,
+    cursor: &mut Cursor<'_>,
+    limit: usize,
+    form: Form,
+) -> Result<Part, ExprError>
+    requires { limit ≤ 2 ^ 32 }
+    ensures { Gives (spec.read limit (level_of_form form) (ahead cursor.old)) result (ahead cursor.new) }
+{
+    if limit == 0 {
+        return Err(ExprError::TooDeep);
+    }
+    Grammar {
+        alloc,
+        below: limit - 1,
+        inner: read,
+    }
+    .form(cursor, form)
+}

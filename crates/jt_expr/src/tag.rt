@@ -1,0 +1,50 @@
+//! The expression that the tokens of a tag spell.
+
+ghost use Rattle.std.specs.Prelude.{◌≡◌, ◌≤◌, ◌<◌, ◌^◌, map, IfOk, MatchResult, IsErrOf};
+ghost use Rattle.jt_scan.specs.View.{token_view};
+ghost use Rattle.jt_expr.specs.Trees as trees;
+ghost use Rattle.jt_expr.specs.Trees.{levels};
+ghost use Rattle.jt_expr.specs.View.{expr_view};
+ghost use Rattle.jt_expr.specs.Grammar.{Spells, whole};
+ghost use Rattle.jt_expr.specs.Reading.{parsed};
+ghost use Rattle.jt_expr.specs.Gives.{GivesWhole};
+
+use crate::cursor::Cursor;
+use crate::error::ExprError;
+use crate::grammar;
+use crate::part::Part;
+use crate::rows::Form;
+use crate::tree::Expr;
+use jt_scan::Token;
+use std::alloc::Global;
+
+/// The expression that all the tokens spell, of at most so many levels.
+pub fn expression(alloc: Global, tokens: &[Token<'_>], limit: usize) -> Result<Expr, ExprError>
+    requires { limit ≤ 2 ^ 32 }
+    // What is answered is spelled so, within the levels.
+    ensures spelled { IfOk result (λ x. Spells whole (expr_view x) (map token_view tokens.now) × (levels (expr_view x) ≤ limit)) }
+    // A tree within the levels is answered, and no other is spelled so.
+    ensures only { (t : trees.Expr) → Spells whole t (map token_view tokens.now) → levels t ≤ limit
+        → MatchResult result (λ x. expr_view x ≡ t) (λ e. e ≡ ExprError.NoMemory) }
+    // No tree of any depth is spelled so.
+    ensures syntax { IsErrOf result ExprError.Syntax → (t : trees.Expr) → Spells whole t (map token_view tokens.now) → ⊥ }
+    // No tree within the levels is spelled so.
+    ensures deep { IsErrOf result ExprError.TooDeep → (t : trees.Expr) → Spells whole t (map token_view tokens.now) → limit < levels t }
+    // What a reader with so many levels gives, and no other refusal.
+    ensures reads { GivesWhole (parsed limit (map token_view tokens.now)) result }
+{
+    read_all(alloc, tokens, limit)
+}
+
+#[tactic(auto, unfolding(crate::specs::Reading::parsed))]
+fn read_all(alloc: Global, tokens: &[Token<'_>], limit: usize) -> Result<Expr, ExprError>
+    requires { limit ≤ 2 ^ 32 }
+    ensures { GivesWhole (parsed limit (map token_view tokens.now)) result }
+{
+    let mut rest = Cursor { rest: tokens };
+    let Part { expr, .. } = grammar::read(alloc, &mut rest, limit, Form::Whole)?;
+    if rest.left() > 0 {
+        return Err(ExprError::Syntax);
+    }
+    Ok(expr)
+}

@@ -1,0 +1,208 @@
+//! Rows of expressions, with their trees or their refusals.
+
+use crate::error::ExprError;
+use crate::named::check_names;
+use crate::tag::expression;
+use crate::tree::{Expr, Literal};
+use jt_scan::{Options, Segment, Source, Token, scan};
+use std::alloc::{AllocError, Global};
+use std::test::Fail;
+
+/// What stands for itself, as it is written.
+fn tell_literal(alloc: Global, told: &mut String, literal: &Literal) -> Result<(), AllocError> {
+    match literal {
+        Literal::Number(number) => told.push_str(format!(in alloc; "{number}")?.as_str()),
+        Literal::Text(text) => told.push_str(format!(in alloc; "'{text}'")?.as_str()),
+        Literal::Truth(truth) => told.push_str(format!(in alloc; "{truth}")?.as_str()),
+        Literal::None => told.push_str("none"),
+    }
+}
+
+/// What begins a tree: of a name or a constant all of it.
+fn tell_head(alloc: Global, told: &mut String, expr: &Expr) -> Result<(), AllocError> {
+    match expr {
+        Expr::Constant(literal) => tell_literal(alloc, told, literal),
+        Expr::Name(name) => told.push_str(name.as_str()),
+        Expr::Group(_) => told.push_str("(group"),
+        Expr::List(_) => told.push_str("(list"),
+        Expr::Map(_) => told.push_str("(map"),
+        Expr::Attribute(_, name) => told.push_str(format!(in alloc; "(.{name}")?.as_str()),
+        Expr::Item(_, _) => told.push_str("(item"),
+        Expr::Call(_, _, _) => told.push_str("(call"),
+        Expr::Filter(_, name, _, _) => told.push_str(format!(in alloc; "(|{name}")?.as_str()),
+        Expr::Test(_, true, name, _, _) => {
+            told.push_str(format!(in alloc; "(is not {name}")?.as_str())
+        }
+        Expr::Test(_, false, name, _, _) => told.push_str(format!(in alloc;
+            "(is {name}"
+        )?.as_str()),
+        Expr::Unary(op, _) => told.push_str(format!(in alloc; "({op:?}")?.as_str()),
+        Expr::Binary(op, _, _) => told.push_str(format!(in alloc; "({op:?}")?.as_str()),
+        Expr::When(_, _) | Expr::Choice(_, _, _) => told.push_str("(if"),
+    }
+}
+
+/// A tree behind a space: names and constants as they are written, and each other form in
+/// parentheses, with its name before what it holds.
+#[cycle(tell)]
+fn tell(alloc: Global, told: &mut String, expr: &Expr) -> Result<(), AllocError> {
+    told.push_str(" ")?;
+    tell_head(alloc, told, expr)?;
+    match expr {
+        Expr::Constant(_) | Expr::Name(_) => return Ok(()),
+        Expr::Group(a) | Expr::Attribute(a, _) | Expr::Unary(_, a) => tell(alloc, told, a)?,
+        Expr::List(items) => tell_all(alloc, told, items)?,
+        Expr::Map(pairs) => tell_pairs(alloc, told, pairs)?,
+        Expr::Item(a, b) | Expr::Binary(_, a, b) | Expr::When(a, b) => {
+            tell(alloc, told, a)?;
+            tell(alloc, told, b)?;
+        }
+        Expr::Call(a, items, pairs)
+        | Expr::Filter(a, _, items, pairs)
+        | Expr::Test(a, _, _, items, pairs) => {
+            tell(alloc, told, a)?;
+            tell_all(alloc, told, items)?;
+            tell_pairs(alloc, told, pairs)?;
+        }
+        Expr::Choice(c, a, b) => {
+            tell(alloc, told, c)?;
+            tell(alloc, told, a)?;
+            tell(alloc, told, b)?;
+        }
+    }
+    told.push_str(")")
+}
+
+#[cycle(tell)]
+fn tell_all(alloc: Global, told: &mut String, items: &Vec<Expr>) -> Result<(), AllocError> {
+    for item in items {
+        tell(alloc, told, item)?;
+    }
+    Ok(())
+}
+
+#[cycle(tell)]
+fn tell_pairs(
+    alloc: Global,
+    told: &mut String,
+    pairs: &Vec<(String, Expr)>,
+) -> Result<(), AllocError> {
+    for (key, value) in pairs {
+        told.push_str(format!(in alloc; " {key}:")?.as_str())?;
+        tell(alloc, told, value)?;
+    }
+    Ok(())
+}
+
+/// The tree of a tag's tokens, or why there is none or one of its names has no meaning.
+fn tell_tag(alloc: Global, told: &mut String, tokens: &[Token<'_>]) -> Result<(), AllocError> {
+    match expression(alloc, tokens, 99) {
+        Ok(expr) => match check_names(&expr) {
+            Ok(()) => tell(alloc, told, &expr),
+            Err(e) => told.push_str(format!(in alloc; " {e}")?.as_str()),
+        },
+        Err(e) => told.push_str(format!(in alloc; " {e}")?.as_str()),
+    }
+}
+
+/// What the tags of a text hold.
+fn told(alloc: Global, text: &str) -> Result<String, AllocError> {
+    let source = match Source::new(alloc, text, Options::new()) {
+        Ok(source) => source,
+        Err(e) => return format!(in alloc; "{e:?}"),
+    };
+    let segments = match scan(alloc, &source) {
+        Ok(segments) => segments,
+        Err(e) => return format!(in alloc; "{e:?}"),
+    };
+    let mut told = String::new(alloc);
+    for segment in segments.as_slice() {
+        if let Segment::Tag(tag) = segment {
+            tell_tag(alloc, &mut told, tag.tokens.as_slice())?;
+        }
+    }
+    Ok(told)
+}
+
+#[test]
+fn expressions_are_read(rt: HostRuntime) -> Result<(), Fail> {
+    let rows = [
+        (
+            "{{ 1 + 2 * 3 - a }}",
+            " (Subtract (Add 1 (Multiply 2 3)) a)",
+        ),
+        ("{{ 2 ** 3 ** 2 }}", " (Power (Power 2 3) 2)"),
+        (
+            "{{ a ~ 'b' ~ \"c\" }}",
+            " (Concatenate (Concatenate a 'b') 'c')",
+        ),
+        ("{{ 7 // 2 % 2 }}", " (Remainder (FloorDivide 7 2) 2)"),
+        ("{{ not a in b }}", " (Not (In a b))"),
+        ("{{ a not in b }}", " (NotIn a b)"),
+        (
+            "{{ a or b and not c == 1 }}",
+            " (Or a (And b (Not (Equal c 1))))",
+        ),
+        ("{{ -a.b[0]|f }}", " P3 UnknownFilter"),
+        ("{{ -a.b[0] }}", " (Negate (item (.b a) 0))"),
+        ("{{ -a is even }}", " (is even (Negate a))"),
+        ("{{ +(1, ) }}", " P1 Syntax"),
+        ("{{ (a) }}", " (group a)"),
+        ("{{ [] }}{{ [1, [2], ] }}", " (list) (list 1 (list 2))"),
+        ("{{ {} }}{{ {\"a\": 1,}.a }}", " (map) (.a (map a: 1))"),
+        ("{{ a.if.True }}", " (.True (.if a))"),
+        ("{{ f()(1, k=2) }}", " (call (call f) 1 k: 2)"),
+        ("{{ a if b else c if d }}", " (if b a (if d c))"),
+        ("{{ a if b or c }}", " (if (Or b c) a)"),
+        (
+            "{{ a is eq b.c == true }}",
+            " (Equal (is eq a (.c b)) true)",
+        ),
+        ("{{ a is not in [1] }}", " (is not in a (list 1))"),
+        ("{{ a is defined and None }}", " (And (is defined a) none)"),
+        ("{{ a is divisibleby(by=3) }}", " (is divisibleby a by: 3)"),
+    ];
+    for (text, want) in rows {
+        assert_eq!(rt; told(rt.alloc(), text)?.as_str(), want, "{text}");
+    }
+    Ok(())
+}
+
+#[test]
+fn no_expressions(rt: HostRuntime) -> Result<(), Fail> {
+    let rows = [
+        ("{{ }}", " P1 Syntax"),
+        ("{{ 1 + }}", " P1 Syntax"),
+        ("{{ a b }}", " P1 Syntax"),
+        ("{{ 1 < 2 < 3 }}", " P1 Syntax"),
+        ("{{ a if b if c }}", " P1 Syntax"),
+        ("{{ if }}", " P1 Syntax"),
+        ("{{ a is }}", " P1 Syntax"),
+        ("{{ a is not }}", " P1 Syntax"),
+        ("{{ f(k=1, 2) }}", " P1 Syntax"),
+        ("{{ {a: 1} }}", " P1 Syntax"),
+        ("{{ a is whole }}", " P4 UnknownTest"),
+        ("{{ (a|f) is whole }}", " P3 UnknownFilter"),
+    ];
+    for (text, want) in rows {
+        assert_eq!(rt; told(rt.alloc(), text)?.as_str(), want, "{text}");
+    }
+    Ok(())
+}
+
+#[test]
+fn levels(rt: HostRuntime) -> Result<(), Fail> {
+    let mut tokens = Vec::new(rt.alloc());
+    for _n in 0..98 {
+        tokens.push(Token::Name("not"))?;
+    }
+    tokens.push(Token::Name("true"))?;
+    assert!(rt; expression(rt.alloc(), tokens.as_slice(), 99).is_ok());
+    assert!(rt;
+        matches!(
+            expression(rt.alloc(), tokens.as_slice(), 98),
+            Err(ExprError::TooDeep)
+        )
+    );
+    Ok(())
+}

@@ -1,0 +1,58 @@
+//! Words of the language.
+
+ghost use Rattle.std.specs.Prelude.{◌≡◌, option_map, bytes_eq, IsTrue};
+ghost use Rattle.std.specs.Str.{chars};
+ghost use Rattle.jt_expr.specs.Words.{is_plain};
+ghost use Rattle.jt_expr.specs.Grammar as grammar;
+ghost use Rattle.jt_expr.specs.View.{literal_view};
+
+use crate::tree::Literal;
+
+/// What a word is that stands for itself.
+pub fn literal_of(word: &str) -> Option<Literal>
+    ensures { option_map literal_view result ≡ grammar.literal_of (chars word.now) }
+{
+    if is_word(word, "true") || is_word(word, "True") {
+        Some(Literal::Truth(true))
+    } else if is_word(word, "false") || is_word(word, "False") {
+        Some(Literal::Truth(false))
+    } else if is_word(word, "none") || is_word(word, "None") {
+        Some(Literal::None)
+    } else {
+        None
+    }
+}
+
+/// Whether a word is reserved, and so no name.
+pub fn is_reserved(word: &str) -> bool
+    ensures { result ≡ grammar.is_reserved (chars word.now) }
+{
+    is_word(word, "and")
+        || is_word(word, "or")
+        || is_word(word, "not")
+        || is_word(word, "if")
+        || is_word(word, "else")
+        || is_word(word, "in")
+        || is_word(word, "is")
+        || is_word(word, "true")
+        || is_word(word, "false")
+        || is_word(word, "none")
+        || is_word(word, "True")
+        || is_word(word, "False")
+        || is_word(word, "None")
+}
+
+/// Whether a word is a constant or a name.
+pub fn is_operand(word: &str) -> bool
+    ensures { result ≡ grammar.is_operand (chars word.now) }
+{
+    literal_of(word).is_some() || !is_reserved(word)
+}
+
+/// Whether a word is the known one, of ASCII letters.
+pub fn is_word(word: &str, known: &str) -> bool
+    requires { IsTrue (is_plain known.now) }
+    ensures { result ≡ bytes_eq (chars word.now) known.now }
+{
+    word == known
+}

@@ -1,0 +1,102 @@
+-- The operator and the test of an id, as `by_id` answers them.
+use Rattle.std.proofs.Common.{◌≡◌, ℕ, Bool, true, false, cond, eqb, List, [], ◌∷◌, Option, Some, None, refl, sym, ap, ◌∙◌}
+use Rattle.std.specs.Prelude.{IfSome}
+use Rattle.std.specs.List.{find}
+use Rattle.std.proofs.lemmas.Bool.{eqb-true}
+use Rattle.jt_ops.specs.declared.op_id.OpId.{OpId}
+use Rattle.jt_ops.specs.declared.op_id.OpId.TheVariants as op
+use Rattle.jt_ops.specs.declared.test_id.TestId.{TestId}
+use Rattle.jt_ops.specs.declared.test_id.TestId.TheVariants as test
+use Rattle.jt_ops.specs.OpTable.{op_id}
+use Rattle.jt_ops.specs.TestTable.{test_id}
+use Rattle.jt_image.specs.Ids.{operators, operator_of, tests, test_of}
+
+-- what is found passes the test
+find_holds : {X : Type 0} (f : X → Bool) (xs : List X) (x : X) → find f xs ≡ Some x → f x ≡ true
+find_holds f [] x e = absurd cc
+find_holds {X} f (y ∷ ys) x e = by_test (f y) refl e (λ e'. find_holds f ys x e')
+  where
+    same : (a b : X) → (let o : Option X = Some a in o ≡ Some b) → a ≡ b
+    same a b e' = cc
+
+    by_test : (t : Bool) → f y ≡ t → cond t (Some y) (find f ys) ≡ Some x → (find f ys ≡ Some x → f x ≡ true) → f x ≡ true
+    by_test true t e' rest = ap f (sym (same y x e')) ∙ t
+    by_test false t e' rest = rest e'
+
+-- ---- operators
+
+has_operator : (x : OpId) → operator_of (op_id x) ≡ Some x
+unfolding operator_of
+has_operator op.Add = refl
+has_operator op.Subtract = refl
+has_operator op.Multiply = refl
+has_operator op.FloorDivide = refl
+has_operator op.Remainder = refl
+has_operator op.Power = refl
+has_operator op.Negate = refl
+has_operator op.Plus = refl
+has_operator op.Not = refl
+has_operator op.Join = refl
+has_operator op.JoinEscaping = refl
+has_operator op.Equal = refl
+has_operator op.NotEqual = refl
+has_operator op.Less = refl
+has_operator op.LessOrEqual = refl
+has_operator op.Greater = refl
+has_operator op.GreaterOrEqual = refl
+has_operator op.In = refl
+has_operator op.Item = refl
+has_operator op.RangeToStop = refl
+has_operator op.RangeFromStart = refl
+has_operator op.RangeByStep = refl
+
+found_operator : (a : ℕ) (x : OpId) → operator_of a ≡ Some x → op_id x ≡ a
+unfolding operator_of
+found_operator a x e = eqb-true (op_id x) a (find_holds (λ y. eqb (op_id y) a) operators x e)
+
+-- what answers the operator of an id, and none only where there is none
+pub operator_is : (a : ℕ) (r : Option OpId) → IfSome r (λ x. op_id x ≡ a) → ((x : OpId) → op_id x ≡ a → r ≡ Some x) → r ≡ operator_of a
+operator_is a (Some x) is only = sym (ap operator_of (sym is) ∙ has_operator x)
+operator_is a None is only = none (operator_of a) refl
+  where
+    none : (o : Option OpId) → operator_of a ≡ o → None ≡ o
+    none None e = refl
+    none (Some x) e = only x (found_operator a x e)
+
+-- ---- tests
+
+has_test : (x : TestId) → test_of (test_id x) ≡ Some x
+unfolding test_of
+has_test test.Boolean = refl
+has_test test.Defined = refl
+has_test test.DivisibleBy = refl
+has_test test.Equal = refl
+has_test test.NotEqual = refl
+has_test test.Escaped = refl
+has_test test.Even = refl
+has_test test.Odd = refl
+has_test test.False = refl
+has_test test.True = refl
+has_test test.GreaterOrEqual = refl
+has_test test.Greater = refl
+has_test test.LessOrEqual = refl
+has_test test.Less = refl
+has_test test.In = refl
+has_test test.Integer = refl
+has_test test.Mapping = refl
+has_test test.None = refl
+has_test test.String = refl
+has_test test.Undefined = refl
+
+found_test : (a : ℕ) (x : TestId) → test_of a ≡ Some x → test_id x ≡ a
+unfolding test_of
+found_test a x e = eqb-true (test_id x) a (find_holds (λ y. eqb (test_id y) a) tests x e)
+
+-- what answers the test of an id, and none only where there is none
+pub test_is : (a : ℕ) (r : Option TestId) → IfSome r (λ x. test_id x ≡ a) → ((x : TestId) → test_id x ≡ a → r ≡ Some x) → r ≡ test_of a
+test_is a (Some x) is only = sym (ap test_of (sym is) ∙ has_test x)
+test_is a None is only = none (test_of a) refl
+  where
+    none : (o : Option TestId) → test_of a ≡ o → None ≡ o
+    none None e = refl
+    none (Some x) e = only x (found_test a x e)

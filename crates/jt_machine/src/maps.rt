@@ -1,0 +1,120 @@
+//! Maps of keys and values in turn.
+ghost use Rattle.std.specs.Prelude.{◌≡◌, ◌<◌, ◌∷◌, [], true, length, map, reverse, List, IfOk, IfSome, IfNone, OnOk, string_bytes};
+ghost use Rattle.std.specs.List.{list_all};
+ghost use Rattle.jt_value.specs.Tree.{Tree, Entries, no_entries};
+ghost use Rattle.jt_value.specs.View.{view, entries_view};
+ghost use Rattle.jt_ops.specs.Testing.{is_text};
+ghost use Rattle.jt_escape.specs.Joining.{IsAnswer};
+ghost use Rattle.jt_image.specs.Step.{mapped, keys_of, key_bytes, put_entry, put_entries};
+ghost use Rattle.jt_machine.specs.Making.{key_fault as key_fault_of, keys_fault as keys_fault_of, first_fault as first_fault_of, upward, HasTextKeys};
+
+use indexmap::IndexMap;
+use jt_value::{Fault, NoMemory, Value, ValueError};
+use std::alloc::Global;
+
+/// The map of keys and values in turn. A key that is there keeps its place and takes the later value.
+pub(crate) fn map_of(alloc: Global, values: Vec<Value>) -> Result<Value, ValueError>
+    ensures { IsAnswer (mapped (map view values.items)) result }
+{
+    if let Some(fault) = keys_fault(&values) {
+        return Err(ValueError::Fault(fault));
+    }
+    match entries_of(alloc, values) {
+        Ok(entries) => Ok(Value::Map(entries)),
+        Err(NoMemory) => Err(ValueError::NoMemory),
+    }
+}
+
+// The fault of a key: one that is no text has one.
+fn key_fault(key: &Value) -> Option<Fault>
+    ensures { result ≡ key_fault_of (view key.now) }
+{
+    match key {
+        Value::Text(_) | Value::Markup(_) => None,
+        Value::Undefined => Some(Fault::Undefined),
+        _ => Some(Fault::BadType),
+    }
+}
+
+// The fault of two that counts: Undefined before BadType.
+fn first_fault(one: Option<Fault>, other: Option<Fault>) -> Option<Fault>
+    ensures { result ≡ first_fault_of one other }
+{
+    match (one, other) {
+        (Some(Fault::BadType), Some(fault)) => Some(fault),
+        (None, other) => other,
+        (one, _) => one,
+    }
+}
+
+// The fault of the keys, where keys and values stand in turn.
+fn keys_fault(values: &[Value]) -> Option<Fault>
+    ensures { result ≡ keys_fault_of (map view values.now) }
+{
+    match values {
+        [] => None,
+        [key] => key_fault(key),
+        [key, _, behind @ ..] => first_fault(key_fault(key), keys_fault(behind)),
+    }
+}
+
+// The text of a key.
+fn key_text(key: Value) -> String
+    requires { is_text (view key) ≡ true }
+    ensures { string_bytes result ≡ key_bytes (view key) }
+{
+    match key {
+        Value::Text(text) => text,
+        Value::Markup(text) => text,
+        _ => unreachable!(),
+    }
+}
+
+// Takes the last value.
+fn pop_last(values: &mut Vec<Value>) -> Option<Value>
+    ensures some { IfSome result (λ v. upward values.old.items ≡ view v ∷ upward values.new.items) }
+    ensures none { IfNone result (upward values.old.items ≡ []) }
+    ensures fewer { IfSome result (λ _. length values.new.items < length values.old.items) }
+{
+    values.pop()
+}
+
+// Takes the last key and its value, where keys and values stand in turn from the end.
+fn pop_pair(values: &mut Vec<Value>) -> Option<(String, Value)>
+    requires { HasTextKeys values.old.items }
+    ensures some { IfSome result (λ p. (es : Entries) → put_entries es (upward values.old.items) ≡ put_entries (put_entry (string_bytes p.0) (view p.1) es) (upward values.new.items)) }
+    ensures none { IfNone result ((es : Entries) → put_entries es (upward values.old.items) ≡ es) }
+    ensures texts { IfSome result (λ _. HasTextKeys values.new.items) }
+    ensures fewer { IfSome result (λ _. length values.new.items < length values.old.items) }
+{
+    let key = pop_last(values)?;
+    let value = pop_last(values)?;
+    Some((key_text(key), value))
+}
+
+// Puts a value at a key. A key that is there keeps its place.
+fn put_pair(
+    entries: &mut IndexMap<String, Value>,
+    key: String,
+    value: Value,
+) -> Result<(), NoMemory>
+    ensures { OnOk result (entries_view entries.new.entries ≡ put_entry (string_bytes key) (view value) (entries_view entries.old.entries)) }
+{
+    match entries.insert(key, value) {
+        Ok(_) => Ok(()),
+        Err(_) => Err(NoMemory),
+    }
+}
+
+// The entries of keys and values in turn.
+fn entries_of(alloc: Global, mut values: Vec<Value>) -> Result<Vec<(String, Value)>, NoMemory>
+    requires { list_all is_text (keys_of (map view values.items)) ≡ true }
+    ensures { IfOk result (λ es. entries_view es.items ≡ put_entries no_entries (map view values.items)) }
+{
+    values.reverse();
+    let mut entries: IndexMap<String, Value> = IndexMap::new(alloc);
+    'pairs: while let Some((key, value)) = pop_pair(&mut values) {
+        put_pair(&mut entries, key, value)?;
+    }
+    Ok(entries.into_iter().collect(alloc)?)
+}

@@ -1,0 +1,264 @@
+-- A sign in front is found, the longest one, and nothing else is.
+use Rattle.std.proofs.Common.{◌≡◌, ℕ, ◌<◌, ◌&&◌, ◌==◌, Bool, true, false, [], ◌∷◌, ◌++◌, length, Option, Some, None, refl, sym, ap, ap₂, subst, ◌∙◌, arith, cond}
+use Rattle.std.proofs.lemmas.Bool.Decides.{nat_tests}
+use Rattle.jt_scan.specs.declared.segment.Sign.{Sign}
+use Rattle.jt_scan.specs.declared.segment.Sign.TheVariants as s
+use Rattle.jt_scan.specs.Cut.{Text, sign_text, goes_on, SignEnds, NoSign, starts_name, is_space}
+use Rattle.jt_scan.specs.Literals.{digit_value, is_digit, is_quote}
+use Rattle.jt_scan.specs.Scanning.{one_sign, two_sign, alone, longest, sign_at}
+use Rattle.jt_scan.proofs.Steps.{by_test, both}
+use Rattle.jt_scan.proofs.Tables.{no_start}
+
+pub sign_found : (t : Sign) (rest : Text) → SignEnds t rest → sign_at (sign_text t ++ rest) ≡ Some (t, rest)
+unfolding sign_at
+sign_found s.Plus [] h = refl
+sign_found s.Plus (d ∷ rest) h = refl
+sign_found s.Minus [] h = refl
+sign_found s.Minus (d ∷ rest) h = refl
+sign_found s.Times [] h = refl
+sign_found s.Times (d ∷ rest) h = rw h refl
+sign_found s.Percent [] h = refl
+sign_found s.Percent (d ∷ rest) h = refl
+sign_found s.Tilde [] h = refl
+sign_found s.Tilde (d ∷ rest) h = refl
+sign_found s.Less [] h = refl
+sign_found s.Less (d ∷ rest) h = rw h refl
+sign_found s.Greater [] h = refl
+sign_found s.Greater (d ∷ rest) h = rw h refl
+sign_found s.Assign [] h = refl
+sign_found s.Assign (d ∷ rest) h = rw h refl
+sign_found s.Dot [] h = refl
+sign_found s.Dot (d ∷ rest) h = refl
+sign_found s.Comma [] h = refl
+sign_found s.Comma (d ∷ rest) h = refl
+sign_found s.Colon [] h = refl
+sign_found s.Colon (d ∷ rest) h = refl
+sign_found s.Pipe [] h = refl
+sign_found s.Pipe (d ∷ rest) h = refl
+sign_found s.LeftParen [] h = refl
+sign_found s.LeftParen (d ∷ rest) h = refl
+sign_found s.RightParen [] h = refl
+sign_found s.RightParen (d ∷ rest) h = refl
+sign_found s.LeftBracket [] h = refl
+sign_found s.LeftBracket (d ∷ rest) h = refl
+sign_found s.RightBracket [] h = refl
+sign_found s.RightBracket (d ∷ rest) h = refl
+sign_found s.LeftBrace [] h = refl
+sign_found s.LeftBrace (d ∷ rest) h = refl
+sign_found s.RightBrace [] h = refl
+sign_found s.RightBrace (d ∷ rest) h = refl
+sign_found s.Power rest h = refl
+sign_found s.FloorDivide rest h = refl
+sign_found s.Equal rest h = refl
+sign_found s.NotEqual rest h = refl
+sign_found s.LessEqual rest h = refl
+sign_found s.GreaterEqual rest h = refl
+
+-- some sign is found where a sign's spelling stands
+chosen : (t u : Sign) (b : Bool) (d : ℕ) (rest : Text) → longest (cond b (Some u) None) (Some t) rest (d ∷ rest) ≡ None → ⊥
+chosen t u true d rest h = cc
+chosen t u false d rest h = cc
+
+sign_there : (t : Sign) (rest : Text) → sign_at (sign_text t ++ rest) ≡ None → ⊥
+unfolding sign_at
+sign_there s.Plus [] h = cc
+sign_there s.Plus (d ∷ rest) h = cc
+sign_there s.Minus [] h = cc
+sign_there s.Minus (d ∷ rest) h = cc
+sign_there s.Times [] h = cc
+sign_there s.Times (d ∷ rest) h = chosen s.Times s.Power (d == 42) d rest h
+sign_there s.Percent [] h = cc
+sign_there s.Percent (d ∷ rest) h = cc
+sign_there s.Tilde [] h = cc
+sign_there s.Tilde (d ∷ rest) h = cc
+sign_there s.Less [] h = cc
+sign_there s.Less (d ∷ rest) h = chosen s.Less s.LessEqual (d == 61) d rest h
+sign_there s.Greater [] h = cc
+sign_there s.Greater (d ∷ rest) h = chosen s.Greater s.GreaterEqual (d == 61) d rest h
+sign_there s.Assign [] h = cc
+sign_there s.Assign (d ∷ rest) h = chosen s.Assign s.Equal (d == 61) d rest h
+sign_there s.Dot [] h = cc
+sign_there s.Dot (d ∷ rest) h = cc
+sign_there s.Comma [] h = cc
+sign_there s.Comma (d ∷ rest) h = cc
+sign_there s.Colon [] h = cc
+sign_there s.Colon (d ∷ rest) h = cc
+sign_there s.Pipe [] h = cc
+sign_there s.Pipe (d ∷ rest) h = cc
+sign_there s.LeftParen [] h = cc
+sign_there s.LeftParen (d ∷ rest) h = cc
+sign_there s.RightParen [] h = cc
+sign_there s.RightParen (d ∷ rest) h = cc
+sign_there s.LeftBracket [] h = cc
+sign_there s.LeftBracket (d ∷ rest) h = cc
+sign_there s.RightBracket [] h = cc
+sign_there s.RightBracket (d ∷ rest) h = cc
+sign_there s.LeftBrace [] h = cc
+sign_there s.LeftBrace (d ∷ rest) h = cc
+sign_there s.RightBrace [] h = cc
+sign_there s.RightBrace (d ∷ rest) h = cc
+sign_there s.Power rest h = cc
+sign_there s.FloorDivide rest h = cc
+sign_there s.Equal rest h = cc
+sign_there s.NotEqual rest h = cc
+sign_there s.LessEqual rest h = cc
+sign_there s.GreaterEqual rest h = cc
+
+pub no_sign : (x : Text) → sign_at x ≡ None → NoSign x
+no_sign x h = λ t rest e. sign_there t rest (ap sign_at (sym e) ∙ h)
+
+hit : (c n : ℕ) (t u : Sign) → (c == n) ≡ true → sign_text t ≡ n ∷ [] → ◌≡◌ {A = Option Sign} (Some t) (Some u) → sign_text u ≡ c ∷ []
+hit c n t u h w e = let same : t ≡ u = cc in let is : c ≡ n = grind (arith, nat_tests) in sym (ap sign_text same) ∙ w ∙ ap (λ k. k ∷ []) (sym is)
+
+one_says : (c : ℕ) (u : Sign) → one_sign c ≡ Some u → sign_text u ≡ c ∷ []
+one_says c u e =
+    by_test (c == 43) _ _ _ e (λ h q. hit c 43 s.Plus u h refl q) (λ h q.
+    by_test (c == 45) _ _ _ q (λ h q. hit c 45 s.Minus u h refl q) (λ h q.
+    by_test (c == 42) _ _ _ q (λ h q. hit c 42 s.Times u h refl q) (λ h q.
+    by_test (c == 37) _ _ _ q (λ h q. hit c 37 s.Percent u h refl q) (λ h q.
+    by_test (c == 126) _ _ _ q (λ h q. hit c 126 s.Tilde u h refl q) (λ h q.
+    by_test (c == 60) _ _ _ q (λ h q. hit c 60 s.Less u h refl q) (λ h q.
+    by_test (c == 62) _ _ _ q (λ h q. hit c 62 s.Greater u h refl q) (λ h q.
+    by_test (c == 61) _ _ _ q (λ h q. hit c 61 s.Assign u h refl q) (λ h q.
+    by_test (c == 46) _ _ _ q (λ h q. hit c 46 s.Dot u h refl q) (λ h q.
+    by_test (c == 44) _ _ _ q (λ h q. hit c 44 s.Comma u h refl q) (λ h q.
+    by_test (c == 58) _ _ _ q (λ h q. hit c 58 s.Colon u h refl q) (λ h q.
+    by_test (c == 124) _ _ _ q (λ h q. hit c 124 s.Pipe u h refl q) (λ h q.
+    by_test (c == 40) _ _ _ q (λ h q. hit c 40 s.LeftParen u h refl q) (λ h q.
+    by_test (c == 41) _ _ _ q (λ h q. hit c 41 s.RightParen u h refl q) (λ h q.
+    by_test (c == 91) _ _ _ q (λ h q. hit c 91 s.LeftBracket u h refl q) (λ h q.
+    by_test (c == 93) _ _ _ q (λ h q. hit c 93 s.RightBracket u h refl q) (λ h q.
+    by_test (c == 123) _ _ _ q (λ h q. hit c 123 s.LeftBrace u h refl q) (λ h q.
+    by_test (c == 125) _ _ _ q (λ h q. hit c 125 s.RightBrace u h refl q) (λ h q.
+    cc))))))))))))))))))
+
+hit_two : (c d m n : ℕ) (t u : Sign) → (c == m && d == n) ≡ true → sign_text t ≡ m ∷ n ∷ [] → ((x : Text) → SignEnds t x) → ◌≡◌ {A = Option Sign} (Some t) (Some u) → (sign_text u ≡ c ∷ d ∷ []) × ((x : Text) → SignEnds u x)
+hit_two c d m n t u h w a e =
+    let same : t ≡ u = cc in let p = both (c == m) (d == n) h in
+    let is : c ≡ m = grind (arith, nat_tests) in let at : d ≡ n = grind (arith, nat_tests) in
+    (sym (ap sign_text same) ∙ w ∙ ap₂ (λ j k. j ∷ k ∷ []) (sym is) (sym at), subst (λ v. (x : Text) → SignEnds v x) same a)
+
+ends_Power : (x : Text) → SignEnds s.Power x
+ends_Power [] = tt
+ends_Power (e ∷ x) = refl
+
+ends_FloorDivide : (x : Text) → SignEnds s.FloorDivide x
+ends_FloorDivide [] = tt
+ends_FloorDivide (e ∷ x) = refl
+
+ends_Equal : (x : Text) → SignEnds s.Equal x
+ends_Equal [] = tt
+ends_Equal (e ∷ x) = refl
+
+ends_NotEqual : (x : Text) → SignEnds s.NotEqual x
+ends_NotEqual [] = tt
+ends_NotEqual (e ∷ x) = refl
+
+ends_LessEqual : (x : Text) → SignEnds s.LessEqual x
+ends_LessEqual [] = tt
+ends_LessEqual (e ∷ x) = refl
+
+ends_GreaterEqual : (x : Text) → SignEnds s.GreaterEqual x
+ends_GreaterEqual [] = tt
+ends_GreaterEqual (e ∷ x) = refl
+
+two_says : (c d : ℕ) (u : Sign) → two_sign c d ≡ Some u → (sign_text u ≡ c ∷ d ∷ []) × ((x : Text) → SignEnds u x)
+two_says c d u e =
+    by_test (c == 42 && d == 42) _ _ _ e (λ h q. hit_two c d 42 42 s.Power u h refl ends_Power q) (λ h q.
+    by_test (c == 47 && d == 47) _ _ _ q (λ h q. hit_two c d 47 47 s.FloorDivide u h refl ends_FloorDivide q) (λ h q.
+    by_test (c == 61 && d == 61) _ _ _ q (λ h q. hit_two c d 61 61 s.Equal u h refl ends_Equal q) (λ h q.
+    by_test (c == 33 && d == 61) _ _ _ q (λ h q. hit_two c d 33 61 s.NotEqual u h refl ends_NotEqual q) (λ h q.
+    by_test (c == 60 && d == 61) _ _ _ q (λ h q. hit_two c d 60 61 s.LessEqual u h refl ends_LessEqual q) (λ h q.
+    by_test (c == 62 && d == 61) _ _ _ q (λ h q. hit_two c d 62 61 s.GreaterEqual u h refl ends_GreaterEqual q) (λ h q.
+    cc))))))
+
+-- where no sign of two characters stands, one of one character is the longest
+stuck : (b : Bool) (t : Sign) (o : Option Sign) → cond b (Some t) o ≡ None → b ≡ false
+stuck true t o h = cc
+stuck false t o h = refl
+
+head_is : (c n : ℕ) → n ∷ [] ≡ c ∷ [] → c ≡ n
+head_is c n h = cc
+
+shut : (c d : ℕ) (u : Sign) → sign_text u ≡ c ∷ [] → two_sign c d ≡ None → goes_on u d ≡ false
+shut c d s.Plus e h = refl
+shut c d s.Minus e h = refl
+shut c d s.Times e h = stuck (d == 42) s.Power _ (subst (λ k. two_sign k d ≡ None) (head_is c 42 e) h)
+shut c d s.Percent e h = refl
+shut c d s.Tilde e h = refl
+shut c d s.Less e h = stuck (d == 61) s.LessEqual _ (subst (λ k. two_sign k d ≡ None) (head_is c 60 e) h)
+shut c d s.Greater e h = stuck (d == 61) s.GreaterEqual _ (subst (λ k. two_sign k d ≡ None) (head_is c 62 e) h)
+shut c d s.Assign e h = stuck (d == 61) s.Equal _ (subst (λ k. two_sign k d ≡ None) (head_is c 61 e) h)
+shut c d s.Dot e h = refl
+shut c d s.Comma e h = refl
+shut c d s.Colon e h = refl
+shut c d s.Pipe e h = refl
+shut c d s.LeftParen e h = refl
+shut c d s.RightParen e h = refl
+shut c d s.LeftBracket e h = refl
+shut c d s.RightBracket e h = refl
+shut c d s.LeftBrace e h = refl
+shut c d s.RightBrace e h = refl
+shut c d s.Power e h = refl
+shut c d s.FloorDivide e h = refl
+shut c d s.Equal e h = refl
+shut c d s.NotEqual e h = refl
+shut c d s.LessEqual e h = refl
+shut c d s.GreaterEqual e h = refl
+
+-- what is found is spelled in front
+abbrev pub FoundSign : Sign → Text → Text → Type 0
+FoundSign u x rest = (x ≡ sign_text u ++ rest) × SignEnds u rest × (length rest < length x)
+
+alone_says : (c : ℕ) (rest : Text) (u : Sign) (z : Text) (o : Option Sign) → one_sign c ≡ o → alone o rest ≡ Some (u, z) → (one_sign c ≡ Some u) × (rest ≡ z)
+alone_says c rest u z None w e = cc
+alone_says c rest u z (Some t) w e =
+    let p : (t, rest) ≡ (u, z) = cc in (w ∙ ap (λ (q : Sign × Text). Some q.0) p, ap (λ (q : Sign × Text). q.1) p)
+
+short : (c : ℕ) (rest : Text) (u : Sign) (z : Text) → SignEnds u rest → one_sign c ≡ Some u → rest ≡ z → FoundSign u (c ∷ rest) z
+short c rest u z a o r = (ap (λ y. c ∷ y) r ∙ sym (ap (λ y. y ++ z) (one_says c u o)), subst (SignEnds u) r a, omega (arith, ap length r))
+
+behind_two : (c d : ℕ) (more z : Text) → more ≡ z → length z < length (c ∷ d ∷ more)
+behind_two c d more z r = omega (arith, ap length r)
+
+long : (c d : ℕ) (more : Text) (u : Sign) (z : Text) (o : Option Sign) → two_sign c d ≡ o → longest o (one_sign c) more (d ∷ more) ≡ Some (u, z) → FoundSign u (c ∷ d ∷ more) z
+long c d more u z (Some t) w e =
+    let p : (t, more) ≡ (u, z) = cc in let y = two_says c d u (w ∙ ap (λ (q : Sign × Text). Some q.0) p) in let r : more ≡ z = ap (λ (q : Sign × Text). q.1) p in
+    (ap (λ k. c ∷ d ∷ k) r ∙ sym (ap (λ k. k ++ z) y.0), y.1 z, behind_two c d more z r)
+long c d more u z None w e =
+    let a = alone_says c (d ∷ more) u z (one_sign c) refl e in
+    short c (d ∷ more) u z (shut c d u (one_says c u a.0) w) a.0 a.1
+
+pub sign_says : (x : Text) (u : Sign) (rest : Text) → sign_at x ≡ Some (u, rest) → FoundSign u x rest
+unfolding sign_at
+sign_says [] u rest e = cc
+sign_says (c ∷ []) u rest e = let a = alone_says c [] u rest (one_sign c) refl e in short c [] u rest tt a.0 a.1
+sign_says (c ∷ d ∷ more) u rest e = long c d more u rest (two_sign c d) refl e
+
+-- a sign begins with no whitespace, and no other token begins with it
+pub sign_head : (t : Sign) → (c : ℕ) × (cs : Text) × (sign_text t ≡ c ∷ cs) × (starts_name c ≡ false) × (is_space c ≡ false) × (is_digit 10 c ≡ false) × (is_quote c ≡ false)
+unfolding digit_value
+sign_head s.Plus = (43, [], refl, no_start 43 (omega arith) refl, refl, refl, refl)
+sign_head s.Minus = (45, [], refl, no_start 45 (omega arith) refl, refl, refl, refl)
+sign_head s.Times = (42, [], refl, no_start 42 (omega arith) refl, refl, refl, refl)
+sign_head s.Percent = (37, [], refl, no_start 37 (omega arith) refl, refl, refl, refl)
+sign_head s.Tilde = (126, [], refl, no_start 126 (omega arith) refl, refl, refl, refl)
+sign_head s.Less = (60, [], refl, no_start 60 (omega arith) refl, refl, refl, refl)
+sign_head s.Greater = (62, [], refl, no_start 62 (omega arith) refl, refl, refl, refl)
+sign_head s.Assign = (61, [], refl, no_start 61 (omega arith) refl, refl, refl, refl)
+sign_head s.Dot = (46, [], refl, no_start 46 (omega arith) refl, refl, refl, refl)
+sign_head s.Comma = (44, [], refl, no_start 44 (omega arith) refl, refl, refl, refl)
+sign_head s.Colon = (58, [], refl, no_start 58 (omega arith) refl, refl, refl, refl)
+sign_head s.Pipe = (124, [], refl, no_start 124 (omega arith) refl, refl, refl, refl)
+sign_head s.LeftParen = (40, [], refl, no_start 40 (omega arith) refl, refl, refl, refl)
+sign_head s.RightParen = (41, [], refl, no_start 41 (omega arith) refl, refl, refl, refl)
+sign_head s.LeftBracket = (91, [], refl, no_start 91 (omega arith) refl, refl, refl, refl)
+sign_head s.RightBracket = (93, [], refl, no_start 93 (omega arith) refl, refl, refl, refl)
+sign_head s.LeftBrace = (123, [], refl, no_start 123 (omega arith) refl, refl, refl, refl)
+sign_head s.RightBrace = (125, [], refl, no_start 125 (omega arith) refl, refl, refl, refl)
+sign_head s.Power = (42, 42 ∷ [], refl, no_start 42 (omega arith) refl, refl, refl, refl)
+sign_head s.FloorDivide = (47, 47 ∷ [], refl, no_start 47 (omega arith) refl, refl, refl, refl)
+sign_head s.Equal = (61, 61 ∷ [], refl, no_start 61 (omega arith) refl, refl, refl, refl)
+sign_head s.NotEqual = (33, 61 ∷ [], refl, no_start 33 (omega arith) refl, refl, refl, refl)
+sign_head s.LessEqual = (60, 61 ∷ [], refl, no_start 60 (omega arith) refl, refl, refl, refl)
+sign_head s.GreaterEqual = (62, 61 ∷ [], refl, no_start 62 (omega arith) refl, refl, refl, refl)
