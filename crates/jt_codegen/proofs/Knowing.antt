@@ -1,13 +1,12 @@
 -- Where no filter and no test has an unknown name, each operation of what a template is resolved to gets as many values as it takes.
 use Rattle.std.proofs.Common.{◌≡◌, ℕ, Bool, true, false, ◌||◌, List, [], ◌∷◌, Option, Some, None, refl, sym, ap, ◌∙◌, subst}
-use Rattle.std.specs.Prelude.{not, if◌then◌else◌, option_map, bytes_eq}
+use Rattle.std.specs.Prelude.{not, if◌then◌else◌, bytes_eq}
 use Rattle.std.specs.Option.{option_or}
 use Rattle.std.specs.List.{list_any, find}
 use Rattle.jt_ops.specs.declared.test_id.TestId.{TestId}
 use Rattle.jt_ops.specs.TestTable.{test_names}
-use Rattle.jt_expr.specs.declared.named.Named.{Named}
 use Rattle.jt_expr.specs.declared.named.Named.TheVariants as n
-use Rattle.jt_expr.specs.Named.{all_tests, is_test, has_unknown, exprs_have_unknown, pairs_have_unknown, unknown}
+use Rattle.jt_expr.specs.Named.{all_tests, is_test, has_unknown, exprs_have_unknown, pairs_have_unknown}
 use Rattle.jt_expr.specs.Trees as written
 use Rattle.jt_expr.specs.Trees.{Expr, constant, name, group, list_of, map_of, attribute, item, filter, test, unary, binary, when, choice, Exprs, no_exprs, expr, Pairs, no_pairs, pair}
 use Rattle.jt_parse.specs.Names.{unknown_at, stmt_unknown, body_unknown, branch_unknown}
@@ -121,7 +120,7 @@ mutual
 at_known : (line : ℕ) (e : Expr) → unknown_at line e ≡ None → ExprKnown e
 at_known line e h = by (has_unknown n.Filter e) (has_unknown n.Test e) refl refl h
   where
-    by : (f t : Bool) → has_unknown n.Filter e ≡ f → has_unknown n.Test e ≡ t → option_map {U = ℕ × Named} (λ (u : Named). (line, u)) (if f then Some n.Filter else if t then Some n.Test else None) ≡ None → ExprKnown e
+    by : (f t : Bool) → has_unknown n.Filter e ≡ f → has_unknown n.Test e ≡ t → (if f || t then Some (line, e) else None) ≡ None → ExprKnown e
     by true t p q h = absurd cc
     by false true p q h = absurd cc
     by false false p q h = expr_known e p q
