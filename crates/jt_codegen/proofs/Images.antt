@@ -51,15 +51,15 @@ module _ (sources : Sources) (entry : Text) (options : Options) (c : Seen) (is :
   body_same q b same bodies = let e : map (λ (r : Routine). r.body) p.routines ≡ b ∷ [] = ap (λ (x : Program). map (λ (r : Routine). r.body) x.routines) (sym same) ∙ bodies in cc
 
   low : (q : Program) (b : SBody) (t : Bool) → q ≡ p → map (λ (r : Routine). r.body) q.routines ≡ b ∷ [] → nat_le (body_height b) max_entries ≡ t && nat_le 0 max_entries → t ≡ true → body_height body ≤ max_entries
-  low q b t same bodies e yes =
-      low_le (body_height body) max_entries (ap (λ (x : SBody). nat_le (body_height x) max_entries) (sym (body_same q b same bodies)) ∙ e ∙ ap (λ z. z && nat_le 0 max_entries) yes ∙ zero_low max_entries)
+  low q b t same bodies e few =
+      low_le (body_height body) max_entries (ap (λ (x : SBody). nat_le (body_height x) max_entries) (sym (body_same q b same bodies)) ∙ e ∙ ap (λ z. z && nat_le 0 max_entries) few ∙ zero_low max_entries)
 
   pub image_compiled : (q : Program) (o : Option Code) (k : Code) (b : SBody) (t : Bool) → q ≡ p → KeepsRules c.body → map (λ (r : Routine). r.body) q.routines ≡ b ∷ [] → nat_le (body_height b) max_entries ≡ t && nat_le 0 max_entries → t ≡ true
       → o ≡ Some (compiled q) → IsCode k → o ≡ Some k → IsCompiled sources entry options k
-  image_compiled q o k b t same lawful bodies few yes code whole held =
-      let e : compiled q ≡ k = cc in
-      let f : compiled p ≡ k = ap compiled (sym same) ∙ e in
-      record { chain = c; is = is; lawful = lawful; code = subst (CompilesTo c.name c.escaping c.body) f (compiles c.name c.escaping c.body (takes lawful) (low q b t same bodies few yes) (subst IsCode (sym f) whole)) }
+  image_compiled q o k b t same lawful bodies e few code whole held =
+      let one : compiled q ≡ k = cc in
+      let f : compiled p ≡ k = ap compiled (sym same) ∙ one in
+      record { chain = c; is = is; lawful = lawful; code = subst (CompilesTo c.name c.escaping c.body) f (compiles c.name c.escaping c.body (takes lawful) (low q b t same bodies e few) (subst IsCode (sym f) whole)) }
 
   -- the code passes a limit where its instructions are refused
   pub emission_passed : (q : Program) → q ≡ p → KeepsRules c.body → ¬ (FitsImage (compiled q)) → ¬ (KeepsLimits (compiled p))

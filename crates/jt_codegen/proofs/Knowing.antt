@@ -120,7 +120,7 @@ mutual
 at_known : (line : ℕ) (e : Expr) → unknown_at line e ≡ None → ExprKnown e
 at_known line e h = by (has_unknown n.Filter e) (has_unknown n.Test e) refl refl h
   where
-    by : (f t : Bool) → has_unknown n.Filter e ≡ f → has_unknown n.Test e ≡ t → (if f || t then Some (line, e) else None) ≡ None → ExprKnown e
+    by : (f t : Bool) → has_unknown n.Filter e ≡ f → has_unknown n.Test e ≡ t → if◌then◌else◌ {A = Option (ℕ × Expr)} (f || t) (Some (line, e)) None ≡ None → ExprKnown e
     by true t p q h = absurd cc
     by false true p q h = absurd cc
     by false false p q h = expr_known e p q
