@@ -3,8 +3,12 @@ use Rattle.std.proofs.Common.{◌≡◌, ℕ, List, [], ◌∷◌, ◌++◌, map
 use Rattle.jt_parse.specs.Trees.{Text}
 use Rattle.jt_scopes.specs.Slots as slots
 use Rattle.jt_scopes.specs.Slots.{SBody}
-use Rattle.jt_scopes.specs.View.{Front, expr_view, row_view, body_front, choice_front, stmt_step, stmt_view, body_view, choice_view}
-use Rattle.jt_scopes.specs.declared.program.SExpr.{SExpr}
+use Rattle.jt_scopes.specs.View.{Front, maker_view, expr_step, expr_view, row_view, body_front, choice_front, stmt_step, stmt_view, body_view, choice_view}
+use Rattle.jt_scopes.specs.declared.program.Maker.{Maker}
+use Rattle.jt_scopes.specs.declared.program.SExpr.{SExpr, fold-roll-SExpr}
+use Rattle.jt_scopes.specs.declared.program.SExpr.TheOpen.{SExpr-F}
+use Rattle.jt_scopes.specs.declared.program.SExpr.TheVariants as form
+use Rattle.jt_scopes.specs.declared.program.SExpr.TheVariants.{rolls-Made}
 use Rattle.jt_scopes.specs.declared.program.SStmt.{SStmt, the_lemmas, fold-roll-SStmt}
 use Rattle.jt_scopes.specs.declared.program.SStmt.TheOpen.{SStmt-F}
 use Rattle.jt_scopes.specs.declared.program.SStmt.TheVariants as s
@@ -56,4 +60,7 @@ module _ (template : Text) where
 
 pub row_push : (es : List SExpr) (x : SExpr) (behind : slots.SRow) → row_view (es ++ x ∷ []) behind ≡ row_view es (slots.item (expr_view x) behind)
 row_push [] x behind = refl
-row_push (e ∷ es) x behind = ap (slots.item (expr_view e)) (row_push es x behind)
+row_push (y ∷ es) x behind = ap (slots.item (expr_view y)) (row_push es x behind)
+
+pub view-Made : (k : Maker) (es : Vec SExpr Global) → expr_view (form.Made k es) ≡ slots.made (maker_view k) (row_view es.items slots.none)
+view-Made k es = ap expr_view (sym (rolls-Made k es)) ∙ fold-roll-SExpr slots.SExpr expr_step (SExpr-F.Made k es)
