@@ -1,15 +1,21 @@
 -- What is answered of segments.
-use Rattle.std.proofs.Common.{◌≡◌, ℕ, ◌≤◌, List, refl, sym, ap, ◌∙◌, Option, Some, None, Result, Ok, Err, IfOk, IfErr, MatchResult}
+use Rattle.std.proofs.Common.{◌≡◌, ℕ, ◌≤◌, Bool, true, false, ◌||◌, if◌then◌else◌, List, refl, sym, ap, subst, ◌∙◌, Option, Some, None, Result, Ok, Err, IfOk, IfErr, MatchResult}
+use Rattle.std.specs.Option.{option_or}
 use Rattle.jt_scan.specs.Cut.{Segment, weight_of}
 use Rattle.jt_expr.specs.Reading.{Fault, syntax, deep}
+use Rattle.jt_expr.specs.Trees.{Expr}
+use Rattle.jt_expr.specs.Named.{has_unknown, IsKnown, Blames}
+use Rattle.jt_expr.specs.Gives.{GivesWhole}
+use Rattle.jt_expr.specs.declared.error.ExprError.{ExprError}
+use Rattle.jt_expr.specs.declared.error.ExprError.TheVariants as x
 use Rattle.jt_expr.specs.declared.named.Named.{Named}
 use Rattle.jt_expr.specs.declared.named.Named.TheVariants as named
 use Rattle.jt_parse.specs.Trees.{Body, body_levels, body_weight}
-use Rattle.jt_parse.specs.Names.{body_unknown}
+use Rattle.jt_parse.specs.Names.{unknown_at, body_unknown, StandsAt}
 use Rattle.jt_parse.specs.Grammar.{Forms}
 use Rattle.jt_parse.specs.Reading.{parsed}
 use Rattle.jt_parse.specs.View.{body_of}
-use Rattle.jt_parse.specs.Gives.{GivesTemplate, GivesKnown, Finds, HoldsUnknown, IsRefusal, refusal_of}
+use Rattle.jt_parse.specs.Gives.{Refuses, GivesTemplate, GivesNames, GivesKnown, Finds, HoldsUnknown, IsRefusal, refusal_at}
 use Rattle.jt_parse.specs.declared.error.ParseError.{ParseError}
 use Rattle.jt_parse.specs.declared.error.ParseError.TheVariants as e
 use Rattle.jt_parse.specs.declared.tree.Template.{Template}
@@ -18,11 +24,62 @@ use Rattle.jt_parse.proofs.Weighs.{forms_weighs}
 use Rattle.jt_parse.proofs.Short.{forms_short}
 use Rattle.jt_parse.specs.Bytes.{body_bytes, bytes_of}
 
+-- ---- names
+
+option_left : {A : Type 0} (o p : Option A) (a : A) → o ≡ Some a → option_or o p ≡ Some a
+option_left o p a e = ap (λ q. option_or q p) e
+
+option_right : {A : Type 0} (o p : Option A) → o ≡ None → option_or o p ≡ p
+option_right o p e = ap (λ q. option_or q p) e
+
+-- a fault in front is the first one
+pub fault_first : (o p : Option (ℕ × Expr)) (f : ParseError) → GivesNames o (Err f) → GivesNames (option_or o p) (Err f)
+fault_first o p (e.Syntax l) g = absurd g
+fault_first o p (e.TooDeep l) g = absurd g
+fault_first o p (e.UnknownFilter l) (t, is, h) = (t, option_left o p (l, t) is, h)
+fault_first o p (e.UnknownTest l) (t, is, h) = (t, option_left o p (l, t) is, h)
+fault_first o p e.NoMemory g = absurd g
+
+-- behind what has none, it is what is behind
+pub fault_behind : (o p : Option (ℕ × Expr)) (r : Result (Unit {0}) ParseError) → o ≡ None → GivesNames p r → GivesNames (option_or o p) r
+fault_behind o p r e g = subst (λ q. GivesNames q r) (sym (option_right o p e)) g
+
+both_known : (a b : Bool) (p : ℕ × Expr) → a ≡ false → b ≡ false → (if a || b then Some p else None) ≡ None
+both_known a b p f g = ap (λ c. if c || b then Some p else None) f ∙ ap (λ c. if c then Some p else None) g
+
+first_blamed : (a b : Bool) (p : ℕ × Expr) → a ≡ true → (if a || b then Some p else None) ≡ Some p
+first_blamed a b p f = ap (λ c. if c || b then Some p else None) f
+
+second_blamed : (a b : Bool) (p : ℕ × Expr) → b ≡ true → (if a || b then Some p else None) ≡ Some p
+second_blamed true b p f = refl
+second_blamed false b p f = ap (λ c. if c then Some p else None) f
+
+pub known_at : (line : ℕ) (t : Expr) → IsKnown t → unknown_at line t ≡ None
+known_at line t (f, g) = both_known (has_unknown named.Filter t) (has_unknown named.Test t) (line, t) f g
+
+pub blamed_at : (line : ℕ) (t : Expr) (f : ExprError) → Blames f t → GivesNames (unknown_at line t) (Err (refusal_at line f))
+blamed_at line t x.Syntax h = absurd h
+blamed_at line t x.TooDeep h = absurd h
+blamed_at line t x.UnknownFilter h = (t, first_blamed (has_unknown named.Filter t) (has_unknown named.Test t) (line, t) h, h)
+blamed_at line t x.UnknownTest h = (t, second_blamed (has_unknown named.Filter t) (has_unknown named.Test t) (line, t) h, h)
+blamed_at line t x.NoMemory h = absurd h
+
 -- ---- what is read, and its names
 
-pub found_unknown : (o : Result Body Fault) (b : Body) (line : ℕ) (x : Named) → o ≡ Ok b → body_unknown b ≡ Some (line, x) → GivesKnown o (Err (refusal_of (line, x)))
-found_unknown o b line named.Filter e f = (b, e, f)
-found_unknown o b line named.Test e f = (b, e, f)
+-- a refusal of an expression
+pub refused_at : (o : Result Expr Fault) (line : ℕ) (f : ExprError) → GivesWhole o (Err f) → Refuses o (refusal_at line f)
+refused_at o line x.Syntax g = g
+refused_at o line x.TooDeep g = g
+refused_at o line x.UnknownFilter g = absurd g
+refused_at o line x.UnknownTest g = absurd g
+refused_at o line x.NoMemory g = tt
+
+pub found_unknown : (o : Result Body Fault) (b : Body) (f : ParseError) → o ≡ Ok b → GivesNames (body_unknown b) (Err f) → GivesKnown o (Err f)
+found_unknown o b (e.Syntax l) is g = absurd g
+found_unknown o b (e.TooDeep l) is g = absurd g
+found_unknown o b (e.UnknownFilter l) is g = (b, is, g)
+found_unknown o b (e.UnknownTest l) is g = (b, is, g)
+found_unknown o b e.NoMemory is g = absurd g
 
 pub refused_read : (o : Result Body Fault) (f : ParseError) → GivesTemplate o (Err f) → GivesKnown o (Err f)
 refused_read o (e.Syntax l) g = g
@@ -34,11 +91,14 @@ refused_read o e.NoMemory g = tt
 same_body : (o : Result Body Fault) (a b : Body) → o ≡ Ok a → o ≡ Ok b → a ≡ b
 same_body o a b e f = cc
 
-not_known : {G : Type 0} (o : Result Body Fault) (b : Body) (p : ℕ × Named) → Finds o p → o ≡ Ok b → body_unknown b ≡ None → G
-not_known o b p (a, e, f) g n = let same : body_unknown a ≡ body_unknown b = ap body_unknown (same_body o a b e g) in absurd (cc)
+stands_not : {G : Type 0} (line : ℕ) (n : Named) (found : Option (ℕ × Expr)) → StandsAt line n found → found ≡ None → G
+stands_not line n found (t, is, h) none = absurd (cc)
 
-holds : (ss : List Segment) (line : ℕ) (x : Named) → Finds (parsed 100 ss) (line, x) → HoldsUnknown line x ss
-holds ss line x (b, e, f) = let h = exact 100 b ss e in (b, h.0, h.1, f)
+not_known : {G : Type 0} (o : Result Body Fault) (b : Body) (line : ℕ) (n : Named) → Finds o line n → o ≡ Ok b → body_unknown b ≡ None → G
+not_known o b line n (a, is, s) g k = stands_not line n (body_unknown a) s (ap body_unknown (same_body o a b is g) ∙ k)
+
+holds : (ss : List Segment) (line : ℕ) (n : Named) → Finds (parsed 100 ss) line n → HoldsUnknown line n ss
+holds ss line n (b, is, s) = let h = exact 100 b ss is in (b, h.0, h.1, s)
 
 -- ---- the answer
 
@@ -54,8 +114,8 @@ pub answer_only : (ss : List Segment) (r : Result Template ParseError) → Gives
 answer_only ss (Ok t) g b f le k = same_body (parsed 100 ss) (body_of t) b g.0 (found 100 b ss f le)
 answer_only ss (Err (e.Syntax l)) g b f le k = different syntax b (sym (found 100 b ss f le) ∙ g)
 answer_only ss (Err (e.TooDeep l)) g b f le k = different deep b (sym (found 100 b ss f le) ∙ g)
-answer_only ss (Err (e.UnknownFilter l)) g b f le k = not_known (parsed 100 ss) b (l, named.Filter) g (found 100 b ss f le) k
-answer_only ss (Err (e.UnknownTest l)) g b f le k = not_known (parsed 100 ss) b (l, named.Test) g (found 100 b ss f le) k
+answer_only ss (Err (e.UnknownFilter l)) g b f le k = not_known (parsed 100 ss) b l named.Filter g (found 100 b ss f le) k
+answer_only ss (Err (e.UnknownTest l)) g b f le k = not_known (parsed 100 ss) b l named.Test g (found 100 b ss f le) k
 answer_only ss (Err e.NoMemory) g b f le k = refl
 
 pub answer_refused : (ss : List Segment) (r : Result Template ParseError) → GivesKnown (parsed 100 ss) r → IfErr r (λ x. IsRefusal x ss)
