@@ -11,7 +11,8 @@ use Rattle.jt_scopes.specs.Formed.{form_view}
 use Rattle.jt_scopes.specs.View.{row_view, expr_view as written}
 use Rattle.jt_scopes.specs.Scoped.{values, expr_in, row_in, pairs_in}
 use Rattle.jt_scopes.specs.declared.program.Maker.TheVariants as m
-use Rattle.jt_scopes.proofs.Fronts.{view-Made}
+use Rattle.jt_scopes.specs.declared.program.SExpr.TheVariants as s
+use Rattle.jt_scopes.proofs.Fronts.{view-Made, view-Pooled, view-Undefined}
 use Rattle.jt_scopes.proofs.Shown.{counted, holds_of, shown_map, shown_attribute, shown_item, shown_call, shown_test, shown_binary, shown_when, shown_choice}
 use Rattle.jt_scopes.proofs.Built.{row_built, row_pooled, entry_built, entry_pooled, two_pooled, three_pooled, attribute_built, item_built, call_built, test_built, binary_built, when_built, choice_of}
 use Rattle.jt_scopes.proofs.expressions.+resolve.Goals as goal
@@ -194,8 +195,8 @@ resolve_expression-returns-in_ok-place-in-When-clause-resolved t c =
     let q = values c.resolve_expression-in-When.new.pool in
     let r = values c.resolve_expression-in-When-2.new.pool in
     let is = shown_when c.args.expr.now a b c.in-When.condition c.in-When.value c.in-When.is c.deref-in-When.ensures c.deref-in-When-2.ensures in
-    IfOk-weaker c.chosen.result (λ e. written e ≡ slots.choice asked first (slots.pooled n)) (λ e. written e ≡ expr_in c.args.scope.now x (length p))
-    (λ e h. h ∙ when_built c.args.scope.now x (expr_view a) (expr_view b) asked first n p q r is
+    IfOk-weaker c.chosen.result (λ e. written e ≡ slots.choice asked first (written (s.Pooled n))) (λ e. written e ≡ expr_in c.args.scope.now x (length p))
+    (λ e h. h ∙ ap (slots.choice asked first) (view-Pooled n) ∙ when_built c.args.scope.now x (expr_view a) (expr_view b) asked first n p q r is
     c.in_ok-asked-in-When.ensures.resolved c.in_ok-asked-in-When.ensures.pooled c.in_ok-first-in-When.ensures.resolved c.in_ok-first-in-When.ensures.pooled c.in_ok-place-in-When.ensures.placed) c.chosen.ensures.made
 
 pub resolve_expression-returns-in_ok-place-in-When-clause-pooled : goal.resolve_expression-returns-in_ok-place-in-When-clause-pooled
@@ -203,10 +204,12 @@ resolve_expression-returns-in_ok-place-in-When-clause-pooled t c =
     let a = c.deref-in-When.result.now in
     let b = c.deref-in-When-2.result.now in
     let p = values c.args.pool.now in
-    let s = values c.add_value-in-When.new.pool in
-    let all : s ≡ p ++ expr_pool (expr_view c.args.expr.now) =
-    three_pooled p (expr_pool (expr_view a)) (expr_pool (expr_view b)) (tree.undefined ∷ []) (values c.resolve_expression-in-When.new.pool) (values c.resolve_expression-in-When-2.new.pool) s
-    c.in_ok-asked-in-When.ensures.pooled c.in_ok-first-in-When.ensures.pooled c.in_ok-place-in-When.ensures.added
+    let r = values c.resolve_expression-in-When-2.new.pool in
+    let last = values c.add_value-in-When.new.pool in
+    let added : last ≡ r ++ tree.undefined ∷ [] = c.in_ok-place-in-When.ensures.added ∙ ap (λ v. r ++ v ∷ []) view-Undefined in
+    let all : last ≡ p ++ expr_pool (expr_view c.args.expr.now) =
+    three_pooled p (expr_pool (expr_view a)) (expr_pool (expr_view b)) (tree.undefined ∷ []) (values c.resolve_expression-in-When.new.pool) r last
+    c.in_ok-asked-in-When.ensures.pooled c.in_ok-first-in-When.ensures.pooled added
     ∙ ap (λ z. p ++ expr_pool z) (shown_when c.args.expr.now a b c.in-When.condition c.in-When.value c.in-When.is c.deref-in-When.ensures c.deref-in-When-2.ensures) in
     holds_of c.chosen.result _ all
 
@@ -233,9 +236,9 @@ resolve_expression-returns-in_ok-second-in-Choice-clause-pooled t c =
     let b = c.deref-in-Choice-2.result.now in
     let d = c.deref-in-Choice-3.result.now in
     let p = values c.args.pool.now in
-    let s = values c.resolve_expression-in-Choice-3.new.pool in
-    let all : s ≡ p ++ expr_pool (expr_view c.args.expr.now) =
-    three_pooled p (expr_pool (expr_view a)) (expr_pool (expr_view b)) (expr_pool (expr_view d)) (values c.resolve_expression-in-Choice.new.pool) (values c.resolve_expression-in-Choice-2.new.pool) s
+    let last = values c.resolve_expression-in-Choice-3.new.pool in
+    let all : last ≡ p ++ expr_pool (expr_view c.args.expr.now) =
+    three_pooled p (expr_pool (expr_view a)) (expr_pool (expr_view b)) (expr_pool (expr_view d)) (values c.resolve_expression-in-Choice.new.pool) (values c.resolve_expression-in-Choice-2.new.pool) last
     c.in_ok-asked-in-Choice.ensures.pooled c.in_ok-first-in-Choice.ensures.pooled c.in_ok-second-in-Choice.ensures.pooled
     ∙ ap (λ z. p ++ expr_pool z) (shown_choice c.args.expr.now a b d c.in-Choice.condition c.in-Choice.value c.in-Choice.other c.in-Choice.is c.deref-in-Choice.ensures c.deref-in-Choice-2.ensures c.deref-in-Choice-3.ensures) in
     holds_of c.chosen-in-Choice.result _ all
