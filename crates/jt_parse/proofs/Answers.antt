@@ -1,17 +1,15 @@
 -- What is answered of segments.
-use Rattle.std.proofs.Common.{◌≡◌, ℕ, ◌≤◌, Bool, true, false, ◌||◌, if◌then◌else◌, List, refl, sym, ap, subst, ◌∙◌, Option, Some, None, Result, Ok, Err, IfOk, IfErr, MatchResult}
-use Rattle.std.specs.Option.{option_or}
+use Rattle.std.proofs.Common.{◌≡◌, ℕ, ◌≤◌, List, refl, sym, ap, ◌∙◌, Option, Some, None, Result, Ok, Err, IfOk, IfErr, MatchResult}
 use Rattle.jt_scan.specs.Cut.{Segment, weight_of}
 use Rattle.jt_expr.specs.Reading.{Fault, syntax, deep}
 use Rattle.jt_expr.specs.Trees.{Expr}
-use Rattle.jt_expr.specs.Named.{has_unknown, IsKnown, Blames}
 use Rattle.jt_expr.specs.Gives.{GivesWhole}
 use Rattle.jt_expr.specs.declared.error.ExprError.{ExprError}
-use Rattle.jt_expr.specs.declared.error.ExprError.TheVariants as x
+use Rattle.jt_expr.specs.declared.error.ExprError.TheVariants as fault
 use Rattle.jt_expr.specs.declared.named.Named.{Named}
 use Rattle.jt_expr.specs.declared.named.Named.TheVariants as named
 use Rattle.jt_parse.specs.Trees.{Body, body_levels, body_weight}
-use Rattle.jt_parse.specs.Names.{unknown_at, body_unknown, StandsAt}
+use Rattle.jt_parse.specs.Names.{body_unknown, StandsAt}
 use Rattle.jt_parse.specs.Grammar.{Forms}
 use Rattle.jt_parse.specs.Reading.{parsed}
 use Rattle.jt_parse.specs.View.{body_of}
@@ -24,55 +22,15 @@ use Rattle.jt_parse.proofs.Weighs.{forms_weighs}
 use Rattle.jt_parse.proofs.Short.{forms_short}
 use Rattle.jt_parse.specs.Bytes.{body_bytes, bytes_of}
 
--- ---- names
-
-option_left : {A : Type 0} (o p : Option A) (a : A) → o ≡ Some a → option_or o p ≡ Some a
-option_left o p a e = ap (λ q. option_or q p) e
-
-option_right : {A : Type 0} (o p : Option A) → o ≡ None → option_or o p ≡ p
-option_right o p e = ap (λ q. option_or q p) e
-
--- a fault in front is the first one
-pub fault_first : (o p : Option (ℕ × Expr)) (f : ParseError) → GivesNames o (Err f) → GivesNames (option_or o p) (Err f)
-fault_first o p (e.Syntax l) g = absurd g
-fault_first o p (e.TooDeep l) g = absurd g
-fault_first o p (e.UnknownFilter l) (t, is, h) = (t, option_left o p (l, t) is, h)
-fault_first o p (e.UnknownTest l) (t, is, h) = (t, option_left o p (l, t) is, h)
-fault_first o p e.NoMemory g = absurd g
-
--- behind what has none, it is what is behind
-pub fault_behind : (o p : Option (ℕ × Expr)) (r : Result (Unit {0}) ParseError) → o ≡ None → GivesNames p r → GivesNames (option_or o p) r
-fault_behind o p r e g = subst (λ q. GivesNames q r) (sym (option_right o p e)) g
-
-both_known : (a b : Bool) (p : ℕ × Expr) → a ≡ false → b ≡ false → (if a || b then Some p else None) ≡ None
-both_known a b p f g = ap (λ c. if c || b then Some p else None) f ∙ ap (λ c. if c then Some p else None) g
-
-first_blamed : (a b : Bool) (p : ℕ × Expr) → a ≡ true → (if a || b then Some p else None) ≡ Some p
-first_blamed a b p f = ap (λ c. if c || b then Some p else None) f
-
-second_blamed : (a b : Bool) (p : ℕ × Expr) → b ≡ true → (if a || b then Some p else None) ≡ Some p
-second_blamed true b p f = refl
-second_blamed false b p f = ap (λ c. if c then Some p else None) f
-
-pub known_at : (line : ℕ) (t : Expr) → IsKnown t → unknown_at line t ≡ None
-known_at line t (f, g) = both_known (has_unknown named.Filter t) (has_unknown named.Test t) (line, t) f g
-
-pub blamed_at : (line : ℕ) (t : Expr) (f : ExprError) → Blames f t → GivesNames (unknown_at line t) (Err (refusal_at line f))
-blamed_at line t x.Syntax h = absurd h
-blamed_at line t x.TooDeep h = absurd h
-blamed_at line t x.UnknownFilter h = (t, first_blamed (has_unknown named.Filter t) (has_unknown named.Test t) (line, t) h, h)
-blamed_at line t x.UnknownTest h = (t, second_blamed (has_unknown named.Filter t) (has_unknown named.Test t) (line, t) h, h)
-blamed_at line t x.NoMemory h = absurd h
-
 -- ---- what is read, and its names
 
 -- a refusal of an expression
 pub refused_at : (o : Result Expr Fault) (line : ℕ) (f : ExprError) → GivesWhole o (Err f) → Refuses o (refusal_at line f)
-refused_at o line x.Syntax g = g
-refused_at o line x.TooDeep g = g
-refused_at o line x.UnknownFilter g = absurd g
-refused_at o line x.UnknownTest g = absurd g
-refused_at o line x.NoMemory g = tt
+refused_at o line fault.Syntax g = g
+refused_at o line fault.TooDeep g = g
+refused_at o line fault.UnknownFilter g = absurd g
+refused_at o line fault.UnknownTest g = absurd g
+refused_at o line fault.NoMemory g = tt
 
 pub found_unknown : (o : Result Body Fault) (b : Body) (f : ParseError) → o ≡ Ok b → GivesNames (body_unknown b) (Err f) → GivesKnown o (Err f)
 found_unknown o b (e.Syntax l) is g = absurd g
@@ -89,7 +47,7 @@ refused_read o (e.UnknownTest l) g = absurd g
 refused_read o e.NoMemory g = tt
 
 same_body : (o : Result Body Fault) (a b : Body) → o ≡ Ok a → o ≡ Ok b → a ≡ b
-same_body o a b e f = cc
+same_body o a b is same = cc
 
 stands_not : {G : Type 0} (line : ℕ) (n : Named) (found : Option (ℕ × Expr)) → StandsAt line n found → found ≡ None → G
 stands_not line n found (t, is, h) none = absurd (cc)

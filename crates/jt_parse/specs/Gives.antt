@@ -6,7 +6,7 @@ use Rattle.jt_expr.specs.Reading.{Fault, syntax, deep}
 use Rattle.jt_expr.specs.View.{expr_view}
 use Rattle.jt_expr.specs.declared.tree.Expr.{Expr}
 use Rattle.jt_expr.specs.declared.error.ExprError.{ExprError}
-use Rattle.jt_expr.specs.declared.error.ExprError.TheVariants as x
+use Rattle.jt_expr.specs.declared.error.ExprError.TheVariants as fault
 use Rattle.jt_expr.specs.declared.named.Named.{Named}
 use Rattle.jt_expr.specs.declared.named.Named.TheVariants as named
 use Rattle.jt_parse.specs.Names.{body_unknown, StandsAt}
@@ -58,11 +58,11 @@ GivesTemplate o (Err f) = Refuses o f
 
 -- a refusal of an expression, in a tag of the line
 abbrev pub refusal_at : ℕ → ExprError → ParseError
-refusal_at line x.Syntax = e.Syntax line
-refusal_at line x.TooDeep = e.TooDeep line
-refusal_at line x.UnknownFilter = e.UnknownFilter line
-refusal_at line x.UnknownTest = e.UnknownTest line
-refusal_at line x.NoMemory = e.NoMemory
+refusal_at line fault.Syntax = e.Syntax line
+refusal_at line fault.TooDeep = e.TooDeep line
+refusal_at line fault.UnknownFilter = e.UnknownFilter line
+refusal_at line fault.UnknownTest = e.UnknownTest line
+refusal_at line fault.NoMemory = e.NoMemory
 
 -- each name has a meaning, or the refusal is for the first tag with one that has none
 abbrev pub GivesNames : Option (ℕ × trees.Expr) → Result (Unit {0}) ParseError → Type 0

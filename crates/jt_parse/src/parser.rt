@@ -307,9 +307,9 @@ fn read_known(alloc: Global, segments: &[Segment<'_>]) -> Result<Template, Parse
 /// `if` that is never closed its own.
 pub fn parse(alloc: Global, segments: &[Segment<'_>]) -> Result<Template, ParseError>
     ensures spelled { IfOk result
-        (λ t. Forms (body_of t) (cut_of segments.now) × (body_levels (body_of t) ≤ MAX_LEVELS)) }
+        (λ t. Forms (body_of t) (cut_of segments.now) × (body_levels (body_of t) ≤ 100)) }
     ensures known { IfOk result (λ t. body_unknown (body_of t) ≡ None) }
-    ensures only { (b : Body) → Forms b (cut_of segments.now) → body_levels b ≤ MAX_LEVELS → body_unknown b ≡ None →
+    ensures only { (b : Body) → Forms b (cut_of segments.now) → body_levels b ≤ 100 → body_unknown b ≡ None →
         MatchResult result (λ t. body_of t ≡ b) (λ e. e ≡ error.NoMemory) }
     ensures refused { IfErr result (λ e. IsRefusal e (cut_of segments.now)) }
     ensures weighs { IfOk result (λ t. body_weight (body_of t) ≤ cut.weight_of (cut_of segments.now)) }
