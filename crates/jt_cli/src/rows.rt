@@ -182,7 +182,7 @@ fn sources_give_their_texts(rt: HostRuntime) -> Result<(), Fail> {
             "x",
             Given::True,
             "",
-            "refused S3 BadCharacter in t line 2",
+            "refused S1 UnclosedTag in t line 2",
         ),
     ] {
         let context = context_of(alloc, name, given, text)?;
@@ -242,6 +242,7 @@ fn expressions_give_their_texts(rt: HostRuntime) -> Result<(), Fail> {
             "1True0",
         ),
         (r#"{{ {"a": 1, "a": 2} == {"a": 2} }}"#, "True"),
+        (r#"a{{{"b": 1}.b }}"#, "a1"),
         (r#"{{ "}}" }}{{ {"a": {"b": 1}}["a"].b }}"#, "}}1"),
         ("{{ nope is defined }}{{ 1 is eq 1 is true }}", "FalseTrue"),
         (
@@ -275,6 +276,7 @@ fn expressions_end_with_their_faults(rt: HostRuntime) -> Result<(), Fail> {
 fn expressions_are_refused(rt: HostRuntime) -> Result<(), Fail> {
     for (source, wanted) in [
         (r#"{{ "x }}"#, "refused S2 UnclosedText in t line 1"),
+        ("a\n{{ 1 ? 2 }}", "refused S3 BadCharacter in t line 2"),
         (r#"{{ "\x4" }}"#, "refused S4 BadEscape in t line 1"),
         (
             "{{ 9223372036854775808 }}",
