@@ -1,5 +1,5 @@
 -- What a tree's tokens spell is read, or too deep.
-use Rattle.std.proofs.Common.{◌≡◌, ℕ, zero, suc, ◌+◌, ◌<◌, ◌≤◌, max, if◌then◌else◌, Bool, true, false, [], ◌∷◌, ◌++◌, length, drop, codes, encode_utf8_all, bytes_eq, refl, sym, ap, subst, ◌∙◌, append_assoc, arith, Option, Some, None, Ok, Err, length-append}
+use Rattle.std.proofs.Common.{◌≡◌, ℕ, ℤ, zero, suc, ◌+◌, ◌<◌, ◌≤◌, max, if◌then◌else◌, Bool, true, false, [], ◌∷◌, ◌++◌, length, drop, codes, encode_utf8_all, bytes_eq, refl, sym, ap, subst, ◌∙◌, append_assoc, arith, Option, Some, None, Ok, Err, length-append}
 use Rattle.jt_scan.specs.declared.segment.Sign.TheVariants as s
 use Rattle.jt_scan.specs.Cut as cut
 use Rattle.jt_scan.specs.Cut.{Token}
@@ -640,7 +640,7 @@ map_at ps x g n rest =
     ap (λ o. o >>= go) (g n (length (x ++ rest)) rest (omega (arith, length-append x rest)))
     ∙ bound (parts_levels p) n (levels (map_of ps)) (suc n) p (map_of ps) rest rest go (λ le. sym (cap_within (levels (map_of ps)) (suc n) (map_of ps) rest (omega arith))) (λ gt. omega arith)
 
-number_at : (v : ℕ) → PrimaryAt (constant (number v)) (cut.number v ∷ [])
+number_at : (v : ℤ) → PrimaryAt (constant (number v)) (cut.number v ∷ [])
 unfolding r.primary
 number_at v n rest = sym (cap_within 1 (suc n) (constant (number v)) rest (omega arith))
 

@@ -1,5 +1,5 @@
 -- Which tree the tokens of a tag spell: one rule a form. The tokens are those of the cut.
-use Rattle.std.specs.Prelude.{◌≡◌, ℕ, Bool, true, false, not, ◌||◌, List, [], ◌∷◌, ◌++◌, codes, encode_utf8_all, bytes_eq, Option, Some, None, if◌then◌else◌}
+use Rattle.std.specs.Prelude.{◌≡◌, ℕ, ℤ, Bool, true, false, not, ◌||◌, List, [], ◌∷◌, ◌++◌, codes, encode_utf8_all, bytes_eq, Option, Some, None, if◌then◌else◌}
 use Rattle.std.specs.List.{list_any}
 use Rattle.jt_scan.specs.declared.segment.Sign.{Sign}
 use Rattle.jt_scan.specs.declared.segment.Sign.TheVariants as s
@@ -237,7 +237,7 @@ mutual
         → Goes postfix a t (cut.sign s.LeftParen ∷ (x ++ y))
 
   pub data Primary : Expr → Tokens → Type 0 where
-    a_number : {n : ℕ} → Primary (constant (number n)) (cut.number n ∷ [])
+    a_number : {n : ℤ} → Primary (constant (number n)) (cut.number n ∷ [])
     a_text : {v : Text} → Primary (constant (text (encode_utf8_all v))) (cut.text v ∷ [])
     a_constant : {l : Literal} {x : Text} → literal_of x ≡ Some l → Primary (constant l) (cut.name x ∷ [])
     a_name : {x : Text} → is_reserved x ≡ false → Primary (name (encode_utf8_all x)) (cut.name x ∷ [])

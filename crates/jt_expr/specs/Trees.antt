@@ -1,5 +1,5 @@
 -- Expressions as trees, as they are written: no name is looked up yet. Texts are UTF-8 bytes.
-use Rattle.std.specs.Prelude.{ℕ, suc, ◌+◌, ◌-◌, max, min, Bool, true, false, List}
+use Rattle.std.specs.Prelude.{ℕ, ℤ, suc, ◌+◌, ◌-◌, max, min, Bool, true, false, List}
 use Rattle.jt_expr.specs.declared.tree.UnaryOperator.{UnaryOperator}
 use Rattle.jt_expr.specs.declared.tree.BinaryOperator.{BinaryOperator}
 use Rattle.jt_expr.specs.declared.tree.BinaryOperator.TheVariants as o
@@ -9,7 +9,7 @@ Text = List ℕ
 
 -- what stands for itself
 pub data Literal : Type 0 where
-  number : ℕ → Literal
+  number : ℤ → Literal
   text : Text → Literal
   truth : Bool → Literal
   nothing : Literal

@@ -62,7 +62,7 @@ pub enum BinaryOperator {
 #[derive(Debug, Drop)]
 pub enum Literal {
     /// A number.
-    Number(u64),
+    Number(i64),
     /// A text, by its value.
     Text(String),
     /// `true` or `false`.

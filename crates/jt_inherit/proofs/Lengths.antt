@@ -3,27 +3,27 @@ use Rattle.std.proofs.Common.{◌≡◌, ℕ, ◌+◌, ◌<◌, ◌≤◌, Bool,
 use Rattle.std.proofs.lemmas.Bool.{cases_lt}
 use Rattle.std.proofs.lemmas.Str.{encodes-append, encodes-chars, length-le-encodes}
 use Rattle.jt_scan.specs.declared.segment.Kind.{Kind}
-use Rattle.jt_scan.specs.Cut.{Text, Token, Segment, a_name, Inside, closed, space, token, Cuts, no_more, more, IsSegment, some_data, a_tag, a_comment, closer, second}
+use Rattle.jt_scan.specs.Cut.{Text, Token, Segment, Spelled, a_name, a_number, a_text, a_sign, Inside, closed, space, token, Cuts, no_more, more, IsSegment, some_data, a_tag, a_comment, closer, second}
 use Rattle.jt_scan.specs.LineEnds.{normalized}
 use Rattle.jt_scan.specs.SourceView.{Held}
 use Rattle.jt_scan.specs.declared.options.Options.{Options}
 use Rattle.jt_scan.proofs.EndsLaws.{never_longer}
-use Rattle.jt_parse.specs.Bytes.{tokens_bytes, segment_bytes, bytes_of}
+use Rattle.jt_expr.specs.Sizes.{token_bytes, tokens_bytes}
+use Rattle.jt_parse.specs.Bytes.{segment_bytes, bytes_of}
+use Rattle.jt_inherit.proofs.Escapes.{bytes, bytes-append, bytes-cons, means_short}
 
--- how many bytes the characters have
-abbrev bytes : Text → ℕ
-bytes x = length (encode_utf8_all x)
+-- what a token's text is spelled by is no shorter
+token_short : {t : Token} {x rest : Text} → Spelled t x rest → token_bytes t ≤ bytes x
+token_short (a_name h a w) = omega arith
+token_short (a_number m le) = omega arith
+token_short (a_text {quote} {x} {v} h e m) =
+    omega (arith, means_short m, bytes-cons quote (x ++ (quote ∷ [])), bytes-append x (quote ∷ []))
+token_short (a_sign a) = omega arith
 
-bytes-append : (x y : Text) → bytes (x ++ y) ≡ bytes x + bytes y
-bytes-append x y = ap length (encodes-append x y) ∙ length-append (encode_utf8_all x) (encode_utf8_all y)
-
-bytes-cons : (c : ℕ) (x : Text) → bytes (c ∷ x) ≡ bytes (c ∷ []) + bytes x
-bytes-cons c x = bytes-append (c ∷ []) x
-
-inside_short : {k : Kind} {ts : List Token} {x rest : Text} → Inside k ts x rest → tokens_bytes ts + bytes rest ≤ bytes x
+inside_short : {k : Kind} {depth : ℕ} {ts : List Token} {x rest : Text} → Inside k depth ts x rest → tokens_bytes ts + bytes rest ≤ bytes x
 inside_short {k} (closed {rest}) = omega (arith, bytes-cons (closer k) (125 ∷ rest), bytes-cons 125 rest)
 inside_short (space {c} {x = x} h i) = omega (arith, inside_short i, bytes-cons c x)
-inside_short (token {x = x} (a_name {c} {x = y} h a w) i) = omega (arith, inside_short i, bytes-append (c ∷ y) x)
+inside_short (token {s = s} {x = x} b t i) = omega (arith, inside_short i, token_short t, bytes-append s x)
 
 segment_short : {n : ℕ} {s : Segment} {x rest : Text} → IsSegment n s x rest → segment_bytes s + bytes rest ≤ bytes x
 segment_short (some_data {c} {d} {rest} n e) = omega (arith, bytes-append (c ∷ d) rest)

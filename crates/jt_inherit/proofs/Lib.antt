@@ -1,3 +1,4 @@
 pub mod Naming
+pub mod Escapes
 pub mod Lengths
 pub mod Found

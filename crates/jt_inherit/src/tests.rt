@@ -6,7 +6,8 @@ ghost use Rattle.std.specs.List.{find};
 use crate::chaining::chain;
 use crate::error::ChainError;
 use crate::library::Library;
-use jt_parse::{Expr, ParseError, Stmt};
+use jt_expr::Expr;
+use jt_parse::{ParseError, Stmt};
 use jt_scan::{MAX_SOURCE_LEN, Options, ScanError};
 use std::alloc::{AllocError, Global};
 use std::test::Fail;
@@ -50,7 +51,7 @@ fn told(
                 told.push('$')?;
                 told.push_str(name.as_str())?;
             }
-            Stmt::Print(_, Expr::Constant(_)) => told.push('#')?,
+            Stmt::Print(_, _) => told.push('#')?,
             Stmt::If(_, _) => told.push('?')?,
         }
     }
@@ -65,7 +66,10 @@ fn chains_and_refusals(rt: HostRuntime) -> Result<(), Fail> {
         ("b/c.html", "1\r\n2\r\n"),
         ("a", "hidden"),
         ("open", "\n{{ x"),
-        ("odd", "{{ 1 }}"),
+        ("odd", "{{ 1 + '\\x41' }}"),
+        ("sign", "\n{{ x $ }}"),
+        ("escape", "{{ '\\x4' }}"),
+        ("unknown", "{{ x }}{{ y is nope }}"),
         ("if", "a\n\n{% if x %}"),
         ("", "x"),
         ("a//b", "x"),
@@ -89,7 +93,10 @@ fn chains_and_refusals(rt: HostRuntime) -> Result<(), Fail> {
         ("/", "C2 BadName"),
         ("...", "C1 Missing"),
         ("open", "S1 UnclosedTag in open line 2"),
-        ("odd", "S3 BadCharacter in odd line 1"),
+        ("odd", "odd:#"),
+        ("sign", "S3 BadCharacter in sign line 2"),
+        ("escape", "S4 BadEscape in escape line 1"),
+        ("unknown", "P4 UnknownTest in unknown line 1"),
         ("if", "P1 Syntax in if line 3"),
     ];
     for (entry, want) in rows {

@@ -2,23 +2,23 @@
 use Rattle.std.proofs.Common.{◌≡◌, ℕ, suc, ◌+◌, ◌-◌, ◌≤◌, max, List, [], ◌∷◌, ◌++◌, length, codes, refl, sym, ap, ◌∙◌, append_assoc, append-nil, arith, Result, Ok, encode_utf8_all}
 use Rattle.jt_scan.specs.Cut.{Token, Segment}
 use Rattle.jt_expr.specs.Trees.{Expr, levels}
-use Rattle.jt_expr.specs.Grammar.{word, whole as expression_level, Spells}
+use Rattle.jt_expr.specs.Grammar as expressions
+use Rattle.jt_expr.specs.Grammar.{word, Spells}
 use Rattle.jt_expr.specs.Reading.{Fault}
-use Rattle.jt_expr.proofs.Complete.{some_levels}
 use Rattle.jt_parse.specs.Trees.{Stmt, data_of, print, choose, Body, end, stmt, Branches, no_branches, branch, body_levels, branch_levels}
 use Rattle.jt_parse.specs.Grammar.{block, Forms, nothing_more, a_comment, some_data, a_print, an_if, GoesOn, no_else, an_else, an_elif}
 use Rattle.jt_parse.specs.Reading.{then_all, then_one, then_branches, then_branch, Frame, in_branch, in_else, State, state, start, ◌>>=◌, expression, run, whole, parsed, print_tag, if_tag, elif_tag, else_tag, endif_tag, block_tag}
 use Rattle.jt_parse.proofs.Bodies.{all_end, all_all, branches_all, within, within_in, within_bind, within_left, chained}
-use Rattle.jt_parse.proofs.Expressions.{spelled_is_read}
+use Rattle.jt_parse.proofs.Expressions.{spelled_is_read, some_levels}
 
 -- the rest is read behind an expression that is allowed
-reads_on : (n d l : ℕ) {e : Expr} {ts : List Token} → Spells expression_level e ts → l ≡ d + suc (levels e) → (next : Expr → State) (ss : List Segment)
+reads_on : (n d l : ℕ) {e : Expr} {ts : List Token} → Spells expressions.whole e ts → l ≡ d + suc (levels e) → (next : Expr → State) (ss : List Segment)
     → ((expression n d ts >>= λ x. Ok (next x)) >>= λ st. run n st ss) ≡ within l n (run n (next e) ss)
 reads_on n d l {e} {ts} s same next ss =
     ap (λ o. (o >>= λ x. Ok (next x)) >>= λ st. run n st ss) (spelled_is_read (n - suc d) s)
     ∙ ap (λ o. o >>= λ st. run n st ss) (within_bind (levels e) (n - suc d) (Ok e) (λ x. Ok (next x)))
     ∙ within_bind (levels e) (n - suc d) (Ok (next e)) (λ st. run n st ss)
-    ∙ within_left (levels e) d n (run n (next e) ss) (some_levels e)
+    ∙ within_left (levels e) d n (run n (next e) ss) (some_levels s)
     ∙ ap (λ k. within k n (run n (next e) ss)) (sym same)
 
 if_levels : (d c i bs o b : ℕ) → d + max (suc (max (max (max c i) bs) o)) b ≡ max (d + suc c) (max (suc d + i) (max (suc d + max bs o) (d + b)))

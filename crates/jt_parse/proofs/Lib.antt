@@ -7,4 +7,5 @@ pub mod Weighs
 pub mod Short
 pub mod Texts
 pub mod Views
+pub mod Checking
 pub mod Answers

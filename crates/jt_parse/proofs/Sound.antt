@@ -5,9 +5,10 @@ use Rattle.jt_scan.specs.declared.segment.Kind.TheVariants as kind
 use Rattle.jt_scan.specs.Cut as cut
 use Rattle.jt_scan.specs.Cut.{Token, Segment}
 use Rattle.jt_expr.specs.Trees.{Expr}
-use Rattle.jt_expr.specs.Grammar.{word, whole as expression_level, Spells}
+use Rattle.jt_expr.specs.Grammar as expressions
+use Rattle.jt_expr.specs.Grammar.{word, Spells}
 use Rattle.jt_expr.specs.Reading.{Fault, syntax}
-use Rattle.jt_expr.proofs.Tests.{by_test}
+use Rattle.jt_expr.proofs.Branches.{by_test}
 use Rattle.jt_parse.specs.Trees.{Text, Stmt, data_of, print, choose, Body, end, stmt, Branches, no_branches, branch}
 use Rattle.jt_parse.specs.Grammar.{block, Forms, nothing_more, a_comment, some_data, a_print, an_if, GoesOn, no_else, an_else, an_elif}
 use Rattle.jt_parse.specs.Reading.{then_all, then_one, then_branches, then_branch, Frame, in_branch, in_else, State, state, ◌>>=◌, expression, step, run, whole, start, parsed, print_tag, if_tag, elif_tag, else_tag, endif_tag, block_tag}
@@ -41,7 +42,7 @@ grows {a} t x more (inside_if {done = done} {line = line} {c = c} inner other bs
 grows {a} t x more (inside_else inner other last xs rest f i e r) =
     inside_else (then_all t inner) other last (x ++ xs) rest (more inner xs f) (sym (all_all a t inner) ∙ i) (append_assoc x xs (endif last ∷ rest) ∙ ap (λ z. x ++ z) e) r
 
-opened : {a w : Body} {line : ℕ} {c : Expr} {ts : List Token} {fs : List Frame} {ss : List Segment} → Spells expression_level c ts
+opened : {a w : Body} {line : ℕ} {c : Expr} {ts : List Token} {fs : List Frame} {ss : List Segment} → Spells expressions.whole c ts
     → Ends end (in_branch a no_branches line c ∷ fs) ss w → Ends a fs (block line (word (codes "if") ∷ ts) ∷ ss) w
 opened {a} {w} {line} {c} {ts} {fs} {ss} d (inside_if inner other bs q last xs ys rest f g qe se r) =
     let s : Stmt = choose (branch line c inner bs) other in
@@ -54,7 +55,7 @@ opened {a} {w} {line} {c} {ts} {fs} {ss} d (inside_if inner other bs q last xs y
     (λ b tail k. subst (λ z. Forms (stmt s b) (tag ∷ z)) (sym (split tail)) (an_if last d f g k))
     (subst (λ z. Ends (then_one a (choose z other)) fs rest w) (sym qe) r))
 
-elif_in : {a before w : Body} {done : Branches} {l line : ℕ} {c e : Expr} {ts : List Token} {fs : List Frame} {ss : List Segment} → Spells expression_level e ts
+elif_in : {a before w : Body} {done : Branches} {l line : ℕ} {c e : Expr} {ts : List Token} {fs : List Frame} {ss : List Segment} → Spells expressions.whole e ts
     → Ends end (in_branch before (then_branch done l c a) line e ∷ fs) ss w → Ends a (in_branch before done l c ∷ fs) (block line (word (codes "elif") ∷ ts) ∷ ss) w
 elif_in {a} {done = done} {l} {line} {c} {e} {ts} d (inside_if inner other bs q last xs ys rest f g qe se r) =
     inside_if end other (branch line e inner bs) q last [] (block line (word (codes "elif") ∷ ts) ∷ (xs ++ ys)) rest nothing_more (an_elif d f g)

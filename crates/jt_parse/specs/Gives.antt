@@ -5,9 +5,11 @@ use Rattle.jt_expr.specs.Trees as trees
 use Rattle.jt_expr.specs.Reading.{Fault, syntax, deep}
 use Rattle.jt_expr.specs.View.{expr_view}
 use Rattle.jt_expr.specs.declared.tree.Expr.{Expr}
+use Rattle.jt_expr.specs.declared.error.ExprError.{ExprError}
+use Rattle.jt_expr.specs.declared.error.ExprError.TheVariants as fault
 use Rattle.jt_expr.specs.declared.named.Named.{Named}
 use Rattle.jt_expr.specs.declared.named.Named.TheVariants as named
-use Rattle.jt_parse.specs.Names.{body_unknown}
+use Rattle.jt_parse.specs.Names.{body_unknown, StandsAt}
 use Rattle.jt_parse.specs.Trees.{Body, Branches, body_levels}
 use Rattle.jt_parse.specs.Grammar.{Forms}
 use Rattle.jt_parse.specs.Reading as reading
@@ -54,25 +56,39 @@ abbrev pub GivesTemplate : Result Body Fault → Result Template ParseError → 
 GivesTemplate o (Ok t) = o ≡ Ok (body_of t)
 GivesTemplate o (Err f) = Refuses o f
 
-abbrev pub refusal_of : ℕ × Named → ParseError
-refusal_of (line, named.Filter) = e.UnknownFilter line
-refusal_of (line, named.Test) = e.UnknownTest line
+-- a refusal of an expression, in a tag of the line
+abbrev pub refusal_at : ℕ → ExprError → ParseError
+refusal_at line fault.Syntax = e.Syntax line
+refusal_at line fault.TooDeep = e.TooDeep line
+refusal_at line fault.UnknownFilter = e.UnknownFilter line
+refusal_at line fault.UnknownTest = e.UnknownTest line
+refusal_at line fault.NoMemory = e.NoMemory
 
--- what is read has this name as its first without a meaning
-abbrev pub Finds : Result Body Fault → ℕ × Named → Type 0
-Finds o p = (b : Body) × (o ≡ Ok b) × (body_unknown b ≡ Some p)
+-- each name has a meaning, or the refusal is for the first tag with one that has none
+abbrev pub GivesNames : Option (ℕ × trees.Expr) → Result (Unit {0}) ParseError → Type 0
+GivesNames found (Ok u) = found ≡ None
+GivesNames found (Err (e.Syntax line)) = ⊥
+GivesNames found (Err (e.TooDeep line)) = ⊥
+GivesNames found (Err (e.UnknownFilter line)) = StandsAt line named.Filter found
+GivesNames found (Err (e.UnknownTest line)) = StandsAt line named.Test found
+GivesNames found (Err e.NoMemory) = ⊥
+
+-- what is read has its first names without a meaning in a tag of this line, and such a one among them
+abbrev pub Finds : Result Body Fault → ℕ → Named → Type 0
+Finds o line x = (b : Body) × (o ≡ Ok b) × StandsAt line x (body_unknown b)
 
 abbrev pub GivesKnown : Result Body Fault → Result Template ParseError → Type 0
 GivesKnown o (Ok t) = (o ≡ Ok (body_of t)) × (body_unknown (body_of t) ≡ None)
 GivesKnown o (Err (e.Syntax line)) = o ≡ Err syntax
 GivesKnown o (Err (e.TooDeep line)) = o ≡ Err deep
-GivesKnown o (Err (e.UnknownFilter line)) = Finds o (line, named.Filter)
-GivesKnown o (Err (e.UnknownTest line)) = Finds o (line, named.Test)
+GivesKnown o (Err (e.UnknownFilter line)) = Finds o line named.Filter
+GivesKnown o (Err (e.UnknownTest line)) = Finds o line named.Test
 GivesKnown o (Err e.NoMemory) = Unit {0}
 
--- the tree that the segments spell, of at most 100 levels, has this name as its first without a meaning
+-- the tree that the segments spell, of at most 100 levels, has its first names without a meaning in a
+-- tag of this line, and such a one among them
 abbrev pub HoldsUnknown : ℕ → Named → List Segment → Type 0
-HoldsUnknown line x ss = (b : Body) × Forms b ss × (body_levels b ≤ 100) × (body_unknown b ≡ Some (line, x))
+HoldsUnknown line x ss = (b : Body) × Forms b ss × (body_levels b ≤ 100) × StandsAt line x (body_unknown b)
 
 -- what a refusal says of the segments
 abbrev pub IsRefusal : ParseError → List Segment → Type 0

@@ -5,7 +5,7 @@ ghost use Rattle.std.specs.Str.{chars};
 ghost use Rattle.jt_scan.specs.View.{token_view};
 ghost use Rattle.jt_expr.specs.Reading.{parsed};
 ghost use Rattle.jt_parse.specs.Words.{is_plain};
-ghost use Rattle.jt_parse.specs.Gives.{GivesExpr};
+ghost use Rattle.jt_parse.specs.Gives.{GivesExpr, refusal_at};
 
 use crate::error::ParseError;
 use crate::parser::MAX_LEVELS;
@@ -25,11 +25,20 @@ pub(crate) fn expression(
 {
     match jt_expr::expression(alloc, tokens, levels) {
         Ok(expr) => Ok(expr),
-        Err(ExprError::Syntax) => Err(ParseError::Syntax { line }),
-        Err(ExprError::TooDeep) => Err(ParseError::TooDeep { line }),
-        Err(ExprError::UnknownFilter) => Err(ParseError::UnknownFilter { line }),
-        Err(ExprError::UnknownTest) => Err(ParseError::UnknownTest { line }),
-        Err(ExprError::NoMemory) => Err(ParseError::NoMemory),
+        Err(refusal) => Err(refused(line, refusal)),
+    }
+}
+
+/// A refusal of an expression, in a tag of the line.
+pub(crate) fn refused(line: u32, refusal: ExprError) -> ParseError
+    ensures { result ≡ refusal_at line refusal }
+{
+    match refusal {
+        ExprError::Syntax => ParseError::Syntax { line },
+        ExprError::TooDeep => ParseError::TooDeep { line },
+        ExprError::UnknownFilter => ParseError::UnknownFilter { line },
+        ExprError::UnknownTest => ParseError::UnknownTest { line },
+        ExprError::NoMemory => ParseError::NoMemory,
     }
 }
 

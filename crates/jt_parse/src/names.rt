@@ -1,67 +1,50 @@
 //! The names of filters and tests in a template that have no meaning.
 
-ghost use Rattle.std.specs.Prelude.{◌≡◌};
-ghost use Rattle.std.specs.Option.{option_or};
-ghost use Rattle.jt_parse.specs.Names as spec;
 ghost use Rattle.jt_expr.specs.View.{expr_view};
-ghost use Rattle.jt_parse.specs.View.{stmt_view, body_view, branches_view};
+ghost use Rattle.jt_parse.specs.Names.{unknown_at, stmt_unknown, body_unknown};
+ghost use Rattle.jt_parse.specs.View.{stmt_view, body_view};
+ghost use Rattle.jt_parse.specs.Gives.{GivesNames};
 
+use crate::error::ParseError;
+use crate::expression::refused;
 use crate::tree::Stmt;
-use jt_expr::Expr;
-use jt_expr::named::{Named, unknown};
+use jt_expr::{Expr, check_names};
 
-/// The first name without a meaning in the expression of a tag, with the tag's line.
-fn unknown_at(line: u32, expr: &Expr) -> Option<(u32, Named)>
-    ensures { result ≡ spec.unknown_at line (expr_view expr.now) }
+/// Refuses the expression of a tag of the line, if a name in it has no meaning.
+fn check_at(line: u32, expr: &Expr) -> Result<(), ParseError>
+    ensures { GivesNames (unknown_at line (expr_view expr.now)) result }
 {
-    match unknown(expr) {
-        Some(found) => Some((line, found)),
-        None => None,
+    match check_names(expr) {
+        Ok(()) => Ok(()),
+        Err(refusal) => Err(refused(line, refusal)),
     }
 }
 
-/// The first name without a meaning in statements, with its tag's line.
+/// Refuses the first tag of statements in which a name has no meaning.
 #[cycle(names)]
-pub(crate) fn unknown_in(body: &Vec<Stmt>) -> Option<(u32, Named)>
-    ensures { result ≡ spec.body_unknown (body_view body.now.items) }
+pub(crate) fn check_body(body: &Vec<Stmt>) -> Result<(), ParseError>
+    ensures { GivesNames (body_unknown (body_view body.now.items)) result }
 {
     for statement in body {
-        if let Some(found) = in_statement(statement) {
-            return Some(found);
-        }
+        check_statement(statement)?;
     }
-    None
+    Ok(())
 }
 
-/// The first one in a statement.
+/// The same in a statement.
 #[cycle(names)]
-fn in_statement(statement: &Stmt) -> Option<(u32, Named)>
-    ensures { result ≡ spec.stmt_unknown (stmt_view statement.now) }
+fn check_statement(statement: &Stmt) -> Result<(), ParseError>
+    ensures { GivesNames (stmt_unknown (stmt_view statement.now)) result }
 {
     match statement {
-        Stmt::Data(_) => None,
-        Stmt::Print(line, expr) => unknown_at(*line, expr),
-        Stmt::If(branches, other) => in_branches(branches).or(unknown_in(other)),
-    }
-}
-
-/// The first one in branches.
-#[cycle(names)]
-fn in_branches(branches: &Vec<(u32, Expr, Vec<Stmt>)>) -> Option<(u32, Named)>
-    ensures { result ≡ spec.branch_unknown (branches_view branches.now.items) }
-{
-    for branch in branches {
-        if let Some(found) = in_branch(branch) {
-            return Some(found);
+        Stmt::Data(_) => Ok(()),
+        Stmt::Print(line, expr) => check_at(*line, expr),
+        Stmt::If(branches, other) => {
+            for (line, condition, body) in branches {
+                check_at(*line, condition)?;
+                check_body(body)?;
+            }
+            check_body(other)
         }
     }
-    None
-}
-
-/// The first one in a branch.
-#[cycle(names)]
-fn in_branch(branch: &(u32, Expr, Vec<Stmt>)) -> Option<(u32, Named)>
-    ensures { result ≡ option_or (spec.unknown_at branch.now.0 (expr_view branch.now.1)) (spec.body_unknown (body_view branch.now.2.items)) }
-{
-    unknown_at(branch.0, &branch.1).or(unknown_in(&branch.2))
 }

@@ -15,15 +15,14 @@ ghost use Rattle.jt_parse.specs.Bytes.{body_bytes, bytes_of};
 ghost use Rattle.jt_parse.specs.Grammar.{Forms};
 ghost use Rattle.jt_parse.specs.Reading as reading;
 ghost use Rattle.jt_parse.specs.View.{stmt_view, body_view, branches_view, body_of};
-ghost use Rattle.jt_parse.specs.Gives.{GivesState, GivesTemplate, GivesKnown, IsRefusal, refusal_of, frame_view, frames_view, state_view};
+ghost use Rattle.jt_parse.specs.Gives.{GivesState, GivesTemplate, GivesKnown, IsRefusal, frame_view, frames_view, state_view};
 ghost use Rattle.jt_parse.specs.declared.error.ParseError.TheVariants as error;
 
 use crate::error::ParseError;
 use crate::expression::{copy_of, expression, is_word};
-use crate::names::unknown_in;
+use crate::names::check_body;
 use crate::tree::{Stmt, Template};
 use jt_expr::Expr;
-use jt_expr::named::Named;
 use jt_scan::{Kind, Segment, Token};
 use std::alloc::Global;
 use std::mem;
@@ -292,25 +291,13 @@ fn read(alloc: Global, segments: &[Segment<'_>]) -> Result<Template, ParseError>
     }
 }
 
-/// The refusal of a name that has no meaning.
-fn refusal(line: u32, unknown: Named) -> ParseError
-    ensures { result ≡ refusal_of (line, unknown) }
-{
-    match unknown {
-        Named::Filter => ParseError::UnknownFilter { line },
-        Named::Test => ParseError::UnknownTest { line },
-    }
-}
-
 /// The same, if each filter and each test has a meaning.
 fn read_known(alloc: Global, segments: &[Segment<'_>]) -> Result<Template, ParseError>
     ensures { GivesKnown (reading.parsed MAX_LEVELS (cut_of segments.now)) result }
 {
     let template = read(alloc, segments)?;
-    match unknown_in(&template.body) {
-        Some((line, unknown)) => Err(refusal(line, unknown)),
-        None => Ok(template),
-    }
+    check_body(&template.body)?;
+    Ok(template)
 }
 
 /// The tree that the segments spell, in which each filter and each test has a meaning. P1 Syntax,
@@ -320,9 +307,9 @@ fn read_known(alloc: Global, segments: &[Segment<'_>]) -> Result<Template, Parse
 /// `if` that is never closed its own.
 pub fn parse(alloc: Global, segments: &[Segment<'_>]) -> Result<Template, ParseError>
     ensures spelled { IfOk result
-        (λ t. Forms (body_of t) (cut_of segments.now) × (body_levels (body_of t) ≤ MAX_LEVELS)) }
+        (λ t. Forms (body_of t) (cut_of segments.now) × (body_levels (body_of t) ≤ 100)) }
     ensures known { IfOk result (λ t. body_unknown (body_of t) ≡ None) }
-    ensures only { (b : Body) → Forms b (cut_of segments.now) → body_levels b ≤ MAX_LEVELS → body_unknown b ≡ None →
+    ensures only { (b : Body) → Forms b (cut_of segments.now) → body_levels b ≤ 100 → body_unknown b ≡ None →
         MatchResult result (λ t. body_of t ≡ b) (λ e. e ≡ error.NoMemory) }
     ensures refused { IfErr result (λ e. IsRefusal e (cut_of segments.now)) }
     ensures weighs { IfOk result (λ t. body_weight (body_of t) ≤ cut.weight_of (cut_of segments.now)) }

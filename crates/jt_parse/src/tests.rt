@@ -93,6 +93,13 @@ fn sources_are_parsed(rt: HostRuntime) -> Result<(), Fail> {
         ("{{ 1 + 2 }}{{ 7 is odd }}", "{..}{..}"),
         ("{% if not a %}b{% endif %}", "[..?<b>|:]"),
         ("{{ 1 < 2 < 3 }}", "P1 Syntax: Syntax { line: 1 }"),
+        ("{{ 007 }}", "P1 Syntax: Syntax { line: 1 }"),
+        ("{{ 1 is nope }}", "P4 UnknownTest: UnknownTest { line: 1 }"),
+        ("{{ 1|abs }}", "P3 UnknownFilter: UnknownFilter { line: 1 }"),
+        (
+            "{% if a %}{{ b }}{% else %}{{ c }}\n{{ d is nope }}{% endif %}{{ 1|abs }}",
+            "P4 UnknownTest: UnknownTest { line: 2 }",
+        ),
         ("\n{{ a|b }}", "P3 UnknownFilter: UnknownFilter { line: 2 }"),
         (
             "{% if a %}{% elif b is\nc %}{% endif %}",
@@ -163,6 +170,29 @@ fn levels_are_limited(rt: HostRuntime) -> Result<(), Fail> {
     let long = nested(alloc, 104_857, false)?;
     assert_eq!(rt;
         told(alloc, long.as_str())?.as_str(),
+        "P2 TooDeep: TooDeep { line: 1 }"
+    );
+    Ok(())
+}
+
+/// So many times `not` in a print.
+fn negated(alloc: Global, count: usize) -> Result<String, AllocError> {
+    let mut text = String::from_str(alloc, "{{ ")?;
+    for _ in 0..count {
+        text.push_str("not ")?;
+    }
+    text.push_str("true }}")?;
+    Ok(text)
+}
+
+#[test]
+fn levels_of_expressions_are_limited(rt: HostRuntime) -> Result<(), Fail> {
+    let alloc = rt.alloc();
+    let most = negated(alloc, 98)?;
+    assert_eq!(rt; told(alloc, most.as_str())?.as_str(), "{..}");
+    let deep = negated(alloc, 99)?;
+    assert_eq!(rt;
+        told(alloc, deep.as_str())?.as_str(),
         "P2 TooDeep: TooDeep { line: 1 }"
     );
     Ok(())

@@ -1,5 +1,5 @@
 -- A token in front is found, the longest one, and nothing else is.
-use Rattle.std.proofs.Common.{◌≡◌, ℕ, ◌+◌, ◌<◌, ◌≤◌, nat_lt, Bool, true, false, [], ◌∷◌, ◌++◌, length, refl, sym, ap, subst, ◌∙◌, arith, append_assoc, length-append, Option, Some, None, Ok, Err}
+use Rattle.std.proofs.Common.{◌≡◌, ℕ, pos, ◌+◌, ◌<◌, ◌≤◌, nat_lt, Bool, true, false, [], ◌∷◌, ◌++◌, length, refl, sym, ap, subst, ◌∙◌, arith, append_assoc, length-append, Option, Some, None, Ok, Err}
 use Rattle.std.proofs.lemmas.Bool.Decides.{nat_tests}
 use Rattle.jt_scan.specs.declared.error.ScanError.{ScanError}
 use Rattle.jt_scan.specs.declared.error.ScanError.TheVariants as error
@@ -89,7 +89,7 @@ token_signed line c x cs e n d q = rw e (rw (n, d, q) refl)
 
 -- ---- what the definitions have is found
 
-in_range : (line n : ℕ) (rest : Text) → n ≤ max_number → numbered line (n, rest) ≡ Ok (number n, rest)
+in_range : (line n : ℕ) (rest : Text) → n ≤ max_number → numbered line (n, rest) ≡ Ok (number (pos n), rest)
 in_range line n rest le = let e : nat_lt max_number n ≡ false = grind (arith, nat_tests) in rw e refl
 
 meant_found : (line : ℕ) (x v rest : Text) → pieces 0 x ≡ (v, true) → meant line (x, rest) ≡ Ok (text v, rest)
@@ -122,7 +122,7 @@ numbered_says line c t cs rest d e =
     (λ h q.
     let p = ok_parts q in let r = number_says c cs d in
     let le : (number_at c cs).0 ≤ max_number = within (number_at c cs).0 h in
-    subst (λ u. IsToken u (c ∷ cs) rest) p.0 (subst (λ z. IsToken (number (number_at c cs).0) (c ∷ cs) z) p.1 (r.0, r.1, a_number r.2 le, r.3)))
+    subst (λ u. IsToken u (c ∷ cs) rest) p.0 (subst (λ z. IsToken (number (pos (number_at c cs).0)) (c ∷ cs) z) p.1 (r.0, r.1, a_number r.2 le, r.3)))
   where
     within : (n : ℕ) → nat_lt max_number n ≡ false → n ≤ max_number
     within n h = grind (arith, nat_tests)

@@ -1,7 +1,7 @@
 -- How the text of a source is cut into segments, and a tag's inside into tokens.
 -- A text is a list of characters, each by its code point.
 pub use Rattle.jt_scan.specs.Literals.{Text}
-use Rattle.std.specs.Prelude.{◌≡◌, ℕ, ◌+◌, ◌-◌, ◌≤◌, Bool, true, false, ◌==◌, ◌&&◌, ◌||◌, List, [], ◌∷◌, ◌++◌, count_by}
+use Rattle.std.specs.Prelude.{◌≡◌, ℕ, ℤ, pos, ◌+◌, ◌-◌, ◌≤◌, Bool, true, false, ◌==◌, ◌&&◌, ◌||◌, List, [], ◌∷◌, ◌++◌, count_by}
 use Rattle.jt_scan.specs.declared.segment.Kind.{Kind}
 use Rattle.jt_scan.specs.declared.segment.Kind.TheVariants as kind
 use Rattle.jt_scan.specs.declared.segment.Sign.{Sign}
@@ -14,7 +14,7 @@ use Rattle.jt_scan.specs.Literals.{Numeral, is_quote, Enclosed, Means}
 pub data Token : Type 0 where
   -- a name, or a reserved word
   name : Text → Token
-  number : ℕ → Token
+  number : ℤ → Token
   -- a text, by what it means
   text : Text → Token
   sign : Sign → Token
@@ -107,7 +107,7 @@ max_number = 9223372036854775807
 -- `Spelled t s rest`: the token's spelling, the longest that stands in front of the rest
 pub data Spelled : Token → Text → Text → Type 0 where
   a_name : {c : ℕ} {x rest : Text} → starts_name c ≡ true → AllContinue x → NameEnds rest → Spelled (name (c ∷ x)) (c ∷ x) rest
-  a_number : {n : ℕ} {s rest : Text} → Numeral s n rest → n ≤ max_number → Spelled (number n) s rest
+  a_number : {n : ℕ} {s rest : Text} → Numeral s n rest → n ≤ max_number → Spelled (number (pos n)) s rest
   a_text : {quote : ℕ} {x v rest : Text} → is_quote quote ≡ true → Enclosed quote x → Means x v → Spelled (text v) (quote ∷ (x ++ (quote ∷ []))) rest
   a_sign : {s : Sign} {rest : Text} → SignEnds s rest → Spelled (sign s) (sign_text s) rest
 

@@ -1,5 +1,5 @@
 -- What the scanner computes. No public contract names it: the cut is found by it.
-use Rattle.std.specs.Prelude.{◌≡◌, ℕ, zero, suc, ◌+◌, ◌*◌, nat_lt, Bool, true, false, ◌==◌, List, [], ◌∷◌, ◌++◌, ◌||◌, slice_index, length, drop, Option, Some, None, ◌&&◌, Result, Ok, Err, if◌then◌else◌}
+use Rattle.std.specs.Prelude.{◌≡◌, ℕ, pos, zero, suc, ◌+◌, ◌*◌, nat_lt, Bool, true, false, ◌==◌, List, [], ◌∷◌, ◌++◌, ◌||◌, slice_index, length, drop, Option, Some, None, ◌&&◌, Result, Ok, Err, if◌then◌else◌}
 use Rattle.unicode_ident.specs.Ident.{is_xid_continue}
 use Rattle.jt_scan.specs.declared.error.ScanError.{ScanError}
 use Rattle.jt_scan.specs.declared.error.ScanError.TheVariants.{UnclosedTag, UnclosedText, BadCharacter, BadEscape, NumberTooLarge, NoMemory}
@@ -129,7 +129,7 @@ signed line None = Err (BadCharacter line)
 signed line (Some p) = Ok (sign p.0, p.1)
 
 abbrev pub numbered : ℕ → ℕ × Text → Outcome Token
-numbered line p = if nat_lt max_number p.0 then Err (NumberTooLarge line) else Ok (number p.0, p.1)
+numbered line p = if nat_lt max_number p.0 then Err (NumberTooLarge line) else Ok (number (pos p.0), p.1)
 
 abbrev pub meant : ℕ → Text × Text → Outcome Token
 meant line p = if (pieces 0 p.0).1 then Ok (text (unescaped p.0), p.1) else Err (BadEscape line)

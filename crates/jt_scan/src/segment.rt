@@ -59,7 +59,7 @@ pub enum Token<'a> {
     /// A name, or a reserved word.
     Name(&'a str),
     /// A number, by its value.
-    Number(u64),
+    Number(i64),
     /// What stands between the quotes of a text, as it is in the source:
     /// [`text_value`](crate::text_value) has what it means.
     Text(&'a str),

@@ -14,9 +14,6 @@ use crate::signs::read_sign;
 use crate::text::{before, behind_name, behind_pair, behind_space, first, starts_name};
 use std::alloc::Global;
 
-/// The greatest number.
-const MAX_NUMBER: u64 = 9_223_372_036_854_775_807;
-
 /// What stands in front in a tag, where no whitespace does.
 #[derive(Clone, Copy)]
 pub enum Front<'a> {
@@ -54,9 +51,9 @@ fn number_token(c: char, more: &str, line: u32) -> Result<(Token<'_>, &str), Sca
         (λ e. spec.IsGiven e (spec.numbered line (spec.number_at c (chars more.now)))) }
 {
     let (number, rest) = read_number(c, more);
-    if number > MAX_NUMBER {
+    let Ok(number) = i64::try_from(number) else {
         return Err(ScanError::NumberTooLarge { line });
-    }
+    };
     Ok((Token::Number(number), rest))
 }
 
