@@ -1,5 +1,5 @@
 -- What expressions mean, by names.
-use Rattle.std.specs.Prelude.{ℕ, pos, Bool, true, false, List, [], ◌∷◌, Option, Some, None, Result, Ok, Err, if◌then◌else◌}
+use Rattle.std.specs.Prelude.{Bool, true, false, List, [], ◌∷◌, Option, Some, None, Result, Ok, Err, if◌then◌else◌}
 use Rattle.jt_value.specs.Tree as tree
 use Rattle.jt_value.specs.Tree.{Tree}
 use Rattle.jt_value.specs.declared.fault.Fault.{Fault}
@@ -20,7 +20,7 @@ use Rattle.jt_scopes.specs.Env.{Env, read}
 use Rattle.jt_scopes.specs.Got.{Got, gives, fails, deeper, bind, checked}
 
 abbrev pub literal : Literal → Tree
-literal (trees.number n) = tree.number (pos n)
+literal (trees.number n) = tree.number n
 literal (trees.text s) = tree.text s
 literal (trees.truth b) = tree.truth_value b
 literal trees.nothing = tree.nothing
