@@ -1,7 +1,6 @@
 -- What a template is resolved to is as small as its weight and its bytes say: the laws of instructions, entries, names and
 -- the pool.
 use Rattle.std.proofs.Common.{◌≡◌, ℕ, ◌+◌, ◌*◌, max, ◌≤◌, Bool, true, false, if◌then◌else◌, List, [], ◌∷◌, ◌++◌, length, arith, length-append}
-use Rattle.std.specs.List.{AllByRecursion}
 use Rattle.std.specs.Str.{bytes_eq}
 use Rattle.std.specs.Ordering.{nat_cmp, is_lt}
 use Rattle.std.specs.Cmp.Lexicographic.{slice_cmp}
@@ -83,21 +82,6 @@ module _ (template : Text) (escaping : Bool) (names : List Text) where
 
 -- ---- names
 
--- what holds of each name holds of each that is put in order
-module _ (P : Text → Type 0) where
-  inserted_all : (x : Text) (ns : List Text) → P x → AllByRecursion P ns → AllByRecursion P (inserted x ns)
-  inserted_all x [] p h = (p, tt)
-  inserted_all x (y ∷ ys) p h = through (bytes_eq y x) (is_lt (slice_cmp nat_cmp x y)) (inserted_all x ys p h.1)
-    where
-      through : (b c : Bool) → AllByRecursion P (inserted x ys) → AllByRecursion P (if b then y ∷ ys else if c then x ∷ y ∷ ys else y ∷ inserted x ys)
-      through true c g = h
-      through false true g = (p, h)
-      through false false g = (h.0, g)
-
-  pub all_inserted_all : (xs ns : List Text) → AllByRecursion P xs → AllByRecursion P ns → AllByRecursion P (all_inserted xs ns)
-  all_inserted_all [] ns h g = g
-  all_inserted_all (x ∷ xs) ns h g = all_inserted_all xs (inserted x ns) h.1 (inserted_all x ns h.0 g)
-
 inserted_len : (x : Text) (ns : List Text) → length (inserted x ns) ≤ length ns + 1
 inserted_len x [] = omega arith
 inserted_len x (y ∷ ys) = through (bytes_eq y x) (is_lt (slice_cmp nat_cmp x y)) (inserted_len x ys)
@@ -164,11 +148,6 @@ names_few b = omega (arith, all_inserted_len (body_names b) [], (body_few b).0)
 
 pub names_short : (b : Body) → names_bytes (ascending (body_names b)) ≤ body_bytes b
 names_short b = omega (arith, all_inserted_bytes (body_names b) [], (body_few b).1)
-
--- a name is no longer than all together
-pub each_short : (xs : List Text) (n : ℕ) → names_bytes xs ≤ n → AllByRecursion (λ x. length x ≤ n) xs
-each_short [] n h = tt
-each_short (x ∷ xs) n h = (omega (arith, h), each_short xs n (omega (arith, h)))
 
 -- ---- the pool
 

@@ -8,3 +8,4 @@ pub mod Names
 pub mod Rules
 pub mod Scoped
 pub mod Size
+pub mod Laws

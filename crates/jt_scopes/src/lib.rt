@@ -2,6 +2,7 @@
 #![tactic(auto)]
 
 mod error;
+mod laws;
 mod names;
 mod program;
 mod resolving;
@@ -10,5 +11,6 @@ mod rules;
 mod tests;
 
 pub use error::ScopeError;
+pub use laws::template_laws;
 pub use program::{Resolved, SExpr, SStmt};
 pub use resolving::resolve;
