@@ -12,4 +12,6 @@ pub mod Config
 pub mod Step
 pub mod Run
 pub mod Enough
+pub mod FreeRun
+pub mod Laws
 pub mod Parts
