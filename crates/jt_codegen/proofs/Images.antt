@@ -1,11 +1,13 @@
 -- A chain that breaks no rule: its image, and what its refusals say.
-use Rattle.std.proofs.Common.{◌≡◌, ◌<◌, ◌≤◌, length, Option, Some, refl, sym, ap, ◌∙◌, subst, arith}
+use Rattle.std.proofs.Common.{◌≡◌, ℕ, ◌<◌, ◌≤◌, length, Option, Some, refl, sym, ap, ◌∙◌, subst, arith}
 use Rattle.std.specs.Prelude.{◌≢◌}
 use Rattle.std.specs.List.{AllByRecursion}
+use Rattle.jt_value.specs.Pairs.{Pairs}
 use Rattle.jt_scan.specs.declared.options.Options.{Options}
 use Rattle.jt_image.specs.Code.{Code}
 use Rattle.jt_image.specs.IsCode.{IsCode}
 use Rattle.jt_image.specs.Parts.{IsRefusal, KeepsLimits}
+use Rattle.jt_image.specs.Laws.{CodeLaws}
 use Rattle.jt_image.specs.declared.error.ImageError.{ImageError}
 use Rattle.jt_image.specs.declared.error.ImageError.TheVariants as image_error
 use Rattle.jt_parse.specs.Trees.{body_weight}
@@ -13,7 +15,9 @@ use Rattle.jt_parse.specs.Bytes.{body_bytes}
 use Rattle.jt_inherit.specs.Chains.{Text, Sources, IsChain, scanned}
 use Rattle.jt_inherit.specs.View.{Seen}
 use Rattle.jt_inherit.specs.Small.{IsSmall}
-use Rattle.jt_scopes.specs.Slots.{Program}
+use Rattle.jt_scopes.specs.Meaning.{mean}
+use Rattle.jt_scopes.specs.Slots.{Program, smean}
+use Rattle.jt_scopes.specs.Laws.{TemplateLaws}
 use Rattle.jt_scopes.specs.Resolve.{program}
 use Rattle.jt_scopes.specs.Rules.{KeepsRules, names_read}
 use Rattle.jt_codegen.specs.Lower.{compiled}
@@ -28,18 +32,18 @@ use Rattle.jt_codegen.proofs.Whole.{compiles}
 use Rattle.jt_codegen.proofs.Small.{tables, writable, small_limits}
 use Rattle.jt_codegen.proofs.Spelled.{names_some}
 
-module _ (sources : Sources) (entry : Text) (options : Options) (c : Seen) (is : IsChain sources entry options c) where
+module _ (laws : CodeLaws) (templates : TemplateLaws) (sources : Sources) (entry : Text) (options : Options) (c : Seen) (is : IsChain sources entry options c) where
   abbrev p : Program
   p = program c.name c.escaping c.body
 
   names : AllByRecursion (λ x. 0 < length x) p.names
   names = names_some c.body is.tree.segments (scanned options is.source) is.tree.cut is.tree.forms
 
-  pub image_compiled : (q : Program) (o : Option Code) (k : Code) → q ≡ p → KeepsRules (names_read c.body) → o ≡ Some (compiled q) → IsCode k → o ≡ Some k → IsCompiled sources entry options k
-  image_compiled q o k same lawful code whole held =
+  pub image_compiled : (q : Program) (o : Option Code) (k : Code) → q ≡ p → ((x : Pairs) (n : ℕ) → smean q x n ≡ mean c.escaping c.name c.body x n) → KeepsRules (names_read c.body) → o ≡ Some (compiled q) → IsCode k → o ≡ Some k → IsCompiled sources entry options k
+  image_compiled q o k same means lawful code whole held =
       let e : compiled q ≡ k = cc in
       let f : compiled p ≡ k = ap compiled (sym same) ∙ e in
-      record { chain = c; is = is; lawful = lawful; code = subst (CompilesTo c.name c.escaping c.body) f (compiles c.name c.escaping c.body (subst IsCode (sym f) whole)) }
+      record { chain = c; is = is; lawful = lawful; code = subst (CompilesTo c.name c.escaping c.body) f (compiles c.name c.escaping c.body laws templates (λ x n. ap (λ r. smean r x n) (sym same) ∙ means x n) (subst IsCode (sym f) whole)) }
 
   -- the code passes a limit where its instructions are refused
   pub emission_passed : (q : Program) → q ≡ p → ¬ (FitsImage (compiled q)) → ¬ (KeepsLimits (compiled p))
@@ -51,7 +55,7 @@ module _ (sources : Sources) (entry : Text) (options : Options) (c : Seen) (is :
     where
       by : (e : ImageError) → e ≢ image_error.NoMemory → IsRefusal e (Some (compiled p)) → ¬ (KeepsLimits (compiled p))
       by image_error.BadOpcode n h = absurd cc
-      by image_error.BadTable n h = absurd (h (tables c.name c.escaping c.body names))
+      by image_error.BadTable n h = absurd (h (tables c.name c.escaping c.body templates names))
       by image_error.LimitPassed n h = h
       by image_error.NoMemory n h = absurd (n refl)
       by image_error.BadMagic n h = absurd h
@@ -66,7 +70,7 @@ module _ (sources : Sources) (entry : Text) (options : Options) (c : Seen) (is :
   -- a code that passes a limit is no small chain's
   pub not_small : ((source : Text) → sources entry ≡ Some source → body_weight c.body ≤ length source) → ((source : Text) → sources entry ≡ Some source → body_bytes c.body ≤ length source) → ¬ (KeepsLimits (compiled p)) → ¬ (IsSmall sources entry options)
   not_small weighs short passed = λ small.
-      passed (small_limits c.name c.escaping c.body (omega (arith, weighs small.source small.found, small.bytes)) (omega (arith, short small.source small.found, small.bytes)))
+      passed (small_limits c.name c.escaping c.body laws templates (omega (arith, weighs small.source small.found, small.bytes)) (omega (arith, short small.source small.found, small.bytes)))
 
   pub emission_refused : (e : EmitError) (q : Program) → q ≡ p → KeepsRules (names_read c.body) → RefusesCode e (compiled q) → Breaks sources entry options (of_emit e)
   emission_refused emit_error.CodeTooLong q same lawful r = limit_passed lawful (emission_passed q same r)

@@ -1,11 +1,10 @@
 -- The code of a resolved template names what is there, has the pool's values as its constants, and is typed.
 use Rattle.std.proofs.Common.{◌≡◌, ℕ, zero, suc, ◌+◌, ◌<◌, Bool, true, false, if◌then◌else◌, List, [], ◌∷◌, ◌++◌, length, map, Some, refl, sym, ap, ◌∙◌, subst, arith, append_assoc, length-append, inl, inr}
 use Rattle.std.specs.Prelude.{slice_get, nat_lt, option_map}
-use Rattle.std.specs.Str.{bytes_eq}
+use Rattle.std.specs.List.{AllByRecursion}
 use Rattle.std.proofs.Math.Seq.{get_or-append_seam}
 use Rattle.std.proofs.lemmas.Option.{slice_get-get_or}
 use Rattle.std.proofs.lemmas.Bool.Decides.{nat_tests}
-use Rattle.std.proofs.lemmas.Slice.Eq.{bytes_eq-Decides}
 use Rattle.jt_value.specs.Tree as tree
 use Rattle.jt_value.specs.Tree.{Tree}
 use Rattle.jt_image.specs.Code.{Section, Code, is_text}
@@ -13,12 +12,13 @@ use Rattle.jt_image.specs.IsCode.{IsCode}
 use Rattle.jt_value.specs.Pairs.{Pairs}
 use Rattle.jt_image.specs.Typed.{Equal, IsTypedUnit, IsTyped}
 use Rattle.jt_image.specs.Step.{constant_value, text_of}
+use Rattle.jt_image.specs.Laws.{CodeLaws}
 use Rattle.jt_parse.specs.Trees.{Text, truth, nothing, Expr, constant, name, Stmt, data_of, print, choose, Body, end, stmt, Branches, no_branches, branch}
 use Rattle.jt_scopes.specs.Meaning.{literal, mean}
 use Rattle.jt_scopes.specs.Slots as slots
 use Rattle.jt_scopes.specs.Slots.{SBody, Program, Routine, value_at, bytes_of, smean}
 use Rattle.jt_scopes.specs.Resolve.{expr_names, stmt_names, body_names, branch_names, ascending, slot_of, expr_pool, stmt_pool, body_pool, branch_pool, resolved_expr, resolved_stmt, resolved_body, resolved_choice, program}
-use Rattle.jt_scopes.proofs.Means.{Among, AllAmong, all_ascending, program_means}
+use Rattle.jt_scopes.specs.Laws.{TemplateLaws}
 use Rattle.jt_codegen.specs.Lower.{constant_of, unit_of, compiled}
 use Rattle.jt_codegen.specs.Fits.{ExprFits, BodyFits}
 use Rattle.jt_codegen.proofs.Lowered.{HasPool}
@@ -26,19 +26,11 @@ use Rattle.jt_codegen.specs.Compiles.{CompilesTo}
 use Rattle.jt_codegen.proofs.Typed.{unit_typed}
 use Rattle.jt_codegen.proofs.Correct.{text_means, fault_means, enough_text, enough_fault}
 
--- ---- a name that is in the table has a slot there
+-- ---- names that have slots
 
-slot_within : (x : Text) (ns : List Text) → Among x ns → slot_of x ns < length ns
-slot_within x [] h = absurd h
-slot_within x (y ∷ ys) h = through (bytes_eq y x) refl h (slot_within x ys)
-  where
-    through : (b : Bool) → bytes_eq y x ≡ b → Among x (y ∷ ys) → (Among x ys → slot_of x ys < length ys) → (if b then 0 else suc (slot_of x ys)) < suc (length ys)
-    through true e k f = omega arith
-    through false e (inl s) f = absurd (never (sym e ∙ (bytes_eq-Decides y x).1 s))
-      where
-        never : false ≡ true → ⊥
-        never q = cc
-    through false e (inr k) f = omega (arith, f k)
+-- each of these has a slot in the table
+abbrev AllAmong : List Text → List Text → Type 0
+AllAmong xs ns = AllByRecursion (λ x. slot_of x ns < length ns) xs
 
 front : (xs ys ns : List Text) → AllAmong (xs ++ ys) ns → AllAmong xs ns
 front [] ys ns h = tt
@@ -92,7 +84,7 @@ lt_true a b h = grind (arith, nat_tests)
 module _ (template : Text) (escaping : Bool) (names : List Text) (pool : List Tree) (k : Code) (constants : k.constants ≡ map constant_of pool) (globals : k.globals ≡ length names) where
   expr_fits : (e : Expr) (n : ℕ) → AllAmong (expr_names e) names → PoolAt pool n (expr_pool e) → ExprFits k (resolved_expr template escaping names e n)
   expr_fits (constant l) n here has = ap (λ cs. nat_lt n (length cs)) constants ∙ lt_true n (length (map constant_of pool)) (within pool n (literal l) has.0)
-  expr_fits (name x) n here has = ap (nat_lt (slot_of x names)) globals ∙ lt_true (slot_of x names) (length names) (slot_within x names here.0)
+  expr_fits (name x) n here has = ap (nat_lt (slot_of x names)) globals ∙ lt_true (slot_of x names) (length names) here.0
 
   text_fits : (n : ℕ) (t : Text) → slice_get pool n ≡ Some (tree.text t) → is_text (slice_get k.constants n) ≡ true
   text_fits n t e = ap (λ cs. is_text (slice_get cs n)) constants ∙ ap is_text (constants_at pool n) ∙ ap (λ o. is_text (option_map constant_of o)) e
@@ -208,32 +200,32 @@ module _ (template : Text) (escaping : Bool) (b : Body) where
   pub has_pool : HasPool (compiled p) p.pool
   has_pool = record { values = values_same (body_pool b) (body_pooled b); texts = texts_same (body_pool b) (body_pooled b) }
 
-  fits : BodyFits (compiled p) (resolved_body template escaping (ascending (body_names b)) b 0 slots.end)
-  fits = body_fits template escaping (ascending (body_names b)) (body_pool b) (compiled p) refl refl b 0 slots.end (all_ascending (body_names b)) (pool_whole (body_pool b) []) tt
+  fits : TemplateLaws → BodyFits (compiled p) (resolved_body template escaping (ascending (body_names b)) b 0 slots.end)
+  fits templates = body_fits template escaping (ascending (body_names b)) (body_pool b) (compiled p) refl refl b 0 slots.end (templates.slotted (body_names b)) (pool_whole (body_pool b) []) tt
 
-  typed_at : (n : ℕ) (u : Section) → slice_get (compiled p).units n ≡ Some u → IsTypedUnit Equal (compiled p) u
-  typed_at zero u e =
+  typed_at : TemplateLaws → (n : ℕ) (u : Section) → slice_get (compiled p).units n ≡ Some u → IsTypedUnit Equal (compiled p) u
+  typed_at templates zero u e =
       let r : Routine = record { parameters = 0; locals = 0; body = resolved_body template escaping (ascending (body_names b)) b 0 slots.end } in
       let same : unit_of r ≡ u = cc in
-      subst (IsTypedUnit Equal (compiled p)) same (unit_typed (compiled p) r fits)
-  typed_at (suc n) u e = absurd cc
+      subst (IsTypedUnit Equal (compiled p)) same (unit_typed (compiled p) r (fits templates))
+  typed_at templates (suc n) u e = absurd cc
 
   -- the code of every template is typed
-  pub compiled_typed : IsTyped (compiled p)
-  compiled_typed = typed_at
-
-  means : (x : Pairs) (n : ℕ) → smean p x n ≡ mean escaping template b x n
-  means x n = program_means template escaping b x n
+  pub compiled_typed : TemplateLaws → IsTyped (compiled p)
+  compiled_typed templates = typed_at templates
 
   abbrev only : Routine
   only = record { parameters = 0; locals = 0; body = resolved_body template escaping (ascending (body_names b)) b 0 slots.end }
 
   -- from source to text, and enough budget: wherever the code has a spelling
-  pub compiles : IsCode (compiled p) → CompilesTo template escaping b (compiled p)
-  compiles whole = record {
-    typed = compiled_typed;
-    texts = λ x g t r. let m = text_means p only [] refl has_pool whole compiled_typed x g t r in (m.0, sym (means x m.0) ∙ m.1);
-    faults = λ x g f r. let m = fault_means p only [] refl has_pool whole compiled_typed x g f r in (m.0, m.1, sym (means x m.0) ∙ m.2);
-    enough_text = λ x n t e. enough_text p only [] refl has_pool whole compiled_typed x n t (means x n ∙ e);
-    enough_fault = λ x n f q e. enough_fault p only [] refl has_pool whole compiled_typed x n f q (means x n ∙ e);
-  }
+  pub compiles : CodeLaws → TemplateLaws → ((x : Pairs) (n : ℕ) → smean p x n ≡ mean escaping template b x n) → IsCode (compiled p) → CompilesTo template escaping b (compiled p)
+  compiles laws templates means whole =
+      let typed = compiled_typed templates in
+      let runs = laws.runs (compiled p) whole typed in
+      record {
+        typed = typed;
+        texts = λ x g t r. let m = text_means p only [] refl has_pool runs x g t r in (m.0, sym (means x m.0) ∙ m.1);
+        faults = λ x g f r. let m = fault_means p only [] refl has_pool runs x g f r in (m.0, m.1, sym (means x m.0) ∙ m.2);
+        enough_text = λ x n t e. enough_text p only [] refl has_pool runs x n t (means x n ∙ e);
+        enough_fault = λ x n f q e. enough_fault p only [] refl has_pool runs x n f q (means x n ∙ e);
+      }
