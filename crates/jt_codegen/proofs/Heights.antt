@@ -9,7 +9,7 @@ use Rattle.jt_scopes.specs.Slots.{SExpr, SBody, end}
 use Rattle.jt_scopes.specs.View.{Front, expr_view, stmt_view, body_view, choice_view}
 use Rattle.jt_scopes.specs.declared.program.SStmt.{SStmt}
 use Rattle.jt_scopes.specs.declared.program.SStmt.TheVariants as stmts
-use Rattle.jt_scopes.proofs.Fronts.{SBranch}
+use Rattle.jt_codegen.proofs.Fronts.{SBranch}
 use Rattle.jt_codegen.proofs.Patched.{statements_left, if_view}
 use Rattle.jt_scopes.specs.Size.{expr_height, body_height}
 
