@@ -1,14 +1,11 @@
 -- What a template is resolved to is as small as its weight and its bytes say: the laws of instructions, entries, names and
 -- the pool.
-use Rattle.std.proofs.Common.{◌≡◌, ℕ, suc, ◌+◌, ◌*◌, max, min, ◌≤◌, Bool, true, false, if◌then◌else◌, List, [], ◌∷◌, ◌++◌, length, Option, Some, None, arith, length-append}
-use Rattle.std.specs.List.{AllByRecursion}
+use Rattle.std.proofs.Common.{◌≡◌, ℕ, ◌+◌, ◌*◌, max, ◌≤◌, Bool, true, false, if◌then◌else◌, List, [], ◌∷◌, ◌++◌, length, Option, Some, None, arith, length-append}
 use Rattle.std.specs.Str.{bytes_eq}
 use Rattle.std.specs.Ordering.{nat_cmp, is_lt}
 use Rattle.std.specs.Cmp.Lexicographic.{slice_cmp}
 use Rattle.jt_value.specs.Tree as tree
 use Rattle.jt_value.specs.Tree.{Tree}
-use Rattle.jt_ops.specs.declared.op_id.OpId.{OpId}
-use Rattle.jt_ops.specs.declared.op_id.OpId.TheVariants as op
 use Rattle.jt_ops.specs.declared.test_id.TestId.{TestId}
 use Rattle.jt_expr.specs.Trees as written
 use Rattle.jt_expr.specs.Trees.{Expr, Literal, constant, name, group, list_of, map_of, attribute, item, filter, test, unary, binary, when, choice, Exprs, no_exprs, expr, Pairs, no_pairs, pair, weight, literal_weight, operator_weight, is_weight, enclosed, exprs_weight, pairs_weight}
@@ -17,13 +14,13 @@ use Rattle.jt_expr.specs.declared.tree.BinaryOperator.{BinaryOperator}
 use Rattle.jt_expr.specs.declared.tree.BinaryOperator.TheVariants as o
 use Rattle.jt_parse.specs.Trees.{Text, Stmt, data_of, print, choose, stmt_weight, Body, end, stmt, body_weight, Branches, no_branches, branch, branch_weight}
 use Rattle.jt_parse.specs.Bytes.{stmt_bytes, body_bytes, branch_bytes}
-use Rattle.jt_scopes.specs.Operators.{Form, operation, negation, conjunction, disjunction, form, unary_operation}
+use Rattle.jt_scopes.specs.Operators.{Form, operation, negation, conjunction, disjunction, form}
 use Rattle.jt_scopes.specs.Tests.{test_named}
 use Rattle.jt_scopes.specs.Expressions.{literal}
 use Rattle.jt_scopes.specs.Slots as slots
 use Rattle.jt_scopes.specs.Slots.{SExpr, SRow, SBody}
-use Rattle.jt_scopes.specs.Resolve.{expr_names, row_names, pair_names, stmt_names, body_names, branch_names, inserted, all_inserted, ascending, expr_pool, row_pool, pair_pool, stmt_pool, body_pool, branch_pool, operation_of, turned_round, tested_by, in_form, resolved_expr, resolved_row, resolved_pairs, resolved_stmt, resolved_body, resolved_choice, program}
-use Rattle.jt_scopes.specs.Size.{expr_size, row_size, body_size, routines_size, expr_height, row_height, body_height, names_bytes, value_bytes, pool_bytes}
+use Rattle.jt_scopes.specs.Resolve.{expr_names, row_names, pair_names, stmt_names, body_names, branch_names, inserted, all_inserted, ascending, expr_pool, row_pool, pair_pool, stmt_pool, body_pool, branch_pool, turned_round, tested_by, in_form, resolved_expr, resolved_row, resolved_pairs, resolved_stmt, resolved_body, resolved_choice, program}
+use Rattle.jt_scopes.specs.Size.{expr_size, row_size, body_size, routines_size, expr_height, row_height, body_height, names_bytes, pool_bytes}
 
 -- ---- weights have tokens
 
