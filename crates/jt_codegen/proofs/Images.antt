@@ -48,7 +48,7 @@ module _ (laws : CodeLaws) (templates : TemplateLaws) (sources : Sources) (entry
   body = resolved_body c.name c.escaping (ascending (body_names c.body)) c.body 0 end
 
   takes : KeepsRules c.body → BodyTakes body
-  takes lawful = lawful_takes c.name c.escaping c.body is.tree.known lawful
+  takes lawful = lawful_takes templates c.name c.escaping c.body is.tree.known lawful
 
   -- the body that was looked at is the template's
   body_same : (q : Program) (b : SBody) → q ≡ p → map (λ (r : Routine). r.body) q.routines ≡ b ∷ [] → b ≡ body

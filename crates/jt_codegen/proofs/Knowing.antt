@@ -17,7 +17,7 @@ use Rattle.jt_scopes.specs.Rules.{KeepsRules}
 use Rattle.jt_scopes.specs.Takes.{BodyTakes}
 use Rattle.jt_scopes.specs.Slots as slots
 use Rattle.jt_scopes.specs.Resolve.{body_names, ascending, resolved_body}
-use Rattle.jt_scopes.proofs.Taken.{body_takes}
+use Rattle.jt_scopes.specs.Laws.{TemplateLaws}
 
 -- ---- a test that is known is found
 
@@ -150,5 +150,5 @@ mutual
       (at_known line c (none_first (unknown_at line c) (body_unknown body) front), body_known body (none_second (unknown_at line c) (body_unknown body) front), branches_known rest (none_second (option_or (unknown_at line c) (body_unknown body)) (branch_unknown rest) h))
 
 -- the body of a template that breaks no rule
-pub lawful_takes : (template : Text) (escaping : Bool) (b : Body) → body_unknown b ≡ None → KeepsRules b → BodyTakes (resolved_body template escaping (ascending (body_names b)) b 0 slots.end)
-lawful_takes template escaping b known lawful = body_takes template escaping (ascending (body_names b)) b 0 slots.end lawful.none (body_known b known) tt
+pub lawful_takes : TemplateLaws → (template : Text) (escaping : Bool) (b : Body) → body_unknown b ≡ None → KeepsRules b → BodyTakes (resolved_body template escaping (ascending (body_names b)) b 0 slots.end)
+lawful_takes templates template escaping b known lawful = (templates.takes template escaping b lawful (body_known b known)).0

@@ -4,10 +4,12 @@ use Rattle.std.specs.List.{AllByRecursion}
 use Rattle.std.specs.Str.{bytes_eq}
 use Rattle.std.proofs.lemmas.Slice.Eq.{bytes_eq-Decides}
 use Rattle.jt_parse.specs.Trees.{Text}
-use Rattle.jt_scopes.specs.Resolve.{ascending, slot_of}
+use Rattle.jt_scopes.specs.Slots as slots
+use Rattle.jt_scopes.specs.Resolve.{body_names, ascending, slot_of}
 use Rattle.jt_scopes.specs.Laws.{TemplateLaws}
 use Rattle.jt_scopes.proofs.Means.{Among, AllAmong, all_ascending}
 use Rattle.jt_scopes.proofs.Sized.{program_sized, program_low, names_few, names_short, pool_few, pool_short}
+use Rattle.jt_scopes.proofs.Taken.{body_takes}
 use Rattle.jt_scopes.proofs.Ascending.{ascending_ascends}
 
 -- a name that is in the table has a slot there
@@ -37,6 +39,7 @@ lawful = record {
     few_values = pool_few template escaping b;
     short_values = pool_short template escaping b;
   };
+  takes = λ template escaping b lawful known. (body_takes template escaping (ascending (body_names b)) b 0 slots.end lawful.none known tt, tt);
   ascends = ascending_ascends;
   slotted = λ xs. all_within xs (ascending xs) (all_ascending xs);
 }

@@ -5,7 +5,10 @@ use Rattle.std.specs.Ordering.{nat_cmp, is_lt}
 use Rattle.std.specs.Cmp.Lexicographic.{slice_cmp}
 use Rattle.jt_parse.specs.Trees.{Text, Body, body_weight}
 use Rattle.jt_parse.specs.Bytes.{body_bytes}
+use Rattle.jt_scopes.specs.Known.{BodyKnown}
+use Rattle.jt_scopes.specs.Rules.{KeepsRules}
 use Rattle.jt_scopes.specs.Slots.{Routine, Program}
+use Rattle.jt_scopes.specs.Takes.{BodyTakes}
 use Rattle.jt_scopes.specs.Resolve.{ascending, slot_of, program}
 use Rattle.jt_scopes.specs.Size.{body_height, routines_size, names_bytes, pool_bytes}
 
@@ -30,8 +33,10 @@ pub record IsSized (b : Body) (p : Program) : Type 0 where
   pub few_values : length p.pool ≤ body_weight b + 2
   pub short_values : pool_bytes p.pool ≤ body_bytes b
 
--- Programs are so small. Names that are put in order ascend strictly, and each of them has a slot there.
+-- Programs are so small. Where the rules are kept and each test is known, each operation of a program gets as many values as it
+-- takes. Names that are put in order ascend strictly, and each of them has a slot there.
 pub record TemplateLaws : Type 0 where
   pub sized : (template : Text) (escaping : Bool) (b : Body) → IsSized b (program template escaping b)
+  pub takes : (template : Text) (escaping : Bool) (b : Body) → KeepsRules b → BodyKnown b → AllByRecursion (λ (r : Routine). BodyTakes r.body) (program template escaping b).routines
   pub ascends : (xs : List Text) → Ascends (ascending xs)
   pub slotted : (xs : List Text) → AllByRecursion (λ x. slot_of x (ascending xs) < length (ascending xs)) xs
