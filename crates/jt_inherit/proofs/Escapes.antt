@@ -41,7 +41,7 @@ either : (c : ℕ) (b : Bool) (x y : Escape) → (b ≡ true → Fits c x) → F
 either c true x y f g = f refl
 either c false x y f g = g
 
-quoted : (c : ℕ) → (c == 92 || (c == 39 || c == 34)) ≡ true → c < 128
+quoted : (c : ℕ) → (c == 92 || c == 39 || c == 34) ≡ true → c < 128
 quoted c h = grind (arith, nat_tests)
 
 below_eight : (c : ℕ) → is_digit 8 c ≡ true → digit_value c < 8
@@ -52,7 +52,7 @@ unfolding escape
 escape_fits c =
     either c (is_digit 8 c) _ _ (λ h. below_eight c h)
     (either c (c == 10) _ _ (λ h. tt)
-    (either c (c == 92 || (c == 39 || c == 34)) _ _ (λ h. quoted c h)
+    (either c (c == 92 || c == 39 || c == 34) _ _ (λ h. quoted c h)
     (either c (c == 97) _ _ (λ h. omega arith)
     (either c (c == 98) _ _ (λ h. omega arith)
     (either c (c == 116) _ _ (λ h. omega arith)
