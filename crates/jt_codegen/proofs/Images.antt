@@ -63,7 +63,7 @@ module _ (laws : CodeLaws) (templates : TemplateLaws) (sources : Sources) (entry
   image_compiled q o k b t same means lawful bodies e few code whole held =
       let one : compiled q ≡ k = cc in
       let f : compiled p ≡ k = ap compiled (sym same) ∙ one in
-      let meant = λ x n. ap (λ r. smean r x n) (sym same) ∙ means x n in
+      let meant : (x : Pairs) (n : ℕ) → smean p x n ≡ mean c.escaping c.name c.body x n = λ x n. ap (λ (r : Program). smean r x n) (sym same) ∙ means x n in
       record { chain = c; is = is; lawful = lawful; code = subst (CompilesTo c.name c.escaping c.body) f (compiles c.name c.escaping c.body templates (takes lawful) (low q b t same bodies e few) laws meant (subst IsCode (sym f) whole)) }
 
   -- the code passes a limit where its instructions are refused

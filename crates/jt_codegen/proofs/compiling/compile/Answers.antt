@@ -55,12 +55,12 @@ returns g c =
 pub returns-then-not-fits_entries-clause-refused : goal.returns-then-not-fits_entries-clause-refused
 returns-then-not-fits_entries-clause-refused g c =
     let r = c.in_ok-resolved.resolved in
-    stack_refused (g.L.Library.sources c.args.library.now) c.args.entry.now c.args.options (chain_view c.in_ok-chain.chain) c.in_ok-chain.ensures.chained (program_of r) (body_view (template_of r) c.body.result.now end) c.fits_entries.result
+    stack_refused c.code_laws.ensures c.template_laws.ensures (g.L.Library.sources c.args.library.now) c.args.entry.now c.args.options (chain_view c.in_ok-chain.chain) c.in_ok-chain.ensures.chained (program_of r) (body_view (template_of r) c.body.result.now end) c.fits_entries.result
     c.in_ok-resolved.ensures.resolved c.in_ok-resolved.ensures.lawful c.body.ensures (c.fits_entries.ensures (template_of r) end) (search rules)
 
 pub returns-then-not-fits_entries-clause-small : goal.returns-then-not-fits_entries-clause-small
 returns-then-not-fits_entries-clause-small g c =
     let r = c.in_ok-resolved.resolved in
-    let small = stack_not_small (g.L.Library.sources c.args.library.now) c.args.entry.now c.args.options (chain_view c.in_ok-chain.chain) c.in_ok-chain.ensures.chained (program_of r) (body_view (template_of r) c.body.result.now end) c.fits_entries.result
+    let small = stack_not_small c.code_laws.ensures c.template_laws.ensures (g.L.Library.sources c.args.library.now) c.args.entry.now c.args.options (chain_view c.in_ok-chain.chain) c.in_ok-chain.ensures.chained (program_of r) (body_view (template_of r) c.body.result.now end) c.fits_entries.result
     c.in_ok-resolved.ensures.resolved c.in_ok-chain.ensures.weighs c.body.ensures (c.fits_entries.ensures (template_of r) end) (search rules) in
     λ limit. small
