@@ -135,12 +135,19 @@ fn codes_of_expressions(rt: HostRuntime) -> Result<(), Fail> {
     Ok(())
 }
 
+/// A text that many times.
+fn repeated(alloc: Global, text: &str, count: usize) -> Result<String, AllocError> {
+    let mut all = String::new(alloc);
+    for _n in 0..count {
+        all.push_str(text)?;
+    }
+    Ok(all)
+}
+
 /// A list of that many values, printed.
 fn list(alloc: Global, count: usize) -> Result<String, AllocError> {
     let mut source = String::from_str(alloc, "{{[")?;
-    for _n in 0..count {
-        source.push_str("a,")?;
-    }
+    source.push_str(repeated(alloc, "a,", count)?.as_str())?;
     source.push_str("]}}")?;
     Ok(source)
 }
@@ -188,19 +195,18 @@ fn names_and_constants(rt: HostRuntime) -> Result<(), Fail> {
     Ok(())
 }
 
-/// That many print tags.
-fn tags(alloc: Global, count: usize) -> Result<String, AllocError> {
-    let mut source = String::new(alloc);
-    for _n in 0..count {
-        source.push_str("{{a}}")?;
-    }
-    Ok(source)
+/// A print tag of a conjunction of 64 names, which is 317 instructions.
+fn conjunction(alloc: Global) -> Result<String, AllocError> {
+    let mut tag = String::from_str(alloc, "{{a")?;
+    tag.push_str(repeated(alloc, " and a", 63)?.as_str())?;
+    tag.push_str("}}")?;
+    Ok(tag)
 }
 
 #[test]
 fn long_templates(rt: HostRuntime) -> Result<(), Fail> {
     let alloc = rt.alloc();
-    let source = tags(alloc, 2_000)?;
+    let source = repeated(alloc, "{{a}}", 2_000)?;
     let templates = [("a", source.as_str())];
     let shelf = Shelf {
         templates: &templates,
@@ -209,7 +215,8 @@ fn long_templates(rt: HostRuntime) -> Result<(), Fail> {
         Ok(image) => assert_eq!(rt; image.instructions(), 4_001),
         Err(_) => return Err(Fail::from("compile")),
     }
-    let long = tags(alloc, 131_072)?;
+    let tag = conjunction(alloc)?;
+    let long = repeated(alloc, tag.as_str(), 827)?;
     let refused = told(alloc, long.as_str(), Options::new())?;
     assert_eq!(rt; refused.as_str(), "G1 CodeTooLong");
     Ok(())
