@@ -228,7 +228,7 @@ fn compiles_a_template(rt: HostRuntime) {
 #[test]
 fn says_why_nothing_is_compiled(rt: HostRuntime) {
     let files: [(&str, &[u8]); 4] = [
-        ("odd", b"\n{{ 1 }}"),
+        ("odd", b"\n{{ 1 ? 2 }}"),
         ("bytes", b"\xff"),
         ("self", b"{{ self }}"),
         ("open", b"{% if x %}"),

@@ -1,5 +1,5 @@
 -- A program's code does what the program means.
-use Rattle.std.proofs.Common.{◌≡◌, ℕ, zero, suc, ◌+◌, ◌-◌, ◌<◌, ◌≤◌, List, [], ◌∷◌, ◌++◌, length, map, Option, Some, None, Bool, true, false, refl, sym, ap, ◌∙◌, subst, arith, append_assoc, length-append}
+use Rattle.std.proofs.Common.{◌≡◌, ◌≢◌, ℕ, zero, suc, ◌+◌, ◌-◌, ◌<◌, ◌≤◌, List, [], ◌∷◌, ◌++◌, length, map, Option, Some, None, Bool, true, false, refl, sym, ap, ◌∙◌, subst, arith, append_assoc, length-append}
 use Rattle.std.specs.Prelude.{slice_get, slice_set, unwrap_or, replicate}
 use Rattle.std.proofs.Math.Seq.{get_or-append_seam, set-append_seam}
 use Rattle.std.proofs.lemmas.Option.{slice_get-get_or}
@@ -10,16 +10,13 @@ use Rattle.jt_value.specs.declared.fault.Fault.{Fault}
 use Rattle.jt_image.specs.declared.instruction.Instruction.{Instruction}
 use Rattle.jt_image.specs.declared.instruction.Instruction.TheVariants as op
 use Rattle.jt_image.specs.Code.{Section, Code}
-use Rattle.jt_image.specs.IsCode.{IsCode}
-use Rattle.jt_image.specs.Typed.{IsTyped}
 use Rattle.jt_image.specs.Config as config
 use Rattle.jt_image.specs.Config.{State, Machine}
 use Rattle.jt_image.specs.Step.{action, fetch}
 use Rattle.jt_image.specs.Run.{filled, locals_of, entry_locals, start, Run}
 use Rattle.jt_image.specs.Enough.{Enough}
-use Rattle.jt_image.proofs.Safe.{IsFit}
-use Rattle.jt_image.proofs.Runs.{start_good}
-use Rattle.jt_image.proofs.Free.{Free, Finished, Failed, Stuck, Going, on_action, exec_at, exec, exec_strict, IsMeant, outcome_of, start_machine, enough_run, run_erased, one_free_end, longer, same_exec}
+use Rattle.jt_image.specs.FreeRun.{Free, Finished, Failed, Going, exec, start_machine}
+use Rattle.jt_image.specs.Laws.{HasRuns}
 use Rattle.jt_parse.specs.Trees.{Text}
 use Rattle.jt_scopes.specs.Got.{Place, Got, gives, fails, deeper, bind}
 use Rattle.jt_scopes.specs.Slots.{Routine, Program, Memory, SCalls, smeanings, with_locals, sperformed, scalls, globals_of, smean}
@@ -27,6 +24,7 @@ use Rattle.jt_codegen.specs.Asm.{Asm, flat, Ran, does, stops, too_deep, bad, run
 use Rattle.jt_codegen.specs.Lower.{body_asm, unit_of, numbered, compiled}
 use Rattle.jt_scopes.specs.Takes.{BodyTakes}
 use Rattle.jt_codegen.proofs.Follows.{HasAt, has_front, has_back, machine, Comes, Reaches, fetched, step, flat_runs}
+use Rattle.jt_codegen.proofs.Over.{longer, one_free_end}
 use Rattle.jt_codegen.proofs.Lowered.{at_memory, follow, HasPool, body_lowered}
 
 has_all : (is pre : List Instruction) → HasAt (pre ++ is) (length pre) is
@@ -115,12 +113,12 @@ module _ (p : Program) (r : Routine) (rs : List Routine) (is : p.routines ≡ r 
       subst (λ m. Follows k m n (smean p x n)) (sym (starts x)) (subst (Follows k (machine 0 0 [] (at_memory [] [] (memory x))) n) (sym main) (body_follows x n))
 
   -- a run that ends after n instructions is what it means where calls go n deep
-  over_too : (x : Pairs) (n : ℕ) (o : Free) (g : Got Text) → IsMeant o → exec k n (start_machine k x) ≡ o → Follows k (start_machine k x) n g → o ≡ as_free g
-  over_too x n o (gives t) over e f = one_free_end k n f.0 (start_machine k x) o (Finished t) over tt e f.1
-  over_too x n o (fails d q) over e f = one_free_end k n f.0 (start_machine k x) o (Failed d) over tt e f.1
+  over_too : (x : Pairs) (n : ℕ) (o : Free) (g : Got Text) → o ≢ Going → exec k n (start_machine k x) ≡ o → Follows k (start_machine k x) n g → o ≡ as_free g
+  over_too x n o (gives t) over e f = one_free_end k n f.0 (start_machine k x) o (Finished t) over (λ w. cc) e f.1
+  over_too x n o (fails d q) over e f = one_free_end k n f.0 (start_machine k x) o (Failed d) over (λ w. cc) e f.1
   over_too x n o deeper over e f =
       let same = longer k n f.0 (start_machine k x) o over f.1 e in
-      absurd (subst IsMeant (sym same ∙ f.2) over)
+      absurd (over (sym same ∙ f.2))
 
   text_meant : (t : Text) (g : Got Text) → Finished t ≡ as_free g → g ≡ gives t
   text_meant t (gives s) e = let same : s ≡ t = cc in ap gives same
@@ -132,27 +130,20 @@ module _ (p : Program) (r : Routine) (rs : List Routine) (is : p.routines ≡ r 
   fault_meant f (fails d q) e = let same : d ≡ f = cc in (q, ap (λ x. fails x q) same)
   fault_meant f deeper e = absurd cc
 
-  module _ (whole : IsCode k) (typed : IsTyped k) where
-    fit : (x : Pairs) → IsFit k (start_machine k x)
-    fit x = (start_good k whole typed x (record { fuel = 0; depth = 0; output = 0; size = 0; nesting = 0 })).fit
-
+  module _ (runs : HasRuns k) where
     pub enough_text : (x : Pairs) (n : ℕ) (t : Text) → smean p x n ≡ gives t → Enough k x (config.text t)
-    enough_text x n t e =
-        let f = subst (Follows k (start_machine k x) n) e (follows x n) in
-        enough_run k x f.0 (Finished t) tt (same_exec k f.0 (start_machine k x) (fit x) ∙ f.1)
+    enough_text x n t e = runs.enough_text x t (subst (Follows k (start_machine k x) n) e (follows x n))
 
     pub enough_fault : (x : Pairs) (n : ℕ) (f : Fault) (q : Option Place) → smean p x n ≡ fails f q → Enough k x (config.fault f)
-    enough_fault x n f q e =
-        let g = subst (Follows k (start_machine k x) n) e (follows x n) in
-        enough_run k x g.0 (Failed f) tt (same_exec k g.0 (start_machine k x) (fit x) ∙ g.1)
+    enough_fault x n f q e = runs.enough_fault x f (subst (Follows k (start_machine k x) n) e (follows x n))
 
     pub text_means : (x : Pairs) (b : config.Budget) (t : Text) → Run k x b (config.text t) → (n : ℕ) × (smean p x n ≡ gives t)
     text_means x b t r =
-        let e = run_erased k x b (Finished t) tt r in
-        (e.0, text_meant t (smean p x e.0) (over_too x e.0 (Finished t) (smean p x e.0) tt (sym (same_exec k e.0 (start_machine k x) (fit x)) ∙ e.1) (follows x e.0)))
+        let e = runs.text x b t r in
+        (e.0, text_meant t (smean p x e.0) (over_too x e.0 (Finished t) (smean p x e.0) (λ w. cc) e.1 (follows x e.0)))
 
     pub fault_means : (x : Pairs) (b : config.Budget) (f : Fault) → Run k x b (config.fault f) → (n : ℕ) × (q : Option Place) × (smean p x n ≡ fails f q)
     fault_means x b f r =
-        let e = run_erased k x b (Failed f) tt r in
-        let g = fault_meant f (smean p x e.0) (over_too x e.0 (Failed f) (smean p x e.0) tt (sym (same_exec k e.0 (start_machine k x) (fit x)) ∙ e.1) (follows x e.0)) in
+        let e = runs.fault x b f r in
+        let g = fault_meant f (smean p x e.0) (over_too x e.0 (Failed f) (smean p x e.0) (λ w. cc) e.1 (follows x e.0)) in
         (e.0, g.0, g.1)

@@ -7,7 +7,7 @@ use Rattle.jt_image.specs.declared.instruction.Instruction.TheVariants as op
 use Rattle.jt_image.specs.Code.{Section, Code}
 use Rattle.jt_image.specs.Config.{Entry, value, frame, capture, State, Caller, Machine}
 use Rattle.jt_image.specs.Step.{Plain, goes, faults_by, broken, plain, on_value, with_entries, goes_on, wrong, straight, action, fetch}
-use Rattle.jt_image.proofs.Free.{Failed, Going, on_action, exec_at, exec}
+use Rattle.jt_image.specs.FreeRun.{Failed, Going, on_action, exec_at, exec}
 use Rattle.jt_codegen.specs.Asm.{Asm, nil, one, both, choose, flat, Ran, does, stops, too_deep, bad, and_then, of_plain, run}
 
 -- the instructions stand in the code at this point

@@ -9,7 +9,7 @@ use Rattle.jt_scopes.specs.Slots.{SExpr, SBody, end}
 use Rattle.jt_scopes.specs.View.{Front, expr_view, stmt_view, body_view, choice_view}
 use Rattle.jt_scopes.specs.declared.program.SStmt.{SStmt}
 use Rattle.jt_scopes.specs.declared.program.SStmt.TheVariants as stmts
-use Rattle.jt_scopes.proofs.Fronts.{SBranch}
+use Rattle.jt_codegen.proofs.Fronts.{SBranch}
 use Rattle.jt_codegen.proofs.Patched.{statements_left, if_view}
 use Rattle.jt_scopes.specs.Size.{expr_height, body_height}
 
@@ -107,8 +107,8 @@ module _ (room : ℕ) where
 
     pub branch_passed : (bs : List SBranch) (i : ℕ) (b : SBranch) (ss : List SStmt) (t u : Bool) → i < length bs → b ≡ get_or bs i b → ss ≡ b.2.items → t ≡ nat_le (expr_height (expr_view b.1)) room
         → nat_le (body_height (body_view template ss end)) room ≡ u && nat_le 0 room → t ≡ true → u ≡ true → branches_low (drop i bs) ≡ branches_low (drop (i + 1) bs)
-    branch_passed bs i b ss t u lt is same e f yes too =
-        branches_next bs i b lt is ∙ ap (λ z. z && branches_low (drop (i + 1) bs)) (branch_same b ss t u same e f ∙ ap (λ z. z && u) yes ∙ too)
+    branch_passed bs i b ss t u lt is same e f low too =
+        branches_next bs i b lt is ∙ ap (λ z. z && branches_low (drop (i + 1) bs)) (branch_same b ss t u same e f ∙ ap (λ z. z && u) low ∙ too)
 
     pub condition_high : (bs : List SBranch) (i : ℕ) (b : SBranch) (t : Bool) → i < length bs → b ≡ get_or bs i b → t ≡ nat_le (expr_height (expr_view b.1)) room → t ≡ false → branches_low (drop i bs) ≡ false
     condition_high bs i b t lt is e high =

@@ -1,13 +1,12 @@
 -- Where no filter and no test has an unknown name, each operation of what a template is resolved to gets as many values as it takes.
 use Rattle.std.proofs.Common.{◌≡◌, ℕ, Bool, true, false, ◌||◌, List, [], ◌∷◌, Option, Some, None, refl, sym, ap, ◌∙◌, subst}
-use Rattle.std.specs.Prelude.{not, if◌then◌else◌, option_map, bytes_eq}
+use Rattle.std.specs.Prelude.{not, if◌then◌else◌, bytes_eq}
 use Rattle.std.specs.Option.{option_or}
 use Rattle.std.specs.List.{list_any, find}
 use Rattle.jt_ops.specs.declared.test_id.TestId.{TestId}
 use Rattle.jt_ops.specs.TestTable.{test_names}
-use Rattle.jt_expr.specs.declared.named.Named.{Named}
 use Rattle.jt_expr.specs.declared.named.Named.TheVariants as n
-use Rattle.jt_expr.specs.Named.{all_tests, is_test, has_unknown, exprs_have_unknown, pairs_have_unknown, unknown}
+use Rattle.jt_expr.specs.Named.{all_tests, is_test, has_unknown, exprs_have_unknown, pairs_have_unknown}
 use Rattle.jt_expr.specs.Trees as written
 use Rattle.jt_expr.specs.Trees.{Expr, constant, name, group, list_of, map_of, attribute, item, filter, test, unary, binary, when, choice, Exprs, no_exprs, expr, Pairs, no_pairs, pair}
 use Rattle.jt_parse.specs.Names.{unknown_at, stmt_unknown, body_unknown, branch_unknown}
@@ -18,7 +17,7 @@ use Rattle.jt_scopes.specs.Rules.{KeepsRules}
 use Rattle.jt_scopes.specs.Takes.{BodyTakes}
 use Rattle.jt_scopes.specs.Slots as slots
 use Rattle.jt_scopes.specs.Resolve.{body_names, ascending, resolved_body}
-use Rattle.jt_scopes.proofs.Taken.{body_takes}
+use Rattle.jt_scopes.specs.Laws.{TemplateLaws}
 
 -- ---- a test that is known is found
 
@@ -121,7 +120,7 @@ mutual
 at_known : (line : ℕ) (e : Expr) → unknown_at line e ≡ None → ExprKnown e
 at_known line e h = by (has_unknown n.Filter e) (has_unknown n.Test e) refl refl h
   where
-    by : (f t : Bool) → has_unknown n.Filter e ≡ f → has_unknown n.Test e ≡ t → option_map {U = ℕ × Named} (λ (u : Named). (line, u)) (if f then Some n.Filter else if t then Some n.Test else None) ≡ None → ExprKnown e
+    by : (f t : Bool) → has_unknown n.Filter e ≡ f → has_unknown n.Test e ≡ t → if◌then◌else◌ {A = Option (ℕ × Expr)} (f || t) (Some (line, e)) None ≡ None → ExprKnown e
     by true t p q h = absurd cc
     by false true p q h = absurd cc
     by false false p q h = expr_known e p q
@@ -151,5 +150,5 @@ mutual
       (at_known line c (none_first (unknown_at line c) (body_unknown body) front), body_known body (none_second (unknown_at line c) (body_unknown body) front), branches_known rest (none_second (option_or (unknown_at line c) (body_unknown body)) (branch_unknown rest) h))
 
 -- the body of a template that breaks no rule
-pub lawful_takes : (template : Text) (escaping : Bool) (b : Body) → body_unknown b ≡ None → KeepsRules b → BodyTakes (resolved_body template escaping (ascending (body_names b)) b 0 slots.end)
-lawful_takes template escaping b known lawful = body_takes template escaping (ascending (body_names b)) b 0 slots.end lawful.none (body_known b known) tt
+pub lawful_takes : TemplateLaws → (template : Text) (escaping : Bool) (b : Body) → body_unknown b ≡ None → KeepsRules b → BodyTakes (resolved_body template escaping (ascending (body_names b)) b 0 slots.end)
+lawful_takes templates template escaping b known lawful = (templates.takes template escaping b lawful (body_known b known)).0

@@ -1,5 +1,7 @@
 pub mod Follows
+pub mod Fronts
 pub mod Lowered
+pub mod Over
 pub mod Correct
 pub mod Typed
 pub mod Whole

@@ -18,12 +18,12 @@ use Rattle.jt_scopes.specs.View.{Front, expr_view, stmt_view, body_view, choice_
 use Rattle.jt_scopes.specs.declared.program.SExpr.{SExpr}
 use Rattle.jt_scopes.specs.declared.program.SStmt.{SStmt, the_lemmas}
 use Rattle.jt_scopes.specs.declared.program.SStmt.TheVariants as stmts
-use Rattle.jt_scopes.proofs.Fronts.{view-PutPooled, view-If}
 use Rattle.jt_codegen.specs.Asm.{Asm, nil, one, both, choose, flat}
 use Rattle.jt_codegen.specs.Lower.{flag, expr_asm, stmt_asm, body_asm}
 use Rattle.jt_codegen.specs.Emission.{Emitted, HasPlace, Refuses, Emits, none_left, Branch, branches_asm, closed, Begins, Ends, Opens}
 use Rattle.jt_codegen.specs.declared.emission.EmitError.{EmitError}
 use Rattle.jt_codegen.specs.declared.emission.EmitError.TheVariants as error
+use Rattle.jt_codegen.proofs.Fronts.{view-PutPooled, view-If}
 
 abbrev W : List Instruction → List Instr
 W is = map wire_of is

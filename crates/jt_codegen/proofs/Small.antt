@@ -1,8 +1,6 @@
--- How long the code of a template is, and that its code has a spelling where the limits of images are kept. A small
--- template keeps them.
+-- How long the code of a template is, that its tables are in order, and that a small template keeps the limits of images.
 use Rattle.std.proofs.Common.{◌≡◌, ◌≢◌, ℕ, zero, suc, ◌+◌, ◌*◌, max, ◌<◌, ◌≤◌, ◌^◌, Bool, true, false, if◌then◌else◌, List, [], ◌∷◌, ◌++◌, length, map, Option, Some, None, refl, ap, ◌∙◌, subst, arith, length-append}
-use Rattle.std.specs.Prelude.{IsUtf8}
-use Rattle.std.specs.Int.{w64, cast_unsigned}
+use Rattle.std.specs.Int.{w16, w32, w64, to_le_bytes, cast_unsigned}
 use Rattle.std.specs.List.{flat_map, AllByRecursion}
 use Rattle.std.specs.Str.{bytes_eq}
 use Rattle.std.proofs.lemmas.List.Concat.{flat_map-cons}
@@ -17,10 +15,10 @@ use Rattle.jt_ops.specs.TestTable.{test_id, test_values}
 use Rattle.jt_image.specs.declared.instruction.Instruction.TheVariants as op
 use Rattle.jt_image.specs.Code.{Name}
 use Rattle.jt_image.specs.Spelling.{name_bytes, constant_bytes, spelling}
-use Rattle.jt_image.specs.IsCode.{Ascend, AreDistinct, IsInstruction, IsCode, total_len, max_instructions, max_bytes}
+use Rattle.jt_image.specs.IsCode.{Ascend, AreDistinct, IsInstruction, total_len, max_instructions, max_bytes}
 use Rattle.jt_image.specs.Typed.{max_entries}
-use Rattle.jt_image.specs.Parts.{HasTables, KeepsLimits, IsWritable, IsHeld}
-use Rattle.jt_image.proofs.Assembled.{name_len, text_len, number_len, spelled_len, is_code}
+use Rattle.jt_image.specs.Parts.{HasTables, KeepsLimits, IsWritable}
+use Rattle.jt_image.specs.Laws.{CodeLaws}
 use Rattle.jt_expr.specs.Trees as written
 use Rattle.jt_expr.specs.Trees.{Expr, constant, name, group, list_of, map_of, attribute, item, filter, test, unary, binary, when, choice, Exprs, no_exprs, expr, Pairs, no_pairs, pair}
 use Rattle.jt_parse.specs.Trees.{Text, Stmt, data_of, print, choose, Body, end, stmt, body_weight, Branches, no_branches, branch}
@@ -32,8 +30,7 @@ use Rattle.jt_scopes.specs.Tests.{test_named}
 use Rattle.jt_scopes.specs.Takes.{MakerTakes, ExprTakes, RowTakes, StmtTakes, BodyTakes}
 use Rattle.jt_scopes.specs.Resolve.{body_names, ascending, slot_of, expr_pool, row_pool, pair_pool, stmt_pool, body_pool, branch_pool, turned_round, tested_by, in_form, resolved_expr, resolved_row, resolved_pairs, resolved_stmt, resolved_body, resolved_choice, program}
 use Rattle.jt_scopes.specs.Size.{row_count, expr_size, row_size, stmt_size, body_size, body_height, routines_size, names_bytes, value_bytes, pool_bytes}
-use Rattle.jt_scopes.proofs.Sized.{program_sized, program_low, names_few, names_short, each_short, pool_few, pool_short}
-use Rattle.jt_scopes.proofs.Ascending.{Above, Ascends, ascending_ascends}
+use Rattle.jt_scopes.specs.Laws.{Above, Ascends, TemplateLaws}
 use Rattle.jt_codegen.specs.Asm.{Asm, nil, one, both, choose, flat}
 use Rattle.jt_codegen.specs.Lower.{half, maker, expr_asm, row_asm, flag, stmt_asm, body_asm, unit_of, constant_of, numbered, compiled}
 
@@ -408,11 +405,31 @@ numbered_distinct : (i : ℕ) (xs : List Text) → AreDistinct (numbered i xs)
 numbered_distinct i [] = tt
 numbered_distinct i (x ∷ xs) = (numbered_apart i (suc i) xs (omega arith), numbered_distinct (suc i) xs)
 
+-- a name is no longer than all together
+each_short : (xs : List Text) (n : ℕ) → names_bytes xs ≤ n → AllByRecursion (λ x. length x ≤ n) xs
+each_short [] n h = tt
+each_short (x ∷ xs) n h = (omega (arith, h), each_short xs n (omega (arith, h)))
+
 numbered_len : (i : ℕ) (xs : List Text) → length (numbered i xs) ≡ length xs
 numbered_len i [] = refl
 numbered_len i (x ∷ xs) = ap suc (numbered_len (suc i) xs)
 
 -- ---- bytes
+
+name_len : (n : Name) → length (name_bytes n) ≡ length n.text + 4
+name_len n = omega (arith, length-append (to_le_bytes w16 n.slot) (to_le_bytes w16 (length n.text) ++ n.text), length-append (to_le_bytes w16 (length n.text)) n.text, len16 n.slot, len16 (length n.text))
+  where
+    len16 : (n : ℕ) → length (to_le_bytes w16 n) ≡ 2
+    len16 n = refl
+
+text_len : (t : Text) (tag : ℕ) → length (tag ∷ (to_le_bytes w32 (length t) ++ t)) ≡ length t + 5
+text_len t tag = omega (arith, length-append (to_le_bytes w32 (length t)) t, len32 (length t))
+  where
+    len32 : (n : ℕ) → length (to_le_bytes w32 n) ≡ 4
+    len32 n = refl
+
+number_len : (n tag : ℕ) → length (tag ∷ to_le_bytes w64 n) ≡ 9
+number_len n tag = refl
 
 names_spelled : (i : ℕ) (xs : List Text) → length (flat_map name_bytes (numbered i xs)) ≡ names_bytes xs + 4 * length xs
 names_spelled i [] = refl
@@ -443,18 +460,10 @@ mapped_len f [] = refl
 mapped_len f (x ∷ xs) = ap suc (mapped_len f xs)
 
 -- at most so many bytes: 4 a name, 9 a constant, 8 a unit and an instruction, and the bytes of names and texts
-pub spelled_short : (p : Program) → length (spelling (compiled p)) ≤ 14 + names_bytes p.names + 4 * length p.names + pool_bytes p.pool + 9 * length p.pool + 8 * length p.routines + 8 * routines_size p.routines
-spelled_short p = omega (arith, spelled_len (compiled p), names_spelled 0 p.names, constants_spelled p.pool, mapped_len unit_of p.routines, total_sized p.routines)
+pub spelled_short : CodeLaws → (p : Program) → length (spelling (compiled p)) ≤ 14 + names_bytes p.names + 4 * length p.names + pool_bytes p.pool + 9 * length p.pool + 8 * length p.routines + 8 * routines_size p.routines
+spelled_short laws p = omega (arith, laws.spelled (compiled p), names_spelled 0 p.names, constants_spelled p.pool, mapped_len unit_of p.routines, total_sized p.routines)
 
 -- ---- a code from a template
-
--- a text of the pool is UTF-8
-abbrev pub IsText : Tree → Type 0
-IsText t = IsHeld (constant_of t)
-
-held_constants : (ts : List Tree) → AllByRecursion IsText ts → AllByRecursion IsHeld (map constant_of ts)
-held_constants [] h = tt
-held_constants (t ∷ ts) h = (h.0, held_constants ts h.1)
 
 module _ (template : Text) (escaping : Bool) (b : Body) where
   abbrev p : Program
@@ -467,12 +476,12 @@ module _ (template : Text) (escaping : Bool) (b : Body) where
   only = record { parameters = 0; locals = 0; body = body }
 
   -- the tables are in order wherever no name is empty
-  pub tables : AllByRecursion (λ x. 0 < length x) p.names → HasTables (compiled p)
-  tables some = record {
+  pub tables : TemplateLaws → AllByRecursion (λ x. 0 < length x) p.names → HasTables (compiled p)
+  tables templates some = record {
     names = record {
       slots = numbered_slots 0 (length p.names) p.names (omega arith);
       some = numbered_texts (λ x. 0 < length x) 0 p.names some;
-      ascend = numbered_ascend p.names (ascending_ascends (body_names b));
+      ascend = numbered_ascend p.names (templates.ascends (body_names b));
       distinct = numbered_distinct 0 p.names;
     };
     units = ((omega arith, omega arith), tt);
@@ -480,16 +489,16 @@ module _ (template : Text) (escaping : Bool) (b : Body) where
   }
 
   -- the limits are kept where these counts are within them
-  pub limits_by_counts : length p.names < 2 ^ 16 → AllByRecursion (λ x. length x < 2 ^ 16) p.names → length p.pool < 2 ^ 16 → routines_size p.routines ≤ max_instructions
+  pub limits_by_counts : CodeLaws → length p.names < 2 ^ 16 → AllByRecursion (λ x. length x < 2 ^ 16) p.names → length p.pool < 2 ^ 16 → routines_size p.routines ≤ max_instructions
       → 14 + names_bytes p.names + 4 * length p.names + pool_bytes p.pool + 9 * length p.pool + 8 * length p.routines + 8 * routines_size p.routines ≤ max_bytes → KeepsLimits (compiled p)
-  limits_by_counts names texts pool size bytes = record {
+  limits_by_counts laws names texts pool size bytes = record {
     names = omega (arith, names, numbered_len 0 p.names);
     texts = numbered_texts (λ x. length x < 2 ^ 16) 0 p.names texts;
     constants = omega (arith, pool, mapped_len constant_of p.pool);
     units = omega arith;
     locals = (omega arith, tt);
     instructions = omega (arith, size, total_sized p.routines);
-    bytes = omega (arith, bytes, spelled_short p);
+    bytes = omega (arith, bytes, spelled_short laws p);
   }
 
   below : KeepsLimits (compiled p) → BodyBelow (2 ^ 32) body
@@ -507,36 +516,19 @@ module _ (template : Text) (escaping : Bool) (b : Body) where
         code = all_append IsInstruction (flat (body_asm body) 0) (op.Return ∷ []) (body_fits body 0 (below limits) takes (omega (arith, size))) (tt, tt);
       }
 
-  -- a code that keeps the limits has a spelling
-  pub is_coded : BodyTakes body → AllByRecursion (λ x. 0 < length x) p.names → AllByRecursion IsUtf8 p.names → AllByRecursion IsText p.pool → KeepsLimits (compiled p) → IsCode (compiled p)
-  is_coded takes some names pool limits =
-      is_code (compiled p)
-      (record {
-        globals = omega (arith, limits.names, numbered_len 0 p.names);
-        names = numbered_texts IsUtf8 0 p.names names;
-        constants = held_constants p.pool pool;
-        units = (writable takes limits, tt);
-      })
-      (tables some) limits
-
   -- ---- a small template: its weight and its texts are within 2,000
 
-  pub small_limits : body_weight b ≤ 2000 → body_bytes b ≤ 2000 → KeepsLimits (compiled p)
-  small_limits weight bytes =
-      let names = names_few b in
-      let texts = names_short b in
-      let short = each_short p.names 2000 (omega (arith, texts, bytes)) in
-      limits_by_counts (omega (arith, names, weight)) (wide p.names short) (omega (arith, pool_few template escaping b, weight)) (omega (arith, program_sized template escaping b, weight))
-      (omega (arith, names, texts, pool_few template escaping b, pool_short template escaping b, program_sized template escaping b, weight, bytes))
+  pub small_limits : CodeLaws → TemplateLaws → body_weight b ≤ 2000 → body_bytes b ≤ 2000 → KeepsLimits (compiled p)
+  small_limits laws templates weight bytes =
+      let z = templates.sized template escaping b in
+      let short = each_short p.names 2000 (omega (arith, z.short_names, bytes)) in
+      limits_by_counts laws (omega (arith, z.few_names, weight)) (wide p.names short) (omega (arith, z.few_values, weight)) (omega (arith, z.few_instructions, weight))
+      (omega (arith, z.few_names, z.short_names, z.few_values, z.short_values, z.few_instructions, weight, bytes))
     where
       wide : (xs : List Text) → AllByRecursion (λ x. length x ≤ 2000) xs → AllByRecursion (λ x. length x < 2 ^ 16) xs
       wide [] h = tt
       wide (x ∷ xs) h = (omega (arith, h.0), wide xs h.1)
 
-  -- the code of a small template has a spelling
-  pub small_code : BodyTakes body → body_weight b ≤ 2000 → body_bytes b ≤ 2000 → AllByRecursion (λ x. 0 < length x) p.names → AllByRecursion IsUtf8 p.names → AllByRecursion IsText p.pool → IsCode (compiled p)
-  small_code takes weight bytes some names pool = is_coded takes some names pool (small_limits weight bytes)
-
   -- and needs no more entries than a shape may have
-  pub small_low : body_weight b ≤ 2000 → body_height body ≤ max_entries
-  small_low weight = omega (arith, weight, program_low template escaping b)
+  pub small_low : TemplateLaws → body_weight b ≤ 2000 → body_height body ≤ max_entries
+  small_low templates weight = omega (arith, weight, (templates.sized template escaping b).few_entries.0)

@@ -1,9 +1,10 @@
--- What the tokens of a source give to the names of its tree: none is empty, and where the source is of characters, all are UTF-8.
-use Rattle.std.proofs.Common.{◌≡◌, ℕ, ◌<◌, ◌≤◌, Bool, true, false, ◌&&◌, List, [], ◌∷◌, ◌++◌, length, codes, encode_utf8_all, IsUtf8, Option, Some, None, refl, arith}
+-- What the tokens of a source give to the names of its tree: none is empty.
+use Rattle.std.proofs.Common.{◌≡◌, ℕ, ◌<◌, Bool, true, false, if◌then◌else◌, List, [], ◌∷◌, ◌++◌, length, codes, encode_utf8_all, Option, Some, None, refl, arith}
 use Rattle.std.specs.List.{AllByRecursion}
-use Rattle.std.specs.Str.{all_scalars}
+use Rattle.std.specs.Str.{bytes_eq}
+use Rattle.std.specs.Ordering.{nat_cmp, is_lt}
+use Rattle.std.specs.Cmp.Lexicographic.{slice_cmp}
 use Rattle.std.proofs.lemmas.Str.{length-le-encodes}
-use lib.Utf8.{scalar}
 use Rattle.jt_scan.specs.declared.segment.Kind.{Kind}
 use Rattle.jt_scan.specs.declared.segment.Sign.TheVariants as s
 use Rattle.jt_scan.specs.Cut as cut
@@ -14,18 +15,35 @@ use Rattle.jt_expr.specs.Grammar.{Tokens, word, Level, operator_tokens, is_token
 use Rattle.jt_parse.specs.Trees.{Text, Body, Branches}
 use Rattle.jt_parse.specs.Grammar as grammar
 use Rattle.jt_parse.specs.Grammar.{block, Forms, nothing_more, a_print, an_if, GoesOn, no_else, an_else, an_elif}
-use Rattle.jt_scopes.specs.Resolve.{expr_names, row_names, pair_names, body_names, branch_names, ascending}
-use Rattle.jt_scopes.proofs.Sized.{all_inserted_all}
-use Rattle.jt_image.proofs.Passed.{all_weaker}
+use Rattle.jt_scopes.specs.Resolve.{expr_names, row_names, pair_names, body_names, branch_names, inserted, all_inserted, ascending}
 use Rattle.jt_codegen.proofs.Small.{all_append}
 
 all_front : {A : Type 0} (P : A → Type 0) (xs ys : List A) → AllByRecursion P (xs ++ ys) → AllByRecursion P xs
 all_front P [] ys h = tt
 all_front P (x ∷ xs) ys h = (h.0, all_front P xs ys h.1)
 
+all_weaker : {A : Type 0} (P Q : A → Type 0) (xs : List A) → ((x : A) → P x → Q x) → AllByRecursion P xs → AllByRecursion Q xs
+all_weaker P Q [] f h = tt
+all_weaker P Q (x ∷ xs) f h = (f x h.0, all_weaker P Q xs f h.1)
+
 all_back : {A : Type 0} (P : A → Type 0) (xs ys : List A) → AllByRecursion P (xs ++ ys) → AllByRecursion P ys
 all_back P [] ys h = h
 all_back P (x ∷ xs) ys h = all_back P xs ys h.1
+
+-- what holds of each name holds of each that is put in order
+module _ (P : Text → Type 0) where
+  inserted_all : (x : Text) (ns : List Text) → P x → AllByRecursion P ns → AllByRecursion P (inserted x ns)
+  inserted_all x [] p h = (p, tt)
+  inserted_all x (y ∷ ys) p h = through (bytes_eq y x) (is_lt (slice_cmp nat_cmp x y)) (inserted_all x ys p h.1)
+    where
+      through : (b c : Bool) → AllByRecursion P (inserted x ys) → AllByRecursion P (if b then y ∷ ys else if c then x ∷ y ∷ ys else y ∷ inserted x ys)
+      through true c g = h
+      through false true g = (p, h)
+      through false false g = (h.0, g)
+
+  all_inserted_all : (xs ns : List Text) → AllByRecursion P xs → AllByRecursion P ns → AllByRecursion P (all_inserted xs ns)
+  all_inserted_all [] ns h g = g
+  all_inserted_all (x ∷ xs) ns h g = all_inserted_all xs (inserted x ns) h.1 (inserted_all x ns h.0 g)
 
 -- ---- what each part of a source has, each name has
 
@@ -185,24 +203,3 @@ pub names_some : (b : Body) (ss : List Segment) (x : Text) → IsCut ss x → Fo
 names_some b ss x is_cut forms =
     let any : List ℕ → Type 0 = λ y. Unit {0} in
     all_weaker (IsNamed any (λ y z h. tt) (λ y z h. tt)) (λ y. 0 < length y) (ascending (body_names b)) (λ y h. h.0) (source_named any (λ y z h. tt) (λ y z h. tt) b ss x is_cut tt forms)
-
--- ---- a source of characters
-
-abbrev pub AreScalars : List ℕ → Type 0
-AreScalars x = all_scalars x ≡ true
-
-both : (a b : Bool) → (a && b) ≡ true → (a ≡ true) × (b ≡ true)
-both true b e = (refl, e)
-both false b e = absurd cc
-
-scalars_front : (x y : List ℕ) → AreScalars (x ++ y) → AreScalars x
-scalars_front [] y h = refl
-scalars_front (c ∷ x) y h = let b = both (scalar c) (all_scalars (x ++ y)) h in rw (b.0, scalars_front x y b.1) refl
-
-scalars_back : (x y : List ℕ) → AreScalars (x ++ y) → AreScalars y
-scalars_back [] y h = h
-scalars_back (c ∷ x) y h = scalars_back x y (both (scalar c) (all_scalars (x ++ y)) h).1
-
-pub names_utf8 : (b : Body) (ss : List Segment) (x : Text) → IsCut ss x → AreScalars x → Forms b ss → AllByRecursion IsUtf8 (ascending (body_names b))
-names_utf8 b ss x is_cut scalars forms =
-    all_weaker (IsNamed AreScalars scalars_front scalars_back) IsUtf8 (ascending (body_names b)) (λ y h. (h.1.0, (h.1.1, h.1.2))) (source_named AreScalars scalars_front scalars_back b ss x is_cut scalars forms)

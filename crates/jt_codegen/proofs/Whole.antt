@@ -2,10 +2,10 @@
 use Rattle.std.proofs.Common.{◌≡◌, ℕ, zero, suc, ◌+◌, ◌<◌, ◌≤◌, Bool, true, false, if◌then◌else◌, List, [], ◌∷◌, ◌++◌, length, map, Option, Some, None, refl, sym, ap, ◌∙◌, subst, arith, append_assoc, length-append, ◌⊎◌, inl, inr}
 use Rattle.std.specs.Prelude.{slice_get, unwrap_or, nat_lt, option_map}
 use Rattle.std.specs.Str.{bytes_eq}
+use Rattle.std.specs.List.{AllByRecursion}
 use Rattle.std.proofs.Math.Seq.{get_or-append_seam}
 use Rattle.std.proofs.lemmas.Option.{slice_get-get_or}
 use Rattle.std.proofs.lemmas.Bool.Decides.{nat_tests}
-use Rattle.std.proofs.lemmas.Slice.Eq.{bytes_eq-Decides}
 use Rattle.jt_value.specs.Tree as tree
 use Rattle.jt_value.specs.Tree.{Tree}
 use Rattle.jt_image.specs.Code.{Constant, Section, Code, is_text}
@@ -26,7 +26,8 @@ use Rattle.jt_scopes.specs.Meaning.{mean}
 use Rattle.jt_scopes.specs.Slots as slots
 use Rattle.jt_scopes.specs.Slots.{SExpr, SRow, SBody, Program, Routine, value_at, bytes_of, smean}
 use Rattle.jt_scopes.specs.Resolve.{expr_names, row_names, pair_names, stmt_names, body_names, branch_names, ascending, slot_of, expr_pool, row_pool, pair_pool, stmt_pool, body_pool, branch_pool, turned_round, tested_by, in_form, resolved_expr, resolved_row, resolved_pairs, resolved_stmt, resolved_body, resolved_choice, program}
-use Rattle.jt_scopes.proofs.Means.{Among, AllAmong, all_ascending, program_means}
+use Rattle.jt_image.specs.Laws.{CodeLaws}
+use Rattle.jt_scopes.specs.Laws.{TemplateLaws}
 use Rattle.jt_codegen.specs.Lower.{constant_of, unit_of, compiled}
 use Rattle.jt_codegen.specs.Fits.{ExprFits, RowFits, BodyFits}
 use Rattle.jt_codegen.proofs.Lowered.{HasPool}
@@ -34,19 +35,11 @@ use Rattle.jt_codegen.specs.Compiles.{CompilesTo}
 use Rattle.jt_codegen.proofs.Typed.{unit_typed}
 use Rattle.jt_codegen.proofs.Correct.{text_means, fault_means, enough_text, enough_fault}
 
--- ---- a name that is in the table has a slot there
+-- ---- names that have slots
 
-slot_within : (x : Text) (ns : List Text) → Among x ns → slot_of x ns < length ns
-slot_within x [] h = absurd h
-slot_within x (y ∷ ys) h = through (bytes_eq y x) refl h (slot_within x ys)
-  where
-    through : (b : Bool) → bytes_eq y x ≡ b → Among x (y ∷ ys) → (Among x ys → slot_of x ys < length ys) → (if b then 0 else suc (slot_of x ys)) < suc (length ys)
-    through true e k f = omega arith
-    through false e (inl s) f = absurd (never (sym e ∙ (bytes_eq-Decides y x).1 s))
-      where
-        never : false ≡ true → ⊥
-        never q = cc
-    through false e (inr k) f = omega (arith, f k)
+-- each of these has a slot in the table
+abbrev AllAmong : List Text → List Text → Type 0
+AllAmong xs ns = AllByRecursion (λ x. slot_of x ns < length ns) xs
 
 front : (xs ys ns : List Text) → AllAmong (xs ++ ys) ns → AllAmong xs ns
 front [] ys ns h = tt
@@ -118,7 +111,7 @@ module _ (template : Text) (escaping : Bool) (names : List Text) (pool : List Tr
   mutual
     expr_fits : (e : Expr) (n : ℕ) → AllAmong (expr_names e) names → PoolAt pool n (expr_pool e) → ExprFits k (resolved_expr template escaping names e n)
     expr_fits (constant l) n here has = pooled_fits n (literal l) has.0
-    expr_fits (name x) n here has = ap (nat_lt (slot_of x names)) globals ∙ lt_true (slot_of x names) (length names) (slot_within x names here.0)
+    expr_fits (name x) n here has = ap (nat_lt (slot_of x names)) globals ∙ lt_true (slot_of x names) (length names) here.0
     expr_fits (group a) n here has = expr_fits a n here has
     expr_fits (list_of ts) n here has = row_fits ts n here has
     expr_fits (map_of ps) n here has = pairs_fits ps n here has
@@ -316,8 +309,8 @@ module _ (template : Text) (escaping : Bool) (b : Body) where
   pub has_pool : HasPool (compiled p) p.pool
   has_pool = record { values = values_same (body_pool b) (body_pooled b); texts = texts_same (body_pool b) (body_pooled b) }
 
-  fits : BodyFits (compiled p) (resolved_body template escaping (ascending (body_names b)) b 0 slots.end)
-  fits = body_fits template escaping (ascending (body_names b)) (body_pool b) (compiled p) refl refl b 0 slots.end (all_ascending (body_names b)) (pool_whole (body_pool b) []) tt
+  fits : TemplateLaws → BodyFits (compiled p) (resolved_body template escaping (ascending (body_names b)) b 0 slots.end)
+  fits templates = body_fits template escaping (ascending (body_names b)) (body_pool b) (compiled p) refl refl b 0 slots.end (templates.slotted (body_names b)) (pool_whole (body_pool b) []) tt
 
   abbrev body : SBody
   body = resolved_body template escaping (ascending (body_names b)) b 0 slots.end
@@ -325,13 +318,10 @@ module _ (template : Text) (escaping : Bool) (b : Body) where
   abbrev only : Routine
   only = record { parameters = 0; locals = 0; body = body }
 
-  means : (x : Pairs) (n : ℕ) → smean p x n ≡ mean escaping template b x n
-  means x n = program_means template escaping b x n
-
   -- where each operation gets what it takes, and no more entries are needed than a shape may have
-  module _ (takes : BodyTakes body) (low : body_height body ≤ max_entries) where
+  module _ (templates : TemplateLaws) (takes : BodyTakes body) (low : body_height body ≤ max_entries) where
     typed_at : (n : ℕ) (u : Section) → slice_get (compiled p).units n ≡ Some u → IsTypedUnit Equal (compiled p) u
-    typed_at zero u e = let same : unit_of only ≡ u = cc in subst (IsTypedUnit Equal (compiled p)) same (unit_typed (compiled p) only fits takes low)
+    typed_at zero u e = let same : unit_of only ≡ u = cc in subst (IsTypedUnit Equal (compiled p)) same (unit_typed (compiled p) only (fits templates) takes low)
     typed_at (suc n) u e = absurd cc
 
     -- the code of every template is typed
@@ -339,11 +329,13 @@ module _ (template : Text) (escaping : Bool) (b : Body) where
     compiled_typed = typed_at
 
     -- from source to text, and enough budget: wherever the code has a spelling
-    pub compiles : IsCode (compiled p) → CompilesTo template escaping b (compiled p)
-    compiles whole = record {
-      typed = compiled_typed;
-      texts = λ x g t r. let m = text_means p only [] refl has_pool takes whole compiled_typed x g t r in (m.0, sym (means x m.0) ∙ m.1);
-      faults = λ x g f r. let m = fault_means p only [] refl has_pool takes whole compiled_typed x g f r in (m.0, m.1, sym (means x m.0) ∙ m.2);
-      enough_text = λ x n t e. enough_text p only [] refl has_pool takes whole compiled_typed x n t (means x n ∙ e);
-      enough_fault = λ x n f q e. enough_fault p only [] refl has_pool takes whole compiled_typed x n f q (means x n ∙ e);
-    }
+    pub compiles : CodeLaws → ((x : Pairs) (n : ℕ) → smean p x n ≡ mean escaping template b x n) → IsCode (compiled p) → CompilesTo template escaping b (compiled p)
+    compiles laws means whole =
+        let runs = laws.runs (compiled p) whole compiled_typed in
+        record {
+          typed = compiled_typed;
+          texts = λ x g t r. let m = text_means p only [] refl has_pool takes runs x g t r in (m.0, sym (means x m.0) ∙ m.1);
+          faults = λ x g f r. let m = fault_means p only [] refl has_pool takes runs x g f r in (m.0, m.1, sym (means x m.0) ∙ m.2);
+          enough_text = λ x n t e. enough_text p only [] refl has_pool takes runs x n t (means x n ∙ e);
+          enough_fault = λ x n f q e. enough_fault p only [] refl has_pool takes runs x n f q (means x n ∙ e);
+        }

@@ -8,10 +8,10 @@ ghost use Rattle.jt_codegen.specs.Refusals.{Breaks, NamesLimit};
 use crate::error::CompileError;
 use crate::height::fits_entries;
 use crate::tables::parts_of;
-use jt_image::{Image, assemble};
+use jt_image::{Image, assemble, code_laws};
 use jt_inherit::{Library, chain};
 use jt_scan::Options;
-use jt_scopes::resolve;
+use jt_scopes::{resolve, template_laws};
 use std::alloc::Global;
 
 /// How many entries a unit may need.
@@ -37,6 +37,8 @@ pub fn compile<L: Library>(
     // a limit is never named where the chain is small
     ensures small { IfErr result (λ e. NamesLimit e → ¬ (IsSmall (L.sources library.now) entry.now options)) }
 {
+    code_laws();
+    template_laws();
     let chain = chain(alloc, entry, library, options)?;
     let resolved = resolve(alloc, &chain)?;
     if !fits_entries(resolved.body(), MAX_ENTRIES) {

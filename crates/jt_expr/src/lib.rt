@@ -14,6 +14,6 @@ mod tree;
 mod words;
 
 pub use error::ExprError;
-pub use named::check_names;
+pub use named::{Named, check_names};
 pub use tag::expression;
 pub use tree::{BinaryOperator, Expr, Literal, UnaryOperator};

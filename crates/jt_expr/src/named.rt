@@ -10,7 +10,7 @@ use jt_ops::TestId;
 
 /// What has a name that may have no meaning.
 #[derive(Clone, Copy, Debug, PartialEq, Eq)]
-enum Named {
+pub enum Named {
     Filter,
     Test,
 }

@@ -161,6 +161,15 @@ fn expressions_are_read(rt: HostRuntime) -> Result<(), Fail> {
         ("{{ a is not in [1] }}", " (is not in a (list 1))"),
         ("{{ a is defined and None }}", " (And (is defined a) none)"),
         ("{{ a is divisibleby(by=3) }}", " (is divisibleby a by: 3)"),
+        ("{{ 7 is not odd }}", " (is not odd 7)"),
+        ("{{ 1 < (2 < 3) }}", " (Less 1 (group (Less 2 3)))"),
+        ("{{ 0x1F + 0b1_0 }}", " (Add 31 2)"),
+        ("{{ 1_000 * 00 }}", " (Multiply 1000 0)"),
+        (
+            "{{ -9223372036854775807 }}",
+            " (Negate 9223372036854775807)",
+        ),
+        (r#"{{ "\x41\103\d" }}"#, r" 'AC\d'"),
     ];
     for (text, want) in rows {
         assert_eq!(rt; told(rt.alloc(), text)?.as_str(), want, "{text}");
@@ -173,15 +182,18 @@ fn no_expressions(rt: HostRuntime) -> Result<(), Fail> {
     let rows = [
         ("{{ }}", " P1 Syntax"),
         ("{{ 1 + }}", " P1 Syntax"),
+        ("{{ 007 }}", " P1 Syntax"),
         ("{{ a b }}", " P1 Syntax"),
         ("{{ 1 < 2 < 3 }}", " P1 Syntax"),
         ("{{ a if b if c }}", " P1 Syntax"),
         ("{{ if }}", " P1 Syntax"),
         ("{{ a is }}", " P1 Syntax"),
         ("{{ a is not }}", " P1 Syntax"),
+        ("{{ a is eq and }}", " P1 Syntax"),
         ("{{ f(k=1, 2) }}", " P1 Syntax"),
         ("{{ {a: 1} }}", " P1 Syntax"),
         ("{{ a is whole }}", " P4 UnknownTest"),
+        ("{{ 1|abs }}", " P3 UnknownFilter"),
         ("{{ (a|f) is whole }}", " P3 UnknownFilter"),
     ];
     for (text, want) in rows {

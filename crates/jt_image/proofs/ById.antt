@@ -9,7 +9,8 @@ use Rattle.jt_ops.specs.declared.test_id.TestId.{TestId}
 use Rattle.jt_ops.specs.declared.test_id.TestId.TheVariants as test
 use Rattle.jt_ops.specs.OpTable.{op_id}
 use Rattle.jt_ops.specs.TestTable.{test_id}
-use Rattle.jt_image.specs.Ids.{operators, operator_of, tests, test_of}
+use Rattle.jt_ops.specs.Tables.{operators, tests}
+use Rattle.jt_image.specs.Ids.{operator_of, test_of}
 
 -- what is found passes the test
 find_holds : {X : Type 0} (f : X → Bool) (xs : List X) (x : X) → find f xs ≡ Some x → f x ≡ true

@@ -1,7 +1,6 @@
 -- Runs without a budget: a budget changes nothing of a run that it does not cut off, and each run that ends has a budget.
-use Rattle.std.proofs.Common.{◌≡◌, ℕ, zero, suc, ◌+◌, ◌≤◌, Bool, true, false, cond, List, [], ◌∷◌, Option, Some, None, refl, sym, ap, subst, ◌∙◌, arith, ⊎_elim, if◌then◌else◌}
+use Rattle.std.proofs.Common.{◌≡◌, ℕ, zero, suc, ◌+◌, ◌≤◌, Bool, true, false, cond, List, [], ◌∷◌, Option, Some, None, refl, sym, ap, subst, ◌∙◌, arith, if◌then◌else◌}
 use Rattle.std.specs.Prelude.{nat_lt}
-use Rattle.std.proofs.lemmas.Bool.{cases_lt}
 use Rattle.std.proofs.lemmas.Bool.Decides.{nat_tests}
 use Rattle.jt_value.specs.Tree as tree
 use Rattle.jt_value.specs.Tree.{Tree}
@@ -14,29 +13,8 @@ use Rattle.jt_image.specs.Config.{Budget, Outcome, Machine, Config}
 use Rattle.jt_image.specs.Step.{Demand, Action, goes_on, ends, faulty, wrong, action, in_tables, strict, cost, fetch}
 use Rattle.jt_image.specs.Run.{Next, Goes, Ends, spared, unless, spends, next_at, limit_of, first_of, limit_of_named, passed, start, then_goes, after, Ending, RunFrom, Run}
 use Rattle.jt_image.specs.Enough.{AtLeast, Enough}
+use Rattle.jt_image.specs.FreeRun.{Free, Finished, Failed, Stuck, Going, on_action, exec_at, exec, start_machine}
 use Rattle.jt_image.proofs.Safe.{IsFit, IsFineAction, IsReady, ready}
-
--- how a run without a budget stands
-pub data Free : Type 0 where
-  Finished : List ℕ → Free
-  Failed : Fault → Free
-  Stuck : Free
-  Going : Free
-
-abbrev pub on_action : Action → (Machine → Free) → Free
-on_action (goes_on m d) go = go m
-on_action (ends t) go = Finished t
-on_action (faulty f) go = Failed f
-on_action wrong go = Stuck
-
-abbrev pub exec_at : Code → Option (Section × Instruction) → Machine → (Machine → Free) → Free
-exec_at k None m go = Stuck
-exec_at k (Some (u, i)) m go = on_action (action k u i m) go
-
--- at most n instructions; numbers outside their tables read as undefined
-abbrev pub exec : Code → ℕ → Machine → Free
-exec k zero m = Going
-exec k (suc n) m = exec_at k (fetch k m.unit m.point) m (exec k n)
 
 abbrev pub strict_at : Code → Option (Section × Instruction) → Machine → (Machine → Free) → Free
 strict_at k None m go = Stuck
@@ -135,7 +113,7 @@ lets x y l n h = let t : nat_lt x y ≡ false = grind (arith, nat_tests) in ap (
 abbrev more_for : ℕ → Demand → Budget → Budget
 more_for n d a = record { fuel = n + a.fuel; depth = d.calls + a.depth; output = d.bytes + a.output; size = d.size + a.size; nesting = d.nesting + a.nesting }
 
-abbrev only_fuel : ℕ → Budget
+abbrev pub only_fuel : ℕ → Budget
 only_fuel n = record { fuel = n; depth = 0; output = 0; size = 0; nesting = 0 }
 
 -- each large enough budget gives the outcome
@@ -196,10 +174,6 @@ context_fits x (n ∷ ns) =
 
 -- ---- for whole runs
 
--- the machine of a run's start
-abbrev pub start_machine : Code → Pairs → Machine
-start_machine k x = (start k x (only_fuel 0)).machine
-
 -- a run without a budget that ends has enough
 pub enough_run : (k : Code) (x : Pairs) (n : ℕ) (o : Free) → IsMeant o → exec_strict k n (start_machine k x) ≡ o → Enough k x (outcome_of o)
 enough_run k x n o h e =
@@ -222,31 +196,6 @@ run_from_erased k x b None o h r = (r.0, erased k r.0 (start_machine k x) b o h 
 -- a text or a fault that a run ends with is that of the run without a budget
 pub run_erased : (k : Code) (x : Pairs) (b : Budget) (o : Free) → IsMeant o → Run k x b (outcome_of o) → (n : ℕ) × (exec_strict k n (start_machine k x) ≡ o)
 run_erased k x b o h r = run_from_erased k x b (passed b x k.names) o h r
-
--- ---- one end
-
-longer_at : (k : Code) (q : Option (Section × Instruction)) (m : Machine) (go go' : Machine → Free) (o : Free) → ((m : Machine) → go m ≡ o → go' m ≡ o) → exec_at k q m go ≡ o → exec_at k q m go' ≡ o
-longer_at k None m go go' o h e = e
-longer_at k (Some (u, i)) m go go' o h e = through (action k u i m) e
-  where
-    through : (a : Action) → on_action a go ≡ o → on_action a go' ≡ o
-    through (goes_on m' d) e' = h m' e'
-    through (ends t) e' = e'
-    through (faulty f) e' = e'
-    through wrong e' = e'
-
--- a run that is over stays so with more instructions
-pub longer : (k : Code) (a b : ℕ) (m : Machine) (o : Free) → IsMeant o → a ≤ b → exec k a m ≡ o → exec k b m ≡ o
-longer k zero b m o h le e = absurd (subst IsMeant (sym e) h)
-longer k (suc a) zero m o h le e = absurd (omega arith)
-longer k (suc a) (suc b) m o h le e = longer_at k (fetch k m.unit m.point) m (exec k a) (exec k b) o (λ m' e'. longer k a b m' o h (omega arith) e') e
-
-pub one_free_end : (k : Code) (a b : ℕ) (m : Machine) (o p : Free) → IsMeant o → IsMeant p → exec k a m ≡ o → exec k b m ≡ p → o ≡ p
-one_free_end k a b m o p ho hp e f =
-    ⊎_elim
-    (λ lt. sym (longer k a b m o ho (omega arith) e) ∙ f)
-    (λ le. sym e ∙ longer k b a m p hp le f)
-    (cases_lt a b)
 
 -- ---- the tests of the tables change nothing for a typed code
 

@@ -1,5 +1,5 @@
 -- Whole runs of a typed code.
-use Rattle.std.proofs.Common.{◌≡◌, ◌≢◌, ◌↔◌, ℕ, zero, suc, ◌+◌, ◌<◌, ◌≤◌, Bool, true, false, cond, List, [], ◌∷◌, length, Option, Some, None, refl, ap, ◌∙◌, arith}
+use Rattle.std.proofs.Common.{◌≡◌, ◌≢◌, ◌↔◌, ℕ, zero, suc, ◌+◌, ◌<◌, ◌≤◌, Bool, true, false, cond, List, [], ◌∷◌, length, Option, Some, None, refl, ap, subst, ◌∙◌, arith}
 use Rattle.std.specs.Prelude.{slice_set, unwrap_or, replicate, nat_lt}
 use Rattle.std.proofs.lemmas.Bool.{ltb-true, ltb-false}
 use Rattle.std.proofs.lemmas.List.{length-set}
@@ -34,6 +34,16 @@ not_wrong_at k n fuel Wrong f h = absurd f
 pub never_wrong : (k : Code) (n : ℕ) (c : Config) → IsGood k c → after k n c ≢ Wrong
 never_wrong k zero c g = λ e. absurd cc
 never_wrong k (suc n) c g = not_wrong_at k n c.left.fuel (next k c) (step_fine k c g) (λ d e. never_wrong k n d e)
+
+good_at : (k : Code) (n fuel : ℕ) (x : Next) (d : Config) → IsFineStep k fuel x → ((c : Config) → IsGood k c → after k n c ≡ Goes d → IsGood k d) → then_goes x (after k n) ≡ Goes d → IsGood k d
+good_at k n fuel (Goes c) d f h e = h c f.0 e
+good_at k n fuel (Ends o) d f h e = absurd cc
+good_at k n fuel Wrong d f h e = absurd f
+
+-- what a good configuration leads to is good
+pub good_after : (k : Code) (n : ℕ) (c d : Config) → IsGood k c → after k n c ≡ Goes d → IsGood k d
+good_after k zero c d g e = let same : c ≡ d = cc in subst (IsGood k) same g
+good_after k (suc n) c d g e = good_at k n c.left.fuel (next k c) d (step_fine k c g) (λ c' g' e'. good_after k n c' d g' e') e
 
 same_end : (k : Code) (n m : ℕ) (x : Next) (o p : Outcome) → then_goes x (after k n) ≡ Ends o → then_goes x (after k m) ≡ Ends p → ((d : Config) → after k n d ≡ Ends o → after k m d ≡ Ends p → o ≡ p) → o ≡ p
 same_end k n m (Goes d) o p e f h = h d e f

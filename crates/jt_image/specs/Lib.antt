@@ -13,4 +13,6 @@ pub mod Config
 pub mod Step
 pub mod Run
 pub mod Enough
+pub mod FreeRun
+pub mod Laws
 pub mod Parts

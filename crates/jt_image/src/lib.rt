@@ -10,6 +10,7 @@ mod fields;
 mod image;
 mod instruction;
 mod kind;
+mod laws;
 mod parts;
 mod tables;
 mod units;
@@ -23,6 +24,7 @@ pub use error::ImageError;
 pub use image::{Constant, Image};
 pub use instruction::Instruction;
 pub use kind::{Flaw, Kind};
+pub use laws::code_laws;
 pub use parts::{Parts, Unit};
 pub use wire::Instr;
 

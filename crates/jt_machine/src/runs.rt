@@ -12,7 +12,7 @@ use crate::outcome::Outcome;
 use crate::start::{context_passes, start};
 use crate::step::step;
 use jt_budget::Budget;
-use jt_image::Code;
+use jt_image::{Code, code_laws};
 use jt_value::{Context, NoMemory};
 use jt_verify::Verified;
 use std::alloc::Global;
@@ -29,6 +29,7 @@ pub fn run(
     // Every run of the image has one outcome, stays within its fuel and is never wrong.
     ensures safe { (x : Pairs) (b : config.Budget) → IsSafe verified.now x b }
 {
+    code_laws();
     run_code(alloc, verified.image(), context, budget)
 }
 
@@ -43,6 +44,7 @@ fn run_code<C: Code>(
     requires typed { IsTyped (C.code code.now) }
     ensures { IfOk result (λ o. Run (C.code code.now) (pairs_of context.now) (budget_view budget) (outcome_view o)) }
 {
+    code_laws();
     if let Some(spent) = context_passes(code, context, &budget) {
         return Ok(Outcome::Spent(spent));
     }

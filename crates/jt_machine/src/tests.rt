@@ -245,11 +245,17 @@ const MINUS: Fields = (13, 1, 0, 0);
 
 const FLOOR: Fields = (13, 3, 0, 0);
 
+const NEGATE: Fields = (13, 6, 0, 0);
+
+const NOT: Fields = (13, 8, 0, 0);
+
 const EQUAL: Fields = (13, 11, 0, 0);
 
 const ITEM: Fields = (13, 18, 0, 0);
 
 const RANGE: Fields = (13, 19, 0, 0);
+
+const RANGE_BY_STEP: Fields = (13, 21, 0, 0);
 
 const EVEN: Fields = (15, 6, 1, 0);
 
@@ -319,6 +325,9 @@ fn operators_and_tests(rt: HostRuntime) -> Result<(), Fail> {
     let floor: &[Fields] = &[constant(4), constant(2), FLOOR];
     let zero: &[Fields] = &[constant(4), constant(0), FLOOR];
     let text: &[Fields] = &[constant(4), constant(5), MINUS];
+    let negated: &[Fields] = &[constant(4), NEGATE];
+    let not: &[Fields] = &[constant(7), NOT];
+    let still: &[Fields] = &[constant(1), constant(2), constant(0), RANGE_BY_STEP];
     let even: &[Fields] = &[constant(3), EVEN];
     let divisible: &[Fields] = &[constant(2), constant(1), DIVISIBLE];
     let by_zero: &[Fields] = &[constant(2), constant(0), DIVISIBLE];
@@ -329,6 +338,10 @@ fn operators_and_tests(rt: HostRuntime) -> Result<(), Fail> {
         (zero, 3, "fault ZeroDivide"),
         (zero, 2, "spent Fuel"),
         (text, 3, "fault BadType"),
+        (negated, 4, "text 7"),
+        (not, 4, "text True"),
+        (still, 4, "fault Range"),
+        (still, 3, "spent Fuel"),
         (even, 4, "text False"),
         (divisible, 5, "text True"),
         (by_zero, 3, "fault ZeroDivide"),
@@ -372,6 +385,29 @@ fn lists_and_maps(rt: HostRuntime) -> Result<(), Fail> {
         (none, "text False"),
     ] {
         assert_eq!(rt; printed(alloc, instructions, AMPLE)?.as_str(), wanted);
+    }
+    Ok(())
+}
+
+// A list costs 1 more for each 64 of its items' sizes; so does printing it, which it cannot be, for each 64 of its own.
+#[test]
+fn making_costs_by_size(rt: HostRuntime) -> Result<(), Fail> {
+    let alloc = rt.alloc();
+    for (count, fuel, wanted) in [
+        (62, 64, "fault Unprintable"),
+        (62, 63, "spent Fuel"),
+        (63, 66, "fault Unprintable"),
+        (63, 65, "spent Fuel"),
+        (64, 68, "fault Unprintable"),
+        (64, 67, "spent Fuel"),
+    ] {
+        let mut instructions = Vec::new(alloc);
+        for _ in 0..count {
+            instructions.push(constant(1))?;
+        }
+        instructions.push(list_of(count))?;
+        let found = printed(alloc, &instructions, Budget { fuel, ..AMPLE })?;
+        assert_eq!(rt; found.as_str(), wanted);
     }
     Ok(())
 }

@@ -9,18 +9,7 @@ use Rattle.std.proofs.lemmas.Cmp.{nat_list_cmp_total}
 use Rattle.std.proofs.lemmas.Map.Text.{is_eq-slice_cmp}
 use Rattle.jt_parse.specs.Trees.{Text}
 use Rattle.jt_scopes.specs.Resolve.{inserted, all_inserted, ascending}
-
-abbrev pub IsBefore : Text → Text → Type 0
-IsBefore x y = is_lt (slice_cmp nat_cmp x y) ≡ true
-
--- strictly ascending texts behind this one
-abbrev pub Above : Text → List Text → Type 0
-Above z [] = Unit {0}
-Above z (y ∷ ys) = IsBefore z y × Above y ys
-
-abbrev pub Ascends : List Text → Type 0
-Ascends [] = Unit {0}
-Ascends (y ∷ ys) = Above y ys
+use Rattle.jt_scopes.specs.Laws.{IsBefore, Above, Ascends}
 
 -- a text that differs and is not before another stands behind it
 behind : (x y : Text) → bytes_eq y x ≡ false → is_lt (slice_cmp nat_cmp x y) ≡ false → IsBefore y x

@@ -1,10 +1,18 @@
 -- What resolved statements put in front of others, with one statement or branch more.
 use Rattle.std.proofs.Common.{◌≡◌, ℕ, List, [], ◌∷◌, ◌++◌, map, refl, sym, ap, ◌∙◌, rules, Vec, Global}
+use Rattle.jt_value.specs.Tree as tree
+use Rattle.jt_value.specs.View.{view}
+use Rattle.jt_value.specs.declared.value.Value.{the_lemmas as of_values}
+use Rattle.jt_value.specs.declared.value.Value.TheVariants as value
 use Rattle.jt_parse.specs.Trees.{Text}
 use Rattle.jt_scopes.specs.Slots as slots
 use Rattle.jt_scopes.specs.Slots.{SBody}
-use Rattle.jt_scopes.specs.View.{Front, expr_view, row_view, body_front, choice_front, stmt_step, stmt_view, body_view, choice_view}
-use Rattle.jt_scopes.specs.declared.program.SExpr.{SExpr}
+use Rattle.jt_scopes.specs.View.{Front, maker_view, expr_step, expr_view, row_view, body_front, choice_front, stmt_step, stmt_view, body_view, choice_view}
+use Rattle.jt_scopes.specs.declared.program.Maker.{Maker}
+use Rattle.jt_scopes.specs.declared.program.SExpr.{SExpr, fold-roll-SExpr}
+use Rattle.jt_scopes.specs.declared.program.SExpr.TheOpen.{SExpr-F}
+use Rattle.jt_scopes.specs.declared.program.SExpr.TheVariants as form
+use Rattle.jt_scopes.specs.declared.program.SExpr.TheVariants.{rolls-Made, rolls-Pooled}
 use Rattle.jt_scopes.specs.declared.program.SStmt.{SStmt, the_lemmas, fold-roll-SStmt}
 use Rattle.jt_scopes.specs.declared.program.SStmt.TheOpen.{SStmt-F}
 use Rattle.jt_scopes.specs.declared.program.SStmt.TheVariants as s
@@ -56,4 +64,15 @@ module _ (template : Text) where
 
 pub row_push : (es : List SExpr) (x : SExpr) (behind : slots.SRow) → row_view (es ++ x ∷ []) behind ≡ row_view es (slots.item (expr_view x) behind)
 row_push [] x behind = refl
-row_push (e ∷ es) x behind = ap (slots.item (expr_view e)) (row_push es x behind)
+row_push (y ∷ es) x behind = ap (slots.item (expr_view y)) (row_push es x behind)
+
+pub view-Made : (k : Maker) (es : Vec SExpr Global) → expr_view (form.Made k es) ≡ slots.made (maker_view k) (row_view es.items slots.none)
+view-Made k es = ap expr_view (sym (rolls-Made k es)) ∙ fold-roll-SExpr slots.SExpr expr_step (SExpr-F.Made k es)
+
+pub view-Pooled : (i : ℕ) → expr_view (form.Pooled i) ≡ slots.pooled i
+view-Pooled i = ap expr_view (sym (rolls-Pooled i)) ∙ fold-roll-SExpr slots.SExpr expr_step (SExpr-F.Pooled i)
+
+-- ---- values
+
+pub view-Undefined : view value.Undefined ≡ tree.undefined
+view-Undefined = search (rules, of_values)

@@ -1,6 +1,6 @@
 -- A resolved template means what the template means.
-use Rattle.std.proofs.Common.{◌≡◌, ℕ, zero, suc, ◌+◌, Bool, true, false, if◌then◌else◌, List, [], ◌∷◌, ◌++◌, length, ◌<◌, map, Option, Some, None, refl, sym, ap, ◌∙◌, subst, arith, append_assoc, append-nil, length-append, ◌⊎◌, inl, inr}
-use Rattle.std.specs.Prelude.{slice_get, unwrap_or}
+use Rattle.std.proofs.Common.{◌≡◌, ℕ, zero, suc, ◌+◌, Bool, true, false, if◌then◌else◌, List, [], ◌∷◌, ◌++◌, length, ◌<◌, Option, Some, None, refl, sym, ap, ◌∙◌, subst, arith, append_assoc, length-append, ◌⊎◌, inl, inr}
+use Rattle.std.specs.Prelude.{unwrap_or}
 use Rattle.std.specs.Bool.{Decides}
 use Rattle.std.specs.Str.{bytes_eq}
 use Rattle.std.proofs.lemmas.Slice.Eq.{bytes_eq-Decides}
@@ -11,7 +11,6 @@ use Rattle.std.specs.Cmp.Lexicographic.{slice_cmp}
 use Rattle.jt_value.specs.Tree as tree
 use Rattle.jt_value.specs.Tree.{Tree}
 use Rattle.jt_value.specs.Pairs.{Pairs, look}
-use Rattle.jt_value.specs.declared.fault.Fault.{Fault}
 use Rattle.jt_ops.specs.declared.op_id.OpId.{OpId}
 use Rattle.jt_ops.specs.declared.op_id.OpId.TheVariants as op
 use Rattle.jt_ops.specs.declared.test_id.TestId.{TestId}
@@ -22,9 +21,9 @@ use Rattle.jt_expr.specs.Trees.{Expr, constant, name, group, list_of, map_of, at
 use Rattle.jt_ops.specs.Making.{listed, mapped}
 use Rattle.jt_scopes.specs.Operators.{unary_operation, Form, operation, negation, conjunction, disjunction, form, range_of}
 use Rattle.jt_scopes.specs.Tests.{test_named}
-use Rattle.jt_scopes.specs.Expressions.{literal, operated, asked, turned, either, combined, value, values, entries}
+use Rattle.jt_scopes.specs.Expressions.{operated, asked, turned, either, combined, value, values, entries}
 use Rattle.jt_parse.specs.Trees.{Text, Stmt, data_of, print, choose, Body, end, stmt, Branches, no_branches, branch}
-use Rattle.jt_scopes.specs.Env.{Env, read, top}
+use Rattle.jt_scopes.specs.Env.{top}
 use Rattle.jt_scopes.specs.Got.{Place, Got, gives, fails, deeper, bind, checked, at}
 use Rattle.jt_scopes.specs.Meaning as meaning
 use Rattle.jt_scopes.specs.Meaning.{Around, State, Calls, shown, put, meanings, chosen, performed, calls, mean}

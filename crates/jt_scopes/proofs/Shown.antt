@@ -1,5 +1,5 @@
 -- Expressions as they are written, by their forms, and what a caller of a function counts in them.
-use Rattle.std.proofs.Common.{◌≡◌, ℕ, suc, Bool, false, List, [], ◌∷◌, length, refl, sym, ap, ◌∙◌, arith, nat_eq, Option, Vec, Box, String, Global, string_bytes}
+use Rattle.std.proofs.Common.{◌≡◌, ℕ, suc, ◌+◌, ◌<◌, Bool, false, List, [], ◌∷◌, length, drop, get_or, refl, sym, ap, ◌∙◌, arith, nat_eq, Option, Some, None, Result, Ok, Err, IfOk, Vec, Box, String, Global, string_bytes}
 use Rattle.std.proofs.lemmas.Bool.Decides.{nat_tests}
 use Rattle.std.specs.Option.{option_or}
 use Rattle.jt_expr.specs.Trees as trees
@@ -15,7 +15,8 @@ use Rattle.jt_expr.specs.declared.tree.Expr.{Expr}
 use Rattle.jt_expr.specs.declared.tree.Expr.TheVariants as e
 use Rattle.jt_expr.proofs.Views.{view-Attribute, view-Item, view-Map, view-Call, view-Filter, view-Test, view-Binary, view-When, view-Choice}
 use Rattle.jt_scopes.specs.Resolve.{count}
-use Rattle.jt_scopes.specs.Rules.{no_keywords}
+use Rattle.jt_scopes.specs.Rules.{no_keywords, broken, stmt_broken, body_broken, branches_broken}
+use Rattle.jt_scopes.proofs.Gathered.{Branch, branches_left}
 
 pub shown_Map : (ps : Vec (String Global × Expr) Global) → expr_view (e.Map ps) ≡ trees.map_of (pairs_view ps.items)
 shown_Map ps = view-Map ps
@@ -87,3 +88,35 @@ shown_If bs other = view-If bs other
 
 pub or_both : (r r' s s' : Option ScopeError) → r ≡ r' → s ≡ s' → option_or r s ≡ option_or r' s'
 or_both r r' s s' h k = ap (λ z. option_or z s) h ∙ ap (λ z. option_or r' z) k
+
+-- ---- what an `if` breaks
+
+-- a branch of an `if` breaks a rule, and those before it none
+pub branch_broken : (x : Stmt) (bs : Vec Branch Global) (other : Vec Stmt Global) (items : List Branch) (i : ℕ) (b : Branch) (rule : ScopeError)
+    → x ≡ statement.If bs other → items ≡ bs.items → i < length items → b ≡ get_or items i b
+    → branches_broken (parsed.branches_view (drop i items)) ≡ branches_broken (parsed.branches_view items)
+    → Some rule ≡ option_or (broken (expr_view b.1)) (body_broken (parsed.body_view b.2.items)) → Some rule ≡ stmt_broken (parsed.stmt_view x)
+branch_broken x bs other items i b rule is e lt at h k =
+    let rest = branches_broken (parsed.branches_view (drop (i + 1) items)) in
+    let last = body_broken (parsed.body_view other.items) in
+    ap (λ o. option_or (option_or o rest) last) k
+    ∙ ap (λ z. option_or (branches_broken z) last) (sym (branches_left items i b lt at))
+    ∙ ap (λ o. option_or o last) h
+    ∙ ap (λ (z : List Branch). option_or (branches_broken (parsed.branches_view z)) last) e
+    ∙ ap stmt_broken (sym (ap parsed.stmt_view is ∙ view-If bs other))
+
+-- no branch of an `if` breaks a rule
+pub other_broken : (x : Stmt) (bs : Vec Branch Global) (other : Vec Stmt Global) (items : List Branch) (others : List Stmt) (r : Option ScopeError)
+    → x ≡ statement.If bs other → items ≡ bs.items → others ≡ other.items → None ≡ branches_broken (parsed.branches_view items) → r ≡ body_broken (parsed.body_view others)
+    → r ≡ stmt_broken (parsed.stmt_view x)
+other_broken x bs other items others r is e f h k =
+    k ∙ ap (λ (z : List Stmt). body_broken (parsed.body_view z)) f
+    ∙ ap (λ o. option_or o (body_broken (parsed.body_view other.items))) h
+    ∙ ap (λ (z : List Branch). option_or (branches_broken (parsed.branches_view z)) (body_broken (parsed.body_view other.items))) e
+    ∙ ap stmt_broken (sym (ap parsed.stmt_view is ∙ view-If bs other))
+
+-- ---- what holds of any value
+
+pub holds_of : {A E : Type 0} (r : Result A E) (P : Type 0) → P → IfOk r (λ x. P)
+holds_of (Ok x) P h = h
+holds_of (Err e) P h = tt

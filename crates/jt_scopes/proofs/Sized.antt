@@ -1,14 +1,11 @@
 -- What a template is resolved to is as small as its weight and its bytes say: the laws of instructions, entries, names and
 -- the pool.
-use Rattle.std.proofs.Common.{◌≡◌, ℕ, suc, ◌+◌, ◌*◌, max, min, ◌≤◌, Bool, true, false, if◌then◌else◌, List, [], ◌∷◌, ◌++◌, length, Option, Some, None, arith, length-append}
-use Rattle.std.specs.List.{AllByRecursion}
+use Rattle.std.proofs.Common.{◌≡◌, ℕ, ◌+◌, ◌*◌, max, ◌≤◌, Bool, true, false, if◌then◌else◌, List, [], ◌∷◌, ◌++◌, length, Option, Some, None, arith, length-append}
 use Rattle.std.specs.Str.{bytes_eq}
 use Rattle.std.specs.Ordering.{nat_cmp, is_lt}
 use Rattle.std.specs.Cmp.Lexicographic.{slice_cmp}
 use Rattle.jt_value.specs.Tree as tree
 use Rattle.jt_value.specs.Tree.{Tree}
-use Rattle.jt_ops.specs.declared.op_id.OpId.{OpId}
-use Rattle.jt_ops.specs.declared.op_id.OpId.TheVariants as op
 use Rattle.jt_ops.specs.declared.test_id.TestId.{TestId}
 use Rattle.jt_expr.specs.Trees as written
 use Rattle.jt_expr.specs.Trees.{Expr, Literal, constant, name, group, list_of, map_of, attribute, item, filter, test, unary, binary, when, choice, Exprs, no_exprs, expr, Pairs, no_pairs, pair, weight, literal_weight, operator_weight, is_weight, enclosed, exprs_weight, pairs_weight}
@@ -17,13 +14,13 @@ use Rattle.jt_expr.specs.declared.tree.BinaryOperator.{BinaryOperator}
 use Rattle.jt_expr.specs.declared.tree.BinaryOperator.TheVariants as o
 use Rattle.jt_parse.specs.Trees.{Text, Stmt, data_of, print, choose, stmt_weight, Body, end, stmt, body_weight, Branches, no_branches, branch, branch_weight}
 use Rattle.jt_parse.specs.Bytes.{stmt_bytes, body_bytes, branch_bytes}
-use Rattle.jt_scopes.specs.Operators.{Form, operation, negation, conjunction, disjunction, form, unary_operation}
+use Rattle.jt_scopes.specs.Operators.{Form, operation, negation, conjunction, disjunction, form}
 use Rattle.jt_scopes.specs.Tests.{test_named}
 use Rattle.jt_scopes.specs.Expressions.{literal}
 use Rattle.jt_scopes.specs.Slots as slots
 use Rattle.jt_scopes.specs.Slots.{SExpr, SRow, SBody}
-use Rattle.jt_scopes.specs.Resolve.{expr_names, row_names, pair_names, stmt_names, body_names, branch_names, inserted, all_inserted, ascending, expr_pool, row_pool, pair_pool, stmt_pool, body_pool, branch_pool, operation_of, turned_round, tested_by, in_form, resolved_expr, resolved_row, resolved_pairs, resolved_stmt, resolved_body, resolved_choice, program}
-use Rattle.jt_scopes.specs.Size.{expr_size, row_size, body_size, routines_size, expr_height, row_height, body_height, names_bytes, value_bytes, pool_bytes}
+use Rattle.jt_scopes.specs.Resolve.{expr_names, row_names, pair_names, stmt_names, body_names, branch_names, inserted, all_inserted, ascending, expr_pool, row_pool, pair_pool, stmt_pool, body_pool, branch_pool, turned_round, tested_by, in_form, resolved_expr, resolved_row, resolved_pairs, resolved_stmt, resolved_body, resolved_choice, program}
+use Rattle.jt_scopes.specs.Size.{expr_size, row_size, body_size, routines_size, expr_height, row_height, body_height, names_bytes, pool_bytes}
 
 -- ---- weights have tokens
 
@@ -226,21 +223,6 @@ module _ (template : Text) (escaping : Bool) (names : List Text) where
 
 -- ---- names
 
--- what holds of each name holds of each that is put in order
-module _ (P : Text → Type 0) where
-  inserted_all : (x : Text) (ns : List Text) → P x → AllByRecursion P ns → AllByRecursion P (inserted x ns)
-  inserted_all x [] p h = (p, tt)
-  inserted_all x (y ∷ ys) p h = through (bytes_eq y x) (is_lt (slice_cmp nat_cmp x y)) (inserted_all x ys p h.1)
-    where
-      through : (b c : Bool) → AllByRecursion P (inserted x ys) → AllByRecursion P (if b then y ∷ ys else if c then x ∷ y ∷ ys else y ∷ inserted x ys)
-      through true c g = h
-      through false true g = (p, h)
-      through false false g = (h.0, g)
-
-  pub all_inserted_all : (xs ns : List Text) → AllByRecursion P xs → AllByRecursion P ns → AllByRecursion P (all_inserted xs ns)
-  all_inserted_all [] ns h g = g
-  all_inserted_all (x ∷ xs) ns h g = all_inserted_all xs (inserted x ns) h.1 (inserted_all x ns h.0 g)
-
 inserted_len : (x : Text) (ns : List Text) → length (inserted x ns) ≤ length ns + 1
 inserted_len x [] = omega arith
 inserted_len x (y ∷ ys) = through (bytes_eq y x) (is_lt (slice_cmp nat_cmp x y)) (inserted_len x ys)
@@ -347,11 +329,6 @@ names_few b = omega (arith, all_inserted_len (body_names b) [], (body_few b).0)
 
 pub names_short : (b : Body) → names_bytes (ascending (body_names b)) ≤ body_bytes b
 names_short b = omega (arith, all_inserted_bytes (body_names b) [], (body_few b).1)
-
--- a name is no longer than all together
-pub each_short : (xs : List Text) (n : ℕ) → names_bytes xs ≤ n → AllByRecursion (λ x. length x ≤ n) xs
-each_short [] n h = tt
-each_short (x ∷ xs) n h = (omega (arith, h), each_short xs n (omega (arith, h)))
 
 -- ---- the pool
 

@@ -1,9 +1,8 @@
 -- Where the rules are kept and each test is known, what is resolved gets as many values as it takes.
-use Rattle.std.proofs.Common.{◌≡◌, ℕ, zero, suc, ◌+◌, ◌≤◌, ◌==◌, Bool, true, false, ◌&&◌, if◌then◌else◌, List, length, Option, Some, None, refl, sym, ap, ◌∙◌, subst, arith}
+use Rattle.std.proofs.Common.{◌≡◌, ℕ, zero, suc, ◌+◌, ◌≤◌, ◌==◌, Bool, true, false, ◌&&◌, if◌then◌else◌, List, length, Option, Some, None, refl, sym, ap, ◌∙◌, arith}
 use Rattle.std.specs.Prelude.{nat_lt}
 use Rattle.std.specs.Option.{option_or}
 use Rattle.std.proofs.lemmas.Bool.Decides.{nat_tests}
-use Rattle.jt_ops.specs.declared.op_id.OpId.TheVariants as op
 use Rattle.jt_ops.specs.declared.test_id.TestId.{TestId}
 use Rattle.jt_ops.specs.OpTable.{op_operands}
 use Rattle.jt_ops.specs.TestTable.{test_values}
@@ -14,12 +13,12 @@ use Rattle.jt_expr.specs.declared.tree.BinaryOperator.TheVariants as o
 use Rattle.jt_expr.specs.Trees as written
 use Rattle.jt_expr.specs.Trees.{Expr, constant, name, group, list_of, map_of, attribute, item, filter, test, unary, binary, when, choice, Exprs, no_exprs, expr, Pairs, no_pairs, pair}
 use Rattle.jt_parse.specs.Trees.{Text, Stmt, data_of, print, choose, Body, end, stmt, Branches, no_branches, branch}
-use Rattle.jt_scopes.specs.Operators.{unary_operation, Form, operation, negation, conjunction, disjunction, form, join, range_of}
+use Rattle.jt_scopes.specs.Operators.{unary_operation, Form, operation, negation, conjunction, disjunction, form, range_of}
 use Rattle.jt_scopes.specs.Tests.{test_named}
 use Rattle.jt_scopes.specs.Slots as slots
 use Rattle.jt_scopes.specs.Slots.{SExpr, SRow, none, operator, made, SBody}
 use Rattle.jt_scopes.specs.Size.{row_count}
-use Rattle.jt_scopes.specs.Resolve.{expr_pool, stmt_pool, body_pool, count, operation_of, turned_round, tested_by, in_form, resolved_expr, resolved_row, resolved_pairs, resolved_stmt, resolved_body, resolved_choice}
+use Rattle.jt_scopes.specs.Resolve.{expr_pool, stmt_pool, body_pool, count, turned_round, tested_by, in_form, resolved_expr, resolved_row, resolved_pairs, resolved_stmt, resolved_body, resolved_choice}
 use Rattle.jt_scopes.specs.Known.{IsTest, ExprKnown, RowKnown, PairsKnown, StmtKnown, BodyKnown, BranchesKnown}
 use Rattle.jt_scopes.specs.Rules.{no_keywords, unless, is_range, range_broken, test_broken, broken, row_broken, pairs_broken, stmt_broken, body_broken, branches_broken}
 use Rattle.jt_scopes.specs.Takes.{InPairs, ExprTakes, RowTakes, BodyTakes}

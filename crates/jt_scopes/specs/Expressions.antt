@@ -1,8 +1,7 @@
 -- What expressions mean, by names.
-use Rattle.std.specs.Prelude.{ℕ, pos, Bool, true, false, List, [], ◌∷◌, Option, Some, None, Result, Ok, Err, if◌then◌else◌}
+use Rattle.std.specs.Prelude.{Bool, true, false, List, [], ◌∷◌, Option, Some, None, if◌then◌else◌}
 use Rattle.jt_value.specs.Tree as tree
 use Rattle.jt_value.specs.Tree.{Tree}
-use Rattle.jt_value.specs.declared.fault.Fault.{Fault}
 use Rattle.jt_value.specs.declared.fault.Fault.TheVariants as faults
 use Rattle.jt_ops.specs.declared.op_id.OpId.{OpId}
 use Rattle.jt_ops.specs.declared.op_id.OpId.TheVariants as op
@@ -17,10 +16,10 @@ use Rattle.jt_ops.specs.Making.{listed, mapped}
 use Rattle.jt_scopes.specs.Operators.{unary_operation, Form, operation, negation, conjunction, disjunction, form}
 use Rattle.jt_scopes.specs.Tests.{test_named}
 use Rattle.jt_scopes.specs.Env.{Env, read}
-use Rattle.jt_scopes.specs.Got.{Got, gives, fails, deeper, bind, checked}
+use Rattle.jt_scopes.specs.Got.{Got, gives, fails, bind, checked}
 
 abbrev pub literal : Literal → Tree
-literal (trees.number n) = tree.number (pos n)
+literal (trees.number n) = tree.number n
 literal (trees.text s) = tree.text s
 literal (trees.truth b) = tree.truth_value b
 literal trees.nothing = tree.nothing

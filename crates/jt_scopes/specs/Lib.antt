@@ -14,3 +14,4 @@ pub mod Names
 pub mod Rules
 pub mod Scoped
 pub mod Formed
+pub mod Laws

@@ -1,5 +1,5 @@
 -- What expressions, statements and templates mean, by names.
-use Rattle.std.specs.Prelude.{ℕ, zero, suc, Bool, List, ◌++◌, [], Option, Some, None, if◌then◌else◌}
+use Rattle.std.specs.Prelude.{ℕ, zero, suc, Bool, ◌++◌, [], Option, Some, None, if◌then◌else◌}
 use Rattle.jt_value.specs.Tree as tree
 use Rattle.jt_value.specs.Tree.{Tree}
 use Rattle.jt_value.specs.Pairs.{Pairs}

@@ -10,7 +10,7 @@ use Rattle.jt_ops.specs.Operation.{operation, as_truth}
 use Rattle.jt_ops.specs.Testing.{tested}
 use Rattle.jt_ops.specs.Making.{listed, mapped}
 use Rattle.jt_parse.specs.Trees.{Text}
-use Rattle.jt_scopes.specs.Got.{Place, Got, gives, fails, deeper, bind, checked, at}
+use Rattle.jt_scopes.specs.Got.{Place, Got, gives, deeper, bind, checked, at}
 use Rattle.jt_scopes.specs.Meaning.{shown}
 
 -- what is made of a row of values

@@ -32,17 +32,13 @@ pub(crate) enum Form {
     Disjunction,
 }
 
-/// The value of a literal. No value has a number above those of 64 bits with a sign, and no source
-/// spells one.
+/// The value of a literal.
 pub(crate) fn literal_value(alloc: Global, constant: &Literal) -> Result<Value, ScopeError>
     ensures valued { IfOk result (λ v. view v ≡ literal (literal_view constant.now)) }
     ensures refused { IfErr result (λ e. e ≡ error.NoMemory) }
 {
     match constant {
-        Literal::Number(number) => match i64::try_from(*number) {
-            Ok(held) => Ok(Value::Int(held)),
-            Err(_) => Err(ScopeError::NoMemory),
-        },
+        Literal::Number(number) => Ok(Value::Int(*number)),
         Literal::Text(text) => {
             let copy = String::from_str(alloc, text)?;
             Ok(Value::Text(copy))

@@ -4,6 +4,7 @@
 mod error;
 mod expressions;
 mod forms;
+mod laws;
 mod names;
 mod program;
 mod resolving;
@@ -13,5 +14,6 @@ mod scope;
 mod tests;
 
 pub use error::ScopeError;
+pub use laws::template_laws;
 pub use program::{Maker, Resolved, SExpr, SStmt};
 pub use resolving::resolve;

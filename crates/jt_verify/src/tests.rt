@@ -211,6 +211,9 @@ fn operands_are_counted(rt: HostRuntime) -> Result<(), Fail> {
         (3, (13, 21, 0, 0), None),
         (2, (13, 21, 0, 0), Some(Flaw::MissingOperand)),
         (3, (13, 22, 0, 0), Some(Flaw::BadIndex)),
+        // an id is looked at before the operands
+        (0, (13, 22, 0, 0), Some(Flaw::BadIndex)),
+        (0, (15, 6, 2, 0), Some(Flaw::BadIndex)),
         (1, (15, 6, 1, 0), None),
         (2, (15, 2, 2, 0), None),
         (2, (15, 6, 2, 0), Some(Flaw::BadIndex)),
@@ -234,6 +237,25 @@ fn operands_are_counted(rt: HostRuntime) -> Result<(), Fail> {
             None => None,
         };
         let image = image_of(rt.alloc(), constants, fields)?;
+        assert_eq!(rt; refusal_of(rt.alloc(), image), want);
+    }
+    Ok(())
+}
+
+#[test]
+fn what_is_made_is_counted(rt: HostRuntime) -> Result<(), Fail> {
+    let deep = Refusal::Flaw {
+        flaw: Flaw::TooDeep,
+        unit: 0,
+        point: 1025,
+    };
+    for (fields, want) in [
+        ((16, 0, 0, 1024), None),
+        ((17, 0, 0, 512), None),
+        ((16, 0, 0, 0), Some(deep)),
+        ((17, 0, 0, 0), Some(deep)),
+    ] {
+        let image = image_of(rt.alloc(), 1024, fields)?;
         assert_eq!(rt; refusal_of(rt.alloc(), image), want);
     }
     Ok(())

@@ -14,9 +14,9 @@ returns-in-Ok-clause-compiled g c =
     let k = chain_view c.in_ok-chain.chain in
     let q = program_of c.in_ok-resolved.resolved in
     let r = c.in_ok-resolved.resolved in
-    image_compiled (g.L.Library.sources c.args.library.now) c.args.entry.now c.args.options k c.in_ok-chain.ensures.chained q (code_of_parts c.in_ok-parts.parts) c.in-Ok.image
+    image_compiled c.code_laws.ensures c.template_laws.ensures (g.L.Library.sources c.args.library.now) c.args.entry.now c.args.options k c.in_ok-chain.ensures.chained q (code_of_parts c.in_ok-parts.parts) c.in-Ok.image
     (body_view (template_of r) c.body.result.now end) c.fits_entries.result
-    c.in_ok-resolved.ensures.resolved c.in_ok-resolved.ensures.lawful c.body.ensures (c.fits_entries.ensures (template_of r) end) (search rules) c.in_ok-parts.ensures.emitted c.in-Ok.ensures.ok.0 c.in-Ok.ensures.ok.1
+    c.in_ok-resolved.ensures.resolved c.in_ok-resolved.ensures.means c.in_ok-resolved.ensures.lawful c.body.ensures (c.fits_entries.ensures (template_of r) end) (search rules) c.in_ok-parts.ensures.emitted c.in-Ok.ensures.ok.0 c.in-Ok.ensures.ok.1
 
 pub returns-in_err-parts-clause-refused : goal.returns-in_err-parts-clause-refused
 returns-in_err-parts-clause-refused g c =
@@ -24,7 +24,7 @@ returns-in_err-parts-clause-refused g c =
     let q = program_of c.in_ok-resolved.resolved in
     let p = err_from_is_err_and c.from_residual-in_err-parts.result c.from_residual-in_err-parts.ensures.1 in
     rw (p.1, p.2)
-    (emission_refused (g.L.Library.sources c.args.library.now) c.args.entry.now c.args.options k c.in_ok-chain.ensures.chained c.in_err-parts.field-0.0 q c.in_ok-resolved.ensures.resolved c.in_ok-resolved.ensures.lawful c.in_err-parts.ensures.refused)
+    (emission_refused c.code_laws.ensures c.template_laws.ensures (g.L.Library.sources c.args.library.now) c.args.entry.now c.args.options k c.in_ok-chain.ensures.chained c.in_err-parts.field-0.0 q c.in_ok-resolved.ensures.resolved c.in_ok-resolved.ensures.lawful c.in_err-parts.ensures.refused)
 
 pub returns-in_err-parts-clause-small : goal.returns-in_err-parts-clause-small
 returns-in_err-parts-clause-small g c =
@@ -32,7 +32,7 @@ returns-in_err-parts-clause-small g c =
     let q = program_of c.in_ok-resolved.resolved in
     let p = err_from_is_err_and c.from_residual-in_err-parts.result c.from_residual-in_err-parts.ensures.1 in
     rw (p.1, p.2)
-    (emission_not_small (g.L.Library.sources c.args.library.now) c.args.entry.now c.args.options k c.in_ok-chain.ensures.chained c.in_err-parts.field-0.0 q c.in_ok-resolved.ensures.resolved c.in_ok-resolved.ensures.lawful c.in_ok-chain.ensures.weighs c.in_ok-chain.ensures.short c.in_err-parts.ensures.refused)
+    (emission_not_small c.code_laws.ensures c.template_laws.ensures (g.L.Library.sources c.args.library.now) c.args.entry.now c.args.options k c.in_ok-chain.ensures.chained c.in_err-parts.field-0.0 q c.in_ok-resolved.ensures.resolved c.in_ok-resolved.ensures.lawful c.in_ok-chain.ensures.weighs c.in_ok-chain.ensures.short c.in_err-parts.ensures.refused)
 
 pub returns : goal.returns
 returns g c =
@@ -46,10 +46,10 @@ returns g c =
       compiled = tt;
       refused =
           subst (λ e. Breaks sources entry options e) (sym c.from.ensures)
-          (assembly_refused sources entry options k c.in_ok-chain.ensures.chained c.in-Err.refusal q o c.in_ok-resolved.ensures.resolved c.in_ok-resolved.ensures.lawful c.in_ok-parts.ensures.emitted c.in-Err.ensures.named);
+          (assembly_refused c.code_laws.ensures c.template_laws.ensures sources entry options k c.in_ok-chain.ensures.chained c.in-Err.refusal q o c.in_ok-resolved.ensures.resolved c.in_ok-resolved.ensures.lawful c.in_ok-parts.ensures.emitted c.in-Err.ensures.named);
       small =
           subst (λ e. NamesLimit e → ¬ (IsSmall sources entry options)) (sym c.from.ensures)
-          (assembly_not_small sources entry options k c.in_ok-chain.ensures.chained c.in-Err.refusal q o c.in_ok-resolved.ensures.resolved c.in_ok-chain.ensures.weighs c.in_ok-chain.ensures.short c.in_ok-parts.ensures.emitted c.in-Err.ensures.named);
+          (assembly_not_small c.code_laws.ensures c.template_laws.ensures sources entry options k c.in_ok-chain.ensures.chained c.in-Err.refusal q o c.in_ok-resolved.ensures.resolved c.in_ok-chain.ensures.weighs c.in_ok-chain.ensures.short c.in_ok-parts.ensures.emitted c.in-Err.ensures.named);
     }
 
 pub returns-then-not-fits_entries-clause-refused : goal.returns-then-not-fits_entries-clause-refused

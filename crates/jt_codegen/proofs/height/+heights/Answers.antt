@@ -11,10 +11,10 @@ pub fits_entries-loop-statement-preserved : goal.fits_entries-loop-statement-pre
 fits_entries-loop-statement-preserved t c =
     let l = c.loop-statement in
     let ss = c.args.body.now in
-    let yes : c.fits_statement.result ≡ true = search rules in
+    let low : c.fits_statement.result ≡ true = search rules in
     λ template behind. l.invariant template behind
     ∙ body_next c.args.room template ss l.statement-index c.statement-item.result c.fits_statement.result behind c.loop-statement-test.true c.statement-item.is (c.fits_statement.ensures template)
-    ∙ ap (λ z. z && nat_le (body_height (body_view template (drop (l.statement-index + 1) ss) behind)) c.args.room) yes
+    ∙ ap (λ z. z && nat_le (body_height (body_view template (drop (l.statement-index + 1) ss) behind)) c.args.room) low
 
 pub fits_entries-returns-then-not-fits_statement : goal.fits_entries-returns-then-not-fits_statement
 fits_entries-returns-then-not-fits_statement t c =

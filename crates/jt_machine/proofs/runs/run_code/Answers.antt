@@ -1,34 +1,32 @@
-use Rattle.std.proofs.Common.{◌≡◌, ◌∙◌, sym, refl, None}
+use Rattle.std.proofs.Common.{◌≡◌, ◌∙◌, sym, refl, ap, None}
 use Rattle.jt_value.specs.ContextView.{pairs_of}
 use Rattle.jt_image.specs.Run.{next, Goes, Ends, passed}
-use Rattle.jt_image.proofs.Runs.{start_good}
-use Rattle.jt_machine.specs.View.{budget_view, config_view, outcome_view, entries_view}
-use Rattle.jt_machine.proofs.Steps.{ending_now, ending_back, goes_good, goes_down, not_wrong, sizes, few_entries}
+use Rattle.jt_machine.specs.View.{budget_view, config_view, outcome_view}
+use Rattle.jt_machine.proofs.Steps.{ending_now, ending_back, reached_next, reached_sound}
 use Rattle.jt_machine.proofs.runs.run_code.Goals as goal
 
 pub steps-init : goal.steps-init
 steps-init g c =
-    let k = g.C.Code.code c.args.code.now in
     record {
-      good = rw c.in_ok-state.ensures (start_good k c.requires.whole c.requires.typed (pairs_of c.args.context.now) (budget_view c.args.budget));
+      reached = (0, ap Goes (sym c.in_ok-state.ensures));
       same = λ o e. rw c.in_ok-state.ensures at e;
     }
 
 pub step-requires-clause-not_wrong : goal.step-requires-clause-not_wrong
-step-requires-clause-not_wrong g c = not_wrong (g.C.Code.code c.args.code.now) (config_view c.steps.state) c.steps.invariant.good
+step-requires-clause-not_wrong g c = (reached_sound c.code_laws.ensures (g.C.Code.code c.args.code.now) c.requires.whole c.requires.typed (pairs_of c.args.context.now) (budget_view c.args.budget) (config_view c.steps.state) c.steps.invariant.reached).not_wrong
 
 pub step-requires-clause-sized : goal.step-requires-clause-sized
-step-requires-clause-sized g c = sizes c.steps.state.left.size (entries_view c.steps.state.entries.items) c.steps.invariant.good.sized
+step-requires-clause-sized g c = (reached_sound c.code_laws.ensures (g.C.Code.code c.args.code.now) c.requires.whole c.requires.typed (pairs_of c.args.context.now) (budget_view c.args.budget) (config_view c.steps.state) c.steps.invariant.reached).sized
 
 pub step-requires-clause-few : goal.step-requires-clause-few
-step-requires-clause-few g c = few_entries (g.C.Code.code c.args.code.now) (config_view c.steps.state) c.steps.invariant.good
+step-requires-clause-few g c = (reached_sound c.code_laws.ensures (g.C.Code.code c.args.code.now) c.requires.whole c.requires.typed (pairs_of c.args.context.now) (budget_view c.args.budget) (config_view c.steps.state) c.steps.invariant.reached).few
 
 pub steps-preserved : goal.steps-preserved
 steps-preserved g c =
     let k = g.C.Code.code c.args.code.now in
     let e : next k (config_view c.steps.state) ≡ Goes (config_view c.step.new.state) = c.in_ok-outcome.ensures ∙ rw c.in_default-2.is refl in
     record {
-      good = goes_good k (config_view c.steps.state) (config_view c.step.new.state) c.steps.invariant.good e;
+      reached = reached_next k (pairs_of c.args.context.now) (budget_view c.args.budget) (config_view c.steps.state) (config_view c.step.new.state) c.steps.invariant.reached e;
       same = λ o r. c.steps.invariant.same o (ending_back k (config_view c.steps.state) (config_view c.step.new.state) o e r);
     }
 
@@ -36,7 +34,7 @@ pub steps-smaller : goal.steps-smaller
 steps-smaller g c =
     let k = g.C.Code.code c.args.code.now in
     let e : next k (config_view c.steps.state) ≡ Goes (config_view c.step.new.state) = c.in_ok-outcome.ensures ∙ rw c.in_default-2.is refl in
-    goes_down k (config_view c.steps.state) (config_view c.step.new.state) c.steps.invariant.good e
+    (reached_sound c.code_laws.ensures k c.requires.whole c.requires.typed (pairs_of c.args.context.now) (budget_view c.args.budget) (config_view c.steps.state) c.steps.invariant.reached).takes (config_view c.step.new.state) e
 
 pub returns-in-Some-2 : goal.returns-in-Some-2
 returns-in-Some-2 g c =

@@ -1,13 +1,13 @@
 use Rattle.jt_value.specs.ContextView.{pairs_of}
 use Rattle.jt_image.specs.Config.{Outcome}
 use Rattle.jt_image.specs.Run.{Ending, start}
-use Rattle.jt_image.proofs.Safe.{IsGood}
 use Rattle.jt_machine.specs.View.{budget_view, config_view}
+use Rattle.jt_machine.proofs.Steps.{Reached}
 use Rattle.jt_machine.proofs.runs.run_code.Given as goal
 
 abbrev pub invariant-steps : goal.invariant-steps
 invariant-steps g l = record {
-  good : IsGood (g.C.Code.code l.code) (config_view l.state);
+  reached : Reached (g.C.Code.code l.code) (pairs_of l.fn.context) (budget_view l.fn.budget) (config_view l.state);
   same : (o : Outcome) → Ending (g.C.Code.code l.code) (config_view l.state) o → Ending (g.C.Code.code l.code) (start (g.C.Code.code l.code) (pairs_of l.fn.context) (budget_view l.fn.budget)) o;
 }
 

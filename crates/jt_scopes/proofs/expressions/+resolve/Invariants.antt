@@ -1,6 +1,5 @@
 use Rattle.std.proofs.Common.{◌≡◌, ◌++◌, length, drop}
 use Rattle.jt_expr.specs.View.{exprs_view, pairs_view}
-use Rattle.jt_scopes.specs.Slots.{none}
 use Rattle.jt_scopes.specs.Resolve.{row_pool, pair_pool}
 use Rattle.jt_scopes.specs.View.{row_view}
 use Rattle.jt_scopes.specs.Scoped.{values, row_in, pairs_in}

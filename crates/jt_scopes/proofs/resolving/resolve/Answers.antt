@@ -1,14 +1,16 @@
-use Rattle.std.proofs.Common.{◌≡◌, ◌++◌, length, map, ap, ◌∙◌, string_bytes}
+use Rattle.std.proofs.Common.{◌≡◌, ◌++◌, length, map, sym, ap, ◌∙◌, string_bytes}
 use Rattle.jt_value.specs.View.{view}
 use Rattle.jt_parse.specs.View as parsed
 use Rattle.jt_inherit.specs.View.{chain_view}
 use Rattle.jt_scopes.specs.Slots as slots
 use Rattle.jt_scopes.specs.Slots.{smean}
 use Rattle.jt_scopes.specs.Resolve.{body_pool, body_names, ascending, resolved_body, program}
+use Rattle.jt_scopes.specs.Rules as rules
 use Rattle.jt_scopes.specs.Names.{table}
 use Rattle.jt_scopes.specs.Scoped.{values}
 use Rattle.jt_scopes.specs.View.{body_view}
 use Rattle.jt_scopes.proofs.Means.{program_means}
+use Rattle.jt_scopes.proofs.Lexical.{found_breaks}
 use Rattle.jt_scopes.proofs.Built.{program_built}
 use Rattle.jt_scopes.proofs.resolving.resolve.Goals as goal
 
@@ -30,3 +32,6 @@ returns-clause-means c =
     let built = program_built chain.name name escaping chain.body names (values c.resolve_statements.new.pool) (body_view name c.in_ok-body.body.items slots.end) is_name named pooled resolved
     ∙ ap (λ e. program chain.name e chain.body) c.autoescape.ensures in
     λ context n. ap (λ p. smean p context n) built ∙ program_means chain.name chain.escaping chain.body context n
+
+pub returns-in-Some-clause-refused : goal.returns-in-Some-clause-refused
+returns-in-Some-clause-refused c = found_breaks c.in-Some.rule (chain_view c.args.chain.now).body (sym (c.in-Some.ensures ∙ ap rules.body_broken (c.body-statements.ensures ∙ c.template.ensures)))

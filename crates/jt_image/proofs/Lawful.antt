@@ -1,0 +1,56 @@
+-- The laws of codes and their runs.
+use Rattle.std.proofs.Common.{◌≡◌, ℕ, ◌≤◌, List, [], ◌∷◌, sym, subst, ◌∙◌, arith}
+use Rattle.std.specs.List.{AllByRecursion}
+use Rattle.std.proofs.lemmas.List.{length-map}
+use Rattle.jt_value.specs.Pairs.{Pairs}
+use Rattle.jt_image.specs.Code.{Code}
+use Rattle.jt_image.specs.IsCode.{IsCode}
+use Rattle.jt_image.specs.Typed.{IsTyped}
+use Rattle.jt_image.specs.Config.{Budget, Entry, value, frame, capture, kind_of, Config}
+use Rattle.jt_image.specs.Run.{next, start, Run}
+use Rattle.jt_image.specs.Enough.{Enough}
+use Rattle.jt_image.specs.FreeRun.{Free, Finished, Failed, start_machine, ComesTo}
+use Rattle.jt_image.specs.Laws.{entry_size, IsSound, HasRuns, CodeLaws}
+use Rattle.jt_image.proofs.Safe.{kinds_of, AreSized, IsFit, IsGood, IsFineStep, step_fine}
+use Rattle.jt_image.proofs.Runs.{start_good, good_after, safe}
+use Rattle.jt_image.proofs.Free.{IsMeant, outcome_of, only_fuel, enough_run, run_erased, same_exec}
+use Rattle.jt_image.proofs.Assembled.{spelled_len}
+
+sizes : (n : ℕ) (es : List Entry) → AreSized n es → AllByRecursion (λ e. entry_size e ≤ n) es
+sizes n [] h = tt
+sizes n (value t ∷ es) h = (h.0, sizes n es h.1)
+sizes n (frame f ∷ es) h = (omega arith, sizes n es h)
+sizes n (capture ∷ es) h = (omega arith, sizes n es h)
+
+sound : (k : Code) (c : Config) → IsGood k c → IsSound k c
+sound k c g = record {
+  not_wrong = λ e. subst (IsFineStep k c.left.fuel) e (step_fine k c g);
+  few = omega (arith, g.fit.typed.small c.machine.point (kinds_of c.machine.state.entries) g.fit.here, length-map c.machine.state.entries kind_of);
+  sized = sizes c.left.size c.machine.state.entries g.sized;
+  takes = λ d e. (subst (IsFineStep k c.left.fuel) e (step_fine k c g)).1;
+}
+
+module _ (k : Code) (whole : IsCode k) (typed : IsTyped k) where
+  fit : (x : Pairs) → IsFit k (start_machine k x)
+  fit x = (start_good k whole typed x (only_fuel 0)).fit
+
+  comes : (x : Pairs) (b : Budget) (o : Free) → IsMeant o → Run k x b (outcome_of o) → ComesTo k x o
+  comes x b o meant r =
+      let e = run_erased k x b o meant r in
+      (e.0, sym (same_exec k e.0 (start_machine k x) (fit x)) ∙ e.1)
+
+  enough : (x : Pairs) (o : Free) → IsMeant o → ComesTo k x o → Enough k x (outcome_of o)
+  enough x o meant e = enough_run k x e.0 o meant (same_exec k e.0 (start_machine k x) (fit x) ∙ e.1)
+
+  runs : HasRuns k
+  runs = record {
+    safe = λ x b. safe k whole typed x b;
+    sound = λ x b n c e. sound k c (good_after k n (start k x b) c (start_good k whole typed x b) e);
+    text = λ x b t r. comes x b (Finished t) tt r;
+    fault = λ x b f r. comes x b (Failed f) tt r;
+    enough_text = λ x t e. enough x (Finished t) tt e;
+    enough_fault = λ x f e. enough x (Failed f) tt e;
+  }
+
+pub lawful : CodeLaws
+lawful = record { runs = runs; spelled = spelled_len }
