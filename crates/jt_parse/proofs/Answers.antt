@@ -1,5 +1,5 @@
 -- What is answered of segments.
-use Rattle.std.proofs.Common.{◌≡◌, ℕ, ◌≤◌, List, refl, sym, ap, ◌∙◌, Option, Some, None, Result, Ok, Err, IfOk, IfErr, MatchResult}
+use Rattle.std.proofs.Common.{◌≡◌, ℕ, ◌≤◌, List, refl, sym, ap, ◌∙◌, Option, None, Result, Ok, Err, IfOk, IfErr, MatchResult}
 use Rattle.jt_scan.specs.Cut.{Segment, weight_of}
 use Rattle.jt_expr.specs.Reading.{Fault, syntax, deep}
 use Rattle.jt_expr.specs.Trees.{Expr}
