@@ -52,7 +52,7 @@ SOURCES = [
     ("closing brackets", "{{ ", ")", " }}", ["P1"]),
     ("open tags", "", "{{ ", "", ["S1"]),
     ("open comments", "", "{#", "", ["S1"]),
-    ("open texts", "", '{{ " }}', "", ["ok", "S2"]),
+    ("open texts", "", '{{ " }}', "", ["ok", "S2", "G1"]),
     ("open ifs", "", "{% if x %}", "", ["P1", "P2"]),
     ("elifs", "{% if x %}", "{% elif x %}", "{% endif %}", ["ok", "G1"]),
     ("ifs in a row", "", "{% if x %}{% endif %}", "", ["ok", "G1"]),
