@@ -1,5 +1,5 @@
 -- A program's code does what the program means.
-use Rattle.std.proofs.Common.{◌≡◌, ◌≢◌, ℕ, zero, suc, ◌+◌, ◌-◌, ◌<◌, ◌≤◌, List, [], ◌∷◌, ◌++◌, length, map, Option, Some, None, Bool, true, false, refl, sym, ap, ◌∙◌, subst, arith, append_assoc, length-append}
+use Rattle.std.proofs.Common.{◌≡◌, ◌≢◌, ℕ, zero, suc, ◌+◌, ◌<◌, ◌≤◌, List, [], ◌∷◌, ◌++◌, length, map, Option, Some, refl, sym, ap, ◌∙◌, subst, arith, append_assoc, length-append}
 use Rattle.std.specs.Prelude.{slice_get, slice_set, unwrap_or, replicate}
 use Rattle.std.proofs.Math.Seq.{get_or-append_seam, set-append_seam}
 use Rattle.std.proofs.lemmas.Option.{slice_get-get_or}
@@ -9,21 +9,20 @@ use Rattle.jt_value.specs.Pairs.{Pairs, look}
 use Rattle.jt_value.specs.declared.fault.Fault.{Fault}
 use Rattle.jt_image.specs.declared.instruction.Instruction.{Instruction}
 use Rattle.jt_image.specs.declared.instruction.Instruction.TheVariants as op
-use Rattle.jt_image.specs.Code.{Section, Code}
+use Rattle.jt_image.specs.Code.{Code}
 use Rattle.jt_image.specs.Config as config
 use Rattle.jt_image.specs.Config.{State, Machine}
-use Rattle.jt_image.specs.Step.{action, fetch}
-use Rattle.jt_image.specs.Run.{filled, locals_of, entry_locals, start, Run}
+use Rattle.jt_image.specs.Run.{filled, locals_of, entry_locals, Run}
 use Rattle.jt_image.specs.Enough.{Enough}
 use Rattle.jt_image.specs.FreeRun.{Free, Finished, Failed, Going, exec, start_machine}
 use Rattle.jt_image.specs.Laws.{HasRuns}
 use Rattle.jt_parse.specs.Trees.{Text}
 use Rattle.jt_scopes.specs.Got.{Place, Got, gives, fails, deeper, bind}
 use Rattle.jt_scopes.specs.Slots.{Routine, Program, Memory, SCalls, smeanings, with_locals, sperformed, scalls, globals_of, smean}
-use Rattle.jt_codegen.specs.Asm.{Asm, flat, Ran, does, stops, too_deep, bad, run}
+use Rattle.jt_codegen.specs.Asm.{flat, Ran, does}
 use Rattle.jt_codegen.specs.Lower.{body_asm, unit_of, numbered, compiled}
 use Rattle.jt_scopes.specs.Takes.{BodyTakes}
-use Rattle.jt_codegen.proofs.Follows.{HasAt, has_front, has_back, machine, Comes, Reaches, fetched, step, flat_runs}
+use Rattle.jt_codegen.proofs.Follows.{HasAt, has_front, has_back, machine, Reaches, fetched, step, flat_runs}
 use Rattle.jt_codegen.proofs.Over.{longer, one_free_end}
 use Rattle.jt_codegen.proofs.Lowered.{at_memory, follow, HasPool, body_lowered}
 

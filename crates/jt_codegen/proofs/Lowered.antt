@@ -1,6 +1,6 @@
 -- The code of a resolved template does what the template means.
-use Rattle.std.proofs.Common.{◌≡◌, ℕ, zero, suc, ◌+◌, ◌*◌, Bool, arith, Result, Ok, Err, append-nil, true, false, if◌then◌else◌, eqb, List, [], ◌∷◌, ◌++◌, length, map, Option, Some, None, refl, sym, ap, ◌∙◌, subst}
-use Rattle.std.specs.Prelude.{slice_get, unwrap_or, option_map}
+use Rattle.std.proofs.Common.{◌≡◌, ℕ, zero, suc, ◌+◌, ◌*◌, Bool, arith, Result, Ok, Err, append-nil, true, false, if◌then◌else◌, eqb, List, [], ◌∷◌, ◌++◌, length, Option, Some, None, refl, sym, ap, ◌∙◌}
+use Rattle.std.specs.Prelude.{slice_get, option_map}
 use Rattle.jt_value.specs.Tree as tree
 use Rattle.jt_value.specs.Tree.{Tree}
 use Rattle.jt_value.specs.declared.fault.Fault.{Fault}
@@ -25,7 +25,7 @@ use Rattle.jt_parse.specs.Trees.{Text}
 use Rattle.jt_scopes.specs.Got.{Place, Got, gives, fails, deeper, bind, checked, at}
 use Rattle.jt_scopes.specs.Meaning.{shown, shown_text}
 use Rattle.jt_scopes.specs.Slots.{Maker, SExpr, pooled, global, SRow, SStmt, put_pooled, print, if_else, SBody, end, stmt, Memory, value_at, bytes_of, SCalls, make, svalue, svalues, smeaning, smeanings}
-use Rattle.jt_codegen.specs.Asm.{Asm, nil, one, both, choose, Ran, does, stops, too_deep, bad, and_then, of_plain, run}
+use Rattle.jt_codegen.specs.Asm.{nil, one, both, choose, Ran, does, stops, too_deep, bad, and_then, of_plain, run}
 use Rattle.jt_codegen.specs.Lower.{half, maker, expr_asm, row_asm, flag, stmt_asm, body_asm}
 
 -- the state with the variables and the text of a memory

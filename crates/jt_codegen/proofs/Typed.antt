@@ -1,6 +1,6 @@
 -- Code whose jumps stand in pairs is typed, and so is a unit.
-use Rattle.std.proofs.Common.{◌≡◌, ℕ, zero, suc, ◌+◌, ◌-◌, ◌<◌, ◌≤◌, List, [], ◌∷◌, ◌++◌, length, Option, Some, None, Result, Ok, Err, Bool, true, false, refl, sym, ap, ◌∙◌, subst, arith, append_assoc, length-append}
-use Rattle.std.specs.Prelude.{slice_get, nat_lt, max, ◌==◌}
+use Rattle.std.proofs.Common.{◌≡◌, ℕ, zero, suc, ◌+◌, ◌<◌, ◌≤◌, List, [], ◌∷◌, ◌++◌, length, Some, Result, Ok, Bool, true, false, refl, sym, ap, ◌∙◌, subst, arith, append_assoc, length-append}
+use Rattle.std.specs.Prelude.{slice_get, nat_lt, ◌==◌}
 use Rattle.std.specs.List.{AllByRecursion}
 use Rattle.std.proofs.Math.Seq.{get_or-append_seam}
 use Rattle.std.proofs.lemmas.Option.{slice_get-get_or}
@@ -10,14 +10,14 @@ use Rattle.jt_image.specs.declared.instruction.Instruction.TheVariants as op
 use Rattle.jt_image.specs.declared.kind.Kind.TheVariants as kind
 use Rattle.jt_image.specs.declared.kind.Flaw.TheVariants as flaw
 use Rattle.jt_image.specs.declared.kind.Flaw.{Flaw}
-use Rattle.jt_image.specs.Code.{Section, Code, is_text}
-use Rattle.jt_image.specs.Effect.{Shape, Leads, require, pops_many, makes, goes_on, effect, effect_at, effect_of}
-use Rattle.jt_image.specs.Ids.{operator_of, operands_of, test_of, takes}
+use Rattle.jt_image.specs.Code.{Section, Code}
+use Rattle.jt_image.specs.Effect.{Shape, Leads, require, pops_many, makes, goes_on, effect, effect_of}
+use Rattle.jt_image.specs.Ids.{operands_of, takes}
 use Rattle.std.specs.Option.{is_some}
 use Rattle.jt_scopes.specs.Slots as slots
 use Rattle.jt_scopes.specs.Size.{row_count, expr_height, row_height, stmt_height, body_height}
 use Rattle.jt_codegen.proofs.Lowered.{has_operator, has_test, halved}
-use Rattle.jt_image.specs.Typed.{Shapes, Equal, HasSame, IsFineBy, IsTypedBy, IsTypedUnit, max_entries}
+use Rattle.jt_image.specs.Typed.{Equal, HasSame, IsTypedUnit, max_entries}
 use Rattle.jt_scopes.specs.Slots.{Maker, SExpr, pooled, global, SRow, SStmt, put_pooled, print, if_else, SBody, end, stmt, Routine}
 use Rattle.jt_codegen.specs.Asm.{Asm, nil, one, both, choose, flat}
 use Rattle.jt_codegen.specs.Lower.{maker, expr_asm, row_asm, flag, stmt_asm, body_asm, unit_of}

@@ -9,6 +9,3 @@ mod tables;
 
 pub use compiling::compile;
 pub use error::CompileError;
-
-#[cfg(test)]
-mod tests;

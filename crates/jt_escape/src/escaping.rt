@@ -55,28 +55,3 @@ fn entity_of(byte: u8) -> Option<&'static str>
         _ => None,
     }
 }
-
-#[cfg(test)]
-mod tests {
-    use super::*;
-    use std::test::Fail;
-
-    #[test]
-    fn escapes_the_five_characters(rt: HostRuntime) -> Result<(), Fail> {
-        for (text, written) in [
-            ("", ""),
-            (
-                "<b id=\"x\">'&'</b>",
-                "&lt;b id=&#34;x&#34;&gt;&#39;&amp;&#39;&lt;/b&gt;",
-            ),
-            ("&lt;", "&amp;lt;"),
-            ("größer als 3 €", "größer als 3 €"),
-            ("ä<ü", "ä&lt;ü"),
-        ] {
-            let mut into = String::from_str(rt.alloc(), ">")?;
-            escape_into(text, &mut into)?;
-            assert_eq!(rt; into.strip_prefix(">"), Some(written));
-        }
-        Ok(())
-    }
-}

@@ -57,10 +57,15 @@ abbrev mutual
 abbrev pub IsKnown : Expr → Type 0
 IsKnown t = (has_unknown n.Filter t ≡ false) × (has_unknown n.Test t ≡ false)
 
--- the refusal is for such a name in the tree
+-- a name without a meaning stands in the tree, and a filter is blamed before each test
+abbrev pub IsBlamed : Named → Expr → Type 0
+IsBlamed n.Filter t = has_unknown n.Filter t ≡ true
+IsBlamed n.Test t = (has_unknown n.Filter t ≡ false) × (has_unknown n.Test t ≡ true)
+
+-- the refusal is for such a name
 abbrev pub Blames : ExprError → Expr → Type 0
 Blames e.Syntax t = ⊥
 Blames e.TooDeep t = ⊥
-Blames e.UnknownFilter t = has_unknown n.Filter t ≡ true
-Blames e.UnknownTest t = has_unknown n.Test t ≡ true
+Blames e.UnknownFilter t = IsBlamed n.Filter t
+Blames e.UnknownTest t = IsBlamed n.Test t
 Blames e.NoMemory t = ⊥

@@ -8,8 +8,6 @@ mod named;
 mod part;
 mod rows;
 mod tag;
-#[cfg(test)]
-mod tests;
 mod tree;
 mod words;
 

@@ -1,5 +1,5 @@
 -- The laws of codes and their runs.
-use Rattle.std.proofs.Common.{◌≡◌, ℕ, ◌≤◌, List, [], ◌∷◌, sym, subst, ◌∙◌, arith}
+use Rattle.std.proofs.Common.{ℕ, ◌≤◌, List, [], ◌∷◌, sym, subst, ◌∙◌, arith}
 use Rattle.std.specs.List.{AllByRecursion}
 use Rattle.std.proofs.lemmas.List.{length-map}
 use Rattle.jt_value.specs.Pairs.{Pairs}
@@ -7,7 +7,7 @@ use Rattle.jt_image.specs.Code.{Code}
 use Rattle.jt_image.specs.IsCode.{IsCode}
 use Rattle.jt_image.specs.Typed.{IsTyped}
 use Rattle.jt_image.specs.Config.{Budget, Entry, value, frame, capture, kind_of, Config}
-use Rattle.jt_image.specs.Run.{next, start, Run}
+use Rattle.jt_image.specs.Run.{start, Run}
 use Rattle.jt_image.specs.Enough.{Enough}
 use Rattle.jt_image.specs.FreeRun.{Free, Finished, Failed, start_machine, ComesTo}
 use Rattle.jt_image.specs.Laws.{entry_size, IsSound, HasRuns, CodeLaws}

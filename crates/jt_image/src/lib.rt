@@ -27,6 +27,3 @@ pub use kind::{Flaw, Kind};
 pub use laws::code_laws;
 pub use parts::{Parts, Unit};
 pub use wire::Instr;
-
-#[cfg(test)]
-mod tests;

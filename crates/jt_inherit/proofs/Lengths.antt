@@ -1,7 +1,7 @@
 -- A tree is no longer than its source.
-use Rattle.std.proofs.Common.{◌≡◌, ℕ, ◌+◌, ◌<◌, ◌≤◌, Bool, List, [], ◌∷◌, ◌++◌, length, ap, ◌∙◌, arith, chars, encode_utf8_all, IsUtf8, length-append, ⊎_elim}
+use Rattle.std.proofs.Common.{◌≡◌, ℕ, ◌+◌, ◌<◌, ◌≤◌, Bool, List, [], ◌∷◌, ◌++◌, length, ap, arith, chars, IsUtf8, ⊎_elim}
 use Rattle.std.proofs.lemmas.Bool.{cases_lt}
-use Rattle.std.proofs.lemmas.Str.{encodes-append, encodes-chars, length-le-encodes}
+use Rattle.std.proofs.lemmas.Str.{encodes-chars, length-le-encodes}
 use Rattle.jt_scan.specs.declared.segment.Kind.{Kind}
 use Rattle.jt_scan.specs.Cut.{Text, Token, Segment, Spelled, a_name, a_number, a_text, a_sign, Inside, closed, space, token, Cuts, no_more, more, IsSegment, some_data, a_tag, a_comment, closer, second}
 use Rattle.jt_scan.specs.LineEnds.{normalized}

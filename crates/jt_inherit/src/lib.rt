@@ -6,8 +6,6 @@ mod error;
 mod library;
 mod linked;
 mod names;
-#[cfg(test)]
-mod tests;
 
 pub use chaining::chain;
 pub use error::ChainError;

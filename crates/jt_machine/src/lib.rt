@@ -13,6 +13,3 @@ mod step;
 
 pub use outcome::Outcome;
 pub use runs::run;
-
-#[cfg(test)]
-mod tests;

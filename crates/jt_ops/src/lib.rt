@@ -21,6 +21,3 @@ pub use operators::{binary, unary};
 pub use ranges::range;
 pub use test_id::TestId;
 pub use testing::test;
-
-#[cfg(test)]
-mod tests;

@@ -65,7 +65,7 @@ pub blamed_at : (line : ℕ) (t : expressions.Expr) (f : ExprError) → Blames f
 blamed_at line t fault.Syntax h = absurd h
 blamed_at line t fault.TooDeep h = absurd h
 blamed_at line t fault.UnknownFilter h = (t, first_blamed (has_unknown named.Filter t) (has_unknown named.Test t) (line, t) h, h)
-blamed_at line t fault.UnknownTest h = (t, second_blamed (has_unknown named.Filter t) (has_unknown named.Test t) (line, t) h, h)
+blamed_at line t fault.UnknownTest h = (t, second_blamed (has_unknown named.Filter t) (has_unknown named.Test t) (line, t) h.1, h)
 blamed_at line t fault.NoMemory h = absurd h
 
 -- ---- statements

@@ -73,7 +73,7 @@ GivesNames found (Err (e.UnknownFilter line)) = StandsAt line named.Filter found
 GivesNames found (Err (e.UnknownTest line)) = StandsAt line named.Test found
 GivesNames found (Err e.NoMemory) = ⊥
 
--- what is read has its first names without a meaning in a tag of this line, and such a one among them
+-- what is read has its first names without a meaning in a tag of this line, and such a one is to blame there
 abbrev pub Finds : Result Body Fault → ℕ → Named → Type 0
 Finds o line x = (b : Body) × (o ≡ Ok b) × StandsAt line x (body_unknown b)
 
@@ -86,7 +86,7 @@ GivesKnown o (Err (e.UnknownTest line)) = Finds o line named.Test
 GivesKnown o (Err e.NoMemory) = Unit {0}
 
 -- the tree that the segments spell, of at most 100 levels, has its first names without a meaning in a
--- tag of this line, and such a one among them
+-- tag of this line, and such a one is to blame there
 abbrev pub HoldsUnknown : ℕ → Named → List Segment → Type 0
 HoldsUnknown line x ss = (b : Body) × Forms b ss × (body_levels b ≤ 100) × StandsAt line x (body_unknown b)
 

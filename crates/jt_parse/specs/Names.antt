@@ -1,9 +1,9 @@
 -- Which names of filters and tests in templates have a meaning.
-use Rattle.std.specs.Prelude.{◌≡◌, ℕ, true, ◌||◌, Option, Some, None, if◌then◌else◌}
+use Rattle.std.specs.Prelude.{◌≡◌, ℕ, ◌||◌, Option, Some, None, if◌then◌else◌}
 use Rattle.std.specs.Option.{option_or}
 use Rattle.jt_expr.specs.declared.named.Named.{Named}
 use Rattle.jt_expr.specs.declared.named.Named.TheVariants as named
-use Rattle.jt_expr.specs.Named.{has_unknown}
+use Rattle.jt_expr.specs.Named.{has_unknown, IsBlamed}
 use Rattle.jt_expr.specs.Trees.{Expr}
 use Rattle.jt_parse.specs.Trees.{Stmt, data_of, print, choose, Body, end, stmt, Branches, no_branches, branch}
 
@@ -26,6 +26,6 @@ abbrev mutual
   branch_unknown no_branches = None
   branch_unknown (branch line c body rest) = option_or (option_or (unknown_at line c) (body_unknown body)) (branch_unknown rest)
 
--- the tag found is of the line, and a filter, or a test, without a meaning stands in its expression
+-- the tag found is of the line, and in its expression the name to blame is a filter's, or a test's
 abbrev pub StandsAt : ℕ → Named → Option (ℕ × Expr) → Type 0
-StandsAt line x found = (e : Expr) × (found ≡ Some (line, e)) × (has_unknown x e ≡ true)
+StandsAt line x found = (e : Expr) × (found ≡ Some (line, e)) × IsBlamed x e

@@ -5,8 +5,6 @@ mod error;
 mod expression;
 mod names;
 mod parser;
-#[cfg(test)]
-mod tests;
 mod tree;
 
 pub use error::ParseError;

@@ -10,8 +10,6 @@ mod scanner;
 mod segment;
 mod signs;
 mod source;
-#[cfg(test)]
-mod tests;
 mod text;
 mod tokens;
 

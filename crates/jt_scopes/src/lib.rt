@@ -10,8 +10,6 @@ mod program;
 mod resolving;
 mod rules;
 mod scope;
-#[cfg(test)]
-mod tests;
 
 pub use error::ScopeError;
 pub use laws::template_laws;

@@ -11,6 +11,3 @@ pub use checked::{Checked, Verified, verify};
 pub use refusal::{Refusal, flaw_name};
 pub use shape::{Shape, join};
 pub use verifier::verify_code;
-
-#[cfg(test)]
-mod tests;

@@ -69,27 +69,3 @@ impl<T: Drop> From<AllocFailed<T>> for Refusal {
         Refusal::NoMemory
     }
 }
-
-#[cfg(test)]
-mod tests {
-    use super::*;
-    use std::fmt::InlineText;
-
-    #[test]
-    fn shows_its_name_and_place(rt: HostRuntime) {
-        let shown: InlineText<64> = InlineText::of(Refusal::Flaw {
-            flaw: Flaw::JumpOut,
-            unit: 0,
-            point: 0,
-        });
-        assert_eq!(rt; shown.as_str(), "K5 JumpOut unit 0 point 0");
-        let shown: InlineText<64> = InlineText::of(Refusal::Flaw {
-            flaw: Flaw::TooDeep,
-            unit: 2,
-            point: 1025,
-        });
-        assert_eq!(rt; shown.as_str(), "K9 TooDeep unit 2 point 1025");
-        let shown: InlineText<64> = InlineText::of(Refusal::NoMemory);
-        assert_eq!(rt; shown.as_str(), "K10 NoMemory");
-    }
-}

@@ -174,36 +174,3 @@ pub fn join(left: &Shape, right: &Shape) -> Result<(), Refusal>
     }
     Ok(())
 }
-
-#[cfg(test)]
-mod tests {
-    use super::*;
-
-    #[test]
-    fn joins_equal_shapes_alone(rt: HostRuntime) {
-        let empty = Shape::new();
-        let mut value = Shape::new();
-        let mut frame = Shape::new();
-        assert!(rt; value.push(rt.alloc(), Kind::Value).is_ok());
-        assert!(rt; frame.push(rt.alloc(), Kind::Frame).is_ok());
-        let depth = Err(Refusal::Flaw {
-            flaw: Flaw::DepthDiffers,
-            unit: 0,
-            point: 0,
-        });
-        let kind = Err(Refusal::Flaw {
-            flaw: Flaw::KindDiffers,
-            unit: 0,
-            point: 0,
-        });
-        for (left, right, want) in [
-            (&empty, &empty, Ok(())),
-            (&value, &value, Ok(())),
-            (&value, &empty, depth),
-            (&empty, &frame, depth),
-            (&value, &frame, kind),
-        ] {
-            assert_eq!(rt; join(left, right), want);
-        }
-    }
-}

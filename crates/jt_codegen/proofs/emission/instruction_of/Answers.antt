@@ -1,9 +1,8 @@
-use Rattle.std.proofs.Common.{◌≡◌, ◌/◌, ◌<◌, ◌≤◌, ◌^◌, sym, ap, ◌∙◌, subst, arith, rules}
+use Rattle.std.proofs.Common.{sym, ap, ◌∙◌, arith}
 use Rattle.std.proofs.lemmas.Result.{err_from_is_err_and}
 use Rattle.jt_image.specs.declared.instruction.Instruction.TheVariants as op
-use Rattle.jt_image.specs.IsCode.{IsInstruction}
 use Rattle.jt_scopes.specs.View.{maker_view}
-use Rattle.jt_codegen.specs.Lower.{half, maker}
+use Rattle.jt_codegen.specs.Lower.{maker}
 use Rattle.jt_codegen.proofs.Choosing.{halved}
 use Rattle.jt_codegen.proofs.emission.instruction_of.Goals as goal
 

@@ -1,6 +1,5 @@
-use Rattle.std.proofs.Common.{◌≡◌, ◌+◌, ◌&&◌, true, false, drop, refl, sym, ap, ◌∙◌, arith, rules}
+use Rattle.std.proofs.Common.{◌+◌, drop, sym, ap, ◌∙◌, rules}
 use Rattle.std.specs.Prelude.{nat_le}
-use Rattle.std.proofs.lemmas.List.{at_drop_all}
 use Rattle.jt_scopes.specs.Slots.{none}
 use Rattle.jt_scopes.specs.Size.{expr_height, row_height}
 use Rattle.jt_scopes.specs.View.{expr_view, row_view}

@@ -1,9 +1,6 @@
 //! Rows of expressions, with their trees or their refusals.
 
-use crate::error::ExprError;
-use crate::named::check_names;
-use crate::tag::expression;
-use crate::tree::{Expr, Literal};
+use jt_expr::{Expr, ExprError, Literal, check_names, expression};
 use jt_scan::{Options, Segment, Source, Token, scan};
 use std::alloc::{AllocError, Global};
 use std::test::Fail;
@@ -195,6 +192,7 @@ fn no_expressions(rt: HostRuntime) -> Result<(), Fail> {
         ("{{ a is whole }}", " P4 UnknownTest"),
         ("{{ 1|abs }}", " P3 UnknownFilter"),
         ("{{ (a|f) is whole }}", " P3 UnknownFilter"),
+        ("{{ a is whole or b|f }}", " P3 UnknownFilter"),
     ];
     for (text, want) in rows {
         assert_eq!(rt; told(rt.alloc(), text)?.as_str(), want, "{text}");

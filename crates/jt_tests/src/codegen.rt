@@ -3,8 +3,7 @@
 ghost use Rattle.std.specs.Prelude.{bytes_eq, option_map};
 ghost use Rattle.std.specs.List.{find};
 
-use crate::compiling::compile;
-use crate::error::CompileError;
+use jt_codegen::{CompileError, compile};
 use jt_image::{Code, ConstantRef, Image, Instruction};
 use jt_inherit::Library;
 use jt_scan::Options;

@@ -1,7 +1,9 @@
-//! Small images, accepted and refused.
-use super::*;
-use jt_image::{Code, Constant, Flaw, Image, Instr, Parts, Unit, assemble, decode};
+//! Small images, accepted and refused, and shapes joined.
+
+use jt_image::{Code, Constant, Flaw, Image, Instr, Kind, Parts, Unit, assemble, decode};
+use jt_verify::{Refusal, Shape, join, verify, verify_code};
 use std::alloc::{AllocError, Global};
+use std::fmt::InlineText;
 use std::test::*;
 
 // An opcode and its field c.
@@ -259,4 +261,50 @@ fn what_is_made_is_counted(rt: HostRuntime) -> Result<(), Fail> {
         assert_eq!(rt; refusal_of(rt.alloc(), image), want);
     }
     Ok(())
+}
+
+#[test]
+fn joins_equal_shapes_alone(rt: HostRuntime) {
+    let empty = Shape::new();
+    let mut value = Shape::new();
+    let mut frame = Shape::new();
+    assert!(rt; value.push(rt.alloc(), Kind::Value).is_ok());
+    assert!(rt; frame.push(rt.alloc(), Kind::Frame).is_ok());
+    let depth = Err(Refusal::Flaw {
+        flaw: Flaw::DepthDiffers,
+        unit: 0,
+        point: 0,
+    });
+    let kind = Err(Refusal::Flaw {
+        flaw: Flaw::KindDiffers,
+        unit: 0,
+        point: 0,
+    });
+    for (left, right, want) in [
+        (&empty, &empty, Ok(())),
+        (&value, &value, Ok(())),
+        (&value, &empty, depth),
+        (&empty, &frame, depth),
+        (&value, &frame, kind),
+    ] {
+        assert_eq!(rt; join(left, right), want);
+    }
+}
+
+#[test]
+fn shows_its_name_and_place(rt: HostRuntime) {
+    let shown: InlineText<64> = InlineText::of(Refusal::Flaw {
+        flaw: Flaw::JumpOut,
+        unit: 0,
+        point: 0,
+    });
+    assert_eq!(rt; shown.as_str(), "K5 JumpOut unit 0 point 0");
+    let shown: InlineText<64> = InlineText::of(Refusal::Flaw {
+        flaw: Flaw::TooDeep,
+        unit: 2,
+        point: 1025,
+    });
+    assert_eq!(rt; shown.as_str(), "K9 TooDeep unit 2 point 1025");
+    let shown: InlineText<64> = InlineText::of(Refusal::NoMemory);
+    assert_eq!(rt; shown.as_str(), "K10 NoMemory");
 }

@@ -2,11 +2,9 @@
 
 ghost use Rattle.std.specs.Prelude.{Some};
 
-use crate::error::ScopeError;
-use crate::program::{Maker, SExpr, SStmt};
-use crate::resolving::resolve;
 use jt_inherit::{Chain, Library, chain};
 use jt_scan::Options;
+use jt_scopes::{Maker, SExpr, SStmt, ScopeError, resolve};
 use jt_value::Value;
 use std::alloc::{AllocError, Global};
 use std::test::Fail;

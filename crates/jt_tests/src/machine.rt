@@ -1,10 +1,9 @@
 //! Runs of small images.
 
-use crate::maps::map_of;
-use crate::{Outcome, run};
 use jt_budget::Budget;
 use jt_image::{Constant, Image, Instr, Parts, Unit, assemble, decode};
-use jt_value::{Context, Fault, Value, ValueError};
+use jt_machine::{Outcome, run};
+use jt_value::{Context, Value};
 use jt_verify::verify;
 use std::alloc::Global;
 use std::test::Fail;
@@ -368,6 +367,21 @@ fn lists_and_maps(rt: HostRuntime) -> Result<(), Fail> {
         constant(5),
         ITEM,
     ];
+    let doubled: &[Fields] = &[
+        constant(5),
+        constant(1),
+        constant(6),
+        constant(2),
+        constant(5),
+        constant(3),
+        map_with(3),
+        constant(6),
+        constant(2),
+        constant(5),
+        constant(3),
+        map_with(2),
+        EQUAL,
+    ];
     let number: &[Fields] = &[constant(1), constant(1), map_with(1)];
     let undefined: &[Fields] = &[
         constant(1),
@@ -380,6 +394,7 @@ fn lists_and_maps(rt: HostRuntime) -> Result<(), Fail> {
     for (instructions, wanted) in [
         (first, "text 3"),
         (later, "text 3"),
+        (doubled, "text True"),
         (number, "fault BadType"),
         (undefined, "fault Undefined"),
         (none, "text False"),
@@ -433,32 +448,5 @@ fn what_is_made_is_within_the_limits(rt: HostRuntime) -> Result<(), Fail> {
         };
         assert_eq!(rt; printed(alloc, instructions, budget)?.as_str(), wanted);
     }
-    Ok(())
-}
-
-#[test]
-fn a_doubled_key_keeps_its_place(rt: HostRuntime) -> Result<(), Fail> {
-    let alloc = rt.alloc();
-    let values = vec![in alloc;
-        text_of(alloc, "a", false)?,
-        Value::Int(1),
-        text_of(alloc, "b", true)?,
-        Value::Int(2),
-        text_of(alloc, "a", true)?,
-        Value::Int(3),
-    ]?;
-    let Ok(Value::Map(entries)) = map_of(alloc, values) else {
-        return Err(Fail::from("map"));
-    };
-    assert_eq!(rt; entries.len(), 2);
-    for ((key, value), (wanted, number)) in entries.iter().zip([("a", 3), ("b", 2)]) {
-        assert_eq!(rt; key.as_str(), wanted);
-        assert!(rt; value.equals(&Value::Int(number)));
-    }
-    let keys = vec![in alloc; Value::None, Value::None, Value::Undefined, Value::None]?;
-    assert_eq!(rt;
-        map_of(alloc, keys).err(),
-        Some(ValueError::Fault(Fault::Undefined))
-    );
     Ok(())
 }

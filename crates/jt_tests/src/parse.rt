@@ -1,8 +1,7 @@
 //! Rows of sources, with their trees or their refusals.
 
-use crate::parser::parse;
-use crate::tree::Stmt;
 use jt_expr::{Expr, Literal};
+use jt_parse::{Stmt, parse};
 use jt_scan::{Options, Source, scan};
 use std::alloc::{AllocError, Global};
 use std::test::Fail;
@@ -96,6 +95,14 @@ fn sources_are_parsed(rt: HostRuntime) -> Result<(), Fail> {
         ("{{ 007 }}", "P1 Syntax: Syntax { line: 1 }"),
         ("{{ 1 is nope }}", "P4 UnknownTest: UnknownTest { line: 1 }"),
         ("{{ 1|abs }}", "P3 UnknownFilter: UnknownFilter { line: 1 }"),
+        (
+            "{{ a is nope or 1|abs }}{{ 2|abs }}",
+            "P3 UnknownFilter: UnknownFilter { line: 1 }",
+        ),
+        (
+            "{{ a is nope }}\n{{ 1|abs }}",
+            "P4 UnknownTest: UnknownTest { line: 1 }",
+        ),
         (
             "{% if a %}{{ b }}{% else %}{{ c }}\n{{ d is nope }}{% endif %}{{ 1|abs }}",
             "P4 UnknownTest: UnknownTest { line: 2 }",

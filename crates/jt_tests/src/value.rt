@@ -1,5 +1,6 @@
 //! Rows from the language's rules, and each call that allocates with ample memory.
-use crate::{Context, Fault, NoMemory, Value, ValueError};
+
+use jt_value::{Context, Fault, NoMemory, Value, ValueError};
 use std::alloc::{AllocError, Global};
 use std::cmp::Ordering;
 use std::test::Fail;

@@ -1,11 +1,6 @@
 //! Rows of sources, with their segments or their refusal.
 
-use crate::error::ScanError;
-use crate::options::Options;
-use crate::quotes::text_value;
-use crate::scanner::scan;
-use crate::segment::{Kind, Segment, Token};
-use crate::source::{MAX_SOURCE_LEN, Source};
+use jt_scan::{Kind, MAX_SOURCE_LEN, Options, ScanError, Segment, Source, Token, scan, text_value};
 use std::alloc::{AllocError, Global};
 use std::test::Fail;
 

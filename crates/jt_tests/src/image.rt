@@ -1,5 +1,6 @@
 //! The image of 44 bytes that prints `x`, whole and damaged.
-use super::*;
+
+use jt_image::*;
 use std::alloc::Global;
 use std::test::*;
 

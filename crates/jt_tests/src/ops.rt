@@ -1,6 +1,6 @@
 //! Rows of the operators, the tests and `range`, each with ample memory.
 
-use crate::{Limits, OpError, OpId, TestId, binary, range, test, unary};
+use jt_ops::{Limits, OpError, OpId, TestId, binary, range, test, unary};
 use jt_value::Value;
 use std::alloc::{AllocError, Global};
 

@@ -3,10 +3,8 @@
 ghost use Rattle.std.specs.Prelude.{bytes_eq, option_map};
 ghost use Rattle.std.specs.List.{find};
 
-use crate::chaining::chain;
-use crate::error::ChainError;
-use crate::library::Library;
 use jt_expr::Expr;
+use jt_inherit::{ChainError, Library, chain};
 use jt_parse::{ParseError, Stmt};
 use jt_scan::{MAX_SOURCE_LEN, Options, ScanError};
 use std::alloc::{AllocError, Global};
