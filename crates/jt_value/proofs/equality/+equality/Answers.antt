@@ -1,9 +1,11 @@
 use Rattle.std.proofs.Common.{◌≡◌, ◌≢◌, ◌<◌, true, false, List, length, get_or, sym, ap, ◌∙◌, true≢false, arith, string_bytes}
 use Rattle.jt_value.specs.Entries.{entry_of, has_key, all_keys}
-use Rattle.jt_value.specs.Equality.{equal_at}
+use Rattle.jt_value.specs.Tree as tree
+use Rattle.jt_value.specs.Tree.{Tree}
+use Rattle.jt_value.specs.Equality.{equal, equal_at}
 use Rattle.jt_value.specs.View.{view, entries_view}
 use Rattle.jt_value.proofs.Equalities.{items_differ, passes, fails, equal_at-first, equal_at-same, seen, found, told_same, and_known, same_keys-all, same_length}
-use Rattle.jt_value.proofs.Lists.{Pair}
+use Rattle.jt_value.proofs.Lists.{Pair, view-Map}
 use Rattle.jt_value.proofs.equality.+equality.Goals as goal
 use Rattle.jt_value.proofs.equality.+equality.Goals.{are_first_values_equal-else-counts-via-then-counts+else-not-is_first_value, are_first_values_equal-else-counts-via-else-counts, are_values_equal_in_place-else-not-are_equal-via-then-not-are_equal+else-not-has, are_values_equal_in_place-else-not-are_equal-via-else-not-are_equal}
 
@@ -92,3 +94,11 @@ are_values_equal_in_place-loop-key-preserved t c =
                 equal_at-same xs ys i e f c.loop-key.invariant.same_keys lt is at new ∙ sym w.if-not-are_equal.ensures
           ]);
     }
+
+pub are_equal-returns-in-Map-right : goal.are_equal-returns-in-Map-right
+are_equal-returns-in-Map-right t c =
+    let l : view c.args.left.now ≡ tree.map (entries_view c.in-Map.entries.value.items) = ap view c.in-Map.is ∙ view-Map c.in-Map.entries in
+    let r : view c.args.right.now ≡ tree.map (entries_view c.in-Map-right.others.value.items) = ap view c.in-Map-right.is ∙ view-Map c.in-Map-right.others in
+    let m = ap (λ v. tree.map (entries_view v.items)) c.deref-in-Map-right.ensures in
+    let n = ap (λ v. tree.map (entries_view v.items)) c.deref-in-Map-right-2.ensures in
+    rw (l, r) (c.are_maps_equal.ensures ∙ ap (λ (u : Tree). equal u (tree.map (entries_view c.deref-in-Map-right-2.result.now.items))) m ∙ ap (equal (tree.map (entries_view c.in-Map.entries.value.items))) n)
