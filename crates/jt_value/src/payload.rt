@@ -1,111 +1,151 @@
-//! What texts, lists and maps are made of, and what they hold.
-ghost use Rattle.std.specs.Prelude.{◌≡◌, IfOk, option_map, string_bytes};
-ghost use Rattle.jt_value.specs.Payload.{text_of, items_of_list, entries_of_map};
-ghost use Rattle.jt_value.specs.Tree as tree;
+//! What lists and maps are made of: their items and entries, with the size and the nesting that these give them.
+ghost use Rattle.std.specs.Prelude.{◌≡◌, ◌+◌, ◌-◌, ◌^◌, min};
+ghost use Rattle.jt_value.specs.Tree.{items_size, items_nesting, entries_size, entries_nesting};
 ghost use Rattle.jt_value.specs.View.{view, items_view, entries_view};
 
-use crate::fault::NoMemory;
 use crate::value::Value;
-use indexmap::IndexMap;
-use std::alloc::Global;
-use std::rc::{Rc, RcStr};
+use std::marker::Model;
 
-impl Value {
-    /// A plain text.
-    ///
-    /// # Errors
-    ///
-    /// `NoMemory` where a growth was refused.
-    pub fn text(alloc: Global, text: &str) -> Result<Value, NoMemory>
-        ensures { IfOk result (λ v. view v ≡ tree.text text.now) }
-    {
-        Ok(Value::Text(RcStr::from_str(alloc, text)?))
-    }
+/// The items of a list, and what the list's size and nesting are by them.
+#[cycle(value)]
+#[derive(Drop)]
+pub struct ValueList {
+    items: Vec<Value>,
+    size: u64,
+    nesting: u32,
+}
 
-    /// A text that is safe to print as it is.
-    ///
-    /// # Errors
-    ///
-    /// `NoMemory` where a growth was refused.
-    pub fn markup(alloc: Global, text: &str) -> Result<Value, NoMemory>
-        ensures { IfOk result (λ v. view v ≡ tree.markup text.now) }
-    {
-        Ok(Value::Markup(RcStr::from_str(alloc, text)?))
-    }
+/// The entries of a map, and what the map's size and nesting are by them.
+#[cycle(value)]
+#[derive(Drop)]
+pub struct ValueMap {
+    entries: Vec<(String, Value)>,
+    size: u64,
+    nesting: u32,
+}
 
-    /// A plain text of a string that is not copied.
-    ///
-    /// # Errors
-    ///
-    /// `NoMemory` where a growth was refused. The string is then dropped.
-    pub fn from_text(text: String) -> Result<Value, NoMemory>
-        ensures { IfOk result (λ v. view v ≡ tree.text (string_bytes text)) }
-    {
-        Ok(Value::Text(RcStr::from_string(text)?))
-    }
+impl Model for ValueList {
+    ghost use Rattle.std.proofs.Common.{arith};
+    ghost use Rattle.jt_value.specs.Tree.{Items, items_size};
+    ghost use Rattle.jt_value.specs.TreeCode.{coded_items};
 
-    /// A text that is safe to print as it is, of a string that is not copied.
-    ///
-    /// # Errors
-    ///
-    /// `NoMemory` where a growth was refused. The string is then dropped.
-    pub fn from_markup(text: String) -> Result<Value, NoMemory>
-        ensures { IfOk result (λ v. view v ≡ tree.markup (string_bytes text)) }
-    {
-        Ok(Value::Markup(RcStr::from_string(text)?))
-    }
+    ghost Value = { Items };
 
-    /// A list of items that are not copied.
-    ///
-    /// # Errors
-    ///
-    /// `NoMemory` where a growth was refused. The items are then dropped.
-    pub fn list(alloc: Global, items: Vec<Value>) -> Result<Value, NoMemory>
-        ensures { IfOk result (λ v. view v ≡ tree.list (items_view items.items)) }
-    {
-        Ok(Value::List(Rc::new(alloc, items)?))
-    }
+    ghost coded = { coded_items };
 
-    /// A map of entries that are not copied, in their order.
-    ///
-    /// # Errors
-    ///
-    /// `NoMemory` where a growth was refused. The entries are then dropped.
-    pub fn map(alloc: Global, entries: IndexMap<String, Value>) -> Result<Value, NoMemory>
-        ensures { IfOk result (λ v. view v ≡ tree.map (entries_view entries.entries)) }
-    {
-        let pairs = entries.into_iter().collect(alloc)?;
-        Ok(Value::Map(Rc::new(alloc, pairs)?))
-    }
+    ghost use Rattle.jt_value.specs.Measured.{list_view, IsMeasuredList};
 
-    /// The characters of a text, markup or not.
-    pub fn as_text(&self) -> Option<&str>
-        ensures { option_map (λ s. s.now) result ≡ text_of (view self.now) }
+    ghost view = { list_view };
+
+    ghost invariant = { IsMeasuredList };
+
+    ghost size = { items_size };
+
+    ghost use Rattle.jt_value.specs.Falls.{most-items};
+
+    ghost size_decreases = { λ a h. omega (arith, most-items a.items.items) };
+}
+
+impl Model for ValueMap {
+    ghost use Rattle.jt_value.specs.Tree.{Entries, entries_size};
+    ghost use Rattle.jt_value.specs.TreeCode.{coded_entries};
+
+    ghost Value = { Entries };
+
+    ghost coded = { coded_entries };
+
+    ghost use Rattle.jt_value.specs.Measured.{map_view, IsMeasuredMap};
+
+    ghost view = { map_view };
+
+    ghost invariant = { IsMeasuredMap };
+
+    ghost size = { entries_size };
+
+    ghost use Rattle.jt_value.specs.Falls.{most-entries};
+
+    ghost size_decreases = { λ a h. most-entries a.entries.items };
+}
+
+impl ValueList {
+    /// A list of items.
+    pub(crate) fn new(items: Vec<Value>) -> ValueList
+        ensures { result ≡ items_view items.items }
     {
-        match self {
-            Value::Text(text) => Some(text.as_str()),
-            Value::Markup(text) => Some(text.as_str()),
-            _ => None,
+        let mut size = 1u64;
+        let mut nesting = 0u32;
+        for item in &items {
+            size = size.saturating_add(item.size());
+            nesting = nesting.max(item.nesting());
+        }
+        ValueList {
+            items,
+            size,
+            nesting: nesting.saturating_add(1),
         }
     }
 
-    /// The items of a list.
-    pub fn as_list(&self) -> Option<&[Value]>
-        ensures { option_map (λ s. items_view s.now) result ≡ items_of_list (view self.now) }
+    /// The items.
+    pub(crate) fn items(&self) -> &[Value]
+        ensures { items_view result.now ≡ self.now }
     {
-        match self {
-            Value::List(items) => Some(items.as_slice()),
-            _ => None,
+        self.items.as_slice()
+    }
+
+    /// The list's size, or the greatest number where it is greater.
+    pub(crate) fn size(&self) -> u64
+        ensures { result ≡ min (1 + items_size self.now) (2 ^ 64 - 1) }
+    {
+        self.size
+    }
+
+    /// The list's nesting, or the greatest number where it is greater.
+    pub(crate) fn nesting(&self) -> u32
+        ensures { result ≡ min (1 + items_nesting self.now) (2 ^ 32 - 1) }
+    {
+        self.nesting
+    }
+}
+
+impl ValueMap {
+    /// A map of entries.
+    pub(crate) fn new(entries: Vec<(String, Value)>) -> ValueMap
+        ensures { result ≡ entries_view entries.items }
+    {
+        let mut size = 1u64;
+        let mut nesting = 0u32;
+        for (key, value) in &entries {
+            size = size
+                .saturating_add(1)
+                .saturating_add(key.len() as u64)
+                .saturating_add(value.size());
+            nesting = nesting.max(value.nesting());
+        }
+        ValueMap {
+            entries,
+            size,
+            nesting: nesting.saturating_add(1),
         }
     }
 
-    /// The entries of a map.
-    pub fn as_map(&self) -> Option<&[(String, Value)]>
-        ensures { option_map (λ s. entries_view s.now) result ≡ entries_of_map (view self.now) }
+    /// The entries.
+    pub(crate) fn entries(&self) -> &[(String, Value)]
+        ensures { entries_view result.now ≡ self.now }
     {
-        match self {
-            Value::Map(entries) => Some(entries.as_slice()),
-            _ => None,
-        }
+        self.entries.as_slice()
+    }
+
+    /// The map's size, or the greatest number where it is greater.
+    pub(crate) fn size(&self) -> u64
+        ensures { result ≡ min (1 + entries_size self.now) (2 ^ 64 - 1) }
+    {
+        self.size
+    }
+
+    /// The map's nesting, or the greatest number where it is greater.
+    pub(crate) fn nesting(&self) -> u32
+        ensures { result ≡ min (1 + entries_nesting self.now) (2 ^ 32 - 1) }
+    {
+        self.nesting
     }
 }
