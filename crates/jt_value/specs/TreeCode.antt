@@ -1,5 +1,5 @@
 -- A code of trees: a tree written as a row of tokens, and read back with a stack of entries.
-use Rattle.std.specs.Prelude.{◌≡◌, ℕ, zero, suc, ℤ, pos, Bool, true, false, List, [], ◌∷◌, ◌++◌, refl}
+use Rattle.std.specs.Prelude.{◌≡◌, ℕ, zero, suc, ℤ, pos, true, false, List, [], ◌∷◌, ◌++◌, refl}
 use Rattle.std.proofs.Common.{ap, ◌∙◌}
 use Rattle.std.specs.Coded.{Coded, code_by, coded×, coded_list, coded_ℕ, coded_ℤ}
 use Rattle.jt_value.specs.Tree.{Tree, undefined, nothing, truth_value, number, text, markup, list, map, Items, no_items, item, Entries, no_entries, entry}

@@ -1,9 +1,11 @@
 //! What lists and maps are made of: their items and entries, with the size and the nesting that these give them.
-ghost use Rattle.std.specs.Prelude.{◌≡◌, ◌+◌, ◌-◌, ◌^◌, min};
+ghost use Rattle.std.specs.Prelude.{◌≡◌, ◌+◌, ◌-◌, ◌^◌, min, OnOk, OnErr};
 ghost use Rattle.jt_value.specs.Tree.{items_size, items_nesting, entries_size, entries_nesting};
+ghost use Rattle.jt_value.specs.Payload.{more_items, joined_items};
 ghost use Rattle.jt_value.specs.View.{view, items_view, entries_view};
 
 use crate::value::Value;
+use std::alloc::AllocError;
 use std::marker::Model;
 
 /// The items of a list, and what the list's size and nesting are by them.
@@ -85,6 +87,30 @@ impl ValueList {
         }
     }
 
+    /// Puts an item behind the others. Where memory is refused nothing changes.
+    pub fn push(&mut self, item: Value) -> Result<(), AllocError>
+        ensures ok { OnOk result (self.new ≡ more_items self.old (view item)) }
+        ensures err { OnErr result (self.new ≡ self.old) }
+    {
+        let size = self.size.saturating_add(item.size());
+        let nesting = self.nesting.max(item.nesting().saturating_add(1));
+        self.items.push(item)?;
+        self.size = size;
+        self.nesting = nesting;
+        Ok(())
+    }
+
+    /// Puts copies of items behind the others. A refusal leaves some of them there.
+    pub fn append(&mut self, more: &[Value]) -> Result<(), AllocError>
+        ensures { OnOk result (self.new ≡ joined_items self.old (items_view more.now)) }
+    {
+        self.items.reserve(more.len())?;
+        for item in more {
+            self.push(item.clone()?)?;
+        }
+        Ok(())
+    }
+
     /// The items.
     pub(crate) fn items(&self) -> &[Value]
         ensures { items_view result.now ≡ self.now }
@@ -104,6 +130,18 @@ impl ValueList {
         ensures { result ≡ min (1 + items_nesting self.now) (2 ^ 32 - 1) }
     {
         self.nesting
+    }
+}
+
+impl Clone for ValueList {
+    ghost is_clone = { λ list copy. copy ≡ list };
+
+    fn clone(&self) -> Result<ValueList, AllocError> {
+        Ok(ValueList {
+            items: self.items.clone()?,
+            size: self.size,
+            nesting: self.nesting,
+        })
     }
 }
 

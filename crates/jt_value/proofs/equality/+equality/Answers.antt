@@ -1,4 +1,4 @@
-use Rattle.std.proofs.Common.{◌≡◌, ◌≢◌, ◌<◌, true, false, List, length, get_or, refl, sym, ap, ◌∙◌, true≢false, arith, string_bytes}
+use Rattle.std.proofs.Common.{◌≡◌, ◌≢◌, ◌<◌, true, false, length, get_or, sym, ap, ◌∙◌, true≢false, arith, string_bytes}
 use Rattle.jt_value.specs.Entries.{entry_of, has_key, all_keys}
 use Rattle.jt_value.specs.Equality.{equal, equal_at}
 use Rattle.jt_value.specs.Falls.{sizes-items, sizes-entries}
