@@ -28,14 +28,14 @@ pub fn join_plain(alloc: Global, items: &[Value], separator: &Value) -> Result<V
     ensures { IsAnswer (joined_plain (items_view items.now) (view separator.now)) result }
 {
     let text = join_text(alloc, items, separator, false)?;
-    Ok(Value::Text(text))
+    Ok(Value::from_text(text)?)
 }
 
 fn join_as_markup(alloc: Global, items: &[Value], separator: &Value) -> Result<Value, ValueError>
     ensures { IsAnswer (joined_as_markup (items_view items.now) (view separator.now)) result }
 {
     let text = join_text(alloc, items, separator, true)?;
-    Ok(Value::Markup(text))
+    Ok(Value::from_markup(text)?)
 }
 
 fn is_markup(value: &Value) -> bool

@@ -24,12 +24,12 @@ pub(crate) enum Kind {
 
 impl Kind {
     /// The value of a text.
-    fn value(self, text: String) -> Value
-        ensures { view result ≡ of_kind self (string_bytes text) }
+    fn value(self, text: String) -> Result<Value, NoMemory>
+        ensures { IfOk result (λ v. view v ≡ of_kind self (string_bytes text)) }
     {
         match self {
-            Kind::Plain => Value::Text(text),
-            Kind::Markup => Value::Markup(text),
+            Kind::Plain => Value::from_text(text),
+            Kind::Markup => Value::from_markup(text),
         }
     }
 }
