@@ -17,7 +17,7 @@ mod text;
 
 pub use limits::{Limits, OpError};
 pub use op_id::OpId;
-pub use operators::{binary, unary};
+pub use operators::{binary, binary_owned, unary};
 pub use ranges::range;
 pub use test_id::TestId;
 pub use testing::test;

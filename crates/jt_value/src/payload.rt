@@ -112,21 +112,21 @@ impl ValueList {
     }
 
     /// The items.
-    pub(crate) fn items(&self) -> &[Value]
+    pub fn items(&self) -> &[Value]
         ensures { items_view result.now ≡ self.now }
     {
         self.items.as_slice()
     }
 
     /// The list's size, or the greatest number where it is greater.
-    pub(crate) fn size(&self) -> u64
+    pub fn size(&self) -> u64
         ensures { result ≡ min (1 + items_size self.now) (2 ^ 64 - 1) }
     {
         self.size
     }
 
     /// The list's nesting, or the greatest number where it is greater.
-    pub(crate) fn nesting(&self) -> u32
+    pub fn nesting(&self) -> u32
         ensures { result ≡ min (1 + items_nesting self.now) (2 ^ 32 - 1) }
     {
         self.nesting
@@ -167,21 +167,21 @@ impl ValueMap {
     }
 
     /// The entries.
-    pub(crate) fn entries(&self) -> &[(String, Value)]
+    pub fn entries(&self) -> &[(String, Value)]
         ensures { entries_view result.now ≡ self.now }
     {
         self.entries.as_slice()
     }
 
     /// The map's size, or the greatest number where it is greater.
-    pub(crate) fn size(&self) -> u64
+    pub fn size(&self) -> u64
         ensures { result ≡ min (1 + entries_size self.now) (2 ^ 64 - 1) }
     {
         self.size
     }
 
     /// The map's nesting, or the greatest number where it is greater.
-    pub(crate) fn nesting(&self) -> u32
+    pub fn nesting(&self) -> u32
         ensures { result ≡ min (1 + entries_nesting self.now) (2 ^ 32 - 1) }
     {
         self.nesting
