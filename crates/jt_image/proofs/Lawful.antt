@@ -15,6 +15,7 @@ use Rattle.jt_image.proofs.Safe.{kinds_of, AreSized, IsFit, IsGood, IsFineStep, 
 use Rattle.jt_image.proofs.Runs.{start_good, good_after, safe}
 use Rattle.jt_image.proofs.Free.{IsMeant, outcome_of, only_fuel, enough_run, run_erased, same_exec}
 use Rattle.jt_image.proofs.Assembled.{spelled_len}
+use Rattle.jt_image.proofs.WeakJoin.{kinds}
 
 sizes : (n : ℕ) (es : List Entry) → AreSized n es → AllByRecursion (λ e. entry_size e ≤ n) es
 sizes n [] h = tt
@@ -53,4 +54,4 @@ module _ (k : Code) (whole : IsCode k) (typed : IsTyped k) where
   }
 
 pub lawful : CodeLaws
-lawful = record { runs = runs; spelled = spelled_len }
+lawful = record { runs = runs; needs_kinds = kinds; spelled = spelled_len }
