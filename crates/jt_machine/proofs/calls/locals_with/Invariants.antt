@@ -6,4 +6,4 @@ use Rattle.jt_machine.specs.View.{values_view}
 use Rattle.jt_machine.proofs.calls.locals_with.Given as goal
 
 abbrev pub invariant-values : goal.invariant-values
-invariant-values l = values_view l.values.items ≡ values_view l.arguments.items ++ replicate l.counter tree.undefined
+invariant-values l = values_view l.values.items ≡ values_view l.fn.arguments.items ++ replicate l.counter tree.undefined
