@@ -71,6 +71,7 @@ pub(crate) fn step_on(state: &mut State) -> Result<Option<Outcome>, NoMemory>
 pub(crate) fn pay(state: &mut State, cost: u64) -> Option<Outcome>
     ensures rest { (go : Config → Next) → pays cost (config_view state.old) go ≡ continues result state.new go }
     ensures same { state.new ≡ record state.old { left = state.new.left } }
+    ensures depth { state.new.left.depth ≡ state.old.left.depth }
 {
     match state.left.charge(cost) {
         Ok(()) => None,
