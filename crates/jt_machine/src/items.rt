@@ -1,6 +1,7 @@
 //! The items that a value gives.
 ghost use Rattle.std.specs.Prelude.{◌≡◌, IfOk, encode_utf8, string_bytes};
 ghost use Rattle.std.specs.Str.{chars};
+ghost use Rattle.jt_value.specs.Tree as tree;
 ghost use Rattle.jt_value.specs.Iteration.{character_items, key_items, items_of_tree};
 ghost use Rattle.jt_value.specs.View.{view, items_view, entries_view};
 ghost use Rattle.jt_machine.specs.Iterating.{AreItems};
@@ -33,13 +34,20 @@ pub(crate) fn items_of(alloc: Global, value: Value) -> Result<Vec<Value>, ValueE
     }
 }
 
+// A text as a value.
+fn text_value(alloc: Global, text: &str) -> Result<Value, NoMemory>
+    ensures { IfOk result (λ v. view v ≡ tree.text text.now) }
+{
+    Ok(Value::Text(String::from_str(alloc, text)?))
+}
+
 // The keys of a map as texts.
 fn keys(alloc: Global, entries: Vec<(String, Value)>) -> Result<Vec<Value>, NoMemory>
     ensures { IfOk result (λ vs. items_view vs.items ≡ key_items (entries_view entries.items)) }
 {
     let mut keys = Vec::new(alloc);
     'entries: for entry in &entries {
-        keys.push(Value::Text(entry.0.clone()?))?;
+        keys.push(text_value(alloc, entry.0.as_str())?)?;
     }
     Ok(keys)
 }

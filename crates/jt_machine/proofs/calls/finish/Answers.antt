@@ -1,4 +1,4 @@
-use Rattle.std.proofs.Common.{◌≡◌, ◌∙◌, ℕ, [], ◌∷◌, ap, sym, refl, length, arith}
+use Rattle.std.proofs.Common.{◌≡◌, ◌∙◌, [], ◌∷◌, ap, sym, refl, length, arith}
 use Rattle.std.specs.Prelude.{string_bytes}
 use Rattle.jt_image.specs.Config.{text}
 use Rattle.jt_image.specs.Run.{Ends}

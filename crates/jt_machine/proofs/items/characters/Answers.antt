@@ -1,9 +1,9 @@
-use Rattle.std.proofs.Common.{◌≡◌, ◌∙◌, ◌+◌, ◌++◌, ◌∷◌, [], ℕ, List, length, map, take, sym, ap, arith}
+use Rattle.std.proofs.Common.{◌≡◌, ◌∙◌, ◌+◌, ◌++◌, ◌∷◌, [], length, map, ap, arith}
 use Rattle.std.proofs.lemmas.Iterator.{YieldsList-from_chars}
 use Rattle.std.proofs.lemmas.Iterator.Consumers.{YieldsList-turn, YieldsList-end}
 use Rattle.std.proofs.lemmas.List.{take_all, length_push}
 use Rattle.std.specs.Str.{chars}
-use Rattle.jt_value.specs.Tree.{Tree, text}
+use Rattle.jt_value.specs.Tree.{text}
 use Rattle.jt_value.specs.declared.value.Value.{Text as TextOf}
 use Rattle.jt_value.specs.View.{view, items_of}
 use Rattle.jt_machine.proofs.Steps.{mapped-more, character_of, characters-are, view-Text}

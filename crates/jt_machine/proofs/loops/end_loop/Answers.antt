@@ -1,5 +1,5 @@
-use Rattle.std.proofs.Common.{◌≡◌, eqb, sym, ap}
-use Rattle.jt_value.specs.Tree.{Tree, truth_value}
+use Rattle.std.proofs.Common.{◌≡◌, eqb}
+use Rattle.jt_value.specs.Tree.{truth_value}
 use Rattle.jt_machine.specs.Parts.{step_on, push, end_loop}
 use Rattle.jt_machine.specs.View.{config_view}
 use Rattle.jt_machine.proofs.loops.end_loop.Goals as goal

@@ -1,6 +1,6 @@
 use Rattle.std.proofs.Common.{◌≡◌, Some}
 use Rattle.std.specs.Prelude.{slice_get}
-use Rattle.jt_image.specs.Config.{Frame, frame}
+use Rattle.jt_image.specs.Config.{frame}
 use Rattle.jt_image.specs.Loops.{told}
 use Rattle.jt_machine.specs.Parts.{step_on, push, answering, get_field}
 use Rattle.jt_machine.specs.View.{config_view, entries_view, frame_view}

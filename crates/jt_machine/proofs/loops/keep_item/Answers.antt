@@ -1,11 +1,9 @@
-use Rattle.std.proofs.Common.{◌≡◌, ◌∙◌, ap, sym, Some}
+use Rattle.std.proofs.Common.{◌≡◌, ◌∙◌, ap}
 use Rattle.std.specs.Prelude.{slice_get}
 use Rattle.jt_value.specs.View.{view}
 use Rattle.jt_value.specs.Tree.{truth}
-use Rattle.jt_image.specs.Config.{Frame, frame}
 use Rattle.jt_machine.specs.declared.state.State.{State}
-use Rattle.jt_machine.specs.Parts.{step_on, pay, with_kept, with_state, keep_item}
-use Rattle.jt_image.specs.Step.{with_entries}
+use Rattle.jt_machine.specs.Parts.{step_on, with_kept, keep_item}
 use Rattle.jt_machine.specs.View.{config_view, entries_view}
 use Rattle.jt_machine.proofs.Steps.{framed_is, kept_next}
 use Rattle.jt_machine.proofs.loops.keep_item.Goals as goal

@@ -1,12 +1,11 @@
-use Rattle.std.proofs.Common.{◌≡◌, ◌∙◌, ◌<◌, ◌≤◌, Bool, true, false, cond, length, map, refl, sym, ap, arith, add-one}
+use Rattle.std.proofs.Common.{◌≡◌, ◌∙◌, Bool, true, false, cond, length, refl, ap, arith, add-one}
 use Rattle.std.specs.Prelude.{nat_lt}
 use Rattle.std.proofs.lemmas.Bool.Decides.{nat_tests}
 use Rattle.std.proofs.lemmas.List.{length-map}
 use Rattle.jt_value.specs.View.{view}
-use Rattle.jt_image.specs.Config as config
 use Rattle.jt_image.specs.Config.{frame}
 use Rattle.jt_image.specs.Loops.{advanced}
-use Rattle.jt_image.specs.Run.{Next, Goes}
+use Rattle.jt_image.specs.Run.{Goes}
 use Rattle.jt_machine.specs.Parts.{at_point, step_on, with_entry, next_turn}
 use Rattle.jt_machine.specs.View.{config_view, frame_view}
 use Rattle.jt_machine.proofs.loops.next_turn.Goals as goal

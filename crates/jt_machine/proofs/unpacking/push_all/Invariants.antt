@@ -1,4 +1,4 @@
-use Rattle.std.proofs.Common.{◌≡◌, length, map}
+use Rattle.std.proofs.Common.{◌≡◌, length}
 use Rattle.jt_image.specs.Step.{piled}
 use Rattle.jt_machine.specs.Making.{upward}
 use Rattle.jt_machine.specs.View.{entries_view, values_view}
