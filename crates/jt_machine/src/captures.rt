@@ -58,10 +58,7 @@ fn captured(text: String, marked: bool) -> Value
 }
 
 /// Closes the buffer that was opened last, and puts its text on top, as markup if it is to be.
-pub(crate) fn close_capture(
-    state: &mut State,
-    marked: bool,
-) -> Result<Option<Outcome>, NoMemory>
+pub(crate) fn close_capture(state: &mut State, marked: bool) -> Result<Option<Outcome>, NoMemory>
     requires not_wrong { close_next marked (config_view state.old) ≢ Wrong }
     requires room { state.old.point + 1 < 2 ^ 64 }
     ensures { IfOk result (λ r. close_next marked (config_view state.old) ≡ next_view r state.new) }

@@ -51,11 +51,7 @@ fn push_all(entries: &mut Vec<Entry>, values: Vec<Value>) -> Result<(), NoMemory
 }
 
 // Puts that many values on top and goes on, or says how the run ends.
-fn spread(
-    state: &mut State,
-    count: u32,
-    values: Vec<Value>,
-) -> Result<Option<Outcome>, NoMemory>
+fn spread(state: &mut State, count: u32, values: Vec<Value>) -> Result<Option<Outcome>, NoMemory>
     requires { state.old.point + 1 < 2 ^ 64 }
     ensures { IfOk result (λ r. spread_next count (values_view values.items) (config_view state.old) ≡ next_view r state.new) }
 {
