@@ -30,7 +30,7 @@ enum Taken {
 }
 
 // Takes that many values from the top, the deepest first.
-fn take_values(
+pub(crate) fn take_values(
     alloc: Global,
     entries: &mut Vec<Entry>,
     count: usize,

@@ -69,7 +69,7 @@ fn key_text(alloc: Global, key: &Value) -> Result<String, NoMemory>
 }
 
 // Takes the last value.
-fn pop_last(values: &mut Vec<Value>) -> Option<Value>
+pub(crate) fn pop_last(values: &mut Vec<Value>) -> Option<Value>
     ensures some { IfSome result (λ v. upward values.old.items ≡ view v ∷ upward values.new.items) }
     ensures none { IfNone result (upward values.old.items ≡ []) }
     ensures fewer { IfSome result (λ _. length values.new.items < length values.old.items) }

@@ -15,6 +15,8 @@ mod image;
 #[cfg(test)]
 mod inherit;
 #[cfg(test)]
+mod loops;
+#[cfg(test)]
 mod machine;
 #[cfg(test)]
 mod ops;

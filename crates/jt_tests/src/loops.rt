@@ -1,0 +1,272 @@
+//! Runs of small images with loops, captures and calls.
+
+use jt_budget::Budget;
+use jt_image::{Constant, Image, Instruction, LoopField, Parts, Unit, assemble, decode};
+use jt_machine::{Outcome, run};
+use jt_value::Context;
+use jt_verify::verify;
+use std::alloc::Global;
+use std::test::Fail;
+
+/// Unit 0 calls itself.
+const Z: [u8; 38] = [
+    0x4a, 0x54, 0x42, 0x43, 0x01, 0x00, 0x00, 0x00, 0x00, 0x00, 0x00, 0x00, 0x01, 0x00, 0x00, 0x00,
+    0x00, 0x00, 0x02, 0x00, 0x00, 0x00, 0x1b, 0x00, 0x00, 0x00, 0x00, 0x00, 0x00, 0x00, 0x1c, 0x00,
+    0x00, 0x00, 0x00, 0x00, 0x00, 0x00,
+];
+
+const AMPLE: Budget = Budget {
+    fuel: 1_000,
+    depth: 64,
+    output: 1_000,
+    size: 1_000,
+    nesting: 32,
+};
+
+// A unit that emits, without parameters.
+fn plain(alloc: Global, code: &[Instruction]) -> Result<Unit, Fail> {
+    unit(alloc, (0, 0, 0), code)
+}
+
+// A unit of these parameters, this kind and these locals.
+fn unit(alloc: Global, numbers: (u8, u8, u16), code: &[Instruction]) -> Result<Unit, Fail> {
+    let mut fields = Vec::new(alloc);
+    for instruction in code {
+        fields.push(instruction.wire())?;
+    }
+    Ok(Unit {
+        parameters: numbers.0,
+        kind: numbers.1,
+        locals: numbers.2,
+        code: fields,
+    })
+}
+
+// The image of these units, with the texts a and b, and false, for constants.
+fn image_of(alloc: Global, units: Vec<Unit>) -> Result<Image, Fail> {
+    let mut constants = Vec::new(alloc);
+    constants.push(Constant::Text(String::from_str(alloc, "a")?))?;
+    constants.push(Constant::Text(String::from_str(alloc, "b")?))?;
+    constants.push(Constant::Bool(false))?;
+    let parts = Parts {
+        globals: 0,
+        names: Vec::new(alloc),
+        constants,
+        units,
+    };
+    match assemble(alloc, parts) {
+        Ok(image) => Ok(image),
+        Err((_, error)) => Err(Fail::from(format!(in alloc; "{error}")?)),
+    }
+}
+
+// The outcome of an image, or why it is refused, in words.
+fn outcome_of(alloc: Global, image: Image, budget: Budget) -> Result<String, Fail> {
+    let verified = match verify(alloc, image) {
+        Ok(verified) => verified,
+        Err((_, refusal)) => return Ok(format!(in alloc; "{refusal}")?),
+    };
+    let context = Context::new(alloc);
+    match run(alloc, &verified, &context, budget) {
+        Ok(Outcome::Text(text)) => Ok(format!(in alloc; "text {text}")?),
+        Ok(Outcome::Fault(fault)) => Ok(format!(in alloc; "fault {fault:?}")?),
+        Ok(Outcome::Spent(spent)) => Ok(format!(in alloc; "spent {spent}")?),
+        Err(_) => Err(Fail::from("run")),
+    }
+}
+
+// The outcome of one unit.
+fn of_one(alloc: Global, code: &[Instruction], budget: Budget) -> Result<String, Fail> {
+    let mut units = Vec::new(alloc);
+    units.push(plain(alloc, code)?)?;
+    outcome_of(alloc, image_of(alloc, units)?, budget)
+}
+
+#[test]
+fn a_unit_that_calls_itself(rt: HostRuntime) -> Result<(), Fail> {
+    let alloc = rt.alloc();
+    for (fuel, depth, wanted) in [
+        (3, 2, "spent Depth"),
+        (2, 2, "spent Fuel"),
+        (1, 0, "spent Depth"),
+    ] {
+        let Ok(image) = decode(alloc, &Z) else {
+            return Err(Fail::from("decode"));
+        };
+        let budget = Budget {
+            fuel,
+            depth,
+            ..AMPLE
+        };
+        assert_eq!(rt; outcome_of(alloc, image, budget)?.as_str(), wanted);
+    }
+    Ok(())
+}
+
+#[test]
+fn a_capture_is_no_loop(rt: HostRuntime) -> Result<(), Fail> {
+    let alloc = rt.alloc();
+    let code = [
+        Instruction::Const { constant: 2 },
+        Instruction::JumpIfFalse { target: 5 },
+        Instruction::Const { constant: 0 },
+        Instruction::LoopStart,
+        Instruction::Jump { target: 6 },
+        Instruction::CaptureBegin,
+        Instruction::LoopEnd,
+        Instruction::Drop,
+        Instruction::Return,
+    ];
+    assert_eq!(rt;
+        of_one(alloc, &code, AMPLE)?.as_str(),
+        "K4 KindDiffers unit 0 point 6"
+    );
+    let mut dropped = code;
+    dropped[1] = Instruction::Drop;
+    assert_eq!(rt;
+        of_one(alloc, &dropped, Budget { fuel: 8, ..AMPLE })?.as_str(),
+        "text "
+    );
+    assert_eq!(rt;
+        of_one(alloc, &dropped, Budget { fuel: 7, ..AMPLE })?.as_str(),
+        "spent Fuel"
+    );
+    Ok(())
+}
+
+#[test]
+fn a_loop_prints_its_fields(rt: HostRuntime) -> Result<(), Fail> {
+    let alloc = rt.alloc();
+    let rows = [
+        (LoopField::Item, "text abFalse"),
+        (LoopField::Index, "text 12False"),
+        (LoopField::Index0, "text 01False"),
+        (LoopField::RevIndex, "text 21False"),
+        (LoopField::RevIndex0, "text 10False"),
+        (LoopField::First, "text TrueFalseFalse"),
+        (LoopField::Last, "text FalseTrueFalse"),
+        (LoopField::Length, "text 22False"),
+        (LoopField::Previous, "text aFalse"),
+        (LoopField::Next, "text bFalse"),
+    ];
+    for (field, wanted) in rows {
+        let code = [
+            Instruction::Const { constant: 0 },
+            Instruction::Const { constant: 1 },
+            Instruction::Op { operator: 0 },
+            Instruction::LoopStart,
+            Instruction::LoopNext { target: 8 },
+            Instruction::LoopGet {
+                field: field.id(),
+                above: 0,
+            },
+            Instruction::Emit { flag: 0 },
+            Instruction::Jump { target: 4 },
+            Instruction::LoopEnd,
+            Instruction::Emit { flag: 0 },
+            Instruction::Return,
+        ];
+        assert_eq!(rt; of_one(alloc, &code, AMPLE)?.as_str(), wanted);
+    }
+    Ok(())
+}
+
+#[test]
+fn a_second_pass_has_what_was_kept(rt: HostRuntime) -> Result<(), Fail> {
+    let alloc = rt.alloc();
+    let code = [
+        Instruction::Const { constant: 0 },
+        Instruction::Const { constant: 1 },
+        Instruction::MakeList { items: 2 },
+        Instruction::LoopStart,
+        Instruction::LoopNext { target: 10 },
+        Instruction::LoopGet { field: 0, above: 0 },
+        Instruction::Const { constant: 1 },
+        Instruction::Op { operator: 11 },
+        Instruction::LoopKeep { above: 0 },
+        Instruction::Jump { target: 4 },
+        Instruction::LoopRewind,
+        Instruction::LoopNext { target: 17 },
+        Instruction::LoopGet { field: 0, above: 0 },
+        Instruction::Emit { flag: 0 },
+        Instruction::LoopGet { field: 7, above: 0 },
+        Instruction::Emit { flag: 0 },
+        Instruction::Jump { target: 11 },
+        Instruction::LoopEnd,
+        Instruction::Emit { flag: 0 },
+        Instruction::Return,
+    ];
+    assert_eq!(rt; of_one(alloc, &code, AMPLE)?.as_str(), "text b1False");
+    Ok(())
+}
+
+#[test]
+fn a_unit_gives_a_value(rt: HostRuntime) -> Result<(), Fail> {
+    let alloc = rt.alloc();
+    for (depth, wanted) in [(1, "text ba"), (0, "spent Depth")] {
+        let mut units = Vec::new(alloc);
+        let entry = [
+            Instruction::CaptureBegin,
+            Instruction::Const { constant: 0 },
+            Instruction::Const { constant: 1 },
+            Instruction::Call { unit: 1 },
+            Instruction::Emit { flag: 0 },
+            Instruction::CaptureEnd { flag: 0 },
+            Instruction::Emit { flag: 0 },
+            Instruction::Return,
+        ];
+        let second = [
+            Instruction::Load { local: 2 },
+            Instruction::Emit { flag: 0 },
+            Instruction::Load { local: 1 },
+            Instruction::Load { local: 0 },
+            Instruction::Op { operator: 0 },
+            Instruction::Store { local: 2 },
+            Instruction::Load { local: 2 },
+            Instruction::Return,
+        ];
+        units.push(plain(alloc, &entry)?)?;
+        units.push(unit(alloc, (2, 1, 3), &second)?)?;
+        let image = image_of(alloc, units)?;
+        let text = outcome_of(alloc, image, Budget { depth, ..AMPLE })?;
+        assert_eq!(rt; text.as_str(), wanted);
+    }
+    Ok(())
+}
+
+#[test]
+fn unpacking_and_its_faults(rt: HostRuntime) -> Result<(), Fail> {
+    let alloc = rt.alloc();
+    for (values, wanted) in [(2, "text ba"), (1, "fault Unpack")] {
+        let mut code = Vec::new(alloc);
+        code.push(Instruction::Const { constant: 0 })?;
+        code.push(Instruction::Const { constant: 1 })?;
+        code.push(Instruction::MakeList { items: 2 })?;
+        code.push(Instruction::Unpack { values })?;
+        for _ in 0..values {
+            code.push(Instruction::Emit { flag: 0 })?;
+        }
+        code.push(Instruction::Return)?;
+        assert_eq!(rt; of_one(alloc, &code, AMPLE)?.as_str(), wanted);
+    }
+    let tall = [
+        Instruction::Const { constant: 0 },
+        Instruction::Unpack {
+            values: 4_294_967_295,
+        },
+        Instruction::Return,
+    ];
+    assert_eq!(rt;
+        of_one(alloc, &tall, AMPLE)?.as_str(),
+        "K9 TooDeep unit 0 point 2"
+    );
+    let none = [
+        Instruction::Const { constant: 2 },
+        Instruction::LoopStart,
+        Instruction::LoopEnd,
+        Instruction::Drop,
+        Instruction::Return,
+    ];
+    assert_eq!(rt; of_one(alloc, &none, AMPLE)?.as_str(), "fault NotIterable");
+    Ok(())
+}
