@@ -47,13 +47,13 @@ fn pop_outer(outer: &mut Vec<String>) -> String
 }
 
 // A captured text as a value.
-fn captured(text: String, marked: bool) -> Value
-    ensures { view result ≡ (if marked then tree.markup (string_bytes text) else tree.text (string_bytes text)) }
+fn captured(text: String, marked: bool) -> Result<Value, NoMemory>
+    ensures { IfOk result (λ v. view v ≡ (if marked then tree.markup (string_bytes text) else tree.text (string_bytes text))) }
 {
     if marked {
-        Value::Markup(text)
+        Value::from_markup(text)
     } else {
-        Value::Text(text)
+        Value::from_text(text)
     }
 }
 
@@ -69,5 +69,5 @@ pub(crate) fn close_capture(state: &mut State, marked: bool) -> Result<Option<Ou
         return Ok(Some(outcome));
     }
     let text = mem::replace(&mut state.buffer, around);
-    push(state, captured(text, marked))
+    push(state, captured(text, marked)?)
 }

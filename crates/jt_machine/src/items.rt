@@ -6,8 +6,9 @@ ghost use Rattle.jt_value.specs.Iteration.{character_items, key_items, items_of_
 ghost use Rattle.jt_value.specs.View.{view, items_view, entries_view};
 ghost use Rattle.jt_machine.specs.Iterating.{AreItems};
 
-use jt_value::{Fault, NoMemory, Value, ValueError};
+use jt_value::{Fault, NoMemory, Value, ValueError, ValueList};
 use std::alloc::Global;
+use std::rc::Rc;
 
 /// A list gives its items, a map its keys, a text its characters, undefined none; all else is a fault.
 pub(crate) fn items_of(alloc: Global, value: Value) -> Result<Vec<Value>, ValueError>
@@ -15,39 +16,30 @@ pub(crate) fn items_of(alloc: Global, value: Value) -> Result<Vec<Value>, ValueE
 {
     match value {
         Value::Undefined => Ok(Vec::new(alloc)),
-        Value::List(items) => Ok(items),
-        Value::Map(entries) => match keys(alloc, entries) {
-            Ok(keys) => Ok(keys),
-            Err(NoMemory) => Err(ValueError::NoMemory),
-        },
-        Value::Text(text) => match characters(alloc, &text) {
-            Ok(items) => Ok(items),
-            Err(NoMemory) => Err(ValueError::NoMemory),
-        },
-        Value::Markup(text) => match characters(alloc, &text) {
-            Ok(items) => Ok(items),
-            Err(NoMemory) => Err(ValueError::NoMemory),
-        },
+        Value::List(list) => Ok(list_items(list)?),
+        Value::Map(map) => Ok(keys(alloc, map.entries())?),
+        Value::Text(text) => Ok(characters(alloc, text.as_str())?),
+        Value::Markup(text) => Ok(characters(alloc, text.as_str())?),
         Value::None => Err(ValueError::Fault(Fault::NotIterable)),
         Value::Bool(_) => Err(ValueError::Fault(Fault::NotIterable)),
         Value::Int(_) => Err(ValueError::Fault(Fault::NotIterable)),
     }
 }
 
-// A text as a value.
-fn text_value(alloc: Global, text: &str) -> Result<Value, NoMemory>
-    ensures { IfOk result (λ v. view v ≡ tree.text text.now) }
+// The items of a list: moved out of it where no other value shares it, and else copies.
+fn list_items(list: Rc<ValueList>) -> Result<Vec<Value>, NoMemory>
+    ensures { IfOk result (λ vs. items_view vs.items ≡ list.value) }
 {
-    Ok(Value::Text(String::from_str(alloc, text)?))
+    Ok(Rc::unwrap_or_clone(list)?.into_items())
 }
 
 // The keys of a map as texts.
-fn keys(alloc: Global, entries: Vec<(String, Value)>) -> Result<Vec<Value>, NoMemory>
-    ensures { IfOk result (λ vs. items_view vs.items ≡ key_items (entries_view entries.items)) }
+fn keys(alloc: Global, entries: &[(String, Value)]) -> Result<Vec<Value>, NoMemory>
+    ensures { IfOk result (λ vs. items_view vs.items ≡ key_items (entries_view entries.now)) }
 {
     let mut keys = Vec::new(alloc);
-    'entries: for entry in &entries {
-        keys.push(text_value(alloc, entry.0.as_str())?)?;
+    'entries: for entry in entries {
+        keys.push(Value::text(alloc, entry.0.as_str())?)?;
     }
     Ok(keys)
 }
@@ -67,7 +59,7 @@ fn characters(alloc: Global, text: &str) -> Result<Vec<Value>, NoMemory>
 {
     let mut items = Vec::new(alloc);
     'characters: for c in text.chars() {
-        items.push(Value::Text(text_of(alloc, c)?))?;
+        items.push(Value::from_text(text_of(alloc, c)?)?)?;
     }
     Ok(items)
 }

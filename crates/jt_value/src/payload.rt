@@ -118,6 +118,14 @@ impl ValueList {
         self.items.as_slice()
     }
 
+    /// The items, taken out of the list.
+    pub fn into_items(self) -> Vec<Value>
+        ensures { items_view result.items ≡ self }
+    {
+        let ValueList { items, .. } = self;
+        items
+    }
+
     /// The list's size, or the greatest number where it is greater.
     pub fn size(&self) -> u64
         ensures { result ≡ min (1 + items_size self.now) (2 ^ 64 - 1) }

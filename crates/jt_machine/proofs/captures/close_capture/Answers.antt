@@ -19,5 +19,5 @@ returns c =
     let outer : outer_view c.pay.new.state.outer.items ≡ bs = ap (λ (s : State). outer_view s.outer.items) c.in_default.ensures.same in
     let e : close_capture c.args.marked (config_view c.args.state.now) ≡ push (cond c.args.marked (markup b) (text b)) (with_buffers (config_view c.pay.new.state) (string_bytes c.pop_outer-around.result ∷ bs)) step_on =
     rw (c.pop_capture.ensures, c.pop_outer-around.ensures) (c.in_default.ensures.rest (λ e. push (cond c.args.marked (markup b) (text b)) (with_buffers e (string_bytes c.pop_outer-around.result ∷ bs)) step_on)) in
-    let h = rw (c.captured.ensures, c.replace-text.ensures.value, c.replace-text.ensures.after, same, outer) at c.push.ensures in
+    let h = rw (c.in_ok-captured.ensures, c.replace-text.ensures.value, c.replace-text.ensures.after, same, outer) at c.push.ensures in
     rw e h

@@ -9,9 +9,9 @@ pub entries-preserved : goal.entries-preserved
 entries-preserved c =
     let lt = rw c.deref-entry-items.ensures.value at c.entries-test.true in
     let is = rw c.deref-entry-items.ensures.value at c.entry-item.is in
-    rw c.in_ok-push.ensures.items (mapped-more view key_of c.entries.keys.items c.args.entries.items c.entries.entry-index c.in_ok-text_value.field-0 c.entry-item.result lt c.entries.invariant (c.in_ok-text_value.ensures ∙ ap text c.as_str.ensures.value ∙ ap key_of is))
+    rw c.in_ok-push.ensures.items (mapped-more view key_of c.entries.keys.items c.args.entries.now c.entries.entry-index c.in_ok-text.field-0 c.entry-item.result lt c.entries.invariant (c.in_ok-text.ensures ∙ ap text c.as_str.ensures.value ∙ ap key_of is))
 
 pub returns : goal.returns
 returns c =
     let le = rw c.deref-entry-items.ensures.value at c.entries-test.false in
-    ap items_of (c.entries.invariant ∙ ap (map key_of) (take_all c.entries.entry-index c.args.entries.items le)) ∙ keys-are c.args.entries.items
+    ap items_of (c.entries.invariant ∙ ap (map key_of) (take_all c.entries.entry-index c.args.entries.now le)) ∙ keys-are c.args.entries.now
