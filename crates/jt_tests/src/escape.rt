@@ -1,16 +1,16 @@
 //! Texts escaped and joined.
 
 use jt_escape::{escape_into, join_markup, join_plain};
-use jt_value::{Fault, Value, ValueError};
-use std::alloc::{AllocError, Global};
+use jt_value::{Fault, NoMemory, Value, ValueError};
+use std::alloc::Global;
 use std::test::Fail;
 
-fn text(alloc: Global, text: &str) -> Result<Value, AllocError> {
-    Ok(Value::Text(String::from_str(alloc, text)?))
+fn text(alloc: Global, text: &str) -> Result<Value, NoMemory> {
+    Value::text(alloc, text)
 }
 
-fn markup(alloc: Global, text: &str) -> Result<Value, AllocError> {
-    Ok(Value::Markup(String::from_str(alloc, text)?))
+fn markup(alloc: Global, text: &str) -> Result<Value, NoMemory> {
+    Value::markup(alloc, text)
 }
 
 /// The text, and whether it is markup.
@@ -63,7 +63,7 @@ fn joins_plainly(rt: HostRuntime) -> Result<(), Fail> {
 #[test]
 fn asks_for_each_text(rt: HostRuntime) -> Result<(), Fail> {
     let alloc = rt.alloc();
-    let list = Value::List(Vec::new(alloc));
+    let list = Value::list(alloc, Vec::new(alloc))?;
     let unprintable = Some(ValueError::Fault(Fault::Unprintable));
     assert_eq!(rt; join_markup(alloc, &[], &list).err(), unprintable);
     let items = [Value::Int(1), list];

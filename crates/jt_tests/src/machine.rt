@@ -86,23 +86,22 @@ fn letters(alloc: Global, count: usize) -> Result<Value, Fail> {
     for _ in 0..count {
         text.push_str("a")?;
     }
-    Ok(Value::Text(text))
+    Ok(Value::from_text(text)?)
 }
 
 // The text, or the markup of it.
 fn text_of(alloc: Global, text: &str, is_markup: bool) -> Result<Value, Fail> {
-    let text = String::from_str(alloc, text)?;
     if is_markup {
-        return Ok(Value::Markup(text));
+        return Ok(Value::markup(alloc, text)?);
     }
-    Ok(Value::Text(text))
+    Ok(Value::text(alloc, text)?)
 }
 
 // The list of a number.
 fn list(alloc: Global, number: i64) -> Result<Value, Fail> {
     let mut items = Vec::new(alloc);
     items.push(Value::Int(number))?;
-    Ok(Value::List(items))
+    Ok(Value::list(alloc, items)?)
 }
 
 #[test]

@@ -1,7 +1,8 @@
 //! Rows of the operators, the tests and `range`, each with ample memory.
 
-use jt_ops::{Limits, OpError, OpId, TestId, binary, range, test, unary};
-use jt_value::Value;
+use indexmap::IndexMap;
+use jt_ops::{Limits, OpError, OpId, TestId, binary, binary_owned, range, test, unary};
+use jt_value::{NoMemory, Value};
 use std::alloc::{AllocError, Global};
 
 const WIDE: Limits = Limits {
@@ -22,18 +23,18 @@ fn value(alloc: Global, spelling: &str) -> Result<Value, AllocError> {
     };
     let value = match spelling.as_bytes().first() {
         Some(b'n') => Value::Int(number),
-        Some(b't') => Value::Text(String::from_str(alloc, rest)?),
-        Some(b'm') => Value::Markup(String::from_str(alloc, rest)?),
+        Some(b't') => made(Value::text(alloc, rest))?,
+        Some(b'm') => made(Value::markup(alloc, rest))?,
         Some(b'l') => {
             let mut items = Vec::new(alloc);
             items.push(Value::Int(number))?;
-            Value::List(items)
+            made(Value::list(alloc, items))?
         }
         Some(b'k') => {
-            let mut entries = Vec::new(alloc);
+            let mut entries = IndexMap::new(alloc);
             let key = String::from_str(alloc, "k")?;
-            entries.push((key, Value::Int(number)))?;
-            Value::Map(entries)
+            entries.insert(key, Value::Int(number))?;
+            made(Value::map(alloc, entries))?
         }
         Some(b'+') => Value::Bool(true),
         Some(b'-') => Value::Bool(false),
@@ -41,6 +42,14 @@ fn value(alloc: Global, spelling: &str) -> Result<Value, AllocError> {
         _ => Value::Undefined,
     };
     Ok(value)
+}
+
+/// The value, or want of memory as the collections say it.
+fn made(value: Result<Value, NoMemory>) -> Result<Value, AllocError> {
+    match value {
+        Ok(value) => Ok(value),
+        Err(NoMemory) => Err(AllocError),
+    }
 }
 
 /// What a call answered, in the same spelling; a list by its items, a fault by its code.
@@ -60,9 +69,9 @@ fn shown(alloc: Global, answer: &Result<Value, OpError>) -> Result<String, Alloc
         Value::Int(number) => format!(in alloc; "n{number}"),
         Value::Text(text) => format!(in alloc; "t{text}"),
         Value::Markup(text) => format!(in alloc; "m{text}"),
-        Value::List(items) => {
+        Value::List(list) => {
             let mut text = String::from_str(alloc, "l")?;
-            for item in items {
+            for item in list.items() {
                 if let Value::Int(number) = item {
                     let piece = format!(in alloc; " {number}")?;
                     text.push_str(&piece)?;
@@ -82,6 +91,16 @@ fn answer_of_two(alloc: Global, op: OpId, left: &str, right: &str) -> Result<Str
     let left = value(alloc, left)?;
     let right = value(alloc, right)?;
     shown(alloc, &binary(alloc, op, &left, &right, WIDE))
+}
+
+/// The same of operands that nothing else needs.
+fn owned_answer(alloc: Global, op: OpId, left: &str, right: &str) -> Result<String, AllocError> {
+    if !op.takes(2) {
+        return String::from_str(alloc, "another number of operands");
+    }
+    let left = value(alloc, left)?;
+    let right = value(alloc, right)?;
+    shown(alloc, &binary_owned(alloc, op, left, right, WIDE))
 }
 
 #[test]
@@ -159,7 +178,23 @@ fn operators_of_two(rt: HostRuntime) {
     for (op, left, right, wanted) in rows {
         let text = answer_of_two(alloc, op, left, right).expect(&rt, "a row");
         assert_eq!(rt; text.as_str(), wanted);
+        let owned = owned_answer(alloc, op, left, right).expect(&rt, "a row");
+        assert_eq!(rt; owned.as_str(), wanted);
     }
+}
+
+/// A value that another one shares keeps its items, whichever is the left operand.
+#[test]
+fn shared_operands(rt: HostRuntime) {
+    let alloc = rt.alloc();
+    let one = value(alloc, "l1").expect(&rt, "a list");
+    let kept = one.try_clone(alloc).expect(&rt, "a copy");
+    let two = value(alloc, "l2").expect(&rt, "a list");
+    let sum = binary_owned(alloc, OpId::Add, one, two, WIDE);
+    let text = shown(alloc, &sum).expect(&rt, "a row");
+    assert_eq!(rt; text.as_str(), "l 1 2");
+    let text = shown(alloc, &Ok(kept)).expect(&rt, "a row");
+    assert_eq!(rt; text.as_str(), "l 1");
 }
 
 #[test]

@@ -1,39 +1,32 @@
 //! Rows from the language's rules, and each call that allocates with ample memory.
 
+use indexmap::IndexMap;
 use jt_value::{Context, Fault, NoMemory, Value, ValueError};
-use std::alloc::{AllocError, Global};
+use std::alloc::Global;
 use std::cmp::Ordering;
 use std::test::Fail;
-
-fn text(alloc: Global, characters: &str) -> Result<Value, AllocError> {
-    Ok(Value::Text(String::from_str(alloc, characters)?))
-}
-
-fn markup(alloc: Global, characters: &str) -> Result<Value, AllocError> {
-    Ok(Value::Markup(String::from_str(alloc, characters)?))
-}
 
 fn list(alloc: Global, numbers: &[i64]) -> Result<Value, NoMemory> {
     let mut items = Vec::new(alloc);
     for number in numbers {
         items.push(Value::Int(*number))?;
     }
-    Ok(Value::List(items))
+    Value::list(alloc, items)
 }
 
 fn map(alloc: Global, rows: &[(&str, i64)]) -> Result<Value, NoMemory> {
-    let mut entries = Vec::new(alloc);
+    let mut entries = IndexMap::new(alloc);
     for (key, number) in rows {
-        entries.push((String::from_str(alloc, key)?, Value::Int(*number)))?;
+        entries.insert(String::from_str(alloc, key)?, Value::Int(*number))?;
     }
-    Ok(Value::Map(entries))
+    Value::map(alloc, entries)
 }
 
 #[test]
 fn equality(rt: HostRuntime) -> Result<(), Fail> {
     let alloc = rt.alloc();
-    let plain = text(alloc, "é")?;
-    let marked = markup(alloc, "é")?;
+    let plain = Value::text(alloc, "é")?;
+    let marked = Value::markup(alloc, "é")?;
     let short = list(alloc, &[1, 0])?;
     let long = list(alloc, &[1, 0, 0])?;
     let map_ab = map(alloc, &[("a", 1), ("b", 2)])?;
@@ -53,8 +46,8 @@ fn equality(rt: HostRuntime) -> Result<(), Fail> {
         (&short, &short, true),
         (&short, &long, false),
         (&map_ab, &map_ba, true),
-        (&map_ab, &map_aba, true),
-        (&map_aba, &map_ba, true),
+        (&map_ab, &map_aba, false),
+        (&map_bad, &map_ba, true),
         (&map_bad, &map_aba, false),
         (&map_abc, &map_ab, false),
         (&map_ab, &map_abc, false),
@@ -67,8 +60,8 @@ fn equality(rt: HostRuntime) -> Result<(), Fail> {
 #[test]
 fn order(rt: HostRuntime) -> Result<(), Fail> {
     let alloc = rt.alloc();
-    let early = text(alloc, "z")?;
-    let late = markup(alloc, "é")?;
+    let early = Value::text(alloc, "z")?;
+    let late = Value::markup(alloc, "é")?;
     let numbers = list(alloc, &[1])?;
     for (left, right, want) in [
         (&Value::Int(-2), &Value::Int(1), Ok(Ordering::Less)),
@@ -88,8 +81,8 @@ fn order(rt: HostRuntime) -> Result<(), Fail> {
 #[test]
 fn truth_and_printed_text(rt: HostRuntime) -> Result<(), Fail> {
     let alloc = rt.alloc();
-    let empty = text(alloc, "")?;
-    let marked = markup(alloc, "<b>")?;
+    let empty = Value::text(alloc, "")?;
+    let marked = Value::markup(alloc, "<b>")?;
     for (value, truth, printed) in [
         (&Value::Undefined, false, ""),
         (&Value::None, false, "None"),
@@ -119,13 +112,13 @@ fn size_nesting_and_copies(rt: HostRuntime) -> Result<(), Fail> {
     let alloc = rt.alloc();
     let mut outer = Vec::new(alloc);
     outer.push(map(alloc, &[("ab", 1)])?)?;
-    outer.push(text(alloc, "é")?)?;
-    let tree = Value::List(outer);
+    outer.push(Value::text(alloc, "é")?)?;
+    let tree = Value::list(alloc, outer)?;
     assert_eq!(rt; tree.size(), 9);
     assert_eq!(rt; tree.nesting(), 2);
     let copy = tree.try_clone(alloc)?;
     assert!(rt; copy.equals(&tree));
-    assert_eq!(rt; Value::List(Vec::new(alloc)).nesting(), 1);
+    assert_eq!(rt; list(alloc, &[])?.nesting(), 1);
     Ok(())
 }
 
@@ -167,5 +160,27 @@ fn refusals_print(rt: HostRuntime) -> Result<(), Fail> {
         ValueError::NoMemory.to_string(alloc)?.as_str(),
         "no memory"
     );
+    Ok(())
+}
+
+#[test]
+fn payloads(rt: HostRuntime) -> Result<(), Fail> {
+    let alloc = rt.alloc();
+    let mut items = Vec::new(alloc);
+    items.push(Value::text(alloc, "a")?)?;
+    items.push(Value::from_markup(String::from_str(alloc, "<b>")?)?)?;
+    let list = Value::list(alloc, items)?;
+    let copy = list.try_clone(alloc)?;
+    let texts: Vec<Option<&str>> = match copy.as_list() {
+        Some(items) => items.iter().map(|item| item.as_text()).collect(alloc)?,
+        None => Vec::new(alloc),
+    };
+    assert!(rt; texts.as_slice() == [Some("a"), Some("<b>")].as_slice());
+    let map = map(alloc, &[("k", 1), ("l", 2), ("k", 3)])?;
+    assert_eq!(rt; map.size(), 7);
+    assert!(rt; matches!(map.as_map(), Some([(_, Value::Int(3)), (_, Value::Int(2))])));
+    assert!(rt; map.as_list().is_none() && list.as_map().is_none() && list.as_text().is_none());
+    let plain = Value::from_text(String::from_str(alloc, "a")?)?;
+    assert!(rt; plain.equals(&Value::text(alloc, "a")?));
     Ok(())
 }

@@ -1,4 +1,4 @@
--- What lies inside a list or a map is smaller than it.
+-- What lies inside a list or a map is smaller than it. These are lemmas, which the models of lists and maps cite.
 use Rattle.std.specs.Prelude.{◌+◌, ◌*◌, ◌≤◌, max, List, [], ◌∷◌, String}
 use Rattle.std.proofs.Common.{arith}
 use Rattle.std.specs.declared.alloc.Global.{Global}

@@ -1,4 +1,5 @@
--- A code of trees: a tree written as a row of tokens, and read back with a stack of entries.
+-- A code of trees: a tree written as a row of tokens, and read back with a stack of entries. The models of lists and maps have to name
+-- one for their values; no contract rests on what it is.
 use Rattle.std.specs.Prelude.{◌≡◌, ℕ, zero, suc, ℤ, pos, true, false, List, [], ◌∷◌, ◌++◌, refl}
 use Rattle.std.proofs.Common.{ap, ◌∙◌}
 use Rattle.std.specs.Coded.{Coded, code_by, coded×, coded_list, coded_ℕ, coded_ℤ}
