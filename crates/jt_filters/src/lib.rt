@@ -1,0 +1,7 @@
+//! Filters, operators and tests on values, under limits of size and nesting.
+#![tactic(auto)]
+
+mod filter_id;
+
+pub use filter_id::FilterId;
+pub use jt_ops::{Limits, OpError, OpId, TestId, binary, range, test, unary};
