@@ -1,0 +1,31 @@
+-- Which items a filter takes.
+use Rattle.std.specs.Prelude.{Bool, true, false, ◌||◌, ◌&&◌, if◌then◌else◌}
+use Rattle.jt_value.specs.declared.fault.Fault.{Fault}
+use Rattle.jt_value.specs.declared.fault.Fault.TheVariants as fault
+use Rattle.jt_value.specs.Tree.{Tree, text, Items, no_items, item}
+use Rattle.jt_ops.specs.Testing.{is_number, is_undefined}
+
+-- whether a value is a plain text
+abbrev pub is_plain : Tree → Bool
+is_plain (text s) = true
+is_plain t = false
+
+abbrev pub all_numbers : Items → Bool
+all_numbers no_items = true
+all_numbers (item t ts) = is_number t && all_numbers ts
+
+abbrev pub all_plain : Items → Bool
+all_plain no_items = true
+all_plain (item t ts) = is_plain t && all_plain ts
+
+abbrev pub has_undefined : Items → Bool
+has_undefined no_items = false
+has_undefined (item t ts) = is_undefined t || has_undefined ts
+
+-- whether items can be put in an order: all are numbers, or all plain texts
+abbrev pub have_order : Items → Bool
+have_order ts = all_numbers ts || all_plain ts
+
+-- the fault of items that don't fit: Undefined if one of them is undefined, else BadType
+abbrev pub misfit_of_items : Items → Fault
+misfit_of_items ts = if has_undefined ts then fault.Undefined else fault.BadType
