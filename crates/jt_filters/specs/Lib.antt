@@ -5,4 +5,5 @@ pub mod Listing
 pub mod Mapping
 pub mod Numbers
 pub mod Ordering
+pub mod Payload
 pub mod Texts

@@ -2,6 +2,9 @@
 #![tactic(auto)]
 
 mod filter_id;
+mod numbers;
+mod payload;
+mod texts;
 
 pub use filter_id::FilterId;
 pub use jt_ops::{Limits, OpError, OpId, TestId, binary, range, test, unary};

@@ -17,14 +17,14 @@ use std::borrow::CowStr;
 
 /// Whether a text is plain or markup.
 #[derive(Clone, Copy)]
-pub(crate) enum Kind {
+pub enum Kind {
     Plain,
     Markup,
 }
 
 impl Kind {
     /// The value of a text.
-    fn value(self, text: String) -> Value
+    pub fn value(self, text: String) -> Value
         ensures { view result ≡ of_kind self (string_bytes text) }
     {
         match self {
@@ -36,7 +36,7 @@ impl Kind {
 
 /// A piece of a text that is put together.
 #[derive(Clone, Copy)]
-pub(crate) enum Piece<'a> {
+pub enum Piece<'a> {
     /// As it is.
     Raw(&'a str),
     /// With its special characters escaped.
@@ -108,6 +108,21 @@ pub(crate) fn concatenated(
     Ok(kind.value(text))
 }
 
+/// The text of one piece.
+pub fn alone(
+    alloc: Global,
+    piece: &Piece<'_>,
+    kind: Kind,
+    limits: Limits,
+) -> Result<Value, OpError>
+    ensures { Answers result (limited_by limits (Ok (of_kind kind (written piece.now)))) }
+{
+    allow(piece.len().saturating_add(1), 0, limits)?;
+    let mut text = String::new(alloc);
+    piece.write(&mut text)?;
+    Ok(kind.value(text))
+}
+
 /// A text, repeated; nothing for 0 and below.
 #[tactic(auto, using(crate::proofs::Loops::repeat_length))]
 pub(crate) fn repeated(
@@ -152,7 +167,7 @@ fn repetition(alloc: Global, text: &str, count: u64) -> Result<String, NoMemory>
 }
 
 /// The printed text of a value, lent where the value has it.
-pub(crate) fn printed_text<'a>(
+pub fn printed_text<'a>(
     alloc: Global,
     value: &'a Value,
 ) -> Result<CowStr<'a, Global>, ValueError>
