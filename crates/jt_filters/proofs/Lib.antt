@@ -1,1 +1,4 @@
-mod FilterRows
+pub mod FilterRows
+pub mod Lists
+pub mod Payloads
+pub mod Changes

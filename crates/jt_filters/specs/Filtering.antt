@@ -14,7 +14,7 @@ use Rattle.jt_filters.specs.FilterTable.{filters, filter_names, least_values, mo
 use Rattle.jt_filters.specs.Listing.{on_items, first_item, last_item, listed, length_of, reversed, pairs_of, joined_by}
 use Rattle.jt_filters.specs.Mapping.{named_by, attribute, as_list, each, selected, selected_by, attributes}
 use Rattle.jt_filters.specs.Numbers.{absolute, as_int, total}
-use Rattle.jt_filters.specs.Ordering.{sorted_list, greatest, least, sorted_pairs, distinct}
+use Rattle.jt_filters.specs.Ordering.{sorted_list, best_item, sorted_pairs, distinct}
 use Rattle.jt_filters.specs.Texts.{keeping_kind, unchanged, capitalized, trimmed, safe, escaped_once, escaped_again, replaced}
 
 -- `default`: the other value where the input is undefined, or false while `boolean` is true
@@ -42,8 +42,8 @@ filtered_alone filter.Last autoescape (t ∷ []) = on_items last_item t
 filtered_alone filter.Length autoescape (t ∷ []) = length_of t
 filtered_alone filter.List autoescape (t ∷ []) = on_items listed t
 filtered_alone filter.Lower autoescape (t ∷ []) = keeping_kind str_to_ascii_lowercase t
-filtered_alone filter.Max autoescape (t ∷ []) = on_items greatest t
-filtered_alone filter.Min autoescape (t ∷ []) = on_items least t
+filtered_alone filter.Max autoescape (t ∷ []) = on_items (best_item true) t
+filtered_alone filter.Min autoescape (t ∷ []) = on_items (best_item false) t
 filtered_alone filter.Replace autoescape (t ∷ old ∷ new ∷ []) = replaced t old new
 filtered_alone filter.Reverse autoescape (t ∷ []) = reversed t
 filtered_alone filter.Safe autoescape (t ∷ []) = safe t

@@ -1,5 +1,6 @@
 pub mod FilterTable
 pub mod Filtering
+pub mod ItemsSeen
 pub mod Kinds
 pub mod Listing
 pub mod Mapping

@@ -1,7 +1,10 @@
 //! Filters, operators and tests on values, under limits of size and nesting.
 #![tactic(auto)]
 
+mod choosing;
 mod filter_id;
+mod items;
+mod listing;
 mod numbers;
 mod payload;
 mod texts;

@@ -1,5 +1,6 @@
 //! Filters on printed texts.
-ghost use Rattle.std.specs.Prelude.{◌≡◌, ℕ, List, IfOk, string_bytes};
+ghost use Rattle.std.specs.Prelude.{◌≡◌, ℕ, List, reverse, IfOk, Ok, string_bytes};
+ghost use Rattle.jt_value.specs.Tree as tree;
 ghost use Rattle.std.specs.Str.{str_to_ascii_lowercase, str_to_ascii_uppercase};
 ghost use Rattle.jt_value.specs.View.{view};
 ghost use Rattle.jt_ops.specs.Limited.{limited_by, Answers};
@@ -8,7 +9,8 @@ ghost use Rattle.jt_filters.specs.Texts.{keeping_kind, unchanged, of_same_kind, 
 ghost use Rattle.jt_filters.specs.Texts as texts;
 
 use jt_ops::{Kind, Limits, OpError, Piece, allow, alone, printed_text};
-use jt_value::Value;
+use crate::payload::from_text;
+use jt_value::{NoMemory, Value};
 use std::alloc::Global;
 
 /// The kind that a value's text keeps.
@@ -65,4 +67,108 @@ pub(crate) fn lower(alloc: Global, value: &Value, limits: Limits) -> Result<Valu
     let mut text = String::from_str(alloc, printed)?;
     text.make_ascii_lowercase();
     Ok(kind_of(value).value(text))
+}
+
+/// Filter `upper`.
+pub(crate) fn upper(alloc: Global, value: &Value, limits: Limits) -> Result<Value, OpError>
+    ensures { Answers result (limited_by limits (keeping_kind str_to_ascii_uppercase (view value.now))) }
+{
+    let printed = printed_text(alloc, value)?;
+    let printed = printed.as_str();
+    allow((printed.len() as u64).saturating_add(1), 0, limits)?;
+    let mut text = String::from_str(alloc, printed)?;
+    text.make_ascii_uppercase();
+    Ok(kind_of(value).value(text))
+}
+
+/// Filter `capitalize`.
+#[tactic(auto, using(crate::proofs::Changes::capitalized_length))]
+pub(crate) fn capitalize(alloc: Global, value: &Value, limits: Limits) -> Result<Value, OpError>
+    ensures { Answers result (limited_by limits (keeping_kind texts.capitalized (view value.now))) }
+{
+    let printed = printed_text(alloc, value)?;
+    let printed = printed.as_str();
+    allow((printed.len() as u64).saturating_add(1), 0, limits)?;
+    let text = capitalized(alloc, printed)?;
+    Ok(kind_of(value).value(text))
+}
+
+/// A text with its first character upper and the others lower.
+fn capitalized(alloc: Global, text: &str) -> Result<String, NoMemory>
+    ensures { IfOk result (λ s. string_bytes s ≡ texts.capitalized text.now) }
+{
+    let bytes = text.as_bytes();
+    if bytes.is_empty() || bytes[0] >= 128 {
+        let mut lowered = String::from_str(alloc, text)?;
+        lowered.make_ascii_lowercase();
+        return Ok(lowered);
+    }
+    let mut changed = String::new(alloc);
+    changed.push(bytes[0].to_ascii_uppercase() as char)?;
+    let mut rest = String::from_str(alloc, &text[1..])?;
+    rest.make_ascii_lowercase();
+    changed.push_str(&rest)?;
+    Ok(changed)
+}
+
+/// Filter `trim`.
+pub(crate) fn trim(alloc: Global, value: &Value, limits: Limits) -> Result<Value, OpError>
+    ensures { Answers result (limited_by limits (keeping_kind texts.trimmed (view value.now))) }
+{
+    let printed = printed_text(alloc, value)?;
+    let text = trimmed_back(trimmed_front(printed.as_str()));
+    alone(alloc, &Piece::Raw(text), kind_of(value), limits)
+}
+
+/// Whether a byte is whitespace.
+fn is_whitespace(byte: u8) -> bool
+    ensures { result ≡ texts.is_whitespace byte }
+{
+    byte == b' ' || (9 <= byte && byte <= 13)
+}
+
+/// A text without the whitespace that it begins with.
+fn trimmed_front(text: &str) -> &str
+    ensures { result.now ≡ texts.trimmed_front text.now }
+{
+    let mut start = 0;
+    for byte in text.as_bytes() {
+        if !is_whitespace(*byte) {
+            return &text[start..];
+        }
+        start += 1;
+    }
+    ""
+}
+
+/// A text without the whitespace that it ends with.
+fn trimmed_back(text: &str) -> &str
+    ensures { result.now ≡ reverse (texts.trimmed_front (reverse text.now)) }
+{
+    let bytes = text.as_bytes();
+    let mut end = bytes.len();
+    while end > 0 && is_whitespace(bytes[end - 1]) {
+        end -= 1;
+    }
+    &text[..end]
+}
+
+/// The characters of a text backwards, as a plain text.
+#[tactic(auto, using(crate::proofs::Changes::backwards_length))]
+pub(crate) fn backwards(alloc: Global, text: &str, limits: Limits) -> Result<Value, OpError>
+    ensures { Answers result (limited_by limits (Ok (tree.text (texts.backwards text.now)))) }
+{
+    allow((text.len() as u64).saturating_add(1), 0, limits)?;
+    Ok(from_text(turned(alloc, text)?)?)
+}
+
+/// The characters of a text backwards.
+fn turned(alloc: Global, text: &str) -> Result<String, NoMemory>
+    ensures { IfOk result (λ s. string_bytes s ≡ texts.backwards text.now) }
+{
+    let mut turned = String::new(alloc);
+    for c in text.chars().rev() {
+        turned.push(c)?;
+    }
+    Ok(turned)
 }

@@ -15,6 +15,8 @@ mod test_id;
 mod testing;
 mod text;
 
+pub use arithmetic::sum;
+pub use item::character_count;
 pub use limits::{Limits, OpError, allow, copy_within, number_within, within};
 pub use op_id::OpId;
 pub use operands::misfit_of_one;
