@@ -1,4 +1,5 @@
 pub mod FilterRows
 pub mod Lists
+pub mod Numerals
 pub mod Payloads
 pub mod Changes

@@ -1,7 +1,7 @@
 //! Filters on printed texts.
 ghost use Rattle.std.specs.Prelude.{◌≡◌, ℕ, List, reverse, IfOk, Ok, string_bytes};
 ghost use Rattle.jt_value.specs.Tree as tree;
-ghost use Rattle.std.specs.Str.{str_to_ascii_lowercase, str_to_ascii_uppercase};
+ghost use Rattle.std.specs.Str.{chars, str_to_ascii_lowercase, str_to_ascii_uppercase};
 ghost use Rattle.jt_value.specs.View.{view};
 ghost use Rattle.jt_ops.specs.Limited.{limited_by, Answers};
 ghost use Rattle.jt_ops.specs.Pieces.{of_kind};
@@ -154,21 +154,31 @@ fn trimmed_back(text: &str) -> &str
 }
 
 /// The characters of a text backwards, as a plain text.
-#[tactic(auto, using(crate::proofs::Changes::backwards_length))]
 pub(crate) fn backwards(alloc: Global, text: &str, limits: Limits) -> Result<Value, OpError>
     ensures { Answers result (limited_by limits (Ok (tree.text (texts.backwards text.now)))) }
 {
     allow((text.len() as u64).saturating_add(1), 0, limits)?;
-    Ok(from_text(turned(alloc, text)?)?)
+    let turned = turned(alloc, text)?;
+    Ok(from_text(turned)?)
 }
 
 /// The characters of a text backwards.
+#[tactic(auto, using(crate::proofs::Changes::encodes_more))]
 fn turned(alloc: Global, text: &str) -> Result<String, NoMemory>
     ensures { IfOk result (λ s. string_bytes s ≡ texts.backwards text.now) }
 {
+    let mut characters = characters(alloc, text)?;
+    characters.reverse();
     let mut turned = String::new(alloc);
-    for c in text.chars().rev() {
-        turned.push(c)?;
+    for c in &characters {
+        turned.push(*c)?;
     }
     Ok(turned)
+}
+
+/// The characters of a text.
+fn characters(alloc: Global, text: &str) -> Result<Vec<char>, NoMemory>
+    ensures { IfOk result (λ v. v.items ≡ chars text.now) }
+{
+    Ok(text.chars().collect(alloc)?)
 }
