@@ -60,7 +60,7 @@ pub(crate) fn last(alloc: Global, value: &Value, limits: Limits) -> Result<Value
 }
 
 /// A copy of what was found, undefined where that is nothing.
-fn found(alloc: Global, found: Option<&Value>, limits: Limits) -> Result<Value, OpError>
+pub(crate) fn found(alloc: Global, found: Option<&Value>, limits: Limits) -> Result<Value, OpError>
     ensures { Answers result
         (limited_by limits (Ok (or_undefined (option_map view (option_copied found.entry))))) }
 {

@@ -58,6 +58,7 @@ pub(crate) fn int(
 }
 
 /// The number that a text writes, if it has 64 bits.
+#[tactic(auto, using(crate::proofs::Numerals::number_of_text_is))]
 fn number_of_text(text: &str) -> Option<i64>
     ensures { result ≡ numbers.number_of_text text.now }
 {
