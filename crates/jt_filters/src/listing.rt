@@ -114,20 +114,47 @@ pub(crate) fn list(alloc: Global, value: &Value, limits: Limits) -> Result<Value
 fn character_list(alloc: Global, text: &str, limits: Limits) -> Result<Value, OpError>
     ensures { Answers result (limited_by limits (Ok (tree.list (character_items (chars text.now))))) }
 {
-    let count = character_count(text) as u64;
-    let size = (text.len() as u64).saturating_add(count).saturating_add(1);
-    allow(size, 1, limits)?;
+    allow_characters(text, limits)?;
     let items = characters(alloc, text)?;
     Ok(payload::list(alloc, items)?)
+}
+
+/// Tests the size and nesting of the list of a text's characters.
+#[tactic(auto, using(crate::proofs::Measures::characters_nesting))]
+fn allow_characters(text: &str, limits: Limits) -> Result<(), OpError>
+    ensures ok { let t = tree.list (character_items (chars text.now)) in
+        OnOk result (limited_by limits (Ok t) ≡ Ok t) }
+    ensures refused { let t = tree.list (character_items (chars text.now)) in
+        IfErr result (λ e. limited_by limits (Ok t) ≡ Err e) }
+{
+    allow(characters_size(text).saturating_add(1), 1, limits)
+}
+
+/// The size of a text's characters as texts, or the greatest number where it is greater.
+fn characters_size(text: &str) -> u64
+    ensures { result ≡ min (items_size (character_items (chars text.now))) (2 ^ 64 - 1) }
+{
+    (text.len() as u64).saturating_add(character_count(text) as u64)
 }
 
 /// The list of a map's keys.
 fn key_list(alloc: Global, entries: &[(String, Value)], limits: Limits) -> Result<Value, OpError>
     ensures { Answers result (limited_by limits (Ok (tree.list (key_items (entries_view entries.now))))) }
 {
-    allow(keys_size(entries).saturating_add(1), 1, limits)?;
+    allow_keys(entries, limits)?;
     let items = keys(alloc, entries)?;
     Ok(payload::list(alloc, items)?)
+}
+
+/// Tests the size and nesting of the list of a map's keys.
+#[tactic(auto, using(crate::proofs::Measures::keys_nesting))]
+fn allow_keys(entries: &[(String, Value)], limits: Limits) -> Result<(), OpError>
+    ensures ok { let t = tree.list (key_items (entries_view entries.now)) in
+        OnOk result (limited_by limits (Ok t) ≡ Ok t) }
+    ensures refused { let t = tree.list (key_items (entries_view entries.now)) in
+        IfErr result (λ e. limited_by limits (Ok t) ≡ Err e) }
+{
+    allow(keys_size(entries).saturating_add(1), 1, limits)
 }
 
 /// The size of a map's keys as texts, or the greatest number where it is greater.
@@ -173,11 +200,31 @@ fn reversed_list(alloc: Global, items: &[Value], limits: Limits) -> Result<Value
     ensures { Answers result
         (limited_by limits (Ok (tree.list (reversed_items (items_view items.now))))) }
 {
+    allow_reversed(items, limits)?;
+    let turned = turned(copies(alloc, items)?);
+    Ok(payload::list(alloc, turned)?)
+}
+
+/// Tests the size and nesting of the list of some items backwards.
+#[tactic(auto, using(crate::proofs::Measures::reversed_size, crate::proofs::Measures::reversed_nesting))]
+fn allow_reversed(items: &[Value], limits: Limits) -> Result<(), OpError>
+    ensures ok { let t = tree.list (reversed_items (items_view items.now)) in
+        OnOk result (limited_by limits (Ok t) ≡ Ok t) }
+    ensures refused { let t = tree.list (reversed_items (items_view items.now)) in
+        IfErr result (λ e. limited_by limits (Ok t) ≡ Err e) }
+{
     let (size, nesting) = measure(items);
-    allow(size.saturating_add(1), nesting.saturating_add(1), limits)?;
-    let mut items = copies(alloc, items)?;
+    allow(size.saturating_add(1), nesting.saturating_add(1), limits)
+}
+
+/// Items backwards.
+#[tactic(auto, using(crate::proofs::Measures::reversed_view))]
+fn turned(items: Vec<Value>) -> Vec<Value>
+    ensures { items_view result.items ≡ reversed_items (items_view items.items) }
+{
+    let mut items = items;
     items.reverse();
-    Ok(payload::list(alloc, items)?)
+    items
 }
 
 /// The list of a map's keys backwards.
@@ -189,10 +236,20 @@ fn reversed_key_list(
     ensures { Answers result
         (limited_by limits (Ok (tree.list (reversed_items (key_items (entries_view entries.now)))))) }
 {
-    allow(keys_size(entries).saturating_add(1), 1, limits)?;
-    let mut items = keys(alloc, entries)?;
-    items.reverse();
-    Ok(payload::list(alloc, items)?)
+    allow_reversed_keys(entries, limits)?;
+    let turned = turned(keys(alloc, entries)?);
+    Ok(payload::list(alloc, turned)?)
+}
+
+/// Tests the size and nesting of the list of a map's keys backwards.
+#[tactic(auto, using(crate::proofs::Measures::keys_nesting, crate::proofs::Measures::reversed_size, crate::proofs::Measures::reversed_nesting))]
+fn allow_reversed_keys(entries: &[(String, Value)], limits: Limits) -> Result<(), OpError>
+    ensures ok { let t = tree.list (reversed_items (key_items (entries_view entries.now))) in
+        OnOk result (limited_by limits (Ok t) ≡ Ok t) }
+    ensures refused { let t = tree.list (reversed_items (key_items (entries_view entries.now))) in
+        IfErr result (λ e. limited_by limits (Ok t) ≡ Err e) }
+{
+    allow(keys_size(entries).saturating_add(1), 1, limits)
 }
 
 /// The size and the nesting of some items, each the greatest number where it is greater.
