@@ -2,6 +2,9 @@ pub mod Choices
 pub mod FilterRows
 pub mod Lists
 pub mod Measures
+pub mod Merges
+pub mod MergeSteps
 pub mod Numerals
+pub mod Orders
 pub mod Payloads
 pub mod Changes

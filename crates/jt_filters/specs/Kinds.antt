@@ -10,13 +10,16 @@ abbrev pub is_plain : Tree → Bool
 is_plain (text s) = true
 is_plain t = false
 
+-- whether each item passes a test
+abbrev pub all_items : (Tree → Bool) → Items → Bool
+all_items test no_items = true
+all_items test (item t ts) = test t && all_items test ts
+
 abbrev pub all_numbers : Items → Bool
-all_numbers no_items = true
-all_numbers (item t ts) = is_number t && all_numbers ts
+all_numbers ts = all_items is_number ts
 
 abbrev pub all_plain : Items → Bool
-all_plain no_items = true
-all_plain (item t ts) = is_plain t && all_plain ts
+all_plain ts = all_items is_plain ts
 
 abbrev pub has_undefined : Items → Bool
 has_undefined no_items = false

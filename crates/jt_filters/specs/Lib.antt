@@ -7,4 +7,5 @@ pub mod Mapping
 pub mod Numbers
 pub mod Ordering
 pub mod Payload
+pub mod Ranks
 pub mod Texts

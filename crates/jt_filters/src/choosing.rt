@@ -30,7 +30,7 @@ pub(crate) fn are_numbers(items: &[Value]) -> bool
 }
 
 /// Whether all items are plain texts.
-fn are_plain(items: &[Value]) -> bool
+pub(crate) fn are_plain(items: &[Value]) -> bool
     ensures { result ≡ all_plain (items_view items.now) }
 {
     for item in items {
@@ -126,7 +126,7 @@ fn precedes(item: &Value, other: &Value) -> bool
 }
 
 /// Whether a text comes before another by fold.
-fn text_precedes(left: &str, right: &str) -> bool
+pub(crate) fn text_precedes(left: &str, right: &str) -> bool
     ensures { result ≡ ordering.text_precedes left.now right.now }
 {
     let others = right.as_bytes();

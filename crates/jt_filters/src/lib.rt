@@ -7,6 +7,7 @@ mod items;
 mod listing;
 mod numbers;
 mod payload;
+mod sorting;
 mod texts;
 
 pub use filter_id::FilterId;

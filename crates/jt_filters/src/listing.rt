@@ -300,7 +300,7 @@ fn pair_list(alloc: Global, entries: &[(String, Value)], limits: Limits) -> Resu
 }
 
 /// Tests the size and nesting of the list of a map's entries.
-pub(crate) fn allow_pairs(entries: &[(String, Value)], limits: Limits) -> Result<(), OpError>
+fn allow_pairs(entries: &[(String, Value)], limits: Limits) -> Result<(), OpError>
     ensures ok { let t = tree.list (pair_items (entries_view entries.now)) in
         OnOk result (limited_by limits (Ok t) ≡ Ok t) }
     ensures refused { let t = tree.list (pair_items (entries_view entries.now)) in
@@ -311,7 +311,7 @@ pub(crate) fn allow_pairs(entries: &[(String, Value)], limits: Limits) -> Result
 }
 
 /// The size and the nesting of a map's entries as lists, each the greatest number where it is greater.
-fn pairs_measure(entries: &[(String, Value)]) -> (u64, u32)
+pub(crate) fn pairs_measure(entries: &[(String, Value)]) -> (u64, u32)
     ensures size { result.0 ≡ min (items_size (pair_items (entries_view entries.now))) (2 ^ 64 - 1) }
     ensures nesting { result.1 ≡ min (items_nesting (pair_items (entries_view entries.now))) (2 ^ 32 - 1) }
 {
