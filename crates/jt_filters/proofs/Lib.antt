@@ -7,4 +7,5 @@ pub mod MergeSteps
 pub mod Numerals
 pub mod Orders
 pub mod Payloads
+pub mod Replacements
 pub mod Changes

@@ -7,6 +7,7 @@ mod items;
 mod listing;
 mod numbers;
 mod payload;
+mod replacing;
 mod sorting;
 mod texts;
 
