@@ -7,7 +7,6 @@ use Rattle.jt_filters.specs.declared.filter_id.FilterId.TheVariants as filter
 
 abbrev pub filter_row : FilterId → ℕ × ℕ × ℕ × List (List ℕ) × List (List ℕ)
 filter_row filter.Abs = (0, 1, 1, codes "abs" ∷ [], [])
-filter_row filter.Attr = (1, 2, 2, codes "attr" ∷ [], codes "name" ∷ [])
 filter_row filter.Capitalize = (2, 1, 1, codes "capitalize" ∷ [], [])
 filter_row filter.Default = (3, 1, 3, codes "default" ∷ codes "d" ∷ [], codes "default_value" ∷ codes "boolean" ∷ [])
 filter_row filter.DictSort = (4, 1, 1, codes "dictsort" ∷ [], [])
@@ -21,23 +20,17 @@ filter_row filter.Last = (11, 1, 1, codes "last" ∷ [], [])
 filter_row filter.Length = (12, 1, 1, codes "length" ∷ codes "count" ∷ [], [])
 filter_row filter.List = (13, 1, 1, codes "list" ∷ [], [])
 filter_row filter.Lower = (14, 1, 1, codes "lower" ∷ [], [])
-filter_row filter.Map = (15, 2, 255, codes "map" ∷ [], [])
 filter_row filter.Max = (16, 1, 1, codes "max" ∷ [], [])
 filter_row filter.Min = (17, 1, 1, codes "min" ∷ [], [])
-filter_row filter.Reject = (18, 1, 255, codes "reject" ∷ [], [])
-filter_row filter.RejectAttr = (19, 2, 255, codes "rejectattr" ∷ [], [])
 filter_row filter.Replace = (20, 3, 3, codes "replace" ∷ [], codes "old" ∷ codes "new" ∷ [])
 filter_row filter.Reverse = (21, 1, 1, codes "reverse" ∷ [], [])
 filter_row filter.Safe = (22, 1, 1, codes "safe" ∷ [], [])
-filter_row filter.Select = (23, 1, 255, codes "select" ∷ [], [])
-filter_row filter.SelectAttr = (24, 2, 255, codes "selectattr" ∷ [], [])
 filter_row filter.Sort = (25, 1, 2, codes "sort" ∷ [], codes "reverse" ∷ [])
 filter_row filter.String = (26, 1, 1, codes "string" ∷ [], [])
 filter_row filter.Sum = (27, 1, 1, codes "sum" ∷ [], [])
 filter_row filter.Trim = (28, 1, 1, codes "trim" ∷ [], [])
 filter_row filter.Unique = (29, 1, 1, codes "unique" ∷ [], [])
 filter_row filter.Upper = (30, 1, 1, codes "upper" ∷ [], [])
-filter_row filter.MapAttribute = (31, 2, 2, [], codes "attribute" ∷ [])
 
 abbrev pub filter_id : FilterId → ℕ
 filter_id f = (filter_row f).0
@@ -61,4 +54,4 @@ place_of f name = option_map (λ i. i + 1) (position (λ other. bytes_eq other n
 -- all filters, in the order of their ids
 abbrev pub filters : List FilterId
 filters =
-    filter.Abs ∷ filter.Attr ∷ filter.Capitalize ∷ filter.Default ∷ filter.DictSort ∷ filter.Escape ∷ filter.First ∷ filter.ForceEscape ∷ filter.Int ∷ filter.Items ∷ filter.Join ∷ filter.Last ∷ filter.Length ∷ filter.List ∷ filter.Lower ∷ filter.Map ∷ filter.Max ∷ filter.Min ∷ filter.Reject ∷ filter.RejectAttr ∷ filter.Replace ∷ filter.Reverse ∷ filter.Safe ∷ filter.Select ∷ filter.SelectAttr ∷ filter.Sort ∷ filter.String ∷ filter.Sum ∷ filter.Trim ∷ filter.Unique ∷ filter.Upper ∷ filter.MapAttribute ∷ []
+    filter.Abs ∷ filter.Capitalize ∷ filter.Default ∷ filter.DictSort ∷ filter.Escape ∷ filter.First ∷ filter.ForceEscape ∷ filter.Int ∷ filter.Items ∷ filter.Join ∷ filter.Last ∷ filter.Length ∷ filter.List ∷ filter.Lower ∷ filter.Max ∷ filter.Min ∷ filter.Replace ∷ filter.Reverse ∷ filter.Safe ∷ filter.Sort ∷ filter.String ∷ filter.Sum ∷ filter.Trim ∷ filter.Unique ∷ filter.Upper ∷ []

@@ -1,15 +1,19 @@
--- Filters that call a filter or a test on each item. Its name comes first, and its arguments behind it.
-use Rattle.std.specs.Prelude.{ℕ, suc, Bool, true, false, List, [], ◌∷◌, length, find, Option, Some, None, Result, Ok, Err, nat_eq, if◌then◌else◌}
+-- Filters that call a filter or a test on each item: its name comes first, and its arguments behind it. No call answers them yet.
+use Rattle.std.specs.Prelude.{ℕ, suc, Bool, true, false, ◌&&◌, nat_le, List, [], ◌∷◌, length, find, Option, Some, None, Result, Ok, Err, nat_eq, if◌then◌else◌}
 use Rattle.std.specs.List.{list_any}
 use Rattle.std.specs.Str.{bytes_eq}
 use Rattle.jt_value.specs.declared.fault.Fault.{Fault}
-use Rattle.jt_value.specs.declared.fault.Fault.TheVariants.{BadArgument, Undefined}
+use Rattle.jt_value.specs.declared.fault.Fault.TheVariants.{BadType, BadArgument, Undefined}
 use Rattle.jt_value.specs.Tree.{Tree, undefined, text, markup, list, Items, no_items, item, truth}
 use Rattle.jt_ops.specs.declared.test_id.TestId.{TestId}
 use Rattle.jt_ops.specs.ItemOf.{item_of}
 use Rattle.jt_ops.specs.Tables.{tests}
 use Rattle.jt_ops.specs.TestTable.{test_names, test_values}
 use Rattle.jt_ops.specs.Testing.{is_text, tested, turned_round}
+use Rattle.jt_filters.specs.declared.filter_id.FilterId.{FilterId}
+use Rattle.jt_filters.specs.FilterTable.{filters, filter_names, least_values, most_values}
+use Rattle.jt_filters.specs.Filtering.{filtered}
+use Rattle.jt_filters.specs.Listing.{on_items}
 
 -- what a text names, as long as the value is a text
 abbrev pub named_by : {A : Type 0} → (List ℕ → Option A) → Tree → Option A
@@ -95,3 +99,38 @@ each change (item t ts) = result_before (change t) (each change ts)
 -- `map` by an attribute
 abbrev pub attributes : Tree → Items → Result Tree Fault
 attributes key ts = if is_text key then as_list (each (λ t. item_of t key) ts) else Err BadArgument
+
+-- the filter of a name; none of those here, which `map` doesn't call
+abbrev pub filter_named : List ℕ → Option FilterId
+filter_named name = find (λ f. list_any (bytes_eq name) (filter_names f)) filters
+
+-- whether a filter takes so many values, its input among them
+abbrev pub takes_values : FilterId → ℕ → Bool
+takes_values f n = nat_le (least_values f) n && nat_le n (most_values f)
+
+-- `map` by a filter with arguments, if it may be called with so many
+abbrev pub mapped_by : Option FilterId → Bool → List Tree → Items → Result Tree Fault
+mapped_by None autoescape arguments ts = Err BadArgument
+mapped_by (Some f) autoescape arguments ts =
+    if takes_values f (suc (length arguments)) then as_list (each (λ t. filtered f autoescape (t ∷ arguments)) ts) else Err BadArgument
+
+-- `attr`, `map`, `select` and `reject`, `selectattr` and `rejectattr`, `map` by an attribute, on their values, the input first
+abbrev pub attr : List Tree → Result Tree Fault
+attr (t ∷ name ∷ []) = attribute t name
+attr ts = Err BadType
+
+abbrev pub map : Bool → List Tree → Result Tree Fault
+map autoescape (t ∷ name ∷ arguments) = on_items (mapped_by (named_by filter_named name) autoescape arguments) t
+map autoescape ts = Err BadType
+
+abbrev pub select : Bool → List Tree → Result Tree Fault
+select passes (t ∷ arguments) = on_items (selected passes arguments) t
+select passes ts = Err BadType
+
+abbrev pub select_by : Bool → List Tree → Result Tree Fault
+select_by passes (t ∷ key ∷ arguments) = on_items (selected_by passes key arguments) t
+select_by passes ts = Err BadType
+
+abbrev pub map_attribute : List Tree → Result Tree Fault
+map_attribute (t ∷ key ∷ []) = on_items (attributes key) t
+map_attribute ts = Err BadType

@@ -6,7 +6,6 @@ ghost use Rattle.jt_filters.specs.FilterTable.{filter_id, filter_names, least_va
 #[derive(Clone, Copy, Debug, PartialEq, Eq)]
 pub enum FilterId {
     Abs,
-    Attr,
     Capitalize,
     Default,
     DictSort,
@@ -20,23 +19,17 @@ pub enum FilterId {
     Length,
     List,
     Lower,
-    Map,
     Max,
     Min,
-    Reject,
-    RejectAttr,
     Replace,
     Reverse,
     Safe,
-    Select,
-    SelectAttr,
     Sort,
     String,
     Sum,
     Trim,
     Unique,
     Upper,
-    MapAttribute,
 }
 
 impl FilterId {
@@ -46,7 +39,6 @@ impl FilterId {
     {
         match self {
             FilterId::Abs => 0,
-            FilterId::Attr => 1,
             FilterId::Capitalize => 2,
             FilterId::Default => 3,
             FilterId::DictSort => 4,
@@ -60,23 +52,17 @@ impl FilterId {
             FilterId::Length => 12,
             FilterId::List => 13,
             FilterId::Lower => 14,
-            FilterId::Map => 15,
             FilterId::Max => 16,
             FilterId::Min => 17,
-            FilterId::Reject => 18,
-            FilterId::RejectAttr => 19,
             FilterId::Replace => 20,
             FilterId::Reverse => 21,
             FilterId::Safe => 22,
-            FilterId::Select => 23,
-            FilterId::SelectAttr => 24,
             FilterId::Sort => 25,
             FilterId::String => 26,
             FilterId::Sum => 27,
             FilterId::Trim => 28,
             FilterId::Unique => 29,
             FilterId::Upper => 30,
-            FilterId::MapAttribute => 31,
         }
     }
 
@@ -87,7 +73,6 @@ impl FilterId {
     {
         match id {
             0 => Some(FilterId::Abs),
-            1 => Some(FilterId::Attr),
             2 => Some(FilterId::Capitalize),
             3 => Some(FilterId::Default),
             4 => Some(FilterId::DictSort),
@@ -101,36 +86,28 @@ impl FilterId {
             12 => Some(FilterId::Length),
             13 => Some(FilterId::List),
             14 => Some(FilterId::Lower),
-            15 => Some(FilterId::Map),
             16 => Some(FilterId::Max),
             17 => Some(FilterId::Min),
-            18 => Some(FilterId::Reject),
-            19 => Some(FilterId::RejectAttr),
             20 => Some(FilterId::Replace),
             21 => Some(FilterId::Reverse),
             22 => Some(FilterId::Safe),
-            23 => Some(FilterId::Select),
-            24 => Some(FilterId::SelectAttr),
             25 => Some(FilterId::Sort),
             26 => Some(FilterId::String),
             27 => Some(FilterId::Sum),
             28 => Some(FilterId::Trim),
             29 => Some(FilterId::Unique),
             30 => Some(FilterId::Upper),
-            31 => Some(FilterId::MapAttribute),
             _ => None,
         }
     }
 
-    /// The filter of a name; none where no filter has it. `map` is `Map`: that it is `MapAttribute` where its only argument is
-    /// named `attribute`, its caller says.
+    /// The filter of a name; none where no filter has it.
     pub fn by_name(name: &str) -> Option<FilterId>
         ensures found { IfSome result (λ filter. Contains (filter_names filter) name.now) }
         ensures only { (filter : FilterId) → Contains (filter_names filter) name.now → result ≡ Some filter }
     {
         match name {
             "abs" => Some(FilterId::Abs),
-            "attr" => Some(FilterId::Attr),
             "capitalize" => Some(FilterId::Capitalize),
             "default" | "d" => Some(FilterId::Default),
             "dictsort" => Some(FilterId::DictSort),
@@ -144,16 +121,11 @@ impl FilterId {
             "length" | "count" => Some(FilterId::Length),
             "list" => Some(FilterId::List),
             "lower" => Some(FilterId::Lower),
-            "map" => Some(FilterId::Map),
             "max" => Some(FilterId::Max),
             "min" => Some(FilterId::Min),
-            "reject" => Some(FilterId::Reject),
-            "rejectattr" => Some(FilterId::RejectAttr),
             "replace" => Some(FilterId::Replace),
             "reverse" => Some(FilterId::Reverse),
             "safe" => Some(FilterId::Safe),
-            "select" => Some(FilterId::Select),
-            "selectattr" => Some(FilterId::SelectAttr),
             "sort" => Some(FilterId::Sort),
             "string" => Some(FilterId::String),
             "sum" => Some(FilterId::Sum),
@@ -171,10 +143,7 @@ impl FilterId {
         let (least, most) = match self {
             FilterId::Default => (1, 3),
             FilterId::Int | FilterId::Join | FilterId::Sort => (1, 2),
-            FilterId::Attr | FilterId::MapAttribute => (2, 2),
             FilterId::Replace => (3, 3),
-            FilterId::Reject | FilterId::Select => (1, 255),
-            FilterId::Map | FilterId::RejectAttr | FilterId::SelectAttr => (2, 255),
             _ => (1, 1),
         };
         least <= values && values <= most
@@ -186,7 +155,6 @@ impl FilterId {
         ensures { result ≡ place_of self argument.now }
     {
         match (self, argument) {
-            (FilterId::Attr, "name") => Some(1),
             (FilterId::Default, "default_value") => Some(1),
             (FilterId::Default, "boolean") => Some(2),
             (FilterId::Int, "default") => Some(1),
@@ -194,7 +162,6 @@ impl FilterId {
             (FilterId::Replace, "old") => Some(1),
             (FilterId::Replace, "new") => Some(2),
             (FilterId::Sort, "reverse") => Some(1),
-            (FilterId::MapAttribute, "attribute") => Some(1),
             _ => None,
         }
     }

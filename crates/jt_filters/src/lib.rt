@@ -3,6 +3,7 @@
 
 mod choosing;
 mod filter_id;
+mod filters;
 mod items;
 mod listing;
 mod numbers;
@@ -12,4 +13,5 @@ mod sorting;
 mod texts;
 
 pub use filter_id::FilterId;
+pub use filters::apply;
 pub use jt_ops::{Limits, OpError, OpId, TestId, binary, range, test, unary};

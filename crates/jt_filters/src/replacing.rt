@@ -45,9 +45,20 @@ fn replaced(
     ensures { let text = tree.text (replaced_behind 0 old.now new.now text.now) in
         Answers result (limited_by limits (Ok text)) }
 {
-    allow(replaced_len(text, old, new).saturating_add(1), 0, limits)?;
+    allow_replaced(text, old, new, limits)?;
     let replaced = replaced_text(alloc, text, old, new)?;
     Ok(from_text(replaced)?)
+}
+
+/// Tests the size of that text.
+fn allow_replaced(text: &str, old: &str, new: &str, limits: Limits) -> Result<(), OpError>
+    requires { 0 < length old.now }
+    ensures ok { let t = tree.text (replaced_behind 0 old.now new.now text.now) in
+        OnOk result (limited_by limits (Ok t) ≡ Ok t) }
+    ensures refused { let t = tree.text (replaced_behind 0 old.now new.now text.now) in
+        IfErr result (λ e. limited_by limits (Ok t) ≡ Err e) }
+{
+    allow(replaced_len(text, old, new).saturating_add(1), 0, limits)
 }
 
 /// How many bytes the text has then, or the greatest number where they are more.

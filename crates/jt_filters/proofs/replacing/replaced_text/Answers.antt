@@ -32,4 +32,4 @@ loop-front-preserved c =
 pub returns : goal.returns
 returns c =
     let e = replaced_nowhere c.args.old.now c.args.new.now c.loop-front.rest.now c.in_default.ensures.cases in
-    c.in_ok-push_str.ensures.bytes ∙ ap (λ (t : List ℕ). string_bytes c.loop-front.replaced ++ t) (sym e) ∙ c.loop-front.invariant.same
+    c.in_ok-push_str-3.ensures.bytes ∙ ap (λ (t : List ℕ). string_bytes c.loop-front.replaced ++ t) (sym e) ∙ c.loop-front.invariant.same
