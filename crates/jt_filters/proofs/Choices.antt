@@ -1,5 +1,5 @@
 -- Comparisons of texts by fold, and items that are left out.
-use Rattle.std.proofs.Common.{◌≡◌, ℕ, zero, suc, ◌+◌, ◌-◌, ◌<◌, ◌≤◌, Bool, true, false, cond, ltb, List, [], ◌∷◌, ◌++◌, length, get_or, take, drop, refl, sym, ap, ◌∙◌, arith}
+use Rattle.std.proofs.Common.{◌≡◌, ℕ, ◌+◌, ◌<◌, ◌≤◌, Bool, true, false, cond, List, [], ◌∷◌, ◌++◌, length, get_or, drop, refl, sym, ap, ◌∙◌, arith}
 use Rattle.std.specs.Prelude.{nat_lt}
 use Rattle.std.proofs.lemmas.List.{at_drop_more, at_drop_all}
 use Rattle.std.proofs.lemmas.Bool.Decides.{nat_tests}
@@ -49,9 +49,9 @@ kept_more before after copy x xs i all inside at is same new inv =
     ap (λ (k : Items). joined_items k (unseen k rest)) grown
     ∙ joined_joined (items_view before) (item (view x) no_items) (unseen (joined_items (items_view before) (item (view x) no_items)) rest)
     ∙ ap (λ (ts : Items). joined_items (items_view before) ts)
-        (sym (at_drop_more (λ (vs : List Value). unseen (items_view before) (items_view vs)) xs i x inside
-        ∙ ap (λ (y : Value). unseen (items_view before) (item (view y) rest)) (sym at)
-        ∙ ap (λ (b : Bool). cond b (unseen (items_view before) rest) (item (view x) (unseen (joined_items (items_view before) (item (view x) no_items)) rest))) new))
+    (sym (at_drop_more (λ (vs : List Value). unseen (items_view before) (items_view vs)) xs i x inside
+    ∙ ap (λ (y : Value). unseen (items_view before) (item (view y) rest)) (sym at)
+    ∙ ap (λ (b : Bool). cond b (unseen (items_view before) rest) (item (view x) (unseen (joined_items (items_view before) (item (view x) no_items)) rest))) new))
     ∙ inv
 
 -- a step over an item that is left out
@@ -61,7 +61,7 @@ pub left_out : (before : List Value) (x : Value) (xs : List Value) (i : ℕ) (al
 left_out before x xs i all inside at old inv =
     let rest = items_view (drop (i + 1) xs) in
     ap (λ (ts : Items). joined_items (items_view before) ts)
-        (sym (at_drop_more (λ (vs : List Value). unseen (items_view before) (items_view vs)) xs i x inside
-        ∙ ap (λ (y : Value). unseen (items_view before) (item (view y) rest)) (sym at)
-        ∙ ap (λ (b : Bool). cond b (unseen (items_view before) rest) (item (view x) (unseen (joined_items (items_view before) (item (view x) no_items)) rest))) old))
+    (sym (at_drop_more (λ (vs : List Value). unseen (items_view before) (items_view vs)) xs i x inside
+    ∙ ap (λ (y : Value). unseen (items_view before) (item (view y) rest)) (sym at)
+    ∙ ap (λ (b : Bool). cond b (unseen (items_view before) rest) (item (view x) (unseen (joined_items (items_view before) (item (view x) no_items)) rest))) old))
     ∙ inv

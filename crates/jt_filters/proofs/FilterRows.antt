@@ -1,8 +1,8 @@
 -- Rows of filters, computed: what prints of an expression, while escaping or not.
-use Rattle.std.specs.Prelude.{◌≡◌, ℕ, Bool, true, false, ◌||◌, not, List, [], ◌∷◌, ◌++◌, Option, Some, None, pos, negsuc, Result, Ok, Err, codes, refl, if◌then◌else◌}
+use Rattle.std.specs.Prelude.{◌≡◌, ℕ, Bool, true, false, ◌||◌, not, List, [], ◌∷◌, ◌++◌, Option, Some, None, pos, Result, Ok, Err, codes, refl, if◌then◌else◌}
 use Rattle.jt_value.specs.declared.fault.Fault.{Fault}
 use Rattle.jt_value.specs.declared.fault.Fault.TheVariants as fault
-use Rattle.jt_value.specs.Tree.{Tree, undefined, nothing, truth_value, number, text, markup, list, Items, no_items, item, Entries, no_entries, entry, printed}
+use Rattle.jt_value.specs.Tree.{Tree, undefined, nothing, truth_value, number, text, markup, printed}
 use Rattle.jt_escape.specs.Escaping.{escaped}
 use Rattle.jt_ops.specs.declared.op_id.OpId.TheVariants as op
 use Rattle.jt_ops.specs.declared.test_id.TestId.TheVariants as test

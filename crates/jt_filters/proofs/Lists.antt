@@ -1,11 +1,11 @@
 -- Items, one more at the end.
 use Rattle.std.proofs.lemmas.List.{at_drop_more, at_drop_all}
-use Rattle.std.proofs.Common.{◌≡◌, ℕ, ◌+◌, ◌<◌, ◌≤◌, map, List, [], ◌∷◌, ◌++◌, length, take, drop, get_or, String, Global, string_bytes, refl, sym, ap, ◌∙◌}
+use Rattle.std.proofs.Common.{◌≡◌, ℕ, ◌+◌, ◌<◌, ◌≤◌, map, List, [], ◌∷◌, ◌++◌, length, drop, get_or, refl, sym, ap, ◌∙◌}
 use Rattle.std.specs.Char.{encode_utf8}
 use Rattle.jt_value.specs.Tree as tree
 use Rattle.jt_value.specs.Tree.{Tree, Items, no_items, item, Entries, no_entries, entry}
-use Rattle.jt_value.specs.Iteration.{character_items, key_items}
-use Rattle.jt_value.specs.View.{view, items_view, entries_view}
+use Rattle.jt_value.specs.Iteration.{character_items}
+use Rattle.jt_value.specs.View.{view, items_view}
 use Rattle.jt_value.specs.declared.value.Value.{Value}
 use Rattle.jt_value.proofs.Lists.{more_items, items_view-push}
 use Rattle.jt_ops.specs.Joining.{joined_items}
@@ -46,7 +46,7 @@ pub made_more : {X : Type 0} (F : List X → Items) (before after : List Value) 
 made_more {X} F before after v xs i x u all inside at is same one inv =
     pushed before after v u (F (drop (i + 1) xs)) is same
     ∙ ap (λ (ts : Items). joined_items (items_view before) ts)
-        (sym one ∙ ap (λ (y : X). F (y ∷ drop (i + 1) xs)) at ∙ sym (at_drop_more F xs i x inside))
+    (sym one ∙ ap (λ (y : X). F (y ∷ drop (i + 1) xs)) at ∙ sym (at_drop_more F xs i x inside))
     ∙ inv
 
 -- the end of such a loop

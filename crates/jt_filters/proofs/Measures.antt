@@ -1,11 +1,11 @@
 -- Sizes and nestings of lists that are made of texts and maps.
-use Rattle.std.proofs.Common.{◌≡◌, ℕ, ◌+◌, ◌-◌, ◌^◌, ◌≤◌, max, min, List, [], ◌∷◌, ◌++◌, reverse, length, refl, sym, ap, ◌∙◌, arith, length-append}
+use Rattle.std.proofs.Common.{◌≡◌, ℕ, ◌+◌, List, [], ◌∷◌, reverse, length, refl, ap, ◌∙◌, arith, length-append}
 use Rattle.std.specs.Str.{chars, encode_utf8_all, IsUtf8}
 use Rattle.std.specs.Char.{encode_utf8}
 use Rattle.std.proofs.lemmas.Str.{encodes-chars}
 use Rattle.std.proofs.lemmas.List.{reverse-append}
 use Rattle.jt_value.specs.Iteration.{character_items, key_items}
-use Rattle.jt_value.specs.Tree.{Tree, list, Items, no_items, item, Entries, no_entries, entry, size, nesting, items_size, items_nesting}
+use Rattle.jt_value.specs.Tree.{Tree, Items, no_items, item, Entries, no_entries, entry, items_size, items_nesting}
 use Rattle.jt_value.specs.View.{view, items_view}
 use Rattle.jt_value.specs.declared.value.Value.{Value}
 use Rattle.jt_value.proofs.Lists.{more_items, items_view-push}

@@ -1,6 +1,6 @@
 -- The numbers that texts write.
-use Rattle.std.proofs.Common.{◌≡◌, ℕ, zero, suc, ◌+◌, ◌^◌, ◌<◌, ◌≤◌, Bool, true, false, cond, Option, Some, None, List, [], ◌∷◌, length, drop, ℤ, pos, negsuc, neg_ℤ, refl, sym, ap, ◌∙◌, inl, inr, eqb-true, arith}
-use Rattle.std.specs.Prelude.{Result, Ok, Err, FitsSigned, nat_lt, ◌==◌, ◌&&◌, ◌⊎◌, if◌then◌else◌}
+use Rattle.std.proofs.Common.{◌≡◌, ℕ, ◌^◌, ◌<◌, Bool, true, false, Option, Some, None, List, [], ◌∷◌, length, ℤ, pos, negsuc, refl, sym, ap, ◌∙◌, inl, inr, eqb-true, arith}
+use Rattle.std.specs.Prelude.{Result, Ok, Err, FitsSigned, ◌==◌, ◌⊎◌, if◌then◌else◌}
 use Rattle.std.specs.Char.{digit_value, is_ascii_digit}
 use Rattle.std.specs.Int.{w64}
 use Rattle.std.specs.List.{list_all}
@@ -9,7 +9,6 @@ use Rattle.std.specs.Option.{option_and_then}
 use Rattle.std.specs.Str.Parse.{AllDigits, IsNumeral, ParsesSigned, digits_value, without_leading_sign, signed_digits_value}
 use Rattle.std.proofs.lemmas.Bool.{and_parts, false≢true}
 use Rattle.std.proofs.lemmas.Bool.Decides.{nat_tests}
-use Rattle.jt_value.specs.Tree.{is_nonempty}
 use Rattle.jt_ops.specs.Arithmetic.{is_in_range}
 use Rattle.jt_filters.specs.Numbers.{number_of_digits, number_with_sign, number_of_text}
 

@@ -3,18 +3,17 @@ use Rattle.std.specs.Prelude.{option_map, slice_get}
 use Rattle.std.specs.Option.{option_and_then}
 use Rattle.std.proofs.lemmas.Bool.Decides.{nat_tests}
 use Rattle.jt_ops.specs.ItemOf.{item_at, items_count, indexed_item}
-use Rattle.std.proofs.Common.{◌≡◌, ℕ, zero, suc, ◌+◌, ◌-◌, negsuc, Bool, true, cond, ltb, List, [], ◌∷◌, length, Option, Some, None, refl, ap, sym, ◌∙◌, arith}
+use Rattle.std.proofs.Common.{◌≡◌, ℕ, zero, suc, ◌+◌, ◌-◌, negsuc, Bool, true, cond, ltb, List, [], ◌∷◌, length, Some, None, refl, ap, sym, ◌∙◌, arith}
 use Rattle.jt_value.proofs.Lists.{Pair}
 use Rattle.jt_value.specs.View.{view, items_view, entries_view}
 use Rattle.jt_value.specs.declared.value.Value.{Value}
 use Rattle.jt_ops.proofs.Places.{items_count_view}
 use Rattle.jt_filters.specs.Listing.{length_of, counted, entries_count}
-use Rattle.std.specs.Prelude.{Result, Ok, Err}
+use Rattle.std.specs.Prelude.{Ok, Err}
 use Rattle.std.specs.Str.{chars}
 use Rattle.jt_value.specs.Tree as tree
 use Rattle.jt_value.specs.Tree.{Tree, Items, no_items, Entries}
 use Rattle.jt_value.specs.Iteration.{items_of_tree, character_items, key_items}
-use Rattle.jt_value.specs.declared.fault.Fault.{Fault}
 use Rattle.jt_value.specs.declared.fault.Fault.TheVariants as fault
 use Rattle.jt_filters.specs.Payload.{text_of, items_of_list, entries_of_map}
 

@@ -20,8 +20,8 @@ replaced_here (b ∷ old) new rest some =
     let n : length (b ∷ old) - 1 ≡ length old = omega arith in
     ap (λ (x : Bool). cond x (new ++ replaced_behind (length (b ∷ old) - 1) (b ∷ old) new (old ++ rest)) (b ∷ replaced_behind 0 (b ∷ old) new (old ++ rest))) (begins_append (b ∷ old) rest)
     ∙ ap (λ (ts : List ℕ). new ++ ts)
-        (skipped (length (b ∷ old) - 1) (b ∷ old) new (old ++ rest)
-        ∙ ap (replaced_behind 0 (b ∷ old) new) (drop_at old rest (length (b ∷ old) - 1) (sym n)))
+    (skipped (length (b ∷ old) - 1) (b ∷ old) new (old ++ rest)
+    ∙ ap (replaced_behind 0 (b ∷ old) new) (drop_at old rest (length (b ∷ old) - 1) (sym n)))
 
 -- a byte at which it doesn't stand
 replaced_later : (begins : Bool) (old new s : List ℕ) (b : ℕ) → begins_with (b ∷ s) old ≡ begins → LacksTextAt old (b ∷ s) 0 → replaced_behind 0 old new (b ∷ s) ≡ b ∷ replaced_behind 0 old new s

@@ -1,6 +1,6 @@
 -- The filters: the id by which an image names each, the least and the most values that it takes with its input, its names, and
 -- the names of its arguments, the first at place 1, where these may be given by name.
-use Rattle.std.specs.Prelude.{ℕ, List, [], ◌∷◌, ◌+◌, Option, Some, None, option_map, position, codes}
+use Rattle.std.specs.Prelude.{ℕ, List, [], ◌∷◌, ◌+◌, Option, option_map, position, codes}
 use Rattle.std.specs.Str.{bytes_eq}
 use Rattle.jt_filters.specs.declared.filter_id.FilterId.{FilterId}
 use Rattle.jt_filters.specs.declared.filter_id.FilterId.TheVariants as filter

@@ -1,9 +1,9 @@
 -- Filters on the items and the entries of a value.
-use Rattle.std.specs.Prelude.{ℕ, ◌+◌, zero, pos, negsuc, Bool, List, [], ◌∷◌, length, Result, Ok, Err, if◌then◌else◌}
+use Rattle.std.specs.Prelude.{ℕ, ◌+◌, pos, negsuc, Bool, List, length, Result, Ok, Err, if◌then◌else◌}
 use Rattle.std.specs.Str.{chars}
 use Rattle.jt_value.specs.declared.fault.Fault.{Fault}
 use Rattle.jt_value.specs.Iteration.{key_items, items_of_tree}
-use Rattle.jt_value.specs.Tree.{Tree, undefined, number, text, markup, list, map, Items, no_items, item, Entries, no_entries, entry}
+use Rattle.jt_value.specs.Tree.{Tree, undefined, text, markup, list, map, Items, no_items, item, Entries, no_entries, entry}
 use Rattle.jt_escape.specs.Joining.{joined_markup, joined_plain}
 use Rattle.jt_ops.specs.Arithmetic.{in_range, as_number}
 use Rattle.jt_ops.specs.ItemOf.{indexed_item, items_count, or_undefined}

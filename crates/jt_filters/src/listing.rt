@@ -15,7 +15,9 @@ use crate::payload;
 use crate::payload::{as_list, as_map, as_text, from_text};
 use crate::texts::backwards;
 use jt_escape::{join_markup, join_plain};
-use jt_ops::{Limits, OpError, allow, character_count, copy_within, misfit_of_one, number_within, within};
+use jt_ops::{
+    Limits, OpError, allow, character_count, copy_within, misfit_of_one, number_within, within,
+};
 use jt_value::{Fault, NoMemory, Value};
 use std::alloc::Global;
 

@@ -8,8 +8,8 @@ ghost use Rattle.jt_ops.specs.Pieces.{of_kind};
 ghost use Rattle.jt_filters.specs.Texts.{keeping_kind, unchanged, of_same_kind, escaped_once, escaped_again};
 ghost use Rattle.jt_filters.specs.Texts as texts;
 
-use jt_ops::{Kind, Limits, OpError, Piece, allow, alone, printed_text};
 use crate::payload::from_text;
+use jt_ops::{Kind, Limits, OpError, Piece, allow, alone, printed_text};
 use jt_value::{NoMemory, Value};
 use std::alloc::Global;
 

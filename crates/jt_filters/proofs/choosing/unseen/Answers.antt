@@ -1,4 +1,4 @@
-use Rattle.std.proofs.Common.{◌≡◌, List, ap, sym, ◌∙◌, false, true, rules}
+use Rattle.std.proofs.Common.{◌≡◌, List, ap, sym, ◌∙◌, false, true}
 use Rattle.jt_value.specs.Tree.{Items}
 use Rattle.jt_value.specs.View.{view, items_view}
 use Rattle.jt_value.specs.declared.value.Value.{Value}
@@ -26,5 +26,5 @@ pub returns : goal.returns
 returns c =
     sym (joined_none (items_view c.loop-item.kept.items))
     ∙ sym (ap (λ (ts : Items). joined_items (items_view c.loop-item.kept.items) ts)
-        (at_drop_all (λ (vs : List Value). unseen (items_view c.loop-item.kept.items) (items_view vs)) c.args.items.now c.loop-item.item-index c.loop-item-test.false))
+    (at_drop_all (λ (vs : List Value). unseen (items_view c.loop-item.kept.items) (items_view vs)) c.args.items.now c.loop-item.item-index c.loop-item-test.false))
     ∙ c.loop-item.invariant

@@ -1,4 +1,4 @@
-use Rattle.std.proofs.Common.{List, ℕ, arith}
+use Rattle.std.proofs.Common.{List, arith}
 use Rattle.std.proofs.lemmas.List.{at_drop_all}
 use Rattle.jt_value.proofs.Lists.{Pair}
 use Rattle.jt_value.specs.Iteration.{key_items}

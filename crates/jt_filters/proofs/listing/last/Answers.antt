@@ -1,9 +1,3 @@
-use Rattle.std.proofs.Common.{◌≡◌, sym, ap, ◌∙◌}
-use Rattle.std.specs.Prelude.{option_map, Ok}
-use Rattle.jt_value.specs.View.{view}
-use Rattle.jt_value.specs.Tree.{Tree, Items}
-use Rattle.jt_ops.specs.ItemOf.{or_undefined}
-use Rattle.jt_filters.specs.Listing.{last_item, given}
 use Rattle.jt_filters.proofs.Payloads.{last_view}
 use Rattle.jt_filters.proofs.listing.last.Goals as goal
 

@@ -1,4 +1,4 @@
-use Rattle.std.proofs.Common.{◌≡◌, ◌+◌, ◌-◌, ◌^◌, ℕ, min, length, ap, ◌∙◌, sym, Err, Ok, arith, rules}
+use Rattle.std.proofs.Common.{◌≡◌, ap, ◌∙◌, sym, Err, Ok, arith, rules}
 use Rattle.jt_value.specs.Tree as tree
 use Rattle.jt_value.specs.Tree.{Tree}
 use Rattle.jt_ops.proofs.Answering.{answers_refusal}
