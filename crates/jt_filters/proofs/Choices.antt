@@ -6,8 +6,9 @@ use Rattle.std.proofs.lemmas.Bool.Decides.{nat_tests}
 use Rattle.jt_value.specs.Tree.{Tree, Items, no_items, item}
 use Rattle.jt_value.specs.View.{view, items_view}
 use Rattle.jt_value.specs.declared.value.Value.{Value}
-use Rattle.jt_value.proofs.Lists.{more_items, items_view-push}
-use Rattle.jt_ops.specs.Joining.{joined_items}
+use Rattle.jt_value.specs.Payload.{more_items}
+use Rattle.jt_value.proofs.Lists.{items_view-push}
+use Rattle.jt_value.specs.Payload.{joined_items}
 use Rattle.jt_filters.specs.Ordering.{text_precedes, unseen, has_alike}
 
 -- the second text ends first

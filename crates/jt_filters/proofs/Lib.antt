@@ -9,3 +9,4 @@ pub mod Orders
 pub mod Payloads
 pub mod Replacements
 pub mod Changes
+pub mod Weaker

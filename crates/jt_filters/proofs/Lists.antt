@@ -7,8 +7,9 @@ use Rattle.jt_value.specs.Tree.{Tree, Items, no_items, item, Entries, no_entries
 use Rattle.jt_value.specs.Iteration.{character_items}
 use Rattle.jt_value.specs.View.{view, items_view}
 use Rattle.jt_value.specs.declared.value.Value.{Value}
-use Rattle.jt_value.proofs.Lists.{more_items, items_view-push}
-use Rattle.jt_ops.specs.Joining.{joined_items}
+use Rattle.jt_value.specs.Payload.{more_items}
+use Rattle.jt_value.proofs.Lists.{items_view-push}
+use Rattle.jt_value.specs.Payload.{joined_items}
 
 -- one more item behind the others, and then the rest
 pub joined_pushed : (ts us : Items) (u : Tree) → joined_items (more_items ts u) us ≡ joined_items ts (item u us)

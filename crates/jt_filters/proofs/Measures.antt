@@ -8,9 +8,10 @@ use Rattle.jt_value.specs.Iteration.{character_items, key_items}
 use Rattle.jt_value.specs.Tree.{Tree, Items, no_items, item, Entries, no_entries, entry, items_size, items_nesting}
 use Rattle.jt_value.specs.View.{view, items_view}
 use Rattle.jt_value.specs.declared.value.Value.{Value}
-use Rattle.jt_value.proofs.Lists.{more_items, items_view-push}
-use Rattle.jt_ops.proofs.Loops.{joined_size, joined_nesting}
-use Rattle.jt_ops.specs.Joining.{joined_items}
+use Rattle.jt_value.specs.Payload.{more_items}
+use Rattle.jt_value.proofs.Lists.{items_view-push}
+use Rattle.jt_value.proofs.Lists.{joined_size, joined_nesting}
+use Rattle.jt_value.specs.Payload.{joined_items}
 use Rattle.jt_filters.specs.Listing.{reversed_items}
 
 characters_size_by : (cs : List ℕ) → items_size (character_items cs) ≡ length cs + length (encode_utf8_all cs)

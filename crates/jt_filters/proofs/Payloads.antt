@@ -15,7 +15,7 @@ use Rattle.jt_value.specs.Tree as tree
 use Rattle.jt_value.specs.Tree.{Tree, Items, no_items, Entries}
 use Rattle.jt_value.specs.Iteration.{items_of_tree, character_items, key_items}
 use Rattle.jt_value.specs.declared.fault.Fault.TheVariants as fault
-use Rattle.jt_filters.specs.Payload.{text_of, items_of_list, entries_of_map}
+use Rattle.jt_value.specs.Payload.{text_of, items_of_list, entries_of_map}
 
 pub list_is : (t : Tree) (ts : Items) → Some ts ≡ items_of_list t → t ≡ tree.list ts
 list_is (tree.list us) ts e = cc

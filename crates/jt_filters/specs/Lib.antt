@@ -1,3 +1,4 @@
+pub mod Answering
 pub mod FilterTable
 pub mod Filtering
 pub mod ItemsSeen
@@ -6,6 +7,5 @@ pub mod Listing
 pub mod Mapping
 pub mod Numbers
 pub mod Ordering
-pub mod Payload
 pub mod Ranks
 pub mod Texts

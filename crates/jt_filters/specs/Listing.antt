@@ -7,7 +7,7 @@ use Rattle.jt_value.specs.Tree.{Tree, undefined, text, markup, list, map, Items,
 use Rattle.jt_escape.specs.Joining.{joined_markup, joined_plain}
 use Rattle.jt_ops.specs.Arithmetic.{in_range, as_number}
 use Rattle.jt_ops.specs.ItemOf.{indexed_item, items_count, or_undefined}
-use Rattle.jt_ops.specs.Joining.{joined_items}
+use Rattle.jt_value.specs.Payload.{joined_items}
 use Rattle.jt_ops.specs.Operands.{misfit_of_one}
 use Rattle.jt_filters.specs.Texts.{backwards}
 

@@ -2,7 +2,8 @@
 ghost use Rattle.std.specs.Prelude.{◌≡◌, IfOk, option_map, option_copied};
 ghost use Rattle.jt_value.specs.Tree as tree;
 ghost use Rattle.jt_value.specs.View.{view, items_view};
-ghost use Rattle.jt_ops.specs.Limited.{limited_by, Answers};
+ghost use Rattle.jt_filters.specs.Answering.{Answers};
+ghost use Rattle.jt_ops.specs.Limited.{limited_by};
 ghost use Rattle.jt_filters.specs.Kinds as kinds;
 ghost use Rattle.jt_filters.specs.Kinds.{all_numbers, all_plain, have_order};
 ghost use Rattle.jt_ops.specs.ItemOf.{or_undefined};
@@ -12,8 +13,8 @@ ghost use Rattle.jt_filters.specs.Ordering as ordering;
 
 use crate::items::items_of;
 use crate::listing::found;
-use crate::payload::{as_text, list};
-use jt_ops::{Limits, OpError, within};
+use crate::limits::{within};
+use jt_ops::{Limits, OpError};
 use jt_value::{Fault, NoMemory, Value};
 use std::alloc::Global;
 
@@ -150,7 +151,7 @@ pub(crate) fn unique(alloc: Global, value: &Value, limits: Limits) -> Result<Val
     ensures { Answers result (limited_by limits (on_items distinct (view value.now))) }
 {
     let items = items_of(alloc, value)?;
-    let kept = list(alloc, unseen(alloc, items.as_slice())?)?;
+    let kept = Value::list(alloc, unseen(alloc, items.as_slice())?)?;
     within(kept, limits)
 }
 
@@ -184,7 +185,7 @@ fn has_alike(value: &Value, items: &[Value]) -> bool
 fn are_alike(left: &Value, right: &Value) -> bool
     ensures { result ≡ ordering.alike (view left.now) (view right.now) }
 {
-    match (as_text(left), as_text(right)) {
+    match (left.as_text(), right.as_text()) {
         (Some(s), Some(t)) => s.eq_ignore_ascii_case(t),
         _ => left.equals(right),
     }

@@ -2,7 +2,8 @@
 ghost use Rattle.std.specs.Prelude.{◌≡◌, ◌∷◌, [], Bool, true, map, length, nat_le, IfOk, Ok};
 ghost use Rattle.jt_value.specs.Tree as tree;
 ghost use Rattle.jt_value.specs.View.{view};
-ghost use Rattle.jt_ops.specs.Limited.{limited_by, Answers};
+ghost use Rattle.jt_filters.specs.Answering.{Answers};
+ghost use Rattle.jt_ops.specs.Limited.{limited_by};
 ghost use Rattle.jt_filters.specs.FilterTable.{least_values, most_values};
 ghost use Rattle.jt_filters.specs.Filtering.{filtered, or_default};
 
@@ -10,11 +11,11 @@ use crate::choosing::{best_item, unique};
 use crate::filter_id::FilterId;
 use crate::listing::{first, items, join, last, length, list, reverse};
 use crate::numbers::{abs, int, sum};
-use crate::payload::from_text;
 use crate::replacing::replace;
 use crate::sorting::{dictsort, sort};
 use crate::texts::{capitalize, escape, force_escape, lower, safe, string, trim, upper};
-use jt_ops::{Limits, OpError, copy_within};
+use crate::limits::{copy_within};
+use jt_ops::{Limits, OpError};
 use jt_value::{NoMemory, Value};
 use std::alloc::Global;
 
@@ -136,7 +137,7 @@ fn apply_three(
 fn no_text(alloc: Global) -> Result<Value, NoMemory>
     ensures { IfOk result (λ v. view v ≡ tree.text []) }
 {
-    from_text(String::new(alloc))
+    Value::from_text(String::new(alloc))
 }
 
 /// Filter `default`.

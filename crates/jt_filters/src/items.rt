@@ -6,8 +6,7 @@ ghost use Rattle.jt_value.specs.Iteration.{items_of_tree, character_items, key_i
 ghost use Rattle.jt_value.specs.View.{view, items_view, entries_view};
 ghost use Rattle.jt_filters.specs.ItemsSeen.{seen, HasItems};
 
-use crate::payload::{as_list, as_map, as_text, from_text};
-use jt_ops::OpError;
+use jt_ops::{OpError};
 use jt_value::{Fault, NoMemory, Value};
 use std::alloc::Global;
 
@@ -35,13 +34,13 @@ impl<'a> ItemsOf<'a> {
 pub(crate) fn items_of<'a>(alloc: Global, value: &'a Value) -> Result<ItemsOf<'a>, OpError>
     ensures { HasItems (items_of_tree (view value.now)) result }
 {
-    if let Some(items) = as_list(value) {
+    if let Some(items) = value.as_list() {
         return Ok(ItemsOf::Lent(items));
     }
-    if let Some(text) = as_text(value) {
+    if let Some(text) = value.as_text() {
         return Ok(ItemsOf::Made(characters(alloc, text)?));
     }
-    if let Some(entries) = as_map(value) {
+    if let Some(entries) = value.as_map() {
         return Ok(ItemsOf::Made(keys(alloc, entries)?));
     }
     match value {
@@ -67,7 +66,7 @@ fn character(alloc: Global, c: char) -> Result<Value, NoMemory>
 {
     let mut text = String::new(alloc);
     text.push(c)?;
-    from_text(text)
+    Value::from_text(text)
 }
 
 /// The keys of a map, each as a plain text.
@@ -77,7 +76,7 @@ pub(crate) fn keys(alloc: Global, entries: &[(String, Value)]) -> Result<Vec<Val
 {
     let mut items = Vec::new(alloc);
     for entry in entries {
-        items.push(from_text(String::from_str(alloc, &entry.0)?)?)?;
+        items.push(Value::from_text(String::from_str(alloc, &entry.0)?)?)?;
     }
     Ok(items)
 }

@@ -5,13 +5,13 @@ mod choosing;
 mod filter_id;
 mod filters;
 mod items;
+mod limits;
 mod listing;
 mod numbers;
-mod payload;
 mod replacing;
 mod sorting;
 mod texts;
 
 pub use filter_id::FilterId;
 pub use filters::apply;
-pub use jt_ops::{Limits, OpError, OpId, TestId, binary, range, test, unary};
+pub use jt_ops::{Limits, OpError, OpId, TestId, binary, binary_owned, range, test, unary};

@@ -6,18 +6,16 @@ ghost use Rattle.jt_value.specs.Tree.{items_size, items_nesting};
 ghost use Rattle.jt_value.specs.Iteration.{items_of_tree, character_items, key_items};
 ghost use Rattle.jt_value.specs.View.{view, items_view, entries_view};
 ghost use Rattle.jt_ops.specs.ItemOf.{items_count, indexed_item, or_undefined};
-ghost use Rattle.jt_ops.specs.Limited.{limited_by, Answers};
+ghost use Rattle.jt_filters.specs.Answering.{Answers};
+ghost use Rattle.jt_ops.specs.Limited.{limited_by};
 ghost use Rattle.jt_filters.specs.Listing.{on_items, first_item, last_item, listed, length_of, entries_count, reversed, reversed_items, pairs_of, pair_items, joined_by};
 ghost use Rattle.jt_filters.specs.Listing as listing;
 
 use crate::items::{characters, items_of, keys};
-use crate::payload;
-use crate::payload::{as_list, as_map, as_text, from_text};
 use crate::texts::backwards;
 use jt_escape::{join_markup, join_plain};
-use jt_ops::{
-    Limits, OpError, allow, character_count, copy_within, misfit_of_one, number_within, within,
-};
+use crate::limits::{copy_within, number_within, within};
+use jt_ops::{Limits, OpError, allow, character_count, misfit_of_one, };
 use jt_value::{Fault, NoMemory, Value};
 use std::alloc::Global;
 
@@ -25,13 +23,13 @@ use std::alloc::Global;
 pub(crate) fn length(value: &Value, limits: Limits) -> Result<Value, OpError>
     ensures { Answers result (limited_by limits (length_of (view value.now))) }
 {
-    if let Some(text) = as_text(value) {
+    if let Some(text) = value.as_text() {
         return counted(character_count(text), limits);
     }
-    if let Some(items) = as_list(value) {
+    if let Some(items) = value.as_list() {
         return counted(items.len(), limits);
     }
-    if let Some(entries) = as_map(value) {
+    if let Some(entries) = value.as_map() {
         return counted(entries.len(), limits);
     }
     match value {
@@ -99,10 +97,10 @@ pub(crate) fn join(
 pub(crate) fn list(alloc: Global, value: &Value, limits: Limits) -> Result<Value, OpError>
     ensures { Answers result (limited_by limits (on_items listed (view value.now))) }
 {
-    if let Some(text) = as_text(value) {
+    if let Some(text) = value.as_text() {
         return character_list(alloc, text, limits);
     }
-    if let Some(entries) = as_map(value) {
+    if let Some(entries) = value.as_map() {
         return key_list(alloc, entries, limits);
     }
     match value {
@@ -118,7 +116,7 @@ fn character_list(alloc: Global, text: &str, limits: Limits) -> Result<Value, Op
 {
     allow_characters(text, limits)?;
     let items = characters(alloc, text)?;
-    Ok(payload::list(alloc, items)?)
+    Ok(Value::list(alloc, items)?)
 }
 
 /// Tests the size and nesting of the list of a text's characters.
@@ -145,7 +143,7 @@ fn key_list(alloc: Global, entries: &[(String, Value)], limits: Limits) -> Resul
 {
     allow_keys(entries, limits)?;
     let items = keys(alloc, entries)?;
-    Ok(payload::list(alloc, items)?)
+    Ok(Value::list(alloc, items)?)
 }
 
 /// Tests the size and nesting of the list of a map's keys.
@@ -174,7 +172,7 @@ fn keys_size(entries: &[(String, Value)]) -> u64
 fn empty_list(alloc: Global, limits: Limits) -> Result<Value, OpError>
     ensures { Answers result (limited_by limits (Ok (tree.list tree.no_items))) }
 {
-    let value = payload::list(alloc, Vec::new(alloc))?;
+    let value = Value::list(alloc, Vec::new(alloc))?;
     within(value, limits)
 }
 
@@ -182,13 +180,13 @@ fn empty_list(alloc: Global, limits: Limits) -> Result<Value, OpError>
 pub(crate) fn reverse(alloc: Global, value: &Value, limits: Limits) -> Result<Value, OpError>
     ensures { Answers result (limited_by limits (reversed (view value.now))) }
 {
-    if let Some(text) = as_text(value) {
+    if let Some(text) = value.as_text() {
         return backwards(alloc, text, limits);
     }
-    if let Some(items) = as_list(value) {
+    if let Some(items) = value.as_list() {
         return reversed_list(alloc, items, limits);
     }
-    if let Some(entries) = as_map(value) {
+    if let Some(entries) = value.as_map() {
         return reversed_key_list(alloc, entries, limits);
     }
     match value {
@@ -204,7 +202,7 @@ fn reversed_list(alloc: Global, items: &[Value], limits: Limits) -> Result<Value
 {
     allow_reversed(items, limits)?;
     let turned = turned(copies(alloc, items)?);
-    Ok(payload::list(alloc, turned)?)
+    Ok(Value::list(alloc, turned)?)
 }
 
 /// Tests the size and nesting of the list of some items backwards.
@@ -240,7 +238,7 @@ fn reversed_key_list(
 {
     allow_reversed_keys(entries, limits)?;
     let turned = turned(keys(alloc, entries)?);
-    Ok(payload::list(alloc, turned)?)
+    Ok(Value::list(alloc, turned)?)
 }
 
 /// Tests the size and nesting of the list of a map's keys backwards.
@@ -283,7 +281,7 @@ pub(crate) fn copies(alloc: Global, items: &[Value]) -> Result<Vec<Value>, NoMem
 pub(crate) fn items(alloc: Global, value: &Value, limits: Limits) -> Result<Value, OpError>
     ensures { Answers result (limited_by limits (pairs_of (view value.now))) }
 {
-    if let Some(entries) = as_map(value) {
+    if let Some(entries) = value.as_map() {
         return pair_list(alloc, entries, limits);
     }
     match value {
@@ -298,7 +296,7 @@ fn pair_list(alloc: Global, entries: &[(String, Value)], limits: Limits) -> Resu
 {
     allow_pairs(entries, limits)?;
     let pairs = pairs(alloc, entries)?;
-    Ok(payload::list(alloc, pairs)?)
+    Ok(Value::list(alloc, pairs)?)
 }
 
 /// Tests the size and nesting of the list of a map's entries.
@@ -345,7 +343,7 @@ fn pair(alloc: Global, key: &str, value: &Value) -> Result<Value, NoMemory>
     ensures { IfOk result (λ v. view v ≡ listing.pair key.now (view value.now)) }
 {
     let mut pair = Vec::new(alloc);
-    pair.push(from_text(String::from_str(alloc, key)?)?)?;
+    pair.push(Value::from_text(String::from_str(alloc, key)?)?)?;
     pair.push(value.try_clone(alloc)?)?;
-    payload::list(alloc, pair)
+    Value::list(alloc, pair)
 }

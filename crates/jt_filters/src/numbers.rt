@@ -5,12 +5,13 @@ ghost use Rattle.jt_filters.specs.Listing.{on_items};
 ghost use Rattle.jt_filters.specs.Numbers as numbers;
 ghost use Rattle.jt_filters.specs.Numbers.{as_int, sum_behind, total};
 ghost use Rattle.jt_ops.specs.Arithmetic.{on_number};
-ghost use Rattle.jt_ops.specs.Limited.{limited_by, Answers};
+ghost use Rattle.jt_filters.specs.Answering.{Answers};
+ghost use Rattle.jt_ops.specs.Limited.{limited_by};
 
 use crate::choosing::{are_numbers, misfit_of_items};
 use crate::items::items_of;
-use crate::payload::as_text;
-use jt_ops::{Limits, OpError, copy_within, misfit_of_one, number_within, within};
+use crate::limits::{copy_within, number_within, within};
+use jt_ops::{Limits, OpError, misfit_of_one};
 use jt_value::{Fault, Value};
 use std::alloc::Global;
 
@@ -43,7 +44,7 @@ pub(crate) fn int(
 ) -> Result<Value, OpError>
     ensures { Answers result (limited_by limits (as_int (view value.now) (view default.now))) }
 {
-    if let Some(text) = as_text(value) {
+    if let Some(text) = value.as_text() {
         return match number_of_text(text) {
             Some(number) => within(Value::Int(number), limits),
             None => copy_within(alloc, default, limits),

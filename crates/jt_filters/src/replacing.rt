@@ -2,10 +2,10 @@
 ghost use Rattle.std.specs.Prelude.{◌≡◌, ◌<◌, ◌-◌, ◌^◌, min, length, IfOk, IfErr, OnOk, Ok, Err, string_bytes};
 ghost use Rattle.jt_value.specs.Tree as tree;
 ghost use Rattle.jt_value.specs.View.{view};
-ghost use Rattle.jt_ops.specs.Limited.{limited_by, Answers};
+ghost use Rattle.jt_filters.specs.Answering.{Answers};
+ghost use Rattle.jt_ops.specs.Limited.{limited_by};
 ghost use Rattle.jt_filters.specs.Texts.{replaced, replaced_behind};
 
-use crate::payload::from_text;
 use jt_ops::{Limits, OpError, allow, misfit_of_one};
 use jt_value::{Fault, NoMemory, Value};
 use std::alloc::Global;
@@ -47,7 +47,7 @@ fn replaced(
 {
     allow_replaced(text, old, new, limits)?;
     let replaced = replaced_text(alloc, text, old, new)?;
-    Ok(from_text(replaced)?)
+    Ok(Value::from_text(replaced)?)
 }
 
 /// Tests the size of that text.

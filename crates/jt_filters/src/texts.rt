@@ -1,15 +1,17 @@
 //! Filters on printed texts.
-ghost use Rattle.std.specs.Prelude.{◌≡◌, ℕ, List, reverse, IfOk, Ok, string_bytes};
+ghost use Rattle.std.specs.Prelude.{◌≡◌, ℕ, List, reverse, IfOk, Ok, string_bytes, OnOk, IfErr, Err};
 ghost use Rattle.jt_value.specs.Tree as tree;
 ghost use Rattle.std.specs.Str.{chars, str_to_ascii_lowercase, str_to_ascii_uppercase};
 ghost use Rattle.jt_value.specs.View.{view};
-ghost use Rattle.jt_ops.specs.Limited.{limited_by, Answers};
+ghost use Rattle.jt_filters.specs.Answering.{Answers};
+ghost use Rattle.jt_ops.specs.Limited.{limited_by};
 ghost use Rattle.jt_ops.specs.Pieces.{of_kind};
 ghost use Rattle.jt_filters.specs.Texts.{keeping_kind, unchanged, of_same_kind, escaped_once, escaped_again};
 ghost use Rattle.jt_filters.specs.Texts as texts;
 
-use crate::payload::from_text;
-use jt_ops::{Kind, Limits, OpError, Piece, allow, alone, printed_text};
+use crate::limits::{alone};
+use itoa::Buffer;
+use jt_ops::{Kind, Limits, OpError, Piece, allow};
 use jt_value::{NoMemory, Value};
 use std::alloc::Global;
 
@@ -27,16 +29,18 @@ fn kind_of(value: &Value) -> Kind
 pub(crate) fn string(alloc: Global, value: &Value, limits: Limits) -> Result<Value, OpError>
     ensures { Answers result (limited_by limits (keeping_kind unchanged (view value.now))) }
 {
-    let text = printed_text(alloc, value)?;
-    alone(alloc, &Piece::Raw(text.as_str()), kind_of(value), limits)
+    let mut buffer = Buffer::new();
+    let text = value.shown(&mut buffer)?;
+    alone(alloc, &Piece::Raw(text), kind_of(value), limits)
 }
 
 /// Filter `safe`.
 pub(crate) fn safe(alloc: Global, value: &Value, limits: Limits) -> Result<Value, OpError>
     ensures { Answers result (limited_by limits (texts.safe (view value.now))) }
 {
-    let text = printed_text(alloc, value)?;
-    alone(alloc, &Piece::Raw(text.as_str()), Kind::Markup, limits)
+    let mut buffer = Buffer::new();
+    let text = value.shown(&mut buffer)?;
+    alone(alloc, &Piece::Raw(text), Kind::Markup, limits)
 }
 
 /// Filter `escape`.
@@ -53,32 +57,33 @@ pub(crate) fn escape(alloc: Global, value: &Value, limits: Limits) -> Result<Val
 pub(crate) fn force_escape(alloc: Global, value: &Value, limits: Limits) -> Result<Value, OpError>
     ensures { Answers result (limited_by limits (escaped_again (view value.now))) }
 {
-    let text = printed_text(alloc, value)?;
-    alone(alloc, &Piece::Escaped(text.as_str()), Kind::Markup, limits)
+    let mut buffer = Buffer::new();
+    let text = value.shown(&mut buffer)?;
+    alone(alloc, &Piece::Escaped(text), Kind::Markup, limits)
 }
 
 /// Filter `lower`.
 pub(crate) fn lower(alloc: Global, value: &Value, limits: Limits) -> Result<Value, OpError>
     ensures { Answers result (limited_by limits (keeping_kind str_to_ascii_lowercase (view value.now))) }
 {
-    let printed = printed_text(alloc, value)?;
-    let printed = printed.as_str();
+    let mut buffer = Buffer::new();
+    let printed = value.shown(&mut buffer)?;
     allow((printed.len() as u64).saturating_add(1), 0, limits)?;
     let mut text = String::from_str(alloc, printed)?;
     text.make_ascii_lowercase();
-    Ok(kind_of(value).value(text))
+    Ok(kind_of(value).value(text)?)
 }
 
 /// Filter `upper`.
 pub(crate) fn upper(alloc: Global, value: &Value, limits: Limits) -> Result<Value, OpError>
     ensures { Answers result (limited_by limits (keeping_kind str_to_ascii_uppercase (view value.now))) }
 {
-    let printed = printed_text(alloc, value)?;
-    let printed = printed.as_str();
+    let mut buffer = Buffer::new();
+    let printed = value.shown(&mut buffer)?;
     allow((printed.len() as u64).saturating_add(1), 0, limits)?;
     let mut text = String::from_str(alloc, printed)?;
     text.make_ascii_uppercase();
-    Ok(kind_of(value).value(text))
+    Ok(kind_of(value).value(text)?)
 }
 
 /// Filter `capitalize`.
@@ -86,11 +91,11 @@ pub(crate) fn upper(alloc: Global, value: &Value, limits: Limits) -> Result<Valu
 pub(crate) fn capitalize(alloc: Global, value: &Value, limits: Limits) -> Result<Value, OpError>
     ensures { Answers result (limited_by limits (keeping_kind texts.capitalized (view value.now))) }
 {
-    let printed = printed_text(alloc, value)?;
-    let printed = printed.as_str();
+    let mut buffer = Buffer::new();
+    let printed = value.shown(&mut buffer)?;
     allow((printed.len() as u64).saturating_add(1), 0, limits)?;
     let text = capitalized(alloc, printed)?;
-    Ok(kind_of(value).value(text))
+    Ok(kind_of(value).value(text)?)
 }
 
 /// A text with its first character upper and the others lower.
@@ -115,8 +120,9 @@ fn capitalized(alloc: Global, text: &str) -> Result<String, NoMemory>
 pub(crate) fn trim(alloc: Global, value: &Value, limits: Limits) -> Result<Value, OpError>
     ensures { Answers result (limited_by limits (keeping_kind texts.trimmed (view value.now))) }
 {
-    let printed = printed_text(alloc, value)?;
-    let text = trimmed_back(trimmed_front(printed.as_str()));
+    let mut buffer = Buffer::new();
+    let printed = value.shown(&mut buffer)?;
+    let text = trimmed_back(trimmed_front(printed));
     alone(alloc, &Piece::Raw(text), kind_of(value), limits)
 }
 
@@ -157,9 +163,19 @@ fn trimmed_back(text: &str) -> &str
 pub(crate) fn backwards(alloc: Global, text: &str, limits: Limits) -> Result<Value, OpError>
     ensures { Answers result (limited_by limits (Ok (tree.text (texts.backwards text.now)))) }
 {
-    allow((text.len() as u64).saturating_add(1), 0, limits)?;
+    allow_backwards(text, limits)?;
     let turned = turned(alloc, text)?;
-    Ok(from_text(turned)?)
+    Ok(Value::from_text(turned)?)
+}
+
+/// Tests the size of a text that is turned round.
+fn allow_backwards(text: &str, limits: Limits) -> Result<(), OpError>
+    ensures ok { let t = tree.text (texts.backwards text.now) in
+        OnOk result (limited_by limits (Ok t) ≡ Ok t) }
+    ensures refused { let t = tree.text (texts.backwards text.now) in
+        IfErr result (λ e. limited_by limits (Ok t) ≡ Err e) }
+{
+    allow((text.len() as u64).saturating_add(1), 0, limits)
 }
 
 /// The characters of a text backwards.

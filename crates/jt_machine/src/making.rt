@@ -195,7 +195,7 @@ pub(crate) fn make_list(
     ensures { IfOk result (λ r. make count listed (config_view state.old) ≡ next_view r state.new) }
 {
     match take_paid(alloc, state, count)? {
-        Taken::Paid(values) => push(state, Value::List(values)),
+        Taken::Paid(values) => push(state, Value::list(alloc, values)?),
         Taken::Unpaid(outcome) => Ok(Some(outcome)),
     }
 }

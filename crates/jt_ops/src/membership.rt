@@ -21,9 +21,9 @@ pub(crate) fn is_in(value: &Value, container: &Value) -> Result<bool, Fault>
         (Value::Text(part), Value::Markup(whole)) => Ok(occurs_in(part, whole)),
         (Value::Markup(part), Value::Text(whole)) => Ok(occurs_in(part, whole)),
         (Value::Markup(part), Value::Markup(whole)) => Ok(occurs_in(part, whole)),
-        (_, Value::List(items)) => Ok(has_item(value, items)),
-        (Value::Text(key), Value::Map(entries)) => Ok(has_key(key, entries)),
-        (Value::Markup(key), Value::Map(entries)) => Ok(has_key(key, entries)),
+        (_, Value::List(list)) => Ok(has_item(value, list.items())),
+        (Value::Text(key), Value::Map(map)) => Ok(has_key(key, map.entries())),
+        (Value::Markup(key), Value::Map(map)) => Ok(has_key(key, map.entries())),
         (_, Value::Map(_)) => Ok(false),
         _ => Err(misfit(value, container)),
     }

@@ -2,7 +2,7 @@ use Rattle.std.proofs.Common.{◌≡◌, List, ap, sym, ◌∙◌, false, true}
 use Rattle.jt_value.specs.Tree.{Items}
 use Rattle.jt_value.specs.View.{view, items_view}
 use Rattle.jt_value.specs.declared.value.Value.{Value}
-use Rattle.jt_ops.specs.Joining.{joined_items}
+use Rattle.jt_value.specs.Payload.{joined_items}
 use Rattle.std.proofs.lemmas.List.{at_drop_all}
 use Rattle.jt_filters.specs.Ordering.{has_alike, unseen}
 use Rattle.jt_filters.proofs.Lists.{joined_none}
@@ -16,7 +16,7 @@ loop-item-preserved c =
     elim c.if-not-has_alike.branch [
       | then-not-has_alike+in_ok-try_clone+in_ok-push w ↦
           let new : has_alike (view c.item-item.result) (items_view c.loop-item.kept.items) ≡ false = ap (λ (vs : List Value). has_alike (view c.item-item.result) (items_view vs)) (sym same) ∙ sym w.if-not-has_alike.ensures in
-          rw w.kept-is (kept_more c.loop-item.kept.items w.push.new.self.items w.in_ok-try_clone.field-0 c.item-item.result c.args.items.now c.loop-item.item-index _ c.loop-item-test.true c.item-item.is w.in_ok-push.ensures.items w.in_ok-try_clone.ensures new c.loop-item.invariant)
+          rw w.kept-is (kept_more c.loop-item.kept.items w.push.new.self.items w.in_ok-try_clone.field-0 c.item-item.result c.args.items.now c.loop-item.item-index _ c.loop-item-test.true c.item-item.is w.in_ok-push.ensures.items w.in_ok-try_clone.ensures.same new c.loop-item.invariant)
       | else-not-has_alike w ↦
           let old : has_alike (view c.item-item.result) (items_view c.loop-item.kept.items) ≡ true = ap (λ (vs : List Value). has_alike (view c.item-item.result) (items_view vs)) (sym same) ∙ sym w.if-not-has_alike.ensures in
           rw w.kept-is (left_out c.loop-item.kept.items c.item-item.result c.args.items.now c.loop-item.item-index _ c.loop-item-test.true c.item-item.is old c.loop-item.invariant)

@@ -1,7 +1,7 @@
 use Rattle.std.proofs.Common.{◌≡◌, drop}
 use Rattle.jt_value.specs.Tree.{no_items}
 use Rattle.jt_value.specs.View.{items_view}
-use Rattle.jt_ops.specs.Joining.{joined_items}
+use Rattle.jt_value.specs.Payload.{joined_items}
 use Rattle.jt_filters.specs.Ordering.{unseen}
 use Rattle.jt_filters.proofs.choosing.unseen.Given as goal
 

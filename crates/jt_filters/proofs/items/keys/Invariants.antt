@@ -1,7 +1,7 @@
 use Rattle.std.proofs.Common.{◌≡◌, drop}
 use Rattle.jt_value.specs.View.{items_view, entries_view}
 use Rattle.jt_value.specs.Iteration.{key_items}
-use Rattle.jt_ops.specs.Joining.{joined_items}
+use Rattle.jt_value.specs.Payload.{joined_items}
 use Rattle.jt_filters.proofs.items.keys.Given as goal
 
 abbrev pub invariant-loop-entry : goal.invariant-loop-entry

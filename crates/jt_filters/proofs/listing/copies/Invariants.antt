@@ -1,6 +1,6 @@
 use Rattle.std.proofs.Common.{◌≡◌, drop}
 use Rattle.jt_value.specs.View.{items_view}
-use Rattle.jt_ops.specs.Joining.{joined_items}
+use Rattle.jt_value.specs.Payload.{joined_items}
 use Rattle.jt_filters.proofs.listing.copies.Given as goal
 
 abbrev pub invariant-loop-item : goal.invariant-loop-item
