@@ -137,7 +137,7 @@ fn nth_character(text: &str, index: i64) -> Option<char>
 }
 
 /// How many characters a text has.
-fn character_count(text: &str) -> usize
+pub fn character_count(text: &str) -> usize
     ensures { result ≡ length (chars text.now) }
 {
     text.chars().count()

@@ -14,14 +14,14 @@ use std::alloc::Global;
 
 /// Whether a text is plain or markup.
 #[derive(Clone, Copy)]
-pub(crate) enum Kind {
+pub enum Kind {
     Plain,
     Markup,
 }
 
 impl Kind {
     /// The value of a text.
-    fn value(self, text: String) -> Result<Value, NoMemory>
+    pub fn value(self, text: String) -> Result<Value, NoMemory>
         ensures { IfOk result (λ v. view v ≡ of_kind self (string_bytes text)) }
     {
         match self {
@@ -33,7 +33,7 @@ impl Kind {
 
 /// A piece of a text that is put together.
 #[derive(Clone, Copy)]
-pub(crate) enum Piece<'a> {
+pub enum Piece<'a> {
     /// As it is.
     Raw(&'a str),
     /// With its special characters escaped.
@@ -102,6 +102,22 @@ pub(crate) fn concatenated(
     let mut text = String::with_capacity(alloc, len as usize)?;
     left.write(&mut text)?;
     right.write(&mut text)?;
+    Ok(kind.value(text)?)
+}
+
+/// The text of one piece.
+pub fn alone(
+    alloc: Global,
+    piece: &Piece<'_>,
+    kind: Kind,
+    limits: Limits,
+) -> Result<Value, OpError>
+    ensures { Answers result (limited_by limits (Ok (of_kind kind (written piece.now)))) }
+{
+    let len = piece.len();
+    allow(len.saturating_add(1), 0, limits)?;
+    let mut text = String::with_capacity(alloc, len as usize)?;
+    piece.write(&mut text)?;
     Ok(kind.value(text)?)
 }
 

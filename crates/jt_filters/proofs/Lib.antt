@@ -1,0 +1,12 @@
+pub mod Choices
+pub mod FilterRows
+pub mod Lists
+pub mod Measures
+pub mod Merges
+pub mod MergeSteps
+pub mod Numerals
+pub mod Orders
+pub mod Payloads
+pub mod Replacements
+pub mod Changes
+pub mod Weaker

@@ -1,0 +1,17 @@
+//! Filters, operators and tests on values, under limits of size and nesting.
+#![tactic(auto)]
+
+mod choosing;
+mod filter_id;
+mod filters;
+mod items;
+mod limits;
+mod listing;
+mod numbers;
+mod replacing;
+mod sorting;
+mod texts;
+
+pub use filter_id::FilterId;
+pub use filters::apply;
+pub use jt_ops::{Limits, OpError, OpId, TestId, binary, binary_owned, range, test, unary};
