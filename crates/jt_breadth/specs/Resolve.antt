@@ -118,10 +118,10 @@ filled (p ∷ ps) zero d ks = slots.item (value_or (slot_in p.name ks) (known d)
 
 -- the same for a filter, up to the last one that is given by name
 abbrev pub filled_some : List Parameter → ℕ → List Text → Table → SRow Constant
-filled_some [] given names ks = none
-filled_some (p ∷ ps) (suc given) names ks = filled_some ps given names ks
-filled_some (p ∷ ps) zero names ks =
-    if some_given (p ∷ ps) names then slots.item (value_or (slot_in p.name ks) (own (default_value p.default))) (filled_some ps zero names ks) else none
+filled_some [] given xs ks = none
+filled_some (p ∷ ps) (suc given) xs ks = filled_some ps given xs ks
+filled_some (p ∷ ps) zero xs ks =
+    if some_given (p ∷ ps) xs then slots.item (value_or (slot_in p.name ks) (own (default_value p.default))) (filled_some ps zero xs ks) else none
 
 -- the first so many locals
 abbrev pub first_locals : ℕ → List Text → SRow Constant
