@@ -1,2 +1,5 @@
 pub mod Small
 mod Rows
+pub mod Both
+pub mod Reading
+pub mod Agreeing

@@ -18,16 +18,16 @@ use Rattle.jt_breadth.specs.Expressions.{keywords, filtered, filter_parameters, 
 
 -- ---- targets
 
--- as many names as values: a later one hides an earlier one of the same name
-abbrev pub each_target : List Text → List Tree → Pairs → Got Pairs
-each_target [] [] s = gives s
-each_target (x ∷ xs) (v ∷ vs) s = each_target xs vs ((x, v) ∷ s)
-each_target xs vs s = fails faults.Unpack None
+-- as many names as values
+abbrev pub each_target : List Text → List Tree → Got Pairs
+each_target [] [] = gives []
+each_target (x ∷ xs) (v ∷ vs) = bind (each_target xs vs) (λ s. gives ((x, v) ∷ s))
+each_target xs vs = fails faults.Unpack None
 
 -- one target takes the value; several take its items
 abbrev pub targets : List Text → Tree → Got Pairs
 targets (x ∷ []) v = gives ((x, v) ∷ [])
-targets xs v = bind (checked (items_of_value v)) (λ vs. each_target xs vs [])
+targets xs v = bind (checked (items_of_value v)) (each_target xs)
 
 -- ---- scopes
 
@@ -41,11 +41,6 @@ within s run st = bind (run (record st { env = inside s st.env })) (λ r. gives 
 -- in a new scope, its text as a value
 abbrev pub captured : Bool → (State → Got State) → Env → Got Tree
 captured escaping run env = bind (run (record { env = inside [] env; out = [] })) (λ r. gives (as_value escaping r.out))
-
--- one name after the other: a later pair hides an earlier one of the same name
-abbrev pub scope_of : Pairs → Pairs → Pairs
-scope_of [] s = s
-scope_of (b ∷ bs) s = scope_of bs (b ∷ s)
 
 -- ---- loops
 
@@ -102,7 +97,7 @@ module _ (world : World) (calls : Calls) where
     meaning (set_block line x body) a st =
         bind (captured a.escaping (meanings body a) st.env) (λ v. gives (record st { env = all_bound st.env ((x, v) ∷ []) }))
     meaning (with_values line ps body) a st =
-        bind (at (tag a line) (named_values world calls ps a st.env)) (λ bs. within (scope_of bs []) (meanings body a) st)
+        bind (at (tag a line) (named_values world calls ps a st.env)) (λ bs. within bs (meanings body a) st)
     meaning (filter_block line fs body) a st =
         bind (captured a.escaping (meanings body a) st.env) (λ v.
         at (tag a line) (bind (through fs a st.env v) (λ w. bind (shown a.escaping w) (λ s. gives (put st s)))))
