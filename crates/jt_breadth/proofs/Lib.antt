@@ -3,3 +3,5 @@ mod Rows
 pub mod Both
 pub mod Reading
 pub mod Agreeing
+pub mod Calling
+pub mod Valuing

@@ -1,9 +1,36 @@
 -- Names that trees read or bind, and chains that they include.
 use Rattle.std.specs.Prelude.{Bool, not, ◌||◌, if◌then◌else◌, List, [], ◌∷◌, ◌++◌, map, Option, Some, None}
-use Rattle.jt_expr.specs.Trees.{Expr}
-use Rattle.jt_inherit.specs.Small.{expr_names, row_names, pair_names}
+use Rattle.jt_expr.specs.Trees.{Expr, constant, name, group, list_of, map_of, attribute, item, call, filter, test, unary, binary, when, choice, Exprs, no_exprs, expr, Pairs, no_pairs, pair}
+use Rattle.jt_breadth.specs.Chain.{is_loop}
 use Rattle.jt_breadth.specs.Trees.{Text, Filtering, Stmt, data_of, print, choose, for_each, set, set_block, with_values, filter_block, autoescape, macro, include, extends, block, Body, end, stmt, Branches, no_branches, branch}
 use Rattle.jt_breadth.specs.Expressions.{keywords}
+
+-- ---- the names that an expression reads: what is called, and `loop`, are no values
+
+abbrev mutual
+  pub expr_names : Expr → List Text
+  expr_names (constant l) = []
+  expr_names (name x) = x ∷ []
+  expr_names (group a) = expr_names a
+  expr_names (list_of ts) = row_names ts
+  expr_names (map_of ps) = pair_names ps
+  expr_names (attribute a k) = if is_loop a then [] else expr_names a
+  expr_names (item a b) = expr_names a ++ expr_names b
+  expr_names (call a ts ps) = row_names ts ++ pair_names ps
+  expr_names (filter a x ts ps) = expr_names a ++ (row_names ts ++ pair_names ps)
+  expr_names (test a n x ts ps) = expr_names a ++ (row_names ts ++ pair_names ps)
+  expr_names (unary o a) = expr_names a
+  expr_names (binary o a b) = expr_names a ++ expr_names b
+  expr_names (when c a) = expr_names c ++ expr_names a
+  expr_names (choice c a b) = expr_names c ++ (expr_names a ++ expr_names b)
+
+  pub row_names : Exprs → List Text
+  row_names no_exprs = []
+  row_names (expr a ts) = expr_names a ++ row_names ts
+
+  pub pair_names : Pairs → List Text
+  pair_names no_pairs = []
+  pair_names (pair k a ps) = expr_names a ++ pair_names ps
 
 abbrev pub condition_names : Option Expr → List Text
 condition_names None = []
