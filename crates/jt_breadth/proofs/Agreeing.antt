@@ -12,7 +12,7 @@ use Rattle.jt_breadth.specs.Loops.{tree_at}
 use Rattle.jt_breadth.specs.Around.{World, Placement}
 use Rattle.jt_breadth.specs.Slots.{Slot, local, global, Memory, load, put_at, store}
 use Rattle.jt_breadth.specs.Layout.{Table, slot_in, globals_from, names, first_slot, globals, block_parameters, is_scoped, numbered_of}
-use Rattle.jt_breadth.specs.Resolve.{Spot, Part, bound_one, bound_all}
+use Rattle.jt_breadth.specs.Resolve.{bound_table}
 use Rattle.jt_breadth.proofs.Reading.{same_text, same_is, is_same, no_both, read_bound, IsInner, inner_bound, inner_globals, all_inner, all_globals, read_top, held, put_here, put_elsewhere}
 use Rattle.jt_scopes.proofs.Means.{Among, AllAmong}
 
@@ -204,15 +204,42 @@ module _ (world : World) (order : List Home) where
       through y false q r = r
 
   -- names that are bound one after the other, where a row of locals holds their values
-  pub pairs_held : {env : Env} {n : Memory} (sp : Spot) (bs : Pairs) → IsInner env → Held n.locals sp.free (map (λ b. b.1) bs) → Agrees sp.home sp.table env n
-      → Agrees (bound_all (map (λ b. b.0) bs) sp).home (bound_all (map (λ b. b.0) bs) sp).table (all_bound env bs) n
-  pairs_held sp [] inner h a = a
-  pairs_held {env = env} {n = n} sp (b ∷ bs) inner h a = pairs_held {env = bound env b.0 b.1} {n = n} (bound_one b.0 sp) bs (inner_bound env b.0 b.1 inner) h.1 (bind_held b.0 b.1 sp.free inner h.0 a)
+  pub pairs_held : {h : Home} {env : Env} {n : Memory} (table : Table) (k : ℕ) (bs : Pairs) → IsInner env → Held n.locals k (map (λ b. b.1) bs) → Agrees h table env n → Agrees h (bound_table (map (λ b. b.0) bs) k table) (all_bound env bs) n
+  pairs_held table k [] inner held a = a
+  pairs_held {h = h} {env = env} {n = n} table k (b ∷ bs) inner held a =
+      pairs_held {env = bound env b.0 b.1} ((b.0, local k) ∷ table) (suc k) bs (inner_bound env b.0 b.1 inner) held.1 (bind_held b.0 b.1 k inner held.0 a)
 
-  pub fits_all : (xs : List Text) (sp : Spot) → Fits sp.home sp.table sp.free → Fits (bound_all xs sp).home (bound_all xs sp).table (bound_all xs sp).free
-  fits_all [] sp f = f
-  fits_all (x ∷ xs) sp f = fits_all xs (bound_one x sp) (fits_one x f)
+  -- names that get locals with what they read anyway
+  pub copies_held : {h : Home} {env : Env} {n : Memory} (table : Table) (k : ℕ) (xs : List Text) → Held n.locals k (map (read env) xs) → Agrees h table env n → Agrees h (bound_table xs k table) env n
+  copies_held table k [] held a = a
+  copies_held table k (x ∷ xs) held a = copies_held ((x, local k) ∷ table) (suc k) xs held.1 (copy_held x k held.0 a)
 
-  pub free_all : (xs : List Text) (sp : Spot) → (bound_all xs sp).free ≡ sp.free + length xs
-  free_all [] sp = omega arith
-  free_all (x ∷ xs) sp = let e = free_all xs (bound_one x sp) in e ∙ (let f : suc sp.free + length xs ≡ sp.free + length (x ∷ xs) = omega arith in f)
+  pub fits_all : {h : Home} (xs : List Text) (k : ℕ) (table : Table) → Fits h table k → Fits h (bound_table xs k table) (k + length xs)
+  fits_all {h = h} [] k table f = subst (λ n. Fits h table n) (let e : k ≡ k + 0 = omega arith in e) f
+  fits_all {h = h} (x ∷ xs) k table f =
+      subst (λ n. Fits h (bound_table xs (suc k) ((x, local k) ∷ table)) n) (let e : suc k + length xs ≡ k + length (x ∷ xs) = omega arith in e) (fits_all xs (suc k) ((x, local k) ∷ table) (fits_one x f))
+
+-- names in locals from a base on
+abbrev pub InLocals : ℕ → Table → List Text → Type 0
+InLocals b table xs = (x : Text) → Among x xs → (i : ℕ) × (slot_in x table ≡ Some (local i)) × (b ≤ i)
+
+-- a name that has a local from the base on keeps having one
+later_local : (b k : ℕ) (table : Table) (x y : Text) → b ≤ k → (i : ℕ) × (slot_in x table ≡ Some (local i)) × (b ≤ i) → (i : ℕ) × (slot_in x ((y, local k) ∷ table) ≡ Some (local i)) × (b ≤ i)
+later_local b k table x y l s = through (bytes_eq y x)
+  where
+    through : (c : Bool) → (i : ℕ) × ((if c then Some (local k) else slot_in x table) ≡ Some (local i)) × (b ≤ i)
+    through true = (k, refl, l)
+    through false = s
+
+still_local : (b k : ℕ) (table : Table) (x : Text) (ys : List Text) → b ≤ k → (i : ℕ) × (slot_in x table ≡ Some (local i)) × (b ≤ i) → (i : ℕ) × (slot_in x (bound_table ys k table) ≡ Some (local i)) × (b ≤ i)
+still_local b k table x [] l s = s
+still_local b k table x (y ∷ ys) l s = still_local b (suc k) ((y, local k) ∷ table) x ys (let e : b ≤ suc k = omega (arith, l) in e) (later_local b k table x y l s)
+
+pub in_locals : (b k : ℕ) (table : Table) (xs : List Text) → b ≤ k → InLocals b (bound_table xs k table) xs
+in_locals b k table [] l x i = absurd i
+in_locals b k table (y ∷ ys) l x (inl e) = still_local b (suc k) ((y, local k) ∷ table) x ys (let f : b ≤ suc k = omega (arith, l) in f) (here (bytes_eq y x) (is_same y x e))
+  where
+    here : (c : Bool) → c ≡ true → (i : ℕ) × ((if c then Some (local k) else slot_in x table) ≡ Some (local i)) × (b ≤ i)
+    here true q = (k, refl, l)
+    here false q = absurd (no_both q refl)
+in_locals b k table (y ∷ ys) l x (inr i) = in_locals b (suc k) ((y, local k) ∷ table) ys (let f : b ≤ suc k = omega (arith, l) in f) x i

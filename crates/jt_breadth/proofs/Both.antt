@@ -37,6 +37,18 @@ right_both f (both r) = both r
 right_both f fault = fault
 right_both f deep = deep
 
+-- a step on the left alone
+pub left_both : {A B C : Type 0} {S : C → B → Type 0} {g : Got A} {h : Got B} (f : A → C) → Both (λ x y. S (f x) y) g h → Both S (bind g (λ x. gives (f x))) h
+left_both f (both r) = both r
+left_both f fault = fault
+left_both f deep = deep
+
+pub at_bind : {A B : Type 0} (p : Place) (g : Got A) (f : A → Got B) → at p (bind g f) ≡ bind (at p g) (λ x. at p (f x))
+at_bind p (gives x) f = refl
+at_bind p (fails e None) f = refl
+at_bind p (fails e (Some q)) f = refl
+at_bind p deeper f = refl
+
 pub bind_gives : {A : Type 0} (g : Got A) → bind g (λ x. gives x) ≡ g
 bind_gives (gives x) = refl
 bind_gives (fails e p) = refl

@@ -13,7 +13,7 @@ use Rattle.jt_breadth.specs.Loops.{Loop, tree_at}
 use Rattle.jt_breadth.specs.Around.{World, Placement, Around, Called, the_macro, the_block, the_chain, Calls}
 use Rattle.jt_breadth.specs.Slots.{Slot, local, global, Memory, Valued, Listed, Written, SCalls, store}
 use Rattle.jt_breadth.specs.Layout.{Table, slot_in, Key, of_chain, of_macro, of_body, names, first_slot, globals, block_parameters, is_scoped, numbered_of, unit, shared, default_place}
-use Rattle.jt_breadth.specs.Resolve.{Spot, Part, bound_one, bound_all, grown}
+use Rattle.jt_breadth.specs.Resolve.{Spot, Part, bound_table, bound_all, grown}
 use Rattle.jt_breadth.proofs.Both.{Both}
 use Rattle.jt_breadth.proofs.Reading.{held}
 use Rattle.jt_breadth.proofs.Agreeing.{Kept, kept_same, kept_then, kept_less, kept_store, Held, held_kept, global_slot, limit, Fits, GlobalsAgree, Agrees, agrees_kept, fits_one, fits_more}
@@ -68,7 +68,7 @@ module _ (world : World) (order : List Home) where
     unscoped = λ f y i j e. s.unscoped f y i j e ∙ sym (u.globals j (global_slot (first_slot world order h) (names world order h) y j e).1);
   }
 
-  part_kept : (h : Home) (p : Option Part) (q : Option Placement) (k : ℕ) (m n : Memory) → Kept k (limit world order h) m n → PartHolds h p q k m → PartHolds h p q k n
+  pub part_kept : (h : Home) (p : Option Part) (q : Option Placement) (k : ℕ) (m n : Memory) → Kept k (limit world order h) m n → PartHolds h p q k m → PartHolds h p q k n
   part_kept h None None k m n u t = t
   part_kept h None (Some q) k m n u t = t
   part_kept h (Some p) None k m n u t = t
@@ -80,7 +80,7 @@ module _ (world : World) (order : List Home) where
     sees = sees_kept u t.sees;
   }
 
-  part_more : (h : Home) (p : Option Part) (q : Option Placement) (k j : ℕ) (m : Memory) → k ≤ j → PartHolds h p q k m → PartHolds h p q j m
+  pub part_more : (h : Home) (p : Option Part) (q : Option Placement) (k j : ℕ) (m : Memory) → k ≤ j → PartHolds h p q k m → PartHolds h p q j m
   part_more h None None k j m l t = t
   part_more h None (Some q) k j m l t = t
   part_more h (Some p) None k j m l t = t

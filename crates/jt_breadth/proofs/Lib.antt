@@ -5,3 +5,4 @@ pub mod Reading
 pub mod Agreeing
 pub mod Calling
 pub mod Valuing
+pub mod Binding

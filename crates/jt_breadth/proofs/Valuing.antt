@@ -54,7 +54,7 @@ prefixed_memory : (vs : List Tree) (r : Listed) → (prefixed vs r).memory ≡ r
 prefixed_memory [] r = refl
 prefixed_memory (v ∷ vs) r = prefixed_memory vs r
 
-map_length : {A B : Type 0} (f : A → B) (xs : List A) → length (map f xs) ≡ length xs
+pub map_length : {A B : Type 0} (f : A → B) (xs : List A) → length (map f xs) ≡ length xs
 map_length f [] = refl
 map_length f (x ∷ xs) = ap suc (map_length f xs)
 
@@ -263,7 +263,7 @@ module _ (world : World) (order : List Home) (calls : Calls) (scall : SCalls) (m
   asked_both None es u = fault
   asked_both (Some t) es u = made_both (slots.test t) (λ vs. as_truth (tested t vs)) es (λ vs. refl) u
 
-  filtered_both : {b g : ℕ} {m : Memory} {h : Got (List Tree)} (f : Option ℕ) (on : Bool) (es : SRow Constant) → Both (Rowed b g m) h (seen_row es m) → Both (Evaluated b g m) (filtered fs f on h) (seen (filtered_by f on es) m)
+  pub filtered_both : {b g : ℕ} {m : Memory} {h : Got (List Tree)} (f : Option ℕ) (on : Bool) (es : SRow Constant) → Both (Rowed b g m) h (seen_row es m) → Both (Evaluated b g m) (filtered fs f on h) (seen (filtered_by f on es) m)
   filtered_both None on es u = fault
   filtered_both (Some f) on es u = made_both (slots.filter f on) (λ vs. fs.operation f on vs) es (λ vs. refl) u
 
@@ -314,11 +314,11 @@ module _ (world : World) (order : List Home) (calls : Calls) (scall : SCalls) (m
   some_gives (p ∷ ps) (v ∷ vs) xs table ks m k = let r = some_gives ps vs xs table ks m k in (r.0, r.1, ap (λ ts. v ∷ ts) r.2)
 
   -- what names read, as a row
-  read_gives : (s : Option Slot) (m : Memory) → seen (read_from s) m ≡ gives (record { value = held s m; memory = m })
+  pub read_gives : (s : Option Slot) (m : Memory) → seen (read_from s) m ≡ gives (record { value = held s m; memory = m })
   read_gives None m = refl
   read_gives (Some s) m = refl
 
-  reads_give : (table : Table) (xs : List Text) (m : Memory) → seen_row (reads table xs) m ≡ gives (record { values = map (λ x. held (slot_in x table) m) xs; memory = m })
+  pub reads_give : (table : Table) (xs : List Text) (m : Memory) → seen_row (reads table xs) m ≡ gives (record { values = map (λ x. held (slot_in x table) m) xs; memory = m })
   reads_give table [] m = refl
   reads_give table (x ∷ xs) m =
       item_gives (read_from (slot_in x table)) (reads table xs) m (held (slot_in x table) m) (map (λ y. held (slot_in y table) m) xs) (read_gives (slot_in x table) m) (reads_give table xs m)
@@ -403,7 +403,7 @@ module _ (world : World) (order : List Home) (calls : Calls) (scall : SCalls) (m
         out = ap (λ z. z.out) (prefixed_memory vs row) ∙ o;
       }))
 
-  arguments_end : {m n : Memory} (ps : List Parameter) (sp : Spot) (v w : Tree) → w ≡ v → (vs : List Tree) (c : ℕ) → length vs ≡ c → (kw : List Text) (ks : Pairs) → map (λ p. p.0) ks ≡ kw
+  pub arguments_end : {m n : Memory} (ps : List Parameter) (sp : Spot) (v w : Tree) → w ≡ v → (vs : List Tree) (c : ℕ) → length vs ≡ c → (kw : List Text) (ks : Pairs) → map (λ p. p.0) ks ≡ kw
       → Held n.locals sp.free (map (λ p. p.1) ks) → Kept sp.free (end sp) m n → n.out ≡ m.out
       → Both (λ x r. Rowed sp.free (end sp) m x (in_front w (prefixed vs r))) (gives (v ∷ arguments ps vs kw ks)) (seen_row (filled_some ps c kw (locals_from sp.free kw)) n)
   arguments_end {m = m} {n = n} ps sp v w e vs c len kw ks nm h u o =
@@ -457,7 +457,7 @@ module _ (world : World) (order : List Home) (calls : Calls) (scall : SCalls) (m
       left = operation_of op.Remainder (slots.field index0) (slots.pooled (own (tree.number (pos n))))
 
   -- the row of a block's parameters: what their names read
-  reads_are : (table : Table) (env : Env) (m : Memory) (xs all : List Text) → ((x : Text) → Among x all → read env x ≡ held (slot_in x table) m) → AllAmong xs all → map (λ x. held (slot_in x table) m) xs ≡ map (read env) xs
+  pub reads_are : (table : Table) (env : Env) (m : Memory) (xs all : List Text) → ((x : Text) → Among x all → read env x ≡ held (slot_in x table) m) → AllAmong xs all → map (λ x. held (slot_in x table) m) xs ≡ map (read env) xs
   reads_are table env m [] all f i = refl
   reads_are table env m (x ∷ xs) all f i = ap (λ v. v ∷ map (λ y. held (slot_in y table) m) xs) (sym (f x i.0)) ∙ ap (λ ts. read env x ∷ ts) (reads_are table env m xs all f i.1)
 
@@ -514,7 +514,7 @@ module _ (world : World) (order : List Home) (calls : Calls) (scall : SCalls) (m
 
   -- ---- arguments in front of a row
 
-  bind_ext : {A B : Type 0} (g : Got A) (f h : A → Got B) → ((x : A) → f x ≡ h x) → bind g f ≡ bind g h
+  pub bind_ext : {A B : Type 0} (g : Got A) (f h : A → Got B) → ((x : A) → f x ≡ h x) → bind g f ≡ bind g h
   bind_ext (gives x) f h e = e x
   bind_ext (fails e' p) f h e = refl
   bind_ext deeper f h e = refl
@@ -540,7 +540,7 @@ module _ (world : World) (order : List Home) (calls : Calls) (scall : SCalls) (m
       turn v (fails e' p) = refl
       turn v deeper = refl
 
-  row_in_front : {X : Type 0} {m : Memory} {g : Got (List Tree)} (ts : Exprs) (sp : Spot) (S : X → Listed → Type 0) (f : List Tree → Got X) (behind : SRow Constant)
+  pub row_in_front : {X : Type 0} {m : Memory} {g : Got (List Tree)} (ts : Exprs) (sp : Spot) (S : X → Listed → Type 0) (f : List Tree → Got X) (behind : SRow Constant)
       → Both (Counted sp m (count ts)) g (seen_row (resolved_row world order ts sp none) m)
       → ((vs : List Tree) (n : Memory) → length vs ≡ count ts → Kept sp.free (end sp) m n → n.out ≡ m.out → Both (λ x r. S x (prefixed vs r)) (f vs) (seen_row behind n))
       → Both S (bind g f) (seen_row (resolved_row world order ts sp behind) m)
@@ -566,7 +566,7 @@ module _ (world : World) (order : List Home) (calls : Calls) (scall : SCalls) (m
     pub kept : Kept sp.free (end sp) m n
     pub out : n.out ≡ m.out
 
-  asides_in_front : {X : Type 0} {m : Memory} {g : Got Pairs} (ps : written.Pairs) (sp : Spot) (S : X → Listed → Type 0) (f : Pairs → Got X) (behind : SRow Constant)
+  pub asides_in_front : {X : Type 0} {m : Memory} {g : Got Pairs} (ps : written.Pairs) (sp : Spot) (S : X → Listed → Type 0) (f : Pairs → Got X) (behind : SRow Constant)
       → Both (Aside sp m (keywords ps)) g (kept_aside ps sp m)
       → ((ks : Pairs) (n : Memory) → Aside sp m (keywords ps) ks n → Both S (f ks) (seen_row behind n))
       → Both S (bind g f) (seen_row (resolved_asides world order ps sp behind) m)
@@ -660,3 +660,19 @@ module _ (world : World) (order : List Home) (calls : Calls) (scall : SCalls) (m
         right_both (in_front (tree.text x)) (bind_both (value_same e sp env m g (among_front (expr_names e) (pair_names ps) (ns sp) i)) (λ v r w.
         bind_both (entries_same ps sp env r.memory (good_kept world order g w.kept) (among_back (expr_names e) (pair_names ps) (ns sp) i)) (λ bs s z.
         both (record { values = ap (λ y. tree.text x ∷ y ∷ s.values) w.value ∙ ap (λ ys. tree.text x ∷ v ∷ ys) z.values; kept = kept_then w.kept z.kept; out = z.out ∙ w.out }))))
+
+  -- a filter on what an expression gives
+  pub filter_both : {m : Memory} {h : Got Tree} (x : Text) (ts : Exprs) (ps : written.Pairs) (sp : Spot) (env : Env) (e : SExpr Constant) → Good world order sp q env m → AllAmong (row_names ts) (ns sp) → AllAmong (pair_names ps) (ns sp) → Same sp m h e
+      → Same sp m (filtered fs (fs.named x) sp.escaping (bind h (λ v. bind (values world calls ts (around_of world order sp l q) env) (λ vs. bind (named_values world calls ps (around_of world order sp l q) env) (λ ks.
+        gives (v ∷ arguments (filter_parameters fs (fs.named x)) vs (keywords ps) ks))))))
+        (filtered_by (fs.named x) sp.escaping (slots.item e (resolved_row world order ts sp (resolved_asides world order ps sp (filled_some (filter_parameters fs (fs.named x)) (count ts) (keywords ps) (locals_from sp.free (keywords ps)))))))
+  filter_both {m = m} x ts ps sp env e g front back u =
+      let rest = filled_some (filter_parameters fs (fs.named x)) (count ts) (keywords ps) (locals_from sp.free (keywords ps)) in
+      filtered_both (fs.named x) sp.escaping (slots.item e (resolved_row world order ts sp (resolved_asides world order ps sp rest)))
+      (bind_both u (λ v r w. right_both (in_front r.value)
+      (row_in_front ts sp (λ y s. Rowed sp.free (end sp) m y (in_front r.value s))
+      (λ vs. bind (named_values world calls ps (around_of world order sp l q) env) (λ ks. gives (v ∷ arguments (filter_parameters fs (fs.named x)) vs (keywords ps) ks)))
+      (resolved_asides world order ps sp rest) (values_same ts sp env r.memory (good_kept world order g w.kept) front) (λ vs n len k o.
+      asides_in_front ps sp (λ y s. Rowed sp.free (end sp) m y (in_front r.value (prefixed vs s)))
+      (λ ks. gives (v ∷ arguments (filter_parameters fs (fs.named x)) vs (keywords ps) ks)) rest (asides_same ps sp env n (good_kept world order g (kept_then w.kept k)) back) (λ ks n' z.
+      arguments_end (filter_parameters fs (fs.named x)) sp v r.value w.value vs (count ts) len (keywords ps) ks z.names z.values (kept_then w.kept (kept_then k z.kept)) (z.out ∙ o ∙ w.out))))))

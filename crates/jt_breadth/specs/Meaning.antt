@@ -77,12 +77,11 @@ module _ (world : World) (calls : Calls) where
       gives (if tree.truth b then v ∷ rest else rest))))
 
   -- a value put through each filter in turn
-  abbrev pub through : List Filtering → Around → Env → Tree → Got Tree
-  through [] a env v = gives v
-  through (f ∷ fs) a env v =
-      bind (filtered world.filters (world.filters.named f.name) a.escaping (bind (values world calls f.arguments a env) (λ vs. bind (named_values world calls f.keywords a env) (λ ks.
-      gives (v ∷ arguments (filter_parameters world.filters (world.filters.named f.name)) vs (keywords f.keywords) ks)))))
-      (through fs a env)
+  abbrev pub through : List Filtering → Around → Env → Got Tree → Got Tree
+  through [] a env g = g
+  through (f ∷ fs) a env g =
+      through fs a env (filtered world.filters (world.filters.named f.name) a.escaping (bind g (λ v. bind (values world calls f.arguments a env) (λ vs. bind (named_values world calls f.keywords a env) (λ ks.
+      gives (v ∷ arguments (filter_parameters world.filters (world.filters.named f.name)) vs (keywords f.keywords) ks))))))
 
   abbrev mutual
     pub meaning : Stmt → Around → State → Got State
@@ -100,7 +99,7 @@ module _ (world : World) (calls : Calls) where
         bind (at (tag a line) (named_values world calls ps a st.env)) (λ bs. within bs (meanings body a) st)
     meaning (filter_block line fs body) a st =
         bind (captured a.escaping (meanings body a) st.env) (λ v.
-        at (tag a line) (bind (through fs a st.env v) (λ w. bind (shown a.escaping w) (λ s. gives (put st s)))))
+        at (tag a line) (bind (through fs a st.env (gives v)) (λ w. bind (shown a.escaping w) (λ s. gives (put st s)))))
     meaning (autoescape line on body) a st = within [] (meanings body (record a { escaping = on })) st
     meaning (block line x scoped required body) a st =
         bind (block_text calls a.home (bodies world.sources world.escaping a.home x) (if scoped then st.env else top st.env.globals)) (λ s. gives (put st s))
