@@ -59,6 +59,11 @@ bind_assoc (gives x) f h = refl
 bind_assoc (fails e p) f h = refl
 bind_assoc deeper f h = refl
 
+pub bind_ext : {A B : Type 0} (g : Got A) (f h : A → Got B) → ((x : A) → f x ≡ h x) → bind g f ≡ bind g h
+bind_ext (gives x) f h e = e x
+bind_ext (fails e' p) f h e = refl
+bind_ext deeper f h e = refl
+
 pub by_left : {A B : Type 0} {R : A → B → Type 0} {g f : Got A} {h : Got B} → f ≡ g → Both R g h → Both R f h
 by_left {R = R} {h = h} e u = subst (λ x. Both R x h) (sym e) u
 

@@ -6,3 +6,4 @@ pub mod Agreeing
 pub mod Calling
 pub mod Valuing
 pub mod Binding
+pub mod Stating

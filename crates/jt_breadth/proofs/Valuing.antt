@@ -34,7 +34,7 @@ use Rattle.jt_breadth.specs.Slots as slots
 use Rattle.jt_breadth.specs.Slots.{Slot, local, global, Maker, operator, a_list, a_map, SExpr, made, SRow, none, Memory, Valued, Listed, Written, SCalls, load, put_at, store, make, valued, in_front, svalue, svalues}
 use Rattle.jt_breadth.specs.Layout.{Table, slot_in, first_slot, globals_from, of_macro, of_body, names, globals, block_parameters, is_scoped, numbered_of, numbered_bodies, counted_from, unit, shared, default_place}
 use Rattle.jt_breadth.specs.Resolve.{Constant, own, known, constant_in, no_value, value_or, read_from, operation_of, turned_round, tested_by, filtered_by, in_form, field_from, locals_from, filled, filled_some, first_locals, reads, Spot, Part, grown, next_given, first_body, invoked_body, invoked_super, invoked, resolved, resolved_row, resolved_asides, resolved_entries}
-use Rattle.jt_breadth.proofs.Both.{Both, both, fault, deep, bind_both, if_both, weaken, right_both, bind_gives, bind_assoc, by_left, by_right, checked_both}
+use Rattle.jt_breadth.proofs.Both.{Both, both, fault, deep, bind_both, if_both, weaken, right_both, bind_gives, bind_assoc, bind_ext, by_left, by_right, checked_both}
 use Rattle.jt_breadth.proofs.Reading.{among_front, among_back, held, put_here, put_elsewhere}
 use Rattle.jt_breadth.proofs.Agreeing.{Kept, kept_same, kept_then, kept_less, kept_out, kept_store, Held, held_put, held_kept, limit, GlobalsAgree, global_given}
 use Rattle.jt_breadth.proofs.Calling.{Evaluated, Rowed, Known, Sees, Tail, PartHolds, Good, good_kept, good_grown, around_of, Wrote, CallsMean, DefaultsAt, DefaultsLaid}
@@ -513,11 +513,6 @@ module _ (world : World) (order : List Home) (calls : Calls) (scall : SCalls) (m
   call_both no_callee sp env ts ps g named row passed = given_both sp tree.undefined
 
   -- ---- arguments in front of a row
-
-  pub bind_ext : {A B : Type 0} (g : Got A) (f h : A → Got B) → ((x : A) → f x ≡ h x) → bind g f ≡ bind g h
-  bind_ext (gives x) f h e = e x
-  bind_ext (fails e' p) f h e = refl
-  bind_ext deeper f h e = refl
 
   row_apart : (ts : Exprs) (sp : Spot) (behind : SRow Constant) (m : Memory)
       → seen_row (resolved_row world order ts sp behind) m ≡ bind (seen_row (resolved_row world order ts sp none) m) (λ r. bind (seen_row behind r.memory) (λ s. gives (prefixed r.values s)))
