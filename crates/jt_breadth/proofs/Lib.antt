@@ -7,3 +7,4 @@ pub mod Calling
 pub mod Valuing
 pub mod Binding
 pub mod Stating
+pub mod Finding
