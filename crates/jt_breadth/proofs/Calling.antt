@@ -1,6 +1,7 @@
 -- When a spot, an environment and a memory fit together; and what is asked of calls.
-use Rattle.std.proofs.Common.{◌≡◌, ℕ, zero, suc, ◌+◌, ◌<◌, ◌≤◌, Bool, true, false, List, [], ◌∷◌, ◌++◌, length, map, Option, Some, None, refl, sym, ap, ◌∙◌, subst, arith}
+use Rattle.std.proofs.Common.{◌≡◌, ℕ, zero, suc, ◌+◌, ◌<◌, ◌≤◌, Bool, true, false, List, [], ◌∷◌, ◌++◌, length, map, Option, Some, None, refl, sym, ap, ◌∙◌, subst, arith, ◌⊎◌}
 use Rattle.std.specs.Prelude.{IsTrue}
+use Rattle.std.specs.Option.{is_none}
 use Rattle.jt_value.specs.Tree as tree
 use Rattle.jt_value.specs.Tree.{Tree}
 use Rattle.jt_value.specs.Pairs.{Pairs}
@@ -144,3 +145,12 @@ module _ (world : World) (order : List Home) where
   -- those of each macro do, from the place on that resolving finds
   abbrev pub DefaultsLaid : Type 0
   DefaultsLaid = (h : Home) → Known h → (x : Text) (b : MacroBody) → macro_of x (macros world.sources h) ≡ Some b → DefaultsAt (default_place world order h b.name) b.parameters
+
+  -- a chain that another includes: it stands behind in the order, and the other has all its names
+  pub record Hands (h n : Home) : Type 0 where
+    pub known : Known n
+    pub behind : limit world order h ≤ first_slot world order n
+    pub names : (x : Text) → Among x (Rattle.jt_breadth.specs.Layout.names world order n) → Among x (Rattle.jt_breadth.specs.Layout.names world order h)
+
+  abbrev pub Included : Home → Text → Type 0
+  Included h n = (is_none (world.sources n) ≡ true) ⊎ Hands h n

@@ -8,3 +8,4 @@ pub mod Valuing
 pub mod Binding
 pub mod Stating
 pub mod Finding
+pub mod Ordering

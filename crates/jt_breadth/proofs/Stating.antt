@@ -25,7 +25,7 @@ use Rattle.jt_breadth.specs.Resolve.{Constant, constant_in, read_from, followed,
 use Rattle.jt_breadth.proofs.Both.{Both, both, fault, deep, bind_both, at_both, if_both, weaken, left_both, right_both, at_bind, bind_gives, bind_assoc, bind_ext, by_left, by_right, checked_both, same_both}
 use Rattle.jt_breadth.proofs.Reading.{among_front, among_back, same_text, is_same, no_both, IsInner, all_inner, all_globals, all_top, read_top, held, put_here, put_elsewhere}
 use Rattle.jt_breadth.proofs.Agreeing.{Kept, kept_same, kept_then, kept_less, kept_out, kept_store, kept_global, Held, held_kept, global_slot, global_given, limit, Below, Fits, GlobalsAgree, Agrees, agrees_kept, pairs_held, copies_held, fits_all, InLocals, in_locals}
-use Rattle.jt_breadth.proofs.Calling.{Evaluated, Rowed, Known, Sees, Tail, PartHeld, PartHolds, part_kept, part_more, Good, good_kept, good_grown, globals_kept, around_of, Wrote, CallsMean, DefaultsLaid}
+use Rattle.jt_breadth.proofs.Calling.{Evaluated, Rowed, Known, Sees, Tail, PartHeld, PartHolds, part_kept, part_more, Good, good_kept, good_grown, globals_kept, around_of, Wrote, CallsMean, DefaultsLaid, Hands, Included}
 use Rattle.jt_breadth.proofs.Valuing.{GivenBy, numbered_are, value_same, values_same, filter_both, read_gives, reads_give, reads_are, map_length}
 use Rattle.jt_breadth.proofs.Binding.{Taken, taken, Set, one_set, all_set}
 use Rattle.jt_scopes.proofs.Means.{Among, AllAmong}
@@ -507,15 +507,6 @@ module _ (world : World) (order : List Home) (calls : Calls) (scall : SCalls) (m
 
   -- ---- includes
 
-  -- a chain that another includes: it stands behind in the order, and the other has all its names
-  pub record Hands (h n : Home) : Type 0 where
-    pub known : Known world order n
-    pub behind : limit world order h ≤ first_slot world order n
-    pub names : (x : Text) → Among x (Rattle.jt_breadth.specs.Layout.names world order n) → Among x (Rattle.jt_breadth.specs.Layout.names world order h)
-
-  abbrev pub Included : Home → Text → Type 0
-  Included h n = (is_none (world.sources n) ≡ true) ⊎ Hands h n
-
   abbrev handed : Table → ℕ → List Text → Memory → Memory
   handed table k [] m = m
   handed table k (x ∷ xs) m = handed table (suc k) xs (store (global k) (held (slot_in x table) m) m)
@@ -556,7 +547,7 @@ module _ (world : World) (order : List Home) (calls : Calls) (scall : SCalls) (m
       which n y false e (inl p) j s w r = absurd (no_both (is_same x y p) e)
       which n y false e (inr i) j s w r = r i s
 
-  include_both : (n : Text) (with_context : Bool) (sp : Spot) (l : Option Loop) (q : Option Placement) (b j : ℕ) (S : List Text) (st : State) (m : Memory) (line : ℕ) → Here sp q b j S st m → Hands sp.home n
+  include_both : (n : Text) (with_context : Bool) (sp : Spot) (l : Option Loop) (q : Option Placement) (b j : ℕ) (S : List Text) (st : State) (m : Memory) (line : ℕ) → Here sp q b j S st m → Hands world order sp.home n
       → Both (After sp q b j S m) (bind (calls (the_chain n (if with_context then seen st.env else []))) (λ s. gives (put st s)))
         (sbody (followed (handed_on (place sp line) (if with_context then sp.table else []) (first_slot world order n) (names world order n)) (alone (run (unit world order (of_chain n)) none))) l m)
   include_both n with_context sp l q b j S st m line here hands = by_flag with_context
@@ -581,7 +572,7 @@ module _ (world : World) (order : List Home) (calls : Calls) (scall : SCalls) (m
 
   mutual
     pub stmt_same : (s : Stmt) (sp : Spot) (l : Option Loop) (q : Option Placement) (b j : ℕ) (S : List Text) (st : State) (m : Memory) → Here sp q b j S st m → AllAmong (stmt_names s) (ns sp) → AllAmong (set_by s) S
-        → Each (Included sp.home) (needs_by true s) → Each (λ x. is_scoped world sp.home x ≡ true) (scoped_by s)
+        → Each (Included world order sp.home) (needs_by true s) → Each (λ x. is_scoped world sp.home x ≡ true) (scoped_by s)
         → Both (After sp q b j S m) (meaning world calls s (around_of world order sp l q) st) (sbody (resolved_stmt world order s sp) l m)
     stmt_same (data_of t) sp l q b j S st m h i o n d =
         both (stays (st.out ++ t) h (kept_out (record m { out = m.out ++ t }) refl refl (kept_same sp.free (lim sp) m)) (ap (λ u. u ++ t) h.out))
@@ -591,9 +582,9 @@ module _ (world : World) (order : List Home) (calls : Calls) (scall : SCalls) (m
     stmt_same (choose bs other) sp l q b j S st m h i o n d =
         choice_same bs sp l q b j S st (meanings world calls other (around_of world order sp l q)) (resolved_body world order other sp)
         (λ m' h'. body_same other sp l q b j S st m' h' (among_back (branch_names bs) (body_names other) (ns sp) i) (among_back (set_under bs) (set_in other) S o)
-        (each_back (Included sp.home) (needs_under true bs) (needs_in true other) n) (each_back (λ x. is_scoped world sp.home x ≡ true) (scoped_under bs) (scoped_in other) d))
+        (each_back (Included world order sp.home) (needs_under true bs) (needs_in true other) n) (each_back (λ x. is_scoped world sp.home x ≡ true) (scoped_under bs) (scoped_in other) d))
         m h (among_front (branch_names bs) (body_names other) (ns sp) i) (among_front (set_under bs) (set_in other) S o)
-        (each_front (Included sp.home) (needs_under true bs) (needs_in true other) n) (each_front (λ x. is_scoped world sp.home x ≡ true) (scoped_under bs) (scoped_in other) d)
+        (each_front (Included world order sp.home) (needs_under true bs) (needs_in true other) n) (each_front (λ x. is_scoped world sp.home x ≡ true) (scoped_under bs) (scoped_in other) d)
     stmt_same (for_each line xs e c body other) sp l q b j S st m h i o n d =
         let i1 = among_front (expr_names e) (xs ++ (condition_names c ++ (body_names body ++ body_names other))) (ns sp) i in
         let i2 = among_back xs (condition_names c ++ (body_names body ++ body_names other)) (ns sp) (among_back (expr_names e) (xs ++ (condition_names c ++ (body_names body ++ body_names other))) (ns sp) i) in
@@ -613,9 +604,9 @@ module _ (world : World) (order : List Home) (calls : Calls) (scall : SCalls) (m
         (gone_both l q body xs sp
         (λ l' env out n' g inner z. scope_both body (bound_all xs sp) l' q env out n' g inner z (among_front (body_names body) (body_names other) (ns sp) i3)
         (λ b' j' S' st' n'' h'' o''. body_same body (bound_all (set_in body) (bound_all xs sp)) l' q b' j' S' st' n'' h'' (among_front (body_names body) (body_names other) (ns sp) i3) o''
-        (each_front (Included sp.home) (needs_in true body) (needs_in true other) n) (each_front (λ x. is_scoped world sp.home x ≡ true) (scoped_in body) (scoped_in other) d)))
+        (each_front (Included world order sp.home) (needs_in true body) (needs_in true other) n) (each_front (λ x. is_scoped world sp.home x ≡ true) (scoped_in body) (scoped_in other) d)))
         (place sp line) b j S vs st r.memory (meanings world calls other (around_of world order sp l q)) (λ n'. sbody (resolved_body world order other sp) l n') h'
-        (body_same other sp l q b j S st r.memory h' (among_back (body_names body) (body_names other) (ns sp) i3) o (each_back (Included sp.home) (needs_in true body) (needs_in true other) n) (each_back (λ x. is_scoped world sp.home x ≡ true) (scoped_in body) (scoped_in other) d))))))
+        (body_same other sp l q b j S st r.memory h' (among_back (body_names body) (body_names other) (ns sp) i3) o (each_back (Included world order sp.home) (needs_in true body) (needs_in true other) n) (each_back (λ x. is_scoped world sp.home x ≡ true) (scoped_in body) (scoped_in other) d))))))
     stmt_same (set line xs e) sp l q b j S st m h i o n d =
         by_right (alone_same (assign (place sp line) (set_targets sp.table xs) (resolved world order e sp)) l m)
         (left_both (λ s. record st { env = all_bound st.env s })
@@ -673,7 +664,7 @@ module _ (world : World) (order : List Home) (calls : Calls) (scall : SCalls) (m
         including true e = both (record { here = h; kept = kept_same b j m })
         including false e = by_source n.0
           where
-            by_source : Included sp.home k → Both (After sp q b j S m) (bind (calls (the_chain k (if with_context then seen st.env else []))) (λ s. gives (put st s)))
+            by_source : Included world order sp.home k → Both (After sp q b j S m) (bind (calls (the_chain k (if with_context then seen st.env else []))) (λ s. gives (put st s)))
                 (sbody (followed (handed_on (place sp line) (if with_context then sp.table else []) (first_slot world order k) (names world order k)) (alone (run (unit world order (of_chain k)) none))) l m)
             by_source (inl f) = absurd (no_both f e)
             by_source (inr f) = include_both k with_context sp l q b j S st m line h f
@@ -686,21 +677,21 @@ module _ (world : World) (order : List Home) (calls : Calls) (scall : SCalls) (m
         (placed_both x (globals world order sp.home) (top st.env.globals) (numbered_of world sp.home x) sp l q b j S st m h (sees_globals x sp q st.env m h.good) refl)
 
     pub body_same : (c : Body) (sp : Spot) (l : Option Loop) (q : Option Placement) (b j : ℕ) (S : List Text) (st : State) (m : Memory) → Here sp q b j S st m → AllAmong (body_names c) (ns sp) → AllAmong (set_in c) S
-        → Each (Included sp.home) (needs_in true c) → Each (λ x. is_scoped world sp.home x ≡ true) (scoped_in c)
+        → Each (Included world order sp.home) (needs_in true c) → Each (λ x. is_scoped world sp.home x ≡ true) (scoped_in c)
         → Both (After sp q b j S m) (meanings world calls c (around_of world order sp l q) st) (sbody (resolved_body world order c sp) l m)
     body_same end sp l q b j S st m h i o n d = both (record { here = h; kept = kept_same b j m })
     body_same (stmt s rest) sp l q b j S st m h i o n d =
         by_right (followed_same (resolved_stmt world order s sp) (resolved_body world order rest sp) l m)
-        (bind_both (stmt_same s sp l q b j S st m h (among_front (stmt_names s) (body_names rest) (ns sp) i) (among_front (set_by s) (set_in rest) S o) (each_front (Included sp.home) (needs_by true s) (needs_in true rest) n)
+        (bind_both (stmt_same s sp l q b j S st m h (among_front (stmt_names s) (body_names rest) (ns sp) i) (among_front (set_by s) (set_in rest) S o) (each_front (Included world order sp.home) (needs_by true s) (needs_in true rest) n)
         (each_front (λ x. is_scoped world sp.home x ≡ true) (scoped_by s) (scoped_in rest) d)) (λ st' m' a.
         weaken (λ st'' m'' y. since a.kept y)
-        (body_same rest sp l q b j S st' m' a.here (among_back (stmt_names s) (body_names rest) (ns sp) i) (among_back (set_by s) (set_in rest) S o) (each_back (Included sp.home) (needs_by true s) (needs_in true rest) n)
+        (body_same rest sp l q b j S st' m' a.here (among_back (stmt_names s) (body_names rest) (ns sp) i) (among_back (set_by s) (set_in rest) S o) (each_back (Included world order sp.home) (needs_by true s) (needs_in true rest) n)
         (each_back (λ x. is_scoped world sp.home x ≡ true) (scoped_by s) (scoped_in rest) d))))
 
     -- the else part is given by its meaning, its resolved form and that they mean the same
     pub choice_same : (bs : Branches) (sp : Spot) (l : Option Loop) (q : Option Placement) (b j : ℕ) (S : List Text) (st : State) (other : State → Got State) (sother : SBody Constant)
         → ((m : Memory) → Here sp q b j S st m → Both (After sp q b j S m) (other st) (sbody sother l m))
-        → (m : Memory) → Here sp q b j S st m → AllAmong (branch_names bs) (ns sp) → AllAmong (set_under bs) S → Each (Included sp.home) (needs_under true bs) → Each (λ x. is_scoped world sp.home x ≡ true) (scoped_under bs)
+        → (m : Memory) → Here sp q b j S st m → AllAmong (branch_names bs) (ns sp) → AllAmong (set_under bs) S → Each (Included world order sp.home) (needs_under true bs) → Each (λ x. is_scoped world sp.home x ≡ true) (scoped_under bs)
         → Both (After sp q b j S m) (chosen world calls bs (around_of world order sp l q) st other) (sbody (resolved_choice world order bs sp sother) l m)
     choice_same no_branches sp l q b j S st other sother others m h i o n d = others m h
     choice_same (branch line c body rest) sp l q b j S st other sother others m h i o n d =
@@ -710,7 +701,7 @@ module _ (world : World) (order : List Home) (calls : Calls) (scall : SCalls) (m
         let h' : Here sp q b j S st r.memory = record { good = good_kept world order h.good w.kept; owns = h.owns; out = w.out ∙ h.out } in
         by_right (ap (λ z. if tree.truth z then sbody (resolved_body world order body sp) l r.memory else sbody (resolved_choice world order rest sp sother) l r.memory) w.value)
         (weaken (λ st' n' y. since (lower h.owns w.kept) y) (if_both (tree.truth v)
-        (body_same body sp l q b j S st r.memory h' (among_front (body_names body) (branch_names rest) (ns sp) i1) (among_front (set_in body) (set_under rest) S o) (each_front (Included sp.home) (needs_in true body) (needs_under true rest) n)
+        (body_same body sp l q b j S st r.memory h' (among_front (body_names body) (branch_names rest) (ns sp) i1) (among_front (set_in body) (set_under rest) S o) (each_front (Included world order sp.home) (needs_in true body) (needs_under true rest) n)
         (each_front (λ x. is_scoped world sp.home x ≡ true) (scoped_in body) (scoped_under rest) d))
-        (choice_same rest sp l q b j S st other sother others r.memory h' (among_back (body_names body) (branch_names rest) (ns sp) i1) (among_back (set_in body) (set_under rest) S o) (each_back (Included sp.home) (needs_in true body) (needs_under true rest) n)
+        (choice_same rest sp l q b j S st other sother others r.memory h' (among_back (body_names body) (branch_names rest) (ns sp) i1) (among_back (set_in body) (set_under rest) S o) (each_back (Included world order sp.home) (needs_in true body) (needs_under true rest) n)
         (each_back (λ x. is_scoped world sp.home x ≡ true) (scoped_in body) (scoped_under rest) d))))))

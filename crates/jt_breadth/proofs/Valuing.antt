@@ -103,7 +103,7 @@ parameter_names (p ∷ ps) (v ∷ vs) ks = ap (λ xs. p.name ∷ xs) (parameter_
 
 -- ---- bodies and their places
 
-counted_are : {A : Type 0} (n : ℕ) (xs : List A) → map (λ c. c.1) (counted_from n xs) ≡ xs
+pub counted_are : {A : Type 0} (n : ℕ) (xs : List A) → map (λ c. c.1) (counted_from n xs) ≡ xs
 counted_are n [] = refl
 counted_are n (x ∷ xs) = ap (λ ys. x ∷ ys) (counted_are (suc n) xs)
 
