@@ -9,3 +9,4 @@ pub mod Binding
 pub mod Stating
 pub mod Finding
 pub mod Ordering
+pub mod Knotting

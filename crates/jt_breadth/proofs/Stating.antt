@@ -45,7 +45,7 @@ among_both (x ∷ xs) ys ns a b = (a.0, among_both xs ys ns a.1 b)
 
 -- the names that are set are among those that are read or bound
 mutual
-  set_among : (s : Stmt) (ns : List Text) → AllAmong (stmt_names s) ns → AllAmong (set_by s) ns
+  pub set_among : (s : Stmt) (ns : List Text) → AllAmong (stmt_names s) ns → AllAmong (set_by s) ns
   set_among (set line xs e) ns a = among_back (expr_names e) xs ns a
   set_among (set_block line x body) ns a = (a.0, tt)
   set_among (choose bs other) ns a =
