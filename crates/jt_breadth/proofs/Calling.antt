@@ -13,7 +13,8 @@ use Rattle.jt_breadth.specs.Filters.{among, default_value}
 use Rattle.jt_breadth.specs.Loops.{Loop, tree_at}
 use Rattle.jt_breadth.specs.Around.{World, Placement, Around, Called, the_macro, the_block, the_chain, Calls}
 use Rattle.jt_breadth.specs.Slots.{Slot, local, global, Memory, Valued, Listed, Written, SCalls, store}
-use Rattle.jt_breadth.specs.Layout.{Table, slot_in, Key, of_chain, of_macro, of_body, names, first_slot, globals, block_parameters, is_scoped, numbered_of, unit, shared, default_place}
+use Rattle.jt_breadth.specs.Layout.{Table, slot_in, Key, of_chain, of_macro, of_body, names, first_slot, globals, block_parameters, is_scoped, numbered_of, unit, default_place}
+use Rattle.jt_breadth.specs.Programs.{pool}
 use Rattle.jt_breadth.specs.Resolve.{Spot, Part, bound_table, bound_all, grown}
 use Rattle.jt_breadth.proofs.Both.{Both}
 use Rattle.jt_breadth.proofs.Reading.{held}
@@ -140,7 +141,7 @@ module _ (world : World) (order : List Home) where
   -- the defaults of parameters stand in front of the pool, from a place on
   abbrev pub DefaultsAt : ℕ → List Parameter → Type 0
   DefaultsAt d [] = Unit {0}
-  DefaultsAt d (p ∷ ps) = (tree_at (shared world order) d ≡ default_value p.default) × DefaultsAt (suc d) ps
+  DefaultsAt d (p ∷ ps) = (tree_at (pool world order) d ≡ default_value p.default) × DefaultsAt (suc d) ps
 
   -- those of each macro do, from the place on that resolving finds
   abbrev pub DefaultsLaid : Type 0

@@ -20,8 +20,9 @@ use Rattle.jt_breadth.specs.Slots.{Slot, local, global, Memory, Written, SCalls,
 use Rattle.jt_breadth.specs.Layout.{Table, slot_in, globals_from, of_chain, of_macro, of_body, names, first_in, first_slot, globals, block_parameters, is_scoped, numbered_of, numbered_bodies, unit, shared, defaults_of, first_default, default_in, default_place}
 use Rattle.jt_breadth.specs.Resolve.{Constant, constant_in, followed, Spot, Part, bound_table, bound_all, scoped, resolved_stmt, resolved_body, resolved_sets, top_spot, resolved_chain, chain_routine, macro_routine, body_routine}
 use Rattle.jt_breadth.specs.Locals.{body_locals}
-use Rattle.jt_breadth.specs.Programs.{routines, count_globals}
+use Rattle.jt_breadth.specs.Programs.{routines, pool, count_globals}
 use Rattle.jt_breadth.specs.ChainRules.{InOrder}
+use Rattle.jt_breadth.specs.Pool.{routines_values}
 use Rattle.jt_breadth.proofs.Both.{Both, both, fault, deep, bind_both, weaken, by_right, bind_assoc}
 use Rattle.jt_breadth.proofs.Reading.{same_text, same_is, is_same, no_both, among_front, among_back, each_among, IsInner, held}
 use Rattle.jt_breadth.proofs.Agreeing.{Kept, kept_same, kept_then, Held, held_put, global_slot, global_given, globals_apart, limit, Fits, GlobalsAgree, Agrees, fits_all}
@@ -40,7 +41,7 @@ locals_at (suc n) [] (suc i) l = locals_at n [] i (let e : i < n = omega (arith,
 locals_at (suc n) (t ∷ ts) zero l = refl
 locals_at (suc n) (t ∷ ts) (suc i) l = locals_at n ts i (let e : i < n = omega (arith, l) in e)
 
-held_locals : (n : ℕ) (ts : List Tree) (k : ℕ) (vs : List Tree) → k + length vs ≤ n → Held ts k vs → Held (with_locals n ts) k vs
+pub held_locals : (n : ℕ) (ts : List Tree) (k : ℕ) (vs : List Tree) → k + length vs ≤ n → Held ts k vs → Held (with_locals n ts) k vs
 held_locals n ts k [] l h = tt
 held_locals n ts k (v ∷ vs) l h = (locals_at n ts k (let e : k < n = omega (arith, l) in e) ∙ h.0, held_locals n ts (suc k) vs (let e : suc k + length vs ≤ n = omega (arith, l) in e) h.1)
 
@@ -50,11 +51,11 @@ held_one : (t : Tree) (ts : List Tree) (k : ℕ) (vs : List Tree) → Held ts k 
 held_one t ts k [] h = tt
 held_one t ts k (v ∷ vs) h = (h.0, held_one t ts (suc k) vs h.1)
 
-held_after : (us ts : List Tree) (k : ℕ) (vs : List Tree) → Held ts k vs → Held (us ++ ts) (length us + k) vs
+pub held_after : (us ts : List Tree) (k : ℕ) (vs : List Tree) → Held ts k vs → Held (us ++ ts) (length us + k) vs
 held_after [] ts k vs h = subst (λ n. Held ts n vs) (let e : k ≡ 0 + k = omega arith in e) h
 held_after (u ∷ us) ts k vs h = subst (λ n. Held (u ∷ (us ++ ts)) n vs) (let e : suc (length us + k) ≡ length (u ∷ us) + k = omega arith in e) (held_one u (us ++ ts) (length us + k) vs (held_after us ts k vs h))
 
-held_first : (vs ts : List Tree) → Held (vs ++ ts) 0 vs
+pub held_first : (vs ts : List Tree) → Held (vs ++ ts) 0 vs
 held_first [] ts = tt
 held_first (v ∷ vs) ts = (refl, held_one v (vs ++ ts) 0 vs (held_first vs ts))
 
@@ -86,23 +87,23 @@ defaults_in x b (m ∷ ms) ts e = subst (λ us. Held us (first_default x (m ∷ 
         (held_after (map (λ p. default_value p.default) m.parameters) (defaults_of ms ++ ts) (first_default x ms) (map (λ p. default_value p.default) b.parameters) (f e))
 
 module _ (world : World) (order : List Home) where
-  defaults_among : (h : Home) (x : Text) (b : MacroBody) (hs : List Home) → among h hs ≡ true → macro_of x (macros world.sources h) ≡ Some b
-      → Held (flat_map (λ g. defaults_of (macros world.sources g)) hs) (default_in world order hs h x) (map (λ p. default_value p.default) b.parameters)
+  defaults_among : (h : Home) (x : Text) (b : MacroBody) (hs : List Home) (ts : List Tree) → among h hs ≡ true → macro_of x (macros world.sources h) ≡ Some b
+      → Held (flat_map (λ g. defaults_of (macros world.sources g)) hs ++ ts) (default_in world order hs h x) (map (λ p. default_value p.default) b.parameters)
   unfolding default_row
-  defaults_among h x b [] e m = absurd (no_both e refl)
-  defaults_among h x b (g ∷ gs) e m = through (bytes_eq g h) refl e (λ f. defaults_among h x b gs f m)
+  defaults_among h x b [] ts e m = absurd (no_both e refl)
+  defaults_among h x b (g ∷ gs) ts e m =
+      subst (λ us. Held us (default_in world order (g ∷ gs) h x) (map (λ p. default_value p.default) b.parameters)) (sym (append_assoc (defaults_of (macros world.sources g)) (flat_map (λ k. defaults_of (macros world.sources k)) gs) ts))
+      (through (bytes_eq g h) refl e (λ f. defaults_among h x b gs ts f m))
     where
-      rest : List Tree
-      rest = flat_map (λ k. defaults_of (macros world.sources k)) gs
-
-      through : (c : Bool) → bytes_eq g h ≡ c → ((c || among h gs) ≡ true) → (among h gs ≡ true → Held (flat_map (λ k. defaults_of (macros world.sources k)) gs) (default_in world order gs h x) (map (λ p. default_value p.default) b.parameters))
-          → Held (defaults_of (macros world.sources g) ++ flat_map (λ k. defaults_of (macros world.sources k)) gs) (if c then first_default x (macros world.sources h) else length (defaults_of (macros world.sources g)) + default_in world order gs h x) (map (λ p. default_value p.default) b.parameters)
+      through : (c : Bool) → bytes_eq g h ≡ c → ((c || among h gs) ≡ true)
+          → (among h gs ≡ true → Held (flat_map (λ k. defaults_of (macros world.sources k)) gs ++ ts) (default_in world order gs h x) (map (λ p. default_value p.default) b.parameters))
+          → Held (defaults_of (macros world.sources g) ++ (flat_map (λ k. defaults_of (macros world.sources k)) gs ++ ts)) (if c then first_default x (macros world.sources h) else length (defaults_of (macros world.sources g)) + default_in world order gs h x) (map (λ p. default_value p.default) b.parameters)
       through true p e f =
-          subst (λ z. Held (defaults_of (macros world.sources z) ++ flat_map (λ k. defaults_of (macros world.sources k)) gs) (first_default x (macros world.sources h)) (map (λ p. default_value p.default) b.parameters)) (sym (same_text g h p))
-          (defaults_in x b (macros world.sources h) (flat_map (λ k. defaults_of (macros world.sources k)) gs) m)
-      through false p e f = held_after (defaults_of (macros world.sources g)) (flat_map (λ k. defaults_of (macros world.sources k)) gs) (default_in world order gs h x) (map (λ p. default_value p.default) b.parameters) (f e)
+          subst (λ z. Held (defaults_of (macros world.sources z) ++ (flat_map (λ k. defaults_of (macros world.sources k)) gs ++ ts)) (first_default x (macros world.sources h)) (map (λ p. default_value p.default) b.parameters)) (sym (same_text g h p))
+          (defaults_in x b (macros world.sources h) (flat_map (λ k. defaults_of (macros world.sources k)) gs ++ ts) m)
+      through false p e f = held_after (defaults_of (macros world.sources g)) (flat_map (λ k. defaults_of (macros world.sources k)) gs ++ ts) (default_in world order gs h x) (map (λ p. default_value p.default) b.parameters) (f e)
 
-  defaults_at : (d : ℕ) (ps : List Parameter) → Held (shared world order) d (map (λ p. default_value p.default) ps) → DefaultsAt world order d ps
+  defaults_at : (d : ℕ) (ps : List Parameter) → Held (pool world order) d (map (λ p. default_value p.default) ps) → DefaultsAt world order d ps
   defaults_at d [] h = tt
   defaults_at d (p ∷ ps) h = (h.0, defaults_at (suc d) ps h.1)
 
@@ -110,8 +111,8 @@ module _ (world : World) (order : List Home) where
   defaults_laid h e x b m =
       let n = named x b (macros world.sources h) m in
       defaults_at (default_place world order h b.name) b.parameters
-      (held_one tree.undefined (flat_map (λ g. defaults_of (macros world.sources g)) order) (default_in world order order h b.name) (map (λ p. default_value p.default) b.parameters)
-      (defaults_among h b.name b order e (ap (λ z. macro_of z (macros world.sources h)) n ∙ m)))
+      (held_one tree.undefined (flat_map (λ g. defaults_of (macros world.sources g)) order ++ routines_values (routines world order)) (default_in world order order h b.name) (map (λ p. default_value p.default) b.parameters)
+      (defaults_among h b.name b order (routines_values (routines world order)) e (ap (λ z. macro_of z (macros world.sources h)) n ∙ m)))
     where
       named : (x : Text) (b : MacroBody) (ms : List MacroBody) → macro_of x ms ≡ Some b → b.name ≡ x
       named x b [] e = absurd (nothing e)
@@ -176,7 +177,7 @@ module _ (world : World) (order : List Home) where
       → sp.home ≡ h → Good world order sp q env m → IsInner env → m.out ≡ [] → AllAmong (body_names body) (names world order sp.home) → Each (Included world order sp.home) (needs_in true body) → Each (λ x. is_scoped world sp.home x ≡ true) (scoped_in body)
       → Both (Wrote world order (limit world order sp.home) m.globals)
         (bind (meanings world calls body (around_of world order sp None q) (record { env = env; out = [] })) (λ st. gives st.out))
-        (bind (smeanings world.filters (constant_in (shared world order)) scall (scoped (set_in body) sp (resolved_body world order body)) None m) (λ z. gives (record { text = z.out; globals = z.globals })))
+        (bind (smeanings world.filters (constant_in (pool world order)) scall (scoped (set_in body) sp (resolved_body world order body)) None m) (λ z. gives (record { text = z.out; globals = z.globals })))
   routine_both n calls scall mean ordered h e body sp q env m is_h good inner out names_in includes scopes =
       bind_both (scope_both world order calls scall mean defaults_laid body sp None q env [] m good inner out names_in
       (λ b g S st o here own. body_same world order calls scall mean defaults_laid body (bound_all (set_in body) sp) None q b g S st o here names_in own includes scopes))
@@ -187,7 +188,7 @@ module _ (world : World) (order : List Home) where
     rs = routines world order
 
     abbrev cs : Constant → Tree
-    cs = constant_in (shared world order)
+    cs = constant_in (pool world order)
 
     module _ (calls : Calls) (scall : SCalls) (mean : CallsMean world order calls scall) where
       macro_knot : (h : Home) → among h order ≡ true → (x : Text) (b : MacroBody) → macro_of x (macros world.sources h) ≡ Some b → (ps gs : Pairs) (vs ts : List Tree) → map (λ p. p.0) ps ≡ map (λ p. p.name) b.parameters
@@ -310,7 +311,7 @@ module _ (world : World) (order : List Home) where
           (bind_both (sets_same h u u.body st m (other_top h t u st m here) all.0.names all.0.included all.0.scoped) (λ st' n a.
           weaken (λ st'' o y. (y.0, kept_then a.1 y.1)) (chain_same h e (v ∷ vs) u st' n a.0 all.1)))
 
-      chain_knot : (h : Home) → among h order ≡ true → (gs : Pairs) (ts : List Tree) → GlobalsAgree world order h gs ts
+      pub chain_knot : (h : Home) → among h order ≡ true → (gs : Pairs) (ts : List Tree) → GlobalsAgree world order h gs ts
           → Both (Wrote world order (first_slot world order h) ts) (performed world calls (the_chain h gs)) (sperformed world.filters cs scall (Some (chain_routine world order h)) [] ts)
       unfolding at_top
       chain_knot h e gs ts ga =
@@ -327,7 +328,7 @@ module _ (world : World) (order : List Home) where
 
     -- ---- the knot
 
-    calls_mean : (n : ℕ) → CallsMean world order (calls_below world n) (scalls world.filters cs rs n)
+    pub calls_mean : (n : ℕ) → CallsMean world order (calls_below world n) (scalls world.filters cs rs n)
     calls_mean zero = record {
       macro_means = λ h e x b m ps gs vs ts nm hv ga. deep;
       block_means = λ h e x i c behind tail env vs ts sees. deep;

@@ -10,3 +10,5 @@ pub mod Stating
 pub mod Finding
 pub mod Ordering
 pub mod Knotting
+pub mod Pooling
+pub mod Means

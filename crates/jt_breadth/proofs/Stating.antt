@@ -20,7 +20,8 @@ use Rattle.jt_breadth.specs.Meaning.{each_target, targets, put, within, captured
 use Rattle.jt_breadth.specs.Names.{expr_names, row_names, pair_names, condition_names, filtering_names, stmt_names, body_names, branch_names, set_by, set_in, set_under, needs_by, needs_in, needs_under}
 use Rattle.jt_breadth.specs.Slots as slots
 use Rattle.jt_breadth.specs.Slots.{Slot, local, global, Targets, one, several, SExpr, SStmt, SBody, none, assign, capture, run, Memory, Valued, Listed, Written, SCalls, load, put_at, store, store_if, take, in_front, sturns, sgone_over, svalue, svalues, skept, smeaning, smeanings}
-use Rattle.jt_breadth.specs.Layout.{Table, slot_in, globals_from, of_chain, of_body, names, first_slot, globals, block_parameters, is_scoped, numbered_of, unit, shared}
+use Rattle.jt_breadth.specs.Layout.{Table, slot_in, globals_from, of_chain, of_body, names, first_slot, globals, block_parameters, is_scoped, numbered_of, unit}
+use Rattle.jt_breadth.specs.Programs.{pool}
 use Rattle.jt_breadth.specs.Resolve.{Constant, constant_in, read_from, followed, alone, fresh_targets, slot_of, set_targets, reads, handed_on, Spot, Part, place, grown, bound_table, bound_all, copied, scoped, first_body, resolved, resolved_condition, resolved_filters, resolved_values, placed_body, resolved_stmt, resolved_body, resolved_choice}
 use Rattle.jt_breadth.proofs.Both.{Both, both, fault, deep, bind_both, at_both, if_both, weaken, left_both, right_both, at_bind, bind_gives, bind_assoc, bind_ext, by_left, by_right, checked_both, same_both}
 use Rattle.jt_breadth.proofs.Reading.{among_front, among_back, same_text, is_same, no_both, IsInner, all_inner, all_globals, all_top, read_top, held, put_here, put_elsewhere}
@@ -128,7 +129,7 @@ seen_reads (s ∷ ss) gs x = look_append x s (seen_in ss gs) ∙ ap (λ v. unwra
 
 module _ (world : World) (order : List Home) (calls : Calls) (scall : SCalls) (mean : CallsMean world order calls scall) (laid : DefaultsLaid world order) where
   abbrev pub constants : Constant → Tree
-  constants = constant_in (shared world order)
+  constants = constant_in (pool world order)
 
   abbrev pub sstmt : SStmt Constant → Option Loop → Memory → Got Memory
   sstmt s l m = smeaning world.filters constants scall s l m

@@ -32,7 +32,8 @@ use Rattle.jt_breadth.specs.Expressions.{keywords, filtered, filter_parameters, 
 use Rattle.jt_breadth.specs.Names.{expr_names, row_names, pair_names}
 use Rattle.jt_breadth.specs.Slots as slots
 use Rattle.jt_breadth.specs.Slots.{Slot, local, global, Maker, operator, a_list, a_map, SExpr, made, SRow, none, Memory, Valued, Listed, Written, SCalls, load, put_at, store, make, valued, in_front, svalue, svalues}
-use Rattle.jt_breadth.specs.Layout.{Table, slot_in, first_slot, globals_from, of_macro, of_body, names, globals, block_parameters, is_scoped, numbered_of, numbered_bodies, counted_from, unit, shared, default_place}
+use Rattle.jt_breadth.specs.Layout.{Table, slot_in, first_slot, globals_from, of_macro, of_body, names, globals, block_parameters, is_scoped, numbered_of, numbered_bodies, counted_from, unit, default_place}
+use Rattle.jt_breadth.specs.Programs.{pool}
 use Rattle.jt_breadth.specs.Resolve.{Constant, own, known, constant_in, no_value, value_or, read_from, operation_of, turned_round, tested_by, filtered_by, in_form, field_from, locals_from, filled, filled_some, first_locals, reads, Spot, Part, grown, next_given, first_body, invoked_body, invoked_super, invoked, resolved, resolved_row, resolved_asides, resolved_entries}
 use Rattle.jt_breadth.proofs.Both.{Both, both, fault, deep, bind_both, if_both, weaken, right_both, bind_gives, bind_assoc, bind_ext, by_left, by_right, checked_both}
 use Rattle.jt_breadth.proofs.Reading.{among_front, among_back, held, put_here, put_elsewhere}
@@ -167,7 +168,7 @@ module _ (world : World) (order : List Home) (calls : Calls) (scall : SCalls) (m
   fs = world.filters
 
   abbrev pub constants : Constant → Tree
-  constants = constant_in (shared world order)
+  constants = constant_in (pool world order)
 
   abbrev pub seen : SExpr Constant → Memory → Got Valued
   seen e m = svalue fs constants scall e l m
