@@ -1,5 +1,6 @@
 pub mod Small
 mod Rows
+mod Refused
 pub mod Both
 pub mod Reading
 pub mod Agreeing

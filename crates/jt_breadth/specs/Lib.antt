@@ -14,5 +14,6 @@ pub mod Resolve
 pub mod Pool
 pub mod Programs
 pub mod Rules
+pub mod Laws
 pub mod Supers
 pub mod ChainRules
