@@ -13,3 +13,4 @@ pub mod Ordering
 pub mod Knotting
 pub mod Pooling
 pub mod Means
+pub mod Monotone

@@ -17,3 +17,5 @@ pub mod Rules
 pub mod Laws
 pub mod Supers
 pub mod ChainRules
+pub mod Size
+pub mod Takes
