@@ -1,13 +1,13 @@
 -- The routine that a key finds.
-use Rattle.std.proofs.Common.{◌≡◌, ℕ, zero, suc, ◌+◌, ◌<◌, ◌≤◌, Bool, true, false, if◌then◌else◌, List, [], ◌∷◌, ◌++◌, length, map, Option, Some, None, refl, sym, ap, ◌∙◌, subst, arith}
-use Rattle.std.specs.Prelude.{◌&&◌, ◌||◌, ◌==◌, IsTrue, flat_map, filter, slice_get}
+use Rattle.std.proofs.Common.{◌≡◌, ℕ, suc, ◌≤◌, Bool, true, false, if◌then◌else◌, List, [], ◌∷◌, ◌++◌, map, Option, Some, None, refl, sym, ap, ◌∙◌, subst, arith}
+use Rattle.std.specs.Prelude.{◌&&◌, ◌||◌, ◌==◌, flat_map, filter, slice_get}
 use Rattle.std.specs.Str.{bytes_eq}
 use Rattle.jt_breadth.specs.Trees.{Text}
 use Rattle.jt_breadth.specs.Chain.{Home, BlockBody, all_bodies, MacroBody, macros, macro_of}
 use Rattle.jt_breadth.specs.Filters.{among}
 use Rattle.jt_breadth.specs.Around.{World}
 use Rattle.jt_breadth.specs.Slots.{Routine}
-use Rattle.jt_breadth.specs.Layout.{Key, of_chain, of_macro, of_body, same_key, place_of, counted_from, numbered_bodies, numbered_of, chain_keys, keys, unit}
+use Rattle.jt_breadth.specs.Layout.{Key, of_chain, of_macro, of_body, same_key, place_of, counted_from, numbered_bodies, numbered_of, chain_keys, unit}
 use Rattle.jt_breadth.specs.Resolve.{Constant, chain_routine, macro_routine, body_routine}
 use Rattle.jt_breadth.specs.Programs.{body_routines, chain_routines, routines}
 use Rattle.std.proofs.lemmas.Bool.Decides.{Decides-eqb}
@@ -303,12 +303,11 @@ module _ (world : World) (order : List Home) where
 
   pub body_is : (h : Home) (x : Text) (i : ℕ) (c : BlockBody) (before behind : List (ℕ × BlockBody)) → among h order ≡ true → numbered_of world h x ≡ before ++ ((i, c) ∷ behind)
       → (slice_get (routines world order) (unit world order (of_body h i)) ≡ Some (body_routine world order h c behind)) × (c.name ≡ x)
-        × ((pre post : List (ℕ × BlockBody)) × (numbered_bodies world h ≡ pre ++ ((i, c) ∷ post)))
+      × ((pre post : List (ℕ × BlockBody)) × (numbered_bodies world h ≡ pre ++ ((i, c) ∷ post)))
   body_is h x i c before behind e t =
       let s = split_by (λ b. bytes_eq b.1.name x) (numbered_bodies world h) before behind (i, c) t in
       let named : c.name ≡ x = same_text c.name x s.4 in
-      let same : filter (λ d. bytes_eq d.1.name c.name) s.1 ≡ behind = ap (λ z. filter (λ d. bytes_eq d.1.name z) s.1) named ∙ s.3 in
-      (
+      let same : filter (λ d. bytes_eq d.1.name c.name) s.1 ≡ behind = ap (λ z. filter (λ d. bytes_eq d.1.name z) s.1) named ∙ s.3 in (
         unit_finds (of_body h i) (body_routine world order h c behind) (body_found h s.0 s.1 i c order e s.2 ∙ ap (λ z. Some (body_routine world order h c z)) same),
         named,
         (s.0, s.1, s.2),

@@ -1,33 +1,32 @@
 -- Calls mean the same by names and by slots, at each depth; and so do whole chains.
 use Rattle.std.proofs.Common.{◌≡◌, ℕ, zero, suc, ◌+◌, ◌<◌, ◌≤◌, Bool, true, false, if◌then◌else◌, List, [], ◌∷◌, ◌++◌, length, map, Option, Some, None, refl, sym, ap, ◌∙◌, subst, arith, append_assoc, ◌⊎◌, inl, inr}
-use Rattle.std.specs.Prelude.{IsTrue, ◌||◌, flat_map, max, slice_get}
+use Rattle.std.specs.Prelude.{◌||◌, flat_map, max, slice_get}
 use Rattle.std.specs.Str.{bytes_eq}
 use Rattle.jt_value.specs.Tree as tree
 use Rattle.jt_value.specs.Tree.{Tree}
 use Rattle.jt_value.specs.Pairs.{Pairs}
-use Rattle.jt_scopes.specs.Got.{Got, gives, fails, deeper, bind}
+use Rattle.jt_scopes.specs.Got.{gives, bind}
 use Rattle.jt_scopes.specs.Slots.{with_locals}
-use Rattle.jt_breadth.specs.Trees.{Text, Parameter, Body, Stmt, end, stmt}
-use Rattle.jt_breadth.specs.Env.{Env, value_in, read, inside, top}
+use Rattle.jt_breadth.specs.Trees.{Text, Parameter, Body, end, stmt}
+use Rattle.jt_breadth.specs.Env.{Env, read, inside, top}
 use Rattle.jt_breadth.specs.Chain.{Home, Template, templates, BlockBody, MacroBody, macros, macro_of}
 use Rattle.jt_breadth.specs.Loops.{tree_at}
 use Rattle.jt_breadth.specs.Filters.{among, default_value}
 use Rattle.jt_breadth.specs.Around.{World, Placement, State, the_macro, the_block, the_chain, Calls}
-use Rattle.jt_breadth.specs.Meaning.{is_set, meaning, meanings, sets, start, rendered, performed, calls_below, mean}
-use Rattle.jt_breadth.specs.Names.{stmt_names, body_names, set_by, set_in, needs_by, needs_in}
-use Rattle.jt_breadth.specs.Slots as slots
-use Rattle.jt_breadth.specs.Slots.{Slot, local, global, Memory, Written, SCalls, Routine, SBody, smeanings, sperformed, scalls, smean_of, globals_of}
-use Rattle.jt_breadth.specs.Layout.{Table, slot_in, globals_from, of_chain, of_macro, of_body, names, first_in, first_slot, globals, block_parameters, is_scoped, numbered_of, numbered_bodies, unit, shared, defaults_of, first_default, default_in, default_place}
+use Rattle.jt_breadth.specs.Meaning.{is_set, meaning, meanings, sets, rendered, performed, calls_below, mean}
+use Rattle.jt_breadth.specs.Names.{stmt_names, body_names, set_in, needs_by, needs_in}
+use Rattle.jt_breadth.specs.Slots.{local, global, Memory, SCalls, Routine, smeanings, sperformed, scalls}
+use Rattle.jt_breadth.specs.Layout.{Table, slot_in, of_macro, of_body, names, first_slot, globals, block_parameters, is_scoped, unit, defaults_of, first_default, default_in, default_place}
 use Rattle.jt_breadth.specs.Resolve.{Constant, constant_in, followed, Spot, Part, bound_table, bound_all, scoped, resolved_stmt, resolved_body, resolved_sets, top_spot, resolved_chain, chain_routine, macro_routine, body_routine}
 use Rattle.jt_breadth.specs.Locals.{body_locals}
-use Rattle.jt_breadth.specs.Programs.{routines, pool, count_globals}
+use Rattle.jt_breadth.specs.Programs.{routines, pool}
 use Rattle.jt_breadth.specs.ChainRules.{InOrder}
 use Rattle.jt_breadth.specs.Pool.{routines_values}
-use Rattle.jt_breadth.proofs.Both.{Both, both, fault, deep, bind_both, weaken, by_right, bind_assoc}
-use Rattle.jt_breadth.proofs.Reading.{same_text, same_is, is_same, no_both, among_front, among_back, each_among, IsInner, held}
-use Rattle.jt_breadth.proofs.Agreeing.{Kept, kept_same, kept_then, Held, held_put, global_slot, global_given, globals_apart, limit, Fits, GlobalsAgree, Agrees, fits_all}
-use Rattle.jt_breadth.proofs.Calling.{Known, Sees, Tail, PartHeld, Good, around_of, Wrote, CallSame, CallsMean, DefaultsAt, DefaultsLaid, Hands, Included}
-use Rattle.jt_breadth.proofs.Stating.{all_of, set_among, in_among, Each, each_front, each_back, scoped_by, scoped_in, followed_same, Owns, of_top, of_scope, Here, After, Left, scope_both, good_bound, inside_inner, stmt_same, body_same}
+use Rattle.jt_breadth.proofs.Both.{Both, both, deep, bind_both, weaken, by_right}
+use Rattle.jt_breadth.proofs.Reading.{same_text, is_same, no_both, among_front, among_back, IsInner, held}
+use Rattle.jt_breadth.proofs.Agreeing.{Kept, kept_same, kept_then, Held, global_slot, global_given, globals_apart, limit, Fits, GlobalsAgree, fits_all}
+use Rattle.jt_breadth.proofs.Calling.{Sees, Tail, Good, around_of, Wrote, CallsMean, DefaultsAt, DefaultsLaid, Included}
+use Rattle.jt_breadth.proofs.Stating.{set_among, in_among, Each, each_front, each_back, scoped_by, scoped_in, followed_same, Owns, of_top, of_scope, Here, scope_both, good_bound, inside_inner, stmt_same, body_same}
 use Rattle.jt_breadth.proofs.Finding.{chain_is, macro_is, body_is}
 use Rattle.jt_breadth.proofs.Ordering.{Every, Belongs, templates_belong, macro_belongs, body_belongs}
 use Rattle.jt_scopes.proofs.Means.{Among, AllAmong}
@@ -176,8 +175,8 @@ module _ (world : World) (order : List Home) where
   routine_both : (n : ℕ) (calls : Calls) (scall : SCalls) (mean : CallsMean world order calls scall) (ordered : InOrder world order) (h : Home) (e : among h order ≡ true) (body : Body) (sp : Spot) (q : Option Placement) (env : Env) (m : Memory)
       → sp.home ≡ h → Good world order sp q env m → IsInner env → m.out ≡ [] → AllAmong (body_names body) (names world order sp.home) → Each (Included world order sp.home) (needs_in true body) → Each (λ x. is_scoped world sp.home x ≡ true) (scoped_in body)
       → Both (Wrote world order (limit world order sp.home) m.globals)
-        (bind (meanings world calls body (around_of world order sp None q) (record { env = env; out = [] })) (λ st. gives st.out))
-        (bind (smeanings world.filters (constant_in (pool world order)) scall (scoped (set_in body) sp (resolved_body world order body)) None m) (λ z. gives (record { text = z.out; globals = z.globals })))
+      (bind (meanings world calls body (around_of world order sp None q) (record { env = env; out = [] })) (λ st. gives st.out))
+      (bind (smeanings world.filters (constant_in (pool world order)) scall (scoped (set_in body) sp (resolved_body world order body)) None m) (λ z. gives (record { text = z.out; globals = z.globals })))
   routine_both n calls scall mean ordered h e body sp q env m is_h good inner out names_in includes scopes =
       bind_both (scope_both world order calls scall mean defaults_laid body sp None q env [] m good inner out names_in
       (λ b g S st o here own. body_same world order calls scall mean defaults_laid body (bound_all (set_in body) sp) None q b g S st o here names_in own includes scopes))
@@ -274,7 +273,7 @@ module _ (world : World) (order : List Home) where
 
       sets_same : (h : Home) (t : Template) (c : Body) (st : State) (m : Memory) → at_top h t st m → AllAmong (body_names c) (names world order h) → Each (Included world order h) (needs_in true c) → Each (λ x. is_scoped world h x ≡ true) (scoped_in c)
           → Both (λ st' n. at_top h t st' n × Kept 0 (first_slot world order h) m n) (sets world calls c (around_of world order (top_spot world order h t.name) None None) st)
-            (smeanings world.filters cs scall (resolved_sets world order c (top_spot world order h t.name)) None m)
+          (smeanings world.filters cs scall (resolved_sets world order c (top_spot world order h t.name)) None m)
       unfolding at_top
       sets_same h t end st m here i n d = both (here, kept_same 0 (first_slot world order h) m)
       sets_same h t (stmt s rest) st m here i n d =
@@ -286,10 +285,10 @@ module _ (world : World) (order : List Home) where
 
           through : (b : Bool)
               → ((st' : State) (m' : Memory) → at_top h t st' m' → Both (λ st'' n'. at_top h t st'' n' × Kept 0 (first_slot world order h) m' n') (sets world calls rest (around_of world order (top_spot world order h t.name) None None) st')
-                (smeanings world.filters cs scall (resolved_sets world order rest (top_spot world order h t.name)) None m'))
+              (smeanings world.filters cs scall (resolved_sets world order rest (top_spot world order h t.name)) None m'))
               → Both (λ st'' n'. at_top h t st'' n' × Kept 0 (first_slot world order h) m n')
-                (if b then bind (meaning world calls s (around_of world order (top_spot world order h t.name) None None) st) (λ st'. sets world calls rest (around_of world order (top_spot world order h t.name) None None) st') else sets world calls rest (around_of world order (top_spot world order h t.name) None None) st)
-                (smeanings world.filters cs scall (if b then followed (resolved_stmt world order s (top_spot world order h t.name)) (resolved_sets world order rest (top_spot world order h t.name)) else resolved_sets world order rest (top_spot world order h t.name)) None m)
+              (if b then bind (meaning world calls s (around_of world order (top_spot world order h t.name) None None) st) (λ st'. sets world calls rest (around_of world order (top_spot world order h t.name) None None) st') else sets world calls rest (around_of world order (top_spot world order h t.name) None None) st)
+              (smeanings world.filters cs scall (if b then followed (resolved_stmt world order s (top_spot world order h t.name)) (resolved_sets world order rest (top_spot world order h t.name)) else resolved_sets world order rest (top_spot world order h t.name)) None m)
           through false f = f st m here
           through true f =
               by_right (followed_same world order calls scall mean defaults_laid (resolved_stmt world order s (top_spot world order h t.name)) (resolved_sets world order rest (top_spot world order h t.name)) None m)

@@ -1,21 +1,21 @@
 -- The program of a chain means what the chain means.
-use Rattle.std.proofs.Common.{◌≡◌, ℕ, zero, suc, ◌+◌, ◌<◌, ◌≤◌, Bool, true, false, if◌then◌else◌, List, [], ◌∷◌, ◌++◌, length, map, Option, Some, None, refl, sym, ap, ◌∙◌, subst, arith, ◌⊎◌, inl, inr}
-use Rattle.std.specs.Prelude.{slice_get, ◌||◌}
+use Rattle.std.proofs.Common.{◌≡◌, ℕ, suc, ◌+◌, ◌≤◌, Bool, true, false, if◌then◌else◌, List, [], ◌∷◌, ◌++◌, length, map, Some, None, refl, sym, ap, ◌∙◌, subst, arith}
+use Rattle.std.specs.Prelude.{◌||◌}
 use Rattle.std.specs.Str.{bytes_eq}
 use Rattle.jt_value.specs.Tree.{Tree}
 use Rattle.jt_value.specs.Pairs.{Pairs}
-use Rattle.jt_scopes.specs.Got.{Got, gives, fails, deeper, bind}
+use Rattle.jt_scopes.specs.Got.{Got, gives, bind}
 use Rattle.jt_scopes.specs.Slots.{with_locals}
 use Rattle.jt_breadth.specs.Trees.{Text}
 use Rattle.jt_breadth.specs.Env.{value_in}
 use Rattle.jt_breadth.specs.Chain.{Home}
 use Rattle.jt_breadth.specs.Loops.{tree_at}
 use Rattle.jt_breadth.specs.Filters.{among}
-use Rattle.jt_breadth.specs.Around.{World, the_chain}
-use Rattle.jt_breadth.specs.Meaning.{performed, calls_below, mean}
-use Rattle.jt_breadth.specs.Slots.{global, Written, sperformed, scalls, globals_of, smean_of, smean}
-use Rattle.jt_breadth.specs.Layout.{slot_in, globals_from, names, first_in, first_slot, globals, shared}
-use Rattle.jt_breadth.specs.Resolve.{constant_in, chain_routine}
+use Rattle.jt_breadth.specs.Around.{World}
+use Rattle.jt_breadth.specs.Meaning.{calls_below, mean}
+use Rattle.jt_breadth.specs.Slots.{global, Written, scalls, globals_of, smean}
+use Rattle.jt_breadth.specs.Layout.{slot_in, globals_from, names, first_in, first_slot, shared}
+use Rattle.jt_breadth.specs.Resolve.{constant_in}
 use Rattle.jt_breadth.specs.Pool.{routines_values, placed_routines}
 use Rattle.jt_breadth.specs.Programs.{routines, pool, count_globals, program}
 use Rattle.jt_breadth.specs.ChainRules.{InOrder}
@@ -25,7 +25,6 @@ use Rattle.jt_breadth.proofs.Agreeing.{Held, GlobalsAgree}
 use Rattle.jt_breadth.proofs.Calling.{Wrote}
 use Rattle.jt_breadth.proofs.Knotting.{held_locals, held_first, held_after, chain_knot, calls_mean}
 use Rattle.jt_breadth.proofs.Pooling.{routine_placed, calls_placed}
-use Rattle.jt_scopes.proofs.Means.{Among}
 
 append_empty : {A : Type 0} (us : List A) → us ++ [] ≡ us
 append_empty [] = refl

@@ -1,5 +1,5 @@
 -- A text or fault at n is the same with more calls: `Under g h` says that h is g, or that g is deeper.
-use Rattle.std.proofs.Common.{◌≡◌, ℕ, zero, suc, ◌+◌, refl}
+use Rattle.std.proofs.Common.{ℕ, zero, suc, refl}
 use Rattle.std.specs.Prelude.{Bool, true, false, List, [], ◌∷◌, Option, Some, None, if◌then◌else◌}
 use Rattle.std.specs.Option.{is_none}
 use Rattle.jt_value.specs.Tree as tree
@@ -8,19 +8,19 @@ use Rattle.jt_value.specs.Pairs.{Pairs}
 use Rattle.jt_ops.specs.declared.test_id.TestId.{TestId}
 use Rattle.jt_expr.specs.Trees as written
 use Rattle.jt_expr.specs.Trees.{Expr, constant, name, group, list_of, map_of, attribute, item, unary, binary, when, choice, Exprs, no_exprs, expr, no_pairs, pair}
-use Rattle.jt_scopes.specs.Got.{Place, Got, gives, fails, deeper, bind, checked, at}
+use Rattle.jt_scopes.specs.Got.{Place, Got, gives, fails, deeper, bind, at}
 use Rattle.jt_scopes.specs.Operators.{Form, operation, negation, conjunction, disjunction, form}
-use Rattle.jt_scopes.specs.Expressions.{operated, asked, turned, either, combined}
+use Rattle.jt_scopes.specs.Expressions.{asked, turned, either, combined}
 use Rattle.jt_scopes.specs.Tests.{test_named}
 use Rattle.jt_breadth.specs.Trees.{Text, Filtering, Stmt, data_of, print, choose, for_each, set, set_block, with_values, filter_block, autoescape, macro, include, extends, block, Body, end, stmt, Branches, no_branches, branch}
 use Rattle.jt_breadth.specs.Env.{Env, inside, top}
 use Rattle.jt_breadth.specs.Chain.{Home, Template, templates, BlockBody, bodies, from_given, macros, Callee, a_macro, a_range, a_super, a_block, a_cycle, no_callee, callee, is_loop}
-use Rattle.jt_breadth.specs.Loops.{Loop, items_of_value, field_named}
-use Rattle.jt_breadth.specs.Filters.{Filters, parameters}
+use Rattle.jt_breadth.specs.Loops.{Loop}
+use Rattle.jt_breadth.specs.Filters.{Filters}
 use Rattle.jt_breadth.specs.Around.{World, Placement, Around, State, Called, the_macro, the_block, the_chain, Calls, tag}
-use Rattle.jt_breadth.specs.Expressions.{filtered, field_of, block_text, super_text, valued_text, called, value, values, named_values}
+use Rattle.jt_breadth.specs.Expressions.{filtered, block_text, super_text, called, value, values, named_values}
 use Rattle.jt_breadth.specs.Laws.{Stays}
-use Rattle.jt_breadth.specs.Meaning.{targets, within, captured, turns, gone_over, outside, is_set, kept, through, meaning, meanings, chosen, sets, start, rendered, performed, calls_below, mean}
+use Rattle.jt_breadth.specs.Meaning.{turns, gone_over, outside, is_set, kept, through, meaning, meanings, chosen, sets, rendered, performed, calls_below, mean}
 
 pub data Under {A : Type 0} : Got A → Got A → Type 0 where
   less : {g : Got A} → Under deeper g

@@ -1,26 +1,21 @@
 -- What follows from the order of chains: names, slots, and what the bodies of a chain hold.
-use Rattle.std.proofs.Common.{◌≡◌, ℕ, zero, suc, ◌+◌, ◌<◌, ◌≤◌, Bool, true, false, if◌then◌else◌, List, [], ◌∷◌, ◌++◌, length, map, Option, Some, None, refl, sym, ap, ◌∙◌, subst, arith, append_assoc, ◌⊎◌, inl, inr}
-use Rattle.std.specs.Prelude.{not, ◌&&◌, ◌||◌, IsTrue, flat_map, filter}
+use Rattle.std.proofs.Common.{◌≡◌, ℕ, ◌+◌, ◌≤◌, Bool, true, false, if◌then◌else◌, List, [], ◌∷◌, ◌++◌, length, map, Option, Some, None, refl, sym, ap, ◌∙◌, subst, arith, inl, inr}
+use Rattle.std.specs.Prelude.{not, ◌&&◌, ◌||◌, flat_map, filter}
 use Rattle.std.specs.Option.{is_some, is_none}
 use Rattle.std.specs.List.{list_any}
 use Rattle.std.specs.Str.{bytes_eq}
-use Rattle.jt_value.specs.Tree as tree
-use Rattle.jt_value.specs.Tree.{Tree}
 use Rattle.jt_scopes.specs.Resolve.{ascending}
 use Rattle.jt_breadth.specs.Trees.{Text, Stmt, data_of, print, choose, for_each, set, set_block, with_values, filter_block, autoescape, macro, include, extends, block, Body, end, stmt, Branches, no_branches, branch}
 use Rattle.jt_breadth.specs.Chain.{Home, Template, templates, BlockBody, blocks_of, blocks_in, blocks_under, all_bodies, MacroBody, macros_in, macros, macro_of}
-use Rattle.jt_breadth.specs.Loops.{tree_at}
-use Rattle.jt_breadth.specs.Filters.{among, default_value}
+use Rattle.jt_breadth.specs.Filters.{among}
 use Rattle.jt_breadth.specs.Around.{World}
 use Rattle.jt_breadth.specs.Expressions.{keywords}
 use Rattle.jt_breadth.specs.Names.{expr_names, pair_names, condition_names, filtering_names, stmt_names, body_names, branch_names, needs_by, needs_in, needs_under}
 use Rattle.jt_breadth.specs.Layout.{included, own_names, names_in, names, first_in, first_slot, is_scoped, defaults_of, first_default, shared, default_in, default_place, numbered_bodies, counted_from}
 use Rattle.jt_breadth.specs.ChainRules.{AllIn, InOrder}
-use Rattle.jt_breadth.proofs.Reading.{same_text, same_is, is_same, no_both, among_front, among_back, each_among}
-use Rattle.jt_breadth.proofs.Agreeing.{Held, limit}
-use Rattle.jt_breadth.proofs.Binding.{among_has}
+use Rattle.jt_breadth.proofs.Reading.{same_text, same_is, no_both, among_front, among_back, each_among}
 use Rattle.jt_breadth.proofs.Valuing.{counted_are}
-use Rattle.jt_breadth.proofs.Calling.{Known, DefaultsAt, Hands, Included}
+use Rattle.jt_breadth.proofs.Calling.{Hands, Included}
 use Rattle.jt_breadth.proofs.Stating.{Each, each_front, each_back, scoped_by, scoped_in, scoped_under}
 use Rattle.jt_scopes.proofs.Means.{Among, AllAmong, all_ascending}
 
@@ -296,8 +291,8 @@ module _ (world : World) where
           scoped = each_front (λ x. is_scoped world h x ≡ true) (scoped_in t.body) (flat_map (λ u. scoped_in u.body) ts) c;
         },
         template_bodies ts (among_back (body_names t.body) (flat_map (λ u. body_names u.body) ts) all_names a)
-        (each_back (Included world order h) (needs_in true t.body) (flat_map (λ u. needs_in true u.body) ts) b)
-        (each_back (λ x. is_scoped world h x ≡ true) (scoped_in t.body) (flat_map (λ u. scoped_in u.body) ts) c),
+            (each_back (Included world order h) (needs_in true t.body) (flat_map (λ u. needs_in true u.body) ts) b)
+            (each_back (λ x. is_scoped world h x ≡ true) (scoped_in t.body) (flat_map (λ u. scoped_in u.body) ts) c),
       )
 
       -- the templates of the chain

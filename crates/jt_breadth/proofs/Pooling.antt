@@ -1,17 +1,17 @@
 -- A tree with places in the pool means what it means with its values.
-use Rattle.std.proofs.Common.{◌≡◌, ℕ, zero, suc, ◌+◌, ◌<◌, ◌≤◌, Bool, true, false, if◌then◌else◌, List, [], ◌∷◌, ◌++◌, length, map, Option, Some, None, refl, sym, ap, ◌∙◌, subst, arith}
+use Rattle.std.proofs.Common.{◌≡◌, ℕ, zero, suc, ◌+◌, Bool, true, false, if◌then◌else◌, List, [], ◌∷◌, ◌++◌, length, Option, Some, None, refl, ap, ◌∙◌, subst, arith}
 use Rattle.std.specs.Prelude.{slice_get}
 use Rattle.jt_value.specs.Tree as tree
 use Rattle.jt_value.specs.Tree.{Tree}
-use Rattle.jt_scopes.specs.Got.{Place, Got, gives, fails, deeper, bind, checked, at}
+use Rattle.jt_scopes.specs.Got.{Place, Got, gives, bind, checked, at}
 use Rattle.jt_scopes.specs.Meaning.{shown}
 use Rattle.jt_scopes.specs.Slots.{bytes_of, with_locals}
 use Rattle.jt_breadth.specs.Loops.{Loop, items_of_value, tree_at}
 use Rattle.jt_breadth.specs.Filters.{Filters}
 use Rattle.jt_breadth.specs.Around.{as_value}
-use Rattle.jt_breadth.specs.Slots.{SExpr, pooled, variable, field, made, conjunction, disjunction, choice, invoke, SRow, none, item, aside, Targets, SStmt, put_pooled, print, assign, if_else, for_each, capture, run, SBody, end, stmt, Routine, Memory, Valued, Listed, Written, SCalls, take, store, local, make, valued, in_front, svalue, svalues, skept, sturns, sgone_over, smeaning, smeanings, sperformed, scalls}
+use Rattle.jt_breadth.specs.Slots.{SExpr, pooled, variable, field, made, conjunction, disjunction, choice, invoke, SRow, none, item, aside, Targets, SStmt, put_pooled, print, assign, if_else, for_each, capture, run, SBody, end, stmt, Routine, Memory, Valued, Listed, SCalls, take, store, local, make, valued, in_front, svalue, svalues, skept, sturns, sgone_over, smeaning, smeanings, sperformed, scalls}
 use Rattle.jt_breadth.specs.Resolve.{Constant, own, known, constant_in}
-use Rattle.jt_breadth.specs.Pool.{constant_values, expr_values, row_values, condition_values, stmt_values, body_values, routines_values, placed, placed_expr, placed_row, placed_condition, placed_stmt, placed_body, placed_routine, placed_routines}
+use Rattle.jt_breadth.specs.Pool.{constant_values, expr_values, row_values, condition_values, stmt_values, body_values, routines_values, placed, placed_expr, placed_row, placed_condition, placed_stmt, placed_body, placed_routines}
 use Rattle.jt_breadth.proofs.Both.{bind_ext}
 use Rattle.jt_breadth.proofs.Agreeing.{Held}
 

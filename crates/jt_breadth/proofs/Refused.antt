@@ -6,8 +6,8 @@ use Rattle.jt_scopes.specs.declared.error.ScopeError.TheVariants as error
 use Rattle.jt_expr.specs.Trees.{no_exprs, no_pairs}
 use Rattle.jt_breadth.specs.Trees.{Text, Body, end}
 use Rattle.jt_breadth.specs.Rules.{chains_broken}
-use Rattle.jt_breadth.specs.ChainRules.{here, Missing, ExtendsCycle, DoubleBlock, RequiredNotGiven, NoSuper, IncludeCycle, MacroTwice, InOrder}
-use Rattle.jt_breadth.proofs.Small.{name, num, str, listing, call, Call, pair, of, Filter, body, chars, print, set, For, block, Block, Macro, Include, extends, parameter, exprs, source, world}
+use Rattle.jt_breadth.specs.ChainRules.{here, Missing, ExtendsCycle, DoubleBlock, RequiredNotGiven, NoSuper, IncludeCycle, MacroTwice}
+use Rattle.jt_breadth.proofs.Small.{name, num, listing, call, Call, pair, of, Filter, body, print, For, block, Block, Macro, Include, extends, parameter, exprs, source, world}
 
 abbrev Breaks : List (Text × Body) → Option ScopeError → Type 0
 Breaks ss e = chains_broken (world ss) (codes "t" ∷ []) ≡ e

@@ -6,7 +6,7 @@ use Rattle.std.specs.Fmt.{digits}
 use Rattle.std.specs.Str.{chars as characters}
 use Rattle.jt_value.specs.Tree as v
 use Rattle.jt_value.specs.View.{items_of}
-use Rattle.jt_value.specs.declared.fault.Fault.TheVariants.{Undefined, Unpack, ZeroDivide, BadType}
+use Rattle.jt_value.specs.declared.fault.Fault.TheVariants.{Undefined, Unpack, ZeroDivide}
 use Rattle.jt_expr.specs.Trees as e
 use Rattle.jt_expr.specs.Trees.{no_exprs, no_pairs}
 use Rattle.jt_scopes.specs.Tests.{test_named}

@@ -1,5 +1,5 @@
 -- A statement means the same by names and by slots, where calls do.
-use Rattle.std.proofs.Common.{◌≡◌, ℕ, zero, suc, ◌+◌, ◌<◌, ◌≤◌, Bool, true, false, if◌then◌else◌, List, [], ◌∷◌, ◌++◌, length, map, Option, Some, None, refl, sym, ap, ◌∙◌, subst, arith, append_assoc, ◌⊎◌, inl, inr}
+use Rattle.std.proofs.Common.{◌≡◌, ℕ, suc, ◌+◌, ◌<◌, ◌≤◌, Bool, true, false, if◌then◌else◌, List, [], ◌∷◌, ◌++◌, length, map, Option, Some, None, refl, sym, ap, ◌∙◌, subst, arith, inl, inr}
 use Rattle.std.specs.Option.{is_none}
 use Rattle.std.specs.Prelude.{unwrap_or}
 use Rattle.std.specs.Str.{bytes_eq}
@@ -8,27 +8,27 @@ use Rattle.jt_value.specs.Tree.{Tree}
 use Rattle.jt_value.specs.Pairs.{Pairs, look}
 use Rattle.jt_expr.specs.Trees as written
 use Rattle.jt_expr.specs.Trees.{Expr}
-use Rattle.jt_scopes.specs.Got.{Place, Got, gives, fails, deeper, bind, checked, at}
+use Rattle.jt_scopes.specs.Got.{Place, Got, gives, bind, checked, at}
 use Rattle.jt_scopes.specs.Meaning.{shown}
 use Rattle.jt_breadth.specs.Trees.{Text, Filtering, Stmt, data_of, print, choose, for_each, set, set_block, with_values, filter_block, autoescape, macro, include, extends, block, Body, end, stmt, Branches, no_branches, branch}
-use Rattle.jt_breadth.specs.Env.{Env, value_in, read, bound, all_bound, inside, top, seen_in, seen, first_of}
-use Rattle.jt_breadth.specs.Chain.{Home, BlockBody, bodies}
+use Rattle.jt_breadth.specs.Env.{Env, value_in, read, all_bound, inside, top, seen_in, seen, first_of}
+use Rattle.jt_breadth.specs.Chain.{Home, BlockBody}
 use Rattle.jt_breadth.specs.Loops.{Loop, items_of_value, tree_at}
-use Rattle.jt_breadth.specs.Around.{World, Placement, Around, State, the_block, the_chain, Calls, tag, as_value}
-use Rattle.jt_breadth.specs.Expressions.{keywords, block_text, value, values, named_values}
-use Rattle.jt_breadth.specs.Meaning.{each_target, targets, put, within, captured, turns, gone_over, outside, kept, through, meaning, meanings, chosen}
+use Rattle.jt_breadth.specs.Around.{World, Placement, State, the_chain, Calls, as_value}
+use Rattle.jt_breadth.specs.Expressions.{keywords, block_text, value, named_values}
+use Rattle.jt_breadth.specs.Meaning.{put, within, captured, turns, gone_over, kept, through, meaning, meanings, chosen}
 use Rattle.jt_breadth.specs.Names.{expr_names, row_names, pair_names, condition_names, filtering_names, stmt_names, body_names, branch_names, set_by, set_in, set_under, needs_by, needs_in, needs_under}
 use Rattle.jt_breadth.specs.Slots as slots
 use Rattle.jt_breadth.specs.Slots.{Slot, local, global, Targets, one, several, SExpr, SStmt, SBody, none, assign, capture, run, Memory, Valued, Listed, Written, SCalls, load, put_at, store, store_if, take, in_front, sturns, sgone_over, svalue, svalues, skept, smeaning, smeanings}
 use Rattle.jt_breadth.specs.Layout.{Table, slot_in, globals_from, of_chain, of_body, names, first_slot, globals, block_parameters, is_scoped, numbered_of, unit}
 use Rattle.jt_breadth.specs.Programs.{pool}
-use Rattle.jt_breadth.specs.Resolve.{Constant, constant_in, read_from, followed, alone, fresh_targets, slot_of, set_targets, reads, handed_on, Spot, Part, place, grown, bound_table, bound_all, copied, scoped, first_body, resolved, resolved_condition, resolved_filters, resolved_values, placed_body, resolved_stmt, resolved_body, resolved_choice}
-use Rattle.jt_breadth.proofs.Both.{Both, both, fault, deep, bind_both, at_both, if_both, weaken, left_both, right_both, at_bind, bind_gives, bind_assoc, bind_ext, by_left, by_right, checked_both, same_both}
-use Rattle.jt_breadth.proofs.Reading.{among_front, among_back, same_text, is_same, no_both, IsInner, all_inner, all_globals, all_top, read_top, held, put_here, put_elsewhere}
-use Rattle.jt_breadth.proofs.Agreeing.{Kept, kept_same, kept_then, kept_less, kept_out, kept_store, kept_global, Held, held_kept, global_slot, global_given, limit, Below, Fits, GlobalsAgree, Agrees, agrees_kept, pairs_held, copies_held, fits_all, InLocals, in_locals}
-use Rattle.jt_breadth.proofs.Calling.{Evaluated, Rowed, Known, Sees, Tail, PartHeld, PartHolds, part_kept, part_more, Good, good_kept, good_grown, globals_kept, around_of, Wrote, CallsMean, DefaultsLaid, Hands, Included}
-use Rattle.jt_breadth.proofs.Valuing.{GivenBy, numbered_are, value_same, values_same, filter_both, read_gives, reads_give, reads_are, map_length}
-use Rattle.jt_breadth.proofs.Binding.{Taken, taken, Set, one_set, all_set}
+use Rattle.jt_breadth.specs.Resolve.{Constant, constant_in, followed, alone, fresh_targets, slot_of, set_targets, reads, handed_on, Spot, Part, place, grown, bound_table, bound_all, copied, scoped, first_body, resolved, resolved_condition, resolved_filters, resolved_values, placed_body, resolved_stmt, resolved_body, resolved_choice}
+use Rattle.jt_breadth.proofs.Both.{Both, both, bind_both, at_both, if_both, weaken, left_both, right_both, at_bind, bind_gives, bind_assoc, bind_ext, by_left, by_right, checked_both, same_both}
+use Rattle.jt_breadth.proofs.Reading.{among_front, among_back, same_text, is_same, no_both, IsInner, all_inner, all_globals, all_top, read_top, held, put_here}
+use Rattle.jt_breadth.proofs.Agreeing.{Kept, kept_same, kept_then, kept_less, kept_out, kept_store, kept_global, Held, global_slot, global_given, limit, Fits, Agrees, agrees_kept, pairs_held, copies_held, fits_all, InLocals, in_locals}
+use Rattle.jt_breadth.proofs.Calling.{Evaluated, Rowed, Sees, PartHolds, part_kept, part_more, Good, good_kept, good_grown, around_of, Wrote, CallsMean, DefaultsLaid, Hands, Included}
+use Rattle.jt_breadth.proofs.Valuing.{numbered_are, value_same, filter_both, read_gives, reads_give, reads_are}
+use Rattle.jt_breadth.proofs.Binding.{taken, Set, one_set, all_set}
 use Rattle.jt_scopes.proofs.Means.{Among, AllAmong}
 
 -- ---- names
@@ -231,7 +231,7 @@ module _ (world : World) (order : List Home) (calls : Calls) (scall : SCalls) (m
   -- a body in a new scope means the same
   pub scope_both : (body : Body) (sp : Spot) (l : Option Loop) (q : Option Placement) (env : Env) (out : Text) (m : Memory) → Good world order sp q env m → IsInner env → m.out ≡ out → AllAmong (body_names body) (ns sp)
       → ((b g : ℕ) (S : List Text) (st : State) (n : Memory) → Here (bound_all (set_in body) sp) q b g S st n → AllAmong (set_in body) S
-        → Both (After (bound_all (set_in body) sp) q b g S n) (meanings world calls body (around_of world order sp l q) st) (sbody (resolved_body world order body (bound_all (set_in body) sp)) l n))
+      → Both (After (bound_all (set_in body) sp) q b g S n) (meanings world calls body (around_of world order sp l q) st) (sbody (resolved_body world order body (bound_all (set_in body) sp)) l n))
       → Both (Left sp m) (meanings world calls body (around_of world order sp l q) (record { env = env; out = out })) (sbody (scoped (set_in body) sp (resolved_body world order body)) l m)
   scope_both body sp l q env out m g inner o i same =
       let xs = set_in body in
@@ -287,7 +287,7 @@ module _ (world : World) (order : List Home) (calls : Calls) (scall : SCalls) (m
 
   set_all : {g : Got Pairs} {h : Got Memory} (xs : List Text) (sp : Spot) (q : Option Placement) (b j : ℕ) (S : List Text) (st : State) (m : Memory) (here : Here sp q b j S st m)
       → ((T : Memory → Type 0) (first : T m) (next : (x : Text) (s : Slot) (v : Tree) (n : Memory) → Among x S → Among x (names world order sp.home) → slot_in x sp.table ≡ Some s → T n → T (store s v n))
-        → Both (Set world order sp.home sp.table sp.free here.good.fits S m T first next xs) g h)
+      → Both (Set world order sp.home sp.table sp.free here.good.fits S m T first next xs) g h)
       → Both (λ s n. After sp q b j S m (record st { env = all_bound st.env s }) n) g h
   set_all {g = g} {h = h} xs sp q b j S st m here runs = by_owns here.owns
     where
@@ -375,11 +375,11 @@ module _ (world : World) (order : List Home) (calls : Calls) (scall : SCalls) (m
   }
 
   module _ (l : Option Loop) (q : Option Placement) (body : Body) (xs : List Text) (sp : Spot)
-    (same : (l' : Option Loop) (env : Env) (out : Text) (n : Memory) → Good world order (bound_all xs sp) q env n → IsInner env → n.out ≡ out
+      (same : (l' : Option Loop) (env : Env) (out : Text) (n : Memory) → Good world order (bound_all xs sp) q env n → IsInner env → n.out ≡ out
       → Both (Left (bound_all xs sp) n) (meanings world calls body (around_of world order sp l' q) (record { env = env; out = out })) (sbody (scoped (set_in body) (bound_all xs sp) (resolved_body world order body)) l' n)) where
     turns_both : (p : Place) (all : List Tree) (i : ℕ) (vs : List Tree) (st : State) (m : Memory) → Good world order sp q st.env m → m.out ≡ st.out
         → Both (Stays sp st m) (turns (λ l'. meanings world calls body (around_of world order sp l' q)) xs p all i vs st)
-          (sturns (λ l' n. sbody (scoped (set_in body) (bound_all xs sp) (resolved_body world order body)) l' n) (fresh_targets sp.free xs) p all i vs m)
+        (sturns (λ l' n. sbody (scoped (set_in body) (bound_all xs sp) (resolved_body world order body)) l' n) (fresh_targets sp.free xs) p all i vs m)
     turns_both p all i [] st m g o = both (record { env = refl; kept = kept_same sp.free (lim sp) m; out = o })
     turns_both p all i (v ∷ vs) st m g o =
         bind_both (at_both p (taken (lim sp) xs v sp.free m)) (λ s n w.
@@ -394,7 +394,7 @@ module _ (world : World) (order : List Home) (calls : Calls) (scall : SCalls) (m
 
     gone_both : (p : Place) (b g : ℕ) (S : List Text) (vs : List Tree) (st : State) (m : Memory) (other : State → Got State) (sother : Memory → Got Memory) → Here sp q b g S st m → Both (After sp q b g S m) (other st) (sother m)
         → Both (After sp q b g S m) (gone_over (λ l'. meanings world calls body (around_of world order sp l' q)) other xs p vs st)
-          (sgone_over (λ l' n. sbody (scoped (set_in body) (bound_all xs sp) (resolved_body world order body)) l' n) sother (fresh_targets sp.free xs) p vs m)
+        (sgone_over (λ l' n. sbody (scoped (set_in body) (bound_all xs sp) (resolved_body world order body)) l' n) sother (fresh_targets sp.free xs) p vs m)
     gone_both p b g S [] st m other sother h u = u
     gone_both p b g S (v ∷ vs) st m other sother h u = weaken (λ st' n w. after_stays st' n h w) (turns_both p (v ∷ vs) 0 (v ∷ vs) st m h.good h.out)
 
@@ -406,7 +406,7 @@ module _ (world : World) (order : List Home) (calls : Calls) (scall : SCalls) (m
 
   caught : (body : Body) (sp : Spot) (l : Option Loop) (q : Option Placement) (on : Bool) (env : Env) (m : Memory) → Good world order sp q env m → AllAmong (body_names body) (ns sp)
       → ((b g : ℕ) (S : List Text) (st : State) (n : Memory) → Here (bound_all (set_in body) sp) q b g S st n → AllAmong (set_in body) S
-        → Both (After (bound_all (set_in body) sp) q b g S n) (meanings world calls body (around_of world order sp l q) st) (sbody (resolved_body world order body (bound_all (set_in body) sp)) l n))
+      → Both (After (bound_all (set_in body) sp) q b g S n) (meanings world calls body (around_of world order sp l q) st) (sbody (resolved_body world order body (bound_all (set_in body) sp)) l n))
       → Both (Caught sp on m) (captured on (meanings world calls body (around_of world order sp l q)) env) (sbody (scoped (set_in body) sp (resolved_body world order body)) l (record m { out = [] }))
   caught body sp l q on env m g i same =
       left_both (λ r. as_value on r.out) (weaken (λ st n w. record { value = ap (as_value on) w.out; kept = kept_then (kept_out (record m { out = [] }) refl refl (kept_same sp.free (lim sp) m)) w.kept })
@@ -550,7 +550,7 @@ module _ (world : World) (order : List Home) (calls : Calls) (scall : SCalls) (m
 
   include_both : (n : Text) (with_context : Bool) (sp : Spot) (l : Option Loop) (q : Option Placement) (b j : ℕ) (S : List Text) (st : State) (m : Memory) (line : ℕ) → Here sp q b j S st m → Hands world order sp.home n
       → Both (After sp q b j S m) (bind (calls (the_chain n (if with_context then seen st.env else []))) (λ s. gives (put st s)))
-        (sbody (followed (handed_on (place sp line) (if with_context then sp.table else []) (first_slot world order n) (names world order n)) (alone (run (unit world order (of_chain n)) none))) l m)
+      (sbody (followed (handed_on (place sp line) (if with_context then sp.table else []) (first_slot world order n) (names world order n)) (alone (run (unit world order (of_chain n)) none))) l m)
   include_both n with_context sp l q b j S st m line here hands = by_flag with_context
     where
       passed : (table : Table) (gs : Pairs) (f : Text → Tree) → ((o : Memory) → Kept sp.free (lim sp) m o → (x : Text) → Among x (names world order n) → held (slot_in x table) o ≡ f x) → ((x : Text) → value_in gs x ≡ f x)

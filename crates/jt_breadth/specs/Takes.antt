@@ -1,6 +1,6 @@
 -- Each operation of a resolved tree gets as many values as it takes, and each routine as many as it has parameters; a field of a loop stands in a
 -- loop of its routine.
-use Rattle.std.specs.Prelude.{◌≡◌, ℕ, zero, suc, Bool, true, false, IsTrue, List, [], ◌∷◌, Option, Some, None, slice_get}
+use Rattle.std.specs.Prelude.{◌≡◌, ℕ, Bool, true, false, IsTrue, List, Option, Some, None, slice_get}
 use Rattle.jt_ops.specs.OpTable.{op_operands}
 use Rattle.jt_ops.specs.TestTable.{test_values}
 use Rattle.jt_scopes.specs.Takes.{InPairs}
