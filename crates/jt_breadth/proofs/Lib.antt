@@ -14,3 +14,4 @@ pub mod Knotting
 pub mod Pooling
 pub mod Means
 pub mod Monotone
+pub mod Taking
