@@ -15,3 +15,4 @@ pub mod Pooling
 pub mod Means
 pub mod Monotone
 pub mod Taking
+pub mod Serving

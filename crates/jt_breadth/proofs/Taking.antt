@@ -139,7 +139,7 @@ some_zero (p ∷ ps) xs table = through (some_given (p ∷ ps) xs) (some_zero ps
     through true e = ap suc e
     through false e = refl
 
-some_count : (ps : List Parameter) (n : ℕ) (xs : List Text) (table : Table) → n + row_count (filled_some ps n xs table) ≡ max n (reached ps xs)
+pub some_count : (ps : List Parameter) (n : ℕ) (xs : List Text) (table : Table) → n + row_count (filled_some ps n xs table) ≡ max n (reached ps xs)
 some_count [] n xs table = omega arith
 some_count (p ∷ ps) zero xs table = let e = some_zero (p ∷ ps) xs table in omega (arith, e)
 some_count (p ∷ ps) (suc n) xs table = through (some_given (p ∷ ps) xs) refl (some_count ps n xs table)
@@ -159,7 +159,7 @@ module _ (world : World) (order : List Home) where
   abbrev pub RTakes : Bool → SRow Constant → Type 0
   RTakes l es = RowTakes world.filters rs l es
 
-  slot_takes : (l : Bool) (s : Option Slot) (k : Constant) → ETakes l (value_or s k)
+  pub slot_takes : (l : Bool) (s : Option Slot) (k : Constant) → ETakes l (value_or s k)
   slot_takes l None k = tt
   slot_takes l (Some s) k = tt
 
@@ -168,7 +168,7 @@ module _ (world : World) (order : List Home) where
   filled_takes l (p ∷ ps) zero d table = (slot_takes l (slot_in p.name table) (known d), filled_takes l ps zero (suc d) table)
   filled_takes l (p ∷ ps) (suc n) d table = filled_takes l ps n (suc d) table
 
-  some_takes : (l : Bool) (ps : List Parameter) (n : ℕ) (xs : List Text) (table : Table) → RTakes l (filled_some ps n xs table)
+  pub some_takes : (l : Bool) (ps : List Parameter) (n : ℕ) (xs : List Text) (table : Table) → RTakes l (filled_some ps n xs table)
   some_takes l [] n xs table = tt
   some_takes l (p ∷ ps) (suc n) xs table = some_takes l ps n xs table
   some_takes l (p ∷ ps) zero xs table = through (some_given (p ∷ ps) xs) (some_takes l ps zero xs table)
@@ -180,11 +180,11 @@ module _ (world : World) (order : List Home) where
       through true e = (slot_takes l (slot_in p.name table) d, e)
       through false e = tt
 
-  reads_take : (l : Bool) (table : Table) (xs : List Text) → RTakes l (reads table xs)
+  pub reads_take : (l : Bool) (table : Table) (xs : List Text) → RTakes l (reads table xs)
   reads_take l table [] = tt
   reads_take l table (x ∷ xs) = (slot_takes l (slot_in x table) (known 0), reads_take l table xs)
 
-  reads_count : (table : Table) (xs : List Text) → row_count (reads table xs) ≡ length xs
+  pub reads_count : (table : Table) (xs : List Text) → row_count (reads table xs) ≡ length xs
   reads_count table [] = refl
   reads_count table (x ∷ xs) = ap suc (reads_count table xs)
 
@@ -212,7 +212,7 @@ module _ (world : World) (order : List Home) where
       let right = right_arguments ((suc (count ts) == test_values t) && no_keywords ps) h in
       (sym (same_number (suc (count ts)) (test_values t) (both_first (suc (count ts) == test_values t) (no_keywords ps) right)) ∙ sym c, r)
 
-  filtered_takes : (l : Bool) (f : Option ℕ) (on : Bool) (n : ℕ) (ks : List Text) (es : SRow Constant) → IsThere f → filter_broken world.filters f n ks ≡ None → row_count es ≡ suc (max n (reached (filter_parameters world.filters f) ks)) → RTakes l es → ETakes l (filtered_by f on es)
+  pub filtered_takes : (l : Bool) (f : Option ℕ) (on : Bool) (n : ℕ) (ks : List Text) (es : SRow Constant) → IsThere f → filter_broken world.filters f n ks ≡ None → row_count es ≡ suc (max n (reached (filter_parameters world.filters f) ks)) → RTakes l es → ETakes l (filtered_by f on es)
   filtered_takes l None on n ks es k h c r = absurd k
   filtered_takes l (Some f) on n ks es k h c r = (ap (world.filters.takes f) c ∙ both_first (world.filters.takes f (suc (max n (reached (world.filters.parameters f) ks)))) _ (right_arguments _ h), r)
 
@@ -242,11 +242,11 @@ module _ (world : World) (order : List Home) where
   attribute_takes w true k r e h f = fields_take w.in_loop (field_named k) (λ g. both_first w.in_loop (is_some (field_named k)) (not_false (w.in_loop && is_some (field_named k)) (not_refused (not (w.in_loop && is_some (field_named k))) error.LoopOutside h)))
   attribute_takes w false k r e h f = (refl, (f h, (tt, tt)))
 
-  row_counts : (ts : Exprs) (sp : Spot) (behind : SRow Constant) → row_count (resolved_row world order ts sp behind) ≡ count ts + row_count behind
+  pub row_counts : (ts : Exprs) (sp : Spot) (behind : SRow Constant) → row_count (resolved_row world order ts sp behind) ≡ count ts + row_count behind
   row_counts no_exprs sp behind = omega arith
   row_counts (expr a ts) sp behind = let e = row_counts ts sp behind in omega (arith, e)
 
-  aside_counts : (ps : written.Pairs) (sp : Spot) (behind : SRow Constant) → row_count (resolved_asides world order ps sp behind) ≡ row_count behind
+  pub aside_counts : (ps : written.Pairs) (sp : Spot) (behind : SRow Constant) → row_count (resolved_asides world order ps sp behind) ≡ row_count behind
   aside_counts no_pairs sp behind = refl
   aside_counts (pair k a ps) sp behind = aside_counts ps (grown sp) behind
 
