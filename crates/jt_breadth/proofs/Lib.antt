@@ -16,3 +16,4 @@ pub mod Means
 pub mod Monotone
 pub mod Taking
 pub mod Serving
+pub mod Served

@@ -31,11 +31,11 @@ module _ (world : World) (order : List Home) where
   abbrev pub BTakes : Bool → SBody Constant → Type 0
   BTakes l b = BodyTakes world.filters (rs world order) l b
 
-  followed_takes : (l : Bool) (a b : SBody Constant) → BTakes l a → BTakes l b → BTakes l (followed a b)
+  pub followed_takes : (l : Bool) (a b : SBody Constant) → BTakes l a → BTakes l b → BTakes l (followed a b)
   followed_takes l slots.end b h k = k
   followed_takes l (slots.stmt s rest) b h k = (h.0, followed_takes l rest b h.1 k)
 
-  copied_takes : (l : Bool) (p : Place) (table : Table) (n : ℕ) (xs : List Text) (behind : SBody Constant) → BTakes l behind → BTakes l (copied p table n xs behind)
+  pub copied_takes : (l : Bool) (p : Place) (table : Table) (n : ℕ) (xs : List Text) (behind : SBody Constant) → BTakes l behind → BTakes l (copied p table n xs behind)
   copied_takes l p table n [] behind h = h
   copied_takes l p table n (x ∷ xs) behind h = (slot_takes world order l (slot_in x table) (known 0), copied_takes l p table (suc n) xs behind h)
 

@@ -69,3 +69,12 @@ module _ (fs : Filters) where
     pub BranchesKnown : Branches → Type 0
     BranchesKnown no_branches = Unit {0}
     BranchesKnown (branch line c body rest) = ExprKnown c × BodyKnown body × BranchesKnown rest
+
+-- each template of each chain
+abbrev pub TemplatesKnown : Filters → List Template → Type 0
+TemplatesKnown fs [] = Unit {0}
+TemplatesKnown fs (t ∷ ts) = BodyKnown fs t.body × TemplatesKnown fs ts
+
+abbrev pub ChainsKnown : World → List Home → Type 0
+ChainsKnown world [] = Unit {0}
+ChainsKnown world (h ∷ hs) = TemplatesKnown world.filters (templates world.sources h) × ChainsKnown world hs
