@@ -17,3 +17,4 @@ pub mod Monotone
 pub mod Taking
 pub mod Serving
 pub mod Served
+pub mod PlacedTakes

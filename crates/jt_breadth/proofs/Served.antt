@@ -1,28 +1,25 @@
 -- The routines of a program get as many values as they take.
-use Rattle.std.proofs.Common.{◌≡◌, ℕ, zero, suc, ◌+◌, Bool, true, false, if◌then◌else◌, List, [], ◌∷◌, ◌++◌, length, map, Option, Some, None, refl, sym, ap, ◌∙◌, subst, arith, append_assoc}
-use Rattle.std.specs.Prelude.{IsTrue, ◌||◌, flat_map, filter, slice_get}
+use Rattle.std.proofs.Common.{◌≡◌, ℕ, suc, Bool, true, false, if◌then◌else◌, List, [], ◌∷◌, ◌++◌, map, Some, None, refl, sym, ap, ◌∙◌, append_assoc}
+use Rattle.std.specs.Prelude.{◌||◌, flat_map, filter}
 use Rattle.std.specs.Option.{option_or}
 use Rattle.std.specs.Str.{bytes_eq}
-use Rattle.jt_scopes.specs.declared.error.ScopeError.{ScopeError}
-use Rattle.jt_scopes.specs.Takes.{InPairs}
 use Rattle.jt_breadth.specs.Trees.{Text, Stmt, data_of, print, choose, for_each, set, set_block, with_values, filter_block, autoescape, macro, include, extends, block, Body, end, stmt, Branches, no_branches, branch}
 use Rattle.jt_breadth.specs.Chain.{Home, Template, templates, BlockBody, blocks_of, blocks_in, blocks_under, all_bodies, MacroBody, macros_in, macros}
-use Rattle.jt_breadth.specs.Filters.{Filters, among}
+use Rattle.jt_breadth.specs.Filters.{among}
 use Rattle.jt_breadth.specs.Around.{World}
 use Rattle.jt_breadth.specs.Expressions.{keywords}
 use Rattle.jt_breadth.specs.Names.{set_in, needs_in}
 use Rattle.jt_breadth.specs.Meaning.{is_set}
-use Rattle.jt_breadth.specs.Slots as slots
-use Rattle.jt_breadth.specs.Slots.{SBody, Routine}
+use Rattle.jt_breadth.specs.Slots.{Routine}
 use Rattle.jt_breadth.specs.Takes.{BodyTakes}
 use Rattle.jt_breadth.specs.Known.{StmtKnown, BodyKnown, BranchesKnown, TemplatesKnown, ChainsKnown}
-use Rattle.jt_breadth.specs.Layout.{counted_from, numbered_bodies, numbered_of, block_parameters}
-use Rattle.jt_breadth.specs.Resolve.{Constant, Part, Spot, top_spot, place, bound_all, followed, resolved_stmt, resolved_body, resolved_sets, resolved_chain, chain_routine, macro_routine, body_routine}
-use Rattle.jt_breadth.specs.Programs.{body_routines, chain_routines, routines}
-use Rattle.jt_breadth.specs.Rules.{Within, refused, used, all_used, broken, pairs_broken, condition_broken, filtering_broken, macro_broken, stmt_broken, body_broken, branches_broken, templates_broken, chains_broken}
+use Rattle.jt_breadth.specs.Layout.{counted_from, numbered_bodies, block_parameters}
+use Rattle.jt_breadth.specs.Resolve.{Constant, Part, top_spot, place, bound_all, followed, resolved_stmt, resolved_body, resolved_sets, resolved_chain, macro_routine}
+use Rattle.jt_breadth.specs.Programs.{body_routines, chain_routines}
+use Rattle.jt_breadth.specs.Rules.{Within, used, all_used, broken, pairs_broken, condition_broken, filtering_broken, macro_broken, stmt_broken, body_broken, branches_broken, templates_broken, chains_broken}
 use Rattle.jt_breadth.specs.ChainRules.{InOrder}
 use Rattle.jt_breadth.proofs.Calling.{Included, Tail}
-use Rattle.jt_breadth.proofs.Reading.{same_is, no_both}
+use Rattle.jt_breadth.proofs.Reading.{same_is}
 use Rattle.jt_breadth.proofs.Stating.{Each, each_front, each_back}
 use Rattle.jt_breadth.proofs.Ordering.{Every, every_append, Belongs, templates_belong, all_macro_bodies, all_block_bodies}
 use Rattle.jt_breadth.proofs.Taking.{none_first, none_second, rs}
@@ -42,9 +39,10 @@ module _ (world : World) (h : Home) where
 
   macros_fine : (t : Text) (c : Body) (w : Within) → Fine w c → Every (λ m. Fine at_top m.body) (macros_in t c)
   macros_fine t end w f = tt
-  macros_fine t (stmt (macro line x ps body) rest) w f =
-      ((none_second (macro_broken world h x ps) (body_broken world h body at_top) (none_first (stmt_broken world h (macro line x ps body) w) (body_broken world h rest w) f.0), f.1.0),
-      macros_fine t rest w (none_second (stmt_broken world h (macro line x ps body) w) (body_broken world h rest w) f.0, f.1.1))
+  macros_fine t (stmt (macro line x ps body) rest) w f = (
+    (none_second (macro_broken world h x ps) (body_broken world h body at_top) (none_first (stmt_broken world h (macro line x ps body) w) (body_broken world h rest w) f.0), f.1.0),
+    macros_fine t rest w (none_second (stmt_broken world h (macro line x ps body) w) (body_broken world h rest w) f.0, f.1.1),
+  )
   macros_fine t (stmt s rest) w f = macros_fine t rest w (none_second (stmt_broken world h s w) (body_broken world h rest w) f.0, f.1.1)
 
   abbrev AllFine : List BlockBody → Type 0
@@ -141,9 +139,10 @@ module _ (world : World) (order : List Home) (ordered : InOrder world order) (h 
       let same = λ (d : ℕ × BlockBody). bytes_eq d.1.name c.1.name in
       let part : Part = record { name = c.1.name; behind = filter same cs } in
       let sp = bound_all (block_parameters world order h c.1.name) (record (top_spot world order h c.1.template) { escaping = c.1.escaping; part = Some part }) in
-      let tail : Tail world order h c.1.name (filter same cs) = (filter same pre ++ (c ∷ []), ap (filter same) e ∙ filter_behind same pre c cs (same_is c.1.name) ∙ sym (append_assoc (filter same pre) (c ∷ []) (filter same cs))) in
-      (copied_takes world order false (place sp 1) sp.table sp.free (set_in c.1.body) (resolved_body world order c.1.body (bound_all (set_in c.1.body) sp)) (body_serves world order c.1.body (bound_all (set_in c.1.body) sp) in_block known tail f.0.0 f.0.1 b.0.included),
-      blocks_take (pre ++ (c ∷ [])) cs (e ∙ sym (append_assoc pre (c ∷ []) cs)) f.1 b.1)
+      let tail : Tail world order h c.1.name (filter same cs) = (filter same pre ++ (c ∷ []), ap (filter same) e ∙ filter_behind same pre c cs (same_is c.1.name) ∙ sym (append_assoc (filter same pre) (c ∷ []) (filter same cs))) in (
+        copied_takes world order false (place sp 1) sp.table sp.free (set_in c.1.body) (resolved_body world order c.1.body (bound_all (set_in c.1.body) sp)) (body_serves world order c.1.body (bound_all (set_in c.1.body) sp) in_block known tail f.0.0 f.0.1 b.0.included),
+        blocks_take (pre ++ (c ∷ [])) cs (e ∙ sym (append_assoc pre (c ∷ []) cs)) f.1 b.1,
+      )
 
   counted_every : (P : BlockBody → Type 0) (n : ℕ) (bs : List BlockBody) → Every P bs → Every (λ b. P b.1) (counted_from n bs)
   counted_every P n [] a = tt
@@ -153,11 +152,13 @@ module _ (world : World) (order : List Home) (ordered : InOrder world order) (h 
   chain_serves e k =
       let ts = templates world.sources h in
       let f = templates_fine world h ts e k in
-      let b = templates_belong world order ordered h known in
-      (chain_takes ts f b, every_append Serves (map (macro_routine world order h) (macros world.sources h)) (body_routines world order h (numbered_bodies world h))
-      (macros_take (macros world.sources h) (all_macros_fine world h ts f) (all_macro_bodies world order ordered h known ts b))
-      (blocks_take [] (numbered_bodies world h) refl (counted_every (λ b. Fine world h in_block b.body) 0 (all_bodies world.sources world.escaping h) (all_blocks_fine world h world.escaping ts f))
-      (counted_every (λ b. InChain b.body) 0 (all_bodies world.sources world.escaping h) (all_block_bodies world order ordered h known world.escaping ts b))))
+      let b = templates_belong world order ordered h known in (
+        chain_takes ts f b,
+        every_append Serves (map (macro_routine world order h) (macros world.sources h)) (body_routines world order h (numbered_bodies world h))
+            (macros_take (macros world.sources h) (all_macros_fine world h ts f) (all_macro_bodies world order ordered h known ts b))
+            (blocks_take [] (numbered_bodies world h) refl (counted_every (λ b. Fine world h in_block b.body) 0 (all_bodies world.sources world.escaping h) (all_blocks_fine world h world.escaping ts f))
+            (counted_every (λ b. InChain b.body) 0 (all_bodies world.sources world.escaping h) (all_block_bodies world order ordered h known world.escaping ts b))),
+      )
 
 -- every routine of the chains
 pub routines_serve : (world : World) (order hs : List Home) (ordered : InOrder world order) → ((h : Home) → among h hs ≡ true → among h order ≡ true) → chains_broken world hs ≡ None → ChainsKnown world hs

@@ -1,7 +1,7 @@
 -- Where the rules are kept and each test and filter is known, what is resolved gets as many values as it takes.
-use Rattle.std.proofs.Common.{◌≡◌, ℕ, zero, suc, pos, ◌+◌, ◌≤◌, ◌<◌, ◌==◌, Bool, true, false, ◌&&◌, if◌then◌else◌, List, [], ◌∷◌, ◌++◌, length, map, Option, Some, None, refl, sym, ap, ◌∙◌, subst, arith, append_assoc}
-use Rattle.std.specs.Prelude.{not, ◌||◌, nat_lt, max, slice_get, IsTrue}
-use Rattle.std.specs.Option.{option_or, is_some, is_none}
+use Rattle.std.proofs.Common.{◌≡◌, ℕ, zero, suc, ◌+◌, ◌≤◌, ◌==◌, Bool, true, false, ◌&&◌, if◌then◌else◌, List, [], ◌∷◌, ◌++◌, length, map, Option, Some, None, refl, sym, ap, ◌∙◌, subst, arith, append_assoc}
+use Rattle.std.specs.Prelude.{not, ◌||◌, nat_lt, max}
+use Rattle.std.specs.Option.{option_or, is_some}
 use Rattle.std.proofs.lemmas.Bool.Decides.{nat_tests}
 use Rattle.jt_ops.specs.declared.op_id.OpId.TheVariants as op
 use Rattle.jt_ops.specs.declared.test_id.TestId.{TestId}
@@ -17,25 +17,25 @@ use Rattle.jt_expr.specs.Trees.{Expr, constant, name, group, list_of, attribute,
 use Rattle.jt_scopes.specs.Operators.{unary_operation, Form, operation, negation, conjunction, disjunction, form, range_of}
 use Rattle.jt_scopes.specs.Tests.{test_named}
 use Rattle.jt_scopes.specs.Resolve.{count}
-use Rattle.jt_scopes.specs.Rules.{no_keywords, unless, test_broken, read_alone}
+use Rattle.jt_scopes.specs.Rules.{no_keywords, unless, test_broken}
 use Rattle.jt_scopes.specs.Takes.{InPairs}
 use Rattle.jt_scopes.specs.declared.error.ScopeError.{ScopeError}
 use Rattle.jt_scopes.specs.declared.error.ScopeError.TheVariants as error
 use Rattle.jt_breadth.specs.Trees.{Text, Parameter}
-use Rattle.jt_breadth.specs.Chain.{Home, BlockBody, bodies, from_given, MacroBody, macros, macro_of, Callee, a_macro, a_range, a_super, a_block, a_cycle, no_callee, callee, is_loop}
-use Rattle.jt_breadth.specs.Loops.{Field, index0, field_named}
+use Rattle.jt_breadth.specs.Chain.{Home, BlockBody, from_given, MacroBody, macros, macro_of, Callee, a_macro, a_range, a_super, a_block, a_cycle, no_callee, callee, is_loop}
+use Rattle.jt_breadth.specs.Loops.{Field, field_named}
 use Rattle.jt_breadth.specs.Filters.{Filters, among, some_given}
-use Rattle.jt_breadth.specs.Around.{World, as_value}
+use Rattle.jt_breadth.specs.Around.{World}
 use Rattle.jt_breadth.specs.Expressions.{keywords, filter_parameters}
 use Rattle.jt_breadth.specs.Slots as slots
 use Rattle.jt_breadth.specs.Slots.{Slot, operator, a_list, made, SExpr, SRow, none, Routine}
 use Rattle.jt_breadth.specs.Size.{row_count}
 use Rattle.jt_breadth.specs.Takes.{HasParameters, ExprTakes, RowTakes}
 use Rattle.jt_breadth.specs.Known.{IsThere, ExprKnown, RowKnown, PairsKnown}
-use Rattle.jt_breadth.specs.Layout.{Table, slot_in, of_macro, of_body, block_parameters, globals, numbered_of, unit, default_place}
-use Rattle.jt_breadth.specs.Resolve.{Constant, own, known, value_or, read_from, operation_of, turned_round, tested_by, filtered_by, in_form, field_from, locals_from, filled, filled_some, first_locals, reads, Spot, Part, grown, next_given, first_body, invoked_body, invoked_super, invoked, resolved, resolved_row, resolved_asides, resolved_entries, macro_routine, body_routine}
+use Rattle.jt_breadth.specs.Layout.{Table, slot_in, block_parameters, globals, numbered_of, default_place}
+use Rattle.jt_breadth.specs.Resolve.{Constant, own, known, value_or, operation_of, turned_round, tested_by, filtered_by, in_form, field_from, locals_from, filled, filled_some, first_locals, reads, Spot, Part, grown, next_given, first_body, invoked_body, invoked_super, invoked, resolved, resolved_row, resolved_asides, resolved_entries}
 use Rattle.jt_breadth.specs.Programs.{routines}
-use Rattle.jt_breadth.specs.Rules.{Within, refused, fits, parameter_names, repeated, reached, is_filled, filter_broken, used, call_broken, broken, called_broken, row_broken, pairs_broken}
+use Rattle.jt_breadth.specs.Rules.{Within, refused, fits, reached, filter_broken, call_broken, broken, called_broken, row_broken, pairs_broken}
 use Rattle.jt_breadth.proofs.Calling.{Tail}
 use Rattle.jt_breadth.proofs.Valuing.{GivenBy, given_by, named_macro}
 use Rattle.jt_breadth.proofs.Finding.{macro_is, body_is}
@@ -266,8 +266,7 @@ module _ (world : World) (order : List Home) where
       let n2 = aside_counts ps sp (filled b.parameters (count ts) d table) in
       let n3 = filled_count b.parameters (count ts) d table few in
       let n4 = names_count b.parameters in
-      let all : length (map (λ p. p.name) b.parameters) ≡ row_count (resolved_row world order ts sp (resolved_asides world order ps sp (filled b.parameters (count ts) d table))) = omega (arith, n1, n2, n3, n4) in
-      (
+      let all : length (map (λ p. p.name) b.parameters) ≡ row_count (resolved_row world order ts sp (resolved_asides world order ps sp (filled b.parameters (count ts) d table))) = omega (arith, n1, n2, n3, n4) in (
         subst (λ z. HasParameters z (row_count (resolved_row world order ts sp (resolved_asides world order ps sp (filled b.parameters (count ts) d table))))) (sym (macro_is world order sp.home x.0 b e x.1)) all,
         rows (resolved_asides world order ps sp (filled b.parameters (count ts) d table)) (asides (filled b.parameters (count ts) d table) (filled_takes w.in_loop b.parameters (count ts) d table)),
       )
@@ -320,10 +319,11 @@ module _ (world : World) (order : List Home) where
           let rest = filled_some (filter_parameters world.filters (world.filters.named x)) (count ts) (keywords ps) (locals_from sp.free (keywords ps)) in
           filtered_takes w.in_loop (world.filters.named x) sp.escaping (count ts) (keywords ps) (slots.item (resolved world order a sp) (resolved_row world order ts sp (resolved_asides world order ps sp rest))) k.0
           (none_first (filter_broken world.filters (world.filters.named x) (count ts) (keywords ps)) _ h)
-          (ap suc (row_counts ts sp (resolved_asides world order ps sp rest) ∙ ap (λ n. count ts + n) (aside_counts ps sp rest) ∙ some_count (filter_parameters world.filters (world.filters.named x)) (count ts) (keywords ps) (locals_from sp.free (keywords ps))))
-          (expr_takes a sp e t (none_first (broken world sp.home a w) _ h1) k.1,
-          row_takes ts sp e t (none_first (row_broken world sp.home ts w) (pairs_broken world sp.home ps w) h2) k.2 (resolved_asides world order ps sp rest)
-          (asides_take ps sp e t (none_second (row_broken world sp.home ts w) (pairs_broken world sp.home ps w) h2) k.3 rest (some_takes w.in_loop (filter_parameters world.filters (world.filters.named x)) (count ts) (keywords ps) (locals_from sp.free (keywords ps)))))
+          (ap suc (row_counts ts sp (resolved_asides world order ps sp rest) ∙ ap (λ n. count ts + n) (aside_counts ps sp rest) ∙ some_count (filter_parameters world.filters (world.filters.named x)) (count ts) (keywords ps) (locals_from sp.free (keywords ps)))) (
+            expr_takes a sp e t (none_first (broken world sp.home a w) _ h1) k.1,
+            row_takes ts sp e t (none_first (row_broken world sp.home ts w) (pairs_broken world sp.home ps w) h2) k.2 (resolved_asides world order ps sp rest)
+                (asides_take ps sp e t (none_second (row_broken world sp.home ts w) (pairs_broken world sp.home ps w) h2) k.3 rest (some_takes w.in_loop (filter_parameters world.filters (world.filters.named x)) (count ts) (keywords ps) (locals_from sp.free (keywords ps)))),
+          )
       expr_takes (written.test a n x ts ps) sp e t h k =
           let h1 = none_second (test_broken (test_named x) ts ps) _ h in
           let h2 = none_second (broken world sp.home a w) _ h1 in
@@ -339,8 +339,7 @@ module _ (world : World) (order : List Home) where
       expr_takes (when c a) sp e t h k =
           (expr_takes c sp e t (none_first (broken world sp.home c w) (broken world sp.home a w) h) k.0, expr_takes a sp e t (none_second (broken world sp.home c w) (broken world sp.home a w) h) k.1, tt)
       expr_takes (choice c a b) sp e t h k =
-          let rest = none_second (broken world sp.home c w) (option_or (broken world sp.home a w) (broken world sp.home b w)) h in
-          (
+          let rest = none_second (broken world sp.home c w) (option_or (broken world sp.home a w) (broken world sp.home b w)) h in (
             expr_takes c sp e t (none_first (broken world sp.home c w) (option_or (broken world sp.home a w) (broken world sp.home b w)) h) k.0,
             expr_takes a sp e t (none_first (broken world sp.home a w) (broken world sp.home b w) rest) k.1,
             expr_takes b sp e t (none_second (broken world sp.home a w) (broken world sp.home b w) rest) k.2,
@@ -360,4 +359,3 @@ module _ (world : World) (order : List Home) where
       entries_take no_pairs sp e t h k = tt
       entries_take (pair x a ps) sp e t h k =
           (tt, (expr_takes a sp e t (none_first (broken world sp.home a w) (pairs_broken world sp.home ps w) h) k.0, entries_take ps sp e t (none_second (broken world sp.home a w) (pairs_broken world sp.home ps w) h) k.1))
-
