@@ -26,7 +26,7 @@ sound : (k : Code) (c : Config) → IsGood k c → IsSound k c
 sound k c g = record {
   not_wrong = λ e. subst (IsFineStep k c.left.fuel) e (step_fine k c g);
   few = omega (arith, g.fit.typed.small c.machine.point (kinds_of c.machine.state.entries) g.fit.here, length-map c.machine.state.entries kind_of);
-  sized = sizes c.left.size c.machine.state.entries g.sized;
+  sized = sizes c.left.size c.machine.state.entries g.sized.0;
   takes = λ d e. (subst (IsFineStep k c.left.fuel) e (step_fine k c g)).1;
 }
 

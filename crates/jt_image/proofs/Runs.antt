@@ -1,6 +1,6 @@
 -- Whole runs of a typed code.
 use Rattle.std.proofs.Common.{◌≡◌, ◌≢◌, ◌↔◌, ℕ, zero, suc, ◌+◌, ◌<◌, ◌≤◌, Bool, true, false, cond, List, [], ◌∷◌, length, Option, Some, None, refl, ap, subst, ◌∙◌, arith}
-use Rattle.std.specs.Prelude.{slice_set, unwrap_or, replicate, nat_lt}
+use Rattle.std.specs.Prelude.{slice_get, slice_set, unwrap_or, replicate, nat_lt}
 use Rattle.std.proofs.lemmas.Bool.{ltb-true, ltb-false}
 use Rattle.std.proofs.lemmas.List.{length-set}
 use Rattle.jt_value.specs.Tree as tree
@@ -12,9 +12,9 @@ use Rattle.jt_image.specs.IsCode.{IsCode}
 use Rattle.jt_image.specs.Typed.{IsTyped}
 use Rattle.jt_image.specs.Config as config
 use Rattle.jt_image.specs.Config.{Budget, Outcome, Config}
-use Rattle.jt_image.specs.Step.{Action, goes_on, ends, faulty, wrong, strict, cost, fetch}
-use Rattle.jt_image.specs.Run.{Next, Goes, Ends, Wrong, spared, unless, spends, next_at, next, passed, filled, start, then_goes, after, RunFrom, cost_at, taken, then_costs, costs, IsSafe}
-use Rattle.jt_image.proofs.Safe.{IsGood, IsFineStep, step_fine}
+use Rattle.jt_image.specs.Step.{Action, goes_on, ends, faulty, wrong, locals_of, strict, cost, fetch}
+use Rattle.jt_image.specs.Run.{Next, Goes, Ends, Wrong, spared, unless, spends, next_at, next, passed, filled, entry_locals, start, then_goes, after, RunFrom, cost_at, taken, then_costs, costs, IsSafe}
+use Rattle.jt_image.proofs.Safe.{IsGood, IsFineStep, length-locals_of, step_fine}
 
 -- an end within so many steps
 ends_at : (k : Code) (m fuel : ℕ) (n : Next) → fuel < suc m → IsFineStep k fuel n → ((d : Config) → IsGood k d → d.left.fuel < m → (o : Outcome) × (after k m d ≡ Ends o)) → (o : Outcome) × (then_goes n (after k m) ≡ Ends o)
@@ -63,23 +63,29 @@ length-replicate : {A : Type 0} (n : ℕ) (a : A) → length (replicate n a) ≡
 length-replicate zero a = refl
 length-replicate (suc n) a = ap suc (length-replicate n a)
 
+-- unit 0 has its locals
+first_locals : (us : List Section) (u : Section) → slice_get us 0 ≡ Some u → length (locals_of (entry_locals us) []) ≡ u.locals
+first_locals [] u e = absurd cc
+first_locals (v ∷ us) u e = let same : v ≡ u = cc in length-locals_of v.locals [] ∙ ap (λ (w : Section). w.locals) same
+
 pub start_good : (k : Code) → IsCode k → IsTyped k → (x : Pairs) (b : Budget) → IsGood k (start k x b)
 start_good k code t x b =
     let h = code.entry in
     let typed = t 0 h.entry h.is in
     record {
       fit = record {
+        all = t;
         unit = h.entry;
         is_unit = h.is;
-        emits = h.emits;
         shapes = typed.0;
         typed = typed.1;
         here = typed.1.start;
+        locals = first_locals k.units h.entry h.is;
         globals = length-filled x k.names (replicate k.globals tree.undefined) ∙ length-replicate k.globals tree.undefined;
-        callers = refl;
+        callers = h.emits;
         buffers = refl;
       };
-      sized = tt;
+      sized = (tt, tt);
     }
 
 -- ---- what is taken of the fuel

@@ -1,0 +1,15 @@
+pub mod Trees
+pub mod Env
+pub mod Chain
+pub mod Loops
+pub mod Filters
+pub mod Around
+pub mod Expressions
+pub mod Meaning
+pub mod Slots
+pub mod Locals
+pub mod Names
+pub mod Layout
+pub mod Resolve
+pub mod Pool
+pub mod Programs

@@ -1,0 +1,4 @@
+pub mod Asm
+pub mod Lower
+pub mod Heights
+pub mod Fits

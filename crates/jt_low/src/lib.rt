@@ -1,0 +1,2 @@
+//! The code of resolved programs by definitions alone: what it is, and that it does what they mean.
+#![tactic(auto)]
