@@ -102,7 +102,7 @@ take_asm o (slots.several ss) = both (one o (op.Unpack (length ss))) (stores_asm
 
 -- the item of a turn is taken, and then this is done
 abbrev pub turn_asm : Option Place → Targets → Asm → Asm
-turn_asm o xs body = both (one o (op.LoopGet 0 0)) (both (take_asm o xs) body)
+turn_asm o xs body = both (both (one o (op.LoopGet 0 0)) (take_asm o xs)) body
 
 -- the turns of the loop at the top, and the other part where there was none
 abbrev pub over_asm : Option Place → Targets → Asm → Asm → Asm
@@ -120,7 +120,7 @@ abbrev mutual
   stmt_asm (slots.assign p xs e) h = both (expr_asm (Some p) e h) (take_asm (Some p) xs)
   stmt_asm (slots.if_else p c a b) h = both (expr_asm (Some p) c h) (choose (body_asm a h) (body_asm b h))
   stmt_asm (slots.for_each p xs e c body other) h =
-      both (expr_asm (Some p) e h) (both (one (Some p) op.LoopStart) (both (kept_asm (Some p) xs c) (over_asm (Some p) xs (body_asm body 0) (body_asm other h))))
+      both (both (expr_asm (Some p) e h) (both (one (Some p) op.LoopStart) (kept_asm (Some p) xs c))) (over_asm (Some p) xs (body_asm body 0) (body_asm other h))
   stmt_asm (slots.capture escaping s body) h = both (one None op.CaptureBegin) (both (body_asm body (suc h)) (both (one None (op.CaptureEnd (flag escaping))) (one None (store_of s))))
   stmt_asm (slots.run u es) h = both (row_asm None es h) (invoke None u)
 

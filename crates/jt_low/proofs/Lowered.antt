@@ -1,0 +1,372 @@
+-- The code of a resolved program does what the program means.
+use Rattle.std.proofs.Common.{◌≡◌, ◌≢◌, ℕ, zero, suc, ◌+◌, ◌-◌, ◌*◌, ◌<◌, ◌≤◌, Bool, arith, Result, Ok, Err, append-nil, append_assoc, true, false, if◌then◌else◌, eqb, List, [], ◌∷◌, ◌++◌, length, map, Option, Some, None, refl, sym, ap, ◌∙◌, subst, length-append}
+use Rattle.std.specs.Prelude.{slice_get, slice_set, ◌==◌, nat_lt}
+use Rattle.std.specs.Option.{option_map}
+use Rattle.std.proofs.lemmas.Bool.Decides.{nat_tests}
+use Rattle.std.proofs.lemmas.List.{length-set}
+use Rattle.std.proofs.lemmas.Option.{slice_get-map}
+use Rattle.jt_value.specs.Tree as tree
+use Rattle.jt_value.specs.Tree.{Tree, Items}
+use Rattle.jt_value.specs.Iteration.{items_of_tree}
+use Rattle.jt_value.specs.declared.fault.Fault.{Fault}
+use Rattle.jt_value.specs.declared.fault.Fault.TheVariants as faults
+use Rattle.jt_escape.specs.Escaping.{escaped}
+use Rattle.jt_image.specs.declared.instruction.Instruction.TheVariants as op
+use Rattle.jt_image.specs.declared.loop_field.LoopField.TheVariants as of_loop
+use Rattle.jt_image.specs.Code.{Section, Code}
+use Rattle.jt_image.specs.Config.{Frame, Entry, value, frame, capture, State}
+use Rattle.jt_image.specs.Loops.{trees_of, loop_over, item_at, keeping, told, field_of, field_id}
+use Rattle.jt_image.specs.Step as step
+use Rattle.jt_image.specs.Ids.{operator_of, operands_of, test_of}
+use Rattle.jt_image.specs.Step.{Plain, broken, goes, plain, as_frame, on_values, push, push_given, told_by, piled, spreads, unpacks, begins, makes, operated, tested_by, with_entries, put_printed, constant_value, text_of}
+use Rattle.jt_ops.specs.declared.op_id.OpId.{OpId}
+use Rattle.jt_ops.specs.declared.op_id.OpId.TheVariants as o
+use Rattle.jt_ops.specs.declared.test_id.TestId.{TestId}
+use Rattle.jt_ops.specs.declared.test_id.TestId.TheVariants as t
+use Rattle.jt_ops.specs.OpTable.{op_id, op_operands}
+use Rattle.jt_ops.specs.TestTable.{test_id}
+use Rattle.jt_ops.specs.Making.{listed, mapped}
+use Rattle.jt_scopes.specs.Takes.{InPairs}
+use Rattle.jt_scopes.specs.Got.{Place, Got, gives, fails, deeper, bind, checked, at}
+use Rattle.jt_scopes.specs.Meaning.{shown, shown_text}
+use Rattle.jt_scopes.specs.Slots.{bytes_of}
+use Rattle.jt_breadth.specs.Trees.{Text}
+use Rattle.jt_breadth.specs.Filters.{Filters}
+use Rattle.jt_breadth.specs.Around.{as_value}
+use Rattle.jt_breadth.specs.Loops.{Field, Loop, result_listed, items_listed, items_of_value, tree_at, loop_field}
+use Rattle.jt_breadth.specs.Slots as slots
+use Rattle.jt_breadth.specs.Slots.{Slot, local, global, Maker, SExpr, SRow, Targets, SStmt, SBody, Routine, Program, Memory, Valued, Listed, Written, SCalls, load, put_at, store, store_if, store_each, take, make, valued, sturns, sgone_over, in_front, svalue, svalues, skept, smeaning, smeanings}
+use Rattle.jt_low.specs.Asm.{Asm, nil, one, both, choose, each, invoke, Ran, does, stops, too_deep, bad, and_then, place_or, of_plain, next_turn, turns, turns_left, of_written, into_buffers, called, run}
+use Rattle.jt_low.specs.Lower.{row_count, half, maker, told_as, flag, load_of, store_of, expr_asm, row_asm, store_if_of, stores_asm, take_asm, turn_asm, over_asm, kept_asm, stmt_asm, body_asm, unit_of, compiled}
+use Rattle.jt_low.specs.Fits.{MakerFits, TakesRow, SlotFits, ExprFits, RowFits, SomeFits, SlotsFit, TargetsFit, ConditionFits, TextFits, StmtFits, BodyFits}
+use Rattle.jt_low.proofs.Told.{listed_same, has_field, IsTurn, told_same}
+use Rattle.jt_low.proofs.Does.{Does, same_run, same_meaning, then_does, then_gives, finished, carried, mapped_does, placed, either, and_then_assoc, bind_assoc}
+
+-- the state with the variables of a memory
+abbrev pub at_bufs : List Entry → List (List ℕ) → Memory → State
+at_bufs es bs m = record { entries = es; locals = m.locals; globals = m.globals; buffers = bs }
+
+-- the state with the variables of a memory, and with its text behind this one
+abbrev pub at_memory : List Entry → Text → List (List ℕ) → Memory → State
+at_memory es pre bufs m = at_bufs es ((pre ++ m.out) ∷ bufs) m
+
+pub lt_true : (a b : ℕ) → a < b → nat_lt a b ≡ true
+lt_true a b h = grind (arith, nat_tests)
+
+pub lt_false : (a b : ℕ) → b ≤ a → nat_lt a b ≡ false
+lt_false a b h = grind (arith, nat_tests)
+
+pub eq_true : (a b : ℕ) → a ≡ b → (a == b) ≡ true
+eq_true a b h = grind (arith, nat_tests)
+
+eq_told : (a b : ℕ) → (a == b) ≡ true → a ≡ b
+eq_told a b h = grind (arith, nat_tests)
+
+eq_untold : (a b : ℕ) → (a == b) ≡ false → a ≢ b
+eq_untold a b h = grind (arith, nat_tests)
+
+-- ---- rows of values
+
+pub popped : {A : Type 0} (vs acc : List Tree) (es : List Entry) (n : ℕ) (z : A) (f : List Tree → List Entry → A) → on_values (length vs + n) acc (piled vs es) z f ≡ on_values n (vs ++ acc) es z f
+popped [] acc es n z f = let e : 0 + n ≡ n = omega arith in ap (λ i. on_values i acc es z f) e
+popped (v ∷ vs) acc es n z f =
+    let e : length (v ∷ vs) + n ≡ length vs + suc n = omega arith in
+    ap (λ i. on_values i acc (piled vs (value v ∷ es)) z f) e ∙ popped vs acc (value v ∷ es) (suc n) z f
+
+pub popped_all : {A : Type 0} (vs : List Tree) (es : List Entry) (n : ℕ) (z : A) (f : List Tree → List Entry → A) → length vs ≡ n → on_values n [] (piled vs es) z f ≡ f vs es
+popped_all vs es n z f e =
+    let m : n ≡ length vs + 0 = omega arith in
+    ap (λ i. on_values i [] (piled vs es) z f) m ∙ popped vs [] es 0 z f ∙ ap (λ ts. f ts es) (append-nil vs)
+
+pub has_operator : (x : OpId) → operator_of (op_id x) ≡ Some x
+unfolding operator_of
+has_operator o.Add = refl
+has_operator o.Subtract = refl
+has_operator o.Multiply = refl
+has_operator o.FloorDivide = refl
+has_operator o.Remainder = refl
+has_operator o.Power = refl
+has_operator o.Negate = refl
+has_operator o.Plus = refl
+has_operator o.Not = refl
+has_operator o.Join = refl
+has_operator o.JoinEscaping = refl
+has_operator o.Equal = refl
+has_operator o.NotEqual = refl
+has_operator o.Less = refl
+has_operator o.LessOrEqual = refl
+has_operator o.Greater = refl
+has_operator o.GreaterOrEqual = refl
+has_operator o.In = refl
+has_operator o.Item = refl
+has_operator o.RangeToStop = refl
+has_operator o.RangeFromStart = refl
+has_operator o.RangeByStep = refl
+
+pub has_test : (x : TestId) → test_of (test_id x) ≡ Some x
+unfolding test_of
+has_test t.Boolean = refl
+has_test t.Defined = refl
+has_test t.DivisibleBy = refl
+has_test t.Equal = refl
+has_test t.NotEqual = refl
+has_test t.Escaped = refl
+has_test t.Even = refl
+has_test t.Odd = refl
+has_test t.False = refl
+has_test t.True = refl
+has_test t.GreaterOrEqual = refl
+has_test t.Greater = refl
+has_test t.LessOrEqual = refl
+has_test t.Less = refl
+has_test t.In = refl
+has_test t.Integer = refl
+has_test t.Mapping = refl
+has_test t.None = refl
+has_test t.String = refl
+has_test t.Undefined = refl
+
+-- keys and values in turn are two for each entry
+pub halved : (n : ℕ) → InPairs n → 2 * half n ≡ n
+halved zero h = refl
+halved (suc zero) h = absurd h
+halved (suc (suc n)) h = omega (arith, halved n h)
+
+-- ---- slots
+
+put_same : (i : ℕ) (v : Tree) (ts : List Tree) → i < length ts → slice_set ts i v ≡ put_at i v ts
+put_same i v [] h = absurd (omega arith)
+put_same zero v (t ∷ ts) h = refl
+put_same (suc i) v (t ∷ ts) h = ap (λ xs. t ∷ xs) (put_same i v ts (omega arith))
+
+put_len : (i : ℕ) (v : Tree) (ts : List Tree) → i < length ts → length (put_at i v ts) ≡ length ts
+put_len i v ts h = ap length (sym (put_same i v ts h)) ∙ length-set ts i v
+
+-- the constants of a code are the values of the pool
+pub record HasPool (k : Code) (pool : List Tree) : Type 0 where
+  pub values : (i : ℕ) → constant_value (slice_get k.constants i) ≡ tree_at pool i
+  pub texts : (i : ℕ) → text_of (slice_get k.constants i) ≡ bytes_of (tree_at pool i)
+
+abbrev pub put_text : Memory → Text → Memory
+put_text m s = record m { out = m.out ++ s }
+
+-- what a call gives leaves as many globals
+abbrev pub Keeps : ℕ → Got Written → Type 0
+Keeps g (gives w) = length w.globals ≡ g
+Keeps g (fails e q) = Unit {0}
+Keeps g deeper = Unit {0}
+
+abbrev pub CallsKeep : ℕ → SCalls → Type 0
+CallsKeep g call = (u : ℕ) (ts gs : List Tree) → length gs ≡ g → Keeps g (call u ts gs)
+
+-- where code stands in a loop, its frame is so many entries below the top
+abbrev pub FrameAt : Bool → ℕ → List Entry → Option Loop → Type 0
+FrameAt false h es l = Unit {0}
+FrameAt true h es l = (f : Frame) × (slice_get es h ≡ Some (frame f)) × IsTurn f l
+
+pub raise : (inside : Bool) (h : ℕ) (e : Entry) (es : List Entry) (l : Option Loop) → FrameAt inside h es l → FrameAt inside (suc h) (e ∷ es) l
+raise false h e es l f = tt
+raise true h e es l f = f
+
+wrong_count : (ss : List (Option Slot)) (vs : List Tree) (m : Memory) → length vs ≢ length ss → store_each ss vs m ≡ fails faults.Unpack None
+wrong_count [] [] m h = absurd (h refl)
+wrong_count [] (v ∷ vs) m h = refl
+wrong_count (s ∷ ss) [] m h = refl
+wrong_count (s ∷ ss) (v ∷ vs) m h = ap (λ g. bind g (λ n. gives (store_if s v n))) (wrong_count ss vs m (λ e. h (ap suc e)))
+
+module _ (filters : Filters) (p : Program) (call : SCalls) (has : HasPool (compiled p) p.pool) (keep : CallsKeep p.globals call) (count : ℕ) where
+  abbrev k : Code
+  k = compiled p
+
+  abbrev code : Asm → State → Ran
+  code a s = run k call a s
+
+  -- the memory of a routine: so many locals and globals, and this text
+  pub record Kept (out : Text) (m : Memory) : Type 0 where
+    pub locals : length m.locals ≡ count
+    pub globals : length m.globals ≡ p.globals
+    pub text : m.out ≡ out
+
+  pub record Sized (m : Memory) : Type 0 where
+    pub locals : length m.locals ≡ count
+    pub globals : length m.globals ≡ p.globals
+
+  abbrev KeptValue : Text → Valued → Type 0
+  KeptValue out r = Kept out r.memory
+
+  abbrev ValueOn : List Entry → List (List ℕ) → Valued → State
+  ValueOn es bs r = at_bufs (value r.value ∷ es) bs r.memory
+
+  -- ---- stores
+
+  store_does : (s : Slot) (v : Tree) (q : Option Place) (es : List Entry) (bs : List (List ℕ)) (out : Text) (m : Memory) → SlotFits p count s → Kept out m
+      → (code (one q (store_of s)) (at_bufs (value v ∷ es) bs m) ≡ does (at_bufs es bs (store s v m))) × Kept out (store s v m)
+  store_does (local i) v q es bs out m fit w =
+      let lt : i < length m.locals = omega (arith, fit, w.locals) in
+      (ap (λ ts. does (record { entries = es; locals = ts; globals = m.globals; buffers = bs })) (put_same i v m.locals lt), record { locals = put_len i v m.locals lt ∙ w.locals; globals = w.globals; text = w.text })
+  store_does (global i) v q es bs out m fit w =
+      let lt : i < length m.globals = omega (arith, fit, w.globals) in
+      (ap (λ ts. does (record { entries = es; locals = m.locals; globals = ts; buffers = bs })) (put_same i v m.globals lt), record { locals = w.locals; globals = put_len i v m.globals lt ∙ w.globals; text = w.text })
+
+  store_if_does : (s : Option Slot) (v : Tree) (q : Option Place) (es : List Entry) (bs : List (List ℕ)) (out : Text) (m : Memory) → SomeFits p count s → Kept out m
+      → (code (one q (store_if_of s)) (at_bufs (value v ∷ es) bs m) ≡ does (at_bufs es bs (store_if s v m))) × Kept out (store_if s v m)
+  store_if_does None v q es bs out m fit w = (refl, w)
+  store_if_does (Some s) v q es bs out m fit w = store_does s v q es bs out m fit w
+
+  stores_do : (ss : List (Option Slot)) (vs : List Tree) (q : Option Place) (es : List Entry) (bs : List (List ℕ)) (out : Text) (m : Memory) → length vs ≡ length ss → SlotsFit p count ss → Kept out m
+      → Does q (Kept out) (at_bufs es bs) (code (stores_asm q ss) (at_bufs (piled vs es) bs m)) (store_each ss vs m)
+  stores_do [] [] q es bs out m e fit w = (refl, w)
+  stores_do [] (v ∷ vs) q es bs out m e fit w = absurd (omega arith)
+  stores_do (s ∷ ss) [] q es bs out m e fit w = absurd (omega arith)
+  stores_do (s ∷ ss) (v ∷ vs) q es bs out m e fit w =
+      then_gives q (Kept out) (at_bufs (value v ∷ es) bs) (Kept out) (at_bufs es bs) (code (stores_asm q ss) (at_bufs (piled vs (value v ∷ es)) bs m)) (store_each ss vs m) (code (one q (store_if_of s))) (store_if s v)
+      (stores_do ss vs q (value v ∷ es) bs out m (omega arith) fit.1 w) (λ n w'. store_if_does s v q es bs out n fit.0 w')
+
+  spread_does : (b : Bool) (ss : List (Option Slot)) (vs : List Tree) (q : Option Place) (es : List Entry) (bs : List (List ℕ)) (out : Text) (m : Memory) (fs : List Entry) → (length vs == length ss) ≡ b → SlotsFit p count ss → Kept out m
+      → Does q (Kept out) (at_bufs es bs) (and_then (of_plain q (spreads (length ss) vs es (at_bufs fs bs m))) (code (stores_asm q ss))) (store_each ss vs m)
+  spread_does true ss vs q es bs out m fs e fit w =
+      same_run q (Kept out) (at_bufs es bs) _ (code (stores_asm q ss) (at_bufs (piled vs es) bs m)) (store_each ss vs m)
+      (ap (λ t. and_then (of_plain q (if t then goes (with_entries (at_bufs fs bs m) (piled vs es)) (step.pushing_all vs) else step.faults_by faults.Unpack)) (code (stores_asm q ss))) e)
+      (stores_do ss vs q es bs out m (eq_told (length vs) (length ss) e) fit w)
+  spread_does false ss vs q es bs out m fs e fit w =
+      same_meaning q (Kept out) (at_bufs es bs) _ (store_each ss vs m) (fails faults.Unpack None) (wrong_count ss vs m (eq_untold (length vs) (length ss) e))
+      (ap (λ t. and_then (of_plain q (if t then goes (with_entries (at_bufs fs bs m) (piled vs es)) (step.pushing_all vs) else step.faults_by faults.Unpack)) (code (stores_asm q ss))) e)
+
+  unpack_does : (r : Result Items Fault) (ss : List (Option Slot)) (q : Option Place) (es : List Entry) (bs : List (List ℕ)) (out : Text) (m : Memory) (fs : List Entry) → SlotsFit p count ss → Kept out m
+      → Does q (Kept out) (at_bufs es bs) (and_then (of_plain q (unpacks (length ss) r es (at_bufs fs bs m))) (code (stores_asm q ss))) (bind (checked (result_listed r)) (λ vs. store_each ss vs m))
+  unpack_does (Ok ts) ss q es bs out m fs fit w =
+      subst (λ vs. Does q (Kept out) (at_bufs es bs) (and_then (of_plain q (spreads (length ss) (trees_of ts) es (at_bufs fs bs m))) (code (stores_asm q ss))) (store_each ss vs m)) (listed_same ts)
+      (spread_does (length (trees_of ts) == length ss) ss (trees_of ts) q es bs out m fs refl fit w)
+  unpack_does (Err e) ss q es bs out m fs fit w = refl
+
+  take_does : (xs : Targets) (v : Tree) (q : Option Place) (es : List Entry) (bs : List (List ℕ)) (out : Text) (m : Memory) → TargetsFit p count xs → Kept out m
+      → Does q (Kept out) (at_bufs es bs) (code (take_asm q xs) (at_bufs (value v ∷ es) bs m)) (take xs v m)
+  take_does (slots.one s) v q es bs out m fit w = store_does s v q es bs out m fit w
+  take_does (slots.several ss) v q es bs out m fit w = unpack_does (items_of_tree v) ss q es bs out m (value v ∷ es) fit w
+
+  -- ---- what makes a value of a row
+
+  checked_does : (r : Result Tree Fault) (q : Option Place) (es : List Entry) (bs : List (List ℕ)) (out : Text) (m : Memory) (fs : List Entry) → Kept out m
+      → Does q (KeptValue out) (ValueOn es bs) (of_plain q (push_given r es (at_bufs fs bs m))) (bind (checked r) (valued m))
+  checked_does (Ok t) q es bs out m fs w = (refl, w)
+  checked_does (Err e) q es bs out m fs w = refl
+
+  made_by : (n : ℕ) (operate : List Tree → Result Tree Fault) (vs : List Tree) (q : Option Place) (es : List Entry) (bs : List (List ℕ)) (out : Text) (m : Memory) → length vs ≡ n → Kept out m
+      → Does q (KeptValue out) (ValueOn es bs) (of_plain q (makes n operate (at_bufs (piled vs es) bs m))) (bind (checked (operate vs)) (valued m))
+  made_by n operate vs q es bs out m e w =
+      same_run q (KeptValue out) (ValueOn es bs) _ (of_plain q (push_given (operate vs) es (at_bufs (piled vs es) bs m))) (bind (checked (operate vs)) (valued m))
+      (ap (of_plain q) (popped_all vs es n broken (λ ts fs. push_given (operate ts) fs (at_bufs (piled vs es) bs m)) e))
+      (checked_does (operate vs) q es bs out m (piled vs es) w)
+
+  made_does : (h : Maker) (n : ℕ) (vs : List Tree) (q : Option Place) (es : List Entry) (bs : List (List ℕ)) (out : Text) (m : Memory) → MakerFits h n → length vs ≡ n → Kept out m
+      → Does q (KeptValue out) (ValueOn es bs) (of_plain q (plain k (maker h n) (at_bufs (piled vs es) bs m))) (bind (checked (make filters h vs)) (valued m))
+  made_does (slots.operator x) n vs q es bs out m fit e w =
+      same_run q (KeptValue out) (ValueOn es bs) _ (of_plain q (makes (op_operands x) (operated (Some x)) (at_bufs (piled vs es) bs m))) (bind (checked (operated (Some x) vs)) (valued m))
+      (ap (λ y. of_plain q (makes (operands_of y) (operated y) (at_bufs (piled vs es) bs m))) (has_operator x)) (made_by (op_operands x) (operated (Some x)) vs q es bs out m (e ∙ sym fit) w)
+  made_does (slots.test x) n vs q es bs out m fit e w =
+      same_run q (KeptValue out) (ValueOn es bs) _ (of_plain q (makes n (tested_by (Some x)) (at_bufs (piled vs es) bs m))) (bind (checked (tested_by (Some x) vs)) (valued m))
+      (ap (λ y. of_plain q (makes n (tested_by y) (at_bufs (piled vs es) bs m))) (has_test x)) (made_by n (tested_by (Some x)) vs q es bs out m e w)
+  made_does (slots.filter f escaping) n vs q es bs out m fit e w = absurd fit
+  made_does slots.a_list n vs q es bs out m fit e w = made_by n listed vs q es bs out m e w
+  made_does slots.a_map n vs q es bs out m fit e w = made_by (2 * half n) mapped vs q es bs out m (e ∙ sym (halved n fit)) w
+
+  -- ---- calls
+
+  unit_at : (u n : ℕ) (x : TakesRow p.routines u n) → slice_get k.units u ≡ Some (unit_of x.routine)
+  unit_at u n x = slice_get-map unit_of p.routines u ∙ ap (option_map unit_of) x.is
+
+  call_runs : (u n : ℕ) (vs : List Tree) (q : Option Place) (es : List Entry) (out : Text) (bufs : List (List ℕ)) (m : Memory) → TakesRow p.routines u n → length vs ≡ n → length m.globals ≡ p.globals
+      → code (invoke q u) (at_bufs (piled vs es) (out ∷ bufs) m) ≡ of_written q (call u vs m.globals) es m.locals out bufs
+  call_runs u n vs q es out bufs m x e g =
+      ap (λ s. called q k call u s (at_bufs (piled vs es) (out ∷ bufs) m)) (unit_at u n x)
+      ∙ popped_all vs es x.routine.parameters bad (λ ts fs. if length m.globals == k.globals then into_buffers q (call u ts m.globals) fs m.locals (out ∷ bufs) else bad) (e ∙ sym x.parameters)
+      ∙ ap (λ b. if b then into_buffers q (call u vs m.globals) es m.locals (out ∷ bufs) else bad) (eq_true (length m.globals) p.globals g)
+
+  captured : (g : Got Written) (escaping : Bool) (q : Option Place) (es : List Entry) (bs : List (List ℕ)) (out : Text) (m : Memory) → Keeps p.globals g → Kept out m
+      → Does q (KeptValue out) (ValueOn es bs) (and_then (of_written q g (capture ∷ es) m.locals [] bs) (code (one q (op.CaptureEnd (flag escaping))))) (bind g (λ w. valued (record m { globals = w.globals }) (as_value escaping w.text)))
+  captured (gives w) true q es bs out m fit h = (refl, record { locals = h.locals; globals = fit; text = h.text })
+  captured (gives w) false q es bs out m fit h = (refl, record { locals = h.locals; globals = fit; text = h.text })
+  captured (fails e s) escaping q es bs out m fit h = refl
+  captured deeper escaping q es bs out m fit h = refl
+
+  -- ---- expressions
+
+  abbrev Means : SExpr ℕ → Option Loop → Memory → Got Valued
+  Means e l m = svalue filters (tree_at p.pool) call e l m
+
+  abbrev MeansRow : SRow ℕ → Option Loop → Memory → Got Listed
+  MeansRow r l m = svalues filters (tree_at p.pool) call r l m
+
+  abbrev KeptRow : Text → ℕ → Listed → Type 0
+  KeptRow out n y = Kept out y.memory × (length y.values ≡ n)
+
+  abbrev RowOn : List Entry → List (List ℕ) → Listed → State
+  RowOn es bs y = at_bufs (piled y.values es) bs y.memory
+
+  field_does : (x : Field) (q : Option Place) (inside : Bool) (h : ℕ) (l : Option Loop) (es : List Entry) (bs : List (List ℕ)) (out : Text) (m : Memory) → inside ≡ true → FrameAt inside h es l → Kept out m
+      → Does q (KeptValue out) (ValueOn es bs) (code (expr_asm q (slots.field x) h) (at_bufs es bs m)) (Means (slots.field x) l m)
+  field_does x q false h l es bs out m e fr w = absurd cc
+  field_does x q true h l es bs out m e fr w =
+      same_run q (KeptValue out) (ValueOn es bs) _ (of_plain q (push_given (loop_field x l) es (at_bufs es bs m))) (Means (slots.field x) l m)
+      (ap (λ y. of_plain q (as_frame y broken (λ f. push_given (told_by (field_of (field_id (told_as x))) f) es (at_bufs es bs m)))) fr.1
+      ∙ ap (λ y. of_plain q (push_given (told_by y fr.0) es (at_bufs es bs m))) (has_field (told_as x))
+      ∙ ap (λ y. of_plain q (push_given y es (at_bufs es bs m))) (told_same x fr.0 l fr.2))
+      (checked_does (loop_field x l) q es bs out m es w)
+
+  load_does : (s : Slot) (q : Option Place) (es : List Entry) (bs : List (List ℕ)) (m : Memory) → code (one q (load_of s)) (at_bufs es bs m) ≡ does (at_bufs (value (load s m) ∷ es) bs m)
+  load_does (local i) q es bs m = refl
+  load_does (global i) q es bs m = refl
+
+  mutual
+    pub expr_does : (e : SExpr ℕ) (q : Option Place) (inside : Bool) (h : ℕ) (l : Option Loop) (es : List Entry) (bs : List (List ℕ)) (out : Text) (m : Memory) → ExprFits p count inside e → FrameAt inside h es l → Kept out m
+        → Does q (KeptValue out) (ValueOn es bs) (code (expr_asm q e h) (at_bufs es bs m)) (Means e l m)
+    expr_does (slots.pooled i) q inside h l es bs out m fit fr w = (ap (λ v. does (at_bufs (value v ∷ es) bs m)) (has.values i), w)
+    expr_does (slots.variable s) q inside h l es bs out m fit fr w = (load_does s q es bs m, w)
+    expr_does (slots.field x) q inside h l es bs out m fit fr w = field_does x q inside h l es bs out m fit fr w
+    expr_does (slots.made x r) q inside h l es bs out m fit fr w =
+        then_does q (KeptRow out (row_count r)) (RowOn es bs) (KeptValue out) (ValueOn es bs) (code (row_asm q r h) (at_bufs es bs m)) (MeansRow r l m) (code (one q (maker x (row_count r)))) (λ y. bind (checked (make filters x y.values)) (valued y.memory))
+        (row_does r q inside h l es bs out m fit.1 fr w)
+        (λ y j. made_does x (row_count r) y.values q es bs out y.memory fit.0 j.1 j.0)
+    expr_does (slots.conjunction a b) q inside h l es bs out m fit fr w =
+        then_does q (KeptValue out) (ValueOn es bs) (KeptValue out) (ValueOn es bs) (code (expr_asm q a h) (at_bufs es bs m)) (Means a l m)
+        (code (both (one q op.Dup) (choose (both (one q op.Drop) (expr_asm q b h)) nil))) (λ r. if tree.truth r.value then Means b l r.memory else gives r)
+        (expr_does a q inside h l es bs out m fit.0 fr w)
+        (λ r w'. either (tree.truth r.value) q (KeptValue out) (ValueOn es bs) (code (expr_asm q b h) (at_bufs es bs r.memory)) (does (ValueOn es bs r)) (Means b l r.memory) (gives r) (expr_does b q inside h l es bs out r.memory fit.1 fr w') (refl, w'))
+    expr_does (slots.disjunction a b) q inside h l es bs out m fit fr w =
+        then_does q (KeptValue out) (ValueOn es bs) (KeptValue out) (ValueOn es bs) (code (expr_asm q a h) (at_bufs es bs m)) (Means a l m)
+        (code (both (one q op.Dup) (choose nil (both (one q op.Drop) (expr_asm q b h))))) (λ r. if tree.truth r.value then gives r else Means b l r.memory)
+        (expr_does a q inside h l es bs out m fit.0 fr w)
+        (λ r w'. either (tree.truth r.value) q (KeptValue out) (ValueOn es bs) (does (ValueOn es bs r)) (code (expr_asm q b h) (at_bufs es bs r.memory)) (gives r) (Means b l r.memory) (refl, w') (expr_does b q inside h l es bs out r.memory fit.1 fr w'))
+    expr_does (slots.choice c a b) q inside h l es bs out m fit fr w =
+        then_does q (KeptValue out) (ValueOn es bs) (KeptValue out) (ValueOn es bs) (code (expr_asm q c h) (at_bufs es bs m)) (Means c l m)
+        (code (choose (expr_asm q a h) (expr_asm q b h))) (λ r. if tree.truth r.value then Means a l r.memory else Means b l r.memory)
+        (expr_does c q inside h l es bs out m fit.0 fr w)
+        (λ r w'. either (tree.truth r.value) q (KeptValue out) (ValueOn es bs) (code (expr_asm q a h) (at_bufs es bs r.memory)) (code (expr_asm q b h) (at_bufs es bs r.memory)) (Means a l r.memory) (Means b l r.memory)
+        (expr_does a q inside h l es bs out r.memory fit.1 fr w') (expr_does b q inside h l es bs out r.memory fit.2 fr w'))
+    expr_does (slots.invoke u escaping r) q inside h l es bs out m fit fr w =
+        then_does q (KeptRow out (row_count r)) (RowOn (capture ∷ es) ([] ∷ bs)) (KeptValue out) (ValueOn es bs) (code (row_asm q r (suc h)) (at_bufs (capture ∷ es) ([] ∷ bs) m)) (MeansRow r l m)
+        (code (both (invoke q u) (one q (op.CaptureEnd (flag escaping))))) (λ y. bind (call u y.values y.memory.globals) (λ g. valued (record y.memory { globals = g.globals }) (as_value escaping g.text)))
+        (row_does r q inside (suc h) l (capture ∷ es) ([] ∷ bs) out m fit.1 (raise inside h capture es l fr) w)
+        (λ y j.
+        same_run q (KeptValue out) (ValueOn es bs) _ (and_then (of_written q (call u y.values y.memory.globals) (capture ∷ es) y.memory.locals [] bs) (code (one q (op.CaptureEnd (flag escaping)))))
+        (bind (call u y.values y.memory.globals) (λ g. valued (record y.memory { globals = g.globals }) (as_value escaping g.text)))
+        (ap (λ s. and_then s (code (one q (op.CaptureEnd (flag escaping))))) (call_runs u (row_count r) y.values q (capture ∷ es) [] bs y.memory fit.0 j.1 j.0.globals))
+        (captured (call u y.values y.memory.globals) escaping q es bs out y.memory (keep u y.values y.memory.globals j.0.globals) j.0))
+
+    -- a row: there are as many values as it leaves
+    pub row_does : (r : SRow ℕ) (q : Option Place) (inside : Bool) (h : ℕ) (l : Option Loop) (es : List Entry) (bs : List (List ℕ)) (out : Text) (m : Memory) → RowFits p count inside r → FrameAt inside h es l → Kept out m
+        → Does q (KeptRow out (row_count r)) (RowOn es bs) (code (row_asm q r h) (at_bufs es bs m)) (MeansRow r l m)
+    row_does slots.none q inside h l es bs out m fit fr w = (refl, (w, refl))
+    row_does (slots.item e r) q inside h l es bs out m fit fr w =
+        then_does q (KeptValue out) (ValueOn es bs) (KeptRow out (suc (row_count r))) (RowOn es bs) (code (expr_asm q e h) (at_bufs es bs m)) (Means e l m) (code (row_asm q r (suc h))) (λ y. bind (MeansRow r l y.memory) (λ ys. gives (in_front y.value ys)))
+        (expr_does e q inside h l es bs out m fit.0 fr w)
+        (λ y w'. mapped_does q (KeptRow out (row_count r)) (RowOn (value y.value ∷ es) bs) (KeptRow out (suc (row_count r))) (RowOn es bs) (code (row_asm q r (suc h)) (at_bufs (value y.value ∷ es) bs y.memory)) (MeansRow r l y.memory) (in_front y.value)
+        (row_does r q inside (suc h) l (value y.value ∷ es) bs out y.memory fit.1 (raise inside h (value y.value) es l fr) w')
+        (λ ys j. (refl, (j.0, ap suc j.1))))
+    row_does (slots.aside i e r) q inside h l es bs out m fit fr w =
+        then_does q (KeptValue out) (ValueOn es bs) (KeptRow out (row_count r)) (RowOn es bs) (code (expr_asm q e h) (at_bufs es bs m)) (Means e l m) (code (both (one q (op.Store i)) (row_asm q r h))) (λ y. MeansRow r l (store (local i) y.value y.memory))
+        (expr_does e q inside h l es bs out m fit.1 fr w)
+        (λ y w'.
+        let s = store_does (local i) y.value q es bs out y.memory fit.0 w' in
+        same_run q (KeptRow out (row_count r)) (RowOn es bs) _ (code (row_asm q r h) (at_bufs es bs (store (local i) y.value y.memory))) (MeansRow r l (store (local i) y.value y.memory)) (ap (λ z. and_then z (code (row_asm q r h))) s.0)
+        (row_does r q inside h l es bs out (store (local i) y.value y.memory) fit.2 fr s.1))
