@@ -1,6 +1,6 @@
 -- The code of a resolved program does what the program means.
 use Rattle.std.proofs.Common.{◌≡◌, ◌≢◌, ℕ, zero, suc, ◌+◌, ◌-◌, ◌*◌, ◌<◌, ◌≤◌, Bool, arith, Result, Ok, Err, append-nil, append_assoc, true, false, if◌then◌else◌, eqb, List, [], ◌∷◌, ◌++◌, length, map, Option, Some, None, refl, sym, ap, ◌∙◌, subst, length-append}
-use Rattle.std.specs.Prelude.{slice_get, slice_set, ◌==◌, nat_lt}
+use Rattle.std.specs.Prelude.{slice_get, slice_set, ◌==◌, nat_lt, unwrap_or}
 use Rattle.std.specs.Option.{option_map}
 use Rattle.std.proofs.lemmas.Bool.Decides.{nat_tests}
 use Rattle.std.proofs.lemmas.List.{length-set}
@@ -58,6 +58,9 @@ lt_false a b h = grind (arith, nat_tests)
 
 pub eq_true : (a b : ℕ) → a ≡ b → (a == b) ≡ true
 eq_true a b h = grind (arith, nat_tests)
+
+pub eq_false : (a b : ℕ) → a ≢ b → (a == b) ≡ false
+eq_false a b h = grind (arith, nat_tests)
 
 eq_told : (a b : ℕ) → (a == b) ≡ true → a ≡ b
 eq_told a b h = grind (arith, nat_tests)
@@ -370,3 +373,287 @@ module _ (filters : Filters) (p : Program) (call : SCalls) (has : HasPool (compi
         let s = store_does (local i) y.value q es bs out y.memory fit.0 w' in
         same_run q (KeptRow out (row_count r)) (RowOn es bs) _ (code (row_asm q r h) (at_bufs es bs (store (local i) y.value y.memory))) (MeansRow r l (store (local i) y.value y.memory)) (ap (λ z. and_then z (code (row_asm q r h))) s.0)
         (row_does r q inside h l es bs out (store (local i) y.value y.memory) fit.2 fr s.1))
+
+  -- ---- loops
+
+  abbrev framed : List Tree → ℕ → List Tree → List Entry → List Entry
+  framed all b kept es = frame (record { items = all; position = b; kept = kept }) ∷ es
+
+  slice_seam : (done rest : List Tree) (v : Tree) → slice_get (done ++ v ∷ rest) (length done) ≡ Some v
+  slice_seam [] rest v = refl
+  slice_seam (d ∷ done) rest v = slice_seam done rest v
+
+  current_is : (all done rest : List Tree) (v : Tree) (b : ℕ) → all ≡ done ++ v ∷ rest → b ≡ length done → slice_get all b ≡ Some v
+  current_is all done rest v b e n = ap (λ ts. slice_get ts b) e ∙ ap (slice_get (done ++ v ∷ rest)) n ∙ slice_seam done rest v
+
+  -- a loop that has an item left, and one that has none
+  goes_round : (body : State → Ran) (all done rest : List Tree) (v : Tree) (b : ℕ) (kept : List Tree) (es : List Entry) (bs : List (List ℕ)) (m : Memory) (j : ℕ) → all ≡ done ++ v ∷ rest → b ≡ length done
+      → turns body (suc j) (at_bufs (framed all b kept es) bs m) ≡ and_then (body (at_bufs (framed all (suc b) kept es) bs m)) (turns body j)
+  goes_round body all done rest v b kept es bs m j e n =
+      ap (λ t. if t then and_then (body (at_bufs (framed all (suc b) kept es) bs m)) (turns body j) else does (at_bufs (framed all b kept es) bs m)) (lt_true b (length all) (omega (arith, ap length e, length-append done (v ∷ rest))))
+
+  is_over : (body : State → Ran) (all done : List Tree) (b : ℕ) (kept : List Tree) (es : List Entry) (bs : List (List ℕ)) (m : Memory) → all ≡ done ++ [] → b ≡ length done
+      → turns body 0 (at_bufs (framed all b kept es) bs m) ≡ does (at_bufs (framed all (length all) kept es) bs m)
+  is_over body all done b kept es bs m e n =
+      let same : b ≡ length all = n ∙ ap length (sym (e ∙ append-nil done)) in
+      ap (λ t. if t then bad else does (at_bufs (framed all b kept es) bs m)) (lt_false b (length all) (omega arith))
+      ∙ ap (λ i. does (at_bufs (framed all i kept es) bs m)) same
+
+  -- the item of a turn
+  item_got : (all done rest : List Tree) (v : Tree) (b : ℕ) (kept : List Tree) (q : Option Place) (es : List Entry) (bs : List (List ℕ)) (m : Memory) → all ≡ done ++ v ∷ rest → b ≡ length done
+      → code (one q (op.LoopGet 0 0)) (at_bufs (framed all (suc b) kept es) bs m) ≡ does (at_bufs (value v ∷ framed all (suc b) kept es) bs m)
+  item_got all done rest v b kept q es bs m e n =
+      ap (λ x. of_plain q (push_given (told_by x (record { items = all; position = suc b; kept = kept })) (framed all (suc b) kept es) (at_bufs (framed all (suc b) kept es) bs m))) (has_field of_loop.Item)
+      ∙ ap (λ x. does (at_bufs (value (unwrap_or x tree.undefined) ∷ framed all (suc b) kept es) bs m)) (current_is all done rest v b e n)
+
+  -- the item of a turn is kept or not
+  kept_if : (c : Bool) (all : List Tree) (v : Tree) (b : ℕ) (kept : List Tree) (q : Option Place) (es : List Entry) (bs : List (List ℕ)) (m : Memory) → slice_get all b ≡ Some v
+      → does (with_entries (at_bufs es bs m) (if c then framed all (suc b) (kept ++ item_at (suc b) all ∷ []) es else framed all (suc b) kept es)) ≡ does (at_bufs (framed all (suc b) (if c then kept ++ v ∷ [] else kept) es) bs m)
+  kept_if true all v b kept q es bs m e = ap (λ x. does (at_bufs (framed all (suc b) (kept ++ unwrap_or x tree.undefined ∷ []) es) bs m)) e
+  kept_if false all v b kept q es bs m e = refl
+
+  item_kept : (all : List Tree) (v : Tree) (b : ℕ) (kept : List Tree) (t : Tree) (q : Option Place) (es : List Entry) (bs : List (List ℕ)) (m : Memory) → slice_get all b ≡ Some v
+      → code (one q (op.LoopKeep 0)) (at_bufs (value t ∷ framed all (suc b) kept es) bs m) ≡ does (at_bufs (framed all (suc b) (if tree.truth t then kept ++ v ∷ [] else kept) es) bs m)
+  item_kept all v b kept t q es bs m e = kept_if (tree.truth t) all v b kept q es bs m e
+
+  abbrev KeptItems : Text → Listed → Type 0
+  KeptItems out x = Kept out x.memory
+
+  -- a loop at its end, with these items kept, and those that a meaning gives
+  abbrev SiftedOn : List Tree → List Tree → List Entry → List (List ℕ) → Listed → State
+  SiftedOn all kept es bs x = at_bufs (framed all (length all) (kept ++ x.values) es) bs x.memory
+
+  abbrev LoopOn : List Entry → List (List ℕ) → Listed → State
+  LoopOn es bs x = at_bufs (frame (loop_over x.values) ∷ es) bs x.memory
+
+  abbrev Sifts : SExpr ℕ → Targets → List Tree → Memory → Got Listed
+  Sifts c xs vs m = skept filters (tree_at p.pool) call (Some c) xs vs m
+
+  one_more : (c : Bool) (all kept : List Tree) (v : Tree) (es : List Entry) (bs : List (List ℕ)) (x : Listed) → SiftedOn all (if c then kept ++ v ∷ [] else kept) es bs x ≡ SiftedOn all kept es bs (if c then in_front v x else x)
+  one_more true all kept v es bs x = ap (λ ts. at_bufs (framed all (length all) ts es) bs x.memory) (append_assoc kept (v ∷ []) x.values)
+  one_more false all kept v es bs x = refl
+
+  one_more_kept : (c : Bool) (v : Tree) (out : Text) (x : Listed) → KeptItems out x → KeptItems out (if c then in_front v x else x)
+  one_more_kept true v out x w = w
+  one_more_kept false v out x w = w
+
+  -- the first pass over the items: those are kept for which the condition holds
+  sift_does : (c : SExpr ℕ) (xs : Targets) (q : Option Place) (es : List Entry) (bs : List (List ℕ)) (out : Text) (all vs done : List Tree) (b : ℕ) (kept : List Tree) (m : Memory) → TargetsFit p count xs → ExprFits p count false c
+      → all ≡ done ++ vs → b ≡ length done → Kept out m
+      → Does q (KeptItems out) (SiftedOn all kept es bs) (turns (code (turn_asm q xs (both (expr_asm q c 0) (one q (op.LoopKeep 0))))) (length vs) (at_bufs (framed all b kept es) bs m)) (Sifts c xs vs m)
+  sift_does c xs q es bs out all [] done b kept m fx fc e n w =
+      (is_over (code (turn_asm q xs (both (expr_asm q c 0) (one q (op.LoopKeep 0))))) all done b kept es bs m e n ∙ ap (λ ts. does (at_bufs (framed all (length all) ts es) bs m)) (sym (append-nil kept)), w)
+  sift_does c xs q es bs out all (v ∷ vs) done b kept m fx fc e n w =
+      let keep_asm = both (expr_asm q c 0) (one q (op.LoopKeep 0)) in
+      let turn = code (turn_asm q xs keep_asm) in
+      let later = turns turn (length vs) in
+      let fs = framed all (suc b) kept es in
+      let rest = λ (r : Valued) (x : Listed). gives (if tree.truth r.value then in_front v x else x) in
+      same_run q (KeptItems out) (SiftedOn all kept es bs) _ (and_then (code (take_asm q xs) (at_bufs (value v ∷ fs) bs m)) (λ s. and_then (code keep_asm s) later)) _
+      (goes_round turn all done vs v b kept es bs m (length vs) e n
+      ∙ ap (λ s. and_then (and_then (and_then s (code (take_asm q xs))) (code keep_asm)) later) (item_got all done vs v b kept q es bs m e n)
+      ∙ and_then_assoc (code (take_asm q xs) (at_bufs (value v ∷ fs) bs m)) (code keep_asm) later)
+      (then_does q (Kept out) (at_bufs fs bs) (KeptItems out) (SiftedOn all kept es bs) (code (take_asm q xs) (at_bufs (value v ∷ fs) bs m)) (take xs v m) (λ s. and_then (code keep_asm s) later)
+      (λ x. bind (Means c None x) (λ r. bind (Sifts c xs vs r.memory) (rest r)))
+      (take_does xs v q fs bs out m fx w)
+      (λ x w1.
+      same_run q (KeptItems out) (SiftedOn all kept es bs) _ (and_then (code (expr_asm q c 0) (at_bufs fs bs x)) (λ s. and_then (code (one q (op.LoopKeep 0)) s) later)) _ (and_then_assoc (code (expr_asm q c 0) (at_bufs fs bs x)) (code (one q (op.LoopKeep 0))) later)
+      (then_does q (KeptValue out) (ValueOn fs bs) (KeptItems out) (SiftedOn all kept es bs) (code (expr_asm q c 0) (at_bufs fs bs x)) (Means c None x) (λ s. and_then (code (one q (op.LoopKeep 0)) s) later) (λ r. bind (Sifts c xs vs r.memory) (rest r))
+      (expr_does c q false 0 None fs bs out x fc tt w1)
+      (λ r w2.
+      let kept' = if tree.truth r.value then kept ++ v ∷ [] else kept in
+      same_run q (KeptItems out) (SiftedOn all kept es bs) _ (later (at_bufs (framed all (suc b) kept' es) bs r.memory)) _ (ap (λ s. and_then s later) (item_kept all v b kept r.value q es bs r.memory (current_is all done vs v b e n)))
+      (mapped_does q (KeptItems out) (SiftedOn all kept' es bs) (KeptItems out) (SiftedOn all kept es bs) (later (at_bufs (framed all (suc b) kept' es) bs r.memory)) (Sifts c xs vs r.memory) (λ y. if tree.truth r.value then in_front v y else y)
+      (sift_does c xs q es bs out all vs (done ++ v ∷ []) (suc b) kept' r.memory fx fc (e ∙ sym (append_assoc done (v ∷ []) vs)) (omega (arith, n, length-append done (v ∷ []))) w2)
+      (λ y w3. (one_more (tree.truth r.value) all kept v es bs y, one_more_kept (tree.truth r.value) v out y w3)))))))
+
+  keep_does : (c : Option (SExpr ℕ)) (xs : Targets) (q : Option Place) (es : List Entry) (bs : List (List ℕ)) (out : Text) (vs : List Tree) (m : Memory) → TargetsFit p count xs → ConditionFits p count c → Kept out m
+      → Does q (KeptItems out) (LoopOn es bs) (code (kept_asm q xs c) (at_bufs (frame (loop_over vs) ∷ es) bs m)) (skept filters (tree_at p.pool) call c xs vs m)
+  keep_does None xs q es bs out vs m fx fc w = (refl, w)
+  keep_does (Some c) xs q es bs out vs m fx fc w =
+      let turn = code (turn_asm q xs (both (expr_asm q c 0) (one q (op.LoopKeep 0)))) in
+      let left : length vs - 0 ≡ length vs = omega arith in
+      finished q (KeptItems out) (SiftedOn vs [] es bs) (LoopOn es bs) (code (each (turn_asm q xs (both (expr_asm q c 0) (one q (op.LoopKeep 0))))) (at_bufs (frame (loop_over vs) ∷ es) bs m)) (Sifts c xs vs m) (code (one q op.LoopRewind))
+      (same_run q (KeptItems out) (SiftedOn vs [] es bs) _ (turns turn (length vs) (at_bufs (framed vs 0 [] es) bs m)) (Sifts c xs vs m) (ap (λ j. turns turn j (at_bufs (framed vs 0 [] es) bs m)) left)
+      (sift_does c xs q es bs out vs vs [] 0 [] m fx fc refl refl w))
+      (λ x w1. refl)
+
+  begin_does : (r : Result Items Fault) (q : Option Place) (es : List Entry) (bs : List (List ℕ)) (m : Memory) (fs : List Entry) (inv : Listed → Type 0) (to : Listed → State) (g : State → Ran) (f : List Tree → Got Listed)
+      → ((vs : List Tree) → Does q inv to (g (at_bufs (frame (loop_over vs) ∷ es) bs m)) (f vs)) → Does q inv to (and_then (of_plain q (begins r es (at_bufs fs bs m))) g) (bind (checked (result_listed r)) f)
+  begin_does (Ok ts) q es bs m fs inv to g f h = subst (λ vs. Does q inv to (g (at_bufs (frame (loop_over (trees_of ts)) ∷ es) bs m)) (f vs)) (listed_same ts) (h (trees_of ts))
+  begin_does (Err e) q es bs m fs inv to g f h = refl
+
+  -- ---- statements
+
+  abbrev MeansStmt : SStmt ℕ → Option Loop → Memory → Got Memory
+  MeansStmt s l m = smeaning filters (tree_at p.pool) call s l m
+
+  abbrev MeansBody : SBody ℕ → Option Loop → Memory → Got Memory
+  MeansBody b l m = smeanings filters (tree_at p.pool) call b l m
+
+  kept_of : (m : Memory) → Sized m → Kept m.out m
+  kept_of m w = record { locals = w.locals; globals = w.globals; text = refl }
+
+  sized_of : (out : Text) (m : Memory) → Kept out m → Sized m
+  sized_of out m w = record { locals = w.locals; globals = w.globals }
+
+  -- the text so far is that of the memory
+  settled : (es : List Entry) (pre : Text) (bufs : List (List ℕ)) (out : Text) (m : Memory) → Kept out m → at_bufs es ((pre ++ out) ∷ bufs) m ≡ at_memory es pre bufs m
+  settled es pre bufs out m w = ap (λ t. at_bufs es ((pre ++ t) ∷ bufs) m) (sym w.text)
+
+  put_runs : (s : Text) (es : List Entry) (pre : Text) (bufs : List (List ℕ)) (m : Memory) → does (at_bufs es (((pre ++ m.out) ++ s) ∷ bufs) m) ≡ does (at_memory es pre bufs (put_text m s))
+  put_runs s es pre bufs m = ap (λ t. does (at_bufs es (t ∷ bufs) m)) (append_assoc pre m.out s)
+
+  printed_does : (escaping : Bool) (t : Option Text) (q : Option Place) (es : List Entry) (pre : Text) (bufs : List (List ℕ)) (m : Memory) → Sized m
+      → Does q Sized (at_memory es pre bufs) (of_plain q (put_printed (if escaping then option_map escaped t else t) (at_memory es pre bufs m))) (bind (shown_text escaping t) (λ s. gives (put_text m s)))
+  printed_does true None q es pre bufs m w = refl
+  printed_does true (Some s) q es pre bufs m w = (put_runs (escaped s) es pre bufs m, record { locals = w.locals; globals = w.globals })
+  printed_does false None q es pre bufs m w = refl
+  printed_does false (Some s) q es pre bufs m w = (put_runs s es pre bufs m, record { locals = w.locals; globals = w.globals })
+
+  shown_does : (escaping : Bool) (v : Tree) (q : Option Place) (es : List Entry) (pre : Text) (bufs : List (List ℕ)) (m : Memory) → Sized m
+      → Does q Sized (at_memory es pre bufs) (of_plain q (put_printed (step.shown (eqb (flag escaping) 1) v) (at_memory es pre bufs m))) (bind (shown escaping v) (λ s. gives (put_text m s)))
+  shown_does true (tree.markup s) q es pre bufs m w = (put_runs s es pre bufs m, record { locals = w.locals; globals = w.globals })
+  shown_does false (tree.markup s) q es pre bufs m w = (put_runs s es pre bufs m, record { locals = w.locals; globals = w.globals })
+  shown_does true v q es pre bufs m w = printed_does true (tree.printed v) q es pre bufs m w
+  shown_does false v q es pre bufs m w = printed_does false (tree.printed v) q es pre bufs m w
+
+  -- the turns of a loop
+  rounds_do : (xs : Targets) (tag : Place) (body : Asm) (means : Option Loop → Memory → Got Memory) (es : List Entry) (pre : Text) (bufs : List (List ℕ)) (all : List Tree) → TargetsFit p count xs
+      → ((b : ℕ) (m : Memory) → suc b ≤ length all → Sized m → Does None Sized (at_memory (framed all (suc b) [] es) pre bufs) (code body (at_memory (framed all (suc b) [] es) pre bufs m)) (means (Some (record { items = all; before = b })) m))
+      → (vs done : List Tree) (b : ℕ) (m : Memory) → all ≡ done ++ vs → b ≡ length done → Sized m
+      → Does None Sized (at_memory (framed all (length all) [] es) pre bufs) (turns (code (turn_asm (Some tag) xs body)) (length vs) (at_memory (framed all b [] es) pre bufs m)) (sturns means xs tag all b vs m)
+  rounds_do xs tag body means es pre bufs all fx hb [] done b m e n w = (is_over (code (turn_asm (Some tag) xs body)) all done b [] es ((pre ++ m.out) ∷ bufs) m e n, w)
+  rounds_do xs tag body means es pre bufs all fx hb (v ∷ vs) done b m e n w =
+      let q = Some tag in
+      let turn = code (turn_asm q xs body) in
+      let later = turns turn (length vs) in
+      let fs = framed all (suc b) [] es in
+      let bs = (pre ++ m.out) ∷ bufs in
+      let to = at_memory (framed all (length all) [] es) pre bufs in
+      same_run None Sized to _ (and_then (code (take_asm q xs) (at_bufs (value v ∷ fs) bs m)) (λ s. and_then (code body s) later)) _
+      (goes_round turn all done vs v b [] es bs m (length vs) e n
+      ∙ ap (λ s. and_then (and_then (and_then s (code (take_asm q xs))) (code body)) later) (item_got all done vs v b [] q es bs m e n)
+      ∙ and_then_assoc (code (take_asm q xs) (at_bufs (value v ∷ fs) bs m)) (code body) later)
+      (then_does None Sized (at_memory fs pre bufs) Sized to (code (take_asm q xs) (at_bufs (value v ∷ fs) bs m)) (at tag (take xs v m)) (λ s. and_then (code body s) later)
+      (λ x. bind (means (Some (record { items = all; before = b })) x) (sturns means xs tag all (suc b) vs))
+      (placed tag Sized (at_memory fs pre bufs) (code (take_asm q xs) (at_bufs (value v ∷ fs) bs m)) (take xs v m)
+      (carried q (Kept m.out) (at_bufs fs bs) Sized (at_memory fs pre bufs) (code (take_asm q xs) (at_bufs (value v ∷ fs) bs m)) (take xs v m) (take_does xs v q fs bs m.out m fx (kept_of m w)) (λ x w1. (settled fs pre bufs m.out x w1, sized_of m.out x w1))))
+      (λ x w1.
+      then_does None Sized (at_memory fs pre bufs) Sized to (code body (at_memory fs pre bufs x)) (means (Some (record { items = all; before = b })) x) later (sturns means xs tag all (suc b) vs)
+      (hb b x (omega (arith, n, ap length e, length-append done (v ∷ vs))) w1)
+      (λ y w2. rounds_do xs tag body means es pre bufs all fx hb vs (done ++ v ∷ []) (suc b) y (e ∙ sym (append_assoc done (v ∷ []) vs)) (omega (arith, n, length-append done (v ∷ []))) w2)))
+
+  -- the turns, or the other part
+  over_does : (xs : Targets) (tag : Place) (body other : Asm) (means : Option Loop → Memory → Got Memory) (otherwise : Memory → Got Memory) (es : List Entry) (pre : Text) (bufs : List (List ℕ)) → TargetsFit p count xs
+      → ((all : List Tree) (b : ℕ) (m : Memory) → suc b ≤ length all → Sized m → Does None Sized (at_memory (framed all (suc b) [] es) pre bufs) (code body (at_memory (framed all (suc b) [] es) pre bufs m)) (means (Some (record { items = all; before = b })) m))
+      → ((m : Memory) → Sized m → Does None Sized (at_memory es pre bufs) (code other (at_memory es pre bufs m)) (otherwise m))
+      → (vs : List Tree) (m : Memory) → Sized m → Does None Sized (at_memory es pre bufs) (code (over_asm (Some tag) xs body other) (at_memory (frame (loop_over vs) ∷ es) pre bufs m)) (sgone_over means otherwise xs tag vs m)
+  over_does xs tag body other means otherwise es pre bufs fx hb ho [] m w = ho m w
+  over_does xs tag body other means otherwise es pre bufs fx hb ho (v ∷ vs) m w =
+      let q = Some tag in
+      let all = v ∷ vs in
+      let turn = code (turn_asm q xs body) in
+      let left : length all - 0 ≡ length all = omega arith in
+      let none : (length all == 0) ≡ false = eq_false (length all) 0 (omega arith) in
+      finished None Sized (at_memory (framed all (length all) [] es) pre bufs) (at_memory es pre bufs) (code (each (turn_asm q xs body)) (at_memory (frame (loop_over all) ∷ es) pre bufs m)) (sturns means xs tag all 0 all m) (code (both (one q op.LoopEnd) (choose other nil)))
+      (same_run None Sized (at_memory (framed all (length all) [] es) pre bufs) _ (turns turn (length all) (at_memory (framed all 0 [] es) pre bufs m)) (sturns means xs tag all 0 all m) (ap (λ j. turns turn j (at_memory (framed all 0 [] es) pre bufs m)) left)
+      (rounds_do xs tag body means es pre bufs all fx (hb all) all [] 0 m refl refl w))
+      (λ x w1. ap (λ t. if t then code other (at_memory es pre bufs x) else does (at_memory es pre bufs x)) none)
+
+  -- what a capture leaves
+  closed : (escaping : Bool) (s : Slot) (es : List Entry) (pre : Text) (bufs : List (List ℕ)) (out : Text) (m : Memory) → SlotFits p count s → Sized m
+      → (code (both (one None (op.CaptureEnd (flag escaping))) (one None (store_of s))) (at_memory (capture ∷ es) [] ((pre ++ out) ∷ bufs) m) ≡ does (at_memory es pre bufs (store s (as_value escaping m.out) (record m { out = out }))))
+      × Sized (store s (as_value escaping m.out) (record m { out = out }))
+  closed escaping s es pre bufs out m fit w =
+      let m' = record m { out = out } in
+      let d = store_does s (as_value escaping m.out) None es ((pre ++ out) ∷ bufs) out m' fit (record { locals = w.locals; globals = w.globals; text = refl }) in
+      let st = store s (as_value escaping m.out) m' in
+      (ended escaping ∙ d.0 ∙ ap does (settled es pre bufs out st d.1), sized_of out st d.1)
+    where
+      ended : (b : Bool) → code (both (one None (op.CaptureEnd (flag b))) (one None (store_of s))) (at_memory (capture ∷ es) [] ((pre ++ out) ∷ bufs) m) ≡ code (one None (store_of s)) (at_bufs (value (as_value b m.out) ∷ es) ((pre ++ out) ∷ bufs) m)
+      ended true = refl
+      ended false = refl
+
+  -- what a called routine printed
+  printed_by : (g : Got Written) (es : List Entry) (pre : Text) (bufs : List (List ℕ)) (out : Text) (m : Memory) → Keeps p.globals g → Kept out m
+      → Does None Sized (at_memory es pre bufs) (of_written None g es m.locals (pre ++ out) bufs) (bind g (λ w. gives (record m { globals = w.globals; out = m.out ++ w.text })))
+  printed_by (gives w) es pre bufs out m fit h =
+      (ap (λ t. does (record { entries = es; locals = m.locals; globals = w.globals; buffers = t ∷ bufs })) (append_assoc pre out w.text ∙ ap (λ t. pre ++ (t ++ w.text)) (sym h.text)), record { locals = h.locals; globals = fit })
+  printed_by (fails e None) es pre bufs out m fit h = refl
+  printed_by (fails e (Some s)) es pre bufs out m fit h = refl
+  printed_by deeper es pre bufs out m fit h = refl
+
+  mutual
+    pub stmt_does : (s : SStmt ℕ) (inside : Bool) (h : ℕ) (l : Option Loop) (es : List Entry) (pre : Text) (bufs : List (List ℕ)) (m : Memory) → StmtFits p count inside s → FrameAt inside h es l → Sized m
+        → Does None Sized (at_memory es pre bufs) (code (stmt_asm s h) (at_memory es pre bufs m)) (MeansStmt s l m)
+    stmt_does (slots.put_pooled i) inside h l es pre bufs m fit fr w =
+        (ap (λ t. does (at_bufs es (((pre ++ m.out) ++ t) ∷ bufs) m)) (has.texts i) ∙ put_runs (bytes_of (tree_at p.pool i)) es pre bufs m, record { locals = w.locals; globals = w.globals })
+    stmt_does (slots.print tag escaping e) inside h l es pre bufs m fit fr w =
+        let bs = (pre ++ m.out) ∷ bufs in
+        let emit = code (one (Some tag) (op.Emit (flag escaping))) in
+        placed tag Sized (at_memory es pre bufs) (code (stmt_asm (slots.print tag escaping e) h) (at_memory es pre bufs m)) (bind (Means e l m) (λ r. bind (shown escaping r.value) (λ s. gives (put_text r.memory s))))
+        (then_does (Some tag) (KeptValue m.out) (ValueOn es bs) Sized (at_memory es pre bufs) (code (expr_asm (Some tag) e h) (at_bufs es bs m)) (Means e l m) emit (λ r. bind (shown escaping r.value) (λ s. gives (put_text r.memory s)))
+        (expr_does e (Some tag) inside h l es bs m.out m fit fr (kept_of m w))
+        (λ r w1.
+        same_run (Some tag) Sized (at_memory es pre bufs) _ (of_plain (Some tag) (put_printed (step.shown (eqb (flag escaping) 1) r.value) (at_memory es pre bufs r.memory))) (bind (shown escaping r.value) (λ s. gives (put_text r.memory s)))
+        (ap (λ x. of_plain (Some tag) (put_printed (step.shown (eqb (flag escaping) 1) r.value) x)) (settled es pre bufs m.out r.memory w1))
+        (shown_does escaping r.value (Some tag) es pre bufs r.memory (sized_of m.out r.memory w1))))
+    stmt_does (slots.assign tag xs e) inside h l es pre bufs m fit fr w =
+        let bs = (pre ++ m.out) ∷ bufs in
+        placed tag Sized (at_memory es pre bufs) (code (stmt_asm (slots.assign tag xs e) h) (at_memory es pre bufs m)) (bind (Means e l m) (λ r. take xs r.value r.memory))
+        (then_does (Some tag) (KeptValue m.out) (ValueOn es bs) Sized (at_memory es pre bufs) (code (expr_asm (Some tag) e h) (at_bufs es bs m)) (Means e l m) (code (take_asm (Some tag) xs)) (λ r. take xs r.value r.memory)
+        (expr_does e (Some tag) inside h l es bs m.out m fit.1 fr (kept_of m w))
+        (λ r w1. carried (Some tag) (Kept m.out) (at_bufs es bs) Sized (at_memory es pre bufs) (code (take_asm (Some tag) xs) (at_bufs (value r.value ∷ es) bs r.memory)) (take xs r.value r.memory)
+        (take_does xs r.value (Some tag) es bs m.out r.memory fit.0 w1) (λ x w2. (settled es pre bufs m.out x w2, sized_of m.out x w2))))
+    stmt_does (slots.if_else tag c a b) inside h l es pre bufs m fit fr w =
+        let bs = (pre ++ m.out) ∷ bufs in
+        let to = at_memory es pre bufs in
+        then_does None (KeptValue m.out) (ValueOn es bs) Sized to (code (expr_asm (Some tag) c h) (at_bufs es bs m)) (at tag (Means c l m)) (code (choose (body_asm a h) (body_asm b h))) (λ r. if tree.truth r.value then MeansBody a l r.memory else MeansBody b l r.memory)
+        (placed tag (KeptValue m.out) (ValueOn es bs) (code (expr_asm (Some tag) c h) (at_bufs es bs m)) (Means c l m) (expr_does c (Some tag) inside h l es bs m.out m fit.0 fr (kept_of m w)))
+        (λ r w1.
+        let same = settled es pre bufs m.out r.memory w1 in
+        either (tree.truth r.value) None Sized to (code (body_asm a h) (at_bufs es bs r.memory)) (code (body_asm b h) (at_bufs es bs r.memory)) (MeansBody a l r.memory) (MeansBody b l r.memory)
+        (same_run None Sized to _ (code (body_asm a h) (at_memory es pre bufs r.memory)) (MeansBody a l r.memory) (ap (code (body_asm a h)) same) (body_does a inside h l es pre bufs r.memory fit.1 fr (sized_of m.out r.memory w1)))
+        (same_run None Sized to _ (code (body_asm b h) (at_memory es pre bufs r.memory)) (MeansBody b l r.memory) (ap (code (body_asm b h)) same) (body_does b inside h l es pre bufs r.memory fit.2 fr (sized_of m.out r.memory w1))))
+    stmt_does (slots.for_each tag xs e c body other) inside h l es pre bufs m fit fr w =
+        let q = Some tag in
+        let bs = (pre ++ m.out) ∷ bufs in
+        let to = at_memory es pre bufs in
+        let first = both (expr_asm q e h) (both (one q op.LoopStart) (kept_asm q xs c)) in
+        let over = over_asm q xs (body_asm body 0) (body_asm other h) in
+        let items = λ (r : Valued). bind (checked (items_of_value r.value)) (λ vs. skept filters (tree_at p.pool) call c xs vs r.memory) in
+        then_does None (KeptItems m.out) (LoopOn es bs) Sized to (code first (at_bufs es bs m)) (at tag (bind (Means e l m) items)) (code over) (λ x. sgone_over (MeansBody body) (MeansBody other l) xs tag x.values x.memory)
+        (placed tag (KeptItems m.out) (LoopOn es bs) (code first (at_bufs es bs m)) (bind (Means e l m) items)
+        (then_does q (KeptValue m.out) (ValueOn es bs) (KeptItems m.out) (LoopOn es bs) (code (expr_asm q e h) (at_bufs es bs m)) (Means e l m) (code (both (one q op.LoopStart) (kept_asm q xs c))) items
+        (expr_does e q inside h l es bs m.out m fit.1 fr (kept_of m w))
+        (λ r w1. begin_does (items_of_tree r.value) q es bs r.memory (value r.value ∷ es) (KeptItems m.out) (LoopOn es bs) (code (kept_asm q xs c)) (λ vs. skept filters (tree_at p.pool) call c xs vs r.memory)
+        (λ vs. keep_does c xs q es bs m.out vs r.memory fit.0 fit.2 w1))))
+        (λ x w1.
+        same_run None Sized to _ (code over (at_memory (frame (loop_over x.values) ∷ es) pre bufs x.memory)) (sgone_over (MeansBody body) (MeansBody other l) xs tag x.values x.memory) (ap (code over) (settled (frame (loop_over x.values) ∷ es) pre bufs m.out x.memory w1))
+        (over_does xs tag (body_asm body 0) (body_asm other h) (MeansBody body) (MeansBody other l) es pre bufs fit.0
+        (λ all b y lt w2. body_does body true 0 (Some (record { items = all; before = b })) (framed all (suc b) [] es) pre bufs y fit.3 (record { items = all; position = suc b; kept = [] }, refl, record { before = b; loop = refl; position = refl; within = lt }) w2)
+        (λ y w2. body_does other inside h l es pre bufs y fit.4 fr w2)
+        x.values x.memory (sized_of m.out x.memory w1)))
+    stmt_does (slots.capture escaping s body) inside h l es pre bufs m fit fr w =
+        let m0 = record m { out = [] } in
+        then_gives None Sized (at_memory (capture ∷ es) [] ((pre ++ m.out) ∷ bufs)) Sized (at_memory es pre bufs) (code (body_asm body (suc h)) (at_memory (capture ∷ es) [] ((pre ++ m.out) ∷ bufs) m0)) (MeansBody body l m0)
+        (code (both (one None (op.CaptureEnd (flag escaping))) (one None (store_of s)))) (λ n. store s (as_value escaping n.out) (record n { out = m.out }))
+        (body_does body inside (suc h) l (capture ∷ es) [] ((pre ++ m.out) ∷ bufs) m0 fit.1 (raise inside h capture es l fr) (record { locals = w.locals; globals = w.globals }))
+        (λ n w1. closed escaping s es pre bufs m.out n fit.0 w1)
+    stmt_does (slots.run u r) inside h l es pre bufs m fit fr w =
+        let bs = (pre ++ m.out) ∷ bufs in
+        let text = λ (y : Listed). bind (call u y.values y.memory.globals) (λ g. gives (record y.memory { globals = g.globals; out = y.memory.out ++ g.text })) in
+        then_does None (KeptRow m.out (row_count r)) (RowOn es bs) Sized (at_memory es pre bufs) (code (row_asm None r h) (at_bufs es bs m)) (MeansRow r l m) (code (invoke None u)) text
+        (row_does r None inside h l es bs m.out m fit.1 fr (kept_of m w))
+        (λ y j.
+        same_run None Sized (at_memory es pre bufs) _ (of_written None (call u y.values y.memory.globals) es y.memory.locals (pre ++ m.out) bufs) (text y)
+        (call_runs u (row_count r) y.values None es (pre ++ m.out) bufs y.memory fit.0 j.1 j.0.globals)
+        (printed_by (call u y.values y.memory.globals) es pre bufs m.out y.memory (keep u y.values y.memory.globals j.0.globals) j.0))
+
+    pub body_does : (b : SBody ℕ) (inside : Bool) (h : ℕ) (l : Option Loop) (es : List Entry) (pre : Text) (bufs : List (List ℕ)) (m : Memory) → BodyFits p count inside b → FrameAt inside h es l → Sized m
+        → Does None Sized (at_memory es pre bufs) (code (body_asm b h) (at_memory es pre bufs m)) (MeansBody b l m)
+    body_does slots.end inside h l es pre bufs m fit fr w = (refl, w)
+    body_does (slots.stmt s rest) inside h l es pre bufs m fit fr w =
+        then_does None Sized (at_memory es pre bufs) Sized (at_memory es pre bufs) (code (stmt_asm s h) (at_memory es pre bufs m)) (MeansStmt s l m) (code (body_asm rest h)) (MeansBody rest l)
+        (stmt_does s inside h l es pre bufs m fit.0 fr w) (λ n w1. body_does rest inside h l es pre bufs n fit.1 fr w1)
