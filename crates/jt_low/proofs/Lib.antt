@@ -1,3 +1,4 @@
 pub mod Told
 pub mod Does
 pub mod Lowered
+pub mod Follows
