@@ -2,3 +2,5 @@ pub mod Told
 pub mod Does
 pub mod Lowered
 pub mod Follows
+pub mod Over
+pub mod Correct

@@ -171,6 +171,17 @@ pub raise : (inside : Bool) (h : ℕ) (e : Entry) (es : List Entry) (l : Option 
 raise false h e es l f = tt
 raise true h e es l f = f
 
+-- the memory of a routine: so many locals, and as many globals as the program has
+pub record SizedIn (p : Program) (count : ℕ) (m : Memory) : Type 0 where
+  pub locals : length m.locals ≡ count
+  pub globals : length m.globals ≡ p.globals
+
+-- and with this text
+pub record KeptIn (p : Program) (count : ℕ) (out : Text) (m : Memory) : Type 0 where
+  pub locals : length m.locals ≡ count
+  pub globals : length m.globals ≡ p.globals
+  pub text : m.out ≡ out
+
 wrong_count : (ss : List (Option Slot)) (vs : List Tree) (m : Memory) → length vs ≢ length ss → store_each ss vs m ≡ fails faults.Unpack None
 wrong_count [] [] m h = absurd (h refl)
 wrong_count [] (v ∷ vs) m h = refl
@@ -184,15 +195,11 @@ module _ (filters : Filters) (p : Program) (call : SCalls) (has : HasPool (compi
   abbrev code : Asm → State → Ran
   code a s = run k call a s
 
-  -- the memory of a routine: so many locals and globals, and this text
-  pub record Kept (out : Text) (m : Memory) : Type 0 where
-    pub locals : length m.locals ≡ count
-    pub globals : length m.globals ≡ p.globals
-    pub text : m.out ≡ out
+  abbrev Kept : Text → Memory → Type 0
+  Kept out m = KeptIn p count out m
 
-  pub record Sized (m : Memory) : Type 0 where
-    pub locals : length m.locals ≡ count
-    pub globals : length m.globals ≡ p.globals
+  abbrev Sized : Memory → Type 0
+  Sized m = SizedIn p count m
 
   abbrev KeptValue : Text → Valued → Type 0
   KeptValue out r = Kept out r.memory
