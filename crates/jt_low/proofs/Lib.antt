@@ -4,3 +4,4 @@ pub mod Lowered
 pub mod Follows
 pub mod Over
 pub mod Correct
+pub mod Typed
