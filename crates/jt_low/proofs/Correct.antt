@@ -24,9 +24,9 @@ use Rattle.jt_breadth.specs.Trees.{Text}
 use Rattle.jt_breadth.specs.Filters.{Filters}
 use Rattle.jt_breadth.specs.Loops.{tree_at}
 use Rattle.jt_breadth.specs.Slots.{Routine, Program, Memory, Written, SCalls, smeanings, sperformed, scalls, globals_of, smean}
-use Rattle.jt_low.specs.Asm.{flat, Ran, does, of_written, run}
+use Rattle.jt_low.specs.Asm.{flat, Ran, of_written, run}
 use Rattle.jt_low.specs.Lower.{body_asm, unit_of, constant_of, numbered, compiled}
-use Rattle.jt_low.specs.Fits.{RoutineFits, IsPooled, ProgramFits}
+use Rattle.jt_low.specs.Fits.{IsPooled, ProgramFits}
 use Rattle.jt_low.proofs.Does.{Does}
 use Rattle.jt_low.proofs.Lowered.{at_memory, HasPool, Keeps, CallsKeep, SizedIn, body_does}
 use Rattle.jt_low.proofs.Follows.{HasAt, has_front, has_back, machine, Comes, Reaches, fetched, step, CallsRun, flat_runs}

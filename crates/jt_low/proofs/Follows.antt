@@ -1,19 +1,19 @@
 -- The machine follows code whose jumps stand in pairs.
-use Rattle.std.proofs.Common.{◌≡◌, ℕ, zero, suc, ◌+◌, ◌-◌, ◌<◌, ◌≤◌, List, [], ◌∷◌, ◌++◌, length, Option, Some, None, Bool, true, false, if◌then◌else◌, refl, ap, ◌∙◌, subst, arith, length-append}
+use Rattle.std.proofs.Common.{◌≡◌, ℕ, zero, suc, ◌+◌, ◌<◌, ◌≤◌, List, [], ◌∷◌, ◌++◌, length, Option, Some, None, Bool, true, false, if◌then◌else◌, refl, ap, ◌∙◌, subst, arith, length-append}
 use Rattle.std.specs.Prelude.{slice_get, nat_lt, ◌==◌}
 use Rattle.std.proofs.lemmas.Bool.Decides.{nat_tests}
 use Rattle.jt_value.specs.Tree.{Tree, truth}
 use Rattle.jt_image.specs.declared.instruction.Instruction.{Instruction}
 use Rattle.jt_image.specs.declared.instruction.Instruction.TheVariants as op
 use Rattle.jt_image.specs.Code.{Section, Code}
-use Rattle.jt_image.specs.Config.{Frame, Entry, value, frame, capture, State, Caller, Machine}
+use Rattle.jt_image.specs.Config.{Entry, value, frame, capture, State, Caller, Machine}
 use Rattle.jt_image.specs.Loops.{advanced}
-use Rattle.jt_image.specs.Step.{Plain, goes, faults_by, broken, plain, on_value, on_values, on_frame, with_entries, Action, goes_on, wrong, straight, no_demand, calling, at_point, turns as next_of, locals_of, entered, calls_unit, action, fetch}
+use Rattle.jt_image.specs.Step.{Plain, goes, faults_by, broken, plain, on_value, on_values, on_frame, with_entries, goes_on, wrong, straight, no_demand, calling, locals_of, entered, calls_unit, action, fetch}
 use Rattle.jt_image.specs.FreeRun.{Failed, Going, on_action, exec_at, exec}
-use Rattle.jt_scopes.specs.Got.{Place, Got, gives, fails, deeper}
+use Rattle.jt_scopes.specs.Got.{Place}
 use Rattle.jt_breadth.specs.Trees.{Text}
-use Rattle.jt_breadth.specs.Slots.{Written, SCalls}
-use Rattle.jt_low.specs.Asm.{Asm, nil, one, both, choose, each, invoke, flat, Ran, does, stops, too_deep, bad, and_then, place_or, of_plain, next_turn, turns, turns_left, of_written, into_buffers, called, run}
+use Rattle.jt_breadth.specs.Slots.{SCalls}
+use Rattle.jt_low.specs.Asm.{Asm, nil, one, both, choose, each, invoke, flat, Ran, does, stops, too_deep, bad, and_then, of_plain, turns, turns_left, of_written, into_buffers, called, run}
 
 -- the instructions stand in the code at this point
 abbrev pub HasAt : List Instruction → ℕ → List Instruction → Type 0

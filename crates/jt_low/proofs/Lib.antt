@@ -5,3 +5,4 @@ pub mod Follows
 pub mod Over
 pub mod Correct
 pub mod Typed
+pub mod Whole

@@ -1,5 +1,5 @@
 -- The code of a resolved program does what the program means.
-use Rattle.std.proofs.Common.{◌≡◌, ◌≢◌, ℕ, zero, suc, ◌+◌, ◌-◌, ◌*◌, ◌<◌, ◌≤◌, Bool, arith, Result, Ok, Err, append-nil, append_assoc, true, false, if◌then◌else◌, eqb, List, [], ◌∷◌, ◌++◌, length, map, Option, Some, None, refl, sym, ap, ◌∙◌, subst, length-append}
+use Rattle.std.proofs.Common.{◌≡◌, ◌≢◌, ℕ, zero, suc, ◌+◌, ◌-◌, ◌*◌, ◌<◌, ◌≤◌, Bool, arith, Result, Ok, Err, append-nil, append_assoc, true, false, if◌then◌else◌, eqb, List, [], ◌∷◌, ◌++◌, length, Option, Some, None, refl, sym, ap, ◌∙◌, subst, length-append}
 use Rattle.std.specs.Prelude.{slice_get, slice_set, ◌==◌, nat_lt, unwrap_or}
 use Rattle.std.specs.Option.{option_map}
 use Rattle.std.proofs.lemmas.Bool.Decides.{nat_tests}
@@ -13,9 +13,9 @@ use Rattle.jt_value.specs.declared.fault.Fault.TheVariants as faults
 use Rattle.jt_escape.specs.Escaping.{escaped}
 use Rattle.jt_image.specs.declared.instruction.Instruction.TheVariants as op
 use Rattle.jt_image.specs.declared.loop_field.LoopField.TheVariants as of_loop
-use Rattle.jt_image.specs.Code.{Section, Code}
+use Rattle.jt_image.specs.Code.{Code}
 use Rattle.jt_image.specs.Config.{Frame, Entry, value, frame, capture, State}
-use Rattle.jt_image.specs.Loops.{trees_of, loop_over, item_at, keeping, told, field_of, field_id}
+use Rattle.jt_image.specs.Loops.{trees_of, loop_over, item_at, field_of, field_id}
 use Rattle.jt_image.specs.Step as step
 use Rattle.jt_image.specs.Ids.{operator_of, operands_of, test_of}
 use Rattle.jt_image.specs.Step.{Plain, broken, goes, plain, as_frame, on_values, push, push_given, told_by, piled, spreads, unpacks, begins, makes, operated, tested_by, with_entries, put_printed, constant_value, text_of}
@@ -33,14 +33,14 @@ use Rattle.jt_scopes.specs.Slots.{bytes_of}
 use Rattle.jt_breadth.specs.Trees.{Text}
 use Rattle.jt_breadth.specs.Filters.{Filters}
 use Rattle.jt_breadth.specs.Around.{as_value}
-use Rattle.jt_breadth.specs.Loops.{Field, Loop, result_listed, items_listed, items_of_value, tree_at, loop_field}
+use Rattle.jt_breadth.specs.Loops.{Field, Loop, result_listed, items_of_value, tree_at, loop_field}
 use Rattle.jt_breadth.specs.Slots as slots
 use Rattle.jt_breadth.specs.Slots.{Slot, local, global, Maker, SExpr, SRow, Targets, SStmt, SBody, Routine, Program, Memory, Valued, Listed, Written, SCalls, load, put_at, store, store_if, store_each, take, make, valued, sturns, sgone_over, in_front, svalue, svalues, skept, smeaning, smeanings}
-use Rattle.jt_low.specs.Asm.{Asm, nil, one, both, choose, each, invoke, Ran, does, stops, too_deep, bad, and_then, place_or, of_plain, next_turn, turns, turns_left, of_written, into_buffers, called, run}
+use Rattle.jt_low.specs.Asm.{Asm, nil, one, both, choose, each, invoke, Ran, does, bad, and_then, of_plain, turns, of_written, into_buffers, called, run}
 use Rattle.jt_low.specs.Lower.{row_count, half, maker, told_as, flag, load_of, store_of, expr_asm, row_asm, store_if_of, stores_asm, take_asm, turn_asm, over_asm, kept_asm, stmt_asm, body_asm, unit_of, compiled}
-use Rattle.jt_low.specs.Fits.{MakerFits, TakesRow, SlotFits, ExprFits, RowFits, SomeFits, SlotsFit, TargetsFit, ConditionFits, TextFits, StmtFits, BodyFits}
+use Rattle.jt_low.specs.Fits.{MakerFits, TakesRow, SlotFits, ExprFits, RowFits, SomeFits, SlotsFit, TargetsFit, ConditionFits, StmtFits, BodyFits}
 use Rattle.jt_low.proofs.Told.{listed_same, has_field, IsTurn, told_same}
-use Rattle.jt_low.proofs.Does.{Does, same_run, same_meaning, then_does, then_gives, finished, carried, mapped_does, placed, either, and_then_assoc, bind_assoc}
+use Rattle.jt_low.proofs.Does.{Does, same_run, same_meaning, then_does, then_gives, finished, carried, mapped_does, placed, either, and_then_assoc}
 
 -- the state with the variables of a memory
 abbrev pub at_bufs : List Entry → List (List ℕ) → Memory → State

@@ -1,14 +1,11 @@
 -- Code whose jumps stand in pairs is typed, and so is a program's.
-use Rattle.std.proofs.Common.{◌≡◌, ℕ, zero, suc, ◌+◌, ◌*◌, ◌<◌, ◌≤◌, List, [], ◌∷◌, ◌++◌, length, map, Option, Some, None, Result, Ok, Bool, true, false, refl, sym, ap, ◌∙◌, subst, arith, append_assoc, length-append}
-use Rattle.std.specs.Prelude.{slice_get, nat_lt, ◌==◌, max}
+use Rattle.std.proofs.Common.{◌≡◌, ℕ, zero, suc, ◌+◌, ◌<◌, ◌≤◌, List, [], ◌∷◌, ◌++◌, length, Option, Some, None, Result, Ok, Bool, true, false, refl, sym, ap, ◌∙◌, subst, arith, append_assoc, length-append}
+use Rattle.std.specs.Prelude.{slice_get, nat_lt, ◌==◌}
 use Rattle.std.specs.List.{AllByRecursion}
 use Rattle.std.specs.Option.{is_some, option_map}
 use Rattle.std.proofs.Math.Seq.{get_or-append_seam}
 use Rattle.std.proofs.lemmas.Option.{slice_get-get_or, slice_get-map}
 use Rattle.std.proofs.lemmas.List.{length-map}
-use Rattle.std.proofs.lemmas.Bool.Decides.{nat_tests}
-use Rattle.jt_value.specs.Tree as tree
-use Rattle.jt_value.specs.Tree.{Tree}
 use Rattle.jt_image.specs.declared.instruction.Instruction.{Instruction}
 use Rattle.jt_image.specs.declared.instruction.Instruction.TheVariants as op
 use Rattle.jt_image.specs.declared.loop_field.LoopField.{LoopField}
@@ -18,15 +15,15 @@ use Rattle.jt_image.specs.declared.kind.Kind.TheVariants as kind
 use Rattle.jt_image.specs.declared.kind.Flaw.TheVariants as flaw
 use Rattle.jt_image.specs.declared.kind.Flaw.{Flaw}
 use Rattle.jt_image.specs.Code.{Section, Code, is_text}
-use Rattle.jt_image.specs.Effect.{Shape, Leads, require, pops_many, pops_frame, pushes, makes, goes_on, branches, jumps, on_frame, calls, effect, effect_of}
-use Rattle.jt_image.specs.Ids.{operator_of, operands_of, takes}
-use Rattle.jt_image.specs.Loops.{field_id, field_of}
+use Rattle.jt_image.specs.Effect.{Shape, Leads, require, pops_many, pushes, makes, goes_on, on_frame, calls, effect, effect_of}
+use Rattle.jt_image.specs.Ids.{operands_of, takes}
+use Rattle.jt_image.specs.Loops.{field_id}
 use Rattle.jt_image.specs.Typed.{Equal, HasSame, IsTypedUnit, IsTyped, max_entries}
 use Rattle.jt_scopes.specs.Got.{Place}
 use Rattle.jt_breadth.specs.Slots as slots
 use Rattle.jt_breadth.specs.Slots.{Slot, local, global, Maker, SExpr, SRow, Targets, SStmt, SBody, Routine, Program}
 use Rattle.jt_low.specs.Asm.{Asm, nil, one, both, choose, each, invoke, flat}
-use Rattle.jt_low.specs.Lower.{row_count, half, maker, told_as, flag, load_of, store_of, expr_asm, row_asm, store_if_of, stores_asm, take_asm, turn_asm, over_asm, kept_asm, stmt_asm, body_asm, unit_of, constant_of, compiled}
+use Rattle.jt_low.specs.Lower.{row_count, maker, told_as, flag, load_of, store_of, expr_asm, row_asm, store_if_of, stores_asm, take_asm, turn_asm, over_asm, kept_asm, stmt_asm, body_asm, unit_of, constant_of, compiled}
 use Rattle.jt_low.specs.Heights.{expr_height, row_height, targets_height, condition_height, stmt_height, body_height}
 use Rattle.jt_low.specs.Fits.{MakerFits, TakesRow, SlotFits, ExprFits, RowFits, SomeFits, SlotsFit, TargetsFit, ConditionFits, TextFits, StmtFits, BodyFits, RoutineFits, ProgramFits}
 use Rattle.jt_low.proofs.Told.{has_field}

@@ -5,7 +5,7 @@ use Rattle.jt_value.specs.declared.fault.Fault.{Fault}
 use Rattle.jt_image.specs.declared.instruction.Instruction.{Instruction}
 use Rattle.jt_image.specs.declared.instruction.Instruction.TheVariants as op
 use Rattle.jt_image.specs.Code.{Section, Code}
-use Rattle.jt_image.specs.Config.{Frame, Entry, value, frame, capture, State}
+use Rattle.jt_image.specs.Config.{Entry, frame, State}
 use Rattle.jt_image.specs.Loops.{advanced}
 use Rattle.jt_image.specs.Step.{Plain, goes, faults_by, broken, on_value, on_values, on_frame, with_entries, plain}
 use Rattle.jt_scopes.specs.Got.{Place, Got, gives, fails, deeper}

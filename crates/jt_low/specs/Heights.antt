@@ -1,5 +1,5 @@
 -- How many entries a form needs, above those that are there; the value of an expression is one.
-use Rattle.std.specs.Prelude.{ℕ, suc, ◌+◌, max, List, length, Option, Some, None}
+use Rattle.std.specs.Prelude.{ℕ, ◌+◌, max, length, Option, Some, None}
 use Rattle.jt_breadth.specs.Slots as slots
 use Rattle.jt_breadth.specs.Slots.{SExpr, SRow, Targets, SStmt, SBody}
 

@@ -2,3 +2,4 @@ pub mod Asm
 pub mod Lower
 pub mod Heights
 pub mod Fits
+pub mod Compiles

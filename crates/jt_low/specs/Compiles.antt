@@ -1,0 +1,31 @@
+-- What it is for the code of a program to be right.
+use Rattle.std.specs.Prelude.{◌≡◌, ℕ, Option, length}
+use Rattle.jt_value.specs.Pairs.{Pairs}
+use Rattle.jt_value.specs.declared.fault.Fault.{Fault}
+use Rattle.jt_image.specs.IsCode.{IsCode}
+use Rattle.jt_image.specs.Typed.{IsTyped}
+use Rattle.jt_image.specs.Config as config
+use Rattle.jt_image.specs.Config.{Budget}
+use Rattle.jt_image.specs.Run.{Run}
+use Rattle.jt_image.specs.Enough.{Enough}
+use Rattle.jt_scopes.specs.Got.{Place, gives, fails}
+use Rattle.jt_breadth.specs.Trees.{Text}
+use Rattle.jt_breadth.specs.Filters.{Filters}
+use Rattle.jt_breadth.specs.Slots.{Program, smean}
+use Rattle.jt_low.specs.Asm.{Asm, flat, places}
+use Rattle.jt_low.specs.Lower.{compiled}
+use Rattle.jt_low.specs.Fits.{ProgramFits}
+
+-- A text or a fault that the code ends with, for a context under a budget, is what the program means, where calls go at most so many
+-- deep; and what the program means, some budget is enough for.
+pub record DoesProgram (filters : Filters) (p : Program) : Type 0 where
+  pub texts : (x : Pairs) (b : Budget) (t : Text) → Run (compiled p) x b (config.text t) → (n : ℕ) × (smean filters p x n ≡ gives t)
+  pub faults : (x : Pairs) (b : Budget) (f : Fault) → Run (compiled p) x b (config.fault f) → (n : ℕ) × (q : Option Place) × (smean filters p x n ≡ fails f q)
+  pub enough_text : (x : Pairs) (n : ℕ) (t : Text) → smean filters p x n ≡ gives t → Enough (compiled p) x (config.text t)
+  pub enough_fault : (x : Pairs) (n : ℕ) (f : Fault) (q : Option Place) → smean filters p x n ≡ fails f q → Enough (compiled p) x (config.fault f)
+
+-- The code of each program that fits is typed; where it has a spelling, it does what the program means. Each instruction has one place.
+pub record LowLaws : Type 0 where
+  pub typed : (p : Program) → ProgramFits p → IsTyped (compiled p)
+  pub right : (filters : Filters) (p : Program) → ProgramFits p → IsCode (compiled p) → DoesProgram filters p
+  pub placed : (a : Asm) (n : ℕ) → length (places a) ≡ length (flat a n)
