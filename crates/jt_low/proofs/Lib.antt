@@ -6,3 +6,4 @@ pub mod Over
 pub mod Correct
 pub mod Typed
 pub mod Whole
+mod Examples
