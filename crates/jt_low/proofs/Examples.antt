@@ -85,7 +85,7 @@ routines_fit zero r e =
         (
           (omega arith, (omega arith, tt)),
           (
-            (takes 1 1 block_routine refl refl, (omega arith, tt)),
+            (takes 1 1 block_routine refl refl, (omega arith, tt), tt),
             ((takes 2 2 times_routine refl refl, (omega arith, omega arith, (omega arith, (omega arith, tt)))), tt),
           ),
         ),

@@ -9,11 +9,11 @@ use Rattle.jt_image.specs.Code.{Section, Code}
 use Rattle.jt_image.specs.Config.{Entry, value, frame, capture, State, Caller, Machine}
 use Rattle.jt_image.specs.Loops.{advanced}
 use Rattle.jt_image.specs.Step.{Plain, goes, faults_by, broken, plain, on_value, on_values, on_frame, with_entries, goes_on, wrong, straight, no_demand, calling, locals_of, entered, calls_unit, action, fetch}
-use Rattle.jt_image.specs.FreeRun.{Failed, Going, on_action, exec_at, exec}
 use Rattle.jt_scopes.specs.Got.{Place}
 use Rattle.jt_breadth.specs.Trees.{Text}
 use Rattle.jt_breadth.specs.Slots.{SCalls}
-use Rattle.jt_low.specs.Asm.{Asm, nil, one, both, choose, each, invoke, flat, Ran, does, stops, too_deep, bad, and_then, of_plain, turns, turns_left, of_written, into_buffers, called, run}
+use Rattle.jt_low.specs.Placed.{Table, PlacedFree, Failed, Going, on_placed, placed_at, placed_exec}
+use Rattle.jt_low.specs.Asm.{Asm, nil, one, both, choose, each, invoke, flat, places, Ran, does, stops, too_deep, bad, and_then, of_plain, turns, turns_left, of_written, into_buffers, called, run}
 
 -- the instructions stand in the code at this point
 abbrev pub HasAt : List Instruction → ℕ → List Instruction → Type 0
@@ -33,23 +33,41 @@ has_back code p (i ∷ a) b h =
 abbrev pub machine : ℕ → ℕ → List Caller → State → Machine
 machine u p ks m = record { unit = u; point = p; state = m; callers = ks }
 
+-- each instruction has one place
+pub placed : (a : Asm) (n : ℕ) → length (places a) ≡ length (flat a n)
+placed nil n = refl
+placed (one o i) n = refl
+placed (both a b) n = length-append (places a) (places b) ∙ omega (arith, placed a n, placed b (n + length (flat a n)), length-append (flat a n) (flat b (n + length (flat a n))))
+placed (choose a b) n =
+    let ca = flat a (n + 1) in
+    let q = n + 1 + length ca + 1 in
+    let cb = flat b q in
+    omega (arith, placed a (n + 1), placed b q, length-append ca (op.Jump (q + length cb) ∷ cb), length-append (places a) (None ∷ places b))
+placed (each a) n =
+    let ca = flat a (n + 1) in
+    omega (arith, placed a (n + 1), length-append ca (op.Jump n ∷ []), length-append (places a) (None ∷ []))
+placed (invoke o u) n = refl
+
 eq_told : (a b : ℕ) → (a == b) ≡ true → a ≡ b
 eq_told a b h = grind (arith, nat_tests)
 
-module _ (k : Code) where
+module _ (k : Code) (table : Table) where
+  abbrev pub exec : ℕ → Machine → PlacedFree
+  exec n m = placed_exec k table n m
+
   -- the machine goes from one place to another, in one step or more
   pub record Leads (c c' : Machine) : Type 0 where
-    pub by : (n : ℕ) → (j : ℕ) × (n < j) × (exec k j c ≡ exec k n c')
+    pub by : (n : ℕ) → (j : ℕ) × (n < j) × (exec j c ≡ exec n c')
 
   -- in some steps, or in none
   pub record Comes (c c' : Machine) : Type 0 where
-    pub by : (n : ℕ) → (j : ℕ) × (n ≤ j) × (exec k j c ≡ exec k n c')
+    pub by : (n : ℕ) → (j : ℕ) × (n ≤ j) × (exec j c ≡ exec n c')
 
   -- what a run from c does, where calls may go on for n steps
   abbrev pub Reaches : ℕ → Machine → Ran → (State → Machine) → Type 0
   Reaches n c (does m) to = Comes c (to m)
-  Reaches n c (stops e q) to = (j : ℕ) × (exec k j c ≡ Failed e)
-  Reaches n c too_deep to = (j : ℕ) × (n ≤ j) × (exec k j c ≡ Going)
+  Reaches n c (stops e q) to = (j : ℕ) × (exec j c ≡ Failed e q)
+  Reaches n c too_deep to = (j : ℕ) × (n ≤ j) × (exec j c ≡ Going)
   Reaches n c bad to = Unit {0}
 
   pub stays : (c : Machine) → Comes c c
@@ -89,22 +107,22 @@ module _ (k : Code) where
   behind n c too_deep mid to g h = h
   behind n c bad mid to g h = tt
 
-  pub step : (t : Section) (u p : ℕ) (ks : List Caller) (m : State) (i : Instruction) → fetch k u p ≡ Some (t, i) → (n : ℕ) → exec k (suc n) (machine u p ks m) ≡ on_action (action k t i (machine u p ks m)) (exec k n)
-  step t u p ks m i h n = ap (λ o. exec_at k o (machine u p ks m) (exec k n)) h
+  pub step : (t : Section) (u p : ℕ) (ks : List Caller) (m : State) (i : Instruction) → fetch k u p ≡ Some (t, i) → (n : ℕ) → exec (suc n) (machine u p ks m) ≡ on_placed (table u p) (action k t i (machine u p ks m)) (exec n)
+  step t u p ks m i h n = ap (λ o. placed_at k table o (machine u p ks m) (exec n)) h
 
-  straight_run : (n : ℕ) (u p : ℕ) (ks : List Caller) (m : State) (q : Option Place) (s : Plain) → ((j : ℕ) → exec k (suc j) (machine u p ks m) ≡ on_action (straight s (machine u p ks m)) (exec k j)) → Reaches n (machine u p ks m) (of_plain q s) (machine u (p + 1) ks)
-  straight_run n u p ks m q (goes m' d) st = record { by = λ j. (suc j, omega arith, st j) }
-  straight_run n u p ks m q (faults_by e) st = (1, st 0)
-  straight_run n u p ks m q broken st = tt
+  straight_run : (n : ℕ) (u p : ℕ) (ks : List Caller) (m : State) (q : Option Place) (s : Plain) → table u p ≡ q → ((j : ℕ) → exec (suc j) (machine u p ks m) ≡ on_placed (table u p) (straight s (machine u p ks m)) (exec j)) → Reaches n (machine u p ks m) (of_plain q s) (machine u (p + 1) ks)
+  straight_run n u p ks m q (goes m' d) e st = record { by = λ j. (suc j, omega arith, st j) }
+  straight_run n u p ks m q (faults_by f) e st = (1, st 0 ∙ ap (Failed f) e)
+  straight_run n u p ks m q broken e st = tt
 
-  one_run : (n : ℕ) (t : Section) (u p : ℕ) (ks : List Caller) (m : State) (q : Option Place) (i : Instruction) → fetch k u p ≡ Some (t, i) → Reaches n (machine u p ks m) (of_plain q (plain k i m)) (machine u (p + 1) ks)
-  one_run n t u p ks m q (op.Jump c) h = tt
-  one_run n t u p ks m q (op.JumpIfFalse c) h = tt
-  one_run n t u p ks m q (op.JumpIfTrue c) h = tt
-  one_run n t u p ks m q (op.LoopNext c) h = tt
-  one_run n t u p ks m q (op.Call c) h = tt
-  one_run n t u p ks m q op.Return h = tt
-  one_run n t u p ks m q i h = straight_run n u p ks m q (plain k i m) (step t u p ks m i h)
+  one_run : (n : ℕ) (t : Section) (u p : ℕ) (ks : List Caller) (m : State) (q : Option Place) (i : Instruction) → table u p ≡ q → fetch k u p ≡ Some (t, i) → Reaches n (machine u p ks m) (of_plain q (plain k i m)) (machine u (p + 1) ks)
+  one_run n t u p ks m q (op.Jump c) e h = tt
+  one_run n t u p ks m q (op.JumpIfFalse c) e h = tt
+  one_run n t u p ks m q (op.JumpIfTrue c) e h = tt
+  one_run n t u p ks m q (op.LoopNext c) e h = tt
+  one_run n t u p ks m q (op.Call c) e h = tt
+  one_run n t u p ks m q op.Return e h = tt
+  one_run n t u p ks m q i e h = straight_run n u p ks m q (plain k i m) e (step t u p ks m i h)
 
   jumps : (t : Section) (u p q : ℕ) (ks : List Caller) (m : State) → fetch k u p ≡ Some (t, op.Jump q) → Comes (machine u p ks m) (machine u q ks m)
   jumps t u p q ks m h = record { by = λ n. (suc n, omega arith, step t u p ks m (op.Jump q) h n) }
@@ -116,7 +134,7 @@ module _ (k : Code) where
   -- a value off the top decides where to go on
   choose_run : (n : ℕ) (t : Section) (u p : ℕ) (ks : List Caller) (m : State) (ca cb : List Instruction) (ra rb : State → Ran) (es : List Entry) →
       let q = p + 1 + length ca + 1 in
-      ((j : ℕ) → exec k (suc j) (machine u p ks m) ≡ on_action (on_value es wrong (λ v fs. goes_on (machine u (if truth v then p + 1 else q) ks (with_entries m fs)) no_demand)) (exec k j)) →
+      ((j : ℕ) → exec (suc j) (machine u p ks m) ≡ on_placed (table u p) (on_value es wrong (λ v fs. goes_on (machine u (if truth v then p + 1 else q) ks (with_entries m fs)) no_demand)) (exec j)) →
       fetch k u (p + 1 + length ca) ≡ Some (t, op.Jump (q + length cb)) →
       ((m : State) → Reaches n (machine u (p + 1) ks m) (ra m) (machine u (p + 1 + length ca) ks)) →
       ((m : State) → Reaches n (machine u q ks m) (rb m) (machine u (q + length cb) ks)) →
@@ -132,7 +150,7 @@ module _ (k : Code) where
       m' : State
       m' = with_entries m es
 
-      way : (b : Bool) → ((j : ℕ) → exec k (suc j) (machine u p ks m) ≡ exec k j (machine u (if b then p + 1 else q) ks m')) → Reaches n (machine u p ks m) (if b then ra m' else rb m') (machine u (q + length cb) ks)
+      way : (b : Bool) → ((j : ℕ) → exec (suc j) (machine u p ks m) ≡ exec j (machine u (if b then p + 1 else q) ks m')) → Reaches n (machine u p ks m) (if b then ra m' else rb m') (machine u (q + length cb) ks)
       way true e =
           before n _ (machine u (p + 1) ks m') (ra m') _ (record { by = λ j. (suc j, omega arith, e j) })
           (behind n _ (ra m') (machine u (p + 1 + length ca) ks) (machine u (q + length cb) ks) (λ x. jumps t u (p + 1 + length ca) (q + length cb) ks x at) (ha m'))
@@ -141,7 +159,7 @@ module _ (k : Code) where
 
   -- one turn more, or the end of a loop
   turn_run : (n : ℕ) (u p q : ℕ) (ks : List Caller) (m : State) (body : State → Ran) (to : State → Machine) (es : List Entry)
-      → ((j : ℕ) → exec k (suc j) (machine u p ks m) ≡ on_action (on_frame es wrong (λ f fs. if nat_lt f.position (length f.items) then goes_on (machine u (p + 1) ks (with_entries m (frame (advanced f) ∷ fs))) no_demand else goes_on (machine u q ks m) no_demand)) (exec k j))
+      → ((j : ℕ) → exec (suc j) (machine u p ks m) ≡ on_placed (table u p) (on_frame es wrong (λ f fs. if nat_lt f.position (length f.items) then goes_on (machine u (p + 1) ks (with_entries m (frame (advanced f) ∷ fs))) no_demand else goes_on (machine u q ks m) no_demand)) (exec j))
       → ((m : State) → Reaches n (machine u (p + 1) ks m) (body m) to) → Comes (machine u q ks m) (to m)
       → Reaches n (machine u p ks m) (on_frame es bad (λ f fs. if nat_lt f.position (length f.items) then body (with_entries m (frame (advanced f) ∷ fs)) else does m)) to
   turn_run n u p q ks m body to [] st hb end = tt
@@ -152,7 +170,7 @@ module _ (k : Code) where
       m' : State
       m' = with_entries m (frame (advanced f) ∷ es)
 
-      way : (b : Bool) → ((j : ℕ) → exec k (suc j) (machine u p ks m) ≡ on_action (if b then goes_on (machine u (p + 1) ks m') no_demand else goes_on (machine u q ks m) no_demand) (exec k j)) → Reaches n (machine u p ks m) (if b then body m' else does m) to
+      way : (b : Bool) → ((j : ℕ) → exec (suc j) (machine u p ks m) ≡ on_placed (table u p) (if b then goes_on (machine u (p + 1) ks m') no_demand else goes_on (machine u q ks m) no_demand) (exec j)) → Reaches n (machine u p ks m) (if b then body m' else does m) to
       way true e = before n _ (machine u (p + 1) ks m') (body m') to (record { by = λ j. (suc j, omega arith, e j) }) (hb m')
       way false e = comes_on _ (machine u q ks m) (to m) (record { by = λ j. (suc j, omega arith, e j) }) end
 
@@ -172,6 +190,19 @@ module _ (k : Code) where
       (λ y. before n _ (machine u p ks y) (turns body j y) (machine u q ks) (jumps t u (p + 1 + length ca) p ks y end) (loop_run n t u p ks ca body top end hb j y)))
       (stays (machine u q ks m))
 
+  -- the places stand in the table from this point on
+  abbrev pub PlacesAt : ℕ → ℕ → List (Option Place) → Type 0
+  PlacesAt u p [] = Unit {0}
+  PlacesAt u p (q ∷ qs) = (table u p ≡ q) × PlacesAt u (p + 1) qs
+
+  pub places_front : (u p : ℕ) (a b : List (Option Place)) → PlacesAt u p (a ++ b) → PlacesAt u p a
+  places_front u p [] b h = tt
+  places_front u p (q ∷ a) b h = (h.0, places_front u (p + 1) a b h.1)
+
+  places_back : (u p r : ℕ) (a b : List (Option Place)) → r ≡ p + length a → PlacesAt u p (a ++ b) → PlacesAt u r b
+  places_back u p r [] b e h = let e' : p ≡ r = omega arith in subst (λ n. PlacesAt u n b) e' h
+  places_back u p r (q ∷ a) b e h = places_back u (p + 1) r a b (omega arith) h.1
+
   -- what stands at a point of a unit is what is fetched there
   pub fetched : (t : Section) (u p : ℕ) (i : Instruction) → slice_get k.units u ≡ Some t → slice_get t.code p ≡ Some i → fetch k u p ≡ Some (t, i)
   fetched t u p i e f = rw (e, f) refl
@@ -187,7 +218,7 @@ module _ (k : Code) where
     -- the call's step, and then what the call does
     enter_run : (v : ℕ) (t : Section) (u p : ℕ) (ks : List Caller) (q : Option Place) (ls gs ts : List Tree) (bufs : List (List ℕ)) (es all : List Entry) → slice_get k.units v ≡ Some t →
         let m : State = record { entries = all; locals = ls; globals = gs; buffers = bufs } in
-        ((j : ℕ) → exec k (suc j) (machine u p ks m) ≡ on_action (goes_on (entered v t ts es (machine u p ks m)) calling) (exec k j)) →
+        ((j : ℕ) → exec (suc j) (machine u p ks m) ≡ on_placed (table u p) (goes_on (entered v t ts es (machine u p ks m)) calling) (exec j)) →
         (b : Bool) → (length gs == k.globals) ≡ b →
         Reaches (suc n) (machine u p ks m) (if b then into_buffers q (call v ts gs) es ls bufs else bad) (machine u (p + 1) ks)
     enter_run v t u p ks q ls gs ts bufs es all is st false e = tt
@@ -199,7 +230,7 @@ module _ (k : Code) where
 
     -- the arguments are taken off the entries
     args_run : (v : ℕ) (t : Section) (u p : ℕ) (ks : List Caller) (q : Option Place) (m : State) (i : ℕ) (ts : List Tree) (es : List Entry) → slice_get k.units v ≡ Some t →
-        ((j : ℕ) → exec k (suc j) (machine u p ks m) ≡ on_action (on_values i ts es wrong (λ ts fs. goes_on (entered v t ts fs (machine u p ks m)) calling)) (exec k j)) →
+        ((j : ℕ) → exec (suc j) (machine u p ks m) ≡ on_placed (table u p) (on_values i ts es wrong (λ ts fs. goes_on (entered v t ts fs (machine u p ks m)) calling)) (exec j)) →
         Reaches (suc n) (machine u p ks m) (on_values i ts es bad (λ ts fs. if length m.globals == k.globals then into_buffers q (call v ts m.globals) fs m.locals m.buffers else bad)) (machine u (p + 1) ks)
     args_run v t u p ks q m zero ts es is st = enter_run v t u p ks q m.locals m.globals ts m.buffers es m.entries is st (length m.globals == k.globals) refl
     args_run v t u p ks q m (suc i) ts [] is st = tt
@@ -208,30 +239,30 @@ module _ (k : Code) where
     args_run v t u p ks q m (suc i) ts (capture ∷ es) is st = tt
 
     invoke_run : (v : ℕ) (s : Option Section) (u p : ℕ) (ks : List Caller) (q : Option Place) (m : State) → slice_get k.units v ≡ s →
-        ((j : ℕ) → exec k (suc j) (machine u p ks m) ≡ on_action (calls_unit v s (machine u p ks m)) (exec k j)) →
+        ((j : ℕ) → exec (suc j) (machine u p ks m) ≡ on_placed (table u p) (calls_unit v s (machine u p ks m)) (exec j)) →
         Reaches (suc n) (machine u p ks m) (called q k call v s m) (machine u (p + 1) ks)
     invoke_run v None u p ks q m is st = tt
     invoke_run v (Some t) u p ks q m is st = args_run v t u p ks q m t.parameters [] m.entries is st
 
-    pub flat_runs : (a : Asm) (t : Section) (u p : ℕ) (ks : List Caller) (m : State) → slice_get k.units u ≡ Some t → HasAt t.code p (flat a p) → Reaches (suc n) (machine u p ks m) (run k call a m) (machine u (p + length (flat a p)) ks)
-    flat_runs nil t u p ks m is h = record { by = λ j. let e : p ≡ p + 0 = omega arith in (j, omega arith, ap (λ x. exec k j (machine u x ks m)) e) }
-    flat_runs (one q i) t u p ks m is h = one_run (suc n) t u p ks m q i (fetched t u p i is h.0)
-    flat_runs (both a b) t u p ks m is h =
+    pub flat_runs : (a : Asm) (t : Section) (u p : ℕ) (ks : List Caller) (m : State) → slice_get k.units u ≡ Some t → HasAt t.code p (flat a p) → PlacesAt u p (places a) → Reaches (suc n) (machine u p ks m) (run k call a m) (machine u (p + length (flat a p)) ks)
+    flat_runs nil t u p ks m is h w = record { by = λ j. let e : p ≡ p + 0 = omega arith in (j, omega arith, ap (λ x. exec j (machine u x ks m)) e) }
+    flat_runs (one q i) t u p ks m is h w = one_run (suc n) t u p ks m q i w.0 (fetched t u p i is h.0)
+    flat_runs (both a b) t u p ks m is h w =
         let ca = flat a p in let cb = flat b (p + length ca) in
         let len : p + length ca + length cb ≡ p + length (ca ++ cb) = omega (arith, length-append ca cb) in
         ends_at (suc n) _ (and_then (run k call a m) (run k call b)) u _ _ ks len
-        (both_run (suc n) _ (run k call a m) (run k call b) (machine u (p + length ca) ks) (machine u (p + length ca + length cb) ks) (flat_runs a t u p ks m is (has_front _ p ca cb h)) (λ x. flat_runs b t u (p + length ca) ks x is (has_back _ p ca cb h)))
-    flat_runs (choose a b) t u p ks m is h =
+        (both_run (suc n) _ (run k call a m) (run k call b) (machine u (p + length ca) ks) (machine u (p + length ca + length cb) ks) (flat_runs a t u p ks m is (has_front _ p ca cb h) (places_front u p (places a) (places b) w)) (λ x. flat_runs b t u (p + length ca) ks x is (has_back _ p ca cb h) (places_back u p (p + length ca) (places a) (places b) (omega (arith, placed a p)) w)))
+    flat_runs (choose a b) t u p ks m is h w =
         let ca = flat a (p + 1) in let q = p + 1 + length ca + 1 in let cb = flat b q in
         let end = has_back _ (p + 1) ca (op.Jump (q + length cb) ∷ cb) h.1 in
         let len : q + length cb ≡ p + length (op.JumpIfFalse q ∷ (ca ++ op.Jump (q + length cb) ∷ cb)) = omega (arith, length-append ca (op.Jump (q + length cb) ∷ cb)) in
         ends_at (suc n) _ (run k call (choose a b) m) u _ _ ks len
         (choose_run (suc n) t u p ks m ca cb (run k call a) (run k call b) m.entries (step t u p ks m (op.JumpIfFalse q) (fetched t u p (op.JumpIfFalse q) is h.0)) (fetched t u (p + 1 + length ca) (op.Jump (q + length cb)) is end.0)
-        (λ x. flat_runs a t u (p + 1) ks x is (has_front _ (p + 1) ca _ h.1)) (λ x. flat_runs b t u q ks x is end.1))
-    flat_runs (each a) t u p ks m is h =
+        (λ x. flat_runs a t u (p + 1) ks x is (has_front _ (p + 1) ca _ h.1) (places_front u (p + 1) (places a) (None ∷ places b) w.1)) (λ x. flat_runs b t u q ks x is end.1 (places_back u (p + 1) (p + 1 + length ca) (places a) (None ∷ places b) (omega (arith, placed a (p + 1))) w.1).1))
+    flat_runs (each a) t u p ks m is h w =
         let ca = flat a (p + 1) in let q = p + 1 + length ca + 1 in
         let len : q ≡ p + length (op.LoopNext q ∷ (ca ++ op.Jump p ∷ [])) = omega (arith, length-append ca (op.Jump p ∷ [])) in
         ends_at (suc n) _ (run k call (each a) m) u _ _ ks len
         (loop_run (suc n) t u p ks ca (run k call a) (fetched t u p (op.LoopNext q) is h.0) (fetched t u (p + 1 + length ca) (op.Jump p) is (has_back _ (p + 1) ca (op.Jump p ∷ []) h.1).0)
-        (λ x. flat_runs a t u (p + 1) ks x is (has_front _ (p + 1) ca _ h.1)) (turns_left m.entries) m)
-    flat_runs (invoke q v) t u p ks m is h = invoke_run v (slice_get k.units v) u p ks q m refl (step t u p ks m (op.Call v) (fetched t u p (op.Call v) is h.0))
+        (λ x. flat_runs a t u (p + 1) ks x is (has_front _ (p + 1) ca _ h.1) (places_front u (p + 1) (places a) (None ∷ []) w.1)) (turns_left m.entries) m)
+    flat_runs (invoke q v) t u p ks m is h w = invoke_run v (slice_get k.units v) u p ks q m refl (step t u p ks m (op.Call v) (fetched t u p (op.Call v) is h.0))

@@ -3,7 +3,9 @@ pub mod Does
 pub mod Lowered
 pub mod Follows
 pub mod Over
+pub mod Places
 pub mod Correct
 pub mod Typed
+pub mod Sized
 pub mod Whole
 mod Examples

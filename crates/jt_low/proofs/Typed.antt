@@ -440,10 +440,10 @@ unit_typed p r f =
       λ q. slice_get sh q,
       record {
         start = fine.0;
-        small = λ q s e. let x = each q s e in let same : x.2.0 ≡ s = some_is x.2.0 s (sym x.2.1 ∙ e) in subst (λ y. length y ≤ max_entries) same x.2.2;
+        small = λ q s e. let x = each q s e in let same : x.2.0 ≡ s = some_is x.2.0 s (slice_get sh q) x.2.1 e in subst (λ y. length y ≤ max_entries) same x.2.2;
         fine = λ q s e.
             let x = each q s e in
-            let same : x.2.0 ≡ s = some_is x.2.0 s (sym x.2.1 ∙ e) in
+            let same : x.2.0 ≡ s = some_is x.2.0 s (slice_get sh q) x.2.1 e in
             record {
               leads = x.2.3.0;
               effect = ap (λ o. effect_of k u q o s) x.1 ∙ subst (λ y. effect k u q x.0 y ≡ Ok x.2.3.0) same x.2.3.1;
@@ -452,8 +452,8 @@ unit_typed p r f =
       },
     )
   where
-    some_is : (a b : Shape) → Some a ≡ Some b → a ≡ b
-    some_is a b e = cc
+    some_is : (a b : Shape) (o : Option Shape) → o ≡ Some a → o ≡ Some b → a ≡ b
+    some_is a b o e f = cc
 
 typed_unit : (p : Program) → ProgramFits p → (n : ℕ) (o : Option (Routine ℕ)) (u : Section) → slice_get p.routines n ≡ o → slice_get (compiled p).units n ≡ Some u → IsTypedUnit Equal (compiled p) u
 typed_unit p f n None u is e =

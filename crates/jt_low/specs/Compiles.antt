@@ -2,19 +2,22 @@
 use Rattle.std.specs.Prelude.{◌≡◌, ℕ, Option, length}
 use Rattle.jt_value.specs.Pairs.{Pairs}
 use Rattle.jt_value.specs.declared.fault.Fault.{Fault}
-use Rattle.jt_image.specs.IsCode.{IsCode}
+use Rattle.jt_image.specs.IsCode.{IsCode, total_len}
 use Rattle.jt_image.specs.Typed.{IsTyped}
 use Rattle.jt_image.specs.Config as config
 use Rattle.jt_image.specs.Config.{Budget}
 use Rattle.jt_image.specs.Run.{Run}
 use Rattle.jt_image.specs.Enough.{Enough}
+use Rattle.jt_image.specs.FreeRun.{start_machine}
 use Rattle.jt_scopes.specs.Got.{Place, gives, fails}
 use Rattle.jt_breadth.specs.Trees.{Text}
 use Rattle.jt_breadth.specs.Filters.{Filters}
 use Rattle.jt_breadth.specs.Slots.{Program, smean}
 use Rattle.jt_low.specs.Asm.{Asm, flat, places}
 use Rattle.jt_low.specs.Lower.{compiled}
+use Rattle.jt_low.specs.Placed.{Failed, placed_exec, table_of}
 use Rattle.jt_low.specs.Fits.{ProgramFits}
+use Rattle.jt_low.specs.Sizes.{routines_size}
 
 -- A text or a fault that the code ends with, for a context under a budget, is what the program means, where calls go at most so many
 -- deep; and what the program means, some budget is enough for.
@@ -24,8 +27,17 @@ pub record DoesProgram (filters : Filters) (p : Program) : Type 0 where
   pub enough_text : (x : Pairs) (n : ℕ) (t : Text) → smean filters p x n ≡ gives t → Enough (compiled p) x (config.text t)
   pub enough_fault : (x : Pairs) (n : ℕ) (f : Fault) (q : Option Place) → smean filters p x n ≡ fails f q → Enough (compiled p) x (config.fault f)
 
--- The code of each program that fits is typed; where it has a spelling, it does what the program means. Each instruction has one place.
+-- A fault of the run without a budget stands at an instruction that has the place that the program's meaning gives it, and the other
+-- way round.
+pub record PlacesFaults (filters : Filters) (p : Program) : Type 0 where
+  pub faults : (x : Pairs) (n : ℕ) (f : Fault) (q : Option Place) → placed_exec (compiled p) (table_of p) n (start_machine (compiled p) x) ≡ Failed f q → smean filters p x n ≡ fails f q
+  pub places : (x : Pairs) (n : ℕ) (f : Fault) (q : Option Place) → smean filters p x n ≡ fails f q → (j : ℕ) × (placed_exec (compiled p) (table_of p) j (start_machine (compiled p) x) ≡ Failed f q)
+
+-- The code of each program that fits is typed; where it has a spelling, it does what the program means. Each fault is met in its place.
+-- Each instruction has one place, and there are as many as the program's size says.
 pub record LowLaws : Type 0 where
   pub typed : (p : Program) → ProgramFits p → IsTyped (compiled p)
   pub right : (filters : Filters) (p : Program) → ProgramFits p → IsCode (compiled p) → DoesProgram filters p
-  pub placed : (a : Asm) (n : ℕ) → length (places a) ≡ length (flat a n)
+  pub places_faults : (filters : Filters) (p : Program) → ProgramFits p → PlacesFaults filters p
+  pub one_place : (a : Asm) (n : ℕ) → length (places a) ≡ length (flat a n)
+  pub sized : (p : Program) → total_len (compiled p).units ≡ routines_size p.routines

@@ -27,6 +27,14 @@ pub record TakesRow (rs : List (Routine ℕ)) (u : ℕ) (n : ℕ) : Type 0 where
   pub is : slice_get rs u ≡ Some routine
   pub parameters : routine.parameters ≡ n
 
+-- constants and variables alone: nothing of the row fails, so that each fault of a statement is met in a tag
+abbrev pub IsBare : SRow ℕ → Type 0
+IsBare slots.none = Unit {0}
+IsBare (slots.item (slots.pooled i) es) = IsBare es
+IsBare (slots.item (slots.variable s) es) = IsBare es
+IsBare (slots.item e es) = ⊥
+IsBare (slots.aside i e es) = ⊥
+
 -- in a program, in a routine of so many locals
 module _ (p : Program) (locals : ℕ) where
   abbrev pub SlotFits : Slot → Type 0
@@ -79,7 +87,7 @@ module _ (p : Program) (locals : ℕ) where
     StmtFits inside (slots.if_else q c a b) = ExprFits inside c × BodyFits inside a × BodyFits inside b
     StmtFits inside (slots.for_each q xs e c body other) = TargetsFit xs × ExprFits inside e × ConditionFits c × BodyFits true body × BodyFits inside other
     StmtFits inside (slots.capture escaping s body) = SlotFits s × BodyFits inside body
-    StmtFits inside (slots.run u es) = TakesRow p.routines u (row_count es) × RowFits inside es
+    StmtFits inside (slots.run u es) = TakesRow p.routines u (row_count es) × RowFits inside es × IsBare es
 
     pub BodyFits : Bool → SBody ℕ → Type 0
     BodyFits inside slots.end = Unit {0}
