@@ -8,4 +8,6 @@ pub mod Correct
 pub mod Typed
 pub mod Sized
 pub mod Whole
+pub mod FitsTest
 mod Examples
+mod Worked
