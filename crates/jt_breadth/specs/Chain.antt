@@ -64,7 +64,8 @@ module _ (template : Text) where
     blocks_of (set_block line x body) on = blocks_in body on
     blocks_of (with_values line ps body) on = blocks_in body on
     blocks_of (filter_block line fs body) on = blocks_in body on
-    -- none stands in a macro
+    -- a macro has none that the grammar allows
+    blocks_of (macro line x ps body) on = blocks_in body on
     blocks_of s on = []
 
     pub blocks_in : Body → Bool → List BlockBody

@@ -25,10 +25,6 @@ read env x = first_of env.scopes env.globals x
 abbrev pub top : Pairs → Env
 top globals = record { scopes = []; globals = globals }
 
--- one more scope, with these names
-abbrev pub inside : Pairs → Env → Env
-inside s env = record { scopes = s ∷ env.scopes; globals = env.globals }
-
 abbrev pub bound_in : List Pairs → Pairs → Text → Tree → Env
 bound_in [] globals x v = record { scopes = []; globals = (x, v) ∷ globals }
 bound_in (s ∷ ss) globals x v = record { scopes = ((x, v) ∷ s) ∷ ss; globals = globals }
@@ -41,6 +37,10 @@ bound env x v = bound_in env.scopes env.globals x v
 abbrev pub all_bound : Env → Pairs → Env
 all_bound env [] = env
 all_bound env (b ∷ bs) = all_bound (bound env b.0 b.1) bs
+
+-- one more scope, in which these names are bound one after the other
+abbrev pub inside : Pairs → Env → Env
+inside bs env = all_bound (record { scopes = [] ∷ env.scopes; globals = env.globals }) bs
 
 abbrev pub seen_in : List Pairs → Pairs → Pairs
 seen_in [] globals = globals

@@ -1,5 +1,5 @@
 -- How the names, macros and bodies of chains are laid out in a program: slots of globals, routines, and values in front of the pool.
-use Rattle.std.specs.Prelude.{ℕ, suc, ◌+◌, ◌==◌, ◌&&◌, Bool, false, List, [], ◌∷◌, ◌++◌, length, map, flat_map, filter, Option, Some, None, if◌then◌else◌}
+use Rattle.std.specs.Prelude.{ℕ, suc, ◌+◌, ◌==◌, ◌&&◌, Bool, false, List, [], ◌∷◌, ◌++◌, length, map, flat_map, filter, Option, Some, None, if◌then◌else◌, true}
 use Rattle.std.specs.Option.{is_some}
 use Rattle.std.specs.List.{list_any}
 use Rattle.std.specs.Str.{bytes_eq}
@@ -10,7 +10,7 @@ use Rattle.jt_breadth.specs.Trees.{Text}
 use Rattle.jt_breadth.specs.Chain.{Home, templates, BlockBody, all_bodies, MacroBody, macros}
 use Rattle.jt_breadth.specs.Filters.{default_value}
 use Rattle.jt_breadth.specs.Around.{World}
-use Rattle.jt_breadth.specs.Names.{body_names, includes_in}
+use Rattle.jt_breadth.specs.Names.{body_names, needs_in}
 use Rattle.jt_breadth.specs.Slots.{Slot, global}
 
 -- where each visible name is kept, the innermost first
@@ -50,7 +50,7 @@ place_of k (j ∷ js) = if same_key j k then 0 else suc (place_of k js)
 module _ (world : World) where
   -- the chains that a chain includes: those with a source
   abbrev pub included : Home → List Home
-  included h = filter (λ m. is_some (world.sources m)) (flat_map (λ t. includes_in t.body) (templates world.sources h))
+  included h = filter (λ m. is_some (world.sources m)) (flat_map (λ t. needs_in true t.body) (templates world.sources h))
 
   abbrev pub own_names : Home → List Text
   own_names h = flat_map (λ t. body_names t.body) (templates world.sources h)

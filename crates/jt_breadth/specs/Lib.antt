@@ -13,3 +13,6 @@ pub mod Layout
 pub mod Resolve
 pub mod Pool
 pub mod Programs
+pub mod Rules
+pub mod Supers
+pub mod ChainRules

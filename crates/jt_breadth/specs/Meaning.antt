@@ -18,16 +18,16 @@ use Rattle.jt_breadth.specs.Expressions.{keywords, filtered, filter_parameters, 
 
 -- ---- targets
 
--- as many names as values: a later one hides an earlier one of the same name
-abbrev pub each_target : List Text → List Tree → Pairs → Got Pairs
-each_target [] [] s = gives s
-each_target (x ∷ xs) (v ∷ vs) s = each_target xs vs ((x, v) ∷ s)
-each_target xs vs s = fails faults.Unpack None
+-- as many names as values
+abbrev pub each_target : List Text → List Tree → Got Pairs
+each_target [] [] = gives []
+each_target (x ∷ xs) (v ∷ vs) = bind (each_target xs vs) (λ s. gives ((x, v) ∷ s))
+each_target xs vs = fails faults.Unpack None
 
 -- one target takes the value; several take its items
 abbrev pub targets : List Text → Tree → Got Pairs
 targets (x ∷ []) v = gives ((x, v) ∷ [])
-targets xs v = bind (checked (items_of_value v)) (λ vs. each_target xs vs [])
+targets xs v = bind (checked (items_of_value v)) (each_target xs)
 
 -- ---- scopes
 
@@ -41,11 +41,6 @@ within s run st = bind (run (record st { env = inside s st.env })) (λ r. gives 
 -- in a new scope, its text as a value
 abbrev pub captured : Bool → (State → Got State) → Env → Got Tree
 captured escaping run env = bind (run (record { env = inside [] env; out = [] })) (λ r. gives (as_value escaping r.out))
-
--- one name after the other: a later pair hides an earlier one of the same name
-abbrev pub scope_of : Pairs → Pairs → Pairs
-scope_of [] s = s
-scope_of (b ∷ bs) s = scope_of bs (b ∷ s)
 
 -- ---- loops
 
@@ -82,12 +77,11 @@ module _ (world : World) (calls : Calls) where
       gives (if tree.truth b then v ∷ rest else rest))))
 
   -- a value put through each filter in turn
-  abbrev pub through : List Filtering → Around → Env → Tree → Got Tree
-  through [] a env v = gives v
-  through (f ∷ fs) a env v =
-      bind (filtered world.filters (world.filters.named f.name) a.escaping (bind (values world calls f.arguments a env) (λ vs. bind (named_values world calls f.keywords a env) (λ ks.
-      gives (v ∷ arguments (filter_parameters world.filters (world.filters.named f.name)) vs (keywords f.keywords) ks)))))
-      (through fs a env)
+  abbrev pub through : List Filtering → Around → Env → Got Tree → Got Tree
+  through [] a env g = g
+  through (f ∷ fs) a env g =
+      through fs a env (filtered world.filters (world.filters.named f.name) a.escaping (bind g (λ v. bind (values world calls f.arguments a env) (λ vs. bind (named_values world calls f.keywords a env) (λ ks.
+      gives (v ∷ arguments (filter_parameters world.filters (world.filters.named f.name)) vs (keywords f.keywords) ks))))))
 
   abbrev mutual
     pub meaning : Stmt → Around → State → Got State
@@ -102,10 +96,10 @@ module _ (world : World) (calls : Calls) where
     meaning (set_block line x body) a st =
         bind (captured a.escaping (meanings body a) st.env) (λ v. gives (record st { env = all_bound st.env ((x, v) ∷ []) }))
     meaning (with_values line ps body) a st =
-        bind (at (tag a line) (named_values world calls ps a st.env)) (λ bs. within (scope_of bs []) (meanings body a) st)
+        bind (at (tag a line) (named_values world calls ps a st.env)) (λ bs. within bs (meanings body a) st)
     meaning (filter_block line fs body) a st =
         bind (captured a.escaping (meanings body a) st.env) (λ v.
-        at (tag a line) (bind (through fs a st.env v) (λ w. bind (shown a.escaping w) (λ s. gives (put st s)))))
+        at (tag a line) (bind (through fs a st.env (gives v)) (λ w. bind (shown a.escaping w) (λ s. gives (put st s)))))
     meaning (autoescape line on body) a st = within [] (meanings body (record a { escaping = on })) st
     meaning (block line x scoped required body) a st =
         bind (block_text calls a.home (bodies world.sources world.escaping a.home x) (if scoped then st.env else top st.env.globals)) (λ s. gives (put st s))

@@ -1,9 +1,36 @@
 -- Names that trees read or bind, and chains that they include.
-use Rattle.std.specs.Prelude.{List, [], ◌∷◌, ◌++◌, map, Option, Some, None}
-use Rattle.jt_expr.specs.Trees.{Expr}
-use Rattle.jt_inherit.specs.Small.{expr_names, row_names, pair_names}
+use Rattle.std.specs.Prelude.{Bool, not, ◌||◌, if◌then◌else◌, List, [], ◌∷◌, ◌++◌, map, Option, Some, None}
+use Rattle.jt_expr.specs.Trees.{Expr, constant, name, group, list_of, map_of, attribute, item, call, filter, test, unary, binary, when, choice, Exprs, no_exprs, expr, Pairs, no_pairs, pair}
+use Rattle.jt_breadth.specs.Chain.{is_loop}
 use Rattle.jt_breadth.specs.Trees.{Text, Filtering, Stmt, data_of, print, choose, for_each, set, set_block, with_values, filter_block, autoescape, macro, include, extends, block, Body, end, stmt, Branches, no_branches, branch}
 use Rattle.jt_breadth.specs.Expressions.{keywords}
+
+-- ---- the names that an expression reads: what is called, and `loop`, are no values
+
+abbrev mutual
+  pub expr_names : Expr → List Text
+  expr_names (constant l) = []
+  expr_names (name x) = x ∷ []
+  expr_names (group a) = expr_names a
+  expr_names (list_of ts) = row_names ts
+  expr_names (map_of ps) = pair_names ps
+  expr_names (attribute a k) = if is_loop a then [] else expr_names a
+  expr_names (item a b) = expr_names a ++ expr_names b
+  expr_names (call a ts ps) = row_names ts ++ pair_names ps
+  expr_names (filter a x ts ps) = expr_names a ++ (row_names ts ++ pair_names ps)
+  expr_names (test a n x ts ps) = expr_names a ++ (row_names ts ++ pair_names ps)
+  expr_names (unary o a) = expr_names a
+  expr_names (binary o a b) = expr_names a ++ expr_names b
+  expr_names (when c a) = expr_names c ++ expr_names a
+  expr_names (choice c a b) = expr_names c ++ (expr_names a ++ expr_names b)
+
+  pub row_names : Exprs → List Text
+  row_names no_exprs = []
+  row_names (expr a ts) = expr_names a ++ row_names ts
+
+  pub pair_names : Pairs → List Text
+  pair_names no_pairs = []
+  pair_names (pair k a ps) = expr_names a ++ pair_names ps
 
 abbrev pub condition_names : Option Expr → List Text
 condition_names None = []
@@ -57,25 +84,26 @@ abbrev mutual
   set_under no_branches = []
   set_under (branch line c body rest) = set_in body ++ set_under rest
 
--- ---- the templates that a template includes, as often as they stand there
+-- ---- the templates that a template includes, as often as they stand there: all, or those alone that may not be missing
 
-abbrev mutual
-  pub includes_by : Stmt → List Text
-  includes_by (include line n ignore_missing with_context) = n ∷ []
-  includes_by (choose bs other) = includes_under bs ++ includes_in other
-  includes_by (for_each line xs e c body other) = includes_in body ++ includes_in other
-  includes_by (set_block line x body) = includes_in body
-  includes_by (with_values line ps body) = includes_in body
-  includes_by (filter_block line fs body) = includes_in body
-  includes_by (autoescape line on body) = includes_in body
-  includes_by (macro line x ps body) = includes_in body
-  includes_by (block line x scoped required body) = includes_in body
-  includes_by s = []
+module _ (all : Bool) where
+  abbrev mutual
+    pub needs_by : Stmt → List Text
+    needs_by (include line n ignore_missing with_context) = if all || not ignore_missing then n ∷ [] else []
+    needs_by (choose bs other) = needs_under bs ++ needs_in other
+    needs_by (for_each line xs e c body other) = needs_in body ++ needs_in other
+    needs_by (set_block line x body) = needs_in body
+    needs_by (with_values line ps body) = needs_in body
+    needs_by (filter_block line fs body) = needs_in body
+    needs_by (autoescape line on body) = needs_in body
+    needs_by (macro line x ps body) = needs_in body
+    needs_by (block line x scoped required body) = needs_in body
+    needs_by s = []
 
-  pub includes_in : Body → List Text
-  includes_in end = []
-  includes_in (stmt s rest) = includes_by s ++ includes_in rest
+    pub needs_in : Body → List Text
+    needs_in end = []
+    needs_in (stmt s rest) = needs_by s ++ needs_in rest
 
-  pub includes_under : Branches → List Text
-  includes_under no_branches = []
-  includes_under (branch line c body rest) = includes_in body ++ includes_under rest
+    pub needs_under : Branches → List Text
+    needs_under no_branches = []
+    needs_under (branch line c body rest) = needs_in body ++ needs_under rest

@@ -1,5 +1,5 @@
 -- Names to slots, and macros, blocks and chains to routines.
-use Rattle.std.specs.Prelude.{ℕ, zero, suc, pos, max, Bool, true, false, List, [], ◌∷◌, length, map, Option, Some, None, if◌then◌else◌}
+use Rattle.std.specs.Prelude.{ℕ, zero, suc, ◌+◌, length, pos, max, Bool, true, false, List, [], ◌∷◌, map, Option, Some, None, if◌then◌else◌}
 use Rattle.std.specs.Option.{is_none}
 use Rattle.std.specs.Str.{bytes_eq}
 use Rattle.jt_value.specs.Tree as tree
@@ -118,10 +118,10 @@ filled (p ∷ ps) zero d ks = slots.item (value_or (slot_in p.name ks) (known d)
 
 -- the same for a filter, up to the last one that is given by name
 abbrev pub filled_some : List Parameter → ℕ → List Text → Table → SRow Constant
-filled_some [] given names ks = none
-filled_some (p ∷ ps) (suc given) names ks = filled_some ps given names ks
-filled_some (p ∷ ps) zero names ks =
-    if some_given (p ∷ ps) names then slots.item (value_or (slot_in p.name ks) (own (default_value p.default))) (filled_some ps zero names ks) else none
+filled_some [] given xs ks = none
+filled_some (p ∷ ps) (suc given) xs ks = filled_some ps given xs ks
+filled_some (p ∷ ps) zero xs ks =
+    if some_given (p ∷ ps) xs then slots.item (value_or (slot_in p.name ks) (own (default_value p.default))) (filled_some ps zero xs ks) else none
 
 -- the first so many locals
 abbrev pub first_locals : ℕ → List Text → SRow Constant
@@ -161,18 +161,22 @@ place sp line = record { template = sp.template; line = line }
 abbrev pub grown : Spot → Spot
 grown sp = record sp { free = suc sp.free }
 
--- a name gets a local of its own, and each of these, the later ones further inside
-abbrev pub bound_one : Text → Spot → Spot
-bound_one x sp = record sp { table = (x, local sp.free) ∷ sp.table; free = suc sp.free }
+-- these names get locals from one on, the later ones further inside
+abbrev pub bound_table : List Text → ℕ → Table → Table
+bound_table [] n table = table
+bound_table (x ∷ xs) n table = bound_table xs (suc n) ((x, local n) ∷ table)
 
 abbrev pub bound_all : List Text → Spot → Spot
-bound_all [] sp = sp
-bound_all (x ∷ xs) sp = bound_all xs (bound_one x sp)
+bound_all xs sp = record sp { table = bound_table xs sp.free sp.table; free = sp.free + length xs }
+
+-- what names read, into locals from one on, in front of a body
+abbrev pub copied : Place → Table → ℕ → List Text → SBody Constant → SBody Constant
+copied p table n [] behind = behind
+copied p table n (x ∷ xs) behind = slots.stmt (assign p (one (local n)) (read_from (slot_in x table))) (copied p table (suc n) xs behind)
 
 -- a scope that sets these names: each has a local of its own, which begins with what the name reads
 abbrev pub scoped : List Text → Spot → (Spot → SBody Constant) → SBody Constant
-scoped [] sp inner = inner sp
-scoped (x ∷ xs) sp inner = slots.stmt (assign (place sp 1) (one (local sp.free)) (read_from (slot_in x sp.table))) (scoped xs (bound_one x sp) inner)
+scoped xs sp inner = copied (place sp 1) sp.table sp.free xs (inner (bound_all xs sp))
 
 -- the first body that `super()` goes on with
 abbrev pub next_given : List (ℕ × BlockBody) → Option ℕ

@@ -92,18 +92,22 @@ pub record IsGood (k : Code) (c : Config) : Type 0 where
   pub sized : AreAllSized c.left.size c.machine.state.entries c.machine.callers
 
 -- what an action gives from these entries, and those of the activations that wait: a machine that fits, whose values are those before
--- or within the demand, or an end
+-- or within the demand, and where as many calls wait as the demand says, or an end
 abbrev pub IsFineAction : Code → List Entry → List Caller → Action → Type 0
-IsFineAction k es above (step.goes_on m d) = IsFit k m × ((n : ℕ) → AreAllSized n es above → d.size ≤ n → AreAllSized n m.state.entries m.callers)
+IsFineAction k es above (step.goes_on m d) = IsFit k m × ((n : ℕ) → AreAllSized n es above → d.size ≤ n → AreAllSized n m.state.entries m.callers) × (length m.callers + d.returns ≡ length above + d.calls)
 IsFineAction k es above (ends t) = Unit {0}
 IsFineAction k es above (faulty f) = Unit {0}
 IsFineAction k es above wrong = ⊥
 
--- what a step gives: a good configuration with less fuel, or an end
-abbrev pub IsFineStep : Code → ℕ → Next → Type 0
-IsFineStep k fuel (Goes d) = IsGood k d × (d.left.fuel < fuel)
-IsFineStep k fuel (Ends o) = Unit {0}
-IsFineStep k fuel Wrong = ⊥
+-- what is left of the depth, and the calls that are open
+abbrev pub depth_of : Config → ℕ
+depth_of c = c.left.depth + length c.machine.callers
+
+-- what a step gives: a good configuration with less fuel, where the depth is kept, or an end
+abbrev pub IsFineStep : Code → ℕ → ℕ → Next → Type 0
+IsFineStep k fuel depth (Goes d) = IsGood k d × (d.left.fuel < fuel) × (depth_of d ≡ depth)
+IsFineStep k fuel depth (Ends o) = Unit {0}
+IsFineStep k fuel depth Wrong = ⊥
 
 -- ---- what an effect without a flaw says
 
@@ -251,8 +255,8 @@ module _ (k : Code) (m : Machine) (g : IsFit k m) (l : Leads) (agree : Agrees k 
   Fine a = IsFineAction k es m.callers a
 
   -- at a point of the unit, above the same callers
-  lands : (p : ℕ) (fs : List Entry) (ls gs : List Tree) (bs : List (List ℕ)) (d : Demand) → g.shapes p ≡ Some (kinds_of fs) → length ls ≡ length m.state.locals → length gs ≡ length m.state.globals → length bs ≡ suc (captures fs + above) → ((n : ℕ) → AreSized n es → d.size ≤ n → AreSized n fs) → Fine (step.goes_on (moved p fs ls gs bs m) d)
-  lands p fs ls gs bs d here locals globals buffers sized = (
+  lands : (p : ℕ) (fs : List Entry) (ls gs : List Tree) (bs : List (List ℕ)) (d : Demand) → g.shapes p ≡ Some (kinds_of fs) → length ls ≡ length m.state.locals → length gs ≡ length m.state.globals → length bs ≡ suc (captures fs + above) → ((n : ℕ) → AreSized n es → d.size ≤ n → AreSized n fs) → d.returns ≡ d.calls → Fine (step.goes_on (moved p fs ls gs bs m) d)
+  lands p fs ls gs bs d here locals globals buffers sized same = (
     record {
       all = g.all;
       unit = g.unit;
@@ -266,11 +270,12 @@ module _ (k : Code) (m : Machine) (g : IsFit k m) (l : Leads) (agree : Agrees k 
       buffers = buffers;
     },
     λ n all fits. (sized n all.0 fits, all.1),
+    ap (λ (n : ℕ). length m.callers + n) same,
   )
 
   -- the same with other entries alone
-  lands_on : (p : ℕ) (fs : List Entry) (d : Demand) → g.shapes p ≡ Some (kinds_of fs) → captures fs ≡ captures es → ((n : ℕ) → AreSized n es → d.size ≤ n → AreSized n fs) → Fine (step.goes_on (moved p fs m.state.locals m.state.globals m.state.buffers m) d)
-  lands_on p fs d here count sized = lands p fs m.state.locals m.state.globals m.state.buffers d here refl refl (rw count g.buffers) sized
+  lands_on : (p : ℕ) (fs : List Entry) (d : Demand) → g.shapes p ≡ Some (kinds_of fs) → captures fs ≡ captures es → ((n : ℕ) → AreSized n es → d.size ≤ n → AreSized n fs) → d.returns ≡ d.calls → Fine (step.goes_on (moved p fs m.state.locals m.state.globals m.state.buffers m) d)
+  lands_on p fs d here count sized same = lands p fs m.state.locals m.state.globals m.state.buffers d here refl refl (rw count g.buffers) sized same
 
   -- the point behind has the shape that goes on
   behind : (r : Shape) → goes_on g.unit m.point r ≡ Ok l → g.shapes (m.point + 1) ≡ Some r
@@ -282,7 +287,7 @@ module _ (k : Code) (m : Machine) (g : IsFit k m) (l : Leads) (agree : Agrees k 
 
   -- a value on top of what is there, at the next point
   pushed : (t : Tree) → goes_on g.unit m.point (kind.Value ∷ s) ≡ Ok l → Fine (straight (push t es m.state) m)
-  pushed t e = lands_on (m.point + 1) (value t ∷ es) (pushing t) (behind (kind.Value ∷ s) e) refl (λ n sized fits. (fits, sized))
+  pushed t e = lands_on (m.point + 1) (value t ∷ es) (pushing t) (behind (kind.Value ∷ s) e) refl (λ n sized fits. (fits, sized)) refl
 
   const_fine : (c : ℕ) → effect k g.unit m.point (op.Const c) s ≡ Ok l → Fine (strict k g.unit (op.Const c) m)
   const_fine c e = let a = require_ok _ _ _ l e in in_place _ _ a.0 (pushed (constant_value (slice_get k.constants c)) a.1)
@@ -306,31 +311,31 @@ module _ (k : Code) (m : Machine) (g : IsFit k m) (l : Leads) (agree : Agrees k 
   drop_fine : effect k g.unit m.point op.Drop s ≡ Ok l → Fine (strict k g.unit op.Drop m)
   drop_fine e =
       taken l broken FinePlain es (λ r. goes_on g.unit m.point r) (λ t fs. goes (with_entries m.state fs) no_demand) e
-      (λ t fs e' count sized. lands_on (m.point + 1) fs no_demand (behind (kinds_of fs) e') count (λ n z _. (sized n z).1))
+      (λ t fs e' count sized. lands_on (m.point + 1) fs no_demand (behind (kinds_of fs) e') count (λ n z _. (sized n z).1) refl)
 
   store_fine : (c : ℕ) → effect k g.unit m.point (op.Store c) s ≡ Ok l → Fine (strict k g.unit (op.Store c) m)
   store_fine c e =
       let b = require_ok _ _ _ l e in
       let there : ltb c (length m.state.locals) ≡ true = rw g.locals b.0 in
       in_place _ _ there (taken l broken FinePlain es (λ r. goes_on g.unit m.point r) (λ t fs. goes (record m.state { entries = fs; locals = slice_set m.state.locals c t }) no_demand) b.1
-      (λ t fs e' count sized. lands (m.point + 1) fs (slice_set m.state.locals c t) m.state.globals m.state.buffers no_demand (behind (kinds_of fs) e') (length-set m.state.locals c t) refl (rw count g.buffers) (λ n z _. (sized n z).1)))
+      (λ t fs e' count sized. lands (m.point + 1) fs (slice_set m.state.locals c t) m.state.globals m.state.buffers no_demand (behind (kinds_of fs) e') (length-set m.state.locals c t) refl (rw count g.buffers) (λ n z _. (sized n z).1) refl))
 
   store_global_fine : (c : ℕ) → effect k g.unit m.point (op.GStore c) s ≡ Ok l → Fine (strict k g.unit (op.GStore c) m)
   store_global_fine c e =
       let b = require_ok _ _ _ l e in
       let there : ltb c (length m.state.globals) ≡ true = rw g.globals b.0 in
       in_place _ _ there (taken l broken FinePlain es (λ r. goes_on g.unit m.point r) (λ t fs. goes (record m.state { entries = fs; globals = slice_set m.state.globals c t }) no_demand) b.1
-      (λ t fs e' count sized. lands (m.point + 1) fs m.state.locals (slice_set m.state.globals c t) m.state.buffers no_demand (behind (kinds_of fs) e') refl (length-set m.state.globals c t) (rw count g.buffers) (λ n z _. (sized n z).1)))
+      (λ t fs e' count sized. lands (m.point + 1) fs m.state.locals (slice_set m.state.globals c t) m.state.buffers no_demand (behind (kinds_of fs) e') refl (length-set m.state.globals c t) (rw count g.buffers) (λ n z _. (sized n z).1) refl))
 
   dup_fine : effect k g.unit m.point op.Dup s ≡ Ok l → Fine (strict k g.unit op.Dup m)
   dup_fine e =
       taken l broken FinePlain es (λ r. goes_on g.unit m.point (kind.Value ∷ kind.Value ∷ r)) (λ t fs. push t (value t ∷ fs) m.state) e
-      (λ t fs e' count sized. lands_on (m.point + 1) (value t ∷ value t ∷ fs) (pushing t) (behind (kind.Value ∷ kind.Value ∷ kinds_of fs) e') count (λ n z fits. (fits, sized n z)))
+      (λ t fs e' count sized. lands_on (m.point + 1) (value t ∷ value t ∷ fs) (pushing t) (behind (kind.Value ∷ kind.Value ∷ kinds_of fs) e') count (λ n z fits. (fits, sized n z)) refl)
 
   -- bytes into the innermost buffer, with entries that hold as many captures
   put_fine : (bytes : List ℕ) (bs : List (List ℕ)) (fs : List Entry) → length bs ≡ suc (captures fs + above) → g.shapes (m.point + 1) ≡ Some (kinds_of fs) → ((n : ℕ) → AreSized n es → AreSized n fs) → FinePlain (put bytes bs (with_entries m.state fs))
   put_fine bytes [] fs count here sized = absurd (omega arith)
-  put_fine bytes (b ∷ bs) fs count here sized = lands (m.point + 1) fs m.state.locals m.state.globals ((b ++ bytes) ∷ bs) (emitting bytes) here refl refl count (λ n z _. sized n z)
+  put_fine bytes (b ∷ bs) fs count here sized = lands (m.point + 1) fs m.state.locals m.state.globals ((b ++ bytes) ∷ bs) (emitting bytes) here refl refl count (λ n z _. sized n z) refl
 
   printed_fine : (o : Option (List ℕ)) (fs : List Entry) → length m.state.buffers ≡ suc (captures fs + above) → g.shapes (m.point + 1) ≡ Some (kinds_of fs) → ((n : ℕ) → AreSized n es → AreSized n fs) → FinePlain (put_printed o (with_entries m.state fs))
   printed_fine None fs count here sized = tt
@@ -346,7 +351,7 @@ module _ (k : Code) (m : Machine) (g : IsFit k m) (l : Leads) (agree : Agrees k 
   data_fine c e = let a = require_ok _ _ _ l e in in_place _ _ a.0 (put_fine (text_of (slice_get k.constants c)) m.state.buffers es g.buffers (behind s a.1) (λ n z. z))
 
   jump_fine : (p : ℕ) → effect k g.unit m.point (op.Jump p) s ≡ Ok l → Fine (strict k g.unit (op.Jump p) m)
-  jump_fine p e = lands_on p es no_demand (jumps_ok k g.unit g.shapes p s l e agree) refl (λ n z _. z)
+  jump_fine p e = lands_on p es no_demand (jumps_ok k g.unit g.shapes p s l e agree) refl (λ n z _. z) refl
 
   -- to either of two points
   either_place : (b : Bool) (p q : ℕ) (r : Shape) → g.shapes p ≡ Some r → g.shapes q ≡ Some r → g.shapes (cond b p q) ≡ Some r
@@ -358,18 +363,18 @@ module _ (k : Code) (m : Machine) (g : IsFit k m) (l : Leads) (agree : Agrees k 
       taken l wrong Fine es (λ r. branches g.unit m.point p r) (λ t fs. step.goes_on (record m { point = cond (truth t) (m.point + 1) p; state = with_entries m.state fs }) no_demand) e
       (λ t fs e' count sized.
       let b = branches_ok k g.unit g.shapes m.point p (kinds_of fs) l e' agree in
-      lands_on (cond (truth t) (m.point + 1) p) fs no_demand (either_place (truth t) (m.point + 1) p (kinds_of fs) b.0 b.1) count (λ n z _. (sized n z).1))
+      lands_on (cond (truth t) (m.point + 1) p) fs no_demand (either_place (truth t) (m.point + 1) p (kinds_of fs) b.0 b.1) count (λ n z _. (sized n z).1) refl)
 
   if_true_fine : (p : ℕ) → effect k g.unit m.point (op.JumpIfTrue p) s ≡ Ok l → Fine (strict k g.unit (op.JumpIfTrue p) m)
   if_true_fine p e =
       taken l wrong Fine es (λ r. branches g.unit m.point p r) (λ t fs. step.goes_on (record m { point = cond (truth t) p (m.point + 1); state = with_entries m.state fs }) no_demand) e
       (λ t fs e' count sized.
       let b = branches_ok k g.unit g.shapes m.point p (kinds_of fs) l e' agree in
-      lands_on (cond (truth t) p (m.point + 1)) fs no_demand (either_place (truth t) p (m.point + 1) (kinds_of fs) b.1 b.0) count (λ n z _. (sized n z).1))
+      lands_on (cond (truth t) p (m.point + 1)) fs no_demand (either_place (truth t) p (m.point + 1) (kinds_of fs) b.1 b.0) count (λ n z _. (sized n z).1) refl)
 
   -- what an operation gives, in place of the values that it took
   given_fine : (r : Result Tree Fault) (fs : List Entry) → captures fs ≡ captures es → goes_on g.unit m.point (kind.Value ∷ kinds_of fs) ≡ Ok l → ((n : ℕ) → AreSized n es → AreSized n fs) → FinePlain (push_given r fs m.state)
-  given_fine (Ok t) fs count e sized = lands_on (m.point + 1) (value t ∷ fs) (pushing t) (behind (kind.Value ∷ kinds_of fs) e) count (λ n z fits. (fits, sized n z))
+  given_fine (Ok t) fs count e sized = lands_on (m.point + 1) (value t ∷ fs) (pushing t) (behind (kind.Value ∷ kinds_of fs) e) count (λ n z fits. (fits, sized n z)) refl
   given_fine (Err x) fs count e sized = tt
 
   makes_fine : (n : ℕ) (operate : List Tree → Result Tree Fault) → pops_many n s (λ r. goes_on g.unit m.point (kind.Value ∷ r)) ≡ Ok l → FinePlain (makes n operate m.state)
@@ -390,7 +395,7 @@ module _ (k : Code) (m : Machine) (g : IsFit k m) (l : Leads) (agree : Agrees k 
   -- ---- loops
 
   begins_fine : (r : Result Items Fault) (fs : List Entry) → captures fs ≡ captures es → goes_on g.unit m.point (kind.Frame ∷ kinds_of fs) ≡ Ok l → ((n : ℕ) → AreSized n es → AreSized n fs) → FinePlain (begins r fs m.state)
-  begins_fine (Ok ts) fs count e sized = lands_on (m.point + 1) (frame (loop_over (trees_of ts)) ∷ fs) no_demand (behind (kind.Frame ∷ kinds_of fs) e) count (λ n z _. sized n z)
+  begins_fine (Ok ts) fs count e sized = lands_on (m.point + 1) (frame (loop_over (trees_of ts)) ∷ fs) no_demand (behind (kind.Frame ∷ kinds_of fs) e) count (λ n z _. sized n z) refl
   begins_fine (Err x) fs count e sized = tt
 
   start_fine : effect k g.unit m.point op.LoopStart s ≡ Ok l → Fine (strict k g.unit op.LoopStart m)
@@ -409,8 +414,8 @@ module _ (k : Code) (m : Machine) (g : IsFit k m) (l : Leads) (agree : Agrees k 
       let b = branches_ok k g.unit g.shapes m.point p (kind.Frame ∷ kinds_of fs) l e' agree in
       let same : g.shapes p ≡ Some s = b.1 ∙ ap (λ (xs : List Entry). Some (kinds_of xs)) (sym is) in
       either_fine (nat_lt f.position (length f.items)) _ _
-      (lands_on (m.point + 1) (frame (advanced f) ∷ fs) no_demand b.0 count (λ n z _. sized n z))
-      (lands_on p es no_demand same refl (λ n z _. z)))
+      (lands_on (m.point + 1) (frame (advanced f) ∷ fs) no_demand b.0 count (λ n z _. sized n z) refl)
+      (lands_on p es no_demand same refl (λ n z _. z) refl))
 
   get_fine : (a c : ℕ) → effect k g.unit m.point (op.LoopGet a c) s ≡ Ok l → Fine (strict k g.unit (op.LoopGet a c) m)
   get_fine a c e =
@@ -421,8 +426,8 @@ module _ (k : Code) (m : Machine) (g : IsFit k m) (l : Leads) (agree : Agrees k 
   -- the loop with the current item kept, or as it was
   kept_fine : (b : Bool) (fs : List Entry) (c : ℕ) (f : Frame) → slice_get fs c ≡ Some (frame f) → captures fs ≡ captures es → goes_on g.unit m.point (kinds_of fs) ≡ Ok l → ((n : ℕ) → AreSized n es → AreSized n fs) → FinePlain (goes (with_entries m.state (cond b (slice_set fs c (frame (keeping f))) fs)) no_demand)
   kept_fine true fs c f is count e sized =
-      lands_on (m.point + 1) (slice_set fs c (frame (keeping f))) no_demand (behind (kinds_of fs) e ∙ ap Some (sym (kinds-set fs c f (keeping f) is))) (captures-set fs c f (keeping f) is ∙ count) (λ n z _. sized-set n fs c f (keeping f) is (sized n z))
-  kept_fine false fs c f is count e sized = lands_on (m.point + 1) fs no_demand (behind (kinds_of fs) e) count (λ n z _. sized n z)
+      lands_on (m.point + 1) (slice_set fs c (frame (keeping f))) no_demand (behind (kinds_of fs) e ∙ ap Some (sym (kinds-set fs c f (keeping f) is))) (captures-set fs c f (keeping f) is ∙ count) (λ n z _. sized-set n fs c f (keeping f) is (sized n z)) refl
+  kept_fine false fs c f is count e sized = lands_on (m.point + 1) fs no_demand (behind (kinds_of fs) e) count (λ n z _. sized n z) refl
 
   keep_fine : (c : ℕ) → effect k g.unit m.point (op.LoopKeep c) s ≡ Ok l → Fine (strict k g.unit (op.LoopKeep c) m)
   keep_fine c e =
@@ -434,7 +439,7 @@ module _ (k : Code) (m : Machine) (g : IsFit k m) (l : Leads) (agree : Agrees k 
   rewind_fine : effect k g.unit m.point op.LoopRewind s ≡ Ok l → Fine (strict k g.unit op.LoopRewind m)
   rewind_fine e =
       taken_frame l broken FinePlain es (λ r. goes_on g.unit m.point (kind.Frame ∷ r)) (λ f fs. goes (with_entries m.state (frame (loop_over f.kept) ∷ fs)) no_demand) e
-      (λ f fs is e' count sized. lands_on (m.point + 1) (frame (loop_over f.kept) ∷ fs) no_demand (behind (kind.Frame ∷ kinds_of fs) e') count (λ n z _. sized n z))
+      (λ f fs is e' count sized. lands_on (m.point + 1) (frame (loop_over f.kept) ∷ fs) no_demand (behind (kind.Frame ∷ kinds_of fs) e') count (λ n z _. sized n z) refl)
 
   end_fine : effect k g.unit m.point op.LoopEnd s ≡ Ok l → Fine (strict k g.unit op.LoopEnd m)
   end_fine e =
@@ -444,13 +449,14 @@ module _ (k : Code) (m : Machine) (g : IsFit k m) (l : Leads) (agree : Agrees k 
   -- ---- captures
 
   open_fine : effect k g.unit m.point op.CaptureBegin s ≡ Ok l → Fine (strict k g.unit op.CaptureBegin m)
-  open_fine e = lands (m.point + 1) (capture ∷ es) m.state.locals m.state.globals ([] ∷ m.state.buffers) no_demand (behind (kind.Capture ∷ s) e) refl refl (omega (arith, g.buffers)) (λ n z _. z)
+  open_fine e = lands (m.point + 1) (capture ∷ es) m.state.locals m.state.globals ([] ∷ m.state.buffers) no_demand (behind (kind.Capture ∷ s) e) refl refl (omega (arith, g.buffers)) (λ n z _. z) refl
 
   closes_fine : (b : Bool) (bs : List (List ℕ)) (fs : List Entry) → length bs ≡ suc (captures es + above) → captures es ≡ suc (captures fs) → goes_on g.unit m.point (kind.Value ∷ kinds_of fs) ≡ Ok l → ((n : ℕ) → AreSized n es → AreSized n fs) → FinePlain (closes b bs fs m.state)
   closes_fine b [] fs count one e sized = absurd (omega arith)
-  closes_fine b (bytes ∷ bs) fs count one e sized =
+  closes_fine b (bytes ∷ []) fs count one e sized = absurd (omega (arith, one))
+  closes_fine b (bytes ∷ d ∷ bs) fs count one e sized =
       let t : Tree = cond b (tree.markup bytes) (tree.text bytes) in
-      lands (m.point + 1) (value t ∷ fs) m.state.locals m.state.globals bs (pushing t) (behind (kind.Value ∷ kinds_of fs) e) refl refl (omega (arith, count, one)) (λ n z fits. (fits, sized n z))
+      lands (m.point + 1) (value t ∷ fs) m.state.locals m.state.globals (d ∷ bs) (pushing t) (behind (kind.Value ∷ kinds_of fs) e) refl refl (omega (arith, count, one)) (λ n z fits. (fits, sized n z)) refl
 
   close_fine : (a : ℕ) → effect k g.unit m.point (op.CaptureEnd a) s ≡ Ok l → Fine (strict k g.unit (op.CaptureEnd a) m)
   close_fine a e =
@@ -463,7 +469,7 @@ module _ (k : Code) (m : Machine) (g : IsFit k m) (l : Leads) (agree : Agrees k 
   spreads_fine : (b : Bool) (n : ℕ) (ts : List Tree) (fs : List Entry) → eqb (length ts) n ≡ b → captures fs ≡ captures es → goes_on g.unit m.point (pushes n (kinds_of fs)) ≡ Ok l → ((z : ℕ) → AreSized z es → AreSized z fs) → FinePlain (cond b (goes (with_entries m.state (piled ts fs)) (pushing_all ts)) (faults_by faults.Unpack))
   spreads_fine true n ts fs is count e sized =
       let there : g.shapes (m.point + 1) ≡ Some (kinds_of (piled ts fs)) = behind (pushes n (kinds_of fs)) e ∙ ap (λ (z : ℕ). Some (pushes z (kinds_of fs))) (sym (eqb-true (length ts) n is)) ∙ ap Some (sym (kinds-piled ts fs)) in
-      lands_on (m.point + 1) (piled ts fs) (pushing_all ts) there (captures-piled ts fs ∙ count) (λ z all fits. sized-piled z ts fs fits (sized z all))
+      lands_on (m.point + 1) (piled ts fs) (pushing_all ts) there (captures-piled ts fs ∙ count) (λ z all fits. sized-piled z ts fs fits (sized z all)) refl
   spreads_fine false n ts fs is count e sized = tt
 
   unpacks_fine : (n : ℕ) (r : Result Items Fault) (fs : List Entry) → captures fs ≡ captures es → goes_on g.unit m.point (pushes n (kinds_of fs)) ≡ Ok l → ((z : ℕ) → AreSized z es → AreSized z fs) → FinePlain (unpacks n r fs m.state)
@@ -494,6 +500,7 @@ module _ (k : Code) (m : Machine) (g : IsFit k m) (l : Leads) (agree : Agrees k 
           buffers = omega (arith, g.buffers, count);
         },
         λ z all _. (tt, (sized z all.0, all.1)),
+        omega arith,
       )
 
   call_at : (n : ℕ) (o : Option Section) → slice_get k.units n ≡ o → calls g.unit m.point o s ≡ Ok l → Fine (cond (is_some o) (calls_unit n o m) wrong)
@@ -506,8 +513,8 @@ module _ (k : Code) (m : Machine) (g : IsFit k m) (l : Leads) (agree : Agrees k 
   call_fine n e = call_at n (slice_get k.units n) refl e
 
   -- a caller goes on, with what the unit gives on top of its entries
-  resumed_fine : (n : ℕ) (a : Caller) (rest : List Caller) (fs gs : List Entry) (d : Demand) → AreWaiting k n (a ∷ rest) → gives n (kinds_of a.entries) ≡ kinds_of gs → captures gs ≡ captures a.entries → length m.state.buffers ≡ suc (captures_above (a ∷ rest)) → ((z : ℕ) → AreSized z a.entries → d.size ≤ z → AreSized z gs) → IsFineAction k fs (a ∷ rest) (step.goes_on (resumed a rest gs m) d)
-  resumed_fine n a rest fs gs d w kinds count buffers sized = (
+  resumed_fine : (n : ℕ) (a : Caller) (rest : List Caller) (fs gs : List Entry) (d : Demand) → AreWaiting k n (a ∷ rest) → gives n (kinds_of a.entries) ≡ kinds_of gs → captures gs ≡ captures a.entries → length m.state.buffers ≡ suc (captures_above (a ∷ rest)) → ((z : ℕ) → AreSized z a.entries → d.size ≤ z → AreSized z gs) → d.returns ≡ suc d.calls → IsFineAction k fs (a ∷ rest) (step.goes_on (resumed a rest gs m) d)
+  resumed_fine n a rest fs gs d w kinds count buffers sized back = (
     record {
       all = g.all;
       unit = w.0.unit;
@@ -521,6 +528,7 @@ module _ (k : Code) (m : Machine) (g : IsFit k m) (l : Leads) (agree : Agrees k 
       buffers = omega (arith, buffers, count);
     },
     λ z all fits. (sized z all.1.0 fits, all.1.1),
+    omega (arith, back),
   )
 
   -- the first activation returns with no entries, so one buffer is left
@@ -531,9 +539,9 @@ module _ (k : Code) (m : Machine) (g : IsFit k m) (l : Leads) (agree : Agrees k 
 
   returned_fine : (rest : List Caller) (n : ℕ) (fs : List Entry) → AreWaiting k n rest → may_return n (kinds_of fs) ≡ true → length m.state.buffers ≡ suc (captures fs + captures_above rest) → IsFineAction k fs rest (back_to rest (given_by n fs) m.state.buffers m)
   returned_fine [] zero [] w ok count = ends_fine [] m.state.buffers count
-  returned_fine (a ∷ rest) zero [] w ok count = resumed_fine 0 a rest [] a.entries step.returning w refl refl (omega (arith, count)) (λ z all _. all)
+  returned_fine (a ∷ rest) zero [] w ok count = resumed_fine 0 a rest [] a.entries step.returning w refl refl (omega (arith, count)) (λ z all _. all) refl
   returned_fine [] (suc n) (value t ∷ []) w ok count = absurd (omega (arith, w))
-  returned_fine (a ∷ rest) (suc n) (value t ∷ []) w ok count = resumed_fine (suc n) a rest (value t ∷ []) (value t ∷ a.entries) (record (pushing t) { returns = 1 }) w refl refl (omega (arith, count)) (λ z all fits. (fits, all))
+  returned_fine (a ∷ rest) (suc n) (value t ∷ []) w ok count = resumed_fine (suc n) a rest (value t ∷ []) (value t ∷ a.entries) (record (pushing t) { returns = 1 }) w refl refl (omega (arith, count)) (λ z all fits. (fits, all)) refl
   returned_fine rest n fs w ok count = absurd cc
 
   return_fine : effect k g.unit m.point op.Return s ≡ Ok l → Fine (strict k g.unit op.Return m)
@@ -599,30 +607,31 @@ cost_positive (op.Unpack c) m = omega arith
 cost_positive (op.Call n) m = omega arith
 cost_positive op.Return m = omega arith
 
-unless_fine : (k : Code) (fuel : ℕ) (b : Bool) (l : config.Limit) (n : Next) → (b ≡ false → IsFineStep k fuel n) → IsFineStep k fuel (unless b l n)
-unless_fine k fuel true l n h = tt
-unless_fine k fuel false l n h = h refl
+unless_fine : (k : Code) (fuel depth : ℕ) (b : Bool) (l : config.Limit) (n : Next) → (b ≡ false → IsFineStep k fuel depth n) → IsFineStep k fuel depth (unless b l n)
+unless_fine k fuel depth true l n h = tt
+unless_fine k fuel depth false l n h = h refl
 
-spends_fine : (k : Code) (es : List Entry) (above : List Caller) (n : ℕ) (a : Action) (b : Budget) → 1 ≤ n → AreAllSized b.size es above → IsFineAction k es above a → IsFineStep k b.fuel (spends n a b)
+spends_fine : (k : Code) (es : List Entry) (above : List Caller) (n : ℕ) (a : Action) (b : Budget) → 1 ≤ n → AreAllSized b.size es above → IsFineAction k es above a → IsFineStep k b.fuel (b.depth + length above) (spends n a b)
 spends_fine k es above n (step.goes_on m d) b positive sized fine =
-    unless_fine k b.fuel (nat_lt b.fuel n) config.fuel _ (λ enough.
-    unless_fine k b.fuel (nat_lt b.depth d.calls) config.depth _ (λ _.
-    unless_fine k b.fuel (nat_lt b.output d.bytes) config.output _ (λ _.
-    unless_fine k b.fuel (nat_lt b.size d.size) config.size _ (λ small.
-    unless_fine k b.fuel (nat_lt b.nesting d.nesting) config.nesting (Goes (record { machine = m; left = spared n d b })) (λ _.
+    unless_fine k b.fuel (b.depth + length above) (nat_lt b.fuel n) config.fuel _ (λ enough.
+    unless_fine k b.fuel (b.depth + length above) (nat_lt b.depth d.calls) config.depth _ (λ deep.
+    unless_fine k b.fuel (b.depth + length above) (nat_lt b.output d.bytes) config.output _ (λ _.
+    unless_fine k b.fuel (b.depth + length above) (nat_lt b.size d.size) config.size _ (λ small.
+    unless_fine k b.fuel (b.depth + length above) (nat_lt b.nesting d.nesting) config.nesting (Goes (record { machine = m; left = spared n d b })) (λ _.
     let fuel : n ≤ b.fuel = ltb-false _ _ enough in
-    (record { fit = fine.0; sized = fine.1 b.size sized (ltb-false _ _ small) }, omega arith))))))
-spends_fine k es above n (ends t) b positive sized fine = unless_fine k b.fuel (nat_lt b.fuel n) config.fuel (Ends (config.text t)) (λ _. tt)
-spends_fine k es above n (faulty f) b positive sized fine = unless_fine k b.fuel (nat_lt b.fuel n) config.fuel (Ends (config.fault f)) (λ _. tt)
+    let depth : d.calls ≤ b.depth = ltb-false _ _ deep in
+    (record { fit = fine.0; sized = fine.1 b.size sized (ltb-false _ _ small) }, omega arith, omega (arith, fine.2)))))))
+spends_fine k es above n (ends t) b positive sized fine = unless_fine k b.fuel (b.depth + length above) (nat_lt b.fuel n) config.fuel (Ends (config.text t)) (λ _. tt)
+spends_fine k es above n (faulty f) b positive sized fine = unless_fine k b.fuel (b.depth + length above) (nat_lt b.fuel n) config.fuel (Ends (config.fault f)) (λ _. tt)
 spends_fine k es above n wrong b positive sized fine = absurd fine
 
 at_instruction : (k : Code) (c : Config) (g : IsGood k c) (l : Leads) (o : Option Instruction) → slice_get g.fit.unit.code c.machine.point ≡ o → Agrees k g.fit.unit g.fit.shapes l
-    → effect_of k g.fit.unit c.machine.point o (kinds_of c.machine.state.entries) ≡ Ok l → IsFineStep k c.left.fuel (next k c)
+    → effect_of k g.fit.unit c.machine.point o (kinds_of c.machine.state.entries) ≡ Ok l → IsFineStep k c.left.fuel (depth_of c) (next k c)
 at_instruction k c g l None is a e = absurd cc
 at_instruction k c g l (Some i) is a e =
     rw (g.fit.is_unit, is) (spends_fine k c.machine.state.entries c.machine.callers (cost i c.machine.state) (strict k g.fit.unit i c.machine) c.left (cost_positive i c.machine.state) g.sized (strict_fine k c.machine g.fit l a i e))
 
-pub step_fine : (k : Code) (c : Config) → IsGood k c → IsFineStep k c.left.fuel (next k c)
+pub step_fine : (k : Code) (c : Config) → IsGood k c → IsFineStep k c.left.fuel (depth_of c) (next k c)
 step_fine k c g =
     let f = g.fit.typed.fine c.machine.point (kinds_of c.machine.state.entries) g.fit.here in
     at_instruction k c g f.leads (slice_get g.fit.unit.code c.machine.point) refl f.agree f.effect

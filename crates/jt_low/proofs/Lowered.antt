@@ -162,6 +162,11 @@ Keeps g deeper = Unit {0}
 abbrev pub CallsKeep : ℕ → SCalls → Type 0
 CallsKeep g call = (u : ℕ) (ts gs : List Tree) → length gs ≡ g → Keeps g (call u ts gs)
 
+-- one buffer is open
+abbrev pub IsOpen : List (List ℕ) → Type 0
+IsOpen [] = ⊥
+IsOpen (b ∷ bs) = Unit {0}
+
 -- where code stands in a loop, its frame is so many entries below the top
 abbrev pub FrameAt : Bool → ℕ → List Entry → Option Loop → Type 0
 FrameAt false h es l = Unit {0}
@@ -292,12 +297,13 @@ module _ (filters : Filters) (p : Program) (call : SCalls) (has : HasPool (compi
       ∙ popped_all vs es x.routine.parameters bad (λ ts fs. if length m.globals == k.globals then into_buffers q (call u ts m.globals) fs m.locals (out ∷ bufs) else bad) (e ∙ sym x.parameters)
       ∙ ap (λ b. if b then into_buffers q (call u vs m.globals) es m.locals (out ∷ bufs) else bad) (eq_true (length m.globals) p.globals g)
 
-  captured : (g : Got Written) (escaping : Bool) (q : Option Place) (es : List Entry) (bs : List (List ℕ)) (out : Text) (m : Memory) → Keeps p.globals g → Kept out m
+  captured : (g : Got Written) (escaping : Bool) (q : Option Place) (es : List Entry) (bs : List (List ℕ)) (out : Text) (m : Memory) → Keeps p.globals g → Kept out m → IsOpen bs
       → Does q (KeptValue out) (ValueOn es bs) (and_then (of_written q g (capture ∷ es) m.locals [] bs) (code (one q (op.CaptureEnd (flag escaping))))) (bind g (λ w. valued (record m { globals = w.globals }) (as_value escaping w.text)))
-  captured (gives w) true q es bs out m fit h = (refl, record { locals = h.locals; globals = fit; text = h.text })
-  captured (gives w) false q es bs out m fit h = (refl, record { locals = h.locals; globals = fit; text = h.text })
-  captured (fails e s) escaping q es bs out m fit h = refl
-  captured deeper escaping q es bs out m fit h = refl
+  captured (gives w) escaping q es [] out m fit h opened = absurd opened
+  captured (gives w) true q es (b ∷ bs) out m fit h opened = (refl, record { locals = h.locals; globals = fit; text = h.text })
+  captured (gives w) false q es (b ∷ bs) out m fit h opened = (refl, record { locals = h.locals; globals = fit; text = h.text })
+  captured (fails e s) escaping q es bs out m fit h opened = refl
+  captured deeper escaping q es bs out m fit h opened = refl
 
   -- ---- expressions
 
@@ -328,58 +334,58 @@ module _ (filters : Filters) (p : Program) (call : SCalls) (has : HasPool (compi
   load_does (global i) q es bs m = refl
 
   mutual
-    pub expr_does : (e : SExpr ℕ) (q : Option Place) (inside : Bool) (h : ℕ) (l : Option Loop) (es : List Entry) (bs : List (List ℕ)) (out : Text) (m : Memory) → ExprFits p count inside e → FrameAt inside h es l → Kept out m
+    pub expr_does : (e : SExpr ℕ) (q : Option Place) (inside : Bool) (h : ℕ) (l : Option Loop) (es : List Entry) (bs : List (List ℕ)) (out : Text) (m : Memory) → ExprFits p count inside e → FrameAt inside h es l → Kept out m → IsOpen bs
         → Does q (KeptValue out) (ValueOn es bs) (code (expr_asm q e h) (at_bufs es bs m)) (Means e l m)
-    expr_does (slots.pooled i) q inside h l es bs out m fit fr w = (ap (λ v. does (at_bufs (value v ∷ es) bs m)) (has.values i), w)
-    expr_does (slots.variable s) q inside h l es bs out m fit fr w = (load_does s q es bs m, w)
-    expr_does (slots.field x) q inside h l es bs out m fit fr w = field_does x q inside h l es bs out m fit fr w
-    expr_does (slots.made x r) q inside h l es bs out m fit fr w =
+    expr_does (slots.pooled i) q inside h l es bs out m fit fr w opened = (ap (λ v. does (at_bufs (value v ∷ es) bs m)) (has.values i), w)
+    expr_does (slots.variable s) q inside h l es bs out m fit fr w opened = (load_does s q es bs m, w)
+    expr_does (slots.field x) q inside h l es bs out m fit fr w opened = field_does x q inside h l es bs out m fit fr w
+    expr_does (slots.made x r) q inside h l es bs out m fit fr w opened =
         then_does q (KeptRow out (row_count r)) (RowOn es bs) (KeptValue out) (ValueOn es bs) (code (row_asm q r h) (at_bufs es bs m)) (MeansRow r l m) (code (one q (maker x (row_count r)))) (λ y. bind (checked (make filters x y.values)) (valued y.memory))
-        (row_does r q inside h l es bs out m fit.1 fr w)
+        (row_does r q inside h l es bs out m fit.1 fr w opened)
         (λ y j. made_does x (row_count r) y.values q es bs out y.memory fit.0 j.1 j.0)
-    expr_does (slots.conjunction a b) q inside h l es bs out m fit fr w =
+    expr_does (slots.conjunction a b) q inside h l es bs out m fit fr w opened =
         then_does q (KeptValue out) (ValueOn es bs) (KeptValue out) (ValueOn es bs) (code (expr_asm q a h) (at_bufs es bs m)) (Means a l m)
         (code (both (one q op.Dup) (choose (both (one q op.Drop) (expr_asm q b h)) nil))) (λ r. if tree.truth r.value then Means b l r.memory else gives r)
-        (expr_does a q inside h l es bs out m fit.0 fr w)
-        (λ r w'. either (tree.truth r.value) q (KeptValue out) (ValueOn es bs) (code (expr_asm q b h) (at_bufs es bs r.memory)) (does (ValueOn es bs r)) (Means b l r.memory) (gives r) (expr_does b q inside h l es bs out r.memory fit.1 fr w') (refl, w'))
-    expr_does (slots.disjunction a b) q inside h l es bs out m fit fr w =
+        (expr_does a q inside h l es bs out m fit.0 fr w opened)
+        (λ r w'. either (tree.truth r.value) q (KeptValue out) (ValueOn es bs) (code (expr_asm q b h) (at_bufs es bs r.memory)) (does (ValueOn es bs r)) (Means b l r.memory) (gives r) (expr_does b q inside h l es bs out r.memory fit.1 fr w' opened) (refl, w'))
+    expr_does (slots.disjunction a b) q inside h l es bs out m fit fr w opened =
         then_does q (KeptValue out) (ValueOn es bs) (KeptValue out) (ValueOn es bs) (code (expr_asm q a h) (at_bufs es bs m)) (Means a l m)
         (code (both (one q op.Dup) (choose nil (both (one q op.Drop) (expr_asm q b h))))) (λ r. if tree.truth r.value then gives r else Means b l r.memory)
-        (expr_does a q inside h l es bs out m fit.0 fr w)
-        (λ r w'. either (tree.truth r.value) q (KeptValue out) (ValueOn es bs) (does (ValueOn es bs r)) (code (expr_asm q b h) (at_bufs es bs r.memory)) (gives r) (Means b l r.memory) (refl, w') (expr_does b q inside h l es bs out r.memory fit.1 fr w'))
-    expr_does (slots.choice c a b) q inside h l es bs out m fit fr w =
+        (expr_does a q inside h l es bs out m fit.0 fr w opened)
+        (λ r w'. either (tree.truth r.value) q (KeptValue out) (ValueOn es bs) (does (ValueOn es bs r)) (code (expr_asm q b h) (at_bufs es bs r.memory)) (gives r) (Means b l r.memory) (refl, w') (expr_does b q inside h l es bs out r.memory fit.1 fr w' opened))
+    expr_does (slots.choice c a b) q inside h l es bs out m fit fr w opened =
         then_does q (KeptValue out) (ValueOn es bs) (KeptValue out) (ValueOn es bs) (code (expr_asm q c h) (at_bufs es bs m)) (Means c l m)
         (code (choose (expr_asm q a h) (expr_asm q b h))) (λ r. if tree.truth r.value then Means a l r.memory else Means b l r.memory)
-        (expr_does c q inside h l es bs out m fit.0 fr w)
+        (expr_does c q inside h l es bs out m fit.0 fr w opened)
         (λ r w'. either (tree.truth r.value) q (KeptValue out) (ValueOn es bs) (code (expr_asm q a h) (at_bufs es bs r.memory)) (code (expr_asm q b h) (at_bufs es bs r.memory)) (Means a l r.memory) (Means b l r.memory)
-        (expr_does a q inside h l es bs out r.memory fit.1 fr w') (expr_does b q inside h l es bs out r.memory fit.2 fr w'))
-    expr_does (slots.invoke u escaping r) q inside h l es bs out m fit fr w =
+        (expr_does a q inside h l es bs out r.memory fit.1 fr w' opened) (expr_does b q inside h l es bs out r.memory fit.2 fr w' opened))
+    expr_does (slots.invoke u escaping r) q inside h l es bs out m fit fr w opened =
         then_does q (KeptRow out (row_count r)) (RowOn (capture ∷ es) ([] ∷ bs)) (KeptValue out) (ValueOn es bs) (code (row_asm q r (suc h)) (at_bufs (capture ∷ es) ([] ∷ bs) m)) (MeansRow r l m)
         (code (both (invoke q u) (one q (op.CaptureEnd (flag escaping))))) (λ y. bind (call u y.values y.memory.globals) (λ g. valued (record y.memory { globals = g.globals }) (as_value escaping g.text)))
-        (row_does r q inside (suc h) l (capture ∷ es) ([] ∷ bs) out m fit.1 (raise inside h capture es l fr) w)
+        (row_does r q inside (suc h) l (capture ∷ es) ([] ∷ bs) out m fit.1 (raise inside h capture es l fr) w tt)
         (λ y j.
         same_run q (KeptValue out) (ValueOn es bs) _ (and_then (of_written q (call u y.values y.memory.globals) (capture ∷ es) y.memory.locals [] bs) (code (one q (op.CaptureEnd (flag escaping)))))
         (bind (call u y.values y.memory.globals) (λ g. valued (record y.memory { globals = g.globals }) (as_value escaping g.text)))
         (ap (λ s. and_then s (code (one q (op.CaptureEnd (flag escaping))))) (call_runs u (row_count r) y.values q (capture ∷ es) [] bs y.memory fit.0 j.1 j.0.globals))
-        (captured (call u y.values y.memory.globals) escaping q es bs out y.memory (keep u y.values y.memory.globals j.0.globals) j.0))
+        (captured (call u y.values y.memory.globals) escaping q es bs out y.memory (keep u y.values y.memory.globals j.0.globals) j.0 opened))
 
     -- a row: there are as many values as it leaves
-    pub row_does : (r : SRow ℕ) (q : Option Place) (inside : Bool) (h : ℕ) (l : Option Loop) (es : List Entry) (bs : List (List ℕ)) (out : Text) (m : Memory) → RowFits p count inside r → FrameAt inside h es l → Kept out m
+    pub row_does : (r : SRow ℕ) (q : Option Place) (inside : Bool) (h : ℕ) (l : Option Loop) (es : List Entry) (bs : List (List ℕ)) (out : Text) (m : Memory) → RowFits p count inside r → FrameAt inside h es l → Kept out m → IsOpen bs
         → Does q (KeptRow out (row_count r)) (RowOn es bs) (code (row_asm q r h) (at_bufs es bs m)) (MeansRow r l m)
-    row_does slots.none q inside h l es bs out m fit fr w = (refl, (w, refl))
-    row_does (slots.item e r) q inside h l es bs out m fit fr w =
+    row_does slots.none q inside h l es bs out m fit fr w opened = (refl, (w, refl))
+    row_does (slots.item e r) q inside h l es bs out m fit fr w opened =
         then_does q (KeptValue out) (ValueOn es bs) (KeptRow out (suc (row_count r))) (RowOn es bs) (code (expr_asm q e h) (at_bufs es bs m)) (Means e l m) (code (row_asm q r (suc h))) (λ y. bind (MeansRow r l y.memory) (λ ys. gives (in_front y.value ys)))
-        (expr_does e q inside h l es bs out m fit.0 fr w)
+        (expr_does e q inside h l es bs out m fit.0 fr w opened)
         (λ y w'. mapped_does q (KeptRow out (row_count r)) (RowOn (value y.value ∷ es) bs) (KeptRow out (suc (row_count r))) (RowOn es bs) (code (row_asm q r (suc h)) (at_bufs (value y.value ∷ es) bs y.memory)) (MeansRow r l y.memory) (in_front y.value)
-        (row_does r q inside (suc h) l (value y.value ∷ es) bs out y.memory fit.1 (raise inside h (value y.value) es l fr) w')
+        (row_does r q inside (suc h) l (value y.value ∷ es) bs out y.memory fit.1 (raise inside h (value y.value) es l fr) w' opened)
         (λ ys j. (refl, (j.0, ap suc j.1))))
-    row_does (slots.aside i e r) q inside h l es bs out m fit fr w =
+    row_does (slots.aside i e r) q inside h l es bs out m fit fr w opened =
         then_does q (KeptValue out) (ValueOn es bs) (KeptRow out (row_count r)) (RowOn es bs) (code (expr_asm q e h) (at_bufs es bs m)) (Means e l m) (code (both (one q (op.Store i)) (row_asm q r h))) (λ y. MeansRow r l (store (local i) y.value y.memory))
-        (expr_does e q inside h l es bs out m fit.1 fr w)
+        (expr_does e q inside h l es bs out m fit.1 fr w opened)
         (λ y w'.
         let s = store_does (local i) y.value q es bs out y.memory fit.0 w' in
         same_run q (KeptRow out (row_count r)) (RowOn es bs) _ (code (row_asm q r h) (at_bufs es bs (store (local i) y.value y.memory))) (MeansRow r l (store (local i) y.value y.memory)) (ap (λ z. and_then z (code (row_asm q r h))) s.0)
-        (row_does r q inside h l es bs out (store (local i) y.value y.memory) fit.2 fr s.1))
+        (row_does r q inside h l es bs out (store (local i) y.value y.memory) fit.2 fr s.1 opened))
 
   -- ---- loops
 
@@ -446,11 +452,11 @@ module _ (filters : Filters) (p : Program) (call : SCalls) (has : HasPool (compi
 
   -- the first pass over the items: those are kept for which the condition holds
   sift_does : (c : SExpr ℕ) (xs : Targets) (q : Option Place) (es : List Entry) (bs : List (List ℕ)) (out : Text) (all vs done : List Tree) (b : ℕ) (kept : List Tree) (m : Memory) → TargetsFit p count xs → ExprFits p count false c
-      → all ≡ done ++ vs → b ≡ length done → Kept out m
+      → all ≡ done ++ vs → b ≡ length done → Kept out m → IsOpen bs
       → Does q (KeptItems out) (SiftedOn all kept es bs) (turns (code (turn_asm q xs (both (expr_asm q c 0) (one q (op.LoopKeep 0))))) (length vs) (at_bufs (framed all b kept es) bs m)) (Sifts c xs vs m)
-  sift_does c xs q es bs out all [] done b kept m fx fc e n w =
+  sift_does c xs q es bs out all [] done b kept m fx fc e n w opened =
       (is_over (code (turn_asm q xs (both (expr_asm q c 0) (one q (op.LoopKeep 0))))) all done b kept es bs m e n ∙ ap (λ ts. does (at_bufs (framed all (length all) ts es) bs m)) (sym (append-nil kept)), w)
-  sift_does c xs q es bs out all (v ∷ vs) done b kept m fx fc e n w =
+  sift_does c xs q es bs out all (v ∷ vs) done b kept m fx fc e n w opened =
       let keep_asm = both (expr_asm q c 0) (one q (op.LoopKeep 0)) in
       let turn = code (turn_asm q xs keep_asm) in
       let later = turns turn (length vs) in
@@ -466,23 +472,23 @@ module _ (filters : Filters) (p : Program) (call : SCalls) (has : HasPool (compi
       (λ x w1.
       same_run q (KeptItems out) (SiftedOn all kept es bs) _ (and_then (code (expr_asm q c 0) (at_bufs fs bs x)) (λ s. and_then (code (one q (op.LoopKeep 0)) s) later)) _ (and_then_assoc (code (expr_asm q c 0) (at_bufs fs bs x)) (code (one q (op.LoopKeep 0))) later)
       (then_does q (KeptValue out) (ValueOn fs bs) (KeptItems out) (SiftedOn all kept es bs) (code (expr_asm q c 0) (at_bufs fs bs x)) (Means c None x) (λ s. and_then (code (one q (op.LoopKeep 0)) s) later) (λ r. bind (Sifts c xs vs r.memory) (rest r))
-      (expr_does c q false 0 None fs bs out x fc tt w1)
+      (expr_does c q false 0 None fs bs out x fc tt w1 opened)
       (λ r w2.
       let kept' = if tree.truth r.value then kept ++ v ∷ [] else kept in
       same_run q (KeptItems out) (SiftedOn all kept es bs) _ (later (at_bufs (framed all (suc b) kept' es) bs r.memory)) _ (ap (λ s. and_then s later) (item_kept all v b kept r.value q es bs r.memory (current_is all done vs v b e n)))
       (mapped_does q (KeptItems out) (SiftedOn all kept' es bs) (KeptItems out) (SiftedOn all kept es bs) (later (at_bufs (framed all (suc b) kept' es) bs r.memory)) (Sifts c xs vs r.memory) (λ y. if tree.truth r.value then in_front v y else y)
-      (sift_does c xs q es bs out all vs (done ++ v ∷ []) (suc b) kept' r.memory fx fc (e ∙ sym (append_assoc done (v ∷ []) vs)) (omega (arith, n, length-append done (v ∷ []))) w2)
+      (sift_does c xs q es bs out all vs (done ++ v ∷ []) (suc b) kept' r.memory fx fc (e ∙ sym (append_assoc done (v ∷ []) vs)) (omega (arith, n, length-append done (v ∷ []))) w2 opened)
       (λ y w3. (one_more (tree.truth r.value) all kept v es bs y, one_more_kept (tree.truth r.value) v out y w3)))))))
 
-  keep_does : (c : Option (SExpr ℕ)) (xs : Targets) (q : Option Place) (es : List Entry) (bs : List (List ℕ)) (out : Text) (vs : List Tree) (m : Memory) → TargetsFit p count xs → ConditionFits p count c → Kept out m
+  keep_does : (c : Option (SExpr ℕ)) (xs : Targets) (q : Option Place) (es : List Entry) (bs : List (List ℕ)) (out : Text) (vs : List Tree) (m : Memory) → TargetsFit p count xs → ConditionFits p count c → Kept out m → IsOpen bs
       → Does q (KeptItems out) (LoopOn es bs) (code (kept_asm q xs c) (at_bufs (frame (loop_over vs) ∷ es) bs m)) (skept filters (tree_at p.pool) call c xs vs m)
-  keep_does None xs q es bs out vs m fx fc w = (refl, w)
-  keep_does (Some c) xs q es bs out vs m fx fc w =
+  keep_does None xs q es bs out vs m fx fc w opened = (refl, w)
+  keep_does (Some c) xs q es bs out vs m fx fc w opened =
       let turn = code (turn_asm q xs (both (expr_asm q c 0) (one q (op.LoopKeep 0)))) in
       let left : length vs - 0 ≡ length vs = omega arith in
       finished q (KeptItems out) (SiftedOn vs [] es bs) (LoopOn es bs) (code (each (turn_asm q xs (both (expr_asm q c 0) (one q (op.LoopKeep 0))))) (at_bufs (frame (loop_over vs) ∷ es) bs m)) (Sifts c xs vs m) (code (one q op.LoopRewind))
       (same_run q (KeptItems out) (SiftedOn vs [] es bs) _ (turns turn (length vs) (at_bufs (framed vs 0 [] es) bs m)) (Sifts c xs vs m) (ap (λ j. turns turn j (at_bufs (framed vs 0 [] es) bs m)) left)
-      (sift_does c xs q es bs out vs vs [] 0 [] m fx fc refl refl w))
+      (sift_does c xs q es bs out vs vs [] 0 [] m fx fc refl refl w opened))
       (λ x w1. refl)
 
   begin_does : (r : Result Items Fault) (q : Option Place) (es : List Entry) (bs : List (List ℕ)) (m : Memory) (fs : List Entry) (inv : Listed → Type 0) (to : Listed → State) (g : State → Ran) (f : List Tree → Got Listed)
@@ -601,7 +607,7 @@ module _ (filters : Filters) (p : Program) (call : SCalls) (has : HasPool (compi
         let emit = code (one (Some tag) (op.Emit (flag escaping))) in
         placed tag Sized (at_memory es pre bufs) (code (stmt_asm (slots.print tag escaping e) h) (at_memory es pre bufs m)) (bind (Means e l m) (λ r. bind (shown escaping r.value) (λ s. gives (put_text r.memory s))))
         (then_does (Some tag) (KeptValue m.out) (ValueOn es bs) Sized (at_memory es pre bufs) (code (expr_asm (Some tag) e h) (at_bufs es bs m)) (Means e l m) emit (λ r. bind (shown escaping r.value) (λ s. gives (put_text r.memory s)))
-        (expr_does e (Some tag) inside h l es bs m.out m fit fr (kept_of m w))
+        (expr_does e (Some tag) inside h l es bs m.out m fit fr (kept_of m w) tt)
         (λ r w1.
         same_run (Some tag) Sized (at_memory es pre bufs) _ (of_plain (Some tag) (put_printed (step.shown (eqb (flag escaping) 1) r.value) (at_memory es pre bufs r.memory))) (bind (shown escaping r.value) (λ s. gives (put_text r.memory s)))
         (ap (λ x. of_plain (Some tag) (put_printed (step.shown (eqb (flag escaping) 1) r.value) x)) (settled es pre bufs m.out r.memory w1))
@@ -610,14 +616,14 @@ module _ (filters : Filters) (p : Program) (call : SCalls) (has : HasPool (compi
         let bs = (pre ++ m.out) ∷ bufs in
         placed tag Sized (at_memory es pre bufs) (code (stmt_asm (slots.assign tag xs e) h) (at_memory es pre bufs m)) (bind (Means e l m) (λ r. take xs r.value r.memory))
         (then_does (Some tag) (KeptValue m.out) (ValueOn es bs) Sized (at_memory es pre bufs) (code (expr_asm (Some tag) e h) (at_bufs es bs m)) (Means e l m) (code (take_asm (Some tag) xs)) (λ r. take xs r.value r.memory)
-        (expr_does e (Some tag) inside h l es bs m.out m fit.1 fr (kept_of m w))
+        (expr_does e (Some tag) inside h l es bs m.out m fit.1 fr (kept_of m w) tt)
         (λ r w1. carried (Some tag) (Kept m.out) (at_bufs es bs) Sized (at_memory es pre bufs) (code (take_asm (Some tag) xs) (at_bufs (value r.value ∷ es) bs r.memory)) (take xs r.value r.memory)
         (take_does xs r.value (Some tag) es bs m.out r.memory fit.0 w1) (λ x w2. (settled es pre bufs m.out x w2, sized_of m.out x w2))))
     stmt_does (slots.if_else tag c a b) inside h l es pre bufs m fit fr w =
         let bs = (pre ++ m.out) ∷ bufs in
         let to = at_memory es pre bufs in
         then_does None (KeptValue m.out) (ValueOn es bs) Sized to (code (expr_asm (Some tag) c h) (at_bufs es bs m)) (at tag (Means c l m)) (code (choose (body_asm a h) (body_asm b h))) (λ r. if tree.truth r.value then MeansBody a l r.memory else MeansBody b l r.memory)
-        (placed tag (KeptValue m.out) (ValueOn es bs) (code (expr_asm (Some tag) c h) (at_bufs es bs m)) (Means c l m) (expr_does c (Some tag) inside h l es bs m.out m fit.0 fr (kept_of m w)))
+        (placed tag (KeptValue m.out) (ValueOn es bs) (code (expr_asm (Some tag) c h) (at_bufs es bs m)) (Means c l m) (expr_does c (Some tag) inside h l es bs m.out m fit.0 fr (kept_of m w) tt))
         (λ r w1.
         let same = settled es pre bufs m.out r.memory w1 in
         either (tree.truth r.value) None Sized to (code (body_asm a h) (at_bufs es bs r.memory)) (code (body_asm b h) (at_bufs es bs r.memory)) (MeansBody a l r.memory) (MeansBody b l r.memory)
@@ -633,9 +639,9 @@ module _ (filters : Filters) (p : Program) (call : SCalls) (has : HasPool (compi
         then_does None (KeptItems m.out) (LoopOn es bs) Sized to (code first (at_bufs es bs m)) (at tag (bind (Means e l m) items)) (code over) (λ x. sgone_over (MeansBody body) (MeansBody other l) xs tag x.values x.memory)
         (placed tag (KeptItems m.out) (LoopOn es bs) (code first (at_bufs es bs m)) (bind (Means e l m) items)
         (then_does q (KeptValue m.out) (ValueOn es bs) (KeptItems m.out) (LoopOn es bs) (code (expr_asm q e h) (at_bufs es bs m)) (Means e l m) (code (both (one q op.LoopStart) (kept_asm q xs c))) items
-        (expr_does e q inside h l es bs m.out m fit.1 fr (kept_of m w))
+        (expr_does e q inside h l es bs m.out m fit.1 fr (kept_of m w) tt)
         (λ r w1. begin_does (items_of_tree r.value) q es bs r.memory (value r.value ∷ es) (KeptItems m.out) (LoopOn es bs) (code (kept_asm q xs c)) (λ vs. skept filters (tree_at p.pool) call c xs vs r.memory)
-        (λ vs. keep_does c xs q es bs m.out vs r.memory fit.0 fit.2 w1))))
+        (λ vs. keep_does c xs q es bs m.out vs r.memory fit.0 fit.2 w1 tt))))
         (λ x w1.
         same_run None Sized to _ (code over (at_memory (frame (loop_over x.values) ∷ es) pre bufs x.memory)) (sgone_over (MeansBody body) (MeansBody other l) xs tag x.values x.memory) (ap (code over) (settled (frame (loop_over x.values) ∷ es) pre bufs m.out x.memory w1))
         (over_does xs tag (body_asm body 0) (body_asm other h) (MeansBody body) (MeansBody other l) es pre bufs fit.0
@@ -652,7 +658,7 @@ module _ (filters : Filters) (p : Program) (call : SCalls) (has : HasPool (compi
         let bs = (pre ++ m.out) ∷ bufs in
         let text = λ (y : Listed). bind (call u y.values y.memory.globals) (λ g. gives (record y.memory { globals = g.globals; out = y.memory.out ++ g.text })) in
         then_does None (KeptRow m.out (row_count r)) (RowOn es bs) Sized (at_memory es pre bufs) (code (row_asm None r h) (at_bufs es bs m)) (MeansRow r l m) (code (invoke None u)) text
-        (row_does r None inside h l es bs m.out m fit.1 fr (kept_of m w))
+        (row_does r None inside h l es bs m.out m fit.1 fr (kept_of m w) tt)
         (λ y j.
         same_run None Sized (at_memory es pre bufs) _ (of_written None (call u y.values y.memory.globals) es y.memory.locals (pre ++ m.out) bufs) (text y)
         (call_runs u (row_count r) y.values None es (pre ++ m.out) bufs y.memory fit.0 j.1 j.0.globals)

@@ -66,10 +66,8 @@ pub record IsTurn (f : Frame) (l : Option Loop) : Type 0 where
 told_at : (x : Field) (items : List Tree) (kept : List Tree) (b : ℕ) → suc b ≤ length items → told (told_as x) (record { items = items; position = suc b; kept = kept }) ≡ field_at x (record { items = items; before = b })
 told_at loops.index items kept b h = counted_same (suc b)
 told_at loops.index0 items kept b h = let e : suc b - 1 ≡ b = omega arith in ap image.counted (less (suc b) 1 (omega arith)) ∙ ap (λ n. image.counted (pos n)) e ∙ counted_same b
-told_at loops.revindex items kept b h =
-    let e : suc (length items) - suc b ≡ length items - b = omega arith in
-    ap image.counted (less (suc (length items)) (suc b) (omega arith)) ∙ ap (λ n. image.counted (pos n)) e ∙ counted_same (length items - b)
-told_at loops.revindex0 items kept b h = ap image.counted (less (length items) (suc b) h) ∙ counted_same (length items - suc b)
+told_at loops.revindex items kept b h = let e : suc (length items) - suc b ≡ length items - b = omega arith in ap (λ n. image.counted (pos n)) e ∙ counted_same (length items - b)
+told_at loops.revindex0 items kept b h = counted_same (length items - suc b)
 told_at loops.first items kept b h = ap (λ t. Ok (tree.truth_value t)) (first_same b)
 told_at loops.last items kept b h = refl
 told_at loops.total items kept b h = counted_same (length items)
