@@ -7,6 +7,7 @@ pub mod Places
 pub mod Correct
 pub mod Typed
 pub mod Sized
+pub mod Fitting
 pub mod Whole
 pub mod FitsTest
 mod Examples

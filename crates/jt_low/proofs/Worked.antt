@@ -30,7 +30,9 @@ use Rattle.jt_breadth.specs.Filters.{Filters}
 use Rattle.jt_breadth.specs.Around.{World}
 use Rattle.jt_breadth.specs.Meaning.{mean}
 use Rattle.jt_breadth.specs.Slots.{smean, Program}
-use Rattle.jt_breadth.specs.Programs.{program}
+use Rattle.jt_breadth.specs.Programs.{program, routines, count_globals}
+use Rattle.jt_breadth.specs.Layout.{names, shared}
+use Rattle.jt_low.specs.Lawful.{program_with}
 
 abbrev pub named : Text → Option ℕ
 named x = if bytes_eq x (codes "upper") then Some 0 else if bytes_eq x (codes "length") then Some 1 else if bytes_eq x (codes "d") then Some 2 else None
@@ -178,6 +180,10 @@ meaning_of ss context = mean (world ss) (codes "t") context 9
 
 abbrev pub resolved_meaning : List (Text × Body) → Pairs → Got Text
 resolved_meaning ss context = smean small (program (world ss) (order_of ss) (codes "t")) context 9
+
+-- what resolving gives is a program of routines, with its shared values in front of the pool
+shape : (w : World) (order : List Text) (entry : Text) → program w order entry ≡ program_with (names w order entry) (count_globals w order order) (shared w order) (routines w order)
+shape w order entry = refl
 
 -- the code's run without a budget comes to this, and the program keeps what it must
 abbrev whole : List (Text × Body) → Program

@@ -1,5 +1,6 @@
 -- What it is for the code of a program to be right.
-use Rattle.std.specs.Prelude.{◌≡◌, ℕ, Option, length}
+use Rattle.std.specs.Prelude.{◌≡◌, ℕ, List, Option, length}
+use Rattle.jt_value.specs.Tree.{Tree}
 use Rattle.jt_value.specs.Pairs.{Pairs}
 use Rattle.jt_value.specs.declared.fault.Fault.{Fault}
 use Rattle.jt_image.specs.IsCode.{IsCode, total_len}
@@ -12,11 +13,13 @@ use Rattle.jt_image.specs.FreeRun.{start_machine}
 use Rattle.jt_scopes.specs.Got.{Place, gives, fails}
 use Rattle.jt_breadth.specs.Trees.{Text}
 use Rattle.jt_breadth.specs.Filters.{Filters}
-use Rattle.jt_breadth.specs.Slots.{Program, smean}
+use Rattle.jt_breadth.specs.Slots.{Routine, Program, smean}
+use Rattle.jt_breadth.specs.Resolve.{Constant}
 use Rattle.jt_low.specs.Asm.{Asm, flat, places}
 use Rattle.jt_low.specs.Lower.{compiled}
 use Rattle.jt_low.specs.Placed.{Failed, placed_exec, table_of}
 use Rattle.jt_low.specs.Fits.{ProgramFits}
+use Rattle.jt_low.specs.Lawful.{program_with, AreLawful, AreLow}
 use Rattle.jt_low.specs.Sizes.{routines_size}
 
 -- A text or a fault that the code ends with, for a context under a budget, is what the program means, where calls go at most so many
@@ -33,9 +36,10 @@ pub record PlacesFaults (filters : Filters) (p : Program) : Type 0 where
   pub faults : (x : Pairs) (n : ℕ) (f : Fault) (q : Option Place) → placed_exec (compiled p) (table_of p) n (start_machine (compiled p) x) ≡ Failed f q → smean filters p x n ≡ fails f q
   pub places : (x : Pairs) (n : ℕ) (f : Fault) (q : Option Place) → smean filters p x n ≡ fails f q → (j : ℕ) × (placed_exec (compiled p) (table_of p) j (start_machine (compiled p) x) ≡ Failed f q)
 
--- The code of each program that fits is typed; where it has a spelling, it does what the program means. Each fault is met in its place.
+-- Programs of lawful routines fit. The code of each program that fits is typed; where it has a spelling, it does what the program means. Each fault is met in its place.
 -- Each instruction has one place, and there are as many as the program's size says.
 pub record LowLaws : Type 0 where
+  pub fits : (names : List Text) (globals : ℕ) (front : List Tree) (rs : List (Routine Constant)) → AreLawful names globals front rs → AreLow (program_with names globals front rs).routines → ProgramFits (program_with names globals front rs)
   pub typed : (p : Program) → ProgramFits p → IsTyped (compiled p)
   pub right : (filters : Filters) (p : Program) → ProgramFits p → IsCode (compiled p) → DoesProgram filters p
   pub places_faults : (filters : Filters) (p : Program) → ProgramFits p → PlacesFaults filters p

@@ -28,7 +28,7 @@ pub record TakesRow (rs : List (Routine ℕ)) (u : ℕ) (n : ℕ) : Type 0 where
   pub parameters : routine.parameters ≡ n
 
 -- constants and variables alone: nothing of the row fails, so that each fault of a statement is met in a tag
-abbrev pub IsBare : SRow ℕ → Type 0
+abbrev pub IsBare : {K : Type 0} → SRow K → Type 0
 IsBare slots.none = Unit {0}
 IsBare (slots.item (slots.pooled i) es) = IsBare es
 IsBare (slots.item (slots.variable s) es) = IsBare es

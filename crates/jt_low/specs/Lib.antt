@@ -4,4 +4,5 @@ pub mod Heights
 pub mod Fits
 pub mod Placed
 pub mod Sizes
+pub mod Lawful
 pub mod Compiles

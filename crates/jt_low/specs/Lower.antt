@@ -20,7 +20,7 @@ use Rattle.jt_breadth.specs.Slots.{Slot, local, global, Maker, SExpr, SRow, Targ
 use Rattle.jt_low.specs.Asm.{Asm, nil, one, both, choose, each, invoke, flat}
 
 -- the values that a row leaves on the entries
-abbrev pub row_count : SRow ℕ → ℕ
+abbrev pub row_count : {K : Type 0} → SRow K → ℕ
 row_count slots.none = 0
 row_count (slots.item e es) = suc (row_count es)
 row_count (slots.aside i e es) = row_count es
