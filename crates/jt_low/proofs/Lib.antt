@@ -8,6 +8,7 @@ pub mod Correct
 pub mod Typed
 pub mod Sized
 pub mod Fitting
+pub mod Patched
 pub mod Whole
 pub mod FitsTest
 mod Examples

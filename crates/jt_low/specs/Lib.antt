@@ -5,4 +5,5 @@ pub mod Fits
 pub mod Placed
 pub mod Sizes
 pub mod Lawful
+pub mod Emission
 pub mod Compiles
