@@ -20,21 +20,21 @@ use Rattle.jt_low.specs.Lawful.{ConstantLawful, TextLawful, SlotLawful, CallLawf
 
 -- ---- values at their places in a pool
 
-abbrev PoolAt : List Tree → ℕ → List Tree → Type 0
+abbrev pub PoolAt : List Tree → ℕ → List Tree → Type 0
 PoolAt pool n [] = Unit {0}
 PoolAt pool n (t ∷ ts) = (slice_get pool n ≡ Some t) × PoolAt pool (n + 1) ts
 
-pool_front : (pool : List Tree) (n : ℕ) (xs ys : List Tree) → PoolAt pool n (xs ++ ys) → PoolAt pool n xs
+pub pool_front : (pool : List Tree) (n : ℕ) (xs ys : List Tree) → PoolAt pool n (xs ++ ys) → PoolAt pool n xs
 pool_front pool n [] ys h = tt
 pool_front pool n (x ∷ xs) ys h = (h.0, pool_front pool (n + 1) xs ys h.1)
 
-pool_back : (pool : List Tree) (n : ℕ) (xs ys : List Tree) → PoolAt pool n (xs ++ ys) → PoolAt pool (n + length xs) ys
+pub pool_back : (pool : List Tree) (n : ℕ) (xs ys : List Tree) → PoolAt pool n (xs ++ ys) → PoolAt pool (n + length xs) ys
 pool_back pool n [] ys h = let e : n ≡ n + 0 = omega arith in subst (λ m. PoolAt pool m ys) e h
 pool_back pool n (x ∷ xs) ys h =
     let e : n + 1 + length xs ≡ n + length (x ∷ xs) = omega arith in
     subst (λ m. PoolAt pool m ys) e (pool_back pool (n + 1) xs ys h.1)
 
-pool_whole : (ts before : List Tree) → PoolAt (before ++ ts) (length before) ts
+pub pool_whole : (ts before : List Tree) → PoolAt (before ++ ts) (length before) ts
 pool_whole [] before = tt
 pool_whole (t ∷ ts) before =
     let inside : length before < length (before ++ t ∷ ts) = omega (arith, length-append before (t ∷ ts)) in

@@ -9,6 +9,7 @@ pub mod Typed
 pub mod Sized
 pub mod Fitting
 pub mod Patched
+pub mod Pooled
 pub mod Whole
 pub mod FitsTest
 mod Examples

@@ -1,5 +1,5 @@
 -- What it is for the code of a program to be right.
-use Rattle.std.specs.Prelude.{◌≡◌, ℕ, List, Option, length}
+use Rattle.std.specs.Prelude.{◌≡◌, ℕ, List, ◌++◌, Option, length}
 use Rattle.jt_value.specs.Tree.{Tree}
 use Rattle.jt_value.specs.Pairs.{Pairs}
 use Rattle.jt_value.specs.declared.fault.Fault.{Fault}
@@ -13,8 +13,10 @@ use Rattle.jt_image.specs.FreeRun.{start_machine}
 use Rattle.jt_scopes.specs.Got.{Place, gives, fails}
 use Rattle.jt_breadth.specs.Trees.{Text}
 use Rattle.jt_breadth.specs.Filters.{Filters}
-use Rattle.jt_breadth.specs.Slots.{Routine, Program, smean}
-use Rattle.jt_breadth.specs.Resolve.{Constant}
+use Rattle.jt_breadth.specs.Slots.{Routine, Program, smean_of, smean}
+use Rattle.jt_breadth.specs.Resolve.{Constant, constant_in}
+use Rattle.jt_breadth.specs.Pool.{routines_values, placed_routines}
+use Rattle.jt_breadth.specs.Loops.{tree_at}
 use Rattle.jt_low.specs.Asm.{Asm, flat, places}
 use Rattle.jt_low.specs.Lower.{compiled}
 use Rattle.jt_low.specs.Placed.{Failed, placed_exec, table_of}
@@ -40,6 +42,9 @@ pub record PlacesFaults (filters : Filters) (p : Program) : Type 0 where
 -- Each instruction has one place, and there are as many as the program's size says.
 pub record LowLaws : Type 0 where
   pub fits : (names : List Text) (globals : ℕ) (front : List Tree) (rs : List (Routine Constant)) → AreLawful names globals front rs → AreLow (program_with names globals front rs).routines → ProgramFits (program_with names globals front rs)
+  -- constants that have got their places in the pool mean what they meant
+  pub pooled : (filters : Filters) (front : List Tree) (rs : List (Routine Constant)) (gs : List Tree) (n : ℕ)
+      → smean_of filters (constant_in (front ++ routines_values rs)) rs gs n ≡ smean_of filters (tree_at (front ++ routines_values rs)) (placed_routines rs (length front)) gs n
   pub typed : (p : Program) → ProgramFits p → IsTyped (compiled p)
   pub right : (filters : Filters) (p : Program) → ProgramFits p → IsCode (compiled p) → DoesProgram filters p
   pub places_faults : (filters : Filters) (p : Program) → ProgramFits p → PlacesFaults filters p
