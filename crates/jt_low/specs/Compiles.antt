@@ -38,8 +38,8 @@ pub record PlacesFaults (filters : Filters) (p : Program) : Type 0 where
   pub faults : (x : Pairs) (n : ℕ) (f : Fault) (q : Option Place) → placed_exec (compiled p) (table_of p) n (start_machine (compiled p) x) ≡ Failed f q → smean filters p x n ≡ fails f q
   pub places : (x : Pairs) (n : ℕ) (f : Fault) (q : Option Place) → smean filters p x n ≡ fails f q → (j : ℕ) × (placed_exec (compiled p) (table_of p) j (start_machine (compiled p) x) ≡ Failed f q)
 
--- Programs of lawful routines fit. The code of each program that fits is typed; where it has a spelling, it does what the program means. Each fault is met in its place.
--- Each instruction has one place, and there are as many as the program's size says.
+-- Programs of lawful routines fit. The code of each program that fits is typed; where it has a spelling, it does what the program
+-- means. Each fault is met in its place. Each instruction has one place, and there are as many as the program's size says.
 pub record LowLaws : Type 0 where
   pub fits : (names : List Text) (globals : ℕ) (front : List Tree) (rs : List (Routine Constant)) → AreLawful names globals front rs → AreLow (program_with names globals front rs).routines → ProgramFits (program_with names globals front rs)
   -- constants that have got their places in the pool mean what they meant
