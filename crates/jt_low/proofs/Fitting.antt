@@ -13,7 +13,8 @@ use Rattle.jt_breadth.specs.Locals.{slot_locals, slots_locals, targets_locals, e
 use Rattle.jt_breadth.specs.Resolve.{Constant, own, known}
 use Rattle.jt_breadth.specs.Pool.{constant_values, expr_values, row_values, condition_values, stmt_values, body_values, routines_values, placed, placed_expr, placed_row, placed_condition, placed_stmt, placed_body, placed_routine, placed_routines}
 use Rattle.jt_low.specs.Lower.{row_count}
-use Rattle.jt_low.specs.Heights.{body_height}
+use Rattle.jt_low.specs.Heights.{expr_height, row_height, condition_height, stmt_height, body_height}
+use Rattle.jt_low.specs.Sizes.{expr_size, row_size, kept_size, stmt_size, body_size, routines_size}
 use Rattle.jt_image.specs.Typed.{max_entries}
 use Rattle.jt_low.specs.Fits.{MakerFits, TakesRow, IsBare, SlotFits, ExprFits, RowFits, SlotsFit, TargetsFit, ConditionFits, TextFits, StmtFits, BodyFits, RoutineFits, IsPooled, ProgramFits}
 use Rattle.jt_low.specs.Lawful.{ConstantLawful, TextLawful, SlotLawful, CallLawful, ExprLawful, RowLawful, SlotsLawful, TargetsLawful, ConditionLawful, StmtLawful, BodyLawful, RoutineLawful, program_with, AreLawful, AreLow}
@@ -81,6 +82,86 @@ bare_placed (slots.item (slots.pooled k) es) n b = bare_placed es (n + length (c
 bare_placed (slots.item (slots.variable s) es) n b = bare_placed es (n + 0) b
 bare_placed (slots.item e es) n b = absurd b
 bare_placed (slots.aside i e es) n b = absurd b
+
+-- ---- heights and sizes
+
+mutual
+  expr_low : (e : SExpr Constant) (n : ℕ) → expr_height (placed_expr e n) ≡ expr_height e
+  expr_low (slots.pooled k) n = refl
+  expr_low (slots.variable s) n = refl
+  expr_low (slots.field f) n = refl
+  expr_low (slots.made k es) n = omega (arith, row_low es n)
+  expr_low (slots.conjunction a b) n = omega (arith, expr_low a n, expr_low b (n + length (expr_values a)))
+  expr_low (slots.disjunction a b) n = omega (arith, expr_low a n, expr_low b (n + length (expr_values a)))
+  expr_low (slots.choice c a b) n = omega (arith, expr_low c n, expr_low a (n + length (expr_values c)), expr_low b (n + length (expr_values c) + length (expr_values a)))
+  expr_low (slots.invoke u escaping es) n = omega (arith, row_low es n)
+
+  row_low : (es : SRow Constant) (n : ℕ) → row_height (placed_row es n) ≡ row_height es
+  row_low slots.none n = refl
+  row_low (slots.item e es) n = omega (arith, expr_low e n, row_low es (n + length (expr_values e)))
+  row_low (slots.aside i e es) n = omega (arith, expr_low e n, row_low es (n + length (expr_values e)))
+
+condition_low : (c : Option (SExpr Constant)) (n : ℕ) → condition_height (placed_condition c n) ≡ condition_height c
+condition_low None n = refl
+condition_low (Some c) n = expr_low c n
+
+mutual
+  stmt_low : (s : SStmt Constant) (n : ℕ) → stmt_height (placed_stmt s n) ≡ stmt_height s
+  stmt_low (slots.put_pooled k) n = refl
+  stmt_low (slots.print q escaping e) n = expr_low e n
+  stmt_low (slots.assign q xs e) n = omega (arith, expr_low e n)
+  stmt_low (slots.if_else q c a b) n = omega (arith, expr_low c n, body_low a (n + length (expr_values c)), body_low b (n + length (expr_values c) + length (body_values a)))
+  stmt_low (slots.for_each q xs e c body other) n =
+      let i = n + length (expr_values e) in
+      let j = i + length (condition_values c) in
+      omega (arith, expr_low e n, condition_low c i, body_low body j, body_low other (j + length (body_values body)))
+  stmt_low (slots.capture escaping s body) n = omega (arith, body_low body n)
+  stmt_low (slots.run u es) n = row_low es n
+
+  body_low : (b : SBody Constant) (n : ℕ) → body_height (placed_body b n) ≡ body_height b
+  body_low slots.end n = refl
+  body_low (slots.stmt s rest) n = omega (arith, stmt_low s n, body_low rest (n + length (stmt_values s)))
+
+mutual
+  expr_sized : (e : SExpr Constant) (n : ℕ) → expr_size (placed_expr e n) ≡ expr_size e
+  expr_sized (slots.pooled k) n = refl
+  expr_sized (slots.variable s) n = refl
+  expr_sized (slots.field f) n = refl
+  expr_sized (slots.made k es) n = omega (arith, row_sized es n)
+  expr_sized (slots.conjunction a b) n = omega (arith, expr_sized a n, expr_sized b (n + length (expr_values a)))
+  expr_sized (slots.disjunction a b) n = omega (arith, expr_sized a n, expr_sized b (n + length (expr_values a)))
+  expr_sized (slots.choice c a b) n = omega (arith, expr_sized c n, expr_sized a (n + length (expr_values c)), expr_sized b (n + length (expr_values c) + length (expr_values a)))
+  expr_sized (slots.invoke u escaping es) n = omega (arith, row_sized es n)
+
+  row_sized : (es : SRow Constant) (n : ℕ) → row_size (placed_row es n) ≡ row_size es
+  row_sized slots.none n = refl
+  row_sized (slots.item e es) n = omega (arith, expr_sized e n, row_sized es (n + length (expr_values e)))
+  row_sized (slots.aside i e es) n = omega (arith, expr_sized e n, row_sized es (n + length (expr_values e)))
+
+kept_sized : (xs : Targets) (c : Option (SExpr Constant)) (n : ℕ) → kept_size xs (placed_condition c n) ≡ kept_size xs c
+kept_sized xs None n = refl
+kept_sized xs (Some c) n = omega (arith, expr_sized c n)
+
+mutual
+  stmt_sized : (s : SStmt Constant) (n : ℕ) → stmt_size (placed_stmt s n) ≡ stmt_size s
+  stmt_sized (slots.put_pooled k) n = refl
+  stmt_sized (slots.print q escaping e) n = omega (arith, expr_sized e n)
+  stmt_sized (slots.assign q xs e) n = omega (arith, expr_sized e n)
+  stmt_sized (slots.if_else q c a b) n = omega (arith, expr_sized c n, body_sized a (n + length (expr_values c)), body_sized b (n + length (expr_values c) + length (body_values a)))
+  stmt_sized (slots.for_each q xs e c body other) n =
+      let i = n + length (expr_values e) in
+      let j = i + length (condition_values c) in
+      omega (arith, expr_sized e n, kept_sized xs c i, body_sized body j, body_sized other (j + length (body_values body)))
+  stmt_sized (slots.capture escaping s body) n = omega (arith, body_sized body n)
+  stmt_sized (slots.run u es) n = omega (arith, row_sized es n)
+
+  body_sized : (b : SBody Constant) (n : ℕ) → body_size (placed_body b n) ≡ body_size b
+  body_sized slots.end n = refl
+  body_sized (slots.stmt s rest) n = omega (arith, stmt_sized s n, body_sized rest (n + length (stmt_values s)))
+
+pub same_size : (rs : List (Routine Constant)) (n : ℕ) → routines_size (placed_routines rs n) ≡ routines_size rs
+same_size [] n = refl
+same_size (r ∷ rs) n = omega (arith, body_sized r.body n, same_size rs (n + length (body_values r.body)))
 
 module _ (names : List Text) (globals : ℕ) (front : List Tree) (rs : List (Routine Constant)) where
   abbrev p : Program
@@ -237,15 +318,16 @@ module _ (names : List Text) (globals : ℕ) (front : List Tree) (rs : List (Rou
 
   -- ---- the whole
 
-  routine_fits : AreLawful names globals front rs → AreLow p.routines → (u : ℕ) (q : Routine ℕ) → slice_get p.routines u ≡ Some q → RoutineFits p q
+  routine_fits : AreLawful names globals front rs → AreLow rs → (u : ℕ) (q : Routine ℕ) → slice_get p.routines u ≡ Some q → RoutineFits p q
   routine_fits lawful low u q e =
       let x = placed_was rs before u q p.pool e (pool_whole (routines_values rs) front) in
       let r = x.0 in
       let law = all_get (RoutineLawful before globals rs) rs u r lawful.routines x.2 in
-      let below = all_get (λ (z : Routine ℕ). body_height z.body ≤ max_entries) p.routines u q low e in
-      record { body = subst (λ (z : Routine ℕ). BodyFits p z.locals false z.body) x.3 (body_fits r.locals r.body false x.1 law.body x.4 law.locals); low = below }
+      let below = all_get (λ (z : Routine Constant). body_height z.body ≤ max_entries) rs u r low x.2 in
+      let same : body_height (placed_body r.body x.1) ≡ body_height r.body = body_low r.body x.1 in
+      record { body = subst (λ (z : Routine ℕ). BodyFits p z.locals false z.body) x.3 (body_fits r.locals r.body false x.1 law.body x.4 law.locals); low = subst (λ (z : Routine ℕ). body_height z.body ≤ max_entries) x.3 (omega (arith, below, same)) }
 
-  pub lawful_fits : AreLawful names globals front rs → AreLow p.routines → ProgramFits p
+  pub lawful_fits : AreLawful names globals front rs → AreLow rs → ProgramFits p
   lawful_fits lawful low =
       let first = placed_is rs before 0 lawful.entry lawful.is_entry in
       record {

@@ -6,7 +6,7 @@ use Rattle.jt_breadth.specs.Slots.{Program}
 use Rattle.jt_low.specs.Lower.{compiled}
 use Rattle.jt_low.specs.Fits.{ProgramFits}
 use Rattle.jt_low.specs.Compiles.{DoesProgram, PlacesFaults, LowLaws}
-use Rattle.jt_low.proofs.Fitting.{lawful_fits}
+use Rattle.jt_low.proofs.Fitting.{lawful_fits, same_size}
 use Rattle.jt_low.proofs.Pooled.{pooled_same}
 use Rattle.jt_low.proofs.Follows.{placed}
 use Rattle.jt_low.proofs.Sized.{program_sized}
@@ -27,4 +27,4 @@ places_faults : (filters : Filters) (p : Program) → ProgramFits p → PlacesFa
 places_faults filters p fit = record { faults = placed_means filters p fit; places = means_placed filters p fit }
 
 pub laws_hold : CodeLaws → LowLaws
-laws_hold laws = record { fits = lawful_fits; pooled = pooled_same; typed = compiled_typed; right = does_program laws; places_faults = places_faults; one_place = placed; sized = program_sized }
+laws_hold laws = record { fits = lawful_fits; pooled = pooled_same; typed = compiled_typed; right = does_program laws; places_faults = places_faults; one_place = placed; sized = program_sized; same_size = same_size }

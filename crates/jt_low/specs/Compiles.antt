@@ -41,7 +41,7 @@ pub record PlacesFaults (filters : Filters) (p : Program) : Type 0 where
 -- Programs of lawful routines fit. The code of each program that fits is typed; where it has a spelling, it does what the program
 -- means. Each fault is met in its place. Each instruction has one place, and there are as many as the program's size says.
 pub record LowLaws : Type 0 where
-  pub fits : (names : List Text) (globals : ℕ) (front : List Tree) (rs : List (Routine Constant)) → AreLawful names globals front rs → AreLow (program_with names globals front rs).routines → ProgramFits (program_with names globals front rs)
+  pub fits : (names : List Text) (globals : ℕ) (front : List Tree) (rs : List (Routine Constant)) → AreLawful names globals front rs → AreLow rs → ProgramFits (program_with names globals front rs)
   -- constants that have got their places in the pool mean what they meant
   pub pooled : (filters : Filters) (front : List Tree) (rs : List (Routine Constant)) (gs : List Tree) (n : ℕ)
       → smean_of filters (constant_in (front ++ routines_values rs)) rs gs n ≡ smean_of filters (tree_at (front ++ routines_values rs)) (placed_routines rs (length front)) gs n
@@ -50,3 +50,4 @@ pub record LowLaws : Type 0 where
   pub places_faults : (filters : Filters) (p : Program) → ProgramFits p → PlacesFaults filters p
   pub one_place : (a : Asm) (n : ℕ) → length (places a) ≡ length (flat a n)
   pub sized : (p : Program) → total_len (compiled p).units ≡ routines_size p.routines
+  pub same_size : (rs : List (Routine Constant)) (n : ℕ) → routines_size (placed_routines rs n) ≡ routines_size rs

@@ -98,5 +98,5 @@ pub record AreLawful (names : List Text) (globals : ℕ) (front : List Tree) (rs
   pub is_entry : slice_get rs 0 ≡ Some entry
 
 -- no routine needs more entries than a shape may have
-abbrev pub AreLow : List (Routine ℕ) → Type 0
-AreLow rs = AllByRecursion (λ (r : Routine ℕ). body_height r.body ≤ max_entries) rs
+abbrev pub AreLow : List (Routine Constant) → Type 0
+AreLow rs = AllByRecursion (λ (r : Routine Constant). body_height r.body ≤ max_entries) rs
