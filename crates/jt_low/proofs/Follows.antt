@@ -13,7 +13,7 @@ use Rattle.jt_scopes.specs.Got.{Place}
 use Rattle.jt_breadth.specs.Trees.{Text}
 use Rattle.jt_breadth.specs.Slots.{SCalls}
 use Rattle.jt_low.specs.Placed.{Table, PlacedFree, Failed, Going, on_placed, placed_at, placed_exec}
-use Rattle.jt_low.specs.Asm.{Asm, nil, one, both, choose, each, invoke, flat, places, Ran, does, stops, too_deep, bad, and_then, of_plain, turns, turns_left, of_written, into_buffers, called, run}
+use Rattle.jt_low.specs.Asm.{Asm, nil, one, both, choose, when, each, invoke, flat, places, Ran, does, stops, too_deep, bad, and_then, of_plain, turns, turns_left, of_written, into_buffers, called, run}
 
 -- the instructions stand in the code at this point
 abbrev pub HasAt : List Instruction → ℕ → List Instruction → Type 0
@@ -43,6 +43,7 @@ placed (choose a b) n =
     let q = n + 1 + length ca + 1 in
     let cb = flat b q in
     omega (arith, placed a (n + 1), placed b q, length-append ca (op.Jump (q + length cb) ∷ cb), length-append (places a) (None ∷ places b))
+placed (when a) n = omega (arith, placed a (n + 1))
 placed (each a) n =
     let ca = flat a (n + 1) in
     omega (arith, placed a (n + 1), length-append ca (op.Jump n ∷ []), length-append (places a) (None ∷ []))
@@ -157,6 +158,26 @@ module _ (k : Code) (table : Table) where
       way false e =
           before n _ (machine u q ks m') (rb m') _ (record { by = λ j. (suc j, omega arith, e j) }) (hb m')
 
+  when_run : (n : ℕ) (u p : ℕ) (ks : List Caller) (m : State) (ca : List Instruction) (ra : State → Ran) (es : List Entry) →
+      let q = p + 1 + length ca in
+      ((j : ℕ) → exec (suc j) (machine u p ks m) ≡ on_placed (table u p) (on_value es wrong (λ v fs. goes_on (machine u (if truth v then p + 1 else q) ks (with_entries m fs)) no_demand)) (exec j)) →
+      ((m : State) → Reaches n (machine u (p + 1) ks m) (ra m) (machine u q ks)) →
+      Reaches n (machine u p ks m) (on_value es bad (λ v fs. if truth v then ra (with_entries m fs) else does (with_entries m fs))) (machine u q ks)
+  when_run n u p ks m ca ra [] st ha = tt
+  when_run n u p ks m ca ra (frame f ∷ es) st ha = tt
+  when_run n u p ks m ca ra (capture ∷ es) st ha = tt
+  when_run n u p ks m ca ra (value v ∷ es) st ha = way (truth v) (λ j. st j)
+    where
+      q : ℕ
+      q = p + 1 + length ca
+
+      m' : State
+      m' = with_entries m es
+
+      way : (b : Bool) → ((j : ℕ) → exec (suc j) (machine u p ks m) ≡ exec j (machine u (if b then p + 1 else q) ks m')) → Reaches n (machine u p ks m) (if b then ra m' else does m') (machine u q ks)
+      way true e = before n _ (machine u (p + 1) ks m') (ra m') (machine u q ks) (record { by = λ j. (suc j, omega arith, e j) }) (ha m')
+      way false e = record { by = λ j. (suc j, omega arith, e j) }
+
   -- one turn more, or the end of a loop
   turn_run : (n : ℕ) (u p q : ℕ) (ks : List Caller) (m : State) (body : State → Ran) (to : State → Machine) (es : List Entry)
       → ((j : ℕ) → exec (suc j) (machine u p ks m) ≡ on_placed (table u p) (on_frame es wrong (λ f fs. if nat_lt f.position (length f.items) then goes_on (machine u (p + 1) ks (with_entries m (frame (advanced f) ∷ fs))) no_demand else goes_on (machine u q ks m) no_demand)) (exec j))
@@ -259,6 +280,11 @@ module _ (k : Code) (table : Table) where
         ends_at (suc n) _ (run k call (choose a b) m) u _ _ ks len
         (choose_run (suc n) t u p ks m ca cb (run k call a) (run k call b) m.entries (step t u p ks m (op.JumpIfFalse q) (fetched t u p (op.JumpIfFalse q) is h.0)) (fetched t u (p + 1 + length ca) (op.Jump (q + length cb)) is end.0)
         (λ x. flat_runs a t u (p + 1) ks x is (has_front _ (p + 1) ca _ h.1) (places_front u (p + 1) (places a) (None ∷ places b) w.1)) (λ x. flat_runs b t u q ks x is end.1 (places_back u (p + 1) (p + 1 + length ca) (places a) (None ∷ places b) (omega (arith, placed a (p + 1))) w.1).1))
+    flat_runs (when a) t u p ks m is h w =
+        let ca = flat a (p + 1) in let q = p + 1 + length ca in
+        let len : q ≡ p + length (op.JumpIfFalse q ∷ ca) = omega arith in
+        ends_at (suc n) _ (run k call (when a) m) u _ _ ks len
+        (when_run (suc n) u p ks m ca (run k call a) m.entries (step t u p ks m (op.JumpIfFalse q) (fetched t u p (op.JumpIfFalse q) is h.0)) (λ x. flat_runs a t u (p + 1) ks x is h.1 w.1))
     flat_runs (each a) t u p ks m is h w =
         let ca = flat a (p + 1) in let q = p + 1 + length ca + 1 in
         let len : q ≡ p + length (op.LoopNext q ∷ (ca ++ op.Jump p ∷ [])) = omega (arith, length-append ca (op.Jump p ∷ [])) in

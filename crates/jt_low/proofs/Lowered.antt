@@ -36,7 +36,7 @@ use Rattle.jt_breadth.specs.Around.{as_value}
 use Rattle.jt_breadth.specs.Loops.{Field, Loop, result_listed, items_of_value, tree_at, loop_field}
 use Rattle.jt_breadth.specs.Slots as slots
 use Rattle.jt_breadth.specs.Slots.{Slot, local, global, Maker, SExpr, SRow, Targets, SStmt, SBody, Routine, Program, Memory, Valued, Listed, Written, SCalls, load, put_at, store, store_if, store_each, take, make, valued, sturns, sgone_over, in_front, svalue, svalues, skept, smeaning, smeanings}
-use Rattle.jt_low.specs.Asm.{Asm, nil, one, both, choose, each, invoke, Ran, does, bad, and_then, of_plain, turns, of_written, into_buffers, called, run}
+use Rattle.jt_low.specs.Asm.{Asm, nil, one, both, choose, when, each, invoke, Ran, does, bad, and_then, of_plain, turns, of_written, into_buffers, called, run}
 use Rattle.jt_low.specs.Lower.{row_count, half, maker, told_as, flag, load_of, store_of, expr_asm, row_asm, store_if_of, stores_asm, take_asm, turn_asm, over_asm, kept_asm, stmt_asm, body_asm, unit_of, compiled}
 use Rattle.jt_low.specs.Fits.{MakerFits, TakesRow, SlotFits, ExprFits, RowFits, SomeFits, SlotsFit, TargetsFit, ConditionFits, StmtFits, BodyFits}
 use Rattle.jt_low.proofs.Told.{listed_same, has_field, IsTurn, told_same}
@@ -569,7 +569,7 @@ module _ (filters : Filters) (p : Program) (call : SCalls) (has : HasPool (compi
       let turn = code (turn_asm q xs body) in
       let left : length all - 0 ≡ length all = omega arith in
       let none : (length all == 0) ≡ false = eq_false (length all) 0 (omega arith) in
-      finished None Sized (at_memory (framed all (length all) [] es) pre bufs) (at_memory es pre bufs) (code (each (turn_asm q xs body)) (at_memory (frame (loop_over all) ∷ es) pre bufs m)) (sturns means xs tag all 0 all m) (code (both (one q op.LoopEnd) (choose other nil)))
+      finished None Sized (at_memory (framed all (length all) [] es) pre bufs) (at_memory es pre bufs) (code (each (turn_asm q xs body)) (at_memory (frame (loop_over all) ∷ es) pre bufs m)) (sturns means xs tag all 0 all m) (code (both (one q op.LoopEnd) (when other)))
       (same_run None Sized (at_memory (framed all (length all) [] es) pre bufs) _ (turns turn (length all) (at_memory (framed all 0 [] es) pre bufs m)) (sturns means xs tag all 0 all m) (ap (λ j. turns turn j (at_memory (framed all 0 [] es) pre bufs m)) left)
       (rounds_do xs tag body means es pre bufs all fx (hb all) all [] 0 m refl refl w))
       (λ x w1. ap (λ t. if t then code other (at_memory es pre bufs x) else does (at_memory es pre bufs x)) none)

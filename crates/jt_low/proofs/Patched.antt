@@ -9,8 +9,8 @@ use Rattle.jt_image.specs.declared.instruction.Instruction.TheVariants as op
 use Rattle.jt_image.specs.declared.wire.Instr.{Instr}
 use Rattle.jt_image.specs.Spelling.{wire_of}
 use Rattle.jt_image.specs.IsCode.{IsInstruction}
-use Rattle.jt_low.specs.Asm.{Asm, nil, both, choose, each, flat}
-use Rattle.jt_low.specs.Emission.{Emitted, alone, HasPlace, Refuses, Tests, Ends, closed, BeginsTurns, EndsTurns}
+use Rattle.jt_low.specs.Asm.{Asm, nil, both, choose, when, each, flat}
+use Rattle.jt_low.specs.Emission.{Emitted, alone, HasPlace, Refuses, Tests, Ends, closed, EndsWhen, BeginsTurns, EndsTurns}
 use Rattle.jt_low.specs.declared.emission.EmitError.{EmitError}
 use Rattle.jt_low.specs.declared.emission.EmitError.TheVariants as error
 
@@ -131,6 +131,23 @@ pub choice_emitted : (c1 c2 c3 c5 z new : List Instr) (a b : Asm) (choice last :
 choice_emitted c1 c2 c3 c5 z new a b choice last tests ea ends eb e =
     let c4 = c3 ++ wire_of (op.Jump 0) ∷ [] in
     e ∙ choose_opened c1 c2 c3 c4 c5 z a b choice last (length c3 + 1) tests.jumps ea refl tests.at ends.at (sym (length-append c3 (wire_of (op.Jump 0) ∷ []))) ends.jumps eb
+
+-- what is done for a true value stands behind its test
+pub when_emitted : (c1 c2 c3 new : List Instr) (a : Asm) (choice : ℕ) → Tests c1 c2 choice → Emitted c2 a c3 → EndsWhen c3 choice new → Emitted c1 (when a) new
+when_emitted c1 c2 c3 new a choice tests ea ends =
+    let p = length c1 in
+    let ca = flat a (p + 1) in
+    let q = p + 1 + length ca in
+    let x0 : Instr = wire_of (op.JumpIfFalse 0) in
+    let x : Instr = wire_of (op.JumpIfFalse q) in
+    let l2 : length c2 ≡ p + 1 = emitted_len c1 c2 (alone (op.JumpIfFalse 0)) tests.jumps in
+    let f3 : c3 ≡ c2 ++ W ca = ea ∙ ap (λ i. c2 ++ W (flat a i)) l2 in
+    let l3 : length c3 ≡ q = omega (arith, l2, ap length f3, length-append c2 (W ca), len_wired ca) in
+    let s3 : c3 ≡ c1 ++ x0 ∷ W ca = f3 ∙ ap (λ l. l ++ W ca) tests.jumps ∙ append_assoc c1 (x0 ∷ []) (W ca) in
+    ends ∙ ap (λ n. slice_set c3 n (wire_of (op.JumpIfFalse (length c3)))) tests.at ∙ ap (λ n. slice_set c3 p (wire_of (op.JumpIfFalse n))) l3 ∙ ap (λ l. slice_set l p x) s3 ∙ set-append_seam c1 x0 (W ca) x
+
+pub place_when : (n : ℕ) (a : Asm) → HasPlace n (when a) → HasPlace (n + 1) a
+place_when n a h = record { len = omega (arith, h.len); fields = h.fields.1 }
 
 -- what is done once for each item stands behind its test, and the jumps of the loop are written
 pub turns_emitted : (c1 c2 c3 new : List Instr) (a : Asm) (top : ℕ) → BeginsTurns c1 c2 top → Emitted c2 a c3 → EndsTurns c3 top new → Emitted c1 (each a) new

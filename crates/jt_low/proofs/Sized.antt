@@ -5,7 +5,7 @@ use Rattle.jt_image.specs.IsCode.{total_len}
 use Rattle.jt_scopes.specs.Got.{Place}
 use Rattle.jt_breadth.specs.Slots as slots
 use Rattle.jt_breadth.specs.Slots.{Slot, SExpr, SRow, Targets, SStmt, SBody, Routine, Program}
-use Rattle.jt_low.specs.Asm.{Asm, nil, one, both, choose, each, invoke, flat}
+use Rattle.jt_low.specs.Asm.{Asm, nil, one, both, choose, when, each, invoke, flat}
 use Rattle.jt_low.specs.Lower.{expr_asm, row_asm, stores_asm, take_asm, kept_asm, stmt_asm, body_asm, unit_of, compiled}
 use Rattle.jt_low.specs.Sizes.{expr_size, row_size, targets_size, kept_size, stmt_size, body_size, routines_size}
 
@@ -14,6 +14,7 @@ asm_size nil = 0
 asm_size (one o i) = 1
 asm_size (both a b) = asm_size a + asm_size b
 asm_size (choose a b) = asm_size a + asm_size b + 2
+asm_size (when a) = asm_size a + 1
 asm_size (each a) = asm_size a + 2
 asm_size (invoke o u) = 1
 
@@ -26,6 +27,7 @@ flat_size (choose a b) n =
     let q = n + 1 + length ca + 1 in
     let cb = flat b q in
     omega (arith, flat_size a (n + 1), flat_size b q, length-append ca (op.Jump (q + length cb) ∷ cb))
+flat_size (when a) n = omega (arith, flat_size a (n + 1))
 flat_size (each a) n =
     let ca = flat a (n + 1) in
     omega (arith, flat_size a (n + 1), length-append ca (op.Jump n ∷ []))

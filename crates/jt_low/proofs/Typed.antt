@@ -22,7 +22,7 @@ use Rattle.jt_image.specs.Typed.{Equal, HasSame, IsTypedUnit, IsTyped, max_entri
 use Rattle.jt_scopes.specs.Got.{Place}
 use Rattle.jt_breadth.specs.Slots as slots
 use Rattle.jt_breadth.specs.Slots.{Slot, local, global, Maker, SExpr, SRow, Targets, SStmt, SBody, Routine, Program}
-use Rattle.jt_low.specs.Asm.{Asm, nil, one, both, choose, each, invoke, flat}
+use Rattle.jt_low.specs.Asm.{Asm, nil, one, both, choose, when, each, invoke, flat}
 use Rattle.jt_low.specs.Lower.{row_count, maker, told_as, flag, load_of, store_of, expr_asm, row_asm, store_if_of, stores_asm, take_asm, turn_asm, over_asm, kept_asm, stmt_asm, body_asm, unit_of, constant_of, compiled}
 use Rattle.jt_low.specs.Heights.{expr_height, row_height, targets_height, condition_height, stmt_height, body_height}
 use Rattle.jt_low.specs.Fits.{MakerFits, TakesRow, SlotFits, ExprFits, RowFits, SomeFits, SlotsFit, TargetsFit, ConditionFits, TextFits, StmtFits, BodyFits, RoutineFits, ProgramFits}
@@ -59,6 +59,7 @@ module _ (k : Code) (count : ℕ) where
   Types (one q i) S T = Low S × Straight i S T
   Types (both a b) S T = (M : Shape) × Types a S M × Types b M T
   Types (choose a b) S T = (R : Shape) × (S ≡ kind.Value ∷ R) × Low S × Low T × Types a R T × Types b R T
+  Types (when a) S T = (R : Shape) × (S ≡ kind.Value ∷ R) × Low S × (R ≡ T) × Types a R T
   Types (each a) S T = (R : Shape) × (S ≡ kind.Frame ∷ R) × Low S × (S ≡ T) × Types a S S
   Types (invoke q v) S T = Low S × Straight (op.Call v) S T
 
@@ -151,6 +152,21 @@ module _ (k : Code) (count : ℕ) where
                   fine_append sh (p + 1) e ca (jump ∷ cb) refl ra.1 ((T, back.0, h.3, (record { shape = T; points = (q + length cb) ∷ [] }, last, ((T, end, refl), tt))), rb.1),
                 ),
               );
+        }
+    flat_types (when a) p S T h =
+        let ca = flat a (p + 1) in let q = p + 1 + length ca in
+        let fa = flat_types a (p + 1) h.0 T h.4 in
+        record {
+          shapes = S ∷ fa.shapes;
+          long = omega (arith, fa.long);
+          fine = λ sh room has to.
+              let end = at sh _ q T (omega arith) to in
+              let ra = fa.fine sh (omega (arith, room)) has.1 end in
+              let in_q : nat_lt q (length u.code) ≡ true = lt_true q (length u.code) (omega (arith, room)) in
+              let in_p : nat_lt (p + 1) (length u.code) ≡ true = lt_true (p + 1) (length u.code) (omega (arith, room)) in
+              let first : effect k u p (op.JumpIfFalse q) S ≡ Ok (record { shape = h.0; points = (p + 1) ∷ q ∷ [] }) =
+              ap (λ s. effect k u p (op.JumpIfFalse q) s) h.1 ∙ required _ flaw.JumpOut _ in_q ∙ required _ flaw.FallsOff _ in_p in
+              (has.0, ((S, has.0, h.2, (record { shape = h.0; points = (p + 1) ∷ q ∷ [] }, first, ((h.0, ra.0, refl), ((T, end, sym h.3), tt)))), ra.1));
         }
     flat_types (each a) p S T h =
         let ca = flat a (p + 1) in let e = p + 1 + length ca in let q = e + 1 in
@@ -373,7 +389,7 @@ module _ (p : Program) (count : ℕ) where
       let low : length (kind.Frame ∷ S) ≤ max_entries = omega (arith, le) in (
         kind.Frame ∷ S,
         (S, refl, low, refl, turn_types xs o body S f le hb),
-        (kind.Value ∷ S, (low, λ u q l room. goes u q (kind.Value ∷ S) room), (S, refl, omega (arith, le), omega (arith, le), ho, refl)),
+        (kind.Value ∷ S, (low, λ u q l room. goes u q (kind.Value ∷ S) room), (S, refl, omega (arith, le), refl, ho)),
       )
 
   kept_types : (c : Option (SExpr ℕ)) (xs : Targets) (o : Option Place) (S : Shape) → TargetsFit p count xs → ConditionFits p count c → length S + (1 + targets_height xs) ≤ max_entries → length S + (1 + condition_height c) ≤ max_entries → Leading (kept_asm o xs c) (kind.Frame ∷ S) (kind.Frame ∷ S)

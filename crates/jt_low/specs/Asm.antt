@@ -19,6 +19,8 @@ pub data Asm : Type 0 where
   both : Asm → Asm → Asm
   -- takes a value, and does the first if it is true, and else the second
   choose : Asm → Asm → Asm
+  -- takes a value, and does this if it is true
+  when : Asm → Asm
   -- does this once for each item that the loop at the top has left
   each : Asm → Asm
   -- calls the unit of this number
@@ -35,6 +37,9 @@ choose_code p ca cb =
     let b = cb q in
     op.JumpIfFalse q ∷ (ca ++ op.Jump (q + length b) ∷ b)
 
+abbrev pub when_code : ℕ → List Instruction → List Instruction
+when_code p ca = op.JumpIfFalse (p + 1 + length ca) ∷ ca
+
 abbrev pub each_code : ℕ → List Instruction → List Instruction
 each_code p ca = op.LoopNext (p + 1 + length ca + 1) ∷ (ca ++ op.Jump p ∷ [])
 
@@ -44,6 +49,7 @@ flat nil p = []
 flat (one o i) p = i ∷ []
 flat (both a b) p = both_code p (flat a p) (flat b)
 flat (choose a b) p = choose_code p (flat a (p + 1)) (flat b)
+flat (when a) p = when_code p (flat a (p + 1))
 flat (each a) p = each_code p (flat a (p + 1))
 flat (invoke o u) p = op.Call u ∷ []
 
@@ -53,6 +59,7 @@ places nil = []
 places (one o i) = o ∷ []
 places (both a b) = places a ++ places b
 places (choose a b) = None ∷ (places a ++ None ∷ places b)
+places (when a) = None ∷ places a
 places (each a) = None ∷ (places a ++ None ∷ [])
 places (invoke o u) = o ∷ []
 
@@ -116,5 +123,6 @@ run k call nil m = does m
 run k call (one o i) m = of_plain o (plain k i m)
 run k call (both a b) m = and_then (run k call a m) (run k call b)
 run k call (choose a b) m = on_value m.entries bad (λ t es. if truth t then run k call a (with_entries m es) else run k call b (with_entries m es))
+run k call (when a) m = on_value m.entries bad (λ t es. if truth t then run k call a (with_entries m es) else does (with_entries m es))
 run k call (each a) m = turns (run k call a) (turns_left m.entries) m
 run k call (invoke o u) m = called o k call u (slice_get k.units u) m

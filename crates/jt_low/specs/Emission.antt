@@ -43,6 +43,10 @@ abbrev pub closed : List Instr → List ℕ → ℕ → List Instr
 closed is [] target = is
 closed is (e ∷ es) target = closed (slice_set is e (wire_of (op.Jump target))) es target
 
+-- the jump at this point goes behind all instructions
+abbrev pub EndsWhen : List Instr → ℕ → List Instr → Type 0
+EndsWhen old choice new = new ≡ slice_set old choice (wire_of (op.JumpIfFalse (length old)))
+
 -- the test for one more turn behind the code, at this point
 pub record BeginsTurns (old new : List Instr) (top : ℕ) : Type 0 where
   pub at : top ≡ length old

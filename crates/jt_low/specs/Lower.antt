@@ -17,7 +17,7 @@ use Rattle.jt_breadth.specs.Loops as loops
 use Rattle.jt_breadth.specs.Loops.{Field}
 use Rattle.jt_breadth.specs.Slots as slots
 use Rattle.jt_breadth.specs.Slots.{Slot, local, global, Maker, SExpr, SRow, Targets, SStmt, SBody, Routine, Program}
-use Rattle.jt_low.specs.Asm.{Asm, nil, one, both, choose, each, invoke, flat}
+use Rattle.jt_low.specs.Asm.{Asm, nil, one, both, choose, when, each, invoke, flat}
 
 -- the values that a row leaves on the entries
 abbrev pub row_count : {K : Type 0} → SRow K → ℕ
@@ -106,7 +106,7 @@ turn_asm o xs body = both (both (one o (op.LoopGet 0 0)) (take_asm o xs)) body
 
 -- the turns of the loop at the top, and the other part where there was none
 abbrev pub over_asm : Option Place → Targets → Asm → Asm → Asm
-over_asm o xs body other = both (each (turn_asm o xs body)) (both (one o op.LoopEnd) (choose other nil))
+over_asm o xs body other = both (each (turn_asm o xs body)) (both (one o op.LoopEnd) (when other))
 
 -- the items for which the condition holds, in place of all
 abbrev pub kept_asm : Option Place → Targets → Option (SExpr ℕ) → Asm

@@ -42,7 +42,7 @@ module _ {K : Type 0} where
     -- the test, and the way past the other part
     stmt_size (slots.if_else p c a b) = expr_size c + 2 + body_size a + body_size b
     -- the loop's start and end, and whether it had a turn
-    stmt_size (slots.for_each p xs e c body other) = expr_size e + 1 + kept_size xs c + pass_size xs (body_size body) + 3 + body_size other
+    stmt_size (slots.for_each p xs e c body other) = expr_size e + 1 + kept_size xs c + pass_size xs (body_size body) + 2 + body_size other
     stmt_size (slots.capture escaping s body) = body_size body + 3
     stmt_size (slots.run u es) = row_size es + 1
 

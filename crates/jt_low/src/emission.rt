@@ -1,7 +1,7 @@
 //! What emission is made of: instructions put behind others, and jumps that are written when their target is known.
 ghost use Rattle.std.specs.Prelude.{◌≡◌, ◌+◌, ◌<◌, ◌≤◌, ◌^◌, ◌∷◌, [], length, IfOk, IfErr, OnOk, MatchResult};
 ghost use Rattle.jt_image.specs.declared.instruction.Instruction.TheVariants as op;
-ghost use Rattle.jt_low.specs.Emission.{Emitted, alone, Refuses, Tests, Ends, closed, BeginsTurns, EndsTurns};
+ghost use Rattle.jt_low.specs.Emission.{Emitted, alone, Refuses, Tests, Ends, closed, EndsWhen, BeginsTurns, EndsTurns};
 ghost use Rattle.jt_low.specs.declared.emission.EmitError.TheVariants.{CodeTooLong};
 
 use jt_image::{Instr, Instruction};
@@ -114,6 +114,21 @@ pub fn close_one(code: &mut Vec<Instr>, last: usize) -> Result<(), EmitError>
 {
     let past = field(code.len())?;
     code[last] = Instruction::Jump { target: past }.wire();
+    Ok(())
+}
+
+/// Lets the test at this point go behind all instructions: what it tests for stands there alone.
+///
+/// # Errors
+///
+/// `CodeTooLong` where that point does not fit.
+pub fn end_when(code: &mut Vec<Instr>, choice: usize) -> Result<(), EmitError>
+    requires { choice < length code.old.items }
+    ensures ended { OnOk result (EndsWhen code.old.items choice code.new.items) }
+    ensures refused { IfErr result (λ e. (e ≡ CodeTooLong) × (2 ^ 32 ≤ length code.old.items)) }
+{
+    let past = field(code.len())?;
+    code[choice] = Instruction::JumpIfFalse { target: past }.wire();
     Ok(())
 }
 

@@ -5,6 +5,6 @@ mod emission;
 mod laws;
 
 pub use emission::{
-    EmitError, begin_choice, begin_turns, close_one, end_branch, end_turns, field, put,
+    EmitError, begin_choice, begin_turns, close_one, end_branch, end_turns, end_when, field, put,
 };
 pub use laws::low_laws;
