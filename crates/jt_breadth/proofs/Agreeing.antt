@@ -1,20 +1,18 @@
 -- When an environment and a memory agree, and what keeps that.
-use Rattle.std.proofs.Common.{◌≡◌, ℕ, zero, suc, ◌+◌, ◌<◌, ◌≤◌, Bool, true, false, if◌then◌else◌, List, [], ◌∷◌, ◌++◌, length, map, Option, Some, None, refl, sym, ap, ◌∙◌, subst, arith, ◌⊎◌, inl, inr}
-use Rattle.std.specs.Prelude.{filter}
+use Rattle.std.proofs.Common.{◌≡◌, ℕ, suc, ◌+◌, ◌<◌, ◌≤◌, Bool, true, false, if◌then◌else◌, List, [], ◌∷◌, length, map, Some, None, refl, sym, ap, ◌∙◌, subst, arith, inl, inr}
 use Rattle.std.specs.Str.{bytes_eq}
-use Rattle.jt_value.specs.Tree as tree
 use Rattle.jt_value.specs.Tree.{Tree}
-use Rattle.jt_value.specs.Pairs.{Pairs, look}
+use Rattle.jt_value.specs.Pairs.{Pairs}
 use Rattle.jt_breadth.specs.Trees.{Text}
-use Rattle.jt_breadth.specs.Env.{Env, value_in, read, bound, all_bound, inside, top}
-use Rattle.jt_breadth.specs.Chain.{Home, BlockBody}
+use Rattle.jt_breadth.specs.Env.{Env, value_in, read, bound, all_bound}
+use Rattle.jt_breadth.specs.Chain.{Home}
 use Rattle.jt_breadth.specs.Loops.{tree_at}
-use Rattle.jt_breadth.specs.Around.{World, Placement}
+use Rattle.jt_breadth.specs.Around.{World}
 use Rattle.jt_breadth.specs.Slots.{Slot, local, global, Memory, load, put_at, store}
-use Rattle.jt_breadth.specs.Layout.{Table, slot_in, globals_from, names, first_slot, globals, block_parameters, is_scoped, numbered_of}
+use Rattle.jt_breadth.specs.Layout.{Table, slot_in, globals_from, names, first_slot, globals}
 use Rattle.jt_breadth.specs.Resolve.{bound_table}
-use Rattle.jt_breadth.proofs.Reading.{same_text, same_is, is_same, no_both, read_bound, IsInner, inner_bound, inner_globals, all_inner, all_globals, read_top, held, put_here, put_elsewhere}
-use Rattle.jt_scopes.proofs.Means.{Among, AllAmong}
+use Rattle.jt_breadth.proofs.Reading.{same_text, is_same, no_both, read_bound, IsInner, inner_bound, inner_globals, held, put_elsewhere}
+use Rattle.jt_scopes.proofs.Means.{Among}
 
 -- ---- what stays: the first locals, and the first globals
 

@@ -1,25 +1,23 @@
 -- Targets and scopes: what is bound by names is stored in slots.
-use Rattle.std.proofs.Common.{◌≡◌, ℕ, zero, suc, ◌+◌, ◌<◌, ◌≤◌, Bool, true, false, if◌then◌else◌, List, [], ◌∷◌, ◌++◌, length, map, Option, Some, None, refl, sym, ap, ◌∙◌, subst, arith, ◌⊎◌, inl, inr}
+use Rattle.std.proofs.Common.{◌≡◌, ℕ, suc, ◌<◌, ◌≤◌, Bool, true, false, if◌then◌else◌, List, [], ◌∷◌, map, Option, Some, None, refl, sym, ap, ◌∙◌, subst, arith, inl, inr}
 use Rattle.std.specs.Prelude.{◌||◌}
 use Rattle.std.specs.Str.{bytes_eq}
-use Rattle.jt_value.specs.Tree as tree
 use Rattle.jt_value.specs.Tree.{Tree}
 use Rattle.jt_value.specs.Pairs.{Pairs}
-use Rattle.jt_scopes.specs.Got.{Got, gives, fails, deeper, bind, checked}
+use Rattle.jt_scopes.specs.Got.{bind, checked}
 use Rattle.jt_breadth.specs.Trees.{Text}
-use Rattle.jt_breadth.specs.Env.{Env, value_in, read, bound, all_bound, inside}
+use Rattle.jt_breadth.specs.Env.{Env, read, bound, all_bound}
 use Rattle.jt_breadth.specs.Chain.{Home}
-use Rattle.jt_breadth.specs.Loops.{tree_at, items_of_value}
+use Rattle.jt_breadth.specs.Loops.{items_of_value}
 use Rattle.jt_breadth.specs.Filters.{among}
-use Rattle.jt_breadth.specs.Around.{World, Placement}
+use Rattle.jt_breadth.specs.Around.{World}
 use Rattle.jt_breadth.specs.Meaning.{each_target, targets}
-use Rattle.jt_breadth.specs.Slots.{Slot, local, global, Targets, one, several, Memory, load, store, store_if, store_each, take}
+use Rattle.jt_breadth.specs.Slots.{Slot, local, global, Memory, load, store, store_if, store_each, take}
 use Rattle.jt_breadth.specs.Layout.{Table, slot_in, names, first_slot, globals}
-use Rattle.jt_breadth.specs.Resolve.{Spot, Part, fresh, fresh_targets, kept_slots, slot_of, set_targets, bound_table, bound_all}
-use Rattle.jt_breadth.proofs.Both.{Both, both, fault, deep, bind_both, weaken, by_right, checked_both}
-use Rattle.jt_breadth.proofs.Reading.{same_text, same_is, is_same, no_both, read_bound, IsInner, all_inner, all_globals, all_top, read_top, held, put_here, put_elsewhere}
-use Rattle.jt_breadth.proofs.Agreeing.{Kept, kept_same, kept_then, kept_less, kept_store, kept_global, Held, held_put, global_slot, limit, Below, Fits, GlobalsAgree, Agrees, agrees_kept, pairs_held, fits_all, InLocals}
-use Rattle.jt_breadth.proofs.Calling.{Good, PartHolds, part_kept, part_more}
+use Rattle.jt_breadth.specs.Resolve.{fresh, fresh_targets, kept_slots, slot_of, set_targets}
+use Rattle.jt_breadth.proofs.Both.{Both, both, fault, bind_both, by_right, checked_both}
+use Rattle.jt_breadth.proofs.Reading.{same_text, same_is, is_same, no_both, read_bound, held, put_here, put_elsewhere}
+use Rattle.jt_breadth.proofs.Agreeing.{Kept, kept_same, kept_then, kept_less, kept_store, Held, held_put, limit, Below, Fits}
 use Rattle.jt_scopes.proofs.Means.{Among, AllAmong}
 
 -- ---- fresh targets
@@ -119,7 +117,7 @@ store_out (local i) v m = refl
 store_out (global i) v m = refl
 
 module _ (world : World) (order : List Home) (h : Home) (table : Table) (k : ℕ) (fits : Fits world order h table k) (S : List Text) (m : Memory) (T : Memory → Type 0) (first : T m)
-  (next : (x : Text) (s : Slot) (v : Tree) (n : Memory) → Among x S → Among x (names world order h) → slot_in x table ≡ Some s → T n → T (store s v n)) where
+    (next : (x : Text) (s : Slot) (v : Tree) (n : Memory) → Among x S → Among x (names world order h) → slot_in x table ≡ Some s → T n → T (store s v n)) where
   -- names that are set: each reads what its slot holds, as before the others do
   pub record Set (xs : List Text) (s : Pairs) (n : Memory) : Type 0 where
     pub names : map (λ p. p.0) s ≡ xs

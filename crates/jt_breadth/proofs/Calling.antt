@@ -1,22 +1,21 @@
 -- When a spot, an environment and a memory fit together; and what is asked of calls.
-use Rattle.std.proofs.Common.{◌≡◌, ℕ, zero, suc, ◌+◌, ◌<◌, ◌≤◌, Bool, true, false, List, [], ◌∷◌, ◌++◌, length, map, Option, Some, None, refl, sym, ap, ◌∙◌, subst, arith}
+use Rattle.std.proofs.Common.{◌≡◌, ℕ, suc, ◌+◌, ◌<◌, ◌≤◌, true, false, List, [], ◌∷◌, ◌++◌, length, map, Option, Some, None, sym, ◌∙◌, arith, ◌⊎◌}
 use Rattle.std.specs.Prelude.{IsTrue}
-use Rattle.jt_value.specs.Tree as tree
+use Rattle.std.specs.Option.{is_none}
 use Rattle.jt_value.specs.Tree.{Tree}
 use Rattle.jt_value.specs.Pairs.{Pairs}
-use Rattle.jt_scopes.specs.Got.{Got}
 use Rattle.jt_breadth.specs.Trees.{Text, Parameter}
-use Rattle.jt_breadth.specs.Env.{Env, value_in, read}
+use Rattle.jt_breadth.specs.Env.{Env, read}
 use Rattle.jt_breadth.specs.Chain.{Home, BlockBody, MacroBody, macros, macro_of}
 use Rattle.jt_breadth.specs.Filters.{among, default_value}
 use Rattle.jt_breadth.specs.Loops.{Loop, tree_at}
 use Rattle.jt_breadth.specs.Around.{World, Placement, Around, Called, the_macro, the_block, the_chain, Calls}
-use Rattle.jt_breadth.specs.Slots.{Slot, local, global, Memory, Valued, Listed, Written, SCalls, store}
-use Rattle.jt_breadth.specs.Layout.{Table, slot_in, Key, of_chain, of_macro, of_body, names, first_slot, globals, block_parameters, is_scoped, numbered_of, unit, shared, default_place}
-use Rattle.jt_breadth.specs.Resolve.{Spot, Part, bound_table, bound_all, grown}
+use Rattle.jt_breadth.specs.Slots.{global, Memory, Valued, Listed, Written, SCalls}
+use Rattle.jt_breadth.specs.Layout.{Table, slot_in, Key, of_chain, of_macro, of_body, names, first_slot, globals, block_parameters, is_scoped, numbered_of, unit, default_place}
+use Rattle.jt_breadth.specs.Programs.{pool}
+use Rattle.jt_breadth.specs.Resolve.{Spot, Part, grown}
 use Rattle.jt_breadth.proofs.Both.{Both}
-use Rattle.jt_breadth.proofs.Reading.{held}
-use Rattle.jt_breadth.proofs.Agreeing.{Kept, kept_same, kept_then, kept_less, kept_store, Held, held_kept, global_slot, limit, Fits, GlobalsAgree, Agrees, agrees_kept, fits_one, fits_more}
+use Rattle.jt_breadth.proofs.Agreeing.{Kept, Held, held_kept, global_slot, limit, Fits, GlobalsAgree, Agrees, agrees_kept, fits_more}
 use Rattle.jt_scopes.proofs.Means.{Among}
 
 -- a value, and what it was computed from is kept
@@ -139,8 +138,17 @@ module _ (world : World) (order : List Home) where
   -- the defaults of parameters stand in front of the pool, from a place on
   abbrev pub DefaultsAt : ℕ → List Parameter → Type 0
   DefaultsAt d [] = Unit {0}
-  DefaultsAt d (p ∷ ps) = (tree_at (shared world order) d ≡ default_value p.default) × DefaultsAt (suc d) ps
+  DefaultsAt d (p ∷ ps) = (tree_at (pool world order) d ≡ default_value p.default) × DefaultsAt (suc d) ps
 
   -- those of each macro do, from the place on that resolving finds
   abbrev pub DefaultsLaid : Type 0
   DefaultsLaid = (h : Home) → Known h → (x : Text) (b : MacroBody) → macro_of x (macros world.sources h) ≡ Some b → DefaultsAt (default_place world order h b.name) b.parameters
+
+  -- a chain that another includes: it stands behind in the order, and the other has all its names
+  pub record Hands (h n : Home) : Type 0 where
+    pub known : Known n
+    pub behind : limit world order h ≤ first_slot world order n
+    pub names : (x : Text) → Among x (Rattle.jt_breadth.specs.Layout.names world order n) → Among x (Rattle.jt_breadth.specs.Layout.names world order h)
+
+  abbrev pub Included : Home → Text → Type 0
+  Included h n = (is_none (world.sources n) ≡ true) ⊎ Hands h n

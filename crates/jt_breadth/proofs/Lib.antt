@@ -1,5 +1,6 @@
 pub mod Small
 mod Rows
+mod Refused
 pub mod Both
 pub mod Reading
 pub mod Agreeing
@@ -7,3 +8,9 @@ pub mod Calling
 pub mod Valuing
 pub mod Binding
 pub mod Stating
+pub mod Finding
+pub mod Ordering
+pub mod Knotting
+pub mod Pooling
+pub mod Means
+pub mod Monotone

@@ -1,6 +1,6 @@
 -- Reading and storing: environments by names, lists of values by places, tables of slots.
-use Rattle.std.proofs.Common.{◌≡◌, ℕ, zero, suc, ◌+◌, ◌<◌, ◌≤◌, Bool, true, false, if◌then◌else◌, List, [], ◌∷◌, ◌++◌, length, map, Option, Some, None, refl, sym, ap, ◌∙◌, subst, arith, ◌⊎◌, inl, inr}
-use Rattle.std.specs.Prelude.{unwrap_or, slice_get}
+use Rattle.std.proofs.Common.{◌≡◌, ℕ, zero, suc, Bool, true, false, if◌then◌else◌, List, [], ◌∷◌, ◌++◌, Option, Some, None, refl, sym, ap, ◌∙◌, subst, inl, inr}
+use Rattle.std.specs.Prelude.{unwrap_or}
 use Rattle.std.specs.Bool.{Decides}
 use Rattle.std.specs.Str.{bytes_eq}
 use Rattle.std.proofs.lemmas.Slice.Eq.{bytes_eq-Decides}
@@ -8,10 +8,9 @@ use Rattle.jt_value.specs.Tree as tree
 use Rattle.jt_value.specs.Tree.{Tree}
 use Rattle.jt_value.specs.Pairs.{Pairs, look}
 use Rattle.jt_breadth.specs.Trees.{Text}
-use Rattle.jt_breadth.specs.Env.{Env, first_of, value_in, read, bound, all_bound, inside, top}
+use Rattle.jt_breadth.specs.Env.{Env, first_of, value_in, read, bound, all_bound}
 use Rattle.jt_breadth.specs.Loops.{tree_at}
-use Rattle.jt_breadth.specs.Slots.{Slot, local, global, Memory, load, put_at, store}
-use Rattle.jt_breadth.specs.Layout.{Table, slot_in, globals_from}
+use Rattle.jt_breadth.specs.Slots.{Slot, Memory, load, put_at}
 use Rattle.jt_scopes.proofs.Means.{Among, AllAmong}
 
 -- ---- texts

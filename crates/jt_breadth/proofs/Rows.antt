@@ -6,7 +6,7 @@ use Rattle.std.specs.Fmt.{digits}
 use Rattle.std.specs.Str.{chars as characters}
 use Rattle.jt_value.specs.Tree as v
 use Rattle.jt_value.specs.View.{items_of}
-use Rattle.jt_value.specs.declared.fault.Fault.TheVariants.{Undefined, Unpack, ZeroDivide, BadType}
+use Rattle.jt_value.specs.declared.fault.Fault.TheVariants.{Undefined, Unpack, ZeroDivide}
 use Rattle.jt_expr.specs.Trees as e
 use Rattle.jt_expr.specs.Trees.{no_exprs, no_pairs}
 use Rattle.jt_scopes.specs.Tests.{test_named}
@@ -247,3 +247,23 @@ name_of_an_include = (refl, refl)
 captures_and_loops : Shows (source "t" (For 1 (codes "x" ∷ []) (listing (num 1 ∷ num 2 ∷ [])) None (body (SetBlock 1 (codes "s") (body (print (name "s") ∷ print (name "x") ∷ print (of (name "loop") "index") ∷ [])) ∷ print (name "s") ∷ chars "." ∷ [])) end ∷ print (name "s") ∷ []) ∷ []) ((codes "s", v.text (codes "<")) ∷ []) "&lt;11.&lt;22.&lt;"
 unfolding digits characters test_named
 captures_and_loops = (refl, refl)
+
+-- {% set a, a = [1, 2] %}{{ a }}, and the same in a scope
+later_target_wins : Shows (source "t" (Set 1 (codes "a" ∷ codes "a" ∷ []) (listing (num 1 ∷ num 2 ∷ [])) ∷ print (name "a") ∷ With 1 no_pairs (body (Set 1 (codes "a" ∷ codes "a" ∷ []) (listing (num 3 ∷ num 4 ∷ [])) ∷ print (name "a") ∷ [])) ∷ []) ∷ []) ([]) "24"
+unfolding digits characters test_named
+later_target_wins = (refl, refl)
+
+-- {% for a, a in [[1, 2]] if a > 1 %}{{ a }}{% endfor %}
+later_of_a_loop : Shows (source "t" (For 1 (codes "a" ∷ codes "a" ∷ []) (listing (listing (num 1 ∷ num 2 ∷ []) ∷ [])) (Some (Binary 15 (name "a") (num 1))) (body (print (name "a") ∷ [])) end ∷ []) ∷ []) ([]) "2"
+unfolding digits characters test_named
+later_of_a_loop = (refl, refl)
+
+-- {{ x|d("y") }}{{ 0|d("z", true) }}{{ 0|d(boolean=true, default_value="v") }}{{ 0|d(boolean=true) }}
+filter_arguments : Shows (source "t" (print (Filter (name "x") (codes "d") (exprs (str "y" ∷ [])) no_pairs) ∷ print (Filter (num 0) (codes "d") (exprs (str "z" ∷ name "one" ∷ [])) no_pairs) ∷ print (Filter (num 0) (codes "d") no_exprs (pair (codes "boolean") (num 1) (pair (codes "default_value") (str "v") no_pairs))) ∷ print (Filter (num 0) (codes "d") no_exprs (pair (codes "boolean") (num 1) no_pairs)) ∷ []) ∷ []) ((codes "one", v.number (pos 1)) ∷ []) "yzv"
+unfolding digits characters test_named
+filter_arguments = (refl, refl)
+
+-- {% autoescape false %}{{ "<" }}{% endautoescape %}{{ "<" }}
+escaping_is_lexical : Shows (source "t" (Autoescape 1 false (body (print (str "<") ∷ [])) ∷ print (str "<") ∷ []) ∷ []) ([]) "<&lt;"
+unfolding digits characters test_named
+escaping_is_lexical = (refl, refl)

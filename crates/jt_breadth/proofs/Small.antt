@@ -4,7 +4,7 @@ use Rattle.std.specs.Str.{bytes_eq}
 use Prim.Native.String.{String}
 use Rattle.jt_value.specs.Tree as v
 use Rattle.jt_value.specs.Tree.{Tree}
-use Rattle.jt_value.specs.Pairs.{Pairs, look}
+use Rattle.jt_value.specs.Pairs.{Pairs}
 use Rattle.jt_value.specs.declared.fault.Fault.{Fault}
 use Rattle.jt_value.specs.declared.fault.Fault.TheVariants as faults
 use Rattle.jt_expr.specs.declared.tree.BinaryOperator.TheVariants as o
@@ -13,7 +13,6 @@ use Rattle.jt_expr.specs.Trees.{Expr, Exprs, no_exprs, expr, no_pairs}
 use Rattle.jt_scopes.specs.Got.{Got, gives, fails, deeper}
 use Rattle.jt_breadth.specs.Trees as s
 use Rattle.jt_breadth.specs.Trees.{Text, Parameter, Filtering, Stmt, Body, end, stmt, no_branches, branch}
-use Rattle.jt_breadth.specs.Chain.{Sources}
 use Rattle.jt_breadth.specs.Loops.{items_of_value}
 use Rattle.jt_breadth.specs.Filters.{Filters}
 use Rattle.jt_breadth.specs.Around.{World}

@@ -1,5 +1,5 @@
 -- A statement means the same by names and by slots, where calls do.
-use Rattle.std.proofs.Common.{◌≡◌, ℕ, zero, suc, ◌+◌, ◌<◌, ◌≤◌, Bool, true, false, if◌then◌else◌, List, [], ◌∷◌, ◌++◌, length, map, Option, Some, None, refl, sym, ap, ◌∙◌, subst, arith, append_assoc, ◌⊎◌, inl, inr}
+use Rattle.std.proofs.Common.{◌≡◌, ℕ, suc, ◌+◌, ◌<◌, ◌≤◌, Bool, true, false, if◌then◌else◌, List, [], ◌∷◌, ◌++◌, length, map, Option, Some, None, refl, sym, ap, ◌∙◌, subst, arith, inl, inr}
 use Rattle.std.specs.Option.{is_none}
 use Rattle.std.specs.Prelude.{unwrap_or}
 use Rattle.std.specs.Str.{bytes_eq}
@@ -8,26 +8,27 @@ use Rattle.jt_value.specs.Tree.{Tree}
 use Rattle.jt_value.specs.Pairs.{Pairs, look}
 use Rattle.jt_expr.specs.Trees as written
 use Rattle.jt_expr.specs.Trees.{Expr}
-use Rattle.jt_scopes.specs.Got.{Place, Got, gives, fails, deeper, bind, checked, at}
+use Rattle.jt_scopes.specs.Got.{Place, Got, gives, bind, checked, at}
 use Rattle.jt_scopes.specs.Meaning.{shown}
 use Rattle.jt_breadth.specs.Trees.{Text, Filtering, Stmt, data_of, print, choose, for_each, set, set_block, with_values, filter_block, autoescape, macro, include, extends, block, Body, end, stmt, Branches, no_branches, branch}
-use Rattle.jt_breadth.specs.Env.{Env, value_in, read, bound, all_bound, inside, top, seen_in, seen, first_of}
-use Rattle.jt_breadth.specs.Chain.{Home, BlockBody, bodies}
+use Rattle.jt_breadth.specs.Env.{Env, value_in, read, all_bound, inside, top, seen_in, seen, first_of}
+use Rattle.jt_breadth.specs.Chain.{Home, BlockBody}
 use Rattle.jt_breadth.specs.Loops.{Loop, items_of_value, tree_at}
-use Rattle.jt_breadth.specs.Around.{World, Placement, Around, State, the_block, the_chain, Calls, tag, as_value}
-use Rattle.jt_breadth.specs.Expressions.{keywords, block_text, value, values, named_values}
-use Rattle.jt_breadth.specs.Meaning.{each_target, targets, put, within, captured, turns, gone_over, outside, kept, through, meaning, meanings, chosen}
+use Rattle.jt_breadth.specs.Around.{World, Placement, State, the_chain, Calls, as_value}
+use Rattle.jt_breadth.specs.Expressions.{keywords, block_text, value, named_values}
+use Rattle.jt_breadth.specs.Meaning.{put, within, captured, turns, gone_over, kept, through, meaning, meanings, chosen}
 use Rattle.jt_breadth.specs.Names.{expr_names, row_names, pair_names, condition_names, filtering_names, stmt_names, body_names, branch_names, set_by, set_in, set_under, needs_by, needs_in, needs_under}
 use Rattle.jt_breadth.specs.Slots as slots
 use Rattle.jt_breadth.specs.Slots.{Slot, local, global, Targets, one, several, SExpr, SStmt, SBody, none, assign, capture, run, Memory, Valued, Listed, Written, SCalls, load, put_at, store, store_if, take, in_front, sturns, sgone_over, svalue, svalues, skept, smeaning, smeanings}
-use Rattle.jt_breadth.specs.Layout.{Table, slot_in, globals_from, of_chain, of_body, names, first_slot, globals, block_parameters, is_scoped, numbered_of, unit, shared}
-use Rattle.jt_breadth.specs.Resolve.{Constant, constant_in, read_from, followed, alone, fresh_targets, slot_of, set_targets, reads, handed_on, Spot, Part, place, grown, bound_table, bound_all, copied, scoped, first_body, resolved, resolved_condition, resolved_filters, resolved_values, placed_body, resolved_stmt, resolved_body, resolved_choice}
-use Rattle.jt_breadth.proofs.Both.{Both, both, fault, deep, bind_both, at_both, if_both, weaken, left_both, right_both, at_bind, bind_gives, bind_assoc, bind_ext, by_left, by_right, checked_both, same_both}
-use Rattle.jt_breadth.proofs.Reading.{among_front, among_back, same_text, is_same, no_both, IsInner, all_inner, all_globals, all_top, read_top, held, put_here, put_elsewhere}
-use Rattle.jt_breadth.proofs.Agreeing.{Kept, kept_same, kept_then, kept_less, kept_out, kept_store, kept_global, Held, held_kept, global_slot, global_given, limit, Below, Fits, GlobalsAgree, Agrees, agrees_kept, pairs_held, copies_held, fits_all, InLocals, in_locals}
-use Rattle.jt_breadth.proofs.Calling.{Evaluated, Rowed, Known, Sees, Tail, PartHeld, PartHolds, part_kept, part_more, Good, good_kept, good_grown, globals_kept, around_of, Wrote, CallsMean, DefaultsLaid}
-use Rattle.jt_breadth.proofs.Valuing.{GivenBy, numbered_are, value_same, values_same, filter_both, read_gives, reads_give, reads_are, map_length}
-use Rattle.jt_breadth.proofs.Binding.{Taken, taken, Set, one_set, all_set}
+use Rattle.jt_breadth.specs.Layout.{Table, slot_in, globals_from, of_chain, of_body, names, first_slot, globals, block_parameters, is_scoped, numbered_of, unit}
+use Rattle.jt_breadth.specs.Programs.{pool}
+use Rattle.jt_breadth.specs.Resolve.{Constant, constant_in, followed, alone, fresh_targets, slot_of, set_targets, reads, handed_on, Spot, Part, place, grown, bound_table, bound_all, copied, scoped, first_body, resolved, resolved_condition, resolved_filters, resolved_values, placed_body, resolved_stmt, resolved_body, resolved_choice}
+use Rattle.jt_breadth.proofs.Both.{Both, both, bind_both, at_both, if_both, weaken, left_both, right_both, at_bind, bind_gives, bind_assoc, bind_ext, by_left, by_right, checked_both, same_both}
+use Rattle.jt_breadth.proofs.Reading.{among_front, among_back, same_text, is_same, no_both, IsInner, all_inner, all_globals, all_top, read_top, held, put_here}
+use Rattle.jt_breadth.proofs.Agreeing.{Kept, kept_same, kept_then, kept_less, kept_out, kept_store, kept_global, Held, global_slot, global_given, limit, Fits, Agrees, agrees_kept, pairs_held, copies_held, fits_all, InLocals, in_locals}
+use Rattle.jt_breadth.proofs.Calling.{Evaluated, Rowed, Sees, PartHolds, part_kept, part_more, Good, good_kept, good_grown, around_of, Wrote, CallsMean, DefaultsLaid, Hands, Included}
+use Rattle.jt_breadth.proofs.Valuing.{numbered_are, value_same, filter_both, read_gives, reads_give, reads_are}
+use Rattle.jt_breadth.proofs.Binding.{taken, Set, one_set, all_set}
 use Rattle.jt_scopes.proofs.Means.{Among, AllAmong}
 
 -- ---- names
@@ -45,7 +46,7 @@ among_both (x ∷ xs) ys ns a b = (a.0, among_both xs ys ns a.1 b)
 
 -- the names that are set are among those that are read or bound
 mutual
-  set_among : (s : Stmt) (ns : List Text) → AllAmong (stmt_names s) ns → AllAmong (set_by s) ns
+  pub set_among : (s : Stmt) (ns : List Text) → AllAmong (stmt_names s) ns → AllAmong (set_by s) ns
   set_among (set line xs e) ns a = among_back (expr_names e) xs ns a
   set_among (set_block line x body) ns a = (a.0, tt)
   set_among (choose bs other) ns a =
@@ -128,7 +129,7 @@ seen_reads (s ∷ ss) gs x = look_append x s (seen_in ss gs) ∙ ap (λ v. unwra
 
 module _ (world : World) (order : List Home) (calls : Calls) (scall : SCalls) (mean : CallsMean world order calls scall) (laid : DefaultsLaid world order) where
   abbrev pub constants : Constant → Tree
-  constants = constant_in (shared world order)
+  constants = constant_in (pool world order)
 
   abbrev pub sstmt : SStmt Constant → Option Loop → Memory → Got Memory
   sstmt s l m = smeaning world.filters constants scall s l m
@@ -230,7 +231,7 @@ module _ (world : World) (order : List Home) (calls : Calls) (scall : SCalls) (m
   -- a body in a new scope means the same
   pub scope_both : (body : Body) (sp : Spot) (l : Option Loop) (q : Option Placement) (env : Env) (out : Text) (m : Memory) → Good world order sp q env m → IsInner env → m.out ≡ out → AllAmong (body_names body) (ns sp)
       → ((b g : ℕ) (S : List Text) (st : State) (n : Memory) → Here (bound_all (set_in body) sp) q b g S st n → AllAmong (set_in body) S
-        → Both (After (bound_all (set_in body) sp) q b g S n) (meanings world calls body (around_of world order sp l q) st) (sbody (resolved_body world order body (bound_all (set_in body) sp)) l n))
+      → Both (After (bound_all (set_in body) sp) q b g S n) (meanings world calls body (around_of world order sp l q) st) (sbody (resolved_body world order body (bound_all (set_in body) sp)) l n))
       → Both (Left sp m) (meanings world calls body (around_of world order sp l q) (record { env = env; out = out })) (sbody (scoped (set_in body) sp (resolved_body world order body)) l m)
   scope_both body sp l q env out m g inner o i same =
       let xs = set_in body in
@@ -286,7 +287,7 @@ module _ (world : World) (order : List Home) (calls : Calls) (scall : SCalls) (m
 
   set_all : {g : Got Pairs} {h : Got Memory} (xs : List Text) (sp : Spot) (q : Option Placement) (b j : ℕ) (S : List Text) (st : State) (m : Memory) (here : Here sp q b j S st m)
       → ((T : Memory → Type 0) (first : T m) (next : (x : Text) (s : Slot) (v : Tree) (n : Memory) → Among x S → Among x (names world order sp.home) → slot_in x sp.table ≡ Some s → T n → T (store s v n))
-        → Both (Set world order sp.home sp.table sp.free here.good.fits S m T first next xs) g h)
+      → Both (Set world order sp.home sp.table sp.free here.good.fits S m T first next xs) g h)
       → Both (λ s n. After sp q b j S m (record st { env = all_bound st.env s }) n) g h
   set_all {g = g} {h = h} xs sp q b j S st m here runs = by_owns here.owns
     where
@@ -374,11 +375,11 @@ module _ (world : World) (order : List Home) (calls : Calls) (scall : SCalls) (m
   }
 
   module _ (l : Option Loop) (q : Option Placement) (body : Body) (xs : List Text) (sp : Spot)
-    (same : (l' : Option Loop) (env : Env) (out : Text) (n : Memory) → Good world order (bound_all xs sp) q env n → IsInner env → n.out ≡ out
+      (same : (l' : Option Loop) (env : Env) (out : Text) (n : Memory) → Good world order (bound_all xs sp) q env n → IsInner env → n.out ≡ out
       → Both (Left (bound_all xs sp) n) (meanings world calls body (around_of world order sp l' q) (record { env = env; out = out })) (sbody (scoped (set_in body) (bound_all xs sp) (resolved_body world order body)) l' n)) where
     turns_both : (p : Place) (all : List Tree) (i : ℕ) (vs : List Tree) (st : State) (m : Memory) → Good world order sp q st.env m → m.out ≡ st.out
         → Both (Stays sp st m) (turns (λ l'. meanings world calls body (around_of world order sp l' q)) xs p all i vs st)
-          (sturns (λ l' n. sbody (scoped (set_in body) (bound_all xs sp) (resolved_body world order body)) l' n) (fresh_targets sp.free xs) p all i vs m)
+        (sturns (λ l' n. sbody (scoped (set_in body) (bound_all xs sp) (resolved_body world order body)) l' n) (fresh_targets sp.free xs) p all i vs m)
     turns_both p all i [] st m g o = both (record { env = refl; kept = kept_same sp.free (lim sp) m; out = o })
     turns_both p all i (v ∷ vs) st m g o =
         bind_both (at_both p (taken (lim sp) xs v sp.free m)) (λ s n w.
@@ -393,7 +394,7 @@ module _ (world : World) (order : List Home) (calls : Calls) (scall : SCalls) (m
 
     gone_both : (p : Place) (b g : ℕ) (S : List Text) (vs : List Tree) (st : State) (m : Memory) (other : State → Got State) (sother : Memory → Got Memory) → Here sp q b g S st m → Both (After sp q b g S m) (other st) (sother m)
         → Both (After sp q b g S m) (gone_over (λ l'. meanings world calls body (around_of world order sp l' q)) other xs p vs st)
-          (sgone_over (λ l' n. sbody (scoped (set_in body) (bound_all xs sp) (resolved_body world order body)) l' n) sother (fresh_targets sp.free xs) p vs m)
+        (sgone_over (λ l' n. sbody (scoped (set_in body) (bound_all xs sp) (resolved_body world order body)) l' n) sother (fresh_targets sp.free xs) p vs m)
     gone_both p b g S [] st m other sother h u = u
     gone_both p b g S (v ∷ vs) st m other sother h u = weaken (λ st' n w. after_stays st' n h w) (turns_both p (v ∷ vs) 0 (v ∷ vs) st m h.good h.out)
 
@@ -405,7 +406,7 @@ module _ (world : World) (order : List Home) (calls : Calls) (scall : SCalls) (m
 
   caught : (body : Body) (sp : Spot) (l : Option Loop) (q : Option Placement) (on : Bool) (env : Env) (m : Memory) → Good world order sp q env m → AllAmong (body_names body) (ns sp)
       → ((b g : ℕ) (S : List Text) (st : State) (n : Memory) → Here (bound_all (set_in body) sp) q b g S st n → AllAmong (set_in body) S
-        → Both (After (bound_all (set_in body) sp) q b g S n) (meanings world calls body (around_of world order sp l q) st) (sbody (resolved_body world order body (bound_all (set_in body) sp)) l n))
+      → Both (After (bound_all (set_in body) sp) q b g S n) (meanings world calls body (around_of world order sp l q) st) (sbody (resolved_body world order body (bound_all (set_in body) sp)) l n))
       → Both (Caught sp on m) (captured on (meanings world calls body (around_of world order sp l q)) env) (sbody (scoped (set_in body) sp (resolved_body world order body)) l (record m { out = [] }))
   caught body sp l q on env m g i same =
       left_both (λ r. as_value on r.out) (weaken (λ st n w. record { value = ap (as_value on) w.out; kept = kept_then (kept_out (record m { out = [] }) refl refl (kept_same sp.free (lim sp) m)) w.kept })
@@ -507,15 +508,6 @@ module _ (world : World) (order : List Home) (calls : Calls) (scall : SCalls) (m
 
   -- ---- includes
 
-  -- a chain that another includes: it stands behind in the order, and the other has all its names
-  pub record Hands (h n : Home) : Type 0 where
-    pub known : Known world order n
-    pub behind : limit world order h ≤ first_slot world order n
-    pub names : (x : Text) → Among x (Rattle.jt_breadth.specs.Layout.names world order n) → Among x (Rattle.jt_breadth.specs.Layout.names world order h)
-
-  abbrev pub Included : Home → Text → Type 0
-  Included h n = (is_none (world.sources n) ≡ true) ⊎ Hands h n
-
   abbrev handed : Table → ℕ → List Text → Memory → Memory
   handed table k [] m = m
   handed table k (x ∷ xs) m = handed table (suc k) xs (store (global k) (held (slot_in x table) m) m)
@@ -556,9 +548,9 @@ module _ (world : World) (order : List Home) (calls : Calls) (scall : SCalls) (m
       which n y false e (inl p) j s w r = absurd (no_both (is_same x y p) e)
       which n y false e (inr i) j s w r = r i s
 
-  include_both : (n : Text) (with_context : Bool) (sp : Spot) (l : Option Loop) (q : Option Placement) (b j : ℕ) (S : List Text) (st : State) (m : Memory) (line : ℕ) → Here sp q b j S st m → Hands sp.home n
+  include_both : (n : Text) (with_context : Bool) (sp : Spot) (l : Option Loop) (q : Option Placement) (b j : ℕ) (S : List Text) (st : State) (m : Memory) (line : ℕ) → Here sp q b j S st m → Hands world order sp.home n
       → Both (After sp q b j S m) (bind (calls (the_chain n (if with_context then seen st.env else []))) (λ s. gives (put st s)))
-        (sbody (followed (handed_on (place sp line) (if with_context then sp.table else []) (first_slot world order n) (names world order n)) (alone (run (unit world order (of_chain n)) none))) l m)
+      (sbody (followed (handed_on (place sp line) (if with_context then sp.table else []) (first_slot world order n) (names world order n)) (alone (run (unit world order (of_chain n)) none))) l m)
   include_both n with_context sp l q b j S st m line here hands = by_flag with_context
     where
       passed : (table : Table) (gs : Pairs) (f : Text → Tree) → ((o : Memory) → Kept sp.free (lim sp) m o → (x : Text) → Among x (names world order n) → held (slot_in x table) o ≡ f x) → ((x : Text) → value_in gs x ≡ f x)
@@ -581,7 +573,7 @@ module _ (world : World) (order : List Home) (calls : Calls) (scall : SCalls) (m
 
   mutual
     pub stmt_same : (s : Stmt) (sp : Spot) (l : Option Loop) (q : Option Placement) (b j : ℕ) (S : List Text) (st : State) (m : Memory) → Here sp q b j S st m → AllAmong (stmt_names s) (ns sp) → AllAmong (set_by s) S
-        → Each (Included sp.home) (needs_by true s) → Each (λ x. is_scoped world sp.home x ≡ true) (scoped_by s)
+        → Each (Included world order sp.home) (needs_by true s) → Each (λ x. is_scoped world sp.home x ≡ true) (scoped_by s)
         → Both (After sp q b j S m) (meaning world calls s (around_of world order sp l q) st) (sbody (resolved_stmt world order s sp) l m)
     stmt_same (data_of t) sp l q b j S st m h i o n d =
         both (stays (st.out ++ t) h (kept_out (record m { out = m.out ++ t }) refl refl (kept_same sp.free (lim sp) m)) (ap (λ u. u ++ t) h.out))
@@ -591,9 +583,9 @@ module _ (world : World) (order : List Home) (calls : Calls) (scall : SCalls) (m
     stmt_same (choose bs other) sp l q b j S st m h i o n d =
         choice_same bs sp l q b j S st (meanings world calls other (around_of world order sp l q)) (resolved_body world order other sp)
         (λ m' h'. body_same other sp l q b j S st m' h' (among_back (branch_names bs) (body_names other) (ns sp) i) (among_back (set_under bs) (set_in other) S o)
-        (each_back (Included sp.home) (needs_under true bs) (needs_in true other) n) (each_back (λ x. is_scoped world sp.home x ≡ true) (scoped_under bs) (scoped_in other) d))
+        (each_back (Included world order sp.home) (needs_under true bs) (needs_in true other) n) (each_back (λ x. is_scoped world sp.home x ≡ true) (scoped_under bs) (scoped_in other) d))
         m h (among_front (branch_names bs) (body_names other) (ns sp) i) (among_front (set_under bs) (set_in other) S o)
-        (each_front (Included sp.home) (needs_under true bs) (needs_in true other) n) (each_front (λ x. is_scoped world sp.home x ≡ true) (scoped_under bs) (scoped_in other) d)
+        (each_front (Included world order sp.home) (needs_under true bs) (needs_in true other) n) (each_front (λ x. is_scoped world sp.home x ≡ true) (scoped_under bs) (scoped_in other) d)
     stmt_same (for_each line xs e c body other) sp l q b j S st m h i o n d =
         let i1 = among_front (expr_names e) (xs ++ (condition_names c ++ (body_names body ++ body_names other))) (ns sp) i in
         let i2 = among_back xs (condition_names c ++ (body_names body ++ body_names other)) (ns sp) (among_back (expr_names e) (xs ++ (condition_names c ++ (body_names body ++ body_names other))) (ns sp) i) in
@@ -613,9 +605,9 @@ module _ (world : World) (order : List Home) (calls : Calls) (scall : SCalls) (m
         (gone_both l q body xs sp
         (λ l' env out n' g inner z. scope_both body (bound_all xs sp) l' q env out n' g inner z (among_front (body_names body) (body_names other) (ns sp) i3)
         (λ b' j' S' st' n'' h'' o''. body_same body (bound_all (set_in body) (bound_all xs sp)) l' q b' j' S' st' n'' h'' (among_front (body_names body) (body_names other) (ns sp) i3) o''
-        (each_front (Included sp.home) (needs_in true body) (needs_in true other) n) (each_front (λ x. is_scoped world sp.home x ≡ true) (scoped_in body) (scoped_in other) d)))
+        (each_front (Included world order sp.home) (needs_in true body) (needs_in true other) n) (each_front (λ x. is_scoped world sp.home x ≡ true) (scoped_in body) (scoped_in other) d)))
         (place sp line) b j S vs st r.memory (meanings world calls other (around_of world order sp l q)) (λ n'. sbody (resolved_body world order other sp) l n') h'
-        (body_same other sp l q b j S st r.memory h' (among_back (body_names body) (body_names other) (ns sp) i3) o (each_back (Included sp.home) (needs_in true body) (needs_in true other) n) (each_back (λ x. is_scoped world sp.home x ≡ true) (scoped_in body) (scoped_in other) d))))))
+        (body_same other sp l q b j S st r.memory h' (among_back (body_names body) (body_names other) (ns sp) i3) o (each_back (Included world order sp.home) (needs_in true body) (needs_in true other) n) (each_back (λ x. is_scoped world sp.home x ≡ true) (scoped_in body) (scoped_in other) d))))))
     stmt_same (set line xs e) sp l q b j S st m h i o n d =
         by_right (alone_same (assign (place sp line) (set_targets sp.table xs) (resolved world order e sp)) l m)
         (left_both (λ s. record st { env = all_bound st.env s })
@@ -673,7 +665,7 @@ module _ (world : World) (order : List Home) (calls : Calls) (scall : SCalls) (m
         including true e = both (record { here = h; kept = kept_same b j m })
         including false e = by_source n.0
           where
-            by_source : Included sp.home k → Both (After sp q b j S m) (bind (calls (the_chain k (if with_context then seen st.env else []))) (λ s. gives (put st s)))
+            by_source : Included world order sp.home k → Both (After sp q b j S m) (bind (calls (the_chain k (if with_context then seen st.env else []))) (λ s. gives (put st s)))
                 (sbody (followed (handed_on (place sp line) (if with_context then sp.table else []) (first_slot world order k) (names world order k)) (alone (run (unit world order (of_chain k)) none))) l m)
             by_source (inl f) = absurd (no_both f e)
             by_source (inr f) = include_both k with_context sp l q b j S st m line h f
@@ -686,21 +678,21 @@ module _ (world : World) (order : List Home) (calls : Calls) (scall : SCalls) (m
         (placed_both x (globals world order sp.home) (top st.env.globals) (numbered_of world sp.home x) sp l q b j S st m h (sees_globals x sp q st.env m h.good) refl)
 
     pub body_same : (c : Body) (sp : Spot) (l : Option Loop) (q : Option Placement) (b j : ℕ) (S : List Text) (st : State) (m : Memory) → Here sp q b j S st m → AllAmong (body_names c) (ns sp) → AllAmong (set_in c) S
-        → Each (Included sp.home) (needs_in true c) → Each (λ x. is_scoped world sp.home x ≡ true) (scoped_in c)
+        → Each (Included world order sp.home) (needs_in true c) → Each (λ x. is_scoped world sp.home x ≡ true) (scoped_in c)
         → Both (After sp q b j S m) (meanings world calls c (around_of world order sp l q) st) (sbody (resolved_body world order c sp) l m)
     body_same end sp l q b j S st m h i o n d = both (record { here = h; kept = kept_same b j m })
     body_same (stmt s rest) sp l q b j S st m h i o n d =
         by_right (followed_same (resolved_stmt world order s sp) (resolved_body world order rest sp) l m)
-        (bind_both (stmt_same s sp l q b j S st m h (among_front (stmt_names s) (body_names rest) (ns sp) i) (among_front (set_by s) (set_in rest) S o) (each_front (Included sp.home) (needs_by true s) (needs_in true rest) n)
+        (bind_both (stmt_same s sp l q b j S st m h (among_front (stmt_names s) (body_names rest) (ns sp) i) (among_front (set_by s) (set_in rest) S o) (each_front (Included world order sp.home) (needs_by true s) (needs_in true rest) n)
         (each_front (λ x. is_scoped world sp.home x ≡ true) (scoped_by s) (scoped_in rest) d)) (λ st' m' a.
         weaken (λ st'' m'' y. since a.kept y)
-        (body_same rest sp l q b j S st' m' a.here (among_back (stmt_names s) (body_names rest) (ns sp) i) (among_back (set_by s) (set_in rest) S o) (each_back (Included sp.home) (needs_by true s) (needs_in true rest) n)
+        (body_same rest sp l q b j S st' m' a.here (among_back (stmt_names s) (body_names rest) (ns sp) i) (among_back (set_by s) (set_in rest) S o) (each_back (Included world order sp.home) (needs_by true s) (needs_in true rest) n)
         (each_back (λ x. is_scoped world sp.home x ≡ true) (scoped_by s) (scoped_in rest) d))))
 
     -- the else part is given by its meaning, its resolved form and that they mean the same
     pub choice_same : (bs : Branches) (sp : Spot) (l : Option Loop) (q : Option Placement) (b j : ℕ) (S : List Text) (st : State) (other : State → Got State) (sother : SBody Constant)
         → ((m : Memory) → Here sp q b j S st m → Both (After sp q b j S m) (other st) (sbody sother l m))
-        → (m : Memory) → Here sp q b j S st m → AllAmong (branch_names bs) (ns sp) → AllAmong (set_under bs) S → Each (Included sp.home) (needs_under true bs) → Each (λ x. is_scoped world sp.home x ≡ true) (scoped_under bs)
+        → (m : Memory) → Here sp q b j S st m → AllAmong (branch_names bs) (ns sp) → AllAmong (set_under bs) S → Each (Included world order sp.home) (needs_under true bs) → Each (λ x. is_scoped world sp.home x ≡ true) (scoped_under bs)
         → Both (After sp q b j S m) (chosen world calls bs (around_of world order sp l q) st other) (sbody (resolved_choice world order bs sp sother) l m)
     choice_same no_branches sp l q b j S st other sother others m h i o n d = others m h
     choice_same (branch line c body rest) sp l q b j S st other sother others m h i o n d =
@@ -710,7 +702,7 @@ module _ (world : World) (order : List Home) (calls : Calls) (scall : SCalls) (m
         let h' : Here sp q b j S st r.memory = record { good = good_kept world order h.good w.kept; owns = h.owns; out = w.out ∙ h.out } in
         by_right (ap (λ z. if tree.truth z then sbody (resolved_body world order body sp) l r.memory else sbody (resolved_choice world order rest sp sother) l r.memory) w.value)
         (weaken (λ st' n' y. since (lower h.owns w.kept) y) (if_both (tree.truth v)
-        (body_same body sp l q b j S st r.memory h' (among_front (body_names body) (branch_names rest) (ns sp) i1) (among_front (set_in body) (set_under rest) S o) (each_front (Included sp.home) (needs_in true body) (needs_under true rest) n)
+        (body_same body sp l q b j S st r.memory h' (among_front (body_names body) (branch_names rest) (ns sp) i1) (among_front (set_in body) (set_under rest) S o) (each_front (Included world order sp.home) (needs_in true body) (needs_under true rest) n)
         (each_front (λ x. is_scoped world sp.home x ≡ true) (scoped_in body) (scoped_under rest) d))
-        (choice_same rest sp l q b j S st other sother others r.memory h' (among_back (body_names body) (branch_names rest) (ns sp) i1) (among_back (set_in body) (set_under rest) S o) (each_back (Included sp.home) (needs_in true body) (needs_under true rest) n)
+        (choice_same rest sp l q b j S st other sother others r.memory h' (among_back (body_names body) (branch_names rest) (ns sp) i1) (among_back (set_in body) (set_under rest) S o) (each_back (Included world order sp.home) (needs_in true body) (needs_under true rest) n)
         (each_back (λ x. is_scoped world sp.home x ≡ true) (scoped_in body) (scoped_under rest) d))))))

@@ -1,5 +1,5 @@
 -- An expression means the same by names and by slots.
-use Rattle.std.proofs.Common.{◌≡◌, ℕ, zero, suc, pos, ◌+◌, ◌<◌, ◌≤◌, Bool, true, false, if◌then◌else◌, List, [], ◌∷◌, ◌++◌, length, map, Option, Some, None, refl, sym, ap, ◌∙◌, subst, arith, append_assoc, ◌⊎◌, inl, inr}
+use Rattle.std.proofs.Common.{◌≡◌, ℕ, zero, suc, pos, ◌<◌, ◌≤◌, Bool, true, false, if◌then◌else◌, List, [], ◌∷◌, ◌++◌, length, map, Option, Some, None, refl, sym, ap, ◌∙◌, subst, arith, append_assoc, inl, inr}
 use Rattle.std.specs.Prelude.{unwrap_or, Result, Ok, Err, filter, codes}
 use Rattle.std.specs.Str.{bytes_eq}
 use Rattle.jt_value.specs.Tree as tree
@@ -23,20 +23,21 @@ use Rattle.jt_scopes.specs.Tests.{test_named}
 use Rattle.jt_scopes.specs.Expressions.{literal, operated, asked, turned, either, combined}
 use Rattle.jt_scopes.specs.Resolve.{count}
 use Rattle.jt_breadth.specs.Trees.{Text, Parameter}
-use Rattle.jt_breadth.specs.Env.{Env, value_in, read, top}
-use Rattle.jt_breadth.specs.Chain.{Home, BlockBody, bodies, all_bodies, from_given, MacroBody, macros, macro_of, Callee, a_macro, a_range, a_super, a_block, a_cycle, no_callee, callee, named_alone, named_in, is_loop}
-use Rattle.jt_breadth.specs.Loops.{Loop, Field, index0, field_named, loop_field, tree_at}
+use Rattle.jt_breadth.specs.Env.{Env, read, top}
+use Rattle.jt_breadth.specs.Chain.{Home, BlockBody, bodies, all_bodies, from_given, MacroBody, macros, macro_of, Callee, a_macro, a_range, a_super, a_block, a_cycle, no_callee, callee, named_alone, is_loop}
+use Rattle.jt_breadth.specs.Loops.{Loop, Field, index0, field_named, loop_field}
 use Rattle.jt_breadth.specs.Filters.{Filters, default_value, parameters, some_given, by_name, arguments}
-use Rattle.jt_breadth.specs.Around.{World, Placement, Around, the_macro, the_block, Calls, as_value}
+use Rattle.jt_breadth.specs.Around.{World, Placement, the_macro, the_block, Calls, as_value}
 use Rattle.jt_breadth.specs.Expressions.{keywords, filtered, filter_parameters, entries_of, field_of, cycled, block_text, super_text, valued_text, called, value, values, named_values}
 use Rattle.jt_breadth.specs.Names.{expr_names, row_names, pair_names}
 use Rattle.jt_breadth.specs.Slots as slots
 use Rattle.jt_breadth.specs.Slots.{Slot, local, global, Maker, operator, a_list, a_map, SExpr, made, SRow, none, Memory, Valued, Listed, Written, SCalls, load, put_at, store, make, valued, in_front, svalue, svalues}
-use Rattle.jt_breadth.specs.Layout.{Table, slot_in, first_slot, globals_from, of_macro, of_body, names, globals, block_parameters, is_scoped, numbered_of, numbered_bodies, counted_from, unit, shared, default_place}
+use Rattle.jt_breadth.specs.Layout.{Table, slot_in, first_slot, of_macro, of_body, names, globals, block_parameters, is_scoped, numbered_of, numbered_bodies, counted_from, unit, default_place}
+use Rattle.jt_breadth.specs.Programs.{pool}
 use Rattle.jt_breadth.specs.Resolve.{Constant, own, known, constant_in, no_value, value_or, read_from, operation_of, turned_round, tested_by, filtered_by, in_form, field_from, locals_from, filled, filled_some, first_locals, reads, Spot, Part, grown, next_given, first_body, invoked_body, invoked_super, invoked, resolved, resolved_row, resolved_asides, resolved_entries}
-use Rattle.jt_breadth.proofs.Both.{Both, both, fault, deep, bind_both, if_both, weaken, right_both, bind_gives, bind_assoc, bind_ext, by_left, by_right, checked_both}
-use Rattle.jt_breadth.proofs.Reading.{among_front, among_back, held, put_here, put_elsewhere}
-use Rattle.jt_breadth.proofs.Agreeing.{Kept, kept_same, kept_then, kept_less, kept_out, kept_store, Held, held_put, held_kept, limit, GlobalsAgree, global_given}
+use Rattle.jt_breadth.proofs.Both.{Both, both, fault, bind_both, if_both, weaken, right_both, bind_gives, bind_assoc, bind_ext, by_left, by_right}
+use Rattle.jt_breadth.proofs.Reading.{among_front, among_back, held, put_here}
+use Rattle.jt_breadth.proofs.Agreeing.{Kept, kept_same, kept_then, kept_less, kept_store, Held, limit, global_given}
 use Rattle.jt_breadth.proofs.Calling.{Evaluated, Rowed, Known, Sees, Tail, PartHolds, Good, good_kept, good_grown, around_of, Wrote, CallsMean, DefaultsAt, DefaultsLaid}
 use Rattle.jt_scopes.proofs.Means.{Among, AllAmong}
 
@@ -103,7 +104,7 @@ parameter_names (p ∷ ps) (v ∷ vs) ks = ap (λ xs. p.name ∷ xs) (parameter_
 
 -- ---- bodies and their places
 
-counted_are : {A : Type 0} (n : ℕ) (xs : List A) → map (λ c. c.1) (counted_from n xs) ≡ xs
+pub counted_are : {A : Type 0} (n : ℕ) (xs : List A) → map (λ c. c.1) (counted_from n xs) ≡ xs
 counted_are n [] = refl
 counted_are n (x ∷ xs) = ap (λ ys. x ∷ ys) (counted_are (suc n) xs)
 
@@ -167,7 +168,7 @@ module _ (world : World) (order : List Home) (calls : Calls) (scall : SCalls) (m
   fs = world.filters
 
   abbrev pub constants : Constant → Tree
-  constants = constant_in (shared world order)
+  constants = constant_in (pool world order)
 
   abbrev pub seen : SExpr Constant → Memory → Got Valued
   seen e m = svalue fs constants scall e l m
@@ -465,9 +466,9 @@ module _ (world : World) (order : List Home) (calls : Calls) (scall : SCalls) (m
   call_both : {m : Memory} (c : Callee) (sp : Spot) (env : Env) (ts : Exprs) (ps : written.Pairs) → Good world order sp q env m → ((b : MacroBody) → c ≡ a_macro b → (x : Text) × (macro_of x (macros world.sources sp.home) ≡ Some b))
       → Both (Counted sp m (count ts)) (values world calls ts (around_of world order sp l q) env) (seen_row (resolved_row world order ts sp none) m)
       → ((b : MacroBody) (d : ℕ) → DefaultsAt world order d b.parameters → Both (Passed sp m b) (bind (values world calls ts (around_of world order sp l q) env) (λ vs. bind (named_values world calls ps (around_of world order sp l q) env) (λ ks. gives (parameters b.parameters vs ks))))
-        (seen_row (resolved_row world order ts sp (resolved_asides world order ps sp (filled b.parameters (count ts) d (locals_from sp.free (keywords ps))))) m))
+      (seen_row (resolved_row world order ts sp (resolved_asides world order ps sp (filled b.parameters (count ts) d (locals_from sp.free (keywords ps))))) m))
       → Same sp m (called world calls c (around_of world order sp l q) env (values world calls ts (around_of world order sp l q) env) (named_values world calls ps (around_of world order sp l q) env))
-        (invoked world order c sp (resolved_row world order ts sp) (resolved_asides world order ps sp) (count ts) (locals_from sp.free (keywords ps)))
+      (invoked world order c sp (resolved_row world order ts sp) (resolved_asides world order ps sp) (count ts) (locals_from sp.free (keywords ps)))
   call_both {m = m} (a_macro b) sp env ts ps g named row passed =
       let x = named b refl in
       by_left (regroup (values world calls ts (around_of world order sp l q) env) (named_values world calls ps (around_of world order sp l q) env) (λ vs ks. parameters b.parameters vs ks) (λ p. valued_text sp.escaping (calls (the_macro sp.home b p env.globals))))
@@ -659,8 +660,8 @@ module _ (world : World) (order : List Home) (calls : Calls) (scall : SCalls) (m
   -- a filter on what an expression gives
   pub filter_both : {m : Memory} {h : Got Tree} (x : Text) (ts : Exprs) (ps : written.Pairs) (sp : Spot) (env : Env) (e : SExpr Constant) → Good world order sp q env m → AllAmong (row_names ts) (ns sp) → AllAmong (pair_names ps) (ns sp) → Same sp m h e
       → Same sp m (filtered fs (fs.named x) sp.escaping (bind h (λ v. bind (values world calls ts (around_of world order sp l q) env) (λ vs. bind (named_values world calls ps (around_of world order sp l q) env) (λ ks.
-        gives (v ∷ arguments (filter_parameters fs (fs.named x)) vs (keywords ps) ks))))))
-        (filtered_by (fs.named x) sp.escaping (slots.item e (resolved_row world order ts sp (resolved_asides world order ps sp (filled_some (filter_parameters fs (fs.named x)) (count ts) (keywords ps) (locals_from sp.free (keywords ps)))))))
+      gives (v ∷ arguments (filter_parameters fs (fs.named x)) vs (keywords ps) ks))))))
+      (filtered_by (fs.named x) sp.escaping (slots.item e (resolved_row world order ts sp (resolved_asides world order ps sp (filled_some (filter_parameters fs (fs.named x)) (count ts) (keywords ps) (locals_from sp.free (keywords ps)))))))
   filter_both {m = m} x ts ps sp env e g front back u =
       let rest = filled_some (filter_parameters fs (fs.named x)) (count ts) (keywords ps) (locals_from sp.free (keywords ps)) in
       filtered_both (fs.named x) sp.escaping (slots.item e (resolved_row world order ts sp (resolved_asides world order ps sp rest)))

@@ -1,12 +1,10 @@
 -- The static rules of chains: what a refusal of each name says of a library and an entry, and in which order chains are laid out.
-use Rattle.std.specs.Prelude.{◌≡◌, ℕ, zero, suc, ◌<◌, Bool, true, false, not, ◌&&◌, ◌||◌, ◌==◌, ◌⊎◌, IsTrue, List, [], ◌∷◌, ◌++◌, map, flat_map, length, Option, Some, None, codes, nat_lt, if◌then◌else◌}
-use Rattle.std.specs.Option.{is_some, is_none}
+use Rattle.std.specs.Prelude.{ℕ, ◌<◌, Bool, true, false, not, ◌&&◌, ◌||◌, ◌==◌, ◌⊎◌, IsTrue, List, [], ◌∷◌, ◌++◌, map, flat_map, length, Some, nat_lt}
+use Rattle.std.specs.Option.{is_none}
 use Rattle.std.specs.List.{list_any}
-use Rattle.std.specs.Str.{bytes_eq}
-use Rattle.jt_expr.specs.Trees.{Expr, name}
 use Rattle.jt_inherit.specs.Names.{IsName}
-use Rattle.jt_breadth.specs.Trees.{Text, Body}
-use Rattle.jt_breadth.specs.Chain.{Home, Template, names_up, template, templates, BlockBody, blocks_in, all_bodies, bodies, from_given, macros}
+use Rattle.jt_breadth.specs.Trees.{Text}
+use Rattle.jt_breadth.specs.Chain.{Home, names_up, templates, BlockBody, blocks_in, all_bodies, bodies, from_given, macros}
 use Rattle.jt_breadth.specs.Filters.{among}
 use Rattle.jt_breadth.specs.Around.{World}
 use Rattle.jt_breadth.specs.Layout.{included}

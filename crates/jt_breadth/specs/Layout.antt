@@ -47,6 +47,15 @@ abbrev pub place_of : Key → List Key → ℕ
 place_of k [] = 0
 place_of k (j ∷ js) = if same_key j k then 0 else suc (place_of k js)
 
+-- what each parameter of a macro is where no argument is given
+abbrev pub defaults_of : List MacroBody → List Tree
+defaults_of ms = flat_map (λ m. map (λ p. default_value p.default) m.parameters) ms
+
+-- the place of a macro's first parameter among those
+abbrev pub first_default : Text → List MacroBody → ℕ
+first_default x [] = 0
+first_default x (m ∷ ms) = if bytes_eq m.name x then 0 else length m.parameters + first_default x ms
+
 module _ (world : World) where
   -- the chains that a chain includes: those with a source
   abbrev pub included : Home → List Home
@@ -75,15 +84,6 @@ module _ (world : World) where
   chain_keys h =
       of_chain h ∷ (map (λ m. of_macro h m.name) (macros world.sources h) ++ map (λ b. of_body h b.0) (numbered_bodies h))
 
-  -- the values in front of the pool: undefined, and what each parameter of a macro is where no argument is given
-  abbrev pub defaults_of : List MacroBody → List Tree
-  defaults_of ms = flat_map (λ m. map (λ p. default_value p.default) m.parameters) ms
-
-  -- the place of a macro's first parameter among those
-  abbrev pub first_default : Text → List MacroBody → ℕ
-  first_default x [] = 0
-  first_default x (m ∷ ms) = if bytes_eq m.name x then 0 else length m.parameters + first_default x ms
-
   module _ (order : List Home) where
     abbrev pub names : Home → List Text
     names h = names_in order h
@@ -109,6 +109,7 @@ module _ (world : World) where
     abbrev pub unit : Key → ℕ
     unit k = place_of k keys
 
+    -- the values in front of the pool: undefined, and the defaults of all macros
     abbrev pub shared : List Tree
     shared = tree.undefined ∷ flat_map (λ h. defaults_of (macros world.sources h)) order
 

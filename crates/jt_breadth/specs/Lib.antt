@@ -14,5 +14,8 @@ pub mod Resolve
 pub mod Pool
 pub mod Programs
 pub mod Rules
+pub mod Laws
 pub mod Supers
 pub mod ChainRules
+pub mod Size
+pub mod Takes

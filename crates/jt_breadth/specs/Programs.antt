@@ -1,6 +1,7 @@
 -- The program of a chain.
 use Rattle.std.specs.Prelude.{ℕ, ◌+◌, List, [], ◌∷◌, ◌++◌, length, map, flat_map, filter}
 use Rattle.std.specs.Str.{bytes_eq}
+use Rattle.jt_value.specs.Tree.{Tree}
 use Rattle.jt_breadth.specs.Chain.{Home, BlockBody, macros}
 use Rattle.jt_breadth.specs.Around.{World}
 use Rattle.jt_breadth.specs.Layout.{names, numbered_bodies, shared}
@@ -21,6 +22,10 @@ module _ (world : World) (order : List Home) where
   abbrev pub routines : List (Routine Constant)
   routines = flat_map chain_routines order
 
+  -- the values in front, and then those of the routines
+  abbrev pub pool : List Tree
+  pool = shared world order ++ routines_values routines
+
   abbrev pub count_globals : List Home → ℕ
   count_globals [] = 0
   count_globals (h ∷ hs) = length (names world order h) + count_globals hs
@@ -30,6 +35,6 @@ module _ (world : World) (order : List Home) where
       record {
         names = names world order entry;
         globals = count_globals order;
-        pool = shared world order ++ routines_values routines;
+        pool = pool;
         routines = placed_routines routines (length (shared world order));
       }

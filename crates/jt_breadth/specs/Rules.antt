@@ -1,22 +1,22 @@
 -- The static rules of names and calls. They are lexical, so a tag that never runs counts.
 use Rattle.std.specs.Prelude.{◌≡◌, ℕ, zero, suc, ◌+◌, ◌<◌, ◌≤◌, nat_lt, ◌==◌, Bool, true, false, not, ◌&&◌, ◌||◌, ◌⊎◌, List, [], ◌∷◌, length, map, drop, codes, Option, Some, None, if◌then◌else◌}
-use Rattle.std.specs.Option.{option_or, is_some, is_none}
+use Rattle.std.specs.Option.{option_or, is_some}
 use Rattle.std.specs.List.{list_any}
 use Rattle.std.specs.Str.{bytes_eq}
 use Rattle.jt_expr.specs.Trees as trees
 use Rattle.jt_expr.specs.Trees.{Expr, constant, name, group, list_of, map_of, attribute, item, call, filter, test, unary, binary, when, choice, Exprs, no_exprs, expr, no_pairs, pair}
 use Rattle.jt_scopes.specs.Tests.{test_named}
-use Rattle.jt_scopes.specs.Resolve.{count}
+use Rattle.jt_scopes.specs.Resolve.{count, ascending}
 use Rattle.jt_scopes.specs.Rules.{read_alone, no_keywords, unless, range_broken, test_broken}
 use Rattle.jt_scopes.specs.declared.error.ScopeError.{ScopeError}
 use Rattle.jt_scopes.specs.declared.error.ScopeError.TheVariants as error
 use Rattle.jt_breadth.specs.Trees.{Text, Parameter, Filtering, Stmt, data_of, print, choose, for_each, set, set_block, with_values, filter_block, autoescape, macro, include, extends, block, Body, end, stmt, Branches, no_branches, branch, body_bound}
-use Rattle.jt_breadth.specs.Chain.{Home, Template, templates, bodies, BlockBody, MacroBody, macros, macro_of, Callee, a_macro, a_range, a_super, a_block, a_cycle, no_callee, callee, is_loop}
+use Rattle.jt_breadth.specs.Chain.{Home, Template, templates, bodies, macros, macro_of, Callee, a_macro, a_range, a_super, a_block, a_cycle, no_callee, callee, is_loop}
 use Rattle.jt_breadth.specs.Loops.{field_named}
 use Rattle.jt_breadth.specs.Filters.{Filters, among}
 use Rattle.jt_breadth.specs.Around.{World}
 use Rattle.jt_breadth.specs.Expressions.{keywords}
-use Rattle.jt_breadth.specs.Layout.{names}
+use Rattle.jt_breadth.specs.Layout.{own_names}
 
 -- what stands around: a loop of the same block or macro body, and a block
 pub record Within : Type 0 where
@@ -176,17 +176,17 @@ abbrev pub chains_broken : World → List Home → Option ScopeError
 chains_broken world [] = None
 chains_broken world (h ∷ hs) = option_or (templates_broken world h (templates world.sources h)) (chains_broken world hs)
 
--- how many slots the chains need: one for each name that a chain, or one that it includes, reads or binds
-abbrev pub slots_needed : World → List Home → List Home → ℕ
-slots_needed world order [] = 0
-slots_needed world order (h ∷ hs) = length (names world order h) + slots_needed world order hs
+-- how many names the chains read or bind, once a chain
+abbrev pub names_counted : World → List Home → ℕ
+names_counted world [] = 0
+names_counted world (h ∷ hs) = length (ascending (own_names world h)) + names_counted world hs
 
 pub record KeepsRules (world : World) (order : List Home) : Type 0 where
   pub none : chains_broken world order ≡ None
-  pub few : slots_needed world order order ≤ 65535
+  pub few : names_counted world order ≤ 65535
 
 -- the rule that a refusal names is broken; want of memory breaks none
 abbrev pub Breaks : ScopeError → World → List Home → Type 0
-Breaks error.TooManySlots world order = (chains_broken world order ≡ Some error.TooManySlots) ⊎ (65535 < slots_needed world order order)
+Breaks error.TooManySlots world order = (chains_broken world order ≡ Some error.TooManySlots) ⊎ (65535 < names_counted world order)
 Breaks error.NoMemory world order = Unit {0}
 Breaks e world order = chains_broken world order ≡ Some e

@@ -1,2 +1,6 @@
-//! The language of stage (b) by definitions alone: trees, meaning by names, static rules, meaning over slots, and resolving.
+//! The language of stage (b) by definitions: trees, meaning by names, static rules, meaning over slots, and resolving.
 #![tactic(auto)]
+
+mod laws;
+
+pub use laws::program_laws;

@@ -7,8 +7,8 @@ use Rattle.jt_ops.specs.TestTable.{test_values}
 use Rattle.jt_image.specs.Typed.{max_entries}
 use Rattle.jt_breadth.specs.Slots as slots
 use Rattle.jt_breadth.specs.Slots.{Slot, local, global, Maker, SExpr, SRow, Targets, SStmt, SBody, Routine, Program}
-use Rattle.jt_low.specs.Lower.{row_count}
-use Rattle.jt_low.specs.Heights.{body_height}
+use Rattle.jt_breadth.specs.Size.{row_count}
+use Rattle.jt_breadth.specs.Size.{body_height}
 
 abbrev even : ℕ → Bool
 even zero = true

@@ -12,9 +12,9 @@ use Rattle.jt_breadth.specs.Slots.{Slot, local, global, Maker, SExpr, SRow, Targ
 use Rattle.jt_breadth.specs.Locals.{slot_locals, slots_locals, targets_locals, expr_locals, row_locals, condition_locals, stmt_locals, body_locals}
 use Rattle.jt_breadth.specs.Resolve.{Constant, own, known}
 use Rattle.jt_breadth.specs.Pool.{constant_values, expr_values, row_values, condition_values, stmt_values, body_values, routines_values, placed, placed_expr, placed_row, placed_condition, placed_stmt, placed_body, placed_routine, placed_routines}
-use Rattle.jt_low.specs.Lower.{row_count}
-use Rattle.jt_low.specs.Heights.{expr_height, row_height, condition_height, stmt_height, body_height}
-use Rattle.jt_low.specs.Sizes.{expr_size, row_size, kept_size, stmt_size, body_size, routines_size}
+use Rattle.jt_breadth.specs.Size.{row_count}
+use Rattle.jt_breadth.specs.Size.{expr_height, row_height, condition_height, stmt_height, body_height}
+use Rattle.jt_breadth.specs.Size.{expr_size, row_size, condition_size, stmt_size, body_size, routines_size}
 use Rattle.jt_image.specs.Typed.{max_entries}
 use Rattle.jt_low.specs.Fits.{MakerFits, TakesRow, IsBare, SlotFits, ExprFits, RowFits, SlotsFit, TargetsFit, ConditionFits, TextFits, StmtFits, BodyFits, RoutineFits, IsPooled, ProgramFits}
 use Rattle.jt_low.specs.Lawful.{ConstantLawful, TextLawful, SlotLawful, CallLawful, ExprLawful, RowLawful, SlotsLawful, TargetsLawful, ConditionLawful, StmtLawful, BodyLawful, RoutineLawful, program_with, AreLawful, AreLow}
@@ -138,7 +138,7 @@ mutual
   row_sized (slots.item e es) n = omega (arith, expr_sized e n, row_sized es (n + length (expr_values e)))
   row_sized (slots.aside i e es) n = omega (arith, expr_sized e n, row_sized es (n + length (expr_values e)))
 
-kept_sized : (xs : Targets) (c : Option (SExpr Constant)) (n : ℕ) → kept_size xs (placed_condition c n) ≡ kept_size xs c
+kept_sized : (xs : Targets) (c : Option (SExpr Constant)) (n : ℕ) → condition_size xs (placed_condition c n) ≡ condition_size xs c
 kept_sized xs None n = refl
 kept_sized xs (Some c) n = omega (arith, expr_sized c n)
 

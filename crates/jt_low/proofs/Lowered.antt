@@ -37,7 +37,8 @@ use Rattle.jt_breadth.specs.Loops.{Field, Loop, result_listed, items_of_value, t
 use Rattle.jt_breadth.specs.Slots as slots
 use Rattle.jt_breadth.specs.Slots.{Slot, local, global, Maker, SExpr, SRow, Targets, SStmt, SBody, Routine, Program, Memory, Valued, Listed, Written, SCalls, load, put_at, store, store_if, store_each, take, make, valued, sturns, sgone_over, in_front, svalue, svalues, skept, smeaning, smeanings}
 use Rattle.jt_low.specs.Asm.{Asm, nil, one, both, choose, when, each, invoke, Ran, does, bad, and_then, of_plain, turns, of_written, into_buffers, called, run}
-use Rattle.jt_low.specs.Lower.{row_count, half, maker, told_as, flag, load_of, store_of, expr_asm, row_asm, store_if_of, stores_asm, take_asm, turn_asm, over_asm, kept_asm, stmt_asm, body_asm, unit_of, compiled}
+use Rattle.jt_breadth.specs.Size.{row_count}
+use Rattle.jt_low.specs.Lower.{half, maker, told_as, flag, load_of, store_of, expr_asm, row_asm, store_if_of, stores_asm, take_asm, turn_asm, over_asm, kept_asm, stmt_asm, body_asm, unit_of, compiled}
 use Rattle.jt_low.specs.Fits.{MakerFits, TakesRow, SlotFits, ExprFits, RowFits, SomeFits, SlotsFit, TargetsFit, ConditionFits, StmtFits, BodyFits}
 use Rattle.jt_low.proofs.Told.{listed_same, has_field, IsTurn, told_same}
 use Rattle.jt_low.proofs.Does.{Does, same_run, same_meaning, then_does, then_gives, finished, carried, mapped_does, placed, either, and_then_assoc}

@@ -7,7 +7,7 @@ use Rattle.jt_breadth.specs.Slots as slots
 use Rattle.jt_breadth.specs.Slots.{Slot, SExpr, SRow, Targets, SStmt, SBody, Routine, Program}
 use Rattle.jt_low.specs.Asm.{Asm, nil, one, both, choose, when, each, invoke, flat}
 use Rattle.jt_low.specs.Lower.{expr_asm, row_asm, stores_asm, take_asm, kept_asm, stmt_asm, body_asm, unit_of, compiled}
-use Rattle.jt_low.specs.Sizes.{expr_size, row_size, targets_size, kept_size, stmt_size, body_size, routines_size}
+use Rattle.jt_breadth.specs.Size.{expr_size, row_size, targets_size, condition_size, stmt_size, body_size, routines_size}
 
 abbrev asm_size : Asm → ℕ
 asm_size nil = 0
@@ -57,7 +57,7 @@ take_sized : (xs : Targets) (o : Option Place) → asm_size (take_asm o xs) ≡ 
 take_sized (slots.one s) o = refl
 take_sized (slots.several ss) o = omega (arith, stores_sized ss o)
 
-kept_sized : (c : Option (SExpr ℕ)) (xs : Targets) (o : Option Place) → asm_size (kept_asm o xs c) ≡ kept_size xs c
+kept_sized : (c : Option (SExpr ℕ)) (xs : Targets) (o : Option Place) → asm_size (kept_asm o xs c) ≡ condition_size xs c
 kept_sized None xs o = refl
 kept_sized (Some c) xs o = omega (arith, take_sized xs o, expr_sized c o 0)
 

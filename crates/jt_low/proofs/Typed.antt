@@ -23,8 +23,9 @@ use Rattle.jt_scopes.specs.Got.{Place}
 use Rattle.jt_breadth.specs.Slots as slots
 use Rattle.jt_breadth.specs.Slots.{Slot, local, global, Maker, SExpr, SRow, Targets, SStmt, SBody, Routine, Program}
 use Rattle.jt_low.specs.Asm.{Asm, nil, one, both, choose, when, each, invoke, flat}
-use Rattle.jt_low.specs.Lower.{row_count, maker, told_as, flag, load_of, store_of, expr_asm, row_asm, store_if_of, stores_asm, take_asm, turn_asm, over_asm, kept_asm, stmt_asm, body_asm, unit_of, constant_of, compiled}
-use Rattle.jt_low.specs.Heights.{expr_height, row_height, targets_height, condition_height, stmt_height, body_height}
+use Rattle.jt_breadth.specs.Size.{row_count}
+use Rattle.jt_low.specs.Lower.{maker, told_as, flag, load_of, store_of, expr_asm, row_asm, store_if_of, stores_asm, take_asm, turn_asm, over_asm, kept_asm, stmt_asm, body_asm, unit_of, constant_of, compiled}
+use Rattle.jt_breadth.specs.Size.{expr_height, row_height, targets_height, condition_height, stmt_height, body_height}
 use Rattle.jt_low.specs.Fits.{MakerFits, TakesRow, SlotFits, ExprFits, RowFits, SomeFits, SlotsFit, TargetsFit, ConditionFits, TextFits, StmtFits, BodyFits, RoutineFits, ProgramFits}
 use Rattle.jt_low.proofs.Told.{has_field}
 use Rattle.jt_low.proofs.Lowered.{lt_true, eq_true, has_operator, has_test, halved}

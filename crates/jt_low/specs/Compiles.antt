@@ -22,7 +22,7 @@ use Rattle.jt_low.specs.Lower.{compiled}
 use Rattle.jt_low.specs.Placed.{Failed, placed_exec, table_of}
 use Rattle.jt_low.specs.Fits.{ProgramFits}
 use Rattle.jt_low.specs.Lawful.{program_with, AreLawful, AreLow}
-use Rattle.jt_low.specs.Sizes.{routines_size}
+use Rattle.jt_breadth.specs.Size.{routines_size}
 
 -- A text or a fault that the code ends with, for a context under a budget, is what the program means, where calls go at most so many
 -- deep; and what the program means, some budget is enough for.

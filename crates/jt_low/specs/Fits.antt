@@ -10,8 +10,8 @@ use Rattle.jt_scopes.specs.Takes.{InPairs}
 use Rattle.jt_breadth.specs.Trees.{Text}
 use Rattle.jt_breadth.specs.Slots as slots
 use Rattle.jt_breadth.specs.Slots.{Slot, local, global, Maker, SExpr, SRow, Targets, SStmt, SBody, Routine, Program}
-use Rattle.jt_low.specs.Lower.{row_count}
-use Rattle.jt_low.specs.Heights.{body_height}
+use Rattle.jt_breadth.specs.Size.{row_count}
+use Rattle.jt_breadth.specs.Size.{body_height}
 
 -- NOT DONE: no filter fits, since images have no instruction for them yet.
 abbrev pub MakerFits : Maker → ℕ → Type 0

@@ -10,8 +10,8 @@ use Rattle.jt_breadth.specs.Slots.{Slot, local, global, SExpr, SRow, Targets, SS
 use Rattle.jt_breadth.specs.Locals.{body_locals}
 use Rattle.jt_breadth.specs.Resolve.{Constant, own, known}
 use Rattle.jt_breadth.specs.Pool.{routines_values, placed_routines}
-use Rattle.jt_low.specs.Lower.{row_count}
-use Rattle.jt_low.specs.Heights.{body_height}
+use Rattle.jt_breadth.specs.Size.{row_count}
+use Rattle.jt_breadth.specs.Size.{body_height}
 use Rattle.jt_low.specs.Fits.{MakerFits, IsBare, IsPooled}
 
 -- Under so many values in front of the pool, so many globals, and these routines. Locals need no law: a routine has as many as its body

@@ -15,15 +15,10 @@ use Rattle.jt_scopes.specs.Got.{Place}
 use Rattle.jt_breadth.specs.Trees.{Text}
 use Rattle.jt_breadth.specs.Loops as loops
 use Rattle.jt_breadth.specs.Loops.{Field}
+use Rattle.jt_breadth.specs.Size.{row_count}
 use Rattle.jt_breadth.specs.Slots as slots
 use Rattle.jt_breadth.specs.Slots.{Slot, local, global, Maker, SExpr, SRow, Targets, SStmt, SBody, Routine, Program}
 use Rattle.jt_low.specs.Asm.{Asm, nil, one, both, choose, when, each, invoke, flat}
-
--- the values that a row leaves on the entries
-abbrev pub row_count : {K : Type 0} → SRow K → ℕ
-row_count slots.none = 0
-row_count (slots.item e es) = suc (row_count es)
-row_count (slots.aside i e es) = row_count es
 
 -- keys and values in turn are half as many entries
 abbrev pub half : ℕ → ℕ
