@@ -17,7 +17,9 @@ use Rattle.jt_breadth.specs.Size.{expr_height, row_height, condition_height, stm
 use Rattle.jt_breadth.specs.Size.{expr_size, row_size, condition_size, stmt_size, body_size, routines_size}
 use Rattle.jt_image.specs.Typed.{max_entries}
 use Rattle.jt_low.specs.Fits.{MakerFits, TakesRow, IsBare, SlotFits, ExprFits, RowFits, SlotsFit, TargetsFit, ConditionFits, TextFits, StmtFits, BodyFits, RoutineFits, IsPooled, ProgramFits}
-use Rattle.jt_low.specs.Lawful.{ConstantLawful, TextLawful, SlotLawful, CallLawful, ExprLawful, RowLawful, SlotsLawful, TargetsLawful, ConditionLawful, StmtLawful, BodyLawful, RoutineLawful, program_with, AreLawful, AreLow}
+use Rattle.jt_breadth.specs.Filters.{Filters}
+use Rattle.jt_breadth.specs.Takes.{MakerTakes, HasParameters, ExprTakes, RowTakes, ConditionTakes, StmtTakes, BodyTakes}
+use Rattle.jt_low.specs.Lawful.{ConstantLawful, TextLawful, SlotLawful, NoFilter, ExprLawful, RowLawful, SlotsLawful, TargetsLawful, ConditionLawful, StmtLawful, BodyLawful, RoutineLawful, program_with, AreLawful, AreLow}
 
 -- ---- values at their places in a pool
 
@@ -163,7 +165,7 @@ pub same_size : (rs : List (Routine Constant)) (n : ℕ) → routines_size (plac
 same_size [] n = refl
 same_size (r ∷ rs) n = omega (arith, body_sized r.body n, same_size rs (n + length (body_values r.body)))
 
-module _ (names : List Text) (globals : ℕ) (front : List Tree) (rs : List (Routine Constant)) where
+module _ (filters : Filters) (names : List Text) (globals : ℕ) (front : List Tree) (rs : List (Routine Constant)) where
   abbrev p : Program
   p = program_with names globals front rs
 
@@ -175,159 +177,170 @@ module _ (names : List Text) (globals : ℕ) (front : List Tree) (rs : List (Rou
   abbrev Pooled : List Tree → Type 0
   Pooled ts = AllByRecursion IsPooled ts
 
-  constant_pooled : (k : Constant) → ConstantLawful before globals rs k → Pooled (constant_values k)
+  constant_pooled : (k : Constant) → ConstantLawful before globals k → Pooled (constant_values k)
   constant_pooled (own v) h = (h, tt)
   constant_pooled (known i) h = tt
 
-  text_pooled : (k : Constant) → TextLawful before globals rs k → Pooled (constant_values k)
+  text_pooled : (k : Constant) → TextLawful before globals k → Pooled (constant_values k)
   text_pooled (own (tree.text t)) h = (tt, tt)
   text_pooled (own v) h = absurd h
   text_pooled (known i) h = absurd h
 
   mutual
-    expr_pooled : (e : SExpr Constant) (inside : Bool) → ExprLawful before globals rs inside e → Pooled (expr_values e)
-    expr_pooled (slots.pooled k) inside h = constant_pooled k h
-    expr_pooled (slots.variable s) inside h = tt
-    expr_pooled (slots.field f) inside h = tt
-    expr_pooled (slots.made k es) inside h = row_pooled es inside h.1
-    expr_pooled (slots.conjunction a b) inside h = all_append IsPooled (expr_values a) (expr_values b) (expr_pooled a inside h.0) (expr_pooled b inside h.1)
-    expr_pooled (slots.disjunction a b) inside h = all_append IsPooled (expr_values a) (expr_values b) (expr_pooled a inside h.0) (expr_pooled b inside h.1)
-    expr_pooled (slots.choice c a b) inside h = all_append IsPooled (expr_values c) (expr_values a ++ expr_values b) (expr_pooled c inside h.0) (all_append IsPooled (expr_values a) (expr_values b) (expr_pooled a inside h.1) (expr_pooled b inside h.2))
-    expr_pooled (slots.invoke u escaping es) inside h = row_pooled es inside h.1
+    expr_pooled : (e : SExpr Constant) → ExprLawful before globals e → Pooled (expr_values e)
+    expr_pooled (slots.pooled k) h = constant_pooled k h
+    expr_pooled (slots.variable s) h = tt
+    expr_pooled (slots.field f) h = tt
+    expr_pooled (slots.made k es) h = row_pooled es h.1
+    expr_pooled (slots.conjunction a b) h = all_append IsPooled (expr_values a) (expr_values b) (expr_pooled a h.0) (expr_pooled b h.1)
+    expr_pooled (slots.disjunction a b) h = all_append IsPooled (expr_values a) (expr_values b) (expr_pooled a h.0) (expr_pooled b h.1)
+    expr_pooled (slots.choice c a b) h = all_append IsPooled (expr_values c) (expr_values a ++ expr_values b) (expr_pooled c h.0) (all_append IsPooled (expr_values a) (expr_values b) (expr_pooled a h.1) (expr_pooled b h.2))
+    expr_pooled (slots.invoke u escaping es) h = row_pooled es h
 
-    row_pooled : (es : SRow Constant) (inside : Bool) → RowLawful before globals rs inside es → Pooled (row_values es)
-    row_pooled slots.none inside h = tt
-    row_pooled (slots.item e es) inside h = all_append IsPooled (expr_values e) (row_values es) (expr_pooled e inside h.0) (row_pooled es inside h.1)
-    row_pooled (slots.aside i e es) inside h = all_append IsPooled (expr_values e) (row_values es) (expr_pooled e inside h.0) (row_pooled es inside h.1)
+    row_pooled : (es : SRow Constant) → RowLawful before globals es → Pooled (row_values es)
+    row_pooled slots.none h = tt
+    row_pooled (slots.item e es) h = all_append IsPooled (expr_values e) (row_values es) (expr_pooled e h.0) (row_pooled es h.1)
+    row_pooled (slots.aside i e es) h = all_append IsPooled (expr_values e) (row_values es) (expr_pooled e h.0) (row_pooled es h.1)
 
-  condition_pooled : (c : Option (SExpr Constant)) → ConditionLawful before globals rs c → Pooled (condition_values c)
+  condition_pooled : (c : Option (SExpr Constant)) → ConditionLawful before globals c → Pooled (condition_values c)
   condition_pooled None h = tt
-  condition_pooled (Some c) h = expr_pooled c false h
+  condition_pooled (Some c) h = expr_pooled c h
 
   mutual
-    stmt_pooled : (s : SStmt Constant) (inside : Bool) → StmtLawful before globals rs inside s → Pooled (stmt_values s)
-    stmt_pooled (slots.put_pooled k) inside h = text_pooled k h
-    stmt_pooled (slots.print q escaping e) inside h = expr_pooled e inside h
-    stmt_pooled (slots.assign q xs e) inside h = expr_pooled e inside h.1
-    stmt_pooled (slots.if_else q c a b) inside h = all_append IsPooled (expr_values c) (body_values a ++ body_values b) (expr_pooled c inside h.0) (all_append IsPooled (body_values a) (body_values b) (body_pooled a inside h.1) (body_pooled b inside h.2))
-    stmt_pooled (slots.for_each q xs e c body other) inside h =
-        all_append IsPooled (expr_values e) (condition_values c ++ (body_values body ++ body_values other)) (expr_pooled e inside h.1)
-        (all_append IsPooled (condition_values c) (body_values body ++ body_values other) (condition_pooled c h.2) (all_append IsPooled (body_values body) (body_values other) (body_pooled body true h.3) (body_pooled other inside h.4)))
-    stmt_pooled (slots.capture escaping s body) inside h = body_pooled body inside h.1
-    stmt_pooled (slots.run u es) inside h = row_pooled es inside h.1
+    stmt_pooled : (s : SStmt Constant) → StmtLawful before globals s → Pooled (stmt_values s)
+    stmt_pooled (slots.put_pooled k) h = text_pooled k h
+    stmt_pooled (slots.print q escaping e) h = expr_pooled e h
+    stmt_pooled (slots.assign q xs e) h = expr_pooled e h.1
+    stmt_pooled (slots.if_else q c a b) h = all_append IsPooled (expr_values c) (body_values a ++ body_values b) (expr_pooled c h.0) (all_append IsPooled (body_values a) (body_values b) (body_pooled a h.1) (body_pooled b h.2))
+    stmt_pooled (slots.for_each q xs e c body other) h =
+        all_append IsPooled (expr_values e) (condition_values c ++ (body_values body ++ body_values other)) (expr_pooled e h.1)
+        (all_append IsPooled (condition_values c) (body_values body ++ body_values other) (condition_pooled c h.2) (all_append IsPooled (body_values body) (body_values other) (body_pooled body h.3) (body_pooled other h.4)))
+    stmt_pooled (slots.capture escaping s body) h = body_pooled body h.1
+    stmt_pooled (slots.run u es) h = row_pooled es h.0
 
-    body_pooled : (b : SBody Constant) (inside : Bool) → BodyLawful before globals rs inside b → Pooled (body_values b)
-    body_pooled slots.end inside h = tt
-    body_pooled (slots.stmt s rest) inside h = all_append IsPooled (stmt_values s) (body_values rest) (stmt_pooled s inside h.0) (body_pooled rest inside h.1)
+    body_pooled : (b : SBody Constant) → BodyLawful before globals b → Pooled (body_values b)
+    body_pooled slots.end h = tt
+    body_pooled (slots.stmt s rest) h = all_append IsPooled (stmt_values s) (body_values rest) (stmt_pooled s h.0) (body_pooled rest h.1)
 
-  routines_pooled : (qs : List (Routine Constant)) → AllByRecursion (RoutineLawful before globals rs) qs → Pooled (routines_values qs)
+  routines_pooled : (qs : List (Routine Constant)) → AllByRecursion (RoutineLawful filters before globals rs) qs → Pooled (routines_values qs)
   routines_pooled [] h = tt
-  routines_pooled (r ∷ qs) h = all_append IsPooled (body_values r.body) (routines_values qs) (body_pooled r.body false h.0.body) (routines_pooled qs h.1)
+  routines_pooled (r ∷ qs) h = all_append IsPooled (body_values r.body) (routines_values qs) (body_pooled r.body h.0.body) (routines_pooled qs h.1)
 
   -- ---- the trees fit, in a routine of so many locals
 
   module _ (count : ℕ) where
-    slot_fits : (s : Slot) → SlotLawful before globals rs s → slot_locals s ≤ count → SlotFits p count s
+    slot_fits : (s : Slot) → SlotLawful before globals s → slot_locals s ≤ count → SlotFits p count s
     slot_fits (local i) h le = omega (arith, le)
     slot_fits (global i) h le = h
 
-    constant_fits : (k : Constant) (n : ℕ) → ConstantLawful before globals rs k → PoolAt p.pool n (constant_values k) → placed k n < length p.pool
+    constant_fits : (k : Constant) (n : ℕ) → ConstantLawful before globals k → PoolAt p.pool n (constant_values k) → placed k n < length p.pool
     constant_fits (own v) n h at = slice_get_within p.pool n v at.0
     constant_fits (known i) n h at = omega (arith, h, length-append front (routines_values rs))
 
-    text_fits : (k : Constant) (n : ℕ) → TextLawful before globals rs k → PoolAt p.pool n (constant_values k) → TextFits p count (placed k n)
+    text_fits : (k : Constant) (n : ℕ) → TextLawful before globals k → PoolAt p.pool n (constant_values k) → TextFits p count (placed k n)
     text_fits (own (tree.text t)) n h at = (t, at.0)
     text_fits (own v) n h at = absurd h
     text_fits (known i) n h at = absurd h
 
-    call_fits : (u : ℕ) (es : SRow Constant) (n : ℕ) → CallLawful before globals rs u (row_count es) → TakesRow p.routines u (row_count (placed_row es n))
-    call_fits u es n h = let q = placed_is rs before u h.0 h.1 in record { routine = placed_routine h.0 q.0; is = q.1; parameters = h.2 ∙ sym (same_count es n) }
+    called : (o : Option (Routine Constant)) (u i : ℕ) → slice_get rs u ≡ o → HasParameters o i → TakesRow p.routines u i
+    called None u i e t = absurd t
+    called (Some r) u i e t = let q = placed_is rs before u r e in record { routine = placed_routine r q.0; is = q.1; parameters = t }
+
+    call_fits : (u : ℕ) (es : SRow Constant) (n : ℕ) → HasParameters (slice_get rs u) (row_count es) → TakesRow p.routines u (row_count (placed_row es n))
+    call_fits u es n t = subst (TakesRow p.routines u) (sym (same_count es n)) (called (slice_get rs u) u (row_count es) refl t)
+
+    maker_fits : (k : Maker) (i : ℕ) → MakerTakes filters k i → NoFilter before globals k → MakerFits k i
+    maker_fits (slots.operator o) i t h = t
+    maker_fits (slots.test x) i t h = t
+    maker_fits (slots.filter f escaping) i t h = absurd h
+    maker_fits slots.a_list i t h = tt
+    maker_fits slots.a_map i t h = t
 
     mutual
-      expr_fits : (e : SExpr Constant) (inside : Bool) (n : ℕ) → ExprLawful before globals rs inside e → PoolAt p.pool n (expr_values e) → expr_locals e ≤ count → ExprFits p count inside (placed_expr e n)
-      expr_fits (slots.pooled k) inside n h at le = constant_fits k n h at
-      expr_fits (slots.variable s) inside n h at le = slot_fits s h le
-      expr_fits (slots.field f) inside n h at le = h
-      expr_fits (slots.made k es) inside n h at le = (subst (MakerFits k) (sym (same_count es n)) h.0, row_fits es inside n h.1 at le)
-      expr_fits (slots.conjunction a b) inside n h at le =
-          (expr_fits a inside n h.0 (pool_front p.pool n (expr_values a) (expr_values b) at) (omega (arith, le)), expr_fits b inside (n + length (expr_values a)) h.1 (pool_back p.pool n (expr_values a) (expr_values b) at) (omega (arith, le)))
-      expr_fits (slots.disjunction a b) inside n h at le =
-          (expr_fits a inside n h.0 (pool_front p.pool n (expr_values a) (expr_values b) at) (omega (arith, le)), expr_fits b inside (n + length (expr_values a)) h.1 (pool_back p.pool n (expr_values a) (expr_values b) at) (omega (arith, le)))
-      expr_fits (slots.choice c a b) inside n h at le =
+      expr_fits : (e : SExpr Constant) (inside : Bool) (n : ℕ) → ExprTakes filters rs inside e → ExprLawful before globals e → PoolAt p.pool n (expr_values e) → expr_locals e ≤ count → ExprFits p count inside (placed_expr e n)
+      expr_fits (slots.pooled k) inside n t h at le = constant_fits k n h at
+      expr_fits (slots.variable s) inside n t h at le = slot_fits s h le
+      expr_fits (slots.field f) inside n t h at le = t
+      expr_fits (slots.made k es) inside n t h at le = (subst (MakerFits k) (sym (same_count es n)) (maker_fits k (row_count es) t.0 h.0), row_fits es inside n t.1 h.1 at le)
+      expr_fits (slots.conjunction a b) inside n t h at le =
+          (expr_fits a inside n t.0 h.0 (pool_front p.pool n (expr_values a) (expr_values b) at) (omega (arith, le)), expr_fits b inside (n + length (expr_values a)) t.1 h.1 (pool_back p.pool n (expr_values a) (expr_values b) at) (omega (arith, le)))
+      expr_fits (slots.disjunction a b) inside n t h at le =
+          (expr_fits a inside n t.0 h.0 (pool_front p.pool n (expr_values a) (expr_values b) at) (omega (arith, le)), expr_fits b inside (n + length (expr_values a)) t.1 h.1 (pool_back p.pool n (expr_values a) (expr_values b) at) (omega (arith, le)))
+      expr_fits (slots.choice c a b) inside n t h at le =
           let rest = pool_back p.pool n (expr_values c) (expr_values a ++ expr_values b) at in
           let m = n + length (expr_values c) in (
-            expr_fits c inside n h.0 (pool_front p.pool n (expr_values c) (expr_values a ++ expr_values b) at) (omega (arith, le)),
-            expr_fits a inside m h.1 (pool_front p.pool m (expr_values a) (expr_values b) rest) (omega (arith, le)),
-            expr_fits b inside (m + length (expr_values a)) h.2 (pool_back p.pool m (expr_values a) (expr_values b) rest) (omega (arith, le)),
+            expr_fits c inside n t.0 h.0 (pool_front p.pool n (expr_values c) (expr_values a ++ expr_values b) at) (omega (arith, le)),
+            expr_fits a inside m t.1 h.1 (pool_front p.pool m (expr_values a) (expr_values b) rest) (omega (arith, le)),
+            expr_fits b inside (m + length (expr_values a)) t.2 h.2 (pool_back p.pool m (expr_values a) (expr_values b) rest) (omega (arith, le)),
           )
-      expr_fits (slots.invoke u escaping es) inside n h at le = (call_fits u es n h.0, row_fits es inside n h.1 at le)
+      expr_fits (slots.invoke u escaping es) inside n t h at le = (call_fits u es n t.0, row_fits es inside n t.1 h at le)
 
-      row_fits : (es : SRow Constant) (inside : Bool) (n : ℕ) → RowLawful before globals rs inside es → PoolAt p.pool n (row_values es) → row_locals es ≤ count → RowFits p count inside (placed_row es n)
-      row_fits slots.none inside n h at le = tt
-      row_fits (slots.item e es) inside n h at le =
-          (expr_fits e inside n h.0 (pool_front p.pool n (expr_values e) (row_values es) at) (omega (arith, le)), row_fits es inside (n + length (expr_values e)) h.1 (pool_back p.pool n (expr_values e) (row_values es) at) (omega (arith, le)))
-      row_fits (slots.aside i e es) inside n h at le = (
+      row_fits : (es : SRow Constant) (inside : Bool) (n : ℕ) → RowTakes filters rs inside es → RowLawful before globals es → PoolAt p.pool n (row_values es) → row_locals es ≤ count → RowFits p count inside (placed_row es n)
+      row_fits slots.none inside n t h at le = tt
+      row_fits (slots.item e es) inside n t h at le =
+          (expr_fits e inside n t.0 h.0 (pool_front p.pool n (expr_values e) (row_values es) at) (omega (arith, le)), row_fits es inside (n + length (expr_values e)) t.1 h.1 (pool_back p.pool n (expr_values e) (row_values es) at) (omega (arith, le)))
+      row_fits (slots.aside i e es) inside n t h at le = (
         omega (arith, le),
-        expr_fits e inside n h.0 (pool_front p.pool n (expr_values e) (row_values es) at) (omega (arith, le)),
-        row_fits es inside (n + length (expr_values e)) h.1 (pool_back p.pool n (expr_values e) (row_values es) at) (omega (arith, le)),
+        expr_fits e inside n t.0 h.0 (pool_front p.pool n (expr_values e) (row_values es) at) (omega (arith, le)),
+        row_fits es inside (n + length (expr_values e)) t.1 h.1 (pool_back p.pool n (expr_values e) (row_values es) at) (omega (arith, le)),
       )
 
-    each_fits : (ss : List (Option Slot)) → SlotsLawful before globals rs ss → slots_locals ss ≤ count → SlotsFit p count ss
+    each_fits : (ss : List (Option Slot)) → SlotsLawful before globals ss → slots_locals ss ≤ count → SlotsFit p count ss
     each_fits [] h le = tt
     each_fits (None ∷ ss) h le = (tt, each_fits ss h.1 le)
     each_fits (Some s ∷ ss) h le = (slot_fits s h.0 (omega (arith, le)), each_fits ss h.1 (omega (arith, le)))
 
-    targets_fit : (xs : Targets) → TargetsLawful before globals rs xs → targets_locals xs ≤ count → TargetsFit p count xs
+    targets_fit : (xs : Targets) → TargetsLawful before globals xs → targets_locals xs ≤ count → TargetsFit p count xs
     targets_fit (slots.one s) h le = slot_fits s h le
     targets_fit (slots.several ss) h le = each_fits ss h le
 
-    condition_fits : (c : Option (SExpr Constant)) (n : ℕ) → ConditionLawful before globals rs c → PoolAt p.pool n (condition_values c) → condition_locals c ≤ count → ConditionFits p count (placed_condition c n)
-    condition_fits None n h at le = tt
-    condition_fits (Some c) n h at le = expr_fits c false n h at le
+    condition_fits : (c : Option (SExpr Constant)) (n : ℕ) → ConditionTakes filters rs c → ConditionLawful before globals c → PoolAt p.pool n (condition_values c) → condition_locals c ≤ count → ConditionFits p count (placed_condition c n)
+    condition_fits None n t h at le = tt
+    condition_fits (Some c) n t h at le = expr_fits c false n t h at le
 
     mutual
-      stmt_fits : (s : SStmt Constant) (inside : Bool) (n : ℕ) → StmtLawful before globals rs inside s → PoolAt p.pool n (stmt_values s) → stmt_locals s ≤ count → StmtFits p count inside (placed_stmt s n)
-      stmt_fits (slots.put_pooled k) inside n h at le = text_fits k n h at
-      stmt_fits (slots.print q escaping e) inside n h at le = expr_fits e inside n h at le
-      stmt_fits (slots.assign q xs e) inside n h at le = (targets_fit xs h.0 (omega (arith, le)), expr_fits e inside n h.1 at (omega (arith, le)))
-      stmt_fits (slots.if_else q c a b) inside n h at le =
+      stmt_fits : (s : SStmt Constant) (inside : Bool) (n : ℕ) → StmtTakes filters rs inside s → StmtLawful before globals s → PoolAt p.pool n (stmt_values s) → stmt_locals s ≤ count → StmtFits p count inside (placed_stmt s n)
+      stmt_fits (slots.put_pooled k) inside n t h at le = text_fits k n h at
+      stmt_fits (slots.print q escaping e) inside n t h at le = expr_fits e inside n t h at le
+      stmt_fits (slots.assign q xs e) inside n t h at le = (targets_fit xs h.0 (omega (arith, le)), expr_fits e inside n t h.1 at (omega (arith, le)))
+      stmt_fits (slots.if_else q c a b) inside n t h at le =
           let rest = pool_back p.pool n (expr_values c) (body_values a ++ body_values b) at in
           let m = n + length (expr_values c) in (
-            expr_fits c inside n h.0 (pool_front p.pool n (expr_values c) (body_values a ++ body_values b) at) (omega (arith, le)),
-            body_fits a inside m h.1 (pool_front p.pool m (body_values a) (body_values b) rest) (omega (arith, le)),
-            body_fits b inside (m + length (body_values a)) h.2 (pool_back p.pool m (body_values a) (body_values b) rest) (omega (arith, le)),
+            expr_fits c inside n t.0 h.0 (pool_front p.pool n (expr_values c) (body_values a ++ body_values b) at) (omega (arith, le)),
+            body_fits a inside m t.1 h.1 (pool_front p.pool m (body_values a) (body_values b) rest) (omega (arith, le)),
+            body_fits b inside (m + length (body_values a)) t.2 h.2 (pool_back p.pool m (body_values a) (body_values b) rest) (omega (arith, le)),
           )
-      stmt_fits (slots.for_each q xs e c body other) inside n h at le =
+      stmt_fits (slots.for_each q xs e c body other) inside n t h at le =
           let rest = pool_back p.pool n (expr_values e) (condition_values c ++ (body_values body ++ body_values other)) at in
           let m = n + length (expr_values e) in
           let later = pool_back p.pool m (condition_values c) (body_values body ++ body_values other) rest in
           let l = m + length (condition_values c) in (
             targets_fit xs h.0 (omega (arith, le)),
-            expr_fits e inside n h.1 (pool_front p.pool n (expr_values e) (condition_values c ++ (body_values body ++ body_values other)) at) (omega (arith, le)),
-            condition_fits c m h.2 (pool_front p.pool m (condition_values c) (body_values body ++ body_values other) rest) (omega (arith, le)),
-            body_fits body true l h.3 (pool_front p.pool l (body_values body) (body_values other) later) (omega (arith, le)),
-            body_fits other inside (l + length (body_values body)) h.4 (pool_back p.pool l (body_values body) (body_values other) later) (omega (arith, le)),
+            expr_fits e inside n t.0 h.1 (pool_front p.pool n (expr_values e) (condition_values c ++ (body_values body ++ body_values other)) at) (omega (arith, le)),
+            condition_fits c m t.1 h.2 (pool_front p.pool m (condition_values c) (body_values body ++ body_values other) rest) (omega (arith, le)),
+            body_fits body true l t.2 h.3 (pool_front p.pool l (body_values body) (body_values other) later) (omega (arith, le)),
+            body_fits other inside (l + length (body_values body)) t.3 h.4 (pool_back p.pool l (body_values body) (body_values other) later) (omega (arith, le)),
           )
-      stmt_fits (slots.capture escaping s body) inside n h at le = (slot_fits s h.0 (omega (arith, le)), body_fits body inside n h.1 at (omega (arith, le)))
-      stmt_fits (slots.run u es) inside n h at le = (call_fits u es n h.0, row_fits es inside n h.1 at le, bare_placed es n h.2)
+      stmt_fits (slots.capture escaping s body) inside n t h at le = (slot_fits s h.0 (omega (arith, le)), body_fits body inside n t h.1 at (omega (arith, le)))
+      stmt_fits (slots.run u es) inside n t h at le = (call_fits u es n t.0, row_fits es inside n t.1 h.0 at le, bare_placed es n h.1)
 
-      body_fits : (b : SBody Constant) (inside : Bool) (n : ℕ) → BodyLawful before globals rs inside b → PoolAt p.pool n (body_values b) → body_locals b ≤ count → BodyFits p count inside (placed_body b n)
-      body_fits slots.end inside n h at le = tt
-      body_fits (slots.stmt s rest) inside n h at le =
-          (stmt_fits s inside n h.0 (pool_front p.pool n (stmt_values s) (body_values rest) at) (omega (arith, le)), body_fits rest inside (n + length (stmt_values s)) h.1 (pool_back p.pool n (stmt_values s) (body_values rest) at) (omega (arith, le)))
+      body_fits : (b : SBody Constant) (inside : Bool) (n : ℕ) → BodyTakes filters rs inside b → BodyLawful before globals b → PoolAt p.pool n (body_values b) → body_locals b ≤ count → BodyFits p count inside (placed_body b n)
+      body_fits slots.end inside n t h at le = tt
+      body_fits (slots.stmt s rest) inside n t h at le =
+          (stmt_fits s inside n t.0 h.0 (pool_front p.pool n (stmt_values s) (body_values rest) at) (omega (arith, le)), body_fits rest inside (n + length (stmt_values s)) t.1 h.1 (pool_back p.pool n (stmt_values s) (body_values rest) at) (omega (arith, le)))
 
   -- ---- the whole
 
-  routine_fits : AreLawful names globals front rs → AreLow rs → (u : ℕ) (q : Routine ℕ) → slice_get p.routines u ≡ Some q → RoutineFits p q
+  routine_fits : AreLawful filters names globals front rs → AreLow rs → (u : ℕ) (q : Routine ℕ) → slice_get p.routines u ≡ Some q → RoutineFits p q
   routine_fits lawful low u q e =
       let x = placed_was rs before u q p.pool e (pool_whole (routines_values rs) front) in
       let r = x.0 in
-      let law = all_get (RoutineLawful before globals rs) rs u r lawful.routines x.2 in
+      let law = all_get (RoutineLawful filters before globals rs) rs u r lawful.routines x.2 in
       let below = all_get (λ (z : Routine Constant). body_height z.body ≤ max_entries) rs u r low x.2 in
       let same : body_height (placed_body r.body x.1) ≡ body_height r.body = body_low r.body x.1 in
-      record { body = subst (λ (z : Routine ℕ). BodyFits p z.locals false z.body) x.3 (body_fits r.locals r.body false x.1 law.body x.4 law.locals); low = subst (λ (z : Routine ℕ). body_height z.body ≤ max_entries) x.3 (omega (arith, below, same)) }
+      record { body = subst (λ (z : Routine ℕ). BodyFits p z.locals false z.body) x.3 (body_fits r.locals r.body false x.1 law.takes law.body x.4 law.locals); low = subst (λ (z : Routine ℕ). body_height z.body ≤ max_entries) x.3 (omega (arith, below, same)) }
 
-  pub lawful_fits : AreLawful names globals front rs → AreLow rs → ProgramFits p
+  pub lawful_fits : AreLawful filters names globals front rs → AreLow rs → ProgramFits p
   lawful_fits lawful low =
       let first = placed_is rs before 0 lawful.entry lawful.is_entry in
       record {
