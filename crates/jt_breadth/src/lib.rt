@@ -1,4 +1,4 @@
-//! The language of stage (b) by definitions: trees, meaning by names, static rules, meaning over slots, and resolving.
+//! The language by definitions: trees, chains, meaning by names, static rules, meaning over slots, and resolving. What filters and tests give is a parameter.
 #![tactic(auto)]
 
 mod laws;
