@@ -11,6 +11,8 @@ mod escape;
 #[cfg(test)]
 mod expr;
 #[cfg(test)]
+mod filters;
+#[cfg(test)]
 mod image;
 #[cfg(test)]
 mod inherit;
