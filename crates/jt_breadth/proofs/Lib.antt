@@ -14,3 +14,7 @@ pub mod Knotting
 pub mod Pooling
 pub mod Means
 pub mod Monotone
+pub mod Taking
+pub mod Serving
+pub mod Served
+pub mod PlacedTakes

@@ -49,7 +49,7 @@ abbrev pub Every : {A : Type 0} → (A → Type 0) → List A → Type 0
 Every P [] = Unit {0}
 Every P (x ∷ xs) = P x × Every P xs
 
-every_append : {A : Type 0} (P : A → Type 0) (xs ys : List A) → Every P xs → Every P ys → Every P (xs ++ ys)
+pub every_append : {A : Type 0} (P : A → Type 0) (xs ys : List A) → Every P xs → Every P ys → Every P (xs ++ ys)
 every_append P [] ys a b = b
 every_append P (x ∷ xs) ys a b = (a.0, every_append P xs ys a.1 b)
 
@@ -311,7 +311,7 @@ module _ (world : World) where
           (record { names = among_back (map (λ p. p.name) ps) (body_names body) all_names f.0; included = f.1; scoped = f.2 }, macro_bodies t rest (belongs_back (macro line x ps body) rest b))
       macro_bodies t (stmt s rest) b = macro_bodies t rest (belongs_back s rest b)
 
-      all_macro_bodies : (ts : List Template) → Every (λ t. Belongs t.body) ts → Every (λ m. Belongs m.body) (flat_map (λ t. macros_in t.name t.body) ts)
+      pub all_macro_bodies : (ts : List Template) → Every (λ t. Belongs t.body) ts → Every (λ m. Belongs m.body) (flat_map (λ t. macros_in t.name t.body) ts)
       all_macro_bodies [] b = tt
       all_macro_bodies (t ∷ ts) b = every_append (λ m. Belongs m.body) (macros_in t.name t.body) (flat_map (λ u. macros_in u.name u.body) ts) (macro_bodies t.name t.body b.0) (all_macro_bodies ts b.1)
 
@@ -333,7 +333,7 @@ module _ (world : World) where
       pub macro_belongs : (x : Text) (m : MacroBody) → macro_of x (macros world.sources h) ≡ Some m → Belongs m.body
       macro_belongs x m e = macro_among x m (macros world.sources h) (all_macro_bodies (templates world.sources h) templates_belong) e
 
-      abbrev InBelongs : List BlockBody → Type 0
+      abbrev pub InBelongs : List BlockBody → Type 0
       InBelongs bs = Every (λ b. Belongs b.body) bs
 
       module _ (t : Text) where
@@ -400,7 +400,7 @@ module _ (world : World) where
                 each_back (λ x. is_scoped world h x ≡ true) (scoped_in body) (scoped_under rest) b.2,
               ))
 
-      all_block_bodies : (on : Bool) (ts : List Template) → Every (λ t. Belongs t.body) ts → InBelongs (flat_map (λ t. blocks_in t.name t.body on) ts)
+      pub all_block_bodies : (on : Bool) (ts : List Template) → Every (λ t. Belongs t.body) ts → InBelongs (flat_map (λ t. blocks_in t.name t.body on) ts)
       all_block_bodies on [] b = tt
       all_block_bodies on (t ∷ ts) b = every_append (λ b. Belongs b.body) (blocks_in t.name t.body on) (flat_map (λ u. blocks_in u.name u.body on) ts) (body_blocks t.name t.body on b.0) (all_block_bodies on ts b.1)
 

@@ -6,7 +6,7 @@ use Rattle.jt_scopes.specs.declared.error.ScopeError.TheVariants as error
 use Rattle.jt_expr.specs.Trees.{no_exprs, no_pairs}
 use Rattle.jt_breadth.specs.Trees.{Text, Body, end}
 use Rattle.jt_breadth.specs.Rules.{chains_broken}
-use Rattle.jt_breadth.specs.ChainRules.{here, Missing, ExtendsCycle, DoubleBlock, RequiredNotGiven, NoSuper, IncludeCycle, MacroTwice}
+use Rattle.jt_breadth.specs.ChainRules.{InOrder, here, Missing, ExtendsCycle, DoubleBlock, RequiredNotGiven, NoSuper, IncludeCycle, MacroTwice}
 use Rattle.jt_breadth.proofs.Small.{name, num, listing, call, Call, pair, of, Filter, body, print, For, block, Block, Macro, Include, extends, parameter, exprs, source, world}
 
 abbrev Breaks : List (Text × Body) → Option ScopeError → Type 0
@@ -96,3 +96,7 @@ required_alone = (codes "t", here, refl)
 -- {% block t %}{{ super() }}{% endblock %}
 super_of_nothing : NoSuper (world (source "t" (block "t" (print (call (name "super") []) ∷ []) ∷ []) ∷ [])) (codes "t")
 super_of_nothing = (codes "t", here, refl)
+
+-- `t` includes `p`, and `p` includes `q`: in this order each stands before what it includes
+in_order : InOrder (world (source "t" (Include 1 (codes "p") false true ∷ []) ∷ source "p" (Include 1 (codes "q") false true ∷ []) ∷ source "q" [] ∷ [])) (codes "t" ∷ codes "p" ∷ codes "q" ∷ [])
+in_order = (refl, (refl, tt), (refl, (refl, tt), (refl, tt, tt)))

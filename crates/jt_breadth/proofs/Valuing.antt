@@ -129,7 +129,7 @@ GivenBy bs [] (Some i) = ⊥
 GivenBy bs (c ∷ cs) None = ⊥
 GivenBy bs (c ∷ cs) (Some i) = (before behind : List (ℕ × BlockBody)) × (bs ≡ before ++ ((i, c) ∷ behind)) × (cs ≡ map (λ d. d.1) behind)
 
-given_by : (bs : List (ℕ × BlockBody)) → GivenBy bs (from_given (map (λ d. d.1) bs)) (next_given bs)
+pub given_by : (bs : List (ℕ × BlockBody)) → GivenBy bs (from_given (map (λ d. d.1) bs)) (next_given bs)
 given_by [] = tt
 given_by (b ∷ bs) = through b.1.required (given_by bs)
   where
@@ -151,6 +151,27 @@ range_same zero vs = refl
 range_same (suc zero) vs = refl
 range_same (suc (suc zero)) vs = refl
 range_same (suc (suc (suc n))) vs = refl
+
+-- what is called in front of arguments
+pub named_macro : (ms : List MacroBody) (f : Expr) (b : MacroBody) → callee ms f ≡ a_macro b → (x : Text) × (macro_of x ms ≡ Some b)
+named_macro ms (name x) b e = (x, alone (macro_of x ms) e)
+  where
+    other : (p q : Bool) → (if p then a_range else if q then a_super else no_callee) ≡ a_macro b → ⊥
+    other true q e = cc
+    other false true e = cc
+    other false false e = cc
+
+    alone : (o : Option MacroBody) → named_alone o x ≡ a_macro b → o ≡ Some b
+    alone None e = absurd (other (bytes_eq x (codes "range")) (bytes_eq x (codes "super")) e)
+    alone (Some m) e = cc
+named_macro ms (attribute (name of) x) b e = absurd (other (bytes_eq of (codes "self")) (bytes_eq of (codes "loop")) (bytes_eq x (codes "cycle")) e)
+  where
+    other : (p q r : Bool) → (if p then a_block x else if q then (if r then a_cycle else no_callee) else no_callee) ≡ a_macro b → ⊥
+    other true q r e = cc
+    other false true true e = cc
+    other false true false e = cc
+    other false false r e = cc
+named_macro ms f b e = cc
 
 -- ---- groupings
 
@@ -417,27 +438,6 @@ module _ (world : World) (order : List Home) (calls : Calls) (scall : SCalls) (m
         kept = subst (λ z. Kept sp.free (end sp) m z) (sym (prefixed_memory vs row)) u;
         out = ap (λ z. z.out) (prefixed_memory vs row) ∙ o;
       }))
-
-  -- what is called in front of arguments
-  named_macro : (ms : List MacroBody) (f : Expr) (b : MacroBody) → callee ms f ≡ a_macro b → (x : Text) × (macro_of x ms ≡ Some b)
-  named_macro ms (name x) b e = (x, alone (macro_of x ms) e)
-    where
-      other : (p q : Bool) → (if p then a_range else if q then a_super else no_callee) ≡ a_macro b → ⊥
-      other true q e = cc
-      other false true e = cc
-      other false false e = cc
-
-      alone : (o : Option MacroBody) → named_alone o x ≡ a_macro b → o ≡ Some b
-      alone None e = absurd (other (bytes_eq x (codes "range")) (bytes_eq x (codes "super")) e)
-      alone (Some m) e = cc
-  named_macro ms (attribute (name of) x) b e = absurd (other (bytes_eq of (codes "self")) (bytes_eq of (codes "loop")) (bytes_eq x (codes "cycle")) e)
-    where
-      other : (p q r : Bool) → (if p then a_block x else if q then (if r then a_cycle else no_callee) else no_callee) ≡ a_macro b → ⊥
-      other true q r e = cc
-      other false true true e = cc
-      other false true false e = cc
-      other false false r e = cc
-  named_macro ms f b e = cc
 
   -- `loop.cycle(..)`
   cycle_both : {m : Memory} (sp : Spot) (n : ℕ) (h : Got (List Tree)) (es : SRow Constant) → Both (Counted sp m n) h (seen_row es m)

@@ -19,3 +19,4 @@ pub mod Supers
 pub mod ChainRules
 pub mod Size
 pub mod Takes
+pub mod Known

@@ -1,5 +1,5 @@
 -- The static rules of names and calls. They are lexical, so a tag that never runs counts.
-use Rattle.std.specs.Prelude.{◌≡◌, ℕ, zero, suc, ◌+◌, ◌<◌, ◌≤◌, nat_lt, ◌==◌, Bool, true, false, not, ◌&&◌, ◌||◌, ◌⊎◌, List, [], ◌∷◌, length, map, drop, codes, Option, Some, None, if◌then◌else◌}
+use Rattle.std.specs.Prelude.{◌≡◌, ℕ, zero, suc, ◌+◌, ◌<◌, ◌≤◌, max, nat_lt, ◌==◌, Bool, true, false, not, ◌&&◌, ◌||◌, ◌⊎◌, List, [], ◌∷◌, length, map, drop, codes, Option, Some, None, if◌then◌else◌}
 use Rattle.std.specs.Option.{option_or, is_some}
 use Rattle.std.specs.List.{list_any}
 use Rattle.std.specs.Str.{bytes_eq}
@@ -13,7 +13,7 @@ use Rattle.jt_scopes.specs.declared.error.ScopeError.TheVariants as error
 use Rattle.jt_breadth.specs.Trees.{Text, Parameter, Filtering, Stmt, data_of, print, choose, for_each, set, set_block, with_values, filter_block, autoescape, macro, include, extends, block, Body, end, stmt, Branches, no_branches, branch, body_bound}
 use Rattle.jt_breadth.specs.Chain.{Home, Template, templates, bodies, macros, macro_of, Callee, a_macro, a_range, a_super, a_block, a_cycle, no_callee, callee, is_loop}
 use Rattle.jt_breadth.specs.Loops.{field_named}
-use Rattle.jt_breadth.specs.Filters.{Filters, among}
+use Rattle.jt_breadth.specs.Filters.{Filters, among, some_given}
 use Rattle.jt_breadth.specs.Around.{World}
 use Rattle.jt_breadth.specs.Expressions.{keywords}
 use Rattle.jt_breadth.specs.Layout.{own_names}
@@ -37,24 +37,23 @@ fits ps n ks = not (nat_lt (length ps) n) && (not (repeated ks) && not (list_any
 abbrev pub parameter_names : List Parameter → List Text
 parameter_names ps = map (λ p. p.name) ps
 
--- the place behind the last parameter that is given by name
+-- how many of the parameters come before the last one that is given by name, with it
 abbrev pub reached : List Parameter → List Text → ℕ
 reached [] ks = 0
-reached (p ∷ ps) ks = if reached ps ks == 0 then (if among p.name ks then 1 else 0) else suc (reached ps ks)
+reached (p ∷ ps) ks = if some_given (p ∷ ps) ks then suc (reached ps ks) else 0
 
 -- each parameter up to there is given or has a default
 abbrev pub is_filled : List Parameter → ℕ → List Text → Bool
 is_filled [] n ks = true
 is_filled (p ∷ ps) (suc n) ks = is_filled ps n ks
-is_filled (p ∷ ps) zero ks = reached (p ∷ ps) ks == 0 || ((among p.name ks || is_some p.default) && is_filled ps zero ks)
+is_filled (p ∷ ps) zero ks = not (some_given (p ∷ ps) ks) || ((among p.name ks || is_some p.default) && is_filled ps zero ks)
 
 -- a filter takes its values, and by name only what it names; a filter that there is not is the parser's matter
 abbrev pub filter_broken : Filters → Option ℕ → ℕ → List Text → Option ScopeError
 filter_broken fs None n ks = None
 filter_broken fs (Some f) n ks =
-    let ps : List Parameter = fs.parameters f in
-    unless ((is_filled ps n ks && fs.takes f (suc (if nat_lt n (reached ps ks) then reached ps ks else n)))
-    && (not (repeated ks) && not (list_any (λ k. not (among k (map (λ p. p.name) (drop n ps)))) ks)))
+    unless (fs.takes f (suc (max n (reached (fs.parameters f) ks))) && (is_filled (fs.parameters f) n ks
+    && (not (repeated ks) && not (list_any (λ k. not (among k (map (λ p. p.name) (drop n (fs.parameters f))))) ks))))
 
 module _ (world : World) (home : Home) where
   abbrev pub is_macro : Text → Bool
