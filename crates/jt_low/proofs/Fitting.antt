@@ -73,11 +73,6 @@ placed_is [] n u r e = absurd cc
 placed_is (s ∷ rs) n zero r e = let same : s ≡ r = cc in (n, ap (λ x. Some (placed_routine x n)) same)
 placed_is (s ∷ rs) n (suc u) r e = placed_is rs (n + length (body_values s.body)) u r e
 
-same_count : (es : SRow Constant) (n : ℕ) → row_count (placed_row es n) ≡ row_count es
-same_count slots.none n = refl
-same_count (slots.item e es) n = ap suc (same_count es (n + length (expr_values e)))
-same_count (slots.aside i e es) n = same_count es (n + length (expr_values e))
-
 bare_placed : (es : SRow Constant) (n : ℕ) → IsBare es → IsBare (placed_row es n)
 bare_placed slots.none n b = tt
 bare_placed (slots.item (slots.pooled k) es) n b = bare_placed es (n + length (constant_values k)) b
