@@ -73,11 +73,6 @@ placed_is [] n u r e = absurd cc
 placed_is (s ∷ rs) n zero r e = let same : s ≡ r = cc in (n, ap (λ x. Some (placed_routine x n)) same)
 placed_is (s ∷ rs) n (suc u) r e = placed_is rs (n + length (body_values s.body)) u r e
 
-same_count : (es : SRow Constant) (n : ℕ) → row_count (placed_row es n) ≡ row_count es
-same_count slots.none n = refl
-same_count (slots.item e es) n = ap suc (same_count es (n + length (expr_values e)))
-same_count (slots.aside i e es) n = same_count es (n + length (expr_values e))
-
 bare_placed : (es : SRow Constant) (n : ℕ) → IsBare es → IsBare (placed_row es n)
 bare_placed slots.none n b = tt
 bare_placed (slots.item (slots.pooled k) es) n b = bare_placed es (n + length (constant_values k)) b
@@ -222,7 +217,7 @@ module _ (filters : Filters) (names : List Text) (globals : ℕ) (front : List T
     body_pooled slots.end h = tt
     body_pooled (slots.stmt s rest) h = all_append IsPooled (stmt_values s) (body_values rest) (stmt_pooled s h.0) (body_pooled rest h.1)
 
-  routines_pooled : (qs : List (Routine Constant)) → AllByRecursion (RoutineLawful filters before globals rs) qs → Pooled (routines_values qs)
+  routines_pooled : (qs : List (Routine Constant)) → AllByRecursion (RoutineLawful before globals) qs → Pooled (routines_values qs)
   routines_pooled [] h = tt
   routines_pooled (r ∷ qs) h = all_append IsPooled (body_values r.body) (routines_values qs) (body_pooled r.body h.0.body) (routines_pooled qs h.1)
 
@@ -242,12 +237,12 @@ module _ (filters : Filters) (names : List Text) (globals : ℕ) (front : List T
     text_fits (own v) n h at = absurd h
     text_fits (known i) n h at = absurd h
 
-    called : (o : Option (Routine Constant)) (u i : ℕ) → slice_get rs u ≡ o → HasParameters o i → TakesRow p.routines u i
+    called : (o : Option (Routine ℕ)) (u i : ℕ) → slice_get p.routines u ≡ o → HasParameters o i → TakesRow p.routines u i
     called None u i e t = absurd t
-    called (Some r) u i e t = let q = placed_is rs before u r e in record { routine = placed_routine r q.0; is = q.1; parameters = t }
+    called (Some r) u i e t = record { routine = r; is = e; parameters = t }
 
-    call_fits : (u : ℕ) (es : SRow Constant) (n : ℕ) → HasParameters (slice_get rs u) (row_count es) → TakesRow p.routines u (row_count (placed_row es n))
-    call_fits u es n t = subst (TakesRow p.routines u) (sym (same_count es n)) (called (slice_get rs u) u (row_count es) refl t)
+    call_fits : (u : ℕ) (es : SRow Constant) (n : ℕ) → HasParameters (slice_get p.routines u) (row_count (placed_row es n)) → TakesRow p.routines u (row_count (placed_row es n))
+    call_fits u es n t = called (slice_get p.routines u) u (row_count (placed_row es n)) refl t
 
     maker_fits : (k : Maker) (i : ℕ) → MakerTakes filters k i → NoFilter before globals k → MakerFits k i
     maker_fits (slots.operator o) i t h = t
@@ -257,11 +252,11 @@ module _ (filters : Filters) (names : List Text) (globals : ℕ) (front : List T
     maker_fits slots.a_map i t h = t
 
     mutual
-      expr_fits : (e : SExpr Constant) (inside : Bool) (n : ℕ) → ExprTakes filters rs inside e → ExprLawful before globals e → PoolAt p.pool n (expr_values e) → expr_locals e ≤ count → ExprFits p count inside (placed_expr e n)
+      expr_fits : (e : SExpr Constant) (inside : Bool) (n : ℕ) → ExprTakes filters p.routines inside (placed_expr e n) → ExprLawful before globals e → PoolAt p.pool n (expr_values e) → expr_locals e ≤ count → ExprFits p count inside (placed_expr e n)
       expr_fits (slots.pooled k) inside n t h at le = constant_fits k n h at
       expr_fits (slots.variable s) inside n t h at le = slot_fits s h le
       expr_fits (slots.field f) inside n t h at le = t
-      expr_fits (slots.made k es) inside n t h at le = (subst (MakerFits k) (sym (same_count es n)) (maker_fits k (row_count es) t.0 h.0), row_fits es inside n t.1 h.1 at le)
+      expr_fits (slots.made k es) inside n t h at le = (maker_fits k (row_count (placed_row es n)) t.0 h.0, row_fits es inside n t.1 h.1 at le)
       expr_fits (slots.conjunction a b) inside n t h at le =
           (expr_fits a inside n t.0 h.0 (pool_front p.pool n (expr_values a) (expr_values b) at) (omega (arith, le)), expr_fits b inside (n + length (expr_values a)) t.1 h.1 (pool_back p.pool n (expr_values a) (expr_values b) at) (omega (arith, le)))
       expr_fits (slots.disjunction a b) inside n t h at le =
@@ -275,7 +270,7 @@ module _ (filters : Filters) (names : List Text) (globals : ℕ) (front : List T
           )
       expr_fits (slots.invoke u escaping es) inside n t h at le = (call_fits u es n t.0, row_fits es inside n t.1 h at le)
 
-      row_fits : (es : SRow Constant) (inside : Bool) (n : ℕ) → RowTakes filters rs inside es → RowLawful before globals es → PoolAt p.pool n (row_values es) → row_locals es ≤ count → RowFits p count inside (placed_row es n)
+      row_fits : (es : SRow Constant) (inside : Bool) (n : ℕ) → RowTakes filters p.routines inside (placed_row es n) → RowLawful before globals es → PoolAt p.pool n (row_values es) → row_locals es ≤ count → RowFits p count inside (placed_row es n)
       row_fits slots.none inside n t h at le = tt
       row_fits (slots.item e es) inside n t h at le =
           (expr_fits e inside n t.0 h.0 (pool_front p.pool n (expr_values e) (row_values es) at) (omega (arith, le)), row_fits es inside (n + length (expr_values e)) t.1 h.1 (pool_back p.pool n (expr_values e) (row_values es) at) (omega (arith, le)))
@@ -294,12 +289,12 @@ module _ (filters : Filters) (names : List Text) (globals : ℕ) (front : List T
     targets_fit (slots.one s) h le = slot_fits s h le
     targets_fit (slots.several ss) h le = each_fits ss h le
 
-    condition_fits : (c : Option (SExpr Constant)) (n : ℕ) → ConditionTakes filters rs c → ConditionLawful before globals c → PoolAt p.pool n (condition_values c) → condition_locals c ≤ count → ConditionFits p count (placed_condition c n)
+    condition_fits : (c : Option (SExpr Constant)) (n : ℕ) → ConditionTakes filters p.routines (placed_condition c n) → ConditionLawful before globals c → PoolAt p.pool n (condition_values c) → condition_locals c ≤ count → ConditionFits p count (placed_condition c n)
     condition_fits None n t h at le = tt
     condition_fits (Some c) n t h at le = expr_fits c false n t h at le
 
     mutual
-      stmt_fits : (s : SStmt Constant) (inside : Bool) (n : ℕ) → StmtTakes filters rs inside s → StmtLawful before globals s → PoolAt p.pool n (stmt_values s) → stmt_locals s ≤ count → StmtFits p count inside (placed_stmt s n)
+      stmt_fits : (s : SStmt Constant) (inside : Bool) (n : ℕ) → StmtTakes filters p.routines inside (placed_stmt s n) → StmtLawful before globals s → PoolAt p.pool n (stmt_values s) → stmt_locals s ≤ count → StmtFits p count inside (placed_stmt s n)
       stmt_fits (slots.put_pooled k) inside n t h at le = text_fits k n h at
       stmt_fits (slots.print q escaping e) inside n t h at le = expr_fits e inside n t h at le
       stmt_fits (slots.assign q xs e) inside n t h at le = (targets_fit xs h.0 (omega (arith, le)), expr_fits e inside n t h.1 at (omega (arith, le)))
@@ -324,7 +319,7 @@ module _ (filters : Filters) (names : List Text) (globals : ℕ) (front : List T
       stmt_fits (slots.capture escaping s body) inside n t h at le = (slot_fits s h.0 (omega (arith, le)), body_fits body inside n t h.1 at (omega (arith, le)))
       stmt_fits (slots.run u es) inside n t h at le = (call_fits u es n t.0, row_fits es inside n t.1 h.0 at le, bare_placed es n h.1)
 
-      body_fits : (b : SBody Constant) (inside : Bool) (n : ℕ) → BodyTakes filters rs inside b → BodyLawful before globals b → PoolAt p.pool n (body_values b) → body_locals b ≤ count → BodyFits p count inside (placed_body b n)
+      body_fits : (b : SBody Constant) (inside : Bool) (n : ℕ) → BodyTakes filters p.routines inside (placed_body b n) → BodyLawful before globals b → PoolAt p.pool n (body_values b) → body_locals b ≤ count → BodyFits p count inside (placed_body b n)
       body_fits slots.end inside n t h at le = tt
       body_fits (slots.stmt s rest) inside n t h at le =
           (stmt_fits s inside n t.0 h.0 (pool_front p.pool n (stmt_values s) (body_values rest) at) (omega (arith, le)), body_fits rest inside (n + length (stmt_values s)) t.1 h.1 (pool_back p.pool n (stmt_values s) (body_values rest) at) (omega (arith, le)))
@@ -335,10 +330,11 @@ module _ (filters : Filters) (names : List Text) (globals : ℕ) (front : List T
   routine_fits lawful low u q e =
       let x = placed_was rs before u q p.pool e (pool_whole (routines_values rs) front) in
       let r = x.0 in
-      let law = all_get (RoutineLawful filters before globals rs) rs u r lawful.routines x.2 in
+      let law = all_get (RoutineLawful before globals) rs u r lawful.routines x.2 in
+      let takes = subst (λ (z : Routine ℕ). BodyTakes filters p.routines false z.body) (sym x.3) (all_get (λ (z : Routine ℕ). BodyTakes filters p.routines false z.body) p.routines u q lawful.takes e) in
       let below = all_get (λ (z : Routine Constant). body_height z.body ≤ max_entries) rs u r low x.2 in
       let same : body_height (placed_body r.body x.1) ≡ body_height r.body = body_low r.body x.1 in
-      record { body = subst (λ (z : Routine ℕ). BodyFits p z.locals false z.body) x.3 (body_fits r.locals r.body false x.1 law.takes law.body x.4 law.locals); low = subst (λ (z : Routine ℕ). body_height z.body ≤ max_entries) x.3 (omega (arith, below, same)) }
+      record { body = subst (λ (z : Routine ℕ). BodyFits p z.locals false z.body) x.3 (body_fits r.locals r.body false x.1 takes law.body x.4 law.locals); low = subst (λ (z : Routine ℕ). body_height z.body ≤ max_entries) x.3 (omega (arith, below, same)) }
 
   pub lawful_fits : AreLawful filters names globals front rs → AreLow rs → ProgramFits p
   lawful_fits lawful low =

@@ -82,9 +82,8 @@ module _ (front globals : ℕ) where
     BodyLawful slots.end = Unit {0}
     BodyLawful (slots.stmt s rest) = StmtLawful s × BodyLawful rest
 
--- each operation and call gets as many values as it takes, fields stand in loops, and the routine has the locals that it uses
-pub record RoutineLawful (filters : Filters) (front globals : ℕ) (rs : List (Routine Constant)) (r : Routine Constant) : Type 0 where
-  pub takes : BodyTakes filters rs false r.body
+-- the routine has the locals that it uses
+pub record RoutineLawful (front globals : ℕ) (r : Routine Constant) : Type 0 where
   pub body : BodyLawful front globals r.body
   pub locals : body_locals r.body ≤ r.locals
 
@@ -95,7 +94,9 @@ program_with names globals front rs = record { names = names; globals = globals;
 pub record AreLawful (filters : Filters) (names : List Text) (globals : ℕ) (front : List Tree) (rs : List (Routine Constant)) : Type 0 where
   pub few : length names ≤ globals
   pub pooled : AllByRecursion IsPooled front
-  pub routines : AllByRecursion (RoutineLawful filters (length front) globals rs) rs
+  pub routines : AllByRecursion (RoutineLawful (length front) globals) rs
+  -- each operation and call gets as many values as it takes, and fields stand in loops
+  pub takes : AllByRecursion (λ (r : Routine ℕ). BodyTakes filters (program_with names globals front rs).routines false r.body) (program_with names globals front rs).routines
   pub entry : Routine Constant
   pub is_entry : slice_get rs 0 ≡ Some entry
 
