@@ -4,4 +4,4 @@ use Rattle.jt_machine.proofs.Steps.{key_of}
 use Rattle.jt_machine.proofs.items.keys.Given as goal
 
 abbrev pub invariant-entries : goal.invariant-entries
-invariant-entries l = map view l.keys.items ≡ map key_of (take l.entry-index l.fn.entries.now)
+invariant-entries l = map view l.keys.items ≡ map key_of (take l.entry-index l.fn.entries)
