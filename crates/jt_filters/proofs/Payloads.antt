@@ -2,14 +2,15 @@
 use Rattle.std.specs.Prelude.{option_map, slice_get}
 use Rattle.std.specs.Option.{option_and_then}
 use Rattle.std.proofs.lemmas.Bool.Decides.{nat_tests}
-use Rattle.jt_ops.specs.ItemOf.{item_at, items_count, indexed_item}
-use Rattle.std.proofs.Common.{◌≡◌, ℕ, zero, suc, ◌+◌, ◌-◌, negsuc, Bool, true, cond, ltb, List, [], ◌∷◌, length, Some, None, refl, ap, sym, ◌∙◌, arith}
+use Rattle.std.specs.Char.{encode_utf8}
+use Rattle.jt_ops.specs.ItemOf.{item_at, items_count, indexed_item, indexed_character, item_of, or_undefined, place}
+use Rattle.std.proofs.Common.{◌≡◌, ℕ, zero, suc, ℤ, ◌+◌, ◌-◌, negsuc, Bool, true, cond, ltb, List, [], ◌∷◌, length, Some, None, refl, ap, sym, ◌∙◌, arith}
 use Rattle.jt_value.proofs.Lists.{Pair}
 use Rattle.jt_value.specs.View.{view, items_view, entries_view}
 use Rattle.jt_value.specs.declared.value.Value.{Value}
 use Rattle.jt_ops.proofs.Places.{items_count_view}
-use Rattle.jt_filters.specs.Listing.{length_of, counted, entries_count}
-use Rattle.std.specs.Prelude.{Ok, Err}
+use Rattle.jt_filters.specs.Listing.{length_of, counted, entries_count, has_places, on_items, item_named}
+use Rattle.std.specs.Prelude.{Option, Ok, Err}
 use Rattle.std.specs.Str.{chars}
 use Rattle.jt_value.specs.Tree as tree
 use Rattle.jt_value.specs.Tree.{Tree, Items, no_items, Entries}
@@ -97,3 +98,32 @@ last_view (v ∷ vs) =
     get_view (v ∷ vs) (length (v ∷ vs) - 1)
     ∙ ap (item_at (items_view (v ∷ vs))) n
     ∙ ap (λ (b : Bool). option_and_then (item_at (items_view (v ∷ vs))) (cond b (Some ((items_count (items_view vs) + 1) - 1 - 0)) None)) (sym some)
+
+character_at : (cs : List ℕ) (i : ℕ) → option_map (λ c. tree.text (encode_utf8 c)) (slice_get cs i) ≡ item_at (character_items cs) i
+character_at [] i = refl
+character_at (c ∷ cs) zero = refl
+character_at (c ∷ cs) (suc i) = character_at cs i
+
+characters_count : (cs : List ℕ) → items_count (character_items cs) ≡ length cs
+characters_count [] = refl
+characters_count (c ∷ cs) = omega (arith, characters_count cs)
+
+place_of_character : (cs : List ℕ) (p : Option ℕ) → option_map (λ c. tree.text (encode_utf8 c)) (option_and_then (slice_get cs) p) ≡ option_and_then (item_at (character_items cs)) p
+place_of_character cs None = refl
+place_of_character cs (Some i) = character_at cs i
+
+indexed_characters : (s : List ℕ) (i : ℤ) → indexed_character s i ≡ indexed_item (character_items (chars s)) i
+indexed_characters s i =
+    place_of_character (chars s) (place i (length (chars s)))
+    ∙ ap (λ (n : ℕ). option_and_then (item_at (character_items (chars s))) (place i n)) (sym (characters_count (chars s)))
+
+-- an item by an index, of a text or a list
+pub item_of_places : (t : Tree) (i : ℤ) → has_places t ≡ true → item_of t (tree.number i) ≡ on_items (item_named i) t
+item_of_places (tree.text s) i e = ap (λ (x : Option Tree). Ok (or_undefined x)) (indexed_characters s i)
+item_of_places (tree.markup s) i e = ap (λ (x : Option Tree). Ok (or_undefined x)) (indexed_characters s i)
+item_of_places (tree.list ts) i e = refl
+item_of_places tree.undefined i e = cc
+item_of_places tree.nothing i e = cc
+item_of_places (tree.truth_value b) i e = cc
+item_of_places (tree.number z) i e = cc
+item_of_places (tree.map es) i e = cc

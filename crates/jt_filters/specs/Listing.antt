@@ -1,5 +1,5 @@
 -- Filters on the items and the entries of a value.
-use Rattle.std.specs.Prelude.{ℕ, ◌+◌, pos, negsuc, Bool, List, length, Result, Ok, Err, if◌then◌else◌}
+use Rattle.std.specs.Prelude.{ℕ, false, true, ℤ, ◌+◌, pos, negsuc, Bool, List, length, Result, Ok, Err, if◌then◌else◌}
 use Rattle.std.specs.Str.{chars}
 use Rattle.jt_value.specs.declared.fault.Fault.{Fault}
 use Rattle.jt_value.specs.Iteration.{key_items, items_of_tree}
@@ -20,12 +20,23 @@ given filter (Err fault) = Err fault
 abbrev pub on_items : (Items → Result Tree Fault) → Tree → Result Tree Fault
 on_items filter t = given filter (items_of_tree t)
 
--- `first` and `last`: undefined where there is no item
+-- the item that an index names, undefined where there is none
+abbrev pub item_named : ℤ → Items → Result Tree Fault
+item_named i ts = Ok (or_undefined (indexed_item ts i))
+
+-- `first` and `last`
 abbrev pub first_item : Items → Result Tree Fault
-first_item ts = Ok (or_undefined (indexed_item ts (pos 0)))
+first_item ts = item_named (pos 0) ts
 
 abbrev pub last_item : Items → Result Tree Fault
-last_item ts = Ok (or_undefined (indexed_item ts (negsuc 0)))
+last_item ts = item_named (negsuc 0) ts
+
+-- whether a value's items can be named by an index
+abbrev pub has_places : Tree → Bool
+has_places (text s) = true
+has_places (markup s) = true
+has_places (list ts) = true
+has_places t = false
 
 -- `list`
 abbrev pub listed : Items → Result Tree Fault

@@ -1,5 +1,5 @@
 //! Filters on the items and the entries of a value.
-ghost use Rattle.std.specs.Prelude.{◌≡◌, ◌-◌, ◌^◌, min, length, option_map, option_copied, IfOk, IfErr, OnOk, Ok, Err};
+ghost use Rattle.std.specs.Prelude.{◌≡◌, ◌-◌, ◌^◌, min, length, option_map, option_copied, IfOk, IfErr, OnOk, Ok, Err, true};
 ghost use Rattle.std.specs.Str.{chars};
 ghost use Rattle.jt_value.specs.Tree as tree;
 ghost use Rattle.jt_value.specs.Tree.{items_size, items_nesting};
@@ -15,7 +15,7 @@ use crate::items::{characters, items_of, keys};
 use crate::texts::backwards;
 use jt_escape::{join_markup, join_plain};
 use crate::limits::{copy_within, number_within, within};
-use jt_ops::{Limits, OpError, allow, character_count, misfit_of_one, };
+use jt_ops::{Limits, OpError, OpId, allow, binary, character_count, misfit_of_one, };
 use jt_value::{Fault, NoMemory, Value};
 use std::alloc::Global;
 
@@ -49,6 +49,9 @@ fn counted(count: usize, limits: Limits) -> Result<Value, OpError>
 pub(crate) fn first(alloc: Global, value: &Value, limits: Limits) -> Result<Value, OpError>
     ensures { Answers result (limited_by limits (on_items first_item (view value.now))) }
 {
+    if has_places(value) {
+        return item(alloc, value, 0, limits);
+    }
     let items = items_of(alloc, value)?;
     found(alloc, items.as_slice().first(), limits)
 }
@@ -57,8 +60,26 @@ pub(crate) fn first(alloc: Global, value: &Value, limits: Limits) -> Result<Valu
 pub(crate) fn last(alloc: Global, value: &Value, limits: Limits) -> Result<Value, OpError>
     ensures { Answers result (limited_by limits (on_items last_item (view value.now))) }
 {
+    if has_places(value) {
+        return item(alloc, value, -1, limits);
+    }
     let items = items_of(alloc, value)?;
     found(alloc, items.as_slice().last(), limits)
+}
+
+/// Whether a value's items can be named by an index.
+fn has_places(value: &Value) -> bool
+    ensures { result ≡ listing.has_places (view value.now) }
+{
+    matches!(value, Value::Text(_) | Value::Markup(_) | Value::List(_))
+}
+
+/// The item that an index names, undefined where there is none.
+fn item(alloc: Global, value: &Value, index: i64, limits: Limits) -> Result<Value, OpError>
+    requires { listing.has_places (view value.now) ≡ true }
+    ensures { Answers result (limited_by limits (on_items (listing.item_named index) (view value.now))) }
+{
+    binary(alloc, OpId::Item, value, &Value::Int(index), limits)
 }
 
 /// A copy of what was found, undefined where that is nothing.
