@@ -12,8 +12,8 @@ ghost use Rattle.jt_filters.specs.Ordering.{best_item, distinct, unseen};
 ghost use Rattle.jt_filters.specs.Ordering as ordering;
 
 use crate::items::items_of;
+use crate::limits::within;
 use crate::listing::found;
-use crate::limits::{within};
 use jt_ops::{Limits, OpError};
 use jt_value::{Fault, NoMemory, Value};
 use std::alloc::Global;

@@ -9,12 +9,12 @@ ghost use Rattle.jt_filters.specs.Filtering.{filtered, or_default};
 
 use crate::choosing::{best_item, unique};
 use crate::filter_id::FilterId;
+use crate::limits::copy_within;
 use crate::listing::{first, items, join, last, length, list, reverse};
 use crate::numbers::{abs, int, sum};
 use crate::replacing::replace;
 use crate::sorting::{dictsort, sort};
 use crate::texts::{capitalize, escape, force_escape, lower, safe, string, trim, upper};
-use crate::limits::{copy_within};
 use jt_ops::{Limits, OpError};
 use jt_value::{NoMemory, Value};
 use std::alloc::Global;

@@ -6,7 +6,7 @@ ghost use Rattle.jt_value.specs.Iteration.{items_of_tree, character_items, key_i
 ghost use Rattle.jt_value.specs.View.{view, items_view, entries_view};
 ghost use Rattle.jt_filters.specs.ItemsSeen.{seen, HasItems};
 
-use jt_ops::{OpError};
+use jt_ops::OpError;
 use jt_value::{Fault, NoMemory, Value};
 use std::alloc::Global;
 

@@ -12,10 +12,10 @@ ghost use Rattle.jt_filters.specs.Listing.{on_items, first_item, last_item, list
 ghost use Rattle.jt_filters.specs.Listing as listing;
 
 use crate::items::{characters, items_of, keys};
+use crate::limits::{copy_within, number_within, within};
 use crate::texts::backwards;
 use jt_escape::{join_markup, join_plain};
-use crate::limits::{copy_within, number_within, within};
-use jt_ops::{Limits, OpError, OpId, allow, binary, character_count, misfit_of_one, };
+use jt_ops::{Limits, OpError, OpId, allow, binary, character_count, misfit_of_one};
 use jt_value::{Fault, NoMemory, Value};
 use std::alloc::Global;
 

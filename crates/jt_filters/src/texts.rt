@@ -9,7 +9,7 @@ ghost use Rattle.jt_ops.specs.Pieces.{of_kind};
 ghost use Rattle.jt_filters.specs.Texts.{keeping_kind, unchanged, of_same_kind, escaped_once, escaped_again};
 ghost use Rattle.jt_filters.specs.Texts as texts;
 
-use crate::limits::{alone};
+use crate::limits::alone;
 use itoa::Buffer;
 use jt_ops::{Kind, Limits, OpError, Piece, allow};
 use jt_value::{NoMemory, Value};
