@@ -106,12 +106,7 @@ pub(crate) fn concatenated(
 }
 
 /// The text of one piece.
-pub fn alone(
-    alloc: Global,
-    piece: &Piece<'_>,
-    kind: Kind,
-    limits: Limits,
-) -> Result<Value, OpError>
+pub fn alone(alloc: Global, piece: &Piece<'_>, kind: Kind, limits: Limits) -> Result<Value, OpError>
     ensures { Answers result (limited_by limits (Ok (of_kind kind (written piece.now)))) }
 {
     let len = piece.len();
