@@ -3,6 +3,7 @@ pub mod Env
 pub mod Chain
 pub mod Loops
 pub mod Filters
+pub mod TheFilters
 pub mod Around
 pub mod Expressions
 pub mod Meaning
