@@ -371,11 +371,15 @@ pub(crate) fn effect<C: Code>(
             };
             makes(alloc, header, point, count, shape)
         }
-        Instruction::Filter { filter, values, flag } => {
-            if !is_filter(filter, values, flag) {
+        Instruction::Filter {
+            filter,
+            values: count,
+            flag,
+        } => {
+            if !is_filter(filter, count, flag) {
                 return bad_index();
             }
-            makes(alloc, header, point, usize::from(values), shape)
+            makes(alloc, header, point, usize::from(count), shape)
         }
         Instruction::Test { test, values } => {
             if !takes(test, values) {
