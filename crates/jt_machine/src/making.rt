@@ -1,5 +1,5 @@
 //! Instructions that make one value of several.
-ghost use Rattle.std.specs.Prelude.{◌≡◌, ◌≢◌, ◌≤◌, ◌+◌, ◌*◌, ◌-◌, ◌/◌, ◌<◌, ◌^◌, min, length, map, option_map, List, Result, Some, None, IfOk};
+ghost use Rattle.std.specs.Prelude.{◌≡◌, ◌≢◌, ◌≤◌, ◌+◌, ◌*◌, ◌-◌, ◌/◌, ◌<◌, ◌^◌, ◌∷◌, [], min, length, map, option_map, List, Result, Some, None, IfOk};
 ghost use Rattle.jt_value.specs.Tree.{Tree, items_size};
 ghost use Rattle.jt_value.specs.View.{view, items_view};
 ghost use Rattle.jt_value.specs.declared.fault.Fault.{Fault};
