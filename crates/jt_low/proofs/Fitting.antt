@@ -186,7 +186,7 @@ module _ (names : List Text) (globals : ℕ) (front : List Tree) (rs : List (Rou
     expr_pooled (slots.pooled k) h = constant_pooled k h
     expr_pooled (slots.variable s) h = tt
     expr_pooled (slots.field f) h = tt
-    expr_pooled (slots.made k es) h = row_pooled es h.1
+    expr_pooled (slots.made k es) h = row_pooled es h
     expr_pooled (slots.conjunction a b) h = all_append IsPooled (expr_values a) (expr_values b) (expr_pooled a h.0) (expr_pooled b h.1)
     expr_pooled (slots.disjunction a b) h = all_append IsPooled (expr_values a) (expr_values b) (expr_pooled a h.0) (expr_pooled b h.1)
     expr_pooled (slots.choice c a b) h = all_append IsPooled (expr_values c) (expr_values a ++ expr_values b) (expr_pooled c h.0) (all_append IsPooled (expr_values a) (expr_values b) (expr_pooled a h.1) (expr_pooled b h.2))
