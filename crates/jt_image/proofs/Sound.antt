@@ -312,11 +312,11 @@ small_instruction (op.Jump c) w e a m l = subst (λ (n : ℕ). n < 2 ^ 32) (ap (
 small_instruction (op.JumpIfFalse c) w e a m l = subst (λ (n : ℕ). n < 2 ^ 32) (ap (λ (v : Instr). v.c) (sym e)) l
 small_instruction (op.JumpIfTrue c) w e a m l = subst (λ (n : ℕ). n < 2 ^ 32) (ap (λ (v : Instr). v.c) (sym e)) l
 small_instruction (op.Op c) w e a m l = subst (λ (n : ℕ). n < 2 ^ 8) (ap (λ (v : Instr). v.a) (sym e)) a
-small_instruction (op.Filter c d f) w e a m l =
-    (
-        subst (λ (n : ℕ). n < 2 ^ 8) (ap (λ (v : Instr). v.a) (sym e)) a,
-        subst (λ (n : ℕ). n < 2 ^ 16) (ap (λ (v : Instr). v.b) (sym e)) m,
-        subst (λ (n : ℕ). n < 2 ^ 32) (ap (λ (v : Instr). v.c) (sym e)) l)
+small_instruction (op.Filter c d f) w e a m l = (
+  subst (λ (n : ℕ). n < 2 ^ 8) (ap (λ (v : Instr). v.a) (sym e)) a,
+  subst (λ (n : ℕ). n < 2 ^ 16) (ap (λ (v : Instr). v.b) (sym e)) m,
+  subst (λ (n : ℕ). n < 2 ^ 32) (ap (λ (v : Instr). v.c) (sym e)) l,
+)
 small_instruction (op.Test c d) w e a m l = (subst (λ (n : ℕ). n < 2 ^ 8) (ap (λ (v : Instr). v.a) (sym e)) a, subst (λ (n : ℕ). n < 2 ^ 16) (ap (λ (v : Instr). v.b) (sym e)) m)
 small_instruction (op.MakeList c) w e a m l = subst (λ (n : ℕ). n < 2 ^ 32) (ap (λ (v : Instr). v.c) (sym e)) l
 small_instruction (op.MakeMap c) w e a m l = subst (λ (n : ℕ). n < 2 ^ 32) (ap (λ (v : Instr). v.c) (sym e)) l
