@@ -1,5 +1,6 @@
 //! Texts escaped and joined.
 
+use crate::rows::rows_hold;
 use jt_escape::{escape_into, join_markup, join_plain};
 use jt_value::{Fault, NoMemory, Value, ValueError};
 use std::alloc::Global;
@@ -74,21 +75,23 @@ fn asks_for_each_text(rt: HostRuntime) -> Result<(), Fail> {
     Ok(())
 }
 
+/// A text escaped, behind a text that is there.
+fn escaped(alloc: Global, text: &str) -> Result<String, Fail> {
+    let mut into = String::from_str(alloc, ">")?;
+    escape_into(text, &mut into)?;
+    Ok(into)
+}
+
 #[test]
 fn escapes_the_five_characters(rt: HostRuntime) -> Result<(), Fail> {
-    for (text, written) in [
-        ("", ""),
-        (
-            "<b id=\"x\">'&'</b>",
-            "&lt;b id=&#34;x&#34;&gt;&#39;&amp;&#39;&lt;/b&gt;",
-        ),
-        ("&lt;", "&amp;lt;"),
-        ("größer als 3 €", "größer als 3 €"),
-        ("ä<ü", "ä&lt;ü"),
-    ] {
-        let mut into = String::from_str(rt.alloc(), ">")?;
-        escape_into(text, &mut into)?;
-        assert_eq!(rt; into.strip_prefix(">"), Some(written));
-    }
-    Ok(())
+    let alloc = rt.alloc();
+    assert_eq!(rt; escaped(alloc, "")?.as_str(), ">");
+    rows_hold(
+        &rt,
+        |row| escaped(alloc, row),
+        r#"<b id="x">'&'</b> => >&lt;b id=&#34;x&#34;&gt;&#39;&amp;&#39;&lt;/b&gt;
+        &lt; => >&amp;lt;
+        größer als 3 € => >größer als 3 €
+        ä<ü => >ä&lt;ü"#,
+    )
 }

@@ -1,0 +1,187 @@
+//! Rows from the language's rules, and each call that allocates with ample memory.
+
+use crate::rows::rows_hold;
+use crate::spelling::value;
+use jt_value::{Context, Fault, NoMemory, Value, ValueError};
+use std::alloc::Global;
+use std::test::Fail;
+
+/// The two values of a row.
+fn two(alloc: Global, spellings: &str) -> Result<(Value, Value), Fail> {
+    let (left, right) = spellings.split_once(" ").ok_or("a row has one value")?;
+    Ok((value(alloc, left)?, value(alloc, right)?))
+}
+
+/// Whether two values are equal.
+fn equated(alloc: Global, spellings: &str) -> Result<String, Fail> {
+    let (left, right) = two(alloc, spellings)?;
+    let are_equal = left.equals(&right);
+    Ok(format!(in alloc; "{are_equal}")?)
+}
+
+#[test]
+fn equality(rt: HostRuntime) -> Result<(), Fail> {
+    let alloc = rt.alloc();
+    let list = value(alloc, "ln1,n0")?;
+    assert!(rt; list.equals(&list));
+    rows_hold(
+        &rt,
+        |row| equated(alloc, row),
+        r"n1 + => true
+        - n0 => true
+        + n2 => false
+        + - => false
+        u u => true
+        u 0 => false
+        0 - => false
+        té mé => true
+        ln1,n0 ln1,n0 => true
+        ln1,n0 ln1,n0,n0 => false
+        ka=n1,b=n2 kb=n2,a=n1 => true
+        ka=n1,b=n2 ka=n1,b=n2,a=n3 => false
+        ka=n3,b=n2,a=n1 kb=n2,a=n1 => true
+        ka=n3,b=n2,a=n1 ka=n1,b=n2,a=n3 => false
+        ka=n1,b=n2,c=n3 ka=n1,b=n2 => false
+        ka=n1,b=n2 ka=n1,b=n2,c=n3 => false",
+    )
+}
+
+/// The order of two values, or why they have none.
+fn compared(alloc: Global, spellings: &str) -> Result<String, Fail> {
+    let (left, right) = two(alloc, spellings)?;
+    let order = left.compare(&right);
+    Ok(format!(in alloc; "{order:?}")?)
+}
+
+#[test]
+fn order(rt: HostRuntime) -> Result<(), Fail> {
+    let alloc = rt.alloc();
+    rows_hold(
+        &rt,
+        |row| compared(alloc, row),
+        r"n-2 n1 => Ok(Less)
+        n3 n3 => Ok(Equal)
+        tz mé => Ok(Less)
+        mé tz => Ok(Greater)
+        + n1 => Err(BadType)
+        ln1 ln1 => Err(BadType)
+        u ln1 => Err(Undefined)
+        n1 u => Err(Undefined)",
+    )
+}
+
+/// The truth of a value, and its printed text between quotes, or why it has none.
+fn told(alloc: Global, spelling: &str) -> Result<String, Fail> {
+    let value = value(alloc, spelling)?;
+    let truth = value.truth();
+    match value.printed(alloc) {
+        Ok(text) => Ok(format!(in alloc; "{truth} '{text}'")?),
+        Err(error) => Ok(format!(in alloc; "{truth} {error}")?),
+    }
+}
+
+#[test]
+fn truth_and_printed_text(rt: HostRuntime) -> Result<(), Fail> {
+    let alloc = rt.alloc();
+    rows_hold(
+        &rt,
+        |row| told(alloc, row),
+        r"u => false ''
+        0 => false 'None'
+        + => true 'True'
+        - => false 'False'
+        n-50 => true '-50'
+        n0 => false '0'
+        t => false ''
+        m<b> => true '<b>'
+        ln1 => true F5 Unprintable",
+    )
+}
+
+#[test]
+fn size_nesting_and_copies(rt: HostRuntime) -> Result<(), Fail> {
+    let alloc = rt.alloc();
+    let mut outer = Vec::new(alloc);
+    outer.push(value(alloc, "kab=n1")?)?;
+    outer.push(Value::text(alloc, "é")?)?;
+    let tree = Value::list(alloc, outer)?;
+    assert_eq!(rt; tree.size(), 9);
+    assert_eq!(rt; tree.nesting(), 2);
+    let copy = tree.try_clone(alloc)?;
+    assert!(rt; copy.equals(&tree));
+    assert_eq!(rt; value(alloc, "l")?.nesting(), 1);
+    Ok(())
+}
+
+#[test]
+fn contexts(rt: HostRuntime) -> Result<(), Fail> {
+    let alloc = rt.alloc();
+    let mut context = Context::new(alloc);
+    for (name, number) in [("a", 1), ("b", 2), ("a", 3)] {
+        let name = String::from_str(alloc, name)?;
+        assert!(rt; context.insert(name, Value::Int(number)).is_ok());
+    }
+    for (name, number) in [("a", 3), ("b", 2)] {
+        let found = context.get(name).ok_or("missing")?;
+        assert!(rt; found.equals(&Value::Int(number)));
+    }
+    assert!(rt; context.get("c").is_none());
+    Ok(())
+}
+
+#[test]
+fn refusals_print(rt: HostRuntime) -> Result<(), Fail> {
+    let alloc = rt.alloc();
+    let faults = [
+        Fault::BadType,
+        Fault::Undefined,
+        Fault::Overflow,
+        Fault::ZeroDivide,
+        Fault::Unprintable,
+        Fault::NotIterable,
+        Fault::Unpack,
+        Fault::Range,
+        Fault::BadArgument,
+    ];
+    let mut told = String::new(alloc);
+    for fault in faults {
+        let text = fault.to_string(alloc)?;
+        assert_eq!(rt;
+            ValueError::Fault(fault).to_string(alloc)?.as_str(),
+            text.as_str()
+        );
+        told.push_str(text.as_str())?;
+        told.push(';')?;
+    }
+    let wanted =
+        "F1 BadType;F2 Undefined;F3 Overflow;F4 ZeroDivide;F5 Unprintable;F6 NotIterable;F7 Unpack;F8 Range;F9 BadArgument;";
+    assert_eq!(rt; told.as_str(), wanted);
+    assert_eq!(rt; NoMemory.to_string(alloc)?.as_str(), "no memory");
+    assert_eq!(rt;
+        ValueError::NoMemory.to_string(alloc)?.as_str(),
+        "no memory"
+    );
+    Ok(())
+}
+
+#[test]
+fn payloads(rt: HostRuntime) -> Result<(), Fail> {
+    let alloc = rt.alloc();
+    let mut items = Vec::new(alloc);
+    items.push(Value::text(alloc, "a")?)?;
+    items.push(Value::from_markup(String::from_str(alloc, "<b>")?)?)?;
+    let list = Value::list(alloc, items)?;
+    let copy = list.try_clone(alloc)?;
+    let texts: Vec<Option<&str>> = match copy.as_list() {
+        Some(items) => items.iter().map(|item| item.as_text()).collect(alloc)?,
+        None => Vec::new(alloc),
+    };
+    assert!(rt; texts.as_slice() == [Some("a"), Some("<b>")].as_slice());
+    let map = value(alloc, "kk=n1,l=n2,k=n3")?;
+    assert_eq!(rt; map.size(), 7);
+    assert!(rt; matches!(map.as_map(), Some([(_, Value::Int(3)), (_, Value::Int(2))])));
+    assert!(rt; map.as_list().is_none() && list.as_map().is_none() && list.as_text().is_none());
+    let plain = Value::from_text(String::from_str(alloc, "a")?)?;
+    assert!(rt; plain.equals(&Value::text(alloc, "a")?));
+    Ok(())
+}
