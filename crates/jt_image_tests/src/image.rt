@@ -1,5 +1,6 @@
 //! The image of 44 bytes that prints `x`, whole and damaged.
 
+use crate::rows::rows_hold;
 use jt_image::*;
 use std::alloc::Global;
 use std::test::*;
@@ -49,33 +50,41 @@ fn beginnings_are_cut_off(rt: HostRuntime) {
     }
 }
 
-#[test]
-fn one_byte_changed(rt: HostRuntime) {
-    let rows = [
-        (0, 0x4b, ImageError::BadMagic),
-        (5, 1, ImageError::BadVersion),
-        (8, 1, ImageError::BadTable),
-        (12, 7, ImageError::BadTable),
-        (13, 255, ImageError::Truncated),
-        (17, 0x80, ImageError::BadText),
-        (18, 0, ImageError::BadTable),
-        (20, 1, ImageError::BadTable),
-        (21, 1, ImageError::BadTable),
-        (23, 0x11, ImageError::LimitPassed),
-        (24, 1, ImageError::Trailing),
-        (24, 3, ImageError::Truncated),
-        (26, 4, ImageError::LimitPassed),
-        (28, 0x1d, ImageError::BadOpcode),
-        (30, 1, ImageError::BadOpcode),
-        (40, 1, ImageError::BadOpcode),
-    ];
-    for (at, value, want) in rows {
-        let mut bytes = X;
-        if let Some(byte) = bytes.get_mut(at) {
-            *byte = value;
-        }
-        assert_eq!(rt; decode(rt.alloc(), &bytes).err(), Some(want), "{at}");
+/// What the image is with the byte at a place changed to another value.
+fn changed(alloc: Global, asked: &str) -> Result<String, Fail> {
+    let (at, value) = asked.split_once(" ").ok_or("a row has no value")?;
+    let (at, value) = (at.parse::<usize>()?, value.parse::<u8>()?);
+    let mut bytes = X;
+    *bytes.get_mut(at).ok_or("a row has no place")? = value;
+    match decode(alloc, &bytes) {
+        Ok(_) => Ok(String::from_str(alloc, "an image")?),
+        Err(error) => Ok(format!(in alloc; "{error:?}")?),
     }
+}
+
+#[test]
+fn one_byte_changed(rt: HostRuntime) -> Result<(), Fail> {
+    let alloc = rt.alloc();
+    rows_hold(
+        &rt,
+        |row| changed(alloc, row),
+        r"0 75 => BadMagic
+        5 1 => BadVersion
+        8 1 => BadTable
+        12 7 => BadTable
+        13 255 => Truncated
+        17 128 => BadText
+        18 0 => BadTable
+        20 1 => BadTable
+        21 1 => BadTable
+        23 17 => LimitPassed
+        24 1 => Trailing
+        24 3 => Truncated
+        26 4 => LimitPassed
+        28 29 => BadOpcode
+        30 1 => BadOpcode
+        40 1 => BadOpcode",
+    )
 }
 
 const RETURN: Instr = Instr {
@@ -116,111 +125,104 @@ fn assembles_x(rt: HostRuntime) -> Result<(), Fail> {
     Ok(())
 }
 
-#[test]
-fn refuses_and_hands_back(rt: HostRuntime) -> Result<(), Fail> {
-    let unknown = Instr {
-        op: 29,
+/// An entry of the table of names, as `1a`: the slot and the name.
+fn entry(alloc: Global, spelling: &str) -> Result<(u16, String), Fail> {
+    let slot = spelling.get(..1).ok_or("a row has no slot")?;
+    let name = spelling.get(1..).unwrap_or("");
+    Ok((slot.parse::<u16>()?, String::from_str(alloc, name)?))
+}
+
+/// What is assembled of two entries of the table of names, the numbers of a unit, and the opcode and field c of its last
+/// instruction: how many names the image has, or why there is none.
+fn assembled(alloc: Global, asked: &str) -> Result<String, Fail> {
+    let words: Vec<&str> = asked.split(' ').collect(alloc)?;
+    let [first, second, parameters, kind, locals, op, c] = words.as_slice() else {
+        return Err(Fail::from("a row has not seven words"));
+    };
+    let numbers = (
+        parameters.parse::<u8>()?,
+        kind.parse::<u8>()?,
+        locals.parse::<u16>()?,
+    );
+    let last = Instr {
+        op: op.parse::<u8>()?,
         a: 0,
         b: 0,
-        c: 0,
+        c: c.parse::<u32>()?,
     };
-    let unused = Instr {
-        op: 28,
-        a: 0,
-        b: 0,
-        c: 1,
+    let parts = Parts {
+        globals: 2,
+        names: vec![in alloc; entry(alloc, first)?, entry(alloc, second)?]?,
+        constants: Vec::new(alloc),
+        units: vec![in alloc; text_unit(alloc, numbers, last)?]?,
     };
-    let names = [(1, "a"), (0, "b")];
-    let rows = [
-        (names, (0, 0, 4096), RETURN, None),
-        (names, (0, 0, 0), unknown, Some(ImageError::BadOpcode)),
-        (names, (0, 0, 0), unused, Some(ImageError::BadOpcode)),
-        (names, (0, 0, 4097), RETURN, Some(ImageError::LimitPassed)),
-        (names, (1, 0, 1), RETURN, Some(ImageError::BadTable)),
-        (names, (0, 1, 0), RETURN, Some(ImageError::BadTable)),
-        (
-            [(1, "a"), (2, "b")],
-            (0, 0, 0),
-            RETURN,
-            Some(ImageError::BadTable),
-        ),
-        (
-            [(1, "a"), (1, "b")],
-            (0, 0, 0),
-            RETURN,
-            Some(ImageError::BadTable),
-        ),
-        (
-            [(1, "b"), (0, "a")],
-            (0, 0, 0),
-            RETURN,
-            Some(ImageError::BadTable),
-        ),
-        (
-            [(1, "a"), (0, "a")],
-            (0, 0, 0),
-            RETURN,
-            Some(ImageError::BadTable),
-        ),
-        (
-            [(1, ""), (0, "a")],
-            (0, 0, 0),
-            RETURN,
-            Some(ImageError::BadTable),
-        ),
-    ];
-    let alloc = rt.alloc();
-    for (names, numbers, last, want) in rows {
-        let [first, second] = names;
-        let parts = Parts {
-            globals: 2,
-            names: vec![in alloc;
-                (first.0, String::from_str(alloc, first.1)?),
-                (second.0, String::from_str(alloc, second.1)?),
-            ]?,
-            constants: Vec::new(alloc),
-            units: vec![in alloc; text_unit(alloc, numbers, last)?]?,
-        };
-        match assemble(alloc, parts) {
-            Ok(image) => {
-                assert_eq!(rt; want, None);
-                assert_eq!(rt; image.names(), 2);
-            }
-            Err((parts, error)) => {
-                assert_eq!(rt; Some(error), want);
-                assert_eq!(rt; (parts.names.len(), parts.units.len()), (2, 1));
-            }
+    match assemble(alloc, parts) {
+        Ok(image) => Ok(format!(in alloc; "{} names", image.names())?),
+        Err((parts, error)) if parts.names.len() == 2 && parts.units.len() == 1 => {
+            Ok(format!(in alloc; "{error:?}")?)
         }
+        Err(_) => Ok(String::from_str(alloc, "other parts")?),
     }
-    Ok(())
 }
 
 #[test]
-fn fields_of_instructions(rt: HostRuntime) {
-    let op = Instruction::Op { operator: 5 };
-    let test = Instruction::Test { test: 2, values: 2 };
-    let list = Instruction::MakeList { items: 3 };
-    let map = Instruction::MakeMap { entries: 3 };
-    let rows = [
-        ((13, 5, 0, 0), Some(op)),
-        ((13, 5, 1, 0), None),
-        ((13, 5, 0, 1), None),
-        ((15, 2, 2, 0), Some(test)),
-        ((15, 2, 2, 1), None),
-        ((16, 0, 0, 3), Some(list)),
-        ((16, 1, 0, 3), None),
-        ((16, 0, 1, 3), None),
-        ((17, 0, 0, 3), Some(map)),
-        ((17, 1, 0, 3), None),
-        ((17, 0, 1, 3), None),
-        ((14, 0, 1, 0), None),
-    ];
-    for (fields, want) in rows {
-        let (op, a, b, c) = fields;
-        let instr = Instr { op, a, b, c };
-        assert_eq!(rt; instr.instruction(), want, "{op}");
-        if let Some(instruction) = want {
-            assert_eq!(rt; instruction.wire(), instr);
+fn refuses_and_hands_back(rt: HostRuntime) -> Result<(), Fail> {
+    let alloc = rt.alloc();
+    rows_hold(
+        &rt,
+        |row| assembled(alloc, row),
+        r"1a 0b 0 0 4096 28 0 => 2 names
+        1a 0b 0 0 0 29 0 => BadOpcode
+        1a 0b 0 0 0 28 1 => BadOpcode
+        1a 0b 0 0 4097 28 0 => LimitPassed
+        1a 0b 1 0 1 28 0 => BadTable
+        1a 0b 0 1 0 28 0 => BadTable
+        1a 2b 0 0 0 28 0 => BadTable
+        1a 1b 0 0 0 28 0 => BadTable
+        1b 0a 0 0 0 28 0 => BadTable
+        1a 0a 0 0 0 28 0 => BadTable
+        1 0a 0 0 0 28 0 => BadTable",
+    )
+}
+
+/// The instruction of four fields, which has the same four.
+fn instruction_of(alloc: Global, asked: &str) -> Result<String, Fail> {
+    let words: Vec<&str> = asked.split(' ').collect(alloc)?;
+    let [op, a, b, c] = words.as_slice() else {
+        return Err(Fail::from("a row has not four fields"));
+    };
+    let instr = Instr {
+        op: op.parse::<u8>()?,
+        a: a.parse::<u8>()?,
+        b: b.parse::<u16>()?,
+        c: c.parse::<u32>()?,
+    };
+    match instr.instruction() {
+        Some(instruction) if instruction.wire() == instr => {
+            Ok(format!(in alloc; "{instruction:?}")?)
         }
+        Some(_) => Ok(String::from_str(alloc, "an instruction of other fields")?),
+        None => Ok(String::from_str(alloc, "none")?),
     }
+}
+
+#[test]
+fn fields_of_instructions(rt: HostRuntime) -> Result<(), Fail> {
+    let alloc = rt.alloc();
+    rows_hold(
+        &rt,
+        |row| instruction_of(alloc, row),
+        r"13 5 0 0 => Op { operator: 5 }
+        13 5 1 0 => none
+        13 5 0 1 => none
+        15 2 2 0 => Test { test: 2, values: 2 }
+        15 2 2 1 => none
+        16 0 0 3 => MakeList { items: 3 }
+        16 1 0 3 => none
+        16 0 1 3 => none
+        17 0 0 3 => MakeMap { entries: 3 }
+        17 1 0 3 => none
+        17 0 1 3 => none
+        14 0 1 0 => none",
+    )
 }

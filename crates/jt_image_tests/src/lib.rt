@@ -11,4 +11,6 @@ mod loops;
 #[cfg(test)]
 mod machine;
 #[cfg(test)]
+mod rows;
+#[cfg(test)]
 mod verify;

@@ -1,5 +1,6 @@
 //! Runs of small images with loops, captures and calls.
 
+use crate::rows::rows_hold;
 use jt_budget::Budget;
 use jt_image::{Constant, Image, Instruction, LoopField, Parts, Unit, assemble, decode};
 use jt_machine::{Outcome, run};
@@ -134,41 +135,58 @@ fn a_capture_is_no_loop(rt: HostRuntime) -> Result<(), Fail> {
     Ok(())
 }
 
+// The field of a loop of this name.
+fn field_of(alloc: Global, name: &str) -> Result<LoopField, Fail> {
+    for id in 0..=u8::MAX {
+        if let Some(field) = LoopField::by_id(id) {
+            let found = format!(in alloc; "{field:?}")?;
+            if found.as_str() == name {
+                return Ok(field);
+            }
+        }
+    }
+    Err(Fail::from("a row has no field"))
+}
+
+// What a loop over a and b prints of a field, and behind it whether there was no item.
+fn looped(alloc: Global, name: &str) -> Result<String, Fail> {
+    let field = field_of(alloc, name)?;
+    let code = [
+        Instruction::Const { constant: 0 },
+        Instruction::Const { constant: 1 },
+        Instruction::Op { operator: 0 },
+        Instruction::LoopStart,
+        Instruction::LoopNext { target: 8 },
+        Instruction::LoopGet {
+            field: field.id(),
+            above: 0,
+        },
+        Instruction::Emit { flag: 0 },
+        Instruction::Jump { target: 4 },
+        Instruction::LoopEnd,
+        Instruction::Emit { flag: 0 },
+        Instruction::Return,
+    ];
+    of_one(alloc, &code, AMPLE)
+}
+
 #[test]
 fn a_loop_prints_its_fields(rt: HostRuntime) -> Result<(), Fail> {
     let alloc = rt.alloc();
-    let rows = [
-        (LoopField::Item, "text abFalse"),
-        (LoopField::Index, "text 12False"),
-        (LoopField::Index0, "text 01False"),
-        (LoopField::RevIndex, "text 21False"),
-        (LoopField::RevIndex0, "text 10False"),
-        (LoopField::First, "text TrueFalseFalse"),
-        (LoopField::Last, "text FalseTrueFalse"),
-        (LoopField::Length, "text 22False"),
-        (LoopField::Previous, "text aFalse"),
-        (LoopField::Next, "text bFalse"),
-    ];
-    for (field, wanted) in rows {
-        let code = [
-            Instruction::Const { constant: 0 },
-            Instruction::Const { constant: 1 },
-            Instruction::Op { operator: 0 },
-            Instruction::LoopStart,
-            Instruction::LoopNext { target: 8 },
-            Instruction::LoopGet {
-                field: field.id(),
-                above: 0,
-            },
-            Instruction::Emit { flag: 0 },
-            Instruction::Jump { target: 4 },
-            Instruction::LoopEnd,
-            Instruction::Emit { flag: 0 },
-            Instruction::Return,
-        ];
-        assert_eq!(rt; of_one(alloc, &code, AMPLE)?.as_str(), wanted);
-    }
-    Ok(())
+    rows_hold(
+        &rt,
+        |row| looped(alloc, row),
+        r"Item => text abFalse
+        Index => text 12False
+        Index0 => text 01False
+        RevIndex => text 21False
+        RevIndex0 => text 10False
+        First => text TrueFalseFalse
+        Last => text FalseTrueFalse
+        Length => text 22False
+        Previous => text aFalse
+        Next => text bFalse",
+    )
 }
 
 #[test]

@@ -1,5 +1,6 @@
 //! Runs of small images.
 
+use crate::rows::rows_hold;
 use jt_budget::Budget;
 use jt_image::{Constant, Image, Instr, Parts, Unit, assemble, decode};
 use jt_machine::{Outcome, run};
@@ -239,26 +240,6 @@ fn two_values_of_a_context(rt: HostRuntime) -> Result<(), Fail> {
 // The fields of an instruction.
 type Fields = (u8, u8, u16, u32);
 
-const MINUS: Fields = (13, 1, 0, 0);
-
-const FLOOR: Fields = (13, 3, 0, 0);
-
-const NEGATE: Fields = (13, 6, 0, 0);
-
-const NOT: Fields = (13, 8, 0, 0);
-
-const EQUAL: Fields = (13, 11, 0, 0);
-
-const ITEM: Fields = (13, 18, 0, 0);
-
-const RANGE: Fields = (13, 19, 0, 0);
-
-const RANGE_BY_STEP: Fields = (13, 21, 0, 0);
-
-const EVEN: Fields = (15, 6, 1, 0);
-
-const DIVISIBLE: Fields = (15, 2, 2, 0);
-
 fn constant(index: u32) -> Fields {
     (1, 0, 0, index)
 }
@@ -269,6 +250,33 @@ fn list_of(count: u32) -> Fields {
 
 fn map_with(count: u32) -> Fields {
     (17, 0, 0, count)
+}
+
+// The fields of an instruction: `c3` puts the constant 3, `list2` and `map2` make a list and a map of so many, the others are
+// operators and tests.
+fn fields_of(word: &str) -> Result<Fields, Fail> {
+    if let Some(index) = word.strip_prefix("c") {
+        return Ok(constant(index.parse::<u32>()?));
+    }
+    if let Some(count) = word.strip_prefix("list") {
+        return Ok(list_of(count.parse::<u32>()?));
+    }
+    if let Some(count) = word.strip_prefix("map") {
+        return Ok(map_with(count.parse::<u32>()?));
+    }
+    match word {
+        "subtract" => Ok((13, 1, 0, 0)),
+        "floordivide" => Ok((13, 3, 0, 0)),
+        "negate" => Ok((13, 6, 0, 0)),
+        "not" => Ok((13, 8, 0, 0)),
+        "equal" => Ok((13, 11, 0, 0)),
+        "item" => Ok((13, 18, 0, 0)),
+        "range" => Ok((13, 19, 0, 0)),
+        "rangebystep" => Ok((13, 21, 0, 0)),
+        "divisibleby" => Ok((15, 2, 2, 0)),
+        "even" => Ok((15, 6, 1, 0)),
+        _ => Err(Fail::from("an instruction has no name")),
+    }
 }
 
 // The image that carries out some instructions and prints what they leave. The constants are the numbers 0 to 3, -7, the texts
@@ -316,91 +324,61 @@ fn printed(alloc: Global, instructions: &[Fields], budget: Budget) -> Result<Str
     outcome_of(alloc, image, &Context::new(alloc), budget)
 }
 
+// What a row prints: fuel, the limits of size and nesting, and instructions.
+fn printed_by(alloc: Global, asked: &str) -> Result<String, Fail> {
+    let words: Vec<&str> = asked.split(' ').collect(alloc)?;
+    let [fuel, size, nesting, rest @ ..] = words.as_slice() else {
+        return Err(Fail::from("a row has no budget"));
+    };
+    let budget = Budget {
+        fuel: fuel.parse::<u64>()?,
+        size: size.parse::<u32>()?,
+        nesting: nesting.parse::<u8>()?,
+        ..AMPLE
+    };
+    let mut instructions = Vec::new(alloc);
+    for word in rest {
+        instructions.push(fields_of(word)?)?;
+    }
+    printed(alloc, &instructions, budget)
+}
+
 #[test]
 fn operators_and_tests(rt: HostRuntime) -> Result<(), Fail> {
     let alloc = rt.alloc();
-    let subtract: &[Fields] = &[constant(1), constant(3), MINUS];
-    let floor: &[Fields] = &[constant(4), constant(2), FLOOR];
-    let zero: &[Fields] = &[constant(4), constant(0), FLOOR];
-    let text: &[Fields] = &[constant(4), constant(5), MINUS];
-    let negated: &[Fields] = &[constant(4), NEGATE];
-    let not: &[Fields] = &[constant(7), NOT];
-    let still: &[Fields] = &[constant(1), constant(2), constant(0), RANGE_BY_STEP];
-    let even: &[Fields] = &[constant(3), EVEN];
-    let divisible: &[Fields] = &[constant(2), constant(1), DIVISIBLE];
-    let by_zero: &[Fields] = &[constant(2), constant(0), DIVISIBLE];
-    for (instructions, fuel, wanted) in [
-        (subtract, 5, "text -2"),
-        (subtract, 4, "spent Fuel"),
-        (floor, 5, "text -4"),
-        (zero, 3, "fault ZeroDivide"),
-        (zero, 2, "spent Fuel"),
-        (text, 3, "fault BadType"),
-        (negated, 4, "text 7"),
-        (not, 4, "text True"),
-        (still, 4, "fault Range"),
-        (still, 3, "spent Fuel"),
-        (even, 4, "text False"),
-        (divisible, 5, "text True"),
-        (by_zero, 3, "fault ZeroDivide"),
-        (by_zero, 2, "spent Fuel"),
-    ] {
-        let found = printed(alloc, instructions, Budget { fuel, ..AMPLE })?;
-        assert_eq!(rt; found.as_str(), wanted);
-    }
-    Ok(())
+    rows_hold(
+        &rt,
+        |row| printed_by(alloc, row),
+        r"5 1000 32 c1 c3 subtract => text -2
+        4 1000 32 c1 c3 subtract => spent Fuel
+        5 1000 32 c4 c2 floordivide => text -4
+        3 1000 32 c4 c0 floordivide => fault ZeroDivide
+        2 1000 32 c4 c0 floordivide => spent Fuel
+        3 1000 32 c4 c5 subtract => fault BadType
+        4 1000 32 c4 negate => text 7
+        4 1000 32 c7 not => text True
+        4 1000 32 c1 c2 c0 rangebystep => fault Range
+        3 1000 32 c1 c2 c0 rangebystep => spent Fuel
+        4 1000 32 c3 even => text False
+        5 1000 32 c2 c1 divisibleby => text True
+        3 1000 32 c2 c0 divisibleby => fault ZeroDivide
+        2 1000 32 c2 c0 divisibleby => spent Fuel",
+    )
 }
 
 #[test]
 fn lists_and_maps(rt: HostRuntime) -> Result<(), Fail> {
     let alloc = rt.alloc();
-    let first: &[Fields] = &[constant(3), constant(1), list_of(2), constant(0), ITEM];
-    let later: &[Fields] = &[
-        constant(5),
-        constant(1),
-        constant(6),
-        constant(2),
-        constant(5),
-        constant(3),
-        map_with(3),
-        constant(5),
-        ITEM,
-    ];
-    let doubled: &[Fields] = &[
-        constant(5),
-        constant(1),
-        constant(6),
-        constant(2),
-        constant(5),
-        constant(3),
-        map_with(3),
-        constant(6),
-        constant(2),
-        constant(5),
-        constant(3),
-        map_with(2),
-        EQUAL,
-    ];
-    let number: &[Fields] = &[constant(1), constant(1), map_with(1)];
-    let undefined: &[Fields] = &[
-        constant(1),
-        constant(1),
-        constant(7),
-        constant(1),
-        map_with(2),
-    ];
-    let none: &[Fields] = &[map_with(0), list_of(0), EQUAL];
-    for (instructions, wanted) in [
-        (first, "text 3"),
-        (later, "text 3"),
-        (doubled, "text True"),
-        (number, "fault BadType"),
-        (undefined, "fault Undefined"),
-        (none, "text False"),
-    ] {
-        assert_eq!(rt; printed(alloc, instructions, AMPLE)?.as_str(), wanted);
-    }
-    Ok(())
+    rows_hold(
+        &rt,
+        |row| printed_by(alloc, row),
+        r"1000 1000 32 c3 c1 list2 c0 item => text 3
+        1000 1000 32 c5 c1 c6 c2 c5 c3 map3 c5 item => text 3
+        1000 1000 32 c5 c1 c6 c2 c5 c3 map3 c6 c2 c5 c3 map2 equal => text True
+        1000 1000 32 c1 c1 map1 => fault BadType
+        1000 1000 32 c1 c1 c7 c1 map2 => fault Undefined
+        1000 1000 32 map0 list0 equal => text False",
+    )
 }
 
 // A list costs 1 more for each 64 of its items' sizes; so does printing it, which it cannot be, for each 64 of its own.
@@ -429,23 +407,15 @@ fn making_costs_by_size(rt: HostRuntime) -> Result<(), Fail> {
 #[test]
 fn what_is_made_is_within_the_limits(rt: HostRuntime) -> Result<(), Fail> {
     let alloc = rt.alloc();
-    let range: &[Fields] = &[constant(3), RANGE, constant(2), ITEM];
-    let nested: &[Fields] = &[list_of(0), list_of(1), constant(0), ITEM];
-    for (instructions, size, nesting, wanted) in [
-        (range, 4, 1, "text 2"),
-        (range, 3, 1, "spent Size"),
-        (range, 3, 0, "spent Size"),
-        (range, 4, 0, "spent Nesting"),
-        (nested, 2, 2, "fault Unprintable"),
-        (nested, 1, 1, "spent Size"),
-        (nested, 2, 1, "spent Nesting"),
-    ] {
-        let budget = Budget {
-            size,
-            nesting,
-            ..AMPLE
-        };
-        assert_eq!(rt; printed(alloc, instructions, budget)?.as_str(), wanted);
-    }
-    Ok(())
+    rows_hold(
+        &rt,
+        |row| printed_by(alloc, row),
+        r"1000 4 1 c3 range c2 item => text 2
+        1000 3 1 c3 range c2 item => spent Size
+        1000 3 0 c3 range c2 item => spent Size
+        1000 4 0 c3 range c2 item => spent Nesting
+        1000 2 2 list0 list1 c0 item => fault Unprintable
+        1000 1 1 list0 list1 c0 item => spent Size
+        1000 2 1 list0 list1 c0 item => spent Nesting",
+    )
 }
