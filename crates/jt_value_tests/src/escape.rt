@@ -1,77 +1,66 @@
 //! Texts escaped and joined.
 
 use crate::rows::rows_hold;
+use crate::spelling::{shown, value};
 use jt_escape::{escape_into, join_markup, join_plain};
-use jt_value::{Fault, NoMemory, Value, ValueError};
+use jt_value::{Value, ValueError};
 use std::alloc::Global;
 use std::test::Fail;
 
-fn text(alloc: Global, text: &str) -> Result<Value, NoMemory> {
-    Value::text(alloc, text)
+/// The two values of a row: items and a separator.
+fn asked_of(alloc: Global, asked: &str) -> Result<(Value, Value), Fail> {
+    let (items, separator) = asked.split_once(" ").ok_or("a row has no separator")?;
+    Ok((value(alloc, items)?, value(alloc, separator)?))
 }
 
-fn markup(alloc: Global, text: &str) -> Result<Value, NoMemory> {
-    Value::markup(alloc, text)
-}
-
-/// The text, and whether it is markup.
-fn shown(value: &Value) -> Option<(bool, &str)> {
-    match value {
-        Value::Text(text) => Some((false, text.as_str())),
-        Value::Markup(text) => Some((true, text.as_str())),
-        _ => None,
+/// What a join gave.
+fn told(alloc: Global, joined: Result<Value, ValueError>) -> Result<String, Fail> {
+    match joined {
+        Ok(value) => Ok(shown(alloc, &Ok(value))?),
+        Err(error) => Ok(format!(in alloc; "{error}")?),
     }
+}
+
+/// The join of a row's items under autoescaping.
+fn joined(alloc: Global, asked: &str) -> Result<String, Fail> {
+    let (items, separator) = asked_of(alloc, asked)?;
+    let items = items.as_list().ok_or("a row has no list")?;
+    told(alloc, join_markup(alloc, items, &separator))
+}
+
+/// The join of a row's items without it.
+fn plainly_joined(alloc: Global, asked: &str) -> Result<String, Fail> {
+    let (items, separator) = asked_of(alloc, asked)?;
+    let items = items.as_list().ok_or("a row has no list")?;
+    told(alloc, join_plain(alloc, items, &separator))
 }
 
 #[test]
 fn joins_under_autoescaping(rt: HostRuntime) -> Result<(), Fail> {
-    let alloc = rt.alloc();
-    let plain = [text(alloc, "a")?, text(alloc, "<")?];
-    let mixed = [
-        text(alloc, "<")?,
-        markup(alloc, "<")?,
-        Value::Int(-7),
-        Value::None,
-    ];
-    for (separator, is_mixed, is_markup, joined) in [
-        (text(alloc, "&")?, false, false, "a&<"),
-        (markup(alloc, "&")?, false, true, "a&&lt;"),
-        (text(alloc, "")?, true, true, "&lt;<-7None"),
-        (text(alloc, "&")?, true, true, "&lt;&amp;<&amp;-7&amp;None"),
-    ] {
-        let items = if is_mixed {
-            mixed.as_slice()
-        } else {
-            plain.as_slice()
-        };
-        let value = join_markup(alloc, items, &separator)?;
-        assert_eq!(rt; shown(&value), Some((is_markup, joined)));
-    }
-    let nothing = join_markup(alloc, &[], &text(alloc, "&")?)?;
-    assert_eq!(rt; shown(&nothing), Some((false, "")));
-    Ok(())
+    rows_hold(
+        &rt,
+        joined,
+        r"lta,t< t& => ta&<
+        lta,t< m& => ma&&lt;
+        lt<,m<,n-7,0 t => m&lt;<-7None
+        lt<,m<,n-7,0 t& => m&lt;&amp;<&amp;-7&amp;None
+        l t& => t
+        l l => F5 Unprintable",
+    )
 }
 
+// The separator is a comma and a blank.
 #[test]
 fn joins_plainly(rt: HostRuntime) -> Result<(), Fail> {
-    let alloc = rt.alloc();
-    let items = [markup(alloc, "<")?, Value::Undefined, Value::Bool(true)];
-    let value = join_plain(alloc, &items, &text(alloc, ", ")?)?;
-    assert_eq!(rt; shown(&value), Some((false, "<, , True")));
-    Ok(())
+    rows_hold(&rt, plainly_joined, "lm<,u,+ t,  => t<, , True")
 }
 
 #[test]
 fn asks_for_each_text(rt: HostRuntime) -> Result<(), Fail> {
     let alloc = rt.alloc();
-    let list = Value::list(alloc, Vec::new(alloc))?;
-    let unprintable = Some(ValueError::Fault(Fault::Unprintable));
-    assert_eq!(rt; join_markup(alloc, &[], &list).err(), unprintable);
-    let items = [Value::Int(1), list];
-    assert_eq!(rt;
-        join_plain(alloc, &items, &text(alloc, ",")?).err(),
-        unprintable
-    );
+    let items = [Value::Int(1), value(alloc, "l")?];
+    let joined = join_plain(alloc, &items, &value(alloc, "t,")?);
+    assert_eq!(rt; told(alloc, joined)?.as_str(), "F5 Unprintable");
     Ok(())
 }
 
@@ -88,7 +77,7 @@ fn escapes_the_five_characters(rt: HostRuntime) -> Result<(), Fail> {
     assert_eq!(rt; escaped(alloc, "")?.as_str(), ">");
     rows_hold(
         &rt,
-        |row| escaped(alloc, row),
+        escaped,
         r#"<b id="x">'&'</b> => >&lt;b id=&#34;x&#34;&gt;&#39;&amp;&#39;&lt;/b&gt;
         &lt; => >&amp;lt;
         größer als 3 € => >größer als 3 €

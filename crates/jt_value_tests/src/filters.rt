@@ -48,7 +48,7 @@ fn filters(rt: HostRuntime) -> Result<(), Fail> {
     assert_eq!(rt; trimmed.as_str(), "ma");
     rows_hold(
         &rt,
-        |row| filtered(alloc, row),
+        filtered,
         r"abs n-3 => n3
         abs n-9223372036854775808 => F3 Overflow
         abs u => F2 Undefined
@@ -112,10 +112,9 @@ fn filters(rt: HostRuntime) -> Result<(), Fail> {
 
 #[test]
 fn limits(rt: HostRuntime) -> Result<(), Fail> {
-    let alloc = rt.alloc();
     rows_hold(
         &rt,
-        |row| limited(alloc, row),
+        limited,
         r"5 1 list tab => lta,tb
         4 0 list tab => too large
         5 0 list tab => too deep

@@ -43,10 +43,9 @@ fn answer_of_two(alloc: Global, asked: &str) -> Result<String, Fail> {
 
 #[test]
 fn operators_of_two(rt: HostRuntime) -> Result<(), Fail> {
-    let alloc = rt.alloc();
     rows_hold(
         &rt,
-        |row| answer_of_two(alloc, row),
+        answer_of_two,
         r"Add n2 n3 => n5
         Add n9223372036854775807 n1 => F3 Overflow
         Add t< m<b> => m&lt;<b>
@@ -139,10 +138,9 @@ fn answer_of_one(alloc: Global, asked: &str) -> Result<String, Fail> {
 
 #[test]
 fn operators_of_one(rt: HostRuntime) -> Result<(), Fail> {
-    let alloc = rt.alloc();
     rows_hold(
         &rt,
-        |row| answer_of_one(alloc, row),
+        answer_of_one,
         r"Negate n5 => n-5
         Negate n-9223372036854775808 => F3 Overflow
         Plus n5 => n5
@@ -164,10 +162,9 @@ fn ranged(alloc: Global, spellings: &str) -> Result<String, Fail> {
 
 #[test]
 fn ranges(rt: HostRuntime) -> Result<(), Fail> {
-    let alloc = rt.alloc();
     rows_hold(
         &rt,
-        |row| ranged(alloc, row),
+        ranged,
         r"n0 n5 n2 => ln0,n2,n4
         n5 n0 n-2 => ln5,n3,n1
         n0 n5 n-1 => l
@@ -205,10 +202,9 @@ fn tested(alloc: Global, asked: &str) -> Result<String, Fail> {
 
 #[test]
 fn tests(rt: HostRuntime) -> Result<(), Fail> {
-    let alloc = rt.alloc();
     rows_hold(
         &rt,
-        |row| tested(alloc, row),
+        tested,
         r"boolean - => true
         defined u => false
         escaped ma => true

@@ -1,9 +1,9 @@
 //! Rows from the language's rules, and each call that allocates with ample memory.
 
 use crate::rows::rows_hold;
-use crate::spelling::value;
+use crate::spelling::{shown, value};
 use jt_value::{Context, Fault, NoMemory, Value, ValueError};
-use std::alloc::Global;
+use std::alloc::{AllocError, Global};
 use std::test::Fail;
 
 /// The two values of a row.
@@ -26,7 +26,7 @@ fn equality(rt: HostRuntime) -> Result<(), Fail> {
     assert!(rt; list.equals(&list));
     rows_hold(
         &rt,
-        |row| equated(alloc, row),
+        equated,
         r"n1 + => true
         - n0 => true
         + n2 => false
@@ -55,10 +55,9 @@ fn compared(alloc: Global, spellings: &str) -> Result<String, Fail> {
 
 #[test]
 fn order(rt: HostRuntime) -> Result<(), Fail> {
-    let alloc = rt.alloc();
     rows_hold(
         &rt,
-        |row| compared(alloc, row),
+        compared,
         r"n-2 n1 => Ok(Less)
         n3 n3 => Ok(Equal)
         tz mé => Ok(Less)
@@ -82,10 +81,9 @@ fn told(alloc: Global, spelling: &str) -> Result<String, Fail> {
 
 #[test]
 fn truth_and_printed_text(rt: HostRuntime) -> Result<(), Fail> {
-    let alloc = rt.alloc();
     rows_hold(
         &rt,
-        |row| told(alloc, row),
+        told,
         r"u => false ''
         0 => false 'None'
         + => true 'True'
@@ -129,8 +127,14 @@ fn contexts(rt: HostRuntime) -> Result<(), Fail> {
     Ok(())
 }
 
+/// How a fault prints, alone and as why a value has no text.
+fn printed_fault(alloc: Global, fault: Fault) -> Result<String, AllocError> {
+    let error = ValueError::Fault(fault);
+    format!(in alloc; "{fault} {error};")
+}
+
 #[test]
-fn refusals_print(rt: HostRuntime) -> Result<(), Fail> {
+fn faults_print(rt: HostRuntime) -> Result<(), Fail> {
     let alloc = rt.alloc();
     let faults = [
         Fault::BadType,
@@ -145,17 +149,18 @@ fn refusals_print(rt: HostRuntime) -> Result<(), Fail> {
     ];
     let mut told = String::new(alloc);
     for fault in faults {
-        let text = fault.to_string(alloc)?;
-        assert_eq!(rt;
-            ValueError::Fault(fault).to_string(alloc)?.as_str(),
-            text.as_str()
-        );
-        told.push_str(text.as_str())?;
-        told.push(';')?;
+        told.push_str(&printed_fault(alloc, fault)?)?;
     }
-    let wanted =
-        "F1 BadType;F2 Undefined;F3 Overflow;F4 ZeroDivide;F5 Unprintable;F6 NotIterable;F7 Unpack;F8 Range;F9 BadArgument;";
-    assert_eq!(rt; told.as_str(), wanted);
+    assert_eq!(rt;
+        told.as_str(),
+        "F1 BadType F1 BadType;F2 Undefined F2 Undefined;F3 Overflow F3 Overflow;F4 ZeroDivide F4 ZeroDivide;F5 Unprintable F5 Unprintable;F6 NotIterable F6 NotIterable;F7 Unpack F7 Unpack;F8 Range F8 Range;F9 BadArgument F9 BadArgument;"
+    );
+    Ok(())
+}
+
+#[test]
+fn want_of_memory_prints(rt: HostRuntime) -> Result<(), Fail> {
+    let alloc = rt.alloc();
     assert_eq!(rt; NoMemory.to_string(alloc)?.as_str(), "no memory");
     assert_eq!(rt;
         ValueError::NoMemory.to_string(alloc)?.as_str(),
@@ -165,23 +170,30 @@ fn refusals_print(rt: HostRuntime) -> Result<(), Fail> {
 }
 
 #[test]
-fn payloads(rt: HostRuntime) -> Result<(), Fail> {
+fn what_a_list_holds(rt: HostRuntime) -> Result<(), Fail> {
     let alloc = rt.alloc();
-    let mut items = Vec::new(alloc);
-    items.push(Value::text(alloc, "a")?)?;
-    items.push(Value::from_markup(String::from_str(alloc, "<b>")?)?)?;
-    let list = Value::list(alloc, items)?;
+    let list = value(alloc, "lta,m<b>")?;
+    assert!(rt; list.as_map().is_none() && list.as_text().is_none());
     let copy = list.try_clone(alloc)?;
-    let texts: Vec<Option<&str>> = match copy.as_list() {
-        Some(items) => items.iter().map(|item| item.as_text()).collect(alloc)?,
-        None => Vec::new(alloc),
-    };
-    assert!(rt; texts.as_slice() == [Some("a"), Some("<b>")].as_slice());
-    let map = value(alloc, "kk=n1,l=n2,k=n3")?;
+    assert_eq!(rt; shown(alloc, &Ok(copy))?.as_str(), "lta,m<b>");
+    Ok(())
+}
+
+#[test]
+fn what_a_map_holds(rt: HostRuntime) -> Result<(), Fail> {
+    let map = value(rt.alloc(), "kk=n1,l=n2,k=n3")?;
     assert_eq!(rt; map.size(), 7);
     assert!(rt; matches!(map.as_map(), Some([(_, Value::Int(3)), (_, Value::Int(2))])));
-    assert!(rt; map.as_list().is_none() && list.as_map().is_none() && list.as_text().is_none());
-    let plain = Value::from_text(String::from_str(alloc, "a")?)?;
-    assert!(rt; plain.equals(&Value::text(alloc, "a")?));
+    assert!(rt; map.as_list().is_none());
+    Ok(())
+}
+
+#[test]
+fn values_of_strings(rt: HostRuntime) -> Result<(), Fail> {
+    let alloc = rt.alloc();
+    let plain = Value::from_text(String::from_str(alloc, "a")?);
+    assert_eq!(rt; shown(alloc, &Ok(plain?))?.as_str(), "ta");
+    let marked = Value::from_markup(String::from_str(alloc, "<b>")?);
+    assert_eq!(rt; shown(alloc, &Ok(marked?))?.as_str(), "m<b>");
     Ok(())
 }
