@@ -3,6 +3,7 @@
 use crate::rows::rows_hold;
 use crate::spelling::{shown, value, values};
 use jt_ops::{Limits, OpId, TestId, binary, binary_owned, range, test, unary};
+use jt_value::Value;
 use std::alloc::Global;
 use std::test::Fail;
 
@@ -24,105 +25,123 @@ fn operator(alloc: Global, name: &str) -> Result<OpId, Fail> {
     Err(Fail::from("a row has no operator"))
 }
 
-/// What an operator of two operands answers, of operands that are kept and of operands that nothing else needs.
-fn answer_of_two(alloc: Global, asked: &str) -> Result<String, Fail> {
+/// The operator and the two operands of a row.
+fn asked_of_two(alloc: Global, asked: &str) -> Result<(OpId, Value, Value), Fail> {
     let (name, operands) = asked.split_once(" ").ok_or("a row has no operands")?;
     let (left, right) = operands.split_once(" ").ok_or("a row has one operand")?;
-    let op = operator(alloc, name)?;
+    Ok((
+        operator(alloc, name)?,
+        value(alloc, left)?,
+        value(alloc, right)?,
+    ))
+}
+
+/// What an operator of two operands answers.
+fn answer_of_two(alloc: Global, asked: &str) -> Result<String, Fail> {
+    let (op, left, right) = asked_of_two(alloc, asked)?;
     if !op.takes(2) {
         return Ok(String::from_str(alloc, "another number of operands")?);
     }
-    let (left, right) = (value(alloc, left)?, value(alloc, right)?);
-    let kept = shown(alloc, &binary(alloc, op, &left, &right, WIDE))?;
-    let owned = shown(alloc, &binary_owned(alloc, op, left, right, WIDE))?;
-    if owned.as_str() == kept.as_str() {
-        return Ok(kept);
-    }
-    Ok(format!(in alloc; "{kept}, and owned {owned}")?)
+    Ok(shown(alloc, &binary(alloc, op, &left, &right, WIDE))?)
 }
+
+/// The same of operands that nothing else needs.
+fn owned_answer(alloc: Global, asked: &str) -> Result<String, Fail> {
+    let (op, left, right) = asked_of_two(alloc, asked)?;
+    if !op.takes(2) {
+        return Ok(String::from_str(alloc, "another number of operands")?);
+    }
+    Ok(shown(alloc, &binary_owned(alloc, op, left, right, WIDE))?)
+}
+
+const ROWS_OF_TWO: &str = r"Add n2 n3 => n5
+    Add n9223372036854775807 n1 => F3 Overflow
+    Add t< m<b> => m&lt;<b>
+    Add m<b> t< => m<b>&lt;
+    Add m< m> => m<>
+    Add t< t> => t<>
+    Add ln1 ln2 => ln1,n2
+    Add n1 t1 => F1 BadType
+    Add n1 u => F2 Undefined
+    Subtract n2 n3 => n-1
+    Multiply t=- n3 => t=-=-=-
+    Multiply m< n2 => m<<
+    Multiply ta n-1 => t
+    Multiply n2 ta => F1 BadType
+    Multiply ta n9223372036854775807 => too large
+    Multiply t n9223372036854775807 => t
+    FloorDivide n-7 n2 => n-4
+    FloorDivide n7 n-2 => n-4
+    FloorDivide n1 n0 => F4 ZeroDivide
+    FloorDivide n-9223372036854775808 n-1 => F3 Overflow
+    Remainder n-7 n3 => n2
+    Remainder n7 n-3 => n-2
+    Remainder n-9223372036854775808 n-1 => n0
+    Remainder n1 n0 => F4 ZeroDivide
+    Power n2 n3 => n8
+    Power n0 n0 => n1
+    Power n-2 n63 => n-9223372036854775808
+    Power n2 n1000000000000 => F3 Overflow
+    Power n-1 n1000000000001 => n-1
+    Power n2 n-1 => F1 BadType
+    Join t< m> => t<>
+    Join n1 + => t1True
+    Join u 0 => tNone
+    Join n1 ln1 => F5 Unprintable
+    JoinEscaping t< m<b> => m&lt;<b>
+    JoinEscaping m<b> n1 => m<b>1
+    JoinEscaping t< t> => t<>
+    Equal n1 + => +
+    NotEqual ta ma => -
+    Less n1 n2 => +
+    LessOrEqual tb ma => -
+    Greater n1 u => F2 Undefined
+    GreaterOrEqual n1 t1 => F1 BadType
+    In tb mabc => +
+    In t t => +
+    In n1 ln1 => +
+    In n7 kk=n7 => -
+    In tk kk=n7 => +
+    In u kk=n7 => -
+    In u 0 => F6 NotIterable
+    In u tabc => F2 Undefined
+    In n1 tabc => F1 BadType
+    Item kk=n7 tk => n7
+    Item kk=n7 tx => u
+    Item ln7 n-1 => n7
+    Item ln7 n1 => u
+    Item maéb n1 => té
+    Item taéb n-3 => ta
+    Item ta n-2 => u
+    Item u n0 => F2 Undefined
+    Item n1 tk => u
+    RangeFromStart n2 n4 => ln2,n3";
 
 #[test]
 fn operators_of_two(rt: HostRuntime) -> Result<(), Fail> {
-    rows_hold(
-        &rt,
-        answer_of_two,
-        r"Add n2 n3 => n5
-        Add n9223372036854775807 n1 => F3 Overflow
-        Add t< m<b> => m&lt;<b>
-        Add m<b> t< => m<b>&lt;
-        Add m< m> => m<>
-        Add t< t> => t<>
-        Add ln1 ln2 => ln1,n2
-        Add n1 t1 => F1 BadType
-        Add n1 u => F2 Undefined
-        Subtract n2 n3 => n-1
-        Multiply t=- n3 => t=-=-=-
-        Multiply m< n2 => m<<
-        Multiply ta n-1 => t
-        Multiply n2 ta => F1 BadType
-        Multiply ta n9223372036854775807 => too large
-        Multiply t n9223372036854775807 => t
-        FloorDivide n-7 n2 => n-4
-        FloorDivide n7 n-2 => n-4
-        FloorDivide n1 n0 => F4 ZeroDivide
-        FloorDivide n-9223372036854775808 n-1 => F3 Overflow
-        Remainder n-7 n3 => n2
-        Remainder n7 n-3 => n-2
-        Remainder n-9223372036854775808 n-1 => n0
-        Remainder n1 n0 => F4 ZeroDivide
-        Power n2 n3 => n8
-        Power n0 n0 => n1
-        Power n-2 n63 => n-9223372036854775808
-        Power n2 n1000000000000 => F3 Overflow
-        Power n-1 n1000000000001 => n-1
-        Power n2 n-1 => F1 BadType
-        Join t< m> => t<>
-        Join n1 + => t1True
-        Join u 0 => tNone
-        Join n1 ln1 => F5 Unprintable
-        JoinEscaping t< m<b> => m&lt;<b>
-        JoinEscaping m<b> n1 => m<b>1
-        JoinEscaping t< t> => t<>
-        Equal n1 + => +
-        NotEqual ta ma => -
-        Less n1 n2 => +
-        LessOrEqual tb ma => -
-        Greater n1 u => F2 Undefined
-        GreaterOrEqual n1 t1 => F1 BadType
-        In tb mabc => +
-        In t t => +
-        In n1 ln1 => +
-        In n7 kk=n7 => -
-        In tk kk=n7 => +
-        In u kk=n7 => -
-        In u 0 => F6 NotIterable
-        In u tabc => F2 Undefined
-        In n1 tabc => F1 BadType
-        Item kk=n7 tk => n7
-        Item kk=n7 tx => u
-        Item ln7 n-1 => n7
-        Item ln7 n1 => u
-        Item maéb n1 => té
-        Item taéb n-3 => ta
-        Item ta n-2 => u
-        Item u n0 => F2 Undefined
-        Item n1 tk => u
-        RangeFromStart n2 n4 => ln2,n3",
-    )
+    rows_hold(&rt, answer_of_two, ROWS_OF_TWO)
 }
 
-/// A value that another one shares keeps its items, whichever is the left operand.
+#[test]
+fn operators_of_owned_values(rt: HostRuntime) -> Result<(), Fail> {
+    rows_hold(&rt, owned_answer, ROWS_OF_TWO)
+}
+
+/// What a sum of two values gives where another one shares the left operand, and what that one then holds.
+fn shared_sum(alloc: Global, spellings: &str) -> Result<String, Fail> {
+    let (left, right) = spellings.split_once(" ").ok_or("a row has one operand")?;
+    let left = value(alloc, left)?;
+    let kept = left.try_clone(alloc)?;
+    let sum = binary_owned(alloc, OpId::Add, left, value(alloc, right)?, WIDE);
+    let sum = shown(alloc, &sum)?;
+    let kept = shown(alloc, &Ok(kept))?;
+    Ok(format!(in alloc; "{sum} {kept}")?)
+}
+
+/// A value that another one shares keeps its items.
 #[test]
 fn shared_operands(rt: HostRuntime) -> Result<(), Fail> {
-    let alloc = rt.alloc();
-    let one = value(alloc, "ln1")?;
-    let kept = one.try_clone(alloc)?;
-    let two = value(alloc, "ln2")?;
-    let sum = shown(alloc, &binary_owned(alloc, OpId::Add, one, two, WIDE))?;
-    assert_eq!(rt; sum.as_str(), "ln1,n2");
-    let text = shown(alloc, &Ok(kept))?;
-    assert_eq!(rt; text.as_str(), "ln1");
-    Ok(())
+    rows_hold(&rt, shared_sum, "ln1 ln2 => ln1,n2 ln1")
 }
 
 /// What an operator of one operand answers.

@@ -1,7 +1,7 @@
 //! Rows from the language's rules, and each call that allocates with ample memory.
 
 use crate::rows::rows_hold;
-use crate::spelling::{shown, value};
+use crate::spelling::{shown, value, values};
 use jt_value::{Context, Fault, NoMemory, Value, ValueError};
 use std::alloc::{AllocError, Global};
 use std::test::Fail;
@@ -96,35 +96,51 @@ fn truth_and_printed_text(rt: HostRuntime) -> Result<(), Fail> {
     )
 }
 
+/// The size and the nesting of a list of values, and whether a copy of it is equal.
+fn measured(alloc: Global, spellings: &str) -> Result<String, Fail> {
+    let tree = Value::list(alloc, values(alloc, spellings)?)?;
+    let (size, nesting) = (tree.size(), tree.nesting());
+    let is_equal = tree.try_clone(alloc)?.equals(&tree);
+    Ok(format!(in alloc; "{size} {nesting} {is_equal}")?)
+}
+
 #[test]
 fn size_nesting_and_copies(rt: HostRuntime) -> Result<(), Fail> {
-    let alloc = rt.alloc();
-    let mut outer = Vec::new(alloc);
-    outer.push(value(alloc, "kab=n1")?)?;
-    outer.push(Value::text(alloc, "é")?)?;
-    let tree = Value::list(alloc, outer)?;
-    assert_eq!(rt; tree.size(), 9);
-    assert_eq!(rt; tree.nesting(), 2);
-    let copy = tree.try_clone(alloc)?;
-    assert!(rt; copy.equals(&tree));
-    assert_eq!(rt; value(alloc, "l")?.nesting(), 1);
-    Ok(())
+    assert_eq!(rt; value(rt.alloc(), "l")?.nesting(), 1);
+    rows_hold(&rt, measured, "kab=n1 té => 9 2 true")
+}
+
+/// The context of pairs of a name and a value, in turn.
+fn context(alloc: Global, pairs: &[(&str, i64)]) -> Result<Context, Fail> {
+    let mut context = Context::new(alloc);
+    for (name, number) in pairs {
+        let name = String::from_str(alloc, name)?;
+        if context.insert(name, Value::Int(*number)).is_err() {
+            return Err(Fail::from("no memory"));
+        }
+    }
+    Ok(context)
+}
+
+/// What a context has of a name.
+fn looked_up(alloc: Global, name: &str) -> Result<String, Fail> {
+    let context = context(alloc, &[("a", 1), ("b", 2), ("a", 3)])?;
+    match context.get(name) {
+        Some(Value::Int(number)) => Ok(format!(in alloc; "{number}")?),
+        Some(_) => Ok(String::from_str(alloc, "no number")?),
+        None => Ok(String::from_str(alloc, "none")?),
+    }
 }
 
 #[test]
 fn contexts(rt: HostRuntime) -> Result<(), Fail> {
-    let alloc = rt.alloc();
-    let mut context = Context::new(alloc);
-    for (name, number) in [("a", 1), ("b", 2), ("a", 3)] {
-        let name = String::from_str(alloc, name)?;
-        assert!(rt; context.insert(name, Value::Int(number)).is_ok());
-    }
-    for (name, number) in [("a", 3), ("b", 2)] {
-        let found = context.get(name).ok_or("missing")?;
-        assert!(rt; found.equals(&Value::Int(number)));
-    }
-    assert!(rt; context.get("c").is_none());
-    Ok(())
+    rows_hold(
+        &rt,
+        looked_up,
+        r"a => 3
+        b => 2
+        c => none",
+    )
 }
 
 /// How a fault prints, alone and as why a value has no text.
@@ -169,31 +185,46 @@ fn want_of_memory_prints(rt: HostRuntime) -> Result<(), Fail> {
     Ok(())
 }
 
+/// The copy of a list, which is no map and no text.
+fn copied(alloc: Global, spelling: &str) -> Result<String, Fail> {
+    let list = value(alloc, spelling)?;
+    if list.as_map().is_some() || list.as_text().is_some() {
+        return Ok(String::from_str(alloc, "no list alone")?);
+    }
+    Ok(shown(alloc, &Ok(list.try_clone(alloc)?))?)
+}
+
 #[test]
 fn what_a_list_holds(rt: HostRuntime) -> Result<(), Fail> {
-    let alloc = rt.alloc();
-    let list = value(alloc, "lta,m<b>")?;
-    assert!(rt; list.as_map().is_none() && list.as_text().is_none());
-    let copy = list.try_clone(alloc)?;
-    assert_eq!(rt; shown(alloc, &Ok(copy))?.as_str(), "lta,m<b>");
-    Ok(())
+    rows_hold(&rt, copied, "lta,m<b> => lta,m<b>")
 }
 
 #[test]
 fn what_a_map_holds(rt: HostRuntime) -> Result<(), Fail> {
     let map = value(rt.alloc(), "kk=n1,l=n2,k=n3")?;
-    assert_eq!(rt; map.size(), 7);
+    assert!(rt; map.size() == 7 && map.as_list().is_none());
     assert!(rt; matches!(map.as_map(), Some([(_, Value::Int(3)), (_, Value::Int(2))])));
-    assert!(rt; map.as_list().is_none());
     Ok(())
+}
+
+/// The text or the markup of a string, as `t` or `m` in front of it says.
+fn made_of_string(alloc: Global, asked: &str) -> Result<String, Fail> {
+    let (kind, text) = asked.split_once(" ").ok_or("a row has no text")?;
+    let text = String::from_str(alloc, text)?;
+    let made = if kind == "m" {
+        Value::from_markup(text)
+    } else {
+        Value::from_text(text)
+    };
+    Ok(shown(alloc, &Ok(made?))?)
 }
 
 #[test]
 fn values_of_strings(rt: HostRuntime) -> Result<(), Fail> {
-    let alloc = rt.alloc();
-    let plain = Value::from_text(String::from_str(alloc, "a")?);
-    assert_eq!(rt; shown(alloc, &Ok(plain?))?.as_str(), "ta");
-    let marked = Value::from_markup(String::from_str(alloc, "<b>")?);
-    assert_eq!(rt; shown(alloc, &Ok(marked?))?.as_str(), "m<b>");
-    Ok(())
+    rows_hold(
+        &rt,
+        made_of_string,
+        r"t a => ta
+        m <b> => m<b>",
+    )
 }
