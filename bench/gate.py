@@ -101,8 +101,8 @@ def table(crates):
     yield "|---|---|---|---|---|---|---|---|"
     for name, costs in crates.items():
         cells = [costs.get(it, "") for it in ("lines", "proof", "tests", "edits", "first", "edit")]
-        yield f"| {name} | {' | '.join(f'{it}' for it in cells)} | {all_edits(costs) or '':.4} |".replace(".0 ", " ")
-    proofs, tests, every = (sum(it.get(what, 0) for it in crates.values()) / 60 for what in ("proof", "tests", "all"))
+        yield f"| {' | '.join(str(it) for it in [name, *cells, round(all_edits(costs)) or ''])} |"
+    proofs, tests = (sum(it.get(what, 0) for it in crates.values()) / 60 for what in ("proof", "tests"))
     every = sum(map(all_edits, crates.values())) / 60
     yield ""
     yield f"Proofs {proofs:.0f}, tests {tests:.0f} and all edits {every:.0f} minutes of processor time: {proofs + tests + every:.0f}."
