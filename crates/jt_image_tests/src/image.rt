@@ -1,6 +1,6 @@
 //! The image of 44 bytes that prints `x`, whole and damaged.
 
-use crate::rows::rows_hold;
+use crate::rows::{numbers, rows_hold};
 use jt_image::*;
 use std::alloc::Global;
 use std::test::*;
@@ -52,10 +52,11 @@ fn beginnings_are_cut_off(rt: HostRuntime) {
 
 /// What the image is with the byte at a place changed to another value.
 fn changed(alloc: Global, asked: &str) -> Result<String, Fail> {
-    let (at, value) = asked.split_once(" ").ok_or("a row has no value")?;
-    let (at, value) = (at.parse::<usize>()?, value.parse::<u8>()?);
+    let [at, value] = numbers::<2>(asked)?;
     let mut bytes = X;
-    *bytes.get_mut(at).ok_or("a row has no place")? = value;
+    *bytes
+        .get_mut(usize::try_from(at)?)
+        .ok_or("a row has no place")? = u8::try_from(value)?;
     match decode(alloc, &bytes) {
         Ok(_) => Ok(String::from_str(alloc, "an image")?),
         Err(error) => Ok(format!(in alloc; "{error:?}")?),
@@ -64,10 +65,9 @@ fn changed(alloc: Global, asked: &str) -> Result<String, Fail> {
 
 #[test]
 fn one_byte_changed(rt: HostRuntime) -> Result<(), Fail> {
-    let alloc = rt.alloc();
     rows_hold(
         &rt,
-        |row| changed(alloc, row),
+        changed,
         r"0 75 => BadMagic
         5 1 => BadVersion
         8 1 => BadTable
@@ -132,31 +132,38 @@ fn entry(alloc: Global, spelling: &str) -> Result<(u16, String), Fail> {
     Ok((slot.parse::<u16>()?, String::from_str(alloc, name)?))
 }
 
-/// What is assembled of two entries of the table of names, the numbers of a unit, and the opcode and field c of its last
-/// instruction: how many names the image has, or why there is none.
-fn assembled(alloc: Global, asked: &str) -> Result<String, Fail> {
-    let words: Vec<&str> = asked.split(' ').collect(alloc)?;
-    let [first, second, parameters, kind, locals, op, c] = words.as_slice() else {
-        return Err(Fail::from("a row has not seven words"));
-    };
-    let numbers = (
-        parameters.parse::<u8>()?,
-        kind.parse::<u8>()?,
-        locals.parse::<u16>()?,
-    );
+/// A unit of a row's numbers: parameters, kind, locals, and the opcode and field c of the last instruction.
+fn unit_of(alloc: Global, asked: &str) -> Result<Unit, Fail> {
+    let [parameters, kind, locals, op, c] = numbers::<5>(asked)?;
     let last = Instr {
-        op: op.parse::<u8>()?,
+        op: u8::try_from(op)?,
         a: 0,
         b: 0,
-        c: c.parse::<u32>()?,
+        c: u32::try_from(c)?,
     };
-    let parts = Parts {
+    let numbers = (
+        u8::try_from(parameters)?,
+        u8::try_from(kind)?,
+        u16::try_from(locals)?,
+    );
+    text_unit(alloc, numbers, last)
+}
+
+/// The parts of a row: two names and a unit.
+fn parts_of(alloc: Global, asked: &str) -> Result<Parts, Fail> {
+    let (first, rest) = asked.split_once(" ").ok_or("a row has no name")?;
+    let (second, unit) = rest.split_once(" ").ok_or("a row has one name")?;
+    Ok(Parts {
         globals: 2,
         names: vec![in alloc; entry(alloc, first)?, entry(alloc, second)?]?,
         constants: Vec::new(alloc),
-        units: vec![in alloc; text_unit(alloc, numbers, last)?]?,
-    };
-    match assemble(alloc, parts) {
+        units: vec![in alloc; unit_of(alloc, unit)?]?,
+    })
+}
+
+/// What is assembled of a row's parts: how many names the image has, or why there is none.
+fn assembled(alloc: Global, asked: &str) -> Result<String, Fail> {
+    match assemble(alloc, parts_of(alloc, asked)?) {
         Ok(image) => Ok(format!(in alloc; "{} names", image.names())?),
         Err((parts, error)) if parts.names.len() == 2 && parts.units.len() == 1 => {
             Ok(format!(in alloc; "{error:?}")?)
@@ -167,10 +174,9 @@ fn assembled(alloc: Global, asked: &str) -> Result<String, Fail> {
 
 #[test]
 fn refuses_and_hands_back(rt: HostRuntime) -> Result<(), Fail> {
-    let alloc = rt.alloc();
     rows_hold(
         &rt,
-        |row| assembled(alloc, row),
+        assembled,
         r"1a 0b 0 0 4096 28 0 => 2 names
         1a 0b 0 0 0 29 0 => BadOpcode
         1a 0b 0 0 0 28 1 => BadOpcode
@@ -187,15 +193,12 @@ fn refuses_and_hands_back(rt: HostRuntime) -> Result<(), Fail> {
 
 /// The instruction of four fields, which has the same four.
 fn instruction_of(alloc: Global, asked: &str) -> Result<String, Fail> {
-    let words: Vec<&str> = asked.split(' ').collect(alloc)?;
-    let [op, a, b, c] = words.as_slice() else {
-        return Err(Fail::from("a row has not four fields"));
-    };
+    let [op, a, b, c] = numbers::<4>(asked)?;
     let instr = Instr {
-        op: op.parse::<u8>()?,
-        a: a.parse::<u8>()?,
-        b: b.parse::<u16>()?,
-        c: c.parse::<u32>()?,
+        op: u8::try_from(op)?,
+        a: u8::try_from(a)?,
+        b: u16::try_from(b)?,
+        c: u32::try_from(c)?,
     };
     match instr.instruction() {
         Some(instruction) if instruction.wire() == instr => {
@@ -208,10 +211,9 @@ fn instruction_of(alloc: Global, asked: &str) -> Result<String, Fail> {
 
 #[test]
 fn fields_of_instructions(rt: HostRuntime) -> Result<(), Fail> {
-    let alloc = rt.alloc();
     rows_hold(
         &rt,
-        |row| instruction_of(alloc, row),
+        instruction_of,
         r"13 5 0 0 => Op { operator: 5 }
         13 5 1 0 => none
         13 5 0 1 => none

@@ -172,10 +172,9 @@ fn looped(alloc: Global, name: &str) -> Result<String, Fail> {
 
 #[test]
 fn a_loop_prints_its_fields(rt: HostRuntime) -> Result<(), Fail> {
-    let alloc = rt.alloc();
     rows_hold(
         &rt,
-        |row| looped(alloc, row),
+        looped,
         r"Item => text abFalse
         Index => text 12False
         Index0 => text 01False

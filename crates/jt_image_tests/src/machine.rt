@@ -1,6 +1,6 @@
 //! Runs of small images.
 
-use crate::rows::rows_hold;
+use crate::rows::{numbers, rows_hold};
 use jt_budget::Budget;
 use jt_image::{Constant, Image, Instr, Parts, Unit, assemble, decode};
 use jt_machine::{Outcome, run};
@@ -324,60 +324,61 @@ fn printed(alloc: Global, instructions: &[Fields], budget: Budget) -> Result<Str
     outcome_of(alloc, image, &Context::new(alloc), budget)
 }
 
-// What a row prints: fuel, the limits of size and nesting, and instructions.
-fn printed_by(alloc: Global, asked: &str) -> Result<String, Fail> {
-    let words: Vec<&str> = asked.split(' ').collect(alloc)?;
-    let [fuel, size, nesting, rest @ ..] = words.as_slice() else {
-        return Err(Fail::from("a row has no budget"));
-    };
-    let budget = Budget {
-        fuel: fuel.parse::<u64>()?,
-        size: size.parse::<u32>()?,
-        nesting: nesting.parse::<u8>()?,
-        ..AMPLE
-    };
+// The instructions of a row, with blanks between.
+fn instructions_of(alloc: Global, words: &str) -> Result<Vec<Fields>, Fail> {
     let mut instructions = Vec::new(alloc);
-    for word in rest {
+    for word in words.split(' ') {
         instructions.push(fields_of(word)?)?;
     }
-    printed(alloc, &instructions, budget)
+    Ok(instructions)
+}
+
+// What a row prints: fuel, the limits of size and nesting, and behind a colon instructions.
+fn printed_by(alloc: Global, asked: &str) -> Result<String, Fail> {
+    let (limits, words) = asked.split_once(": ").ok_or("a row has no budget")?;
+    let [fuel, size, nesting] = numbers::<3>(limits)?;
+    let budget = Budget {
+        fuel,
+        size: u32::try_from(size)?,
+        nesting: u8::try_from(nesting)?,
+        ..AMPLE
+    };
+    printed(alloc, &instructions_of(alloc, words)?, budget)
 }
 
 #[test]
 fn operators_and_tests(rt: HostRuntime) -> Result<(), Fail> {
-    let alloc = rt.alloc();
     rows_hold(
         &rt,
-        |row| printed_by(alloc, row),
-        r"5 1000 32 c1 c3 subtract => text -2
-        4 1000 32 c1 c3 subtract => spent Fuel
-        5 1000 32 c4 c2 floordivide => text -4
-        3 1000 32 c4 c0 floordivide => fault ZeroDivide
-        2 1000 32 c4 c0 floordivide => spent Fuel
-        3 1000 32 c4 c5 subtract => fault BadType
-        4 1000 32 c4 negate => text 7
-        4 1000 32 c7 not => text True
-        4 1000 32 c1 c2 c0 rangebystep => fault Range
-        3 1000 32 c1 c2 c0 rangebystep => spent Fuel
-        4 1000 32 c3 even => text False
-        5 1000 32 c2 c1 divisibleby => text True
-        3 1000 32 c2 c0 divisibleby => fault ZeroDivide
-        2 1000 32 c2 c0 divisibleby => spent Fuel",
+        printed_by,
+        r"5 1000 32: c1 c3 subtract => text -2
+        4 1000 32: c1 c3 subtract => spent Fuel
+        5 1000 32: c4 c2 floordivide => text -4
+        3 1000 32: c4 c0 floordivide => fault ZeroDivide
+        2 1000 32: c4 c0 floordivide => spent Fuel
+        3 1000 32: c4 c5 subtract => fault BadType
+        4 1000 32: c4 negate => text 7
+        4 1000 32: c7 not => text True
+        4 1000 32: c1 c2 c0 rangebystep => fault Range
+        3 1000 32: c1 c2 c0 rangebystep => spent Fuel
+        4 1000 32: c3 even => text False
+        5 1000 32: c2 c1 divisibleby => text True
+        3 1000 32: c2 c0 divisibleby => fault ZeroDivide
+        2 1000 32: c2 c0 divisibleby => spent Fuel",
     )
 }
 
 #[test]
 fn lists_and_maps(rt: HostRuntime) -> Result<(), Fail> {
-    let alloc = rt.alloc();
     rows_hold(
         &rt,
-        |row| printed_by(alloc, row),
-        r"1000 1000 32 c3 c1 list2 c0 item => text 3
-        1000 1000 32 c5 c1 c6 c2 c5 c3 map3 c5 item => text 3
-        1000 1000 32 c5 c1 c6 c2 c5 c3 map3 c6 c2 c5 c3 map2 equal => text True
-        1000 1000 32 c1 c1 map1 => fault BadType
-        1000 1000 32 c1 c1 c7 c1 map2 => fault Undefined
-        1000 1000 32 map0 list0 equal => text False",
+        printed_by,
+        r"1000 1000 32: c3 c1 list2 c0 item => text 3
+        1000 1000 32: c5 c1 c6 c2 c5 c3 map3 c5 item => text 3
+        1000 1000 32: c5 c1 c6 c2 c5 c3 map3 c6 c2 c5 c3 map2 equal => text True
+        1000 1000 32: c1 c1 map1 => fault BadType
+        1000 1000 32: c1 c1 c7 c1 map2 => fault Undefined
+        1000 1000 32: map0 list0 equal => text False",
     )
 }
 
@@ -406,16 +407,15 @@ fn making_costs_by_size(rt: HostRuntime) -> Result<(), Fail> {
 
 #[test]
 fn what_is_made_is_within_the_limits(rt: HostRuntime) -> Result<(), Fail> {
-    let alloc = rt.alloc();
     rows_hold(
         &rt,
-        |row| printed_by(alloc, row),
-        r"1000 4 1 c3 range c2 item => text 2
-        1000 3 1 c3 range c2 item => spent Size
-        1000 3 0 c3 range c2 item => spent Size
-        1000 4 0 c3 range c2 item => spent Nesting
-        1000 2 2 list0 list1 c0 item => fault Unprintable
-        1000 1 1 list0 list1 c0 item => spent Size
-        1000 2 1 list0 list1 c0 item => spent Nesting",
+        printed_by,
+        r"1000 4 1: c3 range c2 item => text 2
+        1000 3 1: c3 range c2 item => spent Size
+        1000 3 0: c3 range c2 item => spent Size
+        1000 4 0: c3 range c2 item => spent Nesting
+        1000 2 2: list0 list1 c0 item => fault Unprintable
+        1000 1 1: list0 list1 c0 item => spent Size
+        1000 2 1: list0 list1 c0 item => spent Nesting",
     )
 }

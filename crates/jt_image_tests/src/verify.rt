@@ -1,6 +1,6 @@
 //! Small images, accepted and refused, and shapes joined.
 
-use crate::rows::rows_hold;
+use crate::rows::{numbers, rows_hold};
 use jt_image::{Code, Constant, Flaw, Image, Instr, Kind, Parts, Unit, assemble, decode};
 use jt_verify::{Refusal, Shape, join, verify, verify_code};
 use std::alloc::{AllocError, Global};
@@ -137,10 +137,9 @@ fn flaw_of(alloc: Global, asked: &str) -> Result<String, Fail> {
 // Points that are not reached carry nothing; the next point and all that it leads to come before the target of a jump.
 #[test]
 fn names_the_flaw_and_its_place(rt: HostRuntime) -> Result<(), Fail> {
-    let alloc = rt.alloc();
     rows_hold(
         &rt,
-        |row| flaw_of(alloc, row),
+        flaw_of,
         r"unit Emit.0 Return.0 => MissingOperand 0
         unit Const.0 => FallsOff 0
         unit => FallsOff 0
@@ -225,17 +224,14 @@ fn instr(fields: (u8, u8, u16, u32)) -> Instr {
 
 /// What the verifier answers of an instruction of four fields behind some constants, where the flaw is at that instruction.
 fn flaw_behind(alloc: Global, asked: &str) -> Result<String, Fail> {
-    let words: Vec<&str> = asked.split(' ').collect(alloc)?;
-    let [constants, op, a, b, c] = words.as_slice() else {
-        return Err(Fail::from("a row has not five numbers"));
-    };
+    let [constants, op, a, b, c] = numbers::<5>(asked)?;
+    let constants = usize::try_from(constants)?;
     let fields = (
-        op.parse::<u8>()?,
-        a.parse::<u8>()?,
-        b.parse::<u16>()?,
-        c.parse::<u32>()?,
+        u8::try_from(op)?,
+        u8::try_from(a)?,
+        u16::try_from(b)?,
+        u32::try_from(c)?,
     );
-    let constants = constants.parse::<usize>()?;
     match refusal_of(alloc, image_of(alloc, constants, fields)?) {
         None => Ok(String::from_str(alloc, "none")?),
         Some(Refusal::Flaw { flaw, unit, point }) if unit == 0 && point == constants => {
@@ -248,10 +244,9 @@ fn flaw_behind(alloc: Global, asked: &str) -> Result<String, Fail> {
 // An id is looked at before the operands.
 #[test]
 fn operands_are_counted(rt: HostRuntime) -> Result<(), Fail> {
-    let alloc = rt.alloc();
     rows_hold(
         &rt,
-        |row| flaw_behind(alloc, row),
+        flaw_behind,
         r"1 13 8 0 0 => none
         2 13 0 0 0 => none
         1 13 0 0 0 => MissingOperand
