@@ -3,6 +3,7 @@
 use crate::rows::{numbers, rows_hold};
 use jt_image::*;
 use std::alloc::Global;
+use std::process::Abort;
 use std::test::*;
 
 const X: [u8; 44] = [
@@ -10,9 +11,8 @@ const X: [u8; 44] = [
     0, 9, 0, 0, 0, 0, 0, 0, 0, 0x1c, 0, 0, 0, 0, 0, 0, 0,
 ];
 
-#[test]
-fn reads_and_writes_x(rt: HostRuntime) -> Result<(), Fail> {
-    let image = decode(rt.alloc(), &X)?;
+/// Checks that the readers of an image tell of X.
+fn is_x(rt: &impl Abort, image: &Image) {
     assert_eq!(rt;
         (image.globals(), image.names(), image.constants()),
         (0, 0, 1)
@@ -34,6 +34,12 @@ fn reads_and_writes_x(rt: HostRuntime) -> Result<(), Fail> {
     );
     assert_eq!(rt; image.instruction(0, 1), Some(Instruction::Return));
     assert_eq!(rt; image.instruction(0, 2), None);
+}
+
+#[test]
+fn reads_and_writes_x(rt: HostRuntime) -> Result<(), Fail> {
+    let image = decode(rt.alloc(), &X)?;
+    is_x(&rt, &image);
     let bytes = encode(rt.alloc(), &image).ok().ok_or("an image has bytes")?;
     assert_eq!(rt; bytes.as_slice(), X.as_slice());
     Ok(())

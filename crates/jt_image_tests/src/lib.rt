@@ -13,4 +13,6 @@ mod machine;
 #[cfg(test)]
 mod rows;
 #[cfg(test)]
+mod running;
+#[cfg(test)]
 mod verify;

@@ -1,11 +1,10 @@
 //! Runs of small images with loops, captures and calls.
 
-use crate::rows::rows_hold;
+use crate::rows::{numbers, rows_hold};
+use crate::running::{AMPLE, outcome_of};
 use jt_budget::Budget;
 use jt_image::{Constant, Image, Instruction, LoopField, Parts, Unit, assemble, decode};
-use jt_machine::{Outcome, run};
 use jt_value::Context;
-use jt_verify::verify;
 use std::alloc::Global;
 use std::test::Fail;
 
@@ -15,14 +14,6 @@ const Z: [u8; 38] = [
     0x00, 0x00, 0x02, 0x00, 0x00, 0x00, 0x1b, 0x00, 0x00, 0x00, 0x00, 0x00, 0x00, 0x00, 0x1c, 0x00,
     0x00, 0x00, 0x00, 0x00, 0x00, 0x00,
 ];
-
-const AMPLE: Budget = Budget {
-    fuel: 1_000,
-    depth: 64,
-    output: 1_000,
-    size: 1_000,
-    nesting: 32,
-};
 
 // A unit that emits, without parameters.
 fn plain(alloc: Global, code: &[Instruction]) -> Result<Unit, Fail> {
@@ -61,47 +52,36 @@ fn image_of(alloc: Global, units: Vec<Unit>) -> Result<Image, Fail> {
     }
 }
 
-// The outcome of an image, or why it is refused, in words.
-fn outcome_of(alloc: Global, image: Image, budget: Budget) -> Result<String, Fail> {
-    let verified = match verify(alloc, image) {
-        Ok(verified) => verified,
-        Err((_, refusal)) => return Ok(format!(in alloc; "{refusal}")?),
-    };
-    let context = Context::new(alloc);
-    match run(alloc, &verified, &context, budget) {
-        Ok(Outcome::Text(text)) => Ok(format!(in alloc; "text {text}")?),
-        Ok(Outcome::Fault(fault)) => Ok(format!(in alloc; "fault {fault:?}")?),
-        Ok(Outcome::Spent(spent)) => Ok(format!(in alloc; "spent {spent}")?),
-        Err(_) => Err(Fail::from("run")),
-    }
-}
-
 // The outcome of one unit.
 fn of_one(alloc: Global, code: &[Instruction], budget: Budget) -> Result<String, Fail> {
     let mut units = Vec::new(alloc);
     units.push(plain(alloc, code)?)?;
-    outcome_of(alloc, image_of(alloc, units)?, budget)
+    outcome_of(alloc, image_of(alloc, units)?, &Context::new(alloc), budget)
+}
+
+// What Z comes to: the fuel and the depth.
+fn called(alloc: Global, asked: &str) -> Result<String, Fail> {
+    let [fuel, depth] = numbers::<2>(asked)?;
+    let Ok(image) = decode(alloc, &Z) else {
+        return Err(Fail::from("decode"));
+    };
+    let budget = Budget {
+        fuel,
+        depth: u32::try_from(depth)?,
+        ..AMPLE
+    };
+    outcome_of(alloc, image, &Context::new(alloc), budget)
 }
 
 #[test]
 fn a_unit_that_calls_itself(rt: HostRuntime) -> Result<(), Fail> {
-    let alloc = rt.alloc();
-    for (fuel, depth, wanted) in [
-        (3, 2, "spent Depth"),
-        (2, 2, "spent Fuel"),
-        (1, 0, "spent Depth"),
-    ] {
-        let Ok(image) = decode(alloc, &Z) else {
-            return Err(Fail::from("decode"));
-        };
-        let budget = Budget {
-            fuel,
-            depth,
-            ..AMPLE
-        };
-        assert_eq!(rt; outcome_of(alloc, image, budget)?.as_str(), wanted);
-    }
-    Ok(())
+    rows_hold(
+        &rt,
+        called,
+        r"3 2 => spent Depth
+        2 2 => spent Fuel
+        1 0 => spent Depth",
+    )
 }
 
 #[test]
@@ -217,73 +197,98 @@ fn a_second_pass_has_what_was_kept(rt: HostRuntime) -> Result<(), Fail> {
     Ok(())
 }
 
+// The image of a unit that calls another one inside a capture.
+fn calling(alloc: Global) -> Result<Image, Fail> {
+    let entry = [
+        Instruction::CaptureBegin,
+        Instruction::Const { constant: 0 },
+        Instruction::Const { constant: 1 },
+        Instruction::Call { unit: 1 },
+        Instruction::Emit { flag: 0 },
+        Instruction::CaptureEnd { flag: 0 },
+        Instruction::Emit { flag: 0 },
+        Instruction::Return,
+    ];
+    let second = [
+        Instruction::Load { local: 2 },
+        Instruction::Emit { flag: 0 },
+        Instruction::Load { local: 1 },
+        Instruction::Load { local: 0 },
+        Instruction::Op { operator: 0 },
+        Instruction::Store { local: 2 },
+        Instruction::Load { local: 2 },
+        Instruction::Return,
+    ];
+    let units = vec![in alloc; plain(alloc, &entry)?, unit(alloc, (2, 1, 3), &second)?]?;
+    image_of(alloc, units)
+}
+
+// What that image comes to: the depth.
+fn given(alloc: Global, asked: &str) -> Result<String, Fail> {
+    let depth = asked.parse::<u32>()?;
+    let budget = Budget { depth, ..AMPLE };
+    outcome_of(alloc, calling(alloc)?, &Context::new(alloc), budget)
+}
+
 #[test]
 fn a_unit_gives_a_value(rt: HostRuntime) -> Result<(), Fail> {
-    let alloc = rt.alloc();
-    for (depth, wanted) in [(1, "text ba"), (0, "spent Depth")] {
-        let mut units = Vec::new(alloc);
-        let entry = [
-            Instruction::CaptureBegin,
-            Instruction::Const { constant: 0 },
-            Instruction::Const { constant: 1 },
-            Instruction::Call { unit: 1 },
-            Instruction::Emit { flag: 0 },
-            Instruction::CaptureEnd { flag: 0 },
-            Instruction::Emit { flag: 0 },
-            Instruction::Return,
-        ];
-        let second = [
-            Instruction::Load { local: 2 },
-            Instruction::Emit { flag: 0 },
-            Instruction::Load { local: 1 },
-            Instruction::Load { local: 0 },
-            Instruction::Op { operator: 0 },
-            Instruction::Store { local: 2 },
-            Instruction::Load { local: 2 },
-            Instruction::Return,
-        ];
-        units.push(plain(alloc, &entry)?)?;
-        units.push(unit(alloc, (2, 1, 3), &second)?)?;
-        let image = image_of(alloc, units)?;
-        let text = outcome_of(alloc, image, Budget { depth, ..AMPLE })?;
-        assert_eq!(rt; text.as_str(), wanted);
+    rows_hold(
+        &rt,
+        given,
+        r"1 => text ba
+        0 => spent Depth",
+    )
+}
+
+// What a list of two items comes to that is unpacked into so many values, which are then printed.
+fn unpacked(alloc: Global, asked: &str) -> Result<String, Fail> {
+    let values = asked.parse::<u32>()?;
+    let mut code = Vec::new(alloc);
+    code.push(Instruction::Const { constant: 0 })?;
+    code.push(Instruction::Const { constant: 1 })?;
+    code.push(Instruction::MakeList { items: 2 })?;
+    code.push(Instruction::Unpack { values })?;
+    for _ in 0..values {
+        code.push(Instruction::Emit { flag: 0 })?;
     }
-    Ok(())
+    code.push(Instruction::Return)?;
+    of_one(alloc, &code, AMPLE)
 }
 
 #[test]
 fn unpacking_and_its_faults(rt: HostRuntime) -> Result<(), Fail> {
-    let alloc = rt.alloc();
-    for (values, wanted) in [(2, "text ba"), (1, "fault Unpack")] {
-        let mut code = Vec::new(alloc);
-        code.push(Instruction::Const { constant: 0 })?;
-        code.push(Instruction::Const { constant: 1 })?;
-        code.push(Instruction::MakeList { items: 2 })?;
-        code.push(Instruction::Unpack { values })?;
-        for _ in 0..values {
-            code.push(Instruction::Emit { flag: 0 })?;
-        }
-        code.push(Instruction::Return)?;
-        assert_eq!(rt; of_one(alloc, &code, AMPLE)?.as_str(), wanted);
-    }
-    let tall = [
+    rows_hold(
+        &rt,
+        unpacked,
+        r"2 => text ba
+        1 => fault Unpack",
+    )
+}
+
+#[test]
+fn unpacking_into_too_many(rt: HostRuntime) -> Result<(), Fail> {
+    let code = [
         Instruction::Const { constant: 0 },
         Instruction::Unpack {
             values: 4_294_967_295,
         },
         Instruction::Return,
     ];
-    assert_eq!(rt;
-        of_one(alloc, &tall, AMPLE)?.as_str(),
-        "K9 TooDeep unit 0 point 2"
-    );
-    let none = [
+    let found = of_one(rt.alloc(), &code, AMPLE)?;
+    assert_eq!(rt; found.as_str(), "K9 TooDeep unit 0 point 2");
+    Ok(())
+}
+
+#[test]
+fn a_loop_over_no_items(rt: HostRuntime) -> Result<(), Fail> {
+    let code = [
         Instruction::Const { constant: 2 },
         Instruction::LoopStart,
         Instruction::LoopEnd,
         Instruction::Drop,
         Instruction::Return,
     ];
-    assert_eq!(rt; of_one(alloc, &none, AMPLE)?.as_str(), "fault NotIterable");
+    let found = of_one(rt.alloc(), &code, AMPLE)?;
+    assert_eq!(rt; found.as_str(), "fault NotIterable");
     Ok(())
 }

@@ -1,11 +1,10 @@
 //! Runs of small images.
 
 use crate::rows::{numbers, rows_hold};
+use crate::running::{AMPLE, outcome_of};
 use jt_budget::Budget;
 use jt_image::{Constant, Image, Instr, Parts, Unit, assemble, decode};
-use jt_machine::{Outcome, run};
 use jt_value::{Context, Value};
-use jt_verify::verify;
 use std::alloc::Global;
 use std::test::Fail;
 
@@ -34,38 +33,12 @@ const AB: [u8; 72] = [
     0x1c, 0x00, 0x00, 0x00, 0x00, 0x00, 0x00, 0x00,
 ];
 
-const AMPLE: Budget = Budget {
-    fuel: 1_000,
-    depth: 64,
-    output: 1_000,
-    size: 1_000,
-    nesting: 32,
-};
-
 // The outcome of an image, in words.
 fn outcome(alloc: Global, bytes: &[u8], context: &Context, budget: Budget) -> Result<String, Fail> {
     let Ok(image) = decode(alloc, bytes) else {
         return Err(Fail::from("decode"));
     };
     outcome_of(alloc, image, context, budget)
-}
-
-// The outcome of an image that is read, in words.
-fn outcome_of(
-    alloc: Global,
-    image: Image,
-    context: &Context,
-    budget: Budget,
-) -> Result<String, Fail> {
-    let Ok(verified) = verify(alloc, image) else {
-        return Err(Fail::from("verify"));
-    };
-    match run(alloc, &verified, context, budget) {
-        Ok(Outcome::Text(text)) => Ok(format!(in alloc; "text {text}")?),
-        Ok(Outcome::Fault(fault)) => Ok(format!(in alloc; "fault {fault:?}")?),
-        Ok(Outcome::Spent(spent)) => Ok(format!(in alloc; "spent {spent}")?),
-        Err(_) => Err(Fail::from("run")),
-    }
 }
 
 // A context of one value.
@@ -131,22 +104,33 @@ fn a_constant_is_put(rt: HostRuntime) -> Result<(), Fail> {
     Ok(())
 }
 
+// What N comes to, between quotes: a number, or no value, and the fuel.
+fn number_printed(alloc: Global, asked: &str) -> Result<String, Fail> {
+    let (number, fuel) = asked.split_once(" ").ok_or("a row has no fuel")?;
+    let budget = Budget {
+        fuel: fuel.parse::<u64>()?,
+        ..AMPLE
+    };
+    let context = if number == "none" {
+        Context::new(alloc)
+    } else {
+        context_of(alloc, "n", Value::Int(number.parse::<i64>()?))?
+    };
+    let found = outcome(alloc, &N, &context, budget)?;
+    Ok(format!(in alloc; "'{found}'")?)
+}
+
 #[test]
 fn a_number_is_printed_if_it_is_true(rt: HostRuntime) -> Result<(), Fail> {
-    let alloc = rt.alloc();
-    for (number, fuel, wanted) in [
-        (7, 5, "text 7"),
-        (7, 4, "spent Fuel"),
-        (0, 3, "text "),
-        (0, 2, "spent Fuel"),
-    ] {
-        let context = context_of(alloc, "n", Value::Int(number))?;
-        let found = outcome(alloc, &N, &context, Budget { fuel, ..AMPLE })?;
-        assert_eq!(rt; found.as_str(), wanted);
-    }
-    let found = outcome(alloc, &N, &Context::new(alloc), Budget { fuel: 3, ..AMPLE })?;
-    assert_eq!(rt; found.as_str(), "text ");
-    Ok(())
+    rows_hold(
+        &rt,
+        number_printed,
+        r"7 5 => 'text 7'
+        7 4 => 'spent Fuel'
+        0 3 => 'text '
+        0 2 => 'spent Fuel'
+        none 3 => 'text '",
+    )
 }
 
 #[test]
@@ -160,23 +144,26 @@ fn a_list_is_not_printed(rt: HostRuntime) -> Result<(), Fail> {
     Ok(())
 }
 
+// What `<` is printed as: the flag, text or markup, and the output.
+fn less_printed(alloc: Global, asked: &str) -> Result<String, Fail> {
+    let [flag, is_markup, output] = numbers::<3>(asked)?;
+    let mut image = N;
+    image[52] = u8::try_from(flag)?;
+    let context = context_of(alloc, "n", text_of(alloc, "<", is_markup == 1)?)?;
+    outcome(alloc, &image, &context, Budget { output, ..AMPLE })
+}
+
 #[test]
 fn texts_are_escaped_and_markup_is_not(rt: HostRuntime) -> Result<(), Fail> {
-    let alloc = rt.alloc();
-    for (flag, is_markup, output, wanted) in [
-        (0, false, 1, "text <"),
-        (1, false, 4, "text &lt;"),
-        (1, false, 3, "spent Output"),
-        (1, true, 1, "text <"),
-        (1, true, 0, "spent Output"),
-    ] {
-        let mut image = N;
-        image[52] = flag;
-        let context = context_of(alloc, "n", text_of(alloc, "<", is_markup)?)?;
-        let found = outcome(alloc, &image, &context, Budget { output, ..AMPLE })?;
-        assert_eq!(rt; found.as_str(), wanted);
-    }
-    Ok(())
+    rows_hold(
+        &rt,
+        less_printed,
+        r"0 0 1 => text <
+        1 0 4 => text &lt;
+        1 0 3 => spent Output
+        1 1 1 => text <
+        1 1 0 => spent Output",
+    )
 }
 
 #[test]
@@ -204,27 +191,35 @@ fn printing_costs_by_size(rt: HostRuntime) -> Result<(), Fail> {
     Ok(())
 }
 
+// The outcome without fuel where the context has a list: its name, and the limits of size and nesting.
+fn limited(alloc: Global, asked: &str) -> Result<String, Fail> {
+    let (name, limits) = asked.split_once(" ").ok_or("a row has no limits")?;
+    let [size, nesting] = numbers::<2>(limits)?;
+    let budget = Budget {
+        fuel: 0,
+        size: u32::try_from(size)?,
+        nesting: u8::try_from(nesting)?,
+        ..AMPLE
+    };
+    outcome(
+        alloc,
+        &N,
+        &context_of(alloc, name, list(alloc, 1)?)?,
+        budget,
+    )
+}
+
 #[test]
 fn the_context_is_tested_first(rt: HostRuntime) -> Result<(), Fail> {
-    let alloc = rt.alloc();
-    for (name, size, nesting, wanted) in [
-        ("n", 2, 1, "spent Fuel"),
-        ("n", 1, 1, "spent Size"),
-        ("n", 1, 0, "spent Size"),
-        ("n", 2, 0, "spent Nesting"),
-        ("m", 1, 0, "spent Fuel"),
-    ] {
-        let context = context_of(alloc, name, list(alloc, 1)?)?;
-        let budget = Budget {
-            fuel: 0,
-            size,
-            nesting,
-            ..AMPLE
-        };
-        let found = outcome(alloc, &N, &context, budget)?;
-        assert_eq!(rt; found.as_str(), wanted);
-    }
-    Ok(())
+    rows_hold(
+        &rt,
+        limited,
+        r"n 2 1 => spent Fuel
+        n 1 1 => spent Size
+        n 1 0 => spent Size
+        n 2 0 => spent Nesting
+        m 1 0 => spent Fuel",
+    )
 }
 
 #[test]
