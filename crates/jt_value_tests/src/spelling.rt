@@ -10,34 +10,28 @@ use std::alloc::Global;
 pub fn value(alloc: Global, spelling: &str) -> Result<Value, NoMemory> {
     let rest = spelling.get(1..).unwrap_or("");
     match spelling.as_bytes().first() {
-        Some(b'l') => list(alloc, rest),
-        Some(b'k') => map(alloc, rest),
+        Some(b'l') => {
+            let mut items = Vec::new(alloc);
+            for item in rest.split(',') {
+                if !item.is_empty() {
+                    items.push(simple(alloc, item)?)?;
+                }
+            }
+            Value::list(alloc, items)
+        }
+        Some(b'k') => {
+            let mut entries = IndexMap::new(alloc);
+            for pair in rest.split(',') {
+                let (key, held) = pair.split_once('=').unwrap_or((pair, ""));
+                let key = String::from_str(alloc, key)?;
+                if entries.insert(key, simple(alloc, held)?).is_err() {
+                    return Err(NoMemory);
+                }
+            }
+            Value::map(alloc, entries)
+        }
         _ => simple(alloc, spelling),
     }
-}
-
-/// The list of spellings with `,` between.
-fn list(alloc: Global, spellings: &str) -> Result<Value, NoMemory> {
-    let mut items = Vec::new(alloc);
-    for item in spellings.split(',') {
-        if !item.is_empty() {
-            items.push(simple(alloc, item)?)?;
-        }
-    }
-    Value::list(alloc, items)
-}
-
-/// The map of pairs with `,` between.
-fn map(alloc: Global, pairs: &str) -> Result<Value, NoMemory> {
-    let mut entries = IndexMap::new(alloc);
-    for pair in pairs.split(',') {
-        let (key, held) = pair.split_once('=').unwrap_or((pair, ""));
-        let key = String::from_str(alloc, key)?;
-        if entries.insert(key, simple(alloc, held)?).is_err() {
-            return Err(NoMemory);
-        }
-    }
-    Value::map(alloc, entries)
 }
 
 /// The values of spellings with blanks between.
@@ -91,8 +85,8 @@ pub fn shown(alloc: Global, answer: &Result<Value, OpError>) -> Result<String, N
     Ok(text)
 }
 
-/// A value that is no list, in the same spelling.
-pub fn shown_simple(alloc: Global, value: &Value) -> Result<String, NoMemory> {
+/// A value that is no list.
+fn shown_simple(alloc: Global, value: &Value) -> Result<String, NoMemory> {
     let text = value.as_text().unwrap_or("");
     match value {
         Value::Undefined => Ok(String::from_str(alloc, "u")?),
