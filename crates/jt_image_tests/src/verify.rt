@@ -1,5 +1,6 @@
 //! Small images, accepted and refused, and shapes joined.
 
+use crate::rows::{numbers, rows_hold};
 use jt_image::{Code, Constant, Flaw, Image, Instr, Kind, Parts, Unit, assemble, decode};
 use jt_verify::{Refusal, Shape, join, verify, verify_code};
 use std::alloc::{AllocError, Global};
@@ -90,49 +91,66 @@ fn accepts_x_and_its_loop(rt: HostRuntime) -> Result<(), Fail> {
     Ok(())
 }
 
+/// The instructions of a unit, as `Const.0 Return.0`: names and fields c.
+fn lines_of(alloc: Global, spelling: &str) -> Result<Vec<Line>, Fail> {
+    let mut lines: Vec<Line> = Vec::new(alloc);
+    for word in spelling.split_whitespace() {
+        let (name, field) = word.split_once(".").ok_or("an instruction has no field")?;
+        let opcode = match name {
+            "Const" => CONST,
+            "Drop" => DROP,
+            "Emit" => EMIT,
+            "Jump" => JUMP,
+            "JumpIfFalse" => JUMP_IF_FALSE,
+            "Return" => RETURN,
+            _ => return Err(Fail::from("an instruction has no name")),
+        };
+        lines.push((opcode, field.parse::<u32>()?))?;
+    }
+    Ok(lines)
+}
+
+/// What the verifier answers of the unit at this index: its flaw and the point.
+fn flaw_at(alloc: Global, image: Image, at: usize) -> Result<String, Fail> {
+    match refusal_of(alloc, image) {
+        None => Ok(String::from_str(alloc, "none")?),
+        Some(Refusal::Flaw { flaw, unit, point }) if unit == at => {
+            Ok(format!(in alloc; "{flaw:?} {point}")?)
+        }
+        Some(refusal) => Ok(format!(in alloc; "{refusal:?}")?),
+    }
+}
+
+/// What the verifier answers of a unit of some instructions, in the first place and in the second of two units.
+fn flaw_of(alloc: Global, asked: &str) -> Result<String, Fail> {
+    let lines = lines_of(alloc, asked.strip_prefix("unit").unwrap_or(asked))?;
+    let plain: &[Line] = &[(RETURN, 0)];
+    let first = decode(alloc, &bytes_of(alloc, &lines, plain)?)?;
+    let second = decode(alloc, &bytes_of(alloc, plain, &lines)?)?;
+    let (first, second) = (flaw_at(alloc, first, 0)?, flaw_at(alloc, second, 1)?);
+    if first.as_str() == second.as_str() {
+        return Ok(first);
+    }
+    Ok(format!(in alloc; "{first}, and {second}")?)
+}
+
+// Points that are not reached carry nothing; the next point and all that it leads to come before the target of a jump.
 #[test]
 fn names_the_flaw_and_its_place(rt: HostRuntime) -> Result<(), Fail> {
-    let plain: &[Line] = &[(RETURN, 0)];
-    let rows: [(&[Line], Option<(Flaw, usize)>); 10] = [
-        (&[(EMIT, 0), (RETURN, 0)], Some((Flaw::MissingOperand, 0))),
-        (&[(CONST, 0)], Some((Flaw::FallsOff, 0))),
-        (&[], Some((Flaw::FallsOff, 0))),
-        (&[(CONST, 0), (JUMP, 0)], Some((Flaw::DepthDiffers, 0))),
-        (
-            &[(CONST, 1), (DROP, 0), (RETURN, 0)],
-            Some((Flaw::BadIndex, 0)),
-        ),
-        (&[(CONST, 0), (RETURN, 0)], Some((Flaw::BadReturn, 1))),
-        // points that are not reached carry nothing
-        (&[(RETURN, 0), (EMIT, 0)], None),
-        // the next point and all that it leads to come before the target
-        (
-            &[(CONST, 0), (CONST, 0), (JUMP_IF_FALSE, 0), (CONST, 9)],
-            Some((Flaw::BadIndex, 3)),
-        ),
-        (
-            &[(CONST, 0), (JUMP_IF_FALSE, 3), (RETURN, 0), (DROP, 0)],
-            Some((Flaw::MissingOperand, 3)),
-        ),
-        (&[(CONST, 0), (JUMP_IF_FALSE, 0), (RETURN, 0)], None),
-    ];
-    for (lines, want) in rows {
-        for unit in 0..2usize {
-            let (first, second) = if unit == 0 {
-                (lines, plain)
-            } else {
-                (plain, lines)
-            };
-            let bytes = bytes_of(rt.alloc(), first, second)?;
-            let found = refusal_of(rt.alloc(), decode(rt.alloc(), &bytes)?);
-            let want = match want {
-                Some((flaw, point)) => Some(Refusal::Flaw { flaw, unit, point }),
-                None => None,
-            };
-            assert_eq!(rt; found, want);
-        }
-    }
-    Ok(())
+    rows_hold(
+        &rt,
+        flaw_of,
+        r"unit Emit.0 Return.0 => MissingOperand 0
+        unit Const.0 => FallsOff 0
+        unit => FallsOff 0
+        unit Const.0 Jump.0 => DepthDiffers 0
+        unit Const.1 Drop.0 Return.0 => BadIndex 0
+        unit Const.0 Return.0 => BadReturn 1
+        unit Return.0 Emit.0 => none
+        unit Const.0 Const.0 JumpIfFalse.0 Const.9 => BadIndex 3
+        unit Const.0 JumpIfFalse.3 Return.0 Drop.0 => MissingOperand 3
+        unit Const.0 JumpIfFalse.0 Return.0 => none",
+    )
 }
 
 #[test]
@@ -204,44 +222,53 @@ fn instr(fields: (u8, u8, u16, u32)) -> Instr {
     Instr { op, a, b, c }
 }
 
+/// What the verifier answers of an instruction of four fields behind some constants, where the flaw is at that instruction.
+fn flaw_behind(alloc: Global, asked: &str) -> Result<String, Fail> {
+    let [constants, op, a, b, c] = numbers::<5>(asked)?;
+    let constants = usize::try_from(constants)?;
+    let fields = (
+        u8::try_from(op)?,
+        u8::try_from(a)?,
+        u16::try_from(b)?,
+        u32::try_from(c)?,
+    );
+    match refusal_of(alloc, image_of(alloc, constants, fields)?) {
+        None => Ok(String::from_str(alloc, "none")?),
+        Some(Refusal::Flaw { flaw, unit, point }) if unit == 0 && point == constants => {
+            Ok(format!(in alloc; "{flaw:?}")?)
+        }
+        Some(refusal) => Ok(format!(in alloc; "{refusal:?}")?),
+    }
+}
+
+// An id is looked at before the operands.
 #[test]
 fn operands_are_counted(rt: HostRuntime) -> Result<(), Fail> {
-    for (constants, fields, want) in [
-        (1, (13, 8, 0, 0), None),
-        (2, (13, 0, 0, 0), None),
-        (1, (13, 0, 0, 0), Some(Flaw::MissingOperand)),
-        (3, (13, 21, 0, 0), None),
-        (2, (13, 21, 0, 0), Some(Flaw::MissingOperand)),
-        (3, (13, 22, 0, 0), Some(Flaw::BadIndex)),
-        // an id is looked at before the operands
-        (0, (13, 22, 0, 0), Some(Flaw::BadIndex)),
-        (0, (15, 6, 2, 0), Some(Flaw::BadIndex)),
-        (1, (15, 6, 1, 0), None),
-        (2, (15, 2, 2, 0), None),
-        (2, (15, 6, 2, 0), Some(Flaw::BadIndex)),
-        (1, (15, 6, 0, 0), Some(Flaw::BadIndex)),
-        (1, (15, 20, 1, 0), Some(Flaw::BadIndex)),
-        (0, (16, 0, 0, 0), None),
-        (3, (16, 0, 0, 3), None),
-        (2, (16, 0, 0, 3), Some(Flaw::MissingOperand)),
-        (2, (16, 0, 0, u32::MAX), Some(Flaw::MissingOperand)),
-        (0, (17, 0, 0, 0), None),
-        (4, (17, 0, 0, 2), None),
-        (3, (17, 0, 0, 2), Some(Flaw::MissingOperand)),
-        (3, (17, 0, 0, u32::MAX), Some(Flaw::MissingOperand)),
-    ] {
-        let want = match want {
-            Some(flaw) => Some(Refusal::Flaw {
-                flaw,
-                unit: 0,
-                point: constants,
-            }),
-            None => None,
-        };
-        let image = image_of(rt.alloc(), constants, fields)?;
-        assert_eq!(rt; refusal_of(rt.alloc(), image), want);
-    }
-    Ok(())
+    rows_hold(
+        &rt,
+        flaw_behind,
+        r"1 13 8 0 0 => none
+        2 13 0 0 0 => none
+        1 13 0 0 0 => MissingOperand
+        3 13 21 0 0 => none
+        2 13 21 0 0 => MissingOperand
+        3 13 22 0 0 => BadIndex
+        0 13 22 0 0 => BadIndex
+        0 15 6 2 0 => BadIndex
+        1 15 6 1 0 => none
+        2 15 2 2 0 => none
+        2 15 6 2 0 => BadIndex
+        1 15 6 0 0 => BadIndex
+        1 15 20 1 0 => BadIndex
+        0 16 0 0 0 => none
+        3 16 0 0 3 => none
+        2 16 0 0 3 => MissingOperand
+        2 16 0 0 4294967295 => MissingOperand
+        0 17 0 0 0 => none
+        4 17 0 0 2 => none
+        3 17 0 0 2 => MissingOperand
+        3 17 0 0 4294967295 => MissingOperand",
+    )
 }
 
 #[test]

@@ -1,10 +1,10 @@
 //! Runs of small images.
 
+use crate::rows::{numbers, rows_hold};
+use crate::running::{AMPLE, outcome_of};
 use jt_budget::Budget;
 use jt_image::{Constant, Image, Instr, Parts, Unit, assemble, decode};
-use jt_machine::{Outcome, run};
 use jt_value::{Context, Value};
-use jt_verify::verify;
 use std::alloc::Global;
 use std::test::Fail;
 
@@ -33,38 +33,12 @@ const AB: [u8; 72] = [
     0x1c, 0x00, 0x00, 0x00, 0x00, 0x00, 0x00, 0x00,
 ];
 
-const AMPLE: Budget = Budget {
-    fuel: 1_000,
-    depth: 64,
-    output: 1_000,
-    size: 1_000,
-    nesting: 32,
-};
-
 // The outcome of an image, in words.
 fn outcome(alloc: Global, bytes: &[u8], context: &Context, budget: Budget) -> Result<String, Fail> {
     let Ok(image) = decode(alloc, bytes) else {
         return Err(Fail::from("decode"));
     };
     outcome_of(alloc, image, context, budget)
-}
-
-// The outcome of an image that is read, in words.
-fn outcome_of(
-    alloc: Global,
-    image: Image,
-    context: &Context,
-    budget: Budget,
-) -> Result<String, Fail> {
-    let Ok(verified) = verify(alloc, image) else {
-        return Err(Fail::from("verify"));
-    };
-    match run(alloc, &verified, context, budget) {
-        Ok(Outcome::Text(text)) => Ok(format!(in alloc; "text {text}")?),
-        Ok(Outcome::Fault(fault)) => Ok(format!(in alloc; "fault {fault:?}")?),
-        Ok(Outcome::Spent(spent)) => Ok(format!(in alloc; "spent {spent}")?),
-        Err(_) => Err(Fail::from("run")),
-    }
 }
 
 // A context of one value.
@@ -130,22 +104,33 @@ fn a_constant_is_put(rt: HostRuntime) -> Result<(), Fail> {
     Ok(())
 }
 
+// What N comes to, between quotes: a number, or no value, and the fuel.
+fn number_printed(alloc: Global, asked: &str) -> Result<String, Fail> {
+    let (number, fuel) = asked.split_once(" ").ok_or("a row has no fuel")?;
+    let budget = Budget {
+        fuel: fuel.parse::<u64>()?,
+        ..AMPLE
+    };
+    let context = if number == "none" {
+        Context::new(alloc)
+    } else {
+        context_of(alloc, "n", Value::Int(number.parse::<i64>()?))?
+    };
+    let found = outcome(alloc, &N, &context, budget)?;
+    Ok(format!(in alloc; "'{found}'")?)
+}
+
 #[test]
 fn a_number_is_printed_if_it_is_true(rt: HostRuntime) -> Result<(), Fail> {
-    let alloc = rt.alloc();
-    for (number, fuel, wanted) in [
-        (7, 5, "text 7"),
-        (7, 4, "spent Fuel"),
-        (0, 3, "text "),
-        (0, 2, "spent Fuel"),
-    ] {
-        let context = context_of(alloc, "n", Value::Int(number))?;
-        let found = outcome(alloc, &N, &context, Budget { fuel, ..AMPLE })?;
-        assert_eq!(rt; found.as_str(), wanted);
-    }
-    let found = outcome(alloc, &N, &Context::new(alloc), Budget { fuel: 3, ..AMPLE })?;
-    assert_eq!(rt; found.as_str(), "text ");
-    Ok(())
+    rows_hold(
+        &rt,
+        number_printed,
+        r"7 5 => 'text 7'
+        7 4 => 'spent Fuel'
+        0 3 => 'text '
+        0 2 => 'spent Fuel'
+        none 3 => 'text '",
+    )
 }
 
 #[test]
@@ -159,23 +144,26 @@ fn a_list_is_not_printed(rt: HostRuntime) -> Result<(), Fail> {
     Ok(())
 }
 
+// What `<` is printed as: the flag, text or markup, and the output.
+fn less_printed(alloc: Global, asked: &str) -> Result<String, Fail> {
+    let [flag, is_markup, output] = numbers::<3>(asked)?;
+    let mut image = N;
+    image[52] = u8::try_from(flag)?;
+    let context = context_of(alloc, "n", text_of(alloc, "<", is_markup == 1)?)?;
+    outcome(alloc, &image, &context, Budget { output, ..AMPLE })
+}
+
 #[test]
 fn texts_are_escaped_and_markup_is_not(rt: HostRuntime) -> Result<(), Fail> {
-    let alloc = rt.alloc();
-    for (flag, is_markup, output, wanted) in [
-        (0, false, 1, "text <"),
-        (1, false, 4, "text &lt;"),
-        (1, false, 3, "spent Output"),
-        (1, true, 1, "text <"),
-        (1, true, 0, "spent Output"),
-    ] {
-        let mut image = N;
-        image[52] = flag;
-        let context = context_of(alloc, "n", text_of(alloc, "<", is_markup)?)?;
-        let found = outcome(alloc, &image, &context, Budget { output, ..AMPLE })?;
-        assert_eq!(rt; found.as_str(), wanted);
-    }
-    Ok(())
+    rows_hold(
+        &rt,
+        less_printed,
+        r"0 0 1 => text <
+        1 0 4 => text &lt;
+        1 0 3 => spent Output
+        1 1 1 => text <
+        1 1 0 => spent Output",
+    )
 }
 
 #[test]
@@ -203,27 +191,35 @@ fn printing_costs_by_size(rt: HostRuntime) -> Result<(), Fail> {
     Ok(())
 }
 
+// The outcome without fuel where the context has a list: its name, and the limits of size and nesting.
+fn limited(alloc: Global, asked: &str) -> Result<String, Fail> {
+    let (name, limits) = asked.split_once(" ").ok_or("a row has no limits")?;
+    let [size, nesting] = numbers::<2>(limits)?;
+    let budget = Budget {
+        fuel: 0,
+        size: u32::try_from(size)?,
+        nesting: u8::try_from(nesting)?,
+        ..AMPLE
+    };
+    outcome(
+        alloc,
+        &N,
+        &context_of(alloc, name, list(alloc, 1)?)?,
+        budget,
+    )
+}
+
 #[test]
 fn the_context_is_tested_first(rt: HostRuntime) -> Result<(), Fail> {
-    let alloc = rt.alloc();
-    for (name, size, nesting, wanted) in [
-        ("n", 2, 1, "spent Fuel"),
-        ("n", 1, 1, "spent Size"),
-        ("n", 1, 0, "spent Size"),
-        ("n", 2, 0, "spent Nesting"),
-        ("m", 1, 0, "spent Fuel"),
-    ] {
-        let context = context_of(alloc, name, list(alloc, 1)?)?;
-        let budget = Budget {
-            fuel: 0,
-            size,
-            nesting,
-            ..AMPLE
-        };
-        let found = outcome(alloc, &N, &context, budget)?;
-        assert_eq!(rt; found.as_str(), wanted);
-    }
-    Ok(())
+    rows_hold(
+        &rt,
+        limited,
+        r"n 2 1 => spent Fuel
+        n 1 1 => spent Size
+        n 1 0 => spent Size
+        n 2 0 => spent Nesting
+        m 1 0 => spent Fuel",
+    )
 }
 
 #[test]
@@ -239,26 +235,6 @@ fn two_values_of_a_context(rt: HostRuntime) -> Result<(), Fail> {
 // The fields of an instruction.
 type Fields = (u8, u8, u16, u32);
 
-const MINUS: Fields = (13, 1, 0, 0);
-
-const FLOOR: Fields = (13, 3, 0, 0);
-
-const NEGATE: Fields = (13, 6, 0, 0);
-
-const NOT: Fields = (13, 8, 0, 0);
-
-const EQUAL: Fields = (13, 11, 0, 0);
-
-const ITEM: Fields = (13, 18, 0, 0);
-
-const RANGE: Fields = (13, 19, 0, 0);
-
-const RANGE_BY_STEP: Fields = (13, 21, 0, 0);
-
-const EVEN: Fields = (15, 6, 1, 0);
-
-const DIVISIBLE: Fields = (15, 2, 2, 0);
-
 fn constant(index: u32) -> Fields {
     (1, 0, 0, index)
 }
@@ -269,6 +245,33 @@ fn list_of(count: u32) -> Fields {
 
 fn map_with(count: u32) -> Fields {
     (17, 0, 0, count)
+}
+
+// The fields of an instruction: `c3` puts the constant 3, `list2` and `map2` make a list and a map of so many, the others are
+// operators and tests.
+fn fields_of(word: &str) -> Result<Fields, Fail> {
+    if let Some(index) = word.strip_prefix("c") {
+        return Ok(constant(index.parse::<u32>()?));
+    }
+    if let Some(count) = word.strip_prefix("list") {
+        return Ok(list_of(count.parse::<u32>()?));
+    }
+    if let Some(count) = word.strip_prefix("map") {
+        return Ok(map_with(count.parse::<u32>()?));
+    }
+    match word {
+        "subtract" => Ok((13, 1, 0, 0)),
+        "floordivide" => Ok((13, 3, 0, 0)),
+        "negate" => Ok((13, 6, 0, 0)),
+        "not" => Ok((13, 8, 0, 0)),
+        "equal" => Ok((13, 11, 0, 0)),
+        "item" => Ok((13, 18, 0, 0)),
+        "range" => Ok((13, 19, 0, 0)),
+        "rangebystep" => Ok((13, 21, 0, 0)),
+        "divisibleby" => Ok((15, 2, 2, 0)),
+        "even" => Ok((15, 6, 1, 0)),
+        _ => Err(Fail::from("an instruction has no name")),
+    }
 }
 
 // The image that carries out some instructions and prints what they leave. The constants are the numbers 0 to 3, -7, the texts
@@ -316,91 +319,62 @@ fn printed(alloc: Global, instructions: &[Fields], budget: Budget) -> Result<Str
     outcome_of(alloc, image, &Context::new(alloc), budget)
 }
 
+// The instructions of a row, with blanks between.
+fn instructions_of(alloc: Global, words: &str) -> Result<Vec<Fields>, Fail> {
+    let mut instructions = Vec::new(alloc);
+    for word in words.split(' ') {
+        instructions.push(fields_of(word)?)?;
+    }
+    Ok(instructions)
+}
+
+// What a row prints: fuel, the limits of size and nesting, and behind a colon instructions.
+fn printed_by(alloc: Global, asked: &str) -> Result<String, Fail> {
+    let (limits, words) = asked.split_once(": ").ok_or("a row has no budget")?;
+    let [fuel, size, nesting] = numbers::<3>(limits)?;
+    let budget = Budget {
+        fuel,
+        size: u32::try_from(size)?,
+        nesting: u8::try_from(nesting)?,
+        ..AMPLE
+    };
+    printed(alloc, &instructions_of(alloc, words)?, budget)
+}
+
 #[test]
 fn operators_and_tests(rt: HostRuntime) -> Result<(), Fail> {
-    let alloc = rt.alloc();
-    let subtract: &[Fields] = &[constant(1), constant(3), MINUS];
-    let floor: &[Fields] = &[constant(4), constant(2), FLOOR];
-    let zero: &[Fields] = &[constant(4), constant(0), FLOOR];
-    let text: &[Fields] = &[constant(4), constant(5), MINUS];
-    let negated: &[Fields] = &[constant(4), NEGATE];
-    let not: &[Fields] = &[constant(7), NOT];
-    let still: &[Fields] = &[constant(1), constant(2), constant(0), RANGE_BY_STEP];
-    let even: &[Fields] = &[constant(3), EVEN];
-    let divisible: &[Fields] = &[constant(2), constant(1), DIVISIBLE];
-    let by_zero: &[Fields] = &[constant(2), constant(0), DIVISIBLE];
-    for (instructions, fuel, wanted) in [
-        (subtract, 5, "text -2"),
-        (subtract, 4, "spent Fuel"),
-        (floor, 5, "text -4"),
-        (zero, 3, "fault ZeroDivide"),
-        (zero, 2, "spent Fuel"),
-        (text, 3, "fault BadType"),
-        (negated, 4, "text 7"),
-        (not, 4, "text True"),
-        (still, 4, "fault Range"),
-        (still, 3, "spent Fuel"),
-        (even, 4, "text False"),
-        (divisible, 5, "text True"),
-        (by_zero, 3, "fault ZeroDivide"),
-        (by_zero, 2, "spent Fuel"),
-    ] {
-        let found = printed(alloc, instructions, Budget { fuel, ..AMPLE })?;
-        assert_eq!(rt; found.as_str(), wanted);
-    }
-    Ok(())
+    rows_hold(
+        &rt,
+        printed_by,
+        r"5 1000 32: c1 c3 subtract => text -2
+        4 1000 32: c1 c3 subtract => spent Fuel
+        5 1000 32: c4 c2 floordivide => text -4
+        3 1000 32: c4 c0 floordivide => fault ZeroDivide
+        2 1000 32: c4 c0 floordivide => spent Fuel
+        3 1000 32: c4 c5 subtract => fault BadType
+        4 1000 32: c4 negate => text 7
+        4 1000 32: c7 not => text True
+        4 1000 32: c1 c2 c0 rangebystep => fault Range
+        3 1000 32: c1 c2 c0 rangebystep => spent Fuel
+        4 1000 32: c3 even => text False
+        5 1000 32: c2 c1 divisibleby => text True
+        3 1000 32: c2 c0 divisibleby => fault ZeroDivide
+        2 1000 32: c2 c0 divisibleby => spent Fuel",
+    )
 }
 
 #[test]
 fn lists_and_maps(rt: HostRuntime) -> Result<(), Fail> {
-    let alloc = rt.alloc();
-    let first: &[Fields] = &[constant(3), constant(1), list_of(2), constant(0), ITEM];
-    let later: &[Fields] = &[
-        constant(5),
-        constant(1),
-        constant(6),
-        constant(2),
-        constant(5),
-        constant(3),
-        map_with(3),
-        constant(5),
-        ITEM,
-    ];
-    let doubled: &[Fields] = &[
-        constant(5),
-        constant(1),
-        constant(6),
-        constant(2),
-        constant(5),
-        constant(3),
-        map_with(3),
-        constant(6),
-        constant(2),
-        constant(5),
-        constant(3),
-        map_with(2),
-        EQUAL,
-    ];
-    let number: &[Fields] = &[constant(1), constant(1), map_with(1)];
-    let undefined: &[Fields] = &[
-        constant(1),
-        constant(1),
-        constant(7),
-        constant(1),
-        map_with(2),
-    ];
-    let none: &[Fields] = &[map_with(0), list_of(0), EQUAL];
-    for (instructions, wanted) in [
-        (first, "text 3"),
-        (later, "text 3"),
-        (doubled, "text True"),
-        (number, "fault BadType"),
-        (undefined, "fault Undefined"),
-        (none, "text False"),
-    ] {
-        assert_eq!(rt; printed(alloc, instructions, AMPLE)?.as_str(), wanted);
-    }
-    Ok(())
+    rows_hold(
+        &rt,
+        printed_by,
+        r"1000 1000 32: c3 c1 list2 c0 item => text 3
+        1000 1000 32: c5 c1 c6 c2 c5 c3 map3 c5 item => text 3
+        1000 1000 32: c5 c1 c6 c2 c5 c3 map3 c6 c2 c5 c3 map2 equal => text True
+        1000 1000 32: c1 c1 map1 => fault BadType
+        1000 1000 32: c1 c1 c7 c1 map2 => fault Undefined
+        1000 1000 32: map0 list0 equal => text False",
+    )
 }
 
 // A list costs 1 more for each 64 of its items' sizes; so does printing it, which it cannot be, for each 64 of its own.
@@ -428,24 +402,15 @@ fn making_costs_by_size(rt: HostRuntime) -> Result<(), Fail> {
 
 #[test]
 fn what_is_made_is_within_the_limits(rt: HostRuntime) -> Result<(), Fail> {
-    let alloc = rt.alloc();
-    let range: &[Fields] = &[constant(3), RANGE, constant(2), ITEM];
-    let nested: &[Fields] = &[list_of(0), list_of(1), constant(0), ITEM];
-    for (instructions, size, nesting, wanted) in [
-        (range, 4, 1, "text 2"),
-        (range, 3, 1, "spent Size"),
-        (range, 3, 0, "spent Size"),
-        (range, 4, 0, "spent Nesting"),
-        (nested, 2, 2, "fault Unprintable"),
-        (nested, 1, 1, "spent Size"),
-        (nested, 2, 1, "spent Nesting"),
-    ] {
-        let budget = Budget {
-            size,
-            nesting,
-            ..AMPLE
-        };
-        assert_eq!(rt; printed(alloc, instructions, budget)?.as_str(), wanted);
-    }
-    Ok(())
+    rows_hold(
+        &rt,
+        printed_by,
+        r"1000 4 1: c3 range c2 item => text 2
+        1000 3 1: c3 range c2 item => spent Size
+        1000 3 0: c3 range c2 item => spent Size
+        1000 4 0: c3 range c2 item => spent Nesting
+        1000 2 2: list0 list1 c0 item => fault Unprintable
+        1000 1 1: list0 list1 c0 item => spent Size
+        1000 2 1: list0 list1 c0 item => spent Nesting",
+    )
 }
