@@ -1,3 +1,4 @@
+pub mod Characters
 pub mod Choices
 pub mod FilterRows
 pub mod Lists

@@ -6,6 +6,7 @@ pub mod Kinds
 pub mod Listing
 pub mod Mapping
 pub mod Numbers
+pub mod Operands
 pub mod Ordering
 pub mod Ranks
 pub mod Texts

@@ -4,10 +4,12 @@
 mod choosing;
 mod filter_id;
 mod filters;
+mod item_list;
 mod items;
 mod limits;
 mod listing;
 mod numbers;
+mod operand;
 mod replacing;
 mod sorting;
 mod texts;

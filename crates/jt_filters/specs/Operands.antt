@@ -1,0 +1,53 @@
+-- What the private functions say of what a filter works on, and of what they answer.
+use Rattle.std.specs.Prelude.{◌≡◌, ℕ, ◌-◌, ◌^◌, min, true, Result, Ok, Err}
+use Rattle.std.specs.Str.{chars}
+use Rattle.jt_value.specs.Iteration.{character_items, key_items}
+use Rattle.jt_value.specs.Payload.{has_payload}
+use Rattle.jt_value.specs.Tree as tree
+use Rattle.jt_value.specs.Tree.{Tree, Items}
+use Rattle.jt_value.specs.View.{view, items_view, entries_view}
+use Rattle.jt_value.specs.declared.fault.Fault.{Fault}
+use Rattle.jt_value.specs.declared.fault.NoMemory.{NoMemory}
+use Rattle.jt_value.specs.declared.fault.ValueError.{ValueError}
+use Rattle.jt_value.specs.declared.fault.ValueError.TheVariants as error
+use Rattle.jt_value.specs.declared.value.Value.{Value}
+use Rattle.jt_filters.specs.declared.operand.Operand.{Operand}
+use Rattle.jt_filters.specs.declared.operand.Operand.TheVariants as operand
+use Rattle.jt_filters.specs.declared.item_list.ItemList.{ItemList}
+use Rattle.jt_filters.specs.declared.item_list.ItemList.TheVariants as item_list
+
+abbrev pub tree_of : Operand → Tree
+tree_of operand.Undefined = tree.undefined
+tree_of (operand.Text s) = tree.text s.now
+tree_of (operand.Value v) = view v.now
+
+abbrev pub items_in : ItemList → Items
+items_in (item_list.Values vs) = items_view vs.now
+items_in (item_list.Characters s) = character_items (chars s.now)
+items_in (item_list.Keys es) = key_items (entries_view es.now)
+
+-- the value is there, or memory for its payload was refused
+abbrev pub Copies : Tree → Result Value NoMemory → Type 0
+Copies t (Ok v) = view v ≡ t
+Copies t (Err e) = has_payload t ≡ true
+
+-- the size and the nesting of a result, each the greatest number of its type where it is greater
+abbrev pub measured : Result Tree Fault → Result (ℕ × ℕ) Fault
+measured (Ok t) = Ok (min (tree.size t) (2 ^ 64 - 1), min (tree.nesting t) (2 ^ 32 - 1))
+measured (Err fault) = Err fault
+
+-- there is a payload, if there is a result
+abbrev pub HasPayload : Result Tree Fault → Type 0
+HasPayload (Ok t) = has_payload t ≡ true
+HasPayload (Err fault) = Unit {0}
+
+-- the answer is what is wanted; want of memory is one only where that has a payload
+abbrev pub Builds : Result Tree Fault → Result Value ValueError → Type 0
+Builds wanted (Ok v) = wanted ≡ Ok (view v)
+Builds wanted (Err (error.Fault f)) = wanted ≡ Err f
+Builds wanted (Err error.NoMemory) = HasPayload wanted
+
+-- the items are there, or the fault says why not
+abbrev pub HasItems : Result Items Fault → Result ItemList Fault → Type 0
+HasItems wanted (Ok found) = wanted ≡ Ok (items_in found)
+HasItems wanted (Err f) = wanted ≡ Err f
