@@ -1,5 +1,5 @@
 -- What the private functions say of what a filter works on, and of what they answer.
-use Rattle.std.specs.Prelude.{◌≡◌, ℕ, ◌-◌, ◌^◌, min, true, Result, Ok, Err}
+use Rattle.std.specs.Prelude.{◌≡◌, ℕ, ℤ, pos, negsuc, ◌-◌, ◌^◌, min, true, Option, Some, None, Result, Ok, Err}
 use Rattle.std.specs.Str.{chars}
 use Rattle.jt_value.specs.Iteration.{character_items, key_items}
 use Rattle.jt_value.specs.Payload.{has_payload}
@@ -11,6 +11,7 @@ use Rattle.jt_value.specs.declared.fault.NoMemory.{NoMemory}
 use Rattle.jt_value.specs.declared.fault.ValueError.{ValueError}
 use Rattle.jt_value.specs.declared.fault.ValueError.TheVariants as error
 use Rattle.jt_value.specs.declared.value.Value.{Value}
+use Rattle.jt_value.specs.Tree.{no_items, item}
 use Rattle.jt_filters.specs.declared.operand.Operand.{Operand}
 use Rattle.jt_filters.specs.declared.operand.Operand.TheVariants as operand
 use Rattle.jt_filters.specs.declared.item_list.ItemList.{ItemList}
@@ -18,6 +19,7 @@ use Rattle.jt_filters.specs.declared.item_list.ItemList.TheVariants as item_list
 
 abbrev pub tree_of : Operand → Tree
 tree_of operand.Undefined = tree.undefined
+tree_of (operand.Number n) = tree.number n
 tree_of (operand.Text s) = tree.text s.now
 tree_of (operand.Value v) = view v.now
 
@@ -25,6 +27,11 @@ abbrev pub items_in : ItemList → Items
 items_in (item_list.Values vs) = items_view vs.now
 items_in (item_list.Characters s) = character_items (chars s.now)
 items_in (item_list.Keys es) = key_items (entries_view es.now)
+
+-- the number that a value is
+abbrev pub number_of : Tree → Option ℤ
+number_of (tree.number z) = Some z
+number_of t = None
 
 -- the value is there, or memory for its payload was refused
 abbrev pub Copies : Tree → Result Value NoMemory → Type 0
@@ -35,6 +42,16 @@ Copies t (Err e) = has_payload t ≡ true
 abbrev pub measured : Result Tree Fault → Result (ℕ × ℕ) Fault
 measured (Ok t) = Ok (min (tree.size t) (2 ^ 64 - 1), min (tree.nesting t) (2 ^ 32 - 1))
 measured (Err fault) = Err fault
+
+-- what an operand gives, or the fault
+abbrev pub chosen : Result Operand Fault → Result Tree Fault
+chosen (Ok o) = Ok (tree_of o)
+chosen (Err fault) = Err fault
+
+-- the last of an item and those behind it
+abbrev pub last_of : Tree → Items → Tree
+last_of t no_items = t
+last_of t (item u us) = last_of u us
 
 -- there is a payload, if there is a result
 abbrev pub HasPayload : Result Tree Fault → Type 0

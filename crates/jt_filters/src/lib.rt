@@ -6,6 +6,7 @@ mod filter_id;
 mod filters;
 mod item_list;
 mod items;
+mod kinds;
 mod limits;
 mod listing;
 mod numbers;

@@ -1,21 +1,22 @@
-//! What a filter works on: a value, or a text that is no value yet.
+//! What a filter works on: a value, or a number or a text that is no value yet.
 ghost use Rattle.std.specs.Prelude.{◌≡◌, ◌-◌, ◌^◌, min, option_map, IfOk, IfErr, Some, None};
-ghost use Rattle.jt_value.specs.Iteration.{items_of_tree};
 ghost use Rattle.jt_value.specs.Payload.{text_of, items_of_list, entries_of_map};
 ghost use Rattle.jt_value.specs.Tree.{truth, printed, size, nesting};
 ghost use Rattle.jt_value.specs.View.{view, items_view, entries_view};
 ghost use Rattle.jt_ops.specs.Operands as operands;
 ghost use Rattle.jt_ops.specs.Testing as testing;
-ghost use Rattle.jt_filters.specs.Operands.{tree_of, Copies};
+ghost use Rattle.jt_filters.specs.Kinds.{is_plain};
+ghost use Rattle.jt_filters.specs.Operands.{tree_of, number_of, Copies};
 
 use itoa::Buffer;
 use jt_value::{Fault, NoMemory, Value};
 use std::alloc::Global;
 
-/// A value that is lent, or a plain text, as a character or a key, that would be one.
+/// A value that is lent, or undefined, a number or a plain text, as a character or a key, that would be one.
 #[derive(Clone, Copy)]
 pub(crate) enum Operand<'a> {
     Undefined,
+    Number(i64),
     Text(&'a str),
     Value(&'a Value),
 }
@@ -26,9 +27,9 @@ impl<'a> Operand<'a> {
         ensures { option_map (λ s. s.now) result ≡ text_of (tree_of self.entry) }
     {
         match self {
-            Operand::Undefined => None,
             Operand::Text(text) => Some(text),
             Operand::Value(value) => value.as_text(),
+            _ => None,
         }
     }
 
@@ -58,8 +59,8 @@ impl<'a> Operand<'a> {
     {
         match self {
             Operand::Undefined => true,
-            Operand::Text(_) => false,
             Operand::Value(value) => matches!(value, Value::Undefined),
+            _ => false,
         }
     }
 
@@ -73,12 +74,35 @@ impl<'a> Operand<'a> {
         }
     }
 
+    /// The number that this is.
+    pub(crate) fn as_number(self) -> Option<i64>
+        ensures { result ≡ number_of (tree_of self.entry) }
+    {
+        match self {
+            Operand::Number(number) => Some(number),
+            Operand::Value(Value::Int(number)) => Some(*number),
+            _ => None,
+        }
+    }
+
+    /// Whether this is a plain text.
+    pub(crate) fn is_plain(self) -> bool
+        ensures { result ≡ is_plain (tree_of self.entry) }
+    {
+        match self {
+            Operand::Text(_) => true,
+            Operand::Value(value) => matches!(value, Value::Text(_)),
+            _ => false,
+        }
+    }
+
     /// Whether this counts as true.
     pub(crate) fn truth(self) -> bool
         ensures { result ≡ truth (tree_of self.entry) }
     {
         match self {
             Operand::Undefined => false,
+            Operand::Number(number) => number != 0,
             Operand::Text(text) => !text.is_empty(),
             Operand::Value(value) => value.truth(),
         }
@@ -91,6 +115,7 @@ impl<'a> Operand<'a> {
     {
         match self {
             Operand::Undefined => Ok(""),
+            Operand::Number(number) => Ok(buffer.format(number)),
             Operand::Text(text) => Ok(text),
             Operand::Value(value) => value.shown(buffer),
         }
@@ -112,7 +137,7 @@ impl<'a> Operand<'a> {
         ensures { result ≡ min (size (tree_of self.entry)) (2 ^ 64 - 1) }
     {
         match self {
-            Operand::Undefined => 1,
+            Operand::Undefined | Operand::Number(_) => 1,
             Operand::Text(text) => (text.len() as u64).saturating_add(1),
             Operand::Value(value) => value.size(),
         }
@@ -134,6 +159,7 @@ impl<'a> Operand<'a> {
     {
         match self {
             Operand::Undefined => Ok(Value::Undefined),
+            Operand::Number(number) => Ok(Value::Int(number)),
             Operand::Text(text) => Value::text(alloc, text),
             Operand::Value(value) => value.try_clone(alloc),
         }
