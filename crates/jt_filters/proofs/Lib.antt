@@ -1,13 +1,11 @@
 pub mod Characters
 pub mod Choices
 pub mod FilterRows
+pub mod Firsts
 pub mod Lists
+pub mod Measured
 pub mod Measures
-pub mod Merges
-pub mod MergeSteps
 pub mod Numerals
-pub mod Orders
 pub mod Payloads
 pub mod Replacements
 pub mod Changes
-pub mod Weaker

@@ -1,5 +1,5 @@
 -- What the private functions say of what a filter works on, and of what they answer.
-use Rattle.std.specs.Prelude.{◌≡◌, ℕ, ℤ, pos, negsuc, ◌-◌, ◌^◌, min, true, Option, Some, None, Result, Ok, Err}
+use Rattle.std.specs.Prelude.{◌≡◌, ℕ, List, ℤ, pos, negsuc, ◌-◌, ◌^◌, min, true, Option, Some, None, Result, Ok, Err}
 use Rattle.std.specs.Str.{chars}
 use Rattle.jt_value.specs.Iteration.{character_items, key_items}
 use Rattle.jt_value.specs.Payload.{has_payload}
@@ -32,6 +32,11 @@ items_in (item_list.Keys es) = key_items (entries_view es.now)
 abbrev pub number_of : Tree → Option ℤ
 number_of (tree.number z) = Some z
 number_of t = None
+
+-- the bytes of a plain text
+abbrev pub plain_of : Tree → Option (List ℕ)
+plain_of (tree.text s) = Some s
+plain_of t = None
 
 -- the value is there, or memory for its payload was refused
 abbrev pub Copies : Tree → Result Value NoMemory → Type 0

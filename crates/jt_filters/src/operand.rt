@@ -6,7 +6,7 @@ ghost use Rattle.jt_value.specs.View.{view, items_view, entries_view};
 ghost use Rattle.jt_ops.specs.Operands as operands;
 ghost use Rattle.jt_ops.specs.Testing as testing;
 ghost use Rattle.jt_filters.specs.Kinds.{is_plain};
-ghost use Rattle.jt_filters.specs.Operands.{tree_of, number_of, Copies};
+ghost use Rattle.jt_filters.specs.Operands.{tree_of, number_of, plain_of, Copies};
 
 use itoa::Buffer;
 use jt_value::{Fault, NoMemory, Value};
@@ -81,6 +81,17 @@ impl<'a> Operand<'a> {
         match self {
             Operand::Number(number) => Some(number),
             Operand::Value(Value::Int(number)) => Some(*number),
+            _ => None,
+        }
+    }
+
+    /// The characters of a plain text.
+    pub(crate) fn as_plain(self) -> Option<&'a str>
+        ensures { option_map (λ s. s.now) result ≡ plain_of (tree_of self.entry) }
+    {
+        match self {
+            Operand::Text(text) => Some(text),
+            Operand::Value(Value::Text(text)) => Some(text.as_str()),
             _ => None,
         }
     }
