@@ -5,7 +5,11 @@ pub mod Firsts
 pub mod Lists
 pub mod Measured
 pub mod Measures
+pub mod Merges
+pub mod MergeSteps
 pub mod Numerals
+pub mod Orders
 pub mod Payloads
+pub mod Plains
 pub mod Replacements
 pub mod Changes

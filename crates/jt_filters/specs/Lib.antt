@@ -6,4 +6,5 @@ pub mod Mapping
 pub mod Numbers
 pub mod Operands
 pub mod Ordering
+pub mod Ranks
 pub mod Texts

@@ -5,8 +5,11 @@ mod filter_id;
 mod folding;
 mod item_list;
 mod kinds;
+mod listing;
 mod operand;
+mod replacing;
 mod scalars;
+mod sorting;
 mod texts;
 
 pub use filter_id::FilterId;
