@@ -1,7 +1,9 @@
+pub mod Alike
 pub mod Characters
-pub mod Choices
 pub mod FilterRows
 pub mod Firsts
+pub mod Folds
+pub mod Joins
 pub mod Lists
 pub mod Measured
 pub mod Measures

@@ -3,9 +3,11 @@ ghost use Rattle.std.specs.Prelude.{◌≡◌, IfSome, IfNone};
 ghost use Rattle.std.specs.Str.{chars};
 ghost use Rattle.jt_value.specs.Iteration.{items_of_tree, character_items};
 ghost use Rattle.jt_value.specs.Tree as tree;
+ghost use Rattle.jt_ops.specs.ItemOf.{items_count};
 ghost use Rattle.jt_filters.specs.Operands.{tree_of, items_in, HasItems};
 
 use crate::operand::Operand;
+use jt_ops::character_count;
 use jt_value::{Fault, Value};
 
 /// Items: values, the characters of a text, or the keys of a map.
@@ -17,6 +19,18 @@ pub(crate) enum ItemList<'a> {
 }
 
 impl<'a> ItemList<'a> {
+    /// How many items there are.
+    #[tactic(auto, using(jt_ops::proofs::Places::items_count_view, crate::proofs::Payloads::characters_count, crate::proofs::Payloads::keys_count))]
+    pub(crate) fn len(self) -> usize
+        ensures { result ≡ items_count (items_in self.entry) }
+    {
+        match self {
+            ItemList::Values(values) => values.len(),
+            ItemList::Characters(text) => character_count(text),
+            ItemList::Keys(entries) => entries.len(),
+        }
+    }
+
     /// The first item and those behind it.
     pub(crate) fn split_first(self) -> Option<(Operand<'a>, ItemList<'a>)>
         ensures some { IfSome result (λ p. items_in self.entry ≡ tree.item (tree_of p.0) (items_in p.1)) }

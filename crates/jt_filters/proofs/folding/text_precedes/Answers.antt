@@ -1,5 +1,5 @@
 use Rattle.std.proofs.Common.{length, sym, ap, ◌∙◌, arith}
-use Rattle.jt_filters.proofs.Choices.{precedes_past, precedes_end}
+use Rattle.jt_filters.proofs.Folds.{precedes_past, precedes_end}
 use Rattle.jt_filters.proofs.folding.text_precedes.Goals as goal
 
 pub returns-then-index-others : goal.returns-then-index-others
