@@ -1,9 +1,12 @@
 -- Items that count once, and items from the front.
-use Rattle.std.proofs.Common.{◌≡◌, ℕ, zero, suc, ◌+◌, ◌-◌, ◌^◌, ◌<◌, min, max, Bool, true, false, cond, List, Some, None, refl, sym, ap, ◌∙◌, arith, bytes_eq}
+use Rattle.std.proofs.Common.{◌≡◌, ℕ, zero, suc, ◌+◌, ◌-◌, ◌^◌, ◌<◌, min, max, Bool, true, false, cond, List, [], ◌∷◌, ◌++◌, Some, None, refl, sym, ap, ◌∙◌, arith, bytes_eq}
 use Rattle.jt_value.specs.Equality.{equal}
 use Rattle.jt_value.specs.Payload.{text_of, joined_items}
 use Rattle.jt_value.specs.Tree as tree
 use Rattle.jt_value.specs.Tree.{Tree, Items, no_items, item, size, nesting, items_size, items_nesting}
+use Rattle.jt_value.specs.View.{view, items_view}
+use Rattle.jt_value.specs.declared.value.Value.{Value}
+use Rattle.jt_filters.proofs.Lists.{pushed}
 use Rattle.jt_filters.specs.Operands.{front}
 use Rattle.jt_filters.specs.Ordering.{alike, fold, has_alike, unseen}
 
@@ -86,25 +89,52 @@ same_rest t u rest us e = cc
 not_none : (t : Tree) (rest : Items) → item t rest ≡ no_items → ⊥
 not_none t rest e = cc
 
--- one more item from the front
-pub front_next : (all : Items) (n : ℕ) (t : Tree) (rest : Items) → joined_items (front n all) (item t rest) ≡ all → front (suc n) all ≡ joined_items (front n all) (item t no_items)
-front_next no_items zero t rest e = absurd (not_none t rest e)
-front_next no_items (suc n) t rest e = absurd (not_none t rest e)
-front_next (item u us) zero t rest e = same_first t u rest us e
-front_next (item u us) (suc n) t rest e = ap (item u) (front_next us n t rest (same_rest u u _ us e))
+front_suc : (all : Items) (n : ℕ) (t : Tree) (rest : Items) → joined_items (front n all) (item t rest) ≡ all → front (suc n) all ≡ joined_items (front n all) (item t no_items)
+front_suc no_items zero t rest e = absurd (not_none t rest e)
+front_suc no_items (suc n) t rest e = absurd (not_none t rest e)
+front_suc (item u us) zero t rest e = same_first t u rest us e
+front_suc (item u us) (suc n) t rest e = ap (item u) (front_suc us n t rest (same_rest u u _ us e))
 
-pub whole_next : (all : Items) (n : ℕ) (t : Tree) (rest : Items) → joined_items (front n all) (item t rest) ≡ all → joined_items (front (suc n) all) rest ≡ all
+-- one more item from the front
+pub front_next : (all : Items) (n : ℕ) (t : Tree) (rest : Items) → joined_items (front n all) (item t rest) ≡ all → front (n + 1) all ≡ joined_items (front n all) (item t no_items)
+front_next all n t rest e = let m : n + 1 ≡ suc n = omega arith in ap (λ (k : ℕ). front k all) m ∙ front_suc all n t rest e
+
+pub whole_next : (all : Items) (n : ℕ) (t : Tree) (rest : Items) → joined_items (front n all) (item t rest) ≡ all → joined_items (front (n + 1) all) rest ≡ all
 whole_next all n t rest e = ap (λ (ts : Items). joined_items ts rest) (front_next all n t rest e) ∙ joined_joined (front n all) (item t no_items) rest ∙ e
 
 -- a step over an item that is left out, or kept
 pub unseen_left : (all : Items) (n : ℕ) (t : Tree) (rest : Items) → joined_items (front n all) (item t rest) ≡ all → has_alike t (front n all) ≡ true
-    → unseen (front n all) (item t rest) ≡ unseen (front (suc n) all) rest
+    → unseen (front n all) (item t rest) ≡ unseen (front (n + 1) all) rest
 unseen_left all n t rest e old =
     ap (λ (b : Bool). cond b (unseen (joined_items (front n all) (item t no_items)) rest) (item t (unseen (joined_items (front n all) (item t no_items)) rest))) old
     ∙ ap (λ (s : Items). unseen s rest) (sym (front_next all n t rest e))
 
 pub unseen_kept : (all : Items) (n : ℕ) (t : Tree) (rest : Items) → joined_items (front n all) (item t rest) ≡ all → has_alike t (front n all) ≡ false
-    → unseen (front n all) (item t rest) ≡ item t (unseen (front (suc n) all) rest)
+    → unseen (front n all) (item t rest) ≡ item t (unseen (front (n + 1) all) rest)
 unseen_kept all n t rest e new =
     ap (λ (b : Bool). cond b (unseen (joined_items (front n all) (item t no_items)) rest) (item t (unseen (joined_items (front n all) (item t no_items)) rest))) new
     ∙ ap (λ (s : Items). item t (unseen s rest)) (sym (front_next all n t rest e))
+
+pub left_size : (all : Items) (n : ℕ) (t : Tree) (rest : Items) → joined_items (front n all) (item t rest) ≡ all → has_alike t (front n all) ≡ true
+    → items_size (unseen (front n all) (item t rest)) ≡ items_size (unseen (front (n + 1) all) rest)
+left_size all n t rest e old = ap items_size (unseen_left all n t rest e old)
+
+pub kept_size : (all : Items) (n : ℕ) (t : Tree) (rest : Items) → joined_items (front n all) (item t rest) ≡ all → has_alike t (front n all) ≡ false
+    → items_size (unseen (front n all) (item t rest)) ≡ size t + items_size (unseen (front (n + 1) all) rest)
+kept_size all n t rest e new = ap items_size (unseen_kept all n t rest e new)
+
+pub left_nesting : (all : Items) (n : ℕ) (t : Tree) (rest : Items) → joined_items (front n all) (item t rest) ≡ all → has_alike t (front n all) ≡ true
+    → items_nesting (unseen (front n all) (item t rest)) ≡ items_nesting (unseen (front (n + 1) all) rest)
+left_nesting all n t rest e old = ap items_nesting (unseen_left all n t rest e old)
+
+pub kept_nesting : (all : Items) (n : ℕ) (t : Tree) (rest : Items) → joined_items (front n all) (item t rest) ≡ all → has_alike t (front n all) ≡ false
+    → items_nesting (unseen (front n all) (item t rest)) ≡ max (nesting t) (items_nesting (unseen (front (n + 1) all) rest))
+kept_nesting all n t rest e new = ap items_nesting (unseen_kept all n t rest e new)
+
+pub values_left : (all : Items) (n : ℕ) (t : Tree) (rest : Items) (before : Items) → joined_items (front n all) (item t rest) ≡ all → has_alike t (front n all) ≡ true
+    → joined_items before (unseen (front (n + 1) all) rest) ≡ joined_items before (unseen (front n all) (item t rest))
+values_left all n t rest before e old = ap (λ (ts : Items). joined_items before ts) (sym (unseen_left all n t rest e old))
+
+pub values_kept : (all : Items) (n : ℕ) (t : Tree) (rest : Items) (before after : List Value) (v : Value) → joined_items (front n all) (item t rest) ≡ all → has_alike t (front n all) ≡ false → after ≡ before ++ v ∷ [] → view v ≡ t
+    → joined_items (items_view after) (unseen (front (n + 1) all) rest) ≡ joined_items (items_view before) (unseen (front n all) (item t rest))
+values_kept all n t rest before after v e new is same = pushed before after v t (unseen (front (n + 1) all) rest) is same ∙ ap (λ (ts : Items). joined_items (items_view before) ts) (sym (unseen_kept all n t rest e new))

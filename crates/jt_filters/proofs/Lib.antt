@@ -1,4 +1,6 @@
 pub mod Alike
+pub mod Applied
+pub mod Built
 pub mod Characters
 pub mod FilterRows
 pub mod Firsts

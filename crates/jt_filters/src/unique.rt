@@ -1,7 +1,8 @@
 //! Filter `unique`.
-ghost use Rattle.std.specs.Prelude.{◌≡◌, ◌-◌, ◌^◌, min, IfOk};
+ghost use Rattle.std.specs.Prelude.{◌≡◌, ◌+◌, ◌-◌, ◌^◌, min, max, IfOk, OnOk};
 ghost use Rattle.jt_value.specs.Tree as tree;
-ghost use Rattle.jt_value.specs.Tree.{items_size, items_nesting};
+ghost use Rattle.jt_value.specs.Tree.{Items, items_size, items_nesting};
+ghost use Rattle.jt_value.specs.Payload.{joined_items};
 ghost use Rattle.jt_value.specs.Equality.{equal};
 ghost use Rattle.jt_value.specs.View.{view, items_view};
 ghost use Rattle.jt_escape.specs.Joining.{IsAnswer};
@@ -34,14 +35,30 @@ fn unseen_measure(all: ItemList<'_>) -> (u64, u32)
     let mut size = 0u64;
     let mut nesting = 0u32;
     while let Some((item, behind)) = items.split_first() {
-        if !has_alike(item, all, total - left) {
-            size = size.saturating_add(item.size());
-            nesting = nesting.max(item.nesting());
-        }
+        let (more, deepest) = item_measure(item, all, total - left);
+        size = size.saturating_add(more);
+        nesting = nesting.max(deepest);
         left -= 1;
         items = behind;
     }
     (size, nesting)
+}
+
+/// The size and the nesting of an item that has so many others in front, nothing where it is like one of them.
+#[tactic(auto, using(crate::proofs::Alike::left_size, crate::proofs::Alike::kept_size, crate::proofs::Alike::left_nesting, crate::proofs::Alike::kept_nesting))]
+fn item_measure(item: Operand<'_>, all: ItemList<'_>, count: usize) -> (u64, u32)
+    ensures size { (rest : Items) → joined_items (front count (items_in all.entry)) (tree.item (tree_of item.entry) rest) ≡ items_in all.entry
+        → min (result.0 + items_size (unseen (front (count + 1) (items_in all.entry)) rest)) (2 ^ 64 - 1)
+        ≡ min (items_size (unseen (front count (items_in all.entry)) (tree.item (tree_of item.entry) rest))) (2 ^ 64 - 1) }
+    ensures nesting { (rest : Items) → joined_items (front count (items_in all.entry)) (tree.item (tree_of item.entry) rest) ≡ items_in all.entry
+        → min (max result.1 (items_nesting (unseen (front (count + 1) (items_in all.entry)) rest))) (2 ^ 32 - 1)
+        ≡ min (items_nesting (unseen (front count (items_in all.entry)) (tree.item (tree_of item.entry) rest))) (2 ^ 32 - 1) }
+{
+    if has_alike(item, all, count) {
+        (0, 0)
+    } else {
+        (item.size(), item.nesting())
+    }
 }
 
 /// Filter `unique`.
@@ -61,16 +78,34 @@ fn unseen_values(alloc: Global, all: ItemList<'_>) -> Result<Vec<Value>, NoMemor
     let mut items = all;
     let mut values = Vec::new(alloc);
     while let Some((item, behind)) = items.split_first() {
-        if !has_alike(item, all, total - left) {
-            values.push(item.value(alloc)?)?;
-        }
+        push_unseen(alloc, &mut values, item, all, total - left)?;
         left -= 1;
         items = behind;
     }
     Ok(values)
 }
 
+/// Puts an item that has so many others in front behind the values, unless it is like one of those.
+#[tactic(auto, using(crate::proofs::Alike::values_left, crate::proofs::Alike::values_kept))]
+fn push_unseen(
+    alloc: Global,
+    values: &mut Vec<Value>,
+    item: Operand<'_>,
+    all: ItemList<'_>,
+    count: usize,
+) -> Result<(), NoMemory>
+    ensures { OnOk result ((rest : Items) → joined_items (front count (items_in all.entry)) (tree.item (tree_of item.entry) rest) ≡ items_in all.entry
+        → joined_items (items_view values.new.items) (unseen (front (count + 1) (items_in all.entry)) rest)
+        ≡ joined_items (items_view values.old.items) (unseen (front count (items_in all.entry)) (tree.item (tree_of item.entry) rest))) }
+{
+    if !has_alike(item, all, count) {
+        values.push(item.value(alloc)?)?;
+    }
+    Ok(())
+}
+
 /// Whether one of so many items from the front is like an item.
+#[tactic(auto, using(crate::proofs::Alike::front_more, crate::proofs::Alike::front_none))]
 fn has_alike(item: Operand<'_>, items: ItemList<'_>, count: usize) -> bool
     ensures { result ≡ ordering.has_alike (tree_of item.entry) (front count (items_in items.entry)) }
 {
