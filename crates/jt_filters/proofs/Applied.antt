@@ -20,11 +20,19 @@ never_by true b t e = cc
 never_by false true t e = cc
 never_by false false t e = cc
 
+abbrev size_of : Result (ℕ × ℕ) Fault → ℕ
+size_of (Ok m) = m.0
+size_of (Err f) = 0
+
+abbrev nesting_of : Result (ℕ × ℕ) Fault → ℕ
+nesting_of (Ok m) = m.1
+nesting_of (Err f) = 0
+
 size_is : (t : Tree) (s n : ℕ) → Ok (s, n) ≡ measured (Ok t) → s ≡ min (tree.size t) (2 ^ 64 - 1)
-size_is t s n e = cc
+size_is t s n e = ap size_of e
 
 nesting_is : (t : Tree) (s n : ℕ) → Ok (s, n) ≡ measured (Ok t) → n ≡ min (tree.nesting t) (2 ^ 32 - 1)
-nesting_is t s n e = cc
+nesting_is t s n e = ap nesting_of e
 
 refused_by : (limits : Limits) (t : Tree) (x : OpError) → limited_by limits (Ok t) ≡ Err x → Answers (Err x) (limited_by limits (Ok t))
 refused_by limits t (error.Fault f) e = e

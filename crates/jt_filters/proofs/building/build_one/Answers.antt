@@ -1,3 +1,6 @@
+use Rattle.std.proofs.Common.{false, []}
+use Rattle.jt_value.specs.Tree as tree
+use Rattle.jt_filters.specs.Operands.{tree_of}
 use Rattle.jt_filters.proofs.Built.{built, kept, safe_text, escaped_text, once_text, join_of, list_of, distinct_of, sorted_of, reversed_of, pairs_of_map, sorted_map}
 use Rattle.jt_filters.proofs.building.build_one.Goals as goal
 
@@ -32,7 +35,7 @@ pub returns-in-Items : goal.returns-in-Items
 returns-in-Items c = rw c.in-Items.is (built _ _ (pairs_of_map _) c.items.ensures)
 
 pub returns-in-Join : goal.returns-in-Join
-returns-in-Join c = rw c.in-Join.is (built _ _ (join_of _ _ _) c.join.ensures)
+returns-in-Join c = rw c.in-Join.is (built _ _ (join_of c.args.autoescape (tree.text []) (tree_of c.args.operand)) c.join.ensures)
 
 pub returns-in-List : goal.returns-in-List
 returns-in-List c = rw c.in-List.is (built _ _ (list_of _) c.list.ensures)
@@ -41,7 +44,7 @@ pub returns-in-Reverse : goal.returns-in-Reverse
 returns-in-Reverse c = rw c.in-Reverse.is (built _ _ (reversed_of _) c.reverse.ensures)
 
 pub returns-in-Sort : goal.returns-in-Sort
-returns-in-Sort c = rw c.in-Sort.is (built _ _ (sorted_of _ _) c.sort.ensures)
+returns-in-Sort c = rw c.in-Sort.is (built _ _ (sorted_of false (tree_of c.args.operand)) c.sort.ensures)
 
 pub returns-in-Unique : goal.returns-in-Unique
 returns-in-Unique c = rw c.in-Unique.is (built _ _ (distinct_of _) c.unique.ensures)
