@@ -97,7 +97,10 @@ fn build_two(
     ensures { Builds (filtered filter autoescape (tree_of operand.entry ∷ view argument.now ∷ [])) result }
 {
     match filter {
-        FilterId::Default => scalar(alloc, Ok(or_default(operand, Operand::Value(argument), false))),
+        FilterId::Default => scalar(
+            alloc,
+            Ok(or_default(operand, Operand::Value(argument), false)),
+        ),
         FilterId::Int => scalar(alloc, int(operand, Operand::Value(argument))),
         FilterId::Join => join(alloc, operand, Operand::Value(argument), autoescape),
         FilterId::Sort => sort(alloc, operand, argument.truth()),
@@ -118,7 +121,10 @@ fn build_three(
     ensures { Builds (filtered filter autoescape (tree_of operand.entry ∷ view first.now ∷ view second.now ∷ [])) result }
 {
     match filter {
-        FilterId::Default => scalar(alloc, Ok(or_default(operand, Operand::Value(first), second.truth()))),
+        FilterId::Default => scalar(
+            alloc,
+            Ok(or_default(operand, Operand::Value(first), second.truth())),
+        ),
         FilterId::Replace => replace(alloc, operand, first, second),
         _ => unreachable!(),
     }

@@ -34,7 +34,14 @@ pub fn apply(
 {
     match values {
         [value, arguments @ ..] => {
-            applied(alloc, filter, Operand::Value(value), arguments, autoescape, limits)
+            applied(
+                alloc,
+                filter,
+                Operand::Value(value),
+                arguments,
+                autoescape,
+                limits,
+            )
         }
         _ => unreachable!(),
     }

@@ -45,7 +45,11 @@ fn scalar_measure(given: Result<Operand<'_>, Fault>) -> Result<(u64, u32), Fault
 }
 
 /// The same of a filter of its input alone.
-fn measure_one(filter: FilterId, operand: Operand<'_>, autoescape: bool) -> Result<(u64, u32), Fault>
+fn measure_one(
+    filter: FilterId,
+    operand: Operand<'_>,
+    autoescape: bool,
+) -> Result<(u64, u32), Fault>
     requires { nat_le (least_values filter) 1 ≡ true }
     ensures { result ≡ measured (filtered filter autoescape (tree_of operand.entry ∷ [])) }
 {
@@ -90,7 +94,11 @@ fn measure_two(
     ensures { result ≡ measured (filtered filter autoescape (tree_of operand.entry ∷ view argument.now ∷ [])) }
 {
     match filter {
-        FilterId::Default => scalar_measure(Ok(or_default(operand, Operand::Value(argument), false))),
+        FilterId::Default => scalar_measure(Ok(or_default(
+            operand,
+            Operand::Value(argument),
+            false,
+        ))),
         FilterId::Int => scalar_measure(int(operand, Operand::Value(argument))),
         FilterId::Join => join_measure(operand, Operand::Value(argument), autoescape),
         FilterId::Sort => sort_measure(operand, argument.truth()),
@@ -110,7 +118,11 @@ fn measure_three(
     ensures { result ≡ measured (filtered filter autoescape (tree_of operand.entry ∷ view first.now ∷ view second.now ∷ [])) }
 {
     match filter {
-        FilterId::Default => scalar_measure(Ok(or_default(operand, Operand::Value(first), second.truth()))),
+        FilterId::Default => scalar_measure(Ok(or_default(
+            operand,
+            Operand::Value(first),
+            second.truth(),
+        ))),
         FilterId::Replace => replace_measure(operand, first, second),
         _ => unreachable!(),
     }

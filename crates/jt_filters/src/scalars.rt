@@ -42,7 +42,11 @@ fn absolute(number: i64) -> Result<i64, Fault>
 }
 
 /// Filter `default`: the other operand where the first is undefined, or false while `boolean` is true.
-pub(crate) fn or_default<'a>(operand: Operand<'a>, default: Operand<'a>, boolean: bool) -> Operand<'a>
+pub(crate) fn or_default<'a>(
+    operand: Operand<'a>,
+    default: Operand<'a>,
+    boolean: bool,
+) -> Operand<'a>
     ensures { let t = tree_of operand.entry in
         tree_of result ≡ (if is_undefined t || (boolean && not (truth t)) then tree_of default.entry else t) }
 {
@@ -195,7 +199,12 @@ fn comes_first(item: Operand<'_>, other: Operand<'_>, reverse: bool) -> bool
 fn precedes(item: Operand<'_>, other: Operand<'_>) -> bool
     ensures { result ≡ ordering.precedes (tree_of item.entry) (tree_of other.entry) }
 {
-    match (item.as_number(), other.as_number(), item.as_plain(), other.as_plain()) {
+    match (
+        item.as_number(),
+        other.as_number(),
+        item.as_plain(),
+        other.as_plain(),
+    ) {
         (Some(x), Some(y), _, _) => x < y,
         (_, _, Some(s), Some(t)) => text_precedes(s, t),
         _ => false,
