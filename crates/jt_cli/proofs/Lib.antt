@@ -1,4 +1,1 @@
-mod Adding
-mod Commands
-mod Found
 pub mod Taking

@@ -1,9 +1,7 @@
 use crate::files::{FileError, Files};
-use crate::jobs::{Command, DEFAULT, Job};
-use crate::line::job;
 use crate::program::perform;
 use jt_budget::Budget;
-use jt_scan::Options;
+use jt_line::{Command, DEFAULT, Job, Options, USUAL, job};
 use std::alloc::Global;
 use std::io;
 use std::process::Abort;
@@ -429,8 +427,11 @@ fn reads_a_line(rt: HostRuntime) -> Result<(), Fail> {
         assert!(rt;
             job(alloc, words)?
                 == Job {
-                    command: Command::Run { image },
-                    options: Options::new(),
+                    command: Command::Run {
+                        image,
+                        context: None,
+                    },
+                    options: USUAL,
                     budget
                 },
             "{words:?}"
@@ -472,6 +473,7 @@ fn reads_a_line_of_compile(rt: HostRuntime) -> Result<(), Fail> {
         let options = Options {
             keep_trailing_newline,
             autoescape,
+            ..USUAL
         };
         assert!(rt;
             job(alloc, words)?
