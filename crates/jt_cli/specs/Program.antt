@@ -1,7 +1,7 @@
 -- What each command comes to.
 use Rattle.std.specs.Prelude.{◌≡◌, ◌≢◌, ◌⊎◌, ℕ, List, [], length, Option, Some, None, Result, Ok, Err, String, Vec, string_bytes}
 use Rattle.std.specs.declared.alloc.Global.{Global}
-use Rattle.std.specs.Str.Utf8.{IsUtf8}
+use Rattle.std.specs.Str.{IsUtf8}
 use Rattle.clap.specs.Words.{Row, Text as Word}
 use Rattle.jt_scan.specs.declared.options.Options.{Options}
 use Rattle.jt_value.specs.Pairs.{Pairs}
@@ -119,23 +119,24 @@ RendersTo sources entry options x b (Err other) = ⊥
 
 -- the text is the one that a run of an image prints
 abbrev pub IsRunText : Pairs → Budget → List ℕ → Type 0
-IsRunText x b text = (bytes : List ℕ) (s : String Global) × (string_bytes s ≡ text) × IsRun bytes x b (outcome.Text s)
+IsRunText x b text = (bytes : List ℕ) × (s : String Global) × (string_bytes s ≡ text) × IsRun bytes x b (outcome.Text s)
 
 -- the text is the one that a template of the name has
 abbrev pub IsRenderedText : Text → Options → Pairs → Budget → List ℕ → Type 0
 IsRenderedText entry options x b text =
-    (sources : Sources) (s : String Global) × (string_bytes s ≡ text) × IsRendered sources entry options x b (outcome.Text s)
+    (sources : Sources) × (s : String Global) × (string_bytes s ≡ text) × IsRendered sources entry options x b (outcome.Text s)
 
 -- What a command prints, for some contents of the files: of `compile` nothing; of `check`, where the image is
 -- accepted, a line; of `run` and `render` the text of the run, with the options and the budget of the job.
+abbrev pub YieldsBy : Command → LineOptions → Budget → List ℕ → Type 0
+YieldsBy (command.Compile dir name out) o b text = text ≡ []
+YieldsBy (command.Check image) o b text = (bytes : List ℕ) × (n : ℕ × ℕ) × IsCounted bytes n
+YieldsBy (command.Run image context) o b text = (x : Pairs) × IsContextOfFile context x × IsRunText x b text
+YieldsBy (command.Render dir name context) o b text =
+    (x : Pairs) × IsContextOfFile context x × IsRenderedText (string_bytes name) (scan_options o) x b text
+
 abbrev pub Yields : Job → List ℕ → Type 0
-Yields j text = by j.command where
-  abbrev by : Command → Type 0
-  by (command.Compile dir name out) = text ≡ []
-  by (command.Check image) = (bytes : List ℕ) (n : ℕ × ℕ) × IsCounted bytes n
-  by (command.Run image context) = (x : Pairs) × IsContextOfFile context x × IsRunText x j.budget text
-  by (command.Render dir name context) =
-      (x : Pairs) × IsContextOfFile context x × IsRenderedText (string_bytes name) (scan_options j.options) x j.budget text
+Yields j = YieldsBy j.command j.options j.budget
 
 -- the text is what the command of a line prints
 abbrev pub IsYield : Option (Word × List Row) → List ℕ → Type 0
