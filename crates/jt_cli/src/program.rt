@@ -10,8 +10,8 @@ ghost use Rattle.jt_value.specs.ContextView.{pairs_of};
 ghost use Rattle.jt_line.specs.Line.{Takes, Asks, IsAsked, program_app};
 ghost use Rattle.jt_cli.specs.Program.{IsContextOfFile, IsYield, Yields};
 
-use crate::files::{FileError, Files};
 use crate::commands::{context_of, counts_of, image_of, render_text, run_image, scan_options};
+use crate::files::{FileError, Files};
 use crate::messages::{Failure, Status, no_file};
 use crate::templates::Templates;
 use jt_line::{Command, Job, job};
