@@ -455,8 +455,8 @@ fn says_what_is_wrong_with_the_line(rt: HostRuntime) {
             "error: the following required arguments were not provided:",
         ),
         (
-            &["run", "image", "more"],
-            "error: unexpected argument 'more' found",
+            &["run", "image", "more", "most"],
+            "error: unexpected argument 'most' found",
         ),
         (
             &["run", "image", "--fuel"],
