@@ -96,7 +96,8 @@ def refused(crate, batch):
         if os.path.isdir(f"{crate.folder}/out/incremental"):
             shutil.copytree(f"{crate.folder}/out/incremental", kept)
         for edit, _, _ in batch:
-            for path, text in rt.read_edit(edit, room)[0].items():
+            # (where another edit of this check stands in its way, it is tried alone)
+            for path, text in (rt.read_edit(edit, room)[0] or {}).items():
                 with open(f"{room}/{path}", "w", encoding="utf-8") as file:
                     file.write(text)
         words = [*rt.rtlib.guarded(), rt.rtlib.RATTLE, "check", *crate.words(FLAGS, keeps=False), "--incremental", kept]
