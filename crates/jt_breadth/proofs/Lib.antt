@@ -18,3 +18,4 @@ pub mod Taking
 pub mod Serving
 pub mod Served
 pub mod PlacedTakes
+pub mod Sizing
