@@ -19,3 +19,4 @@ pub mod Serving
 pub mod Served
 pub mod PlacedTakes
 pub mod Sizing
+pub mod Lowness

@@ -131,7 +131,7 @@ reads_size : (t : Table) (xs : List Text) → row_size (reads t xs) ≡ length x
 reads_size t [] = refl
 reads_size t (x ∷ xs) = omega (arith, value_size (slot_in x t) (known 0), reads_size t xs)
 
-fresh_len : (n : ℕ) (xs : List Text) → length (fresh n xs) ≡ length xs
+pub fresh_len : (n : ℕ) (xs : List Text) → length (fresh n xs) ≡ length xs
 fresh_len n [] = refl
 fresh_len n (x ∷ xs) = omega (arith, fresh_len (suc n) xs)
 

@@ -2,10 +2,10 @@
 use Rattle.std.specs.Prelude.{ℕ, suc, ◌+◌, ◌*◌, ◌≤◌, List, [], ◌∷◌, length}
 use Rattle.std.specs.List.{AllByRecursion}
 use Rattle.jt_expr.specs.Trees.{weight, pairs_weight}
-use Rattle.jt_breadth.specs.Trees.{Stmt, data_of, print, choose, for_each, set, set_block, with_values, filter_block, autoescape, macro, include, extends, block, Body, end, stmt, Branches, no_branches, branch, condition_weight, filtering_weight, body_weight}
+use Rattle.jt_breadth.specs.Trees.{Text, Stmt, data_of, print, choose, for_each, set, set_block, with_values, filter_block, autoescape, macro, include, extends, block, Body, end, stmt, Branches, no_branches, branch, condition_weight, filtering_weight, body_weight}
 use Rattle.jt_breadth.specs.Chain.{Home, Template, templates, macros}
 use Rattle.jt_breadth.specs.Around.{World}
-use Rattle.jt_breadth.specs.Layout.{names, is_scoped}
+use Rattle.jt_breadth.specs.Layout.{names, block_parameters}
 
 -- ---- own weight: a macro has none where it stands, and a block what its tag needs; their bodies are units of their own
 
@@ -49,3 +49,9 @@ pub record IsFew (world : World) (order : List Home) (h : Home) : Type 0 where
   pub names : (k : Home) → length (names world order k) ≤ 200
   pub macros : AllByRecursion (λ m. length m.parameters ≤ 200) (macros world.sources h)
   pub filters : (f : ℕ) → length (world.filters.parameters f) ≤ 100
+
+-- no macro and no block of a chain has more parameters than so many
+pub record HasAtMost (world : World) (order : List Home) (q : ℕ) (h : Home) : Type 0 where
+  pub macros : AllByRecursion (λ m. length m.parameters ≤ q) (macros world.sources h)
+  pub blocks : (x : Text) → length (block_parameters world order h x) ≤ q
+  pub filters : (f : ℕ) → length (world.filters.parameters f) ≤ 3
