@@ -20,3 +20,4 @@ pub mod Served
 pub mod PlacedTakes
 pub mod Sizing
 pub mod Lowness
+pub mod Whole

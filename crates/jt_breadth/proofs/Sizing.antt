@@ -254,7 +254,7 @@ module _ (world : World) (order : List Home) where
   invoked_sized a_cycle sp row asides n ks w v f k r a = omega (arith, r slots.none)
   invoked_sized no_callee sp row asides n ks w v f k r a = omega arith
 
-  filter_few : (f : Option ℕ) → ((i : ℕ) → length (world.filters.parameters i) ≤ 100) → length (filter_parameters world.filters f) ≤ 100
+  filter_few : (f : Option ℕ) → ((i : ℕ) → length (world.filters.parameters i) ≤ 3) → length (filter_parameters world.filters f) ≤ 3
   filter_few None h = omega arith
   filter_few (Some i) h = h i
 

@@ -1,0 +1,294 @@
+-- A program is as small as the weight of its chains says: each body is a part of one unit.
+use Rattle.std.proofs.Common.{◌≡◌, ℕ, zero, suc, ◌+◌, ◌*◌, max, ◌≤◌, Bool, true, false, if◌then◌else◌, List, [], ◌∷◌, ◌++◌, length, Option, Some, None, arith, refl}
+use Rattle.std.specs.Prelude.{flat_map, filter, map}
+use Rattle.std.specs.List.{AllByRecursion}
+use Rattle.std.specs.Str.{bytes_eq}
+use Rattle.jt_breadth.specs.Trees.{Text, Parameter, parameters_weight, default_weight, Stmt, data_of, print, choose, for_each, set, set_block, with_values, filter_block, autoescape, macro, include, extends, block, stmt_weight, Body, end, stmt, body_weight, Branches, no_branches, branch, branch_weight}
+use Rattle.jt_breadth.specs.Chain.{Home, Template, templates, BlockBody, blocks_of, blocks_in, blocks_under, all_bodies, MacroBody, macros_in, macros}
+use Rattle.jt_breadth.specs.Around.{World}
+use Rattle.jt_breadth.specs.Meaning.{is_set}
+use Rattle.jt_breadth.specs.Names.{set_in}
+use Rattle.jt_breadth.specs.Layout.{block_parameters, counted_from, numbered_bodies, shared}
+use Rattle.jt_breadth.specs.Slots as slots
+use Rattle.jt_breadth.specs.Slots.{SExpr, SRow, SStmt, SBody, Routine}
+use Rattle.jt_breadth.specs.Resolve.{Constant, followed, Part, Spot, bound_all, resolved_stmt, resolved_body, resolved_sets, top_spot, resolved_chain, chain_routine, macro_routine, body_routine}
+use Rattle.jt_breadth.specs.Pool.{expr_values, row_values, condition_values, stmt_values, body_values, placed_expr, placed_row, placed_condition, placed_stmt, placed_body, placed_routines}
+use Rattle.jt_breadth.specs.Programs.{body_routines, chain_routines, routines, program}
+use Rattle.jt_breadth.specs.Size.{expr_size, row_size, condition_size, stmt_size, body_size, routines_size, expr_height, row_height, condition_height, stmt_height, body_height}
+use Rattle.jt_breadth.specs.Measure.{stmt_own, body_own, branch_own, templates_weight, chains_weight, IsFew, HasAtMost, AreFew, IsSized}
+use Rattle.jt_breadth.proofs.Sizing.{followed_size, stmt_sized, all_sized, scope_sized}
+use Rattle.jt_breadth.proofs.Lowness.{followed_low, stmt_low, all_low, scope_low}
+
+-- ---- each body counts once: in its template, or as a block's or a macro's
+
+abbrev bodies_own : List BlockBody → ℕ
+bodies_own [] = 0
+bodies_own (b ∷ bs) = body_own b.body + 1 + bodies_own bs
+
+abbrev macros_own : List MacroBody → ℕ
+macros_own [] = 0
+macros_own (m ∷ ms) = body_own m.body + 2 * length m.parameters + 1 + macros_own ms
+
+bodies_append : (a b : List BlockBody) → bodies_own (a ++ b) ≡ bodies_own a + bodies_own b
+bodies_append [] b = omega arith
+bodies_append (x ∷ a) b = omega (arith, bodies_append a b)
+
+macros_append : (a b : List MacroBody) → macros_own (a ++ b) ≡ macros_own a + macros_own b
+macros_append [] b = omega arith
+macros_append (x ∷ a) b = omega (arith, macros_append a b)
+
+parameters_weigh : (ps : List Parameter) → 2 * length ps ≤ parameters_weight ps
+parameters_weigh [] = omega arith
+parameters_weigh (p ∷ ps) = omega (arith, parameters_weigh ps)
+
+module _ (t : Text) where
+  mutual
+    stmt_once : (s : Stmt) (on : Bool) → stmt_own s + bodies_own (blocks_of t s on) ≤ stmt_weight s
+    stmt_once (data_of x) on = omega arith
+    stmt_once (print line e) on = omega arith
+    stmt_once (choose bs other) on = omega (arith, bodies_append (blocks_under t bs on) (blocks_in t other on), branch_once bs on, body_once other on)
+    stmt_once (for_each line xs e c body other) on = omega (arith, bodies_append (blocks_in t body on) (blocks_in t other on), body_once body on, body_once other on)
+    stmt_once (set line xs e) on = omega arith
+    stmt_once (set_block line x body) on = omega (arith, body_once body on)
+    stmt_once (with_values line ps body) on = omega (arith, body_once body on)
+    stmt_once (filter_block line fs body) on = omega (arith, body_once body on)
+    stmt_once (autoescape line now body) on = omega (arith, body_once body now)
+    stmt_once (macro line x ps body) on = omega (arith, body_once body on)
+    stmt_once (include line n missing with_context) on = omega arith
+    stmt_once (extends line n) on = omega arith
+    stmt_once (block line x is required body) on = omega (arith, body_once body on)
+
+    body_once : (b : Body) (on : Bool) → body_own b + bodies_own (blocks_in t b on) ≤ body_weight b
+    body_once end on = omega arith
+    body_once (stmt s rest) on = omega (arith, bodies_append (blocks_of t s on) (blocks_in t rest on), stmt_once s on, body_once rest on)
+
+    branch_once : (bs : Branches) (on : Bool) → branch_own bs + bodies_own (blocks_under t bs on) ≤ branch_weight bs
+    branch_once no_branches on = omega arith
+    branch_once (branch line c body rest) on = omega (arith, bodies_append (blocks_in t body on) (blocks_under t rest on), body_once body on, branch_once rest on)
+
+  -- with the macros at its top
+  top_once : (b : Body) (on : Bool) → body_own b + bodies_own (blocks_in t b on) + macros_own (macros_in t b) ≤ body_weight b
+  top_once end on = omega arith
+  top_once (stmt (data_of x) rest) on = omega (arith, top_once rest on)
+  top_once (stmt (print line e) rest) on = omega (arith, top_once rest on)
+  top_once (stmt (choose bs other) rest) on = omega (arith, top_once rest on, stmt_once (choose bs other) on, bodies_append (blocks_of t (choose bs other) on) (blocks_in t rest on))
+  top_once (stmt (for_each line xs e c body other) rest) on = omega (arith, top_once rest on, stmt_once (for_each line xs e c body other) on, bodies_append (blocks_of t (for_each line xs e c body other) on) (blocks_in t rest on))
+  top_once (stmt (set line xs e) rest) on = omega (arith, top_once rest on)
+  top_once (stmt (set_block line x body) rest) on = omega (arith, top_once rest on, body_once body on, bodies_append (blocks_in t body on) (blocks_in t rest on))
+  top_once (stmt (with_values line ps body) rest) on = omega (arith, top_once rest on, body_once body on, bodies_append (blocks_in t body on) (blocks_in t rest on))
+  top_once (stmt (filter_block line fs body) rest) on = omega (arith, top_once rest on, body_once body on, bodies_append (blocks_in t body on) (blocks_in t rest on))
+  top_once (stmt (autoescape line now body) rest) on = omega (arith, top_once rest on, body_once body now, bodies_append (blocks_in t body now) (blocks_in t rest on))
+  top_once (stmt (macro line x ps body) rest) on = omega (arith, top_once rest on, body_once body on, bodies_append (blocks_in t body on) (blocks_in t rest on), parameters_weigh ps)
+  top_once (stmt (include line n missing with_context) rest) on = omega (arith, top_once rest on)
+  top_once (stmt (extends line n) rest) on = omega (arith, top_once rest on)
+  top_once (stmt (block line x is required body) rest) on = omega (arith, top_once rest on, body_once body on, bodies_append (blocks_in t body on) (blocks_in t rest on))
+
+abbrev templates_own : List Template → ℕ
+templates_own [] = 0
+templates_own (t ∷ ts) = body_own t.body + templates_own ts
+
+chain_once : (on : Bool) (ts : List Template) → templates_own ts + bodies_own (flat_map (λ t. blocks_in t.name t.body on) ts) + macros_own (flat_map (λ t. macros_in t.name t.body) ts) ≤ templates_weight ts
+chain_once on [] = omega arith
+chain_once on (t ∷ ts) =
+    omega (arith, top_once t.name t.body on, chain_once on ts, bodies_append (blocks_in t.name t.body on) (flat_map (λ t. blocks_in t.name t.body on) ts),
+    macros_append (macros_in t.name t.body) (flat_map (λ t. macros_in t.name t.body) ts))
+
+-- ---- the instructions of a chain's routines
+
+routines_append : {K : Type 0} (a b : List (Routine K)) → routines_size (a ++ b) ≡ routines_size a + routines_size b
+routines_append [] b = omega arith
+routines_append (r ∷ a) b = omega (arith, routines_append a b)
+
+module _ (world : World) (order : List Home) (h : Home) where
+  module _ (k : IsFew world order h) where
+    sets_sized : (b : Body) (t : Text) → body_size (resolved_sets world order b (top_spot world order h t)) ≤ 100 * body_own b
+    sets_sized end t = omega arith
+    sets_sized (stmt s rest) t = through (is_set s) (sets_sized rest t)
+      where
+        through : (b : Bool) → body_size (resolved_sets world order rest (top_spot world order h t)) ≤ 100 * body_own rest
+            → body_size (if b then followed (resolved_stmt world order s (top_spot world order h t)) (resolved_sets world order rest (top_spot world order h t)) else resolved_sets world order rest (top_spot world order h t)) ≤ 100 * (stmt_own s + body_own rest)
+        through true g = omega (arith, g, stmt_sized world order s (top_spot world order h t) k, followed_size (resolved_stmt world order s (top_spot world order h t)) (resolved_sets world order rest (top_spot world order h t)))
+        through false g = omega (arith, g)
+
+    chain_sized : (ts : List Template) → body_size (resolved_chain world order h ts) ≤ 100 * templates_own ts
+    chain_sized [] = omega arith
+    chain_sized (t ∷ []) = omega (arith, all_sized world order t.body (top_spot world order h t.name) k)
+    chain_sized (t ∷ (u ∷ us)) =
+        omega (arith, chain_sized (u ∷ us), sets_sized t.body t.name, followed_size (resolved_sets world order t.body (top_spot world order h t.name)) (resolved_chain world order h (u ∷ us)))
+
+    macros_sized : (ms : List MacroBody) → routines_size (map (macro_routine world order h) ms) ≤ 100 * macros_own ms
+    macros_sized [] = omega arith
+    macros_sized (m ∷ ms) =
+        let sp = bound_all (map (λ p. p.name) m.parameters) (top_spot world order h m.template) in
+        omega (arith, macros_sized ms, scope_sized world order m.body sp (all_sized world order m.body (bound_all (set_in m.body) sp) k))
+
+    blocks_sized : (n : ℕ) (bs : List BlockBody) → routines_size (body_routines world order h (counted_from n bs)) ≤ 100 * bodies_own bs
+    blocks_sized n [] = omega arith
+    blocks_sized n (b ∷ bs) =
+        let part : Part = record { name = b.name; behind = filter (λ c. bytes_eq c.1.name b.name) (counted_from (suc n) bs) } in
+        let sp = bound_all (block_parameters world order h b.name) (record (top_spot world order h b.template) { escaping = b.escaping; part = Some part }) in
+        omega (arith, blocks_sized (suc n) bs, scope_sized world order b.body sp (all_sized world order b.body (bound_all (set_in b.body) sp) k))
+
+    all_in_chain : routines_size (chain_routines world order h) ≤ 100 * templates_weight (templates world.sources h) + 1
+    all_in_chain =
+        let ts = templates world.sources h in
+        omega (arith, chain_once world.escaping ts, chain_sized ts, macros_sized (macros world.sources h), blocks_sized 0 (all_bodies world.sources world.escaping h),
+        routines_append (map (macro_routine world order h) (macros world.sources h)) (body_routines world order h (numbered_bodies world h)))
+
+-- ---- places in the pool change no size and no height
+
+mutual
+  expr_placed : (e : SExpr Constant) (n : ℕ) → (expr_size (placed_expr e n) ≡ expr_size e) × (expr_height (placed_expr e n) ≡ expr_height e)
+  expr_placed (slots.pooled c) n = (refl, refl)
+  expr_placed (slots.variable s) n = (refl, refl)
+  expr_placed (slots.field f) n = (refl, refl)
+  expr_placed (slots.made m es) n = let a = row_placed es n in (omega (arith, a.0), omega (arith, a.1))
+  expr_placed (slots.conjunction x y) n = let a = expr_placed x n in let b = expr_placed y (n + length (expr_values x)) in (omega (arith, a.0, b.0), omega (arith, a.1, b.1))
+  expr_placed (slots.disjunction x y) n = let a = expr_placed x n in let b = expr_placed y (n + length (expr_values x)) in (omega (arith, a.0, b.0), omega (arith, a.1, b.1))
+  expr_placed (slots.choice c x y) n =
+      let a = expr_placed c n in let b = expr_placed x (n + length (expr_values c)) in let d = expr_placed y (n + length (expr_values c) + length (expr_values x)) in
+      (omega (arith, a.0, b.0, d.0), omega (arith, a.1, b.1, d.1))
+  expr_placed (slots.invoke u on es) n = let a = row_placed es n in (omega (arith, a.0), omega (arith, a.1))
+
+  row_placed : (es : SRow Constant) (n : ℕ) → (row_size (placed_row es n) ≡ row_size es) × (row_height (placed_row es n) ≡ row_height es)
+  row_placed slots.none n = (refl, refl)
+  row_placed (slots.item e es) n = let a = expr_placed e n in let b = row_placed es (n + length (expr_values e)) in (omega (arith, a.0, b.0), omega (arith, a.1, b.1))
+  row_placed (slots.aside i e es) n = let a = expr_placed e n in let b = row_placed es (n + length (expr_values e)) in (omega (arith, a.0, b.0), omega (arith, a.1, b.1))
+
+condition_placed : (xs : slots.Targets) (c : Option (SExpr Constant)) (n : ℕ) → (condition_size xs (placed_condition c n) ≡ condition_size xs c) × (condition_height (placed_condition c n) ≡ condition_height c)
+condition_placed xs None n = (refl, refl)
+condition_placed xs (Some c) n = let a = expr_placed c n in (omega (arith, a.0), a.1)
+
+mutual
+  stmt_placed : (s : SStmt Constant) (n : ℕ) → (stmt_size (placed_stmt s n) ≡ stmt_size s) × (stmt_height (placed_stmt s n) ≡ stmt_height s)
+  stmt_placed (slots.put_pooled c) n = (refl, refl)
+  stmt_placed (slots.print p on e) n = let a = expr_placed e n in (omega (arith, a.0), a.1)
+  stmt_placed (slots.assign p xs e) n = let a = expr_placed e n in (omega (arith, a.0), omega (arith, a.1))
+  stmt_placed (slots.if_else p c x y) n =
+      let a = expr_placed c n in let b = body_placed x (n + length (expr_values c)) in let d = body_placed y (n + length (expr_values c) + length (body_values x)) in
+      (omega (arith, a.0, b.0, d.0), omega (arith, a.1, b.1, d.1))
+  stmt_placed (slots.for_each p xs e c body other) n =
+      let a = expr_placed e n in
+      let b = condition_placed xs c (n + length (expr_values e)) in
+      let d = body_placed body (n + length (expr_values e) + length (condition_values c)) in
+      let f = body_placed other (n + length (expr_values e) + length (condition_values c) + length (body_values body)) in
+      (omega (arith, a.0, b.0, d.0, f.0), omega (arith, a.1, b.1, d.1, f.1))
+  stmt_placed (slots.capture on s body) n = let a = body_placed body n in (omega (arith, a.0), omega (arith, a.1))
+  stmt_placed (slots.run u es) n = let a = row_placed es n in (omega (arith, a.0), a.1)
+
+  body_placed : (b : SBody Constant) (n : ℕ) → (body_size (placed_body b n) ≡ body_size b) × (body_height (placed_body b n) ≡ body_height b)
+  body_placed slots.end n = (refl, refl)
+  body_placed (slots.stmt s rest) n = let a = stmt_placed s n in let b = body_placed rest (n + length (stmt_values s)) in (omega (arith, a.0, b.0), omega (arith, a.1, b.1))
+
+routines_placed : (rs : List (Routine Constant)) (n : ℕ) → routines_size (placed_routines rs n) ≡ routines_size rs
+routines_placed [] n = refl
+routines_placed (r ∷ rs) n = let a = body_placed r.body n in omega (arith, a.0, routines_placed rs (n + length (body_values r.body)))
+
+heights_placed : (w : ℕ) (rs : List (Routine Constant)) (n : ℕ) → AllByRecursion (λ r. 2 * body_height r.body ≤ w) rs → AllByRecursion (λ r. 2 * body_height r.body ≤ w) (placed_routines rs n)
+heights_placed w [] n h = tt
+heights_placed w (r ∷ rs) n h = let a = body_placed r.body n in (omega (arith, a.1, h.0), heights_placed w rs (n + length (body_values r.body)) h.1)
+
+-- ---- the entries of a chain's routines: a call loads the parameters of a macro, which are paid where that stands, or of a block
+
+abbrev most : List MacroBody → ℕ
+most [] = 0
+most (m ∷ ms) = max (length m.parameters) (most ms)
+
+most_all : (q : ℕ) (ms : List MacroBody) → most ms ≤ q → AllByRecursion (λ m. length m.parameters ≤ q) ms
+most_all q [] h = tt
+most_all q (m ∷ ms) h = (omega (arith, h), most_all q ms (omega (arith, h)))
+
+most_paid : (ms : List MacroBody) → 2 * most ms ≤ macros_own ms
+most_paid [] = omega arith
+most_paid (m ∷ ms) = omega (arith, most_paid ms)
+
+abbrev Low : ℕ → Routine Constant → Type 0
+Low w r = 2 * body_height r.body ≤ w
+
+low_append : (w : ℕ) (a b : List (Routine Constant)) → AllByRecursion (Low w) a → AllByRecursion (Low w) b → AllByRecursion (Low w) (a ++ b)
+low_append w [] b h g = g
+low_append w (r ∷ a) b h g = (h.0, low_append w a b h.1 g)
+
+low_more : (w v : ℕ) → w ≤ v → (a : List (Routine Constant)) → AllByRecursion (Low w) a → AllByRecursion (Low v) a
+low_more w v e [] h = tt
+low_more w v e (r ∷ a) h = (omega (arith, e, h.0), low_more w v e a h.1)
+
+module _ (world : World) (order : List Home) (h : Home) (q : ℕ) (k : HasAtMost world order q h) where
+  sets_low : (b : Body) (t : Text) → 2 * body_height (resolved_sets world order b (top_spot world order h t)) ≤ body_own b + 2 * q
+  sets_low end t = omega arith
+  sets_low (stmt s rest) t = through (is_set s) (sets_low rest t)
+    where
+      through : (b : Bool) → 2 * body_height (resolved_sets world order rest (top_spot world order h t)) ≤ body_own rest + 2 * q
+          → 2 * body_height (if b then followed (resolved_stmt world order s (top_spot world order h t)) (resolved_sets world order rest (top_spot world order h t)) else resolved_sets world order rest (top_spot world order h t)) ≤ stmt_own s + body_own rest + 2 * q
+      through true g = omega (arith, g, stmt_low world order q s (top_spot world order h t) k, followed_low (resolved_stmt world order s (top_spot world order h t)) (resolved_sets world order rest (top_spot world order h t)))
+      through false g = omega (arith, g)
+
+  chain_low : (ts : List Template) → 2 * body_height (resolved_chain world order h ts) ≤ templates_own ts + 2 * q
+  chain_low [] = omega arith
+  chain_low (t ∷ []) = omega (arith, all_low world order q t.body (top_spot world order h t.name) k)
+  chain_low (t ∷ (u ∷ us)) =
+      omega (arith, chain_low (u ∷ us), sets_low t.body t.name, followed_low (resolved_sets world order t.body (top_spot world order h t.name)) (resolved_chain world order h (u ∷ us)))
+
+  blocks_low : (w n : ℕ) (bs : List BlockBody) → bodies_own bs + 2 * q ≤ w → AllByRecursion (Low (max 2 w)) (body_routines world order h (counted_from n bs))
+  blocks_low w n [] g = tt
+  blocks_low w n (b ∷ bs) g =
+      let part : Part = record { name = b.name; behind = filter (λ c. bytes_eq c.1.name b.name) (counted_from (suc n) bs) } in
+      let sp = bound_all (block_parameters world order h b.name) (record (top_spot world order h b.template) { escaping = b.escaping; part = Some part }) in
+      (omega (arith, g, scope_low world order q b.body sp (all_low world order q b.body (bound_all (set_in b.body) sp) k)), blocks_low w (suc n) bs (omega (arith, g)))
+
+  macros_low : (w : ℕ) (ms : List MacroBody) → (AllByRecursion (λ m. body_own m.body + 2 * q ≤ w) ms) → AllByRecursion (Low (max 2 w)) (map (macro_routine world order h) ms)
+  macros_low w [] g = tt
+  macros_low w (m ∷ ms) g =
+      let sp = bound_all (map (λ p. p.name) m.parameters) (top_spot world order h m.template) in
+      (omega (arith, g.0, scope_low world order q m.body sp (all_low world order q m.body (bound_all (set_in m.body) sp) k)), macros_low w ms g.1)
+
+-- a macro's body beside the parameters of the one that has the most; those in front of it have at most so many
+macros_paid : (before n w s : ℕ) (ms : List MacroBody) → max before (most ms) ≡ n → 2 * before + macros_own ms + 2 * s ≤ w → AllByRecursion (λ m. body_own m.body + 2 * (n + s) ≤ w) ms
+macros_paid before n w s [] e h = tt
+macros_paid before n w s (m ∷ ms) e h = (omega (arith, e, h, most_paid ms), macros_paid (max before (length m.parameters)) n w s ms (omega (arith, e)) (omega (arith, h)))
+
+module _ (world : World) (order : List Home) (h : Home) (s : ℕ) (k : IsFew world order h) (b : (x : Text) → length (block_parameters world order h x) ≤ s) where
+  abbrev ms : List MacroBody
+  ms = macros world.sources h
+
+  at_most : HasAtMost world order (most ms + s) h
+  at_most = record { macros = most_all (most ms + s) ms (omega arith); blocks = λ x. omega (arith, b x); filters = k.filters }
+
+  low_in_chain : AllByRecursion (Low (max 2 (templates_weight (templates world.sources h) + 2 * s))) (chain_routines world order h)
+  low_in_chain =
+      let ts = templates world.sources h in
+      let q = most ms + s in
+      let w = templates_weight ts + 2 * s in
+      let once = chain_once world.escaping ts in (
+        omega (arith, once, most_paid ms, chain_low world order h q at_most ts),
+        low_append (max 2 w) (map (macro_routine world order h) ms) (body_routines world order h (numbered_bodies world h))
+            (macros_low world order h q at_most w ms (macros_paid 0 (most ms) w s ms (omega arith) (omega (arith, once))))
+            (blocks_low world order h q at_most w 0 (all_bodies world.sources world.escaping h) (omega (arith, once, most_paid ms))),
+      )
+
+-- ---- all chains
+
+chains_sized : (world : World) (order hs : List Home) (s : ℕ) → AllByRecursion (λ h. IsFew world order h × ((x : Text) → length (block_parameters world order h x) ≤ s)) hs
+    → routines_size (flat_map (chain_routines world order) hs) ≤ 100 * chains_weight world hs + length hs
+chains_sized world order [] s k = omega arith
+chains_sized world order (h ∷ hs) s k =
+    omega (arith, chains_sized world order hs s k.1, all_in_chain world order h k.0.0, routines_append (chain_routines world order h) (flat_map (chain_routines world order) hs))
+
+chains_low : (world : World) (order hs : List Home) (s : ℕ) → AllByRecursion (λ h. IsFew world order h × ((x : Text) → length (block_parameters world order h x) ≤ s)) hs
+    → AllByRecursion (Low (max 2 (chains_weight world hs + 2 * s))) (flat_map (chain_routines world order) hs)
+chains_low world order [] s k = tt
+chains_low world order (h ∷ hs) s k =
+    let w = max 2 (chains_weight world (h ∷ hs) + 2 * s) in
+    low_append w (chain_routines world order h) (flat_map (chain_routines world order) hs)
+    (low_more (max 2 (templates_weight (templates world.sources h) + 2 * s)) w (omega arith) (chain_routines world order h) (low_in_chain world order h s k.0.0 k.0.1))
+    (low_more (max 2 (chains_weight world hs + 2 * s)) w (omega arith) (flat_map (chain_routines world order) hs) (chains_low world order hs s k.1))
+
+pub program_sized : (world : World) (entry : Home) (rest : List Home) (s : ℕ) → AreFew world (entry ∷ rest) s → IsSized world (entry ∷ rest) s (program world (entry ∷ rest) entry)
+program_sized world entry rest s k =
+    let order = entry ∷ rest in
+    let rs = routines world order in
+    let n = length (shared world order) in
+    record {
+      instructions = omega (arith, routines_placed rs n, chains_sized world order order s k);
+      entries = heights_placed (max 2 (chains_weight world order + 2 * s)) rs n (chains_low world order order s k);
+    }
