@@ -21,3 +21,4 @@ pub mod PlacedTakes
 pub mod Sizing
 pub mod Lowness
 pub mod Whole
+mod TooHigh
