@@ -22,3 +22,4 @@ pub mod Sizing
 pub mod Lowness
 pub mod Whole
 mod TooHigh
+pub mod Constants
