@@ -217,3 +217,83 @@ module _ (world : World) (order : List Home) where
     entries_counted : (ps : Pairs) (sp : Spot) → Three → row_count (resolved_entries world order ps sp) ≤ pairs_weight 3 ps
     entries_counted no_pairs sp k = omega arith
     entries_counted (pair x a ps) sp k = omega (arith, counted a sp k, entries_counted ps sp k, length-append (expr_values (resolved world order a sp)) (row_values (resolved_entries world order ps sp)))
+
+  -- ---- statements
+
+  condition_counted : (c : Option Expr) (sp : Spot) → Three → length (condition_values (resolved_condition world order c sp)) ≤ condition_weight c
+  condition_counted None sp k = omega arith
+  condition_counted (Some c) sp k = omega (arith, counted c sp k)
+
+  filters_counted : (fs : List Filtering) (sp : Spot) (e : SExpr Constant) → Three → expr_count (resolved_filters world order fs sp e) ≤ expr_count e + filtering_weight fs
+  filters_counted [] sp e k = omega arith
+  filters_counted (f ∷ fs) sp e k =
+      let i = world.filters.named f.name in
+      let rest = filled_some (filter_parameters world.filters i) (count f.arguments) (keywords f.keywords) (locals_from sp.free (keywords f.keywords)) in
+      let row = resolved_row world order f.arguments sp (resolved_asides world order f.keywords sp rest) in
+      omega (arith, filters_counted fs sp (filtered_by i sp.escaping (slots.item e row)) k, filtered_count i sp.escaping (slots.item e row), length-append (expr_values e) (row_values row), row_counted f.arguments sp k (resolved_asides world order f.keywords sp rest), asides_counted f.keywords sp k rest,
+      few_count (filter_parameters world.filters i) (count f.arguments) (keywords f.keywords) (locals_from sp.free (keywords f.keywords)) (filter_few i k))
+
+  values_counted : (ps : Pairs) (sp : Spot) (line : ℕ) (b : SBody Constant) → Three → body_count (resolved_values world order ps sp line b) ≤ pairs_weight 2 ps + body_count b
+  values_counted no_pairs sp line b k = omega arith
+  values_counted (pair x e ps) sp line b k = omega (arith, counted e sp k, values_counted ps (grown sp) line b k, length-append (expr_values (resolved world order e sp)) (body_values (resolved_values world order ps (grown sp) line b)))
+
+  placed_counted : (sp : Spot) (i : Option ℕ) (x : Text) (t : Table) → body_count (placed_body world order sp i x t) ≡ 0
+  placed_counted sp None x t = refl
+  placed_counted sp (Some i) x t =
+      let xs = block_parameters world order sp.home x in
+      omega (arith, reads_count t xs, length-append (row_values (reads t xs)) [])
+
+  include_counted : (sp : Spot) (line : ℕ) (n : Text) (c : Bool) (b : Bool)
+      → body_count (if b then slots.end else followed (handed_on (place sp line) (if c then sp.table else []) (first_slot world order n) (names world order n)) (slots.stmt (run (unit world order (of_chain n)) slots.none) slots.end)) ≡ 0
+  include_counted sp line n c true = refl
+  include_counted sp line n c false =
+      let xs = names world order n in
+      let hs = handed_on (place sp line) (if c then sp.table else []) (first_slot world order n) xs in
+      omega (arith, followed_count hs (slots.stmt (run (unit world order (of_chain n)) slots.none) slots.end), handed_count (place sp line) (if c then sp.table else []) (first_slot world order n) xs)
+
+  pub scope_counted : (b : Body) (sp : Spot) → body_count (resolved_body world order b (bound_all (set_in b) sp)) ≤ body_own b → body_count (scoped (set_in b) sp (resolved_body world order b)) ≤ body_own b
+  scope_counted b sp h = omega (arith, h, copied_count (place sp 1) sp.table sp.free (set_in b) (resolved_body world order b (bound_all (set_in b) sp)))
+
+  mutual
+    pub stmt_counted : (s : Stmt) (sp : Spot) → Three → body_count (resolved_stmt world order s sp) ≤ stmt_own s
+    stmt_counted (data_of t) sp k = omega arith
+    stmt_counted (print line e) sp k = omega (arith, counted e sp k, alone_count (slots.print (place sp line) sp.escaping (resolved world order e sp)))
+    stmt_counted (choose bs other) sp k = omega (arith, choice_counted bs sp k (resolved_body world order other sp), all_counted other sp k)
+    stmt_counted (for_each line xs e c body other) sp k =
+        let inner = bound_all xs sp in
+        let b = scoped (set_in body) inner (resolved_body world order body) in
+        let d = resolved_body world order other sp in
+        let i = resolved_condition world order c inner in
+        let v = resolved world order e sp in
+        omega (arith, alone_count (slots.for_each (place sp line) (fresh_targets sp.free xs) v i b d), length-append (expr_values v) (condition_values i ++ (body_values b ++ body_values d)), length-append (condition_values i) (body_values b ++ body_values d),
+        length-append (body_values b) (body_values d), counted e sp k, condition_counted c inner k, scope_counted body inner (all_counted body (bound_all (set_in body) inner) k), all_counted other sp k)
+    stmt_counted (set line xs e) sp k = omega (arith, counted e sp k, alone_count (slots.assign (place sp line) (set_targets sp.table xs) (resolved world order e sp)))
+    stmt_counted (set_block line x body) sp k =
+        omega (arith, scope_counted body sp (all_counted body (bound_all (set_in body) sp) k), length-append (body_values (scoped (set_in body) sp (resolved_body world order body))) [])
+    stmt_counted (with_values line ps body) sp k =
+        let inner = bound_all (keywords ps) sp in
+        omega (arith, values_counted ps sp line (scoped (set_in body) inner (resolved_body world order body)) k, scope_counted body inner (all_counted body (bound_all (set_in body) inner) k))
+    stmt_counted (filter_block line fs body) sp k =
+        let b = scoped (set_in body) (grown sp) (resolved_body world order body) in
+        let v = resolved_filters world order fs (grown sp) (variable (local sp.free)) in
+        omega (arith, scope_counted body (grown sp) (all_counted body (bound_all (set_in body) (grown sp)) k), filters_counted fs (grown sp) (variable (local sp.free)) k, length-append (body_values b) (expr_values v ++ []), length-append (expr_values v) [])
+    stmt_counted (autoescape line on body) sp k =
+        let inner = record sp { escaping = on } in
+        omega (arith, scope_counted body inner (all_counted body (bound_all (set_in body) inner) k))
+    stmt_counted (macro line x ps body) sp k = omega arith
+    stmt_counted (include line n missing with_context) sp k = omega (arith, include_counted sp line n with_context (is_none (world.sources n)))
+    stmt_counted (extends line n) sp k = omega arith
+    stmt_counted (block line x is required body) sp k =
+        omega (arith, placed_counted sp (first_body (numbered_of world sp.home x)) x (if is then sp.table else globals world order sp.home))
+
+    pub all_counted : (b : Body) (sp : Spot) → Three → body_count (resolved_body world order b sp) ≤ body_own b
+    all_counted end sp k = omega arith
+    all_counted (stmt s rest) sp k = omega (arith, stmt_counted s sp k, all_counted rest sp k, followed_count (resolved_stmt world order s sp) (resolved_body world order rest sp))
+
+    choice_counted : (bs : Branches) (sp : Spot) → Three → (other : SBody Constant) → body_count (resolved_choice world order bs sp other) ≤ branch_own bs + body_count other
+    choice_counted no_branches sp k other = omega arith
+    choice_counted (branch line c body rest) sp k other =
+        let v = resolved world order c sp in
+        let b = resolved_body world order body sp in
+        let d = resolved_choice world order rest sp other in
+        omega (arith, counted c sp k, all_counted body sp k, choice_counted rest sp k other, length-append (expr_values v) (body_values b ++ body_values d), length-append (body_values b) (body_values d), alone_count (slots.if_else (place sp line) v b d))

@@ -1,22 +1,24 @@
 -- A program is as small as the weight of its chains says: each body is a part of one unit.
-use Rattle.std.proofs.Common.{◌≡◌, ℕ, zero, suc, ◌+◌, ◌*◌, max, ◌≤◌, Bool, true, false, if◌then◌else◌, List, [], ◌∷◌, ◌++◌, length, Option, Some, None, arith, refl}
+use Rattle.std.proofs.Common.{◌≡◌, ℕ, zero, suc, ◌+◌, ◌*◌, max, ◌≤◌, Bool, true, false, if◌then◌else◌, List, [], ◌∷◌, ◌++◌, length, Option, Some, None, arith, refl, length-append}
 use Rattle.std.specs.Prelude.{flat_map, filter, map}
 use Rattle.std.specs.List.{AllByRecursion}
 use Rattle.std.specs.Str.{bytes_eq}
 use Rattle.jt_breadth.specs.Trees.{Text, Parameter, parameters_weight, default_weight, Stmt, data_of, print, choose, for_each, set, set_block, with_values, filter_block, autoescape, macro, include, extends, block, stmt_weight, Body, end, stmt, body_weight, Branches, no_branches, branch, branch_weight}
 use Rattle.jt_breadth.specs.Chain.{Home, Template, templates, BlockBody, blocks_of, blocks_in, blocks_under, all_bodies, MacroBody, macros_in, macros}
+use Rattle.jt_breadth.specs.Filters.{default_value}
 use Rattle.jt_breadth.specs.Around.{World}
 use Rattle.jt_breadth.specs.Meaning.{is_set}
 use Rattle.jt_breadth.specs.Names.{set_in}
-use Rattle.jt_breadth.specs.Layout.{block_parameters, counted_from, numbered_bodies, shared}
+use Rattle.jt_breadth.specs.Layout.{names, block_parameters, counted_from, numbered_bodies, shared, defaults_of}
 use Rattle.jt_breadth.specs.Slots as slots
 use Rattle.jt_breadth.specs.Slots.{SExpr, SRow, SStmt, SBody, Routine}
-use Rattle.jt_breadth.specs.Resolve.{Constant, followed, Part, Spot, bound_all, resolved_stmt, resolved_body, resolved_sets, top_spot, resolved_chain, chain_routine, macro_routine, body_routine}
-use Rattle.jt_breadth.specs.Pool.{expr_values, row_values, condition_values, stmt_values, body_values, placed_expr, placed_row, placed_condition, placed_stmt, placed_body, placed_routines}
-use Rattle.jt_breadth.specs.Programs.{body_routines, chain_routines, routines, program}
+use Rattle.jt_breadth.specs.Resolve.{Constant, followed, Part, Spot, bound_all, scoped, resolved_stmt, resolved_body, resolved_sets, top_spot, resolved_chain, chain_routine, macro_routine, body_routine}
+use Rattle.jt_breadth.specs.Pool.{expr_values, row_values, condition_values, stmt_values, body_values, routines_values, placed_expr, placed_row, placed_condition, placed_stmt, placed_body, placed_routines}
+use Rattle.jt_breadth.specs.Programs.{body_routines, chain_routines, routines, count_globals, program}
 use Rattle.jt_breadth.specs.Size.{expr_size, row_size, condition_size, stmt_size, body_size, routines_size, expr_height, row_height, condition_height, stmt_height, body_height}
 use Rattle.jt_breadth.specs.Measure.{stmt_own, body_own, branch_own, templates_weight, chains_weight, IsFew, HasAtMost, AreFew, IsSized}
 use Rattle.jt_breadth.proofs.Sizing.{followed_size, stmt_sized, all_sized, scope_sized}
+use Rattle.jt_breadth.proofs.Constants.{followed_count, stmt_counted, all_counted, scope_counted}
 use Rattle.jt_breadth.proofs.Lowness.{followed_low, stmt_low, all_low, scope_low}
 
 -- ---- each body counts once: in its template, or as a block's or a macro's
@@ -283,6 +285,89 @@ chains_low world order (h ∷ hs) s k =
     (low_more (max 2 (templates_weight (templates world.sources h) + 2 * s)) w (omega arith) (chain_routines world order h) (low_in_chain world order h s k.0.0 k.0.1))
     (low_more (max 2 (chains_weight world hs + 2 * s)) w (omega arith) (flat_map (chain_routines world order) hs) (chains_low world order hs s k.1))
 
+-- ---- constants: those of the routines' own, and the defaults of macros
+
+values_append : (a b : List (Routine Constant)) → length (routines_values (a ++ b)) ≡ length (routines_values a) + length (routines_values b)
+values_append [] b = omega arith
+values_append (r ∷ a) b = omega (arith, values_append a b, length-append (body_values r.body) (routines_values (a ++ b)), length-append (body_values r.body) (routines_values a))
+
+mapped_len : {A B : Type 0} (f : A → B) (xs : List A) → length (map f xs) ≡ length xs
+mapped_len f [] = refl
+mapped_len f (x ∷ xs) = omega (arith, mapped_len f xs)
+
+module _ (world : World) (order : List Home) (h : Home) (k : (f : ℕ) → length (world.filters.parameters f) ≤ 3) where
+  sets_counted : (b : Body) (t : Text) → length (body_values (resolved_sets world order b (top_spot world order h t))) ≤ body_own b
+  sets_counted end t = omega arith
+  sets_counted (stmt s rest) t = through (is_set s) (sets_counted rest t)
+    where
+      through : (b : Bool) → length (body_values (resolved_sets world order rest (top_spot world order h t))) ≤ body_own rest
+          → length (body_values (if b then followed (resolved_stmt world order s (top_spot world order h t)) (resolved_sets world order rest (top_spot world order h t)) else resolved_sets world order rest (top_spot world order h t))) ≤ stmt_own s + body_own rest
+      through true g = omega (arith, g, stmt_counted world order s (top_spot world order h t) k, followed_count (resolved_stmt world order s (top_spot world order h t)) (resolved_sets world order rest (top_spot world order h t)))
+      through false g = omega (arith, g)
+
+  chain_counted : (ts : List Template) → length (body_values (resolved_chain world order h ts)) ≤ templates_own ts
+  chain_counted [] = omega arith
+  chain_counted (t ∷ []) = omega (arith, all_counted world order t.body (top_spot world order h t.name) k)
+  chain_counted (t ∷ (u ∷ us)) =
+      omega (arith, chain_counted (u ∷ us), sets_counted t.body t.name, followed_count (resolved_sets world order t.body (top_spot world order h t.name)) (resolved_chain world order h (u ∷ us)))
+
+  macros_counted : (ms : List MacroBody) → length (routines_values (map (macro_routine world order h) ms)) + length (defaults_of ms) ≤ macros_own ms
+  macros_counted [] = omega arith
+  macros_counted (m ∷ ms) =
+      let sp = bound_all (map (λ p. p.name) m.parameters) (top_spot world order h m.template) in
+      let r = macro_routine world order h m in
+      omega (arith, macros_counted ms, scope_counted world order m.body sp (all_counted world order m.body (bound_all (set_in m.body) sp) k), length-append (body_values r.body) (routines_values (map (macro_routine world order h) ms)),
+      length-append (map (λ p. default_value p.default) m.parameters) (defaults_of ms), mapped_len (λ (p : Parameter). default_value p.default) m.parameters)
+
+  blocks_counted : (n : ℕ) (bs : List BlockBody) → length (routines_values (body_routines world order h (counted_from n bs))) ≤ bodies_own bs
+  blocks_counted n [] = omega arith
+  blocks_counted n (b ∷ bs) =
+      let part : Part = record { name = b.name; behind = filter (λ c. bytes_eq c.1.name b.name) (counted_from (suc n) bs) } in
+      let sp = bound_all (block_parameters world order h b.name) (record (top_spot world order h b.template) { escaping = b.escaping; part = Some part }) in
+      let r = scoped (set_in b.body) sp (resolved_body world order b.body) in
+      omega (arith, blocks_counted (suc n) bs, scope_counted world order b.body sp (all_counted world order b.body (bound_all (set_in b.body) sp) k), length-append (body_values r) (routines_values (body_routines world order h (counted_from (suc n) bs))))
+
+  counted_in_chain : length (routines_values (chain_routines world order h)) + length (defaults_of (macros world.sources h)) ≤ templates_weight (templates world.sources h)
+  counted_in_chain =
+      let ts = templates world.sources h in
+      let a = map (macro_routine world order h) (macros world.sources h) in
+      let b = body_routines world order h (numbered_bodies world h) in
+      omega (arith, chain_once world.escaping ts, chain_counted ts, macros_counted (macros world.sources h), blocks_counted 0 (all_bodies world.sources world.escaping h), values_append a b,
+      length-append (body_values (resolved_chain world order h ts)) (routines_values (a ++ b)))
+
+  -- a unit a chain, a macro and a body
+  macros_number : (ms : List MacroBody) → length (map (macro_routine world order h) ms) ≤ macros_own ms
+  macros_number [] = omega arith
+  macros_number (m ∷ ms) = omega (arith, macros_number ms)
+
+  bodies_number : (n : ℕ) (bs : List BlockBody) → length (body_routines world order h (counted_from n bs)) ≤ bodies_own bs
+  bodies_number n [] = omega arith
+  bodies_number n (b ∷ bs) = omega (arith, bodies_number (suc n) bs)
+
+  units_in_chain : length (chain_routines world order h) ≤ templates_weight (templates world.sources h) + 1
+  units_in_chain =
+      omega (arith, chain_once world.escaping (templates world.sources h), macros_number (macros world.sources h), bodies_number 0 (all_bodies world.sources world.escaping h),
+      length-append (map (macro_routine world order h) (macros world.sources h)) (body_routines world order h (numbered_bodies world h)))
+
+chains_counted : (world : World) (order hs : List Home) (k : (f : ℕ) → length (world.filters.parameters f) ≤ 3)
+    → length (routines_values (flat_map (chain_routines world order) hs)) + length (flat_map (λ h. defaults_of (macros world.sources h)) hs) ≤ chains_weight world hs
+chains_counted world order [] k = omega arith
+chains_counted world order (h ∷ hs) k =
+    omega (arith, chains_counted world order hs k, counted_in_chain world order h k, values_append (chain_routines world order h) (flat_map (chain_routines world order) hs),
+    length-append (defaults_of (macros world.sources h)) (flat_map (λ h. defaults_of (macros world.sources h)) hs))
+
+units_counted : (world : World) (order hs : List Home) (k : (f : ℕ) → length (world.filters.parameters f) ≤ 3) → length (flat_map (chain_routines world order) hs) ≤ chains_weight world hs + length hs
+units_counted world order [] k = omega arith
+units_counted world order (h ∷ hs) k = omega (arith, units_counted world order hs k, units_in_chain world order h k, length-append (chain_routines world order h) (flat_map (chain_routines world order) hs))
+
+placed_len : (rs : List (Routine Constant)) (n : ℕ) → length (placed_routines rs n) ≡ length rs
+placed_len [] n = refl
+placed_len (r ∷ rs) n = omega (arith, placed_len rs (n + length (body_values r.body)))
+
+globals_counted : (world : World) (order hs : List Home) → ((k : Home) → length (names world order k) ≤ 200) → count_globals world order hs ≤ 200 * length hs
+globals_counted world order [] k = omega arith
+globals_counted world order (h ∷ hs) k = omega (arith, k h, globals_counted world order hs k)
+
 pub program_sized : (world : World) (entry : Home) (rest : List Home) (s : ℕ) → AreFew world (entry ∷ rest) s → IsSized world (entry ∷ rest) s (program world (entry ∷ rest) entry)
 program_sized world entry rest s k =
     let order = entry ∷ rest in
@@ -290,5 +375,9 @@ program_sized world entry rest s k =
     let n = length (shared world order) in
     record {
       instructions = omega (arith, routines_placed rs n, chains_sized world order order s k);
+      constants = omega (arith, chains_counted world order order k.0.0.filters, length-append (shared world order) (routines_values rs));
+      units = omega (arith, units_counted world order order k.0.0.filters, placed_len rs n);
+      names = k.0.0.names entry;
+      globals = globals_counted world order order k.0.0.names;
       entries = heights_placed (max 2 (chains_weight world order + 2 * s)) rs n (chains_low world order order s k);
     }

@@ -67,3 +67,8 @@ AreFew world order s = AllByRecursion (λ h. IsFew world order h × ((x : Text) 
 pub record IsSized (world : World) (order : List Home) (s : ℕ) (p : Program) : Type 0 where
   pub instructions : routines_size p.routines ≤ 100 * chains_weight world order + length order
   pub entries : AllByRecursion (λ r. 2 * body_height r.body ≤ max 2 (chains_weight world order + 2 * s)) p.routines
+  -- undefined, and one for each token
+  pub constants : length p.pool ≤ 1 + chains_weight world order
+  pub units : length p.routines ≤ chains_weight world order + length order
+  pub names : length p.names ≤ 200
+  pub globals : p.globals ≤ 200 * length order
