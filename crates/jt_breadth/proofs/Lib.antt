@@ -23,3 +23,4 @@ pub mod Lowness
 pub mod Whole
 mod TooHigh
 pub mod Constants
+pub mod Locality
