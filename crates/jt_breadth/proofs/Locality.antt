@@ -255,3 +255,86 @@ module _ (n : ℕ) (some : 1 ≤ n) where
       entries_localed : (ps : Pairs) (sp : Spot) → Below sp.table → sp.free + pairs_weight 3 ps ≤ n → row_locals (resolved_entries world order ps sp) ≤ n
       entries_localed no_pairs sp t k = omega arith
       entries_localed (pair x a ps) sp t k = omega (arith, localed a sp t (omega (arith, k)), entries_localed ps sp t (omega (arith, k)))
+
+    -- ---- statements: the names that a scope sets have their locals when its statements begin
+
+    condition_localed : (c : Option Expr) (sp : Spot) → Below sp.table → sp.free + condition_weight c ≤ n → condition_locals (resolved_condition world order c sp) ≤ n
+    condition_localed None sp t k = omega arith
+    condition_localed (Some c) sp t k = localed c sp t (omega (arith, k))
+
+    filters_localed : (fs : List Filtering) (sp : Spot) (e : SExpr Constant) → Below sp.table → sp.free + filtering_weight fs ≤ n → expr_locals e ≤ n → expr_locals (resolved_filters world order fs sp e) ≤ n
+    filters_localed [] sp e t k h = h
+    filters_localed (f ∷ fs) sp e t k h =
+        let i = world.filters.named f.name in
+        let ks = locals_from sp.free (keywords f.keywords) in
+        let rest = filled_some (filter_parameters world.filters i) (count f.arguments) (keywords f.keywords) ks in
+        let row = resolved_row world order f.arguments sp (resolved_asides world order f.keywords sp rest) in
+        filters_localed fs sp (filtered_by i sp.escaping (slots.item e row)) t (omega (arith, k)) (omega (arith, filtered_local i sp.escaping (slots.item e row), h,
+        row_localed f.arguments sp t (omega (arith, k)) (resolved_asides world order f.keywords sp rest)
+        (asides_localed f.keywords sp t (omega (arith, k)) rest (some_local (filter_parameters world.filters i) (count f.arguments) (keywords f.keywords) ks (from_below sp.free (keywords f.keywords) (omega (arith, k, names_few f.keywords)))))))
+
+    values_localed : (ps : Pairs) (sp : Spot) (line : ℕ) (b : SBody Constant) → Below sp.table → sp.free + pairs_weight 2 ps ≤ n → body_locals b ≤ n → body_locals (resolved_values world order ps sp line b) ≤ n
+    values_localed no_pairs sp line b t k h = h
+    values_localed (pair x e ps) sp line b t k h = omega (arith, k, localed e sp t (omega (arith, k)), values_localed ps (grown sp) line b t (omega (arith, k)) h)
+
+    placed_localed : (sp : Spot) (i : Option ℕ) (x : Text) (t : Table) → Below t → body_locals (placed_body world order sp i x t) ≤ n
+    placed_localed sp None x t h = omega arith
+    placed_localed sp (Some i) x t h = omega (arith, reads_local t (block_parameters world order sp.home x) h)
+
+    table_below : (b : Bool) (sp : Spot) → Below sp.table → Below (if b then sp.table else globals world order sp.home)
+    table_below true sp t = t
+    table_below false sp t = globals_below (first_slot world order sp.home) (names world order sp.home)
+
+    seen_below : (b : Bool) (t : Table) → Below t → Below (if b then t else [])
+    seen_below true t h = h
+    seen_below false t h = tt
+
+    include_localed : (sp : Spot) (line : ℕ) (m : Text) (c : Bool) (b : Bool) → Below sp.table
+        → body_locals (if b then slots.end else followed (handed_on (place sp line) (if c then sp.table else []) (first_slot world order m) (names world order m)) (slots.stmt (run (unit world order (of_chain m)) slots.none) slots.end)) ≤ n
+    include_localed sp line m c true t = omega arith
+    include_localed sp line m c false t =
+        let xs = names world order m in
+        let hs = handed_on (place sp line) (if c then sp.table else []) (first_slot world order m) xs in
+        omega (arith, followed_local hs (slots.stmt (run (unit world order (of_chain m)) slots.none) slots.end), handed_local (place sp line) (if c then sp.table else []) (first_slot world order m) xs (seen_below c sp.table t))
+
+    pub scope_localed : (b : Body) (sp : Spot) → Below sp.table → sp.free + body_own b ≤ n → body_locals (resolved_body world order b (bound_all (set_in b) sp)) ≤ n → body_locals (scoped (set_in b) sp (resolved_body world order b)) ≤ n
+    scope_localed b sp t k h = copied_local (place sp 1) sp.table sp.free (set_in b) (resolved_body world order b (bound_all (set_in b) sp)) (omega (arith, k, in_few b)) t h
+
+    mutual
+      pub stmt_localed : (s : Stmt) (sp : Spot) → Below sp.table → sp.free + stmt_own s ≤ n + length (set_by s) → body_locals (resolved_stmt world order s sp) ≤ n
+      stmt_localed (data_of x) sp t k = omega arith
+      stmt_localed (print line e) sp t k = omega (arith, localed e sp t (omega (arith, k)))
+      stmt_localed (choose bs other) sp t k =
+          let l = length-append (set_under bs) (set_in other) in
+          choice_localed bs sp t (omega (arith, k, l, in_few other)) (resolved_body world order other sp) (all_localed other sp t (omega (arith, k, l, under_few bs)))
+      stmt_localed (for_each line xs e c body other) sp t k =
+          let inner = bound_all xs sp in
+          omega (arith, fresh_local sp.free xs (omega (arith, k, in_few other)), localed e sp t (omega (arith, k, in_few other)), condition_localed c inner (bound_below xs sp.free sp.table (omega (arith, k, in_few other)) t) (omega (arith, k, in_few other)),
+          scope_localed body inner (bound_below xs sp.free sp.table (omega (arith, k, in_few other)) t) (omega (arith, k, in_few other)) (all_localed body (bound_all (set_in body) inner) (bound_below (set_in body) (sp.free + length xs) (bound_table xs sp.free sp.table) (omega (arith, k, in_few other, in_few body)) (bound_below xs sp.free sp.table (omega (arith, k, in_few other)) t)) (omega (arith, k, in_few other))), all_localed other sp t (omega (arith, k)))
+      stmt_localed (set line xs e) sp t k = omega (arith, localed e sp t (omega (arith, k)), set_local sp.table xs t)
+      stmt_localed (set_block line x body) sp t k = omega (arith, of_below sp.table x t, scope_localed body sp (t) (omega (arith, k)) (all_localed body (bound_all (set_in body) sp) (bound_below (set_in body) (sp.free) (sp.table) (omega (arith, k, in_few body)) (t)) (omega (arith, k))))
+      stmt_localed (with_values line ps body) sp t k =
+          let inner = bound_all (keywords ps) sp in
+          values_localed ps sp line (scoped (set_in body) inner (resolved_body world order body)) t (omega (arith, k)) (scope_localed body inner (bound_below (keywords ps) sp.free sp.table (omega (arith, k, names_few ps)) t) (omega (arith, k, names_few ps)) (all_localed body (bound_all (set_in body) inner) (bound_below (set_in body) (sp.free + length (keywords ps)) (bound_table (keywords ps) sp.free sp.table) (omega (arith, k, names_few ps, in_few body)) (bound_below (keywords ps) sp.free sp.table (omega (arith, k, names_few ps)) t)) (omega (arith, k, names_few ps))))
+      stmt_localed (filter_block line fs body) sp t k =
+          omega (arith, k, scope_localed body (grown sp) (t) (omega (arith, k)) (all_localed body (bound_all (set_in body) (grown sp)) (bound_below (set_in body) (suc sp.free) (sp.table) (omega (arith, k, in_few body)) (t)) (omega (arith, k))), filters_localed fs (grown sp) (variable (local sp.free)) t (omega (arith, k)) (omega (arith, k)))
+      stmt_localed (autoescape line on body) sp t k =
+          let inner = record sp { escaping = on } in
+          scope_localed body inner (t) (omega (arith, k)) (all_localed body (bound_all (set_in body) inner) (bound_below (set_in body) (sp.free) (sp.table) (omega (arith, k, in_few body)) (t)) (omega (arith, k)))
+      stmt_localed (macro line x ps body) sp t k = omega arith
+      stmt_localed (include line m missing with_context) sp t k = include_localed sp line m with_context (is_none (world.sources m)) t
+      stmt_localed (extends line m) sp t k = omega arith
+      stmt_localed (block line x is required body) sp t k =
+          placed_localed sp (first_body (numbered_of world sp.home x)) x (if is then sp.table else globals world order sp.home) (table_below is sp t)
+
+      pub all_localed : (b : Body) (sp : Spot) → Below sp.table → sp.free + body_own b ≤ n + length (set_in b) → body_locals (resolved_body world order b sp) ≤ n
+      all_localed end sp t k = omega arith
+      all_localed (stmt s rest) sp t k =
+          let l = length-append (set_by s) (set_in rest) in
+          omega (arith, stmt_localed s sp t (omega (arith, k, l, in_few rest)), all_localed rest sp t (omega (arith, k, l, by_few s)), followed_local (resolved_stmt world order s sp) (resolved_body world order rest sp))
+
+      choice_localed : (bs : Branches) (sp : Spot) → Below sp.table → sp.free + branch_own bs ≤ n + length (set_under bs) → (other : SBody Constant) → body_locals other ≤ n → body_locals (resolved_choice world order bs sp other) ≤ n
+      choice_localed no_branches sp t k other h = h
+      choice_localed (branch line c body rest) sp t k other h =
+          let l = length-append (set_in body) (set_under rest) in
+          omega (arith, localed c sp t (omega (arith, k, l, in_few body, under_few rest)), all_localed body sp t (omega (arith, k, l, under_few rest)), choice_localed rest sp t (omega (arith, k, l, in_few body)) other h)
