@@ -52,7 +52,7 @@ mutual
   by_few (extends line m) = omega arith
   by_few (block line x is required body) = omega arith
 
-  in_few : (b : Body) → length (set_in b) ≤ body_own b
+  pub in_few : (b : Body) → length (set_in b) ≤ body_own b
   in_few end = omega arith
   in_few (stmt s rest) = omega (arith, by_few s, in_few rest, length-append (set_by s) (set_in rest))
 

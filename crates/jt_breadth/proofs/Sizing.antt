@@ -223,7 +223,7 @@ abbrev Front : ℕ → (SRow Constant → SRow Constant) → Type 0
 Front w f = (b : SRow Constant) → row_size (f b) + 100 * min 1 w ≤ 100 * w + row_size b
 
 module _ (world : World) (order : List Home) where
-  parameters_few : (h : Home) (x : Text) → length (names world order h) ≤ 200 → length (block_parameters world order h x) ≤ 200
+  pub parameters_few : (h : Home) (x : Text) → length (names world order h) ≤ 200 → length (block_parameters world order h x) ≤ 200
   parameters_few h x k = through (is_scoped world h x)
     where
       through : (b : Bool) → length (if b then names world order h else []) ≤ 200

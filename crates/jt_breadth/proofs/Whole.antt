@@ -9,15 +9,18 @@ use Rattle.jt_breadth.specs.Filters.{default_value}
 use Rattle.jt_breadth.specs.Around.{World}
 use Rattle.jt_breadth.specs.Meaning.{is_set}
 use Rattle.jt_breadth.specs.Names.{set_in}
-use Rattle.jt_breadth.specs.Layout.{names, block_parameters, counted_from, numbered_bodies, shared, defaults_of}
+use Rattle.jt_breadth.specs.Layout.{first_slot, names, block_parameters, counted_from, numbered_bodies, shared, defaults_of}
 use Rattle.jt_breadth.specs.Slots as slots
 use Rattle.jt_breadth.specs.Slots.{SExpr, SRow, SStmt, SBody, Routine}
-use Rattle.jt_breadth.specs.Resolve.{Constant, followed, Part, Spot, bound_all, scoped, resolved_stmt, resolved_body, resolved_sets, top_spot, resolved_chain, chain_routine, macro_routine, body_routine}
+use Rattle.jt_breadth.specs.Resolve.{Constant, followed, Part, Spot, bound_table, bound_all, scoped, resolved_stmt, resolved_body, resolved_sets, top_spot, resolved_chain, chain_routine, macro_routine, body_routine}
 use Rattle.jt_breadth.specs.Pool.{expr_values, row_values, condition_values, stmt_values, body_values, routines_values, placed_expr, placed_row, placed_condition, placed_stmt, placed_body, placed_routines}
 use Rattle.jt_breadth.specs.Programs.{body_routines, chain_routines, routines, count_globals, program}
 use Rattle.jt_breadth.specs.Size.{expr_size, row_size, condition_size, stmt_size, body_size, routines_size, expr_height, row_height, condition_height, stmt_height, body_height}
+use Rattle.jt_breadth.specs.Locals.{body_locals}
 use Rattle.jt_breadth.specs.Measure.{stmt_own, body_own, branch_own, templates_weight, chains_weight, IsFew, HasAtMost, AreFew, IsSized}
-use Rattle.jt_breadth.proofs.Sizing.{followed_size, stmt_sized, all_sized, scope_sized}
+use Rattle.jt_breadth.proofs.Sizing.{parameters_few, followed_size, stmt_sized, all_sized, scope_sized}
+use Rattle.jt_breadth.proofs.Locality.{Below, globals_below, bound_below, scope_localed, stmt_localed, all_localed}
+use Rattle.jt_breadth.proofs.Locality as locality
 use Rattle.jt_breadth.proofs.Constants.{followed_count, stmt_counted, all_counted, scope_counted}
 use Rattle.jt_breadth.proofs.Lowness.{followed_low, stmt_low, all_low, scope_low}
 
@@ -368,6 +371,79 @@ globals_counted : (world : World) (order hs : List Home) → ((k : Home) → len
 globals_counted world order [] k = omega arith
 globals_counted world order (h ∷ hs) k = omega (arith, k h, globals_counted world order hs k)
 
+-- ---- locals: a unit's parameters, and one for each token
+
+abbrev Holds : {K : Type 0} → ℕ → Routine K → Type 0
+Holds n r = r.locals ≤ n
+
+holds_append : (n : ℕ) (a b : List (Routine Constant)) → AllByRecursion (Holds n) a → AllByRecursion (Holds n) b → AllByRecursion (Holds n) (a ++ b)
+holds_append n [] b h g = g
+holds_append n (r ∷ a) b h g = (h.0, holds_append n a b h.1 g)
+
+module _ (world : World) (order : List Home) (n : ℕ) (some : 1 ≤ n) (few : (h : Home) (x : Text) → length (block_parameters world order h x) ≤ n) (h : Home) where
+  top : (t : Text) → Below n some (top_spot world order h t).table
+  top t = globals_below n some (first_slot world order h) (names world order h)
+
+  sets_localed : (b : Body) (t : Text) → body_own b ≤ n → body_locals (resolved_sets world order b (top_spot world order h t)) ≤ n
+  sets_localed end t k = omega arith
+  sets_localed (stmt s rest) t k = through (is_set s) (sets_localed rest t (omega (arith, k)))
+    where
+      through : (b : Bool) → body_locals (resolved_sets world order rest (top_spot world order h t)) ≤ n
+          → body_locals (if b then followed (resolved_stmt world order s (top_spot world order h t)) (resolved_sets world order rest (top_spot world order h t)) else resolved_sets world order rest (top_spot world order h t)) ≤ n
+      through true g =
+          omega (arith, g, stmt_localed n some world order few s (top_spot world order h t) (top t) (omega (arith, k)),
+          locality.followed_local n some (resolved_stmt world order s (top_spot world order h t)) (resolved_sets world order rest (top_spot world order h t)))
+      through false g = g
+
+  chain_localed : (ts : List Template) → templates_own ts ≤ n → body_locals (resolved_chain world order h ts) ≤ n
+  chain_localed [] k = omega arith
+  chain_localed (t ∷ []) k = all_localed n some world order few t.body (top_spot world order h t.name) (top t.name) (omega (arith, k))
+  chain_localed (t ∷ (u ∷ us)) k =
+      omega (arith, chain_localed (u ∷ us) (omega (arith, k)), sets_localed t.body t.name (omega (arith, k)),
+      locality.followed_local n some (resolved_sets world order t.body (top_spot world order h t.name)) (resolved_chain world order h (u ∷ us)))
+
+  -- a body behind parameters
+  routine_localed : (ps : List Text) (b : Body) (sp : Spot) → Below n some sp.table → sp.free + length ps + body_own b ≤ n → body_locals (scoped (set_in b) (bound_all ps sp) (resolved_body world order b)) ≤ n
+  routine_localed ps b sp t k =
+      let inner = bound_all ps sp in
+      let it : Below n some (bound_table ps sp.free sp.table) = bound_below n some ps sp.free sp.table (omega (arith, k)) t in
+      scope_localed n some world order few b inner it (omega (arith, k))
+      (all_localed n some world order few b (bound_all (set_in b) inner) (bound_below n some (set_in b) (sp.free + length ps) (bound_table ps sp.free sp.table) (omega (arith, k, locality.in_few b)) it) (omega (arith, k)))
+
+  macros_localed : (ms : List MacroBody) → AllByRecursion (λ m. length m.parameters ≤ 200) ms → 200 + macros_own ms ≤ n → AllByRecursion (Holds n) (map (macro_routine world order h) ms)
+  macros_localed [] f k = tt
+  macros_localed (m ∷ ms) f k =
+      let l = mapped_len (λ (p : Parameter). p.name) m.parameters in
+      (omega (arith, k, f.0, l, routine_localed (map (λ p. p.name) m.parameters) m.body (top_spot world order h m.template) (top m.template) (omega (arith, k, f.0, l))), macros_localed ms f.1 (omega (arith, k)))
+
+  blocks_localed : (i : ℕ) (bs : List BlockBody) → ((x : Text) → length (block_parameters world order h x) ≤ 200) → 200 + bodies_own bs ≤ n → AllByRecursion (Holds n) (body_routines world order h (counted_from i bs))
+  blocks_localed i [] f k = tt
+  blocks_localed i (b ∷ bs) f k =
+      let part : Part = record { name = b.name; behind = filter (λ c. bytes_eq c.1.name b.name) (counted_from (suc i) bs) } in
+      let sp = record (top_spot world order h b.template) { escaping = b.escaping; part = Some part } in
+      let ps = block_parameters world order h b.name in
+      (omega (arith, k, f b.name, routine_localed ps b.body sp (top b.template) (omega (arith, k, f b.name))), blocks_localed (suc i) bs f (omega (arith, k)))
+
+  localed_in_chain : IsFew world order h → 200 + templates_weight (templates world.sources h) ≤ n → AllByRecursion (Holds n) (chain_routines world order h)
+  localed_in_chain k room =
+      let once = chain_once world.escaping (templates world.sources h) in (
+        chain_localed (templates world.sources h) (omega (arith, room, once)),
+        holds_append n (map (macro_routine world order h) (macros world.sources h)) (body_routines world order h (numbered_bodies world h))
+            (macros_localed (macros world.sources h) k.macros (omega (arith, room, once)))
+            (blocks_localed 0 (all_bodies world.sources world.escaping h) (λ x. parameters_few world order h x (k.names h)) (omega (arith, room, once))),
+      )
+
+chains_localed : (world : World) (order hs : List Home) (s n : ℕ) (some : 1 ≤ n) (few : (h : Home) (x : Text) → length (block_parameters world order h x) ≤ n)
+    → AllByRecursion (λ h. IsFew world order h × ((x : Text) → length (block_parameters world order h x) ≤ s)) hs → 200 + chains_weight world hs ≤ n → AllByRecursion (Holds n) (flat_map (chain_routines world order) hs)
+chains_localed world order [] s n some few k room = tt
+chains_localed world order (h ∷ hs) s n some few k room =
+    holds_append n (chain_routines world order h) (flat_map (chain_routines world order) hs) (localed_in_chain world order n some few h k.0.0 (omega (arith, room)))
+    (chains_localed world order hs s n some few k.1 (omega (arith, room)))
+
+holds_placed : (n : ℕ) (rs : List (Routine Constant)) (i : ℕ) → AllByRecursion (Holds n) rs → AllByRecursion (Holds n) (placed_routines rs i)
+holds_placed n [] i h = tt
+holds_placed n (r ∷ rs) i h = (h.0, holds_placed n rs (i + length (body_values r.body)) h.1)
+
 pub program_sized : (world : World) (entry : Home) (rest : List Home) (s : ℕ) → AreFew world (entry ∷ rest) s → IsSized world (entry ∷ rest) s (program world (entry ∷ rest) entry)
 program_sized world entry rest s k =
     let order = entry ∷ rest in
@@ -379,5 +455,7 @@ program_sized world entry rest s k =
       units = omega (arith, units_counted world order order k.0.0.filters, placed_len rs n);
       names = k.0.0.names entry;
       globals = globals_counted world order order k.0.0.names;
+      locals = holds_placed (200 + chains_weight world order) rs n (chains_localed world order order s (200 + chains_weight world order) (omega arith)
+      (λ h x. omega (arith, parameters_few world order h x (k.0.0.names h))) k (omega arith));
       entries = heights_placed (max 2 (chains_weight world order + 2 * s)) rs n (chains_low world order order s k);
     }

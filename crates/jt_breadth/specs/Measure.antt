@@ -72,3 +72,4 @@ pub record IsSized (world : World) (order : List Home) (s : ℕ) (p : Program) :
   pub units : length p.routines ≤ chains_weight world order + length order
   pub names : length p.names ≤ 200
   pub globals : p.globals ≤ 200 * length order
+  pub locals : AllByRecursion (λ r. r.locals ≤ 200 + chains_weight world order) p.routines
