@@ -18,3 +18,9 @@ pub mod Taking
 pub mod Serving
 pub mod Served
 pub mod PlacedTakes
+pub mod Sizing
+pub mod Lowness
+pub mod Whole
+mod TooHigh
+pub mod Constants
+pub mod Locality

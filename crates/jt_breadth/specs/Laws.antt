@@ -13,6 +13,7 @@ use Rattle.jt_breadth.specs.ChainRules.{InOrder}
 use Rattle.jt_breadth.specs.Rules.{KeepsRules}
 use Rattle.jt_breadth.specs.Known.{ChainsKnown}
 use Rattle.jt_breadth.specs.Takes.{BodyTakes}
+use Rattle.jt_breadth.specs.Measure.{AreFew, IsSized}
 
 -- a text or a fault is the same with one call more
 abbrev pub Stays : Got Text → Got Text → Type 0
@@ -26,3 +27,5 @@ pub record ProgramLaws : Type 0 where
   -- where the rules are kept and each test and filter is known, each operation and each routine gets as many values as it takes
   pub takes : (world : World) (entry : Home) (rest : List Home) → InOrder world (entry ∷ rest) → KeepsRules world (entry ∷ rest) → ChainsKnown world (entry ∷ rest)
       → AllByRecursion (λ r. BodyTakes world.filters (program world (entry ∷ rest) entry).routines false r.body) (program world (entry ∷ rest) entry).routines
+  -- where names and parameters are few, the program is as small as the weight of its chains says
+  pub sized : (world : World) (entry : Home) (rest : List Home) (s : ℕ) → AreFew world (entry ∷ rest) s → IsSized world (entry ∷ rest) s (program world (entry ∷ rest) entry)

@@ -20,3 +20,4 @@ pub mod ChainRules
 pub mod Size
 pub mod Takes
 pub mod Known
+pub mod Measure
