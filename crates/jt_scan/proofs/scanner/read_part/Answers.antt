@@ -1,7 +1,7 @@
 use Rattle.std.specs.Str.{chars}
 use Rattle.jt_scan.specs.declared.segment.Kind.TheVariants.{Variable, Block}
 use Rattle.jt_scan.proofs.Turns.{segment_of_tag, segment_of_comment, segment_of_data}
-use Rattle.jt_scan.proofs.scanner.read_segment.Goals as goal
+use Rattle.jt_scan.proofs.scanner.read_part.Goals as goal
 
 pub returns-in-Some : goal.returns-in-Some
 returns-in-Some c = rw (segment_of_tag c.args.line Variable (chars c.args.text.now) (chars c.in-Some.inside.now) c.in-Some.ensures) c.read_tag.ensures
