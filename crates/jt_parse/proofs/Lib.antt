@@ -1,11 +1,7 @@
 pub mod Bodies
 pub mod Expressions
-pub mod Complete
-pub mod Sound
-pub mod Exact
-pub mod Weighs
-pub mod Short
 pub mod Texts
 pub mod Views
-pub mod Checking
-pub mod Answers
+pub mod Rows
+pub mod TagsComplete
+pub mod TagsSound
