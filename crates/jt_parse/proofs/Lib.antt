@@ -5,3 +5,11 @@ pub mod Views
 pub mod Rows
 pub mod TagsComplete
 pub mod TagsSound
+pub mod Complete
+pub mod Sound
+pub mod Exact
+pub mod Answers
+pub mod Sides
+pub mod Given
+pub mod Placing
+pub mod Checking

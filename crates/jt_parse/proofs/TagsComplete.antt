@@ -243,7 +243,6 @@ with_read no_values m = no_levels m (an_opening (values no_pairs)) []
 with_read (some_values {vs} {x} d) m = by x d
   where
     by : (x : Tokens) → Separated IsValue s.Comma vs x → with_head m x ≡ cap (pairs_levels (pairs_of vs)) m (an_opening (values (pairs_of vs))) []
-    unfolding with_head
     by [] d = absurd (omega (arith, values_some d))
     by (t ∷ ts) d =
         ap (λ o. o >>= λ us u. Ok (an_opening (values (pairs_of us)), u))
@@ -261,13 +260,13 @@ filter_read {fs} {x} d m =
     ∙ cap_bind (levs filtering_lev fs) m fs [] (λ us u. Ok (an_opening (filters us), u))
     ∙ ap (λ j. cap j m (an_opening (filters fs)) []) (filtering_levs fs)
 
-macro_read : {x : List ℕ} {ps : List Parameter} {y : Tokens} → is_reserved x ≡ false → Parameters ps y → macro_head (cut.name x ∷ cut.sign s.LeftParen ∷ y) ≡ Ok (an_opening (a_macro (encode_utf8_all x) ps), [])
+macro_read : (x : List ℕ) {ps : List Parameter} {y : Tokens} → is_reserved x ≡ false → Parameters ps y → macro_head (cut.name x ∷ cut.sign s.LeftParen ∷ y) ≡ Ok (an_opening (a_macro (encode_utf8_all x) ps), [])
 unfolding macro_head
-macro_read {x} {ps} {y} h d = rw (target_read x (cut.sign s.LeftParen ∷ y) h, expect_read s.LeftParen y, parameters_read d) refl
+macro_read x {ps} {y} h d = rw (target_read x (cut.sign s.LeftParen ∷ y) h, expect_read s.LeftParen y, parameters_read d) refl
 
-include_read : {v : List ℕ} {c : Bool} {y : Tokens} (line : ℕ) (missing : Bool) → Context c y → include_head line (cut.text v ∷ (missing_words missing ++ y)) ≡ Ok (a_statement (trees.include line (encode_utf8_all v) missing c), [])
+include_read : (v : List ℕ) {c : Bool} {y : Tokens} (line : ℕ) (missing : Bool) → Context c y → include_head line (cut.text v ∷ (missing_words missing ++ y)) ≡ Ok (a_statement (trees.include line (encode_utf8_all v) missing c), [])
 unfolding include_head text_at
-include_read line missing d = rw (missing_read missing d, context_read d) refl
+include_read v line missing d = rw (missing_read missing d, context_read d) refl
 
 extends_read : (v : List ℕ) (line : ℕ) → extends_head line (cut.text v ∷ []) ≡ Ok (a_statement (trees.extends line (encode_utf8_all v)), [])
 unfolding extends_head text_at
@@ -299,9 +298,9 @@ says_is_read (says_filter {fs} {x} d) = (codes "filter", x, filtering_levels fs,
 says_is_read (says_autoescape true) = (codes "autoescape", word (codes "true") ∷ [], 0, refl, refl, (refl, refl, refl), λ m. none_within m (an_opening (escaping true)) (Ok (an_opening (escaping true), [])) refl)
 says_is_read (says_autoescape false) = (codes "autoescape", word (codes "false") ∷ [], 0, refl, refl, (refl, refl, refl), λ m. none_within m (an_opening (escaping false)) (Ok (an_opening (escaping false), [])) refl)
 says_is_read (says_macro {x} {ps} {y} h d) =
-    (codes "macro", cut.name x ∷ cut.sign s.LeftParen ∷ y, 0, refl, refl, (refl, refl, refl), λ m. none_within m (an_opening (a_macro (encode_utf8_all x) ps)) (macro_head (cut.name x ∷ cut.sign s.LeftParen ∷ y)) (macro_read h d))
+    (codes "macro", cut.name x ∷ cut.sign s.LeftParen ∷ y, 0, refl, refl, (refl, refl, refl), λ m. none_within m (an_opening (a_macro (encode_utf8_all x) ps)) (macro_head (cut.name x ∷ cut.sign s.LeftParen ∷ y)) (macro_read x h d))
 says_is_read {line} (says_include {v} {context} {y} missing d) =
-    (codes "include", cut.text v ∷ (missing_words missing ++ y), 0, refl, refl, (refl, refl, refl), λ m. none_within m (a_statement (trees.include line (encode_utf8_all v) missing context)) (include_head line (cut.text v ∷ (missing_words missing ++ y))) (include_read line missing d))
+    (codes "include", cut.text v ∷ (missing_words missing ++ y), 0, refl, refl, (refl, refl, refl), λ m. none_within m (a_statement (trees.include line (encode_utf8_all v) missing context)) (include_head line (cut.text v ∷ (missing_words missing ++ y))) (include_read v line missing d))
 says_is_read {line} (says_extends {v}) =
     (codes "extends", cut.text v ∷ [], 0, refl, refl, (refl, refl, refl), λ m. none_within m (a_statement (trees.extends line (encode_utf8_all v))) (extends_head line (cut.text v ∷ [])) (extends_read v line))
 says_is_read (says_block {x} scoped required h) =

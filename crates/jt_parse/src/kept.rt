@@ -132,12 +132,11 @@ fn ending(text: &str, space: Space, start: bool) -> (&str, bool)
     (run, starts)
 }
 
-/// The end of a text.
-fn no_end(text: &str) -> &str
-    ensures value { chars result.now ≡ [] }
-    ensures end { EndsWith (chars text.now) (chars result.now) }
+/// The end of each text.
+fn no_end<'a>() -> &'a str
+    ensures { chars result.now ≡ [] }
 {
-    &text[text.len()..]
+    ""
 }
 
 /// Whether the source begins there.
@@ -159,10 +158,10 @@ fn removed_right(text: &str, options: Options, start: bool, right: Side) -> &str
             if options.lstrip_blocks && starts {
                 run
             } else {
-                no_end(text)
+                no_end()
             }
         }
-        _ => no_end(text),
+        _ => no_end(),
     }
 }
 
@@ -175,6 +174,6 @@ pub fn kept(text: &str, options: Options, left: Side, right: Side) -> &str
     if end.len() < front.len() {
         before(front, end)
     } else {
-        no_end(text)
+        no_end()
     }
 }

@@ -128,19 +128,6 @@ fn body_placed(body: &Vec<Stmt>, place: Place, found: &mut u32) -> bool
     true
 }
 
-/// The same of branches.
-#[cycle(places)]
-fn branches_placed(branches: &Vec<(u32, Expr, Vec<Stmt>)>, place: Place, found: &mut u32) -> bool
-    ensures { result ≡ spec.branches_placed (place_view place) (branches_view branches.now.items) }
-{
-    for (_, _, body) in branches {
-        if !body_placed(body, place, found) {
-            return false;
-        }
-    }
-    true
-}
-
 /// The same of a statement.
 #[cycle(places)]
 fn statement_placed(statement: &Stmt, place: Place, found: &mut u32) -> bool
@@ -153,9 +140,15 @@ fn statement_placed(statement: &Stmt, place: Place, found: &mut u32) -> bool
         }
         Stmt::Extends(line, _) => answer(false, *line, found),
         Stmt::If(branches, other) => {
-            answer(!is_child(place), first_line(branches), found)
-                && branches_placed(branches, within(place), found)
-                && body_placed(other, within(place), found)
+            if !answer(!is_child(place), first_line(branches), found) {
+                return false;
+            }
+            for (_, _, body) in branches {
+                if !body_placed(body, within(place), found) {
+                    return false;
+                }
+            }
+            body_placed(other, within(place), found)
         }
         Stmt::For(line, _, _, _, body, other) => {
             answer(!is_child(place), *line, found)

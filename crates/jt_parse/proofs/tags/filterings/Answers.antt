@@ -13,18 +13,18 @@ loop-turn-init c = row_starts (spec.filtering_at c.args.levels) sign.Pipe _ _ _ 
 pub returns-in_err-one : goal.returns-in_err-one
 returns-in_err-one c =
     let q : Refuses (spec.separated (spec.filtering_at c.args.levels) sign.Pipe (length (ahead c.args.cursor.now)) (ahead c.args.cursor.now)) c.in_err-one.field-0.0 =
-    row_refused (spec.filtering_at c.args.levels) sign.Pipe c.loop-turn.auto._turn-end c.loop-turn._turn _ _ _ c.loop-turn.invariant c.loop-turn-test.true _ c.in_err-one.ensures in
+    row_refused (spec.filtering_at c.args.levels) sign.Pipe _ _ _ _ _ c.loop-turn.invariant c.loop-turn-test.true _ c.in_err-one.ensures in
     search rules
 
 pub returns-then-not-eat : goal.returns-then-not-eat
 returns-then-not-eat c =
-    row_last (spec.filtering_at c.args.levels) sign.Pipe c.loop-turn.auto._turn-end c.loop-turn._turn _ _ _ c.loop-turn.invariant c.loop-turn-test.true _ _ c.in_ok-one.ensures
+    row_last (spec.filtering_at c.args.levels) sign.Pipe _ _ _ _ _ c.loop-turn.invariant c.loop-turn-test.true _ _ c.in_ok-one.ensures
     c.eat.result c.eat.ensures.found c.if-not-eat.true _ c.eat.ensures.rest _ (pushed filtering_view _ _ _ c.in_ok-push.ensures.items)
 
 pub loop-turn-preserved : goal.loop-turn-preserved
 loop-turn-preserved c =
-    row_next (spec.filtering_at c.args.levels) sign.Pipe c.loop-turn.auto._turn-end c.loop-turn._turn _ _ _ c.loop-turn.invariant c.loop-turn-test.true _ _ c.in_ok-one.ensures
+    row_next (spec.filtering_at c.args.levels) sign.Pipe _ _ _ _ _ c.loop-turn.invariant c.loop-turn-test.true _ _ c.in_ok-one.ensures
     c.eat.result c.eat.ensures.found c.if-not-eat.false _ c.eat.ensures.rest _ (pushed filtering_view _ _ _ c.in_ok-push.ensures.items)
 
 pub returns : goal.returns
-returns c = row_ends (spec.filtering_at c.args.levels) sign.Pipe c.loop-turn.auto._turn-end c.loop-turn._turn _ _ _ c.loop-turn.invariant c.loop-turn-test.false
+returns c = row_ends (spec.filtering_at c.args.levels) sign.Pipe _ _ _ _ _ c.loop-turn.invariant c.loop-turn-test.false

@@ -1,0 +1,85 @@
+-- What is found in branches, one after the other.
+use Rattle.std.proofs.Common.{◌≡◌, ℕ, ◌+◌, ◌<◌, List, length, drop, get_or, refl, sym, ap, subst, ◌∙◌, Option, Some, None, Result, Err, Vec, Global}
+use Rattle.std.specs.Option.{option_or}
+use Rattle.std.proofs.lemmas.List.{drop_more}
+use Rattle.jt_expr.specs.Named.{has_unknown}
+use Rattle.jt_expr.specs.View.{expr_view}
+use Rattle.jt_expr.specs.declared.named.Named.TheVariants as named
+use Rattle.jt_expr.specs.declared.tree.Expr.{Expr}
+use Rattle.jt_parse.specs.Names.{Found, unknown_in, stmt_unknown, body_unknown, branch_unknown}
+use Rattle.jt_parse.specs.View.{stmt_view, body_view, branches_view}
+use Rattle.jt_parse.specs.Gives.{GivesNames}
+use Rattle.jt_parse.specs.declared.error.ParseError.{ParseError}
+use Rattle.jt_parse.specs.declared.error.ParseError.TheVariants as e
+use Rattle.jt_parse.specs.declared.tree.Stmt.{Stmt}
+use Rattle.jt_parse.specs.declared.tree.Stmt.TheVariants.{If}
+use Rattle.jt_parse.proofs.Views.{view-If}
+
+abbrev pub Branch : Type 0
+Branch = ℕ × Expr × Vec Stmt Global
+
+-- ---- one behind the other
+
+option_left : {A : Type 0} (o p : Option A) (a : A) → o ≡ Some a → option_or o p ≡ Some a
+option_left o p a is = ap (λ q. option_or q p) is
+
+option_right : {A : Type 0} (o p : Option A) → o ≡ None → option_or o p ≡ p
+option_right o p none = ap (λ q. option_or q p) none
+
+-- a fault in front is the first one
+pub fault_first : (o p : Found) (f : ParseError) → GivesNames o (Err f) → GivesNames (option_or o p) (Err f)
+fault_first o p (e.Syntax l) g = absurd g
+fault_first o p (e.TooDeep l) g = absurd g
+fault_first o p (e.UnknownFilter l) g = option_left o p (l, named.Filter) g
+fault_first o p (e.UnknownTest l) g = option_left o p (l, named.Test) g
+fault_first o p e.NoMemory g = absurd g
+
+-- behind what has none, it is what is behind
+pub fault_behind : (o p : Found) (r : Result (Unit {0}) ParseError) → o ≡ None → GivesNames p r → GivesNames (option_or o p) r
+fault_behind o p r none g = subst (λ q. GivesNames q r) (sym (option_right o p none)) g
+
+-- ---- branches
+
+-- what is found in one branch
+abbrev branch_at : Branch → Found
+branch_at b = option_or (unknown_in b.0 (λ u. has_unknown u (expr_view b.1))) (body_unknown (body_view b.2.items))
+
+-- what is left of branches
+branches_left : (bs : List Branch) (i : ℕ) (b : Branch) → i < length bs → b ≡ get_or bs i b
+    → branch_unknown (branches_view (drop i bs)) ≡ option_or (branch_at b) (branch_unknown (branches_view (drop (i + 1) bs)))
+branches_left bs i b lt is =
+    ap (λ (z : List Branch). branch_unknown (branches_view z)) (drop_more bs i b lt)
+    ∙ ap (λ (z : Branch). option_or (branch_at z) (branch_unknown (branches_view (drop (i + 1) bs)))) (sym is)
+
+pub branch_known : (bs : List Branch) (i : ℕ) (b : Branch) → i < length bs → b ≡ get_or bs i b → unknown_in b.0 (λ u. has_unknown u (expr_view b.1)) ≡ None → body_unknown (body_view b.2.items) ≡ None
+    → branch_unknown (branches_view (drop i bs)) ≡ branch_unknown (branches_view (drop (i + 1) bs))
+branch_known bs i b lt is c d =
+    branches_left bs i b lt is
+    ∙ option_right (branch_at b) (branch_unknown (branches_view (drop (i + 1) bs))) (option_right (unknown_in b.0 (λ u. has_unknown u (expr_view b.1))) (body_unknown (body_view b.2.items)) c ∙ d)
+
+branch_refused : (bs : List Branch) (i : ℕ) (b : Branch) (f : ParseError) → i < length bs → b ≡ get_or bs i b → GivesNames (branch_at b) (Err f) → GivesNames (branch_unknown (branches_view (drop i bs))) (Err f)
+branch_refused bs i b f lt is g =
+    subst (λ o. GivesNames o (Err f)) (sym (branches_left bs i b lt is)) (fault_first (branch_at b) (branch_unknown (branches_view (drop (i + 1) bs))) f g)
+
+pub condition_refused : (bs : List Branch) (i : ℕ) (b : Branch) (f : ParseError) → i < length bs → b ≡ get_or bs i b → GivesNames (unknown_in b.0 (λ u. has_unknown u (expr_view b.1))) (Err f)
+    → GivesNames (branch_unknown (branches_view (drop i bs))) (Err f)
+condition_refused bs i b f lt is g = branch_refused bs i b f lt is (fault_first (unknown_in b.0 (λ u. has_unknown u (expr_view b.1))) (body_unknown (body_view b.2.items)) f g)
+
+pub inside_refused : (bs : List Branch) (i : ℕ) (b : Branch) (f : ParseError) → i < length bs → b ≡ get_or bs i b → unknown_in b.0 (λ u. has_unknown u (expr_view b.1)) ≡ None → GivesNames (body_unknown (body_view b.2.items)) (Err f)
+    → GivesNames (branch_unknown (branches_view (drop i bs))) (Err f)
+inside_refused bs i b f lt is c g = branch_refused bs i b f lt is (fault_behind (unknown_in b.0 (λ u. has_unknown u (expr_view b.1))) (body_unknown (body_view b.2.items)) (Err f) c g)
+
+-- ---- an `if`
+
+choice_is : (s : Stmt) (bs : Vec Branch Global) (other : Vec Stmt Global) → s ≡ If bs other → stmt_unknown (stmt_view s) ≡ option_or (branch_unknown (branches_view bs.items)) (body_unknown (body_view other.items))
+choice_is s bs other is = ap stmt_unknown (ap stmt_view is ∙ view-If bs other)
+
+pub branches_refused : (s : Stmt) (bs : Vec Branch Global) (other : Vec Stmt Global) (f : ParseError) → s ≡ If bs other → GivesNames (branch_unknown (branches_view bs.items)) (Err f)
+    → GivesNames (stmt_unknown (stmt_view s)) (Err f)
+branches_refused s bs other f is g =
+    subst (λ o. GivesNames o (Err f)) (sym (choice_is s bs other is)) (fault_first (branch_unknown (branches_view bs.items)) (body_unknown (body_view other.items)) f g)
+
+pub other_checked : (s : Stmt) (bs : Vec Branch Global) (other : Vec Stmt Global) (r : Result (Unit {0}) ParseError) → s ≡ If bs other → branch_unknown (branches_view bs.items) ≡ None
+    → GivesNames (body_unknown (body_view other.items)) r → GivesNames (stmt_unknown (stmt_view s)) r
+other_checked s bs other r is none g =
+    subst (λ o. GivesNames o r) (sym (choice_is s bs other is)) (fault_behind (branch_unknown (branches_view bs.items)) (body_unknown (body_view other.items)) r none g)
