@@ -13,3 +13,4 @@ pub mod Sides
 pub mod Given
 pub mod Placing
 pub mod Checking
+pub mod Steps

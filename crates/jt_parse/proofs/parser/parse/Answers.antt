@@ -1,0 +1,14 @@
+use Rattle.jt_parse.proofs.Answers.{answer_spelled, answer_known, answer_only, answer_refused}
+use Rattle.jt_parse.proofs.parser.parse.Goals as goal
+
+pub returns-clause-spelled : goal.returns-clause-spelled
+returns-clause-spelled c = answer_spelled _ _ c.read_known.ensures
+
+pub returns-clause-known : goal.returns-clause-known
+returns-clause-known c = answer_known _ _ c.read_known.ensures
+
+pub returns-clause-only : goal.returns-clause-only
+returns-clause-only c = answer_only _ _ c.read_known.ensures
+
+pub returns-clause-refused : goal.returns-clause-refused
+returns-clause-refused c = answer_refused _ _ c.read_known.ensures
