@@ -10,12 +10,19 @@ use Rattle.jt_expr.specs.declared.named.Named.TheVariants as named
 use Rattle.jt_parse.specs.Trees.{Body, body_levels}
 use Rattle.jt_parse.specs.Tags as tags
 use Rattle.jt_parse.specs.HeadView as heads
-use Rattle.jt_parse.specs.Kept.{Piece}
+use Rattle.jt_parse.specs.Kept.{Piece, pieces}
+use Rattle.jt_parse.specs.Trees.{body_weight}
+use Rattle.jt_parse.specs.Bytes.{body_bytes, bytes_of}
+use Rattle.jt_scan.specs.Cut.{weight_of}
+use Rattle.jt_scan.specs.View.{cut_of}
+use Rattle.jt_scan.specs.declared.segment.Segment.{Segment as Part}
+use Rattle.jt_parse.proofs.Weighs.{weighs_less}
+use Rattle.jt_parse.proofs.Short.{no_longer}
 use Rattle.jt_parse.specs.Names.{Found, body_unknown}
 use Rattle.jt_parse.specs.Places.{is_placed}
 use Rattle.jt_parse.specs.Grammar.{Forms, Spelled}
 use Rattle.jt_parse.specs.Reading.{parsed}
-use Rattle.jt_parse.specs.View.{body_of}
+use Rattle.jt_parse.specs.View.{body_of, reads_of}
 use Rattle.jt_parse.specs.Gives.{Refuses, GivesTemplate, GivesNames, GivesPlaces, IsMisplaced, IsNone, not_read, misplaced, GivesKnown, Finds, refusal_at}
 use Rattle.jt_parse.specs.Refusals.{HoldsUnknown, IsRefusal}
 use Rattle.jt_parse.specs.declared.error.ParseError.{ParseError}
@@ -108,3 +115,11 @@ answer_refused ps (Err (e.TooDeep l)) g = λ b s. deep_only 100 b ps g s.0
 answer_refused ps (Err (e.UnknownFilter l)) g = holds ps l named.Filter g
 answer_refused ps (Err (e.UnknownTest l)) g = holds ps l named.Test g
 answer_refused ps (Err e.NoMemory) g = tt
+
+pub answer_weighs : (gs : List Part) (r : Result Template ParseError) → GivesKnown (parsed 100 (pieces (reads_of gs))) r → IfOk r (λ t. body_weight (body_of t) ≤ weight_of (cut_of gs))
+answer_weighs gs (Ok t) g = weighs_less gs (exact 100 (body_of t) (pieces (reads_of gs)) g.0).0
+answer_weighs gs (Err x) g = tt
+
+pub answer_short : (gs : List Part) (r : Result Template ParseError) → GivesKnown (parsed 100 (pieces (reads_of gs))) r → IfOk r (λ t. body_bytes (body_of t) ≤ bytes_of (cut_of gs))
+answer_short gs (Ok t) g = no_longer gs (exact 100 (body_of t) (pieces (reads_of gs)) g.0).0
+answer_short gs (Err x) g = tt

@@ -14,3 +14,5 @@ pub mod Given
 pub mod Placing
 pub mod Checking
 pub mod Steps
+pub mod Weighs
+pub mod Short

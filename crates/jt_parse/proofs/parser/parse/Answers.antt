@@ -1,4 +1,4 @@
-use Rattle.jt_parse.proofs.Answers.{answer_spelled, answer_known, answer_only, answer_refused}
+use Rattle.jt_parse.proofs.Answers.{answer_spelled, answer_known, answer_only, answer_refused, answer_weighs, answer_short}
 use Rattle.jt_parse.proofs.parser.parse.Goals as goal
 
 pub returns-clause-spelled : goal.returns-clause-spelled
@@ -12,3 +12,9 @@ returns-clause-only c = answer_only _ _ c.read_known.ensures
 
 pub returns-clause-refused : goal.returns-clause-refused
 returns-clause-refused c = answer_refused _ _ c.read_known.ensures
+
+pub returns-clause-weighs : goal.returns-clause-weighs
+returns-clause-weighs c = answer_weighs c.args.segments.now _ c.read_known.ensures
+
+pub returns-clause-short : goal.returns-clause-short
+returns-clause-short c = answer_short c.args.segments.now _ c.read_known.ensures
