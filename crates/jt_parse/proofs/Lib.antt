@@ -16,3 +16,4 @@ pub mod Checking
 pub mod Steps
 pub mod Weighs
 pub mod Short
+pub mod KeptRows

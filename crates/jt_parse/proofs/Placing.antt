@@ -48,4 +48,3 @@ pub if_placed : (p : places.Place) (s : Stmt) (bs : Vec Branch Global) (other : 
 if_placed p s bs other is top good =
     choice_is p s bs other is ∙ ap (λ c. c && (branches_placed (within p) (branches_view bs.items) && body_placed (within p) (body_view other.items))) top
     ∙ ap (λ c. c && body_placed (within p) (body_view other.items)) good
-

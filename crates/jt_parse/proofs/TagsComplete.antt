@@ -86,7 +86,6 @@ name_some a x (a_name h) = omega arith
 name_here : (m : ℕ) (a : Text) (x rest : Tokens) → IsName a x → Unit {0} → target_at (x ++ rest) ≡ cap 0 m a rest
 name_here m a x rest (a_name {x = n} h) b = target_read n rest h ∙ no_levels m (encode_utf8_all n) rest
 
-
 names_read : {ts : List Text} {x : Tokens} → Separated IsName s.Comma ts x → (n : ℕ) (rest : Tokens) → length x ≤ n → sees s.Comma rest ≡ false → separated target_at s.Comma n (x ++ rest) ≡ Ok (ts, rest)
 names_read {ts} d n rest le f =
     sep_read IsName s.Comma target_at 0 (λ a. 0) (λ ts. Unit {0}) name_some (name_here 0) (λ ts. tt) d n rest le tt f

@@ -75,10 +75,11 @@ value_sound m a ts rest e =
     let r = bind_ok (read m whole g.1) (λ b w. Ok ((n.0, b), w)) a rest g.3 in
     let p = ok_parts r.3 in
     let d = read_is_spelled m whole r.0 g.1 r.1 r.2 in
-    subst (λ z. Front (IsValue z) ts rest) (ap (λ z. (z, r.0)) (sym t.2) ∙ p.0)
-    (cut.name t.0 ∷ cut.sign s.Assign ∷ d.0,
-    t.3 ∙ ap (λ z. cut.name t.0 ∷ z) (expect_sound s.Assign n.1 g.1 g.0 g.2 ∙ ap (λ z. cut.sign s.Assign ∷ z) (d.1 ∙ ap (λ z. d.0 ++ z) p.1)),
-    a_value t.1 d.2)
+    subst (λ z. Front (IsValue z) ts rest) (ap (λ z. (z, r.0)) (sym t.2) ∙ p.0) (
+      cut.name t.0 ∷ cut.sign s.Assign ∷ d.0,
+      t.3 ∙ ap (λ z. cut.name t.0 ∷ z) (expect_sound s.Assign n.1 g.1 g.0 g.2 ∙ ap (λ z. cut.sign s.Assign ∷ z) (d.1 ∙ ap (λ z. d.0 ++ z) p.1)),
+      a_value t.1 d.2,
+    )
 
 filtering_sound : (m : ℕ) (a : Filtering) (ts rest : Tokens) → filtering_at m ts ≡ Ok (a, rest) → Front (IsFiltering a) ts rest
 unfolding filtering_at
@@ -142,10 +143,11 @@ sep_sound One k one sound (suc n) bs ts rest e =
     let c = bind_ok (separated one k n (drop 1 b.1)) (λ cs v. Ok (b.0 ∷ cs, v)) bs rest q in
     let p = ok_parts c.3 in
     let r = sep_sound One k one sound n c.0 (drop 1 b.1) c.1 c.2 in
-    subst (λ z. Front (Separated One k z) ts rest) p.0
-    (d.0 ++ (cut.sign k ∷ r.0),
-    d.1 ∙ ap (λ z. d.0 ++ z) (sees_sound k b.1 h ∙ ap (λ z. cut.sign k ∷ z) (r.1 ∙ ap (λ z. r.0 ++ z) p.1)) ∙ sym (append_assoc d.0 (cut.sign k ∷ r.0) rest),
-    also d.2 r.2))
+    subst (λ z. Front (Separated One k z) ts rest) p.0 (
+      d.0 ++ (cut.sign k ∷ r.0),
+      d.1 ∙ ap (λ z. d.0 ++ z) (sees_sound k b.1 h ∙ ap (λ z. cut.sign k ∷ z) (r.1 ∙ ap (λ z. r.0 ++ z) p.1)) ∙ sym (append_assoc d.0 (cut.sign k ∷ r.0) rest),
+      also d.2 r.2,
+    ))
     (λ h q.
     let p = ok_parts q in
     subst (λ z. Front (Separated One k z) ts rest) p.0 (d.0, d.1 ∙ ap (λ z. d.0 ++ z) p.1, only d.2))

@@ -111,8 +111,10 @@ extends_head line ts = text_at ts >>= λ v u. Ok (a_statement (trees.extends lin
 unfoldable pub block_head : Reader Head
 block_head ts =
     target_at ts >>= λ x u.
-    Ok (an_opening (a_block x (says (codes "scoped") u) (says (codes "required") (past (says (codes "scoped") u) u))),
-    past (says (codes "required") (past (says (codes "scoped") u) u)) (past (says (codes "scoped") u) u))
+    Ok (
+      an_opening (a_block x (says (codes "scoped") u) (says (codes "required") (past (says (codes "scoped") u) u))),
+      past (says (codes "required") (past (says (codes "scoped") u) u)) (past (says (codes "scoped") u) u),
+    )
 
 -- a statement's tag of the line, by its first word
 unfoldable pub head_at : ℕ → ℕ → List ℕ → Reader Head

@@ -23,7 +23,10 @@ ghost use Rattle.jt_parse.specs.declared.error.ParseError.TheVariants as error;
 
 use crate::error::ParseError;
 use crate::expression::{copy_of, expression, head, is_word};
-use crate::frames::{Frame, Kind, ends_frame, finished, is_end_word, pop_frame, push_branch, push_frame, push_statement};
+use crate::frames::{
+    Frame, Kind, ends_frame, finished, is_end_word, pop_frame, push_branch, push_frame,
+    push_statement,
+};
 use crate::heads::Head;
 use crate::kept::{Side, kept, side_ahead, side_behind};
 use crate::names::check_body;

@@ -17,7 +17,9 @@ ghost use Rattle.jt_parse.specs.HeadView.{GivesBy, GivesAll, GivesWhole, value_v
 use crate::expression::is_word;
 use crate::heads::{Head, Loop, Opening};
 use crate::tree::{Filtering, Parameter, Stmt};
-use jt_expr::{Cursor, Expr, ExprError, Form, Literal, Part, Parts, arguments, copy_of, literal_of, read};
+use jt_expr::{
+    Cursor, Expr, ExprError, Form, Literal, Part, Parts, arguments, copy_of, literal_of, read,
+};
 use jt_scan::{Sign, Token, text_value};
 use std::alloc::Global;
 
@@ -74,11 +76,7 @@ fn expression(
 
 /// `a = e`
 #[tactic(auto, unfolding(crate::specs::TagReading::value_at))]
-fn value(
-    alloc: Global,
-    cursor: &mut Cursor<'_>,
-    levels: usize,
-) -> Result<(String, Expr), ExprError>
+fn value(alloc: Global, cursor: &mut Cursor<'_>, levels: usize) -> Result<(String, Expr), ExprError>
     requires { levels ≤ 100 }
     ensures { GivesBy value_view (spec.value_at levels (ahead cursor.old)) result (ahead cursor.new) }
 {
@@ -110,11 +108,7 @@ fn values(
 
 /// `f(a)`
 #[tactic(auto, unfolding(crate::specs::TagReading::filtering_at))]
-fn filtering(
-    alloc: Global,
-    cursor: &mut Cursor<'_>,
-    levels: usize,
-) -> Result<Filtering, ExprError>
+fn filtering(alloc: Global, cursor: &mut Cursor<'_>, levels: usize) -> Result<Filtering, ExprError>
     requires { levels ≤ 100 }
     ensures { GivesBy filtering_view (spec.filtering_at levels (ahead cursor.old)) result (ahead cursor.new) }
 {

@@ -1,4 +1,4 @@
-use Rattle.std.proofs.Common.{rules, sym}
+use Rattle.std.proofs.Common.{rules}
 use Rattle.std.specs.Str.{chars}
 use Rattle.jt_parse.specs.SideView.{test_of}
 use Rattle.jt_parse.proofs.Sides.{run_none, run_passes, run_breaks, run_value, run_starts, turned, unturned}

@@ -1,7 +1,6 @@
-use Rattle.std.proofs.Common.{◌∙◌, ◌≡◌, ◌<◌, ◌≤◌, ap, ap₂, sym, subst, length, arith}
+use Rattle.std.proofs.Common.{◌∙◌, ◌<◌, ◌≤◌, length, arith}
 use Rattle.std.proofs.lemmas.Bool.Decides.{nat_tests}
 use Rattle.std.specs.Str.{chars}
-use Rattle.jt_parse.specs.Kept as spec
 use Rattle.jt_parse.specs.SideView.{side_view}
 use Rattle.jt_parse.proofs.Sides.{shorter_end, nothing_between, kept_of}
 use Rattle.jt_parse.proofs.kept.kept.Goals as goal

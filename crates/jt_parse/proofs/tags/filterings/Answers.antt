@@ -1,4 +1,4 @@
-use Rattle.std.proofs.Common.{rules, ◌-◌, ◌++◌, ◌∷◌, [], length, refl, ap, sym, ◌∙◌}
+use Rattle.std.proofs.Common.{rules, length, ap}
 use Rattle.jt_scan.specs.declared.segment.Sign.TheVariants as sign
 use Rattle.jt_expr.specs.Cursor.{ahead, Refuses}
 use Rattle.jt_parse.specs.TagReading as spec

@@ -1,10 +1,10 @@
-use Rattle.std.proofs.Common.{◌∙◌, ap, sym}
+use Rattle.std.proofs.Common.{◌∙◌, ap}
 use Rattle.jt_expr.specs.Cursor.{ahead}
 use Rattle.jt_parse.specs.Tags.{an_opening, values}
 use Rattle.jt_parse.specs.HeadView.{values_view}
 use Rattle.jt_parse.proofs.Given.{with_given, values_pairs}
 use Rattle.jt_parse.proofs.tags.with_head.Goals as goal
-use Rattle.std.proofs.Common.{Ok, arith, length}
+use Rattle.std.proofs.Common.{Ok, arith}
 
 pub returns : goal.returns
 returns c =

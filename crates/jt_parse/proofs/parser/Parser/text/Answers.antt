@@ -1,6 +1,5 @@
 use Rattle.std.proofs.Common.{◌≡◌, ◌<◌, length, ap, sym, ◌∙◌, arith, Ok}
 use Rattle.std.proofs.lemmas.Bool.Decides.{nat_tests}
-use Rattle.std.specs.Str.{chars}
 use Rattle.jt_parse.specs.Trees.{data_of}
 use Rattle.jt_parse.specs.Reading.{state, then_one}
 use Rattle.jt_parse.specs.Gives.{state_view}
