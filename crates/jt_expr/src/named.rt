@@ -50,7 +50,7 @@ fn is_unknown_test(name: &str, named: Named) -> bool
 }
 
 /// Whether a filter is what is looked for.
-fn is_unknown_filter(name: &str, named: Named) -> bool
+pub fn is_unknown_filter(name: &str, named: Named) -> bool
     ensures { result ≡ spec.unknown_filter named name.now }
 {
     match named {
@@ -61,7 +61,7 @@ fn is_unknown_filter(name: &str, named: Named) -> bool
 
 /// Whether such a name stands in an expression.
 #[cycle(names)]
-fn has_unknown(expr: &Expr, named: Named) -> bool
+pub fn has_unknown(expr: &Expr, named: Named) -> bool
     ensures { result ≡ spec.has_unknown named (expr_view expr.now) }
 {
     match expr {
@@ -97,7 +97,7 @@ fn has_unknown(expr: &Expr, named: Named) -> bool
 
 /// Whether such a name stands in one of the expressions.
 #[cycle(names)]
-fn any_unknown(items: &Vec<Expr>, named: Named) -> bool
+pub fn any_unknown(items: &Vec<Expr>, named: Named) -> bool
     ensures { result ≡ spec.exprs_have_unknown named (exprs_view items.now.items) }
 {
     for item in items {
@@ -110,7 +110,7 @@ fn any_unknown(items: &Vec<Expr>, named: Named) -> bool
 
 /// Whether such a name stands in one of the values.
 #[cycle(names)]
-fn any_unknown_pair(pairs: &Vec<(String, Expr)>, named: Named) -> bool
+pub fn any_unknown_pair(pairs: &Vec<(String, Expr)>, named: Named) -> bool
     ensures { result ≡ spec.pairs_have_unknown named (pairs_view pairs.now.items) }
 {
     for (_, value) in pairs {

@@ -83,6 +83,7 @@ pub enum Element {
 #[derive(Clone, Copy, Debug, PartialEq, Eq)]
 pub enum Form {
     Whole,
+    Disjunction,
     Inversion,
     Signed,
     Postfix,

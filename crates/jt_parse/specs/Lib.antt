@@ -1,8 +1,16 @@
 pub mod Trees
+pub mod Kept
+pub mod Tags
+pub mod Places
 pub mod Grammar
 pub mod Names
+pub mod TagReading
 pub mod Reading
 pub mod Bytes
 pub mod Words
 pub mod View
+pub mod HeadView
+pub mod SideView
+pub mod PlaceView
 pub mod Gives
+pub mod Refusals
