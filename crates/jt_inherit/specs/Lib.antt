@@ -1,5 +1,13 @@
-pub mod Names
-pub mod View
+pub mod Chain
 pub mod Chains
-pub mod Small
+pub mod Includes
+pub mod Names
+pub mod Pages
+pub mod Parts
+pub mod Places
 pub mod Refusals
+pub mod Rules
+pub mod Small
+pub mod Supers
+pub mod Uses
+pub mod View

@@ -1,4 +1,4 @@
-//! Chains of templates: for now the entry alone, read from a library.
+//! Chains of templates: what an entry extends and includes, read from a library.
 #![tactic(auto)]
 
 mod chaining;
@@ -6,8 +6,10 @@ mod error;
 mod library;
 mod linked;
 mod names;
+mod parts;
 
 pub use chaining::chain;
 pub use error::ChainError;
 pub use library::Library;
-pub use linked::Chain;
+pub use linked::{Chain, Home, Page};
+pub use parts::{Block, Macro};

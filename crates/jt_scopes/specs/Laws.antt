@@ -1,42 +1,31 @@
--- What holds of the program of every template.
-use Rattle.std.specs.Prelude.{◌≡◌, ◌+◌, ◌*◌, ◌<◌, ◌≤◌, Bool, true, List, [], ◌∷◌, length}
+-- What holds of every chain and its program.
+use Rattle.std.specs.Prelude.{◌≡◌, ℕ, suc, false, List, ◌∷◌}
 use Rattle.std.specs.List.{AllByRecursion}
-use Rattle.std.specs.Ordering.{nat_cmp, is_lt}
-use Rattle.std.specs.Cmp.Lexicographic.{slice_cmp}
-use Rattle.jt_parse.specs.Trees.{Text, Body, body_weight}
-use Rattle.jt_parse.specs.Bytes.{body_bytes}
-use Rattle.jt_scopes.specs.Known.{BodyKnown}
-use Rattle.jt_scopes.specs.Rules.{KeepsRules}
-use Rattle.jt_scopes.specs.Slots.{Routine, Program}
-use Rattle.jt_scopes.specs.Takes.{BodyTakes}
-use Rattle.jt_scopes.specs.Resolve.{ascending, slot_of, program}
-use Rattle.jt_scopes.specs.Size.{body_height, routines_size, names_bytes, pool_bytes}
+use Rattle.jt_value.specs.Pairs.{Pairs}
+use Rattle.jt_slots.specs.Got.{Got, deeper}
+use Rattle.jt_parse.specs.Trees.{Text}
+use Rattle.jt_inherit.specs.Chain.{Home}
+use Rattle.jt_rules.specs.World.{World}
+use Rattle.jt_scopes.specs.Meaning.{mean}
+use Rattle.jt_slots.specs.Slots.{smean}
+use Rattle.jt_scopes.specs.Programs.{program}
+use Rattle.jt_inherit.specs.Includes.{InOrder}
+use Rattle.jt_rules.specs.Rules.{KeepsRules}
+use Rattle.jt_rules.specs.Known.{ChainsKnown}
+use Rattle.jt_slots.specs.Takes.{BodyTakes}
+use Rattle.jt_scopes.specs.Measure.{AreFew, IsSized}
 
-abbrev pub IsBefore : Text → Text → Type 0
-IsBefore x y = is_lt (slice_cmp nat_cmp x y) ≡ true
+-- a text or a fault is the same with one call more
+abbrev pub Stays : Got Text → Got Text → Type 0
+Stays deeper h = Unit {0}
+Stays g h = h ≡ g
 
--- strictly ascending texts behind this one
-abbrev pub Above : Text → List Text → Type 0
-Above z [] = Unit {0}
-Above z (y ∷ ys) = IsBefore z y × Above y ys
-
-abbrev pub Ascends : List Text → Type 0
-Ascends [] = Unit {0}
-Ascends (y ∷ ys) = Above y ys
-
--- a program is as small as the weight and the bytes of its template say: its instructions, its entries, its names and its pool
-pub record IsSized (b : Body) (p : Program) : Type 0 where
-  pub few_instructions : routines_size p.routines ≤ 100 * body_weight b + 1
-  pub few_entries : AllByRecursion (λ (r : Routine). 2 * body_height r.body ≤ body_weight b) p.routines
-  pub few_names : length p.names ≤ body_weight b
-  pub short_names : names_bytes p.names ≤ body_bytes b
-  pub few_values : length p.pool ≤ body_weight b + 2
-  pub short_values : pool_bytes p.pool ≤ body_bytes b
-
--- Programs are so small. Where the rules are kept and each test is known, each operation of a program gets as many values as it
--- takes. Names that are put in order ascend strictly, and each of them has a slot there.
-pub record TemplateLaws : Type 0 where
-  pub sized : (template : Text) (escaping : Bool) (b : Body) → IsSized b (program template escaping b)
-  pub takes : (template : Text) (escaping : Bool) (b : Body) → KeepsRules b → BodyKnown b → AllByRecursion (λ (r : Routine). BodyTakes r.body) (program template escaping b).routines
-  pub ascends : (xs : List Text) → Ascends (ascending xs)
-  pub slotted : (xs : List Text) → AllByRecursion (λ x. slot_of x (ascending xs) < length (ascending xs)) xs
+-- Where the chains are in order, the entry first, the entry's program means what its chain means: for every context, and every depth of calls.
+pub record ProgramLaws : Type 0 where
+  pub means : (world : World) (entry : Home) (rest : List Home) → InOrder world.sources (entry ∷ rest) → (context : Pairs) (n : ℕ) → smean world.filters (program world (entry ∷ rest) entry) context n ≡ mean world entry context n
+  pub stays : (world : World) (entry : Home) (context : Pairs) (n : ℕ) → Stays (mean world entry context n) (mean world entry context (suc n))
+  -- where the rules are kept and each test and filter is known, each operation and each routine gets as many values as it takes
+  pub takes : (world : World) (entry : Home) (rest : List Home) → InOrder world.sources (entry ∷ rest) → KeepsRules world (entry ∷ rest) → ChainsKnown world (entry ∷ rest)
+      → AllByRecursion (λ r. BodyTakes world.filters (program world (entry ∷ rest) entry).routines false r.body) (program world (entry ∷ rest) entry).routines
+  -- where names and parameters are few, the program is as small as the weight of its chains says
+  pub sized : (world : World) (entry : Home) (rest : List Home) (s : ℕ) → AreFew world (entry ∷ rest) s → IsSized world (entry ∷ rest) s (program world (entry ∷ rest) entry)

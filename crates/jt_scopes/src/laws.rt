@@ -1,8 +1,8 @@
 //! What callers' proofs rest on.
 
-ghost use Rattle.jt_scopes.specs.Laws.{TemplateLaws};
+ghost use Rattle.jt_scopes.specs.Laws.{ProgramLaws};
 
-/// The laws of templates and their programs. It does nothing: a caller learns them from its contract.
-pub fn template_laws()
-    ensures { TemplateLaws }
+/// The law of programs: each means what its chain means. It does nothing: a caller learns it from its contract.
+pub fn program_laws()
+    ensures { ProgramLaws }
 {}

@@ -1,17 +1,9 @@
-//! Names to slots: what a template reads gets a place among the globals, and what it writes a place in a pool of values.
+//! What templates mean, by names and by slots, and how their names become slots.
 #![tactic(auto)]
 
-mod error;
-mod expressions;
-mod forms;
 mod laws;
-mod names;
-mod program;
 mod resolving;
-mod rules;
-mod scope;
 
-pub use error::ScopeError;
-pub use laws::template_laws;
-pub use program::{Maker, Resolved, SExpr, SStmt};
+pub use jt_rules::ScopeError;
+pub use laws::program_laws;
 pub use resolving::resolve;

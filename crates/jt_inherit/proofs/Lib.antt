@@ -1,4 +1,0 @@
-pub mod Naming
-pub mod Escapes
-pub mod Lengths
-pub mod Found
