@@ -94,6 +94,36 @@ abbrev mutual
   set_under no_branches = []
   set_under (branch line c body rest) = set_in body ++ set_under rest
 
+-- ---- the names that scopes bind: targets of loops, values of `with`, and what is set in a scope
+
+abbrev mutual
+  pub scoped_by : Stmt → List Text
+  scoped_by (choose bs other) = scoped_under bs ++ scoped_in other
+  scoped_by (for_each line xs e c body other) = xs ++ (scope_names body ++ scoped_in other)
+  scoped_by (set_block line x body) = scope_names body
+  scoped_by (with_values line ps body) = keywords ps ++ scope_names body
+  scoped_by (filter_block line fs body) = scope_names body
+  scoped_by (autoescape line on body) = scope_names body
+  scoped_by (block line x scoped required body) = scope_names body
+  -- no block stands in a macro
+  scoped_by s = []
+
+  pub scoped_in : Body → List Text
+  scoped_in end = []
+  scoped_in (stmt s rest) = scoped_by s ++ scoped_in rest
+
+  pub scoped_under : Branches → List Text
+  scoped_under no_branches = []
+  scoped_under (branch line c body rest) = scoped_in body ++ scoped_under rest
+
+  -- of a body that is a scope
+  pub scope_names : Body → List Text
+  scope_names body = set_in body ++ scoped_in body
+
 -- the names of a chain's templates
 abbrev pub own_names : Sources → Home → List Text
 own_names sources h = flat_map (λ t. body_names t.body) (templates sources h)
+
+-- the names that the scopes of a chain bind
+abbrev pub chain_scope_names : Sources → Home → List Text
+chain_scope_names sources h = ascending (flat_map (λ t. scoped_in t.body) (templates sources h))

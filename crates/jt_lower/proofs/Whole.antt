@@ -3,11 +3,11 @@ use Rattle.std.proofs.Common.{List, ◌∷◌, sym, ◌∙◌}
 use Rattle.jt_image.specs.IsCode.{IsCode}
 use Rattle.jt_image.specs.Laws.{CodeLaws}
 use Rattle.jt_slots.specs.Filters.{Filters}
-use Rattle.jt_scopes.specs.Laws.{ProgramLaws}
+use Rattle.jt_meaning.specs.Laws.{ProgramLaws}
 use Rattle.jt_inherit.specs.Chain.{Home}
 use Rattle.jt_inherit.specs.Includes.{InOrder}
 use Rattle.jt_rules.specs.World.{World}
-use Rattle.jt_scopes.specs.Programs.{program}
+use Rattle.jt_meaning.specs.Programs.{program}
 use Rattle.jt_slots.specs.Slots.{Program}
 use Rattle.jt_lower.specs.Lower.{compiled}
 use Rattle.jt_lower.specs.Fits.{ProgramFits}

@@ -27,10 +27,10 @@ use Rattle.jt_parse.specs.Trees.{Text, Parameter, Filtering, Stmt, Body, end, st
 use Rattle.jt_slots.specs.Loops.{items_of_value}
 use Rattle.jt_slots.specs.Filters.{Filters}
 use Rattle.jt_rules.specs.World.{World}
-use Rattle.jt_scopes.specs.Meaning.{mean}
+use Rattle.jt_meaning.specs.Meaning.{mean}
 use Rattle.jt_slots.specs.Slots.{smean, Program}
-use Rattle.jt_scopes.specs.Programs.{program, routines, count_globals}
-use Rattle.jt_scopes.specs.Layout.{names, shared}
+use Rattle.jt_meaning.specs.Programs.{program, routines, count_globals}
+use Rattle.jt_meaning.specs.Layout.{names, shared}
 use Rattle.jt_lower.specs.Lawful.{program_with}
 
 abbrev pub named : Text → Option ℕ

@@ -16,8 +16,8 @@ use Rattle.jt_parse.specs.Trees.{Text}
 use Rattle.jt_inherit.specs.Chain.{Home}
 use Rattle.jt_inherit.specs.Includes.{InOrder}
 use Rattle.jt_rules.specs.World.{World}
-use Rattle.jt_scopes.specs.Meaning.{mean}
-use Rattle.jt_scopes.specs.Programs.{program}
+use Rattle.jt_meaning.specs.Meaning.{mean}
+use Rattle.jt_meaning.specs.Programs.{program}
 use Rattle.jt_slots.specs.Filters.{Filters}
 use Rattle.jt_slots.specs.Slots.{Routine, Program, smean_of, smean}
 use Rattle.jt_slots.specs.Pool.{Constant, constant_in, routines_values, placed_routines}

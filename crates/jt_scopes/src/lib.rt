@@ -1,9 +1,7 @@
-//! What templates mean, by names and by slots, and how their names become slots.
+//! Names to slots: a chain becomes a program.
 #![tactic(auto)]
 
-mod laws;
 mod resolving;
 
 pub use jt_rules::ScopeError;
-pub use laws::program_laws;
 pub use resolving::resolve;

@@ -5,7 +5,7 @@ ghost use Rattle.jt_inherit.specs.Places.{home_at};
 ghost use Rattle.jt_inherit.specs.View.{chain_view};
 ghost use Rattle.jt_rules.specs.Rules.{KeepsRules, Breaks};
 ghost use Rattle.jt_rules.specs.World.{world_of};
-ghost use Rattle.jt_scopes.specs.Programs.{program};
+ghost use Rattle.jt_meaning.specs.Programs.{program};
 ghost use Rattle.jt_slots.specs.View.{program_of};
 
 use jt_inherit::Chain;

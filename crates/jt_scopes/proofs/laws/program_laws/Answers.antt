@@ -1,8 +1,0 @@
-use Rattle.jt_scopes.proofs.Means.{program_means}
-use Rattle.jt_scopes.proofs.Monotone.{mean_stays}
-use Rattle.jt_scopes.proofs.PlacedTakes.{program_takes}
-use Rattle.jt_scopes.proofs.Whole.{program_sized}
-use Rattle.jt_scopes.proofs.laws.program_laws.Goals as goal
-
-pub returns : goal.returns
-returns c = record { means = program_means; stays = mean_stays; takes = program_takes; sized = program_sized }
