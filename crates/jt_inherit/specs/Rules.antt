@@ -1,12 +1,11 @@
--- The static rules of chains: what a refusal of each name says of a library and an entry, and in which order chains are laid out.
+-- The static rules of chains: what a refusal of each name says of sources and an entry.
 use Rattle.std.specs.Prelude.{ℕ, ◌<◌, Bool, true, false, not, ◌&&◌, ◌||◌, ◌==◌, ◌⊎◌, IsTrue, List, [], ◌∷◌, ◌++◌, map, flat_map, length, Some, nat_lt}
 use Rattle.std.specs.Option.{is_none}
 use Rattle.std.specs.List.{list_any}
 use Rattle.jt_inherit.specs.Names.{IsName}
 use Rattle.jt_parse.specs.Trees.{Text}
-use Rattle.jt_inherit.specs.Chain.{Home, names_up, templates, BlockBody, blocks_in, all_bodies, bodies, from_given, macros}
+use Rattle.jt_inherit.specs.Chain.{Sources, Home, names_up, templates, BlockBody, blocks_in, all_bodies, bodies, from_given, macros}
 use Rattle.jt_parse.specs.Texts.{among, repeated}
-use Rattle.jt_rules.specs.World.{World}
 use Rattle.jt_inherit.specs.Includes.{included, needs_in}
 use Rattle.jt_inherit.specs.Supers.{calls_super}
 

@@ -1,9 +1,9 @@
 -- Names that trees read or bind, and chains that they include.
-use Rattle.std.specs.Prelude.{Bool, not, ◌||◌, if◌then◌else◌, List, [], ◌∷◌, ◌++◌, map, Option, Some, None}
+use Rattle.std.specs.Prelude.{ℕ, suc, if◌then◌else◌, List, [], ◌∷◌, ◌++◌, map, flat_map, Option, Some, None}
 use Rattle.jt_expr.specs.Trees.{Expr, constant, name, group, list_of, map_of, attribute, item, call, filter, test, unary, binary, when, choice, Exprs, no_exprs, expr, Pairs, no_pairs, pair}
-use Rattle.jt_inherit.specs.Chain.{is_loop}
+use Rattle.jt_inherit.specs.Chain.{is_loop, Sources, Home, templates}
+use Rattle.jt_parse.specs.Texts.{ascending}
 use Rattle.jt_parse.specs.Trees.{Text, Filtering, Stmt, data_of, print, choose, for_each, set, set_block, with_values, filter_block, autoescape, macro, include, extends, block, Body, end, stmt, Branches, no_branches, branch}
-use Rattle.jt_inherit.specs.Uses.{keywords}
 
 -- how many arguments are given by place
 abbrev pub count : Exprs → ℕ
@@ -99,12 +99,12 @@ abbrev mutual
 abbrev mutual
   pub scoped_by : Stmt → List Text
   scoped_by (choose bs other) = scoped_under bs ++ scoped_in other
-  scoped_by (for_each line xs e c body other) = xs ++ (scope_names body ++ scoped_in other)
-  scoped_by (set_block line x body) = scope_names body
-  scoped_by (with_values line ps body) = keywords ps ++ scope_names body
-  scoped_by (filter_block line fs body) = scope_names body
-  scoped_by (autoescape line on body) = scope_names body
-  scoped_by (block line x scoped required body) = scope_names body
+  scoped_by (for_each line xs e c body other) = xs ++ (set_in body ++ (scoped_in body ++ scoped_in other))
+  scoped_by (set_block line x body) = (set_in body ++ scoped_in body)
+  scoped_by (with_values line ps body) = keywords ps ++ (set_in body ++ scoped_in body)
+  scoped_by (filter_block line fs body) = (set_in body ++ scoped_in body)
+  scoped_by (autoescape line on body) = (set_in body ++ scoped_in body)
+  scoped_by (block line x scoped required body) = (set_in body ++ scoped_in body)
   -- no block stands in a macro
   scoped_by s = []
 
@@ -115,10 +115,6 @@ abbrev mutual
   pub scoped_under : Branches → List Text
   scoped_under no_branches = []
   scoped_under (branch line c body rest) = scoped_in body ++ scoped_under rest
-
-  -- of a body that is a scope
-  pub scope_names : Body → List Text
-  scope_names body = set_in body ++ scoped_in body
 
 -- the names of a chain's templates
 abbrev pub own_names : Sources → Home → List Text
