@@ -454,8 +454,8 @@ program_sized world entry rest s k =
       instructions = omega (arith, routines_placed rs n, chains_sized world order order s k);
       constants = omega (arith, chains_counted world order order k.0.0.filters, length-append (shared world order) (routines_values rs));
       units = omega (arith, units_counted world order order k.0.0.filters, placed_len rs n);
-      names = k.0.0.names entry;
-      globals = globals_counted world order order k.0.0.names;
+      names = (k.0.0.names entry).0;
+      globals = globals_counted world order order (λ h. (k.0.0.names h).0);
       locals = holds_placed (200 + chains_weight world.sources order) rs n (chains_localed world order order s (200 + chains_weight world.sources order) (omega arith)
       (λ h x. omega (arith, parameters_few world order h x (k.0.0.names h))) k (omega arith));
       entries = heights_placed (max 2 (chains_weight world.sources order + 2 * s)) rs n (chains_low world order order s k);

@@ -61,7 +61,7 @@ module _ (world : World) where
   -- the names of a chain, and of those that it includes: it hands them on. Each chain stands before those that it includes.
   abbrev pub names_in : List Home → Home → List Text
   names_in [] h = []
-  names_in (k ∷ ks) h = if bytes_eq k h then ascending (own_names h ++ flat_map (names_in ks) (included h)) else names_in ks h
+  names_in (k ∷ ks) h = if bytes_eq k h then ascending (own_names world.sources h ++ flat_map (names_in ks) (included world.sources h)) else names_in ks h
 
   -- all bodies of a chain with their places, and those of one block
   abbrev pub numbered_bodies : Home → List (ℕ × BlockBody)
