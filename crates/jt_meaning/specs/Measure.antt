@@ -54,15 +54,15 @@ pub record HasAtMost (world : World) (order : List Home) (q : ℕ) (h : Home) : 
   pub blocks : (x : Text) → length (block_parameters world order h x) ≤ q
   pub filters : (f : ℕ) → length (world.filters.parameters f) ≤ 3
 
--- ---- what a program is at most, where its chains are few and no block has more parameters than so many: 100 instructions for each
--- token and one for each chain, and half an entry for each token and one for each parameter of a block
+-- ---- what a program is at most, where its chains are few: 100 instructions for each token and one for each chain, and half an entry for each
+-- token
 
-abbrev pub AreFew : World → List Home → ℕ → Type 0
-AreFew world order s = AllByRecursion (λ h. IsFew world order h × ((x : Text) → length (block_parameters world order h x) ≤ s)) order
+abbrev pub AreFew : World → List Home → Type 0
+AreFew world order = AllByRecursion (IsFew world order) order
 
-pub record IsSized (world : World) (order : List Home) (s : ℕ) (p : Program) : Type 0 where
+pub record IsSized (world : World) (order : List Home) (p : Program) : Type 0 where
   pub instructions : routines_size p.routines ≤ 100 * chains_weight world.sources order + length order
-  pub entries : AllByRecursion (λ r. 2 * body_height r.body ≤ max 2 (chains_weight world.sources order + 2 * s)) p.routines
+  pub entries : AllByRecursion (λ r. 2 * body_height r.body ≤ max 2 (chains_weight world.sources order)) p.routines
   -- undefined, and one for each token
   pub constants : length p.pool ≤ 1 + chains_weight world.sources order
   pub units : length p.routines ≤ chains_weight world.sources order + length order
