@@ -5,7 +5,11 @@ use Rattle.jt_value.specs.Pairs.{Pairs}
 use Rattle.jt_slots.specs.Got.{Got, deeper}
 use Rattle.jt_parse.specs.Trees.{Text}
 use Rattle.jt_inherit.specs.Chain.{Home}
-use Rattle.jt_rules.specs.World.{World}
+use Rattle.jt_inherit.specs.Small.{NamesFew}
+use Rattle.jt_inherit.specs.View.{Seen}
+use Rattle.jt_meaning.specs.Ascends.{Ascends}
+use Rattle.jt_meaning.specs.Layout.{names}
+use Rattle.jt_rules.specs.World.{World, world_of}
 use Rattle.jt_meaning.specs.Meaning.{mean}
 use Rattle.jt_slots.specs.Slots.{smean}
 use Rattle.jt_meaning.specs.Programs.{program}
@@ -29,3 +33,7 @@ pub record ProgramLaws : Type 0 where
       → AllByRecursion (λ r. BodyTakes world.filters (program world (entry ∷ rest) entry).routines false r.body) (program world (entry ∷ rest) entry).routines
   -- where names and parameters are few, the program is as small as the weight of its chains says
   pub sized : (world : World) (entry : Home) (rest : List Home) → AreFew world (entry ∷ rest) → IsSized world (entry ∷ rest) (program world (entry ∷ rest) entry)
+  -- names ascend
+  pub ascends : (world : World) (order : List Home) (h : Home) → Ascends (names world order h)
+  -- where the sources of chains read or bind few names and the rules are kept, names and parameters are few
+  pub few : (c : Seen) → NamesFew c → KeepsRules (world_of c) c.order → AreFew (world_of c) c.order
