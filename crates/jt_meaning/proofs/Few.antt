@@ -170,7 +170,7 @@ flat_from : (g : Home → List Text) (ms : List Home) (ns : List Text) → ((m :
 flat_from g [] ns h = tt
 flat_from g (m ∷ ms) ns h = both_among (g m) (flat_map g ms) ns (h m) (flat_from g ms ns h)
 
-names_from : (world : World) (ns : List Text) (hs : List Home) → AllByRecursion (λ h. AllAmong (own_names world.sources h) ns) hs → (h : Home) → AllAmong (names_in world hs h) ns
+pub names_from : (world : World) (ns : List Text) (hs : List Home) → AllByRecursion (λ h. AllAmong (own_names world.sources h) ns) hs → (h : Home) → AllAmong (names_in world hs h) ns
 names_from world ns [] a h = tt
 names_from world ns (k ∷ ks) a h = through (bytes_eq k h) refl (λ m. names_from world ns ks a.1 m)
   where

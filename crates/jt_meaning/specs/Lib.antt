@@ -9,3 +9,4 @@ pub mod Operators
 pub mod Programs
 pub mod Resolve
 pub mod Ascends
+pub mod Bytes
