@@ -1,7 +1,9 @@
+pub mod Along
 pub mod Chain
 pub mod Chains
 pub mod Includes
 pub mod Names
+pub mod Needs
 pub mod Pages
 pub mod Parts
 pub mod Places

@@ -7,6 +7,7 @@ mod library;
 mod linked;
 mod names;
 mod parts;
+mod statements;
 
 pub use chaining::chain;
 pub use error::ChainError;
