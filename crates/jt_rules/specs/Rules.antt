@@ -8,7 +8,6 @@ use Rattle.jt_expr.specs.Trees.{Expr, constant, name, group, list_of, map_of, at
 use Rattle.jt_slots.specs.Tests.{test_named}
 use Rattle.jt_inherit.specs.Uses.{count, keywords, own_names}
 use Rattle.jt_parse.specs.Texts.{ascending, among}
-use Rattle.jt_rules.specs.Rules.{read_alone, no_keywords, unless, range_broken, test_broken}
 use Rattle.jt_rules.specs.declared.error.ScopeError.{ScopeError}
 use Rattle.jt_rules.specs.declared.error.ScopeError.TheVariants as error
 use Rattle.jt_parse.specs.Trees.{Text, Parameter, Filtering, Stmt, data_of, print, choose, for_each, set, set_block, with_values, filter_block, autoescape, macro, include, extends, block, Body, end, stmt, Branches, no_branches, branch, body_bound}
