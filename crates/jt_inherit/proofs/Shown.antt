@@ -1,10 +1,17 @@
 -- What is left of statements and branches, and what an `if` is.
-use Rattle.std.proofs.Common.{◌≡◌, ℕ, ◌+◌, ◌<◌, List, [], ◌∷◌, length, map, drop, get_or, refl, sym, ap, ◌∙◌, Vec, Global, String, Option, rules}
+use Rattle.std.proofs.Common.{◌≡◌, ℕ, ◌+◌, ◌<◌, List, [], ◌∷◌, length, map, drop, get_or, refl, sym, ap, ◌∙◌, Bool, Box, Vec, Global, String, string_bytes, Option, rules}
 use Rattle.std.specs.Prelude.{option_map}
 use Rattle.std.proofs.lemmas.List.{drop_more}
 use Rattle.jt_expr.specs.View.{expr_view}
 use Rattle.jt_expr.specs.declared.tree.Expr.{Expr}
 use Rattle.jt_parse.specs.Trees as trees
+use Rattle.jt_expr.specs.Trees as expressions
+use Rattle.jt_expr.specs.Trees.{pair}
+use Rattle.jt_expr.specs.View.{pairs_of, expr_step, exprs_view, pairs_view}
+use Rattle.jt_expr.specs.declared.tree.Expr.{fold-roll-Expr}
+use Rattle.jt_expr.specs.declared.tree.Expr.TheOpen.{Expr-F}
+use Rattle.jt_expr.specs.declared.tree.Expr.TheVariants as e
+use Rattle.jt_expr.specs.declared.tree.Expr.TheVariants.{rolls-Map, rolls-Call, rolls-Filter, rolls-Test}
 use Rattle.jt_parse.specs.View.{names_view, stmts_of, branches_of, stmt_step, stmt_view, body_view, branches_view}
 use Rattle.jt_parse.specs.declared.tree.Stmt.{Stmt, the_lemmas, fold-roll-Stmt}
 use Rattle.jt_parse.specs.declared.tree.Stmt.TheOpen.{Stmt-F}
@@ -39,3 +46,34 @@ view-If bs other =
 pub view-For : (line : ℕ) (xs : Vec (String Global) Global) (e : Expr) (c : Option Expr) (body other : Vec Stmt Global)
     → stmt_view (For line xs e c body other) ≡ trees.for_each line (names_view xs.items) (expr_view e) (option_map expr_view c) (body_view body.items) (body_view other.items)
 view-For line xs e c body other = search (rules, the_lemmas)
+
+-- ---- expressions
+
+-- a view of each pair that keeps the key, and shows the expression
+pairs-map : (g : String Global × Expr → String Global × expressions.Expr) → ((p : String Global × Expr) → (g p).0 ≡ p.0) → ((p : String Global × Expr) → (g p).1 ≡ expr_view p.1)
+    → (ps : List (String Global × Expr)) → pairs_of (map g ps) ≡ pairs_view ps
+pairs-map g k v [] = refl
+pairs-map g k v (p ∷ ps) =
+    ap (λ s. pair (string_bytes s) (g p).1 (pairs_of (map g ps))) (k p)
+    ∙ ap (λ t. pair (string_bytes p.0) t (pairs_of (map g ps))) (v p)
+    ∙ ap (pair (string_bytes p.0) (expr_view p.1)) (pairs-map g k v ps)
+
+pub view-Map : (ps : Vec (String Global × Expr) Global) → expr_view (e.Map ps) ≡ expressions.map_of (pairs_view ps.items)
+view-Map ps =
+    ap expr_view (sym (rolls-Map ps)) ∙ fold-roll-Expr expressions.Expr expr_step (Expr-F.Map ps)
+    ∙ ap expressions.map_of (pairs-map _ (λ p. refl) (λ p. refl) ps.items)
+
+pub view-Call : (a : Box Expr Global) (ts : Vec Expr Global) (ps : Vec (String Global × Expr) Global) → expr_view (e.Call a ts ps) ≡ expressions.call (expr_view a.value) (exprs_view ts.items) (pairs_view ps.items)
+view-Call a ts ps =
+    ap expr_view (sym (rolls-Call a ts ps)) ∙ fold-roll-Expr expressions.Expr expr_step (Expr-F.Call a ts ps)
+    ∙ ap (expressions.call (expr_view a.value) (exprs_view ts.items)) (pairs-map _ (λ p. refl) (λ p. refl) ps.items)
+
+pub view-Filter : (a : Box Expr Global) (x : String Global) (ts : Vec Expr Global) (ps : Vec (String Global × Expr) Global) → expr_view (e.Filter a x ts ps) ≡ expressions.filter (expr_view a.value) (string_bytes x) (exprs_view ts.items) (pairs_view ps.items)
+view-Filter a x ts ps =
+    ap expr_view (sym (rolls-Filter a x ts ps)) ∙ fold-roll-Expr expressions.Expr expr_step (Expr-F.Filter a x ts ps)
+    ∙ ap (expressions.filter (expr_view a.value) (string_bytes x) (exprs_view ts.items)) (pairs-map _ (λ p. refl) (λ p. refl) ps.items)
+
+pub view-Test : (a : Box Expr Global) (n : Bool) (x : String Global) (ts : Vec Expr Global) (ps : Vec (String Global × Expr) Global) → expr_view (e.Test a n x ts ps) ≡ expressions.test (expr_view a.value) n (string_bytes x) (exprs_view ts.items) (pairs_view ps.items)
+view-Test a n x ts ps =
+    ap expr_view (sym (rolls-Test a n x ts ps)) ∙ fold-roll-Expr expressions.Expr expr_step (Expr-F.Test a n x ts ps)
+    ∙ ap (expressions.test (expr_view a.value) n (string_bytes x) (exprs_view ts.items)) (pairs-map _ (λ p. refl) (λ p. refl) ps.items)

@@ -8,6 +8,7 @@ mod linked;
 mod names;
 mod parts;
 mod statements;
+mod supers;
 
 pub use chaining::chain;
 pub use error::ChainError;
