@@ -1,7 +1,10 @@
 pub mod Along
 pub mod Chain
 pub mod Chains
+pub mod Checks
+pub mod Faults
 pub mod Includes
+pub mod Kept
 pub mod Names
 pub mod Needs
 pub mod Pages
@@ -9,7 +12,9 @@ pub mod Parts
 pub mod Places
 pub mod Refusals
 pub mod Rules
+pub mod SetView
 pub mod Small
 pub mod Supers
 pub mod Uses
 pub mod View
+pub mod Ways

@@ -5,7 +5,7 @@ ghost use Rattle.jt_parse.specs.View.{stmt_view, body_view};
 ghost use Rattle.jt_inherit.specs.Chain.{macros, macros_in, all_bodies, blocks_of, blocks_in};
 ghost use Rattle.jt_inherit.specs.Pages.{pages_view};
 ghost use Rattle.jt_inherit.specs.Parts.{macro_view, block_view, macros_view, blocks_view, name_at};
-ghost use Rattle.jt_inherit.specs.Along.{ArePlaces, macros_along, blocks_along};
+ghost use Rattle.jt_inherit.specs.Along.{ArePlaces, body_at, macros_along, blocks_along};
 ghost use Rattle.jt_inherit.specs.Places.{home_at};
 ghost use Rattle.jt_inherit.specs.View.{chain_view, sources_of};
 
@@ -148,6 +148,27 @@ pub(crate) fn macros_at<'a>(
     for place in places {
         add_macros(pages, *place, pages[*place].template.body(), &mut found)?;
     }
+    Ok(found)
+}
+
+/// The bodies of the blocks of the template at a place.
+pub(crate) fn blocks_of_page<'a>(
+    alloc: Global,
+    pages: &'a [Page],
+    place: usize,
+    escaping: bool,
+) -> Result<Vec<Block<'a>>, AllocError>
+    requires { place < length pages.now }
+    ensures { IfOk result (λ bs. blocks_view (pages_view pages.now) bs.items ≡
+        blocks_in (name_at (pages_view pages.now) place) (body_at (pages_view pages.now) place) escaping) }
+{
+    let mut found = Vec::new(alloc);
+    let spot = Spot {
+        pages,
+        template: place,
+        escaping,
+    };
+    add_blocks(spot, pages[place].template.body(), &mut found)?;
     Ok(found)
 }
 

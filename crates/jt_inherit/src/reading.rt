@@ -20,23 +20,26 @@ use std::alloc::Global;
 /// Reads the template of a name from the library.
 pub(crate) fn read_page<L: Library>(
     alloc: Global,
-    name: String,
+    name: &str,
     library: &L,
     options: Options,
 ) -> Result<Page, ChainError>
-    ensures named { IfOk result (λ p. string_bytes p.name ≡ string_bytes name) }
+    ensures named { IfOk result (λ p. string_bytes p.name ≡ name.now) }
     ensures read { IfOk result (λ p. IsRead (L.sources library.now) options (page_view p)) }
     ensures within { IfOk result (λ p. IsWithin (L.sources library.now) (page_view p)) }
-    ensures refused { IfErr result (λ e. IsFaultOf e (L.sources library.now) (string_bytes name) options) }
+    ensures refused { IfErr result (λ e. IsFaultOf e (L.sources library.now) name.now options) }
 {
-    if !is_name(name.as_str()) {
+    if !is_name(name) {
         return Err(ChainError::BadName);
     }
-    let Some(source) = library.source(name.as_str()) else {
+    let Some(source) = library.source(name) else {
         return Err(ChainError::Missing);
     };
-    let template = template_of(alloc, name.as_str(), source, options)?;
-    Ok(Page { name, template })
+    let template = template_of(alloc, name, source, options)?;
+    Ok(Page {
+        name: String::from_str(alloc, name)?,
+        template,
+    })
 }
 
 /// The template that the source of a name spells.

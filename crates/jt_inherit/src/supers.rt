@@ -120,7 +120,10 @@ fn statement_super(statement: &Stmt) -> bool
         Stmt::Print(_, expr) | Stmt::Set(_, _, expr) => has_super(expr),
         Stmt::If(branches, other) => {
             for (_, condition, body) in branches {
-                if has_super(condition) || calls_super(body) {
+                if has_super(condition) {
+                    return true;
+                }
+                if calls_super(body) {
                     return true;
                 }
             }
