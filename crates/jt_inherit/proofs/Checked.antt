@@ -1,14 +1,20 @@
 -- The rules on bodies of blocks, as they are checked one body after the other.
 use Rattle.std.proofs.Common.{◌≡◌, ℕ, zero, suc, ◌+◌, ◌<◌, ◌≤◌, Bool, true, false, not, cond, ◌&&◌, ◌||◌, if◌then◌else◌, List, [], ◌∷◌, ◌++◌, length, map, take, drop, get_or, refl, sym, ap, subst, ◌∙◌, arith}
-use Rattle.std.specs.Prelude.{filter}
+use Rattle.std.specs.Prelude.{filter, slice_get, unwrap_or, option_map, ◌==◌}
+use Rattle.std.proofs.Common.{Some}
+use Rattle.std.proofs.lemmas.Bool.Decides.{nat_tests}
+use Rattle.std.proofs.lemmas.List.{drop_more}
+use Rattle.std.proofs.lemmas.Option.{slice_get-get_or, get_or_from_slice_get}
 use Rattle.std.specs.List.{list_any}
 use Rattle.std.specs.Str.{bytes_eq}
 use denote.Ref.{Bor}
 use Rattle.jt_parse.specs.Texts.{among, repeated}
-use Rattle.jt_parse.specs.Trees.{Text}
-use Rattle.jt_inherit.specs.Chain.{Template, BlockBody, from_given}
+use Rattle.jt_parse.specs.Trees.{Text, end}
+use Rattle.jt_inherit.specs.Along.{body_at}
+use Rattle.jt_inherit.specs.Kept.{any_double}
+use Rattle.jt_inherit.specs.Chain.{Template, BlockBody, from_given, blocks_in}
 use Rattle.jt_inherit.specs.Checks.{named, lacks_body, lacks_next, block_names}
-use Rattle.jt_inherit.specs.Parts.{block_view, blocks_view}
+use Rattle.jt_inherit.specs.Parts.{block_view, blocks_view, name_at}
 use Rattle.jt_inherit.specs.declared.parts.Block.{Block}
 use Rattle.jt_inherit.specs.Rules.{is_required, lacks_super, is_empty}
 use Rattle.jt_inherit.specs.Supers.{calls_super}
@@ -182,7 +188,7 @@ pub map_append : {X Y : Type 0} (f : X → Y) (xs ys : List X) → map f (xs ++ 
 map_append f [] ys = refl
 map_append f (x ∷ xs) ys = ap (λ l. f x ∷ l) (map_append f xs ys)
 
-take_all : {X : Type 0} (xs : List X) (i : ℕ) → length xs ≤ i → take i xs ≡ xs
+pub take_all : {X : Type 0} (xs : List X) (i : ℕ) → length xs ≤ i → take i xs ≡ xs
 take_all [] zero le = refl
 take_all [] (suc i) le = refl
 take_all (x ∷ xs) zero le = absurd (omega arith)
@@ -196,26 +202,27 @@ module _ {X : Type 0} (f : X → Text) (xs : List X) (i : ℕ) (x : X) (lt : i <
 
   pub repeat_goes : (ks ms : List Text) (b : Bool) → ks ≡ map f (take i xs) → repeated ks ≡ false → b ≡ among (f x) ks → ms ≡ (if b then ks else ks ++ f x ∷ []) → b ≡ false
       → (ms ≡ map f (take (i + 1) xs)) × (repeated ms ≡ false)
-  repeat_goes ks ms b e o k m no =
-      let added : ms ≡ ks ++ f x ∷ [] = m ∙ ap (λ c. if c then ks else ks ++ f x ∷ []) no in
+  repeat_goes ks ms b e o k m off =
+      let added : ms ≡ ks ++ f x ∷ [] = m ∙ ap (λ c. if c then ks else ks ++ f x ∷ []) off in
       (added ∙ ap (λ l. l ++ f x ∷ []) e ∙ sym (map_append f (take i xs) (x ∷ [])) ∙ ap (map f) (sym (take_next xs i x lt is)),
-        ap repeated added ∙ once_more (f x) ks o (sym k ∙ no))
+        ap repeated added ∙ once_more (f x) ks o (sym k ∙ off))
+
+or_nil : (c : Bool) → (c || false) ≡ c
+or_nil true = refl
+or_nil false = refl
+
+or_three : (c d e : Bool) → (c || (d || e)) ≡ ((c || d) || e)
+or_three true d e = refl
+or_three false d e = refl
+
+pub among_snoc : (l : List Text) (n y : Text) → among y (l ++ n ∷ []) ≡ (among y l || bytes_eq n y)
+among_snoc [] n y = or_nil (bytes_eq n y)
+among_snoc (z ∷ l) n y = ap (λ c. bytes_eq z y || c) (among_snoc l n y) ∙ or_three (bytes_eq z y) (among y l) (bytes_eq n y)
 
 -- a set that gets a name
 pub among_set : (ks ms pre : List Text) (n : Text) (b : Bool) → ((y : Text) → among y ks ≡ among y pre) → b ≡ among n ks → ms ≡ (if b then ks else ks ++ n ∷ []) → (y : Text) → among y ms ≡ among y (pre ++ n ∷ [])
 among_set ks ms pre n b h k m y = ap (among y) m ∙ by b refl
   where
-    snoc : (l : List Text) → among y (l ++ n ∷ []) ≡ (among y l || bytes_eq n y)
-    snoc [] = or_nil (bytes_eq n y)
-      where
-        or_nil : (c : Bool) → (c || false) ≡ (false || c)
-        or_nil true = refl
-        or_nil false = refl
-    snoc (z ∷ l) = ap (λ c. bytes_eq z y || c) (snoc l) ∙ three (bytes_eq z y) (among y l) (bytes_eq n y)
-      where
-        three : (c d e : Bool) → (c || (d || e)) ≡ ((c || d) || e)
-        three true d e = refl
-        three false d e = refl
     there : (c : Bool) → bytes_eq n y ≡ c → among n pre ≡ true → among y pre ≡ (among y pre || bytes_eq n y)
     there true e a =
         let q : among y pre ≡ true = ap (λ z. among z pre) (sym (same n y e)) ∙ a in
@@ -227,9 +234,9 @@ among_set ks ms pre n b h k m y = ap (among y) m ∙ by b refl
         or_none false = refl
     by : (c : Bool) → b ≡ c → among y (if b then ks else ks ++ n ∷ []) ≡ among y (pre ++ n ∷ [])
     by true e =
-        ap (λ c. among y (if c then ks else ks ++ n ∷ [])) e ∙ h y ∙ there (bytes_eq n y) refl (sym (h n) ∙ sym k ∙ e) ∙ sym (snoc pre)
+        ap (λ c. among y (if c then ks else ks ++ n ∷ [])) e ∙ h y ∙ there (bytes_eq n y) refl (sym (h n) ∙ sym k ∙ e) ∙ sym (among_snoc pre n y)
     by false e =
-        ap (λ c. among y (if c then ks else ks ++ n ∷ [])) e ∙ snoc ks ∙ ap (λ c. c || bytes_eq n y) (h y) ∙ sym (snoc pre)
+        ap (λ c. among y (if c then ks else ks ++ n ∷ [])) e ∙ among_snoc ks n y ∙ ap (λ c. c || bytes_eq n y) (h y) ∙ sym (among_snoc pre n y)
 
 -- ---- bodies in a row
 
@@ -254,11 +261,60 @@ module _ (ts : List Template) (xs : List Block) (i : ℕ) (x : Block) (lt : i < 
 
   pub body_goes : (ks : List Text) → ((y : Text) → among y ks ≡ among y (block_names (take i xs))) → AreGiven (blocks_view ts (take i xs)) → (not (among x.name.now ks) && x.required) ≡ false
       → AreGiven (blocks_view ts (take (i + 1) xs))
-  body_goes ks h g no =
+  body_goes ks h g off =
       let e : blocks_view ts (take (i + 1) xs) ≡ blocks_view ts (take i xs) ++ block_view ts x ∷ [] = ap (blocks_view ts) (take_next xs i x lt is) ∙ map_append (block_view ts) (take i xs) (x ∷ []) in
       let n : among x.name.now (names_of (blocks_view ts (take i xs))) ≡ among x.name.now ks = ap (among x.name.now) (names_seen ts (take i xs)) ∙ sym (h x.name.now) in
-      subst AreGiven (sym e) (given_more (blocks_view ts (take i xs)) (block_view ts x) g (ap (λ c. not c && x.required) n ∙ no))
+      subst AreGiven (sym e) (given_more (blocks_view ts (take i xs)) (block_view ts x) g (ap (λ c. not c && x.required) n ∙ off))
 
 pub not_not : (b : Bool) → not (not b) ≡ b
 not_not true = refl
 not_not false = refl
+
+-- a set that gets the name of a given body
+pub given_noted : (ks ms : List Text) (n : Text) (b r : Bool) (x : Text) → b ≡ among n ks → ms ≡ (if b then ks else ks ++ n ∷ []) → not r ≡ true → among x ms ≡ ((bytes_eq n x && not r) || among x ks)
+given_noted ks ms n b r x k m off =
+    among_set ks ms ks n b (λ y. refl) k m x ∙ among_snoc ks n x ∙ swapped (among x ks) (bytes_eq n x) ∙ ap (λ c. (bytes_eq n x && c) || among x ks) (sym off)
+  where
+    swapped : (a c : Bool) → (a || c) ≡ ((c && true) || a)
+    swapped true true = refl
+    swapped true false = refl
+    swapped false true = refl
+    swapped false false = refl
+
+-- ---- templates by their places, one more
+
+nothing : Template
+nothing = record { name = []; body = end }
+
+pub place_goes : (ts : List Template) (i : ℕ) (is js : List ℕ) → i < length ts → map (slice_get ts) is ≡ map Some (take i ts) → js ≡ is ++ i ∷ [] → map (slice_get ts) js ≡ map Some (take (i + 1) ts)
+place_goes ts i is js lt h e =
+    let t = get_or ts i nothing in
+    let at : slice_get ts i ≡ Some t = slice_get-get_or ts i nothing lt in
+    let same_t : t ≡ get_or ts i t = sym (get_or_from_slice_get ts i t t at) in
+    ap (map (slice_get ts)) e ∙ map_append (slice_get ts) is (i ∷ []) ∙ ap (λ l. l ++ slice_get ts i ∷ []) h ∙ ap (λ o. map Some (take i ts) ++ o ∷ []) at
+    ∙ sym (map_append Some (take i ts) (t ∷ [])) ∙ ap (map Some) (sym (take_next ts i t lt same_t))
+
+module _ (e : Bool) (ts : List Template) (i : ℕ) (lt : i < length ts) (xs : List Block) (b : Bool) (seen : blocks_view ts xs ≡ blocks_in (name_at ts i) (body_at ts i) e) (is : b ≡ repeated (block_names xs)) where
+  double_left : any_double e (drop i ts) ≡ (b || any_double e (drop (i + 1) ts))
+  double_left =
+      let t = get_or ts i nothing in
+      let found : blocks_in (name_at ts i) (body_at ts i) e ≡ blocks_in t.name t.body e =
+      ap (λ o. blocks_in (unwrap_or (option_map (λ (u : Template). u.name) o) []) (unwrap_or (option_map (λ (u : Template). u.body) o) end) e) (slice_get-get_or ts i nothing lt) in
+      let twice : repeated (map (λ (x : BlockBody). x.name) (blocks_in t.name t.body e)) ≡ b =
+      ap (λ l. repeated (names_of l)) (sym found) ∙ ap (λ l. repeated (names_of l)) (sym seen) ∙ ap repeated (names_seen ts xs) ∙ sym is in
+      ap (any_double e) (drop_more ts i nothing lt) ∙ ap (λ c. c || any_double e (drop (i + 1) ts)) twice
+
+  pub double_found : b ≡ true → any_double e (drop i ts) ≡ true
+  double_found h = double_left ∙ ap (λ c. c || any_double e (drop (i + 1) ts)) h
+
+  pub double_none : b ≡ false → any_double e (drop i ts) ≡ any_double e (drop (i + 1) ts)
+  double_none h = double_left ∙ ap (λ c. c || any_double e (drop (i + 1) ts)) h
+
+pub empty_list : {X : Type 0} (xs : List X) → not (length xs == 0) ≡ false → xs ≡ []
+empty_list [] h = refl
+empty_list (x ∷ xs) h =
+    let e : (suc (length xs) == 0) ≡ false = some_left (length xs) in
+    absurd (let k : not (suc (length xs) == 0) ≡ true = ap not e in let q : true ≡ false = sym k ∙ h in cc)
+  where
+    some_left : (n : ℕ) → (suc n == 0) ≡ false
+    some_left n = grind (arith, nat_tests)

@@ -1,6 +1,6 @@
 -- Ways that go on, and what is known of them.
-use Rattle.std.proofs.Common.{◌≡◌, ℕ, zero, suc, ◌+◌, ◌-◌, ◌<◌, ◌≤◌, ◌==◌, Bool, true, false, not, ◌&&◌, ◌||◌, if◌then◌else◌, List, [], ◌∷◌, ◌++◌, length, map, refl, sym, ap, subst, ◌∙◌, arith, inl, Option, Some, None, IsTrue, length-append, string_bytes}
-use Rattle.std.specs.Prelude.{flat_map}
+use Rattle.std.proofs.Common.{◌≡◌, ℕ, zero, suc, ◌+◌, ◌-◌, ◌<◌, ◌≤◌, ◌==◌, Bool, true, false, not, ◌&&◌, ◌||◌, if◌then◌else◌, List, [], ◌∷◌, ◌++◌, length, map, refl, sym, ap, subst, ◌∙◌, arith, inl, Option, Some, None, IsTrue, length-append, string_bytes, String, Global}
+use Rattle.std.specs.Prelude.{flat_map, option_map}
 use Rattle.std.specs.List.{AllByRecursion}
 use Rattle.std.specs.Str.{bytes_eq}
 use Rattle.std.proofs.lemmas.List.{append-nil}
@@ -12,6 +12,9 @@ use Rattle.jt_inherit.specs.Chains.{Given, AreRead, IsRead}
 use Rattle.jt_inherit.specs.Faults.{IsFaultOf}
 use Rattle.jt_inherit.specs.Includes.{needs_in}
 use Rattle.jt_inherit.specs.Names.{IsName}
+use Rattle.jt_inherit.specs.Pages.{page_view, pages_view}
+use Rattle.jt_parse.specs.View.{body_of}
+use Rattle.jt_inherit.specs.declared.linked.Page.{Page}
 use Rattle.jt_inherit.specs.Refusals.{Shows, Asks, HasFault, IsMissing, IsUncut, IsUnspelled, Breaks}
 use Rattle.jt_inherit.specs.Rules as rules
 use Rattle.jt_inherit.specs.Rules.{Somewhere, asked, way, here}
@@ -173,3 +176,18 @@ module _ (given : Given) (options : Options) (entry : Text) where
   fault_breaks ts n w le error.NoSuper f = absurd f
   fault_breaks ts n w le error.IncludeCycle f = absurd f
   fault_breaks ts n w le error.MacroTwice f = absurd f
+
+-- ---- pages, one more
+
+pub pages_more : (ps qs : List Page) (p : Page) → qs ≡ ps ++ p ∷ [] → pages_view qs ≡ pages_view ps ++ page_view p ∷ []
+pages_more ps qs p e = ap pages_view e ∙ map_more page_view ps p
+
+pub pages_longer : (ps qs : List Page) (p : Page) → qs ≡ ps ++ p ∷ [] → length (pages_view qs) ≡ length (pages_view ps) + 1
+pages_longer ps qs p e = ap length (pages_more ps qs p e) ∙ length-append (pages_view ps) (page_view p ∷ [])
+
+pub pages_next : (given : Given) (options : Options) (entry : Text) (ps qs : List Page) (p : Page) (n : Text) (o : Option (String Global)) → IsWay given options entry (pages_view ps) (Some n)
+    → among n (names (pages_view ps)) ≡ false → string_bytes p.name ≡ n → IsRead given options (page_view p) → IsWithin given (page_view p) → qs ≡ ps ++ p ∷ []
+    → option_map string_bytes o ≡ extends_of (body_of p.template) → IsWay given options entry (pages_view qs) (option_map string_bytes o)
+pages_next given options entry ps qs p n o w fresh is r i e x =
+    subst (λ ts. IsWay given options entry ts (option_map string_bytes o)) (sym (pages_more ps qs p e))
+    (subst (IsWay given options entry (pages_view ps ++ page_view p ∷ [])) (sym x) (way_more given options entry (pages_view ps) n (page_view p) w fresh is r i))

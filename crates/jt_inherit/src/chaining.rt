@@ -71,7 +71,7 @@ fn has_includes(alloc: Global, pages: &[Page]) -> Result<bool, AllocError>
     for page in pages {
         add_includes(&mut found, page.template.body())?;
     }
-    Ok(!found.is_empty())
+    Ok(!found.as_slice().is_empty())
 }
 
 /// The places of the templates.
