@@ -318,3 +318,19 @@ empty_list (x ∷ xs) h =
   where
     some_left : (n : ℕ) → (suc n == 0) ≡ false
     some_left n = grind (arith, nat_tests)
+
+pub next_lacking : (ts : List Template) (qs : List Block) (b : Block) (rest : List Block) → (not (has_given b.name.now (blocks_view ts rest)) && calls_super (block_view ts b).body) ≡ true → lacks_next (blocks_view ts (qs ++ b ∷ rest)) ≡ true
+next_lacking ts qs b rest h =
+    let a = and_both (not (has_given b.name.now (blocks_view ts rest))) (calls_super (block_view ts b).body) h in
+    ap lacks_next (map_append (block_view ts) qs (b ∷ rest)) ∙ none_next (blocks_view ts qs) (block_view ts b) (blocks_view ts rest) (not_true (has_given b.name.now (blocks_view ts rest)) a.0) a.1
+  where
+    and_both : (a b : Bool) → (a && b) ≡ true → (a ≡ true) × (b ≡ true)
+    and_both true b e = (refl, e)
+    and_both false b e = absurd (cc)
+    not_true : (a : Bool) → not a ≡ true → a ≡ false
+    not_true true e = cc
+    not_true false e = refl
+
+pub no_items : {X : Type 0} (xs : List X) → length xs ≡ 0 → xs ≡ []
+no_items [] e = refl
+no_items (x ∷ xs) e = absurd (omega arith)

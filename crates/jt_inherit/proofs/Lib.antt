@@ -10,5 +10,6 @@ pub mod Naming
 pub mod Needed
 pub mod Placed
 pub mod Raws
+pub mod Ruled
 pub mod Shown
 pub mod SuperIn

@@ -8,6 +8,9 @@ use Rattle.jt_inherit.specs.declared.parts.Block.{Block}
 use Rattle.jt_inherit.proofs.Checked.{has_given, HaveNext}
 use Rattle.jt_inherit.proofs.rules.any_lacks_next.Given as goal
 
+abbrev pub decreases-loop-block : goal.decreases-loop-block
+decreases-loop-block l = length l.blocks.items
+
 abbrev pub invariant-loop-block : goal.invariant-loop-block
 invariant-loop-block l =
     (behind : List Block)
