@@ -186,39 +186,39 @@ module _ (given : Given) (options : Options) (entry : Text) (ts : List Template)
     kept : KeepsRules (sources_in ts) options.autoescape entry
     kept = record {
       missing = λ x.
-      let t = at_entry (λ h. IsTrue (list_any (λ n. is_none (sources_in ts n)) (asked (sources_in ts) options.autoescape false h))) x in
-      never (list_any (λ n. is_none (sources_in ts n)) (asked (sources_in ts) options.autoescape false entry)) (ap (list_any (λ n. is_none (sources_in ts n))) (asked_is false) ∙ have_sources (sources_in ts) ts held) t;
+          let t = at_entry (λ h. IsTrue (list_any (λ n. is_none (sources_in ts n)) (asked (sources_in ts) options.autoescape false h))) x in
+          never (list_any (λ n. is_none (sources_in ts n)) (asked (sources_in ts) options.autoescape false entry)) (ap (list_any (λ n. is_none (sources_in ts n))) (asked_is false) ∙ have_sources (sources_in ts) ts held) t;
       bad_name = λ x.
-      let t = at_entry (λ h. (n : Text) × IsTrue (among n (asked (sources_in ts) options.autoescape true h)) × (IsName n → ⊥)) x in
-      t.2 (all_among IsName ts t.0 (all_named given options ts w.read.each) (sym (ap (among t.0) (asked_is true)) ∙ t.1));
+          let t = at_entry (λ h. (n : Text) × IsTrue (among n (asked (sources_in ts) options.autoescape true h)) × (IsName n → ⊥)) x in
+          t.2 (all_among IsName ts t.0 (all_named given options ts w.read.each) (sym (ap (among t.0) (asked_is true)) ∙ t.1));
       extends_cycle = λ x.
-      let t = at_entry (λ h. (j : ℕ) × IsTrue (repeated (names_up (sources_in ts) j (Some h)))) x in
-      never (repeated (names ts)) w.read.once (repeated_up (sources_in ts) t.0 (Some entry) ts w.leads t.1);
+          let t = at_entry (λ h. (j : ℕ) × IsTrue (repeated (names_up (sources_in ts) j (Some h)))) x in
+          never (repeated (names ts)) w.read.once (repeated_up (sources_in ts) t.0 (Some entry) ts w.leads t.1);
       too_long = λ x. ⊎_elim
-      (λ y.
-        let t = at_entry (λ h. IsTrue ((length (way (sources_in ts) options.autoescape h) == 17) && not (repeated (way (sources_in ts) options.autoescape h)))) y in
-        never ((length (way (sources_in ts) options.autoescape entry) == 17) && not (repeated (way (sources_in ts) options.autoescape entry)))
-        (ap (λ xs. (length xs == 17) && not (repeated xs)) up ∙ too_few (length (names ts)) (not (repeated (names ts))) (omega (arith, length-map (λ (t : Template). t.name) ts))) t)
-      (λ y. one_name entry y.0 (λ h a. one_reached (y.3 h a) refl) y.2 (omega (arith, y.1)))
-      x;
+          (λ y.
+          let t = at_entry (λ h. IsTrue ((length (way (sources_in ts) options.autoescape h) == 17) && not (repeated (way (sources_in ts) options.autoescape h)))) y in
+          never ((length (way (sources_in ts) options.autoescape entry) == 17) && not (repeated (way (sources_in ts) options.autoescape entry)))
+          (ap (λ xs. (length xs == 17) && not (repeated xs)) up ∙ too_few (length (names ts)) (not (repeated (names ts))) (omega (arith, length-map (λ (t : Template). t.name) ts))) t)
+          (λ y. one_name entry y.0 (λ h a. one_reached (y.3 h a) refl) y.2 (omega (arith, y.1)))
+          x;
       double_block = λ x.
-      let t = at_entry (λ h. IsTrue (any_double options.autoescape (templates (sources_in ts) h))) x in
-      never (any_double options.autoescape (templates (sources_in ts) entry)) (ap (any_double options.autoescape) whole ∙ k.doubles) t;
+          let t = at_entry (λ h. IsTrue (any_double options.autoescape (templates (sources_in ts) h))) x in
+          never (any_double options.autoescape (templates (sources_in ts) entry)) (ap (any_double options.autoescape) whole ∙ k.doubles) t;
       required_not_given = λ x.
-      let t = at_entry (λ h. IsTrue (is_whole (sources_in ts) options.autoescape h && lacks_body (all_bodies (sources_in ts) options.autoescape h))) x in
-      never (is_whole (sources_in ts) options.autoescape entry && lacks_body (all_bodies (sources_in ts) options.autoescape entry))
-      (and_false (is_whole (sources_in ts) options.autoescape entry) (lacks_body (all_bodies (sources_in ts) options.autoescape entry)) (ap (λ us. lacks_body (their_blocks options.autoescape us)) whole ∙ k.bodies)) t;
+          let t = at_entry (λ h. IsTrue (is_whole (sources_in ts) options.autoescape h && lacks_body (all_bodies (sources_in ts) options.autoescape h))) x in
+          never (is_whole (sources_in ts) options.autoescape entry && lacks_body (all_bodies (sources_in ts) options.autoescape entry))
+          (and_false (is_whole (sources_in ts) options.autoescape entry) (lacks_body (all_bodies (sources_in ts) options.autoescape entry)) (ap (λ us. lacks_body (their_blocks options.autoescape us)) whole ∙ k.bodies)) t;
       no_super = λ x.
-      let t = at_entry (λ h. IsTrue (is_whole (sources_in ts) options.autoescape h && lacks_next (all_bodies (sources_in ts) options.autoescape h))) x in
-      never (is_whole (sources_in ts) options.autoescape entry && lacks_next (all_bodies (sources_in ts) options.autoescape entry))
-      (and_false (is_whole (sources_in ts) options.autoescape entry) (lacks_next (all_bodies (sources_in ts) options.autoescape entry)) (ap (λ us. lacks_next (their_blocks options.autoescape us)) whole ∙ k.next)) t;
+          let t = at_entry (λ h. IsTrue (is_whole (sources_in ts) options.autoescape h && lacks_next (all_bodies (sources_in ts) options.autoescape h))) x in
+          never (is_whole (sources_in ts) options.autoescape entry && lacks_next (all_bodies (sources_in ts) options.autoescape entry))
+          (and_false (is_whole (sources_in ts) options.autoescape entry) (lacks_next (all_bodies (sources_in ts) options.autoescape entry)) (ap (λ us. lacks_next (their_blocks options.autoescape us)) whole ∙ k.next)) t;
       include_cycle = λ x.
-      let t = at_entry (λ h. (m : Text) × IsTrue (among m (included (sources_in ts) h)) × Reaches (sources_in ts) options.autoescape m h) x in
-      none_through t.0 t.1;
+          let t = at_entry (λ h. (m : Text) × IsTrue (among m (included (sources_in ts) h)) × Reaches (sources_in ts) options.autoescape m h) x in
+          none_through t.0 t.1;
       macro_twice = λ x.
-      let t = at_entry (λ h. IsTrue (is_whole (sources_in ts) options.autoescape h && repeated (map (λ m. m.name) (macros (sources_in ts) h)))) x in
-      never (is_whole (sources_in ts) options.autoescape entry && repeated (map (λ m. m.name) (macros (sources_in ts) entry)))
-      (and_false (is_whole (sources_in ts) options.autoescape entry) (repeated (map (λ m. m.name) (macros (sources_in ts) entry))) (ap (λ us. repeated (map (λ m. m.name) (their_macros options.autoescape us))) whole ∙ k.macros)) t
+          let t = at_entry (λ h. IsTrue (is_whole (sources_in ts) options.autoescape h && repeated (map (λ m. m.name) (macros (sources_in ts) h)))) x in
+          never (is_whole (sources_in ts) options.autoescape entry && repeated (map (λ m. m.name) (macros (sources_in ts) entry)))
+          (and_false (is_whole (sources_in ts) options.autoescape entry) (repeated (map (λ m. m.name) (macros (sources_in ts) entry))) (ap (λ us. repeated (map (λ m. m.name) (their_macros options.autoescape us))) whole ∙ k.macros)) t;
     }
 
     pub in_order : InOrder (sources_in ts) (entry ∷ [])
@@ -232,7 +232,7 @@ module _ (given : Given) (options : Options) (entry : Text) (ts : List Template)
       begins = refl;
       order = in_order;
       escaping = refl;
-      rules = kept
+      rules = kept;
     }
 
     pub one_weighs : chains_weight (sources_in ts) (entry ∷ []) ≤ chains_len given (sources_in ts) (entry ∷ [])

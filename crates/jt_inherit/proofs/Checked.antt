@@ -86,6 +86,7 @@ given_more bs b g h x = by (among x (names_of bs)) refl
         let m : among b.name (names_of bs) ≡ false = ap (λ y. among y (names_of bs)) (same b.name x e) ∙ n in
         sym (ap (λ c. not c && b.required) m) ∙ h
     none n false e = refl
+
     by : (a : Bool) → among x (names_of bs) ≡ a → is_required (named x (bs ++ b ∷ [])) ≡ false
     by true e = named_old x bs (b ∷ []) e ∙ g x
     by false e = ap is_required (named_new x bs (b ∷ []) e) ∙ none e (bytes_eq b.name x) refl
@@ -140,6 +141,7 @@ next_more b bs n h x = by (bytes_eq b.name x) refl
     swap true false = refl
     swap false true = refl
     swap false false = refl
+
     by : (c : Bool) → bytes_eq b.name x ≡ c → lacks_super (named x (b ∷ bs)) ≡ false
     by false e = ap (λ c. lacks_super (cond c (b ∷ named x bs) (named x bs))) e ∙ n x
     by true e =
@@ -203,9 +205,10 @@ module _ {X : Type 0} (f : X → Text) (xs : List X) (i : ℕ) (x : X) (lt : i <
   pub repeat_goes : (ks ms : List Text) (b : Bool) → ks ≡ map f (take i xs) → repeated ks ≡ false → b ≡ among (f x) ks → ms ≡ (if b then ks else ks ++ f x ∷ []) → b ≡ false
       → (ms ≡ map f (take (i + 1) xs)) × (repeated ms ≡ false)
   repeat_goes ks ms b e o k m off =
-      let added : ms ≡ ks ++ f x ∷ [] = m ∙ ap (λ c. if c then ks else ks ++ f x ∷ []) off in
-      (added ∙ ap (λ l. l ++ f x ∷ []) e ∙ sym (map_append f (take i xs) (x ∷ [])) ∙ ap (map f) (sym (take_next xs i x lt is)),
-        ap repeated added ∙ once_more (f x) ks o (sym k ∙ off))
+      let added : ms ≡ ks ++ f x ∷ [] = m ∙ ap (λ c. if c then ks else ks ++ f x ∷ []) off in (
+        added ∙ ap (λ l. l ++ f x ∷ []) e ∙ sym (map_append f (take i xs) (x ∷ [])) ∙ ap (map f) (sym (take_next xs i x lt is)),
+        ap repeated added ∙ once_more (f x) ks o (sym k ∙ off),
+      )
 
 or_nil : (c : Bool) → (c || false) ≡ c
 or_nil true = refl
@@ -232,6 +235,7 @@ among_set ks ms pre n b h k m y = ap (among y) m ∙ by b refl
         or_none : (c : Bool) → c ≡ (c || false)
         or_none true = refl
         or_none false = refl
+
     by : (c : Bool) → b ≡ c → among y (if b then ks else ks ++ n ∷ []) ≡ among y (pre ++ n ∷ [])
     by true e =
         ap (λ c. among y (if c then ks else ks ++ n ∷ [])) e ∙ h y ∙ there (bytes_eq n y) refl (sym (h n) ∙ sym k ∙ e) ∙ sym (among_snoc pre n y)
@@ -255,6 +259,7 @@ module _ (ts : List Template) (xs : List Block) (i : ℕ) (x : Block) (lt : i < 
       and_both : (a b : Bool) → (a && b) ≡ true → (a ≡ true) × (b ≡ true)
       and_both true b e = (refl, e)
       and_both false b e = absurd (cc)
+
       not_true : (a : Bool) → not a ≡ true → a ≡ false
       not_true true e = cc
       not_true false e = refl
@@ -327,6 +332,7 @@ next_lacking ts qs b rest h =
     and_both : (a b : Bool) → (a && b) ≡ true → (a ≡ true) × (b ≡ true)
     and_both true b e = (refl, e)
     and_both false b e = absurd (cc)
+
     not_true : (a : Bool) → not a ≡ true → a ≡ false
     not_true true e = cc
     not_true false e = refl

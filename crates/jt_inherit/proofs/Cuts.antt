@@ -49,7 +49,7 @@ module _ (options : Options) (given : Text) (s : Held) (is : s ≡ record { text
     cut = its_cut c;
     spelled = subst (λ rs. Spelled (body_of t) (pieces rs)) (its_reads h) p.0;
     levels = p.1;
-    known = k
+    known = k;
   }
 
   refused_as : (e : ParseError) → (e ≡ parse_error.NoMemory → ⊥) → IsCut (cut_of ss) (chars s.text) → HaveOptions s.options ss → IsRefusal e (pieces (reads_of ss)) → IsUnspelled e options given

@@ -115,10 +115,10 @@ module _ (given : Given) (options : Options) (entry : Text) where
       record {
         read = record {
           each = all_more (IsRead given options) ts t w.read.each r;
-          once = ap repeated (map_more (λ (u : Template). u.name) ts t) ∙ once_more t.name (names ts) w.read.once fresh
+          once = ap repeated (map_more (λ (u : Template). u.name) ts t) ∙ once_more t.name (names ts) w.read.once fresh;
         };
         within = all_more (IsWithin given) ts t w.within i;
-        leads = leads_more (sources_in (ts ++ t ∷ [])) (Some entry) ts t grown (last_source ts t fresh)
+        leads = leads_more (sources_in (ts ++ t ∷ [])) (Some entry) ts t grown (last_source ts t fresh);
       }
 
   pub cycle_breaks : (ts : List Template) (n : Text) → IsWay given options entry ts (Some n) → among n (names ts) ≡ true → Breaks error.ExtendsCycle given entry options
@@ -128,7 +128,7 @@ module _ (given : Given) (options : Options) (entry : Text) where
       record {
         templates = ts;
         read = w.read;
-        holds = (entry, here, (length ts + 1, ap repeated up ∙ comes_again n (names ts) h))
+        holds = (entry, here, (length ts + 1, ap repeated up ∙ comes_again n (names ts) h));
       }
 
   pub long_breaks : (ts : List Template) (n : Text) → IsWay given options entry ts (Some n) → length ts ≡ 16 → among n (names ts) ≡ false → Breaks error.ChainTooLong given entry options
@@ -138,7 +138,7 @@ module _ (given : Given) (options : Options) (entry : Text) where
       record {
         templates = ts;
         read = w.read;
-        holds = inl (entry, here, subst (λ xs. ((length xs == 17) && not (repeated xs)) ≡ true) (sym up) (seventeen n ts len (once_more n (names ts) w.read.once h)))
+        holds = inl (entry, here, subst (λ xs. ((length xs == 17) && not (repeated xs)) ≡ true) (sym up) (seventeen n ts len (once_more n (names ts) w.read.once h)));
       }
     where
       seventeen : (n : Text) (ts : List Template) → length ts ≡ 16 → repeated (names ts ++ n ∷ []) ≡ false → ((length (names ts ++ n ∷ []) == 17) && not (repeated (names ts ++ n ∷ []))) ≡ true
@@ -151,7 +151,7 @@ module _ (given : Given) (options : Options) (entry : Text) where
       record {
         name = n;
         reached = record { templates = ts; read = w.read; holds = (entry, here, next_asked (sources_in ts) options.autoescape false entry ts n le w.leads) };
-        found = f
+        found = f;
       }
   fault_breaks ts n w le error.BadName f = record { templates = ts; read = w.read; holds = (entry, here, (n, next_asked (sources_in ts) options.autoescape true entry ts n le w.leads, f)) }
   fault_breaks ts n w le (error.Scan m e) f =
@@ -159,14 +159,14 @@ module _ (given : Given) (options : Options) (entry : Text) where
         reached = record { templates = ts; read = w.read; holds = (entry, here, ap (λ x. among x (asked (sources_in ts) options.autoescape true entry)) f.0 ∙ next_asked (sources_in ts) options.autoescape true entry ts n le w.leads) };
         source = f.1.0;
         found = ap given f.0 ∙ f.1.1;
-        fault = f.1.2
+        fault = f.1.2;
       }
   fault_breaks ts n w le (error.Parse m e) f =
       record {
         reached = record { templates = ts; read = w.read; holds = (entry, here, ap (λ x. among x (asked (sources_in ts) options.autoescape true entry)) f.0 ∙ next_asked (sources_in ts) options.autoescape true entry ts n le w.leads) };
         source = f.1.0;
         found = ap given f.0 ∙ f.1.1;
-        fault = f.1.2
+        fault = f.1.2;
       }
   fault_breaks ts n w le error.NoMemory f = tt
   fault_breaks ts n w le error.ExtendsCycle f = absurd f

@@ -116,6 +116,7 @@ only_one (u ∷ us) (suc i) t once e = by (bytes_eq u.name t.name) refl (only_on
   where
     apart : (among u.name (map (λ (v : Template). v.name) us) ≡ false) × (repeated (map (λ (v : Template). v.name) us) ≡ false)
     apart = or_false (among u.name (map (λ (v : Template). v.name) us)) (repeated (map (λ (v : Template). v.name) us)) once
+
     by : (b : Bool) → bytes_eq u.name t.name ≡ b → sources_in us t.name ≡ Some t.body → sources_in (u ∷ us) t.name ≡ Some t.body
     by true h r =
         let k : among u.name (map (λ (v : Template). v.name) us) ≡ true = ap (λ x. among x (map (λ (v : Template). v.name) us)) (same u.name t.name h) ∙ named_among us i t e in
@@ -154,13 +155,16 @@ placed_by_names ts (i ∷ is) (u ∷ us) once g e = by (slice_get ts i) refl (pl
   where
     here : option_map (λ (t : Template). t.name) (slice_get ts i) ≡ Some u.name
     here = cc
+
     rest : names_at ts is ≡ map (λ (t : Template). Some t.name) us
     rest = cc
+
     found : (t : Template) → slice_get ts i ≡ Some t → t ≡ u
     found t at =
         let p : t.name ≡ u.name = (let k : Some t.name ≡ Some u.name = sym (ap (option_map (λ (v : Template). v.name)) at) ∙ here in cc) in
         let q : Some t.body ≡ Some u.body = sym (only_one ts i t once at) ∙ ap (sources_in ts) p ∙ g.0 in
         alike t u p (cc)
+
     by : (o : Option Template) → slice_get ts i ≡ o → map (slice_get ts) is ≡ map Some us → map (slice_get ts) (i ∷ is) ≡ map Some (u ∷ us)
     by None at r =
         let k : None ≡ Some u.name = sym (ap (option_map (λ (v : Template). v.name)) at) ∙ here in

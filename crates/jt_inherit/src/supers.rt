@@ -130,10 +130,7 @@ fn statement_super(statement: &Stmt) -> bool
             calls_super(other)
         }
         Stmt::For(_, _, over, condition, body, other) => {
-            has_super(over)
-                || condition_super(condition)
-                || calls_super(body)
-                || calls_super(other)
+            has_super(over) || condition_super(condition) || calls_super(body) || calls_super(other)
         }
         Stmt::SetBlock(_, _, body) | Stmt::Autoescape(_, _, body) => calls_super(body),
         Stmt::With(_, values, body) => any_super_pair(values) || calls_super(body),

@@ -44,7 +44,7 @@ invariant_of-result g c =
       once = w.read.once;
       some = omega (arith, ap length items);
       order = subst (InOrder (sources_in ts)) (sym named) (in_order given c.args.options c.args.entry.now ts w few alone k);
-      whole = subst (AreWhole ts) (sym items) (placed ∙ theirs, tt)
+      whole = subst (AreWhole ts) (sym items) (placed ∙ theirs, tt);
     }
 
 pub returns-clause-chained : goal.returns-clause-chained

@@ -12,8 +12,8 @@ returns-then-branch c =
     let ps = c.args.pages.now in
     let l = c.loop-place in
     sym (l.invariant
-      ∙ double_found c.args.escaping (pages_view ps) l.place (omega (arith, length-map page_view ps, c.loop-place-test.true)) c.in_ok-blocks.blocks.items c.in_ok-blocks_repeat.field-0 c.in_ok-blocks.ensures
-      (c.in_ok-blocks_repeat.ensures ∙ ap (λ (z : List Block). repeated (block_names z)) c.deref.ensures.value) c.if-branch.true)
+    ∙ double_found c.args.escaping (pages_view ps) l.place (omega (arith, length-map page_view ps, c.loop-place-test.true)) c.in_ok-blocks.blocks.items c.in_ok-blocks_repeat.field-0 c.in_ok-blocks.ensures
+    (c.in_ok-blocks_repeat.ensures ∙ ap (λ (z : List Block). repeated (block_names z)) c.deref.ensures.value) c.if-branch.true)
 
 pub loop-place-preserved : goal.loop-place-preserved
 loop-place-preserved c =

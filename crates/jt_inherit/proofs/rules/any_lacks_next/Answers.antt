@@ -27,14 +27,15 @@ loop-block-preserved c =
     let v = c.loop-block.invariant in
     let b = c.in-Some.block in
     let qs = c.pop.new.self.items in
-    let popped = c.pop.ensures.items ∙ ap (λ o. qs ++ option_to_list o) c.in-Some.is in
-    (b ∷ v.0,
+    let popped = c.pop.ensures.items ∙ ap (λ o. qs ++ option_to_list o) c.in-Some.is in (
+      b ∷ v.0,
       v.1 ∙ ap (λ (l : List Block). l ++ v.0) popped ∙ append_assoc qs (b ∷ []) v.0,
       λ ts x. c.in_ok-note_given.ensures x ∙ ap (λ z. (bytes_eq b.name.now x && not b.required) || z) (v.2 ts x),
       λ ts.
-      let has : c.contains.result ≡ has_given b.name.now (blocks_view ts v.0) = c.contains.ensures ∙ any_text b.name.now c.loop-block.given.keys ∙ v.2 ts b.name.now in
-      let test = ap (λ z. not z && calls_super (body_view b.body.now)) (sym has) ∙ ap (λ z. not c.contains.result && z) (sym c.calls_super.ensures) ∙ sym c.is_lacking.ensures in
-      next_more (block_view ts b) (blocks_view ts v.0) (v.3 ts) (test ∙ c.if-is_lacking.false))
+          let has : c.contains.result ≡ has_given b.name.now (blocks_view ts v.0) = c.contains.ensures ∙ any_text b.name.now c.loop-block.given.keys ∙ v.2 ts b.name.now in
+          let test = ap (λ z. not z && calls_super (body_view b.body.now)) (sym has) ∙ ap (λ z. not c.contains.result && z) (sym c.calls_super.ensures) ∙ sym c.is_lacking.ensures in
+          next_more (block_view ts b) (blocks_view ts v.0) (v.3 ts) (test ∙ c.if-is_lacking.false),
+    )
 
 pub returns : goal.returns
 returns c =

@@ -39,10 +39,10 @@ returns-clause-kept c =
     record {
       doubles = sym c.in_ok-any_double.ensures ∙ c.if-branch.false;
       bodies = bodies_told c.args.escaping ts c.args.places.now c.requires c.in_ok-blocks.blocks.items c.in_ok-any_lacks_body.field-0 c.in_ok-blocks.ensures
-      (c.in_ok-any_lacks_body.ensures ts ∙ ap (λ (z : List Block). lacks_body (blocks_view ts z)) c.deref-2.ensures.value)
-      ∙ c.if-branch-3.false;
+          (c.in_ok-any_lacks_body.ensures ts ∙ ap (λ (z : List Block). lacks_body (blocks_view ts z)) c.deref-2.ensures.value)
+          ∙ c.if-branch-3.false;
       next = next_told c.args.escaping ts c.args.places.now c.requires c.in_ok-blocks.blocks.items c.in_ok-any_lacks_next.field-0 c.in_ok-blocks.ensures (c.in_ok-any_lacks_next.ensures ts) ∙ c.if-branch-4.false;
       macros = macros_told c.args.escaping ts c.args.places.now c.requires c.in_ok-macros.macros.items c.in_ok-macros_repeat.field-0 c.in_ok-macros.ensures
-      (c.in_ok-macros_repeat.ensures ∙ ap (λ (z : List Macro). repeated (macro_names z)) c.deref.ensures.value)
-      ∙ c.if-branch-2.false
+          (c.in_ok-macros_repeat.ensures ∙ ap (λ (z : List Macro). repeated (macro_names z)) c.deref.ensures.value)
+          ∙ c.if-branch-2.false;
     }

@@ -47,11 +47,12 @@ loop-turn-preserved g c =
     let n = string_bytes l.name in
     let given = g.L.Library.sources c.args.library.now in
     let known : c.is_among.result ≡ among n (names ts) =
-    c.is_among.ensures ∙ ap (λ (z : List Page). among c.deref-in-loop-turn.result.now (names (pages_view z))) c.deref.ensures.value ∙ ap (λ x. among x (names ts)) c.deref-in-loop-turn.ensures in
-    (pages_longer l.pages.items c.push.new.self.items c.in_ok-page.page c.in_ok-push.ensures.items ∙ ap (λ k. k + 1) l.invariant.0,
+    c.is_among.ensures ∙ ap (λ (z : List Page). among c.deref-in-loop-turn.result.now (names (pages_view z))) c.deref.ensures.value ∙ ap (λ x. among x (names ts)) c.deref-in-loop-turn.ensures in (
+      pages_longer l.pages.items c.push.new.self.items c.in_ok-page.page c.in_ok-push.ensures.items ∙ ap (λ k. k + 1) l.invariant.0,
       subst (λ (o : Option (String Global)). IsWay given c.args.options c.args.entry.now (pages_view c.push.new.self.items) (option_map string_bytes o)) c.in-Some.is
-      (pages_next given c.args.options c.args.entry.now l.pages.items c.push.new.self.items c.in_ok-page.page n c.in_ok-parent.parent l.invariant.1 (sym known ∙ c.if-is_among.false)
-      (c.in_ok-page.ensures.named ∙ c.deref-in-loop-turn-2.ensures) c.in_ok-page.ensures.read c.in_ok-page.ensures.within c.in_ok-push.ensures.items c.in_ok-parent.ensures))
+          (pages_next given c.args.options c.args.entry.now l.pages.items c.push.new.self.items c.in_ok-page.page n c.in_ok-parent.parent l.invariant.1 (sym known ∙ c.if-is_among.false)
+          (c.in_ok-page.ensures.named ∙ c.deref-in-loop-turn-2.ensures) c.in_ok-page.ensures.read c.in_ok-page.ensures.within c.in_ok-push.ensures.items c.in_ok-parent.ensures),
+    )
 
 pub returns-then-is_among-2-clause-refused : goal.returns-then-is_among-2-clause-refused
 returns-then-is_among-2-clause-refused g c =
