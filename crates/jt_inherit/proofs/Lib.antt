@@ -1,1 +1,15 @@
+pub mod Alone
+pub mod Among
+pub mod Checked
+pub mod Cuts
+pub mod Escapes
+pub mod Gathered
+pub mod Leads
+pub mod Lengths
 pub mod Naming
+pub mod Needed
+pub mod Placed
+pub mod Raws
+pub mod Ruled
+pub mod Shown
+pub mod SuperIn

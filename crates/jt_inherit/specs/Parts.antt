@@ -1,5 +1,5 @@
 -- What contracts see of the macros and of the bodies of a chain.
-use Rattle.std.specs.Prelude.{ℕ, List, [], slice_get, unwrap_or, option_map}
+use Rattle.std.specs.Prelude.{ℕ, List, [], map, slice_get, unwrap_or, option_map}
 use Rattle.jt_parse.specs.Trees.{Text}
 use Rattle.jt_parse.specs.View.{parameters_view, body_view}
 use Rattle.jt_inherit.specs.Chain.{Template, MacroBody, BlockBody}
@@ -16,3 +16,9 @@ module _ (ts : List Template) where
 
   abbrev pub block_view : Block → BlockBody
   block_view b = record { template = name_at ts b.template; name = b.name.now; scoped = b.scoped; required = b.required; escaping = b.escaping; body = body_view b.body.now }
+
+  abbrev pub macros_view : List Macro → List MacroBody
+  macros_view = map macro_view
+
+  abbrev pub blocks_view : List Block → List BlockBody
+  blocks_view = map block_view

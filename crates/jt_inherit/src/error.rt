@@ -2,7 +2,7 @@
 
 use jt_parse::ParseError;
 use jt_scan::ScanError;
-use std::alloc::AllocError;
+use std::alloc::{AllocError, AllocFailed};
 use thiserror::Error;
 
 /// Why there is no chain.
@@ -77,6 +77,17 @@ impl From<AllocError> for ChainError {
     ghost from_gives = { λ _ e. e ≡ NoMemory };
 
     fn from(_e: AllocError) -> ChainError {
+        ChainError::NoMemory
+    }
+}
+
+impl<T: Drop> From<AllocFailed<T>> for ChainError {
+    ghost use Rattle.std.specs.Prelude.{◌≡◌};
+    ghost use Rattle.jt_inherit.specs.declared.error.ChainError.TheVariants.{NoMemory};
+
+    ghost from_gives = { λ _ e. e ≡ NoMemory };
+
+    fn from(_e: AllocFailed<T>) -> ChainError {
         ChainError::NoMemory
     }
 }

@@ -7,6 +7,11 @@ mod library;
 mod linked;
 mod names;
 mod parts;
+mod reading;
+mod rules;
+mod statements;
+mod supers;
+mod way;
 
 pub use chaining::chain;
 pub use error::ChainError;
