@@ -132,11 +132,7 @@ fn names_fit(
     if any_repeated(alloc, names)? {
         return Ok(false);
     }
-    let from = if filled < parameters.len() {
-        filled
-    } else {
-        parameters.len()
-    };
+    let from = filled.min(parameters.len());
     let left = parameter_names(alloc, &parameters[from..])?;
     all_known(alloc, names, &left)
 }

@@ -51,9 +51,9 @@ impl<T: Drop> From<AllocFailed<T>> for ScopeError {
 
 impl From<NoMemory> for ScopeError {
     ghost use Rattle.std.specs.Prelude.{◌≡◌};
-    ghost use Rattle.jt_rules.specs.declared.error.ScopeError.TheVariants as error;
+    ghost use Rattle.jt_rules.specs.declared.error.ScopeError.TheVariants.{NoMemory};
 
-    ghost from_gives = { λ _ e. e ≡ error.NoMemory };
+    ghost from_gives = { λ _ e. e ≡ NoMemory };
 
     fn from(_e: NoMemory) -> ScopeError {
         ScopeError::NoMemory

@@ -162,6 +162,7 @@ fn name_of(expr: &Expr) -> Option<&str>
 }
 
 /// The first rule that an expression breaks.
+#[tactic(auto, using(crate::proofs::Shown::shown_Map, crate::proofs::Shown::shown_Call, crate::proofs::Shown::shown_Filter, crate::proofs::Shown::shown_Test))]
 #[cycle(broken)]
 pub(crate) fn broken(
     scope: &Scope<'_>,
@@ -177,35 +178,54 @@ pub(crate) fn broken(
         Expr::List(row) => row_broken(scope, within, row),
         Expr::Map(pairs) => pairs_broken(scope, within, pairs),
         Expr::Attribute(value, field) => attribute_broken(scope, within, value, field),
-        Expr::Item(value, index) => both_broken(scope, within, value, index),
+        Expr::Item(value, index) => {
+            let first = broken(scope, within, value)?;
+            let second = broken(scope, within, index)?;
+            Ok(first.or(second))
+        }
         Expr::Call(called, row, pairs) => {
             let callee = called_broken(scope, within, called)?;
             let call = call_broken(scope, within, called, row, pairs)?;
-            let given = given_broken(scope, within, row, pairs)?;
-            Ok(callee.or(call.or(given)))
+            let places = row_broken(scope, within, row)?;
+            let keywords = pairs_broken(scope, within, pairs)?;
+            Ok(callee.or(call.or(places.or(keywords))))
         }
         Expr::Filter(value, name, row, pairs) => {
             let call = filter_broken(scope.alloc, name, row, pairs)?;
-            let given = applied_broken(scope, within, value, row, pairs)?;
-            Ok(call.or(given))
+            let input = broken(scope, within, value)?;
+            let places = row_broken(scope, within, row)?;
+            let keywords = pairs_broken(scope, within, pairs)?;
+            Ok(call.or(input.or(places.or(keywords))))
         }
         Expr::Test(value, _, name, row, pairs) => {
             let call = test_broken(name, row, pairs);
-            let given = applied_broken(scope, within, value, row, pairs)?;
-            Ok(call.or(given))
+            let input = broken(scope, within, value)?;
+            let places = row_broken(scope, within, row)?;
+            let keywords = pairs_broken(scope, within, pairs)?;
+            Ok(call.or(input.or(places.or(keywords))))
         }
         Expr::Unary(_, operand) => broken(scope, within, operand),
-        Expr::Binary(_, left, right) => both_broken(scope, within, left, right),
-        Expr::When(condition, value) => both_broken(scope, within, condition, value),
+        Expr::Binary(_, left, right) => {
+            let first = broken(scope, within, left)?;
+            let second = broken(scope, within, right)?;
+            Ok(first.or(second))
+        }
+        Expr::When(condition, value) => {
+            let first = broken(scope, within, condition)?;
+            let second = broken(scope, within, value)?;
+            Ok(first.or(second))
+        }
         Expr::Choice(condition, value, other) => {
             let first = broken(scope, within, condition)?;
-            let rest = both_broken(scope, within, value, other)?;
-            Ok(first.or(rest))
+            let second = broken(scope, within, value)?;
+            let third = broken(scope, within, other)?;
+            Ok(first.or(second.or(third)))
         }
     }
 }
 
 /// The first rule that what is called breaks, where the named forms are no values that are read.
+#[tactic(auto, using(crate::proofs::Shown::shown_Map, crate::proofs::Shown::shown_Call, crate::proofs::Shown::shown_Filter, crate::proofs::Shown::shown_Test))]
 #[cycle(broken)]
 fn called_broken(
     scope: &Scope<'_>,
@@ -221,21 +241,45 @@ fn called_broken(
         Expr::List(row) => row_broken(scope, within, row),
         Expr::Map(pairs) => pairs_broken(scope, within, pairs),
         Expr::Attribute(value, field) => field_read_broken(scope, within, value, field),
-        Expr::Item(value, index) => both_broken(scope, within, value, index),
+        Expr::Item(value, index) => {
+            let first = broken(scope, within, value)?;
+            let second = broken(scope, within, index)?;
+            Ok(first.or(second))
+        }
         Expr::Call(inner, row, pairs) => {
             let callee = called_broken(scope, within, inner)?;
-            let given = given_broken(scope, within, row, pairs)?;
-            Ok(callee.or(given))
+            let places = row_broken(scope, within, row)?;
+            let keywords = pairs_broken(scope, within, pairs)?;
+            Ok(callee.or(places.or(keywords)))
         }
-        Expr::Filter(value, _, row, pairs) => applied_broken(scope, within, value, row, pairs),
-        Expr::Test(value, _, _, row, pairs) => applied_broken(scope, within, value, row, pairs),
+        Expr::Filter(value, _, row, pairs) => {
+            let input = broken(scope, within, value)?;
+            let places = row_broken(scope, within, row)?;
+            let keywords = pairs_broken(scope, within, pairs)?;
+            Ok(input.or(places.or(keywords)))
+        }
+        Expr::Test(value, _, _, row, pairs) => {
+            let input = broken(scope, within, value)?;
+            let places = row_broken(scope, within, row)?;
+            let keywords = pairs_broken(scope, within, pairs)?;
+            Ok(input.or(places.or(keywords)))
+        }
         Expr::Unary(_, operand) => broken(scope, within, operand),
-        Expr::Binary(_, left, right) => both_broken(scope, within, left, right),
-        Expr::When(condition, value) => both_broken(scope, within, condition, value),
+        Expr::Binary(_, left, right) => {
+            let first = broken(scope, within, left)?;
+            let second = broken(scope, within, right)?;
+            Ok(first.or(second))
+        }
+        Expr::When(condition, value) => {
+            let first = broken(scope, within, condition)?;
+            let second = broken(scope, within, value)?;
+            Ok(first.or(second))
+        }
         Expr::Choice(condition, value, other) => {
             let first = broken(scope, within, condition)?;
-            let rest = both_broken(scope, within, value, other)?;
-            Ok(first.or(rest))
+            let second = broken(scope, within, value)?;
+            let third = broken(scope, within, other)?;
+            Ok(first.or(second.or(third)))
         }
     }
 }
@@ -271,59 +315,6 @@ fn field_read_broken(
         Some(of) => Ok(refused(of == "loop" && field != "cycle", ScopeError::LoopOutside)),
         None => broken(scope, within, value),
     }
-}
-
-/// The first rule that two expressions break.
-#[cycle(broken)]
-fn both_broken(
-    scope: &Scope<'_>,
-    within: Within,
-    first: &Expr,
-    second: &Expr,
-) -> Result<Option<ScopeError>, AllocError>
-    ensures { IfOk result (λ o. o ≡ option_or (rules.broken (its_world scope.now) (its_home scope.now) (expr_view first.now) (within_view within))
-        (rules.broken (its_world scope.now) (its_home scope.now) (expr_view second.now) (within_view within))) }
-{
-    if let Some(rule) = broken(scope, within, first)? {
-        return Ok(Some(rule));
-    }
-    broken(scope, within, second)
-}
-
-/// The first rule that arguments break.
-#[cycle(broken)]
-fn given_broken(
-    scope: &Scope<'_>,
-    within: Within,
-    row: &[Expr],
-    pairs: &[(String, Expr)],
-) -> Result<Option<ScopeError>, AllocError>
-    ensures { IfOk result (λ o. o ≡ option_or (rules.row_broken (its_world scope.now) (its_home scope.now) (exprs_view row.now) (within_view within))
-        (rules.pairs_broken (its_world scope.now) (its_home scope.now) (pairs_view pairs.now) (within_view within))) }
-{
-    if let Some(rule) = row_broken(scope, within, row)? {
-        return Ok(Some(rule));
-    }
-    pairs_broken(scope, within, pairs)
-}
-
-/// The first rule that a value and the arguments behind it break.
-#[cycle(broken)]
-fn applied_broken(
-    scope: &Scope<'_>,
-    within: Within,
-    value: &Expr,
-    row: &[Expr],
-    pairs: &[(String, Expr)],
-) -> Result<Option<ScopeError>, AllocError>
-    ensures { IfOk result (λ o. o ≡ option_or (rules.broken (its_world scope.now) (its_home scope.now) (expr_view value.now) (within_view within))
-        (option_or (rules.row_broken (its_world scope.now) (its_home scope.now) (exprs_view row.now) (within_view within))
-        (rules.pairs_broken (its_world scope.now) (its_home scope.now) (pairs_view pairs.now) (within_view within)))) }
-{
-    if let Some(rule) = broken(scope, within, value)? {
-        return Ok(Some(rule));
-    }
-    given_broken(scope, within, row, pairs)
 }
 
 /// The first rule that a row of expressions breaks.

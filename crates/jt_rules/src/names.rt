@@ -24,6 +24,7 @@ fn add_name<'a>(names: &mut BTreeSet<&'a str>, name: &'a str) -> Result<(), Allo
 }
 
 /// Adds the names of an expression.
+#[tactic(auto, using(crate::proofs::Inserted::inserted_both, crate::proofs::Shown::shown_Map, crate::proofs::Shown::shown_Call, crate::proofs::Shown::shown_Filter, crate::proofs::Shown::shown_Test))]
 #[cycle(gather)]
 fn add_expression<'a>(names: &mut BTreeSet<&'a str>, expr: &'a Expr) -> Result<(), AllocError>
     ensures { IfOk result (λ u. texts names.new.keys ≡ all_inserted (expr_names (expr_view expr.now)) (texts names.old.keys)) }
@@ -35,22 +36,44 @@ fn add_expression<'a>(names: &mut BTreeSet<&'a str>, expr: &'a Expr) -> Result<(
         Expr::List(row) => add_row(names, row),
         Expr::Map(pairs) => add_pairs(names, pairs),
         Expr::Attribute(value, _) => add_of_attribute(names, value),
-        Expr::Item(value, index) => add_both(names, value, index),
-        Expr::Call(_, row, pairs) => add_given(names, row, pairs),
+        Expr::Item(value, index) => {
+            add_expression(names, value)?;
+            add_expression(names, index)?;
+            Ok(())
+        }
+        Expr::Call(_, row, pairs) => {
+            add_row(names, row)?;
+            add_pairs(names, pairs)?;
+            Ok(())
+        }
         Expr::Filter(value, _, row, pairs) => {
             add_expression(names, value)?;
-            add_given(names, row, pairs)
+            add_row(names, row)?;
+            add_pairs(names, pairs)?;
+            Ok(())
         }
         Expr::Test(value, _, _, row, pairs) => {
             add_expression(names, value)?;
-            add_given(names, row, pairs)
+            add_row(names, row)?;
+            add_pairs(names, pairs)?;
+            Ok(())
         }
         Expr::Unary(_, operand) => add_expression(names, operand),
-        Expr::Binary(_, left, right) => add_both(names, left, right),
-        Expr::When(condition, value) => add_both(names, condition, value),
+        Expr::Binary(_, left, right) => {
+            add_expression(names, left)?;
+            add_expression(names, right)?;
+            Ok(())
+        }
+        Expr::When(condition, value) => {
+            add_expression(names, condition)?;
+            add_expression(names, value)?;
+            Ok(())
+        }
         Expr::Choice(condition, value, other) => {
             add_expression(names, condition)?;
-            add_both(names, value, other)
+            add_expression(names, value)?;
+            add_expression(names, other)?;
+            Ok(())
         }
     }
 }
@@ -64,32 +87,6 @@ fn add_of_attribute<'a>(names: &mut BTreeSet<&'a str>, value: &'a Expr) -> Resul
         return Ok(());
     }
     add_expression(names, value)
-}
-
-/// Adds the names of two expressions.
-#[cycle(gather)]
-fn add_both<'a>(
-    names: &mut BTreeSet<&'a str>,
-    first: &'a Expr,
-    second: &'a Expr,
-) -> Result<(), AllocError>
-    ensures { IfOk result (λ u. texts names.new.keys ≡ all_inserted (expr_names (expr_view first.now) ++ expr_names (expr_view second.now)) (texts names.old.keys)) }
-{
-    add_expression(names, first)?;
-    add_expression(names, second)
-}
-
-/// Adds the names of arguments.
-#[cycle(gather)]
-fn add_given<'a>(
-    names: &mut BTreeSet<&'a str>,
-    row: &'a [Expr],
-    pairs: &'a [(String, Expr)],
-) -> Result<(), AllocError>
-    ensures { IfOk result (λ u. texts names.new.keys ≡ all_inserted (row_names (exprs_view row.now) ++ pair_names (pairs_view pairs.now)) (texts names.old.keys)) }
-{
-    add_row(names, row)?;
-    add_pairs(names, pairs)
 }
 
 /// Adds the names of a row of expressions.
@@ -167,6 +164,7 @@ fn add_condition<'a>(
 }
 
 /// Adds the names of the filters of a filter tag.
+#[tactic(auto, using(crate::proofs::Inserted::inserted_both))]
 fn add_filterings<'a>(
     names: &mut BTreeSet<&'a str>,
     filterings: &'a [Filtering],
@@ -174,12 +172,14 @@ fn add_filterings<'a>(
     ensures { IfOk result (λ u. texts names.new.keys ≡ all_inserted (filtering_names (filterings_view filterings.now)) (texts names.old.keys)) }
 {
     for filtering in filterings {
-        add_given(names, &filtering.arguments, &filtering.keywords)?;
+        add_row(names, &filtering.arguments)?;
+        add_pairs(names, &filtering.keywords)?;
     }
     Ok(())
 }
 
 /// Adds the names of the head of a loop.
+#[tactic(auto, using(crate::proofs::Inserted::inserted_both))]
 fn add_head<'a>(
     names: &mut BTreeSet<&'a str>,
     items: &'a Expr,
@@ -190,10 +190,12 @@ fn add_head<'a>(
 {
     add_expression(names, items)?;
     add_targets(names, targets)?;
-    add_condition(names, condition)
+    add_condition(names, condition)?;
+    Ok(())
 }
 
 /// Adds the names of a statement.
+#[tactic(auto, using(crate::proofs::Inserted::inserted_both, crate::proofs::Shown::shown_For, crate::proofs::Shown::shown_Set, crate::proofs::Shown::shown_With, crate::proofs::Shown::shown_FilterBlock, crate::proofs::Shown::shown_Macro))]
 #[cycle(add)]
 fn add_statement<'a>(names: &mut BTreeSet<&'a str>, statement: &'a Stmt) -> Result<(), AllocError>
     ensures { IfOk result (λ u. texts names.new.keys ≡ all_inserted (stmt_names (stmt_view statement.now)) (texts names.old.keys)) }
@@ -206,34 +208,41 @@ fn add_statement<'a>(names: &mut BTreeSet<&'a str>, statement: &'a Stmt) -> Resu
                 add_expression(names, condition)?;
                 add_statements(names, body)?;
             }
-            add_statements(names, other)
+            add_statements(names, other)?;
+            Ok(())
         }
         Stmt::For(_, targets, items, condition, inside, other) => {
             add_head(names, items, targets, condition)?;
             add_statements(names, inside)?;
-            add_statements(names, other)
+            add_statements(names, other)?;
+            Ok(())
         }
         Stmt::Set(_, targets, value) => {
             add_expression(names, value)?;
-            add_targets(names, targets)
+            add_targets(names, targets)?;
+            Ok(())
         }
         Stmt::SetBlock(_, name, inside) => {
             add_name(names, name.as_str())?;
-            add_statements(names, inside)
+            add_statements(names, inside)?;
+            Ok(())
         }
         Stmt::With(_, pairs, inside) => {
             add_pairs(names, pairs)?;
             add_keywords(names, pairs)?;
-            add_statements(names, inside)
+            add_statements(names, inside)?;
+            Ok(())
         }
         Stmt::FilterBlock(_, filterings, inside) => {
             add_statements(names, inside)?;
-            add_filterings(names, filterings)
+            add_filterings(names, filterings)?;
+            Ok(())
         }
         Stmt::Autoescape(_, _, inside) => add_statements(names, inside),
         Stmt::Macro(_, _, parameters, inside) => {
             add_parameters(names, parameters)?;
-            add_statements(names, inside)
+            add_statements(names, inside)?;
+            Ok(())
         }
         Stmt::Block(_, _, _, _, inside) => add_statements(names, inside),
     }

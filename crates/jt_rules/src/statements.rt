@@ -172,9 +172,14 @@ fn statement_broken(
             body_broken(scope, within, other)
         }
         Stmt::For(_, targets, items, condition, inside, other) => {
+            let around = Within {
+                in_loop: true,
+                in_block: within.in_block,
+            };
             let head = head_broken(scope, within, targets, items, condition)?;
-            let turns = turns_broken(scope, within, inside, other)?;
-            Ok(head.or(turns))
+            let turns = body_broken(scope, around, inside)?;
+            let other = body_broken(scope, within, other)?;
+            Ok(head.or(turns.or(other)))
         }
         Stmt::Set(_, targets, value) => set_broken(scope, within, targets, value),
         Stmt::SetBlock(_, name, inside) => {
@@ -210,27 +215,6 @@ fn statement_broken(
             body_broken(scope, around, inside)
         }
     }
-}
-
-/// The first rule that the body of a loop and its else part break.
-#[cycle(body)]
-fn turns_broken(
-    scope: &Scope<'_>,
-    within: Within,
-    inside: &[Stmt],
-    other: &[Stmt],
-) -> Result<Option<ScopeError>, AllocError>
-    ensures { IfOk result (λ o. o ≡ option_or (rules.body_broken (its_world scope.now) (its_home scope.now) (body_view inside.now) (record (within_view within) { in_loop = true }))
-        (rules.body_broken (its_world scope.now) (its_home scope.now) (body_view other.now) (within_view within))) }
-{
-    let around = Within {
-        in_loop: true,
-        in_block: within.in_block,
-    };
-    if let Some(rule) = body_broken(scope, around, inside)? {
-        return Ok(Some(rule));
-    }
-    body_broken(scope, within, other)
 }
 
 /// The first rule that statements break.
