@@ -1,6 +1,8 @@
+pub mod Filled
+pub mod Fits
+pub mod Forms
+pub mod Inserted
+pub mod Known
 pub mod Left
 pub mod Sets
-pub mod Filled
-pub mod Inserted
 pub mod Shown
-pub mod Forms

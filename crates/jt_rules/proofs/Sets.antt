@@ -1,5 +1,5 @@
 -- Sets and lists of names.
-use Rattle.std.proofs.Common.{◌≡◌, ℕ, zero, suc, arith, ◌+◌, ◌<◌, Bool, true, false, cond, not, ◌||◌, List, [], ◌∷◌, ◌++◌, length, map, drop, get_or, refl, sym, ap, ◌∙◌}
+use Rattle.std.proofs.Common.{◌≡◌, ℕ, add-one, drop-cons, ◌+◌, ◌<◌, Bool, true, false, cond, not, ◌||◌, List, [], ◌∷◌, ◌++◌, length, map, drop, get_or, refl, sym, ap, ◌∙◌}
 use Rattle.std.specs.List.{list_any}
 use Rattle.std.specs.Ordering.{nat_cmp, is_eq}
 use Rattle.std.specs.Cmp.Lexicographic.{slice_cmp}
@@ -18,9 +18,7 @@ again s [] = false
 again s (x ∷ xs) = is_among s x || (among x xs || again s xs)
 
 pub drop_at : {A : Type 0} → (ks : List A) (i : ℕ) (d : A) → i < length ks → drop i ks ≡ get_or ks i d ∷ drop (i + 1) ks
-drop_at [] i d lt = absurd (omega arith)
-drop_at (k ∷ ks) zero d lt = refl
-drop_at (k ∷ ks) (suc i) d lt = drop_at ks i d (omega arith)
+drop_at ks i d lt = rw (add-one, drop-cons ks i d)
 
 pub texts_left : (ks : List (Bor Text)) (i : ℕ) (d : Bor Text) → i < length ks → texts (drop i ks) ≡ (get_or ks i d).now ∷ texts (drop (i + 1) ks)
 texts_left ks i d lt = ap texts (drop_at ks i d lt)

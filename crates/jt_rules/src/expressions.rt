@@ -99,6 +99,7 @@ fn name_call_broken(
 }
 
 /// What a call of `super` breaks.
+#[tactic(auto, using(crate::proofs::Shown::counted, crate::proofs::Shown::keyless))]
 fn super_broken(within: Within, row: &[Expr], pairs: &[(String, Expr)]) -> Option<ScopeError>
     ensures { result ≡ option_or (rules.refused (not within.in_block) error.NotCallable) (rules.unless ((count (exprs_view row.now) == 0) && rules.no_keywords (pairs_view pairs.now))) }
 {
@@ -107,6 +108,7 @@ fn super_broken(within: Within, row: &[Expr], pairs: &[(String, Expr)]) -> Optio
 }
 
 /// What a call breaks by itself that goes by an attribute: `self.b` and `loop.cycle`.
+#[tactic(auto, using(crate::proofs::Shown::counted, crate::proofs::Shown::keyless))]
 fn field_call_broken(
     scope: &Scope<'_>,
     within: Within,
@@ -131,6 +133,7 @@ fn field_call_broken(
 }
 
 /// What a call breaks by itself, by what it names.
+#[tactic(auto, using(crate::proofs::Forms::attribute_callee))]
 fn call_broken(
     scope: &Scope<'_>,
     within: Within,
@@ -302,6 +305,7 @@ fn attribute_broken(
 }
 
 /// The first rule that an attribute breaks which is called.
+#[tactic(auto, using(crate::proofs::Forms::attribute_read))]
 #[cycle(broken)]
 fn field_read_broken(
     scope: &Scope<'_>,
