@@ -201,7 +201,8 @@ fn reached(parameters: &[Parameter], names: &[&str]) -> usize
 fn is_filled(parameters: &[Parameter], names: &[&str]) -> bool
     ensures { result ≡ rules.is_filled (parameters_view parameters.now) 0 (texts names.now) }
 {
-    for parameter in &parameters[..reached(parameters, names)] {
+    let counted = &parameters[..reached(parameters, names)];
+    for parameter in counted {
         if !is_given(parameter, names) && parameter.default.is_none() {
             return false;
         }

@@ -1,6 +1,6 @@
 //! The static rules of expressions: the first that is broken, from left to right.
 
-ghost use Rattle.std.specs.Prelude.{◌≡◌, ◌&&◌, ◌==◌, not, is_some, IfOk, option_map};
+ghost use Rattle.std.specs.Prelude.{◌≡◌, ◌&&◌, ◌==◌, nat_lt, not, is_some, IfOk, option_map};
 ghost use Rattle.std.specs.Option.{option_or};
 ghost use Rattle.jt_expr.specs.Trees as trees;
 ghost use Rattle.jt_expr.specs.View.{expr_view, exprs_view, pairs_view};
@@ -9,7 +9,7 @@ ghost use Rattle.jt_inherit.specs.Uses.{count};
 ghost use Rattle.jt_parse.specs.Trees.{Text};
 ghost use Rattle.jt_slots.specs.Loops.{field_named};
 ghost use Rattle.jt_rules.specs.Rules as rules;
-ghost use Rattle.jt_rules.specs.Standing.{texts};
+ghost use Rattle.jt_rules.specs.Standing.{texts, is_block};
 ghost use Rattle.jt_rules.specs.ScopeView.{its_world, its_home, within_view, name_in};
 ghost use Rattle.jt_rules.specs.declared.error.ScopeError.TheVariants as error;
 
@@ -107,8 +107,33 @@ fn super_broken(within: Within, row: &[Expr], pairs: &[(String, Expr)]) -> Optio
     outside.or(unless(row.is_empty() && pairs.is_empty()))
 }
 
-/// What a call breaks by itself that goes by an attribute: `self.b` and `loop.cycle`.
+/// What a call of `self.b` breaks.
+#[tactic(auto, using(crate::proofs::Shown::counted, crate::proofs::Shown::keyless, crate::proofs::Known::not_not))]
+fn self_broken(
+    scope: &Scope<'_>,
+    block: &str,
+    row: &[Expr],
+    pairs: &[(String, Expr)],
+) -> Option<ScopeError>
+    ensures { result ≡ option_or (rules.refused (not (is_block (its_world scope.now) (its_home scope.now) block.now)) error.NotCallable)
+        (rules.unless ((count (exprs_view row.now) == 0) && rules.no_keywords (pairs_view pairs.now))) }
+{
+    let unknown = refused(!scope.is_block(block), ScopeError::NotCallable);
+    unknown.or(unless(row.is_empty() && pairs.is_empty()))
+}
+
+/// What a call of `loop.cycle` breaks.
 #[tactic(auto, using(crate::proofs::Shown::counted, crate::proofs::Shown::keyless))]
+fn cycle_broken(within: Within, row: &[Expr], pairs: &[(String, Expr)]) -> Option<ScopeError>
+    ensures { result ≡ option_or (rules.refused (not within.in_loop) error.LoopOutside) (rules.unless (nat_lt 0 (count (exprs_view row.now)) && rules.no_keywords (pairs_view pairs.now))) }
+{
+    let given = row.len();
+    let outside = refused(!within.in_loop, ScopeError::LoopOutside);
+    outside.or(unless(0 < given && pairs.is_empty()))
+}
+
+/// What a call breaks by itself that goes by an attribute: `self.b` and `loop.cycle`.
+#[tactic(auto, using(crate::proofs::Known::not_not))]
 fn field_call_broken(
     scope: &Scope<'_>,
     within: Within,
@@ -120,14 +145,8 @@ fn field_call_broken(
     ensures { result ≡ rules.call_broken (its_world scope.now) (its_home scope.now) (named_in of.now field.now) (within_view within) (trees.name of.now) (exprs_view row.now) (pairs_view pairs.now) }
 {
     match (of, field) {
-        ("self", _) => {
-            let unknown = refused(!scope.is_block(field), ScopeError::NotCallable);
-            unknown.or(unless(row.is_empty() && pairs.is_empty()))
-        }
-        ("loop", "cycle") => {
-            let outside = refused(!within.in_loop, ScopeError::LoopOutside);
-            outside.or(unless(!row.is_empty() && pairs.is_empty()))
-        }
+        ("self", _) => self_broken(scope, field, row, pairs),
+        ("loop", "cycle") => cycle_broken(within, row, pairs),
         _ => Some(ScopeError::NotCallable),
     }
 }
