@@ -6,3 +6,4 @@ pub mod Known
 pub mod Left
 pub mod Sets
 pub mod Shown
+pub mod Found
