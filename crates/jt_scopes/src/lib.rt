@@ -1,7 +1,15 @@
 //! Names to slots: a chain becomes a program.
 #![tactic(auto)]
 
+mod forms;
+mod frame;
+mod index;
+mod laid;
+mod pool;
+mod reading;
 mod resolving;
+mod scope;
+mod spot;
 
 pub use jt_rules::ScopeError;
 pub use resolving::resolve;
