@@ -13,7 +13,6 @@ use Rattle.jt_expr.specs.Trees.{Expr, constant, name, group, list_of, map_of, at
 use Rattle.jt_meaning.specs.Operators.{unary_operation, form}
 use Rattle.jt_slots.specs.Tests.{test_named}
 use Rattle.jt_slots.specs.Values.{literal, as_value}
-use Rattle.jt_meaning.specs.Expressions.{operated, asked, turned, either, combined}
 use Rattle.jt_slots.specs.Got.{Got, gives, fails, bind, checked}
 use Rattle.jt_parse.specs.Trees.{Text, Parameter}
 use Rattle.jt_meaning.specs.Env.{Env, read, top}
