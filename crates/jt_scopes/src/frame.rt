@@ -6,6 +6,7 @@ ghost use Rattle.jt_rules.specs.declared.error.ScopeError.TheVariants as error;
 ghost use Rattle.jt_scopes.specs.Names.{place_in, last_among, texts};
 
 use crate::index::Index;
+use crate::reading::more;
 use jt_rules::ScopeError;
 use std::alloc::Global;
 
@@ -29,7 +30,7 @@ impl<'a> Frame<'a> {
         let mut local = first;
         for name in names.iter() {
             index.put(*name, local)?;
-            local = local.checked_add(1).ok_or(ScopeError::NoMemory)?;
+            local = more(local, 1)?;
         }
         Ok(Frame {
             names,

@@ -1,6 +1,8 @@
 //! Names to slots: a chain becomes a program.
 #![tactic(auto)]
 
+mod calls;
+mod expressions;
 mod forms;
 mod frame;
 mod index;

@@ -1,6 +1,6 @@
 //! What names read.
 
-ghost use Rattle.std.specs.Prelude.{◌≡◌, ◌<◌, List, length, option_map, IfOk, IfErr};
+ghost use Rattle.std.specs.Prelude.{◌≡◌, ◌+◌, List, option_map, IfOk, IfErr};
 ghost use Rattle.jt_value.specs.Tree.{Tree};
 ghost use Rattle.jt_expr.specs.View as written;
 ghost use Rattle.jt_inherit.specs.Uses.{keywords};
