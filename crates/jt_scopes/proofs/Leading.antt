@@ -1,15 +1,15 @@
 -- Parts that were put behind one another.
-use Rattle.std.proofs.Common.{◌≡◌, ℕ, ◌+◌, List, [], ◌∷◌, ◌++◌, length, refl, sym, ap, ◌∙◌, Bool, true, false, Option, Some, None, append_assoc, append-nil, length-append}
+use Rattle.std.proofs.Common.{◌≡◌, ℕ, ◌+◌, List, [], ◌∷◌, ◌++◌, length, refl, sym, ap, ◌∙◌, subst, Bool, Option, Some, None, append_assoc, append-nil, length-append}
 use Rattle.jt_value.specs.Tree.{Tree}
-use Rattle.jt_ops.specs.declared.op_id.OpId.{OpId}
-use Rattle.jt_ops.specs.declared.op_id.OpId.TheVariants as op
+use Rattle.jt_expr.specs.Trees as trees
 use Rattle.jt_slots.specs.Pool.{Constant, own, known, expr_values, row_values, placed_expr, placed_row}
 use Rattle.jt_slots.specs.Slots as slots
-use Rattle.jt_slots.specs.Slots.{SExpr, SRow, SBody, Maker}
+use Rattle.jt_slots.specs.Slots.{SExpr, SRow, Maker}
 use Rattle.jt_slots.specs.View.{expr_view, row_view}
 use Rattle.jt_slots.specs.declared.program.SExpr as code
-use Rattle.jt_meaning.specs.Resolve.{operation_of}
-use Rattle.jt_scopes.specs.Scoped.{IsPlaced, RowLeads}
+use Rattle.jt_scopes.specs.Scoped.{IsPlaced, RowLeads, expr_in}
+use Rattle.jt_scopes.specs.declared.scope.Scope.{Scope}
+use Rattle.jt_scopes.specs.declared.spot.Spot.{Spot}
 use Rattle.jt_scopes.proofs.Views.{Entry, row_push}
 
 -- ---- expressions
@@ -95,3 +95,19 @@ made_placed k whole es z p q h e = record { shown = e ∙ ap (slots.made k) h.sh
 pub invoked_placed : (u : ℕ) (escaping : Bool) (whole : SRow Constant) (es : List Entry) (z : SExpr ℕ) (p q : List Tree) → RowLeads whole slots.none [] es p q → z ≡ slots.invoke u escaping (row_view es slots.none)
     → IsPlaced (slots.invoke u escaping whole) z p q
 invoked_placed u escaping whole es z p q h e = record { shown = e ∙ ap (slots.invoke u escaping) h.shown; pooled = sym (append-nil q) ∙ h.pooled }
+
+-- ---- trees that are equal
+
+pub same_tree : (s : Scope) (spot : Spot) (x y : trees.Expr) (e : SExpr ℕ) (p q : List Tree) → x ≡ y → IsPlaced (expr_in s x spot) e p q → IsPlaced (expr_in s y spot) e p q
+same_tree s spot x y e p q h = let P : trees.Expr → Type 0 = λ z. IsPlaced (expr_in s z spot) e p q in subst P h
+
+-- a row that began with nothing
+pub begun : (whole left : SRow Constant) (es fs gs : List Entry) (p q : List Tree) → es ≡ gs → RowLeads whole left es fs p q → RowLeads whole left gs fs p q
+begun whole left es fs gs p q h = let P : List Entry → Type 0 = λ l. RowLeads whole left l fs p q in subst P h
+
+-- the whole, or what is left, in another form
+pub of_whole : (a b left : SRow Constant) (es fs : List Entry) (p q : List Tree) → a ≡ b → RowLeads a left es fs p q → RowLeads b left es fs p q
+of_whole a b left es fs p q h = let P : SRow Constant → Type 0 = λ z. RowLeads z left es fs p q in subst P h
+
+pub of_left : (whole a b : SRow Constant) (es fs : List Entry) (p q : List Tree) → a ≡ b → RowLeads whole a es fs p q → RowLeads whole b es fs p q
+of_left whole a b es fs p q h = let P : SRow Constant → Type 0 = λ z. RowLeads whole z es fs p q in subst P h

@@ -1,9 +1,11 @@
 -- Names with places.
-use Rattle.std.proofs.Common.{◌≡◌, ℕ, suc, ◌+◌, ◌<◌, Bool, true, false, List, [], ◌∷◌, ◌++◌, length, map, drop, get_or, refl, sym, ap, ◌∙◌, Option, Some, None, if◌then◌else◌, add-one}
+use Rattle.std.proofs.Common.{◌≡◌, ℕ, suc, ◌+◌, ◌<◌, Bool, true, false, List, [], ◌∷◌, length, drop, get_or, refl, sym, ap, ◌∙◌, Option, Some, None, if◌then◌else◌, add-one}
 use Rattle.std.proofs.lemmas.List.{drop_more}
+use Rattle.std.proofs.lemmas.Slice.Eq.{bytes_eq-Decides}
 use Rattle.std.specs.Str.{bytes_eq}
 use denote.Ref.{Bor}
 use Rattle.jt_parse.specs.Trees.{Text}
+use Rattle.jt_slots.specs.Loops.{Field, field_among}
 use Rattle.jt_slots.specs.Slots.{Slot, local}
 use Rattle.jt_meaning.specs.Layout.{Table, slot_in}
 use Rattle.jt_meaning.specs.Resolve.{bound_table}
@@ -34,3 +36,21 @@ placed_next ks i d x n n' f f' lt e h =
     ap (λ m. last_among x (texts (drop (i + 1) ks)) m f') (e ∙ add-one n)
     ∙ ap (λ o. last_among x (texts (drop (i + 1) ks)) (suc n) o) h
     ∙ ap (λ (l : List (Bor Text)). last_among x (texts l) n f) (sym (drop_more ks i d lt))
+
+-- ---- fields of loops
+
+abbrev pub Differ : Text → List (Text × Field) → Type 0
+Differ x [] = Unit {0}
+Differ x (f ∷ fs) = (x ≡ f.0 → ⊥) × Differ x fs
+
+different : (x k : Text) → (x ≡ k → ⊥) → bytes_eq k x ≡ false
+different x k n = through (bytes_eq k x) refl
+  where
+    through : (b : Bool) → bytes_eq k x ≡ b → b ≡ false
+    through true e = absurd (n (sym ((bytes_eq-Decides k x).0 e)))
+    through false e = refl
+
+-- a name that is none of these fields'
+pub no_field : (x : Text) (fs : List (Text × Field)) → Differ x fs → field_among x fs ≡ None
+no_field x [] h = refl
+no_field x (f ∷ fs) h = ap (λ b. if b then Some f.1 else field_among x fs) (different x f.0 h.0) ∙ no_field x fs h.1

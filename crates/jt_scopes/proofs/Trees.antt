@@ -70,4 +70,47 @@ view-When c a = ap expr_view (sym (rolls-When c a)) ∙ fold-roll-Expr trees.Exp
 pub view-Choice : (c a b : Box Expr Global) → expr_view (e.Choice c a b) ≡ trees.choice (expr_view c.value) (expr_view a.value) (expr_view b.value)
 view-Choice c a b = ap expr_view (sym (rolls-Choice c a b)) ∙ fold-roll-Expr trees.Expr expr_step (Expr-F.Choice c a b)
 
-pub ruleset shown = (view-Constant, view-Name, view-Group, view-List, view-Map, view-Attribute, view-Item, view-Call, view-Filter, view-Test, view-Unary, view-Binary, view-When, view-Choice)
+-- ---- by what stands behind the references
+
+pub shown_item : (x a b : Expr) (p q : Box Expr Global) → x ≡ e.Item p q → a ≡ p.value → b ≡ q.value → trees.item (expr_view a) (expr_view b) ≡ expr_view x
+shown_item x a b p q is f g = ap (λ z. trees.item (expr_view z) (expr_view b)) f ∙ ap (λ z. trees.item (expr_view p.value) (expr_view z)) g ∙ sym (ap expr_view is ∙ view-Item p q)
+
+pub shown_binary : (x a b : Expr) (o : BinaryOperator) (p q : Box Expr Global) → x ≡ e.Binary o p q → a ≡ p.value → b ≡ q.value → trees.binary o (expr_view a) (expr_view b) ≡ expr_view x
+shown_binary x a b o p q is f g = ap (λ z. trees.binary o (expr_view z) (expr_view b)) f ∙ ap (λ z. trees.binary o (expr_view p.value) (expr_view z)) g ∙ sym (ap expr_view is ∙ view-Binary o p q)
+
+pub shown_when : (x a b : Expr) (p q : Box Expr Global) → x ≡ e.When p q → a ≡ p.value → b ≡ q.value → trees.when (expr_view a) (expr_view b) ≡ expr_view x
+shown_when x a b p q is f g = ap (λ z. trees.when (expr_view z) (expr_view b)) f ∙ ap (λ z. trees.when (expr_view p.value) (expr_view z)) g ∙ sym (ap expr_view is ∙ view-When p q)
+
+pub shown_choice : (x a b c : Expr) (p q r : Box Expr Global) → x ≡ e.Choice p q r → a ≡ p.value → b ≡ q.value → c ≡ r.value → trees.choice (expr_view a) (expr_view b) (expr_view c) ≡ expr_view x
+shown_choice x a b c p q r is f g h =
+    ap (λ z. trees.choice (expr_view z) (expr_view b) (expr_view c)) f ∙ ap (λ z. trees.choice (expr_view p.value) (expr_view z) (expr_view c)) g
+    ∙ ap (λ z. trees.choice (expr_view p.value) (expr_view q.value) (expr_view z)) h ∙ sym (ap expr_view is ∙ view-Choice p q r)
+
+pub shown_test : (x a : Expr) (n : Bool) (k : String Global) (us : List Expr) (qs : List (String Global × Expr)) (p : Box Expr Global) (ts : Vec Expr Global) (ps : Vec (String Global × Expr) Global)
+    → x ≡ e.Test p n k ts ps → a ≡ p.value → us ≡ ts.items → qs ≡ ps.items → trees.test (expr_view a) n (string_bytes k) (exprs_view us) (pairs_view qs) ≡ expr_view x
+shown_test x a n k us qs p ts ps is f g h =
+    ap (λ z. trees.test (expr_view z) n (string_bytes k) (exprs_view us) (pairs_view qs)) f ∙ ap (λ z. trees.test (expr_view p.value) n (string_bytes k) (exprs_view z) (pairs_view qs)) g
+    ∙ ap (λ z. trees.test (expr_view p.value) n (string_bytes k) (exprs_view ts.items) (pairs_view z)) h ∙ sym (ap expr_view is ∙ view-Test p n k ts ps)
+
+pub shown_call : (x f : Expr) (us : List Expr) (qs : List (String Global × Expr)) (p : Box Expr Global) (ts : Vec Expr Global) (ps : Vec (String Global × Expr) Global)
+    → x ≡ e.Call p ts ps → f ≡ p.value → us ≡ ts.items → qs ≡ ps.items → trees.call (expr_view f) (exprs_view us) (pairs_view qs) ≡ expr_view x
+shown_call x f us qs p ts ps is g h k =
+    ap (λ z. trees.call (expr_view z) (exprs_view us) (pairs_view qs)) g ∙ ap (λ z. trees.call (expr_view p.value) (exprs_view z) (pairs_view qs)) h
+    ∙ ap (λ z. trees.call (expr_view p.value) (exprs_view ts.items) (pairs_view z)) k ∙ sym (ap expr_view is ∙ view-Call p ts ps)
+
+pub shown_filter : (x a : Expr) (k : String Global) (us : List Expr) (qs : List (String Global × Expr)) (p : Box Expr Global) (ts : Vec Expr Global) (ps : Vec (String Global × Expr) Global)
+    → x ≡ e.Filter p k ts ps → a ≡ p.value → us ≡ ts.items → qs ≡ ps.items → trees.filter (expr_view a) (string_bytes k) (exprs_view us) (pairs_view qs) ≡ expr_view x
+shown_filter x a k us qs p ts ps is f g h =
+    ap (λ z. trees.filter (expr_view z) (string_bytes k) (exprs_view us) (pairs_view qs)) f ∙ ap (λ z. trees.filter (expr_view p.value) (string_bytes k) (exprs_view z) (pairs_view qs)) g
+    ∙ ap (λ z. trees.filter (expr_view p.value) (string_bytes k) (exprs_view ts.items) (pairs_view z)) h ∙ sym (ap expr_view is ∙ view-Filter p k ts ps)
+
+pub shown_map : (x : Expr) (qs : List (String Global × Expr)) (ps : Vec (String Global × Expr) Global) → x ≡ e.Map ps → qs ≡ ps.items → trees.map_of (pairs_view qs) ≡ expr_view x
+shown_map x qs ps is h = ap (λ z. trees.map_of (pairs_view z)) h ∙ sym (ap expr_view is ∙ view-Map ps)
+
+pub shown_attribute : (x a : Expr) (p : Box Expr Global) (k : String Global) → x ≡ e.Attribute p k → a ≡ p.value → trees.attribute (expr_view a) (string_bytes k) ≡ expr_view x
+shown_attribute x a p k is f = ap (λ z. trees.attribute (expr_view z) (string_bytes k)) f ∙ sym (ap expr_view is ∙ view-Attribute p k)
+
+pub shown_unary : (x a : Expr) (o : UnaryOperator) (p : Box Expr Global) → x ≡ e.Unary o p → a ≡ p.value → trees.unary o (expr_view a) ≡ expr_view x
+shown_unary x a o p is f = ap (λ z. trees.unary o (expr_view z)) f ∙ sym (ap expr_view is ∙ view-Unary o p)
+
+pub ruleset shown = (view-List, view-Map, view-Attribute)

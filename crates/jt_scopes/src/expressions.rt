@@ -1,6 +1,7 @@
 //! Resolves expressions: names to slots, literals and keys to places of a pool.
 
-ghost use Rattle.std.specs.Prelude.{◌≡◌, IfOk, IfErr};
+ghost use Rattle.std.specs.Prelude.{◌≡◌, IfOk, IfErr, List, []};
+ghost use Rattle.jt_value.specs.Tree.{Tree};
 ghost use Rattle.jt_expr.specs.Trees as trees;
 ghost use Rattle.jt_expr.specs.View as written;
 ghost use Rattle.jt_rules.specs.declared.error.ScopeError.TheVariants as error;
@@ -62,10 +63,8 @@ pub(crate) fn resolve_expression(
             let Some(test) = test_of(name) else {
                 return turned(alloc, *negated, no_operation(alloc));
             };
-            let mut operands = Vec::new(alloc);
             let first = resolve_expression(alloc, scope, spot, value, pool)?;
-            operands.push((None, first))?;
-            resolve_row(alloc, scope, spot, row, &mut operands, pool)?;
+            let operands = resolve_behind(alloc, scope, spot, row, first, pool)?;
             turned(alloc, *negated, SExpr::Made(Maker::Test(test), operands))
         }
         Expr::Unary(operator, operand) => {
@@ -147,6 +146,27 @@ fn resolve_attribute(
     let whole = resolve_expression(alloc, scope, spot, value, pool)?;
     let place = add_text(alloc, key, pool)?;
     on_two(alloc, OpId::Item, whole, place)
+}
+
+/// Resolves a row of expressions behind a first one.
+#[cycle(resolve)]
+fn resolve_behind(
+    alloc: Global,
+    scope: &Scope<'_>,
+    spot: &Spot<'_, '_>,
+    row: &[Expr],
+    first: SExpr,
+    pool: &mut Vec<Value>,
+) -> Result<Vec<(Option<usize>, SExpr)>, ScopeError>
+    requires { IsLaidOut scope.now }
+    ensures led { IfOk result (λ es. (c : slots.SExpr Constant) (p : List Tree) → IsPlaced c (expr_view first) p (values pool.old)
+        → RowLeads (slots.item c (row_in scope.now (written.exprs_view row.now) spot.now slots.none)) slots.none [] es.items p (values pool.new)) }
+    ensures refused { IfErr result (λ e. e ≡ error.NoMemory) }
+{
+    let mut done = Vec::new(alloc);
+    done.push((None, first))?;
+    resolve_row(alloc, scope, spot, row, &mut done, pool)?;
+    Ok(done)
 }
 
 /// Resolves a row of expressions, behind others that are resolved.
