@@ -30,29 +30,29 @@ value_placed v x p q e f = record { shown = e; pooled = f }
 
 pub one_placed : (k : Maker) (a : SExpr Constant) (x z : SExpr ℕ) (p q : List Tree) → IsPlaced a x p q → z ≡ slots.made k (slots.item x slots.none) → IsPlaced (slots.made k (slots.item a slots.none)) z p q
 one_placed k a x z p q h e = record {
-    shown = e ∙ ap (λ y. slots.made k (slots.item y slots.none)) h.shown;
-    pooled = h.pooled ∙ ap (λ l. p ++ l) (sym (append-nil (expr_values a)));
-  }
+  shown = e ∙ ap (λ y. slots.made k (slots.item y slots.none)) h.shown;
+  pooled = h.pooled ∙ ap (λ l. p ++ l) (sym (append-nil (expr_values a)));
+}
 
 pub two_placed : (k : Maker) (a b : SExpr Constant) (x y z : SExpr ℕ) (p q r : List Tree) → IsPlaced a x p q → IsPlaced b y q r → z ≡ slots.made k (slots.item x (slots.item y slots.none))
     → IsPlaced (slots.made k (slots.item a (slots.item b slots.none))) z p r
 two_placed k a b x y z p q r h g e = record {
-    shown = e ∙ ap (λ w. slots.made k (slots.item w (slots.item y slots.none))) h.shown
-        ∙ ap (λ w. slots.made k (slots.item (placed_expr a (length p)) (slots.item w slots.none))) (g.shown ∙ ap (placed_expr b) (grown_by p (expr_values a) q h.pooled));
-    pooled = both_pooled p (expr_values a) (expr_values b) q r h.pooled g.pooled ∙ ap (λ l. p ++ (expr_values a ++ l)) (sym (append-nil (expr_values b)));
-  }
+  shown = e ∙ ap (λ w. slots.made k (slots.item w (slots.item y slots.none))) h.shown
+      ∙ ap (λ w. slots.made k (slots.item (placed_expr a (length p)) (slots.item w slots.none))) (g.shown ∙ ap (placed_expr b) (grown_by p (expr_values a) q h.pooled));
+  pooled = both_pooled p (expr_values a) (expr_values b) q r h.pooled g.pooled ∙ ap (λ l. p ++ (expr_values a ++ l)) (sym (append-nil (expr_values b)));
+}
 
 pub conjunction_placed : (a b : SExpr Constant) (x y z : SExpr ℕ) (p q r : List Tree) → IsPlaced a x p q → IsPlaced b y q r → z ≡ slots.conjunction x y → IsPlaced (slots.conjunction a b) z p r
 conjunction_placed a b x y z p q r h g e = record {
-    shown = e ∙ ap (λ w. slots.conjunction w y) h.shown ∙ ap (slots.conjunction (placed_expr a (length p))) (g.shown ∙ ap (placed_expr b) (grown_by p (expr_values a) q h.pooled));
-    pooled = both_pooled p (expr_values a) (expr_values b) q r h.pooled g.pooled;
-  }
+  shown = e ∙ ap (λ w. slots.conjunction w y) h.shown ∙ ap (slots.conjunction (placed_expr a (length p))) (g.shown ∙ ap (placed_expr b) (grown_by p (expr_values a) q h.pooled));
+  pooled = both_pooled p (expr_values a) (expr_values b) q r h.pooled g.pooled;
+}
 
 pub disjunction_placed : (a b : SExpr Constant) (x y z : SExpr ℕ) (p q r : List Tree) → IsPlaced a x p q → IsPlaced b y q r → z ≡ slots.disjunction x y → IsPlaced (slots.disjunction a b) z p r
 disjunction_placed a b x y z p q r h g e = record {
-    shown = e ∙ ap (λ w. slots.disjunction w y) h.shown ∙ ap (slots.disjunction (placed_expr a (length p))) (g.shown ∙ ap (placed_expr b) (grown_by p (expr_values a) q h.pooled));
-    pooled = both_pooled p (expr_values a) (expr_values b) q r h.pooled g.pooled;
-  }
+  shown = e ∙ ap (λ w. slots.disjunction w y) h.shown ∙ ap (slots.disjunction (placed_expr a (length p))) (g.shown ∙ ap (placed_expr b) (grown_by p (expr_values a) q h.pooled));
+  pooled = both_pooled p (expr_values a) (expr_values b) q r h.pooled g.pooled;
+}
 
 pub choice_placed : (c a b : SExpr Constant) (w x y z : SExpr ℕ) (p q r s : List Tree) → IsPlaced c w p q → IsPlaced a x q r → IsPlaced b y r s → z ≡ slots.choice w x y → IsPlaced (slots.choice c a b) z p s
 choice_placed c a b w x y z p q r s f g h e =
@@ -74,19 +74,19 @@ row_both a b c es fs gs p q r h g = record { shown = g.shown ∙ h.shown; pooled
 
 pub row_item : (c : SExpr Constant) (left : SRow Constant) (x : code.SExpr) (es fs : List Entry) (p q : List Tree) → IsPlaced c (expr_view x) p q → fs ≡ es ++ (None, x) ∷ [] → RowLeads (slots.item c left) left es fs p q
 row_item c left x es fs p q h e = record {
-    shown = ap (λ l. row_view l (placed_row left (length q))) e ∙ row_push es (None, x) (placed_row left (length q))
-        ∙ ap (λ y. row_view es (slots.item y (placed_row left (length q)))) h.shown
-        ∙ ap (λ n. row_view es (slots.item (placed_expr c (length p)) (placed_row left n))) (grown_by p (expr_values c) q h.pooled);
-    pooled = ap (λ l. l ++ row_values left) h.pooled ∙ append_assoc p (expr_values c) (row_values left);
-  }
+  shown = ap (λ l. row_view l (placed_row left (length q))) e ∙ row_push es (None, x) (placed_row left (length q))
+      ∙ ap (λ y. row_view es (slots.item y (placed_row left (length q)))) h.shown
+      ∙ ap (λ n. row_view es (slots.item (placed_expr c (length p)) (placed_row left n))) (grown_by p (expr_values c) q h.pooled);
+  pooled = ap (λ l. l ++ row_values left) h.pooled ∙ append_assoc p (expr_values c) (row_values left);
+}
 
 pub row_aside : (i : ℕ) (c : SExpr Constant) (left : SRow Constant) (x : code.SExpr) (es fs : List Entry) (p q : List Tree) → IsPlaced c (expr_view x) p q → fs ≡ es ++ (Some i, x) ∷ [] → RowLeads (slots.aside i c left) left es fs p q
 row_aside i c left x es fs p q h e = record {
-    shown = ap (λ l. row_view l (placed_row left (length q))) e ∙ row_push es (Some i, x) (placed_row left (length q))
-        ∙ ap (λ y. row_view es (slots.aside i y (placed_row left (length q)))) h.shown
-        ∙ ap (λ n. row_view es (slots.aside i (placed_expr c (length p)) (placed_row left n))) (grown_by p (expr_values c) q h.pooled);
-    pooled = ap (λ l. l ++ row_values left) h.pooled ∙ append_assoc p (expr_values c) (row_values left);
-  }
+  shown = ap (λ l. row_view l (placed_row left (length q))) e ∙ row_push es (Some i, x) (placed_row left (length q))
+      ∙ ap (λ y. row_view es (slots.aside i y (placed_row left (length q)))) h.shown
+      ∙ ap (λ n. row_view es (slots.aside i (placed_expr c (length p)) (placed_row left n))) (grown_by p (expr_values c) q h.pooled);
+  pooled = ap (λ l. l ++ row_values left) h.pooled ∙ append_assoc p (expr_values c) (row_values left);
+}
 
 -- a row of which all is done
 pub made_placed : (k : Maker) (whole : SRow Constant) (es : List Entry) (z : SExpr ℕ) (p q : List Tree) → RowLeads whole slots.none [] es p q → z ≡ slots.made k (row_view es slots.none) → IsPlaced (slots.made k whole) z p q

@@ -93,3 +93,18 @@ pub(crate) fn resolve_filter(
 {
     Err(ScopeError::NoMemory)
 }
+
+/// Resolves a test. It is not there yet, and gives `NoMemory`.
+pub(crate) fn resolve_test(
+    _alloc: Global,
+    scope: &Scope<'_>,
+    spot: &Spot<'_, '_>,
+    expr: &Expr,
+    pool: &mut Vec<Value>,
+) -> Result<SExpr, ScopeError>
+    requires { IsLaidOut scope.now }
+    ensures placed { IfOk result (λ e. IsPlaced (expr_in scope.now (written.expr_view expr.now) spot.now) (expr_view e) (values pool.old) (values pool.new)) }
+    ensures refused { IfErr result (λ e. e ≡ error.NoMemory) }
+{
+    Err(ScopeError::NoMemory)
+}

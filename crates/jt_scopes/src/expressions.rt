@@ -1,7 +1,6 @@
 //! Resolves expressions: names to slots, literals and keys to places of a pool.
 
-ghost use Rattle.std.specs.Prelude.{◌≡◌, IfOk, IfErr, List, []};
-ghost use Rattle.jt_value.specs.Tree.{Tree};
+ghost use Rattle.std.specs.Prelude.{◌≡◌, IfOk, IfErr};
 ghost use Rattle.jt_expr.specs.Trees as trees;
 ghost use Rattle.jt_expr.specs.View as written;
 ghost use Rattle.jt_rules.specs.declared.error.ScopeError.TheVariants as error;
@@ -11,11 +10,8 @@ ghost use Rattle.jt_slots.specs.View.{expr_view};
 ghost use Rattle.jt_scopes.specs.Laid.{IsLaidOut};
 ghost use Rattle.jt_scopes.specs.Scoped.{values, IsPlaced, RowLeads, expr_in, row_in, asides_in, entries_in};
 
-use crate::calls::{field_of, is_loop_name, resolve_call, resolve_filter, told};
-use crate::forms::{
-    chosen, form_of, formed, literal_value, no_operation, on_one, on_two, test_of, turned,
-    unary_operation,
-};
+use crate::calls::{field_of, is_loop_name, resolve_call, resolve_filter, resolve_test, told};
+use crate::forms::{chosen, form_of, formed, literal_value, on_one, on_two, unary_operation};
 use crate::pool::{add_text, add_value};
 use crate::reading::{more, no_value, reading, slot};
 use crate::scope::Scope;
@@ -59,14 +55,7 @@ pub(crate) fn resolve_expression(
         Expr::Filter(value, name, row, pairs) => {
             resolve_filter(alloc, scope, spot, value, name, row, pairs, pool)
         }
-        Expr::Test(value, negated, name, row, _) => {
-            let Some(test) = test_of(name) else {
-                return turned(alloc, *negated, no_operation(alloc));
-            };
-            let first = resolve_expression(alloc, scope, spot, value, pool)?;
-            let operands = resolve_behind(alloc, scope, spot, row, first, pool)?;
-            turned(alloc, *negated, SExpr::Made(Maker::Test(test), operands))
-        }
+        Expr::Test(_, _, _, _, _) => resolve_test(alloc, scope, spot, expr, pool),
         Expr::Unary(operator, operand) => {
             let value = resolve_expression(alloc, scope, spot, operand, pool)?;
             on_one(alloc, unary_operation(*operator), value)
@@ -146,27 +135,6 @@ fn resolve_attribute(
     let whole = resolve_expression(alloc, scope, spot, value, pool)?;
     let place = add_text(alloc, key, pool)?;
     on_two(alloc, OpId::Item, whole, place)
-}
-
-/// Resolves a row of expressions behind a first one.
-#[cycle(resolve)]
-fn resolve_behind(
-    alloc: Global,
-    scope: &Scope<'_>,
-    spot: &Spot<'_, '_>,
-    row: &[Expr],
-    first: SExpr,
-    pool: &mut Vec<Value>,
-) -> Result<Vec<(Option<usize>, SExpr)>, ScopeError>
-    requires { IsLaidOut scope.now }
-    ensures led { IfOk result (λ es. (c : slots.SExpr Constant) (p : List Tree) → IsPlaced c (expr_view first) p (values pool.old)
-        → RowLeads (slots.item c (row_in scope.now (written.exprs_view row.now) spot.now slots.none)) slots.none [] es.items p (values pool.new)) }
-    ensures refused { IfErr result (λ e. e ≡ error.NoMemory) }
-{
-    let mut done = Vec::new(alloc);
-    done.push((None, first))?;
-    resolve_row(alloc, scope, spot, row, &mut done, pool)?;
-    Ok(done)
 }
 
 /// Resolves a row of expressions, behind others that are resolved.

@@ -1,25 +1,23 @@
-use Rattle.std.proofs.Common.{◌≡◌, ℕ, ◌+◌, Bool, List, drop, sym, ap, ◌∙◌, subst, arith, refl, if◌then◌else◌, Option}
+use Rattle.std.proofs.Common.{◌≡◌, ℕ, ◌+◌, Bool, List, drop, sym, ap, ◌∙◌, subst, arith, if◌then◌else◌}
 use Rattle.std.proofs.lemmas.List.{at_drop_all}
 use Rattle.std.proofs.lemmas.Result.{IfOk-weaker}
 use Rattle.jt_value.specs.Tree as tree
 use Rattle.jt_ops.specs.declared.op_id.OpId.{OpId}
 use Rattle.jt_ops.specs.declared.op_id.OpId.TheVariants as op
-use Rattle.jt_ops.specs.declared.test_id.TestId.{TestId}
 use Rattle.jt_expr.specs.Trees as trees
 use Rattle.jt_expr.specs.View.{expr_view, exprs_view, pairs_view}
 use Rattle.jt_expr.specs.declared.tree.Expr.{Expr}
 use Rattle.jt_meaning.specs.Operators.{Form}
-use Rattle.jt_meaning.specs.Resolve.{operation_of, in_form, field_from, tested_by, turned_round}
+use Rattle.jt_meaning.specs.Resolve.{operation_of, in_form, field_from}
 use Rattle.jt_slots.specs.Loops.{field_named}
 use Rattle.jt_slots.specs.Pool.{own}
 use Rattle.jt_slots.specs.Slots as slots
 use Rattle.jt_slots.specs.View.{expr_view as coded}
 use Rattle.jt_slots.specs.declared.program.Maker.TheVariants as m
-use Rattle.jt_slots.specs.declared.program.SExpr.TheVariants as s
 use Rattle.jt_scopes.specs.Scoped.{values, IsPlaced, expr_in, row_in, entries_in}
 use Rattle.jt_scopes.proofs.Leading.{same_tree, begun, of_whole, of_left, row_both, row_item, made_placed}
 use Rattle.jt_scopes.proofs.Left.{Pair, row_left, pairs_left}
-use Rattle.jt_scopes.proofs.Trees.{shown_item, shown_call, shown_filter, shown_unary, shown_binary, shown_when, shown_choice, shown_test}
+use Rattle.jt_scopes.proofs.Trees.{shown_item, shown_call, shown_filter, shown_unary, shown_binary, shown_when, shown_choice}
 use Rattle.jt_scopes.proofs.Views.{view-Made}
 use Rattle.jt_scopes.proofs.expressions.+resolve.Goals as goal
 
@@ -80,10 +78,6 @@ resolve_expression-returns-in_ok-place-in-Item-clause-placed t c =
     (shown_item c.args.expr.now a b c.in-Item.value c.in-Item.index c.in-Item.is c.deref-in-Item.ensures c.deref-in-Item-2.ensures)
     (h _ _ _ _ _ c.in_ok-whole-in-Item.ensures.placed c.in_ok-place-in-Item.ensures.placed)) c.on_two.ensures.made
 
-pub resolve_behind-returns-clause-led : goal.resolve_behind-returns-clause-led
-resolve_behind-returns-clause-led t c = λ d p h.
-    row_both _ _ _ _ _ _ _ _ _ (begun _ _ _ _ _ _ _ c.new-done.ensures.items (row_item d _ c.args.first _ _ p _ h c.in_ok-push.ensures.items)) (c.in_ok-resolve_row.ensures.led slots.none)
-
 pub resolve_expression-returns-in-Call-clause-placed : goal.resolve_expression-returns-in-Call-clause-placed
 resolve_expression-returns-in-Call-clause-placed t c =
     let f = c.deref-in-Call.result.now in
@@ -135,35 +129,3 @@ resolve_expression-returns-in_ok-second-in-Choice-clause-placed t c =
     IfOk-weaker c.chosen-in-Choice.result _ _ (λ e h. same_tree c.args.scope.now c.args.spot.now _ _ (coded e) _ _
     (shown_choice c.args.expr.now a b d c.in-Choice.condition c.in-Choice.value c.in-Choice.other c.in-Choice.is c.deref-in-Choice.ensures c.deref-in-Choice-2.ensures c.deref-in-Choice-3.ensures)
     (h _ _ _ _ _ _ _ c.in_ok-asked-in-Choice.ensures.placed c.in_ok-first-in-Choice.ensures.placed c.in_ok-second-in-Choice.ensures.placed)) c.chosen-in-Choice.ensures.made
-
-pub resolve_expression-returns-in_default-clause-placed : goal.resolve_expression-returns-in_default-clause-placed
-resolve_expression-returns-in_default-clause-placed t c =
-    let x = c.args.expr.now in
-    let name = c.deref-in-Test.result.now in
-    let p = values c.args.pool.now in
-    let row = slots.item (expr_in c.args.scope.now (expr_view c.in-Test.value.value) c.args.spot.now) (row_in c.args.scope.now (exprs_view c.in-Test.row.items) c.args.spot.now slots.none) in
-    IfOk-weaker c.turned.result _ _ (λ e h. same_tree c.args.scope.now c.args.spot.now _ _ (coded e) _ _
-    (ap (λ k. trees.test (expr_view c.in-Test.value.value) c.in-Test.negated k (exprs_view c.in-Test.row.items) (pairs_view c.in-Test.field-4.items)) c.deref-in-Test.ensures
-    ∙ shown_test x c.in-Test.value.value c.in-Test.negated c.in-Test.name c.in-Test.row.items c.in-Test.field-4.items c.in-Test.value c.in-Test.row c.in-Test.field-4 c.in-Test.is refl refl refl)
-    (let P : Option TestId → Type 0 = λ o. IsPlaced (turned_round c.in-Test.negated (tested_by o row)) (coded e) p p in
-    subst P (sym c.in_default.is ∙ c.test_of.ensures) (h _ _ _ (c.no_operation.ensures p)))) c.turned.ensures.made
-
-pub resolve_expression-returns-in_ok-operands-in-Test-clause-placed : goal.resolve_expression-returns-in_ok-operands-in-Test-clause-placed
-resolve_expression-returns-in_ok-operands-in-Test-clause-placed t c =
-    let scope = c.args.scope.now in
-    let spot = c.args.spot.now in
-    let a = c.deref-in-Test-2.result.now in
-    let us = c.deref-in-Test-3.result.now in
-    let qs = c.in-Test.field-4 in
-    let operands = c.in_ok-operands-in-Test.operands in
-    let p = values c.args.pool.now in
-    let q = values c.resolve_behind.new.pool in
-    let first = expr_in scope (expr_view a) spot in
-    let row = slots.item first (row_in scope (exprs_view us) spot slots.none) in
-    let made : IsPlaced (slots.made (slots.test c.in-Some.test) row) (coded (s.Made (m.Test c.in-Some.test) operands)) p q =
-    made_placed (slots.test c.in-Some.test) row operands.items _ p q (c.in_ok-operands-in-Test.ensures.led first p c.in_ok-first-in-Test.ensures.placed) (view-Made (m.Test c.in-Some.test) operands) in
-    IfOk-weaker c.turned-in-Test.result _ _ (λ e h. same_tree scope spot _ _ (coded e) _ _
-    (ap (λ k. trees.test (expr_view a) c.in-Test.negated k (exprs_view us) (pairs_view qs.items)) c.deref-in-Test.ensures
-    ∙ shown_test c.args.expr.now a c.in-Test.negated c.in-Test.name us qs.items c.in-Test.value c.in-Test.row qs c.in-Test.is c.deref-in-Test-2.ensures c.deref-in-Test-3.ensures.value refl)
-    (let P : Option TestId → Type 0 = λ o. IsPlaced (turned_round c.in-Test.negated (tested_by o row)) (coded e) p q in
-    subst P (sym c.in-Some.is ∙ c.test_of.ensures) (h _ _ _ made))) c.turned-in-Test.ensures.made
