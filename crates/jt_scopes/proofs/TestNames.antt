@@ -1,0 +1,69 @@
+-- The test of a name.
+use Rattle.std.proofs.Common.{◌≡◌, ℕ, Bool, true, false, cond, ◌||◌, List, [], ◌∷◌, get_or, refl, sym, ap, ◌∙◌, arith, Option, Some, None, IfSome, Contains, bytes_eq}
+use Rattle.std.specs.List.{list_any, find}
+use Rattle.std.proofs.lemmas.List.Folds.{list_any_at}
+use Rattle.std.proofs.lemmas.Map.Views.{Contains-from_any}
+use Rattle.std.proofs.lemmas.Slice.Eq.{bytes_eq-Decides}
+use Rattle.jt_ops.specs.declared.test_id.TestId.{TestId}
+use Rattle.jt_ops.specs.declared.test_id.TestId.TheVariants as t
+use Rattle.jt_ops.specs.TestTable.{test_names}
+use Rattle.jt_slots.specs.Tests.{tests, test_named}
+
+contained : (x : List ℕ) (ks : List (List ℕ)) → Contains ks x → list_any (bytes_eq x) ks ≡ true
+contained x ks c = list_any_at (bytes_eq x) ks c.0 x c.1 ((bytes_eq-Decides x (get_or ks c.0 x)).1 (sym c.2))
+
+one_of : (p : TestId → Bool) (i : TestId) → p i ≡ true → list_any p tests ≡ true
+one_of p t.Boolean h = list_any_at p tests 0 t.Boolean (omega arith) h
+one_of p t.Defined h = list_any_at p tests 1 t.Boolean (omega arith) h
+one_of p t.DivisibleBy h = list_any_at p tests 2 t.Boolean (omega arith) h
+one_of p t.Equal h = list_any_at p tests 3 t.Boolean (omega arith) h
+one_of p t.NotEqual h = list_any_at p tests 4 t.Boolean (omega arith) h
+one_of p t.Escaped h = list_any_at p tests 5 t.Boolean (omega arith) h
+one_of p t.Even h = list_any_at p tests 6 t.Boolean (omega arith) h
+one_of p t.Odd h = list_any_at p tests 7 t.Boolean (omega arith) h
+one_of p t.False h = list_any_at p tests 8 t.Boolean (omega arith) h
+one_of p t.True h = list_any_at p tests 9 t.Boolean (omega arith) h
+one_of p t.GreaterOrEqual h = list_any_at p tests 10 t.Boolean (omega arith) h
+one_of p t.Greater h = list_any_at p tests 11 t.Boolean (omega arith) h
+one_of p t.LessOrEqual h = list_any_at p tests 12 t.Boolean (omega arith) h
+one_of p t.Less h = list_any_at p tests 13 t.Boolean (omega arith) h
+one_of p t.In h = list_any_at p tests 14 t.Boolean (omega arith) h
+one_of p t.Integer h = list_any_at p tests 15 t.Boolean (omega arith) h
+one_of p t.Mapping h = list_any_at p tests 16 t.Boolean (omega arith) h
+one_of p t.None h = list_any_at p tests 17 t.Boolean (omega arith) h
+one_of p t.String h = list_any_at p tests 18 t.Boolean (omega arith) h
+one_of p t.Undefined h = list_any_at p tests 19 t.Boolean (omega arith) h
+
+-- what alone passes is found
+found_here : (p : TestId → Bool) (i : TestId) → ((j : TestId) → p j ≡ true → j ≡ i) → (is : List TestId) → list_any p is ≡ true → find p is ≡ Some i
+found_here p i only [] h = absurd (cc)
+found_here p i only (j ∷ js) h = through (p j) refl h (found_here p i only js)
+  where
+    through : (b : Bool) → p j ≡ b → b || list_any p js ≡ true → (list_any p js ≡ true → find p js ≡ Some i) → cond b (Some j) (find p js) ≡ Some i
+    through true e k f = ap Some (only j e)
+    through false e k f = f k
+
+none_found : (p : TestId → Bool) (is : List TestId) → ((i : TestId) → p i ≡ false) → find p is ≡ None
+none_found p [] f = refl
+none_found p (i ∷ is) f = ap (λ b. cond b (Some i) (find p is)) (f i) ∙ none_found p is f
+
+same_test : (i j : TestId) → ◌≡◌ {A = Option TestId} (Some i) (Some j) → j ≡ i
+same_test i j e = cc
+
+no_test : (i : TestId) → ◌≡◌ {A = Option TestId} None (Some i) → ⊥
+no_test i e = cc
+
+false_unless : (b : Bool) → (b ≡ true → ⊥) → b ≡ false
+false_unless false f = refl
+false_unless true f = absurd (f refl)
+
+has_name : (x : List ℕ) (i : TestId) → list_any (bytes_eq x) (test_names i) ≡ true → Contains (test_names i) x
+has_name x i h = Contains-from_any (λ y z q. (bytes_eq-Decides y z).0 q) x (test_names i) h
+
+-- a test that has the name, where no other has it, or none where none has it
+pub test_found : (x : List ℕ) (r : Option TestId) → IfSome r (λ i. Contains (test_names i) x) → ((i : TestId) → Contains (test_names i) x → r ≡ Some i) → r ≡ test_named x
+unfolding test_named
+test_found x (Some i) found only =
+    sym (found_here (λ j. list_any (bytes_eq x) (test_names j)) i (λ j h. same_test i j (only j (has_name x j h))) tests (one_of (λ j. list_any (bytes_eq x) (test_names j)) i (contained x (test_names i) found)))
+test_found x None found only =
+    sym (none_found (λ j. list_any (bytes_eq x) (test_names j)) tests (λ i. false_unless (list_any (bytes_eq x) (test_names i)) (λ h. no_test i (only i (has_name x i h)))))

@@ -1,0 +1,4 @@
+pub mod Formed
+pub mod Laid
+pub mod Names
+pub mod Scoped
