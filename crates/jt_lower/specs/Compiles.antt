@@ -1,5 +1,5 @@
 -- What it is for the code of a program to be right.
-use Rattle.std.specs.Prelude.{◌≡◌, ℕ, List, ◌∷◌, ◌++◌, Option, length}
+use Rattle.std.specs.Prelude.{◌≡◌, ℕ, List, ◌++◌, Option, length}
 use Rattle.jt_value.specs.Tree.{Tree}
 use Rattle.jt_value.specs.Pairs.{Pairs}
 use Rattle.jt_value.specs.declared.fault.Fault.{Fault}
@@ -13,11 +13,6 @@ use Rattle.jt_image.specs.Enough.{Enough}
 use Rattle.jt_image.specs.FreeRun.{start_machine}
 use Rattle.jt_slots.specs.Got.{Place, gives, fails}
 use Rattle.jt_parse.specs.Trees.{Text}
-use Rattle.jt_inherit.specs.Chain.{Home}
-use Rattle.jt_inherit.specs.Includes.{InOrder}
-use Rattle.jt_rules.specs.World.{World}
-use Rattle.jt_meaning.specs.Meaning.{mean}
-use Rattle.jt_meaning.specs.Programs.{program}
 use Rattle.jt_slots.specs.Filters.{Filters}
 use Rattle.jt_slots.specs.Slots.{Routine, Program, smean_of, smean}
 use Rattle.jt_slots.specs.Pool.{Constant, constant_in, routines_values, placed_routines}
@@ -43,13 +38,6 @@ pub record PlacesFaults (filters : Filters) (p : Program) : Type 0 where
   pub faults : (x : Pairs) (n : ℕ) (f : Fault) (q : Option Place) → placed_exec (compiled p) (table_of p) n (start_machine (compiled p) x) ≡ Failed f q → smean filters p x n ≡ fails f q
   pub places : (x : Pairs) (n : ℕ) (f : Fault) (q : Option Place) → smean filters p x n ≡ fails f q → (j : ℕ) × (placed_exec (compiled p) (table_of p) j (start_machine (compiled p) x) ≡ Failed f q)
 
--- The same of the program of a chain, and what the chain means by names.
-pub record DoesChain (world : World) (entry : Home) (k : Code) : Type 0 where
-  pub texts : (x : Pairs) (b : Budget) (t : Text) → Run k x b (config.text t) → (n : ℕ) × (mean world entry x n ≡ gives t)
-  pub faults : (x : Pairs) (b : Budget) (f : Fault) → Run k x b (config.fault f) → (n : ℕ) × (q : Option Place) × (mean world entry x n ≡ fails f q)
-  pub enough_text : (x : Pairs) (n : ℕ) (t : Text) → mean world entry x n ≡ gives t → Enough k x (config.text t)
-  pub enough_fault : (x : Pairs) (n : ℕ) (f : Fault) (q : Option Place) → mean world entry x n ≡ fails f q → Enough k x (config.fault f)
-
 -- Programs of lawful routines fit. The code of each program that fits is typed; where it has a spelling, it does what the program
 -- means. Each fault is met in its place. Each instruction has one place, and there are as many as the program's size says.
 pub record LowLaws : Type 0 where
@@ -59,8 +47,6 @@ pub record LowLaws : Type 0 where
       → smean_of filters (constant_in (front ++ routines_values rs)) rs gs n ≡ smean_of filters (tree_at (front ++ routines_values rs)) (placed_routines rs (length front)) gs n
   pub typed : (p : Program) → ProgramFits p → IsTyped (compiled p)
   pub right : (filters : Filters) (p : Program) → ProgramFits p → IsCode (compiled p) → DoesProgram filters p
-  -- from trees by names to runs: chains in an order in which each stands before those that it includes, the entry first
-  pub chains : (world : World) (entry : Home) (rest : List Home) → InOrder world.sources (entry ∷ rest) → ProgramFits (program world (entry ∷ rest) entry) → IsCode (compiled (program world (entry ∷ rest) entry)) → DoesChain world entry (compiled (program world (entry ∷ rest) entry))
   pub places_faults : (filters : Filters) (p : Program) → ProgramFits p → PlacesFaults filters p
   pub one_place : (a : Asm) (n : ℕ) → length (places a) ≡ length (flat a n)
   pub sized : (p : Program) → total_len (compiled p).units ≡ routines_size p.routines
