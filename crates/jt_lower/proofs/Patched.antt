@@ -1,5 +1,5 @@
 -- Instructions put behind others, and jumps that are written when their target is known.
-use Rattle.std.proofs.Common.{◌≡◌, ℕ, ◌+◌, ◌<◌, ◌≤◌, ◌^◌, List, [], ◌∷◌, ◌++◌, length, map, refl, sym, ap, ◌∙◌, subst, arith, None, append_assoc, append-nil, length-append}
+use Rattle.std.proofs.Common.{◌≡◌, ℕ, ◌+◌, ◌<◌, ◌≤◌, ◌^◌, List, [], ◌∷◌, ◌++◌, length, map, refl, sym, ap, ◌∙◌, subst, arith, Option, None, append_assoc, append-nil, length-append}
 use Rattle.std.specs.Prelude.{slice_set}
 use Rattle.std.specs.List.{AllByRecursion}
 use Rattle.std.proofs.Math.Seq.{set-append_seam}
@@ -9,7 +9,8 @@ use Rattle.jt_image.specs.declared.instruction.Instruction.TheVariants as op
 use Rattle.jt_image.specs.declared.wire.Instr.{Instr}
 use Rattle.jt_image.specs.Spelling.{wire_of}
 use Rattle.jt_image.specs.IsCode.{IsInstruction}
-use Rattle.jt_lower.specs.Asm.{Asm, nil, one, both, choose, when, each, flat}
+use Rattle.jt_slots.specs.Got.{Place}
+use Rattle.jt_lower.specs.Asm.{Asm, nil, one, both, choose, when, each, invoke, flat}
 use Rattle.jt_lower.specs.Emission.{Emitted, HasPlace, Puts, Reserves, Patches, Ends, EndsTurns}
 use Rattle.jt_lower.specs.declared.emitter.Emitter.{Emitter}
 
@@ -265,3 +266,7 @@ puts_turns c1 c2 c3 new a top begins pa ends =
           let h3 : HasPlace (length c3.code.items) (alone (op.Jump top)) = record { len = omega (arith, h.len, l3, length-append ca (op.Jump p ∷ [])); fields = (omega (arith, back, begins.at), tt) } in
           ends.patches.place (subst (λ m. m < 2 ^ 32) (sym l4) h.fields.0) (ends.goes.place h3 (pa.place h1 (begins.same ∙ k)));
     }
+
+-- a call is its instruction
+pub puts_call : (c d : Emitter) (o : Option Place) (u : ℕ) → Puts c (one o (op.Call u)) d → Puts c (invoke o u) d
+puts_call c d o u p = record { len = p.len; kept = p.kept; emitted = p.emitted; place = λ h k. p.place (record { len = h.len; fields = h.fields }) k }

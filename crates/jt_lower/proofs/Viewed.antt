@@ -1,12 +1,14 @@
 -- The forms of expressions that hold others, as contracts see them.
-use Rattle.std.proofs.Common.{◌≡◌, ℕ, ◌+◌, ◌<◌, ◌≤◌, List, [], ◌∷◌, length, drop, get_or, Option, Some, None, refl, sym, ap, ◌∙◌, suc, Bool, Vec, Box, Global}
-use Rattle.std.proofs.lemmas.List.{map, drop_more, at_drop_all}
+use Rattle.std.proofs.Common.{◌≡◌, ℕ, ◌+◌, ◌<◌, ◌≤◌, List, [], ◌∷◌, length, drop, get_or, map, Option, Some, None, refl, sym, ap, ◌∙◌, suc, Bool, rules, Vec, Box, Global}
+use Rattle.std.proofs.lemmas.List.{drop_more}
 use Rattle.jt_slots.specs.Slots as slots
 use Rattle.jt_slots.specs.Slots.{SRow, none}
 use Rattle.jt_slots.specs.Size.{row_count}
-use Rattle.jt_slots.specs.View.{maker_view, entry_front, row_front, expr_step, expr_view, row_view}
+use Rattle.jt_slots.specs.View.{slot_view, field_view, maker_view, entry_front, row_front, expr_step, expr_view, row_view}
+use Rattle.jt_slots.specs.declared.program.Slot.{Slot}
+use Rattle.jt_slots.specs.declared.program.Field.{Field}
 use Rattle.jt_slots.specs.declared.program.Maker.{Maker}
-use Rattle.jt_slots.specs.declared.program.SExpr.{SExpr, fold-roll-SExpr}
+use Rattle.jt_slots.specs.declared.program.SExpr.{SExpr, the_lemmas, fold-roll-SExpr}
 use Rattle.jt_slots.specs.declared.program.SExpr.TheOpen.{SExpr-F}
 use Rattle.jt_slots.specs.declared.program.SExpr.TheVariants as e
 use Rattle.jt_slots.specs.declared.program.SExpr.TheVariants.{rolls-Made, rolls-Conjunction, rolls-Disjunction, rolls-Choice, rolls-Invoke}
@@ -23,6 +25,15 @@ row_map g p q [] behind = refl
 row_map g p q (b ∷ bs) behind =
     let rest = row_front (map g bs) behind in
     ap (λ (k : Option ℕ). entry_front k (g b).1 rest) (p b) ∙ ap (λ (x : slots.SExpr ℕ). entry_front b.0 x rest) (q b) ∙ ap (λ (r : SRow ℕ). entry_front b.0 (expr_view b.1) r) (row_map g p q bs behind)
+
+pub view_Pooled : (i : ℕ) → expr_view (e.Pooled i) ≡ slots.pooled i
+view_Pooled i = search (rules, the_lemmas)
+
+pub view_Variable : (s : Slot) → expr_view (e.Variable s) ≡ slots.variable (slot_view s)
+view_Variable s = search (rules, the_lemmas)
+
+pub view_Field : (f : Field) → expr_view (e.Field f) ≡ slots.field (field_view f)
+view_Field f = search (rules, the_lemmas)
 
 pub view_Made : (k : Maker) (es : Vec Entry Global) → expr_view (e.Made k es) ≡ slots.made (maker_view k) (row_view es.items none)
 view_Made k es =
@@ -55,6 +66,12 @@ pub seen_choice : (s : SExpr) (c a b : Box SExpr Global) (w x y : SExpr) → s �
 seen_choice s c a b w x y is o p q =
     ap expr_view is ∙ view_Choice c a b ∙ ap (λ z. slots.choice (expr_view z) (expr_view a.value) (expr_view b.value)) (sym o)
     ∙ ap (λ z. slots.choice (expr_view w) (expr_view z) (expr_view b.value)) (sym p) ∙ ap (λ z. slots.choice (expr_view w) (expr_view x) (expr_view z)) (sym q)
+
+pub seen_made : (s : SExpr) (k : Maker) (es : Vec Entry Global) (ds : List Entry) → s ≡ e.Made k es → ds ≡ es.items → expr_view s ≡ slots.made (maker_view k) (row_view ds none)
+seen_made s k es ds is same = ap expr_view is ∙ view_Made k es ∙ ap (λ (l : List Entry). slots.made (maker_view k) (row_view l none)) (sym same)
+
+pub seen_invoke : (s : SExpr) (u : ℕ) (escaping : Bool) (es : Vec Entry Global) (ds : List Entry) → s ≡ e.Invoke u escaping es → ds ≡ es.items → expr_view s ≡ slots.invoke u escaping (row_view ds none)
+seen_invoke s u escaping es ds is same = ap expr_view is ∙ view_Invoke u escaping es ∙ ap (λ (l : List Entry). slots.invoke u escaping (row_view l none)) (sym same)
 
 -- ---- rows
 
