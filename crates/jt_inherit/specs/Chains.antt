@@ -1,5 +1,5 @@
 -- Which chains an entry begins in a library.
-use Rattle.std.specs.Prelude.{◌≡◌, ◌<◌, ◌≤◌, ◌×◌, ◌⊎◌, Bool, true, false, ℕ, List, ◌∷◌, [], Option, Some, None, length, map, chars, IsTrue}
+use Rattle.std.specs.Prelude.{◌≡◌, ◌<◌, ◌≤◌, ◌⊎◌, Bool, true, false, ℕ, List, ◌∷◌, [], Option, Some, None, length, map, chars, IsTrue}
 use Rattle.std.specs.List.{AllByRecursion}
 use Rattle.jt_scan.specs.Cut.{Segment, IsCut}
 use Rattle.jt_scan.specs.LineEnds.{normalized}

@@ -1,5 +1,6 @@
 -- The chains that a chain includes, and the order of chains.
 use Rattle.std.specs.Prelude.{Bool, true, not, ◌||◌, IsTrue, if◌then◌else◌, List, [], ◌∷◌, ◌++◌, flat_map, filter}
+use Rattle.std.specs.Coded.{×_prop, Unit-prop, Coded-set, coded_bool}
 use Rattle.std.specs.Option.{is_some}
 use Rattle.jt_parse.specs.Texts.{among}
 use Rattle.jt_parse.specs.Trees.{Text, Stmt, choose, for_each, set_block, with_values, filter_block, autoescape, macro, include, block, Body, end, stmt, Branches, no_branches, branch}
@@ -39,6 +40,14 @@ abbrev pub AllIn : List Home → List Home → Type 0
 AllIn [] hs = Unit {0}
 AllIn (m ∷ ms) hs = IsTrue (among m hs) × AllIn ms hs
 
+pub AllIn-prop : (ms hs : List Home) → IsProp (AllIn ms hs)
+AllIn-prop [] hs = Unit-prop
+AllIn-prop (m ∷ ms) hs = ×_prop (Coded-set coded_bool (among m hs) true) (AllIn-prop ms hs)
+
 abbrev pub InOrder : Sources → List Home → Type 0
 InOrder sources [] = Unit {0}
-InOrder sources (h ∷ hs) = IsTrue (not (among h hs)) × AllIn (included sources h) hs × InOrder sources hs
+InOrder sources (h ∷ hs) = IsTrue (not (among h hs)) × (AllIn (included sources h) hs × InOrder sources hs)
+
+pub InOrder-prop : (sources : Sources) (hs : List Home) → IsProp (InOrder sources hs)
+InOrder-prop sources [] = Unit-prop
+InOrder-prop sources (h ∷ hs) = ×_prop (Coded-set coded_bool (not (among h hs)) true) (×_prop (AllIn-prop (included sources h) hs) (InOrder-prop sources hs))

@@ -1,11 +1,10 @@
 -- What contracts see of the parts of a chain, and not where they lie in memory; and what each chain keeps.
-use Rattle.std.specs.Prelude.{◌≡◌, ℕ, ◌<◌, false, List, length, map, Some, slice_get, string_bytes}
-use Rattle.std.specs.List.{AllByRecursion}
+use Rattle.std.specs.Prelude.{◌≡◌, ℕ, ◌<◌, false, List, [], ◌∷◌, length, map, Option, Some, option_map, slice_get, string_bytes, ⊤}
+use Rattle.std.specs.Coded.{×_prop, Unit-prop, Coded-set, coded_ℕ, coded_list, coded_option, coded_bool}
 use Rattle.jt_parse.specs.Texts.{repeated}
 use Rattle.jt_parse.specs.Trees.{Text}
 use Rattle.jt_parse.specs.View.{body_of}
 use Rattle.jt_inherit.specs.Chain.{Template, templates, sources_in}
-use Rattle.jt_inherit.specs.Includes.{InOrder}
 use Rattle.jt_inherit.specs.declared.linked.Page.{Page}
 use Rattle.jt_inherit.specs.declared.linked.Home.{Home}
 
@@ -18,9 +17,16 @@ pages_view = map page_view
 abbrev pub home_name : Home → Text
 home_name h = string_bytes h.name
 
--- No two templates have one name. The chains are in order, the entry's first, and each has the templates from its entry to the root.
-pub record IsWhole (ts : List Template) (homes : List Home) : Type 0 where
-  pub once : repeated (map (λ t. t.name) ts) ≡ false
-  pub some : 0 < length homes
-  pub order : InOrder (sources_in ts) (map home_name homes)
-  pub each : AllByRecursion (λ h. map (slice_get ts) h.templates.items ≡ map Some (templates (sources_in ts) (home_name h))) homes
+-- the names of the templates at these places
+abbrev pub names_at : List Template → List ℕ → List (Option Text)
+names_at ts is = map (λ i. option_map (λ t. t.name) (slice_get ts i)) is
+
+-- each chain has the templates from its entry to the root
+abbrev pub AreWhole : List Template → List Home → Type 0
+AreWhole ts [] = ⊤
+AreWhole ts (h ∷ hs) = (names_at ts h.templates.items ≡ map (λ t. Some t.name) (templates (sources_in ts) (home_name h))) × AreWhole ts hs
+
+pub AreWhole-prop : (ts : List Template) (hs : List Home) → IsProp (AreWhole ts hs)
+AreWhole-prop ts [] = Unit-prop
+AreWhole-prop ts (h ∷ hs) =
+    ×_prop (Coded-set (coded_list (coded_option (coded_list coded_ℕ))) (names_at ts h.templates.items) (map (λ t. Some t.name) (templates (sources_in ts) (home_name h)))) (AreWhole-prop ts hs)

@@ -1,6 +1,6 @@
 -- What a refusal says of a library and an entry. What has been read shows the broken rule: templates that are not read count as names
 -- without a source, which breaks no rule but the one that a source is missing.
-use Rattle.std.specs.Prelude.{◌≡◌, ◌≢◌, ◌<◌, ◌×◌, true, false, IsTrue, List, Some, None, length, map, string_bytes}
+use Rattle.std.specs.Prelude.{◌≡◌, ◌≢◌, ◌<◌, true, false, IsTrue, List, Some, None, length, map, string_bytes}
 use Rattle.jt_scan.specs.Cut.{Segment, IsCut}
 use Rattle.jt_scan.specs.Refused as scanner
 use Rattle.jt_scan.specs.declared.error.ScanError.{ScanError}

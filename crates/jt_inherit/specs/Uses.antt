@@ -94,32 +94,32 @@ abbrev mutual
   set_under no_branches = []
   set_under (branch line c body rest) = set_in body ++ set_under rest
 
--- ---- the names that scopes bind: targets of loops, values of `with`, and what is set in a scope
+-- ---- the names that scopes bind: targets of loops, parameters, values of `with`, and what is set in a scope
 
 abbrev mutual
-  pub scoped_by : Stmt → List Text
-  scoped_by (choose bs other) = scoped_under bs ++ scoped_in other
-  scoped_by (for_each line xs e c body other) = xs ++ (set_in body ++ (scoped_in body ++ scoped_in other))
-  scoped_by (set_block line x body) = (set_in body ++ scoped_in body)
-  scoped_by (with_values line ps body) = keywords ps ++ (set_in body ++ scoped_in body)
-  scoped_by (filter_block line fs body) = (set_in body ++ scoped_in body)
-  scoped_by (autoescape line on body) = (set_in body ++ scoped_in body)
-  scoped_by (block line x scoped required body) = (set_in body ++ scoped_in body)
-  -- no block stands in a macro
-  scoped_by s = []
+  pub scope_names_by : Stmt → List Text
+  scope_names_by (choose bs other) = scope_names_under bs ++ scope_names_in other
+  scope_names_by (for_each line xs e c body other) = xs ++ (set_in body ++ (scope_names_in body ++ scope_names_in other))
+  scope_names_by (set_block line x body) = set_in body ++ scope_names_in body
+  scope_names_by (with_values line ps body) = keywords ps ++ (set_in body ++ scope_names_in body)
+  scope_names_by (filter_block line fs body) = set_in body ++ scope_names_in body
+  scope_names_by (autoescape line on body) = set_in body ++ scope_names_in body
+  scope_names_by (block line x scoped required body) = set_in body ++ scope_names_in body
+  scope_names_by (macro line x ps body) = map (λ p. p.name) ps ++ (set_in body ++ scope_names_in body)
+  scope_names_by s = []
 
-  pub scoped_in : Body → List Text
-  scoped_in end = []
-  scoped_in (stmt s rest) = scoped_by s ++ scoped_in rest
+  pub scope_names_in : Body → List Text
+  scope_names_in end = []
+  scope_names_in (stmt s rest) = scope_names_by s ++ scope_names_in rest
 
-  pub scoped_under : Branches → List Text
-  scoped_under no_branches = []
-  scoped_under (branch line c body rest) = scoped_in body ++ scoped_under rest
+  pub scope_names_under : Branches → List Text
+  scope_names_under no_branches = []
+  scope_names_under (branch line c body rest) = scope_names_in body ++ scope_names_under rest
 
 -- the names of a chain's templates
 abbrev pub own_names : Sources → Home → List Text
 own_names sources h = flat_map (λ t. body_names t.body) (templates sources h)
 
 -- the names that the scopes of a chain bind
-abbrev pub chain_scope_names : Sources → Home → List Text
-chain_scope_names sources h = ascending (flat_map (λ t. scoped_in t.body) (templates sources h))
+abbrev pub scope_names : Sources → Home → List Text
+scope_names sources h = ascending (flat_map (λ t. scope_names_in t.body) (templates sources h))

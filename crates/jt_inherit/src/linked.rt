@@ -1,6 +1,10 @@
 //! A chain of templates, with those that its includes reach.
 
-ghost use Rattle.jt_inherit.specs.Pages.{IsWhole, pages_view};
+ghost use Rattle.std.specs.Prelude.{◌≡◌, ◌<◌, false, length, map};
+ghost use Rattle.jt_inherit.specs.Chain.{sources_in};
+ghost use Rattle.jt_inherit.specs.Includes.{InOrder, InOrder-prop};
+ghost use Rattle.jt_inherit.specs.Pages.{AreWhole, AreWhole-prop, pages_view, home_name};
+ghost use Rattle.jt_parse.specs.Texts.{repeated};
 
 use jt_parse::Template;
 
@@ -28,5 +32,8 @@ pub struct Chain {
     pub homes: Vec<Home>,
     /// Whether a text begins escaped.
     pub autoescape: bool,
-    pub ghost whole: { IsWhole (pages_view templates.items) homes.items },
+    pub ghost once: { repeated (map (λ t. t.name) (pages_view templates.items)) ≡ false },
+    pub ghost some: { 0 < length homes.items },
+    pub ghost order: { InOrder (sources_in (pages_view templates.items)) (map home_name homes.items) } by { InOrder-prop (sources_in (pages_view templates.items)) (map home_name homes.items) },
+    pub ghost whole: { AreWhole (pages_view templates.items) homes.items } by { AreWhole-prop (pages_view templates.items) homes.items },
 }

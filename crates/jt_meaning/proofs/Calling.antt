@@ -35,11 +35,11 @@ module _ (world : World) (order : List Home) where
   abbrev pub Known : Home → Type 0
   Known h = IsTrue (among h order)
 
-  -- what a block's body is given: the arguments for its parameters, the globals, and no other names where it has no parameters
+  -- what a block's body is given: the arguments for its parameters, and the globals, which all other names of the chain read
   pub record Sees (h : Home) (x : Text) (env : Env) (vs gs : List Tree) : Type 0 where
     pub arguments : vs ≡ map (read env) (block_parameters world order h x)
     pub globals : GlobalsAgree world order h env.globals gs
-    pub unscoped : is_scoped world h x ≡ false → (y : Text) → Among y (names world order h) → (i : ℕ) → slot_in y (Rattle.jt_meaning.specs.Layout.globals world order h) ≡ Some (global i) → read env y ≡ tree_at gs i
+    pub others : (y : Text) → Among y (names world order h) → (Among y (block_parameters world order h x) → ⊥) → (i : ℕ) → slot_in y (Rattle.jt_meaning.specs.Layout.globals world order h) ≡ Some (global i) → read env y ≡ tree_at gs i
 
   -- these bodies are the last ones of the block's
   abbrev pub Tail : Home → Text → List (ℕ × BlockBody) → Type 0
@@ -66,7 +66,7 @@ module _ (world : World) (order : List Home) where
   sees_kept {h = h} {env = env} u s = record {
     arguments = s.arguments;
     globals = globals_kept h env.globals u s.globals;
-    unscoped = λ f y i j e. s.unscoped f y i j e ∙ sym (u.globals j (global_slot (first_slot world order h) (names world order h) y j e).1);
+    others = λ y i n j e. s.others y i n j e ∙ sym (u.globals j (global_slot (first_slot world order h) (names world order h) y j e).1);
   }
 
   pub part_kept : (h : Home) (p : Option Part) (q : Option Placement) (k : ℕ) (m n : Memory) → Kept k (limit world order h) m n → PartHolds h p q k m → PartHolds h p q k n

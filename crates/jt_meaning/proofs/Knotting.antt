@@ -27,9 +27,11 @@ use Rattle.jt_meaning.proofs.Both.{Both, both, deep, bind_both, weaken, by_right
 use Rattle.jt_meaning.proofs.Reading.{same_text, is_same, no_both, among_front, among_back, IsInner, held}
 use Rattle.jt_meaning.proofs.Agreeing.{Kept, kept_same, kept_then, Held, global_slot, global_given, globals_apart, limit, Fits, GlobalsAgree, fits_all}
 use Rattle.jt_meaning.proofs.Calling.{Sees, Tail, Good, around_of, Wrote, CallsMean, DefaultsAt, DefaultsLaid, Included}
-use Rattle.jt_meaning.proofs.Stating.{set_among, in_among, Each, each_front, each_back, scoped_by, scoped_in, followed_same, Owns, of_top, of_scope, Here, scope_both, good_bound, inside_inner, stmt_same, body_same}
+use Rattle.jt_meaning.proofs.Stating.{set_among, in_among, Each, each_front, each_back, scoped_by, scoped_in, Proper, followed_same, Owns, of_top, of_scope, Here, scope_both, good_bound, inside_inner, stmt_same, body_same}
 use Rattle.jt_meaning.proofs.Finding.{chain_is, macro_is, body_is}
-use Rattle.jt_meaning.proofs.Ordering.{Every, Belongs, templates_belong, macro_belongs, body_belongs}
+use Rattle.jt_inherit.specs.Uses.{scope_names}
+use Rattle.jt_meaning.proofs.Scopes.{among_or_not}
+use Rattle.jt_meaning.proofs.Ordering.{Every, Belongs, templates_belong, scopes_known, macro_belongs, body_belongs}
 use Rattle.jt_meaning.proofs.Among.{Among, AllAmong}
 
 -- ---- locals at the start of a routine
@@ -131,17 +133,19 @@ module _ (world : World) (order : List Home) where
   abbrev lim : Home → ℕ
   lim h = limit world order h
 
-  fits_top : (h : Home) → Fits world order h (globals world order h) 0
-  fits_top h = record {
+  fits_top : (h : Home) → AllAmong (scope_names world.sources h) (names world order h) → Fits world order h (globals world order h) 0
+  fits_top h few = record {
     slotted = λ x i. let s = global_given (first_slot world order h) (names world order h) x i in (global s.0, s.1, (global_slot (first_slot world order h) (names world order h) x s.0 s.1).1);
     apart = λ x y s i j e f. globals_apart (first_slot world order h) (names world order h) x y s e f;
+    outer = λ x n. refl;
+    few = few;
   }
 
   -- at the top of a template of the chain
-  good_top : (h : Home) (t : Text) (gs : Pairs) (m : Memory) → among h order ≡ true → GlobalsAgree world order h gs m.globals → Good world order (top_spot world order h t) None (top gs) m
-  good_top h t gs m e a = record {
+  good_top : (h : Home) (t : Text) (gs : Pairs) (m : Memory) → among h order ≡ true → AllAmong (scope_names world.sources h) (names world order h) → GlobalsAgree world order h gs m.globals → Good world order (top_spot world order h t) None (top gs) m
+  good_top h t gs m e few a = record {
     known = e;
-    fits = fits_top h;
+    fits = fits_top h few;
     agrees = record {
       names = λ x i. let s = global_given (first_slot world order h) (names world order h) x i in a x i s.0 s.1 ∙ sym (ap (λ o. held o m) s.1);
       globals = a;
@@ -174,13 +178,13 @@ module _ (world : World) (order : List Home) where
 
   -- the text of a routine's body
   routine_both : (n : ℕ) (calls : Calls) (scall : SCalls) (mean : CallsMean world order calls scall) (ordered : InOrder world.sources order) (h : Home) (e : among h order ≡ true) (body : Body) (sp : Spot) (q : Option Placement) (env : Env) (m : Memory)
-      → sp.home ≡ h → Good world order sp q env m → IsInner env → m.out ≡ [] → AllAmong (body_names body) (names world order sp.home) → Each (Included world order sp.home) (needs_in true body) → Each (λ x. is_scoped world sp.home x ≡ true) (scoped_in body)
+      → sp.home ≡ h → Good world order sp q env m → IsInner env → m.out ≡ [] → AllAmong (body_names body) (names world order sp.home) → Each (Included world order sp.home) (needs_in true body) → Each (Proper world sp.home) (scoped_in body) → AllAmong (set_in body) (scope_names world.sources sp.home)
       → Both (Wrote world order (limit world order sp.home) m.globals)
       (bind (meanings world calls body (around_of world order sp None q) (record { env = env; out = [] })) (λ st. gives st.out))
       (bind (smeanings world.filters (constant_in (pool world order)) scall (scoped (set_in body) sp (resolved_body world order body)) None m) (λ z. gives (record { text = z.out; globals = z.globals })))
-  routine_both n calls scall mean ordered h e body sp q env m is_h good inner out names_in includes scopes =
-      bind_both (scope_both world order calls scall mean defaults_laid body sp None q env [] m good inner out names_in
-      (λ b g S st o here own. body_same world order calls scall mean defaults_laid body (bound_all (set_in body) sp) None q b g S st o here names_in own includes scopes))
+  routine_both n calls scall mean ordered h e body sp q env m is_h good inner out names_in includes scopes own =
+      bind_both (scope_both world order calls scall mean defaults_laid body sp None q env [] m good inner out names_in own
+      (λ b g S st o here sets. body_same world order calls scall mean defaults_laid body (bound_all (set_in body) sp) None q b g S st o here names_in sets includes scopes))
       (λ st o left. both (record { text = left.out; globals = left.kept.globals }))
 
   module _ (ordered : InOrder world.sources order) where
@@ -204,8 +208,8 @@ module _ (world : World) (order : List Home) where
           let bel = macro_belongs world order ordered h e x b m in
           by_right (ap (λ o. sperformed world.filters cs scall o vs ts) (macro_is world order h x b e m))
           (routine_both 0 calls scall mean ordered h e b.body (bound_all pn sp) None (inside ps (top gs)) start_memory refl
-          (good_bound world order calls scall mean defaults_laid sp None ps pn nm (good_top h b.template gs start_memory e ga) (kept_same 0 (lim h) start_memory) (held_locals r.locals vs 0 (map (λ p. p.1) ps) fit hv))
-          (inside_inner world order calls scall mean defaults_laid (top gs) ps) refl bel.names bel.included bel.scoped)
+          (good_bound world order calls scall mean defaults_laid sp None ps pn nm bel.parameters (good_top h b.template gs start_memory e (scopes_known world order ordered h e) ga) (kept_same 0 (lim h) start_memory) (held_locals r.locals vs 0 (map (λ p. p.1) ps) fit hv))
+          (inside_inner world order calls scall mean defaults_laid (top gs) ps) refl bel.body.belongs.names bel.body.belongs.included bel.body.belongs.scoped bel.body.own)
 
       block_knot : (h : Home) → among h order ≡ true → (x : Text) (i : ℕ) (c : BlockBody) (behind : List (ℕ × BlockBody)) → Tail world order h x ((i, c) ∷ behind) → (env : Env) (vs ts : List Tree) → Sees world order h x env vs ts
           → Both (Wrote world order (lim h) ts) (performed world calls (the_block h c (map (λ d. d.1) behind) env)) (sperformed world.filters cs scall (slice_get rs (unit world order (of_body h i))) vs ts)
@@ -226,9 +230,9 @@ module _ (world : World) (order : List Home) where
           let bel = body_belongs world order ordered h e i c found.2.0 found.2.1 found.2.2 in
           let good : Good world order (bound_all ps sp) (Some q) (inside [] env) start_memory = record {
             known = e;
-            fits = fits_all world order ps 0 (globals world order h) (fits_top h);
+            fits = fits_all world order ps 0 (globals world order h) (of_scopes (is_scoped world h c.name)) (fits_top h (scopes_known world order ordered h e));
             agrees = record {
-              names = λ y j. params_agree env start_memory ps 0 (globals world order h) params y (which seen start_memory refl y j (is_scoped world h c.name) refl);
+              names = λ y j. params_agree env start_memory ps 0 (globals world order h) params y (which seen start_memory refl y j (among_or_not y ps));
               globals = seen.globals;
             };
             part = record {
@@ -236,22 +240,34 @@ module _ (world : World) (order : List Home) where
               tail = subst (λ z. Tail world order h z behind) (sym found.1) (tail.0 ++ ((i, c) ∷ []), tail.1 ∙ sym (append_assoc tail.0 ((i, c) ∷ []) behind));
               room = let f : length (map (read env) ps) ≤ 0 + length ps = omega (arith, count) in f;
               parameters = params;
-              sees = record { arguments = refl; globals = seen.globals; unscoped = seen.unscoped };
+              sees = record { arguments = refl; globals = seen.globals; others = seen.others };
             };
           } in
           by_right (ap (λ o. sperformed world.filters cs scall o vs ts) found.0)
-          (routine_both 0 calls scall mean ordered h e c.body (bound_all ps sp) (Some q) (inside [] env) start_memory refl good (inside_inner world order calls scall mean defaults_laid env []) refl bel.names bel.included bel.scoped)
+          (routine_both 0 calls scall mean ordered h e c.body (bound_all ps sp) (Some q) (inside [] env) start_memory refl good (inside_inner world order calls scall mean defaults_laid env []) refl bel.belongs.names bel.belongs.included bel.belongs.scoped bel.own)
         where
           append_empty : (us : List Tree) → us ++ [] ≡ us
           append_empty [] = refl
           append_empty (u ∷ us) = ap (λ zs. u ∷ zs) (append_empty us)
 
-          which : Sees world order h c.name env vs ts → (m : Memory) → m.globals ≡ ts → (y : Text) → Among y (names world order h) → (b : Bool) → is_scoped world h c.name ≡ b
+          all_of : (xs : List Text) → AllAmong xs xs
+          all_of xs = every xs xs (λ y i. i)
+            where
+              every : (ys zs : List Text) → ((y : Text) → Among y ys → Among y zs) → AllAmong ys zs
+              every [] zs f = tt
+              every (y ∷ ys) zs f = (f y (inl refl), every ys zs (λ z i. f z (inr i)))
+
+          of_scopes : (b : Bool) → AllAmong (if b then scope_names world.sources h else []) (scope_names world.sources h)
+          of_scopes true = all_of (scope_names world.sources h)
+          of_scopes false = tt
+
+          which : Sees world order h c.name env vs ts → (m : Memory) → m.globals ≡ ts → (y : Text) → Among y (names world order h)
+              → Among y (block_parameters world order h c.name) ⊎ (Among y (block_parameters world order h c.name) → ⊥)
               → Among y (block_parameters world order h c.name) ⊎ (read env y ≡ held (slot_in y (globals world order h)) m)
-          which seen m g y j true f = inl (subst (λ zs. Among y zs) (sym (ap (λ b. if b then names world order h else []) f)) j)
-          which seen m g y j false f =
+          which seen m g y j (inl i) = inl i
+          which seen m g y j (inr n) =
               let s = global_given (first_slot world order h) (names world order h) y j in
-              inr (seen.unscoped f y j s.0 s.1 ∙ ap (λ zs. tree_at zs s.0) (sym g) ∙ sym (ap (λ o. held o m) s.1))
+              inr (seen.others y j n s.0 s.1 ∙ ap (λ zs. tree_at zs s.0) (sym g) ∙ sym (ap (λ o. held o m) s.1))
 
       -- ---- a chain from its first template on
 
@@ -272,14 +288,14 @@ module _ (world : World) (order : List Home) where
           turned (of_top r t l e p) = of_top r t l e p
           turned (of_scope r l i s f) = of_scope r l i s f
 
-      sets_same : (h : Home) (t : Template) (c : Body) (st : State) (m : Memory) → at_top h t st m → AllAmong (body_names c) (names world order h) → Each (Included world order h) (needs_in true c) → Each (λ x. is_scoped world h x ≡ true) (scoped_in c)
+      sets_same : (h : Home) (t : Template) (c : Body) (st : State) (m : Memory) → at_top h t st m → AllAmong (body_names c) (names world order h) → Each (Included world order h) (needs_in true c) → Each (Proper world h) (scoped_in c)
           → Both (λ st' n. at_top h t st' n × Kept 0 (first_slot world order h) m n) (sets world calls c (around_of world order (top_spot world order h t.name) None None) st)
           (smeanings world.filters cs scall (resolved_sets world order c (top_spot world order h t.name)) None m)
       unfolding at_top
       sets_same h t end st m here i n d = both (here, kept_same 0 (first_slot world order h) m)
       sets_same h t (stmt s rest) st m here i n d =
           through (is_set s) (λ st' m' here'. sets_same h t rest st' m' here' (among_back (stmt_names s) (body_names rest) (names world order h) i) (each_back (Included world order h) (needs_by true s) (needs_in true rest) n)
-          (each_back (λ x. is_scoped world h x ≡ true) (scoped_by s) (scoped_in rest) d))
+          (each_back (Proper world h) (scoped_by s) (scoped_in rest) d))
         where
           sp : Spot
           sp = top_spot world order h t.name
@@ -295,7 +311,7 @@ module _ (world : World) (order : List Home) where
               by_right (followed_same world order calls scall mean defaults_laid (resolved_stmt world order s (top_spot world order h t.name)) (resolved_sets world order rest (top_spot world order h t.name)) None m)
               (bind_both (stmt_same world order calls scall mean defaults_laid s (top_spot world order h t.name) None None 0 (first_slot world order h) (names world order h) st m here (among_front (stmt_names s) (body_names rest) (names world order h) i)
               (set_among s (names world order h) (among_front (stmt_names s) (body_names rest) (names world order h) i)) (each_front (Included world order h) (needs_by true s) (needs_in true rest) n)
-              (each_front (λ x. is_scoped world h x ≡ true) (scoped_by s) (scoped_in rest) d)) (λ st' m' a. weaken (λ st'' n' y. (y.0, kept_then a.kept y.1)) (f st' m' a.here)))
+              (each_front (Proper world h) (scoped_by s) (scoped_in rest) d)) (λ st' m' a. weaken (λ st'' n' y. (y.0, kept_then a.kept y.1)) (f st' m' a.here)))
 
       chain_same : (h : Home) (e : among h order ≡ true) (ts : List Template) (t : Template) (st : State) (m : Memory) → at_top h t st m → Every (λ u. Belongs world order ordered h e u.body) ts
           → Both (λ st' n. (n.out ≡ st'.out) × Kept 0 (first_slot world order h) m n) (rendered world calls h ts st) (smeanings world.filters cs scall (resolved_chain world order h ts) None m)
@@ -319,7 +335,7 @@ module _ (world : World) (order : List Home) where
           let start_memory : Memory = record { locals = with_locals r.locals []; globals = ts; out = [] } in
           let t : Template = record { name = h; body = end } in
           let here : at_top h t (record { env = top gs; out = [] }) start_memory = record {
-            good = good_top h h gs start_memory e ga;
+            good = good_top h h gs start_memory e (scopes_known world order ordered h e) ga;
             owns = of_top (let f : 0 ≤ 0 = omega arith in f) refl (let f : first_slot world order h ≤ first_slot world order h = omega arith in f) refl refl;
             out = refl;
           } in

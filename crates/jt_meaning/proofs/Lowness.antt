@@ -29,7 +29,9 @@ use Rattle.jt_slots.specs.Slots.{Slot, local, SExpr, SRow, Targets, one, several
 use Rattle.jt_slots.specs.Pool.{Constant, own, known}
 use Rattle.jt_meaning.specs.Resolve.{value_or, read_from, turned_round, tested_by, filtered_by, in_form, field_from, followed, locals_from, fresh, fresh_targets, kept_slots, set_targets, filled, filled_some, first_locals, reads, handed_on, Part, Spot, place, grown, bound_all, copied, scoped, next_given, first_body, invoked_body, invoked_super, invoked, resolved, resolved_row, resolved_asides, resolved_entries, resolved_condition, resolved_filters, resolved_values, placed_body, resolved_stmt, resolved_body, resolved_choice}
 use Rattle.jt_slots.specs.Size.{targets_height, expr_height, row_height, condition_height, stmt_height, body_height}
-use Rattle.jt_meaning.specs.Measure.{stmt_own, body_own, branch_own, HasAtMost}
+use Rattle.jt_meaning.specs.Measure.{HasAtMost}
+use Rattle.jt_parse.specs.Trees.{stmt_bound, body_bound, branch_bound}
+use Rattle.jt_meaning.proofs.Free.{stmt_free, body_free, branch_free}
 
 use Rattle.jt_meaning.proofs.Sizing.{expr_some, operator_some, is_some_weight, kept_len, fresh_len}
 
@@ -291,9 +293,9 @@ module _ (world : World) (order : List Home) (q : ℕ) where
       filter_row f.arguments f.keywords (resolved_row world order f.arguments sp) (resolved_asides world order f.keywords sp) rest (λ b z. row_low f.arguments sp k b z) (λ b. asides_low f.keywords sp k b)
       (few_low (filter_parameters world.filters i) (count f.arguments) (keywords f.keywords) (locals_from sp.free (keywords f.keywords)) (filter_few i k.filters)))
 
-  values_low : (ps : Pairs) (sp : Spot) (line : ℕ) (b : SBody Constant) → HasAtMost world order q sp.home → 2 * body_height (resolved_values world order ps sp line b) ≤ max (pairs_weight 2 ps + 2 * q) (2 * body_height b)
+  values_low : (ps : Pairs) (sp : Spot) (line : ℕ) (b : SBody Constant) → HasAtMost world order q sp.home → 2 * body_height (resolved_values world order ps sp line b) ≤ max (pairs_weight 0 ps + 2 * q) (2 * body_height b)
   values_low no_pairs sp line b k = omega arith
-  values_low (pair x e ps) sp line b k = omega (arith, resolved_low e sp k, values_low ps (grown sp) line b k)
+  values_low (pair x e ps) sp line b k = omega (arith, expr_some e, resolved_low e sp k, values_low ps (grown sp) line b k)
 
   placed_low : (sp : Spot) (i : Option ℕ) (x : Text) (t : Table) → length (block_parameters world order sp.home x) ≤ q → body_height (placed_body world order sp i x t) ≤ q
   placed_low sp None x t k = omega arith
@@ -308,38 +310,38 @@ module _ (world : World) (order : List Home) (q : ℕ) where
       omega (arith, followed_low hs (slots.stmt (run (unit world order (of_chain n)) slots.none) slots.end), handed_low (place sp line) (if c then sp.table else []) (first_slot world order n) xs)
 
   -- a scope of its own, its copies in front
-  pub scope_low : (b : Body) (sp : Spot) → 2 * body_height (resolved_body world order b (bound_all (set_in b) sp)) ≤ body_own b + 2 * q
-      → 2 * body_height (scoped (set_in b) sp (resolved_body world order b)) ≤ max 2 (body_own b + 2 * q)
+  pub scope_low : (b : Body) (sp : Spot) → 2 * body_height (resolved_body world order b (bound_all (set_in b) sp)) ≤ body_free b + 2 * q
+      → 2 * body_height (scoped (set_in b) sp (resolved_body world order b)) ≤ max 2 (body_free b + 2 * q)
   scope_low b sp h = omega (arith, h, copied_low (place sp 1) sp.table sp.free (set_in b) (resolved_body world order b (bound_all (set_in b) sp)))
 
   mutual
-    pub stmt_low : (s : Stmt) (sp : Spot) → HasAtMost world order q sp.home → 2 * body_height (resolved_stmt world order s sp) ≤ stmt_own s + 2 * q
-    stmt_low (data_of t) sp k = omega arith
-    stmt_low (print line e) sp k = omega (arith, resolved_low e sp k)
-    stmt_low (choose bs other) sp k = omega (arith, choice_low bs sp k (resolved_body world order other sp), all_low other sp k)
-    stmt_low (for_each line xs e c body other) sp k =
+    pub stmt_low : (s : Stmt) (sp : Spot) → HasAtMost world order q sp.home → stmt_bound s ≤ q → 2 * body_height (resolved_stmt world order s sp) ≤ stmt_free s + 2 * q
+    stmt_low (data_of t) sp k g = omega arith
+    stmt_low (print line e) sp k g = omega (arith, resolved_low e sp k)
+    stmt_low (choose bs other) sp k g = omega (arith, choice_low bs sp k (omega (arith, g)) (resolved_body world order other sp), all_low other sp k (omega (arith, g)))
+    stmt_low (for_each line xs e c body other) sp k g =
         let inner = bound_all xs sp in
-        omega (arith, fresh_low sp.free xs, resolved_low e sp k, condition_low c inner k, scope_low body inner (all_low body (bound_all (set_in body) inner) k), all_low other sp k)
-    stmt_low (set line xs e) sp k = omega (arith, set_low sp.table xs, resolved_low e sp k)
-    stmt_low (set_block line x body) sp k = omega (arith, scope_low body sp (all_low body (bound_all (set_in body) sp) k))
-    stmt_low (with_values line ps body) sp k =
+        omega (arith, g, fresh_low sp.free xs, resolved_low e sp k, condition_low c inner k, scope_low body inner (all_low body (bound_all (set_in body) inner) k (omega (arith, g))), all_low other sp k (omega (arith, g)))
+    stmt_low (set line xs e) sp k g = omega (arith, g, set_low sp.table xs, resolved_low e sp k)
+    stmt_low (set_block line x body) sp k g = omega (arith, scope_low body sp (all_low body (bound_all (set_in body) sp) k (omega (arith, g))))
+    stmt_low (with_values line ps body) sp k g =
         let inner = bound_all (keywords ps) sp in
-        omega (arith, values_low ps sp line (scoped (set_in body) inner (resolved_body world order body)) k, scope_low body inner (all_low body (bound_all (set_in body) inner) k))
-    stmt_low (filter_block line fs body) sp k =
-        omega (arith, scope_low body (grown sp) (all_low body (bound_all (set_in body) (grown sp)) k), filters_low fs (grown sp) (variable (local sp.free)) k)
-    stmt_low (autoescape line on body) sp k =
+        omega (arith, values_low ps sp line (scoped (set_in body) inner (resolved_body world order body)) k, scope_low body inner (all_low body (bound_all (set_in body) inner) k (omega (arith, g))))
+    stmt_low (filter_block line fs body) sp k g =
+        omega (arith, scope_low body (grown sp) (all_low body (bound_all (set_in body) (grown sp)) k (omega (arith, g))), filters_low fs (grown sp) (variable (local sp.free)) k)
+    stmt_low (autoescape line on body) sp k g =
         let inner = record sp { escaping = on } in
-        omega (arith, scope_low body inner (all_low body (bound_all (set_in body) inner) k))
-    stmt_low (macro line x ps body) sp k = omega arith
-    stmt_low (include line n missing with_context) sp k = omega (arith, include_low sp line n with_context (is_none (world.sources n)))
-    stmt_low (extends line n) sp k = omega arith
-    stmt_low (block line x is required body) sp k =
+        omega (arith, scope_low body inner (all_low body (bound_all (set_in body) inner) k (omega (arith, g))))
+    stmt_low (macro line x ps body) sp k g = omega arith
+    stmt_low (include line n missing with_context) sp k g = omega (arith, include_low sp line n with_context (is_none (world.sources n)))
+    stmt_low (extends line n) sp k g = omega arith
+    stmt_low (block line x is required body) sp k g =
         omega (arith, placed_low sp (first_body (numbered_of world sp.home x)) x (if is then sp.table else globals world order sp.home) (k.blocks x))
 
-    pub all_low : (b : Body) (sp : Spot) → HasAtMost world order q sp.home → 2 * body_height (resolved_body world order b sp) ≤ body_own b + 2 * q
-    all_low end sp k = omega arith
-    all_low (stmt s rest) sp k = omega (arith, stmt_low s sp k, all_low rest sp k, followed_low (resolved_stmt world order s sp) (resolved_body world order rest sp))
+    pub all_low : (b : Body) (sp : Spot) → HasAtMost world order q sp.home → body_bound b ≤ q → 2 * body_height (resolved_body world order b sp) ≤ body_free b + 2 * q
+    all_low end sp k g = omega arith
+    all_low (stmt s rest) sp k g = omega (arith, stmt_low s sp k (omega (arith, g)), all_low rest sp k (omega (arith, g)), followed_low (resolved_stmt world order s sp) (resolved_body world order rest sp))
 
-    choice_low : (bs : Branches) (sp : Spot) → HasAtMost world order q sp.home → (other : SBody Constant) → 2 * body_height (resolved_choice world order bs sp other) ≤ max (branch_own bs + 2 * q) (2 * body_height other)
-    choice_low no_branches sp k other = omega arith
-    choice_low (branch line c body rest) sp k other = omega (arith, resolved_low c sp k, all_low body sp k, choice_low rest sp k other)
+    choice_low : (bs : Branches) (sp : Spot) → HasAtMost world order q sp.home → branch_bound bs ≤ q → (other : SBody Constant) → 2 * body_height (resolved_choice world order bs sp other) ≤ max (branch_free bs + 2 * q) (2 * body_height other)
+    choice_low no_branches sp k g other = omega arith
+    choice_low (branch line c body rest) sp k g other = omega (arith, resolved_low c sp k, all_low body sp k (omega (arith, g)), choice_low rest sp k (omega (arith, g)) other)

@@ -14,7 +14,9 @@ use Rattle.jt_meaning.specs.Layout.{names_in, names, first_in, first_slot, is_sc
 use Rattle.jt_meaning.proofs.Reading.{same_text, same_is, no_both, among_front, among_back, each_among}
 use Rattle.jt_meaning.proofs.Valuing.{counted_are}
 use Rattle.jt_meaning.proofs.Calling.{Hands, Included}
-use Rattle.jt_meaning.proofs.Stating.{Each, each_front, each_back, scoped_by, scoped_in, scoped_under}
+use Rattle.jt_inherit.specs.Uses.{set_in, scope_names_in, scope_names}
+use Rattle.jt_meaning.proofs.Scopes.{names_of, scopes_bound, templates_bind, ascending_among}
+use Rattle.jt_meaning.proofs.Stating.{Each, each_front, each_back, Scoping, a_tag, a_name, named, scoped_by, scoped_in, scoped_under, Proper, names_proper, behind_proper}
 use Rattle.jt_meaning.proofs.Among.{Among, AllAmong, all_ascending}
 
 or_right : (a : Bool) {b : Bool} → b ≡ true → (a || b) ≡ true
@@ -55,11 +57,11 @@ every_back : {A : Type 0} (P : A → Type 0) (xs ys : List A) → Every P (xs ++
 every_back P [] ys a = a
 every_back P (x ∷ xs) ys a = every_back P xs ys a.1
 
-each_append : (P : Text → Type 0) (xs ys : List Text) → Each P xs → Each P ys → Each P (xs ++ ys)
+each_append : {A : Type 0} (P : A → Type 0) (xs ys : List A) → Each P xs → Each P ys → Each P (xs ++ ys)
 each_append P [] ys a b = b
 each_append P (x ∷ xs) ys a b = (a.0, each_append P xs ys a.1 b)
 
-each_map : (P Q : Text → Type 0) (xs : List Text) → ((x : Text) → P x → Q x) → Each P xs → Each Q xs
+each_map : {A : Type 0} (P Q : A → Type 0) (xs : List A) → ((x : A) → P x → Q x) → Each P xs → Each Q xs
 each_map P Q [] f a = tt
 each_map P Q (x ∷ xs) f a = (f x a.0, each_map P Q xs f a.1)
 
@@ -80,60 +82,82 @@ says_right : (bs cs : List BlockBody) (x : Text) → Says cs x → Says (bs ++ c
 says_right [] cs x e = e
 says_right (b ∷ bs) cs x e = or_right (b.scoped && bytes_eq b.name x) (says_right bs cs x e)
 
+-- nothing is said of names
+abbrev Saying : List BlockBody → Scoping → Type 0
+Saying bs (a_tag x) = Says bs x
+Saying bs (a_name x) = Unit {0}
+
+saying_left : (bs cs : List BlockBody) (s : Scoping) → Saying bs s → Saying (bs ++ cs) s
+saying_left bs cs (a_tag x) e = says_left bs cs x e
+saying_left bs cs (a_name x) e = tt
+
+saying_right : (bs cs : List BlockBody) (s : Scoping) → Saying cs s → Saying (bs ++ cs) s
+saying_right bs cs (a_tag x) e = says_right bs cs x e
+saying_right bs cs (a_name x) e = tt
+
+names_said : (bs : List BlockBody) (xs : List Text) (ss : List Scoping) → Each (Saying bs) ss → Each (Saying bs) (named xs ++ ss)
+names_said bs [] ss e = e
+names_said bs (x ∷ xs) ss e = (tt, names_said bs xs ss e)
+
+both_said : (bs cs : List BlockBody) (xs ys : List Scoping) → Each (Saying bs) xs → Each (Saying cs) ys → Each (Saying (bs ++ cs)) (xs ++ ys)
+both_said bs cs xs ys a b = each_append (Saying (bs ++ cs)) xs ys (each_map (Saying bs) (Saying (bs ++ cs)) xs (saying_left bs cs) a) (each_map (Saying cs) (Saying (bs ++ cs)) ys (saying_right bs cs) b)
+
 module _ (t : Text) where
   mutual
-    scoped_stmt : (s : Stmt) (on : Bool) → Each (Says (blocks_of t s on)) (scoped_by s)
+    scoped_stmt : (s : Stmt) (on : Bool) → Each (Saying (blocks_of t s on)) (scoped_by s)
     scoped_stmt (block line x true required body) on = (
       ap (λ b. b || list_any (λ d. d.scoped && bytes_eq d.name x) (blocks_in t body on)) (same_is x),
-      each_map (Says (blocks_in t body on)) (Says (blocks_of t (block line x true required body) on)) (scoped_in body) (λ y e. or_right (bytes_eq x y) e) (scoped_body body on),
+      names_said (blocks_of t (block line x true required body) on) (set_in body) (scoped_in body)
+      (each_map (Saying (blocks_in t body on)) (Saying (blocks_of t (block line x true required body) on)) (scoped_in body) (saying_right (record { template = t; name = x; scoped = true; required = required; escaping = on; body = body } ∷ []) (blocks_in t body on)) (scoped_body body on)),
     )
-    scoped_stmt (block line x false required body) on = each_map (Says (blocks_in t body on)) (Says (blocks_of t (block line x false required body) on)) (scoped_in body) (λ y e. e) (scoped_body body on)
-    scoped_stmt (choose bs other) on = both_parts (blocks_under t bs on) (blocks_in t other on) (scoped_under bs) (scoped_in other) (scoped_branches bs on) (scoped_body other on)
-      where
-        both_parts : (bs cs : List BlockBody) (xs ys : List Text) → Each (Says bs) xs → Each (Says cs) ys → Each (Says (bs ++ cs)) (xs ++ ys)
-        both_parts bs cs xs ys a b = each_append (Says (bs ++ cs)) xs ys (each_map (Says bs) (Says (bs ++ cs)) xs (says_left bs cs) a) (each_map (Says cs) (Says (bs ++ cs)) ys (says_right bs cs) b)
+    scoped_stmt (block line x false required body) on =
+        names_said (blocks_of t (block line x false required body) on) (set_in body) (scoped_in body)
+        (each_map (Saying (blocks_in t body on)) (Saying (blocks_of t (block line x false required body) on)) (scoped_in body) (saying_right (record { template = t; name = x; scoped = false; required = required; escaping = on; body = body } ∷ []) (blocks_in t body on)) (scoped_body body on))
+    scoped_stmt (choose bs other) on = both_said (blocks_under t bs on) (blocks_in t other on) (scoped_under bs) (scoped_in other) (scoped_branches bs on) (scoped_body other on)
     scoped_stmt (for_each line xs e c body other) on =
-        each_append (Says (blocks_in t body on ++ blocks_in t other on)) (scoped_in body) (scoped_in other)
-        (each_map (Says (blocks_in t body on)) (Says (blocks_in t body on ++ blocks_in t other on)) (scoped_in body) (says_left (blocks_in t body on) (blocks_in t other on)) (scoped_body body on))
-        (each_map (Says (blocks_in t other on)) (Says (blocks_in t body on ++ blocks_in t other on)) (scoped_in other) (says_right (blocks_in t body on) (blocks_in t other on)) (scoped_body other on))
-    scoped_stmt (set_block line x body) on = scoped_body body on
-    scoped_stmt (with_values line ps body) on = scoped_body body on
-    scoped_stmt (filter_block line fs body) on = scoped_body body on
-    scoped_stmt (autoescape line now body) on = scoped_body body now
-    scoped_stmt (macro line x ps body) on = scoped_body body on
+        names_said (blocks_in t body on ++ blocks_in t other on) xs (named (set_in body) ++ (scoped_in body ++ scoped_in other))
+        (names_said (blocks_in t body on ++ blocks_in t other on) (set_in body) (scoped_in body ++ scoped_in other)
+        (both_said (blocks_in t body on) (blocks_in t other on) (scoped_in body) (scoped_in other) (scoped_body body on) (scoped_body other on)))
+    scoped_stmt (set_block line x body) on = names_said (blocks_in t body on) (set_in body) (scoped_in body) (scoped_body body on)
+    scoped_stmt (with_values line ps body) on =
+        names_said (blocks_in t body on) (keywords ps) (named (set_in body) ++ scoped_in body) (names_said (blocks_in t body on) (set_in body) (scoped_in body) (scoped_body body on))
+    scoped_stmt (filter_block line fs body) on = names_said (blocks_in t body on) (set_in body) (scoped_in body) (scoped_body body on)
+    scoped_stmt (autoescape line now body) on = names_said (blocks_in t body now) (set_in body) (scoped_in body) (scoped_body body now)
+    scoped_stmt (macro line x ps body) on =
+        names_said (blocks_in t body on) (map (λ p. p.name) ps) (named (set_in body) ++ scoped_in body) (names_said (blocks_in t body on) (set_in body) (scoped_in body) (scoped_body body on))
     scoped_stmt (data_of d) on = tt
     scoped_stmt (print line e) on = tt
     scoped_stmt (set line xs e) on = tt
     scoped_stmt (include line n i w) on = tt
     scoped_stmt (extends line n) on = tt
 
-    scoped_body : (c : Body) (on : Bool) → Each (Says (blocks_in t c on)) (scoped_in c)
+    scoped_body : (c : Body) (on : Bool) → Each (Saying (blocks_in t c on)) (scoped_in c)
     scoped_body end on = tt
-    scoped_body (stmt s rest) on =
-        each_append (Says (blocks_of t s on ++ blocks_in t rest on)) (scoped_by s) (scoped_in rest)
-        (each_map (Says (blocks_of t s on)) (Says (blocks_of t s on ++ blocks_in t rest on)) (scoped_by s) (says_left (blocks_of t s on) (blocks_in t rest on)) (scoped_stmt s on))
-        (each_map (Says (blocks_in t rest on)) (Says (blocks_of t s on ++ blocks_in t rest on)) (scoped_in rest) (says_right (blocks_of t s on) (blocks_in t rest on)) (scoped_body rest on))
+    scoped_body (stmt s rest) on = both_said (blocks_of t s on) (blocks_in t rest on) (scoped_by s) (scoped_in rest) (scoped_stmt s on) (scoped_body rest on)
 
-    scoped_branches : (bs : Branches) (on : Bool) → Each (Says (blocks_under t bs on)) (scoped_under bs)
+    scoped_branches : (bs : Branches) (on : Bool) → Each (Saying (blocks_under t bs on)) (scoped_under bs)
     scoped_branches no_branches on = tt
-    scoped_branches (branch line c body rest) on =
-        each_append (Says (blocks_in t body on ++ blocks_under t rest on)) (scoped_in body) (scoped_under rest)
-        (each_map (Says (blocks_in t body on)) (Says (blocks_in t body on ++ blocks_under t rest on)) (scoped_in body) (says_left (blocks_in t body on) (blocks_under t rest on)) (scoped_body body on))
-        (each_map (Says (blocks_under t rest on)) (Says (blocks_in t body on ++ blocks_under t rest on)) (scoped_under rest) (says_right (blocks_in t body on) (blocks_under t rest on)) (scoped_branches rest on))
+    scoped_branches (branch line c body rest) on = both_said (blocks_in t body on) (blocks_under t rest on) (scoped_in body) (scoped_under rest) (scoped_body body on) (scoped_branches rest on)
 
-scoped_templates : (on : Bool) (ts : List Template) → Each (Says (flat_map (λ t. blocks_in t.name t.body on) ts)) (flat_map (λ t. scoped_in t.body) ts)
-scoped_templates on [] = tt
-scoped_templates on (t ∷ ts) =
-    each_append (Says (blocks_in t.name t.body on ++ flat_map (λ t. blocks_in t.name t.body on) ts)) (scoped_in t.body) (flat_map (λ t. scoped_in t.body) ts)
-    (each_map (Says (blocks_in t.name t.body on)) (Says (blocks_in t.name t.body on ++ flat_map (λ t. blocks_in t.name t.body on) ts)) (scoped_in t.body) (says_left (blocks_in t.name t.body on) (flat_map (λ t. blocks_in t.name t.body on) ts)) (scoped_body t.name t.body on))
-    (each_map (Says (flat_map (λ t. blocks_in t.name t.body on) ts)) (Says (blocks_in t.name t.body on ++ flat_map (λ t. blocks_in t.name t.body on) ts)) (flat_map (λ t. scoped_in t.body) ts) (says_right (blocks_in t.name t.body on) (flat_map (λ t. blocks_in t.name t.body on) ts)) (scoped_templates on ts))
+said_templates : (on : Bool) (ts : List Template) → Each (Saying (flat_map (λ t. blocks_in t.name t.body on) ts)) (flat_map (λ t. scoped_in t.body) ts)
+said_templates on [] = tt
+said_templates on (t ∷ ts) =
+    both_said (blocks_in t.name t.body on) (flat_map (λ t. blocks_in t.name t.body on) ts) (scoped_in t.body) (flat_map (λ t. scoped_in t.body) ts) (scoped_body t.name t.body on) (said_templates on ts)
+
+all_proper : (world : World) (h : Home) (ss : List Scoping) → Each (Saying (all_bodies world.sources world.escaping h)) ss → AllAmong (names_of ss) (scope_names world.sources h) → Each (Proper world h) ss
+all_proper world h [] e a = tt
+all_proper world h (a_tag x ∷ ss) e a = (e.0, all_proper world h ss e.1 a)
+all_proper world h (a_name x ∷ ss) e a = (a.0, all_proper world h ss e.1 a.1)
+
+scoped_templates : (world : World) (h : Home) → Each (Proper world h) (flat_map (λ t. scoped_in t.body) (templates world.sources h))
+scoped_templates world h = all_proper world h (flat_map (λ t. scoped_in t.body) (templates world.sources h)) (said_templates world.escaping (templates world.sources h)) (scopes_bound world h)
 
 module _ (world : World) where
   -- what stands behind a place keeps the order, and none before it comes again
   behind_order : (pre qs : List Home) → InOrder world.sources (pre ++ qs) → InOrder world.sources qs × ((m : Home) → among m qs ≡ true → NotIn m pre)
   behind_order [] qs o = (o, λ m e. tt)
   behind_order (k ∷ pre) qs o =
-      let r = behind_order pre qs o.2 in
+      let r = behind_order pre qs o.1.1 in
       (r.0, λ m e. (differs m (bytes_eq k m) refl (among_append m pre qs e), r.1 m e))
     where
       differs : (m : Home) (b : Bool) → bytes_eq k m ≡ b → among m (pre ++ qs) ≡ true → b ≡ false
@@ -219,7 +243,20 @@ module _ (world : World) where
       pub record Belongs (c : Body) : Type 0 where
         pub names : AllAmong (body_names c) (Rattle.jt_meaning.specs.Layout.names world order h)
         pub included : Each (Included world order h) (needs_in true c)
-        pub scoped : Each (λ x. is_scoped world h x ≡ true) (scoped_in c)
+        pub scoped : Each (Proper world h) (scoped_in c)
+
+      -- a body that is a scope: its names are among those that scopes bind
+      pub record Owned (c : Body) : Type 0 where
+        pub belongs : Belongs c
+        pub own : AllAmong (set_in c) (scope_names world.sources h)
+
+      pub record OwnedMacro (m : MacroBody) : Type 0 where
+        pub body : Owned m.body
+        pub parameters : AllAmong (map (λ p. p.name) m.parameters) (scope_names world.sources h)
+
+      -- of what a body that is a scope holds
+      owned : (c : Body) → AllAmong (body_names c) (names world order h) → Each (Included world order h) (needs_in true c) → Each (Proper world h) (named (set_in c) ++ scoped_in c) → Owned c
+      owned c a n d = record { belongs = record { names = a; included = n; scoped = behind_proper world h (set_in c) (scoped_in c) d }; own = names_proper world h (set_in c) (scoped_in c) d }
 
       -- all that the templates include
       with_source : (x : Text) (xs : List Text) → Among x xs → is_some (world.sources x) ≡ true → Among x (filter (λ m. is_some (world.sources m)) xs)
@@ -253,14 +290,14 @@ module _ (world : World) where
           one true e =
               let i = with_source x (flat_map (λ t. needs_in true t.body) (templates world.sources h)) (f x (inl refl)) e in
               let r = behind_order at.0 (h ∷ at.1) parts in
-              inr (hands x i (all_in x (included world.sources h) at.1 i r.0.1))
+              inr (hands x i (all_in x (included world.sources h) at.1 i r.0.1.0))
 
       -- the same of a statement, and of branches
       abbrev StmtBelongs : Stmt → Type 0
-      StmtBelongs s = AllAmong (stmt_names s) (names world order h) × Each (Included world order h) (needs_by true s) × Each (λ x. is_scoped world h x ≡ true) (scoped_by s)
+      StmtBelongs s = AllAmong (stmt_names s) (names world order h) × Each (Included world order h) (needs_by true s) × Each (Proper world h) (scoped_by s)
 
       abbrev BranchesBelong : Branches → Type 0
-      BranchesBelong bs = AllAmong (branch_names bs) (names world order h) × Each (Included world order h) (needs_under true bs) × Each (λ x. is_scoped world h x ≡ true) (scoped_under bs)
+      BranchesBelong bs = AllAmong (branch_names bs) (names world order h) × Each (Included world order h) (needs_under true bs) × Each (Proper world h) (scoped_under bs)
 
       abbrev all_names : List Text
       all_names = names world order h
@@ -269,28 +306,28 @@ module _ (world : World) where
       belongs_front s rest b = (
         among_front (stmt_names s) (body_names rest) all_names b.names,
         each_front (Included world order h) (needs_by true s) (needs_in true rest) b.included,
-        each_front (λ x. is_scoped world h x ≡ true) (scoped_by s) (scoped_in rest) b.scoped,
+        each_front (Proper world h) (scoped_by s) (scoped_in rest) b.scoped,
       )
 
       belongs_back : (s : Stmt) (rest : Body) → Belongs (stmt s rest) → Belongs rest
       belongs_back s rest b = record {
         names = among_back (stmt_names s) (body_names rest) all_names b.names;
         included = each_back (Included world order h) (needs_by true s) (needs_in true rest) b.included;
-        scoped = each_back (λ x. is_scoped world h x ≡ true) (scoped_by s) (scoped_in rest) b.scoped;
+        scoped = each_back (Proper world h) (scoped_by s) (scoped_in rest) b.scoped;
       }
 
       template_bodies : (ts : List Template) → AllAmong (flat_map (λ t. body_names t.body) ts) all_names → Each (Included world order h) (flat_map (λ t. needs_in true t.body) ts)
-          → Each (λ x. is_scoped world h x ≡ true) (flat_map (λ t. scoped_in t.body) ts) → Every (λ t. Belongs t.body) ts
+          → Each (Proper world h) (flat_map (λ t. scoped_in t.body) ts) → Every (λ t. Belongs t.body) ts
       template_bodies [] a b c = tt
       template_bodies (t ∷ ts) a b c = (
         record {
           names = among_front (body_names t.body) (flat_map (λ u. body_names u.body) ts) all_names a;
           included = each_front (Included world order h) (needs_in true t.body) (flat_map (λ u. needs_in true u.body) ts) b;
-          scoped = each_front (λ x. is_scoped world h x ≡ true) (scoped_in t.body) (flat_map (λ u. scoped_in u.body) ts) c;
+          scoped = each_front (Proper world h) (scoped_in t.body) (flat_map (λ u. scoped_in u.body) ts) c;
         },
         template_bodies ts (among_back (body_names t.body) (flat_map (λ u. body_names u.body) ts) all_names a)
             (each_back (Included world order h) (needs_in true t.body) (flat_map (λ u. needs_in true u.body) ts) b)
-            (each_back (λ x. is_scoped world h x ≡ true) (scoped_in t.body) (flat_map (λ u. scoped_in u.body) ts) c),
+            (each_back (Proper world h) (scoped_in t.body) (flat_map (λ u. scoped_in u.body) ts) c),
       )
 
       -- the templates of the chain
@@ -300,20 +337,34 @@ module _ (world : World) where
           template_bodies (templates world.sources h)
           (subst (λ zs. AllAmong (own_names world.sources h) zs) (sym names_are) (among_front (own_names world.sources h) (flat_map (names_in world at.1) (included world.sources h)) (ascending all) (all_ascending all)))
           (each_included (flat_map (λ t. needs_in true t.body) (templates world.sources h)) (λ x i. i))
-          (scoped_templates world.escaping (templates world.sources h))
+          (scoped_templates world h)
 
-      macro_bodies : (t : Text) (c : Body) → Belongs c → Every (λ m. Belongs m.body) (macros_in t c)
+      -- the names that scopes bind are names of the chain
+      pub scopes_known : AllAmong (scope_names world.sources h) (names world order h)
+      scopes_known =
+          let all = own_names world.sources h ++ flat_map (names_in world at.1) (included world.sources h) in
+          ascending_among (flat_map (λ t. scope_names_in t.body) (templates world.sources h)) (names world order h)
+          (templates_bind (templates world.sources h) (names world order h) (subst (λ zs. AllAmong (own_names world.sources h) zs) (sym names_are) (among_front (own_names world.sources h) (flat_map (names_in world at.1) (included world.sources h)) (ascending all) (all_ascending all))))
+
+      macro_bodies : (t : Text) (c : Body) → Belongs c → Every OwnedMacro (macros_in t c)
       macro_bodies t end b = tt
       macro_bodies t (stmt (macro line x ps body) rest) b =
           let f = belongs_front (macro line x ps body) rest b in
-          (record { names = among_back (map (λ p. p.name) ps) (body_names body) all_names f.0; included = f.1; scoped = f.2 }, macro_bodies t rest (belongs_back (macro line x ps body) rest b))
+          let xs = map (λ p. p.name) ps in
+          (
+            record {
+              body = owned body (among_back xs (body_names body) all_names f.0) f.1 (behind_proper world h xs (named (set_in body) ++ scoped_in body) f.2);
+              parameters = names_proper world h xs (named (set_in body) ++ scoped_in body) f.2;
+            },
+            macro_bodies t rest (belongs_back (macro line x ps body) rest b),
+          )
       macro_bodies t (stmt s rest) b = macro_bodies t rest (belongs_back s rest b)
 
-      pub all_macro_bodies : (ts : List Template) → Every (λ t. Belongs t.body) ts → Every (λ m. Belongs m.body) (flat_map (λ t. macros_in t.name t.body) ts)
+      pub all_macro_bodies : (ts : List Template) → Every (λ t. Belongs t.body) ts → Every OwnedMacro (flat_map (λ t. macros_in t.name t.body) ts)
       all_macro_bodies [] b = tt
-      all_macro_bodies (t ∷ ts) b = every_append (λ m. Belongs m.body) (macros_in t.name t.body) (flat_map (λ u. macros_in u.name u.body) ts) (macro_bodies t.name t.body b.0) (all_macro_bodies ts b.1)
+      all_macro_bodies (t ∷ ts) b = every_append OwnedMacro (macros_in t.name t.body) (flat_map (λ u. macros_in u.name u.body) ts) (macro_bodies t.name t.body b.0) (all_macro_bodies ts b.1)
 
-      macro_among : (x : Text) (m : MacroBody) (ms : List MacroBody) → Every (λ m. Belongs m.body) ms → macro_of x ms ≡ Some m → Belongs m.body
+      macro_among : (x : Text) (m : MacroBody) (ms : List MacroBody) → Every OwnedMacro ms → macro_of x ms ≡ Some m → OwnedMacro m
       macro_among x m [] b e = absurd (nothing e)
         where
           nothing : None ≡ Some m → ⊥
@@ -323,55 +374,57 @@ module _ (world : World) where
           is_it : Some n ≡ Some m → n ≡ m
           is_it q = cc
 
-          through : (c : Bool) → (if c then Some n else macro_of x ns) ≡ Some m → (macro_of x ns ≡ Some m → Belongs m.body) → Belongs m.body
-          through true e f = subst (λ z. Belongs z.body) (is_it e) b.0
+          through : (c : Bool) → (if c then Some n else macro_of x ns) ≡ Some m → (macro_of x ns ≡ Some m → OwnedMacro m) → OwnedMacro m
+          through true e f = subst (λ z. OwnedMacro z) (is_it e) b.0
           through false e f = f e
 
       -- the macros of the chain
-      pub macro_belongs : (x : Text) (m : MacroBody) → macro_of x (macros world.sources h) ≡ Some m → Belongs m.body
+      pub macro_belongs : (x : Text) (m : MacroBody) → macro_of x (macros world.sources h) ≡ Some m → OwnedMacro m
       macro_belongs x m e = macro_among x m (macros world.sources h) (all_macro_bodies (templates world.sources h) templates_belong) e
 
       abbrev pub InBelongs : List BlockBody → Type 0
-      InBelongs bs = Every (λ b. Belongs b.body) bs
+      InBelongs bs = Every (λ b. Owned b.body) bs
 
       module _ (t : Text) where
         mutual
           stmt_blocks : (s : Stmt) (on : Bool) → StmtBelongs s → InBelongs (blocks_of t s on)
-          stmt_blocks (block line x true required body) on b = (record { names = b.0; included = b.1; scoped = b.2.1 }, body_blocks body on (record { names = b.0; included = b.1; scoped = b.2.1 }))
-          stmt_blocks (block line x false required body) on b = (record { names = b.0; included = b.1; scoped = b.2 }, body_blocks body on (record { names = b.0; included = b.1; scoped = b.2 }))
+          stmt_blocks (block line x true required body) on b = let o = owned body b.0 b.1 b.2.1 in (o, body_blocks body on o.belongs)
+          stmt_blocks (block line x false required body) on b = let o = owned body b.0 b.1 b.2 in (o, body_blocks body on o.belongs)
           stmt_blocks (choose bs other) on b =
-              every_append (λ b. Belongs b.body) (blocks_under t bs on) (blocks_in t other on)
+              every_append (λ b. Owned b.body) (blocks_under t bs on) (blocks_in t other on)
               (branch_blocks bs on (
                 among_front (branch_names bs) (body_names other) all_names b.0,
                 each_front (Included world order h) (needs_under true bs) (needs_in true other) b.1,
-                each_front (λ x. is_scoped world h x ≡ true) (scoped_under bs) (scoped_in other) b.2,
+                each_front (Proper world h) (scoped_under bs) (scoped_in other) b.2,
               ))
               (body_blocks other on (record {
                 names = among_back (branch_names bs) (body_names other) all_names b.0;
                 included = each_back (Included world order h) (needs_under true bs) (needs_in true other) b.1;
-                scoped = each_back (λ x. is_scoped world h x ≡ true) (scoped_under bs) (scoped_in other) b.2;
+                scoped = each_back (Proper world h) (scoped_under bs) (scoped_in other) b.2;
               }))
           stmt_blocks (for_each line xs e c body other) on b =
               let b1 = among_back (expr_names e) (xs ++ (condition_names c ++ (body_names body ++ body_names other))) all_names b.0 in
               let b2 = among_back xs (condition_names c ++ (body_names body ++ body_names other)) all_names b1 in
               let b3 = among_back (condition_names c) (body_names body ++ body_names other) all_names b2 in
-              every_append (λ b. Belongs b.body) (blocks_in t body on) (blocks_in t other on)
+              let d = behind_proper world h (set_in body) (scoped_in body ++ scoped_in other) (behind_proper world h xs (named (set_in body) ++ (scoped_in body ++ scoped_in other)) b.2) in
+              every_append (λ b. Owned b.body) (blocks_in t body on) (blocks_in t other on)
               (body_blocks body on (record {
                 names = among_front (body_names body) (body_names other) all_names b3;
                 included = each_front (Included world order h) (needs_in true body) (needs_in true other) b.1;
-                scoped = each_front (λ x. is_scoped world h x ≡ true) (scoped_in body) (scoped_in other) b.2;
+                scoped = each_front (Proper world h) (scoped_in body) (scoped_in other) d;
               }))
               (body_blocks other on (record {
                 names = among_back (body_names body) (body_names other) all_names b3;
                 included = each_back (Included world order h) (needs_in true body) (needs_in true other) b.1;
-                scoped = each_back (λ x. is_scoped world h x ≡ true) (scoped_in body) (scoped_in other) b.2;
+                scoped = each_back (Proper world h) (scoped_in body) (scoped_in other) d;
               }))
-          stmt_blocks (set_block line x body) on b = body_blocks body on (record { names = b.0.1; included = b.1; scoped = b.2 })
+          stmt_blocks (set_block line x body) on b = body_blocks body on (owned body b.0.1 b.1 b.2).belongs
           stmt_blocks (with_values line ps body) on b =
-              body_blocks body on (record { names = among_back (keywords ps) (body_names body) all_names (among_back (pair_names ps) (keywords ps ++ body_names body) all_names b.0); included = b.1; scoped = b.2 })
-          stmt_blocks (filter_block line fs body) on b = body_blocks body on (record { names = among_front (body_names body) (filtering_names fs) all_names b.0; included = b.1; scoped = b.2 })
-          stmt_blocks (autoescape line now body) on b = body_blocks body now (record { names = b.0; included = b.1; scoped = b.2 })
-          stmt_blocks (macro line x ps body) on b = body_blocks body on (record { names = among_back (map (λ p. p.name) ps) (body_names body) all_names b.0; included = b.1; scoped = b.2 })
+              body_blocks body on (owned body (among_back (keywords ps) (body_names body) all_names (among_back (pair_names ps) (keywords ps ++ body_names body) all_names b.0)) b.1 (behind_proper world h (keywords ps) (named (set_in body) ++ scoped_in body) b.2)).belongs
+          stmt_blocks (filter_block line fs body) on b = body_blocks body on (owned body (among_front (body_names body) (filtering_names fs) all_names b.0) b.1 b.2).belongs
+          stmt_blocks (autoescape line now body) on b = body_blocks body now (owned body b.0 b.1 b.2).belongs
+          stmt_blocks (macro line x ps body) on b =
+              body_blocks body on (owned body (among_back (map (λ p. p.name) ps) (body_names body) all_names b.0) b.1 (behind_proper world h (map (λ p. p.name) ps) (named (set_in body) ++ scoped_in body) b.2)).belongs
           stmt_blocks (data_of d) on b = tt
           stmt_blocks (print line e) on b = tt
           stmt_blocks (set line xs e) on b = tt
@@ -380,35 +433,35 @@ module _ (world : World) where
 
           body_blocks : (c : Body) (on : Bool) → Belongs c → InBelongs (blocks_in t c on)
           body_blocks end on b = tt
-          body_blocks (stmt s rest) on b = every_append (λ b. Belongs b.body) (blocks_of t s on) (blocks_in t rest on) (stmt_blocks s on (belongs_front s rest b)) (body_blocks rest on (belongs_back s rest b))
+          body_blocks (stmt s rest) on b = every_append (λ b. Owned b.body) (blocks_of t s on) (blocks_in t rest on) (stmt_blocks s on (belongs_front s rest b)) (body_blocks rest on (belongs_back s rest b))
 
           branch_blocks : (bs : Branches) (on : Bool) → BranchesBelong bs → InBelongs (blocks_under t bs on)
           branch_blocks no_branches on b = tt
           branch_blocks (branch line c body rest) on b =
               let b1 = among_back (expr_names c) (body_names body ++ branch_names rest) all_names b.0 in
-              every_append (λ b. Belongs b.body) (blocks_in t body on) (blocks_under t rest on)
+              every_append (λ b. Owned b.body) (blocks_in t body on) (blocks_under t rest on)
               (body_blocks body on (record {
                 names = among_front (body_names body) (branch_names rest) all_names b1;
                 included = each_front (Included world order h) (needs_in true body) (needs_under true rest) b.1;
-                scoped = each_front (λ x. is_scoped world h x ≡ true) (scoped_in body) (scoped_under rest) b.2;
+                scoped = each_front (Proper world h) (scoped_in body) (scoped_under rest) b.2;
               }))
               (branch_blocks rest on (
                 among_back (body_names body) (branch_names rest) all_names b1,
                 each_back (Included world order h) (needs_in true body) (needs_under true rest) b.1,
-                each_back (λ x. is_scoped world h x ≡ true) (scoped_in body) (scoped_under rest) b.2,
+                each_back (Proper world h) (scoped_in body) (scoped_under rest) b.2,
               ))
 
       pub all_block_bodies : (on : Bool) (ts : List Template) → Every (λ t. Belongs t.body) ts → InBelongs (flat_map (λ t. blocks_in t.name t.body on) ts)
       all_block_bodies on [] b = tt
-      all_block_bodies on (t ∷ ts) b = every_append (λ b. Belongs b.body) (blocks_in t.name t.body on) (flat_map (λ u. blocks_in u.name u.body on) ts) (body_blocks t.name t.body on b.0) (all_block_bodies on ts b.1)
+      all_block_bodies on (t ∷ ts) b = every_append (λ b. Owned b.body) (blocks_in t.name t.body on) (flat_map (λ u. blocks_in u.name u.body on) ts) (body_blocks t.name t.body on b.0) (all_block_bodies on ts b.1)
 
       map_parts : (pre post : List (ℕ × BlockBody)) → map (λ c. c.1) (pre ++ post) ≡ map (λ c. c.1) pre ++ map (λ c. c.1) post
       map_parts [] post = refl
       map_parts (p ∷ pre) post = ap (λ zs. p.1 ∷ zs) (map_parts pre post)
 
       -- the blocks' bodies of the chain
-      pub body_belongs : (i : ℕ) (c : BlockBody) (pre post : List (ℕ × BlockBody)) → numbered_bodies world h ≡ pre ++ ((i, c) ∷ post) → Belongs c.body
+      pub body_belongs : (i : ℕ) (c : BlockBody) (pre post : List (ℕ × BlockBody)) → numbered_bodies world h ≡ pre ++ ((i, c) ∷ post) → Owned c.body
       body_belongs i c pre post e =
           let all = all_block_bodies world.escaping (templates world.sources h) templates_belong in
           let same = sym (counted_are 0 (all_bodies world.sources world.escaping h)) ∙ ap (map (λ d. d.1)) e ∙ map_parts pre ((i, c) ∷ post) in
-          (every_back (λ b. Belongs b.body) (map (λ d. d.1) pre) (c ∷ map (λ d. d.1) post) (subst InBelongs same all)).0
+          (every_back (λ b. Owned b.body) (map (λ d. d.1) pre) (c ∷ map (λ d. d.1) post) (subst InBelongs same all)).0

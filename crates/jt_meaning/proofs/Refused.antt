@@ -6,9 +6,13 @@ use Rattle.jt_rules.specs.declared.error.ScopeError.TheVariants as error
 use Rattle.jt_expr.specs.Trees.{no_exprs, no_pairs}
 use Rattle.jt_parse.specs.Trees.{Text, Body, end}
 use Rattle.jt_rules.specs.Rules.{chains_broken}
+use Rattle.jt_inherit.specs.Chain.{Sources}
 use Rattle.jt_inherit.specs.Includes.{InOrder}
 use Rattle.jt_inherit.specs.Rules.{here, Missing, ExtendsCycle, DoubleBlock, RequiredNotGiven, NoSuper, IncludeCycle, MacroTwice}
 use Rattle.jt_meaning.proofs.Small.{name, num, listing, call, Call, pair, of, Filter, body, print, For, block, Block, Macro, Include, extends, parameter, exprs, source, world}
+
+abbrev among_these : List (Text × Body) → Sources
+among_these ss = (world ss).sources
 
 abbrev Breaks : List (Text × Body) → Option ScopeError → Type 0
 Breaks ss e = chains_broken (world ss) (codes "t" ∷ []) ≡ e
@@ -71,33 +75,33 @@ filter_wrong_keyword : Breaks (source "t" (print (Filter (num 1) (codes "d") no_
 filter_wrong_keyword = refl
 
 -- {% include "no" %}
-no_source : Missing (world (source "t" (Include 1 (codes "no") false true ∷ []) ∷ [])) (codes "t")
+no_source : Missing (among_these (source "t" (Include 1 (codes "no") false true ∷ []) ∷ [])) true (codes "t")
 no_source = (codes "t", here, refl)
 
 -- entry `t`: {% include "t" %}
-include_of_itself : IncludeCycle (world (source "t" (Include 1 (codes "t") false true ∷ []) ∷ [])) (codes "t")
+include_of_itself : IncludeCycle (among_these (source "t" (Include 1 (codes "t") false true ∷ []) ∷ [])) true (codes "t")
 include_of_itself = (codes "t", here, (codes "t", refl, here))
 
 -- {% macro m() %}{% endmacro %}{% macro m() %}{% endmacro %}
-macro_twice : MacroTwice (world (source "t" (Macro 1 (codes "m") [] end ∷ Macro 1 (codes "m") [] end ∷ []) ∷ [])) (codes "t")
+macro_twice : MacroTwice (among_these (source "t" (Macro 1 (codes "m") [] end ∷ Macro 1 (codes "m") [] end ∷ []) ∷ [])) true (codes "t")
 macro_twice = (codes "t", here, refl)
 
 -- `t` is {% extends "t" %}
-extends_itself : ExtendsCycle (world (source "t" (extends "t" ∷ []) ∷ [])) (codes "t")
+extends_itself : ExtendsCycle (among_these (source "t" (extends "t" ∷ []) ∷ [])) true (codes "t")
 extends_itself = (codes "t", here, (2, refl))
 
 -- {% block t %}{% endblock %}{% block t %}{% endblock %}
-block_twice : DoubleBlock (world (source "t" (block "t" [] ∷ block "t" [] ∷ []) ∷ [])) (codes "t")
+block_twice : DoubleBlock (among_these (source "t" (block "t" [] ∷ block "t" [] ∷ []) ∷ [])) true (codes "t")
 block_twice = (codes "t", here, refl)
 
 -- {% block t required %}{% endblock %}
-required_alone : RequiredNotGiven (world (source "t" (Block 1 (codes "t") false true end ∷ []) ∷ [])) (codes "t")
+required_alone : RequiredNotGiven (among_these (source "t" (Block 1 (codes "t") false true end ∷ []) ∷ [])) true (codes "t")
 required_alone = (codes "t", here, refl)
 
 -- {% block t %}{{ super() }}{% endblock %}
-super_of_nothing : NoSuper (world (source "t" (block "t" (print (call (name "super") []) ∷ []) ∷ []) ∷ [])) (codes "t")
+super_of_nothing : NoSuper (among_these (source "t" (block "t" (print (call (name "super") []) ∷ []) ∷ []) ∷ [])) true (codes "t")
 super_of_nothing = (codes "t", here, refl)
 
 -- `t` includes `p`, and `p` includes `q`: in this order each stands before what it includes
-in_order : InOrder (world (source "t" (Include 1 (codes "p") false true ∷ []) ∷ source "p" (Include 1 (codes "q") false true ∷ []) ∷ source "q" [] ∷ [])) (codes "t" ∷ codes "p" ∷ codes "q" ∷ [])
-in_order = (refl, (refl, tt), (refl, (refl, tt), (refl, tt, tt)))
+in_order : InOrder (among_these (source "t" (Include 1 (codes "p") false true ∷ []) ∷ source "p" (Include 1 (codes "q") false true ∷ []) ∷ source "q" [] ∷ [])) (codes "t" ∷ codes "p" ∷ codes "q" ∷ [])
+in_order = (refl, ((refl, tt), (refl, ((refl, tt), (refl, (tt, tt))))))

@@ -21,7 +21,7 @@ use Rattle.jt_rules.specs.Rules.{Within, used, all_used, broken, pairs_broken, c
 use Rattle.jt_meaning.proofs.Calling.{Included, Tail}
 use Rattle.jt_meaning.proofs.Reading.{same_is}
 use Rattle.jt_meaning.proofs.Stating.{Each, each_front, each_back}
-use Rattle.jt_meaning.proofs.Ordering.{Every, every_append, Belongs, templates_belong, all_macro_bodies, all_block_bodies}
+use Rattle.jt_meaning.proofs.Ordering.{Every, every_append, Belongs, Owned, OwnedMacro, templates_belong, all_macro_bodies, all_block_bodies}
 use Rattle.jt_meaning.proofs.Taking.{none_first, none_second, rs}
 use Rattle.jt_meaning.proofs.Serving.{BTakes, followed_takes, copied_takes, stmt_takes, body_serves}
 
@@ -119,11 +119,11 @@ module _ (world : World) (order : List Home) (ordered : InOrder world.sources or
   chain_takes (t ∷ u ∷ us) f b =
       followed_takes world order false (resolved_sets world order t.body (top_spot world order h t.name)) (resolved_chain world order h (u ∷ us)) (chain_sets t.body t.name f.0 b.0.included) (chain_takes (u ∷ us) f.1 b.1)
 
-  macros_take : (ms : List MacroBody) → Every (λ m. Fine world h at_top m.body) ms → Every (λ m. InChain m.body) ms → Every Serves (map (macro_routine world order h) ms)
+  macros_take : (ms : List MacroBody) → Every (λ m. Fine world h at_top m.body) ms → Every (OwnedMacro world order ordered h known) ms → Every Serves (map (macro_routine world order h) ms)
   macros_take [] f b = tt
   macros_take (m ∷ ms) f b =
       let sp = bound_all (map (λ p. p.name) m.parameters) (top_spot world order h m.template) in
-      (copied_takes world order false (place sp 1) sp.table sp.free (set_in m.body) (resolved_body world order m.body (bound_all (set_in m.body) sp)) (body_serves world order m.body (bound_all (set_in m.body) sp) at_top known tt f.0.0 f.0.1 b.0.included), macros_take ms f.1 b.1)
+      (copied_takes world order false (place sp 1) sp.table sp.free (set_in m.body) (resolved_body world order m.body (bound_all (set_in m.body) sp)) (body_serves world order m.body (bound_all (set_in m.body) sp) at_top known tt f.0.0 f.0.1 b.0.body.belongs.included), macros_take ms f.1 b.1)
 
   filter_behind : (p : (ℕ × BlockBody) → Bool) (pre : List (ℕ × BlockBody)) (b : ℕ × BlockBody) (bs : List (ℕ × BlockBody)) → p b ≡ true → filter p (pre ++ (b ∷ bs)) ≡ filter p pre ++ (b ∷ filter p bs)
   filter_behind p [] b bs e = ap (λ c. if c then b ∷ filter p bs else filter p bs) e
@@ -133,14 +133,14 @@ module _ (world : World) (order : List Home) (ordered : InOrder world.sources or
       through true f = ap (λ zs. x ∷ zs) f
       through false f = f
 
-  blocks_take : (pre bs : List (ℕ × BlockBody)) → numbered_bodies world h ≡ pre ++ bs → Every (λ b. Fine world h in_block b.1.body) bs → Every (λ b. InChain b.1.body) bs → Every Serves (body_routines world order h bs)
+  blocks_take : (pre bs : List (ℕ × BlockBody)) → numbered_bodies world h ≡ pre ++ bs → Every (λ b. Fine world h in_block b.1.body) bs → Every (λ b. Owned world order ordered h known b.1.body) bs → Every Serves (body_routines world order h bs)
   blocks_take pre [] e f b = tt
   blocks_take pre (c ∷ cs) e f b =
       let same = λ (d : ℕ × BlockBody). bytes_eq d.1.name c.1.name in
       let part : Part = record { name = c.1.name; behind = filter same cs } in
       let sp = bound_all (block_parameters world order h c.1.name) (record (top_spot world order h c.1.template) { escaping = c.1.escaping; part = Some part }) in
       let tail : Tail world order h c.1.name (filter same cs) = (filter same pre ++ (c ∷ []), ap (filter same) e ∙ filter_behind same pre c cs (same_is c.1.name) ∙ sym (append_assoc (filter same pre) (c ∷ []) (filter same cs))) in (
-        copied_takes world order false (place sp 1) sp.table sp.free (set_in c.1.body) (resolved_body world order c.1.body (bound_all (set_in c.1.body) sp)) (body_serves world order c.1.body (bound_all (set_in c.1.body) sp) in_block known tail f.0.0 f.0.1 b.0.included),
+        copied_takes world order false (place sp 1) sp.table sp.free (set_in c.1.body) (resolved_body world order c.1.body (bound_all (set_in c.1.body) sp)) (body_serves world order c.1.body (bound_all (set_in c.1.body) sp) in_block known tail f.0.0 f.0.1 b.0.belongs.included),
         blocks_take (pre ++ (c ∷ [])) cs (e ∙ sym (append_assoc pre (c ∷ []) cs)) f.1 b.1,
       )
 
@@ -157,7 +157,7 @@ module _ (world : World) (order : List Home) (ordered : InOrder world.sources or
         every_append Serves (map (macro_routine world order h) (macros world.sources h)) (body_routines world order h (numbered_bodies world h))
             (macros_take (macros world.sources h) (all_macros_fine world h ts f) (all_macro_bodies world order ordered h known ts b))
             (blocks_take [] (numbered_bodies world h) refl (counted_every (λ b. Fine world h in_block b.body) 0 (all_bodies world.sources world.escaping h) (all_blocks_fine world h world.escaping ts f))
-            (counted_every (λ b. InChain b.body) 0 (all_bodies world.sources world.escaping h) (all_block_bodies world order ordered h known world.escaping ts b))),
+            (counted_every (λ b. Owned world order ordered h known b.body) 0 (all_bodies world.sources world.escaping h) (all_block_bodies world order ordered h known world.escaping ts b))),
       )
 
 -- every routine of the chains

@@ -30,6 +30,8 @@ use Rattle.jt_slots.specs.Pool.{Constant, own, known}
 use Rattle.jt_meaning.specs.Resolve.{value_or, read_from, turned_round, tested_by, filtered_by, in_form, field_from, followed, locals_from, fresh, fresh_targets, kept_slots, set_targets, filled, filled_some, first_locals, reads, handed_on, Part, Spot, place, grown, bound_all, copied, scoped, next_given, first_body, invoked_body, invoked_super, invoked, resolved, resolved_row, resolved_asides, resolved_entries, resolved_condition, resolved_filters, resolved_values, placed_body, resolved_stmt, resolved_body, resolved_choice}
 use Rattle.jt_slots.specs.Size.{targets_size, expr_size, row_size, condition_size, stmt_size, body_size}
 use Rattle.jt_meaning.specs.Measure.{stmt_own, body_own, branch_own, IsFew}
+use Rattle.jt_inherit.specs.Uses.{scope_names}
+use Rattle.jt_meaning.specs.Measure.{HasFewNames}
 
 -- ---- weights have tokens
 
@@ -224,24 +226,24 @@ abbrev Front : ℕ → (SRow Constant → SRow Constant) → Type 0
 Front w f = (b : SRow Constant) → row_size (f b) + 100 * min 1 w ≤ 100 * w + row_size b
 
 module _ (world : World) (order : List Home) where
-  pub parameters_few : (h : Home) (x : Text) → length (names world order h) ≤ 200 → length (block_parameters world order h x) ≤ 200
+  pub parameters_few : (h : Home) (x : Text) → HasFewNames world order h → length (block_parameters world order h x) ≤ 200
   parameters_few h x k = through (is_scoped world h x)
     where
-      through : (b : Bool) → length (if b then names world order h else []) ≤ 200
-      through true = k
+      through : (b : Bool) → length (if b then scope_names world.sources h else []) ≤ 200
+      through true = k.1
       through false = omega arith
 
   body_sized : (h : Home) (on : Bool) (i : Option ℕ) (es : SRow Constant) → row_size es ≤ 200 → expr_size (invoked_body world order h on i es) ≤ 203
   body_sized h on None es k = omega arith
   body_sized h on (Some i) es k = omega (arith, k)
 
-  super_sized : (sp : Spot) (p : Option Part) → length (names world order sp.home) ≤ 200 → expr_size (invoked_super world order sp p) ≤ 203
+  super_sized : (sp : Spot) (p : Option Part) → HasFewNames world order sp.home → expr_size (invoked_super world order sp p) ≤ 203
   super_sized sp None k = omega arith
   super_sized sp (Some p) k =
       let xs = block_parameters world order sp.home p.name in
       body_sized sp.home sp.escaping (next_given p.behind) (first_locals 0 xs) (omega (arith, first_size 0 xs, parameters_few sp.home p.name k))
 
-  invoked_sized : (c : Callee) (sp : Spot) (row asides : SRow Constant → SRow Constant) (n : ℕ) (ks : Table) (w v : ℕ) → CalleeFew c → length (names world order sp.home) ≤ 200 → Front w row → Front v asides
+  invoked_sized : (c : Callee) (sp : Spot) (row asides : SRow Constant → SRow Constant) (n : ℕ) (ks : Table) (w v : ℕ) → CalleeFew c → HasFewNames world order sp.home → Front w row → Front v asides
       → expr_size (invoked world order c sp row asides n ks) ≤ 100 * (1 + enclosed (w + v))
   invoked_sized (a_macro m) sp row asides n ks w v f k r a =
       let rest = filled m.parameters n (default_place world order sp.home m.name) ks in
@@ -319,7 +321,7 @@ module _ (world : World) (order : List Home) where
   values_sized no_pairs sp line b k = omega arith
   values_sized (pair x e ps) sp line b k = omega (arith, resolved_sized e sp k, values_sized ps (grown sp) line b k)
 
-  placed_sized : (sp : Spot) (i : Option ℕ) (x : Text) (t : Table) → length (names world order sp.home) ≤ 200 → body_size (placed_body world order sp i x t) ≤ 201
+  placed_sized : (sp : Spot) (i : Option ℕ) (x : Text) (t : Table) → HasFewNames world order sp.home → body_size (placed_body world order sp i x t) ≤ 201
   placed_sized sp None x t k = omega arith
   placed_sized sp (Some i) x t k = omega (arith, reads_size t (block_parameters world order sp.home x), parameters_few sp.home x k)
 
@@ -354,7 +356,7 @@ module _ (world : World) (order : List Home) where
     stmt_sized (filter_block line fs body) sp k = omega (arith, scope_sized body (grown sp) (all_sized body (bound_all (set_in body) (grown sp)) k), filters_sized fs (grown sp) (variable (local sp.free)) k)
     stmt_sized (autoescape line on body) sp k = omega (arith, scope_sized body (record sp { escaping = on }) (all_sized body (bound_all (set_in body) (record sp { escaping = on })) k))
     stmt_sized (macro line x ps body) sp k = omega arith
-    stmt_sized (include line n missing with_context) sp k = omega (arith, include_sized sp line n with_context (is_none (world.sources n)) (k.names n))
+    stmt_sized (include line n missing with_context) sp k = omega (arith, include_sized sp line n with_context (is_none (world.sources n)) ((k.names n).0))
     stmt_sized (extends line n) sp k = omega arith
     stmt_sized (block line x is required body) sp k =
         omega (arith, placed_sized sp (first_body (numbered_of world sp.home x)) x (if is then sp.table else globals world order sp.home) (k.names sp.home))

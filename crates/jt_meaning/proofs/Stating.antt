@@ -32,6 +32,7 @@ use Rattle.jt_meaning.proofs.Agreeing.{Kept, kept_same, kept_then, kept_less, ke
 use Rattle.jt_meaning.proofs.Calling.{Evaluated, Rowed, Sees, PartHolds, part_kept, part_more, Good, good_kept, good_grown, around_of, Wrote, CallsMean, DefaultsLaid, Hands, Included}
 use Rattle.jt_meaning.proofs.Valuing.{numbered_are, value_same, filter_both, read_gives, reads_give, reads_are}
 use Rattle.jt_meaning.proofs.Binding.{taken, Set, one_set, all_set}
+use Rattle.jt_inherit.specs.Uses.{scope_names}
 use Rattle.jt_meaning.proofs.Among.{Among, AllAmong}
 
 -- ---- names
@@ -43,7 +44,7 @@ all_of xs = every xs xs (λ y i. i)
     every [] zs f = tt
     every (y ∷ ys) zs f = (f y (inl refl), every ys zs (λ z i. f z (inr i)))
 
-among_both : (xs ys ns : List Text) → AllAmong xs ns → AllAmong ys ns → AllAmong (xs ++ ys) ns
+pub among_both : (xs ys ns : List Text) → AllAmong xs ns → AllAmong ys ns → AllAmong (xs ++ ys) ns
 among_both [] ys ns a b = b
 among_both (x ∷ xs) ys ns a b = (a.0, among_both xs ys ns a.1 b)
 
@@ -80,41 +81,61 @@ mutual
       let b = among_back (expr_names c) (body_names body ++ branch_names rest) ns a in
       among_both (set_in body) (set_under rest) ns (in_among body ns (among_front (body_names body) (branch_names rest) ns b)) (under_among rest ns (among_back (body_names body) (branch_names rest) ns b))
 
--- ---- the blocks whose tags say `scoped`, as often as they stand there
+-- ---- the blocks whose tags say `scoped`, and the names that scopes bind, as often as they stand there
+
+pub data Scoping : Type 0 where
+  a_tag : Text → Scoping
+  a_name : Text → Scoping
+
+abbrev pub named : List Text → List Scoping
+named [] = []
+named (x ∷ xs) = a_name x ∷ named xs
 
 abbrev mutual
-  pub scoped_by : Stmt → List Text
-  scoped_by (block line x true required body) = x ∷ scoped_in body
-  scoped_by (block line x false required body) = scoped_in body
+  pub scoped_by : Stmt → List Scoping
+  scoped_by (block line x true required body) = a_tag x ∷ (named (set_in body) ++ scoped_in body)
+  scoped_by (block line x false required body) = named (set_in body) ++ scoped_in body
   scoped_by (choose bs other) = scoped_under bs ++ scoped_in other
-  scoped_by (for_each line xs e c body other) = scoped_in body ++ scoped_in other
-  scoped_by (set_block line x body) = scoped_in body
-  scoped_by (with_values line ps body) = scoped_in body
-  scoped_by (filter_block line fs body) = scoped_in body
-  scoped_by (autoescape line on body) = scoped_in body
-  scoped_by (macro line x ps body) = scoped_in body
+  scoped_by (for_each line xs e c body other) = named xs ++ (named (set_in body) ++ (scoped_in body ++ scoped_in other))
+  scoped_by (set_block line x body) = named (set_in body) ++ scoped_in body
+  scoped_by (with_values line ps body) = named (keywords ps) ++ (named (set_in body) ++ scoped_in body)
+  scoped_by (filter_block line fs body) = named (set_in body) ++ scoped_in body
+  scoped_by (autoescape line on body) = named (set_in body) ++ scoped_in body
+  scoped_by (macro line x ps body) = named (map (λ p. p.name) ps) ++ (named (set_in body) ++ scoped_in body)
   scoped_by s = []
 
-  pub scoped_in : Body → List Text
+  pub scoped_in : Body → List Scoping
   scoped_in end = []
   scoped_in (stmt s rest) = scoped_by s ++ scoped_in rest
 
-  pub scoped_under : Branches → List Text
+  pub scoped_under : Branches → List Scoping
   scoped_under no_branches = []
   scoped_under (branch line c body rest) = scoped_in body ++ scoped_under rest
 
--- each of some texts has a property
-abbrev pub Each : (Text → Type 0) → List Text → Type 0
+-- such a block is a scoped one of the chain, and such a name is bound by a scope of the chain
+abbrev pub Proper : World → Home → Scoping → Type 0
+Proper world h (a_tag x) = is_scoped world h x ≡ true
+Proper world h (a_name x) = Among x (scope_names world.sources h)
+
+-- each of a list has a property
+abbrev pub Each : {A : Type 0} → (A → Type 0) → List A → Type 0
 Each P [] = Unit {0}
 Each P (x ∷ xs) = P x × Each P xs
 
-pub each_front : (P : Text → Type 0) (xs ys : List Text) → Each P (xs ++ ys) → Each P xs
+pub each_front : {A : Type 0} (P : A → Type 0) (xs ys : List A) → Each P (xs ++ ys) → Each P xs
 each_front P [] ys e = tt
 each_front P (x ∷ xs) ys e = (e.0, each_front P xs ys e.1)
 
-pub each_back : (P : Text → Type 0) (xs ys : List Text) → Each P (xs ++ ys) → Each P ys
+pub each_back : {A : Type 0} (P : A → Type 0) (xs ys : List A) → Each P (xs ++ ys) → Each P ys
 each_back P [] ys e = e
 each_back P (x ∷ xs) ys e = each_back P xs ys e.1
+
+pub names_proper : (world : World) (h : Home) (xs : List Text) (ys : List Scoping) → Each (Proper world h) (named xs ++ ys) → AllAmong xs (scope_names world.sources h)
+names_proper world h [] ys e = tt
+names_proper world h (x ∷ xs) ys e = (e.0, names_proper world h xs ys e.1)
+
+pub behind_proper : (world : World) (h : Home) (xs : List Text) (ys : List Scoping) → Each (Proper world h) (named xs ++ ys) → Each (Proper world h) ys
+behind_proper world h xs ys e = each_back (Proper world h) (named xs) ys e
 
 -- all names that can be read are seen by an include
 look_append : (x : Text) (s t : Pairs) → unwrap_or (look x (s ++ t)) tree.undefined ≡ unwrap_or (look x s) (value_in t x)
@@ -142,6 +163,9 @@ module _ (world : World) (order : List Home) (calls : Calls) (scall : SCalls) (m
 
   abbrev pub ns : Spot → List Text
   ns sp = names world order sp.home
+
+  abbrev pub bound_names : Spot → List Text
+  bound_names sp = scope_names world.sources sp.home
 
   abbrev pub lim : Spot → ℕ
   lim sp = limit world order sp.home
@@ -232,11 +256,11 @@ module _ (world : World) (order : List Home) (calls : Calls) (scall : SCalls) (m
     pub out : n.out ≡ st.out
 
   -- a body in a new scope means the same
-  pub scope_both : (body : Body) (sp : Spot) (l : Option Loop) (q : Option Placement) (env : Env) (out : Text) (m : Memory) → Good world order sp q env m → IsInner env → m.out ≡ out → AllAmong (body_names body) (ns sp)
+  pub scope_both : (body : Body) (sp : Spot) (l : Option Loop) (q : Option Placement) (env : Env) (out : Text) (m : Memory) → Good world order sp q env m → IsInner env → m.out ≡ out → AllAmong (body_names body) (ns sp) → AllAmong (set_in body) (bound_names sp)
       → ((b g : ℕ) (S : List Text) (st : State) (n : Memory) → Here (bound_all (set_in body) sp) q b g S st n → AllAmong (set_in body) S
       → Both (After (bound_all (set_in body) sp) q b g S n) (meanings world calls body (around_of world order sp l q) st) (sbody (resolved_body world order body (bound_all (set_in body) sp)) l n))
       → Both (Left sp m) (meanings world calls body (around_of world order sp l q) (record { env = env; out = out })) (sbody (scoped (set_in body) sp (resolved_body world order body)) l m)
-  scope_both body sp l q env out m g inner o i same =
+  scope_both body sp l q env out m g inner o i own same =
       let xs = set_in body in
       let n = copies sp.table sp.free xs m in
       let c = copies_hold sp.home sp.table sp.free sp.free env xs m g.fits (let e : sp.free ≤ sp.free = omega arith in e) g.agrees (in_among body (ns sp) i) in
@@ -245,7 +269,7 @@ module _ (world : World) (order : List Home) (calls : Calls) (scall : SCalls) (m
       let here : Here (bound_all xs sp) q sp.free (lim sp) xs (record { env = env; out = out }) n = record {
         good = record {
           known = g.known;
-          fits = fits_all world order xs sp.free sp.table g.fits;
+          fits = fits_all world order xs sp.free sp.table own g.fits;
           agrees = copies_held world order sp.table sp.free xs c.values k.agrees;
           part = part_more world order sp.home sp.part q sp.free (sp.free + length xs) n more k.part;
         };
@@ -256,14 +280,14 @@ module _ (world : World) (order : List Home) (calls : Calls) (scall : SCalls) (m
       (weaken (λ st r a. record { kept = kept_then c.kept a.kept; out = a.here.out }) (same sp.free (lim sp) xs (record { env = env; out = out }) n here (all_of xs)))
 
   -- names bound in a new scope, where a row of locals holds their values
-  pub good_bound : {m n : Memory} {env : Env} (sp : Spot) (q : Option Placement) (bs : Pairs) (xs : List Text) → map (λ p. p.0) bs ≡ xs → Good world order sp q env m → Kept sp.free (lim sp) m n → Held n.locals sp.free (map (λ p. p.1) bs)
+  pub good_bound : {m n : Memory} {env : Env} (sp : Spot) (q : Option Placement) (bs : Pairs) (xs : List Text) → map (λ p. p.0) bs ≡ xs → AllAmong xs (bound_names sp) → Good world order sp q env m → Kept sp.free (lim sp) m n → Held n.locals sp.free (map (λ p. p.1) bs)
       → Good world order (bound_all xs sp) q (inside bs env) n
-  good_bound {n = n} {env = env} sp q bs xs e g u h =
+  good_bound {n = n} {env = env} sp q bs xs e own g u h =
       let k = good_kept world order g u in
       let outer : Agrees world order sp.home sp.table (record { scopes = [] ∷ env.scopes; globals = env.globals }) n = record { names = k.agrees.names; globals = k.agrees.globals } in
       record {
         known = g.known;
-        fits = fits_all world order xs sp.free sp.table g.fits;
+        fits = fits_all world order xs sp.free sp.table own g.fits;
         agrees = subst (λ ys. Agrees world order sp.home (bound_table ys sp.free sp.table) (inside bs env) n) e (pairs_held world order sp.table sp.free bs ([], env.scopes, refl) h outer);
         part = part_more world order sp.home sp.part q sp.free (sp.free + length xs) n (let f : sp.free ≤ sp.free + length xs = omega arith in f) k.part;
       }
@@ -354,15 +378,15 @@ module _ (world : World) (order : List Home) (calls : Calls) (scall : SCalls) (m
       which true = both (record { values = ap (λ ys. v ∷ ys) w.values; kept = w.kept; out = w.out })
       which false = both w
 
-  kept_both : (l : Option Loop) (q : Option Placement) (c : Option Expr) (xs : List Text) (sp : Spot) (env : Env) (vs : List Tree) (m : Memory) → Good world order sp q env m → AllAmong (condition_names c) (ns sp)
+  kept_both : (l : Option Loop) (q : Option Placement) (c : Option Expr) (xs : List Text) (sp : Spot) (env : Env) (vs : List Tree) (m : Memory) → AllAmong xs (bound_names sp) → Good world order sp q env m → AllAmong (condition_names c) (ns sp)
       → Both (Rowed sp.free (lim sp) m) (kept world calls c xs (around_of world order sp l q) env vs) (skept world.filters constants scall (resolved_condition world order c (bound_all xs sp)) (fresh_targets sp.free xs) vs m)
-  kept_both l q None xs sp env vs m g i = both (record { values = refl; kept = kept_same sp.free (lim sp) m; out = refl })
-  kept_both l q (Some c) xs sp env [] m g i = both (record { values = refl; kept = kept_same sp.free (lim sp) m; out = refl })
-  kept_both l q (Some c) xs sp env (v ∷ vs) m g i =
+  kept_both l q None xs sp env vs m own g i = both (record { values = refl; kept = kept_same sp.free (lim sp) m; out = refl })
+  kept_both l q (Some c) xs sp env [] m own g i = both (record { values = refl; kept = kept_same sp.free (lim sp) m; out = refl })
+  kept_both l q (Some c) xs sp env (v ∷ vs) m own g i =
       bind_both (taken (lim sp) xs v sp.free m) (λ s n w.
-      bind_both (value_same world order calls scall mean laid None q c (bound_all xs sp) (inside s env) n (good_bound sp q s xs w.names g w.kept w.values) i) (λ b r z.
+      bind_both (value_same world order calls scall mean laid None q c (bound_all xs sp) (inside s env) n (good_bound sp q s xs w.names own g w.kept w.values) i) (λ b r z.
       let u : Kept sp.free (lim sp) m r.memory = kept_then w.kept (kept_less (let e : sp.free ≤ sp.free + length xs = omega arith in e) (let e : lim sp ≤ lim sp = omega arith in e) z.kept) in
-      bind_both (kept_both l q (Some c) xs sp env vs r.memory (good_kept world order g u) i) (λ rest rs y.
+      bind_both (kept_both l q (Some c) xs sp env vs r.memory own (good_kept world order g u) i) (λ rest rs y.
       rowed_if sp m v b r.value z.value rest rs (record { values = y.values; kept = kept_then u y.kept; out = y.out ∙ z.out ∙ w.out }))))
 
   -- the names around are as before
@@ -377,7 +401,7 @@ module _ (world : World) (order : List Home) (calls : Calls) (scall : SCalls) (m
     kept = lower h.owns w.kept;
   }
 
-  module _ (l : Option Loop) (q : Option Placement) (body : Body) (xs : List Text) (sp : Spot)
+  module _ (l : Option Loop) (q : Option Placement) (body : Body) (xs : List Text) (sp : Spot) (own : AllAmong xs (bound_names sp))
       (same : (l' : Option Loop) (env : Env) (out : Text) (n : Memory) → Good world order (bound_all xs sp) q env n → IsInner env → n.out ≡ out
       → Both (Left (bound_all xs sp) n) (meanings world calls body (around_of world order sp l' q) (record { env = env; out = out })) (sbody (scoped (set_in body) (bound_all xs sp) (resolved_body world order body)) l' n)) where
     turns_both : (p : Place) (all : List Tree) (i : ℕ) (vs : List Tree) (st : State) (m : Memory) → Good world order sp q st.env m → m.out ≡ st.out
@@ -391,7 +415,7 @@ module _ (world : World) (order : List Home) (calls : Calls) (scall : SCalls) (m
           env = refl;
           kept = kept_then w.kept (kept_less (let e : sp.free ≤ sp.free + length xs = omega arith in e) (let e : lim sp ≤ lim sp = omega arith in e) z.kept);
           out = z.out;
-        }) (same (Some (record { items = all; before = i })) (inside s st.env) st.out n (good_bound sp q s xs w.names g w.kept w.values) (inside_inner st.env s) (w.out ∙ o)))) (λ st1 n1 z.
+        }) (same (Some (record { items = all; before = i })) (inside s st.env) st.out n (good_bound sp q s xs w.names own g w.kept w.values) (inside_inner st.env s) (w.out ∙ o)))) (λ st1 n1 z.
         weaken (λ st2 n2 y. record { env = y.env ∙ z.env; kept = kept_then z.kept y.kept; out = y.out })
         (turns_both p all (suc i) vs st1 n1 (subst (λ e. Good world order sp q e n1) (sym z.env) (good_kept world order g z.kept)) z.out)))
 
@@ -407,13 +431,13 @@ module _ (world : World) (order : List Home) (calls : Calls) (scall : SCalls) (m
     pub value : as_value on n.out ≡ v
     pub kept : Kept sp.free (lim sp) m n
 
-  caught : (body : Body) (sp : Spot) (l : Option Loop) (q : Option Placement) (on : Bool) (env : Env) (m : Memory) → Good world order sp q env m → AllAmong (body_names body) (ns sp)
+  caught : (body : Body) (sp : Spot) (l : Option Loop) (q : Option Placement) (on : Bool) (env : Env) (m : Memory) → Good world order sp q env m → AllAmong (body_names body) (ns sp) → AllAmong (set_in body) (bound_names sp)
       → ((b g : ℕ) (S : List Text) (st : State) (n : Memory) → Here (bound_all (set_in body) sp) q b g S st n → AllAmong (set_in body) S
       → Both (After (bound_all (set_in body) sp) q b g S n) (meanings world calls body (around_of world order sp l q) st) (sbody (resolved_body world order body (bound_all (set_in body) sp)) l n))
       → Both (Caught sp on m) (captured on (meanings world calls body (around_of world order sp l q)) env) (sbody (scoped (set_in body) sp (resolved_body world order body)) l (record m { out = [] }))
-  caught body sp l q on env m g i same =
+  caught body sp l q on env m g i own same =
       left_both (λ r. as_value on r.out) (weaken (λ st n w. record { value = ap (as_value on) w.out; kept = kept_then (kept_out (record m { out = [] }) refl refl (kept_same sp.free (lim sp) m)) w.kept })
-      (scope_both body sp l q (inside [] env) [] (record m { out = [] }) (good_kept world order (good_inside g) (kept_out (record m { out = [] }) refl refl (kept_same sp.free (lim sp) m))) (inside_inner env []) refl i same))
+      (scope_both body sp l q (inside [] env) [] (record m { out = [] }) (good_kept world order (good_inside g) (kept_out (record m { out = [] }) refl refl (kept_same sp.free (lim sp) m))) (inside_inner env []) refl i own same))
 
   -- filters one after the other
   through_same : (fs : List Filtering) (sp : Spot) (l : Option Loop) (q : Option Placement) (env : Env) (m : Memory) (g : Got Tree) (e : SExpr Constant) → Good world order sp q env m → AllAmong (filtering_names fs) (ns sp)
@@ -488,25 +512,22 @@ module _ (world : World) (order : List Home) (calls : Calls) (scall : SCalls) (m
   sees_around x sp q env m g e = record {
     arguments = seen_params (is_scoped world sp.home x);
     globals = g.agrees.globals;
-    unscoped = λ f y i j d. absurd (clash (sym e ∙ f));
+    others = λ y i f j d. g.agrees.names y i ∙ ap (λ o. held o m) (g.fits.outer y (λ k. f (subst (λ b. Among y (if b then bound_names sp else [])) (sym e) k)) ∙ d);
   }
     where
-      clash : true ≡ false → ⊥
-      clash r = cc
-
-      seen_params : (b : Bool) → map (λ y. held (slot_in y sp.table) m) (if b then ns sp else []) ≡ map (read env) (if b then ns sp else [])
-      seen_params true = reads_are world order calls scall mean laid None q sp.table env m (ns sp) (ns sp) g.agrees.names (all_of (ns sp))
+      seen_params : (b : Bool) → map (λ y. held (slot_in y sp.table) m) (if b then bound_names sp else []) ≡ map (read env) (if b then bound_names sp else [])
+      seen_params true = reads_are world order calls scall mean laid None q sp.table env m (bound_names sp) (ns sp) g.agrees.names g.fits.few
       seen_params false = refl
 
   sees_globals : (x : Text) (sp : Spot) (q : Option Placement) (env : Env) (m : Memory) → Good world order sp q env m
       → Sees world order sp.home x (top env.globals) (map (λ y. held (slot_in y (globals world order sp.home)) m) (block_parameters world order sp.home x)) m.globals
-  sees_globals x sp q env m g = record { arguments = seen_params (is_scoped world sp.home x); globals = g.agrees.globals; unscoped = λ f y i j e. g.agrees.globals y i j e }
+  sees_globals x sp q env m g = record { arguments = seen_params (is_scoped world sp.home x); globals = g.agrees.globals; others = λ y i f j e. g.agrees.globals y i j e }
     where
       at_globals : (y : Text) → Among y (ns sp) → read (top env.globals) y ≡ held (slot_in y (globals world order sp.home)) m
       at_globals y i = let s = global_given (first_slot world order sp.home) (ns sp) y i in g.agrees.globals y i s.0 s.1 ∙ sym (ap (λ o. held o m) s.1)
 
-      seen_params : (b : Bool) → map (λ y. held (slot_in y (globals world order sp.home)) m) (if b then ns sp else []) ≡ map (read (top env.globals)) (if b then ns sp else [])
-      seen_params true = reads_are world order calls scall mean laid None q (globals world order sp.home) (top env.globals) m (ns sp) (ns sp) at_globals (all_of (ns sp))
+      seen_params : (b : Bool) → map (λ y. held (slot_in y (globals world order sp.home)) m) (if b then bound_names sp else []) ≡ map (read (top env.globals)) (if b then bound_names sp else [])
+      seen_params true = reads_are world order calls scall mean laid None q (globals world order sp.home) (top env.globals) m (bound_names sp) (ns sp) at_globals g.fits.few
       seen_params false = refl
 
   -- ---- includes
@@ -576,7 +597,7 @@ module _ (world : World) (order : List Home) (calls : Calls) (scall : SCalls) (m
 
   mutual
     pub stmt_same : (s : Stmt) (sp : Spot) (l : Option Loop) (q : Option Placement) (b j : ℕ) (S : List Text) (st : State) (m : Memory) → Here sp q b j S st m → AllAmong (stmt_names s) (ns sp) → AllAmong (set_by s) S
-        → Each (Included world order sp.home) (needs_by true s) → Each (λ x. is_scoped world sp.home x ≡ true) (scoped_by s)
+        → Each (Included world order sp.home) (needs_by true s) → Each (Proper world sp.home) (scoped_by s)
         → Both (After sp q b j S m) (meaning world calls s (around_of world order sp l q) st) (sbody (resolved_stmt world order s sp) l m)
     stmt_same (data_of t) sp l q b j S st m h i o n d =
         both (stays (st.out ++ t) h (kept_out (record m { out = m.out ++ t }) refl refl (kept_same sp.free (lim sp) m)) (ap (λ u. u ++ t) h.out))
@@ -586,13 +607,17 @@ module _ (world : World) (order : List Home) (calls : Calls) (scall : SCalls) (m
     stmt_same (choose bs other) sp l q b j S st m h i o n d =
         choice_same bs sp l q b j S st (meanings world calls other (around_of world order sp l q)) (resolved_body world order other sp)
         (λ m' h'. body_same other sp l q b j S st m' h' (among_back (branch_names bs) (body_names other) (ns sp) i) (among_back (set_under bs) (set_in other) S o)
-        (each_back (Included world order sp.home) (needs_under true bs) (needs_in true other) n) (each_back (λ x. is_scoped world sp.home x ≡ true) (scoped_under bs) (scoped_in other) d))
+        (each_back (Included world order sp.home) (needs_under true bs) (needs_in true other) n) (each_back (Proper world sp.home) (scoped_under bs) (scoped_in other) d))
         m h (among_front (branch_names bs) (body_names other) (ns sp) i) (among_front (set_under bs) (set_in other) S o)
-        (each_front (Included world order sp.home) (needs_under true bs) (needs_in true other) n) (each_front (λ x. is_scoped world sp.home x ≡ true) (scoped_under bs) (scoped_in other) d)
+        (each_front (Included world order sp.home) (needs_under true bs) (needs_in true other) n) (each_front (Proper world sp.home) (scoped_under bs) (scoped_in other) d)
     stmt_same (for_each line xs e c body other) sp l q b j S st m h i o n d =
         let i1 = among_front (expr_names e) (xs ++ (condition_names c ++ (body_names body ++ body_names other))) (ns sp) i in
         let i2 = among_back xs (condition_names c ++ (body_names body ++ body_names other)) (ns sp) (among_back (expr_names e) (xs ++ (condition_names c ++ (body_names body ++ body_names other))) (ns sp) i) in
         let i3 = among_back (condition_names c) (body_names body ++ body_names other) (ns sp) i2 in
+        let own = names_proper world sp.home xs (named (set_in body) ++ (scoped_in body ++ scoped_in other)) d in
+        let d1 = behind_proper world sp.home xs (named (set_in body) ++ (scoped_in body ++ scoped_in other)) d in
+        let sets = names_proper world sp.home (set_in body) (scoped_in body ++ scoped_in other) d1 in
+        let d2 = behind_proper world sp.home (set_in body) (scoped_in body ++ scoped_in other) d1 in
         by_right (alone_same (slots.for_each (place sp line) (fresh_targets sp.free xs) (resolved world order e sp) (resolved_condition world order c (bound_all xs sp)) (scoped (set_in body) (bound_all xs sp) (resolved_body world order body)) (resolved_body world order other sp)) l m)
         (bind_both {R = Rowed sp.free (lim sp) m}
         (at_both (place sp line) (bind_both (value_same world order calls scall mean laid l q e sp st.env m h.good i1) (λ v r w.
@@ -600,17 +625,17 @@ module _ (world : World) (order : List Home) (calls : Calls) (scall : SCalls) (m
         (bind_both (checked_both (items_of_value v)) (λ vs ws f.
         by_right (ap (λ z. skept world.filters constants scall (resolved_condition world order c (bound_all xs sp)) (fresh_targets sp.free xs) z r.memory) f)
         (weaken (λ us rs y. record { values = y.values; kept = kept_then w.kept y.kept; out = y.out ∙ w.out })
-        (kept_both l q c xs sp st.env vs r.memory (good_kept world order h.good w.kept) (among_front (condition_names c) (body_names body ++ body_names other) (ns sp) i2))))))))
+        (kept_both l q c xs sp st.env vs r.memory own (good_kept world order h.good w.kept) (among_front (condition_names c) (body_names body ++ body_names other) (ns sp) i2))))))))
         (λ vs r w.
         let h' : Here sp q b j S st r.memory = record { good = good_kept world order h.good w.kept; owns = h.owns; out = w.out ∙ h.out } in
         by_right (ap (λ z. sgone_over (λ l' n'. sbody (scoped (set_in body) (bound_all xs sp) (resolved_body world order body)) l' n') (λ n'. sbody (resolved_body world order other sp) l n') (fresh_targets sp.free xs) (place sp line) z r.memory) w.values)
         (weaken (λ st' n' y. since (lower h.owns w.kept) y)
-        (gone_both l q body xs sp
-        (λ l' env out n' g inner z. scope_both body (bound_all xs sp) l' q env out n' g inner z (among_front (body_names body) (body_names other) (ns sp) i3)
+        (gone_both l q body xs sp own
+        (λ l' env out n' g inner z. scope_both body (bound_all xs sp) l' q env out n' g inner z (among_front (body_names body) (body_names other) (ns sp) i3) sets
         (λ b' j' S' st' n'' h'' o''. body_same body (bound_all (set_in body) (bound_all xs sp)) l' q b' j' S' st' n'' h'' (among_front (body_names body) (body_names other) (ns sp) i3) o''
-        (each_front (Included world order sp.home) (needs_in true body) (needs_in true other) n) (each_front (λ x. is_scoped world sp.home x ≡ true) (scoped_in body) (scoped_in other) d)))
+        (each_front (Included world order sp.home) (needs_in true body) (needs_in true other) n) (each_front (Proper world sp.home) (scoped_in body) (scoped_in other) d2)))
         (place sp line) b j S vs st r.memory (meanings world calls other (around_of world order sp l q)) (λ n'. sbody (resolved_body world order other sp) l n') h'
-        (body_same other sp l q b j S st r.memory h' (among_back (body_names body) (body_names other) (ns sp) i3) o (each_back (Included world order sp.home) (needs_in true body) (needs_in true other) n) (each_back (λ x. is_scoped world sp.home x ≡ true) (scoped_in body) (scoped_in other) d))))))
+        (body_same other sp l q b j S st r.memory h' (among_back (body_names body) (body_names other) (ns sp) i3) o (each_back (Included world order sp.home) (needs_in true body) (needs_in true other) n) (each_back (Proper world sp.home) (scoped_in body) (scoped_in other) d2))))))
     stmt_same (set line xs e) sp l q b j S st m h i o n d =
         by_right (alone_same (assign (place sp line) (set_targets sp.table xs) (resolved world order e sp)) l m)
         (left_both (λ s. record st { env = all_bound st.env s })
@@ -621,7 +646,8 @@ module _ (world : World) (order : List Home) (calls : Calls) (scall : SCalls) (m
         (set_all xs sp q b j S st r.memory h' (λ T first next. all_set world order sp.home sp.table sp.free h'.good.fits S r.memory T first next xs v o (among_back (expr_names e) xs (ns sp) i))))))))
     stmt_same (set_block line x body) sp l q b j S st m h i o n d =
         by_right (alone_same (capture sp.escaping (slot_of x sp.table) (scoped (set_in body) sp (resolved_body world order body))) l m)
-        (bind_both (caught body sp l q sp.escaping st.env m h.good i.1 (λ b' j' S' st' n' h' o'. body_same body (bound_all (set_in body) sp) l q b' j' S' st' n' h' i.1 o' n d)) (λ v n' w.
+        (bind_both (caught body sp l q sp.escaping st.env m h.good i.1 (names_proper world sp.home (set_in body) (scoped_in body) d)
+        (λ b' j' S' st' n' h' o'. body_same body (bound_all (set_in body) sp) l q b' j' S' st' n' h' i.1 o' n (behind_proper world sp.home (set_in body) (scoped_in body) d))) (λ v n' w.
         let m2 : Memory = record n' { out = m.out } in
         let u : Kept sp.free (lim sp) m m2 = kept_out m2 refl refl w.kept in
         let h' : Here sp q b j S st m2 = record { good = good_kept world order h.good u; owns = h.owns; out = h.out } in
@@ -631,17 +657,19 @@ module _ (world : World) (order : List Home) (calls : Calls) (scall : SCalls) (m
         (set_all {g = gives ((x, v) ∷ [])} (x ∷ []) sp q b j S st m2 h' (λ T first next. both (one_set world order sp.home sp.table sp.free h'.good.fits S m2 T first next x v o.0 i.0)))))))
     stmt_same (with_values line ps body) sp l q b j S st m h i o n d =
         let i1 = among_back (keywords ps) (body_names body) (ns sp) (among_back (pair_names ps) (keywords ps ++ body_names body) (ns sp) i) in
+        let own = names_proper world sp.home (keywords ps) (named (set_in body) ++ scoped_in body) d in
+        let d1 = behind_proper world sp.home (keywords ps) (named (set_in body) ++ scoped_in body) d in
         with_same ps sp l q st.env m line h.good (among_front (pair_names ps) (keywords ps ++ body_names body) (ns sp) i) (After sp q b j S m) (λ ks. within ks (meanings world calls body (around_of world order sp l q)) st)
         (scoped (set_in body) (bound_all (keywords ps) sp) (resolved_body world order body)) (λ ks n' w.
         left_both (λ r. record st { out = r.out })
         (weaken (λ st' n'' y. stays st'.out h (kept_then w.kept (kept_less (let f : sp.free ≤ sp.free + length (keywords ps) = omega arith in f) (let f : lim sp ≤ lim sp = omega arith in f) y.kept)) y.out)
-        (scope_both body (bound_all (keywords ps) sp) l q (inside ks st.env) st.out n' (good_bound sp q ks (keywords ps) w.names h.good w.kept w.values) (inside_inner st.env ks) (w.out ∙ h.out) i1
-        (λ b' j' S' st' n'' h' o'. body_same body (bound_all (set_in body) (bound_all (keywords ps) sp)) l q b' j' S' st' n'' h' i1 o' n d))))
+        (scope_both body (bound_all (keywords ps) sp) l q (inside ks st.env) st.out n' (good_bound sp q ks (keywords ps) w.names own h.good w.kept w.values) (inside_inner st.env ks) (w.out ∙ h.out) i1 (names_proper world sp.home (set_in body) (scoped_in body) d1)
+        (λ b' j' S' st' n'' h' o'. body_same body (bound_all (set_in body) (bound_all (keywords ps) sp)) l q b' j' S' st' n'' h' i1 o' n (behind_proper world sp.home (set_in body) (scoped_in body) d1)))))
     stmt_same (filter_block line fs body) sp l q b j S st m h i o n d =
         by_right (bind_assoc (sbody (scoped (set_in body) (grown sp) (resolved_body world order body)) l (record m { out = [] })) (λ n'. gives (store (local sp.free) (as_value sp.escaping n'.out) (record n' { out = m.out })))
         (λ n'. sbody (alone (slots.print (place sp line) sp.escaping (resolved_filters world order fs (grown sp) (slots.variable (local sp.free))))) l n'))
-        (bind_both (caught body (grown sp) l q sp.escaping st.env m (good_grown world order h.good) (among_front (body_names body) (filtering_names fs) (ns sp) i)
-        (λ b' j' S' st' n' h' o'. body_same body (bound_all (set_in body) (grown sp)) l q b' j' S' st' n' h' (among_front (body_names body) (filtering_names fs) (ns sp) i) o' n d)) (λ v n' w.
+        (bind_both (caught body (grown sp) l q sp.escaping st.env m (good_grown world order h.good) (among_front (body_names body) (filtering_names fs) (ns sp) i) (names_proper world sp.home (set_in body) (scoped_in body) d)
+        (λ b' j' S' st' n' h' o'. body_same body (bound_all (set_in body) (grown sp)) l q b' j' S' st' n' h' (among_front (body_names body) (filtering_names fs) (ns sp) i) o' n (behind_proper world sp.home (set_in body) (scoped_in body) d))) (λ v n' w.
         let m2 : Memory = store (local sp.free) (as_value sp.escaping n'.out) (record n' { out = m.out }) in
         let less : sp.free ≤ suc sp.free = omega arith in
         let one = kept_store sp.free (lim sp) sp.free (as_value sp.escaping n'.out) (record n' { out = m.out }) (let f : sp.free ≤ sp.free = omega arith in f) in
@@ -657,8 +685,8 @@ module _ (world : World) (order : List Home) (calls : Calls) (scall : SCalls) (m
         let g = good_inside h.good in
         left_both (λ r. record st { out = r.out })
         (weaken (λ st' n' y. stays st'.out h y.kept y.out)
-        (scope_both body sp' l q (inside [] st.env) st.out m (record { known = g.known; fits = g.fits; agrees = g.agrees; part = g.part }) (inside_inner st.env []) h.out i
-        (λ b' j' S' st' n' h' o'. body_same body (bound_all (set_in body) sp') l q b' j' S' st' n' h' i o' n d)))
+        (scope_both body sp' l q (inside [] st.env) st.out m (record { known = g.known; fits = g.fits; agrees = g.agrees; part = g.part }) (inside_inner st.env []) h.out i (names_proper world sp.home (set_in body) (scoped_in body) d)
+        (λ b' j' S' st' n' h' o'. body_same body (bound_all (set_in body) sp') l q b' j' S' st' n' h' i o' n (behind_proper world sp.home (set_in body) (scoped_in body) d))))
     stmt_same (macro line x ps body) sp l q b j S st m h i o n d = both (record { here = h; kept = kept_same b j m })
     stmt_same (include line k ignore_missing with_context) sp l q b j S st m h i o n d =
         including (is_none (world.sources k)) refl
@@ -681,21 +709,21 @@ module _ (world : World) (order : List Home) (calls : Calls) (scall : SCalls) (m
         (placed_both x (globals world order sp.home) (top st.env.globals) (numbered_of world sp.home x) sp l q b j S st m h (sees_globals x sp q st.env m h.good) refl)
 
     pub body_same : (c : Body) (sp : Spot) (l : Option Loop) (q : Option Placement) (b j : ℕ) (S : List Text) (st : State) (m : Memory) → Here sp q b j S st m → AllAmong (body_names c) (ns sp) → AllAmong (set_in c) S
-        → Each (Included world order sp.home) (needs_in true c) → Each (λ x. is_scoped world sp.home x ≡ true) (scoped_in c)
+        → Each (Included world order sp.home) (needs_in true c) → Each (Proper world sp.home) (scoped_in c)
         → Both (After sp q b j S m) (meanings world calls c (around_of world order sp l q) st) (sbody (resolved_body world order c sp) l m)
     body_same end sp l q b j S st m h i o n d = both (record { here = h; kept = kept_same b j m })
     body_same (stmt s rest) sp l q b j S st m h i o n d =
         by_right (followed_same (resolved_stmt world order s sp) (resolved_body world order rest sp) l m)
         (bind_both (stmt_same s sp l q b j S st m h (among_front (stmt_names s) (body_names rest) (ns sp) i) (among_front (set_by s) (set_in rest) S o) (each_front (Included world order sp.home) (needs_by true s) (needs_in true rest) n)
-        (each_front (λ x. is_scoped world sp.home x ≡ true) (scoped_by s) (scoped_in rest) d)) (λ st' m' a.
+        (each_front (Proper world sp.home) (scoped_by s) (scoped_in rest) d)) (λ st' m' a.
         weaken (λ st'' m'' y. since a.kept y)
         (body_same rest sp l q b j S st' m' a.here (among_back (stmt_names s) (body_names rest) (ns sp) i) (among_back (set_by s) (set_in rest) S o) (each_back (Included world order sp.home) (needs_by true s) (needs_in true rest) n)
-        (each_back (λ x. is_scoped world sp.home x ≡ true) (scoped_by s) (scoped_in rest) d))))
+        (each_back (Proper world sp.home) (scoped_by s) (scoped_in rest) d))))
 
     -- the else part is given by its meaning, its resolved form and that they mean the same
     pub choice_same : (bs : Branches) (sp : Spot) (l : Option Loop) (q : Option Placement) (b j : ℕ) (S : List Text) (st : State) (other : State → Got State) (sother : SBody Constant)
         → ((m : Memory) → Here sp q b j S st m → Both (After sp q b j S m) (other st) (sbody sother l m))
-        → (m : Memory) → Here sp q b j S st m → AllAmong (branch_names bs) (ns sp) → AllAmong (set_under bs) S → Each (Included world order sp.home) (needs_under true bs) → Each (λ x. is_scoped world sp.home x ≡ true) (scoped_under bs)
+        → (m : Memory) → Here sp q b j S st m → AllAmong (branch_names bs) (ns sp) → AllAmong (set_under bs) S → Each (Included world order sp.home) (needs_under true bs) → Each (Proper world sp.home) (scoped_under bs)
         → Both (After sp q b j S m) (chosen world calls bs (around_of world order sp l q) st other) (sbody (resolved_choice world order bs sp sother) l m)
     choice_same no_branches sp l q b j S st other sother others m h i o n d = others m h
     choice_same (branch line c body rest) sp l q b j S st other sother others m h i o n d =
@@ -706,6 +734,6 @@ module _ (world : World) (order : List Home) (calls : Calls) (scall : SCalls) (m
         by_right (ap (λ z. if tree.truth z then sbody (resolved_body world order body sp) l r.memory else sbody (resolved_choice world order rest sp sother) l r.memory) w.value)
         (weaken (λ st' n' y. since (lower h.owns w.kept) y) (if_both (tree.truth v)
         (body_same body sp l q b j S st r.memory h' (among_front (body_names body) (branch_names rest) (ns sp) i1) (among_front (set_in body) (set_under rest) S o) (each_front (Included world order sp.home) (needs_in true body) (needs_under true rest) n)
-        (each_front (λ x. is_scoped world sp.home x ≡ true) (scoped_in body) (scoped_under rest) d))
+        (each_front (Proper world sp.home) (scoped_in body) (scoped_under rest) d))
         (choice_same rest sp l q b j S st other sother others r.memory h' (among_back (body_names body) (branch_names rest) (ns sp) i1) (among_back (set_in body) (set_under rest) S o) (each_back (Included world order sp.home) (needs_in true body) (needs_under true rest) n)
-        (each_back (λ x. is_scoped world sp.home x ≡ true) (scoped_in body) (scoped_under rest) d))))))
+        (each_back (Proper world sp.home) (scoped_in body) (scoped_under rest) d))))))

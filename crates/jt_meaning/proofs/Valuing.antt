@@ -40,6 +40,7 @@ use Rattle.jt_meaning.proofs.Both.{Both, both, fault, bind_both, if_both, weaken
 use Rattle.jt_meaning.proofs.Reading.{among_front, among_back, held, put_here}
 use Rattle.jt_meaning.proofs.Agreeing.{Kept, kept_same, kept_then, kept_less, kept_store, Held, limit, global_given}
 use Rattle.jt_meaning.proofs.Calling.{Evaluated, Rowed, Known, Sees, Tail, PartHolds, Good, good_kept, good_grown, around_of, Wrote, CallsMean, DefaultsAt, DefaultsLaid}
+use Rattle.jt_inherit.specs.Uses.{scope_names}
 use Rattle.jt_meaning.proofs.Among.{Among, AllAmong}
 
 -- ---- rows of values
@@ -392,6 +393,9 @@ module _ (world : World) (order : List Home) (calls : Calls) (scall : SCalls) (m
   field_both sp None = given_both sp tree.undefined
   field_both {m = m} sp (Some f) = done (loop_field f l) (kept_same sp.free (end sp) m) refl
 
+  abbrev pub bound_names : Spot → List Text
+  bound_names sp = scope_names world.sources sp.home
+
   abbrev pub ns : Spot → List Text
   ns sp = names world order sp.home
 
@@ -492,7 +496,7 @@ module _ (world : World) (order : List Home) (calls : Calls) (scall : SCalls) (m
       (sym (numbered_are world sp.home x))
       (body_both sp sp.escaping (map (λ d. d.1) (numbered_of world sp.home x)) (first_body (numbered_of world sp.home x)) (top env.globals) (reads (globals world order sp.home) (block_parameters world order sp.home x)) x (numbered_of world sp.home x)
       (map (λ y. held (slot_in y (globals world order sp.home)) m) (block_parameters world order sp.home x)) g.known ([], refl) (firsts (numbered_of world sp.home x)) (reads_give (globals world order sp.home) (block_parameters world order sp.home x) m)
-      (record { arguments = seen_params (is_scoped world sp.home x); globals = g.agrees.globals; unscoped = λ f y i j e. g.agrees.globals y i j e }))
+      (record { arguments = seen_params (is_scoped world sp.home x); globals = g.agrees.globals; others = λ y i f j e. g.agrees.globals y i j e }))
     where
       firsts : (bs : List (ℕ × BlockBody)) → GivenBy bs (map (λ d. d.1) bs) (first_body bs)
       firsts [] = tt
@@ -501,15 +505,8 @@ module _ (world : World) (order : List Home) (calls : Calls) (scall : SCalls) (m
       at_globals : (y : Text) → Among y (ns sp) → read (top env.globals) y ≡ held (slot_in y (globals world order sp.home)) m
       at_globals y i = let s = global_given (first_slot world order sp.home) (ns sp) y i in g.agrees.globals y i s.0 s.1 ∙ sym (ap (λ o. held o m) s.1)
 
-      all_of : (xs : List Text) → AllAmong xs xs
-      all_of xs = every xs xs (λ y i. i)
-        where
-          every : (ys zs : List Text) → ((y : Text) → Among y ys → Among y zs) → AllAmong ys zs
-          every [] zs f = tt
-          every (y ∷ ys) zs f = (f y (inl refl), every ys zs (λ z i. f z (inr i)))
-
-      seen_params : (b : Bool) → map (λ y. held (slot_in y (globals world order sp.home)) m) (if b then ns sp else []) ≡ map (read (top env.globals)) (if b then ns sp else [])
-      seen_params true = reads_are (globals world order sp.home) (top env.globals) m (ns sp) (ns sp) at_globals (all_of (ns sp))
+      seen_params : (b : Bool) → map (λ y. held (slot_in y (globals world order sp.home)) m) (if b then bound_names sp else []) ≡ map (read (top env.globals)) (if b then bound_names sp else [])
+      seen_params true = reads_are (globals world order sp.home) (top env.globals) m (bound_names sp) (ns sp) at_globals g.fits.few
       seen_params false = refl
   call_both a_cycle sp env ts ps g named row passed = cycle_both sp (count ts) (values world calls ts (around_of world order sp l q) env) (resolved_row world order ts sp none) row
   call_both no_callee sp env ts ps g named row passed = given_both sp tree.undefined

@@ -24,6 +24,10 @@ use Rattle.jt_meaning.proofs.Locality.{Below, globals_below, bound_below, scope_
 use Rattle.jt_meaning.proofs.Locality as locality
 use Rattle.jt_meaning.proofs.Constants.{followed_count, stmt_counted, all_counted, scope_counted}
 use Rattle.jt_meaning.proofs.Lowness.{followed_low, stmt_low, all_low, scope_low}
+use Rattle.jt_parse.specs.Trees.{body_bound, stmt_bound}
+use Rattle.jt_inherit.specs.Uses.{scope_names}
+use Rattle.jt_meaning.specs.Layout.{is_scoped}
+use Rattle.jt_meaning.proofs.Free.{stmt_free, body_free, Paid, PaidMacro, AllPaid, MacrosPaid, body_paid, templates_bound, templates_pay, chain_blocks, chain_macros, scopes_few}
 
 -- ---- each body counts once: in its template, or as a block's or a macro's
 
@@ -194,19 +198,7 @@ heights_placed : (w : ℕ) (rs : List (Routine Constant)) (n : ℕ) → AllByRec
 heights_placed w [] n h = tt
 heights_placed w (r ∷ rs) n h = let a = body_placed r.body n in (omega (arith, a.1, h.0), heights_placed w rs (n + length (body_values r.body)) h.1)
 
--- ---- the entries of a chain's routines: a call loads the parameters of a macro, which are paid where that stands, or of a block
-
-abbrev most : List MacroBody → ℕ
-most [] = 0
-most (m ∷ ms) = max (length m.parameters) (most ms)
-
-most_all : (q : ℕ) (ms : List MacroBody) → most ms ≤ q → AllByRecursion (λ m. length m.parameters ≤ q) ms
-most_all q [] h = tt
-most_all q (m ∷ ms) h = (omega (arith, h), most_all q ms (omega (arith, h)))
-
-most_paid : (ms : List MacroBody) → 2 * most ms ≤ macros_own ms
-most_paid [] = omega arith
-most_paid (m ∷ ms) = omega (arith, most_paid ms)
+-- ---- the entries of a chain's routines: the names that are bound pay for what calls load
 
 abbrev Low : ℕ → Routine Constant → Type 0
 Low w r = 2 * body_height r.body ≤ w
@@ -220,74 +212,87 @@ low_more w v e [] h = tt
 low_more w v e (r ∷ a) h = (omega (arith, e, h.0), low_more w v e a h.1)
 
 module _ (world : World) (order : List Home) (h : Home) (q : ℕ) (k : HasAtMost world order q h) where
-  sets_low : (b : Body) (t : Text) → 2 * body_height (resolved_sets world order b (top_spot world order h t)) ≤ body_own b + 2 * q
-  sets_low end t = omega arith
-  sets_low (stmt s rest) t = through (is_set s) (sets_low rest t)
+  sets_low : (b : Body) (t : Text) → body_bound b ≤ q → 2 * body_height (resolved_sets world order b (top_spot world order h t)) ≤ body_free b + 2 * q
+  sets_low end t g = omega arith
+  sets_low (stmt s rest) t g = through (is_set s) (sets_low rest t (omega (arith, g)))
     where
-      through : (b : Bool) → 2 * body_height (resolved_sets world order rest (top_spot world order h t)) ≤ body_own rest + 2 * q
-          → 2 * body_height (if b then followed (resolved_stmt world order s (top_spot world order h t)) (resolved_sets world order rest (top_spot world order h t)) else resolved_sets world order rest (top_spot world order h t)) ≤ stmt_own s + body_own rest + 2 * q
-      through true g = omega (arith, g, stmt_low world order q s (top_spot world order h t) k, followed_low (resolved_stmt world order s (top_spot world order h t)) (resolved_sets world order rest (top_spot world order h t)))
-      through false g = omega (arith, g)
+      through : (b : Bool) → 2 * body_height (resolved_sets world order rest (top_spot world order h t)) ≤ body_free rest + 2 * q
+          → 2 * body_height (if b then followed (resolved_stmt world order s (top_spot world order h t)) (resolved_sets world order rest (top_spot world order h t)) else resolved_sets world order rest (top_spot world order h t)) ≤ stmt_free s + body_free rest + 2 * q
+      through true f =
+          omega (arith, f, stmt_low world order q s (top_spot world order h t) k (omega (arith, g)), followed_low (resolved_stmt world order s (top_spot world order h t)) (resolved_sets world order rest (top_spot world order h t)))
+      through false f = omega (arith, f)
 
-  chain_low : (ts : List Template) → 2 * body_height (resolved_chain world order h ts) ≤ templates_own ts + 2 * q
-  chain_low [] = omega arith
-  chain_low (t ∷ []) = omega (arith, all_low world order q t.body (top_spot world order h t.name) k)
-  chain_low (t ∷ (u ∷ us)) =
-      omega (arith, chain_low (u ∷ us), sets_low t.body t.name, followed_low (resolved_sets world order t.body (top_spot world order h t.name)) (resolved_chain world order h (u ∷ us)))
+  -- templates one behind the other need as many entries as the one that needs most
+  chain_low : (w : ℕ) (ts : List Template) → AllByRecursion (λ t. (body_free t.body + 2 * q ≤ w) × (body_bound t.body ≤ q)) ts → 2 * body_height (resolved_chain world order h ts) ≤ w
+  chain_low w [] g = omega arith
+  chain_low w (t ∷ []) g = let f = g.0.0 in omega (arith, f, all_low world order q t.body (top_spot world order h t.name) k g.0.1)
+  chain_low w (t ∷ (u ∷ us)) g =
+      let f = g.0.0 in
+      omega (arith, f, chain_low w (u ∷ us) g.1, sets_low t.body t.name g.0.1, followed_low (resolved_sets world order t.body (top_spot world order h t.name)) (resolved_chain world order h (u ∷ us)))
 
-  blocks_low : (w n : ℕ) (bs : List BlockBody) → bodies_own bs + 2 * q ≤ w → AllByRecursion (Low (max 2 w)) (body_routines world order h (counted_from n bs))
+  blocks_low : (w n : ℕ) (bs : List BlockBody) → AllPaid w q bs → AllByRecursion (Low (max 2 w)) (body_routines world order h (counted_from n bs))
   blocks_low w n [] g = tt
   blocks_low w n (b ∷ bs) g =
       let part : Part = record { name = b.name; behind = filter (λ c. bytes_eq c.1.name b.name) (counted_from (suc n) bs) } in
       let sp = bound_all (block_parameters world order h b.name) (record (top_spot world order h b.template) { escaping = b.escaping; part = Some part }) in
-      (omega (arith, g, scope_low world order q b.body sp (all_low world order q b.body (bound_all (set_in b.body) sp) k)), blocks_low w (suc n) bs (omega (arith, g)))
+      let f = g.0.free in
+      (omega (arith, f, scope_low world order q b.body sp (all_low world order q b.body (bound_all (set_in b.body) sp) k g.0.bound)), blocks_low w (suc n) bs g.1)
 
-  macros_low : (w : ℕ) (ms : List MacroBody) → (AllByRecursion (λ m. body_own m.body + 2 * q ≤ w) ms) → AllByRecursion (Low (max 2 w)) (map (macro_routine world order h) ms)
+  macros_low : (w : ℕ) (ms : List MacroBody) → MacrosPaid w q ms → AllByRecursion (Low (max 2 w)) (map (macro_routine world order h) ms)
   macros_low w [] g = tt
   macros_low w (m ∷ ms) g =
       let sp = bound_all (map (λ p. p.name) m.parameters) (top_spot world order h m.template) in
-      (omega (arith, g.0, scope_low world order q m.body sp (all_low world order q m.body (bound_all (set_in m.body) sp) k)), macros_low w ms g.1)
+      let f = g.0.body.free in
+      (omega (arith, f, scope_low world order q m.body sp (all_low world order q m.body (bound_all (set_in m.body) sp) k g.0.body.bound)), macros_low w ms g.1)
 
--- a macro's body beside the parameters of the one that has the most; those in front of it have at most so many
-macros_paid : (before n w s : ℕ) (ms : List MacroBody) → max before (most ms) ≡ n → 2 * before + macros_own ms + 2 * s ≤ w → AllByRecursion (λ m. body_own m.body + 2 * (n + s) ≤ w) ms
-macros_paid before n w s [] e h = tt
-macros_paid before n w s (m ∷ ms) e h = (omega (arith, e, h, most_paid ms), macros_paid (max before (length m.parameters)) n w s ms (omega (arith, e)) (omega (arith, h)))
+-- each template of a chain, beside the names that all of them bind
+templates_each : (w n : ℕ) (ts : List Template) → templates_weight ts + 2 * n ≤ w + 2 * templates_bound ts → templates_bound ts ≤ n → AllByRecursion (λ t. (body_free t.body + 2 * n ≤ w) × (body_bound t.body ≤ n)) ts
+templates_each w n [] e l = tt
+templates_each w n (t ∷ ts) e l =
+    let p = body_paid t.body in
+    let r = templates_pay ts in
+    ((omega (arith, p, r, e), omega (arith, l)), templates_each w n ts (omega (arith, p, e)) (omega (arith, l)))
 
-module _ (world : World) (order : List Home) (h : Home) (s : ℕ) (k : IsFew world order h) (b : (x : Text) → length (block_parameters world order h x) ≤ s) where
-  abbrev ms : List MacroBody
-  ms = macros world.sources h
+macros_few : (w n : ℕ) (ms : List MacroBody) → MacrosPaid w n ms → AllByRecursion (λ m. length m.parameters ≤ n) ms
+macros_few w n [] p = tt
+macros_few w n (m ∷ ms) p = (p.0.parameters, macros_few w n ms p.1)
 
-  at_most : HasAtMost world order (most ms + s) h
-  at_most = record { macros = most_all (most ms + s) ms (omega arith); blocks = λ x. omega (arith, b x); filters = k.filters }
+module _ (world : World) (order : List Home) (h : Home) (k : IsFew world order h) where
+  abbrev ts : List Template
+  ts = templates world.sources h
 
-  low_in_chain : AllByRecursion (Low (max 2 (templates_weight (templates world.sources h) + 2 * s))) (chain_routines world order h)
+  at_most : HasAtMost world order (templates_bound ts) h
+  at_most = record { macros = macros_few (templates_weight ts) (templates_bound ts) (macros world.sources h) (chain_macros ts); blocks = λ x. of_scopes (is_scoped world h x); filters = k.filters }
+    where
+      of_scopes : (b : Bool) → length (if b then scope_names world.sources h else []) ≤ templates_bound ts
+      of_scopes true = scopes_few ts
+      of_scopes false = omega arith
+
+  low_in_chain : AllByRecursion (Low (max 2 (templates_weight ts))) (chain_routines world order h)
   low_in_chain =
-      let ts = templates world.sources h in
-      let q = most ms + s in
-      let w = templates_weight ts + 2 * s in
-      let once = chain_once world.escaping ts in (
-        omega (arith, once, most_paid ms, chain_low world order h q at_most ts),
-        low_append (max 2 w) (map (macro_routine world order h) ms) (body_routines world order h (numbered_bodies world h))
-            (macros_low world order h q at_most w ms (macros_paid 0 (most ms) w s ms (omega arith) (omega (arith, once))))
-            (blocks_low world order h q at_most w 0 (all_bodies world.sources world.escaping h) (omega (arith, once, most_paid ms))),
+      let q = templates_bound ts in
+      let w = templates_weight ts in (
+        (let c = chain_low world order h q at_most w ts (templates_each w q ts (omega arith) (omega arith)) in omega (arith, c)),
+        low_append (max 2 w) (map (macro_routine world order h) (macros world.sources h)) (body_routines world order h (numbered_bodies world h))
+            (macros_low world order h q at_most w (macros world.sources h) (chain_macros ts))
+            (blocks_low world order h q at_most w 0 (all_bodies world.sources world.escaping h) (chain_blocks world.escaping ts)),
       )
 
 -- ---- all chains
 
-chains_sized : (world : World) (order hs : List Home) (s : ℕ) → AllByRecursion (λ h. IsFew world order h × ((x : Text) → length (block_parameters world order h x) ≤ s)) hs
+chains_sized : (world : World) (order hs : List Home) → AllByRecursion (IsFew world order) hs
     → routines_size (flat_map (chain_routines world order) hs) ≤ 100 * chains_weight world.sources hs + length hs
-chains_sized world order [] s k = omega arith
-chains_sized world order (h ∷ hs) s k =
-    omega (arith, chains_sized world order hs s k.1, all_in_chain world order h k.0.0, routines_append (chain_routines world order h) (flat_map (chain_routines world order) hs))
+chains_sized world order [] k = omega arith
+chains_sized world order (h ∷ hs) k =
+    omega (arith, chains_sized world order hs k.1, all_in_chain world order h k.0, routines_append (chain_routines world order h) (flat_map (chain_routines world order) hs))
 
-chains_low : (world : World) (order hs : List Home) (s : ℕ) → AllByRecursion (λ h. IsFew world order h × ((x : Text) → length (block_parameters world order h x) ≤ s)) hs
-    → AllByRecursion (Low (max 2 (chains_weight world.sources hs + 2 * s))) (flat_map (chain_routines world order) hs)
-chains_low world order [] s k = tt
-chains_low world order (h ∷ hs) s k =
-    let w = max 2 (chains_weight world.sources (h ∷ hs) + 2 * s) in
+chains_low : (world : World) (order hs : List Home) → AllByRecursion (IsFew world order) hs → AllByRecursion (Low (max 2 (chains_weight world.sources hs))) (flat_map (chain_routines world order) hs)
+chains_low world order [] k = tt
+chains_low world order (h ∷ hs) k =
+    let w = max 2 (chains_weight world.sources (h ∷ hs)) in
     low_append w (chain_routines world order h) (flat_map (chain_routines world order) hs)
-    (low_more (max 2 (templates_weight (templates world.sources h) + 2 * s)) w (omega arith) (chain_routines world order h) (low_in_chain world order h s k.0.0 k.0.1))
-    (low_more (max 2 (chains_weight world.sources hs + 2 * s)) w (omega arith) (flat_map (chain_routines world order) hs) (chains_low world order hs s k.1))
+    (low_more (max 2 (templates_weight (templates world.sources h))) w (omega arith) (chain_routines world order h) (low_in_chain world order h k.0))
+    (low_more (max 2 (chains_weight world.sources hs)) w (omega arith) (flat_map (chain_routines world order) hs) (chains_low world order hs k.1))
 
 -- ---- constants: those of the routines' own, and the defaults of macros
 
@@ -434,29 +439,29 @@ module _ (world : World) (order : List Home) (n : ℕ) (some : 1 ≤ n) (few : (
             (blocks_localed 0 (all_bodies world.sources world.escaping h) (λ x. parameters_few world order h x (k.names h)) (omega (arith, room, once))),
       )
 
-chains_localed : (world : World) (order hs : List Home) (s n : ℕ) (some : 1 ≤ n) (few : (h : Home) (x : Text) → length (block_parameters world order h x) ≤ n)
-    → AllByRecursion (λ h. IsFew world order h × ((x : Text) → length (block_parameters world order h x) ≤ s)) hs → 200 + chains_weight world.sources hs ≤ n → AllByRecursion (Holds n) (flat_map (chain_routines world order) hs)
-chains_localed world order [] s n some few k room = tt
-chains_localed world order (h ∷ hs) s n some few k room =
-    holds_append n (chain_routines world order h) (flat_map (chain_routines world order) hs) (localed_in_chain world order n some few h k.0.0 (omega (arith, room)))
-    (chains_localed world order hs s n some few k.1 (omega (arith, room)))
+chains_localed : (world : World) (order hs : List Home) (n : ℕ) (some : 1 ≤ n) (few : (h : Home) (x : Text) → length (block_parameters world order h x) ≤ n)
+    → AllByRecursion (IsFew world order) hs → 200 + chains_weight world.sources hs ≤ n → AllByRecursion (Holds n) (flat_map (chain_routines world order) hs)
+chains_localed world order [] n some few k room = tt
+chains_localed world order (h ∷ hs) n some few k room =
+    holds_append n (chain_routines world order h) (flat_map (chain_routines world order) hs) (localed_in_chain world order n some few h k.0 (omega (arith, room)))
+    (chains_localed world order hs n some few k.1 (omega (arith, room)))
 
 holds_placed : (n : ℕ) (rs : List (Routine Constant)) (i : ℕ) → AllByRecursion (Holds n) rs → AllByRecursion (Holds n) (placed_routines rs i)
 holds_placed n [] i h = tt
 holds_placed n (r ∷ rs) i h = (h.0, holds_placed n rs (i + length (body_values r.body)) h.1)
 
-pub program_sized : (world : World) (entry : Home) (rest : List Home) (s : ℕ) → AreFew world (entry ∷ rest) s → IsSized world (entry ∷ rest) s (program world (entry ∷ rest) entry)
-program_sized world entry rest s k =
+pub program_sized : (world : World) (entry : Home) (rest : List Home) → AreFew world (entry ∷ rest) → IsSized world (entry ∷ rest) (program world (entry ∷ rest) entry)
+program_sized world entry rest k =
     let order = entry ∷ rest in
     let rs = routines world order in
     let n = length (shared world order) in
     record {
-      instructions = omega (arith, routines_placed rs n, chains_sized world order order s k);
-      constants = omega (arith, chains_counted world order order k.0.0.filters, length-append (shared world order) (routines_values rs));
-      units = omega (arith, units_counted world order order k.0.0.filters, placed_len rs n);
-      names = k.0.0.names entry;
-      globals = globals_counted world order order k.0.0.names;
-      locals = holds_placed (200 + chains_weight world.sources order) rs n (chains_localed world order order s (200 + chains_weight world.sources order) (omega arith)
-      (λ h x. omega (arith, parameters_few world order h x (k.0.0.names h))) k (omega arith));
-      entries = heights_placed (max 2 (chains_weight world.sources order + 2 * s)) rs n (chains_low world order order s k);
+      instructions = omega (arith, routines_placed rs n, chains_sized world order order k);
+      constants = omega (arith, chains_counted world order order k.0.filters, length-append (shared world order) (routines_values rs));
+      units = omega (arith, units_counted world order order k.0.filters, placed_len rs n);
+      names = (k.0.names entry).0;
+      globals = globals_counted world order order (λ h. (k.0.names h).0);
+      locals = holds_placed (200 + chains_weight world.sources order) rs n (chains_localed world order order (200 + chains_weight world.sources order) (omega arith)
+      (λ h x. omega (arith, parameters_few world order h x (k.0.names h))) k (omega arith));
+      entries = heights_placed (max 2 (chains_weight world.sources order)) rs n (chains_low world order order k);
     }

@@ -4,6 +4,7 @@ use Rattle.jt_value.specs.Tree as tree
 use Rattle.jt_value.specs.Tree.{Tree}
 use Rattle.jt_value.specs.Pairs.{Pairs, look}
 use Rattle.jt_parse.specs.Trees.{Text}
+use Rattle.jt_slots.specs.Values.{value_in}
 
 pub record Env : Type 0 where
   pub scopes : List Pairs

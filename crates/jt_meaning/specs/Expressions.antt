@@ -1,5 +1,5 @@
 -- What expressions mean, by names.
-use Rattle.std.specs.Prelude.{ℕ, pos, List, [], ◌∷◌, length, Bool, Option, Some, None, if◌then◌else◌}
+use Rattle.std.specs.Prelude.{ℕ, pos, List, [], ◌∷◌, length, Bool, true, false, Option, Some, None, if◌then◌else◌}
 use Rattle.jt_value.specs.Tree as tree
 use Rattle.jt_value.specs.Tree.{Tree}
 use Rattle.jt_value.specs.Pairs.{Pairs}
@@ -10,10 +10,9 @@ use Rattle.jt_ops.specs.Ranges.{ranged}
 use Rattle.jt_ops.specs.Making.{listed, mapped}
 use Rattle.jt_expr.specs.Trees as trees
 use Rattle.jt_expr.specs.Trees.{Expr, constant, name, group, list_of, map_of, attribute, item, call, filter, test, unary, binary, when, choice, Exprs, no_exprs, expr, no_pairs, pair}
-use Rattle.jt_meaning.specs.Operators.{unary_operation, form}
+use Rattle.jt_meaning.specs.Operators.{unary_operation, Form, operation, negation, conjunction, disjunction, form}
 use Rattle.jt_slots.specs.Tests.{test_named}
 use Rattle.jt_slots.specs.Values.{literal, as_value}
-use Rattle.jt_meaning.specs.Expressions.{operated, asked, turned, either, combined}
 use Rattle.jt_slots.specs.Got.{Got, gives, fails, bind, checked}
 use Rattle.jt_parse.specs.Trees.{Text, Parameter}
 use Rattle.jt_meaning.specs.Env.{Env, read, top}
@@ -22,6 +21,13 @@ use Rattle.jt_slots.specs.Loops.{Loop, Field, index0, field_named, loop_field}
 use Rattle.jt_slots.specs.Filters.{Filters, parameters, arguments}
 use Rattle.jt_rules.specs.World.{World}
 use Rattle.jt_meaning.specs.Around.{Placement, Around, the_macro, the_block, Calls}
+use Rattle.jt_ops.specs.declared.op_id.OpId.{OpId}
+use Rattle.jt_ops.specs.declared.test_id.TestId.{TestId}
+use Rattle.jt_ops.specs.Operation as operators
+use Rattle.jt_ops.specs.Operation.{as_truth}
+use Rattle.jt_ops.specs.Testing.{tested}
+use Rattle.jt_inherit.specs.Uses.{keywords}
+use Rattle.jt_slots.specs.Values.{literal, as_value}
 
 -- an operation on values
 abbrev pub operated : OpId → List Tree → Got Tree

@@ -28,4 +28,4 @@ pub record ProgramLaws : Type 0 where
   pub takes : (world : World) (entry : Home) (rest : List Home) → InOrder world.sources (entry ∷ rest) → KeepsRules world (entry ∷ rest) → ChainsKnown world (entry ∷ rest)
       → AllByRecursion (λ r. BodyTakes world.filters (program world (entry ∷ rest) entry).routines false r.body) (program world (entry ∷ rest) entry).routines
   -- where names and parameters are few, the program is as small as the weight of its chains says
-  pub sized : (world : World) (entry : Home) (rest : List Home) (s : ℕ) → AreFew world (entry ∷ rest) s → IsSized world (entry ∷ rest) s (program world (entry ∷ rest) entry)
+  pub sized : (world : World) (entry : Home) (rest : List Home) → AreFew world (entry ∷ rest) → IsSized world (entry ∷ rest) (program world (entry ∷ rest) entry)

@@ -10,8 +10,8 @@ use Rattle.jt_parse.specs.Trees.{Text}
 use Rattle.jt_inherit.specs.Chain.{Home, templates, BlockBody, all_bodies, MacroBody, macros}
 use Rattle.jt_slots.specs.Filters.{default_value}
 use Rattle.jt_rules.specs.World.{World}
-use Rattle.jt_inherit.specs.Uses.{body_names}
-use Rattle.jt_inherit.specs.Includes.{needs_in}
+use Rattle.jt_inherit.specs.Uses.{own_names, scope_names}
+use Rattle.jt_inherit.specs.Includes.{included}
 use Rattle.jt_slots.specs.Slots.{Slot, global}
 
 -- where each visible name is kept, the innermost first
@@ -61,7 +61,7 @@ module _ (world : World) where
   -- the names of a chain, and of those that it includes: it hands them on. Each chain stands before those that it includes.
   abbrev pub names_in : List Home → Home → List Text
   names_in [] h = []
-  names_in (k ∷ ks) h = if bytes_eq k h then ascending (own_names h ++ flat_map (names_in ks) (included h)) else names_in ks h
+  names_in (k ∷ ks) h = if bytes_eq k h then ascending (own_names world.sources h ++ flat_map (names_in ks) (included world.sources h)) else names_in ks h
 
   -- all bodies of a chain with their places, and those of one block
   abbrev pub numbered_bodies : Home → List (ℕ × BlockBody)
@@ -93,9 +93,10 @@ module _ (world : World) where
     abbrev pub globals : Home → Table
     globals h = globals_from (first_slot h) (names h)
 
-    -- a body of a block has the chain's names as parameters where a tag of the block says `scoped`
+    -- where a tag of the block says `scoped`, its bodies have as parameters the names that the chain's scopes bind: a name that no scope binds
+    -- is a global at each tag
     abbrev pub block_parameters : Home → Text → List Text
-    block_parameters h x = if is_scoped h x then names h else []
+    block_parameters h x = if is_scoped h x then scope_names world.sources h else []
 
     abbrev pub keys : List Key
     keys = flat_map chain_keys order

@@ -4,6 +4,7 @@ use Rattle.std.specs.List.{AllByRecursion}
 use Rattle.jt_expr.specs.Trees.{weight, pairs_weight}
 use Rattle.jt_parse.specs.Trees.{Text, Stmt, data_of, print, choose, for_each, set, set_block, with_values, filter_block, autoescape, macro, include, extends, block, Body, end, stmt, Branches, no_branches, branch, condition_weight, filtering_weight, body_weight}
 use Rattle.jt_inherit.specs.Small.{chains_weight}
+use Rattle.jt_inherit.specs.Uses.{scope_names}
 use Rattle.jt_inherit.specs.Chain.{Home, Template, templates, macros}
 use Rattle.jt_rules.specs.World.{World}
 use Rattle.jt_meaning.specs.Layout.{names, block_parameters}
@@ -38,8 +39,12 @@ abbrev mutual
 
 -- ---- what is few: the names of chains, a chain's macros' parameters, and the parameters of filters behind their inputs
 
+-- a chain's names, and those of them that its scopes bind
+abbrev pub HasFewNames : World → List Home → Home → Type 0
+HasFewNames world order h = (length (names world order h) ≤ 200) × (length (scope_names world.sources h) ≤ 200)
+
 pub record IsFew (world : World) (order : List Home) (h : Home) : Type 0 where
-  pub names : (k : Home) → length (names world order k) ≤ 200
+  pub names : (k : Home) → HasFewNames world order k
   pub macros : AllByRecursion (λ m. length m.parameters ≤ 200) (macros world.sources h)
   pub filters : (f : ℕ) → length (world.filters.parameters f) ≤ 3
 
@@ -49,15 +54,15 @@ pub record HasAtMost (world : World) (order : List Home) (q : ℕ) (h : Home) : 
   pub blocks : (x : Text) → length (block_parameters world order h x) ≤ q
   pub filters : (f : ℕ) → length (world.filters.parameters f) ≤ 3
 
--- ---- what a program is at most, where its chains are few and no block has more parameters than so many: 100 instructions for each
--- token and one for each chain, and half an entry for each token and one for each parameter of a block
+-- ---- what a program is at most, where its chains are few: 100 instructions for each token and one for each chain, and half an entry for each
+-- token
 
-abbrev pub AreFew : World → List Home → ℕ → Type 0
-AreFew world order s = AllByRecursion (λ h. IsFew world order h × ((x : Text) → length (block_parameters world order h x) ≤ s)) order
+abbrev pub AreFew : World → List Home → Type 0
+AreFew world order = AllByRecursion (IsFew world order) order
 
-pub record IsSized (world : World) (order : List Home) (s : ℕ) (p : Program) : Type 0 where
+pub record IsSized (world : World) (order : List Home) (p : Program) : Type 0 where
   pub instructions : routines_size p.routines ≤ 100 * chains_weight world.sources order + length order
-  pub entries : AllByRecursion (λ r. 2 * body_height r.body ≤ max 2 (chains_weight world.sources order + 2 * s)) p.routines
+  pub entries : AllByRecursion (λ r. 2 * body_height r.body ≤ max 2 (chains_weight world.sources order)) p.routines
   -- undefined, and one for each token
   pub constants : length p.pool ≤ 1 + chains_weight world.sources order
   pub units : length p.routines ≤ chains_weight world.sources order + length order

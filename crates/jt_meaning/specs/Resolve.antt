@@ -25,6 +25,7 @@ use Rattle.jt_meaning.specs.Layout.{Table, slot_in, of_chain, of_macro, of_body,
 use Rattle.jt_slots.specs.Slots as slots
 use Rattle.jt_slots.specs.Slots.{Slot, local, global, SExpr, pooled, variable, field, made, invoke, operator, a_list, a_map, SRow, none, aside, Targets, one, several, SStmt, put_pooled, assign, if_else, capture, run, SBody, Routine}
 use Rattle.jt_slots.specs.Locals.{body_locals}
+use Rattle.jt_slots.specs.Pool.{Constant, own, known}
 
 -- ---- parts
 

@@ -71,7 +71,7 @@ fn expression(
     ensures { GivesBy expr_view (reading.read levels (level_of_form form) (ahead cursor.old)) result (ahead cursor.new) }
 {
     let Part { expr, .. } = read(alloc, cursor, levels, form)?;
-    Ok(expr)
+    Ok(Box::into_inner(expr))
 }
 
 /// `a = e`

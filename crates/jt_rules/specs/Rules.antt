@@ -8,7 +8,6 @@ use Rattle.jt_expr.specs.Trees.{Expr, constant, name, group, list_of, map_of, at
 use Rattle.jt_slots.specs.Tests.{test_named}
 use Rattle.jt_inherit.specs.Uses.{count, keywords, own_names}
 use Rattle.jt_parse.specs.Texts.{ascending, among}
-use Rattle.jt_rules.specs.Rules.{read_alone, no_keywords, unless, range_broken, test_broken}
 use Rattle.jt_rules.specs.declared.error.ScopeError.{ScopeError}
 use Rattle.jt_rules.specs.declared.error.ScopeError.TheVariants as error
 use Rattle.jt_parse.specs.Trees.{Text, Parameter, Filtering, Stmt, data_of, print, choose, for_each, set, set_block, with_values, filter_block, autoescape, macro, include, extends, block, Body, end, stmt, Branches, no_branches, branch, body_bound}
@@ -16,6 +15,9 @@ use Rattle.jt_inherit.specs.Chain.{Home, Template, templates, bodies, macros, ma
 use Rattle.jt_slots.specs.Loops.{field_named}
 use Rattle.jt_slots.specs.Filters.{Filters, some_given}
 use Rattle.jt_rules.specs.World.{World}
+use Rattle.jt_ops.specs.declared.test_id.TestId.{TestId}
+use Rattle.jt_ops.specs.TestTable.{test_values}
+use Rattle.jt_parse.specs.Texts.{repeated}
 
 -- what a name breaks that is read by itself: `loop` where no loop is, and what can only be called
 abbrev pub read_alone : Text → Option ScopeError
@@ -24,7 +26,7 @@ read_alone x =
     else if bytes_eq x (codes "self") || (bytes_eq x (codes "super") || bytes_eq x (codes "range")) then Some error.NotCallable
     else None
 
-abbrev pub no_keywords : Pairs → Bool
+abbrev pub no_keywords : trees.Pairs → Bool
 no_keywords no_pairs = true
 no_keywords (pair k a ps) = false
 
@@ -33,11 +35,11 @@ abbrev pub unless : Bool → Option ScopeError
 unless right = if right then None else Some error.BadArguments
 
 -- `range` takes one to three arguments, and no keyword
-abbrev pub range_broken : Exprs → Pairs → Option ScopeError
+abbrev pub range_broken : Exprs → trees.Pairs → Option ScopeError
 range_broken ts ps = unless (nat_lt 0 (count ts) && (nat_lt (count ts) 4 && no_keywords ps))
 
 -- a test takes its values, the tested one among them, and no keyword; a test that there is not is the parser's matter
-abbrev pub test_broken : Option TestId → Exprs → Pairs → Option ScopeError
+abbrev pub test_broken : Option TestId → Exprs → trees.Pairs → Option ScopeError
 test_broken None ts ps = None
 test_broken (Some t) ts ps = unless ((suc (count ts) == test_values t) && no_keywords ps)
 

@@ -39,6 +39,8 @@ impl From<AllocError> for ScopeError {
 }
 
 impl<T: Drop> From<AllocFailed<T>> for ScopeError {
+    ghost use Rattle.std.specs.Prelude.{◌≡◌};
+    ghost use Rattle.jt_rules.specs.declared.error.ScopeError.TheVariants.{NoMemory};
 
     ghost from_gives = { λ _ e. e ≡ NoMemory };
 
@@ -48,6 +50,8 @@ impl<T: Drop> From<AllocFailed<T>> for ScopeError {
 }
 
 impl From<NoMemory> for ScopeError {
+    ghost use Rattle.std.specs.Prelude.{◌≡◌};
+    ghost use Rattle.jt_rules.specs.declared.error.ScopeError.TheVariants.{NoMemory};
 
     ghost from_gives = { λ _ e. e ≡ NoMemory };
 

@@ -1,11 +1,11 @@
 -- Arguments of macros and filters, by place and by name; and filters, until their crate brings them: what the language needs of them.
 use Rattle.std.specs.Prelude.{ℕ, Bool, false, ◌||◌, List, [], ◌∷◌, unwrap_or, Option, Some, None, Result, if◌then◌else◌}
-use Rattle.std.specs.Str.{bytes_eq}
 use Rattle.jt_value.specs.Tree as tree
 use Rattle.jt_value.specs.Tree.{Tree}
 use Rattle.jt_value.specs.Pairs.{Pairs, look}
 use Rattle.jt_value.specs.declared.fault.Fault.{Fault}
 use Rattle.jt_expr.specs.Trees.{Literal}
+use Rattle.jt_parse.specs.Texts.{among}
 use Rattle.jt_slots.specs.Values.{literal}
 use Rattle.jt_parse.specs.Trees.{Text, Parameter}
 

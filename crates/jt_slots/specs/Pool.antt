@@ -1,8 +1,8 @@
 -- Constants get their places in the pool: those in front, and then each value of the source where it stands.
 use Rattle.std.specs.Prelude.{ℕ, ◌+◌, List, [], ◌∷◌, ◌++◌, length, Option, Some, None}
 use Rattle.jt_value.specs.Tree.{Tree}
+use Rattle.jt_slots.specs.Loops.{tree_at}
 use Rattle.jt_slots.specs.Slots.{SExpr, pooled, variable, field, made, conjunction, disjunction, choice, invoke, SRow, none, item, aside, SStmt, put_pooled, print, assign, if_else, for_each, capture, run, SBody, end, stmt, Routine}
-use Rattle.jt_slots.specs.Pool.{Constant, own, known}
 
 -- a value that takes a place of the pool where it stands, or one of those in front of the pool
 pub data Constant : Type 0 where

@@ -1,5 +1,5 @@
 -- The filters of the language, as templates name them.
-use Rattle.std.specs.Prelude.{ℕ, false, ◌&&◌, ◌==◌, nat_le, pos, List, [], ◌∷◌, codes, Option, Some, None, option_map, Bool, Result, Err}
+use Rattle.std.specs.Prelude.{ℕ, false, ◌&&◌, ◌==◌, nat_le, pos, List, [], ◌∷◌, Option, Some, None, option_map, Bool, Result, Err}
 use Rattle.std.specs.List.{find, list_any}
 use Rattle.std.specs.Str.{bytes_eq}
 use Rattle.jt_value.specs.Tree.{Tree}

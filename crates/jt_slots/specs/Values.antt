@@ -8,7 +8,7 @@ use Rattle.jt_escape.specs.Escaping.{escaped}
 use Rattle.jt_expr.specs.Trees as trees
 use Rattle.jt_expr.specs.Trees.{Literal}
 use Rattle.jt_parse.specs.Trees.{Text}
-use Rattle.jt_slots.specs.Got.{Got, gives, fails, bind}
+use Rattle.jt_slots.specs.Got.{Got, gives, fails}
 
 abbrev pub literal : Literal → Tree
 literal (trees.number n) = tree.number n

@@ -1,5 +1,6 @@
--- A small chain whose entry needs more entries than a shape may have: it reads 200 names, one block is scoped, and so its tag and
--- `self.b()` load all of them, above a list of 904 values. Its source has 1,999 bytes:
+-- A small chain that reads 200 names above a list of 904 values, one of whose blocks is scoped. No scope binds a name, so the block has
+-- no parameters; with all names of the chain as parameters its tag and `self.b()` would load all of them, and the entry would need 1,105
+-- entries, more than a shape may have. Its source has 1,999 bytes:
 -- {%block b scoped%}{%endblock%}{{[a,..,_,Qa,..,Zu,1,..,1,self.b()]}}
 use Rattle.std.proofs.Common.{◌≡◌, ℕ, zero, suc, true, false, List, [], ◌∷◌, ◌++◌, length, Option, None, refl}
 use Rattle.std.specs.Prelude.{map, codes}
@@ -42,5 +43,5 @@ few = refl
 weighs : body_weight (high 704) ≡ 1830
 weighs = refl
 
-pub too_high : body_height (chain_routine (high_world 704) (codes "t" ∷ []) (codes "t")).body ≡ 1105
-too_high = refl
+pub high_enough : body_height (chain_routine (high_world 704) (codes "t" ∷ []) (codes "t")).body ≡ 905
+high_enough = refl

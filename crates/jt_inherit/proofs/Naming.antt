@@ -1,0 +1,31 @@
+-- When a text is a name.
+use Rattle.std.proofs.Common.{ℕ, ◌<◌, ◌≤◌, ◌==◌, Bool, true, false, List, [], ◌∷◌, length, refl, arith, All, IsTrue, ◌↔◌, MatchBool}
+use Rattle.std.specs.List.{slice_split, AllWithin, HoldsAt}
+use Rattle.jt_inherit.specs.Names.{Text, IsNameByte, IsPart, IsName}
+
+-- the parts of a name
+abbrev pub parts : Text → List Text
+parts x = slice_split (λ b. b == 47) x
+
+-- a text that is empty has one part, which is empty
+not_empty : (x : Text) → All IsPart (parts x) → 1 ≤ length x
+not_empty [] h = absurd ((h 0 [] (omega arith)).0 refl)
+not_empty (c ∷ x) h = omega arith
+
+-- what is left to test, where the text is short and each byte may stand in a name
+pub named : (x : Text) (b : Bool) → length x ≤ 255 → All IsNameByte x → (IsTrue b ↔ All IsPart (parts x)) → IsTrue b ↔ IsName x
+named x b l h w = (
+  λ t. record { some = not_empty x (w.0 t); short = l; bytes = h; parts = w.0 t },
+  λ n. w.1 n.parts,
+)
+
+not_all : {X : Type 0} (P : X → Type 0) (xs : List X) (k : ℕ) → k < length xs → HoldsAt (λ x. P x → ⊥) xs k → All P xs → ⊥
+not_all P [] k l h a = absurd (omega arith)
+not_all P (x ∷ xs) k l h a = h x (a k x l)
+
+-- a test of each element is a test of all
+pub tested_all : {X : Type 0} (P : X → Type 0) (xs : List X) (b : Bool)
+    → MatchBool b (AllWithin P xs 0 (length xs)) ((k : ℕ) × (k < length xs) × HoldsAt (λ x. P x → ⊥) xs k)
+    → IsTrue b ↔ All P xs
+tested_all P xs true h = (λ t k d l. h k d (omega arith) l, λ a. refl)
+tested_all P xs false h = (λ t. absurd (cc), λ a. absurd (not_all P xs h.0 h.1 h.2 a))
