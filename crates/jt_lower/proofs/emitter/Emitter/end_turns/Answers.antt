@@ -10,8 +10,8 @@ patch-requires c =
     omega (arith, p.len, c.requires)
 
 pub returns : goal.returns
-returns c = record {
+returns c = let len : c.len.result ≡ length c.put.new.self.code.items = omega (arith, c.len.ensures, c.put.new.self.code.ok.0) in record {
   back = c.put.new.self;
   goes = c.in_ok-put.ensures None (op.Jump c.args.top) c.jump_of.ensures;
-  patches = subst (λ n. Patches c.put.new.self c.args.top (op.LoopNext n) c.patch.new.self) c.len.ensures (c.patch.ensures (op.LoopNext c.len.result) c.turn_of-past.ensures);
+  patches = subst (λ n. Patches c.put.new.self c.args.top (op.LoopNext n) c.patch.new.self) len (c.patch.ensures (op.LoopNext c.len.result) c.turn_of-past.ensures);
 }

@@ -1,0 +1,29 @@
+-- What an image has place for.
+use Rattle.std.specs.Prelude.{ℕ, ◌≤◌, length}
+use Rattle.std.specs.List.{AllByRecursion}
+use Rattle.jt_image.specs.Code.{Section, Code}
+use Rattle.jt_image.specs.IsCode.{max_locals, max_instructions}
+use Rattle.jt_image.specs.Parts.{KeepsLimits, IsWritable}
+use Rattle.jt_codegen.specs.declared.emission.EmitError.{EmitError}
+use Rattle.jt_codegen.specs.declared.emission.EmitError.TheVariants as error
+
+-- an image has place for the unit, alone
+pub record FitsUnit (u : Section) : Type 0 where
+  pub locals : u.locals ≤ max_locals
+  pub len : length u.code ≤ max_instructions
+  pub writable : IsWritable u
+
+-- what a refusal says of a unit
+abbrev pub Refuses : EmitError → Section → Type 0
+Refuses error.CodeTooLong u = ¬ (FitsUnit u)
+Refuses error.NoMemory u = Unit {0}
+
+-- an image has place for the code
+pub record FitsImage (k : Code) : Type 0 where
+  pub limits : KeepsLimits k
+  pub units : AllByRecursion IsWritable k.units
+
+-- what a refusal says of a whole code
+abbrev pub RefusesCode : EmitError → Code → Type 0
+RefusesCode error.CodeTooLong k = ¬ (FitsImage k)
+RefusesCode error.NoMemory k = Unit {0}
