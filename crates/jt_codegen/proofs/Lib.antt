@@ -1,0 +1,4 @@
+pub mod Fronts
+pub mod Putting
+pub mod Emitting
+pub mod Reading
