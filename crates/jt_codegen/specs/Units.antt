@@ -1,5 +1,5 @@
 -- What an image has place for.
-use Rattle.std.specs.Prelude.{ℕ, ◌≤◌, length}
+use Rattle.std.specs.Prelude.{ℕ, ◌<◌, ◌≤◌, ◌^◌, List, length}
 use Rattle.std.specs.List.{AllByRecursion}
 use Rattle.jt_image.specs.Code.{Section, Code}
 use Rattle.jt_image.specs.IsCode.{max_locals, max_instructions}
@@ -18,10 +18,16 @@ abbrev pub Refuses : EmitError → Section → Type 0
 Refuses error.CodeTooLong u = ¬ (FitsUnit u)
 Refuses error.NoMemory u = Unit {0}
 
+-- what a refusal says of units
+abbrev pub RefusesUnits : EmitError → List Section → Type 0
+RefusesUnits error.CodeTooLong us = ¬ (AllByRecursion FitsUnit us)
+RefusesUnits error.NoMemory us = Unit {0}
+
 -- an image has place for the code
 pub record FitsImage (k : Code) : Type 0 where
+  pub globals : k.globals < 2 ^ 16
   pub limits : KeepsLimits k
-  pub units : AllByRecursion IsWritable k.units
+  pub units : AllByRecursion FitsUnit k.units
 
 -- what a refusal says of a whole code
 abbrev pub RefusesCode : EmitError → Code → Type 0

@@ -54,7 +54,7 @@ impl<T: Drop> From<AllocFailed<T>> for EmitError {
 /// # Errors
 ///
 /// `CodeTooLong` where an image has no place for it, `NoMemory` where a growth was refused.
-pub fn emit_unit(alloc: Global, routine: &Routine) -> Result<Unit, EmitError>
+pub(crate) fn emit_unit(alloc: Global, routine: &Routine) -> Result<Unit, EmitError>
     ensures emitted { IfOk result (λ u. (templates : List Text) → section_of_unit u ≡ Some (unit_of (routine_view templates routine.now))) }
     ensures refused { IfErr result (λ e. (templates : List Text) → Refuses e (unit_of (routine_view templates routine.now))) }
 {

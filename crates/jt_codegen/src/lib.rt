@@ -2,6 +2,8 @@
 #![tactic(auto)]
 
 mod emission;
+mod tables;
 mod targets;
 
-pub use emission::{EmitError, emit_unit};
+pub use emission::EmitError;
+pub use tables::parts_of;

@@ -18,7 +18,7 @@ use Rattle.jt_codegen.proofs.emission.+statements.Goals as goal
 pub emit_statement-end_branch-requires : goal.emit_statement-end_branch-requires
 emit_statement-end_branch-requires t c =
     let body = emits_alone c.args.above c.begin_choice.new.self c.emit_statements.new.code (body_view [] c.deref.result.now) (c.in_ok-emit_statements-in-If.ensures [] c.args.above (stands_itself c.args.above)) in
-    reserved_within c.emit_expression-in-If.new.code c.begin_choice.new.self c.emit_statements.new.code (op.JumpIfFalse 0) c.in_ok-choice-in-If.choice (body_asm (body_view [] c.deref.result.now slots.end) c.args.above) c.in_ok-choice-in-If.ensures body
+    reserved_within c.emit_expression-in-loop-condition.new.code c.begin_choice.new.self c.emit_statements.new.code (op.JumpIfFalse 0) c.in_ok-choice-in-If.choice (body_asm (body_view [] c.deref.result.now slots.end) c.args.above) c.in_ok-choice-in-If.ensures body
 
 pub emit_statement-close_all-requires : goal.emit_statement-close_all-requires
 emit_statement-close_all-requires t c =
@@ -153,7 +153,7 @@ emit_statement-loop-condition-preserved t c = λ ts h s.
     let b = c.loop-condition-item.result in
     let bs = c.deref-condition-items.result.now in
     subst (λ es. Opens ts h c.args.code.now bs c.end_branch.new.self (drop (l.condition-index + 1) bs) es) (sym c.in_ok-push-in-If.ensures.items)
-    (opens_more ts h bs l.condition-index b c.deref.result.now c.args.code.now l.code c.emit_expression-in-If.new.code c.begin_choice.new.self c.emit_statements.new.code c.end_branch.new.self l.ends.items c.in_ok-choice-in-If.choice c.in_ok-last-in-If.last
+    (opens_more ts h bs l.condition-index b c.deref.result.now c.args.code.now l.code c.emit_expression-in-loop-condition.new.code c.begin_choice.new.self c.emit_statements.new.code c.end_branch.new.self l.ends.items c.in_ok-choice-in-If.choice c.in_ok-last-in-If.last
     c.loop-condition-test.true c.loop-condition-item.is c.deref.ensures.value (l.invariant ts h s)
     (c.in_ok-emit_expression-in-If.ensures (Some (place_view ts b.0)) h s) c.in_ok-choice-in-If.ensures (c.in_ok-emit_statements-in-If.ensures ts h s) c.in_ok-last-in-If.ensures)
 
