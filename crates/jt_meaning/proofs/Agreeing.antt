@@ -13,7 +13,7 @@ use Rattle.jt_slots.specs.Slots.{Slot, local, global, Memory, load, put_at, stor
 use Rattle.jt_meaning.specs.Layout.{Table, slot_in, globals_from, names, first_slot, globals}
 use Rattle.jt_meaning.specs.Resolve.{bound_table}
 use Rattle.jt_meaning.proofs.Reading.{same_text, is_same, no_both, read_bound, IsInner, inner_bound, inner_globals, held, put_elsewhere}
-use Rattle.jt_inherit.specs.Uses.{scope_names}
+use Rattle.jt_meaning.specs.Layout.{scopes}
 use Rattle.jt_meaning.proofs.Among.{Among, AllAmong}
 
 -- ---- what stays: the first locals, and the first globals
@@ -129,8 +129,8 @@ module _ (world : World) (order : List Home) where
   pub record Fits (h : Home) (table : Table) (k : ℕ) : Type 0 where
     pub slotted : (x : Text) → Among x (names world order h) → (s : Slot) × (slot_in x table ≡ Some s) × Below k (limit h) s
     pub apart : (x y : Text) (s : Slot) → Among x (names world order h) → Among y (names world order h) → slot_in x table ≡ Some s → slot_in y table ≡ Some s → x ≡ y
-    pub outer : (x : Text) → (Among x (scope_names world.sources h) → ⊥) → slot_in x table ≡ slot_in x (globals world order h)
-    pub few : AllAmong (scope_names world.sources h) (names world order h)
+    pub outer : (x : Text) → (Among x (scopes world order h) → ⊥) → slot_in x table ≡ slot_in x (globals world order h)
+    pub few : AllAmong (scopes world order h) (names world order h)
 
   -- the globals of a chain
   abbrev pub GlobalsAgree : Home → Pairs → List Tree → Type 0
@@ -152,7 +152,7 @@ module _ (world : World) (order : List Home) where
   }
 
   -- a local of its own for one name more
-  pub fits_one : {h : Home} {table : Table} {k : ℕ} (x : Text) → Among x (scope_names world.sources h) → Fits h table k → Fits h ((x, local k) ∷ table) (suc k)
+  pub fits_one : {h : Home} {table : Table} {k : ℕ} (x : Text) → Among x (scopes world order h) → Fits h table k → Fits h ((x, local k) ∷ table) (suc k)
   fits_one {h = h} {table = table} {k = k} x bound_in fits = record {
     slotted = λ y i. in_it y (bytes_eq x y) (fits.slotted y i);
     apart = λ y z s i j e f. part y z s (bytes_eq x y) (bytes_eq x z) refl refl i j e f;
@@ -184,8 +184,8 @@ module _ (world : World) (order : List Home) where
       part y z s false true p q i j e f = absurd (clash y s i (first f) e)
       part y z s false false p q i j e f = fits.apart y z s i j e f
 
-      around : (y : Text) (b : Bool) → bytes_eq x y ≡ b → (Among y (scope_names world.sources h) → ⊥) → slot_in y table ≡ slot_in y (globals world order h) → (if b then Some (local k) else slot_in y table) ≡ slot_in y (globals world order h)
-      around y true p n e = absurd (n (subst (λ z. Among z (scope_names world.sources h)) (same_text x y p) bound_in))
+      around : (y : Text) (b : Bool) → bytes_eq x y ≡ b → (Among y (scopes world order h) → ⊥) → slot_in y table ≡ slot_in y (globals world order h) → (if b then Some (local k) else slot_in y table) ≡ slot_in y (globals world order h)
+      around y true p n e = absurd (n (subst (λ z. Among z (scopes world order h)) (same_text x y p) bound_in))
       around y false p n e = e
 
   -- a local free for nothing in particular
@@ -226,7 +226,7 @@ module _ (world : World) (order : List Home) where
   copies_held table k [] held a = a
   copies_held table k (x ∷ xs) held a = copies_held ((x, local k) ∷ table) (suc k) xs held.1 (copy_held x k held.0 a)
 
-  pub fits_all : {h : Home} (xs : List Text) (k : ℕ) (table : Table) → AllAmong xs (scope_names world.sources h) → Fits h table k → Fits h (bound_table xs k table) (k + length xs)
+  pub fits_all : {h : Home} (xs : List Text) (k : ℕ) (table : Table) → AllAmong xs (scopes world order h) → Fits h table k → Fits h (bound_table xs k table) (k + length xs)
   fits_all {h = h} [] k table a f = subst (λ n. Fits h table n) (let e : k ≡ k + 0 = omega arith in e) f
   fits_all {h = h} (x ∷ xs) k table a f =
       subst (λ n. Fits h (bound_table xs (suc k) ((x, local k) ∷ table)) n) (let e : suc k + length xs ≡ k + length (x ∷ xs) = omega arith in e) (fits_all xs (suc k) ((x, local k) ∷ table) a.1 (fits_one x a.0 f))

@@ -29,7 +29,7 @@ use Rattle.jt_meaning.proofs.Agreeing.{Kept, kept_same, kept_then, Held, global_
 use Rattle.jt_meaning.proofs.Calling.{Sees, Tail, Good, around_of, Wrote, CallsMean, DefaultsAt, DefaultsLaid, Included}
 use Rattle.jt_meaning.proofs.Stating.{set_among, in_among, Each, each_front, each_back, scoped_by, scoped_in, Proper, followed_same, Owns, of_top, of_scope, Here, scope_both, good_bound, inside_inner, stmt_same, body_same}
 use Rattle.jt_meaning.proofs.Finding.{chain_is, macro_is, body_is}
-use Rattle.jt_inherit.specs.Uses.{scope_names}
+use Rattle.jt_meaning.specs.Layout.{scopes}
 use Rattle.jt_meaning.proofs.Scopes.{among_or_not}
 use Rattle.jt_meaning.proofs.Ordering.{Every, Belongs, templates_belong, scopes_known, macro_belongs, body_belongs}
 use Rattle.jt_meaning.proofs.Among.{Among, AllAmong}
@@ -133,7 +133,7 @@ module _ (world : World) (order : List Home) where
   abbrev lim : Home → ℕ
   lim h = limit world order h
 
-  fits_top : (h : Home) → AllAmong (scope_names world.sources h) (names world order h) → Fits world order h (globals world order h) 0
+  fits_top : (h : Home) → AllAmong (scopes world order h) (names world order h) → Fits world order h (globals world order h) 0
   fits_top h few = record {
     slotted = λ x i. let s = global_given (first_slot world order h) (names world order h) x i in (global s.0, s.1, (global_slot (first_slot world order h) (names world order h) x s.0 s.1).1);
     apart = λ x y s i j e f. globals_apart (first_slot world order h) (names world order h) x y s e f;
@@ -142,7 +142,7 @@ module _ (world : World) (order : List Home) where
   }
 
   -- at the top of a template of the chain
-  good_top : (h : Home) (t : Text) (gs : Pairs) (m : Memory) → among h order ≡ true → AllAmong (scope_names world.sources h) (names world order h) → GlobalsAgree world order h gs m.globals → Good world order (top_spot world order h t) None (top gs) m
+  good_top : (h : Home) (t : Text) (gs : Pairs) (m : Memory) → among h order ≡ true → AllAmong (scopes world order h) (names world order h) → GlobalsAgree world order h gs m.globals → Good world order (top_spot world order h t) None (top gs) m
   good_top h t gs m e few a = record {
     known = e;
     fits = fits_top h few;
@@ -178,7 +178,7 @@ module _ (world : World) (order : List Home) where
 
   -- the text of a routine's body
   routine_both : (n : ℕ) (calls : Calls) (scall : SCalls) (mean : CallsMean world order calls scall) (ordered : InOrder world.sources order) (h : Home) (e : among h order ≡ true) (body : Body) (sp : Spot) (q : Option Placement) (env : Env) (m : Memory)
-      → sp.home ≡ h → Good world order sp q env m → IsInner env → m.out ≡ [] → AllAmong (body_names body) (names world order sp.home) → Each (Included world order sp.home) (needs_in true body) → Each (Proper world sp.home) (scoped_in body) → AllAmong (set_in body) (scope_names world.sources sp.home)
+      → sp.home ≡ h → Good world order sp q env m → IsInner env → m.out ≡ [] → AllAmong (body_names body) (names world order sp.home) → Each (Included world order sp.home) (needs_in true body) → Each (Proper world order sp.home) (scoped_in body) → AllAmong (set_in body) (scopes world order sp.home)
       → Both (Wrote world order (limit world order sp.home) m.globals)
       (bind (meanings world calls body (around_of world order sp None q) (record { env = env; out = [] })) (λ st. gives st.out))
       (bind (smeanings world.filters (constant_in (pool world order)) scall (scoped (set_in body) sp (resolved_body world order body)) None m) (λ z. gives (record { text = z.out; globals = z.globals })))
@@ -257,8 +257,8 @@ module _ (world : World) (order : List Home) where
               every [] zs f = tt
               every (y ∷ ys) zs f = (f y (inl refl), every ys zs (λ z i. f z (inr i)))
 
-          of_scopes : (b : Bool) → AllAmong (if b then scope_names world.sources h else []) (scope_names world.sources h)
-          of_scopes true = all_of (scope_names world.sources h)
+          of_scopes : (b : Bool) → AllAmong (if b then scopes world order h else []) (scopes world order h)
+          of_scopes true = all_of (scopes world order h)
           of_scopes false = tt
 
           which : Sees world order h c.name env vs ts → (m : Memory) → m.globals ≡ ts → (y : Text) → Among y (names world order h)
@@ -288,14 +288,14 @@ module _ (world : World) (order : List Home) where
           turned (of_top r t l e p) = of_top r t l e p
           turned (of_scope r l i s f) = of_scope r l i s f
 
-      sets_same : (h : Home) (t : Template) (c : Body) (st : State) (m : Memory) → at_top h t st m → AllAmong (body_names c) (names world order h) → Each (Included world order h) (needs_in true c) → Each (Proper world h) (scoped_in c)
+      sets_same : (h : Home) (t : Template) (c : Body) (st : State) (m : Memory) → at_top h t st m → AllAmong (body_names c) (names world order h) → Each (Included world order h) (needs_in true c) → Each (Proper world order h) (scoped_in c)
           → Both (λ st' n. at_top h t st' n × Kept 0 (first_slot world order h) m n) (sets world calls c (around_of world order (top_spot world order h t.name) None None) st)
           (smeanings world.filters cs scall (resolved_sets world order c (top_spot world order h t.name)) None m)
       unfolding at_top
       sets_same h t end st m here i n d = both (here, kept_same 0 (first_slot world order h) m)
       sets_same h t (stmt s rest) st m here i n d =
           through (is_set s) (λ st' m' here'. sets_same h t rest st' m' here' (among_back (stmt_names s) (body_names rest) (names world order h) i) (each_back (Included world order h) (needs_by true s) (needs_in true rest) n)
-          (each_back (Proper world h) (scoped_by s) (scoped_in rest) d))
+          (each_back (Proper world order h) (scoped_by s) (scoped_in rest) d))
         where
           sp : Spot
           sp = top_spot world order h t.name
@@ -311,7 +311,7 @@ module _ (world : World) (order : List Home) where
               by_right (followed_same world order calls scall mean defaults_laid (resolved_stmt world order s (top_spot world order h t.name)) (resolved_sets world order rest (top_spot world order h t.name)) None m)
               (bind_both (stmt_same world order calls scall mean defaults_laid s (top_spot world order h t.name) None None 0 (first_slot world order h) (names world order h) st m here (among_front (stmt_names s) (body_names rest) (names world order h) i)
               (set_among s (names world order h) (among_front (stmt_names s) (body_names rest) (names world order h) i)) (each_front (Included world order h) (needs_by true s) (needs_in true rest) n)
-              (each_front (Proper world h) (scoped_by s) (scoped_in rest) d)) (λ st' m' a. weaken (λ st'' n' y. (y.0, kept_then a.kept y.1)) (f st' m' a.here)))
+              (each_front (Proper world order h) (scoped_by s) (scoped_in rest) d)) (λ st' m' a. weaken (λ st'' n' y. (y.0, kept_then a.kept y.1)) (f st' m' a.here)))
 
       chain_same : (h : Home) (e : among h order ≡ true) (ts : List Template) (t : Template) (st : State) (m : Memory) → at_top h t st m → Every (λ u. Belongs world order ordered h e u.body) ts
           → Both (λ st' n. (n.out ≡ st'.out) × Kept 0 (first_slot world order h) m n) (rendered world calls h ts st) (smeanings world.filters cs scall (resolved_chain world order h ts) None m)

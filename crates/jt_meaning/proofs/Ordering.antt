@@ -18,6 +18,7 @@ use Rattle.jt_inherit.specs.Uses.{set_in, scope_names_in, scope_names}
 use Rattle.jt_meaning.proofs.Scopes.{names_of, scopes_bound, templates_bind, ascending_among}
 use Rattle.jt_meaning.proofs.Stating.{Each, each_front, each_back, Scoping, a_tag, a_name, named, scoped_by, scoped_in, scoped_under, Proper, names_proper, behind_proper}
 use Rattle.jt_meaning.proofs.Among.{Among, AllAmong, all_ascending}
+use Rattle.jt_meaning.specs.Layout.{scopes}
 
 or_right : (a : Bool) {b : Bool} → b ≡ true → (a || b) ≡ true
 or_right true e = refl
@@ -144,13 +145,18 @@ said_templates on [] = tt
 said_templates on (t ∷ ts) =
     both_said (blocks_in t.name t.body on) (flat_map (λ t. blocks_in t.name t.body on) ts) (scoped_in t.body) (flat_map (λ t. scoped_in t.body) ts) (scoped_body t.name t.body on) (said_templates on ts)
 
-all_proper : (world : World) (h : Home) (ss : List Scoping) → Each (Saying (all_bodies world.sources world.escaping h)) ss → AllAmong (names_of ss) (scope_names world.sources h) → Each (Proper world h) ss
-all_proper world h [] e a = tt
-all_proper world h (a_tag x ∷ ss) e a = (e.0, all_proper world h ss e.1 a)
-all_proper world h (a_name x ∷ ss) e a = (a.0, all_proper world h ss e.1 a.1)
+all_proper : (world : World) (order : List Home) (h : Home) (ss : List Scoping) → Each (Saying (all_bodies world.sources world.escaping h)) ss → AllAmong (names_of ss) (scopes world order h) → Each (Proper world order h) ss
+all_proper world order h [] e a = tt
+all_proper world order h (a_tag x ∷ ss) e a = (e.0, all_proper world order h ss e.1 a)
+all_proper world order h (a_name x ∷ ss) e a = (a.0, all_proper world order h ss e.1 a.1)
 
-scoped_templates : (world : World) (h : Home) → Each (Proper world h) (flat_map (λ t. scoped_in t.body) (templates world.sources h))
-scoped_templates world h = all_proper world h (flat_map (λ t. scoped_in t.body) (templates world.sources h)) (said_templates world.escaping (templates world.sources h)) (scopes_bound world h)
+scopes_are : (world : World) (order : List Home) (h : Home) → among h order ≡ true → scopes world order h ≡ scope_names world.sources h
+scopes_are world order h e = ap (λ b. if b then scope_names world.sources h else []) e
+
+scoped_templates : (world : World) (order : List Home) (h : Home) → among h order ≡ true → Each (Proper world order h) (flat_map (λ t. scoped_in t.body) (templates world.sources h))
+scoped_templates world order h e =
+    all_proper world order h (flat_map (λ t. scoped_in t.body) (templates world.sources h)) (said_templates world.escaping (templates world.sources h))
+    (subst (λ zs. AllAmong (names_of (flat_map (λ t. scoped_in t.body) (templates world.sources h))) zs) (sym (scopes_are world order h e)) (scopes_bound world h))
 
 module _ (world : World) where
   -- what stands behind a place keeps the order, and none before it comes again
@@ -243,20 +249,20 @@ module _ (world : World) where
       pub record Belongs (c : Body) : Type 0 where
         pub names : AllAmong (body_names c) (Rattle.jt_meaning.specs.Layout.names world order h)
         pub included : Each (Included world order h) (needs_in true c)
-        pub scoped : Each (Proper world h) (scoped_in c)
+        pub scoped : Each (Proper world order h) (scoped_in c)
 
       -- a body that is a scope: its names are among those that scopes bind
       pub record Owned (c : Body) : Type 0 where
         pub belongs : Belongs c
-        pub own : AllAmong (set_in c) (scope_names world.sources h)
+        pub own : AllAmong (set_in c) (scopes world order h)
 
       pub record OwnedMacro (m : MacroBody) : Type 0 where
         pub body : Owned m.body
-        pub parameters : AllAmong (map (λ p. p.name) m.parameters) (scope_names world.sources h)
+        pub parameters : AllAmong (map (λ p. p.name) m.parameters) (scopes world order h)
 
       -- of what a body that is a scope holds
-      owned : (c : Body) → AllAmong (body_names c) (names world order h) → Each (Included world order h) (needs_in true c) → Each (Proper world h) (named (set_in c) ++ scoped_in c) → Owned c
-      owned c a n d = record { belongs = record { names = a; included = n; scoped = behind_proper world h (set_in c) (scoped_in c) d }; own = names_proper world h (set_in c) (scoped_in c) d }
+      owned : (c : Body) → AllAmong (body_names c) (names world order h) → Each (Included world order h) (needs_in true c) → Each (Proper world order h) (named (set_in c) ++ scoped_in c) → Owned c
+      owned c a n d = record { belongs = record { names = a; included = n; scoped = behind_proper world order h (set_in c) (scoped_in c) d }; own = names_proper world order h (set_in c) (scoped_in c) d }
 
       -- all that the templates include
       with_source : (x : Text) (xs : List Text) → Among x xs → is_some (world.sources x) ≡ true → Among x (filter (λ m. is_some (world.sources m)) xs)
@@ -294,10 +300,10 @@ module _ (world : World) where
 
       -- the same of a statement, and of branches
       abbrev StmtBelongs : Stmt → Type 0
-      StmtBelongs s = AllAmong (stmt_names s) (names world order h) × Each (Included world order h) (needs_by true s) × Each (Proper world h) (scoped_by s)
+      StmtBelongs s = AllAmong (stmt_names s) (names world order h) × Each (Included world order h) (needs_by true s) × Each (Proper world order h) (scoped_by s)
 
       abbrev BranchesBelong : Branches → Type 0
-      BranchesBelong bs = AllAmong (branch_names bs) (names world order h) × Each (Included world order h) (needs_under true bs) × Each (Proper world h) (scoped_under bs)
+      BranchesBelong bs = AllAmong (branch_names bs) (names world order h) × Each (Included world order h) (needs_under true bs) × Each (Proper world order h) (scoped_under bs)
 
       abbrev all_names : List Text
       all_names = names world order h
@@ -306,28 +312,28 @@ module _ (world : World) where
       belongs_front s rest b = (
         among_front (stmt_names s) (body_names rest) all_names b.names,
         each_front (Included world order h) (needs_by true s) (needs_in true rest) b.included,
-        each_front (Proper world h) (scoped_by s) (scoped_in rest) b.scoped,
+        each_front (Proper world order h) (scoped_by s) (scoped_in rest) b.scoped,
       )
 
       belongs_back : (s : Stmt) (rest : Body) → Belongs (stmt s rest) → Belongs rest
       belongs_back s rest b = record {
         names = among_back (stmt_names s) (body_names rest) all_names b.names;
         included = each_back (Included world order h) (needs_by true s) (needs_in true rest) b.included;
-        scoped = each_back (Proper world h) (scoped_by s) (scoped_in rest) b.scoped;
+        scoped = each_back (Proper world order h) (scoped_by s) (scoped_in rest) b.scoped;
       }
 
       template_bodies : (ts : List Template) → AllAmong (flat_map (λ t. body_names t.body) ts) all_names → Each (Included world order h) (flat_map (λ t. needs_in true t.body) ts)
-          → Each (Proper world h) (flat_map (λ t. scoped_in t.body) ts) → Every (λ t. Belongs t.body) ts
+          → Each (Proper world order h) (flat_map (λ t. scoped_in t.body) ts) → Every (λ t. Belongs t.body) ts
       template_bodies [] a b c = tt
       template_bodies (t ∷ ts) a b c = (
         record {
           names = among_front (body_names t.body) (flat_map (λ u. body_names u.body) ts) all_names a;
           included = each_front (Included world order h) (needs_in true t.body) (flat_map (λ u. needs_in true u.body) ts) b;
-          scoped = each_front (Proper world h) (scoped_in t.body) (flat_map (λ u. scoped_in u.body) ts) c;
+          scoped = each_front (Proper world order h) (scoped_in t.body) (flat_map (λ u. scoped_in u.body) ts) c;
         },
         template_bodies ts (among_back (body_names t.body) (flat_map (λ u. body_names u.body) ts) all_names a)
             (each_back (Included world order h) (needs_in true t.body) (flat_map (λ u. needs_in true u.body) ts) b)
-            (each_back (Proper world h) (scoped_in t.body) (flat_map (λ u. scoped_in u.body) ts) c),
+            (each_back (Proper world order h) (scoped_in t.body) (flat_map (λ u. scoped_in u.body) ts) c),
       )
 
       -- the templates of the chain
@@ -337,14 +343,14 @@ module _ (world : World) where
           template_bodies (templates world.sources h)
           (subst (λ zs. AllAmong (own_names world.sources h) zs) (sym names_are) (among_front (own_names world.sources h) (flat_map (names_in world at.1) (included world.sources h)) (ascending all) (all_ascending all)))
           (each_included (flat_map (λ t. needs_in true t.body) (templates world.sources h)) (λ x i. i))
-          (scoped_templates world h)
+          (scoped_templates world order h known)
 
       -- the names that scopes bind are names of the chain
-      pub scopes_known : AllAmong (scope_names world.sources h) (names world order h)
+      pub scopes_known : AllAmong (scopes world order h) (names world order h)
       scopes_known =
           let all = own_names world.sources h ++ flat_map (names_in world at.1) (included world.sources h) in
-          ascending_among (flat_map (λ t. scope_names_in t.body) (templates world.sources h)) (names world order h)
-          (templates_bind (templates world.sources h) (names world order h) (subst (λ zs. AllAmong (own_names world.sources h) zs) (sym names_are) (among_front (own_names world.sources h) (flat_map (names_in world at.1) (included world.sources h)) (ascending all) (all_ascending all))))
+          subst (λ zs. AllAmong zs (names world order h)) (sym (scopes_are world order h known)) (ascending_among (flat_map (λ t. scope_names_in t.body) (templates world.sources h)) (names world order h)
+          (templates_bind (templates world.sources h) (names world order h) (subst (λ zs. AllAmong (own_names world.sources h) zs) (sym names_are) (among_front (own_names world.sources h) (flat_map (names_in world at.1) (included world.sources h)) (ascending all) (all_ascending all)))))
 
       macro_bodies : (t : Text) (c : Body) → Belongs c → Every OwnedMacro (macros_in t c)
       macro_bodies t end b = tt
@@ -353,8 +359,8 @@ module _ (world : World) where
           let xs = map (λ p. p.name) ps in
           (
             record {
-              body = owned body (among_back xs (body_names body) all_names f.0) f.1 (behind_proper world h xs (named (set_in body) ++ scoped_in body) f.2);
-              parameters = names_proper world h xs (named (set_in body) ++ scoped_in body) f.2;
+              body = owned body (among_back xs (body_names body) all_names f.0) f.1 (behind_proper world order h xs (named (set_in body) ++ scoped_in body) f.2);
+              parameters = names_proper world order h xs (named (set_in body) ++ scoped_in body) f.2;
             },
             macro_bodies t rest (belongs_back (macro line x ps body) rest b),
           )
@@ -395,36 +401,36 @@ module _ (world : World) where
               (branch_blocks bs on (
                 among_front (branch_names bs) (body_names other) all_names b.0,
                 each_front (Included world order h) (needs_under true bs) (needs_in true other) b.1,
-                each_front (Proper world h) (scoped_under bs) (scoped_in other) b.2,
+                each_front (Proper world order h) (scoped_under bs) (scoped_in other) b.2,
               ))
               (body_blocks other on (record {
                 names = among_back (branch_names bs) (body_names other) all_names b.0;
                 included = each_back (Included world order h) (needs_under true bs) (needs_in true other) b.1;
-                scoped = each_back (Proper world h) (scoped_under bs) (scoped_in other) b.2;
+                scoped = each_back (Proper world order h) (scoped_under bs) (scoped_in other) b.2;
               }))
           stmt_blocks (for_each line xs e c body other) on b =
               let b1 = among_back (expr_names e) (xs ++ (condition_names c ++ (body_names body ++ body_names other))) all_names b.0 in
               let b2 = among_back xs (condition_names c ++ (body_names body ++ body_names other)) all_names b1 in
               let b3 = among_back (condition_names c) (body_names body ++ body_names other) all_names b2 in
-              let d = behind_proper world h (set_in body) (scoped_in body ++ scoped_in other) (behind_proper world h xs (named (set_in body) ++ (scoped_in body ++ scoped_in other)) b.2) in
+              let d = behind_proper world order h (set_in body) (scoped_in body ++ scoped_in other) (behind_proper world order h xs (named (set_in body) ++ (scoped_in body ++ scoped_in other)) b.2) in
               every_append (λ b. Owned b.body) (blocks_in t body on) (blocks_in t other on)
               (body_blocks body on (record {
                 names = among_front (body_names body) (body_names other) all_names b3;
                 included = each_front (Included world order h) (needs_in true body) (needs_in true other) b.1;
-                scoped = each_front (Proper world h) (scoped_in body) (scoped_in other) d;
+                scoped = each_front (Proper world order h) (scoped_in body) (scoped_in other) d;
               }))
               (body_blocks other on (record {
                 names = among_back (body_names body) (body_names other) all_names b3;
                 included = each_back (Included world order h) (needs_in true body) (needs_in true other) b.1;
-                scoped = each_back (Proper world h) (scoped_in body) (scoped_in other) d;
+                scoped = each_back (Proper world order h) (scoped_in body) (scoped_in other) d;
               }))
           stmt_blocks (set_block line x body) on b = body_blocks body on (owned body b.0.1 b.1 b.2).belongs
           stmt_blocks (with_values line ps body) on b =
-              body_blocks body on (owned body (among_back (keywords ps) (body_names body) all_names (among_back (pair_names ps) (keywords ps ++ body_names body) all_names b.0)) b.1 (behind_proper world h (keywords ps) (named (set_in body) ++ scoped_in body) b.2)).belongs
+              body_blocks body on (owned body (among_back (keywords ps) (body_names body) all_names (among_back (pair_names ps) (keywords ps ++ body_names body) all_names b.0)) b.1 (behind_proper world order h (keywords ps) (named (set_in body) ++ scoped_in body) b.2)).belongs
           stmt_blocks (filter_block line fs body) on b = body_blocks body on (owned body (among_front (body_names body) (filtering_names fs) all_names b.0) b.1 b.2).belongs
           stmt_blocks (autoescape line now body) on b = body_blocks body now (owned body b.0 b.1 b.2).belongs
           stmt_blocks (macro line x ps body) on b =
-              body_blocks body on (owned body (among_back (map (λ p. p.name) ps) (body_names body) all_names b.0) b.1 (behind_proper world h (map (λ p. p.name) ps) (named (set_in body) ++ scoped_in body) b.2)).belongs
+              body_blocks body on (owned body (among_back (map (λ p. p.name) ps) (body_names body) all_names b.0) b.1 (behind_proper world order h (map (λ p. p.name) ps) (named (set_in body) ++ scoped_in body) b.2)).belongs
           stmt_blocks (data_of d) on b = tt
           stmt_blocks (print line e) on b = tt
           stmt_blocks (set line xs e) on b = tt
@@ -443,12 +449,12 @@ module _ (world : World) where
               (body_blocks body on (record {
                 names = among_front (body_names body) (branch_names rest) all_names b1;
                 included = each_front (Included world order h) (needs_in true body) (needs_under true rest) b.1;
-                scoped = each_front (Proper world h) (scoped_in body) (scoped_under rest) b.2;
+                scoped = each_front (Proper world order h) (scoped_in body) (scoped_under rest) b.2;
               }))
               (branch_blocks rest on (
                 among_back (body_names body) (branch_names rest) all_names b1,
                 each_back (Included world order h) (needs_in true body) (needs_under true rest) b.1,
-                each_back (Proper world h) (scoped_in body) (scoped_under rest) b.2,
+                each_back (Proper world order h) (scoped_in body) (scoped_under rest) b.2,
               ))
 
       pub all_block_bodies : (on : Bool) (ts : List Template) → Every (λ t. Belongs t.body) ts → InBelongs (flat_map (λ t. blocks_in t.name t.body on) ts)

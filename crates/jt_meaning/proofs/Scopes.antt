@@ -151,14 +151,14 @@ all_from (x ∷ xs) z ns i = through (all_from xs z (inserted x ns) i)
     through (inl i) = inl (inr i)
     through (inr i) = back (inserted_from x z ns i)
 
-ascending_from : (xs : List Text) (z : Text) → Among z (ascending xs) → Among z xs
+pub ascending_from : (xs : List Text) (z : Text) → Among z (ascending xs) → Among z xs
 ascending_from xs z i = through (all_from xs z [] i)
   where
     through : Among z xs ⊎ Among z [] → Among z xs
     through (inl i) = i
     through (inr i) = absurd i
 
-all_among : (ys zs : List Text) → ((y : Text) → Among y ys → Among y zs) → AllAmong ys zs
+pub all_among : (ys zs : List Text) → ((y : Text) → Among y ys → Among y zs) → AllAmong ys zs
 all_among [] zs f = tt
 all_among (y ∷ ys) zs f = (f y (inl refl), all_among ys zs (λ z i. f z (inr i)))
 

@@ -30,7 +30,7 @@ use Rattle.jt_slots.specs.Pool.{Constant, own, known}
 use Rattle.jt_meaning.specs.Resolve.{value_or, read_from, turned_round, tested_by, filtered_by, in_form, field_from, followed, locals_from, fresh, fresh_targets, kept_slots, set_targets, filled, filled_some, first_locals, reads, handed_on, Part, Spot, place, grown, bound_all, copied, scoped, next_given, first_body, invoked_body, invoked_super, invoked, resolved, resolved_row, resolved_asides, resolved_entries, resolved_condition, resolved_filters, resolved_values, placed_body, resolved_stmt, resolved_body, resolved_choice}
 use Rattle.jt_slots.specs.Size.{targets_size, expr_size, row_size, condition_size, stmt_size, body_size}
 use Rattle.jt_meaning.specs.Measure.{stmt_own, body_own, branch_own, IsFew}
-use Rattle.jt_inherit.specs.Uses.{scope_names}
+use Rattle.jt_meaning.specs.Layout.{scopes}
 use Rattle.jt_meaning.specs.Measure.{HasFewNames}
 
 -- ---- weights have tokens
@@ -229,7 +229,7 @@ module _ (world : World) (order : List Home) where
   pub parameters_few : (h : Home) (x : Text) → HasFewNames world order h → length (block_parameters world order h x) ≤ 200
   parameters_few h x k = through (is_scoped world h x)
     where
-      through : (b : Bool) → length (if b then scope_names world.sources h else []) ≤ 200
+      through : (b : Bool) → length (if b then scopes world order h else []) ≤ 200
       through true = k.1
       through false = omega arith
 

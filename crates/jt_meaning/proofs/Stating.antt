@@ -32,7 +32,7 @@ use Rattle.jt_meaning.proofs.Agreeing.{Kept, kept_same, kept_then, kept_less, ke
 use Rattle.jt_meaning.proofs.Calling.{Evaluated, Rowed, Sees, PartHolds, part_kept, part_more, Good, good_kept, good_grown, around_of, Wrote, CallsMean, DefaultsLaid, Hands, Included}
 use Rattle.jt_meaning.proofs.Valuing.{numbered_are, value_same, filter_both, read_gives, reads_give, reads_are}
 use Rattle.jt_meaning.proofs.Binding.{taken, Set, one_set, all_set}
-use Rattle.jt_inherit.specs.Uses.{scope_names}
+use Rattle.jt_meaning.specs.Layout.{scopes}
 use Rattle.jt_meaning.proofs.Among.{Among, AllAmong}
 
 -- ---- names
@@ -113,9 +113,9 @@ abbrev mutual
   scoped_under (branch line c body rest) = scoped_in body ++ scoped_under rest
 
 -- such a block is a scoped one of the chain, and such a name is bound by a scope of the chain
-abbrev pub Proper : World → Home → Scoping → Type 0
-Proper world h (a_tag x) = is_scoped world h x ≡ true
-Proper world h (a_name x) = Among x (scope_names world.sources h)
+abbrev pub Proper : World → List Home → Home → Scoping → Type 0
+Proper world order h (a_tag x) = is_scoped world h x ≡ true
+Proper world order h (a_name x) = Among x (scopes world order h)
 
 -- each of a list has a property
 abbrev pub Each : {A : Type 0} → (A → Type 0) → List A → Type 0
@@ -130,12 +130,12 @@ pub each_back : {A : Type 0} (P : A → Type 0) (xs ys : List A) → Each P (xs 
 each_back P [] ys e = e
 each_back P (x ∷ xs) ys e = each_back P xs ys e.1
 
-pub names_proper : (world : World) (h : Home) (xs : List Text) (ys : List Scoping) → Each (Proper world h) (named xs ++ ys) → AllAmong xs (scope_names world.sources h)
-names_proper world h [] ys e = tt
-names_proper world h (x ∷ xs) ys e = (e.0, names_proper world h xs ys e.1)
+pub names_proper : (world : World) (order : List Home) (h : Home) (xs : List Text) (ys : List Scoping) → Each (Proper world order h) (named xs ++ ys) → AllAmong xs (scopes world order h)
+names_proper world order h [] ys e = tt
+names_proper world order h (x ∷ xs) ys e = (e.0, names_proper world order h xs ys e.1)
 
-pub behind_proper : (world : World) (h : Home) (xs : List Text) (ys : List Scoping) → Each (Proper world h) (named xs ++ ys) → Each (Proper world h) ys
-behind_proper world h xs ys e = each_back (Proper world h) (named xs) ys e
+pub behind_proper : (world : World) (order : List Home) (h : Home) (xs : List Text) (ys : List Scoping) → Each (Proper world order h) (named xs ++ ys) → Each (Proper world order h) ys
+behind_proper world order h xs ys e = each_back (Proper world order h) (named xs) ys e
 
 -- all names that can be read are seen by an include
 look_append : (x : Text) (s t : Pairs) → unwrap_or (look x (s ++ t)) tree.undefined ≡ unwrap_or (look x s) (value_in t x)
@@ -165,7 +165,7 @@ module _ (world : World) (order : List Home) (calls : Calls) (scall : SCalls) (m
   ns sp = names world order sp.home
 
   abbrev pub bound_names : Spot → List Text
-  bound_names sp = scope_names world.sources sp.home
+  bound_names sp = scopes world order sp.home
 
   abbrev pub lim : Spot → ℕ
   lim sp = limit world order sp.home
@@ -597,7 +597,7 @@ module _ (world : World) (order : List Home) (calls : Calls) (scall : SCalls) (m
 
   mutual
     pub stmt_same : (s : Stmt) (sp : Spot) (l : Option Loop) (q : Option Placement) (b j : ℕ) (S : List Text) (st : State) (m : Memory) → Here sp q b j S st m → AllAmong (stmt_names s) (ns sp) → AllAmong (set_by s) S
-        → Each (Included world order sp.home) (needs_by true s) → Each (Proper world sp.home) (scoped_by s)
+        → Each (Included world order sp.home) (needs_by true s) → Each (Proper world order sp.home) (scoped_by s)
         → Both (After sp q b j S m) (meaning world calls s (around_of world order sp l q) st) (sbody (resolved_stmt world order s sp) l m)
     stmt_same (data_of t) sp l q b j S st m h i o n d =
         both (stays (st.out ++ t) h (kept_out (record m { out = m.out ++ t }) refl refl (kept_same sp.free (lim sp) m)) (ap (λ u. u ++ t) h.out))
@@ -607,17 +607,17 @@ module _ (world : World) (order : List Home) (calls : Calls) (scall : SCalls) (m
     stmt_same (choose bs other) sp l q b j S st m h i o n d =
         choice_same bs sp l q b j S st (meanings world calls other (around_of world order sp l q)) (resolved_body world order other sp)
         (λ m' h'. body_same other sp l q b j S st m' h' (among_back (branch_names bs) (body_names other) (ns sp) i) (among_back (set_under bs) (set_in other) S o)
-        (each_back (Included world order sp.home) (needs_under true bs) (needs_in true other) n) (each_back (Proper world sp.home) (scoped_under bs) (scoped_in other) d))
+        (each_back (Included world order sp.home) (needs_under true bs) (needs_in true other) n) (each_back (Proper world order sp.home) (scoped_under bs) (scoped_in other) d))
         m h (among_front (branch_names bs) (body_names other) (ns sp) i) (among_front (set_under bs) (set_in other) S o)
-        (each_front (Included world order sp.home) (needs_under true bs) (needs_in true other) n) (each_front (Proper world sp.home) (scoped_under bs) (scoped_in other) d)
+        (each_front (Included world order sp.home) (needs_under true bs) (needs_in true other) n) (each_front (Proper world order sp.home) (scoped_under bs) (scoped_in other) d)
     stmt_same (for_each line xs e c body other) sp l q b j S st m h i o n d =
         let i1 = among_front (expr_names e) (xs ++ (condition_names c ++ (body_names body ++ body_names other))) (ns sp) i in
         let i2 = among_back xs (condition_names c ++ (body_names body ++ body_names other)) (ns sp) (among_back (expr_names e) (xs ++ (condition_names c ++ (body_names body ++ body_names other))) (ns sp) i) in
         let i3 = among_back (condition_names c) (body_names body ++ body_names other) (ns sp) i2 in
-        let own = names_proper world sp.home xs (named (set_in body) ++ (scoped_in body ++ scoped_in other)) d in
-        let d1 = behind_proper world sp.home xs (named (set_in body) ++ (scoped_in body ++ scoped_in other)) d in
-        let sets = names_proper world sp.home (set_in body) (scoped_in body ++ scoped_in other) d1 in
-        let d2 = behind_proper world sp.home (set_in body) (scoped_in body ++ scoped_in other) d1 in
+        let own = names_proper world order sp.home xs (named (set_in body) ++ (scoped_in body ++ scoped_in other)) d in
+        let d1 = behind_proper world order sp.home xs (named (set_in body) ++ (scoped_in body ++ scoped_in other)) d in
+        let sets = names_proper world order sp.home (set_in body) (scoped_in body ++ scoped_in other) d1 in
+        let d2 = behind_proper world order sp.home (set_in body) (scoped_in body ++ scoped_in other) d1 in
         by_right (alone_same (slots.for_each (place sp line) (fresh_targets sp.free xs) (resolved world order e sp) (resolved_condition world order c (bound_all xs sp)) (scoped (set_in body) (bound_all xs sp) (resolved_body world order body)) (resolved_body world order other sp)) l m)
         (bind_both {R = Rowed sp.free (lim sp) m}
         (at_both (place sp line) (bind_both (value_same world order calls scall mean laid l q e sp st.env m h.good i1) (λ v r w.
@@ -633,9 +633,9 @@ module _ (world : World) (order : List Home) (calls : Calls) (scall : SCalls) (m
         (gone_both l q body xs sp own
         (λ l' env out n' g inner z. scope_both body (bound_all xs sp) l' q env out n' g inner z (among_front (body_names body) (body_names other) (ns sp) i3) sets
         (λ b' j' S' st' n'' h'' o''. body_same body (bound_all (set_in body) (bound_all xs sp)) l' q b' j' S' st' n'' h'' (among_front (body_names body) (body_names other) (ns sp) i3) o''
-        (each_front (Included world order sp.home) (needs_in true body) (needs_in true other) n) (each_front (Proper world sp.home) (scoped_in body) (scoped_in other) d2)))
+        (each_front (Included world order sp.home) (needs_in true body) (needs_in true other) n) (each_front (Proper world order sp.home) (scoped_in body) (scoped_in other) d2)))
         (place sp line) b j S vs st r.memory (meanings world calls other (around_of world order sp l q)) (λ n'. sbody (resolved_body world order other sp) l n') h'
-        (body_same other sp l q b j S st r.memory h' (among_back (body_names body) (body_names other) (ns sp) i3) o (each_back (Included world order sp.home) (needs_in true body) (needs_in true other) n) (each_back (Proper world sp.home) (scoped_in body) (scoped_in other) d2))))))
+        (body_same other sp l q b j S st r.memory h' (among_back (body_names body) (body_names other) (ns sp) i3) o (each_back (Included world order sp.home) (needs_in true body) (needs_in true other) n) (each_back (Proper world order sp.home) (scoped_in body) (scoped_in other) d2))))))
     stmt_same (set line xs e) sp l q b j S st m h i o n d =
         by_right (alone_same (assign (place sp line) (set_targets sp.table xs) (resolved world order e sp)) l m)
         (left_both (λ s. record st { env = all_bound st.env s })
@@ -646,8 +646,8 @@ module _ (world : World) (order : List Home) (calls : Calls) (scall : SCalls) (m
         (set_all xs sp q b j S st r.memory h' (λ T first next. all_set world order sp.home sp.table sp.free h'.good.fits S r.memory T first next xs v o (among_back (expr_names e) xs (ns sp) i))))))))
     stmt_same (set_block line x body) sp l q b j S st m h i o n d =
         by_right (alone_same (capture sp.escaping (slot_of x sp.table) (scoped (set_in body) sp (resolved_body world order body))) l m)
-        (bind_both (caught body sp l q sp.escaping st.env m h.good i.1 (names_proper world sp.home (set_in body) (scoped_in body) d)
-        (λ b' j' S' st' n' h' o'. body_same body (bound_all (set_in body) sp) l q b' j' S' st' n' h' i.1 o' n (behind_proper world sp.home (set_in body) (scoped_in body) d))) (λ v n' w.
+        (bind_both (caught body sp l q sp.escaping st.env m h.good i.1 (names_proper world order sp.home (set_in body) (scoped_in body) d)
+        (λ b' j' S' st' n' h' o'. body_same body (bound_all (set_in body) sp) l q b' j' S' st' n' h' i.1 o' n (behind_proper world order sp.home (set_in body) (scoped_in body) d))) (λ v n' w.
         let m2 : Memory = record n' { out = m.out } in
         let u : Kept sp.free (lim sp) m m2 = kept_out m2 refl refl w.kept in
         let h' : Here sp q b j S st m2 = record { good = good_kept world order h.good u; owns = h.owns; out = h.out } in
@@ -657,19 +657,19 @@ module _ (world : World) (order : List Home) (calls : Calls) (scall : SCalls) (m
         (set_all {g = gives ((x, v) ∷ [])} (x ∷ []) sp q b j S st m2 h' (λ T first next. both (one_set world order sp.home sp.table sp.free h'.good.fits S m2 T first next x v o.0 i.0)))))))
     stmt_same (with_values line ps body) sp l q b j S st m h i o n d =
         let i1 = among_back (keywords ps) (body_names body) (ns sp) (among_back (pair_names ps) (keywords ps ++ body_names body) (ns sp) i) in
-        let own = names_proper world sp.home (keywords ps) (named (set_in body) ++ scoped_in body) d in
-        let d1 = behind_proper world sp.home (keywords ps) (named (set_in body) ++ scoped_in body) d in
+        let own = names_proper world order sp.home (keywords ps) (named (set_in body) ++ scoped_in body) d in
+        let d1 = behind_proper world order sp.home (keywords ps) (named (set_in body) ++ scoped_in body) d in
         with_same ps sp l q st.env m line h.good (among_front (pair_names ps) (keywords ps ++ body_names body) (ns sp) i) (After sp q b j S m) (λ ks. within ks (meanings world calls body (around_of world order sp l q)) st)
         (scoped (set_in body) (bound_all (keywords ps) sp) (resolved_body world order body)) (λ ks n' w.
         left_both (λ r. record st { out = r.out })
         (weaken (λ st' n'' y. stays st'.out h (kept_then w.kept (kept_less (let f : sp.free ≤ sp.free + length (keywords ps) = omega arith in f) (let f : lim sp ≤ lim sp = omega arith in f) y.kept)) y.out)
-        (scope_both body (bound_all (keywords ps) sp) l q (inside ks st.env) st.out n' (good_bound sp q ks (keywords ps) w.names own h.good w.kept w.values) (inside_inner st.env ks) (w.out ∙ h.out) i1 (names_proper world sp.home (set_in body) (scoped_in body) d1)
-        (λ b' j' S' st' n'' h' o'. body_same body (bound_all (set_in body) (bound_all (keywords ps) sp)) l q b' j' S' st' n'' h' i1 o' n (behind_proper world sp.home (set_in body) (scoped_in body) d1)))))
+        (scope_both body (bound_all (keywords ps) sp) l q (inside ks st.env) st.out n' (good_bound sp q ks (keywords ps) w.names own h.good w.kept w.values) (inside_inner st.env ks) (w.out ∙ h.out) i1 (names_proper world order sp.home (set_in body) (scoped_in body) d1)
+        (λ b' j' S' st' n'' h' o'. body_same body (bound_all (set_in body) (bound_all (keywords ps) sp)) l q b' j' S' st' n'' h' i1 o' n (behind_proper world order sp.home (set_in body) (scoped_in body) d1)))))
     stmt_same (filter_block line fs body) sp l q b j S st m h i o n d =
         by_right (bind_assoc (sbody (scoped (set_in body) (grown sp) (resolved_body world order body)) l (record m { out = [] })) (λ n'. gives (store (local sp.free) (as_value sp.escaping n'.out) (record n' { out = m.out })))
         (λ n'. sbody (alone (slots.print (place sp line) sp.escaping (resolved_filters world order fs (grown sp) (slots.variable (local sp.free))))) l n'))
-        (bind_both (caught body (grown sp) l q sp.escaping st.env m (good_grown world order h.good) (among_front (body_names body) (filtering_names fs) (ns sp) i) (names_proper world sp.home (set_in body) (scoped_in body) d)
-        (λ b' j' S' st' n' h' o'. body_same body (bound_all (set_in body) (grown sp)) l q b' j' S' st' n' h' (among_front (body_names body) (filtering_names fs) (ns sp) i) o' n (behind_proper world sp.home (set_in body) (scoped_in body) d))) (λ v n' w.
+        (bind_both (caught body (grown sp) l q sp.escaping st.env m (good_grown world order h.good) (among_front (body_names body) (filtering_names fs) (ns sp) i) (names_proper world order sp.home (set_in body) (scoped_in body) d)
+        (λ b' j' S' st' n' h' o'. body_same body (bound_all (set_in body) (grown sp)) l q b' j' S' st' n' h' (among_front (body_names body) (filtering_names fs) (ns sp) i) o' n (behind_proper world order sp.home (set_in body) (scoped_in body) d))) (λ v n' w.
         let m2 : Memory = store (local sp.free) (as_value sp.escaping n'.out) (record n' { out = m.out }) in
         let less : sp.free ≤ suc sp.free = omega arith in
         let one = kept_store sp.free (lim sp) sp.free (as_value sp.escaping n'.out) (record n' { out = m.out }) (let f : sp.free ≤ sp.free = omega arith in f) in
@@ -685,8 +685,8 @@ module _ (world : World) (order : List Home) (calls : Calls) (scall : SCalls) (m
         let g = good_inside h.good in
         left_both (λ r. record st { out = r.out })
         (weaken (λ st' n' y. stays st'.out h y.kept y.out)
-        (scope_both body sp' l q (inside [] st.env) st.out m (record { known = g.known; fits = g.fits; agrees = g.agrees; part = g.part }) (inside_inner st.env []) h.out i (names_proper world sp.home (set_in body) (scoped_in body) d)
-        (λ b' j' S' st' n' h' o'. body_same body (bound_all (set_in body) sp') l q b' j' S' st' n' h' i o' n (behind_proper world sp.home (set_in body) (scoped_in body) d))))
+        (scope_both body sp' l q (inside [] st.env) st.out m (record { known = g.known; fits = g.fits; agrees = g.agrees; part = g.part }) (inside_inner st.env []) h.out i (names_proper world order sp.home (set_in body) (scoped_in body) d)
+        (λ b' j' S' st' n' h' o'. body_same body (bound_all (set_in body) sp') l q b' j' S' st' n' h' i o' n (behind_proper world order sp.home (set_in body) (scoped_in body) d))))
     stmt_same (macro line x ps body) sp l q b j S st m h i o n d = both (record { here = h; kept = kept_same b j m })
     stmt_same (include line k ignore_missing with_context) sp l q b j S st m h i o n d =
         including (is_none (world.sources k)) refl
@@ -709,21 +709,21 @@ module _ (world : World) (order : List Home) (calls : Calls) (scall : SCalls) (m
         (placed_both x (globals world order sp.home) (top st.env.globals) (numbered_of world sp.home x) sp l q b j S st m h (sees_globals x sp q st.env m h.good) refl)
 
     pub body_same : (c : Body) (sp : Spot) (l : Option Loop) (q : Option Placement) (b j : ℕ) (S : List Text) (st : State) (m : Memory) → Here sp q b j S st m → AllAmong (body_names c) (ns sp) → AllAmong (set_in c) S
-        → Each (Included world order sp.home) (needs_in true c) → Each (Proper world sp.home) (scoped_in c)
+        → Each (Included world order sp.home) (needs_in true c) → Each (Proper world order sp.home) (scoped_in c)
         → Both (After sp q b j S m) (meanings world calls c (around_of world order sp l q) st) (sbody (resolved_body world order c sp) l m)
     body_same end sp l q b j S st m h i o n d = both (record { here = h; kept = kept_same b j m })
     body_same (stmt s rest) sp l q b j S st m h i o n d =
         by_right (followed_same (resolved_stmt world order s sp) (resolved_body world order rest sp) l m)
         (bind_both (stmt_same s sp l q b j S st m h (among_front (stmt_names s) (body_names rest) (ns sp) i) (among_front (set_by s) (set_in rest) S o) (each_front (Included world order sp.home) (needs_by true s) (needs_in true rest) n)
-        (each_front (Proper world sp.home) (scoped_by s) (scoped_in rest) d)) (λ st' m' a.
+        (each_front (Proper world order sp.home) (scoped_by s) (scoped_in rest) d)) (λ st' m' a.
         weaken (λ st'' m'' y. since a.kept y)
         (body_same rest sp l q b j S st' m' a.here (among_back (stmt_names s) (body_names rest) (ns sp) i) (among_back (set_by s) (set_in rest) S o) (each_back (Included world order sp.home) (needs_by true s) (needs_in true rest) n)
-        (each_back (Proper world sp.home) (scoped_by s) (scoped_in rest) d))))
+        (each_back (Proper world order sp.home) (scoped_by s) (scoped_in rest) d))))
 
     -- the else part is given by its meaning, its resolved form and that they mean the same
     pub choice_same : (bs : Branches) (sp : Spot) (l : Option Loop) (q : Option Placement) (b j : ℕ) (S : List Text) (st : State) (other : State → Got State) (sother : SBody Constant)
         → ((m : Memory) → Here sp q b j S st m → Both (After sp q b j S m) (other st) (sbody sother l m))
-        → (m : Memory) → Here sp q b j S st m → AllAmong (branch_names bs) (ns sp) → AllAmong (set_under bs) S → Each (Included world order sp.home) (needs_under true bs) → Each (Proper world sp.home) (scoped_under bs)
+        → (m : Memory) → Here sp q b j S st m → AllAmong (branch_names bs) (ns sp) → AllAmong (set_under bs) S → Each (Included world order sp.home) (needs_under true bs) → Each (Proper world order sp.home) (scoped_under bs)
         → Both (After sp q b j S m) (chosen world calls bs (around_of world order sp l q) st other) (sbody (resolved_choice world order bs sp sother) l m)
     choice_same no_branches sp l q b j S st other sother others m h i o n d = others m h
     choice_same (branch line c body rest) sp l q b j S st other sother others m h i o n d =
@@ -734,6 +734,6 @@ module _ (world : World) (order : List Home) (calls : Calls) (scall : SCalls) (m
         by_right (ap (λ z. if tree.truth z then sbody (resolved_body world order body sp) l r.memory else sbody (resolved_choice world order rest sp sother) l r.memory) w.value)
         (weaken (λ st' n' y. since (lower h.owns w.kept) y) (if_both (tree.truth v)
         (body_same body sp l q b j S st r.memory h' (among_front (body_names body) (branch_names rest) (ns sp) i1) (among_front (set_in body) (set_under rest) S o) (each_front (Included world order sp.home) (needs_in true body) (needs_under true rest) n)
-        (each_front (Proper world sp.home) (scoped_in body) (scoped_under rest) d))
+        (each_front (Proper world order sp.home) (scoped_in body) (scoped_under rest) d))
         (choice_same rest sp l q b j S st other sother others r.memory h' (among_back (body_names body) (branch_names rest) (ns sp) i1) (among_back (set_in body) (set_under rest) S o) (each_back (Included world order sp.home) (needs_in true body) (needs_under true rest) n)
-        (each_back (Proper world sp.home) (scoped_in body) (scoped_under rest) d))))))
+        (each_back (Proper world order sp.home) (scoped_in body) (scoped_under rest) d))))))

@@ -40,7 +40,7 @@ use Rattle.jt_meaning.proofs.Both.{Both, both, fault, bind_both, if_both, weaken
 use Rattle.jt_meaning.proofs.Reading.{among_front, among_back, held, put_here}
 use Rattle.jt_meaning.proofs.Agreeing.{Kept, kept_same, kept_then, kept_less, kept_store, Held, limit, global_given}
 use Rattle.jt_meaning.proofs.Calling.{Evaluated, Rowed, Known, Sees, Tail, PartHolds, Good, good_kept, good_grown, around_of, Wrote, CallsMean, DefaultsAt, DefaultsLaid}
-use Rattle.jt_inherit.specs.Uses.{scope_names}
+use Rattle.jt_meaning.specs.Layout.{scopes}
 use Rattle.jt_meaning.proofs.Among.{Among, AllAmong}
 
 -- ---- rows of values
@@ -394,7 +394,7 @@ module _ (world : World) (order : List Home) (calls : Calls) (scall : SCalls) (m
   field_both {m = m} sp (Some f) = done (loop_field f l) (kept_same sp.free (end sp) m) refl
 
   abbrev pub bound_names : Spot → List Text
-  bound_names sp = scope_names world.sources sp.home
+  bound_names sp = scopes world order sp.home
 
   abbrev pub ns : Spot → List Text
   ns sp = names world order sp.home

@@ -25,9 +25,11 @@ use Rattle.jt_meaning.proofs.Locality as locality
 use Rattle.jt_meaning.proofs.Constants.{followed_count, stmt_counted, all_counted, scope_counted}
 use Rattle.jt_meaning.proofs.Lowness.{followed_low, stmt_low, all_low, scope_low}
 use Rattle.jt_parse.specs.Trees.{body_bound, stmt_bound}
-use Rattle.jt_inherit.specs.Uses.{scope_names}
+use Rattle.jt_meaning.specs.Layout.{scopes}
 use Rattle.jt_meaning.specs.Layout.{is_scoped}
 use Rattle.jt_meaning.proofs.Free.{stmt_free, body_free, Paid, PaidMacro, AllPaid, MacrosPaid, body_paid, templates_bound, templates_pay, chain_blocks, chain_macros, scopes_few}
+use Rattle.jt_inherit.specs.Uses.{scope_names}
+use Rattle.jt_parse.specs.Texts.{among}
 
 -- ---- each body counts once: in its template, or as a block's or a macro's
 
@@ -264,8 +266,12 @@ module _ (world : World) (order : List Home) (h : Home) (k : IsFew world order h
   at_most : HasAtMost world order (templates_bound ts) h
   at_most = record { macros = macros_few (templates_weight ts) (templates_bound ts) (macros world.sources h) (chain_macros ts); blocks = λ x. of_scopes (is_scoped world h x); filters = k.filters }
     where
-      of_scopes : (b : Bool) → length (if b then scope_names world.sources h else []) ≤ templates_bound ts
-      of_scopes true = scopes_few ts
+      in_order : (b : Bool) → length (if b then scope_names world.sources h else []) ≤ templates_bound ts
+      in_order true = scopes_few ts
+      in_order false = omega arith
+
+      of_scopes : (b : Bool) → length (if b then scopes world order h else []) ≤ templates_bound ts
+      of_scopes true = in_order (among h order)
       of_scopes false = omega arith
 
   low_in_chain : AllByRecursion (Low (max 2 (templates_weight ts))) (chain_routines world order h)

@@ -5,7 +5,7 @@ use Rattle.std.specs.List.{list_any}
 use Rattle.std.specs.Str.{bytes_eq}
 use Rattle.jt_value.specs.Tree as tree
 use Rattle.jt_value.specs.Tree.{Tree}
-use Rattle.jt_parse.specs.Texts.{ascending}
+use Rattle.jt_parse.specs.Texts.{among, ascending}
 use Rattle.jt_parse.specs.Trees.{Text}
 use Rattle.jt_inherit.specs.Chain.{Home, templates, BlockBody, all_bodies, MacroBody, macros}
 use Rattle.jt_slots.specs.Filters.{default_value}
@@ -93,10 +93,14 @@ module _ (world : World) where
     abbrev pub globals : Home → Table
     globals h = globals_from (first_slot h) (names h)
 
+    -- the names that the scopes of a chain bind
+    abbrev pub scopes : Home → List Text
+    scopes h = if among h order then scope_names world.sources h else []
+
     -- where a tag of the block says `scoped`, its bodies have as parameters the names that the chain's scopes bind: a name that no scope binds
     -- is a global at each tag
     abbrev pub block_parameters : Home → Text → List Text
-    block_parameters h x = if is_scoped h x then scope_names world.sources h else []
+    block_parameters h x = if is_scoped h x then scopes h else []
 
     abbrev pub keys : List Key
     keys = flat_map chain_keys order

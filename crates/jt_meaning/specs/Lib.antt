@@ -8,3 +8,5 @@ pub mod Measure
 pub mod Operators
 pub mod Programs
 pub mod Resolve
+pub mod Ascends
+pub mod Bytes

@@ -4,10 +4,9 @@ use Rattle.std.specs.List.{AllByRecursion}
 use Rattle.jt_expr.specs.Trees.{weight, pairs_weight}
 use Rattle.jt_parse.specs.Trees.{Text, Stmt, data_of, print, choose, for_each, set, set_block, with_values, filter_block, autoescape, macro, include, extends, block, Body, end, stmt, Branches, no_branches, branch, condition_weight, filtering_weight, body_weight}
 use Rattle.jt_inherit.specs.Small.{chains_weight}
-use Rattle.jt_inherit.specs.Uses.{scope_names}
 use Rattle.jt_inherit.specs.Chain.{Home, Template, templates, macros}
 use Rattle.jt_rules.specs.World.{World}
-use Rattle.jt_meaning.specs.Layout.{names, block_parameters}
+use Rattle.jt_meaning.specs.Layout.{names, scopes, block_parameters}
 use Rattle.jt_slots.specs.Slots.{Program}
 use Rattle.jt_slots.specs.Size.{body_height, routines_size}
 
@@ -41,7 +40,7 @@ abbrev mutual
 
 -- a chain's names, and those of them that its scopes bind
 abbrev pub HasFewNames : World → List Home → Home → Type 0
-HasFewNames world order h = (length (names world order h) ≤ 200) × (length (scope_names world.sources h) ≤ 200)
+HasFewNames world order h = (length (names world order h) ≤ 200) × (length (scopes world order h) ≤ 200)
 
 pub record IsFew (world : World) (order : List Home) (h : Home) : Type 0 where
   pub names : (k : Home) → HasFewNames world order k

@@ -53,7 +53,7 @@ operation_of None escaping vs = Err faults.BadType
 operation_of (Some f) escaping vs = filtered f escaping vs
 
 -- filters go by their ids
-pub the_filters : Filters
+unfoldable pub the_filters : Filters
 the_filters = record {
   named = λ x. option_map filter_id (filter_named x);
   parameters = λ n. parameters_of (filter_of n);
