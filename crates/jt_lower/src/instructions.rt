@@ -175,7 +175,14 @@ pub fn made_of(made: Maker, count: usize) -> Option<Instruction>
             }),
             Err(_) => None,
         },
-        Maker::Filter(_, _) => Some(Instruction::Op { operator: 255 }),
+        Maker::Filter(filter, escaping) => match u16::try_from(count) {
+            Ok(values) => Some(Instruction::Filter {
+                filter: filter.id(),
+                values,
+                flag: u32::from(flag(escaping)),
+            }),
+            Err(_) => None,
+        },
         Maker::List => match field(count) {
             Some(items) => Some(Instruction::MakeList { items }),
             None => None,
