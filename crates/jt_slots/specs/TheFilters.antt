@@ -5,7 +5,8 @@ use Rattle.std.specs.Str.{bytes_eq}
 use Rattle.jt_filters.specs.declared.filter_id.FilterId.{FilterId}
 use Rattle.jt_filters.specs.declared.filter_id.FilterId.TheVariants as filter
 use Rattle.jt_filters.specs.FilterTable.{filters, filter_id, filter_names, argument_names}
-use Rattle.jt_filters.specs.FilterIds.{filter_of, accepts, filtered_by}
+unfoldable pub use Rattle.jt_filters.specs.FilterIds.{filter_of}
+use Rattle.jt_filters.specs.FilterIds.{accepts, filtered_by}
 use Rattle.jt_expr.specs.Trees as trees
 use Rattle.jt_expr.specs.Trees.{Literal}
 use Rattle.jt_parse.specs.Trees.{Text, Parameter}
