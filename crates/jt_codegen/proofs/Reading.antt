@@ -37,6 +37,7 @@ read_wire (op.Jump n) = refl
 read_wire (op.JumpIfFalse n) = refl
 read_wire (op.JumpIfTrue n) = refl
 read_wire (op.Op n) = refl
+read_wire (op.Filter n m k) = refl
 read_wire (op.Test n m) = refl
 read_wire (op.MakeList n) = refl
 read_wire (op.MakeMap n) = refl

@@ -53,15 +53,16 @@ module _ (templates : List Text) where
 
   each_snoc : (us : List given.Unit) (u : given.Unit) (front : List Section) (s : Section) → each_of section_of_unit us ≡ Some front → section_of_unit u ≡ Some s → each_of section_of_unit (us ++ u ∷ []) ≡ Some (front ++ s ∷ [])
   each_snoc [] u front s e is = let none : [] ≡ front = (let same : Some [] ≡ Some front = e in cc) in ap (λ o. in_front o (Some [])) is ∙ ap (λ l. Some (l ++ s ∷ [])) none
-  each_snoc (v ∷ us) u front s e is = through (section_of_unit v) (each_of section_of_unit us) refl e
+  each_snoc (v ∷ us) u front s e is = through (section_of_unit v) (each_of section_of_unit us) refl e (λ ts f. each_snoc us u ts s f is)
     where
-      through : (o : Option Section) (p : Option (List Section)) → each_of section_of_unit us ≡ p → in_front o p ≡ Some front → in_front o (each_of section_of_unit (us ++ u ∷ [])) ≡ Some (front ++ s ∷ [])
-      through None p q f = absurd (let same : None ≡ Some front = f in cc)
-      through (Some t) None q f = absurd (let same : None ≡ Some front = f in cc)
-      through (Some t) (Some ts) q f =
+      through : (o : Option Section) (p : Option (List Section)) → each_of section_of_unit us ≡ p → in_front o p ≡ Some front → ((ts : List Section) → each_of section_of_unit us ≡ Some ts → each_of section_of_unit (us ++ u ∷ []) ≡ Some (ts ++ s ∷ []))
+          → in_front o (each_of section_of_unit (us ++ u ∷ [])) ≡ Some (front ++ s ∷ [])
+      through None p q f more = absurd (let same : None ≡ Some front = f in cc)
+      through (Some t) None q f more = absurd (let same : None ≡ Some front = f in cc)
+      through (Some t) (Some ts) q f more =
           let same : Some (t ∷ ts) ≡ Some front = f in
           let is_it : t ∷ ts ≡ front = cc in
-          ap (in_front (Some t)) (each_snoc us u ts s q is) ∙ ap (λ l. Some (l ++ s ∷ [])) is_it
+          ap (in_front (Some t)) (more ts q) ∙ ap (λ l. Some (l ++ s ∷ [])) is_it
 
   pub made_more : (us : List given.Unit) (u : given.Unit) (rs : List Routine) (i : ℕ) (r : Routine) → i < length rs → r ≡ get_or rs i r → section_of_unit u ≡ Some (unit r) → Made us rs (drop i rs) → Made (us ++ u ∷ []) rs (drop (i + 1) rs)
   made_more us u rs i r lt is e m =
@@ -87,3 +88,7 @@ module _ (templates : List Text) where
 pub units_refused : (e : EmitError) (p : Program) → RefusesUnits e (units (templates_of p) p.routines.items) → RefusesCode e (compiled (program_of p))
 units_refused error.NoMemory p r = tt
 units_refused error.CodeTooLong p r = λ fits. r fits.units
+
+pub numbered_len : (i : ℕ) (xs : List Text) → length (numbered i xs) ≡ length xs
+numbered_len i [] = refl
+numbered_len i (x ∷ xs) = ap suc (numbered_len (suc i) xs)
