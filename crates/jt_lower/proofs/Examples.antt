@@ -156,7 +156,7 @@ abbrev with_x : Pairs
 with_x = (codes "x", tree.text (codes "a<")) ∷ []
 
 meant_upper : smean the_filters (of_filter 30) with_x 1 ≡ gives (codes "A&lt;")
-unfolding filter_of
+unfolding filter_of the_filters
 meant_upper = refl
 
 runs_upper : exec (compiled (of_filter 30)) 20 (start_machine (compiled (of_filter 30)) with_x) ≡ Finished (codes "A&lt;")
@@ -164,7 +164,7 @@ unfolding filter_of
 runs_upper = refl
 
 meant_abs : smean the_filters (of_filter 0) with_x 1 ≡ fails faults.BadType (Some (tag 1))
-unfolding filter_of
+unfolding filter_of the_filters
 meant_abs = refl
 
 runs_abs : exec (compiled (of_filter 0)) 20 (start_machine (compiled (of_filter 0)) with_x) ≡ Failed faults.BadType

@@ -242,6 +242,7 @@ module _ (names : List Text) (globals : ℕ) (front : List Tree) (rs : List (Rou
     call_fits u es n t = called (slice_get p.routines u) u (row_count (placed_row es n)) refl t
 
     maker_fits : (k : Maker) (i : ℕ) → MakerTakes the_filters k i → MakerFits k i
+    unfolding the_filters
     maker_fits (slots.operator o) i t = t
     maker_fits (slots.test x) i t = t
     maker_fits (slots.filter f escaping) i t = t

@@ -274,6 +274,7 @@ module _ (p : Program) (call : SCalls) (has : HasPool (compiled p) p.pool) (keep
 
   made_does : (h : Maker) (n : ℕ) (vs : List Tree) (q : Option Place) (es : List Entry) (bs : List (List ℕ)) (out : Text) (m : Memory) → MakerFits h n → length vs ≡ n → Kept out m
       → Does q (KeptValue out) (ValueOn es bs) (of_plain q (plain k (maker h n) (at_bufs (piled vs es) bs m))) (bind (checked (make the_filters h vs)) (valued m))
+  unfolding the_filters
   made_does (slots.operator x) n vs q es bs out m fit e w =
       same_run q (KeptValue out) (ValueOn es bs) _ (of_plain q (makes (op_operands x) (operated (Some x)) (at_bufs (piled vs es) bs m))) (bind (checked (operated (Some x) vs)) (valued m))
       (ap (λ y. of_plain q (makes (operands_of y) (operated y) (at_bufs (piled vs es) bs m))) (has_operator x)) (made_by (op_operands x) (operated (Some x)) vs q es bs out m (e ∙ sym fit) w)

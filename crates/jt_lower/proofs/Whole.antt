@@ -2,6 +2,7 @@
 use Rattle.jt_image.specs.IsCode.{IsCode}
 use Rattle.jt_image.specs.Laws.{CodeLaws}
 use Rattle.jt_slots.specs.Slots.{Program}
+use Rattle.jt_slots.specs.TheFilters.{the_filters}
 use Rattle.jt_lower.specs.Lower.{compiled}
 use Rattle.jt_lower.specs.Fits.{ProgramFits}
 use Rattle.jt_lower.specs.Compiles.{DoesProgram, PlacesFaults, LowLaws}
@@ -26,4 +27,4 @@ places_faults : (p : Program) → ProgramFits p → PlacesFaults p
 places_faults p fit = record { faults = placed_means p fit; places = means_placed p fit }
 
 pub laws_hold : CodeLaws → LowLaws
-laws_hold laws = record { fits = lawful_fits; pooled = pooled_same; typed = compiled_typed; right = does_program laws; places_faults = places_faults; one_place = placed; sized = program_sized; same_size = same_size }
+laws_hold laws = record { fits = lawful_fits; pooled = pooled_same the_filters; typed = compiled_typed; right = does_program laws; places_faults = places_faults; one_place = placed; sized = program_sized; same_size = same_size }
