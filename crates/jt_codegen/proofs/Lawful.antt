@@ -280,8 +280,10 @@ module _ (front globals_count : ℕ) (some : 0 < front) where
         let ks = locals_from sp.free (keywords f.keywords) in
         let rest = filled_some (filter_parameters world.filters n) (count f.arguments) (keywords f.keywords) ks in
         let row = resolved_row world order f.arguments sp (resolved_asides world order f.keywords sp rest) in
-        filters_fined fs sp (filtered_by n sp.escaping (slots.item e row)) i t (filtered_fine n sp.escaping (slots.item e row) (h,
-        row_fined f.arguments sp i t (resolved_asides world order f.keywords sp rest) (asides_fined f.keywords sp i t rest (some_fine (filter_parameters world.filters n) (count f.arguments) (keywords f.keywords) ks (from_fine sp.free (keywords f.keywords))))))
+        filters_fined fs sp (filtered_by n sp.escaping (slots.item e row)) i t (filtered_fine n sp.escaping (slots.item e row) (
+          h,
+          row_fined f.arguments sp i t (resolved_asides world order f.keywords sp rest) (asides_fined f.keywords sp i t rest (some_fine (filter_parameters world.filters n) (count f.arguments) (keywords f.keywords) ks (from_fine sp.free (keywords f.keywords)))),
+        ))
 
     values_fined : (ps : Pairs) (sp : Spot) (line : ℕ) (b : SBody Constant) → among sp.home order ≡ true → Fine sp.table → B b → B (resolved_values world order ps sp line b)
     values_fined no_pairs sp line b i t h = h
@@ -316,9 +318,16 @@ module _ (front globals_count : ℕ) (some : 0 < front) where
       stmt_fined (choose bs other) sp i t = choice_fined bs sp i t (resolved_body world order other sp) (all_fined other sp i t)
       stmt_fined (for_each line xs e c body other) sp i t =
           let inner = bound_all xs sp in
-          let ft = bound_fine xs sp.free sp.table t in
-          ((fresh_fine sp.free xs, fined e sp i t, condition_fined c inner i ft,
-          scope_fined body inner ft (all_fined body (bound_all (set_in body) inner) i (bound_fine (set_in body) (sp.free + length xs) (bound_table xs sp.free sp.table) ft)), all_fined other sp i t), tt)
+          let ft = bound_fine xs sp.free sp.table t in (
+            (
+              fresh_fine sp.free xs,
+              fined e sp i t,
+              condition_fined c inner i ft,
+              scope_fined body inner ft (all_fined body (bound_all (set_in body) inner) i (bound_fine (set_in body) (sp.free + length xs) (bound_table xs sp.free sp.table) ft)),
+              all_fined other sp i t,
+            ),
+            tt,
+          )
       stmt_fined (set line xs e) sp i t = ((set_fine sp.table xs t, fined e sp i t), tt)
       stmt_fined (set_block line x body) sp i t = ((of_fine sp.table x t, scope_fined body sp t (all_fined body (bound_all (set_in body) sp) i (bound_fine (set_in body) sp.free sp.table t))), tt)
       stmt_fined (with_values line ps body) sp i t =
@@ -525,9 +534,10 @@ module _ (world : World) (order : List Home) where
   routines_of [] i = tt
   routines_of (h ∷ hs) i =
       let here = i h (ap (λ b. b || among h hs) (same_is h)) in
-      append_all Good (chain_routines world order h) (flat_map (chain_routines world order) hs)
-      (record { body = chain_lawful h here (templates world.sources h); locals = omega arith },
-      append_all Good (map (macro_routine world order h) (macros world.sources h)) (body_routines world order h (numbered_bodies world h)) (macros_lawful h here (macros world.sources h)) (bodies_lawful h here (numbered_bodies world h)))
+      append_all Good (chain_routines world order h) (flat_map (chain_routines world order) hs) (
+        record { body = chain_lawful h here (templates world.sources h); locals = omega arith },
+        append_all Good (map (macro_routine world order h) (macros world.sources h)) (body_routines world order h (numbered_bodies world h)) (macros_lawful h here (macros world.sources h)) (bodies_lawful h here (numbered_bodies world h)),
+      )
       (routines_of hs (λ g j. i g (later (bytes_eq h g) (among g hs) j)))
     where
       later : (a b : Bool) → b ≡ true → (a || b) ≡ true

@@ -6,3 +6,4 @@ pub mod Tabled
 pub mod Lawful
 pub mod Knowing
 pub mod Chained
+pub mod Refused

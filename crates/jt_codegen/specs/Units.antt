@@ -4,6 +4,8 @@ use Rattle.std.specs.List.{AllByRecursion}
 use Rattle.jt_image.specs.Code.{Section, Code}
 use Rattle.jt_image.specs.IsCode.{max_locals, max_instructions}
 use Rattle.jt_image.specs.Parts.{KeepsLimits, IsWritable}
+use Rattle.jt_image.specs.declared.error.ImageError.{ImageError}
+use Rattle.jt_image.specs.declared.error.ImageError.TheVariants as image_error
 use Rattle.jt_codegen.specs.declared.emission.EmitError.{EmitError}
 use Rattle.jt_codegen.specs.declared.emission.EmitError.TheVariants as error
 
@@ -33,3 +35,8 @@ pub record FitsImage (k : Code) : Type 0 where
 abbrev pub RefusesCode : EmitError → Code → Type 0
 RefusesCode error.CodeTooLong k = ¬ (FitsImage k)
 RefusesCode error.NoMemory k = Unit {0}
+
+-- where parts are no image: all but want of memory is want of place
+abbrev pub of_image : ImageError → EmitError
+of_image image_error.NoMemory = error.NoMemory
+of_image e = error.CodeTooLong

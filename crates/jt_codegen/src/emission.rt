@@ -79,7 +79,11 @@ pub(crate) fn emit_unit(alloc: Global, routine: &Routine) -> Result<Unit, EmitEr
 }
 
 /// Keeps the items for which the condition holds, in place of all.
-fn emit_condition(code: &mut Emitter, targets: &Targets, condition: &Option<SExpr>) -> Result<(), AllocError>
+fn emit_condition(
+    code: &mut Emitter,
+    targets: &Targets,
+    condition: &Option<SExpr>,
+) -> Result<(), AllocError>
     ensures { OnOk result ((o : Option Place) → Puts code.old (kept_asm o (targets_view targets.now) (option_map expr_view condition.now)) code.new) }
 {
     match condition {
@@ -108,7 +112,12 @@ fn close_all(code: &mut Emitter, ends: &[usize])
 
 /// Puts the code of a statement behind the others, with so many entries above the innermost loop.
 #[cycle(statements)]
-fn emit_statement(alloc: Global, code: &mut Emitter, statement: &SStmt, above: usize) -> Result<(), AllocError>
+fn emit_statement(
+    alloc: Global,
+    code: &mut Emitter,
+    statement: &SStmt,
+    above: usize,
+) -> Result<(), AllocError>
     ensures { OnOk result ((templates : List Text) (h : ℕ) → StandsFor above h → Emits h code.old (stmt_view templates statement.now) code.new) }
 {
     match statement {
@@ -172,7 +181,12 @@ fn emit_statement(alloc: Global, code: &mut Emitter, statement: &SStmt, above: u
 
 /// Puts the code of statements behind the others.
 #[cycle(statements)]
-fn emit_statements(alloc: Global, code: &mut Emitter, body: &[SStmt], above: usize) -> Result<(), AllocError>
+fn emit_statements(
+    alloc: Global,
+    code: &mut Emitter,
+    body: &[SStmt],
+    above: usize,
+) -> Result<(), AllocError>
     ensures { OnOk result ((templates : List Text) (h : ℕ) → StandsFor above h → Emits h code.old (body_view templates body.now) code.new) }
 {
     for statement in body {

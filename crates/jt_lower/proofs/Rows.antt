@@ -64,5 +64,5 @@ row_aside o es i e old now mid new all top n lt is some_kept p s l =
       height = l.height;
       stands = l.stands;
       puts = λ final q. l.puts final (subst (λ r. Puts now (row_asm o r l.height) final) (sym left)
-      (puts_then now mid final (expr_asm o x l.height) (both (one o (op.Store n)) (row_asm o rest l.height)) (p l.height l.stands) (puts_then mid new final (one o (op.Store n)) (row_asm o rest l.height) s q)));
+          (puts_then now mid final (expr_asm o x l.height) (both (one o (op.Store n)) (row_asm o rest l.height)) (p l.height l.stands) (puts_then mid new final (one o (op.Store n)) (row_asm o rest l.height) s q)));
     }

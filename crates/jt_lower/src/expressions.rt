@@ -92,7 +92,11 @@ fn count_values(row: &[(Option<usize>, SExpr)]) -> usize
 
 /// Puts the code of a row of expressions behind the others, from left to right.
 #[cycle(expressions)]
-pub fn emit_row(code: &mut Emitter, row: &[(Option<usize>, SExpr)], above: usize) -> Result<(), AllocError>
+pub fn emit_row(
+    code: &mut Emitter,
+    row: &[(Option<usize>, SExpr)],
+    above: usize,
+) -> Result<(), AllocError>
     ensures { OnOk result ((o : Option Place) (h : ℕ) → StandsFor above h → Puts code.old (row_asm o (row_view row.now none) h) code.new) }
 {
     let mut top = above;

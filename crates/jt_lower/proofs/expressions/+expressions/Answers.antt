@@ -174,10 +174,10 @@ emit_row-loop-kept-preserved t c = λ o h s.
     let e = c.loop-kept-item.result in
     let all : Asm = row_asm o (row_view es none) h in
     elim c.match-kept.branch [
-      emit_row-in-Some+in_ok-put-in-Some w ↦ rw (w.code-is, w.top-is)
-      (row_aside o es l.kept-index e c.args.code.now l.code c.emit_expression.new.code w.put.new.self all l.top w.in-Some.local c.loop-kept-test.true c.loop-kept-item.is w.in-Some.is
-      (λ k r. c.in_ok-emit_expression.ensures o k r) (w.in_ok-put-in-Some.ensures o (op.Store w.in-Some.local) w.store_of.ensures) (l.invariant o h s))
-    | emit_row-in-None w ↦ rw (w.code-is, w.top-is)
-      (row_item o es l.kept-index e c.args.code.now l.code c.emit_expression.new.code all l.top w.saturating_add-top.result c.loop-kept-test.true c.loop-kept-item.is w.in-None.is (omega arith)
-      (λ k r. c.in_ok-emit_expression.ensures o k r) (l.invariant o h s))
+      | emit_row-in-Some+in_ok-put-in-Some w ↦ rw (w.code-is, w.top-is)
+          (row_aside o es l.kept-index e c.args.code.now l.code c.emit_expression.new.code w.put.new.self all l.top w.in-Some.local c.loop-kept-test.true c.loop-kept-item.is w.in-Some.is
+          (λ k r. c.in_ok-emit_expression.ensures o k r) (w.in_ok-put-in-Some.ensures o (op.Store w.in-Some.local) w.store_of.ensures) (l.invariant o h s))
+      | emit_row-in-None w ↦ rw (w.code-is, w.top-is)
+          (row_item o es l.kept-index e c.args.code.now l.code c.emit_expression.new.code all l.top w.saturating_add-top.result c.loop-kept-test.true c.loop-kept-item.is w.in-None.is (omega arith)
+          (λ k r. c.in_ok-emit_expression.ensures o k r) (l.invariant o h s))
     ]
