@@ -1,4 +1,5 @@
 pub mod Answering
+pub mod FilterIds
 pub mod FilterTable
 pub mod Filtering
 pub mod ItemsSeen

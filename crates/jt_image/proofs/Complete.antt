@@ -215,6 +215,7 @@ wired (op.Jump c) = record { by_op = (op.Jump 0, refl); by_a = (op.Jump 0, refl)
 wired (op.JumpIfFalse c) = record { by_op = (op.JumpIfFalse 0, refl); by_a = (op.JumpIfFalse 0, refl); by_b = (op.JumpIfFalse 0, refl); whole = refl }
 wired (op.JumpIfTrue c) = record { by_op = (op.JumpIfTrue 0, refl); by_a = (op.JumpIfTrue 0, refl); by_b = (op.JumpIfTrue 0, refl); whole = refl }
 wired (op.Op a) = record { by_op = (op.Op 0, refl); by_a = (op.Op a, refl); by_b = (op.Op a, refl); whole = refl }
+wired (op.Filter a b c) = record { by_op = (op.Filter 0 0 0, refl); by_a = (op.Filter a 0 0, refl); by_b = (op.Filter a b 0, refl); whole = refl }
 wired (op.Test a b) = record { by_op = (op.Test 0 0, refl); by_a = (op.Test a 0, refl); by_b = (op.Test a b, refl); whole = refl }
 wired (op.MakeList c) = record { by_op = (op.MakeList 0, refl); by_a = (op.MakeList 0, refl); by_b = (op.MakeList 0, refl); whole = refl }
 wired (op.MakeMap c) = record { by_op = (op.MakeMap 0, refl); by_a = (op.MakeMap 0, refl); by_b = (op.MakeMap 0, refl); whole = refl }
@@ -248,6 +249,7 @@ small_wire (op.Jump c) h = (omega arith, h)
 small_wire (op.JumpIfFalse c) h = (omega arith, h)
 small_wire (op.JumpIfTrue c) h = (omega arith, h)
 small_wire (op.Op a) h = (omega arith, omega arith)
+small_wire (op.Filter a b c) h = (h.1, h.2)
 small_wire (op.Test a b) h = (h.1, omega arith)
 small_wire (op.MakeList c) h = (omega arith, h)
 small_wire (op.MakeMap c) h = (omega arith, h)

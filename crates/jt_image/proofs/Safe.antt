@@ -1,6 +1,6 @@
 -- A machine of a typed code goes on or ends, and is never wrong.
 use Rattle.std.proofs.Common.{◌≡◌, ℕ, zero, suc, ◌+◌, ◌*◌, ◌<◌, ◌≤◌, Bool, true, false, cond, ltb, eqb, List, [], ◌∷◌, ◌++◌, length, map, Option, Some, None, Result, Ok, Err, refl, sym, ap, subst, ◌∙◌, arith}
-use Rattle.std.specs.Prelude.{slice_get, slice_set, nat_lt}
+use Rattle.std.specs.Prelude.{◌==◌, slice_get, slice_set, nat_lt}
 use Rattle.std.specs.Option.{is_some}
 use Rattle.std.specs.List.{AllByRecursion}
 use Rattle.std.proofs.lemmas.Bool.{ltb-false, eqb-true}
@@ -19,12 +19,12 @@ use Rattle.jt_image.specs.Code.{Section, Code}
 use Rattle.jt_image.specs.Effect as effect
 use Rattle.jt_image.specs.Effect.{Shape, Leads, require, pops, pops_many, pops_frame, pops_capture, pushes, gives, calls, goes_on, jumps, branches, may_return, effect, effect_of}
 use Rattle.jt_image.specs.Typed.{Shapes, Equal, HasSame, IsTypedBy, IsTyped}
-use Rattle.jt_image.specs.Ids.{operator_of, operands_of, test_of}
+use Rattle.jt_image.specs.Ids.{operator_of, operands_of, filter_of, test_of}
 use Rattle.jt_image.specs.Loops.{trees_of, loop_over, advanced, keeping, field_of}
 use Rattle.jt_image.specs.Config as config
 use Rattle.jt_image.specs.Config.{Budget, Outcome, Frame, Entry, value, frame, capture, kind_of, State, Caller, Machine, Config}
 use Rattle.jt_image.specs.Step as step
-use Rattle.jt_image.specs.Step.{Demand, no_demand, pushing, pushing_all, greatest, emitting, calling, Plain, goes, faults_by, broken, with_entries, push, on_value, on_values, on_frame, on_capture, as_frame, push_given, makes, put, put_printed, shown, slot, constant_value, text_of, operated, tested_by, begins, told_by, piled, spreads, unpacks, closes, listed, mapped, plain, Action, ends, faulty, wrong, at_point, straight, jump_on, turns, locals_of, entered, calls_unit, Given, nothing, result, disorder, given_by, resumed, back_to, action, in_tables, strict, cost, fetch}
+use Rattle.jt_image.specs.Step.{Demand, no_demand, pushing, pushing_all, greatest, emitting, calling, Plain, goes, faults_by, broken, with_entries, push, on_value, on_values, on_frame, on_capture, as_frame, push_given, makes, put, put_printed, shown, slot, constant_value, text_of, operated, filtered_by, tested_by, begins, told_by, piled, spreads, unpacks, closes, listed, mapped, plain, Action, ends, faulty, wrong, at_point, straight, jump_on, turns, locals_of, entered, calls_unit, Given, nothing, result, disorder, given_by, resumed, back_to, action, in_tables, strict, cost, fetch}
 use Rattle.jt_image.specs.Run.{Next, Goes, Ends, Wrong, spared, unless, spends, next}
 
 -- the kinds of the entries
@@ -387,6 +387,11 @@ module _ (k : Code) (m : Machine) (g : IsFit k m) (l : Leads) (agree : Agrees k 
       let b = require_ok _ _ _ l e in
       in_place _ _ b.0 (makes_fine (operands_of (operator_of a)) (operated (operator_of a)) b.1)
 
+  filter_fine : (a n f : ℕ) → effect k g.unit m.point (op.Filter a n f) s ≡ Ok l → Fine (strict k g.unit (op.Filter a n f) m)
+  filter_fine a n f e =
+      let b = require_ok _ _ _ l e in
+      in_place _ _ b.0 (makes_fine n (filtered_by (filter_of a) (f == 1)) b.1)
+
   test_fine : (a n : ℕ) → effect k g.unit m.point (op.Test a n) s ≡ Ok l → Fine (strict k g.unit (op.Test a n) m)
   test_fine a n e =
       let b = require_ok _ _ _ l e in
@@ -561,6 +566,7 @@ module _ (k : Code) (m : Machine) (g : IsFit k m) (l : Leads) (agree : Agrees k 
   strict_fine (op.JumpIfFalse p) e = if_false_fine p e
   strict_fine (op.JumpIfTrue p) e = if_true_fine p e
   strict_fine (op.Op a) e = op_fine a e
+  strict_fine (op.Filter a n f) e = filter_fine a n f e
   strict_fine (op.Test a n) e = test_fine a n e
   strict_fine (op.MakeList c) e = makes_fine c listed e
   strict_fine (op.MakeMap c) e = makes_fine (2 * c) mapped e
@@ -592,6 +598,7 @@ cost_positive (op.Jump p) m = omega arith
 cost_positive (op.JumpIfFalse p) m = omega arith
 cost_positive (op.JumpIfTrue p) m = omega arith
 cost_positive (op.Op a) m = omega arith
+cost_positive (op.Filter a n f) m = omega arith
 cost_positive (op.Test a n) m = omega arith
 cost_positive (op.MakeList c) m = omega arith
 cost_positive (op.MakeMap c) m = omega arith

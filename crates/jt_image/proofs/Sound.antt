@@ -277,6 +277,7 @@ instruction_wire w =
     choose w (eqb w.op 11) _ _ (λ e. c_wire w 11 (op.JumpIfFalse w.c) e refl) (
     choose w (eqb w.op 12) _ _ (λ e. c_wire w 12 (op.JumpIfTrue w.c) e refl) (
     choose w (eqb w.op 13) _ _ (λ e. a_wire w 13 (op.Op w.a) e refl) (
+    choose w (eqb w.op 14) _ _ (λ e. same_wire w 14 w.a w.b w.c e refl refl refl) (
     choose w (eqb w.op 15) _ _ (λ e. ab_wire w 15 (op.Test w.a w.b) e refl) (
     choose w (eqb w.op 16) _ _ (λ e. c_wire w 16 (op.MakeList w.c) e refl) (
     choose w (eqb w.op 17) _ _ (λ e. c_wire w 17 (op.MakeMap w.c) e refl) (
@@ -290,7 +291,7 @@ instruction_wire w =
     choose w (eqb w.op 25) _ _ (λ e. a_wire w 25 (op.CaptureEnd w.a) e refl) (
     choose w (eqb w.op 26) _ _ (λ e. c_wire w 26 (op.Unpack w.c) e refl) (
     choose w (eqb w.op 27) _ _ (λ e. c_wire w 27 (op.Call w.c) e refl) (
-    choose w (eqb w.op 28) _ _ (λ e. none_wire w 28 op.Return e refl) tt))))))))))))))))))))))))))
+    choose w (eqb w.op 28) _ _ (λ e. none_wire w 28 op.Return e refl) tt)))))))))))))))))))))))))))
 
 -- the fields from which an instruction was made
 pub wire_from : (w : Instr) (i : Instruction) → instruction_of w ≡ Some i → wire_of i ≡ w
@@ -311,6 +312,11 @@ small_instruction (op.Jump c) w e a m l = subst (λ (n : ℕ). n < 2 ^ 32) (ap (
 small_instruction (op.JumpIfFalse c) w e a m l = subst (λ (n : ℕ). n < 2 ^ 32) (ap (λ (v : Instr). v.c) (sym e)) l
 small_instruction (op.JumpIfTrue c) w e a m l = subst (λ (n : ℕ). n < 2 ^ 32) (ap (λ (v : Instr). v.c) (sym e)) l
 small_instruction (op.Op c) w e a m l = subst (λ (n : ℕ). n < 2 ^ 8) (ap (λ (v : Instr). v.a) (sym e)) a
+small_instruction (op.Filter c d f) w e a m l = (
+  subst (λ (n : ℕ). n < 2 ^ 8) (ap (λ (v : Instr). v.a) (sym e)) a,
+  subst (λ (n : ℕ). n < 2 ^ 16) (ap (λ (v : Instr). v.b) (sym e)) m,
+  subst (λ (n : ℕ). n < 2 ^ 32) (ap (λ (v : Instr). v.c) (sym e)) l,
+)
 small_instruction (op.Test c d) w e a m l = (subst (λ (n : ℕ). n < 2 ^ 8) (ap (λ (v : Instr). v.a) (sym e)) a, subst (λ (n : ℕ). n < 2 ^ 16) (ap (λ (v : Instr). v.b) (sym e)) m)
 small_instruction (op.MakeList c) w e a m l = subst (λ (n : ℕ). n < 2 ^ 32) (ap (λ (v : Instr). v.c) (sym e)) l
 small_instruction (op.MakeMap c) w e a m l = subst (λ (n : ℕ). n < 2 ^ 32) (ap (λ (v : Instr). v.c) (sym e)) l

@@ -30,6 +30,9 @@ pub enum Instruction {
     JumpIfTrue { target: u32 },
     /// Takes an operator's operands and pushes what it gives.
     Op { operator: u8 },
+    /// Takes that many values, the input deepest, and pushes what a filter gives on them, while escaping if
+    /// the flag is 1.
+    Filter { filter: u8, values: u16, flag: u32 },
     /// Takes that many values, the tested one deepest, and pushes whether the test holds.
     Test { test: u8, values: u16 },
     /// Takes that many values and pushes their list, the deepest first.

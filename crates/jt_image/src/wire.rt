@@ -73,6 +73,16 @@ impl Instruction {
             Instruction::JumpIfFalse { target } => with_c(11, target),
             Instruction::JumpIfTrue { target } => with_c(12, target),
             Instruction::Op { operator } => with_a(13, operator),
+            Instruction::Filter {
+                filter,
+                values,
+                flag,
+            } => Instr {
+                op: 14,
+                a: filter,
+                b: values,
+                c: flag,
+            },
             Instruction::Test { test, values } => with_ab(15, test, values),
             Instruction::MakeList { items } => with_c(16, items),
             Instruction::MakeMap { entries } => with_c(17, entries),
@@ -153,6 +163,11 @@ impl Instr {
             11 => self.uses_c(Instruction::JumpIfFalse { target: c }),
             12 => self.uses_c(Instruction::JumpIfTrue { target: c }),
             13 => self.uses_a(Instruction::Op { operator: a }),
+            14 => Some(Instruction::Filter {
+                filter: a,
+                values: b,
+                flag: c,
+            }),
             15 => self.uses_ab(Instruction::Test { test: a, values: b }),
             16 => self.uses_c(Instruction::MakeList { items: c }),
             17 => self.uses_c(Instruction::MakeMap { entries: c }),

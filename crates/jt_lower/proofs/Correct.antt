@@ -23,7 +23,7 @@ use Rattle.jt_slots.specs.Got.{Place, Got, gives, fails, deeper, bind}
 use Rattle.jt_slots.specs.Values.{bytes_of}
 use Rattle.jt_slots.specs.Slots.{with_locals, Routine, Program, Memory, Written, SCalls, smeanings, sperformed, scalls, globals_of, smean}
 use Rattle.jt_parse.specs.Trees.{Text}
-use Rattle.jt_slots.specs.Filters.{Filters}
+use Rattle.jt_slots.specs.TheFilters.{the_filters}
 use Rattle.jt_slots.specs.Loops.{tree_at}
 use Rattle.jt_lower.specs.Asm.{flat, places, Ran, of_written, run}
 use Rattle.jt_lower.specs.Placed.{Table, PlacedFree, Finished, Failed, Going, placed_exec, unplaced, routine_places, place_in, table_of}
@@ -142,7 +142,7 @@ places_hold k table u all (q ∷ qs) done n h e l = (
 abbrev written : Memory → Got Written
 written m = gives (record { text = m.out; globals = m.globals })
 
-module _ (filters : Filters) (p : Program) (fit : ProgramFits p) where
+module _ (p : Program) (fit : ProgramFits p) where
   abbrev k : Code
   k = compiled p
 
@@ -150,7 +150,7 @@ module _ (filters : Filters) (p : Program) (fit : ProgramFits p) where
   table = table_of p
 
   abbrev calls : ℕ → SCalls
-  calls n = scalls filters (tree_at p.pool) p.routines n
+  calls n = scalls the_filters (tree_at p.pool) p.routines n
 
   abbrev has : HasPool k p.pool
   has = has_pool p fit
@@ -159,21 +159,21 @@ module _ (filters : Filters) (p : Program) (fit : ProgramFits p) where
   begins r ts gs = record { locals = with_locals r.locals ts; globals = gs; out = [] }
 
   abbrev body : ℕ → Routine ℕ → List Tree → List Tree → Got Memory
-  body n r ts gs = smeanings filters (tree_at p.pool) (calls n) r.body None (begins r ts gs)
+  body n r ts gs = smeanings the_filters (tree_at p.pool) (calls n) r.body None (begins r ts gs)
 
   -- a routine's code from any text so far, as far as its Return
   does_body : (n : ℕ) → CallsKeep p.globals (calls n) → (u : ℕ) (r : Routine ℕ) (ts gs : List Tree) (out : Text) (bufs : List (List ℕ)) → slice_get p.routines u ≡ Some r → length gs ≡ p.globals
       → Does None (SizedIn p r.locals) (at_memory [] out bufs) (run k (calls n) (body_asm r.body 0) (at_memory [] out bufs (begins r ts gs))) (body n r ts gs)
   does_body n keep u r ts gs out bufs is e =
       let f = fit.routines u r is in
-      body_does filters p (calls n) has keep r.locals r.body false 0 None [] out bufs (begins r ts gs) f.body tt (record { locals = count_locals r.locals ts; globals = e })
+      body_does p (calls n) has keep r.locals r.body false 0 None [] out bufs (begins r ts gs) f.body tt (record { locals = count_locals r.locals ts; globals = e })
 
   kept_globals : (l : ℕ) (to : Memory → State) (r : Ran) (g : Got Memory) → Does None (SizedIn p l) to r g → Keeps p.globals (bind g written)
   kept_globals l to r (gives m) h = h.1.globals
   kept_globals l to r (fails e q) h = tt
   kept_globals l to r deeper h = tt
 
-  performed_keeps : (n : ℕ) → CallsKeep p.globals (calls n) → (u : ℕ) (o : Option (Routine ℕ)) (ts gs : List Tree) → slice_get p.routines u ≡ o → length gs ≡ p.globals → Keeps p.globals (sperformed filters (tree_at p.pool) (calls n) o ts gs)
+  performed_keeps : (n : ℕ) → CallsKeep p.globals (calls n) → (u : ℕ) (o : Option (Routine ℕ)) (ts gs : List Tree) → slice_get p.routines u ≡ o → length gs ≡ p.globals → Keeps p.globals (sperformed the_filters (tree_at p.pool) (calls n) o ts gs)
   performed_keeps n keep u None ts gs is e = tt
   performed_keeps n keep u (Some r) ts gs is e =
       kept_globals r.locals (at_memory [] [] []) (run k (calls n) (body_asm r.body 0) (at_memory [] [] [] (begins r ts gs))) (body n r ts gs) (does_body n keep u r ts gs [] [] is e)
@@ -184,16 +184,16 @@ module _ (filters : Filters) (p : Program) (fit : ProgramFits p) where
   keeps (suc n) = λ u ts gs e. performed_keeps n (keeps n) u (slice_get p.routines u) ts gs refl e
 
   -- each fault of a call has a place
-  performed_has : (n : ℕ) → CallsPlaced (calls n) → (u : ℕ) (o : Option (Routine ℕ)) (ts gs : List Tree) → slice_get p.routines u ≡ o → HasPlace (sperformed filters (tree_at p.pool) (calls n) o ts gs)
+  performed_has : (n : ℕ) → CallsPlaced (calls n) → (u : ℕ) (o : Option (Routine ℕ)) (ts gs : List Tree) → slice_get p.routines u ≡ o → HasPlace (sperformed the_filters (tree_at p.pool) (calls n) o ts gs)
   performed_has n h u None ts gs is = tt
-  performed_has n h u (Some r) ts gs is = bind_has (body n r ts gs) written (body_has filters (tree_at p.pool) (calls n) h p r.locals r.body false None (begins r ts gs) (fit.routines u r is).body) (λ m. tt)
+  performed_has n h u (Some r) ts gs is = bind_has (body n r ts gs) written (body_has the_filters (tree_at p.pool) (calls n) h p r.locals r.body false None (begins r ts gs) (fit.routines u r is).body) (λ m. tt)
 
   calls_placed : (n : ℕ) → CallsPlaced (calls n)
   calls_placed zero = λ u ts gs. tt
   calls_placed (suc n) = λ u ts gs. performed_has n (calls_placed n) u (slice_get p.routines u) ts gs refl
 
   body_placed : (n u : ℕ) (r : Routine ℕ) (ts gs : List Tree) → slice_get p.routines u ≡ Some r → HasPlace (body n r ts gs)
-  body_placed n u r ts gs is = body_has filters (tree_at p.pool) (calls n) (calls_placed n) p r.locals r.body false None (begins r ts gs) (fit.routines u r is).body
+  body_placed n u r ts gs is = body_has the_filters (tree_at p.pool) (calls n) (calls_placed n) p r.locals r.body false None (begins r ts gs) (fit.routines u r is).body
 
   unit_at : (u : ℕ) (r : Routine ℕ) → slice_get p.routines u ≡ Some r → slice_get k.units u ≡ Some (unit_of r)
   unit_at u r is = slice_get-map unit_of p.routines u ∙ ap (option_map unit_of) is
@@ -248,7 +248,7 @@ module _ (filters : Filters) (p : Program) (fit : ProgramFits p) where
 
   performed_runs : (n : ℕ) → CallsRun k table n (calls n) → (u : ℕ) (o : Option (Routine ℕ)) (t : Section) (ts gs : List Tree) (q : Option Place) (out : Text) (bufs : List (List ℕ)) (a : Caller) (ks : List Caller)
       → slice_get p.routines u ≡ o → slice_get k.units u ≡ Some t → length gs ≡ p.globals
-      → Reaches k table (suc n) (machine u 0 (a ∷ ks) (record { entries = []; locals = locals_of t.locals ts; globals = gs; buffers = out ∷ bufs })) (of_written q (sperformed filters (tree_at p.pool) (calls n) o ts gs) a.entries a.locals out bufs) (machine a.unit a.point ks)
+      → Reaches k table (suc n) (machine u 0 (a ∷ ks) (record { entries = []; locals = locals_of t.locals ts; globals = gs; buffers = out ∷ bufs })) (of_written q (sperformed the_filters (tree_at p.pool) (calls n) o ts gs) a.entries a.locals out bufs) (machine a.unit a.point ks)
   performed_runs n run_calls u None t ts gs q out bufs a ks is there e =
       let none : slice_get k.units u ≡ None = slice_get-map unit_of p.routines u ∙ ap (option_map unit_of) is in
       absurd cc
@@ -278,13 +278,13 @@ module _ (filters : Filters) (p : Program) (fit : ProgramFits p) where
       let gs : filled x k.names (replicate k.globals tree.undefined) ≡ globals x = fills x p.names [] 0 p.globals refl fit.names in
       rw (ls, gs) refl
 
-  pub follows : (x : Pairs) (n : ℕ) → Follows k table (start_machine k x) n (smean filters p x n)
+  pub follows : (x : Pairs) (n : ℕ) → Follows k table (start_machine k x) n (smean the_filters p x n)
   follows x n =
       let r = fit.entry in
       let m = begins r [] (globals x) in
       let c = machine 0 0 [] (at_memory [] [] [] m) in
-      let main : smean filters p x n ≡ bind (bind (body n r [] (globals x)) written) (λ w. gives w.text) = ap (λ o. bind (sperformed filters (tree_at p.pool) (calls n) o [] (globals x)) (λ w. gives w.text)) fit.is_entry in
-      subst (λ d. Follows k table d n (smean filters p x n)) (sym (starts x))
+      let main : smean the_filters p x n ≡ bind (bind (body n r [] (globals x)) written) (λ w. gives w.text) = ap (λ o. bind (sperformed the_filters (tree_at p.pool) (calls n) o [] (globals x)) (λ w. gives w.text)) fit.is_entry in
+      subst (λ d. Follows k table d n (smean the_filters p x n)) (sym (starts x))
       (subst (Follows k table c n) (sym main)
       (less n c (bind (bind (body n r [] (globals x)) written) (λ w. gives w.text))
       (ends r (suc n) c (run k (calls n) (body_asm r.body 0) (at_memory [] [] [] m)) (body n r [] (globals x)) fit.is_entry (body_placed n 0 r [] (globals x) fit.is_entry) (does_body n (keeps n) 0 r [] (globals x) [] [] fit.is_entry (count_locals p.globals (globals_of x p.names)))
@@ -304,11 +304,11 @@ module _ (filters : Filters) (p : Program) (fit : ProgramFits p) where
       absurd (over (sym same ∙ f.2))
 
   -- the same without places
-  over_free : (x : Pairs) (n : ℕ) (o : Free) → o ≢ free.Going → exec k n (start_machine k x) ≡ o → o ≡ unplaced (as_free (smean filters p x n))
+  over_free : (x : Pairs) (n : ℕ) (o : Free) → o ≢ free.Going → exec k n (start_machine k x) ≡ o → o ≡ unplaced (as_free (smean the_filters p x n))
   over_free x n o over e =
       let r = placed_exec k table n (start_machine k x) in
       let same : unplaced r ≡ o = unplaced_same k table n (start_machine k x) ∙ e in
-      sym same ∙ ap unplaced (over_too x n r (smean filters p x n) (λ w. over (sym same ∙ ap unplaced w)) refl (follows x n))
+      sym same ∙ ap unplaced (over_too x n r (smean the_filters p x n) (λ w. over (sym same ∙ ap unplaced w)) refl (follows x n))
 
   text_meant : (t : Text) (g : Got Text) → free.Finished t ≡ unplaced (as_free g) → g ≡ gives t
   text_meant t (gives s) e = let same : s ≡ t = cc in ap gives same
@@ -326,29 +326,29 @@ module _ (filters : Filters) (p : Program) (fit : ProgramFits p) where
   placed_meant f q deeper e = absurd cc
 
   -- a fault of the machine has the place that the meaning says, and the other way round
-  pub placed_means : (x : Pairs) (n : ℕ) (f : Fault) (q : Option Place) → placed_exec k table n (start_machine k x) ≡ Failed f q → smean filters p x n ≡ fails f q
-  placed_means x n f q e = placed_meant f q (smean filters p x n) (over_too x n (Failed f q) (smean filters p x n) (λ w. cc) e (follows x n))
+  pub placed_means : (x : Pairs) (n : ℕ) (f : Fault) (q : Option Place) → placed_exec k table n (start_machine k x) ≡ Failed f q → smean the_filters p x n ≡ fails f q
+  placed_means x n f q e = placed_meant f q (smean the_filters p x n) (over_too x n (Failed f q) (smean the_filters p x n) (λ w. cc) e (follows x n))
 
-  pub means_placed : (x : Pairs) (n : ℕ) (f : Fault) (q : Option Place) → smean filters p x n ≡ fails f q → (j : ℕ) × (placed_exec k table j (start_machine k x) ≡ Failed f q)
+  pub means_placed : (x : Pairs) (n : ℕ) (f : Fault) (q : Option Place) → smean the_filters p x n ≡ fails f q → (j : ℕ) × (placed_exec k table j (start_machine k x) ≡ Failed f q)
   means_placed x n f q e = subst (Follows k table (start_machine k x) n) e (follows x n)
 
   comes : (x : Pairs) (n : ℕ) (o : PlacedFree) → (j : ℕ) × (placed_exec k table j (start_machine k x) ≡ o) → ComesTo k x (unplaced o)
   comes x n o e = (e.0, sym (unplaced_same k table e.0 (start_machine k x)) ∙ ap unplaced e.1)
 
   module _ (runs : HasRuns k) where
-    pub enough_text : (x : Pairs) (n : ℕ) (t : Text) → smean filters p x n ≡ gives t → Enough k x (config.text t)
+    pub enough_text : (x : Pairs) (n : ℕ) (t : Text) → smean the_filters p x n ≡ gives t → Enough k x (config.text t)
     enough_text x n t e = runs.enough_text x t (comes x n (Finished t) (subst (Follows k table (start_machine k x) n) e (follows x n)))
 
-    pub enough_fault : (x : Pairs) (n : ℕ) (f : Fault) (q : Option Place) → smean filters p x n ≡ fails f q → Enough k x (config.fault f)
+    pub enough_fault : (x : Pairs) (n : ℕ) (f : Fault) (q : Option Place) → smean the_filters p x n ≡ fails f q → Enough k x (config.fault f)
     enough_fault x n f q e = runs.enough_fault x f (comes x n (Failed f q) (means_placed x n f q e))
 
-    pub text_means : (x : Pairs) (b : config.Budget) (t : Text) → Run k x b (config.text t) → (n : ℕ) × (smean filters p x n ≡ gives t)
+    pub text_means : (x : Pairs) (b : config.Budget) (t : Text) → Run k x b (config.text t) → (n : ℕ) × (smean the_filters p x n ≡ gives t)
     text_means x b t r =
         let e = runs.text x b t r in
-        (e.0, text_meant t (smean filters p x e.0) (over_free x e.0 (free.Finished t) (λ w. cc) e.1))
+        (e.0, text_meant t (smean the_filters p x e.0) (over_free x e.0 (free.Finished t) (λ w. cc) e.1))
 
-    pub fault_means : (x : Pairs) (b : config.Budget) (f : Fault) → Run k x b (config.fault f) → (n : ℕ) × (q : Option Place) × (smean filters p x n ≡ fails f q)
+    pub fault_means : (x : Pairs) (b : config.Budget) (f : Fault) → Run k x b (config.fault f) → (n : ℕ) × (q : Option Place) × (smean the_filters p x n ≡ fails f q)
     fault_means x b f r =
         let e = runs.fault x b f r in
-        let g = fault_meant f (smean filters p x e.0) (over_free x e.0 (free.Failed f) (λ w. cc) e.1) in
+        let g = fault_meant f (smean the_filters p x e.0) (over_free x e.0 (free.Failed f) (λ w. cc) e.1) in
         (e.0, g.0, g.1)

@@ -1,5 +1,5 @@
--- A program of every form but filters, its code, and runs of both, computed from the definitions.
-use Rattle.std.proofs.Common.{◌≡◌, Bool, ℕ, zero, suc, true, false, List, [], ◌∷◌, Some, None, Err, refl, arith, subst}
+-- Programs of every form, their code, and runs of both, computed from the definitions.
+use Rattle.std.proofs.Common.{◌≡◌, Bool, ℕ, zero, suc, true, false, List, [], ◌∷◌, Some, None, refl, arith, subst}
 use Rattle.std.specs.Prelude.{pos, codes, slice_get}
 use Rattle.jt_value.specs.Tree as tree
 use Rattle.jt_value.specs.Tree.{Tree}
@@ -7,19 +7,16 @@ use Rattle.jt_value.specs.Pairs.{Pairs}
 use Rattle.jt_value.specs.View.{items_of}
 use Rattle.jt_value.specs.declared.fault.Fault.TheVariants as faults
 use Rattle.jt_ops.specs.declared.op_id.OpId.TheVariants as o
-use Rattle.jt_image.specs.Ids.{operator_of}
+use Rattle.jt_image.specs.Ids.{operator_of, filter_of}
 use Rattle.jt_image.specs.Loops.{field_of}
 use Rattle.jt_image.specs.FreeRun.{Finished, Failed, exec, start_machine}
 use Rattle.jt_slots.specs.Got.{Place, gives, fails, deeper}
 use Rattle.jt_parse.specs.Trees.{Text}
-use Rattle.jt_slots.specs.Filters.{Filters}
+use Rattle.jt_slots.specs.TheFilters.{the_filters}
 use Rattle.jt_slots.specs.Loops as loops
-use Rattle.jt_slots.specs.Slots.{local, global, operator, SExpr, pooled, variable, field, made, invoke, none, item, aside, several, SBody, put_pooled, print, if_else, for_each, capture, run, end, stmt, Routine, Program, smean}
+use Rattle.jt_slots.specs.Slots.{local, global, operator, filter, SExpr, pooled, variable, field, made, invoke, none, item, aside, several, SBody, put_pooled, print, if_else, for_each, capture, run, end, stmt, Routine, Program, smean}
 use Rattle.jt_lower.specs.Lower.{compiled}
 use Rattle.jt_lower.specs.Fits.{TakesRow, RoutineFits, IsPooled, ProgramFits}
-
-abbrev no_filters : Filters
-no_filters = record { named = λ x. None; parameters = λ f. []; takes = λ f n. false; operation = λ f on vs. Err faults.BadType }
 
 abbrev tag : ℕ → Place
 tag line = record { template = codes "page"; line = line }
@@ -118,17 +115,17 @@ fits = record { routines = routines_fit; entry = page_routine; is_entry = refl; 
 
 -- ---- what it means, and what its code does
 
-meant : smean no_filters program (context some_items) 4 ≡ gives (codes "False:pTrue:r<&amp;>&amp;&amp;")
+meant : smean the_filters program (context some_items) 4 ≡ gives (codes "False:pTrue:r<&amp;>&amp;&amp;")
 meant = refl
 
-too_deep : smean no_filters program (context []) 2 ≡ deeper
+too_deep : smean the_filters program (context []) 2 ≡ deeper
 too_deep = refl
 
 runs : exec (compiled program) 200 (start_machine (compiled program) (context some_items)) ≡ Finished (codes "False:pTrue:r<&amp;>&amp;&amp;")
 unfolding field_of operator_of
 runs = refl
 
-meant_none : smean no_filters program (context []) 4 ≡ gives (codes "none<&amp;>&amp;&amp;")
+meant_none : smean the_filters program (context []) 4 ≡ gives (codes "none<&amp;>&amp;&amp;")
 meant_none = refl
 
 runs_none : exec (compiled program) 200 (start_machine (compiled program) (context [])) ≡ Finished (codes "none<&amp;>&amp;&amp;")
@@ -136,9 +133,40 @@ unfolding field_of operator_of
 runs_none = refl
 
 -- an item that does not unpack, in the first pass: the fault is the loop's
-meant_fault : smean no_filters program (context (two true (codes "p") ∷ tree.nothing ∷ [])) 4 ≡ fails faults.NotIterable (Some (tag 1))
+meant_fault : smean the_filters program (context (two true (codes "p") ∷ tree.nothing ∷ [])) 4 ≡ fails faults.NotIterable (Some (tag 1))
 meant_fault = refl
 
 runs_fault : exec (compiled program) 200 (start_machine (compiled program) (context (two true (codes "p") ∷ tree.nothing ∷ []))) ≡ Failed faults.NotIterable
 unfolding field_of operator_of
 runs_fault = refl
+
+-- ---- filters
+
+-- {{ x|upper }} and {{ x|abs }}
+abbrev of_filter : ℕ → Program
+of_filter f =
+    record {
+      names = codes "x" ∷ [];
+      globals = 1;
+      pool = [];
+      routines = record { parameters = 0; locals = 0; body = stmt (print (tag 1) true (made (filter f true) (item (variable (global 0)) none))) end } ∷ [];
+    }
+
+abbrev with_x : Pairs
+with_x = (codes "x", tree.text (codes "a<")) ∷ []
+
+meant_upper : smean the_filters (of_filter 30) with_x 1 ≡ gives (codes "A&lt;")
+unfolding filter_of the_filters
+meant_upper = refl
+
+runs_upper : exec (compiled (of_filter 30)) 20 (start_machine (compiled (of_filter 30)) with_x) ≡ Finished (codes "A&lt;")
+unfolding filter_of
+runs_upper = refl
+
+meant_abs : smean the_filters (of_filter 0) with_x 1 ≡ fails faults.BadType (Some (tag 1))
+unfolding filter_of the_filters
+meant_abs = refl
+
+runs_abs : exec (compiled (of_filter 0)) 20 (start_machine (compiled (of_filter 0)) with_x) ≡ Failed faults.BadType
+unfolding filter_of
+runs_abs = refl

@@ -4,6 +4,7 @@ use Rattle.jt_value.specs.Tree as tree
 use Rattle.jt_value.specs.Tree.{Tree}
 use Rattle.jt_ops.specs.OpTable.{op_operands}
 use Rattle.jt_ops.specs.TestTable.{test_values}
+use Rattle.jt_filters.specs.FilterIds.{filter_of, accepts}
 use Rattle.jt_image.specs.Typed.{max_entries}
 use Rattle.jt_slots.specs.Slots as slots
 use Rattle.jt_slots.specs.Slots.{Slot, local, global, Maker, SExpr, SRow, Targets, SStmt, SBody, Routine, Program}
@@ -17,7 +18,7 @@ even (suc (suc n)) = even n
 abbrev maker_ok : Maker → ℕ → Bool
 maker_ok (slots.operator o) n = op_operands o == n
 maker_ok (slots.test t) n = test_values t == n
-maker_ok (slots.filter f escaping) n = false
+maker_ok (slots.filter f escaping) n = accepts (filter_of f) n
 maker_ok slots.a_list n = true
 maker_ok slots.a_map n = even n
 

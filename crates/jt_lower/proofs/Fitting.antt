@@ -14,9 +14,9 @@ use Rattle.jt_slots.specs.Pool.{Constant, own, known, constant_values, expr_valu
 use Rattle.jt_slots.specs.Size.{row_count, expr_height, row_height, condition_height, stmt_height, body_height, expr_size, row_size, condition_size, stmt_size, body_size, routines_size}
 use Rattle.jt_image.specs.Typed.{max_entries}
 use Rattle.jt_lower.specs.Fits.{MakerFits, TakesRow, IsBare, SlotFits, ExprFits, RowFits, SlotsFit, TargetsFit, ConditionFits, TextFits, StmtFits, BodyFits, RoutineFits, IsPooled, ProgramFits}
-use Rattle.jt_slots.specs.Filters.{Filters}
+use Rattle.jt_slots.specs.TheFilters.{the_filters}
 use Rattle.jt_slots.specs.Takes.{MakerTakes, HasParameters, ExprTakes, RowTakes, ConditionTakes, StmtTakes, BodyTakes}
-use Rattle.jt_lower.specs.Lawful.{ConstantLawful, TextLawful, SlotLawful, NoFilter, ExprLawful, RowLawful, SlotsLawful, TargetsLawful, ConditionLawful, StmtLawful, BodyLawful, RoutineLawful, program_with, AreLawful, AreLow}
+use Rattle.jt_lower.specs.Lawful.{ConstantLawful, TextLawful, SlotLawful, ExprLawful, RowLawful, SlotsLawful, TargetsLawful, ConditionLawful, StmtLawful, BodyLawful, RoutineLawful, program_with, AreLawful, AreLow}
 
 -- ---- values at their places in a pool
 
@@ -157,7 +157,7 @@ pub same_size : (rs : List (Routine Constant)) (n : ℕ) → routines_size (plac
 same_size [] n = refl
 same_size (r ∷ rs) n = omega (arith, body_sized r.body n, same_size rs (n + length (body_values r.body)))
 
-module _ (filters : Filters) (names : List Text) (globals : ℕ) (front : List Tree) (rs : List (Routine Constant)) where
+module _ (names : List Text) (globals : ℕ) (front : List Tree) (rs : List (Routine Constant)) where
   abbrev p : Program
   p = program_with names globals front rs
 
@@ -183,7 +183,7 @@ module _ (filters : Filters) (names : List Text) (globals : ℕ) (front : List T
     expr_pooled (slots.pooled k) h = constant_pooled k h
     expr_pooled (slots.variable s) h = tt
     expr_pooled (slots.field f) h = tt
-    expr_pooled (slots.made k es) h = row_pooled es h.1
+    expr_pooled (slots.made k es) h = row_pooled es h
     expr_pooled (slots.conjunction a b) h = all_append IsPooled (expr_values a) (expr_values b) (expr_pooled a h.0) (expr_pooled b h.1)
     expr_pooled (slots.disjunction a b) h = all_append IsPooled (expr_values a) (expr_values b) (expr_pooled a h.0) (expr_pooled b h.1)
     expr_pooled (slots.choice c a b) h = all_append IsPooled (expr_values c) (expr_values a ++ expr_values b) (expr_pooled c h.0) (all_append IsPooled (expr_values a) (expr_values b) (expr_pooled a h.1) (expr_pooled b h.2))
@@ -241,19 +241,20 @@ module _ (filters : Filters) (names : List Text) (globals : ℕ) (front : List T
     call_fits : (u : ℕ) (es : SRow Constant) (n : ℕ) → HasParameters (slice_get p.routines u) (row_count (placed_row es n)) → TakesRow p.routines u (row_count (placed_row es n))
     call_fits u es n t = called (slice_get p.routines u) u (row_count (placed_row es n)) refl t
 
-    maker_fits : (k : Maker) (i : ℕ) → MakerTakes filters k i → NoFilter before globals k → MakerFits k i
-    maker_fits (slots.operator o) i t h = t
-    maker_fits (slots.test x) i t h = t
-    maker_fits (slots.filter f escaping) i t h = absurd h
-    maker_fits slots.a_list i t h = tt
-    maker_fits slots.a_map i t h = t
+    maker_fits : (k : Maker) (i : ℕ) → MakerTakes the_filters k i → MakerFits k i
+    unfolding the_filters
+    maker_fits (slots.operator o) i t = t
+    maker_fits (slots.test x) i t = t
+    maker_fits (slots.filter f escaping) i t = t
+    maker_fits slots.a_list i t = tt
+    maker_fits slots.a_map i t = t
 
     mutual
-      expr_fits : (e : SExpr Constant) (inside : Bool) (n : ℕ) → ExprTakes filters p.routines inside (placed_expr e n) → ExprLawful before globals e → PoolAt p.pool n (expr_values e) → expr_locals e ≤ count → ExprFits p count inside (placed_expr e n)
+      expr_fits : (e : SExpr Constant) (inside : Bool) (n : ℕ) → ExprTakes the_filters p.routines inside (placed_expr e n) → ExprLawful before globals e → PoolAt p.pool n (expr_values e) → expr_locals e ≤ count → ExprFits p count inside (placed_expr e n)
       expr_fits (slots.pooled k) inside n t h at le = constant_fits k n h at
       expr_fits (slots.variable s) inside n t h at le = slot_fits s h le
       expr_fits (slots.field f) inside n t h at le = t
-      expr_fits (slots.made k es) inside n t h at le = (maker_fits k (row_count (placed_row es n)) t.0 h.0, row_fits es inside n t.1 h.1 at le)
+      expr_fits (slots.made k es) inside n t h at le = (maker_fits k (row_count (placed_row es n)) t.0, row_fits es inside n t.1 h at le)
       expr_fits (slots.conjunction a b) inside n t h at le =
           (expr_fits a inside n t.0 h.0 (pool_front p.pool n (expr_values a) (expr_values b) at) (omega (arith, le)), expr_fits b inside (n + length (expr_values a)) t.1 h.1 (pool_back p.pool n (expr_values a) (expr_values b) at) (omega (arith, le)))
       expr_fits (slots.disjunction a b) inside n t h at le =
@@ -267,7 +268,7 @@ module _ (filters : Filters) (names : List Text) (globals : ℕ) (front : List T
           )
       expr_fits (slots.invoke u escaping es) inside n t h at le = (call_fits u es n t.0, row_fits es inside n t.1 h at le)
 
-      row_fits : (es : SRow Constant) (inside : Bool) (n : ℕ) → RowTakes filters p.routines inside (placed_row es n) → RowLawful before globals es → PoolAt p.pool n (row_values es) → row_locals es ≤ count → RowFits p count inside (placed_row es n)
+      row_fits : (es : SRow Constant) (inside : Bool) (n : ℕ) → RowTakes the_filters p.routines inside (placed_row es n) → RowLawful before globals es → PoolAt p.pool n (row_values es) → row_locals es ≤ count → RowFits p count inside (placed_row es n)
       row_fits slots.none inside n t h at le = tt
       row_fits (slots.item e es) inside n t h at le =
           (expr_fits e inside n t.0 h.0 (pool_front p.pool n (expr_values e) (row_values es) at) (omega (arith, le)), row_fits es inside (n + length (expr_values e)) t.1 h.1 (pool_back p.pool n (expr_values e) (row_values es) at) (omega (arith, le)))
@@ -286,12 +287,12 @@ module _ (filters : Filters) (names : List Text) (globals : ℕ) (front : List T
     targets_fit (slots.one s) h le = slot_fits s h le
     targets_fit (slots.several ss) h le = each_fits ss h le
 
-    condition_fits : (c : Option (SExpr Constant)) (n : ℕ) → ConditionTakes filters p.routines (placed_condition c n) → ConditionLawful before globals c → PoolAt p.pool n (condition_values c) → condition_locals c ≤ count → ConditionFits p count (placed_condition c n)
+    condition_fits : (c : Option (SExpr Constant)) (n : ℕ) → ConditionTakes the_filters p.routines (placed_condition c n) → ConditionLawful before globals c → PoolAt p.pool n (condition_values c) → condition_locals c ≤ count → ConditionFits p count (placed_condition c n)
     condition_fits None n t h at le = tt
     condition_fits (Some c) n t h at le = expr_fits c false n t h at le
 
     mutual
-      stmt_fits : (s : SStmt Constant) (inside : Bool) (n : ℕ) → StmtTakes filters p.routines inside (placed_stmt s n) → StmtLawful before globals s → PoolAt p.pool n (stmt_values s) → stmt_locals s ≤ count → StmtFits p count inside (placed_stmt s n)
+      stmt_fits : (s : SStmt Constant) (inside : Bool) (n : ℕ) → StmtTakes the_filters p.routines inside (placed_stmt s n) → StmtLawful before globals s → PoolAt p.pool n (stmt_values s) → stmt_locals s ≤ count → StmtFits p count inside (placed_stmt s n)
       stmt_fits (slots.put_pooled k) inside n t h at le = text_fits k n h at
       stmt_fits (slots.print q escaping e) inside n t h at le = expr_fits e inside n t h at le
       stmt_fits (slots.assign q xs e) inside n t h at le = (targets_fit xs h.0 (omega (arith, le)), expr_fits e inside n t h.1 at (omega (arith, le)))
@@ -316,24 +317,24 @@ module _ (filters : Filters) (names : List Text) (globals : ℕ) (front : List T
       stmt_fits (slots.capture escaping s body) inside n t h at le = (slot_fits s h.0 (omega (arith, le)), body_fits body inside n t h.1 at (omega (arith, le)))
       stmt_fits (slots.run u es) inside n t h at le = (call_fits u es n t.0, row_fits es inside n t.1 h.0 at le, bare_placed es n h.1)
 
-      body_fits : (b : SBody Constant) (inside : Bool) (n : ℕ) → BodyTakes filters p.routines inside (placed_body b n) → BodyLawful before globals b → PoolAt p.pool n (body_values b) → body_locals b ≤ count → BodyFits p count inside (placed_body b n)
+      body_fits : (b : SBody Constant) (inside : Bool) (n : ℕ) → BodyTakes the_filters p.routines inside (placed_body b n) → BodyLawful before globals b → PoolAt p.pool n (body_values b) → body_locals b ≤ count → BodyFits p count inside (placed_body b n)
       body_fits slots.end inside n t h at le = tt
       body_fits (slots.stmt s rest) inside n t h at le =
           (stmt_fits s inside n t.0 h.0 (pool_front p.pool n (stmt_values s) (body_values rest) at) (omega (arith, le)), body_fits rest inside (n + length (stmt_values s)) t.1 h.1 (pool_back p.pool n (stmt_values s) (body_values rest) at) (omega (arith, le)))
 
   -- ---- the whole
 
-  routine_fits : AreLawful filters names globals front rs → AreLow rs → (u : ℕ) (q : Routine ℕ) → slice_get p.routines u ≡ Some q → RoutineFits p q
+  routine_fits : AreLawful names globals front rs → AreLow rs → (u : ℕ) (q : Routine ℕ) → slice_get p.routines u ≡ Some q → RoutineFits p q
   routine_fits lawful low u q e =
       let x = placed_was rs before u q p.pool e (pool_whole (routines_values rs) front) in
       let r = x.0 in
       let law = all_get (RoutineLawful before globals) rs u r lawful.routines x.2 in
-      let takes = subst (λ (z : Routine ℕ). BodyTakes filters p.routines false z.body) (sym x.3) (all_get (λ (z : Routine ℕ). BodyTakes filters p.routines false z.body) p.routines u q lawful.takes e) in
+      let takes = subst (λ (z : Routine ℕ). BodyTakes the_filters p.routines false z.body) (sym x.3) (all_get (λ (z : Routine ℕ). BodyTakes the_filters p.routines false z.body) p.routines u q lawful.takes e) in
       let below = all_get (λ (z : Routine Constant). body_height z.body ≤ max_entries) rs u r low x.2 in
       let same : body_height (placed_body r.body x.1) ≡ body_height r.body = body_low r.body x.1 in
       record { body = subst (λ (z : Routine ℕ). BodyFits p z.locals false z.body) x.3 (body_fits r.locals r.body false x.1 takes law.body x.4 law.locals); low = subst (λ (z : Routine ℕ). body_height z.body ≤ max_entries) x.3 (omega (arith, below, same)) }
 
-  pub lawful_fits : AreLawful filters names globals front rs → AreLow rs → ProgramFits p
+  pub lawful_fits : AreLawful names globals front rs → AreLow rs → ProgramFits p
   lawful_fits lawful low =
       let first = placed_is rs before 0 lawful.entry lawful.is_entry in
       record {

@@ -9,8 +9,9 @@ pub mod Typed
 pub mod Sized
 pub mod Fitting
 pub mod Patched
+pub mod Viewed
+pub mod Rows
 pub mod Pooled
 pub mod Whole
 pub mod FitsTest
 mod Examples
-mod Worked

@@ -17,8 +17,8 @@ use Rattle.jt_image.specs.Code.{Code}
 use Rattle.jt_image.specs.Config.{Frame, Entry, value, frame, capture, State}
 use Rattle.jt_image.specs.Loops.{trees_of, loop_over, item_at, field_of, field_id}
 use Rattle.jt_image.specs.Step as step
-use Rattle.jt_image.specs.Ids.{operator_of, operands_of, test_of}
-use Rattle.jt_image.specs.Step.{Plain, broken, goes, plain, as_frame, on_values, push, push_given, told_by, piled, spreads, unpacks, begins, makes, operated, tested_by, with_entries, put_printed, constant_value, text_of}
+use Rattle.jt_image.specs.Ids.{operator_of, operands_of, filter_of, test_of}
+use Rattle.jt_image.specs.Step.{Plain, broken, goes, plain, as_frame, on_values, push, push_given, told_by, piled, spreads, unpacks, begins, makes, operated, filtered_by, tested_by, with_entries, put_printed, constant_value, text_of}
 use Rattle.jt_ops.specs.declared.op_id.OpId.{OpId}
 use Rattle.jt_ops.specs.declared.op_id.OpId.TheVariants as o
 use Rattle.jt_ops.specs.declared.test_id.TestId.{TestId}
@@ -30,7 +30,7 @@ use Rattle.jt_slots.specs.Takes.{InPairs}
 use Rattle.jt_slots.specs.Got.{Place, Got, gives, fails, deeper, bind, checked, at}
 use Rattle.jt_slots.specs.Values.{shown, shown_text, bytes_of, as_value}
 use Rattle.jt_parse.specs.Trees.{Text}
-use Rattle.jt_slots.specs.Filters.{Filters}
+use Rattle.jt_slots.specs.TheFilters.{the_filters}
 use Rattle.jt_slots.specs.Loops.{Field, Loop, result_listed, items_of_value, tree_at, loop_field}
 use Rattle.jt_slots.specs.Slots as slots
 use Rattle.jt_slots.specs.Slots.{Slot, local, global, Maker, SExpr, SRow, Targets, SStmt, SBody, Routine, Program, Memory, Valued, Listed, Written, SCalls, load, put_at, store, store_if, store_each, take, make, valued, sturns, sgone_over, in_front, svalue, svalues, skept, smeaning, smeanings}
@@ -192,7 +192,7 @@ wrong_count [] (v ∷ vs) m h = refl
 wrong_count (s ∷ ss) [] m h = refl
 wrong_count (s ∷ ss) (v ∷ vs) m h = ap (λ g. bind g (λ n. gives (store_if s v n))) (wrong_count ss vs m (λ e. h (ap suc e)))
 
-module _ (filters : Filters) (p : Program) (call : SCalls) (has : HasPool (compiled p) p.pool) (keep : CallsKeep p.globals call) (count : ℕ) where
+module _ (p : Program) (call : SCalls) (has : HasPool (compiled p) p.pool) (keep : CallsKeep p.globals call) (count : ℕ) where
   abbrev k : Code
   k = compiled p
 
@@ -273,14 +273,16 @@ module _ (filters : Filters) (p : Program) (call : SCalls) (has : HasPool (compi
       (checked_does (operate vs) q es bs out m (piled vs es) w)
 
   made_does : (h : Maker) (n : ℕ) (vs : List Tree) (q : Option Place) (es : List Entry) (bs : List (List ℕ)) (out : Text) (m : Memory) → MakerFits h n → length vs ≡ n → Kept out m
-      → Does q (KeptValue out) (ValueOn es bs) (of_plain q (plain k (maker h n) (at_bufs (piled vs es) bs m))) (bind (checked (make filters h vs)) (valued m))
+      → Does q (KeptValue out) (ValueOn es bs) (of_plain q (plain k (maker h n) (at_bufs (piled vs es) bs m))) (bind (checked (make the_filters h vs)) (valued m))
+  unfolding the_filters
   made_does (slots.operator x) n vs q es bs out m fit e w =
       same_run q (KeptValue out) (ValueOn es bs) _ (of_plain q (makes (op_operands x) (operated (Some x)) (at_bufs (piled vs es) bs m))) (bind (checked (operated (Some x) vs)) (valued m))
       (ap (λ y. of_plain q (makes (operands_of y) (operated y) (at_bufs (piled vs es) bs m))) (has_operator x)) (made_by (op_operands x) (operated (Some x)) vs q es bs out m (e ∙ sym fit) w)
   made_does (slots.test x) n vs q es bs out m fit e w =
       same_run q (KeptValue out) (ValueOn es bs) _ (of_plain q (makes n (tested_by (Some x)) (at_bufs (piled vs es) bs m))) (bind (checked (tested_by (Some x) vs)) (valued m))
       (ap (λ y. of_plain q (makes n (tested_by y) (at_bufs (piled vs es) bs m))) (has_test x)) (made_by n (tested_by (Some x)) vs q es bs out m e w)
-  made_does (slots.filter f escaping) n vs q es bs out m fit e w = absurd fit
+  made_does (slots.filter f true) n vs q es bs out m fit e w = made_by n (filtered_by (filter_of f) true) vs q es bs out m e w
+  made_does (slots.filter f false) n vs q es bs out m fit e w = made_by n (filtered_by (filter_of f) false) vs q es bs out m e w
   made_does slots.a_list n vs q es bs out m fit e w = made_by n listed vs q es bs out m e w
   made_does slots.a_map n vs q es bs out m fit e w = made_by (2 * half n) mapped vs q es bs out m (e ∙ sym (halved n fit)) w
 
@@ -307,10 +309,10 @@ module _ (filters : Filters) (p : Program) (call : SCalls) (has : HasPool (compi
   -- ---- expressions
 
   abbrev Means : SExpr ℕ → Option Loop → Memory → Got Valued
-  Means e l m = svalue filters (tree_at p.pool) call e l m
+  Means e l m = svalue the_filters (tree_at p.pool) call e l m
 
   abbrev MeansRow : SRow ℕ → Option Loop → Memory → Got Listed
-  MeansRow r l m = svalues filters (tree_at p.pool) call r l m
+  MeansRow r l m = svalues the_filters (tree_at p.pool) call r l m
 
   abbrev KeptRow : Text → ℕ → Listed → Type 0
   KeptRow out n y = Kept out y.memory × (length y.values ≡ n)
@@ -339,7 +341,7 @@ module _ (filters : Filters) (p : Program) (call : SCalls) (has : HasPool (compi
     expr_does (slots.variable s) q inside h l es bs out m fit fr w opened = (load_does s q es bs m, w)
     expr_does (slots.field x) q inside h l es bs out m fit fr w opened = field_does x q inside h l es bs out m fit fr w
     expr_does (slots.made x r) q inside h l es bs out m fit fr w opened =
-        then_does q (KeptRow out (row_count r)) (RowOn es bs) (KeptValue out) (ValueOn es bs) (code (row_asm q r h) (at_bufs es bs m)) (MeansRow r l m) (code (one q (maker x (row_count r)))) (λ y. bind (checked (make filters x y.values)) (valued y.memory))
+        then_does q (KeptRow out (row_count r)) (RowOn es bs) (KeptValue out) (ValueOn es bs) (code (row_asm q r h) (at_bufs es bs m)) (MeansRow r l m) (code (one q (maker x (row_count r)))) (λ y. bind (checked (make the_filters x y.values)) (valued y.memory))
         (row_does r q inside h l es bs out m fit.1 fr w opened)
         (λ y j. made_does x (row_count r) y.values q es bs out y.memory fit.0 j.1 j.0)
     expr_does (slots.conjunction a b) q inside h l es bs out m fit fr w opened =
@@ -439,7 +441,7 @@ module _ (filters : Filters) (p : Program) (call : SCalls) (has : HasPool (compi
   LoopOn es bs x = at_bufs (frame (loop_over x.values) ∷ es) bs x.memory
 
   abbrev Sifts : SExpr ℕ → Targets → List Tree → Memory → Got Listed
-  Sifts c xs vs m = skept filters (tree_at p.pool) call (Some c) xs vs m
+  Sifts c xs vs m = skept the_filters (tree_at p.pool) call (Some c) xs vs m
 
   one_more : (c : Bool) (all kept : List Tree) (v : Tree) (es : List Entry) (bs : List (List ℕ)) (x : Listed) → SiftedOn all (if c then kept ++ v ∷ [] else kept) es bs x ≡ SiftedOn all kept es bs (if c then in_front v x else x)
   one_more true all kept v es bs x = ap (λ ts. at_bufs (framed all (length all) ts es) bs x.memory) (append_assoc kept (v ∷ []) x.values)
@@ -480,7 +482,7 @@ module _ (filters : Filters) (p : Program) (call : SCalls) (has : HasPool (compi
       (λ y w3. (one_more (tree.truth r.value) all kept v es bs y, one_more_kept (tree.truth r.value) v out y w3)))))))
 
   keep_does : (c : Option (SExpr ℕ)) (xs : Targets) (q : Option Place) (es : List Entry) (bs : List (List ℕ)) (out : Text) (vs : List Tree) (m : Memory) → TargetsFit p count xs → ConditionFits p count c → Kept out m → IsOpen bs
-      → Does q (KeptItems out) (LoopOn es bs) (code (kept_asm q xs c) (at_bufs (frame (loop_over vs) ∷ es) bs m)) (skept filters (tree_at p.pool) call c xs vs m)
+      → Does q (KeptItems out) (LoopOn es bs) (code (kept_asm q xs c) (at_bufs (frame (loop_over vs) ∷ es) bs m)) (skept the_filters (tree_at p.pool) call c xs vs m)
   keep_does None xs q es bs out vs m fx fc w opened = (refl, w)
   keep_does (Some c) xs q es bs out vs m fx fc w opened =
       let turn = code (turn_asm q xs (both (expr_asm q c 0) (one q (op.LoopKeep 0)))) in
@@ -498,10 +500,10 @@ module _ (filters : Filters) (p : Program) (call : SCalls) (has : HasPool (compi
   -- ---- statements
 
   abbrev MeansStmt : SStmt ℕ → Option Loop → Memory → Got Memory
-  MeansStmt s l m = smeaning filters (tree_at p.pool) call s l m
+  MeansStmt s l m = smeaning the_filters (tree_at p.pool) call s l m
 
   abbrev MeansBody : SBody ℕ → Option Loop → Memory → Got Memory
-  MeansBody b l m = smeanings filters (tree_at p.pool) call b l m
+  MeansBody b l m = smeanings the_filters (tree_at p.pool) call b l m
 
   kept_of : (m : Memory) → Sized m → Kept m.out m
   kept_of m w = record { locals = w.locals; globals = w.globals; text = refl }
@@ -634,12 +636,12 @@ module _ (filters : Filters) (p : Program) (call : SCalls) (has : HasPool (compi
         let to = at_memory es pre bufs in
         let first = both (expr_asm q e h) (both (one q op.LoopStart) (kept_asm q xs c)) in
         let over = over_asm q xs (body_asm body 0) (body_asm other h) in
-        let items = λ (r : Valued). bind (checked (items_of_value r.value)) (λ vs. skept filters (tree_at p.pool) call c xs vs r.memory) in
+        let items = λ (r : Valued). bind (checked (items_of_value r.value)) (λ vs. skept the_filters (tree_at p.pool) call c xs vs r.memory) in
         then_does None (KeptItems m.out) (LoopOn es bs) Sized to (code first (at_bufs es bs m)) (at tag (bind (Means e l m) items)) (code over) (λ x. sgone_over (MeansBody body) (MeansBody other l) xs tag x.values x.memory)
         (placed tag (KeptItems m.out) (LoopOn es bs) (code first (at_bufs es bs m)) (bind (Means e l m) items)
         (then_does q (KeptValue m.out) (ValueOn es bs) (KeptItems m.out) (LoopOn es bs) (code (expr_asm q e h) (at_bufs es bs m)) (Means e l m) (code (both (one q op.LoopStart) (kept_asm q xs c))) items
         (expr_does e q inside h l es bs m.out m fit.1 fr (kept_of m w) tt)
-        (λ r w1. begin_does (items_of_tree r.value) q es bs r.memory (value r.value ∷ es) (KeptItems m.out) (LoopOn es bs) (code (kept_asm q xs c)) (λ vs. skept filters (tree_at p.pool) call c xs vs r.memory)
+        (λ r w1. begin_does (items_of_tree r.value) q es bs r.memory (value r.value ∷ es) (KeptItems m.out) (LoopOn es bs) (code (kept_asm q xs c)) (λ vs. skept the_filters (tree_at p.pool) call c xs vs r.memory)
         (λ vs. keep_does c xs q es bs m.out vs r.memory fit.0 fit.2 w1 tt))))
         (λ x w1.
         same_run None Sized to _ (code over (at_memory (frame (loop_over x.values) ∷ es) pre bufs x.memory)) (sgone_over (MeansBody body) (MeansBody other l) xs tag x.values x.memory) (ap (code over) (settled (frame (loop_over x.values) ∷ es) pre bufs m.out x.memory w1))

@@ -1,6 +1,6 @@
 -- Code whose jumps stand in pairs is typed, and so is a program's.
 use Rattle.std.proofs.Common.{◌≡◌, ℕ, zero, suc, ◌+◌, ◌<◌, ◌≤◌, List, [], ◌∷◌, ◌++◌, length, Option, Some, None, Result, Ok, Bool, true, false, refl, sym, ap, ◌∙◌, subst, arith, append_assoc, length-append}
-use Rattle.std.specs.Prelude.{slice_get, nat_lt, ◌==◌}
+use Rattle.std.specs.Prelude.{slice_get, nat_lt, IsTrue, ◌&&◌, ◌==◌}
 use Rattle.std.specs.List.{AllByRecursion}
 use Rattle.std.specs.Option.{is_some, option_map}
 use Rattle.std.proofs.Math.Seq.{get_or-append_seam}
@@ -16,7 +16,7 @@ use Rattle.jt_image.specs.declared.kind.Flaw.TheVariants as flaw
 use Rattle.jt_image.specs.declared.kind.Flaw.{Flaw}
 use Rattle.jt_image.specs.Code.{Section, Code, is_text}
 use Rattle.jt_image.specs.Effect.{Shape, Leads, require, pops_many, pushes, makes, goes_on, on_frame, calls, effect, effect_of}
-use Rattle.jt_image.specs.Ids.{operands_of, takes}
+use Rattle.jt_image.specs.Ids.{operands_of, filter_of, accepts, takes}
 use Rattle.jt_image.specs.Loops.{field_id}
 use Rattle.jt_image.specs.Typed.{Equal, HasSame, IsTypedUnit, IsTyped, max_entries}
 use Rattle.jt_slots.specs.Got.{Place}
@@ -278,6 +278,10 @@ module _ (p : Program) (count : ℕ) where
   stores_if None S f u q l room = goes u q S room
   stores_if (Some s) S f u q l room = stores s S f u q l room
 
+  is_filter : (f n : ℕ) (escaping : Bool) → IsTrue (accepts (filter_of f) n) → (accepts (filter_of f) n && nat_lt (flag escaping) 2) ≡ true
+  is_filter f n true h = rw h refl
+  is_filter f n false h = rw h refl
+
   -- what makes a value of a row leads from its values to the one
   maker_types : (h : Maker) (n : ℕ) (S : Shape) → MakerFits h n → Plainly (maker h n) (pushes n S) (kind.Value ∷ S)
   maker_types (slots.operator o) n S fit u q l room =
@@ -286,7 +290,8 @@ module _ (p : Program) (count : ℕ) where
   maker_types (slots.test t) n S fit u q l room =
       ap (λ x. require (takes x n) flaw.BadIndex (makes u q n (pushes n S))) (has_test t)
       ∙ required _ flaw.BadIndex _ (ap (λ i. n == i) fit ∙ eq_true n n refl) ∙ makes_one u q n S room
-  maker_types (slots.filter f escaping) n S fit u q l room = absurd fit
+  maker_types (slots.filter f escaping) n S fit u q l room =
+      required _ flaw.BadIndex _ (is_filter f n escaping fit) ∙ makes_one u q n S room
   maker_types slots.a_list n S fit u q l room = makes_one u q n S room
   maker_types slots.a_map n S fit u q l room = ap (λ i. makes u q i (pushes n S)) (halved n fit) ∙ makes_one u q n S room
 

@@ -1,10 +1,11 @@
 -- What a program must keep so that its code does what it means: each number is in its table, each row has as many values as what
 -- takes it, and fields of loops stand in loops.
-use Rattle.std.specs.Prelude.{◌≡◌, ℕ, ◌<◌, ◌≤◌, Bool, true, false, List, [], ◌∷◌, length, Option, Some, None, slice_get}
+use Rattle.std.specs.Prelude.{◌≡◌, ℕ, ◌<◌, ◌≤◌, Bool, true, false, IsTrue, List, [], ◌∷◌, length, Option, Some, None, slice_get}
 use Rattle.jt_value.specs.Tree as tree
 use Rattle.jt_value.specs.Tree.{Tree}
 use Rattle.jt_ops.specs.OpTable.{op_operands}
 use Rattle.jt_ops.specs.TestTable.{test_values}
+use Rattle.jt_filters.specs.FilterIds.{filter_of, accepts}
 use Rattle.jt_image.specs.Typed.{max_entries}
 use Rattle.jt_slots.specs.Takes.{InPairs}
 use Rattle.jt_parse.specs.Trees.{Text}
@@ -12,11 +13,11 @@ use Rattle.jt_slots.specs.Slots as slots
 use Rattle.jt_slots.specs.Slots.{Slot, local, global, Maker, SExpr, SRow, Targets, SStmt, SBody, Routine, Program}
 use Rattle.jt_slots.specs.Size.{row_count, body_height}
 
--- NOT DONE: no filter fits, since images have no instruction for them yet.
+-- each takes so many values
 abbrev pub MakerFits : Maker → ℕ → Type 0
 MakerFits (slots.operator o) n = op_operands o ≡ n
 MakerFits (slots.test t) n = test_values t ≡ n
-MakerFits (slots.filter f escaping) n = ⊥
+MakerFits (slots.filter f escaping) n = IsTrue (accepts (filter_of f) n)
 MakerFits slots.a_list n = Unit {0}
 MakerFits slots.a_map n = InPairs n
 

@@ -7,7 +7,7 @@ use Rattle.jt_image.specs.Typed.{max_entries}
 use Rattle.jt_parse.specs.Trees.{Text}
 use Rattle.jt_slots.specs.Slots as slots
 use Rattle.jt_slots.specs.Slots.{Slot, local, global, Maker, SExpr, SRow, Targets, SStmt, SBody, Routine, Program}
-use Rattle.jt_slots.specs.Filters.{Filters}
+use Rattle.jt_slots.specs.TheFilters.{the_filters}
 use Rattle.jt_slots.specs.Takes.{BodyTakes}
 use Rattle.jt_slots.specs.Locals.{body_locals}
 use Rattle.jt_slots.specs.Pool.{Constant, own, known, routines_values, placed_routines}
@@ -30,17 +30,12 @@ module _ (front globals : ℕ) where
   SlotLawful (local i) = Unit {0}
   SlotLawful (global i) = i < globals
 
-  -- NOT DONE: images have no instruction for filters yet
-  abbrev pub NoFilter : Maker → Type 0
-  NoFilter (slots.filter f escaping) = ⊥
-  NoFilter k = Unit {0}
-
   abbrev mutual
     pub ExprLawful : SExpr Constant → Type 0
     ExprLawful (slots.pooled k) = ConstantLawful k
     ExprLawful (slots.variable s) = SlotLawful s
     ExprLawful (slots.field f) = Unit {0}
-    ExprLawful (slots.made k es) = NoFilter k × RowLawful es
+    ExprLawful (slots.made k es) = RowLawful es
     ExprLawful (slots.conjunction a b) = ExprLawful a × ExprLawful b
     ExprLawful (slots.disjunction a b) = ExprLawful a × ExprLawful b
     ExprLawful (slots.choice c a b) = ExprLawful c × ExprLawful a × ExprLawful b
@@ -90,12 +85,12 @@ pub record RoutineLawful (front globals : ℕ) (r : Routine Constant) : Type 0 w
 abbrev pub program_with : List Text → ℕ → List Tree → List (Routine Constant) → Program
 program_with names globals front rs = record { names = names; globals = globals; pool = front ++ routines_values rs; routines = placed_routines rs (length front) }
 
-pub record AreLawful (filters : Filters) (names : List Text) (globals : ℕ) (front : List Tree) (rs : List (Routine Constant)) : Type 0 where
+pub record AreLawful (names : List Text) (globals : ℕ) (front : List Tree) (rs : List (Routine Constant)) : Type 0 where
   pub few : length names ≤ globals
   pub pooled : AllByRecursion IsPooled front
   pub routines : AllByRecursion (RoutineLawful (length front) globals) rs
   -- each operation and call gets as many values as it takes, and fields stand in loops
-  pub takes : AllByRecursion (λ (r : Routine ℕ). BodyTakes filters (program_with names globals front rs).routines false r.body) (program_with names globals front rs).routines
+  pub takes : AllByRecursion (λ (r : Routine ℕ). BodyTakes the_filters (program_with names globals front rs).routines false r.body) (program_with names globals front rs).routines
   pub entry : Routine Constant
   pub is_entry : slice_get rs 0 ≡ Some entry
 

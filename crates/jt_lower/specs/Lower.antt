@@ -26,15 +26,16 @@ half zero = zero
 half (suc zero) = zero
 half (suc (suc n)) = suc (half n)
 
--- NOT DONE: images have no instruction for filters yet. What stands for one is an operator without a row, which no verifier accepts.
-abbrev pub no_filter : Instruction
-no_filter = op.Op 255
+-- escaped or not, markup or plain
+abbrev pub flag : Bool → ℕ
+flag true = 1
+flag false = 0
 
 -- what makes one value of that many
 abbrev pub maker : Maker → ℕ → Instruction
 maker (slots.operator o) n = op.Op (op_id o)
 maker (slots.test t) n = op.Test (test_id t) n
-maker (slots.filter f escaping) n = no_filter
+maker (slots.filter f escaping) n = op.Filter f n (flag escaping)
 maker slots.a_list n = op.MakeList n
 maker slots.a_map n = op.MakeMap (half n)
 
@@ -49,11 +50,6 @@ told_as loops.last = of_loop.Last
 told_as loops.total = of_loop.Length
 told_as loops.previtem = of_loop.Previous
 told_as loops.nextitem = of_loop.Next
-
--- escaped or not, markup or plain
-abbrev pub flag : Bool → ℕ
-flag true = 1
-flag false = 0
 
 abbrev pub load_of : Slot → Instruction
 load_of (local i) = op.Load i

@@ -1,7 +1,6 @@
 //! What callers' proofs rest on.
 ghost use Rattle.jt_lower.specs.Compiles.{LowLaws};
 
-use jt_breadth::program_laws;
 use jt_image::code_laws;
 
 /// The laws of the code of programs. It does nothing: a caller learns them from its contract.
@@ -9,5 +8,4 @@ pub fn low_laws()
     ensures { LowLaws }
 {
     code_laws();
-    program_laws();
 }

@@ -1,10 +1,12 @@
-//! The code of resolved programs: what it is, that it does what they mean, and what emission is made of.
+//! The code of resolved programs: what it is, that it does what they mean, and the emission of their expressions.
 #![tactic(auto)]
 
-mod emission;
+mod emitter;
+mod expressions;
+mod instructions;
 mod laws;
 
-pub use emission::{
-    EmitError, begin_choice, begin_turns, close_one, end_branch, end_turns, end_when, field, put,
-};
+pub use emitter::Emitter;
+pub use expressions::{emit_expression, emit_row};
+pub use instructions::{call_of, data_of, flag, store_of, unpack_of};
 pub use laws::low_laws;

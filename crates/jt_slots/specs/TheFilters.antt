@@ -1,14 +1,12 @@
 -- The filters of the language, as templates name them.
-use Rattle.std.specs.Prelude.{ℕ, false, ◌&&◌, ◌==◌, nat_le, pos, List, [], ◌∷◌, Option, Some, None, option_map, Bool, Result, Err}
+use Rattle.std.specs.Prelude.{false, pos, List, [], ◌∷◌, Option, Some, None, option_map}
 use Rattle.std.specs.List.{find, list_any}
 use Rattle.std.specs.Str.{bytes_eq}
-use Rattle.jt_value.specs.Tree.{Tree}
-use Rattle.jt_value.specs.declared.fault.Fault.{Fault}
-use Rattle.jt_value.specs.declared.fault.Fault.TheVariants as faults
 use Rattle.jt_filters.specs.declared.filter_id.FilterId.{FilterId}
 use Rattle.jt_filters.specs.declared.filter_id.FilterId.TheVariants as filter
-use Rattle.jt_filters.specs.FilterTable.{filters, filter_id, filter_names, least_values, most_values, argument_names}
-use Rattle.jt_filters.specs.Filtering.{filtered}
+use Rattle.jt_filters.specs.FilterTable.{filters, filter_id, filter_names, argument_names}
+unfoldable pub use Rattle.jt_filters.specs.FilterIds.{filter_of}
+use Rattle.jt_filters.specs.FilterIds.{accepts, filtered_by}
 use Rattle.jt_expr.specs.Trees as trees
 use Rattle.jt_expr.specs.Trees.{Literal}
 use Rattle.jt_parse.specs.Trees.{Text, Parameter}
@@ -17,10 +15,6 @@ use Rattle.jt_slots.specs.Filters.{Filters}
 -- the filter of a name, if one has it
 unfoldable pub filter_named : Text → Option FilterId
 filter_named x = find (λ f. list_any (bytes_eq x) (filter_names f)) filters
-
--- the filter of an id
-unfoldable pub filter_of : ℕ → Option FilterId
-filter_of n = find (λ f. filter_id f == n) filters
 
 -- what each argument is where it is not given
 abbrev pub defaults : FilterId → List (Option Literal)
@@ -43,20 +37,11 @@ abbrev pub parameters_of : Option FilterId → List Parameter
 parameters_of None = []
 parameters_of (Some f) = filter_parameters f
 
-abbrev pub takes_so_many : Option FilterId → ℕ → Bool
-takes_so_many None n = false
-takes_so_many (Some f) n = nat_le (least_values f) n && nat_le n (most_values f)
-
--- a filter that there is not faults; no chain has one
-abbrev pub operation_of : Option FilterId → Bool → List Tree → Result Tree Fault
-operation_of None escaping vs = Err faults.BadType
-operation_of (Some f) escaping vs = filtered f escaping vs
-
 -- filters go by their ids
 unfoldable pub the_filters : Filters
 the_filters = record {
   named = λ x. option_map filter_id (filter_named x);
   parameters = λ n. parameters_of (filter_of n);
-  takes = λ n. takes_so_many (filter_of n);
-  operation = λ n. operation_of (filter_of n);
+  takes = λ n. accepts (filter_of n);
+  operation = λ n. filtered_by (filter_of n);
 }

@@ -1,8 +1,8 @@
 //! What an instruction does to a shape, and where it leads.
-ghost use Rattle.std.specs.Prelude.{◌≡◌, ◌<◌, ◌≤◌, nat_lt, List, length, Err, IfOk, OnOk, option_map, slice_get};
+ghost use Rattle.std.specs.Prelude.{◌≡◌, ◌<◌, ◌≤◌, ◌&&◌, nat_lt, List, length, Err, IfOk, OnOk, option_map, slice_get};
 ghost use Rattle.jt_image.specs.Code.{Section, is_text as is_text_of};
 ghost use Rattle.jt_image.specs.Effect.{pushes, calls as calls_of, goes_on as goes_on_of, makes as makes_of, jumps as jumps_of, branches as branches_of, may_return as may_return_of, effect as effect_of};
-ghost use Rattle.jt_image.specs.Ids.{operator_of, test_of, takes as takes_of};
+ghost use Rattle.jt_image.specs.Ids.{operator_of, filter_of, accepts as accepts_of, test_of, takes as takes_of};
 ghost use Rattle.jt_image.specs.Readers.{header_of};
 ghost use Rattle.jt_image.specs.Typed.{max_entries};
 ghost use Rattle.jt_image.specs.declared.kind.Kind.{Kind};
@@ -10,8 +10,8 @@ ghost use Rattle.jt_ops.specs.OpTable.{op_operands};
 ghost use Rattle.jt_verify.specs.Typing.{EffectGives, AreWithin, PopsMany, FindsFrame, PushesMany};
 
 use crate::shape::{Shape, kind_below};
+use jt_filters::{FilterId, OpId, TestId};
 use jt_image::{Code, ConstantRef, Flaw, Instruction, Kind, LoopField, UnitHeader};
-use jt_ops::{OpId, TestId};
 use jt_value::NoMemory;
 use std::alloc::Global;
 
@@ -227,6 +227,23 @@ fn operands_of(operator: u8) -> Option<usize>
     }
 }
 
+// Whether there is a filter of the id, and it takes that many values, its input among them.
+fn accepts(filter: u8, values: u16) -> bool
+    ensures { result ≡ accepts_of (filter_of filter) values }
+{
+    match FilterId::by_id(filter) {
+        Some(filter) => filter.takes(usize::from(values)),
+        None => false,
+    }
+}
+
+// Whether there is a filter of the id, it takes that many values, and the flag is one.
+fn is_filter(filter: u8, values: u16, flag: u32) -> bool
+    ensures { result ≡ (accepts_of (filter_of filter) values && nat_lt flag 2) }
+{
+    accepts(filter, values) && flag < 2
+}
+
 // Whether there is a test of the id, and it takes that many values.
 fn takes(test: u8, values: u16) -> bool
     ensures { result ≡ takes_of (test_of test) values }
@@ -353,6 +370,16 @@ pub(crate) fn effect<C: Code>(
                 return bad_index();
             };
             makes(alloc, header, point, count, shape)
+        }
+        Instruction::Filter {
+            filter,
+            values: count,
+            flag,
+        } => {
+            if !is_filter(filter, count, flag) {
+                return bad_index();
+            }
+            makes(alloc, header, point, usize::from(count), shape)
         }
         Instruction::Test { test, values } => {
             if !takes(test, values) {

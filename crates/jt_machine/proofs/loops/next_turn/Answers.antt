@@ -1,35 +1,40 @@
-use Rattle.std.proofs.Common.{◌≡◌, ◌∙◌, Bool, true, false, cond, length, refl, ap, arith, add-one}
+use Rattle.std.proofs.Common.{◌≡◌, ◌∷◌, ◌∙◌, true, false, List, length, cond, refl, sym, ap}
 use Rattle.std.specs.Prelude.{nat_lt}
-use Rattle.std.proofs.lemmas.Bool.Decides.{nat_tests}
-use Rattle.std.proofs.lemmas.List.{length-map}
-use Rattle.jt_value.specs.View.{view}
-use Rattle.jt_image.specs.Config.{frame}
+use Rattle.jt_image.specs.Config.{Frame, Entry, frame}
 use Rattle.jt_image.specs.Loops.{advanced}
-use Rattle.jt_image.specs.Run.{Goes}
-use Rattle.jt_machine.specs.Parts.{at_point, step_on, with_entry, next_turn}
-use Rattle.jt_machine.specs.View.{config_view, frame_view}
+use Rattle.jt_machine.specs.declared.state.State.{State}
+use Rattle.jt_machine.specs.Parts.{step_on, next_turn}
+use Rattle.jt_machine.specs.View.{config_view, entries_view}
+use Rattle.jt_machine.proofs.Steps.{turn_frame, turned, turn_is}
 use Rattle.jt_machine.proofs.loops.next_turn.Goals as goal
 
 pub returns-in-Some : goal.returns-in-Some
 returns-in-Some c =
-    let f = frame_view c.pop_frame-frame.result in
-    rw c.pop_frame-frame.ensures (c.in-Some.ensures.rest (λ e. cond (nat_lt f.position (length f.items)) (step_on (with_entry (frame (advanced f)) e)) (Goes (at_point (with_entry (frame f) e) c.args.target))))
+    let x = turn_frame c.args.target (config_view c.args.state.now) c.requires.not_wrong in
+    let z = nat_lt x.top.position (length x.top.items) in
+    let after : List Entry = frame (cond z (advanced x.top) x.top) ∷ x.rest in
+    turn_is c.args.target (config_view c.args.state.now) x.top x.rest after z x.is refl refl ∙ c.in-Some.ensures.rest (turned z c.args.target after)
 
-pub returns-then-frame-len : goal.returns-then-frame-len
-returns-then-frame-len c =
-    let f = frame_view c.pop_frame-frame.result in
-    let more : nat_lt f.position (length f.items) ≡ true = grind (arith, nat_tests, c.if-frame-len.true, c.len.ensures, length-map c.pop_frame-frame.result.items.items view) in
-    let e : next_turn c.args.target (config_view c.args.state.now) ≡ step_on (with_entry (frame (advanced f)) (config_view c.pay.new.state)) =
-    rw c.pop_frame-frame.ensures (c.in_default.ensures.rest (λ e. cond (nat_lt f.position (length f.items)) (step_on (with_entry (frame (advanced f)) e)) (Goes (at_point (with_entry (frame f) e) c.args.target))))
-    ∙ ap (λ (b : Bool). cond b (step_on (with_entry (frame (advanced f)) (config_view c.pay.new.state))) (Goes (at_point (with_entry (frame f) (config_view c.pay.new.state)) c.args.target))) more in
-    let pushed = rw add-one at c.in_ok-push_entry.ensures in
-    rw (e, ← pushed) c.step_on.ensures
+pub take_turn-requires : goal.take_turn-requires
+take_turn-requires c =
+    let x = turn_frame c.args.target (config_view c.args.state.now) c.requires.not_wrong in
+    let same : entries_view c.pay.new.state.entries.items ≡ entries_view c.args.state.now.entries.items = ap (λ (s : State). entries_view s.entries.items) c.in_default.ensures.same in
+    record { top = x.top; rest = x.rest; is = same ∙ x.is }
+
+pub returns-then-take_turn : goal.returns-then-take_turn
+returns-then-take_turn c =
+    let x = turn_frame c.args.target (config_view c.args.state.now) c.requires.not_wrong in
+    let same : entries_view c.pay.new.state.entries.items ≡ entries_view c.args.state.now.entries.items = ap (λ (s : State). entries_view s.entries.items) c.in_default.ensures.same in
+    let h = c.take_turn.ensures x.top x.rest (same ∙ x.is) in
+    let t = rw c.if-take_turn.true at h in
+    let e : next_turn c.args.target (config_view c.args.state.now) ≡ turned true c.args.target (entries_view c.take_turn.new.entries.items) (config_view c.pay.new.state) =
+    turn_is c.args.target (config_view c.args.state.now) x.top x.rest (entries_view c.take_turn.new.entries.items) true x.is t.left t.entries ∙ c.in_default.ensures.rest (turned true c.args.target (entries_view c.take_turn.new.entries.items)) in
+    rw e c.step_on.ensures
 
 pub returns : goal.returns
 returns c =
-    let f = frame_view c.pop_frame-frame.result in
-    let none : nat_lt f.position (length f.items) ≡ false = grind (arith, nat_tests, c.if-frame-len.false, c.len.ensures, length-map c.pop_frame-frame.result.items.items view) in
-    let e : next_turn c.args.target (config_view c.args.state.now) ≡ Goes (at_point (with_entry (frame f) (config_view c.pay.new.state)) c.args.target) =
-    rw c.pop_frame-frame.ensures (c.in_default.ensures.rest (λ e. cond (nat_lt f.position (length f.items)) (step_on (with_entry (frame (advanced f)) e)) (Goes (at_point (with_entry (frame f) e) c.args.target))))
-    ∙ ap (λ (b : Bool). cond b (step_on (with_entry (frame (advanced f)) (config_view c.pay.new.state))) (Goes (at_point (with_entry (frame f) (config_view c.pay.new.state)) c.args.target))) none in
-    rw (e, ← c.in_ok-push_entry-2.ensures) refl
+    let x = turn_frame c.args.target (config_view c.args.state.now) c.requires.not_wrong in
+    let same : entries_view c.pay.new.state.entries.items ≡ entries_view c.args.state.now.entries.items = ap (λ (s : State). entries_view s.entries.items) c.in_default.ensures.same in
+    let h = c.take_turn.ensures x.top x.rest (same ∙ x.is) in
+    let t = rw c.if-take_turn.false at h in
+    turn_is c.args.target (config_view c.args.state.now) x.top x.rest (entries_view c.take_turn.new.entries.items) false x.is t.left t.entries ∙ c.in_default.ensures.rest (turned false c.args.target (entries_view c.take_turn.new.entries.items))

@@ -1,0 +1,4 @@
+pub mod Statements
+pub mod Units
+pub mod Compiled
+pub mod Laws

@@ -1,0 +1,196 @@
+//! The code of resolved statements and routines.
+
+ghost use Rattle.std.specs.Prelude.{◌≡◌, ◌<◌, ℕ, List, Option, Some, length, IfOk, IfErr, OnOk};
+ghost use Rattle.std.specs.List.{AllByRecursion};
+ghost use Rattle.jt_image.specs.Parts.{section_of_unit};
+ghost use Rattle.jt_parse.specs.Trees.{Text};
+ghost use Rattle.jt_slots.specs.Got.{Place};
+ghost use Rattle.jt_slots.specs.View.{targets_view, expr_view, stmt_view, body_view, routine_view};
+ghost use Rattle.std.specs.Prelude.{option_map};
+ghost use Rattle.jt_lower.specs.Lower.{kept_asm, unit_of};
+ghost use Rattle.jt_lower.specs.Emission.{StandsFor, Puts};
+ghost use Rattle.jt_codegen.specs.Statements.{Emits, Closes};
+ghost use Rattle.jt_codegen.specs.Units.{Refuses};
+
+use crate::targets::{emit_item, emit_targets};
+use jt_image::{Instruction, Unit};
+use jt_lower::{Emitter, call_of, data_of, emit_expression, emit_row, flag, store_of};
+use jt_slots::{Routine, SExpr, SStmt, Targets};
+use std::alloc::{AllocError, AllocFailed, Global};
+
+/// Why no code is made.
+#[derive(Clone, Copy, Debug, Drop, PartialEq, Eq)]
+pub enum EmitError {
+    /// An image has no place for it.
+    CodeTooLong,
+    /// A growth was refused.
+    NoMemory,
+}
+
+impl From<AllocError> for EmitError {
+    ghost use Rattle.std.specs.Prelude.{◌≡◌};
+    ghost use Rattle.jt_codegen.specs.declared.emission.EmitError.TheVariants.{NoMemory};
+
+    ghost from_gives = { λ _ e. e ≡ NoMemory };
+
+    fn from(_e: AllocError) -> EmitError {
+        EmitError::NoMemory
+    }
+}
+
+impl<T: Drop> From<AllocFailed<T>> for EmitError {
+    ghost use Rattle.std.specs.Prelude.{◌≡◌};
+    ghost use Rattle.jt_codegen.specs.declared.emission.EmitError.TheVariants.{NoMemory};
+
+    ghost from_gives = { λ _ e. e ≡ NoMemory };
+
+    fn from(_e: AllocFailed<T>) -> EmitError {
+        EmitError::NoMemory
+    }
+}
+
+/// The unit of a routine: its statements, and then the return.
+///
+/// # Errors
+///
+/// `CodeTooLong` where an image has no place for it, `NoMemory` where a growth was refused.
+pub(crate) fn emit_unit(alloc: Global, routine: &Routine) -> Result<Unit, EmitError>
+    ensures emitted { IfOk result (λ u. (templates : List Text) → section_of_unit u ≡ Some (unit_of (routine_view templates routine.now))) }
+    ensures refused { IfErr result (λ e. (templates : List Text) → Refuses e (unit_of (routine_view templates routine.now))) }
+{
+    let mut code = Emitter::new(alloc);
+    emit_statements(alloc, &mut code, &routine.body, 0)?;
+    code.put(Some(Instruction::Return))?;
+    let Ok(parameters) = u8::try_from(routine.parameters) else {
+        return Err(EmitError::CodeTooLong);
+    };
+    let Ok(locals) = u16::try_from(routine.locals) else {
+        return Err(EmitError::CodeTooLong);
+    };
+    if code.overflowed {
+        return Err(EmitError::CodeTooLong);
+    }
+    Ok(Unit {
+        parameters,
+        kind: 0,
+        locals,
+        code: code.code,
+    })
+}
+
+/// Keeps the items for which the condition holds, in place of all.
+fn emit_condition(
+    code: &mut Emitter,
+    targets: &Targets,
+    condition: &Option<SExpr>,
+) -> Result<(), AllocError>
+    ensures { OnOk result ((o : Option Place) → Puts code.old (kept_asm o (targets_view targets.now) (option_map expr_view condition.now)) code.new) }
+{
+    match condition {
+        None => Ok(()),
+        Some(tested) => {
+            let top = code.begin_turns()?;
+            emit_item(code, targets)?;
+            emit_expression(code, tested, 0)?;
+            code.put(Some(Instruction::LoopKeep { above: 0 }))?;
+            code.end_turns(top)?;
+            code.put(Some(Instruction::LoopRewind))?;
+            Ok(())
+        }
+    }
+}
+
+/// Lets the jumps at these points go behind all instructions.
+fn close_all(code: &mut Emitter, ends: &[usize])
+    requires { AllByRecursion (λ e. e < length code.old.code.items) ends.now }
+    ensures { Closes code.old ends.now code.new }
+{
+    for at in (0..ends.len()).rev() {
+        code.close(ends[at]);
+    }
+}
+
+/// Puts the code of a statement behind the others, with so many entries above the innermost loop.
+#[cycle(statements)]
+fn emit_statement(
+    alloc: Global,
+    code: &mut Emitter,
+    statement: &SStmt,
+    above: usize,
+) -> Result<(), AllocError>
+    ensures { OnOk result ((templates : List Text) (h : ℕ) → StandsFor above h → Emits h code.old (stmt_view templates statement.now) code.new) }
+{
+    match statement {
+        SStmt::PutPooled(place) => {
+            code.put(data_of(*place))?;
+            Ok(())
+        }
+        SStmt::Print(_, escaping, expr) => {
+            let printed = flag(*escaping);
+            emit_expression(code, expr, above)?;
+            code.put(Some(Instruction::Emit { flag: printed }))?;
+            Ok(())
+        }
+        SStmt::Assign(_, targets, expr) => {
+            emit_expression(code, expr, above)?;
+            emit_targets(code, targets)?;
+            Ok(())
+        }
+        SStmt::If(branches, other) => {
+            let mut ends = Vec::new(alloc);
+            for (_, condition, body) in branches {
+                emit_expression(code, condition, above)?;
+                let choice = code.begin_choice()?;
+                emit_statements(alloc, code, body, above)?;
+                let last = code.end_branch(choice)?;
+                ends.push(last)?;
+            }
+            emit_statements(alloc, code, other, above)?;
+            close_all(code, &ends);
+            Ok(())
+        }
+        SStmt::For(_, targets, iterated, condition, body, other) => {
+            emit_expression(code, iterated, above)?;
+            code.put(Some(Instruction::LoopStart))?;
+            emit_condition(code, targets, condition)?;
+            let top = code.begin_turns()?;
+            emit_item(code, targets)?;
+            emit_statements(alloc, code, body, 0)?;
+            code.end_turns(top)?;
+            code.put(Some(Instruction::LoopEnd))?;
+            let choice = code.begin_choice()?;
+            emit_statements(alloc, code, other, above)?;
+            code.end_when(choice);
+            Ok(())
+        }
+        SStmt::Capture(escaping, slot, body) => {
+            let captured = flag(*escaping);
+            code.put(Some(Instruction::CaptureBegin))?;
+            emit_statements(alloc, code, body, above.saturating_add(1))?;
+            code.put(Some(Instruction::CaptureEnd { flag: captured }))?;
+            code.put(store_of(*slot))?;
+            Ok(())
+        }
+        SStmt::Run(routine, row) => {
+            emit_row(code, row, above)?;
+            code.put(call_of(*routine))?;
+            Ok(())
+        }
+    }
+}
+
+/// Puts the code of statements behind the others.
+#[cycle(statements)]
+fn emit_statements(
+    alloc: Global,
+    code: &mut Emitter,
+    body: &[SStmt],
+    above: usize,
+) -> Result<(), AllocError>
+    ensures { OnOk result ((templates : List Text) (h : ℕ) → StandsFor above h → Emits h code.old (body_view templates body.now) code.new) }
+{
+    for statement in body {
+        emit_statement(alloc, code, statement, above)?;
+    }
+    Ok(())
+}

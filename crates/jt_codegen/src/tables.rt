@@ -1,0 +1,108 @@
+//! The parts of an image: the tables of names and constants, and the code.
+
+ghost use Rattle.std.specs.Prelude.{◌≡◌, ◌≤◌, List, length, map, string_bytes, Some, IfOk, IfErr};
+ghost use Rattle.jt_value.specs.View.{view};
+ghost use Rattle.jt_image.specs.Parts.{each_of, section_of_unit, code_of_parts};
+ghost use Rattle.jt_image.specs.View.{names_view, constant_view, constants_view};
+ghost use Rattle.jt_parse.specs.Trees.{Text};
+ghost use Rattle.jt_slots.specs.View.{routine_view, program_of};
+ghost use Rattle.jt_lower.specs.Lower.{constant_of, numbered, unit_of, compiled};
+ghost use Rattle.jt_codegen.specs.Units.{RefusesUnits, RefusesCode};
+ghost use Rattle.jt_codegen.specs.declared.emission.EmitError.TheVariants.{NoMemory};
+
+use crate::emission::{EmitError, emit_unit};
+use jt_image::{Constant, Parts, Unit};
+use jt_slots::{Program, Routine};
+use jt_value::Value;
+use std::alloc::Global;
+
+/// How many names an image may have.
+const MAX_COUNT: usize = 65_535;
+
+/// The parts of the image of a program.
+///
+/// # Errors
+///
+/// `CodeTooLong` where an image has no place for them, `NoMemory` where a growth was refused.
+pub fn parts_of(alloc: Global, program: &Program) -> Result<Parts, EmitError>
+    ensures emitted { IfOk result (λ p. code_of_parts p ≡ Some (compiled (program_of program.now))) }
+    ensures refused { IfErr result (λ e. RefusesCode e (compiled (program_of program.now))) }
+{
+    let Ok(globals) = u16::try_from(program.globals) else {
+        return Err(EmitError::CodeTooLong);
+    };
+    if program.names.len() > MAX_COUNT {
+        return Err(EmitError::CodeTooLong);
+    }
+    let units = units_of(alloc, &program.routines)?;
+    Ok(Parts {
+        globals,
+        names: names_of(alloc, &program.names)?,
+        constants: constants_of(alloc, &program.pool)?,
+        units,
+    })
+}
+
+/// The units of routines.
+fn units_of(alloc: Global, routines: &[Routine]) -> Result<Vec<Unit>, EmitError>
+    ensures emitted { IfOk result (λ us. (templates : List Text) → each_of section_of_unit us.items ≡ Some (map unit_of (map (routine_view templates) routines.now))) }
+    ensures refused { IfErr result (λ e. (templates : List Text) → RefusesUnits e (map unit_of (map (routine_view templates) routines.now))) }
+{
+    let mut units = Vec::with_capacity(alloc, routines.len())?;
+    for routine in routines {
+        let unit = emit_unit(alloc, routine)?;
+        units.push(unit)?;
+    }
+    Ok(units)
+}
+
+/// Names with their slots, from the first one on.
+fn names_of(alloc: Global, names: &[String]) -> Result<Vec<(u16, String)>, EmitError>
+    requires { length names.now ≤ 65535 }
+    ensures named { IfOk result (λ ns. names_view ns.items ≡ numbered 0 (map string_bytes names.now)) }
+    ensures refused { IfErr result (λ e. e ≡ NoMemory) }
+{
+    let mut numbered = Vec::with_capacity(alloc, names.len())?;
+    let mut slot: u16 = 0;
+    for name in names {
+        let copy = String::from_str(alloc, name)?;
+        numbered.push((slot, copy))?;
+        slot += 1;
+    }
+    Ok(numbered)
+}
+
+/// The values of a pool as constants.
+fn constants_of(alloc: Global, pool: &[Value]) -> Result<Vec<Constant>, EmitError>
+    ensures held { IfOk result (λ cs. constants_view cs.items ≡ map constant_of (map view pool.now)) }
+    ensures refused { IfErr result (λ e. e ≡ NoMemory) }
+{
+    let mut constants = Vec::with_capacity(alloc, pool.len())?;
+    for value in pool {
+        let constant = constant_of(alloc, value)?;
+        constants.push(constant)?;
+    }
+    Ok(constants)
+}
+
+/// A value of a pool as a constant. A pool has no lists and maps.
+fn constant_of(alloc: Global, value: &Value) -> Result<Constant, EmitError>
+    ensures held { IfOk result (λ c. constant_view c ≡ constant_of (view value.now)) }
+    ensures refused { IfErr result (λ e. e ≡ NoMemory) }
+{
+    match value {
+        Value::Undefined => Ok(Constant::Undefined),
+        Value::None => Ok(Constant::None),
+        Value::Bool(truth) => Ok(Constant::Bool(*truth)),
+        Value::Int(number) => Ok(Constant::Int(*number)),
+        Value::Text(text) => {
+            let copy = String::from_str(alloc, text.as_str())?;
+            Ok(Constant::Text(copy))
+        }
+        Value::Markup(text) => {
+            let copy = String::from_str(alloc, text.as_str())?;
+            Ok(Constant::Markup(copy))
+        }
+        Value::List(_) | Value::Map(_) => Ok(Constant::Undefined),
+    }
+}
