@@ -231,6 +231,8 @@ fn fields_of_instructions(rt: HostRuntime) -> Result<(), Fail> {
         17 0 0 3 => MakeMap { entries: 3 }
         17 1 0 3 => none
         17 0 1 3 => none
-        14 0 1 0 => none",
+        14 30 1 1 => Filter { filter: 30, values: 1, flag: 1 }
+        0 0 0 0 => none
+        29 0 0 0 => none",
     )
 }
