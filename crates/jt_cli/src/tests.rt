@@ -345,7 +345,9 @@ fn renders(rt: &(impl Abort + AllocGlobal), row: &str) -> Result<(), Fail> {
     let (context, options) = rest.split_once(" ;;").unwrap_or((rest, ""));
     let (status, text) = wanted.split_once(" ").unwrap_or((wanted, ""));
     let status = status.parse::<u8>().unwrap_or(9);
-    let files = [("t", source.as_bytes()), ("c", context.as_bytes())];
+    let mut files = Vec::new(alloc);
+    files.push(("t", source.as_bytes()))?;
+    files.push(("c", context.as_bytes()))?;
     let mut site = Site {
         alloc,
         files: files.as_slice(),
