@@ -32,8 +32,8 @@ fn value_of(alloc: Global, given: Given, text: &str) -> Result<Value, Fail> {
     match given {
         Given::Nothing => Ok(Value::Undefined),
         Given::True => Ok(Value::Bool(true)),
-        Given::Text => Ok(Value::Text(String::from_str(alloc, text)?)),
-        Given::Markup => Ok(Value::Markup(String::from_str(alloc, text)?)),
+        Given::Text => Ok(Value::text(alloc, text)?),
+        Given::Markup => Ok(Value::markup(alloc, text)?),
     }
 }
 

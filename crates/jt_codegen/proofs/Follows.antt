@@ -79,6 +79,8 @@ module _ (k : Code) where
   one_run n t u p ks m (op.Jump c) h = tt
   one_run n t u p ks m (op.JumpIfFalse c) h = tt
   one_run n t u p ks m (op.JumpIfTrue c) h = tt
+  one_run n t u p ks m (op.LoopNext c) h = tt
+  one_run n t u p ks m (op.Call c) h = tt
   one_run n t u p ks m op.Return h = tt
   one_run n t u p ks m i h = straight_run n u p ks m (plain k i m) (step t u p ks m i h)
 

@@ -462,6 +462,8 @@ module _ (template : Text) where
 read_wire : (i : Instruction) → instruction_of (wire_of i) ≡ Some i
 unfolding instruction_of
 read_wire (op.Const n) = refl
+read_wire (op.Load n) = refl
+read_wire (op.Store n) = refl
 read_wire (op.GLoad n) = refl
 read_wire (op.GStore n) = refl
 read_wire op.Drop = refl
@@ -472,9 +474,20 @@ read_wire (op.Jump n) = refl
 read_wire (op.JumpIfFalse n) = refl
 read_wire (op.JumpIfTrue n) = refl
 read_wire (op.Op n) = refl
+read_wire (op.Filter n m f) = refl
 read_wire (op.Test n m) = refl
 read_wire (op.MakeList n) = refl
 read_wire (op.MakeMap n) = refl
+read_wire op.LoopStart = refl
+read_wire (op.LoopNext n) = refl
+read_wire (op.LoopGet n m) = refl
+read_wire (op.LoopKeep n) = refl
+read_wire op.LoopRewind = refl
+read_wire op.LoopEnd = refl
+read_wire op.CaptureBegin = refl
+read_wire (op.CaptureEnd n) = refl
+read_wire (op.Unpack n) = refl
+read_wire (op.Call n) = refl
 read_wire op.Return = refl
 
 pub read_wires : (is : List Instruction) → each_of instruction_of (map wire_of is) ≡ Some is

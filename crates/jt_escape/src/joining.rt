@@ -7,6 +7,7 @@ ghost use Rattle.jt_escape.specs.Joining.{is_markup, has_markup, piece, pieces, 
 ghost use Rattle.jt_escape.specs.Appending.{led_pieces, Appends, Makes};
 
 use crate::escaping::append_escaped;
+use itoa::Buffer;
 use jt_value::{Value, ValueError};
 use std::alloc::{AllocError, Global};
 
@@ -28,14 +29,14 @@ pub fn join_plain(alloc: Global, items: &[Value], separator: &Value) -> Result<V
     ensures { IsAnswer (joined_plain (items_view items.now) (view separator.now)) result }
 {
     let text = join_text(alloc, items, separator, false)?;
-    Ok(Value::Text(text))
+    Ok(Value::from_text(text)?)
 }
 
 fn join_as_markup(alloc: Global, items: &[Value], separator: &Value) -> Result<Value, ValueError>
     ensures { IsAnswer (joined_as_markup (items_view items.now) (view separator.now)) result }
 {
     let text = join_text(alloc, items, separator, true)?;
-    Ok(Value::Markup(text))
+    Ok(Value::from_markup(text)?)
 }
 
 fn is_markup(value: &Value) -> bool
@@ -68,7 +69,7 @@ fn join_text(
     ensures { Makes (joined_text escaping (items_view items.now) (view separator.now)) result }
 {
     let mut between = String::new(alloc);
-    append_piece(alloc, separator, escaping, &mut between)?;
+    append_piece(separator, escaping, &mut between)?;
     join_between(alloc, items, &between, escaping)
 }
 
@@ -84,14 +85,13 @@ fn join_between(
     let Some((first, rest)) = items.split_first() else {
         return Ok(joined);
     };
-    append_piece(alloc, first, escaping, &mut joined)?;
-    append_led(alloc, between, rest, escaping, &mut joined)?;
+    append_piece(first, escaping, &mut joined)?;
+    append_led(between, rest, escaping, &mut joined)?;
     Ok(joined)
 }
 
 /// Appends each item's piece behind the separator's.
 fn append_led(
-    alloc: Global,
     between: &str,
     items: &[Value],
     escaping: bool,
@@ -101,24 +101,20 @@ fn append_led(
 {
     for item in items {
         into.push_str(between)?;
-        append_piece(alloc, item, escaping, into)?;
+        append_piece(item, escaping, into)?;
     }
     Ok(())
 }
 
-fn append_piece(
-    alloc: Global,
-    value: &Value,
-    escaping: bool,
-    into: &mut String,
-) -> Result<(), ValueError>
+fn append_piece(value: &Value, escaping: bool, into: &mut String) -> Result<(), ValueError>
     ensures { Appends (piece escaping (view value.now)) (string_bytes into.old) result (string_bytes into.new) }
 {
-    match value {
-        Value::Markup(text) => into.push_str(text)?,
-        Value::Text(text) => append_text(text, escaping, into)?,
-        _ => append_text(&value.printed(alloc)?, escaping, into)?,
+    if let Value::Markup(text) = value {
+        into.push_str(text.as_str())?;
+        return Ok(());
     }
+    let mut buffer = Buffer::new();
+    append_text(value.shown(&mut buffer)?, escaping, into)?;
     Ok(())
 }
 

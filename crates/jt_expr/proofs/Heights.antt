@@ -11,7 +11,7 @@ use Rattle.jt_expr.specs.Gives.{Gives, parts_view}
 use Rattle.jt_expr.proofs.Sound.{read_is_spelled, row_sound, items_plain, entries_keyed}
 
 pub height_of_inner : (n : ℕ) (k : Level) (ts new : Tokens) (r : Result Part ExprError) → Gives (read n k ts) r new → IfOk r (λ p. p.height ≤ n)
-height_of_inner n k ts new (Ok p) e = omega (arith, p.counted, (read_is_spelled n k (expr_view p.expr) ts new e).3)
+height_of_inner n k ts new (Ok p) e = omega (arith, p.counted, (read_is_spelled n k (expr_view p.expr.value) ts new e).3)
 height_of_inner n k ts new (Err x) e = tt
 
 pub height_of_row : (n : ℕ) (w : Row) (ts new : Tokens) (p : Parts) → row (read n) (suc n) (length ts) w ts ≡ Ok (parts_view p, new) → p.height ≤ n

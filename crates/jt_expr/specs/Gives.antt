@@ -27,7 +27,7 @@ use Rattle.jt_expr.specs.Cursor.{ahead, Refuses}
 
 -- a tree, as the reader has it
 abbrev pub Gives : Outcome Expr → Result Part ExprError → Tokens → Type 0
-Gives o (Ok p) new = o ≡ Ok (expr_view p.expr, new)
+Gives o (Ok p) new = o ≡ Ok (expr_view p.expr.value, new)
 Gives o (Err x) new = Refuses o x
 
 abbrev pub parts_view : Parts → grammar.Parts
@@ -38,7 +38,7 @@ GivesParts o (Ok p) new = o ≡ Ok (parts_view p, new)
 GivesParts o (Err x) new = Refuses o x
 
 abbrev pub keyed_view : Keyed → Option Text × Expr
-keyed_view k = (option_map string_bytes k.key, expr_view k.part.expr)
+keyed_view k = (option_map string_bytes k.key, expr_view k.part.expr.value)
 
 abbrev pub GivesKeyed : Outcome (Option Text × Expr) → Result Keyed ExprError → Tokens → Type 0
 GivesKeyed o (Ok k) new = o ≡ Ok (keyed_view k, new)
@@ -82,7 +82,7 @@ pub record Nests (below : ℕ) (pre : Global → MutBor Cursor → ℕ → Form 
 
 -- the new tree, if its levels are allowed
 abbrev pub Fits : ℕ → Expr → Result Part ExprError → Type 0
-Fits n t (Ok p) = (expr_view p.expr ≡ t) × (levels t ≤ n)
+Fits n t (Ok p) = (expr_view p.expr.value ≡ t) × (levels t ≤ n)
 Fits n t (Err e.Syntax) = ⊥
 Fits n t (Err e.TooDeep) = n < levels t
 Fits n t (Err e.UnknownFilter) = ⊥
@@ -91,8 +91,8 @@ Fits n t (Err e.NoMemory) = Unit {0}
 
 -- a step from a tree
 abbrev pub GivesStep : Outcome (Option Expr) → Expr → Result Step ExprError → Tokens → Type 0
-GivesStep o left (Ok (Grown p)) new = o ≡ Ok (Some (expr_view p.expr), new)
-GivesStep o left (Ok (Ended p)) new = (o ≡ Ok (None, new)) × (expr_view p.expr ≡ left)
+GivesStep o left (Ok (Grown p)) new = o ≡ Ok (Some (expr_view p.expr.value), new)
+GivesStep o left (Ok (Ended p)) new = (o ≡ Ok (None, new)) × (expr_view p.expr.value ≡ left)
 GivesStep o left (Err x) new = Refuses o x
 
 abbrev pub GivesWhole : Result Expr Fault → Result Tree ExprError → Type 0

@@ -17,7 +17,7 @@ use crate::error::ExprError;
 use crate::part::{Part, Parts};
 use crate::rows::{Element, Form, Keyed, Row, Step};
 use crate::tree;
-use crate::tree::{BinaryOperator, Expr, Literal, UnaryOperator};
+use crate::tree::{BinaryOperator, Literal, UnaryOperator};
 use crate::words::{is_reserved, literal_of};
 use jt_scan::{Sign, Token, text_value};
 use std::alloc::Global;
@@ -44,7 +44,7 @@ impl<F: Fn(Global, &mut Cursor<'_>, usize, Form) -> Result<Part, ExprError>> Gra
     /// `a.k`
     fn attribute(&self, value: Part, name: &str) -> Result<Part, ExprError>
         requires { Nests self.now.below (F.pre self.now.inner) (F.post self.now.inner) }
-        ensures { Fits (suc self.now.below) (trees.attribute (expr_view value.expr) (encode_utf8_all (chars name.now))) result }
+        ensures { Fits (suc self.now.below) (trees.attribute (expr_view value.expr.value) (encode_utf8_all (chars name.now))) result }
     {
         let inside = value.height;
         if inside > self.below {
@@ -59,7 +59,7 @@ impl<F: Fn(Global, &mut Cursor<'_>, usize, Form) -> Result<Part, ExprError>> Gra
     /// `a[b]`
     fn item(&self, value: Part, index: Part) -> Result<Part, ExprError>
         requires { Nests self.now.below (F.pre self.now.inner) (F.post self.now.inner) }
-        ensures { Fits (suc self.now.below) (trees.item (expr_view value.expr) (expr_view index.expr)) result }
+        ensures { Fits (suc self.now.below) (trees.item (expr_view value.expr.value) (expr_view index.expr.value)) result }
     {
         let inside = value.height.max(index.height);
         if inside > self.below {
@@ -74,7 +74,7 @@ impl<F: Fn(Global, &mut Cursor<'_>, usize, Form) -> Result<Part, ExprError>> Gra
     /// `a(..)`
     fn call(&self, value: Part, arguments: Parts) -> Result<Part, ExprError>
         requires { Nests self.now.below (F.pre self.now.inner) (F.post self.now.inner) }
-        ensures { Fits (suc self.now.below) (trees.call (expr_view value.expr) (exprs_view arguments.items.items) (pairs_view arguments.pairs.items)) result }
+        ensures { Fits (suc self.now.below) (trees.call (expr_view value.expr.value) (exprs_view arguments.items.items) (pairs_view arguments.pairs.items)) result }
     {
         let inside = value.height.max(arguments.height);
         if inside > self.below {
@@ -89,7 +89,7 @@ impl<F: Fn(Global, &mut Cursor<'_>, usize, Form) -> Result<Part, ExprError>> Gra
     /// `a|f(..)`
     fn filter(&self, value: Part, name: &str, arguments: Parts) -> Result<Part, ExprError>
         requires { Nests self.now.below (F.pre self.now.inner) (F.post self.now.inner) }
-        ensures { Fits (suc self.now.below) (trees.filter (expr_view value.expr) (encode_utf8_all (chars name.now)) (exprs_view arguments.items.items) (pairs_view arguments.pairs.items)) result }
+        ensures { Fits (suc self.now.below) (trees.filter (expr_view value.expr.value) (encode_utf8_all (chars name.now)) (exprs_view arguments.items.items) (pairs_view arguments.pairs.items)) result }
     {
         let inside = value.height.max(arguments.height);
         if inside > self.below {
@@ -116,7 +116,7 @@ impl<F: Fn(Global, &mut Cursor<'_>, usize, Form) -> Result<Part, ExprError>> Gra
         arguments: Parts,
     ) -> Result<Part, ExprError>
         requires { Nests self.now.below (F.pre self.now.inner) (F.post self.now.inner) }
-        ensures { Fits (suc self.now.below) (trees.test (expr_view value.expr) negated (encode_utf8_all (chars name.now)) (exprs_view arguments.items.items) (pairs_view arguments.pairs.items)) result }
+        ensures { Fits (suc self.now.below) (trees.test (expr_view value.expr.value) negated (encode_utf8_all (chars name.now)) (exprs_view arguments.items.items) (pairs_view arguments.pairs.items)) result }
     {
         let inside = value.height.max(arguments.height);
         if inside > self.below {
@@ -138,7 +138,7 @@ impl<F: Fn(Global, &mut Cursor<'_>, usize, Form) -> Result<Part, ExprError>> Gra
     /// An operator and its operands.
     fn binary(&self, op: BinaryOperator, left: Part, right: Part) -> Result<Part, ExprError>
         requires { Nests self.now.below (F.pre self.now.inner) (F.post self.now.inner) }
-        ensures { Fits (suc self.now.below) (trees.binary op (expr_view left.expr) (expr_view right.expr)) result }
+        ensures { Fits (suc self.now.below) (trees.binary op (expr_view left.expr.value) (expr_view right.expr.value)) result }
     {
         let inside = left.height.max(right.height);
         if inside > self.below {
@@ -153,7 +153,7 @@ impl<F: Fn(Global, &mut Cursor<'_>, usize, Form) -> Result<Part, ExprError>> Gra
     /// `a if c`
     fn when(&self, condition: Part, value: Part) -> Result<Part, ExprError>
         requires { Nests self.now.below (F.pre self.now.inner) (F.post self.now.inner) }
-        ensures { Fits (suc self.now.below) (trees.when (expr_view condition.expr) (expr_view value.expr)) result }
+        ensures { Fits (suc self.now.below) (trees.when (expr_view condition.expr.value) (expr_view value.expr.value)) result }
     {
         let inside = condition.height.max(value.height);
         if inside > self.below {
@@ -168,7 +168,7 @@ impl<F: Fn(Global, &mut Cursor<'_>, usize, Form) -> Result<Part, ExprError>> Gra
     /// `a if c else b`
     fn choice(&self, condition: Part, value: Part, other: Part) -> Result<Part, ExprError>
         requires { Nests self.now.below (F.pre self.now.inner) (F.post self.now.inner) }
-        ensures { Fits (suc self.now.below) (trees.choice (expr_view condition.expr) (expr_view value.expr) (expr_view other.expr)) result }
+        ensures { Fits (suc self.now.below) (trees.choice (expr_view condition.expr.value) (expr_view value.expr.value) (expr_view other.expr.value)) result }
     {
         let inside = condition.height.max(value.height.max(other.height));
         if inside > self.below {
@@ -274,7 +274,7 @@ impl<F: Fn(Global, &mut Cursor<'_>, usize, Form) -> Result<Part, ExprError>> Gra
     {
         let parts = self.row(cursor, Row::Items)?;
         Ok(Part {
-            expr: tree::make_list(parts.items),
+            expr: tree::make_list(self.alloc, parts.items)?,
             height: parts.height + 1,
         })
     }
@@ -287,7 +287,7 @@ impl<F: Fn(Global, &mut Cursor<'_>, usize, Form) -> Result<Part, ExprError>> Gra
     {
         let parts = self.row(cursor, Row::Entries)?;
         Ok(Part {
-            expr: tree::make_map(parts.pairs),
+            expr: tree::make_map(self.alloc, parts.pairs)?,
             height: parts.height + 1,
         })
     }
@@ -299,7 +299,7 @@ impl<F: Fn(Global, &mut Cursor<'_>, usize, Form) -> Result<Part, ExprError>> Gra
     {
         if let Some(literal) = literal_of(word) {
             return Ok(Part {
-                expr: Expr::Constant(literal),
+                expr: tree::make_constant(self.alloc, literal)?,
                 height: 1,
             });
         }
@@ -321,13 +321,16 @@ impl<F: Fn(Global, &mut Cursor<'_>, usize, Form) -> Result<Part, ExprError>> Gra
         match cursor.take() {
             Some(Token::Name(word)) => self.word(cursor, word),
             Some(Token::Number(value)) => Ok(Part {
-                expr: Expr::Constant(Literal::Number(value)),
+                expr: tree::make_constant(self.alloc, Literal::Number(value))?,
                 height: 1,
             }),
-            Some(Token::Text(raw)) => Ok(Part {
-                expr: Expr::Constant(Literal::Text(text_value(self.alloc, raw)?)),
-                height: 1,
-            }),
+            Some(Token::Text(raw)) => {
+                let text = text_value(self.alloc, raw)?;
+                Ok(Part {
+                    expr: tree::make_constant(self.alloc, Literal::Text(text))?,
+                    height: 1,
+                })
+            }
             Some(Token::Sign(Sign::LeftParen)) => self.group(cursor),
             Some(Token::Sign(Sign::LeftBracket)) => self.list(cursor),
             Some(Token::Sign(Sign::LeftBrace)) => self.map(cursor),
@@ -339,7 +342,7 @@ impl<F: Fn(Global, &mut Cursor<'_>, usize, Form) -> Result<Part, ExprError>> Gra
     #[tactic(auto, unfolding(crate::specs::Reading::postfix_step))]
     fn postfix_step(&self, cursor: &mut Cursor<'_>, left: Part) -> Result<Step, ExprError>
         requires { Nests self.now.below (F.pre self.now.inner) (F.post self.now.inner) }
-        ensures { GivesStep (spec.postfix_step (spec.read self.now.below) (suc self.now.below) (expr_view left.expr) (ahead cursor.old)) (expr_view left.expr) result (ahead cursor.new) }
+        ensures { GivesStep (spec.postfix_step (spec.read self.now.below) (suc self.now.below) (expr_view left.expr.value) (ahead cursor.old)) (expr_view left.expr.value) result (ahead cursor.new) }
     {
         if cursor.eat(Sign::Dot) {
             let name = cursor.word()?;
@@ -436,7 +439,7 @@ impl<F: Fn(Global, &mut Cursor<'_>, usize, Form) -> Result<Part, ExprError>> Gra
     #[tactic(auto, unfolding(crate::specs::Reading::filter_step))]
     fn filter_step(&self, cursor: &mut Cursor<'_>, left: Part) -> Result<Step, ExprError>
         requires { Nests self.now.below (F.pre self.now.inner) (F.post self.now.inner) }
-        ensures { GivesStep (spec.filter_step (spec.read self.now.below) (suc self.now.below) (expr_view left.expr) (ahead cursor.old)) (expr_view left.expr) result (ahead cursor.new) }
+        ensures { GivesStep (spec.filter_step (spec.read self.now.below) (suc self.now.below) (expr_view left.expr.value) (ahead cursor.old)) (expr_view left.expr.value) result (ahead cursor.new) }
     {
         let name = cursor.name()?;
         let arguments = self.arguments(cursor)?;
@@ -447,7 +450,7 @@ impl<F: Fn(Global, &mut Cursor<'_>, usize, Form) -> Result<Part, ExprError>> Gra
     #[tactic(auto, unfolding(crate::specs::Reading::test_step))]
     fn test_step(&self, cursor: &mut Cursor<'_>, left: Part) -> Result<Step, ExprError>
         requires { Nests self.now.below (F.pre self.now.inner) (F.post self.now.inner) }
-        ensures { GivesStep (spec.test_step (spec.read self.now.below) (suc self.now.below) (spec.says (codes "not") (ahead cursor.old)) (expr_view left.expr) (ahead cursor.old)) (expr_view left.expr) result (ahead cursor.new) }
+        ensures { GivesStep (spec.test_step (spec.read self.now.below) (suc self.now.below) (spec.says (codes "not") (ahead cursor.old)) (expr_view left.expr.value) (ahead cursor.old)) (expr_view left.expr.value) result (ahead cursor.new) }
     {
         let negated = cursor.eat_word("not");
         let name = cursor.word()?;
@@ -459,7 +462,7 @@ impl<F: Fn(Global, &mut Cursor<'_>, usize, Form) -> Result<Part, ExprError>> Gra
     #[tactic(auto, unfolding(crate::specs::Reading::postscript_step))]
     fn postscript_step(&self, cursor: &mut Cursor<'_>, left: Part) -> Result<Step, ExprError>
         requires { Nests self.now.below (F.pre self.now.inner) (F.post self.now.inner) }
-        ensures { GivesStep (spec.postscript_step (spec.read self.now.below) (suc self.now.below) (expr_view left.expr) (ahead cursor.old)) (expr_view left.expr) result (ahead cursor.new) }
+        ensures { GivesStep (spec.postscript_step (spec.read self.now.below) (suc self.now.below) (expr_view left.expr.value) (ahead cursor.old)) (expr_view left.expr.value) result (ahead cursor.new) }
     {
         if cursor.eat(Sign::Pipe) {
             self.filter_step(cursor, left)
@@ -490,7 +493,7 @@ impl<F: Fn(Global, &mut Cursor<'_>, usize, Form) -> Result<Part, ExprError>> Gra
     #[tactic(auto, unfolding(crate::specs::Reading::chain_step))]
     fn power_step(&self, cursor: &mut Cursor<'_>, left: Part) -> Result<Step, ExprError>
         requires { Nests self.now.below (F.pre self.now.inner) (F.post self.now.inner) }
-        ensures { GivesStep (spec.chain_step (spec.read self.now.below) (suc self.now.below) grammar.power (spec.read_postscript (spec.read self.now.below) (suc self.now.below)) (expr_view left.expr) (ahead cursor.old)) (expr_view left.expr) result (ahead cursor.new) }
+        ensures { GivesStep (spec.chain_step (spec.read self.now.below) (suc self.now.below) grammar.power (spec.read_postscript (spec.read self.now.below) (suc self.now.below)) (expr_view left.expr.value) (ahead cursor.old)) (expr_view left.expr.value) result (ahead cursor.new) }
     {
         let Some(op) = cursor.power_operator() else {
             return Ok(Step::Ended(left));
@@ -519,7 +522,7 @@ impl<F: Fn(Global, &mut Cursor<'_>, usize, Form) -> Result<Part, ExprError>> Gra
     #[tactic(auto, unfolding(crate::specs::Reading::chain_step))]
     fn product_step(&self, cursor: &mut Cursor<'_>, left: Part) -> Result<Step, ExprError>
         requires { Nests self.now.below (F.pre self.now.inner) (F.post self.now.inner) }
-        ensures { GivesStep (spec.chain_step (spec.read self.now.below) (suc self.now.below) grammar.product (spec.read_power (spec.read self.now.below) (suc self.now.below)) (expr_view left.expr) (ahead cursor.old)) (expr_view left.expr) result (ahead cursor.new) }
+        ensures { GivesStep (spec.chain_step (spec.read self.now.below) (suc self.now.below) grammar.product (spec.read_power (spec.read self.now.below) (suc self.now.below)) (expr_view left.expr.value) (ahead cursor.old)) (expr_view left.expr.value) result (ahead cursor.new) }
     {
         let Some(op) = cursor.product_operator() else {
             return Ok(Step::Ended(left));
@@ -548,7 +551,7 @@ impl<F: Fn(Global, &mut Cursor<'_>, usize, Form) -> Result<Part, ExprError>> Gra
     #[tactic(auto, unfolding(crate::specs::Reading::chain_step))]
     fn concatenation_step(&self, cursor: &mut Cursor<'_>, left: Part) -> Result<Step, ExprError>
         requires { Nests self.now.below (F.pre self.now.inner) (F.post self.now.inner) }
-        ensures { GivesStep (spec.chain_step (spec.read self.now.below) (suc self.now.below) grammar.concatenation (spec.read_product (spec.read self.now.below) (suc self.now.below)) (expr_view left.expr) (ahead cursor.old)) (expr_view left.expr) result (ahead cursor.new) }
+        ensures { GivesStep (spec.chain_step (spec.read self.now.below) (suc self.now.below) grammar.concatenation (spec.read_product (spec.read self.now.below) (suc self.now.below)) (expr_view left.expr.value) (ahead cursor.old)) (expr_view left.expr.value) result (ahead cursor.new) }
     {
         let Some(op) = cursor.concatenation_operator() else {
             return Ok(Step::Ended(left));
@@ -577,7 +580,7 @@ impl<F: Fn(Global, &mut Cursor<'_>, usize, Form) -> Result<Part, ExprError>> Gra
     #[tactic(auto, unfolding(crate::specs::Reading::chain_step))]
     fn sum_step(&self, cursor: &mut Cursor<'_>, left: Part) -> Result<Step, ExprError>
         requires { Nests self.now.below (F.pre self.now.inner) (F.post self.now.inner) }
-        ensures { GivesStep (spec.chain_step (spec.read self.now.below) (suc self.now.below) grammar.sum (spec.read_concatenation (spec.read self.now.below) (suc self.now.below)) (expr_view left.expr) (ahead cursor.old)) (expr_view left.expr) result (ahead cursor.new) }
+        ensures { GivesStep (spec.chain_step (spec.read self.now.below) (suc self.now.below) grammar.sum (spec.read_concatenation (spec.read self.now.below) (suc self.now.below)) (expr_view left.expr.value) (ahead cursor.old)) (expr_view left.expr.value) result (ahead cursor.new) }
     {
         let Some(op) = cursor.sum_operator() else {
             return Ok(Step::Ended(left));
@@ -632,7 +635,7 @@ impl<F: Fn(Global, &mut Cursor<'_>, usize, Form) -> Result<Part, ExprError>> Gra
     #[tactic(auto, unfolding(crate::specs::Reading::chain_step))]
     fn conjunction_step(&self, cursor: &mut Cursor<'_>, left: Part) -> Result<Step, ExprError>
         requires { Nests self.now.below (F.pre self.now.inner) (F.post self.now.inner) }
-        ensures { GivesStep (spec.chain_step (spec.read self.now.below) (suc self.now.below) grammar.conjunction (spec.read_inversion (spec.read self.now.below) (suc self.now.below)) (expr_view left.expr) (ahead cursor.old)) (expr_view left.expr) result (ahead cursor.new) }
+        ensures { GivesStep (spec.chain_step (spec.read self.now.below) (suc self.now.below) grammar.conjunction (spec.read_inversion (spec.read self.now.below) (suc self.now.below)) (expr_view left.expr.value) (ahead cursor.old)) (expr_view left.expr.value) result (ahead cursor.new) }
     {
         let Some(op) = cursor.and_operator() else {
             return Ok(Step::Ended(left));
@@ -661,7 +664,7 @@ impl<F: Fn(Global, &mut Cursor<'_>, usize, Form) -> Result<Part, ExprError>> Gra
     #[tactic(auto, unfolding(crate::specs::Reading::chain_step))]
     fn disjunction_step(&self, cursor: &mut Cursor<'_>, left: Part) -> Result<Step, ExprError>
         requires { Nests self.now.below (F.pre self.now.inner) (F.post self.now.inner) }
-        ensures { GivesStep (spec.chain_step (spec.read self.now.below) (suc self.now.below) grammar.disjunction (spec.read_conjunction (spec.read self.now.below) (suc self.now.below)) (expr_view left.expr) (ahead cursor.old)) (expr_view left.expr) result (ahead cursor.new) }
+        ensures { GivesStep (spec.chain_step (spec.read self.now.below) (suc self.now.below) grammar.disjunction (spec.read_conjunction (spec.read self.now.below) (suc self.now.below)) (expr_view left.expr.value) (ahead cursor.old)) (expr_view left.expr.value) result (ahead cursor.new) }
     {
         let Some(op) = cursor.or_operator() else {
             return Ok(Step::Ended(left));
@@ -695,7 +698,7 @@ impl<F: Fn(Global, &mut Cursor<'_>, usize, Form) -> Result<Part, ExprError>> Gra
         condition: Part,
     ) -> Result<Part, ExprError>
         requires { Nests self.now.below (F.pre self.now.inner) (F.post self.now.inner) }
-        ensures { Gives (spec.else_part (spec.read self.now.below) (suc self.now.below) (expr_view value.expr) (expr_view condition.expr) (ahead cursor.old)) result (ahead cursor.new) }
+        ensures { Gives (spec.else_part (spec.read self.now.below) (suc self.now.below) (expr_view value.expr.value) (expr_view condition.expr.value) (ahead cursor.old)) result (ahead cursor.new) }
     {
         if !cursor.eat_word("else") {
             return self.when(condition, value);
@@ -708,7 +711,7 @@ impl<F: Fn(Global, &mut Cursor<'_>, usize, Form) -> Result<Part, ExprError>> Gra
     #[tactic(auto, unfolding(crate::specs::Reading::if_part))]
     fn if_part(&self, cursor: &mut Cursor<'_>, value: Part) -> Result<Part, ExprError>
         requires { Nests self.now.below (F.pre self.now.inner) (F.post self.now.inner) }
-        ensures { Gives (spec.if_part (spec.read self.now.below) (suc self.now.below) (expr_view value.expr) (ahead cursor.old)) result (ahead cursor.new) }
+        ensures { Gives (spec.if_part (spec.read self.now.below) (suc self.now.below) (expr_view value.expr.value) (ahead cursor.old)) result (ahead cursor.new) }
     {
         if !cursor.eat_word("if") {
             return Ok(value);

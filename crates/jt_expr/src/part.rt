@@ -9,9 +9,9 @@ use crate::tree::Expr;
 /// A tree with its levels.
 #[derive(Drop)]
 pub struct Part {
-    pub expr: Expr,
+    pub expr: Box<Expr>,
     pub height: usize,
-    ghost counted: { height ≡ levels (expr_view expr) },
+    ghost counted: { height ≡ levels (expr_view expr.value) },
 }
 
 /// The parts of a row: those without a key, and those with one.

@@ -30,20 +30,20 @@ impl Parts {
 
     /// One part without a key behind the others.
     fn push_item(&mut self, part: Part) -> Result<(), AllocError>
-        ensures { OnOk result (parts_view self.new ≡ then_part (parts_view self.old) (None, expr_view part.expr)) }
+        ensures { OnOk result (parts_view self.new ≡ then_part (parts_view self.old) (None, expr_view part.expr.value)) }
     {
         let Part { expr, height } = part;
-        self.items.push(expr)?;
+        self.items.push(Box::into_inner(expr))?;
         self.height = self.height.max(height);
         Ok(())
     }
 
     /// One part with a key behind the others.
     fn push_pair(&mut self, key: String, part: Part) -> Result<(), AllocError>
-        ensures { OnOk result (parts_view self.new ≡ then_part (parts_view self.old) (Some (string_bytes key), expr_view part.expr)) }
+        ensures { OnOk result (parts_view self.new ≡ then_part (parts_view self.old) (Some (string_bytes key), expr_view part.expr.value)) }
     {
         let Part { expr, height } = part;
-        self.pairs.push((key, expr))?;
+        self.pairs.push((key, Box::into_inner(expr)))?;
         self.height = self.height.max(height);
         Ok(())
     }

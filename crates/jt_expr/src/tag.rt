@@ -46,5 +46,5 @@ fn read_all(alloc: Global, tokens: &[Token<'_>], limit: usize) -> Result<Expr, E
     if rest.left() > 0 {
         return Err(ExprError::Syntax);
     }
-    Ok(expr)
+    Ok(Box::into_inner(expr))
 }

@@ -2,7 +2,7 @@
 
 ghost use Rattle.std.specs.Prelude.{◌≡◌, IfOk};
 ghost use Rattle.jt_expr.specs.Trees as trees;
-ghost use Rattle.jt_expr.specs.View.{expr_view, exprs_view, pairs_view};
+ghost use Rattle.jt_expr.specs.View.{literal_view, expr_view, exprs_view, pairs_view};
 ghost use Rattle.std.specs.Prelude.{string_bytes, encode_utf8_all};
 ghost use Rattle.std.specs.Str.{chars};
 
@@ -111,108 +111,118 @@ pub fn copy_of(alloc: Global, text: &str) -> Result<String, AllocError>
     String::from_str(alloc, text)
 }
 
-pub fn make_name(alloc: Global, text: &str) -> Result<Expr, AllocError>
-    ensures { IfOk result (λ e. expr_view e ≡ trees.name (encode_utf8_all (chars text.now))) }
+pub fn make_constant(alloc: Global, literal: Literal) -> Result<Box<Expr>, AllocError>
+    ensures { IfOk result (λ e. expr_view e.value ≡ trees.constant (literal_view literal)) }
 {
-    Ok(Expr::Name(copy_of(alloc, text)?))
+    Ok(Box::new(alloc, Expr::Constant(literal))?)
 }
 
-pub fn make_group(alloc: Global, inner: Expr) -> Result<Expr, AllocError>
-    ensures { IfOk result (λ e. expr_view e ≡ trees.group (expr_view inner)) }
+pub fn make_name(alloc: Global, text: &str) -> Result<Box<Expr>, AllocError>
+    ensures { IfOk result (λ e. expr_view e.value ≡ trees.name (encode_utf8_all (chars text.now))) }
 {
-    Ok(Expr::Group(Box::new(alloc, inner)?))
+    let name = copy_of(alloc, text)?;
+    Ok(Box::new(alloc, Expr::Name(name))?)
 }
 
-pub fn make_list(items: Vec<Expr>) -> Expr
-    ensures { expr_view result ≡ trees.list_of (exprs_view items.items) }
+pub fn make_group(alloc: Global, inner: Box<Expr>) -> Result<Box<Expr>, AllocError>
+    ensures { IfOk result (λ e. expr_view e.value ≡ trees.group (expr_view inner.value)) }
 {
-    Expr::List(items)
+    Ok(Box::new(alloc, Expr::Group(inner))?)
 }
 
-pub fn make_map(pairs: Vec<(String, Expr)>) -> Expr
-    ensures { expr_view result ≡ trees.map_of (pairs_view pairs.items) }
+pub fn make_list(alloc: Global, items: Vec<Expr>) -> Result<Box<Expr>, AllocError>
+    ensures { IfOk result (λ e. expr_view e.value ≡ trees.list_of (exprs_view items.items)) }
 {
-    Expr::Map(pairs)
+    Ok(Box::new(alloc, Expr::List(items))?)
 }
 
-pub fn make_attribute(alloc: Global, value: Expr, text: &str) -> Result<Expr, AllocError>
-    ensures { IfOk result (λ e. expr_view e ≡ trees.attribute (expr_view value) (encode_utf8_all (chars text.now))) }
+pub fn make_map(alloc: Global, pairs: Vec<(String, Expr)>) -> Result<Box<Expr>, AllocError>
+    ensures { IfOk result (λ e. expr_view e.value ≡ trees.map_of (pairs_view pairs.items)) }
 {
-    Ok(Expr::Attribute(Box::new(alloc, value)?, copy_of(alloc, text)?))
+    Ok(Box::new(alloc, Expr::Map(pairs))?)
 }
 
-pub fn make_item(alloc: Global, value: Expr, index: Expr) -> Result<Expr, AllocError>
-    ensures { IfOk result (λ e. expr_view e ≡ trees.item (expr_view value) (expr_view index)) }
+pub fn make_attribute(alloc: Global, a: Box<Expr>, text: &str) -> Result<Box<Expr>, AllocError>
+    ensures { IfOk result (λ e. expr_view e.value ≡ trees.attribute (expr_view a.value) (encode_utf8_all (chars text.now))) }
 {
-    Ok(Expr::Item(Box::new(alloc, value)?, Box::new(alloc, index)?))
+    let name = copy_of(alloc, text)?;
+    Ok(Box::new(alloc, Expr::Attribute(a, name))?)
+}
+
+pub fn make_item(alloc: Global, a: Box<Expr>, index: Box<Expr>) -> Result<Box<Expr>, AllocError>
+    ensures { IfOk result (λ e. expr_view e.value ≡ trees.item (expr_view a.value) (expr_view index.value)) }
+{
+    Ok(Box::new(alloc, Expr::Item(a, index))?)
 }
 
 pub fn make_call(
     alloc: Global,
-    value: Expr,
+    a: Box<Expr>,
     items: Vec<Expr>,
     pairs: Vec<(String, Expr)>,
-) -> Result<Expr, AllocError>
-    ensures { IfOk result (λ e. expr_view e ≡ trees.call (expr_view value) (exprs_view items.items) (pairs_view pairs.items)) }
+) -> Result<Box<Expr>, AllocError>
+    ensures { IfOk result (λ e. expr_view e.value ≡ trees.call (expr_view a.value) (exprs_view items.items) (pairs_view pairs.items)) }
 {
-    Ok(Expr::Call(Box::new(alloc, value)?, items, pairs))
+    Ok(Box::new(alloc, Expr::Call(a, items, pairs))?)
 }
 
 pub fn make_filter(
     alloc: Global,
-    value: Expr,
+    a: Box<Expr>,
     text: &str,
     items: Vec<Expr>,
     pairs: Vec<(String, Expr)>,
-) -> Result<Expr, AllocError>
-    ensures { IfOk result (λ e. expr_view e ≡ trees.filter (expr_view value) (encode_utf8_all (chars text.now)) (exprs_view items.items) (pairs_view pairs.items)) }
+) -> Result<Box<Expr>, AllocError>
+    ensures { IfOk result (λ e. expr_view e.value ≡ trees.filter (expr_view a.value) (encode_utf8_all (chars text.now)) (exprs_view items.items) (pairs_view pairs.items)) }
 {
-    Ok(Expr::Filter(Box::new(alloc, value)?, copy_of(alloc, text)?, items, pairs))
+    let name = copy_of(alloc, text)?;
+    Ok(Box::new(alloc, Expr::Filter(a, name, items, pairs))?)
 }
 
 pub fn make_test(
     alloc: Global,
-    value: Expr,
+    a: Box<Expr>,
     negated: bool,
     text: &str,
     items: Vec<Expr>,
     pairs: Vec<(String, Expr)>,
-) -> Result<Expr, AllocError>
-    ensures { IfOk result (λ e. expr_view e ≡ trees.test (expr_view value) negated (encode_utf8_all (chars text.now)) (exprs_view items.items) (pairs_view pairs.items)) }
+) -> Result<Box<Expr>, AllocError>
+    ensures { IfOk result (λ e. expr_view e.value ≡ trees.test (expr_view a.value) negated (encode_utf8_all (chars text.now)) (exprs_view items.items) (pairs_view pairs.items)) }
 {
-    Ok(Expr::Test(
-        Box::new(alloc, value)?,
-        negated,
-        copy_of(alloc, text)?,
-        items,
-        pairs,
-    ))
+    let name = copy_of(alloc, text)?;
+    Ok(Box::new(alloc, Expr::Test(a, negated, name, items, pairs))?)
 }
 
-pub fn make_unary(alloc: Global, op: UnaryOperator, value: Expr) -> Result<Expr, AllocError>
-    ensures { IfOk result (λ e. expr_view e ≡ trees.unary op (expr_view value)) }
+pub fn make_unary(alloc: Global, op: UnaryOperator, a: Box<Expr>) -> Result<Box<Expr>, AllocError>
+    ensures { IfOk result (λ e. expr_view e.value ≡ trees.unary op (expr_view a.value)) }
 {
-    Ok(Expr::Unary(op, Box::new(alloc, value)?))
+    Ok(Box::new(alloc, Expr::Unary(op, a))?)
 }
 
-pub fn make_binary(alloc: Global, op: BinaryOperator, a: Expr, b: Expr) -> Result<Expr, AllocError>
-    ensures { IfOk result (λ e. expr_view e ≡ trees.binary op (expr_view a) (expr_view b)) }
+pub fn make_binary(
+    alloc: Global,
+    op: BinaryOperator,
+    a: Box<Expr>,
+    b: Box<Expr>,
+) -> Result<Box<Expr>, AllocError>
+    ensures { IfOk result (λ e. expr_view e.value ≡ trees.binary op (expr_view a.value) (expr_view b.value)) }
 {
-    Ok(Expr::Binary(op, Box::new(alloc, a)?, Box::new(alloc, b)?))
+    Ok(Box::new(alloc, Expr::Binary(op, a, b))?)
 }
 
-pub fn make_when(alloc: Global, condition: Expr, a: Expr) -> Result<Expr, AllocError>
-    ensures { IfOk result (λ e. expr_view e ≡ trees.when (expr_view condition) (expr_view a)) }
+pub fn make_when(alloc: Global, condition: Box<Expr>, a: Box<Expr>) -> Result<Box<Expr>, AllocError>
+    ensures { IfOk result (λ e. expr_view e.value ≡ trees.when (expr_view condition.value) (expr_view a.value)) }
 {
-    Ok(Expr::When(Box::new(alloc, condition)?, Box::new(alloc, a)?))
+    Ok(Box::new(alloc, Expr::When(condition, a))?)
 }
 
-pub fn make_choice(alloc: Global, condition: Expr, a: Expr, b: Expr) -> Result<Expr, AllocError>
-    ensures { IfOk result (λ e. expr_view e ≡ trees.choice (expr_view condition) (expr_view a) (expr_view b)) }
+pub fn make_choice(
+    alloc: Global,
+    condition: Box<Expr>,
+    a: Box<Expr>,
+    b: Box<Expr>,
+) -> Result<Box<Expr>, AllocError>
+    ensures { IfOk result (λ e. expr_view e.value ≡ trees.choice (expr_view condition.value) (expr_view a.value) (expr_view b.value)) }
 {
-    Ok(Expr::Choice(
-        Box::new(alloc, condition)?,
-        Box::new(alloc, a)?,
-        Box::new(alloc, b)?,
-    ))
+    Ok(Box::new(alloc, Expr::Choice(condition, a, b))?)
 }

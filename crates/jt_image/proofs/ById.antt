@@ -1,4 +1,4 @@
--- The operator and the test of an id, as `by_id` answers them.
+-- The operator, the filter and the test of an id, as `by_id` answers them.
 use Rattle.std.proofs.Common.{◌≡◌, ℕ, Bool, true, false, cond, eqb, List, [], ◌∷◌, Option, Some, None, refl, sym, ap, ◌∙◌}
 use Rattle.std.specs.Prelude.{IfSome}
 use Rattle.std.specs.List.{find}
@@ -8,9 +8,12 @@ use Rattle.jt_ops.specs.declared.op_id.OpId.TheVariants as op
 use Rattle.jt_ops.specs.declared.test_id.TestId.{TestId}
 use Rattle.jt_ops.specs.declared.test_id.TestId.TheVariants as test
 use Rattle.jt_ops.specs.OpTable.{op_id}
+use Rattle.jt_filters.specs.declared.filter_id.FilterId.{FilterId}
+use Rattle.jt_filters.specs.declared.filter_id.FilterId.TheVariants as filter
+use Rattle.jt_filters.specs.FilterTable.{filter_id, filters}
 use Rattle.jt_ops.specs.TestTable.{test_id}
 use Rattle.jt_ops.specs.Tables.{operators, tests}
-use Rattle.jt_image.specs.Ids.{operator_of, test_of}
+use Rattle.jt_image.specs.Ids.{operator_of, filter_of, test_of}
 
 -- what is found passes the test
 find_holds : {X : Type 0} (f : X → Bool) (xs : List X) (x : X) → find f xs ≡ Some x → f x ≡ true
@@ -63,6 +66,26 @@ operator_is a None is only = none (operator_of a) refl
     none : (o : Option OpId) → operator_of a ≡ o → None ≡ o
     none None e = refl
     none (Some x) e = only x (found_operator a x e)
+
+-- ---- filters
+
+has_filter : (x : FilterId) → filter_of (filter_id x) ≡ Some x
+unfolding filter_of
+has_filter filter.Abs = refl
+has_filter x = refl
+
+found_filter : (a : ℕ) (x : FilterId) → filter_of a ≡ Some x → filter_id x ≡ a
+unfolding filter_of
+found_filter a x e = eqb-true (filter_id x) a (find_holds (λ y. eqb (filter_id y) a) filters x e)
+
+-- what answers the filter of an id, and none only where there is none
+pub filter_is : (a : ℕ) (r : Option FilterId) → IfSome r (λ x. filter_id x ≡ a) → ((x : FilterId) → filter_id x ≡ a → r ≡ Some x) → r ≡ filter_of a
+filter_is a (Some x) is only = sym (ap filter_of (sym is) ∙ has_filter x)
+filter_is a None is only = none (filter_of a) refl
+  where
+    none : (o : Option FilterId) → filter_of a ≡ o → None ≡ o
+    none None e = refl
+    none (Some x) e = only x (found_filter a x e)
 
 -- ---- tests
 

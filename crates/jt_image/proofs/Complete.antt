@@ -203,6 +203,8 @@ pub record IsWired (w : Instr) (i : Instruction) : Type 0 where
 wired : (i : Instruction) → IsWired (wire_of i) i
 unfolding known_of instruction_of
 wired (op.Const c) = record { by_op = (op.Const 0, refl); by_a = (op.Const 0, refl); by_b = (op.Const 0, refl); whole = refl }
+wired (op.Load c) = record { by_op = (op.Load 0, refl); by_a = (op.Load 0, refl); by_b = (op.Load 0, refl); whole = refl }
+wired (op.Store c) = record { by_op = (op.Store 0, refl); by_a = (op.Store 0, refl); by_b = (op.Store 0, refl); whole = refl }
 wired (op.GLoad c) = record { by_op = (op.GLoad 0, refl); by_a = (op.GLoad 0, refl); by_b = (op.GLoad 0, refl); whole = refl }
 wired (op.GStore c) = record { by_op = (op.GStore 0, refl); by_a = (op.GStore 0, refl); by_b = (op.GStore 0, refl); whole = refl }
 wired op.Drop = record { by_op = (op.Drop, refl); by_a = (op.Drop, refl); by_b = (op.Drop, refl); whole = refl }
@@ -213,9 +215,20 @@ wired (op.Jump c) = record { by_op = (op.Jump 0, refl); by_a = (op.Jump 0, refl)
 wired (op.JumpIfFalse c) = record { by_op = (op.JumpIfFalse 0, refl); by_a = (op.JumpIfFalse 0, refl); by_b = (op.JumpIfFalse 0, refl); whole = refl }
 wired (op.JumpIfTrue c) = record { by_op = (op.JumpIfTrue 0, refl); by_a = (op.JumpIfTrue 0, refl); by_b = (op.JumpIfTrue 0, refl); whole = refl }
 wired (op.Op a) = record { by_op = (op.Op 0, refl); by_a = (op.Op a, refl); by_b = (op.Op a, refl); whole = refl }
+wired (op.Filter a b c) = record { by_op = (op.Filter 0 0 0, refl); by_a = (op.Filter a 0 0, refl); by_b = (op.Filter a b 0, refl); whole = refl }
 wired (op.Test a b) = record { by_op = (op.Test 0 0, refl); by_a = (op.Test a 0, refl); by_b = (op.Test a b, refl); whole = refl }
 wired (op.MakeList c) = record { by_op = (op.MakeList 0, refl); by_a = (op.MakeList 0, refl); by_b = (op.MakeList 0, refl); whole = refl }
 wired (op.MakeMap c) = record { by_op = (op.MakeMap 0, refl); by_a = (op.MakeMap 0, refl); by_b = (op.MakeMap 0, refl); whole = refl }
+wired op.LoopStart = record { by_op = (op.LoopStart, refl); by_a = (op.LoopStart, refl); by_b = (op.LoopStart, refl); whole = refl }
+wired (op.LoopNext c) = record { by_op = (op.LoopNext 0, refl); by_a = (op.LoopNext 0, refl); by_b = (op.LoopNext 0, refl); whole = refl }
+wired (op.LoopGet a c) = record { by_op = (op.LoopGet 0 0, refl); by_a = (op.LoopGet a 0, refl); by_b = (op.LoopGet a 0, refl); whole = refl }
+wired (op.LoopKeep c) = record { by_op = (op.LoopKeep 0, refl); by_a = (op.LoopKeep 0, refl); by_b = (op.LoopKeep 0, refl); whole = refl }
+wired op.LoopRewind = record { by_op = (op.LoopRewind, refl); by_a = (op.LoopRewind, refl); by_b = (op.LoopRewind, refl); whole = refl }
+wired op.LoopEnd = record { by_op = (op.LoopEnd, refl); by_a = (op.LoopEnd, refl); by_b = (op.LoopEnd, refl); whole = refl }
+wired op.CaptureBegin = record { by_op = (op.CaptureBegin, refl); by_a = (op.CaptureBegin, refl); by_b = (op.CaptureBegin, refl); whole = refl }
+wired (op.CaptureEnd a) = record { by_op = (op.CaptureEnd 0, refl); by_a = (op.CaptureEnd a, refl); by_b = (op.CaptureEnd a, refl); whole = refl }
+wired (op.Unpack c) = record { by_op = (op.Unpack 0, refl); by_a = (op.Unpack 0, refl); by_b = (op.Unpack 0, refl); whole = refl }
+wired (op.Call c) = record { by_op = (op.Call 0, refl); by_a = (op.Call 0, refl); by_b = (op.Call 0, refl); whole = refl }
 wired op.Return = record { by_op = (op.Return, refl); by_a = (op.Return, refl); by_b = (op.Return, refl); whole = refl }
 
 -- the fields of an instruction fit the wire's
@@ -224,6 +237,8 @@ HasSmallWire i = ((wire_of i).b < 2 ^ 16) × ((wire_of i).c < 2 ^ 32)
 
 small_wire : (i : Instruction) → IsInstruction i → HasSmallWire i
 small_wire (op.Const c) h = (omega arith, h)
+small_wire (op.Load c) h = (omega arith, h)
+small_wire (op.Store c) h = (omega arith, h)
 small_wire (op.GLoad c) h = (omega arith, h)
 small_wire (op.GStore c) h = (omega arith, h)
 small_wire op.Drop h = (omega arith, omega arith)
@@ -234,9 +249,20 @@ small_wire (op.Jump c) h = (omega arith, h)
 small_wire (op.JumpIfFalse c) h = (omega arith, h)
 small_wire (op.JumpIfTrue c) h = (omega arith, h)
 small_wire (op.Op a) h = (omega arith, omega arith)
+small_wire (op.Filter a b c) h = (h.1, h.2)
 small_wire (op.Test a b) h = (h.1, omega arith)
 small_wire (op.MakeList c) h = (omega arith, h)
 small_wire (op.MakeMap c) h = (omega arith, h)
+small_wire op.LoopStart h = (omega arith, omega arith)
+small_wire (op.LoopNext c) h = (omega arith, h)
+small_wire (op.LoopGet a c) h = (omega arith, h.1)
+small_wire (op.LoopKeep c) h = (omega arith, h)
+small_wire op.LoopRewind h = (omega arith, omega arith)
+small_wire op.LoopEnd h = (omega arith, omega arith)
+small_wire op.CaptureBegin h = (omega arith, omega arith)
+small_wire (op.CaptureEnd a) h = (omega arith, omega arith)
+small_wire (op.Unpack c) h = (omega arith, h)
+small_wire (op.Call c) h = (omega arith, h)
 small_wire op.Return h = (omega arith, omega arith)
 
 -- the fields of an instruction are read as it

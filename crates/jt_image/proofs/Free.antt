@@ -9,7 +9,7 @@ use Rattle.jt_value.specs.declared.fault.Fault.{Fault}
 use Rattle.jt_image.specs.declared.instruction.Instruction.{Instruction}
 use Rattle.jt_image.specs.Code.{Name, Section, Code}
 use Rattle.jt_image.specs.Config as config
-use Rattle.jt_image.specs.Config.{Budget, Outcome, Machine, Config}
+use Rattle.jt_image.specs.Config.{Budget, Outcome, Caller, Machine, Config}
 use Rattle.jt_image.specs.Step.{Demand, Action, goes_on, ends, faulty, wrong, action, in_tables, strict, cost, fetch}
 use Rattle.jt_image.specs.Run.{Next, Goes, Ends, spared, unless, spends, next_at, limit_of, first_of, limit_of_named, passed, start, then_goes, after, Ending, RunFrom, Run}
 use Rattle.jt_image.specs.Enough.{AtLeast, Enough}
@@ -200,24 +200,24 @@ run_erased k x b o h r = run_from_erased k x b (passed b x k.names) o h r
 -- ---- the tests of the tables change nothing for a typed code
 
 -- an action that is not wrong passed its test
-same_action : (k : Code) (u : Section) (i : Instruction) (m : Machine) (es : List config.Entry) → IsFineAction k es (strict k u i m) → strict k u i m ≡ action k u i m
-same_action k u i m es fine = through (in_tables k i m.state) fine
+same_action : (k : Code) (u : Section) (i : Instruction) (m : Machine) (es : List config.Entry) (above : List Caller) → IsFineAction k es above (strict k u i m) → strict k u i m ≡ action k u i m
+same_action k u i m es above fine = through (in_tables k i m.state) fine
   where
-    through : (b : Bool) → IsFineAction k es (cond b (action k u i m) wrong) → cond b (action k u i m) wrong ≡ action k u i m
+    through : (b : Bool) → IsFineAction k es above (cond b (action k u i m) wrong) → cond b (action k u i m) wrong ≡ action k u i m
     through true f = refl
     through false f = absurd f
 
-same_on : (k : Code) (es : List config.Entry) (a : Action) (go go' : Machine → Free) → IsFineAction k es a → ((m : Machine) → IsFit k m → go m ≡ go' m) → on_action a go ≡ on_action a go'
-same_on k es (goes_on m d) go go' fine h = h m fine.0
-same_on k es (ends t) go go' fine h = refl
-same_on k es (faulty f) go go' fine h = refl
-same_on k es wrong go go' fine h = absurd fine
+same_on : (k : Code) (es : List config.Entry) (above : List Caller) (a : Action) (go go' : Machine → Free) → IsFineAction k es above a → ((m : Machine) → IsFit k m → go m ≡ go' m) → on_action a go ≡ on_action a go'
+same_on k es above (goes_on m d) go go' fine h = h m fine.0
+same_on k es above (ends t) go go' fine h = refl
+same_on k es above (faulty f) go go' fine h = refl
+same_on k es above wrong go go' fine h = absurd fine
 
 same_at : (k : Code) (n : ℕ) (m : Machine) (r : IsReady k m) → ((m : Machine) → IsFit k m → exec_strict k n m ≡ exec k n m) → exec_strict k (suc n) m ≡ exec k (suc n) m
 same_at k n m r h =
     let left : exec_strict k (suc n) m ≡ on_action (strict k r.unit r.instruction m) (exec_strict k n) = ap (λ q. strict_at k q m (exec_strict k n)) r.is in
     let right : exec k (suc n) m ≡ on_action (action k r.unit r.instruction m) (exec k n) = ap (λ q. exec_at k q m (exec k n)) r.is in
-    left ∙ same_on k m.state.entries (strict k r.unit r.instruction m) (exec_strict k n) (exec k n) r.fine h ∙ ap (λ a. on_action a (exec k n)) (same_action k r.unit r.instruction m m.state.entries r.fine) ∙ sym right
+    left ∙ same_on k m.state.entries m.callers (strict k r.unit r.instruction m) (exec_strict k n) (exec k n) r.fine h ∙ ap (λ a. on_action a (exec k n)) (same_action k r.unit r.instruction m m.state.entries m.callers r.fine) ∙ sym right
 
 pub same_exec : (k : Code) (n : ℕ) (m : Machine) → IsFit k m → exec_strict k n m ≡ exec k n m
 same_exec k zero m g = refl

@@ -11,10 +11,11 @@ use Rattle.jt_image.specs.Run.{start, Run}
 use Rattle.jt_image.specs.Enough.{Enough}
 use Rattle.jt_image.specs.FreeRun.{Free, Finished, Failed, start_machine, ComesTo}
 use Rattle.jt_image.specs.Laws.{entry_size, IsSound, HasRuns, CodeLaws}
-use Rattle.jt_image.proofs.Safe.{kinds_of, AreSized, IsFit, IsGood, IsFineStep, step_fine}
+use Rattle.jt_image.proofs.Safe.{kinds_of, AreSized, IsFit, IsGood, depth_of, IsFineStep, step_fine}
 use Rattle.jt_image.proofs.Runs.{start_good, good_after, safe}
 use Rattle.jt_image.proofs.Free.{IsMeant, outcome_of, only_fuel, enough_run, run_erased, same_exec}
 use Rattle.jt_image.proofs.Assembled.{spelled_len}
+use Rattle.jt_image.proofs.WeakJoin.{kinds}
 
 sizes : (n : ℕ) (es : List Entry) → AreSized n es → AllByRecursion (λ e. entry_size e ≤ n) es
 sizes n [] h = tt
@@ -24,10 +25,11 @@ sizes n (capture ∷ es) h = (omega arith, sizes n es h)
 
 sound : (k : Code) (c : Config) → IsGood k c → IsSound k c
 sound k c g = record {
-  not_wrong = λ e. subst (IsFineStep k c.left.fuel) e (step_fine k c g);
+  not_wrong = λ e. subst (IsFineStep k c.left.fuel (depth_of c)) e (step_fine k c g);
   few = omega (arith, g.fit.typed.small c.machine.point (kinds_of c.machine.state.entries) g.fit.here, length-map c.machine.state.entries kind_of);
-  sized = sizes c.left.size c.machine.state.entries g.sized;
-  takes = λ d e. (subst (IsFineStep k c.left.fuel) e (step_fine k c g)).1;
+  sized = sizes c.left.size c.machine.state.entries g.sized.0;
+  takes = λ d e. (subst (IsFineStep k c.left.fuel (depth_of c)) e (step_fine k c g)).1;
+  depth = λ d e. (subst (IsFineStep k c.left.fuel (depth_of c)) e (step_fine k c g)).2;
 }
 
 module _ (k : Code) (whole : IsCode k) (typed : IsTyped k) where
@@ -53,4 +55,4 @@ module _ (k : Code) (whole : IsCode k) (typed : IsTyped k) where
   }
 
 pub lawful : CodeLaws
-lawful = record { runs = runs; spelled = spelled_len }
+lawful = record { runs = runs; needs_kinds = kinds; spelled = spelled_len }

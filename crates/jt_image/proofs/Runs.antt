@@ -1,6 +1,6 @@
 -- Whole runs of a typed code.
 use Rattle.std.proofs.Common.{◌≡◌, ◌≢◌, ◌↔◌, ℕ, zero, suc, ◌+◌, ◌<◌, ◌≤◌, Bool, true, false, cond, List, [], ◌∷◌, length, Option, Some, None, refl, ap, subst, ◌∙◌, arith}
-use Rattle.std.specs.Prelude.{slice_set, unwrap_or, replicate, nat_lt}
+use Rattle.std.specs.Prelude.{slice_get, slice_set, unwrap_or, replicate, nat_lt}
 use Rattle.std.proofs.lemmas.Bool.{ltb-true, ltb-false}
 use Rattle.std.proofs.lemmas.List.{length-set}
 use Rattle.jt_value.specs.Tree as tree
@@ -12,38 +12,38 @@ use Rattle.jt_image.specs.IsCode.{IsCode}
 use Rattle.jt_image.specs.Typed.{IsTyped}
 use Rattle.jt_image.specs.Config as config
 use Rattle.jt_image.specs.Config.{Budget, Outcome, Config}
-use Rattle.jt_image.specs.Step.{Action, goes_on, ends, faulty, wrong, strict, cost, fetch}
-use Rattle.jt_image.specs.Run.{Next, Goes, Ends, Wrong, spared, unless, spends, next_at, next, passed, filled, start, then_goes, after, RunFrom, cost_at, taken, then_costs, costs, IsSafe}
-use Rattle.jt_image.proofs.Safe.{IsGood, IsFineStep, step_fine}
+use Rattle.jt_image.specs.Step.{Action, goes_on, ends, faulty, wrong, locals_of, strict, cost, fetch}
+use Rattle.jt_image.specs.Run.{Next, Goes, Ends, Wrong, spared, unless, spends, next_at, next, passed, filled, entry_locals, start, then_goes, after, RunFrom, cost_at, taken, then_costs, costs, IsSafe}
+use Rattle.jt_image.proofs.Safe.{IsGood, depth_of, IsFineStep, length-locals_of, step_fine}
 
 -- an end within so many steps
-ends_at : (k : Code) (m fuel : ℕ) (n : Next) → fuel < suc m → IsFineStep k fuel n → ((d : Config) → IsGood k d → d.left.fuel < m → (o : Outcome) × (after k m d ≡ Ends o)) → (o : Outcome) × (then_goes n (after k m) ≡ Ends o)
-ends_at k m fuel (Goes d) lt f h = h d f.0 (omega (arith, f.1))
-ends_at k m fuel (Ends o) lt f h = (o, refl)
-ends_at k m fuel Wrong lt f h = absurd f
+ends_at : (k : Code) (m fuel depth : ℕ) (n : Next) → fuel < suc m → IsFineStep k fuel depth n → ((d : Config) → IsGood k d → d.left.fuel < m → (o : Outcome) × (after k m d ≡ Ends o)) → (o : Outcome) × (then_goes n (after k m) ≡ Ends o)
+ends_at k m fuel depth (Goes d) lt f h = h d f.0 (omega (arith, f.1))
+ends_at k m fuel depth (Ends o) lt f h = (o, refl)
+ends_at k m fuel depth Wrong lt f h = absurd f
 
 pub ends_within : (k : Code) (m : ℕ) (c : Config) → IsGood k c → c.left.fuel < m → (o : Outcome) × (after k m c ≡ Ends o)
 ends_within k zero c g lt = absurd (omega arith)
-ends_within k (suc m) c g lt = ends_at k m c.left.fuel (next k c) lt (step_fine k c g) (λ d e less. ends_within k m d e less)
+ends_within k (suc m) c g lt = ends_at k m c.left.fuel (depth_of c) (next k c) lt (step_fine k c g) (λ d e less. ends_within k m d e less)
 
-not_wrong_at : (k : Code) (n fuel : ℕ) (x : Next) → IsFineStep k fuel x → ((d : Config) → IsGood k d → after k n d ≢ Wrong) → then_goes x (after k n) ≢ Wrong
-not_wrong_at k n fuel (Goes d) f h = h d f.0
-not_wrong_at k n fuel (Ends o) f h = λ e. absurd cc
-not_wrong_at k n fuel Wrong f h = absurd f
+not_wrong_at : (k : Code) (n fuel depth : ℕ) (x : Next) → IsFineStep k fuel depth x → ((d : Config) → IsGood k d → after k n d ≢ Wrong) → then_goes x (after k n) ≢ Wrong
+not_wrong_at k n fuel depth (Goes d) f h = h d f.0
+not_wrong_at k n fuel depth (Ends o) f h = λ e. absurd cc
+not_wrong_at k n fuel depth Wrong f h = absurd f
 
 pub never_wrong : (k : Code) (n : ℕ) (c : Config) → IsGood k c → after k n c ≢ Wrong
 never_wrong k zero c g = λ e. absurd cc
-never_wrong k (suc n) c g = not_wrong_at k n c.left.fuel (next k c) (step_fine k c g) (λ d e. never_wrong k n d e)
+never_wrong k (suc n) c g = not_wrong_at k n c.left.fuel (depth_of c) (next k c) (step_fine k c g) (λ d e. never_wrong k n d e)
 
-good_at : (k : Code) (n fuel : ℕ) (x : Next) (d : Config) → IsFineStep k fuel x → ((c : Config) → IsGood k c → after k n c ≡ Goes d → IsGood k d) → then_goes x (after k n) ≡ Goes d → IsGood k d
-good_at k n fuel (Goes c) d f h e = h c f.0 e
-good_at k n fuel (Ends o) d f h e = absurd cc
-good_at k n fuel Wrong d f h e = absurd f
+good_at : (k : Code) (n fuel depth : ℕ) (x : Next) (d : Config) → IsFineStep k fuel depth x → ((c : Config) → IsGood k c → after k n c ≡ Goes d → IsGood k d) → then_goes x (after k n) ≡ Goes d → IsGood k d
+good_at k n fuel depth (Goes c) d f h e = h c f.0 e
+good_at k n fuel depth (Ends o) d f h e = absurd cc
+good_at k n fuel depth Wrong d f h e = absurd f
 
 -- what a good configuration leads to is good
 pub good_after : (k : Code) (n : ℕ) (c d : Config) → IsGood k c → after k n c ≡ Goes d → IsGood k d
 good_after k zero c d g e = let same : c ≡ d = cc in subst (IsGood k) same g
-good_after k (suc n) c d g e = good_at k n c.left.fuel (next k c) d (step_fine k c g) (λ c' g' e'. good_after k n c' d g' e') e
+good_after k (suc n) c d g e = good_at k n c.left.fuel (depth_of c) (next k c) d (step_fine k c g) (λ c' g' e'. good_after k n c' d g' e') e
 
 same_end : (k : Code) (n m : ℕ) (x : Next) (o p : Outcome) → then_goes x (after k n) ≡ Ends o → then_goes x (after k m) ≡ Ends p → ((d : Config) → after k n d ≡ Ends o → after k m d ≡ Ends p → o ≡ p) → o ≡ p
 same_end k n m (Goes d) o p e f h = h d e f
@@ -63,23 +63,29 @@ length-replicate : {A : Type 0} (n : ℕ) (a : A) → length (replicate n a) ≡
 length-replicate zero a = refl
 length-replicate (suc n) a = ap suc (length-replicate n a)
 
+-- unit 0 has its locals
+first_locals : (us : List Section) (u : Section) → slice_get us 0 ≡ Some u → length (locals_of (entry_locals us) []) ≡ u.locals
+first_locals [] u e = absurd cc
+first_locals (v ∷ us) u e = let same : v ≡ u = cc in length-locals_of v.locals [] ∙ ap (λ (w : Section). w.locals) same
+
 pub start_good : (k : Code) → IsCode k → IsTyped k → (x : Pairs) (b : Budget) → IsGood k (start k x b)
 start_good k code t x b =
     let h = code.entry in
     let typed = t 0 h.entry h.is in
     record {
       fit = record {
+        all = t;
         unit = h.entry;
         is_unit = h.is;
-        emits = h.emits;
         shapes = typed.0;
         typed = typed.1;
         here = typed.1.start;
+        locals = first_locals k.units h.entry h.is;
         globals = length-filled x k.names (replicate k.globals tree.undefined) ∙ length-replicate k.globals tree.undefined;
-        callers = refl;
+        callers = h.emits;
         buffers = refl;
       };
-      sized = tt;
+      sized = (tt, tt);
     }
 
 -- ---- what is taken of the fuel

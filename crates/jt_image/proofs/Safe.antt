@@ -1,25 +1,30 @@
 -- A machine of a typed code goes on or ends, and is never wrong.
 use Rattle.std.proofs.Common.{◌≡◌, ℕ, zero, suc, ◌+◌, ◌*◌, ◌<◌, ◌≤◌, Bool, true, false, cond, ltb, eqb, List, [], ◌∷◌, ◌++◌, length, map, Option, Some, None, Result, Ok, Err, refl, sym, ap, subst, ◌∙◌, arith}
-use Rattle.std.specs.Prelude.{slice_get, slice_set, nat_lt}
+use Rattle.std.specs.Prelude.{◌==◌, slice_get, slice_set, nat_lt}
+use Rattle.std.specs.Option.{is_some}
 use Rattle.std.specs.List.{AllByRecursion}
-use Rattle.std.proofs.lemmas.Bool.{ltb-false}
+use Rattle.std.proofs.lemmas.Bool.{ltb-false, eqb-true}
 use Rattle.std.proofs.lemmas.List.{length-set}
 use Rattle.jt_value.specs.Tree as tree
 use Rattle.jt_value.specs.declared.fault.Fault.{Fault}
-use Rattle.jt_value.specs.Tree.{Tree, truth, printed}
+use Rattle.jt_value.specs.declared.fault.Fault.TheVariants as faults
+use Rattle.jt_value.specs.Tree.{Tree, Items, truth, printed}
+use Rattle.jt_value.specs.Iteration.{items_of_tree}
 use Rattle.jt_image.specs.declared.instruction.Instruction.{Instruction}
 use Rattle.jt_image.specs.declared.instruction.Instruction.TheVariants as op
 use Rattle.jt_image.specs.declared.kind.Kind.TheVariants as kind
 use Rattle.jt_image.specs.declared.kind.Flaw.{Flaw}
 use Rattle.jt_image.specs.declared.kind.Flaw.TheVariants as flaw
 use Rattle.jt_image.specs.Code.{Section, Code}
-use Rattle.jt_image.specs.Effect.{Shape, Leads, require, pops, pops_many, goes_on, jumps, branches, may_return, effect, effect_of}
-use Rattle.jt_image.specs.Typed.{Shapes, Equal, HasSame, IsTypedBy}
-use Rattle.jt_image.specs.Ids.{operator_of, operands_of, test_of}
+use Rattle.jt_image.specs.Effect as effect
+use Rattle.jt_image.specs.Effect.{Shape, Leads, require, pops, pops_many, pops_frame, pops_capture, pushes, gives, calls, goes_on, jumps, branches, may_return, effect, effect_of}
+use Rattle.jt_image.specs.Typed.{Shapes, Equal, HasSame, IsTypedBy, IsTyped}
+use Rattle.jt_image.specs.Ids.{operator_of, operands_of, filter_of, test_of}
+use Rattle.jt_image.specs.Loops.{trees_of, loop_over, advanced, keeping, field_of}
 use Rattle.jt_image.specs.Config as config
-use Rattle.jt_image.specs.Config.{Budget, Outcome, Entry, value, frame, capture, kind_of, State, Caller, Machine, Config}
+use Rattle.jt_image.specs.Config.{Budget, Outcome, Frame, Entry, value, frame, capture, kind_of, State, Caller, Machine, Config}
 use Rattle.jt_image.specs.Step as step
-use Rattle.jt_image.specs.Step.{Demand, no_demand, pushing, emitting, Plain, goes, faults_by, broken, with_entries, push, on_value, on_values, push_given, makes, put, put_printed, shown, slot, constant_value, text_of, operated, tested_by, listed, mapped, plain, Action, ends, faulty, wrong, at_point, straight, jump_on, Given, nothing, result, disorder, given_by, back_to, action, in_tables, strict, cost, fetch}
+use Rattle.jt_image.specs.Step.{Demand, no_demand, pushing, pushing_all, greatest, emitting, calling, Plain, goes, faults_by, broken, with_entries, push, on_value, on_values, on_frame, on_capture, as_frame, push_given, makes, put, put_printed, shown, slot, constant_value, text_of, operated, filtered_by, tested_by, begins, told_by, piled, spreads, unpacks, closes, listed, mapped, plain, Action, ends, faulty, wrong, at_point, straight, jump_on, turns, locals_of, entered, calls_unit, Given, nothing, result, disorder, given_by, resumed, back_to, action, in_tables, strict, cost, fetch}
 use Rattle.jt_image.specs.Run.{Next, Goes, Ends, Wrong, spared, unless, spends, next}
 
 -- the kinds of the entries
@@ -33,6 +38,11 @@ captures (value t ∷ es) = captures es
 captures (frame f ∷ es) = captures es
 captures (capture ∷ es) = suc (captures es)
 
+-- and in the activations that wait
+abbrev pub captures_above : List Caller → ℕ
+captures_above [] = 0
+captures_above (a ∷ above) = captures a.entries + captures_above above
+
 -- no value is larger than the limit
 abbrev pub AreSized : ℕ → List Entry → Type 0
 AreSized n [] = Unit {0}
@@ -40,35 +50,64 @@ AreSized n (value t ∷ es) = (tree.size t ≤ n) × AreSized n es
 AreSized n (frame f ∷ es) = AreSized n es
 AreSized n (capture ∷ es) = AreSized n es
 
--- A machine of a typed code: its entries have the kinds that its point has, and there is one buffer more than captures.
+-- nor in the activations that wait
+abbrev pub AreSizedAbove : ℕ → List Caller → Type 0
+AreSizedAbove n [] = Unit {0}
+AreSizedAbove n (a ∷ above) = AreSized n a.entries × AreSizedAbove n above
+
+abbrev pub AreAllSized : ℕ → List Entry → List Caller → Type 0
+AreAllSized n es above = AreSized n es × AreSizedAbove n above
+
+-- An activation that waits for a unit of that kind to come back: its entries and what the unit gives have the kinds that its point has.
+pub record IsWaiting (k : Code) (given : ℕ) (a : Caller) : Type 0 where
+  pub unit : Section
+  pub is_unit : slice_get k.units a.unit ≡ Some unit
+  pub shapes : Shapes
+  pub typed : IsTypedBy Equal k unit shapes
+  pub behind : shapes a.point ≡ Some (gives given (kinds_of a.entries))
+  pub locals : length a.locals ≡ unit.locals
+
+-- each of them waits for a unit of the kind of the one before; what the first activation runs emits
+abbrev pub AreWaiting : Code → ℕ → List Caller → Type 0
+AreWaiting k given [] = given ≡ 0
+AreWaiting k given (a ∷ above) = (w : IsWaiting k given a) × AreWaiting k w.unit.kind above
+
+-- A machine of a typed code: in each activation the entries have the kinds that its point has, and there is one buffer more than
+-- captures in all of them.
 pub record IsFit (k : Code) (m : Machine) : Type 0 where
+  pub all : IsTyped k
   pub unit : Section
   pub is_unit : slice_get k.units m.unit ≡ Some unit
-  pub emits : unit.kind ≡ 0
   pub shapes : Shapes
   pub typed : IsTypedBy Equal k unit shapes
   pub here : shapes m.point ≡ Some (kinds_of m.state.entries)
+  pub locals : length m.state.locals ≡ unit.locals
   pub globals : length m.state.globals ≡ k.globals
-  pub callers : m.callers ≡ []
-  pub buffers : length m.state.buffers ≡ suc (captures m.state.entries)
+  pub callers : AreWaiting k unit.kind m.callers
+  pub buffers : length m.state.buffers ≡ suc (captures m.state.entries + captures_above m.callers)
 
 -- the same under a budget, where no value on the stack is larger than the limit
 pub record IsGood (k : Code) (c : Config) : Type 0 where
   pub fit : IsFit k c.machine
-  pub sized : AreSized c.left.size c.machine.state.entries
+  pub sized : AreAllSized c.left.size c.machine.state.entries c.machine.callers
 
--- what an action gives: a machine that fits, whose values are those before or within the demand, or an end
-abbrev pub IsFineAction : Code → List Entry → Action → Type 0
-IsFineAction k es (step.goes_on m d) = IsFit k m × ((n : ℕ) → AreSized n es → d.size ≤ n → AreSized n m.state.entries)
-IsFineAction k es (ends t) = Unit {0}
-IsFineAction k es (faulty f) = Unit {0}
-IsFineAction k es wrong = ⊥
+-- what an action gives from these entries, and those of the activations that wait: a machine that fits, whose values are those before
+-- or within the demand, and where as many calls wait as the demand says, or an end
+abbrev pub IsFineAction : Code → List Entry → List Caller → Action → Type 0
+IsFineAction k es above (step.goes_on m d) = IsFit k m × ((n : ℕ) → AreAllSized n es above → d.size ≤ n → AreAllSized n m.state.entries m.callers) × (length m.callers + d.returns ≡ length above + d.calls)
+IsFineAction k es above (ends t) = Unit {0}
+IsFineAction k es above (faulty f) = Unit {0}
+IsFineAction k es above wrong = ⊥
 
--- what a step gives: a good configuration with less fuel, or an end
-abbrev pub IsFineStep : Code → ℕ → Next → Type 0
-IsFineStep k fuel (Goes d) = IsGood k d × (d.left.fuel < fuel)
-IsFineStep k fuel (Ends o) = Unit {0}
-IsFineStep k fuel Wrong = ⊥
+-- what is left of the depth, and the calls that are open
+abbrev pub depth_of : Config → ℕ
+depth_of c = c.left.depth + length c.machine.callers
+
+-- what a step gives: a good configuration with less fuel, where the depth is kept, or an end
+abbrev pub IsFineStep : Code → ℕ → ℕ → Next → Type 0
+IsFineStep k fuel depth (Goes d) = IsGood k d × (d.left.fuel < fuel) × (depth_of d ≡ depth)
+IsFineStep k fuel depth (Ends o) = Unit {0}
+IsFineStep k fuel depth Wrong = ⊥
 
 -- ---- what an effect without a flaw says
 
@@ -76,34 +115,101 @@ require_ok : (b : Bool) (f : Flaw) (go : Result Leads Flaw) (l : Leads) → requ
 require_ok true f go l e = (refl, e)
 require_ok false f go l e = absurd cc
 
-pops_ok : (s : Shape) (go : Shape → Result Leads Flaw) (l : Leads) → pops s go ≡ Ok l → (r : Shape) × (s ≡ kind.Value ∷ r) × (go r ≡ Ok l)
-pops_ok [] go l e = absurd cc
-pops_ok (kind.Value ∷ s) go l e = (s, refl, e)
-pops_ok (kind.Frame ∷ s) go l e = absurd cc
-pops_ok (kind.Capture ∷ s) go l e = absurd cc
+-- ---- entries that a shape lets be taken, with what follows
 
--- values taken that a shape lets be taken, with what follows
-taken_many : {A : Type 0} (n : ℕ) (ts : List Tree) (es : List Entry) (go : Shape → Result Leads Flaw) (l : Leads) (none : A) (f : List Tree → List Entry → A) (P : A → Type 0) → pops_many n (kinds_of es) go ≡ Ok l
-    → ((us : List Tree) (fs : List Entry) → go (kinds_of fs) ≡ Ok l → captures fs ≡ captures es → ((z : ℕ) → AreSized z es → AreSized z fs) → P (f us fs))
-    → P (on_values n ts es none f)
-taken_many zero ts es go l none f P e h = h ts es e refl (λ z x. x)
-taken_many (suc n) ts [] go l none f P e h = absurd cc
-taken_many (suc n) ts (value t ∷ es) go l none f P e h = taken_many n (t ∷ ts) es go l none f P e (λ us fs kinds count sized. h us fs kinds count (λ z x. sized z x.1))
-taken_many (suc n) ts (frame x ∷ es) go l none f P e h = absurd cc
-taken_many (suc n) ts (capture ∷ es) go l none f P e h = absurd cc
+module _ {A : Type 0} (l : Leads) (none : A) (P : A → Type 0) where
+  taken : (es : List Entry) (go : Shape → Result Leads Flaw) (f : Tree → List Entry → A) → pops (kinds_of es) go ≡ Ok l
+      → ((t : Tree) (fs : List Entry) → go (kinds_of fs) ≡ Ok l → captures fs ≡ captures es → ((n : ℕ) → AreSized n es → (tree.size t ≤ n) × AreSized n fs) → P (f t fs))
+      → P (on_value es none f)
+  taken [] go f e h = absurd cc
+  taken (value t ∷ es) go f e h = h t es e refl (λ n z. z)
+  taken (frame x ∷ es) go f e h = absurd cc
+  taken (capture ∷ es) go f e h = absurd cc
 
--- the top entry is a value
-pub record HasValue (es : List Entry) (r : Shape) : Type 0 where
-  pub top : Tree
-  pub rest : List Entry
-  pub is : es ≡ value top ∷ rest
-  pub kinds : kinds_of rest ≡ r
+  taken_many : (n : ℕ) (ts : List Tree) (es : List Entry) (go : Shape → Result Leads Flaw) (f : List Tree → List Entry → A) → pops_many n (kinds_of es) go ≡ Ok l
+      → ((us : List Tree) (fs : List Entry) → go (kinds_of fs) ≡ Ok l → captures fs ≡ captures es → ((z : ℕ) → AreSized z es → AreSized z fs) → P (f us fs))
+      → P (on_values n ts es none f)
+  taken_many zero ts es go f e h = h ts es e refl (λ z x. x)
+  taken_many (suc n) ts [] go f e h = absurd cc
+  taken_many (suc n) ts (value t ∷ es) go f e h = taken_many n (t ∷ ts) es go f e (λ us fs kinds count sized. h us fs kinds count (λ z x. sized z x.1))
+  taken_many (suc n) ts (frame x ∷ es) go f e h = absurd cc
+  taken_many (suc n) ts (capture ∷ es) go f e h = absurd cc
 
-has_value : (es : List Entry) (r : Shape) → kinds_of es ≡ kind.Value ∷ r → HasValue es r
-has_value [] r e = absurd cc
-has_value (value t ∷ es) r e = record { top = t; rest = es; is = refl; kinds = cc }
-has_value (frame f ∷ es) r e = absurd cc
-has_value (capture ∷ es) r e = absurd cc
+  taken_frame : (es : List Entry) (go : Shape → Result Leads Flaw) (f : Frame → List Entry → A) → pops_frame (kinds_of es) go ≡ Ok l
+      → ((x : Frame) (fs : List Entry) → es ≡ frame x ∷ fs → go (kinds_of fs) ≡ Ok l → captures fs ≡ captures es → ((n : ℕ) → AreSized n es → AreSized n fs) → P (f x fs))
+      → P (on_frame es none f)
+  taken_frame [] go f e h = absurd cc
+  taken_frame (value t ∷ es) go f e h = absurd cc
+  taken_frame (frame x ∷ es) go f e h = h x es refl e refl (λ n z. z)
+  taken_frame (capture ∷ es) go f e h = absurd cc
+
+  taken_capture : (es : List Entry) (go : Shape → Result Leads Flaw) (f : List Entry → A) → pops_capture (kinds_of es) go ≡ Ok l
+      → ((fs : List Entry) → go (kinds_of fs) ≡ Ok l → captures es ≡ suc (captures fs) → ((n : ℕ) → AreSized n es → AreSized n fs) → P (f fs))
+      → P (on_capture es none f)
+  taken_capture [] go f e h = absurd cc
+  taken_capture (value t ∷ es) go f e h = absurd cc
+  taken_capture (frame x ∷ es) go f e h = absurd cc
+  taken_capture (capture ∷ es) go f e h = h es e refl (λ n z. z)
+
+  -- the loop that has so many entries above it
+  found_frame : (es : List Entry) (c : ℕ) (go : Result Leads Flaw) (f : Frame → A) → effect.on_frame (slice_get (kinds_of es) c) go ≡ Ok l
+      → ((x : Frame) → slice_get es c ≡ Some (frame x) → go ≡ Ok l → P (f x))
+      → P (as_frame (slice_get es c) none f)
+  found_frame [] c go f e h = absurd cc
+  found_frame (value t ∷ es) zero go f e h = absurd cc
+  found_frame (frame x ∷ es) zero go f e h = h x refl e
+  found_frame (capture ∷ es) zero go f e h = absurd cc
+  found_frame (x ∷ es) (suc c) go f e h = found_frame es c go f e h
+
+-- ---- a loop in the place of another
+
+kinds-set : (es : List Entry) (c : ℕ) (x y : Frame) → slice_get es c ≡ Some (frame x) → kinds_of (slice_set es c (frame y)) ≡ kinds_of es
+kinds-set [] c x y e = refl
+kinds-set (value t ∷ es) zero x y e = absurd cc
+kinds-set (frame f ∷ es) zero x y e = refl
+kinds-set (capture ∷ es) zero x y e = absurd cc
+kinds-set (z ∷ es) (suc c) x y e = ap (λ s. kind_of z ∷ s) (kinds-set es c x y e)
+
+captures-set : (es : List Entry) (c : ℕ) (x y : Frame) → slice_get es c ≡ Some (frame x) → captures (slice_set es c (frame y)) ≡ captures es
+captures-set [] c x y e = refl
+captures-set (value t ∷ es) zero x y e = absurd cc
+captures-set (frame f ∷ es) zero x y e = refl
+captures-set (capture ∷ es) zero x y e = absurd cc
+captures-set (value t ∷ es) (suc c) x y e = captures-set es c x y e
+captures-set (frame f ∷ es) (suc c) x y e = captures-set es c x y e
+captures-set (capture ∷ es) (suc c) x y e = ap suc (captures-set es c x y e)
+
+sized-set : (n : ℕ) (es : List Entry) (c : ℕ) (x y : Frame) → slice_get es c ≡ Some (frame x) → AreSized n es → AreSized n (slice_set es c (frame y))
+sized-set n [] c x y e h = tt
+sized-set n (value t ∷ es) zero x y e h = absurd cc
+sized-set n (frame f ∷ es) zero x y e h = h
+sized-set n (capture ∷ es) zero x y e h = absurd cc
+sized-set n (value t ∷ es) (suc c) x y e h = (h.0, sized-set n es c x y e h.1)
+sized-set n (frame f ∷ es) (suc c) x y e h = sized-set n es c x y e h
+sized-set n (capture ∷ es) (suc c) x y e h = sized-set n es c x y e h
+
+-- ---- values in a pile
+
+pushes-more : (n : ℕ) (s : Shape) → pushes n (kind.Value ∷ s) ≡ kind.Value ∷ pushes n s
+pushes-more zero s = refl
+pushes-more (suc n) s = ap (λ r. kind.Value ∷ r) (pushes-more n s)
+
+kinds-piled : (ts : List Tree) (es : List Entry) → kinds_of (piled ts es) ≡ pushes (length ts) (kinds_of es)
+kinds-piled [] es = refl
+kinds-piled (t ∷ ts) es = kinds-piled ts (value t ∷ es) ∙ pushes-more (length ts) (kinds_of es)
+
+captures-piled : (ts : List Tree) (es : List Entry) → captures (piled ts es) ≡ captures es
+captures-piled [] es = refl
+captures-piled (t ∷ ts) es = captures-piled ts (value t ∷ es)
+
+sized-piled : (n : ℕ) (ts : List Tree) (es : List Entry) → greatest tree.size ts ≤ n → AreSized n es → AreSized n (piled ts es)
+sized-piled n [] es fits h = h
+sized-piled n (t ∷ ts) es fits h = sized-piled n ts (value t ∷ es) (omega (arith, fits)) (omega (arith, fits), h)
+
+pub length-locals_of : (n : ℕ) (ts : List Tree) → length (locals_of n ts) ≡ n
+length-locals_of zero ts = refl
+length-locals_of (suc n) [] = ap suc (length-locals_of n [])
+length-locals_of (suc n) (t ∷ ts) = ap suc (length-locals_of n ts)
 
 module _ (k : Code) (u : Section) (shapes : Shapes) where
   abbrev Agrees : Leads → Type 0
@@ -131,9 +237,9 @@ module _ (k : Code) (u : Section) (shapes : Shapes) where
 
 -- ---- each instruction
 
--- the machine at a point, with these entries, globals and buffers
-abbrev moved : ℕ → List Entry → List Tree → List (List ℕ) → Machine → Machine
-moved p es gs bs m = record m { point = p; state = record m.state { entries = es; globals = gs; buffers = bs } }
+-- the machine at a point, with these entries, locals, globals and buffers
+abbrev moved : ℕ → List Entry → List Tree → List Tree → List (List ℕ) → Machine → Machine
+moved p es ls gs bs m = record m { point = p; state = record { entries = es; locals = ls; globals = gs; buffers = bs } }
 
 module _ (k : Code) (m : Machine) (g : IsFit k m) (l : Leads) (agree : Agrees k g.unit g.shapes l) where
   abbrev es : List Entry
@@ -142,157 +248,316 @@ module _ (k : Code) (m : Machine) (g : IsFit k m) (l : Leads) (agree : Agrees k 
   abbrev s : Shape
   s = kinds_of es
 
-  abbrev Fine : Action → Type 0
-  Fine a = IsFineAction k es a
+  abbrev above : ℕ
+  above = captures_above m.callers
 
-  lands : (p : ℕ) (fs : List Entry) (gs : List Tree) (bs : List (List ℕ)) → g.shapes p ≡ Some (kinds_of fs) → length gs ≡ length m.state.globals → length bs ≡ suc (captures fs) → IsFit k (moved p fs gs bs m)
-  lands p fs gs bs here globals buffers = record {
-    unit = g.unit;
-    is_unit = g.is_unit;
-    emits = g.emits;
-    shapes = g.shapes;
-    typed = g.typed;
-    here = here;
-    globals = globals ∙ g.globals;
-    callers = g.callers;
-    buffers = buffers;
-  }
+  abbrev Fine : Action → Type 0
+  Fine a = IsFineAction k es m.callers a
+
+  -- at a point of the unit, above the same callers
+  lands : (p : ℕ) (fs : List Entry) (ls gs : List Tree) (bs : List (List ℕ)) (d : Demand) → g.shapes p ≡ Some (kinds_of fs) → length ls ≡ length m.state.locals → length gs ≡ length m.state.globals → length bs ≡ suc (captures fs + above) → ((n : ℕ) → AreSized n es → d.size ≤ n → AreSized n fs) → d.returns ≡ d.calls → Fine (step.goes_on (moved p fs ls gs bs m) d)
+  lands p fs ls gs bs d here locals globals buffers sized same = (
+    record {
+      all = g.all;
+      unit = g.unit;
+      is_unit = g.is_unit;
+      shapes = g.shapes;
+      typed = g.typed;
+      here = here;
+      locals = locals ∙ g.locals;
+      globals = globals ∙ g.globals;
+      callers = g.callers;
+      buffers = buffers;
+    },
+    λ n all fits. (sized n all.0 fits, all.1),
+    ap (λ (n : ℕ). length m.callers + n) same,
+  )
+
+  -- the same with other entries alone
+  lands_on : (p : ℕ) (fs : List Entry) (d : Demand) → g.shapes p ≡ Some (kinds_of fs) → captures fs ≡ captures es → ((n : ℕ) → AreSized n es → d.size ≤ n → AreSized n fs) → d.returns ≡ d.calls → Fine (step.goes_on (moved p fs m.state.locals m.state.globals m.state.buffers m) d)
+  lands_on p fs d here count sized same = lands p fs m.state.locals m.state.globals m.state.buffers d here refl refl (rw count g.buffers) sized same
+
+  -- the point behind has the shape that goes on
+  behind : (r : Shape) → goes_on g.unit m.point r ≡ Ok l → g.shapes (m.point + 1) ≡ Some r
+  behind r e = goes_on_ok k g.unit g.shapes m.point r l e agree
 
   in_place : (b : Bool) (a : Action) → b ≡ true → Fine a → Fine (cond b a wrong)
   in_place true a e h = h
   in_place false a e h = absurd cc
 
   -- a value on top of what is there, at the next point
-  pushed : (t : Tree) → g.shapes (m.point + 1) ≡ Some (kind.Value ∷ s) → Fine (straight (push t es m.state) m)
-  pushed t here = (lands (m.point + 1) (value t ∷ es) m.state.globals m.state.buffers here refl g.buffers, λ n sized fits. (fits, sized))
+  pushed : (t : Tree) → goes_on g.unit m.point (kind.Value ∷ s) ≡ Ok l → Fine (straight (push t es m.state) m)
+  pushed t e = lands_on (m.point + 1) (value t ∷ es) (pushing t) (behind (kind.Value ∷ s) e) refl (λ n sized fits. (fits, sized)) refl
 
   const_fine : (c : ℕ) → effect k g.unit m.point (op.Const c) s ≡ Ok l → Fine (strict k g.unit (op.Const c) m)
-  const_fine c e =
-      let a = require_ok _ _ _ l e in
-      in_place _ _ a.0 (pushed (constant_value (slice_get k.constants c)) (goes_on_ok k g.unit g.shapes m.point (kind.Value ∷ s) l a.1 agree))
+  const_fine c e = let a = require_ok _ _ _ l e in in_place _ _ a.0 (pushed (constant_value (slice_get k.constants c)) a.1)
 
-  load_fine : (c : ℕ) → effect k g.unit m.point (op.GLoad c) s ≡ Ok l → Fine (strict k g.unit (op.GLoad c) m)
+  load_fine : (c : ℕ) → effect k g.unit m.point (op.Load c) s ≡ Ok l → Fine (strict k g.unit (op.Load c) m)
   load_fine c e =
       let a = require_ok _ _ _ l e in
-      let there : ltb c (length m.state.globals) ≡ true = rw g.globals a.0 in
-      in_place _ _ there (pushed (slot m.state.globals c) (goes_on_ok k g.unit g.shapes m.point (kind.Value ∷ s) l a.1 agree))
+      let there : ltb c (length m.state.locals) ≡ true = rw g.locals a.0 in
+      in_place _ _ there (pushed (slot m.state.locals c) a.1)
 
-  -- a value taken, with what follows
-  taken : {A : Type 0} (r : Shape) (none : A) (f : Tree → List Entry → A) (P : A → Type 0) → s ≡ kind.Value ∷ r
-      → ((t : Tree) (fs : List Entry) → es ≡ value t ∷ fs → kinds_of fs ≡ r → captures fs ≡ captures es → ((n : ℕ) → AreSized n es → AreSized n (value t ∷ fs)) → P (f t fs))
-      → P (on_value es none f)
-  taken r none f P is h =
-      let v = has_value es r is in
-      let same : (n : ℕ) → AreSized n es → AreSized n (value v.top ∷ v.rest) = λ n z. subst (AreSized n) v.is z in
-      let count : captures v.rest ≡ captures es = sym (ap captures v.is) in
-      let fine : P (f v.top v.rest) = h v.top v.rest v.is v.kinds count same in
-      subst (λ (xs : List Entry). P (on_value xs none f)) (sym v.is) fine
+  load_global_fine : (c : ℕ) → effect k g.unit m.point (op.GLoad c) s ≡ Ok l → Fine (strict k g.unit (op.GLoad c) m)
+  load_global_fine c e =
+      let a = require_ok _ _ _ l e in
+      let there : ltb c (length m.state.globals) ≡ true = rw g.globals a.0 in
+      in_place _ _ there (pushed (slot m.state.globals c) a.1)
+
+  -- how a step without a jump is fine
+  abbrev FinePlain : Plain → Type 0
+  FinePlain x = Fine (straight x m)
 
   drop_fine : effect k g.unit m.point op.Drop s ≡ Ok l → Fine (strict k g.unit op.Drop m)
   drop_fine e =
-      let a = pops_ok s (λ r. goes_on g.unit m.point r) l e in
-      taken a.0 broken (λ t fs. goes (with_entries m.state fs) no_demand) (λ x. Fine (straight x m)) a.1
-      (λ t fs is kinds count sized. (lands (m.point + 1) fs m.state.globals m.state.buffers (rw kinds (goes_on_ok k g.unit g.shapes m.point a.0 l a.2 agree)) refl (rw count g.buffers), λ n z _. (sized n z).1))
+      taken l broken FinePlain es (λ r. goes_on g.unit m.point r) (λ t fs. goes (with_entries m.state fs) no_demand) e
+      (λ t fs e' count sized. lands_on (m.point + 1) fs no_demand (behind (kinds_of fs) e') count (λ n z _. (sized n z).1) refl)
 
-  store_fine : (c : ℕ) → effect k g.unit m.point (op.GStore c) s ≡ Ok l → Fine (strict k g.unit (op.GStore c) m)
+  store_fine : (c : ℕ) → effect k g.unit m.point (op.Store c) s ≡ Ok l → Fine (strict k g.unit (op.Store c) m)
   store_fine c e =
       let b = require_ok _ _ _ l e in
-      let a = pops_ok s (λ r. goes_on g.unit m.point r) l b.1 in
+      let there : ltb c (length m.state.locals) ≡ true = rw g.locals b.0 in
+      in_place _ _ there (taken l broken FinePlain es (λ r. goes_on g.unit m.point r) (λ t fs. goes (record m.state { entries = fs; locals = slice_set m.state.locals c t }) no_demand) b.1
+      (λ t fs e' count sized. lands (m.point + 1) fs (slice_set m.state.locals c t) m.state.globals m.state.buffers no_demand (behind (kinds_of fs) e') (length-set m.state.locals c t) refl (rw count g.buffers) (λ n z _. (sized n z).1) refl))
+
+  store_global_fine : (c : ℕ) → effect k g.unit m.point (op.GStore c) s ≡ Ok l → Fine (strict k g.unit (op.GStore c) m)
+  store_global_fine c e =
+      let b = require_ok _ _ _ l e in
       let there : ltb c (length m.state.globals) ≡ true = rw g.globals b.0 in
-      in_place _ _ there (taken a.0 broken (λ t fs. goes (record m.state { entries = fs; globals = slice_set m.state.globals c t }) no_demand) (λ x. Fine (straight x m)) a.1
-      (λ t fs is kinds count sized. (lands (m.point + 1) fs (slice_set m.state.globals c t) m.state.buffers (rw kinds (goes_on_ok k g.unit g.shapes m.point a.0 l a.2 agree)) (length-set m.state.globals c t) (rw count g.buffers), λ n z _. (sized n z).1)))
+      in_place _ _ there (taken l broken FinePlain es (λ r. goes_on g.unit m.point r) (λ t fs. goes (record m.state { entries = fs; globals = slice_set m.state.globals c t }) no_demand) b.1
+      (λ t fs e' count sized. lands (m.point + 1) fs m.state.locals (slice_set m.state.globals c t) m.state.buffers no_demand (behind (kinds_of fs) e') refl (length-set m.state.globals c t) (rw count g.buffers) (λ n z _. (sized n z).1) refl))
 
   dup_fine : effect k g.unit m.point op.Dup s ≡ Ok l → Fine (strict k g.unit op.Dup m)
   dup_fine e =
-      let a = pops_ok s (λ r. goes_on g.unit m.point (kind.Value ∷ kind.Value ∷ r)) l e in
-      taken a.0 broken (λ t fs. push t (value t ∷ fs) m.state) (λ x. Fine (straight x m)) a.1
-      (λ t fs is kinds count sized. (lands (m.point + 1) (value t ∷ value t ∷ fs) m.state.globals m.state.buffers (rw kinds (goes_on_ok k g.unit g.shapes m.point (kind.Value ∷ kind.Value ∷ a.0) l a.2 agree)) refl (rw count g.buffers), λ n z fits. (fits, sized n z)))
+      taken l broken FinePlain es (λ r. goes_on g.unit m.point (kind.Value ∷ kind.Value ∷ r)) (λ t fs. push t (value t ∷ fs) m.state) e
+      (λ t fs e' count sized. lands_on (m.point + 1) (value t ∷ value t ∷ fs) (pushing t) (behind (kind.Value ∷ kind.Value ∷ kinds_of fs) e') count (λ n z fits. (fits, sized n z)) refl)
 
   -- bytes into the innermost buffer, with entries that hold as many captures
-  put_fine : (bytes : List ℕ) (bs : List (List ℕ)) (fs : List Entry) → length bs ≡ suc (captures fs) → g.shapes (m.point + 1) ≡ Some (kinds_of fs) → ((n : ℕ) → AreSized n es → AreSized n fs) → Fine (straight (put bytes bs (with_entries m.state fs)) m)
+  put_fine : (bytes : List ℕ) (bs : List (List ℕ)) (fs : List Entry) → length bs ≡ suc (captures fs + above) → g.shapes (m.point + 1) ≡ Some (kinds_of fs) → ((n : ℕ) → AreSized n es → AreSized n fs) → FinePlain (put bytes bs (with_entries m.state fs))
   put_fine bytes [] fs count here sized = absurd (omega arith)
-  put_fine bytes (b ∷ bs) fs count here sized = (lands (m.point + 1) fs m.state.globals ((b ++ bytes) ∷ bs) here refl count, λ n z _. sized n z)
+  put_fine bytes (b ∷ bs) fs count here sized = lands (m.point + 1) fs m.state.locals m.state.globals ((b ++ bytes) ∷ bs) (emitting bytes) here refl refl count (λ n z _. sized n z) refl
 
-  printed_fine : (o : Option (List ℕ)) (fs : List Entry) → length m.state.buffers ≡ suc (captures fs) → g.shapes (m.point + 1) ≡ Some (kinds_of fs) → ((n : ℕ) → AreSized n es → AreSized n fs) → Fine (straight (put_printed o (with_entries m.state fs)) m)
+  printed_fine : (o : Option (List ℕ)) (fs : List Entry) → length m.state.buffers ≡ suc (captures fs + above) → g.shapes (m.point + 1) ≡ Some (kinds_of fs) → ((n : ℕ) → AreSized n es → AreSized n fs) → FinePlain (put_printed o (with_entries m.state fs))
   printed_fine None fs count here sized = tt
   printed_fine (Some bytes) fs count here sized = put_fine bytes m.state.buffers fs count here sized
 
   emit_fine : (a : ℕ) → effect k g.unit m.point (op.Emit a) s ≡ Ok l → Fine (strict k g.unit (op.Emit a) m)
   emit_fine a e =
       let b = require_ok _ _ _ l e in
-      let q = pops_ok s (λ r. goes_on g.unit m.point r) l b.1 in
-      in_place _ _ b.0 (taken q.0 broken (λ t fs. put_printed (shown (eqb a 1) t) (with_entries m.state fs)) (λ x. Fine (straight x m)) q.1
-      (λ t fs is kinds count sized. printed_fine (shown (eqb a 1) t) fs (rw count g.buffers) (rw kinds (goes_on_ok k g.unit g.shapes m.point q.0 l q.2 agree)) (λ n z. (sized n z).1)))
+      in_place _ _ b.0 (taken l broken FinePlain es (λ r. goes_on g.unit m.point r) (λ t fs. put_printed (shown (eqb a 1) t) (with_entries m.state fs)) b.1
+      (λ t fs e' count sized. printed_fine (shown (eqb a 1) t) fs (rw count g.buffers) (behind (kinds_of fs) e') (λ n z. (sized n z).1)))
 
   data_fine : (c : ℕ) → effect k g.unit m.point (op.Data c) s ≡ Ok l → Fine (strict k g.unit (op.Data c) m)
-  data_fine c e =
-      let a = require_ok _ _ _ l e in
-      in_place _ _ a.0 (put_fine (text_of (slice_get k.constants c)) m.state.buffers es g.buffers (goes_on_ok k g.unit g.shapes m.point s l a.1 agree) (λ n z. z))
+  data_fine c e = let a = require_ok _ _ _ l e in in_place _ _ a.0 (put_fine (text_of (slice_get k.constants c)) m.state.buffers es g.buffers (behind s a.1) (λ n z. z))
 
   jump_fine : (p : ℕ) → effect k g.unit m.point (op.Jump p) s ≡ Ok l → Fine (strict k g.unit (op.Jump p) m)
-  jump_fine p e = (lands p es m.state.globals m.state.buffers (jumps_ok k g.unit g.shapes p s l e agree) refl g.buffers, λ n z _. z)
+  jump_fine p e = lands_on p es no_demand (jumps_ok k g.unit g.shapes p s l e agree) refl (λ n z _. z) refl
 
   -- to either of two points
   either_place : (b : Bool) (p q : ℕ) (r : Shape) → g.shapes p ≡ Some r → g.shapes q ≡ Some r → g.shapes (cond b p q) ≡ Some r
   either_place true p q r h i = h
   either_place false p q r h i = i
 
-  branch_fine : (to : Tree → ℕ) (r : Shape) → s ≡ kind.Value ∷ r → ((t : Tree) → g.shapes (to t) ≡ Some r) → Fine (jump_on to m)
-  branch_fine to r is here =
-      taken r wrong (λ t fs. step.goes_on (record m { point = to t; state = with_entries m.state fs }) no_demand) Fine is
-      (λ t fs e kinds count sized. (lands (to t) fs m.state.globals m.state.buffers (rw kinds (here t)) refl (rw count g.buffers), λ n z _. (sized n z).1))
-
   if_false_fine : (p : ℕ) → effect k g.unit m.point (op.JumpIfFalse p) s ≡ Ok l → Fine (strict k g.unit (op.JumpIfFalse p) m)
   if_false_fine p e =
-      let a = pops_ok s (λ r. branches g.unit m.point p r) l e in
-      let b = branches_ok k g.unit g.shapes m.point p a.0 l a.2 agree in
-      branch_fine (λ t. cond (truth t) (m.point + 1) p) a.0 a.1 (λ t. either_place (truth t) (m.point + 1) p a.0 b.0 b.1)
+      taken l wrong Fine es (λ r. branches g.unit m.point p r) (λ t fs. step.goes_on (record m { point = cond (truth t) (m.point + 1) p; state = with_entries m.state fs }) no_demand) e
+      (λ t fs e' count sized.
+      let b = branches_ok k g.unit g.shapes m.point p (kinds_of fs) l e' agree in
+      lands_on (cond (truth t) (m.point + 1) p) fs no_demand (either_place (truth t) (m.point + 1) p (kinds_of fs) b.0 b.1) count (λ n z _. (sized n z).1) refl)
 
   if_true_fine : (p : ℕ) → effect k g.unit m.point (op.JumpIfTrue p) s ≡ Ok l → Fine (strict k g.unit (op.JumpIfTrue p) m)
   if_true_fine p e =
-      let a = pops_ok s (λ r. branches g.unit m.point p r) l e in
-      let b = branches_ok k g.unit g.shapes m.point p a.0 l a.2 agree in
-      branch_fine (λ t. cond (truth t) p (m.point + 1)) a.0 a.1 (λ t. either_place (truth t) p (m.point + 1) a.0 b.1 b.0)
+      taken l wrong Fine es (λ r. branches g.unit m.point p r) (λ t fs. step.goes_on (record m { point = cond (truth t) p (m.point + 1); state = with_entries m.state fs }) no_demand) e
+      (λ t fs e' count sized.
+      let b = branches_ok k g.unit g.shapes m.point p (kinds_of fs) l e' agree in
+      lands_on (cond (truth t) p (m.point + 1)) fs no_demand (either_place (truth t) p (m.point + 1) (kinds_of fs) b.1 b.0) count (λ n z _. (sized n z).1) refl)
 
   -- what an operation gives, in place of the values that it took
-  given_fine : (r : Result Tree Fault) (fs : List Entry) → length m.state.buffers ≡ suc (captures fs) → g.shapes (m.point + 1) ≡ Some (kind.Value ∷ kinds_of fs) → ((n : ℕ) → AreSized n es → AreSized n fs) → Fine (straight (push_given r fs m.state) m)
-  given_fine (Ok t) fs count here sized = (lands (m.point + 1) (value t ∷ fs) m.state.globals m.state.buffers here refl count, λ n z fits. (fits, sized n z))
-  given_fine (Err e) fs count here sized = tt
+  given_fine : (r : Result Tree Fault) (fs : List Entry) → captures fs ≡ captures es → goes_on g.unit m.point (kind.Value ∷ kinds_of fs) ≡ Ok l → ((n : ℕ) → AreSized n es → AreSized n fs) → FinePlain (push_given r fs m.state)
+  given_fine (Ok t) fs count e sized = lands_on (m.point + 1) (value t ∷ fs) (pushing t) (behind (kind.Value ∷ kinds_of fs) e) count (λ n z fits. (fits, sized n z)) refl
+  given_fine (Err x) fs count e sized = tt
 
-  makes_fine : (n : ℕ) (operate : List Tree → Result Tree Fault) → pops_many n s (λ r. goes_on g.unit m.point (kind.Value ∷ r)) ≡ Ok l → Fine (straight (makes n operate m.state) m)
+  makes_fine : (n : ℕ) (operate : List Tree → Result Tree Fault) → pops_many n s (λ r. goes_on g.unit m.point (kind.Value ∷ r)) ≡ Ok l → FinePlain (makes n operate m.state)
   makes_fine n operate e =
-      taken_many n [] es (λ r. goes_on g.unit m.point (kind.Value ∷ r)) l broken (λ ts fs. push_given (operate ts) fs m.state) (λ x. Fine (straight x m)) e
-      (λ ts fs e' count sized. given_fine (operate ts) fs (rw count g.buffers) (goes_on_ok k g.unit g.shapes m.point (kind.Value ∷ kinds_of fs) l e' agree) sized)
+      taken_many l broken FinePlain n [] es (λ r. goes_on g.unit m.point (kind.Value ∷ r)) (λ ts fs. push_given (operate ts) fs m.state) e
+      (λ ts fs e' count sized. given_fine (operate ts) fs count e' sized)
 
   op_fine : (a : ℕ) → effect k g.unit m.point (op.Op a) s ≡ Ok l → Fine (strict k g.unit (op.Op a) m)
   op_fine a e =
       let b = require_ok _ _ _ l e in
       in_place _ _ b.0 (makes_fine (operands_of (operator_of a)) (operated (operator_of a)) b.1)
 
+  filter_fine : (a n f : ℕ) → effect k g.unit m.point (op.Filter a n f) s ≡ Ok l → Fine (strict k g.unit (op.Filter a n f) m)
+  filter_fine a n f e =
+      let b = require_ok _ _ _ l e in
+      in_place _ _ b.0 (makes_fine n (filtered_by (filter_of a) (f == 1)) b.1)
+
   test_fine : (a n : ℕ) → effect k g.unit m.point (op.Test a n) s ≡ Ok l → Fine (strict k g.unit (op.Test a n) m)
   test_fine a n e =
       let b = require_ok _ _ _ l e in
       in_place _ _ b.0 (makes_fine n (tested_by (test_of a)) b.1)
 
-  -- the first activation returns with no entries, so one buffer is left
-  ends_fine : (fs : List Entry) (bs : List (List ℕ)) → may_return 0 (kinds_of fs) ≡ true → length bs ≡ suc (captures fs) → Fine (back_to [] (given_by 0 fs) bs m)
-  ends_fine [] [] e count = absurd (omega arith)
-  ends_fine [] (b ∷ []) e count = tt
-  ends_fine [] (b ∷ d ∷ bs) e count = absurd (omega arith)
-  ends_fine (x ∷ fs) bs e count = absurd cc
+  -- ---- loops
 
-  returned_fine : (above : List Caller) (n : ℕ) → above ≡ [] → n ≡ 0 → may_return n s ≡ true → Fine (back_to above (given_by n es) m.state.buffers m)
-  returned_fine [] zero none e ok = ends_fine es m.state.buffers ok g.buffers
-  returned_fine [] (suc n) none e ok = absurd cc
-  returned_fine (a ∷ above) n none e ok = absurd cc
+  begins_fine : (r : Result Items Fault) (fs : List Entry) → captures fs ≡ captures es → goes_on g.unit m.point (kind.Frame ∷ kinds_of fs) ≡ Ok l → ((n : ℕ) → AreSized n es → AreSized n fs) → FinePlain (begins r fs m.state)
+  begins_fine (Ok ts) fs count e sized = lands_on (m.point + 1) (frame (loop_over (trees_of ts)) ∷ fs) no_demand (behind (kind.Frame ∷ kinds_of fs) e) count (λ n z _. sized n z) refl
+  begins_fine (Err x) fs count e sized = tt
+
+  start_fine : effect k g.unit m.point op.LoopStart s ≡ Ok l → Fine (strict k g.unit op.LoopStart m)
+  start_fine e =
+      taken l broken FinePlain es (λ r. goes_on g.unit m.point (kind.Frame ∷ r)) (λ t fs. begins (items_of_tree t) fs m.state) e
+      (λ t fs e' count sized. begins_fine (items_of_tree t) fs count e' (λ n z. (sized n z).1))
+
+  either_fine : (b : Bool) (x y : Action) → Fine x → Fine y → Fine (cond b x y)
+  either_fine true x y h i = h
+  either_fine false x y h i = i
+
+  next_fine : (p : ℕ) → effect k g.unit m.point (op.LoopNext p) s ≡ Ok l → Fine (strict k g.unit (op.LoopNext p) m)
+  next_fine p e =
+      taken_frame l wrong Fine es (λ r. branches g.unit m.point p (kind.Frame ∷ r)) (λ f fs. cond (nat_lt f.position (length f.items)) (step.goes_on (record m { point = m.point + 1; state = with_entries m.state (frame (advanced f) ∷ fs) }) no_demand) (step.goes_on (at_point p m) no_demand)) e
+      (λ f fs is e' count sized.
+      let b = branches_ok k g.unit g.shapes m.point p (kind.Frame ∷ kinds_of fs) l e' agree in
+      let same : g.shapes p ≡ Some s = b.1 ∙ ap (λ (xs : List Entry). Some (kinds_of xs)) (sym is) in
+      either_fine (nat_lt f.position (length f.items)) _ _
+      (lands_on (m.point + 1) (frame (advanced f) ∷ fs) no_demand b.0 count (λ n z _. sized n z) refl)
+      (lands_on p es no_demand same refl (λ n z _. z) refl))
+
+  get_fine : (a c : ℕ) → effect k g.unit m.point (op.LoopGet a c) s ≡ Ok l → Fine (strict k g.unit (op.LoopGet a c) m)
+  get_fine a c e =
+      let b = require_ok _ _ _ l e in
+      in_place _ _ b.0 (found_frame l broken FinePlain es c (goes_on g.unit m.point (kind.Value ∷ s)) (λ f. push_given (told_by (field_of a) f) es m.state) b.1
+      (λ f is e'. given_fine (told_by (field_of a) f) es refl e' (λ n z. z)))
+
+  -- the loop with the current item kept, or as it was
+  kept_fine : (b : Bool) (fs : List Entry) (c : ℕ) (f : Frame) → slice_get fs c ≡ Some (frame f) → captures fs ≡ captures es → goes_on g.unit m.point (kinds_of fs) ≡ Ok l → ((n : ℕ) → AreSized n es → AreSized n fs) → FinePlain (goes (with_entries m.state (cond b (slice_set fs c (frame (keeping f))) fs)) no_demand)
+  kept_fine true fs c f is count e sized =
+      lands_on (m.point + 1) (slice_set fs c (frame (keeping f))) no_demand (behind (kinds_of fs) e ∙ ap Some (sym (kinds-set fs c f (keeping f) is))) (captures-set fs c f (keeping f) is ∙ count) (λ n z _. sized-set n fs c f (keeping f) is (sized n z)) refl
+  kept_fine false fs c f is count e sized = lands_on (m.point + 1) fs no_demand (behind (kinds_of fs) e) count (λ n z _. sized n z) refl
+
+  keep_fine : (c : ℕ) → effect k g.unit m.point (op.LoopKeep c) s ≡ Ok l → Fine (strict k g.unit (op.LoopKeep c) m)
+  keep_fine c e =
+      taken l broken FinePlain es (λ r. effect.on_frame (slice_get r c) (goes_on g.unit m.point r)) (λ t fs. as_frame (slice_get fs c) broken (λ f. goes (with_entries m.state (cond (truth t) (slice_set fs c (frame (keeping f))) fs)) no_demand)) e
+      (λ t fs e' count sized.
+      found_frame l broken FinePlain fs c (goes_on g.unit m.point (kinds_of fs)) (λ f. goes (with_entries m.state (cond (truth t) (slice_set fs c (frame (keeping f))) fs)) no_demand) e'
+      (λ f is e''. kept_fine (truth t) fs c f is count e'' (λ n z. (sized n z).1)))
+
+  rewind_fine : effect k g.unit m.point op.LoopRewind s ≡ Ok l → Fine (strict k g.unit op.LoopRewind m)
+  rewind_fine e =
+      taken_frame l broken FinePlain es (λ r. goes_on g.unit m.point (kind.Frame ∷ r)) (λ f fs. goes (with_entries m.state (frame (loop_over f.kept) ∷ fs)) no_demand) e
+      (λ f fs is e' count sized. lands_on (m.point + 1) (frame (loop_over f.kept) ∷ fs) no_demand (behind (kind.Frame ∷ kinds_of fs) e') count (λ n z _. sized n z) refl)
+
+  end_fine : effect k g.unit m.point op.LoopEnd s ≡ Ok l → Fine (strict k g.unit op.LoopEnd m)
+  end_fine e =
+      taken_frame l broken FinePlain es (λ r. goes_on g.unit m.point (kind.Value ∷ r)) (λ f fs. push (tree.truth_value (eqb f.position 0)) fs m.state) e
+      (λ f fs is e' count sized. given_fine (Ok (tree.truth_value (eqb f.position 0))) fs count e' sized)
+
+  -- ---- captures
+
+  open_fine : effect k g.unit m.point op.CaptureBegin s ≡ Ok l → Fine (strict k g.unit op.CaptureBegin m)
+  open_fine e = lands (m.point + 1) (capture ∷ es) m.state.locals m.state.globals ([] ∷ m.state.buffers) no_demand (behind (kind.Capture ∷ s) e) refl refl (omega (arith, g.buffers)) (λ n z _. z) refl
+
+  closes_fine : (b : Bool) (bs : List (List ℕ)) (fs : List Entry) → length bs ≡ suc (captures es + above) → captures es ≡ suc (captures fs) → goes_on g.unit m.point (kind.Value ∷ kinds_of fs) ≡ Ok l → ((n : ℕ) → AreSized n es → AreSized n fs) → FinePlain (closes b bs fs m.state)
+  closes_fine b [] fs count one e sized = absurd (omega arith)
+  closes_fine b (bytes ∷ []) fs count one e sized = absurd (omega (arith, one))
+  closes_fine b (bytes ∷ d ∷ bs) fs count one e sized =
+      let t : Tree = cond b (tree.markup bytes) (tree.text bytes) in
+      lands (m.point + 1) (value t ∷ fs) m.state.locals m.state.globals (d ∷ bs) (pushing t) (behind (kind.Value ∷ kinds_of fs) e) refl refl (omega (arith, count, one)) (λ n z fits. (fits, sized n z)) refl
+
+  close_fine : (a : ℕ) → effect k g.unit m.point (op.CaptureEnd a) s ≡ Ok l → Fine (strict k g.unit (op.CaptureEnd a) m)
+  close_fine a e =
+      let b = require_ok _ _ _ l e in
+      in_place _ _ b.0 (taken_capture l broken FinePlain es (λ r. goes_on g.unit m.point (kind.Value ∷ r)) (λ fs. closes (eqb a 1) m.state.buffers fs m.state) b.1
+      (λ fs e' one sized. closes_fine (eqb a 1) m.state.buffers fs g.buffers one e' sized))
+
+  -- ---- unpacking
+
+  spreads_fine : (b : Bool) (n : ℕ) (ts : List Tree) (fs : List Entry) → eqb (length ts) n ≡ b → captures fs ≡ captures es → goes_on g.unit m.point (pushes n (kinds_of fs)) ≡ Ok l → ((z : ℕ) → AreSized z es → AreSized z fs) → FinePlain (cond b (goes (with_entries m.state (piled ts fs)) (pushing_all ts)) (faults_by faults.Unpack))
+  spreads_fine true n ts fs is count e sized =
+      let there : g.shapes (m.point + 1) ≡ Some (kinds_of (piled ts fs)) = behind (pushes n (kinds_of fs)) e ∙ ap (λ (z : ℕ). Some (pushes z (kinds_of fs))) (sym (eqb-true (length ts) n is)) ∙ ap Some (sym (kinds-piled ts fs)) in
+      lands_on (m.point + 1) (piled ts fs) (pushing_all ts) there (captures-piled ts fs ∙ count) (λ z all fits. sized-piled z ts fs fits (sized z all)) refl
+  spreads_fine false n ts fs is count e sized = tt
+
+  unpacks_fine : (n : ℕ) (r : Result Items Fault) (fs : List Entry) → captures fs ≡ captures es → goes_on g.unit m.point (pushes n (kinds_of fs)) ≡ Ok l → ((z : ℕ) → AreSized z es → AreSized z fs) → FinePlain (unpacks n r fs m.state)
+  unpacks_fine n (Ok ts) fs count e sized = spreads_fine (eqb (length (trees_of ts)) n) n (trees_of ts) fs refl count e sized
+  unpacks_fine n (Err x) fs count e sized = tt
+
+  unpack_fine : (c : ℕ) → effect k g.unit m.point (op.Unpack c) s ≡ Ok l → Fine (strict k g.unit (op.Unpack c) m)
+  unpack_fine c e =
+      taken l broken FinePlain es (λ r. goes_on g.unit m.point (pushes c r)) (λ t fs. unpacks c (items_of_tree t) fs m.state) e
+      (λ t fs e' count sized. unpacks_fine c (items_of_tree t) fs count e' (λ n z. (sized n z).1))
+
+  -- ---- calls
+
+  -- a unit begins with no entries, above a caller that waits for what it gives
+  entered_fine : (n : ℕ) (v : Section) (ts : List Tree) (fs : List Entry) → slice_get k.units n ≡ Some v → goes_on g.unit m.point (gives v.kind (kinds_of fs)) ≡ Ok l → captures fs ≡ captures es → ((z : ℕ) → AreSized z es → AreSized z fs) → Fine (step.goes_on (entered n v ts fs m) calling)
+  entered_fine n v ts fs is e count sized =
+      let typed = g.all n v is in (
+        record {
+          all = g.all;
+          unit = v;
+          is_unit = is;
+          shapes = typed.0;
+          typed = typed.1;
+          here = typed.1.start;
+          locals = length-locals_of v.locals ts;
+          globals = g.globals;
+          callers = (record { unit = g.unit; is_unit = g.is_unit; shapes = g.shapes; typed = g.typed; behind = behind (gives v.kind (kinds_of fs)) e; locals = g.locals }, g.callers);
+          buffers = omega (arith, g.buffers, count);
+        },
+        λ z all _. (tt, (sized z all.0, all.1)),
+        omega arith,
+      )
+
+  call_at : (n : ℕ) (o : Option Section) → slice_get k.units n ≡ o → calls g.unit m.point o s ≡ Ok l → Fine (cond (is_some o) (calls_unit n o m) wrong)
+  call_at n None is e = absurd cc
+  call_at n (Some v) is e =
+      taken_many l wrong Fine v.parameters [] es (λ r. goes_on g.unit m.point (gives v.kind r)) (λ ts fs. step.goes_on (entered n v ts fs m) calling) e
+      (λ ts fs e' count sized. entered_fine n v ts fs is e' count sized)
+
+  call_fine : (n : ℕ) → effect k g.unit m.point (op.Call n) s ≡ Ok l → Fine (strict k g.unit (op.Call n) m)
+  call_fine n e = call_at n (slice_get k.units n) refl e
+
+  -- a caller goes on, with what the unit gives on top of its entries
+  resumed_fine : (n : ℕ) (a : Caller) (rest : List Caller) (fs gs : List Entry) (d : Demand) → AreWaiting k n (a ∷ rest) → gives n (kinds_of a.entries) ≡ kinds_of gs → captures gs ≡ captures a.entries → length m.state.buffers ≡ suc (captures_above (a ∷ rest)) → ((z : ℕ) → AreSized z a.entries → d.size ≤ z → AreSized z gs) → d.returns ≡ suc d.calls → IsFineAction k fs (a ∷ rest) (step.goes_on (resumed a rest gs m) d)
+  resumed_fine n a rest fs gs d w kinds count buffers sized back = (
+    record {
+      all = g.all;
+      unit = w.0.unit;
+      is_unit = w.0.is_unit;
+      shapes = w.0.shapes;
+      typed = w.0.typed;
+      here = w.0.behind ∙ ap Some kinds;
+      locals = w.0.locals;
+      globals = g.globals;
+      callers = w.1;
+      buffers = omega (arith, buffers, count);
+    },
+    λ z all fits. (sized z all.1.0 fits, all.1.1),
+    omega (arith, back),
+  )
+
+  -- the first activation returns with no entries, so one buffer is left
+  ends_fine : (fs : List Entry) (bs : List (List ℕ)) → length bs ≡ 1 → IsFineAction k fs [] (back_to [] nothing bs m)
+  ends_fine fs [] count = absurd (omega arith)
+  ends_fine fs (b ∷ []) count = tt
+  ends_fine fs (b ∷ d ∷ bs) count = absurd (omega arith)
+
+  returned_fine : (rest : List Caller) (n : ℕ) (fs : List Entry) → AreWaiting k n rest → may_return n (kinds_of fs) ≡ true → length m.state.buffers ≡ suc (captures fs + captures_above rest) → IsFineAction k fs rest (back_to rest (given_by n fs) m.state.buffers m)
+  returned_fine [] zero [] w ok count = ends_fine [] m.state.buffers count
+  returned_fine (a ∷ rest) zero [] w ok count = resumed_fine 0 a rest [] a.entries step.returning w refl refl (omega (arith, count)) (λ z all _. all) refl
+  returned_fine [] (suc n) (value t ∷ []) w ok count = absurd (omega (arith, w))
+  returned_fine (a ∷ rest) (suc n) (value t ∷ []) w ok count = resumed_fine (suc n) a rest (value t ∷ []) (value t ∷ a.entries) (record (pushing t) { returns = 1 }) w refl refl (omega (arith, count)) (λ z all fits. (fits, all)) refl
+  returned_fine rest n fs w ok count = absurd cc
 
   return_fine : effect k g.unit m.point op.Return s ≡ Ok l → Fine (strict k g.unit op.Return m)
-  return_fine e = returned_fine m.callers g.unit.kind g.callers g.emits (require_ok _ _ _ l e).0
+  return_fine e = returned_fine m.callers g.unit.kind es g.callers (require_ok _ _ _ l e).0 g.buffers
 
   strict_fine : (i : Instruction) → effect k g.unit m.point i s ≡ Ok l → Fine (strict k g.unit i m)
   strict_fine (op.Const c) e = const_fine c e
-  strict_fine (op.GLoad c) e = load_fine c e
-  strict_fine (op.GStore c) e = store_fine c e
+  strict_fine (op.Load c) e = load_fine c e
+  strict_fine (op.Store c) e = store_fine c e
+  strict_fine (op.GLoad c) e = load_global_fine c e
+  strict_fine (op.GStore c) e = store_global_fine c e
   strict_fine op.Drop e = drop_fine e
   strict_fine op.Dup e = dup_fine e
   strict_fine (op.Emit a) e = emit_fine a e
@@ -301,15 +566,28 @@ module _ (k : Code) (m : Machine) (g : IsFit k m) (l : Leads) (agree : Agrees k 
   strict_fine (op.JumpIfFalse p) e = if_false_fine p e
   strict_fine (op.JumpIfTrue p) e = if_true_fine p e
   strict_fine (op.Op a) e = op_fine a e
+  strict_fine (op.Filter a n f) e = filter_fine a n f e
   strict_fine (op.Test a n) e = test_fine a n e
   strict_fine (op.MakeList c) e = makes_fine c listed e
   strict_fine (op.MakeMap c) e = makes_fine (2 * c) mapped e
+  strict_fine op.LoopStart e = start_fine e
+  strict_fine (op.LoopNext p) e = next_fine p e
+  strict_fine (op.LoopGet a c) e = get_fine a c e
+  strict_fine (op.LoopKeep c) e = keep_fine c e
+  strict_fine op.LoopRewind e = rewind_fine e
+  strict_fine op.LoopEnd e = end_fine e
+  strict_fine op.CaptureBegin e = open_fine e
+  strict_fine (op.CaptureEnd a) e = close_fine a e
+  strict_fine (op.Unpack c) e = unpack_fine c e
+  strict_fine (op.Call n) e = call_fine n e
   strict_fine op.Return e = return_fine e
 
 -- ---- a step under a budget
 
 pub cost_positive : (i : Instruction) (m : State) → 1 ≤ cost i m
 cost_positive (op.Const c) m = omega arith
+cost_positive (op.Load c) m = omega arith
+cost_positive (op.Store c) m = omega arith
 cost_positive (op.GLoad c) m = omega arith
 cost_positive (op.GStore c) m = omega arith
 cost_positive op.Drop m = omega arith
@@ -320,35 +598,47 @@ cost_positive (op.Jump p) m = omega arith
 cost_positive (op.JumpIfFalse p) m = omega arith
 cost_positive (op.JumpIfTrue p) m = omega arith
 cost_positive (op.Op a) m = omega arith
+cost_positive (op.Filter a n f) m = omega arith
 cost_positive (op.Test a n) m = omega arith
 cost_positive (op.MakeList c) m = omega arith
 cost_positive (op.MakeMap c) m = omega arith
+cost_positive op.LoopStart m = omega arith
+cost_positive (op.LoopNext p) m = omega arith
+cost_positive (op.LoopGet a c) m = omega arith
+cost_positive (op.LoopKeep c) m = omega arith
+cost_positive op.LoopRewind m = omega arith
+cost_positive op.LoopEnd m = omega arith
+cost_positive op.CaptureBegin m = omega arith
+cost_positive (op.CaptureEnd a) m = omega arith
+cost_positive (op.Unpack c) m = omega arith
+cost_positive (op.Call n) m = omega arith
 cost_positive op.Return m = omega arith
 
-unless_fine : (k : Code) (fuel : ℕ) (b : Bool) (l : config.Limit) (n : Next) → (b ≡ false → IsFineStep k fuel n) → IsFineStep k fuel (unless b l n)
-unless_fine k fuel true l n h = tt
-unless_fine k fuel false l n h = h refl
+unless_fine : (k : Code) (fuel depth : ℕ) (b : Bool) (l : config.Limit) (n : Next) → (b ≡ false → IsFineStep k fuel depth n) → IsFineStep k fuel depth (unless b l n)
+unless_fine k fuel depth true l n h = tt
+unless_fine k fuel depth false l n h = h refl
 
-spends_fine : (k : Code) (es : List Entry) (n : ℕ) (a : Action) (b : Budget) → 1 ≤ n → AreSized b.size es → IsFineAction k es a → IsFineStep k b.fuel (spends n a b)
-spends_fine k es n (step.goes_on m d) b positive sized fine =
-    unless_fine k b.fuel (nat_lt b.fuel n) config.fuel _ (λ enough.
-    unless_fine k b.fuel (nat_lt b.depth d.calls) config.depth _ (λ _.
-    unless_fine k b.fuel (nat_lt b.output d.bytes) config.output _ (λ _.
-    unless_fine k b.fuel (nat_lt b.size d.size) config.size _ (λ small.
-    unless_fine k b.fuel (nat_lt b.nesting d.nesting) config.nesting (Goes (record { machine = m; left = spared n d b })) (λ _.
+spends_fine : (k : Code) (es : List Entry) (above : List Caller) (n : ℕ) (a : Action) (b : Budget) → 1 ≤ n → AreAllSized b.size es above → IsFineAction k es above a → IsFineStep k b.fuel (b.depth + length above) (spends n a b)
+spends_fine k es above n (step.goes_on m d) b positive sized fine =
+    unless_fine k b.fuel (b.depth + length above) (nat_lt b.fuel n) config.fuel _ (λ enough.
+    unless_fine k b.fuel (b.depth + length above) (nat_lt b.depth d.calls) config.depth _ (λ deep.
+    unless_fine k b.fuel (b.depth + length above) (nat_lt b.output d.bytes) config.output _ (λ _.
+    unless_fine k b.fuel (b.depth + length above) (nat_lt b.size d.size) config.size _ (λ small.
+    unless_fine k b.fuel (b.depth + length above) (nat_lt b.nesting d.nesting) config.nesting (Goes (record { machine = m; left = spared n d b })) (λ _.
     let fuel : n ≤ b.fuel = ltb-false _ _ enough in
-    (record { fit = fine.0; sized = fine.1 b.size sized (ltb-false _ _ small) }, omega arith))))))
-spends_fine k es n (ends t) b positive sized fine = unless_fine k b.fuel (nat_lt b.fuel n) config.fuel (Ends (config.text t)) (λ _. tt)
-spends_fine k es n (faulty f) b positive sized fine = unless_fine k b.fuel (nat_lt b.fuel n) config.fuel (Ends (config.fault f)) (λ _. tt)
-spends_fine k es n wrong b positive sized fine = absurd fine
+    let depth : d.calls ≤ b.depth = ltb-false _ _ deep in
+    (record { fit = fine.0; sized = fine.1 b.size sized (ltb-false _ _ small) }, omega arith, omega (arith, fine.2)))))))
+spends_fine k es above n (ends t) b positive sized fine = unless_fine k b.fuel (b.depth + length above) (nat_lt b.fuel n) config.fuel (Ends (config.text t)) (λ _. tt)
+spends_fine k es above n (faulty f) b positive sized fine = unless_fine k b.fuel (b.depth + length above) (nat_lt b.fuel n) config.fuel (Ends (config.fault f)) (λ _. tt)
+spends_fine k es above n wrong b positive sized fine = absurd fine
 
 at_instruction : (k : Code) (c : Config) (g : IsGood k c) (l : Leads) (o : Option Instruction) → slice_get g.fit.unit.code c.machine.point ≡ o → Agrees k g.fit.unit g.fit.shapes l
-    → effect_of k g.fit.unit c.machine.point o (kinds_of c.machine.state.entries) ≡ Ok l → IsFineStep k c.left.fuel (next k c)
+    → effect_of k g.fit.unit c.machine.point o (kinds_of c.machine.state.entries) ≡ Ok l → IsFineStep k c.left.fuel (depth_of c) (next k c)
 at_instruction k c g l None is a e = absurd cc
 at_instruction k c g l (Some i) is a e =
-    rw (g.fit.is_unit, is) (spends_fine k c.machine.state.entries (cost i c.machine.state) (strict k g.fit.unit i c.machine) c.left (cost_positive i c.machine.state) g.sized (strict_fine k c.machine g.fit l a i e))
+    rw (g.fit.is_unit, is) (spends_fine k c.machine.state.entries c.machine.callers (cost i c.machine.state) (strict k g.fit.unit i c.machine) c.left (cost_positive i c.machine.state) g.sized (strict_fine k c.machine g.fit l a i e))
 
-pub step_fine : (k : Code) (c : Config) → IsGood k c → IsFineStep k c.left.fuel (next k c)
+pub step_fine : (k : Code) (c : Config) → IsGood k c → IsFineStep k c.left.fuel (depth_of c) (next k c)
 step_fine k c g =
     let f = g.fit.typed.fine c.machine.point (kinds_of c.machine.state.entries) g.fit.here in
     at_instruction k c g f.leads (slice_get g.fit.unit.code c.machine.point) refl f.agree f.effect
@@ -358,7 +648,7 @@ pub record IsReady (k : Code) (m : Machine) : Type 0 where
   pub unit : Section
   pub instruction : Instruction
   pub is : fetch k m.unit m.point ≡ Some (unit, instruction)
-  pub fine : IsFineAction k m.state.entries (strict k unit instruction m)
+  pub fine : IsFineAction k m.state.entries m.callers (strict k unit instruction m)
 
 ready_at : (k : Code) (m : Machine) (g : IsFit k m) (l : Leads) (o : Option Instruction) → slice_get g.unit.code m.point ≡ o → Agrees k g.unit g.shapes l
     → effect_of k g.unit m.point o (kinds_of m.state.entries) ≡ Ok l → IsReady k m

@@ -15,7 +15,7 @@ use Rattle.jt_image.specs.declared.wire.Instr.{Instr}
 use Rattle.jt_image.specs.Code.{Constant, number, text, markup, Name, Section}
 use Rattle.jt_image.specs.Spelling.{name_bytes, constant_bytes, wire_of, wire_bytes, instruction_bytes}
 use Rattle.jt_image.specs.IsCode.{total_len, IsConstant, IsInstruction, max_locals, max_instructions}
-use Rattle.jt_image.specs.Reading.{◌>>=◌, check, number_at, byte_at, text_at, is_used, may_follow, slot_at, name_text_at, name_at, long_text_at, constant_of, constant_at, Header, parameters_at, kind_at, locals_at, len_at, header_of, uses_none, uses_c, uses_a, uses_ab, instruction_of, known, known_of, instruction_at, instructions_at, section_of, section_at, sections_at, header_total, many_at, each_at}
+use Rattle.jt_image.specs.Reading.{◌>>=◌, check, number_at, byte_at, text_at, is_used, may_follow, slot_at, name_text_at, name_at, long_text_at, constant_of, constant_at, Header, parameters_at, kind_at, locals_at, len_at, header_of, uses_none, uses_c, uses_a, uses_ab, uses_ac, instruction_of, known, known_of, instruction_at, instructions_at, section_of, section_at, sections_at, header_total, many_at, each_at}
 use Rattle.jt_image.proofs.Found.{Read, AllOk, all_at, all_map, bind_from, check_all, cond_all, IsBytes, Takes, Takes-then, Takes-as, Found, wide16, wide32, wide64, number_found, single, byte_found, IsText, text_found, AllGood, Many, many_found, Each, each_found}
 
 and_true : (a b : Bool) → (a && b) ≡ true → (a ≡ true) × (b ≡ true)
@@ -250,6 +250,13 @@ ab_wire w opcode i e is = by_test (eqb w.c 0) refl
     by_test true x = is ∙ same_wire w opcode w.a w.b 0 e refl refl (sym (eqb-true w.c 0 x))
     by_test false x = tt
 
+ac_wire : (w : Instr) (opcode : ℕ) (i : Instruction) → eqb w.op opcode ≡ true → wire_of i ≡ wire_at opcode w.a 0 w.c → HasWire w (uses_ac w i)
+ac_wire w opcode i e is = by_test (eqb w.b 0) refl
+  where
+    by_test : (x : Bool) → eqb w.b 0 ≡ x → HasWire w (cond x (Some i) None)
+    by_test true x = is ∙ same_wire w opcode w.a 0 w.c e refl (sym (eqb-true w.b 0 x)) refl
+    by_test false x = tt
+
 choose : (w : Instr) (b : Bool) (x y : Option Instruction) → (b ≡ true → HasWire w x) → HasWire w y → HasWire w (cond b x y)
 choose w true x y h k = h refl
 choose w false x y h k = k
@@ -258,6 +265,8 @@ pub instruction_wire : (w : Instr) → HasWire w (instruction_of w)
 unfolding instruction_of
 instruction_wire w =
     choose w (eqb w.op 1) _ _ (λ e. c_wire w 1 (op.Const w.c) e refl) (
+    choose w (eqb w.op 2) _ _ (λ e. c_wire w 2 (op.Load w.c) e refl) (
+    choose w (eqb w.op 3) _ _ (λ e. c_wire w 3 (op.Store w.c) e refl) (
     choose w (eqb w.op 4) _ _ (λ e. c_wire w 4 (op.GLoad w.c) e refl) (
     choose w (eqb w.op 5) _ _ (λ e. c_wire w 5 (op.GStore w.c) e refl) (
     choose w (eqb w.op 6) _ _ (λ e. none_wire w 6 op.Drop e refl) (
@@ -268,10 +277,21 @@ instruction_wire w =
     choose w (eqb w.op 11) _ _ (λ e. c_wire w 11 (op.JumpIfFalse w.c) e refl) (
     choose w (eqb w.op 12) _ _ (λ e. c_wire w 12 (op.JumpIfTrue w.c) e refl) (
     choose w (eqb w.op 13) _ _ (λ e. a_wire w 13 (op.Op w.a) e refl) (
+    choose w (eqb w.op 14) _ _ (λ e. same_wire w 14 w.a w.b w.c e refl refl refl) (
     choose w (eqb w.op 15) _ _ (λ e. ab_wire w 15 (op.Test w.a w.b) e refl) (
     choose w (eqb w.op 16) _ _ (λ e. c_wire w 16 (op.MakeList w.c) e refl) (
     choose w (eqb w.op 17) _ _ (λ e. c_wire w 17 (op.MakeMap w.c) e refl) (
-    choose w (eqb w.op 28) _ _ (λ e. none_wire w 28 op.Return e refl) tt))))))))))))))
+    choose w (eqb w.op 18) _ _ (λ e. none_wire w 18 op.LoopStart e refl) (
+    choose w (eqb w.op 19) _ _ (λ e. c_wire w 19 (op.LoopNext w.c) e refl) (
+    choose w (eqb w.op 20) _ _ (λ e. ac_wire w 20 (op.LoopGet w.a w.c) e refl) (
+    choose w (eqb w.op 21) _ _ (λ e. c_wire w 21 (op.LoopKeep w.c) e refl) (
+    choose w (eqb w.op 22) _ _ (λ e. none_wire w 22 op.LoopRewind e refl) (
+    choose w (eqb w.op 23) _ _ (λ e. none_wire w 23 op.LoopEnd e refl) (
+    choose w (eqb w.op 24) _ _ (λ e. none_wire w 24 op.CaptureBegin e refl) (
+    choose w (eqb w.op 25) _ _ (λ e. a_wire w 25 (op.CaptureEnd w.a) e refl) (
+    choose w (eqb w.op 26) _ _ (λ e. c_wire w 26 (op.Unpack w.c) e refl) (
+    choose w (eqb w.op 27) _ _ (λ e. c_wire w 27 (op.Call w.c) e refl) (
+    choose w (eqb w.op 28) _ _ (λ e. none_wire w 28 op.Return e refl) tt)))))))))))))))))))))))))))
 
 -- the fields from which an instruction was made
 pub wire_from : (w : Instr) (i : Instruction) → instruction_of w ≡ Some i → wire_of i ≡ w
@@ -280,6 +300,8 @@ wire_from w i e = subst (HasWire w) e (instruction_wire w)
 -- the fields of an instruction fit
 small_instruction : (i : Instruction) (w : Instr) → wire_of i ≡ w → w.a < 2 ^ 8 → w.b < 2 ^ 16 → w.c < 2 ^ 32 → IsInstruction i
 small_instruction (op.Const c) w e a m l = subst (λ (n : ℕ). n < 2 ^ 32) (ap (λ (v : Instr). v.c) (sym e)) l
+small_instruction (op.Load c) w e a m l = subst (λ (n : ℕ). n < 2 ^ 32) (ap (λ (v : Instr). v.c) (sym e)) l
+small_instruction (op.Store c) w e a m l = subst (λ (n : ℕ). n < 2 ^ 32) (ap (λ (v : Instr). v.c) (sym e)) l
 small_instruction (op.GLoad c) w e a m l = subst (λ (n : ℕ). n < 2 ^ 32) (ap (λ (v : Instr). v.c) (sym e)) l
 small_instruction (op.GStore c) w e a m l = subst (λ (n : ℕ). n < 2 ^ 32) (ap (λ (v : Instr). v.c) (sym e)) l
 small_instruction op.Drop w e a m l = tt
@@ -290,9 +312,24 @@ small_instruction (op.Jump c) w e a m l = subst (λ (n : ℕ). n < 2 ^ 32) (ap (
 small_instruction (op.JumpIfFalse c) w e a m l = subst (λ (n : ℕ). n < 2 ^ 32) (ap (λ (v : Instr). v.c) (sym e)) l
 small_instruction (op.JumpIfTrue c) w e a m l = subst (λ (n : ℕ). n < 2 ^ 32) (ap (λ (v : Instr). v.c) (sym e)) l
 small_instruction (op.Op c) w e a m l = subst (λ (n : ℕ). n < 2 ^ 8) (ap (λ (v : Instr). v.a) (sym e)) a
+small_instruction (op.Filter c d f) w e a m l = (
+  subst (λ (n : ℕ). n < 2 ^ 8) (ap (λ (v : Instr). v.a) (sym e)) a,
+  subst (λ (n : ℕ). n < 2 ^ 16) (ap (λ (v : Instr). v.b) (sym e)) m,
+  subst (λ (n : ℕ). n < 2 ^ 32) (ap (λ (v : Instr). v.c) (sym e)) l,
+)
 small_instruction (op.Test c d) w e a m l = (subst (λ (n : ℕ). n < 2 ^ 8) (ap (λ (v : Instr). v.a) (sym e)) a, subst (λ (n : ℕ). n < 2 ^ 16) (ap (λ (v : Instr). v.b) (sym e)) m)
 small_instruction (op.MakeList c) w e a m l = subst (λ (n : ℕ). n < 2 ^ 32) (ap (λ (v : Instr). v.c) (sym e)) l
 small_instruction (op.MakeMap c) w e a m l = subst (λ (n : ℕ). n < 2 ^ 32) (ap (λ (v : Instr). v.c) (sym e)) l
+small_instruction op.LoopStart w e a m l = tt
+small_instruction (op.LoopNext c) w e a m l = subst (λ (n : ℕ). n < 2 ^ 32) (ap (λ (v : Instr). v.c) (sym e)) l
+small_instruction (op.LoopGet c d) w e a m l = (subst (λ (n : ℕ). n < 2 ^ 8) (ap (λ (v : Instr). v.a) (sym e)) a, subst (λ (n : ℕ). n < 2 ^ 32) (ap (λ (v : Instr). v.c) (sym e)) l)
+small_instruction (op.LoopKeep c) w e a m l = subst (λ (n : ℕ). n < 2 ^ 32) (ap (λ (v : Instr). v.c) (sym e)) l
+small_instruction op.LoopRewind w e a m l = tt
+small_instruction op.LoopEnd w e a m l = tt
+small_instruction op.CaptureBegin w e a m l = tt
+small_instruction (op.CaptureEnd c) w e a m l = subst (λ (n : ℕ). n < 2 ^ 8) (ap (λ (v : Instr). v.a) (sym e)) a
+small_instruction (op.Unpack c) w e a m l = subst (λ (n : ℕ). n < 2 ^ 32) (ap (λ (v : Instr). v.c) (sym e)) l
+small_instruction (op.Call c) w e a m l = subst (λ (n : ℕ). n < 2 ^ 32) (ap (λ (v : Instr). v.c) (sym e)) l
 small_instruction op.Return w e a m l = tt
 
 -- whatever the test says

@@ -10,6 +10,7 @@ pub mod Ids
 pub mod Effect
 pub mod Typed
 pub mod Config
+pub mod Loops
 pub mod Step
 pub mod Run
 pub mod Enough

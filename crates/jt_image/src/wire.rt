@@ -2,7 +2,7 @@
 ghost use Rattle.std.specs.Prelude.{◌≡◌, ◌≢◌, MatchOption, IfSome};
 ghost use Rattle.jt_image.specs.Spelling.{wire_of};
 ghost use Rattle.jt_image.specs.IsCode.{IsInstruction};
-ghost use Rattle.jt_image.specs.Reading.{uses_none, uses_a, uses_ab, uses_c, instruction_of};
+ghost use Rattle.jt_image.specs.Reading.{uses_none, uses_a, uses_ab, uses_ac, uses_c, instruction_of};
 
 use crate::instruction::Instruction;
 
@@ -42,6 +42,12 @@ fn with_a(op: u8, a: u8) -> Instr
     Instr { op, a, b: 0, c: 0 }
 }
 
+fn with_ac(op: u8, a: u8, c: u32) -> Instr
+    ensures { result ≡ record { op = op; a = a; b = 0; c = c } }
+{
+    Instr { op, a, b: 0, c }
+}
+
 fn with_ab(op: u8, a: u8, b: u16) -> Instr
     ensures { result ≡ record { op = op; a = a; b = b; c = 0 } }
 {
@@ -55,6 +61,8 @@ impl Instruction {
     {
         match self {
             Instruction::Const { constant } => with_c(1, constant),
+            Instruction::Load { local } => with_c(2, local),
+            Instruction::Store { local } => with_c(3, local),
             Instruction::GLoad { global } => with_c(4, global),
             Instruction::GStore { global } => with_c(5, global),
             Instruction::Drop => plain(6),
@@ -65,9 +73,29 @@ impl Instruction {
             Instruction::JumpIfFalse { target } => with_c(11, target),
             Instruction::JumpIfTrue { target } => with_c(12, target),
             Instruction::Op { operator } => with_a(13, operator),
+            Instruction::Filter {
+                filter,
+                values,
+                flag,
+            } => Instr {
+                op: 14,
+                a: filter,
+                b: values,
+                c: flag,
+            },
             Instruction::Test { test, values } => with_ab(15, test, values),
             Instruction::MakeList { items } => with_c(16, items),
             Instruction::MakeMap { entries } => with_c(17, entries),
+            Instruction::LoopStart => plain(18),
+            Instruction::LoopNext { target } => with_c(19, target),
+            Instruction::LoopGet { field, above } => with_ac(20, field, above),
+            Instruction::LoopKeep { above } => with_c(21, above),
+            Instruction::LoopRewind => plain(22),
+            Instruction::LoopEnd => plain(23),
+            Instruction::CaptureBegin => plain(24),
+            Instruction::CaptureEnd { flag } => with_a(25, flag),
+            Instruction::Unpack { values } => with_c(26, values),
+            Instruction::Call { unit } => with_c(27, unit),
             Instruction::Return => plain(28),
         }
     }
@@ -100,6 +128,12 @@ impl Instr {
         if self.c == 0 { Some(instruction) } else { None }
     }
 
+    fn uses_ac(self, instruction: Instruction) -> Option<Instruction>
+        ensures { result ≡ uses_ac self instruction }
+    {
+        if self.b == 0 { Some(instruction) } else { None }
+    }
+
     fn uses_c(self, instruction: Instruction) -> Option<Instruction>
         ensures { result ≡ uses_c self instruction }
     {
@@ -117,6 +151,8 @@ impl Instr {
         let (a, b, c) = (self.a, self.b, self.c);
         match self.op {
             1 => self.uses_c(Instruction::Const { constant: c }),
+            2 => self.uses_c(Instruction::Load { local: c }),
+            3 => self.uses_c(Instruction::Store { local: c }),
             4 => self.uses_c(Instruction::GLoad { global: c }),
             5 => self.uses_c(Instruction::GStore { global: c }),
             6 => self.uses_none(Instruction::Drop),
@@ -127,9 +163,24 @@ impl Instr {
             11 => self.uses_c(Instruction::JumpIfFalse { target: c }),
             12 => self.uses_c(Instruction::JumpIfTrue { target: c }),
             13 => self.uses_a(Instruction::Op { operator: a }),
+            14 => Some(Instruction::Filter {
+                filter: a,
+                values: b,
+                flag: c,
+            }),
             15 => self.uses_ab(Instruction::Test { test: a, values: b }),
             16 => self.uses_c(Instruction::MakeList { items: c }),
             17 => self.uses_c(Instruction::MakeMap { entries: c }),
+            18 => self.uses_none(Instruction::LoopStart),
+            19 => self.uses_c(Instruction::LoopNext { target: c }),
+            20 => self.uses_ac(Instruction::LoopGet { field: a, above: c }),
+            21 => self.uses_c(Instruction::LoopKeep { above: c }),
+            22 => self.uses_none(Instruction::LoopRewind),
+            23 => self.uses_none(Instruction::LoopEnd),
+            24 => self.uses_none(Instruction::CaptureBegin),
+            25 => self.uses_a(Instruction::CaptureEnd { flag: a }),
+            26 => self.uses_c(Instruction::Unpack { values: c }),
+            27 => self.uses_c(Instruction::Call { unit: c }),
             28 => self.uses_none(Instruction::Return),
             _ => None,
         }

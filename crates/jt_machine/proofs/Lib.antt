@@ -2,3 +2,4 @@ pub mod Bridge
 pub mod Steps
 pub mod Taking
 pub mod Mapping
+pub mod Returning

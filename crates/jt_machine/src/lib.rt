@@ -1,7 +1,11 @@
 //! Runs verified images under budgets.
 #![tactic(auto)]
 
+mod calls;
+mod captures;
+mod items;
 mod limits;
+mod loops;
 mod making;
 mod maps;
 mod outcome;
@@ -10,6 +14,7 @@ mod runs;
 mod start;
 mod state;
 mod step;
+mod unpacking;
 
 pub use outcome::Outcome;
 pub use runs::run;

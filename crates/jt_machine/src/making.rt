@@ -1,24 +1,27 @@
 //! Instructions that make one value of several.
-ghost use Rattle.std.specs.Prelude.{◌≡◌, ◌≢◌, ◌≤◌, ◌+◌, ◌*◌, ◌-◌, ◌/◌, ◌<◌, ◌^◌, min, length, map, option_map, List, Result, Some, None, IfOk};
+ghost use Rattle.std.specs.Prelude.{◌≡◌, ◌≢◌, ◌≤◌, ◌+◌, ◌*◌, ◌-◌, ◌/◌, ◌<◌, ◌^◌, ◌∷◌, [], min, length, map, option_map, List, Result, Some, None, IfOk};
 ghost use Rattle.jt_value.specs.Tree.{Tree, items_size};
 ghost use Rattle.jt_value.specs.View.{view, items_view};
 ghost use Rattle.jt_value.specs.declared.fault.Fault.{Fault};
 ghost use Rattle.jt_ops.specs.Limited.{limited, limited_by, Answers};
 ghost use Rattle.jt_ops.specs.Operation.{operation};
 ghost use Rattle.jt_ops.specs.OpTable.{op_operands};
-ghost use Rattle.jt_image.specs.Ids.{operator_of, test_of};
+ghost use Rattle.jt_filters.specs.FilterTable.{least_values, most_values};
+ghost use Rattle.jt_image.specs.Ids.{operator_of, filter_of, test_of};
 ghost use Rattle.jt_image.specs.Step.{listed, mapped};
 ghost use Rattle.jt_image.specs.Run.{Wrong, limit_of};
-ghost use Rattle.jt_machine.specs.Parts.{make, operate as operate_next, apply_test as test_next, answering, push as pushes, step_on as steps_on};
+ghost use Rattle.jt_machine.specs.Parts.{make, operate as operate_next, apply_filter as filter_next, apply_test as test_next, answering, push as pushes, step_on as steps_on};
 ghost use Rattle.jt_machine.specs.View.{budget_view, config_view, next_view, entries_view, values_on, HasValues, AreSized, AreFew};
-ghost use Rattle.jt_machine.specs.Making.{makes_with, AreMany};
+ghost use Rattle.jt_machine.specs.Making.{makes_with, Answered, AreMany};
 
 use crate::maps::map_of;
 use crate::outcome::Outcome;
 use crate::parts::{pay, pop, push, push_fitting};
 use crate::state::{Entry, State};
 use jt_budget::{Budget, Spent};
-use jt_ops::{Limits, OpError, OpId, TestId, binary, range, test, unary};
+use jt_filters::{
+    FilterId, Limits, OpError, OpId, TestId, apply, binary_owned, range, test, unary,
+};
 use jt_value::{NoMemory, Value, ValueError};
 use std::alloc::Global;
 
@@ -30,7 +33,7 @@ enum Taken {
 }
 
 // Takes that many values from the top, the deepest first.
-fn take_values(
+pub(crate) fn take_values(
     alloc: Global,
     entries: &mut Vec<Entry>,
     count: usize,
@@ -81,7 +84,7 @@ fn push_answer(
 ) -> Result<Option<Outcome>, NoMemory>
     requires room { state.old.point + 1 < 2 ^ 64 }
     requires fits { IfOk answer (λ v. limit_of (budget_view state.old.left) (view v) ≡ None) }
-    ensures { (r : Result Tree Fault) → Answers answer (limited state.old.left.size state.old.left.nesting r) → IfOk result (λ o. answering r (λ t. pushes t (config_view state.old) steps_on) ≡ next_view o state.new) }
+    ensures { (r : Result Tree Fault) → Answered answer (limited state.old.left.size state.old.left.nesting r) → IfOk result (λ o. answering r (λ t. pushes t (config_view state.old) steps_on) ≡ next_view o state.new) }
 {
     match answer {
         Ok(value) => push_fitting(state, value),
@@ -109,16 +112,30 @@ fn operands(operator: OpId) -> usize
 fn operated(
     alloc: Global,
     operator: OpId,
-    operands: &[Value],
+    mut operands: Vec<Value>,
     limits: Limits,
 ) -> Result<Value, OpError>
-    requires { length operands.now ≡ op_operands operator }
-    ensures { Answers result (limited_by limits (operation operator (map view operands.now))) }
+    requires { length operands.items ≡ op_operands operator }
+    ensures { Answers result (limited_by limits (operation operator (map view operands.items))) }
 {
-    match operands {
+    match operands.as_slice() {
         [operand] => unary(alloc, operator, operand, limits),
-        [left, right] => binary(alloc, operator, left, right, limits),
-        _ => range(alloc, operands, limits),
+        [_, _] => {
+            let (left, right) = two_of(&mut operands);
+            binary_owned(alloc, operator, left, right, limits)
+        }
+        _ => range(alloc, &operands, limits),
+    }
+}
+
+// Two values, taken out.
+fn two_of(values: &mut Vec<Value>) -> (Value, Value)
+    requires { length values.old.items ≡ 2 }
+    ensures { values.old.items ≡ result.0 ∷ result.1 ∷ [] }
+{
+    match (values.pop(), values.pop()) {
+        (Some(right), Some(left)) => (left, right),
+        _ => unreachable!(),
     }
 }
 
@@ -152,7 +169,33 @@ pub(crate) fn operate(
         Taken::Paid(values) => values,
         Taken::Unpaid(outcome) => return Ok(Some(outcome)),
     };
-    let answer = operated(alloc, operator, &values, limits_of(&state.left));
+    let answer = operated(alloc, operator, values, limits_of(&state.left));
+    push_answer(state, answer)
+}
+
+/// Takes that many values, the input deepest, and puts what a filter gives on them in their place. Flag 1 says that it
+/// escapes.
+pub(crate) fn apply_filter(
+    alloc: Global,
+    state: &mut State,
+    id: u8,
+    count: usize,
+    flag: u32,
+) -> Result<Option<Outcome>, NoMemory>
+    requires not_wrong { filter_next id count flag (config_view state.old) ≢ Wrong }
+    requires sized { AreSized state.old }
+    requires few { AreFew state.old }
+    requires room { state.old.point + 1 < 2 ^ 64 }
+    ensures { IfOk result (λ r. filter_next id count flag (config_view state.old) ≡ next_view r state.new) }
+{
+    let Some(filter) = filter_by(id) else {
+        unreachable!()
+    };
+    let values = match take_paid(alloc, state, count)? {
+        Taken::Paid(values) => values,
+        Taken::Unpaid(outcome) => return Ok(Some(outcome)),
+    };
+    let answer = apply(alloc, filter, &values, flag == 1, limits_of(&state.left));
     push_answer(state, answer)
 }
 
@@ -195,7 +238,7 @@ pub(crate) fn make_list(
     ensures { IfOk result (λ r. make count listed (config_view state.old) ≡ next_view r state.new) }
 {
     match take_paid(alloc, state, count)? {
-        Taken::Paid(values) => push(state, Value::List(values)),
+        Taken::Paid(values) => push(state, Value::list(alloc, values)?),
         Taken::Unpaid(outcome) => Ok(Some(outcome)),
     }
 }
@@ -228,6 +271,13 @@ fn operator_by(id: u8) -> Option<OpId>
     ensures { result ≡ operator_of id }
 {
     OpId::by_id(id)
+}
+
+// The filter of an id.
+fn filter_by(id: u8) -> Option<FilterId>
+    ensures { result ≡ filter_of id }
+{
+    FilterId::by_id(id)
 }
 
 // The test of an id.

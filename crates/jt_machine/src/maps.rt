@@ -19,10 +19,8 @@ pub(crate) fn map_of(alloc: Global, values: Vec<Value>) -> Result<Value, ValueEr
     if let Some(fault) = keys_fault(&values) {
         return Err(ValueError::Fault(fault));
     }
-    match entries_of(alloc, values) {
-        Ok(entries) => Ok(Value::Map(entries)),
-        Err(NoMemory) => Err(ValueError::NoMemory),
-    }
+    let entries = entries_of(alloc, values)?;
+    Ok(Value::map(alloc, entries)?)
 }
 
 // The fault of a key: one that is no text has one.
@@ -59,19 +57,19 @@ fn keys_fault(values: &[Value]) -> Option<Fault>
 }
 
 // The text of a key.
-fn key_text(key: Value) -> String
-    requires { is_text (view key) ≡ true }
-    ensures { string_bytes result ≡ key_bytes (view key) }
+fn key_text(alloc: Global, key: &Value) -> Result<String, NoMemory>
+    requires { is_text (view key.now) ≡ true }
+    ensures { IfOk result (λ s. string_bytes s ≡ key_bytes (view key.now)) }
 {
     match key {
-        Value::Text(text) => text,
-        Value::Markup(text) => text,
+        Value::Text(text) => Ok(String::from_str(alloc, text.as_str())?),
+        Value::Markup(text) => Ok(String::from_str(alloc, text.as_str())?),
         _ => unreachable!(),
     }
 }
 
 // Takes the last value.
-fn pop_last(values: &mut Vec<Value>) -> Option<Value>
+pub(crate) fn pop_last(values: &mut Vec<Value>) -> Option<Value>
     ensures some { IfSome result (λ v. upward values.old.items ≡ view v ∷ upward values.new.items) }
     ensures none { IfNone result (upward values.old.items ≡ []) }
     ensures fewer { IfSome result (λ _. length values.new.items < length values.old.items) }
@@ -80,41 +78,45 @@ fn pop_last(values: &mut Vec<Value>) -> Option<Value>
 }
 
 // Takes the last key and its value, where keys and values stand in turn from the end.
-fn pop_pair(values: &mut Vec<Value>) -> Option<(String, Value)>
+fn pop_pair(values: &mut Vec<Value>) -> Option<(Value, Value)>
     requires { HasTextKeys values.old.items }
-    ensures some { IfSome result (λ p. (es : Entries) → put_entries es (upward values.old.items) ≡ put_entries (put_entry (string_bytes p.0) (view p.1) es) (upward values.new.items)) }
+    ensures some { IfSome result (λ p. (es : Entries) → put_entries es (upward values.old.items) ≡ put_entries (put_entry (key_bytes (view p.0)) (view p.1) es) (upward values.new.items)) }
+    ensures text { IfSome result (λ p. is_text (view p.0) ≡ true) }
     ensures none { IfNone result ((es : Entries) → put_entries es (upward values.old.items) ≡ es) }
     ensures texts { IfSome result (λ _. HasTextKeys values.new.items) }
     ensures fewer { IfSome result (λ _. length values.new.items < length values.old.items) }
 {
     let key = pop_last(values)?;
     let value = pop_last(values)?;
-    Some((key_text(key), value))
+    Some((key, value))
 }
 
 // Puts a value at a key. A key that is there keeps its place.
 fn put_pair(
+    alloc: Global,
     entries: &mut IndexMap<String, Value>,
-    key: String,
+    key: &Value,
     value: Value,
 ) -> Result<(), NoMemory>
-    ensures { OnOk result (entries_view entries.new.entries ≡ put_entry (string_bytes key) (view value) (entries_view entries.old.entries)) }
+    requires { is_text (view key.now) ≡ true }
+    ensures { OnOk result (entries_view entries.new.entries ≡ put_entry (key_bytes (view key.now)) (view value) (entries_view entries.old.entries)) }
 {
-    match entries.insert(key, value) {
+    let text = key_text(alloc, key)?;
+    match entries.insert(text, value) {
         Ok(_) => Ok(()),
         Err(_) => Err(NoMemory),
     }
 }
 
 // The entries of keys and values in turn.
-fn entries_of(alloc: Global, mut values: Vec<Value>) -> Result<Vec<(String, Value)>, NoMemory>
+fn entries_of(alloc: Global, mut values: Vec<Value>) -> Result<IndexMap<String, Value>, NoMemory>
     requires { list_all is_text (keys_of (map view values.items)) ≡ true }
-    ensures { IfOk result (λ es. entries_view es.items ≡ put_entries no_entries (map view values.items)) }
+    ensures { IfOk result (λ m. entries_view m.entries ≡ put_entries no_entries (map view values.items)) }
 {
     values.reverse();
     let mut entries: IndexMap<String, Value> = IndexMap::new(alloc);
     'pairs: while let Some((key, value)) = pop_pair(&mut values) {
-        put_pair(&mut entries, key, value)?;
+        put_pair(alloc, &mut entries, &key, value)?;
     }
-    Ok(entries.into_iter().collect(alloc)?)
+    Ok(entries)
 }

@@ -48,6 +48,7 @@ fn run_code<C: Code>(
     if let Some(spent) = context_passes(code, context, &budget) {
         return Ok(Outcome::Spent(spent));
     }
+    let _depth = budget.depth;
     let mut state = start(alloc, code, context, budget)?;
     'steps: loop {
         if let Some(outcome) = step(alloc, code, &mut state)? {

@@ -119,6 +119,8 @@ pub(crate) fn start<C: Code>(
         locals,
         globals,
         buffer: String::new(alloc),
+        outer: Vec::new(alloc),
+        callers: Vec::new(alloc),
         left: budget,
     })
 }

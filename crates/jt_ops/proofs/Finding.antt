@@ -8,12 +8,12 @@ use Rattle.memchr.specs.Find.{OccursAt, FindsNeedle, Nowhere}
 use Rattle.memchr.proofs.lemmas.MatchLemmas.{OccursAt-split, OccursAt-from_part}
 use Rattle.jt_ops.specs.Membership.{begins_with, occurs_in}
 
-begins_append : (needle rest : List ℕ) → begins_with (needle ++ rest) needle ≡ true
+pub begins_append : (needle rest : List ℕ) → begins_with (needle ++ rest) needle ≡ true
 begins_append [] [] = refl
 begins_append [] (r ∷ rs) = refl
 begins_append (n ∷ ns) rest = and_from (n == n) (begins_with (ns ++ rest) ns) (eq-eqb n n refl) (begins_append ns rest)
 
-begins_split : (hay needle : List ℕ) → begins_with hay needle ≡ true → (rest : List ℕ) × (hay ≡ needle ++ rest)
+pub begins_split : (hay needle : List ℕ) → begins_with hay needle ≡ true → (rest : List ℕ) × (hay ≡ needle ++ rest)
 begins_split hay [] e = (hay, refl)
 begins_split [] (n ∷ ns) e = absurd (false≢true e)
 begins_split (h ∷ hs) (n ∷ ns) e =

@@ -1,5 +1,5 @@
 -- Lists and texts, one more at the end.
-use Rattle.std.proofs.Common.{◌≡◌, ℕ, zero, suc, ◌+◌, ◌*◌, ◌/◌, ◌%◌, ◌<◌, ◌≤◌, max, List, [], ◌∷◌, ◌++◌, length, take, get_or, ℤ, pos, negsuc, ◌+ℤ◌, ◌*ℤ◌, refl, sym, ap, ◌∙◌, append_assoc, add-one, arith, length-append}
+use Rattle.std.proofs.Common.{◌≡◌, ℕ, zero, suc, ◌+◌, ◌*◌, ◌/◌, ◌%◌, ◌<◌, ◌≤◌, List, [], ◌∷◌, ◌++◌, length, take, get_or, ℤ, pos, negsuc, ◌+ℤ◌, ◌*ℤ◌, refl, sym, ap, ◌∙◌, append_assoc, add-one, arith, length-append}
 use Rattle.std.specs.List.{repeat}
 use Rattle.std.specs.Int.{div_ceil, w64}
 use Rattle.std.specs.Prelude.{◌≢◌, ◌≤ℤ◌, ◌-ℤ◌, FitsSigned}
@@ -7,17 +7,17 @@ use Rattle.std.proofs.Common.{⊎_elim}
 use Rattle.std.proofs.Math.Nat.{mul-le-mul_right}
 use Rattle.std.proofs.lemmas.Bool.{cases_eq}
 use Rattle.std.proofs.lemmas.Int.{ints, to_z-of_z}
-use Rattle.std.proofs.Common.{rules, to_z, of_z}
+use Rattle.std.proofs.Common.{to_z, of_z}
 use Rattle.std.proofs.lemmas.List.{append-nil}
-use Rattle.jt_value.proofs.Lists.{more_items, items_view-take_more, items_view-push, items_size-more, items_nesting-more}
+use Rattle.jt_value.proofs.Lists.{items_view-push, joined_items-take_more}
+use Rattle.jt_value.specs.Payload.{more_items, joined_items}
 use Rattle.std.specs.Prelude.{Ok}
 use Rattle.std.proofs.Common.{subst}
-use Rattle.jt_value.specs.Tree.{Tree, number, list, Items, no_items, item, size, nesting, items_size, items_nesting}
+use Rattle.jt_value.specs.Tree.{Tree, number, list, Items, no_items, item, items_size, items_nesting}
 use Rattle.jt_value.specs.View.{view, items_view}
-use Rattle.jt_value.specs.declared.value.Value.{Value, Int as IntOf, the_lemmas}
+use Rattle.jt_value.specs.declared.value.Value.{Value}
 use Rattle.jt_escape.specs.Escaping.{escaped, escaped_byte}
 use Rattle.jt_escape.proofs.Runs.{escaped_more}
-use Rattle.jt_ops.specs.Joining.{joined_items}
 use Rattle.jt_ops.specs.Ranges.{stepped, range_count, distance, natural, numbers_between}
 
 pub escaped_length_more : (text : List ℕ) (at : ℕ) → at < length text → length (escaped (take (at + 1) text)) ≡ length (escaped (take at text)) + length (escaped_byte (get_or text at 0))
@@ -43,16 +43,6 @@ pub repeat_empty : (n : ℕ) (s : List ℕ) → length s ≡ 0 → [] ≡ repeat
 repeat_empty n [] e = sym (repeat_nothing n)
 repeat_empty n (b ∷ bs) e = absurd (omega arith)
 
-pub items_size_more : (vs : List Value) (i : ℕ) (v : Value) → i < length vs → v ≡ get_or vs i v → items_size (items_view (take (i + 1) vs)) ≡ items_size (items_view (take i vs)) + size (view v)
-items_size_more vs i v lt is = ap items_size (items_view-take_more vs i v lt is) ∙ items_size-more _ _
-
-pub items_nesting_more : (vs : List Value) (i : ℕ) (v : Value) → i < length vs → v ≡ get_or vs i v → items_nesting (items_view (take (i + 1) vs)) ≡ max (items_nesting (items_view (take i vs))) (nesting (view v))
-items_nesting_more vs i v lt is = ap items_nesting (items_view-take_more vs i v lt is) ∙ items_nesting-more _ _
-
-pub joined_more : (ts us : Items) (u : Tree) → joined_items ts (more_items us u) ≡ more_items (joined_items ts us) u
-joined_more no_items us u = refl
-joined_more (item t ts) us u = ap (item t) (joined_more ts us u)
-
 -- one more item behind the copies
 pub joined_push : (ts : Items) (before after xs : List Value) (copy v : Value) (i : ℕ) → i < length xs → v ≡ get_or xs i v → after ≡ before ++ copy ∷ [] → view copy ≡ view v
     → items_view before ≡ joined_items ts (items_view (take i xs)) → items_view after ≡ joined_items ts (items_view (take (i + 1) xs))
@@ -61,20 +51,7 @@ joined_push ts before after xs copy v i lt is push same inv =
     ∙ items_view-push before copy
     ∙ ap (λ (u : Tree). more_items (items_view before) u) same
     ∙ ap (λ (us : Items). more_items us (view v)) inv
-    ∙ sym (joined_more ts (items_view (take i xs)) (view v))
-    ∙ ap (joined_items ts) (sym (items_view-take_more xs i v lt is))
-
-pub joined_none : (ts : Items) → joined_items ts no_items ≡ ts
-joined_none no_items = refl
-joined_none (item t ts) = ap (item t) (joined_none ts)
-
-pub joined_size : (ts us : Items) → items_size (joined_items ts us) ≡ items_size ts + items_size us
-joined_size no_items us = omega arith
-joined_size (item t ts) us = omega (arith, joined_size ts us)
-
-pub joined_nesting : (ts us : Items) → items_nesting (joined_items ts us) ≡ max (items_nesting ts) (items_nesting us)
-joined_nesting no_items us = omega arith
-joined_nesting (item t ts) us = omega (arith, joined_nesting ts us)
+    ∙ sym (joined_items-take_more ts xs i v lt is)
 
 nothing_further : (s d : ℤ) → s ≡ s +ℤ pos 0 *ℤ d
 nothing_further s (pos d) = omega (arith, ints)
@@ -161,6 +138,3 @@ count_is start stop step n f g h e =
 pub listed_is : (start step : ℤ) (n : ℕ) (ts : Items) → FitsSigned w64 start → FitsSigned w64 step → ts ≡ stepped n (to_z w64 (of_z w64 start)) (to_z w64 (of_z w64 step)) → ts ≡ stepped n start step
 listed_is start step n ts f g e =
     e ∙ ap (λ (x : ℤ). stepped n x (to_z w64 (of_z w64 step))) (to_z-of_z w64 start f) ∙ ap (stepped n start) (to_z-of_z w64 step g)
-
-pub view_int : (z : ℤ) → view (IntOf z) ≡ number z
-view_int z = search (rules, the_lemmas)

@@ -4,14 +4,10 @@ use Rattle.std.specs.List.{repeat}
 use Rattle.jt_value.specs.declared.fault.Fault.{Fault}
 use Rattle.jt_value.specs.declared.fault.Fault.TheVariants.{Unprintable}
 use Rattle.jt_value.specs.Order.{misfit}
-use Rattle.jt_value.specs.Tree.{Tree, number, text, markup, list, Items, no_items, item, printed}
+use Rattle.jt_value.specs.Tree.{Tree, number, text, markup, list, printed}
+use Rattle.jt_value.specs.Payload.{joined_items}
 use Rattle.jt_escape.specs.Escaping.{escaped}
 use Rattle.jt_ops.specs.Arithmetic.{sum, product, as_number}
-
--- the items of one list, and then those of another
-abbrev pub joined_items : Items → Items → Items
-joined_items no_items us = us
-joined_items (item t ts) us = item t (joined_items ts us)
 
 -- `+`: two numbers; two texts, where one is markup the plain one is escaped and the result is markup; two lists
 abbrev pub added : Tree → Tree → Result Tree Fault

@@ -1,5 +1,6 @@
 -- What an operation gives under limits of size and nesting.
-use Rattle.std.specs.Prelude.{◌≡◌, ℕ, Result, Ok, Err, nat_lt, if◌then◌else◌}
+use Rattle.std.specs.Prelude.{◌≡◌, ℕ, true, Result, Ok, Err, nat_lt, if◌then◌else◌}
+use Rattle.jt_value.specs.Payload.{has_payload}
 use Rattle.jt_value.specs.Tree.{Tree, size, nesting}
 use Rattle.jt_value.specs.View.{view}
 use Rattle.jt_value.specs.declared.value.Value.{Value}
@@ -19,13 +20,19 @@ limited most deepest (Ok t) =
 abbrev pub limited_by : Limits → Result Tree Fault → Result Tree OpError
 limited_by limits given = limited limits.size limits.nesting given
 
--- a call answers what the operation gives; want of memory says nothing
+-- there is a value, and one with a payload
+abbrev pub NeedsMemory : Result Tree OpError → Type 0
+NeedsMemory (Ok t) = has_payload t ≡ true
+NeedsMemory (Err e) = ⊥
+
+-- A call answers what the operation gives. Want of memory it answers only where it would give a value with a payload: so no fault
+-- and no limit is behind it.
 abbrev pub Answers : Result Value OpError → Result Tree OpError → Type 0
 Answers (Ok value) wanted = wanted ≡ Ok (view value)
 Answers (Err (error.Fault fault)) wanted = wanted ≡ Err (error.Fault fault)
 Answers (Err error.TooLarge) wanted = wanted ≡ Err error.TooLarge
 Answers (Err error.TooDeep) wanted = wanted ≡ Err error.TooDeep
-Answers (Err error.NoMemory) wanted = Unit {0}
+Answers (Err error.NoMemory) wanted = NeedsMemory wanted
 
 -- why a value could not be printed, as an operation's error
 abbrev pub of_value_error : ValueError → OpError

@@ -13,7 +13,7 @@ use jt_value::{Fault, Value};
 
 /// The sum of two numbers.
 #[tactic(auto, using(crate::proofs::Numbers::in_range_is))]
-pub(crate) fn sum(x: i64, y: i64) -> Result<i64, Fault>
+pub fn sum(x: i64, y: i64) -> Result<i64, Fault>
     ensures { result ≡ arithmetic.sum x y }
 {
     x.checked_add(y).ok_or(Fault::Overflow)

@@ -3,12 +3,13 @@ ghost use Rattle.std.specs.Prelude.{◌≡◌, length, Ok, IfOk, option_map, opt
 ghost use Rattle.std.specs.Option.{option_and_then};
 ghost use Rattle.std.specs.Str.{chars};
 ghost use Rattle.jt_value.specs.Entries.{entry_of};
+ghost use Rattle.jt_value.specs.Tree as tree;
 ghost use Rattle.jt_value.specs.View.{view, items_view, entries_view};
 ghost use Rattle.jt_ops.specs.ItemOf.{item_of, item_at, indexed_item, indexed_character, or_undefined};
 ghost use Rattle.jt_ops.specs.ItemOf as items;
 ghost use Rattle.jt_ops.specs.Limited.{limited_by, Answers};
 
-use crate::limits::{Limits, OpError, copy_within, within};
+use crate::limits::{Limits, OpError, allow, copy_within, within};
 use jt_value::{Fault, NoMemory, Value};
 use std::alloc::Global;
 
@@ -23,9 +24,11 @@ pub(crate) fn item(
 {
     match (value, key) {
         (Value::Undefined, _) => Err(Fault::Undefined.into()),
-        (Value::Map(entries), Value::Text(name)) => keyed(alloc, entries, name, limits),
-        (Value::Map(entries), Value::Markup(name)) => keyed(alloc, entries, name, limits),
-        (Value::List(items), Value::Int(index)) => found(alloc, indexed(items, *index), limits),
+        (Value::Map(map), Value::Text(name)) => keyed(alloc, map.entries(), name, limits),
+        (Value::Map(map), Value::Markup(name)) => keyed(alloc, map.entries(), name, limits),
+        (Value::List(list), Value::Int(index)) => {
+            found(alloc, indexed(list.items(), *index), limits)
+        },
         (Value::Text(text), Value::Int(index)) => character(alloc, text, *index, limits),
         (Value::Markup(text), Value::Int(index)) => character(alloc, text, *index, limits),
         _ => within(Value::Undefined, limits),
@@ -46,18 +49,18 @@ fn found(alloc: Global, found: Option<&Value>, limits: Limits) -> Result<Value, 
 /// A copy of the first value of a key, undefined where there is none.
 fn keyed(
     alloc: Global,
-    entries: &Vec<(String, Value)>,
+    entries: &[(String, Value)],
     name: &str,
     limits: Limits,
 ) -> Result<Value, OpError>
     ensures { Answers result
-        (limited_by limits (Ok (or_undefined (entry_of name.now (entries_view entries.now.items))))) }
+        (limited_by limits (Ok (or_undefined (entry_of name.now (entries_view entries.now))))) }
 {
     found(alloc, entry(entries, name), limits)
 }
 
 /// The first value of a key.
-fn entry<'a>(entries: &'a [(String, Value)], key: &str) -> Option<&'a Value>
+pub fn entry<'a>(entries: &'a [(String, Value)], key: &str) -> Option<&'a Value>
     ensures { option_map view (option_copied result) ≡ entry_of key.now (entries_view entries.now) }
 {
     for entry in entries {
@@ -69,7 +72,7 @@ fn entry<'a>(entries: &'a [(String, Value)], key: &str) -> Option<&'a Value>
 }
 
 /// The place that an index names among some items.
-fn place(index: i64, count: usize) -> Option<usize>
+pub fn place(index: i64, count: usize) -> Option<usize>
     ensures { result ≡ items.place index count }
 {
     let size = index.unsigned_abs();
@@ -88,7 +91,7 @@ fn place(index: i64, count: usize) -> Option<usize>
 
 /// The item that an index names.
 #[tactic(auto, using(crate::proofs::Places::items_count_view))]
-fn indexed(items: &[Value], index: i64) -> Option<&Value>
+pub fn indexed(items: &[Value], index: i64) -> Option<&Value>
     ensures { option_map view (option_copied result) ≡ indexed_item (items_view items.now) index }
 {
     match place(index, items.len()) {
@@ -108,11 +111,18 @@ fn at(items: &[Value], place: usize) -> Option<&Value>
 fn character(alloc: Global, text: &str, index: i64, limits: Limits) -> Result<Value, OpError>
     ensures { Answers result (limited_by limits (Ok (or_undefined (indexed_character text.now index)))) }
 {
-    let value = match nth_character(text, index) {
-        Some(c) => Value::Text(text_of(alloc, c)?),
-        None => Value::Undefined,
-    };
-    within(value, limits)
+    match nth_character(text, index) {
+        Some(c) => single(alloc, c, limits),
+        None => within(Value::Undefined, limits),
+    }
+}
+
+/// A character as a plain text, measured before it is built.
+fn single(alloc: Global, c: char, limits: Limits) -> Result<Value, OpError>
+    ensures { Answers result (limited_by limits (Ok (tree.text (encode_utf8 c)))) }
+{
+    allow(c.len_utf8() as u64 + 1, 0, limits)?;
+    Ok(Value::from_text(text_of(alloc, c)?)?)
 }
 
 /// The character that an index names.
@@ -127,7 +137,7 @@ fn nth_character(text: &str, index: i64) -> Option<char>
 }
 
 /// How many characters a text has.
-fn character_count(text: &str) -> usize
+pub fn character_count(text: &str) -> usize
     ensures { result ≡ length (chars text.now) }
 {
     text.chars().count()

@@ -1,17 +1,19 @@
 //! Sums, products and joins of texts and lists.
 ghost use Rattle.std.specs.Prelude.{◌≡◌, ◌-◌, ◌^◌, min, Ok, IfOk, OnOk};
 ghost use Rattle.jt_value.specs.Tree as tree;
-ghost use Rattle.jt_value.specs.Tree.{items_size, items_nesting};
+ghost use Rattle.jt_value.specs.Payload.{joined_items};
 ghost use Rattle.jt_value.specs.View.{view, items_view};
-ghost use Rattle.jt_ops.specs.Joining.{joined_items, added, multiplied, joined, joined_escaping};
+ghost use Rattle.jt_ops.specs.Joining.{added, multiplied, joined, joined_escaping};
 ghost use Rattle.jt_ops.specs.Limited.{limited_by, Answers};
 
 use crate::arithmetic::{product, sum};
 use crate::limits::{Limits, OpError, allow, number_within};
 use crate::operands::misfit;
-use crate::text::{Kind, Piece, concatenated, printed_text, repeated};
-use jt_value::{NoMemory, Value};
+use crate::text::{Kind, Piece, concatenated, repeated};
+use itoa::Buffer;
+use jt_value::{NoMemory, Value, ValueList};
 use std::alloc::Global;
+use std::rc::Rc;
 
 /// Operator `+`.
 pub(crate) fn add(
@@ -48,7 +50,7 @@ pub(crate) fn add(
         (Value::Markup(s), Value::Markup(t)) => {
             concatenated(alloc, &Piece::Raw(s), &Piece::Raw(t), Kind::Markup, limits)
         }
-        (Value::List(items), Value::List(more)) => joined_lists(alloc, items, more, limits),
+        (Value::List(list), Value::List(more)) => joined_lists(alloc, list, more, limits),
         _ => Err(misfit(left, right).into()),
     }
 }
@@ -79,10 +81,10 @@ pub(crate) fn join(
 ) -> Result<Value, OpError>
     ensures { Answers result (limited_by limits (joined (view left.now) (view right.now))) }
 {
-    let left = printed_text(alloc, left)?;
-    let right = printed_text(alloc, right)?;
-    let left = Piece::Raw(left.as_str());
-    let right = Piece::Raw(right.as_str());
+    let mut left_buffer = Buffer::new();
+    let mut right_buffer = Buffer::new();
+    let left = Piece::Raw(left.shown(&mut left_buffer)?);
+    let right = Piece::Raw(right.shown(&mut right_buffer)?);
     concatenated(alloc, &left, &right, Kind::Plain, limits)
 }
 
@@ -100,88 +102,88 @@ pub(crate) fn join_escaping(
             concatenated(alloc, &Piece::Raw(s), &Piece::Raw(t), Kind::Markup, limits)
         }
         (Value::Markup(s), _) => {
-            let printed = printed_text(alloc, right)?;
-            let right = Piece::Escaped(printed.as_str());
+            let mut buffer = Buffer::new();
+            let right = Piece::Escaped(right.shown(&mut buffer)?);
             concatenated(alloc, &Piece::Raw(s), &right, Kind::Markup, limits)
         }
         (_, Value::Markup(t)) => {
-            let printed = printed_text(alloc, left)?;
-            let left = Piece::Escaped(printed.as_str());
+            let mut buffer = Buffer::new();
+            let left = Piece::Escaped(left.shown(&mut buffer)?);
             concatenated(alloc, &left, &Piece::Raw(t), Kind::Markup, limits)
         }
         _ => join(alloc, left, right, limits),
     }
 }
 
+/// Operator `+`, for operands that nothing else needs. Where both are lists, the left one takes the items.
+pub(crate) fn add_owned(
+    alloc: Global,
+    left: Value,
+    right: Value,
+    limits: Limits,
+) -> Result<Value, OpError>
+    ensures { Answers result (limited_by limits (added (view left) (view right))) }
+{
+    match (left, right) {
+        (Value::List(list), Value::List(more)) => appended(list, &more, limits),
+        (left, right) => add(alloc, &left, &right, limits),
+    }
+}
+
+/// A list with the items of another behind its own. Where other values share it, they keep what they have.
+fn appended(mut list: Rc<ValueList>, more: &ValueList, limits: Limits) -> Result<Value, OpError>
+    ensures { Answers result (limited_by limits (Ok (tree.list (joined_items list.value more.now)))) }
+{
+    let (size, nesting) = joined_measure(&list, more);
+    allow(size, nesting, limits)?;
+    Rc::make_mut(&mut list)?.append(more.items())?;
+    Ok(Value::List(list))
+}
+
 /// The items of two lists.
 fn joined_lists(
     alloc: Global,
-    items: &Vec<Value>,
-    more: &Vec<Value>,
+    list: &ValueList,
+    more: &ValueList,
     limits: Limits,
 ) -> Result<Value, OpError>
-    ensures { let joined = joined_items (items_view items.now.items) (items_view more.now.items) in
-        Answers result (limited_by limits (Ok (tree.list joined))) }
+    ensures { Answers result (limited_by limits (Ok (tree.list (joined_items list.now more.now)))) }
 {
-    let (size, nesting) = joined_measure(items, more);
+    let (size, nesting) = joined_measure(list, more);
     allow(size, nesting, limits)?;
-    Ok(Value::List(joined_copies(alloc, items, more)?))
+    Ok(Value::list(alloc, joined_copies(alloc, list.items(), more.items())?)?)
 }
 
 /// Copies of the items of two lists.
-fn joined_copies(
-    alloc: Global,
-    items: &Vec<Value>,
-    more: &Vec<Value>,
-) -> Result<Vec<Value>, NoMemory>
-    ensures { let joined = joined_items (items_view items.now.items) (items_view more.now.items) in
-        IfOk result (λ v. items_view v.items ≡ joined) }
+fn joined_copies(alloc: Global, items: &[Value], more: &[Value]) -> Result<Vec<Value>, NoMemory>
+    ensures { IfOk result (λ v. items_view v.items ≡ joined_items (items_view items.now) (items_view more.now)) }
 {
-    let mut joined = Vec::new(alloc);
-    append_copies(alloc, &mut joined, items)?;
-    append_copies(alloc, &mut joined, more)?;
+    let mut joined = Vec::with_capacity(alloc, items.len() + more.len())?;
+    append_copies(&mut joined, items)?;
+    append_copies(&mut joined, more)?;
     Ok(joined)
 }
 
 /// The size and the nesting of the list of two lists' items, each the greatest number where it is
 /// greater.
-#[tactic(auto, using(crate::proofs::Loops::joined_size, crate::proofs::Loops::joined_nesting))]
-fn joined_measure(items: &Vec<Value>, more: &Vec<Value>) -> (u64, u32)
-    ensures size { let joined = joined_items (items_view items.now.items) (items_view more.now.items) in
-        result.0 ≡ min (tree.size (tree.list joined)) (2 ^ 64 - 1) }
-    ensures nesting { let joined = joined_items (items_view items.now.items) (items_view more.now.items) in
-        result.1 ≡ min (tree.nesting (tree.list joined)) (2 ^ 32 - 1) }
+#[tactic(auto, using(jt_value::proofs::Lists::joined_size, jt_value::proofs::Lists::joined_nesting))]
+fn joined_measure(list: &ValueList, more: &ValueList) -> (u64, u32)
+    ensures size { result.0 ≡ min (tree.size (tree.list (joined_items list.now more.now))) (2 ^ 64 - 1) }
+    ensures nesting { result.1 ≡ min (tree.nesting (tree.list (joined_items list.now more.now))) (2 ^ 32 - 1) }
 {
-    let (size, nesting) = measure(items);
-    let (more_size, more_nesting) = measure(more);
     (
-        size.saturating_add(more_size).saturating_add(1),
-        nesting.max(more_nesting).saturating_add(1),
+        list.size().saturating_add(more.size() - 1),
+        list.nesting().max(more.nesting()),
     )
 }
 
-/// The size and the nesting of some items, each the greatest number where it is greater.
-fn measure(items: &Vec<Value>) -> (u64, u32)
-    ensures size { result.0 ≡ min (items_size (items_view items.now.items)) (2 ^ 64 - 1) }
-    ensures nesting { result.1 ≡ min (items_nesting (items_view items.now.items)) (2 ^ 32 - 1) }
-{
-    let mut size = 0u64;
-    let mut nesting = 0u32;
-    for item in items {
-        size = size.saturating_add(item.size());
-        nesting = nesting.max(item.nesting());
-    }
-    (size, nesting)
-}
-
 /// Puts copies of some items behind others.
-fn append_copies(alloc: Global, into: &mut Vec<Value>, items: &Vec<Value>) -> Result<(), NoMemory>
+fn append_copies(into: &mut Vec<Value>, items: &[Value]) -> Result<(), NoMemory>
     ensures { OnOk result
-        (items_view into.new.items
-        ≡ joined_items (items_view into.old.items) (items_view items.now.items)) }
+        (items_view into.new.items ≡ joined_items (items_view into.old.items) (items_view items.now)) }
 {
     for item in items {
-        into.push(item.try_clone(alloc)?)?;
+        into.push(item.clone()?)?;
     }
     Ok(())
 }

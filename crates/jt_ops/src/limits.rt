@@ -90,7 +90,7 @@ impl<T: Drop> From<AllocFailed<T>> for OpError {
 
 /// Tests the size and nesting of a result that need not be built yet. Either stands at the greatest
 /// number of its type where the true one is greater.
-pub(crate) fn allow(size: u64, nesting: u32, limits: Limits) -> Result<(), OpError>
+pub fn allow(size: u64, nesting: u32, limits: Limits) -> Result<(), OpError>
     ensures ok { (t : Tree)
         → size ≡ min (tree.size t) (2 ^ 64 - 1)
         → nesting ≡ min (tree.nesting t) (2 ^ 32 - 1)
@@ -110,7 +110,7 @@ pub(crate) fn allow(size: u64, nesting: u32, limits: Limits) -> Result<(), OpErr
 }
 
 /// A value that is at hand, under the limits.
-pub(crate) fn within(value: Value, limits: Limits) -> Result<Value, OpError>
+pub fn within(value: Value, limits: Limits) -> Result<Value, OpError>
     ensures { Answers result (limited_by limits (Ok (view value))) }
 {
     allow(value.size(), value.nesting(), limits)?;
@@ -118,7 +118,7 @@ pub(crate) fn within(value: Value, limits: Limits) -> Result<Value, OpError>
 }
 
 /// A copy of a value, under the limits.
-pub(crate) fn copy_within(alloc: Global, value: &Value, limits: Limits) -> Result<Value, OpError>
+pub fn copy_within(alloc: Global, value: &Value, limits: Limits) -> Result<Value, OpError>
     ensures { Answers result (limited_by limits (Ok (view value.now))) }
 {
     allow(value.size(), value.nesting(), limits)?;
@@ -126,7 +126,7 @@ pub(crate) fn copy_within(alloc: Global, value: &Value, limits: Limits) -> Resul
 }
 
 /// A computed number, under the limits.
-pub(crate) fn number_within(computed: Result<i64, Fault>, limits: Limits) -> Result<Value, OpError>
+pub fn number_within(computed: Result<i64, Fault>, limits: Limits) -> Result<Value, OpError>
     ensures { Answers result (limited_by limits (as_number computed)) }
 {
     within(Value::Int(computed?), limits)

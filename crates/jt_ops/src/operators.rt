@@ -8,7 +8,7 @@ ghost use Rattle.jt_ops.specs.OpTable.{op_operands};
 use crate::arithmetic::{floor_divide, modulo, negate, plus, raise, subtract};
 use crate::comparing::{greater, greater_or_equal, less, less_or_equal};
 use crate::item::item;
-use crate::joining::{add, join, join_escaping, multiply};
+use crate::joining::{add, add_owned, join, join_escaping, multiply};
 use crate::limits::{Limits, OpError, number_within, truth_within, within};
 use crate::membership::is_in;
 use crate::op_id::OpId;
@@ -52,6 +52,28 @@ pub fn binary(
         OpId::Item => item(alloc, left, right, limits),
         OpId::RangeFromStart => range_from(alloc, left, right, limits),
         _ => unreachable!(),
+    }
+}
+
+/// An operator of two operands that nothing else needs, under limits: what `binary` gives. The sum of
+/// two lists is built in the left one, where no other value shares it.
+///
+/// # Errors
+///
+/// Those of `binary`. The operands are then dropped.
+pub fn binary_owned(
+    alloc: Global,
+    op: OpId,
+    left: Value,
+    right: Value,
+    limits: Limits,
+) -> Result<Value, OpError>
+    requires { op_operands op ≡ 2 }
+    ensures { Answers result (limited_by limits (operation op (view left ∷ view right ∷ []))) }
+{
+    match op {
+        OpId::Add => add_owned(alloc, left, right, limits),
+        _ => binary(alloc, op, &left, &right, limits),
     }
 }
 

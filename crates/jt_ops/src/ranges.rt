@@ -110,7 +110,7 @@ fn list_of(
 {
     let count = count(start, stop, step);
     allow(count.saturating_add(1), 1, limits)?;
-    Ok(Value::List(listed(alloc, start, step, count)?))
+    Ok(Value::list(alloc, listed(alloc, start, step, count)?)?)
 }
 
 /// How many of the numbers from a start by a step lie before a stop.
@@ -138,7 +138,7 @@ fn listed(alloc: Global, start: i64, step: i64, count: u64) -> Result<Vec<Value>
     requires { (k : ℕ) → k < count → FitsSigned w64 (start +ℤ pos k *ℤ step) }
     ensures { IfOk result (λ v. items_view v.items ≡ stepped count start step) }
 {
-    let mut numbers = Vec::new(alloc);
+    let mut numbers = Vec::with_capacity(alloc, count as usize)?;
     let mut next = start;
     for _ in 0..count {
         numbers.push(Value::Int(next))?;

@@ -1,8 +1,6 @@
 //! Texts put together from pieces, measured before they are built.
-ghost use Rattle.std.specs.Prelude.{◌≡◌, ◌-◌, ◌^◌, ◌++◌, min, length, Some, None, Ok, IfOk, IfErr, OnOk, string_bytes};
-ghost use Rattle.std.specs.Cow.{cow_str_bytes};
+ghost use Rattle.std.specs.Prelude.{◌≡◌, ◌-◌, ◌^◌, ◌++◌, min, length, Ok, IfOk, OnOk, string_bytes};
 ghost use Rattle.std.specs.List.{repeat};
-ghost use Rattle.jt_value.specs.Tree as tree;
 ghost use Rattle.jt_value.specs.View.{view};
 ghost use Rattle.jt_escape.specs.Escaping.{escaped, escaped_byte};
 ghost use Rattle.jt_ops.specs.Pieces.{of_kind, written};
@@ -11,32 +9,31 @@ ghost use Rattle.jt_ops.specs.Limited.{limited_by, Answers};
 
 use crate::limits::{Limits, OpError, allow};
 use jt_escape::escape_into;
-use jt_value::{Fault, NoMemory, Value, ValueError};
+use jt_value::{NoMemory, Value};
 use std::alloc::Global;
-use std::borrow::CowStr;
 
 /// Whether a text is plain or markup.
 #[derive(Clone, Copy)]
-pub(crate) enum Kind {
+pub enum Kind {
     Plain,
     Markup,
 }
 
 impl Kind {
     /// The value of a text.
-    fn value(self, text: String) -> Value
-        ensures { view result ≡ of_kind self (string_bytes text) }
+    pub fn value(self, text: String) -> Result<Value, NoMemory>
+        ensures { IfOk result (λ v. view v ≡ of_kind self (string_bytes text)) }
     {
         match self {
-            Kind::Plain => Value::Text(text),
-            Kind::Markup => Value::Markup(text),
+            Kind::Plain => Value::from_text(text),
+            Kind::Markup => Value::from_markup(text),
         }
     }
 }
 
 /// A piece of a text that is put together.
 #[derive(Clone, Copy)]
-pub(crate) enum Piece<'a> {
+pub enum Piece<'a> {
     /// As it is.
     Raw(&'a str),
     /// With its special characters escaped.
@@ -45,7 +42,7 @@ pub(crate) enum Piece<'a> {
 
 impl<'a> Piece<'a> {
     /// How many bytes the piece writes, or the greatest number where they are more.
-    fn len(&self) -> u64
+    pub fn len(&self) -> u64
         ensures { result ≡ min (length (written self.now)) (2 ^ 64 - 1) }
     {
         match self {
@@ -54,8 +51,8 @@ impl<'a> Piece<'a> {
         }
     }
 
-    /// Writes the piece behind a text.
-    fn write(&self, into: &mut String) -> Result<(), NoMemory>
+    /// Writes the piece behind a text. A refusal leaves a part of it there.
+    pub fn write(&self, into: &mut String) -> Result<(), NoMemory>
         ensures { OnOk result (string_bytes into.new ≡ string_bytes into.old ++ written self.now) }
     {
         match self {
@@ -100,12 +97,23 @@ pub(crate) fn concatenated(
     ensures { let text = written left.now ++ written right.now in
         Answers result (limited_by limits (Ok (of_kind kind text))) }
 {
-    let size = left.len().saturating_add(right.len()).saturating_add(1);
-    allow(size, 0, limits)?;
-    let mut text = String::new(alloc);
+    let len = left.len().saturating_add(right.len());
+    allow(len.saturating_add(1), 0, limits)?;
+    let mut text = String::with_capacity(alloc, len as usize)?;
     left.write(&mut text)?;
     right.write(&mut text)?;
-    Ok(kind.value(text))
+    Ok(kind.value(text)?)
+}
+
+/// The text of one piece.
+pub fn alone(alloc: Global, piece: &Piece<'_>, kind: Kind, limits: Limits) -> Result<Value, OpError>
+    ensures { Answers result (limited_by limits (Ok (of_kind kind (written piece.now)))) }
+{
+    let len = piece.len();
+    allow(len.saturating_add(1), 0, limits)?;
+    let mut text = String::with_capacity(alloc, len as usize)?;
+    piece.write(&mut text)?;
+    Ok(kind.value(text)?)
 }
 
 /// A text, repeated; nothing for 0 and below.
@@ -121,9 +129,9 @@ pub(crate) fn repeated(
         (limited_by limits (Ok (of_kind kind (repeat (times number) text.now)))) }
 {
     let count = repetitions(text, number);
-    let size = (text.len() as u64).saturating_mul(count).saturating_add(1);
-    allow(size, 0, limits)?;
-    Ok(kind.value(repetition(alloc, text, count)?))
+    let len = (text.len() as u64).saturating_mul(count);
+    allow(len.saturating_add(1), 0, limits)?;
+    Ok(kind.value(repetition(alloc, text, count, len as usize)?)?)
 }
 
 /// How often a text is to be written for a number of repetitions: an empty one never.
@@ -139,30 +147,14 @@ fn repetitions(text: &str, number: i64) -> u64
     }
 }
 
-/// A text, so many times.
+/// A text, so many times, in a string that has room for so many bytes at first.
 #[tactic(auto, using(crate::proofs::Loops::repeat_more))]
-fn repetition(alloc: Global, text: &str, count: u64) -> Result<String, NoMemory>
+fn repetition(alloc: Global, text: &str, count: u64, room: usize) -> Result<String, NoMemory>
     ensures { IfOk result (λ s. string_bytes s ≡ repeat count text.now) }
 {
-    let mut repeated = String::new(alloc);
+    let mut repeated = String::with_capacity(alloc, room)?;
     for _ in 0..count {
         repeated.push_str(text)?;
     }
     Ok(repeated)
-}
-
-/// The printed text of a value, lent where the value has it.
-pub(crate) fn printed_text<'a>(
-    alloc: Global,
-    value: &'a Value,
-) -> Result<CowStr<'a, Global>, ValueError>
-    ensures ok { IfOk result (λ s. tree.printed (view value.now) ≡ Some (cow_str_bytes s)) }
-    ensures fault { IfErr result (λ e. (f : Fault) → e ≡ ValueError.Fault f
-        → (f ≡ Fault.Unprintable) × (tree.printed (view value.now) ≡ None)) }
-{
-    match value {
-        Value::Text(text) => Ok(CowStr::Borrowed(text.as_str())),
-        Value::Markup(text) => Ok(CowStr::Borrowed(text.as_str())),
-        _ => Ok(CowStr::Owned(value.printed(alloc)?)),
-    }
 }

@@ -1,5 +1,6 @@
 //! Why a template is not resolved.
 
+use jt_value::NoMemory;
 use std::alloc::{AllocError, AllocFailed};
 use thiserror::Error;
 
@@ -44,6 +45,17 @@ impl<T: Drop> From<AllocFailed<T>> for ScopeError {
     ghost from_gives = { λ _ e. e ≡ NoMemory };
 
     fn from(_e: AllocFailed<T>) -> ScopeError {
+        ScopeError::NoMemory
+    }
+}
+
+impl From<NoMemory> for ScopeError {
+    ghost use Rattle.std.specs.Prelude.{◌≡◌};
+    ghost use Rattle.jt_scopes.specs.declared.error.ScopeError.TheVariants.{NoMemory};
+
+    ghost from_gives = { λ _ e. e ≡ NoMemory };
+
+    fn from(_e: NoMemory) -> ScopeError {
         ScopeError::NoMemory
     }
 }

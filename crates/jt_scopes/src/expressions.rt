@@ -27,8 +27,7 @@ fn resolve_text(alloc: Global, text: &str, pool: &mut Vec<Value>) -> Result<SExp
     ensures pooled { IfOk result (λ e. values pool.new ≡ values pool.old ++ tree.text text.now ∷ []) }
     ensures refused { IfErr result (λ e. e ≡ error.NoMemory) }
 {
-    let copy = String::from_str(alloc, text)?;
-    let place = add_value(pool, Value::Text(copy))?;
+    let place = add_value(pool, Value::text(alloc, text)?)?;
     Ok(SExpr::Pooled(place))
 }
 

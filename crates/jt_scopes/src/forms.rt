@@ -39,10 +39,7 @@ pub(crate) fn literal_value(alloc: Global, constant: &Literal) -> Result<Value, 
 {
     match constant {
         Literal::Number(number) => Ok(Value::Int(*number)),
-        Literal::Text(text) => {
-            let copy = String::from_str(alloc, text)?;
-            Ok(Value::Text(copy))
-        }
+        Literal::Text(text) => Ok(Value::text(alloc, text)?),
         Literal::Truth(truth) => Ok(Value::Bool(*truth)),
         Literal::None => Ok(Value::None),
     }

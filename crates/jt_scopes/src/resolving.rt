@@ -79,8 +79,7 @@ fn resolve_statement(
 {
     match statement {
         Stmt::Data(text) => {
-            let copy = String::from_str(alloc, text)?;
-            let place = add_value(pool, Value::Text(copy))?;
+            let place = add_value(pool, Value::text(alloc, text)?)?;
             Ok(SStmt::PutPooled(place))
         }
         Stmt::Print(line, expr) => {

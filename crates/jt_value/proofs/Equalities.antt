@@ -156,17 +156,12 @@ equal_at-same xs ys i e f h lt is at p =
     equal_at-first xs i e lt is p (entry_of (string_bytes e.0) (entries_view ys)) ∙ ap (λ o. option_map_or (equal (view e.1)) o false) (same_first xs ys i e f h lt is at p)
 
 -- what a look behind the entries below an index says, for the names that a proof has for them
-pub seen : (k m : List ℕ) (xs ys : List Pair) (i j : ℕ) (b : Bool) → b ≡ has_key k (entries_view (take j ys)) → k ≡ m → j ≡ i → ys ≡ xs → has_key m (entries_view (take i xs)) ≡ b
-seen k m xs ys i j b h p q r =
-    ap (λ n. has_key n (entries_view (take i xs))) (sym p) ∙ ap (λ n. has_key k (entries_view (take n xs))) (sym q) ∙ ap (λ (l : List Pair). has_key k (entries_view (take j l))) (sym r) ∙ sym h
+pub seen : (k m : List ℕ) (xs : List Pair) (i j : ℕ) (b : Bool) → b ≡ has_key k (entries_view (take j xs)) → k ≡ m → j ≡ i → has_key m (entries_view (take i xs)) ≡ b
+seen k m xs i j b h p q = ap (λ n. has_key n (entries_view (take i xs))) (sym p) ∙ ap (λ n. has_key k (entries_view (take n xs))) (sym q) ∙ sym h
 
 -- the same of a look for the first value of a key
 pub found : (t : Tree) (k m : List ℕ) (fs : Entries) (b : Bool) → b ≡ option_map_or (equal t) (entry_of k fs) false → k ≡ m → option_map_or (equal t) (entry_of m fs) false ≡ b
 found t k m fs b h p = ap (λ n. option_map_or (equal t) (entry_of n fs) false) (sym p) ∙ sym h
-
--- the same of a test for the same keys
-pub told_same : (vs xs ws ys : List Pair) → true ≡ same_keys (entries_view vs) (entries_view ws) → vs ≡ xs → ws ≡ ys → same_keys (entries_view xs) (entries_view ys) ≡ true
-told_same vs xs ws ys h p q = ap (λ (l : List Pair). same_keys (entries_view l) (entries_view ys)) (sym p) ∙ ap (λ (l : List Pair). same_keys (entries_view vs) (entries_view l)) (sym q) ∙ sym h
 
 pub and_known : (a b : Bool) → b ≡ true → a ≡ (a && b)
 and_known true b h = sym h

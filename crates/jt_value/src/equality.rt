@@ -61,20 +61,20 @@ fn are_equal(left: &Value, right: &Value) -> bool
         Value::Int(number) => is_number(right, *number),
         Value::Text(text) => is_text(right, text.as_str()),
         Value::Markup(text) => is_text(right, text.as_str()),
-        Value::List(items) => match right {
-            Value::List(others) => are_items_equal(items, others),
+        Value::List(list) => match right {
+            Value::List(other) => are_items_equal(list.items(), other.items()),
             _ => false,
         },
-        Value::Map(entries) => match right {
-            Value::Map(others) => are_maps_equal(entries, others),
+        Value::Map(map) => match right {
+            Value::Map(other) => are_maps_equal(map.entries(), other.entries()),
             _ => false,
         },
     }
 }
 
 #[cycle(equality)]
-fn are_items_equal(items: &Vec<Value>, others: &Vec<Value>) -> bool
-    ensures { result ≡ equal_items (items_view items.now.items) (items_view others.now.items) }
+fn are_items_equal(items: &[Value], others: &[Value]) -> bool
+    ensures { result ≡ equal_items (items_view items.now) (items_view others.now) }
 {
     if items.len() != others.len() {
         return false;
@@ -90,8 +90,8 @@ fn are_items_equal(items: &Vec<Value>, others: &Vec<Value>) -> bool
 }
 
 #[cycle(equality)]
-fn are_maps_equal(entries: &Vec<(String, Value)>, others: &Vec<(String, Value)>) -> bool
-    ensures { result ≡ equal (tree.map (entries_view entries.now.items)) (tree.map (entries_view others.now.items)) }
+fn are_maps_equal(entries: &[(String, Value)], others: &[(String, Value)]) -> bool
+    ensures { result ≡ equal (tree.map (entries_view entries.now)) (tree.map (entries_view others.now)) }
 {
     if have_same_keys(entries, others) {
         return are_values_equal_in_place(entries, others);
@@ -101,9 +101,9 @@ fn are_maps_equal(entries: &Vec<(String, Value)>, others: &Vec<(String, Value)>)
 
 /// The same as `are_first_values_equal`, in one pass, for maps that have the same keys at the same places.
 #[cycle(equality)]
-fn are_values_equal_in_place(entries: &Vec<(String, Value)>, others: &Vec<(String, Value)>) -> bool
-    requires { same_keys (entries_view entries.now.items) (entries_view others.now.items) ≡ true }
-    ensures { result ≡ all_keys (λ k. equal_at (entries_view entries.now.items) k (entry_of k (entries_view others.now.items))) (entries_view entries.now.items) }
+fn are_values_equal_in_place(entries: &[(String, Value)], others: &[(String, Value)]) -> bool
+    requires { same_keys (entries_view entries.now) (entries_view others.now) ≡ true }
+    ensures { result ≡ all_keys (λ k. equal_at (entries_view entries.now) k (entry_of k (entries_view others.now))) (entries_view entries.now) }
 {
     let mut index = 0;
     for (key, value) in entries {
@@ -117,8 +117,8 @@ fn are_values_equal_in_place(entries: &Vec<(String, Value)>, others: &Vec<(Strin
 
 /// Whether the first value of each key of the entries equals that key's first value in the others.
 #[cycle(equality)]
-fn are_first_values_equal(entries: &Vec<(String, Value)>, others: &Vec<(String, Value)>) -> bool
-    ensures { result ≡ all_keys (λ k. equal_at (entries_view entries.now.items) k (entry_of k (entries_view others.now.items))) (entries_view entries.now.items) }
+fn are_first_values_equal(entries: &[(String, Value)], others: &[(String, Value)]) -> bool
+    ensures { result ≡ all_keys (λ k. equal_at (entries_view entries.now) k (entry_of k (entries_view others.now))) (entries_view entries.now) }
 {
     let mut index = 0;
     for (key, value) in entries {
@@ -133,8 +133,8 @@ fn are_first_values_equal(entries: &Vec<(String, Value)>, others: &Vec<(String, 
 
 /// Whether the value equals the first value of the key.
 #[cycle(equality)]
-fn is_first_value(value: &Value, key: &str, entries: &Vec<(String, Value)>) -> bool
-    ensures { result ≡ option_map_or (equal (view value.now)) (entry_of key.now (entries_view entries.now.items)) false }
+fn is_first_value(value: &Value, key: &str, entries: &[(String, Value)]) -> bool
+    ensures { result ≡ option_map_or (equal (view value.now)) (entry_of key.now (entries_view entries.now)) false }
 {
     match first_value(entries, key) {
         Some(first) => are_equal(value, first),

@@ -115,3 +115,23 @@ impl From<AllocError> for ValueError {
         ValueError::NoMemory
     }
 }
+
+impl From<Fault> for ValueError {
+    ghost use Rattle.jt_value.specs.declared.fault.ValueError.TheVariants.{Fault};
+
+    ghost from_gives = { λ fault e. e ≡ Fault fault };
+
+    fn from(fault: Fault) -> ValueError {
+        ValueError::Fault(fault)
+    }
+}
+
+impl From<NoMemory> for ValueError {
+    ghost use Rattle.jt_value.specs.declared.fault.ValueError.TheVariants.{NoMemory};
+
+    ghost from_gives = { λ _ e. e ≡ NoMemory };
+
+    fn from(_e: NoMemory) -> ValueError {
+        ValueError::NoMemory
+    }
+}

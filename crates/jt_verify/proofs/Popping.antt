@@ -1,5 +1,5 @@
 -- Values taken off a shape, and operators by their ids.
-use Rattle.std.proofs.Common.{◌≡◌, ◌≢◌, ℕ, zero, suc, [], ◌∷◌, length, Option, Some, None, Result, Ok, Err, refl, sym, ap, ◌∙◌, arith}
+use Rattle.std.proofs.Common.{◌≡◌, ◌≢◌, ℕ, zero, suc, ◌+◌, [], ◌∷◌, length, Option, Some, None, Result, Ok, Err, refl, sym, ap, ◌∙◌, arith}
 use Rattle.std.specs.Prelude.{option_map}
 use Rattle.std.specs.Option.{is_some}
 use Rattle.jt_ops.specs.declared.op_id.OpId.{OpId}
@@ -7,7 +7,7 @@ use Rattle.jt_ops.specs.declared.op_id.OpId.TheVariants as op
 use Rattle.jt_ops.specs.OpTable.{op_operands}
 use Rattle.jt_image.specs.declared.kind.Kind.TheVariants as kind
 use Rattle.jt_image.specs.declared.kind.Flaw.{Flaw}
-use Rattle.jt_image.specs.Effect.{Shape, Leads, require, pops_many}
+use Rattle.jt_image.specs.Effect.{Shape, Leads, require, pops_many, pushes}
 use Rattle.jt_image.specs.Ids.{operands_of}
 use Rattle.jt_verify.specs.Shapes.{below_value, Pops}
 use Rattle.jt_verify.specs.Typing.{PopsMany}
@@ -36,6 +36,19 @@ below_shorter [] r h = absurd cc
 below_shorter (kind.Value ∷ s) r h = let below : s ≡ r = cc in rw below refl
 below_shorter (kind.Frame ∷ s) r h = absurd cc
 below_shorter (kind.Capture ∷ s) r h = absurd cc
+
+-- values on a value
+pub pushes-more : (n : ℕ) (s : Shape) → pushes n (kind.Value ∷ s) ≡ kind.Value ∷ pushes n s
+pushes-more zero s = refl
+pushes-more (suc n) s = ap (λ r. kind.Value ∷ r) (pushes-more n s)
+
+pub push_one : (n m : ℕ) (s : Shape) → n ≡ suc m → pushes m (kind.Value ∷ s) ≡ pushes n s
+push_one zero m s e = absurd cc
+push_one (suc n) m s e = let same : m ≡ n = omega arith in rw (same, pushes-more n s) refl
+
+pub length-pushes : (n : ℕ) (s : Shape) → length (pushes n s) ≡ n + length s
+length-pushes zero s = omega arith
+length-pushes (suc n) s = omega (arith, length-pushes n s)
 
 -- an operator takes three operands where it takes neither one nor two
 pub three_operands : (o : OpId) → op_operands o ≢ 1 → op_operands o ≢ 2 → op_operands o ≡ 3
@@ -74,4 +87,5 @@ not_counted (Some o) f go e = absurd cc
 -- the error of one is that of many
 pub error_many : (e : EffectError) (n m k : ℕ) (s r start : Shape) → n ≡ suc m → ((go : Shape → Result Leads Flaw) → pops_many n s go ≡ pops_many k start go) → Pops s r (Err e) → PopsMany k start r (Err e)
 error_many (errors.Flaw f) n m k s r start is same e = λ go. sym (same go) ∙ pop_flaw n m s f is e go
+error_many (errors.TooTall q) n m k s r start is same e = absurd e
 error_many errors.NoMemory n m k s r start is same e = tt

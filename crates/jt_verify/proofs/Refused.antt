@@ -9,7 +9,8 @@ use Rattle.jt_image.specs.Code.{Section, Code}
 use Rattle.jt_image.specs.Effect.{Shape, Leads, effect_of, effect_at}
 use Rattle.jt_image.specs.Typed.{Shapes, Reaches, at_start, along, IsTypedBy, IsTypedUnit, IsTyped, Equal, HasSame}
 use Rattle.jt_verify.specs.Refusing.{HasClash, HasFlaw, HoldsAt, RefusalHolds}
-use Rattle.jt_verify.specs.Working.{Table, shape_at, unit_of, ClashesAt, Clashes, Steps, Comes, IsWorking, RefusesUnit}
+use Rattle.jt_verify.specs.Typing.{IsTall}
+use Rattle.jt_verify.specs.Working.{Table, shape_at, unit_of, ClashesAt, Clashes, StepFlaw, Steps, Comes, IsWorking, RefusesUnit}
 use Rattle.jt_verify.specs.declared.refusal.Refusal.{Refusal}
 use Rattle.jt_verify.specs.declared.refusal.Refusal.TheVariants as refusal
 use Rattle.jt_verify.specs.declared.verifier.Path.{Path}
@@ -46,13 +47,17 @@ clash_refuses k u n t w x e i c =
     let holds = inr (clash_at k u x.point x.shape comes.1 (shape_at t x.point) c.0 (λ r found. i.reached x.point r found) c.2) in
     subst (λ (r : Refusal). RefusesUnit k u n r) (sym c.1) (refl, holds)
 
-pub flaw_refuses : (k : Code) (u : Section) (n : ℕ) (t : Table) (w : List Path) (x : Path) (f : Flaw) (m p : ℕ) → IsWorking k u t (w ++ x ∷ []) → m ≡ n → p ≡ x.point → effect_at k u x.point x.shape ≡ Err f → RefusesUnit k u n (refusal.Flaw f m p)
-flaw_refuses k u n t w x f m p i is at e =
-    let comes = (paths_last (Comes k u) w x i.coming).0 in
-    (is, subst (λ (q : ℕ). HoldsAt k u q f) (sym at) (inl (x.shape, comes.1, e)))
+-- an effect that leads to a point with too many entries brings them there
+tall_clash : (k : Code) (u : Section) (x : Path) (q : ℕ) (o : Result Leads Flaw) → Reaches k u x.point x.shape → effect_at k u x.point x.shape ≡ o → IsTall q o → HasClash k u q flaw.TooDeep
+tall_clash k u x q (Ok l) reached e h = (l.shape, along x.point x.shape l q reached e h.0, h.1)
+tall_clash k u x q (Err f) reached e h = absurd h
+
+step_holds : (k : Code) (u : Section) (x : Path) (f : Flaw) (q : ℕ) → Reaches k u x.point x.shape → StepFlaw k u x.point x.shape f q → HoldsAt k u q f
+step_holds k u x f q reached (inl h) = subst (λ (p : ℕ). HoldsAt k u p f) (sym h.0) (inl (x.shape, reached, h.1))
+step_holds k u x f q reached (inr h) = subst (λ (g : Flaw). HoldsAt k u q g) (sym h.0) (inr (tall_clash k u x q (effect_at k u x.point x.shape) reached refl h.1))
 
 pub step_refuses : (k : Code) (u : Section) (n : ℕ) (t : Table) (w : List Path) (x : Path) (r : Shape) (e : Refusal) → IsWorking k u t (w ++ x ∷ []) → Steps k u n x.point x.shape r (Err e) → RefusesUnit k u n e
-step_refuses k u n t w x r (refusal.Flaw f m p) i h = flaw_refuses k u n t w x f m p i h.0 h.1 h.2
+step_refuses k u n t w x r (refusal.Flaw f m p) i h = (h.0, step_holds k u x f p (paths_last (Comes k u) w x i.coming).0.1 h.1)
 step_refuses k u n t w x r refusal.NoMemory i h = tt
 
 pub empty_refuses : (k : Code) (u : Section) (n : ℕ) → length u.code ≡ 0 → RefusesUnit k u n (refusal.Flaw flaw.FallsOff n 0)

@@ -9,7 +9,7 @@ use Rattle.jt_image.specs.Readers.{header_of}
 use Rattle.jt_image.specs.Effect as effects
 use Rattle.jt_image.specs.Effect.{Shape, effect_at}
 use Rattle.jt_image.specs.Typed.{Shapes, Reaches, max_entries}
-use Rattle.jt_verify.specs.Typing.{as_list, points_of}
+use Rattle.jt_verify.specs.Typing.{as_list, points_of, IsTall}
 use Rattle.jt_verify.specs.Refusing.{HoldsAt}
 use Rattle.jt_verify.specs.declared.typing.Leads.{Leads}
 use Rattle.jt_verify.specs.declared.refusal.Refusal.{Refusal}
@@ -90,10 +90,14 @@ ClashesAt o s f = ⊥
 abbrev pub Clashes : Table → ℕ → Path → Refusal → Type 0
 Clashes t n x r = (f : Flaw) × (r ≡ refusal.Flaw f n x.point) × ClashesAt (shape_at t x.point) x.shape f
 
+-- the effect at a point has the flaw, or it leads to q with a shape that is too long
+abbrev pub StepFlaw : Code → Section → ℕ → Shape → Flaw → ℕ → Type 0
+StepFlaw k u p s f q = ((q ≡ p) × (effect_at k u p s ≡ Err f)) ⊎ ((f ≡ flaw.TooDeep) × IsTall q (effect_at k u p s))
+
 -- the effect at a point of unit n, where r is the shape behind it
 abbrev pub Steps : Code → Section → ℕ → ℕ → Shape → Shape → Result Leads Refusal → Type 0
 Steps k u n p s r (Ok l) = effect_at k u p s ≡ Ok (record { shape = r; points = points_of l })
-Steps k u n p s r (Err (refusal.Flaw f m q)) = (m ≡ n) × (q ≡ p) × (effect_at k u p s ≡ Err f)
+Steps k u n p s r (Err (refusal.Flaw f m q)) = (m ≡ n) × StepFlaw k u p s f q
 Steps k u n p s r (Err refusal.NoMemory) = Unit {0}
 
 -- the paths that an instruction sends; the last is followed first

@@ -1,8 +1,8 @@
 //! Shapes: the kinds of the entries of an activation.
-ghost use Rattle.std.specs.Prelude.{◌≡◌, ◌≢◌, ◌≤◌, [], ◌∷◌, length, IfOk, OnOk, OnErr, MatchBool, MatchResult};
+ghost use Rattle.std.specs.Prelude.{◌≡◌, ◌≢◌, ◌≤◌, [], ◌∷◌, length, slice_get, IfOk, OnOk, OnErr, MatchBool, MatchResult};
 ghost use Rattle.jt_image.specs.Effect.{may_return};
 ghost use Rattle.jt_image.specs.Typed.{max_entries};
-ghost use Rattle.jt_verify.specs.Shapes.{Differ, Pops};
+ghost use Rattle.jt_verify.specs.Shapes.{below_frame, below_capture, Below, Differ, Pops};
 
 use crate::refusal::Refusal;
 use crate::typing::EffectError;
@@ -128,6 +128,48 @@ impl Shape {
         };
         *self = below;
         Ok(())
+    }
+
+    /// Takes a loop off the top.
+    pub(crate) fn pop_frame(&mut self) -> Result<(), EffectError>
+        ensures { Below (below_frame self.old) self.new result }
+    {
+        let below = match &self.top {
+            Top::On(Kind::Frame, below) => below.share()?,
+            Top::On(_, _) => return Err(EffectError::Flaw(Flaw::WrongKind)),
+            Top::None => return Err(EffectError::Flaw(Flaw::MissingOperand)),
+        };
+        *self = below;
+        Ok(())
+    }
+
+    /// Takes a capture off the top.
+    pub(crate) fn pop_capture(&mut self) -> Result<(), EffectError>
+        ensures { Below (below_capture self.old) self.new result }
+    {
+        let below = match &self.top {
+            Top::On(Kind::Capture, below) => below.share()?,
+            Top::On(_, _) => return Err(EffectError::Flaw(Flaw::WrongKind)),
+            Top::None => return Err(EffectError::Flaw(Flaw::MissingOperand)),
+        };
+        *self = below;
+        Ok(())
+    }
+}
+
+/// The kind of the entry that has so many entries above it.
+pub(crate) fn kind_below(shape: &Shape, above: usize) -> Option<Kind>
+    ensures { result ≡ slice_get shape.now above }
+{
+    match &shape.top {
+        Top::None => None,
+        Top::On(kind, below) => {
+            if above == 0 {
+                Some(*kind)
+            } else {
+                kind_below(below, above - 1)
+            }
+        }
     }
 }
 

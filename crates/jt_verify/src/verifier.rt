@@ -7,13 +7,10 @@ ghost use Rattle.jt_verify.specs.Refusing.{RefusalHolds};
 
 use crate::refusal::Refusal;
 use crate::shape::{Shape, join};
-use crate::typing::{EffectError, Leads, effect};
+use crate::typing::{EffectError, Leads, MAX_ENTRIES, effect};
 use jt_image::{Code, Flaw, UnitHeader};
 use jt_value::NoMemory;
 use std::alloc::{AllocError, Global};
-
-/// Entries of a shape, at the most.
-const MAX_ENTRIES: usize = 1024;
 
 /// A shape that comes to a point.
 #[derive(Drop)]
@@ -66,6 +63,11 @@ fn step<C: Code>(
     match effect(alloc, code, header, point, instruction, shape) {
         Ok(leads) => Ok(leads),
         Err(EffectError::Flaw(flaw)) => Err(Refusal::Flaw { flaw, unit, point }),
+        Err(EffectError::TooTall(point)) => Err(Refusal::Flaw {
+            flaw: Flaw::TooDeep,
+            unit,
+            point,
+        }),
         Err(EffectError::NoMemory) => Err(Refusal::NoMemory),
     }
 }

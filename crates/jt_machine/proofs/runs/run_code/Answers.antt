@@ -1,8 +1,9 @@
-use Rattle.std.proofs.Common.{◌≡◌, ◌∙◌, sym, refl, ap, None}
+use Rattle.std.proofs.Common.{◌≡◌, ◌∙◌, sym, refl, ap, None, length, arith}
 use Rattle.jt_value.specs.ContextView.{pairs_of}
+use Rattle.jt_image.specs.Config.{Config}
 use Rattle.jt_image.specs.Run.{next, Goes, Ends, passed}
 use Rattle.jt_machine.specs.View.{budget_view, config_view, outcome_view}
-use Rattle.jt_machine.proofs.Steps.{ending_now, ending_back, reached_next, reached_sound}
+use Rattle.jt_machine.proofs.Steps.{callers_len, ending_now, ending_back, reached_next, reached_sound}
 use Rattle.jt_machine.proofs.runs.run_code.Goals as goal
 
 pub steps-init : goal.steps-init
@@ -10,6 +11,7 @@ steps-init g c =
     record {
       reached = (0, ap Goes (sym c.in_ok-state.ensures));
       same = λ o e. rw c.in_ok-state.ensures at e;
+      depth = omega (arith, ap (λ (x : Config). x.left.depth) c.in_ok-state.ensures, ap (λ (x : Config). length x.machine.callers) c.in_ok-state.ensures, callers_len c.in_ok-state.state.callers.items);
     }
 
 pub step-requires-clause-not_wrong : goal.step-requires-clause-not_wrong
@@ -21,6 +23,9 @@ step-requires-clause-sized g c = (reached_sound c.code_laws.ensures (g.C.Code.co
 pub step-requires-clause-few : goal.step-requires-clause-few
 step-requires-clause-few g c = (reached_sound c.code_laws.ensures (g.C.Code.code c.args.code.now) c.requires.whole c.requires.typed (pairs_of c.args.context.now) (budget_view c.args.budget) (config_view c.steps.state) c.steps.invariant.reached).few
 
+pub step-requires-clause-depth : goal.step-requires-clause-depth
+step-requires-clause-depth g c = c.steps.invariant.depth
+
 pub steps-preserved : goal.steps-preserved
 steps-preserved g c =
     let k = g.C.Code.code c.args.code.now in
@@ -28,6 +33,7 @@ steps-preserved g c =
     record {
       reached = reached_next k (pairs_of c.args.context.now) (budget_view c.args.budget) (config_view c.steps.state) (config_view c.step.new.state) c.steps.invariant.reached e;
       same = λ o r. c.steps.invariant.same o (ending_back k (config_view c.steps.state) (config_view c.step.new.state) o e r);
+      depth = omega (arith, c.steps.invariant.depth, callers_len c.steps.state.callers.items, callers_len c.step.new.state.callers.items, (reached_sound c.code_laws.ensures k c.requires.whole c.requires.typed (pairs_of c.args.context.now) (budget_view c.args.budget) (config_view c.steps.state) c.steps.invariant.reached).depth (config_view c.step.new.state) e);
     }
 
 pub steps-smaller : goal.steps-smaller

@@ -1,3 +1,4 @@
+use Rattle.std.proofs.Common.{◌+◌, ◌<◌, ◌^◌, length}
 use Rattle.jt_value.specs.ContextView.{pairs_of}
 use Rattle.jt_image.specs.Config.{Outcome}
 use Rattle.jt_image.specs.Run.{Ending, start}
@@ -9,6 +10,7 @@ abbrev pub invariant-steps : goal.invariant-steps
 invariant-steps g l = record {
   reached : Reached (g.C.Code.code l.code) (pairs_of l.fn.context) (budget_view l.fn.budget) (config_view l.state);
   same : (o : Outcome) → Ending (g.C.Code.code l.code) (config_view l.state) o → Ending (g.C.Code.code l.code) (start (g.C.Code.code l.code) (pairs_of l.fn.context) (budget_view l.fn.budget)) o;
+  depth : l.state.left.depth + length l.state.callers.items < 2 ^ 32;
 }
 
 abbrev pub decreases-steps : goal.decreases-steps

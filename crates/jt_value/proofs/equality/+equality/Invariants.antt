@@ -7,19 +7,19 @@ use Rattle.jt_value.proofs.equality.+equality.Given as goal
 abbrev pub invariant-are_first_values_equal-loop-key : goal.invariant-are_first_values_equal-loop-key
 invariant-are_first_values_equal-loop-key l = record {
   index : l.index ≡ l.key-index;
-  so_far : all_keys (λ k. equal_at (entries_view l.entries.items) k (entry_of k (entries_view l.others.items))) (entries_view (take l.key-index l.entries.items)) ≡ true;
+  so_far : all_keys (λ k. equal_at (entries_view l.entries) k (entry_of k (entries_view l.others))) (entries_view (take l.key-index l.entries)) ≡ true;
 }
 
 abbrev pub invariant-are_items_equal-loop-item : goal.invariant-are_items_equal-loop-item
 invariant-are_items_equal-loop-item l = record {
   index : l.index ≡ l.item-index;
-  lengths : length l.items.items ≡ length l.others.items;
-  rest : equal_items (items_view l.items.items) (items_view l.others.items) ≡ equal_items (items_view (drop l.item-index l.items.items)) (items_view (drop l.item-index l.others.items));
+  lengths : length l.items ≡ length l.others;
+  rest : equal_items (items_view l.items) (items_view l.others) ≡ equal_items (items_view (drop l.item-index l.items)) (items_view (drop l.item-index l.others));
 }
 
 abbrev pub invariant-are_values_equal_in_place-loop-key : goal.invariant-are_values_equal_in_place-loop-key
 invariant-are_values_equal_in_place-loop-key l = record {
   index : l.index ≡ l.key-index;
-  same_keys : same_keys (entries_view l.entries.items) (entries_view l.others.items) ≡ true;
-  so_far : all_keys (λ k. equal_at (entries_view l.entries.items) k (entry_of k (entries_view l.others.items))) (entries_view (take l.key-index l.entries.items)) ≡ true;
+  same_keys : same_keys (entries_view l.entries) (entries_view l.others) ≡ true;
+  so_far : all_keys (λ k. equal_at (entries_view l.entries) k (entry_of k (entries_view l.others))) (entries_view (take l.key-index l.entries)) ≡ true;
 }

@@ -8,5 +8,5 @@ overflow_add-result g c = omega (arith, c.requires.small, height_of_row _ _ _ _ 
 
 pub invariant_of-result : goal.invariant_of-result
 invariant_of-result g c =
-    let e = ap levels c.make_list.ensures in
+    let e = ap levels c.in_ok-make_list.ensures in
     record { counted = omega (arith, e, height_of_items _ _ _ c.in_ok-parts.parts c.in_ok-parts.ensures) }

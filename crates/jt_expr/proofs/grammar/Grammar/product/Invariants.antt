@@ -6,4 +6,4 @@ use Rattle.jt_expr.specs.Reading.{read, loop, chain_step, read_product, read_pow
 use Rattle.jt_expr.proofs.grammar.Grammar.product.Given as goal
 
 abbrev pub invariant-loop-turn : goal.invariant-loop-turn
-invariant-loop-turn g l = read_product (read l.self.below) (suc l.self.below) (ahead l.fn.cursor) ≡ loop (chain_step (read l.self.below) (suc l.self.below) product (read_power (read l.self.below) (suc l.self.below))) (l._turn-end - l._turn) (expr_view l.left.expr) (ahead l.cursor)
+invariant-loop-turn g l = read_product (read l.self.below) (suc l.self.below) (ahead l.fn.cursor) ≡ loop (chain_step (read l.self.below) (suc l.self.below) product (read_power (read l.self.below) (suc l.self.below))) (l._turn-end - l._turn) (expr_view l.left.expr.value) (ahead l.cursor)

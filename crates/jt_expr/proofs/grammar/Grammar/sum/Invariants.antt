@@ -6,4 +6,4 @@ use Rattle.jt_expr.specs.Reading.{read, loop, chain_step, read_sum, read_concate
 use Rattle.jt_expr.proofs.grammar.Grammar.sum.Given as goal
 
 abbrev pub invariant-loop-turn : goal.invariant-loop-turn
-invariant-loop-turn g l = read_sum (read l.self.below) (suc l.self.below) (ahead l.fn.cursor) ≡ loop (chain_step (read l.self.below) (suc l.self.below) sum (read_concatenation (read l.self.below) (suc l.self.below))) (l._turn-end - l._turn) (expr_view l.left.expr) (ahead l.cursor)
+invariant-loop-turn g l = read_sum (read l.self.below) (suc l.self.below) (ahead l.fn.cursor) ≡ loop (chain_step (read l.self.below) (suc l.self.below) sum (read_concatenation (read l.self.below) (suc l.self.below))) (l._turn-end - l._turn) (expr_view l.left.expr.value) (ahead l.cursor)

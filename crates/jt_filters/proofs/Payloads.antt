@@ -1,0 +1,133 @@
+-- Items by what a value holds.
+use Rattle.std.specs.Prelude.{option_map, slice_get}
+use Rattle.std.specs.Option.{option_and_then}
+use Rattle.std.proofs.lemmas.Bool.Decides.{nat_tests}
+use Rattle.std.specs.Char.{encode_utf8}
+use Rattle.jt_ops.specs.ItemOf.{item_at, items_count, indexed_item, indexed_character, item_of, or_undefined, place}
+use Rattle.std.proofs.Common.{◌≡◌, ℕ, zero, suc, ℤ, ◌+◌, ◌-◌, negsuc, Bool, true, cond, ltb, List, [], ◌∷◌, length, Some, None, refl, ap, sym, ◌∙◌, arith}
+use Rattle.jt_value.proofs.Lists.{Pair}
+use Rattle.jt_value.specs.View.{view, items_view, entries_view}
+use Rattle.jt_value.specs.declared.value.Value.{Value}
+use Rattle.jt_ops.proofs.Places.{items_count_view}
+use Rattle.jt_filters.specs.Listing.{length_of, counted, entries_count, has_places, on_items, item_named}
+use Rattle.std.specs.Prelude.{Option, Ok, Err}
+use Rattle.std.specs.Str.{chars}
+use Rattle.jt_value.specs.Tree as tree
+use Rattle.jt_value.specs.Tree.{Tree, Items, no_items, Entries}
+use Rattle.jt_value.specs.Iteration.{items_of_tree, character_items, key_items}
+use Rattle.jt_value.specs.declared.fault.Fault.TheVariants as fault
+use Rattle.jt_value.specs.Payload.{text_of, items_of_list, entries_of_map}
+
+pub list_is : (t : Tree) (ts : Items) → Some ts ≡ items_of_list t → t ≡ tree.list ts
+list_is (tree.list us) ts e = cc
+list_is tree.undefined ts e = cc
+list_is tree.nothing ts e = cc
+list_is (tree.truth_value b) ts e = cc
+list_is (tree.number z) ts e = cc
+list_is (tree.text s) ts e = cc
+list_is (tree.markup s) ts e = cc
+list_is (tree.map es) ts e = cc
+
+pub items_of_a_list : (t : Tree) (ts : Items) → Some ts ≡ items_of_list t → items_of_tree t ≡ Ok ts
+items_of_a_list t ts e = ap items_of_tree (list_is t ts e)
+
+pub items_of_a_text : (t : Tree) (s : List ℕ) → Some s ≡ text_of t → items_of_tree t ≡ Ok (character_items (chars s))
+items_of_a_text (tree.text r) s e = cc
+items_of_a_text (tree.markup r) s e = cc
+items_of_a_text tree.undefined s e = cc
+items_of_a_text tree.nothing s e = cc
+items_of_a_text (tree.truth_value b) s e = cc
+items_of_a_text (tree.number z) s e = cc
+items_of_a_text (tree.list us) s e = cc
+items_of_a_text (tree.map es) s e = cc
+
+pub map_is : (t : Tree) (es : Entries) → Some es ≡ entries_of_map t → t ≡ tree.map es
+map_is (tree.map fs) es e = cc
+map_is tree.undefined es e = cc
+map_is tree.nothing es e = cc
+map_is (tree.truth_value b) es e = cc
+map_is (tree.number z) es e = cc
+map_is (tree.text s) es e = cc
+map_is (tree.markup s) es e = cc
+map_is (tree.list us) es e = cc
+
+pub items_of_a_map : (t : Tree) (es : Entries) → Some es ≡ entries_of_map t → items_of_tree t ≡ Ok (key_items es)
+items_of_a_map t es e = ap items_of_tree (map_is t es e)
+
+-- nothing of the three, and not undefined
+pub items_of_all_else : (t : Tree) → None ≡ text_of t → None ≡ items_of_list t → None ≡ entries_of_map t → ¬ (t ≡ tree.undefined) → items_of_tree t ≡ Err fault.NotIterable
+items_of_all_else tree.undefined a b c d = absurd (d refl)
+items_of_all_else tree.nothing a b c d = refl
+items_of_all_else (tree.truth_value x) a b c d = refl
+items_of_all_else (tree.number z) a b c d = refl
+items_of_all_else (tree.text s) a b c d = cc
+items_of_all_else (tree.markup s) a b c d = cc
+items_of_all_else (tree.list us) a b c d = cc
+items_of_all_else (tree.map es) a b c d = cc
+
+pub length_of_a_text : (t : Tree) (s : List ℕ) → Some s ≡ text_of t → length_of t ≡ counted (length (chars s))
+length_of_a_text (tree.text r) s e = let f : s ≡ r = cc in ap (λ (x : List ℕ). counted (length (chars x))) (sym f)
+length_of_a_text (tree.markup r) s e = let f : s ≡ r = cc in ap (λ (x : List ℕ). counted (length (chars x))) (sym f)
+length_of_a_text tree.undefined s e = cc
+length_of_a_text tree.nothing s e = cc
+length_of_a_text (tree.truth_value b) s e = cc
+length_of_a_text (tree.number z) s e = cc
+length_of_a_text (tree.list us) s e = cc
+length_of_a_text (tree.map es) s e = cc
+
+pub length_of_a_list : (t : Tree) (vs : List Value) → Some (items_view vs) ≡ items_of_list t → length_of t ≡ counted (length vs)
+length_of_a_list t vs e = ap length_of (list_is t _ e) ∙ ap counted (items_count_view vs)
+
+entries_count_view : (es : List Pair) → entries_count (entries_view es) ≡ length es
+entries_count_view [] = refl
+entries_count_view (e ∷ es) = omega (arith, entries_count_view es)
+
+pub length_of_a_map : (t : Tree) (es : List Pair) → Some (entries_view es) ≡ entries_of_map t → length_of t ≡ counted (length es)
+length_of_a_map t es e = ap length_of (map_is t _ e) ∙ ap counted (entries_count_view es)
+
+get_view : (vs : List Value) (i : ℕ) → option_map view (slice_get vs i) ≡ item_at (items_view vs) i
+get_view [] i = refl
+get_view (v ∷ vs) zero = refl
+get_view (v ∷ vs) (suc i) = get_view vs i
+
+pub last_view : (vs : List Value) → option_map view (slice_get vs (length vs - 1)) ≡ indexed_item (items_view vs) (negsuc 0)
+last_view [] = refl
+last_view (v ∷ vs) =
+    let some : ltb 0 (items_count (items_view vs) + 1) ≡ true = grind (arith, nat_tests) in
+    let n : length (v ∷ vs) - 1 ≡ (items_count (items_view vs) + 1) - 1 - 0 = omega (arith, items_count_view vs) in
+    get_view (v ∷ vs) (length (v ∷ vs) - 1)
+    ∙ ap (item_at (items_view (v ∷ vs))) n
+    ∙ ap (λ (b : Bool). option_and_then (item_at (items_view (v ∷ vs))) (cond b (Some ((items_count (items_view vs) + 1) - 1 - 0)) None)) (sym some)
+
+character_at : (cs : List ℕ) (i : ℕ) → option_map (λ c. tree.text (encode_utf8 c)) (slice_get cs i) ≡ item_at (character_items cs) i
+character_at [] i = refl
+character_at (c ∷ cs) zero = refl
+character_at (c ∷ cs) (suc i) = character_at cs i
+
+pub characters_count : (cs : List ℕ) → items_count (character_items cs) ≡ length cs
+characters_count [] = refl
+characters_count (c ∷ cs) = omega (arith, characters_count cs)
+
+place_of_character : (cs : List ℕ) (p : Option ℕ) → option_map (λ c. tree.text (encode_utf8 c)) (option_and_then (slice_get cs) p) ≡ option_and_then (item_at (character_items cs)) p
+place_of_character cs None = refl
+place_of_character cs (Some i) = character_at cs i
+
+indexed_characters : (s : List ℕ) (i : ℤ) → indexed_character s i ≡ indexed_item (character_items (chars s)) i
+indexed_characters s i =
+    place_of_character (chars s) (place i (length (chars s)))
+    ∙ ap (λ (n : ℕ). option_and_then (item_at (character_items (chars s))) (place i n)) (sym (characters_count (chars s)))
+
+-- an item by an index, of a text or a list
+pub item_of_places : (t : Tree) (i : ℤ) → has_places t ≡ true → item_of t (tree.number i) ≡ on_items (item_named i) t
+item_of_places (tree.text s) i e = ap (λ (x : Option Tree). Ok (or_undefined x)) (indexed_characters s i)
+item_of_places (tree.markup s) i e = ap (λ (x : Option Tree). Ok (or_undefined x)) (indexed_characters s i)
+item_of_places (tree.list ts) i e = refl
+item_of_places tree.undefined i e = cc
+item_of_places tree.nothing i e = cc
+item_of_places (tree.truth_value b) i e = cc
+item_of_places (tree.number z) i e = cc
+item_of_places (tree.map es) i e = cc
+
+pub keys_count : (es : List Pair) → items_count (key_items (entries_view es)) ≡ length es
+keys_count [] = refl
+keys_count (e ∷ es) = omega (arith, keys_count es)

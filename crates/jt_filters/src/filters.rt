@@ -1,0 +1,76 @@
+//! Filters on values.
+ghost use Rattle.std.specs.Prelude.{◌≡◌, ◌∷◌, ◌+◌, [], Bool, true, map, length, nat_le};
+ghost use Rattle.jt_value.specs.View.{view};
+ghost use Rattle.jt_ops.specs.Limited.{limited_by, Answers};
+ghost use Rattle.jt_filters.specs.FilterTable.{least_values, most_values};
+ghost use Rattle.jt_filters.specs.Filtering.{filtered};
+ghost use Rattle.jt_filters.specs.Operands.{tree_of};
+
+use crate::building::build;
+use crate::filter_id::FilterId;
+use crate::measuring::measure;
+use crate::operand::Operand;
+use jt_ops::{Limits, OpError, allow};
+use jt_value::{Value, ValueError};
+use std::alloc::Global;
+
+/// What a filter gives of its values, the input first, under limits. `autoescape` says whether `join` keeps markup. The result's
+/// size and nesting are tested before it is built.
+///
+/// # Errors
+///
+/// The filter's fault; `TooLarge` where the result's size passes its limit, else `TooDeep` where its nesting does; `NoMemory`
+/// where a growth was refused.
+pub fn apply(
+    alloc: Global,
+    filter: FilterId,
+    values: &[Value],
+    autoescape: bool,
+    limits: Limits,
+) -> Result<Value, OpError>
+    requires least { nat_le (least_values filter) (length values.now) ≡ true }
+    requires most { nat_le (length values.now) (most_values filter) ≡ true }
+    ensures { Answers result (limited_by limits (filtered filter autoescape (map view values.now))) }
+{
+    match values {
+        [value, arguments @ ..] => {
+            applied(
+                alloc,
+                filter,
+                Operand::Value(value),
+                arguments,
+                autoescape,
+                limits,
+            )
+        }
+        _ => unreachable!(),
+    }
+}
+
+/// The same of an operand and the filter's arguments.
+#[tactic(auto, using(crate::proofs::Applied::faulty, crate::proofs::Applied::needs_memory))]
+fn applied(
+    alloc: Global,
+    filter: FilterId,
+    operand: Operand<'_>,
+    arguments: &[Value],
+    autoescape: bool,
+    limits: Limits,
+) -> Result<Value, OpError>
+    requires least { nat_le (least_values filter) (length arguments.now + 1) ≡ true }
+    requires most { nat_le (length arguments.now + 1) (most_values filter) ≡ true }
+    ensures { Answers result (limited_by limits (filtered filter autoescape (tree_of operand.entry ∷ map view arguments.now))) }
+{
+    let (size, nesting) = match measure(filter, operand, arguments, autoescape) {
+        Ok(measure) => measure,
+        Err(fault) => return Err(OpError::Fault(fault)),
+    };
+    if let Err(error) = allow(size, nesting, limits) {
+        return Err(error);
+    }
+    match build(alloc, filter, operand, arguments, autoescape) {
+        Ok(value) => Ok(value),
+        Err(ValueError::Fault(fault)) => Err(OpError::Fault(fault)),
+        Err(ValueError::NoMemory) => Err(OpError::NoMemory),
+    }
+}

@@ -1,0 +1,22 @@
+//! Filters, operators and tests on values, under limits of size and nesting.
+#![tactic(auto)]
+
+mod building;
+mod filter_id;
+mod filters;
+mod folding;
+mod item_list;
+mod joining;
+mod kinds;
+mod listing;
+mod measuring;
+mod operand;
+mod replacing;
+mod scalars;
+mod sorting;
+mod texts;
+mod unique;
+
+pub use filter_id::FilterId;
+pub use filters::apply;
+pub use jt_ops::{Limits, OpError, OpId, TestId, binary, binary_owned, range, test, unary};

@@ -1,0 +1,97 @@
+//! Filter `replace`.
+ghost use Rattle.std.specs.Prelude.{◌≡◌, ◌<◌, ◌-◌, ◌^◌, min, length, IfOk, IfErr, Ok, Err, string_bytes};
+ghost use Rattle.jt_value.specs.Tree as tree;
+ghost use Rattle.jt_value.specs.View.{view};
+ghost use Rattle.jt_escape.specs.Joining.{IsAnswer};
+ghost use Rattle.jt_filters.specs.Operands.{tree_of, measured};
+ghost use Rattle.jt_filters.specs.Texts.{replaced, replaced_behind};
+
+use crate::operand::Operand;
+use jt_value::{Fault, NoMemory, Value, ValueError};
+use std::alloc::Global;
+
+/// The texts of a replacement: the one to change, the old one and the new one.
+type Replacement<'a> = (&'a str, &'a str, &'a str);
+
+/// The measure of filter `replace`.
+pub(crate) fn replace_measure(
+    operand: Operand<'_>,
+    old: &Value,
+    new: &Value,
+) -> Result<(u64, u32), Fault>
+    ensures { result ≡ measured (replaced (tree_of operand.entry) (view old.now) (view new.now)) }
+{
+    let (text, old, new) = replacement(operand, old, new)?;
+    Ok((replaced_len(text, old, new).saturating_add(1), 0))
+}
+
+/// Filter `replace`.
+pub(crate) fn replace(
+    alloc: Global,
+    operand: Operand<'_>,
+    old: &Value,
+    new: &Value,
+) -> Result<Value, ValueError>
+    ensures { IsAnswer (replaced (tree_of operand.entry) (view old.now) (view new.now)) result }
+{
+    let (text, old, new) = replacement(operand, old, new)?;
+    Ok(Value::from_text(replaced_text(alloc, text, old, new)?)?)
+}
+
+/// The texts of a replacement, if all are plain and the old one isn't empty.
+#[tactic(auto, using(crate::proofs::Plains::plain_is, crate::proofs::Plains::others_not_replaced))]
+fn replacement<'a>(
+    operand: Operand<'a>,
+    old: &'a Value,
+    new: &'a Value,
+) -> Result<Replacement<'a>, Fault>
+    ensures old { IfOk result (λ p. 0 < length p.1.now) }
+    ensures ok { IfOk result (λ p. replaced (tree_of operand.entry) (view old.now) (view new.now)
+        ≡ Ok (tree.text (replaced_behind 0 p.1.now p.2.now p.0.now))) }
+    ensures fault { IfErr result (λ f. replaced (tree_of operand.entry) (view old.now) (view new.now) ≡ Err f) }
+{
+    let Some(text) = operand.as_plain() else {
+        return Err(operand.misfit());
+    };
+    match (old, new) {
+        (Value::Text(old), Value::Text(new)) => {
+            if old.is_empty() {
+                return Err(Fault::BadArgument);
+            }
+            Ok((text, old, new))
+        }
+        _ => Err(Fault::BadArgument),
+    }
+}
+
+/// How many bytes the text has then, or the greatest number where they are more.
+fn replaced_len(text: &str, old: &str, new: &str) -> u64
+    requires { 0 < length old.now }
+    ensures { result ≡ min (length (replaced_behind 0 old.now new.now text.now)) (2 ^ 64 - 1) }
+{
+    let mut size = 0u64;
+    let mut rest = text;
+    while let Some((front, behind)) = rest.split_once(old) {
+        size = size
+            .saturating_add(front.len() as u64)
+            .saturating_add(new.len() as u64);
+        rest = behind;
+    }
+    size.saturating_add(rest.len() as u64)
+}
+
+/// The text itself.
+fn replaced_text(alloc: Global, text: &str, old: &str, new: &str) -> Result<String, NoMemory>
+    requires { 0 < length old.now }
+    ensures { IfOk result (λ s. string_bytes s ≡ replaced_behind 0 old.now new.now text.now) }
+{
+    let mut replaced = String::new(alloc);
+    let mut rest = text;
+    while let Some((front, behind)) = rest.split_once(old) {
+        replaced.push_str(front)?;
+        replaced.push_str(new)?;
+        rest = behind;
+    }
+    replaced.push_str(rest)?;
+    Ok(replaced)
+}

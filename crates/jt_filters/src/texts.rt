@@ -1,0 +1,247 @@
+//! Filters on printed texts: the size and the nesting of what each gives, and what it gives.
+ghost use Rattle.std.specs.Prelude.{◌≡◌, ℕ, List, reverse, IfOk, Ok, string_bytes};
+ghost use Rattle.jt_value.specs.Tree as tree;
+ghost use Rattle.std.specs.Str.{chars, str_to_ascii_lowercase, str_to_ascii_uppercase};
+ghost use Rattle.jt_value.specs.View.{view};
+ghost use Rattle.jt_escape.specs.Joining.{IsAnswer};
+ghost use Rattle.jt_ops.specs.Pieces.{of_kind, written};
+ghost use Rattle.jt_filters.specs.Operands.{tree_of, measured};
+ghost use Rattle.jt_filters.specs.Texts.{keeping_kind, unchanged, of_same_kind, escaped_once, escaped_again};
+ghost use Rattle.jt_filters.specs.Texts as texts;
+
+use crate::operand::Operand;
+use itoa::Buffer;
+use jt_ops::{Kind, Piece};
+use jt_value::{Fault, NoMemory, Value, ValueError};
+use std::alloc::Global;
+
+/// The measure of the printed text, with the case of its letters or its kind changed or not.
+#[tactic(auto, using(crate::proofs::Measured::unchanged_measured, crate::proofs::Measured::lower_measured, crate::proofs::Measured::upper_measured, crate::proofs::Measured::capitalized_measured, crate::proofs::Measured::safe_measured))]
+pub(crate) fn printed_measure(operand: Operand<'_>) -> Result<(u64, u32), Fault>
+    ensures same { result ≡ measured (keeping_kind unchanged (tree_of operand.entry)) }
+    ensures lower { result ≡ measured (keeping_kind str_to_ascii_lowercase (tree_of operand.entry)) }
+    ensures upper { result ≡ measured (keeping_kind str_to_ascii_uppercase (tree_of operand.entry)) }
+    ensures capitalized { result ≡ measured (keeping_kind texts.capitalized (tree_of operand.entry)) }
+    ensures safe { result ≡ measured (texts.safe (tree_of operand.entry)) }
+{
+    let mut buffer = Buffer::new();
+    let text = operand.shown(&mut buffer)?;
+    Ok(((text.len() as u64).saturating_add(1), 0))
+}
+
+/// The measure of filter `trim`.
+#[tactic(auto, using(crate::proofs::Measured::trimmed_measured))]
+pub(crate) fn trim_measure(operand: Operand<'_>) -> Result<(u64, u32), Fault>
+    ensures { result ≡ measured (keeping_kind texts.trimmed (tree_of operand.entry)) }
+{
+    let mut buffer = Buffer::new();
+    let text = trimmed_back(trimmed_front(operand.shown(&mut buffer)?));
+    Ok(((text.len() as u64).saturating_add(1), 0))
+}
+
+/// The measure of filter `forceescape`.
+#[tactic(auto, using(crate::proofs::Measured::escaped_measured))]
+pub(crate) fn force_escape_measure(operand: Operand<'_>) -> Result<(u64, u32), Fault>
+    ensures { result ≡ measured (escaped_again (tree_of operand.entry)) }
+{
+    let mut buffer = Buffer::new();
+    let text = Piece::Escaped(operand.shown(&mut buffer)?);
+    Ok((text.len().saturating_add(1), 0))
+}
+
+/// The measure of filter `escape`.
+#[tactic(auto, using(crate::proofs::Measured::markup_stays, crate::proofs::Measured::others_escaped))]
+pub(crate) fn escape_measure(operand: Operand<'_>) -> Result<(u64, u32), Fault>
+    ensures { result ≡ measured (escaped_once (tree_of operand.entry)) }
+{
+    if operand.is_markup() {
+        printed_measure(operand)
+    } else {
+        force_escape_measure(operand)
+    }
+}
+
+/// The kind that an operand's text keeps.
+#[tactic(auto, using(crate::proofs::Measured::markup_kept, crate::proofs::Measured::others_kept))]
+fn kind_of(operand: Operand<'_>) -> Kind
+    ensures { (s : List ℕ) → of_kind result s ≡ of_same_kind (tree_of operand.entry) s }
+{
+    if operand.is_markup() {
+        Kind::Markup
+    } else {
+        Kind::Plain
+    }
+}
+
+/// The text of one piece.
+fn piece_value(alloc: Global, piece: &Piece<'_>, kind: Kind) -> Result<Value, NoMemory>
+    ensures { IfOk result (λ v. view v ≡ of_kind kind (written piece.now)) }
+{
+    let mut text = String::with_capacity(alloc, piece.len() as usize)?;
+    piece.write(&mut text)?;
+    kind.value(text)
+}
+
+/// Filter `string`.
+pub(crate) fn string(alloc: Global, operand: Operand<'_>) -> Result<Value, ValueError>
+    ensures { IsAnswer (keeping_kind unchanged (tree_of operand.entry)) result }
+{
+    let mut buffer = Buffer::new();
+    let text = operand.shown(&mut buffer)?;
+    Ok(piece_value(alloc, &Piece::Raw(text), kind_of(operand))?)
+}
+
+/// Filter `safe`.
+pub(crate) fn safe(alloc: Global, operand: Operand<'_>) -> Result<Value, ValueError>
+    ensures { IsAnswer (texts.safe (tree_of operand.entry)) result }
+{
+    let mut buffer = Buffer::new();
+    let text = operand.shown(&mut buffer)?;
+    Ok(piece_value(alloc, &Piece::Raw(text), Kind::Markup)?)
+}
+
+/// Filter `escape`.
+#[tactic(auto, using(crate::proofs::Measured::markup_stays, crate::proofs::Measured::others_escaped))]
+pub(crate) fn escape(alloc: Global, operand: Operand<'_>) -> Result<Value, ValueError>
+    ensures { IsAnswer (escaped_once (tree_of operand.entry)) result }
+{
+    if operand.is_markup() {
+        safe(alloc, operand)
+    } else {
+        force_escape(alloc, operand)
+    }
+}
+
+/// Filter `forceescape`.
+pub(crate) fn force_escape(alloc: Global, operand: Operand<'_>) -> Result<Value, ValueError>
+    ensures { IsAnswer (escaped_again (tree_of operand.entry)) result }
+{
+    let mut buffer = Buffer::new();
+    let text = operand.shown(&mut buffer)?;
+    Ok(piece_value(alloc, &Piece::Escaped(text), Kind::Markup)?)
+}
+
+/// Filter `lower`.
+pub(crate) fn lower(alloc: Global, operand: Operand<'_>) -> Result<Value, ValueError>
+    ensures { IsAnswer (keeping_kind str_to_ascii_lowercase (tree_of operand.entry)) result }
+{
+    let mut buffer = Buffer::new();
+    let mut text = String::from_str(alloc, operand.shown(&mut buffer)?)?;
+    text.make_ascii_lowercase();
+    Ok(kind_of(operand).value(text)?)
+}
+
+/// Filter `upper`.
+pub(crate) fn upper(alloc: Global, operand: Operand<'_>) -> Result<Value, ValueError>
+    ensures { IsAnswer (keeping_kind str_to_ascii_uppercase (tree_of operand.entry)) result }
+{
+    let mut buffer = Buffer::new();
+    let mut text = String::from_str(alloc, operand.shown(&mut buffer)?)?;
+    text.make_ascii_uppercase();
+    Ok(kind_of(operand).value(text)?)
+}
+
+/// Filter `capitalize`.
+pub(crate) fn capitalize(alloc: Global, operand: Operand<'_>) -> Result<Value, ValueError>
+    ensures { IsAnswer (keeping_kind texts.capitalized (tree_of operand.entry)) result }
+{
+    let mut buffer = Buffer::new();
+    let text = capitalized(alloc, operand.shown(&mut buffer)?)?;
+    Ok(kind_of(operand).value(text)?)
+}
+
+/// A text with its first character upper and the others lower.
+fn capitalized(alloc: Global, text: &str) -> Result<String, NoMemory>
+    ensures { IfOk result (λ s. string_bytes s ≡ texts.capitalized text.now) }
+{
+    let bytes = text.as_bytes();
+    if bytes.is_empty() || bytes[0] >= 128 {
+        let mut lowered = String::from_str(alloc, text)?;
+        lowered.make_ascii_lowercase();
+        return Ok(lowered);
+    }
+    let mut changed = String::new(alloc);
+    changed.push(bytes[0].to_ascii_uppercase() as char)?;
+    let mut rest = String::from_str(alloc, &text[1..])?;
+    rest.make_ascii_lowercase();
+    changed.push_str(&rest)?;
+    Ok(changed)
+}
+
+/// Filter `trim`.
+pub(crate) fn trim(alloc: Global, operand: Operand<'_>) -> Result<Value, ValueError>
+    ensures { IsAnswer (keeping_kind texts.trimmed (tree_of operand.entry)) result }
+{
+    let mut buffer = Buffer::new();
+    let text = trimmed_back(trimmed_front(operand.shown(&mut buffer)?));
+    Ok(piece_value(alloc, &Piece::Raw(text), kind_of(operand))?)
+}
+
+/// Whether a byte is whitespace.
+fn is_whitespace(byte: u8) -> bool
+    ensures { result ≡ texts.is_whitespace byte }
+{
+    byte == b' ' || (9 <= byte && byte <= 13)
+}
+
+/// A text without the whitespace that it begins with.
+fn trimmed_front(text: &str) -> &str
+    ensures { result.now ≡ texts.trimmed_front text.now }
+{
+    let mut start = 0;
+    for byte in text.as_bytes() {
+        if !is_whitespace(*byte) {
+            return &text[start..];
+        }
+        start += 1;
+    }
+    ""
+}
+
+/// A text without the whitespace that it ends with.
+fn trimmed_back(text: &str) -> &str
+    ensures { result.now ≡ reverse (texts.trimmed_front (reverse text.now)) }
+{
+    let bytes = text.as_bytes();
+    let mut end = bytes.len();
+    while end > 0 && is_whitespace(bytes[end - 1]) {
+        end -= 1;
+    }
+    &text[..end]
+}
+
+/// The measure of the characters of a text backwards.
+#[tactic(auto, using(crate::proofs::Changes::backwards_length))]
+pub(crate) fn backwards_measure(text: &str) -> (u64, u32)
+    ensures { Ok result ≡ measured (Ok (tree.text (texts.backwards text.now))) }
+{
+    ((text.len() as u64).saturating_add(1), 0)
+}
+
+/// The characters of a text backwards, as a plain text.
+pub(crate) fn backwards(alloc: Global, text: &str) -> Result<Value, NoMemory>
+    ensures { IfOk result (λ v. view v ≡ tree.text (texts.backwards text.now)) }
+{
+    Value::from_text(turned(alloc, text)?)
+}
+
+/// The characters of a text backwards.
+#[tactic(auto, using(crate::proofs::Changes::encodes_more))]
+fn turned(alloc: Global, text: &str) -> Result<String, NoMemory>
+    ensures { IfOk result (λ s. string_bytes s ≡ texts.backwards text.now) }
+{
+    let mut characters = characters(alloc, text)?;
+    characters.reverse();
+    let mut turned = String::with_capacity(alloc, text.len())?;
+    for c in &characters {
+        turned.push(*c)?;
+    }
+    Ok(turned)
+}
+
+/// The characters of a text.
+fn characters(alloc: Global, text: &str) -> Result<Vec<char>, NoMemory>
+    ensures { IfOk result (λ v. v.items ≡ chars text.now) }
+{
+    Ok(text.chars().collect(alloc)?)
+}

@@ -1,0 +1,23 @@
+use Rattle.std.proofs.Common.{◌≡◌, ◌∷◌, cond, ap}
+use Rattle.std.specs.Prelude.{string_bytes}
+use Rattle.jt_value.specs.Tree.{text, markup}
+use Rattle.jt_machine.specs.declared.state.State.{State}
+use Rattle.jt_machine.specs.Parts.{step_on, push, with_buffers, close_capture}
+use Rattle.jt_machine.specs.View.{config_view, outer_view}
+use Rattle.jt_machine.proofs.captures.close_capture.Goals as goal
+
+pub returns-in-Some : goal.returns-in-Some
+returns-in-Some c =
+    let b = string_bytes c.args.state.now.buffer in
+    rw (c.pop_capture.ensures, c.pop_outer-around.ensures) (c.in-Some.ensures.rest (λ e. push (cond c.args.marked (markup b) (text b)) (with_buffers e (string_bytes c.pop_outer-around.result ∷ outer_view c.pop_outer-around.new.outer.items)) step_on))
+
+pub returns : goal.returns
+returns c =
+    let b = string_bytes c.args.state.now.buffer in
+    let bs = outer_view c.pop_outer-around.new.outer.items in
+    let same : string_bytes c.pay.new.state.buffer ≡ b = ap (λ (s : State). string_bytes s.buffer) c.in_default.ensures.same in
+    let outer : outer_view c.pay.new.state.outer.items ≡ bs = ap (λ (s : State). outer_view s.outer.items) c.in_default.ensures.same in
+    let e : close_capture c.args.marked (config_view c.args.state.now) ≡ push (cond c.args.marked (markup b) (text b)) (with_buffers (config_view c.pay.new.state) (string_bytes c.pop_outer-around.result ∷ bs)) step_on =
+    rw (c.pop_capture.ensures, c.pop_outer-around.ensures) (c.in_default.ensures.rest (λ e. push (cond c.args.marked (markup b) (text b)) (with_buffers e (string_bytes c.pop_outer-around.result ∷ bs)) step_on)) in
+    let h = rw (c.in_ok-captured.ensures, c.replace-text.ensures.value, c.replace-text.ensures.after, same, outer) at c.push.ensures in
+    rw e h

@@ -1,0 +1,152 @@
+//! Calls, and how they come back.
+ghost use Rattle.std.specs.Prelude.{◌≡◌, ◌≢◌, ◌∷◌, ◌+◌, ◌<◌, ◌≤◌, ◌^◌, ℕ, Option, [], IfOk, IfSome, IfNone, OnOk, length};
+ghost use Rattle.jt_value.specs.View.{view};
+ghost use Rattle.jt_image.specs.Code.{Section};
+ghost use Rattle.jt_image.specs.IsCode.{IsCode};
+ghost use Rattle.jt_image.specs.Step.{locals_of, given_by, disorder};
+ghost use Rattle.jt_image.specs.Run.{Wrong};
+ghost use Rattle.jt_machine.specs.Parts.{call as call_next, return_from, went_back, back_with};
+ghost use Rattle.jt_machine.specs.View.{config_view, next_view, entries_view, values_view, caller_view, callers_view, given_view};
+
+use crate::limits::passed_limit;
+use crate::making::take_values;
+use crate::outcome::Outcome;
+use crate::parts::{pay, push_entry};
+use crate::state::{Caller, Entry, State};
+use jt_image::Code;
+use jt_value::{NoMemory, Value};
+use std::alloc::Global;
+use std::mem;
+
+// The locals of a unit: its arguments first, and others undefined.
+fn locals_with(arguments: Vec<Value>, locals: u16) -> Result<Vec<Value>, NoMemory>
+    requires { length arguments.items ≤ locals }
+    ensures { IfOk result (λ vs. values_view vs.items ≡ locals_of locals (values_view arguments.items)) }
+{
+    let mut values = arguments;
+    let missing = usize::from(locals) - values.len();
+    'values: for _ in 0..missing {
+        values.push(Value::Undefined)?;
+    }
+    Ok(values)
+}
+
+// Puts a caller in front of those that wait.
+fn push_caller(callers: &mut Vec<Caller>, caller: Caller) -> Result<(), NoMemory>
+    ensures { OnOk result (callers_view callers.new.items ≡ caller_view caller ∷ callers_view callers.old.items) }
+{
+    callers.push(caller)?;
+    Ok(())
+}
+
+/// Takes the arguments of a unit and begins it.
+pub(crate) fn call<C: Code>(
+    alloc: Global,
+    code: &C,
+    state: &mut State,
+    unit: u32,
+) -> Result<Option<Outcome>, NoMemory>
+    requires whole { IsCode (C.code code.now) }
+    requires not_wrong { call_next (C.code code.now) unit (config_view state.old) ≢ Wrong }
+    requires room { state.old.point + 1 < 2 ^ 64 }
+    ensures { IfOk result (λ r. call_next (C.code code.now) unit (config_view state.old) ≡ next_view r state.new) }
+{
+    let Some(header) = code.unit(unit as usize) else {
+        unreachable!()
+    };
+    let arguments = take_values(alloc, &mut state.entries, usize::from(header.parameters))?;
+    if let Some(outcome) = pay(state, 1) {
+        return Ok(Some(outcome));
+    }
+    if let Err(spent) = state.left.enter() {
+        return Ok(Some(Outcome::Spent(spent)));
+    }
+    let locals = locals_with(arguments, header.locals)?;
+    let caller = Caller {
+        unit: state.unit,
+        point: state.point + 1,
+        locals: mem::replace(&mut state.locals, locals),
+        entries: mem::replace(&mut state.entries, Vec::new(alloc)),
+    };
+    push_caller(&mut state.callers, caller)?;
+    state.unit = unit as usize;
+    state.point = 0;
+    Ok(None)
+}
+
+// What a unit gives whose entries are these: its one value, or nothing.
+fn given_of(entries: Vec<Entry>) -> Option<Value>
+    ensures { (kind : ℕ) → given_by kind (entries_view entries.items) ≢ disorder → given_by kind (entries_view entries.items) ≡ given_view result }
+{
+    let mut entries = entries;
+    match entries.pop() {
+        Some(Entry::Value(value)) => Some(value),
+        Some(Entry::Frame(_)) => None,
+        Some(Entry::Capture) => None,
+        None => None,
+    }
+}
+
+// Lets a caller go on above these entries.
+fn go_on(state: &mut State, caller: Caller)
+    requires { state.old.left.depth + 1 < 2 ^ 32 }
+    ensures { config_view state.new ≡ went_back (caller_view caller) (callers_view state.old.callers.items) (caller_view caller).entries (config_view state.old) }
+{
+    let Caller {
+        unit,
+        point,
+        locals,
+        entries,
+    } = caller;
+    state.unit = unit;
+    state.point = point;
+    state.locals = locals;
+    state.entries = entries;
+    state.left.leave();
+}
+
+// Lets a caller go on with what the unit gives, or says which limit it passes.
+fn resume(
+    state: &mut State,
+    caller: Caller,
+    given: Option<Value>,
+) -> Result<Option<Outcome>, NoMemory>
+    requires { state.old.left.depth + 1 < 2 ^ 32 }
+    ensures { IfOk result (λ r. back_with (caller_view caller) (callers_view state.old.callers.items) (given_view given) (config_view state.old) ≡ next_view r state.new) }
+{
+    let Some(value) = given else {
+        go_on(state, caller);
+        return Ok(None);
+    };
+    if let Some(spent) = passed_limit(&value, &state.left) {
+        return Ok(Some(Outcome::Spent(spent)));
+    }
+    go_on(state, caller);
+    push_entry(&mut state.entries, Entry::Value(value))?;
+    Ok(None)
+}
+
+// Takes the nearest caller.
+fn pop_caller(callers: &mut Vec<Caller>) -> Option<Caller>
+    ensures some { IfSome result (λ a. callers_view callers.old.items ≡ caller_view a ∷ callers_view callers.new.items) }
+    ensures none { IfNone result (callers_view callers.old.items ≡ []) }
+    ensures fewer { IfSome result (λ _. length callers.new.items < length callers.old.items) }
+{
+    callers.pop()
+}
+
+/// Goes back to the caller with what the unit gives, or ends with the text of the buffer.
+pub(crate) fn finish(alloc: Global, state: &mut State) -> Result<Option<Outcome>, NoMemory>
+    requires depth { state.old.left.depth + length state.old.callers.items < 2 ^ 32 }
+    ensures { IfOk result (λ r. (u : Option Section) → return_from u (config_view state.old) ≢ Wrong → return_from u (config_view state.old) ≡ next_view r state.new) }
+{
+    if let Some(outcome) = pay(state, 1) {
+        return Ok(Some(outcome));
+    }
+    let Some(caller) = pop_caller(&mut state.callers) else {
+        let text = mem::replace(&mut state.buffer, String::new(alloc));
+        return Ok(Some(Outcome::Text(text)));
+    };
+    let entries = mem::replace(&mut state.entries, Vec::new(alloc));
+    resume(state, caller, given_of(entries))
+}

@@ -1,0 +1,73 @@
+//! Captures: buffers that are opened and closed.
+ghost use Rattle.std.specs.Prelude.{◌≡◌, ◌≢◌, ◌∷◌, [], ◌+◌, ◌<◌, ◌^◌, if◌then◌else◌, IfOk, OnOk, string_bytes};
+ghost use Rattle.jt_value.specs.Tree as tree;
+ghost use Rattle.jt_value.specs.View.{view};
+ghost use Rattle.jt_image.specs.Run.{Wrong};
+ghost use Rattle.jt_machine.specs.Parts.{open_capture as open_next, close_capture as close_next};
+ghost use Rattle.jt_machine.specs.View.{config_view, next_view, outer_view};
+
+use crate::outcome::Outcome;
+use crate::parts::{pay, pop_capture, push, push_entry, step_on};
+use crate::state::{Entry, State};
+use jt_value::{NoMemory, Value};
+use std::alloc::Global;
+use std::mem;
+
+// Puts a buffer around the open one.
+fn push_outer(outer: &mut Vec<String>, buffer: String) -> Result<(), NoMemory>
+    ensures { OnOk result (outer_view outer.new.items ≡ string_bytes buffer ∷ outer_view outer.old.items) }
+{
+    outer.push(buffer)?;
+    Ok(())
+}
+
+/// Opens a buffer.
+pub(crate) fn open_capture(alloc: Global, state: &mut State) -> Result<Option<Outcome>, NoMemory>
+    requires { state.old.point + 1 < 2 ^ 64 }
+    ensures { IfOk result (λ r. open_next (config_view state.old) ≡ next_view r state.new) }
+{
+    if let Some(outcome) = pay(state, 1) {
+        return Ok(Some(outcome));
+    }
+    push_entry(&mut state.entries, Entry::Capture)?;
+    let around = mem::replace(&mut state.buffer, String::new(alloc));
+    push_outer(&mut state.outer, around)?;
+    step_on(state)
+}
+
+// Takes the buffer around the open one.
+fn pop_outer(outer: &mut Vec<String>) -> String
+    requires { outer_view outer.old.items ≢ [] }
+    ensures { outer_view outer.old.items ≡ string_bytes result ∷ outer_view outer.new.items }
+{
+    match outer.pop() {
+        Some(buffer) => buffer,
+        None => unreachable!(),
+    }
+}
+
+// A captured text as a value.
+fn captured(text: String, marked: bool) -> Result<Value, NoMemory>
+    ensures { IfOk result (λ v. view v ≡ (if marked then tree.markup (string_bytes text) else tree.text (string_bytes text))) }
+{
+    if marked {
+        Value::from_markup(text)
+    } else {
+        Value::from_text(text)
+    }
+}
+
+/// Closes the buffer that was opened last, and puts its text on top, as markup if it is to be.
+pub(crate) fn close_capture(state: &mut State, marked: bool) -> Result<Option<Outcome>, NoMemory>
+    requires not_wrong { close_next marked (config_view state.old) ≢ Wrong }
+    requires room { state.old.point + 1 < 2 ^ 64 }
+    ensures { IfOk result (λ r. close_next marked (config_view state.old) ≡ next_view r state.new) }
+{
+    pop_capture(&mut state.entries);
+    let around = pop_outer(&mut state.outer);
+    if let Some(outcome) = pay(state, 1) {
+        return Ok(Some(outcome));
+    }
+    let text = mem::replace(&mut state.buffer, around);
+    push(state, captured(text, marked)?)
+}

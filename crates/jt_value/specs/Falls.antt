@@ -1,0 +1,40 @@
+-- What lies inside a list or a map is smaller than it. These are lemmas, which the models of lists and maps cite.
+use Rattle.std.specs.Prelude.{◌+◌, ◌*◌, ◌≤◌, max, List, [], ◌∷◌, String}
+use Rattle.std.proofs.Common.{arith}
+use Rattle.std.specs.declared.alloc.Global.{Global}
+use denote.Param.Weighed.{most}
+use Rattle.jt_value.specs.Tree.{size, items_size, entries_size}
+use Rattle.jt_value.specs.View.{view, items_view, entries_view}
+use Rattle.jt_value.specs.declared.value.Value.{Value}
+use Rattle.jt_value.specs.declared.value.Value.TheVariants as value
+use Rattle.jt_value.specs.declared.payload.ValueList.TheDeep.{deep-Value, size-Value}
+
+pub deep_le : (v : Value) → deep-Value v ≤ size (view v)
+deep_le value.Undefined = omega arith
+deep_le value.None = omega arith
+deep_le (value.Bool b) = omega arith
+deep_le (value.Int z) = omega arith
+deep_le (value.Text s) = omega arith
+deep_le (value.Markup s) = omega arith
+deep_le (value.List l) = omega arith
+deep_le (value.Map m) = omega arith
+
+pub most-items : (vs : List Value) → most deep-Value vs ≤ items_size (items_view vs)
+most-items [] = omega arith
+most-items (v ∷ vs) = omega (arith, deep_le v, most-items vs)
+
+pub most-entries : (es : List (String Global × Value)) → max (most (λ e. max 0 (max (deep-Value e.1) 0)) es) 0 ≤ entries_size (entries_view es)
+most-entries [] = omega arith
+most-entries (e ∷ es) = omega (arith, deep_le e.1, most-entries es)
+
+-- the same by the sizes by which recursions fall
+pub size_le : (v : Value) → size-Value v ≤ 2 * size (view v) + 1
+size_le v = omega (arith, deep_le v)
+
+pub sizes-items : (vs : List Value) → most size-Value vs ≤ 2 * items_size (items_view vs) + 1
+sizes-items [] = omega arith
+sizes-items (v ∷ vs) = omega (arith, size_le v, sizes-items vs)
+
+pub sizes-entries : (es : List (String Global × Value)) → max (most (λ e. max 0 (max (size-Value e.1) 0)) es) 0 ≤ 2 * entries_size (entries_view es) + 1
+sizes-entries [] = omega arith
+sizes-entries (e ∷ es) = omega (arith, size_le e.1, sizes-entries es)

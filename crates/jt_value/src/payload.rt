@@ -1,0 +1,197 @@
+//! What lists and maps are made of: their items and entries, with the size and the nesting that these give them.
+ghost use Rattle.std.specs.Prelude.{◌≡◌, ◌+◌, ◌-◌, ◌^◌, min, OnOk, OnErr};
+ghost use Rattle.jt_value.specs.Tree.{items_size, items_nesting, entries_size, entries_nesting};
+ghost use Rattle.jt_value.specs.Payload.{more_items, joined_items};
+ghost use Rattle.jt_value.specs.View.{view, items_view, entries_view};
+
+use crate::value::Value;
+use std::alloc::AllocError;
+use std::marker::Model;
+
+/// The items of a list, and what the list's size and nesting are by them.
+#[cycle(value)]
+#[derive(Drop)]
+pub struct ValueList {
+    items: Vec<Value>,
+    size: u64,
+    nesting: u32,
+}
+
+/// The entries of a map, and what the map's size and nesting are by them.
+#[cycle(value)]
+#[derive(Drop)]
+pub struct ValueMap {
+    entries: Vec<(String, Value)>,
+    size: u64,
+    nesting: u32,
+}
+
+impl Model for ValueList {
+    ghost use Rattle.std.proofs.Common.{arith};
+    ghost use Rattle.jt_value.specs.Tree.{Items, items_size};
+    ghost use Rattle.jt_value.specs.TreeCode.{coded_items};
+
+    ghost Value = { Items };
+
+    ghost coded = { coded_items };
+
+    ghost use Rattle.jt_value.specs.Measured.{list_view, IsMeasuredList};
+
+    ghost view = { list_view };
+
+    ghost invariant = { IsMeasuredList };
+
+    ghost size = { items_size };
+
+    ghost use Rattle.jt_value.specs.Falls.{most-items};
+
+    ghost size_decreases = { λ a h. omega (arith, most-items a.items.items) };
+}
+
+impl Model for ValueMap {
+    ghost use Rattle.jt_value.specs.Tree.{Entries, entries_size};
+    ghost use Rattle.jt_value.specs.TreeCode.{coded_entries};
+
+    ghost Value = { Entries };
+
+    ghost coded = { coded_entries };
+
+    ghost use Rattle.jt_value.specs.Measured.{map_view, IsMeasuredMap};
+
+    ghost view = { map_view };
+
+    ghost invariant = { IsMeasuredMap };
+
+    ghost size = { entries_size };
+
+    ghost use Rattle.jt_value.specs.Falls.{most-entries};
+
+    ghost size_decreases = { λ a h. most-entries a.entries.items };
+}
+
+impl ValueList {
+    /// A list of items.
+    pub(crate) fn new(items: Vec<Value>) -> ValueList
+        ensures { result ≡ items_view items.items }
+    {
+        let mut size = 1u64;
+        let mut nesting = 0u32;
+        for item in &items {
+            size = size.saturating_add(item.size());
+            nesting = nesting.max(item.nesting());
+        }
+        ValueList {
+            items,
+            size,
+            nesting: nesting.saturating_add(1),
+        }
+    }
+
+    /// Puts an item behind the others. Where memory is refused nothing changes.
+    pub fn push(&mut self, item: Value) -> Result<(), AllocError>
+        ensures ok { OnOk result (self.new ≡ more_items self.old (view item)) }
+        ensures err { OnErr result (self.new ≡ self.old) }
+    {
+        let size = self.size.saturating_add(item.size());
+        let nesting = self.nesting.max(item.nesting().saturating_add(1));
+        self.items.push(item)?;
+        self.size = size;
+        self.nesting = nesting;
+        Ok(())
+    }
+
+    /// Puts copies of items behind the others. A refusal leaves some of them there.
+    pub fn append(&mut self, more: &[Value]) -> Result<(), AllocError>
+        ensures { OnOk result (self.new ≡ joined_items self.old (items_view more.now)) }
+    {
+        self.items.reserve(more.len())?;
+        for item in more {
+            self.push(item.clone()?)?;
+        }
+        Ok(())
+    }
+
+    /// The items.
+    pub fn items(&self) -> &[Value]
+        ensures { items_view result.now ≡ self.now }
+    {
+        self.items.as_slice()
+    }
+
+    /// The items, taken out of the list.
+    pub fn into_items(self) -> Vec<Value>
+        ensures { items_view result.items ≡ self }
+    {
+        let ValueList { items, .. } = self;
+        items
+    }
+
+    /// The list's size, or the greatest number where it is greater.
+    pub fn size(&self) -> u64
+        ensures { result ≡ min (1 + items_size self.now) (2 ^ 64 - 1) }
+    {
+        self.size
+    }
+
+    /// The list's nesting, or the greatest number where it is greater.
+    pub fn nesting(&self) -> u32
+        ensures { result ≡ min (1 + items_nesting self.now) (2 ^ 32 - 1) }
+    {
+        self.nesting
+    }
+}
+
+impl Clone for ValueList {
+    ghost is_clone = { λ list copy. copy ≡ list };
+
+    fn clone(&self) -> Result<ValueList, AllocError> {
+        Ok(ValueList {
+            items: self.items.clone()?,
+            size: self.size,
+            nesting: self.nesting,
+        })
+    }
+}
+
+impl ValueMap {
+    /// A map of entries.
+    pub(crate) fn new(entries: Vec<(String, Value)>) -> ValueMap
+        ensures { result ≡ entries_view entries.items }
+    {
+        let mut size = 1u64;
+        let mut nesting = 0u32;
+        for (key, value) in &entries {
+            size = size
+                .saturating_add(1)
+                .saturating_add(key.len() as u64)
+                .saturating_add(value.size());
+            nesting = nesting.max(value.nesting());
+        }
+        ValueMap {
+            entries,
+            size,
+            nesting: nesting.saturating_add(1),
+        }
+    }
+
+    /// The entries.
+    pub fn entries(&self) -> &[(String, Value)]
+        ensures { entries_view result.now ≡ self.now }
+    {
+        self.entries.as_slice()
+    }
+
+    /// The map's size, or the greatest number where it is greater.
+    pub fn size(&self) -> u64
+        ensures { result ≡ min (1 + entries_size self.now) (2 ^ 64 - 1) }
+    {
+        self.size
+    }
+
+    /// The map's nesting, or the greatest number where it is greater.
+    pub fn nesting(&self) -> u32
+        ensures { result ≡ min (1 + entries_nesting self.now) (2 ^ 32 - 1) }
+    {
+        self.nesting
+    }
+}
