@@ -1,4 +1,2 @@
-mod Adding
-mod Commands
-mod Found
 pub mod Taking
+mod Yielding

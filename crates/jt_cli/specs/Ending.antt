@@ -7,12 +7,16 @@ use Rattle.jt_cli.specs.declared.messages.Failure.{Failure}
 use Rattle.jt_cli.specs.declared.messages.Failure.TheVariants as failure
 use Rattle.jt_cli.specs.declared.files.FileError.{FileError}
 use Rattle.jt_cli.specs.declared.files.FileError.TheVariants as file_error
-use Rattle.jt_cli.specs.declared.jobs.JobError.{JobError}
-use Rattle.jt_cli.specs.declared.jobs.JobError.TheVariants as job_error
+use Rattle.jt_line.specs.declared.JobError.{JobError}
+use Rattle.jt_line.specs.declared.JobError.TheVariants as job_error
 use Rattle.jt_image.specs.declared.ImageError.{ImageError}
 use Rattle.jt_image.specs.declared.ImageError.TheVariants as image_error
 use Rattle.jt_codegen.specs.declared.error.CompileError.{CompileError}
 use Rattle.jt_codegen.specs.declared.error.CompileError.TheVariants as compile_error
+use Rattle.jt_host.specs.declared.ContextError.{ContextError}
+use Rattle.jt_host.specs.declared.ContextError.TheVariants as context_error
+use Rattle.jt_host.specs.declared.RenderError.{RenderError}
+use Rattle.jt_host.specs.declared.RenderError.TheVariants as render_error
 use Rattle.jt_verify.specs.declared.Refusal.{Refusal}
 use Rattle.jt_verify.specs.declared.Refusal.TheVariants as refusal
 use Rattle.jt_machine.specs.declared.Outcome.{Outcome}
@@ -36,6 +40,7 @@ status_of failure.Words = status.Usage
 status_of (failure.Image e) = status.Refused
 status_of (failure.Code r) = status.Refused
 status_of (failure.Template e) = status.Refused
+status_of (failure.Context e) = status.Refused
 status_of (failure.Spent s) = status.Spent
 status_of (failure.File path) = status.File
 status_of failure.Output = status.File
@@ -65,6 +70,16 @@ of_code r = failure.Code r
 abbrev pub of_compile : CompileError → Failure
 of_compile compile_error.NoMemory = failure.NoMemory
 of_compile e = failure.Template e
+
+-- what a refused reading of a context comes to: its flaw, or no memory
+abbrev pub of_context : ContextError → Failure
+of_context context_error.NoMemory = failure.NoMemory
+of_context e = failure.Context e
+
+-- what a refusal to render comes to: why the templates don't compile, or no memory
+abbrev pub of_render : RenderError → Failure
+of_render (render_error.Compile e) = of_compile e
+of_render render_error.NoMemory = failure.NoMemory
 
 -- what the end of a run comes to: its text, or a failure
 abbrev pub of_outcome : Outcome → Result (String Global) Failure

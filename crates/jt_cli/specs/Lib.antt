@@ -1,4 +1,3 @@
 pub mod Ending
-pub mod Line
 pub mod Program
 pub mod Templates

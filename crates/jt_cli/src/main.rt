@@ -1,9 +1,8 @@
 //! The program `jt`.
 #![tactic(auto)]
 
+mod commands;
 mod files;
-mod jobs;
-mod line;
 mod machine;
 mod messages;
 mod program;

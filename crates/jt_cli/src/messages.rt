@@ -1,13 +1,14 @@
 //! How a run of the program ends: its status, and the text that says why.
 
 ghost use Rattle.std.specs.Prelude.{◌≡◌};
-ghost use Rattle.jt_cli.specs.Ending.{code_of, status_of, of_line, of_file, of_image, of_code, of_compile, of_outcome};
+ghost use Rattle.jt_cli.specs.Ending.{code_of, status_of, of_line, of_file, of_image, of_code, of_compile, of_context, of_render, of_outcome};
 
 use crate::files::FileError;
-use crate::jobs::JobError;
 use jt_budget::Spent;
 use jt_codegen::CompileError;
+use jt_host::{ContextError, RenderError};
 use jt_image::ImageError;
+use jt_line::JobError;
 use jt_machine::Outcome;
 use jt_value::Fault;
 use jt_verify::Refusal;
@@ -64,6 +65,9 @@ pub enum Failure {
     /// A template does not compile.
     #[error("jt: refused {0}\n")]
     Template(CompileError),
+    /// A file gives no context.
+    #[error("jt: refused {0}\n")]
+    Context(ContextError),
     /// The budget was spent.
     #[error("jt: spent {0}\n")]
     Spent(Spent),
@@ -90,6 +94,7 @@ impl Failure {
             Failure::Image(_) => Status::Refused,
             Failure::Code(_) => Status::Refused,
             Failure::Template(_) => Status::Refused,
+            Failure::Context(_) => Status::Refused,
             Failure::Spent(_) => Status::Spent,
             Failure::File(_) => Status::File,
             Failure::Output => Status::File,
@@ -156,6 +161,26 @@ pub fn no_template(refusal: CompileError) -> Failure
     match refusal {
         CompileError::NoMemory => Failure::NoMemory,
         fault => Failure::Template(fault),
+    }
+}
+
+/// What a file that gives no context comes to.
+pub fn no_context(error: ContextError) -> Failure
+    ensures { result ≡ of_context error }
+{
+    match error {
+        ContextError::NoMemory => Failure::NoMemory,
+        flaw => Failure::Context(flaw),
+    }
+}
+
+/// What templates that are not rendered come to.
+pub fn unrendered(refusal: RenderError) -> Failure
+    ensures { result ≡ of_render refusal }
+{
+    match refusal {
+        RenderError::Compile(refusal) => no_template(refusal),
+        RenderError::NoMemory => Failure::NoMemory,
     }
 }
 

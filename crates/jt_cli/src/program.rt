@@ -5,22 +5,17 @@ ghost use Rattle.std.specs.String.{string_cmp};
 ghost use Rattle.std.specs.Io.KnownBytes.{Appends};
 ghost use Rattle.clap.specs.Walk.{texts};
 ghost use Rattle.jt_cli.specs.Ending.{IfUntaken, IsOfFiles, code_of, status_of};
-ghost use Rattle.jt_cli.specs.Line.{Takes, Asks};
-ghost use Rattle.jt_cli.specs.Program.{ComesTo, GivesImage};
-ghost use Rattle.jt_cli.specs.Templates.{source_of};
+ghost use Rattle.clap.specs.Words.{subcommand_of};
+ghost use Rattle.jt_value.specs.ContextView.{pairs_of};
+ghost use Rattle.jt_line.specs.Line.{Takes, Asks, IsAsked, program_app};
+ghost use Rattle.jt_cli.specs.Program.{IsContextOfFile, IsYield, Yields};
 
+use crate::commands::{context_of, counts_of, image_of, render_text, run_image, scan_options};
 use crate::files::{FileError, Files};
-use crate::jobs::{Command, Job};
-use crate::line::job;
-use crate::messages::{Failure, Status, no_code, no_file, no_image, no_template, text_of};
+use crate::messages::{Failure, Status, no_file};
 use crate::templates::Templates;
-use jt_budget::Budget;
-use jt_codegen::compile;
-use jt_image::{decode, encode};
-use jt_machine::run;
-use jt_scan::Options;
+use jt_line::{Command, Job, job};
 use jt_value::Context;
-use jt_verify::verify;
 use std::alloc::Global;
 use std::io::Write;
 
@@ -41,8 +36,10 @@ pub fn perform<F: Files, W: Write, E: Write>(
     // it is 2 where the program does not take the line, unless memory ran out, and only there
     ensures usage { ¬ Takes (texts words.now) → (result ≡ 2) ⊎ (result ≡ 6) }
     ensures taken { Takes (texts words.now) → result ≢ 2 }
-    // where it is 0 a text was added to standard output, and nothing to standard error
-    ensures printed { result ≡ 0 → (text : List ℕ) × Appends (W.contents out.old) (W.contents out.new) text }
+    // where it is 0 a text that the line asks for was added to standard output, and nothing to
+    // standard error
+    ensures printed { result ≡ 0 → (text : List ℕ) × Appends (W.contents out.old) (W.contents out.new) text
+        × IsYield (subcommand_of program_app (texts words.now)) text }
     ensures silent { result ≡ 0 → errors.new ≡ errors.old }
     // the text is empty where the line asks for a template to be compiled
     ensures quiet { result ≡ 0 → Asks (codes "compile") (texts words.now) →
@@ -74,7 +71,8 @@ fn print<F: Files, W: Write>(
     ensures usage { ¬ Takes (texts words.now) → IfUntaken result }
     ensures taken { Takes (texts words.now) → IfErr result (λ e. status_of e ≢ Status.Usage) }
     ensures quiet { OnOk result (Asks (codes "compile") (texts words.now) → Appends (W.contents out.old) (W.contents out.new) []) }
-    ensures printed { OnOk result ((text : List ℕ) × Appends (W.contents out.old) (W.contents out.new) text) }
+    ensures printed { OnOk result ((text : List ℕ) × Appends (W.contents out.old) (W.contents out.new) text
+        × IsYield (subcommand_of program_app (texts words.now)) text) }
     ensures untouched { IfErr result (λ e. e ≢ Failure.Output → out.new ≡ out.old) }
 {
     let text = done(alloc, words, files)?;
@@ -88,24 +86,64 @@ fn print<F: Files, W: Write>(
 fn done<F: Files>(alloc: Global, words: &[&str], files: &mut F) -> Result<String, Failure>
     ensures usage { ¬ Takes (texts words.now) → IfUntaken result }
     ensures quiet { IfOk result (λ text. Asks (codes "compile") (texts words.now) → string_bytes text ≡ []) }
+    ensures asked { IfOk result (λ text. IsYield (subcommand_of program_app (texts words.now)) (string_bytes text)) }
     ensures taken { Takes (texts words.now) → IfErr result (λ e. (status_of e ≢ Status.Usage) × (e ≢ Failure.Output)) }
+{
+    let job = job(alloc, words)?;
+    carried_out(alloc, job, files)
+}
+
+/// Does what a job asks for, but for printing. The text is what it prints.
+fn carried_out<F: Files>(alloc: Global, job: Job, files: &mut F) -> Result<String, Failure>
+    ensures yields { IfOk result (λ text. Yields job (string_bytes text)) }
+    ensures other { IfErr result (λ e. (status_of e ≢ Status.Usage) × (e ≢ Failure.Output)) }
 {
     let Job {
         command,
         options,
         budget,
-    } = job(alloc, words)?;
+    } = job;
     match command {
-        Command::Run { image } => {
-            let bytes = bytes_at(files, image)?;
-            run_image(alloc, &bytes, budget)
-        }
         Command::Compile { dir, name, out } => {
             let templates = templates_in(alloc, files, dir)?;
-            let bytes = image_of(alloc, name.as_str(), &templates, options)?;
+            let bytes = image_of(alloc, name.as_str(), &templates, scan_options(options))?;
             put_at(files, out, &bytes)?;
             Ok(String::new(alloc))
         }
+        Command::Check { image } => {
+            let bytes = bytes_at(files, image)?;
+            let (units, instructions) = counts_of(alloc, &bytes)?;
+            Ok(format!(in alloc; "ok units={units} instructions={instructions}\n")?)
+        }
+        Command::Run { image, context } => {
+            let bytes = bytes_at(files, image)?;
+            let context = context_at(alloc, files, context)?;
+            run_image(alloc, &bytes, &context, budget)
+        }
+        Command::Render { dir, name, context } => {
+            let templates = templates_in(alloc, files, dir)?;
+            let context = context_at(alloc, files, context)?;
+            let options = scan_options(options);
+            render_text(alloc, name.as_str(), &templates, options, &context, budget)
+        }
+    }
+}
+
+/// The context in a file, or the empty one where there is no file.
+fn context_at<F: Files>(
+    alloc: Global,
+    files: &mut F,
+    path: Option<String>,
+) -> Result<Context, Failure>
+    ensures given { IfOk result (λ context. IsContextOfFile path (pairs_of context)) }
+    ensures other { IfErr result (λ e. (status_of e ≢ Status.Usage) × (e ≢ Failure.Output)) }
+{
+    match path {
+        Some(path) => {
+            let bytes = bytes_at(files, path)?;
+            context_of(alloc, &bytes)
+        }
+        None => Ok(Context::new(alloc)),
     }
 }
 
@@ -155,41 +193,4 @@ fn templates_in<F: Files>(alloc: Global, files: &mut F, dir: String) -> Result<T
         }
     }
     Ok(templates)
-}
-
-/// The bytes of the image of the template of a name.
-fn image_of(
-    alloc: Global,
-    name: &str,
-    templates: &Templates,
-    options: Options,
-) -> Result<Vec<u8>, Failure>
-    ensures { GivesImage (source_of templates.now) name.now options result }
-{
-    let image = match compile(alloc, name, templates, options) {
-        Ok(image) => image,
-        Err(refusal) => return Err(no_template(refusal)),
-    };
-    match encode(alloc, &image) {
-        Ok(bytes) => Ok(bytes),
-        Err(_) => Err(Failure::NoMemory),
-    }
-}
-
-/// The text of the image that `bytes` spell, run in the empty context.
-fn run_image(alloc: Global, bytes: &[u8], budget: Budget) -> Result<String, Failure>
-    ensures { ComesTo bytes.now budget result }
-{
-    let image = match decode(alloc, bytes) {
-        Ok(image) => image,
-        Err(error) => return Err(no_image(error)),
-    };
-    let verified = match verify(alloc, image) {
-        Ok(verified) => verified,
-        Err((_, refusal)) => return Err(no_code(refusal)),
-    };
-    match run(alloc, &verified, &Context::new(alloc), budget) {
-        Ok(outcome) => text_of(outcome),
-        Err(_) => Err(Failure::NoMemory),
-    }
 }

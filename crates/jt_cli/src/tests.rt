@@ -1,9 +1,7 @@
 use crate::files::{FileError, Files};
-use crate::jobs::{Command, DEFAULT, Job};
-use crate::line::job;
 use crate::program::perform;
 use jt_budget::Budget;
-use jt_scan::Options;
+use jt_line::{Command, DEFAULT, Job, Options, USUAL, job};
 use std::alloc::Global;
 use std::io;
 use std::process::Abort;
@@ -318,6 +316,135 @@ fn says_why_nothing_is_compiled(rt: HostRuntime) {
 }
 
 #[test]
+fn checks_an_image(rt: HostRuntime) {
+    let words = ["check", "image"];
+    let mut jump = X;
+    jump[28] = 0x0a;
+    jump[32] = 2;
+    let counted = "ok units=1 instructions=2\n";
+    shows(&rt, X.as_slice(), words.as_slice(), 0, counted, "");
+    let flaw = "jt: refused K5 JumpOut unit 0 point 0\n";
+    shows(&rt, jump.as_slice(), words.as_slice(), 3, "", flaw);
+    let short = "jt: refused I3 Truncated\n";
+    shows(&rt, &X[..43], words.as_slice(), 3, "", short);
+    shows(
+        &rt,
+        &X[..0],
+        &["check", "nowhere"],
+        5,
+        "",
+        "jt: file nowhere\n",
+    );
+}
+
+/// Checks a row `SOURCE ;; CONTEXT ;; OPTIONS => STATUS TEXT`: what `render` comes to, its text or its line.
+fn renders(rt: &(impl Abort + AllocGlobal), row: &str) -> Result<(), Fail> {
+    let alloc = rt.alloc();
+    let (asked, wanted) = row.split_once(" => ").unwrap_or((row, ""));
+    let (source, rest) = asked.split_once(" ;; ").unwrap_or((asked, ""));
+    let (context, options) = rest.split_once(" ;;").unwrap_or((rest, ""));
+    let (status, text) = wanted.split_once(" ").unwrap_or((wanted, ""));
+    let status = status.parse::<u8>().unwrap_or(9);
+    let mut files = Vec::new(alloc);
+    files.push(("t", source.as_bytes()))?;
+    files.push(("c", context.as_bytes()))?;
+    let mut site = Site {
+        alloc,
+        files: files.as_slice(),
+        out: Vec::new(alloc),
+    };
+    let mut words = Vec::new(alloc);
+    for word in ["render", "site", "t", "site/c"] {
+        words.push(word)?;
+    }
+    for word in options.split(' ') {
+        if !word.is_empty() {
+            words.push(word)?;
+        }
+    }
+    if status == 0 {
+        shows_on(rt, &mut site, &words, 0, text, "");
+    } else {
+        let line = format!(in alloc; "jt: {text}\n")?;
+        shows_on(rt, &mut site, &words, status, "", line.as_str());
+    }
+    Ok(())
+}
+
+#[test]
+fn renders_for_contexts(rt: HostRuntime) -> Result<(), Fail> {
+    let rows = r##"Hello {{ name }}! ;; {"name":"World"} ;; => 0 Hello World!
+{{ n }} ;; {"n":1.5} ;; => 3 refused X3 NotWhole
+{{ n }} ;; {"n":-0} ;; => 3 refused X3 NotWhole
+{{ n }} ;; {"n":[{"m":1e2}]} ;; => 3 refused X3 NotWhole
+{{ n }} ;; {"n":18446744073709551616} ;; => 3 refused X3 NotWhole
+{{ n }} ;; {"n":9223372036854775808} ;; => 3 refused X4 OutOfRange
+{{ n }} ;; {"n":1e400} ;; => 3 refused X1 NotJson
+{{ n }} ;; {"n":9223372036854775807} ;; => 0 9223372036854775807
+{{ n }} ;; {"n":-9223372036854775808} ;; => 0 -9223372036854775808
+a ;; [1] ;; => 3 refused X2 NotObject
+a ;; { ;; => 3 refused X1 NotJson
+{{ x ;; { ;; => 3 refused X1 NotJson
+{{ x ;; {} ;; => 3 refused S1 UnclosedTag in t line 1
+{{ a }} ;; {"a":1,"a":2} ;; => 0 2
+{{ a.b }}{{ a.c }} ;; {"a":{"c":null,"b":"x"}} ;; => 0 xNone
+{{ a[0] }}{{ a[1] }} ;; {"a":["x",true]} ;; => 0 xTrue
+{{ x }} ;; {"x":"<&'\">"} ;; => 0 &lt;&amp;&#39;&#34;&gt;
+{{ x }} ;; {"x":"<"} ;; --no-autoescape => 0 <
+{{ "=" * 8 }} ;; {} ;; --output 8 => 0 ========
+{{ "=" * 8 }} ;; {} ;; --output 7 => 4 spent Output
+a ;; {} ;; --fuel 0 => 4 spent Fuel
+{{ x }} ;; {"x":"long"} ;; --size 4 => 4 spent Size
+{{ x }} ;; {"x":[[1]]} ;; --nesting 1 => 4 spent Nesting
+{{ nope.x }} ;; {} ;; => 1 fault F2 Undefined
+{{ 9223372036854775807 + 1 }} ;; {} ;; => 1 fault F3 Overflow
+{{ 9223372036854775808 }} ;; {} ;; => 3 refused S5 NumberTooLarge in t line 1
+{{ loop }} ;; {} ;; => 3 refused V1 LoopOutside"##;
+    for row in rows.lines() {
+        renders(&rt, row)?;
+    }
+    Ok(())
+}
+
+#[test]
+fn runs_for_contexts(rt: HostRuntime) {
+    let alloc = rt.alloc();
+    let files: [(&str, &[u8]); 3] = [
+        ("t", b"Hello {{ name }}!"),
+        ("c", b"{\"name\":\"World\"}"),
+        ("bytes", b"{\"name\":\"\xff\"}"),
+    ];
+    let mut site = Site {
+        alloc,
+        files: files.as_slice(),
+        out: Vec::new(alloc),
+    };
+    shows_on(&rt, &mut site, &["compile", "site", "t", "out"], 0, "", "");
+    shows_on(
+        &rt,
+        &mut site,
+        &["run", "out", "site/c"],
+        0,
+        "Hello World!",
+        "",
+    );
+    shows_on(&rt, &mut site, &["run", "out"], 0, "Hello !", "");
+    let rows: [(&[&str], u8, &str); 4] = [
+        (&["run", "out", "site/bytes"], 3, "jt: refused X1 NotJson\n"),
+        (&["run", "out", "site/unread"], 5, "jt: file site/unread\n"),
+        (
+            &["run", "site/t", "site/bytes"],
+            3,
+            "jt: refused X1 NotJson\n",
+        ),
+        (&["render", "site", "t", "nowhere"], 5, "jt: file nowhere\n"),
+    ];
+    for (words, status, line) in rows {
+        shows_on(&rt, &mut site, words, status, "", line);
+    }
+}
+
+#[test]
 fn says_what_is_wrong_with_the_line(rt: HostRuntime) {
     let rows: [(&[&str], &str); 12] = [
         (
@@ -330,8 +457,8 @@ fn says_what_is_wrong_with_the_line(rt: HostRuntime) {
             "error: the following required arguments were not provided:",
         ),
         (
-            &["run", "image", "more"],
-            "error: unexpected argument 'more' found",
+            &["run", "image", "more", "most"],
+            "error: unexpected argument 'most' found",
         ),
         (
             &["run", "image", "--fuel"],
@@ -429,8 +556,11 @@ fn reads_a_line(rt: HostRuntime) -> Result<(), Fail> {
         assert!(rt;
             job(alloc, words)?
                 == Job {
-                    command: Command::Run { image },
-                    options: Options::new(),
+                    command: Command::Run {
+                        image,
+                        context: None,
+                    },
+                    options: USUAL,
                     budget
                 },
             "{words:?}"
@@ -472,6 +602,7 @@ fn reads_a_line_of_compile(rt: HostRuntime) -> Result<(), Fail> {
         let options = Options {
             keep_trailing_newline,
             autoescape,
+            ..USUAL
         };
         assert!(rt;
             job(alloc, words)?

@@ -8,7 +8,7 @@ use lib.Utf8.{encode}
 use Rattle.std.specs.Str.{chars, encode_utf8_all, str_to_ascii_lowercase, IsUtf8}
 use Rattle.jt_filters.specs.Texts.{capitalized, trimmed_front, is_whitespace, backwards}
 
-length-map : (f : ℕ → ℕ) (s : List ℕ) → length (map f s) ≡ length s
+pub length-map : (f : ℕ → ℕ) (s : List ℕ) → length (map f s) ≡ length s
 length-map f [] = refl
 length-map f (b ∷ s) = omega (arith, length-map f s)
 

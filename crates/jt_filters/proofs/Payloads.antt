@@ -104,7 +104,7 @@ character_at [] i = refl
 character_at (c ∷ cs) zero = refl
 character_at (c ∷ cs) (suc i) = character_at cs i
 
-characters_count : (cs : List ℕ) → items_count (character_items cs) ≡ length cs
+pub characters_count : (cs : List ℕ) → items_count (character_items cs) ≡ length cs
 characters_count [] = refl
 characters_count (c ∷ cs) = omega (arith, characters_count cs)
 
@@ -127,3 +127,7 @@ item_of_places tree.nothing i e = cc
 item_of_places (tree.truth_value b) i e = cc
 item_of_places (tree.number z) i e = cc
 item_of_places (tree.map es) i e = cc
+
+pub keys_count : (es : List Pair) → items_count (key_items (entries_view es)) ≡ length es
+keys_count [] = refl
+keys_count (e ∷ es) = omega (arith, keys_count es)

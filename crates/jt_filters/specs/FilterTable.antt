@@ -1,36 +1,37 @@
 -- The filters: the id by which an image names each, the least and the most values that it takes with its input, its names, and
--- the names of its arguments, the first at place 1, where these may be given by name.
-use Rattle.std.specs.Prelude.{ℕ, List, [], ◌∷◌, ◌+◌, Option, option_map, position, codes}
+-- its arguments that may be given by name, the first at place 1, each with its value where it isn't given, if it has one.
+use Rattle.std.specs.Prelude.{ℕ, List, [], ◌∷◌, ◌+◌, pos, false, map, Option, Some, None, option_map, position, codes}
+use Rattle.jt_value.specs.Tree.{Tree, text, number, truth_value}
 use Rattle.std.specs.Str.{bytes_eq}
 use Rattle.jt_filters.specs.declared.filter_id.FilterId.{FilterId}
 use Rattle.jt_filters.specs.declared.filter_id.FilterId.TheVariants as filter
 
-abbrev pub filter_row : FilterId → ℕ × ℕ × ℕ × List (List ℕ) × List (List ℕ)
-filter_row filter.Abs = (0, 1, 1, codes "abs" ∷ [], [])
-filter_row filter.Capitalize = (2, 1, 1, codes "capitalize" ∷ [], [])
-filter_row filter.Default = (3, 1, 3, codes "default" ∷ codes "d" ∷ [], codes "default_value" ∷ codes "boolean" ∷ [])
-filter_row filter.DictSort = (4, 1, 1, codes "dictsort" ∷ [], [])
-filter_row filter.Escape = (5, 1, 1, codes "escape" ∷ codes "e" ∷ [], [])
-filter_row filter.First = (6, 1, 1, codes "first" ∷ [], [])
-filter_row filter.ForceEscape = (7, 1, 1, codes "forceescape" ∷ [], [])
-filter_row filter.Int = (8, 1, 2, codes "int" ∷ [], codes "default" ∷ [])
-filter_row filter.Items = (9, 1, 1, codes "items" ∷ [], [])
-filter_row filter.Join = (10, 1, 2, codes "join" ∷ [], codes "d" ∷ [])
-filter_row filter.Last = (11, 1, 1, codes "last" ∷ [], [])
-filter_row filter.Length = (12, 1, 1, codes "length" ∷ codes "count" ∷ [], [])
-filter_row filter.List = (13, 1, 1, codes "list" ∷ [], [])
-filter_row filter.Lower = (14, 1, 1, codes "lower" ∷ [], [])
-filter_row filter.Max = (16, 1, 1, codes "max" ∷ [], [])
-filter_row filter.Min = (17, 1, 1, codes "min" ∷ [], [])
-filter_row filter.Replace = (20, 3, 3, codes "replace" ∷ [], codes "old" ∷ codes "new" ∷ [])
-filter_row filter.Reverse = (21, 1, 1, codes "reverse" ∷ [], [])
-filter_row filter.Safe = (22, 1, 1, codes "safe" ∷ [], [])
-filter_row filter.Sort = (25, 1, 2, codes "sort" ∷ [], codes "reverse" ∷ [])
-filter_row filter.String = (26, 1, 1, codes "string" ∷ [], [])
-filter_row filter.Sum = (27, 1, 1, codes "sum" ∷ [], [])
-filter_row filter.Trim = (28, 1, 1, codes "trim" ∷ [], [])
-filter_row filter.Unique = (29, 1, 1, codes "unique" ∷ [], [])
-filter_row filter.Upper = (30, 1, 1, codes "upper" ∷ [], [])
+abbrev pub filter_row : FilterId → ℕ × ℕ × ℕ × List (List ℕ)
+filter_row filter.Abs = (0, 1, 1, codes "abs" ∷ [])
+filter_row filter.Capitalize = (2, 1, 1, codes "capitalize" ∷ [])
+filter_row filter.Default = (3, 1, 3, codes "default" ∷ codes "d" ∷ [])
+filter_row filter.DictSort = (4, 1, 1, codes "dictsort" ∷ [])
+filter_row filter.Escape = (5, 1, 1, codes "escape" ∷ codes "e" ∷ [])
+filter_row filter.First = (6, 1, 1, codes "first" ∷ [])
+filter_row filter.ForceEscape = (7, 1, 1, codes "forceescape" ∷ [])
+filter_row filter.Int = (8, 1, 2, codes "int" ∷ [])
+filter_row filter.Items = (9, 1, 1, codes "items" ∷ [])
+filter_row filter.Join = (10, 1, 2, codes "join" ∷ [])
+filter_row filter.Last = (11, 1, 1, codes "last" ∷ [])
+filter_row filter.Length = (12, 1, 1, codes "length" ∷ codes "count" ∷ [])
+filter_row filter.List = (13, 1, 1, codes "list" ∷ [])
+filter_row filter.Lower = (14, 1, 1, codes "lower" ∷ [])
+filter_row filter.Max = (16, 1, 1, codes "max" ∷ [])
+filter_row filter.Min = (17, 1, 1, codes "min" ∷ [])
+filter_row filter.Replace = (20, 3, 3, codes "replace" ∷ [])
+filter_row filter.Reverse = (21, 1, 1, codes "reverse" ∷ [])
+filter_row filter.Safe = (22, 1, 1, codes "safe" ∷ [])
+filter_row filter.Sort = (25, 1, 2, codes "sort" ∷ [])
+filter_row filter.String = (26, 1, 1, codes "string" ∷ [])
+filter_row filter.Sum = (27, 1, 1, codes "sum" ∷ [])
+filter_row filter.Trim = (28, 1, 1, codes "trim" ∷ [])
+filter_row filter.Unique = (29, 1, 1, codes "unique" ∷ [])
+filter_row filter.Upper = (30, 1, 1, codes "upper" ∷ [])
 
 abbrev pub filter_id : FilterId → ℕ
 filter_id f = (filter_row f).0
@@ -44,8 +45,17 @@ most_values f = (filter_row f).2
 abbrev pub filter_names : FilterId → List (List ℕ)
 filter_names f = (filter_row f).3
 
+-- the arguments that may be given by name, and what each is where it isn't given
+abbrev pub filter_parameters : FilterId → List (List ℕ × Option Tree)
+filter_parameters filter.Default = (codes "default_value", Some (text [])) ∷ (codes "boolean", Some (truth_value false)) ∷ []
+filter_parameters filter.Int = (codes "default", Some (number (pos 0))) ∷ []
+filter_parameters filter.Join = (codes "d", Some (text [])) ∷ []
+filter_parameters filter.Replace = (codes "old", None) ∷ (codes "new", None) ∷ []
+filter_parameters filter.Sort = (codes "reverse", Some (truth_value false)) ∷ []
+filter_parameters f = []
+
 abbrev pub argument_names : FilterId → List (List ℕ)
-argument_names f = (filter_row f).4
+argument_names f = map (λ p. p.0) (filter_parameters f)
 
 -- the place among the values of an argument that is given by its name
 abbrev pub place_of : FilterId → List ℕ → Option ℕ

@@ -1,12 +1,11 @@
-pub mod Answering
 pub mod FilterIds
 pub mod FilterTable
 pub mod Filtering
-pub mod ItemsSeen
 pub mod Kinds
 pub mod Listing
 pub mod Mapping
 pub mod Numbers
+pub mod Operands
 pub mod Ordering
 pub mod Ranks
 pub mod Texts

@@ -1,16 +1,21 @@
 //! Filters, operators and tests on values, under limits of size and nesting.
 #![tactic(auto)]
 
-mod choosing;
+mod building;
 mod filter_id;
 mod filters;
-mod items;
-mod limits;
+mod folding;
+mod item_list;
+mod joining;
+mod kinds;
 mod listing;
-mod numbers;
+mod measuring;
+mod operand;
 mod replacing;
+mod scalars;
 mod sorting;
 mod texts;
+mod unique;
 
 pub use filter_id::FilterId;
 pub use filters::apply;

@@ -1,64 +1,67 @@
 //! Filter `replace`.
-ghost use Rattle.std.specs.Prelude.{◌≡◌, ◌<◌, ◌-◌, ◌^◌, min, length, IfOk, IfErr, OnOk, Ok, Err, string_bytes};
+ghost use Rattle.std.specs.Prelude.{◌≡◌, ◌<◌, ◌-◌, ◌^◌, min, length, IfOk, IfErr, Ok, Err, string_bytes};
 ghost use Rattle.jt_value.specs.Tree as tree;
 ghost use Rattle.jt_value.specs.View.{view};
-ghost use Rattle.jt_filters.specs.Answering.{Answers};
-ghost use Rattle.jt_ops.specs.Limited.{limited_by};
+ghost use Rattle.jt_escape.specs.Joining.{IsAnswer};
+ghost use Rattle.jt_filters.specs.Operands.{tree_of, measured};
 ghost use Rattle.jt_filters.specs.Texts.{replaced, replaced_behind};
 
-use jt_ops::{Limits, OpError, allow, misfit_of_one};
-use jt_value::{Fault, NoMemory, Value};
+use crate::operand::Operand;
+use jt_value::{Fault, NoMemory, Value, ValueError};
 use std::alloc::Global;
+
+/// The texts of a replacement: the one to change, the old one and the new one.
+type Replacement<'a> = (&'a str, &'a str, &'a str);
+
+/// The measure of filter `replace`.
+pub(crate) fn replace_measure(
+    operand: Operand<'_>,
+    old: &Value,
+    new: &Value,
+) -> Result<(u64, u32), Fault>
+    ensures { result ≡ measured (replaced (tree_of operand.entry) (view old.now) (view new.now)) }
+{
+    let (text, old, new) = replacement(operand, old, new)?;
+    Ok((replaced_len(text, old, new).saturating_add(1), 0))
+}
 
 /// Filter `replace`.
 pub(crate) fn replace(
     alloc: Global,
-    value: &Value,
+    operand: Operand<'_>,
     old: &Value,
     new: &Value,
-    limits: Limits,
-) -> Result<Value, OpError>
-    ensures { Answers result
-        (limited_by limits (replaced (view value.now) (view old.now) (view new.now))) }
+) -> Result<Value, ValueError>
+    ensures { IsAnswer (replaced (tree_of operand.entry) (view old.now) (view new.now)) result }
 {
-    match (value, old, new) {
-        (Value::Text(text), Value::Text(old), Value::Text(new)) => {
+    let (text, old, new) = replacement(operand, old, new)?;
+    Ok(Value::from_text(replaced_text(alloc, text, old, new)?)?)
+}
+
+/// The texts of a replacement, if all are plain and the old one isn't empty.
+#[tactic(auto, using(crate::proofs::Plains::plain_is, crate::proofs::Plains::others_not_replaced))]
+fn replacement<'a>(
+    operand: Operand<'a>,
+    old: &'a Value,
+    new: &'a Value,
+) -> Result<Replacement<'a>, Fault>
+    ensures old { IfOk result (λ p. 0 < length p.1.now) }
+    ensures ok { IfOk result (λ p. replaced (tree_of operand.entry) (view old.now) (view new.now)
+        ≡ Ok (tree.text (replaced_behind 0 p.1.now p.2.now p.0.now))) }
+    ensures fault { IfErr result (λ f. replaced (tree_of operand.entry) (view old.now) (view new.now) ≡ Err f) }
+{
+    let Some(text) = operand.as_plain() else {
+        return Err(operand.misfit());
+    };
+    match (old, new) {
+        (Value::Text(old), Value::Text(new)) => {
             if old.is_empty() {
-                return Err(Fault::BadArgument.into());
+                return Err(Fault::BadArgument);
             }
-            replaced(alloc, text, old, new, limits)
+            Ok((text, old, new))
         }
-        (Value::Text(_), _, _) => Err(Fault::BadArgument.into()),
-        _ => Err(misfit_of_one(value).into()),
+        _ => Err(Fault::BadArgument),
     }
-}
-
-/// A text with every `old` replaced, from the left and without overlap.
-fn replaced(
-    alloc: Global,
-    text: &str,
-    old: &str,
-    new: &str,
-    limits: Limits,
-) -> Result<Value, OpError>
-    requires { 0 < length old.now }
-    ensures { let text = tree.text (replaced_behind 0 old.now new.now text.now) in
-        Answers result (limited_by limits (Ok text)) }
-{
-    allow_replaced(text, old, new, limits)?;
-    let replaced = replaced_text(alloc, text, old, new)?;
-    Ok(Value::from_text(replaced)?)
-}
-
-/// Tests the size of that text.
-fn allow_replaced(text: &str, old: &str, new: &str, limits: Limits) -> Result<(), OpError>
-    requires { 0 < length old.now }
-    ensures ok { let t = tree.text (replaced_behind 0 old.now new.now text.now) in
-        OnOk result (limited_by limits (Ok t) ≡ Ok t) }
-    ensures refused { let t = tree.text (replaced_behind 0 old.now new.now text.now) in
-        IfErr result (λ e. limited_by limits (Ok t) ≡ Err e) }
-{
-    allow(replaced_len(text, old, new).saturating_add(1), 0, limits)
 }
 
 /// How many bytes the text has then, or the greatest number where they are more.

@@ -1,101 +1,153 @@
-//! Filters on printed texts.
-ghost use Rattle.std.specs.Prelude.{◌≡◌, ℕ, List, reverse, IfOk, Ok, string_bytes, OnOk, IfErr, Err};
+//! Filters on printed texts: the size and the nesting of what each gives, and what it gives.
+ghost use Rattle.std.specs.Prelude.{◌≡◌, ℕ, List, reverse, IfOk, Ok, string_bytes};
 ghost use Rattle.jt_value.specs.Tree as tree;
 ghost use Rattle.std.specs.Str.{chars, str_to_ascii_lowercase, str_to_ascii_uppercase};
 ghost use Rattle.jt_value.specs.View.{view};
-ghost use Rattle.jt_filters.specs.Answering.{Answers};
-ghost use Rattle.jt_ops.specs.Limited.{limited_by};
-ghost use Rattle.jt_ops.specs.Pieces.{of_kind};
+ghost use Rattle.jt_escape.specs.Joining.{IsAnswer};
+ghost use Rattle.jt_ops.specs.Pieces.{of_kind, written};
+ghost use Rattle.jt_filters.specs.Operands.{tree_of, measured};
 ghost use Rattle.jt_filters.specs.Texts.{keeping_kind, unchanged, of_same_kind, escaped_once, escaped_again};
 ghost use Rattle.jt_filters.specs.Texts as texts;
 
-use crate::limits::alone;
+use crate::operand::Operand;
 use itoa::Buffer;
-use jt_ops::{Kind, Limits, OpError, Piece, allow};
-use jt_value::{NoMemory, Value};
+use jt_ops::{Kind, Piece};
+use jt_value::{Fault, NoMemory, Value, ValueError};
 use std::alloc::Global;
 
-/// The kind that a value's text keeps.
-fn kind_of(value: &Value) -> Kind
-    ensures { (s : List ℕ) → of_kind result s ≡ of_same_kind (view value.now) s }
+/// The measure of the printed text, with the case of its letters or its kind changed or not.
+#[tactic(auto, using(crate::proofs::Measured::unchanged_measured, crate::proofs::Measured::lower_measured, crate::proofs::Measured::upper_measured, crate::proofs::Measured::capitalized_measured, crate::proofs::Measured::safe_measured))]
+pub(crate) fn printed_measure(operand: Operand<'_>) -> Result<(u64, u32), Fault>
+    ensures same { result ≡ measured (keeping_kind unchanged (tree_of operand.entry)) }
+    ensures lower { result ≡ measured (keeping_kind str_to_ascii_lowercase (tree_of operand.entry)) }
+    ensures upper { result ≡ measured (keeping_kind str_to_ascii_uppercase (tree_of operand.entry)) }
+    ensures capitalized { result ≡ measured (keeping_kind texts.capitalized (tree_of operand.entry)) }
+    ensures safe { result ≡ measured (texts.safe (tree_of operand.entry)) }
 {
-    match value {
-        Value::Markup(_) => Kind::Markup,
-        _ => Kind::Plain,
+    let mut buffer = Buffer::new();
+    let text = operand.shown(&mut buffer)?;
+    Ok(((text.len() as u64).saturating_add(1), 0))
+}
+
+/// The measure of filter `trim`.
+#[tactic(auto, using(crate::proofs::Measured::trimmed_measured))]
+pub(crate) fn trim_measure(operand: Operand<'_>) -> Result<(u64, u32), Fault>
+    ensures { result ≡ measured (keeping_kind texts.trimmed (tree_of operand.entry)) }
+{
+    let mut buffer = Buffer::new();
+    let text = trimmed_back(trimmed_front(operand.shown(&mut buffer)?));
+    Ok(((text.len() as u64).saturating_add(1), 0))
+}
+
+/// The measure of filter `forceescape`.
+#[tactic(auto, using(crate::proofs::Measured::escaped_measured))]
+pub(crate) fn force_escape_measure(operand: Operand<'_>) -> Result<(u64, u32), Fault>
+    ensures { result ≡ measured (escaped_again (tree_of operand.entry)) }
+{
+    let mut buffer = Buffer::new();
+    let text = Piece::Escaped(operand.shown(&mut buffer)?);
+    Ok((text.len().saturating_add(1), 0))
+}
+
+/// The measure of filter `escape`.
+#[tactic(auto, using(crate::proofs::Measured::markup_stays, crate::proofs::Measured::others_escaped))]
+pub(crate) fn escape_measure(operand: Operand<'_>) -> Result<(u64, u32), Fault>
+    ensures { result ≡ measured (escaped_once (tree_of operand.entry)) }
+{
+    if operand.is_markup() {
+        printed_measure(operand)
+    } else {
+        force_escape_measure(operand)
     }
 }
 
+/// The kind that an operand's text keeps.
+#[tactic(auto, using(crate::proofs::Measured::markup_kept, crate::proofs::Measured::others_kept))]
+fn kind_of(operand: Operand<'_>) -> Kind
+    ensures { (s : List ℕ) → of_kind result s ≡ of_same_kind (tree_of operand.entry) s }
+{
+    if operand.is_markup() {
+        Kind::Markup
+    } else {
+        Kind::Plain
+    }
+}
+
+/// The text of one piece.
+fn piece_value(alloc: Global, piece: &Piece<'_>, kind: Kind) -> Result<Value, NoMemory>
+    ensures { IfOk result (λ v. view v ≡ of_kind kind (written piece.now)) }
+{
+    let mut text = String::with_capacity(alloc, piece.len() as usize)?;
+    piece.write(&mut text)?;
+    kind.value(text)
+}
+
 /// Filter `string`.
-pub(crate) fn string(alloc: Global, value: &Value, limits: Limits) -> Result<Value, OpError>
-    ensures { Answers result (limited_by limits (keeping_kind unchanged (view value.now))) }
+pub(crate) fn string(alloc: Global, operand: Operand<'_>) -> Result<Value, ValueError>
+    ensures { IsAnswer (keeping_kind unchanged (tree_of operand.entry)) result }
 {
     let mut buffer = Buffer::new();
-    let text = value.shown(&mut buffer)?;
-    alone(alloc, &Piece::Raw(text), kind_of(value), limits)
+    let text = operand.shown(&mut buffer)?;
+    Ok(piece_value(alloc, &Piece::Raw(text), kind_of(operand))?)
 }
 
 /// Filter `safe`.
-pub(crate) fn safe(alloc: Global, value: &Value, limits: Limits) -> Result<Value, OpError>
-    ensures { Answers result (limited_by limits (texts.safe (view value.now))) }
+pub(crate) fn safe(alloc: Global, operand: Operand<'_>) -> Result<Value, ValueError>
+    ensures { IsAnswer (texts.safe (tree_of operand.entry)) result }
 {
     let mut buffer = Buffer::new();
-    let text = value.shown(&mut buffer)?;
-    alone(alloc, &Piece::Raw(text), Kind::Markup, limits)
+    let text = operand.shown(&mut buffer)?;
+    Ok(piece_value(alloc, &Piece::Raw(text), Kind::Markup)?)
 }
 
 /// Filter `escape`.
-pub(crate) fn escape(alloc: Global, value: &Value, limits: Limits) -> Result<Value, OpError>
-    ensures { Answers result (limited_by limits (escaped_once (view value.now))) }
+#[tactic(auto, using(crate::proofs::Measured::markup_stays, crate::proofs::Measured::others_escaped))]
+pub(crate) fn escape(alloc: Global, operand: Operand<'_>) -> Result<Value, ValueError>
+    ensures { IsAnswer (escaped_once (tree_of operand.entry)) result }
 {
-    match value {
-        Value::Markup(_) => safe(alloc, value, limits),
-        _ => force_escape(alloc, value, limits),
+    if operand.is_markup() {
+        safe(alloc, operand)
+    } else {
+        force_escape(alloc, operand)
     }
 }
 
 /// Filter `forceescape`.
-pub(crate) fn force_escape(alloc: Global, value: &Value, limits: Limits) -> Result<Value, OpError>
-    ensures { Answers result (limited_by limits (escaped_again (view value.now))) }
+pub(crate) fn force_escape(alloc: Global, operand: Operand<'_>) -> Result<Value, ValueError>
+    ensures { IsAnswer (escaped_again (tree_of operand.entry)) result }
 {
     let mut buffer = Buffer::new();
-    let text = value.shown(&mut buffer)?;
-    alone(alloc, &Piece::Escaped(text), Kind::Markup, limits)
+    let text = operand.shown(&mut buffer)?;
+    Ok(piece_value(alloc, &Piece::Escaped(text), Kind::Markup)?)
 }
 
 /// Filter `lower`.
-pub(crate) fn lower(alloc: Global, value: &Value, limits: Limits) -> Result<Value, OpError>
-    ensures { Answers result (limited_by limits (keeping_kind str_to_ascii_lowercase (view value.now))) }
+pub(crate) fn lower(alloc: Global, operand: Operand<'_>) -> Result<Value, ValueError>
+    ensures { IsAnswer (keeping_kind str_to_ascii_lowercase (tree_of operand.entry)) result }
 {
     let mut buffer = Buffer::new();
-    let printed = value.shown(&mut buffer)?;
-    allow((printed.len() as u64).saturating_add(1), 0, limits)?;
-    let mut text = String::from_str(alloc, printed)?;
+    let mut text = String::from_str(alloc, operand.shown(&mut buffer)?)?;
     text.make_ascii_lowercase();
-    Ok(kind_of(value).value(text)?)
+    Ok(kind_of(operand).value(text)?)
 }
 
 /// Filter `upper`.
-pub(crate) fn upper(alloc: Global, value: &Value, limits: Limits) -> Result<Value, OpError>
-    ensures { Answers result (limited_by limits (keeping_kind str_to_ascii_uppercase (view value.now))) }
+pub(crate) fn upper(alloc: Global, operand: Operand<'_>) -> Result<Value, ValueError>
+    ensures { IsAnswer (keeping_kind str_to_ascii_uppercase (tree_of operand.entry)) result }
 {
     let mut buffer = Buffer::new();
-    let printed = value.shown(&mut buffer)?;
-    allow((printed.len() as u64).saturating_add(1), 0, limits)?;
-    let mut text = String::from_str(alloc, printed)?;
+    let mut text = String::from_str(alloc, operand.shown(&mut buffer)?)?;
     text.make_ascii_uppercase();
-    Ok(kind_of(value).value(text)?)
+    Ok(kind_of(operand).value(text)?)
 }
 
 /// Filter `capitalize`.
-#[tactic(auto, using(crate::proofs::Changes::capitalized_length))]
-pub(crate) fn capitalize(alloc: Global, value: &Value, limits: Limits) -> Result<Value, OpError>
-    ensures { Answers result (limited_by limits (keeping_kind texts.capitalized (view value.now))) }
+pub(crate) fn capitalize(alloc: Global, operand: Operand<'_>) -> Result<Value, ValueError>
+    ensures { IsAnswer (keeping_kind texts.capitalized (tree_of operand.entry)) result }
 {
     let mut buffer = Buffer::new();
-    let printed = value.shown(&mut buffer)?;
-    allow((printed.len() as u64).saturating_add(1), 0, limits)?;
-    let text = capitalized(alloc, printed)?;
-    Ok(kind_of(value).value(text)?)
+    let text = capitalized(alloc, operand.shown(&mut buffer)?)?;
+    Ok(kind_of(operand).value(text)?)
 }
 
 /// A text with its first character upper and the others lower.
@@ -117,13 +169,12 @@ fn capitalized(alloc: Global, text: &str) -> Result<String, NoMemory>
 }
 
 /// Filter `trim`.
-pub(crate) fn trim(alloc: Global, value: &Value, limits: Limits) -> Result<Value, OpError>
-    ensures { Answers result (limited_by limits (keeping_kind texts.trimmed (view value.now))) }
+pub(crate) fn trim(alloc: Global, operand: Operand<'_>) -> Result<Value, ValueError>
+    ensures { IsAnswer (keeping_kind texts.trimmed (tree_of operand.entry)) result }
 {
     let mut buffer = Buffer::new();
-    let printed = value.shown(&mut buffer)?;
-    let text = trimmed_back(trimmed_front(printed));
-    alone(alloc, &Piece::Raw(text), kind_of(value), limits)
+    let text = trimmed_back(trimmed_front(operand.shown(&mut buffer)?));
+    Ok(piece_value(alloc, &Piece::Raw(text), kind_of(operand))?)
 }
 
 /// Whether a byte is whitespace.
@@ -159,23 +210,19 @@ fn trimmed_back(text: &str) -> &str
     &text[..end]
 }
 
-/// The characters of a text backwards, as a plain text.
-pub(crate) fn backwards(alloc: Global, text: &str, limits: Limits) -> Result<Value, OpError>
-    ensures { Answers result (limited_by limits (Ok (tree.text (texts.backwards text.now)))) }
+/// The measure of the characters of a text backwards.
+#[tactic(auto, using(crate::proofs::Changes::backwards_length))]
+pub(crate) fn backwards_measure(text: &str) -> (u64, u32)
+    ensures { Ok result ≡ measured (Ok (tree.text (texts.backwards text.now))) }
 {
-    allow_backwards(text, limits)?;
-    let turned = turned(alloc, text)?;
-    Ok(Value::from_text(turned)?)
+    ((text.len() as u64).saturating_add(1), 0)
 }
 
-/// Tests the size of a text that is turned round.
-fn allow_backwards(text: &str, limits: Limits) -> Result<(), OpError>
-    ensures ok { let t = tree.text (texts.backwards text.now) in
-        OnOk result (limited_by limits (Ok t) ≡ Ok t) }
-    ensures refused { let t = tree.text (texts.backwards text.now) in
-        IfErr result (λ e. limited_by limits (Ok t) ≡ Err e) }
+/// The characters of a text backwards, as a plain text.
+pub(crate) fn backwards(alloc: Global, text: &str) -> Result<Value, NoMemory>
+    ensures { IfOk result (λ v. view v ≡ tree.text (texts.backwards text.now)) }
 {
-    allow((text.len() as u64).saturating_add(1), 0, limits)
+    Value::from_text(turned(alloc, text)?)
 }
 
 /// The characters of a text backwards.
@@ -185,7 +232,7 @@ fn turned(alloc: Global, text: &str) -> Result<String, NoMemory>
 {
     let mut characters = characters(alloc, text)?;
     characters.reverse();
-    let mut turned = String::new(alloc);
+    let mut turned = String::with_capacity(alloc, text.len())?;
     for c in &characters {
         turned.push(*c)?;
     }

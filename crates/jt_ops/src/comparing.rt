@@ -1,5 +1,8 @@
 //! How two values are ordered.
 ghost use Rattle.std.specs.Prelude.{◌≡◌};
+ghost use Rattle.jt_value.specs.Equality.{equal};
+ghost use Rattle.jt_value.specs.Order.{order};
+ghost use Rattle.jt_value.specs.Tree as tree;
 ghost use Rattle.jt_value.specs.View.{view};
 ghost use Rattle.jt_ops.specs.Comparing.{compared, is_less, is_less_or_equal, is_greater, is_greater_or_equal};
 
@@ -32,4 +35,27 @@ pub(crate) fn greater_or_equal(left: &Value, right: &Value) -> Result<bool, Faul
     ensures { result ≡ compared is_greater_or_equal (view left.now) (view right.now) }
 {
     Ok(left.compare(right)? != Ordering::Less)
+}
+
+/// The order of a plain text and a value.
+pub(crate) fn compare_text(text: &str, value: &Value) -> Result<Ordering, Fault>
+    ensures { result ≡ order (tree.text text.now) (view value.now) }
+{
+    match value {
+        Value::Text(other) => Ok(text.cmp(other.as_str())),
+        Value::Markup(other) => Ok(text.cmp(other.as_str())),
+        Value::Undefined => Err(Fault::Undefined),
+        _ => Err(Fault::BadType),
+    }
+}
+
+/// Whether a plain text equals a value.
+pub(crate) fn equals_text(text: &str, value: &Value) -> bool
+    ensures { result ≡ equal (tree.text text.now) (view value.now) }
+{
+    match value {
+        Value::Text(other) => text == other.as_str(),
+        Value::Markup(other) => text == other.as_str(),
+        _ => false,
+    }
 }

@@ -60,7 +60,7 @@ fn keyed(
 }
 
 /// The first value of a key.
-fn entry<'a>(entries: &'a [(String, Value)], key: &str) -> Option<&'a Value>
+pub fn entry<'a>(entries: &'a [(String, Value)], key: &str) -> Option<&'a Value>
     ensures { option_map view (option_copied result) ≡ entry_of key.now (entries_view entries.now) }
 {
     for entry in entries {
@@ -72,7 +72,7 @@ fn entry<'a>(entries: &'a [(String, Value)], key: &str) -> Option<&'a Value>
 }
 
 /// The place that an index names among some items.
-fn place(index: i64, count: usize) -> Option<usize>
+pub fn place(index: i64, count: usize) -> Option<usize>
     ensures { result ≡ items.place index count }
 {
     let size = index.unsigned_abs();
@@ -91,7 +91,7 @@ fn place(index: i64, count: usize) -> Option<usize>
 
 /// The item that an index names.
 #[tactic(auto, using(crate::proofs::Places::items_count_view))]
-fn indexed(items: &[Value], index: i64) -> Option<&Value>
+pub fn indexed(items: &[Value], index: i64) -> Option<&Value>
     ensures { option_map view (option_copied result) ≡ indexed_item (items_view items.now) index }
 {
     match place(index, items.len()) {

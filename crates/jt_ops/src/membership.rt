@@ -1,9 +1,11 @@
 //! Whether a value is in another.
 ghost use Rattle.std.specs.Prelude.{◌≡◌};
 ghost use Rattle.jt_value.specs.Entries as keys;
+ghost use Rattle.jt_value.specs.Tree as tree;
 ghost use Rattle.jt_value.specs.View.{view, items_view, entries_view};
 ghost use Rattle.jt_ops.specs.Membership as membership;
 
+use crate::comparing::equals_text;
 use crate::operands::misfit;
 use jt_value::{Fault, Value};
 use memchr::memmem;
@@ -27,6 +29,32 @@ pub(crate) fn is_in(value: &Value, container: &Value) -> Result<bool, Fault>
         (_, Value::Map(_)) => Ok(false),
         _ => Err(misfit(value, container)),
     }
+}
+
+/// Whether a plain text is in a value.
+pub(crate) fn text_is_in(text: &str, container: &Value) -> Result<bool, Fault>
+    ensures { result ≡ membership.is_in (tree.text text.now) (view container.now) }
+{
+    match container {
+        Value::Undefined => Ok(false),
+        Value::Text(whole) => Ok(occurs_in(text, whole)),
+        Value::Markup(whole) => Ok(occurs_in(text, whole)),
+        Value::List(list) => Ok(has_text(text, list.items())),
+        Value::Map(map) => Ok(has_key(text, map.entries())),
+        _ => Err(Fault::NotIterable),
+    }
+}
+
+/// Whether a list has an item that equals a plain text.
+fn has_text(text: &str, items: &[Value]) -> bool
+    ensures { result ≡ membership.has_item (tree.text text.now) (items_view items.now) }
+{
+    for item in items {
+        if equals_text(text, item) {
+            return true;
+        }
+    }
+    false
 }
 
 #[tactic(auto, using(crate::proofs::Finding::is_found))]

@@ -1,5 +1,6 @@
 //! Operands that fit no case of an operator.
-ghost use Rattle.std.specs.Prelude.{◌≡◌};
+ghost use Rattle.std.specs.Prelude.{◌≡◌, ℕ, List};
+ghost use Rattle.jt_value.specs.Tree as tree;
 ghost use Rattle.jt_value.specs.Order as order;
 ghost use Rattle.jt_value.specs.View.{view};
 ghost use Rattle.jt_ops.specs.Operands as operands;
@@ -22,6 +23,16 @@ pub fn misfit_of_one(operand: &Value) -> Fault
     ensures { result ≡ operands.misfit_of_one (view operand.now) }
 {
     match operand {
+        Value::Undefined => Fault::Undefined,
+        _ => Fault::BadType,
+    }
+}
+
+/// The fault of a plain text and a value that fit no case.
+pub(crate) fn misfit_of_text(other: &Value) -> Fault
+    ensures { (s : List ℕ) → result ≡ order.misfit (tree.text s) (view other.now) }
+{
+    match other {
         Value::Undefined => Fault::Undefined,
         _ => Fault::BadType,
     }

@@ -1,17 +1,19 @@
 //! Tests of values.
-ghost use Rattle.std.specs.Prelude.{◌≡◌, ◌∷◌, [], map, length};
+ghost use Rattle.std.specs.Prelude.{◌≡◌, ◌+◌, ◌∷◌, [], ℕ, List, map, length};
+ghost use Rattle.jt_value.specs.Tree as tree;
 ghost use Rattle.jt_value.specs.View.{view};
 ghost use Rattle.jt_ops.specs.TestTable.{test_values};
 ghost use Rattle.jt_ops.specs.Testing.{tested, as_answer};
 ghost use Rattle.jt_ops.specs.Testing as testing;
 
 use crate::arithmetic::remainder;
-use crate::comparing::{greater, greater_or_equal, less, less_or_equal};
+use crate::comparing::{compare_text, equals_text, greater, greater_or_equal, less, less_or_equal};
 use crate::limits::OpError;
-use crate::membership::is_in;
-use crate::operands::{misfit, misfit_of_one};
+use crate::membership::{is_in, text_is_in};
+use crate::operands::{misfit, misfit_of_one, misfit_of_text};
 use crate::test_id::TestId;
 use jt_value::{Fault, Value};
+use std::cmp::Ordering;
 
 /// Whether a test is true of values: the tested one, and the test's argument behind it where it
 /// takes one.
@@ -24,9 +26,69 @@ pub fn test(test: TestId, values: &[Value]) -> Result<bool, OpError>
     ensures { result ≡ as_answer (tested test (map view values.now)) }
 {
     match values {
-        [value] => Ok(test_one(test, value)?),
-        [value, argument] => Ok(test_two(test, value, argument)?),
+        [value, arguments @ ..] => Ok(test_of(test, value, arguments)?),
         _ => unreachable!(),
+    }
+}
+
+/// Whether a test is true of a value, with the test's argument where it takes one.
+///
+/// # Errors
+///
+/// The test's fault.
+pub fn test_of(test: TestId, value: &Value, arguments: &[Value]) -> Result<bool, Fault>
+    requires { length arguments.now + 1 ≡ test_values test }
+    ensures { result ≡ tested test (view value.now ∷ map view arguments.now) }
+{
+    match arguments {
+        [] => test_one(test, value),
+        [argument] => test_two(test, value, argument),
+        _ => unreachable!(),
+    }
+}
+
+/// Whether a test is true of a plain text, with the test's argument where it takes one: as of a value of that text.
+///
+/// # Errors
+///
+/// The test's fault.
+pub fn test_of_text(test: TestId, text: &str, arguments: &[Value]) -> Result<bool, Fault>
+    requires { length arguments.now + 1 ≡ test_values test }
+    ensures { result ≡ tested test (tree.text text.now ∷ map view arguments.now) }
+{
+    match arguments {
+        [] => test_one_of_text(test),
+        [argument] => test_two_of_text(test, text, argument),
+        _ => unreachable!(),
+    }
+}
+
+/// A test of a plain text without an argument: what the text is plays no part.
+fn test_one_of_text(test: TestId) -> Result<bool, Fault>
+    requires { test_values test ≡ 1 }
+    ensures { (s : List ℕ) → result ≡ tested test (tree.text s ∷ []) }
+{
+    match test {
+        TestId::Defined | TestId::String => Ok(true),
+        TestId::Even | TestId::Odd => Err(Fault::BadType),
+        _ => Ok(false),
+    }
+}
+
+/// A test of a plain text with an argument.
+fn test_two_of_text(test: TestId, text: &str, argument: &Value) -> Result<bool, Fault>
+    requires { test_values test ≡ 2 }
+    ensures { result ≡ tested test (tree.text text.now ∷ view argument.now ∷ []) }
+{
+    match test {
+        TestId::Equal => Ok(equals_text(text, argument)),
+        TestId::NotEqual => Ok(!equals_text(text, argument)),
+        TestId::In => text_is_in(text, argument),
+        TestId::GreaterOrEqual => Ok(compare_text(text, argument)? != Ordering::Less),
+        TestId::Greater => Ok(compare_text(text, argument)? == Ordering::Greater),
+        TestId::LessOrEqual => Ok(compare_text(text, argument)? != Ordering::Greater),
+        TestId::Less => Ok(compare_text(text, argument)? == Ordering::Less),
+        _ => Err(misfit_of_text(argument)),
     }
 }
 

@@ -42,7 +42,7 @@ pub enum Piece<'a> {
 
 impl<'a> Piece<'a> {
     /// How many bytes the piece writes, or the greatest number where they are more.
-    fn len(&self) -> u64
+    pub fn len(&self) -> u64
         ensures { result ≡ min (length (written self.now)) (2 ^ 64 - 1) }
     {
         match self {
@@ -51,8 +51,8 @@ impl<'a> Piece<'a> {
         }
     }
 
-    /// Writes the piece behind a text.
-    fn write(&self, into: &mut String) -> Result<(), NoMemory>
+    /// Writes the piece behind a text. A refusal leaves a part of it there.
+    pub fn write(&self, into: &mut String) -> Result<(), NoMemory>
         ensures { OnOk result (string_bytes into.new ≡ string_bytes into.old ++ written self.now) }
     {
         match self {

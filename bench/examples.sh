@@ -1,0 +1,26 @@
+#!/bin/bash
+# Renders each folder of examples/ with the program that is named, and compares the text with what is expected.
+# Its last line is 'N passed, M failed', and its status is 0 where none failed.
+# A folder has templates/, context.json, expected, and command: the template's name and the options, words apart.
+set -u
+program=$(realpath "${1:?usage: bench/examples.sh PROGRAM}") || exit 2
+cd "$(dirname "$0")/../examples" || exit 2
+passed=0
+failed=0
+found=$(mktemp)
+trap 'rm -f "$found"' EXIT
+for folder in */; do
+    folder=${folder%/}
+    read -r -a words < "$folder/command"
+    "$program" render "$folder/templates" "${words[0]}" "$folder/context.json" "${words[@]:1}" > "$found"
+    status=$?
+    if [ "$status" -eq 0 ] && cmp -s "$found" "$folder/expected"; then
+        passed=$((passed + 1))
+    else
+        failed=$((failed + 1))
+        echo "$folder: status $status"
+        diff "$folder/expected" "$found" | head -10
+    fi
+done
+echo "$passed passed, $failed failed"
+[ "$failed" -eq 0 ] && [ "$passed" -gt 0 ]

@@ -1,0 +1,148 @@
+#!/usr/bin/env python3
+"""Measures what the gate costs, crate by crate, and prints it as Markdown: bench/gate.py [--edits N] [--keep FILE] [CRATE ..]
+
+All in seconds of processor time, at one job, in a copy of the repository, as `rt ci` does it: each crate's proof from nothing, its
+tests from nothing, and its must-fail edits, of which N (3) are tried and the others reckoned: the first costs a check from
+nothing, each further one what the tried ones cost, and one check with no edit ends them. With names only these crates are
+measured, over all that stands below them. With --keep the figures are kept in FILE, and what it has already is not measured
+again. Below the table stand the sums, and how long the gate would take on 4 and on 2 processors, from a replay of rt's order of
+work with these figures: on an idle machine, and without the short time in which the tests and the program run.
+"""
+import argparse, heapq, json, os, resource, shutil, subprocess, sys, tempfile
+from kit import rt
+
+FLAGS = ["--jobs", "1"]
+TURNS = 3
+
+
+def seconds(call):
+    """The processor time that a call's processes take; the call says whether all went well."""
+    before = resource.getrusage(resource.RUSAGE_CHILDREN)
+    if not call():
+        sys.exit("bench/gate.py: a step failed, so what follows would measure nothing")
+    after = resource.getrusage(resource.RUSAGE_CHILDREN)
+    return round(after.ru_utime + after.ru_stime - before.ru_utime - before.ru_stime, 1)
+
+
+def proof(crate, tests):
+    """Whether the crate, or its tests, are proved from nothing, as under rt ci."""
+    with tempfile.TemporaryFile("a+", errors="replace") as crate.out:
+        os.makedirs(f"{crate.folder}/out", exist_ok=True)
+        status = crate.ci(FLAGS, tests)
+        if status:
+            crate.out.seek(0)
+            print(crate.out.read()[-2000:], file=sys.stderr)
+        return not status
+
+
+def edits(crate, most):
+    """What the first check costs, one edit over what it kept, and a last check with no edit."""
+    good = rt.edits_of(crate)[0]
+    sample = good[:: max(1, -(-len(good) // most))]
+    with tempfile.TemporaryDirectory(prefix="gate-edits-") as kept:
+        first = seconds(lambda: rt.checked(crate, {}, FLAGS, kept).returncode == 0)
+        tried = [seconds(lambda: rt.must_fail(crate, it, FLAGS, kept)[0]) for it in sample]
+        last = seconds(lambda: rt.checked(crate, {}, FLAGS, kept).returncode == 0)
+    return {"edits": len(good), "first": first, "edit": round(sum(tried) / len(tried), 1), "last": last}
+
+
+def measured(crate, most):
+    """What one crate costs; the crates below it are built."""
+    found = {"lines": crate.count(rb"\n"), "below": [it.name for it in crate.below()], "proof": seconds(lambda: proof(crate, False))}
+    if crate.has_tests():
+        found["tests"] = seconds(lambda: proof(crate, True))
+    if rt.edits_of(crate)[0]:
+        found |= edits(crate, most)
+    return found
+
+
+def all_edits(costs):
+    """What all edits of a crate cost."""
+    if costs.get("edits", 0) < 2:
+        return costs.get("first", 0)
+    return costs["first"] + (costs["edits"] - 1) * costs["edit"] + costs["last"]
+
+
+def dealt(crates):
+    """The crates that have each turn, as .ci/run deals them out."""
+    turns = [[] for _ in range(TURNS)]
+    for name in sorted((it for it in crates if crates[it].get("edits")), key=lambda it: (-crates[it]["edits"], it)):
+        min(turns, key=lambda turn: sum(crates[it]["edits"] for it in turn)).append(name)
+    return turns
+
+
+def replayed(crates, turn, lanes):
+    """How many seconds rt's order of work takes: what has most lines behind it comes first, one task a lane."""
+    tasks = {}
+    for name, costs in crates.items():
+        waits = [(it, "proof") for it in costs["below"] if it in crates]
+        own = [(name, "proof"), (name, "tests")]
+        tasks[name, "proof"] = waits, costs["lines"], costs["proof"]
+        tasks[name, "tests"] = waits, costs["lines"] * ("tests" in costs), costs.get("tests", 0)
+        tasks[name, "edits"] = own, costs["lines"] * (name in turn), all_edits(costs) * (name in turn)
+    behind = {it: 0 for it in tasks}
+    for key in reversed(tasks):
+        behind[key] += tasks[key][1]
+        for it in tasks[key][0]:
+            behind[it] = max(behind[it], behind[key])
+    left, running, done, now = sorted(tasks, key=lambda it: -behind[it]), [], set(), 0
+    while left or running:
+        for key in [it for it in left if done.issuperset(tasks[it][0])][: lanes - len(running)]:
+            left.remove(key)
+            heapq.heappush(running, (now + tasks[key][2], key))
+        now, key = heapq.heappop(running)
+        done.add(key)
+    return now
+
+
+def table(crates):
+    """The table, the sums and the replay, as lines of Markdown."""
+    yield "| crate | lines | proof s | tests s | edits | first s | one edit s | all edits s |"
+    yield "|---|---|---|---|---|---|---|---|"
+    for name, costs in crates.items():
+        cells = [costs.get(it, "") for it in ("lines", "proof", "tests", "edits", "first", "edit")]
+        yield f"| {' | '.join(str(it) for it in [name, *cells, round(all_edits(costs)) or ''])} |"
+    proofs, tests = (sum(it.get(what, 0) for it in crates.values()) / 60 for what in ("proof", "tests"))
+    every = sum(map(all_edits, crates.values())) / 60
+    yield ""
+    yield f"Proofs {proofs:.0f}, tests {tests:.0f} and all edits {every:.0f} minutes of processor time: {proofs + tests + every:.0f}."
+    turns = [("all edits", list(crates)), *((f"turn {at}", turn) for at, turn in enumerate(dealt(crates))), ("no edits", [])]
+    for what, turn in turns:
+        cost = proofs + tests + sum(all_edits(crates[it]) for it in turn) / 60
+        times = " and ".join(f"{replayed(crates, turn, lanes) / 60:.0f} on {lanes}" for lanes in (4, 2))
+        yield f"- {what}: {cost:.0f} minutes of processor time, {times} processors"
+
+
+def main():
+    words = argparse.ArgumentParser(description=__doc__, formatter_class=argparse.RawDescriptionHelpFormatter)
+    words.add_argument("--edits", type=int, default=3)
+    words.add_argument("--keep")
+    words.add_argument("crates", nargs="*")
+    asked = words.parse_args()
+    keep = os.path.abspath(asked.keep) if asked.keep else os.devnull
+    known = json.load(open(keep)) if os.path.isfile(keep) else {}
+    with tempfile.TemporaryDirectory(prefix="gate-") as room:
+        top = subprocess.check_output(["git", "rev-parse", "--show-toplevel"], text=True).strip()
+        shutil.copytree(f"{top}/crates", f"{room}/crates", ignore=shutil.ignore_patterns("out"))
+        for file in ("crates.txt", "HANDLES"):
+            shutil.copy(f"{top}/{file}", room)
+        os.mkdir(f"{room}/.git")
+        os.chdir(room)
+        rt.rtlib.guarded()
+        rt.rtlib.Crate, rt.Crate.cuts_libraries, rt.Crate.allowed = rt.Crate, True, rt.handles_of(room)
+        crates = sorted(rt.rtlib.crates_below(room), key=lambda it: len(it.below()))
+        asked.crates = asked.crates or [it.name for it in crates]
+        for crate in crates:
+            needed = [it for it in crates if it.name in asked.crates and it.name not in known and crate in [it, *it.below()]]
+            if needed and crate.name in asked.crates and crate.name not in known:
+                known[crate.name] = measured(crate, asked.edits)
+                with open(keep, "w") as file:
+                    json.dump(known, file, indent=1)
+                print(f"{crate.name}: {known[crate.name]}", file=sys.stderr, flush=True)
+            elif needed and not proof(crate, False):
+                sys.exit(f"bench/gate.py: {crate.name} is not proved")
+        print("\n".join(table({it.name: known[it.name] for it in crates if it.name in known})))
+
+
+if __name__ == "__main__":
+    main()

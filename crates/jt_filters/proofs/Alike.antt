@@ -1,0 +1,140 @@
+-- Items that count once, and items from the front.
+use Rattle.std.proofs.Common.{◌≡◌, ℕ, zero, suc, ◌+◌, ◌-◌, ◌^◌, ◌<◌, min, max, Bool, true, false, cond, List, [], ◌∷◌, ◌++◌, Some, None, refl, sym, ap, ◌∙◌, arith, bytes_eq}
+use Rattle.jt_value.specs.Equality.{equal}
+use Rattle.jt_value.specs.Payload.{text_of, joined_items}
+use Rattle.jt_value.specs.Tree as tree
+use Rattle.jt_value.specs.Tree.{Tree, Items, no_items, item, size, nesting, items_size, items_nesting}
+use Rattle.jt_value.specs.View.{view, items_view}
+use Rattle.jt_value.specs.declared.value.Value.{Value}
+use Rattle.jt_filters.proofs.Lists.{pushed}
+use Rattle.jt_filters.specs.Operands.{front}
+use Rattle.jt_filters.specs.Ordering.{alike, fold, has_alike, unseen}
+
+pub alike_texts : (t u : Tree) (r s : List ℕ) → Some r ≡ text_of t → Some s ≡ text_of u → alike t u ≡ bytes_eq (fold r) (fold s)
+alike_texts tree.undefined u r s e f = cc
+alike_texts tree.nothing u r s e f = cc
+alike_texts (tree.truth_value b) u r s e f = cc
+alike_texts (tree.number z) u r s e f = cc
+alike_texts (tree.text x) tree.undefined r s e f = cc
+alike_texts (tree.text x) tree.nothing r s e f = cc
+alike_texts (tree.text x) (tree.truth_value b) r s e f = cc
+alike_texts (tree.text x) (tree.number z) r s e f = cc
+alike_texts (tree.text x) (tree.text y) r s e f = let g : r ≡ x = cc in let h : s ≡ y = cc in ap (λ (k : List ℕ). bytes_eq (fold k) (fold y)) (sym g) ∙ ap (λ (k : List ℕ). bytes_eq (fold r) (fold k)) (sym h)
+alike_texts (tree.text x) (tree.markup y) r s e f = let g : r ≡ x = cc in let h : s ≡ y = cc in ap (λ (k : List ℕ). bytes_eq (fold k) (fold y)) (sym g) ∙ ap (λ (k : List ℕ). bytes_eq (fold r) (fold k)) (sym h)
+alike_texts (tree.text x) (tree.list ts) r s e f = cc
+alike_texts (tree.text x) (tree.map es) r s e f = cc
+alike_texts (tree.markup x) tree.undefined r s e f = cc
+alike_texts (tree.markup x) tree.nothing r s e f = cc
+alike_texts (tree.markup x) (tree.truth_value b) r s e f = cc
+alike_texts (tree.markup x) (tree.number z) r s e f = cc
+alike_texts (tree.markup x) (tree.text y) r s e f = let g : r ≡ x = cc in let h : s ≡ y = cc in ap (λ (k : List ℕ). bytes_eq (fold k) (fold y)) (sym g) ∙ ap (λ (k : List ℕ). bytes_eq (fold r) (fold k)) (sym h)
+alike_texts (tree.markup x) (tree.markup y) r s e f = let g : r ≡ x = cc in let h : s ≡ y = cc in ap (λ (k : List ℕ). bytes_eq (fold k) (fold y)) (sym g) ∙ ap (λ (k : List ℕ). bytes_eq (fold r) (fold k)) (sym h)
+alike_texts (tree.markup x) (tree.list ts) r s e f = cc
+alike_texts (tree.markup x) (tree.map es) r s e f = cc
+alike_texts (tree.list ts) u r s e f = cc
+alike_texts (tree.map es) u r s e f = cc
+
+pub first_no_text : (t u : Tree) → None ≡ text_of t → alike t u ≡ equal t u
+first_no_text tree.undefined u e = refl
+first_no_text tree.nothing u e = refl
+first_no_text (tree.truth_value b) u e = refl
+first_no_text (tree.number z) u e = refl
+first_no_text (tree.text x) u e = cc
+first_no_text (tree.markup x) u e = cc
+first_no_text (tree.list ts) u e = refl
+first_no_text (tree.map es) u e = refl
+
+pub second_no_text : (t u : Tree) → None ≡ text_of u → alike t u ≡ equal t u
+second_no_text tree.undefined u e = refl
+second_no_text tree.nothing u e = refl
+second_no_text (tree.truth_value b) u e = refl
+second_no_text (tree.number z) u e = refl
+second_no_text (tree.text x) tree.undefined e = refl
+second_no_text (tree.text x) tree.nothing e = refl
+second_no_text (tree.text x) (tree.truth_value b) e = refl
+second_no_text (tree.text x) (tree.number z) e = refl
+second_no_text (tree.text x) (tree.text y) e = cc
+second_no_text (tree.text x) (tree.markup y) e = cc
+second_no_text (tree.text x) (tree.list ts) e = refl
+second_no_text (tree.text x) (tree.map es) e = refl
+second_no_text (tree.markup x) tree.undefined e = refl
+second_no_text (tree.markup x) tree.nothing e = refl
+second_no_text (tree.markup x) (tree.truth_value b) e = refl
+second_no_text (tree.markup x) (tree.number z) e = refl
+second_no_text (tree.markup x) (tree.text y) e = cc
+second_no_text (tree.markup x) (tree.markup y) e = cc
+second_no_text (tree.markup x) (tree.list ts) e = refl
+second_no_text (tree.markup x) (tree.map es) e = refl
+second_no_text (tree.list ts) u e = refl
+second_no_text (tree.map es) u e = refl
+
+pub front_none : (n : ℕ) → front n no_items ≡ no_items
+front_none zero = refl
+front_none (suc n) = refl
+
+pub front_more : (n : ℕ) (u : Tree) (us : Items) → ¬ (n ≡ 0) → front n (item u us) ≡ item u (front (n - 1) us)
+front_more zero u us some = absurd (some refl)
+front_more (suc n) u us some = let e : n ≡ suc n - 1 = omega arith in ap (λ (k : ℕ). item u (front k us)) e
+
+joined_joined : (ts us vs : Items) → joined_items (joined_items ts us) vs ≡ joined_items ts (joined_items us vs)
+joined_joined no_items us vs = refl
+joined_joined (item t ts) us vs = ap (item t) (joined_joined ts us vs)
+
+same_first : (t u : Tree) (rest us : Items) → item t rest ≡ item u us → item u no_items ≡ item t no_items
+same_first t u rest us e = cc
+
+same_rest : (t u : Tree) (rest us : Items) → item t rest ≡ item u us → rest ≡ us
+same_rest t u rest us e = cc
+
+not_none : (t : Tree) (rest : Items) → item t rest ≡ no_items → ⊥
+not_none t rest e = cc
+
+front_suc : (all : Items) (n : ℕ) (t : Tree) (rest : Items) → joined_items (front n all) (item t rest) ≡ all → front (suc n) all ≡ joined_items (front n all) (item t no_items)
+front_suc no_items zero t rest e = absurd (not_none t rest e)
+front_suc no_items (suc n) t rest e = absurd (not_none t rest e)
+front_suc (item u us) zero t rest e = same_first t u rest us e
+front_suc (item u us) (suc n) t rest e = ap (item u) (front_suc us n t rest (same_rest u u _ us e))
+
+-- one more item from the front
+pub front_next : (all : Items) (n : ℕ) (t : Tree) (rest : Items) → joined_items (front n all) (item t rest) ≡ all → front (n + 1) all ≡ joined_items (front n all) (item t no_items)
+front_next all n t rest e = let m : n + 1 ≡ suc n = omega arith in ap (λ (k : ℕ). front k all) m ∙ front_suc all n t rest e
+
+pub whole_next : (all : Items) (n : ℕ) (t : Tree) (rest : Items) → joined_items (front n all) (item t rest) ≡ all → joined_items (front (n + 1) all) rest ≡ all
+whole_next all n t rest e = ap (λ (ts : Items). joined_items ts rest) (front_next all n t rest e) ∙ joined_joined (front n all) (item t no_items) rest ∙ e
+
+-- a step over an item that is left out, or kept
+pub unseen_left : (all : Items) (n : ℕ) (t : Tree) (rest : Items) → joined_items (front n all) (item t rest) ≡ all → has_alike t (front n all) ≡ true
+    → unseen (front n all) (item t rest) ≡ unseen (front (n + 1) all) rest
+unseen_left all n t rest e old =
+    ap (λ (b : Bool). cond b (unseen (joined_items (front n all) (item t no_items)) rest) (item t (unseen (joined_items (front n all) (item t no_items)) rest))) old
+    ∙ ap (λ (s : Items). unseen s rest) (sym (front_next all n t rest e))
+
+pub unseen_kept : (all : Items) (n : ℕ) (t : Tree) (rest : Items) → joined_items (front n all) (item t rest) ≡ all → has_alike t (front n all) ≡ false
+    → unseen (front n all) (item t rest) ≡ item t (unseen (front (n + 1) all) rest)
+unseen_kept all n t rest e new =
+    ap (λ (b : Bool). cond b (unseen (joined_items (front n all) (item t no_items)) rest) (item t (unseen (joined_items (front n all) (item t no_items)) rest))) new
+    ∙ ap (λ (s : Items). item t (unseen s rest)) (sym (front_next all n t rest e))
+
+pub left_size : (all : Items) (n : ℕ) (t : Tree) (rest : Items) → joined_items (front n all) (item t rest) ≡ all → has_alike t (front n all) ≡ true
+    → items_size (unseen (front n all) (item t rest)) ≡ items_size (unseen (front (n + 1) all) rest)
+left_size all n t rest e old = ap items_size (unseen_left all n t rest e old)
+
+pub kept_size : (all : Items) (n : ℕ) (t : Tree) (rest : Items) → joined_items (front n all) (item t rest) ≡ all → has_alike t (front n all) ≡ false
+    → items_size (unseen (front n all) (item t rest)) ≡ size t + items_size (unseen (front (n + 1) all) rest)
+kept_size all n t rest e new = ap items_size (unseen_kept all n t rest e new)
+
+pub left_nesting : (all : Items) (n : ℕ) (t : Tree) (rest : Items) → joined_items (front n all) (item t rest) ≡ all → has_alike t (front n all) ≡ true
+    → items_nesting (unseen (front n all) (item t rest)) ≡ items_nesting (unseen (front (n + 1) all) rest)
+left_nesting all n t rest e old = ap items_nesting (unseen_left all n t rest e old)
+
+pub kept_nesting : (all : Items) (n : ℕ) (t : Tree) (rest : Items) → joined_items (front n all) (item t rest) ≡ all → has_alike t (front n all) ≡ false
+    → items_nesting (unseen (front n all) (item t rest)) ≡ max (nesting t) (items_nesting (unseen (front (n + 1) all) rest))
+kept_nesting all n t rest e new = ap items_nesting (unseen_kept all n t rest e new)
+
+pub values_left : (all : Items) (n : ℕ) (t : Tree) (rest : Items) (before : Items) → joined_items (front n all) (item t rest) ≡ all → has_alike t (front n all) ≡ true
+    → joined_items before (unseen (front (n + 1) all) rest) ≡ joined_items before (unseen (front n all) (item t rest))
+values_left all n t rest before e old = ap (λ (ts : Items). joined_items before ts) (sym (unseen_left all n t rest e old))
+
+pub values_kept : (all : Items) (n : ℕ) (t : Tree) (rest : Items) (before after : List Value) (v : Value) → joined_items (front n all) (item t rest) ≡ all → has_alike t (front n all) ≡ false → after ≡ before ++ v ∷ [] → view v ≡ t
+    → joined_items (items_view after) (unseen (front (n + 1) all) rest) ≡ joined_items (items_view before) (unseen (front n all) (item t rest))
+values_kept all n t rest before after v e new is same = pushed before after v t (unseen (front (n + 1) all) rest) is same ∙ ap (λ (ts : Items). joined_items (items_view before) ts) (sym (unseen_kept all n t rest e new))

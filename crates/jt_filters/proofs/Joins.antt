@@ -1,0 +1,134 @@
+-- How long joined texts are.
+use Rattle.std.proofs.Common.{◌≡◌, ℕ, ◌+◌, ◌-◌, ◌^◌, ◌≤◌, min, Bool, true, false, cond, ◌||◌, ◌&&◌, not, List, [], ◌∷◌, ◌++◌, length, flat_map, Option, Some, None, refl, sym, ap, ◌∙◌, arith, length-append, append_assoc}
+use Rattle.std.proofs.lemmas.List.{append-nil}
+use Rattle.std.specs.Prelude.{Result, Ok, Err, option_map}
+use Rattle.std.specs.List.{join_by}
+use Rattle.std.specs.Option.{option_and_then}
+use Rattle.jt_value.specs.declared.fault.Fault.{Fault}
+use Rattle.jt_value.specs.declared.fault.Fault.TheVariants as fault
+use Rattle.jt_value.specs.Tree as tree
+use Rattle.jt_value.specs.Tree.{Tree, Items, no_items, item, printed}
+use Rattle.jt_escape.specs.Escaping.{escaped}
+use Rattle.jt_escape.specs.Joining.{piece, pieces, joined_text, joined_markup, joined_plain, joined_as_markup, has_markup, or_unprintable}
+use Rattle.jt_escape.specs.Joining as joins
+use Rattle.jt_ops.specs.Testing.{is_markup}
+use Rattle.jt_filters.specs.Listing.{joined_by}
+use Rattle.jt_filters.specs.Operands.{measured, text_length, text_measure, led_length, on_length}
+
+-- the same test of two crates
+same_markup : (d : Tree) (ts : Items) → joins.is_markup d || has_markup ts ≡ is_markup d || has_markup ts
+same_markup (tree.markup r) ts = refl
+same_markup tree.undefined ts = refl
+same_markup tree.nothing ts = refl
+same_markup (tree.truth_value b) ts = refl
+same_markup (tree.number z) ts = refl
+same_markup (tree.text r) ts = refl
+same_markup (tree.list us) ts = refl
+same_markup (tree.map es) ts = refl
+
+-- what a value gives
+pub piece_is : (escaping : Bool) (t : Tree) (s : List ℕ) → printed t ≡ Some s → piece escaping t ≡ Some (cond (escaping && not (is_markup t)) (escaped s) s)
+piece_is false t s e = e
+piece_is true (tree.markup r) s e = e
+piece_is true tree.undefined s e = ap (option_map escaped) e
+piece_is true tree.nothing s e = ap (option_map escaped) e
+piece_is true (tree.truth_value b) s e = ap (option_map escaped) e
+piece_is true (tree.number z) s e = ap (option_map escaped) e
+piece_is true (tree.text r) s e = ap (option_map escaped) e
+piece_is true (tree.list ts) s e = ap (option_map escaped) e
+piece_is true (tree.map es) s e = ap (option_map escaped) e
+
+pub no_piece : (escaping : Bool) (t : Tree) → printed t ≡ None → piece escaping t ≡ None
+no_piece false t e = e
+no_piece true (tree.markup r) e = cc
+no_piece true tree.undefined e = ap (option_map escaped) e
+no_piece true tree.nothing e = ap (option_map escaped) e
+no_piece true (tree.truth_value b) e = ap (option_map escaped) e
+no_piece true (tree.number z) e = ap (option_map escaped) e
+no_piece true (tree.text r) e = ap (option_map escaped) e
+no_piece true (tree.list ts) e = ap (option_map escaped) e
+no_piece true (tree.map es) e = ap (option_map escaped) e
+
+grown : (head between p : List ℕ) (n : ℕ) → n ≡ min (length p) (2 ^ 64 - 1)
+    → min (min (min (length head) (2 ^ 64 - 1) + min (length between) (2 ^ 64 - 1)) (2 ^ 64 - 1) + n) (2 ^ 64 - 1) ≡ min (length (head ++ (between ++ p))) (2 ^ 64 - 1)
+grown head between p n e = omega (arith, e, length-append head (between ++ p), length-append between p)
+
+one_behind : (head between p : List ℕ) (r : Option (List (List ℕ))) → option_map (λ (ps : List (List ℕ)). (head ++ (between ++ p)) ++ flat_map (λ q. between ++ q) ps) r ≡ option_map (λ (ps : List (List ℕ)). head ++ flat_map (λ q. between ++ q) ps) (option_map (λ (rest : List (List ℕ)). p ∷ rest) r)
+one_behind head between p None = refl
+one_behind head between p (Some ps) = ap Some (append_assoc head (between ++ p) (flat_map (λ q. between ++ q) ps))
+
+by_piece : (escaping : Bool) (head between : List ℕ) (ts : Items) (o : Option (List ℕ))
+    → ((h : List ℕ) → led_length escaping (min (length h) (2 ^ 64 - 1)) (min (length between) (2 ^ 64 - 1)) ts ≡ text_length (option_map (λ (ps : List (List ℕ)). h ++ flat_map (λ p. between ++ p) ps) (pieces escaping ts)))
+    → on_length (λ n. led_length escaping (min (min (min (length head) (2 ^ 64 - 1) + min (length between) (2 ^ 64 - 1)) (2 ^ 64 - 1) + n) (2 ^ 64 - 1)) (min (length between) (2 ^ 64 - 1)) ts) (text_length o)
+    ≡ text_length (option_map (λ (ps : List (List ℕ)). head ++ flat_map (λ p. between ++ p) ps) (option_and_then (λ (first : List ℕ). option_map (λ (rest : List (List ℕ)). first ∷ rest) (pieces escaping ts)) o))
+by_piece escaping head between ts None again = refl
+by_piece escaping head between ts (Some p) again =
+    ap (λ (k : ℕ). led_length escaping k (min (length between) (2 ^ 64 - 1)) ts) (grown head between p _ refl)
+    ∙ again (head ++ (between ++ p))
+    ∙ ap text_length (one_behind head between p (pieces escaping ts))
+
+led_is : (escaping : Bool) (head between : List ℕ) (ts : Items) → led_length escaping (min (length head) (2 ^ 64 - 1)) (min (length between) (2 ^ 64 - 1)) ts ≡ text_length (option_map (λ (ps : List (List ℕ)). head ++ flat_map (λ p. between ++ p) ps) (pieces escaping ts))
+led_is escaping head between no_items = ap (λ (s : List ℕ). Ok (min (length s) (2 ^ 64 - 1))) (sym (append-nil head))
+led_is escaping head between (item t ts) = by_piece escaping head between ts (piece escaping t) (λ h. led_is escaping h between ts)
+
+-- by what the separator and the first item give
+first_length : (escaping : Bool) (ts : Items) (d p : Option (List ℕ)) (n m : ℕ) → Ok m ≡ text_length d → Ok n ≡ text_length p
+    → led_length escaping n m ts ≡ text_length (option_and_then (λ (between : List ℕ). option_map (join_by (λ (text : List ℕ). text) between) (option_and_then (λ (first : List ℕ). option_map (λ (rest : List (List ℕ)). first ∷ rest) (pieces escaping ts)) p)) d)
+first_length escaping ts None p n m e f = cc
+first_length escaping ts (Some d) None n m e f = cc
+first_length escaping ts (Some d) (Some p) n m e f =
+    let x : n ≡ min (length p) (2 ^ 64 - 1) = cc in
+    let y : m ≡ min (length d) (2 ^ 64 - 1) = cc in
+    ap (λ (k : ℕ). led_length escaping k m ts) x
+    ∙ ap (λ (k : ℕ). led_length escaping (min (length p) (2 ^ 64 - 1)) k ts) y
+    ∙ led_is escaping p d ts
+    ∙ ap text_length (joins_first p d (pieces escaping ts))
+  where
+    joins_first : (p d : List ℕ) (r : Option (List (List ℕ))) → option_map (λ (ps : List (List ℕ)). p ++ flat_map (λ q. d ++ q) ps) r ≡ option_map (join_by (λ (text : List ℕ). text) d) (option_map (λ (rest : List (List ℕ)). p ∷ rest) r)
+    joins_first p d None = refl
+    joins_first p d (Some ps) = refl
+
+pub joined_length : (escaping : Bool) (t d : Tree) (ts : Items) (n m : ℕ) → Ok m ≡ text_length (piece escaping d) → Ok n ≡ text_length (piece escaping t)
+    → led_length escaping n m ts ≡ text_length (joined_text escaping (item t ts) d)
+joined_length escaping t d ts n m e f = first_length escaping ts (piece escaping d) (piece escaping t) n m e f
+
+-- the first item has no text
+unprintable_by : (escaping : Bool) (ts : Items) (d p : Option (List ℕ)) (m : ℕ) (x : Fault) → Ok m ≡ text_length d → Err x ≡ text_length p
+    → text_length (option_and_then (λ (between : List ℕ). option_map (join_by (λ (text : List ℕ). text) between) (option_and_then (λ (first : List ℕ). option_map (λ (rest : List (List ℕ)). first ∷ rest) (pieces escaping ts)) p)) d) ≡ Err x
+unprintable_by escaping ts None p m x e f = cc
+unprintable_by escaping ts (Some d) None m x e f = sym f
+unprintable_by escaping ts (Some d) (Some p) m x e f = cc
+
+pub unprintable_first : (escaping : Bool) (t d : Tree) (ts : Items) (m : ℕ) (x : Fault) → Ok m ≡ text_length (piece escaping d) → Err x ≡ text_length (piece escaping t)
+    → text_length (joined_text escaping (item t ts) d) ≡ Err x
+unprintable_first escaping t d ts m x e f = unprintable_by escaping ts (piece escaping d) (piece escaping t) m x e f
+
+none_by : (d : Option (List ℕ)) (m : ℕ) → Ok m ≡ text_length d → text_length (option_and_then (λ (between : List ℕ). option_map (join_by (λ (text : List ℕ). text) between) (Some [])) d) ≡ Ok 0
+none_by None m e = cc
+none_by (Some d) m e = refl
+
+pub none_joined : (escaping : Bool) (d : Tree) (m : ℕ) → Ok m ≡ text_length (piece escaping d) → text_length (joined_text escaping no_items d) ≡ Ok 0
+none_joined escaping d m e = none_by (piece escaping d) m e
+
+separator_by : (o : Option (List (List ℕ))) (d : Option (List ℕ)) (x : Fault) → Err x ≡ text_length d → text_length (option_and_then (λ (between : List ℕ). option_map (join_by (λ (text : List ℕ). text) between) o) d) ≡ Err x
+separator_by o None x e = sym e
+separator_by o (Some d) x e = cc
+
+pub unprintable_separator : (escaping : Bool) (d : Tree) (ts : Items) (x : Fault) → Err x ≡ text_length (piece escaping d) → text_length (joined_text escaping ts d) ≡ Err x
+unprintable_separator escaping d ts x e = separator_by (pieces escaping ts) (piece escaping d) x e
+
+plain_size : (o : Option (List ℕ)) → measured (or_unprintable tree.text o) ≡ text_measure (text_length o)
+plain_size None = refl
+plain_size (Some s) = ap (λ (n : ℕ). Ok (n, 0)) (omega arith)
+
+markup_size : (o : Option (List ℕ)) → measured (or_unprintable tree.markup o) ≡ text_measure (text_length o)
+markup_size None = refl
+markup_size (Some s) = ap (λ (n : ℕ). Ok (n, 0)) (omega arith)
+
+joined_by_kind : (ts : Items) (d : Tree) (m : Bool) → m ≡ is_markup d || has_markup ts → measured (joined_markup ts d) ≡ text_measure (text_length (joined_text m ts d))
+joined_by_kind ts d true e = ap (λ (b : Bool). measured (cond b (joined_as_markup ts d) (joined_plain ts d))) (same_markup d ts ∙ sym e) ∙ markup_size (joined_text true ts d)
+joined_by_kind ts d false e = ap (λ (b : Bool). measured (cond b (joined_as_markup ts d) (joined_plain ts d))) (same_markup d ts ∙ sym e) ∙ plain_size (joined_text false ts d)
+
+pub joined_measured : (autoescape : Bool) (ts : Items) (d : Tree) → measured (joined_by autoescape d ts) ≡ text_measure (text_length (joined_text (autoescape && (is_markup d || has_markup ts)) ts d))
+joined_measured false ts d = plain_size (joined_text false ts d)
+joined_measured true ts d = joined_by_kind ts d (is_markup d || has_markup ts) refl

@@ -1,9 +1,0 @@
-use Rattle.std.proofs.Common.{◌≡◌, drop}
-use Rattle.jt_value.specs.Tree.{no_items}
-use Rattle.jt_value.specs.View.{items_view}
-use Rattle.jt_value.specs.Payload.{joined_items}
-use Rattle.jt_filters.specs.Ordering.{unseen}
-use Rattle.jt_filters.proofs.choosing.unseen.Given as goal
-
-abbrev pub invariant-loop-item : goal.invariant-loop-item
-invariant-loop-item l = joined_items (items_view l.kept.items) (unseen (items_view l.kept.items) (items_view (drop l.item-index l.items))) ≡ unseen no_items (items_view l.items)

@@ -1,0 +1,131 @@
+//! What a filter gives, built. Its size and nesting are tested before.
+ghost use Rattle.std.specs.Prelude.{◌≡◌, ◌∷◌, ◌+◌, [], Bool, true, map, length, nat_le};
+ghost use Rattle.jt_value.specs.View.{view};
+ghost use Rattle.jt_filters.specs.FilterTable.{least_values, most_values};
+ghost use Rattle.jt_filters.specs.Filtering.{filtered};
+ghost use Rattle.jt_filters.specs.Operands.{tree_of, Builds};
+ghost use Rattle.jt_filters.specs.Operands as operands;
+
+use crate::filter_id::FilterId;
+use crate::joining::join;
+use crate::listing::{dictsort, items, list, reverse};
+use crate::operand::Operand;
+use crate::replacing::replace;
+use crate::scalars::{abs, best_item, first, int, last, length, or_default, sum};
+use crate::sorting::sort;
+use crate::texts::{capitalize, escape, force_escape, lower, safe, string, trim, upper};
+use crate::unique::unique;
+use jt_value::{Fault, Value, ValueError};
+use std::alloc::Global;
+
+/// What a filter gives, or its fault. Want of memory is an answer only where there is a value with a payload.
+pub(crate) fn build(
+    alloc: Global,
+    filter: FilterId,
+    operand: Operand<'_>,
+    arguments: &[Value],
+    autoescape: bool,
+) -> Result<Value, ValueError>
+    requires least { nat_le (least_values filter) (length arguments.now + 1) ≡ true }
+    requires most { nat_le (length arguments.now + 1) (most_values filter) ≡ true }
+    ensures { Builds (filtered filter autoescape (tree_of operand.entry ∷ map view arguments.now)) result }
+{
+    match arguments {
+        [] => build_one(alloc, filter, operand, autoescape),
+        [argument] => build_two(alloc, filter, operand, argument, autoescape),
+        [first, second] => build_three(alloc, filter, operand, first, second, autoescape),
+        _ => unreachable!(),
+    }
+}
+
+/// A value that is there, or a number.
+fn scalar(alloc: Global, given: Result<Operand<'_>, Fault>) -> Result<Value, ValueError>
+    ensures { Builds (operands.chosen given.entry) result }
+{
+    Ok(given?.value(alloc)?)
+}
+
+/// The same of a filter of its input alone.
+fn build_one(
+    alloc: Global,
+    filter: FilterId,
+    operand: Operand<'_>,
+    autoescape: bool,
+) -> Result<Value, ValueError>
+    requires { nat_le (least_values filter) 1 ≡ true }
+    ensures { Builds (filtered filter autoescape (tree_of operand.entry ∷ [])) result }
+{
+    match filter {
+        FilterId::Abs => scalar(alloc, abs(operand)),
+        FilterId::Capitalize => capitalize(alloc, operand),
+        FilterId::Default => scalar(alloc, Ok(or_default(operand, Operand::Text(""), false))),
+        FilterId::DictSort => dictsort(alloc, operand),
+        FilterId::Escape => escape(alloc, operand),
+        FilterId::First => scalar(alloc, first(operand)),
+        FilterId::ForceEscape => force_escape(alloc, operand),
+        FilterId::Int => scalar(alloc, int(operand, Operand::Number(0))),
+        FilterId::Items => items(alloc, operand),
+        FilterId::Join => join(alloc, operand, Operand::Text(""), autoescape),
+        FilterId::Last => scalar(alloc, last(operand)),
+        FilterId::Length => scalar(alloc, length(operand)),
+        FilterId::List => list(alloc, operand),
+        FilterId::Lower => lower(alloc, operand),
+        FilterId::Max => scalar(alloc, best_item(operand, true)),
+        FilterId::Min => scalar(alloc, best_item(operand, false)),
+        FilterId::Reverse => reverse(alloc, operand),
+        FilterId::Safe => safe(alloc, operand),
+        FilterId::Sort => sort(alloc, operand, false),
+        FilterId::String => string(alloc, operand),
+        FilterId::Sum => scalar(alloc, sum(operand)),
+        FilterId::Trim => trim(alloc, operand),
+        FilterId::Unique => unique(alloc, operand),
+        FilterId::Upper => upper(alloc, operand),
+        FilterId::Replace => unreachable!(),
+    }
+}
+
+/// The same of a filter of its input and one argument.
+fn build_two(
+    alloc: Global,
+    filter: FilterId,
+    operand: Operand<'_>,
+    argument: &Value,
+    autoescape: bool,
+) -> Result<Value, ValueError>
+    requires least { nat_le (least_values filter) 2 ≡ true }
+    requires most { nat_le 2 (most_values filter) ≡ true }
+    ensures { Builds (filtered filter autoescape (tree_of operand.entry ∷ view argument.now ∷ [])) result }
+{
+    match filter {
+        FilterId::Default => scalar(
+            alloc,
+            Ok(or_default(operand, Operand::Value(argument), false)),
+        ),
+        FilterId::Int => scalar(alloc, int(operand, Operand::Value(argument))),
+        FilterId::Join => join(alloc, operand, Operand::Value(argument), autoescape),
+        FilterId::Sort => sort(alloc, operand, argument.truth()),
+        _ => unreachable!(),
+    }
+}
+
+/// The same of a filter of its input and two arguments.
+fn build_three(
+    alloc: Global,
+    filter: FilterId,
+    operand: Operand<'_>,
+    first: &Value,
+    second: &Value,
+    autoescape: bool,
+) -> Result<Value, ValueError>
+    requires { nat_le 3 (most_values filter) ≡ true }
+    ensures { Builds (filtered filter autoescape (tree_of operand.entry ∷ view first.now ∷ view second.now ∷ [])) result }
+{
+    match filter {
+        FilterId::Default => scalar(
+            alloc,
+            Ok(or_default(operand, Operand::Value(first), second.truth())),
+        ),
+        FilterId::Replace => replace(alloc, operand, first, second),
+        _ => unreachable!(),
+    }
+}

@@ -1,0 +1,85 @@
+//! The items of values, one after the other. They take no memory.
+ghost use Rattle.std.specs.Prelude.{◌≡◌, IfSome, IfNone};
+ghost use Rattle.std.specs.Str.{chars};
+ghost use Rattle.jt_value.specs.Iteration.{items_of_tree, character_items};
+ghost use Rattle.jt_value.specs.Tree as tree;
+ghost use Rattle.jt_ops.specs.ItemOf.{items_count};
+ghost use Rattle.jt_filters.specs.Operands.{tree_of, items_in, HasItems};
+
+use crate::operand::Operand;
+use jt_ops::character_count;
+use jt_value::{Fault, Value};
+
+/// Items: values, the characters of a text, or the keys of a map.
+#[derive(Clone, Copy)]
+pub(crate) enum ItemList<'a> {
+    Values(&'a [Value]),
+    Characters(&'a str),
+    Keys(&'a [(String, Value)]),
+}
+
+impl<'a> ItemList<'a> {
+    /// How many items there are.
+    #[tactic(auto, using(jt_ops::proofs::Places::items_count_view, crate::proofs::Payloads::characters_count, crate::proofs::Payloads::keys_count))]
+    pub(crate) fn len(self) -> usize
+        ensures { result ≡ items_count (items_in self.entry) }
+    {
+        match self {
+            ItemList::Values(values) => values.len(),
+            ItemList::Characters(text) => character_count(text),
+            ItemList::Keys(entries) => entries.len(),
+        }
+    }
+
+    /// The first item and those behind it.
+    pub(crate) fn split_first(self) -> Option<(Operand<'a>, ItemList<'a>)>
+        ensures some { IfSome result (λ p. items_in self.entry ≡ tree.item (tree_of p.0) (items_in p.1)) }
+        ensures none { IfNone result (items_in self.entry ≡ tree.no_items) }
+    {
+        match self {
+            ItemList::Values(values) => {
+                let (first, rest) = values.split_first()?;
+                Some((Operand::Value(first), ItemList::Values(rest)))
+            }
+            ItemList::Characters(text) => {
+                let (first, rest) = split_character(text)?;
+                Some((Operand::Text(first), ItemList::Characters(rest)))
+            }
+            ItemList::Keys(entries) => {
+                let (first, rest) = entries.split_first()?;
+                Some((Operand::Text(first.0.as_str()), ItemList::Keys(rest)))
+            }
+        }
+    }
+}
+
+/// The first character of a text, as a text, and the rest.
+fn split_character(text: &str) -> Option<(&str, &str)>
+    ensures some { IfSome result (λ p. character_items (chars text.now) ≡ tree.item (tree.text p.0.now) (character_items (chars p.1.now))) }
+    ensures none { IfNone result (character_items (chars text.now) ≡ tree.no_items) }
+{
+    match text.chars().next() {
+        Some(first) => Some(text.split_at(first.len_utf8())),
+        None => None,
+    }
+}
+
+/// The items of a value.
+pub(crate) fn items_of(operand: Operand<'_>) -> Result<ItemList<'_>, Fault>
+    ensures { HasItems (items_of_tree (tree_of operand.entry)) result }
+{
+    if let Some(items) = operand.as_list() {
+        return Ok(ItemList::Values(items));
+    }
+    if let Some(text) = operand.as_text() {
+        return Ok(ItemList::Characters(text));
+    }
+    if let Some(entries) = operand.as_map() {
+        return Ok(ItemList::Keys(entries));
+    }
+    if operand.is_undefined() {
+        Ok(ItemList::Values(&[]))
+    } else {
+        Err(Fault::NotIterable)
+    }
+}

@@ -1,0 +1,133 @@
+//! Filter `join`: how long its text is, and the text.
+ghost use Rattle.std.specs.Prelude.{◌≡◌, ◌&&◌, ◌||◌};
+ghost use Rattle.jt_ops.specs.Testing.{is_markup};
+ghost use Rattle.jt_filters.specs.Operands as operands;
+ghost use Rattle.jt_escape.specs.Joining.{IsAnswer, piece, joined_text};
+ghost use Rattle.jt_escape.specs.Joining as joins;
+ghost use Rattle.jt_value.specs.View.{view, items_view};
+ghost use Rattle.jt_filters.specs.Listing.{on_items, joined_by};
+ghost use Rattle.jt_filters.specs.Operands.{tree_of, items_in, measured, text_length, led_length};
+
+use crate::item_list::{ItemList, items_of};
+use crate::listing::values;
+use crate::operand::Operand;
+use itoa::Buffer;
+use jt_escape::{join_markup, join_plain};
+use jt_ops::Piece;
+use jt_value::{Fault, Value, ValueError};
+use std::alloc::Global;
+
+/// The measure of filter `join`.
+#[tactic(auto, using(crate::proofs::Joins::joined_measured))]
+pub(crate) fn join_measure(
+    operand: Operand<'_>,
+    separator: Operand<'_>,
+    autoescape: bool,
+) -> Result<(u64, u32), Fault>
+    ensures { result ≡ measured (on_items (joined_by autoescape (tree_of separator.entry)) (tree_of operand.entry)) }
+{
+    let items = items_of(operand)?;
+    text_measure(joined_len(items, separator, escapes(items, separator, autoescape)))
+}
+
+/// The measure of a text that is so long.
+fn text_measure(len: Result<u64, Fault>) -> Result<(u64, u32), Fault>
+    ensures { result ≡ operands.text_measure len }
+{
+    Ok((len?.saturating_add(1), 0))
+}
+
+/// Whether a join escapes what isn't markup: under autoescaping, where an item or the separator is markup.
+fn escapes(items: ItemList<'_>, separator: Operand<'_>, autoescape: bool) -> bool
+    ensures { result ≡ (autoescape && (is_markup (tree_of separator.entry) || joins.has_markup (items_in items.entry))) }
+{
+    autoescape && (separator.is_markup() || has_markup(items))
+}
+
+/// Whether an item is markup.
+fn has_markup(items: ItemList<'_>) -> bool
+    ensures { result ≡ joins.has_markup (items_in items.entry) }
+{
+    let mut items = items;
+    while let Some((item, behind)) = items.split_first() {
+        if item.is_markup() {
+            return true;
+        }
+        items = behind;
+    }
+    false
+}
+
+/// How many bytes the joined text has, or the greatest number where they are more. The separator's fault counts first.
+#[tactic(auto, using(crate::proofs::Joins::joined_length, crate::proofs::Joins::none_joined, crate::proofs::Joins::unprintable_first, crate::proofs::Joins::unprintable_separator))]
+fn joined_len(items: ItemList<'_>, separator: Operand<'_>, escaping: bool) -> Result<u64, Fault>
+    ensures { result ≡ text_length (joined_text escaping (items_in items.entry) (tree_of separator.entry)) }
+{
+    let between = piece_len(separator, escaping)?;
+    match items.split_first() {
+        Some((first, behind)) => led_len(piece_len(first, escaping)?, between, behind, escaping),
+        None => Ok(0),
+    }
+}
+
+/// How many bytes there are with items behind so many bytes, each with the separator's in front.
+fn led_len(first: u64, between: u64, behind: ItemList<'_>, escaping: bool) -> Result<u64, Fault>
+    ensures { result ≡ led_length escaping first between (items_in behind.entry) }
+{
+    let mut items = behind;
+    let mut total = first;
+    while let Some((item, behind)) = items.split_first() {
+        total = total
+            .saturating_add(between)
+            .saturating_add(piece_len(item, escaping)?);
+        items = behind;
+    }
+    Ok(total)
+}
+
+/// How many bytes an operand gives to a join, or the greatest number where they are more.
+#[tactic(auto, using(crate::proofs::Joins::piece_is, crate::proofs::Joins::no_piece))]
+fn piece_len(operand: Operand<'_>, escaping: bool) -> Result<u64, Fault>
+    ensures { result ≡ text_length (piece escaping (tree_of operand.entry)) }
+{
+    let mut buffer = Buffer::new();
+    let text = operand.shown(&mut buffer)?;
+    if escaping && !operand.is_markup() {
+        Ok(Piece::Escaped(text).len())
+    } else {
+        Ok(text.len() as u64)
+    }
+}
+
+/// Filter `join`.
+pub(crate) fn join(
+    alloc: Global,
+    operand: Operand<'_>,
+    separator: Operand<'_>,
+    autoescape: bool,
+) -> Result<Value, ValueError>
+    ensures { IsAnswer (on_items (joined_by autoescape (tree_of separator.entry)) (tree_of operand.entry)) result }
+{
+    let items = items_of(operand)?;
+    let separator = separator.value(alloc)?;
+    match items {
+        ItemList::Values(values) => joined(alloc, values, &separator, autoescape),
+        _ => joined(alloc, &values(alloc, items)?, &separator, autoescape),
+    }
+}
+
+/// The text of some values with a separator between them.
+fn joined(
+    alloc: Global,
+    values: &[Value],
+    separator: &Value,
+    autoescape: bool,
+) -> Result<Value, ValueError>
+    ensures { IsAnswer (joined_by autoescape (view separator.now) (items_view values.now)) result }
+{
+    if autoescape {
+        join_markup(alloc, values, separator)
+    } else {
+        join_plain(alloc, values, separator)
+    }
+}

@@ -1,0 +1,129 @@
+//! The size and the nesting of what a filter gives, each the greatest number where it is greater. They take no memory.
+ghost use Rattle.std.specs.Prelude.{◌≡◌, ◌∷◌, ◌+◌, [], Bool, true, map, length, nat_le};
+ghost use Rattle.jt_value.specs.View.{view};
+ghost use Rattle.jt_filters.specs.FilterTable.{least_values, most_values};
+ghost use Rattle.jt_filters.specs.Filtering.{filtered};
+ghost use Rattle.jt_filters.specs.Operands.{tree_of, measured};
+ghost use Rattle.jt_filters.specs.Operands as operands;
+
+use crate::filter_id::FilterId;
+use crate::joining::join_measure;
+use crate::listing::{dictsort_measure, listed_measure, pairs_of_measure, reversed_measure};
+use crate::operand::Operand;
+use crate::replacing::replace_measure;
+use crate::scalars::{abs, best_item, first, int, last, length, or_default, sum};
+use crate::sorting::sort_measure;
+use crate::texts::{escape_measure, force_escape_measure, printed_measure, trim_measure};
+use crate::unique::unique_measure;
+use jt_value::{Fault, Value};
+
+/// The measure of what a filter gives, or its fault.
+pub(crate) fn measure(
+    filter: FilterId,
+    operand: Operand<'_>,
+    arguments: &[Value],
+    autoescape: bool,
+) -> Result<(u64, u32), Fault>
+    requires least { nat_le (least_values filter) (length arguments.now + 1) ≡ true }
+    requires most { nat_le (length arguments.now + 1) (most_values filter) ≡ true }
+    ensures { result ≡ measured (filtered filter autoescape (tree_of operand.entry ∷ map view arguments.now)) }
+{
+    match arguments {
+        [] => measure_one(filter, operand, autoescape),
+        [argument] => measure_two(filter, operand, argument, autoescape),
+        [first, second] => measure_three(filter, operand, first, second, autoescape),
+        _ => unreachable!(),
+    }
+}
+
+/// The measure of a value that is there, or of a number.
+fn scalar_measure(given: Result<Operand<'_>, Fault>) -> Result<(u64, u32), Fault>
+    ensures { result ≡ measured (operands.chosen given.entry) }
+{
+    let operand = given?;
+    Ok((operand.size(), operand.nesting()))
+}
+
+/// The same of a filter of its input alone.
+fn measure_one(
+    filter: FilterId,
+    operand: Operand<'_>,
+    autoescape: bool,
+) -> Result<(u64, u32), Fault>
+    requires { nat_le (least_values filter) 1 ≡ true }
+    ensures { result ≡ measured (filtered filter autoescape (tree_of operand.entry ∷ [])) }
+{
+    match filter {
+        FilterId::Abs => scalar_measure(abs(operand)),
+        FilterId::Capitalize => printed_measure(operand),
+        FilterId::Default => scalar_measure(Ok(or_default(operand, Operand::Text(""), false))),
+        FilterId::DictSort => dictsort_measure(operand),
+        FilterId::Escape => escape_measure(operand),
+        FilterId::First => scalar_measure(first(operand)),
+        FilterId::ForceEscape => force_escape_measure(operand),
+        FilterId::Int => scalar_measure(int(operand, Operand::Number(0))),
+        FilterId::Items => pairs_of_measure(operand),
+        FilterId::Join => join_measure(operand, Operand::Text(""), autoescape),
+        FilterId::Last => scalar_measure(last(operand)),
+        FilterId::Length => scalar_measure(length(operand)),
+        FilterId::List => listed_measure(operand),
+        FilterId::Lower => printed_measure(operand),
+        FilterId::Max => scalar_measure(best_item(operand, true)),
+        FilterId::Min => scalar_measure(best_item(operand, false)),
+        FilterId::Reverse => reversed_measure(operand),
+        FilterId::Safe => printed_measure(operand),
+        FilterId::Sort => sort_measure(operand, false),
+        FilterId::String => printed_measure(operand),
+        FilterId::Sum => scalar_measure(sum(operand)),
+        FilterId::Trim => trim_measure(operand),
+        FilterId::Unique => unique_measure(operand),
+        FilterId::Upper => printed_measure(operand),
+        FilterId::Replace => unreachable!(),
+    }
+}
+
+/// The same of a filter of its input and one argument.
+fn measure_two(
+    filter: FilterId,
+    operand: Operand<'_>,
+    argument: &Value,
+    autoescape: bool,
+) -> Result<(u64, u32), Fault>
+    requires least { nat_le (least_values filter) 2 ≡ true }
+    requires most { nat_le 2 (most_values filter) ≡ true }
+    ensures { result ≡ measured (filtered filter autoescape (tree_of operand.entry ∷ view argument.now ∷ [])) }
+{
+    match filter {
+        FilterId::Default => scalar_measure(Ok(or_default(
+            operand,
+            Operand::Value(argument),
+            false,
+        ))),
+        FilterId::Int => scalar_measure(int(operand, Operand::Value(argument))),
+        FilterId::Join => join_measure(operand, Operand::Value(argument), autoescape),
+        FilterId::Sort => sort_measure(operand, argument.truth()),
+        _ => unreachable!(),
+    }
+}
+
+/// The same of a filter of its input and two arguments.
+fn measure_three(
+    filter: FilterId,
+    operand: Operand<'_>,
+    first: &Value,
+    second: &Value,
+    autoescape: bool,
+) -> Result<(u64, u32), Fault>
+    requires { nat_le 3 (most_values filter) ≡ true }
+    ensures { result ≡ measured (filtered filter autoescape (tree_of operand.entry ∷ view first.now ∷ view second.now ∷ [])) }
+{
+    match filter {
+        FilterId::Default => scalar_measure(Ok(or_default(
+            operand,
+            Operand::Value(first),
+            second.truth(),
+        ))),
+        FilterId::Replace => replace_measure(operand, first, second),
+        _ => unreachable!(),
+    }
+}

@@ -1,0 +1,178 @@
+//! What a filter works on: a value, or a number or a text that is no value yet.
+ghost use Rattle.std.specs.Prelude.{◌≡◌, ◌-◌, ◌^◌, min, option_map, IfOk, IfErr, Some, None};
+ghost use Rattle.jt_value.specs.Payload.{text_of, items_of_list, entries_of_map};
+ghost use Rattle.jt_value.specs.Tree.{truth, printed, size, nesting};
+ghost use Rattle.jt_value.specs.View.{view, items_view, entries_view};
+ghost use Rattle.jt_ops.specs.Operands as operands;
+ghost use Rattle.jt_ops.specs.Testing as testing;
+ghost use Rattle.jt_filters.specs.Kinds.{is_plain};
+ghost use Rattle.jt_filters.specs.Operands.{tree_of, number_of, plain_of, Copies};
+
+use itoa::Buffer;
+use jt_value::{Fault, NoMemory, Value};
+use std::alloc::Global;
+
+/// A value that is lent, or undefined, a number or a plain text, as a character or a key, that would be one.
+#[derive(Clone, Copy)]
+pub(crate) enum Operand<'a> {
+    Undefined,
+    Number(i64),
+    Text(&'a str),
+    Value(&'a Value),
+}
+
+impl<'a> Operand<'a> {
+    /// The characters of a text, markup or not.
+    pub(crate) fn as_text(self) -> Option<&'a str>
+        ensures { option_map (λ s. s.now) result ≡ text_of (tree_of self.entry) }
+    {
+        match self {
+            Operand::Text(text) => Some(text),
+            Operand::Value(value) => value.as_text(),
+            _ => None,
+        }
+    }
+
+    /// The items of a list.
+    pub(crate) fn as_list(self) -> Option<&'a [Value]>
+        ensures { option_map (λ s. items_view s.now) result ≡ items_of_list (tree_of self.entry) }
+    {
+        match self {
+            Operand::Value(value) => value.as_list(),
+            _ => None,
+        }
+    }
+
+    /// The entries of a map.
+    pub(crate) fn as_map(self) -> Option<&'a [(String, Value)]>
+        ensures { option_map (λ s. entries_view s.now) result ≡ entries_of_map (tree_of self.entry) }
+    {
+        match self {
+            Operand::Value(value) => value.as_map(),
+            _ => None,
+        }
+    }
+
+    /// Whether this is undefined.
+    pub(crate) fn is_undefined(self) -> bool
+        ensures { result ≡ testing.is_undefined (tree_of self.entry) }
+    {
+        match self {
+            Operand::Undefined => true,
+            Operand::Value(value) => matches!(value, Value::Undefined),
+            _ => false,
+        }
+    }
+
+    /// Whether this is markup.
+    pub(crate) fn is_markup(self) -> bool
+        ensures { result ≡ testing.is_markup (tree_of self.entry) }
+    {
+        match self {
+            Operand::Value(value) => matches!(value, Value::Markup(_)),
+            _ => false,
+        }
+    }
+
+    /// The number that this is.
+    pub(crate) fn as_number(self) -> Option<i64>
+        ensures { result ≡ number_of (tree_of self.entry) }
+    {
+        match self {
+            Operand::Number(number) => Some(number),
+            Operand::Value(Value::Int(number)) => Some(*number),
+            _ => None,
+        }
+    }
+
+    /// The characters of a plain text.
+    pub(crate) fn as_plain(self) -> Option<&'a str>
+        ensures { option_map (λ s. s.now) result ≡ plain_of (tree_of self.entry) }
+    {
+        match self {
+            Operand::Text(text) => Some(text),
+            Operand::Value(Value::Text(text)) => Some(text.as_str()),
+            _ => None,
+        }
+    }
+
+    /// Whether this is a plain text.
+    pub(crate) fn is_plain(self) -> bool
+        ensures { result ≡ is_plain (tree_of self.entry) }
+    {
+        match self {
+            Operand::Text(_) => true,
+            Operand::Value(value) => matches!(value, Value::Text(_)),
+            _ => false,
+        }
+    }
+
+    /// Whether this counts as true.
+    pub(crate) fn truth(self) -> bool
+        ensures { result ≡ truth (tree_of self.entry) }
+    {
+        match self {
+            Operand::Undefined => false,
+            Operand::Number(number) => number != 0,
+            Operand::Text(text) => !text.is_empty(),
+            Operand::Value(value) => value.truth(),
+        }
+    }
+
+    /// The printed text, lent: a number's by the buffer.
+    pub(crate) fn shown(self, buffer: &'a mut Buffer) -> Result<&'a str, Fault>
+        ensures ok { IfOk result (λ s. printed (tree_of self.entry) ≡ Some s.now) }
+        ensures fault { IfErr result (λ f. (f ≡ Fault.Unprintable) × (printed (tree_of self.entry) ≡ None)) }
+    {
+        match self {
+            Operand::Undefined => Ok(""),
+            Operand::Number(number) => Ok(buffer.format(number)),
+            Operand::Text(text) => Ok(text),
+            Operand::Value(value) => value.shown(buffer),
+        }
+    }
+
+    /// The fault of an operand that doesn't fit.
+    pub(crate) fn misfit(self) -> Fault
+        ensures { result ≡ operands.misfit_of_one (tree_of self.entry) }
+    {
+        if self.is_undefined() {
+            Fault::Undefined
+        } else {
+            Fault::BadType
+        }
+    }
+
+    /// The size, or the greatest number where it is greater.
+    pub(crate) fn size(self) -> u64
+        ensures { result ≡ min (size (tree_of self.entry)) (2 ^ 64 - 1) }
+    {
+        match self {
+            Operand::Undefined | Operand::Number(_) => 1,
+            Operand::Text(text) => (text.len() as u64).saturating_add(1),
+            Operand::Value(value) => value.size(),
+        }
+    }
+
+    /// The nesting, or the greatest number where it is greater.
+    pub(crate) fn nesting(self) -> u32
+        ensures { result ≡ min (nesting (tree_of self.entry)) (2 ^ 32 - 1) }
+    {
+        match self {
+            Operand::Value(value) => value.nesting(),
+            _ => 0,
+        }
+    }
+
+    /// The value itself: a copy, or one that is made of the text.
+    pub(crate) fn value(self, alloc: Global) -> Result<Value, NoMemory>
+        ensures { Copies (tree_of self.entry) result }
+    {
+        match self {
+            Operand::Undefined => Ok(Value::Undefined),
+            Operand::Number(number) => Ok(Value::Int(number)),
+            Operand::Text(text) => Value::text(alloc, text),
+            Operand::Value(value) => value.try_clone(alloc),
+        }
+    }
+}

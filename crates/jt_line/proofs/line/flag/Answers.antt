@@ -1,0 +1,13 @@
+use Rattle.std.proofs.Common.{Option, subst}
+use Rattle.clap.specs.Words.{Text, found_of, one_text}
+use Rattle.clap.proofs.WalkLemmas.{one_text-rows}
+use Rattle.jt_line.specs.Line.{IsFlag}
+use Rattle.jt_line.proofs.Found.{flagged}
+use Rattle.jt_line.proofs.line.flag.Goals as goal
+
+pub returns : goal.returns
+returns c =
+    let found = found_of c.args.found.now in
+    let name = c.args.name.now in
+    subst (λ (text : Option Text). IsFlag text c.get_flag.result) (one_text-rows found name)
+    (flagged (one_text found name) c.get_flag.result c.get_flag.ensures.none c.get_flag.ensures.value c.get_flag.ensures.other)

@@ -1,0 +1,182 @@
+-- What a line asks for. How a line is read is clap's written rule: `fault_of` lists what is wrong
+-- with it, and `subcommand_of` gives its command with the rows of what was found.
+use Rattle.std.specs.Prelude.{◌≡◌, ◌<◌, ◌^◌, ◌⊎◌, ℕ, Bool, true, false, not, List, [], Option, Some, None, codes, pos, unwrap_or, option_map, String}
+use Rattle.std.specs.declared.alloc.Global.{Global}
+use Rattle.std.specs.String.{string_bytes}
+use Rattle.std.specs.Str.Parse.{IsNumeral, digits_value, without_leading_plus}
+use Rattle.clap.specs.Words.{App, app_of, Row, Rule, Text, first_of, new_app, new_rule, one_of, with_rule, with_subcommand, fault_of, subcommand_of}
+use Rattle.clap.specs.declared.builder.Command.{Command as Built}
+use Rattle.clap.specs.declared.builder.Command.TheViews.{out-Command as fields_of}
+use Rattle.clap.specs.declared.builder.ArgAction.TheVariants.{SetTrue}
+use Rattle.clap.specs.declared.builder.ValueParser.{ValueParser}
+use Rattle.clap.specs.declared.builder.ValueParser.TheVariants as parser
+use Rattle.jt_line.specs.declared.jobs.Options.{Options}
+use Rattle.jt_budget.specs.declared.Budget.{Budget}
+use Rattle.jt_line.specs.declared.jobs.Command.{Command}
+use Rattle.jt_line.specs.declared.jobs.Command.TheVariants as command
+use Rattle.jt_line.specs.declared.jobs.Job.{Job}
+use Rattle.jt_line.specs.declared.jobs.JobError.{JobError}
+use Rattle.jt_line.specs.declared.jobs.JobError.TheVariants as job_error
+
+-- ---- the grammar of a line
+
+-- an option with one value, which passes the parser
+abbrev pub option_rule : Text → ValueParser → Rule
+option_rule name p = record (new_rule name) { long = Some name; parser = Some p }
+
+-- an option without a value
+abbrev pub flag_rule : Text → Rule
+flag_rule name = record (new_rule name) { long = Some name; action = Some SetTrue }
+
+-- a word that has to be there
+abbrev pub word_rule : Text → Rule
+word_rule name = record (new_rule name) { required = true }
+
+-- a command with one more argument, for itself alone
+abbrev pub Adds : Built → Rule → Built → Type 0
+Adds old rule new = (app_of new ≡ with_rule (app_of old) rule)
+    × ((fields_of new).has_globals ≡ (fields_of old).has_globals)
+
+-- a command with the options of a budget, each a whole number in the range of its type
+abbrev pub with_budget : App → App
+with_budget a =
+    with_rule (with_rule (with_rule (with_rule (with_rule a
+    (option_rule (codes "fuel") (parser.Unsigned 0 18446744073709551615)))
+    (option_rule (codes "depth") (parser.Signed (pos 0) (pos 4294967295))))
+    (option_rule (codes "output") (parser.Unsigned 0 18446744073709551615)))
+    (option_rule (codes "size") (parser.Signed (pos 0) (pos 4294967295))))
+    (option_rule (codes "nesting") (parser.Signed (pos 0) (pos 255)))
+
+-- a command with the flags that say how templates are read
+abbrev pub with_flags : App → App
+with_flags a = with_rule (with_rule (with_rule (with_rule a
+    (flag_rule (codes "trim-blocks"))) (flag_rule (codes "lstrip-blocks")))
+    (flag_rule (codes "keep-trailing-newline"))) (flag_rule (codes "no-autoescape"))
+
+-- the word for a context, which may be left out
+abbrev pub context_rule : Rule
+context_rule = new_rule (codes "CONTEXT")
+
+-- `compile DIR NAME OUT`
+abbrev pub compile_app : App
+compile_app = with_flags (with_rule (with_rule (with_rule (new_app (codes "compile"))
+    (word_rule (codes "DIR"))) (word_rule (codes "NAME"))) (word_rule (codes "OUT")))
+
+-- `check IMAGE`
+abbrev pub check_app : App
+check_app = with_rule (new_app (codes "check")) (word_rule (codes "IMAGE"))
+
+-- `run IMAGE [CONTEXT]`
+abbrev pub run_app : App
+run_app =
+    with_budget (with_rule (with_rule (new_app (codes "run")) (word_rule (codes "IMAGE"))) context_rule)
+
+-- `render DIR NAME [CONTEXT]`
+abbrev pub render_app : App
+render_app = with_budget (with_flags (with_rule (with_rule (with_rule (new_app (codes "render"))
+    (word_rule (codes "DIR"))) (word_rule (codes "NAME"))) context_rule))
+
+-- the program: a command, and then the words and options of that command
+abbrev pub program_app : App
+program_app = let a = new_app (codes "jt") in
+    with_subcommand (with_subcommand (with_subcommand (with_subcommand (record a {
+      top = record a.top {
+        no_binary_name = true;
+        disable_help_subcommand = true;
+        subcommand_required = true;
+      };
+    }) compile_app.top) check_app.top) run_app.top) render_app.top
+
+-- the program takes the line
+abbrev pub Takes : List Text → Type 0
+Takes words = fault_of program_app words ≡ []
+
+-- ---- what a line that it takes asks for
+
+-- decimal digits, after a plus or not, of a number below 2 ^ bits
+abbrev pub IsNumber : ℕ → Text → Type 0
+IsNumber bits text = IsNumeral 10 (without_leading_plus text)
+    × (digits_value 10 (without_leading_plus text) < 2 ^ bits)
+
+-- the number of an option: what its text writes, or the default where it has none
+abbrev pub IsGiven : ℕ → ℕ → Option Text → ℕ → Type 0
+IsGiven bits default None n = n ≡ default
+IsGiven bits default (Some text) n =
+    (IsNumber bits text × (n ≡ digits_value 10 (without_leading_plus text)))
+    ⊎ ((IsNumber bits text → ⊥) × (n ≡ default))
+
+abbrev pub IsBudget : List Row → Budget → Type 0
+IsBudget rows b = IsGiven 64 1000000 (one_of (codes "fuel") rows) b.fuel
+    × IsGiven 32 64 (one_of (codes "depth") rows) b.depth
+    × IsGiven 64 1048576 (one_of (codes "output") rows) b.output
+    × IsGiven 32 1048576 (one_of (codes "size") rows) b.size
+    × IsGiven 8 32 (one_of (codes "nesting") rows) b.nesting
+
+-- a flag, by the text of its row: `true` where it is given, and `false` or none where it isn't
+abbrev pub IsFlag : Option Text → Bool → Type 0
+IsFlag None b = b ≡ false
+IsFlag (Some text) b = (text ≡ codes "true" → b ≡ true) × (text ≡ codes "false" → b ≡ false)
+
+-- how templates are read: by the flags, where what is printed is escaped unless the flag says no
+abbrev pub IsOptions : List Row → Options → Type 0
+IsOptions rows o = IsFlag (one_of (codes "trim-blocks") rows) o.trim_blocks
+    × IsFlag (one_of (codes "lstrip-blocks") rows) o.lstrip_blocks
+    × IsFlag (one_of (codes "keep-trailing-newline") rows) o.keep_trailing_newline
+    × IsFlag (one_of (codes "no-autoescape") rows) (not o.autoescape)
+
+abbrev pub usual_options : Options
+usual_options = record {
+  trim_blocks = false;
+  lstrip_blocks = false;
+  keep_trailing_newline = false;
+  autoescape = true;
+}
+
+abbrev pub usual_budget : Budget
+usual_budget =
+    record { fuel = 1000000; depth = 64; output = 1048576; size = 1048576; nesting = 32 }
+
+-- the text of a word
+abbrev pub word_of : Text → List Row → Text
+word_of name rows = unwrap_or (first_of name rows) []
+
+-- the file of a context is the word for it, and there is none where there is no such word
+abbrev pub IsContext : List Row → Option (String Global) → Type 0
+IsContext rows file = option_map string_bytes file ≡ first_of (codes "CONTEXT") rows
+
+-- the command of this name, with its words; what it doesn't take is as usual
+abbrev pub IsCommand : Text → List Row → Command → Options → Budget → Type 0
+IsCommand name rows (command.Compile dir template out) o b = (name ≡ codes "compile")
+    × (string_bytes dir ≡ word_of (codes "DIR") rows)
+    × (string_bytes template ≡ word_of (codes "NAME") rows)
+    × (string_bytes out ≡ word_of (codes "OUT") rows)
+    × IsOptions rows o × (b ≡ usual_budget)
+IsCommand name rows (command.Check image) o b = (name ≡ codes "check")
+    × (string_bytes image ≡ word_of (codes "IMAGE") rows)
+    × (o ≡ usual_options) × (b ≡ usual_budget)
+IsCommand name rows (command.Run image context) o b = (name ≡ codes "run")
+    × (string_bytes image ≡ word_of (codes "IMAGE") rows) × IsContext rows context
+    × (o ≡ usual_options) × IsBudget rows b
+IsCommand name rows (command.Render dir template context) o b = (name ≡ codes "render")
+    × (string_bytes dir ≡ word_of (codes "DIR") rows)
+    × (string_bytes template ≡ word_of (codes "NAME") rows) × IsContext rows context
+    × IsOptions rows o × IsBudget rows b
+
+-- the job that the command of a line asks for, by its name and what was found
+abbrev pub IsAsked : Option (Text × List Row) → Job → Type 0
+IsAsked None j = ⊥
+IsAsked (Some c) j = IsCommand c.0 c.1 j.command j.options j.budget
+
+-- the name of a command
+abbrev pub IsKnown : Option Text → Type 0
+IsKnown name = (name ≡ Some (codes "compile")) ⊎ ((name ≡ Some (codes "check"))
+    ⊎ ((name ≡ Some (codes "run")) ⊎ (name ≡ Some (codes "render"))))
+
+-- the line names this command
+abbrev pub Asks : Text → List Text → Type 0
+Asks name words = option_map (λ c. c.0) (subcommand_of program_app words) ≡ Some name
+
+-- P, where the error is not for want of memory
+abbrev pub IfUsage : Type 0 → JobError → Type 0
+IfUsage P (job_error.Usage text) = P
+IfUsage P job_error.NoMemory = Unit {0}

@@ -1,0 +1,8 @@
+//! What a command line of `jt` asks for.
+#![tactic(auto)]
+
+mod jobs;
+mod line;
+
+pub use jobs::{Command, DEFAULT, Job, JobError, Options, USUAL};
+pub use line::job;

@@ -1,0 +1,329 @@
+//! The command line.
+
+ghost use Rattle.std.specs.Prelude.{◌≡◌, ◌≢◌, false, codes, option_map, string_bytes, IfOk, IfErr, OnOk};
+ghost use Rattle.clap.specs.Words.{app_of, rule_of, first_of, found_of, rows_of, one_of, kind_of};
+ghost use Rattle.clap.specs.Words.{subcommand_of, subcommand_rows_of};
+ghost use Rattle.clap.specs.Walk.{texts};
+ghost use Rattle.clap.specs.declared.builder.Command.TheViews.{out-Command as fields_of};
+ghost use Rattle.jt_line.specs.Line.{Takes, IsAsked, IsKnown, IsBudget, IsOptions, IsGiven, IsFlag, IfUsage, Adds};
+ghost use Rattle.jt_line.specs.Line.{program_app, compile_app, check_app, run_app, render_app, with_budget, with_flags, word_of};
+ghost use Rattle.jt_line.specs.Line.{context_rule, option_rule, word_rule, flag_rule};
+
+use crate::jobs;
+use crate::jobs::{DEFAULT, Job, JobError, Options, USUAL};
+use clap::builder::ValueParser;
+use clap::error::ErrorKind;
+use clap::{Arg, ArgAction, ArgMatches, Command, value_parser};
+use jt_budget::Budget;
+use std::alloc::{AllocError, Global};
+
+/// Reads `words`, the line without the program's name: a command, and then its words and options.
+///
+/// A line that the program does not take is `Usage`, with the text for standard error; so is one
+/// that asks for help.
+pub fn job(alloc: Global, words: &[&str]) -> Result<Job, JobError>
+    ensures taken { OnOk result (Takes (texts words.now)) }
+    ensures asked { IfOk result (IsAsked (subcommand_of program_app (texts words.now))) }
+    ensures usage { IfErr result (IfUsage (¬ Takes (texts words.now))) }
+{
+    let Ok(program) = program(alloc) else {
+        return Err(JobError::NoMemory);
+    };
+    match program.try_get_matches_from(words) {
+        Ok(matches) => asked(alloc, &matches),
+        Err(mistake) => Err(refused(alloc, &mistake)),
+    }
+}
+
+/// The line's grammar.
+fn program<'a>(alloc: Global) -> Result<Command<'a>, AllocError>
+    ensures { IfOk result (λ c. app_of c ≡ program_app) }
+{
+    let compile = compile_command(alloc)?;
+    let check = check_command(alloc)?;
+    let run = run_command(alloc)?;
+    let render = render_command(alloc)?;
+    Command::new(alloc, "jt")
+        .about("A compiler and sandbox for the Jinja template language")
+        .no_binary_name(true)
+        .disable_help_subcommand(true)
+        .subcommand_required(true)
+        .subcommand(compile)?
+        .subcommand(check)?
+        .subcommand(run)?
+        .subcommand(render)
+}
+
+fn compile_command<'a>(alloc: Global) -> Result<Command<'a>, AllocError>
+    ensures { IfOk result (λ c. (app_of c ≡ compile_app) × ((fields_of c).has_globals ≡ false)) }
+{
+    let compile = Command::new(alloc, "compile").about("Compiles a template into an image");
+    let with_dir = add_word(alloc, compile, "DIR", "The directory of the templates")?;
+    let with_name = add_word(alloc, with_dir, "NAME", "The template's name")?;
+    let with_out = add_word(alloc, with_name, "OUT", "The file for the image")?;
+    add_flags(alloc, with_out)
+}
+
+fn check_command<'a>(alloc: Global) -> Result<Command<'a>, AllocError>
+    ensures { IfOk result (λ c. (app_of c ≡ check_app) × ((fields_of c).has_globals ≡ false)) }
+{
+    let check = Command::new(alloc, "check").about("Verifies an image");
+    add_word(alloc, check, "IMAGE", "The image's file")
+}
+
+fn run_command<'a>(alloc: Global) -> Result<Command<'a>, AllocError>
+    ensures { IfOk result (λ c. (app_of c ≡ run_app) × ((fields_of c).has_globals ≡ false)) }
+{
+    let run = Command::new(alloc, "run").about("Runs an image and prints its text");
+    let with_image = add_word(alloc, run, "IMAGE", "The image's file")?;
+    let with_context = add_context(alloc, with_image)?;
+    add_budget(alloc, with_context)
+}
+
+fn render_command<'a>(alloc: Global) -> Result<Command<'a>, AllocError>
+    ensures { IfOk result (λ c. (app_of c ≡ render_app) × ((fields_of c).has_globals ≡ false)) }
+{
+    let render = Command::new(alloc, "render").about("Compiles a template and prints its text");
+    let with_dir = add_word(alloc, render, "DIR", "The directory of the templates")?;
+    let with_name = add_word(alloc, with_dir, "NAME", "The template's name")?;
+    let with_context = add_context(alloc, with_name)?;
+    let with_options = add_flags(alloc, with_context)?;
+    add_budget(alloc, with_options)
+}
+
+/// Adds how templates are read.
+fn add_flags<'a>(alloc: Global, command: Command<'a>) -> Result<Command<'a>, AllocError>
+    ensures { IfOk result (λ c. (app_of c ≡ with_flags (app_of command.entry))
+        × ((fields_of c).has_globals ≡ (fields_of command.entry).has_globals)) }
+{
+    let trim = "Drops a newline directly behind a block tag";
+    let with_trim = add_flag(alloc, command, "trim-blocks", trim)?;
+    let strip = "Drops the spaces of a line before a block tag";
+    let with_strip = add_flag(alloc, with_trim, "lstrip-blocks", strip)?;
+    let newline = "Keeps the last newline of each template";
+    let with_newline = add_flag(alloc, with_strip, "keep-trailing-newline", newline)?;
+    let plain = "Escapes nothing unless a template says so";
+    add_flag(alloc, with_newline, "no-autoescape", plain)
+}
+
+/// Adds the options of a budget.
+fn add_budget<'a>(alloc: Global, command: Command<'a>) -> Result<Command<'a>, AllocError>
+    ensures { IfOk result (λ c. (app_of c ≡ with_budget (app_of command.entry))
+        × ((fields_of c).has_globals ≡ (fields_of command.entry).has_globals)) }
+{
+    let fuel = "What the instructions may cost [default: 1000000]";
+    let with_fuel = add_option(alloc, command, "fuel", value_parser!(u64), fuel)?;
+    let depth = "How many calls may be open [default: 64]";
+    let with_depth = add_option(alloc, with_fuel, "depth", value_parser!(u32), depth)?;
+    let output = "How many bytes may be put out [default: 1048576]";
+    let with_output = add_option(alloc, with_depth, "output", value_parser!(u64), output)?;
+    let size = "How large a value may be [default: 1048576]";
+    let with_size = add_option(alloc, with_output, "size", value_parser!(u32), size)?;
+    let nesting = "How deep a value may nest [default: 32]";
+    add_option(alloc, with_size, "nesting", value_parser!(u8), nesting)
+}
+
+/// Adds a word that has to be there.
+fn add_word<'a>(
+    alloc: Global,
+    command: Command<'a>,
+    name: &'a str,
+    help: &'a str,
+) -> Result<Command<'a>, AllocError>
+    ensures { IfOk result (Adds command.entry (word_rule name.entry.now)) }
+{
+    command.arg(Arg::new(alloc, name).required(true).help(help))
+}
+
+/// Adds the word for a context, which may be left out.
+fn add_context<'a>(alloc: Global, command: Command<'a>) -> Result<Command<'a>, AllocError>
+    ensures { IfOk result (Adds command.entry context_rule) }
+{
+    command.arg(Arg::new(alloc, "CONTEXT").help("A file of JSON: the values of names"))
+}
+
+/// Adds an option with one value.
+fn add_option<'a>(
+    alloc: Global,
+    command: Command<'a>,
+    name: &'a str,
+    parser: ValueParser<'a>,
+    help: &'a str,
+) -> Result<Command<'a>, AllocError>
+    ensures { IfOk result (Adds command.entry (option_rule name.entry.now parser.entry)) }
+{
+    command.arg(
+        Arg::new(alloc, name)
+            .long(name)
+            .value_parser(parser)
+            .help(help),
+    )
+}
+
+/// Adds an option without a value.
+fn add_flag<'a>(
+    alloc: Global,
+    command: Command<'a>,
+    name: &'a str,
+    help: &'a str,
+) -> Result<Command<'a>, AllocError>
+    ensures { IfOk result (Adds command.entry (flag_rule name.entry.now)) }
+{
+    command.arg(
+        Arg::new(alloc, name)
+            .long(name)
+            .action(ArgAction::SetTrue)
+            .help(help),
+    )
+}
+
+/// The job of a line that was taken.
+fn asked(alloc: Global, matches: &ArgMatches<'_>) -> Result<Job, JobError>
+    requires { IsKnown (option_map (λ p. p.0) (subcommand_rows_of matches.now)) }
+    ensures ok { IfOk result (IsAsked (subcommand_rows_of matches.now)) }
+    ensures err { IfErr result (λ e. e ≡ JobError.NoMemory) }
+{
+    match matches.subcommand() {
+        Some(("compile", found)) => compile_job(alloc, found),
+        Some(("check", found)) => check_job(alloc, found),
+        Some(("run", found)) => run_job(alloc, found),
+        Some(("render", found)) => render_job(alloc, found),
+        _ => unreachable!(),
+    }
+}
+
+fn compile_job(alloc: Global, found: &ArgMatches<'_>) -> Result<Job, JobError>
+    ensures ok { IfOk result (IsAsked (Some (codes "compile", rows_of (found_of found.now)))) }
+    ensures err { IfErr result (λ e. e ≡ JobError.NoMemory) }
+{
+    let dir = String::from_str(alloc, word(found, "DIR"))?;
+    let name = String::from_str(alloc, word(found, "NAME"))?;
+    let out = String::from_str(alloc, word(found, "OUT"))?;
+    Ok(Job {
+        command: jobs::Command::Compile { dir, name, out },
+        options: options(found),
+        budget: DEFAULT,
+    })
+}
+
+fn check_job(alloc: Global, found: &ArgMatches<'_>) -> Result<Job, JobError>
+    ensures ok { IfOk result (IsAsked (Some (codes "check", rows_of (found_of found.now)))) }
+    ensures err { IfErr result (λ e. e ≡ JobError.NoMemory) }
+{
+    let image = String::from_str(alloc, word(found, "IMAGE"))?;
+    Ok(Job {
+        command: jobs::Command::Check { image },
+        options: USUAL,
+        budget: DEFAULT,
+    })
+}
+
+fn run_job(alloc: Global, found: &ArgMatches<'_>) -> Result<Job, JobError>
+    ensures ok { IfOk result (IsAsked (Some (codes "run", rows_of (found_of found.now)))) }
+    ensures err { IfErr result (λ e. e ≡ JobError.NoMemory) }
+{
+    let image = String::from_str(alloc, word(found, "IMAGE"))?;
+    let context = context(alloc, found)?;
+    Ok(Job {
+        command: jobs::Command::Run { image, context },
+        options: USUAL,
+        budget: budget(found),
+    })
+}
+
+fn render_job(alloc: Global, found: &ArgMatches<'_>) -> Result<Job, JobError>
+    ensures ok { IfOk result (IsAsked (Some (codes "render", rows_of (found_of found.now)))) }
+    ensures err { IfErr result (λ e. e ≡ JobError.NoMemory) }
+{
+    let dir = String::from_str(alloc, word(found, "DIR"))?;
+    let name = String::from_str(alloc, word(found, "NAME"))?;
+    let context = context(alloc, found)?;
+    Ok(Job {
+        command: jobs::Command::Render { dir, name, context },
+        options: options(found),
+        budget: budget(found),
+    })
+}
+
+/// The text of a word.
+fn word<'a>(found: &ArgMatches<'a>, name: &str) -> &'a str
+    ensures { result.now ≡ word_of name.now (rows_of (found_of found.now)) }
+{
+    found.get_str(name).unwrap_or("")
+}
+
+/// The file of the context, where one is given.
+fn context(alloc: Global, found: &ArgMatches<'_>) -> Result<Option<String>, AllocError>
+    ensures { IfOk result (λ file. option_map string_bytes file ≡ first_of (codes "CONTEXT") (rows_of (found_of found.now))) }
+{
+    match found.get_str("CONTEXT") {
+        Some(file) => Ok(Some(String::from_str(alloc, file)?)),
+        None => Ok(None),
+    }
+}
+
+/// How templates are read: as usual but for the flags that were given.
+fn options(found: &ArgMatches<'_>) -> Options
+    ensures { IsOptions (rows_of (found_of found.now)) result }
+{
+    Options {
+        trim_blocks: flag(found, "trim-blocks"),
+        lstrip_blocks: flag(found, "lstrip-blocks"),
+        keep_trailing_newline: flag(found, "keep-trailing-newline"),
+        autoescape: !flag(found, "no-autoescape"),
+    }
+}
+
+/// Whether a flag was given.
+fn flag(found: &ArgMatches<'_>, name: &str) -> bool
+    ensures { IsFlag (one_of name.now (rows_of (found_of found.now))) result }
+{
+    found.get_flag(name)
+}
+
+/// The numbers that were given, and the defaults of the others.
+fn budget(found: &ArgMatches<'_>) -> Budget
+    ensures { IsBudget (rows_of (found_of found.now)) result }
+{
+    Budget {
+        fuel: long_number(found, "fuel", DEFAULT.fuel),
+        depth: number(found, "depth", DEFAULT.depth),
+        output: long_number(found, "output", DEFAULT.output),
+        size: number(found, "size", DEFAULT.size),
+        nesting: short_number(found, "nesting", DEFAULT.nesting),
+    }
+}
+
+/// A number of 64 bits.
+fn long_number(found: &ArgMatches<'_>, name: &str, default: u64) -> u64
+    ensures { IsGiven 64 default (one_of name.now (rows_of (found_of found.now))) result }
+{
+    found.get_one(name).unwrap_or(default)
+}
+
+/// A number of 32 bits.
+fn number(found: &ArgMatches<'_>, name: &str, default: u32) -> u32
+    ensures { IsGiven 32 default (one_of name.now (rows_of (found_of found.now))) result }
+{
+    found.get_one(name).unwrap_or(default)
+}
+
+/// A number of 8 bits.
+fn short_number(found: &ArgMatches<'_>, name: &str, default: u8) -> u8
+    ensures { IsGiven 8 default (one_of name.now (rows_of (found_of found.now))) result }
+{
+    found.get_one(name).unwrap_or(default)
+}
+
+/// What a line that was not taken comes to.
+fn refused(alloc: Global, mistake: &clap::Error) -> JobError
+    ensures { IfUsage (kind_of mistake.now ≢ ErrorKind.OutOfMemory) result }
+{
+    if mistake.kind() == ErrorKind::OutOfMemory {
+        return JobError::NoMemory;
+    }
+    match mistake.to_string(alloc) {
+        Ok(text) => JobError::Usage(text),
+        Err(_) => JobError::NoMemory,
+    }
+}

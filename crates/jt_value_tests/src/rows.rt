@@ -1,0 +1,23 @@
+//! Rows as the lines of a text: the prover reads one text, so a row costs it nothing.
+
+use std::alloc::Global;
+use std::process::Abort;
+use std::test::Fail;
+
+/// Checks rows `asked => wanted`, one a line, against what `answer` gives of each.
+pub fn rows_hold<F: Fn(Global, &str) -> Result<String, Fail>>(
+    rt: &(impl Abort + AllocGlobal),
+    answer: F,
+    rows: &str,
+) -> Result<(), Fail>
+    requires { F.IsAlwaysCallable answer }
+{
+    for row in rows.lines() {
+        let Some((asked, wanted)) = row.trim().split_once(" => ") else {
+            return Err(Fail::from("a row has no =>"));
+        };
+        let found = answer(rt.alloc(), asked)?;
+        assert_eq!(rt; found.as_str(), wanted, "{row}");
+    }
+    Ok(())
+}
