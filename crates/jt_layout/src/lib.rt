@@ -1,0 +1,13 @@
+//! How the names, macros and bodies of chains are laid out: names in slots of globals, macros and bodies as units.
+#![tactic(auto)]
+
+mod index;
+mod laid;
+mod laying;
+mod scope;
+
+pub use index::Index;
+pub use jt_rules::ScopeError;
+pub use laid::Laid;
+pub use laying::lay_out;
+pub use scope::Scope;

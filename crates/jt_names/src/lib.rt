@@ -1,0 +1,17 @@
+//! Names of expressions to slots, and their literals and keys to places of a pool.
+#![tactic(auto)]
+
+mod calls;
+mod expressions;
+mod forms;
+mod frame;
+mod pool;
+mod reading;
+mod spot;
+
+pub use expressions::{resolve_asides, resolve_expression, resolve_row};
+pub use frame::Frame;
+pub use jt_rules::ScopeError;
+pub use pool::{add_text, add_value};
+pub use reading::{global_slot, kept, more, no_value, reading, slot, value_or};
+pub use spot::Spot;

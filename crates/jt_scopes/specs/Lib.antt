@@ -1,4 +1,0 @@
-pub mod Formed
-pub mod Laid
-pub mod Names
-pub mod Scoped
