@@ -1,13 +1,10 @@
 -- Names and their places, and not where they lie in memory.
-use Rattle.std.specs.Prelude.{ℕ, List, map, Option}
+use Rattle.std.specs.Prelude.{ℕ, Option}
 use Rattle.std.specs.Ordering.{nat_cmp}
 use Rattle.std.specs.Cmp.Lexicographic.{slice_cmp}
 use Rattle.std.specs.BTreeMap.{BTreeMap, get_by}
 use denote.Ref.{Bor}
 use Rattle.jt_parse.specs.Trees.{Text}
-
-abbrev pub texts : List (Bor Text) → List Text
-texts ks = map (λ k. k.now) ks
 
 -- the place of a name
 abbrev pub place_in : BTreeMap (Bor Text) ℕ → Text → Option ℕ

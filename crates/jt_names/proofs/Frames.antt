@@ -6,7 +6,8 @@ use Rattle.jt_parse.specs.Trees.{Text}
 use Rattle.jt_slots.specs.Slots.{local}
 use Rattle.jt_meaning.specs.Layout.{Table, slot_in}
 use Rattle.jt_meaning.specs.Resolve.{bound_table}
-use Rattle.jt_layout.specs.Names.{place_in, texts}
+use Rattle.jt_layout.specs.Names.{place_in}
+use Rattle.jt_uses.specs.Names.{texts}
 use Rattle.jt_names.specs.Names.{last_among}
 use Rattle.jt_names.specs.Scoped.{framed}
 use Rattle.jt_names.specs.declared.frame.Frame.{Frame}

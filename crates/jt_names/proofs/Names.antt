@@ -9,7 +9,7 @@ use Rattle.jt_slots.specs.Loops.{Field, field_among}
 use Rattle.jt_slots.specs.Slots.{Slot, local}
 use Rattle.jt_meaning.specs.Layout.{Table, slot_in}
 use Rattle.jt_meaning.specs.Resolve.{bound_table}
-use Rattle.jt_layout.specs.Names.{texts}
+use Rattle.jt_uses.specs.Names.{texts}
 use Rattle.jt_names.specs.Names.{last_among}
 
 -- the local that was found, else another slot

@@ -22,7 +22,7 @@ use Rattle.jt_slots.specs.declared.program.SStmt.{SStmt}
 use Rattle.jt_meaning.specs.Layout.{Table, globals, numbered_bodies}
 use Rattle.jt_meaning.specs.Resolve as resolve
 use Rattle.jt_meaning.specs.Resolve.{Part, bound_table}
-use Rattle.jt_layout.specs.Names.{texts}
+use Rattle.jt_uses.specs.Names.{texts}
 use Rattle.jt_names.specs.declared.frame.Frame.{Frame}
 use Rattle.jt_names.specs.declared.spot.Spot.{Spot}
 use Rattle.jt_layout.specs.declared.scope.Scope.{Scope}

@@ -3,7 +3,8 @@
 ghost use Rattle.std.specs.Prelude.{◌≡◌, IfOk, IfErr, None};
 ghost use Rattle.jt_parse.specs.Trees.{Text};
 ghost use Rattle.jt_rules.specs.declared.error.ScopeError.TheVariants as error;
-ghost use Rattle.jt_layout.specs.Names.{place_in, texts};
+ghost use Rattle.jt_layout.specs.Names.{place_in};
+ghost use Rattle.jt_uses.specs.Names.{texts};
 ghost use Rattle.jt_names.specs.Names.{last_among};
 
 use jt_layout::Index;

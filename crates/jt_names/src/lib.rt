@@ -3,6 +3,7 @@
 
 mod calls;
 mod expressions;
+mod filterings;
 mod forms;
 mod frame;
 mod pool;
@@ -10,6 +11,7 @@ mod reading;
 mod spot;
 
 pub use expressions::{resolve_asides, resolve_expression, resolve_row};
+pub use filterings::resolve_filterings;
 pub use frame::Frame;
 pub use jt_rules::ScopeError;
 pub use pool::{add_text, add_value};

@@ -1,5 +1,3 @@
 pub mod World
 pub mod Rules
 pub mod Known
-pub mod Standing
-pub mod ScopeView

@@ -2,7 +2,8 @@ use Rattle.std.proofs.Common.{◌≡◌, List, None, sym, ap, ◌∙◌, arith}
 use Rattle.std.proofs.lemmas.List.{at_drop_all}
 use denote.Ref.{Bor}
 use Rattle.jt_parse.specs.Trees.{Text}
-use Rattle.jt_layout.specs.Names.{place_in, texts}
+use Rattle.jt_layout.specs.Names.{place_in}
+use Rattle.jt_uses.specs.Names.{texts}
 use Rattle.jt_names.specs.Names.{last_among}
 use Rattle.jt_names.proofs.Names.{placed_next}
 use Rattle.jt_names.proofs.frame.Frame.new.Goals as goal
