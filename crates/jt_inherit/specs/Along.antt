@@ -1,6 +1,7 @@
 -- The templates at some places, in this order.
 use Rattle.std.specs.Prelude.{ℕ, Bool, ◌<◌, List, [], ◌∷◌, ◌++◌, length, slice_get, unwrap_or, option_map}
 use Rattle.std.specs.List.{AllByRecursion}
+use Rattle.std.specs.Option.{option_to_list}
 use Rattle.jt_parse.specs.Trees.{Text, Body, end}
 use Rattle.jt_inherit.specs.Chain.{Template, MacroBody, BlockBody, macros_in, blocks_in}
 use Rattle.jt_inherit.specs.Needs.{Need, includes_in}
@@ -10,6 +11,11 @@ module _ (ts : List Template) where
   -- places of templates
   abbrev pub ArePlaces : List ℕ → Type 0
   ArePlaces = AllByRecursion (λ i. i < length ts)
+
+  -- the templates themselves
+  abbrev pub templates_at : List ℕ → List Template
+  templates_at [] = []
+  templates_at (i ∷ is) = option_to_list (slice_get ts i) ++ templates_at is
 
   -- the tree of the template at a place
   abbrev pub body_at : ℕ → Body

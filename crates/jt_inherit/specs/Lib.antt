@@ -3,6 +3,7 @@ pub mod Chain
 pub mod Chains
 pub mod Checks
 pub mod Faults
+pub mod Found
 pub mod Includes
 pub mod Kept
 pub mod Names
@@ -11,6 +12,7 @@ pub mod Pages
 pub mod Parts
 pub mod Places
 pub mod Refusals
+pub mod Refused
 pub mod Rules
 pub mod SetView
 pub mod Small

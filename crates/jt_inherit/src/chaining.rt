@@ -1,28 +1,31 @@
 //! The chain that an entry begins.
 
-ghost use Rattle.std.specs.Prelude.{◌≡◌, ◌≤◌, Bool, false, [], map, slice_get, flat_map, Some, IfOk, IfErr};
+ghost use Rattle.std.specs.Prelude.{◌≡◌, ◌<◌, ◌≤◌, length, OnOk, IfOk, IfErr};
 ghost use Rattle.std.specs.List.{AllByRecursion};
+ghost use Rattle.jt_order.specs.Graph.{next_of};
+ghost use Rattle.jt_order.specs.View.{graph_of};
 ghost use Rattle.jt_parse.specs.Bytes.{body_bytes};
+ghost use Rattle.jt_inherit.specs.Along.{ArePlaces, templates_at};
 ghost use Rattle.jt_inherit.specs.Chains.{IsChain};
-ghost use Rattle.jt_inherit.specs.Includes.{needs_in};
-ghost use Rattle.jt_inherit.specs.Pages.{pages_view};
+ghost use Rattle.jt_inherit.specs.Found.{BreaksAt, HasHomes, found_homes, found_templates};
+ghost use Rattle.jt_inherit.specs.Kept.{KeepAll};
+ghost use Rattle.jt_inherit.specs.Pages.{home_name};
+ghost use Rattle.jt_inherit.specs.Places.{home_at};
 ghost use Rattle.jt_inherit.specs.Refusals.{Breaks};
 ghost use Rattle.jt_inherit.specs.Small.{chains_weight, chains_len, source_len};
 ghost use Rattle.jt_inherit.specs.View.{chain_view, sources_of};
 
+use crate::discovery::{Found, discover};
 use crate::error::ChainError;
 use crate::library::Library;
-use crate::linked::{Chain, Home, Page};
+use crate::linked::{Chain, Home};
 use crate::rules::check_rules;
-use crate::statements::add_includes;
-use crate::way::read_way;
+use jt_order::order;
 use jt_scan::Options;
 use std::alloc::{AllocError, Global};
 
 /// The chain that the entry begins: its templates up to the root, read from the library, and the
 /// chains that their includes reach.
-///
-/// Includes are not followed yet: a chain with one is answered by `NoMemory`.
 ///
 /// # Errors
 ///
@@ -44,43 +47,51 @@ pub fn chain<L: Library>(
     // names and texts of a tree are no longer than its source
     ensures short { IfOk result (λ c. AllByRecursion (λ t. body_bytes t.body ≤ source_len (L.sources library.now t.name)) (chain_view c).templates) }
 {
-    let pages = read_way(alloc, entry, library, options)?;
-    if has_includes(alloc, &pages)? {
-        return Err(ChainError::NoMemory);
-    }
-    let places = places_of(alloc, &pages)?;
-    check_rules(alloc, &pages, &places, options.autoescape)?;
-    let home = Home {
-        name: String::from_str(alloc, entry)?,
-        templates: places,
-    };
-    let mut homes = Vec::new(alloc);
-    homes.push(home)?;
+    let found = discover(alloc, entry, library, options)?;
+    check_chains(alloc, &found, options.autoescape)?;
+    let order = order(alloc, &found.next)?;
+    let homes = homes_in(alloc, &found, &order)?;
     Ok(Chain {
-        templates: pages,
+        templates: found.pages,
         homes,
         autoescape: options.autoescape,
     })
 }
 
-/// Whether one of the templates includes another.
-fn has_includes(alloc: Global, pages: &[Page]) -> Result<bool, AllocError>
-    ensures { IfOk result (λ found. found ≡ false → (all : Bool) → flat_map (λ t. needs_in all t.body) (pages_view pages.now) ≡ []) }
+/// Refuses the chains where the blocks or macros of one break a rule.
+fn check_chains(alloc: Global, found: &Found, escaping: bool) -> Result<(), ChainError>
+    requires { AllByRecursion (ArePlaces (found_templates found.now)) (graph_of found.now.ways.items) }
+    ensures kept { OnOk result (AllByRecursion (λ way. KeepAll escaping (templates_at (found_templates found.now) way)) (graph_of found.now.ways.items)) }
+    ensures broken { IfErr result (λ e. BreaksAt escaping (found_templates found.now) (graph_of found.now.ways.items) e) }
 {
-    let mut found = Vec::new(alloc);
-    for page in pages {
-        add_includes(&mut found, page.template.body())?;
+    for way in &found.ways {
+        check_rules(alloc, &found.pages, way, escaping)?;
     }
-    Ok(!found.as_slice().is_empty())
+    Ok(())
 }
 
-/// The places of the templates.
-fn places_of(alloc: Global, pages: &[Page]) -> Result<Vec<usize>, AllocError>
-    ensures { IfOk result (λ is. map (slice_get (pages_view pages.now)) is.items ≡ map Some (pages_view pages.now)) }
+/// The chains of these numbers.
+fn homes_in(alloc: Global, found: &Found, order: &[usize]) -> Result<Vec<Home>, AllocError>
+    requires all { length found.now.ways.items ≡ length (found_homes found.now) }
+    requires within { AllByRecursion (λ i. i < length found.now.ways.items) order.now }
+    ensures { IfOk result (λ homes. HasHomes (found_homes found.now) (graph_of found.now.ways.items) order.now homes.items) }
 {
-    let mut places = Vec::with_capacity(alloc, pages.len())?;
-    for place in 0..pages.len() {
-        places.push(place)?;
+    let mut homes = Vec::with_capacity(alloc, order.len())?;
+    for number in order {
+        homes.push(home_of(alloc, found, *number)?)?;
     }
-    Ok(places)
+    Ok(homes)
+}
+
+/// The chain of a number.
+fn home_of(alloc: Global, found: &Found, number: usize) -> Result<Home, AllocError>
+    requires all { length found.now.ways.items ≡ length (found_homes found.now) }
+    requires within { number < length found.now.ways.items }
+    ensures name { IfOk result (λ h. home_name h ≡ home_at (found_homes found.now) number) }
+    ensures templates { IfOk result (λ h. h.templates.items ≡ next_of (graph_of found.now.ways.items) number) }
+{
+    Ok(Home {
+        name: String::from_str(alloc, &found.homes.as_slice()[number])?,
+        templates: Vec::from_slice(alloc, &found.ways[number])?,
+    })
 }

@@ -1,5 +1,6 @@
 //! Why there is no chain.
 
+use jt_order::OrderError;
 use jt_parse::ParseError;
 use jt_scan::ScanError;
 use std::alloc::{AllocError, AllocFailed};
@@ -89,5 +90,18 @@ impl<T: Drop> From<AllocFailed<T>> for ChainError {
 
     fn from(_e: AllocFailed<T>) -> ChainError {
         ChainError::NoMemory
+    }
+}
+
+impl From<OrderError> for ChainError {
+    ghost use Rattle.jt_inherit.specs.Refused.{gives};
+
+    ghost from_gives = { gives };
+
+    fn from(refusal: OrderError) -> ChainError {
+        match refusal {
+            OrderError::Cycle => ChainError::IncludeCycle,
+            OrderError::NoMemory => ChainError::NoMemory,
+        }
     }
 }

@@ -2,13 +2,17 @@
 #![tactic(auto)]
 
 mod chaining;
+mod discovery;
 mod error;
+mod including;
 mod library;
 mod linked;
 mod names;
 mod parts;
 mod reading;
 mod rules;
+mod sets;
+mod shelf;
 mod statements;
 mod supers;
 mod way;

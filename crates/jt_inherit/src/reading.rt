@@ -6,6 +6,7 @@ ghost use Rattle.jt_parse.specs.Trees.{body_weight};
 ghost use Rattle.jt_parse.specs.View.{body_of};
 ghost use Rattle.jt_inherit.specs.Chains.{IsTree, IsRead};
 ghost use Rattle.jt_inherit.specs.Faults.{IsFault, IsFaultOf, IsScan, IsParse};
+ghost use Rattle.jt_inherit.specs.Names.{IsName};
 ghost use Rattle.jt_inherit.specs.Pages.{page_view};
 ghost use Rattle.jt_inherit.specs.Ways.{IsWithin};
 
@@ -28,6 +29,7 @@ pub(crate) fn read_page<L: Library>(
     ensures read { IfOk result (λ p. IsRead (L.sources library.now) options (page_view p)) }
     ensures within { IfOk result (λ p. IsWithin (L.sources library.now) (page_view p)) }
     ensures refused { IfErr result (λ e. IsFaultOf e (L.sources library.now) name.now options) }
+    ensures missing { result ≡ Err ChainError.Missing → IsName name.now }
 {
     if !is_name(name) {
         return Err(ChainError::BadName);

@@ -1,9 +1,10 @@
 //! The rules that a whole chain keeps.
 
-ghost use Rattle.std.specs.Prelude.{◌≡◌, ◌&&◌, ◌||◌, ◌++◌, ◌∷◌, [], List, map, not, slice_get, Some, IfOk, IfErr, OnOk, if◌then◌else◌};
+ghost use Rattle.std.specs.Prelude.{◌≡◌, ◌&&◌, ◌||◌, ◌++◌, ◌∷◌, [], List, not, IfOk, IfErr, OnOk, if◌then◌else◌};
 ghost use Rattle.std.specs.Str.{bytes_eq};
 ghost use Rattle.jt_parse.specs.Texts.{among, repeated};
 ghost use Rattle.jt_parse.specs.Trees.{Text};
+ghost use Rattle.jt_inherit.specs.Along.{ArePlaces, templates_at};
 ghost use Rattle.jt_inherit.specs.Chain.{Template};
 ghost use Rattle.jt_inherit.specs.Checks.{lacks_body, lacks_next, block_names, macro_names};
 ghost use Rattle.jt_inherit.specs.Kept as spec;
@@ -99,12 +100,18 @@ pub(crate) fn any_lacks_next(alloc: Global, mut blocks: Vec<Block<'_>>) -> Resul
     Ok(false)
 }
 
-/// Whether a template has two blocks of one name.
-fn any_double(alloc: Global, pages: &[Page], escaping: bool) -> Result<bool, AllocError>
-    ensures { IfOk result (λ found. found ≡ spec.any_double escaping (pages_view pages.now)) }
+/// Whether one of the templates at these places has two blocks of one name.
+fn any_double(
+    alloc: Global,
+    pages: &[Page],
+    places: &[usize],
+    escaping: bool,
+) -> Result<bool, AllocError>
+    requires { ArePlaces (pages_view pages.now) places.now }
+    ensures { IfOk result (λ found. found ≡ spec.any_double escaping (templates_at (pages_view pages.now) places.now)) }
 {
-    for place in 0..pages.len() {
-        let blocks = blocks_of_page(alloc, pages, place, escaping)?;
+    for place in places {
+        let blocks = blocks_of_page(alloc, pages, *place, escaping)?;
         if blocks_repeat(alloc, &blocks)? {
             return Ok(true);
         }
@@ -112,18 +119,18 @@ fn any_double(alloc: Global, pages: &[Page], escaping: bool) -> Result<bool, All
     Ok(false)
 }
 
-/// Refuses a chain of these templates where its blocks or macros break a rule.
+/// Refuses a chain of the templates at these places where its blocks or macros break a rule.
 pub(crate) fn check_rules(
     alloc: Global,
     pages: &[Page],
     places: &[usize],
     escaping: bool,
 ) -> Result<(), ChainError>
-    requires { map (slice_get (pages_view pages.now)) places.now ≡ map Some (pages_view pages.now) }
-    ensures kept { OnOk result (spec.KeepAll escaping (pages_view pages.now)) }
-    ensures broken { IfErr result (spec.BreakOne escaping (pages_view pages.now)) }
+    requires { ArePlaces (pages_view pages.now) places.now }
+    ensures kept { OnOk result (spec.KeepAll escaping (templates_at (pages_view pages.now) places.now)) }
+    ensures broken { IfErr result (spec.BreakOne escaping (templates_at (pages_view pages.now) places.now)) }
 {
-    if any_double(alloc, pages, escaping)? {
+    if any_double(alloc, pages, places, escaping)? {
         return Err(ChainError::DoubleBlock);
     }
     let macros = macros_at(alloc, pages, places)?;

@@ -1,7 +1,0 @@
-use Rattle.std.proofs.Common.{◌≡◌, drop}
-use Rattle.jt_inherit.specs.Kept.{any_double}
-use Rattle.jt_inherit.specs.Pages.{pages_view}
-use Rattle.jt_inherit.proofs.rules.any_double.Given as goal
-
-abbrev pub invariant-loop-place : goal.invariant-loop-place
-invariant-loop-place l = any_double l.escaping (pages_view l.pages) ≡ any_double l.escaping (drop l.place (pages_view l.pages))
