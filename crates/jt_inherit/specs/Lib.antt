@@ -6,6 +6,7 @@ pub mod Faults
 pub mod Found
 pub mod Includes
 pub mod Kept
+pub mod Layers
 pub mod Names
 pub mod Needs
 pub mod Pages

@@ -5,6 +5,7 @@ mod chaining;
 mod discovery;
 mod error;
 mod including;
+mod layers;
 mod library;
 mod linked;
 mod names;
@@ -19,6 +20,7 @@ mod way;
 
 pub use chaining::chain;
 pub use error::ChainError;
+pub use layers::Layer;
 pub use library::Library;
 pub use linked::{Chain, Home, Page};
 pub use parts::{Block, Macro};
