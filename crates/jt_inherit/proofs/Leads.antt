@@ -1,28 +1,28 @@
 -- Ways that go on, and what is known of them.
-use Rattle.std.proofs.Common.{◌≡◌, ℕ, zero, suc, ◌+◌, ◌-◌, ◌<◌, ◌≤◌, ◌==◌, Bool, true, false, not, ◌&&◌, ◌||◌, if◌then◌else◌, List, [], ◌∷◌, ◌++◌, length, map, refl, sym, ap, subst, ◌∙◌, arith, inl, Option, Some, None, IsTrue, length-append, string_bytes, String, Global}
-use Rattle.std.specs.Prelude.{flat_map, option_map}
+use Rattle.std.proofs.Common.{◌≡◌, ℕ, zero, suc, ◌+◌, ◌-◌, ◌<◌, ◌≤◌, ◌==◌, Bool, true, false, not, ◌&&◌, ◌||◌, if◌then◌else◌, List, [], ◌∷◌, ◌++◌, length, map, refl, sym, ap, subst, ◌∙◌, arith, inl, Option, Some, None, IsTrue, length-append, string_bytes}
+use Rattle.std.specs.Prelude.{flat_map, slice_get}
+use Rattle.std.specs.Option.{option_to_list}
+use Rattle.std.proofs.lemmas.Option.{slice_get_within, slice_get-get_or}
 use Rattle.std.specs.List.{AllByRecursion}
 use Rattle.std.specs.Str.{bytes_eq}
-use Rattle.std.proofs.lemmas.List.{append-nil}
+use Rattle.std.proofs.lemmas.List.{append-nil, append_assoc}
 use Rattle.jt_scan.specs.declared.options.Options.{Options}
 use Rattle.jt_parse.specs.Texts.{among, repeated}
-use Rattle.jt_parse.specs.Trees.{Text, Body}
+use Rattle.jt_parse.specs.Trees.{Text, Body, end}
+use Rattle.jt_inherit.specs.Along.{ArePlaces, templates_at}
 use Rattle.jt_inherit.specs.Chain.{Sources, Template, template, templates, extends_of, parent_of, names_up, sources_in}
 use Rattle.jt_inherit.specs.Chains.{Given, AreRead, IsRead}
 use Rattle.jt_inherit.specs.Faults.{IsFaultOf}
 use Rattle.jt_inherit.specs.Includes.{needs_in}
-use Rattle.jt_inherit.specs.Names.{IsName}
 use Rattle.jt_inherit.specs.Pages.{page_view, pages_view}
-use Rattle.jt_parse.specs.View.{body_of}
 use Rattle.jt_inherit.specs.declared.linked.Page.{Page}
-use Rattle.jt_inherit.specs.Refusals.{Shows, Asks, HasFault, IsMissing, IsUncut, IsUnspelled, Breaks}
-use Rattle.jt_inherit.specs.Rules as rules
-use Rattle.jt_inherit.specs.Rules.{Somewhere, asked, way, here}
-use Rattle.jt_inherit.specs.Ways.{Leads, IsWay, IsWithin}
+use Rattle.jt_inherit.specs.Refusals.{Breaks}
+use Rattle.jt_inherit.specs.Rules.{Reaches, asked, way}
+use Rattle.jt_inherit.specs.Ways.{Leads, AreKnown, IsWay, IsWithin}
 use Rattle.jt_inherit.specs.declared.error.ChainError.{ChainError}
 use Rattle.jt_inherit.specs.declared.error.ChainError.TheVariants as error
 use Rattle.jt_inherit.proofs.Among.{same, reflexive, or_false, among_front, among_next, once_more, comes_again, map_more, all_more}
-use Rattle.jt_inherit.proofs.Placed.{length-map}
+use Rattle.jt_inherit.proofs.Placed.{length-map, only_one}
 
 abbrev pub names : List Template → List Text
 names = map (λ t. t.name)
@@ -100,82 +100,181 @@ next_asked s e all h ts n le l =
     among_front n (way s e h) (flat_map (λ t. needs_in all t.body) (templates s h))
     (subst (λ xs. among n xs ≡ true) (sym up) (among_next n (names ts) (names_up s k (parent_of (s n)))))
 
--- ---- ways that were read
+-- ---- templates at places, as more are read
 
-module _ (given : Given) (options : Options) (entry : Text) where
-  pub way_begins : (n : Text) → entry ≡ n → IsWay given options entry [] (Some n)
-  way_begins n e = record { read = record { each = tt; once = refl }; within = tt; leads = ap Some e }
+pub places_grow : (ts us : List Template) (is : List ℕ) → ArePlaces ts is → ArePlaces (ts ++ us) is
+places_grow ts us [] a = tt
+places_grow ts us (i ∷ is) a = (omega (arith, a.0, length-append ts us), places_grow ts us is a.1)
 
-  pub way_more : (ts : List Template) (n : Text) (t : Template) → IsWay given options entry ts (Some n) → among n (names ts) ≡ false → t.name ≡ n → IsRead given options t → IsWithin given t
-      → IsWay given options entry (ts ++ t ∷ []) (extends_of t.body)
-  way_more ts n t w new is r i =
-      let fresh : among t.name (names ts) ≡ false = ap (λ x. among x (names ts)) is ∙ new in
-      let l : Leads (sources_in ts) (Some entry) ts (Some t.name) = subst (λ x. Leads (sources_in ts) (Some entry) ts (Some x)) (sym is) w.leads in
-      let grown = leads_grow (sources_in ts) (sources_in (ts ++ t ∷ [])) (more_sources ts (t ∷ [])) (Some entry) ts (Some t.name) l in
-      record {
-        read = record {
-          each = all_more (IsRead given options) ts t w.read.each r;
-          once = ap repeated (map_more (λ (u : Template). u.name) ts t) ∙ once_more t.name (names ts) w.read.once fresh;
-        };
-        within = all_more (IsWithin given) ts t w.within i;
-        leads = leads_more (sources_in (ts ++ t ∷ [])) (Some entry) ts t grown (last_source ts t fresh);
-      }
+at_front : (ts us : List Template) (i : ℕ) → i < length ts → slice_get (ts ++ us) i ≡ slice_get ts i
+at_front [] us i lt = absurd (omega arith)
+at_front (t ∷ ts) us zero lt = refl
+at_front (t ∷ ts) us (suc i) lt = at_front ts us i (omega arith)
 
-  pub cycle_breaks : (ts : List Template) (n : Text) → IsWay given options entry ts (Some n) → among n (names ts) ≡ true → Breaks error.ExtendsCycle given entry options
-  cycle_breaks ts n w h =
+pub templates_grow : (ts us : List Template) (is : List ℕ) → ArePlaces ts is → templates_at (ts ++ us) is ≡ templates_at ts is
+templates_grow ts us [] a = refl
+templates_grow ts us (i ∷ is) a = ap (λ o. option_to_list o ++ templates_at (ts ++ us) is) (at_front ts us i a.0) ∙ ap (λ l. option_to_list (slice_get ts i) ++ l) (templates_grow ts us is a.1)
+
+pub templates_more : (ts : List Template) (is : List ℕ) (i : ℕ) (t : Template) → slice_get ts i ≡ Some t → templates_at ts (is ++ i ∷ []) ≡ templates_at ts is ++ t ∷ []
+templates_more ts [] i t e = ap (λ o. option_to_list o ++ []) e
+templates_more ts (j ∷ is) i t e =
+    ap (λ l. option_to_list (slice_get ts j) ++ l) (templates_more ts is i t e) ∙ sym (append_assoc (option_to_list (slice_get ts j)) (templates_at ts is) (t ∷ []))
+
+pub few_templates : (ts : List Template) (is : List ℕ) → length (templates_at ts is) ≤ length is
+few_templates ts [] = omega arith
+few_templates ts (i ∷ is) =
+    let one = at_most (slice_get ts i) in
+    omega (arith, one, few_templates ts is, length-append (option_to_list (slice_get ts i)) (templates_at ts is))
+  where
+    at_most : (o : Option Template) → length (option_to_list o) ≤ 1
+    at_most None = omega arith
+    at_most (Some t) = omega arith
+
+pub all_templates : (ts : List Template) (is : List ℕ) → ArePlaces ts is → length (templates_at ts is) ≡ length is
+all_templates ts [] a = refl
+all_templates ts (i ∷ is) a = by (slice_get ts i) refl (all_templates ts is a.1)
+  where
+    by : (o : Option Template) → slice_get ts i ≡ o → length (templates_at ts is) ≡ length is → length (templates_at ts (i ∷ is)) ≡ suc (length is)
+    by None e r =
+        let h = slice_get-get_or ts i (let none : Template = record { name = []; body = end } in none) a.0 in
+        absurd (cc)
+    by (Some t) e r = ap (λ o. length (option_to_list o ++ templates_at ts is)) e ∙ ap suc r
+
+pub all_at_places : (P : Template → Type 0) (ts : List Template) (is : List ℕ) → AllByRecursion P ts → AllByRecursion P (templates_at ts is)
+all_at_places P ts [] a = tt
+all_at_places P ts (i ∷ is) a = by (slice_get ts i) refl (all_at_places P ts is a)
+  where
+    at : (us : List Template) (j : ℕ) (t : Template) → slice_get us j ≡ Some t → AllByRecursion P us → P t
+    at [] j t e h = absurd (cc)
+    at (u ∷ us) zero t e h = subst P (let k : u ≡ t = cc in k) h.0
+    at (u ∷ us) (suc j) t e h = at us j t e h.1
+
+    by : (o : Option Template) → slice_get ts i ≡ o → AllByRecursion P (templates_at ts is) → AllByRecursion P (option_to_list (slice_get ts i) ++ templates_at ts is)
+    by None e r = subst (λ o. AllByRecursion P (option_to_list o ++ templates_at ts is)) (sym e) r
+    by (Some t) e r = subst (λ o. AllByRecursion P (option_to_list o ++ templates_at ts is)) (sym e) (at ts i t e a, r)
+
+-- ---- what is known as one more is read
+
+pub known_more : (given : Given) (options : Options) (ts : List Template) (ks : List Text) (t : Template) → AreKnown given options ts ks → among t.name ks ≡ false → IsRead given options t → IsWithin given t
+    → AreKnown given options (ts ++ t ∷ []) (ks ++ t.name ∷ [])
+known_more given options ts ks t k new r i =
+    let fresh : among t.name (names ts) ≡ false = ap (among t.name) (sym k.named) ∙ new in
+    record {
+      read = record {
+        each = all_more (IsRead given options) ts t k.read.each r;
+        once = ap repeated (map_more (λ (u : Template). u.name) ts t) ∙ once_more t.name (names ts) k.read.once fresh;
+      };
+      within = all_more (IsWithin given) ts t k.within i;
+      named = ap (λ l. l ++ t.name ∷ []) k.named ∙ sym (map_more (λ (u : Template). u.name) ts t);
+    }
+
+pub last_at : {X : Type 0} (xs : List X) (x : X) → slice_get (xs ++ x ∷ []) (length xs) ≡ Some x
+last_at [] x = refl
+last_at (y ∷ xs) x = last_at xs x
+
+pub length_names : (ts : List Template) → length (names ts) ≡ length ts
+length_names [] = refl
+length_names (t ∷ ts) = ap suc (length_names ts)
+
+-- the template of a name at its place
+pub template_named : (ts : List Template) (i : ℕ) (n : Text) → slice_get (names ts) i ≡ Some n → (t : Template) × (slice_get ts i ≡ Some t) × (t.name ≡ n)
+template_named [] i n e = absurd (cc)
+template_named (t ∷ ts) zero n e = (t, refl, cc)
+template_named (t ∷ ts) (suc i) n e = template_named ts i n e
+
+-- ---- ways
+
+pub way_begins : (ts : List Template) (h n : Text) → h ≡ n → IsWay ts h [] (Some n)
+way_begins ts h n e = record { places = tt; leads = ap Some e; once = refl; few = omega arith }
+
+pub way_grows : (ts us : List Template) (h : Text) (is : List ℕ) (p : Option Text) → IsWay ts h is p → IsWay (ts ++ us) h is p
+way_grows ts us h is p w =
+    let e = sym (templates_grow ts us is w.places) in
+    record {
+      places = places_grow ts us is w.places;
+      leads = subst (λ vs. Leads (sources_in (ts ++ us)) (Some h) vs p) e (leads_grow (sources_in ts) (sources_in (ts ++ us)) (more_sources ts us) (Some h) (templates_at ts is) p w.leads);
+      once = subst (λ vs. repeated (names vs) ≡ false) e w.once;
+      few = w.few;
+    }
+
+pub way_next : (ts : List Template) (h : Text) (is : List ℕ) (i : ℕ) (t : Template) (n : Text) → IsWay ts h is (Some n) → slice_get ts i ≡ Some t → t.name ≡ n → among n (names (templates_at ts is)) ≡ false
+    → repeated (names ts) ≡ false → length is < 16 → IsWay ts h (is ++ i ∷ []) (extends_of t.body)
+way_next ts h is i t n w at is_named new once lt =
+    let e = sym (templates_more ts is i t at) in
+    let us = templates_at ts is in
+    record {
+      places = all_more (λ j. j < length ts) is i w.places (slice_get_within ts i t at);
+      leads = subst (λ vs. Leads (sources_in ts) (Some h) vs (extends_of t.body)) e
+          (leads_more (sources_in ts) (Some h) us t (subst (λ x. Leads (sources_in ts) (Some h) us (Some x)) (sym is_named) w.leads) (only_one ts i t once at));
+      once = subst (λ vs. repeated (names vs) ≡ false) e
+          (ap repeated (map_more (λ (u : Template). u.name) us t) ∙ once_more t.name (names us) w.once (ap (λ x. among x (names us)) is_named ∙ new));
+      few = omega (arith, length-append is (i ∷ []));
+    }
+
+-- ---- a chain that is reached, and what is wrong on its way
+
+module _ (given : Given) (options : Options) (root : Text) (ts : List Template) (read : AreRead given options ts) (h : Text) (r : Reaches (sources_in ts) options.autoescape root h) where
+  pub cycle_breaks : (is : List ℕ) (n : Text) → IsWay ts h is (Some n) → among n (names (templates_at ts is)) ≡ true → Breaks error.ExtendsCycle given root options
+  cycle_breaks is n w there =
       let s = sources_in ts in
-      let up : names_up s (length ts + 1) (Some entry) ≡ names ts ++ n ∷ [] = names_lead s (length ts + 1) 1 (Some entry) ts (Some n) refl w.leads in
+      let us = templates_at ts is in
+      let up : names_up s (length us + 1) (Some h) ≡ names us ++ n ∷ [] = names_lead s (length us + 1) 1 (Some h) us (Some n) refl w.leads in
       record {
         templates = ts;
-        read = w.read;
-        holds = (entry, here, (length ts + 1, ap repeated up ∙ comes_again n (names ts) h));
+        read = read;
+        holds = (h, r, (length us + 1, ap repeated up ∙ comes_again n (names us) there));
       }
 
-  pub long_breaks : (ts : List Template) (n : Text) → IsWay given options entry ts (Some n) → length ts ≡ 16 → among n (names ts) ≡ false → Breaks error.ChainTooLong given entry options
-  long_breaks ts n w len h =
+  pub long_breaks : (is : List ℕ) (n : Text) → IsWay ts h is (Some n) → length is ≡ 16 → among n (names (templates_at ts is)) ≡ false → Breaks error.ChainTooLong given root options
+  long_breaks is n w full new =
       let s = sources_in ts in
-      let up : way s options.autoescape entry ≡ names ts ++ n ∷ [] = names_lead s 17 1 (Some entry) ts (Some n) (omega arith) w.leads in
+      let us = templates_at ts is in
+      let len : length us ≡ 16 = all_templates ts is w.places ∙ full in
+      let up : way s options.autoescape h ≡ names us ++ n ∷ [] = names_lead s 17 1 (Some h) us (Some n) (omega (arith, len)) w.leads in
       record {
         templates = ts;
-        read = w.read;
-        holds = inl (entry, here, subst (λ xs. ((length xs == 17) && not (repeated xs)) ≡ true) (sym up) (seventeen n ts len (once_more n (names ts) w.read.once h)));
+        read = read;
+        holds = inl (h, r, subst (λ xs. ((length xs == 17) && not (repeated xs)) ≡ true) (sym up) (seventeen n us len (once_more n (names us) w.once new)));
       }
     where
-      seventeen : (n : Text) (ts : List Template) → length ts ≡ 16 → repeated (names ts ++ n ∷ []) ≡ false → ((length (names ts ++ n ∷ []) == 17) && not (repeated (names ts ++ n ∷ []))) ≡ true
-      seventeen n ts len o =
-          let count : length (names ts ++ n ∷ []) ≡ 17 = length-append (names ts) (n ∷ []) ∙ ap (λ k. k + 1) (length-map (λ (u : Template). u.name) ts ∙ len) in
-          ap (λ k. (k == 17) && not (repeated (names ts ++ n ∷ []))) count ∙ ap not o
+      seventeen : (n : Text) (us : List Template) → length us ≡ 16 → repeated (names us ++ n ∷ []) ≡ false → ((length (names us ++ n ∷ []) == 17) && not (repeated (names us ++ n ∷ []))) ≡ true
+      seventeen n us len o =
+          let count : length (names us ++ n ∷ []) ≡ 17 = length-append (names us) (n ∷ []) ∙ ap (λ k. k + 1) (length-map (λ (u : Template). u.name) us ∙ len) in
+          ap (λ k. (k == 17) && not (repeated (names us ++ n ∷ []))) count ∙ ap not o
 
-  pub fault_breaks : (ts : List Template) (n : Text) → IsWay given options entry ts (Some n) → length ts ≤ 16 → (e : ChainError) → IsFaultOf e given n options → Breaks e given entry options
-  fault_breaks ts n w le error.Missing f =
+  -- a refusal of a template that the chain asks for
+  pub asked_breaks : (n : Text) (e : ChainError) → among n (asked (sources_in ts) options.autoescape true h) ≡ true → (e ≡ error.Missing → among n (asked (sources_in ts) options.autoescape false h) ≡ true)
+      → IsFaultOf e given n options → Breaks e given root options
+  asked_breaks n error.Missing a must f = record { name = n; reached = record { templates = ts; read = read; holds = (h, r, must refl) }; found = f }
+  asked_breaks n error.BadName a must f = record { templates = ts; read = read; holds = (h, r, (n, a, f)) }
+  asked_breaks n (error.Scan m e) a must f =
       record {
-        name = n;
-        reached = record { templates = ts; read = w.read; holds = (entry, here, next_asked (sources_in ts) options.autoescape false entry ts n le w.leads) };
-        found = f;
-      }
-  fault_breaks ts n w le error.BadName f = record { templates = ts; read = w.read; holds = (entry, here, (n, next_asked (sources_in ts) options.autoescape true entry ts n le w.leads, f)) }
-  fault_breaks ts n w le (error.Scan m e) f =
-      record {
-        reached = record { templates = ts; read = w.read; holds = (entry, here, ap (λ x. among x (asked (sources_in ts) options.autoescape true entry)) f.0 ∙ next_asked (sources_in ts) options.autoescape true entry ts n le w.leads) };
+        reached = record { templates = ts; read = read; holds = (h, r, ap (λ x. among x (asked (sources_in ts) options.autoescape true h)) f.0 ∙ a) };
         source = f.1.0;
         found = ap given f.0 ∙ f.1.1;
         fault = f.1.2;
       }
-  fault_breaks ts n w le (error.Parse m e) f =
+  asked_breaks n (error.Parse m e) a must f =
       record {
-        reached = record { templates = ts; read = w.read; holds = (entry, here, ap (λ x. among x (asked (sources_in ts) options.autoescape true entry)) f.0 ∙ next_asked (sources_in ts) options.autoescape true entry ts n le w.leads) };
+        reached = record { templates = ts; read = read; holds = (h, r, ap (λ x. among x (asked (sources_in ts) options.autoescape true h)) f.0 ∙ a) };
         source = f.1.0;
         found = ap given f.0 ∙ f.1.1;
         fault = f.1.2;
       }
-  fault_breaks ts n w le error.NoMemory f = tt
-  fault_breaks ts n w le error.ExtendsCycle f = absurd f
-  fault_breaks ts n w le error.ChainTooLong f = absurd f
-  fault_breaks ts n w le error.DoubleBlock f = absurd f
-  fault_breaks ts n w le error.RequiredNotGiven f = absurd f
-  fault_breaks ts n w le error.NoSuper f = absurd f
-  fault_breaks ts n w le error.IncludeCycle f = absurd f
-  fault_breaks ts n w le error.MacroTwice f = absurd f
+  asked_breaks n error.NoMemory a must f = tt
+  asked_breaks n error.ExtendsCycle a must f = absurd f
+  asked_breaks n error.ChainTooLong a must f = absurd f
+  asked_breaks n error.DoubleBlock a must f = absurd f
+  asked_breaks n error.RequiredNotGiven a must f = absurd f
+  asked_breaks n error.NoSuper a must f = absurd f
+  asked_breaks n error.IncludeCycle a must f = absurd f
+  asked_breaks n error.MacroTwice a must f = absurd f
+
+  pub fault_breaks : (is : List ℕ) (n : Text) → IsWay ts h is (Some n) → (e : ChainError) → IsFaultOf e given n options → Breaks e given root options
+  fault_breaks is n w e f =
+      let few : length (templates_at ts is) ≤ 16 = omega (arith, few_templates ts is, w.few) in
+      asked_breaks n e (next_asked (sources_in ts) options.autoescape true h (templates_at ts is) n few w.leads)
+      (λ q. next_asked (sources_in ts) options.autoescape false h (templates_at ts is) n few w.leads) f
 
 -- ---- pages, one more
 
@@ -185,9 +284,9 @@ pages_more ps qs p e = ap pages_view e ∙ map_more page_view ps p
 pub pages_longer : (ps qs : List Page) (p : Page) → qs ≡ ps ++ p ∷ [] → length (pages_view qs) ≡ length (pages_view ps) + 1
 pages_longer ps qs p e = ap length (pages_more ps qs p e) ∙ length-append (pages_view ps) (page_view p ∷ [])
 
-pub pages_next : (given : Given) (options : Options) (entry : Text) (ps qs : List Page) (p : Page) (n : Text) (o : Option (String Global)) → IsWay given options entry (pages_view ps) (Some n)
-    → among n (names (pages_view ps)) ≡ false → string_bytes p.name ≡ n → IsRead given options (page_view p) → IsWithin given (page_view p) → qs ≡ ps ++ p ∷ []
-    → option_map string_bytes o ≡ extends_of (body_of p.template) → IsWay given options entry (pages_view qs) (option_map string_bytes o)
-pages_next given options entry ps qs p n o w fresh is r i e x =
-    subst (λ ts. IsWay given options entry ts (option_map string_bytes o)) (sym (pages_more ps qs p e))
-    (subst (IsWay given options entry (pages_view ps ++ page_view p ∷ [])) (sym x) (way_more given options entry (pages_view ps) n (page_view p) w fresh is r i))
+-- the name of the last page at its place
+pub page_last : (ps qs : List Page) (p : Page) (n : Text) (k : ℕ) → qs ≡ ps ++ p ∷ [] → string_bytes p.name ≡ n → k ≡ length ps → slice_get (names (pages_view qs)) k ≡ Some n
+page_last ps qs p n k e is at =
+    let len : k ≡ length (names (pages_view ps)) = omega (arith, at, length_names (pages_view ps), length-map page_view ps) in
+    ap (λ ts. slice_get (names ts) k) (pages_more ps qs p e) ∙ ap (λ l. slice_get l k) (map_more (λ (t : Template). t.name) (pages_view ps) (page_view p))
+    ∙ ap (slice_get (names (pages_view ps) ++ string_bytes p.name ∷ [])) len ∙ last_at (names (pages_view ps)) (string_bytes p.name) ∙ ap (λ (x : Text). Some x) is

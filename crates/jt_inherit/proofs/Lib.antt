@@ -4,6 +4,7 @@ pub mod Checked
 pub mod Cuts
 pub mod Escapes
 pub mod Gathered
+pub mod Growing
 pub mod Leads
 pub mod Lengths
 pub mod Naming
@@ -11,5 +12,6 @@ pub mod Needed
 pub mod Placed
 pub mod Raws
 pub mod Ruled
+pub mod NameSets
 pub mod Shown
 pub mod SuperIn
