@@ -6,11 +6,11 @@ use Rattle.std.specs.Str.{bytes_eq}
 use Rattle.std.proofs.lemmas.List.{append_assoc}
 use Rattle.jt_parse.specs.Texts.{among}
 use Rattle.jt_parse.specs.Trees.{Text, Body}
-use Rattle.jt_inherit.specs.Chain.{Sources, Template, template, templates, extends_of, parent_of, names_up}
+use Rattle.jt_inherit.specs.Chain.{Sources, Template, template, templates, extends_of, parent_of, names_up, sources_in}
 use Rattle.jt_inherit.specs.Includes.{included, needs_in}
 use Rattle.jt_inherit.specs.Rules.{Reaches, here, through}
 use Rattle.jt_inherit.proofs.Among.{same, or_true, among_front}
-use Rattle.jt_inherit.proofs.Leads.{Grows}
+use Rattle.jt_inherit.proofs.Leads.{Grows, more_sources}
 
 -- ---- what is among the names that pass a test
 
@@ -101,3 +101,6 @@ reaches_then (through a r) b = through a (reaches_then r b)
 pub reaches_next : {s : Sources} {e : Bool} {h k m : Text} → Reaches s e h k → among m (included s k) ≡ true → Reaches s e h m
 reaches_next here a = through a here
 reaches_next (through b r) a = through b (reaches_next r a)
+
+pub reach_more : (ts us more : List Template) (e : Bool) (h k : Text) → us ≡ ts ++ more → Reaches (sources_in ts) e h k → Reaches (sources_in us) e h k
+reach_more ts us more e h k grown r = subst (λ vs. Reaches (sources_in vs) e h k) (sym grown) (reaches_grows (sources_in ts) (sources_in (ts ++ more)) (more_sources ts more) e r)

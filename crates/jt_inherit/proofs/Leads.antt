@@ -1,11 +1,11 @@
 -- Ways that go on, and what is known of them.
-use Rattle.std.proofs.Common.{◌≡◌, ℕ, zero, suc, ◌+◌, ◌-◌, ◌<◌, ◌≤◌, ◌==◌, Bool, true, false, not, ◌&&◌, ◌||◌, if◌then◌else◌, List, [], ◌∷◌, ◌++◌, length, map, refl, sym, ap, subst, ◌∙◌, arith, inl, Option, Some, None, IsTrue, length-append, string_bytes}
+use Rattle.std.proofs.Common.{◌≡◌, ℕ, zero, suc, ◌+◌, ◌-◌, ◌<◌, ◌≤◌, ◌==◌, Bool, true, false, not, ◌&&◌, ◌||◌, if◌then◌else◌, List, [], ◌∷◌, ◌++◌, length, map, drop, get_or, refl, sym, ap, subst, ◌∙◌, arith, inl, Option, Some, None, IsTrue, length-append, string_bytes}
 use Rattle.std.specs.Prelude.{flat_map, slice_get}
 use Rattle.std.specs.Option.{option_to_list}
 use Rattle.std.proofs.lemmas.Option.{slice_get_within, slice_get-get_or}
 use Rattle.std.specs.List.{AllByRecursion}
 use Rattle.std.specs.Str.{bytes_eq}
-use Rattle.std.proofs.lemmas.List.{append-nil, append_assoc}
+use Rattle.std.proofs.lemmas.List.{append-nil, append_assoc, drop_more}
 use Rattle.jt_scan.specs.declared.options.Options.{Options}
 use Rattle.jt_parse.specs.Texts.{among, repeated}
 use Rattle.jt_parse.specs.Trees.{Text, Body, end}
@@ -22,7 +22,7 @@ use Rattle.jt_inherit.specs.Ways.{Leads, AreKnown, IsWay, IsWithin}
 use Rattle.jt_inherit.specs.declared.error.ChainError.{ChainError}
 use Rattle.jt_inherit.specs.declared.error.ChainError.TheVariants as error
 use Rattle.jt_inherit.proofs.Among.{same, reflexive, or_false, among_front, among_next, once_more, comes_again, map_more, all_more}
-use Rattle.jt_inherit.proofs.Placed.{length-map, only_one}
+use Rattle.jt_inherit.proofs.Placed.{length-map, only_one, map_at, place_within}
 
 abbrev pub names : List Template → List Text
 names = map (λ t. t.name)
@@ -290,3 +290,37 @@ page_last ps qs p n k e is at =
     let len : k ≡ length (names (pages_view ps)) = omega (arith, at, length_names (pages_view ps), length-map page_view ps) in
     ap (λ ts. slice_get (names ts) k) (pages_more ps qs p e) ∙ ap (λ l. slice_get l k) (map_more (λ (t : Template). t.name) (pages_view ps) (page_view p))
     ∙ ap (slice_get (names (pages_view ps) ++ string_bytes p.name ∷ [])) len ∙ last_at (names (pages_view ps)) (string_bytes p.name) ∙ ap (λ (x : Text). Some x) is
+
+-- ---- a way goes on
+
+pub on_way : (ps qs : List Page) (is js : List ℕ) (n m : Text) (b : Bool) → qs ≡ ps → js ≡ is → m ≡ n → b ≡ among m (names (templates_at (pages_view qs) js)) → b ≡ among n (names (templates_at (pages_view ps) is))
+on_way ps qs is js n m b p q r e =
+    e ∙ ap (λ (z : List Page). among m (names (templates_at (pages_view z) js))) p ∙ ap (λ (z : List ℕ). among m (names (templates_at (pages_view ps) z))) q ∙ ap (λ (z : Text). among z (names (templates_at (pages_view ps) is))) r
+
+name_of_slice : (ts : List Template) (i : ℕ) (t : Template) → slice_get ts i ≡ Some t → slice_get (names ts) i ≡ Some t.name
+name_of_slice [] i t e = absurd (cc)
+name_of_slice (u ∷ ts) zero t e =
+    let h : u ≡ t = cc in
+    ap (λ (z : Template). Some z.name) h
+name_of_slice (u ∷ ts) (suc i) t e = name_of_slice ts i t e
+
+pub way_turn : (ts us more : List Template) → us ≡ ts ++ more → (h : Text) (is js : List ℕ) (i : ℕ) (n m : Text) (o : Option Text) (t : Template) → IsWay ts h is (Some n) → among n (names (templates_at ts is)) ≡ false
+    → length is < 16 → repeated (names us) ≡ false → slice_get (names us) i ≡ Some m → m ≡ n → js ≡ is ++ i ∷ [] → slice_get us i ≡ Some t → o ≡ extends_of t.body → IsWay us h js o
+way_turn ts us more e h is js i n m o t w new lt once at same_name longer there ext =
+    let grown : IsWay us h is (Some n) = subst (λ vs. IsWay vs h is (Some n)) (sym e) (way_grows ts more h is (Some n) w) in
+    let fresh : among n (names (templates_at us is)) ≡ false = ap (λ vs. among n (names (templates_at vs is))) e ∙ ap (λ vs. among n (names vs)) (templates_grow ts more is w.places) ∙ new in
+    let told : Some t.name ≡ Some m = sym (name_of_slice us i t there) ∙ at in
+    let named : t.name ≡ m = cc in
+    let next = way_next us h is i t n grown there (named ∙ same_name) fresh once lt in
+    subst (λ z. IsWay us h z o) (sym longer) (subst (IsWay us h (is ++ i ∷ [])) (sym ext) next)
+
+pub grown_both : {X : Type 0} (xs ys zs us vs : List X) → ys ≡ xs ++ us → zs ≡ ys ++ vs → zs ≡ xs ++ (us ++ vs)
+grown_both xs ys zs us vs p q = q ∙ ap (λ l. l ++ vs) p ∙ append_assoc xs us vs
+
+pub on_way_turn : (ps : List Page) (is : List ℕ) (k : ℕ) (p : Page) (x : Text) → k < length is → ArePlaces (pages_view ps) is → p ≡ get_or ps (get_or is k 0) p
+    → among x (names (templates_at (pages_view ps) (drop k is))) ≡ (bytes_eq (string_bytes p.name) x || among x (names (templates_at (pages_view ps) (drop (k + 1) is))))
+on_way_turn ps is k p x lt a at =
+    let ts = pages_view ps in
+    let i = get_or is k 0 in
+    let within : i < length ps = place_within ps is k lt a in
+    ap (λ l. among x (names (templates_at ts l))) (drop_more is k 0 lt) ∙ ap (λ o. among x (names (option_to_list o ++ templates_at ts (drop (k + 1) is)))) (map_at page_view ps i p within at)

@@ -8,7 +8,7 @@ use Rattle.jt_inherit.specs.Chain.{Template}
 use Rattle.jt_inherit.specs.Includes.{needs_by, needs_in, needs_under}
 use Rattle.jt_inherit.specs.Needs.{Need, needed, includes_of, includes_in, includes_under}
 
-needed-append : (all : Bool) (ns ms : List Need) → needed all (ns ++ ms) ≡ needed all ns ++ needed all ms
+pub needed-append : (all : Bool) (ns ms : List Need) → needed all (ns ++ ms) ≡ needed all ns ++ needed all ms
 needed-append all [] ms = refl
 needed-append all (n ∷ ns) ms =
     ap (λ l. (if all || not n.ignoring then n.name ∷ [] else []) ++ l) (needed-append all ns ms)

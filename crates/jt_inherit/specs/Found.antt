@@ -1,5 +1,5 @@
 -- Chains while they are looked for: what is known of their includes, and of those that were followed.
-use Rattle.std.specs.Prelude.{◌≡◌, ℕ, ◌<◌, ◌≤◌, ◌⊎◌, true, false, Bool, IsTrue, List, [], ◌∷◌, ◌++◌, length, map, filter, slice_get, Option, Some, None, Result, Ok, Err, string_bytes}
+use Rattle.std.specs.Prelude.{◌≡◌, ℕ, ◌<◌, ◌≤◌, ◌⊎◌, true, false, Bool, IsTrue, List, [], ◌∷◌, ◌++◌, length, map, filter, slice_get, Some, None}
 use Rattle.std.specs.List.{AllByRecursion}
 use Rattle.jt_order.specs.Graph.{next_of}
 use Rattle.jt_order.specs.View.{graph_of}
@@ -8,31 +8,28 @@ use Rattle.jt_parse.specs.Trees.{Text}
 use Rattle.jt_scan.specs.declared.options.Options.{Options}
 use Rattle.jt_inherit.specs.Along.{includes_along, templates_at}
 use Rattle.jt_inherit.specs.Chain.{Template, sources_in}
-use Rattle.jt_inherit.specs.Chains.{Given, IsRead}
+use Rattle.jt_inherit.specs.Chains.{Given}
 use Rattle.jt_inherit.specs.Faults.{IsFaultOf}
 use Rattle.jt_inherit.specs.Kept.{BreakOne}
 use Rattle.jt_inherit.specs.Names.{IsName}
 use Rattle.jt_inherit.specs.Needs.{Need, needed}
-use Rattle.jt_inherit.specs.Pages.{page_view, pages_view, home_name}
+use Rattle.jt_inherit.specs.Pages.{pages_view, home_name}
 use Rattle.jt_inherit.specs.Places.{home_at}
 use Rattle.jt_inherit.specs.Rules.{Reaches}
 use Rattle.jt_inherit.specs.SetView.{strings}
-use Rattle.jt_inherit.specs.Ways.{AreKnown, IsWay, IsWithin}
+use Rattle.jt_inherit.specs.Ways.{AreKnown, IsWay}
 use Rattle.jt_inherit.specs.declared.discovery.Found.{Found}
 use Rattle.jt_inherit.specs.declared.error.ChainError.{ChainError}
 use Rattle.jt_inherit.specs.declared.linked.Home.{Home}
-use Rattle.jt_inherit.specs.declared.linked.Page.{Page}
 use Rattle.jt_inherit.specs.declared.error.ChainError.TheVariants as error
 
 -- a template that is included is known, or it may be missing, and is: its name is a good one without a source
 abbrev pub IsMet : Given → List Text → Need → Type 0
 IsMet given known n = IsTrue (among n.name known) ⊎ (IsTrue n.ignoring × IsName n.name × (given n.name ≡ None))
 
--- what is read where a template is included
-abbrev pub IsReadNeed : Given → Options → Need → Result (Option Page) ChainError → Type 0
-IsReadNeed given options n (Ok (Some p)) = (string_bytes p.name ≡ n.name) × IsRead given options (page_view p) × IsWithin given (page_view p)
-IsReadNeed given options n (Ok None) = IsTrue n.ignoring × IsName n.name × (given n.name ≡ None)
-IsReadNeed given options n (Err e) = IsFaultOf e given n.name options × (e ≡ error.Missing → n.ignoring ≡ false)
+-- the refusal is one of the template, which may not be missing
+abbrev pub IsFaultAt : Given → Options → Need → ChainError → Type 0
+IsFaultAt given options n e = IsFaultOf e given n.name options × (e ≡ error.Missing → n.ignoring ≡ false)
 
 -- the refusal is one of a template that is included, and that may not be missing where it is
 pub record IsNeedFault (given : Given) (options : Options) (ns : List Need) (e : ChainError) : Type 0 where
@@ -41,9 +38,12 @@ pub record IsNeedFault (given : Given) (options : Options) (ns : List Need) (e :
   pub must : e ≡ error.Missing → IsTrue (among name (needed false ns))
   pub fault : IsFaultOf e given name options
 
--- the names of those that are known, in the order of the source
+-- those of some names that are known, and those that are included, in the order of the source
+abbrev pub known_of : List Text → List Text → List Text
+known_of known names = filter (λ n. among n known) names
+
 abbrev pub chosen : List Text → List Need → List Text
-chosen known ns = filter (λ n. among n known) (needed true ns)
+chosen known ns = known_of known (needed true ns)
 
 -- chains with those of some names, each once, and the numbers of these
 pub record AreNext (old new names : List Text) (numbers : List ℕ) : Type 0 where
@@ -58,6 +58,13 @@ pub record AreNext (old new names : List Text) (numbers : List ℕ) : Type 0 whe
 abbrev pub TooMany : List Text → List Text → Type 0
 TooMany old names =
     (hs : List Text) × (1024 < length hs) × (repeated hs ≡ false) × ((h : Text) → IsTrue (among h hs) → IsTrue (among h old) ⊎ IsTrue (among h names))
+
+-- the numbers come behind others
+abbrev pub AddsNext : List Text → List Text → List Text → List ℕ → List ℕ → Type 0
+AddsNext old new names before after = (numbers : List ℕ) × (after ≡ before ++ numbers) × AreNext old new names numbers
+
+abbrev pub IsNextFault : List Text → List Text → ChainError → Type 0
+IsNextFault old names e = (e ≡ error.NoMemory) ⊎ ((e ≡ error.ChainTooLong) × TooMany old names)
 
 -- the way of a chain was read, and what its templates include; these are the numbers of the chains that it includes
 pub record IsFollowed (given : Given) (ts : List Template) (hs : List Text) (h : Text) (way next : List ℕ) : Type 0 where

@@ -82,7 +82,7 @@ pub(crate) fn discover<L: Library>(
     ensures refused { IfErr result (λ e. Breaks e (L.sources library.now) entry.now options) }
 {
     let mut found = begin(alloc, entry)?;
-    while found.ways.len() < found.homes.len() {
+    'chains: while found.ways.len() < found.homes.len() {
         follow(alloc, &mut found, library, options)?;
     }
     Ok(found)

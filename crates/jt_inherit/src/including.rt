@@ -1,10 +1,12 @@
 //! What the templates of a chain include: the templates, and the chains that begin there.
 
-ghost use Rattle.std.specs.Prelude.{◌≡◌, ◌≤◌, ◌++◌, ◌∷◌, [], ◌⊎◌, false, length, map, slice_get, Some, OnOk, IfOk, IfErr, if◌then◌else◌};
+ghost use Rattle.std.specs.Prelude.{◌≡◌, ◌≤◌, ◌++◌, ◌∷◌, [], ◌⊎◌, false, List, length, slice_get, Some, OnOk, IfOk, IfErr, if◌then◌else◌};
 ghost use Rattle.std.specs.List.{AllByRecursion};
 ghost use Rattle.jt_parse.specs.Texts.{among, repeated};
+ghost use Rattle.jt_parse.specs.Trees.{Text};
 ghost use Rattle.jt_inherit.specs.Along.{ArePlaces, includes_along};
-ghost use Rattle.jt_inherit.specs.Found.{IsMet, IsReadNeed, IsNeedFault, AreNext, TooMany, chosen};
+ghost use Rattle.jt_inherit.specs.Chain.{Template};
+ghost use Rattle.jt_inherit.specs.Found.{IsMet, IsFaultAt, IsNeedFault, AreNext, AddsNext, IsNextFault, known_of, chosen};
 ghost use Rattle.jt_inherit.specs.Needs.{need_view, needs_view};
 ghost use Rattle.jt_inherit.specs.Pages.{pages_view};
 ghost use Rattle.jt_inherit.specs.SetView.{strings};
@@ -40,18 +42,31 @@ fn includes_at<'a>(
     Ok(found)
 }
 
-/// Reads the template that is included, or none where it is missing and may be.
-fn read_need<L: Library>(
+/// Reads the template that is included where it wasn't read before. It is none where it is missing
+/// and may be.
+fn read_include<L: Library>(
     alloc: Global,
+    names: &mut IndexSet<String>,
+    fresh: &mut Vec<Page>,
     include: Include<'_>,
     library: &L,
     options: Options,
-) -> Result<Option<Page>, ChainError>
-    ensures { IsReadNeed (L.sources library.now) options (need_view include.entry) result }
+) -> Result<(), ChainError>
+    ensures known { OnOk result ((ts : List Template) → AreKnown (L.sources library.now) options (ts ++ pages_view fresh.old.items) (strings names.old.keys) →
+        AreKnown (L.sources library.now) options (ts ++ pages_view fresh.new.items) (strings names.new.keys)) }
+    ensures grown { OnOk result ((more : List Text) × (strings names.new.keys ≡ strings names.old.keys ++ more)) }
+    ensures met { OnOk result (IsMet (L.sources library.now) (strings names.new.keys) (need_view include.entry)) }
+    ensures refused { IfErr result (λ e. IsFaultAt (L.sources library.now) options (need_view include.entry) e) }
 {
+    if let Some(_place) = find(names, include.name) {
+        return Ok(());
+    }
     match read_page(alloc, include.name, library, options) {
-        Ok(page) => Ok(Some(page)),
-        Err(ChainError::Missing) if include.ignoring => Ok(None),
+        Ok(page) => {
+            add_page(alloc, names, fresh, page)?;
+            Ok(())
+        }
+        Err(ChainError::Missing) if include.ignoring => Ok(()),
         Err(refusal) => Err(refusal),
     }
 }
@@ -74,12 +89,7 @@ pub(crate) fn read_includes<L: Library>(
     let found = includes_at(alloc, pages, way)?;
     let mut fresh = Vec::new(alloc);
     for include in &found {
-        if find(names, include.name).is_some() {
-            continue;
-        }
-        if let Some(page) = read_need(alloc, *include, library, options)? {
-            add_page(alloc, names, &mut fresh, page)?;
-        }
+        read_include(alloc, names, &mut fresh, *include, library, options)?;
     }
     Ok(fresh)
 }
@@ -104,6 +114,27 @@ fn number_of(alloc: Global, homes: &mut IndexSet<String>, name: &str) -> Result<
     Ok(number)
 }
 
+/// Adds the number of the chain of a name, where there is a template of the name.
+fn add_number(
+    alloc: Global,
+    names: &IndexSet<String>,
+    homes: &mut IndexSet<String>,
+    numbers: &mut Vec<usize>,
+    name: &str,
+) -> Result<(), ChainError>
+    requires once { repeated (strings homes.old.keys) ≡ false }
+    requires few { length (strings homes.old.keys) ≤ MAX_CHAINS }
+    ensures next { OnOk result (AddsNext (strings homes.old.keys) (strings homes.new.keys) (known_of (strings names.now.keys) (name.now ∷ [])) numbers.old.items numbers.new.items) }
+    ensures refused { IfErr result (λ e. IsNextFault (strings homes.old.keys) (known_of (strings names.now.keys) (name.now ∷ [])) e) }
+{
+    let Some(_place) = find(names, name) else {
+        return Ok(());
+    };
+    let number = number_of(alloc, homes, name)?;
+    numbers.push(number)?;
+    Ok(())
+}
+
 /// The numbers of the chains that a chain with these templates includes; new ones are put behind
 /// the others.
 pub(crate) fn next_chains(
@@ -118,15 +149,12 @@ pub(crate) fn next_chains(
     requires few { length (strings homes.old.keys) ≤ MAX_CHAINS }
     ensures next { IfOk result (λ numbers. AreNext (strings homes.old.keys) (strings homes.new.keys)
         (chosen (strings names.now.keys) (includes_along (pages_view pages.now) way.now)) numbers.items) }
-    ensures refused { IfErr result (λ e. (e ≡ ChainError.NoMemory) ⊎ ((e ≡ ChainError.ChainTooLong) ×
-        TooMany (strings homes.old.keys) (chosen (strings names.now.keys) (includes_along (pages_view pages.now) way.now)))) }
+    ensures refused { IfErr result (λ e. IsNextFault (strings homes.old.keys) (chosen (strings names.now.keys) (includes_along (pages_view pages.now) way.now)) e) }
 {
     let found = includes_at(alloc, pages, way)?;
     let mut numbers = Vec::new(alloc);
     for include in &found {
-        if find(names, include.name).is_some() {
-            numbers.push(number_of(alloc, homes, include.name)?)?;
-        }
+        add_number(alloc, names, homes, &mut numbers, include.name)?;
     }
     Ok(numbers)
 }
