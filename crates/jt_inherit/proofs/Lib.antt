@@ -3,6 +3,7 @@ pub mod Among
 pub mod Checked
 pub mod Cuts
 pub mod Escapes
+pub mod Finding
 pub mod Following
 pub mod Gathered
 pub mod Growing
