@@ -10,7 +10,8 @@ use Rattle.std.specs.Str.{bytes_eq}
 use denote.Ref.{Bor}
 use Rattle.jt_parse.specs.Texts.{among, repeated}
 use Rattle.jt_parse.specs.Trees.{Text, end}
-use Rattle.jt_inherit.specs.Along.{body_at}
+use Rattle.std.specs.Option.{option_to_list}
+use Rattle.jt_inherit.specs.Along.{body_at, templates_at}
 use Rattle.jt_inherit.specs.Kept.{any_double}
 use Rattle.jt_inherit.specs.Chain.{Template, BlockBody, from_given, blocks_in}
 use Rattle.jt_inherit.specs.Checks.{named, lacks_body, lacks_next, block_names}
@@ -291,38 +292,25 @@ given_noted ks ms n b r x k m off =
 nothing : Template
 nothing = record { name = []; body = end }
 
-pub place_goes : (ts : List Template) (i : ℕ) (is js : List ℕ) → i < length ts → map (slice_get ts) is ≡ map Some (take i ts) → js ≡ is ++ i ∷ [] → map (slice_get ts) js ≡ map Some (take (i + 1) ts)
-place_goes ts i is js lt h e =
-    let t = get_or ts i nothing in
-    let at : slice_get ts i ≡ Some t = slice_get-get_or ts i nothing lt in
-    let same_t : t ≡ get_or ts i t = sym (get_or_from_slice_get ts i t t at) in
-    ap (map (slice_get ts)) e ∙ map_append (slice_get ts) is (i ∷ []) ∙ ap (λ l. l ++ slice_get ts i ∷ []) h ∙ ap (λ o. map Some (take i ts) ++ o ∷ []) at
-    ∙ sym (map_append Some (take i ts) (t ∷ [])) ∙ ap (map Some) (sym (take_next ts i t lt same_t))
-
-module _ (e : Bool) (ts : List Template) (i : ℕ) (lt : i < length ts) (xs : List Block) (b : Bool) (seen : blocks_view ts xs ≡ blocks_in (name_at ts i) (body_at ts i) e) (is : b ≡ repeated (block_names xs)) where
-  double_left : any_double e (drop i ts) ≡ (b || any_double e (drop (i + 1) ts))
+module _ (e : Bool) (ts : List Template) (is : List ℕ) (k : ℕ) (lt : k < length is) (within : get_or is k 0 < length ts) (xs : List Block) (b : Bool)
+    (seen : blocks_view ts xs ≡ blocks_in (name_at ts (get_or is k 0)) (body_at ts (get_or is k 0)) e) (told : b ≡ repeated (block_names xs)) where
+  double_left : any_double e (templates_at ts (drop k is)) ≡ (b || any_double e (templates_at ts (drop (k + 1) is)))
   double_left =
+      let i = get_or is k 0 in
       let t = get_or ts i nothing in
+      let at : slice_get ts i ≡ Some t = slice_get-get_or ts i nothing within in
       let found : blocks_in (name_at ts i) (body_at ts i) e ≡ blocks_in t.name t.body e =
-      ap (λ o. blocks_in (unwrap_or (option_map (λ (u : Template). u.name) o) []) (unwrap_or (option_map (λ (u : Template). u.body) o) end) e) (slice_get-get_or ts i nothing lt) in
+      ap (λ o. blocks_in (unwrap_or (option_map (λ (u : Template). u.name) o) []) (unwrap_or (option_map (λ (u : Template). u.body) o) end) e) at in
       let twice : repeated (map (λ (x : BlockBody). x.name) (blocks_in t.name t.body e)) ≡ b =
-      ap (λ l. repeated (names_of l)) (sym found) ∙ ap (λ l. repeated (names_of l)) (sym seen) ∙ ap repeated (names_seen ts xs) ∙ sym is in
-      ap (any_double e) (drop_more ts i nothing lt) ∙ ap (λ c. c || any_double e (drop (i + 1) ts)) twice
+      ap (λ l. repeated (names_of l)) (sym found) ∙ ap (λ l. repeated (names_of l)) (sym seen) ∙ ap repeated (names_seen ts xs) ∙ sym told in
+      ap (λ l. any_double e (templates_at ts l)) (drop_more is k 0 lt) ∙ ap (λ o. any_double e (option_to_list o ++ templates_at ts (drop (k + 1) is))) at
+      ∙ ap (λ c. c || any_double e (templates_at ts (drop (k + 1) is))) twice
 
-  pub double_found : b ≡ true → any_double e (drop i ts) ≡ true
-  double_found h = double_left ∙ ap (λ c. c || any_double e (drop (i + 1) ts)) h
+  pub double_found : b ≡ true → any_double e (templates_at ts (drop k is)) ≡ true
+  double_found h = double_left ∙ ap (λ c. c || any_double e (templates_at ts (drop (k + 1) is))) h
 
-  pub double_none : b ≡ false → any_double e (drop i ts) ≡ any_double e (drop (i + 1) ts)
-  double_none h = double_left ∙ ap (λ c. c || any_double e (drop (i + 1) ts)) h
-
-pub empty_list : {X : Type 0} (xs : List X) → not (length xs == 0) ≡ false → xs ≡ []
-empty_list [] h = refl
-empty_list (x ∷ xs) h =
-    let e : (suc (length xs) == 0) ≡ false = some_left (length xs) in
-    absurd (let k : not (suc (length xs) == 0) ≡ true = ap not e in let q : true ≡ false = sym k ∙ h in cc)
-  where
-    some_left : (n : ℕ) → (suc n == 0) ≡ false
-    some_left n = grind (arith, nat_tests)
+  pub double_none : b ≡ false → any_double e (templates_at ts (drop k is)) ≡ any_double e (templates_at ts (drop (k + 1) is))
+  double_none h = double_left ∙ ap (λ c. c || any_double e (templates_at ts (drop (k + 1) is))) h
 
 pub next_lacking : (ts : List Template) (qs : List Block) (b : Block) (rest : List Block) → (not (has_given b.name.now (blocks_view ts rest)) && calls_super (block_view ts b).body) ≡ true → lacks_next (blocks_view ts (qs ++ b ∷ rest)) ≡ true
 next_lacking ts qs b rest h =

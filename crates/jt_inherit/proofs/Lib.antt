@@ -1,4 +1,3 @@
-pub mod Alone
 pub mod Among
 pub mod Checked
 pub mod Cuts
@@ -10,6 +9,9 @@ pub mod Growing
 pub mod Leads
 pub mod Lengths
 pub mod Naming
+pub mod OnWay
+pub mod Ordered
+pub mod Whole
 pub mod Needed
 pub mod Placed
 pub mod Raws

@@ -15,13 +15,13 @@ macros_seen : (ts : List Template) (ms : List Macro) → map (λ (m : MacroBody)
 macros_seen ts [] = refl
 macros_seen ts (m ∷ ms) = ap (λ l. m.name.now ∷ l) (macros_seen ts ms)
 
-module _ (e : Bool) (ts : List Template) (is : List ℕ) (all : map (slice_get ts) is ≡ map Some ts) where
-  pub macros_told : (ms : List Macro) (b : Bool) → macros_view ts ms ≡ macros_along ts is → b ≡ repeated (macro_names ms) → repeated (map (λ m. m.name) (their_macros e ts)) ≡ b
+module _ (e : Bool) (ts us : List Template) (is : List ℕ) (all : map (slice_get ts) is ≡ map Some us) where
+  pub macros_told : (ms : List Macro) (b : Bool) → macros_view ts ms ≡ macros_along ts is → b ≡ repeated (macro_names ms) → repeated (map (λ m. m.name) (their_macros e us)) ≡ b
   macros_told ms b v h =
-      ap (λ (l : List MacroBody). repeated (map (λ m. m.name) l)) (sym (along_templates macros_in ts is ts all) ∙ sym v) ∙ ap repeated (macros_seen ts ms) ∙ sym h
+      ap (λ (l : List MacroBody). repeated (map (λ m. m.name) l)) (sym (along_templates macros_in ts is us all) ∙ sym v) ∙ ap repeated (macros_seen ts ms) ∙ sym h
 
-  pub bodies_told : (bs : List Block) (b : Bool) → blocks_view ts bs ≡ blocks_along ts e is → b ≡ lacks_body (blocks_view ts bs) → lacks_body (their_blocks e ts) ≡ b
-  bodies_told bs b v h = ap lacks_body (sym (along_templates (λ n x. blocks_in n x e) ts is ts all) ∙ sym v) ∙ sym h
+  pub bodies_told : (bs : List Block) (b : Bool) → blocks_view ts bs ≡ blocks_along ts e is → b ≡ lacks_body (blocks_view ts bs) → lacks_body (their_blocks e us) ≡ b
+  bodies_told bs b v h = ap lacks_body (sym (along_templates (λ n x. blocks_in n x e) ts is us all) ∙ sym v) ∙ sym h
 
-  pub next_told : (bs : List Block) (b : Bool) → blocks_view ts bs ≡ blocks_along ts e is → b ≡ lacks_next (blocks_view ts bs) → lacks_next (their_blocks e ts) ≡ b
-  next_told bs b v h = ap lacks_next (sym (along_templates (λ n x. blocks_in n x e) ts is ts all) ∙ sym v) ∙ sym h
+  pub next_told : (bs : List Block) (b : Bool) → blocks_view ts bs ≡ blocks_along ts e is → b ≡ lacks_next (blocks_view ts bs) → lacks_next (their_blocks e us) ≡ b
+  next_told bs b v h = ap lacks_next (sym (along_templates (λ n x. blocks_in n x e) ts is us all) ∙ sym v) ∙ sym h
