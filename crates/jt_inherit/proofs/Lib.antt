@@ -2,6 +2,7 @@ pub mod Among
 pub mod Checked
 pub mod Cuts
 pub mod Escapes
+pub mod Fewer
 pub mod Finding
 pub mod Following
 pub mod Gathered
@@ -12,6 +13,7 @@ pub mod Naming
 pub mod OnWay
 pub mod Ordered
 pub mod Whole
+pub mod Listed
 pub mod Needed
 pub mod Placed
 pub mod Raws
