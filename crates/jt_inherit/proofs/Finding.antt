@@ -56,7 +56,7 @@ includes_grow ts us is a b = includes_told (ts ++ us) is b ∙ ap (flat_map (λ 
 
 -- ---- what has a source
 
-some_source : (ts : List Template) (m : Text) → is_some (sources_in ts m) ≡ among m (names ts)
+pub some_source : (ts : List Template) (m : Text) → is_some (sources_in ts m) ≡ among m (names ts)
 some_source [] m = refl
 some_source (t ∷ ts) m = by (bytes_eq t.name m) refl (some_source ts m)
   where
