@@ -75,25 +75,3 @@ module _ (ts : List Template) (bs : List Block) (i m : ℕ) (b : Block) (lt : i 
       → drop i (set old i p) ≡ nexts (counted_from i (map (block_view ts) (drop i bs)))
   nexts_turn p old le s t =
       drop-set old i p le ∙ ap (λ k. p ∷ drop k old) (sym e) ∙ ap (λ l. p ∷ l) t ∙ ap (λ o. o ∷ nexts behind) s ∙ ap nexts (sym numbered_left)
-
--- ---- blocks whose tags say `scoped`
-
-module _ (ts : List Template) (bs : List Block) (i : ℕ) (b : Block) (lt : i < length bs) (is : b ≡ get_or bs i b) (x : Text) where
-  abbrev says : List Block → Bool
-  says l = list_any (λ c. c.scoped && bytes_eq c.name x) (map (block_view ts) l)
-
-  one : says (drop i bs) ≡ ((b.scoped && bytes_eq b.name.now x) || says (drop (i + 1) bs))
-  one = ap says (drop_more bs i b lt) ∙ ap (λ (z : Block). (z.scoped && bytes_eq z.name.now x) || says (drop (i + 1) bs)) (sym is)
-
-  pub scoped_turn : (p q : Option ℕ) → b.scoped ≡ true → q ≡ (if bytes_eq b.name.now x then Some 0 else p) → (is_some q || says (drop (i + 1) bs)) ≡ (is_some p || says (drop i bs))
-  scoped_turn p q r s =
-      ap (λ o. is_some o || says (drop (i + 1) bs)) s ∙ by (bytes_eq b.name.now x) (is_some p) (says (drop (i + 1) bs)) p refl
-      ∙ ap (λ a. is_some p || ((a && bytes_eq b.name.now x) || says (drop (i + 1) bs))) (sym r) ∙ ap (λ a. is_some p || a) (sym one)
-    where
-      by : (c d f : Bool) (o : Option ℕ) → is_some o ≡ d → (is_some (if c then Some 0 else o) || f) ≡ (d || (c || f))
-      by true true f o h = refl
-      by true false f o h = refl
-      by false d f o h = ap (λ a. a || f) h
-
-  pub unscoped_turn : (p : Option ℕ) → b.scoped ≡ false → (is_some p || says (drop (i + 1) bs)) ≡ (is_some p || says (drop i bs))
-  unscoped_turn p r = ap (λ a. is_some p || ((a && bytes_eq b.name.now x) || says (drop (i + 1) bs))) (sym r) ∙ ap (λ a. is_some p || a) (sym one)

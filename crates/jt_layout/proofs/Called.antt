@@ -84,27 +84,3 @@ module _ (ts : List Template) (x : Text) where
           let here : Some n ≡ None = sym (ap (λ c. if c then Some n else rest) q) ∙ e in
           absurd (cc)
       by false q g = ap (λ c. if c then Some (macro_view ts m) else macro_of x (map (macro_view ts) ms)) q ∙ g (sym (ap (λ c. if c then Some n else rest) q) ∙ e)
-
--- ---- defaults, one macro more
-
-module _ (ts : List Template) (ms : List Macro) (i : ℕ) (m : Macro) (lt : i < length ms) (is : m ≡ get_or ms i m) where
-  left : map (macro_view ts) (drop i ms) ≡ macro_view ts m ∷ map (macro_view ts) (drop (i + 1) ms)
-  left = ap (map (macro_view ts)) (drop_more ms i m lt) ∙ ap (λ (z : Macro). macro_view ts z ∷ map (macro_view ts) (drop (i + 1) ms)) (sym is)
-
-  pub defaults_turn : (n n' : ℕ) (old new : List ℕ) → n' ≡ n + length m.parameters.now → new ≡ old ++ n ∷ []
-      → new ++ defaults_from n' (map (macro_view ts) (drop (i + 1) ms)) ≡ old ++ defaults_from n (map (macro_view ts) (drop i ms))
-  defaults_turn n n' old new e g =
-      let rest = map (macro_view ts) (drop (i + 1) ms) in
-      let size : n' ≡ n + length (parameters_view m.parameters.now) = omega (arith, e, length-map parameter_view m.parameters.now) in
-      ap (λ l. l ++ defaults_from n' rest) g ∙ append_assoc old (n ∷ []) (defaults_from n' rest)
-      ∙ ap (λ k. old ++ n ∷ defaults_from k rest) size
-      ∙ ap (λ l. old ++ defaults_from n l) (sym left)
-
-  pub ended_turn : (n n' : ℕ) → n' ≡ n + length m.parameters.now
-      → n' + length (defaults_of (map (macro_view ts) (drop (i + 1) ms))) ≡ n + length (defaults_of (map (macro_view ts) (drop i ms)))
-  ended_turn n n' e =
-      let rest = map (macro_view ts) (drop (i + 1) ms) in
-      let ps = parameters_view m.parameters.now in
-      let first = map (λ p. default_value p.default) ps in
-      let whole : length (defaults_of (map (macro_view ts) (drop i ms))) ≡ length first + length (defaults_of rest) = ap (λ l. length (defaults_of l)) left ∙ length-append first (defaults_of rest) in
-      omega (arith, e, whole, length-map (λ p. default_value p.default) ps, length-map parameter_view m.parameters.now)

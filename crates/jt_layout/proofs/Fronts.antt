@@ -186,7 +186,7 @@ module _ (world : World) (order : List Home) where
             let e = apart h rest new k a in
             let before = s.defaults k x (or_right (bytes_eq h k) (among k rest) a) in
             let next : default_in world order (h ∷ rest) k x ≡ length (defaults_of (macros world.sources h)) + default_in world order rest k x =
-                ap (λ b. if b then first_default x (macros world.sources h) else length (defaults_of (macros world.sources h)) + default_in world order rest k x) e in
+                ap (λ b. if b then first_default x (macros world.sources k) else length (defaults_of (macros world.sources h)) + default_in world order rest k x) e in
             omega (arith, before, next, r);
         all = omega (arith, s.all, length-append (chain_keys world h) behind, q);
       }

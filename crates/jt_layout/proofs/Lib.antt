@@ -4,3 +4,4 @@ pub mod Firsts
 pub mod Fronts
 pub mod Included
 pub mod Named
+pub mod Tables

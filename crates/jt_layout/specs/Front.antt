@@ -3,9 +3,22 @@ use Rattle.std.specs.Prelude.{◌≡◌, ℕ, ◌+◌, true, List, length, flat_
 use Rattle.jt_parse.specs.Texts.{among}
 use Rattle.jt_parse.specs.Trees.{Text}
 use Rattle.jt_inherit.specs.Chain.{Home}
-use Rattle.jt_rules.specs.World.{World}
+use Rattle.jt_inherit.specs.Places.{home_at}
+use Rattle.jt_inherit.specs.View.{chain_view}
+use Rattle.jt_inherit.specs.declared.linked.Chain.{Chain}
+use Rattle.jt_rules.specs.World.{World, world_of}
 use Rattle.jt_meaning.specs.Layout.{Key, of_chain, of_macro, of_body, chain_keys, place_of, keys, unit, first_in, first_slot, default_in, default_place}
 use Rattle.jt_layout.specs.declared.front.Front.{Front}
+
+-- what a chain is read with, the names of the chains, and the one at a place
+abbrev pub its_world : Chain → World
+its_world c = world_of (chain_view c)
+
+abbrev pub its_order : Chain → List Home
+its_order c = (chain_view c).order
+
+abbrev pub its_home : Chain → ℕ → Home
+its_home c i = home_at (chain_view c).order i
 
 -- the chain that a routine is of
 abbrev pub home_of : Key → Home
