@@ -7,7 +7,7 @@ use Rattle.jt_inherit.specs.Chain.{Template}
 use Rattle.jt_inherit.specs.Includes.{needs_in}
 use Rattle.jt_inherit.specs.Layers.{layer_view}
 use Rattle.jt_inherit.specs.View.{chain_view}
-use Rattle.jt_inherit.specs.declared.parts.Layer.{Layer}
+use Rattle.jt_inherit.specs.declared.layers.Layer.{Layer}
 use Rattle.jt_uses.specs.Names.{texts}
 use Rattle.jt_layout.proofs.includes.included_names.Goals as goal
 
