@@ -1,8 +1,6 @@
 -- Bodies of blocks by their places.
-use Rattle.std.proofs.Common.{◌≡◌, ℕ, zero, suc, ◌+◌, ◌<◌, Bool, true, false, not, ◌&&◌, ◌||◌, cond, List, [], ◌∷◌, ◌++◌, length, map, drop, get_or, refl, sym, ap, subst, ◌∙◌, Option, Some, None, if◌then◌else◌, arith, add-one, set}
+use Rattle.std.proofs.Common.{◌≡◌, ℕ, zero, suc, ◌+◌, ◌<◌, Bool, true, false, cond, List, [], ◌∷◌, length, map, drop, get_or, refl, sym, ap, ◌∙◌, Option, Some, if◌then◌else◌, add-one, set}
 use Rattle.std.specs.Prelude.{slice_get, filter}
-use Rattle.std.specs.List.{list_any}
-use Rattle.std.specs.Option.{is_some}
 use Rattle.std.proofs.lemmas.List.{drop_more, drop-set}
 use Rattle.std.specs.Str.{bytes_eq}
 use Rattle.jt_parse.specs.Trees.{Text}
@@ -12,7 +10,6 @@ use Rattle.jt_inherit.specs.declared.parts.Block.{Block}
 use Rattle.jt_meaning.specs.Layout.{counted_from}
 use Rattle.jt_meaning.specs.Resolve.{next_given}
 use Rattle.jt_layout.specs.Places.{nexts}
-use Rattle.jt_layout.proofs.Called.{length-map}
 
 pub length-counted : {A : Type 0} (n : ℕ) (xs : List A) → length (counted_from n xs) ≡ length xs
 length-counted n [] = refl

@@ -1,15 +1,13 @@
 -- The first macro of a name.
-use Rattle.std.proofs.Common.{◌≡◌, ℕ, zero, suc, ◌+◌, ◌<◌, Bool, true, false, ◌&&◌, List, [], ◌∷◌, ◌++◌, length, map, drop, get_or, refl, sym, ap, subst, ◌∙◌, Option, Some, None, if◌then◌else◌, arith, length-append, append_assoc}
+use Rattle.std.proofs.Common.{◌≡◌, ℕ, suc, ◌+◌, Bool, true, false, ◌&&◌, List, [], ◌∷◌, ◌++◌, length, map, refl, sym, ap, ◌∙◌, Option, Some, None, if◌then◌else◌, arith}
 use Rattle.std.specs.Prelude.{slice_get}
-use Rattle.std.proofs.lemmas.List.{drop_more}
 use Rattle.std.specs.Str.{bytes_eq}
 use Rattle.jt_parse.specs.Trees.{Text}
-use Rattle.jt_parse.specs.View.{parameter_view, parameters_view}
-use Rattle.jt_inherit.specs.Chain.{Home, Template, MacroBody, macro_of}
+use Rattle.jt_parse.specs.View.{parameters_view}
+use Rattle.jt_inherit.specs.Chain.{Home, Template, macro_of}
 use Rattle.jt_inherit.specs.Parts.{macro_view}
 use Rattle.jt_inherit.specs.declared.parts.Macro.{Macro}
-use Rattle.jt_slots.specs.Filters.{default_value}
-use Rattle.jt_meaning.specs.Layout.{Key, of_macro, place_of, first_default, defaults_of}
+use Rattle.jt_meaning.specs.Layout.{Key, of_macro, place_of, first_default}
 use Rattle.jt_layout.specs.Places.{first_of, defaults_from}
 use Rattle.jt_layout.proofs.Firsts.{reflexive}
 

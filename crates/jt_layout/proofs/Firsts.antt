@@ -1,5 +1,5 @@
 -- Places of the first of some names.
-use Rattle.std.proofs.Common.{◌≡◌, ℕ, zero, suc, ◌+◌, ◌<◌, Bool, true, false, not, ◌||◌, cond, List, [], ◌∷◌, ◌++◌, length, map, drop, get_or, refl, sym, ap, subst, ◌∙◌, Option, Some, None, if◌then◌else◌, add-one, arith}
+use Rattle.std.proofs.Common.{◌≡◌, ℕ, zero, suc, ◌+◌, ◌<◌, Bool, true, false, ◌||◌, cond, List, [], ◌∷◌, length, map, drop, get_or, refl, sym, ap, subst, ◌∙◌, Option, Some, None, if◌then◌else◌, add-one, arith}
 use Rattle.std.specs.Prelude.{slice_get, unwrap_or, option_map, filter}
 use Rattle.std.specs.Option.{is_none}
 use Rattle.std.proofs.lemmas.List.{drop_more}
@@ -13,7 +13,7 @@ use Rattle.jt_inherit.specs.Chain.{Home, Template, BlockBody, sources_in}
 use Rattle.jt_inherit.specs.Pages.{home_name}
 use Rattle.jt_inherit.specs.Places.{home_at}
 use Rattle.jt_inherit.specs.declared.linked.Home as linked
-use Rattle.jt_slots.specs.Slots.{Slot, global}
+use Rattle.jt_slots.specs.Slots.{global}
 use Rattle.jt_meaning.specs.Layout.{slot_in, globals_from, counted_from}
 use Rattle.jt_meaning.specs.Resolve.{first_body}
 use Rattle.jt_uses.specs.Names.{texts}

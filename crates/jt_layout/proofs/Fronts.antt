@@ -1,12 +1,12 @@
 -- What is in front of a chain, one chain more.
-use Rattle.std.proofs.Common.{◌≡◌, ℕ, zero, suc, ◌+◌, ◌<◌, ◌==◌, Bool, true, false, not, ◌&&◌, ◌||◌, List, [], ◌∷◌, ◌++◌, length, map, refl, sym, ap, subst, ◌∙◌, if◌then◌else◌, arith, length-append, append_assoc, IsTrue, rules}
+use Rattle.std.proofs.Common.{◌≡◌, ℕ, zero, suc, ◌+◌, ◌<◌, ◌==◌, Bool, true, false, not, ◌&&◌, ◌||◌, List, [], ◌∷◌, ◌++◌, length, map, refl, sym, ap, ◌∙◌, if◌then◌else◌, arith, length-append, append_assoc, rules}
 use Rattle.std.specs.Prelude.{flat_map}
 use Rattle.std.specs.Str.{bytes_eq}
 use Rattle.jt_parse.specs.Texts.{among}
 use Rattle.jt_parse.specs.Trees.{Text}
 use Rattle.jt_inherit.specs.Chain.{Home, BlockBody, MacroBody, macros, all_bodies}
 use Rattle.jt_rules.specs.World.{World}
-use Rattle.jt_meaning.specs.Layout.{Key, of_chain, of_macro, of_body, same_key, place_of, chain_keys, keys, unit, names, counted_from, numbered_bodies, first_in, first_slot, default_in, default_place, defaults_of, first_default}
+use Rattle.jt_meaning.specs.Layout.{Key, of_chain, of_macro, of_body, same_key, place_of, chain_keys, unit, names, counted_from, numbered_bodies, first_in, first_slot, default_in, default_place, defaults_of, first_default}
 use Rattle.jt_layout.specs.Front.{home_of, Stands}
 use Rattle.jt_layout.specs.declared.front.Front.{Front}
 use Rattle.jt_layout.proofs.Bodied.{length-counted}
@@ -163,7 +163,7 @@ module _ (world : World) (order : List Home) where
     pub default_here : (x : Text) → default_place world order h x ≡ f.default + first_default x (macros world.sources h)
     default_here x =
         let first : default_in world order (h ∷ rest) h x ≡ first_default x (macros world.sources h) =
-            ap (λ b. if b then first_default x (macros world.sources h) else length (defaults_of (macros world.sources h)) + default_in world order rest h x) (reflexive h) in
+        ap (λ b. if b then first_default x (macros world.sources h) else length (defaults_of (macros world.sources h)) + default_in world order rest h x) (reflexive h) in
         s.defaults h x here ∙ ap (λ n. f.default + n) first
 
     -- and the next one
@@ -175,7 +175,7 @@ module _ (world : World) (order : List Home) where
             let e = apart h rest new k a in
             let before = s.slots k (or_right (bytes_eq h k) (among k rest) a) in
             let next : first_in world order (h ∷ rest) k ≡ length (names world order h) + first_in world order rest k =
-                ap (λ b. if b then 0 else length (names world order h) + first_in world order rest k) e in
+            ap (λ b. if b then 0 else length (names world order h) + first_in world order rest k) e in
             omega (arith, before, next, p);
         units = λ k a.
             let e = apart h rest new (home_of k) a in
@@ -186,7 +186,7 @@ module _ (world : World) (order : List Home) where
             let e = apart h rest new k a in
             let before = s.defaults k x (or_right (bytes_eq h k) (among k rest) a) in
             let next : default_in world order (h ∷ rest) k x ≡ length (defaults_of (macros world.sources h)) + default_in world order rest k x =
-                ap (λ b. if b then first_default x (macros world.sources k) else length (defaults_of (macros world.sources h)) + default_in world order rest k x) e in
+            ap (λ b. if b then first_default x (macros world.sources k) else length (defaults_of (macros world.sources h)) + default_in world order rest k x) e in
             omega (arith, before, next, r);
         all = omega (arith, s.all, length-append (chain_keys world h) behind, q);
       }

@@ -1,5 +1,5 @@
 -- The table of a chain.
-use Rattle.std.proofs.Common.{◌≡◌, ℕ, zero, suc, ◌+◌, ◌<◌, Bool, true, false, not, ◌||◌, List, [], ◌∷◌, ◌++◌, length, map, drop, get_or, refl, sym, ap, subst, ◌∙◌, Option, Some, None, if◌then◌else◌, arith, add-one, string_bytes}
+use Rattle.std.proofs.Common.{◌≡◌, ℕ, zero, suc, ◌+◌, ◌<◌, true, false, not, ◌||◌, List, [], ◌∷◌, ◌++◌, length, map, drop, get_or, refl, sym, ap, subst, ◌∙◌, Option, Some, None, if◌then◌else◌, arith, add-one, string_bytes}
 use Rattle.std.specs.Prelude.{slice_get, option_map}
 use Rattle.std.specs.Option.{is_some, is_none}
 use Rattle.std.specs.Str.{bytes_eq}
@@ -14,23 +14,20 @@ use Rattle.jt_inherit.specs.Uses as uses
 use Rattle.jt_inherit.specs.View.{chain_view, sources_of}
 use Rattle.jt_inherit.specs.declared.linked.Chain.{Chain}
 use Rattle.jt_inherit.specs.declared.linked.Page.{Page}
-use Rattle.jt_inherit.specs.declared.parts.Macro.{Macro}
 use Rattle.jt_inherit.specs.declared.parts.Block.{Block}
 use Rattle.jt_rules.specs.World.{World}
 use Rattle.jt_slots.specs.Slots.{global}
-use Rattle.jt_meaning.specs.Layout.{slot_in, globals_from, counted_from, of_macro, of_body, of_chain, place_of, first_default, default_place, numbered_of, names, scopes, block_parameters, is_scoped, unit, chain_keys, defaults_of}
+use Rattle.jt_meaning.specs.Layout.{slot_in, globals_from, counted_from, of_macro, of_body, place_of, first_default, default_place, numbered_of, names, scopes, block_parameters, is_scoped, unit, defaults_of}
 use Rattle.jt_meaning.specs.Resolve.{first_body}
-use Rattle.jt_uses.specs.Names.{texts}
 use Rattle.jt_layout.specs.Front.{Stands, its_world, its_order, its_home}
-use Rattle.jt_layout.specs.Laid.{IsLaid, IsCalled}
-use Rattle.jt_layout.specs.Names.{place_in}
+use Rattle.jt_layout.specs.Laid.{IsCalled}
 use Rattle.jt_layout.specs.Places.{first_of, defaults_from, nexts}
 use Rattle.jt_layout.specs.declared.front.Front.{Front}
 use Rattle.jt_layout.specs.declared.laid.Laid.{Laid}
-use Rattle.jt_layout.proofs.Bodied.{length-counted, length-nexts, next_at}
+use Rattle.jt_layout.proofs.Bodied.{length-counted, length-nexts}
 use Rattle.jt_layout.proofs.Called.{length-map, first_macro, no_macro}
 use Rattle.jt_layout.proofs.Firsts.{same, reflexive, or_right, in_slots, first_bodies, homes_left, of_sources}
-use Rattle.jt_layout.proofs.Fronts.{apart, slot_here, chain_unit, macro_unit, body_unit, default_here, front_turn, count_keys, macro_keys}
+use Rattle.jt_layout.proofs.Fronts.{apart, macro_unit, body_unit, default_here, front_turn, count_keys}
 
 map_both : {A B C : Type 0} (f : B → C) (g : A → B) (xs : List A) → map (λ x. f (g x)) xs ≡ map f (map g xs)
 map_both f g [] = refl

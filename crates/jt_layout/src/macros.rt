@@ -26,11 +26,7 @@ pub(crate) struct Defaults {
 }
 
 /// The places of the defaults of macros, from one on.
-fn default_places(
-    alloc: Global,
-    macros: &[Macro<'_>],
-    first: usize,
-) -> Result<Defaults, ScopeError>
+fn default_places(alloc: Global, macros: &[Macro<'_>], first: usize) -> Result<Defaults, ScopeError>
     ensures placed { IfOk result (λ d. (ts : List Template) → d.places.items ≡ defaults_from first (map (macro_view ts) macros.now)) }
     ensures ended { IfOk result (λ d. (ts : List Template) → d.end ≡ first + length (defaults_of (map (macro_view ts) macros.now))) }
     ensures refused { IfErr result (λ e. e ≡ error.NoMemory) }

@@ -1,12 +1,11 @@
-use Rattle.std.proofs.Common.{◌≡◌, ℕ, ◌+◌, length, map, sym, ap, ◌∙◌, arith}
-use Rattle.std.specs.Prelude.{slice_get, vec_len}
-use Rattle.jt_inherit.specs.Chain.{macros, all_bodies}
-use Rattle.jt_inherit.specs.Parts.{macro_view, block_view}
+use Rattle.std.proofs.Common.{◌≡◌, ◌+◌, length, sym, ap, ◌∙◌, arith}
+use Rattle.std.specs.Prelude.{slice_get}
+use Rattle.jt_inherit.specs.Chain.{macros}
+use Rattle.jt_inherit.specs.Parts.{macro_view}
 use Rattle.jt_inherit.specs.View.{chain_view}
 use Rattle.jt_meaning.specs.Layout as layout
 use Rattle.jt_uses.specs.Names.{texts}
 use Rattle.jt_layout.specs.Front.{its_world, its_order, its_home}
-use Rattle.jt_layout.specs.declared.front.Front.{Front}
 use Rattle.jt_layout.specs.declared.laid.Laid.{Laid}
 use Rattle.jt_layout.proofs.Bodied.{next_at}
 use Rattle.jt_layout.proofs.Called.{length-map}
@@ -75,7 +74,7 @@ returns-clause-behind c =
     let count : length ms.all.items ≡ length (macros W.sources h) = sym (length-map (macro_view (chain_view a).templates) ms.all.items) ∙ ap length c.in_ok-macros.ensures.all in
     let slots : length c.args.names.items ≡ length (layout.names W (its_order a) h) = sym (length-map (λ k. k.now) c.args.names.items) ∙ ap length c.requires.named in
     let units : c.in_ok-more-2.field-0 ≡ (f.unit + 1) + length ms.all.items + length bs.all.items =
-        omega (arith, c.in_ok-more-2.ensures.added, c.in_ok-body_unit.ensures.added, c.in_ok-macro_unit.ensures.added, c.len.ensures, c.len-3.ensures, ms.all.ok.0, bs.all.ok.0) in
+    omega (arith, c.in_ok-more-2.ensures.added, c.in_ok-body_unit.ensures.added, c.in_ok-macro_unit.ensures.added, c.len.ensures, c.len-3.ensures, ms.all.ok.0, bs.all.ok.0) in
     let slots_are : c.in_ok-more.field-0 ≡ f.slot + length c.args.names.items = omega (arith, c.in_ok-more.ensures.added, c.len-2.ensures, c.args.names.ok.0) in
     behind a i lt f s _ (length c.args.names.items) (length ms.all.items) (length bs.all.items) slots_are slots units count
     (count_blocks a i lt f s bs.all.items c.in_ok-bodies.ensures.all) c.in_ok-macros.ensures.ended

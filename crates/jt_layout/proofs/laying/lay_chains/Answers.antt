@@ -1,8 +1,7 @@
-use Rattle.std.proofs.Common.{◌≡◌, ℕ, ◌+◌, ◌<◌, ◌≤◌, ◌++◌, [], ◌∷◌, length, map, drop, get_or, sym, ap, subst, ◌∙◌, arith, refl, length-append, false, List}
+use Rattle.std.proofs.Common.{◌≡◌, ℕ, ◌+◌, ◌<◌, ◌≤◌, [], ◌∷◌, length, get_or, sym, ap, subst, ◌∙◌, arith, refl, length-append, List}
 use Rattle.std.specs.Prelude.{flat_map}
 use Rattle.std.specs.Str.{bytes_eq}
 use Rattle.std.proofs.lemmas.List.{at_drop_all}
-use Rattle.jt_parse.specs.Trees.{Text}
 use Rattle.jt_inherit.specs.Pages.{home_name}
 use Rattle.jt_inherit.specs.View.{chain_view}
 use Rattle.jt_meaning.specs.Layout as layout

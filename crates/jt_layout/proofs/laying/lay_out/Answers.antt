@@ -1,8 +1,5 @@
-use Rattle.std.proofs.Common.{◌≡◌, List, length, map, sym, ap, ◌∙◌, arith, string_bytes}
-use denote.Ref.{Bor}
-use Rattle.jt_parse.specs.Trees.{Text}
+use Rattle.std.proofs.Common.{map, sym, ap, ◌∙◌, arith, string_bytes}
 use Rattle.jt_inherit.specs.Pages.{home_name}
-use Rattle.jt_inherit.specs.declared.linked.Home.{Home}
 use Rattle.jt_inherit.specs.declared.linked.Page.{Page}
 use Rattle.jt_uses.specs.Names.{texts}
 use Rattle.jt_layout.specs.Front.{its_order}
