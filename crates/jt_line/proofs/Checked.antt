@@ -1,11 +1,10 @@
 -- The options and flags of a line that the program takes, as their parsers took them.
-use Rattle.std.proofs.Common.{◌≡◌, ◌&&◌, ◌||◌, ◌==◌, ◌<◌, ◌^◌, ℕ, Bool, true, false, not, codes, List, [], ◌∷◌, Option, Some, None, arith, refl, subst, sym}
+use Rattle.std.proofs.Common.{◌≡◌, ◌&&◌, ◌||◌, ◌==◌, ◌<◌, ◌^◌, ℕ, Bool, true, false, not, codes, List, [], ◌∷◌, Option, Some, None, ap₂, arith, refl, subst, sym}
 use Rattle.std.specs.Prelude.{IfSome, find, option_map, pos}
 use Rattle.std.specs.List.{AllByRecursion, list_all}
 use Rattle.std.specs.Option.{option_map_or}
 use Rattle.std.specs.Str.{bytes_eq}
 use Rattle.std.proofs.lemmas.Bool.{eqb-true, not-true, true≢false}
-use Rattle.std.proofs.lemmas.Option.{IfSome_then}
 use Rattle.clap.specs.Facts.{parser_of_value}
 use Rattle.clap.specs.Faults.{entered_fault, level_fault}
 use Rattle.clap.specs.Kinds.{Kinds}
@@ -47,14 +46,14 @@ finds_long : Finds is_long (parser.Unsigned 0 18446744073709551615)
 unfolding is_long
 finds_long (parser.Unsigned low high) e =
     let h = both _ _ e in
-    rw (eqb-true _ _ h.0, eqb-true _ _ h.1) refl
+    ap₂ parser.Unsigned (eqb-true _ _ h.0) (eqb-true _ _ h.1)
 finds_long _ e = absurd (true≢false (sym e))
 
 finds_short : (most : ℕ) → Finds (is_short most) (parser.Signed (pos 0) (pos most))
 unfolding is_short
 finds_short most (parser.Signed (pos low) (pos high)) e =
     let h = both _ _ e in
-    rw (eqb-true _ _ h.0, eqb-true _ _ h.1) refl
+    ap₂ (λ a b. parser.Signed (pos a) (pos b)) (eqb-true _ _ h.0) (eqb-true _ _ h.1)
 finds_short most _ e = absurd (true≢false (sym e))
 
 -- each argument of this id has a parser that passes the test, and heeds the case of letters
@@ -114,7 +113,15 @@ Reads id P words = IfSome (subcommand_of program_app words) (λ c. IfSome (one_o
 
 reads : (id : Text) (p : ValueParser) (P : Text → Type 0) (words : List Text) → ((text : Text) → IsRead id p text → P text)
     → IfSome (subcommand_of program_app words) (λ c. IfSome (one_of id c.1) (IsRead id p)) → Reads id P words
-reads id p P words says h = IfSome_then _ h (λ c k. IfSome_then _ k says)
+reads id p P words says h = rows (subcommand_of program_app words) h
+  where
+    text : (o : Option Text) → IfSome o (IsRead id p) → IfSome o P
+    text None k = tt
+    text (Some t) k = says t k
+
+    rows : (o : Option (Text × List Row)) → IfSome o (λ c. IfSome (one_of id c.1) (IsRead id p)) → IfSome o (λ c. IfSome (one_of id c.1) P)
+    rows None k = tt
+    rows (Some c) k = text (one_of id c.1) k
 
 switch : (id : Text) (words : List Text) → are_checked id is_switch (built program_app).subs ≡ true → Takes words → Reads id IsSwitch words
 switch id words checked e =

@@ -1,9 +1,10 @@
 -- The values of one argument in the rows of a line that a command takes: each passed its parser.
-use Rattle.std.proofs.Common.{◌≡◌, ℕ, Bool, true, false, cond, not, ◌&&◌, ◌||◌, ◌==◌, List, [], ◌∷◌, ◌++◌, map, length, min, ◌+◌, drop, Option, Some, None, ap, refl, sym, subst, is_some, fold, zero, suc}
+use Rattle.std.proofs.Common.{◌≡◌, ℕ, Bool, true, false, cond, not, ◌&&◌, ◌||◌, ◌==◌, List, [], ◌∷◌, ◌++◌, map, length, min, ◌+◌, drop, Option, Some, None, ap, refl, sym, subst, is_some, fold, zero, suc, arith}
 use Rattle.std.specs.Prelude.{IfSome, encode_utf8, find, option_and_then, option_map, slice_get}
 use Rattle.std.specs.List.{AllByRecursion}
 use Rattle.std.specs.Option.{option_map_or}
 use Rattle.std.specs.Str.{bytes_eq, chars}
+use Rattle.std.proofs.lemmas.Bool.{ne_eqb}
 use Rattle.std.proofs.lemmas.Slice.Eq.{bytes_eq-Decides}
 use Rattle.clap.specs.Facts.{parser_of_value}
 use Rattle.clap.specs.Faults.{action_fault, bundle_fault, bundle_step_fault, defaults_fault, flag_word_fault, flags_fault, given_default_fault, level_fault, long_fault, option_fault, other_fault, positional_fault, react_fault, settle_fault, short_fault, step_fault, turn_fault, use_fault, values_fault, walk_fault, word_fault}
@@ -41,6 +42,9 @@ found P test (x ∷ xs) h = go (test x) refl (found P test xs h.1)
 joined : {X : Type 0} (P : X → Type 0) (xs ys : List X) → AllByRecursion P xs → AllByRecursion P ys → AllByRecursion P (xs ++ ys)
 joined P [] ys h k = k
 joined P (x ∷ xs) ys h k = (h.0, joined P xs ys h.1 k)
+
+not_empty : {X : Type 0} (x : X) (xs : List X) → is_empty (x ∷ xs) ≡ false
+not_empty x xs = ne_eqb _ _ (λ e. omega arith)
 
 -- ---- values
 
@@ -299,7 +303,9 @@ module _ (id : Text) (p : ValueParser) where
             → RowsPass (cond b rows (default_rows a.id (reading_by a) values rows))
         go true values f = h
         go false [] f = h
-        go false (v ∷ vs) f = values_pass a DefaultValue (v ∷ vs) rows has.0 (neither (request_kinds (action_of a)) (values_fault a (v ∷ vs)) f).1 h
+        go false (v ∷ vs) f =
+            let some : or_else (request_kinds (action_of a)) (values_fault a (v ∷ vs)) ≡ [] = rw (not_empty v vs) at f in
+            values_pass a DefaultValue (v ∷ vs) rows has.0 (neither _ _ some).1 h
 
     -- what was found where nothing was wrong
     pub found_pass : (names : Names) (words : List Text) (has_subcommand : Bool) (below : Kinds)
