@@ -23,7 +23,7 @@ use crate::blocks::{block_called, super_called};
 use crate::callee::{Callee, Signature, callee_of};
 use crate::filling::{fill, fill_some};
 use crate::forms::{
-    chosen, form_of, formed, literal_value, no_operation, on_one, on_two, range_of, test_of,
+    chosen, form_of, formed, literal_value, no_operation, on_one, on_two, range_of,
     turn_among, turned, unary_operation,
 };
 use crate::loops::{field_of, is_loop_name, told};
@@ -35,7 +35,7 @@ use jt_filters::FilterId;
 use jt_layout::Scope;
 use jt_ops::OpId;
 use jt_rules::ScopeError;
-use jt_slots::{Field, Maker, SExpr, filter_of, filter_parameters, test_of};
+use jt_slots::{Maker, SExpr, filter_of, filter_parameters, test_of};
 use jt_value::Value;
 use std::alloc::Global;
 
