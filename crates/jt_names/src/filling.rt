@@ -17,8 +17,8 @@ ghost use Rattle.jt_slots.specs.Slots as slots;
 ghost use Rattle.jt_slots.specs.View.{expr_view};
 
 use crate::forms::literal_value;
+use crate::lookup::{kept, more, value_or};
 use crate::pool::add_value;
-use crate::reading::{kept, more, value_or};
 use jt_expr::Expr;
 use jt_parse::Parameter;
 use jt_rules::ScopeError;

@@ -10,7 +10,7 @@ ghost use Rattle.jt_names.specs.Scoped.{RowLeads, spot_in};
 ghost use Rattle.jt_rules.specs.declared.error.ScopeError.TheVariants as error;
 ghost use Rattle.jt_slots.specs.Slots as slots;
 
-use crate::reading::{reading, slot};
+use crate::lookup::{reading, slot};
 use crate::spot::Spot;
 use jt_layout::Scope;
 use jt_rules::ScopeError;

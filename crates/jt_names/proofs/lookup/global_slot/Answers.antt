@@ -1,7 +1,7 @@
 use Rattle.std.proofs.Common.{◌≡◌, sym, ap, ◌∙◌}
 use Rattle.std.specs.Prelude.{option_map}
 use Rattle.jt_slots.specs.Slots.{global}
-use Rattle.jt_names.proofs.reading.global_slot.Goals as goal
+use Rattle.jt_names.proofs.lookup.global_slot.Goals as goal
 
 pub returns-in-Some : goal.returns-in-Some
 returns-in-Some c =

@@ -1,7 +1,7 @@
 use Rattle.std.proofs.Common.{◌≡◌, ◌≤◌, length, map, take}
 use Rattle.jt_meaning.specs.Layout.{slot_in}
 use Rattle.jt_names.specs.Scoped.{globals_in, framed}
-use Rattle.jt_names.proofs.reading.slot.Given as goal
+use Rattle.jt_names.proofs.lookup.slot.Given as goal
 
 abbrev pub invariant-loop-left : goal.invariant-loop-left
 invariant-loop-left l = record {

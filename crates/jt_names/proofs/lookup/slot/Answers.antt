@@ -3,7 +3,7 @@ use Rattle.jt_meaning.specs.Layout.{slot_in}
 use Rattle.jt_names.specs.Scoped.{globals_in, framed}
 use Rattle.jt_names.proofs.Names.{found_or}
 use Rattle.jt_names.proofs.Frames.{framed_found}
-use Rattle.jt_names.proofs.reading.slot.Goals as goal
+use Rattle.jt_names.proofs.lookup.slot.Goals as goal
 
 pub returns-in-Some : goal.returns-in-Some
 returns-in-Some c =
