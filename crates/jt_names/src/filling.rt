@@ -78,7 +78,8 @@ pub fn fill_some(
 {
     let rest = behind(parameters, given);
     for (place, parameter) in rest.iter().enumerate() {
-        if !is_some_given(&rest[place..], pairs) {
+        let left = &rest[place..];
+        if !is_some_given(left, pairs) {
             return Ok(());
         }
         let value = given_or_default(alloc, parameter, pairs, free, pool)?;
