@@ -1,18 +1,18 @@
 -- How deep the parts of an expression are.
-use Rattle.std.proofs.Common.{◌≡◌, ℕ, ◌<◌, rules, arith, Bool, Vec, Box, String, Global}
+use Rattle.std.proofs.Common.{◌≡◌, ℕ, ◌<◌, List, rules, arith, Bool, Vec, Box, String, Global}
 use Rattle.std.specs.Prelude.{max}
 use denote.Param.Weighed.{most}
 use Rattle.jt_expr.specs.declared.tree.Expr.{Expr, size-Expr}
 use Rattle.jt_expr.specs.declared.tree.Expr.TheVariants as e
 
-pub call_depth : (x : Expr) (p : Box Expr Global) (ts : Vec Expr Global) (ps : Vec (String Global × Expr) Global) → x ≡ e.Call p ts ps
-    → max (most (λ y. size-Expr y) ts.items) (most (λ y. size-Expr y.1) ps.items) < size-Expr x
-call_depth x p ts ps is = search rules
+pub call_depth : (x : Expr) (us : List Expr) (qs : List (String Global × Expr)) (p : Box Expr Global) (ts : Vec Expr Global) (ps : Vec (String Global × Expr) Global) → x ≡ e.Call p ts ps → us ≡ ts.items → qs ≡ ps.items
+    → max (most (λ y. size-Expr y) us) (most (λ y. size-Expr y.1) qs) < size-Expr x
+call_depth x us qs p ts ps is f g = search rules
 
-pub filter_depth : (x : Expr) (p : Box Expr Global) (k : String Global) (ts : Vec Expr Global) (ps : Vec (String Global × Expr) Global) → x ≡ e.Filter p k ts ps
-    → max (size-Expr p.value) (max (most (λ y. size-Expr y) ts.items) (most (λ y. size-Expr y.1) ps.items)) < size-Expr x
-filter_depth x p k ts ps is = search rules
+pub filter_depth : (x a : Expr) (us : List Expr) (qs : List (String Global × Expr)) (p : Box Expr Global) (k : String Global) (ts : Vec Expr Global) (ps : Vec (String Global × Expr) Global) → x ≡ e.Filter p k ts ps
+    → a ≡ p.value → us ≡ ts.items → qs ≡ ps.items → max (size-Expr a) (max (most (λ y. size-Expr y) us) (most (λ y. size-Expr y.1) qs)) < size-Expr x
+filter_depth x a us qs p k ts ps is f g h = search rules
 
-pub test_depth : (x : Expr) (p : Box Expr Global) (n : Bool) (k : String Global) (ts : Vec Expr Global) (ps : Vec (String Global × Expr) Global) → x ≡ e.Test p n k ts ps
-    → max (size-Expr p.value) (most (λ y. size-Expr y) ts.items) < size-Expr x
-test_depth x p n k ts ps is = search rules
+pub test_depth : (x a : Expr) (us : List Expr) (p : Box Expr Global) (n : Bool) (k : String Global) (ts : Vec Expr Global) (ps : Vec (String Global × Expr) Global) → x ≡ e.Test p n k ts ps
+    → a ≡ p.value → us ≡ ts.items → max (size-Expr a) (most (λ y. size-Expr y) us) < size-Expr x
+test_depth x a us p n k ts ps is f g = search rules
