@@ -48,10 +48,7 @@ pub fn first_locals(alloc: Global, count: usize) -> Result<Vec<(Option<usize>, S
 }
 
 /// A row of one expression.
-pub fn row_of(
-    alloc: Global,
-    first: SExpr,
-) -> Result<Vec<(Option<usize>, SExpr)>, ScopeError>
+pub fn row_of(alloc: Global, first: SExpr) -> Result<Vec<(Option<usize>, SExpr)>, ScopeError>
     ensures alone { IfOk result (λ row. row.items ≡ (None, first) ∷ []) }
     ensures refused { IfErr result (λ e. e ≡ error.NoMemory) }
 {

@@ -29,6 +29,7 @@ use Rattle.jt_names.specs.Callees.{IsCallee}
 use Rattle.jt_names.specs.declared.callee.Callee.{Callee}
 use Rattle.jt_names.specs.Scoped.{values, IsPlaced, world_in, order_in, home_in, spot_in, expr_in, row_in, asides_in, entries_in, filtered_in}
 use Rattle.jt_names.proofs.Calling.{count_length, macro_called, cycled}
+use Rattle.jt_names.proofs.Depths.{call_depth, filter_depth, test_depth}
 use Rattle.jt_names.proofs.Filters.{named_is, parameters_are}
 use Rattle.jt_names.proofs.Leading.{same_tree, begun, of_whole, of_left, row_both, row_item, row_aside, made_placed, invoked_placed}
 use Rattle.jt_names.proofs.Left.{Pair, row_left, pairs_left}
@@ -236,7 +237,7 @@ resolve_filter-returns-in_ok-first-in-Some-clause-placed t c =
     subst P (sym named) (h a p c.in_ok-first-in-Some.ensures.placed)) c.resolve_filtered.ensures.placed
 
 pub resolve_filtered-returns-clause-placed : goal.resolve_filtered-returns-clause-placed
-resolve_filtered-returns-clause-placed t c =λ k p h.
+resolve_filtered-returns-clause-placed t c = λ k p h.
     let s = c.args.scope.now in
     let spot = c.args.spot.now in
     let f = c.args.filter in
@@ -301,10 +302,10 @@ resolve_call-returns-in-Macro-clause-placed t c =
     let n : count ts ≡ length c.args.row.now = count_length c.args.row.now in
     let signature = c.in-Macro.signature in
     let same : invoke signature.unit spot.escaping (row_in s ts spot (asides_in s ps spot (filled (parameters_view signature.parameters.now) (length c.args.row.now) signature.first_default ks)))
-        ≡ invoked (world_in s) (order_in s) k (spot_in s spot) (λ z. row_in s ts spot z) (λ z. asides_in s ps spot z) (count ts) ks =
-        macro_called (world_in s) (order_in s) (home_in s) signature m.0 m.1.0 spot.escaping (λ z. row_in s ts spot (asides_in s ps spot z)) (length c.args.row.now) ks
-        ∙ ap (λ (i : ℕ). invoked (world_in s) (order_in s) (a_macro m.0) (spot_in s spot) (λ z. row_in s ts spot z) (λ z. asides_in s ps spot z) i ks) (sym n)
-        ∙ ap (λ z. invoked (world_in s) (order_in s) z (spot_in s spot) (λ y. row_in s ts spot y) (λ y. asides_in s ps spot y) (count ts) ks) (sym m.1.1) in
+    ≡ invoked (world_in s) (order_in s) k (spot_in s spot) (λ z. row_in s ts spot z) (λ z. asides_in s ps spot z) (count ts) ks =
+    macro_called (world_in s) (order_in s) (home_in s) signature m.0 m.1.0 spot.escaping (λ z. row_in s ts spot (asides_in s ps spot z)) (length c.args.row.now) ks
+    ∙ ap (λ (i : ℕ). invoked (world_in s) (order_in s) (a_macro m.0) (spot_in s spot) (λ z. row_in s ts spot z) (λ z. asides_in s ps spot z) i ks) (sym n)
+    ∙ ap (λ z. invoked (world_in s) (order_in s) z (spot_in s spot) (λ y. row_in s ts spot y) (λ y. asides_in s ps spot y) (count ts) ks) (sym m.1.1) in
     IfOk-weaker c.resolve_macro.result _ _ (λ e h.
     let P : slots.SExpr Constant → Type 0 = λ z. IsPlaced z (coded e) (values c.args.pool.now) (values c.resolve_macro.new.pool) in
     subst P same h) c.resolve_macro.ensures.placed
@@ -321,9 +322,9 @@ resolve_call-returns-in-Range-clause-placed t c =
     let is : k ≡ a_range = subst Q c.in-Range.is c.in_ok-signature.ensures.named in
     let n : count ts ≡ length c.args.row.now = count_length c.args.row.now in
     let same : slots.made (slots.operator (range_of (length c.args.row.now))) (row_in s ts spot slots.none)
-        ≡ invoked (world_in s) (order_in s) k (spot_in s spot) (λ z. row_in s ts spot z) (λ z. asides_in s ps spot z) (count ts) ks =
-        ap (λ (i : ℕ). slots.made (slots.operator (range_of i)) (row_in s ts spot slots.none)) (sym n)
-        ∙ ap (λ z. invoked (world_in s) (order_in s) z (spot_in s spot) (λ y. row_in s ts spot y) (λ y. asides_in s ps spot y) (count ts) ks) (sym is) in
+    ≡ invoked (world_in s) (order_in s) k (spot_in s spot) (λ z. row_in s ts spot z) (λ z. asides_in s ps spot z) (count ts) ks =
+    ap (λ (i : ℕ). slots.made (slots.operator (range_of i)) (row_in s ts spot slots.none)) (sym n)
+    ∙ ap (λ z. invoked (world_in s) (order_in s) z (spot_in s spot) (λ y. row_in s ts spot y) (λ y. asides_in s ps spot y) (count ts) ks) (sym is) in
     IfOk-weaker c.resolve_range.result _ _ (λ e h.
     let P : slots.SExpr Constant → Type 0 = λ z. IsPlaced z (coded e) (values c.args.pool.now) (values c.resolve_range.new.pool) in
     subst P same h) c.resolve_range.ensures.placed
@@ -340,9 +341,9 @@ resolve_call-returns-in-Cycle-clause-placed t c =
     let is : k ≡ a_cycle = subst Q c.in-Cycle.is c.in_ok-signature.ensures.named in
     let n : count ts ≡ length c.args.row.now = count_length c.args.row.now in
     let same : cycled (length c.args.row.now) (row_in s ts spot slots.none)
-        ≡ invoked (world_in s) (order_in s) k (spot_in s spot) (λ z. row_in s ts spot z) (λ z. asides_in s ps spot z) (count ts) ks =
-        ap (λ (i : ℕ). cycled i (row_in s ts spot slots.none)) (sym n)
-        ∙ ap (λ z. invoked (world_in s) (order_in s) z (spot_in s spot) (λ y. row_in s ts spot y) (λ y. asides_in s ps spot y) (count ts) ks) (sym is) in
+    ≡ invoked (world_in s) (order_in s) k (spot_in s spot) (λ z. row_in s ts spot z) (λ z. asides_in s ps spot z) (count ts) ks =
+    ap (λ (i : ℕ). cycled i (row_in s ts spot slots.none)) (sym n)
+    ∙ ap (λ z. invoked (world_in s) (order_in s) z (spot_in s spot) (λ y. row_in s ts spot y) (λ y. asides_in s ps spot y) (count ts) ks) (sym is) in
     IfOk-weaker c.resolve_cycle.result _ _ (λ e h.
     let P : slots.SExpr Constant → Type 0 = λ z. IsPlaced z (coded e) (values c.args.pool.now) (values c.resolve_cycle.new.pool) in
     subst P same h) c.resolve_cycle.ensures.placed
@@ -391,10 +392,20 @@ resolve_call-returns-in-Unknown-clause-placed t c =
 -- ---- what is left is less deep
 
 pub resolve_expression-resolve_call-requires : goal.resolve_expression-resolve_call-requires
-resolve_expression-resolve_call-requires t c = ?
+resolve_expression-resolve_call-requires t c =
+    let us = c.deref-in-Call-2.result.now in
+    let qs = c.deref-in-Call-3.result.now in
+    (omega (arith, call_depth c.args.expr.now us qs c.in-Call.called c.in-Call.row c.in-Call.pairs c.in-Call.is c.deref-in-Call-2.ensures.value c.deref-in-Call-3.ensures.value), c.requires)
 
 pub resolve_expression-resolve_filter-requires : goal.resolve_expression-resolve_filter-requires
-resolve_expression-resolve_filter-requires t c = ?
+resolve_expression-resolve_filter-requires t c =
+    let a = c.deref-in-Filter.result.now in
+    let us = c.deref-in-Filter-3.result.now in
+    let qs = c.deref-in-Filter-4.result.now in
+    (omega (arith, filter_depth c.args.expr.now a us qs c.in-Filter.value c.in-Filter.name c.in-Filter.row c.in-Filter.pairs c.in-Filter.is c.deref-in-Filter.ensures c.deref-in-Filter-3.ensures.value c.deref-in-Filter-4.ensures.value), c.requires)
 
 pub resolve_expression-resolve_test-requires : goal.resolve_expression-resolve_test-requires
-resolve_expression-resolve_test-requires t c = ?
+resolve_expression-resolve_test-requires t c =
+    let a = c.deref-in-Test.result.now in
+    let us = c.deref-in-Test-3.result.now in
+    (omega (arith, test_depth c.args.expr.now a us c.in-Test.value c.in-Test.negated c.in-Test.name c.in-Test.row c.in-Test.field-4 c.in-Test.is c.deref-in-Test.ensures c.deref-in-Test-3.ensures.value), c.requires)

@@ -22,7 +22,8 @@ returns-in_default-clause-placed c = λ k p n h.
     let named : (world_in s).filters.named f.name ≡ None = named_is f.name ∙ ap (option_map filter_id) (ap the.filter_named (sym c.as_str.ensures.value) ∙ sym c.filter_of.ensures ∙ c.in_default.is) in
     let P : Option ℕ → Type 0 = λ o. IsPlaced (filtered_in s o k f.arguments f.keywords c.args.spot.now) (expr_view c.no_operation.result) p (values c.truncate.new.self) in
     let Q : List Tree → Type 0 = λ r. IsPlaced (filtered_in s None k f.arguments f.keywords c.args.spot.now) (expr_view c.no_operation.result) p r in
-    let cut : p ≡ values c.truncate.new.self = ? in
+    let cut : p ≡ values c.truncate.new.self =
+    sym (take_at p (expr_values k) c.args.start n) ∙ ap (take c.args.start) (sym h.pooled) ∙ take-map view c.args.start c.args.pool.now.items ∙ ap (map view) (sym c.truncate.ensures.items) in
     subst P (sym named) (subst Q cut (c.no_operation.ensures p))
 
 pub returns-clause-placed : goal.returns-clause-placed
