@@ -98,7 +98,9 @@ abbrev pub IsNumber : ℕ → Text → Type 0
 IsNumber bits text = IsNumeral 10 (without_leading_plus text)
     × (digits_value 10 (without_leading_plus text) < 2 ^ bits)
 
--- the number of an option: what its text writes, or the default where the option isn't given
+-- the number of an option: what its text writes, or the default where the option isn't given. Its
+-- text is read without the minus of `-0`. A line that gives an option twice, or with a text that is
+-- no number of its range, is not taken
 abbrev pub IsGiven : ℕ → ℕ → Option Text → ℕ → Type 0
 IsGiven bits default None n = n ≡ default
 IsGiven bits default (Some text) n =
@@ -111,7 +113,8 @@ IsBudget rows b = IsGiven 64 1000000 (one_of (codes "fuel") rows) b.fuel
     × IsGiven 32 1048576 (one_of (codes "size") rows) b.size
     × IsGiven 8 32 (one_of (codes "nesting") rows) b.nesting
 
--- a flag, by the text of its row: `true` where it is given, and `false` or none where it isn't
+-- a flag, by the text of its row: `true` where it is given, and `false` or none where it isn't. A
+-- line that gives a flag twice, or with a value, is not taken
 abbrev pub IsFlag : Option Text → Bool → Type 0
 IsFlag None b = b ≡ false
 IsFlag (Some text) b =
