@@ -1,3 +1,5 @@
 pub mod World
 pub mod Rules
 pub mod Known
+pub mod Standing
+pub mod ScopeView
