@@ -5,7 +5,7 @@ use Rattle.jt_expr.specs.Trees as trees
 use Rattle.jt_expr.specs.View.{expr_view, exprs_view, pairs_view}
 use Rattle.jt_expr.specs.declared.tree.Expr.{Expr}
 use Rattle.jt_expr.specs.declared.tree.Expr.TheVariants as e
-use Rattle.jt_expr.proofs.Views.{view-Call, view-Filter, view-Test}
+use Rattle.jt_rules.proofs.Shown.{shown_Call, shown_Filter, shown_Test}
 use Rattle.jt_parse.specs.Trees.{Text}
 use Rattle.jt_inherit.specs.Chain.{Home, callee, macros}
 use Rattle.jt_inherit.specs.Uses.{count, keywords}
@@ -40,7 +40,7 @@ module _ (world : World) (home : Home) (w : rules.Within) where
       let e3 : r3 ≡ rules.row_broken world home (exprs_view ts.items) w = h3 ∙ ap (λ z. rules.row_broken world home (exprs_view z) w) ev in
       let e4 : r4 ≡ rules.pairs_broken world home (pairs_view ps.items) w = h4 ∙ ap (λ z. rules.pairs_broken world home (pairs_view z) w) er in
       k3 ∙ ap (λ z. option_or z o2) e1 ∙ ap (option_or _) (k2 ∙ ap (λ z. option_or z o1) e2 ∙ ap (option_or _) (k1 ∙ ap (λ z. option_or z r4) e3 ∙ ap (option_or _) e4))
-      ∙ ap (λ z. rules.broken world home z w) (sym (ap expr_view is ∙ view-Call p ts ps))
+      ∙ ap (λ z. rules.broken world home z w) (sym (ap expr_view is ∙ shown_Call p ts ps))
 
   pub found_inner : (x f : Expr) (us : List Expr) (qs : List Entry) (p : Box Expr Global) (ts : Vec Expr Global) (ps : Vec Entry Global) (r1 r2 r3 o1 o2 : Found)
       → x ≡ e.Call p ts ps → f ≡ p.value → us ≡ ts.items → qs ≡ ps.items
@@ -51,7 +51,7 @@ module _ (world : World) (home : Home) (w : rules.Within) where
       let e2 : r2 ≡ rules.row_broken world home (exprs_view ts.items) w = h2 ∙ ap (λ z. rules.row_broken world home (exprs_view z) w) eu in
       let e3 : r3 ≡ rules.pairs_broken world home (pairs_view ps.items) w = h3 ∙ ap (λ z. rules.pairs_broken world home (pairs_view z) w) eq in
       k2 ∙ ap (λ z. option_or z o1) e1 ∙ ap (option_or _) (k1 ∙ ap (λ z. option_or z r3) e2 ∙ ap (option_or _) e3)
-      ∙ ap (λ z. rules.called_broken world home z w) (sym (ap expr_view is ∙ view-Call p ts ps))
+      ∙ ap (λ z. rules.called_broken world home z w) (sym (ap expr_view is ∙ shown_Call p ts ps))
 
   -- a call by a name, and then the input and the arguments
   applied : (f : Expr) (vs : List Expr) (rs : List Entry) (p : Box Expr Global) (ts : Vec Expr Global) (ps : Vec Entry Global) (r2 r3 r4 o1 o2 : Found)
@@ -75,7 +75,7 @@ module _ (world : World) (home : Home) (w : rules.Within) where
       let e1 : r1 ≡ c world.filters (string_bytes y) ts.items ps.items =
       h1 ∙ ap (λ z. c the_filters z us qs) en ∙ ap (λ z. c the_filters (string_bytes y) z qs) eu ∙ ap (c the_filters (string_bytes y) ts.items) eq ∙ ap (λ z. c z (string_bytes y) ts.items ps.items) (sym ours) in
       k3 ∙ ap (λ z. option_or z o2) e1 ∙ ap (option_or _) (applied f vs rs p ts ps r2 r3 r4 o1 o2 ef ev er h2 h3 h4 k1 k2)
-      ∙ ap (λ z. rules.broken world home z w) (sym (ap expr_view is ∙ view-Filter p y ts ps))
+      ∙ ap (λ z. rules.broken world home z w) (sym (ap expr_view is ∙ shown_Filter p y ts ps))
 
   pub found_test : (x f : Expr) (n : Text) (us vs : List Expr) (qs rs : List Entry) (p : Box Expr Global) (b : Bool) (y : String Global) (ts : Vec Expr Global) (ps : Vec Entry Global) (r1 r2 r3 r4 o1 o2 o3 : Found)
       → x ≡ e.Test p b y ts ps → n ≡ string_bytes y → us ≡ ts.items → qs ≡ ps.items → f ≡ p.value → vs ≡ ts.items → rs ≡ ps.items
@@ -86,18 +86,18 @@ module _ (world : World) (home : Home) (w : rules.Within) where
       let c = λ (m : Text) (ys : List Expr) (zs : List Entry). rules.test_broken (test_named m) (exprs_view ys) (pairs_view zs) in
       let e1 : r1 ≡ c (string_bytes y) ts.items ps.items = h1 ∙ ap (λ z. c z us qs) en ∙ ap (λ z. c (string_bytes y) z qs) eu ∙ ap (c (string_bytes y) ts.items) eq in
       k3 ∙ ap (λ z. option_or z o2) e1 ∙ ap (option_or _) (applied f vs rs p ts ps r2 r3 r4 o1 o2 ef ev er h2 h3 h4 k1 k2)
-      ∙ ap (λ z. rules.broken world home z w) (sym (ap expr_view is ∙ view-Test p b y ts ps))
+      ∙ ap (λ z. rules.broken world home z w) (sym (ap expr_view is ∙ shown_Test p b y ts ps))
 
   pub filter_called : (x f : Expr) (vs : List Expr) (rs : List Entry) (p : Box Expr Global) (y : String Global) (ts : Vec Expr Global) (ps : Vec Entry Global) (r2 r3 r4 o1 o2 : Found)
       → x ≡ e.Filter p y ts ps → f ≡ p.value → vs ≡ ts.items → rs ≡ ps.items
       → r2 ≡ rules.broken world home (expr_view f) w → r3 ≡ rules.row_broken world home (exprs_view vs) w → r4 ≡ rules.pairs_broken world home (pairs_view rs) w
       → o1 ≡ option_or r3 r4 → o2 ≡ option_or r2 o1 → o2 ≡ rules.called_broken world home (expr_view x) w
   filter_called x f vs rs p y ts ps r2 r3 r4 o1 o2 is ef ev er h2 h3 h4 k1 k2 =
-      applied f vs rs p ts ps r2 r3 r4 o1 o2 ef ev er h2 h3 h4 k1 k2 ∙ ap (λ z. rules.called_broken world home z w) (sym (ap expr_view is ∙ view-Filter p y ts ps))
+      applied f vs rs p ts ps r2 r3 r4 o1 o2 ef ev er h2 h3 h4 k1 k2 ∙ ap (λ z. rules.called_broken world home z w) (sym (ap expr_view is ∙ shown_Filter p y ts ps))
 
   pub test_called : (x f : Expr) (vs : List Expr) (rs : List Entry) (p : Box Expr Global) (b : Bool) (y : String Global) (ts : Vec Expr Global) (ps : Vec Entry Global) (r2 r3 r4 o1 o2 : Found)
       → x ≡ e.Test p b y ts ps → f ≡ p.value → vs ≡ ts.items → rs ≡ ps.items
       → r2 ≡ rules.broken world home (expr_view f) w → r3 ≡ rules.row_broken world home (exprs_view vs) w → r4 ≡ rules.pairs_broken world home (pairs_view rs) w
       → o1 ≡ option_or r3 r4 → o2 ≡ option_or r2 o1 → o2 ≡ rules.called_broken world home (expr_view x) w
   test_called x f vs rs p b y ts ps r2 r3 r4 o1 o2 is ef ev er h2 h3 h4 k1 k2 =
-      applied f vs rs p ts ps r2 r3 r4 o1 o2 ef ev er h2 h3 h4 k1 k2 ∙ ap (λ z. rules.called_broken world home z w) (sym (ap expr_view is ∙ view-Test p b y ts ps))
+      applied f vs rs p ts ps r2 r3 r4 o1 o2 ef ev er h2 h3 h4 k1 k2 ∙ ap (λ z. rules.called_broken world home z w) (sym (ap expr_view is ∙ shown_Test p b y ts ps))

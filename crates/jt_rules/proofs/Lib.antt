@@ -1,9 +1,12 @@
 pub mod Filled
+pub mod Filtered
 pub mod Fits
 pub mod Forms
-pub mod Inserted
+pub mod Found
 pub mod Known
 pub mod Left
+pub mod Named
+pub mod Placed
 pub mod Sets
 pub mod Shown
-pub mod Found
+pub mod Turns

@@ -5,12 +5,19 @@ use Rattle.std.specs.Ordering.{nat_cmp, is_eq}
 use Rattle.std.specs.Cmp.Lexicographic.{slice_cmp}
 use Rattle.std.specs.Str.{bytes_eq}
 use Rattle.std.specs.BTreeSet as set
+use Rattle.std.specs.declared.cmp.Ordering.{Ordering}
+use Rattle.std.proofs.lemmas.Cmp.{nat_list_eq_equiv}
 use Rattle.std.proofs.lemmas.Map.Text.{is_eq-slice_cmp}
 use denote.Ref.{Bor}
 use Rattle.jt_parse.specs.Trees.{Text}
 use Rattle.jt_parse.specs.Texts.{among, repeated}
 use Rattle.jt_rules.specs.Standing.{Names, is_among, texts}
-use Rattle.jt_rules.proofs.Inserted.{symmetric, name_cmp}
+
+pub symmetric : (x y : Text) → bytes_eq x y ≡ bytes_eq y x
+symmetric x y = nat_list_eq_equiv.symm x y
+
+abbrev pub name_cmp : Bor Text → Bor Text → Ordering
+name_cmp x y = slice_cmp nat_cmp x.now y.now
 
 -- whether one of these names is in a set or comes again
 abbrev pub again : Names → List Text → Bool

@@ -1,89 +1,83 @@
--- Expressions as they are written, by their forms, and what a caller of a function counts in them.
-use Rattle.std.proofs.Common.{◌≡◌, ℕ, suc, ◌+◌, ◌<◌, Bool, false, List, [], ◌∷◌, length, drop, get_or, refl, sym, ap, ◌∙◌, arith, nat_eq, Option, Some, None, Result, Ok, Err, IfOk, Vec, Box, String, Global, string_bytes}
-use Rattle.std.proofs.lemmas.Bool.Decides.{nat_tests}
-use Rattle.std.specs.Option.{option_or}
-use Rattle.std.proofs.Common.{rules}
+-- Expressions and statements as they are written, by their forms, and what a caller of a function counts in them.
+use Rattle.std.proofs.Common.{◌≡◌, ℕ, suc, Bool, false, List, [], ◌∷◌, length, map, refl, sym, ap, ◌∙◌, arith, rules, nat_eq, Option, Vec, Box, String, Global, string_bytes}
 use Rattle.std.specs.Prelude.{option_map}
+use Rattle.std.proofs.lemmas.Bool.Decides.{nat_tests}
 use Rattle.jt_expr.specs.Trees as trees
+use Rattle.jt_expr.specs.Trees.{pair}
+use Rattle.jt_expr.specs.View.{pairs_of, expr_step, expr_view, exprs_view, pairs_view}
+use Rattle.jt_expr.specs.declared.tree.Expr.{Expr, fold-roll-Expr}
+use Rattle.jt_expr.specs.declared.tree.Expr.TheOpen.{Expr-F}
+use Rattle.jt_expr.specs.declared.tree.Expr.TheVariants as e
+use Rattle.jt_expr.specs.declared.tree.Expr.TheVariants.{rolls-Map, rolls-Call, rolls-Filter, rolls-Test}
 use Rattle.jt_parse.specs.Trees as written
-use Rattle.jt_parse.specs.View.{stmt_view, body_view, names_view, filterings_view, parameters_view}
-use Rattle.jt_parse.specs.declared.tree.Stmt.{Stmt, the_lemmas}
+use Rattle.jt_parse.specs.View.{stmts_of, branches_of, stmt_step, stmt_view, body_view, branches_view, names_view, filterings_view, parameters_view}
+use Rattle.jt_parse.specs.declared.tree.Stmt.{Stmt, the_lemmas, fold-roll-Stmt}
+use Rattle.jt_parse.specs.declared.tree.Stmt.TheOpen.{Stmt-F}
 use Rattle.jt_parse.specs.declared.tree.Stmt.TheVariants as statement
+use Rattle.jt_parse.specs.declared.tree.Stmt.TheVariants.{rolls-If}
 use Rattle.jt_parse.specs.declared.tree.Filtering.{Filtering}
 use Rattle.jt_parse.specs.declared.tree.Parameter.{Parameter}
-use Rattle.jt_rules.specs.declared.error.ScopeError.{ScopeError}
-use Rattle.jt_expr.specs.declared.tree.BinaryOperator.{BinaryOperator}
-use Rattle.jt_expr.specs.View.{expr_view, exprs_view, pairs_view}
-use Rattle.jt_expr.specs.declared.tree.Expr.{Expr}
-use Rattle.jt_expr.specs.declared.tree.Expr.TheVariants as e
-use Rattle.jt_expr.proofs.Views.{view-Attribute, view-Item, view-Map, view-Call, view-Filter, view-Test, view-Binary, view-When, view-Choice}
 use Rattle.jt_inherit.specs.Uses.{count}
 use Rattle.jt_rules.specs.Rules.{no_keywords}
+use Rattle.jt_rules.proofs.Left.{Branch, Entry}
 
-pub shown_Map : (ps : Vec (String Global × Expr) Global) → expr_view (e.Map ps) ≡ trees.map_of (pairs_view ps.items)
-shown_Map ps = view-Map ps
+-- ---- expressions
 
-pub shown_Call : (a : Box Expr Global) (ts : Vec Expr Global) (ps : Vec (String Global × Expr) Global) → expr_view (e.Call a ts ps) ≡ trees.call (expr_view a.value) (exprs_view ts.items) (pairs_view ps.items)
-shown_Call a ts ps = view-Call a ts ps
+-- a view of each pair that keeps the key, and shows the expression
+pairs-map : (g : Entry → String Global × trees.Expr) → ((p : Entry) → (g p).0 ≡ p.0) → ((p : Entry) → (g p).1 ≡ expr_view p.1) → (ps : List Entry) → pairs_of (map g ps) ≡ pairs_view ps
+pairs-map g k v [] = refl
+pairs-map g k v (p ∷ ps) =
+    ap (λ s. pair (string_bytes s) (g p).1 (pairs_of (map g ps))) (k p)
+    ∙ ap (λ t. pair (string_bytes p.0) t (pairs_of (map g ps))) (v p)
+    ∙ ap (pair (string_bytes p.0) (expr_view p.1)) (pairs-map g k v ps)
 
-pub shown_Filter : (a : Box Expr Global) (x : String Global) (ts : Vec Expr Global) (ps : Vec (String Global × Expr) Global) → expr_view (e.Filter a x ts ps) ≡ trees.filter (expr_view a.value) (string_bytes x) (exprs_view ts.items) (pairs_view ps.items)
-shown_Filter a x ts ps = view-Filter a x ts ps
+pub shown_Map : (ps : Vec Entry Global) → expr_view (e.Map ps) ≡ trees.map_of (pairs_view ps.items)
+shown_Map ps =
+    ap expr_view (sym (rolls-Map ps)) ∙ fold-roll-Expr trees.Expr expr_step (Expr-F.Map ps)
+    ∙ ap trees.map_of (pairs-map _ (λ p. refl) (λ p. refl) ps.items)
 
-pub shown_Test : (a : Box Expr Global) (n : Bool) (x : String Global) (ts : Vec Expr Global) (ps : Vec (String Global × Expr) Global) → expr_view (e.Test a n x ts ps) ≡ trees.test (expr_view a.value) n (string_bytes x) (exprs_view ts.items) (pairs_view ps.items)
-shown_Test a n x ts ps = view-Test a n x ts ps
+pub shown_Call : (a : Box Expr Global) (ts : Vec Expr Global) (ps : Vec Entry Global) → expr_view (e.Call a ts ps) ≡ trees.call (expr_view a.value) (exprs_view ts.items) (pairs_view ps.items)
+shown_Call a ts ps =
+    ap expr_view (sym (rolls-Call a ts ps)) ∙ fold-roll-Expr trees.Expr expr_step (Expr-F.Call a ts ps)
+    ∙ ap (trees.call (expr_view a.value) (exprs_view ts.items)) (pairs-map _ (λ p. refl) (λ p. refl) ps.items)
+
+pub shown_Filter : (a : Box Expr Global) (x : String Global) (ts : Vec Expr Global) (ps : Vec Entry Global) → expr_view (e.Filter a x ts ps) ≡ trees.filter (expr_view a.value) (string_bytes x) (exprs_view ts.items) (pairs_view ps.items)
+shown_Filter a x ts ps =
+    ap expr_view (sym (rolls-Filter a x ts ps)) ∙ fold-roll-Expr trees.Expr expr_step (Expr-F.Filter a x ts ps)
+    ∙ ap (trees.filter (expr_view a.value) (string_bytes x) (exprs_view ts.items)) (pairs-map _ (λ p. refl) (λ p. refl) ps.items)
+
+pub shown_Test : (a : Box Expr Global) (n : Bool) (x : String Global) (ts : Vec Expr Global) (ps : Vec Entry Global) → expr_view (e.Test a n x ts ps) ≡ trees.test (expr_view a.value) n (string_bytes x) (exprs_view ts.items) (pairs_view ps.items)
+shown_Test a n x ts ps =
+    ap expr_view (sym (rolls-Test a n x ts ps)) ∙ fold-roll-Expr trees.Expr expr_step (Expr-F.Test a n x ts ps)
+    ∙ ap (trees.test (expr_view a.value) n (string_bytes x) (exprs_view ts.items)) (pairs-map _ (λ p. refl) (λ p. refl) ps.items)
 
 pub counted : (ts : List Expr) → count (exprs_view ts) ≡ length ts
 counted [] = refl
 counted (t ∷ ts) = ap suc (counted ts)
 
-pub keyless : (ps : List (String Global × Expr)) → no_keywords (pairs_view ps) ≡ nat_eq (length ps) 0
+pub keyless : (ps : List Entry) → no_keywords (pairs_view ps) ≡ nat_eq (length ps) 0
 keyless [] = refl
 keyless (p ∷ ps) = sym (some_left (length ps))
   where
     some_left : (n : ℕ) → nat_eq (suc n) 0 ≡ false
     some_left n = grind (arith, nat_tests)
 
--- ---- by what stands behind the references
-
-pub shown_item : (x a b : Expr) (p q : Box Expr Global) → x ≡ e.Item p q → a ≡ p.value → b ≡ q.value → trees.item (expr_view a) (expr_view b) ≡ expr_view x
-shown_item x a b p q is f g = ap (λ z. trees.item (expr_view z) (expr_view b)) f ∙ ap (λ z. trees.item (expr_view p.value) (expr_view z)) g ∙ sym (ap expr_view is ∙ view-Item p q)
-
-pub shown_binary : (x a b : Expr) (o : BinaryOperator) (p q : Box Expr Global) → x ≡ e.Binary o p q → a ≡ p.value → b ≡ q.value → trees.binary o (expr_view a) (expr_view b) ≡ expr_view x
-shown_binary x a b o p q is f g = ap (λ z. trees.binary o (expr_view z) (expr_view b)) f ∙ ap (λ z. trees.binary o (expr_view p.value) (expr_view z)) g ∙ sym (ap expr_view is ∙ view-Binary o p q)
-
-pub shown_when : (x a b : Expr) (p q : Box Expr Global) → x ≡ e.When p q → a ≡ p.value → b ≡ q.value → trees.when (expr_view a) (expr_view b) ≡ expr_view x
-shown_when x a b p q is f g = ap (λ z. trees.when (expr_view z) (expr_view b)) f ∙ ap (λ z. trees.when (expr_view p.value) (expr_view z)) g ∙ sym (ap expr_view is ∙ view-When p q)
-
-pub shown_choice : (x a b c : Expr) (p q r : Box Expr Global) → x ≡ e.Choice p q r → a ≡ p.value → b ≡ q.value → c ≡ r.value → trees.choice (expr_view a) (expr_view b) (expr_view c) ≡ expr_view x
-shown_choice x a b c p q r is f g h =
-    ap (λ z. trees.choice (expr_view z) (expr_view b) (expr_view c)) f ∙ ap (λ z. trees.choice (expr_view p.value) (expr_view z) (expr_view c)) g
-    ∙ ap (λ z. trees.choice (expr_view p.value) (expr_view q.value) (expr_view z)) h ∙ sym (ap expr_view is ∙ view-Choice p q r)
-
-pub shown_test : (x a : Expr) (n : Bool) (k : String Global) (us : List Expr) (qs : List (String Global × Expr)) (p : Box Expr Global) (ts : Vec Expr Global) (ps : Vec (String Global × Expr) Global)
-    → x ≡ e.Test p n k ts ps → a ≡ p.value → us ≡ ts.items → qs ≡ ps.items → trees.test (expr_view a) n (string_bytes k) (exprs_view us) (pairs_view qs) ≡ expr_view x
-shown_test x a n k us qs p ts ps is f g h =
-    ap (λ z. trees.test (expr_view z) n (string_bytes k) (exprs_view us) (pairs_view qs)) f ∙ ap (λ z. trees.test (expr_view p.value) n (string_bytes k) (exprs_view z) (pairs_view qs)) g
-    ∙ ap (λ z. trees.test (expr_view p.value) n (string_bytes k) (exprs_view ts.items) (pairs_view z)) h ∙ sym (ap expr_view is ∙ view-Test p n k ts ps)
-
-pub shown_call : (x f : Expr) (us : List Expr) (qs : List (String Global × Expr)) (p : Box Expr Global) (ts : Vec Expr Global) (ps : Vec (String Global × Expr) Global)
-    → x ≡ e.Call p ts ps → f ≡ p.value → us ≡ ts.items → qs ≡ ps.items → trees.call (expr_view f) (exprs_view us) (pairs_view qs) ≡ expr_view x
-shown_call x f us qs p ts ps is g h k =
-    ap (λ z. trees.call (expr_view z) (exprs_view us) (pairs_view qs)) g ∙ ap (λ z. trees.call (expr_view p.value) (exprs_view z) (pairs_view qs)) h
-    ∙ ap (λ z. trees.call (expr_view p.value) (exprs_view ts.items) (pairs_view z)) k ∙ sym (ap expr_view is ∙ view-Call p ts ps)
-
-pub shown_filter : (x a : Expr) (k : String Global) (us : List Expr) (qs : List (String Global × Expr)) (p : Box Expr Global) (ts : Vec Expr Global) (ps : Vec (String Global × Expr) Global)
-    → x ≡ e.Filter p k ts ps → a ≡ p.value → us ≡ ts.items → qs ≡ ps.items → trees.filter (expr_view a) (string_bytes k) (exprs_view us) (pairs_view qs) ≡ expr_view x
-shown_filter x a k us qs p ts ps is f g h =
-    ap (λ z. trees.filter (expr_view z) (string_bytes k) (exprs_view us) (pairs_view qs)) f ∙ ap (λ z. trees.filter (expr_view p.value) (string_bytes k) (exprs_view z) (pairs_view qs)) g
-    ∙ ap (λ z. trees.filter (expr_view p.value) (string_bytes k) (exprs_view ts.items) (pairs_view z)) h ∙ sym (ap expr_view is ∙ view-Filter p k ts ps)
-
-pub shown_map : (x : Expr) (qs : List (String Global × Expr)) (ps : Vec (String Global × Expr) Global) → x ≡ e.Map ps → qs ≡ ps.items → trees.map_of (pairs_view qs) ≡ expr_view x
-shown_map x qs ps is h = ap (λ z. trees.map_of (pairs_view z)) h ∙ sym (ap expr_view is ∙ view-Map ps)
-
-pub shown_attribute : (x a : Expr) (p : Box Expr Global) (k : String Global) → x ≡ e.Attribute p k → a ≡ p.value → trees.attribute (expr_view a) (string_bytes k) ≡ expr_view x
-shown_attribute x a p k is f = ap (λ z. trees.attribute (expr_view z) (string_bytes k)) f ∙ sym (ap expr_view is ∙ view-Attribute p k)
-
 -- ---- statements
+
+-- a view of each branch that keeps line and condition, and shows each statement inside
+branches-map : (g : Branch → ℕ × Expr × Vec written.Stmt Global) → ((b : Branch) → (g b).0 ≡ b.0) → ((b : Branch) → (g b).1 ≡ b.1)
+    → ((b : Branch) → (g b).2.items ≡ map stmt_view b.2.items) → (bs : List Branch) → branches_of (map g bs) ≡ branches_view bs
+branches-map g p q r [] = refl
+branches-map g p q r (b ∷ bs) =
+    ap (λ l. written.branch l (expr_view (g b).1) (stmts_of (g b).2.items) (branches_of (map g bs))) (p b)
+    ∙ ap (λ e. written.branch b.0 (expr_view e) (stmts_of (g b).2.items) (branches_of (map g bs))) (q b)
+    ∙ ap (λ v. written.branch b.0 (expr_view b.1) (stmts_of v) (branches_of (map g bs))) (r b)
+    ∙ ap (written.branch b.0 (expr_view b.1) (body_view b.2.items)) (branches-map g p q r bs)
+
+pub shown_If : (bs : Vec Branch Global) (other : Vec Stmt Global) → stmt_view (statement.If bs other) ≡ written.choose (branches_view bs.items) (body_view other.items)
+shown_If bs other =
+    ap stmt_view (sym (rolls-If bs other)) ∙ fold-roll-Stmt written.Stmt stmt_step (Stmt-F.If bs other)
+    ∙ ap (λ z. written.choose z (body_view other.items)) (branches-map _ (λ b. refl) (λ b. refl) (λ b. refl) bs.items)
 
 pub shown_For : (line : ℕ) (xs : Vec (String Global) Global) (e : Expr) (c : Option Expr) (body other : Vec Stmt Global)
     → stmt_view (statement.For line xs e c body other) ≡ written.for_each line (names_view xs.items) (expr_view e) (option_map expr_view c) (body_view body.items) (body_view other.items)
@@ -92,17 +86,20 @@ shown_For line xs e c body other = search (rules, the_lemmas)
 pub shown_Set : (line : ℕ) (xs : Vec (String Global) Global) (e : Expr) → stmt_view (statement.Set line xs e) ≡ written.set line (names_view xs.items) (expr_view e)
 shown_Set line xs e = search (rules, the_lemmas)
 
-pub shown_With : (line : ℕ) (ps : Vec (String Global × Expr) Global) (body : Vec Stmt Global) → stmt_view (statement.With line ps body) ≡ written.with_values line (pairs_view ps.items) (body_view body.items)
+pub shown_SetBlock : (line : ℕ) (x : String Global) (body : Vec Stmt Global) → stmt_view (statement.SetBlock line x body) ≡ written.set_block line (string_bytes x) (body_view body.items)
+shown_SetBlock line x body = search (rules, the_lemmas)
+
+pub shown_With : (line : ℕ) (ps : Vec Entry Global) (body : Vec Stmt Global) → stmt_view (statement.With line ps body) ≡ written.with_values line (pairs_view ps.items) (body_view body.items)
 shown_With line ps body = search (rules, the_lemmas)
 
 pub shown_FilterBlock : (line : ℕ) (fs : Vec Filtering Global) (body : Vec Stmt Global) → stmt_view (statement.FilterBlock line fs body) ≡ written.filter_block line (filterings_view fs.items) (body_view body.items)
 shown_FilterBlock line fs body = search (rules, the_lemmas)
 
+pub shown_Autoescape : (line : ℕ) (on : Bool) (body : Vec Stmt Global) → stmt_view (statement.Autoescape line on body) ≡ written.autoescape line on (body_view body.items)
+shown_Autoescape line on body = search (rules, the_lemmas)
+
 pub shown_Macro : (line : ℕ) (x : String Global) (ps : Vec Parameter Global) (body : Vec Stmt Global) → stmt_view (statement.Macro line x ps body) ≡ written.macro line (string_bytes x) (parameters_view ps.items) (body_view body.items)
 shown_Macro line x ps body = search (rules, the_lemmas)
 
--- ---- the first of two
-
-pub or_both : (r r' s s' : Option ScopeError) → r ≡ r' → s ≡ s' → option_or r s ≡ option_or r' s'
-or_both r r' s s' h k = ap (λ z. option_or z s) h ∙ ap (λ z. option_or r' z) k
-
+pub shown_Block : (line : ℕ) (x : String Global) (scoped required : Bool) (body : Vec Stmt Global) → stmt_view (statement.Block line x scoped required body) ≡ written.block line (string_bytes x) scoped required (body_view body.items)
+shown_Block line x scoped required body = search (rules, the_lemmas)

@@ -2,4 +2,6 @@ pub mod World
 pub mod Rules
 pub mod Known
 pub mod Standing
+pub mod Fitting
+pub mod Placing
 pub mod ScopeView

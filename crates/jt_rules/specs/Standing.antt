@@ -1,5 +1,5 @@
 -- What is known of a chain by name: the parameters of its macros, and the names of its blocks.
-use Rattle.std.specs.Prelude.{◌≡◌, ◌⊎◌, ℕ, ℤ, Bool, not, nat_lt, List, length, map, Option, Some, None, option_map}
+use Rattle.std.specs.Prelude.{◌≡◌, ◌⊎◌, ℕ, ℤ, Bool, not, nat_lt, List, length, Option, Some, None, option_map}
 use mathlib.Core.Path.{refl}
 use mathlib.Core.Logic.{inl, inr}
 use Rattle.std.specs.Coded.{Coded, Coded-set, coded_ℕ, coded_ℤ, coded_bool, coded_list, coded_option, coded×, coded⊎, code_by, Π_prop}
@@ -19,6 +19,7 @@ use Rattle.jt_inherit.specs.Chain.{Home, MacroBody, macros, macro_of, bodies}
 use Rattle.jt_inherit.specs.Places.{home_at}
 use Rattle.jt_inherit.specs.View.{chain_view}
 use Rattle.jt_inherit.specs.declared.linked.Chain.{Chain}
+pub use Rattle.jt_uses.specs.Names.{texts}
 use Rattle.jt_rules.specs.World.{World, world_of}
 
 -- the parameters of a macro, if there is one
@@ -37,10 +38,6 @@ Names = BTreeSet (Bor Text)
 
 abbrev pub is_among : Names → Text → Bool
 is_among s x = set.contains_by (λ k. slice_cmp nat_cmp x k.now) s
-
--- texts, and not where they lie in memory
-abbrev pub texts : List (Bor Text) → List Text
-texts ks = map (λ k. k.now) ks
 
 unfoldable pub world_in : Chain → World
 world_in c = world_of (chain_view c)

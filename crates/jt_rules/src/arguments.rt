@@ -1,16 +1,16 @@
 //! Whether arguments fit what they are given to.
 
-ghost use Rattle.std.specs.Prelude.{◌≡◌, ◌<◌, ◌^◌, ◌&&◌, not, drop, Some, IfOk};
+ghost use Rattle.std.specs.Prelude.{◌≡◌, ◌<◌, ◌≤◌, ◌^◌, ◌&&◌, not, length, drop, IfOk};
 ghost use Rattle.std.specs.List.{list_any};
 ghost use Rattle.jt_expr.specs.View.{exprs_view, pairs_view};
 ghost use Rattle.jt_parse.specs.Texts.{among, repeated};
 ghost use Rattle.jt_parse.specs.Trees.{Text};
 ghost use Rattle.jt_parse.specs.View.{names_view, parameter_view, parameters_view};
 ghost use Rattle.jt_inherit.specs.Uses.{count, keywords};
-ghost use Rattle.jt_filters.specs.FilterTable.{filter_id};
-ghost use Rattle.jt_slots.specs.TheFilters.{the_filters};
+ghost use Rattle.jt_slots.specs.TheFilters.{the_filters, filter_parameters};
 ghost use Rattle.jt_slots.specs.Tests.{test_named};
 ghost use Rattle.jt_rules.specs.Rules as rules;
+ghost use Rattle.jt_rules.specs.Fitting.{filter_takes};
 ghost use Rattle.jt_rules.specs.Standing.{texts, is_among};
 
 use crate::error::ScopeError;
@@ -185,7 +185,8 @@ fn is_given(parameter: &Parameter, names: &[&str]) -> bool
 
 /// How many of the parameters come before the last one that is given by name, with it.
 fn reached(parameters: &[Parameter], names: &[&str]) -> usize
-    ensures { result ≡ rules.reached (parameters_view parameters.now) (texts names.now) }
+    ensures value { result ≡ rules.reached (parameters_view parameters.now) (texts names.now) }
+    ensures within { result ≤ length parameters.now }
 {
     let mut last = parameters.len();
     while 0 < last {
@@ -233,17 +234,31 @@ fn filter_fits(
     pairs: &[(String, Expr)],
 ) -> Result<bool, AllocError>
     requires { filled < 2 ^ 63 }
-    ensures { IfOk result (λ b. rules.unless b ≡ rules.filter_broken the_filters (Some (filter_id filter)) filled (keywords (pairs_view pairs.now))) }
+    ensures { IfOk result (λ b. b ≡ filter_takes filter (filter_parameters filter) filled (keywords (pairs_view pairs.now))) }
 {
     if pairs.is_empty() {
         return Ok(filter.takes(filled + 1));
     }
     let parameters = filter_parameters(alloc, filter)?;
     let names = keywords_of(alloc, pairs)?;
-    let values = filled.max(reached(&parameters, &names)) + 1;
-    if !filter.takes(values) {
+    filter_takes(alloc, filter, &parameters, filled, &names)
+}
+
+/// Whether a filter with these parameters takes so many arguments by place, and others by name.
+fn filter_takes(
+    alloc: Global,
+    filter: FilterId,
+    parameters: &[Parameter],
+    filled: usize,
+    names: &[&str],
+) -> Result<bool, AllocError>
+    requires { filled < 2 ^ 63 }
+    ensures { IfOk result (λ b. b ≡ filter_takes filter (parameters_view parameters.now) filled (texts names.now)) }
+{
+    let from = filled.min(parameters.len());
+    let values = filled.max(reached(parameters, names)) + 1;
+    if !filter.takes(values) || !is_filled(&parameters[from..], names) {
         return Ok(false);
     }
-    let left = &parameters[filled.min(parameters.len())..];
-    Ok(is_filled(left, &names) && names_fit(alloc, &parameters, filled, &names)?)
+    names_fit(alloc, parameters, filled, names)
 }

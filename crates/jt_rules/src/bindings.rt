@@ -1,53 +1,47 @@
 //! How often a template binds names, as often as written.
 
-ghost use Rattle.std.specs.Prelude.{◌≡◌, ◌≤◌, ◌-◌};
-ghost use Rattle.std.specs.Option.{SomeIff};
+ghost use Rattle.std.specs.Prelude.{◌≡◌, ◌^◌, ◌-◌, min};
 ghost use Rattle.jt_parse.specs.Trees.{stmt_bound, body_bound};
 ghost use Rattle.jt_parse.specs.View.{stmt_view, body_view};
 
 use jt_parse::Stmt;
 
-/// What is left of a number of names behind those that a statement binds; none where it binds
-/// more.
+/// How often a statement binds names; the greatest number where it is more.
 #[cycle(bound)]
-fn left_by(statement: &Stmt, left: usize) -> Option<usize>
-    ensures { SomeIff result (stmt_bound (stmt_view statement.now) ≤ left) (left - stmt_bound (stmt_view statement.now)) }
+fn bound_by(statement: &Stmt) -> usize
+    ensures { result ≡ min (stmt_bound (stmt_view statement.now)) (2 ^ 64 - 1) }
 {
     match statement {
         Stmt::If(branches, other) => {
-            let mut left = left;
+            let mut bound = bound_in(other);
             for (_, _, inside) in branches {
-                left = left_in(inside, left)?;
+                bound = bound.saturating_add(bound_in(inside));
             }
-            left_in(other, left)
+            bound
         }
         Stmt::For(_, targets, _, _, inside, other) => {
-            let left = left.checked_sub(targets.len())?;
-            left_in(other, left_in(inside, left)?)
+            let parts = bound_in(inside).saturating_add(bound_in(other));
+            targets.len().saturating_add(parts)
         }
-        Stmt::Set(_, targets, _) => left.checked_sub(targets.len()),
-        Stmt::SetBlock(_, _, inside) => left_in(inside, left.checked_sub(1)?),
-        Stmt::With(_, pairs, inside) => left_in(inside, left.checked_sub(pairs.len())?),
-        Stmt::FilterBlock(_, _, inside) => left_in(inside, left),
-        Stmt::Autoescape(_, _, inside) => left_in(inside, left),
-        Stmt::Macro(_, _, parameters, inside) => left_in(
-            inside,
-            left.checked_sub(parameters.len())?,
-        ),
-        Stmt::Block(_, _, _, _, inside) => left_in(inside, left),
-        Stmt::Data(_) | Stmt::Print(..) | Stmt::Include(..) | Stmt::Extends(..) => Some(left),
+        Stmt::Set(_, targets, _) => targets.len(),
+        Stmt::SetBlock(_, _, inside) => bound_in(inside).saturating_add(1),
+        Stmt::With(_, pairs, inside) => pairs.len().saturating_add(bound_in(inside)),
+        Stmt::FilterBlock(_, _, inside) => bound_in(inside),
+        Stmt::Autoescape(_, _, inside) => bound_in(inside),
+        Stmt::Macro(_, _, parameters, inside) => parameters.len().saturating_add(bound_in(inside)),
+        Stmt::Block(_, _, _, _, inside) => bound_in(inside),
+        Stmt::Data(_) | Stmt::Print(..) | Stmt::Include(..) | Stmt::Extends(..) => 0,
     }
 }
 
-/// What is left of a number of names behind those that statements bind; none where they bind
-/// more.
+/// How often statements bind names; the greatest number where it is more.
 #[cycle(bound)]
-pub(crate) fn left_in(body: &[Stmt], left: usize) -> Option<usize>
-    ensures { SomeIff result (body_bound (body_view body.now) ≤ left) (left - body_bound (body_view body.now)) }
+pub(crate) fn bound_in(body: &[Stmt]) -> usize
+    ensures { result ≡ min (body_bound (body_view body.now)) (2 ^ 64 - 1) }
 {
-    let mut left = left;
+    let mut bound = 0usize;
     for statement in body {
-        left = left_by(statement, left)?;
+        bound = bound.saturating_add(bound_by(statement));
     }
-    Some(left)
+    bound
 }

@@ -7,24 +7,26 @@ ghost use Rattle.jt_parse.specs.Trees.{body_bound};
 ghost use Rattle.jt_parse.specs.View.{body_of};
 ghost use Rattle.jt_inherit.specs.Chain.{templates};
 ghost use Rattle.jt_inherit.specs.Uses.{own_names};
+ghost use Rattle.jt_inherit.specs.Along.{ArePlaces};
+ghost use Rattle.jt_inherit.specs.Pages.{pages_view};
 ghost use Rattle.jt_inherit.specs.View.{chain_view};
 ghost use Rattle.jt_rules.specs.Rules as rules;
 ghost use Rattle.jt_rules.specs.Rules.{KeepsRules, Breaks};
 ghost use Rattle.jt_rules.specs.ScopeView.{its_world, its_home};
+ghost use Rattle.jt_rules.specs.Placing.{templates_at};
 ghost use Rattle.jt_rules.specs.Standing.{world_in, home_in};
 ghost use Rattle.jt_rules.specs.World.{world_of};
 ghost use Rattle.jt_rules.specs.declared.error.ScopeError.TheVariants as error;
 
 use crate::arguments::refused;
-use crate::bindings::left_in;
+use crate::bindings::bound_in;
 use crate::error::ScopeError;
-use crate::names::add_statements;
 use crate::scope::{Scope, Within};
 use crate::statements::body_broken;
-use jt_inherit::Chain;
+use jt_inherit::{Chain, Page};
 use jt_parse::Template;
+use jt_uses::own_names;
 use std::alloc::{AllocError, Global};
-use std::collections::BTreeSet;
 
 /// The greatest number of names that a template binds, as often as written.
 const MAX_BINDINGS: usize = 4_096;
@@ -68,9 +70,21 @@ fn chains_broken(alloc: Global, chain: &Chain) -> Result<Option<ScopeError>, All
 fn templates_broken(scope: &Scope<'_>) -> Result<Option<ScopeError>, AllocError>
     ensures { IfOk result (λ o. o ≡ rules.templates_broken (its_world scope.now) (its_home scope.now) (templates (its_world scope.now).sources (its_home scope.now))) }
 {
-    for place in &scope.chain.homes[scope.home].templates {
-        let page = &scope.chain.templates[*place];
-        if let Some(rule) = template_broken(scope, &page.template)? {
+    let chain = scope.chain;
+    pages_broken(scope, &chain.templates, &chain.homes[scope.home].templates)
+}
+
+/// The first rule that the templates at these places break.
+fn pages_broken(
+    scope: &Scope<'_>,
+    pages: &[Page],
+    places: &[usize],
+) -> Result<Option<ScopeError>, AllocError>
+    requires { ArePlaces (pages_view pages.now) places.now }
+    ensures { IfOk result (λ o. o ≡ rules.templates_broken (its_world scope.now) (its_home scope.now) (templates_at (pages_view pages.now) places.now)) }
+{
+    for place in places {
+        if let Some(rule) = template_broken(scope, &pages[*place].template)? {
             return Ok(Some(rule));
         }
     }
@@ -89,8 +103,8 @@ fn template_broken(scope: &Scope<'_>, template: &Template) -> Result<Option<Scop
     if let Some(rule) = body_broken(scope, around, template.body())? {
         return Ok(Some(rule));
     }
-    let fits = left_in(template.body(), MAX_BINDINGS).is_some();
-    Ok(refused(!fits, ScopeError::TooManySlots))
+    let bound = bound_in(template.body());
+    Ok(refused(MAX_BINDINGS < bound, ScopeError::TooManySlots))
 }
 
 /// Whether the chains read or bind few enough names, once a chain.
@@ -112,10 +126,5 @@ fn count_names(alloc: Global, chain: &Chain, home: usize) -> Result<usize, Alloc
     requires { home < length chain.now.homes.items }
     ensures { IfOk result (λ n. n ≡ length (ascending (own_names (world_in chain.now).sources (home_in chain.now home)))) }
 {
-    let mut names = BTreeSet::new(alloc);
-    for place in &chain.homes[home].templates {
-        let page = &chain.templates[*place];
-        add_statements(&mut names, page.template.body())?;
-    }
-    Ok(names.len())
+    Ok(own_names(alloc, chain, home)?.len())
 }

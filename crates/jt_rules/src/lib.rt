@@ -6,7 +6,6 @@ mod bindings;
 mod checking;
 mod error;
 mod expressions;
-mod names;
 mod scope;
 mod statements;
 

@@ -1,0 +1,74 @@
+-- The first rule that is broken, of what is left of lists, and of several one behind the other.
+use Rattle.std.proofs.Common.{◌≡◌, ℕ, ◌+◌, ◌<◌, ◌≤◌, Bool, false, List, [], ◌∷◌, length, map, drop, get_or, nat_lt, refl, sym, ap, ◌∙◌, arith, Option, Some, None}
+use Rattle.std.specs.Option.{option_or}
+use Rattle.std.proofs.lemmas.List.{drop_more}
+use Rattle.std.proofs.lemmas.Option.{unwrap_or-slice_get}
+use Rattle.jt_parse.specs.Texts.{ascending}
+use Rattle.jt_parse.specs.Trees.{Filtering, Body, body_bound}
+use Rattle.jt_inherit.specs.Along.{body_at}
+use Rattle.jt_inherit.specs.Chain.{Home, Template, templates}
+use Rattle.jt_inherit.specs.Places.{home_at}
+use Rattle.jt_inherit.specs.Uses.{own_names}
+use Rattle.jt_rules.specs.Placing.{templates_at}
+use Rattle.jt_rules.specs.Rules as rules
+use Rattle.jt_rules.specs.Rules.{Breaks}
+use Rattle.jt_rules.specs.World.{World}
+use Rattle.jt_rules.specs.declared.error.ScopeError.{ScopeError}
+use Rattle.jt_rules.specs.declared.error.ScopeError.TheVariants as error
+use mathlib.Core.Logic.{inl}
+
+abbrev Found : Type 0
+Found = Option ScopeError
+
+pub or_grouped : (a b c : Found) → option_or (option_or a b) c ≡ option_or a (option_or b c)
+or_grouped None b c = refl
+or_grouped (Some e) b c = refl
+
+pub or_three : (a b c d : Found) → option_or (option_or a (option_or b c)) d ≡ option_or a (option_or b (option_or c d))
+or_three None b c d = or_grouped b c d
+or_three (Some e) b c d = refl
+
+-- a filter of a filter tag, and those behind it
+pub filterings_turn : (world : World) (home : Home) (f : Filtering) (fs : List Filtering) (w : rules.Within)
+    → rules.filtering_broken world home (f ∷ fs) w ≡ option_or (rules.filtering_broken world home (f ∷ []) w) (rules.filtering_broken world home fs w)
+filterings_turn world home f fs w = four _ _ _ _
+  where
+    four : (a b c d : Found) → option_or a (option_or b (option_or c d)) ≡ option_or (option_or a (option_or b (option_or c None))) d
+    four None None None d = refl
+    four None None (Some e) d = refl
+    four None (Some e) c d = refl
+    four (Some e) b c d = refl
+
+abbrev pub page_broken : World → Home → Body → Found
+page_broken world home b = option_or (rules.body_broken world home b (record { in_loop = false; in_block = false })) (rules.refused (nat_lt 4096 (body_bound b)) error.TooManySlots)
+
+pub pages_left : (world : World) (home : Home) (ts : List Template) (is : List ℕ) (i : ℕ) → i < length is
+    → rules.templates_broken world home (templates_at ts (drop i is)) ≡ option_or (page_broken world home (body_at ts (get_or is i 0))) (rules.templates_broken world home (templates_at ts (drop (i + 1) is)))
+pages_left world home ts is i lt = ap (λ l. rules.templates_broken world home (templates_at ts l)) (drop_more is i 0 lt)
+
+-- ---- chains
+
+there : (order : List Home) (i : ℕ) → get_or order i [] ≡ home_at order i
+there order i = sym (unwrap_or-slice_get order i [])
+
+abbrev pub chain_broken : World → Home → Found
+chain_broken world h = rules.templates_broken world h (templates world.sources h)
+
+pub chains_left : (world : World) (order : List Home) (i : ℕ) → i < length order
+    → rules.chains_broken world (drop i order) ≡ option_or (chain_broken world (home_at order i)) (rules.chains_broken world (drop (i + 1) order))
+chains_left world order i lt =
+    ap (rules.chains_broken world) (drop_more order i [] lt) ∙ ap (λ h. option_or (chain_broken world h) (rules.chains_broken world (drop (i + 1) order))) (there order i)
+
+pub names_left : (world : World) (order : List Home) (i : ℕ) → i < length order
+    → rules.names_counted world (drop i order) ≡ length (ascending (own_names world.sources (home_at order i))) + rules.names_counted world (drop (i + 1) order)
+names_left world order i lt =
+    ap (rules.names_counted world) (drop_more order i [] lt) ∙ ap (λ h. length (ascending (own_names world.sources h)) + rules.names_counted world (drop (i + 1) order)) (there order i)
+
+-- the rule that is found is broken
+pub found_breaks : (e : ScopeError) (world : World) (order : List Home) → Some e ≡ rules.chains_broken world order → Breaks e world order
+found_breaks error.LoopOutside world order h = sym h
+found_breaks error.MacroAsValue world order h = sym h
+found_breaks error.NotCallable world order h = sym h
+found_breaks error.BadArguments world order h = sym h
+found_breaks error.TooManySlots world order h = inl (sym h)
+found_breaks error.NoMemory world order h = tt

@@ -1,7 +1,0 @@
-use Rattle.std.proofs.Common.{ap, ◌∙◌}
-use Rattle.jt_rules.specs.Standing.{texts}
-use Rattle.jt_rules.proofs.Inserted.{key_inserted}
-use Rattle.jt_rules.proofs.names.add_name.Goals as goal
-
-pub returns : goal.returns
-returns c = ap texts c.in_ok-insert.ensures.keys ∙ key_inserted c.args.names.now.keys c.args.name
