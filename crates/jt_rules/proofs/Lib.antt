@@ -6,7 +6,6 @@ pub mod Found
 pub mod Known
 pub mod Left
 pub mod Named
-pub mod Placed
 pub mod Sets
 pub mod Shown
 pub mod Turns

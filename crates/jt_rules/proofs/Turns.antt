@@ -5,11 +5,12 @@ use Rattle.std.proofs.lemmas.List.{drop_more}
 use Rattle.std.proofs.lemmas.Option.{unwrap_or-slice_get}
 use Rattle.jt_parse.specs.Texts.{ascending}
 use Rattle.jt_parse.specs.Trees.{Filtering, Body, body_bound}
-use Rattle.jt_inherit.specs.Along.{body_at}
+use Rattle.jt_parse.specs.View.{body_view}
 use Rattle.jt_inherit.specs.Chain.{Home, Template, templates}
+use Rattle.jt_inherit.specs.Layers.{layer_view}
+use Rattle.jt_inherit.specs.declared.layers.Layer.{Layer}
 use Rattle.jt_inherit.specs.Places.{home_at}
 use Rattle.jt_inherit.specs.Uses.{own_names}
-use Rattle.jt_rules.specs.Placing.{templates_at}
 use Rattle.jt_rules.specs.Rules as rules
 use Rattle.jt_rules.specs.Rules.{Breaks}
 use Rattle.jt_rules.specs.World.{World}
@@ -42,9 +43,14 @@ filterings_turn world home f fs w = four _ _ _ _
 abbrev pub page_broken : World → Home → Body → Found
 page_broken world home b = option_or (rules.body_broken world home b (record { in_loop = false; in_block = false })) (rules.refused (nat_lt 4096 (body_bound b)) error.TooManySlots)
 
-pub pages_left : (world : World) (home : Home) (ts : List Template) (is : List ℕ) (i : ℕ) → i < length is
-    → rules.templates_broken world home (templates_at ts (drop i is)) ≡ option_or (page_broken world home (body_at ts (get_or is i 0))) (rules.templates_broken world home (templates_at ts (drop (i + 1) is)))
-pages_left world home ts is i lt = ap (λ l. rules.templates_broken world home (templates_at ts l)) (drop_more is i 0 lt)
+abbrev pub shown_layers : List Template → List Layer → List Template
+shown_layers ts = map (layer_view ts)
+
+pub layers_left : (world : World) (home : Home) (ts : List Template) (ls : List Layer) (i : ℕ) (l : Layer) → i < length ls → l ≡ get_or ls i l
+    → rules.templates_broken world home (shown_layers ts (drop i ls)) ≡ option_or (page_broken world home (body_view l.body.now)) (rules.templates_broken world home (shown_layers ts (drop (i + 1) ls)))
+layers_left world home ts ls i l lt is =
+    ap (λ z. rules.templates_broken world home (shown_layers ts z)) (drop_more ls i l lt)
+    ∙ ap (λ (z : Layer). option_or (page_broken world home (body_view z.body.now)) (rules.templates_broken world home (shown_layers ts (drop (i + 1) ls)))) (sym is)
 
 -- ---- chains
 

@@ -3,5 +3,4 @@ pub mod Rules
 pub mod Known
 pub mod Standing
 pub mod Fitting
-pub mod Placing
 pub mod ScopeView

@@ -4,16 +4,13 @@ ghost use Rattle.std.specs.Prelude.{◌≡◌, ◌<◌, nat_lt, nat_le, false, l
 ghost use Rattle.std.specs.Option.{option_or};
 ghost use Rattle.jt_parse.specs.Texts.{ascending};
 ghost use Rattle.jt_parse.specs.Trees.{body_bound};
-ghost use Rattle.jt_parse.specs.View.{body_of};
+ghost use Rattle.jt_parse.specs.View.{body_view};
 ghost use Rattle.jt_inherit.specs.Chain.{templates};
 ghost use Rattle.jt_inherit.specs.Uses.{own_names};
-ghost use Rattle.jt_inherit.specs.Along.{ArePlaces};
-ghost use Rattle.jt_inherit.specs.Pages.{pages_view};
 ghost use Rattle.jt_inherit.specs.View.{chain_view};
 ghost use Rattle.jt_rules.specs.Rules as rules;
 ghost use Rattle.jt_rules.specs.Rules.{KeepsRules, Breaks};
 ghost use Rattle.jt_rules.specs.ScopeView.{its_world, its_home};
-ghost use Rattle.jt_rules.specs.Placing.{templates_at};
 ghost use Rattle.jt_rules.specs.Standing.{world_in, home_in};
 ghost use Rattle.jt_rules.specs.World.{world_of};
 ghost use Rattle.jt_rules.specs.declared.error.ScopeError.TheVariants as error;
@@ -23,8 +20,8 @@ use crate::bindings::bound_in;
 use crate::error::ScopeError;
 use crate::scope::{Scope, Within};
 use crate::statements::body_broken;
-use jt_inherit::{Chain, Page};
-use jt_parse::Template;
+use jt_inherit::Chain;
+use jt_parse::Stmt;
 use jt_uses::own_names;
 use std::alloc::{AllocError, Global};
 
@@ -70,40 +67,28 @@ fn chains_broken(alloc: Global, chain: &Chain) -> Result<Option<ScopeError>, All
 fn templates_broken(scope: &Scope<'_>) -> Result<Option<ScopeError>, AllocError>
     ensures { IfOk result (λ o. o ≡ rules.templates_broken (its_world scope.now) (its_home scope.now) (templates (its_world scope.now).sources (its_home scope.now))) }
 {
-    let chain = scope.chain;
-    pages_broken(scope, &chain.templates, &chain.homes[scope.home].templates)
-}
-
-/// The first rule that the templates at these places break.
-fn pages_broken(
-    scope: &Scope<'_>,
-    pages: &[Page],
-    places: &[usize],
-) -> Result<Option<ScopeError>, AllocError>
-    requires { ArePlaces (pages_view pages.now) places.now }
-    ensures { IfOk result (λ o. o ≡ rules.templates_broken (its_world scope.now) (its_home scope.now) (templates_at (pages_view pages.now) places.now)) }
-{
-    for place in places {
-        if let Some(rule) = template_broken(scope, &pages[*place].template)? {
+    let layers = scope.chain.layers(scope.alloc, scope.home)?;
+    for layer in layers.iter() {
+        if let Some(rule) = template_broken(scope, layer.body)? {
             return Ok(Some(rule));
         }
     }
     Ok(None)
 }
 
-/// The first rule that a template breaks.
-fn template_broken(scope: &Scope<'_>, template: &Template) -> Result<Option<ScopeError>, AllocError>
-    ensures { IfOk result (λ o. o ≡ option_or (rules.body_broken (its_world scope.now) (its_home scope.now) (body_of template.now) (record { in_loop = false; in_block = false }))
-        (rules.refused (nat_lt 4096 (body_bound (body_of template.now))) error.TooManySlots)) }
+/// The first rule that the statements of a template break.
+fn template_broken(scope: &Scope<'_>, body: &[Stmt]) -> Result<Option<ScopeError>, AllocError>
+    ensures { IfOk result (λ o. o ≡ option_or (rules.body_broken (its_world scope.now) (its_home scope.now) (body_view body.now) (record { in_loop = false; in_block = false }))
+        (rules.refused (nat_lt 4096 (body_bound (body_view body.now))) error.TooManySlots)) }
 {
     let around = Within {
         in_loop: false,
         in_block: false,
     };
-    if let Some(rule) = body_broken(scope, around, template.body())? {
+    if let Some(rule) = body_broken(scope, around, body)? {
         return Ok(Some(rule));
     }
-    let bound = bound_in(template.body());
+    let bound = bound_in(body);
     Ok(refused(MAX_BINDINGS < bound, ScopeError::TooManySlots))
 }
 
