@@ -2,6 +2,7 @@
 use Rattle.std.proofs.Common.{◌≡◌, ℕ, zero, suc, ◌+◌, ◌-◌, ◌<◌, ◌≤◌, max, min, Bool, true, false, not, ◌&&◌, ◌||◌, if◌then◌else◌, List, [], ◌∷◌, length, take, drop, get_or, refl, sym, ap, ◌∙◌, arith, Option, Some, None, string_bytes}
 use Rattle.std.specs.Option.{is_some}
 use Rattle.std.specs.Prelude.{option_map}
+use Rattle.std.proofs.lemmas.List.{drop_more}
 use Rattle.jt_expr.specs.View.{literal_view}
 use Rattle.jt_expr.specs.declared.tree.Literal.{Literal}
 use Rattle.jt_parse.specs.Texts.{among}
@@ -54,7 +55,7 @@ module _ (ks : List Text) where
   mapped f None = refl
 
   -- each up to the last one that is given
-  pub filled_up_to : (ps : List Parameter) → all_filled ks (take (rules.reached (parameters_view ps) ks) ps) ≡ rules.is_filled (parameters_view ps) 0 ks
+  filled_up_to : (ps : List Parameter) → all_filled ks (take (rules.reached (parameters_view ps) ks) ps) ≡ rules.is_filled (parameters_view ps) 0 ks
   filled_up_to [] = refl
   filled_up_to (p ∷ ps) = by (some_given (parameters_view (p ∷ ps)) ks) (filled_up_to ps)
     where
@@ -68,6 +69,15 @@ module _ (ks : List Text) where
           ap (λ c. (among (string_bytes p.name) ks || is_some p.default) && c) h
           ∙ ap (λ b. (among (string_bytes p.name) ks || b) && rules.is_filled (parameters_view ps) 0 ks) (sym (mapped literal_view p.default))
       by false h = refl
+
+  pub filled_among : (ps : List Parameter) (r : ℕ) → r ≡ rules.reached (parameters_view ps) ks → all_filled ks (take r ps) ≡ rules.is_filled (parameters_view ps) 0 ks
+  filled_among ps r e = ap (λ n. all_filled ks (take n ps)) e ∙ filled_up_to ps
+
+  -- one that is neither given nor has a default
+  pub unfilled_at : (ps : List Parameter) (i : ℕ) (p : Parameter) → i < length ps → p ≡ get_or ps i p → among (string_bytes p.name) ks ≡ false → is_some p.default ≡ false → all_filled ks (drop i ps) ≡ false
+  unfilled_at ps i p lt is e d =
+      ap (all_filled ks) (drop_more ps i p lt) ∙ ap (λ (z : Parameter). (among (string_bytes z.name) ks || is_some z.default) && all_filled ks (drop (i + 1) ps)) (sym is)
+      ∙ ap (λ b. (b || is_some p.default) && all_filled ks (drop (i + 1) ps)) e ∙ ap (λ b. b && all_filled ks (drop (i + 1) ps)) d
 
 -- those behind the ones that are filled by place
 pub filled_behind : (ps : List trees.Parameter) (n : ℕ) (ks : List Text) → rules.is_filled ps n ks ≡ rules.is_filled (drop n ps) 0 ks

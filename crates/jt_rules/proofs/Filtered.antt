@@ -2,6 +2,8 @@
 use Rattle.std.proofs.Common.{◌≡◌, ℕ, zero, suc, ◌+◌, ◌-◌, max, min, Bool, true, false, not, ◌&&◌, ◌||◌, if◌then◌else◌, List, [], ◌∷◌, length, take, drop, nat_eq, refl, sym, ap, ◌∙◌, arith, Option, Some, None}
 use Rattle.std.specs.Prelude.{option_map, map}
 use Rattle.std.specs.List.{list_any}
+use Rattle.std.specs.Option.{is_some}
+use Rattle.std.proofs.lemmas.Bool.Decides.{nat_tests}
 use Rattle.jt_expr.specs.View.{pairs_view}
 use Rattle.jt_filters.specs.FilterIds.{filter_of, accepts}
 use Rattle.jt_filters.specs.FilterTable.{filter_id}
@@ -53,7 +55,7 @@ none_given (p ∷ ps) = none_given ps
 filled_without : (ps : List Parameter) (n : ℕ) → rules.is_filled ps n [] ≡ true
 filled_without [] n = refl
 filled_without (p ∷ ps) (suc n) = filled_without ps n
-filled_without (p ∷ ps) zero = ap (λ b. not b || _) (none_given (p ∷ ps))
+filled_without (p ∷ ps) zero = ap (λ b. not b || (is_some p.default && rules.is_filled ps 0 [])) (none_given ps)
 
 with_true : (b c : Bool) → c ≡ true → b ≡ (b && (c && true))
 with_true true c e = sym (ap (λ z. z && true) e)
@@ -66,4 +68,7 @@ takes_by_place f ps n =
 
 pub no_keywords : (ps : List Entry) → nat_eq (length ps) 0 ≡ true → keywords (pairs_view ps) ≡ []
 no_keywords [] e = refl
-no_keywords (p ∷ ps) e = absurd (cc)
+no_keywords (p ∷ ps) e = absurd (some_left (length ps) e)
+  where
+    some_left : (n : ℕ) → nat_eq (suc n) 0 ≡ true → ⊥
+    some_left n e' = grind (arith, nat_tests)

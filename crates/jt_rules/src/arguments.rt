@@ -257,7 +257,10 @@ fn filter_takes(
 {
     let from = filled.min(parameters.len());
     let values = filled.max(reached(parameters, names)) + 1;
-    if !filter.takes(values) || !is_filled(&parameters[from..], names) {
+    if !filter.takes(values) {
+        return Ok(false);
+    }
+    if !is_filled(&parameters[from..], names) {
         return Ok(false);
     }
     names_fit(alloc, parameters, filled, names)
