@@ -1,10 +1,12 @@
 -- The first rule that is broken, of what is left of lists, and of several one behind the other.
-use Rattle.std.proofs.Common.{◌≡◌, ℕ, ◌+◌, ◌<◌, ◌≤◌, Bool, false, List, [], ◌∷◌, length, map, drop, get_or, nat_lt, refl, sym, ap, ◌∙◌, arith, Option, Some, None}
+use Rattle.std.proofs.Common.{◌≡◌, ℕ, suc, ◌+◌, ◌<◌, ◌≤◌, Bool, false, List, [], ◌∷◌, length, map, drop, get_or, nat_lt, refl, sym, ap, ◌∙◌, arith, Option, Some, None}
 use Rattle.std.specs.Option.{option_or}
 use Rattle.std.proofs.lemmas.List.{drop_more}
 use Rattle.std.proofs.lemmas.Option.{unwrap_or-slice_get}
 use Rattle.jt_parse.specs.Texts.{ascending}
-use Rattle.jt_parse.specs.Trees.{Filtering, Body, body_bound}
+use denote.Ref.{Bor}
+use Rattle.jt_parse.specs.Trees.{Text, Filtering, Body, body_bound}
+use Rattle.jt_uses.specs.Names.{texts}
 use Rattle.jt_parse.specs.View.{body_view}
 use Rattle.jt_inherit.specs.Chain.{Home, Template, templates}
 use Rattle.jt_inherit.specs.Layers.{layer_view}
@@ -78,3 +80,7 @@ found_breaks error.NotCallable world order h = sym h
 found_breaks error.BadArguments world order h = sym h
 found_breaks error.TooManySlots world order h = inl (sym h)
 found_breaks error.NoMemory world order h = tt
+
+pub texts_length : (ks : List (Bor Text)) → length (texts ks) ≡ length ks
+texts_length [] = refl
+texts_length (k ∷ ks) = ap suc (texts_length ks)

@@ -1,0 +1,30 @@
+use Rattle.std.proofs.Common.{arith}
+use Rattle.jt_rules.proofs.Bound.{for_bound, set_bound, with_bound, macro_bound, choice_bound, all_bound}
+use Rattle.jt_rules.proofs.bindings.+bound.Goals as goal
+
+pub bound_by-returns-after-loop-inside : goal.bound_by-returns-after-loop-inside
+bound_by-returns-after-loop-inside t c =
+    choice_bound 18446744073709551615 c.args.statement.now c.in-If.branches c.in-If.other c.deref-inside-items.result.now c.deref.result.now c.loop-inside.inside-index c.bound_in-bound.result c.loop-inside.bound
+    c.in-If.is c.deref-inside-items.ensures.value c.deref.ensures.value c.bound_in-bound.ensures c.loop-inside-test.false c.loop-inside.invariant.within c.loop-inside.invariant.left
+
+pub bound_by-returns-in-For : goal.bound_by-returns-in-For
+bound_by-returns-in-For t c =
+    let h = c.saturating_add-2.ensures in ?
+
+pub bound_by-returns-in-Set : goal.bound_by-returns-in-Set
+bound_by-returns-in-Set t c =
+    set_bound 18446744073709551615 c.args.statement.now c.in-Set.field-0 c.in-Set.targets c.in-Set.field-2 c.len-in-Set.result c.in-Set.is c.len-in-Set.ensures c.len-in-Set.type_inv
+
+pub bound_by-returns-in-With : goal.bound_by-returns-in-With
+bound_by-returns-in-With t c =
+    with_bound 18446744073709551615 c.args.statement.now c.in-With.field-0 c.in-With.pairs c.in-With.inside c.deref-in-With.result.now c.bound_in-in-With.result c.saturating_add-in-With.result c.len-in-With.result
+    c.in-With.is c.deref-in-With.ensures.value c.bound_in-in-With.ensures c.len-in-With.ensures c.saturating_add-in-With.ensures
+
+pub bound_by-returns-in-Macro : goal.bound_by-returns-in-Macro
+bound_by-returns-in-Macro t c =
+    macro_bound 18446744073709551615 c.args.statement.now c.in-Macro.field-0 c.in-Macro.field-1 c.in-Macro.parameters c.in-Macro.inside c.deref-in-Macro.result.now c.bound_in-in-Macro.result c.saturating_add-in-Macro.result c.len-in-Macro.result
+    c.in-Macro.is c.deref-in-Macro.ensures.value c.bound_in-in-Macro.ensures c.len-in-Macro.ensures c.saturating_add-in-Macro.ensures
+
+pub bound_in-returns : goal.bound_in-returns
+bound_in-returns t c =
+    all_bound 18446744073709551615 c.args.body.now c.loop-statement.statement-index c.loop-statement.bound c.loop-statement-test.false c.loop-statement.invariant.within c.loop-statement.invariant.left
