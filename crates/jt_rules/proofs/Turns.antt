@@ -1,5 +1,5 @@
 -- The first rule that is broken, of what is left of lists, and of several one behind the other.
-use Rattle.std.proofs.Common.{◌≡◌, ℕ, suc, ◌+◌, ◌<◌, ◌≤◌, Bool, false, List, [], ◌∷◌, length, map, drop, get_or, nat_lt, refl, sym, ap, ◌∙◌, arith, Option, Some, None}
+use Rattle.std.proofs.Common.{◌≡◌, ℕ, suc, ◌+◌, ◌<◌, ◌≤◌, Bool, false, List, [], ◌∷◌, length, map, drop, get_or, nat_lt, nat_le, ◌-◌, refl, sym, ap, ◌∙◌, arith, Option, Some, None}
 use Rattle.std.specs.Option.{option_or}
 use Rattle.std.proofs.lemmas.List.{drop_more}
 use Rattle.std.proofs.lemmas.Option.{unwrap_or-slice_get}
@@ -12,7 +12,10 @@ use Rattle.jt_inherit.specs.Chain.{Home, Template, templates}
 use Rattle.jt_inherit.specs.Layers.{layer_view}
 use Rattle.jt_inherit.specs.declared.layers.Layer.{Layer}
 use Rattle.jt_inherit.specs.Places.{home_at}
-use Rattle.jt_inherit.specs.Uses.{own_names}
+use Rattle.jt_inherit.specs.Uses.{count, keywords, own_names}
+use Rattle.jt_inherit.specs.Pages.{home_name}
+use Rattle.jt_inherit.specs.declared.linked.Home as written
+use Rattle.std.proofs.lemmas.Bool.Decides.{nat_tests}
 use Rattle.jt_rules.specs.Rules as rules
 use Rattle.jt_rules.specs.Rules.{Breaks}
 use Rattle.jt_rules.specs.World.{World}
@@ -34,7 +37,8 @@ or_three (Some e) b c d = refl
 -- a filter of a filter tag, and those behind it
 pub filterings_turn : (world : World) (home : Home) (f : Filtering) (fs : List Filtering) (w : rules.Within)
     → rules.filtering_broken world home (f ∷ fs) w ≡ option_or (rules.filtering_broken world home (f ∷ []) w) (rules.filtering_broken world home fs w)
-filterings_turn world home f fs w = four _ _ _ _
+filterings_turn world home f fs w =
+    four (rules.filter_broken world.filters (world.filters.named f.name) (count f.arguments) (keywords f.keywords)) (rules.row_broken world home f.arguments w) (rules.pairs_broken world home f.keywords w) (rules.filtering_broken world home fs w)
   where
     four : (a b c d : Found) → option_or a (option_or b (option_or c d)) ≡ option_or (option_or a (option_or b (option_or c None))) d
     four None None None d = refl
@@ -84,3 +88,13 @@ found_breaks error.NoMemory world order h = tt
 pub texts_length : (ks : List (Bor Text)) → length (texts ks) ≡ length ks
 texts_length [] = refl
 texts_length (k ∷ ks) = ap suc (texts_length ks)
+
+pub homes_length : (hs : List written.Home) → length (map home_name hs) ≡ length hs
+homes_length [] = refl
+homes_length (h ∷ hs) = ap suc (homes_length hs)
+
+-- more names than are left
+pub too_many_names : (left all rest count behind : ℕ) → left + all ≡ 65535 + rest → rest ≡ count + behind → (count ≤ left → ⊥) → false ≡ nat_le all 65535
+too_many_names left all rest count behind h e over =
+    let more : 65535 < all = omega arith in
+    grind (arith, nat_tests)
