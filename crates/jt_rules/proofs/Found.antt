@@ -1,12 +1,19 @@
 -- The first rule that calls, filters and tests break.
-use Rattle.std.proofs.Common.{◌≡◌, refl, sym, ap, ◌∙◌, List, Bool, Option, Vec, Box, String, Global, string_bytes}
+use Rattle.std.proofs.Common.{◌≡◌, ℕ, ◌+◌, ◌<◌, ◌≤◌, refl, sym, ap, ◌∙◌, List, [], ◌∷◌, length, drop, get_or, Bool, true, Option, Some, None, Vec, Box, String, Global, string_bytes}
+use Rattle.std.specs.Prelude.{option_map}
+use Rattle.std.proofs.lemmas.List.{drop_more, at_drop_all}
 use Rattle.std.specs.Option.{option_or}
 use Rattle.jt_expr.specs.Trees as trees
 use Rattle.jt_expr.specs.View.{expr_view, exprs_view, pairs_view}
 use Rattle.jt_expr.specs.declared.tree.Expr.{Expr}
 use Rattle.jt_expr.specs.declared.tree.Expr.TheVariants as e
-use Rattle.jt_rules.proofs.Shown.{shown_Call, shown_Filter, shown_Test}
+use Rattle.jt_rules.proofs.Shown.{shown_Call, shown_Filter, shown_Test, shown_If, shown_For, shown_With}
+use Rattle.jt_rules.proofs.Turns.{or_grouped, or_three, or_none, some_first, none_first, filterings_turn}
 use Rattle.jt_parse.specs.Trees.{Text}
+use Rattle.jt_parse.specs.View.{stmt_view, body_view, branches_view, names_view, filtering_view, filterings_view}
+use Rattle.jt_parse.specs.declared.tree.Filtering.{Filtering}
+use Rattle.jt_parse.specs.declared.tree.Stmt.{Stmt}
+use Rattle.jt_parse.specs.declared.tree.Stmt.TheVariants as statement
 use Rattle.jt_inherit.specs.Chain.{Home, callee, macros}
 use Rattle.jt_inherit.specs.Uses.{count, keywords}
 use Rattle.jt_inherit.specs.declared.linked.Chain.{Chain}
@@ -17,7 +24,7 @@ use Rattle.jt_rules.specs.Rules as rules
 use Rattle.jt_rules.specs.World.{World}
 use Rattle.jt_rules.specs.Standing.{world_in}
 use Rattle.jt_rules.specs.declared.error.ScopeError.{ScopeError}
-use Rattle.jt_rules.proofs.Left.{Entry}
+use Rattle.jt_rules.proofs.Left.{Entry, Branch, branches_left}
 
 abbrev Found : Type 0
 Found = Option ScopeError
@@ -101,3 +108,91 @@ module _ (world : World) (home : Home) (w : rules.Within) where
       → o1 ≡ option_or r3 r4 → o2 ≡ option_or r2 o1 → o2 ≡ rules.called_broken world home (expr_view x) w
   test_called x f vs rs p b y ts ps r2 r3 r4 o1 o2 is ef ev er h2 h3 h4 k1 k2 =
       applied f vs rs p ts ps r2 r3 r4 o1 o2 ef ev er h2 h3 h4 k1 k2 ∙ ap (λ z. rules.called_broken world home z w) (sym (ap expr_view is ∙ shown_Test p b y ts ps))
+
+  -- ---- a filter of a filter tag
+
+  abbrev filter_part : Filtering → Found
+  filter_part f = rules.filter_broken world.filters (world.filters.named (string_bytes f.name)) (count (exprs_view f.arguments.items)) (keywords (pairs_view f.keywords.items))
+
+  abbrev row_part : Filtering → Found
+  row_part f = rules.row_broken world home (exprs_view f.arguments.items) w
+
+  abbrev pairs_part : Filtering → Found
+  pairs_part f = rules.pairs_broken world home (pairs_view f.keywords.items) w
+
+  pub filtering_rule : world.filters ≡ the_filters → (f : Filtering) (n : Text) (us : List Expr) (qs : List Entry) (r : Found) → n ≡ string_bytes f.name → us ≡ f.arguments.items → qs ≡ f.keywords.items
+      → r ≡ rules.filter_broken the_filters (the_filters.named n) (count (exprs_view us)) (keywords (pairs_view qs)) → r ≡ filter_part f
+  filtering_rule ours f n us qs r en eu eq h =
+      let c = λ (fs : Filters) (m : Text) (ys : List Expr) (zs : List Entry). rules.filter_broken fs (fs.named m) (count (exprs_view ys)) (keywords (pairs_view zs)) in
+      h ∙ ap (λ z. c the_filters z us qs) en ∙ ap (λ z. c the_filters (string_bytes f.name) z qs) eu ∙ ap (c the_filters (string_bytes f.name) f.arguments.items) eq
+      ∙ ap (λ z. c z (string_bytes f.name) f.arguments.items f.keywords.items) (sym ours)
+
+  pub filtering_first : (f : Filtering) (r : Found) (e : ScopeError) → r ≡ filter_part f → r ≡ Some e → Some e ≡ rules.filtering_broken world home (filtering_view f ∷ []) w
+  filtering_first f r e h k = some_first (filter_part f) (option_or (row_part f) (option_or (pairs_part f) None)) e (sym h ∙ k)
+
+  pub filtering_second : (f : Filtering) (r q : Found) (e : ScopeError) → r ≡ filter_part f → r ≡ None → q ≡ row_part f → q ≡ Some e → Some e ≡ rules.filtering_broken world home (filtering_view f ∷ []) w
+  filtering_second f r q e h n k i =
+      some_first (row_part f) (option_or (pairs_part f) None) e (sym k ∙ i) ∙ none_first (filter_part f) (option_or (row_part f) (option_or (pairs_part f) None)) (sym h ∙ n)
+
+  pub filtering_third : (f : Filtering) (r q : Found) → r ≡ filter_part f → r ≡ None → q ≡ row_part f → q ≡ None → pairs_part f ≡ rules.filtering_broken world home (filtering_view f ∷ []) w
+  filtering_third f r q h n k m =
+      sym (or_none (pairs_part f)) ∙ none_first (row_part f) (option_or (pairs_part f) None) (sym k ∙ m) ∙ none_first (filter_part f) (option_or (row_part f) (option_or (pairs_part f) None)) (sym h ∙ n)
+
+  pub filterings_left : (fs : List Filtering) (i : ℕ) (f : Filtering) → i < length fs → f ≡ get_or fs i f
+      → rules.filtering_broken world home (filterings_view (drop i fs)) w ≡ option_or (rules.filtering_broken world home (filtering_view f ∷ []) w) (rules.filtering_broken world home (filterings_view (drop (i + 1) fs)) w)
+  filterings_left fs i f lt is =
+      ap (λ (z : List Filtering). rules.filtering_broken world home (filterings_view z) w) (drop_more fs i f lt)
+      ∙ ap (λ (z : Filtering). rules.filtering_broken world home (filtering_view z ∷ filterings_view (drop (i + 1) fs)) w) (sym is)
+      ∙ filterings_turn world home (filtering_view f) (filterings_view (drop (i + 1) fs)) w
+
+  -- ---- statements
+
+  abbrev in_branches : List Branch → Found
+  in_branches bs = rules.branches_broken world home (branches_view bs) w
+
+  abbrev in_body : List Stmt → Found
+  in_body ss = rules.body_broken world home (body_view ss) w
+
+  choice_is : (s : Stmt) (bs : Vec Branch Global) (other : Vec Stmt Global) (ls : List Branch) → s ≡ statement.If bs other → ls ≡ bs.items
+      → rules.stmt_broken world home (stmt_view s) w ≡ option_or (in_branches ls) (in_body other.items)
+  choice_is s bs other ls is el =
+      ap (λ z. rules.stmt_broken world home z w) (ap stmt_view is ∙ shown_If bs other) ∙ ap (λ (z : List Branch). option_or (in_branches z) (in_body other.items)) (sym el)
+
+  -- a branch breaks a rule
+  pub choice_found : (s : Stmt) (bs : Vec Branch Global) (other : Vec Stmt Global) (ls : List Branch) (i : ℕ) (b : Branch) (e : ScopeError) → s ≡ statement.If bs other → ls ≡ bs.items → i < length ls → b ≡ get_or ls i b
+      → in_branches (drop i ls) ≡ in_branches ls → option_or (rules.broken world home (expr_view b.1) w) (in_body b.2.items) ≡ Some e → Some e ≡ rules.stmt_broken world home (stmt_view s) w
+  choice_found s bs other ls i b e is el lt at before h =
+      let here : in_branches (drop i ls) ≡ Some e =
+      ap (λ z. rules.branches_broken world home z w) (branches_left ls i b lt at) ∙ ap (λ z. option_or z (in_branches (drop (i + 1) ls))) h in
+      some_first (in_branches ls) (in_body other.items) e (sym before ∙ here) ∙ sym (choice_is s bs other ls is el)
+
+  -- no branch does
+  pub choice_over : (s : Stmt) (bs : Vec Branch Global) (other : Vec Stmt Global) (ls : List Branch) (o : List Stmt) (i : ℕ) → s ≡ statement.If bs other → ls ≡ bs.items → o ≡ other.items → length ls ≤ i
+      → in_branches (drop i ls) ≡ in_branches ls → in_body o ≡ rules.stmt_broken world home (stmt_view s) w
+  choice_over s bs other ls o i is el eo le before =
+      ap (λ (z : List Stmt). in_body z) eo ∙ none_first (in_branches ls) (in_body other.items) (sym before ∙ at_drop_all (λ (z : List Branch). in_branches z) ls i le) ∙ sym (choice_is s bs other ls is el)
+
+  pub loop_found : (s : Stmt) (line : ℕ) (xs : Vec (String Global) Global) (e : Expr) (c : Option Expr) (body other : Vec Stmt Global) (ys : List (String Global)) (b o : List Stmt) (r1 r2 r3 o1 o2 : Found)
+      → s ≡ statement.For line xs e c body other → ys ≡ xs.items → b ≡ body.items → o ≡ other.items
+      → r1 ≡ option_or (rules.broken world home (expr_view e) w) (option_or (rules.all_used world home (names_view ys)) (rules.condition_broken world home (option_map expr_view c) w))
+      → r2 ≡ rules.body_broken world home (body_view b) (record w { in_loop = true }) → r3 ≡ in_body o → o1 ≡ option_or r2 r3 → o2 ≡ option_or r1 o1 → o2 ≡ rules.stmt_broken world home (stmt_view s) w
+  loop_found s line xs e c body other ys b o r1 r2 r3 o1 o2 is ex eb eo h1 h2 h3 k1 k2 =
+      let first = rules.broken world home (expr_view e) w in
+      let names = λ (z : List (String Global)). rules.all_used world home (names_view z) in
+      let when = rules.condition_broken world home (option_map expr_view c) w in
+      let turns = λ (z : List Stmt). rules.body_broken world home (body_view z) (record w { in_loop = true }) in
+      k2 ∙ ap (λ z. option_or z o1) (h1 ∙ ap (λ (z : List (String Global)). option_or first (option_or (names z) when)) ex)
+      ∙ ap (option_or (option_or first (option_or (names xs.items) when)))
+        (k1 ∙ ap (λ z. option_or z r3) (h2 ∙ ap turns eb) ∙ ap (option_or (turns body.items)) (h3 ∙ ap (λ (z : List Stmt). in_body z) eo))
+      ∙ or_three first (names xs.items) when (option_or (turns body.items) (in_body other.items))
+      ∙ sym (ap (λ z. rules.stmt_broken world home z w) (ap stmt_view is ∙ shown_For line xs e c body other))
+
+  pub with_found : (s : Stmt) (line : ℕ) (ps : Vec Entry Global) (body : Vec Stmt Global) (qs : List Entry) (b : List Stmt) (r1 r2 o1 : Found) → s ≡ statement.With line ps body → qs ≡ ps.items → b ≡ body.items
+      → r1 ≡ option_or (rules.pairs_broken world home (pairs_view qs) w) (rules.all_used world home (keywords (pairs_view qs))) → r2 ≡ in_body b → o1 ≡ option_or r1 r2 → o1 ≡ rules.stmt_broken world home (stmt_view s) w
+  with_found s line ps body qs b r1 r2 o1 is eq eb h1 h2 k1 =
+      let values = λ (z : List Entry). rules.pairs_broken world home (pairs_view z) w in
+      let names = λ (z : List Entry). rules.all_used world home (keywords (pairs_view z)) in
+      k1 ∙ ap (λ z. option_or z r2) (h1 ∙ ap (λ (z : List Entry). option_or (values z) (names z)) eq)
+      ∙ ap (option_or (option_or (values ps.items) (names ps.items))) (h2 ∙ ap (λ (z : List Stmt). in_body z) eb)
+      ∙ or_grouped (values ps.items) (names ps.items) (in_body body.items)
+      ∙ sym (ap (λ z. rules.stmt_broken world home z w) (ap stmt_view is ∙ shown_With line ps body))

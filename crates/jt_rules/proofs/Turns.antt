@@ -1,5 +1,5 @@
 -- The first rule that is broken, of what is left of lists, and of several one behind the other.
-use Rattle.std.proofs.Common.{◌≡◌, ℕ, suc, ◌+◌, ◌<◌, ◌≤◌, Bool, false, List, [], ◌∷◌, length, map, drop, get_or, nat_lt, nat_le, ◌-◌, refl, sym, ap, ◌∙◌, arith, Option, Some, None}
+use Rattle.std.proofs.Common.{◌≡◌, ℕ, suc, ◌+◌, ◌<◌, ◌≤◌, Bool, true, false, List, [], ◌∷◌, length, map, drop, get_or, nat_lt, nat_le, ◌-◌, refl, sym, ap, ◌∙◌, arith, Option, Some, None, Result, Ok, Err, IfOk}
 use Rattle.std.specs.Option.{option_or}
 use Rattle.std.proofs.lemmas.List.{drop_more}
 use Rattle.std.proofs.lemmas.Option.{unwrap_or-slice_get}
@@ -18,6 +18,9 @@ use Rattle.jt_inherit.specs.declared.linked.Home as written
 use Rattle.std.proofs.lemmas.Bool.Decides.{nat_tests}
 use Rattle.jt_rules.specs.Rules as rules
 use Rattle.jt_rules.specs.Rules.{Breaks}
+use Rattle.jt_inherit.specs.View.{chain_view, sources_of}
+use Rattle.jt_inherit.specs.declared.linked.Chain.{Chain}
+use Rattle.jt_rules.specs.Standing.{world_in, home_in}
 use Rattle.jt_rules.specs.World.{World}
 use Rattle.jt_rules.specs.declared.error.ScopeError.{ScopeError}
 use Rattle.jt_rules.specs.declared.error.ScopeError.TheVariants as error
@@ -33,6 +36,21 @@ or_grouped (Some e) b c = refl
 pub or_three : (a b c d : Found) → option_or (option_or a (option_or b c)) d ≡ option_or a (option_or b (option_or c d))
 or_three None b c d = or_grouped b c d
 or_three (Some e) b c d = refl
+
+pub or_none : (a : Found) → option_or a None ≡ a
+or_none None = refl
+or_none (Some e) = refl
+
+-- the first of two is broken, or it isn't
+pub some_first : (a rest : Found) (e : ScopeError) → a ≡ Some e → Some e ≡ option_or a rest
+some_first a rest e h = sym (ap (λ z. option_or z rest) h)
+
+pub none_first : (a rest : Found) → a ≡ None → rest ≡ option_or a rest
+none_first a rest h = sym (ap (λ z. option_or z rest) h)
+
+pub equal_found : {E : Type 0} → (r : Result Found E) (u v : Found) → u ≡ v → IfOk r (λ o. o ≡ u) → IfOk r (λ o. o ≡ v)
+equal_found (Ok o) u v e h = h ∙ e
+equal_found (Err x) u v e h = tt
 
 -- a filter of a filter tag, and those behind it
 pub filterings_turn : (world : World) (home : Home) (f : Filtering) (fs : List Filtering) (w : rules.Within)
@@ -59,6 +77,15 @@ layers_left world home ts ls i l lt is =
     ∙ ap (λ (z : Layer). option_or (page_broken world home (body_view z.body.now)) (rules.templates_broken world home (shown_layers ts (drop (i + 1) ls)))) (sym is)
 
 -- ---- chains
+
+pub its_place : (c : Chain) (i : ℕ) → home_in c i ≡ home_at (chain_view c).order i
+unfolding home_in
+its_place c i = refl
+
+pub its_layers : (c : Chain) (i : ℕ) (ls : List Layer) → shown_layers (chain_view c).templates ls ≡ templates (sources_of (chain_view c)) (home_at (chain_view c).order i)
+    → shown_layers (chain_view c).templates ls ≡ templates (world_in c).sources (home_in c i)
+unfolding world_in home_in
+its_layers c i ls h = h
 
 there : (order : List Home) (i : ℕ) → get_or order i [] ≡ home_at order i
 there order i = sym (unwrap_or-slice_get order i [])
@@ -98,3 +125,9 @@ pub too_many_names : (left all rest count behind : ℕ) → left + all ≡ 65535
 too_many_names left all rest count behind h e over =
     let more : 65535 < all = omega arith in
     grind (arith, nat_tests)
+
+pub few_enough : (b : Bool) (n m : ℕ) → b ≡ nat_le n m → b ≡ true → n ≤ m
+few_enough b n m e h = grind (arith, nat_tests)
+
+pub over : (b : Bool) (n m : ℕ) → b ≡ nat_le n m → b ≡ false → m < n
+over b n m e h = grind (arith, nat_tests)
