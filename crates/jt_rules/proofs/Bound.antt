@@ -1,5 +1,5 @@
 -- How often statements bind names, by their forms.
-use Rattle.std.proofs.Common.{◌≡◌, ℕ, suc, ◌+◌, ◌<◌, ◌≤◌, min, List, [], ◌∷◌, length, map, drop, refl, sym, ap, ◌∙◌, arith, Option, Vec, String, Global, string_bytes}
+use Rattle.std.proofs.Common.{◌≡◌, ℕ, suc, ◌+◌, ◌<◌, ◌≤◌, min, List, [], ◌∷◌, length, drop, refl, ap, ◌∙◌, arith, Option, Vec, String, Global}
 use Rattle.std.proofs.lemmas.List.{at_drop_all}
 use Rattle.jt_expr.specs.View.{pairs_view}
 use Rattle.jt_expr.specs.declared.tree.Expr.{Expr}
@@ -19,7 +19,6 @@ named_length (x ∷ xs) = ap suc (named_length xs)
 pairs_length : (ps : List Entry) → pairs_count (pairs_view ps) ≡ length ps
 pairs_length [] = refl
 pairs_length (p ∷ ps) = ap suc (pairs_length ps)
-
 
 -- `m` is the greatest number
 module _ (m : ℕ) (s : Stmt) where

@@ -1,14 +1,13 @@
 -- Parameters that are given by name or have a default.
-use Rattle.std.proofs.Common.{◌≡◌, ℕ, zero, suc, ◌+◌, ◌-◌, ◌<◌, ◌≤◌, max, min, Bool, true, false, not, ◌&&◌, ◌||◌, if◌then◌else◌, List, [], ◌∷◌, length, take, drop, get_or, refl, sym, ap, ◌∙◌, arith, Option, Some, None, string_bytes}
+use Rattle.std.proofs.Common.{◌≡◌, ℕ, zero, suc, ◌+◌, ◌<◌, Bool, true, false, not, ◌&&◌, ◌||◌, if◌then◌else◌, List, [], ◌∷◌, length, take, drop, get_or, refl, sym, ap, ◌∙◌, arith, Option, Some, None, string_bytes}
 use Rattle.std.specs.Option.{is_some}
 use Rattle.std.specs.Prelude.{option_map}
 use Rattle.std.proofs.lemmas.List.{drop_more}
 use Rattle.jt_expr.specs.View.{literal_view}
-use Rattle.jt_expr.specs.declared.tree.Literal.{Literal}
 use Rattle.jt_parse.specs.Texts.{among}
 use Rattle.jt_parse.specs.Trees as trees
 use Rattle.jt_parse.specs.Trees.{Text}
-use Rattle.jt_parse.specs.View.{parameter_view, parameters_view}
+use Rattle.jt_parse.specs.View.{parameters_view}
 use Rattle.jt_parse.specs.declared.tree.Parameter.{Parameter}
 use Rattle.jt_slots.specs.Filters.{some_given}
 use Rattle.jt_rules.specs.Rules as rules
@@ -64,7 +63,7 @@ module _ (ks : List Text) where
 
       by : (b : Bool) → all_filled ks (take (rules.reached (parameters_view ps) ks) ps) ≡ rules.is_filled (parameters_view ps) 0 ks
           → all_filled ks (take (if b then suc (rules.reached (parameters_view ps) ks) else 0) (p ∷ ps))
-              ≡ (not b || ((among (string_bytes p.name) ks || is_some (option_map literal_view p.default)) && rules.is_filled (parameters_view ps) 0 ks))
+          ≡ (not b || ((among (string_bytes p.name) ks || is_some (option_map literal_view p.default)) && rules.is_filled (parameters_view ps) 0 ks))
       by true h =
           ap (λ c. (among (string_bytes p.name) ks || is_some p.default) && c) h
           ∙ ap (λ b. (among (string_bytes p.name) ks || b) && rules.is_filled (parameters_view ps) 0 ks) (sym (mapped literal_view p.default))

@@ -1,6 +1,5 @@
 -- Attributes, by what has them.
-use Rattle.std.proofs.Common.{◌≡◌, List, Bool, true, not, ◌&&◌, refl, codes, Option, Some, None, if◌then◌else◌}
-use Rattle.std.specs.Option.{is_some}
+use Rattle.std.proofs.Common.{◌≡◌, List, not, ◌&&◌, refl, codes, Option, Some, None}
 use Rattle.std.specs.Str.{bytes_eq}
 use Rattle.jt_expr.specs.Trees.{Expr, constant, name, group, list_of, map_of, attribute, item, call, filter, test, unary, binary, when, choice}
 use Rattle.jt_parse.specs.Trees.{Text}

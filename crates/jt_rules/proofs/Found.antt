@@ -3,7 +3,6 @@ use Rattle.std.proofs.Common.{◌≡◌, ℕ, ◌+◌, ◌<◌, ◌≤◌, refl,
 use Rattle.std.specs.Prelude.{option_map}
 use Rattle.std.proofs.lemmas.List.{drop_more, at_drop_all}
 use Rattle.std.specs.Option.{option_or}
-use Rattle.jt_expr.specs.Trees as trees
 use Rattle.jt_expr.specs.View.{expr_view, exprs_view, pairs_view}
 use Rattle.jt_expr.specs.declared.tree.Expr.{Expr}
 use Rattle.jt_expr.specs.declared.tree.Expr.TheVariants as e
@@ -183,7 +182,7 @@ module _ (world : World) (home : Home) (w : rules.Within) where
       let turns = λ (z : List Stmt). rules.body_broken world home (body_view z) (record w { in_loop = true }) in
       k2 ∙ ap (λ z. option_or z o1) (h1 ∙ ap (λ (z : List (String Global)). option_or first (option_or (names z) when)) ex)
       ∙ ap (option_or (option_or first (option_or (names xs.items) when)))
-        (k1 ∙ ap (λ z. option_or z r3) (h2 ∙ ap turns eb) ∙ ap (option_or (turns body.items)) (h3 ∙ ap (λ (z : List Stmt). in_body z) eo))
+      (k1 ∙ ap (λ z. option_or z r3) (h2 ∙ ap turns eb) ∙ ap (option_or (turns body.items)) (h3 ∙ ap (λ (z : List Stmt). in_body z) eo))
       ∙ or_three first (names xs.items) when (option_or (turns body.items) (in_body other.items))
       ∙ sym (ap (λ z. rules.stmt_broken world home z w) (ap stmt_view is ∙ shown_For line xs e c body other))
 

@@ -1,9 +1,9 @@
 -- Macros and blocks of a chain, by their names.
-use Rattle.std.proofs.Common.{◌≡◌, ℕ, zero, suc, ◌+◌, ◌<◌, ◌≤◌, Bool, true, false, cond, not, ◌||◌, if◌then◌else◌, List, [], ◌∷◌, length, map, drop, get_or, nat_lt, refl, sym, ap, ◌∙◌, arith, Option, Some, None}
+use Rattle.std.proofs.Common.{◌≡◌, ℕ, suc, ◌+◌, ◌<◌, Bool, true, false, cond, not, ◌||◌, if◌then◌else◌, List, [], ◌∷◌, length, map, drop, get_or, nat_lt, refl, sym, ap, ◌∙◌, arith, Option, Some, None}
 use Rattle.std.specs.Prelude.{option_map, filter}
 use Rattle.std.specs.List.{list_any}
 use Rattle.std.specs.Option.{option_or, is_some}
-use Rattle.std.specs.Ordering.{nat_cmp, is_eq}
+use Rattle.std.specs.Ordering.{nat_cmp}
 use Rattle.std.specs.Cmp.Lexicographic.{slice_cmp}
 use Rattle.std.specs.Str.{bytes_eq}
 use Rattle.std.specs.BTreeMap as sorted

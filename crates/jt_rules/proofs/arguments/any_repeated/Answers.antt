@@ -1,6 +1,6 @@
-use Rattle.std.proofs.Common.{sym, ap, ◌∙◌, get_or}
+use Rattle.std.proofs.Common.{sym, ◌∙◌, get_or}
 use Rattle.jt_rules.specs.Standing.{texts, is_among}
-use Rattle.jt_rules.proofs.Sets.{again, again_none, again_step, again_here, from_not, from_not_false, nameless}
+use Rattle.jt_rules.proofs.Sets.{again_none, again_step, again_here, from_not, from_not_false, nameless}
 use Rattle.jt_rules.proofs.arguments.any_repeated.Goals as goal
 
 pub loop-name-init : goal.loop-name-init

@@ -1,4 +1,4 @@
-use Rattle.std.proofs.Common.{◌≡◌, drop, take}
+use Rattle.std.proofs.Common.{◌≡◌, drop}
 use Rattle.jt_rules.specs.Standing.{texts}
 use Rattle.jt_rules.proofs.Filled.{all_filled}
 use Rattle.jt_rules.proofs.arguments.is_filled.Given as goal

@@ -1,6 +1,6 @@
 use Rattle.std.proofs.Common.{◌≡◌, ◌++◌, drop}
 use Rattle.jt_rules.specs.Standing.{texts}
-use Rattle.jt_expr.specs.View.{exprs_view, pairs_view}
+use Rattle.jt_expr.specs.View.{pairs_view}
 use Rattle.jt_inherit.specs.Uses as uses
 use Rattle.jt_rules.proofs.arguments.keywords_of.Given as goal
 

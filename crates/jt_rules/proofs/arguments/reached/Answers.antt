@@ -1,4 +1,4 @@
-use Rattle.std.proofs.Common.{◌≡◌, ℕ, suc, ◌-◌, ◌<◌, length, drop, sym, ap, ◌∙◌, arith, string_bytes}
+use Rattle.std.proofs.Common.{◌≡◌, suc, ◌-◌, drop, sym, ap, ◌∙◌, arith}
 use Rattle.jt_parse.specs.View.{parameters_view}
 use Rattle.jt_slots.specs.Filters.{some_given}
 use Rattle.jt_rules.specs.Standing.{texts}

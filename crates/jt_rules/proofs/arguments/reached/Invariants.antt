@@ -1,4 +1,4 @@
-use Rattle.std.proofs.Common.{◌≡◌, ◌≤◌, length, take, drop, false}
+use Rattle.std.proofs.Common.{◌≡◌, ◌≤◌, length, drop, false}
 use Rattle.jt_parse.specs.View as parsed
 use Rattle.jt_slots.specs.Filters.{some_given}
 use Rattle.jt_rules.specs.Standing.{texts}

@@ -15,8 +15,8 @@ returns-in-Some c =
     let scope = c.in_ok-scope.scope in
     let lt : i < length order = omega (arith, homes_length chain.homes.items, chain.homes.ok.0, c.len-home-end.ensures) in
     let here : c.in_ok-rule.field-0 ≡ chain_broken (world_in chain) (home_at order i) =
-      c.in_ok-rule.ensures ∙ ap (λ (z : Chain). chain_broken (world_in z) (home_in z scope.home)) c.in_ok-scope.ensures.same_chain
-      ∙ ap (λ n. chain_broken (world_in chain) (home_in chain n)) c.in_ok-scope.ensures.same_home ∙ ap (chain_broken (world_in chain)) (its_place chain i) in
+    c.in_ok-rule.ensures ∙ ap (λ (z : Chain). chain_broken (world_in z) (home_in z scope.home)) c.in_ok-scope.ensures.same_chain
+    ∙ ap (λ n. chain_broken (world_in chain) (home_in chain n)) c.in_ok-scope.ensures.same_home ∙ ap (chain_broken (world_in chain)) (its_place chain i) in
     let behind = rules.chains_broken (world_in chain) (drop (i + 1) order) in
     some_first (chain_broken (world_in chain) (home_at order i)) behind c.in-Some.rule (sym here ∙ c.in-Some.is) ∙ sym (chains_left (world_in chain) order i lt) ∙ c.loop-home.invariant
 
@@ -28,7 +28,7 @@ loop-home-preserved c =
     let scope = c.in_ok-scope.scope in
     let lt : i < length order = omega (arith, homes_length chain.homes.items, chain.homes.ok.0, c.len-home-end.ensures) in
     let here : c.in_ok-rule.field-0 ≡ chain_broken (world_in chain) (home_at order i) =
-      c.in_ok-rule.ensures ∙ ap (λ (z : Chain). chain_broken (world_in z) (home_in z scope.home)) c.in_ok-scope.ensures.same_chain
-      ∙ ap (λ n. chain_broken (world_in chain) (home_in chain n)) c.in_ok-scope.ensures.same_home ∙ ap (chain_broken (world_in chain)) (its_place chain i) in
+    c.in_ok-rule.ensures ∙ ap (λ (z : Chain). chain_broken (world_in z) (home_in z scope.home)) c.in_ok-scope.ensures.same_chain
+    ∙ ap (λ n. chain_broken (world_in chain) (home_in chain n)) c.in_ok-scope.ensures.same_home ∙ ap (chain_broken (world_in chain)) (its_place chain i) in
     let behind = rules.chains_broken (world_in chain) (drop (i + 1) order) in
     none_first (chain_broken (world_in chain) (home_at order i)) behind (sym here ∙ c.in_default.is) ∙ sym (chains_left (world_in chain) order i lt) ∙ c.loop-home.invariant

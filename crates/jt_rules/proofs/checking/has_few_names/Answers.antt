@@ -1,4 +1,4 @@
-use Rattle.std.proofs.Common.{◌≡◌, ◌+◌, ◌<◌, length, drop, sym, ap, ◌∙◌, arith}
+use Rattle.std.proofs.Common.{◌+◌, ◌<◌, length, drop, sym, ap, ◌∙◌, arith}
 use Rattle.jt_inherit.specs.View.{chain_view}
 use Rattle.jt_rules.specs.Rules as rules
 use Rattle.jt_rules.specs.Standing.{world_in, home_in}

@@ -1,7 +1,7 @@
 use Rattle.std.proofs.Common.{◌≡◌, drop}
 use Rattle.jt_rules.specs.Standing.{texts}
 use Rattle.jt_rules.specs.Rules as rules
-use Rattle.jt_rules.specs.ScopeView.{its_world, its_home, within_view}
+use Rattle.jt_rules.specs.ScopeView.{its_world, its_home}
 use Rattle.jt_rules.proofs.expressions.all_used.Given as goal
 
 abbrev pub invariant-loop-name : goal.invariant-loop-name

@@ -1,6 +1,5 @@
 use Rattle.std.proofs.Common.{sym, ap, ◌∙◌}
 use Rattle.std.specs.Option.{option_or}
-use Rattle.jt_expr.specs.View.{expr_view}
 use Rattle.jt_parse.specs.View.{stmt_view, body_view}
 use Rattle.jt_rules.specs.Rules as rules
 use Rattle.jt_rules.specs.ScopeView.{its_world, its_home, within_view}
