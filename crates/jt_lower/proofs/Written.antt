@@ -174,7 +174,7 @@ unfolding filter_of
 accepted_fits f n h = by (find (λ g. filter_id g == f) table.filters) refl h
   where
     by : (o : Option FilterId) → find (λ g. filter_id g == f) table.filters ≡ o → IsTrue (accepts o n) → f < 2 ^ 8
-    by None e k = absurd k
+    by None e k = absurd (let no : false ≡ true = k in cc)
     by (Some g) e k = let same : filter_id g == f ≡ true = found_passes (λ g. filter_id g == f) table.filters g e in let room = filter_fits g in grind (arith, nat_tests)
 
 half_le : (n : ℕ) → half n ≤ n

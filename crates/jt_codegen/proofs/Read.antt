@@ -1,0 +1,87 @@
+-- What holds of each template that was read holds of the templates of each chain; and what holds of the names in those holds of a
+-- chain's names.
+use Rattle.std.proofs.Common.{◌≡◌, ℕ, ◌<◌, Bool, true, false, if◌then◌else◌, List, [], ◌∷◌, ◌++◌, length, Option, Some, None, refl, ap}
+use Rattle.std.specs.Prelude.{flat_map}
+use Rattle.std.specs.List.{AllByRecursion}
+use Rattle.std.specs.Ordering.{nat_cmp, is_lt}
+use Rattle.std.specs.Cmp.Lexicographic.{slice_cmp}
+use Rattle.std.specs.Str.{bytes_eq}
+use Rattle.jt_parse.specs.Texts.{inserted, all_inserted, ascending}
+use Rattle.jt_parse.specs.Trees.{Text, Body}
+use Rattle.jt_inherit.specs.Chain.{Sources, Home, Template, sources_in, template, templates, names_up}
+use Rattle.jt_inherit.specs.Includes.{included}
+use Rattle.jt_inherit.specs.Uses.{body_names, own_names}
+use Rattle.jt_rules.specs.World.{World}
+use Rattle.jt_meaning.specs.Layout.{names_in}
+
+pub all_append : {A : Type 0} (P : A → Type 0) (xs ys : List A) → AllByRecursion P xs → AllByRecursion P ys → AllByRecursion P (xs ++ ys)
+all_append P [] ys h g = g
+all_append P (x ∷ xs) ys h g = (h.0, all_append P xs ys h.1 g)
+
+pub all_flat : {A B : Type 0} (P : B → Type 0) (f : A → List B) (xs : List A) → AllByRecursion (λ x. AllByRecursion P (f x)) xs → AllByRecursion P (flat_map f xs)
+all_flat P f [] h = tt
+all_flat P f (x ∷ xs) h = all_append P (f x) (flat_map f xs) h.0 (all_flat P f xs h.1)
+
+pub all_each : {A : Type 0} (P Q : A → Type 0) → ((x : A) → P x → Q x) → (xs : List A) → AllByRecursion P xs → AllByRecursion Q xs
+all_each P Q f [] h = tt
+all_each P Q f (x ∷ xs) h = (f x h.0, all_each P Q f xs h.1)
+
+-- ---- templates of chains
+
+module _ (P : Body → Type 0) where
+  abbrev Has : Option Body → Type 0
+  Has None = Unit {0}
+  Has (Some b) = P b
+
+  source_has : (ts : List Template) → AllByRecursion (λ t. P t.body) ts → (m : Text) → Has (sources_in ts m)
+  source_has [] a m = tt
+  source_has (t ∷ ts) a m = through (bytes_eq t.name m) (source_has ts a.1 m)
+    where
+      through : (b : Bool) → Has (sources_in ts m) → Has (if b then Some t.body else sources_in ts m)
+      through true g = a.0
+      through false g = g
+
+  named_have : (sources : Sources) → ((m : Text) → Has (sources m)) → (ms : List Text) → AllByRecursion (λ t. P t.body) (flat_map (λ m. template m (sources m)) ms)
+  named_have sources k [] = tt
+  named_have sources k (m ∷ ms) = all_append (λ t. P t.body) (template m (sources m)) (flat_map (λ l. template l (sources l)) ms) (by (sources m) (k m)) (named_have sources k ms)
+    where
+      by : (o : Option Body) → Has o → AllByRecursion (λ t. P t.body) (template m o)
+      by None h = tt
+      by (Some b) h = (h, tt)
+
+  pub chain_has : (ts : List Template) → AllByRecursion (λ t. P t.body) ts → (h : Home) → AllByRecursion (λ t. P t.body) (templates (sources_in ts) h)
+  chain_has ts a h = named_have (sources_in ts) (source_has ts a) (names_up (sources_in ts) 16 (Some h))
+
+-- ---- names
+
+module _ (P : Text → Type 0) where
+  inserted_all : (x : Text) (xs : List Text) → P x → AllByRecursion P xs → AllByRecursion P (inserted x xs)
+  inserted_all x [] h g = (h, tt)
+  inserted_all x (y ∷ ys) h g = through (bytes_eq y x) (is_lt (slice_cmp nat_cmp x y)) (inserted_all x ys h g.1)
+    where
+      through : (b c : Bool) → AllByRecursion P (inserted x ys) → AllByRecursion P (if b then y ∷ ys else if c then x ∷ y ∷ ys else y ∷ inserted x ys)
+      through true c k = g
+      through false true k = (h, g)
+      through false false k = (g.0, k)
+
+  all_inserted_all : (xs ys : List Text) → AllByRecursion P xs → AllByRecursion P ys → AllByRecursion P (all_inserted xs ys)
+  all_inserted_all [] ys h g = g
+  all_inserted_all (x ∷ xs) ys h g = all_inserted_all xs (inserted x ys) h.1 (inserted_all x ys h.0 g)
+
+  pub names_all : (world : World) → ((h : Home) → AllByRecursion P (own_names world.sources h)) → (hs : List Home) (h : Home) → AllByRecursion P (names_in world hs h)
+  names_all world own [] h = tt
+  names_all world own (k ∷ ks) h = through (bytes_eq k h)
+    where
+      handed : (ms : List Home) → AllByRecursion P (flat_map (names_in world ks) ms)
+      handed [] = tt
+      handed (m ∷ ms) = all_append P (names_in world ks m) (flat_map (names_in world ks) ms) (names_all world own ks m) (handed ms)
+
+      through : (b : Bool) → AllByRecursion P (if b then ascending (own_names world.sources h ++ flat_map (names_in world ks) (included world.sources h)) else names_in world ks h)
+      through true =
+          all_inserted_all (own_names world.sources h ++ flat_map (names_in world ks) (included world.sources h)) []
+          (all_append P (own_names world.sources h) (flat_map (names_in world ks) (included world.sources h)) (own h) (handed (included world.sources h))) tt
+      through false = names_all world own ks h
+
+  -- where each name of each template that was read is so
+  pub own_all : (ts : List Template) → AllByRecursion (λ t. AllByRecursion P (body_names t.body)) ts → (h : Home) → AllByRecursion P (own_names (sources_in ts) h)
+  own_all ts a h = all_flat P (λ t. body_names t.body) (templates (sources_in ts) h) (chain_has (λ b. AllByRecursion P (body_names b)) ts a h)
