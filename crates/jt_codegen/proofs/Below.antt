@@ -1,17 +1,19 @@
 -- Tests whether the entries of statements are few enough.
-use Rattle.std.proofs.Common.{◌≡◌, ℕ, ◌+◌, ◌-◌, max, ◌<◌, ◌≤◌, Bool, true, false, ◌&&◌, List, [], ◌∷◌, length, drop, get_or, map, Option, refl, sym, ap, ◌∙◌, arith, Vec, Global}
-use Rattle.std.proofs.lemmas.List.{drop_more}
+use Rattle.std.proofs.Common.{◌≡◌, ℕ, ◌+◌, ◌-◌, max, ◌<◌, ◌≤◌, Bool, true, false, ◌&&◌, List, [], ◌∷◌, length, drop, get_or, map, Option, refl, sym, ap, ◌∙◌, subst, arith, Vec, Global}
+use Rattle.std.specs.List.{AllByRecursion}
+use Rattle.std.proofs.lemmas.List.{drop_more, at_drop_all}
 use Rattle.std.specs.Prelude.{nat_le, option_map}
 use Rattle.std.proofs.lemmas.Bool.Decides.{nat_tests}
 use Rattle.jt_parse.specs.Trees.{Text}
 use Rattle.jt_slots.specs.Slots as slots
 use Rattle.jt_slots.specs.Slots.{SStmt, SBody, end}
-use Rattle.jt_slots.specs.View.{Front, slot_view, targets_view, place_view, expr_view, stmt_view, body_view, choice_view}
+use Rattle.jt_slots.specs.View.{Front, slot_view, targets_view, place_view, expr_view, stmt_view, body_view, choice_view, routine_view}
 use Rattle.jt_slots.specs.declared.program.Place.{Place}
 use Rattle.jt_slots.specs.declared.program.Slot.{Slot}
 use Rattle.jt_slots.specs.declared.program.Targets.{Targets}
 use Rattle.jt_slots.specs.declared.program.SExpr.{SExpr}
 use Rattle.jt_slots.specs.declared.program.SStmt as given
+use Rattle.jt_slots.specs.declared.program.Routine as given_routine
 use Rattle.jt_slots.specs.declared.program.SStmt.TheVariants as v
 use Rattle.jt_slots.specs.Size.{expr_height, targets_height, condition_height, stmt_height, body_height}
 use Rattle.jt_codegen.proofs.Fronts.{SBranch, view-If, view-For, view-Capture}
@@ -175,3 +177,34 @@ module _ (room : ℕ) (templates : List Text) where
   pub body_next : (ss : List given.SStmt) (i : ℕ) (x : given.SStmt) (t : Bool) (behind : SBody ℕ) → i < length ss → x ≡ get_or ss i x → Passes room (stmt_view templates x) t
       → nat_le (body_height (body_view templates (drop i ss) behind)) room ≡ t && nat_le (body_height (body_view templates (drop (i + 1) ss) behind)) room
   body_next ss i x t behind lt is h = ap (λ b. nat_le (body_height b) room) (statements_left ss i x lt is behind) ∙ h (body_view templates (drop (i + 1) ss) behind)
+
+-- ---- routines
+
+module _ (room : ℕ) (templates : List Text) where
+  abbrev pub RoutinesLow : List given_routine.Routine → Type 0
+  RoutinesLow rs = AllByRecursion (λ (r : slots.Routine ℕ). body_height r.body ≤ room) (map (routine_view templates) rs)
+
+  -- all are low where those that are left are
+  pub record SameLow (all left : List given_routine.Routine) : Type 0 where
+    pub all_low : RoutinesLow left → RoutinesLow all
+    pub left_low : RoutinesLow all → RoutinesLow left
+
+  pub low_first : (rs : List given_routine.Routine) → SameLow rs (drop 0 rs)
+  low_first rs = record { all_low = λ h. h; left_low = λ h. h }
+
+  pub low_more : (rs : List given_routine.Routine) (i : ℕ) (r : given_routine.Routine) (ss : List given.SStmt) → i < length rs → r ≡ get_or rs i r → ss ≡ r.body.items → Passes room (body_view templates ss) true → SameLow rs (drop i rs) → SameLow rs (drop (i + 1) rs)
+  low_more rs i r ss lt is same passes s =
+      let left : drop i rs ≡ r ∷ drop (i + 1) rs = drop_more rs i r lt ∙ ap (λ y. y ∷ drop (i + 1) rs) (sym is) in
+      let low : nat_le (body_height (body_view templates r.body.items end)) room ≡ true = ap (λ (l : List given.SStmt). nat_le (body_height (body_view templates l end)) room) (sym same) ∙ passes_alone room (body_view templates ss) true passes in
+      let within : body_height (body_view templates r.body.items end) ≤ room = grind (arith, nat_tests) in
+      record { all_low = λ h. s.all_low (subst RoutinesLow (sym left) (within, h)); left_low = λ h. (subst RoutinesLow left (s.left_low h)).1 }
+
+  pub low_not : (rs : List given_routine.Routine) (i : ℕ) (r : given_routine.Routine) (ss : List given.SStmt) → i < length rs → r ≡ get_or rs i r → ss ≡ r.body.items → Passes room (body_view templates ss) false → SameLow rs (drop i rs) → ¬ (RoutinesLow rs)
+  low_not rs i r ss lt is same passes s = λ h.
+      let left : drop i rs ≡ r ∷ drop (i + 1) rs = drop_more rs i r lt ∙ ap (λ y. y ∷ drop (i + 1) rs) (sym is) in
+      let high : nat_le (body_height (body_view templates r.body.items end)) room ≡ false = ap (λ (l : List given.SStmt). nat_le (body_height (body_view templates l end)) room) (sym same) ∙ passes_alone room (body_view templates ss) false passes in
+      let within : body_height (body_view templates r.body.items end) ≤ room = (subst RoutinesLow left (s.left_low h)).0 in
+      grind (arith, nat_tests)
+
+  pub low_all : (rs : List given_routine.Routine) (i : ℕ) → length rs ≤ i → SameLow rs (drop i rs) → RoutinesLow rs
+  low_all rs i le s = s.all_low (subst RoutinesLow (sym (at_drop_all (λ l. l) rs i le)) tt)

@@ -1,14 +1,18 @@
 -- What holds of each template that was read holds of the templates of each chain; and what holds of the names in those holds of a
 -- chain's names.
-use Rattle.std.proofs.Common.{◌≡◌, ℕ, ◌<◌, Bool, true, false, if◌then◌else◌, List, [], ◌∷◌, ◌++◌, length, Option, Some, None, refl, ap}
+use Rattle.std.proofs.Common.{◌≡◌, ℕ, ◌+◌, ◌≤◌, Bool, true, false, if◌then◌else◌, List, [], ◌∷◌, ◌++◌, length, Option, Some, None, refl, subst, arith}
 use Rattle.std.specs.Prelude.{flat_map}
 use Rattle.std.specs.List.{AllByRecursion}
 use Rattle.std.specs.Ordering.{nat_cmp, is_lt}
 use Rattle.std.specs.Cmp.Lexicographic.{slice_cmp}
 use Rattle.std.specs.Str.{bytes_eq}
+use Rattle.std.proofs.lemmas.Slice.Eq.{bytes_eq-Decides}
+use Rattle.jt_parse.specs.Bytes.{body_bytes}
 use Rattle.jt_parse.specs.Texts.{inserted, all_inserted, ascending}
 use Rattle.jt_parse.specs.Trees.{Text, Body}
 use Rattle.jt_inherit.specs.Chain.{Sources, Home, Template, sources_in, template, templates, names_up}
+use Rattle.jt_inherit.specs.Chains.{Given}
+use Rattle.jt_inherit.specs.Small.{source_len, templates_len, chains_len}
 use Rattle.jt_inherit.specs.Includes.{included}
 use Rattle.jt_inherit.specs.Uses.{body_names, own_names}
 use Rattle.jt_rules.specs.World.{World}
@@ -28,29 +32,41 @@ all_each P Q f (x ∷ xs) h = (f x h.0, all_each P Q f xs h.1)
 
 -- ---- templates of chains
 
-module _ (P : Body → Type 0) where
-  abbrev Has : Option Body → Type 0
-  Has None = Unit {0}
-  Has (Some b) = P b
+module _ (P : Text → Body → Type 0) where
+  abbrev Has : Text → Option Body → Type 0
+  Has m None = Unit {0}
+  Has m (Some b) = P m b
 
-  source_has : (ts : List Template) → AllByRecursion (λ t. P t.body) ts → (m : Text) → Has (sources_in ts m)
+  source_has : (ts : List Template) → AllByRecursion (λ t. P t.name t.body) ts → (m : Text) → Has m (sources_in ts m)
   source_has [] a m = tt
-  source_has (t ∷ ts) a m = through (bytes_eq t.name m) (source_has ts a.1 m)
+  source_has (t ∷ ts) a m = through (bytes_eq t.name m) refl (source_has ts a.1 m)
     where
-      through : (b : Bool) → Has (sources_in ts m) → Has (if b then Some t.body else sources_in ts m)
-      through true g = a.0
-      through false g = g
+      through : (b : Bool) → bytes_eq t.name m ≡ b → Has m (sources_in ts m) → Has m (if b then Some t.body else sources_in ts m)
+      through true e g = subst (λ n. P n t.body) ((bytes_eq-Decides t.name m).0 e) a.0
+      through false e g = g
 
-  named_have : (sources : Sources) → ((m : Text) → Has (sources m)) → (ms : List Text) → AllByRecursion (λ t. P t.body) (flat_map (λ m. template m (sources m)) ms)
+  named_have : (sources : Sources) → ((m : Text) → Has m (sources m)) → (ms : List Text) → AllByRecursion (λ t. P t.name t.body) (flat_map (λ m. template m (sources m)) ms)
   named_have sources k [] = tt
-  named_have sources k (m ∷ ms) = all_append (λ t. P t.body) (template m (sources m)) (flat_map (λ l. template l (sources l)) ms) (by (sources m) (k m)) (named_have sources k ms)
+  named_have sources k (m ∷ ms) = all_append (λ t. P t.name t.body) (template m (sources m)) (flat_map (λ l. template l (sources l)) ms) (by (sources m) (k m)) (named_have sources k ms)
     where
-      by : (o : Option Body) → Has o → AllByRecursion (λ t. P t.body) (template m o)
+      by : (o : Option Body) → Has m o → AllByRecursion (λ t. P t.name t.body) (template m o)
       by None h = tt
       by (Some b) h = (h, tt)
 
-  pub chain_has : (ts : List Template) → AllByRecursion (λ t. P t.body) ts → (h : Home) → AllByRecursion (λ t. P t.body) (templates (sources_in ts) h)
+  pub chain_has : (ts : List Template) → AllByRecursion (λ t. P t.name t.body) ts → (h : Home) → AllByRecursion (λ t. P t.name t.body) (templates (sources_in ts) h)
   chain_has ts a h = named_have (sources_in ts) (source_has ts a) (names_up (sources_in ts) 16 (Some h))
+
+-- ---- bytes: what is no longer than its source is no longer than all sources together
+
+module _ (given : Given) (n : ℕ) where
+  summed : (ts : List Template) → AllByRecursion (λ t. body_bytes t.body ≤ source_len (given t.name)) ts → templates_len given ts ≤ n → AllByRecursion (λ t. body_bytes t.body ≤ n) ts
+  summed [] a le = tt
+  summed (t ∷ ts) a le = (omega (arith, a.0, le), summed ts a.1 (omega (arith, le)))
+
+  pub all_short : (ts : List Template) → AllByRecursion (λ t. body_bytes t.body ≤ source_len (given t.name)) ts → (hs : List Home) → chains_len given (sources_in ts) hs ≤ n
+      → AllByRecursion (λ h. AllByRecursion (λ t. body_bytes t.body ≤ n) (templates (sources_in ts) h)) hs
+  all_short ts a [] le = tt
+  all_short ts a (h ∷ hs) le = (summed (templates (sources_in ts) h) (chain_has (λ m b. body_bytes b ≤ source_len (given m)) ts a h) (omega (arith, le)), all_short ts a hs (omega (arith, le)))
 
 -- ---- names
 
@@ -84,4 +100,4 @@ module _ (P : Text → Type 0) where
 
   -- where each name of each template that was read is so
   pub own_all : (ts : List Template) → AllByRecursion (λ t. AllByRecursion P (body_names t.body)) ts → (h : Home) → AllByRecursion P (own_names (sources_in ts) h)
-  own_all ts a h = all_flat P (λ t. body_names t.body) (templates (sources_in ts) h) (chain_has (λ b. AllByRecursion P (body_names b)) ts a h)
+  own_all ts a h = all_flat P (λ t. body_names t.body) (templates (sources_in ts) h) (chain_has (λ m b. AllByRecursion P (body_names b)) ts a h)

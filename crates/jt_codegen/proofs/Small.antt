@@ -7,9 +7,9 @@ use Rattle.jt_value.specs.Tree as tree
 use Rattle.jt_value.specs.Tree.{Tree}
 use Rattle.jt_image.specs.Code.{Name, Section}
 use Rattle.jt_image.specs.Spelling.{name_bytes, constant_bytes, spelling}
-use Rattle.jt_image.specs.IsCode.{total_len, max_locals, max_instructions, max_bytes}
+use Rattle.jt_image.specs.IsCode.{IsInstruction, total_len, max_locals, max_instructions, max_bytes}
 use Rattle.jt_image.specs.Typed.{max_entries}
-use Rattle.jt_image.specs.Parts.{KeepsLimits, IsWritable}
+use Rattle.jt_image.specs.Parts.{KeepsLimits}
 use Rattle.jt_image.specs.Laws.{CodeLaws}
 use Rattle.jt_parse.specs.Trees.{Text}
 use Rattle.jt_inherit.specs.Chain.{Home}
@@ -76,8 +76,34 @@ units_locals : (n : ℕ) (rs : List (Routine ℕ)) → n ≤ max_locals → AllB
 units_locals n [] le h = tt
 units_locals n (r ∷ rs) le h = (omega (arith, le, h.0), units_locals n rs le h.1)
 
--- ---- an image has place for a program that fits, and keeps the limits
+-- ---- an image has place for the code of a program that fits, where the limits are kept
 
-units_fit : (us : List Section) → AllByRecursion (λ u. u.parameters ≤ 255) us → AllByRecursion (λ u. u.locals ≤ max_locals) us → total_len us ≤ max_instructions → (AllByRecursion (λ u. IsWritable u) us → AllByRecursion FitsUnit us)
-units_fit [] few locals len h = tt
-units_fit (u ∷ us) few locals len h = (record { locals = locals.0; len = omega (arith, len); writable = h.0 }, units_fit us few.1 locals.1 (omega (arith, len)) h.1)
+units_fit : (us : List Section) → AllByRecursion (λ u. u.parameters ≤ 200) us → AllByRecursion (λ u. u.locals ≤ max_locals) us → total_len us ≤ max_instructions → AllByRecursion (λ u. AllByRecursion IsInstruction u.code) us
+    → AllByRecursion FitsUnit us
+units_fit [] parameters locals len written = tt
+units_fit (u ∷ us) parameters locals len written = (
+  record { locals = locals.0; len = omega (arith, len); writable = record { parameters = omega (arith, parameters.0); code = written.0 } },
+  units_fit us parameters.1 locals.1 (omega (arith, len)) written.1,
+)
+
+module _ (laws : CodeLaws) (low : LowLaws) (world : World) (order : List Home) (p : Program) (sized : IsSized world order p) (weight : chains_weight world.sources order ≤ 2000) where
+  -- no routine needs more entries than a shape may have
+  pub small_low : AllByRecursion (λ r. body_height r.body ≤ max_entries) p.routines
+  small_low = all_each (λ (r : Routine ℕ). 2 * body_height r.body ≤ max 2 (chains_weight world.sources order)) (λ r. body_height r.body ≤ max_entries) (λ r h. omega (arith, h, weight)) p.routines sized.entries
+
+  module _ (short : IsShort 2000 p) (few : 7 * length order ≤ chains_weight world.sources order + 7) where
+    limits : KeepsLimits (compiled p)
+    limits = record {
+      names = omega (arith, sized.names, numbered_len 0 p.names);
+      texts = numbered_texts (λ x. length x < 2 ^ 16) 0 p.names (all_each (λ x. length x ≤ 2000) (λ x. length x < 2 ^ 16) (λ x h. omega (arith, h)) p.names short.names);
+      constants = omega (arith, sized.constants, weight, mapped_len constant_of p.pool);
+      units = omega (arith, sized.units, weight, few, mapped_len unit_of p.routines);
+      locals = units_locals (200 + chains_weight world.sources order) p.routines (omega (arith, weight)) sized.locals;
+      instructions = omega (arith, low.sized p, sized.instructions, weight, few);
+      bytes = omega (arith, laws.spelled (compiled p), names_spelled 0 p.names short.names, constants_spelled p.pool short.pool, mapped_len unit_of p.routines, low.sized p, sized.names, sized.constants, sized.units, sized.instructions, weight, few);
+    }
+
+    pub small_fits : ProgramFits p → AllByRecursion (λ u. u.parameters ≤ 200) (compiled p).units → FitsImage (compiled p)
+    small_fits fit parameters =
+        let globals : p.globals < 2 ^ 16 = omega (arith, sized.globals, weight, few) in
+        record { globals = globals; limits = limits; units = units_fit (compiled p).units parameters limits.locals limits.instructions (low.written p fit globals limits) }

@@ -5,13 +5,21 @@ ghost use Rattle.jt_inherit.specs.Small.{IsSmall};
 ghost use Rattle.jt_codegen.specs.Compiled.{IsCompiled};
 ghost use Rattle.jt_codegen.specs.Refusals.{Breaks, NamesLimit};
 
+use crate::entries::fits_entries;
 use crate::error::CompileError;
-use jt_image::Image;
-use jt_inherit::Library;
+use crate::image::image_of;
+use jt_image::{Image, code_laws};
+use jt_inherit::{Library, chain};
+use jt_lower::low_laws;
+use jt_meaning::program_laws;
 use jt_scan::Options;
+use jt_scopes::resolve;
 use std::alloc::Global;
 
-/// The image of the entry, of which the library has the source, and those of all templates that it reaches.
+/// How many entries a unit may need.
+const MAX_ENTRIES: usize = 1_024;
+
+/// The image of the entry, which stands in the library with all templates that it reaches.
 ///
 /// # Errors
 ///
@@ -31,8 +39,14 @@ pub fn compile<L: Library>(
     // a limit is never named where the chain is small
     ensures small { IfErr result (λ e. NamesLimit e → ¬ (IsSmall (L.sources library.now) entry.now options)) }
 {
-    let _read = entry.len();
-    let _library = library;
-    let _options = options;
-    Err(CompileError::NoMemory)
+    code_laws();
+    low_laws();
+    program_laws();
+    let chain = chain(alloc, entry, library, options)?;
+    let program = resolve(alloc, &chain)?;
+    if !fits_entries(&program.routines, MAX_ENTRIES) {
+        return Err(CompileError::StackTooDeep);
+    }
+    let image = image_of(alloc, &program)?;
+    Ok(image)
 }

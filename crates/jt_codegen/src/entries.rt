@@ -1,10 +1,12 @@
 //! How many entries the code of resolved statements needs.
 
-ghost use Rattle.std.specs.Prelude.{◌≡◌, ◌&&◌, nat_le, ℕ, List, Option, option_map};
+ghost use Rattle.std.specs.Prelude.{◌≡◌, ◌&&◌, ◌≤◌, ◌↔◌, nat_le, ℕ, List, Option, option_map, map, IsTrue};
+ghost use Rattle.std.specs.List.{AllByRecursion};
 ghost use Rattle.jt_parse.specs.Trees.{Text};
 ghost use Rattle.jt_slots.specs.Size.{targets_height, condition_height, body_height};
+ghost use Rattle.jt_slots.specs.Slots as slots;
 ghost use Rattle.jt_slots.specs.Slots.{SBody};
-ghost use Rattle.jt_slots.specs.View.{targets_view, expr_view, stmt_view, body_view};
+ghost use Rattle.jt_slots.specs.View.{targets_view, expr_view, stmt_view, body_view, routine_view};
 
 use jt_lower::{fits_expression, fits_row};
 use jt_slots::{Routine, SExpr, SStmt, Targets};
@@ -66,11 +68,23 @@ fn fits_statement(statement: &SStmt, room: usize) -> bool
 
 /// Whether statements need at most so many entries.
 #[cycle(entries)]
-pub(crate) fn fits_body(body: &[SStmt], room: usize) -> bool
+fn fits_body(body: &[SStmt], room: usize) -> bool
     ensures { (templates : List Text) (behind : SBody ℕ) → nat_le (body_height (body_view templates body.now behind)) room ≡ result && nat_le (body_height behind) room }
 {
     for statement in body {
         if !fits_statement(statement, room) {
+            return false;
+        }
+    }
+    true
+}
+
+/// Whether no routine needs more entries than that.
+pub(crate) fn fits_entries(routines: &[Routine], room: usize) -> bool
+    ensures { (templates : List Text) → IsTrue result ↔ AllByRecursion (λ (r : slots.Routine ℕ). body_height r.body ≤ room) (map (routine_view templates) routines.now) }
+{
+    for routine in routines {
+        if !fits_body(&routine.body, room) {
             return false;
         }
     }

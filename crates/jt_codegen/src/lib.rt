@@ -3,6 +3,7 @@
 
 mod compiling;
 mod emission;
+mod entries;
 mod error;
 mod image;
 mod laws;
