@@ -1,6 +1,6 @@
 -- A chain that breaks no rule: its image, and what its refusals say.
 use Rattle.std.proofs.Common.{◌≡◌, ℕ, zero, suc, ◌+◌, ◌*◌, ◌<◌, ◌≤◌, Bool, true, false, List, [], ◌∷◌, map, length, Option, Some, refl, sym, ap, ◌∙◌, subst, arith}
-use Rattle.std.specs.Prelude.{slice_get, nat_le}
+use Rattle.std.specs.Prelude.{slice_get, nat_le, IsTrue}
 use Rattle.std.specs.List.{AllByRecursion}
 use Rattle.std.proofs.lemmas.Bool.Decides.{nat_tests}
 use Rattle.jt_scan.specs.declared.options.Options.{Options}
@@ -17,7 +17,10 @@ use Rattle.jt_inherit.specs.Places.{home_at}
 use Rattle.jt_inherit.specs.Small.{chains_weight, chains_len, source_len, IsSmall}
 use Rattle.jt_inherit.specs.Uses.{body_names}
 use Rattle.jt_inherit.specs.View.{Seen, sources_of}
+use Rattle.jt_rules.specs.Rules as rules
 use Rattle.jt_rules.specs.Rules.{KeepsRules}
+use Rattle.jt_rules.specs.declared.error.ScopeError.{ScopeError}
+use Rattle.jt_rules.specs.declared.error.ScopeError.TheVariants as scope_error
 use Rattle.jt_rules.specs.World.{World, world_of}
 use Rattle.jt_meaning.specs.Bytes.{IsShort}
 use Rattle.jt_meaning.specs.Layout.{names, shared}
@@ -26,13 +29,16 @@ use Rattle.jt_meaning.specs.Measure.{AreFew, IsSized}
 use Rattle.jt_meaning.specs.Programs.{program, routines, count_globals}
 use Rattle.jt_slots.specs.Size.{body_height}
 use Rattle.jt_slots.specs.Slots.{Routine, Program}
+use Rattle.jt_slots.specs.View.{routine_view, templates_of, program_of}
+use Rattle.jt_slots.specs.declared.program.Program as given
+use Rattle.jt_slots.specs.declared.program.Routine as given_routine
 use Rattle.jt_lower.specs.Compiles.{LowLaws}
 use Rattle.jt_lower.specs.Fits.{ProgramFits}
 use Rattle.jt_lower.specs.Lawful.{AreLow}
 use Rattle.jt_lower.specs.Lower.{compiled}
 use Rattle.jt_codegen.specs.Compiled.{IsCompiled}
 use Rattle.jt_codegen.specs.Limits.{NeedsTooMany}
-use Rattle.jt_codegen.specs.Refusals.{of_emit, Breaks, HasProgram, NamesLimit}
+use Rattle.jt_codegen.specs.Refusals.{of_scope, of_emit, Breaks, HasProgram, NamesLimit}
 use Rattle.jt_codegen.specs.Units.{FitsImage, RefusesCode}
 use Rattle.jt_codegen.specs.declared.emission.EmitError.{EmitError}
 use Rattle.jt_codegen.specs.declared.emission.EmitError.TheVariants as emit_error
@@ -40,8 +46,9 @@ use Rattle.jt_codegen.proofs.Chained.{fits, by_order}
 use Rattle.jt_codegen.proofs.Lawful.{few_globals}
 use Rattle.jt_codegen.proofs.Read.{names_all, own_all, all_short}
 use Rattle.jt_codegen.proofs.Routines.{parameters_few}
+use Rattle.jt_codegen.proofs.Spelled.{read_named}
 use Rattle.jt_codegen.proofs.Small.{small_low, small_fits}
-use Rattle.jt_codegen.proofs.Tables.{tables}
+use Rattle.jt_codegen.proofs.Ordered.{tables}
 
 -- no routine needs more entries than a shape may have
 abbrev pub Low : Program → Type 0
@@ -61,6 +68,31 @@ high (r ∷ rs) n = through (nat_le (body_height r.body) max_entries) refl
 
 needs_too_many : (p : Program) → ¬ (Low p) → NeedsTooMany p
 needs_too_many p n = let h = high p.routines n in record { n = h.0; routine = h.1; is = h.2; many = h.3 }
+
+-- what is counted of a program's routines
+pub low_of : (q : given.Program) (rs : List given_routine.Routine) (b : Bool) → rs ≡ q.routines.items
+    → ((templates : List Text) → (IsTrue b → AllByRecursion (λ (r : Routine ℕ). body_height r.body ≤ max_entries) (map (routine_view templates) rs)) × (AllByRecursion (λ (r : Routine ℕ). body_height r.body ≤ max_entries) (map (routine_view templates) rs) → IsTrue b))
+    → b ≡ true → Low (program_of q)
+low_of q rs b same counted e =
+    subst (λ (l : List given_routine.Routine). AllByRecursion (λ (r : Routine ℕ). body_height r.body ≤ max_entries) (map (routine_view (templates_of q)) l)) same ((counted (templates_of q)).0 e)
+
+pub high_of : (q : given.Program) (rs : List given_routine.Routine) (b : Bool) → rs ≡ q.routines.items
+    → ((templates : List Text) → (IsTrue b → AllByRecursion (λ (r : Routine ℕ). body_height r.body ≤ max_entries) (map (routine_view templates) rs)) × (AllByRecursion (λ (r : Routine ℕ). body_height r.body ≤ max_entries) (map (routine_view templates) rs) → IsTrue b))
+    → b ≡ false → ¬ (Low (program_of q))
+high_of q rs b same counted e = λ h.
+    let back = subst (λ (l : List given_routine.Routine). AllByRecursion (λ (r : Routine ℕ). body_height r.body ≤ max_entries) (map (routine_view (templates_of q)) l)) (sym same) h in
+    let is_true : b ≡ true = (counted (templates_of q)).1 back in
+    let no : true ≡ false = sym is_true ∙ e in
+    absurd cc
+
+-- a rule of names and calls that is broken
+pub rule_refused : (given : Given) (entry : Text) (options : Options) (c : Seen) → IsChain given entry options c → (e : ScopeError) → rules.Breaks e (world_of c) c.order → Breaks given entry options (of_scope e)
+rule_refused given entry options c is scope_error.LoopOutside r = record { chain = c; is = is; fault = λ e. cc; broken = r }
+rule_refused given entry options c is scope_error.MacroAsValue r = record { chain = c; is = is; fault = λ e. cc; broken = r }
+rule_refused given entry options c is scope_error.NotCallable r = record { chain = c; is = is; fault = λ e. cc; broken = r }
+rule_refused given entry options c is scope_error.BadArguments r = record { chain = c; is = is; fault = λ e. cc; broken = r }
+rule_refused given entry options c is scope_error.TooManySlots r = record { chain = c; is = is; fault = λ e. cc; broken = r }
+rule_refused given entry options c is scope_error.NoMemory r = tt
 
 module _ (code : CodeLaws) (low : LowLaws) (programs : ProgramLaws) (given : Given) (entry : Text) (options : Options) (c : Seen) (is : IsChain given entry options c) (kept : KeepsRules (world_of c) c.order) where
   abbrev world : World
@@ -84,9 +116,12 @@ module _ (code : CodeLaws) (low : LowLaws) (programs : ProgramLaws) (given : Giv
 
   -- ---- its image
 
-  -- where no name that is read or bound is empty
-  pub tables_of : (q : Program) → IsOf q → AllByRecursion (λ t. AllByRecursion (λ x. 0 < length x) (body_names t.body)) c.templates → HasTables (compiled q)
-  tables_of q same some =
+  -- no name that is read or bound is empty
+  some : AllByRecursion (λ t. AllByRecursion (λ x. 0 < length x) (body_names t.body)) c.templates
+  some = read_named given options c.templates is.read.each
+
+  pub tables_of : (q : Program) → IsOf q → HasTables (compiled q)
+  tables_of q same =
       subst (λ (r : Program). HasTables (compiled r)) (sym (of_entry q same ∙ begun))
       (tables world entry is.included (names_all (λ x. 0 < length x) world (own_all (λ x. 0 < length x) c.templates some) order entry) (programs.ascends world order entry) (omega (arith, few_globals world order entry)))
 

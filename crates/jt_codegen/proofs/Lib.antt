@@ -10,6 +10,7 @@ pub mod Chained
 pub mod Refused
 pub mod Read
 pub mod Routines
-pub mod Tables
+pub mod Ordered
 pub mod Small
+pub mod Spelled
 pub mod Images

@@ -25,7 +25,7 @@ use Rattle.jt_lower.specs.Lower.{unit_of, constant_of, numbered, compiled}
 use Rattle.jt_codegen.specs.Units.{FitsUnit, FitsImage}
 use Rattle.jt_codegen.proofs.Read.{all_each}
 use Rattle.jt_codegen.proofs.Tabled.{numbered_len}
-use Rattle.jt_codegen.proofs.Tables.{numbered_texts}
+use Rattle.jt_codegen.proofs.Ordered.{numbered_texts}
 
 mapped_len : {A B : Type 0} (f : A → B) (xs : List A) → length (map f xs) ≡ length xs
 mapped_len f [] = refl
