@@ -55,16 +55,19 @@ abbrev pub Low : Program → Type 0
 Low p = AllByRecursion (λ r. body_height r.body ≤ max_entries) p.routines
 
 -- one of them does where not all don't
-high : (rs : List (Routine ℕ)) → ¬ (AllByRecursion (λ r. body_height r.body ≤ max_entries) rs) → (n : ℕ) × (r : Routine ℕ) × (slice_get rs n ≡ Some r) × (max_entries < body_height r.body)
+abbrev IsHigh : List (Routine ℕ) → Type 0
+IsHigh rs = (n : ℕ) × (r : Routine ℕ) × (slice_get rs n ≡ Some r) × (max_entries < body_height r.body)
+
+high : (rs : List (Routine ℕ)) → ¬ (AllByRecursion (λ r. body_height r.body ≤ max_entries) rs) → IsHigh rs
 high [] n = absurd (n tt)
-high (r ∷ rs) n = through (nat_le (body_height r.body) max_entries) refl
+high (r ∷ rs) n = first_or_later (nat_le (body_height r.body) max_entries) refl (λ below. high rs (λ all. n (below, all)))
   where
-    through : (b : Bool) → nat_le (body_height r.body) max_entries ≡ b → (i : ℕ) × (s : Routine ℕ) × (slice_get (r ∷ rs) i ≡ Some s) × (max_entries < body_height s.body)
-    through false e = (0, r, refl, grind (arith, nat_tests))
-    through true e =
+    first_or_later : (b : Bool) → nat_le (body_height r.body) max_entries ≡ b → (body_height r.body ≤ max_entries → IsHigh rs) → IsHigh (r ∷ rs)
+    first_or_later false e later = (0, r, refl, grind (arith, nat_tests))
+    first_or_later true e later =
         let below : body_height r.body ≤ max_entries = grind (arith, nat_tests) in
-        let later = high rs (λ all. n (below, all)) in
-        (suc later.0, later.1, later.2, later.3)
+        let found = later below in
+        (suc found.0, found.1, found.2, found.3)
 
 needs_too_many : (p : Program) → ¬ (Low p) → NeedsTooMany p
 needs_too_many p n = let h = high p.routines n in record { n = h.0; routine = h.1; is = h.2; many = h.3 }

@@ -84,19 +84,19 @@ module _ (P : Text → Type 0) where
   all_inserted_all [] ys h g = g
   all_inserted_all (x ∷ xs) ys h g = all_inserted_all xs (inserted x ys) h.1 (inserted_all x ys h.0 g)
 
+  handed_all : (f : Home → List Text) → ((m : Home) → AllByRecursion P (f m)) → (ms : List Home) → AllByRecursion P (flat_map f ms)
+  handed_all f g [] = tt
+  handed_all f g (m ∷ ms) = all_append P (f m) (flat_map f ms) (g m) (handed_all f g ms)
+
+  own_or_later : (b : Bool) (own later behind : List Text) → AllByRecursion P own → AllByRecursion P later → AllByRecursion P behind → AllByRecursion P (if b then ascending (own ++ later) else behind)
+  own_or_later true own later behind h g k = all_inserted_all (own ++ later) [] (all_append P own later h g) tt
+  own_or_later false own later behind h g k = k
+
   pub names_all : (world : World) → ((h : Home) → AllByRecursion P (own_names world.sources h)) → (hs : List Home) (h : Home) → AllByRecursion P (names_in world hs h)
   names_all world own [] h = tt
-  names_all world own (k ∷ ks) h = through (bytes_eq k h)
-    where
-      handed : (ms : List Home) → AllByRecursion P (flat_map (names_in world ks) ms)
-      handed [] = tt
-      handed (m ∷ ms) = all_append P (names_in world ks m) (flat_map (names_in world ks) ms) (names_all world own ks m) (handed ms)
-
-      through : (b : Bool) → AllByRecursion P (if b then ascending (own_names world.sources h ++ flat_map (names_in world ks) (included world.sources h)) else names_in world ks h)
-      through true =
-          all_inserted_all (own_names world.sources h ++ flat_map (names_in world ks) (included world.sources h)) []
-          (all_append P (own_names world.sources h) (flat_map (names_in world ks) (included world.sources h)) (own h) (handed (included world.sources h))) tt
-      through false = names_all world own ks h
+  names_all world own (k ∷ ks) h =
+      own_or_later (bytes_eq k h) (own_names world.sources h) (flat_map (names_in world ks) (included world.sources h)) (names_in world ks h) (own h)
+      (handed_all (names_in world ks) (λ m. names_all world own ks m) (included world.sources h)) (names_all world own ks h)
 
   -- where each name of each template that was read is so
   pub own_all : (ts : List Template) → AllByRecursion (λ t. AllByRecursion P (body_names t.body)) ts → (h : Home) → AllByRecursion P (own_names (sources_in ts) h)

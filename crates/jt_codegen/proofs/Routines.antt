@@ -1,9 +1,9 @@
 -- The parameters and the locals of the routines of chains.
-use Rattle.std.proofs.Common.{◌≡◌, ℕ, ◌<◌, ◌≤◌, ◌+◌, max, Bool, true, false, if◌then◌else◌, List, [], ◌∷◌, ◌++◌, length, map, Option, Some, None, refl, ap, subst, arith}
+use Rattle.std.proofs.Common.{◌≡◌, ℕ, suc, ◌<◌, ◌≤◌, ◌+◌, max, Bool, true, false, if◌then◌else◌, List, [], ◌∷◌, ◌++◌, length, map, Option, Some, None, refl, ap, subst, arith}
 use Rattle.std.specs.Prelude.{flat_map, filter}
 use Rattle.std.specs.List.{AllByRecursion}
 use Rattle.std.specs.Str.{bytes_eq}
-use Rattle.std.proofs.lemmas.List.{length-map}
+use Rattle.jt_parse.specs.Trees.{Parameter}
 use Rattle.jt_image.specs.Code.{Section}
 use Rattle.jt_inherit.specs.Chain.{Home, BlockBody, MacroBody, macros}
 use Rattle.jt_rules.specs.World.{World}
@@ -15,6 +15,10 @@ use Rattle.jt_slots.specs.Slots.{Routine}
 use Rattle.jt_slots.specs.Pool.{Constant, body_values, placed_routines}
 use Rattle.jt_lower.specs.Lower.{unit_of}
 use Rattle.jt_codegen.proofs.Read.{all_append}
+
+mapped_len : {A B : Type 0} (f : A → B) (xs : List A) → length (map f xs) ≡ length xs
+mapped_len f [] = refl
+mapped_len f (x ∷ xs) = ap suc (mapped_len f xs)
 
 -- said of parameters and locals alone
 abbrev pub Of : {K : Type 0} → (ℕ → ℕ → Type 0) → Routine K → Type 0
@@ -79,7 +83,7 @@ parameters_few world entry rest n few = units_so Few world order (λ h. omega ar
 
     each : (h : Home) (ms : List MacroBody) → AllByRecursion (λ m. length m.parameters ≤ 200) ms → AllByRecursion (λ m. Of Few (macro_routine world order h m)) ms
     each h [] g = tt
-    each h (m ∷ ms) g = (omega (arith, g.0, length-map (λ p. p.name) m.parameters), each h ms g.1)
+    each h (m ∷ ms) g = (omega (arith, g.0, mapped_len (λ (p : Parameter). p.name) m.parameters), each h ms g.1)
 
     all : (hs : List Home) → AllByRecursion (IsFew world order) hs → AllByRecursion (λ h. AllByRecursion (λ m. Of Few (macro_routine world order h m)) (macros world.sources h)) hs
     all [] g = tt
