@@ -42,7 +42,7 @@ returns-in_err-image-clause-small g c =
     let p = err_from_is_err_and c.from_residual-in_err-image.result c.from_residual-in_err-image.ensures.1 in
     rw (p.1, p.2)
     (code_not_small c.code_laws.ensures c.low_laws.ensures c.program_laws.ensures (g.L.Library.sources c.args.library.now) c.args.entry.now c.args.options (chain_view c.in_ok-chain.chain) c.in_ok-chain.ensures.chained c.in_ok-program.ensures.kept
-    c.in_err-image.field-0.0 (program_of c.in_ok-program.program) c.in_ok-program.ensures.resolved c.in_err-image.ensures.refused c.in_ok-chain.ensures.weighs c.in_ok-chain.ensures.short ?)
+    c.in_err-image.field-0.0 (program_of c.in_ok-program.program) c.in_ok-program.ensures.resolved c.in_err-image.ensures.refused c.in_ok-chain.ensures.weighs c.in_ok-chain.ensures.short c.in_ok-chain.ensures.few)
 
 pub returns-clause-compiled : goal.returns-clause-compiled
 returns-clause-compiled g c =
