@@ -48,7 +48,7 @@ module _ (low : LowLaws) (programs : ProgramLaws) (given : Given) (entry : Text)
   abbrev p : Program
   p = program world order entry
 
-  fits : AreLow (routines world order) → ProgramFits p
+  pub fits : AreLow (routines world order) → ProgramFits p
   fits few = low.fits (names world order entry) (count_globals world order order) (shared world order) (routines world order) (program_lawful world entry is.included (programs.takes world entry is.included ordered keeps known)) few
 
   pub image_compiled : AreLow (routines world order) → IsCode (compiled p) → IsCompiled given entry options (compiled p)
@@ -69,7 +69,7 @@ module _ (low : LowLaws) (programs : ProgramLaws) (given : Given) (entry : Text)
         };
       }
 
-by_order : LowLaws → ProgramLaws → (given : Given) (entry : Text) (options : Options) (c : Seen) (is : IsChain given entry options c) → KeepsRules (world_of c) c.order → AreLow (routines (world_of c) c.order) → IsCode (compiled (program (world_of c) c.order entry))
+pub by_order : LowLaws → ProgramLaws → (given : Given) (entry : Text) (options : Options) (c : Seen) (is : IsChain given entry options c) → KeepsRules (world_of c) c.order → AreLow (routines (world_of c) c.order) → IsCode (compiled (program (world_of c) c.order entry))
     → IsCompiled given entry options (compiled (program (world_of c) c.order entry))
 by_order low programs given entry options c is kept few whole =
     subst (λ (o : List Home). IsCompiled given entry options (compiled (program (world_of c) o entry))) (sym is.begins)
