@@ -1,5 +1,5 @@
 -- How deep the parts of an expression are.
-use Rattle.std.proofs.Common.{◌≡◌, ℕ, ◌<◌, List, rules, Bool, Vec, Box, String, Global}
+use Rattle.std.proofs.Common.{◌≡◌, ◌<◌, List, rules, Bool, Vec, Box, String, Global}
 use Rattle.std.specs.Prelude.{max}
 use denote.Param.Weighed.{most}
 use Rattle.jt_expr.specs.declared.tree.Expr.{Expr, size-Expr}

@@ -1,9 +1,9 @@
-use Rattle.std.proofs.Common.{◌≡◌, ℕ, suc, ◌+◌, ◌<◌, ◌≤◌, List, [], ◌∷◌, length, map, drop, get_or, sym, ap, ◌∙◌, subst, arith, length-drop, Option, Some, None, slice_get}
+use Rattle.std.proofs.Common.{◌≡◌, ℕ, suc, ◌+◌, ◌<◌, ◌≤◌, List, [], ◌∷◌, length, drop, get_or, sym, ap, ◌∙◌, subst, arith, length-drop, Option, Some}
 use Rattle.std.specs.Prelude.{filter}
 use Rattle.std.specs.Str.{bytes_eq}
 use Rattle.std.proofs.lemmas.List.{length-map}
 use Rattle.std.proofs.Math.ListN.{get_or-map}
-use Rattle.std.proofs.lemmas.Option.{get_or_from_slice_get, slice_get_read}
+use Rattle.std.proofs.lemmas.Option.{slice_get_read}
 use Rattle.std.proofs.lemmas.Result.{IfOk-weaker}
 use Rattle.jt_inherit.specs.Chain.{BlockBody, all_bodies}
 use Rattle.jt_inherit.specs.Parts.{block_view}
@@ -12,9 +12,7 @@ use Rattle.jt_inherit.specs.declared.parts.Block.{Block}
 use Rattle.jt_slots.specs.Pool.{Constant}
 use Rattle.jt_slots.specs.Slots as slots
 use Rattle.jt_slots.specs.View.{expr_view}
-use Rattle.jt_slots.specs.declared.program.SExpr.{SExpr}
 use Rattle.jt_meaning.specs.Layout.{counted_from, numbered_bodies, block_parameters}
-use Rattle.jt_meaning.specs.Resolve as resolve
 use Rattle.jt_meaning.specs.Resolve.{Part, invoked_super, next_given, first_locals}
 use Rattle.jt_names.specs.Callees.{text_of, unit_of}
 use Rattle.jt_names.specs.Scoped.{values, IsPlaced, RowLeads, part_from, part_at, world_in, order_in, home_in, spot_in}

@@ -1,5 +1,4 @@
 use Rattle.std.proofs.Common.{◌≡◌, ◌+◌, ◌-◌, length, take, length-drop, List, ◌∷◌, drop, sym, ap, ◌∙◌, arith, true, false}
-use Rattle.std.specs.Prelude.{option_map}
 use Rattle.std.proofs.lemmas.List.{at_drop_all, take_all}
 use Rattle.jt_expr.specs.View.{pairs_view}
 use Rattle.jt_inherit.specs.Uses.{keywords}
