@@ -3,14 +3,8 @@
 #![tactic(auto)]
 
 #[cfg(test)]
-mod codegen;
-#[cfg(test)]
 mod expr;
-#[cfg(test)]
-mod inherit;
 #[cfg(test)]
 mod parse;
 #[cfg(test)]
 mod scan;
-#[cfg(test)]
-mod scopes;
