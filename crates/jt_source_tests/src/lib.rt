@@ -7,4 +7,6 @@ mod expr;
 #[cfg(test)]
 mod parse;
 #[cfg(test)]
+mod rendering;
+#[cfg(test)]
 mod scan;
