@@ -21,7 +21,6 @@ use Rattle.jt_lower.specs.Fits.{ProgramFits}
 use Rattle.jt_lower.specs.Lawful.{AreLow}
 use Rattle.jt_lower.specs.Compiles.{LowLaws}
 use Rattle.jt_codegen.specs.Compiled.{DoesChain, IsCompiled}
-use Rattle.jt_codegen.specs.Laws.{ChainLaws}
 use Rattle.jt_codegen.proofs.Knowing.{chains_known, filter_there}
 use Rattle.jt_codegen.proofs.Lawful.{program_lawful}
 
@@ -74,6 +73,3 @@ pub by_order : LowLaws → ProgramLaws → (given : Given) (entry : Text) (optio
 by_order low programs given entry options c is kept few whole =
     subst (λ (o : List Home). IsCompiled given entry options (compiled (program (world_of c) o entry))) (sym is.begins)
     (image_compiled low programs given entry options c is kept (subst (λ (o : List Home). AreLow (routines (world_of c) o)) is.begins few) (subst (λ (o : List Home). IsCode (compiled (program (world_of c) o entry))) is.begins whole))
-
-pub laws_hold : LowLaws → ProgramLaws → ChainLaws
-laws_hold low programs = record { compiled = by_order low programs }

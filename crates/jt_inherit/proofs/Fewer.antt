@@ -1,6 +1,7 @@
 -- Chains are few for the weight of their trees: each but the entry's has its own include tag, which weighs 7.
 use Rattle.std.proofs.Common.{◌≡◌, ℕ, suc, ◌+◌, ◌*◌, ◌≤◌, Bool, true, false, ◌||◌, ◌⊎◌, inl, inr, if◌then◌else◌, List, [], ◌∷◌, ◌++◌, length, refl, sym, ap, ◌∙◌, subst, arith, length-append}
 use Rattle.std.specs.Prelude.{not, flat_map, filter, IsTrue}
+use Rattle.std.specs.Option.{is_some}
 use Rattle.std.specs.Str.{bytes_eq}
 use Rattle.jt_parse.specs.Texts.{among}
 use Rattle.jt_parse.specs.Trees.{Text, Stmt, data_of, print, choose, for_each, set, set_block, with_values, filter_block, autoescape, macro, include, extends, block, Body, end, stmt, Branches, no_branches, branch, stmt_weight, body_weight, branch_weight}
@@ -57,7 +58,7 @@ module _ (sources : Sources) where
   includes_weigh : (hs : List Home) → 7 * length (flat_map (included sources) hs) ≤ chains_weight sources hs
   includes_weigh [] = omega arith
   includes_weigh (h ∷ hs) =
-      omega (arith, length-append (included sources h) (flat_map (included sources) hs), filtered_le _ (needed h), templates_needs (templates sources h), includes_weigh hs)
+      omega (arith, length-append (included sources h) (flat_map (included sources) hs), filtered_le (λ m. is_some (sources m)) (needed h), templates_needs (templates sources h), includes_weigh hs)
 
   -- what a chain includes is in the order, where it is
   later : (m : Text) (b : Bool) (hs : List Home) → among m hs ≡ true → (b || among m hs) ≡ true

@@ -30,6 +30,6 @@ fits_row-loop-kept-preserved t c =
     let e = c.loop-kept-item.result in
     let more = row_more c.args.row.now c.args.room l.kept-index l.left c.if-is_none.left e c.loop-kept-test.true c.loop-kept-item.is (sym c.fits_expression.ensures ∙ c.if-not-fits_expression.false) in
     elim c.if-is_none.branch [
-      fits_row-then-is_none w ↦ more (w.left-is ∙ ap (λ b. if b then l.left else l.left - 1) (sym (w.if-is_none.ensures))) l.invariant
-    | fits_row-else-is_none w ↦ more (w.left-is ∙ ap (λ b. if b then l.left else l.left - 1) (sym (w.if-is_none.ensures))) l.invariant
+      | fits_row-then-is_none w ↦ more (w.left-is ∙ ap (λ b. if b then l.left else l.left - 1) (sym (w.if-is_none.ensures))) l.invariant
+      | fits_row-else-is_none w ↦ more (w.left-is ∙ ap (λ b. if b then l.left else l.left - 1) (sym (w.if-is_none.ensures))) l.invariant
     ]
