@@ -4,8 +4,7 @@ use Rattle.std.specs.Str.{bytes_eq}
 use Rattle.std.specs.Option.{is_some, is_none}
 use Rattle.jt_parse.specs.Texts.{among}
 use Rattle.jt_parse.specs.Trees.{Text}
-use Rattle.jt_parse.specs.View.{parameters_view}
-use Rattle.jt_inherit.specs.Chain.{Home, Template, BlockBody, MacroBody, macros, macro_of, all_bodies}
+use Rattle.jt_inherit.specs.Chain.{Home, Template, BlockBody, macros, macro_of, all_bodies}
 use Rattle.jt_inherit.specs.Parts.{macro_view, block_view}
 use Rattle.jt_inherit.specs.Places.{home_at}
 use Rattle.jt_inherit.specs.View.{chain_view}
@@ -56,6 +55,7 @@ IsChainAt order x (Some i) = (i < length order) × (home_at order i ≡ x)
 -- the tables of all chains
 pub record IsLaidOut (s : Scope) : Type 0 where
   pub inside : s.home < length s.homes.items
+  pub all_homes : length s.homes.items ≡ length (chain_view s.chain.now).order
   pub each : (i : ℕ) (l : Laid) → i < length s.homes.items → l ≡ get_or s.homes.items i l
       → IsLaid (world_of (chain_view s.chain.now)) (chain_view s.chain.now).order (chain_view s.chain.now).templates (home_at (chain_view s.chain.now).order i) l
   pub all_units : s.units ≡ length (keys (world_of (chain_view s.chain.now)) (chain_view s.chain.now).order)
