@@ -208,7 +208,7 @@ module _ (given : Given) (options : Options) (ts0 : List Template) (ks0 hs : Lis
     next_breaks e fault = ⊎_elim
         (λ m. subst (λ z. Breaks z given (home_at hs 0) options) (sym m) tt)
         (λ t. subst (λ z. Breaks z given (home_at hs 0) options) (sym t.0)
-            (record { templates = ts2; read = known.read; holds = inr (t.1.0, t.1.1, ap not t.1.2, λ x a. reached_from x (t.1.3 x a)) }))
+        (record { templates = ts2; read = known.read; holds = inr (t.1.0, t.1.1, ap not t.1.2, λ x a. reached_from x (t.1.3 x a)) }))
         fault
 
     pub found_more : AllByRecursion (IsMet given ks2) (includes_along ts1 is) → (hs2 : List Text) (next : List ℕ) → AreNext hs hs2 (chosen ks2 (includes_along ts2 is)) next
@@ -218,10 +218,10 @@ module _ (given : Given) (options : Options) (ts0 : List Template) (ks0 hs : Lis
         let read = subst (AllByRecursion (IsRead given options)) all_more known.read.each in
         let old : AreFollowed given (ts0 ++ (m1 ++ m2)) (hs ++ n.more) hs ws ns = all_grow given options ts0 (m1 ++ m2) hs n.more read hs ws ns f.followed in
         let here_followed : IsFollowed given ts2 hs2 h is next = (record {
-              led = way_there;
-              met = subst (λ l. AllByRecursion (IsMet given (names ts2)) l) (sym needs_there) (subst (λ ks. AllByRecursion (IsMet given ks) (includes_along ts1 is)) known.named met);
-              numbered = subst (λ ks. map (slice_get hs2) next ≡ map Some (chosen ks (includes_along ts2 is))) known.named n.numbered;
-            }) in
+          led = way_there;
+          met = subst (λ l. AllByRecursion (IsMet given (names ts2)) l) (sym needs_there) (subst (λ ks. AllByRecursion (IsMet given ks) (includes_along ts1 is)) known.named met);
+          numbered = subst (λ ks. map (slice_get hs2) next ≡ map Some (chosen ks (includes_along ts2 is))) known.named n.numbered;
+        }) in
         record {
           known = known;
           some = omega (arith, ap length n.grown, length-append hs n.more, f.some);

@@ -114,8 +114,15 @@ next_both a b c xs ys is js p q = record {
 -- a refusal at a name is one of all names
 pub fault_later : (a b xs ys zs : List Text) (is : List ℕ) (e : ChainError) → AreNext a b xs is → IsNextFault b ys e → IsNextFault a (xs ++ (ys ++ zs)) e
 fault_later a b xs ys zs is e p f = ⊎_elim (λ m. inl m)
-    (λ t. inr (t.0, (t.1.0, t.1.1, t.1.2,
-        λ h i. ⊎_elim (λ m. ⊎_elim (λ k. inl k) (λ k. inr (among_front h xs (ys ++ zs) k)) (p.from h m)) (λ m. inr (among_behind h xs (ys ++ zs) (among_front h ys zs m))) (t.1.3 h i))))
+    (λ t. inr (
+      t.0,
+      (
+        t.1.0,
+        t.1.1,
+        t.1.2,
+        λ h i. ⊎_elim (λ m. ⊎_elim (λ k. inl k) (λ k. inr (among_front h xs (ys ++ zs) k)) (p.from h m)) (λ m. inr (among_behind h xs (ys ++ zs) (among_front h ys zs m))) (t.1.3 h i),
+      ),
+    ))
     f
 
 pub too_many : (old : List Text) (x : Text) → repeated old ≡ false → length old ≡ 1024 → among x old ≡ false → TooMany old (x ∷ [])

@@ -368,12 +368,17 @@ module _ (given : Given) (options : Options) (entry : Text) (ts : List Template)
             let e = first_in_order (sources_in ts) options.autoescape (home_at hs j) (map (home_at hs) js) entry p a (reached (home_at hs j) (home_among hs j w.0)) in
             (map (home_at hs) js, ap (λ x. x ∷ map (home_at hs) js) e)
 
+    all_reached : (js : List ℕ) → AllByRecursion (λ i. i < length hs) js → AllByRecursion (λ h. Reaches (sources_in ts) options.autoescape entry h) (map (home_at hs) js)
+    all_reached [] w = tt
+    all_reached (j ∷ js) w = (reached (home_at hs j) (home_among hs j w.0), all_reached js w.1)
+
     pub chained : IsChain given entry options (record { templates = ts; order = map (home_at hs) is; escaping = options.autoescape })
     chained = record {
       read = f.known.read;
       complete = all_complete is within;
       included = begins.0;
       begins = begins.1;
+      reached = all_reached is within;
       order = in_order;
       escaping = refl;
       rules = keeps;

@@ -56,6 +56,8 @@ pub record IsChain (given : Given) (entry : Text) (options : Options) (c : Seen)
   pub complete : AllByRecursion (IsComplete given c) c.order
   pub included : List Home
   pub begins : c.order ≡ entry ∷ included
+  -- each chain is the entry's or reached by includes
+  pub reached : AllByRecursion (λ h. rules.Reaches (sources_of c) c.escaping entry h) c.order
   pub order : InOrder (sources_of c) c.order
   pub escaping : c.escaping ≡ options.autoescape
   pub rules : KeepsRules (sources_of c) c.escaping entry

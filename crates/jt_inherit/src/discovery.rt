@@ -60,8 +60,22 @@ fn follow<L: Library>(
 {
     let homes = found.homes.as_slice();
     let home = &homes[found.ways.len()];
-    let way = read_way(alloc, &mut found.names, &mut found.pages, home, library, options)?;
-    let mut fresh = read_includes(alloc, &mut found.names, &found.pages, &way, library, options)?;
+    let way = read_way(
+        alloc,
+        &mut found.names,
+        &mut found.pages,
+        home,
+        library,
+        options,
+    )?;
+    let mut fresh = read_includes(
+        alloc,
+        &mut found.names,
+        &found.pages,
+        &way,
+        library,
+        options,
+    )?;
     found.pages.append(&mut fresh)?;
     let next = next_chains(alloc, &found.names, &mut found.homes, &found.pages, &way)?;
     found.ways.push(way)?;

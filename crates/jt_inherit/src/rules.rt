@@ -87,11 +87,11 @@ pub(crate) fn any_lacks_body(alloc: Global, blocks: &[Block<'_>]) -> Result<bool
 
 /// Whether a body calls `super()` with none behind it to go on with. The bodies are taken from the
 /// last one on.
-pub(crate) fn any_lacks_next(alloc: Global, mut blocks: Vec<Block<'_>>) -> Result<bool, AllocError>
-    ensures { IfOk result (λ found. (ts : List Template) → found ≡ lacks_next (blocks_view ts blocks.entry.items)) }
+pub(crate) fn any_lacks_next(alloc: Global, mut bodies: Vec<Block<'_>>) -> Result<bool, AllocError>
+    ensures { IfOk result (λ found. (ts : List Template) → found ≡ lacks_next (blocks_view ts bodies.entry.items)) }
 {
     let mut given: IndexSet<&str> = IndexSet::new(alloc);
-    while let Some(block) = blocks.pop() {
+    while let Some(block) = bodies.pop() {
         if is_lacking(given.contains(block.name), calls_super(block.body)) {
             return Ok(true);
         }

@@ -21,5 +21,13 @@ chains-init g c =
 pub returns-clause-all : goal.returns-clause-all
 returns-clause-all g c =
     let f = c.chains.found in
-    omega (arith, c.chains-test.false, c.len-in-chains.ensures.len, c.len.ensures, f.ways.ok.0, length-map string_bytes f.homes.keys,
-    followed_len _ _ _ _ _ _ c.chains.invariant.found.followed, length-map (λ v. v.items) f.ways.items)
+    omega (
+      arith,
+      c.chains-test.false,
+      c.len-in-chains.ensures.len,
+      c.len.ensures,
+      f.ways.ok.0,
+      length-map string_bytes f.homes.keys,
+      followed_len _ _ _ _ _ _ c.chains.invariant.found.followed,
+      length-map (λ v. v.items) f.ways.items,
+    )

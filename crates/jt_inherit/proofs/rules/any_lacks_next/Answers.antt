@@ -17,7 +17,7 @@ returns-then-is_lacking c =
     let b = c.in-Some.block in
     let qs = c.pop.new.self.items in
     let popped = c.pop.ensures.items ∙ ap (λ o. qs ++ option_to_list o) c.in-Some.is in
-    let whole : c.args.blocks.items ≡ qs ++ b ∷ v.0 = v.1 ∙ ap (λ (l : List Block). l ++ v.0) popped ∙ append_assoc qs (b ∷ []) v.0 in
+    let whole : c.args.bodies.items ≡ qs ++ b ∷ v.0 = v.1 ∙ ap (λ (l : List Block). l ++ v.0) popped ∙ append_assoc qs (b ∷ []) v.0 in
     let has : c.contains.result ≡ has_given b.name.now (blocks_view ts v.0) = c.contains.ensures ∙ any_text b.name.now c.loop-block.given.keys ∙ v.2 ts b.name.now in
     let test = ap (λ z. not z && calls_super (body_view b.body.now)) (sym has) ∙ ap (λ z. not c.contains.result && z) (sym c.calls_super.ensures) ∙ sym c.is_lacking.ensures in
     sym (ap (λ (l : List Block). lacks_next (blocks_view ts l)) whole ∙ next_lacking ts qs b v.0 (test ∙ c.if-is_lacking.true))
@@ -41,6 +41,6 @@ pub returns : goal.returns
 returns c =
     λ ts.
     let v = c.loop-block.invariant in
-    let none = no_items c.loop-block.blocks.items (omega (arith, c.in_default.ensures.cases.0)) in
-    let whole : c.args.blocks.items ≡ v.0 = v.1 ∙ ap (λ (l : List Block). l ++ v.0) none in
+    let none = no_items c.loop-block.bodies.items (omega (arith, c.in_default.ensures.cases.0)) in
+    let whole : c.args.bodies.items ≡ v.0 = v.1 ∙ ap (λ (l : List Block). l ++ v.0) none in
     sym (ap (λ (l : List Block). lacks_next (blocks_view ts l)) whole ∙ all_next (blocks_view ts v.0) (v.3 ts))

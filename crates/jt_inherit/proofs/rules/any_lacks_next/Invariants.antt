@@ -9,11 +9,11 @@ use Rattle.jt_inherit.proofs.Checked.{has_given, HaveNext}
 use Rattle.jt_inherit.proofs.rules.any_lacks_next.Given as goal
 
 abbrev pub decreases-loop-block : goal.decreases-loop-block
-decreases-loop-block l = length l.blocks.items
+decreases-loop-block l = length l.bodies.items
 
 abbrev pub invariant-loop-block : goal.invariant-loop-block
 invariant-loop-block l =
     (behind : List Block)
-    × (l.initial.blocks.items ≡ l.blocks.items ++ behind)
+    × (l.initial.bodies.items ≡ l.bodies.items ++ behind)
     × ((ts : List Template) (x : Text) → among x (texts l.given.keys) ≡ has_given x (blocks_view ts behind))
     × ((ts : List Template) → HaveNext (blocks_view ts behind))

@@ -34,9 +34,9 @@ returns-in_err-place-clause-refused g c =
     let p = err_from_is_err_and c.from_residual-in_err-place.result c.from_residual-in_err-place.ensures.1 in
     rw (p.1, p.2)
     (λ root r.
-        let reached = reach_more (pages_view c.args.pages.now.items) ts l.invariant.grown.0 c.args.options.autoescape root h l.invariant.grown.1 r in
-        fault_breaks given c.args.options root ts l.invariant.known.read h reached l.way.items (string_bytes l.name) l.invariant.led f
-        (subst (λ x. IsFaultOf f given x c.args.options) c.deref-in-loop-turn-3.ensures c.in_err-place.ensures.refused))
+    let reached = reach_more (pages_view c.args.pages.now.items) ts l.invariant.grown.0 c.args.options.autoescape root h l.invariant.grown.1 r in
+    fault_breaks given c.args.options root ts l.invariant.known.read h reached l.way.items (string_bytes l.name) l.invariant.led f
+    (subst (λ x. IsFaultOf f given x c.args.options) c.deref-in-loop-turn-3.ensures c.in_err-place.ensures.refused))
 
 pub index-requires : goal.index-requires
 index-requires g c =
