@@ -2,7 +2,7 @@
 
 use crate::emission::EmitError;
 use jt_inherit::ChainError;
-use jt_scopes::ScopeError;
+use jt_rules::ScopeError;
 use thiserror::Error;
 
 /// Why no image is made.
