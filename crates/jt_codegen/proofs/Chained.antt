@@ -22,7 +22,7 @@ use Rattle.jt_lower.specs.Lawful.{AreLow}
 use Rattle.jt_lower.specs.Compiles.{LowLaws}
 use Rattle.jt_codegen.specs.Compiled.{DoesChain, IsCompiled}
 use Rattle.jt_codegen.specs.Laws.{ChainLaws}
-use Rattle.jt_codegen.proofs.Knowing.{chains_known}
+use Rattle.jt_codegen.proofs.Knowing.{chains_known, filter_there}
 use Rattle.jt_codegen.proofs.Lawful.{program_lawful}
 
 read_known : (given : Given) (options : Options) (ts : List Template) → AllByRecursion (IsRead given options) ts → AllByRecursion (λ t. body_unknown t.body ≡ None) ts
@@ -43,7 +43,7 @@ module _ (low : LowLaws) (programs : ProgramLaws) (given : Given) (entry : Text)
   keeps = subst (KeepsRules world) is.begins kept
 
   known : ChainsKnown world order
-  known = chains_known world c.templates (λ m. refl) (read_known given options c.templates is.read.each) order
+  known = chains_known world filter_there c.templates (λ m. refl) (read_known given options c.templates is.read.each) order
 
   abbrev p : Program
   p = program world order entry

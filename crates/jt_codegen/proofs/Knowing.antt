@@ -1,6 +1,6 @@
 -- Where no filter and no test has an unknown name, the tests and filters of chains are known.
 use Rattle.std.proofs.Common.{◌≡◌, ℕ, Bool, true, false, ◌||◌, List, [], ◌∷◌, ◌++◌, Option, Some, None, refl, sym, ◌∙◌, subst}
-use Rattle.std.specs.Prelude.{not, if◌then◌else◌, flat_map}
+use Rattle.std.specs.Prelude.{not, if◌then◌else◌, flat_map, option_map}
 use Rattle.std.specs.Str.{bytes_eq}
 use Rattle.std.specs.Option.{option_or}
 use Rattle.std.specs.List.{list_any, find, AllByRecursion}
@@ -8,7 +8,9 @@ use Rattle.jt_ops.specs.declared.test_id.TestId.{TestId}
 use Rattle.jt_ops.specs.TestTable.{test_names}
 use Rattle.jt_expr.specs.declared.named.Named.{Named}
 use Rattle.jt_expr.specs.declared.named.Named.TheVariants as n
-use Rattle.jt_expr.specs.Named.{all_tests, is_test, has_unknown, exprs_have_unknown, pairs_have_unknown}
+use Rattle.jt_expr.specs.Named.{all_tests, is_test, is_filter, has_unknown, exprs_have_unknown, pairs_have_unknown}
+use Rattle.jt_filters.specs.FilterTable.{filters, filter_id, filter_names}
+use Rattle.jt_filters.specs.declared.filter_id.FilterId.{FilterId}
 use Rattle.jt_expr.specs.Trees as written
 use Rattle.jt_expr.specs.Trees.{Expr, constant, name, group, list_of, map_of, attribute, item, filter, test, unary, binary, when, choice, Exprs, no_exprs, expr, Pairs, no_pairs, pair}
 use Rattle.jt_parse.specs.Names.{Found, blamed, unknown_in, condition_unknown, filtering_unknown, filterings_unknown, stmt_unknown, body_unknown, branch_unknown}
@@ -16,21 +18,26 @@ use Rattle.jt_parse.specs.Trees.{Text, Filtering, Stmt, data_of, print, choose, 
 use Rattle.jt_inherit.specs.Chain.{Sources, Home, Template, sources_in, template, templates, names_up}
 use Rattle.jt_slots.specs.Filters.{Filters}
 use Rattle.jt_slots.specs.Tests.{tests, test_named}
+use Rattle.jt_slots.specs.TheFilters.{the_filters, filter_named}
 use Rattle.jt_rules.specs.World.{World}
 use Rattle.jt_rules.specs.Known.{IsThere, ExprKnown, RowKnown, PairsKnown, ConditionKnown, FilteringKnown, StmtKnown, BodyKnown, BranchesKnown, TemplatesKnown, ChainsKnown}
 
--- ---- a test that is known is found
+-- ---- a test or a filter that is known is found
 
-abbrev has_name : Text → TestId → Bool
-has_name x t = list_any (bytes_eq x) (test_names t)
-
-found : (p : TestId → Bool) (ts : List TestId) → list_any p ts ≡ true → IsThere (find p ts)
+found : {K : Type 0} (p : K → Bool) (ts : List K) → list_any p ts ≡ true → IsThere (find p ts)
 found p [] h = absurd cc
 found p (t ∷ ts) h = through (p t) h (found p ts)
   where
     through : (b : Bool) → (b || list_any p ts) ≡ true → (list_any p ts ≡ true → IsThere (find p ts)) → IsThere (if b then Some t else find p ts)
     through true e f = tt
     through false e f = f e
+
+not_false : (b : Bool) → not b ≡ false → b ≡ true
+not_false true e = refl
+not_false false e = absurd cc
+
+abbrev has_name : Text → TestId → Bool
+has_name x t = list_any (bytes_eq x) (test_names t)
 
 any_test : (x : Text) → is_test x ≡ list_any (has_name x) all_tests
 unfolding is_test
@@ -41,11 +48,26 @@ unfolding test_named
 named_test x = refl
 
 test_found : (x : Text) → not (is_test x) ≡ false → IsThere (test_named x)
-test_found x h = subst IsThere (sym (named_test x)) (found (has_name x) tests (sym (any_test x) ∙ by (is_test x) h))
-  where
-    by : (b : Bool) → not b ≡ false → b ≡ true
-    by true e = refl
-    by false e = absurd cc
+test_found x h = subst IsThere (sym (named_test x)) (found (has_name x) tests (sym (any_test x) ∙ not_false (is_test x) h))
+
+abbrev has_filter_name : Text → FilterId → Bool
+has_filter_name x f = list_any (bytes_eq x) (filter_names f)
+
+any_filter : (x : Text) → is_filter x ≡ list_any (has_filter_name x) filters
+unfolding is_filter
+any_filter x = refl
+
+named_filter : (x : Text) → the_filters.named x ≡ option_map filter_id (find (has_filter_name x) filters)
+unfolding the_filters, filter_named
+named_filter x = refl
+
+there_with_id : (o : Option FilterId) → IsThere o → IsThere (option_map filter_id o)
+there_with_id None h = h
+there_with_id (Some f) h = tt
+
+-- a name that some filter has is one of the filters'
+pub filter_there : (x : Text) → is_filter x ≡ true → IsThere (the_filters.named x)
+filter_there x h = subst IsThere (sym (named_filter x)) (there_with_id (find (has_filter_name x) filters) (found (has_filter_name x) filters (sym (any_filter x) ∙ h)))
 
 -- ---- trees
 
@@ -57,7 +79,10 @@ second : (a b : Bool) → (a || b) ≡ false → b ≡ false
 second true b h = absurd cc
 second false b h = h
 
-module _ (fs : Filters) where
+module _ (fs : Filters) (named : (x : Text) → is_filter x ≡ true → IsThere (fs.named x)) where
+  filter_found : (x : Text) → not (is_filter x) ≡ false → IsThere (fs.named x)
+  filter_found x h = named x (not_false (is_filter x) h)
+
   mutual
     expr_known : (e : Expr) → has_unknown n.Filter e ≡ false → has_unknown n.Test e ≡ false → ExprKnown fs e
     expr_known (constant l) f t = tt
@@ -76,7 +101,16 @@ module _ (fs : Filters) where
           row_known ts (first (exprs_have_unknown n.Filter ts) (pairs_have_unknown n.Filter ps) g) (first (exprs_have_unknown n.Test ts) (pairs_have_unknown n.Test ps) u),
           pairs_known ps (second (exprs_have_unknown n.Filter ts) (pairs_have_unknown n.Filter ps) g) (second (exprs_have_unknown n.Test ts) (pairs_have_unknown n.Test ps) u),
         )
-    expr_known (filter a x ts ps) f t = absurd cc
+    expr_known (filter a x ts ps) f t =
+        let inner = has_unknown n.Filter a || (exprs_have_unknown n.Filter ts || pairs_have_unknown n.Filter ps) in
+        let inside = second (not (is_filter x)) inner f in
+        let g = second (has_unknown n.Filter a) (exprs_have_unknown n.Filter ts || pairs_have_unknown n.Filter ps) inside in
+        let u = second (has_unknown n.Test a) (exprs_have_unknown n.Test ts || pairs_have_unknown n.Test ps) t in (
+          filter_found x (first (not (is_filter x)) inner f),
+          expr_known a (first (has_unknown n.Filter a) (exprs_have_unknown n.Filter ts || pairs_have_unknown n.Filter ps) inside) (first (has_unknown n.Test a) (exprs_have_unknown n.Test ts || pairs_have_unknown n.Test ps) t),
+          row_known ts (first (exprs_have_unknown n.Filter ts) (pairs_have_unknown n.Filter ps) g) (first (exprs_have_unknown n.Test ts) (pairs_have_unknown n.Test ps) u),
+          pairs_known ps (second (exprs_have_unknown n.Filter ts) (pairs_have_unknown n.Filter ps) g) (second (exprs_have_unknown n.Test ts) (pairs_have_unknown n.Test ps) u),
+        )
     expr_known (test a b x ts ps) f t =
         let inner = has_unknown n.Test a || (exprs_have_unknown n.Test ts || pairs_have_unknown n.Test ps) in
         let inside = second (not (is_test x)) inner t in
@@ -140,10 +174,18 @@ module _ (fs : Filters) where
   condition_known None f t = tt
   condition_known (Some c) f t = expr_known c f t
 
-  -- no filter has a meaning yet
-  filterings_known : (gs : List Filtering) → filterings_unknown n.Filter gs ≡ false → FilteringKnown fs gs
-  filterings_known [] f = tt
-  filterings_known (g ∷ gs) f = absurd cc
+  filterings_known : (gs : List Filtering) → filterings_unknown n.Filter gs ≡ false → filterings_unknown n.Test gs ≡ false → FilteringKnown fs gs
+  filterings_known [] f t = tt
+  filterings_known (g ∷ gs) f t =
+      let here = first (filtering_unknown n.Filter g) (filterings_unknown n.Filter gs) f in
+      let inner = exprs_have_unknown n.Filter g.arguments || pairs_have_unknown n.Filter g.keywords in
+      let inside = second (not (is_filter g.name)) inner here in
+      let u = first (filtering_unknown n.Test g) (filterings_unknown n.Test gs) t in (
+        filter_found g.name (first (not (is_filter g.name)) inner here),
+        row_known g.arguments (first (exprs_have_unknown n.Filter g.arguments) (pairs_have_unknown n.Filter g.keywords) inside) (first (exprs_have_unknown n.Test g.arguments) (pairs_have_unknown n.Test g.keywords) u),
+        pairs_known g.keywords (second (exprs_have_unknown n.Filter g.arguments) (pairs_have_unknown n.Filter g.keywords) inside) (second (exprs_have_unknown n.Test g.arguments) (pairs_have_unknown n.Test g.keywords) u),
+        filterings_known gs (second (filtering_unknown n.Filter g) (filterings_unknown n.Filter gs) f) (second (filtering_unknown n.Test g) (filterings_unknown n.Test gs) t),
+      )
 
   mutual
     stmt_known : (s : Stmt) → stmt_unknown s ≡ None → StmtKnown fs s
@@ -168,7 +210,7 @@ module _ (fs : Filters) where
     stmt_known (filter_block line gs body) h =
         let here = unknown_in line (λ u. filterings_unknown u gs) in
         let b = not_blamed line (filterings_unknown n.Filter gs) (filterings_unknown n.Test gs) (none_first here (body_unknown body) h) in
-        (filterings_known gs b.0, body_known body (none_second here (body_unknown body) h))
+        (filterings_known gs b.0 b.1, body_known body (none_second here (body_unknown body) h))
     stmt_known (autoescape line on body) h = body_known body h
     stmt_known (macro line x ps body) h = body_known body h
     stmt_known (include line m missing context) h = tt
@@ -212,7 +254,7 @@ module _ (fs : Filters) where
       by None h = tt
       by (Some b) h = (h, tt)
 
-pub chains_known : (world : World) (ts : List Template) → ((m : Text) → world.sources m ≡ sources_in ts m) → AllByRecursion (λ t. body_unknown t.body ≡ None) ts → (hs : List Home) → ChainsKnown world hs
-chains_known world ts same a [] = tt
-chains_known world ts same a (h ∷ hs) =
-    (named_known world.filters world.sources (λ m. subst (Fine world.filters) (sym (same m)) (source_known world.filters ts a m)) (names_up world.sources 16 (Some h)), chains_known world ts same a hs)
+pub chains_known : (world : World) → ((x : Text) → is_filter x ≡ true → IsThere (world.filters.named x)) → (ts : List Template) → ((m : Text) → world.sources m ≡ sources_in ts m) → AllByRecursion (λ t. body_unknown t.body ≡ None) ts → (hs : List Home) → ChainsKnown world hs
+chains_known world named ts same a [] = tt
+chains_known world named ts same a (h ∷ hs) =
+    (named_known world.filters named world.sources (λ m. subst (Fine world.filters named) (sym (same m)) (source_known world.filters named ts a m)) (names_up world.sources 16 (Some h)), chains_known world named ts same a hs)

@@ -768,11 +768,7 @@ pub fn read(
 }
 
 /// The arguments of a filter, none or some in parentheses, each of at most so many levels.
-pub fn arguments(
-    alloc: Global,
-    cursor: &mut Cursor<'_>,
-    limit: usize,
-) -> Result<Parts, ExprError>
+pub fn arguments(alloc: Global, cursor: &mut Cursor<'_>, limit: usize) -> Result<Parts, ExprError>
     requires { limit < 2 ^ 32 }
     ensures { GivesParts (spec.arguments_at (spec.read limit) (suc limit) (ahead cursor.old)) result (ahead cursor.new) }
 {

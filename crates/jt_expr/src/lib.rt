@@ -14,7 +14,9 @@ mod words;
 pub use cursor::Cursor;
 pub use error::ExprError;
 pub use grammar::{arguments, read};
-pub use named::{Named, any_unknown, any_unknown_pair, check_names, has_unknown, is_unknown_filter};
+pub use named::{
+    Named, any_unknown, any_unknown_pair, check_names, has_unknown, is_unknown_filter,
+};
 pub use part::{Part, Parts};
 pub use rows::Form;
 pub use tag::expression;

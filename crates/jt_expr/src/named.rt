@@ -6,6 +6,7 @@ ghost use Rattle.jt_expr.specs.Named as spec;
 
 use crate::error::ExprError;
 use crate::tree::Expr;
+use jt_filters::FilterId;
 use jt_ops::TestId;
 
 /// What has a name that may have no meaning.
@@ -39,6 +40,13 @@ fn is_test(name: &str) -> bool
     TestId::by_name(name).is_some()
 }
 
+/// Whether a filter has the name.
+fn is_filter(name: &str) -> bool
+    ensures { result ≡ spec.is_filter name.now }
+{
+    FilterId::by_name(name).is_some()
+}
+
 /// Whether a test of this name is what is looked for.
 fn is_unknown_test(name: &str, named: Named) -> bool
     ensures { result ≡ spec.unknown_test named name.now }
@@ -49,12 +57,12 @@ fn is_unknown_test(name: &str, named: Named) -> bool
     }
 }
 
-/// Whether a filter is what is looked for.
+/// Whether a filter of this name is what is looked for.
 pub fn is_unknown_filter(name: &str, named: Named) -> bool
     ensures { result ≡ spec.unknown_filter named name.now }
 {
     match named {
-        Named::Filter => true,
+        Named::Filter => !is_filter(name),
         Named::Test => false,
     }
 }

@@ -29,3 +29,7 @@ module _ (ts : List Template) where
 
   abbrev pub includes_along : List ℕ → List Need
   includes_along = along (λ n b. includes_in b)
+
+  -- the templates themselves
+  abbrev pub layers_along : List ℕ → List Template
+  layers_along = along (λ n b. record { name = n; body = b } ∷ [])

@@ -5,6 +5,7 @@ pub mod Checks
 pub mod Faults
 pub mod Includes
 pub mod Kept
+pub mod Layers
 pub mod Names
 pub mod Needs
 pub mod Pages

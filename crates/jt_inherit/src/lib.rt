@@ -3,6 +3,7 @@
 
 mod chaining;
 mod error;
+mod layers;
 mod library;
 mod linked;
 mod names;
@@ -15,6 +16,7 @@ mod way;
 
 pub use chaining::chain;
 pub use error::ChainError;
+pub use layers::Layer;
 pub use library::Library;
 pub use linked::{Chain, Home, Page};
 pub use parts::{Block, Macro};

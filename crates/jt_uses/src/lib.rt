@@ -1,6 +1,9 @@
 //! The names that a chain's templates read, bind or set.
 #![tactic(auto)]
 
-mod names;
+mod chains;
+mod own;
+mod scopes;
+mod sets;
 
-pub use names::{own_names, scope_names, set_names};
+pub use chains::{own_names, scope_names, set_names};
