@@ -56,6 +56,7 @@ IsChainAt order x (Some i) = (i < length order) × (home_at order i ≡ x)
 -- the tables of all chains
 pub record IsLaidOut (s : Scope) : Type 0 where
   pub inside : s.home < length s.homes.items
+  pub all_homes : length s.homes.items ≡ length (chain_view s.chain.now).order
   pub each : (i : ℕ) (l : Laid) → i < length s.homes.items → l ≡ get_or s.homes.items i l
       → IsLaid (world_of (chain_view s.chain.now)) (chain_view s.chain.now).order (chain_view s.chain.now).templates (home_at (chain_view s.chain.now).order i) l
   pub all_units : s.units ≡ length (keys (world_of (chain_view s.chain.now)) (chain_view s.chain.now).order)

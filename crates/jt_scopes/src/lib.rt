@@ -2,9 +2,11 @@
 #![tactic(auto)]
 
 mod entering;
+mod locals;
 mod placing;
 mod putting;
 mod resolving;
+mod routines;
 mod statements;
 mod targets;
 

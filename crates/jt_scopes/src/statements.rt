@@ -279,8 +279,7 @@ fn resolve_filtered<'a>(
     };
     let text = resolve_inside(alloc, scope, &inside, body, pool)?;
     put_capture(spot.escaping, kept, text, done)?;
-    let value = SExpr::Variable(kept);
-    let shown = resolve_filterings(alloc, scope, &inside, filterings, value, pool)?;
+    let shown = resolve_filterings(alloc, scope, &inside, filterings, kept, pool)?;
     put_print(spot, line, shown, done)
 }
 
