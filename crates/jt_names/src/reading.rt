@@ -12,9 +12,9 @@ ghost use Rattle.jt_slots.specs.View.{slot_view, expr_view};
 ghost use Rattle.jt_layout.specs.Laid.{IsLaidOut};
 ghost use Rattle.jt_names.specs.Scoped.{IsPlaced, globals_in, spot_in};
 
-use jt_layout::Scope;
 use crate::spot::Spot;
 use jt_expr::Expr;
+use jt_layout::Scope;
 use jt_rules::ScopeError;
 use jt_slots::{SExpr, Slot};
 
@@ -78,11 +78,7 @@ pub fn global_slot(scope: &Scope<'_>, name: &str) -> Option<Slot>
 }
 
 /// The local that holds what is given by a name.
-pub fn kept(
-    pairs: &[(String, Expr)],
-    free: usize,
-    name: &str,
-) -> Result<Option<Slot>, ScopeError>
+pub fn kept(pairs: &[(String, Expr)], free: usize, name: &str) -> Result<Option<Slot>, ScopeError>
     ensures kept { IfOk result (λ s. option_map slot_view s ≡ slot_in name.now (resolve.locals_from free (keywords (written.pairs_view pairs.now)))) }
     ensures refused { IfErr result (λ e. e ≡ error.NoMemory) }
 {

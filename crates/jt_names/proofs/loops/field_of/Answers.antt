@@ -1,7 +1,7 @@
 use Rattle.std.proofs.Common.{◌≡◌, sym}
 use Rattle.jt_slots.specs.Loops.{fields}
 use Rattle.jt_names.proofs.Names.{no_field}
-use Rattle.jt_names.proofs.calls.field_of.Goals as goal
+use Rattle.jt_names.proofs.loops.field_of.Goals as goal
 
 pub returns-in_default : goal.returns-in_default
 returns-in_default c =
