@@ -18,5 +18,5 @@ loop-place-preserved c =
     let alone : Text → Body → List Template = λ n b. record { name = n; body = b } ∷ [] in
     along_turn alone ts is k (body_view c.body.result.now) (map (layer_view ts) c.loop-place.found.items) (map (layer_view ts) c.push.new.self.items)
     c.loop-place-test.true (c.body.ensures ∙ sym (page_at ps (get_or is k 0) (get_or ps (get_or is k 0) c.index-pages-place.result) lt (ap (λ d. get_or ps (get_or is k 0) d) c.index-pages-place.is)))
-    (ap (map (layer_view ts)) c.in_ok-push.ensures ∙ map-append (layer_view ts) c.loop-place.found.items _)
+    (ap (map (layer_view ts)) c.in_ok-push.ensures.items ∙ map-append (layer_view ts) c.loop-place.found.items _)
     ∙ c.loop-place.invariant

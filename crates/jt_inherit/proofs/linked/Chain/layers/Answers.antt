@@ -11,7 +11,7 @@ use Rattle.jt_inherit.specs.declared.layers.Layer.{Layer}
 use Rattle.jt_inherit.proofs.Placed.{home_places, home_along, if_ok}
 use Rattle.jt_inherit.proofs.linked.Chain.layers.Goals as goal
 
-alone : Text → Body → List Template
+abbrev alone : Text → Body → List Template
 alone n b = record { name = n; body = b } ∷ []
 
 each_alone : (ts : List Template) → flat_map (λ t. alone t.name t.body) ts ≡ ts
