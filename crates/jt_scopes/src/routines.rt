@@ -31,7 +31,7 @@ use jt_value::Value;
 use std::alloc::Global;
 
 /// At the top of a template, where names are globals.
-fn top_spot<'a>(scope: &Scope<'a>, template: usize) -> Spot<'static, 'a>
+fn top_spot<'s, 'a>(scope: &'s Scope<'a>, template: usize) -> Spot<'s, 'a>
     ensures { spot_in scope.now result ≡ resolve.top_spot (world_in scope.now) (order_in scope.now) (home_in scope.now) (name_at (chain_view scope.now.chain.now).templates template) }
 {
     Spot {

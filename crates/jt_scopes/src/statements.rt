@@ -1,6 +1,6 @@
 //! Resolves statements: names to slots, and literals and data to places of a pool.
 
-ghost use Rattle.std.specs.Prelude.{◌≡◌, option_map, IfOk, IfErr};
+ghost use Rattle.std.specs.Prelude.{◌≡◌, ℕ, List, option_map, IfOk, IfErr};
 ghost use Rattle.jt_expr.specs.View as written;
 ghost use Rattle.jt_layout.specs.Laid.{IsLaidOut};
 ghost use Rattle.jt_meaning.specs.Resolve as resolve;
@@ -10,6 +10,7 @@ ghost use Rattle.jt_parse.specs.View.{stmt_view, body_view, filterings_view, nam
 ghost use Rattle.jt_rules.specs.declared.error.ScopeError.TheVariants as error;
 ghost use Rattle.jt_slots.specs.Pool.{Constant};
 ghost use Rattle.jt_slots.specs.Slots.{SBody};
+ghost use Rattle.jt_value.specs.Tree.{Tree};
 ghost use Rattle.jt_uses.specs.Names.{texts};
 ghost use Rattle.jt_scopes.specs.Stated.{Led, IsBody, IsAsked, ChoiceLeads, branches_of, stmt_in, body_in, choice_in, scoped_in, values_in};
 
