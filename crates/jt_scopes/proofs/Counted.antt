@@ -1,12 +1,18 @@
 -- How many locals resolved statements use.
-use Rattle.std.proofs.Common.{◌≡◌, ℕ, ◌+◌, List, [], ◌∷◌, ◌++◌, refl, sym, ap, ◌∙◌, max, Option, Some, None, Vec, Global, arith}
+use Rattle.std.proofs.Common.{◌≡◌, ℕ, ◌+◌, ◌<◌, List, [], ◌∷◌, ◌++◌, length, map, drop, get_or, refl, sym, ap, ◌∙◌, max, Option, Some, None, Vec, Global, arith}
+use Rattle.std.specs.Prelude.{option_map}
+use Rattle.std.proofs.lemmas.List.{drop_more}
 use Rattle.jt_parse.specs.Trees.{Text}
 use Rattle.jt_slots.specs.Locals.{slot_locals, slots_locals, targets_locals, expr_locals, row_locals, condition_locals, stmt_locals, body_locals}
 use Rattle.jt_slots.specs.Pool.{Constant, placed, expr_values, condition_values, stmt_values, body_values, placed_expr, placed_row, placed_condition, placed_stmt, placed_body}
 use Rattle.jt_slots.specs.Slots as slots
 use Rattle.jt_slots.specs.Slots.{SExpr, SRow, SStmt, SBody}
-use Rattle.jt_slots.specs.View.{Front, expr_view, body_view, choice_view}
+use Rattle.jt_slots.specs.View.{Front, slot_view, entry_front, expr_view, row_view, stmt_view, body_view, choice_view}
+use Rattle.jt_slots.specs.declared.program.Slot as code_slot
+use Rattle.jt_slots.specs.declared.program.SStmt as code_stmt
+use Rattle.jt_scopes.specs.Counts.{aside_locals, target_locals}
 use Rattle.jt_scopes.specs.Stated.{Branch}
+use Rattle.jt_scopes.proofs.Fronts.{Entry}
 
 -- ---- places of the pool make no difference
 
@@ -48,6 +54,17 @@ mutual
   body_counted slots.end n = refl
   body_counted (slots.stmt c rest) n = both_counted _ _ _ _ (stmt_counted c _) (body_counted rest _)
 
+-- ---- numbers
+
+zero_max : (n : ℕ) → max 0 n ≡ n
+zero_max n = omega arith
+
+pub max_zero : (n : ℕ) → max n 0 ≡ n
+max_zero n = omega arith
+
+counted_on : (m m' n rest whole r : ℕ) → m' ≡ max m n → whole ≡ max n rest → max m whole ≡ r → max m' rest ≡ r
+counted_on m m' n rest whole r e f g = omega arith
+
 -- ---- branches
 
 abbrev pub branches_locals : List Text → List Branch → ℕ
@@ -65,3 +82,47 @@ choice_counted templates (b ∷ bs) f n h behind =
   where
     nested : (a b c n m : ℕ) → max (max a (max b (max (max c n) 0))) m ≡ max (max (max (max a b) c) n) m
     nested a b c n m = omega arith
+
+-- ---- loops that count
+
+pub slots_step : (ss : List (Option code_slot.Slot)) (i : ℕ) (d : Option code_slot.Slot) (n m m' r : ℕ) → i < length ss → n ≡ target_locals (option_map slot_view (get_or ss i d)) → m' ≡ max m n
+    → max m (slots_locals (map (option_map slot_view) (drop i ss))) ≡ r → max m' (slots_locals (map (option_map slot_view) (drop (i + 1) ss))) ≡ r
+slots_step ss i d n m m' r lt is more so =
+    let rest = slots_locals (map (option_map slot_view) (drop (i + 1) ss)) in
+    let here : slots_locals (map (option_map slot_view) (drop i ss)) ≡ max n rest =
+    ap (λ (l : List (Option code_slot.Slot)). slots_locals (map (option_map slot_view) l)) (drop_more ss i d lt) ∙ first (get_or ss i d) ∙ ap (λ z. max z rest) (sym is) in
+    counted_on m m' n rest (slots_locals (map (option_map slot_view) (drop i ss))) r more here so
+  where
+    first : (o : Option code_slot.Slot) → slots_locals (option_map slot_view o ∷ map (option_map slot_view) (drop (i + 1) ss)) ≡ max (target_locals (option_map slot_view o)) (slots_locals (map (option_map slot_view) (drop (i + 1) ss)))
+    first None = sym (zero_max (slots_locals (map (option_map slot_view) (drop (i + 1) ss))))
+    first (Some x) = refl
+
+pub row_step : (es : List Entry) (i : ℕ) (b : Entry) (n k m m' r : ℕ) → i < length es → b ≡ get_or es i b → n ≡ expr_locals (expr_view b.1) → k ≡ aside_locals b.0 → m' ≡ max m (max n k)
+    → max m (row_locals (row_view (drop i es) slots.none)) ≡ r → max m' (row_locals (row_view (drop (i + 1) es) slots.none)) ≡ r
+row_step es i b n k m m' r lt is given kept more so =
+    let rest = row_locals (row_view (drop (i + 1) es) slots.none) in
+    let here : row_locals (row_view (drop i es) slots.none) ≡ max (max n k) rest =
+    ap (λ (l : List Entry). row_locals (row_view l slots.none)) (drop_more es i b lt) ∙ ap (λ (z : Entry). row_locals (row_view (z ∷ drop (i + 1) es) slots.none)) (sym is)
+    ∙ first b.0 ∙ ap (λ z. max (max z (aside_locals b.0)) rest) (sym given) ∙ ap (λ z. max (max n z) rest) (sym kept) in
+    counted_on m m' (max n k) rest (row_locals (row_view (drop i es) slots.none)) r more here so
+  where
+    first : (o : Option ℕ) → row_locals (entry_front o (expr_view b.1) (row_view (drop (i + 1) es) slots.none)) ≡ max (max (expr_locals (expr_view b.1)) (aside_locals o)) (row_locals (row_view (drop (i + 1) es) slots.none))
+    first None = omega arith
+    first (Some j) = omega arith
+
+pub body_step : (templates : List Text) (ss : List code_stmt.SStmt) (i : ℕ) (x : code_stmt.SStmt) (n m m' : ℕ) (behind : SBody ℕ) (r : ℕ) → i < length ss → x ≡ get_or ss i x
+    → ((b : SBody ℕ) → body_locals (stmt_view templates x b) ≡ max n (body_locals b)) → m' ≡ max m n
+    → max m (body_locals (body_view templates (drop i ss) behind)) ≡ r → max m' (body_locals (body_view templates (drop (i + 1) ss) behind)) ≡ r
+body_step templates ss i x n m m' behind r lt is counted more so =
+    let rest = body_view templates (drop (i + 1) ss) behind in
+    counted_on m m' n (body_locals rest) (body_locals (body_view templates (drop i ss) behind)) r more
+    (ap (λ (l : List code_stmt.SStmt). body_locals (body_view templates l behind)) (drop_more ss i x lt) ∙ ap (λ (z : code_stmt.SStmt). body_locals (stmt_view templates z rest)) (sym is) ∙ counted rest) so
+
+pub branch_step : (templates : List Text) (bs : List Branch) (i : ℕ) (b : Branch) (us : List code_stmt.SStmt) (n k m m' r : ℕ) → i < length bs → b ≡ get_or bs i b → us ≡ b.2.items → n ≡ expr_locals (expr_view b.1)
+    → ((z : SBody ℕ) → body_locals (body_view templates us z) ≡ max k (body_locals z)) → m' ≡ max m (max n k)
+    → max m (branches_locals templates (drop i bs)) ≡ r → max m' (branches_locals templates (drop (i + 1) bs)) ≡ r
+branch_step templates bs i b us n k m m' r lt is body asked taken more so =
+    let rest = branches_locals templates (drop (i + 1) bs) in
+    let inner : body_locals (body_view templates b.2.items slots.end) ≡ k = ap (λ (l : List code_stmt.SStmt). body_locals (body_view templates l slots.end)) (sym body) ∙ taken slots.end ∙ max_zero k in
+    counted_on m m' (max n k) rest (branches_locals templates (drop i bs)) r more
+    (ap (branches_locals templates) (drop_more bs i b lt) ∙ ap (λ (z : Branch). branches_locals templates (z ∷ drop (i + 1) bs)) (sym is) ∙ ap (λ z. max (max z (body_locals (body_view templates b.2.items slots.end))) rest) (sym asked) ∙ ap (λ z. max (max n z) rest) inner) so

@@ -26,7 +26,7 @@ use Rattle.jt_slots.specs.declared.program.SExpr as code
 use Rattle.jt_slots.specs.declared.program.Slot as code_slot
 use Rattle.jt_slots.specs.declared.program.SStmt.{SStmt}
 use Rattle.jt_meaning.specs.Layout.{Table, slot_in}
-use Rattle.jt_meaning.specs.Resolve.{Spot, read_from, followed, alone, copied, handed_on, resolved_values, resolved_body, resolved_condition, grown, kept_slots, fresh_targets, slot_of, bound_all, place}
+use Rattle.jt_meaning.specs.Resolve.{Spot, read_from, followed, alone, copied, handed_on, resolved, resolved_values, resolved_body, resolved_condition, grown, kept_slots, fresh_targets, slot_of, bound_all, place}
 use Rattle.jt_uses.specs.Names.{texts}
 use Rattle.jt_layout.specs.declared.scope.Scope.{Scope}
 use Rattle.jt_names.specs.Names.{last_among}
@@ -73,7 +73,7 @@ module _ (templates : List Text) (pl : Place) (t : Table) (ks : List (Bor Text))
 
 pub values_followed : (world : World) (order : List Home) (ps : Pairs) (sp : Spot) (line : ℕ) (b left : SBody Constant) → followed (resolved_values world order ps sp line b) left ≡ resolved_values world order ps sp line (followed b left)
 values_followed world order no_pairs sp line b left = refl
-values_followed world order (pair x e ps) sp line b left = ap (slots.stmt _) (values_followed world order ps (grown sp) line b left)
+values_followed world order (pair x e ps) sp line b left = ap (slots.stmt (slots.assign (place sp line) (one (local sp.free)) (resolved world order e sp))) (values_followed world order ps (grown sp) line b left)
 
 -- ---- trees that are equal
 

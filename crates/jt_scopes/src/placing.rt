@@ -2,9 +2,10 @@
 
 ghost use Rattle.std.specs.Prelude.{◌≡◌, ℕ, Bool, List, [], IfOk, IfErr, if◌then◌else◌};
 ghost use Rattle.jt_layout.specs.Laid.{IsLaidOut};
+ghost use Rattle.jt_layout.specs.declared.scope.Scope.{Scope};
 ghost use Rattle.jt_meaning.specs.Resolve as resolve;
 ghost use Rattle.jt_meaning.specs.Layout.{slot_in};
-ghost use Rattle.jt_names.specs.Scoped.{IsPlaced, spot_in, templates_in};
+ghost use Rattle.jt_names.specs.Scoped.{IsPlaced, globals_in, spot_in, templates_in};
 ghost use Rattle.jt_parse.specs.Trees as trees;
 ghost use Rattle.jt_rules.specs.declared.error.ScopeError.TheVariants as error;
 ghost use Rattle.jt_slots.specs.View.{expr_view};
@@ -86,8 +87,19 @@ pub fn put_include(
     put_run(there.unit, Vec::new(alloc), done)
 }
 
-/// Puts a block where its tag stands behind other statements: it reads its parameters there, or
-/// among the globals where its tag does not say `scoped`.
+/// Where a block's parameters are read: where its tag stands, or among the globals where the tag
+/// does not say `scoped`.
+fn seen_by<'s, 'a>(spot: &Spot<'s, 'a>, scoped: bool) -> Spot<'s, 'a>
+    ensures { (s : Scope) → (spot_in s result).table ≡ (if scoped then (spot_in s spot.now).table else globals_in s) }
+{
+    if scoped {
+        *spot
+    } else {
+        spot.outside()
+    }
+}
+
+/// Puts a block where its tag stands behind other statements.
 pub fn put_block(
     alloc: Global,
     scope: &Scope<'_>,
@@ -103,6 +115,6 @@ pub fn put_block(
     let Some(unit) = first_body(scope, name)? else {
         return Ok(());
     };
-    let seen = if scoped { *spot } else { spot.outside() };
-    put_run(unit, block_arguments(alloc, scope, &seen, name)?, done)
+    let row = block_arguments(alloc, scope, &seen_by(spot, scoped), name)?;
+    put_run(unit, row, done)
 }

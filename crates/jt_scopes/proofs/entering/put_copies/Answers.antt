@@ -17,7 +17,7 @@ loop-name-preserved c = λ behind p.
     let scope = c.args.scope.now in
     let spot = c.args.spot.now in
     lead_both (templates_in scope) _ _ _ _ _ _ _ _ _ (l.invariant behind p)
-    (copy_step (templates_in scope) (line_in scope spot 1) (spot_in scope spot).table c.args.names.now l.name-index l.local c.in_ok-local.field-0 _ _ (expr_view c.reading-value.result) l.done.items c.put_assign.new.done.items
+    (copy_step (templates_in scope) (line_in scope spot 1) (spot_in scope spot).table c.args.names.now l.name-index l.local c.in_ok-local.local _ _ (expr_view c.reading-value.result) l.done.items c.put_assign.new.done.items
     c.slot.ensures c.loop-name-test.true c.in_ok-local.ensures.added (λ k q r. c.in_ok-put_assign.ensures.put scope k q r) c.reading-value.ensures behind p)
 
 pub returns-clause-put : goal.returns-clause-put

@@ -18,7 +18,7 @@ loop-name-preserved c = λ left p.
     let scope = c.args.scope.now in
     let spot = c.args.spot.now in
     lead_both (templates_in scope) _ _ _ _ _ _ _ _ _ (l.invariant left p)
-    (hand_step (templates_in scope) (line_in scope spot c.args.line) (if c.args.with_context then (spot_in scope spot).table else []) c.args.names.now l.name-index l.global c.in_ok-global.field-0 _ (expr_view c.handed-value.result) l.done.items c.put_assign.new.done.items
+    (hand_step (templates_in scope) (line_in scope spot c.args.line) (if c.args.with_context then (spot_in scope spot).table else []) c.args.names.now l.name-index l.global c.in_ok-global.global _ (expr_view c.handed-value.result) l.done.items c.put_assign.new.done.items
     c.loop-name-test.true c.in_ok-global.ensures.added (λ k q r. c.in_ok-put_assign.ensures.put scope k q r) c.handed-value.ensures left p)
 
 pub returns-clause-put : goal.returns-clause-put

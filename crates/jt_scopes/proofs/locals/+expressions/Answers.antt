@@ -1,0 +1,12 @@
+use Rattle.std.proofs.Common.{◌≡◌, sym, ap, ◌∙◌, max}
+use Rattle.jt_slots.specs.Locals.{expr_locals, row_locals}
+use Rattle.jt_slots.specs.Slots.{none}
+use Rattle.jt_slots.specs.View.{expr_view, row_view}
+use Rattle.jt_scopes.proofs.Counted.{row_step}
+use Rattle.jt_scopes.proofs.locals.+expressions.Goals as goal
+
+pub row_locals-loop-kept-preserved : goal.row_locals-loop-kept-preserved
+row_locals-loop-kept-preserved t c =
+    let l = c.loop-kept in
+    row_step c.args.row.now l.kept-index c.loop-kept-item.result c.in_ok-given.given c.in_ok-aside_locals.field-0 l.most _ _ c.loop-kept-test.true c.loop-kept-item.is c.in_ok-given.ensures.counted c.in_ok-aside_locals.ensures.counted
+    (c.max-2.ensures ∙ ap (max l.most) c.max.ensures) l.invariant
