@@ -26,7 +26,7 @@ use Rattle.jt_slots.specs.declared.program.SExpr as code
 use Rattle.jt_slots.specs.declared.program.Slot as code_slot
 use Rattle.jt_slots.specs.declared.program.SStmt.{SStmt}
 use Rattle.jt_meaning.specs.Layout.{Table, slot_in}
-use Rattle.jt_meaning.specs.Resolve.{Spot, read_from, followed, alone, copied, handed_on, resolved, resolved_values, resolved_body, resolved_condition, grown, kept_slots, fresh_targets, slot_of, bound_all, place}
+use Rattle.jt_meaning.specs.Resolve.{Spot, read_from, followed, alone, copied, handed_on, resolved, resolved_values, resolved_body, resolved_condition, resolved_filters, grown, kept_slots, fresh_targets, slot_of, bound_all, place}
 use Rattle.jt_uses.specs.Names.{texts}
 use Rattle.jt_layout.specs.declared.scope.Scope.{Scope}
 use Rattle.jt_names.specs.Names.{last_among}
@@ -116,6 +116,14 @@ module _ (s : Scope) (spot : code_spot.Spot) (x : Stmt) where
   pub autoescape_shown : (line : ℕ) (on : Bool) (body : Vec Stmt Global) (us : List Stmt) → x ≡ v.Autoescape line on body → us ≡ body.items
       → scoped_in s (body_view us) (record (spot_in s spot) { escaping = on }) ≡ stmt_in s (stmt_view x) spot
   autoescape_shown line on body us is e = ap (λ w. scoped_in s (body_view w) (record (spot_in s spot) { escaping = on })) e ∙ sym (ap (λ w. stmt_in s w spot) (ap stmt_view is ∙ view-Autoescape line on body))
+
+-- a filter tag: its text, and what its filters make of it
+pub filter_shown : (s : Scope) (spot : code_spot.Spot) (line : ℕ) (fs : List trees.Filtering) (b : trees.Body) (n : ℕ) → n ≡ spot.free + 1
+    → followed (alone (slots.capture spot.escaping (local spot.free) (scoped_in s b (spot_in s (record spot { free = n })))))
+    (alone (slots.print (line_in s spot line) spot.escaping (resolved_filters (world_in s) (order_in s) fs (spot_in s (record spot { free = n })) (slots.variable (local spot.free))))) ≡ stmt_in s (trees.filter_block line fs b) spot
+filter_shown s spot line fs b n e =
+    ap (λ (m : ℕ). followed (alone (slots.capture spot.escaping (local spot.free) (scoped_in s b (spot_in s (record spot { free = m })))))
+    (alone (slots.print (line_in s spot line) spot.escaping (resolved_filters (world_in s) (order_in s) fs (spot_in s (record spot { free = m })) (slots.variable (local spot.free)))))) (e ∙ add-one spot.free)
 
 -- values, and what is behind them
 pub values_led : (s : Scope) (spot : code_spot.Spot) (ps : Pairs) (line : ℕ) (w : SBody Constant) (es fs gs : List SStmt) (p q r : List Tree)

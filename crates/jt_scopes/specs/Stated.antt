@@ -1,10 +1,11 @@
 -- What the statements of a chain are resolved to, in the tables that the code keeps, and with the places of the pool that it fills.
-use Rattle.std.specs.Prelude.{◌≡◌, ℕ, ◌+◌, List, [], ◌++◌, length, Option, Some, None, option_map, Vec, if◌then◌else◌, ◌==◌}
+use Rattle.std.specs.Prelude.{◌≡◌, ℕ, Bool, ◌+◌, List, [], ◌++◌, length, Option, Some, None, option_map, Vec, if◌then◌else◌, ◌==◌}
 use Rattle.std.specs.declared.alloc.Global.{Global}
 use Rattle.jt_value.specs.Tree.{Tree}
 use Rattle.jt_parse.specs.Trees as trees
 use Rattle.jt_parse.specs.Trees.{Text, Branches}
 use Rattle.jt_expr.specs.Trees as expressions
+use Rattle.jt_inherit.specs.Chain.{Template}
 use Rattle.jt_inherit.specs.Uses.{set_in}
 use Rattle.jt_slots.specs.Got as got
 use Rattle.jt_slots.specs.Pool.{Constant, condition_values, body_values, placed_condition, placed_body}
@@ -18,7 +19,7 @@ use Rattle.jt_meaning.specs.Resolve as resolve
 use Rattle.jt_meaning.specs.Resolve.{followed}
 use Rattle.jt_layout.specs.declared.scope.Scope.{Scope}
 use Rattle.jt_names.specs.declared.spot.Spot.{Spot}
-use Rattle.jt_names.specs.Scoped.{IsPlaced, BodyLeads, world_in, order_in, spot_in, templates_in}
+use Rattle.jt_names.specs.Scoped.{IsPlaced, BodyLeads, world_in, order_in, home_in, spot_in, templates_in}
 
 -- the place of a branch's tag, its condition and its statements
 abbrev pub Branch : Type 0
@@ -80,6 +81,12 @@ module _ (s : Scope) where
   -- a body in a scope of its own
   abbrev pub scoped_in : trees.Body → resolve.Spot → SBody Constant
   scoped_in b sp = resolve.scoped (set_in b) sp (resolve.resolved_body (world_in s) (order_in s) b)
+
+  -- a template of a chain: the root, or what another one sets
+  abbrev pub layer_in : Template → Bool → SBody Constant
+  layer_in t is_root =
+      let top : resolve.Spot = resolve.top_spot (world_in s) (order_in s) (home_in s) t.name in
+      if is_root then resolve.resolved_body (world_in s) (order_in s) t.body top else resolve.resolved_sets (world_in s) (order_in s) t.body top
 
   abbrev pub values_in : expressions.Pairs → Spot → ℕ → SBody Constant → SBody Constant
   values_in ps p line behind = resolve.resolved_values (world_in s) (order_in s) ps (spot_in s p) line behind

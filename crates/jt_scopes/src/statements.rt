@@ -268,10 +268,8 @@ fn resolve_filtered<'a>(
     ensures refused { IfErr result (λ e. e ≡ error.NoMemory) }
 {
     let kept = Slot::Local(spot.free);
-    let inside = Spot {
-        free: more(spot.free, 1)?,
-        ..*spot
-    };
+    let free = more(spot.free, 1)?;
+    let inside = Spot { free, ..*spot };
     let text = resolve_inside(alloc, scope, &inside, body, pool)?;
     put_capture(spot.escaping, kept, text, done)?;
     let shown = resolve_filterings(alloc, scope, &inside, filterings, kept, pool)?;

@@ -6,7 +6,7 @@ use Rattle.jt_meaning.specs.Layout.{Table, block_parameters, numbered_of}
 use Rattle.jt_meaning.specs.Resolve.{alone, reads, first_body}
 use Rattle.jt_names.specs.Scoped.{world_in, order_in, home_in, globals_in, spot_in, templates_in}
 use Rattle.jt_scopes.proofs.Leading.{led_of}
-use Rattle.jt_scopes.proofs.Placing.{block_run}
+use Rattle.jt_scopes.proofs.Standing.{block_run}
 use Rattle.jt_scopes.proofs.placing.put_block.Goals as goal
 
 pub returns-clause-put : goal.returns-clause-put

@@ -8,7 +8,7 @@ use Rattle.jt_layout.specs.Laid.{IsChainAt}
 use Rattle.jt_uses.specs.Names.{texts}
 use Rattle.jt_names.specs.Scoped.{world_in, order_in, templates_in}
 use Rattle.jt_scopes.proofs.Leading.{led_of, led_both}
-use Rattle.jt_scopes.proofs.Placing.{no_row, absent_names, absent_unit, include_shown}
+use Rattle.jt_scopes.proofs.Standing.{no_row, absent_names, absent_unit, include_shown}
 use Rattle.jt_scopes.proofs.placing.put_include.Goals as goal
 
 pub returns-in_default-clause-put : goal.returns-in_default-clause-put
@@ -16,7 +16,7 @@ returns-in_default-clause-put c =
     let scope = c.args.scope.now in
     let x = c.args.name.now in
     let T = templates_in scope in
-    let there : is_none ((world_in scope).sources x) ≡ false = cc (c.requires.sources x) in
+    let there : is_none ((world_in scope).sources x) ≡ false = sym (c.requires.sources x) ∙ ap is_none (sym c.place.ensures) ∙ sym c.is_none.ensures ∙ c.if-is_none.false in
     let P : Option ℕ → Type 0 = IsChainAt (order_in scope) x in
     let absent = subst P (sym c.place-2.ensures ∙ c.in_default.is) (c.requires.chains x) in
     IfOk-weaker c.put_run.result _ _ (λ u h missing p. led_of T _ _ _ _ _ _
@@ -33,7 +33,7 @@ returns-clause-put c =
     let order = order_in scope in
     let i = c.in-Some.place in
     let chain = c.index-there.result.now in
-    let there : is_none (world.sources x) ≡ false = cc (c.requires.sources x) in
+    let there : is_none (world.sources x) ≡ false = sym (c.requires.sources x) ∙ ap is_none (sym c.place.ensures) ∙ sym c.is_none.ensures ∙ c.if-is_none.false in
     let P : Option ℕ → Type 0 = IsChainAt order x in
     let at = subst P (sym c.place-2.ensures ∙ c.in-Some.is) (c.requires.chains x) in
     let Q : ℕ → Type 0 = λ n. i < n in

@@ -7,15 +7,15 @@ use Rattle.jt_parse.specs.View.{names_view, filterings_view, stmt_view, body_vie
 use Rattle.jt_parse.specs.declared.tree.Stmt.{Stmt}
 use Rattle.jt_slots.specs.Slots as slots
 use Rattle.jt_slots.specs.View.{slot_view, targets_view}
-use Rattle.jt_meaning.specs.Resolve.{followed, alone, bound_all}
+use Rattle.jt_meaning.specs.Resolve.{followed, alone, bound_all, resolved_filters}
 use Rattle.jt_inherit.specs.View.{chain_view}
 use Rattle.jt_uses.specs.Names.{texts}
-use Rattle.jt_names.specs.Scoped.{values, expr_in, spot_in, templates_in}
-use Rattle.jt_scopes.specs.Stated.{line_in, stmt_in, body_in, choice_in}
+use Rattle.jt_names.specs.Scoped.{values, world_in, order_in, expr_in, spot_in, templates_in}
+use Rattle.jt_scopes.specs.Stated.{line_in, stmt_in, body_in, choice_in, scoped_in}
 use Rattle.jt_scopes.proofs.Leading.{lead_both, lead_of, lead_left, lead_same, led_of, led_both, led_begun, followed_again, choice_same, choice_other, branch_as, branch_led}
 use Rattle.jt_scopes.proofs.Placed.{place_shown}
 use Rattle.jt_scopes.proofs.Shown.{Branch, statements_left, branches_left, view-Data, view-Print, view-Set, view-FilterBlock, view-Macro, view-Include, view-Extends, view-Block}
-use Rattle.jt_scopes.proofs.Stating.{stmt_as, if_shown, loop_shown, set_block_shown, with_shown, autoescape_shown, values_led, copies_as, scope_led, scoped_as, turn_as}
+use Rattle.jt_scopes.proofs.Stating.{stmt_as, filter_shown, if_shown, loop_shown, set_block_shown, with_shown, autoescape_shown, values_led, copies_as, scope_led, scoped_as, turn_as}
 use Rattle.jt_scopes.proofs.statements.+resolve.Goals as goal
 
 -- ---- bodies
@@ -57,19 +57,19 @@ resolve_scoped-returns-clause-led t c =
     let b = body_view c.args.body.now in
     let sp = spot_in scope spot in
     let same = ap texts c.deref.ensures.value ∙ c.in_ok-names.ensures in
-    IfOk-weaker c.resolve_body.result _ _ (λ u h. scope_led scope b sp _ _ _ _ _ _ (c.in_ok-inner.ensures.bound scope _ c.deref-inside.ensures.value ∙ ap (λ xs. bound_all xs sp) c.in_ok-names.ensures)
+    IfOk-weaker c.resolve_body.result _ _ (λ u h. scope_led scope b sp _ _ _ _ _ _ (c.in_ok-inner.ensures.bound scope _ c.deref-2.ensures.value ∙ ap (λ xs. bound_all xs sp) c.in_ok-names.ensures)
     (copies_as scope sp (texts c.deref.result.now) b _ _ _ same (λ behind. c.in_ok-put_copies.ensures.put behind (values c.args.pool.now))) h) c.resolve_body.ensures.led
 
 pub resolve_within-returns-clause-led : goal.resolve_within-returns-clause-led
 resolve_within-returns-clause-led t c =
     let scope = c.args.scope.now in
-    IfOk-weaker c.resolve_scoped.result _ _ (λ u h. scoped_as scope (body_view c.args.body.now) _ _ _ _ _ _ (c.in_ok-inner.ensures.bound scope _ c.deref-inside.ensures.value) h) c.resolve_scoped.ensures.led
+    IfOk-weaker c.resolve_scoped.result _ _ (λ u h. scoped_as scope (body_view c.args.body.now) _ _ _ _ _ _ (c.in_ok-inner.ensures.bound scope _ c.deref.ensures.value) h) c.resolve_scoped.ensures.led
 
 pub resolve_turn-returns-clause-led : goal.resolve_turn-returns-clause-led
 resolve_turn-returns-clause-led t c =
     let scope = c.args.scope.now in
     let sp = spot_in scope c.args.spot.now in
-    turn_as scope (body_view c.args.body.now) _ _ _ _ _ _ _ _ (c.in_ok-inner.ensures.bound scope _ c.deref-inside.ensures.value ∙ ap (λ xs. bound_all xs sp) c.in_ok-texts_of.ensures.same) c.in_ok-asked.ensures.asked c.in_ok-turn.ensures.led
+    turn_as scope (body_view c.args.body.now) _ _ _ _ _ _ _ _ (c.in_ok-inner.ensures.bound scope _ c.deref.ensures.value ∙ ap (λ xs. bound_all xs sp) c.in_ok-texts_of.ensures.same) c.in_ok-asked.ensures.asked c.in_ok-turn.ensures.led
 
 -- ---- parts of statements
 
@@ -84,16 +84,23 @@ resolve_branch-returns-clause-made t c = record {
 pub resolve_filtered-returns-clause-led : goal.resolve_filtered-returns-clause-led
 resolve_filtered-returns-clause-led t c =
     let scope = c.args.scope.now in
+    let spot = c.args.spot.now in
     let T = templates_in scope in
-    IfOk-weaker c.put_print.result _ _ (λ u h. led_both T _ _ _ _ _ _ _ _ (c.in_ok-put_capture.ensures.put T _ _ _ c.in_ok-text.ensures.led) (h scope _ _ _ c.in_ok-shown.ensures.placed)) c.put_print.ensures.put
+    let fs = filterings_view c.args.filterings.now in
+    let b = body_view c.args.body.now in
+    let inside = spot_in scope (record spot { free = c.in_ok-free.free }) in
+    let first = alone (slots.capture spot.escaping (slots.local spot.free) (scoped_in scope b inside)) in
+    let second = alone (slots.print (line_in scope spot c.args.line) spot.escaping (resolved_filters (world_in scope) (order_in scope) fs inside (slots.variable (slots.local spot.free)))) in
+    IfOk-weaker c.put_print.result _ _ (λ u h. led_of T (followed first second) _ _ _ _ _ (filter_shown scope spot c.args.line fs b c.in_ok-free.free c.in_ok-free.ensures.added)
+    (led_both T first second _ _ _ _ _ _ (c.in_ok-put_capture.ensures.put T _ _ _ c.in_ok-text.ensures.led) (h scope _ _ _ c.in_ok-shown.ensures.placed))) c.put_print.ensures.put
 
 -- ---- statements
 
 pub resolve_statement-returns-in-Data-clause-led : goal.resolve_statement-returns-in-Data-clause-led
 resolve_statement-returns-in-Data-clause-led t c =
     let scope = c.args.scope.now in
-    IfOk-weaker c.put_data.result _ _ (λ u h. stmt_as scope c.args.spot.now (trees.data_of c.deref-in-Data.result.now) (stmt_view c.args.statement.now) _ _ _ _
-    (ap trees.data_of c.deref-in-Data.ensures ∙ sym (ap stmt_view c.in-Data.is ∙ view-Data c.in-Data.text)) (h (templates_in scope))) c.put_data.ensures.put
+    IfOk-weaker c.put_data.result _ _ (λ u h. stmt_as scope c.args.spot.now (trees.data_of c.deref.result.now) (stmt_view c.args.statement.now) _ _ _ _
+    (ap trees.data_of c.deref.ensures ∙ sym (ap stmt_view c.in-Data.is ∙ view-Data c.in-Data.text)) (h (templates_in scope))) c.put_data.ensures.put
 
 pub resolve_statement-returns-in-Print-clause-led : goal.resolve_statement-returns-in-Print-clause-led
 resolve_statement-returns-in-Print-clause-led t c =
@@ -113,7 +120,7 @@ resolve_statement-loop-line-preserved t c = λ other.
     let rest = choice_in scope (branches_view (drop (l.line-index + 1) bs)) spot other in
     let here = choice_other T _ _ _ _ _ _ (ap (λ b. choice_in scope b spot other) (branches_left bs l.line-index x c.loop-line-test.true c.loop-line-item.is)) (l.invariant other) in
     branch_led T _ rest (body_in scope (body_view x.2.items) spot) (line_in scope spot x.0) (expr_in scope (expr_view x.1) spot) _ _ _ _ _ _ here
-    (branch_as T _ _ _ _ _ _ _ (ap (λ z. body_in scope (body_view z) spot) c.deref-in-loop-line.ensures.value) c.in_ok-resolve_branch.ensures.made) c.in_ok-push.ensures.items
+    (branch_as T _ _ _ _ _ _ _ (ap (λ z. body_in scope (body_view z) spot) c.deref-in-loop-line.ensures.value) c.in_ok-resolve_branch-in-If.ensures.made) c.in_ok-push-in-If.ensures.items
 
 pub resolve_statement-returns-in_ok-last-in-If-clause-led : goal.resolve_statement-returns-in_ok-last-in-If-clause-led
 resolve_statement-returns-in_ok-last-in-If-clause-led t c =
@@ -168,8 +175,8 @@ resolve_statement-returns-in-FilterBlock-clause-led t c =
 
 pub resolve_statement-returns-in-Autoescape-clause-led : goal.resolve_statement-returns-in-Autoescape-clause-led
 resolve_statement-returns-in-Autoescape-clause-led t c =
-    IfOk-weaker c.resolve_scoped-in-Autoescape.result _ _ (λ u h. led_of (templates_in c.args.scope.now) _ _ _ _ _ _
-    (autoescape_shown c.args.scope.now c.args.spot.now c.args.statement.now c.in-Autoescape.field-0 c.in-Autoescape.escaping c.in-Autoescape.body c.deref-in-Autoescape.result.now c.in-Autoescape.is c.deref-in-Autoescape.ensures.value) h) c.resolve_scoped-in-Autoescape.ensures.led
+    IfOk-weaker c.resolve_scoped.result _ _ (λ u h. led_of (templates_in c.args.scope.now) _ _ _ _ _ _
+    (autoescape_shown c.args.scope.now c.args.spot.now c.args.statement.now c.in-Autoescape.field-0 c.in-Autoescape.escaping c.in-Autoescape.body c.deref-in-Autoescape.result.now c.in-Autoescape.is c.deref-in-Autoescape.ensures.value) h) c.resolve_scoped.ensures.led
 
 pub resolve_statement-returns-in-Macro-clause-led : goal.resolve_statement-returns-in-Macro-clause-led
 resolve_statement-returns-in-Macro-clause-led t c = λ left.
@@ -193,3 +200,29 @@ resolve_statement-returns-in-Block-clause-led t c =
     (ap (λ z. trees.block c.in-Block.field-0 z c.in-Block.scoped c.in-Block.field-3 (body_view c.in-Block.field-4.items)) c.deref-in-Block.ensures
     ∙ sym (ap stmt_view c.in-Block.is ∙ view-Block c.in-Block.field-0 c.in-Block.name c.in-Block.scoped c.in-Block.field-3 c.in-Block.field-4))
     (h c.in-Block.field-0 c.in-Block.field-3 (body_view c.in-Block.field-4.items) (values c.args.pool.now))) c.put_block.ensures.put
+
+-- ---- each part is smaller
+
+pub resolve_statement-resolve_branch-requires : goal.resolve_statement-resolve_branch-requires
+resolve_statement-resolve_branch-requires t c = (search rules, c.requires)
+
+pub resolve_statement-resolve_whole-requires : goal.resolve_statement-resolve_whole-requires
+resolve_statement-resolve_whole-requires t c = (?, c.requires)
+
+pub resolve_statement-resolve_turn-requires : goal.resolve_statement-resolve_turn-requires
+resolve_statement-resolve_turn-requires t c = ?
+
+pub resolve_statement-resolve_whole-requires-in-For : goal.resolve_statement-resolve_whole-requires-in-For
+resolve_statement-resolve_whole-requires-in-For t c = (search rules, c.requires)
+
+pub resolve_statement-resolve_inside-requires : goal.resolve_statement-resolve_inside-requires
+resolve_statement-resolve_inside-requires t c = (search rules, c.requires)
+
+pub resolve_statement-resolve_within-requires : goal.resolve_statement-resolve_within-requires
+resolve_statement-resolve_within-requires t c = (search rules depth 12, c.requires)
+
+pub resolve_statement-resolve_filtered-requires : goal.resolve_statement-resolve_filtered-requires
+resolve_statement-resolve_filtered-requires t c = (grind arith, c.requires)
+
+pub resolve_statement-resolve_scoped-requires : goal.resolve_statement-resolve_scoped-requires
+resolve_statement-resolve_scoped-requires t c = (omega arith, c.requires)

@@ -6,4 +6,4 @@ use Rattle.jt_slots.specs.View.{slot_view}
 use Rattle.jt_scopes.proofs.targets.fresh_slots.Given as goal
 
 abbrev pub invariant-loop-name : goal.invariant-loop-name
-invariant-loop-name l = map (option_map slot_view) l.slots.items ++ fresh l.local (names_view (drop l.name-index l.names)) ≡ fresh l.fn.first (names_view l.names)
+invariant-loop-name l = map (option_map slot_view) l.slots.items ++ fresh l.local (names_view (drop l._name-index l.names)) ≡ fresh l.fn.first (names_view l.names)
