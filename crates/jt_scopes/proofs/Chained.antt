@@ -1,7 +1,9 @@
 -- The templates of a chain, one behind the other.
-use Rattle.std.proofs.Common.{◌≡◌, ℕ, suc, ◌+◌, ◌<◌, Bool, true, false, List, [], ◌∷◌, length, map, drop, get_or, refl, sym, ap, ◌∙◌, arith}
+use Rattle.std.proofs.Common.{◌≡◌, ℕ, suc, ◌+◌, ◌-◌, ◌<◌, Bool, true, false, List, [], ◌∷◌, length, map, drop, get_or, refl, sym, ap, ◌∙◌, arith}
 use Rattle.std.specs.Prelude.{if◌then◌else◌, ◌==◌}
-use Rattle.std.proofs.lemmas.List.{drop_more, length-drop}
+use Rattle.std.proofs.Common.{length-drop}
+use Rattle.std.proofs.lemmas.Bool.Decides.{nat_tests}
+use Rattle.std.proofs.lemmas.List.{drop_more}
 use Rattle.jt_inherit.specs.Chain.{Template}
 use Rattle.jt_inherit.specs.Layers.{layer_view}
 use Rattle.jt_inherit.specs.declared.layers.Layer.{Layer}
@@ -19,7 +21,7 @@ pub sets_next : (b : Bool) (a rest left : SBody Constant) → followed (if b the
 sets_next true a rest left = sym (followed_again a rest left)
 sets_next false a rest left = refl
 
-abbrev is_nil : {A : Type 0} → List A → Bool
+abbrev pub is_nil : {A : Type 0} → List A → Bool
 is_nil [] = true
 is_nil (x ∷ xs) = false
 
@@ -29,9 +31,19 @@ chain_next : (s : Scope) (t : Template) (ts : List Template) (root : Bool) → r
 chain_next s t [] root e = ap (λ b. followed (layer_in s t b) slots.end) e ∙ followed_end (layer_in s t true)
 chain_next s t (u ∷ us) root e = ap (λ b. followed (layer_in s t b) (resolved_chain (world_in s) (order_in s) (home_in s) (u ∷ us))) e
 
-nil_long : {A : Type 0} (f : Layer → A) (xs : List Layer) (n : ℕ) → length xs ≡ n → is_nil (map f xs) ≡ (n == 0)
-nil_long f [] n e = ap (λ m. m == 0) e
-nil_long f (x ∷ xs) n e = ap (λ m. m == 0) e
+nil_same : {A B : Type 0} (f : A → B) (xs : List A) → is_nil (map f xs) ≡ is_nil xs
+nil_same f [] = refl
+nil_same f (x ∷ xs) = refl
+
+nil_long : {A : Type 0} (xs : List A) (n m : ℕ) → n + length xs ≡ m → (n == m) ≡ is_nil xs
+nil_long [] n m e = grind (arith, nat_tests)
+nil_long (x ∷ xs) n m e = let longer : n + suc (length xs) ≡ m = e in grind (arith, nat_tests)
+
+-- whether a template is the last one of its chain
+pub root_here : (ts : List Template) (ls : List Layer) (i : ℕ) (root : Bool) → i < length ls → root ≡ (i + 1 == length ls) → root ≡ is_nil (map (layer_view ts) (drop (i + 1) ls))
+root_here ts ls i root lt e =
+    let long : length (drop (i + 1) ls) ≡ length ls - (i + 1) = length-drop (i + 1) ls in
+    e ∙ nil_long (drop (i + 1) ls) (i + 1) (length ls) (omega arith) ∙ sym (nil_same (layer_view ts) (drop (i + 1) ls))
 
 -- of the templates from one on, this one and the others
 pub layers_next : (s : Scope) (ts : List Template) (ls : List Layer) (i : ℕ) (d : Layer) (root : Bool) (left : SBody Constant) → i < length ls → root ≡ is_nil (map (layer_view ts) (drop (i + 1) ls))

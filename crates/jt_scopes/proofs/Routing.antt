@@ -2,7 +2,10 @@
 use Rattle.std.proofs.Common.{◌≡◌, ℕ, ◌+◌, ◌<◌, List, [], ◌∷◌, ◌++◌, length, map, drop, get_or, refl, sym, ap, ◌∙◌, subst, max, Vec, Global, append_assoc, append-nil, length-append, arith}
 use Rattle.std.proofs.lemmas.List.{map-append, drop_more}
 use Rattle.jt_value.specs.Tree.{Tree}
-use Rattle.jt_parse.specs.Trees.{Text}
+use Rattle.jt_parse.specs.Trees.{Text, Body}
+use Rattle.jt_inherit.specs.Chain.{Home}
+use Rattle.jt_rules.specs.World.{World}
+use Rattle.jt_meaning.specs.Resolve.{Spot, resolved_routine}
 use Rattle.jt_slots.specs.Locals.{body_locals}
 use Rattle.jt_slots.specs.Pool.{Constant, body_values, routines_values, placed_body, placed_routine, placed_routines}
 use Rattle.jt_slots.specs.Slots as slots
@@ -10,7 +13,7 @@ use Rattle.jt_slots.specs.Slots.{SBody}
 use Rattle.jt_slots.specs.View.{body_view, routine_view}
 use Rattle.jt_slots.specs.declared.program.SStmt.{SStmt}
 use Rattle.jt_slots.specs.declared.program.Routine.{Routine}
-use Rattle.jt_scopes.specs.Routines.{IsRoutine, RoutinesLead, AreRoutines}
+use Rattle.jt_scopes.specs.Routines.{IsRoutine, AreRoutines, RoutinesLead, AllLed}
 use Rattle.jt_scopes.specs.Stated.{IsBody}
 use Rattle.jt_scopes.proofs.Counted.{body_counted, max_zero}
 use Rattle.jt_scopes.proofs.Leading.{body_shown, body_pooled}
@@ -53,6 +56,19 @@ module _ (templates : List Text) where
   routines_left whole a b rs ss p q = let P : List Planned → Type 0 = λ z. RoutinesLead templates whole z rs ss p q in subst P
 
   -- some routines, and others behind them
-  pub are_both : (a b : List Planned) (rs ss ts : List Routine) (p q r : List Tree) → AreRoutines templates a rs ss p q → AreRoutines templates b ss ts q r → AreRoutines templates (a ++ b) rs ts p r
-  are_both a b rs ss ts p q r h g = λ left.
+  pub all_both : (a b : List Planned) (rs ss ts : List Routine) (p q r : List Tree) → AllLed templates a rs ss p q → AllLed templates b ss ts q r → AllLed templates (a ++ b) rs ts p r
+  all_both a b rs ss ts p q r h g = λ left.
       routines_both ((a ++ b) ++ left) (b ++ left) left rs ss ts p q r (routines_of (a ++ (b ++ left)) ((a ++ b) ++ left) (b ++ left) rs ss p q (sym (append_assoc a b left)) (h (b ++ left))) (g left)
+
+  pub all_done : (cs : List Planned) (rs ss : List Routine) (p q : List Tree) → AllLed templates cs rs ss p q → AreRoutines templates cs rs ss p q
+  all_done cs rs ss p q h = record {
+    shown = sym (append-nil (map (routine_view templates) ss)) ∙ (h []).shown ∙ ap (λ l. map (routine_view templates) rs ++ placed_routines l (length p)) (append-nil cs);
+    pooled = sym (append-nil q) ∙ (h []).pooled ∙ ap (λ l. p ++ routines_values l) (append-nil cs);
+  }
+
+  -- a routine of other names and at a place that is another
+  pub routine_as : (world : World) (order : List Home) (xs ys : List Text) (b c : Body) (sp sq : Spot) (r : Routine) (p q : List Tree) → IsRoutine templates (resolved_routine world order xs b sp) r p q → xs ≡ ys → b ≡ c → sp ≡ sq
+      → IsRoutine templates (resolved_routine world order ys c sq) r p q
+  routine_as world order xs ys b c sp sq r p q h e f g =
+      let P : Planned → Type 0 = λ z. IsRoutine templates z r p q in
+      subst P (ap (λ z. resolved_routine world order z b sp) e ∙ ap (λ z. resolved_routine world order ys z sp) f ∙ ap (resolved_routine world order ys c) g) h

@@ -3,7 +3,7 @@
 ghost use Rattle.std.specs.Prelude.{◌≡◌, ◌<◌, map, length, IfOk, IfErr, if◌then◌else◌};
 ghost use Rattle.jt_inherit.specs.Chain.{macros};
 ghost use Rattle.jt_inherit.specs.Layers.{layer_view};
-ghost use Rattle.jt_inherit.specs.Parts.{macro_view, name_at};
+ghost use Rattle.jt_inherit.specs.Parts.{name_at};
 ghost use Rattle.jt_inherit.specs.View.{chain_view};
 ghost use Rattle.jt_layout.specs.Laid.{IsLaidOut};
 ghost use Rattle.jt_meaning.specs.Layout as layout;
@@ -16,7 +16,7 @@ ghost use Rattle.jt_parse.specs.View.{stmt_view, body_view};
 ghost use Rattle.jt_rules.specs.declared.error.ScopeError.TheVariants as error;
 ghost use Rattle.jt_slots.specs.Slots as slots;
 ghost use Rattle.jt_uses.specs.Names.{texts};
-ghost use Rattle.jt_scopes.specs.Routines.{IsRoutine, AreRoutines};
+ghost use Rattle.jt_scopes.specs.Routines.{IsRoutine, AreRoutines, AllLed};
 ghost use Rattle.jt_scopes.specs.Stated.{Led, stmt_in, layer_in};
 
 use crate::entering::parameters_of;
@@ -161,7 +161,8 @@ fn resolve_layers<'a>(
     ensures refused { IfErr result (λ e. e ≡ error.NoMemory) }
 {
     for (place, layer) in layers.iter().enumerate() {
-        resolve_layer(alloc, scope, layer, place + 1 == layers.len(), done, pool)?;
+        let is_root = place + 1 == layers.len();
+        resolve_layer(alloc, scope, layer, is_root, done, pool)?;
     }
     Ok(())
 }
@@ -196,7 +197,7 @@ fn resolve_macros<'a>(
     pool: &mut Vec<Value>,
 ) -> Result<(), ScopeError>
     requires { IsLaidOut scope.now }
-    ensures put { IfOk result (λ u. AreRoutines (templates_in scope.now) (map (resolve.macro_routine (world_in scope.now) (order_in scope.now) (home_in scope.now)) (macros (world_in scope.now).sources (home_in scope.now)))
+    ensures put { IfOk result (λ u. AllLed (templates_in scope.now) (map (resolve.macro_routine (world_in scope.now) (order_in scope.now) (home_in scope.now)) (macros (world_in scope.now).sources (home_in scope.now)))
         routines.old.items routines.new.items (values pool.old) (values pool.new)) }
     ensures refused { IfErr result (λ e. e ≡ error.NoMemory) }
 {
@@ -209,20 +210,33 @@ fn resolve_macros<'a>(
     Ok(())
 }
 
+/// The same names in memory of their own.
+fn names_again<'a>(alloc: Global, names: &[&'a str]) -> Result<Vec<&'a str>, ScopeError>
+    ensures same { IfOk result (λ ks. texts ks.items ≡ texts names.now) }
+    ensures refused { IfErr result (λ e. e ≡ error.NoMemory) }
+{
+    let mut found = Vec::with_capacity(alloc, names.len())?;
+    for name in names {
+        found.push(*name)?;
+    }
+    Ok(found)
+}
+
 /// The parameters of a block's bodies.
-fn block_parameters<'a>(alloc: Global, scope: &Scope<'a>, name: &str) -> Result<Vec<&'a str>, ScopeError>
+fn block_parameters<'a>(
+    alloc: Global,
+    scope: &Scope<'a>,
+    name: &str,
+) -> Result<Vec<&'a str>, ScopeError>
     requires { IsLaidOut scope.now }
     ensures same { IfOk result (λ ks. texts ks.items ≡ layout.block_parameters (world_in scope.now) (order_in scope.now) (home_in scope.now) name.now) }
     ensures refused { IfErr result (λ e. e ≡ error.NoMemory) }
 {
     let here = &scope.homes[scope.home];
-    let mut found = Vec::new(alloc);
-    if here.scoped.place(name).is_some() {
-        for parameter in here.scope_names.iter() {
-            found.push(*parameter)?;
-        }
+    match here.scoped.place(name) {
+        Some(_) => names_again(alloc, &here.scope_names),
+        None => Ok(Vec::new(alloc)),
     }
-    Ok(found)
 }
 
 /// Resolves the bodies of a chain's blocks, behind other routines.
@@ -233,16 +247,18 @@ fn resolve_blocks<'a>(
     pool: &mut Vec<Value>,
 ) -> Result<(), ScopeError>
     requires { IsLaidOut scope.now }
-    ensures put { IfOk result (λ u. AreRoutines (templates_in scope.now) (programs.body_routines (world_in scope.now) (order_in scope.now) (home_in scope.now) (numbered_bodies (world_in scope.now) (home_in scope.now)))
+    ensures put { IfOk result (λ u. AllLed (templates_in scope.now) (programs.body_routines (world_in scope.now) (order_in scope.now) (home_in scope.now) (numbered_bodies (world_in scope.now) (home_in scope.now)))
         routines.old.items routines.new.items (values pool.old) (values pool.new)) }
     ensures refused { IfErr result (λ e. e ≡ error.NoMemory) }
 {
     let here = &scope.homes[scope.home];
     for (place, block) in here.blocks.iter().enumerate() {
         let spot = Spot {
+            template: block.template,
             escaping: block.escaping,
             body: Some(place),
-            ..top_spot(scope, block.template)
+            frames: &[],
+            free: 0,
         };
         let parameters = block_parameters(alloc, scope, block.name)?;
         routines.push(resolve_routine(alloc, scope, &spot, block.body, parameters, pool)?)?;

@@ -1,4 +1,4 @@
-use Rattle.std.proofs.Common.{◌≡◌, refl, ℕ, ◌<◌, List, [], length, sym, ap, ◌∙◌, subst, false, Option}
+use Rattle.std.proofs.Common.{◌≡◌, refl, ℕ, ◌<◌, List, [], length, sym, ap, ◌∙◌, subst, false, not, Option}
 use Rattle.std.specs.Option.{is_none}
 use Rattle.std.proofs.lemmas.Result.{IfOk-weaker}
 use Rattle.jt_parse.specs.Trees.{Text}
@@ -16,7 +16,7 @@ returns-in_default-clause-put c =
     let scope = c.args.scope.now in
     let x = c.args.name.now in
     let T = templates_in scope in
-    let there : is_none ((world_in scope).sources x) ≡ false = sym (c.requires.sources x) ∙ ap is_none (sym c.place.ensures) ∙ sym c.is_none.ensures ∙ c.if-is_none.false in
+    let there : is_none ((world_in scope).sources x) ≡ false = sym (c.requires.sources x) ∙ ap is_none (sym c.place.ensures) ∙ ap not (c.is_none.ensures ∙ ap not c.if-is_none.false) in
     let P : Option ℕ → Type 0 = IsChainAt (order_in scope) x in
     let absent = subst P (sym c.place-2.ensures ∙ c.in_default.is) (c.requires.chains x) in
     IfOk-weaker c.put_run.result _ _ (λ u h missing p. led_of T _ _ _ _ _ _
@@ -33,7 +33,7 @@ returns-clause-put c =
     let order = order_in scope in
     let i = c.in-Some.place in
     let chain = c.index-there.result.now in
-    let there : is_none (world.sources x) ≡ false = sym (c.requires.sources x) ∙ ap is_none (sym c.place.ensures) ∙ sym c.is_none.ensures ∙ c.if-is_none.false in
+    let there : is_none (world.sources x) ≡ false = sym (c.requires.sources x) ∙ ap is_none (sym c.place.ensures) ∙ ap not (c.is_none.ensures ∙ ap not c.if-is_none.false) in
     let P : Option ℕ → Type 0 = IsChainAt order x in
     let at = subst P (sym c.place-2.ensures ∙ c.in-Some.is) (c.requires.chains x) in
     let Q : ℕ → Type 0 = λ n. i < n in

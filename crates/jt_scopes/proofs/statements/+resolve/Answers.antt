@@ -1,4 +1,4 @@
-use Rattle.std.proofs.Common.{◌≡◌, ℕ, ◌+◌, List, drop, sym, ap, ◌∙◌, arith}
+use Rattle.std.proofs.Common.{◌≡◌, ℕ, ◌+◌, List, drop, sym, ap, ◌∙◌, arith, rules}
 use Rattle.std.proofs.lemmas.List.{at_drop_all}
 use Rattle.std.proofs.lemmas.Result.{IfOk-weaker}
 use Rattle.jt_expr.specs.View.{expr_view, pairs_view}
@@ -57,19 +57,19 @@ resolve_scoped-returns-clause-led t c =
     let b = body_view c.args.body.now in
     let sp = spot_in scope spot in
     let same = ap texts c.deref.ensures.value ∙ c.in_ok-names.ensures in
-    IfOk-weaker c.resolve_body.result _ _ (λ u h. scope_led scope b sp _ _ _ _ _ _ (c.in_ok-inner.ensures.bound scope _ c.deref-2.ensures.value ∙ ap (λ xs. bound_all xs sp) c.in_ok-names.ensures)
+    IfOk-weaker c.resolve_body.result _ _ (λ u h. scope_led scope b sp (record spot { frames = c.deref-2.result; free = c.in_ok-inner.inner.free }) _ _ _ _ _ (c.in_ok-inner.ensures.bound scope c.deref-2.result c.deref-2.ensures.value ∙ ap (λ xs. bound_all xs sp) c.in_ok-names.ensures)
     (copies_as scope sp (texts c.deref.result.now) b _ _ _ same (λ behind. c.in_ok-put_copies.ensures.put behind (values c.args.pool.now))) h) c.resolve_body.ensures.led
 
 pub resolve_within-returns-clause-led : goal.resolve_within-returns-clause-led
 resolve_within-returns-clause-led t c =
     let scope = c.args.scope.now in
-    IfOk-weaker c.resolve_scoped.result _ _ (λ u h. scoped_as scope (body_view c.args.body.now) _ _ _ _ _ _ (c.in_ok-inner.ensures.bound scope _ c.deref.ensures.value) h) c.resolve_scoped.ensures.led
+    IfOk-weaker c.resolve_scoped.result _ _ (λ u h. scoped_as scope (body_view c.args.body.now) _ _ _ _ _ _ (c.in_ok-inner.ensures.bound scope c.deref.result c.deref.ensures.value) h) c.resolve_scoped.ensures.led
 
 pub resolve_turn-returns-clause-led : goal.resolve_turn-returns-clause-led
 resolve_turn-returns-clause-led t c =
     let scope = c.args.scope.now in
     let sp = spot_in scope c.args.spot.now in
-    turn_as scope (body_view c.args.body.now) _ _ _ _ _ _ _ _ (c.in_ok-inner.ensures.bound scope _ c.deref.ensures.value ∙ ap (λ xs. bound_all xs sp) c.in_ok-texts_of.ensures.same) c.in_ok-asked.ensures.asked c.in_ok-turn.ensures.led
+    turn_as scope (body_view c.args.body.now) _ _ _ _ _ _ _ _ (c.in_ok-inner.ensures.bound scope c.deref.result c.deref.ensures.value ∙ ap (λ xs. bound_all xs sp) c.in_ok-texts_of.ensures.same) c.in_ok-asked.ensures.asked c.in_ok-turn.ensures.led
 
 -- ---- parts of statements
 
@@ -207,22 +207,22 @@ pub resolve_statement-resolve_branch-requires : goal.resolve_statement-resolve_b
 resolve_statement-resolve_branch-requires t c = (search rules, c.requires)
 
 pub resolve_statement-resolve_whole-requires : goal.resolve_statement-resolve_whole-requires
-resolve_statement-resolve_whole-requires t c = (?, c.requires)
+resolve_statement-resolve_whole-requires t c = (search rules, c.requires)
 
 pub resolve_statement-resolve_turn-requires : goal.resolve_statement-resolve_turn-requires
-resolve_statement-resolve_turn-requires t c = ?
+resolve_statement-resolve_turn-requires t c = (search rules, c.requires)
 
 pub resolve_statement-resolve_whole-requires-in-For : goal.resolve_statement-resolve_whole-requires-in-For
 resolve_statement-resolve_whole-requires-in-For t c = (search rules, c.requires)
 
 pub resolve_statement-resolve_inside-requires : goal.resolve_statement-resolve_inside-requires
-resolve_statement-resolve_inside-requires t c = (search rules, c.requires)
+resolve_statement-resolve_inside-requires t c = (search rules depth 12, c.requires)
 
 pub resolve_statement-resolve_within-requires : goal.resolve_statement-resolve_within-requires
-resolve_statement-resolve_within-requires t c = (search rules depth 12, c.requires)
+resolve_statement-resolve_within-requires t c = (search rules, c.requires)
 
 pub resolve_statement-resolve_filtered-requires : goal.resolve_statement-resolve_filtered-requires
-resolve_statement-resolve_filtered-requires t c = (grind arith, c.requires)
+resolve_statement-resolve_filtered-requires t c = (search rules, c.requires)
 
 pub resolve_statement-resolve_scoped-requires : goal.resolve_statement-resolve_scoped-requires
-resolve_statement-resolve_scoped-requires t c = (omega arith, c.requires)
+resolve_statement-resolve_scoped-requires t c = (search rules, c.requires)
