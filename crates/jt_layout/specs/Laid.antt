@@ -4,8 +4,7 @@ use Rattle.std.specs.Str.{bytes_eq}
 use Rattle.std.specs.Option.{is_some, is_none}
 use Rattle.jt_parse.specs.Texts.{among}
 use Rattle.jt_parse.specs.Trees.{Text}
-use Rattle.jt_parse.specs.View.{parameters_view}
-use Rattle.jt_inherit.specs.Chain.{Home, Template, BlockBody, MacroBody, macros, macro_of, all_bodies}
+use Rattle.jt_inherit.specs.Chain.{Home, Template, BlockBody, macros, macro_of, all_bodies}
 use Rattle.jt_inherit.specs.Parts.{macro_view, block_view}
 use Rattle.jt_inherit.specs.Places.{home_at}
 use Rattle.jt_inherit.specs.View.{chain_view}

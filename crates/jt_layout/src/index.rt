@@ -1,11 +1,14 @@
 //! Places of names.
 
 ghost use Rattle.std.specs.Prelude.{◌≡◌, IfOk, IfErr, Some, None, if◌then◌else◌};
+ghost use Rattle.jt_uses.specs.Names.{texts};
 ghost use Rattle.std.specs.Str.{bytes_eq};
 ghost use Rattle.jt_parse.specs.Trees.{Text};
 ghost use Rattle.jt_rules.specs.declared.error.ScopeError.TheVariants as error;
 ghost use Rattle.jt_layout.specs.Names.{place_in};
+ghost use Rattle.jt_layout.specs.Places.{first_of};
 
+use crate::count::more;
 use jt_rules::ScopeError;
 use std::alloc::Global;
 use std::collections::BTreeMap;
@@ -24,6 +27,20 @@ impl<'a> Index<'a> {
         Index {
             places: BTreeMap::new(alloc),
         }
+    }
+
+    /// The places of names, from one on; the first of a name counts.
+    pub(crate) fn of(alloc: Global, names: &[&'a str], first: usize) -> Result<Self, ScopeError>
+        ensures placed { IfOk result (λ i. (x : Text) → place_in i.places x ≡ first_of x first (texts names.now)) }
+        ensures refused { IfErr result (λ e. e ≡ error.NoMemory) }
+    {
+        let mut index = Index::new(alloc);
+        let mut left = names.len();
+        while left > 0 {
+            left -= 1;
+            index.put(names[left], more(first, left)?)?;
+        }
+        Ok(index)
     }
 
     /// Gives a name its place, in the stead of an earlier one.

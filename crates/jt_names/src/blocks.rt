@@ -14,8 +14,8 @@ ghost use Rattle.jt_slots.specs.Pool.{Constant};
 ghost use Rattle.jt_slots.specs.Slots as slots;
 ghost use Rattle.jt_slots.specs.View.{expr_view};
 
+use crate::lookup::more;
 use crate::pool::add_value;
-use crate::reading::more;
 use crate::rows::{first_locals, reads};
 use crate::spot::Spot;
 use jt_layout::Scope;

@@ -10,7 +10,7 @@ ghost use Rattle.jt_names.specs.Scoped.{world_in, order_in, home_in};
 ghost use Rattle.jt_rules.specs.World.{World};
 ghost use Rattle.jt_rules.specs.declared.error.ScopeError.TheVariants as error;
 
-use crate::reading::more;
+use crate::lookup::more;
 use jt_expr::Expr;
 use jt_layout::Scope;
 use jt_parse::Parameter;

@@ -1,6 +1,6 @@
 //! Parameters that no argument by place fills.
 
-ghost use Rattle.std.specs.Prelude.{◌≡◌, List, IfOk, IfErr};
+ghost use Rattle.std.specs.Prelude.{◌≡◌, List, drop, IfOk, IfErr};
 ghost use Rattle.jt_value.specs.Tree.{Tree};
 ghost use Rattle.jt_value.specs.View.{view};
 ghost use Rattle.jt_expr.specs.View as written;
@@ -17,8 +17,8 @@ ghost use Rattle.jt_slots.specs.Slots as slots;
 ghost use Rattle.jt_slots.specs.View.{expr_view};
 
 use crate::forms::literal_value;
+use crate::lookup::{kept, more, value_or};
 use crate::pool::add_value;
-use crate::reading::{kept, more, value_or};
 use jt_expr::Expr;
 use jt_parse::Parameter;
 use jt_rules::ScopeError;
@@ -40,18 +40,24 @@ pub fn fill(
         RowLeads (resolve.filled (parameters_view parameters.now) given first_default (resolve.locals_from free (keywords (written.pairs_view pairs.now)))) slots.none done.old.items done.new.items p p) }
     ensures refused { IfErr result (λ e. e ≡ error.NoMemory) }
 {
-    let mut left = given;
-    let mut default = first_default;
-    for parameter in parameters {
-        if left > 0 {
-            left -= 1;
-        } else {
-            let slot = kept(pairs, free, parameter.name.as_str())?;
-            done.push((None, value_or(slot, default)))?;
-        }
+    let mut default = more(first_default, given)?;
+    for parameter in behind(parameters, given) {
+        let slot = kept(pairs, free, parameter.name.as_str())?;
+        done.push((None, value_or(slot, default)))?;
         default = more(default, 1)?;
     }
     Ok(())
+}
+
+/// The parameters behind so many.
+fn behind(parameters: &[Parameter], given: usize) -> &[Parameter]
+    ensures { result.now ≡ drop given parameters.now }
+{
+    if given < parameters.len() {
+        &parameters[given..]
+    } else {
+        &parameters[parameters.len()..]
+    }
 }
 
 /// Fills the parameters of a filter behind those that are given by place, up to the last one that
@@ -70,16 +76,14 @@ pub fn fill_some(
         done.old.items done.new.items (values pool.old) (values pool.new)) }
     ensures refused { IfErr result (λ e. e ≡ error.NoMemory) }
 {
-    let mut left = given;
-    for (place, parameter) in parameters.iter().enumerate() {
-        if left > 0 {
-            left -= 1;
-        } else if is_some_given(&parameters[place..], pairs) {
-            let value = given_or_default(alloc, parameter, pairs, free, pool)?;
-            done.push((None, value))?;
-        } else {
+    let rest = behind(parameters, given);
+    for (place, parameter) in rest.iter().enumerate() {
+        let left = &rest[place..];
+        if !is_some_given(left, pairs) {
             return Ok(());
         }
+        let value = given_or_default(alloc, parameter, pairs, free, pool)?;
+        done.push((None, value))?;
     }
     Ok(())
 }

@@ -9,7 +9,7 @@ ghost use Rattle.jt_slots.specs.Loops.{field_named};
 ghost use Rattle.jt_slots.specs.View.{field_view, expr_view};
 ghost use Rattle.jt_names.specs.Scoped.{IsPlaced};
 
-use crate::reading::no_value;
+use crate::lookup::no_value;
 use jt_expr::Expr;
 use jt_slots::{Field, SExpr};
 

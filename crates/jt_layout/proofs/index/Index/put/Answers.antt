@@ -1,7 +1,4 @@
-use Rattle.std.proofs.Common.{◌≡◌, Some, ◌∙◌, Bool, true, false, if◌then◌else◌, Option, ℕ, refl, cond}
-use Rattle.std.specs.Str.{bytes_eq}
 use Rattle.std.proofs.lemmas.Map.Text.{btree_map_updates_str}
-use Rattle.jt_layout.specs.Names.{place_in}
 use Rattle.jt_layout.proofs.index.Index.put.Goals as goal
 
 pub returns-clause-put : goal.returns-clause-put
