@@ -1,19 +1,20 @@
 -- The bodies of a chain's blocks by their places.
 use Rattle.std.proofs.Common.{◌≡◌, ℕ, zero, suc, ◌+◌, ◌<◌, ◌≤◌, List, [], ◌∷◌, ◌++◌, length, map, drop, get_or, refl, sym, ap, ◌∙◌, subst, arith, Bool, Option, Some, None, zero-add, add-zero, add-one}
-use Rattle.std.proofs.lemmas.List.{length-map, at_drop_all}
+use Rattle.std.proofs.lemmas.List.{length-map, at_drop_all, drop_more}
 use Rattle.jt_value.specs.Tree.{Tree}
 use Rattle.jt_parse.specs.Trees.{Text}
-use Rattle.jt_parse.specs.View.{body_view}
-use Rattle.jt_inherit.specs.Chain.{BlockBody, all_bodies}
-use Rattle.jt_inherit.specs.Parts.{block_view, name_at}
+use Rattle.jt_parse.specs.View.{body_view, parameters_view}
+use Rattle.jt_inherit.specs.Chain.{BlockBody, MacroBody, all_bodies}
+use Rattle.jt_inherit.specs.Parts.{block_view, macro_view, name_at}
 use Rattle.jt_inherit.specs.View.{chain_view}
 use Rattle.jt_inherit.specs.declared.parts.Block.{Block}
+use Rattle.jt_inherit.specs.declared.parts.Macro.{Macro}
 use Rattle.jt_slots.specs.declared.program.Routine.{Routine}
 use Rattle.jt_inherit.specs.Chain.{Template}
 use Rattle.jt_meaning.specs.Layout.{counted_from, numbered_bodies, block_parameters}
 use Rattle.jt_meaning.specs.Programs.{body_routines}
 use Rattle.jt_meaning.specs.Resolve as resolve
-use Rattle.jt_meaning.specs.Resolve.{resolved_routine}
+use Rattle.jt_meaning.specs.Resolve.{resolved_routine, macro_routine, top_spot}
 use Rattle.jt_layout.specs.declared.scope.Scope.{Scope}
 use Rattle.jt_names.specs.Scoped.{world_in, order_in, home_in, templates_in, globals_in, part_at, part_from}
 use Rattle.jt_scopes.specs.Routines.{IsRoutine, RoutinesLead}
@@ -63,3 +64,21 @@ module _ (s : Scope) (us : List Block) (all : map (block_view (chain_view s.chai
       routines_of (templates_in s) _ _ (body_routines (world_in s) (order_in s) (home_in s) (drop (i + 1) numbered) ++ left) rs ss p q (sym (ap (λ z. body_routines (world_in s) (order_in s) (home_in s) z ++ left) next))
       (routine_lead (templates_in s) _ (body_routines (world_in s) (order_in s) (home_in s) (drop (i + 1) numbered) ++ left) r rs ss p q
       (routine_as (templates_in s) (world_in s) (order_in s) xs (block_parameters (world_in s) (order_in s) (home_in s) b.name.now) (body_view b.body.now) (body_view b.body.now) (at (drop i numbered)) (at ((i, shown b) ∷ drop (i + 1) numbered)) r p q made same refl (ap at next)) pushed)
+
+-- the routine of a macro
+pub macro_lead : (s : Scope) (ms : List Macro) (i : ℕ) (d : Macro) (xs : List Text) (sp : resolve.Spot) (left : List Planned) (r : Routine) (rs ss : List Routine) (p q : List Tree) → i < length ms
+    → xs ≡ map (λ z. z.name) (parameters_view (get_or ms i d).parameters.now) → sp ≡ top_spot (world_in s) (order_in s) (home_in s) (name_at (chain_view s.chain.now).templates (get_or ms i d).template)
+    → IsRoutine (templates_in s) (resolved_routine (world_in s) (order_in s) xs (body_view (get_or ms i d).body.now) sp) r p q → ss ≡ rs ++ r ∷ []
+    → RoutinesLead (templates_in s) (map (λ m. macro_routine (world_in s) (order_in s) (home_in s) (macro_view (chain_view s.chain.now).templates m)) (drop i ms) ++ left)
+    (map (λ m. macro_routine (world_in s) (order_in s) (home_in s) (macro_view (chain_view s.chain.now).templates m)) (drop (i + 1) ms) ++ left) rs ss p q
+macro_lead s ms i d xs sp left r rs ss p q lt same at made pushed =
+    let F = λ (m : Macro). macro_routine (world_in s) (order_in s) (home_in s) (macro_view (chain_view s.chain.now).templates m) in
+    let x = get_or ms i d in
+    let rest = map F (drop (i + 1) ms) ++ left in
+    routines_of (templates_in s) (F x ∷ rest) (map F (drop i ms) ++ left) rest rs ss p q (sym (ap (λ (z : List Macro). map F z ++ left) (drop_more ms i d lt)))
+    (routine_lead (templates_in s) (F x) rest r rs ss p q
+    (routine_as (templates_in s) (world_in s) (order_in s) xs (map (λ z. z.name) (parameters_view x.parameters.now)) (body_view x.body.now) (body_view x.body.now) sp (top_spot (world_in s) (order_in s) (home_in s) (name_at (chain_view s.chain.now).templates x.template)) r p q made same refl at) pushed)
+
+pub macros_same : (f : Macro → MacroBody) (g : MacroBody → Planned) (xs : List Macro) → map g (map f xs) ≡ map (λ x. g (f x)) xs
+macros_same f g [] = refl
+macros_same f g (x ∷ xs) = ap (λ z. g (f x) ∷ z) (macros_same f g xs)

@@ -13,6 +13,13 @@ use jt_names::more;
 use jt_rules::ScopeError;
 use jt_slots::{SExpr, SStmt, Slot, Targets};
 
+/// The larger one of two numbers.
+pub fn larger(left: usize, right: usize) -> usize
+    ensures { result ≡ max left right }
+{
+    left.max(right)
+}
+
 /// The locals of a slot.
 fn slot_locals(slot: Slot) -> Result<usize, ScopeError>
     ensures counted { IfOk result (λ n. n ≡ locals.slot_locals (slot_view slot)) }
@@ -53,7 +60,7 @@ fn slots_locals(slots: &[Option<Slot>]) -> Result<usize, ScopeError>
 {
     let mut most = 0;
     for slot in slots {
-        most = most.max(target_locals(*slot)?);
+        most = larger(most, target_locals(*slot)?);
     }
     Ok(most)
 }
@@ -82,16 +89,16 @@ fn expr_locals(expr: &SExpr) -> Result<usize, ScopeError>
         SExpr::Made(_, row) => row_locals(row),
         SExpr::Conjunction(left, right) => {
             let first = expr_locals(left)?;
-            Ok(first.max(expr_locals(right)?))
+            Ok(larger(first, expr_locals(right)?))
         }
         SExpr::Disjunction(left, right) => {
             let first = expr_locals(left)?;
-            Ok(first.max(expr_locals(right)?))
+            Ok(larger(first, expr_locals(right)?))
         }
         SExpr::Choice(condition, value, other) => {
             let asked = expr_locals(condition)?;
             let first = expr_locals(value)?;
-            Ok(asked.max(first.max(expr_locals(other)?)))
+            Ok(larger(asked, larger(first, expr_locals(other)?)))
         }
         SExpr::Invoke(_, _, row) => row_locals(row),
     }
@@ -106,7 +113,7 @@ fn row_locals(row: &[(Option<usize>, SExpr)]) -> Result<usize, ScopeError>
     let mut most = 0;
     for (kept, expr) in row {
         let given = expr_locals(expr)?;
-        most = most.max(given.max(aside_locals(*kept)?));
+        most = larger(most, larger(given, aside_locals(*kept)?));
     }
     Ok(most)
 }
@@ -133,13 +140,13 @@ fn stmt_locals(statement: &SStmt) -> Result<usize, ScopeError>
         SStmt::Print(_, _, expr) => expr_locals(expr),
         SStmt::Assign(_, targets, expr) => {
             let taken = targets_locals(targets)?;
-            Ok(taken.max(expr_locals(expr)?))
+            Ok(larger(taken, expr_locals(expr)?))
         }
         SStmt::If(branches, other) => {
             let mut most = body_locals(other)?;
             for (_, condition, body) in branches {
                 let asked = expr_locals(condition)?;
-                most = most.max(asked.max(body_locals(body)?));
+                most = larger(most, larger(asked, body_locals(body)?));
             }
             Ok(most)
         }
@@ -149,11 +156,11 @@ fn stmt_locals(statement: &SStmt) -> Result<usize, ScopeError>
             let asked = condition_locals(condition)?;
             let turn = body_locals(body)?;
             let last = body_locals(other)?;
-            Ok(taken.max(given.max(asked).max(turn.max(last))))
+            Ok(larger(taken, larger(larger(given, asked), larger(turn, last))))
         }
         SStmt::Capture(_, slot, body) => {
             let kept = slot_locals(*slot)?;
-            Ok(kept.max(body_locals(body)?))
+            Ok(larger(kept, body_locals(body)?))
         }
         SStmt::Run(_, row) => row_locals(row),
     }
@@ -167,7 +174,7 @@ pub fn body_locals(body: &[SStmt]) -> Result<usize, ScopeError>
 {
     let mut most = 0;
     for statement in body {
-        most = most.max(stmt_locals(statement)?);
+        most = larger(most, stmt_locals(statement)?);
     }
     Ok(most)
 }

@@ -20,7 +20,7 @@ ghost use Rattle.jt_scopes.specs.Routines.{IsRoutine, AreRoutines, AllLed};
 ghost use Rattle.jt_scopes.specs.Stated.{Led, stmt_in, layer_in};
 
 use crate::entering::parameters_of;
-use crate::locals::body_locals;
+use crate::locals::{body_locals, larger};
 use crate::statements::{resolve_body, resolve_statement, resolve_within};
 use jt_inherit::Layer;
 use jt_layout::Scope;
@@ -61,7 +61,7 @@ fn resolve_routine<'a>(
     let count = parameters.len();
     let mut done = Vec::new(alloc);
     resolve_within(alloc, scope, spot, body, parameters, &mut done, pool)?;
-    let locals = count.max(body_locals(&done)?);
+    let locals = larger(count, body_locals(&done)?);
     Ok(Routine {
         parameters: count,
         locals,

@@ -11,7 +11,7 @@ pub row_locals-loop-kept-preserved : goal.row_locals-loop-kept-preserved
 row_locals-loop-kept-preserved t c =
     let l = c.loop-kept in
     row_step c.args.row.now l.kept-index c.loop-kept-item.result c.in_ok-given.given c.in_ok-aside_locals.field-0 l.most _ _ c.loop-kept-test.true c.loop-kept-item.is c.in_ok-given.ensures.counted c.in_ok-aside_locals.ensures.counted
-    (c.max-most.ensures ∙ ap (max l.most) c.max.ensures) l.invariant
+    (c.larger-most.ensures ∙ ap (max l.most) c.larger.ensures) l.invariant
 
 pub expr_locals-returns-in-Made-clause-counted : goal.expr_locals-returns-in-Made-clause-counted
 expr_locals-returns-in-Made-clause-counted t c =

@@ -1,4 +1,4 @@
-use Rattle.std.proofs.Common.{◌≡◌, ◌+◌, List, map, drop, sym, ap, ◌∙◌, arith}
+use Rattle.std.proofs.Common.{◌≡◌, refl, ◌+◌, List, map, drop, sym, ap, ◌∙◌, arith}
 use Rattle.std.proofs.lemmas.List.{at_drop_all}
 use Rattle.jt_inherit.specs.Layers.{layer_view}
 use Rattle.jt_inherit.specs.View.{chain_view}
@@ -23,5 +23,5 @@ loop-place-preserved c = λ left.
     let ts = (chain_view scope.chain.now).templates in
     let rest = resolved_chain (world_in scope) (order_in scope) (home_in scope) (map (layer_view ts) (drop (l.place + 1) c.args.layers.now)) in
     lead_both (templates_in scope) _ _ _ _ _ _ _ _ _ (l.invariant left)
-    (lead_of (templates_in scope) _ _ _ _ _ _ _ (layers_next scope ts c.args.layers.now l.place _ _ left c.loop-place-test.true (root_here ts c.args.layers.now l.place _ c.loop-place-test.true c.eq-is_root.ensures))
+    (lead_of (templates_in scope) _ _ _ _ _ _ _ (layers_next scope ts c.args.layers.now l.place _ _ left c.loop-place-test.true (root_here ts c.args.layers.now l.place _ c.loop-place-test.true refl))
     (c.in_ok-resolve_layer.ensures.led (followed rest left)))

@@ -1,4 +1,4 @@
-use Rattle.std.proofs.Common.{◌≡◌, ℕ, ◌+◌, List, drop, sym, ap, ◌∙◌, arith, rules}
+use Rattle.std.proofs.Common.{◌≡◌, ℕ, ◌+◌, List, drop, sym, ap, ◌∙◌, arith}
 use Rattle.std.proofs.lemmas.List.{at_drop_all}
 use Rattle.std.proofs.lemmas.Result.{IfOk-weaker}
 use Rattle.jt_expr.specs.View.{expr_view, pairs_view}
@@ -15,6 +15,7 @@ use Rattle.jt_scopes.specs.Stated.{line_in, stmt_in, body_in, choice_in, scoped_
 use Rattle.jt_scopes.proofs.Leading.{lead_both, lead_of, lead_left, lead_same, led_of, led_both, led_begun, followed_again, choice_same, choice_other, branch_as, branch_led}
 use Rattle.jt_scopes.proofs.Placed.{place_shown}
 use Rattle.jt_scopes.proofs.Shown.{Branch, statements_left, branches_left, view-Data, view-Print, view-Set, view-FilterBlock, view-Macro, view-Include, view-Extends, view-Block}
+use Rattle.jt_scopes.proofs.Smaller.{branch_smaller, other_smaller, turn_smaller, last_smaller, text_smaller, with_smaller, filtered_smaller, autoescape_smaller}
 use Rattle.jt_scopes.proofs.Stating.{stmt_as, filter_shown, if_shown, loop_shown, set_block_shown, with_shown, autoescape_shown, values_led, copies_as, scope_led, scoped_as, turn_as}
 use Rattle.jt_scopes.proofs.statements.+resolve.Goals as goal
 
@@ -204,25 +205,41 @@ resolve_statement-returns-in-Block-clause-led t c =
 -- ---- each part is smaller
 
 pub resolve_statement-resolve_branch-requires : goal.resolve_statement-resolve_branch-requires
-resolve_statement-resolve_branch-requires t c = (search rules, c.requires)
+resolve_statement-resolve_branch-requires t c =
+    let less = branch_smaller c.args.statement.now c.in-If.branches c.in-If.other c.deref-line-items.result.now c.loop-line.line-index c.loop-line-item.result c.deref-in-loop-line.result.now c.in-If.is c.deref-line-items.ensures.value c.loop-line-test.true c.loop-line-item.is c.deref-in-loop-line.ensures.value in
+    (omega (arith, less), c.requires)
 
 pub resolve_statement-resolve_whole-requires : goal.resolve_statement-resolve_whole-requires
-resolve_statement-resolve_whole-requires t c = (search rules, c.requires)
+resolve_statement-resolve_whole-requires t c =
+    let less = other_smaller c.args.statement.now c.in-If.branches c.in-If.other c.deref-in-If.result.now c.in-If.is c.deref-in-If.ensures.value in
+    (omega (arith, less), c.requires)
 
 pub resolve_statement-resolve_turn-requires : goal.resolve_statement-resolve_turn-requires
-resolve_statement-resolve_turn-requires t c = (search rules, c.requires)
+resolve_statement-resolve_turn-requires t c =
+    let less = turn_smaller c.args.statement.now c.in-For.line c.in-For.names c.in-For.value c.in-For.condition c.in-For.body c.in-For.other c.deref-in-For.result.now c.in-For.is c.deref-in-For.ensures.value in
+    (omega (arith, less), c.requires)
 
 pub resolve_statement-resolve_whole-requires-in-For : goal.resolve_statement-resolve_whole-requires-in-For
-resolve_statement-resolve_whole-requires-in-For t c = (search rules, c.requires)
+resolve_statement-resolve_whole-requires-in-For t c =
+    let less = last_smaller c.args.statement.now c.in-For.line c.in-For.names c.in-For.value c.in-For.condition c.in-For.body c.in-For.other c.deref-in-For-3.result.now c.in-For.is c.deref-in-For-3.ensures.value in
+    (omega (arith, less), c.requires)
 
 pub resolve_statement-resolve_inside-requires : goal.resolve_statement-resolve_inside-requires
-resolve_statement-resolve_inside-requires t c = (search rules depth 12, c.requires)
+resolve_statement-resolve_inside-requires t c =
+    let less = text_smaller c.args.statement.now c.in-SetBlock.field-0 c.in-SetBlock.name c.in-SetBlock.body c.deref-in-SetBlock.result.now c.in-SetBlock.is c.deref-in-SetBlock.ensures.value in
+    (omega (arith, less), c.requires)
 
 pub resolve_statement-resolve_within-requires : goal.resolve_statement-resolve_within-requires
-resolve_statement-resolve_within-requires t c = (search rules, c.requires)
+resolve_statement-resolve_within-requires t c =
+    let less = with_smaller c.args.statement.now c.in-With.line c.in-With.pairs c.in-With.body c.deref-in-With-3.result.now c.in-With.is c.deref-in-With-3.ensures.value in
+    (omega (arith, less), c.requires)
 
 pub resolve_statement-resolve_filtered-requires : goal.resolve_statement-resolve_filtered-requires
-resolve_statement-resolve_filtered-requires t c = (search rules, c.requires)
+resolve_statement-resolve_filtered-requires t c =
+    let less = filtered_smaller c.args.statement.now c.in-FilterBlock.line c.in-FilterBlock.filterings c.in-FilterBlock.body c.deref-in-FilterBlock.result.now c.in-FilterBlock.is c.deref-in-FilterBlock.ensures.value in
+    (omega (arith, less), c.requires)
 
 pub resolve_statement-resolve_scoped-requires : goal.resolve_statement-resolve_scoped-requires
-resolve_statement-resolve_scoped-requires t c = (search rules, c.requires)
+resolve_statement-resolve_scoped-requires t c =
+    let less = autoescape_smaller c.args.statement.now c.in-Autoescape.field-0 c.in-Autoescape.escaping c.in-Autoescape.body c.deref-in-Autoescape.result.now c.in-Autoescape.is c.deref-in-Autoescape.ensures.value in
+    (omega (arith, less), c.requires)
