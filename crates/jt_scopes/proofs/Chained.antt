@@ -46,10 +46,16 @@ root_here ts ls i root lt e =
     e ∙ nil_long (drop (i + 1) ls) (i + 1) (length ls) (omega arith) ∙ sym (nil_same (layer_view ts) (drop (i + 1) ls))
 
 -- of the templates from one on, this one and the others
-pub layers_next : (s : Scope) (ts : List Template) (ls : List Layer) (i : ℕ) (d : Layer) (root : Bool) (left : SBody Constant) → i < length ls → root ≡ is_nil (map (layer_view ts) (drop (i + 1) ls))
+layers_next : (s : Scope) (ts : List Template) (ls : List Layer) (i : ℕ) (d : Layer) (root : Bool) (left : SBody Constant) → i < length ls → root ≡ is_nil (map (layer_view ts) (drop (i + 1) ls))
     → followed (layer_in s (layer_view ts (get_or ls i d)) root) (followed (resolved_chain (world_in s) (order_in s) (home_in s) (map (layer_view ts) (drop (i + 1) ls))) left)
     ≡ followed (resolved_chain (world_in s) (order_in s) (home_in s) (map (layer_view ts) (drop i ls))) left
 layers_next s ts ls i d root left lt e =
     sym (followed_again (layer_in s (layer_view ts (get_or ls i d)) root) (resolved_chain (world_in s) (order_in s) (home_in s) (map (layer_view ts) (drop (i + 1) ls))) left)
     ∙ ap (λ z. followed z left) (chain_next s (layer_view ts (get_or ls i d)) (map (layer_view ts) (drop (i + 1) ls)) root e)
     ∙ ap (λ (l : List Layer). followed (resolved_chain (world_in s) (order_in s) (home_in s) (map (layer_view ts) l)) left) (sym (drop_more ls i d lt))
+
+pub layers_turn : (s : Scope) (ts : List Template) (ls : List Layer) (i : ℕ) (x : Layer) (root : Bool) (left : SBody Constant) → i < length ls → x ≡ get_or ls i x → root ≡ is_nil (map (layer_view ts) (drop (i + 1) ls))
+    → followed (layer_in s (layer_view ts x) root) (followed (resolved_chain (world_in s) (order_in s) (home_in s) (map (layer_view ts) (drop (i + 1) ls))) left)
+    ≡ followed (resolved_chain (world_in s) (order_in s) (home_in s) (map (layer_view ts) (drop i ls))) left
+layers_turn s ts ls i x root left lt is e =
+    ap (λ (z : Layer). followed (layer_in s (layer_view ts z) root) (followed (resolved_chain (world_in s) (order_in s) (home_in s) (map (layer_view ts) (drop (i + 1) ls))) left)) is ∙ layers_next s ts ls i x root left lt e

@@ -53,29 +53,27 @@ module _ (s : Scope) (us : List Block) (all : map (block_view (chain_view s.chai
       at_drop_all (λ (z : List (ℕ × BlockBody)). z) numbered i (omega arith)
 
   -- the routine of a body
-  pub block_routine : (i : ℕ) (d : Block) (xs : List Text) (left : List Planned) (r : Routine) (rs ss : List Routine) (p q : List Tree) → i < length us → xs ≡ block_parameters (world_in s) (order_in s) (home_in s) (get_or us i d).name.now
-      → IsRoutine (templates_in s) (resolved_routine (world_in s) (order_in s) xs (body_view (get_or us i d).body.now) (record {
-      home = home_in s; template = name_at (chain_view s.chain.now).templates (get_or us i d).template; escaping = (get_or us i d).escaping; part = part_at numbered (Some i); table = globals_in s; free = 0 })) r p q
+  pub block_routine : (i : ℕ) (x : Block) (xs : List Text) (left : List Planned) (r : Routine) (rs ss : List Routine) (p q : List Tree) → i < length us → x ≡ get_or us i x → xs ≡ block_parameters (world_in s) (order_in s) (home_in s) x.name.now
+      → IsRoutine (templates_in s) (resolved_routine (world_in s) (order_in s) xs (body_view x.body.now) (record {
+      home = home_in s; template = name_at (chain_view s.chain.now).templates x.template; escaping = x.escaping; part = part_at numbered (Some i); table = globals_in s; free = 0 })) r p q
       → ss ≡ rs ++ r ∷ [] → RoutinesLead (templates_in s) (body_routines (world_in s) (order_in s) (home_in s) (drop i numbered) ++ left) (body_routines (world_in s) (order_in s) (home_in s) (drop (i + 1) numbered) ++ left) rs ss p q
-  block_routine i d xs left r rs ss p q lt same made pushed =
-      let b = get_or us i d in
-      let at = λ (z : List (ℕ × BlockBody)). (let sp : resolve.Spot = record { home = home_in s; template = name_at (chain_view s.chain.now).templates b.template; escaping = b.escaping; part = part_from z; table = globals_in s; free = 0 } in sp) in
-      let next = numbered_next i d lt in
+  block_routine i x xs left r rs ss p q lt is same made pushed =
+      let at = λ (z : List (ℕ × BlockBody)). (let sp : resolve.Spot = record { home = home_in s; template = name_at (chain_view s.chain.now).templates x.template; escaping = x.escaping; part = part_from z; table = globals_in s; free = 0 } in sp) in
+      let next = numbered_next i x lt ∙ ap (λ (z : Block). (i, shown z) ∷ drop (i + 1) numbered) (sym is) in
       routines_of (templates_in s) _ _ (body_routines (world_in s) (order_in s) (home_in s) (drop (i + 1) numbered) ++ left) rs ss p q (sym (ap (λ z. body_routines (world_in s) (order_in s) (home_in s) z ++ left) next))
       (routine_lead (templates_in s) _ (body_routines (world_in s) (order_in s) (home_in s) (drop (i + 1) numbered) ++ left) r rs ss p q
-      (routine_as (templates_in s) (world_in s) (order_in s) xs (block_parameters (world_in s) (order_in s) (home_in s) b.name.now) (body_view b.body.now) (body_view b.body.now) (at (drop i numbered)) (at ((i, shown b) ∷ drop (i + 1) numbered)) r p q made same refl (ap at next)) pushed)
+      (routine_as (templates_in s) (world_in s) (order_in s) xs (block_parameters (world_in s) (order_in s) (home_in s) x.name.now) (body_view x.body.now) (body_view x.body.now) (at (drop i numbered)) (at ((i, shown x) ∷ drop (i + 1) numbered)) r p q made same refl (ap at next)) pushed)
 
 -- the routine of a macro
-pub macro_lead : (s : Scope) (ms : List Macro) (i : ℕ) (d : Macro) (xs : List Text) (sp : resolve.Spot) (left : List Planned) (r : Routine) (rs ss : List Routine) (p q : List Tree) → i < length ms
-    → xs ≡ map (λ z. z.name) (parameters_view (get_or ms i d).parameters.now) → sp ≡ top_spot (world_in s) (order_in s) (home_in s) (name_at (chain_view s.chain.now).templates (get_or ms i d).template)
-    → IsRoutine (templates_in s) (resolved_routine (world_in s) (order_in s) xs (body_view (get_or ms i d).body.now) sp) r p q → ss ≡ rs ++ r ∷ []
+pub macro_lead : (s : Scope) (ms : List Macro) (i : ℕ) (x : Macro) (xs : List Text) (sp : resolve.Spot) (left : List Planned) (r : Routine) (rs ss : List Routine) (p q : List Tree) → i < length ms → x ≡ get_or ms i x
+    → xs ≡ map (λ z. z.name) (parameters_view x.parameters.now) → sp ≡ top_spot (world_in s) (order_in s) (home_in s) (name_at (chain_view s.chain.now).templates x.template)
+    → IsRoutine (templates_in s) (resolved_routine (world_in s) (order_in s) xs (body_view x.body.now) sp) r p q → ss ≡ rs ++ r ∷ []
     → RoutinesLead (templates_in s) (map (λ m. macro_routine (world_in s) (order_in s) (home_in s) (macro_view (chain_view s.chain.now).templates m)) (drop i ms) ++ left)
     (map (λ m. macro_routine (world_in s) (order_in s) (home_in s) (macro_view (chain_view s.chain.now).templates m)) (drop (i + 1) ms) ++ left) rs ss p q
-macro_lead s ms i d xs sp left r rs ss p q lt same at made pushed =
+macro_lead s ms i x xs sp left r rs ss p q lt is same at made pushed =
     let F = λ (m : Macro). macro_routine (world_in s) (order_in s) (home_in s) (macro_view (chain_view s.chain.now).templates m) in
-    let x = get_or ms i d in
     let rest = map F (drop (i + 1) ms) ++ left in
-    routines_of (templates_in s) (F x ∷ rest) (map F (drop i ms) ++ left) rest rs ss p q (sym (ap (λ (z : List Macro). map F z ++ left) (drop_more ms i d lt)))
+    routines_of (templates_in s) (F x ∷ rest) (map F (drop i ms) ++ left) rest rs ss p q (sym (ap (λ (z : List Macro). map F z ++ left) (drop_more ms i x lt ∙ ap (λ (z : Macro). z ∷ drop (i + 1) ms) (sym is))))
     (routine_lead (templates_in s) (F x) rest r rs ss p q
     (routine_as (templates_in s) (world_in s) (order_in s) xs (map (λ z. z.name) (parameters_view x.parameters.now)) (body_view x.body.now) (body_view x.body.now) sp (top_spot (world_in s) (order_in s) (home_in s) (name_at (chain_view s.chain.now).templates x.template)) r p q made same refl at) pushed)
 

@@ -28,4 +28,4 @@ loop-called-preserved c = λ left.
     let scope = c.args.scope.now in
     let ms = c.deref-called-items.result.now in
     routines_both (templates_in scope) _ _ _ _ _ _ _ _ _ (l.invariant left)
-    (macro_lead scope ms l.called-index _ _ _ left _ _ _ _ _ c.loop-called-test.true c.in_ok-parameters.ensures.same c.top_spot-spot.ensures c.in_ok-resolve_routine.ensures.made c.in_ok-push.ensures.items)
+    (macro_lead scope ms l.called-index c.called-item.result _ _ left _ _ _ _ _ c.loop-called-test.true c.called-item.is c.in_ok-parameters.ensures.same c.top_spot-spot.ensures c.in_ok-resolve_routine.ensures.made c.in_ok-push.ensures.items)
