@@ -50,6 +50,7 @@ slot_kept x xs rest i s e = through (among x rest) refl
     behind =
         let r = last_split x xs 0 None i in
         (r.0, r.1 ∙ ap (λ l. last_among x l (0 + i) r.0) e ∙ ap (λ m. last_among x rest (suc m) (if bytes_eq x x then Some m else r.0)) (zero-add i) ∙ ap (λ b. last_among x rest (suc i) (if b then Some i else r.0)) (same_text x))
+
     through : (a : Bool) → among x rest ≡ a → slot_if (last_among x xs 0 None) i s ≡ (if a then None else s)
     through false is = ap (λ o. slot_if o i s) (behind.1 ∙ none_last x rest (suc i) (Some i) is) ∙ ap (λ b. if b then s else None) (same_place i)
       where

@@ -170,22 +170,29 @@ module _ (templates : List Text) where
     where
       P : List Branch → Type 0
       P l = ChoiceLeads templates whole rest l p t
+
       r : List Tree
       r = is.between
+
       h : IsPlaced c (expr_view x.1) q r
       h = is.asked
+
       g : IsBody templates b x.2.items r t
       g = is.taken
+
       first : length r ≡ length q + length (expr_values c)
       first = grown_by q (expr_values c) r h.pooled
+
       second : length t ≡ length q + length (expr_values c) + length (body_values b)
       second = grown_by r (body_values b) t (body_pooled b x.2.items r t g) ∙ ap (λ n. n + length (body_values b)) first
+
       same : (z behind : SBody ℕ) → z ≡ placed_body rest (length t) → joined templates x z behind ≡ slots.stmt (placed_stmt (slots.if_else pl c b rest) (length q)) behind
       same z behind k =
           ap (λ y. slots.stmt (slots.if_else y (expr_view x.1) (body_view templates x.2.items slots.end) z) behind) is.stands
           ∙ ap (λ y. slots.stmt (slots.if_else pl y (body_view templates x.2.items slots.end) z) behind) h.shown
           ∙ ap (λ y. slots.stmt (slots.if_else pl (placed_expr c (length q)) y z) behind) (body_shown b x.2.items r t g ∙ ap (placed_body b) first)
           ∙ ap (λ y. slots.stmt (slots.if_else pl (placed_expr c (length q)) (placed_body b (length q + length (expr_values c))) y) behind) (k ∙ ap (placed_body rest) second)
+
       -- the branch in front of what stands for the other part
       stands : (o : Front) (left : SBody Constant) (last : ℕ) → StandsFor rest left o (length t) last → StandsFor (alone (slots.if_else pl c b rest)) left (joined templates x (o slots.end)) (length q) last
       stands o left last k =
@@ -199,6 +206,7 @@ module _ (templates : List Text) where
         where
           three_long : (n : ℕ) (xs ys zs : List Tree) → n + length xs + length ys + length zs ≡ n + length (xs ++ (ys ++ zs))
           three_long n xs ys zs = let g : length (xs ++ (ys ++ zs)) ≡ length xs + length (ys ++ zs) = length-append xs (ys ++ zs) in let k : length (ys ++ zs) ≡ length ys + length zs = length-append ys zs in omega arith
+
       shown : (o : Front) (left : SBody Constant) (last : ℕ) → StandsFor rest left o (length t) last → StandsFor whole left (choice_view templates (bs ++ x ∷ []) o) (length p) last
       shown o left last k =
           let so_far = so.shown (joined templates x (o slots.end)) left last (stands o left last k) in
@@ -207,6 +215,7 @@ module _ (templates : List Text) where
             before = choice_push templates bs x o (placed_body left last) ∙ so_far.before;
             until = so_far.until;
           }
+
       pooled : t ++ body_values rest ≡ p ++ body_values whole
       pooled =
           ap (λ l. l ++ body_values rest) (body_pooled b x.2.items r t g ∙ ap (λ l. l ++ body_values b) h.pooled)

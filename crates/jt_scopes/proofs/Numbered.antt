@@ -55,7 +55,13 @@ module _ (s : Scope) (us : List Block) (all : map (block_view (chain_view s.chai
   -- the routine of a body
   pub block_routine : (i : ℕ) (x : Block) (xs : List Text) (left : List Planned) (r : Routine) (rs ss : List Routine) (p q : List Tree) → i < length us → x ≡ get_or us i x → xs ≡ block_parameters (world_in s) (order_in s) (home_in s) x.name.now
       → IsRoutine (templates_in s) (resolved_routine (world_in s) (order_in s) xs (body_view x.body.now) (record {
-      home = home_in s; template = name_at (chain_view s.chain.now).templates x.template; escaping = x.escaping; part = part_at numbered (Some i); table = globals_in s; free = 0 })) r p q
+        home = home_in s;
+        template = name_at (chain_view s.chain.now).templates x.template;
+        escaping = x.escaping;
+        part = part_at numbered (Some i);
+        table = globals_in s;
+        free = 0;
+      })) r p q
       → ss ≡ rs ++ r ∷ [] → RoutinesLead (templates_in s) (body_routines (world_in s) (order_in s) (home_in s) (drop i numbered) ++ left) (body_routines (world_in s) (order_in s) (home_in s) (drop (i + 1) numbered) ++ left) rs ss p q
   block_routine i x xs left r rs ss p q lt is same made pushed =
       let at = λ (z : List (ℕ × BlockBody)). (let sp : resolve.Spot = record { home = home_in s; template = name_at (chain_view s.chain.now).templates x.template; escaping = x.escaping; part = part_from z; table = globals_in s; free = 0 } in sp) in

@@ -32,6 +32,7 @@ module _ (templates : List Text) where
     where
       R : ℕ → ℕ → SBody ℕ → slots.Routine ℕ
       R i j b = record { parameters = i; locals = j; body = b }
+
       shown : R parameters n (body_view templates body.items slots.end) ≡ R count m (placed_body w (length p))
       shown = ap (λ i. R i n (body_view templates body.items slots.end)) e ∙ ap (λ j. R count j (body_view templates body.items slots.end)) f ∙ ap (λ b. R count m b) (body_shown templates w body.items p q h)
 

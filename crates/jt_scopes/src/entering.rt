@@ -23,7 +23,7 @@ ghost use Rattle.jt_scopes.specs.Stated.{line_in};
 use crate::putting::put_assign;
 use jt_expr::Expr;
 use jt_layout::Scope;
-use jt_names::{more, reading, slot, Frame, Spot};
+use jt_names::{Frame, Spot, more, reading, slot};
 use jt_parse::Parameter;
 use jt_rules::ScopeError;
 use jt_slots::{SStmt, Slot, Targets};

@@ -16,18 +16,13 @@ ghost use Rattle.jt_scopes.specs.Stated.{Led, line_in, stmt_in};
 
 use crate::putting::{put_assign, put_run};
 use jt_layout::Scope;
-use jt_names::{block_arguments, first_body, more, no_value, reading, slot, Spot};
+use jt_names::{Spot, block_arguments, first_body, more, no_value, reading, slot};
 use jt_rules::ScopeError;
 use jt_slots::{SExpr, SStmt, Slot, Targets};
 use std::alloc::Global;
 
 /// What an included chain is handed under a name: what the name reads, or nothing.
-fn handed(
-    scope: &Scope<'_>,
-    spot: &Spot<'_, '_>,
-    with_context: bool,
-    name: &str,
-) -> SExpr
+fn handed(scope: &Scope<'_>, spot: &Spot<'_, '_>, with_context: bool, name: &str) -> SExpr
     requires { IsLaidOut scope.now }
     ensures { (p : List Tree) → IsPlaced (resolve.read_from (slot_in name.now (if with_context then (spot_in scope.now spot.now).table else []))) (expr_view result) p p }
 {
@@ -83,7 +78,15 @@ pub fn put_include(
         return put_run(scope.units, Vec::new(alloc), done);
     };
     let there = &scope.homes[place];
-    hand_on(scope, spot, line, with_context, there.first_slot, &there.names, done)?;
+    hand_on(
+        scope,
+        spot,
+        line,
+        with_context,
+        there.first_slot,
+        &there.names,
+        done,
+    )?;
     put_run(there.unit, Vec::new(alloc), done)
 }
 
@@ -92,11 +95,7 @@ pub fn put_include(
 fn seen_by<'s, 'a>(spot: &Spot<'s, 'a>, scoped: bool) -> Spot<'s, 'a>
     ensures { (s : Scope) → (spot_in s result).table ≡ (if scoped then (spot_in s spot.now).table else globals_in s) }
 {
-    if scoped {
-        *spot
-    } else {
-        spot.outside()
-    }
+    if scoped { *spot } else { spot.outside() }
 }
 
 /// Puts a block where its tag stands behind other statements.

@@ -19,7 +19,7 @@ use crate::putting::{put_assign, put_capture, put_choice, put_data, put_loop, pu
 use crate::targets::{fresh_targets, set_slot, set_targets};
 use jt_expr::Expr;
 use jt_layout::Scope;
-use jt_names::{more, resolve_expression, resolve_filterings, Spot};
+use jt_names::{Spot, more, resolve_expression, resolve_filterings};
 use jt_parse::{Filtering, Stmt};
 use jt_rules::ScopeError;
 use jt_slots::{Place, SExpr, SStmt, Slot, Targets};

@@ -14,7 +14,7 @@ ghost use Rattle.jt_scopes.specs.Stated.{slot_if};
 
 use crate::entering::texts_of;
 use jt_layout::Scope;
-use jt_names::{more, slot, Frame, Spot};
+use jt_names::{Frame, Spot, more, slot};
 use jt_rules::ScopeError;
 use jt_slots::{Slot, Targets};
 use std::alloc::Global;
@@ -105,11 +105,7 @@ fn fresh_slots(
 }
 
 /// What takes the items of a loop: locals from one on.
-pub fn fresh_targets(
-    alloc: Global,
-    first: usize,
-    names: &[String],
-) -> Result<Targets, ScopeError>
+pub fn fresh_targets(alloc: Global, first: usize, names: &[String]) -> Result<Targets, ScopeError>
     ensures taken { IfOk result (λ t. targets_view t ≡ resolve.fresh_targets first (names_view names.now)) }
     ensures refused { IfErr result (λ e. e ≡ error.NoMemory) }
 {
