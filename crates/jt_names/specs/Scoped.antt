@@ -9,6 +9,7 @@ use Rattle.jt_value.specs.declared.value.Value.{Value}
 use Rattle.jt_parse.specs.Trees.{Text}
 use Rattle.jt_inherit.specs.Chain.{Home, BlockBody}
 use Rattle.jt_inherit.specs.Parts.{name_at}
+use Rattle.jt_inherit.specs.Uses.{count, keywords}
 use Rattle.jt_inherit.specs.Places.{home_at}
 use Rattle.jt_inherit.specs.View.{chain_view}
 use Rattle.jt_rules.specs.World.{World, world_of}
@@ -21,7 +22,8 @@ use Rattle.jt_slots.specs.declared.program.SExpr.{SExpr}
 use Rattle.jt_slots.specs.declared.program.SStmt.{SStmt}
 use Rattle.jt_meaning.specs.Layout.{Table, globals, numbered_bodies}
 use Rattle.jt_meaning.specs.Resolve as resolve
-use Rattle.jt_meaning.specs.Resolve.{Part, bound_table}
+use Rattle.jt_meaning.specs.Resolve.{Part, bound_table, filled_some, locals_from}
+use Rattle.jt_meaning.specs.Expressions.{filter_parameters}
 use Rattle.jt_uses.specs.Names.{texts}
 use Rattle.jt_names.specs.declared.frame.Frame.{Frame}
 use Rattle.jt_names.specs.declared.spot.Spot.{Spot}
@@ -102,3 +104,9 @@ module _ (s : Scope) where
 
   abbrev pub entries_in : trees.Pairs → Spot → SRow Constant
   entries_in ps p = resolve.resolved_entries world_in order_in ps (spot_in p)
+
+  -- a filter, by its number, of what is resolved, with the arguments that it is given
+  abbrev pub filtered_in : Option ℕ → slots.SExpr Constant → trees.Exprs → trees.Pairs → Spot → slots.SExpr Constant
+  filtered_in f c ts ps p =
+      resolve.filtered_by f (spot_in p).escaping (slots.item c (row_in ts p (asides_in ps p
+      (filled_some (filter_parameters world_in.filters f) (count ts) (keywords ps) (locals_from (spot_in p).free (keywords ps))))))

@@ -1,25 +1,27 @@
 //! What the operators and tests of the language stand for.
 
-ghost use Rattle.std.specs.Prelude.{◌≡◌, IfOk, IfErr, List};
+ghost use Rattle.std.specs.Prelude.{◌≡◌, pos, IfOk, IfErr, List};
+ghost use Rattle.jt_value.specs.Tree as tree;
 ghost use Rattle.jt_value.specs.Tree.{Tree};
 ghost use Rattle.jt_value.specs.View.{view};
 ghost use Rattle.jt_expr.specs.View.{literal_view};
 ghost use Rattle.jt_meaning.specs.Operators as operators;
-ghost use Rattle.jt_ops.specs.declared.op_id.OpId.TheVariants.{Add};
+ghost use Rattle.jt_ops.specs.declared.op_id.OpId.TheVariants.{Add, Remainder};
 ghost use Rattle.jt_meaning.specs.Resolve as resolve;
 ghost use Rattle.jt_rules.specs.declared.error.ScopeError.TheVariants as error;
-ghost use Rattle.jt_slots.specs.Pool.{Constant};
+ghost use Rattle.jt_slots.specs.Loops.{index0};
+ghost use Rattle.jt_slots.specs.Pool.{Constant, own};
 ghost use Rattle.jt_slots.specs.Slots as slots;
-ghost use Rattle.jt_slots.specs.Tests.{test_named};
 ghost use Rattle.jt_slots.specs.Values.{literal};
 ghost use Rattle.jt_slots.specs.View.{expr_view};
 ghost use Rattle.jt_names.specs.Formed.{form_view};
-ghost use Rattle.jt_names.specs.Scoped.{IsPlaced};
+ghost use Rattle.jt_names.specs.Scoped.{values, IsPlaced};
 
+use crate::pool::add_value;
 use jt_expr::{BinaryOperator, Literal, UnaryOperator};
-use jt_ops::{OpId, TestId};
+use jt_ops::OpId;
 use jt_rules::ScopeError;
-use jt_slots::{Maker, SExpr};
+use jt_slots::{Field, Maker, SExpr};
 use jt_value::Value;
 use std::alloc::Global;
 
@@ -47,13 +49,6 @@ pub fn literal_value(alloc: Global, constant: &Literal) -> Result<Value, ScopeEr
         Literal::Truth(truth) => Ok(Value::Bool(*truth)),
         Literal::None => Ok(Value::None),
     }
-}
-
-/// The test of a name.
-pub fn test_of(name: &str) -> Option<TestId>
-    ensures { result ≡ test_named name.now }
-{
-    TestId::by_name(name)
 }
 
 /// The operation of an operator in front of its operand.
@@ -126,12 +121,7 @@ pub fn on_one(alloc: Global, op: OpId, operand: SExpr) -> Result<SExpr, ScopeErr
 }
 
 /// An operation on two operands.
-pub fn on_two(
-    alloc: Global,
-    op: OpId,
-    left: SExpr,
-    right: SExpr,
-) -> Result<SExpr, ScopeError>
+pub fn on_two(alloc: Global, op: OpId, left: SExpr, right: SExpr) -> Result<SExpr, ScopeError>
     ensures made { IfOk result (λ e. (a b : slots.SExpr Constant) (p q r : List Tree) → IsPlaced a (expr_view left) p q → IsPlaced b (expr_view right) q r
         → IsPlaced (resolve.operation_of op a b) (expr_view e) p r) }
     ensures refused { IfErr result (λ e. e ≡ error.NoMemory) }
@@ -156,12 +146,7 @@ pub fn turned(alloc: Global, negated: bool, inside: SExpr) -> Result<SExpr, Scop
 }
 
 /// Two operands and what works on them.
-pub fn formed(
-    alloc: Global,
-    form: Form,
-    left: SExpr,
-    right: SExpr,
-) -> Result<SExpr, ScopeError>
+pub fn formed(alloc: Global, form: Form, left: SExpr, right: SExpr) -> Result<SExpr, ScopeError>
     ensures made { IfOk result (λ e. (a b : slots.SExpr Constant) (p q r : List Tree) → IsPlaced a (expr_view left) p q → IsPlaced b (expr_view right) q r
         → IsPlaced (resolve.in_form (form_view form) a b) (expr_view e) p r) }
     ensures refused { IfErr result (λ e. e ≡ error.NoMemory) }
@@ -204,4 +189,16 @@ pub fn no_operation(alloc: Global) -> SExpr
     ensures { (p : List Tree) → IsPlaced (slots.made (slots.operator Add) slots.none) (expr_view result) p p }
 {
     SExpr::Made(Maker::Operator(OpId::Add), Vec::new(alloc))
+}
+
+/// The place of a loop's turn among so many items, which come again and again.
+pub fn turn_among(alloc: Global, count: usize, pool: &mut Vec<Value>) -> Result<SExpr, ScopeError>
+    ensures placed { IfOk result (λ e. IsPlaced (resolve.operation_of Remainder (slots.field index0) (slots.pooled (own (tree.number (pos count))))) (expr_view e) (values pool.old) (values pool.new)) }
+    ensures refused { IfErr result (λ e. e ≡ error.NoMemory) }
+{
+    let Ok(count) = i64::try_from(count) else {
+        return Err(ScopeError::NoMemory);
+    };
+    let items = add_value(pool, Value::Int(count))?;
+    on_two(alloc, OpId::Remainder, SExpr::Field(Field::Index0), items)
 }

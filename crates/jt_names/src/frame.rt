@@ -7,8 +7,8 @@ ghost use Rattle.jt_layout.specs.Names.{place_in};
 ghost use Rattle.jt_uses.specs.Names.{texts};
 ghost use Rattle.jt_names.specs.Names.{last_among};
 
+use crate::lookup::more;
 use jt_layout::Index;
-use crate::reading::more;
 use jt_rules::ScopeError;
 use std::alloc::Global;
 

@@ -25,11 +25,7 @@ pub fn add_value(pool: &mut Vec<Value>, value: Value) -> Result<SExpr, ScopeErro
 }
 
 /// Puts a text at the end of the pool, and gives the expression that it is.
-pub fn add_text(
-    alloc: Global,
-    text: &str,
-    pool: &mut Vec<Value>,
-) -> Result<SExpr, ScopeError>
+pub fn add_text(alloc: Global, text: &str, pool: &mut Vec<Value>) -> Result<SExpr, ScopeError>
     ensures placed { IfOk result (λ e. IsPlaced (slots.pooled (own (tree.text text.now))) (expr_view e) (values pool.old) (values pool.new)) }
     ensures refused { IfErr result (λ e. e ≡ error.NoMemory) }
 {

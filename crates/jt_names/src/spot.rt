@@ -14,3 +14,19 @@ pub struct Spot<'s, 'a> {
     pub frames: &'s [Rc<Frame<'a>>],
     pub free: usize,
 }
+
+impl<'s, 'a> Spot<'s, 'a> {
+    ghost use Rattle.std.specs.Prelude.{◌≡◌};
+    ghost use Rattle.jt_layout.specs.declared.scope.Scope.{Scope};
+    ghost use Rattle.jt_names.specs.Scoped.{globals_in, spot_in};
+
+    /// The same where no scope is around, so that names are globals.
+    pub fn outside(self) -> Spot<'s, 'a>
+        ensures { (scope : Scope) → spot_in scope result ≡ record (spot_in scope self.entry) { table = globals_in scope } }
+    {
+        Spot {
+            frames: &self.frames[..0],
+            ..self
+        }
+    }
+}

@@ -1,4 +1,5 @@
-use Rattle.std.proofs.Common.{◌≡◌, ℕ, ◌+◌, Bool, List, drop, sym, ap, ◌∙◌, subst, arith, if◌then◌else◌}
+use Rattle.std.proofs.Common.{◌≡◌, ℕ, ◌+◌, Bool, List, length, drop, refl, sym, ap, ◌∙◌, subst, arith, add-one, Option, Some, None, if◌then◌else◌}
+use Rattle.std.specs.Prelude.{option_map}
 use Rattle.std.proofs.lemmas.List.{at_drop_all}
 use Rattle.std.proofs.lemmas.Result.{IfOk-weaker}
 use Rattle.jt_value.specs.Tree as tree
@@ -7,18 +8,28 @@ use Rattle.jt_ops.specs.declared.op_id.OpId.TheVariants as op
 use Rattle.jt_expr.specs.Trees as trees
 use Rattle.jt_expr.specs.View.{expr_view, exprs_view, pairs_view}
 use Rattle.jt_expr.specs.declared.tree.Expr.{Expr}
-use Rattle.jt_meaning.specs.Operators.{Form}
-use Rattle.jt_meaning.specs.Resolve.{operation_of, in_form, field_from}
+use Rattle.jt_filters.specs.FilterTable.{filter_id}
+use Rattle.jt_parse.specs.View.{parameters_view}
+use Rattle.jt_inherit.specs.Chain as chain
+use Rattle.jt_inherit.specs.Chain.{macros, callee, a_macro, a_range, a_super, a_block, a_cycle, no_callee}
+use Rattle.jt_inherit.specs.Uses.{count, keywords}
+use Rattle.jt_meaning.specs.Operators.{Form, range_of}
+use Rattle.jt_meaning.specs.Resolve.{operation_of, in_form, field_from, filled, locals_from, invoked}
 use Rattle.jt_slots.specs.Loops.{field_named}
-use Rattle.jt_slots.specs.Pool.{own}
+use Rattle.jt_slots.specs.Pool.{Constant, own}
 use Rattle.jt_slots.specs.Slots as slots
-use Rattle.jt_slots.specs.View.{expr_view as coded}
+use Rattle.jt_slots.specs.Slots.{invoke}
+use Rattle.jt_slots.specs.View.{expr_view as coded, row_view}
 use Rattle.jt_slots.specs.declared.program.Maker.TheVariants as m
-use Rattle.jt_names.specs.Scoped.{values, IsPlaced, expr_in, row_in, entries_in}
-use Rattle.jt_names.proofs.Leading.{same_tree, begun, of_whole, of_left, row_both, row_item, made_placed}
+use Rattle.jt_names.specs.Callees.{IsCallee}
+use Rattle.jt_names.specs.declared.callee.Callee.{Callee}
+use Rattle.jt_names.specs.Scoped.{values, IsPlaced, world_in, order_in, home_in, spot_in, expr_in, row_in, asides_in, entries_in, filtered_in}
+use Rattle.jt_names.proofs.Calling.{count_length, macro_called, cycled}
+use Rattle.jt_names.proofs.Filters.{named_is, parameters_are}
+use Rattle.jt_names.proofs.Leading.{same_tree, begun, of_whole, of_left, row_both, row_item, row_aside, made_placed, invoked_placed}
 use Rattle.jt_names.proofs.Left.{Pair, row_left, pairs_left}
-use Rattle.jt_names.proofs.Trees.{shown_item, shown_call, shown_filter, shown_unary, shown_binary, shown_when, shown_choice}
-use Rattle.jt_names.proofs.Views.{view-Made}
+use Rattle.jt_names.proofs.Trees.{shown_item, shown_call, shown_filter, shown_test, shown_unary, shown_binary, shown_when, shown_choice}
+use Rattle.jt_names.proofs.Views.{view-Made, view-Invoke}
 use Rattle.jt_names.proofs.expressions.+resolve.Goals as goal
 
 pub resolve_row-loop-expr-preserved : goal.resolve_row-loop-expr-preserved
@@ -70,13 +81,52 @@ resolve_attribute-returns-clause-placed t c =
     let P : Bool → Type 0 = λ b. IsPlaced (if b then field_from (field_named key) else operation_of op.Item a (slots.pooled (own (tree.text key)))) (coded e) p r in
     subst P (sym c.if-is_loop_name.false ∙ c.is_loop_name.ensures) (h _ _ _ _ _ c.in_ok-whole.ensures.placed c.in_ok-place.ensures.placed)) c.on_two.ensures.made
 
-pub resolve_expression-returns-in_ok-place-in-Item-clause-placed : goal.resolve_expression-returns-in_ok-place-in-Item-clause-placed
-resolve_expression-returns-in_ok-place-in-Item-clause-placed t c =
+pub resolve_asides-returns-clause-led : goal.resolve_asides-returns-clause-led
+resolve_asides-returns-clause-led t c = λ left.
+    let l = c.loop-value in
+    of_left _ _ _ _ _ _ _ (at_drop_all (λ (z : List Pair). asides_in c.args.scope.now (pairs_view z) l.here left) c.args.pairs.now l.value-index (omega arith)) (l.invariant left)
+
+pub resolve_asides-loop-value-preserved : goal.resolve_asides-loop-value-preserved
+resolve_asides-loop-value-preserved t c = λ left.
+    let l = c.loop-value in
+    let scope = c.args.scope.now in
+    let ps = c.args.pairs.now in
+    let x = c.loop-value-item.result in
+    let rest = pairs_view (drop (l.value-index + 1) ps) in
+    let value = expr_in scope (expr_view x.1) l.here in
+    row_both _ _ _ _ _ _ _ _ _ (l.invariant left)
+    (of_whole _ _ _ _ _ _ _ (ap (λ (n : ℕ). slots.aside l.here.free value (asides_in scope rest (record l.here { free = n }) left)) (c.in_ok-here.ensures.added ∙ add-one l.here.free)
+    ∙ ap (λ r. asides_in scope r l.here left) (sym (pairs_left ps l.value-index x c.loop-value-test.true c.loop-value-item.is)))
+    (row_aside l.here.free value (asides_in scope rest (record l.here { free = c.in_ok-here.field-0 }) left) c.in_ok-next.next l.done.items _ (values l.pool) _ c.in_ok-next.ensures.placed c.in_ok-push.ensures.items))
+
+pub resolve_item-returns-clause-placed : goal.resolve_item-returns-clause-placed
+resolve_item-returns-clause-placed t c =
+    IfOk-weaker c.on_two.result _ _ (λ e h. h _ _ _ _ _ c.in_ok-whole.ensures.placed c.in_ok-place.ensures.placed) c.on_two.ensures.made
+
+pub resolve_binary-returns-clause-placed : goal.resolve_binary-returns-clause-placed
+resolve_binary-returns-clause-placed t c =
+    let a = expr_in c.args.scope.now (expr_view c.args.left.now) c.args.spot.now in
+    let b = expr_in c.args.scope.now (expr_view c.args.right.now) c.args.spot.now in
+    IfOk-weaker c.formed.result _ _ (λ e h.
+    let P : Form → Type 0 = λ f. IsPlaced (in_form f a b) (coded e) (values c.args.pool.now) (values c.resolve_expression-2.new.pool) in
+    subst P c.form_of.ensures (h _ _ _ _ _ c.in_ok-first.ensures.placed c.in_ok-second.ensures.placed)) c.formed.ensures.made
+
+pub resolve_when-returns-clause-placed : goal.resolve_when-returns-clause-placed
+resolve_when-returns-clause-placed t c =
+    IfOk-weaker c.chosen.result _ _ (λ e h.
+    h _ _ _ _ _ _ _ c.in_ok-asked.ensures.placed c.in_ok-first.ensures.placed (c.no_value.ensures (values c.resolve_expression-2.new.pool))) c.chosen.ensures.made
+
+pub resolve_choice-returns-clause-placed : goal.resolve_choice-returns-clause-placed
+resolve_choice-returns-clause-placed t c =
+    IfOk-weaker c.chosen.result _ _ (λ e h.
+    h _ _ _ _ _ _ _ c.in_ok-asked.ensures.placed c.in_ok-first.ensures.placed c.in_ok-second.ensures.placed) c.chosen.ensures.made
+
+pub resolve_expression-returns-in-Item-clause-placed : goal.resolve_expression-returns-in-Item-clause-placed
+resolve_expression-returns-in-Item-clause-placed t c =
     let a = c.deref-in-Item.result.now in
     let b = c.deref-in-Item-2.result.now in
-    IfOk-weaker c.on_two.result _ _ (λ e h. same_tree c.args.scope.now c.args.spot.now _ _ (coded e) _ _
-    (shown_item c.args.expr.now a b c.in-Item.value c.in-Item.index c.in-Item.is c.deref-in-Item.ensures c.deref-in-Item-2.ensures)
-    (h _ _ _ _ _ c.in_ok-whole-in-Item.ensures.placed c.in_ok-place-in-Item.ensures.placed)) c.on_two.ensures.made
+    IfOk-weaker c.resolve_item.result _ _ (λ e h. same_tree c.args.scope.now c.args.spot.now _ _ (coded e) _ _
+    (shown_item c.args.expr.now a b c.in-Item.value c.in-Item.index c.in-Item.is c.deref-in-Item.ensures c.deref-in-Item-2.ensures) h) c.resolve_item.ensures.placed
 
 pub resolve_expression-returns-in-Call-clause-placed : goal.resolve_expression-returns-in-Call-clause-placed
 resolve_expression-returns-in-Call-clause-placed t c =
@@ -96,6 +146,16 @@ resolve_expression-returns-in-Filter-clause-placed t c =
     (ap (λ x. trees.filter (expr_view a) x (exprs_view us) (pairs_view qs)) c.deref-in-Filter-2.ensures
     ∙ shown_filter c.args.expr.now a c.in-Filter.name us qs c.in-Filter.value c.in-Filter.row c.in-Filter.pairs c.in-Filter.is c.deref-in-Filter.ensures c.deref-in-Filter-3.ensures.value c.deref-in-Filter-4.ensures.value) h) c.resolve_filter.ensures.placed
 
+pub resolve_expression-returns-in-Test-clause-placed : goal.resolve_expression-returns-in-Test-clause-placed
+resolve_expression-returns-in-Test-clause-placed t c =
+    let a = c.deref-in-Test.result.now in
+    let k = c.deref-in-Test-2.result.now in
+    let us = c.deref-in-Test-3.result.now in
+    let qs = c.in-Test.field-4.items in
+    IfOk-weaker c.resolve_test.result _ _ (λ e h. same_tree c.args.scope.now c.args.spot.now _ _ (coded e) _ _
+    (ap (λ x. trees.test (expr_view a) c.in-Test.negated x (exprs_view us) (pairs_view qs)) c.deref-in-Test-2.ensures
+    ∙ shown_test c.args.expr.now a c.in-Test.negated c.in-Test.name us qs c.in-Test.value c.in-Test.row c.in-Test.field-4 c.in-Test.is c.deref-in-Test.ensures c.deref-in-Test-3.ensures.value refl) (h (pairs_view qs))) c.resolve_test.ensures.placed
+
 pub resolve_expression-returns-in_ok-value-in-Unary-clause-placed : goal.resolve_expression-returns-in_ok-value-in-Unary-clause-placed
 resolve_expression-returns-in_ok-value-in-Unary-clause-placed t c =
     let a = c.deref-in-Unary.result.now in
@@ -104,28 +164,178 @@ resolve_expression-returns-in_ok-value-in-Unary-clause-placed t c =
     (let P : OpId → Type 0 = λ o. IsPlaced (slots.made (slots.operator o) (slots.item (expr_in c.args.scope.now (expr_view a) c.args.spot.now) slots.none)) (coded e) (values c.args.pool.now) (values c.resolve_expression-in-Unary.new.pool) in
     subst P c.unary_operation.ensures (h _ _ _ c.in_ok-value-in-Unary.ensures.placed))) c.on_one.ensures.made
 
-pub resolve_expression-returns-in_ok-second-in-Binary-clause-placed : goal.resolve_expression-returns-in_ok-second-in-Binary-clause-placed
-resolve_expression-returns-in_ok-second-in-Binary-clause-placed t c =
+pub resolve_expression-returns-in-Binary-clause-placed : goal.resolve_expression-returns-in-Binary-clause-placed
+resolve_expression-returns-in-Binary-clause-placed t c =
     let a = c.deref-in-Binary.result.now in
     let b = c.deref-in-Binary-2.result.now in
-    IfOk-weaker c.formed.result _ _ (λ e h. same_tree c.args.scope.now c.args.spot.now _ _ (coded e) _ _
-    (shown_binary c.args.expr.now a b c.in-Binary.operator c.in-Binary.left c.in-Binary.right c.in-Binary.is c.deref-in-Binary.ensures c.deref-in-Binary-2.ensures)
-    (let P : Form → Type 0 = λ f. IsPlaced (in_form f (expr_in c.args.scope.now (expr_view a) c.args.spot.now) (expr_in c.args.scope.now (expr_view b) c.args.spot.now)) (coded e) (values c.args.pool.now) (values c.resolve_expression-in-Binary-2.new.pool) in
-    subst P c.form_of.ensures (h _ _ _ _ _ c.in_ok-first-in-Binary.ensures.placed c.in_ok-second-in-Binary.ensures.placed))) c.formed.ensures.made
+    IfOk-weaker c.resolve_binary.result _ _ (λ e h. same_tree c.args.scope.now c.args.spot.now _ _ (coded e) _ _
+    (shown_binary c.args.expr.now a b c.in-Binary.operator c.in-Binary.left c.in-Binary.right c.in-Binary.is c.deref-in-Binary.ensures c.deref-in-Binary-2.ensures) h) c.resolve_binary.ensures.placed
 
-pub resolve_expression-returns-in_ok-first-in-When-clause-placed : goal.resolve_expression-returns-in_ok-first-in-When-clause-placed
-resolve_expression-returns-in_ok-first-in-When-clause-placed t c =
+pub resolve_expression-returns-in-When-clause-placed : goal.resolve_expression-returns-in-When-clause-placed
+resolve_expression-returns-in-When-clause-placed t c =
     let a = c.deref-in-When.result.now in
     let b = c.deref-in-When-2.result.now in
-    IfOk-weaker c.chosen.result _ _ (λ e h. same_tree c.args.scope.now c.args.spot.now _ _ (coded e) _ _
-    (shown_when c.args.expr.now a b c.in-When.condition c.in-When.value c.in-When.is c.deref-in-When.ensures c.deref-in-When-2.ensures)
-    (h _ _ _ _ _ _ _ c.in_ok-asked-in-When.ensures.placed c.in_ok-first-in-When.ensures.placed (c.no_value.ensures (values c.resolve_expression-in-When-2.new.pool)))) c.chosen.ensures.made
+    IfOk-weaker c.resolve_when.result _ _ (λ e h. same_tree c.args.scope.now c.args.spot.now _ _ (coded e) _ _
+    (shown_when c.args.expr.now a b c.in-When.condition c.in-When.value c.in-When.is c.deref-in-When.ensures c.deref-in-When-2.ensures) h) c.resolve_when.ensures.placed
 
-pub resolve_expression-returns-in_ok-second-in-Choice-clause-placed : goal.resolve_expression-returns-in_ok-second-in-Choice-clause-placed
-resolve_expression-returns-in_ok-second-in-Choice-clause-placed t c =
+pub resolve_expression-returns-in-Choice-clause-placed : goal.resolve_expression-returns-in-Choice-clause-placed
+resolve_expression-returns-in-Choice-clause-placed t c =
     let a = c.deref-in-Choice.result.now in
     let b = c.deref-in-Choice-2.result.now in
     let d = c.deref-in-Choice-3.result.now in
-    IfOk-weaker c.chosen-in-Choice.result _ _ (λ e h. same_tree c.args.scope.now c.args.spot.now _ _ (coded e) _ _
-    (shown_choice c.args.expr.now a b d c.in-Choice.condition c.in-Choice.value c.in-Choice.other c.in-Choice.is c.deref-in-Choice.ensures c.deref-in-Choice-2.ensures c.deref-in-Choice-3.ensures)
-    (h _ _ _ _ _ _ _ c.in_ok-asked-in-Choice.ensures.placed c.in_ok-first-in-Choice.ensures.placed c.in_ok-second-in-Choice.ensures.placed)) c.chosen-in-Choice.ensures.made
+    IfOk-weaker c.resolve_choice.result _ _ (λ e h. same_tree c.args.scope.now c.args.spot.now _ _ (coded e) _ _
+    (shown_choice c.args.expr.now a b d c.in-Choice.condition c.in-Choice.value c.in-Choice.other c.in-Choice.is c.deref-in-Choice.ensures c.deref-in-Choice-2.ensures c.deref-in-Choice-3.ensures) h) c.resolve_choice.ensures.placed
+
+-- ---- tests and filters
+
+pub resolve_test-returns-in_ok-resolve_row-in-Some-clause-placed : goal.resolve_test-returns-in_ok-resolve_row-in-Some-clause-placed
+resolve_test-returns-in_ok-resolve_row-in-Some-clause-placed t c = ?
+
+pub resolve_filter-returns-in-None-clause-placed : goal.resolve_filter-returns-in-None-clause-placed
+resolve_filter-returns-in-None-clause-placed t c =
+    let s = c.args.scope.now in
+    let a = expr_in s (expr_view c.args.value.now) c.args.spot.now in
+    let ts = exprs_view c.args.row.now in
+    let ps = pairs_view c.args.pairs.now in
+    let p = values c.args.pool.now in
+    let named : (world_in s).filters.named c.args.name.now ≡ None = named_is c.args.name.now ∙ ap (option_map filter_id) (sym c.filter_of.ensures ∙ c.in-None.is) in
+    let P : Option ℕ → Type 0 = λ o. IsPlaced (filtered_in s o a ts ps c.args.spot.now) (coded c.no_operation.result) p p in
+    subst P (sym named) (c.no_operation.ensures p)
+
+pub resolve_filter-returns-in_ok-first-in-Some-clause-placed : goal.resolve_filter-returns-in_ok-first-in-Some-clause-placed
+resolve_filter-returns-in_ok-first-in-Some-clause-placed t c =
+    let s = c.args.scope.now in
+    let a = expr_in s (expr_view c.args.value.now) c.args.spot.now in
+    let ts = exprs_view c.args.row.now in
+    let ps = pairs_view c.args.pairs.now in
+    let p = values c.args.pool.now in
+    let q = values c.resolve_filtered.new.pool in
+    let named : (world_in s).filters.named c.args.name.now ≡ Some (filter_id c.in-Some.filter) = named_is c.args.name.now ∙ ap (option_map filter_id) (sym c.filter_of.ensures ∙ c.in-Some.is) in
+    IfOk-weaker c.resolve_filtered.result _ _ (λ e h.
+    let P : Option ℕ → Type 0 = λ o. IsPlaced (filtered_in s o a ts ps c.args.spot.now) (coded e) p q in
+    subst P (sym named) (h a p c.in_ok-first-in-Some.ensures.placed)) c.resolve_filtered.ensures.placed
+
+pub resolve_filtered-returns-clause-placed : goal.resolve_filtered-returns-clause-placed
+resolve_filtered-returns-clause-placed t c = λ k p h. ?
+
+-- ---- calls
+
+pub resolve_macro-returns-clause-placed : goal.resolve_macro-returns-clause-placed
+resolve_macro-returns-clause-placed t c = ?
+
+pub resolve_range-returns-clause-placed : goal.resolve_range-returns-clause-placed
+resolve_range-returns-clause-placed t c = ?
+
+pub resolve_cycle-returns-clause-placed : goal.resolve_cycle-returns-clause-placed
+resolve_cycle-returns-clause-placed t c = ?
+
+pub resolve_call-returns-in-Macro-clause-placed : goal.resolve_call-returns-in-Macro-clause-placed
+resolve_call-returns-in-Macro-clause-placed t c =
+    let s = c.args.scope.now in
+    let spot = c.args.spot.now in
+    let ts = exprs_view c.args.row.now in
+    let ps = pairs_view c.args.pairs.now in
+    let ks = locals_from spot.free (keywords ps) in
+    let k = callee (macros (world_in s).sources (home_in s)) (expr_view c.args.called.now) in
+    let Q : Callee → Type 0 = λ z. IsCallee (world_in s) (order_in s) (home_in s) z k in
+    let m = subst Q c.in-Macro.is c.in_ok-signature.ensures.named in
+    let n : count ts ≡ length c.args.row.now = count_length c.args.row.now in
+    let signature = c.in-Macro.signature in
+    let same : invoke signature.unit spot.escaping (row_in s ts spot (asides_in s ps spot (filled (parameters_view signature.parameters.now) (length c.args.row.now) signature.first_default ks)))
+        ≡ invoked (world_in s) (order_in s) k (spot_in s spot) (λ z. row_in s ts spot z) (λ z. asides_in s ps spot z) (count ts) ks =
+        macro_called (world_in s) (order_in s) (home_in s) signature m.0 m.1.0 spot.escaping (λ z. row_in s ts spot (asides_in s ps spot z)) (length c.args.row.now) ks
+        ∙ ap (λ (i : ℕ). invoked (world_in s) (order_in s) (a_macro m.0) (spot_in s spot) (λ z. row_in s ts spot z) (λ z. asides_in s ps spot z) i ks) (sym n)
+        ∙ ap (λ z. invoked (world_in s) (order_in s) z (spot_in s spot) (λ y. row_in s ts spot y) (λ y. asides_in s ps spot y) (count ts) ks) (sym m.1.1) in
+    IfOk-weaker c.resolve_macro.result _ _ (λ e h.
+    let P : slots.SExpr Constant → Type 0 = λ z. IsPlaced z (coded e) (values c.args.pool.now) (values c.resolve_macro.new.pool) in
+    subst P same h) c.resolve_macro.ensures.placed
+
+pub resolve_call-returns-in-Range-clause-placed : goal.resolve_call-returns-in-Range-clause-placed
+resolve_call-returns-in-Range-clause-placed t c =
+    let s = c.args.scope.now in
+    let spot = c.args.spot.now in
+    let ts = exprs_view c.args.row.now in
+    let ps = pairs_view c.args.pairs.now in
+    let ks = locals_from spot.free (keywords ps) in
+    let k = callee (macros (world_in s).sources (home_in s)) (expr_view c.args.called.now) in
+    let Q : Callee → Type 0 = λ z. IsCallee (world_in s) (order_in s) (home_in s) z k in
+    let is : k ≡ a_range = subst Q c.in-Range.is c.in_ok-signature.ensures.named in
+    let n : count ts ≡ length c.args.row.now = count_length c.args.row.now in
+    let same : slots.made (slots.operator (range_of (length c.args.row.now))) (row_in s ts spot slots.none)
+        ≡ invoked (world_in s) (order_in s) k (spot_in s spot) (λ z. row_in s ts spot z) (λ z. asides_in s ps spot z) (count ts) ks =
+        ap (λ (i : ℕ). slots.made (slots.operator (range_of i)) (row_in s ts spot slots.none)) (sym n)
+        ∙ ap (λ z. invoked (world_in s) (order_in s) z (spot_in s spot) (λ y. row_in s ts spot y) (λ y. asides_in s ps spot y) (count ts) ks) (sym is) in
+    IfOk-weaker c.resolve_range.result _ _ (λ e h.
+    let P : slots.SExpr Constant → Type 0 = λ z. IsPlaced z (coded e) (values c.args.pool.now) (values c.resolve_range.new.pool) in
+    subst P same h) c.resolve_range.ensures.placed
+
+pub resolve_call-returns-in-Cycle-clause-placed : goal.resolve_call-returns-in-Cycle-clause-placed
+resolve_call-returns-in-Cycle-clause-placed t c =
+    let s = c.args.scope.now in
+    let spot = c.args.spot.now in
+    let ts = exprs_view c.args.row.now in
+    let ps = pairs_view c.args.pairs.now in
+    let ks = locals_from spot.free (keywords ps) in
+    let k = callee (macros (world_in s).sources (home_in s)) (expr_view c.args.called.now) in
+    let Q : Callee → Type 0 = λ z. IsCallee (world_in s) (order_in s) (home_in s) z k in
+    let is : k ≡ a_cycle = subst Q c.in-Cycle.is c.in_ok-signature.ensures.named in
+    let n : count ts ≡ length c.args.row.now = count_length c.args.row.now in
+    let same : cycled (length c.args.row.now) (row_in s ts spot slots.none)
+        ≡ invoked (world_in s) (order_in s) k (spot_in s spot) (λ z. row_in s ts spot z) (λ z. asides_in s ps spot z) (count ts) ks =
+        ap (λ (i : ℕ). cycled i (row_in s ts spot slots.none)) (sym n)
+        ∙ ap (λ z. invoked (world_in s) (order_in s) z (spot_in s spot) (λ y. row_in s ts spot y) (λ y. asides_in s ps spot y) (count ts) ks) (sym is) in
+    IfOk-weaker c.resolve_cycle.result _ _ (λ e h.
+    let P : slots.SExpr Constant → Type 0 = λ z. IsPlaced z (coded e) (values c.args.pool.now) (values c.resolve_cycle.new.pool) in
+    subst P same h) c.resolve_cycle.ensures.placed
+
+pub resolve_call-returns-in-Super-clause-placed : goal.resolve_call-returns-in-Super-clause-placed
+resolve_call-returns-in-Super-clause-placed t c =
+    let s = c.args.scope.now in
+    let spot = c.args.spot.now in
+    let ts = exprs_view c.args.row.now in
+    let ps = pairs_view c.args.pairs.now in
+    let ks = locals_from spot.free (keywords ps) in
+    let k = callee (macros (world_in s).sources (home_in s)) (expr_view c.args.called.now) in
+    let Q : Callee → Type 0 = λ z. IsCallee (world_in s) (order_in s) (home_in s) z k in
+    let is : k ≡ a_super = subst Q c.in-Super.is c.in_ok-signature.ensures.named in
+    IfOk-weaker c.super_called.result _ _ (λ e h.
+    let P : chain.Callee → Type 0 = λ z. IsPlaced (invoked (world_in s) (order_in s) z (spot_in s spot) (λ y. row_in s ts spot y) (λ y. asides_in s ps spot y) (count ts) ks) (coded e) (values c.args.pool.now) (values c.super_called.new.pool) in
+    subst P (sym is) h) c.super_called.ensures.placed
+
+pub resolve_call-returns-in-Block-clause-placed : goal.resolve_call-returns-in-Block-clause-placed
+resolve_call-returns-in-Block-clause-placed t c =
+    let s = c.args.scope.now in
+    let spot = c.args.spot.now in
+    let ts = exprs_view c.args.row.now in
+    let ps = pairs_view c.args.pairs.now in
+    let ks = locals_from spot.free (keywords ps) in
+    let k = callee (macros (world_in s).sources (home_in s)) (expr_view c.args.called.now) in
+    let Q : Callee → Type 0 = λ z. IsCallee (world_in s) (order_in s) (home_in s) z k in
+    let is : k ≡ a_block c.in-Block.name.now = subst Q c.in-Block.is c.in_ok-signature.ensures.named in
+    IfOk-weaker c.block_called.result _ _ (λ e h.
+    let P : chain.Callee → Type 0 = λ z. IsPlaced (invoked (world_in s) (order_in s) z (spot_in s spot) (λ y. row_in s ts spot y) (λ y. asides_in s ps spot y) (count ts) ks) (coded e) (values c.args.pool.now) (values c.block_called.new.pool) in
+    subst P (sym is) (h (λ y. row_in s ts spot y) (λ y. asides_in s ps spot y) (count ts) ks)) c.block_called.ensures.placed
+
+pub resolve_call-returns-in-Unknown-clause-placed : goal.resolve_call-returns-in-Unknown-clause-placed
+resolve_call-returns-in-Unknown-clause-placed t c =
+    let s = c.args.scope.now in
+    let spot = c.args.spot.now in
+    let ts = exprs_view c.args.row.now in
+    let ps = pairs_view c.args.pairs.now in
+    let ks = locals_from spot.free (keywords ps) in
+    let k = callee (macros (world_in s).sources (home_in s)) (expr_view c.args.called.now) in
+    let Q : Callee → Type 0 = λ z. IsCallee (world_in s) (order_in s) (home_in s) z k in
+    let is : k ≡ no_callee = subst Q c.in-Unknown.is c.in_ok-signature.ensures.named in
+    let P : chain.Callee → Type 0 = λ z. IsPlaced (invoked (world_in s) (order_in s) z (spot_in s spot) (λ y. row_in s ts spot y) (λ y. asides_in s ps spot y) (count ts) ks) (coded c.no_value.result) (values c.args.pool.now) (values c.args.pool.now) in
+    subst P (sym is) (c.no_value.ensures (values c.args.pool.now))
+
+-- ---- what is left is less deep
+
+pub resolve_expression-resolve_call-requires : goal.resolve_expression-resolve_call-requires
+resolve_expression-resolve_call-requires t c = ?
+
+pub resolve_expression-resolve_filter-requires : goal.resolve_expression-resolve_filter-requires
+resolve_expression-resolve_filter-requires t c = ?
+
+pub resolve_expression-resolve_test-requires : goal.resolve_expression-resolve_test-requires
+resolve_expression-resolve_test-requires t c = ?

@@ -1,5 +1,0 @@
-use Rattle.std.proofs.Common.{◌≡◌}
-use Rattle.jt_names.proofs.calls.told.Goals as goal
-
-pub returns-in-None : goal.returns-in-None
-returns-in-None c = rw c.in-None.is c.no_value.ensures
