@@ -1,7 +1,14 @@
 //! Names to slots: a chain becomes a program.
 #![tactic(auto)]
 
+mod entering;
+mod locals;
+mod placing;
+mod putting;
 mod resolving;
+mod routines;
+mod statements;
+mod targets;
 
 pub use jt_rules::ScopeError;
 pub use resolving::resolve;

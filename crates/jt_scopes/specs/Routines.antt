@@ -1,0 +1,18 @@
+-- What the routines of chains are, with the places of the pool that they fill.
+use Rattle.std.specs.Prelude.{◌≡◌, List, ◌++◌, length, map}
+use Rattle.jt_value.specs.Tree.{Tree}
+use Rattle.jt_parse.specs.Trees.{Text}
+use Rattle.jt_slots.specs.Pool.{Constant, body_values, routines_values, placed_routine, placed_routines}
+use Rattle.jt_slots.specs.Slots as slots
+use Rattle.jt_slots.specs.View.{routine_view}
+use Rattle.jt_slots.specs.declared.program.Routine.{Routine}
+
+-- a routine, and the values that it put at the end of a pool
+pub record IsRoutine (templates : List Text) (c : slots.Routine Constant) (r : Routine) (old new : List Tree) : Type 0 where
+  pub shown : routine_view templates r ≡ placed_routine c (length old)
+  pub pooled : new ≡ old ++ body_values c.body
+
+-- routines that were put behind others, and the values that they put at the end of a pool
+pub record AreRoutines (templates : List Text) (cs : List (slots.Routine Constant)) (before after : List Routine) (old new : List Tree) : Type 0 where
+  pub shown : map (routine_view templates) after ≡ map (routine_view templates) before ++ placed_routines cs (length old)
+  pub pooled : new ≡ old ++ routines_values cs
