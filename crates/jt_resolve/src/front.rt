@@ -50,11 +50,7 @@ fn add_defaults(
 }
 
 /// Adds the defaults of macros.
-fn add_macros(
-    alloc: Global,
-    macros: &[Macro<'_>],
-    pool: &mut Vec<Value>,
-) -> Result<(), ScopeError>
+fn add_macros(alloc: Global, macros: &[Macro<'_>], pool: &mut Vec<Value>) -> Result<(), ScopeError>
     ensures added { IfOk result (λ _. (ts : List Template) → values pool.new ≡ values pool.old ++ defaults_of (map (macro_view ts) macros.now)) }
     ensures refused { IfErr result (λ e. e ≡ error.NoMemory) }
 {

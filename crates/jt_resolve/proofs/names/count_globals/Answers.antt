@@ -20,5 +20,5 @@ loop-home-preserved c =
     let laid = c.requires.each i home lt (c.home-item.is ∙ ap (λ ls. get_or ls i home) items) in
     let named : length home.names.items ≡ length (layout.names W O (home_at O i)) = sym (length-map (λ k. k.now) home.names.items) ∙ ap length laid.named in
     let left : programs.count_globals W O (drop i O) ≡ length (layout.names W O (home_at O i)) + programs.count_globals W O (drop (i + 1) O) =
-        ap (programs.count_globals W O) (homes_left O i (omega (arith, lt, c.requires.all_homes))) in
+    ap (programs.count_globals W O) (homes_left O i (omega (arith, lt, c.requires.all_homes))) in
     omega (arith, c.in_ok-globals.ensures.added, c.len.ensures, home.names.ok.0, named, left, l.invariant)

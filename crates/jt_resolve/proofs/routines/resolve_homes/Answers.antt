@@ -51,7 +51,7 @@ loop-home-preserved c =
     let lt : i < length l.scope.homes.items = omega (arith, c.loop-home-test.true, c.len-home-end.ensures, c.args.scope.homes.ok.0, c.requires.all_homes, l.invariant.laid.all_homes, same) in
     let in_order : i < length O = omega (arith, lt, l.invariant.laid.all_homes, same) in
     let Put : Chain → Type 0 = (λ ch. AreRoutines (map (λ t. t.name) (chain_view ch).templates) (programs.chain_routines (world_of (chain_view ch)) (chain_view ch).order (home_at (chain_view ch).order i))
-        l.routines.items c.resolve_home.new.routines.items (values l.pool) (values c.resolve_home.new.pool)) in
+    l.routines.items c.resolve_home.new.routines.items (values l.pool) (values c.resolve_home.new.pool)) in
     let put = subst Put l.invariant.same c.in_ok-resolve_home.ensures.put in
     let Left : List Home → Type 0 = (λ hs. Lead ts all (flat_map (programs.chain_routines W O) hs) [] l.routines.items old (values l.pool)) in
     let left = subst Left (homes_left O i in_order) l.invariant.lead in
