@@ -1,4 +1,4 @@
-use Rattle.std.proofs.Common.{◌++◌, ◌<◌, length, map, drop, sym, ap, ◌∙◌, arith}
+use Rattle.std.proofs.Common.{◌++◌, ◌<◌, length, sym, ap, ◌∙◌, arith}
 use Rattle.jt_names.specs.Scoped.{values}
 use Rattle.jt_resolve.proofs.Fronts.{part_put, defaults_left}
 use Rattle.jt_resolve.proofs.front.add_macros.Goals as goal

@@ -1,4 +1,4 @@
-use Rattle.std.proofs.Common.{◌≡◌, ◌+◌, ◌<◌, ◌≤◌, List, [], ◌∷◌, length, map, drop, refl, sym, ap, subst, ◌∙◌, arith}
+use Rattle.std.proofs.Common.{◌+◌, ◌<◌, ◌≤◌, List, [], length, map, drop, refl, sym, ap, subst, arith}
 use Rattle.std.specs.Prelude.{flat_map}
 use Rattle.std.proofs.lemmas.List.{at_drop_all}
 use Rattle.jt_inherit.specs.Chain.{Home}
@@ -8,7 +8,6 @@ use Rattle.jt_inherit.specs.View.{chain_view}
 use Rattle.jt_inherit.specs.declared.linked.Chain.{Chain}
 use Rattle.jt_rules.specs.World.{world_of}
 use Rattle.jt_meaning.specs.Programs as programs
-use Rattle.jt_slots.specs.declared.program.Routine.{Routine}
 use Rattle.jt_names.specs.Scoped.{values, world_in, order_in, templates_in}
 use Rattle.jt_scopes.specs.Routines.{AreRoutines}
 use Rattle.jt_resolve.proofs.Homes.{homes_left}
