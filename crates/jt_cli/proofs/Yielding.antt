@@ -3,7 +3,8 @@ use Rattle.std.proofs.Common.{◌≡◌, ℕ, List, Option, Some, String, Global
 use Rattle.std.specs.Prelude.{IfOk}
 use Rattle.jt_scan.specs.declared.options.Options.{Options}
 use Rattle.jt_value.specs.Pairs.{Pairs}
-use Rattle.jt_inherit.specs.Chains.{Text, Sources}
+use Rattle.jt_inherit.specs.Chains.{Given}
+use Rattle.jt_parse.specs.Trees.{Text}
 use Rattle.jt_budget.specs.declared.Budget.{Budget}
 use Rattle.jt_host.specs.Rendering.{IsRendered}
 use Rattle.jt_line.specs.declared.Command.TheVariants as command
@@ -17,7 +18,7 @@ pub run_yields : (bytes : List ℕ) (x : Pairs) (b : Budget) (r : Result (String
 run_yields bytes x b (Ok text) image context o given h = (x, given, (bytes, text, refl, h))
 run_yields bytes x b (Err e) image context o given h = cc
 
-pub render_yields : (sources : Sources) (entry : Text) (options : Options) (x : Pairs) (b : Budget) (r : Result (String Global) Failure) (dir name : String Global) (context : Option (String Global)) (o : LineOptions)
+pub render_yields : (sources : Given) (entry : Text) (options : Options) (x : Pairs) (b : Budget) (r : Result (String Global) Failure) (dir name : String Global) (context : Option (String Global)) (o : LineOptions)
     → entry ≡ string_bytes name → options ≡ scan_options o → IsContextOfFile context x → RendersTo sources entry options x b r
     → IfOk r (λ text. YieldsBy (command.Render dir name context) o b (string_bytes text))
 render_yields sources entry options x b (Ok text) dir name context o e f given h = (

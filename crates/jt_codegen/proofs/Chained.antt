@@ -21,7 +21,6 @@ use Rattle.jt_lower.specs.Fits.{ProgramFits}
 use Rattle.jt_lower.specs.Lawful.{AreLow}
 use Rattle.jt_lower.specs.Compiles.{LowLaws}
 use Rattle.jt_codegen.specs.Compiled.{DoesChain, IsCompiled}
-use Rattle.jt_codegen.specs.Laws.{ChainLaws}
 use Rattle.jt_codegen.proofs.Knowing.{chains_known, filter_there}
 use Rattle.jt_codegen.proofs.Lawful.{program_lawful}
 
@@ -48,7 +47,7 @@ module _ (low : LowLaws) (programs : ProgramLaws) (given : Given) (entry : Text)
   abbrev p : Program
   p = program world order entry
 
-  fits : AreLow (routines world order) → ProgramFits p
+  pub fits : AreLow (routines world order) → ProgramFits p
   fits few = low.fits (names world order entry) (count_globals world order order) (shared world order) (routines world order) (program_lawful world entry is.included (programs.takes world entry is.included ordered keeps known)) few
 
   pub image_compiled : AreLow (routines world order) → IsCode (compiled p) → IsCompiled given entry options (compiled p)
@@ -69,11 +68,8 @@ module _ (low : LowLaws) (programs : ProgramLaws) (given : Given) (entry : Text)
         };
       }
 
-by_order : LowLaws → ProgramLaws → (given : Given) (entry : Text) (options : Options) (c : Seen) (is : IsChain given entry options c) → KeepsRules (world_of c) c.order → AreLow (routines (world_of c) c.order) → IsCode (compiled (program (world_of c) c.order entry))
+pub by_order : LowLaws → ProgramLaws → (given : Given) (entry : Text) (options : Options) (c : Seen) (is : IsChain given entry options c) → KeepsRules (world_of c) c.order → AreLow (routines (world_of c) c.order) → IsCode (compiled (program (world_of c) c.order entry))
     → IsCompiled given entry options (compiled (program (world_of c) c.order entry))
 by_order low programs given entry options c is kept few whole =
     subst (λ (o : List Home). IsCompiled given entry options (compiled (program (world_of c) o entry))) (sym is.begins)
     (image_compiled low programs given entry options c is kept (subst (λ (o : List Home). AreLow (routines (world_of c) o)) is.begins few) (subst (λ (o : List Home). IsCode (compiled (program (world_of c) o entry))) is.begins whole))
-
-pub laws_hold : LowLaws → ProgramLaws → ChainLaws
-laws_hold low programs = record { compiled = by_order low programs }

@@ -58,7 +58,7 @@ unfolding is_filter
 any_filter x = refl
 
 named_filter : (x : Text) → the_filters.named x ≡ option_map filter_id (find (has_filter_name x) filters)
-unfolding the_filters, filter_named
+unfolding the_filters filter_named
 named_filter x = refl
 
 there_with_id : (o : Option FilterId) → IsThere o → IsThere (option_map filter_id o)

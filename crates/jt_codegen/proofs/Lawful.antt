@@ -397,7 +397,7 @@ module _ (world : World) (order : List Home) where
       through true e f = absurd (let none : true ≡ false = e in cc)
       through false e f = f e
 
-  few_globals : (h : Home) → first_slot world order h + length (names world order h) ≤ count_globals world order order
+  pub few_globals : (h : Home) → first_slot world order h + length (names world order h) ≤ count_globals world order order
   few_globals h = through (among h order) refl
     where
       through : (b : Bool) → among h order ≡ b → first_slot world order h + length (names world order h) ≤ count_globals world order order

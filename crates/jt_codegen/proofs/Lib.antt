@@ -3,7 +3,14 @@ pub mod Putting
 pub mod Emitting
 pub mod Reading
 pub mod Tabled
+pub mod Below
 pub mod Lawful
 pub mod Knowing
 pub mod Chained
 pub mod Refused
+pub mod Read
+pub mod Routines
+pub mod Ordered
+pub mod Small
+pub mod Spelled
+pub mod Images

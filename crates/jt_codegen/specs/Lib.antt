@@ -1,4 +1,5 @@
 pub mod Statements
 pub mod Units
 pub mod Compiled
-pub mod Laws
+pub mod Limits
+pub mod Refusals

@@ -19,7 +19,7 @@ use std::alloc::Global;
 ///
 /// `CodeTooLong` where an image has no place for it, `NoMemory` where a growth was refused.
 #[tactic(auto, using(crate::proofs::Refused::assembly_refused))]
-pub fn image_of(alloc: Global, program: &Program) -> Result<Image, EmitError>
+pub(crate) fn image_of(alloc: Global, program: &Program) -> Result<Image, EmitError>
     requires { HasTables (compiled (program_of program.now)) }
     ensures is { IfOk result (λ image. image ≡ compiled (program_of program.now)) }
     ensures whole { IfOk result (λ image. IsCode image) }

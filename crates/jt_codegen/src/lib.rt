@@ -1,13 +1,13 @@
 //! Templates to images.
 #![tactic(auto)]
 
+mod compiling;
 mod emission;
+mod entries;
+mod error;
 mod image;
-mod laws;
 mod tables;
 mod targets;
 
-pub use emission::EmitError;
-pub use image::image_of;
-pub use laws::chain_laws;
-pub use tables::parts_of;
+pub use compiling::compile;
+pub use error::CompileError;

@@ -24,7 +24,7 @@ const MAX_COUNT: usize = 65_535;
 /// # Errors
 ///
 /// `CodeTooLong` where an image has no place for them, `NoMemory` where a growth was refused.
-pub fn parts_of(alloc: Global, program: &Program) -> Result<Parts, EmitError>
+pub(crate) fn parts_of(alloc: Global, program: &Program) -> Result<Parts, EmitError>
     ensures emitted { IfOk result (λ p. code_of_parts p ≡ Some (compiled (program_of program.now))) }
     ensures refused { IfErr result (λ e. RefusesCode e (compiled (program_of program.now))) }
 {

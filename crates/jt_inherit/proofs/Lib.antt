@@ -1,5 +1,6 @@
 pub mod Alone
 pub mod Among
+pub mod Fewer
 pub mod Checked
 pub mod Cuts
 pub mod Escapes

@@ -1,6 +1,6 @@
 //! The chain that an entry begins.
 
-ghost use Rattle.std.specs.Prelude.{◌≡◌, ◌≤◌, Bool, false, [], map, slice_get, flat_map, Some, IfOk, IfErr};
+ghost use Rattle.std.specs.Prelude.{◌≡◌, ◌+◌, ◌*◌, ◌≤◌, length, Bool, false, [], map, slice_get, flat_map, Some, IfOk, IfErr};
 ghost use Rattle.std.specs.List.{AllByRecursion};
 ghost use Rattle.jt_parse.specs.Bytes.{body_bytes};
 ghost use Rattle.jt_inherit.specs.Chains.{IsChain};
@@ -43,6 +43,8 @@ pub fn chain<L: Library>(
         chains_len (L.sources library.now) (sources_of (chain_view c)) (chain_view c).order) }
     // names and texts of a tree are no longer than its source
     ensures short { IfOk result (λ c. AllByRecursion (λ t. body_bytes t.body ≤ source_len (L.sources library.now t.name)) (chain_view c).templates) }
+    // chains are few for the weight of their trees: each but the entry's has its own tag
+    ensures few { IfOk result (λ c. 7 * length (chain_view c).order ≤ chains_weight (sources_of (chain_view c)) (chain_view c).order + 7) }
 {
     let pages = read_way(alloc, entry, library, options)?;
     if has_includes(alloc, &pages)? {

@@ -153,6 +153,11 @@ mutual
   body_sized slots.end n = refl
   body_sized (slots.stmt s rest) n = omega (arith, stmt_sized s n, body_sized rest (n + length (stmt_values s)))
 
+-- routines that have got their places need as many entries as before
+pub placed_low : (rs : List (Routine Constant)) (n : ℕ) → AllByRecursion (λ r. body_height r.body ≤ max_entries) (placed_routines rs n) → AreLow rs
+placed_low [] n h = tt
+placed_low (r ∷ rs) n h = (omega (arith, h.0, body_low r.body n), placed_low rs (n + length (body_values r.body)) h.1)
+
 pub same_size : (rs : List (Routine Constant)) (n : ℕ) → routines_size (placed_routines rs n) ≡ routines_size rs
 same_size [] n = refl
 same_size (r ∷ rs) n = omega (arith, body_sized r.body n, same_size rs (n + length (body_values r.body)))

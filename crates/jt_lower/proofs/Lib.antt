@@ -11,6 +11,8 @@ pub mod Fitting
 pub mod Patched
 pub mod Viewed
 pub mod Rows
+pub mod Lows
+pub mod Written
 pub mod Pooled
 pub mod Whole
 pub mod FitsTest

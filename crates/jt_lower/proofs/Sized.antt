@@ -9,7 +9,7 @@ use Rattle.jt_lower.specs.Asm.{Asm, nil, one, both, choose, when, each, invoke, 
 use Rattle.jt_lower.specs.Lower.{expr_asm, row_asm, stores_asm, take_asm, kept_asm, stmt_asm, body_asm, unit_of, compiled}
 use Rattle.jt_slots.specs.Size.{expr_size, row_size, targets_size, condition_size, stmt_size, body_size, routines_size}
 
-abbrev asm_size : Asm → ℕ
+abbrev pub asm_size : Asm → ℕ
 asm_size nil = 0
 asm_size (one o i) = 1
 asm_size (both a b) = asm_size a + asm_size b
@@ -18,7 +18,7 @@ asm_size (when a) = asm_size a + 1
 asm_size (each a) = asm_size a + 2
 asm_size (invoke o u) = 1
 
-flat_size : (a : Asm) (n : ℕ) → length (flat a n) ≡ asm_size a
+pub flat_size : (a : Asm) (n : ℕ) → length (flat a n) ≡ asm_size a
 flat_size nil n = refl
 flat_size (one o i) n = refl
 flat_size (both a b) n = length-append (flat a n) (flat b (n + length (flat a n))) ∙ omega (arith, flat_size a n, flat_size b (n + length (flat a n)))

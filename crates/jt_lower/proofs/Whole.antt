@@ -6,10 +6,11 @@ use Rattle.jt_slots.specs.TheFilters.{the_filters}
 use Rattle.jt_lower.specs.Lower.{compiled}
 use Rattle.jt_lower.specs.Fits.{ProgramFits}
 use Rattle.jt_lower.specs.Compiles.{DoesProgram, PlacesFaults, LowLaws}
-use Rattle.jt_lower.proofs.Fitting.{lawful_fits, same_size}
+use Rattle.jt_lower.proofs.Fitting.{lawful_fits, placed_low, same_size}
 use Rattle.jt_lower.proofs.Pooled.{pooled_same}
 use Rattle.jt_lower.proofs.Follows.{placed}
 use Rattle.jt_lower.proofs.Sized.{program_sized}
+use Rattle.jt_lower.proofs.Written.{program_written}
 use Rattle.jt_lower.proofs.Typed.{compiled_typed}
 use Rattle.jt_lower.proofs.Correct.{text_means, fault_means, enough_text, enough_fault, placed_means, means_placed}
 
@@ -27,4 +28,4 @@ places_faults : (p : Program) → ProgramFits p → PlacesFaults p
 places_faults p fit = record { faults = placed_means p fit; places = means_placed p fit }
 
 pub laws_hold : CodeLaws → LowLaws
-laws_hold laws = record { fits = lawful_fits; pooled = pooled_same the_filters; typed = compiled_typed; right = does_program laws; places_faults = places_faults; one_place = placed; sized = program_sized; same_size = same_size }
+laws_hold laws = record { fits = lawful_fits; pooled = pooled_same the_filters; typed = compiled_typed; right = does_program laws; places_faults = places_faults; one_place = placed; sized = program_sized; low = placed_low; written = program_written; same_size = same_size }

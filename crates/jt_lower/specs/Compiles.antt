@@ -1,11 +1,13 @@
 -- What it is for the code of a program to be right.
-use Rattle.std.specs.Prelude.{◌≡◌, ℕ, List, ◌++◌, Option, length}
+use Rattle.std.specs.Prelude.{◌≡◌, ℕ, ◌<◌, ◌≤◌, ◌^◌, List, ◌++◌, Option, length}
+use Rattle.std.specs.List.{AllByRecursion}
 use Rattle.jt_value.specs.Tree.{Tree}
 use Rattle.jt_value.specs.Pairs.{Pairs}
 use Rattle.jt_value.specs.declared.fault.Fault.{Fault}
 use Rattle.jt_image.specs.Code.{Code}
-use Rattle.jt_image.specs.IsCode.{IsCode, total_len}
-use Rattle.jt_image.specs.Typed.{IsTyped}
+use Rattle.jt_image.specs.IsCode.{IsCode, IsInstruction, total_len}
+use Rattle.jt_image.specs.Parts.{KeepsLimits}
+use Rattle.jt_image.specs.Typed.{max_entries, IsTyped}
 use Rattle.jt_image.specs.Config as config
 use Rattle.jt_image.specs.Config.{Budget}
 use Rattle.jt_image.specs.Run.{Run}
@@ -22,7 +24,7 @@ use Rattle.jt_lower.specs.Lower.{compiled}
 use Rattle.jt_lower.specs.Placed.{Failed, placed_exec, table_of}
 use Rattle.jt_lower.specs.Fits.{ProgramFits}
 use Rattle.jt_lower.specs.Lawful.{program_with, AreLawful, AreLow}
-use Rattle.jt_slots.specs.Size.{routines_size}
+use Rattle.jt_slots.specs.Size.{body_height, routines_size}
 
 -- A text or a fault that the code ends with, for a context under a budget, is what the program means, where calls go at most so many
 -- deep; and what the program means, some budget is enough for.
@@ -50,4 +52,8 @@ pub record LowLaws : Type 0 where
   pub places_faults : (p : Program) → ProgramFits p → PlacesFaults p
   pub one_place : (a : Asm) (n : ℕ) → length (places a) ≡ length (flat a n)
   pub sized : (p : Program) → total_len (compiled p).units ≡ routines_size p.routines
+  -- constants that have got their places need as many entries as before
+  pub low : (rs : List (Routine Constant)) (n : ℕ) → AllByRecursion (λ r. body_height r.body ≤ max_entries) (placed_routines rs n) → AreLow rs
+  -- where the limits of images are kept, the fields of each instruction have place for what it holds
+  pub written : (p : Program) → ProgramFits p → p.globals < 2 ^ 16 → KeepsLimits (compiled p) → AllByRecursion (λ u. AllByRecursion IsInstruction u.code) (compiled p).units
   pub same_size : (rs : List (Routine Constant)) (n : ℕ) → routines_size (placed_routines rs n) ≡ routines_size rs

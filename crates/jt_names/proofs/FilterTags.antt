@@ -1,5 +1,5 @@
 -- Filters one after the other.
-use Rattle.std.proofs.Common.{◌≡◌, ℕ, ◌+◌, ◌<◌, List, [], ◌∷◌, ◌++◌, length, map, take, get_or, refl, sym, ap, ◌∙◌}
+use Rattle.std.proofs.Common.{◌≡◌, ℕ, ◌+◌, ◌<◌, List, [], ◌∷◌, ◌++◌, length, take, get_or, refl, sym, ap, ◌∙◌}
 use Rattle.std.proofs.lemmas.List.{take_more, map-append}
 use Rattle.jt_parse.specs.Trees as trees
 use Rattle.jt_parse.specs.View.{filtering_view, filterings_view}
@@ -19,7 +19,7 @@ filters_push s spot (g ∷ gs) f e = filters_push s spot gs f (filtered_in s ((w
 -- one filter more
 pub filters_next : (s : Scope) (spot : Spot) (fs : List Filtering) (i : ℕ) (f : Filtering) (e : SExpr Constant) → i < length fs → f ≡ get_or fs i f
     → filtered_in s ((world_in s).filters.named (filtering_view f).name) (resolved_filters (world_in s) (order_in s) (filterings_view (take i fs)) (spot_in s spot) e) (filtering_view f).arguments (filtering_view f).keywords spot
-        ≡ resolved_filters (world_in s) (order_in s) (filterings_view (take (i + 1) fs)) (spot_in s spot) e
+    ≡ resolved_filters (world_in s) (order_in s) (filterings_view (take (i + 1) fs)) (spot_in s spot) e
 filters_next s spot fs i f e lt is =
     sym (filters_push s spot (filterings_view (take i fs)) (filtering_view f) e)
     ∙ ap (λ l. resolved_filters (world_in s) (order_in s) l (spot_in s spot) e) (sym (map-append filtering_view (take i fs) (f ∷ [])))

@@ -1,5 +1,5 @@
 -- The filters by their ids.
-use Rattle.std.proofs.Common.{◌≡◌, refl, ap, Some, ◌∙◌}
+use Rattle.std.proofs.Common.{◌≡◌, refl, ap, Some}
 use Rattle.std.specs.Prelude.{option_map}
 use Rattle.jt_filters.specs.FilterTable.{filter_id}
 use Rattle.jt_filters.specs.FilterIds.{filter_of}

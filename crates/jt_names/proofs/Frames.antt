@@ -1,14 +1,12 @@
 -- Names in frames, one behind the other.
-use Rattle.std.proofs.Common.{◌≡◌, ℕ, suc, ◌+◌, ◌<◌, List, [], ◌∷◌, ◌++◌, length, map, take, get_or, refl, sym, ap, ◌∙◌, Option, Some, None, Global}
+use Rattle.std.proofs.Common.{◌≡◌, ℕ, ◌+◌, ◌<◌, List, [], ◌∷◌, ◌++◌, length, map, take, get_or, refl, sym, ap, ◌∙◌, None, Global}
 use Rattle.std.specs.declared.rc.Rc.{Rc}
 use Rattle.std.proofs.lemmas.List.{take_more, map-append}
 use Rattle.jt_parse.specs.Trees.{Text}
-use Rattle.jt_slots.specs.Slots.{local}
 use Rattle.jt_meaning.specs.Layout.{Table, slot_in}
 use Rattle.jt_meaning.specs.Resolve.{bound_table}
 use Rattle.jt_layout.specs.Names.{place_in}
 use Rattle.jt_uses.specs.Names.{texts}
-use Rattle.jt_names.specs.Names.{last_among}
 use Rattle.jt_names.specs.Scoped.{framed}
 use Rattle.jt_names.specs.declared.frame.Frame.{Frame}
 use Rattle.jt_names.proofs.Names.{found_or, bound_found}

@@ -1,5 +1,5 @@
 -- What the parts of a chain are resolved to, in the tables that the code keeps, and with the places of the pool that it fills.
-use Rattle.std.specs.Prelude.{◌≡◌, ℕ, ◌+◌, List, [], ◌∷◌, ◌++◌, map, drop, length, Option, Some, None, Vec}
+use Rattle.std.specs.Prelude.{◌≡◌, ℕ, List, [], ◌∷◌, ◌++◌, map, drop, length, Option, Some, None, Vec}
 use Rattle.std.specs.declared.alloc.Global.{Global}
 use Rattle.std.specs.Str.{bytes_eq}
 use Rattle.std.specs.Prelude.{filter}
@@ -13,11 +13,11 @@ use Rattle.jt_inherit.specs.Uses.{count, keywords}
 use Rattle.jt_inherit.specs.Places.{home_at}
 use Rattle.jt_inherit.specs.View.{chain_view}
 use Rattle.jt_rules.specs.World.{World, world_of}
-use Rattle.jt_slots.specs.Pool.{Constant, expr_values, row_values, stmt_values, body_values, placed_expr, placed_row, placed_stmt, placed_body}
+use Rattle.jt_slots.specs.Pool.{Constant, expr_values, row_values, body_values, placed_expr, placed_row, placed_body}
 use Rattle.jt_expr.specs.Trees as trees
 use Rattle.jt_slots.specs.Slots as slots
 use Rattle.jt_slots.specs.Slots.{SRow, SBody}
-use Rattle.jt_slots.specs.View.{row_view, stmt_view, body_view}
+use Rattle.jt_slots.specs.View.{row_view, body_view}
 use Rattle.jt_slots.specs.declared.program.SExpr.{SExpr}
 use Rattle.jt_slots.specs.declared.program.SStmt.{SStmt}
 use Rattle.jt_meaning.specs.Layout.{Table, globals, numbered_bodies}

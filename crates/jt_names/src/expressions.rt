@@ -29,6 +29,7 @@ use crate::forms::{
 use crate::lookup::{more, no_value, reading, slot};
 use crate::loops::{field_of, is_loop_name, told};
 use crate::pool::{add_text, add_value};
+use crate::rows::row_of;
 use crate::spot::Spot;
 use jt_expr::{BinaryOperator, Expr};
 use jt_filters::FilterId;
@@ -241,7 +242,7 @@ fn resolve_test(
         None => turned(alloc, negated, no_operation(alloc)),
         Some(test) => {
             let first = resolve_expression(alloc, scope, spot, value, pool)?;
-            let mut operands = vec![in alloc; (None, first)]?;
+            let mut operands = row_of(alloc, first)?;
             resolve_row(alloc, scope, spot, row, &mut operands, pool)?;
             turned(alloc, negated, SExpr::Made(Maker::Test(test), operands))
         }
@@ -290,7 +291,7 @@ pub fn resolve_filtered(
         → IsPlaced (filtered_in scope.now (Some (filter_id filter)) c (written.exprs_view row.now) (written.pairs_view pairs.now) spot.now) (expr_view e) p (values pool.new)) }
     ensures refused { IfErr result (λ e. e ≡ error.NoMemory) }
 {
-    let mut given = vec![in alloc; (None, value)]?;
+    let mut given = row_of(alloc, value)?;
     resolve_given(alloc, scope, spot, row, pairs, &mut given, pool)?;
     let parameters = filter_parameters(alloc, filter)?;
     fill_some(

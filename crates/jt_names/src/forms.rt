@@ -196,9 +196,18 @@ pub fn turn_among(alloc: Global, count: usize, pool: &mut Vec<Value>) -> Result<
     ensures placed { IfOk result (λ e. IsPlaced (resolve.operation_of Remainder (slots.field index0) (slots.pooled (own (tree.number (pos count))))) (expr_view e) (values pool.old) (values pool.new)) }
     ensures refused { IfErr result (λ e. e ≡ error.NoMemory) }
 {
-    let Ok(count) = i64::try_from(count) else {
-        return Err(ScopeError::NoMemory);
-    };
-    let items = add_value(pool, Value::Int(count))?;
+    let number = number_of(count)?;
+    let items = add_value(pool, number)?;
     on_two(alloc, OpId::Remainder, SExpr::Field(Field::Index0), items)
+}
+
+/// A count as a value.
+fn number_of(count: usize) -> Result<Value, ScopeError>
+    ensures valued { IfOk result (λ v. view v ≡ tree.number (pos count)) }
+    ensures refused { IfErr result (λ e. e ≡ error.NoMemory) }
+{
+    match i64::try_from(count) {
+        Ok(count) => Ok(Value::Int(count)),
+        Err(_) => Err(ScopeError::NoMemory),
+    }
 }

@@ -1,6 +1,6 @@
 //! Rows of what names read.
 
-ghost use Rattle.std.specs.Prelude.{◌≡◌, List, [], length, IfOk, IfErr};
+ghost use Rattle.std.specs.Prelude.{◌≡◌, List, [], ◌∷◌, length, None, IfOk, IfErr};
 ghost use Rattle.jt_value.specs.Tree.{Tree};
 ghost use Rattle.jt_parse.specs.Trees.{Text};
 ghost use Rattle.jt_uses.specs.Names.{texts};
@@ -45,4 +45,12 @@ pub fn first_locals(alloc: Global, count: usize) -> Result<Vec<(Option<usize>, S
         row.push((None, SExpr::Variable(Slot::Local(local))))?;
     }
     Ok(row)
+}
+
+/// A row of one expression.
+pub fn row_of(alloc: Global, first: SExpr) -> Result<Vec<(Option<usize>, SExpr)>, ScopeError>
+    ensures alone { IfOk result (λ row. row.items ≡ (None, first) ∷ []) }
+    ensures refused { IfErr result (λ e. e ≡ error.NoMemory) }
+{
+    Ok(vec![in alloc; (None, first)]?)
 }

@@ -1,7 +1,10 @@
 -- Statements that were put behind one another.
-use Rattle.std.proofs.Common.{◌≡◌, ℕ, ◌+◌, List, [], ◌∷◌, ◌++◌, length, refl, sym, ap, ◌∙◌, subst, Bool, Option, Some, None, Vec, Global, append_assoc, append-nil, length-append, arith}
+use Rattle.std.proofs.Common.{◌≡◌, ℕ, ◌+◌, List, [], ◌∷◌, ◌++◌, length, map, refl, sym, ap, ◌∙◌, subst, Bool, Option, Some, None, Vec, Global, append_assoc, append-nil, length-append, arith}
 use Rattle.std.specs.Prelude.{option_map}
+use Rattle.std.proofs.lemmas.List.{map-append}
 use Rattle.jt_value.specs.Tree.{Tree}
+use Rattle.jt_value.specs.View.{view}
+use Rattle.jt_value.specs.declared.value.Value.{Value}
 use Rattle.jt_parse.specs.Trees.{Text}
 use Rattle.jt_slots.specs.Got.{Place}
 use Rattle.jt_slots.specs.Pool.{Constant, own, known, expr_values, row_values, condition_values, stmt_values, body_values, placed_expr, placed_row, placed_condition, placed_stmt, placed_body}
@@ -16,7 +19,7 @@ use Rattle.jt_slots.specs.declared.program.SStmt as code_stmt
 use Rattle.jt_slots.specs.declared.program.SStmt.TheVariants as s
 use Rattle.jt_meaning.specs.Resolve.{followed, alone}
 use Rattle.jt_names.specs.Scoped.{IsPlaced, RowLeads, BodyLeads}
-use Rattle.jt_scopes.specs.Stated.{Branch, Led, IsBody, IsAsked, StandsFor, ChoiceLeads}
+use Rattle.jt_scopes.specs.Stated.{Branch, Led, IsBody, IsAsked, IsBranch, StandsFor, ChoiceLeads}
 use Rattle.jt_scopes.proofs.Fronts.{Entry, view-PutPooled, view-Print, view-Assign, view-If, view-For, view-Capture, view-Run, body_push, joined, choice_push}
 
 -- ---- bodies
@@ -32,6 +35,10 @@ followed_again (slots.stmt s rest) b c = ap (slots.stmt s) (followed_again rest 
 pub followed_values : (a b : SBody Constant) → body_values (followed a b) ≡ body_values a ++ body_values b
 followed_values slots.end b = refl
 followed_values (slots.stmt s rest) b = ap (λ l. stmt_values s ++ l) (followed_values rest b) ∙ sym (append_assoc (stmt_values s) (body_values rest) (body_values b))
+
+-- a value more in a pool
+pub value_push : (is ks : List Value) (x : Value) (v : Tree) → ks ≡ is ++ x ∷ [] → view x ≡ v → map view ks ≡ map view is ++ v ∷ []
+value_push is ks x v e f = ap (map view) e ∙ map-append view is (x ∷ []) ∙ ap (λ z. map view is ++ z ∷ []) f
 
 -- the length of a pool behind a part
 pub grown_by : (p xs q : List Tree) → q ≡ p ++ xs → length q ≡ length p + length xs
@@ -113,8 +120,8 @@ module _ (templates : List Text) where
       stmt_led (slots.capture escaping (slot_view x) w) (s.Capture escaping x body) ss ts p q
       (λ behind. view-Capture templates escaping x body behind ∙ ap (λ z. slots.stmt (slots.capture escaping (slot_view x) z) behind) (body_shown w body.items p q h)) (body_pooled w body.items p q h)
 
-  pub data_led : (v : Tree) (ss ts : List code_stmt.SStmt) (p q : List Tree) → q ≡ p ++ v ∷ [] → ts ≡ ss ++ s.PutPooled (length p) ∷ [] → Led templates (alone (slots.put_pooled (own v))) ss ts p q
-  data_led v ss ts p q = stmt_led (slots.put_pooled (own v)) (s.PutPooled (length p)) ss ts p q (λ behind. view-PutPooled templates (length p) behind)
+  pub data_led : (v : Tree) (i : ℕ) (ss ts : List code_stmt.SStmt) (p q : List Tree) → i ≡ length p → q ≡ p ++ v ∷ [] → ts ≡ ss ++ s.PutPooled i ∷ [] → Led templates (alone (slots.put_pooled (own v))) ss ts p q
+  data_led v i ss ts p q e = stmt_led (slots.put_pooled (own v)) (s.PutPooled i) ss ts p q (λ behind. view-PutPooled templates i behind ∙ ap (λ n. slots.stmt (slots.put_pooled n) behind) e)
 
   pub loop_led : (at : code_place.Place) (pl : Place) (xs : code_targets.Targets) (c : SExpr Constant) (e : code.SExpr) (k : Option (SExpr Constant)) (d : Option code.SExpr) (turn last : SBody Constant)
       (body other : Vec code_stmt.SStmt Global) (ss ts : List code_stmt.SStmt) (p q r t v : List Tree) → place_view templates at ≡ pl → IsPlaced c (expr_view e) p q → IsAsked k d q r → IsBody templates turn body.items r t
@@ -142,34 +149,45 @@ module _ (templates : List Text) where
 
   -- ---- choices
 
+  -- the other part in another form
+  pub choice_other : (whole a b : SBody Constant) (bs : List Branch) (p q : List Tree) → a ≡ b → ChoiceLeads templates whole a bs p q → ChoiceLeads templates whole b bs p q
+  choice_other whole a b bs p q = let P : SBody Constant → Type 0 = λ z. ChoiceLeads templates whole z bs p q in subst P
+
   -- no branch yet
   pub choice_same : (whole : SBody Constant) (bs : List Branch) (p : List Tree) → bs ≡ [] → ChoiceLeads templates whole whole bs p p
   choice_same whole bs p e =
       let P : List Branch → Type 0 = λ l. ChoiceLeads templates whole whole l p p in
       subst P (sym e) (record { shown = λ f left last h. record { alone = h.alone; before = h.before; until = h.until }; pooled = refl })
 
+  -- a branch whose body is written in another form
+  pub branch_as : (pl : Place) (c : SExpr Constant) (a b : SBody Constant) (x : Branch) (p q : List Tree) → a ≡ b → IsBranch templates pl c a x p q → IsBranch templates pl c b x p q
+  branch_as pl c a b x p q = let P : SBody Constant → Type 0 = λ z. IsBranch templates pl c z x p q in subst P
+
   -- a branch more
-  pub branch_led : (whole rest b : SBody Constant) (pl : Place) (c : SExpr Constant) (at : code_place.Place) (e : code.SExpr) (body : Vec code_stmt.SStmt Global) (bs cs : List Branch) (p q r t : List Tree)
-      → ChoiceLeads templates whole (alone (slots.if_else pl c b rest)) bs p q → place_view templates at ≡ pl → IsPlaced c (expr_view e) q r → IsBody templates b body.items r t
-      → cs ≡ bs ++ (at, e, body) ∷ [] → ChoiceLeads templates whole rest cs p t
-  branch_led whole rest b pl c at e body bs cs p q r t so f h g w = subst P (sym w) (record { shown = shown; pooled = pooled })
+  pub branch_led : (whole rest b : SBody Constant) (pl : Place) (c : SExpr Constant) (x : Branch) (bs cs : List Branch) (p q t : List Tree)
+      → ChoiceLeads templates whole (alone (slots.if_else pl c b rest)) bs p q → IsBranch templates pl c b x q t → cs ≡ bs ++ x ∷ [] → ChoiceLeads templates whole rest cs p t
+  branch_led whole rest b pl c x bs cs p q t so is w = subst P (sym w) (record { shown = shown; pooled = pooled })
     where
       P : List Branch → Type 0
       P l = ChoiceLeads templates whole rest l p t
+      r : List Tree
+      r = is.between
+      h : IsPlaced c (expr_view x.1) q r
+      h = is.asked
+      g : IsBody templates b x.2.items r t
+      g = is.taken
       first : length r ≡ length q + length (expr_values c)
       first = grown_by q (expr_values c) r h.pooled
       second : length t ≡ length q + length (expr_values c) + length (body_values b)
-      second = grown_by r (body_values b) t (body_pooled b body.items r t g) ∙ ap (λ n. n + length (body_values b)) first
-      seen : SBody ℕ → SBody ℕ → SBody ℕ
-      seen z behind = slots.stmt (slots.if_else (place_view templates at) (expr_view e) (body_view templates body.items slots.end) z) behind
-      same : (z behind : SBody ℕ) → z ≡ placed_body rest (length t) → seen z behind ≡ slots.stmt (placed_stmt (slots.if_else pl c b rest) (length q)) behind
+      second = grown_by r (body_values b) t (body_pooled b x.2.items r t g) ∙ ap (λ n. n + length (body_values b)) first
+      same : (z behind : SBody ℕ) → z ≡ placed_body rest (length t) → joined templates x z behind ≡ slots.stmt (placed_stmt (slots.if_else pl c b rest) (length q)) behind
       same z behind k =
-          ap (λ y. slots.stmt (slots.if_else y (expr_view e) (body_view templates body.items slots.end) z) behind) f
-          ∙ ap (λ y. slots.stmt (slots.if_else pl y (body_view templates body.items slots.end) z) behind) h.shown
-          ∙ ap (λ y. slots.stmt (slots.if_else pl (placed_expr c (length q)) y z) behind) (body_shown b body.items r t g ∙ ap (placed_body b) first)
+          ap (λ y. slots.stmt (slots.if_else y (expr_view x.1) (body_view templates x.2.items slots.end) z) behind) is.stands
+          ∙ ap (λ y. slots.stmt (slots.if_else pl y (body_view templates x.2.items slots.end) z) behind) h.shown
+          ∙ ap (λ y. slots.stmt (slots.if_else pl (placed_expr c (length q)) y z) behind) (body_shown b x.2.items r t g ∙ ap (placed_body b) first)
           ∙ ap (λ y. slots.stmt (slots.if_else pl (placed_expr c (length q)) (placed_body b (length q + length (expr_values c))) y) behind) (k ∙ ap (placed_body rest) second)
       -- the branch in front of what stands for the other part
-      stands : (o : Front) (left : SBody Constant) (last : ℕ) → StandsFor rest left o (length t) last → StandsFor (alone (slots.if_else pl c b rest)) left (joined templates (at, e, body) (o slots.end)) (length q) last
+      stands : (o : Front) (left : SBody Constant) (last : ℕ) → StandsFor rest left o (length t) last → StandsFor (alone (slots.if_else pl c b rest)) left (joined templates x (o slots.end)) (length q) last
       stands o left last k =
           let ends : last ≡ length q + length (stmt_values (slots.if_else pl c b rest)) =
           k.until ∙ ap (λ n. n + length (body_values rest)) second ∙ three_long (length q) (expr_values c) (body_values b) (body_values rest) in
@@ -181,17 +199,17 @@ module _ (templates : List Text) where
         where
           three_long : (n : ℕ) (xs ys zs : List Tree) → n + length xs + length ys + length zs ≡ n + length (xs ++ (ys ++ zs))
           three_long n xs ys zs = let g : length (xs ++ (ys ++ zs)) ≡ length xs + length (ys ++ zs) = length-append xs (ys ++ zs) in let k : length (ys ++ zs) ≡ length ys + length zs = length-append ys zs in omega arith
-      shown : (o : Front) (left : SBody Constant) (last : ℕ) → StandsFor rest left o (length t) last → StandsFor whole left (choice_view templates (bs ++ (at, e, body) ∷ []) o) (length p) last
+      shown : (o : Front) (left : SBody Constant) (last : ℕ) → StandsFor rest left o (length t) last → StandsFor whole left (choice_view templates (bs ++ x ∷ []) o) (length p) last
       shown o left last k =
-          let so_far = so.shown (joined templates (at, e, body) (o slots.end)) left last (stands o left last k) in
+          let so_far = so.shown (joined templates x (o slots.end)) left last (stands o left last k) in
           record {
-            alone = choice_push templates bs (at, e, body) o slots.end ∙ so_far.alone;
-            before = choice_push templates bs (at, e, body) o (placed_body left last) ∙ so_far.before;
+            alone = choice_push templates bs x o slots.end ∙ so_far.alone;
+            before = choice_push templates bs x o (placed_body left last) ∙ so_far.before;
             until = so_far.until;
           }
       pooled : t ++ body_values rest ≡ p ++ body_values whole
       pooled =
-          ap (λ l. l ++ body_values rest) (body_pooled b body.items r t g ∙ ap (λ l. l ++ body_values b) h.pooled)
+          ap (λ l. l ++ body_values rest) (body_pooled b x.2.items r t g ∙ ap (λ l. l ++ body_values b) h.pooled)
           ∙ append_assoc (q ++ expr_values c) (body_values b) (body_values rest) ∙ append_assoc q (expr_values c) (body_values b ++ body_values rest)
           ∙ ap (λ l. q ++ l) (sym (append-nil (expr_values c ++ (body_values b ++ body_values rest)))) ∙ so.pooled
 

@@ -47,10 +47,14 @@ spot_bound sp xs t n e f = ap (λ (z : Table). record sp { table = z; free = n }
 
 -- ---- slots of names that are set
 
+slot_when : (d : Bool) (u v : Slot) (o : Option Slot) → v ≡ unwrap_or o (local 0) → (if d then u else v) ≡ unwrap_or (if d then Some u else o) (local 0)
+slot_when true u v o e = refl
+slot_when false u v o e = e
+
 pub slot_of_found : (x : Text) (t : Table) → slot_of x t ≡ unwrap_or (slot_in x t) (local 0)
 slot_of_found x [] = refl
-slot_of_found x (b ∷ bs) = through (bytes_eq b.0 x)
-  where
-    through : (d : Bool) → (if d then b.1 else slot_of x bs) ≡ unwrap_or (if d then Some b.1 else slot_in x bs) (local 0)
-    through true = refl
-    through false = slot_of_found x bs
+slot_of_found x (b ∷ bs) = slot_when (bytes_eq b.0 x) b.1 (slot_of x bs) (slot_in x bs) (slot_of_found x bs)
+
+pub viewed_or : (o : Option code_slot.Slot) → unwrap_or (option_map slot_view o) (local 0) ≡ slot_view (unwrap_or o (s.Local 0))
+viewed_or None = refl
+viewed_or (Some x) = refl

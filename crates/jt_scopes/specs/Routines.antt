@@ -16,3 +16,12 @@ pub record IsRoutine (templates : List Text) (c : slots.Routine Constant) (r : R
 pub record AreRoutines (templates : List Text) (cs : List (slots.Routine Constant)) (before after : List Routine) (old new : List Tree) : Type 0 where
   pub shown : map (routine_view templates) after ≡ map (routine_view templates) before ++ placed_routines cs (length old)
   pub pooled : new ≡ old ++ routines_values cs
+
+-- routines that were put behind others, so that only a part is left to do
+pub record RoutinesLead (templates : List Text) (whole left : List (slots.Routine Constant)) (before after : List Routine) (old new : List Tree) : Type 0 where
+  pub shown : map (routine_view templates) after ++ placed_routines left (length new) ≡ map (routine_view templates) before ++ placed_routines whole (length old)
+  pub pooled : new ++ routines_values left ≡ old ++ routines_values whole
+
+-- all of some routines, whatever is put behind them
+abbrev pub AllLed : List Text → List (slots.Routine Constant) → List Routine → List Routine → List Tree → List Tree → Type 0
+AllLed templates cs before after old new = (left : List (slots.Routine Constant)) → RoutinesLead templates (cs ++ left) left before after old new

@@ -1,11 +1,16 @@
 //! Scopes that statements enter: names in locals of their own.
 
 ghost use Rattle.std.specs.Prelude.{◌≡◌, List, map, IfOk, IfErr};
+ghost use Rattle.std.specs.declared.alloc.Global.{Global};
+ghost use Rattle.std.specs.declared.rc.Rc.{Rc};
+ghost use denote.Ref.{Bor};
+ghost use Rattle.jt_names.specs.declared.frame.Frame.{Frame};
 ghost use Rattle.jt_expr.specs.View.{pairs_view};
 ghost use Rattle.jt_inherit.specs.Uses.{keywords};
 ghost use Rattle.jt_layout.specs.Laid.{IsLaidOut};
 ghost use Rattle.jt_meaning.specs.Layout.{Table};
-ghost use Rattle.jt_meaning.specs.Resolve.{bound_table, copied};
+ghost use Rattle.jt_layout.specs.declared.scope.Scope.{Scope};
+ghost use Rattle.jt_meaning.specs.Resolve.{bound_all, bound_table, copied};
 ghost use Rattle.jt_names.specs.Scoped.{BodyLeads, framed, spot_in, templates_in};
 ghost use Rattle.jt_parse.specs.View.{names_view, parameters_view};
 ghost use Rattle.jt_rules.specs.declared.error.ScopeError.TheVariants as error;
@@ -25,9 +30,16 @@ use jt_slots::{SStmt, Slot, Targets};
 use std::alloc::Global;
 use std::rc::Rc;
 
+/// The scopes around a place further inside, and the first local that holds nothing there.
+#[derive(Drop)]
+pub struct Inside<'a> {
+    pub frames: Vec<Rc<Frame<'a>>>,
+    pub free: usize,
+}
+
 /// The scopes around a place and these names in one further inside, in locals from the first that
 /// holds nothing.
-pub fn entered<'a>(
+fn framed_by<'a>(
     alloc: Global,
     spot: &Spot<'_, 'a>,
     names: Vec<&'a str>,
@@ -42,6 +54,21 @@ pub fn entered<'a>(
     let inner = Frame::new(alloc, names, spot.free)?;
     frames.push(Rc::new(alloc, inner)?)?;
     Ok(frames)
+}
+
+/// Enters a scope that has these names.
+pub fn entered<'a>(
+    alloc: Global,
+    spot: &Spot<'_, 'a>,
+    names: Vec<&'a str>,
+) -> Result<Inside<'a>, ScopeError>
+    ensures bound { IfOk result (λ i. (s : Scope) (fr : Bor (List (Rc Frame Global))) → fr.now ≡ i.frames.items
+        → spot_in s (record spot.now { frames = fr; free = i.free }) ≡ bound_all (texts names.entry.items) (spot_in s spot.now)) }
+    ensures refused { IfErr result (λ e. e ≡ error.NoMemory) }
+{
+    let free = more(spot.free, names.len())?;
+    let frames = framed_by(alloc, spot, names)?;
+    Ok(Inside { frames, free })
 }
 
 /// Puts what the names read, into locals from the first that holds nothing, behind other
@@ -59,7 +86,7 @@ pub fn put_copies(
 {
     let mut local = spot.free;
     for name in names {
-        let value = reading(slot(scope, spot, name));
+        let value = reading(slot(scope, spot, *name));
         put_assign(spot, 1, Targets::One(Slot::Local(local)), value, done)?;
         local = more(local, 1)?;
     }

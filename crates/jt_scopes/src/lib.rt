@@ -5,10 +5,9 @@ mod entering;
 mod locals;
 mod placing;
 mod putting;
-mod resolving;
 mod routines;
 mod statements;
 mod targets;
 
 pub use jt_rules::ScopeError;
-pub use resolving::resolve;
+pub use routines::resolve_home;

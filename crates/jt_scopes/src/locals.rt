@@ -3,6 +3,7 @@
 ghost use Rattle.std.specs.Prelude.{◌≡◌, ℕ, List, max, option_map, map, IfOk, IfErr};
 ghost use Rattle.jt_parse.specs.Trees.{Text};
 ghost use Rattle.jt_rules.specs.declared.error.ScopeError.TheVariants as error;
+ghost use Rattle.jt_scopes.specs.Counts as counts;
 ghost use Rattle.jt_slots.specs.Locals as locals;
 ghost use Rattle.jt_slots.specs.Slots as slots;
 ghost use Rattle.jt_slots.specs.Slots.{SBody};
@@ -23,6 +24,28 @@ fn slot_locals(slot: Slot) -> Result<usize, ScopeError>
     }
 }
 
+/// The locals of a slot, or of none.
+fn target_locals(slot: Option<Slot>) -> Result<usize, ScopeError>
+    ensures counted { IfOk result (λ n. n ≡ counts.target_locals (option_map slot_view slot)) }
+    ensures refused { IfErr result (λ e. e ≡ error.NoMemory) }
+{
+    match slot {
+        Some(slot) => slot_locals(slot),
+        None => Ok(0),
+    }
+}
+
+/// The local that something is kept aside in, if it is.
+fn aside_locals(kept: Option<usize>) -> Result<usize, ScopeError>
+    ensures counted { IfOk result (λ n. n ≡ counts.aside_locals kept) }
+    ensures refused { IfErr result (λ e. e ≡ error.NoMemory) }
+{
+    match kept {
+        Some(local) => more(local, 1),
+        None => Ok(0),
+    }
+}
+
 /// The locals of slots.
 fn slots_locals(slots: &[Option<Slot>]) -> Result<usize, ScopeError>
     ensures counted { IfOk result (λ n. n ≡ locals.slots_locals (map (option_map slot_view) slots.now)) }
@@ -30,9 +53,7 @@ fn slots_locals(slots: &[Option<Slot>]) -> Result<usize, ScopeError>
 {
     let mut most = 0;
     for slot in slots {
-        if let Some(slot) = slot {
-            most = most.max(slot_locals(*slot)?);
-        }
+        most = most.max(target_locals(*slot)?);
     }
     Ok(most)
 }
@@ -55,10 +76,15 @@ fn expr_locals(expr: &SExpr) -> Result<usize, ScopeError>
     ensures refused { IfErr result (λ e. e ≡ error.NoMemory) }
 {
     match expr {
-        SExpr::Pooled(_) | SExpr::Field(_) => Ok(0),
+        SExpr::Pooled(_) => Ok(0),
         SExpr::Variable(slot) => slot_locals(*slot),
-        SExpr::Made(_, row) | SExpr::Invoke(_, _, row) => row_locals(row),
-        SExpr::Conjunction(left, right) | SExpr::Disjunction(left, right) => {
+        SExpr::Field(_) => Ok(0),
+        SExpr::Made(_, row) => row_locals(row),
+        SExpr::Conjunction(left, right) => {
+            let first = expr_locals(left)?;
+            Ok(first.max(expr_locals(right)?))
+        }
+        SExpr::Disjunction(left, right) => {
             let first = expr_locals(left)?;
             Ok(first.max(expr_locals(right)?))
         }
@@ -67,6 +93,7 @@ fn expr_locals(expr: &SExpr) -> Result<usize, ScopeError>
             let first = expr_locals(value)?;
             Ok(asked.max(first.max(expr_locals(other)?)))
         }
+        SExpr::Invoke(_, _, row) => row_locals(row),
     }
 }
 
@@ -78,10 +105,8 @@ fn row_locals(row: &[(Option<usize>, SExpr)]) -> Result<usize, ScopeError>
 {
     let mut most = 0;
     for (kept, expr) in row {
-        most = most.max(expr_locals(expr)?);
-        if let Some(local) = kept {
-            most = most.max(more(*local, 1)?);
-        }
+        let given = expr_locals(expr)?;
+        most = most.max(given.max(aside_locals(*kept)?));
     }
     Ok(most)
 }
@@ -120,9 +145,11 @@ fn stmt_locals(statement: &SStmt) -> Result<usize, ScopeError>
         }
         SStmt::For(_, targets, items, condition, body, other) => {
             let taken = targets_locals(targets)?;
-            let given = expr_locals(items)?.max(condition_locals(condition)?);
-            let turn = body_locals(body)?.max(body_locals(other)?);
-            Ok(taken.max(given.max(turn)))
+            let given = expr_locals(items)?;
+            let asked = condition_locals(condition)?;
+            let turn = body_locals(body)?;
+            let last = body_locals(other)?;
+            Ok(taken.max(given.max(asked).max(turn.max(last))))
         }
         SStmt::Capture(_, slot, body) => {
             let kept = slot_locals(*slot)?;

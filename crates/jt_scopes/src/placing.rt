@@ -2,10 +2,13 @@
 
 ghost use Rattle.std.specs.Prelude.{◌≡◌, ℕ, Bool, List, [], IfOk, IfErr, if◌then◌else◌};
 ghost use Rattle.jt_layout.specs.Laid.{IsLaidOut};
+ghost use Rattle.jt_layout.specs.declared.scope.Scope.{Scope};
 ghost use Rattle.jt_meaning.specs.Resolve as resolve;
-ghost use Rattle.jt_names.specs.Scoped.{spot_in, templates_in};
+ghost use Rattle.jt_meaning.specs.Layout.{slot_in};
+ghost use Rattle.jt_names.specs.Scoped.{IsPlaced, globals_in, spot_in, templates_in};
 ghost use Rattle.jt_parse.specs.Trees as trees;
 ghost use Rattle.jt_rules.specs.declared.error.ScopeError.TheVariants as error;
+ghost use Rattle.jt_slots.specs.View.{expr_view};
 ghost use Rattle.jt_uses.specs.Names.{texts};
 ghost use Rattle.jt_value.specs.Tree.{Tree};
 ghost use Rattle.jt_parse.specs.Trees.{Body};
@@ -15,10 +18,27 @@ use crate::putting::{put_assign, put_run};
 use jt_layout::Scope;
 use jt_names::{block_arguments, first_body, more, no_value, reading, slot, Spot};
 use jt_rules::ScopeError;
-use jt_slots::{SStmt, Slot, Targets};
+use jt_slots::{SExpr, SStmt, Slot, Targets};
 use std::alloc::Global;
 
-/// Puts what names read, or nothing, into globals from one on behind other statements.
+/// What an included chain is handed under a name: what the name reads, or nothing.
+fn handed(
+    scope: &Scope<'_>,
+    spot: &Spot<'_, '_>,
+    with_context: bool,
+    name: &str,
+) -> SExpr
+    requires { IsLaidOut scope.now }
+    ensures { (p : List Tree) → IsPlaced (resolve.read_from (slot_in name.now (if with_context then (spot_in scope.now spot.now).table else []))) (expr_view result) p p }
+{
+    if with_context {
+        reading(slot(scope, spot, name))
+    } else {
+        no_value()
+    }
+}
+
+/// Hands names on to globals from one on, behind other statements.
 fn hand_on(
     scope: &Scope<'_>,
     spot: &Spot<'_, '_>,
@@ -35,11 +55,7 @@ fn hand_on(
 {
     let mut global = first;
     for name in names {
-        let value = if with_context {
-            reading(slot(scope, spot, name))
-        } else {
-            no_value()
-        };
+        let value = handed(scope, spot, with_context, *name);
         put_assign(spot, line, Targets::One(Slot::Global(global)), value, done)?;
         global = more(global, 1)?;
     }
@@ -71,8 +87,19 @@ pub fn put_include(
     put_run(there.unit, Vec::new(alloc), done)
 }
 
-/// Puts a block where its tag stands behind other statements: it reads its parameters there, or
-/// among the globals where its tag does not say `scoped`.
+/// Where a block's parameters are read: where its tag stands, or among the globals where the tag
+/// does not say `scoped`.
+fn seen_by<'s, 'a>(spot: &Spot<'s, 'a>, scoped: bool) -> Spot<'s, 'a>
+    ensures { (s : Scope) → (spot_in s result).table ≡ (if scoped then (spot_in s spot.now).table else globals_in s) }
+{
+    if scoped {
+        *spot
+    } else {
+        spot.outside()
+    }
+}
+
+/// Puts a block where its tag stands behind other statements.
 pub fn put_block(
     alloc: Global,
     scope: &Scope<'_>,
@@ -88,6 +115,6 @@ pub fn put_block(
     let Some(unit) = first_body(scope, name)? else {
         return Ok(());
     };
-    let seen = if scoped { *spot } else { spot.outside() };
-    put_run(unit, block_arguments(alloc, scope, &seen, name)?, done)
+    let row = block_arguments(alloc, scope, &seen_by(spot, scoped), name)?;
+    put_run(unit, row, done)
 }

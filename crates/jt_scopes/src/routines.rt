@@ -1,9 +1,9 @@
 //! Resolves the routines of a chain: the chain, its macros, and the bodies of its blocks.
 
-ghost use Rattle.std.specs.Prelude.{◌≡◌, List, [], ◌∷◌, ◌<◌, map, length, IfOk, IfErr};
+ghost use Rattle.std.specs.Prelude.{◌≡◌, ◌<◌, map, length, IfOk, IfErr, if◌then◌else◌};
 ghost use Rattle.jt_inherit.specs.Chain.{macros};
 ghost use Rattle.jt_inherit.specs.Layers.{layer_view};
-ghost use Rattle.jt_inherit.specs.Parts.{macro_view, name_at};
+ghost use Rattle.jt_inherit.specs.Parts.{name_at};
 ghost use Rattle.jt_inherit.specs.View.{chain_view};
 ghost use Rattle.jt_layout.specs.Laid.{IsLaidOut};
 ghost use Rattle.jt_meaning.specs.Layout as layout;
@@ -14,9 +14,10 @@ ghost use Rattle.jt_meaning.specs.Resolve as resolve;
 ghost use Rattle.jt_names.specs.Scoped.{values, world_in, order_in, home_in, spot_in, templates_in};
 ghost use Rattle.jt_parse.specs.View.{stmt_view, body_view};
 ghost use Rattle.jt_rules.specs.declared.error.ScopeError.TheVariants as error;
+ghost use Rattle.jt_slots.specs.Slots as slots;
 ghost use Rattle.jt_uses.specs.Names.{texts};
-ghost use Rattle.jt_scopes.specs.Routines.{IsRoutine, AreRoutines};
-ghost use Rattle.jt_scopes.specs.Stated.{Led};
+ghost use Rattle.jt_scopes.specs.Routines.{IsRoutine, AreRoutines, AllLed};
+ghost use Rattle.jt_scopes.specs.Stated.{Led, stmt_in, layer_in};
 
 use crate::entering::parameters_of;
 use crate::locals::body_locals;
@@ -72,7 +73,39 @@ fn resolve_routine<'a>(
 fn sets_names(statement: &Stmt) -> bool
     ensures { result ≡ is_set (stmt_view statement.now) }
 {
-    matches!(statement, Stmt::Set(_, _, _) | Stmt::SetBlock(_, _, _))
+    match statement {
+        Stmt::Set(_, _, _) | Stmt::SetBlock(_, _, _) => true,
+        Stmt::Data(_)
+        | Stmt::Print(_, _)
+        | Stmt::If(_, _)
+        | Stmt::For(_, _, _, _, _, _)
+        | Stmt::With(_, _, _)
+        | Stmt::FilterBlock(_, _, _)
+        | Stmt::Autoescape(_, _, _)
+        | Stmt::Macro(_, _, _, _)
+        | Stmt::Include(_, _, _, _)
+        | Stmt::Extends(_, _)
+        | Stmt::Block(_, _, _, _, _) => false,
+    }
+}
+
+/// Resolves a statement if it sets names, behind other statements.
+fn resolve_if_set<'a>(
+    alloc: Global,
+    scope: &Scope<'a>,
+    spot: &Spot<'_, 'a>,
+    statement: &'a Stmt,
+    done: &mut Vec<SStmt>,
+    pool: &mut Vec<Value>,
+) -> Result<(), ScopeError>
+    requires { IsLaidOut scope.now }
+    ensures led { IfOk result (λ u. Led (templates_in scope.now) (if is_set (stmt_view statement.now) then stmt_in scope.now (stmt_view statement.now) spot.now else slots.end) done.old.items done.new.items (values pool.old) (values pool.new)) }
+    ensures refused { IfErr result (λ e. e ≡ error.NoMemory) }
+{
+    if sets_names(statement) {
+        return resolve_statement(alloc, scope, spot, statement, done, pool);
+    }
+    Ok(())
 }
 
 /// Resolves those of statements that set names, behind other statements.
@@ -89,14 +122,32 @@ fn resolve_sets<'a>(
     ensures refused { IfErr result (λ e. e ≡ error.NoMemory) }
 {
     for statement in body {
-        if sets_names(statement) {
-            resolve_statement(alloc, scope, spot, statement, done, pool)?;
-        }
+        resolve_if_set(alloc, scope, spot, statement, done, pool)?;
     }
     Ok(())
 }
 
-/// Resolves the templates of a chain: of all but the root what they set.
+/// Resolves a template of a chain, behind other statements: the root, or what another one sets.
+fn resolve_layer<'a>(
+    alloc: Global,
+    scope: &Scope<'a>,
+    layer: &Layer<'a>,
+    is_root: bool,
+    done: &mut Vec<SStmt>,
+    pool: &mut Vec<Value>,
+) -> Result<(), ScopeError>
+    requires { IsLaidOut scope.now }
+    ensures led { IfOk result (λ u. Led (templates_in scope.now) (layer_in scope.now (layer_view (chain_view scope.now.chain.now).templates layer.now) is_root) done.old.items done.new.items (values pool.old) (values pool.new)) }
+    ensures refused { IfErr result (λ e. e ≡ error.NoMemory) }
+{
+    let spot = top_spot(scope, layer.template);
+    if is_root {
+        return resolve_body(alloc, scope, &spot, layer.body, done, pool);
+    }
+    resolve_sets(alloc, scope, &spot, layer.body, done, pool)
+}
+
+/// Resolves the templates of a chain, behind other statements.
 fn resolve_layers<'a>(
     alloc: Global,
     scope: &Scope<'a>,
@@ -109,15 +160,9 @@ fn resolve_layers<'a>(
         done.old.items done.new.items (values pool.old) (values pool.new)) }
     ensures refused { IfErr result (λ e. e ≡ error.NoMemory) }
 {
-    let mut left = layers.len();
-    for layer in layers {
-        let spot = top_spot(scope, layer.template);
-        left -= 1;
-        if left == 0 {
-            resolve_body(alloc, scope, &spot, layer.body, done, pool)?;
-        } else {
-            resolve_sets(alloc, scope, &spot, layer.body, done, pool)?;
-        }
+    for (place, layer) in layers.iter().enumerate() {
+        let is_root = place + 1 == layers.len();
+        resolve_layer(alloc, scope, layer, is_root, done, pool)?;
     }
     Ok(())
 }
@@ -152,7 +197,7 @@ fn resolve_macros<'a>(
     pool: &mut Vec<Value>,
 ) -> Result<(), ScopeError>
     requires { IsLaidOut scope.now }
-    ensures put { IfOk result (λ u. AreRoutines (templates_in scope.now) (map (resolve.macro_routine (world_in scope.now) (order_in scope.now) (home_in scope.now)) (macros (world_in scope.now).sources (home_in scope.now)))
+    ensures put { IfOk result (λ u. AllLed (templates_in scope.now) (map (resolve.macro_routine (world_in scope.now) (order_in scope.now) (home_in scope.now)) (macros (world_in scope.now).sources (home_in scope.now)))
         routines.old.items routines.new.items (values pool.old) (values pool.new)) }
     ensures refused { IfErr result (λ e. e ≡ error.NoMemory) }
 {
@@ -165,20 +210,33 @@ fn resolve_macros<'a>(
     Ok(())
 }
 
+/// The same names in memory of their own.
+fn names_again<'a>(alloc: Global, names: &[&'a str]) -> Result<Vec<&'a str>, ScopeError>
+    ensures same { IfOk result (λ ks. texts ks.items ≡ texts names.now) }
+    ensures refused { IfErr result (λ e. e ≡ error.NoMemory) }
+{
+    let mut found = Vec::with_capacity(alloc, names.len())?;
+    for name in names {
+        found.push(*name)?;
+    }
+    Ok(found)
+}
+
 /// The parameters of a block's bodies.
-fn block_parameters<'a>(alloc: Global, scope: &Scope<'a>, name: &str) -> Result<Vec<&'a str>, ScopeError>
+fn block_parameters<'a>(
+    alloc: Global,
+    scope: &Scope<'a>,
+    name: &str,
+) -> Result<Vec<&'a str>, ScopeError>
     requires { IsLaidOut scope.now }
     ensures same { IfOk result (λ ks. texts ks.items ≡ layout.block_parameters (world_in scope.now) (order_in scope.now) (home_in scope.now) name.now) }
     ensures refused { IfErr result (λ e. e ≡ error.NoMemory) }
 {
     let here = &scope.homes[scope.home];
-    let mut found = Vec::new(alloc);
-    if here.scoped.place(name).is_some() {
-        for parameter in here.scope_names.iter() {
-            found.push(*parameter)?;
-        }
+    match here.scoped.place(name) {
+        Some(_) => names_again(alloc, &here.scope_names),
+        None => Ok(Vec::new(alloc)),
     }
-    Ok(found)
 }
 
 /// Resolves the bodies of a chain's blocks, behind other routines.
@@ -189,16 +247,18 @@ fn resolve_blocks<'a>(
     pool: &mut Vec<Value>,
 ) -> Result<(), ScopeError>
     requires { IsLaidOut scope.now }
-    ensures put { IfOk result (λ u. AreRoutines (templates_in scope.now) (programs.body_routines (world_in scope.now) (order_in scope.now) (home_in scope.now) (numbered_bodies (world_in scope.now) (home_in scope.now)))
+    ensures put { IfOk result (λ u. AllLed (templates_in scope.now) (programs.body_routines (world_in scope.now) (order_in scope.now) (home_in scope.now) (numbered_bodies (world_in scope.now) (home_in scope.now)))
         routines.old.items routines.new.items (values pool.old) (values pool.new)) }
     ensures refused { IfErr result (λ e. e ≡ error.NoMemory) }
 {
     let here = &scope.homes[scope.home];
     for (place, block) in here.blocks.iter().enumerate() {
         let spot = Spot {
+            template: block.template,
             escaping: block.escaping,
             body: Some(place),
-            ..top_spot(scope, block.template)
+            frames: &[],
+            free: 0,
         };
         let parameters = block_parameters(alloc, scope, block.name)?;
         routines.push(resolve_routine(alloc, scope, &spot, block.body, parameters, pool)?)?;

@@ -1,18 +1,17 @@
 //! Resolves statements: names to slots, and literals and data to places of a pool.
 
-ghost use Rattle.std.specs.Prelude.{◌≡◌, ℕ, List, option_map, IfOk, IfErr};
+ghost use Rattle.std.specs.Prelude.{◌≡◌, option_map, IfOk, IfErr};
 ghost use Rattle.jt_expr.specs.View as written;
 ghost use Rattle.jt_layout.specs.Laid.{IsLaidOut};
 ghost use Rattle.jt_meaning.specs.Resolve as resolve;
-ghost use Rattle.jt_names.specs.Scoped.{values, BodyLeads, spot_in, templates_in, world_in, order_in};
+ghost use Rattle.jt_names.specs.Scoped.{values, BodyLeads, expr_in, spot_in, templates_in, world_in, order_in};
 ghost use Rattle.jt_parse.specs.Trees as trees;
 ghost use Rattle.jt_parse.specs.View.{stmt_view, body_view, filterings_view, names_view};
 ghost use Rattle.jt_rules.specs.declared.error.ScopeError.TheVariants as error;
 ghost use Rattle.jt_slots.specs.Pool.{Constant};
 ghost use Rattle.jt_slots.specs.Slots.{SBody};
-ghost use Rattle.jt_value.specs.Tree.{Tree};
 ghost use Rattle.jt_uses.specs.Names.{texts};
-ghost use Rattle.jt_scopes.specs.Stated.{Led, IsBody, IsAsked, ChoiceLeads, branches_of, stmt_in, body_in, choice_in, scoped_in, values_in};
+ghost use Rattle.jt_scopes.specs.Stated.{Led, IsBody, IsAsked, IsBranch, IsTurn, line_in, stmt_in, body_in, scoped_in, values_in};
 
 use crate::entering::{entered, keywords_of, put_copies, texts_of};
 use crate::placing::{put_block, put_include};
@@ -65,17 +64,20 @@ pub fn resolve_statement<'a>(
     match statement {
         Stmt::Data(text) => put_data(alloc, text, done, pool),
         Stmt::Print(line, value) => resolve_print(alloc, scope, spot, *line, value, done, pool),
-        Stmt::If(_, other) => {
-            let branches = resolve_branches(alloc, scope, spot, statement, pool)?;
+        Stmt::If(branches, other) => {
+            let mut made = Vec::with_capacity(alloc, branches.len())?;
+            for (line, condition, body) in branches {
+                made.push(resolve_branch(alloc, scope, spot, body, *line, condition, pool)?)?;
+            }
             let last = resolve_whole(alloc, scope, spot, other, pool)?;
-            put_choice(branches, last, done)
+            put_choice(made, last, done)
         }
         Stmt::For(line, names, value, condition, body, other) => {
             let items = resolve_expression(alloc, scope, spot, value, pool)?;
-            let (asked, turn) = resolve_turn(alloc, scope, spot, body, names, condition, pool)?;
+            let turn = resolve_turn(alloc, scope, spot, body, names, condition, pool)?;
             let last = resolve_whole(alloc, scope, spot, other, pool)?;
             let targets = fresh_targets(alloc, spot.free, names)?;
-            put_loop(spot, *line, targets, items, asked, turn, last, done)
+            put_loop(spot, *line, targets, items, turn.0, turn.1, last, done)
         }
         Stmt::Set(line, names, value) => {
             resolve_set(alloc, scope, spot, *line, names, value, done, pool)
@@ -99,7 +101,8 @@ pub fn resolve_statement<'a>(
             };
             resolve_scoped(alloc, scope, &inside, body, done, pool)
         }
-        Stmt::Macro(_, _, _, _) | Stmt::Extends(_, _) => Ok(()),
+        Stmt::Macro(_, _, _, _) => Ok(()),
+        Stmt::Extends(_, _) => Ok(()),
         Stmt::Include(line, name, _, with_context) => {
             put_include(alloc, scope, spot, *line, name, *with_context, done)
         }
@@ -107,33 +110,29 @@ pub fn resolve_statement<'a>(
     }
 }
 
-/// Resolves the branches of an `if`.
+/// Resolves a branch of an `if`.
 #[cycle(resolve)]
-fn resolve_branches<'a>(
+fn resolve_branch<'a>(
     alloc: Global,
     scope: &Scope<'a>,
     spot: &Spot<'_, 'a>,
-    statement: &'a Stmt,
+    body: &'a [Stmt],
+    line: u32,
+    condition: &Expr,
     pool: &mut Vec<Value>,
-) -> Result<Vec<(Place, SExpr, Vec<SStmt>)>, ScopeError>
+) -> Result<(Place, SExpr, Vec<SStmt>), ScopeError>
     requires { IsLaidOut scope.now }
-    ensures led { IfOk result (λ bs. (other : SBody Constant) → ChoiceLeads (templates_in scope.now)
-        (choice_in scope.now (branches_of (stmt_view statement.now)) spot.now other) other bs.items (values pool.old) (values pool.new)) }
+    ensures made { IfOk result (λ b. IsBranch (templates_in scope.now) (line_in scope.now spot.now line) (expr_in scope.now (written.expr_view condition.now) spot.now) (body_in scope.now (body_view body.now) spot.now)
+        b (values pool.old) (values pool.new)) }
     ensures refused { IfErr result (λ e. e ≡ error.NoMemory) }
 {
-    let mut made = Vec::new(alloc);
-    if let Stmt::If(branches, _) = statement {
-        for (line, condition, body) in branches {
-            let place = Place {
-                template: spot.template,
-                line: *line,
-            };
-            let asked = resolve_expression(alloc, scope, spot, condition, pool)?;
-            let taken = resolve_whole(alloc, scope, spot, body, pool)?;
-            made.push((place, asked, taken))?;
-        }
-    }
-    Ok(made)
+    let place = Place {
+        template: spot.template,
+        line,
+    };
+    let asked = resolve_expression(alloc, scope, spot, condition, pool)?;
+    let taken = resolve_whole(alloc, scope, spot, body, pool)?;
+    Ok((place, asked, taken))
 }
 
 /// Resolves the condition and the body of a loop, where its names are in locals of their own.
@@ -148,17 +147,14 @@ fn resolve_turn<'a>(
     pool: &mut Vec<Value>,
 ) -> Result<(Option<SExpr>, Vec<SStmt>), ScopeError>
     requires { IsLaidOut scope.now }
-    ensures led { IfOk result (λ t. (q : List Tree)
-        × IsAsked (resolve.resolved_condition (world_in scope.now) (order_in scope.now) (option_map written.expr_view condition.now) (resolve.bound_all (names_view names.now) (spot_in scope.now spot.now))) t.0 (values pool.old) q
-        × IsBody (templates_in scope.now) (scoped_in scope.now (body_view body.now) (resolve.bound_all (names_view names.now) (spot_in scope.now spot.now))) t.1.items q (values pool.new)) }
+    ensures led { IfOk result (λ t. IsTurn scope.now (resolve.resolved_condition (world_in scope.now) (order_in scope.now) (option_map written.expr_view condition.now) (resolve.bound_all (names_view names.now) (spot_in scope.now spot.now)))
+        (scoped_in scope.now (body_view body.now) (resolve.bound_all (names_view names.now) (spot_in scope.now spot.now))) t.0 t.1.items (values pool.old) (values pool.new)) }
     ensures refused { IfErr result (λ e. e ≡ error.NoMemory) }
 {
-    let targets = texts_of(alloc, names)?;
-    let free = more(spot.free, targets.len())?;
-    let frames = entered(alloc, spot, targets)?;
+    let inner = entered(alloc, spot, texts_of(alloc, names)?)?;
     let inside = Spot {
-        frames: &frames,
-        free,
+        frames: &inner.frames,
+        free: inner.free,
         ..*spot
     };
     let asked = resolve_condition(alloc, scope, &inside, condition, pool)?;
@@ -183,11 +179,10 @@ pub fn resolve_within<'a>(
         done.old.items done.new.items (values pool.old) (values pool.new)) }
     ensures refused { IfErr result (λ e. e ≡ error.NoMemory) }
 {
-    let free = more(spot.free, names.len())?;
-    let frames = entered(alloc, spot, names)?;
+    let inner = entered(alloc, spot, names)?;
     let inside = Spot {
-        frames: &frames,
-        free,
+        frames: &inner.frames,
+        free: inner.free,
         ..*spot
     };
     resolve_scoped(alloc, scope, &inside, body, done, pool)
@@ -210,11 +205,10 @@ fn resolve_scoped<'a>(
 {
     let names = set_names(alloc, body)?;
     put_copies(scope, spot, &names, done)?;
-    let free = more(spot.free, names.len())?;
-    let frames = entered(alloc, spot, names)?;
+    let inner = entered(alloc, spot, names)?;
     let inside = Spot {
-        frames: &frames,
-        free,
+        frames: &inner.frames,
+        free: inner.free,
         ..*spot
     };
     resolve_body(alloc, scope, &inside, body, done, pool)
@@ -274,10 +268,8 @@ fn resolve_filtered<'a>(
     ensures refused { IfErr result (λ e. e ≡ error.NoMemory) }
 {
     let kept = Slot::Local(spot.free);
-    let inside = Spot {
-        free: more(spot.free, 1)?,
-        ..*spot
-    };
+    let free = more(spot.free, 1)?;
+    let inside = Spot { free, ..*spot };
     let text = resolve_inside(alloc, scope, &inside, body, pool)?;
     put_capture(spot.escaping, kept, text, done)?;
     let shown = resolve_filterings(alloc, scope, &inside, filterings, kept, pool)?;

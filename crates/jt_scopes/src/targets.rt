@@ -1,12 +1,16 @@
 //! What takes a value: the slots of names that are set, and the locals of a loop's targets.
 
-ghost use Rattle.std.specs.Prelude.{◌≡◌, map, IfOk, IfErr, option_map};
+ghost use Rattle.std.specs.Prelude.{◌≡◌, None, map, IfOk, IfErr, option_map};
 ghost use Rattle.jt_layout.specs.Laid.{IsLaidOut};
 ghost use Rattle.jt_meaning.specs.Resolve as resolve;
+ghost use Rattle.jt_meaning.specs.Layout.{slot_in};
+ghost use Rattle.jt_names.specs.Names.{last_among};
 ghost use Rattle.jt_names.specs.Scoped.{spot_in};
 ghost use Rattle.jt_parse.specs.View.{names_view};
 ghost use Rattle.jt_rules.specs.declared.error.ScopeError.TheVariants as error;
 ghost use Rattle.jt_slots.specs.View.{slot_view, targets_view};
+ghost use Rattle.jt_uses.specs.Names.{texts};
+ghost use Rattle.jt_scopes.specs.Stated.{slot_if};
 
 use crate::entering::texts_of;
 use jt_layout::Scope;
@@ -23,6 +27,29 @@ pub fn set_slot(scope: &Scope<'_>, spot: &Spot<'_, '_>, name: &str) -> Slot
     slot(scope, spot, name).unwrap_or(Slot::Local(0))
 }
 
+/// What is kept of a name that is set at a place: its slot where that place is its last.
+fn kept_slot(
+    scope: &Scope<'_>,
+    spot: &Spot<'_, '_>,
+    last: &Frame<'_>,
+    place: usize,
+    name: &str,
+) -> Option<Slot>
+    requires { IsLaidOut scope.now }
+    ensures { option_map slot_view result ≡ slot_if (last_among name.now (texts last.now.names.items) last.now.first None) place (slot_in name.now (spot_in scope.now spot.now).table) }
+{
+    match last.index.place(name) {
+        Some(there) => {
+            if there == place {
+                slot(scope, spot, name)
+            } else {
+                None
+            }
+        }
+        None => None,
+    }
+}
+
 /// The slots of names that are set: of a name that comes twice, the later value counts.
 fn kept_slots(
     alloc: Global,
@@ -37,8 +64,7 @@ fn kept_slots(
     let last = Frame::new(alloc, texts_of(alloc, names)?, 0)?;
     let mut slots = Vec::with_capacity(alloc, names.len())?;
     for (place, name) in names.iter().enumerate() {
-        let is_last = last.index.place(name) == Some(place);
-        slots.push(if is_last { slot(scope, spot, name) } else { None })?;
+        slots.push(kept_slot(scope, spot, &last, place, name.as_str()))?;
     }
     Ok(slots)
 }
@@ -71,7 +97,7 @@ fn fresh_slots(
 {
     let mut slots = Vec::with_capacity(alloc, names.len())?;
     let mut local = first;
-    for _ in names {
+    for _name in names {
         slots.push(Some(Slot::Local(local)))?;
         local = more(local, 1)?;
     }

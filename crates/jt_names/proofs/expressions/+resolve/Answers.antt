@@ -1,10 +1,11 @@
-use Rattle.std.proofs.Common.{◌≡◌, ℕ, ◌+◌, Bool, List, length, drop, refl, sym, ap, ◌∙◌, subst, arith, add-one, Option, Some, None, if◌then◌else◌}
+use Rattle.std.proofs.Common.{◌≡◌, ℕ, ◌+◌, Bool, List, [], length, drop, refl, sym, ap, ◌∙◌, subst, arith, add-one, Option, Some, None, if◌then◌else◌}
 use Rattle.std.specs.Prelude.{option_map}
 use Rattle.std.proofs.lemmas.List.{at_drop_all}
 use Rattle.std.proofs.lemmas.Result.{IfOk-weaker}
 use Rattle.jt_value.specs.Tree as tree
 use Rattle.jt_ops.specs.declared.op_id.OpId.{OpId}
 use Rattle.jt_ops.specs.declared.op_id.OpId.TheVariants as op
+use Rattle.jt_ops.specs.declared.test_id.TestId.{TestId}
 use Rattle.jt_expr.specs.Trees as trees
 use Rattle.jt_expr.specs.View.{expr_view, exprs_view, pairs_view}
 use Rattle.jt_expr.specs.declared.tree.Expr.{Expr}
@@ -14,17 +15,21 @@ use Rattle.jt_inherit.specs.Chain as chain
 use Rattle.jt_inherit.specs.Chain.{macros, callee, a_macro, a_range, a_super, a_block, a_cycle, no_callee}
 use Rattle.jt_inherit.specs.Uses.{count, keywords}
 use Rattle.jt_meaning.specs.Operators.{Form, range_of}
-use Rattle.jt_meaning.specs.Resolve.{operation_of, in_form, field_from, filled, locals_from, invoked}
+use Rattle.jt_meaning.specs.Resolve.{operation_of, in_form, field_from, filled, filled_some, tested_by, turned_round, locals_from, invoked}
+use Rattle.jt_meaning.specs.Expressions.{filter_parameters}
 use Rattle.jt_slots.specs.Loops.{field_named}
 use Rattle.jt_slots.specs.Pool.{Constant, own}
 use Rattle.jt_slots.specs.Slots as slots
 use Rattle.jt_slots.specs.Slots.{invoke}
+use Rattle.jt_slots.specs.TheFilters.{the_filters}
 use Rattle.jt_slots.specs.View.{expr_view as coded, row_view}
+use Rattle.jt_slots.specs.declared.program.SExpr.TheVariants as e
 use Rattle.jt_slots.specs.declared.program.Maker.TheVariants as m
 use Rattle.jt_names.specs.Callees.{IsCallee}
 use Rattle.jt_names.specs.declared.callee.Callee.{Callee}
 use Rattle.jt_names.specs.Scoped.{values, IsPlaced, world_in, order_in, home_in, spot_in, expr_in, row_in, asides_in, entries_in, filtered_in}
 use Rattle.jt_names.proofs.Calling.{count_length, macro_called, cycled}
+use Rattle.jt_names.proofs.Depths.{call_depth, filter_depth, test_depth}
 use Rattle.jt_names.proofs.Filters.{named_is, parameters_are}
 use Rattle.jt_names.proofs.Leading.{same_tree, begun, of_whole, of_left, row_both, row_item, row_aside, made_placed, invoked_placed}
 use Rattle.jt_names.proofs.Left.{Pair, row_left, pairs_left}
@@ -189,7 +194,23 @@ resolve_expression-returns-in-Choice-clause-placed t c =
 -- ---- tests and filters
 
 pub resolve_test-returns-in_ok-resolve_row-in-Some-clause-placed : goal.resolve_test-returns-in_ok-resolve_row-in-Some-clause-placed
-resolve_test-returns-in_ok-resolve_row-in-Some-clause-placed t c = ?
+resolve_test-returns-in_ok-resolve_row-in-Some-clause-placed t c =
+    let s = c.args.scope.now in
+    let spot = c.args.spot.now in
+    let a = expr_in s (expr_view c.args.value.now) spot in
+    let es = row_in s (exprs_view c.args.row.now) spot slots.none in
+    let whole = slots.item a es in
+    let given = c.in_ok-operands-in-Some.operands in
+    let done = c.resolve_row.new.done in
+    let p = values c.args.pool.now in
+    let q = values c.resolve_expression.new.pool in
+    let r = values c.resolve_row.new.pool in
+    IfOk-weaker c.turned-in-Some.result _ _ (λ e h ps.
+    let P : Option TestId → Type 0 = λ o. IsPlaced (turned_round c.args.negated (tested_by o whole)) (coded e) p r in
+    subst P (sym c.in-Some.is ∙ c.test_of.ensures) (h (slots.made (slots.test c.in-Some.test) whole) p r
+    (made_placed (slots.test c.in-Some.test) whole done.items _ p r (row_both whole es slots.none [] given.items done.items p q r
+    (row_item a es c.in_ok-first-in-Some.first [] given.items p q c.in_ok-first-in-Some.ensures.placed c.in_ok-operands-in-Some.ensures.alone) (c.in_ok-resolve_row-in-Some.ensures.led slots.none))
+    (view-Made (m.Test c.in-Some.test) done)))) c.turned-in-Some.ensures.made
 
 pub resolve_filter-returns-in-None-clause-placed : goal.resolve_filter-returns-in-None-clause-placed
 resolve_filter-returns-in-None-clause-placed t c =
@@ -216,18 +237,57 @@ resolve_filter-returns-in_ok-first-in-Some-clause-placed t c =
     subst P (sym named) (h a p c.in_ok-first-in-Some.ensures.placed)) c.resolve_filtered.ensures.placed
 
 pub resolve_filtered-returns-clause-placed : goal.resolve_filtered-returns-clause-placed
-resolve_filtered-returns-clause-placed t c = λ k p h. ?
+resolve_filtered-returns-clause-placed t c = λ k p h.
+    let s = c.args.scope.now in
+    let spot = c.args.spot.now in
+    let f = c.args.filter in
+    let ts = exprs_view c.args.row.now in
+    let ps = pairs_view c.args.pairs.now in
+    let xs = keywords ps in
+    let ks = locals_from spot.free xs in
+    let n = length c.args.row.now in
+    let given = c.in_ok-given.given in
+    let done = c.resolve_given.new.done in
+    let full = c.fill_some.new.done in
+    let old = values c.args.pool.now in
+    let q = values c.resolve_given.new.pool in
+    let r = values c.fill_some.new.pool in
+    let left = filled_some (parameters_view c.deref.result.now) n xs ks in
+    let es = row_in s ts spot (asides_in s ps spot left) in
+    let known : parameters_view c.deref.result.now ≡ filter_parameters the_filters (Some (filter_id f)) = ap parameters_view c.deref.ensures.value ∙ c.in_ok-parameters.ensures ∙ sym (parameters_are f) in
+    let P : slots.SRow Constant → Type 0 = λ z. IsPlaced (slots.made (slots.filter (filter_id f) spot.escaping) (slots.item k (row_in s ts spot (asides_in s ps spot z)))) (coded (e.Made (m.Filter f spot.escaping) full)) p r in
+    subst P (ap (λ z. filled_some z n xs ks) known ∙ ap (λ (i : ℕ). filled_some (filter_parameters the_filters (Some (filter_id f))) i xs ks) (sym (count_length c.args.row.now)))
+    (made_placed (slots.filter (filter_id f) spot.escaping) (slots.item k es) full.items _ p r
+    (row_both (slots.item k es) es slots.none [] given.items full.items p old r (row_item k es c.args.value [] given.items p old h c.in_ok-given.ensures.alone)
+    (row_both es left slots.none given.items done.items full.items old q r (c.in_ok-resolve_given.ensures.led left) c.in_ok-fill_some.ensures.filled))
+    (view-Made (m.Filter f spot.escaping) full))
 
 -- ---- calls
 
 pub resolve_macro-returns-clause-placed : goal.resolve_macro-returns-clause-placed
-resolve_macro-returns-clause-placed t c = ?
+resolve_macro-returns-clause-placed t c =
+    let s = c.args.scope.now in
+    let spot = c.args.spot.now in
+    let signature = c.args.signature in
+    let ps = pairs_view c.args.pairs.now in
+    let left = filled (parameters_view signature.parameters.now) (length c.args.row.now) signature.first_default (locals_from spot.free (keywords ps)) in
+    let es = row_in s (exprs_view c.args.row.now) spot (asides_in s ps spot left) in
+    let done = c.resolve_given.new.done in
+    let full = c.fill.new.done in
+    let p = values c.args.pool.now in
+    let q = values c.resolve_given.new.pool in
+    invoked_placed signature.unit spot.escaping es full.items _ p q (row_both es left slots.none [] done.items full.items p q q
+    (begun _ _ _ _ _ _ _ c.new-given.ensures.items (c.in_ok-resolve_given.ensures.led left)) (c.in_ok-fill.ensures.filled q)) (view-Invoke signature.unit spot.escaping full)
 
 pub resolve_range-returns-clause-placed : goal.resolve_range-returns-clause-placed
-resolve_range-returns-clause-placed t c = ?
+resolve_range-returns-clause-placed t c =
+    let done = c.resolve_row.new.done in
+    made_placed (slots.operator (range_of (length c.args.row.now))) _ done.items _ _ _ (begun _ _ _ _ _ _ _ c.new-operands.ensures.items (c.in_ok-resolve_row.ensures.led slots.none))
+    (view-Made (m.Operator c.range_of.result) done ∙ ap (λ o. slots.made (slots.operator o) (row_view done.items slots.none)) c.range_of.ensures)
 
 pub resolve_cycle-returns-clause-placed : goal.resolve_cycle-returns-clause-placed
-resolve_cycle-returns-clause-placed t c = ?
+resolve_cycle-returns-clause-placed t c =
+    IfOk-weaker c.on_two.result _ _ (λ e h. h _ _ _ _ _ c.in_ok-items.ensures.placed c.in_ok-turn.ensures.placed) c.on_two.ensures.made
 
 pub resolve_call-returns-in-Macro-clause-placed : goal.resolve_call-returns-in-Macro-clause-placed
 resolve_call-returns-in-Macro-clause-placed t c =
@@ -242,10 +302,10 @@ resolve_call-returns-in-Macro-clause-placed t c =
     let n : count ts ≡ length c.args.row.now = count_length c.args.row.now in
     let signature = c.in-Macro.signature in
     let same : invoke signature.unit spot.escaping (row_in s ts spot (asides_in s ps spot (filled (parameters_view signature.parameters.now) (length c.args.row.now) signature.first_default ks)))
-        ≡ invoked (world_in s) (order_in s) k (spot_in s spot) (λ z. row_in s ts spot z) (λ z. asides_in s ps spot z) (count ts) ks =
-        macro_called (world_in s) (order_in s) (home_in s) signature m.0 m.1.0 spot.escaping (λ z. row_in s ts spot (asides_in s ps spot z)) (length c.args.row.now) ks
-        ∙ ap (λ (i : ℕ). invoked (world_in s) (order_in s) (a_macro m.0) (spot_in s spot) (λ z. row_in s ts spot z) (λ z. asides_in s ps spot z) i ks) (sym n)
-        ∙ ap (λ z. invoked (world_in s) (order_in s) z (spot_in s spot) (λ y. row_in s ts spot y) (λ y. asides_in s ps spot y) (count ts) ks) (sym m.1.1) in
+    ≡ invoked (world_in s) (order_in s) k (spot_in s spot) (λ z. row_in s ts spot z) (λ z. asides_in s ps spot z) (count ts) ks =
+    macro_called (world_in s) (order_in s) (home_in s) signature m.0 m.1.0 spot.escaping (λ z. row_in s ts spot (asides_in s ps spot z)) (length c.args.row.now) ks
+    ∙ ap (λ (i : ℕ). invoked (world_in s) (order_in s) (a_macro m.0) (spot_in s spot) (λ z. row_in s ts spot z) (λ z. asides_in s ps spot z) i ks) (sym n)
+    ∙ ap (λ z. invoked (world_in s) (order_in s) z (spot_in s spot) (λ y. row_in s ts spot y) (λ y. asides_in s ps spot y) (count ts) ks) (sym m.1.1) in
     IfOk-weaker c.resolve_macro.result _ _ (λ e h.
     let P : slots.SExpr Constant → Type 0 = λ z. IsPlaced z (coded e) (values c.args.pool.now) (values c.resolve_macro.new.pool) in
     subst P same h) c.resolve_macro.ensures.placed
@@ -262,9 +322,9 @@ resolve_call-returns-in-Range-clause-placed t c =
     let is : k ≡ a_range = subst Q c.in-Range.is c.in_ok-signature.ensures.named in
     let n : count ts ≡ length c.args.row.now = count_length c.args.row.now in
     let same : slots.made (slots.operator (range_of (length c.args.row.now))) (row_in s ts spot slots.none)
-        ≡ invoked (world_in s) (order_in s) k (spot_in s spot) (λ z. row_in s ts spot z) (λ z. asides_in s ps spot z) (count ts) ks =
-        ap (λ (i : ℕ). slots.made (slots.operator (range_of i)) (row_in s ts spot slots.none)) (sym n)
-        ∙ ap (λ z. invoked (world_in s) (order_in s) z (spot_in s spot) (λ y. row_in s ts spot y) (λ y. asides_in s ps spot y) (count ts) ks) (sym is) in
+    ≡ invoked (world_in s) (order_in s) k (spot_in s spot) (λ z. row_in s ts spot z) (λ z. asides_in s ps spot z) (count ts) ks =
+    ap (λ (i : ℕ). slots.made (slots.operator (range_of i)) (row_in s ts spot slots.none)) (sym n)
+    ∙ ap (λ z. invoked (world_in s) (order_in s) z (spot_in s spot) (λ y. row_in s ts spot y) (λ y. asides_in s ps spot y) (count ts) ks) (sym is) in
     IfOk-weaker c.resolve_range.result _ _ (λ e h.
     let P : slots.SExpr Constant → Type 0 = λ z. IsPlaced z (coded e) (values c.args.pool.now) (values c.resolve_range.new.pool) in
     subst P same h) c.resolve_range.ensures.placed
@@ -281,9 +341,9 @@ resolve_call-returns-in-Cycle-clause-placed t c =
     let is : k ≡ a_cycle = subst Q c.in-Cycle.is c.in_ok-signature.ensures.named in
     let n : count ts ≡ length c.args.row.now = count_length c.args.row.now in
     let same : cycled (length c.args.row.now) (row_in s ts spot slots.none)
-        ≡ invoked (world_in s) (order_in s) k (spot_in s spot) (λ z. row_in s ts spot z) (λ z. asides_in s ps spot z) (count ts) ks =
-        ap (λ (i : ℕ). cycled i (row_in s ts spot slots.none)) (sym n)
-        ∙ ap (λ z. invoked (world_in s) (order_in s) z (spot_in s spot) (λ y. row_in s ts spot y) (λ y. asides_in s ps spot y) (count ts) ks) (sym is) in
+    ≡ invoked (world_in s) (order_in s) k (spot_in s spot) (λ z. row_in s ts spot z) (λ z. asides_in s ps spot z) (count ts) ks =
+    ap (λ (i : ℕ). cycled i (row_in s ts spot slots.none)) (sym n)
+    ∙ ap (λ z. invoked (world_in s) (order_in s) z (spot_in s spot) (λ y. row_in s ts spot y) (λ y. asides_in s ps spot y) (count ts) ks) (sym is) in
     IfOk-weaker c.resolve_cycle.result _ _ (λ e h.
     let P : slots.SExpr Constant → Type 0 = λ z. IsPlaced z (coded e) (values c.args.pool.now) (values c.resolve_cycle.new.pool) in
     subst P same h) c.resolve_cycle.ensures.placed
@@ -332,10 +392,20 @@ resolve_call-returns-in-Unknown-clause-placed t c =
 -- ---- what is left is less deep
 
 pub resolve_expression-resolve_call-requires : goal.resolve_expression-resolve_call-requires
-resolve_expression-resolve_call-requires t c = ?
+resolve_expression-resolve_call-requires t c =
+    let us = c.deref-in-Call-2.result.now in
+    let qs = c.deref-in-Call-3.result.now in
+    (omega (arith, call_depth c.args.expr.now us qs c.in-Call.called c.in-Call.row c.in-Call.pairs c.in-Call.is c.deref-in-Call-2.ensures.value c.deref-in-Call-3.ensures.value), c.requires)
 
 pub resolve_expression-resolve_filter-requires : goal.resolve_expression-resolve_filter-requires
-resolve_expression-resolve_filter-requires t c = ?
+resolve_expression-resolve_filter-requires t c =
+    let a = c.deref-in-Filter.result.now in
+    let us = c.deref-in-Filter-3.result.now in
+    let qs = c.deref-in-Filter-4.result.now in
+    (omega (arith, filter_depth c.args.expr.now a us qs c.in-Filter.value c.in-Filter.name c.in-Filter.row c.in-Filter.pairs c.in-Filter.is c.deref-in-Filter.ensures c.deref-in-Filter-3.ensures.value c.deref-in-Filter-4.ensures.value), c.requires)
 
 pub resolve_expression-resolve_test-requires : goal.resolve_expression-resolve_test-requires
-resolve_expression-resolve_test-requires t c = ?
+resolve_expression-resolve_test-requires t c =
+    let a = c.deref-in-Test.result.now in
+    let us = c.deref-in-Test-3.result.now in
+    (omega (arith, test_depth c.args.expr.now a us c.in-Test.value c.in-Test.negated c.in-Test.name c.in-Test.row c.in-Test.field-4 c.in-Test.is c.deref-in-Test.ensures c.deref-in-Test-3.ensures.value), c.requires)

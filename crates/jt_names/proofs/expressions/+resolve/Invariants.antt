@@ -1,10 +1,10 @@
-use Rattle.std.proofs.Common.{ℕ, ◌+◌, ◌*◌, drop}
+use Rattle.std.proofs.Common.{◌+◌, ◌*◌, drop}
 use Rattle.std.specs.Prelude.{max}
 use denote.Param.Weighed.{most}
 use Rattle.jt_expr.specs.View.{exprs_view, pairs_view}
 use Rattle.jt_expr.specs.declared.tree.Expr.{size-Expr}
 use Rattle.jt_slots.specs.Pool.{Constant}
-use Rattle.jt_slots.specs.Slots.{SRow, none}
+use Rattle.jt_slots.specs.Slots.{SRow}
 use Rattle.jt_names.specs.Scoped.{values, RowLeads, row_in, asides_in, entries_in}
 use Rattle.jt_names.proofs.expressions.+resolve.Given as goal
 

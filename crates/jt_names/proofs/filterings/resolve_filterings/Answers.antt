@@ -1,4 +1,4 @@
-use Rattle.std.proofs.Common.{◌≡◌, ℕ, ◌+◌, List, length, map, take, sym, ap, ◌∙◌, subst, arith, append-nil}
+use Rattle.std.proofs.Common.{◌≡◌, List, length, sym, ◌∙◌, subst, arith, append-nil}
 use Rattle.std.proofs.lemmas.List.{take_all, length-map}
 use Rattle.jt_value.specs.View.{view}
 use Rattle.jt_parse.specs.View.{filterings_view}
@@ -30,6 +30,7 @@ loop-filtering-preserved c =
     let fs = c.args.filterings.now in
     let e = variable (slot_view c.args.value) in
     let old = values c.args.pool.now in
+    let start : length old ≡ c.len-start.result = length-map c.args.pool.now.items view ∙ omega (arith, c.len-start.ensures, c.args.pool.now.ok.0) in
     let P : SExpr Constant → Type 0 = λ z. IsPlaced z (expr_view c.in_ok-resolved.resolved) old (values c.resolve_filtering.new.pool) in
     subst P (filters_next s spot fs l.filtering-index c.filtering-item.result e c.loop-filtering-test.true c.filtering-item.is)
-    (c.in_ok-resolved.ensures.placed _ old (length-map c.args.pool.now.items view ∙ sym c.len-start.ensures) l.invariant)
+    (c.in_ok-resolved.ensures.placed _ old start l.invariant)

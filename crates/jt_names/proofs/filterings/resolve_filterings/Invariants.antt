@@ -7,5 +7,5 @@ use Rattle.jt_names.specs.Scoped.{values, IsPlaced, world_in, order_in, spot_in}
 use Rattle.jt_names.proofs.filterings.resolve_filterings.Given as goal
 
 abbrev pub invariant-loop-filtering : goal.invariant-loop-filtering
-invariant-loop-filtering l = IsPlaced (resolved_filters (world_in l.scope) (order_in l.scope) (filterings_view (take l.filtering-index l.filterings)) (spot_in l.scope l.spot) (variable (slot_view l.value)))
+invariant-loop-filtering l = IsPlaced (resolved_filters (world_in l.scope) (order_in l.scope) (filterings_view (take l.filtering-index l.filterings)) (spot_in l.scope l.spot) (variable (slot_view l.fn.value)))
     (expr_view l.resolved) (values l.initial.pool) (values l.pool)

@@ -1,4 +1,3 @@
-use Rattle.std.proofs.Common.{◌≡◌, sym, ap, ◌∙◌}
 use Rattle.jt_names.proofs.forms.turned.Goals as goal
 
 pub returns-then-negated-clause-made : goal.returns-then-negated-clause-made

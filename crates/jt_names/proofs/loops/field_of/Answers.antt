@@ -1,4 +1,4 @@
-use Rattle.std.proofs.Common.{◌≡◌, sym}
+use Rattle.std.proofs.Common.{sym}
 use Rattle.jt_slots.specs.Loops.{fields}
 use Rattle.jt_names.proofs.Names.{no_field}
 use Rattle.jt_names.proofs.loops.field_of.Goals as goal

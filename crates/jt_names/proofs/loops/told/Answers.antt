@@ -1,4 +1,3 @@
-use Rattle.std.proofs.Common.{◌≡◌}
 use Rattle.jt_names.proofs.loops.told.Goals as goal
 
 pub returns-in-None : goal.returns-in-None

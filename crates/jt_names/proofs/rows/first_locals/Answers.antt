@@ -1,6 +1,5 @@
-use Rattle.std.proofs.Common.{◌≡◌, ◌+◌, ◌<◌, List, length, drop, sym, append-nil, arith}
+use Rattle.std.proofs.Common.{◌+◌, ◌<◌, length, drop, sym, append-nil, arith}
 use Rattle.std.proofs.lemmas.List.{at_drop_all}
-use Rattle.jt_parse.specs.Trees.{Text}
 use Rattle.jt_slots.specs.Slots.{variable, local}
 use Rattle.jt_slots.specs.declared.program.Slot.TheVariants as s
 use Rattle.jt_slots.specs.declared.program.SExpr.TheVariants as e

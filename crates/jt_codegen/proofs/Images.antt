@@ -1,0 +1,187 @@
+-- A chain that breaks no rule: its image, and what its refusals say.
+use Rattle.std.proofs.Common.{◌≡◌, ℕ, zero, suc, ◌+◌, ◌*◌, ◌<◌, ◌≤◌, Bool, true, false, List, [], ◌∷◌, map, length, Option, Some, refl, sym, ap, ◌∙◌, subst, arith}
+use Rattle.std.specs.Prelude.{slice_get, nat_le, IsTrue}
+use Rattle.std.specs.List.{AllByRecursion}
+use Rattle.std.proofs.lemmas.Bool.Decides.{nat_tests}
+use Rattle.jt_scan.specs.declared.options.Options.{Options}
+use Rattle.jt_image.specs.Code.{Code}
+use Rattle.jt_image.specs.IsCode.{IsCode}
+use Rattle.jt_image.specs.Typed.{max_entries}
+use Rattle.jt_image.specs.Parts.{HasTables}
+use Rattle.jt_image.specs.Laws.{CodeLaws}
+use Rattle.jt_parse.specs.Bytes.{body_bytes}
+use Rattle.jt_parse.specs.Trees.{Text}
+use Rattle.jt_inherit.specs.Chain.{Home, Template}
+use Rattle.jt_inherit.specs.Chains.{Given, IsChain}
+use Rattle.jt_inherit.specs.Places.{home_at}
+use Rattle.jt_inherit.specs.Small.{chains_weight, chains_len, source_len, IsSmall}
+use Rattle.jt_inherit.specs.Uses.{body_names}
+use Rattle.jt_inherit.specs.View.{Seen, sources_of}
+use Rattle.jt_rules.specs.Rules as rules
+use Rattle.jt_rules.specs.Rules.{KeepsRules}
+use Rattle.jt_rules.specs.declared.error.ScopeError.{ScopeError}
+use Rattle.jt_rules.specs.declared.error.ScopeError.TheVariants as scope_error
+use Rattle.jt_rules.specs.World.{World, world_of}
+use Rattle.jt_meaning.specs.Bytes.{IsShort}
+use Rattle.jt_meaning.specs.Layout.{names, shared}
+use Rattle.jt_meaning.specs.Laws.{ProgramLaws}
+use Rattle.jt_meaning.specs.Measure.{AreFew, IsSized}
+use Rattle.jt_meaning.specs.Programs.{program, routines, count_globals}
+use Rattle.jt_slots.specs.Size.{body_height}
+use Rattle.jt_slots.specs.Slots.{Routine, Program}
+use Rattle.jt_slots.specs.View.{routine_view, templates_of, program_of}
+use Rattle.jt_slots.specs.declared.program.Program as given
+use Rattle.jt_slots.specs.declared.program.Routine as given_routine
+use Rattle.jt_lower.specs.Compiles.{LowLaws}
+use Rattle.jt_lower.specs.Fits.{ProgramFits}
+use Rattle.jt_lower.specs.Lawful.{AreLow}
+use Rattle.jt_lower.specs.Lower.{compiled}
+use Rattle.jt_codegen.specs.Compiled.{IsCompiled}
+use Rattle.jt_codegen.specs.Limits.{NeedsTooMany}
+use Rattle.jt_codegen.specs.Refusals.{of_scope, of_emit, Breaks, HasProgram, NamesLimit}
+use Rattle.jt_codegen.specs.Units.{FitsImage, RefusesCode}
+use Rattle.jt_codegen.specs.declared.emission.EmitError.{EmitError}
+use Rattle.jt_codegen.specs.declared.emission.EmitError.TheVariants as emit_error
+use Rattle.jt_codegen.proofs.Chained.{fits, by_order}
+use Rattle.jt_codegen.proofs.Lawful.{few_globals}
+use Rattle.jt_codegen.proofs.Read.{names_all, own_all, all_short}
+use Rattle.jt_codegen.proofs.Routines.{parameters_few}
+use Rattle.jt_codegen.proofs.Spelled.{read_named}
+use Rattle.jt_codegen.proofs.Small.{small_low, small_fits}
+use Rattle.jt_codegen.proofs.Ordered.{tables}
+
+-- no routine needs more entries than a shape may have
+abbrev pub Low : Program → Type 0
+Low p = AllByRecursion (λ r. body_height r.body ≤ max_entries) p.routines
+
+-- one of them does where not all don't
+abbrev IsHigh : List (Routine ℕ) → Type 0
+IsHigh rs = (n : ℕ) × (r : Routine ℕ) × (slice_get rs n ≡ Some r) × (max_entries < body_height r.body)
+
+high : (rs : List (Routine ℕ)) → ¬ (AllByRecursion (λ r. body_height r.body ≤ max_entries) rs) → IsHigh rs
+high [] n = absurd (n tt)
+high (r ∷ rs) n = first_or_later (nat_le (body_height r.body) max_entries) refl (λ below. high rs (λ all. n (below, all)))
+  where
+    first_or_later : (b : Bool) → nat_le (body_height r.body) max_entries ≡ b → (body_height r.body ≤ max_entries → IsHigh rs) → IsHigh (r ∷ rs)
+    first_or_later false e later = (0, r, refl, grind (arith, nat_tests))
+    first_or_later true e later =
+        let below : body_height r.body ≤ max_entries = grind (arith, nat_tests) in
+        let found = later below in
+        (suc found.0, found.1, found.2, found.3)
+
+needs_too_many : (p : Program) → ¬ (Low p) → NeedsTooMany p
+needs_too_many p n = let h = high p.routines n in record { n = h.0; routine = h.1; is = h.2; many = h.3 }
+
+-- what is counted of a program's routines
+pub low_of : (q : given.Program) (rs : List given_routine.Routine) (b : Bool) → rs ≡ q.routines.items
+    → ((templates : List Text) → (IsTrue b → AllByRecursion (λ (r : Routine ℕ). body_height r.body ≤ max_entries) (map (routine_view templates) rs)) × (AllByRecursion (λ (r : Routine ℕ). body_height r.body ≤ max_entries) (map (routine_view templates) rs) → IsTrue b))
+    → b ≡ true → Low (program_of q)
+low_of q rs b same counted e =
+    subst (λ (l : List given_routine.Routine). AllByRecursion (λ (r : Routine ℕ). body_height r.body ≤ max_entries) (map (routine_view (templates_of q)) l)) same ((counted (templates_of q)).0 e)
+
+pub high_of : (q : given.Program) (rs : List given_routine.Routine) (b : Bool) → rs ≡ q.routines.items
+    → ((templates : List Text) → (IsTrue b → AllByRecursion (λ (r : Routine ℕ). body_height r.body ≤ max_entries) (map (routine_view templates) rs)) × (AllByRecursion (λ (r : Routine ℕ). body_height r.body ≤ max_entries) (map (routine_view templates) rs) → IsTrue b))
+    → b ≡ false → ¬ (Low (program_of q))
+high_of q rs b same counted e = λ h.
+    let back = subst (λ (l : List given_routine.Routine). AllByRecursion (λ (r : Routine ℕ). body_height r.body ≤ max_entries) (map (routine_view (templates_of q)) l)) (sym same) h in
+    let is_true : b ≡ true = (counted (templates_of q)).1 back in
+    let no : true ≡ false = sym is_true ∙ e in
+    absurd cc
+
+-- a rule of names and calls that is broken
+pub rule_refused : (given : Given) (entry : Text) (options : Options) (c : Seen) → IsChain given entry options c → (e : ScopeError) → rules.Breaks e (world_of c) c.order → Breaks given entry options (of_scope e)
+rule_refused given entry options c is scope_error.LoopOutside r = record { chain = c; is = is; fault = λ e. cc; broken = r }
+rule_refused given entry options c is scope_error.MacroAsValue r = record { chain = c; is = is; fault = λ e. cc; broken = r }
+rule_refused given entry options c is scope_error.NotCallable r = record { chain = c; is = is; fault = λ e. cc; broken = r }
+rule_refused given entry options c is scope_error.BadArguments r = record { chain = c; is = is; fault = λ e. cc; broken = r }
+rule_refused given entry options c is scope_error.TooManySlots r = record { chain = c; is = is; fault = λ e. cc; broken = r }
+rule_refused given entry options c is scope_error.NoMemory r = tt
+
+module _ (code : CodeLaws) (low : LowLaws) (programs : ProgramLaws) (given : Given) (entry : Text) (options : Options) (c : Seen) (is : IsChain given entry options c) (kept : KeepsRules (world_of c) c.order) where
+  abbrev world : World
+  world = world_of c
+
+  abbrev order : List Home
+  order = entry ∷ is.included
+
+  abbrev p : Program
+  p = program world order entry
+
+  -- the program is that of the chain
+  abbrev IsOf : Program → Type 0
+  IsOf q = q ≡ program world c.order (home_at c.order 0)
+
+  of_entry : (q : Program) → IsOf q → q ≡ program world c.order entry
+  of_entry q same = same ∙ ap (λ (o : List Home). program world c.order (home_at o 0)) is.begins
+
+  begun : program world c.order entry ≡ p
+  begun = ap (λ (o : List Home). program world o entry) is.begins
+
+  -- ---- its image
+
+  -- no name that is read or bound is empty
+  some : AllByRecursion (λ t. AllByRecursion (λ x. 0 < length x) (body_names t.body)) c.templates
+  some = read_named given options c.templates is.read.each
+
+  pub tables_of : (q : Program) → IsOf q → HasTables (compiled q)
+  tables_of q same =
+      subst (λ (r : Program). HasTables (compiled r)) (sym (of_entry q same ∙ begun))
+      (tables world entry is.included (names_all (λ x. 0 < length x) world (own_all (λ x. 0 < length x) c.templates some) order entry) (programs.ascends world order entry) (omega (arith, few_globals world order entry)))
+
+  lows : (q : Program) → IsOf q → Low q → AreLow (routines world c.order)
+  lows q same h = low.low (routines world c.order) (length (shared world c.order)) (subst Low (of_entry q same) h)
+
+  pub image_compiled : (q : Program) (k : Code) → IsOf q → Low q → k ≡ compiled q → IsCode k → IsCompiled given entry options k
+  image_compiled q k same few held whole =
+      let one : compiled (program world c.order entry) ≡ k = ap compiled (sym (of_entry q same)) ∙ sym held in
+      subst (IsCompiled given entry options) one (by_order low programs given entry options c is kept (lows q same few) (subst IsCode (sym one) whole))
+
+  -- ---- refusals hold
+
+  has_program : (Fact : Program → Type 0) (q : Program) → IsOf q → Fact q → HasProgram given entry options Fact
+  has_program Fact q same fact = record { chain = c; is = is; lawful = kept; fact = subst Fact (of_entry q same) fact }
+
+  pub stack_refused : (q : Program) → IsOf q → ¬ (Low q) → HasProgram given entry options NeedsTooMany
+  stack_refused q same n = has_program NeedsTooMany q same (needs_too_many q n)
+
+  pub code_refused : (e : EmitError) (q : Program) → IsOf q → RefusesCode e (compiled q) → Breaks given entry options (of_emit e)
+  code_refused emit_error.CodeTooLong q same n = has_program (λ r. ¬ (FitsImage (compiled r))) q same n
+  code_refused emit_error.NoMemory q same n = tt
+
+  -- ---- small chains meet no limit
+
+  module _ (weighs : chains_weight (sources_of c) c.order ≤ chains_len given (sources_of c) c.order) (small : IsSmall given entry options) where
+    weight : chains_weight (sources_of c) order ≤ 2000
+    weight = subst (λ (o : List Home). chains_weight (sources_of c) o ≤ 2000) is.begins (omega (arith, weighs, small.bytes c is))
+
+    are_few : AreFew world order
+    are_few = subst (AreFew world) is.begins (programs.few c (small.names c is) kept)
+
+    sized : IsSized world order p
+    sized = programs.sized world entry is.included are_few
+
+    pub low_small : (q : Program) → IsOf q → Low q
+    low_small q same = subst Low (sym (of_entry q same ∙ begun)) (small_low code low world order p sized weight)
+
+    module _ (short : AllByRecursion (λ t. body_bytes t.body ≤ source_len (given t.name)) c.templates) (few : 7 * length c.order ≤ chains_weight (sources_of c) c.order + 7) where
+      texts : IsShort 2000 p
+      texts = subst (IsShort 2000) begun (programs.short c entry is.included 2000 is.begins (all_short given 2000 c.templates short c.order (small.bytes c is)))
+
+      few_chains : 7 * length order ≤ chains_weight (sources_of c) order + 7
+      few_chains = subst (λ (o : List Home). 7 * length o ≤ chains_weight (sources_of c) o + 7) is.begins few
+
+      fitting : ProgramFits p
+      fitting = fits low programs given entry options c is kept (low.low (routines world order) (length (shared world order)) (small_low code low world order p sized weight))
+
+      pub fits_small : (q : Program) → IsOf q → FitsImage (compiled q)
+      fits_small q same =
+          subst (λ (r : Program). FitsImage (compiled r)) (sym (of_entry q same ∙ begun))
+          (small_fits code low world order p sized weight texts few_chains fitting (parameters_few world entry is.included (length (shared world order)) are_few))
+
+  pub stack_not_small : (q : Program) → IsOf q → ¬ (Low q) → chains_weight (sources_of c) c.order ≤ chains_len given (sources_of c) c.order → ¬ (IsSmall given entry options)
+  stack_not_small q same n weighs = λ small. n (low_small weighs small q same)
+
+  pub code_not_small : (e : EmitError) (q : Program) → IsOf q → RefusesCode e (compiled q) → chains_weight (sources_of c) c.order ≤ chains_len given (sources_of c) c.order
+      → AllByRecursion (λ t. body_bytes t.body ≤ source_len (given t.name)) c.templates → 7 * length c.order ≤ chains_weight (sources_of c) c.order + 7 → NamesLimit (of_emit e) → ¬ (IsSmall given entry options)
+  code_not_small emit_error.CodeTooLong q same n weighs short few limit = λ small. n (fits_small weighs small short few q same)
+  code_not_small emit_error.NoMemory q same n weighs short few limit = absurd limit

@@ -1,0 +1,109 @@
+-- The code of small chains has place in an image.
+use Rattle.std.proofs.Common.{◌≡◌, ℕ, suc, ◌+◌, ◌*◌, max, ◌<◌, ◌≤◌, ◌^◌, true, false, List, [], ◌∷◌, ◌++◌, length, map, refl, ap, arith, length-append}
+use Rattle.std.specs.Int.{w16, w32, w64, to_le_bytes, cast_unsigned}
+use Rattle.std.specs.List.{flat_map, AllByRecursion}
+use Rattle.std.proofs.lemmas.List.Concat.{flat_map-cons}
+use Rattle.jt_value.specs.Tree as tree
+use Rattle.jt_value.specs.Tree.{Tree}
+use Rattle.jt_image.specs.Code.{Name, Section}
+use Rattle.jt_image.specs.Spelling.{name_bytes, constant_bytes, spelling}
+use Rattle.jt_image.specs.IsCode.{IsInstruction, total_len, max_locals, max_instructions, max_bytes}
+use Rattle.jt_image.specs.Typed.{max_entries}
+use Rattle.jt_image.specs.Parts.{KeepsLimits}
+use Rattle.jt_image.specs.Laws.{CodeLaws}
+use Rattle.jt_parse.specs.Trees.{Text}
+use Rattle.jt_inherit.specs.Chain.{Home}
+use Rattle.jt_inherit.specs.Small.{chains_weight}
+use Rattle.jt_rules.specs.World.{World}
+use Rattle.jt_meaning.specs.Bytes.{value_bytes, IsShort}
+use Rattle.jt_meaning.specs.Measure.{IsSized}
+use Rattle.jt_slots.specs.Size.{body_height, routines_size}
+use Rattle.jt_slots.specs.Slots.{Routine, Program}
+use Rattle.jt_lower.specs.Compiles.{LowLaws}
+use Rattle.jt_lower.specs.Fits.{ProgramFits}
+use Rattle.jt_lower.specs.Lower.{unit_of, constant_of, numbered, compiled}
+use Rattle.jt_codegen.specs.Units.{FitsUnit, FitsImage}
+use Rattle.jt_codegen.proofs.Read.{all_each}
+use Rattle.jt_codegen.proofs.Tabled.{numbered_len}
+use Rattle.jt_codegen.proofs.Ordered.{numbered_texts}
+
+mapped_len : {A B : Type 0} (f : A → B) (xs : List A) → length (map f xs) ≡ length xs
+mapped_len f [] = refl
+mapped_len f (x ∷ xs) = ap suc (mapped_len f xs)
+
+-- ---- bytes
+
+name_len : (n : Name) → length (name_bytes n) ≡ length n.text + 4
+name_len n = omega (arith, length-append (to_le_bytes w16 n.slot) (to_le_bytes w16 (length n.text) ++ n.text), length-append (to_le_bytes w16 (length n.text)) n.text, len16 n.slot, len16 (length n.text))
+  where
+    len16 : (n : ℕ) → length (to_le_bytes w16 n) ≡ 2
+    len16 n = refl
+
+text_len : (t : Text) (tag : ℕ) → length (tag ∷ (to_le_bytes w32 (length t) ++ t)) ≡ length t + 5
+text_len t tag = omega (arith, length-append (to_le_bytes w32 (length t)) t, len32 (length t))
+  where
+    len32 : (n : ℕ) → length (to_le_bytes w32 n) ≡ 4
+    len32 n = refl
+
+number_len : (n tag : ℕ) → length (tag ∷ to_le_bytes w64 n) ≡ 9
+number_len n tag = refl
+
+names_spelled : (i : ℕ) (xs : List Text) → AllByRecursion (λ x. length x ≤ 2000) xs → length (flat_map name_bytes (numbered i xs)) ≤ 2004 * length xs
+names_spelled i [] h = omega arith
+names_spelled i (x ∷ xs) h =
+    let n : Name = record { slot = i; text = x } in
+    let rest = numbered (suc i) xs in
+    omega (arith, h.0, ap length (flat_map-cons name_bytes n rest), length-append (name_bytes n) (flat_map name_bytes rest), name_len n, names_spelled (suc i) xs h.1)
+
+constant_spelled : (t : Tree) → length (constant_bytes (constant_of t)) ≤ value_bytes t + 9
+constant_spelled tree.undefined = omega arith
+constant_spelled tree.nothing = omega arith
+constant_spelled (tree.truth_value true) = omega arith
+constant_spelled (tree.truth_value false) = omega arith
+constant_spelled (tree.number z) = omega (arith, number_len (cast_unsigned w64 z) 4)
+constant_spelled (tree.text s) = omega (arith, text_len s 5)
+constant_spelled (tree.markup s) = omega (arith, text_len s 6)
+constant_spelled (tree.list ts) = omega arith
+constant_spelled (tree.map es) = omega arith
+
+constants_spelled : (ts : List Tree) → AllByRecursion (λ t. value_bytes t ≤ 2000) ts → length (flat_map constant_bytes (map constant_of ts)) ≤ 2009 * length ts
+constants_spelled [] h = omega arith
+constants_spelled (t ∷ ts) h =
+    let rest = map constant_of ts in
+    omega (arith, h.0, ap length (flat_map-cons constant_bytes (constant_of t) rest), length-append (constant_bytes (constant_of t)) (flat_map constant_bytes rest), constant_spelled t, constants_spelled ts h.1)
+
+units_locals : (n : ℕ) (rs : List (Routine ℕ)) → n ≤ max_locals → AllByRecursion (λ r. r.locals ≤ n) rs → AllByRecursion (λ u. u.locals ≤ max_locals) (map unit_of rs)
+units_locals n [] le h = tt
+units_locals n (r ∷ rs) le h = (omega (arith, le, h.0), units_locals n rs le h.1)
+
+-- ---- an image has place for the code of a program that fits, where the limits are kept
+
+units_fit : (us : List Section) → AllByRecursion (λ u. u.parameters ≤ 200) us → AllByRecursion (λ u. u.locals ≤ max_locals) us → total_len us ≤ max_instructions → AllByRecursion (λ u. AllByRecursion IsInstruction u.code) us
+    → AllByRecursion FitsUnit us
+units_fit [] parameters locals len written = tt
+units_fit (u ∷ us) parameters locals len written = (
+  record { locals = locals.0; len = omega (arith, len); writable = record { parameters = omega (arith, parameters.0); code = written.0 } },
+  units_fit us parameters.1 locals.1 (omega (arith, len)) written.1,
+)
+
+module _ (laws : CodeLaws) (low : LowLaws) (world : World) (order : List Home) (p : Program) (sized : IsSized world order p) (weight : chains_weight world.sources order ≤ 2000) where
+  -- no routine needs more entries than a shape may have
+  pub small_low : AllByRecursion (λ r. body_height r.body ≤ max_entries) p.routines
+  small_low = all_each (λ (r : Routine ℕ). 2 * body_height r.body ≤ max 2 (chains_weight world.sources order)) (λ r. body_height r.body ≤ max_entries) (λ r h. omega (arith, h, weight)) p.routines sized.entries
+
+  module _ (short : IsShort 2000 p) (few : 7 * length order ≤ chains_weight world.sources order + 7) where
+    limits : KeepsLimits (compiled p)
+    limits = record {
+      names = omega (arith, sized.names, numbered_len 0 p.names);
+      texts = numbered_texts (λ x. length x < 2 ^ 16) 0 p.names (all_each (λ x. length x ≤ 2000) (λ x. length x < 2 ^ 16) (λ x h. omega (arith, h)) p.names short.names);
+      constants = omega (arith, sized.constants, weight, mapped_len constant_of p.pool);
+      units = omega (arith, sized.units, weight, few, mapped_len unit_of p.routines);
+      locals = units_locals (200 + chains_weight world.sources order) p.routines (omega (arith, weight)) sized.locals;
+      instructions = omega (arith, low.sized p, sized.instructions, weight, few);
+      bytes = omega (arith, laws.spelled (compiled p), names_spelled 0 p.names short.names, constants_spelled p.pool short.pool, mapped_len unit_of p.routines, low.sized p, sized.names, sized.constants, sized.units, sized.instructions, weight, few);
+    }
+
+    pub small_fits : ProgramFits p → AllByRecursion (λ u. u.parameters ≤ 200) (compiled p).units → FitsImage (compiled p)
+    small_fits fit parameters =
+        let globals : p.globals < 2 ^ 16 = omega (arith, sized.globals, weight, few) in
+        record { globals = globals; limits = limits; units = units_fit (compiled p).units parameters limits.locals limits.instructions (low.written p fit globals limits) }

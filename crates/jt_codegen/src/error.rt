@@ -1,0 +1,68 @@
+//! Why no image is made.
+
+use crate::emission::EmitError;
+use jt_inherit::ChainError;
+use jt_scopes::ScopeError;
+use thiserror::Error;
+
+/// Why no image is made.
+#[derive(Debug, Drop, Error, PartialEq, Eq)]
+pub enum CompileError {
+    /// A template is missing, breaks a rule of chains, has no cut or spells no tree.
+    #[error("{0}")]
+    Chain(ChainError),
+    /// A rule of names and calls is broken.
+    #[error("{0}")]
+    Scope(ScopeError),
+    /// The image would pass a limit.
+    #[error("G1 CodeTooLong")]
+    CodeTooLong,
+    /// A growth was refused.
+    #[error("G2 NoMemory")]
+    NoMemory,
+    /// A unit would need more than 1,024 entries.
+    #[error("G3 StackTooDeep")]
+    StackTooDeep,
+}
+
+impl From<ChainError> for CompileError {
+    ghost use Rattle.std.specs.Prelude.{◌≡◌};
+    ghost use Rattle.jt_codegen.specs.Refusals.{of_chain};
+
+    ghost from_gives = { λ refusal e. e ≡ of_chain refusal };
+
+    fn from(refusal: ChainError) -> CompileError {
+        match refusal {
+            ChainError::NoMemory => CompileError::NoMemory,
+            other => CompileError::Chain(other),
+        }
+    }
+}
+
+impl From<ScopeError> for CompileError {
+    ghost use Rattle.std.specs.Prelude.{◌≡◌};
+    ghost use Rattle.jt_codegen.specs.Refusals.{of_scope};
+
+    ghost from_gives = { λ refusal e. e ≡ of_scope refusal };
+
+    fn from(refusal: ScopeError) -> CompileError {
+        match refusal {
+            ScopeError::NoMemory => CompileError::NoMemory,
+            other => CompileError::Scope(other),
+        }
+    }
+}
+
+impl From<EmitError> for CompileError {
+    ghost use Rattle.std.specs.Prelude.{◌≡◌};
+    ghost use Rattle.jt_codegen.specs.Refusals.{of_emit};
+
+    ghost from_gives = { λ refusal e. e ≡ of_emit refusal };
+
+    fn from(refusal: EmitError) -> CompileError {
+        match refusal {
+            EmitError::NoMemory => CompileError::NoMemory,
+            EmitError::CodeTooLong => CompileError::CodeTooLong,
+        }
+    }
+}
