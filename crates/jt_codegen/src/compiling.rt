@@ -13,7 +13,7 @@ use jt_inherit::{Library, chain};
 use jt_lower::low_laws;
 use jt_meaning::program_laws;
 use jt_scan::Options;
-use jt_scopes::resolve;
+use jt_resolve::resolve;
 use std::alloc::Global;
 
 /// How many entries a unit may need.
