@@ -12,8 +12,8 @@ use jt_image::{Image, code_laws};
 use jt_inherit::{Library, chain};
 use jt_lower::low_laws;
 use jt_meaning::program_laws;
-use jt_scan::Options;
 use jt_resolve::resolve;
+use jt_scan::Options;
 use std::alloc::Global;
 
 /// How many entries a unit may need.

@@ -33,7 +33,6 @@ use Rattle.jt_slots.specs.Values.{literal, as_value}
 use Rattle.jt_expr.specs.Sizes.{literal_bytes, expr_bytes, exprs_bytes, pairs_bytes}
 use Rattle.jt_parse.specs.Bytes.{condition_bytes, filtering_bytes, stmt_bytes, body_bytes, branch_bytes}
 
-
 -- the bytes of values
 abbrev pub bytes_in : List tree.Tree → ℕ
 bytes_in [] = 0
@@ -198,14 +197,24 @@ module _ (world : World) (order : List Home) where
         (expr_bytes a + length x) (omega (arith, field_count (field_named x))) (omega (arith, counted a sp k, pair_count (resolved world order a sp) (slots.pooled (own (tree.text x)))))
     counted (item a b) sp k = omega (arith, counted a sp k, counted b sp k, pair_count (resolved world order a sp) (resolved world order b sp))
     counted (call f ts ps) sp k =
-        omega (arith, invoked_counted (callee (macros world.sources sp.home) f) sp (resolved_row world order ts sp) (resolved_asides world order ps sp) (count ts) (locals_from sp.free (keywords ps))
-        (exprs_bytes ts) (pairs_bytes ps) (λ b. row_counted ts sp k b) (λ b. omega (arith, asides_counted ps sp k b)))
+        omega (
+          arith,
+          invoked_counted (callee (macros world.sources sp.home) f) sp (resolved_row world order ts sp) (resolved_asides world order ps sp) (count ts) (locals_from sp.free (keywords ps))
+              (exprs_bytes ts) (pairs_bytes ps) (λ b. row_counted ts sp k b) (λ b. omega (arith, asides_counted ps sp k b)),
+        )
     counted (filter a x ts ps) sp k =
         let f = world.filters.named x in
         let rest = filled_some (filter_parameters world.filters f) (count ts) (keywords ps) (locals_from sp.free (keywords ps)) in
         let row = resolved_row world order ts sp (resolved_asides world order ps sp rest) in
-        omega (arith, filtered_count f sp.escaping (slots.item (resolved world order a sp) row), bytes_append (expr_values (resolved world order a sp)) (row_values row), counted a sp k, row_counted ts sp k (resolved_asides world order ps sp rest), asides_counted ps sp k rest,
-        some_count (filter_parameters world.filters f) (count ts) (keywords ps) (locals_from sp.free (keywords ps)) (filter_bare f k))
+        omega (
+          arith,
+          filtered_count f sp.escaping (slots.item (resolved world order a sp) row),
+          bytes_append (expr_values (resolved world order a sp)) (row_values row),
+          counted a sp k,
+          row_counted ts sp k (resolved_asides world order ps sp rest),
+          asides_counted ps sp k rest,
+          some_count (filter_parameters world.filters f) (count ts) (keywords ps) (locals_from sp.free (keywords ps)) (filter_bare f k),
+        )
     counted (test a n x ts ps) sp k =
         let row = resolved_row world order ts sp slots.none in
         let es = slots.item (resolved world order a sp) row in
@@ -215,8 +224,14 @@ module _ (world : World) (order : List Home) where
     counted (when c a) sp k =
         omega (arith, counted c sp k, counted a sp k, bytes_append (expr_values (resolved world order c sp)) (expr_values (resolved world order a sp) ++ []), bytes_append (expr_values (resolved world order a sp)) [])
     counted (choice c a b) sp k =
-        omega (arith, counted c sp k, counted a sp k, counted b sp k, bytes_append (expr_values (resolved world order c sp)) (expr_values (resolved world order a sp) ++ expr_values (resolved world order b sp)),
-        bytes_append (expr_values (resolved world order a sp)) (expr_values (resolved world order b sp)))
+        omega (
+          arith,
+          counted c sp k,
+          counted a sp k,
+          counted b sp k,
+          bytes_append (expr_values (resolved world order c sp)) (expr_values (resolved world order a sp) ++ expr_values (resolved world order b sp)),
+          bytes_append (expr_values (resolved world order a sp)) (expr_values (resolved world order b sp)),
+        )
 
     pub row_counted : (ts : Exprs) (sp : Spot) → Three → (b : SRow Constant) → row_count (resolved_row world order ts sp b) ≤ exprs_bytes ts + row_count b
     row_counted no_exprs sp k b = omega arith
@@ -242,8 +257,15 @@ module _ (world : World) (order : List Home) where
       let i = world.filters.named f.name in
       let rest = filled_some (filter_parameters world.filters i) (count f.arguments) (keywords f.keywords) (locals_from sp.free (keywords f.keywords)) in
       let row = resolved_row world order f.arguments sp (resolved_asides world order f.keywords sp rest) in
-      omega (arith, filters_counted fs sp (filtered_by i sp.escaping (slots.item e row)) k, filtered_count i sp.escaping (slots.item e row), bytes_append (expr_values e) (row_values row), row_counted f.arguments sp k (resolved_asides world order f.keywords sp rest), asides_counted f.keywords sp k rest,
-      some_count (filter_parameters world.filters i) (count f.arguments) (keywords f.keywords) (locals_from sp.free (keywords f.keywords)) (filter_bare i k))
+      omega (
+        arith,
+        filters_counted fs sp (filtered_by i sp.escaping (slots.item e row)) k,
+        filtered_count i sp.escaping (slots.item e row),
+        bytes_append (expr_values e) (row_values row),
+        row_counted f.arguments sp k (resolved_asides world order f.keywords sp rest),
+        asides_counted f.keywords sp k rest,
+        some_count (filter_parameters world.filters i) (count f.arguments) (keywords f.keywords) (locals_from sp.free (keywords f.keywords)) (filter_bare i k),
+      )
 
   values_counted : (ps : Pairs) (sp : Spot) (line : ℕ) (b : SBody Constant) → Three → body_count (resolved_values world order ps sp line b) ≤ pairs_bytes ps + body_count b
   values_counted no_pairs sp line b k = omega arith
@@ -277,8 +299,17 @@ module _ (world : World) (order : List Home) where
         let d = resolved_body world order other sp in
         let i = resolved_condition world order c inner in
         let v = resolved world order e sp in
-        omega (arith, alone_count (slots.for_each (place sp line) (fresh_targets sp.free xs) v i b d), bytes_append (expr_values v) (condition_values i ++ (body_values b ++ body_values d)), bytes_append (condition_values i) (body_values b ++ body_values d),
-        bytes_append (body_values b) (body_values d), counted e sp k, condition_counted c inner k, scope_counted body inner (all_counted body (bound_all (set_in body) inner) k), all_counted other sp k)
+        omega (
+          arith,
+          alone_count (slots.for_each (place sp line) (fresh_targets sp.free xs) v i b d),
+          bytes_append (expr_values v) (condition_values i ++ (body_values b ++ body_values d)),
+          bytes_append (condition_values i) (body_values b ++ body_values d),
+          bytes_append (body_values b) (body_values d),
+          counted e sp k,
+          condition_counted c inner k,
+          scope_counted body inner (all_counted body (bound_all (set_in body) inner) k),
+          all_counted other sp k,
+        )
     stmt_counted (set line xs e) sp k = omega (arith, counted e sp k, alone_count (slots.assign (place sp line) (set_targets sp.table xs) (resolved world order e sp)))
     stmt_counted (set_block line x body) sp k =
         omega (arith, scope_counted body sp (all_counted body (bound_all (set_in body) sp) k), bytes_append (body_values (scoped (set_in body) sp (resolved_body world order body))) [])

@@ -29,7 +29,6 @@ use Rattle.jt_slots.specs.Slots.{Slot, local, SExpr, SRow, Targets, one, several
 use Rattle.jt_slots.specs.Pool.{Constant, own, known, expr_values, row_values, condition_values, stmt_values, body_values}
 use Rattle.jt_meaning.specs.Resolve.{value_or, read_from, turned_round, tested_by, filtered_by, in_form, field_from, followed, locals_from, fresh, fresh_targets, kept_slots, set_targets, filled, filled_some, first_locals, reads, handed_on, Part, Spot, place, grown, bound_all, copied, scoped, next_given, first_body, invoked_body, invoked_super, invoked, resolved, resolved_row, resolved_asides, resolved_entries, resolved_condition, resolved_filters, resolved_values, placed_body, resolved_stmt, resolved_body, resolved_choice}
 use Rattle.jt_meaning.specs.Measure.{stmt_own, body_own, branch_own, IsFew}
-
 use Rattle.jt_meaning.proofs.Sizing.{expr_some, is_some_weight}
 
 abbrev expr_count : SExpr Constant → ℕ
@@ -186,14 +185,24 @@ module _ (world : World) (order : List Home) where
         (2 + weight a) (omega (arith, field_count (field_named x))) (omega (arith, counted a sp k, pair_count (resolved world order a sp) (slots.pooled (own (tree.text x)))))
     counted (item a b) sp k = omega (arith, counted a sp k, counted b sp k, pair_count (resolved world order a sp) (resolved world order b sp))
     counted (call f ts ps) sp k =
-        omega (arith, invoked_counted (callee (macros world.sources sp.home) f) sp (resolved_row world order ts sp) (resolved_asides world order ps sp) (count ts) (locals_from sp.free (keywords ps))
-        (exprs_weight ts) (pairs_weight 2 ps) (λ b. row_counted ts sp k b) (λ b. omega (arith, asides_counted ps sp k b)))
+        omega (
+          arith,
+          invoked_counted (callee (macros world.sources sp.home) f) sp (resolved_row world order ts sp) (resolved_asides world order ps sp) (count ts) (locals_from sp.free (keywords ps))
+              (exprs_weight ts) (pairs_weight 2 ps) (λ b. row_counted ts sp k b) (λ b. omega (arith, asides_counted ps sp k b)),
+        )
     counted (filter a x ts ps) sp k =
         let f = world.filters.named x in
         let rest = filled_some (filter_parameters world.filters f) (count ts) (keywords ps) (locals_from sp.free (keywords ps)) in
         let row = resolved_row world order ts sp (resolved_asides world order ps sp rest) in
-        omega (arith, filtered_count f sp.escaping (slots.item (resolved world order a sp) row), length-append (expr_values (resolved world order a sp)) (row_values row), counted a sp k, row_counted ts sp k (resolved_asides world order ps sp rest), asides_counted ps sp k rest,
-        few_count (filter_parameters world.filters f) (count ts) (keywords ps) (locals_from sp.free (keywords ps)) (filter_few f k))
+        omega (
+          arith,
+          filtered_count f sp.escaping (slots.item (resolved world order a sp) row),
+          length-append (expr_values (resolved world order a sp)) (row_values row),
+          counted a sp k,
+          row_counted ts sp k (resolved_asides world order ps sp rest),
+          asides_counted ps sp k rest,
+          few_count (filter_parameters world.filters f) (count ts) (keywords ps) (locals_from sp.free (keywords ps)) (filter_few f k),
+        )
     counted (test a n x ts ps) sp k =
         let row = resolved_row world order ts sp slots.none in
         let es = slots.item (resolved world order a sp) row in
@@ -203,8 +212,14 @@ module _ (world : World) (order : List Home) where
     counted (when c a) sp k =
         omega (arith, counted c sp k, counted a sp k, length-append (expr_values (resolved world order c sp)) (expr_values (resolved world order a sp) ++ []), length-append (expr_values (resolved world order a sp)) [])
     counted (choice c a b) sp k =
-        omega (arith, counted c sp k, counted a sp k, counted b sp k, length-append (expr_values (resolved world order c sp)) (expr_values (resolved world order a sp) ++ expr_values (resolved world order b sp)),
-        length-append (expr_values (resolved world order a sp)) (expr_values (resolved world order b sp)))
+        omega (
+          arith,
+          counted c sp k,
+          counted a sp k,
+          counted b sp k,
+          length-append (expr_values (resolved world order c sp)) (expr_values (resolved world order a sp) ++ expr_values (resolved world order b sp)),
+          length-append (expr_values (resolved world order a sp)) (expr_values (resolved world order b sp)),
+        )
 
     pub row_counted : (ts : Exprs) (sp : Spot) → Three → (b : SRow Constant) → row_count (resolved_row world order ts sp b) ≤ exprs_weight ts + row_count b
     row_counted no_exprs sp k b = omega arith
@@ -230,8 +245,15 @@ module _ (world : World) (order : List Home) where
       let i = world.filters.named f.name in
       let rest = filled_some (filter_parameters world.filters i) (count f.arguments) (keywords f.keywords) (locals_from sp.free (keywords f.keywords)) in
       let row = resolved_row world order f.arguments sp (resolved_asides world order f.keywords sp rest) in
-      omega (arith, filters_counted fs sp (filtered_by i sp.escaping (slots.item e row)) k, filtered_count i sp.escaping (slots.item e row), length-append (expr_values e) (row_values row), row_counted f.arguments sp k (resolved_asides world order f.keywords sp rest), asides_counted f.keywords sp k rest,
-      few_count (filter_parameters world.filters i) (count f.arguments) (keywords f.keywords) (locals_from sp.free (keywords f.keywords)) (filter_few i k))
+      omega (
+        arith,
+        filters_counted fs sp (filtered_by i sp.escaping (slots.item e row)) k,
+        filtered_count i sp.escaping (slots.item e row),
+        length-append (expr_values e) (row_values row),
+        row_counted f.arguments sp k (resolved_asides world order f.keywords sp rest),
+        asides_counted f.keywords sp k rest,
+        few_count (filter_parameters world.filters i) (count f.arguments) (keywords f.keywords) (locals_from sp.free (keywords f.keywords)) (filter_few i k),
+      )
 
   values_counted : (ps : Pairs) (sp : Spot) (line : ℕ) (b : SBody Constant) → Three → body_count (resolved_values world order ps sp line b) ≤ pairs_weight 2 ps + body_count b
   values_counted no_pairs sp line b k = omega arith
@@ -265,8 +287,17 @@ module _ (world : World) (order : List Home) where
         let d = resolved_body world order other sp in
         let i = resolved_condition world order c inner in
         let v = resolved world order e sp in
-        omega (arith, alone_count (slots.for_each (place sp line) (fresh_targets sp.free xs) v i b d), length-append (expr_values v) (condition_values i ++ (body_values b ++ body_values d)), length-append (condition_values i) (body_values b ++ body_values d),
-        length-append (body_values b) (body_values d), counted e sp k, condition_counted c inner k, scope_counted body inner (all_counted body (bound_all (set_in body) inner) k), all_counted other sp k)
+        omega (
+          arith,
+          alone_count (slots.for_each (place sp line) (fresh_targets sp.free xs) v i b d),
+          length-append (expr_values v) (condition_values i ++ (body_values b ++ body_values d)),
+          length-append (condition_values i) (body_values b ++ body_values d),
+          length-append (body_values b) (body_values d),
+          counted e sp k,
+          condition_counted c inner k,
+          scope_counted body inner (all_counted body (bound_all (set_in body) inner) k),
+          all_counted other sp k,
+        )
     stmt_counted (set line xs e) sp k = omega (arith, counted e sp k, alone_count (slots.assign (place sp line) (set_targets sp.table xs) (resolved world order e sp)))
     stmt_counted (set_block line x body) sp k =
         omega (arith, scope_counted body sp (all_counted body (bound_all (set_in body) sp) k), length-append (body_values (scoped (set_in body) sp (resolved_body world order body))) [])

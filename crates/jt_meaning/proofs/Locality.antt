@@ -30,7 +30,6 @@ use Rattle.jt_slots.specs.Pool.{Constant, own, known}
 use Rattle.jt_meaning.specs.Resolve.{value_or, read_from, turned_round, tested_by, filtered_by, in_form, field_from, followed, locals_from, fresh, fresh_targets, kept_slots, set_targets, filled, filled_some, first_locals, reads, handed_on, Part, Spot, place, grown, bound_table, bound_all, slot_of, copied, scoped, next_given, first_body, invoked_body, invoked_super, invoked, resolved, resolved_row, resolved_asides, resolved_entries, resolved_condition, resolved_filters, resolved_values, placed_body, resolved_stmt, resolved_body, resolved_choice}
 use Rattle.jt_slots.specs.Locals.{slot_locals, slots_locals, targets_locals, expr_locals, row_locals, condition_locals, stmt_locals, body_locals}
 use Rattle.jt_meaning.specs.Measure.{stmt_own, body_own, branch_own, IsFew}
-
 use Rattle.jt_meaning.proofs.Sizing.{expr_some, is_some_weight}
 
 names_few : (ps : Pairs) → length (keywords ps) ≤ pairs_weight 2 ps
@@ -234,8 +233,13 @@ module _ (n : ℕ) (some : 1 ≤ n) where
           let ks = locals_from sp.free (keywords ps) in
           let rest = filled_some (filter_parameters world.filters f) (count ts) (keywords ps) ks in
           let row = resolved_row world order ts sp (resolved_asides world order ps sp rest) in
-          omega (arith, filtered_local f sp.escaping (slots.item (resolved world order a sp) row), localed a sp t (omega (arith, k)), row_localed ts sp t (omega (arith, k)) (resolved_asides world order ps sp rest)
-          (asides_localed ps sp t (omega (arith, k)) rest (some_local (filter_parameters world.filters f) (count ts) (keywords ps) ks (from_below sp.free (keywords ps) (omega (arith, k, names_few ps))))))
+          omega (
+            arith,
+            filtered_local f sp.escaping (slots.item (resolved world order a sp) row),
+            localed a sp t (omega (arith, k)),
+            row_localed ts sp t (omega (arith, k)) (resolved_asides world order ps sp rest)
+                (asides_localed ps sp t (omega (arith, k)) rest (some_local (filter_parameters world.filters f) (count ts) (keywords ps) ks (from_below sp.free (keywords ps) (omega (arith, k, names_few ps))))),
+          )
       localed (test a m x ts ps) sp t k =
           let es = slots.item (resolved world order a sp) (resolved_row world order ts sp slots.none) in
           omega (arith, turned_local m (tested_by (test_named x) es), tested_local (test_named x) es, localed a sp t (omega (arith, k)), row_localed ts sp t (omega (arith, k, is_some_weight m)) slots.none (omega arith))
@@ -270,9 +274,13 @@ module _ (n : ℕ) (some : 1 ≤ n) where
         let ks = locals_from sp.free (keywords f.keywords) in
         let rest = filled_some (filter_parameters world.filters i) (count f.arguments) (keywords f.keywords) ks in
         let row = resolved_row world order f.arguments sp (resolved_asides world order f.keywords sp rest) in
-        filters_localed fs sp (filtered_by i sp.escaping (slots.item e row)) t (omega (arith, k)) (omega (arith, filtered_local i sp.escaping (slots.item e row), h,
-        row_localed f.arguments sp t (omega (arith, k)) (resolved_asides world order f.keywords sp rest)
-        (asides_localed f.keywords sp t (omega (arith, k)) rest (some_local (filter_parameters world.filters i) (count f.arguments) (keywords f.keywords) ks (from_below sp.free (keywords f.keywords) (omega (arith, k, names_few f.keywords)))))))
+        filters_localed fs sp (filtered_by i sp.escaping (slots.item e row)) t (omega (arith, k)) (omega (
+          arith,
+          filtered_local i sp.escaping (slots.item e row),
+          h,
+          row_localed f.arguments sp t (omega (arith, k)) (resolved_asides world order f.keywords sp rest)
+              (asides_localed f.keywords sp t (omega (arith, k)) rest (some_local (filter_parameters world.filters i) (count f.arguments) (keywords f.keywords) ks (from_below sp.free (keywords f.keywords) (omega (arith, k, names_few f.keywords))))),
+        ))
 
     values_localed : (ps : Pairs) (sp : Spot) (line : ℕ) (b : SBody Constant) → Below sp.table → sp.free + pairs_weight 2 ps ≤ n → body_locals b ≤ n → body_locals (resolved_values world order ps sp line b) ≤ n
     values_localed no_pairs sp line b t k h = h
@@ -310,8 +318,14 @@ module _ (n : ℕ) (some : 1 ≤ n) where
           choice_localed bs sp t (omega (arith, k, l, in_few other)) (resolved_body world order other sp) (all_localed other sp t (omega (arith, k, l, under_few bs)))
       stmt_localed (for_each line xs e c body other) sp t k =
           let inner = bound_all xs sp in
-          omega (arith, fresh_local sp.free xs (omega (arith, k, in_few other)), localed e sp t (omega (arith, k, in_few other)), condition_localed c inner (bound_below xs sp.free sp.table (omega (arith, k, in_few other)) t) (omega (arith, k, in_few other)),
-          scope_localed body inner (bound_below xs sp.free sp.table (omega (arith, k, in_few other)) t) (omega (arith, k, in_few other)) (all_localed body (bound_all (set_in body) inner) (bound_below (set_in body) (sp.free + length xs) (bound_table xs sp.free sp.table) (omega (arith, k, in_few other, in_few body)) (bound_below xs sp.free sp.table (omega (arith, k, in_few other)) t)) (omega (arith, k, in_few other))), all_localed other sp t (omega (arith, k)))
+          omega (
+            arith,
+            fresh_local sp.free xs (omega (arith, k, in_few other)),
+            localed e sp t (omega (arith, k, in_few other)),
+            condition_localed c inner (bound_below xs sp.free sp.table (omega (arith, k, in_few other)) t) (omega (arith, k, in_few other)),
+            scope_localed body inner (bound_below xs sp.free sp.table (omega (arith, k, in_few other)) t) (omega (arith, k, in_few other)) (all_localed body (bound_all (set_in body) inner) (bound_below (set_in body) (sp.free + length xs) (bound_table xs sp.free sp.table) (omega (arith, k, in_few other, in_few body)) (bound_below xs sp.free sp.table (omega (arith, k, in_few other)) t)) (omega (arith, k, in_few other))),
+            all_localed other sp t (omega (arith, k)),
+          )
       stmt_localed (set line xs e) sp t k = omega (arith, localed e sp t (omega (arith, k)), set_local sp.table xs t)
       stmt_localed (set_block line x body) sp t k = omega (arith, of_below sp.table x t, scope_localed body sp (t) (omega (arith, k)) (all_localed body (bound_all (set_in body) sp) (bound_below (set_in body) (sp.free) (sp.table) (omega (arith, k, in_few body)) (t)) (omega (arith, k))))
       stmt_localed (with_values line ps body) sp t k =

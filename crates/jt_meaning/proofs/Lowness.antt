@@ -32,7 +32,6 @@ use Rattle.jt_slots.specs.Size.{targets_height, expr_height, row_height, conditi
 use Rattle.jt_meaning.specs.Measure.{HasAtMost}
 use Rattle.jt_parse.specs.Trees.{stmt_bound, body_bound, branch_bound}
 use Rattle.jt_meaning.proofs.Free.{stmt_free, body_free, branch_free}
-
 use Rattle.jt_meaning.proofs.Sizing.{expr_some, operator_some, is_some_weight, kept_len, fresh_len}
 
 -- ---- parts
@@ -254,8 +253,14 @@ module _ (world : World) (order : List Home) (q : ℕ) where
         let f = world.filters.named x in
         let rest = filled_some (filter_parameters world.filters f) (count ts) (keywords ps) (locals_from sp.free (keywords ps)) in
         let es = slots.item (resolved world order a sp) (resolved_row world order ts sp (resolved_asides world order ps sp rest)) in
-        omega (arith, filtered_low f sp.escaping es, resolved_low a sp k, expr_some a, filter_row ts ps (resolved_row world order ts sp) (resolved_asides world order ps sp) rest (λ b z. row_low ts sp k b z) (λ b. asides_low ps sp k b)
-        (few_low (filter_parameters world.filters f) (count ts) (keywords ps) (locals_from sp.free (keywords ps)) (filter_few f k.filters)))
+        omega (
+          arith,
+          filtered_low f sp.escaping es,
+          resolved_low a sp k,
+          expr_some a,
+          filter_row ts ps (resolved_row world order ts sp) (resolved_asides world order ps sp) rest (λ b z. row_low ts sp k b z) (λ b. asides_low ps sp k b)
+              (few_low (filter_parameters world.filters f) (count ts) (keywords ps) (locals_from sp.free (keywords ps)) (filter_few f k.filters)),
+        )
     resolved_low (test a n x ts ps) sp k =
         let es = slots.item (resolved world order a sp) (resolved_row world order ts sp slots.none) in
         omega (arith, turned_low n (tested_by (test_named x) es), tested_low (test_named x) es, resolved_low a sp k, row_low ts sp k slots.none (2 * q) (omega arith) (omega arith), is_some_weight n, expr_some a)
@@ -289,9 +294,13 @@ module _ (world : World) (order : List Home) (q : ℕ) where
       let i = world.filters.named f.name in
       let rest = filled_some (filter_parameters world.filters i) (count f.arguments) (keywords f.keywords) (locals_from sp.free (keywords f.keywords)) in
       let es = slots.item e (resolved_row world order f.arguments sp (resolved_asides world order f.keywords sp rest)) in
-      omega (arith, filters_low fs sp (filtered_by i sp.escaping es) k, filtered_low i sp.escaping es,
-      filter_row f.arguments f.keywords (resolved_row world order f.arguments sp) (resolved_asides world order f.keywords sp) rest (λ b z. row_low f.arguments sp k b z) (λ b. asides_low f.keywords sp k b)
-      (few_low (filter_parameters world.filters i) (count f.arguments) (keywords f.keywords) (locals_from sp.free (keywords f.keywords)) (filter_few i k.filters)))
+      omega (
+        arith,
+        filters_low fs sp (filtered_by i sp.escaping es) k,
+        filtered_low i sp.escaping es,
+        filter_row f.arguments f.keywords (resolved_row world order f.arguments sp) (resolved_asides world order f.keywords sp) rest (λ b z. row_low f.arguments sp k b z) (λ b. asides_low f.keywords sp k b)
+            (few_low (filter_parameters world.filters i) (count f.arguments) (keywords f.keywords) (locals_from sp.free (keywords f.keywords)) (filter_few i k.filters)),
+      )
 
   values_low : (ps : Pairs) (sp : Spot) (line : ℕ) (b : SBody Constant) → HasAtMost world order q sp.home → 2 * body_height (resolved_values world order ps sp line b) ≤ max (pairs_weight 0 ps + 2 * q) (2 * body_height b)
   values_low no_pairs sp line b k = omega arith

@@ -109,7 +109,7 @@ module _ (t : Text) where
     scoped_stmt (block line x true required body) on = (
       ap (λ b. b || list_any (λ d. d.scoped && bytes_eq d.name x) (blocks_in t body on)) (same_is x),
       names_said (blocks_of t (block line x true required body) on) (set_in body) (scoped_in body)
-      (each_map (Saying (blocks_in t body on)) (Saying (blocks_of t (block line x true required body) on)) (scoped_in body) (saying_right (record { template = t; name = x; scoped = true; required = required; escaping = on; body = body } ∷ []) (blocks_in t body on)) (scoped_body body on)),
+          (each_map (Saying (blocks_in t body on)) (Saying (blocks_of t (block line x true required body) on)) (scoped_in body) (saying_right (record { template = t; name = x; scoped = true; required = required; escaping = on; body = body } ∷ []) (blocks_in t body on)) (scoped_body body on)),
     )
     scoped_stmt (block line x false required body) on =
         names_said (blocks_of t (block line x false required body) on) (set_in body) (scoped_in body)
@@ -356,8 +356,7 @@ module _ (world : World) where
       macro_bodies t end b = tt
       macro_bodies t (stmt (macro line x ps body) rest) b =
           let f = belongs_front (macro line x ps body) rest b in
-          let xs = map (λ p. p.name) ps in
-          (
+          let xs = map (λ p. p.name) ps in (
             record {
               body = owned body (among_back xs (body_names body) all_names f.0) f.1 (behind_proper world order h xs (named (set_in body) ++ scoped_in body) f.2);
               parameters = names_proper world order h xs (named (set_in body) ++ scoped_in body) f.2;

@@ -273,14 +273,25 @@ module _ (world : World) (order : List Home) where
         (100 * (2 + weight a)) (omega (arith, field_size (field_named x))) (omega (arith, resolved_sized a sp k))
     resolved_sized (item a b) sp k = omega (arith, resolved_sized a sp k, resolved_sized b sp k)
     resolved_sized (call f ts ps) sp k =
-        omega (arith, expr_some f, invoked_sized (callee (macros world.sources sp.home) f) sp (resolved_row world order ts sp) (resolved_asides world order ps sp) (count ts) (locals_from sp.free (keywords ps))
-        (exprs_weight ts) (pairs_weight 2 ps) (callee_few (macros world.sources sp.home) f k.macros) (k.names sp.home) (λ b. row_sized ts sp k b) (λ b. asides_sized ps sp k b))
+        omega (
+          arith,
+          expr_some f,
+          invoked_sized (callee (macros world.sources sp.home) f) sp (resolved_row world order ts sp) (resolved_asides world order ps sp) (count ts) (locals_from sp.free (keywords ps))
+              (exprs_weight ts) (pairs_weight 2 ps) (callee_few (macros world.sources sp.home) f k.macros) (k.names sp.home) (λ b. row_sized ts sp k b) (λ b. asides_sized ps sp k b),
+        )
     resolved_sized (filter a x ts ps) sp k =
         let f = world.filters.named x in
         let rest = filled_some (filter_parameters world.filters f) (count ts) (keywords ps) (locals_from sp.free (keywords ps)) in
         let es = slots.item (resolved world order a sp) (resolved_row world order ts sp (resolved_asides world order ps sp rest)) in
-        omega (arith, filtered_size f sp.escaping es, resolved_sized a sp k, row_sized ts sp k (resolved_asides world order ps sp rest), asides_sized ps sp k rest,
-        some_size (filter_parameters world.filters f) (count ts) (keywords ps) (locals_from sp.free (keywords ps)), filter_few f k.filters)
+        omega (
+          arith,
+          filtered_size f sp.escaping es,
+          resolved_sized a sp k,
+          row_sized ts sp k (resolved_asides world order ps sp rest),
+          asides_sized ps sp k rest,
+          some_size (filter_parameters world.filters f) (count ts) (keywords ps) (locals_from sp.free (keywords ps)),
+          filter_few f k.filters,
+        )
     resolved_sized (test a n x ts ps) sp k =
         let es = slots.item (resolved world order a sp) (resolved_row world order ts sp slots.none) in
         omega (arith, turned_size n (tested_by (test_named x) es), tested_size (test_named x) es, resolved_sized a sp k, row_sized ts sp k slots.none, is_some_weight n)
@@ -314,8 +325,15 @@ module _ (world : World) (order : List Home) where
       let i = world.filters.named f.name in
       let rest = filled_some (filter_parameters world.filters i) (count f.arguments) (keywords f.keywords) (locals_from sp.free (keywords f.keywords)) in
       let es = slots.item e (resolved_row world order f.arguments sp (resolved_asides world order f.keywords sp rest)) in
-      omega (arith, filters_sized fs sp (filtered_by i sp.escaping es) k, filtered_size i sp.escaping es, row_sized f.arguments sp k (resolved_asides world order f.keywords sp rest), asides_sized f.keywords sp k rest,
-      some_size (filter_parameters world.filters i) (count f.arguments) (keywords f.keywords) (locals_from sp.free (keywords f.keywords)), filter_few i k.filters)
+      omega (
+        arith,
+        filters_sized fs sp (filtered_by i sp.escaping es) k,
+        filtered_size i sp.escaping es,
+        row_sized f.arguments sp k (resolved_asides world order f.keywords sp rest),
+        asides_sized f.keywords sp k rest,
+        some_size (filter_parameters world.filters i) (count f.arguments) (keywords f.keywords) (locals_from sp.free (keywords f.keywords)),
+        filter_few i k.filters,
+      )
 
   values_sized : (ps : Pairs) (sp : Spot) (line : ℕ) (b : SBody Constant) → IsFew world order sp.home → body_size (resolved_values world order ps sp line b) ≤ 100 * pairs_weight 2 ps + body_size b
   values_sized no_pairs sp line b k = omega arith

@@ -102,8 +102,13 @@ templates_own (t ∷ ts) = body_own t.body + templates_own ts
 chain_once : (on : Bool) (ts : List Template) → templates_own ts + bodies_own (flat_map (λ t. blocks_in t.name t.body on) ts) + macros_own (flat_map (λ t. macros_in t.name t.body) ts) ≤ templates_weight ts
 chain_once on [] = omega arith
 chain_once on (t ∷ ts) =
-    omega (arith, top_once t.name t.body on, chain_once on ts, bodies_append (blocks_in t.name t.body on) (flat_map (λ t. blocks_in t.name t.body on) ts),
-    macros_append (macros_in t.name t.body) (flat_map (λ t. macros_in t.name t.body) ts))
+    omega (
+      arith,
+      top_once t.name t.body on,
+      chain_once on ts,
+      bodies_append (blocks_in t.name t.body on) (flat_map (λ t. blocks_in t.name t.body on) ts),
+      macros_append (macros_in t.name t.body) (flat_map (λ t. macros_in t.name t.body) ts),
+    )
 
 -- ---- the instructions of a chain's routines
 
@@ -144,8 +149,14 @@ module _ (world : World) (order : List Home) (h : Home) where
     all_in_chain : routines_size (chain_routines world order h) ≤ 100 * templates_weight (templates world.sources h) + 1
     all_in_chain =
         let ts = templates world.sources h in
-        omega (arith, chain_once world.escaping ts, chain_sized ts, macros_sized (macros world.sources h), blocks_sized 0 (all_bodies world.sources world.escaping h),
-        routines_append (map (macro_routine world order h) (macros world.sources h)) (body_routines world order h (numbered_bodies world h)))
+        omega (
+          arith,
+          chain_once world.escaping ts,
+          chain_sized ts,
+          macros_sized (macros world.sources h),
+          blocks_sized 0 (all_bodies world.sources world.escaping h),
+          routines_append (map (macro_routine world order h) (macros world.sources h)) (body_routines world order h (numbered_bodies world h)),
+        )
 
 -- ---- places in the pool change no size and no height
 
@@ -331,8 +342,14 @@ module _ (world : World) (order : List Home) (h : Home) (k : (f : ℕ) → lengt
   macros_counted (m ∷ ms) =
       let sp = bound_all (map (λ p. p.name) m.parameters) (top_spot world order h m.template) in
       let r = macro_routine world order h m in
-      omega (arith, macros_counted ms, scope_counted world order m.body sp (all_counted world order m.body (bound_all (set_in m.body) sp) k), length-append (body_values r.body) (routines_values (map (macro_routine world order h) ms)),
-      length-append (map (λ p. default_value p.default) m.parameters) (defaults_of ms), mapped_len (λ (p : Parameter). default_value p.default) m.parameters)
+      omega (
+        arith,
+        macros_counted ms,
+        scope_counted world order m.body sp (all_counted world order m.body (bound_all (set_in m.body) sp) k),
+        length-append (body_values r.body) (routines_values (map (macro_routine world order h) ms)),
+        length-append (map (λ p. default_value p.default) m.parameters) (defaults_of ms),
+        mapped_len (λ (p : Parameter). default_value p.default) m.parameters,
+      )
 
   blocks_counted : (n : ℕ) (bs : List BlockBody) → length (routines_values (body_routines world order h (counted_from n bs))) ≤ bodies_own bs
   blocks_counted n [] = omega arith
@@ -347,8 +364,15 @@ module _ (world : World) (order : List Home) (h : Home) (k : (f : ℕ) → lengt
       let ts = templates world.sources h in
       let a = map (macro_routine world order h) (macros world.sources h) in
       let b = body_routines world order h (numbered_bodies world h) in
-      omega (arith, chain_once world.escaping ts, chain_counted ts, macros_counted (macros world.sources h), blocks_counted 0 (all_bodies world.sources world.escaping h), values_append a b,
-      length-append (body_values (resolved_chain world order h ts)) (routines_values (a ++ b)))
+      omega (
+        arith,
+        chain_once world.escaping ts,
+        chain_counted ts,
+        macros_counted (macros world.sources h),
+        blocks_counted 0 (all_bodies world.sources world.escaping h),
+        values_append a b,
+        length-append (body_values (resolved_chain world order h ts)) (routines_values (a ++ b)),
+      )
 
   -- a unit a chain, a macro and a body
   macros_number : (ms : List MacroBody) → length (map (macro_routine world order h) ms) ≤ macros_own ms
@@ -361,15 +385,25 @@ module _ (world : World) (order : List Home) (h : Home) (k : (f : ℕ) → lengt
 
   units_in_chain : length (chain_routines world order h) ≤ templates_weight (templates world.sources h) + 1
   units_in_chain =
-      omega (arith, chain_once world.escaping (templates world.sources h), macros_number (macros world.sources h), bodies_number 0 (all_bodies world.sources world.escaping h),
-      length-append (map (macro_routine world order h) (macros world.sources h)) (body_routines world order h (numbered_bodies world h)))
+      omega (
+        arith,
+        chain_once world.escaping (templates world.sources h),
+        macros_number (macros world.sources h),
+        bodies_number 0 (all_bodies world.sources world.escaping h),
+        length-append (map (macro_routine world order h) (macros world.sources h)) (body_routines world order h (numbered_bodies world h)),
+      )
 
 chains_counted : (world : World) (order hs : List Home) (k : (f : ℕ) → length (world.filters.parameters f) ≤ 3)
     → length (routines_values (flat_map (chain_routines world order) hs)) + length (flat_map (λ h. defaults_of (macros world.sources h)) hs) ≤ chains_weight world.sources hs
 chains_counted world order [] k = omega arith
 chains_counted world order (h ∷ hs) k =
-    omega (arith, chains_counted world order hs k, counted_in_chain world order h k, values_append (chain_routines world order h) (flat_map (chain_routines world order) hs),
-    length-append (defaults_of (macros world.sources h)) (flat_map (λ h. defaults_of (macros world.sources h)) hs))
+    omega (
+      arith,
+      chains_counted world order hs k,
+      counted_in_chain world order h k,
+      values_append (chain_routines world order h) (flat_map (chain_routines world order) hs),
+      length-append (defaults_of (macros world.sources h)) (flat_map (λ h. defaults_of (macros world.sources h)) hs),
+    )
 
 units_counted : (world : World) (order hs : List Home) (k : (f : ℕ) → length (world.filters.parameters f) ≤ 3) → length (flat_map (chain_routines world order) hs) ≤ chains_weight world.sources hs + length hs
 units_counted world order [] k = omega arith
@@ -403,16 +437,24 @@ module _ (world : World) (order : List Home) (n : ℕ) (some : 1 ≤ n) (few : (
       through : (b : Bool) → body_locals (resolved_sets world order rest (top_spot world order h t)) ≤ n
           → body_locals (if b then followed (resolved_stmt world order s (top_spot world order h t)) (resolved_sets world order rest (top_spot world order h t)) else resolved_sets world order rest (top_spot world order h t)) ≤ n
       through true g =
-          omega (arith, g, stmt_localed n some world order few s (top_spot world order h t) (top t) (omega (arith, k)),
-          locality.followed_local n some (resolved_stmt world order s (top_spot world order h t)) (resolved_sets world order rest (top_spot world order h t)))
+          omega (
+            arith,
+            g,
+            stmt_localed n some world order few s (top_spot world order h t) (top t) (omega (arith, k)),
+            locality.followed_local n some (resolved_stmt world order s (top_spot world order h t)) (resolved_sets world order rest (top_spot world order h t)),
+          )
       through false g = g
 
   chain_localed : (ts : List Template) → templates_own ts ≤ n → body_locals (resolved_chain world order h ts) ≤ n
   chain_localed [] k = omega arith
   chain_localed (t ∷ []) k = all_localed n some world order few t.body (top_spot world order h t.name) (top t.name) (omega (arith, k))
   chain_localed (t ∷ (u ∷ us)) k =
-      omega (arith, chain_localed (u ∷ us) (omega (arith, k)), sets_localed t.body t.name (omega (arith, k)),
-      locality.followed_local n some (resolved_sets world order t.body (top_spot world order h t.name)) (resolved_chain world order h (u ∷ us)))
+      omega (
+        arith,
+        chain_localed (u ∷ us) (omega (arith, k)),
+        sets_localed t.body t.name (omega (arith, k)),
+        locality.followed_local n some (resolved_sets world order t.body (top_spot world order h t.name)) (resolved_chain world order h (u ∷ us)),
+      )
 
   -- a body behind parameters
   routine_localed : (ps : List Text) (b : Body) (sp : Spot) → Below n some sp.table → sp.free + length ps + body_own b ≤ n → body_locals (scoped (set_in b) (bound_all ps sp) (resolved_body world order b)) ≤ n
@@ -468,6 +510,6 @@ program_sized world entry rest k =
       names = (k.0.names entry).0;
       globals = globals_counted world order order (λ h. (k.0.names h).0);
       locals = holds_placed (200 + chains_weight world.sources order) rs n (chains_localed world order order (200 + chains_weight world.sources order) (omega arith)
-      (λ h x. omega (arith, parameters_few world order h x (k.0.names h))) k (omega arith));
+          (λ h x. omega (arith, parameters_few world order h x (k.0.names h))) k (omega arith));
       entries = heights_placed (max 2 (chains_weight world.sources order)) rs n (chains_low world order order k);
     }

@@ -103,14 +103,7 @@ pub enum SStmt {
     If(Vec<(Place, SExpr, Vec<SStmt>)>, Vec<SStmt>),
     /// What takes the items, what is gone over, the condition, the statements of a turn, and the
     /// else part.
-    For(
-        Place,
-        Targets,
-        SExpr,
-        Option<SExpr>,
-        Vec<SStmt>,
-        Vec<SStmt>,
-    ),
+    For(Place, Targets, SExpr, Option<SExpr>, Vec<SStmt>, Vec<SStmt>),
     /// The text of statements into a slot: markup with true, else a plain text.
     Capture(bool, Slot, Vec<SStmt>),
     /// What a routine prints on a row of arguments.
