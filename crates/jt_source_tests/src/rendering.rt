@@ -27,6 +27,7 @@ impl Library for Shelf {
     fn source(&self, name: &str) -> Option<&str> {
         match self.templates.iter().find(|pair| pair.0.as_str() == name) {
             Some(pair) => Some(pair.1.as_str()),
+            None => None,
         }
     }
 }
@@ -50,6 +51,7 @@ fn templates_of(alloc: Global, row: &str) -> Result<(Shelf, String), AllocError>
             Some((name, source)) if !part.starts_with('{') => {
                 templates.push((String::from_str(alloc, name)?, unfolded(alloc, source)?))?;
             }
+            _ => context = String::from_str(alloc, part)?,
         }
         rest = behind;
     }
@@ -61,6 +63,7 @@ fn templates_of(alloc: Global, row: &str) -> Result<(Shelf, String), AllocError>
 fn code_of(alloc: Global, message: &str) -> Result<String, AllocError> {
     match message.split_once(' ') {
         Some((code, _)) => String::from_str(alloc, code),
+        None => String::from_str(alloc, message),
     }
 }
 
@@ -71,9 +74,14 @@ fn told(alloc: Global, row: &str) -> Result<String, Fail> {
         return Err(Fail::from("a row has no context"));
     };
     let text = match render(alloc, "t", &shelf, Options::new(), &context, DEFAULT) {
+        Ok(Outcome::Text(text)) => format!(in alloc; "[{text}]")?,
+        Ok(Outcome::Fault(fault)) => code_of(alloc, format!(in alloc; "{fault}")?.as_str())?,
+        Ok(Outcome::Spent(spent)) => format!(in alloc; "{spent}")?,
+        Err(RenderError::Compile(refusal)) => code_of(
             alloc,
             format!(in alloc; "{refusal}")?.as_str(),
         )?,
+        Err(RenderError::NoMemory) => String::from_str(alloc, "NoMemory")?,
     };
     Ok(text)
 }
