@@ -1,5 +1,5 @@
 -- What each item gives, gathered: its size, its nesting, and the values.
-use Rattle.std.proofs.Common.{◌≡◌, ℕ, ◌+◌, ◌-◌, ◌^◌, ◌≤◌, ◌×◌, min, max, List, [], ◌∷◌, ◌++◌, Bool, true, false, refl, sym, ap, ◌∙◌, arith}
+use Rattle.std.proofs.Common.{◌≡◌, ℕ, ◌+◌, ◌-◌, ◌^◌, ◌≤◌, min, max, List, [], ◌∷◌, ◌++◌, Bool, true, false, refl, sym, ap, ◌∙◌, arith}
 use Rattle.std.specs.Prelude.{Result, Ok, Err}
 use Rattle.jt_value.specs.declared.fault.Fault.{Fault}
 use Rattle.jt_value.specs.declared.value.Value.{Value}
@@ -34,11 +34,11 @@ pub behind_none : (r : Result Items Fault) → measured_behind 0 0 r ≡ row_mea
 behind_none (Ok ts) = pair_is _ _ _ _ (omega arith) (omega arith)
 behind_none (Err f) = refl
 
-size_of : Result (ℕ × ℕ) Fault → ℕ
+abbrev size_of : Result (ℕ × ℕ) Fault → ℕ
 size_of (Ok m) = m.0
 size_of (Err f) = 0
 
-nesting_of : Result (ℕ × ℕ) Fault → ℕ
+abbrev nesting_of : Result (ℕ × ℕ) Fault → ℕ
 nesting_of (Ok m) = m.1
 nesting_of (Err f) = 0
 
@@ -73,10 +73,10 @@ pub behind_item : (give : Tree → Result Items Fault) (all ts : Items) (t : Tre
 behind_item give all ts t size nesting more deepest is e =
     behind_more (give t) (gathered give ts) size nesting more deepest e ∙ ap (λ (us : Items). measured_behind size nesting (gathered give us)) (sym is)
 
-pub behind_item_fault : (give : Tree → Result Items Fault) (all ts : Items) (t : Tree) (size nesting : ℕ) (f : Fault) → all ≡ item t ts → Err f ≡ row_measured (give t)
-    → Err f ≡ measured_behind size nesting (gathered give all)
-behind_item_fault give all ts t size nesting f is e =
-    behind_fault (give t) (gathered give ts) size nesting f e ∙ ap (λ (us : Items). measured_behind size nesting (gathered give us)) (sym is)
+pub behind_item_fault : (give : Tree → Result Items Fault) (all ts : Items) (t : Tree) (size nesting : ℕ) (f : Fault) (whole : Result (ℕ × ℕ) Fault) → all ≡ item t ts → Err f ≡ row_measured (give t)
+    → measured_behind size nesting (gathered give all) ≡ whole → Err f ≡ whole
+behind_item_fault give all ts t size nesting f whole is e same =
+    behind_fault (give t) (gathered give ts) size nesting f e ∙ ap (λ (us : Items). measured_behind size nesting (gathered give us)) (sym is) ∙ same
 
 pub behind_end : (give : Tree → Result Items Fault) (all : Items) (size nesting : ℕ) → all ≡ no_items → size ≤ 2 ^ 64 - 1 → nesting ≤ 2 ^ 32 - 1
     → Ok (size, nesting) ≡ measured_behind size nesting (gathered give all)

@@ -57,7 +57,7 @@ pub(crate) enum Change<'a> {
 impl Judge<'_> {
     /// Whether an operand passes.
     fn passes(self, operand: Operand<'_>) -> Result<bool, Fault>
-        requires { Judges self.entry }
+        requires { Judges self }
         ensures { result ≡ judges self.entry (tree_of operand.entry) }
     {
         match self {
@@ -83,7 +83,7 @@ fn test_operand(test: TestId, operand: Operand<'_>, arguments: &[Value]) -> Resu
 impl<'a> Selection<'a> {
     /// Whether an item is kept.
     fn keeps(self, item: Operand<'a>) -> Result<bool, Fault>
-        requires { Judges self.entry.judge }
+        requires { Judges self.judge }
         ensures { result ≡ kept self.entry (tree_of item.entry) }
     {
         let passes = self.judge.passes(self.part_of(item)?)?;
@@ -105,7 +105,7 @@ impl<'a> Change<'a> {
     /// The size and the nesting of what an item gives.
     #[tactic(auto, using(crate::proofs::Rows::alone_measured, crate::proofs::Rows::kept_measured))]
     pub(crate) fn measure(self, item: Operand<'a>) -> Result<(u64, u32), Fault>
-        requires { Gives self.entry }
+        requires { Gives self }
         ensures { result ≡ row_measured (gives self.entry (tree_of item.entry)) }
     {
         match self {
@@ -123,7 +123,7 @@ impl<'a> Change<'a> {
         values: &mut Vec<Value>,
         item: Operand<'a>,
     ) -> Result<(), ValueError>
-        requires { Gives self.entry }
+        requires { Gives self }
         ensures ok { OnOk result (in_front (Ok (items_view values.old.items)) (gives self.entry (tree_of item.entry)) ≡ Ok (items_view values.new.items)) }
         ensures fault { IfErr result (RowFault (gives self.entry (tree_of item.entry))) }
     {

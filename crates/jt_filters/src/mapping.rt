@@ -50,7 +50,7 @@ pub(crate) fn mapped(
 /// The measure of the list of what the items give.
 #[tactic(auto, using(crate::proofs::Rows::list_measured, crate::proofs::Rows::list_fault))]
 fn row_list_measure<'a>(items: ItemList<'a>, change: Change<'a>) -> Result<(u64, u32), Fault>
-    requires { Gives change.entry }
+    requires { Gives change }
     ensures { result ≡ measured (as_list (gathered (gives change.entry) (items_in items.entry))) }
 {
     let (size, nesting) = row_measure(items, change)?;
@@ -60,14 +60,17 @@ fn row_list_measure<'a>(items: ItemList<'a>, change: Change<'a>) -> Result<(u64,
 /// The size and the nesting of what the items give, each the greatest number where it is greater.
 #[tactic(auto, using(crate::proofs::Rows::behind_item, crate::proofs::Rows::behind_item_fault, crate::proofs::Rows::behind_end, crate::proofs::Rows::behind_none))]
 fn row_measure<'a>(items: ItemList<'a>, change: Change<'a>) -> Result<(u64, u32), Fault>
-    requires { Gives change.entry }
+    requires { Gives change }
     ensures { result ≡ row_measured (gathered (gives change.entry) (items_in items.entry)) }
 {
     let mut items = items;
     let mut size = 0u64;
     let mut nesting = 0u32;
     while let Some((item, behind)) = items.split_first() {
-        let (more, deepest) = change.measure(item)?;
+        let (more, deepest) = match change.measure(item) {
+            Ok(measure) => measure,
+            Err(fault) => return Err(fault),
+        };
         size = size.saturating_add(more);
         nesting = nesting.max(deepest);
         items = behind;
@@ -81,7 +84,7 @@ fn row_list<'a>(
     items: ItemList<'a>,
     change: Change<'a>,
 ) -> Result<Value, ValueError>
-    requires { Gives change.entry }
+    requires { Gives change }
     ensures { Builds (as_list (gathered (gives change.entry) (items_in items.entry))) result }
 {
     let values = row_values(alloc, items, change)?;
@@ -95,7 +98,7 @@ fn row_values<'a>(
     items: ItemList<'a>,
     change: Change<'a>,
 ) -> Result<Vec<Value>, ValueError>
-    requires { Gives change.entry }
+    requires { Gives change }
     ensures ok { IfOk result (λ v. gathered (gives change.entry) (items_in items.entry) ≡ Ok (items_view v.items)) }
     ensures fault { IfErr result (RowFault (gathered (gives change.entry) (items_in items.entry))) }
 {
