@@ -1,5 +1,5 @@
 -- What the private functions say of what each item gives, and of what is gathered of it.
-use Rattle.std.specs.Prelude.{◌≡◌, ℕ, ◌+◌, ◌-◌, ◌^◌, min, max, Bool, List, ◌∷◌, map, length, Option, Some, None, option_map, Result, Ok, Err}
+use Rattle.std.specs.Prelude.{◌≡◌, ℕ, ◌+◌, ◌-◌, ◌^◌, min, max, Bool, ◌∷◌, map, length, option_map, Result, Ok, Err}
 use Rattle.jt_value.specs.declared.fault.Fault.{Fault}
 use Rattle.jt_value.specs.declared.fault.ValueError.{ValueError}
 use Rattle.jt_value.specs.declared.fault.ValueError.TheVariants as error
@@ -11,7 +11,6 @@ use Rattle.jt_ops.specs.Testing.{tested}
 use Rattle.jt_filters.specs.declared.inner.Judge.{Judge}
 use Rattle.jt_filters.specs.declared.inner.Judge.TheVariants as judge
 use Rattle.jt_filters.specs.declared.inner.Selection.{Selection}
-use Rattle.jt_filters.specs.declared.inner.InnerCall.{InnerCall}
 use Rattle.jt_filters.specs.declared.inner.Change.{Change}
 use Rattle.jt_filters.specs.declared.inner.Change.TheVariants as change
 use Rattle.jt_filters.specs.Mapping.{alone, if_kept, passing, judged, part_of}

@@ -79,11 +79,7 @@ fn row_measure<'a>(items: ItemList<'a>, change: Change<'a>) -> Result<(u64, u32)
 }
 
 /// The list of what the items give.
-fn row_list<'a>(
-    alloc: Global,
-    items: ItemList<'a>,
-    change: Change<'a>,
-) -> Result<Value, ValueError>
+fn row_list<'a>(alloc: Global, items: ItemList<'a>, change: Change<'a>) -> Result<Value, ValueError>
     requires { Gives change }
     ensures { Builds (as_list (gathered (gives change.entry) (items_in items.entry))) result }
 {
@@ -270,4 +266,3 @@ fn tested(test: TestId, arguments: &[Value]) -> Result<Judge<'_>, Fault>
         Err(Fault::BadArgument)
     }
 }
-
