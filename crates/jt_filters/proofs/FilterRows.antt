@@ -628,3 +628,43 @@ row_115 = refl
 row_116 : printing false (Ok (text (codes "<")) ∷ (call (filtered filter.Escape false) (Ok (text (codes "<")) ∷ [])) ∷ []) ≡ Ok (codes "<&lt;")
 unfolding digits chars encode_utf8
 row_116 = refl
+
+-- "{{ []|map('nope') }}"
+row_117 : printing true ((call (filtered filter.Map true) ((call listed_all ([])) ∷ Ok (text (codes "nope")) ∷ [])) ∷ []) ≡ Err fault.BadArgument
+unfolding digits chars encode_utf8
+row_117 = refl
+
+-- "{{ 5|map('nope') }}"
+row_118 : printing true ((call (filtered filter.Map true) (Ok (number (pos 5)) ∷ Ok (text (codes "nope")) ∷ [])) ∷ []) ≡ Err fault.NotIterable
+unfolding digits chars encode_utf8
+row_118 = refl
+
+-- "{{ []|map('select') }}"
+row_119 : printing true ((call (filtered filter.Map true) ((call listed_all ([])) ∷ Ok (text (codes "select")) ∷ [])) ∷ []) ≡ Err fault.BadArgument
+unfolding digits chars encode_utf8
+row_119 = refl
+
+-- "{{ []|map('replace', 'a') }}"
+row_120 : printing true ((call (filtered filter.Map true) ((call listed_all ([])) ∷ Ok (text (codes "replace")) ∷ Ok (text (codes "a")) ∷ [])) ∷ []) ≡ Err fault.BadArgument
+unfolding digits chars encode_utf8
+row_120 = refl
+
+-- "{{ []|select('odd', 1) }}"
+row_121 : printing true ((call (filtered filter.Select true) ((call listed_all ([])) ∷ Ok (text (codes "odd")) ∷ Ok (number (pos 1)) ∷ [])) ∷ []) ≡ Err fault.BadArgument
+unfolding digits chars encode_utf8
+row_121 = refl
+
+-- "{{ []|selectattr(1) }}"
+row_122 : printing true ((call (filtered filter.SelectAttr true) ((call listed_all ([])) ∷ Ok (number (pos 1)) ∷ [])) ∷ []) ≡ Err fault.BadArgument
+unfolding digits chars encode_utf8
+row_122 = refl
+
+-- "{{ [{'a': 'x'}]|map('attr', 'a')|join }}"
+row_123 : printing true ((call (filtered filter.Join true) ((call (filtered filter.Map true) ((call listed_all ((call mapped (Ok (text (codes "a")) ∷ Ok (text (codes "x")) ∷ [])) ∷ [])) ∷ Ok (text (codes "attr")) ∷ Ok (text (codes "a")) ∷ [])) ∷ [])) ∷ []) ≡ Ok (codes "x")
+unfolding digits chars encode_utf8
+row_123 = refl
+
+-- "{{ [{'a': 1}, {'a': 2}]|rejectattr('a', 'eq', 2)|length }}"
+row_124 : printing true ((call (filtered filter.Length true) ((call (filtered filter.RejectAttr true) ((call listed_all ((call mapped (Ok (text (codes "a")) ∷ Ok (number (pos 1)) ∷ [])) ∷ (call mapped (Ok (text (codes "a")) ∷ Ok (number (pos 2)) ∷ [])) ∷ [])) ∷ Ok (text (codes "a")) ∷ Ok (text (codes "eq")) ∷ Ok (number (pos 2)) ∷ [])) ∷ [])) ∷ []) ≡ Ok (codes "1")
+unfolding digits chars encode_utf8
+row_124 = refl
