@@ -111,7 +111,11 @@ pub(crate) struct Headers {
     pub(crate) total: u32,
 }
 
-pub(crate) fn headers_at(alloc: Global, count: u16, bytes: &[u8]) -> Result<(Headers, &[u8]), ImageError>
+pub(crate) fn headers_at(
+    alloc: Global,
+    count: u16,
+    bytes: &[u8],
+) -> Result<(Headers, &[u8]), ImageError>
     ensures gives { Gives (λ x. (headers_view x.0.items.items, x.1.now)) result (headers_at count bytes.now) }
     ensures total { IfOk result (λ x. x.0.total ≡ header_total (headers_view x.0.items.items)) }
 {

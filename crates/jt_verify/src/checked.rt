@@ -97,11 +97,11 @@ pub fn verify_view<'a>(
     view: View<'a>,
 ) -> Result<VerifiedView<'a>, (View<'a>, Refusal)>
     // What is accepted is that view, and its code is typed.
-    ensures ok { IfOk result (λ v. (v ≡ view) × IsTyped view) }
+    ensures ok { IfOk result (λ v. (v ≡ view.entry) × IsTyped view.entry) }
     // A refusal hands the view back, and holds.
-    ensures err { IfErr result (λ e. (e.0 ≡ view) × RefusalHolds view e.1) }
+    ensures err { IfErr result (λ e. (e.0 ≡ view.entry) × RefusalHolds view.entry e.1) }
     // A view of a typed code is refused only for want of memory.
-    ensures exact { IfErr result (λ e. IsTyped view → e.1 ≡ Refusal.NoMemory) }
+    ensures exact { IfErr result (λ e. IsTyped view.entry → e.1 ≡ Refusal.NoMemory) }
 {
     accept(alloc, view)
 }
