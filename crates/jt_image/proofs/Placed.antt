@@ -1,7 +1,7 @@
 -- Instructions that stay bytes: how many there are, and the one at a point.
-use Rattle.std.proofs.Common.{◌≡◌, ℕ, zero, suc, ◌+◌, ◌*◌, ◌<◌, ◌≤◌, ◌^◌, List, [], ◌∷◌, ◌++◌, length, drop, get_or, Option, Some, None, Result, Ok, Err, refl, sym, ap, subst, ◌∙◌, arith, append_assoc}
+use Rattle.std.proofs.Common.{◌≡◌, ℕ, zero, suc, ◌+◌, ◌*◌, ◌<◌, ◌≤◌, ◌^◌, List, [], ◌∷◌, ◌++◌, length, drop, Option, Some, None, Result, Ok, Err, refl, sym, ap, subst, ◌∙◌, arith, append_assoc}
 use Rattle.std.specs.Prelude.{slice_get}
-use Rattle.std.specs.Int.{w16, w32, from_le_bytes, to_le_bytes}
+use Rattle.std.specs.Int.{w32, from_le_bytes, to_le_bytes}
 use Rattle.std.specs.List.{flat_map, AllByRecursion}
 use Rattle.std.proofs.lemmas.List.Concat.{flat_map-cons}
 use Rattle.jt_image.specs.declared.error.ImageError.{ImageError}
@@ -10,7 +10,7 @@ use Rattle.jt_image.specs.declared.wire.Instr.{Instr}
 use Rattle.jt_image.specs.Code.{Section}
 use Rattle.jt_image.specs.Spelling.{wire_of, wire_bytes, instruction_bytes}
 use Rattle.jt_image.specs.IsCode.{IsInstruction}
-use Rattle.jt_image.specs.Reading.{◌>>=◌, Header, many_at, known, known_of, instruction_of, instruction_at, instructions_at, section_of, section_at}
+use Rattle.jt_image.specs.Reading.{◌>>=◌, Header, known, known_of, instruction_of, instruction_at, instructions_at, section_of, section_at}
 use Rattle.jt_image.specs.InPlace.{answered, instructions_in, fields_in}
 use Rattle.jt_image.proofs.Found.{IsBytes, AllOk, all_at, Many, many_found, wide16, wide32}
 use Rattle.jt_image.proofs.Sound.{wire_at, instruction_found, good_instruction, all_instructions, many_count}

@@ -1,7 +1,6 @@
 -- What contracts see of a view: names and constants with their texts lent, and units whose instructions stay bytes.
 use Rattle.std.specs.Prelude.{◌≡◌, ℕ, List, [], ◌∷◌, length, map, slice_index_or, Result, Ok, Err}
 use Rattle.std.specs.Int.{w16, w32, from_le_bytes}
-use Rattle.std.specs.List.{AllByRecursion}
 use denote.Ref.{Bor}
 use Rattle.jt_image.specs.declared.error.ImageError.{ImageError}
 use Rattle.jt_image.specs.declared.instruction.Instruction.{Instruction}

@@ -1,8 +1,6 @@
-use Rattle.std.proofs.Common.{◌≡◌, ◌++◌, ◌∷◌, [], List, Ok, ap, refl, sym, ◌∙◌, arith}
+use Rattle.std.proofs.Common.{◌++◌, ◌∷◌, []}
 use Rattle.std.proofs.lemmas.Result.{err_from_is_err_and}
-use Rattle.jt_image.specs.declared.instruction.Instruction.{Instruction}
 use Rattle.jt_image.specs.Reading.{many_at, instruction_at}
-use Rattle.jt_image.specs.InPlace.{answered}
 use Rattle.jt_image.proofs.Loop.{goes_on, ends, is_done}
 use Rattle.jt_image.proofs.Placed.{is_answered}
 use Rattle.jt_image.proofs.places.behind_instructions.Goals as goal

@@ -1,4 +1,3 @@
-use Rattle.std.proofs.Common.{rules}
 use Rattle.jt_image.specs.HeaderView.{header_view}
 use Rattle.jt_image.proofs.Placed.{place_gives, place_whole}
 use Rattle.jt_image.proofs.places.place_at.Goals as goal
