@@ -1,9 +1,7 @@
 //! Small images, accepted and refused, and shapes joined.
 
 use crate::rows::{numbers, rows_hold};
-use jt_image::{
-    Code, Constant, Flaw, Image, Instr, Kind, Parts, Unit, assemble, decode, view,
-};
+use jt_image::{Code, Constant, Flaw, Image, Instr, Kind, Parts, Unit, assemble, decode, view};
 use jt_verify::{Refusal, Shape, join, verify, verify_code, verify_view};
 use std::alloc::{AllocError, Global};
 use std::fmt::InlineText;
