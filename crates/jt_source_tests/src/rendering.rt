@@ -1,7 +1,7 @@
 //! Rows of templates with their texts, faults and refusals.
 //!
 //! A row is `name: source` for each template but the entry's, perhaps the context before them, and the entry's source last,
-//! with ` ;; ` between them; behind ` => ` stand the text in brackets, or the code of a fault or of a refusal. `␤` is an LF.
+//! with `¦` between them; behind ` => ` stand the text in brackets, or the code of a fault or of a refusal. `␤` is an LF.
 
 ghost use Rattle.std.specs.Prelude.{bytes_eq, option_map, string_bytes};
 ghost use Rattle.std.specs.List.{find};
@@ -12,6 +12,7 @@ use jt_line::DEFAULT;
 use jt_machine::Outcome;
 use jt_scan::Options;
 use std::alloc::{AllocError, Global};
+use std::mem::replace;
 use std::process::Abort;
 use std::test::Fail;
 
@@ -32,30 +33,48 @@ impl Library for Shelf {
     }
 }
 
-/// A source with its line ends.
-fn unfolded(alloc: Global, source: &str) -> Result<String, AllocError> {
-    let mut text = String::with_capacity(alloc, source.len())?;
-    for character in source.chars() {
+/// A row with its line ends.
+fn unfolded(alloc: Global, row: &str) -> Result<String, AllocError> {
+    let mut text = String::with_capacity(alloc, row.len())?;
+    for character in row.chars() {
         text.push(if character == '␤' { '\n' } else { character })?;
     }
     Ok(text)
 }
 
+/// The parts of a row.
+fn parts_of(alloc: Global, row: &str) -> Result<Vec<String>, AllocError> {
+    let mut parts = Vec::new(alloc);
+    let mut part = String::new(alloc);
+    for character in row.chars() {
+        if character == '¦' {
+            parts.push(replace(&mut part, String::new(alloc)))?;
+        } else {
+            part.push(character)?;
+        }
+    }
+    parts.push(part)?;
+    Ok(parts)
+}
+
 /// The templates of a row, the entry's under the name `t`, and its context.
 fn templates_of(alloc: Global, row: &str) -> Result<(Shelf, String), AllocError> {
-    let mut templates = Vec::new(alloc);
+    let mut parts = parts_of(alloc, row)?;
+    let entry = parts.pop().unwrap_or(String::new(alloc));
+    let mut templates = Vec::with_capacity(alloc, parts.len() + 1)?;
     let mut context = String::from_str(alloc, "{}")?;
-    let mut rest = row;
-    while let Some((part, behind)) = rest.split_once(" ;; ") {
+    for part in parts {
         match part.split_once(": ") {
             Some((name, source)) if !part.starts_with('{') => {
-                templates.push((String::from_str(alloc, name)?, unfolded(alloc, source)?))?;
+                templates.push((
+                    String::from_str(alloc, name)?,
+                    String::from_str(alloc, source)?,
+                ))?;
             }
-            _ => context = String::from_str(alloc, part)?,
+            _ => context = part,
         }
-        rest = behind;
     }
-    templates.push((String::from_str(alloc, "t")?, unfolded(alloc, rest)?))?;
+    templates.push((String::from_str(alloc, "t")?, entry))?;
     Ok((Shelf { templates }, context))
 }
 
@@ -92,7 +111,8 @@ fn rows_hold(rt: &(impl Abort + AllocGlobal), rows: &str) -> Result<(), Fail> {
         let Some((asked, wanted)) = row.trim_start().split_once(" => ") else {
             return Err(Fail::from("a row has no =>"));
         };
-        let found = told(rt.alloc(), asked)?;
+        let asked = unfolded(rt.alloc(), asked)?;
+        let found = told(rt.alloc(), asked.as_str())?;
         let wanted = unfolded(rt.alloc(), wanted)?;
         assert_eq!(rt; found.as_str(), wanted.as_str(), "{row}");
     }
@@ -100,13 +120,13 @@ fn rows_hold(rt: &(impl Abort + AllocGlobal), rows: &str) -> Result<(), Fail> {
 }
 
 /// What the language gives, an example of each form.
-const WORKED: &str = r##"{"name": "World"} ;; Hello {{ name }}!␤ => [Hello World!]
+const WORKED: &str = r##"{"name": "World"}¦Hello {{ name }}!␤ => [Hello World!]
     a ␤ {%- if true -%} ␤ b {% endif %}c => [ab c]
-    {"x": "<&'\">"} ;; {{ x }}{{ x|safe }} => [&lt;&amp;&#39;&#34;&gt;<&'">]
-    {"xs": [6, 1, 7]} ;; {% for x in xs if x > 5 %}{{ loop.index }}:{{ x }} {% else %}none{% endfor %} => [1:6 2:7 ]
-    {"xs": [1]} ;; {% for x in xs if x > 5 %}{{ loop.index }}:{{ x }} {% else %}none{% endfor %} => [none]
+    {"x": "<&'\">"}¦{{ x }}{{ x|safe }} => [&lt;&amp;&#39;&#34;&gt;<&'">]
+    {"xs": [6, 1, 7]}¦{% for x in xs if x > 5 %}{{ loop.index }}:{{ x }} {% else %}none{% endfor %} => [1:6 2:7 ]
+    {"xs": [1]}¦{% for x in xs if x > 5 %}{{ loop.index }}:{{ x }} {% else %}none{% endfor %} => [none]
     {% set x = 1 %}{% for i in [1, 2] %}{{ x }}{% set x = 9 %}{% endfor %}{{ x }} => [111]
-    base: [{% block t %}base{% endblock %}] ;; {% extends "base" %}{% block t %}{{ super() }}+child{% endblock %} => [[base+child]]
+    base: [{% block t %}base{% endblock %}]¦{% extends "base" %}{% block t %}{{ super() }}+child{% endblock %} => [[base+child]]
     {% for i in [1] %}{% block b %}{{ i }}{% endblock %}{% endfor %} => []
     {% for i in [1] %}{% block b scoped %}{{ i }}{% endblock %}{% endfor %} => [1]
     {{ 9223372036854775807 + 1 }} => F3
@@ -119,8 +139,8 @@ const WORKED: &str = r##"{"name": "World"} ;; Hello {{ name }}!␤ => [Hello Wor
     {% set a, b = [1, 2] %}{{ b }}{{ a }} => [21]
     {% set a, b = [1] %}{{ b }}{{ a }} => F7
     {% set a = 1 %}{% with a = 2, b = a %}{{ a }}{{ b }}{% endwith %}{{ a }} => [211]
-    p: <{{ i }}> ;; {% for i in [1, 2] %}{% include "p" %}{% endfor %} => [<1><2>]
-    p: <{{ i }}> ;; {% for i in [1, 2] %}{% include "p" without context %}{% endfor %} => [<><>]
+    p: <{{ i }}>¦{% for i in [1, 2] %}{% include "p" %}{% endfor %} => [<1><2>]
+    p: <{{ i }}>¦{% for i in [1, 2] %}{% include "p" without context %}{% endfor %} => [<><>]
     {% set m %}<i>{% endset %}{{ m }}{{ "<i>" }} => [<i>&lt;i&gt;]
     {% macro f(a, b=2) %}{{ a }}-{{ b }};{% endmacro %}{{ f(1) }}{{ f(1, b=3) }}{{ f() }} => [1-2;1-3;-2;]
     {% for x in "ab" %}{{ loop.cycle("x", "y") }}{{ loop.last }}{% endfor %} => [xFalseyTrue]
@@ -128,9 +148,9 @@ const WORKED: &str = r##"{"name": "World"} ;; Hello {{ name }}!␤ => [Hello Wor
     {{ loop }} => V1
     {{ x => S1
     {{ "x }} => S2
-    {"b": true} ;; {% if a %}x{% elif b %}y{% else %}z{% endif %} => [y]
+    {"b": true}¦{% if a %}x{% elif b %}y{% else %}z{% endif %} => [y]
     {% if a %}x{% elif b %}y{% else %}z{% endif %} => [z]
-    {"a": "<"} ;; {# {{ #}{{ a }} => [&lt;]
+    {"a": "<"}¦{# {{ #}{{ a }} => [&lt;]
     a␤␤ => [a␤]
     {{ f(1) }} => V3
     {{ range() }} => V4
@@ -161,14 +181,14 @@ const WORKED: &str = r##"{"name": "World"} ;; Hello {{ name }}!␤ => [Hello Wor
     {% macro m(a) %}{% endmacro %}{{ m }} => V2
     {% macro m(a) %}{% endmacro %}{{ m(1, 2) }} => V4
     {% macro m() %}<{% endmacro %}{{ m() }}{{ m()|length }} => [<1]
-    root: {% block t %}1{% endblock %} ;; mid: {% extends "root" %}{% block t %}{{ super() }}2{% endblock %} ;; {% extends "mid" %}{% block t %}{{ super() }}3{% endblock %} => [123]
+    root: {% block t %}1{% endblock %}¦mid: {% extends "root" %}{% block t %}{{ super() }}2{% endblock %}¦{% extends "mid" %}{% block t %}{{ super() }}3{% endblock %} => [123]
     {% block t %}x{% endblock %}{{ self.t() }} => [xx]
-    base: {{ a }} ;; {% extends "base" %}{% set a = 1 %}gone => [1]
-    base: {% set a = 2 %}{{ a }} ;; {% extends "base" %}{% set a = 1 %}gone => [2]
+    base: {{ a }}¦{% extends "base" %}{% set a = 1 %}gone => [1]
+    base: {% set a = 2 %}{{ a }}¦{% extends "base" %}{% set a = 1 %}gone => [2]
     {% block t required %}{% endblock %} => C6
     {% block t %}{{ super() }}{% endblock %} => C7
     {% block t %}{% endblock %}{% block t %}{% endblock %} => C5
-    t2: {% extends "t3" %} ;; t3: {% extends "t4" %} ;; t4: {% extends "t5" %} ;; t5: {% extends "t6" %} ;; t6: {% extends "t7" %} ;; t7: {% extends "t8" %} ;; t8: {% extends "t9" %} ;; t9: {% extends "t10" %} ;; t10: {% extends "t11" %} ;; t11: {% extends "t12" %} ;; t12: {% extends "t13" %} ;; t13: {% extends "t14" %} ;; t14: {% extends "t15" %} ;; t15: {% extends "t16" %} ;; t16: x ;; {% extends "t2" %} => [x]"##;
+    t2: {% extends "t3" %}¦t3: {% extends "t4" %}¦t4: {% extends "t5" %}¦t5: {% extends "t6" %}¦t6: {% extends "t7" %}¦t7: {% extends "t8" %}¦t8: {% extends "t9" %}¦t9: {% extends "t10" %}¦t10: {% extends "t11" %}¦t11: {% extends "t12" %}¦t12: {% extends "t13" %}¦t13: {% extends "t14" %}¦t14: {% extends "t15" %}¦t15: {% extends "t16" %}¦t16: x¦{% extends "t2" %} => [x]"##;
 
 #[test]
 fn worked_rows_hold(rt: HostRuntime) -> Result<(), Fail> {
@@ -215,17 +235,17 @@ const STATEMENTS: &str = r##"{% set a, b %}{% endset %} => P1
     {% macro m() %}[{{ i }}]{% endmacro %}{% for i in [1] %}{{ m() }}{% endfor %} => [[]]
     {% macro m() %}{% endmacro %}{% for m in [1] %}{% endfor %} => V2
     {% macro m(a) %}{% set a = 2 %}{{ a }}{% endmacro %}{{ m(1) }} => [2]
-    {"n": 5} ;; p: [{{ a }}{{ n }}] ;; {% with a = 1 %}{% include 'p' %}{% include 'p' without context %}{% endwith %} => [[15][]]
-    p: {{ loop.index }} ;; {% for i in [1] %}{% include 'p' %}{% endfor %} => V1
-    p: {{ "<" }} ;; {% autoescape false %}{% include 'p' %}{% endautoescape %} => [&lt;]
+    {"n": 5}¦p: [{{ a }}{{ n }}]¦{% with a = 1 %}{% include 'p' %}{% include 'p' without context %}{% endwith %} => [[15][]]
+    p: {{ loop.index }}¦{% for i in [1] %}{% include 'p' %}{% endfor %} => V1
+    p: {{ "<" }}¦{% autoescape false %}{% include 'p' %}{% endautoescape %} => [&lt;]
     {% set a = 1 %}{% extends 'base' %} => P1
     {% for i in [1] %}{% block b scoped %}[{{ i }}]{% endblock %}{{ self.b() }}{% endfor %} => [[1][]]
     {% autoescape false %}{% block b %}{{ "<" }}{% endblock %}{% endautoescape %} => [<]
-    base: {% for i in [1] %}{% block b %}{% endblock %}{% endfor %} ;; {% extends "base" %}{% block b scoped %}[{{ i }}]{% endblock %} => [[]]
-    base: {% for i in [1] %}{% block b scoped %}{% endblock %}{% endfor %} ;; {% extends "base" %}{% block b %}[{{ i }}]{% endblock %} => [[1]]
-    base: {% block a %}{{ x }}{% endblock %} ;; {% extends "base" %}{% set x = 1 %} => [1]
-    base: {% autoescape false %}{% block a %}{% endblock %}{% endautoescape %} ;; {% extends "base" %}{% block a %}{{ "<" }}{% endblock %} => [&lt;]
-    base: {% set x = nope.x %} ;; {% extends "base" %}{% set y = 1 // 0 %} => F4"##;
+    base: {% for i in [1] %}{% block b %}{% endblock %}{% endfor %}¦{% extends "base" %}{% block b scoped %}[{{ i }}]{% endblock %} => [[]]
+    base: {% for i in [1] %}{% block b scoped %}{% endblock %}{% endfor %}¦{% extends "base" %}{% block b %}[{{ i }}]{% endblock %} => [[1]]
+    base: {% block a %}{{ x }}{% endblock %}¦{% extends "base" %}{% set x = 1 %} => [1]
+    base: {% autoescape false %}{% block a %}{% endblock %}{% endautoescape %}¦{% extends "base" %}{% block a %}{{ "<" }}{% endblock %} => [&lt;]
+    base: {% set x = nope.x %}¦{% extends "base" %}{% set y = 1 // 0 %} => F4"##;
 
 #[test]
 fn statements_hold(rt: HostRuntime) -> Result<(), Fail> {
@@ -243,10 +263,10 @@ const CHAINS: &str = r##"{{ super() }} => V3
     {% include '..a/.b' ignore missing %}x => [x]
     {% include x %} => P1
     {% include 'a' with %} => P1
-    p: {{ m() }} ;; {% macro m() %}x{% endmacro %}{% include 'p' %} => V3
-    p: {% include 't' %} ;; {% if false %}{% include 'p' %}{% endif %} => C8
-    p: {{ 1 + }} ;; {% if false %}{% include 'p' ignore missing %}{% endif %} => P1
-    p: {% macro m() %}p{% endmacro %}{{ m() }} ;; {% macro m() %}t{% endmacro %}{% include 'p' %}{{ m() }} => [pt]
+    p: {{ m() }}¦{% macro m() %}x{% endmacro %}{% include 'p' %} => V3
+    p: {% include 't' %}¦{% if false %}{% include 'p' %}{% endif %} => C8
+    p: {{ 1 + }}¦{% if false %}{% include 'p' ignore missing %}{% endif %} => P1
+    p: {% macro m() %}p{% endmacro %}{{ m() }}¦{% macro m() %}t{% endmacro %}{% include 'p' %}{{ m() }} => [pt]
     x{% extends 'base' %} => P1
     {{ 1 }}{% extends 'base' %} => P1
     {% if true %}{% extends 'base' %}{% endif %} => P1
@@ -267,22 +287,22 @@ const CHAINS: &str = r##"{{ super() }} => V3
     {% block b %}<{% endblock %}{{ self.b() }}{{ self.b()|length }} => [<<1]
     {% block a %}1{% block b %}2{% endblock %}{% endblock %}{{ self.b() }} => [122]
     {% block b %}{{ nope.x }}{% endblock %} => F2
-    base: [{% block a %}{% endblock %}] ;; {% extends "base" %}x{# c #} {% block a %}1{% endblock %} y => [[1]]
-    base: {% block a %}b{% endblock %} ;; {% extends "base" %} => [b]
-    base: b ;; {% extends "base" %}{{ 1 }} => P1
-    base: b ;; {% extends "base" %}{% if true %}{% endif %} => P1
-    base: b ;; {% extends "base" %}{% include 'base' %} => P1
-    base: b ;; {% extends "base" %}{% macro m() %}{% endmacro %} => [b]
-    base: {% macro m() %}x{% endmacro %}[{% block a %}{% endblock %}] ;; {% extends "base" %}{% block a %}{{ m() }}{% endblock %} => [[x]]
-    base: {% block a required %}{% endblock %} ;; {% extends "base" %} => C6
-    base: {% block a required %}{% endblock %} ;; {% extends "base" %}{% block a %}{{ super() }}{% endblock %} => C7
-    base: {% block a %}{{ super() }}{% endblock %} ;; {% extends "base" %}{% block a %}x{% endblock %} => C7
-    base: b ;; {% extends "base" %}{% block zz %}{{ super() }}{% endblock %} => C7
-    base: {% block a %}{% block b %}1{% endblock %}{% endblock %} ;; {% extends "base" %}{% block b %}2{{ super() }}{% endblock %} => [21]
-    base: {% block a %}1{% endblock %} ;; {% extends "base" %}{% block a %}{% block b %}{{ super() }}{% endblock %}{% endblock %} => C7
-    base: {{ self.a() }}{% block a %}1{% endblock %} ;; {% extends "base" %}{% block a %}2{{ super() }}{% endblock %} => [2121]
-    base: {% include 't' %} ;; {% extends "base" %} => C8
-    base: b{% block a %}{% endblock %} ;; {% extends "base" %}{% block a %}{% include 'base' %}{% endblock %} => [bb]"##;
+    base: [{% block a %}{% endblock %}]¦{% extends "base" %}x{# c #} {% block a %}1{% endblock %} y => [[1]]
+    base: {% block a %}b{% endblock %}¦{% extends "base" %} => [b]
+    base: b¦{% extends "base" %}{{ 1 }} => P1
+    base: b¦{% extends "base" %}{% if true %}{% endif %} => P1
+    base: b¦{% extends "base" %}{% include 'base' %} => P1
+    base: b¦{% extends "base" %}{% macro m() %}{% endmacro %} => [b]
+    base: {% macro m() %}x{% endmacro %}[{% block a %}{% endblock %}]¦{% extends "base" %}{% block a %}{{ m() }}{% endblock %} => [[x]]
+    base: {% block a required %}{% endblock %}¦{% extends "base" %} => C6
+    base: {% block a required %}{% endblock %}¦{% extends "base" %}{% block a %}{{ super() }}{% endblock %} => C7
+    base: {% block a %}{{ super() }}{% endblock %}¦{% extends "base" %}{% block a %}x{% endblock %} => C7
+    base: b¦{% extends "base" %}{% block zz %}{{ super() }}{% endblock %} => C7
+    base: {% block a %}{% block b %}1{% endblock %}{% endblock %}¦{% extends "base" %}{% block b %}2{{ super() }}{% endblock %} => [21]
+    base: {% block a %}1{% endblock %}¦{% extends "base" %}{% block a %}{% block b %}{{ super() }}{% endblock %}{% endblock %} => C7
+    base: {{ self.a() }}{% block a %}1{% endblock %}¦{% extends "base" %}{% block a %}2{{ super() }}{% endblock %} => [2121]
+    base: {% include 't' %}¦{% extends "base" %} => C8
+    base: b{% block a %}{% endblock %}¦{% extends "base" %}{% block a %}{% include 'base' %}{% endblock %} => [bb]"##;
 
 #[test]
 fn chains_hold(rt: HostRuntime) -> Result<(), Fail> {
