@@ -34,6 +34,7 @@ fn tell_names(told: &mut String, names: &[String]) -> Result<(), AllocError> {
 }
 
 /// Branches, each as `c?body|`.
+#[cycle(tell)]
 fn tell_branches(told: &mut String, branches: &[(u32, Expr, Vec<Stmt>)]) -> Result<(), AllocError> {
     for (_, condition, body) in branches {
         tell_expression(told, condition)?;
@@ -100,6 +101,7 @@ fn tell_macro(told: &mut String, name: &str, parameters: &[Parameter]) -> Result
 }
 
 /// A body as `:body)` behind what stands before it.
+#[cycle(tell)]
 fn tell_inside(told: &mut String, body: &[Stmt]) -> Result<(), AllocError> {
     told.push(':')?;
     tell(told, body)?;
@@ -109,6 +111,7 @@ fn tell_inside(told: &mut String, body: &[Stmt]) -> Result<(), AllocError> {
 
 /// Statements: data as `<data>`, prints as `{e}`, an `if` as `[c?body|c?body|:else]`, and all others
 /// between parentheses.
+#[cycle(tell)]
 fn tell(told: &mut String, body: &[Stmt]) -> Result<(), AllocError> {
     for statement in body {
         tell_statement(told, statement)?;
@@ -117,6 +120,7 @@ fn tell(told: &mut String, body: &[Stmt]) -> Result<(), AllocError> {
 }
 
 /// One statement.
+#[cycle(tell)]
 fn tell_statement(told: &mut String, statement: &Stmt) -> Result<(), AllocError> {
     match statement {
         Stmt::Data(text) => {
@@ -144,6 +148,7 @@ fn tell_statement(told: &mut String, statement: &Stmt) -> Result<(), AllocError>
 }
 
 /// A statement that is written between parentheses.
+#[cycle(tell)]
 fn tell_tag(told: &mut String, statement: &Stmt) -> Result<(), AllocError> {
     told.push('(')?;
     match statement {
@@ -173,6 +178,7 @@ fn tell_tag(told: &mut String, statement: &Stmt) -> Result<(), AllocError> {
 }
 
 /// A statement by the name that it sets or asks for.
+#[cycle(tell)]
 fn tell_named(told: &mut String, statement: &Stmt) -> Result<(), AllocError> {
     match statement {
         Stmt::Set(_, targets, value) => {
