@@ -33,18 +33,6 @@ fn tell_names(told: &mut String, names: &[String]) -> Result<(), AllocError> {
     Ok(())
 }
 
-/// Branches, each as `c?body|`.
-#[cycle(tell)]
-fn tell_branches(told: &mut String, branches: &[(u32, Expr, Vec<Stmt>)]) -> Result<(), AllocError> {
-    for (_, condition, body) in branches {
-        tell_expression(told, condition)?;
-        told.push('?')?;
-        tell(told, body)?;
-        told.push('|')?;
-    }
-    Ok(())
-}
-
 /// The head of a loop, as `for a,b=e?c`.
 fn tell_loop(
     told: &mut String,
@@ -100,102 +88,51 @@ fn tell_macro(told: &mut String, name: &str, parameters: &[Parameter]) -> Result
     Ok(())
 }
 
-/// A body as `:body)` behind what stands before it.
-#[cycle(tell)]
-fn tell_inside(told: &mut String, body: &[Stmt]) -> Result<(), AllocError> {
-    told.push(':')?;
-    tell(told, body)?;
-    told.push(')')?;
-    Ok(())
-}
-
-/// Statements: data as `<data>`, prints as `{e}`, an `if` as `[c?body|c?body|:else]`, and all others
-/// between parentheses.
-#[cycle(tell)]
-fn tell(told: &mut String, body: &[Stmt]) -> Result<(), AllocError> {
-    for statement in body {
-        tell_statement(told, statement)?;
-    }
-    Ok(())
-}
-
-/// One statement.
-#[cycle(tell)]
-fn tell_statement(told: &mut String, statement: &Stmt) -> Result<(), AllocError> {
+/// What stands before the bodies of a statement.
+fn tell_head(told: &mut String, statement: &Stmt) -> Result<(), AllocError> {
     match statement {
         Stmt::Data(text) => {
             told.push('<')?;
             told.push_str(text.as_str())?;
-            told.push('>')?;
-            return Ok(());
         }
         Stmt::Print(_, expr) => {
             told.push('{')?;
             tell_expression(told, expr)?;
-            told.push('}')?;
-            return Ok(());
         }
-        Stmt::If(branches, other) => {
-            told.push('[')?;
-            tell_branches(told, branches)?;
-            told.push(':')?;
-            tell(told, other)?;
-            told.push(']')?;
-            return Ok(());
+        Stmt::If(_, _) => told.push('[')?,
+        _ => {
+            told.push('(')?;
+            return tell_tag(told, statement);
         }
-        _ => tell_tag(told, statement),
     }
+    Ok(())
 }
 
-/// A statement that is written between parentheses.
-#[cycle(tell)]
+/// The head of a statement that is written between parentheses.
 fn tell_tag(told: &mut String, statement: &Stmt) -> Result<(), AllocError> {
-    told.push('(')?;
     match statement {
-        Stmt::For(_, targets, over, condition, body, other) => {
-            tell_loop(told, targets, over, condition)?;
-            told.push(':')?;
-            tell(told, body)?;
-            told.push('|')?;
-            tell(told, other)?;
-            told.push(')')?;
-            Ok(())
-        }
-        Stmt::With(_, values, body) => {
-            tell_values(told, values)?;
-            tell_inside(told, body)
-        }
-        Stmt::FilterBlock(_, filters, body) => {
-            tell_filters(told, filters)?;
-            tell_inside(told, body)
-        }
-        Stmt::Macro(_, name, parameters, body) => {
-            tell_macro(told, name.as_str(), parameters)?;
-            tell_inside(told, body)
+        Stmt::For(_, targets, over, condition, _, _) => tell_loop(told, targets, over, condition),
+        Stmt::With(_, values, _) => tell_values(told, values),
+        Stmt::FilterBlock(_, filters, _) => tell_filters(told, filters),
+        Stmt::Macro(_, name, parameters, _) => tell_macro(told, name.as_str(), parameters),
+        Stmt::Set(_, targets, value) => {
+            told.push_str("set ")?;
+            tell_names(told, targets)?;
+            told.push('=')?;
+            tell_expression(told, value)
         }
         _ => tell_named(told, statement),
     }
 }
 
-/// A statement by the name that it sets or asks for.
-#[cycle(tell)]
+/// The head of a statement with the one name that it sets or asks for.
 fn tell_named(told: &mut String, statement: &Stmt) -> Result<(), AllocError> {
     match statement {
-        Stmt::Set(_, targets, value) => {
-            told.push_str("set ")?;
-            tell_names(told, targets)?;
-            told.push('=')?;
-            tell_expression(told, value)?;
-        }
-        Stmt::SetBlock(_, name, body) => {
+        Stmt::SetBlock(_, name, _) => {
             told.push_str("set ")?;
             told.push_str(name.as_str())?;
-            return tell_inside(told, body);
         }
-        Stmt::Autoescape(_, on, body) => {
-            told.push_str(if *on { "escape" } else { "plain" })?;
-            return tell_inside(told, body);
-        }
+        Stmt::Autoescape(_, on, _) => told.push_str(if *on { "escape" } else { "plain" })?,
         Stmt::Include(_, name, ignoring, with_context) => {
             told.push_str("include ")?;
             told.push_str(name.as_str())?;
@@ -206,17 +143,70 @@ fn tell_named(told: &mut String, statement: &Stmt) -> Result<(), AllocError> {
             told.push_str("extends ")?;
             told.push_str(name.as_str())?;
         }
-        Stmt::Block(_, name, scoped, required, body) => {
+        Stmt::Block(_, name, scoped, required, _) => {
             told.push_str("block ")?;
             told.push_str(name.as_str())?;
             told.push_str(if *scoped { " scoped" } else { "" })?;
             told.push_str(if *required { " required" } else { "" })?;
-            return tell_inside(told, body);
         }
         _ => told.push('?')?,
     }
-    told.push(')')?;
     Ok(())
+}
+
+/// What stands behind the bodies of a statement.
+fn end_of(statement: &Stmt) -> char {
+    match statement {
+        Stmt::Data(_) => '>',
+        Stmt::Print(_, _) => '}',
+        Stmt::If(_, _) => ']',
+        _ => ')',
+    }
+}
+
+/// Statements: data as `<data>`, prints as `{e}`, an `if` as `[c?body|c?body|:else]`, and all others
+/// between parentheses, with `:` before a body.
+#[cycle(tell)]
+fn tell(told: &mut String, body: &[Stmt]) -> Result<(), AllocError> {
+    for statement in body {
+        tell_head(told, statement)?;
+        tell_bodies(told, statement)?;
+        told.push(end_of(statement))?;
+    }
+    Ok(())
+}
+
+/// The bodies of a statement.
+#[cycle(tell)]
+fn tell_bodies(told: &mut String, statement: &Stmt) -> Result<(), AllocError> {
+    match statement {
+        Stmt::If(branches, other) => {
+            for (_, condition, body) in branches {
+                tell_expression(told, condition)?;
+                told.push('?')?;
+                tell(told, body)?;
+                told.push('|')?;
+            }
+            told.push(':')?;
+            tell(told, other)
+        }
+        Stmt::For(_, _, _, _, body, other) => {
+            told.push(':')?;
+            tell(told, body)?;
+            told.push('|')?;
+            tell(told, other)
+        }
+        Stmt::With(_, _, body)
+        | Stmt::FilterBlock(_, _, body)
+        | Stmt::SetBlock(_, _, body)
+        | Stmt::Autoescape(_, _, body)
+        | Stmt::Macro(_, _, _, body)
+        | Stmt::Block(_, _, _, _, body) => {
+            told.push(':')?;
+            tell(told, body)
+        }
+        _ => Ok(()),
+    }
 }
 
 /// What the tree of a text is, or its refusal.
