@@ -76,7 +76,7 @@ SOURCES = [
     ("raw tags", "", "{% raw %}{{{% endraw %}", "", ["ok"]),
     ("tags in raw text", "{% raw %}", "{% if x %}{{ y }}", "{% endraw %}", ["ok"]),
     ("open raw text", "{% raw %}", "{% endraw", "", ["S6"]),
-    ("loops in a row", "", "{% for i in x %}{% endfor %}", "", ["ok", "G1"]),
+    ("loops in a row", "", "{% for i in x %}{% endfor %}", "", ["ok", "G1", "V5"]),
     ("open loops", "", "{% for i in x %}", "", ["P1", "P2"]),
     ("set in a row", "", "{% set a = 1 %}", "", ["ok", "G1", "V5"]),
     ("filter blocks", "", "{% filter upper %}{% endfilter %}", "", ["ok", "G1"]),
