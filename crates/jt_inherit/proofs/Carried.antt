@@ -9,7 +9,7 @@ use Rattle.std.proofs.lemmas.Bool.{cases_lt}
 use Rattle.std.proofs.lemmas.Bool.Decides.{nat_tests}
 use Rattle.jt_parse.specs.Texts.{among, repeated}
 use Rattle.jt_parse.specs.Trees.{Text, Body}
-use Rattle.jt_inherit.specs.Chain.{Sources, Template, template, templates, extends_of, parent_of, names_up}
+use Rattle.jt_inherit.specs.Chain.{Sources, Template, template, templates, extends_of, parent_of, names_up, blocks_in}
 use Rattle.jt_inherit.specs.Checks.{lacks_body, lacks_next}
 use Rattle.jt_inherit.specs.Kept.{their_blocks, their_macros, any_double}
 use Rattle.jt_inherit.specs.Rules.{Asks, Reaches, here, InSomeChain, is_whole, way, BadName, ExtendsCycle, ChainTooLong, DoubleBlock, RequiredNotGiven, NoSuper, IncludeCycle, MacroTwice}
@@ -49,6 +49,12 @@ not_true : (b : Bool) → not b ≡ true → b ≡ false
 not_true true e = absurd (cc)
 not_true false e = refl
 
+seventeen : (n : ℕ) → (n == 17) ≡ true → n ≡ 17
+seventeen n q = grind (arith, nat_tests)
+
+below : (n : ℕ) → n ≤ 17 → (n == 17) ≡ false → n < 17
+below n le q = grind (arith, nat_tests)
+
 -- ---- names on the way
 
 up_len : (s : Sources) (k : ℕ) (o : Option Text) → length (names_up s k o) ≤ k
@@ -78,8 +84,7 @@ up_same s r (suc k) (Some n) g h = by (s n) refl (λ b e. up_same s r k (extends
         absurd (cc)
     by (Some b) e f =
         let there = front_carried s r k n g b e in
-        let rest = f b e (sym (ap (λ o. is_none o || list_any (λ m. is_none (s m)) (names_up s k (parent_of o))) e) ∙ h) in
-        (
+        let rest = f b e (sym (ap (λ o. is_none o || list_any (λ m. is_none (s m)) (names_up s k (parent_of o))) e) ∙ h) in (
           ap (λ o. n ∷ names_up r k (parent_of o)) there ∙ ap (λ l. n ∷ l) rest.0 ∙ sym (ap (λ o. n ∷ names_up s k (parent_of o)) e),
           up_some r k n b there ∙ ap (λ l. template n (Some b) ++ l) rest.1 ∙ sym (up_some s k n b e),
         )
@@ -117,37 +122,34 @@ module _ (s r : Sources) (e : Bool) (entry : Text) (g : (n : Text) (b : Body) �
   long : (h : Text) → Reaches r e entry h → ((length (way s e h) == 17) && not (repeated (way s e h))) ≡ true → ((length (way r e h) == 17) && not (repeated (way r e h))) ≡ true
   long h p t =
       let k = both_true (length (way s e h) == 17) (not (repeated (way s e h))) t in
-      let len : length (way s e h) ≡ 17 = let q = k.0 in grind (arith, nat_tests) in
-      ap (λ l. (length l == 17) && not (repeated l)) (full h p len) ∙ t
+      ap (λ l. (length l == 17) && not (repeated l)) (full h p (seventeen (length (way s e h)) k.0)) ∙ t
 
   -- a name that comes again does so among the first 17, or these differ
-  pub extends_cycle : ExtendsCycle s e entry → ExtendsCycle r e entry ⊎ ChainTooLong r e entry
-  extends_cycle x = by (repeated (way s e h)) refl (length (way s e h) == 17) refl
+  cycle : (h : Text) (k : ℕ) → Reaches r e entry h → repeated (names_up s k (Some h)) ≡ true → ExtendsCycle r e entry ⊎ ChainTooLong r e entry
+  cycle h k p again = by (repeated (way s e h)) refl (length (way s e h) == 17) refl
     where
-      h = x.0
-      k = x.2.0
-      again : repeated (names_up s k (Some h)) ≡ true
-      again = x.2.1
-
       first : length (way s e h) < 17 → repeated (way s e h) ≡ true
       first lt = ⊎_elim
-          (λ (c : k < 17). let more = up_more s k (17 - k) (Some h) in
+          (λ (c : k < 17).
+          let more = up_more s k (17 - k) (Some h) in
           let j : k + (17 - k) ≡ 17 = omega (arith, c) in
           ap repeated (ap (λ i. names_up s i (Some h)) (sym j) ∙ more.1) ∙ repeated_front (names_up s k (Some h)) more.0 again)
-          (λ (c : 17 ≤ k). let j : 17 + (k - 17) ≡ k = omega (arith, c) in
+          (λ (c : 17 ≤ k).
+          let j : 17 + (k - 17) ≡ k = omega (arith, c) in
           ap repeated (sym (up_ends s 17 (k - 17) (Some h) lt) ∙ ap (λ i. names_up s i (Some h)) j) ∙ again)
           (cases_lt k 17)
 
       by : (b : Bool) → repeated (way s e h) ≡ b → (c : Bool) → (length (way s e h) == 17) ≡ c → ExtendsCycle r e entry ⊎ ChainTooLong r e entry
       by true q c f =
-          let p = there x.1 in
           let more = names_more s r 17 (Some h) (on_way s r e entry g h p) in
           inl (h, p, (17, ap repeated more.1 ∙ repeated_front (way s e h) more.0 q))
-      by false q true f = inr (inl (h, there x.1, long h (there x.1) (and_true (length (way s e h) == 17) (not (repeated (way s e h))) f (ap not q))))
+      by false q true f = inr (inl (h, p, long h p (and_true (length (way s e h) == 17) (not (repeated (way s e h))) f (ap not q))))
       by false q false f =
-          let lt : length (way s e h) < 17 = let le = up_len s 17 (Some h) in grind (arith, nat_tests) in
-          let no : true ≡ false = sym (first lt) ∙ q in
+          let no : true ≡ false = sym (first (below (length (way s e h)) (up_len s 17 (Some h)) f)) ∙ q in
           absurd (cc)
+
+  pub extends_cycle : ExtendsCycle s e entry → ExtendsCycle r e entry ⊎ ChainTooLong r e entry
+  extends_cycle x = cycle x.0 x.2.0 (there x.1) x.2.1
 
   pub too_long : ChainTooLong s e entry → ChainTooLong r e entry
   too_long x = ⊎_elim (λ y. inl (y.0, there y.1, long y.0 (there y.1) y.2)) (λ y. inr (y.0, y.1, y.2, λ h a. there (y.3 h a))) x
@@ -156,7 +158,7 @@ module _ (s r : Sources) (e : Bool) (entry : Text) (g : (n : Text) (b : Body) �
   double_block x =
       let p = there x.1 in
       let more = templates_more s r 16 (Some x.0) (on_first s r e entry g x.0 p) in
-      (x.0, p, ap (any_double e) more.1 ∙ any_front _ (templates s x.0) more.0 x.2)
+      (x.0, p, ap (any_double e) more.1 ∙ any_front (λ t. repeated (map (λ b. b.name) (blocks_in t.name t.body e))) (templates s x.0) more.0 x.2)
 
   -- a whole chain is the same
   whole_same : (h : Text) → Reaches r e entry h → is_whole s e h ≡ true → (templates r h ≡ templates s h) × (is_whole r e h ≡ true)
@@ -166,8 +168,7 @@ module _ (s r : Sources) (e : Bool) (entry : Text) (g : (n : Text) (b : Body) �
       let sources : list_any (λ n. is_none (s n)) (way s e h) ≡ false = not_true (list_any (λ n. is_none (s n)) (way s e h)) w2.1 in
       let more = up_more s 16 1 (Some h) in
       let same_way = (up_same s r 17 (Some h) (on_way s r e entry g h p) sources).0 in
-      let still = still_none s r (way s e h) (λ n a. on_way s r e entry g h p n (ap (among n) same_way ∙ a)) sources in
-      (
+      let still = still_none s r (way s e h) (λ n a. on_way s r e entry g h p n (ap (among n) same_way ∙ a)) sources in (
         (up_same s r 16 (Some h) (on_first s r e entry g h p) (none_front (λ n. is_none (s n)) (names_up s 16 (Some h)) more.0 (ap (list_any (λ n. is_none (s n))) (sym more.1) ∙ sources))).1,
         ap (λ l. not (repeated l) && (nat_lt (length l) 17 && not (list_any (λ n. is_none (r n)) l))) same_way
             ∙ and_true (not (repeated (way s e h))) (nat_lt (length (way s e h)) 17 && not (list_any (λ n. is_none (r n)) (way s e h))) w1.0

@@ -255,16 +255,16 @@ module _ (given : Given) (options : Options) (root : Text) (ts : List Template) 
         reached = record { templates = ts; read = known.read; only = known.only; holds = (h, r, ap (λ x. among x (asked (sources_in ts) options.autoescape true h)) f.0 ∙ a) };
         source = f.1.0;
         found = ap given f.0 ∙ f.1.1;
-        fault = f.1.2.0;
-        none = f.1.2.1;
+        fault = f.1.2;
+        none = f.1.3;
       }
   asked_breaks n (error.Parse m e) a must f =
       record {
         reached = record { templates = ts; read = known.read; only = known.only; holds = (h, r, ap (λ x. among x (asked (sources_in ts) options.autoescape true h)) f.0 ∙ a) };
         source = f.1.0;
         found = ap given f.0 ∙ f.1.1;
-        fault = f.1.2.0;
-        none = f.1.2.1;
+        fault = f.1.2;
+        none = f.1.3;
       }
   asked_breaks n error.NoMemory a must f = tt
   asked_breaks n error.ExtendsCycle a must f = absurd f
