@@ -63,10 +63,11 @@ up_len s (suc k) None = omega arith
 up_len s (suc k) (Some n) = omega (arith, up_len s k (parent_of (s n)))
 
 -- a way that ends has no more names
-up_ends : (s : Sources) (k j : ℕ) (o : Option Text) → length (names_up s k o) < k → names_up s (k + j) o ≡ names_up s k o
-up_ends s zero j o lt = absurd (omega arith)
-up_ends s (suc k) j None lt = refl
-up_ends s (suc k) j (Some n) lt = ap (λ l. n ∷ l) (up_ends s k j (parent_of (s n)) (omega (arith, lt)))
+up_ends : (s : Sources) (m k : ℕ) (o : Option Text) → k ≤ m → length (names_up s k o) < k → names_up s m o ≡ names_up s k o
+up_ends s m zero o le lt = absurd (omega arith)
+up_ends s zero (suc k) o le lt = absurd (omega arith)
+up_ends s (suc m) (suc k) None le lt = refl
+up_ends s (suc m) (suc k) (Some n) le lt = ap (λ l. n ∷ l) (up_ends s m k (parent_of (s n)) (omega (arith, le)) (omega (arith, lt)))
 
 -- where each name has a source the way is the same, and so are its templates
 up_same : (s r : Sources) (k : ℕ) (o : Option Text) → Carries s r (names_up r k o) → list_any (λ n. is_none (s n)) (names_up s k o) ≡ false
@@ -131,12 +132,10 @@ module _ (s r : Sources) (e : Bool) (entry : Text) (g : (n : Text) (b : Body) �
       first : length (way s e h) < 17 → repeated (way s e h) ≡ true
       first lt = ⊎_elim
           (λ (c : k < 17).
-          let more = up_more s k (17 - k) (Some h) in
-          let j : k + (17 - k) ≡ 17 = omega (arith, c) in
-          ap repeated (ap (λ i. names_up s i (Some h)) (sym j) ∙ more.1) ∙ repeated_front (names_up s k (Some h)) more.0 again)
+          let more = up_more s 17 k (Some h) (omega (arith, c)) in
+          ap repeated more.1 ∙ repeated_front (names_up s k (Some h)) more.0 again)
           (λ (c : 17 ≤ k).
-          let j : 17 + (k - 17) ≡ k = omega (arith, c) in
-          ap repeated (sym (up_ends s 17 (k - 17) (Some h) lt) ∙ ap (λ i. names_up s i (Some h)) j) ∙ again)
+          ap repeated (sym (up_ends s k 17 (Some h) c lt)) ∙ again)
           (cases_lt k 17)
 
       by : (b : Bool) → repeated (way s e h) ≡ b → (c : Bool) → (length (way s e h) == 17) ≡ c → ExtendsCycle r e entry ⊎ ChainTooLong r e entry
@@ -166,7 +165,7 @@ module _ (s r : Sources) (e : Bool) (entry : Text) (g : (n : Text) (b : Body) �
       let w1 = both_true (not (repeated (way s e h))) (nat_lt (length (way s e h)) 17 && not (list_any (λ n. is_none (s n)) (way s e h))) w in
       let w2 = both_true (nat_lt (length (way s e h)) 17) (not (list_any (λ n. is_none (s n)) (way s e h))) w1.1 in
       let sources : list_any (λ n. is_none (s n)) (way s e h) ≡ false = not_true (list_any (λ n. is_none (s n)) (way s e h)) w2.1 in
-      let more = up_more s 16 1 (Some h) in
+      let more = up_more s 17 16 (Some h) (omega arith) in
       let same_way = (up_same s r 17 (Some h) (on_way s r e entry g h p) sources).0 in
       let still = still_none s r (way s e h) (λ n a. on_way s r e entry g h p n (ap (among n) same_way ∙ a)) sources in (
         (up_same s r 16 (Some h) (on_first s r e entry g h p) (none_front (λ n. is_none (s n)) (names_up s 16 (Some h)) more.0 (ap (list_any (λ n. is_none (s n))) (sym more.1) ∙ sources))).1,

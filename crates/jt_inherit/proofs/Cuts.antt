@@ -1,5 +1,5 @@
 -- Segments with their options, and the tree that they spell.
-use Rattle.std.proofs.Common.{◌≡◌, ℕ, ◌<◌, ◌≤◌, List, [], ◌∷◌, length, map, refl, sym, ap, subst, ◌∙◌, chars, ⊎_elim, Option, None}
+use Rattle.std.proofs.Common.{◌≡◌, ℕ, ◌<◌, ◌≤◌, List, [], ◌∷◌, length, map, refl, sym, ap, subst, ◌∙◌, chars, ⊎_elim, Some, None, arith}
 use Rattle.std.proofs.lemmas.Bool.{cases_lt}
 use Rattle.jt_scan.specs.Cut as cut
 use Rattle.jt_scan.specs.Cut.{Text, IsCut}
@@ -20,7 +20,7 @@ use Rattle.jt_parse.specs.View.{body_of, reads_of, read_view}
 use Rattle.jt_parse.specs.declared.error.ParseError.{ParseError}
 use Rattle.jt_parse.specs.declared.error.ParseError.TheVariants as parse_error
 use Rattle.jt_parse.specs.declared.tree.Template.{Template}
-use Rattle.jt_inherit.specs.Chains.{IsTree, HasNoTree}
+use Rattle.jt_inherit.specs.Chains.{Given, IsTree, HasNoTree, IsOnly}
 use Rattle.jt_inherit.specs.Faults.{IsFault, IsScan, IsParse}
 use Rattle.jt_inherit.specs.Refusals.{IsUncut, IsUnspelled}
 use Rattle.jt_inherit.specs.declared.error.ChainError.{ChainError}
@@ -129,3 +129,12 @@ no_cut options given text e is r none f = (
   uncut_so options given e f (subst (λ z. scanner.IsRefusal e (chars z)) is r),
   λ b t. f (none t.segments (subst (λ x. IsCut t.segments (chars x)) (sym is) t.cut)),
 )
+
+-- ---- the template of a name
+
+-- where its source spells no other tree
+pub only_read : (given : Given) (options : Options) (name text : Text) (b : Body) → given name ≡ Some text → ((d : Body) → IsTree options text d → d ≡ b) → IsOnly given options (record { name = name; body = b })
+only_read given options name text b found one = λ d r.
+    let told : Some r.source ≡ Some text = sym r.found ∙ found in
+    let source : r.source ≡ text = cc in
+    one d (subst (λ z. IsTree options z d) source r.tree)

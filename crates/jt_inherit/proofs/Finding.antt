@@ -301,7 +301,7 @@ home_number keys ks ws k i h e at lt is named =
     ap (λ z. slice_get (strings z) (length (graph_of ws))) (sym e) ∙ ap (slice_get (strings ks)) len ∙ map_at string_bytes ks i k lt is ∙ ap (λ (x : Text). Some x) (sym named)
 
 pub known_names : (given : Given) (options : Options) (ts : List Template) (ks : List Text) → AreKnown given options ts ks → AreKnown given options ts (names ts)
-known_names given options ts ks k = record { read = k.read; within = k.within; named = refl }
+known_names given options ts ks k = record { read = k.read; only = k.only; within = k.within; named = refl }
 
 pub both_pages : (ps qs rs : List Page) → rs ≡ ps ++ qs → pages_view rs ≡ pages_view ps ++ pages_view qs
 both_pages ps qs rs e = ap pages_view e ∙ both ps

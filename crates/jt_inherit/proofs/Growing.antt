@@ -1,5 +1,5 @@
 -- Chains that reach one another, and ask for names, do so when more is read.
-use Rattle.std.proofs.Common.{◌≡◌, ℕ, zero, suc, ◌+◌, ◌⊎◌, ⊎_elim, Bool, true, false, cond, ◌||◌, List, [], ◌∷◌, ◌++◌, map, refl, sym, ap, subst, ◌∙◌, Option, Some, None}
+use Rattle.std.proofs.Common.{◌≡◌, ℕ, zero, suc, ◌≤◌, arith, ◌⊎◌, ⊎_elim, Bool, true, false, cond, ◌||◌, List, [], ◌∷◌, ◌++◌, map, refl, sym, ap, subst, ◌∙◌, Option, Some, None}
 use Rattle.std.specs.Prelude.{flat_map, filter}
 use Rattle.std.specs.Option.{is_some}
 use Rattle.std.specs.Str.{bytes_eq}
@@ -90,11 +90,12 @@ templates_more s r (suc k) (Some n) g = by (s n) refl (λ b e. templates_more s 
         (more.0, up_some r k n b (front_carried s r k n g b e) ∙ ap (λ l. template n (Some b) ++ l) more.1 ∙ sym (ap (λ l. l ++ more.0) (up_some s k n b e)))
 
 -- the first names on the way, and more of them
-pub up_more : (s : Sources) (k j : ℕ) (o : Option Text) → (rest : List Text) × (names_up s (k + j) o ≡ names_up s k o ++ rest)
-up_more s zero j o = (names_up s j o, refl)
-up_more s (suc k) j None = ([], refl)
-up_more s (suc k) j (Some n) =
-    let more = up_more s k j (parent_of (s n)) in
+pub up_more : (s : Sources) (m k : ℕ) (o : Option Text) → k ≤ m → (rest : List Text) × (names_up s m o ≡ names_up s k o ++ rest)
+up_more s m zero o le = (names_up s m o, refl)
+up_more s zero (suc k) o le = absurd (omega arith)
+up_more s (suc m) (suc k) None le = ([], refl)
+up_more s (suc m) (suc k) (Some n) le =
+    let more = up_more s m k (parent_of (s n)) (omega (arith, le)) in
     (more.0, ap (λ l. n ∷ l) more.1)
 
 pub flat-append : {X Y : Type 0} (f : X → List Y) (xs ys : List X) → flat_map f (xs ++ ys) ≡ flat_map f xs ++ flat_map f ys
@@ -120,7 +121,7 @@ module _ (s r : Sources) (e : Bool) (entry : Text) (g : (n : Text) (b : Body) �
   -- the first 16 names are among the first 17
   pub on_first : (h : Text) → Reaches r e entry h → Carries s r (names_up r 16 (Some h))
   on_first h p n a b =
-      let more = up_more r 16 1 (Some h) in
+      let more = up_more r 17 16 (Some h) (omega arith) in
       on_way h p n (ap (among n) more.1 ∙ among_front n (names_up r 16 (Some h)) more.0 a) b
 
   pub needs_more : (all : Bool) (h : Text) → Reaches r e entry h → (n : Text) → among n (flat_map (λ t. needs_in all t.body) (templates s h)) ≡ true → among n (flat_map (λ t. needs_in all t.body) (templates r h)) ≡ true

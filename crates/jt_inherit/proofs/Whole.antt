@@ -334,7 +334,7 @@ module _ (given : Given) (options : Options) (entry : Text) (ts : List Template)
         not_true true e = absurd (cc)
         not_true false e = refl
 
-    chain : Seen
+    abbrev pub chain : Seen
     chain = record { templates = ts; order = map (home_at hs) is; escaping = options.autoescape }
 
     -- what is asked for is read, or has no source

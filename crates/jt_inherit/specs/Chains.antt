@@ -9,7 +9,7 @@ use Rattle.jt_parse.specs.Kept.{pieces}
 use Rattle.jt_parse.specs.Names.{body_unknown}
 use Rattle.jt_parse.specs.Texts.{among, repeated}
 use Rattle.jt_parse.specs.Trees.{Text, Body, body_levels}
-use Rattle.jt_inherit.specs.Chain.{Home, Template, sources_in}
+use Rattle.jt_inherit.specs.Chain.{Home, Template}
 use Rattle.jt_inherit.specs.Includes.{InOrder}
 use Rattle.jt_inherit.specs.Names.{IsName}
 use Rattle.jt_inherit.specs.Rules.{Asks, Reaches, KeepsRules}

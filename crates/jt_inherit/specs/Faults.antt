@@ -1,5 +1,5 @@
 -- What a refusal of one source says, before it is a refusal of a chain.
-use Rattle.std.specs.Prelude.{◌≡◌, ◌≢◌, List, Some, None, string_bytes}
+use Rattle.std.specs.Prelude.{◌≡◌, ◌≢◌, Some, None, string_bytes}
 use Rattle.jt_scan.specs.declared.error.ScanError.{ScanError}
 use Rattle.jt_scan.specs.declared.error.ScanError.TheVariants as scan_error
 use Rattle.jt_scan.specs.declared.options.Options.{Options}
