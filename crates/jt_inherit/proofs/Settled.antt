@@ -1,5 +1,5 @@
 -- An entry has one chain, up to the order of its parts, and none where a rule is broken.
-use Rattle.std.proofs.Common.{◌≡◌, ◌≢◌, ◌↔◌, Bool, true, false, ◌||◌, if◌then◌else◌, List, [], ◌∷◌, map, refl, sym, ap, subst, ◌∙◌, ⊎_elim, Option, Some, None, string_bytes}
+use Rattle.std.proofs.Common.{◌≡◌, ◌≢◌, ◌↔◌, Bool, true, false, ◌||◌, if◌then◌else◌, List, [], ◌∷◌, refl, sym, ap, subst, ◌∙◌, ⊎_elim, Option, Some, None, string_bytes}
 use Rattle.std.specs.List.{AllByRecursion, list_any}
 use Rattle.std.specs.Option.{is_some, is_none}
 use Rattle.std.specs.Str.{bytes_eq}
@@ -16,7 +16,7 @@ use Rattle.jt_inherit.specs.declared.error.ChainError.{ChainError}
 use Rattle.jt_inherit.specs.declared.error.ChainError.TheVariants as error
 use Rattle.jt_inherit.proofs.Among.{same, or_true}
 use Rattle.jt_inherit.proofs.Carried as carried
-use Rattle.jt_inherit.proofs.Finding.{some_source, none_read}
+use Rattle.jt_inherit.proofs.Finding.{some_source}
 use Rattle.jt_inherit.proofs.Growing.{asks_more, asked_more, reaches_more}
 use Rattle.jt_inherit.proofs.Leads.{names}
 
