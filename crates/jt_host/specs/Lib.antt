@@ -1,2 +1,4 @@
 pub mod Json
 pub mod Rendering
+pub mod Turns
+pub mod Places

@@ -3,3 +3,6 @@ pub mod Steps
 pub mod Taking
 pub mod Mapping
 pub mod Returning
+pub mod Emitting
+pub mod Writing
+pub mod Slicing
