@@ -4,5 +4,6 @@ pub mod Taking
 pub mod Mapping
 pub mod Returning
 pub mod Emitting
-pub mod Writing
+pub mod Pieces
 pub mod Slicing
+pub mod Sinking

@@ -69,11 +69,7 @@ impl<W: Write> Sink for IoSink<W> {
     fn put(&mut self, piece: &[u8]) -> Result<usize, SinkFailed> {
         match self.writer.write(piece) {
             Ok(count) if count > 0 || piece.is_empty() => Ok(count),
-            Ok(_) => {
-                self.failed = true;
-                Err(SinkFailed)
-            }
-            Err(_) => {
+            _ => {
                 self.failed = true;
                 Err(SinkFailed)
             }

@@ -1,7 +1,7 @@
 use Rattle.std.proofs.Common.{◌≡◌, ◌+◌, ◌<◌, ◌^◌, false, length}
 use Rattle.jt_value.specs.ContextView.{pairs_of}
 use Rattle.jt_machine.specs.View.{budget_view, config_view}
-use Rattle.jt_machine.proofs.Writing.{SoFar}
+use Rattle.jt_machine.proofs.Pieces.{SoFar}
 use Rattle.jt_machine.proofs.writing.write_code.Given as goal
 
 abbrev pub invariant-steps : goal.invariant-steps
