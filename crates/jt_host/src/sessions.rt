@@ -24,8 +24,11 @@ pub struct Host {
 
 impl Model for Host {
     ghost use Rattle.jt_host.specs.Turns.{World};
+    ghost use Rattle.jt_host.specs.WorldCode.{coded_world};
 
     ghost Value = { World };
+
+    ghost coded = { coded_world };
 
     ghost view = { λ h. record { last = h.last; sessions = h.sessions.items } };
 }

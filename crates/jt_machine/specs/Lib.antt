@@ -5,4 +5,5 @@ pub mod Iterating
 pub mod Emitting
 pub mod Sinks
 pub mod Session
+pub mod SessionCode
 pub mod StageView

@@ -20,6 +20,7 @@ use jt_value::{Context, NoMemory};
 use jt_verify::Verified;
 use std::alloc::Global;
 use std::marker::Model;
+use std::mem;
 
 /// Where a run stands.
 #[derive(Drop)]
@@ -39,8 +40,11 @@ pub struct Machine {
 
 impl Model for Machine {
     ghost use Rattle.jt_machine.specs.Session.{Session};
+    ghost use Rattle.jt_machine.specs.SessionCode.{coded_session};
 
     ghost Value = { Session };
+
+    ghost coded = { coded_session };
 
     ghost use Rattle.jt_machine.specs.StageView.{stage_view, IsUnderway};
 
@@ -101,21 +105,25 @@ impl Machine {
         ensures progress { IfOk result (λ p. told_of self.new.status ≡ Some p) }
         ensures lost { OnErr result (self.new ≡ lost_session self.old) }
     {
-        let ended = match &mut self.stage {
-            Stage::Going(state) => take_steps(self.alloc, self.verified.image(), state, k),
-            Stage::Done(_) => return Ok(Progress::Done),
-            Stage::Lost => return Err(NoMemory),
-        };
-        match ended {
-            Ok(None) => Ok(Progress::Going),
-            Ok(Some(outcome)) => {
+        match mem::replace(&mut self.stage, Stage::Lost) {
+            Stage::Going(state) => {
+                let mut state = state;
+                match take_steps(self.alloc, self.verified.image(), &mut state, k)? {
+                    None => {
+                        self.stage = Stage::Going(state);
+                        Ok(Progress::Going)
+                    }
+                    Some(outcome) => {
+                        self.stage = Stage::Done(outcome);
+                        Ok(Progress::Done)
+                    }
+                }
+            }
+            Stage::Done(outcome) => {
                 self.stage = Stage::Done(outcome);
                 Ok(Progress::Done)
             }
-            Err(refused) => {
-                self.stage = Stage::Lost;
-                Err(refused)
-            }
+            Stage::Lost => Err(NoMemory),
         }
     }
 
@@ -146,10 +154,15 @@ impl Machine {
         ensures image { result.0 ≡ self.code }
         ensures outcome { option_map outcome_view result.1 ≡ outcome_of self }
     {
-        match self.stage {
-            Stage::Going(_) => (self.verified, None),
-            Stage::Done(outcome) => (self.verified, Some(outcome)),
-            Stage::Lost => (self.verified, None),
+        let Machine {
+            verified,
+            stage,
+            ..
+        } = self;
+        match stage {
+            Stage::Going(_) => (verified, None),
+            Stage::Done(outcome) => (verified, Some(outcome)),
+            Stage::Lost => (verified, None),
         }
     }
 }
