@@ -2,6 +2,7 @@
 use Rattle.std.proofs.Common.{◌≡◌, ◌≢◌, ℕ, zero, suc, ◌+◌, ◌-◌, ◌<◌, ◌≤◌, Bool, true, false, cond, List, [], ◌∷◌, ◌++◌, length, Option, Some, None, refl, sym, ap, subst, ◌∙◌, arith, length-append}
 use Rattle.std.specs.Prelude.{option_map, ◌==◌, nat_le}
 use Rattle.std.proofs.lemmas.Bool.Decides.{nat_tests}
+use Rattle.std.proofs.lemmas.Bool.{eqb-true, eq-eqb}
 use Rattle.jt_value.specs.Pairs.{Pairs}
 use Rattle.jt_image.specs.Code.{Code}
 use Rattle.jt_image.specs.Config.{Budget}
@@ -15,25 +16,29 @@ use Rattle.jt_host.specs.Places.{IsAt}
 -- ---- numbers
 
 same : (a b : ℕ) → (a == b) ≡ true → a ≡ b
-same a b h = grind (arith, nat_tests)
+same a b h = eqb-true a b h
 
 itself : (a : ℕ) → (a == a) ≡ true
-itself a = grind (arith, nat_tests)
+itself a = eq-eqb a a refl
 
 apart : (a b : ℕ) → a ≢ b → (a == b) ≡ false
-apart a b h = grind (arith, nat_tests)
+apart a b h = step (a == b) refl
+  where
+    step : (x : Bool) → (a == b) ≡ x → x ≡ false
+    step true e = absurd (h (same a b e))
+    step false e = refl
 
 other : (a b : ℕ) → (a == b) ≡ false → a ≢ b
-other a b h = grind (arith, nat_tests)
+other a b h g = let t : (a == b) ≡ true = eq-eqb a b g in let s : true ≡ false = sym t ∙ h in cc
 
 -- ---- sessions by their ids
 
-nothing_both : (z : Bool) → cond z (None {A = Session}) None ≡ None
-nothing_both true = refl
-nothing_both false = refl
+nothing_both : (z : Bool) (o : Option Session) → cond z o o ≡ o
+nothing_both true o = refl
+nothing_both false o = refl
 
 find_replace : (i j : ℕ) (t : Session) (es : List (ℕ × Session)) → find i (replace j t es) ≡ cond (j == i) (option_map (λ _. t) (find i es)) (find i es)
-find_replace i j t [] = sym (nothing_both (j == i))
+find_replace i j t [] = sym (nothing_both (j == i) None)
 find_replace i j t (e ∷ es) = step (e.0 == j) refl
   where
     hit : (z : Bool) → cond z (Some t) (find i es) ≡ cond z (option_map (λ _. t) (cond z (Some e.1) (find i es))) (cond z (Some e.1) (find i es))
@@ -59,7 +64,7 @@ Below n [] = Unit {0}
 Below n (e ∷ es) = (e.0 ≤ n) × Below n es
 
 find_remove : (i j : ℕ) (es : List (ℕ × Session)) → Distinct es → find i (remove j es) ≡ cond (j == i) None (find i es)
-find_remove i j [] d = sym (nothing_both (j == i))
+find_remove i j [] d = sym (nothing_both (j == i) None)
 find_remove i j (e ∷ es) d = step (e.0 == j) refl
   where
     hit : e.0 ≡ j → (z : Bool) → (j == i) ≡ z → find i es ≡ cond z None (cond z (Some e.1) (find i es))
@@ -104,7 +109,7 @@ remove_absent i [] h = refl
 remove_absent i (e ∷ es) h = let a = absent_front i e es h in rw a.0 (ap (λ (gs : List (ℕ × Session)). e ∷ gs) (remove_absent i es a.1))
 
 replaced_absent : (i j : ℕ) (t : Session) (es : List (ℕ × Session)) → find i es ≡ None → find i (replace j t es) ≡ None
-replaced_absent i j t es h = find_replace i j t es ∙ rw h (nothing_both (j == i))
+replaced_absent i j t es h = find_replace i j t es ∙ rw h (nothing_both (j == i) None)
 
 removed_absent : (i j : ℕ) (es : List (ℕ × Session)) → find i es ≡ None → find i (remove j es) ≡ None
 removed_absent i j [] h = refl
