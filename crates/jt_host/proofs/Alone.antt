@@ -39,7 +39,7 @@ nothing_both false o = refl
 
 find_replace : (i j : ℕ) (t : Session) (es : List (ℕ × Session)) → find i (replace j t es) ≡ cond (j == i) (option_map (λ _. t) (find i es)) (find i es)
 find_replace i j t [] = sym (nothing_both (j == i) None)
-find_replace i j t (e ∷ es) = step (e.0 == j) refl
+find_replace i j t (e ∷ es) = step (find_replace i j t es) (e.0 == j) refl
   where
     hit : (z : Bool) → cond z (Some t) (find i es) ≡ cond z (option_map (λ _. t) (cond z (Some e.1) (find i es))) (cond z (Some e.1) (find i es))
     hit true = refl
@@ -49,9 +49,9 @@ find_replace i j t (e ∷ es) = step (e.0 == j) refl
     miss n false g = refl
     miss n true g = let z : (j == i) ≡ false = apart j i (λ h. n (same e.0 i g ∙ sym h)) in rw z refl
 
-    step : (x : Bool) → (e.0 == j) ≡ x → find i (cond x ((j, t) ∷ es) (e ∷ replace j t es)) ≡ cond (j == i) (option_map (λ _. t) (cond (e.0 == i) (Some e.1) (find i es))) (cond (e.0 == i) (Some e.1) (find i es))
-    step true h = let s : (e.0 == i) ≡ (j == i) = ap (λ (a : ℕ). a == i) (same e.0 j h) in rw s (hit (j == i))
-    step false h = ap (λ r. cond (e.0 == i) (Some e.1) r) (find_replace i j t es) ∙ miss (other e.0 j h) (e.0 == i) refl
+    step : find i (replace j t es) ≡ cond (j == i) (option_map (λ _. t) (find i es)) (find i es) → (x : Bool) → (e.0 == j) ≡ x → find i (cond x ((j, t) ∷ es) (e ∷ replace j t es)) ≡ cond (j == i) (option_map (λ _. t) (cond (e.0 == i) (Some e.1) (find i es))) (cond (e.0 == i) (Some e.1) (find i es))
+    step more true h = let s : (e.0 == i) ≡ (j == i) = ap (λ (a : ℕ). a == i) (same e.0 j h) in rw s (hit (j == i))
+    step more false h = ap (λ r. cond (e.0 == i) (Some e.1) r) more ∙ miss (other e.0 j h) (e.0 == i) refl
 
 -- no id comes twice
 abbrev Distinct : List (ℕ × Session) → Type 0
@@ -65,7 +65,7 @@ Below n (e ∷ es) = (e.0 ≤ n) × Below n es
 
 find_remove : (i j : ℕ) (es : List (ℕ × Session)) → Distinct es → find i (remove j es) ≡ cond (j == i) None (find i es)
 find_remove i j [] d = sym (nothing_both (j == i) None)
-find_remove i j (e ∷ es) d = step (e.0 == j) refl
+find_remove i j (e ∷ es) d = step (find_remove i j es d.1) (e.0 == j) refl
   where
     hit : e.0 ≡ j → (z : Bool) → (j == i) ≡ z → find i es ≡ cond z None (cond z (Some e.1) (find i es))
     hit s true g = subst (λ (a : ℕ). find a es ≡ None) (s ∙ same j i g) d.0
@@ -75,9 +75,9 @@ find_remove i j (e ∷ es) d = step (e.0 == j) refl
     miss n false g = refl
     miss n true g = let z : (j == i) ≡ false = apart j i (λ h. n (same e.0 i g ∙ sym h)) in rw z refl
 
-    step : (x : Bool) → (e.0 == j) ≡ x → find i (cond x es (e ∷ remove j es)) ≡ cond (j == i) None (cond (e.0 == i) (Some e.1) (find i es))
-    step true h = let s : (e.0 == i) ≡ (j == i) = ap (λ (a : ℕ). a == i) (same e.0 j h) in rw s (hit (same e.0 j h) (j == i) refl)
-    step false h = ap (λ r. cond (e.0 == i) (Some e.1) r) (find_remove i j es d.1) ∙ miss (other e.0 j h) (e.0 == i) refl
+    step : find i (remove j es) ≡ cond (j == i) None (find i es) → (x : Bool) → (e.0 == j) ≡ x → find i (cond x es (e ∷ remove j es)) ≡ cond (j == i) None (cond (e.0 == i) (Some e.1) (find i es))
+    step more true h = let s : (e.0 == i) ≡ (j == i) = ap (λ (a : ℕ). a == i) (same e.0 j h) in rw s (hit (same e.0 j h) (j == i) refl)
+    step more false h = ap (λ r. cond (e.0 == i) (Some e.1) r) more ∙ miss (other e.0 j h) (e.0 == i) refl
 
 find_other : (i j : ℕ) (s : Session) (es : List (ℕ × Session)) → j ≢ i → find i (es ++ (j, s) ∷ []) ≡ find i es
 find_other i j s [] n = let z : (j == i) ≡ false = apart j i n in rw z refl
@@ -113,29 +113,29 @@ replaced_absent i j t es h = find_replace i j t es ∙ rw h (nothing_both (j == 
 
 removed_absent : (i j : ℕ) (es : List (ℕ × Session)) → find i es ≡ None → find i (remove j es) ≡ None
 removed_absent i j [] h = refl
-removed_absent i j (e ∷ es) h = step (e.0 == j)
+removed_absent i j (e ∷ es) h = step (removed_absent i j es (absent_front i e es h).1) (e.0 == j)
   where
-    step : (x : Bool) → find i (cond x es (e ∷ remove j es)) ≡ None
-    step true = (absent_front i e es h).1
-    step false = let a = absent_front i e es h in rw a.0 (removed_absent i j es a.1)
+    step : find i (remove j es) ≡ None → (x : Bool) → find i (cond x es (e ∷ remove j es)) ≡ None
+    step more true = (absent_front i e es h).1
+    step more false = rw (absent_front i e es h).0 more
 
 -- ---- what stays true
 
 distinct_replace : (j : ℕ) (t : Session) (es : List (ℕ × Session)) → Distinct es → Distinct (replace j t es)
 distinct_replace j t [] d = tt
-distinct_replace j t (e ∷ es) d = step (e.0 == j) refl
+distinct_replace j t (e ∷ es) d = step (distinct_replace j t es d.1) (e.0 == j) refl
   where
-    step : (x : Bool) → (e.0 == j) ≡ x → Distinct (cond x ((j, t) ∷ es) (e ∷ replace j t es))
-    step true h = (subst (λ (a : ℕ). find a es ≡ None) (same e.0 j h) d.0, d.1)
-    step false h = (replaced_absent e.0 j t es d.0, distinct_replace j t es d.1)
+    step : Distinct (replace j t es) → (x : Bool) → (e.0 == j) ≡ x → Distinct (cond x ((j, t) ∷ es) (e ∷ replace j t es))
+    step more true h = (subst (λ (a : ℕ). find a es ≡ None) (same e.0 j h) d.0, d.1)
+    step more false h = (replaced_absent e.0 j t es d.0, more)
 
 distinct_remove : (j : ℕ) (es : List (ℕ × Session)) → Distinct es → Distinct (remove j es)
 distinct_remove j [] d = tt
-distinct_remove j (e ∷ es) d = step (e.0 == j)
+distinct_remove j (e ∷ es) d = step (distinct_remove j es d.1) (e.0 == j)
   where
-    step : (x : Bool) → Distinct (cond x es (e ∷ remove j es))
-    step true = d.1
-    step false = (removed_absent e.0 j es d.0, distinct_remove j es d.1)
+    step : Distinct (remove j es) → (x : Bool) → Distinct (cond x es (e ∷ remove j es))
+    step more true = d.1
+    step more false = (removed_absent e.0 j es d.0, more)
 
 distinct_added : (j : ℕ) (s : Session) (es : List (ℕ × Session)) → find j es ≡ None → Distinct es → Distinct (es ++ (j, s) ∷ [])
 distinct_added j s [] h d = (refl, tt)
@@ -149,19 +149,19 @@ below_more n m (e ∷ es) h b = (omega (arith, h, b.0), below_more n m es h b.1)
 
 below_replace : (n j : ℕ) (t : Session) (es : List (ℕ × Session)) → Below n es → Below n (replace j t es)
 below_replace n j t [] b = tt
-below_replace n j t (e ∷ es) b = step (e.0 == j) refl
+below_replace n j t (e ∷ es) b = step (below_replace n j t es b.1) (e.0 == j) refl
   where
-    step : (x : Bool) → (e.0 == j) ≡ x → Below n (cond x ((j, t) ∷ es) (e ∷ replace j t es))
-    step true h = (subst (λ (a : ℕ). a ≤ n) (same e.0 j h) b.0, b.1)
-    step false h = (b.0, below_replace n j t es b.1)
+    step : Below n (replace j t es) → (x : Bool) → (e.0 == j) ≡ x → Below n (cond x ((j, t) ∷ es) (e ∷ replace j t es))
+    step more true h = (subst (λ (a : ℕ). a ≤ n) (same e.0 j h) b.0, b.1)
+    step more false h = (b.0, more)
 
 below_remove : (n j : ℕ) (es : List (ℕ × Session)) → Below n es → Below n (remove j es)
 below_remove n j [] b = tt
-below_remove n j (e ∷ es) b = step (e.0 == j)
+below_remove n j (e ∷ es) b = step (below_remove n j es b.1) (e.0 == j)
   where
-    step : (x : Bool) → Below n (cond x es (e ∷ remove j es))
-    step true = b.1
-    step false = (b.0, below_remove n j es b.1)
+    step : Below n (remove j es) → (x : Bool) → Below n (cond x es (e ∷ remove j es))
+    step more true = b.1
+    step more false = (b.0, more)
 
 below_added : (n : ℕ) (s : Session) (es : List (ℕ × Session)) → Below n es → Below (n + 1) (es ++ (n + 1, s) ∷ [])
 below_added n s [] b = (omega arith, tt)
@@ -173,19 +173,19 @@ above_absent n i (e ∷ es) b h = let z : (e.0 == i) ≡ false = apart e.0 i (λ
 
 replace_len : (j : ℕ) (t : Session) (es : List (ℕ × Session)) → length (replace j t es) ≡ length es
 replace_len j t [] = refl
-replace_len j t (e ∷ es) = step (e.0 == j)
+replace_len j t (e ∷ es) = step (replace_len j t es) (e.0 == j)
   where
-    step : (x : Bool) → length (cond x ((j, t) ∷ es) (e ∷ replace j t es)) ≡ length (e ∷ es)
-    step true = refl
-    step false = ap suc (replace_len j t es)
+    step : length (replace j t es) ≡ length es → (x : Bool) → length (cond x ((j, t) ∷ es) (e ∷ replace j t es)) ≡ length (e ∷ es)
+    step more true = refl
+    step more false = ap suc more
 
 remove_len : (j : ℕ) (es : List (ℕ × Session)) → length (remove j es) ≤ length es
 remove_len j [] = omega arith
-remove_len j (e ∷ es) = step (e.0 == j)
+remove_len j (e ∷ es) = step (remove_len j es) (e.0 == j)
   where
-    step : (x : Bool) → length (cond x es (e ∷ remove j es)) ≤ suc (length es)
-    step true = omega arith
-    step false = omega (arith, remove_len j es)
+    step : length (remove j es) ≤ length es → (x : Bool) → length (cond x es (e ∷ remove j es)) ≤ suc (length es)
+    step more true = omega arith
+    step more false = omega (arith, more)
 
 -- a world to which events lead
 pub record IsOrdered (w : World) : Type 0 where

@@ -12,11 +12,11 @@ use Rattle.jt_host.proofs.Alone.{find_at, replace_at, remove_at}
 
 find_snoc : (i : ℕ) (e : ℕ × Session) (es : List (ℕ × Session)) → find i es ≡ None → (e.0 == i) ≡ false → find i (es ++ e ∷ []) ≡ None
 find_snoc i e [] h n = rw n refl
-find_snoc i e (f ∷ es) h n = step (f.0 == i) h
+find_snoc i e (f ∷ es) h n = step (λ r. find_snoc i e es r n) (f.0 == i) h
   where
-    step : (x : Bool) → cond x (Some f.1) (find i es) ≡ None → cond x (Some f.1) (find i (es ++ e ∷ [])) ≡ None
-    step true r = absurd cc
-    step false r = find_snoc i e es r n
+    step : (find i es ≡ None → find i (es ++ e ∷ []) ≡ None) → (x : Bool) → cond x (Some f.1) (find i es) ≡ None → cond x (Some f.1) (find i (es ++ e ∷ [])) ≡ None
+    step more true r = absurd cc
+    step more false r = more r
 
 -- an entry of another id is passed
 pub not_yet : (i p : ℕ) (xs : List (ℕ × Session)) (e : ℕ × Session) → p < length xs → e ≡ get_or xs p e → find i (take p xs) ≡ None → (e.0 == i) ≡ false → find i (take (p + 1) xs) ≡ None
@@ -33,15 +33,15 @@ at_place i p xs e h s n d = record {
   first = n;
 }
 
+whole : (p : ℕ) (ys : List (ℕ × Session)) → length ys ≤ p → take p ys ≡ ys
+whole zero [] h = refl
+whole zero (y ∷ ys) h = absurd (omega (arith, h))
+whole (suc p) [] h = refl
+whole (suc p) (y ∷ ys) h = ap (λ (zs : List (ℕ × Session)). y ∷ zs) (whole p ys (omega (arith, h)))
+
 -- no entry of all has the id
 pub absent : (i : ℕ) (p : ℕ) (xs : List (ℕ × Session)) → length xs ≤ p → find i (take p xs) ≡ None → find i xs ≡ None
 absent i p xs h n = subst (λ (ys : List (ℕ × Session)). find i ys ≡ None) (whole p xs h) n
-  where
-    whole : (p : ℕ) (ys : List (ℕ × Session)) → length ys ≤ p → take p ys ≡ ys
-    whole zero [] h = refl
-    whole zero (y ∷ ys) h = absurd (omega (arith, h))
-    whole (suc p) [] h = refl
-    whole (suc p) (y ∷ ys) h = ap (λ (zs : List (ℕ × Session)). y ∷ zs) (whole p ys (omega (arith, h)))
 
 pub found : (i p : ℕ) (xs : List (ℕ × Session)) (a : IsAt i p xs) → find i xs ≡ Some a.session
 found i p xs a = ap (find i) a.parts ∙ find_at i a.session a.before a.behind a.first
@@ -73,9 +73,9 @@ there i p xs d a =
     ∙ ap (λ (q : ℕ). get_or (a.before ++ (i, a.session) ∷ a.behind) q d) a.place
     ∙ get_or-append_seam a.before (i, a.session) a.behind d
 
+long : (ys : List (ℕ × Session)) (e : ℕ × Session) (zs : List (ℕ × Session)) → length ys < length (ys ++ e ∷ zs)
+long [] e zs = omega arith
+long (y ∷ ys) e zs = omega (arith, long ys e zs)
+
 pub within : (i p : ℕ) (xs : List (ℕ × Session)) (a : IsAt i p xs) → p < length xs
-within i p xs a = omega (arith, a.place, ap length a.parts, long a.before)
-  where
-    long : (ys : List (ℕ × Session)) → length ys < length (ys ++ (i, a.session) ∷ a.behind)
-    long [] = omega arith
-    long (y ∷ ys) = omega (arith, long ys)
+within i p xs a = omega (arith, a.place, ap length a.parts, long a.before (i, a.session) a.behind)

@@ -11,12 +11,12 @@ pieces-init g c = record {
 
 pub pieces-preserved : goal.pieces-preserved
 pieces-preserved g c = record {
-  took = more_taken c.in_ok-count.count c.pieces.rest.now c.args.bytes.now (g.W.Sink.taken c.args.sink.now) (g.W.Sink.taken c.pieces.sink) (g.W.Sink.taken c.put-count.new.self) c.pieces.invariant.took c.in_ok-count.ensures.took;
+  took = more_taken c.in_ok-count.count c.pieces.rest.now c.args.bytes.now (g.W.Sink.taken c.args.sink.now) (g.W.Sink.taken c.pieces.sink) (g.W.Sink.taken c.put.new.self) c.pieces.invariant.took c.in_ok-count.ensures.took;
   works = c.in_ok-count.ensures.works;
 }
 
 pub returns-in_err-count-clause-front : goal.returns-in_err-count-clause-front
-returns-in_err-count-clause-front g c = front_taken c.pieces.rest.now c.args.bytes.now (g.W.Sink.taken c.args.sink.now) (g.W.Sink.taken c.pieces.sink) (g.W.Sink.taken c.put-count.new.self) c.pieces.invariant.took c.in_err-count.ensures.nothing
+returns-in_err-count-clause-front g c = front_taken c.pieces.rest.now c.args.bytes.now (g.W.Sink.taken c.args.sink.now) (g.W.Sink.taken c.pieces.sink) (g.W.Sink.taken c.put.new.self) c.pieces.invariant.took c.in_err-count.ensures.nothing
 
 pub returns-clause-all : goal.returns-clause-all
 returns-clause-all g c =
