@@ -21,7 +21,7 @@ same a b h = eqb-true a b h
 itself : (a : ℕ) → (a == a) ≡ true
 itself a = eq-eqb a a refl
 
-apart : (a b : ℕ) → a ≢ b → (a == b) ≡ false
+pub apart : (a b : ℕ) → a ≢ b → (a == b) ≡ false
 apart a b h = step (a == b) refl
   where
     step : (x : Bool) → (a == b) ≡ x → x ≡ false

@@ -110,14 +110,3 @@ pub enum HostError {
     #[error("H4 NoId")]
     NoId,
 }
-
-impl From<NoMemory> for HostError {
-    ghost use Rattle.std.specs.Prelude.{◌≡◌};
-    ghost use Rattle.jt_host.specs.declared.error.HostError.TheVariants as error;
-
-    ghost from_gives = { λ _ e. e ≡ error.NoMemory };
-
-    fn from(_refused: NoMemory) -> HostError {
-        HostError::NoMemory
-    }
-}

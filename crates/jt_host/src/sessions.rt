@@ -106,7 +106,10 @@ impl Host {
             return Err(HostError::NoSession);
         };
         let machine = &mut self.sessions[place].1;
-        Ok(machine.advance(k)?)
+        match machine.advance(k) {
+            Ok(progress) => Ok(progress),
+            Err(_) => Err(HostError::NoMemory),
+        }
     }
 
     /// The outcome of a session, once its run has ended.
