@@ -36,7 +36,7 @@ impl io::Write for Slow {
 }
 
 // An instruction by its word: `a`, `zz` and `Hello` put these texts, `number` and `drop` put and drop a number, `begin` and `end` are a
-// capture, `loop` begins a loop.
+// capture, `loop` begins a loop and `over` ends one.
 fn instr(word: &str) -> Result<Instr, Fail> {
     let (op, a, c) = match word {
         "a" => (9, 0, 0),
@@ -47,6 +47,7 @@ fn instr(word: &str) -> Result<Instr, Fail> {
         "begin" => (24, 0, 0),
         "end" => (25, 0, 0),
         "loop" => (18, 0, 0),
+        "over" => (23, 0, 0),
         "return" => (28, 0, 0),
         _ => return Err(Fail::from("no instruction")),
     };
@@ -121,10 +122,10 @@ fn what_is_emitted_is_written(rt: HostRuntime) -> Result<(), Fail> {
         &rt,
         written,
         r"9 99 Hello return => Hello, whole, false
-        9 99 a number loop drop return => a, fault NotIterable, false
+        9 99 a number loop over drop return => a, fault NotIterable, false
         9 1 a a return => a, spent Fuel, false
         9 99 begin zz end drop a return => a, whole, false
-        9 99 a begin zz number loop drop end drop return => a, fault NotIterable, false
+        9 99 a begin zz number loop over drop end drop return => a, fault NotIterable, false
         9 2 begin zz end drop a return => , spent Fuel, false
         2 99 Hello return => He, write, true
         0 99 begin zz end drop return => , whole, false",

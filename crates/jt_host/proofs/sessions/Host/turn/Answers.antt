@@ -6,15 +6,15 @@ use Rattle.jt_host.specs.Places.{IsAt}
 use Rattle.jt_host.proofs.Standing.{there, turned_at, replied_at, lost_at}
 use Rattle.jt_host.proofs.sessions.Host.turn.Goals as goal
 
-pub returns-in-Ok-clause-turns : goal.returns-in-Ok-clause-turns
-returns-in-Ok-clause-turns c =
+pub returns-clause-turns : goal.returns-clause-turns
+returns-clause-turns c =
     let w : World = record { last = c.self.inside.last; sessions = c.self.inside.sessions.items } in
     let a = subst (λ (xs : List (ℕ × Session)). IsAt c.args.id c.in-Some.place xs) c.deref.ensures.value c.in-Some.ensures.some in
     let e : c.index_mut.result.now ≡ (c.args.id, a.session) = c.index_mut.ensures.value ∙ there c.args.id c.in-Some.place w.sessions c.index_mut.result.now a in
     subst (λ (v : World). with_sessions w (slice_set w.sessions c.in-Some.place (c.index_mut.result.now.0, c.advance.new.self)) ≡ turning (find c.args.id v.sessions) c.args.id c.args.k v) c.self.view_is (turned_at w c.args.id c.in-Some.place c.args.k c.index_mut.result.now c.advance.new.self a e c.in-Ok.ensures.steps)
 
-pub returns-in-Ok-clause-reply : goal.returns-in-Ok-clause-reply
-returns-in-Ok-clause-reply c =
+pub returns-clause-reply : goal.returns-clause-reply
+returns-clause-reply c =
     let w : World = record { last = c.self.inside.last; sessions = c.self.inside.sessions.items } in
     let a = subst (λ (xs : List (ℕ × Session)). IsAt c.args.id c.in-Some.place xs) c.deref.ensures.value c.in-Some.ensures.some in
     let e : c.index_mut.result.now ≡ (c.args.id, a.session) = c.index_mut.ensures.value ∙ there c.args.id c.in-Some.place w.sessions c.index_mut.result.now a in
