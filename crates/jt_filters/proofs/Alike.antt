@@ -1,5 +1,5 @@
 -- Items that count once, and items from the front.
-use Rattle.std.proofs.Common.{◌≡◌, ℕ, zero, suc, ◌+◌, ◌-◌, ◌^◌, ◌<◌, min, max, Bool, true, false, cond, List, [], ◌∷◌, ◌++◌, Some, None, refl, sym, ap, ◌∙◌, arith, bytes_eq}
+use Rattle.std.proofs.Common.{◌≡◌, ℕ, zero, suc, ◌+◌, ◌-◌, max, Bool, true, false, cond, List, [], ◌∷◌, ◌++◌, Some, None, refl, sym, ap, ◌∙◌, arith, bytes_eq}
 use Rattle.jt_value.specs.Equality.{equal}
 use Rattle.jt_value.specs.Payload.{text_of, joined_items}
 use Rattle.jt_value.specs.Tree as tree

@@ -1,8 +1,7 @@
 -- What is measured, allowed and built is what a filter gives under limits.
-use Rattle.std.proofs.Common.{◌≡◌, ℕ, ◌-◌, ◌^◌, min, Bool, true, false, cond, refl, sym, ap, ◌∙◌}
+use Rattle.std.proofs.Common.{◌≡◌, ℕ, ◌-◌, ◌^◌, min, Bool, true, false, cond, sym, ap}
 use Rattle.std.specs.Prelude.{Result, Ok, Err, nat_lt}
 use Rattle.jt_value.specs.declared.fault.Fault.{Fault}
-use Rattle.jt_value.specs.Payload.{has_payload}
 use Rattle.jt_value.specs.Tree as tree
 use Rattle.jt_value.specs.Tree.{Tree}
 use Rattle.jt_ops.specs.declared.limits.Limits.{Limits}

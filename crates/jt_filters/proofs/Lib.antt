@@ -1,5 +1,6 @@
 pub mod Alike
 pub mod Applied
+pub mod TextKeys
 pub mod Built
 pub mod Characters
 pub mod FilterRows
@@ -11,9 +12,11 @@ pub mod Measured
 pub mod Measures
 pub mod Merges
 pub mod MergeSteps
+pub mod Named
 pub mod Numerals
 pub mod Orders
 pub mod Payloads
 pub mod Plains
 pub mod Replacements
+pub mod Rows
 pub mod Changes

@@ -8,4 +8,6 @@ pub mod Numbers
 pub mod Operands
 pub mod Ordering
 pub mod Ranks
+pub mod Rows
+pub mod Single
 pub mod Texts
