@@ -69,12 +69,16 @@ is_filled [] n ks = true
 is_filled (p ∷ ps) (suc n) ks = is_filled ps n ks
 is_filled (p ∷ ps) zero ks = not (some_given (p ∷ ps) ks) || ((among p.name ks || is_some p.default) && is_filled ps zero ks)
 
--- a filter takes its values, and by name only what it names; a filter that there is not is the parser's matter
-abbrev pub filter_broken : Filters → Option ℕ → ℕ → List Text → Option ScopeError
-filter_broken fs None n ks = None
-filter_broken fs (Some f) n ks =
-    unless (fs.takes f (suc (max n (reached (fs.parameters f) ks))) && (is_filled (fs.parameters f) n ks
-    && (not (repeated ks) && not (list_any (λ k. not (among k (map (λ p. p.name) (drop n (fs.parameters f))))) ks))))
+-- so many arguments by place, and others by name, are those that a filter takes: its values, and by name only what it names
+abbrev pub filter_fits : Filters → ℕ → ℕ → List Text → Bool
+filter_fits fs f n ks =
+    fs.takes f (suc (max n (reached (fs.parameters f) ks))) && (is_filled (fs.parameters f) n ks
+    && (not (repeated ks) && not (list_any (λ k. not (among k (map (λ p. p.name) (drop n (fs.parameters f))))) ks)))
+
+-- a filter takes its arguments, and what they name is named rightly; a filter that there is not is the parser's matter
+abbrev pub filter_broken : Filters → Option ℕ → Exprs → trees.Pairs → Option ScopeError
+filter_broken fs None ts ps = None
+filter_broken fs (Some f) ts ps = unless (filter_fits fs f (count ts) (keywords ps) && fs.inside f ts ps)
 
 module _ (world : World) (home : Home) where
   abbrev pub is_macro : Text → Bool
@@ -112,7 +116,7 @@ module _ (world : World) (home : Home) where
     broken (call f ts ps) w =
         option_or (called_broken f w) (option_or (call_broken (callee (macros world.sources home) f) w f ts ps) (option_or (row_broken ts w) (pairs_broken ps w)))
     broken (filter a x ts ps) w =
-        option_or (filter_broken world.filters (world.filters.named x) (count ts) (keywords ps)) (option_or (broken a w) (option_or (row_broken ts w) (pairs_broken ps w)))
+        option_or (filter_broken world.filters (world.filters.named x ts ps) ts ps) (option_or (broken a w) (option_or (row_broken ts w) (pairs_broken ps w)))
     broken (test a n x ts ps) w = option_or (test_broken (test_named x) ts ps) (option_or (broken a w) (option_or (row_broken ts w) (pairs_broken ps w)))
     broken (unary o a) w = broken a w
     broken (binary o a b) w = option_or (broken a w) (broken b w)
@@ -152,7 +156,7 @@ module _ (world : World) (home : Home) where
   abbrev pub filtering_broken : List Filtering → Within → Option ScopeError
   filtering_broken [] w = None
   filtering_broken (f ∷ fs) w =
-      option_or (filter_broken world.filters (world.filters.named f.name) (count f.arguments) (keywords f.keywords))
+      option_or (filter_broken world.filters (world.filters.named f.name f.arguments f.keywords) f.arguments f.keywords)
       (option_or (row_broken f.arguments w) (option_or (pairs_broken f.keywords w) (filtering_broken fs w)))
 
   -- a macro's own name and its parameters
