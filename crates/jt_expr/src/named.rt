@@ -130,12 +130,7 @@ fn arguments_unknown(filter: FilterId, items: &[Expr], named: Named) -> bool
 }
 
 /// Whether a filter's name, or one that its arguments give, is what is looked for.
-pub fn is_filter_unknown(
-    name: &str,
-    items: &[Expr],
-    pairs: &[(String, Expr)],
-    named: Named,
-) -> bool
+pub fn is_filter_unknown(name: &str, items: &[Expr], pairs: &[(String, Expr)], named: Named) -> bool
     ensures { result ≡ spec.filter_unknown named name.now (exprs_view items.now) (pairs_view pairs.now) }
 {
     match filter_of(name, items, pairs) {
