@@ -111,9 +111,12 @@ fn is_unknown_naming(naming: Naming, name: &str, named: Named) -> bool
 fn argument_unknown(filter: FilterId, place: usize, argument: &Expr, named: Named) -> bool
     ensures { result ≡ spec.argument_unknown named (named_at filter place) (spec.literal_text (expr_view argument.now)) }
 {
-    match (filter.named_at(place), literal_text(argument)) {
-        (Some(naming), Some(name)) => is_unknown_naming(naming, name, named),
-        _ => false,
+    let Some(naming) = filter.named_at(place) else {
+        return false;
+    };
+    match literal_text(argument) {
+        Some(name) => is_unknown_naming(naming, name, named),
+        None => false,
     }
 }
 
@@ -129,16 +132,21 @@ fn arguments_unknown(filter: FilterId, items: &[Expr], named: Named) -> bool
     false
 }
 
+/// The same of a filter, if it is known.
+fn inside_unknown(filter: Option<FilterId>, items: &[Expr], named: Named) -> bool
+    ensures { result ≡ spec.inside_unknown named filter (exprs_view items.now) }
+{
+    match filter {
+        Some(filter) => arguments_unknown(filter, items, named),
+        None => false,
+    }
+}
+
 /// Whether a filter's name, or one that its arguments give, is what is looked for.
 pub fn is_filter_unknown(name: &str, items: &[Expr], pairs: &[(String, Expr)], named: Named) -> bool
     ensures { result ≡ spec.filter_unknown named name.now (exprs_view items.now) (pairs_view pairs.now) }
 {
-    match filter_of(name, items, pairs) {
-        Some(filter) => {
-            is_unknown_filter(name, named) || arguments_unknown(filter, items, named)
-        }
-        None => is_unknown_filter(name, named),
-    }
+    is_unknown_filter(name, named) || inside_unknown(filter_of(name, items, pairs), items, named)
 }
 
 /// Whether such a name stands in an expression.

@@ -1,5 +1,5 @@
 -- Names that trees read or bind, and chains that they include.
-use Rattle.std.specs.Prelude.{ℕ, suc, if◌then◌else◌, List, [], ◌∷◌, ◌++◌, map, flat_map, Option, Some, None}
+use Rattle.std.specs.Prelude.{if◌then◌else◌, List, [], ◌∷◌, ◌++◌, map, flat_map, Option, Some, None}
 use Rattle.jt_expr.specs.Trees.{Expr, constant, name, group, list_of, map_of, attribute, item, call, filter, test, unary, binary, when, choice, Exprs, no_exprs, expr, Pairs, no_pairs, pair}
 pub use Rattle.jt_expr.specs.Trees.{count}
 use Rattle.jt_inherit.specs.Chain.{is_loop, Sources, Home, templates}
