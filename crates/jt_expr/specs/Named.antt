@@ -57,8 +57,8 @@ unknown_naming u naming.Key x = false
 
 abbrev pub argument_unknown : Named → Option Naming → Option Text → Bool
 argument_unknown u None literal = false
-argument_unknown u (Some n) None = false
-argument_unknown u (Some n) (Some x) = unknown_naming u n x
+argument_unknown u (Some what) None = false
+argument_unknown u (Some what) (Some x) = unknown_naming u what x
 
 -- one of a filter's arguments, from a place among its values on, names a filter or a test that there is not
 abbrev pub arguments_unknown : Named → FilterId → ℕ → Exprs → Bool
