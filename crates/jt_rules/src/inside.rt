@@ -13,7 +13,7 @@ use jt_slots::test_of;
 
 /// Whether the filter of a name may be called by `map`, with so many values; one that there is not
 /// is the parser's matter.
-#[tactic(auto, using(crate::proofs::Inside::alone))]
+#[tactic(auto, using(crate::proofs::Inner::alone))]
 fn is_filter_called(name: &str, values: usize) -> bool
     ensures { result ≡ inside.filter_called (filter_of_name name.now) values }
 {
@@ -24,7 +24,7 @@ fn is_filter_called(name: &str, values: usize) -> bool
 }
 
 /// Whether the test of a name takes so many values; one that there is not is the parser's matter.
-#[tactic(auto, using(crate::proofs::Inside::turned))]
+#[tactic(auto, using(crate::proofs::Inner::turned))]
 fn is_test_called(name: &str, values: usize) -> bool
     ensures { result ≡ inside.test_called (test_named name.now) values }
 {
@@ -60,7 +60,7 @@ fn is_argument_well(naming: Option<Naming>, argument: &Expr, values: usize) -> b
 
 /// Whether each argument by place names rightly what it names, called on the item and the arguments
 /// behind it.
-#[tactic(auto, using(crate::proofs::Inside::turn))]
+#[tactic(auto, using(crate::proofs::Inner::turn))]
 fn is_row_well(filter: FilterId, row: &[Expr]) -> bool
     ensures { result ≡ inside.row_well filter 1 (exprs_view row.now) }
 {
@@ -81,7 +81,7 @@ fn naming_of(filter: FilterId, name: &str) -> Option<Naming>
 }
 
 /// Whether each argument by name names rightly what it names, called on the item alone.
-#[tactic(auto, using(crate::proofs::Inside::pair_turn))]
+#[tactic(auto, using(crate::proofs::Inner::pair_turn))]
 fn are_pairs_well(filter: FilterId, pairs: &[(String, Expr)]) -> bool
     ensures { result ≡ inside.pairs_well filter (pairs_view pairs.now) }
 {
