@@ -1,5 +1,5 @@
--- The only argument, where it is given by its name.
-use Rattle.std.proofs.Common.{◌≡◌, ℕ, ◌≤◌, List, [], ◌∷◌, length, refl, arith, Option, None, String, Global}
+-- The only argument, where it is given by its name; and one truth of four.
+use Rattle.std.proofs.Common.{◌≡◌, ℕ, ◌≤◌, Bool, true, false, ◌||◌, List, [], ◌∷◌, length, refl, arith, Option, None, String, Global}
 use Rattle.jt_expr.specs.Named.{only_name}
 use Rattle.jt_expr.specs.Trees.{no_exprs, Pairs}
 use Rattle.jt_expr.specs.View.{exprs_view, pairs_view}
@@ -13,3 +13,20 @@ pub several : (ps : List (String Global × Expr)) → 2 ≤ length ps → ◌≡
 several [] h = absurd (omega arith)
 several (p ∷ []) h = absurd (omega arith)
 several (p ∷ q ∷ qs) h = refl
+
+-- ---- one of them is true
+
+pub any_first : (a b c d : Bool) → a ≡ true → (a || (b || (c || d))) ≡ true
+any_first true b c d h = refl
+any_first false b c d h = absurd cc
+
+pub any_second : (a b c d : Bool) → b ≡ true → (a || (b || (c || d))) ≡ true
+any_second true b c d h = refl
+any_second false true c d h = refl
+any_second false false c d h = absurd cc
+
+pub any_third : (a b c d : Bool) → c ≡ true → (a || (b || (c || d))) ≡ true
+any_third true b c d h = refl
+any_third false true c d h = refl
+any_third false false true d h = refl
+any_third false false false d h = absurd cc
