@@ -51,7 +51,7 @@ module _ (files : Known) where
 
 -- the line of `check`
 abbrev pub counts_line : ℕ × ℕ → Text
-counts_line n = codes "ok units=" ++ decimal n.0 ++ codes " instructions=" ++ decimal n.1 ++ codes "\n"
+counts_line n = codes "ok units=" ++ (decimal n.0 ++ (codes " instructions=" ++ (decimal n.1 ++ codes "\n")))
 
 -- the line, where the bytes are an image of so many units and instructions, or why they are none
 abbrev pub IsChecked : List ℕ → Ending → Type 0

@@ -19,7 +19,7 @@ anything = record { holds = λ path bytes. Unit {0}; lists = λ dir names. Unit 
 
 -- the path of a file directly in a directory
 abbrev pub path_in : Text → Text → Text
-path_in dir name = dir ++ codes "/" ++ name
+path_in dir name = dir ++ (codes "/" ++ name)
 
 -- what a directory of these names gives for a name: the bytes of its file where they are a text, and nothing otherwise
 abbrev pub IsSource : Known → Text → List Text → Text → Option Text → Type 0

@@ -177,11 +177,7 @@ fn render_in<F: Files>(
 }
 
 /// The context in a file, or the empty one where there is no file.
-fn context_at<F: Files>(
-    alloc: Global,
-    files: &F,
-    path: Option<String>,
-) -> Result<Context, Failure>
+fn context_at<F: Files>(alloc: Global, files: &F, path: Option<String>) -> Result<Context, Failure>
     ensures given { IfOk result (λ context. IsContextAt (F.known files.now) path (pairs_of context)) }
     ensures err { IfErr result (λ e. IsUnread (F.known files.now) path (Err e)) }
 {
@@ -259,8 +255,8 @@ fn read_into<F: Files>(
 {
     let path = format!(in alloc; "{dir}/{name}")?;
     let bytes = bytes_at(files, path)?;
-    if let Ok(source) = String::from_utf8(bytes) {
-        templates.insert(name, source)?;
+    match String::from_utf8(bytes) {
+        Ok(source) => Ok(templates.insert(name, source)?),
+        Err(_) => Ok(()),
     }
-    Ok(())
 }

@@ -25,7 +25,8 @@ impl Shelf {
     /// One file more.
     fn put(&mut self, name: &str, bytes: &[u8]) -> Result<(), Fail> {
         let name = String::from_str(self.alloc, name)?;
-        self.files.push((name, Vec::from_slice(self.alloc, bytes)?))?;
+        self.files
+            .push((name, Vec::from_slice(self.alloc, bytes)?))?;
         Ok(())
     }
 }
@@ -153,10 +154,28 @@ fn limits_of_sources_have_their_lines(rt: HostRuntime) -> Result<(), Fail> {
         parameters.push_str(format!(in alloc; "p{number}, ")?.as_str())?;
     }
     for (before, piece, count, behind, line) in [
-        ("", "a", 1_048_577, "", "refused S7 SourceTooLong in t line 1"),
-        ("{{ ", "not ", 99, "true }}", "refused P2 TooDeep in t line 1"),
+        (
+            "",
+            "a",
+            1_048_577,
+            "",
+            "refused S7 SourceTooLong in t line 1",
+        ),
+        (
+            "{{ ",
+            "not ",
+            99,
+            "true }}",
+            "refused P2 TooDeep in t line 1",
+        ),
         ("{{ [", "1, ", 1_025, "1] }}", "refused G3 StackTooDeep"),
-        ("{% macro m(", parameters.as_str(), 1, "p) %}{% endmacro %}", "refused V5 TooManySlots"),
+        (
+            "{% macro m(",
+            parameters.as_str(),
+            1,
+            "p) %}{% endmacro %}",
+            "refused V5 TooManySlots",
+        ),
     ] {
         let mut source = String::from_str(alloc, before)?;
         source.push_str(repeated(alloc, piece, count)?.as_str())?;
@@ -246,13 +265,25 @@ fn flaws_have_their_lines(rt: HostRuntime) -> Result<(), Fail> {
     let alloc = rt.alloc();
     let rows: [(&[(u8, u32)], &str); 8] = [
         (&[(6, 0), (0x1c, 0)], "K1 MissingOperand unit 0 point 0"),
-        (&[(0x18, 0), (6, 0), (0x1c, 0)], "K2 WrongKind unit 0 point 1"),
+        (
+            &[(0x18, 0), (6, 0), (0x1c, 0)],
+            "K2 WrongKind unit 0 point 1",
+        ),
         (
             &[(1, 0), (0x0c, 3), (1, 0), (6, 0), (0x1c, 0)],
             "K3 DepthDiffers unit 0 point 3",
         ),
         (
-            &[(1, 0), (0x0c, 4), (0x18, 0), (0x0a, 5), (1, 0), (0x19, 0), (6, 0), (0x1c, 0)],
+            &[
+                (1, 0),
+                (0x0c, 4),
+                (0x18, 0),
+                (0x0a, 5),
+                (1, 0),
+                (0x19, 0),
+                (6, 0),
+                (0x1c, 0),
+            ],
             "K4 KindDiffers unit 0 point 5",
         ),
         (&[(0x0a, 2), (0x1c, 0)], "K5 JumpOut unit 0 point 0"),
@@ -269,5 +300,9 @@ fn flaws_have_their_lines(rt: HostRuntime) -> Result<(), Fail> {
         deep.push((1, 0))?;
     }
     let image = image_of(alloc, deep.as_slice())?;
-    image_says(&rt, image.as_slice(), "refused K9 TooDeep unit 0 point 1025")
+    image_says(
+        &rt,
+        image.as_slice(),
+        "refused K9 TooDeep unit 0 point 1025",
+    )
 }
