@@ -16,7 +16,7 @@ impl<'a, R> Machine<'a, R> {
 
     /// The file system of this runtime.
     pub fn new(rt: &'a R) -> Machine<'a, R>
-        ensures { result.rt ≡ rt }
+        ensures { result.rt.now ≡ rt.now }
     {
         Machine { rt }
     }
