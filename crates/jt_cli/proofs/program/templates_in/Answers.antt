@@ -15,10 +15,11 @@ loop-name-preserved g c =
     let old = subst (λ (d : Text). AreSources files d before (source_of c.loop-name.templates)) (sym dir) c.loop-name.invariant.1 in
     let new = c.in_ok-read_into.ensures.read before old in
     let left = c.next.new.self.rest.items in
-    let all : c.into_iter-name-iterator.result.rest.items ≡ c.loop-name.yielded ++ c.in-Some.name ∷ left = c.loop-name.invariant.0 ∙ ap (λ names. c.loop-name.yielded ++ names) c.in-Some.ensures.steps.0 in
-    (all ∙ sym (append_assoc c.loop-name.yielded (c.in-Some.name ∷ []) left),
-    subst (λ (names : List Text). AreSources files (string_bytes c.args.dir) names sources) (sym (map_push string_bytes c.loop-name.yielded c.in-Some.name))
-    (subst (λ (d : Text). AreSources files d (before ++ string_bytes c.in-Some.name ∷ []) sources) dir new))
+    let all : c.into_iter-name-iterator.result.rest.items ≡ c.loop-name.yielded ++ c.in-Some.name ∷ left = c.loop-name.invariant.0 ∙ ap (λ names. c.loop-name.yielded ++ names) c.in-Some.ensures.steps.0 in (
+      all ∙ sym (append_assoc c.loop-name.yielded (c.in-Some.name ∷ []) left),
+      subst (λ (names : List Text). AreSources files (string_bytes c.args.dir) names sources) (sym (map_push string_bytes c.loop-name.yielded c.in-Some.name))
+          (subst (λ (d : Text). AreSources files d (before ++ string_bytes c.in-Some.name ∷ []) sources) dir new),
+    )
 
 pub returns-clause-library : goal.returns-clause-library
 returns-clause-library g c =
