@@ -6,7 +6,9 @@ pub mod Characters
 pub mod FilterRows
 pub mod Firsts
 pub mod Folds
+pub mod Inserted
 pub mod Joins
+pub mod Known
 pub mod Lists
 pub mod Measured
 pub mod Measures
@@ -20,3 +22,4 @@ pub mod Plains
 pub mod Replacements
 pub mod Rows
 pub mod Changes
+pub mod Codes

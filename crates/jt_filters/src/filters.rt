@@ -60,7 +60,7 @@ fn applied(
 ) -> Result<Value, OpError>
     ensures { Answers result (limited_by limits (filtered filter autoescape (tree_of operand.entry ∷ map view arguments.now))) }
 {
-    let (size, nesting) = match filter_measure(filter, operand, arguments, autoescape) {
+    let (size, nesting) = match filter_measure(alloc, filter, operand, arguments, autoescape) {
         Ok(measure) => measure,
         Err(fault) => return Err(OpError::Fault(fault)),
     };
@@ -76,6 +76,7 @@ fn applied(
 
 /// The measure of what a filter gives, of those that call others too.
 fn filter_measure(
+    alloc: Global,
     filter: FilterId,
     operand: Operand<'_>,
     arguments: &[Value],
@@ -84,9 +85,9 @@ fn filter_measure(
     ensures { result ≡ measured (filtered filter autoescape (tree_of operand.entry ∷ map view arguments.now)) }
 {
     if filter.may_be_inner() {
-        measure(filter, operand, arguments, autoescape)
+        measure(alloc, filter, operand, arguments, autoescape)
     } else {
-        mapped_measure(filter, operand, arguments, autoescape)
+        mapped_measure(alloc, filter, operand, arguments, autoescape)
     }
 }
 

@@ -104,14 +104,20 @@ impl<'a> Selection<'a> {
 impl<'a> Change<'a> {
     /// The size and the nesting of what an item gives.
     #[tactic(auto, using(crate::proofs::Rows::alone_measured, crate::proofs::Rows::kept_measured))]
-    pub(crate) fn measure(self, item: Operand<'a>) -> Result<(u64, u32), Fault>
+    pub(crate) fn measure(self, alloc: Global, item: Operand<'a>) -> Result<(u64, u32), Fault>
         requires { Gives self }
         ensures { result ≡ row_measured (gives self.entry (tree_of item.entry)) }
     {
         match self {
             Change::Keep(selection) => Ok(measure_if(selection.keeps(item)?, item)),
             Change::Attribute(key) => measured(item_of(item, key)),
-            Change::Filter(call) => measure(call.filter, item, call.arguments, call.autoescape),
+            Change::Filter(call) => measure(
+                alloc,
+                call.filter,
+                item,
+                call.arguments,
+                call.autoescape,
+            ),
         }
     }
 

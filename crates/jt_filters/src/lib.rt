@@ -3,6 +3,7 @@
 
 mod attributes;
 mod building;
+mod codes;
 mod filter_id;
 mod filters;
 mod folding;

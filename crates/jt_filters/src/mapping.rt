@@ -19,6 +19,7 @@ use std::alloc::Global;
 /// The measure of such a filter.
 #[tactic(auto, using(crate::proofs::Rows::no_items_given, crate::proofs::Rows::no_change, crate::proofs::Rows::whole))]
 pub(crate) fn mapped_measure(
+    alloc: Global,
     filter: FilterId,
     operand: Operand<'_>,
     arguments: &[Value],
@@ -28,7 +29,7 @@ pub(crate) fn mapped_measure(
 {
     let items = items_of(operand)?;
     let change = change_of(filter, arguments, autoescape)?;
-    row_list_measure(items, change)
+    row_list_measure(alloc, items, change)
 }
 
 /// What such a filter gives.
@@ -49,17 +50,25 @@ pub(crate) fn mapped(
 
 /// The measure of the list of what the items give.
 #[tactic(auto, using(crate::proofs::Rows::list_measured, crate::proofs::Rows::list_fault))]
-fn row_list_measure<'a>(items: ItemList<'a>, change: Change<'a>) -> Result<(u64, u32), Fault>
+fn row_list_measure<'a>(
+    alloc: Global,
+    items: ItemList<'a>,
+    change: Change<'a>,
+) -> Result<(u64, u32), Fault>
     requires { Gives change }
     ensures { result ≡ measured (as_list (gathered (gives change.entry) (items_in items.entry))) }
 {
-    let (size, nesting) = row_measure(items, change)?;
+    let (size, nesting) = row_measure(alloc, items, change)?;
     Ok((size.saturating_add(1), nesting.saturating_add(1)))
 }
 
 /// The size and the nesting of what the items give, each the greatest number where it is greater.
 #[tactic(auto, using(crate::proofs::Rows::behind_item, crate::proofs::Rows::behind_item_fault, crate::proofs::Rows::behind_end, crate::proofs::Rows::behind_none))]
-fn row_measure<'a>(items: ItemList<'a>, change: Change<'a>) -> Result<(u64, u32), Fault>
+fn row_measure<'a>(
+    alloc: Global,
+    items: ItemList<'a>,
+    change: Change<'a>,
+) -> Result<(u64, u32), Fault>
     requires { Gives change }
     ensures { result ≡ row_measured (gathered (gives change.entry) (items_in items.entry)) }
 {
@@ -67,7 +76,7 @@ fn row_measure<'a>(items: ItemList<'a>, change: Change<'a>) -> Result<(u64, u32)
     let mut size = 0u64;
     let mut nesting = 0u32;
     while let Some((item, behind)) = items.split_first() {
-        let (more, deepest) = match change.measure(item) {
+        let (more, deepest) = match change.measure(alloc, item) {
             Ok(measure) => measure,
             Err(fault) => return Err(fault),
         };

@@ -1,4 +1,5 @@
-//! The size and the nesting of what a filter gives, each the greatest number where it is greater. They take no memory.
+//! The size and the nesting of what a filter gives, each the greatest number where it is greater. They need no memory: `unique` is
+//! slower where it is refused.
 ghost use Rattle.std.specs.Prelude.{◌≡◌, ◌∷◌, [], Bool, map};
 ghost use Rattle.jt_value.specs.View.{view};
 ghost use Rattle.jt_filters.specs.Single.{single};
@@ -16,10 +17,12 @@ use crate::sorting::sort_measure;
 use crate::texts::{escape_measure, force_escape_measure, printed_measure, trim_measure};
 use crate::unique::unique_measure;
 use jt_value::{Fault, Value};
+use std::alloc::Global;
 
 /// The measure of what a filter gives, or its fault. A call with another number of values than the filter takes, which no caller
 /// makes, has the fault of the definition.
 pub(crate) fn measure(
+    alloc: Global,
     filter: FilterId,
     operand: Operand<'_>,
     arguments: &[Value],
@@ -28,7 +31,7 @@ pub(crate) fn measure(
     ensures { result ≡ measured (single filter autoescape (tree_of operand.entry ∷ map view arguments.now)) }
 {
     match arguments {
-        [] => measure_one(filter, operand, autoescape),
+        [] => measure_one(alloc, filter, operand, autoescape),
         [argument] => measure_two(filter, operand, argument, autoescape),
         [first, second] => measure_three(filter, operand, first, second, autoescape),
         _ => Err(Fault::BadType),
@@ -45,6 +48,7 @@ fn scalar_measure(given: Result<Operand<'_>, Fault>) -> Result<(u64, u32), Fault
 
 /// The same of a filter of its input alone.
 fn measure_one(
+    alloc: Global,
     filter: FilterId,
     operand: Operand<'_>,
     autoescape: bool,
@@ -74,7 +78,7 @@ fn measure_one(
         FilterId::String => printed_measure(operand),
         FilterId::Sum => scalar_measure(sum(operand)),
         FilterId::Trim => trim_measure(operand),
-        FilterId::Unique => unique_measure(operand),
+        FilterId::Unique => unique_measure(alloc, operand),
         FilterId::Upper => printed_measure(operand),
         _ => Err(Fault::BadType),
     }
