@@ -1,8 +1,9 @@
 -- What is known of the items in front, by their codes.
 use Rattle.std.proofs.Common.{◌≡◌, ℕ, ◌+◌, Bool, true, false, cond, ◌||◌, List, [], ◌∷◌, ◌++◌, Some, None, refl, sym, ap, ◌∙◌, subst, true≢false}
 use Rattle.std.proofs.lemmas.Cmp.{nat_list_cmp_total}
-use Rattle.std.specs.BTreeMap.{BTreeMap, insert_entry}
+use Rattle.std.specs.BTreeMap.{BTreeMap, insert_entry, is_at}
 use Rattle.std.specs.Cmp.{tied_itself}
+use Rattle.std.specs.Map.{lookup}
 use Rattle.std.specs.Option.{IfSome, IsSome, is_some}
 use Rattle.std.specs.Ordering.{is_eq}
 use Rattle.std.specs.Prelude.{Option, Vec}
@@ -70,7 +71,7 @@ knows_none m e = record {
 }
   where
     none_found : (c : List ℕ) → found m c ≡ None
-    none_found c = rw e refl
+    none_found c = ap (λ (es : List (Vec ℕ Global × Operand)). lookup (is_at (λ x. cmp c x.items)) es) e
 
 -- an item whose code nothing has is new
 pub new_item : (m : Seen) (ts : Items) (t : Tree) (c : List ℕ) → Knows m ts → c ≡ item_code t → found m c ≡ None → has_alike t ts ≡ false
@@ -100,7 +101,7 @@ knows_more m all n t rest c o known is there whole =
 
 -- an item more, whose code is put there
 found_put : (m n : Seen) (k : Vec ℕ Global) (o : Operand) (c : List ℕ) → n.entries ≡ insert_entry (λ x y. cmp x.items y.items) m.entries k o → found n c ≡ cond (is_eq (cmp c k.items)) (Some o) (found m c)
-found_put m n k o c put = rw put (lookup-inserted (λ (x : Vec ℕ Global). x.items) k o c m.entries)
+found_put m n k o c put = ap (λ (es : List (Vec ℕ Global × Operand)). lookup (is_at (λ x. cmp c x.items)) es) put ∙ lookup-inserted (λ (x : Vec ℕ Global). x.items) k o c m.entries
 
 some_or : (b : Bool) (o : Operand) (x : Option Operand) → IsSome x → IsSome (cond b (Some o) x)
 some_or true o x there = refl
@@ -115,7 +116,7 @@ put_there c k o x same = ap (λ (b : Bool). is_some (cond b (Some o) x)) (ap (λ
 
 knows_put : (m n : Seen) (k : Vec ℕ Global) (o : Operand) (ts : Items) → Knows m ts → n.entries ≡ insert_entry (λ x y. cmp x.items y.items) m.entries k o → k.items ≡ item_code (tree_of o) → Knows n (joined_items ts (item (tree_of o) no_items))
 knows_put m n k o ts known put is = record {
-  coded = λ u e. subst IsSome (sym (found_put m n k o (item_code u) put))
+  coded = λ u e. subst (λ (x : Option Operand). IsSome x) (sym (found_put m n k o (item_code u) put))
       (either (has_alike u ts) (alike u (tree_of o)) (sym (alike_more u (tree_of o) ts) ∙ e)
       (λ old. some_or (is_eq (cmp (item_code u) k.items)) o (found m (item_code u)) (known.coded u old))
       (λ new. put_there (item_code u) k o (found m (item_code u)) (alike_code u (tree_of o) new ∙ sym is)));

@@ -5,6 +5,7 @@ ghost use Rattle.jt_value.specs.View.{view, items_view, entries_view};
 ghost use Rattle.jt_filters.specs.Codes as codes;
 ghost use Rattle.jt_filters.specs.Codes.{code, item_code, number_code, text_code, rows, rows_in};
 ghost use Rattle.jt_filters.specs.Operands.{tree_of};
+ghost use Rattle.jt_filters.specs.Ordering.{fold};
 
 use crate::operand::Operand;
 use jt_value::{NoMemory, Value};
@@ -18,10 +19,19 @@ pub(crate) fn code_of(alloc: Global, item: Operand<'_>) -> Result<Vec<u8>, NoMem
 {
     let mut bytes = Vec::new(alloc);
     match item.as_text() {
-        Some(text) => push_text(&mut bytes, &text.to_ascii_lowercase(alloc)?)?,
+        Some(text) => push_folded(alloc, &mut bytes, text)?,
         None => push_operand(alloc, &mut bytes, item)?,
     }
     Ok(bytes)
+}
+
+/// Puts the code of a text's fold behind some bytes.
+fn push_folded(alloc: Global, bytes: &mut Vec<u8>, text: &str) -> Result<(), NoMemory>
+    ensures { OnOk result (bytes.new.items ≡ bytes.old.items ++ text_code (fold text.now)) }
+{
+    let mut folded = String::from_str(alloc, text)?;
+    folded.make_ascii_lowercase();
+    push_text(bytes, folded.as_str())
 }
 
 /// Puts the code of an operand behind some bytes.
