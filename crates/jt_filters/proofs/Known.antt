@@ -16,7 +16,7 @@ use Rattle.jt_filters.specs.Ordering.{alike, has_alike, unseen}
 use Rattle.jt_filters.specs.Seen.{operand_items, found, Knows}
 use Rattle.jt_filters.specs.declared.operand.Operand.{Operand}
 use Rattle.jt_filters.proofs.Alike.{front_next, unseen_kept}
-use Rattle.jt_filters.proofs.Codes.{alike_code}
+use Rattle.jt_filters.proofs.SameCodes.{alike_code}
 use Rattle.jt_filters.proofs.Inserted.{cmp, lookup-inserted}
 
 abbrev Seen : Type 0

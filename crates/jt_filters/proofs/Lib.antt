@@ -20,6 +20,7 @@ pub mod Orders
 pub mod Payloads
 pub mod Plains
 pub mod Replacements
+pub mod RowsPut
 pub mod Rows
 pub mod Changes
-pub mod Codes
+pub mod SameCodes

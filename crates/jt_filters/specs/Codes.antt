@@ -54,4 +54,4 @@ item_code t = code t
 
 -- the rows that a map holds
 abbrev pub rows_in : List (Bor (List ℕ) × Vec ℕ Global) → Rows
-rows_in es = map (λ e. (e.0.now, e.1.items)) es
+rows_in es = map (λ (e : Bor (List ℕ) × Vec ℕ Global). (e.0.now, e.1.items)) es

@@ -13,7 +13,7 @@ use std::alloc::Global;
 use std::collections::BTreeMap;
 
 /// The code of an item. A text, markup or not, has that of its fold.
-#[tactic(auto, using(crate::proofs::Codes::folded_text, crate::proofs::Codes::no_text))]
+#[tactic(auto, using(crate::proofs::SameCodes::folded_text, crate::proofs::SameCodes::no_text))]
 pub(crate) fn code_of(alloc: Global, item: Operand<'_>) -> Result<Vec<u8>, NoMemory>
     ensures { IfOk result (λ v. v.items ≡ item_code (tree_of item.entry)) }
 {
@@ -111,17 +111,17 @@ fn rows_of(alloc: Global, entries: &[(String, Value)]) -> Result<BTreeMap<&str, 
     let mut left = entries.len();
     while left > 0 {
         left -= 1;
-        let (key, value) = &entries[left];
+        let entry = &entries[left];
         let mut bytes = Vec::new(alloc);
-        push_value(alloc, &mut bytes, value)?;
-        rows.insert(key.as_str(), bytes)?;
+        push_value(alloc, &mut bytes, &entry.1)?;
+        rows.insert(entry.0.as_str(), bytes)?;
     }
     Ok(rows)
 }
 
 /// Puts the code of a map's rows behind some bytes.
 fn push_rows(bytes: &mut Vec<u8>, rows: BTreeMap<&str, Vec<u8>>) -> Result<(), NoMemory>
-    ensures { OnOk result (bytes.new.items ≡ bytes.old.items ++ 6 ∷ codes.rows_code (rows_in rows.entries)) }
+    ensures { OnOk result (bytes.new.items ≡ bytes.old.items ++ 6 ∷ codes.rows_code (rows_in rows.entry.entries)) }
 {
     let mut rows = rows;
     push_byte(bytes, 6)?;

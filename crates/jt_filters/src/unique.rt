@@ -128,7 +128,7 @@ fn push_new<'a>(
     all: ItemList<'a>,
     count: usize,
 ) -> Result<(), NoMemory>
-    requires { Knows seen.old (front count (items_in all.entry)) }
+    requires { Knows seen.old (front count (items_in all)) }
     ensures known { OnOk result ((rest : Items) → joined_items (front count (items_in all.entry)) (tree.item (tree_of item.entry) rest) ≡ items_in all.entry
         → Knows seen.new (front (count + 1) (items_in all.entry))) }
     ensures firsts { OnOk result ((rest : Items) → joined_items (front count (items_in all.entry)) (tree.item (tree_of item.entry) rest) ≡ items_in all.entry
@@ -142,7 +142,6 @@ fn push_new<'a>(
 }
 
 /// Whether an item is like one of so many others in front, which are known. It is known then too.
-#[tactic(auto, using(crate::proofs::Known::new_item, crate::proofs::Known::old_item, crate::proofs::Known::knows_more, crate::proofs::Known::knows_new))]
 fn was_seen<'a>(
     alloc: Global,
     seen: &mut BTreeMap<Vec<u8>, Operand<'a>>,
@@ -150,7 +149,7 @@ fn was_seen<'a>(
     all: ItemList<'a>,
     count: usize,
 ) -> Result<bool, NoMemory>
-    requires { Knows seen.old (front count (items_in all.entry)) }
+    requires { Knows seen.old (front count (items_in all)) }
     ensures like { IfOk result (λ b. b ≡ ordering.has_alike (tree_of item.entry) (front count (items_in all.entry))) }
     ensures known { OnOk result ((rest : Items) → joined_items (front count (items_in all.entry)) (tree.item (tree_of item.entry) rest) ≡ items_in all.entry
         → Knows seen.new (front (count + 1) (items_in all.entry))) }

@@ -53,7 +53,7 @@ row_first false t o = refl
 row_of : (q : List ℕ) (es : Entries) → lookup (is_at (cmp q)) (rows es) ≡ option_map code (entry_of q es)
 row_of q no_entries = refl
 row_of q (entry k t es) =
-    lookup-inserted (λ l. l) k (code t) q (rows es)
+    lookup-inserted (λ (l : List ℕ). l) k (code t) q (rows es)
     ∙ ap (λ (o : Option (List ℕ)). cond (is_eq (cmp q k)) (Some (code t)) o) (row_of q es)
     ∙ ap (λ (b : Bool). cond b (Some (code t)) (option_map code (entry_of q es))) (is_eq-slice_cmp q k ∙ nat_list_eq_equiv.symm q k)
     ∙ row_first (bytes_eq k q) t (entry_of q es)
