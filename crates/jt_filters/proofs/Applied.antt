@@ -51,5 +51,9 @@ pub needs_memory : (limits : Limits) (wanted : Result Tree Fault) (s n : ℕ) �
 needs_memory limits (Ok t) s n e f p = rw (f t (size_is t s n e) (nesting_is t s n e)) p
 needs_memory limits (Err other) s n e f p = cc
 
+pub within : (limits : Limits) (t : Tree) (s n : ℕ) → Ok (s, n) ≡ measured (Ok t)
+    → ((t : Tree) → s ≡ min (tree.size t) (2 ^ 64 - 1) → n ≡ min (tree.nesting t) (2 ^ 32 - 1) → limited_by limits (Ok t) ≡ Ok t) → limited_by limits (Ok t) ≡ Ok t
+within limits t s n e f = f t (size_is t s n e) (nesting_is t s n e)
+
 pub built_fault : (limits : Limits) (wanted : Result Tree Fault) (fault : Fault) → wanted ≡ Err fault → limited_by limits wanted ≡ Err (error.Fault fault)
 built_fault limits wanted fault e = ap (limited_by limits) e

@@ -11,6 +11,7 @@ use crate::filter_id::FilterId;
 use crate::mapping::{mapped, mapped_measure};
 use crate::measuring::measure;
 use crate::operand::Operand;
+use crate::unique::unique_under;
 use jt_ops::{Limits, OpError, allow};
 use jt_value::{Fault, Value, ValueError};
 use std::alloc::Global;
@@ -48,9 +49,26 @@ pub fn apply(
     }
 }
 
-/// The same of an operand and the filter's arguments.
-#[tactic(auto, using(crate::proofs::Applied::faulty, crate::proofs::Applied::needs_memory))]
+/// The same of an operand and the filter's arguments. `unique` finds its items once for its measure and its value.
 fn applied(
+    alloc: Global,
+    filter: FilterId,
+    operand: Operand<'_>,
+    arguments: &[Value],
+    autoescape: bool,
+    limits: Limits,
+) -> Result<Value, OpError>
+    ensures { Answers result (limited_by limits (filtered filter autoescape (tree_of operand.entry ∷ map view arguments.now))) }
+{
+    match (filter, arguments) {
+        (FilterId::Unique, []) => unique_under(alloc, operand, limits),
+        _ => measured_and_built(alloc, filter, operand, arguments, autoescape, limits),
+    }
+}
+
+/// The same, measured before it is built.
+#[tactic(auto, using(crate::proofs::Applied::faulty, crate::proofs::Applied::needs_memory))]
+fn measured_and_built(
     alloc: Global,
     filter: FilterId,
     operand: Operand<'_>,

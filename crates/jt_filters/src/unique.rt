@@ -1,11 +1,12 @@
 //! Filter `unique`. An item is looked for by its code among those in front of it, so a list takes time in proportion to n log n.
-ghost use Rattle.std.specs.Prelude.{◌≡◌, ◌+◌, ◌-◌, ◌^◌, ◌||◌, min, max, IfOk, OnOk, Ok};
+ghost use Rattle.std.specs.Prelude.{◌≡◌, ◌+◌, ◌-◌, ◌^◌, ◌||◌, min, max, IfOk, OnOk, Ok, Err};
 ghost use Rattle.jt_value.specs.Tree as tree;
 ghost use Rattle.jt_value.specs.Tree.{Items, items_size, items_nesting};
 ghost use Rattle.jt_value.specs.Payload.{joined_items};
 ghost use Rattle.jt_value.specs.Equality.{equal};
 ghost use Rattle.jt_value.specs.View.{view, items_view};
 ghost use Rattle.jt_escape.specs.Joining.{IsAnswer};
+ghost use Rattle.jt_ops.specs.Limited.{limited_by, Answers};
 ghost use Rattle.jt_filters.specs.Listing.{on_items};
 ghost use Rattle.jt_filters.specs.Operands.{tree_of, items_in, measured, front};
 ghost use Rattle.jt_filters.specs.Ordering.{distinct, unseen};
@@ -15,20 +16,83 @@ ghost use Rattle.jt_filters.specs.Seen.{operand_items, Knows};
 use crate::codes::code_of;
 use crate::item_list::{ItemList, items_of};
 use crate::operand::Operand;
+use jt_ops::{Limits, OpError, allow};
 use jt_value::{Fault, NoMemory, Value, ValueError};
 use std::alloc::Global;
 use std::collections::BTreeMap;
+
+/// Filter `unique` under limits. The first items are found once, then measured, and then the list is built of them.
+pub(crate) fn unique_under(
+    alloc: Global,
+    operand: Operand<'_>,
+    limits: Limits,
+) -> Result<Value, OpError>
+    ensures { Answers result (limited_by limits (on_items distinct (tree_of operand.entry))) }
+{
+    let items = match items_of(operand) {
+        Ok(items) => items,
+        Err(fault) => return Err(OpError::Fault(fault)),
+    };
+    match first_items(alloc, items) {
+        Ok(firsts) => list_under(alloc, &firsts, limits),
+        Err(_) => Err(refused(items, limits)),
+    }
+}
+
+/// The list of some operands under limits.
+fn list_under(
+    alloc: Global,
+    operands: &[Operand<'_>],
+    limits: Limits,
+) -> Result<Value, OpError>
+    ensures { Answers result (limited_by limits (Ok (tree.list (operand_items operands.now)))) }
+{
+    let (size, nesting) = list_measure(operands);
+    if let Err(error) = allow(size, nesting, limits) {
+        return Err(error);
+    }
+    match operand_list(alloc, operands) {
+        Ok(list) => Ok(list),
+        Err(_) => Err(OpError::NoMemory),
+    }
+}
+
+/// Why there is no list of the first items where memory is refused: the limit that the list passes, else the refusal.
+fn refused(items: ItemList<'_>, limits: Limits) -> OpError
+    ensures { Answers (Err result) (limited_by limits (Ok (tree.list (unseen tree.no_items (items_in items.entry))))) }
+{
+    let (size, nesting) = unseen_list_measure(items);
+    match allow(size, nesting, limits) {
+        Ok(()) => OpError::NoMemory,
+        Err(error) => error,
+    }
+}
 
 /// The measure of filter `unique`. Where memory is refused each item is compared to all in front of it, which takes none.
 pub(crate) fn unique_measure(alloc: Global, operand: Operand<'_>) -> Result<(u64, u32), Fault>
     ensures { result ≡ measured (on_items distinct (tree_of operand.entry)) }
 {
     let items = items_of(operand)?;
-    let (size, nesting) = match first_items(alloc, items) {
-        Ok(firsts) => operands_measure(&firsts),
-        Err(_) => unseen_measure(items),
-    };
-    Ok((size.saturating_add(1), nesting.saturating_add(1)))
+    match first_items(alloc, items) {
+        Ok(firsts) => Ok(list_measure(&firsts)),
+        Err(_) => Ok(unseen_list_measure(items)),
+    }
+}
+
+/// The measure of the list of some operands.
+fn list_measure(operands: &[Operand<'_>]) -> (u64, u32)
+    ensures { Ok result ≡ measured (Ok (tree.list (operand_items operands.now))) }
+{
+    let (size, nesting) = operands_measure(operands);
+    (size.saturating_add(1), nesting.saturating_add(1))
+}
+
+/// The measure of the list of the items that are like none in front of them, without memory.
+fn unseen_list_measure(items: ItemList<'_>) -> (u64, u32)
+    ensures { Ok result ≡ measured (Ok (tree.list (unseen tree.no_items (items_in items.entry)))) }
+{
+    let (size, nesting) = unseen_measure(items);
+    (size.saturating_add(1), nesting.saturating_add(1))
 }
 
 /// The size and the nesting of some operands, each the greatest number where it is greater.
@@ -87,7 +151,14 @@ pub(crate) fn unique(alloc: Global, operand: Operand<'_>) -> Result<Value, Value
     ensures { IsAnswer (on_items distinct (tree_of operand.entry)) result }
 {
     let firsts = first_items(alloc, items_of(operand)?)?;
-    Ok(Value::list(alloc, operand_values(alloc, &firsts)?)?)
+    Ok(operand_list(alloc, &firsts)?)
+}
+
+/// The list of some operands.
+fn operand_list(alloc: Global, operands: &[Operand<'_>]) -> Result<Value, NoMemory>
+    ensures { IfOk result (λ v. view v ≡ tree.list (operand_items operands.now)) }
+{
+    Value::list(alloc, operand_values(alloc, operands)?)
 }
 
 /// The values of some operands.
