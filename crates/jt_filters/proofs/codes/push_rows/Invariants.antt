@@ -1,4 +1,4 @@
-use Rattle.std.proofs.Common.{◌≡◌, ◌∷◌, ◌++◌, length}
+use Rattle.std.proofs.Common.{◌≡◌, ◌++◌, length}
 use Rattle.jt_filters.specs.Codes.{rows_code, rows_in}
 use Rattle.jt_filters.proofs.codes.push_rows.Given as goal
 

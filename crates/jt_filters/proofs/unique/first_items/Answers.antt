@@ -1,4 +1,4 @@
-use Rattle.std.proofs.Common.{◌≡◌, ℕ, ◌+◌, ◌-◌, refl, sym, ap, ◌∙◌, subst, arith}
+use Rattle.std.proofs.Common.{◌≡◌, ℕ, ◌+◌, ◌-◌, sym, ap, ◌∙◌, subst, arith}
 use Rattle.jt_value.specs.Payload.{joined_items}
 use Rattle.jt_value.specs.Tree.{Items, item}
 use Rattle.jt_ops.specs.ItemOf.{items_count}
