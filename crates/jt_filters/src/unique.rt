@@ -40,11 +40,7 @@ pub(crate) fn unique_under(
 }
 
 /// The list of some operands under limits.
-fn list_under(
-    alloc: Global,
-    operands: &[Operand<'_>],
-    limits: Limits,
-) -> Result<Value, OpError>
+fn list_under(alloc: Global, operands: &[Operand<'_>], limits: Limits) -> Result<Value, OpError>
     ensures { Answers result (limited_by limits (Ok (tree.list (operand_items operands.now)))) }
 {
     let (size, nesting) = list_measure(operands);

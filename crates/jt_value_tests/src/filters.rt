@@ -118,10 +118,7 @@ fn distinct(alloc: Global, spellings: &str) -> Result<String, Fail> {
         nesting: 10,
     };
     let list = Value::list(alloc, values(alloc, spellings)?)?;
-    Ok(shown(
-        alloc,
-        &apply(alloc, FilterId::Unique, &[list], true, wide),
-    )?)
+    Ok(shown(alloc, &apply(alloc, FilterId::Unique, &[list], true, wide))?)
 }
 
 #[test]
