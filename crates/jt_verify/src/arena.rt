@@ -1,0 +1,154 @@
+//! The shapes of a unit, each kept once.
+ghost use Rattle.std.specs.Prelude.{◌≡◌, ◌≢◌, ℕ, ◌+◌, ◌-◌, ◌<◌, ◌≤◌, [], ◌∷◌, ◌++◌, length, slice_get, get_or, IfOk, OnErr, MatchBool};
+ghost use Rattle.jt_image.specs.Effect.{may_return, pushes};
+ghost use Rattle.jt_image.specs.Typed.{max_entries};
+ghost use Rattle.jt_verify.specs.Arena.{shape_in, IsIn, IsKept, Pops, PopsMany, kind_of};
+
+use crate::links::{Handle, Link, Mark, Node, digits, find, is_same, node_at};
+use jt_image::{Flaw, Kind};
+use smallvec::SmallVec;
+use std::alloc::{AllocError, Global};
+use std::marker::Model;
+
+/// Shapes, each kept once. Contracts see the shape of each node.
+#[derive(Drop)]
+pub(crate) struct Arena {
+    nodes: SmallVec<Node, 32>,
+    // three of each number of a node, and of 0: to the first mark on it, and to two further ones on what it stands on
+    links: SmallVec<u32, 128>,
+}
+
+impl Model for Arena {
+    ghost use Rattle.std.specs.Prelude.{List};
+    ghost use Rattle.jt_image.specs.declared.kind.Kind.{Kind};
+
+    ghost Value = { List (List Kind) };
+
+    ghost use Rattle.jt_verify.specs.Arena.{lists_of, IsArena};
+
+    ghost view = { λ a. lists_of a.nodes.items };
+
+    ghost invariant = { λ a. IsArena a.nodes.items a.links.items };
+}
+
+impl Arena {
+    /// The arena of the empty shape.
+    pub(crate) fn new(alloc: Global) -> Result<Arena, AllocError>
+        ensures { IfOk result (λ a. a ≡ [] ∷ []) }
+    {
+        Ok(Arena {
+            nodes: SmallVec::new(alloc),
+            links: SmallVec::from_slice(alloc, &[0; 3])?,
+        })
+    }
+
+    /// How many entries there are.
+    pub(crate) fn height(&self, shape: Handle) -> usize
+        requires { IsIn self.now shape }
+        ensures { result ≡ length (shape_in self.now shape) }
+    {
+        if shape.node == 0 {
+            return shape.values as usize;
+        }
+        shape.values as usize + node_at(self.nodes.as_slice(), shape.node).height as usize
+    }
+
+    /// Whether two shapes are equal.
+    pub(crate) fn is_equal(&self, left: Handle, right: Handle) -> bool
+        requires left { IsIn self.now left }
+        requires right { IsIn self.now right }
+        ensures { MatchBool result (shape_in self.now left ≡ shape_in self.now right) (shape_in self.now left ≢ shape_in self.now right) }
+    {
+        let _nodes = &self.nodes;
+        is_same(left, right)
+    }
+
+    /// The entry at the top, and the shape below it.
+    pub(crate) fn pop(&self, shape: Handle) -> Option<(Kind, Handle)>
+        requires { IsIn self.now shape }
+        ensures { Pops self.now (shape_in self.now shape) result }
+    {
+        if shape.values > 0 {
+            return Some((Kind::Value, Handle { values: shape.values - 1, node: shape.node }));
+        }
+        if shape.node == 0 {
+            return None;
+        }
+        let node = node_at(self.nodes.as_slice(), shape.node);
+        Some((node.mark.kind(), node.below))
+    }
+
+    /// The shape below that many values.
+    pub(crate) fn pop_values(&self, shape: Handle, count: usize) -> Result<Handle, Flaw>
+        requires { IsIn self.now shape }
+        ensures { PopsMany self.now count (shape_in self.now shape) result }
+    {
+        if count <= shape.values as usize {
+            return Ok(Handle { values: shape.values - count as u32, node: shape.node });
+        }
+        if shape.node == 0 {
+            return Err(Flaw::MissingOperand);
+        }
+        let _node = node_at(self.nodes.as_slice(), shape.node);
+        Err(Flaw::WrongKind)
+    }
+
+    /// That many values on top of a shape that they don't make too long.
+    pub(crate) fn push_values(&self, shape: Handle, count: u32) -> Handle
+        requires within { IsIn self.now shape }
+        requires small { length (shape_in self.now shape) + count ≤ max_entries + 1 }
+        ensures shape { shape_in self.now result ≡ pushes count (shape_in self.now shape) }
+        ensures within { IsIn self.now result }
+    {
+        Handle { values: shape.values + count, node: shape.node }
+    }
+
+    /// The kind of the entry that has so many entries above it.
+    pub(crate) fn kind_below(&self, shape: Handle, above: u32) -> Option<Kind>
+        requires { IsIn self.now shape }
+        ensures { result ≡ slice_get (shape_in self.now shape) above }
+    {
+        let nodes = self.nodes.as_slice();
+        let mut shape = shape;
+        let mut above = above;
+        'marks: while above >= shape.values && shape.node != 0 {
+            above -= shape.values;
+            let node = node_at(nodes, shape.node);
+            if above == 0 {
+                return Some(node.mark.kind());
+            }
+            above -= 1;
+            shape = node.below;
+        }
+        if above < shape.values {
+            Some(Kind::Value)
+        } else {
+            None
+        }
+    }
+
+    /// A mark on top of a shape that is not too long, with what was there before.
+    pub(crate) fn push(&mut self, shape: Handle, mark: Mark) -> Result<Handle, AllocError>
+        requires within { IsIn self.old shape }
+        requires small { length (shape_in self.old shape) < max_entries }
+        ensures shape { IfOk result (λ h. shape_in self.new h ≡ kind_of mark ∷ shape_in self.old shape) }
+        ensures within { IfOk result (λ h. IsIn self.new h) }
+        ensures kept { IsKept self.old self.new }
+    {
+        let place = 3 * shape.node as usize;
+        let digits = digits(mark, shape.values);
+        match find(self.nodes.as_slice(), self.links.as_slice(), mark, shape, place, digits) {
+            Link::To(node) => Ok(Handle { values: 0, node }),
+            Link::Vacant(place) => {
+                let Ok(node) = u32::try_from(self.nodes.len() + 1) else {
+                    return Err(AllocError);
+                };
+                let height = self.height(shape) as u32 + 1;
+                self.links.extend_from_slice(&[0; 3])?;
+                self.nodes.push(Node { mark, below: shape, height })?;
+                self.links[place] = node;
+                Ok(Handle { values: 0, node })
+            }
+        }
+    }
+}
