@@ -100,7 +100,7 @@ module _ (ns : List Node) (ls : List ℕ) (a : IsArena ns ls) (n : Node) (q : �
     distinct = distinct_more;
   }
 
--- the links of a new node are vacant, and the vacant one leads to it
+-- the vacant link leads to the new node, whose own links are vacant
 module _ (ns : List Node) (ls : List ℕ) (a : IsArena ns ls) (q k : ℕ) (z : get_or ls q 0 ≡ 0) (l : q < 3 * (length ns + 1)) where
   abbrev linked : List ℕ
   linked = slice_set (ls ++ 0 ∷ 0 ∷ 0 ∷ []) q k
@@ -113,3 +113,24 @@ module _ (ns : List Node) (ls : List ℕ) (a : IsArena ns ls) (q k : ℕ) (z : g
 
   pub linked_room : 3 * (suc (length ns) + 1) ≤ length linked
   linked_room = omega (arith, a.links.places, length-set (ls ++ 0 ∷ 0 ∷ 0 ∷ []) q k, length-append ls (0 ∷ 0 ∷ 0 ∷ []))
+
+  -- a mark that was not found is pushed
+  pub pushed : (m : Mark) (b : Handle) (h : ℕ) → k ≡ suc (length ns) → IsIn (lists_of ns) b → h ≡ length (shape_in (lists_of ns) b) + 1 → Finding ns ls m b (3 * b.node) (2 * b.values + digit_of m) (link.Vacant q) → IsArena (ns ++ record { mark = m; below = b; height = h } ∷ []) linked
+  pushed m b h e i height f = arena_more ns ls a (record { mark = m; below = b; height = h }) q linked i (omega (arith, height)) f (linked_here ∙ e) linked_there linked_room
+
+-- the shapes behind a push
+module _ (ns : List Node) (n : Node) (len : length (lists_of ns) ≡ suc (length ns)) where
+  pub shapes_pushed : lists_of (ns ++ n ∷ []) ≡ lists_of ns ++ entered (lists_of ns) n ∷ []
+  shapes_pushed = grow_push ([] ∷ []) ns n
+
+  pub kept_pushed : IsKept (lists_of ns) (lists_of (ns ++ n ∷ []))
+  kept_pushed = record {
+    more = omega (arith, ap (λ (t : Lists). length t) shapes_pushed, length-append (lists_of ns) (entered (lists_of ns) n ∷ []));
+    same = λ i l. ap (λ (t : Lists). get_or t i []) shapes_pushed ∙ get_or_append_left (lists_of ns) (entered (lists_of ns) n ∷ []) [] i l;
+  }
+
+  pub shape_pushed : (k : ℕ) → k ≡ suc (length ns) → (get_or (lists_of (ns ++ n ∷ [])) k [] ≡ entered (lists_of ns) n) × (k < length (lists_of (ns ++ n ∷ [])))
+  shape_pushed k e = (
+    ap (λ (t : Lists). get_or t k []) shapes_pushed ∙ get_or_push (lists_of ns) (entered (lists_of ns) n) [] k (len ∙ sym e),
+    omega (arith, e, len, ap (λ (t : Lists). length t) shapes_pushed, length-append (lists_of ns) (entered (lists_of ns) n ∷ [])),
+  )

@@ -124,8 +124,8 @@ module _ (k : Code) (u : Section) (t : Lists) (hs : List (Option Handle)) (w : L
       table = all_set r hs x.point x.shape (all_kept t r kept hs i.table) (in_kept t r kept x.shape path_inside);
       paths = paths_append (λ (y : Waiting). IsIn r y.shape) w (handles_sent l h) (waiting_kept t r kept w (paths_last (λ (y : Waiting). IsIn t y.shape) w x i.paths).1) (all_sent r h (as_list l.target ++ as_list l.next) inside);
       working =
-        let done = stepped k u (table_in t hs) (paths_in t w) (path_in t x) l (shape_in r h) (omega (arith, path_within, length-map hs (option_map (shape_in t)))) none working small effect within in
-        subst (λ (y : Table). IsWorking k u y (paths_in r (w ++ handles_sent l h))) (sym tables) (subst (λ (v : List Path). IsWorking k u (slice_set (table_in t hs) x.point (Some (shape_in t x.shape))) v) (sym paths) done);
+          let done = stepped k u (table_in t hs) (paths_in t w) (path_in t x) l (shape_in r h) (omega (arith, path_within, length-map hs (option_map (shape_in t)))) none working small effect within in
+          subst (λ (y : Table). IsWorking k u y (paths_in r (w ++ handles_sent l h))) (sym tables) (subst (λ (v : List Path). IsWorking k u (slice_set (table_in t hs) x.point (Some (shape_in t x.shape))) v) (sym paths) done);
     }
 
     pub less_stepped : work_left (table_in r (slice_set hs x.point (Some x.shape))) (paths_in r (w ++ handles_sent l h)) < work_left (table_in t hs) (paths_in t (w ++ x ∷ []))

@@ -31,6 +31,12 @@ abbrev pub marked : Option Mark → Shape → Shape
 marked None s = s
 marked (Some m) s = kind_of m ∷ s
 
+-- so many entries are not too many; otherwise the point is named to which they would come
+abbrev pub Fits : ℕ → ℕ → Result (Unit {0}) EffectError → Type 0
+Fits n p (Ok u) = n ≤ max_entries
+Fits n p (Err (errors.Flaw f)) = ⊥
+Fits n p (Err (errors.TooTall q)) = (q ≡ p) × (max_entries < n)
+
 -- what the effect of an instruction is; a shape that is too long is not made
 abbrev pub EffectGives : Lists → Result Effect EffectError → Result effects.Leads Flaw → Type 0
 EffectGives t (Ok e) effect = effect ≡ Ok (record { shape = marked e.mark (shape_in t e.shape); points = points_of e.leads })

@@ -1,5 +1,5 @@
 //! The shapes of a unit, each kept once.
-ghost use Rattle.std.specs.Prelude.{◌≡◌, ◌≢◌, ℕ, ◌+◌, ◌-◌, ◌<◌, ◌≤◌, [], ◌∷◌, ◌++◌, length, slice_get, get_or, IfOk, OnErr, MatchBool};
+ghost use Rattle.std.specs.Prelude.{◌≡◌, ◌≢◌, ℕ, ◌+◌, ◌-◌, ◌<◌, ◌≤◌, [], ◌∷◌, ◌++◌, length, slice_get, slice_set, IfOk, OnOk, OnErr, MatchBool};
 ghost use Rattle.jt_image.specs.Effect.{may_return, pushes};
 ghost use Rattle.jt_image.specs.Typed.{max_entries};
 ghost use Rattle.jt_verify.specs.Arena.{shape_in, IsIn, IsKept, Pops, PopsMany, kind_of};
@@ -47,10 +47,11 @@ impl Arena {
         requires { IsIn self.now shape }
         ensures { result ≡ length (shape_in self.now shape) }
     {
+        let nodes = self.nodes.as_slice();
         if shape.node == 0 {
             return shape.values as usize;
         }
-        shape.values as usize + node_at(self.nodes.as_slice(), shape.node).height as usize
+        shape.values as usize + node_at(nodes, shape.node).height as usize
     }
 
     /// Whether two shapes are equal.
@@ -68,13 +69,20 @@ impl Arena {
         requires { IsIn self.now shape }
         ensures { Pops self.now (shape_in self.now shape) result }
     {
+        let nodes = self.nodes.as_slice();
         if shape.values > 0 {
-            return Some((Kind::Value, Handle { values: shape.values - 1, node: shape.node }));
+            return Some((
+                Kind::Value,
+                Handle {
+                    values: shape.values - 1,
+                    node: shape.node,
+                },
+            ));
         }
         if shape.node == 0 {
             return None;
         }
-        let node = node_at(self.nodes.as_slice(), shape.node);
+        let node = node_at(nodes, shape.node);
         Some((node.mark.kind(), node.below))
     }
 
@@ -83,13 +91,17 @@ impl Arena {
         requires { IsIn self.now shape }
         ensures { PopsMany self.now count (shape_in self.now shape) result }
     {
+        let nodes = self.nodes.as_slice();
         if count <= shape.values as usize {
-            return Ok(Handle { values: shape.values - count as u32, node: shape.node });
+            return Ok(Handle {
+                values: shape.values - count as u32,
+                node: shape.node,
+            });
         }
         if shape.node == 0 {
             return Err(Flaw::MissingOperand);
         }
-        let _node = node_at(self.nodes.as_slice(), shape.node);
+        let _node = node_at(nodes, shape.node);
         Err(Flaw::WrongKind)
     }
 
@@ -100,7 +112,10 @@ impl Arena {
         ensures shape { shape_in self.now result ≡ pushes count (shape_in self.now shape) }
         ensures within { IsIn self.now result }
     {
-        Handle { values: shape.values + count, node: shape.node }
+        Handle {
+            values: shape.values + count,
+            node: shape.node,
+        }
     }
 
     /// The kind of the entry that has so many entries above it.
@@ -109,18 +124,17 @@ impl Arena {
         ensures { result ≡ slice_get (shape_in self.now shape) above }
     {
         let nodes = self.nodes.as_slice();
-        let mut shape = shape;
-        let mut above = above;
-        'marks: while above >= shape.values && shape.node != 0 {
-            above -= shape.values;
-            let node = node_at(nodes, shape.node);
-            if above == 0 {
+        let mut rest = shape;
+        let mut left = above;
+        'marks: while left >= rest.values && rest.node != 0 {
+            let node = node_at(nodes, rest.node);
+            if left == rest.values {
                 return Some(node.mark.kind());
             }
-            above -= 1;
-            shape = node.below;
+            left -= rest.values + 1;
+            rest = node.below;
         }
-        if above < shape.values {
+        if left < rest.values {
             Some(Kind::Value)
         } else {
             None
@@ -137,18 +151,49 @@ impl Arena {
     {
         let place = 3 * shape.node as usize;
         let digits = digits(mark, shape.values);
-        match find(self.nodes.as_slice(), self.links.as_slice(), mark, shape, place, digits) {
+        match find(
+            self.nodes.as_slice(),
+            self.links.as_slice(),
+            mark,
+            shape,
+            place,
+            digits,
+        ) {
             Link::To(node) => Ok(Handle { values: 0, node }),
             Link::Vacant(place) => {
-                let Ok(node) = u32::try_from(self.nodes.len() + 1) else {
-                    return Err(AllocError);
-                };
                 let height = self.height(shape) as u32 + 1;
-                self.links.extend_from_slice(&[0; 3])?;
-                self.nodes.push(Node { mark, below: shape, height })?;
-                self.links[place] = node;
+                let below = shape;
+                let added = Node {
+                    mark,
+                    below,
+                    height,
+                };
+                let node = add(&mut self.nodes, &mut self.links, added, place)?;
                 Ok(Handle { values: 0, node })
             }
         }
     }
+}
+
+// One node more, to which the link at a place leads from now on. The answer is its number.
+fn add(
+    nodes: &mut SmallVec<Node, 32>,
+    links: &mut SmallVec<u32, 128>,
+    added: Node,
+    place: usize,
+) -> Result<u32, AllocError>
+    requires { place < length links.old.items }
+    ensures node { IfOk result (λ k. k ≡ length nodes.old.items + 1) }
+    ensures nodes { OnOk result (nodes.new.items ≡ nodes.old.items ++ added ∷ []) }
+    ensures links { IfOk result (λ k. links.new.items ≡ slice_set (links.old.items ++ 0 ∷ 0 ∷ 0 ∷ []) place k) }
+    ensures err { OnErr result ((nodes.new.items ≡ nodes.old.items) × (links.new.items ≡ links.old.items)) }
+{
+    let Ok(node) = u32::try_from(nodes.len() + 1) else {
+        return Err(AllocError);
+    };
+    nodes.reserve(1)?;
+    links.extend_from_slice(&[0; 3])?;
+    nodes.push_reserved(added);
+    links[place] = node;
+    Ok(node)
 }

@@ -1,5 +1,5 @@
 //! What an instruction does to a shape, and where it leads.
-ghost use Rattle.std.specs.Prelude.{◌≡◌, ◌<◌, ◌≤◌, ◌&&◌, nat_lt, List, [], ◌∷◌, length, None, Err, IfOk, IsSome, option_map, slice_get};
+ghost use Rattle.std.specs.Prelude.{◌≡◌, ◌+◌, ◌^◌, ◌<◌, ◌≤◌, ◌&&◌, nat_lt, [], ◌∷◌, length, None, Err, IfOk, IsSome, option_map, slice_get};
 ghost use Rattle.jt_image.specs.Code.{Section, is_text as is_text_of};
 ghost use Rattle.jt_image.specs.Effect.{pushes, calls as calls_of, goes_on as goes_on_of, makes as makes_of, jumps as jumps_of, branches as branches_of, may_return as may_return_of, effect as effect_of};
 ghost use Rattle.jt_image.specs.Ids.{operator_of, filter_of, accepts as accepts_of, test_of, takes as takes_of};
@@ -8,7 +8,7 @@ ghost use Rattle.jt_image.specs.Typed.{max_entries};
 ghost use Rattle.jt_ops.specs.OpTable.{op_operands};
 ghost use Rattle.jt_verify.specs.Arena.{Lists, shape_in, IsIn, kind_of};
 ghost use Rattle.jt_verify.specs.Shapes.{below_value, below_frame, below_capture, Below, IsTopped};
-ghost use Rattle.jt_verify.specs.Typing.{EffectGives, AreWithin, FindsFrame};
+ghost use Rattle.jt_verify.specs.Typing.{EffectGives, AreWithin, FindsFrame, Fits};
 ghost use Rattle.jt_image.specs.declared.kind.Kind.TheVariants as kind;
 
 use crate::arena::Arena;
@@ -61,8 +61,7 @@ fn pop_value(arena: &Arena, shape: Handle) -> Result<Handle, Flaw>
 {
     match arena.pop(shape) {
         Some((Kind::Value, below)) => Ok(below),
-        Some((Kind::Frame, _)) => Err(Flaw::WrongKind),
-        Some((Kind::Capture, _)) => Err(Flaw::WrongKind),
+        Some(_) => Err(Flaw::WrongKind),
         None => Err(Flaw::MissingOperand),
     }
 }
@@ -75,8 +74,7 @@ fn pop_frame(arena: &Arena, shape: Handle) -> Result<Handle, Flaw>
 {
     match arena.pop(shape) {
         Some((Kind::Frame, below)) => Ok(below),
-        Some((Kind::Value, _)) => Err(Flaw::WrongKind),
-        Some((Kind::Capture, _)) => Err(Flaw::WrongKind),
+        Some(_) => Err(Flaw::WrongKind),
         None => Err(Flaw::MissingOperand),
     }
 }
@@ -89,8 +87,7 @@ fn pop_capture(arena: &Arena, shape: Handle) -> Result<Handle, Flaw>
 {
     match arena.pop(shape) {
         Some((Kind::Capture, below)) => Ok(below),
-        Some((Kind::Value, _)) => Err(Flaw::WrongKind),
-        Some((Kind::Frame, _)) => Err(Flaw::WrongKind),
+        Some(_) => Err(Flaw::WrongKind),
         None => Err(Flaw::MissingOperand),
     }
 }
@@ -127,6 +124,18 @@ fn goes_on(header: &UnitHeader, point: usize, shape: Handle) -> Result<Effect, E
     }
 }
 
+// Whether so many more entries fit; too many would come to the point.
+fn fits(arena: &Arena, shape: Handle, count: usize, point: usize) -> Result<(), EffectError>
+    requires within { IsIn arena.now shape }
+    requires small { count < 2 ^ 32 }
+    ensures { Fits (length (shape_in arena.now shape) + count) point result }
+{
+    if arena.height(shape) + count > MAX_ENTRIES {
+        return Err(EffectError::TooTall(point));
+    }
+    Ok(())
+}
+
 // To the next instruction, with a mark on top, unless the shape would be too long there.
 fn opens(
     arena: &Arena,
@@ -145,9 +154,7 @@ fn opens(
     if point + 1 >= instructions {
         return Err(EffectError::Flaw(Flaw::FallsOff));
     }
-    if arena.height(shape) >= MAX_ENTRIES {
-        return Err(EffectError::TooTall(point + 1));
-    }
+    fits(arena, shape, 1, point + 1)?;
     Ok(Effect {
         shape,
         mark: Some(mark),
@@ -159,11 +166,7 @@ fn opens(
 }
 
 // To the target of a jump.
-fn jumps(
-    header: &UnitHeader,
-    target: u32,
-    shape: Handle,
-) -> Result<Effect, EffectError>
+fn jumps(header: &UnitHeader, target: u32, shape: Handle) -> Result<Effect, EffectError>
     ensures gives { (u : Section) → header.now ≡ header_of u → (t : Lists) → EffectGives t result (jumps_of u target (shape_in t shape)) }
     ensures within { IfOk result (λ e. AreWithin header.now.instructions e.leads) }
     ensures plain { IfOk result (λ e. (e.shape ≡ shape) × (e.mark ≡ None)) }
@@ -248,9 +251,7 @@ fn spreads(
     if point + 1 >= instructions {
         return Err(EffectError::Flaw(Flaw::FallsOff));
     }
-    if arena.height(shape) + count as usize > MAX_ENTRIES {
-        return Err(EffectError::TooTall(point + 1));
-    }
+    fits(arena, shape, count as usize, point + 1)?;
     goes_on(header, point, arena.push_values(shape, count))
 }
 

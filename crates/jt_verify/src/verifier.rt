@@ -188,7 +188,15 @@ fn verify_unit<C: Code>(
         shape: Handle { values: 0, node: 0 },
     })?;
     'paths: while let Some(path) = paths.pop() {
-        follow(&mut arena, code, unit, header, path, &mut shapes, &mut paths)?;
+        follow(
+            &mut arena,
+            code,
+            unit,
+            header,
+            path,
+            &mut shapes,
+            &mut paths,
+        )?;
     }
     Ok(())
 }
