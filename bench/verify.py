@@ -79,8 +79,8 @@ def spread():
 def marked():
     """As many different shapes with a mark at the top as there is room for."""
     code, depth = [], 0
-    while len(code) + 2 * 900 + 3 + 2 * depth + 3 < MOST:
-        code += [of(CAPTURE_BEGIN), of(CAPTURE_END)] * 900 + [of(MAKE_LIST, 900), of(DROP), of(CAPTURE_BEGIN)]
+    while len(code) + 2 * 850 + 3 + 2 * depth + 3 < MOST:
+        code += [of(CAPTURE_BEGIN), of(CAPTURE_END)] * 850 + [of(MAKE_LIST, 850), of(DROP), of(CAPTURE_BEGIN)]
         depth += 1
     return code + [of(CAPTURE_END), of(DROP)] * depth + [of(RETURN)]
 

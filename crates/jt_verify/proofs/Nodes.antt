@@ -13,7 +13,7 @@ use Rattle.jt_verify.specs.declared.links.Handle.{Handle}
 use Rattle.jt_verify.specs.declared.links.Node.{Node}
 use Rattle.jt_verify.specs.declared.links.Link.{Link}
 use Rattle.jt_verify.specs.declared.links.Link.TheVariants as link
-use Rattle.jt_verify.specs.Arena.{Lists, shape_in, IsIn, entered, grow, lists_of, kind_of, digit_of, IsNode, Finds, here, along, KeepsLinks, LeadsTo, Finding, IsSound, IsArena}
+use Rattle.jt_verify.specs.Arena.{Lists, shape_in, IsIn, entered, grow, lists_of, kind_of, digit_of, IsNode, Finds, here, along, KeepsLinks, LeadsTo, AreLinks, Finding, IsSound, IsArena}
 use Rattle.jt_verify.proofs.Numbers.{some_node, node_within}
 use Rattle.jt_verify.proofs.Values.{HasNoValue, pushes_same, length-pushes, pops_too_many, below_values}
 
@@ -36,7 +36,7 @@ module _ (ns : List Node) (ls : List ℕ) (m : Mark) (b : Handle) where
   found_along p d k (link.Vacant q) link_is other h = (h.0, h.1, λ i f. h.2 i (goes_along k p d i f link_is other), λ r s i keeps new_is node_is. along p d i k (keeps p k link_is) (h.3 r s i keeps new_is node_is))
 
   -- one step of looking up, by the node's number
-  pub goes_on_from : (p d k : ℕ) (n : Node) (r : Link) → get_or ls p 0 ≡ k → 0 < k → slice_get ns (k - 1) ≡ Some n → ((n.mark ≡ m) → (n.below ≡ b) → ⊥) → Finding ns ls m b (3 * k + 1 + d % 2) (d / 2) r → Finding ns ls m b p d r
+  pub goes_on_from : (p d k : ℕ) (n : Node) (r : Link) → get_or ls p 0 ≡ k → 0 < k → slice_get ns (k - 1) ≡ Some n → (n.mark ≡ m → n.below ≢ b) → Finding ns ls m b (3 * k + 1 + d % 2) (d / 2) r → Finding ns ls m b p d r
   goes_on_from p d zero n r e l is other h = absurd (omega arith)
   goes_on_from p d (suc k) n r e l is other h = found_along p d k r e (λ x. differs x) h
     where
@@ -54,6 +54,11 @@ module _ (ns : List Node) (ls : List ℕ) (m : Mark) (b : Handle) where
   pub found_here : (p d k : ℕ) (n : Node) → 0 < k → slice_get ns (k - 1) ≡ Some n → n.mark ≡ m → n.below ≡ b → Finding ns ls m b p d (link.To k)
   found_here p d zero n l is e f = absurd (omega arith)
   found_here p d (suc k) n l is e f = let same : suc k - 1 ≡ k = omega arith in (k, refl, record { node = n; is = subst (λ (j : ℕ). slice_get ns j ≡ Some n) same is; mark = e; below = f })
+
+-- a link leads to a node, and upward
+pub link_up : (n : ℕ) (ls : List ℕ) → AreLinks n ls → (p k : ℕ) → k ≡ get_or ls p 0 → 0 < k → (p < 3 * k) × (k ≤ n)
+link_up n ls a p zero e l = absurd (omega arith)
+link_up n ls a p (suc k) e l = let u = a.upward p k (sym e) in (u.0, omega (arith, u.1))
 
 -- links that lead to more nodes still lead to these
 pub finds_more : (ns rs : List Node) (ls r : List ℕ) (m : Mark) (b : Handle) → KeepsLinks ls r → ((i : ℕ) → IsNode ns m b i → IsNode rs m b i) → (p d i : ℕ) → Finds ns ls m b p d i → Finds rs r m b p d i

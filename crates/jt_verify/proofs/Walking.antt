@@ -12,12 +12,15 @@ use Rattle.jt_verify.specs.declared.refusal.Refusal.{Refusal}
 use Rattle.jt_verify.specs.declared.verifier.Path.{Path as Waiting}
 use Rattle.jt_verify.specs.Arena.{Lists, shape_in, IsIn, IsKept}
 use Rattle.jt_verify.specs.Typing.{as_list, points_of, AreWithin}
-use Rattle.jt_verify.specs.Working.{Path, Table, shape_at, work_left, IsWorking, Clashes, Steps, RefusesUnit, sent, path_in, paths_in, table_in, IsInIf, Works, handles_sent}
+use Rattle.jt_verify.specs.Working.{Path, Table, shape_at, work_left, IsWorking, Clashes, Steps, RefusesUnit, sent, path_in, paths_in, table_in, IsInPath, IsInIf, Works, handles_sent}
 use Rattle.jt_verify.proofs.Tables.{paths_last, paths_append}
 use Rattle.jt_verify.proofs.Following.{met, stepped, less_if_met, less_if_stepped, in_table, starts, no_paths}
 use Rattle.jt_verify.proofs.Refused.{clash_refuses, step_refuses}
 
 -- ---- an arena that grows
+
+abbrev at_point : ℕ → Shape → Path
+at_point p s = record { point = p; shape = s }
 
 module _ (t r : Lists) (k : IsKept t r) where
   shape_kept : (h : Handle) → IsIn t h → shape_in r h ≡ shape_in t h
@@ -36,11 +39,11 @@ module _ (t r : Lists) (k : IsKept t r) where
   all_kept (None ∷ hs) a = (tt, all_kept hs a.1)
   all_kept (Some h ∷ hs) a = (in_kept h a.0, all_kept hs a.1)
 
-  paths_kept : (w : List Waiting) → AllByRecursion (λ x. IsIn t x.shape) w → paths_in r w ≡ paths_in t w
+  paths_kept : (w : List Waiting) → AllByRecursion (IsInPath t) w → paths_in r w ≡ paths_in t w
   paths_kept [] a = refl
-  paths_kept (x ∷ w) a = ap (λ (s : Shape). record { point = x.point; shape = s } ∷ paths_in r w) (shape_kept x.shape a.0) ∙ ap (λ (v : List Path). path_in t x ∷ v) (paths_kept w a.1)
+  paths_kept (x ∷ w) a = ap (λ (s : Shape). at_point x.point s ∷ paths_in r w) (shape_kept x.shape a.0) ∙ ap (λ (v : List Path). path_in t x ∷ v) (paths_kept w a.1)
 
-  waiting_kept : (w : List Waiting) → AllByRecursion (λ x. IsIn t x.shape) w → AllByRecursion (λ x. IsIn r x.shape) w
+  waiting_kept : (w : List Waiting) → AllByRecursion (IsInPath t) w → AllByRecursion (IsInPath r) w
   waiting_kept [] a = tt
   waiting_kept (x ∷ w) a = (in_kept x.shape a.0, waiting_kept w a.1)
 
@@ -69,9 +72,9 @@ shapes_to_each s ps = map (λ p. record { point = p; shape = s }) ps
 
 sent_in : (t : Lists) (h : Handle) (ps : List ℕ) → paths_in t (to_each h ps) ≡ shapes_to_each (shape_in t h) ps
 sent_in t h [] = refl
-sent_in t h (p ∷ ps) = ap (λ (v : List Path). record { point = p; shape = shape_in t h } ∷ v) (sent_in t h ps)
+sent_in t h (p ∷ ps) = ap (λ (v : List Path). at_point p (shape_in t h) ∷ v) (sent_in t h ps)
 
-all_sent : (t : Lists) (h : Handle) (ps : List ℕ) → IsIn t h → AllByRecursion (λ x. IsIn t x.shape) (to_each h ps)
+all_sent : (t : Lists) (h : Handle) (ps : List ℕ) → IsIn t h → AllByRecursion (IsInPath t) (to_each h ps)
 all_sent t h [] l = tt
 all_sent t h (p ∷ ps) l = (l, all_sent t h ps l)
 
@@ -85,7 +88,7 @@ module _ (k : Code) (u : Section) (t : Lists) (hs : List (Option Handle)) (w : L
   working = subst (λ (v : List Path). IsWorking k u (table_in t hs) v) (paths_push t w x) i.working
 
   pub path_inside : IsIn t x.shape
-  path_inside = (paths_last (λ (y : Waiting). IsIn t y.shape) w x i.paths).0
+  path_inside = (paths_last (IsInPath t) w x i.paths).0
 
   pub path_within : x.point < length hs
   path_within = omega (arith, in_table k u (table_in t hs) (paths_in t w) (path_in t x) working, length-map hs (option_map (shape_in t)))
@@ -99,7 +102,7 @@ module _ (k : Code) (u : Section) (t : Lists) (hs : List (Option Handle)) (w : L
   pub works_met : shape_at (table_in t hs) x.point ≡ Some (shape_in t x.shape) → Works k u t hs w
   works_met e = record {
     table = i.table;
-    paths = (paths_last (λ (y : Waiting). IsIn t y.shape) w x i.paths).1;
+    paths = (paths_last (IsInPath t) w x i.paths).1;
     working = met k u (table_in t hs) (paths_in t w) (path_in t x) e working;
   }
 
@@ -116,13 +119,13 @@ module _ (k : Code) (u : Section) (t : Lists) (hs : List (Option Handle)) (w : L
     paths : paths_in r (w ++ handles_sent l h) ≡ paths_in t w ++ sent l (shape_in r h)
     paths =
         map-append (path_in r) w (handles_sent l h)
-        ∙ ap (λ (v : List Path). v ++ paths_in r (handles_sent l h)) (paths_kept t r kept w (paths_last (λ (y : Waiting). IsIn t y.shape) w x i.paths).1)
+        ∙ ap (λ (v : List Path). v ++ paths_in r (handles_sent l h)) (paths_kept t r kept w (paths_last (IsInPath t) w x i.paths).1)
         ∙ ap (λ (v : List Path). paths_in t w ++ v) (sent_in r h (as_list l.target ++ as_list l.next))
 
     pub works_stepped : length (shape_in t x.shape) ≤ max_entries → effect_at k u x.point (shape_in t x.shape) ≡ Ok (record { shape = shape_in r h; points = points_of l }) → AreWithin (length u.code) l → Works k u r (slice_set hs x.point (Some x.shape)) (w ++ handles_sent l h)
     works_stepped small effect within = record {
       table = all_set r hs x.point x.shape (all_kept t r kept hs i.table) (in_kept t r kept x.shape path_inside);
-      paths = paths_append (λ (y : Waiting). IsIn r y.shape) w (handles_sent l h) (waiting_kept t r kept w (paths_last (λ (y : Waiting). IsIn t y.shape) w x i.paths).1) (all_sent r h (as_list l.target ++ as_list l.next) inside);
+      paths = paths_append (IsInPath r) w (handles_sent l h) (waiting_kept t r kept w (paths_last (IsInPath t) w x i.paths).1) (all_sent r h (as_list l.target ++ as_list l.next) inside);
       working =
           let done = stepped k u (table_in t hs) (paths_in t w) (path_in t x) l (shape_in r h) (omega (arith, path_within, length-map hs (option_map (shape_in t)))) none working small effect within in
           subst (λ (y : Table). IsWorking k u y (paths_in r (w ++ handles_sent l h))) (sym tables) (subst (λ (v : List Path). IsWorking k u (slice_set (table_in t hs) x.point (Some (shape_in t x.shape))) v) (sym paths) done);

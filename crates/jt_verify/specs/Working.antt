@@ -135,6 +135,10 @@ paths_in t w = map (path_in t) w
 abbrev pub table_in : Lists → List (Option Handle) → Table
 table_in t hs = map (option_map (shape_in t)) hs
 
+-- the path's shape is one of the arena's
+abbrev pub IsInPath : Lists → Waiting → Type 0
+IsInPath t x = IsIn t x.shape
+
 -- the handle, if there is one, is one of the arena's
 abbrev pub IsInIf : Lists → Option Handle → Type 0
 IsInIf t None = Unit {0}
@@ -143,7 +147,7 @@ IsInIf t (Some h) = IsIn t h
 -- all handles are the arena's, and what they stand for is what is known of the unit
 pub record Works (k : Code) (u : Section) (t : Lists) (hs : List (Option Handle)) (w : List Waiting) : Type 0 where
   pub table : AllByRecursion (IsInIf t) hs
-  pub paths : AllByRecursion (λ x. IsIn t x.shape) w
+  pub paths : AllByRecursion (IsInPath t) w
   pub working : IsWorking k u (table_in t hs) (paths_in t w)
 
 -- the paths that are sent, by their handles

@@ -1,5 +1,5 @@
 //! The shapes of a unit, each kept once.
-ghost use Rattle.std.specs.Prelude.{◌≡◌, ◌≢◌, ℕ, ◌+◌, ◌-◌, ◌<◌, ◌≤◌, [], ◌∷◌, ◌++◌, length, slice_get, slice_set, IfOk, OnOk, OnErr, MatchBool};
+ghost use Rattle.std.specs.Prelude.{◌≡◌, ◌≢◌, ℕ, ◌+◌, ◌-◌, ◌^◌, ◌<◌, ◌≤◌, [], ◌∷◌, ◌++◌, length, slice_get, slice_set, IfOk, OnOk, OnErr, MatchBool};
 ghost use Rattle.jt_image.specs.Effect.{may_return, pushes};
 ghost use Rattle.jt_image.specs.Typed.{max_entries};
 ghost use Rattle.jt_verify.specs.Arena.{shape_in, IsIn, IsKept, Pops, PopsMany, kind_of};
@@ -45,7 +45,8 @@ impl Arena {
     /// How many entries there are.
     pub(crate) fn height(&self, shape: Handle) -> usize
         requires { IsIn self.now shape }
-        ensures { result ≡ length (shape_in self.now shape) }
+        ensures length { result ≡ length (shape_in self.now shape) }
+        ensures fits { result < 2 ^ 33 }
     {
         let nodes = self.nodes.as_slice();
         if shape.node == 0 {

@@ -1,5 +1,5 @@
 //! The nodes of an arena, and the links by which a node is found from the one that it stands on.
-ghost use Rattle.std.specs.Prelude.{◌≡◌, ◌≢◌, ◌+◌, ◌-◌, ◌*◌, ◌<◌, ◌≤◌, length, slice_get, Some, MatchBool};
+ghost use Rattle.std.specs.Prelude.{◌≡◌, ◌≢◌, ◌+◌, ◌-◌, ◌*◌, ◌<◌, ◌≤◌, length, get_or, slice_get, Some, MatchBool};
 ghost use Rattle.jt_verify.specs.Arena.{kind_of, digit_of, AreLinks, Finding};
 
 use jt_image::Kind;
@@ -81,6 +81,21 @@ pub(crate) fn node_at(nodes: &[Node], node: u32) -> Node
     nodes[node as usize - 1]
 }
 
+// The node to which a link leads, or 0.
+fn link_at(links: &[u32], place: usize) -> u32
+    requires { place < length links.now }
+    ensures { result ≡ get_or links.now place 0 }
+{
+    links[place]
+}
+
+// Whether a node is this mark on this handle.
+fn is_entry(node: Node, mark: Mark, below: Handle) -> bool
+    ensures { MatchBool result ((node.mark ≡ mark) × (node.below ≡ below)) (node.mark ≡ mark → node.below ≢ below) }
+{
+    is_same_mark(node.mark, mark) && is_same(node.below, below)
+}
+
 /// The digits by which a mark is looked up among those on one node: the mark's, then those of the number of values between.
 pub(crate) fn digits(mark: Mark, values: u32) -> usize
     ensures { result ≡ 2 * values + digit_of mark }
@@ -104,12 +119,12 @@ pub(crate) fn find(
     requires place { place < 3 * (length nodes.now + 1) }
     ensures { Finding nodes.now links.now mark below place digits result }
 {
-    let next = links[place];
+    let next = link_at(links, place);
     if next == 0 {
         return Link::Vacant(place);
     }
     let node = node_at(nodes, next);
-    if is_same_mark(node.mark, mark) && is_same(node.below, below) {
+    if is_entry(node, mark, below) {
         return Link::To(next);
     }
     let further = 3 * next as usize + 1 + digits % 2;

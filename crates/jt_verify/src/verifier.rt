@@ -15,7 +15,7 @@ use jt_image::{Code, Flaw, UnitHeader};
 use std::alloc::{AllocError, Global};
 
 /// A shape that comes to a point.
-#[derive(Clone, Copy, Drop)]
+#[derive(Clone, Copy)]
 pub(crate) struct Path {
     pub(crate) point: usize,
     pub(crate) shape: Handle,

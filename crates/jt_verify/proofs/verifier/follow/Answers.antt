@@ -15,6 +15,9 @@ arrive-requires-clause-shape g c =
     let k = g.C.Code.code c.args.code.now in
     path_inside k (unit_of k c.args.unit) c.args.arena.now c.args.shapes.now.items c.args.paths.now.items c.args.path c.requires.works
 
+pub arrive-requires-clause-shapes : goal.arrive-requires-clause-shapes
+arrive-requires-clause-shapes g c = rw c.deref.ensures.value c.requires.works.table
+
 pub returns-in_err-is_known-clause-err : goal.returns-in_err-is_known-clause-err
 returns-in_err-is_known-clause-err g c =
     let e = rw c.deref.ensures.value at c.in_err-is_known.ensures in
