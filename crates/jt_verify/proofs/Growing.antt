@@ -7,9 +7,9 @@ use Rattle.jt_verify.specs.declared.links.Mark.{Mark}
 use Rattle.jt_verify.specs.declared.links.Handle.{Handle}
 use Rattle.jt_verify.specs.declared.links.Node.{Node}
 use Rattle.jt_verify.specs.declared.links.Link.TheVariants as link
-use Rattle.jt_verify.specs.Arena.{Lists, shape_in, IsIn, IsKept, entered, lists_of, kind_of, digit_of, IsNode, AreLinks, KeepsLinks, Finding, IsSound, IsArena}
+use Rattle.jt_verify.specs.Arena.{Lists, shape_in, IsIn, IsKept, StandsFor, entered, lists_of, kind_of, digit_of, IsNode, AreLinks, KeepsLinks, Finding, IsSound, IsArena}
 use Rattle.jt_verify.proofs.Numbers.{same_or, node_within, node_left, node_last, node_either, padded}
-use Rattle.jt_verify.proofs.Nodes.{finds_more, grow_push, bottom, is_new}
+use Rattle.jt_verify.proofs.Nodes.{finds_more, grow_push, is_new, found_is}
 
 pub kept_same : (t : Lists) → IsKept t t
 kept_same t = record { more = omega arith; same = λ i l. refl }
@@ -134,3 +134,11 @@ module _ (ns : List Node) (n : Node) (len : length (lists_of ns) ≡ suc (length
     ap (λ (t : Lists). get_or t k []) shapes_pushed ∙ get_or_push (lists_of ns) (entered (lists_of ns) n) [] k (len ∙ sym e),
     omega (arith, e, len, ap (λ (t : Lists). length t) shapes_pushed, length-append (lists_of ns) (entered (lists_of ns) n ∷ [])),
   )
+
+-- what was looked up, in the lists that are meant
+pub found_pushed : (ns xs : List Node) (ls ys : List ℕ) → IsArena ns ls → (m : Mark) (b : Handle) (d k : ℕ) → xs ≡ ns → Finding xs ys m b (3 * b.node) d (link.To k) → StandsFor (lists_of ns) k (kind_of m ∷ shape_in (lists_of ns) b)
+found_pushed ns xs ls ys a m b d k e f = found_is ns ls a m b (3 * b.node) d k (f.0, f.1, subst (λ (zs : List Node). IsNode zs m b f.0) e f.2)
+
+pub vacant_pushed : (ns xs : List Node) (ls ys : List ℕ) (m : Mark) (b : Handle) (d q : ℕ) → xs ≡ ns → ys ≡ ls → d ≡ 2 * b.values + digit_of m → Finding xs ys m b (3 * b.node) d (link.Vacant q) → Finding ns ls m b (3 * b.node) (2 * b.values + digit_of m) (link.Vacant q)
+vacant_pushed ns xs ls ys m b d q e f g h =
+    subst (λ (c : ℕ). Finding ns ls m b (3 * b.node) c (link.Vacant q)) g (subst (λ (zs : List ℕ). Finding ns zs m b (3 * b.node) d (link.Vacant q)) f (subst (λ (zs : List Node). Finding zs ys m b (3 * b.node) d (link.Vacant q)) e h))

@@ -32,6 +32,10 @@ pub record IsKept (t r : Lists) : Type 0 where
   pub more : length t ≤ length r
   pub same : (i : ℕ) → i < length t → get_or r i [] ≡ get_or t i []
 
+-- the node stands for the shape
+abbrev pub StandsFor : Lists → ℕ → Shape → Type 0
+StandsFor t k s = (get_or t k [] ≡ s) × (k < length t)
+
 -- the entry at the top, and what is below it
 abbrev pub Pops : Lists → Shape → Option (Kind × Handle) → Type 0
 Pops t s None = s ≡ []

@@ -2,7 +2,7 @@
 ghost use Rattle.std.specs.Prelude.{◌≡◌, ◌≢◌, ℕ, ◌+◌, ◌-◌, ◌^◌, ◌<◌, ◌≤◌, [], ◌∷◌, ◌++◌, length, slice_get, slice_set, IfOk, OnOk, OnErr, MatchBool};
 ghost use Rattle.jt_image.specs.Effect.{may_return, pushes};
 ghost use Rattle.jt_image.specs.Typed.{max_entries};
-ghost use Rattle.jt_verify.specs.Arena.{shape_in, IsIn, IsKept, Pops, PopsMany, kind_of};
+ghost use Rattle.jt_verify.specs.Arena.{shape_in, IsIn, IsKept, StandsFor, Pops, PopsMany, kind_of, lists_of, IsArena};
 
 use crate::links::{Handle, Link, Mark, Node, digits, find, is_same, node_at};
 use jt_image::{Flaw, Kind};
@@ -150,28 +150,45 @@ impl Arena {
         ensures within { IfOk result (λ h. IsIn self.new h) }
         ensures kept { IsKept self.old self.new }
     {
-        let place = 3 * shape.node as usize;
-        let digits = digits(mark, shape.values);
-        match find(
-            self.nodes.as_slice(),
-            self.links.as_slice(),
-            mark,
-            shape,
-            place,
-            digits,
-        ) {
-            Link::To(node) => Ok(Handle { values: 0, node }),
-            Link::Vacant(place) => {
-                let height = self.height(shape) as u32 + 1;
-                let below = shape;
-                let added = Node {
-                    mark,
-                    below,
-                    height,
-                };
-                let node = add(&mut self.nodes, &mut self.links, added, place)?;
-                Ok(Handle { values: 0, node })
-            }
+        let height = self.height(shape) as u32 + 1;
+        let node = push_in(&mut self.nodes, &mut self.links, shape, mark, height)?;
+        Ok(Handle { values: 0, node })
+    }
+}
+
+// The node of a mark on a shape, which is added unless it is there.
+fn push_in(
+    nodes: &mut SmallVec<Node, 32>,
+    links: &mut SmallVec<u32, 128>,
+    shape: Handle,
+    mark: Mark,
+    height: u32,
+) -> Result<u32, AllocError>
+    requires arena { IsArena nodes.old.items links.old.items }
+    requires within { IsIn (lists_of nodes.old.items) shape }
+    requires height { height ≡ length (shape_in (lists_of nodes.old.items) shape) + 1 }
+    ensures arena { IsArena nodes.new.items links.new.items }
+    ensures kept { IsKept (lists_of nodes.old.items) (lists_of nodes.new.items) }
+    ensures node { IfOk result (λ k. StandsFor (lists_of nodes.new.items) k (kind_of mark ∷ shape_in (lists_of nodes.old.items) shape)) }
+{
+    match find(
+        nodes.as_slice(),
+        links.as_slice(),
+        mark,
+        shape,
+        3 * shape.node as usize,
+        digits(mark, shape.values),
+    ) {
+        Link::To(node) => Ok(node),
+        Link::Vacant(place) => {
+            let below = shape;
+            let added = Node {
+                mark,
+                below,
+                height,
+            };
+            let node = add(nodes, links, added, place)?;
+            Ok(node)
         }
     }
 }
