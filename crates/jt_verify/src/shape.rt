@@ -106,7 +106,8 @@ fn are_same(left: &[Entry], right: &[Entry]) -> bool
     ensures { MatchBool result (left.now ≡ right.now) (left.now ≢ right.now) }
 {
     'entries: for index in 0..left.len() {
-        if !is_same(left[index].kind, right[index].kind) {
+        let (ours, theirs) = (left[index], right[index]);
+        if !is_same(ours.kind, theirs.kind) {
             return false;
         }
     }
