@@ -1,5 +1,5 @@
 #!/usr/bin/env python3
-"""Times `jt compile` on sources of 1 MiB that are hard on a compiler: long chains, deep nesting, unclosed tags.
+"""Times `jt compile` on sources of 1 MiB that are hard on a compiler: long chains, deep nesting, marks, raw text, unclosed tags.
 
     bench/compile.py [--jt PATH] [--bytes N] [--runs N] [--most SECONDS] [NAME ..]
 
@@ -34,7 +34,8 @@ SOURCES = [
     ("attributes", "{{ a", ".a", " }}", ["P2"]),
     ("items", "{{ a", "[0]", " }}", ["P2"]),
     ("calls", "{{ f", "()", " }}", ["P2"]),
-    ("filters", "{{ a", "|f", " }}", ["P2"]),
+    ("filters", "{{ a", "|upper", " }}", ["P2"]),
+    ("unknown filters", "{{ a", "|f", " }}", ["P2"]),
     ("tests", "{{ a", " is none", " }}", ["P2"]),
     ("list", "{{ [", "1,", "] }}", ["ok", "G1", "G3"]),
     ("map", "{{ {", '"a":1,', "} }}", ["ok", "G1", "G3"]),
@@ -67,6 +68,19 @@ SOURCES = [
     ("one name", "{{ ", "a", " }}", ["ok", "G1"]),
     ("spaces", "{{ ", " ", "a }}", ["ok"]),
     ("line ends", "", "\r\n", "", ["ok"]),
+    ("marks", "", "{{- 1 -}}", "", ["ok", "G1"]),
+    ("marks between whitespace", "", " \n{%- if x -%}\t {%- endif -%} ", "", ["ok", "G1"]),
+    ("whitespace between tags", "", "{{ 1 -}}            \n", "", ["ok", "G1"]),
+    ("whitespace before one mark", "", " ", "{{- 1 }}", ["ok"]),
+    ("comments with marks", "", " {#--#} ", "", ["ok"]),
+    ("raw tags", "", "{% raw %}{{{% endraw %}", "", ["ok"]),
+    ("tags in raw text", "{% raw %}", "{% if x %}{{ y }}", "{% endraw %}", ["ok"]),
+    ("open raw text", "{% raw %}", "{% endraw", "", ["S6"]),
+    ("loops in a row", "", "{% for i in x %}{% endfor %}", "", ["ok", "G1", "V5"]),
+    ("open loops", "", "{% for i in x %}", "", ["P1", "P2"]),
+    ("set in a row", "", "{% set a = 1 %}", "", ["ok", "G1", "V5"]),
+    ("filter blocks", "", "{% filter upper %}{% endfilter %}", "", ["ok", "G1"]),
+    ("unknown tags", "", "{% nope %}", "", ["P1"]),
 ]
 
 

@@ -25,7 +25,8 @@ class Spot:
         before = re.split(r"\n\s*\n", text[: head.start()])[-1]
         said = CYCLE.search(before)
         self.path, self.name = path, head[2]
-        self.lines = range(text.count("\n", 0, head.start()) + 1, text.count("\n", 0, end) + 2)
+        # a goal at a return is told at the function's first attribute
+        self.lines = range(text.count("\n", 0, head.start()) + 1 - before.count("\n"), text.count("\n", 0, end) + 2)
         self.cycle = said[1] if said else cycle_by_proof(f"{crate.folder}/proofs/{path[4:-3]}", head[2])
         self.key = (path, f"+{self.cycle}" if self.cycle else self.name)
 

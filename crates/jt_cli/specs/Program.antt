@@ -7,7 +7,8 @@ use Rattle.jt_scan.specs.declared.options.Options.{Options}
 use Rattle.jt_value.specs.Pairs.{Pairs}
 use Rattle.jt_value.specs.ContextView.{pairs_of}
 use Rattle.jt_value.specs.declared.Context.{Context}
-use Rattle.jt_inherit.specs.Chains.{Text, Sources}
+use Rattle.jt_inherit.specs.Chains.{Given}
+use Rattle.jt_parse.specs.Trees.{Text}
 use Rattle.jt_codegen.specs.Compiled.{IsCompiled}
 use Rattle.jt_image.specs.Code.{Code}
 use Rattle.jt_image.specs.Spelling.{spelling}
@@ -36,7 +37,7 @@ use Rattle.jt_cli.specs.declared.messages.Failure.TheVariants as failure
 
 -- how templates are read, by what the line asks for
 abbrev pub scan_options : LineOptions → Options
-scan_options o = record { keep_trailing_newline = o.keep_trailing_newline; autoescape = o.autoescape }
+scan_options o = record { trim_blocks = o.trim_blocks; lstrip_blocks = o.lstrip_blocks; keep_trailing_newline = o.keep_trailing_newline; autoescape = o.autoescape }
 
 -- ---- images
 
@@ -94,20 +95,20 @@ IsContextOfFile (Some path) x = (bytes : List ℕ) × IsContext bytes x
 -- ---- templates
 
 -- the bytes spell a code that the entry compiles to
-pub record IsImage (sources : Sources) (entry : Text) (options : Options) (bytes : List ℕ) : Type 0 where
+pub record IsImage (sources : Given) (entry : Text) (options : Options) (bytes : List ℕ) : Type 0 where
   pub code : Code
   pub spelled : bytes ≡ spelling code
   pub compiled : IsCompiled sources entry options code
 
 -- what is answered is so: the image, or why there is none
-abbrev pub GivesImage : Sources → Text → Options → Result (Vec ℕ Global) Failure → Type 0
+abbrev pub GivesImage : Given → Text → Options → Result (Vec ℕ Global) Failure → Type 0
 GivesImage sources entry options (Ok v) = IsImage sources entry options v.items
 GivesImage sources entry options (Err (failure.Template e)) = IsUncompiled sources entry options e
 GivesImage sources entry options (Err failure.NoMemory) = Unit {0}
 GivesImage sources entry options (Err other) = ⊥
 
 -- what is answered is so: the text of the entry's template, or why there is none
-abbrev pub RendersTo : Sources → Text → Options → Pairs → Budget → Result (String Global) Failure → Type 0
+abbrev pub RendersTo : Given → Text → Options → Pairs → Budget → Result (String Global) Failure → Type 0
 RendersTo sources entry options x b (Ok text) = IsRendered sources entry options x b (outcome.Text text)
 RendersTo sources entry options x b (Err (failure.Fault f)) = IsRendered sources entry options x b (outcome.Fault f)
 RendersTo sources entry options x b (Err (failure.Spent s)) = IsRendered sources entry options x b (outcome.Spent s)
@@ -124,7 +125,7 @@ IsRunText x b text = (bytes : List ℕ) × (s : String Global) × (string_bytes 
 -- the text is the one that a template of the name has
 abbrev pub IsRenderedText : Text → Options → Pairs → Budget → List ℕ → Type 0
 IsRenderedText entry options x b text =
-    (sources : Sources) × (s : String Global) × (string_bytes s ≡ text) × IsRendered sources entry options x b (outcome.Text s)
+    (sources : Given) × (s : String Global) × (string_bytes s ≡ text) × IsRendered sources entry options x b (outcome.Text s)
 
 -- What a command prints, for some contents of the files: of `compile` nothing; of `check`, where the image is
 -- accepted, a line; of `run` and `render` the text of the run, with the options and the budget of the job.

@@ -21,6 +21,8 @@ pub fn scan_options(options: jt_line::Options) -> Options
     ensures { result ≡ options_of options }
 {
     Options {
+        trim_blocks: options.trim_blocks,
+        lstrip_blocks: options.lstrip_blocks,
         keep_trailing_newline: options.keep_trailing_newline,
         autoescape: options.autoescape,
     }

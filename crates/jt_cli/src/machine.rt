@@ -12,7 +12,12 @@ pub struct Machine<'a, R> {
 }
 
 impl<'a, R> Machine<'a, R> {
-    pub fn new(rt: &'a R) -> Machine<'a, R> {
+    ghost use Rattle.std.specs.Prelude.{◌≡◌};
+
+    /// The file system of this runtime.
+    pub fn new(rt: &'a R) -> Machine<'a, R>
+        ensures { result.rt.now ≡ rt.now }
+    {
         Machine { rt }
     }
 }

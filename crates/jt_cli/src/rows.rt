@@ -205,6 +205,7 @@ fn options_are_kept(rt: HostRuntime) -> Result<(), Fail> {
         let options = Options {
             keep_trailing_newline,
             autoescape,
+            ..Options::new()
         };
         let found = outcome(alloc, source, options, &context)?;
         assert_eq!(rt; found.as_str(), wanted, "{source}");
@@ -286,7 +287,7 @@ fn expressions_are_refused(rt: HostRuntime) -> Result<(), Fail> {
         ("{{ 1 < 2 < 3 }}", "refused P1 Syntax in t line 1"),
         ("{{ 1 if 2 if 3 }}", "refused P1 Syntax in t line 1"),
         ("{{ f(a=1, 2) }}", "refused P1 Syntax in t line 1"),
-        ("a\n{{ 1|abs }}", "refused P3 UnknownFilter in t line 2"),
+        ("a\n{{ 1|nope }}", "refused P3 UnknownFilter in t line 2"),
         ("a\n{{ 1 is nope }}", "refused P4 UnknownTest in t line 2"),
         ("{{ loop.index }}", "refused V1 LoopOutside"),
         ("{{ f(1) }}", "refused V3 NotCallable"),

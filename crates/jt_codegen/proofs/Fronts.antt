@@ -1,38 +1,63 @@
 -- What a resolved statement puts in front of others.
-use Rattle.std.proofs.Common.{◌≡◌, ℕ, List, [], ◌∷◌, map, refl, sym, ap, ◌∙◌, rules, Vec, Global}
+use Rattle.std.proofs.Common.{◌≡◌, ℕ, Bool, List, [], ◌∷◌, map, Option, refl, sym, ap, ◌∙◌, rules, Vec, Global}
+use Rattle.std.specs.Prelude.{option_map}
 use Rattle.jt_parse.specs.Trees.{Text}
-use Rattle.jt_scopes.specs.Slots as slots
-use Rattle.jt_scopes.specs.Slots.{SBody}
-use Rattle.jt_scopes.specs.View.{Front, expr_view, body_front, choice_front, stmt_step, stmt_view, body_view, choice_view}
-use Rattle.jt_scopes.specs.declared.program.SExpr.{SExpr}
-use Rattle.jt_scopes.specs.declared.program.SStmt.{SStmt, the_lemmas, fold-roll-SStmt}
-use Rattle.jt_scopes.specs.declared.program.SStmt.TheOpen.{SStmt-F}
-use Rattle.jt_scopes.specs.declared.program.SStmt.TheVariants as s
-use Rattle.jt_scopes.specs.declared.program.SStmt.TheVariants.{rolls-If}
+use Rattle.jt_slots.specs.Slots as slots
+use Rattle.jt_slots.specs.Slots.{SBody, none}
+use Rattle.jt_slots.specs.View.{Front, slot_view, targets_view, place_view, expr_view, row_view, body_front, choice_front, stmt_step, stmt_view, body_view, choice_view}
+use Rattle.jt_slots.specs.declared.program.Place.{Place}
+use Rattle.jt_slots.specs.declared.program.Slot.{Slot}
+use Rattle.jt_slots.specs.declared.program.Targets.{Targets}
+use Rattle.jt_slots.specs.declared.program.SExpr.{SExpr}
+use Rattle.jt_slots.specs.declared.program.SStmt.{SStmt, the_lemmas, fold-roll-SStmt}
+use Rattle.jt_slots.specs.declared.program.SStmt.TheOpen.{SStmt-F}
+use Rattle.jt_slots.specs.declared.program.SStmt.TheVariants as s
+use Rattle.jt_slots.specs.declared.program.SStmt.TheVariants.{rolls-If, rolls-For, rolls-Capture}
+
+abbrev pub Entry : Type 0
+Entry = Option ℕ × SExpr
 
 abbrev pub SBranch : Type 0
-SBranch = ℕ × SExpr × Vec SStmt Global
+SBranch = Place × SExpr × Vec SStmt Global
 
 abbrev Shown : Type 0
-Shown = ℕ × SExpr × Vec Front Global
+Shown = Place × SExpr × Vec Front Global
 
-module _ (template : Text) where
-  -- a view of each branch that keeps line and condition, and shows each statement inside
-  choice_map : (g : SBranch → Shown) → ((b : SBranch) → (g b).0 ≡ b.0) → ((b : SBranch) → (g b).1 ≡ b.1) → ((b : SBranch) → (g b).2.items ≡ map (stmt_view template) b.2.items)
-      → (bs : List SBranch) (other : Front) (behind : SBody) → choice_front template (map g bs) other behind ≡ choice_view template bs other behind
+module _ (templates : List Text) where
+  -- a view of each branch that keeps place and condition, and shows each statement inside
+  choice_map : (g : SBranch → Shown) → ((b : SBranch) → (g b).0 ≡ b.0) → ((b : SBranch) → (g b).1 ≡ b.1) → ((b : SBranch) → (g b).2.items ≡ map (stmt_view templates) b.2.items)
+      → (bs : List SBranch) (other : Front) (behind : SBody ℕ) → choice_front templates (map g bs) other behind ≡ choice_view templates bs other behind
   choice_map g p q r [] other behind = refl
   choice_map g p q r (b ∷ bs) other behind =
-      let rest = choice_front template (map g bs) other slots.end in
-      let shown = λ (l : ℕ) (e : SExpr) (fs : List Front) (z : SBody). slots.stmt (slots.if_else (record { template = template; line = l }) (expr_view e) (body_front fs slots.end) z) behind in
-      ap (λ (l : ℕ). shown l (g b).1 (g b).2.items rest) (p b)
+      let rest = choice_front templates (map g bs) other slots.end in
+      let shown = λ (l : Place) (e : SExpr) (fs : List Front) (z : SBody ℕ). slots.stmt (slots.if_else (place_view templates l) (expr_view e) (body_front fs slots.end) z) behind in
+      ap (λ (l : Place). shown l (g b).1 (g b).2.items rest) (p b)
       ∙ ap (λ (e : SExpr). shown b.0 e (g b).2.items rest) (q b)
       ∙ ap (λ (fs : List Front). shown b.0 b.1 fs rest) (r b)
-      ∙ ap (λ (z : SBody). shown b.0 b.1 (map (stmt_view template) b.2.items) z) (choice_map g p q r bs other slots.end)
+      ∙ ap (λ (z : SBody ℕ). shown b.0 b.1 (map (stmt_view templates) b.2.items) z) (choice_map g p q r bs other slots.end)
 
-  pub view-If : (bs : Vec SBranch Global) (other : Vec SStmt Global) (behind : SBody) → stmt_view template (s.If bs other) behind ≡ choice_view template bs.items (body_view template other.items) behind
+  pub view-If : (bs : Vec SBranch Global) (other : Vec SStmt Global) (behind : SBody ℕ) → stmt_view templates (s.If bs other) behind ≡ choice_view templates bs.items (body_view templates other.items) behind
   view-If bs other behind =
-      ap (λ (x : SStmt). stmt_view template x behind) (sym (rolls-If bs other)) ∙ ap (λ (f : Front). f behind) (fold-roll-SStmt Front (stmt_step template) (SStmt-F.If bs other))
-      ∙ choice_map _ (λ b. refl) (λ b. refl) (λ b. refl) bs.items (body_view template other.items) behind
+      ap (λ (x : SStmt). stmt_view templates x behind) (sym (rolls-If bs other)) ∙ ap (λ (f : Front). f behind) (fold-roll-SStmt Front (stmt_step templates) (SStmt-F.If bs other))
+      ∙ choice_map _ (λ b. refl) (λ b. refl) (λ b. refl) bs.items (body_view templates other.items) behind
 
-  pub view-PutPooled : (i : ℕ) (behind : SBody) → stmt_view template (s.PutPooled i) behind ≡ slots.stmt (slots.put_pooled i) behind
+  pub view-For : (p : Place) (xs : Targets) (e : SExpr) (c : Option SExpr) (body other : Vec SStmt Global) (behind : SBody ℕ) → stmt_view templates (s.For p xs e c body other) behind
+      ≡ slots.stmt (slots.for_each (place_view templates p) (targets_view xs) (expr_view e) (option_map expr_view c) (body_view templates body.items slots.end) (body_view templates other.items slots.end)) behind
+  view-For p xs e c body other behind =
+      ap (λ (x : SStmt). stmt_view templates x behind) (sym (rolls-For p xs e c body other)) ∙ ap (λ (f : Front). f behind) (fold-roll-SStmt Front (stmt_step templates) (SStmt-F.For p xs e c body other))
+
+  pub view-Capture : (escaping : Bool) (x : Slot) (body : Vec SStmt Global) (behind : SBody ℕ) → stmt_view templates (s.Capture escaping x body) behind ≡ slots.stmt (slots.capture escaping (slot_view x) (body_view templates body.items slots.end)) behind
+  view-Capture escaping x body behind =
+      ap (λ (z : SStmt). stmt_view templates z behind) (sym (rolls-Capture escaping x body)) ∙ ap (λ (f : Front). f behind) (fold-roll-SStmt Front (stmt_step templates) (SStmt-F.Capture escaping x body))
+
+  pub view-PutPooled : (i : ℕ) (behind : SBody ℕ) → stmt_view templates (s.PutPooled i) behind ≡ slots.stmt (slots.put_pooled i) behind
   view-PutPooled i behind = search (rules, the_lemmas)
+
+  pub view-Print : (p : Place) (escaping : Bool) (e : SExpr) (behind : SBody ℕ) → stmt_view templates (s.Print p escaping e) behind ≡ slots.stmt (slots.print (place_view templates p) escaping (expr_view e)) behind
+  view-Print p escaping e behind = search (rules, the_lemmas)
+
+  pub view-Assign : (p : Place) (xs : Targets) (e : SExpr) (behind : SBody ℕ) → stmt_view templates (s.Assign p xs e) behind ≡ slots.stmt (slots.assign (place_view templates p) (targets_view xs) (expr_view e)) behind
+  view-Assign p xs e behind = search (rules, the_lemmas)
+
+  pub view-Run : (u : ℕ) (es : Vec Entry Global) (behind : SBody ℕ) → stmt_view templates (s.Run u es) behind ≡ slots.stmt (slots.run u (row_view es.items none)) behind
+  view-Run u es behind = search (rules, the_lemmas)

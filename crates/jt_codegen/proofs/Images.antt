@@ -1,143 +1,187 @@
 -- A chain that breaks no rule: its image, and what its refusals say.
-use Rattle.std.proofs.Common.{◌≡◌, ℕ, ◌<◌, ◌≤◌, Bool, true, false, ◌&&◌, [], ◌∷◌, map, length, Option, Some, refl, sym, ap, ◌∙◌, subst, arith}
-use Rattle.std.specs.Prelude.{◌≢◌, nat_le}
+use Rattle.std.proofs.Common.{◌≡◌, ℕ, zero, suc, ◌+◌, ◌*◌, ◌<◌, ◌≤◌, Bool, true, false, List, [], ◌∷◌, map, length, Option, Some, refl, sym, ap, ◌∙◌, subst, arith}
+use Rattle.std.specs.Prelude.{slice_get, nat_le, IsTrue}
 use Rattle.std.specs.List.{AllByRecursion}
-use Rattle.jt_value.specs.Pairs.{Pairs}
+use Rattle.std.proofs.lemmas.Bool.Decides.{nat_tests}
 use Rattle.jt_scan.specs.declared.options.Options.{Options}
 use Rattle.jt_image.specs.Code.{Code}
 use Rattle.jt_image.specs.IsCode.{IsCode}
 use Rattle.jt_image.specs.Typed.{max_entries}
-use Rattle.jt_image.specs.Parts.{IsRefusal, KeepsLimits}
+use Rattle.jt_image.specs.Parts.{HasTables}
 use Rattle.jt_image.specs.Laws.{CodeLaws}
-use Rattle.jt_image.specs.declared.error.ImageError.{ImageError}
-use Rattle.jt_image.specs.declared.error.ImageError.TheVariants as image_error
-use Rattle.jt_parse.specs.Trees.{body_weight}
 use Rattle.jt_parse.specs.Bytes.{body_bytes}
-use Rattle.jt_inherit.specs.Chains.{Text, Sources, IsChain, scanned}
-use Rattle.jt_inherit.specs.View.{Seen}
-use Rattle.jt_inherit.specs.Small.{IsSmall}
-use Rattle.jt_scopes.specs.Slots.{SBody, end, Routine, Program, smean}
-use Rattle.jt_scopes.specs.Meaning.{mean}
-use Rattle.jt_scopes.specs.Laws.{TemplateLaws}
-use Rattle.jt_scopes.specs.Size.{body_height}
-use Rattle.jt_scopes.specs.Takes.{BodyTakes}
-use Rattle.jt_scopes.specs.Resolve.{body_names, ascending, resolved_body, program}
-use Rattle.jt_scopes.specs.Rules.{KeepsRules}
-use Rattle.jt_codegen.specs.Lower.{compiled}
-use Rattle.jt_codegen.specs.Compiles.{CompilesTo}
+use Rattle.jt_parse.specs.Trees.{Text}
+use Rattle.jt_inherit.specs.Chain.{Home, Template}
+use Rattle.jt_inherit.specs.Chains.{Given, IsChain}
+use Rattle.jt_inherit.specs.Places.{home_at}
+use Rattle.jt_inherit.specs.Small.{chains_weight, chains_len, source_len, IsSmall}
+use Rattle.jt_inherit.specs.Uses.{body_names}
+use Rattle.jt_inherit.specs.View.{Seen, sources_of}
+use Rattle.jt_rules.specs.Rules as rules
+use Rattle.jt_rules.specs.Rules.{KeepsRules}
+use Rattle.jt_rules.specs.declared.error.ScopeError.{ScopeError}
+use Rattle.jt_rules.specs.declared.error.ScopeError.TheVariants as scope_error
+use Rattle.jt_rules.specs.World.{World, world_of}
+use Rattle.jt_meaning.specs.Bytes.{IsShort}
+use Rattle.jt_meaning.specs.Layout.{names, shared}
+use Rattle.jt_meaning.specs.Laws.{ProgramLaws}
+use Rattle.jt_meaning.specs.Measure.{AreFew, IsSized}
+use Rattle.jt_meaning.specs.Programs.{program, routines, count_globals}
+use Rattle.jt_slots.specs.Size.{body_height}
+use Rattle.jt_slots.specs.Slots.{Routine, Program}
+use Rattle.jt_slots.specs.View.{routine_view, templates_of, program_of}
+use Rattle.jt_slots.specs.declared.program.Program as given
+use Rattle.jt_slots.specs.declared.program.Routine as given_routine
+use Rattle.jt_lower.specs.Compiles.{LowLaws}
+use Rattle.jt_lower.specs.Fits.{ProgramFits}
+use Rattle.jt_lower.specs.Lawful.{AreLow}
+use Rattle.jt_lower.specs.Lower.{compiled}
 use Rattle.jt_codegen.specs.Compiled.{IsCompiled}
-use Rattle.jt_codegen.specs.Limits.{IsTooLong, NeedsTooMany}
-use Rattle.jt_codegen.specs.Emission.{FitsImage, RefusesCode}
-use Rattle.jt_codegen.specs.Refusals.{of_emit, of_image, HasProgram, Breaks, NamesLimit}
+use Rattle.jt_codegen.specs.Limits.{NeedsTooMany}
+use Rattle.jt_codegen.specs.Refusals.{of_scope, of_emit, Breaks, HasProgram, NamesLimit}
+use Rattle.jt_codegen.specs.Units.{FitsImage, RefusesCode}
 use Rattle.jt_codegen.specs.declared.emission.EmitError.{EmitError}
 use Rattle.jt_codegen.specs.declared.emission.EmitError.TheVariants as emit_error
-use Rattle.jt_codegen.proofs.Whole.{compiles}
-use Rattle.jt_codegen.proofs.Heights.{zero_low, low_le, high_lt}
-use Rattle.jt_codegen.proofs.Knowing.{lawful_takes}
-use Rattle.jt_codegen.proofs.Small.{tables, writable, small_limits, small_low}
-use Rattle.jt_codegen.proofs.Spelled.{names_some}
+use Rattle.jt_codegen.proofs.Chained.{fits, by_order}
+use Rattle.jt_codegen.proofs.Lawful.{few_globals}
+use Rattle.jt_codegen.proofs.Read.{names_all, own_all, all_short}
+use Rattle.jt_codegen.proofs.Routines.{parameters_few}
+use Rattle.jt_codegen.proofs.Spelled.{read_named}
+use Rattle.jt_codegen.proofs.Small.{small_low, small_fits}
+use Rattle.jt_codegen.proofs.Ordered.{tables}
 
-module _ (laws : CodeLaws) (templates : TemplateLaws) (sources : Sources) (entry : Text) (options : Options) (c : Seen) (is : IsChain sources entry options c) where
+-- no routine needs more entries than a shape may have
+abbrev pub Low : Program → Type 0
+Low p = AllByRecursion (λ r. body_height r.body ≤ max_entries) p.routines
+
+-- one of them does where not all don't
+abbrev IsHigh : List (Routine ℕ) → Type 0
+IsHigh rs = (n : ℕ) × (r : Routine ℕ) × (slice_get rs n ≡ Some r) × (max_entries < body_height r.body)
+
+high : (rs : List (Routine ℕ)) → ¬ (AllByRecursion (λ r. body_height r.body ≤ max_entries) rs) → IsHigh rs
+high [] n = absurd (n tt)
+high (r ∷ rs) n = first_or_later (nat_le (body_height r.body) max_entries) refl (λ below. high rs (λ all. n (below, all)))
+  where
+    first_or_later : (b : Bool) → nat_le (body_height r.body) max_entries ≡ b → (body_height r.body ≤ max_entries → IsHigh rs) → IsHigh (r ∷ rs)
+    first_or_later false e later = (0, r, refl, grind (arith, nat_tests))
+    first_or_later true e later =
+        let below : body_height r.body ≤ max_entries = grind (arith, nat_tests) in
+        let found = later below in
+        (suc found.0, found.1, found.2, found.3)
+
+needs_too_many : (p : Program) → ¬ (Low p) → NeedsTooMany p
+needs_too_many p n = let h = high p.routines n in record { n = h.0; routine = h.1; is = h.2; many = h.3 }
+
+-- what is counted of a program's routines
+pub low_of : (q : given.Program) (rs : List given_routine.Routine) (b : Bool) → rs ≡ q.routines.items
+    → ((templates : List Text) → (IsTrue b → AllByRecursion (λ (r : Routine ℕ). body_height r.body ≤ max_entries) (map (routine_view templates) rs)) × (AllByRecursion (λ (r : Routine ℕ). body_height r.body ≤ max_entries) (map (routine_view templates) rs) → IsTrue b))
+    → b ≡ true → Low (program_of q)
+low_of q rs b same counted e =
+    subst (λ (l : List given_routine.Routine). AllByRecursion (λ (r : Routine ℕ). body_height r.body ≤ max_entries) (map (routine_view (templates_of q)) l)) same ((counted (templates_of q)).0 e)
+
+pub high_of : (q : given.Program) (rs : List given_routine.Routine) (b : Bool) → rs ≡ q.routines.items
+    → ((templates : List Text) → (IsTrue b → AllByRecursion (λ (r : Routine ℕ). body_height r.body ≤ max_entries) (map (routine_view templates) rs)) × (AllByRecursion (λ (r : Routine ℕ). body_height r.body ≤ max_entries) (map (routine_view templates) rs) → IsTrue b))
+    → b ≡ false → ¬ (Low (program_of q))
+high_of q rs b same counted e = λ h.
+    let back = subst (λ (l : List given_routine.Routine). AllByRecursion (λ (r : Routine ℕ). body_height r.body ≤ max_entries) (map (routine_view (templates_of q)) l)) (sym same) h in
+    let is_true : b ≡ true = (counted (templates_of q)).1 back in
+    let no : true ≡ false = sym is_true ∙ e in
+    absurd cc
+
+-- a rule of names and calls that is broken
+pub rule_refused : (given : Given) (entry : Text) (options : Options) (c : Seen) → IsChain given entry options c → (e : ScopeError) → rules.Breaks e (world_of c) c.order → Breaks given entry options (of_scope e)
+rule_refused given entry options c is scope_error.LoopOutside r = record { chain = c; is = is; fault = λ e. cc; broken = r }
+rule_refused given entry options c is scope_error.MacroAsValue r = record { chain = c; is = is; fault = λ e. cc; broken = r }
+rule_refused given entry options c is scope_error.NotCallable r = record { chain = c; is = is; fault = λ e. cc; broken = r }
+rule_refused given entry options c is scope_error.BadArguments r = record { chain = c; is = is; fault = λ e. cc; broken = r }
+rule_refused given entry options c is scope_error.TooManySlots r = record { chain = c; is = is; fault = λ e. cc; broken = r }
+rule_refused given entry options c is scope_error.NoMemory r = tt
+
+module _ (code : CodeLaws) (low : LowLaws) (programs : ProgramLaws) (given : Given) (entry : Text) (options : Options) (c : Seen) (is : IsChain given entry options c) (kept : KeepsRules (world_of c) c.order) where
+  abbrev world : World
+  world = world_of c
+
+  abbrev order : List Home
+  order = entry ∷ is.included
+
   abbrev p : Program
-  p = program c.name c.escaping c.body
+  p = program world order entry
 
-  names : AllByRecursion (λ x. 0 < length x) p.names
-  names = names_some c.body is.tree.segments (scanned options is.source) is.tree.cut is.tree.forms
+  -- the program is that of the chain
+  abbrev IsOf : Program → Type 0
+  IsOf q = q ≡ program world c.order (home_at c.order 0)
 
-  abbrev body : SBody
-  body = resolved_body c.name c.escaping (ascending (body_names c.body)) c.body 0 end
+  of_entry : (q : Program) → IsOf q → q ≡ program world c.order entry
+  of_entry q same = same ∙ ap (λ (o : List Home). program world c.order (home_at o 0)) is.begins
 
-  takes : KeepsRules c.body → BodyTakes body
-  takes lawful = lawful_takes templates c.name c.escaping c.body is.tree.known lawful
+  begun : program world c.order entry ≡ p
+  begun = ap (λ (o : List Home). program world o entry) is.begins
 
-  -- the body that was looked at is the template's
-  body_same : (q : Program) (b : SBody) → q ≡ p → map (λ (r : Routine). r.body) q.routines ≡ b ∷ [] → b ≡ body
-  body_same q b same bodies = let e : map (λ (r : Routine). r.body) p.routines ≡ b ∷ [] = ap (λ (x : Program). map (λ (r : Routine). r.body) x.routines) (sym same) ∙ bodies in cc
+  -- ---- its image
 
-  low : (q : Program) (b : SBody) (t : Bool) → q ≡ p → map (λ (r : Routine). r.body) q.routines ≡ b ∷ [] → nat_le (body_height b) max_entries ≡ t && nat_le 0 max_entries → t ≡ true → body_height body ≤ max_entries
-  low q b t same bodies e few =
-      low_le (body_height body) max_entries (ap (λ (x : SBody). nat_le (body_height x) max_entries) (sym (body_same q b same bodies)) ∙ e ∙ ap (λ z. z && nat_le 0 max_entries) few ∙ zero_low max_entries)
+  -- no name that is read or bound is empty
+  some : AllByRecursion (λ t. AllByRecursion (λ x. 0 < length x) (body_names t.body)) c.templates
+  some = read_named given options c.templates is.read.each
 
-  pub image_compiled : (q : Program) (o : Option Code) (k : Code) (b : SBody) (t : Bool) → q ≡ p → ((x : Pairs) (n : ℕ) → smean q x n ≡ mean c.escaping c.name c.body x n) → KeepsRules c.body → map (λ (r : Routine). r.body) q.routines ≡ b ∷ [] → nat_le (body_height b) max_entries ≡ t && nat_le 0 max_entries → t ≡ true
-      → o ≡ Some (compiled q) → IsCode k → o ≡ Some k → IsCompiled sources entry options k
-  image_compiled q o k b t same means lawful bodies e few code whole held =
-      let one : compiled q ≡ k = cc in
-      let f : compiled p ≡ k = ap compiled (sym same) ∙ one in
-      let meant : (x : Pairs) (n : ℕ) → smean p x n ≡ mean c.escaping c.name c.body x n = λ x n. ap (λ (r : Program). smean r x n) (sym same) ∙ means x n in
-      record { chain = c; is = is; lawful = lawful; code = subst (CompilesTo c.name c.escaping c.body) f (compiles c.name c.escaping c.body templates (takes lawful) (low q b t same bodies e few) laws meant (subst IsCode (sym f) whole)) }
+  pub tables_of : (q : Program) → IsOf q → HasTables (compiled q)
+  tables_of q same =
+      subst (λ (r : Program). HasTables (compiled r)) (sym (of_entry q same ∙ begun))
+      (tables world entry is.included (names_all (λ x. 0 < length x) world (own_all (λ x. 0 < length x) c.templates some) order entry) (programs.ascends world order entry) (omega (arith, few_globals world order entry)))
 
-  -- the code passes a limit where its instructions are refused
-  pub emission_passed : (q : Program) → q ≡ p → KeepsRules c.body → ¬ (FitsImage (compiled q)) → ¬ (KeepsLimits (compiled p))
-  emission_passed q same lawful r = λ limits. r (subst (λ x. FitsImage (compiled x)) (sym same) (record { limits = limits; units = (writable c.name c.escaping c.body (takes lawful) limits, tt) }))
+  lows : (q : Program) → IsOf q → Low q → AreLow (routines world c.order)
+  lows q same h = low.low (routines world c.order) (length (shared world c.order)) (subst Low (of_entry q same) h)
 
-  -- and where the image is
-  pub assembly_passed : (e : ImageError) (q : Program) (o : Option Code) → q ≡ p → o ≡ Some (compiled q) → e ≢ image_error.NoMemory → IsRefusal e o → ¬ (KeepsLimits (compiled p))
-  assembly_passed e q o same code other r = by e other (subst (IsRefusal e) (code ∙ ap (λ x. Some (compiled x)) same) r)
-    where
-      by : (e : ImageError) → e ≢ image_error.NoMemory → IsRefusal e (Some (compiled p)) → ¬ (KeepsLimits (compiled p))
-      by image_error.BadOpcode n h = absurd cc
-      by image_error.BadTable n h = absurd (h (tables c.name c.escaping c.body templates names))
-      by image_error.LimitPassed n h = h
-      by image_error.NoMemory n h = absurd (n refl)
-      by image_error.BadMagic n h = absurd h
-      by image_error.BadVersion n h = absurd h
-      by image_error.Truncated n h = absurd h
-      by image_error.Trailing n h = absurd h
-      by image_error.BadText n h = absurd h
+  pub image_compiled : (q : Program) (k : Code) → IsOf q → Low q → k ≡ compiled q → IsCode k → IsCompiled given entry options k
+  image_compiled q k same few held whole =
+      let one : compiled (program world c.order entry) ≡ k = ap compiled (sym (of_entry q same)) ∙ sym held in
+      subst (IsCompiled given entry options) one (by_order low programs given entry options c is kept (lows q same few) (subst IsCode (sym one) whole))
 
-  pub limit_passed : KeepsRules c.body → ¬ (KeepsLimits (compiled p)) → HasProgram sources entry options IsTooLong
-  limit_passed lawful passed = record { chain = c; is = is; lawful = lawful; fact = passed }
+  -- ---- refusals hold
 
-  -- a code that passes a limit is no small chain's
-  pub not_small : ((source : Text) → sources entry ≡ Some source → body_weight c.body ≤ length source) → ((source : Text) → sources entry ≡ Some source → body_bytes c.body ≤ length source) → ¬ (KeepsLimits (compiled p)) → ¬ (IsSmall sources entry options)
-  not_small weighs short passed = λ small.
-      passed (small_limits c.name c.escaping c.body laws templates (omega (arith, weighs small.source small.found, small.bytes)) (omega (arith, short small.source small.found, small.bytes)))
+  has_program : (Fact : Program → Type 0) (q : Program) → IsOf q → Fact q → HasProgram given entry options Fact
+  has_program Fact q same fact = record { chain = c; is = is; lawful = kept; fact = subst Fact (of_entry q same) fact }
 
-  pub emission_refused : (e : EmitError) (q : Program) → q ≡ p → KeepsRules c.body → RefusesCode e (compiled q) → Breaks sources entry options (of_emit e)
-  emission_refused emit_error.CodeTooLong q same lawful r = limit_passed lawful (emission_passed q same lawful r)
-  emission_refused emit_error.NoMemory q same lawful r = tt
+  pub stack_refused : (q : Program) → IsOf q → ¬ (Low q) → HasProgram given entry options NeedsTooMany
+  stack_refused q same n = has_program NeedsTooMany q same (needs_too_many q n)
 
-  pub emission_not_small : (e : EmitError) (q : Program) → q ≡ p → KeepsRules c.body → ((source : Text) → sources entry ≡ Some source → body_weight c.body ≤ length source) → ((source : Text) → sources entry ≡ Some source → body_bytes c.body ≤ length source) → RefusesCode e (compiled q) → NamesLimit (of_emit e) → ¬ (IsSmall sources entry options)
-  emission_not_small emit_error.CodeTooLong q same lawful weighs short r limit = not_small weighs short (emission_passed q same lawful r)
-  emission_not_small emit_error.NoMemory q same lawful weighs short r limit = absurd limit
+  pub code_refused : (e : EmitError) (q : Program) → IsOf q → RefusesCode e (compiled q) → Breaks given entry options (of_emit e)
+  code_refused emit_error.CodeTooLong q same n = has_program (λ r. ¬ (FitsImage (compiled r))) q same n
+  code_refused emit_error.NoMemory q same n = tt
 
-  pub assembly_refused : (e : ImageError) (q : Program) (o : Option Code) → q ≡ p → KeepsRules c.body → o ≡ Some (compiled q) → IsRefusal e o → Breaks sources entry options (of_image e)
-  assembly_refused image_error.BadOpcode q o same lawful code r = limit_passed lawful (assembly_passed image_error.BadOpcode q o same code (λ x. cc) r)
-  assembly_refused image_error.BadTable q o same lawful code r = limit_passed lawful (assembly_passed image_error.BadTable q o same code (λ x. cc) r)
-  assembly_refused image_error.LimitPassed q o same lawful code r = limit_passed lawful (assembly_passed image_error.LimitPassed q o same code (λ x. cc) r)
-  assembly_refused image_error.NoMemory q o same lawful code r = tt
-  assembly_refused image_error.BadMagic q o same lawful code r = absurd r
-  assembly_refused image_error.BadVersion q o same lawful code r = absurd r
-  assembly_refused image_error.Truncated q o same lawful code r = absurd r
-  assembly_refused image_error.Trailing q o same lawful code r = absurd r
-  assembly_refused image_error.BadText q o same lawful code r = absurd r
+  -- ---- small chains meet no limit
 
-  pub assembly_not_small : (e : ImageError) (q : Program) (o : Option Code) → q ≡ p → ((source : Text) → sources entry ≡ Some source → body_weight c.body ≤ length source) → ((source : Text) → sources entry ≡ Some source → body_bytes c.body ≤ length source) → o ≡ Some (compiled q) → IsRefusal e o → NamesLimit (of_image e) → ¬ (IsSmall sources entry options)
-  assembly_not_small image_error.BadOpcode q o same weighs short code r limit = not_small weighs short (assembly_passed image_error.BadOpcode q o same code (λ x. cc) r)
-  assembly_not_small image_error.BadTable q o same weighs short code r limit = not_small weighs short (assembly_passed image_error.BadTable q o same code (λ x. cc) r)
-  assembly_not_small image_error.LimitPassed q o same weighs short code r limit = not_small weighs short (assembly_passed image_error.LimitPassed q o same code (λ x. cc) r)
-  assembly_not_small image_error.NoMemory q o same weighs short code r limit = absurd limit
-  assembly_not_small image_error.BadMagic q o same weighs short code r limit = absurd r
-  assembly_not_small image_error.BadVersion q o same weighs short code r limit = absurd r
-  assembly_not_small image_error.Truncated q o same weighs short code r limit = absurd r
-  assembly_not_small image_error.Trailing q o same weighs short code r limit = absurd r
-  assembly_not_small image_error.BadText q o same weighs short code r limit = absurd r
+  module _ (weighs : chains_weight (sources_of c) c.order ≤ chains_len given (sources_of c) c.order) (small : IsSmall given entry options) where
+    weight : chains_weight (sources_of c) order ≤ 2000
+    weight = subst (λ (o : List Home). chains_weight (sources_of c) o ≤ 2000) is.begins (omega (arith, weighs, small.bytes c is))
 
-  -- ---- entries
+    are_few : AreFew world order
+    are_few = subst (AreFew world) is.begins (programs.few c (small.names c is) kept)
 
-  many : (q : Program) (b : SBody) (t : Bool) → q ≡ p → map (λ (r : Routine). r.body) q.routines ≡ b ∷ [] → nat_le (body_height b) max_entries ≡ t && nat_le 0 max_entries → t ≡ false → max_entries < body_height body
-  many q b t same bodies e high =
-      high_lt (body_height body) max_entries (ap (λ (x : SBody). nat_le (body_height x) max_entries) (sym (body_same q b same bodies)) ∙ e ∙ ap (λ z. z && nat_le 0 max_entries) high)
+    sized : IsSized world order p
+    sized = programs.sized world entry is.included are_few
 
-  pub stack_refused : (q : Program) (b : SBody) (t : Bool) → q ≡ p → KeepsRules c.body → map (λ (r : Routine). r.body) q.routines ≡ b ∷ [] → nat_le (body_height b) max_entries ≡ t && nat_le 0 max_entries → t ≡ false → HasProgram sources entry options NeedsTooMany
-  stack_refused q b t same lawful bodies e high = record {
-    chain = c;
-    is = is;
-    lawful = lawful;
-    fact = record { n = 0; routine = record { parameters = 0; locals = 0; body = body }; is = refl; many = many q b t same bodies e high };
-  }
+    pub low_small : (q : Program) → IsOf q → Low q
+    low_small q same = subst Low (sym (of_entry q same ∙ begun)) (small_low code low world order p sized weight)
 
-  pub stack_not_small : (q : Program) (b : SBody) (t : Bool) → q ≡ p → ((source : Text) → sources entry ≡ Some source → body_weight c.body ≤ length source) → map (λ (r : Routine). r.body) q.routines ≡ b ∷ []
-      → nat_le (body_height b) max_entries ≡ t && nat_le 0 max_entries → t ≡ false → ¬ (IsSmall sources entry options)
-  stack_not_small q b t same weighs bodies e high = λ small.
-      absurd (omega (arith, many q b t same bodies e high, small_low c.name c.escaping c.body templates (omega (arith, weighs small.source small.found, small.bytes))))
+    module _ (short : AllByRecursion (λ t. body_bytes t.body ≤ source_len (given t.name)) c.templates) (few : 7 * length c.order ≤ chains_weight (sources_of c) c.order + 7) where
+      texts : IsShort 2000 p
+      texts = subst (IsShort 2000) begun (programs.short c entry is.included 2000 is.begins (all_short given 2000 c.templates short c.order (small.bytes c is)))
+
+      few_chains : 7 * length order ≤ chains_weight (sources_of c) order + 7
+      few_chains = subst (λ (o : List Home). 7 * length o ≤ chains_weight (sources_of c) o + 7) is.begins few
+
+      fitting : ProgramFits p
+      fitting = fits low programs given entry options c is kept (low.low (routines world order) (length (shared world order)) (small_low code low world order p sized weight))
+
+      pub fits_small : (q : Program) → IsOf q → FitsImage (compiled q)
+      fits_small q same =
+          subst (λ (r : Program). FitsImage (compiled r)) (sym (of_entry q same ∙ begun))
+          (small_fits code low world order p sized weight texts few_chains fitting (parameters_few world entry is.included (length (shared world order)) are_few))
+
+  pub stack_not_small : (q : Program) → IsOf q → ¬ (Low q) → chains_weight (sources_of c) c.order ≤ chains_len given (sources_of c) c.order → ¬ (IsSmall given entry options)
+  stack_not_small q same n weighs = λ small. n (low_small weighs small q same)
+
+  pub code_not_small : (e : EmitError) (q : Program) → IsOf q → RefusesCode e (compiled q) → chains_weight (sources_of c) c.order ≤ chains_len given (sources_of c) c.order
+      → AllByRecursion (λ t. body_bytes t.body ≤ source_len (given t.name)) c.templates → 7 * length c.order ≤ chains_weight (sources_of c) c.order + 7 → NamesLimit (of_emit e) → ¬ (IsSmall given entry options)
+  code_not_small emit_error.CodeTooLong q same n weighs short few limit = λ small. n (fits_small weighs small short few q same)
+  code_not_small emit_error.NoMemory q same n weighs short few limit = absurd limit

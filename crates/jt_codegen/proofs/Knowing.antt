@@ -1,36 +1,43 @@
--- Where no filter and no test has an unknown name, each operation of what a template is resolved to gets as many values as it takes.
-use Rattle.std.proofs.Common.{◌≡◌, ℕ, Bool, true, false, ◌||◌, List, [], ◌∷◌, Option, Some, None, refl, sym, ◌∙◌, subst}
-use Rattle.std.specs.Prelude.{not, if◌then◌else◌, bytes_eq}
+-- Where no filter and no test has an unknown name, the tests and filters of chains are known.
+use Rattle.std.proofs.Common.{◌≡◌, ℕ, Bool, true, false, ◌||◌, List, [], ◌∷◌, ◌++◌, Option, Some, None, refl, sym, ◌∙◌, subst}
+use Rattle.std.specs.Prelude.{not, if◌then◌else◌, flat_map, option_map}
+use Rattle.std.specs.Str.{bytes_eq}
 use Rattle.std.specs.Option.{option_or}
-use Rattle.std.specs.List.{list_any, find}
+use Rattle.std.specs.List.{list_any, find, AllByRecursion}
 use Rattle.jt_ops.specs.declared.test_id.TestId.{TestId}
 use Rattle.jt_ops.specs.TestTable.{test_names}
+use Rattle.jt_expr.specs.declared.named.Named.{Named}
 use Rattle.jt_expr.specs.declared.named.Named.TheVariants as n
-use Rattle.jt_expr.specs.Named.{all_tests, is_test, has_unknown, exprs_have_unknown, pairs_have_unknown}
+use Rattle.jt_expr.specs.Named.{all_tests, is_test, is_filter, has_unknown, exprs_have_unknown, pairs_have_unknown}
+use Rattle.jt_filters.specs.FilterTable.{filters, filter_id, filter_names}
+use Rattle.jt_filters.specs.declared.filter_id.FilterId.{FilterId}
 use Rattle.jt_expr.specs.Trees as written
 use Rattle.jt_expr.specs.Trees.{Expr, constant, name, group, list_of, map_of, attribute, item, filter, test, unary, binary, when, choice, Exprs, no_exprs, expr, Pairs, no_pairs, pair}
-use Rattle.jt_parse.specs.Names.{unknown_at, stmt_unknown, body_unknown, branch_unknown}
-use Rattle.jt_parse.specs.Trees.{Text, Stmt, data_of, print, choose, Body, end, stmt, Branches, no_branches, branch}
-use Rattle.jt_scopes.specs.Tests.{tests, test_named}
-use Rattle.jt_scopes.specs.Known.{IsTest, ExprKnown, RowKnown, PairsKnown, StmtKnown, BodyKnown, BranchesKnown}
-use Rattle.jt_scopes.specs.Rules.{KeepsRules}
-use Rattle.jt_scopes.specs.Takes.{BodyTakes}
-use Rattle.jt_scopes.specs.Slots as slots
-use Rattle.jt_scopes.specs.Resolve.{body_names, ascending, resolved_body}
-use Rattle.jt_scopes.specs.Laws.{TemplateLaws}
+use Rattle.jt_parse.specs.Names.{Found, blamed, unknown_in, condition_unknown, filtering_unknown, filterings_unknown, stmt_unknown, body_unknown, branch_unknown}
+use Rattle.jt_parse.specs.Trees.{Text, Filtering, Stmt, data_of, print, choose, for_each, set, set_block, with_values, filter_block, autoescape, macro, include, extends, block, Body, end, stmt, Branches, no_branches, branch}
+use Rattle.jt_inherit.specs.Chain.{Sources, Home, Template, sources_in, template, templates, names_up}
+use Rattle.jt_slots.specs.Filters.{Filters}
+use Rattle.jt_slots.specs.Tests.{tests, test_named}
+use Rattle.jt_slots.specs.TheFilters.{the_filters, filter_named}
+use Rattle.jt_rules.specs.World.{World}
+use Rattle.jt_rules.specs.Known.{IsThere, ExprKnown, RowKnown, PairsKnown, ConditionKnown, FilteringKnown, StmtKnown, BodyKnown, BranchesKnown, TemplatesKnown, ChainsKnown}
 
--- ---- a test that is known is found
+-- ---- a test or a filter that is known is found
 
-abbrev has_name : Text → TestId → Bool
-has_name x t = list_any (bytes_eq x) (test_names t)
-
-found : (p : TestId → Bool) (ts : List TestId) → list_any p ts ≡ true → IsTest (find p ts)
+found : {K : Type 0} (p : K → Bool) (ts : List K) → list_any p ts ≡ true → IsThere (find p ts)
 found p [] h = absurd cc
 found p (t ∷ ts) h = through (p t) h (found p ts)
   where
-    through : (b : Bool) → (b || list_any p ts) ≡ true → (list_any p ts ≡ true → IsTest (find p ts)) → IsTest (if b then Some t else find p ts)
+    through : (b : Bool) → (b || list_any p ts) ≡ true → (list_any p ts ≡ true → IsThere (find p ts)) → IsThere (if b then Some t else find p ts)
     through true e f = tt
     through false e f = f e
+
+not_false : (b : Bool) → not b ≡ false → b ≡ true
+not_false true e = refl
+not_false false e = absurd cc
+
+abbrev has_name : Text → TestId → Bool
+has_name x t = list_any (bytes_eq x) (test_names t)
 
 any_test : (x : Text) → is_test x ≡ list_any (has_name x) all_tests
 unfolding is_test
@@ -40,12 +47,27 @@ named_test : (x : Text) → test_named x ≡ find (has_name x) tests
 unfolding test_named
 named_test x = refl
 
-test_found : (x : Text) → not (is_test x) ≡ false → IsTest (test_named x)
-test_found x h = subst IsTest (sym (named_test x)) (found (has_name x) tests (sym (any_test x) ∙ by (is_test x) h))
-  where
-    by : (b : Bool) → not b ≡ false → b ≡ true
-    by true e = refl
-    by false e = absurd cc
+test_found : (x : Text) → not (is_test x) ≡ false → IsThere (test_named x)
+test_found x h = subst IsThere (sym (named_test x)) (found (has_name x) tests (sym (any_test x) ∙ not_false (is_test x) h))
+
+abbrev has_filter_name : Text → FilterId → Bool
+has_filter_name x f = list_any (bytes_eq x) (filter_names f)
+
+any_filter : (x : Text) → is_filter x ≡ list_any (has_filter_name x) filters
+unfolding is_filter
+any_filter x = refl
+
+named_filter : (x : Text) → the_filters.named x ≡ option_map filter_id (find (has_filter_name x) filters)
+unfolding the_filters filter_named
+named_filter x = refl
+
+there_with_id : (o : Option FilterId) → IsThere o → IsThere (option_map filter_id o)
+there_with_id None h = h
+there_with_id (Some f) h = tt
+
+-- a name that some filter has is one of the filters'
+pub filter_there : (x : Text) → is_filter x ≡ true → IsThere (the_filters.named x)
+filter_there x h = subst IsThere (sym (named_filter x)) (there_with_id (find (has_filter_name x) filters) (found (has_filter_name x) filters (sym (any_filter x) ∙ h)))
 
 -- ---- trees
 
@@ -57,98 +79,182 @@ second : (a b : Bool) → (a || b) ≡ false → b ≡ false
 second true b h = absurd cc
 second false b h = h
 
-mutual
-  expr_known : (e : Expr) → has_unknown n.Filter e ≡ false → has_unknown n.Test e ≡ false → ExprKnown e
-  expr_known (constant l) f t = tt
-  expr_known (name x) f t = tt
-  expr_known (group a) f t = expr_known a f t
-  expr_known (list_of ts) f t = row_known ts f t
-  expr_known (map_of ps) f t = pairs_known ps f t
-  expr_known (attribute a k) f t = expr_known a f t
-  expr_known (item a b) f t = (
-    expr_known a (first (has_unknown n.Filter a) (has_unknown n.Filter b) f) (first (has_unknown n.Test a) (has_unknown n.Test b) t),
-    expr_known b (second (has_unknown n.Filter a) (has_unknown n.Filter b) f) (second (has_unknown n.Test a) (has_unknown n.Test b) t),
-  )
-  expr_known (written.call a ts ps) f t =
-      let g = second (has_unknown n.Filter a) (exprs_have_unknown n.Filter ts || pairs_have_unknown n.Filter ps) f in
-      let u = second (has_unknown n.Test a) (exprs_have_unknown n.Test ts || pairs_have_unknown n.Test ps) t in (
-        row_known ts (first (exprs_have_unknown n.Filter ts) (pairs_have_unknown n.Filter ps) g) (first (exprs_have_unknown n.Test ts) (pairs_have_unknown n.Test ps) u),
-        pairs_known ps (second (exprs_have_unknown n.Filter ts) (pairs_have_unknown n.Filter ps) g) (second (exprs_have_unknown n.Test ts) (pairs_have_unknown n.Test ps) u),
+module _ (fs : Filters) (named : (x : Text) → is_filter x ≡ true → IsThere (fs.named x)) where
+  filter_found : (x : Text) → not (is_filter x) ≡ false → IsThere (fs.named x)
+  filter_found x h = named x (not_false (is_filter x) h)
+
+  mutual
+    expr_known : (e : Expr) → has_unknown n.Filter e ≡ false → has_unknown n.Test e ≡ false → ExprKnown fs e
+    expr_known (constant l) f t = tt
+    expr_known (name x) f t = tt
+    expr_known (group a) f t = expr_known a f t
+    expr_known (list_of ts) f t = row_known ts f t
+    expr_known (map_of ps) f t = pairs_known ps f t
+    expr_known (attribute a k) f t = expr_known a f t
+    expr_known (item a b) f t = (
+      expr_known a (first (has_unknown n.Filter a) (has_unknown n.Filter b) f) (first (has_unknown n.Test a) (has_unknown n.Test b) t),
+      expr_known b (second (has_unknown n.Filter a) (has_unknown n.Filter b) f) (second (has_unknown n.Test a) (has_unknown n.Test b) t),
+    )
+    expr_known (written.call a ts ps) f t =
+        let g = second (has_unknown n.Filter a) (exprs_have_unknown n.Filter ts || pairs_have_unknown n.Filter ps) f in
+        let u = second (has_unknown n.Test a) (exprs_have_unknown n.Test ts || pairs_have_unknown n.Test ps) t in (
+          row_known ts (first (exprs_have_unknown n.Filter ts) (pairs_have_unknown n.Filter ps) g) (first (exprs_have_unknown n.Test ts) (pairs_have_unknown n.Test ps) u),
+          pairs_known ps (second (exprs_have_unknown n.Filter ts) (pairs_have_unknown n.Filter ps) g) (second (exprs_have_unknown n.Test ts) (pairs_have_unknown n.Test ps) u),
+        )
+    expr_known (filter a x ts ps) f t =
+        let inner = has_unknown n.Filter a || (exprs_have_unknown n.Filter ts || pairs_have_unknown n.Filter ps) in
+        let inside = second (not (is_filter x)) inner f in
+        let g = second (has_unknown n.Filter a) (exprs_have_unknown n.Filter ts || pairs_have_unknown n.Filter ps) inside in
+        let u = second (has_unknown n.Test a) (exprs_have_unknown n.Test ts || pairs_have_unknown n.Test ps) t in (
+          filter_found x (first (not (is_filter x)) inner f),
+          expr_known a (first (has_unknown n.Filter a) (exprs_have_unknown n.Filter ts || pairs_have_unknown n.Filter ps) inside) (first (has_unknown n.Test a) (exprs_have_unknown n.Test ts || pairs_have_unknown n.Test ps) t),
+          row_known ts (first (exprs_have_unknown n.Filter ts) (pairs_have_unknown n.Filter ps) g) (first (exprs_have_unknown n.Test ts) (pairs_have_unknown n.Test ps) u),
+          pairs_known ps (second (exprs_have_unknown n.Filter ts) (pairs_have_unknown n.Filter ps) g) (second (exprs_have_unknown n.Test ts) (pairs_have_unknown n.Test ps) u),
+        )
+    expr_known (test a b x ts ps) f t =
+        let inner = has_unknown n.Test a || (exprs_have_unknown n.Test ts || pairs_have_unknown n.Test ps) in
+        let inside = second (not (is_test x)) inner t in
+        let g = second (has_unknown n.Filter a) (exprs_have_unknown n.Filter ts || pairs_have_unknown n.Filter ps) f in
+        let u = second (has_unknown n.Test a) (exprs_have_unknown n.Test ts || pairs_have_unknown n.Test ps) inside in (
+          test_found x (first (not (is_test x)) inner t),
+          expr_known a (first (has_unknown n.Filter a) (exprs_have_unknown n.Filter ts || pairs_have_unknown n.Filter ps) f) (first (has_unknown n.Test a) (exprs_have_unknown n.Test ts || pairs_have_unknown n.Test ps) inside),
+          row_known ts (first (exprs_have_unknown n.Filter ts) (pairs_have_unknown n.Filter ps) g) (first (exprs_have_unknown n.Test ts) (pairs_have_unknown n.Test ps) u),
+          pairs_known ps (second (exprs_have_unknown n.Filter ts) (pairs_have_unknown n.Filter ps) g) (second (exprs_have_unknown n.Test ts) (pairs_have_unknown n.Test ps) u),
+        )
+    expr_known (unary o a) f t = expr_known a f t
+    expr_known (binary o a b) f t = (
+      expr_known a (first (has_unknown n.Filter a) (has_unknown n.Filter b) f) (first (has_unknown n.Test a) (has_unknown n.Test b) t),
+      expr_known b (second (has_unknown n.Filter a) (has_unknown n.Filter b) f) (second (has_unknown n.Test a) (has_unknown n.Test b) t),
+    )
+    expr_known (when c a) f t = (
+      expr_known c (first (has_unknown n.Filter c) (has_unknown n.Filter a) f) (first (has_unknown n.Test c) (has_unknown n.Test a) t),
+      expr_known a (second (has_unknown n.Filter c) (has_unknown n.Filter a) f) (second (has_unknown n.Test c) (has_unknown n.Test a) t),
+    )
+    expr_known (choice c a b) f t =
+        let g = second (has_unknown n.Filter c) (has_unknown n.Filter a || has_unknown n.Filter b) f in
+        let u = second (has_unknown n.Test c) (has_unknown n.Test a || has_unknown n.Test b) t in (
+          expr_known c (first (has_unknown n.Filter c) (has_unknown n.Filter a || has_unknown n.Filter b) f) (first (has_unknown n.Test c) (has_unknown n.Test a || has_unknown n.Test b) t),
+          expr_known a (first (has_unknown n.Filter a) (has_unknown n.Filter b) g) (first (has_unknown n.Test a) (has_unknown n.Test b) u),
+          expr_known b (second (has_unknown n.Filter a) (has_unknown n.Filter b) g) (second (has_unknown n.Test a) (has_unknown n.Test b) u),
+        )
+
+    row_known : (ts : Exprs) → exprs_have_unknown n.Filter ts ≡ false → exprs_have_unknown n.Test ts ≡ false → RowKnown fs ts
+    row_known no_exprs f t = tt
+    row_known (expr a ts) f t = (
+      expr_known a (first (has_unknown n.Filter a) (exprs_have_unknown n.Filter ts) f) (first (has_unknown n.Test a) (exprs_have_unknown n.Test ts) t),
+      row_known ts (second (has_unknown n.Filter a) (exprs_have_unknown n.Filter ts) f) (second (has_unknown n.Test a) (exprs_have_unknown n.Test ts) t),
+    )
+
+    pairs_known : (ps : Pairs) → pairs_have_unknown n.Filter ps ≡ false → pairs_have_unknown n.Test ps ≡ false → PairsKnown fs ps
+    pairs_known no_pairs f t = tt
+    pairs_known (pair k a ps) f t = (
+      expr_known a (first (has_unknown n.Filter a) (pairs_have_unknown n.Filter ps) f) (first (has_unknown n.Test a) (pairs_have_unknown n.Test ps) t),
+      pairs_known ps (second (has_unknown n.Filter a) (pairs_have_unknown n.Filter ps) f) (second (has_unknown n.Test a) (pairs_have_unknown n.Test ps) t),
+    )
+
+  -- ---- tags
+
+  none_first : {A : Type 0} (a b : Option A) → option_or a b ≡ None → a ≡ None
+  none_first None b h = refl
+  none_first (Some x) b h = absurd cc
+
+  none_second : {A : Type 0} (a b : Option A) → option_or a b ≡ None → b ≡ None
+  none_second None b h = h
+  none_second (Some x) b h = absurd cc
+
+  not_blamed : (line : ℕ) (f t : Bool) → blamed line f t ≡ None → (f ≡ false) × (t ≡ false)
+  not_blamed line true t h = absurd cc
+  not_blamed line false true h = absurd cc
+  not_blamed line false false h = (refl, refl)
+
+  at_known : (line : ℕ) (e : Expr) → unknown_in line (λ u. has_unknown u e) ≡ None → ExprKnown fs e
+  at_known line e h = let b = not_blamed line (has_unknown n.Filter e) (has_unknown n.Test e) h in expr_known e b.0 b.1
+
+  condition_known : (c : Option Expr) → condition_unknown n.Filter c ≡ false → condition_unknown n.Test c ≡ false → ConditionKnown fs c
+  condition_known None f t = tt
+  condition_known (Some c) f t = expr_known c f t
+
+  filterings_known : (gs : List Filtering) → filterings_unknown n.Filter gs ≡ false → filterings_unknown n.Test gs ≡ false → FilteringKnown fs gs
+  filterings_known [] f t = tt
+  filterings_known (g ∷ gs) f t =
+      let here = first (filtering_unknown n.Filter g) (filterings_unknown n.Filter gs) f in
+      let inner = exprs_have_unknown n.Filter g.arguments || pairs_have_unknown n.Filter g.keywords in
+      let inside = second (not (is_filter g.name)) inner here in
+      let u = first (filtering_unknown n.Test g) (filterings_unknown n.Test gs) t in (
+        filter_found g.name (first (not (is_filter g.name)) inner here),
+        row_known g.arguments (first (exprs_have_unknown n.Filter g.arguments) (pairs_have_unknown n.Filter g.keywords) inside) (first (exprs_have_unknown n.Test g.arguments) (pairs_have_unknown n.Test g.keywords) u),
+        pairs_known g.keywords (second (exprs_have_unknown n.Filter g.arguments) (pairs_have_unknown n.Filter g.keywords) inside) (second (exprs_have_unknown n.Test g.arguments) (pairs_have_unknown n.Test g.keywords) u),
+        filterings_known gs (second (filtering_unknown n.Filter g) (filterings_unknown n.Filter gs) f) (second (filtering_unknown n.Test g) (filterings_unknown n.Test gs) t),
       )
-  expr_known (filter a x ts ps) f t = absurd cc
-  expr_known (test a b x ts ps) f t =
-      let inner = has_unknown n.Test a || (exprs_have_unknown n.Test ts || pairs_have_unknown n.Test ps) in
-      let inside = second (not (is_test x)) inner t in
-      let g = second (has_unknown n.Filter a) (exprs_have_unknown n.Filter ts || pairs_have_unknown n.Filter ps) f in
-      let u = second (has_unknown n.Test a) (exprs_have_unknown n.Test ts || pairs_have_unknown n.Test ps) inside in (
-        test_found x (first (not (is_test x)) inner t),
-        expr_known a (first (has_unknown n.Filter a) (exprs_have_unknown n.Filter ts || pairs_have_unknown n.Filter ps) f) (first (has_unknown n.Test a) (exprs_have_unknown n.Test ts || pairs_have_unknown n.Test ps) inside),
-        row_known ts (first (exprs_have_unknown n.Filter ts) (pairs_have_unknown n.Filter ps) g) (first (exprs_have_unknown n.Test ts) (pairs_have_unknown n.Test ps) u),
-        pairs_known ps (second (exprs_have_unknown n.Filter ts) (pairs_have_unknown n.Filter ps) g) (second (exprs_have_unknown n.Test ts) (pairs_have_unknown n.Test ps) u),
-      )
-  expr_known (unary o a) f t = expr_known a f t
-  expr_known (binary o a b) f t = (
-    expr_known a (first (has_unknown n.Filter a) (has_unknown n.Filter b) f) (first (has_unknown n.Test a) (has_unknown n.Test b) t),
-    expr_known b (second (has_unknown n.Filter a) (has_unknown n.Filter b) f) (second (has_unknown n.Test a) (has_unknown n.Test b) t),
-  )
-  expr_known (when c a) f t = (
-    expr_known c (first (has_unknown n.Filter c) (has_unknown n.Filter a) f) (first (has_unknown n.Test c) (has_unknown n.Test a) t),
-    expr_known a (second (has_unknown n.Filter c) (has_unknown n.Filter a) f) (second (has_unknown n.Test c) (has_unknown n.Test a) t),
-  )
-  expr_known (choice c a b) f t =
-      let g = second (has_unknown n.Filter c) (has_unknown n.Filter a || has_unknown n.Filter b) f in
-      let u = second (has_unknown n.Test c) (has_unknown n.Test a || has_unknown n.Test b) t in (
-        expr_known c (first (has_unknown n.Filter c) (has_unknown n.Filter a || has_unknown n.Filter b) f) (first (has_unknown n.Test c) (has_unknown n.Test a || has_unknown n.Test b) t),
-        expr_known a (first (has_unknown n.Filter a) (has_unknown n.Filter b) g) (first (has_unknown n.Test a) (has_unknown n.Test b) u),
-        expr_known b (second (has_unknown n.Filter a) (has_unknown n.Filter b) g) (second (has_unknown n.Test a) (has_unknown n.Test b) u),
-      )
 
-  row_known : (ts : Exprs) → exprs_have_unknown n.Filter ts ≡ false → exprs_have_unknown n.Test ts ≡ false → RowKnown ts
-  row_known no_exprs f t = tt
-  row_known (expr a ts) f t = (
-    expr_known a (first (has_unknown n.Filter a) (exprs_have_unknown n.Filter ts) f) (first (has_unknown n.Test a) (exprs_have_unknown n.Test ts) t),
-    row_known ts (second (has_unknown n.Filter a) (exprs_have_unknown n.Filter ts) f) (second (has_unknown n.Test a) (exprs_have_unknown n.Test ts) t),
-  )
+  mutual
+    stmt_known : (s : Stmt) → stmt_unknown s ≡ None → StmtKnown fs s
+    stmt_known (data_of t) h = tt
+    stmt_known (print line e) h = at_known line e h
+    stmt_known (choose bs other) h = (branches_known bs (none_first (branch_unknown bs) (body_unknown other) h), body_known other (none_second (branch_unknown bs) (body_unknown other) h))
+    stmt_known (for_each line xs e c body other) h =
+        let here = unknown_in line (λ u. has_unknown u e || condition_unknown u c) in
+        let b = not_blamed line (has_unknown n.Filter e || condition_unknown n.Filter c) (has_unknown n.Test e || condition_unknown n.Test c) (none_first here (option_or (body_unknown body) (body_unknown other)) h) in
+        let rest = none_second here (option_or (body_unknown body) (body_unknown other)) h in (
+          expr_known e (first (has_unknown n.Filter e) (condition_unknown n.Filter c) b.0) (first (has_unknown n.Test e) (condition_unknown n.Test c) b.1),
+          condition_known c (second (has_unknown n.Filter e) (condition_unknown n.Filter c) b.0) (second (has_unknown n.Test e) (condition_unknown n.Test c) b.1),
+          body_known body (none_first (body_unknown body) (body_unknown other) rest),
+          body_known other (none_second (body_unknown body) (body_unknown other) rest),
+        )
+    stmt_known (set line xs e) h = at_known line e h
+    stmt_known (set_block line x body) h = body_known body h
+    stmt_known (with_values line ps body) h =
+        let here = unknown_in line (λ u. pairs_have_unknown u ps) in
+        let b = not_blamed line (pairs_have_unknown n.Filter ps) (pairs_have_unknown n.Test ps) (none_first here (body_unknown body) h) in
+        (pairs_known ps b.0 b.1, body_known body (none_second here (body_unknown body) h))
+    stmt_known (filter_block line gs body) h =
+        let here = unknown_in line (λ u. filterings_unknown u gs) in
+        let b = not_blamed line (filterings_unknown n.Filter gs) (filterings_unknown n.Test gs) (none_first here (body_unknown body) h) in
+        (filterings_known gs b.0 b.1, body_known body (none_second here (body_unknown body) h))
+    stmt_known (autoescape line on body) h = body_known body h
+    stmt_known (macro line x ps body) h = body_known body h
+    stmt_known (include line m missing context) h = tt
+    stmt_known (extends line m) h = tt
+    stmt_known (block line x scoped required body) h = body_known body h
 
-  pairs_known : (ps : Pairs) → pairs_have_unknown n.Filter ps ≡ false → pairs_have_unknown n.Test ps ≡ false → PairsKnown ps
-  pairs_known no_pairs f t = tt
-  pairs_known (pair k a ps) f t = (
-    expr_known a (first (has_unknown n.Filter a) (pairs_have_unknown n.Filter ps) f) (first (has_unknown n.Test a) (pairs_have_unknown n.Test ps) t),
-    pairs_known ps (second (has_unknown n.Filter a) (pairs_have_unknown n.Filter ps) f) (second (has_unknown n.Test a) (pairs_have_unknown n.Test ps) t),
-  )
+    pub body_known : (b : Body) → body_unknown b ≡ None → BodyKnown fs b
+    body_known end h = tt
+    body_known (stmt s rest) h = (stmt_known s (none_first (stmt_unknown s) (body_unknown rest) h), body_known rest (none_second (stmt_unknown s) (body_unknown rest) h))
 
-at_known : (line : ℕ) (e : Expr) → unknown_at line e ≡ None → ExprKnown e
-at_known line e h = by (has_unknown n.Filter e) (has_unknown n.Test e) refl refl h
-  where
-    by : (f t : Bool) → has_unknown n.Filter e ≡ f → has_unknown n.Test e ≡ t → if◌then◌else◌ {A = Option (ℕ × Expr)} (f || t) (Some (line, e)) None ≡ None → ExprKnown e
-    by true t p q h = absurd cc
-    by false true p q h = absurd cc
-    by false false p q h = expr_known e p q
+    branches_known : (bs : Branches) → branch_unknown bs ≡ None → BranchesKnown fs bs
+    branches_known no_branches h = tt
+    branches_known (branch line c body rest) h =
+        let here = unknown_in line (λ u. has_unknown u c) in
+        let front = none_first (option_or here (body_unknown body)) (branch_unknown rest) h in
+        (at_known line c (none_first here (body_unknown body) front), body_known body (none_second here (body_unknown body) front), branches_known rest (none_second (option_or here (body_unknown body)) (branch_unknown rest) h))
 
-none_first : {A : Type 0} (a b : Option A) → option_or a b ≡ None → a ≡ None
-none_first None b h = refl
-none_first (Some x) b h = absurd cc
+  -- ---- chains
 
-none_second : {A : Type 0} (a b : Option A) → option_or a b ≡ None → b ≡ None
-none_second None b h = h
-none_second (Some x) b h = absurd cc
+  abbrev Fine : Option Body → Type 0
+  Fine None = Unit {0}
+  Fine (Some b) = BodyKnown fs b
 
-mutual
-  stmt_known : (s : Stmt) → stmt_unknown s ≡ None → StmtKnown s
-  stmt_known (data_of t) h = tt
-  stmt_known (print line e) h = at_known line e h
-  stmt_known (choose bs other) h = (branches_known bs (none_first (branch_unknown bs) (body_unknown other) h), body_known other (none_second (branch_unknown bs) (body_unknown other) h))
+  source_known : (ts : List Template) → AllByRecursion (λ t. body_unknown t.body ≡ None) ts → (m : Text) → Fine (sources_in ts m)
+  source_known [] a m = tt
+  source_known (t ∷ ts) a m = through (bytes_eq t.name m) (source_known ts a.1 m)
+    where
+      through : (b : Bool) → Fine (sources_in ts m) → Fine (if b then Some t.body else sources_in ts m)
+      through true g = body_known t.body a.0
+      through false g = g
 
-  pub body_known : (b : Body) → body_unknown b ≡ None → BodyKnown b
-  body_known end h = tt
-  body_known (stmt s rest) h = (stmt_known s (none_first (stmt_unknown s) (body_unknown rest) h), body_known rest (none_second (stmt_unknown s) (body_unknown rest) h))
+  both_known : (ts us : List Template) → TemplatesKnown fs ts → TemplatesKnown fs us → TemplatesKnown fs (ts ++ us)
+  both_known [] us h k = k
+  both_known (t ∷ ts) us h k = (h.0, both_known ts us h.1 k)
 
-  branches_known : (bs : Branches) → branch_unknown bs ≡ None → BranchesKnown bs
-  branches_known no_branches h = tt
-  branches_known (branch line c body rest) h =
-      let front = none_first (option_or (unknown_at line c) (body_unknown body)) (branch_unknown rest) h in
-      (at_known line c (none_first (unknown_at line c) (body_unknown body) front), body_known body (none_second (unknown_at line c) (body_unknown body) front), branches_known rest (none_second (option_or (unknown_at line c) (body_unknown body)) (branch_unknown rest) h))
+  named_known : (sources : Sources) → ((m : Text) → Fine (sources m)) → (ms : List Text) → TemplatesKnown fs (flat_map (λ m. template m (sources m)) ms)
+  named_known sources k [] = tt
+  named_known sources k (m ∷ ms) = both_known (template m (sources m)) (flat_map (λ l. template l (sources l)) ms) (by (sources m) (k m)) (named_known sources k ms)
+    where
+      by : (o : Option Body) → Fine o → TemplatesKnown fs (template m o)
+      by None h = tt
+      by (Some b) h = (h, tt)
 
--- the body of a template that breaks no rule
-pub lawful_takes : TemplateLaws → (template : Text) (escaping : Bool) (b : Body) → body_unknown b ≡ None → KeepsRules b → BodyTakes (resolved_body template escaping (ascending (body_names b)) b 0 slots.end)
-lawful_takes templates template escaping b known lawful = (templates.takes template escaping b lawful (body_known b known)).0
+pub chains_known : (world : World) → ((x : Text) → is_filter x ≡ true → IsThere (world.filters.named x)) → (ts : List Template) → ((m : Text) → world.sources m ≡ sources_in ts m) → AllByRecursion (λ t. body_unknown t.body ≡ None) ts → (hs : List Home) → ChainsKnown world hs
+chains_known world named ts same a [] = tt
+chains_known world named ts same a (h ∷ hs) =
+    (named_known world.filters named world.sources (λ m. subst (Fine world.filters named) (sym (same m)) (source_known world.filters named ts a m)) (names_up world.sources 16 (Some h)), chains_known world named ts same a hs)

@@ -1,205 +1,336 @@
--- What the tokens of a source give to the names of its tree: none is empty.
-use Rattle.std.proofs.Common.{◌≡◌, ℕ, ◌<◌, Bool, true, false, if◌then◌else◌, List, [], ◌∷◌, ◌++◌, length, codes, encode_utf8_all, Option, Some, None, refl, arith}
+-- No name that a tree reads or binds is empty, since none is that a source spells.
+use Rattle.std.proofs.Common.{◌≡◌, ℕ, ◌<◌, Bool, true, false, if◌then◌else◌, List, [], ◌∷◌, ◌++◌, length, map, codes, encode_utf8_all, Option, Some, None, refl, arith}
 use Rattle.std.specs.List.{AllByRecursion}
-use Rattle.std.specs.Str.{bytes_eq}
-use Rattle.std.specs.Ordering.{nat_cmp, is_lt}
-use Rattle.std.specs.Cmp.Lexicographic.{slice_cmp}
 use Rattle.std.proofs.lemmas.Str.{length-le-encodes}
+use Rattle.jt_scan.specs.declared.options.Options.{Options}
 use Rattle.jt_scan.specs.declared.segment.Kind.{Kind}
+use Rattle.jt_scan.specs.declared.segment.Kind.TheVariants as kind
+use Rattle.jt_scan.specs.declared.segment.Mark.{Mark}
+use Rattle.jt_scan.specs.declared.segment.Sign.{Sign}
 use Rattle.jt_scan.specs.declared.segment.Sign.TheVariants as s
 use Rattle.jt_scan.specs.Cut as cut
-use Rattle.jt_scan.specs.Cut.{Token, Segment, closer, second, sign_text, Spelled, a_name, a_number, a_text, a_sign, Inside, closed, space, token, IsSegment, some_data, a_tag, a_comment, Cuts, no_more, more, IsCut}
-use Rattle.jt_expr.specs.Trees.{Expr}
+use Rattle.jt_scan.specs.Cut.{Token, Segment, Inside, IsSegment, Cuts}
+use Rattle.jt_expr.specs.Trees.{Expr, Exprs, Pairs}
 use Rattle.jt_expr.specs.Grammar as g
-use Rattle.jt_expr.specs.Grammar.{Tokens, word, Level, operator_tokens, is_tokens, Row, Parts, no_parts, put, Spells, plain, an_if_else, chain, inverted, upright, compared, alone, postscripts, minus, plus, unsigned, postfixes, Goes, stay, operated, filtered, tested, attributed, indexed, called, Primary, a_constant, a_group, a_list, a_map, Arguments, without, within, TestArguments, as_filter, bare, Holds, last, IsPart, without_key, an_entry, by_name}
-use Rattle.jt_parse.specs.Trees.{Text, Body, Branches}
+use Rattle.jt_expr.specs.Grammar.{Tokens, word, Level, operator_tokens, is_tokens, Row, Parts, no_parts, put, Spells, Goes, Primary, Arguments, TestArguments, Holds, IsPart}
+use Rattle.jt_parse.specs.Kept as kept
+use Rattle.jt_parse.specs.Kept.{Side, Piece, with_text, with_segment, side_ahead, side_behind, pieces_from}
+use Rattle.jt_parse.specs.Trees.{Text, Parameter, Filtering, Stmt, Body, Branches}
+use Rattle.jt_parse.specs.Tags as tags
+use Rattle.jt_parse.specs.Tags.{Separated, IsName, IsValue, pairs_of, Values, IsFiltering, IsParameter, Parameters, Loop, Opening, a_text, values, filters, escaping, a_macro, a_block, Head, a_statement, an_if, a_loop, an_opening, made, looped, Condition, Says}
 use Rattle.jt_parse.specs.Grammar as grammar
-use Rattle.jt_parse.specs.Grammar.{block, Forms, nothing_more, a_print, an_if, GoesOn, no_else, an_else, an_elif}
-use Rattle.jt_scopes.specs.Resolve.{expr_names, row_names, pair_names, body_names, branch_names, inserted, all_inserted, ascending}
-use Rattle.jt_codegen.proofs.Small.{all_append}
+use Rattle.jt_parse.specs.Grammar.{block, Forms, GoesOn, Otherwise}
+use Rattle.jt_inherit.specs.Chain.{is_loop, Template}
+use Rattle.jt_inherit.specs.Chains.{Given, IsRead}
+use Rattle.jt_inherit.specs.Uses.{keywords, expr_names, row_names, pair_names, condition_names, filtering_names, stmt_names, body_names, branch_names}
+use Rattle.jt_codegen.proofs.Read.{all_append}
 
 all_front : {A : Type 0} (P : A → Type 0) (xs ys : List A) → AllByRecursion P (xs ++ ys) → AllByRecursion P xs
 all_front P [] ys h = tt
 all_front P (x ∷ xs) ys h = (h.0, all_front P xs ys h.1)
 
-all_weaker : {A : Type 0} (P Q : A → Type 0) (xs : List A) → ((x : A) → P x → Q x) → AllByRecursion P xs → AllByRecursion Q xs
-all_weaker P Q [] f h = tt
-all_weaker P Q (x ∷ xs) f h = (f x h.0, all_weaker P Q xs f h.1)
-
 all_back : {A : Type 0} (P : A → Type 0) (xs ys : List A) → AllByRecursion P (xs ++ ys) → AllByRecursion P ys
 all_back P [] ys h = h
 all_back P (x ∷ xs) ys h = all_back P xs ys h.1
 
--- what holds of each name holds of each that is put in order
-module _ (P : Text → Type 0) where
-  inserted_all : (x : Text) (ns : List Text) → P x → AllByRecursion P ns → AllByRecursion P (inserted x ns)
-  inserted_all x [] p h = (p, tt)
-  inserted_all x (y ∷ ys) p h = through (bytes_eq y x) (is_lt (slice_cmp nat_cmp x y)) (inserted_all x ys p h.1)
-    where
-      through : (b c : Bool) → AllByRecursion P (inserted x ys) → AllByRecursion P (if b then y ∷ ys else if c then x ∷ y ∷ ys else y ∷ inserted x ys)
-      through true c g = h
-      through false true g = (p, h)
-      through false false g = (h.0, g)
+-- ---- tokens and pieces
 
-  all_inserted_all : (xs ns : List Text) → AllByRecursion P xs → AllByRecursion P ns → AllByRecursion P (all_inserted xs ns)
-  all_inserted_all [] ns h g = g
-  all_inserted_all (x ∷ xs) ns h g = all_inserted_all xs (inserted x ns) h.1 (inserted_all x ns h.0 g)
+abbrev IsWord : Token → Type 0
+IsWord (cut.name x) = 0 < length x
+IsWord (cut.number n) = Unit {0}
+IsWord (cut.text v) = Unit {0}
+IsWord (cut.sign k) = Unit {0}
 
--- ---- what each part of a source has, each name has
+abbrev AreWords : Tokens → Type 0
+AreWords = AllByRecursion IsWord
 
-module _ (P : List ℕ → Type 0) (front : (x y : List ℕ) → P (x ++ y) → P x) (back : (x y : List ℕ) → P (x ++ y) → P y) where
-  -- a name is not empty
-  abbrev IsWord : Token → Type 0
-  IsWord (cut.name x) = (0 < length x) × P x
-  IsWord (cut.number n) = Unit {0}
-  IsWord (cut.text v) = Unit {0}
-  IsWord (cut.sign k) = Unit {0}
+abbrev HasWords : Segment → Type 0
+HasWords (cut.data_of d) = Unit {0}
+HasWords (cut.tag k ms n ts) = AreWords ts
+HasWords (cut.comment ms x) = Unit {0}
+HasWords (cut.raw ms d ends) = Unit {0}
 
-  abbrev AreWords : Tokens → Type 0
-  AreWords = AllByRecursion IsWord
+abbrev IsPiece : Piece → Type 0
+IsPiece (kept.text x) = Unit {0}
+IsPiece (kept.tag k n ts) = AreWords ts
 
-  abbrev HasWords : Segment → Type 0
-  HasWords (cut.data_of d) = Unit {0}
-  HasWords (cut.tag k n ts) = AreWords ts
-  HasWords (cut.comment x) = Unit {0}
+abbrev ArePieces : List Piece → Type 0
+ArePieces = AllByRecursion IsPiece
 
-  token_word : {t : Token} {s rest : Text} → Spelled t s rest → P s → IsWord t
-  token_word (a_name i a w) h = (omega arith, h)
-  token_word (a_number m le) h = tt
-  token_word (a_text i e m) h = tt
-  token_word (a_sign e) h = tt
+token_word : {t : Token} {x rest : List ℕ} → cut.Spelled t x rest → IsWord t
+token_word (cut.a_name i a w) = omega arith
+token_word (cut.a_number m le) = tt
+token_word (cut.a_text i e m) = tt
+token_word (cut.a_sign e) = tt
 
-  inside_words : {k : Kind} {depth : ℕ} {ts : List Token} {x rest : Text} → Inside k depth ts x rest → P x → AreWords ts × P rest
-  inside_words {k} {rest} closed h = (tt, back (closer k ∷ 125 ∷ []) rest h)
-  inside_words (space {c} {x} i j) h = inside_words j (back (c ∷ []) x h)
-  inside_words (token {s} {x} c t i) h =
-      let rest = inside_words i (back s x h) in
-      ((token_word t (front s x h), rest.0), rest.1)
+inside_words : {k : Kind} {depth : ℕ} {ts : List Token} {mark : Mark} {x rest : List ℕ} → Inside k depth ts mark x rest → AreWords ts
+inside_words (cut.closed e) = tt
+inside_words (cut.space i j) = inside_words j
+inside_words (cut.token c t i) = (token_word t, inside_words i)
 
-  segment_words : {n : ℕ} {s : Segment} {x rest : Text} → IsSegment n s x rest → P x → HasWords s × P rest
-  segment_words (some_data {c} {d} {rest} n e) h = (tt, back (c ∷ d) rest h)
-  segment_words (a_tag {k} {x} i) h = inside_words i (back (123 ∷ second k ∷ []) x h)
-  segment_words (a_comment {x} {rest} n) h = (tt, back (35 ∷ 125 ∷ []) rest (back x (35 ∷ 125 ∷ rest) (back (123 ∷ 35 ∷ []) (x ++ (35 ∷ 125 ∷ rest)) h)))
+segment_words : {n : ℕ} {s : Segment} {x rest : List ℕ} → IsSegment n s x rest → HasWords s
+segment_words (cut.some_data n e) = tt
+segment_words (cut.a_tag i e) = inside_words i
+segment_words (cut.a_comment n) = tt
+segment_words (cut.a_raw y i e n f) = tt
 
-  cut_words : {source : Text} {Ends : Text → Type 0} {ss : List Segment} {x : Text} → Cuts source Ends ss x → P x → AllByRecursion HasWords ss
-  cut_words (no_more e) h = tt
-  cut_words (more p c) h = let s = segment_words p h in (s.0, cut_words c s.1)
+cut_words : {source : List ℕ} {Ends : List ℕ → Type 0} {ss : List Segment} {x : List ℕ} → Cuts source Ends ss x → AllByRecursion HasWords ss
+cut_words (cut.no_more e) = tt
+cut_words (cut.more p c) = (segment_words p, cut_words c)
 
-  -- the text is spelled by such characters, and not empty
-  abbrev IsNamed : Text → Type 0
-  IsNamed t = (0 < length t) × ((x : List ℕ) × P x × (encode_utf8_all x ≡ t))
+text_pieces : (x : List ℕ) (ps : List Piece) → ArePieces ps → ArePieces (with_text x ps)
+text_pieces [] ps h = h
+text_pieces (c ∷ x) ps h = (tt, h)
 
-  abbrev AreNamed : List Text → Type 0
-  AreNamed = AllByRecursion IsNamed
+segment_pieces : (o : Options) (left right : Side) (s : Segment) (ps : List Piece) → HasWords s → ArePieces ps → ArePieces (with_segment o left right s ps)
+segment_pieces o left right (cut.data_of d) ps w h = text_pieces (kept.kept o left right d) ps h
+segment_pieces o left right (cut.tag k ms n ts) ps w h = (w, h)
+segment_pieces o left right (cut.comment ms x) ps w h = h
+segment_pieces o left right (cut.raw ms d ends) ps w h = text_pieces (kept.kept o (kept.block_side ms.closing) (kept.block_side ends.opening) d) ps h
 
-  -- of a row's parts
-  abbrev AreParts : Parts → Type 0
-  AreParts p = AreNamed (row_names p.0) × AreNamed (pair_names p.1)
+pieces_words : (o : Options) (left : Side) (ss : List Segment) → AllByRecursion HasWords ss → ArePieces (pieces_from left (map (λ s. (o, s)) ss))
+pieces_words o left [] h = tt
+pieces_words o left (s ∷ ss) h =
+    segment_pieces o left (side_ahead (map (λ s. (o, s)) ss)) s (pieces_from (side_behind s) (map (λ s. (o, s)) ss)) h.0 (pieces_words o (side_behind s) ss h.1)
 
-  abbrev both_named : (xs ys : List Text) → AreNamed xs → AreNamed ys → AreNamed (xs ++ ys)
-  both_named xs ys h g = all_append IsNamed xs ys h g
+-- ---- expressions
 
-  put_named : (k : Option Text) (t : Expr) (p : Parts) → AreNamed (expr_names t) → AreParts p → AreParts (put k t p)
-  put_named None t p h q = (both_named (expr_names t) (row_names p.0) h q.0, q.1)
-  put_named (Some k) t p h q = (q.0, both_named (expr_names t) (pair_names p.1) h q.1)
+abbrev AreNamed : List Text → Type 0
+AreNamed = AllByRecursion (λ x. 0 < length x)
 
-  mutual
-    spells_named : {k : Level} {t : Expr} {x : Tokens} → Spells k t x → AreWords x → AreNamed (expr_names t)
-    spells_named (plain d) h = spells_named d h
-    spells_named (g.an_if {c = c} {a = a} {x = x} {y = y} d e) h =
-        both_named (expr_names c) (expr_names a) (spells_named e (all_back IsWord x (word (codes "if") ∷ y) h).1) (spells_named d (all_front IsWord x (word (codes "if") ∷ y) h))
-    spells_named (an_if_else {c = c} {a = a} {b = b} {x = x} {y = y} {z = z} d e f) h =
-        let later = (all_back IsWord x (word (codes "if") ∷ (y ++ (word (codes "else") ∷ z))) h).1 in
-        both_named (expr_names c) (expr_names a ++ expr_names b) (spells_named e (all_front IsWord y (word (codes "else") ∷ z) later))
-        (both_named (expr_names a) (expr_names b) (spells_named d (all_front IsWord x (word (codes "if") ∷ (y ++ (word (codes "else") ∷ z))) h)) (spells_named f (all_back IsWord y (word (codes "else") ∷ z) later).1))
-    spells_named (chain {x = x} {y = y} e d i) h = goes_named i (all_back IsWord x y h) (spells_named d (all_front IsWord x y h))
-    spells_named (inverted d) h = spells_named d h.1
-    spells_named (upright d) h = spells_named d h
-    spells_named (compared {op = op} {a = a} {b = b} {x = x} {y = y} e d f) h =
-        both_named (expr_names a) (expr_names b) (spells_named d (all_front IsWord x (operator_tokens op ++ y) h)) (spells_named f (all_back IsWord (operator_tokens op) y (all_back IsWord x (operator_tokens op ++ y) h)))
-    spells_named (alone d) h = spells_named d h
-    spells_named (postscripts {x = x} {y = y} d i) h = goes_named i (all_back IsWord x y h) (spells_named d (all_front IsWord x y h))
-    spells_named (minus d) h = spells_named d h.1
-    spells_named (plus d) h = spells_named d h.1
-    spells_named (unsigned d) h = spells_named d h
-    spells_named (postfixes {x = x} {y = y} d i) h = goes_named i (all_back IsWord x y h) (primary_named d (all_front IsWord x y h))
+abbrev both_named : (xs ys : List Text) → AreNamed xs → AreNamed ys → AreNamed (xs ++ ys)
+both_named = all_append (λ x. 0 < length x)
 
-    goes_named : {k : Level} {a t : Expr} {y : Tokens} → Goes k a t y → AreWords y → AreNamed (expr_names a) → AreNamed (expr_names t)
-    goes_named stay h n = n
-    goes_named (operated {op = op} {a = a} {b = b} {x = x} {y = y} c l d i) h n =
-        let later = all_back IsWord (operator_tokens op) (x ++ y) h in
-        goes_named i (all_back IsWord x y later) (both_named (expr_names a) (expr_names b) n (spells_named d (all_front IsWord x y later)))
-    goes_named (filtered {a = a} {ts = ts} {ps = ps} {x = x} {y = y} r d i) h n =
-        let parts = arguments_named d (all_front IsWord x y h.1.1) in
-        goes_named i (all_back IsWord x y h.1.1) (both_named (expr_names a) (row_names ts ++ pair_names ps) n (both_named (row_names ts) (pair_names ps) parts.0 parts.1))
-    goes_named (tested {a = a} {b = b} {ts = ts} {ps = ps} {x = x} {y = y} w r d i) h n =
-        let later = (all_back IsWord (is_tokens b) (cut.name w ∷ (x ++ y)) h).1 in
-        let parts = test_arguments_named d (all_front IsWord x y later) in
-        goes_named i (all_back IsWord x y later) (both_named (expr_names a) (row_names ts ++ pair_names ps) n (both_named (row_names ts) (pair_names ps) parts.0 parts.1))
-    goes_named (attributed i) h n = goes_named i h.1.1 n
-    goes_named (indexed {a = a} {i = e} {x = x} {y = y} d i) h n =
-        goes_named i (all_back IsWord x (cut.sign s.RightBracket ∷ y) h.1).1 (both_named (expr_names a) (expr_names e) n (spells_named d (all_front IsWord x (cut.sign s.RightBracket ∷ y) h.1)))
-    goes_named (called {ts = ts} {ps = ps} {x = x} {y = y} d i) h n =
-        let parts = holds_named d (all_front IsWord x y h.1) in
-        goes_named i (all_back IsWord x y h.1) (both_named (row_names ts) (pair_names ps) parts.0 parts.1)
+-- a name in UTF-8 is no shorter than its characters
+encoded : (x : List ℕ) → 0 < length x → 0 < length (encode_utf8_all x)
+encoded x h = omega (arith, h, length-le-encodes x)
 
-    primary_named : {t : Expr} {x : Tokens} → Primary t x → AreWords x → AreNamed (expr_names t)
-    primary_named g.a_number h = tt
-    primary_named g.a_text h = tt
-    primary_named (a_constant e) h = tt
-    primary_named (g.a_name {x = x} r) h = ((omega (arith, h.0.0, length-le-encodes x), (x, h.0.1, refl)), tt)
-    primary_named (a_group {x = x} d) h = spells_named d (all_front IsWord x (cut.sign s.RightParen ∷ []) h.1)
-    primary_named (a_list d) h = (holds_named d h.1).0
-    primary_named (a_map d) h = (holds_named d h.1).1
+-- of a row's parts
+abbrev AreParts : Parts → Type 0
+AreParts p = AreNamed (row_names p.0) × AreNamed (pair_names p.1)
 
-    arguments_named : {p : Parts} {x : Tokens} → Arguments p x → AreWords x → AreParts p
-    arguments_named without h = (tt, tt)
-    arguments_named (within d) h = holds_named d h.1
+put_named : (k : Option Text) (t : Expr) (p : Parts) → AreNamed (expr_names t) → AreParts p → AreParts (put k t p)
+put_named None t p h q = (both_named (expr_names t) (row_names p.0) h q.0, q.1)
+put_named (Some k) t p h q = (q.0, both_named (expr_names t) (pair_names p.1) h q.1)
 
-    test_arguments_named : {p : Parts} {x : Tokens} → TestArguments p x → AreWords x → AreParts p
-    test_arguments_named (as_filter d) h = arguments_named d h
-    test_arguments_named (bare {t = t} b d) h = (both_named (expr_names t) [] (spells_named d h) tt, tt)
+looped_named : (a : Expr) → AreNamed (expr_names a) → AreNamed (if is_loop a then [] else expr_names a)
+looped_named a h = through (is_loop a)
+  where
+    through : (b : Bool) → AreNamed (if b then [] else expr_names a)
+    through true = tt
+    through false = h
 
-    holds_named : {r : Row} {p : Parts} {x : Tokens} → Holds r p x → AreWords x → AreParts p
-    holds_named g.closed h = (tt, tt)
-    holds_named (last {r = r} {k = k} {t = t} {x = x} d) h = put_named k t no_parts (part_named d (all_front IsWord x (cut.sign (g.closer r) ∷ []) h)) (tt, tt)
-    holds_named (g.more {k = k} {t = t} {p = p} {x = x} {y = y} d i) h =
-        put_named k t p (part_named d (all_front IsWord x (cut.sign s.Comma ∷ y) h)) (holds_named i (all_back IsWord x (cut.sign s.Comma ∷ y) h).1)
+mutual
+  spells_named : {k : Level} {t : Expr} {x : Tokens} → Spells k t x → AreWords x → AreNamed (expr_names t)
+  spells_named (g.plain d) h = spells_named d h
+  spells_named (g.an_if {c = c} {a = a} {x = x} {y = y} d e) h =
+      both_named (expr_names c) (expr_names a) (spells_named e (all_back IsWord x (word (codes "if") ∷ y) h).1) (spells_named d (all_front IsWord x (word (codes "if") ∷ y) h))
+  spells_named (g.an_if_else {c = c} {a = a} {b = b} {x = x} {y = y} {z = z} d e f) h =
+      let later = (all_back IsWord x (word (codes "if") ∷ (y ++ (word (codes "else") ∷ z))) h).1 in
+      both_named (expr_names c) (expr_names a ++ expr_names b) (spells_named e (all_front IsWord y (word (codes "else") ∷ z) later))
+      (both_named (expr_names a) (expr_names b) (spells_named d (all_front IsWord x (word (codes "if") ∷ (y ++ (word (codes "else") ∷ z))) h)) (spells_named f (all_back IsWord y (word (codes "else") ∷ z) later).1))
+  spells_named (g.chain {x = x} {y = y} e d i) h = goes_named i (all_back IsWord x y h) (spells_named d (all_front IsWord x y h))
+  spells_named (g.inverted d) h = spells_named d h.1
+  spells_named (g.upright d) h = spells_named d h
+  spells_named (g.compared {op = op} {a = a} {b = b} {x = x} {y = y} e d f) h =
+      both_named (expr_names a) (expr_names b) (spells_named d (all_front IsWord x (operator_tokens op ++ y) h)) (spells_named f (all_back IsWord (operator_tokens op) y (all_back IsWord x (operator_tokens op ++ y) h)))
+  spells_named (g.alone d) h = spells_named d h
+  spells_named (g.postscripts {x = x} {y = y} d i) h = goes_named i (all_back IsWord x y h) (spells_named d (all_front IsWord x y h))
+  spells_named (g.minus d) h = spells_named d h.1
+  spells_named (g.plus d) h = spells_named d h.1
+  spells_named (g.unsigned d) h = spells_named d h
+  spells_named (g.postfixes {x = x} {y = y} d i) h = goes_named i (all_back IsWord x y h) (primary_named d (all_front IsWord x y h))
 
-    part_named : {r : Row} {k : Option Text} {t : Expr} {x : Tokens} → IsPart r k t x → AreWords x → AreNamed (expr_names t)
-    part_named (without_key p d) h = spells_named d h
-    part_named (an_entry d) h = spells_named d h.1.1
-    part_named (by_name p r d) h = spells_named d h.1.1
+  goes_named : {k : Level} {a t : Expr} {y : Tokens} → Goes k a t y → AreWords y → AreNamed (expr_names a) → AreNamed (expr_names t)
+  goes_named g.stay h n = n
+  goes_named (g.operated {op = op} {a = a} {b = b} {x = x} {y = y} c l d i) h n =
+      let later = all_back IsWord (operator_tokens op) (x ++ y) h in
+      goes_named i (all_back IsWord x y later) (both_named (expr_names a) (expr_names b) n (spells_named d (all_front IsWord x y later)))
+  goes_named (g.filtered {a = a} {ts = ts} {ps = ps} {x = x} {y = y} r d i) h n =
+      let parts = arguments_named d (all_front IsWord x y h.1.1) in
+      goes_named i (all_back IsWord x y h.1.1) (both_named (expr_names a) (row_names ts ++ pair_names ps) n (both_named (row_names ts) (pair_names ps) parts.0 parts.1))
+  goes_named (g.tested {a = a} {b = b} {ts = ts} {ps = ps} {x = x} {y = y} w r d i) h n =
+      let later = (all_back IsWord (is_tokens b) (cut.name w ∷ (x ++ y)) h).1 in
+      let parts = test_arguments_named d (all_front IsWord x y later) in
+      goes_named i (all_back IsWord x y later) (both_named (expr_names a) (row_names ts ++ pair_names ps) n (both_named (row_names ts) (pair_names ps) parts.0 parts.1))
+  goes_named (g.attributed {a = a} i) h n = goes_named i h.1.1 (looped_named a n)
+  goes_named (g.indexed {a = a} {i = e} {x = x} {y = y} d i) h n =
+      goes_named i (all_back IsWord x (cut.sign s.RightBracket ∷ y) h.1).1 (both_named (expr_names a) (expr_names e) n (spells_named d (all_front IsWord x (cut.sign s.RightBracket ∷ y) h.1)))
+  goes_named (g.called {ts = ts} {ps = ps} {x = x} {y = y} d i) h n =
+      let parts = holds_named d (all_front IsWord x y h.1) in
+      goes_named i (all_back IsWord x y h.1) (both_named (row_names ts) (pair_names ps) parts.0 parts.1)
 
-  mutual
-    forms_named : {b : Body} {ss : List Segment} → Forms b ss → AllByRecursion HasWords ss → AreNamed (body_names b)
-    forms_named nothing_more h = tt
-    forms_named (grammar.a_comment f) h = forms_named f h.1
-    forms_named (grammar.some_data f) h = forms_named f h.1
-    forms_named (a_print {body} {e} d f) h = both_named (expr_names e) (body_names body) (spells_named d h.0) (forms_named f h.1)
-    forms_named (an_if {body} {inside} {other} {bs} {c} {xs} {ys} {ss} n d i j f) h =
-        let tag : Segment = block n (word (codes "endif") ∷ []) in
-        let behind = all_back HasWords xs (ys ++ (tag ∷ ss)) h.1 in
-        let first = forms_named i (all_front HasWords xs (ys ++ (tag ∷ ss)) h.1) in
-        let goes = goes_on_named j (all_front HasWords ys (tag ∷ ss) behind) in
-        let rest = forms_named f (all_back HasWords ys (tag ∷ ss) behind).1 in
-        let branches = both_named (expr_names c) (body_names inside ++ branch_names bs) (spells_named d h.0.1) (both_named (body_names inside) (branch_names bs) first goes.0) in
-        both_named ((expr_names c ++ (body_names inside ++ branch_names bs)) ++ body_names other) (body_names body) (both_named (expr_names c ++ (body_names inside ++ branch_names bs)) (body_names other) branches goes.1) rest
+  primary_named : {t : Expr} {x : Tokens} → Primary t x → AreWords x → AreNamed (expr_names t)
+  primary_named g.a_number h = tt
+  primary_named g.a_text h = tt
+  primary_named (g.a_constant e) h = tt
+  primary_named (g.a_name {x = x} r) h = (encoded x h.0, tt)
+  primary_named (g.a_group {x = x} d) h = spells_named d (all_front IsWord x (cut.sign s.RightParen ∷ []) h.1)
+  primary_named (g.a_list d) h = (holds_named d h.1).0
+  primary_named (g.a_map d) h = (holds_named d h.1).1
 
-    goes_on_named : {bs : Branches} {other : Body} {ys : List Segment} → GoesOn bs other ys → AllByRecursion HasWords ys → AreNamed (branch_names bs) × AreNamed (body_names other)
-    goes_on_named no_else h = (tt, tt)
-    goes_on_named (an_else f) h = (tt, forms_named f h.1)
-    goes_on_named (an_elif {inside} {bs} {c} {xs} {ys} d i j) h =
-        let goes = goes_on_named j (all_back HasWords xs ys h.1) in
-        let first = forms_named i (all_front HasWords xs ys h.1) in
-        (both_named (expr_names c) (body_names inside ++ branch_names bs) (spells_named d h.0.1) (both_named (body_names inside) (branch_names bs) first goes.0), goes.1)
+  arguments_named : {p : Parts} {x : Tokens} → Arguments p x → AreWords x → AreParts p
+  arguments_named g.without h = (tt, tt)
+  arguments_named (g.within d) h = holds_named d h.1
 
-  source_named : (b : Body) (ss : List Segment) (x : Text) → IsCut ss x → P x → Forms b ss → AreNamed (ascending (body_names b))
-  source_named b ss x is_cut p forms = all_inserted_all IsNamed (body_names b) [] (forms_named forms (cut_words is_cut p)) tt
+  test_arguments_named : {p : Parts} {x : Tokens} → TestArguments p x → AreWords x → AreParts p
+  test_arguments_named (g.as_filter d) h = arguments_named d h
+  test_arguments_named (g.bare {t = t} b d) h = (both_named (expr_names t) [] (spells_named d h) tt, tt)
 
--- ---- no name is empty
+  holds_named : {r : Row} {p : Parts} {x : Tokens} → Holds r p x → AreWords x → AreParts p
+  holds_named g.closed h = (tt, tt)
+  holds_named (g.last {r = r} {k = k} {t = t} {x = x} d) h = put_named k t no_parts (part_named d (all_front IsWord x (cut.sign (g.closer r) ∷ []) h)) (tt, tt)
+  holds_named (g.more {k = k} {t = t} {p = p} {x = x} {y = y} d i) h =
+      put_named k t p (part_named d (all_front IsWord x (cut.sign s.Comma ∷ y) h)) (holds_named i (all_back IsWord x (cut.sign s.Comma ∷ y) h).1)
 
-pub names_some : (b : Body) (ss : List Segment) (x : Text) → IsCut ss x → Forms b ss → AllByRecursion (λ y. 0 < length y) (ascending (body_names b))
-names_some b ss x is_cut forms =
-    let any : List ℕ → Type 0 = λ y. Unit {0} in
-    all_weaker (IsNamed any (λ y z h. tt) (λ y z h. tt)) (λ y. 0 < length y) (ascending (body_names b)) (λ y h. h.0) (source_named any (λ y z h. tt) (λ y z h. tt) b ss x is_cut tt forms)
+  part_named : {r : Row} {k : Option Text} {t : Expr} {x : Tokens} → IsPart r k t x → AreWords x → AreNamed (expr_names t)
+  part_named (g.without_key p d) h = spells_named d h
+  part_named (g.an_entry d) h = spells_named d h.1.1
+  part_named (g.by_name p r d) h = spells_named d h.1.1
+
+-- ---- tags
+
+targets_named : {k : Sign} {xs : List Text} {ts : Tokens} → Separated IsName k xs ts → AreWords ts → AreNamed xs
+targets_named (tags.only d) h = (named d h, tt)
+  where
+    named : {x : Text} {ts : Tokens} → IsName x ts → AreWords ts → 0 < length x
+    named (tags.a_name {x = x} r) h = encoded x h.0
+targets_named (tags.also {x = x} {y = y} d e) h = (named d (all_front IsWord x _ h), targets_named e (all_back IsWord x _ h).1)
+  where
+    named : {x : Text} {ts : Tokens} → IsName x ts → AreWords ts → 0 < length x
+    named (tags.a_name {x = x} r) h = encoded x h.0
+
+abbrev OneNamed : Text × Expr → Type 0
+OneNamed v = (0 < length v.0) × AreNamed (expr_names v.1)
+
+value_named : {v : Text × Expr} {ts : Tokens} → IsValue v ts → AreWords ts → OneNamed v
+value_named (tags.a_value {x = x} r d) h = (encoded x h.0, spells_named d h.1.1)
+
+abbrev PairsNamed : Pairs → Type 0
+PairsNamed ps = AreNamed (pair_names ps) × AreNamed (keywords ps)
+
+pairs_named : (v : Text × Expr) (ps : Pairs) → OneNamed v → PairsNamed ps → AreNamed (expr_names v.1 ++ pair_names ps) × AreNamed (v.0 ∷ keywords ps)
+pairs_named v ps h q = (both_named (expr_names v.1) (pair_names ps) h.1 q.0, (h.0, q.1))
+
+separated_values : {k : Sign} {vs : List (Text × Expr)} {ts : Tokens} → Separated IsValue k vs ts → AreWords ts → PairsNamed (pairs_of vs)
+separated_values (tags.only {a = v} d) h = pairs_named v (pairs_of []) (value_named d h) (tt, tt)
+separated_values (tags.also {a = v} {bs = vs} {x = x} {y = y} d e) h = pairs_named v (pairs_of vs) (value_named d (all_front IsWord x _ h)) (separated_values e (all_back IsWord x _ h).1)
+
+values_named : {ps : Pairs} {ts : Tokens} → Values ps ts → AreWords ts → PairsNamed ps
+values_named tags.no_values h = (tt, tt)
+values_named (tags.some_values d) h = separated_values d h
+
+filter_named : {f : Filtering} {ts : Tokens} → IsFiltering f ts → AreWords ts → AreParts (f.arguments, f.keywords)
+filter_named (tags.a_filter r d) h = arguments_named d h.1
+
+filters_named : {k : Sign} {fs : List Filtering} {ts : Tokens} → Separated IsFiltering k fs ts → AreWords ts → AreNamed (filtering_names fs)
+filters_named (tags.only {a = f} d) h =
+    let parts = filter_named d h in
+    both_named (row_names f.arguments) (pair_names f.keywords ++ []) parts.0 (both_named (pair_names f.keywords) [] parts.1 tt)
+filters_named (tags.also {a = f} {bs = fs} {x = x} {y = y} d e) h =
+    let parts = filter_named d (all_front IsWord x _ h) in
+    both_named (row_names f.arguments) (pair_names f.keywords ++ filtering_names fs) parts.0 (both_named (pair_names f.keywords) (filtering_names fs) parts.1 (filters_named e (all_back IsWord x _ h).1))
+
+parameter_named : {p : Parameter} {ts : Tokens} → IsParameter p ts → AreWords ts → 0 < length p.name
+parameter_named (tags.plain {x = x} r) h = encoded x h.0
+parameter_named (tags.with_default {x = x} r l) h = encoded x h.0
+
+separated_parameters : {k : Sign} {ps : List Parameter} {ts : Tokens} → Separated IsParameter k ps ts → AreWords ts → AreNamed (map (λ p. p.name) ps)
+separated_parameters (tags.only d) h = (parameter_named d h, tt)
+separated_parameters (tags.also {x = x} {y = y} d e) h = (parameter_named d (all_front IsWord x _ h), separated_parameters e (all_back IsWord x _ h).1)
+
+parameters_named : {ps : List Parameter} {ts : Tokens} → Parameters ps ts → AreWords ts → AreNamed (map (λ p. p.name) ps)
+parameters_named tags.no_parameters h = tt
+parameters_named (tags.some_parameters {x = x} d l) h = separated_parameters d (all_front IsWord x (cut.sign s.RightParen ∷ []) h)
+
+condition_named : {c : Option Expr} {ts : Tokens} → Condition c ts → AreWords ts → AreNamed (condition_names c)
+condition_named tags.no_condition h = tt
+condition_named (tags.a_condition d) h = spells_named d h.1
+
+abbrev OpeningNamed : Opening → Type 0
+OpeningNamed (a_text x) = 0 < length x
+OpeningNamed (values ps) = PairsNamed ps
+OpeningNamed (filters fs) = AreNamed (filtering_names fs)
+OpeningNamed (escaping on) = Unit {0}
+OpeningNamed (a_macro x ps) = AreNamed (map (λ p. p.name) ps)
+OpeningNamed (a_block x scoped required) = Unit {0}
+
+abbrev HeadNamed : Head → Type 0
+HeadNamed (a_statement s) = AreNamed (stmt_names s)
+HeadNamed (an_if c) = AreNamed (expr_names c)
+HeadNamed (a_loop l) = AreNamed (expr_names l.over) × AreNamed l.targets × AreNamed (condition_names l.condition)
+HeadNamed (an_opening o) = OpeningNamed o
+
+says_named : {line : ℕ} {o : Head} {ts : Tokens} → Says line o ts → AreWords ts → HeadNamed o
+says_named (tags.says_if d) h = spells_named d h.1
+says_named (tags.says_for {x = x} {y = y} {z = z} d e f) h =
+    let later = (all_back IsWord x (word (codes "in") ∷ (y ++ z)) h.1).1 in
+    (spells_named e (all_front IsWord y z later), targets_named d (all_front IsWord x (word (codes "in") ∷ (y ++ z)) h.1), condition_named f (all_back IsWord y z later))
+says_named (tags.says_set {ts = ts} {e = t} {x = x} {y = y} d e) h =
+    both_named (expr_names t) ts (spells_named e (all_back IsWord x (cut.sign s.Assign ∷ y) h.1).1) (targets_named d (all_front IsWord x (cut.sign s.Assign ∷ y) h.1))
+says_named (tags.says_text {x = x} r) h = encoded x h.1.0
+says_named (tags.says_with d) h = values_named d h.1
+says_named (tags.says_filter d) h = filters_named d h.1
+says_named (tags.says_autoescape on) h = tt
+says_named (tags.says_macro r d) h = parameters_named d h.1.1.1
+says_named (tags.says_include missing c) h = tt
+says_named tags.says_extends h = tt
+says_named (tags.says_block scoped required r) h = tt
+
+made_named : (line : ℕ) (o : Opening) (b : Body) → OpeningNamed o → AreNamed (body_names b) → AreNamed (stmt_names (made line o b))
+made_named line (a_text x) b h k = (h, k)
+made_named line (values ps) b h k = both_named (pair_names ps) (keywords ps ++ body_names b) h.0 (both_named (keywords ps) (body_names b) h.1 k)
+made_named line (filters fs) b h k = both_named (body_names b) (filtering_names fs) k h
+made_named line (escaping on) b h k = k
+made_named line (a_macro x ps) b h k = both_named (map (λ p. p.name) ps) (body_names b) h k
+made_named line (a_block x scoped required) b h k = k
+
+-- ---- statements
+
+mutual
+  forms_named : {b : Body} {ps : List Piece} → Forms b ps → ArePieces ps → AreNamed (body_names b)
+  forms_named grammar.nothing_more h = tt
+  forms_named (grammar.some_data f) h = forms_named f h.1
+  forms_named (grammar.a_print {body = body} {e = e} d f) h = both_named (expr_names e) (body_names body) (spells_named d h.0) (forms_named f h.1)
+  forms_named (grammar.one_tag {body = body} {s = x} d f) h = both_named (stmt_names x) (body_names body) (says_named d h.0) (forms_named f h.1)
+  forms_named (grammar.an_if_statement {body = body} {inside = inside} {other = other} {bs = bs} {c = c} {xs = xs} {ys = ys} {ps = ps} n d i j f) h =
+      let tag : Piece = block n (word (codes "endif") ∷ []) in
+      let behind = all_back IsPiece xs (ys ++ (tag ∷ ps)) h.1 in
+      let first = forms_named i (all_front IsPiece xs (ys ++ (tag ∷ ps)) h.1) in
+      let goes = goes_on_named j (all_front IsPiece ys (tag ∷ ps) behind) in
+      let rest = forms_named f (all_back IsPiece ys (tag ∷ ps) behind).1 in
+      let branches = both_named (expr_names c) (body_names inside ++ branch_names bs) (says_named d h.0) (both_named (body_names inside) (branch_names bs) first goes.0) in
+      both_named ((expr_names c ++ (body_names inside ++ branch_names bs)) ++ body_names other) (body_names body) (both_named (expr_names c ++ (body_names inside ++ branch_names bs)) (body_names other) branches goes.1) rest
+  forms_named (grammar.a_for_statement {body = body} {inside = inside} {other = other} {line = line} {l = l} {xs = xs} {ys = ys} {ps = ps} n d i j f) h =
+      let tag : Piece = block n (word (codes "endfor") ∷ []) in
+      let behind = all_back IsPiece xs (ys ++ (tag ∷ ps)) h.1 in
+      let first = forms_named i (all_front IsPiece xs (ys ++ (tag ∷ ps)) h.1) in
+      let goes = otherwise_named j (all_front IsPiece ys (tag ∷ ps) behind) in
+      let rest = forms_named f (all_back IsPiece ys (tag ∷ ps) behind).1 in
+      let head = says_named d h.0 in
+      both_named (stmt_names (looped line l inside other)) (body_names body)
+      (both_named (expr_names l.over) (l.targets ++ (condition_names l.condition ++ (body_names inside ++ body_names other))) head.0
+      (both_named l.targets (condition_names l.condition ++ (body_names inside ++ body_names other)) head.1
+      (both_named (condition_names l.condition) (body_names inside ++ body_names other) head.2 (both_named (body_names inside) (body_names other) first goes)))) rest
+  forms_named (grammar.enclosed {body = body} {inside = inside} {line = line} {o = o} {us = us} {xs = xs} {ps = ps} n d i e f) h =
+      let tag : Piece = block n us in
+      let first = forms_named i (all_front IsPiece xs (tag ∷ ps) h.1) in
+      let rest = forms_named f (all_back IsPiece xs (tag ∷ ps) h.1).1 in
+      both_named (stmt_names (made line o inside)) (body_names body) (made_named line o inside (says_named d h.0) first) rest
+
+  goes_on_named : {bs : Branches} {other : Body} {ys : List Piece} → GoesOn bs other ys → ArePieces ys → AreNamed (branch_names bs) × AreNamed (body_names other)
+  goes_on_named (grammar.no_elif o) h = (tt, otherwise_named o h)
+  goes_on_named (grammar.an_elif {inside = inside} {bs = bs} {c = c} {xs = xs} {ys = ys} d i j) h =
+      let goes = goes_on_named j (all_back IsPiece xs ys h.1) in
+      let first = forms_named i (all_front IsPiece xs ys h.1) in
+      (both_named (expr_names c) (body_names inside ++ branch_names bs) (spells_named d h.0.1) (both_named (body_names inside) (branch_names bs) first goes.0), goes.1)
+
+  otherwise_named : {other : Body} {ys : List Piece} → Otherwise other ys → ArePieces ys → AreNamed (body_names other)
+  otherwise_named grammar.no_else h = tt
+  otherwise_named (grammar.an_else f) h = forms_named f h.1
+
+-- ---- templates that were read
+
+pub read_named : (given : Given) (options : Options) (ts : List Template) → AllByRecursion (IsRead given options) ts → AllByRecursion (λ t. AreNamed (body_names t.body)) ts
+read_named given options [] h = tt
+read_named given options (t ∷ ts) h = (forms_named h.0.tree.spelled.0 (pieces_words options kept.nothing h.0.tree.segments (cut_words h.0.tree.cut)), read_named given options ts h.1)

@@ -1,14 +1,35 @@
 -- What it is for a code to be that of an entry in a library.
+use Rattle.std.specs.Prelude.{◌≡◌, ℕ, Option, List, ◌∷◌}
+use Rattle.jt_value.specs.Pairs.{Pairs}
+use Rattle.jt_value.specs.declared.fault.Fault.{Fault}
 use Rattle.jt_scan.specs.declared.options.Options.{Options}
 use Rattle.jt_image.specs.Code.{Code}
-use Rattle.jt_inherit.specs.Chains.{Text, Sources, IsChain}
+use Rattle.jt_image.specs.Typed.{IsTyped}
+use Rattle.jt_image.specs.Config as config
+use Rattle.jt_image.specs.Config.{Budget}
+use Rattle.jt_image.specs.Run.{Run}
+use Rattle.jt_image.specs.Enough.{Enough}
+use Rattle.jt_slots.specs.Got.{Place, gives, fails}
+use Rattle.jt_parse.specs.Trees.{Text}
+use Rattle.jt_inherit.specs.Chain.{Home}
+use Rattle.jt_inherit.specs.Chains.{Given, IsChain}
 use Rattle.jt_inherit.specs.View.{Seen}
-use Rattle.jt_scopes.specs.Rules.{KeepsRules}
-use Rattle.jt_codegen.specs.Compiles.{CompilesTo}
+use Rattle.jt_rules.specs.Rules.{KeepsRules}
+use Rattle.jt_rules.specs.World.{World, world_of}
+use Rattle.jt_meaning.specs.Meaning.{mean}
 
--- the entry has a chain that breaks no rule, and the code is that of its template
-pub record IsCompiled (sources : Sources) (entry : Text) (options : Options) (k : Code) : Type 0 where
+-- A text or a fault that the code ends with, for a context under a budget, is what the entry means, where calls go at most so many deep;
+-- and what the entry means, some budget is enough for.
+pub record DoesChain (world : World) (entry : Home) (k : Code) : Type 0 where
+  pub texts : (x : Pairs) (b : Budget) (t : Text) → Run k x b (config.text t) → (n : ℕ) × (mean world entry x n ≡ gives t)
+  pub faults : (x : Pairs) (b : Budget) (f : Fault) → Run k x b (config.fault f) → (n : ℕ) × (q : Option Place) × (mean world entry x n ≡ fails f q)
+  pub enough_text : (x : Pairs) (n : ℕ) (t : Text) → mean world entry x n ≡ gives t → Enough k x (config.text t)
+  pub enough_fault : (x : Pairs) (n : ℕ) (f : Fault) (q : Option Place) → mean world entry x n ≡ fails f q → Enough k x (config.fault f)
+
+-- the entry has a chain that breaks no rule, and the code is typed and does what the chain means
+pub record IsCompiled (given : Given) (entry : Text) (options : Options) (k : Code) : Type 0 where
   pub chain : Seen
-  pub is : IsChain sources entry options chain
-  pub lawful : KeepsRules chain.body
-  pub code : CompilesTo chain.name chain.escaping chain.body k
+  pub is : IsChain given entry options chain
+  pub lawful : KeepsRules (world_of chain) chain.order
+  pub typed : IsTyped k
+  pub does : DoesChain (world_of chain) entry k

@@ -1,8 +1,5 @@
-pub mod Asm
-pub mod Lower
-pub mod Emission
-pub mod Fits
-pub mod Compiles
+pub mod Statements
+pub mod Units
+pub mod Compiled
 pub mod Limits
 pub mod Refusals
-pub mod Compiled

@@ -1,19 +1,19 @@
 -- What a refusal to compile says of a library and an entry.
 use Rattle.std.specs.Prelude.{◌≢◌}
 use Rattle.jt_scan.specs.declared.options.Options.{Options}
-use Rattle.jt_image.specs.declared.error.ImageError.{ImageError}
-use Rattle.jt_image.specs.declared.error.ImageError.TheVariants as image_error
-use Rattle.jt_inherit.specs.Chains.{Text, Sources, IsChain}
+use Rattle.jt_parse.specs.Trees.{Text}
+use Rattle.jt_inherit.specs.Chains.{Given, IsChain}
 use Rattle.jt_inherit.specs.View.{Seen}
 use Rattle.jt_inherit.specs.Refusals as inherit
 use Rattle.jt_inherit.specs.declared.error.ChainError.{ChainError}
 use Rattle.jt_inherit.specs.declared.error.ChainError.TheVariants as chain_error
-use Rattle.jt_scopes.specs.Slots.{Program}
-use Rattle.jt_scopes.specs.Resolve.{program}
-use Rattle.jt_scopes.specs.Rules as scopes
-use Rattle.jt_scopes.specs.Rules.{KeepsRules}
-use Rattle.jt_scopes.specs.declared.error.ScopeError.{ScopeError}
-use Rattle.jt_scopes.specs.declared.error.ScopeError.TheVariants as scope_error
+use Rattle.jt_slots.specs.Slots.{Program}
+use Rattle.jt_rules.specs.Rules as rules
+use Rattle.jt_rules.specs.Rules.{KeepsRules}
+use Rattle.jt_rules.specs.World.{world_of}
+use Rattle.jt_rules.specs.declared.error.ScopeError.{ScopeError}
+use Rattle.jt_rules.specs.declared.error.ScopeError.TheVariants as scope_error
+use Rattle.jt_meaning.specs.Programs.{program}
 use Rattle.jt_codegen.specs.Limits.{IsTooLong, NeedsTooMany}
 use Rattle.jt_codegen.specs.declared.emission.EmitError.{EmitError}
 use Rattle.jt_codegen.specs.declared.emission.EmitError.TheVariants as emit_error
@@ -34,31 +34,26 @@ abbrev pub of_emit : EmitError → CompileError
 of_emit emit_error.CodeTooLong = error.CodeTooLong
 of_emit emit_error.NoMemory = error.NoMemory
 
--- parts that are no image pass a limit
-abbrev pub of_image : ImageError → CompileError
-of_image image_error.NoMemory = error.NoMemory
-of_image e = error.CodeTooLong
-
 -- ---- when they hold
 
-module _ (sources : Sources) (entry : Text) (options : Options) where
-  -- the rule of names that is named is broken by the chain
+module _ (given : Given) (entry : Text) (options : Options) where
+  -- the rule of names and calls that is named is broken by the entry's chain, or one that its includes reach
   pub record BreaksRule (e : ScopeError) : Type 0 where
     pub chain : Seen
-    pub is : IsChain sources entry options chain
+    pub is : IsChain given entry options chain
     pub fault : e ≢ scope_error.NoMemory
-    pub broken : scopes.Breaks e chain.body
+    pub broken : rules.Breaks e (world_of chain) chain.order
 
-  -- there is a chain that breaks no rule, and the fact holds of what its template is resolved to
+  -- there is a chain that breaks no rule, and the fact holds of the program that it is resolved to
   pub record HasProgram (Fact : Program → Type 0) : Type 0 where
     pub chain : Seen
-    pub is : IsChain sources entry options chain
-    pub lawful : KeepsRules chain.body
-    pub fact : Fact (program chain.name chain.escaping chain.body)
+    pub is : IsChain given entry options chain
+    pub lawful : KeepsRules (world_of chain) chain.order
+    pub fact : Fact (program (world_of chain) chain.order entry)
 
   -- the refusal holds; want of memory is no claim
   abbrev pub Breaks : CompileError → Type 0
-  Breaks (error.Chain e) = (e ≢ chain_error.NoMemory) × inherit.Breaks e sources entry options
+  Breaks (error.Chain e) = (e ≢ chain_error.NoMemory) × inherit.Breaks e given entry options
   Breaks (error.Scope e) = BreaksRule e
   Breaks error.CodeTooLong = HasProgram IsTooLong
   Breaks error.NoMemory = Unit {0}

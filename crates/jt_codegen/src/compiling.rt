@@ -5,24 +5,26 @@ ghost use Rattle.jt_inherit.specs.Small.{IsSmall};
 ghost use Rattle.jt_codegen.specs.Compiled.{IsCompiled};
 ghost use Rattle.jt_codegen.specs.Refusals.{Breaks, NamesLimit};
 
+use crate::entries::fits_entries;
 use crate::error::CompileError;
-use crate::height::fits_entries;
-use crate::tables::parts_of;
-use jt_image::{Image, assemble, code_laws};
+use crate::image::image_of;
+use jt_image::{Image, code_laws};
 use jt_inherit::{Library, chain};
+use jt_lower::low_laws;
+use jt_meaning::program_laws;
+use jt_resolve::resolve;
 use jt_scan::Options;
-use jt_scopes::{resolve, template_laws};
 use std::alloc::Global;
 
 /// How many entries a unit may need.
 const MAX_ENTRIES: usize = 1_024;
 
-/// The image of the entry, of which the library has the source.
+/// The image of the entry, which stands in the library with all templates that it reaches.
 ///
 /// # Errors
 ///
 /// What the chain, the names or the calls break; `CodeTooLong` where the image would pass a limit;
-/// `StackTooDeep` where its unit would need more than 1,024 entries; `NoMemory` where a growth was
+/// `StackTooDeep` where a unit of it would need more than 1,024 entries; `NoMemory` where a growth was
 /// refused.
 pub fn compile<L: Library>(
     alloc: Global,
@@ -30,7 +32,7 @@ pub fn compile<L: Library>(
     library: &L,
     options: Options,
 ) -> Result<Image, CompileError>
-    // typed code, with the meaning of the entry's template, which breaks no rule
+    // typed code, with the meaning of the entry's chain, which breaks no rule
     ensures compiled { IfOk result (λ image. IsCompiled (L.sources library.now) entry.now options image) }
     // the refusal holds
     ensures refused { IfErr result (λ e. Breaks (L.sources library.now) entry.now options e) }
@@ -38,15 +40,13 @@ pub fn compile<L: Library>(
     ensures small { IfErr result (λ e. NamesLimit e → ¬ (IsSmall (L.sources library.now) entry.now options)) }
 {
     code_laws();
-    template_laws();
+    low_laws();
+    program_laws();
     let chain = chain(alloc, entry, library, options)?;
-    let resolved = resolve(alloc, &chain)?;
-    if !fits_entries(resolved.body(), MAX_ENTRIES) {
+    let program = resolve(alloc, &chain)?;
+    if !fits_entries(&program.routines, MAX_ENTRIES) {
         return Err(CompileError::StackTooDeep);
     }
-    let parts = parts_of(alloc, &resolved)?;
-    match assemble(alloc, parts) {
-        Ok(image) => Ok(image),
-        Err((_, refusal)) => Err(CompileError::from(refusal)),
-    }
+    let image = image_of(alloc, &program)?;
+    Ok(image)
 }

@@ -1,9 +1,8 @@
 //! Why no image is made.
 
 use crate::emission::EmitError;
-use jt_image::ImageError;
 use jt_inherit::ChainError;
-use jt_scopes::ScopeError;
+use jt_rules::ScopeError;
 use thiserror::Error;
 
 /// Why no image is made.
@@ -12,7 +11,7 @@ pub enum CompileError {
     /// A template is missing, breaks a rule of chains, has no cut or spells no tree.
     #[error("{0}")]
     Chain(ChainError),
-    /// A rule of names is broken.
+    /// A rule of names and calls is broken.
     #[error("{0}")]
     Scope(ScopeError),
     /// The image would pass a limit.
@@ -64,20 +63,6 @@ impl From<EmitError> for CompileError {
         match refusal {
             EmitError::NoMemory => CompileError::NoMemory,
             EmitError::CodeTooLong => CompileError::CodeTooLong,
-        }
-    }
-}
-
-impl From<ImageError> for CompileError {
-    ghost use Rattle.std.specs.Prelude.{◌≡◌};
-    ghost use Rattle.jt_codegen.specs.Refusals.{of_image};
-
-    ghost from_gives = { λ refusal e. e ≡ of_image refusal };
-
-    fn from(refusal: ImageError) -> CompileError {
-        match refusal {
-            ImageError::NoMemory => CompileError::NoMemory,
-            _ => CompileError::CodeTooLong,
         }
     }
 }

@@ -3,9 +3,11 @@
 
 mod compiling;
 mod emission;
+mod entries;
 mod error;
-mod height;
+mod image;
 mod tables;
+mod targets;
 
 pub use compiling::compile;
 pub use error::CompileError;

@@ -1,59 +1,75 @@
 //! The parts of an image: the tables of names and constants, and the code.
 
-ghost use Rattle.std.specs.Prelude.{◌≡◌, Some, length, map, IfOk, IfErr};
+ghost use Rattle.std.specs.Prelude.{◌≡◌, ◌≤◌, List, length, map, string_bytes, Some, IfOk, IfErr};
 ghost use Rattle.jt_value.specs.View.{view};
-ghost use Rattle.jt_image.specs.Parts.{code_of_parts};
+ghost use Rattle.jt_image.specs.Parts.{each_of, section_of_unit, code_of_parts};
 ghost use Rattle.jt_image.specs.View.{names_view, constant_view, constants_view};
-ghost use Rattle.jt_scopes.specs.View.{program_of};
-ghost use Rattle.jt_codegen.specs.Lower.{constant_of, numbered, compiled};
-ghost use Rattle.jt_codegen.specs.Emission.{RefusesCode};
+ghost use Rattle.jt_parse.specs.Trees.{Text};
+ghost use Rattle.jt_slots.specs.View.{routine_view, program_of};
+ghost use Rattle.jt_lower.specs.Lower.{constant_of, numbered, unit_of, compiled};
+ghost use Rattle.jt_codegen.specs.Units.{RefusesUnits, RefusesCode};
 ghost use Rattle.jt_codegen.specs.declared.emission.EmitError.TheVariants.{NoMemory};
 
 use crate::emission::{EmitError, emit_unit};
-use jt_image::{Constant, Parts};
-use jt_scopes::Resolved;
+use jt_image::{Constant, Parts, Unit};
+use jt_slots::{Program, Routine};
 use jt_value::Value;
 use std::alloc::Global;
 
-/// How many names and how many constants an image may have.
+/// How many names an image may have.
 const MAX_COUNT: usize = 65_535;
 
-/// The parts of the image of a resolved template.
-pub(crate) fn parts_of(alloc: Global, resolved: &Resolved) -> Result<Parts, EmitError>
-    ensures emitted { IfOk result (λ p. code_of_parts p ≡ Some (compiled (program_of resolved.now))) }
-    ensures refused { IfErr result (λ e. RefusesCode e (compiled (program_of resolved.now))) }
+/// The parts of the image of a program.
+///
+/// # Errors
+///
+/// `CodeTooLong` where an image has no place for them, `NoMemory` where a growth was refused.
+pub(crate) fn parts_of(alloc: Global, program: &Program) -> Result<Parts, EmitError>
+    ensures emitted { IfOk result (λ p. code_of_parts p ≡ Some (compiled (program_of program.now))) }
+    ensures refused { IfErr result (λ e. RefusesCode e (compiled (program_of program.now))) }
 {
-    let pool = resolved.pool();
-    if resolved.slots() > MAX_COUNT || pool.len() > MAX_COUNT {
+    let Ok(globals) = u16::try_from(program.globals) else {
+        return Err(EmitError::CodeTooLong);
+    };
+    if program.names.len() > MAX_COUNT {
         return Err(EmitError::CodeTooLong);
     }
-    let globals = resolved.slots() as u16;
-    let unit = emit_unit(alloc, resolved.body())?;
-    let mut units = Vec::new(alloc);
-    units.push(unit)?;
+    let units = units_of(alloc, &program.routines)?;
     Ok(Parts {
         globals,
-        names: names_of(alloc, resolved, globals)?,
-        constants: constants_of(alloc, pool)?,
+        names: names_of(alloc, &program.names)?,
+        constants: constants_of(alloc, &program.pool)?,
         units,
     })
 }
 
-/// The names of a resolved template, each with its slot.
-fn names_of(alloc: Global, resolved: &Resolved, slots: u16) -> Result<Vec<(u16, String)>, EmitError>
-    requires { slots ≡ length (program_of resolved.now).names }
-    ensures named { IfOk result (λ ns. names_view ns.items ≡ numbered 0 (program_of resolved.now).names) }
+/// The units of routines.
+fn units_of(alloc: Global, routines: &[Routine]) -> Result<Vec<Unit>, EmitError>
+    ensures emitted { IfOk result (λ us. (templates : List Text) → each_of section_of_unit us.items ≡ Some (map unit_of (map (routine_view templates) routines.now))) }
+    ensures refused { IfErr result (λ e. (templates : List Text) → RefusesUnits e (map unit_of (map (routine_view templates) routines.now))) }
+{
+    let mut units = Vec::with_capacity(alloc, routines.len())?;
+    for routine in routines {
+        let unit = emit_unit(alloc, routine)?;
+        units.push(unit)?;
+    }
+    Ok(units)
+}
+
+/// Names with their slots, from the first one on.
+fn names_of(alloc: Global, names: &[String]) -> Result<Vec<(u16, String)>, EmitError>
+    requires { length names.now ≤ 65535 }
+    ensures named { IfOk result (λ ns. names_view ns.items ≡ numbered 0 (map string_bytes names.now)) }
     ensures refused { IfErr result (λ e. e ≡ NoMemory) }
 {
-    let mut names = Vec::with_capacity(alloc, usize::from(slots))?;
-    for slot in 0..slots {
-        let Some(name) = resolved.name(usize::from(slot)) else {
-            unreachable!()
-        };
+    let mut numbered = Vec::with_capacity(alloc, names.len())?;
+    let mut slot: u16 = 0;
+    for name in names {
         let copy = String::from_str(alloc, name)?;
-        names.push((slot, copy))?;
+        numbered.push((slot, copy))?;
+        slot += 1;
     }
-    Ok(names)
+    Ok(numbered)
 }
 
 /// The values of a pool as constants.

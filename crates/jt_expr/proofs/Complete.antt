@@ -145,7 +145,7 @@ operator_at o.FloorDivide ts = refl
 operator_at o.Remainder ts = refl
 operator_at o.Power ts = refl
 
-if_stops : (ts : Tokens) → Stops disjunction (word (codes "if") ∷ ts)
+pub if_stops : (ts : Tokens) → Stops disjunction (word (codes "if") ∷ ts)
 unfolding operator
 if_stops ts = (refl, (refl, (refl, (refl, (refl, (refl, (refl, (refl, refl, refl, (refl, refl, refl)))))))))
 
@@ -153,7 +153,7 @@ else_stops : (ts : Tokens) → Stops disjunction (word (codes "else") ∷ ts)
 unfolding operator
 else_stops ts = (refl, (refl, (refl, (refl, (refl, (refl, (refl, (refl, refl, refl, (refl, refl, refl)))))))))
 
-comma_stops : (ts : Tokens) → Stops whole (cut.sign s.Comma ∷ ts)
+pub comma_stops : (ts : Tokens) → Stops whole (cut.sign s.Comma ∷ ts)
 unfolding operator
 comma_stops ts = (refl, refl, (refl, (refl, (refl, (refl, (refl, (refl, (refl, (refl, refl, refl, (refl, refl, refl))))))))))
 
@@ -301,7 +301,7 @@ PartAt w k t x = (n : ℕ) (rest : Tokens) → Stops whole rest → sees s.Assig
 abbrev RowAt : Row → Parts → Tokens → Type 0
 RowAt w p x = (n turns : ℕ) (rest : Tokens) → length x ≤ turns → r.row (read n) (suc n) turns w (x ++ rest) ≡ cap (parts_levels p) n p rest
 
-abbrev ArgumentsAt : Parts → Tokens → Type 0
+abbrev pub ArgumentsAt : Parts → Tokens → Type 0
 ArgumentsAt p x = (n : ℕ) (rest : Tokens) → sees s.LeftParen rest ≡ false → r.arguments_at (read n) (suc n) (x ++ rest) ≡ cap (parts_levels p) n p rest
 
 -- what may stand behind a test's or a filter's name without its arguments
@@ -827,3 +827,7 @@ mutual
 -- what the tokens spell is read where its levels are allowed, and else refused as too deep
 pub spelled_is_read : {k : Level} {t : Expr} {x : Tokens} → Spells k t x → (n : ℕ) (rest : Tokens) → Stops k rest → read n k (x ++ rest) ≡ cap (levels t) n t rest
 spelled_is_read {k} {t} {x} d = inside k t x (spells_at d)
+
+-- so are arguments behind which no parenthesis opens
+pub arguments_are_read : {p : Parts} {x : Tokens} → Arguments p x → ArgumentsAt p x
+arguments_are_read d = arguments_at d

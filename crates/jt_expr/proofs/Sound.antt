@@ -165,7 +165,7 @@ FoundPart w n q ts rest = (x : Tokens) × (ts ≡ x ++ rest) × IsPart w q.0 q.1
 abbrev FoundRow : Row → ℕ → Parts → Tokens → Tokens → Type 0
 FoundRow w n p ts rest = (x : Tokens) × (ts ≡ x ++ rest) × Holds w p x × (parts_levels p ≤ n)
 
-abbrev FoundArguments : ℕ → Parts → Tokens → Tokens → Type 0
+abbrev pub FoundArguments : ℕ → Parts → Tokens → Tokens → Type 0
 FoundArguments n p ts rest = (x : Tokens) × (ts ≡ x ++ rest) × Arguments p x × (parts_levels p ≤ n)
 
 abbrev FoundTestArguments : ℕ → Parts → Tokens → Tokens → Type 0
@@ -709,3 +709,6 @@ pub read_is_spelled : (n : ℕ) (k : Level) (t : Expr) (ts rest : Tokens) → re
 unfolding read
 read_is_spelled zero k t ts rest e = cc
 read_is_spelled (suc n) k t ts rest e = at_sound (read n) n (read_is_spelled n) k t ts rest e
+
+pub arguments_are_spelled : (n : ℕ) (p : Parts) (ts rest : Tokens) → r.arguments_at (read n) (suc n) ts ≡ Ok (p, rest) → FoundArguments n p ts rest
+arguments_are_spelled n p ts rest e = arguments_sound (read n) n (read_is_spelled n) p ts rest e

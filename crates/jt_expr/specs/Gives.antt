@@ -20,7 +20,7 @@ use Rattle.jt_expr.specs.declared.tree.Expr.{Expr as Tree}
 use Rattle.jt_expr.specs.Trees.{Text, Expr, levels}
 use Rattle.jt_expr.specs.View.{expr_view, exprs_view, pairs_view}
 use Rattle.jt_expr.specs.Grammar as grammar
-use Rattle.jt_expr.specs.Grammar.{Tokens, Level, whole, inversion, signed, postfix}
+use Rattle.jt_expr.specs.Grammar.{Tokens, Level, whole, disjunction, inversion, signed, postfix}
 use Rattle.jt_expr.specs.Reading.{Outcome, Fault, syntax, deep, read}
 use Rattle.jt_expr.specs.Elements as elements
 use Rattle.jt_expr.specs.Cursor.{ahead, Refuses}
@@ -62,6 +62,7 @@ GivesKey found ts (Err x) new = ⊥
 
 abbrev pub level_of_form : Form → Level
 level_of_form f.Whole = whole
+level_of_form f.Disjunction = disjunction
 level_of_form f.Inversion = inversion
 level_of_form f.Signed = signed
 level_of_form f.Postfix = postfix

@@ -4,6 +4,7 @@ use Rattle.std.specs.List.{list_any}
 use Rattle.jt_ops.specs.declared.test_id.TestId.{TestId}
 use Rattle.jt_ops.specs.declared.test_id.TestId.TheVariants as test_of
 use Rattle.jt_ops.specs.TestTable.{test_names}
+use Rattle.jt_filters.specs.FilterTable.{filters, filter_names}
 use Rattle.jt_expr.specs.declared.named.Named.{Named}
 use Rattle.jt_expr.specs.declared.named.Named.TheVariants as n
 use Rattle.jt_expr.specs.declared.error.ExprError.{ExprError}
@@ -19,9 +20,12 @@ all_tests =
 unfoldable pub is_test : Text → Bool
 is_test x = list_any (λ t. list_any (bytes_eq x) (test_names t)) all_tests
 
--- no filter has a meaning
+-- a filter has the name
+unfoldable pub is_filter : Text → Bool
+is_filter x = list_any (λ f. list_any (bytes_eq x) (filter_names f)) filters
+
 abbrev pub unknown_filter : Named → Text → Bool
-unknown_filter n.Filter x = true
+unknown_filter n.Filter x = not (is_filter x)
 unknown_filter n.Test x = false
 
 abbrev pub unknown_test : Named → Text → Bool

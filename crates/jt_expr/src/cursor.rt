@@ -26,7 +26,7 @@ impl<'a> Cursor<'a> {
     }
 
     /// Whether the sign stands in front.
-    pub fn sees(&self, sign: Sign) -> bool
+    pub(crate) fn sees(&self, sign: Sign) -> bool
         ensures { result ≡ reading.sees sign (ahead self.now) }
     {
         match self.rest {
@@ -36,7 +36,7 @@ impl<'a> Cursor<'a> {
     }
 
     /// Whether the word stands in front.
-    pub fn says(&self, word: &str) -> bool
+    pub(crate) fn says(&self, word: &str) -> bool
         requires { IsTrue (is_plain word.now) }
         ensures { result ≡ reading.says word.now (ahead self.now) }
     {
@@ -47,7 +47,7 @@ impl<'a> Cursor<'a> {
     }
 
     /// Whether a test's argument without parentheses stands in front.
-    pub fn begins_argument(&self) -> bool
+    pub(crate) fn begins_argument(&self) -> bool
         ensures { result ≡ grammar.begins_argument (ahead self.now) }
     {
         match self.rest {
@@ -110,7 +110,7 @@ impl<'a> Cursor<'a> {
 
     /// Takes any word.
     #[tactic(auto, unfolding(crate::specs::Reading::word_at))]
-    pub fn word(&mut self) -> Result<&'a str, ExprError>
+    pub(crate) fn word(&mut self) -> Result<&'a str, ExprError>
         ensures { GivesWord (reading.word_at (ahead self.old)) result (ahead self.new) }
     {
         match self.take() {
@@ -133,7 +133,7 @@ impl<'a> Cursor<'a> {
 
     /// Takes a name and the `=` behind it.
     #[tactic(auto, unfolding(crate::specs::Reading::keyword))]
-    pub fn keyword(&mut self) -> Option<&'a str>
+    pub(crate) fn keyword(&mut self) -> Option<&'a str>
         ensures { TakesName (reading.keyword (ahead self.old)) (ahead self.old) result (ahead self.new) }
     {
         match self.rest {
@@ -147,7 +147,7 @@ impl<'a> Cursor<'a> {
 
     /// Takes a text and the colon behind it.
     #[tactic(auto, unfolding(crate::specs::Reading::entry_key))]
-    pub fn entry_key(&mut self) -> Option<&'a str>
+    pub(crate) fn entry_key(&mut self) -> Option<&'a str>
         ensures { TakesText (reading.entry_key (ahead self.old)) (ahead self.old) result (ahead self.new) }
     {
         match self.rest {
@@ -161,7 +161,7 @@ impl<'a> Cursor<'a> {
 
     /// `or`
     #[tactic(auto, unfolding(crate::specs::Reading::operator))]
-    pub fn or_operator(&mut self) -> Option<BinaryOperator>
+    pub(crate) fn or_operator(&mut self) -> Option<BinaryOperator>
         ensures { Operates (reading.operator grammar.disjunction (ahead self.old)) (ahead self.old) result (ahead self.new) }
     {
         if self.eat_word("or") {
@@ -173,7 +173,7 @@ impl<'a> Cursor<'a> {
 
     /// `and`
     #[tactic(auto, unfolding(crate::specs::Reading::operator))]
-    pub fn and_operator(&mut self) -> Option<BinaryOperator>
+    pub(crate) fn and_operator(&mut self) -> Option<BinaryOperator>
         ensures { Operates (reading.operator grammar.conjunction (ahead self.old)) (ahead self.old) result (ahead self.new) }
     {
         if self.eat_word("and") {
@@ -185,7 +185,7 @@ impl<'a> Cursor<'a> {
 
     /// `==` and its like, `in` and `not in`
     #[tactic(auto, unfolding(crate::specs::Reading::operator))]
-    pub fn comparison(&mut self) -> Option<BinaryOperator>
+    pub(crate) fn comparison(&mut self) -> Option<BinaryOperator>
         ensures { Operates (reading.operator grammar.comparison (ahead self.old)) (ahead self.old) result (ahead self.new) }
     {
         if self.eat(Sign::Equal) {
@@ -223,7 +223,7 @@ impl<'a> Cursor<'a> {
 
     /// `+` and `-`
     #[tactic(auto, unfolding(crate::specs::Reading::operator))]
-    pub fn sum_operator(&mut self) -> Option<BinaryOperator>
+    pub(crate) fn sum_operator(&mut self) -> Option<BinaryOperator>
         ensures { Operates (reading.operator grammar.sum (ahead self.old)) (ahead self.old) result (ahead self.new) }
     {
         if self.eat(Sign::Plus) {
@@ -237,7 +237,7 @@ impl<'a> Cursor<'a> {
 
     /// `~`
     #[tactic(auto, unfolding(crate::specs::Reading::operator))]
-    pub fn concatenation_operator(&mut self) -> Option<BinaryOperator>
+    pub(crate) fn concatenation_operator(&mut self) -> Option<BinaryOperator>
         ensures { Operates (reading.operator grammar.concatenation (ahead self.old)) (ahead self.old) result (ahead self.new) }
     {
         if self.eat(Sign::Tilde) {
@@ -249,7 +249,7 @@ impl<'a> Cursor<'a> {
 
     /// `*`, `//` and `%`
     #[tactic(auto, unfolding(crate::specs::Reading::operator))]
-    pub fn product_operator(&mut self) -> Option<BinaryOperator>
+    pub(crate) fn product_operator(&mut self) -> Option<BinaryOperator>
         ensures { Operates (reading.operator grammar.product (ahead self.old)) (ahead self.old) result (ahead self.new) }
     {
         if self.eat(Sign::Times) {
@@ -265,7 +265,7 @@ impl<'a> Cursor<'a> {
 
     /// `**`
     #[tactic(auto, unfolding(crate::specs::Reading::operator))]
-    pub fn power_operator(&mut self) -> Option<BinaryOperator>
+    pub(crate) fn power_operator(&mut self) -> Option<BinaryOperator>
         ensures { Operates (reading.operator grammar.power (ahead self.old)) (ahead self.old) result (ahead self.new) }
     {
         if self.eat(Sign::Power) {

@@ -1,7 +1,7 @@
 //! The rules of the grammar. They take the reader of what lies deeper as a parameter, so that each is
 //! proved by itself.
 
-ghost use Rattle.std.specs.Prelude.{◌≡◌, ◌≤◌, ◌^◌, suc, max, length, true, false, codes, encode_utf8_all, IfOk};
+ghost use Rattle.std.specs.Prelude.{◌≡◌, ◌≤◌, ◌<◌, ◌^◌, suc, max, length, true, false, codes, encode_utf8_all, IfOk};
 ghost use Rattle.std.specs.Str.{chars};
 ghost use Rattle.jt_expr.specs.Trees as trees;
 ghost use Rattle.jt_expr.specs.View.{expr_view, exprs_view, pairs_view};
@@ -738,6 +738,7 @@ impl<F: Fn(Global, &mut Cursor<'_>, usize, Form) -> Result<Part, ExprError>> Gra
     {
         match form {
             Form::Whole => self.whole(cursor),
+            Form::Disjunction => self.disjunction(cursor),
             Form::Inversion => self.inversion(cursor),
             Form::Signed => self.signed(cursor),
             Form::Postfix => self.postfix(cursor),
@@ -764,4 +765,17 @@ pub fn read(
         inner: read,
     }
     .form(cursor, form)
+}
+
+/// The arguments of a filter, none or some in parentheses, each of at most so many levels.
+pub fn arguments(alloc: Global, cursor: &mut Cursor<'_>, limit: usize) -> Result<Parts, ExprError>
+    requires { limit < 2 ^ 32 }
+    ensures { GivesParts (spec.arguments_at (spec.read limit) (suc limit) (ahead cursor.old)) result (ahead cursor.new) }
+{
+    Grammar {
+        alloc,
+        below: limit,
+        inner: read,
+    }
+    .arguments(cursor)
 }

@@ -11,7 +11,14 @@ mod tag;
 mod tree;
 mod words;
 
+pub use cursor::Cursor;
 pub use error::ExprError;
-pub use named::{Named, check_names};
+pub use grammar::{arguments, read};
+pub use named::{
+    Named, any_unknown, any_unknown_pair, check_names, has_unknown, is_unknown_filter,
+};
+pub use part::{Part, Parts};
+pub use rows::Form;
 pub use tag::expression;
-pub use tree::{BinaryOperator, Expr, Literal, UnaryOperator};
+pub use tree::{BinaryOperator, Expr, Literal, UnaryOperator, copy_of};
+pub use words::literal_of;

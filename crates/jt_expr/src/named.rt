@@ -6,6 +6,7 @@ ghost use Rattle.jt_expr.specs.Named as spec;
 
 use crate::error::ExprError;
 use crate::tree::Expr;
+use jt_filters::FilterId;
 use jt_ops::TestId;
 
 /// What has a name that may have no meaning.
@@ -39,6 +40,13 @@ fn is_test(name: &str) -> bool
     TestId::by_name(name).is_some()
 }
 
+/// Whether a filter has the name.
+fn is_filter(name: &str) -> bool
+    ensures { result ≡ spec.is_filter name.now }
+{
+    FilterId::by_name(name).is_some()
+}
+
 /// Whether a test of this name is what is looked for.
 fn is_unknown_test(name: &str, named: Named) -> bool
     ensures { result ≡ spec.unknown_test named name.now }
@@ -49,19 +57,19 @@ fn is_unknown_test(name: &str, named: Named) -> bool
     }
 }
 
-/// Whether a filter is what is looked for.
-fn is_unknown_filter(name: &str, named: Named) -> bool
+/// Whether a filter of this name is what is looked for.
+pub fn is_unknown_filter(name: &str, named: Named) -> bool
     ensures { result ≡ spec.unknown_filter named name.now }
 {
     match named {
-        Named::Filter => true,
+        Named::Filter => !is_filter(name),
         Named::Test => false,
     }
 }
 
 /// Whether such a name stands in an expression.
 #[cycle(names)]
-fn has_unknown(expr: &Expr, named: Named) -> bool
+pub fn has_unknown(expr: &Expr, named: Named) -> bool
     ensures { result ≡ spec.has_unknown named (expr_view expr.now) }
 {
     match expr {
@@ -97,7 +105,7 @@ fn has_unknown(expr: &Expr, named: Named) -> bool
 
 /// Whether such a name stands in one of the expressions.
 #[cycle(names)]
-fn any_unknown(items: &Vec<Expr>, named: Named) -> bool
+pub fn any_unknown(items: &Vec<Expr>, named: Named) -> bool
     ensures { result ≡ spec.exprs_have_unknown named (exprs_view items.now.items) }
 {
     for item in items {
@@ -110,7 +118,7 @@ fn any_unknown(items: &Vec<Expr>, named: Named) -> bool
 
 /// Whether such a name stands in one of the values.
 #[cycle(names)]
-fn any_unknown_pair(pairs: &Vec<(String, Expr)>, named: Named) -> bool
+pub fn any_unknown_pair(pairs: &Vec<(String, Expr)>, named: Named) -> bool
     ensures { result ≡ spec.pairs_have_unknown named (pairs_view pairs.now.items) }
 {
     for (_, value) in pairs {

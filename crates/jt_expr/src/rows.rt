@@ -18,7 +18,7 @@ pub struct Keyed {
 }
 
 impl Parts {
-    pub fn new(alloc: Global) -> Parts
+    pub(crate) fn new(alloc: Global) -> Parts
         ensures { parts_view result ≡ grammar.no_parts }
     {
         Parts {
@@ -49,7 +49,7 @@ impl Parts {
     }
 
     /// One part behind the others.
-    pub fn push(&mut self, added: Keyed) -> Result<(), AllocError>
+    pub(crate) fn push(&mut self, added: Keyed) -> Result<(), AllocError>
         ensures { OnOk result (parts_view self.new ≡ then_part (parts_view self.old) (keyed_view added)) }
     {
         let Keyed { key, part } = added;
@@ -83,6 +83,7 @@ pub enum Element {
 #[derive(Clone, Copy, Debug, PartialEq, Eq)]
 pub enum Form {
     Whole,
+    Disjunction,
     Inversion,
     Signed,
     Postfix,
@@ -103,7 +104,7 @@ pub enum Row {
 
 impl Row {
     /// The closing sign.
-    pub fn closer(self) -> Sign
+    pub(crate) fn closer(self) -> Sign
         ensures { result ≡ grammar.closer (row_view self) }
     {
         match self {
@@ -114,14 +115,14 @@ impl Row {
     }
 
     /// Whether parts without a key may stand there.
-    pub fn takes_plain(self) -> bool
+    pub(crate) fn takes_plain(self) -> bool
         ensures { result ≡ grammar.takes_plain (row_view self) }
     {
         matches!(self, Row::Items | Row::Arguments)
     }
 
     /// What goes on behind a part with this key.
-    pub fn behind_key(self, key: &Option<String>) -> Row
+    pub(crate) fn behind_key(self, key: &Option<String>) -> Row
         ensures { row_view result ≡ grammar.behind_key (row_view self) (option_map string_bytes key.now) }
     {
         match (self, key) {

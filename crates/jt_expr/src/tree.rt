@@ -111,51 +111,59 @@ pub fn copy_of(alloc: Global, text: &str) -> Result<String, AllocError>
     String::from_str(alloc, text)
 }
 
-pub fn make_constant(alloc: Global, literal: Literal) -> Result<Box<Expr>, AllocError>
+pub(crate) fn make_constant(alloc: Global, literal: Literal) -> Result<Box<Expr>, AllocError>
     ensures { IfOk result (λ e. expr_view e.value ≡ trees.constant (literal_view literal)) }
 {
     Ok(Box::new(alloc, Expr::Constant(literal))?)
 }
 
-pub fn make_name(alloc: Global, text: &str) -> Result<Box<Expr>, AllocError>
+pub(crate) fn make_name(alloc: Global, text: &str) -> Result<Box<Expr>, AllocError>
     ensures { IfOk result (λ e. expr_view e.value ≡ trees.name (encode_utf8_all (chars text.now))) }
 {
     let name = copy_of(alloc, text)?;
     Ok(Box::new(alloc, Expr::Name(name))?)
 }
 
-pub fn make_group(alloc: Global, inner: Box<Expr>) -> Result<Box<Expr>, AllocError>
+pub(crate) fn make_group(alloc: Global, inner: Box<Expr>) -> Result<Box<Expr>, AllocError>
     ensures { IfOk result (λ e. expr_view e.value ≡ trees.group (expr_view inner.value)) }
 {
     Ok(Box::new(alloc, Expr::Group(inner))?)
 }
 
-pub fn make_list(alloc: Global, items: Vec<Expr>) -> Result<Box<Expr>, AllocError>
+pub(crate) fn make_list(alloc: Global, items: Vec<Expr>) -> Result<Box<Expr>, AllocError>
     ensures { IfOk result (λ e. expr_view e.value ≡ trees.list_of (exprs_view items.items)) }
 {
     Ok(Box::new(alloc, Expr::List(items))?)
 }
 
-pub fn make_map(alloc: Global, pairs: Vec<(String, Expr)>) -> Result<Box<Expr>, AllocError>
+pub(crate) fn make_map(alloc: Global, pairs: Vec<(String, Expr)>) -> Result<Box<Expr>, AllocError>
     ensures { IfOk result (λ e. expr_view e.value ≡ trees.map_of (pairs_view pairs.items)) }
 {
     Ok(Box::new(alloc, Expr::Map(pairs))?)
 }
 
-pub fn make_attribute(alloc: Global, a: Box<Expr>, text: &str) -> Result<Box<Expr>, AllocError>
+pub(crate) fn make_attribute(
+    alloc: Global,
+    a: Box<Expr>,
+    text: &str,
+) -> Result<Box<Expr>, AllocError>
     ensures { IfOk result (λ e. expr_view e.value ≡ trees.attribute (expr_view a.value) (encode_utf8_all (chars text.now))) }
 {
     let name = copy_of(alloc, text)?;
     Ok(Box::new(alloc, Expr::Attribute(a, name))?)
 }
 
-pub fn make_item(alloc: Global, a: Box<Expr>, index: Box<Expr>) -> Result<Box<Expr>, AllocError>
+pub(crate) fn make_item(
+    alloc: Global,
+    a: Box<Expr>,
+    index: Box<Expr>,
+) -> Result<Box<Expr>, AllocError>
     ensures { IfOk result (λ e. expr_view e.value ≡ trees.item (expr_view a.value) (expr_view index.value)) }
 {
     Ok(Box::new(alloc, Expr::Item(a, index))?)
 }
 
-pub fn make_call(
+pub(crate) fn make_call(
     alloc: Global,
     a: Box<Expr>,
     items: Vec<Expr>,
@@ -166,7 +174,7 @@ pub fn make_call(
     Ok(Box::new(alloc, Expr::Call(a, items, pairs))?)
 }
 
-pub fn make_filter(
+pub(crate) fn make_filter(
     alloc: Global,
     a: Box<Expr>,
     text: &str,
@@ -179,7 +187,7 @@ pub fn make_filter(
     Ok(Box::new(alloc, Expr::Filter(a, name, items, pairs))?)
 }
 
-pub fn make_test(
+pub(crate) fn make_test(
     alloc: Global,
     a: Box<Expr>,
     negated: bool,
@@ -193,13 +201,17 @@ pub fn make_test(
     Ok(Box::new(alloc, Expr::Test(a, negated, name, items, pairs))?)
 }
 
-pub fn make_unary(alloc: Global, op: UnaryOperator, a: Box<Expr>) -> Result<Box<Expr>, AllocError>
+pub(crate) fn make_unary(
+    alloc: Global,
+    op: UnaryOperator,
+    a: Box<Expr>,
+) -> Result<Box<Expr>, AllocError>
     ensures { IfOk result (λ e. expr_view e.value ≡ trees.unary op (expr_view a.value)) }
 {
     Ok(Box::new(alloc, Expr::Unary(op, a))?)
 }
 
-pub fn make_binary(
+pub(crate) fn make_binary(
     alloc: Global,
     op: BinaryOperator,
     a: Box<Expr>,
@@ -210,13 +222,17 @@ pub fn make_binary(
     Ok(Box::new(alloc, Expr::Binary(op, a, b))?)
 }
 
-pub fn make_when(alloc: Global, condition: Box<Expr>, a: Box<Expr>) -> Result<Box<Expr>, AllocError>
+pub(crate) fn make_when(
+    alloc: Global,
+    condition: Box<Expr>,
+    a: Box<Expr>,
+) -> Result<Box<Expr>, AllocError>
     ensures { IfOk result (λ e. expr_view e.value ≡ trees.when (expr_view condition.value) (expr_view a.value)) }
 {
     Ok(Box::new(alloc, Expr::When(condition, a))?)
 }
 
-pub fn make_choice(
+pub(crate) fn make_choice(
     alloc: Global,
     condition: Box<Expr>,
     a: Box<Expr>,

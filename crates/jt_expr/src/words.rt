@@ -24,7 +24,7 @@ pub fn literal_of(word: &str) -> Option<Literal>
 }
 
 /// Whether a word is reserved, and so no name.
-pub fn is_reserved(word: &str) -> bool
+pub(crate) fn is_reserved(word: &str) -> bool
     ensures { result ≡ grammar.is_reserved (chars word.now) }
 {
     is_word(word, "and")
@@ -43,14 +43,14 @@ pub fn is_reserved(word: &str) -> bool
 }
 
 /// Whether a word is a constant or a name.
-pub fn is_operand(word: &str) -> bool
+pub(crate) fn is_operand(word: &str) -> bool
     ensures { result ≡ grammar.is_operand (chars word.now) }
 {
     literal_of(word).is_some() || !is_reserved(word)
 }
 
 /// Whether a word is the known one, of ASCII letters.
-pub fn is_word(word: &str, known: &str) -> bool
+pub(crate) fn is_word(word: &str, known: &str) -> bool
     requires { IsTrue (is_plain known.now) }
     ensures { result ≡ bytes_eq (chars word.now) known.now }
 {

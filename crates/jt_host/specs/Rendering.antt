@@ -2,7 +2,8 @@
 use Rattle.std.specs.Prelude.{◌≢◌, Result, Ok, Err}
 use Rattle.jt_scan.specs.declared.options.Options.{Options}
 use Rattle.jt_value.specs.Pairs.{Pairs}
-use Rattle.jt_inherit.specs.Chains.{Text, Sources}
+use Rattle.jt_inherit.specs.Chains.{Given}
+use Rattle.jt_parse.specs.Trees.{Text}
 use Rattle.jt_inherit.specs.Small.{IsSmall}
 use Rattle.jt_image.specs.Code.{Code}
 use Rattle.jt_image.specs.Run.{Run}
@@ -16,7 +17,7 @@ use Rattle.jt_machine.specs.declared.Outcome.{Outcome}
 use Rattle.jt_host.specs.declared.error.RenderError.{RenderError}
 use Rattle.jt_host.specs.declared.error.RenderError.TheVariants as error
 
-module _ (sources : Sources) (entry : Text) (options : Options) where
+module _ (sources : Given) (entry : Text) (options : Options) where
   -- The run of some code that the entry compiles to ends so. What such a code gives as a text or a fault is the
   -- meaning of the entry's template, whichever of them it is.
   pub record IsRendered (x : Pairs) (b : Budget) (o : Outcome) : Type 0 where

@@ -5,7 +5,7 @@ use std::process::Abort;
 use std::test::Fail;
 
 /// Checks rows `asked => wanted`, one a line, against what `answer` gives of each.
-pub fn rows_hold<F: Fn(Global, &str) -> Result<String, Fail>>(
+pub(crate) fn rows_hold<F: Fn(Global, &str) -> Result<String, Fail>>(
     rt: &(impl Abort + AllocGlobal),
     answer: F,
     rows: &str,
@@ -23,7 +23,7 @@ pub fn rows_hold<F: Fn(Global, &str) -> Result<String, Fail>>(
 }
 
 /// The numbers of a row, with blanks between.
-pub fn numbers<const N: usize>(asked: &str) -> Result<[u64; N], Fail> {
+pub(crate) fn numbers<const N: usize>(asked: &str) -> Result<[u64; N], Fail> {
     let mut found = [0; N];
     let mut words = asked.split(' ');
     for place in found.iter_mut() {

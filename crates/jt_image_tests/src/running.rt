@@ -17,7 +17,7 @@ pub const AMPLE: Budget = Budget {
 };
 
 /// The outcome of an image, or why it is refused.
-pub fn outcome_of(
+pub(crate) fn outcome_of(
     alloc: Global,
     image: Image,
     context: &Context,

@@ -3,7 +3,9 @@ use Rattle.std.proofs.Common.{◌≡◌, ℕ, ◌+◌, ◌<◌, ◌≤◌, Bool,
 use Rattle.std.proofs.lemmas.Bool.{cases_lt}
 use Rattle.std.proofs.lemmas.Str.{encodes-chars, length-le-encodes}
 use Rattle.jt_scan.specs.declared.segment.Kind.{Kind}
-use Rattle.jt_scan.specs.Cut.{Text, Token, Segment, Spelled, a_name, a_number, a_text, a_sign, Inside, closed, space, token, Cuts, no_more, more, IsSegment, some_data, a_tag, a_comment, closer, second}
+use Rattle.jt_scan.specs.Cut.{Text, Token, Segment, Spelled, a_name, a_number, a_text, a_sign, Inside, closed, space, token, Cuts, no_more, more, IsSegment, some_data, a_tag, a_comment, a_raw, second}
+use Rattle.jt_scan.specs.declared.segment.Mark.{Mark}
+use Rattle.jt_inherit.proofs.Raws.{closing_long, behind_short, endraw_short}
 use Rattle.jt_scan.specs.LineEnds.{normalized}
 use Rattle.jt_scan.specs.SourceView.{Held}
 use Rattle.jt_scan.specs.declared.options.Options.{Options}
@@ -20,16 +22,18 @@ token_short (a_text {quote} {x} {v} h e m) =
     omega (arith, means_short m, bytes-cons quote (x ++ (quote ∷ [])), bytes-append x (quote ∷ []))
 token_short (a_sign a) = omega arith
 
-inside_short : {k : Kind} {depth : ℕ} {ts : List Token} {x rest : Text} → Inside k depth ts x rest → tokens_bytes ts + bytes rest ≤ bytes x
-inside_short {k} (closed {rest}) = omega (arith, bytes-cons (closer k) (125 ∷ rest), bytes-cons 125 rest)
-inside_short (space {c} {x = x} h i) = omega (arith, inside_short i, bytes-cons c x)
+inside_short : {k : Kind} {depth : ℕ} {ts : List Token} {mark : Mark} {x rest : Text} → Inside k depth ts mark x rest → tokens_bytes ts + bytes rest ≤ bytes x
+inside_short {k} (closed {mark} {rest} ok) = omega (arith, closing_long k mark rest)
+inside_short (space {c = c} {x = x} h i) = omega (arith, inside_short i, bytes-cons c x)
 inside_short (token {s = s} {x = x} b t i) = omega (arith, inside_short i, token_short t, bytes-append s x)
 
 segment_short : {n : ℕ} {s : Segment} {x rest : Text} → IsSegment n s x rest → segment_bytes s + bytes rest ≤ bytes x
 segment_short (some_data {c} {d} {rest} n e) = omega (arith, bytes-append (c ∷ d) rest)
-segment_short (a_tag {k} {x = x} i) = omega (arith, inside_short i, bytes-cons 123 (second k ∷ x), bytes-cons (second k) x)
+segment_short (a_tag {k} {x = x} i r) = omega (arith, inside_short i, behind_short x, bytes-cons 123 (second k ∷ x), bytes-cons (second k) x)
 segment_short (a_comment {x} {rest} n) =
     omega (arith, bytes-cons 123 (35 ∷ (x ++ (35 ∷ 125 ∷ rest))), bytes-cons 35 (x ++ (35 ∷ 125 ∷ rest)), bytes-append x (35 ∷ 125 ∷ rest), bytes-cons 35 (125 ∷ rest), bytes-cons 125 rest)
+segment_short (a_raw {ends = ends} {x = x} {d = d} {rest = rest} y i r h e) =
+    omega (arith, inside_short i, behind_short x, bytes-append d y, endraw_short y ends rest e, bytes-cons 123 (37 ∷ x), bytes-cons 37 x)
 
 -- the names and texts of segments take room in their source
 pub cut_short : {source : Text} {Ends : Text → Type 0} {ss : List Segment} {x : Text} → Cuts source Ends ss x → bytes_of ss ≤ bytes x

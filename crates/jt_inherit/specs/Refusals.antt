@@ -1,15 +1,21 @@
--- What a refusal says of a library and an entry.
-use Rattle.std.specs.Prelude.{◌≡◌, ◌≢◌, ◌<◌, List, Some, None, length, string_bytes}
+-- What a refusal says of a library and an entry. What has been read shows the broken rule: templates that are not read count as names
+-- without a source, which breaks no rule but the one that a source is missing.
+use Rattle.std.specs.Prelude.{◌≡◌, ◌≢◌, ◌<◌, true, false, IsTrue, List, Some, None, length, map, string_bytes}
 use Rattle.jt_scan.specs.Cut.{Segment, IsCut}
 use Rattle.jt_scan.specs.Refused as scanner
 use Rattle.jt_scan.specs.declared.error.ScanError.{ScanError}
 use Rattle.jt_scan.specs.declared.error.ScanError.TheVariants as scan_error
 use Rattle.jt_scan.specs.declared.options.Options.{Options}
-use Rattle.jt_parse.specs.Gives as parser
+use Rattle.jt_parse.specs.Kept.{pieces}
+use Rattle.jt_parse.specs.Refusals as parser
+use Rattle.jt_parse.specs.Texts.{among}
+use Rattle.jt_parse.specs.Trees.{Text}
 use Rattle.jt_parse.specs.declared.error.ParseError.{ParseError}
 use Rattle.jt_parse.specs.declared.error.ParseError.TheVariants as parse_error
-use Rattle.jt_inherit.specs.Names.{Text, IsName}
-use Rattle.jt_inherit.specs.Chains.{Sources, scanned}
+use Rattle.jt_inherit.specs.Chain.{Sources, Home, Template, sources_in}
+use Rattle.jt_inherit.specs.Chains.{Given, scanned, AreRead}
+use Rattle.jt_inherit.specs.Rules as rules
+use Rattle.jt_inherit.specs.Rules.{Somewhere, asked}
 use Rattle.jt_inherit.specs.declared.error.ChainError.{ChainError}
 use Rattle.jt_inherit.specs.declared.error.ChainError.TheVariants as error
 
@@ -19,50 +25,47 @@ IsUncut scan_error.SourceTooLong options source = 1048576 < length source
 IsUncut scan_error.NoMemory options source = ⊥
 IsUncut e options source = scanner.IsRefusal e (scanned options source)
 
--- the source is cut into segments that spell no tree, or only trees with too many levels
+-- the source is cut into segments that spell no tree, or none that is allowed
 pub record IsUnspelled (e : ParseError) (options : Options) (source : Text) : Type 0 where
   pub fault : e ≢ parse_error.NoMemory
   pub segments : List Segment
   pub cut : IsCut segments (scanned options source)
-  pub refused : parser.IsRefusal e segments
+  pub refused : parser.IsRefusal e (pieces (map (λ s. (options, s)) segments))
 
--- the refusal, which names the template, is one of its source; want of memory is no claim about it
-abbrev pub IsFault : ChainError → Text → Options → Text → Type 0
-IsFault (error.Scan n e) name options source = (string_bytes n ≡ name) × IsUncut e options source
-IsFault (error.Parse n e) name options source = (string_bytes n ≡ name) × IsUnspelled e options source
-IsFault error.NoMemory name options source = Unit {0}
-IsFault e name options source = ⊥
+-- templates that were read on the way from the entry, of which this holds
+pub record Shows (given : Given) (options : Options) (P : Sources → Type 0) : Type 0 where
+  pub templates : List Template
+  pub read : AreRead given options templates
+  pub holds : P (sources_in templates)
 
--- the entry is a name, and the refusal is one of its source
-pub record IsFaultOf (e : ChainError) (sources : Sources) (entry : Text) (options : Options) : Type 0 where
-  pub named : IsName entry
+-- some chain that is reached asks for the name; with true, also where it may be missing
+abbrev pub Asks : Options → Text → Text → Sources → Type 0
+Asks options entry n sources = Somewhere sources options.autoescape entry (λ h. IsTrue (among n (asked sources options.autoescape true h)))
+
+-- a name that is asked for has a source with the fault
+pub record HasFault (given : Given) (entry : Text) (options : Options) (n : Text) (P : Text → Type 0) : Type 0 where
+  pub reached : Shows given options (Asks options entry n)
   pub source : Text
-  pub found : sources entry ≡ Some source
-  pub fault : IsFault e entry options source
+  pub found : given n ≡ Some source
+  pub fault : P source
 
--- the refusal holds; templates name no others yet, so some are never answered
-abbrev pub Breaks : ChainError → Sources → Text → Options → Type 0
-Breaks error.Missing sources entry options = IsName entry × (sources entry ≡ None)
-Breaks error.BadName sources entry options = IsName entry → ⊥
-Breaks error.ExtendsCycle sources entry options = ⊥
-Breaks error.ChainTooLong sources entry options = ⊥
-Breaks error.DoubleBlock sources entry options = ⊥
-Breaks error.RequiredNotGiven sources entry options = ⊥
-Breaks error.NoSuper sources entry options = ⊥
-Breaks error.IncludeCycle sources entry options = ⊥
-Breaks error.MacroTwice sources entry options = ⊥
-Breaks error.NoMemory sources entry options = Unit {0}
-Breaks (error.Scan n e) sources entry options = IsFaultOf (error.Scan n e) sources entry options
-Breaks (error.Parse n e) sources entry options = IsFaultOf (error.Parse n e) sources entry options
+-- a name that is asked for, and may not be missing, has no source
+pub record IsMissing (given : Given) (entry : Text) (options : Options) : Type 0 where
+  pub name : Text
+  pub reached : Shows given options (λ sources. Somewhere sources options.autoescape entry (λ h. IsTrue (among name (asked sources options.autoescape false h))))
+  pub found : given name ≡ None
 
--- ---- what becomes of a refusal of a source: it gets the template's name, or memory ran out
-
-abbrev pub IsScan : Text → ScanError → ChainError → Type 0
-IsScan name e (error.Scan n f) = (string_bytes n ≡ name) × (f ≡ e) × (e ≢ scan_error.NoMemory)
-IsScan name e error.NoMemory = Unit {0}
-IsScan name e other = ⊥
-
-abbrev pub IsParse : Text → ParseError → ChainError → Type 0
-IsParse name e (error.Parse n f) = (string_bytes n ≡ name) × (f ≡ e) × (e ≢ parse_error.NoMemory)
-IsParse name e error.NoMemory = Unit {0}
-IsParse name e other = ⊥
+-- the refusal holds; want of memory is no claim
+abbrev pub Breaks : ChainError → Given → Text → Options → Type 0
+Breaks error.Missing given entry options = IsMissing given entry options
+Breaks error.BadName given entry options = Shows given options (λ s. rules.BadName s options.autoescape entry)
+Breaks error.ExtendsCycle given entry options = Shows given options (λ s. rules.ExtendsCycle s options.autoescape entry)
+Breaks error.ChainTooLong given entry options = Shows given options (λ s. rules.ChainTooLong s options.autoescape entry)
+Breaks error.DoubleBlock given entry options = Shows given options (λ s. rules.DoubleBlock s options.autoescape entry)
+Breaks error.RequiredNotGiven given entry options = Shows given options (λ s. rules.RequiredNotGiven s options.autoescape entry)
+Breaks error.NoSuper given entry options = Shows given options (λ s. rules.NoSuper s options.autoescape entry)
+Breaks error.IncludeCycle given entry options = Shows given options (λ s. rules.IncludeCycle s options.autoescape entry)
+Breaks error.MacroTwice given entry options = Shows given options (λ s. rules.MacroTwice s options.autoescape entry)
+Breaks error.NoMemory given entry options = Unit {0}
+Breaks (error.Scan n e) given entry options = HasFault given entry options (string_bytes n) (IsUncut e options)
+Breaks (error.Parse n e) given entry options = HasFault given entry options (string_bytes n) (IsUnspelled e options)

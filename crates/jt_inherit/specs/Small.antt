@@ -1,62 +1,45 @@
--- Which chains are small.
-use Rattle.std.specs.Prelude.{◌≡◌, ◌≤◌, List, [], ◌∷◌, ◌++◌, Some, length, Contains}
+-- What chains weigh, how long their sources are, and which chains are small.
+use Rattle.std.specs.Prelude.{ℕ, ◌+◌, ◌≤◌, List, [], ◌∷◌, Option, Some, None, length, Contains}
 use Rattle.std.specs.List.{AllByRecursion}
 use Rattle.jt_scan.specs.declared.options.Options.{Options}
-use Rattle.jt_expr.specs.Trees.{Expr, constant, name, group, list_of, map_of, attribute, item, call, filter, test, unary, binary, when, choice, Exprs, no_exprs, expr, Pairs, no_pairs, pair}
-use Rattle.jt_parse.specs.Trees.{Text, Stmt, data_of, print, choose, Body, end, stmt, Branches, no_branches, branch}
-use Rattle.jt_inherit.specs.Chains.{Sources, IsTree}
+use Rattle.jt_parse.specs.Trees.{Text, body_weight}
+use Rattle.jt_inherit.specs.Chain.{Sources, Home, Template, templates}
+use Rattle.jt_inherit.specs.Chains.{Given, IsChain}
+use Rattle.jt_inherit.specs.Uses.{own_names}
+use Rattle.jt_inherit.specs.View.{Seen, sources_of}
 
--- ---- the names that a template reads, as often as they stand there
+-- ---- the weight of chains: of each template once for each chain that it is in
 
-abbrev mutual
-  pub expr_names : Expr → List Text
-  expr_names (constant l) = []
-  expr_names (name x) = x ∷ []
-  expr_names (group a) = expr_names a
-  expr_names (list_of ts) = row_names ts
-  expr_names (map_of ps) = pair_names ps
-  expr_names (attribute a k) = expr_names a
-  expr_names (item a b) = expr_names a ++ expr_names b
-  -- what is called is no value that is read
-  expr_names (call a ts ps) = row_names ts ++ pair_names ps
-  expr_names (filter a x ts ps) = expr_names a ++ (row_names ts ++ pair_names ps)
-  expr_names (test a n x ts ps) = expr_names a ++ (row_names ts ++ pair_names ps)
-  expr_names (unary o a) = expr_names a
-  expr_names (binary o a b) = expr_names a ++ expr_names b
-  expr_names (when c a) = expr_names c ++ expr_names a
-  expr_names (choice c a b) = expr_names c ++ (expr_names a ++ expr_names b)
+abbrev pub templates_weight : List Template → ℕ
+templates_weight [] = 0
+templates_weight (t ∷ ts) = body_weight t.body + templates_weight ts
 
-  pub row_names : Exprs → List Text
-  row_names no_exprs = []
-  row_names (expr a ts) = expr_names a ++ row_names ts
+abbrev pub chains_weight : Sources → List Home → ℕ
+chains_weight sources [] = 0
+chains_weight sources (h ∷ hs) = templates_weight (templates sources h) + chains_weight sources hs
 
-  pub pair_names : Pairs → List Text
-  pair_names no_pairs = []
-  pair_names (pair k a ps) = expr_names a ++ pair_names ps
+-- ---- the bytes of their sources, as they are given
 
-abbrev mutual
-  pub stmt_names : Stmt → List Text
-  stmt_names (data_of t) = []
-  stmt_names (print line e) = expr_names e
-  stmt_names (choose bs other) = branch_names bs ++ body_names other
+abbrev pub source_len : Option Text → ℕ
+source_len None = 0
+source_len (Some source) = length source
 
-  pub body_names : Body → List Text
-  body_names end = []
-  body_names (stmt s rest) = stmt_names s ++ body_names rest
+abbrev pub templates_len : Given → List Template → ℕ
+templates_len given [] = 0
+templates_len given (t ∷ ts) = source_len (given t.name) + templates_len given ts
 
-  pub branch_names : Branches → List Text
-  branch_names no_branches = []
-  branch_names (branch line c body rest) = expr_names c ++ (body_names body ++ branch_names rest)
+abbrev pub chains_len : Given → Sources → List Home → ℕ
+chains_len given sources [] = 0
+chains_len given sources (h ∷ hs) = templates_len given (templates sources h) + chains_len given sources hs
 
--- the template reads at most 200 different names
-pub record ReadsFew (body : Body) : Type 0 where
+-- the chains read or bind at most 200 different names
+pub record NamesFew (c : Seen) : Type 0 where
   pub names : List Text
   pub few : length names ≤ 200
-  pub all : AllByRecursion (λ x. Contains names x) (body_names body)
+  pub all : AllByRecursion (λ h. AllByRecursion (λ x. Contains names x) (own_names (sources_of c) h)) c.order
 
--- the source has at most 2,000 bytes as it is given, and its tree reads at most 200 names
-pub record IsSmall (sources : Sources) (entry : Text) (options : Options) : Type 0 where
-  pub source : Text
-  pub found : sources entry ≡ Some source
-  pub bytes : length source ≤ 2000
-  pub names : (body : Body) → IsTree options source body → ReadsFew body
+-- The sources of the chain and of those that its includes reach, counted once for each chain that reads them, have together at most 2,000
+-- bytes as they are given, and read or bind at most 200 different names.
+pub record IsSmall (given : Given) (entry : Text) (options : Options) : Type 0 where
+  pub bytes : (c : Seen) → IsChain given entry options c → chains_len given (sources_of c) c.order ≤ 2000
+  pub names : (c : Seen) → IsChain given entry options c → NamesFew c

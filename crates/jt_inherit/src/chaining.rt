@@ -1,108 +1,99 @@
 //! The chain that an entry begins.
 
-ghost use Rattle.std.specs.Prelude.{◌≡◌, ◌≤◌, Some, length, IfOk, IfErr, MatchResult};
+ghost use Rattle.std.specs.Prelude.{◌≡◌, ◌+◌, ◌*◌, ◌<◌, ◌≤◌, length, OnOk, IfOk, IfErr};
+ghost use Rattle.std.specs.List.{AllByRecursion};
+ghost use Rattle.jt_order.specs.Graph.{next_of};
+ghost use Rattle.jt_order.specs.View.{graph_of};
 ghost use Rattle.jt_parse.specs.Bytes.{body_bytes};
-ghost use Rattle.jt_parse.specs.Trees.{Body, body_weight};
-ghost use Rattle.jt_parse.specs.View.{body_of};
-ghost use Rattle.jt_inherit.specs.Chains.{Text, IsTree, IsChain};
-ghost use Rattle.jt_inherit.specs.Refusals.{Breaks, IsFault, IsScan, IsParse};
-ghost use Rattle.jt_inherit.specs.View.{Seen, chain_view};
-ghost use Rattle.jt_inherit.specs.declared.error.ChainError.TheVariants as error;
+ghost use Rattle.jt_inherit.specs.Along.{ArePlaces, templates_at};
+ghost use Rattle.jt_inherit.specs.Chains.{IsChain};
+ghost use Rattle.jt_inherit.specs.Found.{BreaksAt, HasHomes, found_homes, found_templates};
+ghost use Rattle.jt_inherit.specs.Kept.{KeepAll};
+ghost use Rattle.jt_inherit.specs.Pages.{home_name};
+ghost use Rattle.jt_inherit.specs.Places.{home_at};
+ghost use Rattle.jt_inherit.specs.Refusals.{Breaks};
+ghost use Rattle.jt_inherit.specs.Small.{chains_weight, chains_len, source_len};
+ghost use Rattle.jt_inherit.specs.View.{chain_view, sources_of};
 
+use crate::discovery::{Found, discover};
 use crate::error::ChainError;
 use crate::library::Library;
-use crate::linked::Chain;
-use crate::names::is_name;
-use jt_parse::{ParseError, Template, parse};
-use jt_scan::{Options, ScanError, Source, scan};
-use std::alloc::Global;
+use crate::linked::{Chain, Home};
+use crate::rules::check_rules;
+use jt_order::order;
+use jt_scan::Options;
+use std::alloc::{AllocError, Global};
 
-/// The chain that the entry begins: its template, read from the library.
+/// The chain that the entry begins: its templates up to the root, read from the library, and the
+/// chains that their includes reach.
 ///
 /// # Errors
 ///
-/// `BadName` where the entry is no name; `Missing` where the library has no source of it; `Scan`
-/// or `Parse` with its name where the source spells no tree; `NoMemory` where a growth was refused.
+/// The rule of chains that is broken; `Scan` or `Parse` with a template's name where its source
+/// spells no tree; `NoMemory` where a growth was refused.
 pub fn chain<L: Library>(
     alloc: Global,
     entry: &str,
     library: &L,
     options: Options,
 ) -> Result<Chain, ChainError>
-    ensures chained { IfOk result
-        (λ c. IsChain (L.sources library.now) entry.now options (chain_view c)) }
-    ensures only { (c : Seen) → IsChain (L.sources library.now) entry.now options c →
-        MatchResult result (λ r. chain_view r ≡ c) (λ e. e ≡ error.NoMemory) }
+    // every source is read, and no rule of chains is broken
+    ensures chained { IfOk result (λ c. IsChain (L.sources library.now) entry.now options (chain_view c)) }
+    // the rule that is named is broken
     ensures refused { IfErr result (λ e. Breaks e (L.sources library.now) entry.now options) }
-    ensures weighs { IfOk result (λ c. (source : Text) → L.sources library.now entry.now ≡ Some source →
-        body_weight (chain_view c).body ≤ length source) }
-    ensures short { IfOk result (λ c. (source : Text) → L.sources library.now entry.now ≡ Some source →
-        body_bytes (chain_view c).body ≤ length source) }
+    // the trees weigh no more than their sources have bytes, each counted once for each chain
+    ensures weighs { IfOk result (λ c. chains_weight (sources_of (chain_view c)) (chain_view c).order ≤
+        chains_len (L.sources library.now) (sources_of (chain_view c)) (chain_view c).order) }
+    // names and texts of a tree are no longer than its source
+    ensures short { IfOk result (λ c. AllByRecursion (λ t. body_bytes t.body ≤ source_len (L.sources library.now t.name)) (chain_view c).templates) }
+    // chains are few for the weight of their trees: each but the entry's has its own tag
+    ensures few { IfOk result (λ c. 7 * length (chain_view c).order ≤ chains_weight (sources_of (chain_view c)) (chain_view c).order + 7) }
 {
-    if !is_name(entry) {
-        return Err(ChainError::BadName);
-    }
-    let Some(source) = library.source(entry) else {
-        return Err(ChainError::Missing);
-    };
-    let template = template_of(alloc, entry, source, options)?;
+    let found = discover(alloc, entry, library, options)?;
+    check_chains(alloc, &found, options.autoescape)?;
+    let order = order(alloc, &found.next)?;
+    let homes = homes_in(alloc, &found, &order)?;
     Ok(Chain {
-        name: String::from_str(alloc, entry)?,
-        template,
+        templates: found.pages,
+        homes,
         autoescape: options.autoescape,
     })
 }
 
-/// The template that the source of a name spells.
-fn template_of(
-    alloc: Global,
-    name: &str,
-    text: &str,
-    options: Options,
-) -> Result<Template, ChainError>
-    ensures spelled { IfOk result (λ t. IsTree options text.now (body_of t)) }
-    ensures only { (b : Body) → IsTree options text.now b →
-        MatchResult result (λ t. body_of t ≡ b) (λ e. e ≡ error.NoMemory) }
-    ensures refused { IfErr result (λ e. IsFault e name.now options text.now) }
-    ensures weighs { IfOk result (λ t. body_weight (body_of t) ≤ length text.now) }
-    ensures short { IfOk result (λ t. body_bytes (body_of t) ≤ length text.now) }
+/// Refuses the chains where the blocks or macros of one break a rule.
+fn check_chains(alloc: Global, found: &Found, escaping: bool) -> Result<(), ChainError>
+    requires { AllByRecursion (ArePlaces (found_templates found.now)) (graph_of found.now.ways.items) }
+    ensures kept { OnOk result (AllByRecursion (λ way. KeepAll escaping (templates_at (found_templates found.now) way)) (graph_of found.now.ways.items)) }
+    ensures broken { IfErr result (λ e. BreaksAt escaping (found_templates found.now) (graph_of found.now.ways.items) e) }
 {
-    let source = match Source::new(alloc, text, options) {
-        Ok(source) => source,
-        Err(refusal) => return Err(unscanned(alloc, name, refusal)),
-    };
-    let segments = match scan(alloc, &source) {
-        Ok(segments) => segments,
-        Err(refusal) => return Err(unscanned(alloc, name, refusal)),
-    };
-    match parse(alloc, segments.as_slice()) {
-        Ok(template) => Ok(template),
-        Err(refusal) => Err(unparsed(alloc, name, refusal)),
+    for way in &found.ways {
+        check_rules(alloc, &found.pages, way, escaping)?;
     }
+    Ok(())
 }
 
-/// A refusal of the scanner, with the template's name.
-fn unscanned(alloc: Global, name: &str, refusal: ScanError) -> ChainError
-    ensures { IsScan name.now refusal result }
+/// The chains of these numbers.
+fn homes_in(alloc: Global, found: &Found, order: &[usize]) -> Result<Vec<Home>, AllocError>
+    requires all { length found.now.ways.items ≡ length (found_homes found.now) }
+    requires within { AllByRecursion (λ i. i < length found.now.ways.items) order.now }
+    ensures { IfOk result (λ homes. HasHomes (found_homes found.now) (graph_of found.now.ways.items) order.now homes.items) }
 {
-    if refusal == ScanError::NoMemory {
-        return ChainError::NoMemory;
+    let mut homes = Vec::with_capacity(alloc, order.len())?;
+    for number in order {
+        homes.push(home_of(alloc, found, *number)?)?;
     }
-    match String::from_str(alloc, name) {
-        Ok(name) => ChainError::Scan(name, refusal),
-        Err(_) => ChainError::NoMemory,
-    }
+    Ok(homes)
 }
 
-/// A refusal of the parser, with the template's name.
-fn unparsed(alloc: Global, name: &str, refusal: ParseError) -> ChainError
-    ensures { IsParse name.now refusal result }
+/// The chain of a number.
+fn home_of(alloc: Global, found: &Found, number: usize) -> Result<Home, AllocError>
+    requires all { length found.now.ways.items ≡ length (found_homes found.now) }
+    requires within { number < length found.now.ways.items }
+    ensures name { IfOk result (λ h. home_name h ≡ home_at (found_homes found.now) number) }
+    ensures templates { IfOk result (λ h. h.templates.items ≡ next_of (graph_of found.now.ways.items) number) }
 {
-    if refusal == ParseError::NoMemory {
-        return ChainError::NoMemory;
-    }
-    match String::from_str(alloc, name) {
-        Ok(name) => ChainError::Parse(name, refusal),
-        Err(_) => ChainError::NoMemory,
-    }
+    Ok(Home {
+        name: String::from_str(alloc, &found.homes.as_slice()[number])?,
+        templates: Vec::from_slice(alloc, &found.ways[number])?,
+    })
 }

@@ -1,8 +1,9 @@
 //! Why there is no chain.
 
+use jt_order::OrderError;
 use jt_parse::ParseError;
 use jt_scan::ScanError;
-use std::alloc::AllocError;
+use std::alloc::{AllocError, AllocFailed};
 use thiserror::Error;
 
 /// Why there is no chain.
@@ -78,5 +79,29 @@ impl From<AllocError> for ChainError {
 
     fn from(_e: AllocError) -> ChainError {
         ChainError::NoMemory
+    }
+}
+
+impl<T: Drop> From<AllocFailed<T>> for ChainError {
+    ghost use Rattle.std.specs.Prelude.{◌≡◌};
+    ghost use Rattle.jt_inherit.specs.declared.error.ChainError.TheVariants.{NoMemory};
+
+    ghost from_gives = { λ _ e. e ≡ NoMemory };
+
+    fn from(_e: AllocFailed<T>) -> ChainError {
+        ChainError::NoMemory
+    }
+}
+
+impl From<OrderError> for ChainError {
+    ghost use Rattle.jt_inherit.specs.Refused.{gives};
+
+    ghost from_gives = { gives };
+
+    fn from(refusal: OrderError) -> ChainError {
+        match refusal {
+            OrderError::Cycle => ChainError::IncludeCycle,
+            OrderError::NoMemory => ChainError::NoMemory,
+        }
     }
 }

@@ -1,38 +1,39 @@
-//! A chain of templates.
+//! A chain of templates, with those that its includes reach.
 
-ghost use Rattle.std.specs.Prelude.{◌≡◌};
-ghost use Rattle.jt_parse.specs.View.{body_of};
-ghost use Rattle.jt_inherit.specs.View.{chain_view};
+ghost use Rattle.std.specs.Prelude.{◌≡◌, ◌<◌, false, length, map};
+ghost use Rattle.jt_inherit.specs.Chain.{sources_in};
+ghost use Rattle.jt_inherit.specs.Includes.{InOrder, InOrder-prop};
+ghost use Rattle.jt_inherit.specs.Pages.{AreWhole, AreWhole-prop, pages_view, home_name};
+ghost use Rattle.jt_parse.specs.Texts.{repeated};
 
 use jt_parse::Template;
 
-/// The template of an entry, with its name and how it is printed.
+/// A template that was read, with its name.
 #[derive(Drop)]
-pub struct Chain {
-    pub(crate) name: String,
-    pub(crate) template: Template,
-    pub(crate) autoescape: bool,
+pub struct Page {
+    pub name: String,
+    pub template: Template,
 }
 
-impl Chain {
-    /// The name of the entry.
-    pub fn name(&self) -> &str
-        ensures { result.now ≡ (chain_view self.now).name }
-    {
-        self.name.as_str()
-    }
+/// A chain: the name of its entry, and its templates from the entry to the root, by their places
+/// among all that were read.
+#[derive(Drop)]
+pub struct Home {
+    pub name: String,
+    pub templates: Vec<usize>,
+}
 
-    /// The entry's template.
-    pub fn template(&self) -> &Template
-        ensures { body_of result.now ≡ (chain_view self.now).body }
-    {
-        &self.template
-    }
-
-    /// Whether what is printed is escaped at first.
-    pub fn autoescape(&self) -> bool
-        ensures { result ≡ (chain_view self.now).escaping }
-    {
-        self.autoescape
-    }
+/// The chain of an entry, and the chains that its includes reach.
+#[derive(Drop)]
+pub struct Chain {
+    /// The templates that were read, each once.
+    pub templates: Vec<Page>,
+    /// The chains, each before those that it includes: the first is the entry's.
+    pub homes: Vec<Home>,
+    /// Whether a text begins escaped.
+    pub autoescape: bool,
+    pub ghost once: { repeated (map (λ t. t.name) (pages_view templates.items)) ≡ false },
+    pub ghost some: { 0 < length homes.items },
+    pub ghost order: { InOrder (sources_in (pages_view templates.items)) (map home_name homes.items) } by { InOrder-prop (sources_in (pages_view templates.items)) (map home_name homes.items) },
+    pub ghost whole: { AreWhole (pages_view templates.items) homes.items } by { AreWhole-prop (pages_view templates.items) homes.items },
 }

@@ -10,10 +10,7 @@ use Rattle.std.specs.List.{list_any}
 use Rattle.clap.specs.Walk.{Names, answers_to, finished, nothing_held, settled, stop_after, walk, walk_from, Held}
 use Rattle.clap.proofs.OnLiterals.{clap_on_literals}
 use Rattle.jt_line.specs.Line.{program_app, compile_app, check_app, run_app, render_app, Takes, IsKnown}
-
-or_else-right : (a b : Kinds) → or_else a b ≡ [] → b ≡ []
-or_else-right [] b e = e
-or_else-right (k ∷ ks) b e = absurd (cc)
+use Rattle.jt_line.proofs.Passed.{neither}
 
 -- a command is wanted, so there is one where nothing is wrong
 has_command : (help given wanted has : Bool) → check_kinds (not has && (help && given)) (not has && true) wanted ≡ [] → has ≡ true
@@ -55,7 +52,7 @@ unfolding clap_on_literals
 is_read = refl
 
 last_clear : (a b c d e : Kinds) → or_else a (or_else b (or_else c (or_else d e))) ≡ [] → e ≡ []
-last_clear a b c d e h = or_else-right d e (or_else-right c (or_else d e) (or_else-right b (or_else c (or_else d e)) (or_else-right a (or_else b (or_else c (or_else d e))) h)))
+last_clear a b c d e h = (neither d e (neither c _ (neither b _ (neither a _ h).1).1).1).1
 
 -- a command, as clap builds it
 abbrev built_sub : App → Shape

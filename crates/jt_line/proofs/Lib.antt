@@ -1,3 +1,6 @@
 mod Adding
+mod Checked
 mod Commands
 mod Found
+mod Passed
+mod Texts

@@ -1,6 +1,6 @@
 -- What a line asks for. How a line is read is clap's written rule: `fault_of` lists what is wrong
 -- with it, and `subcommand_of` gives its command with the rows of what was found.
-use Rattle.std.specs.Prelude.{◌≡◌, ◌<◌, ◌^◌, ◌⊎◌, ℕ, Bool, true, false, not, List, [], Option, Some, None, codes, pos, unwrap_or, option_map, String}
+use Rattle.std.specs.Prelude.{◌≡◌, ◌<◌, ◌^◌, ◌⊎◌, ℕ, Bool, true, false, not, List, [], Option, Some, None, codes, pos, unwrap_or, option_map, IfSome, String}
 use Rattle.std.specs.declared.alloc.Global.{Global}
 use Rattle.std.specs.String.{string_bytes}
 use Rattle.std.specs.Str.Parse.{IsNumeral, digits_value, without_leading_plus}
@@ -98,12 +98,13 @@ abbrev pub IsNumber : ℕ → Text → Type 0
 IsNumber bits text = IsNumeral 10 (without_leading_plus text)
     × (digits_value 10 (without_leading_plus text) < 2 ^ bits)
 
--- the number of an option: what its text writes, or the default where it has none
+-- the number of an option: what its text writes, or the default where the option isn't given. Its
+-- text is read without the minus of `-0`. A line that gives an option twice, or with a text that is
+-- no number of its range, is not taken
 abbrev pub IsGiven : ℕ → ℕ → Option Text → ℕ → Type 0
 IsGiven bits default None n = n ≡ default
 IsGiven bits default (Some text) n =
-    (IsNumber bits text × (n ≡ digits_value 10 (without_leading_plus text)))
-    ⊎ ((IsNumber bits text → ⊥) × (n ≡ default))
+    IsNumber bits text × (n ≡ digits_value 10 (without_leading_plus text))
 
 abbrev pub IsBudget : List Row → Budget → Type 0
 IsBudget rows b = IsGiven 64 1000000 (one_of (codes "fuel") rows) b.fuel
@@ -112,10 +113,12 @@ IsBudget rows b = IsGiven 64 1000000 (one_of (codes "fuel") rows) b.fuel
     × IsGiven 32 1048576 (one_of (codes "size") rows) b.size
     × IsGiven 8 32 (one_of (codes "nesting") rows) b.nesting
 
--- a flag, by the text of its row: `true` where it is given, and `false` or none where it isn't
+-- a flag, by the text of its row: `true` where it is given, and `false` or none where it isn't. A
+-- line that gives a flag twice, or with a value, is not taken
 abbrev pub IsFlag : Option Text → Bool → Type 0
 IsFlag None b = b ≡ false
-IsFlag (Some text) b = (text ≡ codes "true" → b ≡ true) × (text ≡ codes "false" → b ≡ false)
+IsFlag (Some text) b =
+    ((text ≡ codes "true") × (b ≡ true)) ⊎ ((text ≡ codes "false") × (b ≡ false))
 
 -- how templates are read: by the flags, where what is printed is escaped unless the flag says no
 abbrev pub IsOptions : List Row → Options → Type 0
@@ -180,3 +183,24 @@ Asks name words = option_map (λ c. c.0) (subcommand_of program_app words) ≡ S
 abbrev pub IfUsage : Type 0 → JobError → Type 0
 IfUsage P (job_error.Usage text) = P
 IfUsage P job_error.NoMemory = Unit {0}
+
+-- ---- the rows of a line that the program takes
+
+-- the text of a flag
+abbrev pub IsSwitch : Text → Type 0
+IsSwitch text = (text ≡ codes "true") ⊎ (text ≡ codes "false")
+
+-- each option of a budget that is given has a number in the range of its type
+abbrev pub HasNumbers : List Row → Type 0
+HasNumbers rows = IfSome (one_of (codes "fuel") rows) (IsNumber 64)
+    × IfSome (one_of (codes "depth") rows) (IsNumber 32)
+    × IfSome (one_of (codes "output") rows) (IsNumber 64)
+    × IfSome (one_of (codes "size") rows) (IsNumber 32)
+    × IfSome (one_of (codes "nesting") rows) (IsNumber 8)
+
+-- each flag has the text of one
+abbrev pub HasSwitches : List Row → Type 0
+HasSwitches rows = IfSome (one_of (codes "trim-blocks") rows) IsSwitch
+    × IfSome (one_of (codes "lstrip-blocks") rows) IsSwitch
+    × IfSome (one_of (codes "keep-trailing-newline") rows) IsSwitch
+    × IfSome (one_of (codes "no-autoescape") rows) IsSwitch

@@ -1,6 +1,6 @@
 //! The command line.
 
-ghost use Rattle.std.specs.Prelude.{◌≡◌, ◌≢◌, false, codes, option_map, string_bytes, IfOk, IfErr, OnOk};
+ghost use Rattle.std.specs.Prelude.{◌≡◌, ◌≢◌, false, codes, option_map, string_bytes, IfOk, IfErr, IfSome, OnOk};
 ghost use Rattle.clap.specs.Words.{app_of, rule_of, first_of, found_of, rows_of, one_of, kind_of};
 ghost use Rattle.clap.specs.Words.{subcommand_of, subcommand_rows_of};
 ghost use Rattle.clap.specs.Walk.{texts};
@@ -8,6 +8,7 @@ ghost use Rattle.clap.specs.declared.builder.Command.TheViews.{out-Command as fi
 ghost use Rattle.jt_line.specs.Line.{Takes, IsAsked, IsKnown, IsBudget, IsOptions, IsGiven, IsFlag, IfUsage, Adds};
 ghost use Rattle.jt_line.specs.Line.{program_app, compile_app, check_app, run_app, render_app, with_budget, with_flags, word_of};
 ghost use Rattle.jt_line.specs.Line.{context_rule, option_rule, word_rule, flag_rule};
+ghost use Rattle.jt_line.specs.Line.{HasNumbers, HasSwitches, IsNumber, IsSwitch};
 
 use crate::jobs;
 use crate::jobs::{DEFAULT, Job, JobError, Options, USUAL};
@@ -179,7 +180,8 @@ fn add_flag<'a>(
 
 /// The job of a line that was taken.
 fn asked(alloc: Global, matches: &ArgMatches<'_>) -> Result<Job, JobError>
-    requires { IsKnown (option_map (λ p. p.0) (subcommand_rows_of matches.now)) }
+    requires known { IsKnown (option_map (λ p. p.0) (subcommand_rows_of matches.now)) }
+    requires read { IfSome (subcommand_rows_of matches.now) (λ p. HasNumbers p.1 × HasSwitches p.1) }
     ensures ok { IfOk result (IsAsked (subcommand_rows_of matches.now)) }
     ensures err { IfErr result (λ e. e ≡ JobError.NoMemory) }
 {
@@ -193,6 +195,7 @@ fn asked(alloc: Global, matches: &ArgMatches<'_>) -> Result<Job, JobError>
 }
 
 fn compile_job(alloc: Global, found: &ArgMatches<'_>) -> Result<Job, JobError>
+    requires { HasSwitches (rows_of (found_of found.now)) }
     ensures ok { IfOk result (IsAsked (Some (codes "compile", rows_of (found_of found.now)))) }
     ensures err { IfErr result (λ e. e ≡ JobError.NoMemory) }
 {
@@ -219,6 +222,7 @@ fn check_job(alloc: Global, found: &ArgMatches<'_>) -> Result<Job, JobError>
 }
 
 fn run_job(alloc: Global, found: &ArgMatches<'_>) -> Result<Job, JobError>
+    requires { HasNumbers (rows_of (found_of found.now)) }
     ensures ok { IfOk result (IsAsked (Some (codes "run", rows_of (found_of found.now)))) }
     ensures err { IfErr result (λ e. e ≡ JobError.NoMemory) }
 {
@@ -232,6 +236,8 @@ fn run_job(alloc: Global, found: &ArgMatches<'_>) -> Result<Job, JobError>
 }
 
 fn render_job(alloc: Global, found: &ArgMatches<'_>) -> Result<Job, JobError>
+    requires numbers { HasNumbers (rows_of (found_of found.now)) }
+    requires switches { HasSwitches (rows_of (found_of found.now)) }
     ensures ok { IfOk result (IsAsked (Some (codes "render", rows_of (found_of found.now)))) }
     ensures err { IfErr result (λ e. e ≡ JobError.NoMemory) }
 {
@@ -264,6 +270,7 @@ fn context(alloc: Global, found: &ArgMatches<'_>) -> Result<Option<String>, Allo
 
 /// How templates are read: as usual but for the flags that were given.
 fn options(found: &ArgMatches<'_>) -> Options
+    requires { HasSwitches (rows_of (found_of found.now)) }
     ensures { IsOptions (rows_of (found_of found.now)) result }
 {
     Options {
@@ -276,6 +283,7 @@ fn options(found: &ArgMatches<'_>) -> Options
 
 /// Whether a flag was given.
 fn flag(found: &ArgMatches<'_>, name: &str) -> bool
+    requires { IfSome (one_of name.now (rows_of (found_of found.now))) IsSwitch }
     ensures { IsFlag (one_of name.now (rows_of (found_of found.now))) result }
 {
     found.get_flag(name)
@@ -283,6 +291,7 @@ fn flag(found: &ArgMatches<'_>, name: &str) -> bool
 
 /// The numbers that were given, and the defaults of the others.
 fn budget(found: &ArgMatches<'_>) -> Budget
+    requires { HasNumbers (rows_of (found_of found.now)) }
     ensures { IsBudget (rows_of (found_of found.now)) result }
 {
     Budget {
@@ -296,6 +305,7 @@ fn budget(found: &ArgMatches<'_>) -> Budget
 
 /// A number of 64 bits.
 fn long_number(found: &ArgMatches<'_>, name: &str, default: u64) -> u64
+    requires { IfSome (one_of name.now (rows_of (found_of found.now))) (IsNumber 64) }
     ensures { IsGiven 64 default (one_of name.now (rows_of (found_of found.now))) result }
 {
     found.get_one(name).unwrap_or(default)
@@ -303,6 +313,7 @@ fn long_number(found: &ArgMatches<'_>, name: &str, default: u64) -> u64
 
 /// A number of 32 bits.
 fn number(found: &ArgMatches<'_>, name: &str, default: u32) -> u32
+    requires { IfSome (one_of name.now (rows_of (found_of found.now))) (IsNumber 32) }
     ensures { IsGiven 32 default (one_of name.now (rows_of (found_of found.now))) result }
 {
     found.get_one(name).unwrap_or(default)
@@ -310,6 +321,7 @@ fn number(found: &ArgMatches<'_>, name: &str, default: u32) -> u32
 
 /// A number of 8 bits.
 fn short_number(found: &ArgMatches<'_>, name: &str, default: u8) -> u8
+    requires { IfSome (one_of name.now (rows_of (found_of found.now))) (IsNumber 8) }
     ensures { IsGiven 8 default (one_of name.now (rows_of (found_of found.now))) result }
 {
     found.get_one(name).unwrap_or(default)

@@ -1,6 +1,5 @@
--- What is answered of segments.
-use Rattle.std.proofs.Common.{◌≡◌, ℕ, ◌≤◌, List, refl, sym, ap, ◌∙◌, Option, None, Result, Ok, Err, IfOk, IfErr, MatchResult}
-use Rattle.jt_scan.specs.Cut.{Segment, weight_of}
+-- What is answered of pieces.
+use Rattle.std.proofs.Common.{◌≡◌, ℕ, ◌≤◌, List, Bool, true, false, refl, sym, ap, ◌∙◌, Option, Some, None, Result, Ok, Err, IfOk, IfErr, MatchResult}
 use Rattle.jt_expr.specs.Reading.{Fault, syntax, deep}
 use Rattle.jt_expr.specs.Trees.{Expr}
 use Rattle.jt_expr.specs.Gives.{GivesWhole}
@@ -8,21 +7,30 @@ use Rattle.jt_expr.specs.declared.error.ExprError.{ExprError}
 use Rattle.jt_expr.specs.declared.error.ExprError.TheVariants as fault
 use Rattle.jt_expr.specs.declared.named.Named.{Named}
 use Rattle.jt_expr.specs.declared.named.Named.TheVariants as named
-use Rattle.jt_parse.specs.Trees.{Body, body_levels, body_weight}
-use Rattle.jt_parse.specs.Names.{body_unknown, StandsAt}
-use Rattle.jt_parse.specs.Grammar.{Forms}
+use Rattle.jt_parse.specs.Trees.{Body, body_levels}
+use Rattle.jt_parse.specs.Tags as tags
+use Rattle.jt_parse.specs.HeadView as heads
+use Rattle.jt_parse.specs.Kept.{Piece, pieces}
+use Rattle.jt_parse.specs.Trees.{body_weight}
+use Rattle.jt_parse.specs.Bytes.{body_bytes, bytes_of}
+use Rattle.jt_scan.specs.Cut.{weight_of}
+use Rattle.jt_scan.specs.View.{cut_of}
+use Rattle.jt_scan.specs.declared.segment.Segment.{Segment as Part}
+use Rattle.jt_parse.proofs.Weighs.{weighs_less}
+use Rattle.jt_parse.proofs.Short.{no_longer}
+use Rattle.jt_parse.specs.Names.{Found, body_unknown}
+use Rattle.jt_parse.specs.Places.{is_placed}
+use Rattle.jt_parse.specs.Grammar.{Forms, Spelled}
 use Rattle.jt_parse.specs.Reading.{parsed}
-use Rattle.jt_parse.specs.View.{body_of}
-use Rattle.jt_parse.specs.Gives.{Refuses, GivesTemplate, GivesNames, GivesKnown, Finds, HoldsUnknown, IsRefusal, refusal_at}
+use Rattle.jt_parse.specs.View.{body_of, reads_of}
+use Rattle.jt_parse.specs.Gives.{Refuses, GivesTemplate, GivesNames, GivesPlaces, IsMisplaced, IsNone, not_read, misplaced, GivesKnown, Finds, refusal_at}
+use Rattle.jt_parse.specs.Refusals.{HoldsUnknown, IsRefusal}
 use Rattle.jt_parse.specs.declared.error.ParseError.{ParseError}
 use Rattle.jt_parse.specs.declared.error.ParseError.TheVariants as e
 use Rattle.jt_parse.specs.declared.tree.Template.{Template}
-use Rattle.jt_parse.proofs.Exact.{found, exact, syntax_only, deep_only, different}
-use Rattle.jt_parse.proofs.Weighs.{forms_weighs}
-use Rattle.jt_parse.proofs.Short.{forms_short}
-use Rattle.jt_parse.specs.Bytes.{body_bytes, bytes_of}
+use Rattle.jt_parse.proofs.Exact.{found, exact, syntax_only, deep_only, different, one_tree}
 
--- ---- what is read, and its names
+-- ---- what is read, its places, and its names
 
 -- a refusal of an expression
 pub refused_at : (o : Result Expr Fault) (line : ℕ) (f : ExprError) → GivesWhole o (Err f) → Refuses o (refusal_at line f)
@@ -32,62 +40,86 @@ refused_at o line fault.UnknownFilter g = absurd g
 refused_at o line fault.UnknownTest g = absurd g
 refused_at o line fault.NoMemory g = tt
 
-pub found_unknown : (o : Result Body Fault) (b : Body) (f : ParseError) → o ≡ Ok b → GivesNames (body_unknown b) (Err f) → GivesKnown o (Err f)
-found_unknown o b (e.Syntax l) is g = absurd g
-found_unknown o b (e.TooDeep l) is g = absurd g
-found_unknown o b (e.UnknownFilter l) is g = (b, is, g)
-found_unknown o b (e.UnknownTest l) is g = (b, is, g)
-found_unknown o b e.NoMemory is g = absurd g
+-- a refusal of a statement's first tag
+pub head_refused_at : (o : Result tags.Head Fault) (line : ℕ) (f : ExprError) → heads.GivesWhole o (Err f) → Refuses o (refusal_at line f)
+head_refused_at o line fault.Syntax g = g
+head_refused_at o line fault.TooDeep g = g
+head_refused_at o line fault.UnknownFilter g = absurd g
+head_refused_at o line fault.UnknownTest g = absurd g
+head_refused_at o line fault.NoMemory g = tt
 
 pub refused_read : (o : Result Body Fault) (f : ParseError) → GivesTemplate o (Err f) → GivesKnown o (Err f)
-refused_read o (e.Syntax l) g = g
+refused_read o (e.Syntax l) g = not_read g
 refused_read o (e.TooDeep l) g = g
 refused_read o (e.UnknownFilter l) g = absurd g
 refused_read o (e.UnknownTest l) g = absurd g
 refused_read o e.NoMemory g = tt
 
+pub found_misplaced : (o : Result Body Fault) (b : Body) (f : ParseError) → o ≡ Ok b → GivesPlaces (is_placed b) (Err f) → GivesKnown o (Err f)
+found_misplaced o b (e.Syntax l) is g = misplaced (b, is, g)
+found_misplaced o b (e.TooDeep l) is g = absurd g
+found_misplaced o b (e.UnknownFilter l) is g = absurd g
+found_misplaced o b (e.UnknownTest l) is g = absurd g
+found_misplaced o b e.NoMemory is g = absurd g
+
+pub found_unknown : (o : Result Body Fault) (b : Body) (f : ParseError) → o ≡ Ok b → is_placed b ≡ true → GivesNames (body_unknown b) (Err f) → GivesKnown o (Err f)
+found_unknown o b (e.Syntax l) is p g = absurd g
+found_unknown o b (e.TooDeep l) is p g = absurd g
+found_unknown o b (e.UnknownFilter l) is p g = (b, is, p, g)
+found_unknown o b (e.UnknownTest l) is p g = (b, is, p, g)
+found_unknown o b e.NoMemory is p g = absurd g
+
 same_body : (o : Result Body Fault) (a b : Body) → o ≡ Ok a → o ≡ Ok b → a ≡ b
 same_body o a b is same = cc
 
-stands_not : {G : Type 0} (line : ℕ) (n : Named) (found : Option (ℕ × Expr)) → StandsAt line n found → found ≡ None → G
-stands_not line n found (t, is, h) none = absurd (cc)
-
 not_known : {G : Type 0} (o : Result Body Fault) (b : Body) (line : ℕ) (n : Named) → Finds o line n → o ≡ Ok b → body_unknown b ≡ None → G
-not_known o b line n (a, is, s) g k = stands_not line n (body_unknown a) s (ap body_unknown (same_body o a b is g) ∙ k)
+not_known o b line n (a, is, p, s) g k = let q : body_unknown a ≡ None = ap body_unknown (same_body o a b is g) ∙ k in absurd (cc)
 
-holds : (ss : List Segment) (line : ℕ) (n : Named) → Finds (parsed 100 ss) line n → HoldsUnknown line n ss
-holds ss line n (b, is, s) = let h = exact 100 b ss is in (b, h.0, h.1, s)
+holds : (ps : List Piece) (line : ℕ) (n : Named) → Finds (parsed 100 ps) line n → HoldsUnknown line n ps
+holds ps line n (b, is, p, s) = let h = exact 100 b ps is in (b, (h.0, p), h.1, s)
+
+not_placed : {G : Type 0} (b : Body) → is_placed b ≡ true → is_placed b ≡ false → G
+not_placed b t f = absurd (cc)
 
 -- ---- the answer
 
-pub answer_spelled : (ss : List Segment) (r : Result Template ParseError) → GivesKnown (parsed 100 ss) r → IfOk r (λ t. Forms (body_of t) ss × (body_levels (body_of t) ≤ 100))
-answer_spelled ss (Ok t) g = exact 100 (body_of t) ss g.0
-answer_spelled ss (Err x) g = tt
+pub answer_spelled : (ps : List Piece) (r : Result Template ParseError) → GivesKnown (parsed 100 ps) r → IfOk r (λ t. Spelled (body_of t) ps × (body_levels (body_of t) ≤ 100))
+answer_spelled ps (Ok t) g = let h = exact 100 (body_of t) ps g.0 in ((h.0, g.1), h.1)
+answer_spelled ps (Err x) g = tt
 
-pub answer_known : (ss : List Segment) (r : Result Template ParseError) → GivesKnown (parsed 100 ss) r → IfOk r (λ t. body_unknown (body_of t) ≡ None)
-answer_known ss (Ok t) g = g.1
-answer_known ss (Err x) g = tt
+pub answer_known : (ps : List Piece) (r : Result Template ParseError) → GivesKnown (parsed 100 ps) r → IfOk r (λ t. body_unknown (body_of t) ≡ None)
+answer_known ps (Ok t) g = g.2
+answer_known ps (Err x) g = tt
 
-pub answer_only : (ss : List Segment) (r : Result Template ParseError) → GivesKnown (parsed 100 ss) r → (b : Body) → Forms b ss → body_levels b ≤ 100 → body_unknown b ≡ None → MatchResult r (λ t. body_of t ≡ b) (λ x. x ≡ e.NoMemory)
-answer_only ss (Ok t) g b f le k = same_body (parsed 100 ss) (body_of t) b g.0 (found 100 b ss f le)
-answer_only ss (Err (e.Syntax l)) g b f le k = different syntax b (sym (found 100 b ss f le) ∙ g)
-answer_only ss (Err (e.TooDeep l)) g b f le k = different deep b (sym (found 100 b ss f le) ∙ g)
-answer_only ss (Err (e.UnknownFilter l)) g b f le k = not_known (parsed 100 ss) b l named.Filter g (found 100 b ss f le) k
-answer_only ss (Err (e.UnknownTest l)) g b f le k = not_known (parsed 100 ss) b l named.Test g (found 100 b ss f le) k
-answer_only ss (Err e.NoMemory) g b f le k = refl
+none_only : {G : Type 0} (ps : List Piece) (b : Body) → IsNone (parsed 100 ps) → parsed 100 ps ≡ Ok b → is_placed b ≡ true → G
+none_only ps b (not_read n) f p = different syntax b (sym f ∙ n)
+none_only ps b (misplaced (a, is, m)) f p = not_placed b p (ap is_placed (sym (same_body (parsed 100 ps) a b is f)) ∙ m)
 
-pub answer_refused : (ss : List Segment) (r : Result Template ParseError) → GivesKnown (parsed 100 ss) r → IfErr r (λ x. IsRefusal x ss)
-answer_refused ss (Ok t) g = tt
-answer_refused ss (Err (e.Syntax l)) g = λ b f. syntax_only 100 b ss g f
-answer_refused ss (Err (e.TooDeep l)) g = λ b f. deep_only 100 b ss g f
-answer_refused ss (Err (e.UnknownFilter l)) g = holds ss l named.Filter g
-answer_refused ss (Err (e.UnknownTest l)) g = holds ss l named.Test g
-answer_refused ss (Err e.NoMemory) g = tt
+pub answer_only : (ps : List Piece) (r : Result Template ParseError) → GivesKnown (parsed 100 ps) r → (b : Body) → Spelled b ps → body_levels b ≤ 100 → body_unknown b ≡ None → MatchResult r (λ t. body_of t ≡ b) (λ x. x ≡ e.NoMemory)
+answer_only ps (Ok t) g b s le k = same_body (parsed 100 ps) (body_of t) b g.0 (found 100 b ps s.0 le)
+answer_only ps (Err (e.Syntax l)) g b s le k = none_only ps b g (found 100 b ps s.0 le) s.1
+answer_only ps (Err (e.TooDeep l)) g b s le k = different deep b (sym (found 100 b ps s.0 le) ∙ g)
+answer_only ps (Err (e.UnknownFilter l)) g b s le k = not_known (parsed 100 ps) b l named.Filter g (found 100 b ps s.0 le) k
+answer_only ps (Err (e.UnknownTest l)) g b s le k = not_known (parsed 100 ps) b l named.Test g (found 100 b ps s.0 le) k
+answer_only ps (Err e.NoMemory) g b s le k = refl
 
-pub answer_weighs : (ss : List Segment) (r : Result Template ParseError) → GivesKnown (parsed 100 ss) r → IfOk r (λ t. body_weight (body_of t) ≤ weight_of ss)
-answer_weighs ss (Ok t) g = forms_weighs (exact 100 (body_of t) ss g.0).0
-answer_weighs ss (Err x) g = tt
+-- a tree whose statements stand where they may is not spelled beside the one that is read
+none_spelled : (ps : List Piece) → IsNone (parsed 100 ps) → (b : Body) → Spelled b ps → ⊥
+none_spelled ps (not_read n) b s = syntax_only 100 b ps n s.0
+none_spelled ps (misplaced (a, is, m)) b s = not_placed a (ap is_placed (one_tree ps a b (exact 100 a ps is).0 s.0) ∙ s.1) m
 
-pub answer_short : (ss : List Segment) (r : Result Template ParseError) → GivesKnown (parsed 100 ss) r → IfOk r (λ t. body_bytes (body_of t) ≤ bytes_of ss)
-answer_short ss (Ok t) g = forms_short (exact 100 (body_of t) ss g.0).0
-answer_short ss (Err x) g = tt
+pub answer_refused : (ps : List Piece) (r : Result Template ParseError) → GivesKnown (parsed 100 ps) r → IfErr r (λ x. IsRefusal x ps)
+answer_refused ps (Ok t) g = tt
+answer_refused ps (Err (e.Syntax l)) g = λ b s. none_spelled ps g b s
+answer_refused ps (Err (e.TooDeep l)) g = λ b s. deep_only 100 b ps g s.0
+answer_refused ps (Err (e.UnknownFilter l)) g = holds ps l named.Filter g
+answer_refused ps (Err (e.UnknownTest l)) g = holds ps l named.Test g
+answer_refused ps (Err e.NoMemory) g = tt
+
+pub answer_weighs : (gs : List Part) (r : Result Template ParseError) → GivesKnown (parsed 100 (pieces (reads_of gs))) r → IfOk r (λ t. body_weight (body_of t) ≤ weight_of (cut_of gs))
+answer_weighs gs (Ok t) g = weighs_less gs (exact 100 (body_of t) (pieces (reads_of gs)) g.0).0
+answer_weighs gs (Err x) g = tt
+
+pub answer_short : (gs : List Part) (r : Result Template ParseError) → GivesKnown (parsed 100 (pieces (reads_of gs))) r → IfOk r (λ t. body_bytes (body_of t) ≤ bytes_of (cut_of gs))
+answer_short gs (Ok t) g = no_longer gs (exact 100 (body_of t) (pieces (reads_of gs)) g.0).0
+answer_short gs (Err x) g = tt

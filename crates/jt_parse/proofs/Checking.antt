@@ -1,27 +1,19 @@
--- What is found in statements and branches, one after the other.
-use Rattle.std.proofs.Common.{◌≡◌, ℕ, ◌+◌, ◌<◌, ◌||◌, if◌then◌else◌, Bool, true, false, List, length, drop, get_or, refl, sym, ap, subst, ◌∙◌, Option, Some, None, Result, Err, Vec, Global}
+-- What is found in branches, one after the other.
+use Rattle.std.proofs.Common.{◌≡◌, ℕ, ◌+◌, ◌<◌, List, length, drop, get_or, refl, sym, ap, subst, ◌∙◌, Option, Some, None, Result, Err, Vec, Global}
 use Rattle.std.specs.Option.{option_or}
 use Rattle.std.proofs.lemmas.List.{drop_more}
-use Rattle.jt_expr.specs.Trees as expressions
-use Rattle.jt_expr.specs.Named.{has_unknown, IsKnown, Blames}
+use Rattle.jt_expr.specs.Named.{has_unknown}
 use Rattle.jt_expr.specs.View.{expr_view}
-use Rattle.jt_expr.specs.declared.error.ExprError.{ExprError}
-use Rattle.jt_expr.specs.declared.error.ExprError.TheVariants as fault
 use Rattle.jt_expr.specs.declared.named.Named.TheVariants as named
 use Rattle.jt_expr.specs.declared.tree.Expr.{Expr}
-use Rattle.jt_parse.specs.Trees as trees
-use Rattle.jt_parse.specs.Names.{unknown_at, stmt_unknown, body_unknown, branch_unknown}
+use Rattle.jt_parse.specs.Names.{Found, unknown_in, stmt_unknown, body_unknown, branch_unknown}
 use Rattle.jt_parse.specs.View.{stmt_view, body_view, branches_view}
-use Rattle.jt_parse.specs.Gives.{GivesNames, refusal_at}
+use Rattle.jt_parse.specs.Gives.{GivesNames}
 use Rattle.jt_parse.specs.declared.error.ParseError.{ParseError}
 use Rattle.jt_parse.specs.declared.error.ParseError.TheVariants as e
 use Rattle.jt_parse.specs.declared.tree.Stmt.{Stmt}
 use Rattle.jt_parse.specs.declared.tree.Stmt.TheVariants.{If}
 use Rattle.jt_parse.proofs.Views.{view-If}
-
--- a tag with a name that has no meaning, if there is one
-abbrev pub Found : Type 0
-Found = Option (ℕ × expressions.Expr)
 
 abbrev pub Branch : Type 0
 Branch = ℕ × Expr × Vec Stmt Global
@@ -38,57 +30,19 @@ option_right o p none = ap (λ q. option_or q p) none
 pub fault_first : (o p : Found) (f : ParseError) → GivesNames o (Err f) → GivesNames (option_or o p) (Err f)
 fault_first o p (e.Syntax l) g = absurd g
 fault_first o p (e.TooDeep l) g = absurd g
-fault_first o p (e.UnknownFilter l) (t, is, h) = (t, option_left o p (l, t) is, h)
-fault_first o p (e.UnknownTest l) (t, is, h) = (t, option_left o p (l, t) is, h)
+fault_first o p (e.UnknownFilter l) g = option_left o p (l, named.Filter) g
+fault_first o p (e.UnknownTest l) g = option_left o p (l, named.Test) g
 fault_first o p e.NoMemory g = absurd g
 
 -- behind what has none, it is what is behind
 pub fault_behind : (o p : Found) (r : Result (Unit {0}) ParseError) → o ≡ None → GivesNames p r → GivesNames (option_or o p) r
 fault_behind o p r none g = subst (λ q. GivesNames q r) (sym (option_right o p none)) g
 
--- ---- the expression of a tag
-
-both_known : (a b : Bool) (p : ℕ × expressions.Expr) → a ≡ false → b ≡ false → (if a || b then Some p else None) ≡ None
-both_known a b p f g = ap (λ c. if c || b then Some p else None) f ∙ ap (λ c. if c then Some p else None) g
-
-first_blamed : (a b : Bool) (p : ℕ × expressions.Expr) → a ≡ true → (if a || b then Some p else None) ≡ Some p
-first_blamed a b p f = ap (λ c. if c || b then Some p else None) f
-
-second_blamed : (a b : Bool) (p : ℕ × expressions.Expr) → b ≡ true → (if a || b then Some p else None) ≡ Some p
-second_blamed true b p f = refl
-second_blamed false b p f = ap (λ c. if c then Some p else None) f
-
-pub known_at : (line : ℕ) (t : expressions.Expr) → IsKnown t → unknown_at line t ≡ None
-known_at line t (f, g) = both_known (has_unknown named.Filter t) (has_unknown named.Test t) (line, t) f g
-
-pub blamed_at : (line : ℕ) (t : expressions.Expr) (f : ExprError) → Blames f t → GivesNames (unknown_at line t) (Err (refusal_at line f))
-blamed_at line t fault.Syntax h = absurd h
-blamed_at line t fault.TooDeep h = absurd h
-blamed_at line t fault.UnknownFilter h = (t, first_blamed (has_unknown named.Filter t) (has_unknown named.Test t) (line, t) h, h)
-blamed_at line t fault.UnknownTest h = (t, second_blamed (has_unknown named.Filter t) (has_unknown named.Test t) (line, t) h.1, h)
-blamed_at line t fault.NoMemory h = absurd h
-
--- ---- statements
-
--- what is left of statements
-statements_left : (ss : List Stmt) (i : ℕ) (s : Stmt) → i < length ss → s ≡ get_or ss i s → body_view (drop i ss) ≡ trees.stmt (stmt_view s) (body_view (drop (i + 1) ss))
-statements_left ss i s lt is = ap body_view (drop_more ss i s lt) ∙ ap (λ (z : Stmt). trees.stmt (stmt_view z) (body_view (drop (i + 1) ss))) (sym is)
-
-pub statement_known : (ss : List Stmt) (i : ℕ) (s : Stmt) → i < length ss → s ≡ get_or ss i s → stmt_unknown (stmt_view s) ≡ None
-    → body_unknown (body_view (drop i ss)) ≡ body_unknown (body_view (drop (i + 1) ss))
-statement_known ss i s lt is none =
-    ap body_unknown (statements_left ss i s lt is) ∙ option_right (stmt_unknown (stmt_view s)) (body_unknown (body_view (drop (i + 1) ss))) none
-
-pub statement_refused : (ss : List Stmt) (i : ℕ) (s : Stmt) (f : ParseError) → i < length ss → s ≡ get_or ss i s → GivesNames (stmt_unknown (stmt_view s)) (Err f)
-    → GivesNames (body_unknown (body_view (drop i ss))) (Err f)
-statement_refused ss i s f lt is g =
-    subst (λ b. GivesNames (body_unknown b) (Err f)) (sym (statements_left ss i s lt is)) (fault_first (stmt_unknown (stmt_view s)) (body_unknown (body_view (drop (i + 1) ss))) f g)
-
 -- ---- branches
 
 -- what is found in one branch
 abbrev branch_at : Branch → Found
-branch_at b = option_or (unknown_at b.0 (expr_view b.1)) (body_unknown (body_view b.2.items))
+branch_at b = option_or (unknown_in b.0 (λ u. has_unknown u (expr_view b.1))) (body_unknown (body_view b.2.items))
 
 -- what is left of branches
 branches_left : (bs : List Branch) (i : ℕ) (b : Branch) → i < length bs → b ≡ get_or bs i b
@@ -97,23 +51,23 @@ branches_left bs i b lt is =
     ap (λ (z : List Branch). branch_unknown (branches_view z)) (drop_more bs i b lt)
     ∙ ap (λ (z : Branch). option_or (branch_at z) (branch_unknown (branches_view (drop (i + 1) bs)))) (sym is)
 
-pub branch_known : (bs : List Branch) (i : ℕ) (b : Branch) → i < length bs → b ≡ get_or bs i b → unknown_at b.0 (expr_view b.1) ≡ None → body_unknown (body_view b.2.items) ≡ None
+pub branch_known : (bs : List Branch) (i : ℕ) (b : Branch) → i < length bs → b ≡ get_or bs i b → unknown_in b.0 (λ u. has_unknown u (expr_view b.1)) ≡ None → body_unknown (body_view b.2.items) ≡ None
     → branch_unknown (branches_view (drop i bs)) ≡ branch_unknown (branches_view (drop (i + 1) bs))
 branch_known bs i b lt is c d =
     branches_left bs i b lt is
-    ∙ option_right (branch_at b) (branch_unknown (branches_view (drop (i + 1) bs))) (option_right (unknown_at b.0 (expr_view b.1)) (body_unknown (body_view b.2.items)) c ∙ d)
+    ∙ option_right (branch_at b) (branch_unknown (branches_view (drop (i + 1) bs))) (option_right (unknown_in b.0 (λ u. has_unknown u (expr_view b.1))) (body_unknown (body_view b.2.items)) c ∙ d)
 
 branch_refused : (bs : List Branch) (i : ℕ) (b : Branch) (f : ParseError) → i < length bs → b ≡ get_or bs i b → GivesNames (branch_at b) (Err f) → GivesNames (branch_unknown (branches_view (drop i bs))) (Err f)
 branch_refused bs i b f lt is g =
     subst (λ o. GivesNames o (Err f)) (sym (branches_left bs i b lt is)) (fault_first (branch_at b) (branch_unknown (branches_view (drop (i + 1) bs))) f g)
 
-pub condition_refused : (bs : List Branch) (i : ℕ) (b : Branch) (f : ParseError) → i < length bs → b ≡ get_or bs i b → GivesNames (unknown_at b.0 (expr_view b.1)) (Err f)
+pub condition_refused : (bs : List Branch) (i : ℕ) (b : Branch) (f : ParseError) → i < length bs → b ≡ get_or bs i b → GivesNames (unknown_in b.0 (λ u. has_unknown u (expr_view b.1))) (Err f)
     → GivesNames (branch_unknown (branches_view (drop i bs))) (Err f)
-condition_refused bs i b f lt is g = branch_refused bs i b f lt is (fault_first (unknown_at b.0 (expr_view b.1)) (body_unknown (body_view b.2.items)) f g)
+condition_refused bs i b f lt is g = branch_refused bs i b f lt is (fault_first (unknown_in b.0 (λ u. has_unknown u (expr_view b.1))) (body_unknown (body_view b.2.items)) f g)
 
-pub inside_refused : (bs : List Branch) (i : ℕ) (b : Branch) (f : ParseError) → i < length bs → b ≡ get_or bs i b → unknown_at b.0 (expr_view b.1) ≡ None → GivesNames (body_unknown (body_view b.2.items)) (Err f)
+pub inside_refused : (bs : List Branch) (i : ℕ) (b : Branch) (f : ParseError) → i < length bs → b ≡ get_or bs i b → unknown_in b.0 (λ u. has_unknown u (expr_view b.1)) ≡ None → GivesNames (body_unknown (body_view b.2.items)) (Err f)
     → GivesNames (branch_unknown (branches_view (drop i bs))) (Err f)
-inside_refused bs i b f lt is c g = branch_refused bs i b f lt is (fault_behind (unknown_at b.0 (expr_view b.1)) (body_unknown (body_view b.2.items)) (Err f) c g)
+inside_refused bs i b f lt is c g = branch_refused bs i b f lt is (fault_behind (unknown_in b.0 (λ u. has_unknown u (expr_view b.1))) (body_unknown (body_view b.2.items)) (Err f) c g)
 
 -- ---- an `if`
 

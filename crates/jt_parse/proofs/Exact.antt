@@ -1,7 +1,7 @@
 -- What all the segments spell, and what is answered.
-use Rattle.std.proofs.Common.{◌≡◌, ℕ, ◌<◌, ◌≤◌, List, sym, ◌∙◌, Result, Ok, Err, ⊎_elim}
+use Rattle.std.proofs.Common.{◌≡◌, ℕ, ◌<◌, ◌≤◌, max, List, sym, ◌∙◌, arith, Result, Ok, Err, ⊎_elim}
 use Rattle.std.proofs.lemmas.Bool.{cases_lt}
-use Rattle.jt_scan.specs.Cut.{Segment}
+use Rattle.jt_parse.specs.Kept.{Piece}
 use Rattle.jt_parse.specs.Trees.{Body, body_levels}
 use Rattle.jt_parse.specs.Grammar.{Forms}
 use Rattle.jt_expr.specs.Reading.{Fault, syntax, deep}
@@ -20,36 +20,43 @@ not_both : {G : Type 0} → deep ≡ syntax → G
 not_both e = absurd (cc)
 
 -- a tree within the levels is read
-pub found : (n : ℕ) (b : Body) (ss : List Segment) → Forms b ss → body_levels b ≤ n → parsed n ss ≡ Ok b
-found n b ss f le = read_whole n f ∙ within_in (body_levels b) n (Ok b) le
+pub found : (n : ℕ) (b : Body) (ps : List Piece) → Forms b ps → body_levels b ≤ n → parsed n ps ≡ Ok b
+found n b ps f le = read_whole n f ∙ within_in (body_levels b) n (Ok b) le
 
 -- and one with more is refused as too deep
-pub too_deep : (n : ℕ) (b : Body) (ss : List Segment) → Forms b ss → n < body_levels b → parsed n ss ≡ Err deep
-too_deep n b ss f gt = read_whole n f ∙ within_out (body_levels b) n (Ok b) gt
+pub too_deep : (n : ℕ) (b : Body) (ps : List Piece) → Forms b ps → n < body_levels b → parsed n ps ≡ Err deep
+too_deep n b ps f gt = read_whole n f ∙ within_out (body_levels b) n (Ok b) gt
 
 -- what is read is spelled so, within the levels
-pub exact : (n : ℕ) (b : Body) (ss : List Segment) → parsed n ss ≡ Ok b → Forms b ss × (body_levels b ≤ n)
-exact n b ss e =
-    let f : Forms b ss = read_is_spelled n ss b e in (
+pub exact : (n : ℕ) (b : Body) (ps : List Piece) → parsed n ps ≡ Ok b → Forms b ps × (body_levels b ≤ n)
+exact n b ps e =
+    let f : Forms b ps = read_is_spelled n ps b e in (
       f,
       ⊎_elim
-          (λ (gt : n < body_levels b). different deep b (sym e ∙ too_deep n b ss f gt))
+          (λ (gt : n < body_levels b). different deep b (sym e ∙ too_deep n b ps f gt))
           (λ (le : body_levels b ≤ n). le)
           (cases_lt n (body_levels b)),
     )
 
 -- no tree is spelled so
-pub syntax_only : (n : ℕ) (b : Body) (ss : List Segment) → parsed n ss ≡ Err syntax → Forms b ss → ⊥
-syntax_only n b ss e f =
+pub syntax_only : (n : ℕ) (b : Body) (ps : List Piece) → parsed n ps ≡ Err syntax → Forms b ps → ⊥
+syntax_only n b ps e f =
     ⊎_elim
-    (λ (gt : n < body_levels b). not_both (errors deep syntax (sym (too_deep n b ss f gt) ∙ e)))
-    (λ (le : body_levels b ≤ n). different syntax b (sym (found n b ss f le) ∙ e))
+    (λ (gt : n < body_levels b). not_both (errors deep syntax (sym (too_deep n b ps f gt) ∙ e)))
+    (λ (le : body_levels b ≤ n). different syntax b (sym (found n b ps f le) ∙ e))
     (cases_lt n (body_levels b))
 
 -- each tree that is spelled so is too deep
-pub deep_only : (n : ℕ) (b : Body) (ss : List Segment) → parsed n ss ≡ Err deep → Forms b ss → n < body_levels b
-deep_only n b ss e f =
+pub deep_only : (n : ℕ) (b : Body) (ps : List Piece) → parsed n ps ≡ Err deep → Forms b ps → n < body_levels b
+deep_only n b ps e f =
     ⊎_elim
     (λ (gt : n < body_levels b). gt)
-    (λ (le : body_levels b ≤ n). different deep b (sym (found n b ss f le) ∙ e))
+    (λ (le : body_levels b ≤ n). different deep b (sym (found n b ps f le) ∙ e))
     (cases_lt n (body_levels b))
+
+-- pieces spell one tree at most
+pub one_tree : (ps : List Piece) (a b : Body) → Forms a ps → Forms b ps → a ≡ b
+one_tree ps a b f g =
+    let p = found (max (body_levels a) (body_levels b)) a ps f (omega arith) in
+    let q = found (max (body_levels a) (body_levels b)) b ps g (omega arith) in
+    cc

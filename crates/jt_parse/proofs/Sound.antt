@@ -1,39 +1,61 @@
 -- What is read is spelled so.
-use Rattle.std.proofs.Common.{◌≡◌, ℕ, suc, ◌-◌, true, List, [], ◌∷◌, ◌++◌, length, codes, refl, sym, ap, subst, ◌∙◌, append_assoc, Result, Ok, Err, encode_utf8_all, bytes_eq}
+use Rattle.std.proofs.Common.{◌≡◌, ℕ, suc, ◌-◌, ◌&&◌, nat_lt, Bool, true, false, List, [], ◌∷◌, ◌++◌, length, codes, refl, sym, ap, subst, ◌∙◌, append_assoc, Result, Ok, Err, encode_utf8_all, bytes_eq}
 use Rattle.std.proofs.lemmas.Slice.Eq.{bytes_eq-Decides}
 use Rattle.jt_scan.specs.declared.segment.Kind.TheVariants as kind
 use Rattle.jt_scan.specs.Cut as cut
-use Rattle.jt_scan.specs.Cut.{Token, Segment}
+use Rattle.jt_scan.specs.Cut.{Token}
 use Rattle.jt_expr.specs.Trees.{Expr}
 use Rattle.jt_expr.specs.Grammar as expressions
 use Rattle.jt_expr.specs.Grammar.{word, Spells}
-use Rattle.jt_expr.specs.Reading.{Fault, syntax}
+use Rattle.jt_expr.specs.Reading as reader
+use Rattle.jt_expr.specs.Reading.{Fault, syntax, deep}
 use Rattle.jt_expr.proofs.Branches.{by_test}
 use Rattle.jt_parse.specs.Trees.{Text, Stmt, data_of, print, choose, Body, end, stmt, Branches, no_branches, branch}
-use Rattle.jt_parse.specs.Grammar.{block, Forms, nothing_more, a_comment, some_data, a_print, an_if, GoesOn, no_else, an_else, an_elif}
-use Rattle.jt_parse.specs.Reading.{then_all, then_one, then_branches, then_branch, Frame, in_branch, in_else, State, state, ◌>>=◌, expression, step, run, whole, start, parsed, print_tag, if_tag, elif_tag, else_tag, endif_tag, block_tag}
+use Rattle.jt_parse.specs.Kept as kept
+use Rattle.jt_parse.specs.Kept.{Piece}
+use Rattle.jt_parse.specs.Tags.{Loop, Opening, a_text, values, filters, escaping, a_macro, a_block, Head, a_statement, an_if, a_loop, an_opening, made, looped, Says, says_if, Ends, by_word, by_name, end_word}
+use Rattle.jt_parse.specs.TagReading.{head_at, all_of}
+use Rattle.jt_parse.specs.Grammar.{block, Forms, nothing_more, some_data, a_print, one_tag, an_if_statement, a_for_statement, enclosed, GoesOn, no_elif, an_elif, Otherwise, no_else, an_else}
+use Rattle.jt_parse.specs.Reading as reading
+use Rattle.jt_parse.specs.Reading.{then_all, then_one, then_branches, then_branch, Frame, in_branch, in_else, in_loop, in_loop_else, in_opening, State, state, ◌>>=◌, allowed, headed, step, run, whole, start, parsed, print_tag, head_tag, elif_tag, else_tag, names_end, none_left, ends_frame, finished, end_tag, is_end_word, block_tag}
 use Rattle.jt_parse.proofs.Bodies.{all_end, all_all, branches_all}
 use Rattle.jt_parse.proofs.Expressions.{expression_sound, no_error}
+use Rattle.jt_parse.proofs.TagsSound.{says_sound_all}
 
-abbrev endif : ℕ → Segment
+abbrev endif : ℕ → Piece
 endif last = block last (word (codes "endif") ∷ [])
 
--- `Ends a fs ss w`: behind the statements a, with the frames fs open, the segments ss make the whole w
-data Ends : Body → List Frame → List Segment → Body → Type 0 where
-  outside : {a w : Body} {ss : List Segment} → (b : Body) → Forms b ss → then_all a b ≡ w → Ends a [] ss w
-  inside_if : {a before w : Body} {done : Branches} {line : ℕ} {c : Expr} {fs : List Frame} {ss : List Segment}
-      → (inner other : Body) (bs q : Branches) (last : ℕ) (xs ys rest : List Segment)
-      → Forms inner xs → GoesOn bs other ys → then_branches done (branch line c (then_all a inner) bs) ≡ q → xs ++ (ys ++ (endif last ∷ rest)) ≡ ss
-      → Ends (then_one before (choose q other)) fs rest w → Ends a (in_branch before done line c ∷ fs) ss w
-  inside_else : {a before w : Body} {done : Branches} {fs : List Frame} {ss : List Segment}
-      → (inner other : Body) (last : ℕ) (xs rest : List Segment)
-      → Forms inner xs → then_all a inner ≡ other → xs ++ (endif last ∷ rest) ≡ ss
-      → Ends (then_one before (choose done other)) fs rest w → Ends a (in_else before done ∷ fs) ss w
+abbrev endfor : ℕ → Piece
+endfor last = block last (word (codes "endfor") ∷ [])
 
--- statements t, which the segments x spell, stand in front
-grows : {a w : Body} {fs : List Frame} {ss : List Segment} (t : Body) (x : List Segment) → ((b : Body) (tail : List Segment) → Forms b tail → Forms (then_all t b) (x ++ tail))
-    → Ends (then_all a t) fs ss w → Ends a fs (x ++ ss) w
-grows {a} {w} {ss = ss} t x more (outside b f e) = outside (then_all t b) (more b ss f) (sym (all_all a t b) ∙ e)
+-- `Closes a fs ps w`: behind the statements a, with the frames fs open, the pieces ps make the whole w
+data Closes : Body → List Frame → List Piece → Body → Type 0 where
+  outside : {a w : Body} {ps : List Piece} → (b : Body) → Forms b ps → then_all a b ≡ w → Closes a [] ps w
+  inside_if : {a before w : Body} {done : Branches} {line : ℕ} {c : Expr} {fs : List Frame} {ps : List Piece}
+      → (inner other : Body) (bs q : Branches) (last : ℕ) (xs ys rest : List Piece)
+      → Forms inner xs → GoesOn bs other ys → then_branches done (branch line c (then_all a inner) bs) ≡ q → xs ++ (ys ++ (endif last ∷ rest)) ≡ ps
+      → Closes (then_one before (choose q other)) fs rest w → Closes a (in_branch before done line c ∷ fs) ps w
+  inside_else : {a before w : Body} {done : Branches} {fs : List Frame} {ps : List Piece}
+      → (inner other : Body) (last : ℕ) (xs rest : List Piece)
+      → Forms inner xs → then_all a inner ≡ other → xs ++ (endif last ∷ rest) ≡ ps
+      → Closes (then_one before (choose done other)) fs rest w → Closes a (in_else before done ∷ fs) ps w
+  inside_loop : {a before w : Body} {line : ℕ} {l : Loop} {fs : List Frame} {ps : List Piece}
+      → (inner other i : Body) (last : ℕ) (xs ys rest : List Piece)
+      → Forms inner xs → Otherwise other ys → then_all a inner ≡ i → xs ++ (ys ++ (endfor last ∷ rest)) ≡ ps
+      → Closes (then_one before (looped line l i other)) fs rest w → Closes a (in_loop before line l ∷ fs) ps w
+  inside_loop_else : {a before inside w : Body} {line : ℕ} {l : Loop} {fs : List Frame} {ps : List Piece}
+      → (inner other : Body) (last : ℕ) (xs rest : List Piece)
+      → Forms inner xs → then_all a inner ≡ other → xs ++ (endfor last ∷ rest) ≡ ps
+      → Closes (then_one before (looped line l inside other)) fs rest w → Closes a (in_loop_else before line l inside ∷ fs) ps w
+  inside_opening : {a before w : Body} {line : ℕ} {o : Opening} {fs : List Frame} {ps : List Piece}
+      → (inner i : Body) (last : ℕ) (us : List Token) (xs rest : List Piece)
+      → Forms inner xs → then_all a inner ≡ i → Ends o us → xs ++ (block last us ∷ rest) ≡ ps
+      → Closes (then_one before (made line o i)) fs rest w → Closes a (in_opening before line o ∷ fs) ps w
+
+-- statements t, which the pieces x spell, stand in front
+grows : {a w : Body} {fs : List Frame} {ps : List Piece} (t : Body) (x : List Piece) → ((b : Body) (tail : List Piece) → Forms b tail → Forms (then_all t b) (x ++ tail))
+    → Closes (then_all a t) fs ps w → Closes a fs (x ++ ps) w
+grows {a} {w} {ps = ps} t x more (outside b f e) = outside (then_all t b) (more b ps f) (sym (all_all a t b) ∙ e)
 grows {a} t x more (inside_if {done = done} {line = line} {c = c} inner other bs q last xs ys rest f g qe e r) =
     inside_if (then_all t inner) other bs q last (x ++ xs) ys rest (more inner xs f) g
     (ap (λ i. then_branches done (branch line c i bs)) (sym (all_all a t inner)) ∙ qe)
@@ -41,111 +63,198 @@ grows {a} t x more (inside_if {done = done} {line = line} {c = c} inner other bs
     r
 grows {a} t x more (inside_else inner other last xs rest f i e r) =
     inside_else (then_all t inner) other last (x ++ xs) rest (more inner xs f) (sym (all_all a t inner) ∙ i) (append_assoc x xs (endif last ∷ rest) ∙ ap (λ z. x ++ z) e) r
+grows {a} t x more (inside_loop inner other i last xs ys rest f g ie e r) =
+    inside_loop (then_all t inner) other i last (x ++ xs) ys rest (more inner xs f) g (sym (all_all a t inner) ∙ ie) (append_assoc x xs (ys ++ (endfor last ∷ rest)) ∙ ap (λ z. x ++ z) e) r
+grows {a} t x more (inside_loop_else inner other last xs rest f i e r) =
+    inside_loop_else (then_all t inner) other last (x ++ xs) rest (more inner xs f) (sym (all_all a t inner) ∙ i) (append_assoc x xs (endfor last ∷ rest) ∙ ap (λ z. x ++ z) e) r
+grows {a} t x more (inside_opening inner i last us xs rest f ie d e r) =
+    inside_opening (then_all t inner) i last us (x ++ xs) rest (more inner xs f) (sym (all_all a t inner) ∙ ie) d (append_assoc x xs (block last us ∷ rest) ∙ ap (λ z. x ++ z) e) r
 
-opened : {a w : Body} {line : ℕ} {c : Expr} {ts : List Token} {fs : List Frame} {ss : List Segment} → Spells expressions.whole c ts
-    → Ends end (in_branch a no_branches line c ∷ fs) ss w → Ends a fs (block line (word (codes "if") ∷ ts) ∷ ss) w
-opened {a} {w} {line} {c} {ts} {fs} {ss} d (inside_if inner other bs q last xs ys rest f g qe se r) =
+split : (xs ys tail : List Piece) (c : Piece) → (xs ++ (ys ++ (c ∷ []))) ++ tail ≡ xs ++ (ys ++ (c ∷ tail))
+split xs ys tail c = append_assoc xs (ys ++ (c ∷ [])) tail ∙ ap (λ z. xs ++ z) (append_assoc ys (c ∷ []) tail)
+
+opened_if : {a w : Body} {line : ℕ} {c : Expr} {ts : List Token} {fs : List Frame} {ps : List Piece} → Says line (an_if c) ts
+    → Closes end (in_branch a no_branches line c ∷ fs) ps w → Closes a fs (block line ts ∷ ps) w
+opened_if {a} {w} {line} {c} {ts} {fs} {ps} d (inside_if inner other bs q last xs ys rest f g qe se r) =
     let s : Stmt = choose (branch line c inner bs) other in
-    let tag : Segment = block line (word (codes "if") ∷ ts) in
-    let x : List Segment = xs ++ (ys ++ (endif last ∷ [])) in
-    let split : (tail : List Segment) → x ++ tail ≡ xs ++ (ys ++ (endif last ∷ tail)) =
-    λ tail. append_assoc xs (ys ++ (endif last ∷ [])) tail ∙ ap (λ z. xs ++ z) (append_assoc ys (endif last ∷ []) tail) in
-    subst (λ z. Ends a fs (tag ∷ z) w) (split rest ∙ se)
+    let tag : Piece = block line ts in
+    let x : List Piece = xs ++ (ys ++ (endif last ∷ [])) in
+    subst (λ z. Closes a fs (tag ∷ z) w) (split xs ys rest (endif last) ∙ se)
     (grows (stmt s end) (tag ∷ x)
-    (λ b tail k. subst (λ z. Forms (stmt s b) (tag ∷ z)) (sym (split tail)) (an_if last d f g k))
-    (subst (λ z. Ends (then_one a (choose z other)) fs rest w) (sym qe) r))
+    (λ b tail k. subst (λ z. Forms (stmt s b) (tag ∷ z)) (sym (split xs ys tail (endif last))) (an_if_statement last d f g k))
+    (subst (λ z. Closes (then_one a (choose z other)) fs rest w) (sym qe) r))
 
-elif_in : {a before w : Body} {done : Branches} {l line : ℕ} {c e : Expr} {ts : List Token} {fs : List Frame} {ss : List Segment} → Spells expressions.whole e ts
-    → Ends end (in_branch before (then_branch done l c a) line e ∷ fs) ss w → Ends a (in_branch before done l c ∷ fs) (block line (word (codes "elif") ∷ ts) ∷ ss) w
+opened_loop : {a w : Body} {line : ℕ} {l : Loop} {ts : List Token} {fs : List Frame} {ps : List Piece} → Says line (a_loop l) ts
+    → Closes end (in_loop a line l ∷ fs) ps w → Closes a fs (block line ts ∷ ps) w
+opened_loop {a} {w} {line} {l} {ts} {fs} {ps} d (inside_loop inner other i last xs ys rest f g ie se r) =
+    let s : Stmt = looped line l inner other in
+    let tag : Piece = block line ts in
+    let x : List Piece = xs ++ (ys ++ (endfor last ∷ [])) in
+    subst (λ z. Closes a fs (tag ∷ z) w) (split xs ys rest (endfor last) ∙ se)
+    (grows (stmt s end) (tag ∷ x)
+    (λ b tail k. subst (λ z. Forms (stmt s b) (tag ∷ z)) (sym (split xs ys tail (endfor last))) (a_for_statement last d f g k))
+    (subst (λ z. Closes (then_one a (looped line l z other)) fs rest w) (sym ie) r))
+
+opened_other : {a w : Body} {line : ℕ} {o : Opening} {ts : List Token} {fs : List Frame} {ps : List Piece} → Says line (an_opening o) ts
+    → Closes end (in_opening a line o ∷ fs) ps w → Closes a fs (block line ts ∷ ps) w
+opened_other {a} {w} {line} {o} {ts} {fs} {ps} d (inside_opening inner i last us xs rest f ie e se r) =
+    let s : Stmt = made line o inner in
+    let tag : Piece = block line ts in
+    let x : List Piece = xs ++ (block last us ∷ []) in
+    subst (λ z. Closes a fs (tag ∷ z) w) (append_assoc xs (block last us ∷ []) rest ∙ se)
+    (grows (stmt s end) (tag ∷ x)
+    (λ b tail k. subst (λ z. Forms (stmt s b) (tag ∷ z)) (sym (append_assoc xs (block last us ∷ []) tail)) (enclosed last d f e k))
+    (subst (λ z. Closes (then_one a (made line o z)) fs rest w) (sym ie) r))
+
+elif_in : {a before w : Body} {done : Branches} {l line : ℕ} {c e : Expr} {ts : List Token} {fs : List Frame} {ps : List Piece} → Spells expressions.whole e ts
+    → Closes end (in_branch before (then_branch done l c a) line e ∷ fs) ps w → Closes a (in_branch before done l c ∷ fs) (block line (word (codes "elif") ∷ ts) ∷ ps) w
 elif_in {a} {done = done} {l} {line} {c} {e} {ts} d (inside_if inner other bs q last xs ys rest f g qe se r) =
     inside_if end other (branch line e inner bs) q last [] (block line (word (codes "elif") ∷ ts) ∷ (xs ++ ys)) rest nothing_more (an_elif d f g)
     (ap (λ i. then_branches done (branch l c i (branch line e inner bs))) (all_end a) ∙ sym (branches_all done (branch l c a no_branches) (branch line e inner bs)) ∙ qe)
     (ap (λ z. block line (word (codes "elif") ∷ ts) ∷ z) (append_assoc xs ys (endif last ∷ rest) ∙ se))
     r
 
-else_in : {a before w : Body} {done : Branches} {l line : ℕ} {c : Expr} {fs : List Frame} {ss : List Segment}
-    → Ends end (in_else before (then_branch done l c a) ∷ fs) ss w → Ends a (in_branch before done l c ∷ fs) (block line (word (codes "else") ∷ []) ∷ ss) w
-else_in {a} {before} {w} {done} {l} {line} {c} {fs} (inside_else inner other last xs rest f i se r) =
-    inside_if end inner no_branches (then_branch done l c a) last [] (block line (word (codes "else") ∷ []) ∷ xs) rest nothing_more (an_else f)
+else_in : {a before w : Body} {done : Branches} {l line : ℕ} {c : Expr} {fs : List Frame} {ps : List Piece}
+    → Closes end (in_else before (then_branch done l c a) ∷ fs) ps w → Closes a (in_branch before done l c ∷ fs) (block line (word (codes "else") ∷ []) ∷ ps) w
+else_in {a} {before} {w} {done} {l} {line} {c} {fs} {ps} (inside_else inner other last xs rest f i se r) =
+    inside_if end inner no_branches (then_branch done l c a) last [] (block line (word (codes "else") ∷ []) ∷ xs) rest nothing_more (no_elif (an_else f))
     (ap (λ j. then_branches done (branch l c j no_branches)) (all_end a))
     (ap (λ z. block line (word (codes "else") ∷ []) ∷ z) se)
-    (subst (λ z. Ends (then_one before (choose (then_branch done l c a) z)) fs rest w) (sym i) r)
+    (subst (λ z. Closes (then_one before (choose (then_branch done l c a) z)) fs rest w) (sym i) r)
 
--- ---- one segment
+loop_else_in : {a before w : Body} {l : Loop} {k line : ℕ} {fs : List Frame} {ps : List Piece}
+    → Closes end (in_loop_else before k l a ∷ fs) ps w → Closes a (in_loop before k l ∷ fs) (block line (word (codes "else") ∷ []) ∷ ps) w
+loop_else_in {a} {before} {w} {l} {k} {line} {fs} {ps} (inside_loop_else inner other last xs rest f i se r) =
+    inside_loop end inner a last [] (block line (word (codes "else") ∷ []) ∷ xs) rest nothing_more (an_else f) (all_end a)
+    (ap (λ z. block line (word (codes "else") ∷ []) ∷ z) se)
+    (subst (λ z. Closes (then_one before (looped k l a z)) fs rest w) (sym i) r)
+
+-- ---- one piece
 
 ok_is : {A : Type 0} {a b : A} → ◌≡◌ {A = Result A Fault} (Ok a) (Ok b) → a ≡ b
 ok_is e = cc
 
-expression_ok : (o : Result Expr Fault) (next : Expr → State) (st : State) → (o >>= λ x. Ok (next x)) ≡ Ok st → (x : Expr) × (o ≡ Ok x) × (next x ≡ st)
-expression_ok (Ok x) next st e = (x, refl, ok_is e)
-expression_ok (Err f) next st e = no_error f st e
+next_ok : {A : Type 0} (o : Result A Fault) (next : A → State) (st : State) → (o >>= λ x. Ok (next x)) ≡ Ok st → (x : A) × (o ≡ Ok x) × (next x ≡ st)
+next_ok (Ok x) next st e = (x, refl, ok_is e)
+next_ok (Err f) next st e = no_error f st e
+
+allowed_ok : {A : Type 0} (n d : ℕ) (f : ℕ → Result A Fault) (a : A) → allowed n d f ≡ Ok a → f (n - suc d) ≡ Ok a
+allowed_ok n d f a e = by_test (nat_lt d n) _ _ _ e (λ h q. q) (λ h q. no_error deep a q)
 
 -- the rest of a reading
-abbrev Rest : List Segment → Body → State → Type 0
-Rest ss w st = Ends st.body st.frames ss w
+abbrev Rest : List Piece → Body → State → Type 0
+Rest ps w st = Closes st.body st.frames ps w
 
-print_sound : (n line : ℕ) (ts : List Token) (st next : State) (ss : List Segment) (w : Body) → print_tag n line ts st ≡ Ok next → Rest ss w next → Rest (cut.tag kind.Variable line ts ∷ ss) w st
+print_sound : (n line : ℕ) (ts : List Token) (st next : State) (ps : List Piece) (w : Body) → print_tag n line ts st ≡ Ok next → Rest ps w next → Rest (kept.tag kind.Variable line ts ∷ ps) w st
 unfolding print_tag
-print_sound n line ts st next ss w e r =
-    let q = expression_ok (expression n (length st.frames) ts) (λ x. state (then_one st.body (print line x)) st.frames) next e in
-    grows (stmt (print line q.0) end) (cut.tag kind.Variable line ts ∷ []) (λ b tail f. a_print (expression_sound (n - suc (length st.frames)) ts q.0 q.1) f) (subst (Rest ss w) (sym q.2) r)
+print_sound n line ts st next ps w e r =
+    let q = next_ok (allowed n (length st.frames) (λ m. reader.parsed m ts)) (λ x. state (then_one st.body (print line x)) st.frames) next e in
+    let d = expression_sound (n - suc (length st.frames)) ts q.0 (allowed_ok n (length st.frames) (λ m. reader.parsed m ts) q.0 q.1) in
+    grows (stmt (print line q.0) end) (kept.tag kind.Variable line ts ∷ []) (λ b tail f. a_print d f) (subst (Rest ps w) (sym q.2) r)
 
-if_sound : (n line : ℕ) (ts : List Token) (st next : State) (ss : List Segment) (w : Body) → if_tag n line ts st ≡ Ok next → Rest ss w next → Rest (block line (word (codes "if") ∷ ts) ∷ ss) w st
-unfolding if_tag
-if_sound n line ts st next ss w e r =
-    let q = expression_ok (expression n (length st.frames) ts) (λ x. state end (in_branch st.body no_branches line x ∷ st.frames)) next e in
-    opened (expression_sound (n - suc (length st.frames)) ts q.0 q.1) (subst (Rest ss w) (sym q.2) r)
+headed_sound : (line : ℕ) (x : List Token) (h : Head) (st : State) (ps : List Piece) (w : Body) → Says line h x → Rest ps w (headed line h st) → Rest (block line x ∷ ps) w st
+headed_sound line x (a_statement s) st ps w d r = grows (stmt s end) (block line x ∷ []) (λ b tail f. one_tag d f) r
+headed_sound line x (an_if c) st ps w d r = opened_if d r
+headed_sound line x (a_loop l) st ps w d r = opened_loop d r
+headed_sound line x (an_opening o) st ps w d r = opened_other d r
 
-elif_sound : (n line : ℕ) (ts : List Token) (a : Body) (fs : List Frame) (next : State) (ss : List Segment) (w : Body) → elif_tag n line ts a fs ≡ Ok next → Rest ss w next → Ends a fs (block line (word (codes "elif") ∷ ts) ∷ ss) w
+head_tag_sound : (n line : ℕ) (x : Text) (ts : List Token) (st next : State) (ps : List Piece) (w : Body) → head_tag n line x ts st ≡ Ok next → Rest ps w next → Rest (block line (word x ∷ ts) ∷ ps) w st
+unfolding head_tag
+head_tag_sound n line x ts st next ps w e r =
+    let q = next_ok (allowed n (length st.frames) (λ m. all_of (head_at m line x ts))) (λ h. headed line h st) next e in
+    let d = says_sound_all (n - suc (length st.frames)) line x ts q.0 (allowed_ok n (length st.frames) (λ m. all_of (head_at m line x ts)) q.0 q.1) in
+    headed_sound line (word x ∷ ts) q.0 st ps w d (subst (Rest ps w) (sym q.2) r)
+
+elif_sound : (n line : ℕ) (ts : List Token) (a : Body) (fs : List Frame) (next : State) (ps : List Piece) (w : Body) → elif_tag n line ts a fs ≡ Ok next → Rest ps w next → Closes a fs (block line (word (codes "elif") ∷ ts) ∷ ps) w
 unfolding elif_tag
-elif_sound n line ts a [] next ss w e r = no_error syntax next e
-elif_sound n line ts a (in_else before done ∷ fs) next ss w e r = no_error syntax next e
-elif_sound n line ts a (in_branch before done l c ∷ fs) next ss w e r =
-    let q = expression_ok (expression n (length fs) ts) (λ x. state end (in_branch before (then_branch done l c a) line x ∷ fs)) next e in
-    elif_in (expression_sound (n - suc (length fs)) ts q.0 q.1) (subst (Rest ss w) (sym q.2) r)
+elif_sound n line ts a [] next ps w e r = no_error syntax next e
+elif_sound n line ts a (in_else before done ∷ fs) next ps w e r = no_error syntax next e
+elif_sound n line ts a (in_loop before k l ∷ fs) next ps w e r = no_error syntax next e
+elif_sound n line ts a (in_loop_else before k l i ∷ fs) next ps w e r = no_error syntax next e
+elif_sound n line ts a (in_opening before k o ∷ fs) next ps w e r = no_error syntax next e
+elif_sound n line ts a (in_branch before done l c ∷ fs) next ps w e r =
+    let q = next_ok (allowed n (length fs) (λ m. reader.parsed m ts)) (λ x. state end (in_branch before (then_branch done l c a) line x ∷ fs)) next e in
+    elif_in (expression_sound (n - suc (length fs)) ts q.0 (allowed_ok n (length fs) (λ m. reader.parsed m ts) q.0 q.1)) (subst (Rest ps w) (sym q.2) r)
 
-else_sound : (line : ℕ) (ts : List Token) (a : Body) (fs : List Frame) (next : State) (ss : List Segment) (w : Body) → else_tag ts a fs ≡ Ok next → Rest ss w next → Ends a fs (block line (word (codes "else") ∷ ts) ∷ ss) w
+else_sound : (line : ℕ) (ts : List Token) (a : Body) (fs : List Frame) (next : State) (ps : List Piece) (w : Body) → else_tag ts a fs ≡ Ok next → Rest ps w next → Closes a fs (block line (word (codes "else") ∷ ts) ∷ ps) w
 unfolding else_tag
-else_sound line (t ∷ ts) a fs next ss w e r = no_error syntax next e
-else_sound line [] a [] next ss w e r = no_error syntax next e
-else_sound line [] a (in_else before done ∷ fs) next ss w e r = no_error syntax next e
-else_sound line [] a (in_branch before done l c ∷ fs) next ss w e r = else_in (subst (Rest ss w) (sym (ok_is e)) r)
+else_sound line (t ∷ ts) a fs next ps w e r = no_error syntax next e
+else_sound line [] a [] next ps w e r = no_error syntax next e
+else_sound line [] a (in_else before done ∷ fs) next ps w e r = no_error syntax next e
+else_sound line [] a (in_loop_else before k l i ∷ fs) next ps w e r = no_error syntax next e
+else_sound line [] a (in_opening before k o ∷ fs) next ps w e r = no_error syntax next e
+else_sound line [] a (in_branch before done l c ∷ fs) next ps w e r = else_in (subst (Rest ps w) (sym (ok_is e)) r)
+else_sound line [] a (in_loop before k l ∷ fs) next ps w e r = loop_else_in (subst (Rest ps w) (sym (ok_is e)) r)
 
-endif_sound : (line : ℕ) (ts : List Token) (a : Body) (fs : List Frame) (next : State) (ss : List Segment) (w : Body) → endif_tag ts a fs ≡ Ok next → Rest ss w next → Ends a fs (block line (word (codes "endif") ∷ ts) ∷ ss) w
-unfolding endif_tag
-endif_sound line (t ∷ ts) a fs next ss w e r = no_error syntax next e
-endif_sound line [] a [] next ss w e r = no_error syntax next e
-endif_sound line [] a (in_else before done ∷ fs) next ss w e r =
-    inside_else end a line [] ss nothing_more (all_end a) refl (subst (Rest ss w) (sym (ok_is e)) r)
-endif_sound line [] a (in_branch before done l c ∷ fs) next ss w e r =
-    inside_if end end no_branches (then_branch done l c a) line [] [] ss nothing_more no_else (ap (λ i. then_branches done (branch l c i no_branches)) (all_end a)) refl (subst (Rest ss w) (sym (ok_is e)) r)
+both : (a b : Bool) → (a && b) ≡ true → (a ≡ true) × (b ≡ true)
+both true b h = (refl, h)
+both false b h = cc
+
+-- a word that is v, with nothing behind it
+alone : (x v : Text) (line : ℕ) (ts : List Token) → (bytes_eq x v && none_left ts) ≡ true → block line (word v ∷ []) ≡ block line (word x ∷ ts)
+alone x v line [] h = ap (λ y. block line (word y ∷ [])) (sym ((bytes_eq-Decides x v).0 (both (bytes_eq x v) true h).0))
+alone x v line (t ∷ ts) h = let p = (both (bytes_eq x v) false h).1 in cc
+
+opening_ends : (o : Opening) (x : Text) (ts : List Token) → bytes_eq x (end_word o) ≡ true → names_end o ts ≡ true → Ends o (word x ∷ ts)
+opening_ends o x [] h n = subst (λ y. Ends o (word y ∷ [])) (sym ((bytes_eq-Decides x (end_word o)).0 h)) (by_word o)
+opening_ends (a_block y scoped required) x (cut.name z ∷ []) h n =
+    subst (λ v. Ends (a_block y scoped required) (word v ∷ cut.name z ∷ [])) (sym ((bytes_eq-Decides x (codes "endblock")).0 h))
+    (subst (λ v. Ends (a_block v scoped required) (word (codes "endblock") ∷ cut.name z ∷ [])) ((bytes_eq-Decides (encode_utf8_all z) y).0 n) (by_name scoped required))
+opening_ends (a_block y scoped required) x (cut.name z ∷ t ∷ ts) h n = cc
+opening_ends (a_block y scoped required) x (cut.number z ∷ ts) h n = cc
+opening_ends (a_block y scoped required) x (cut.text z ∷ ts) h n = cc
+opening_ends (a_block y scoped required) x (cut.sign z ∷ ts) h n = cc
+opening_ends (a_text y) x (t ∷ ts) h n = cc
+opening_ends (values y) x (t ∷ ts) h n = cc
+opening_ends (filters y) x (t ∷ ts) h n = cc
+opening_ends (escaping y) x (t ∷ ts) h n = cc
+opening_ends (a_macro y z) x (t ∷ ts) h n = cc
+
+frame_sound : (line : ℕ) (x : Text) (ts : List Token) (a : Body) (f : Frame) (fs : List Frame) (ps : List Piece) (w : Body) → ends_frame x ts f ≡ true
+    → Closes (then_one (reading.before f) (finished a f)) fs ps w → Closes a (f ∷ fs) (block line (word x ∷ ts) ∷ ps) w
+frame_sound line x ts a (in_branch before done l c) fs ps w h r =
+    inside_if end end no_branches (then_branch done l c a) line [] [] ps nothing_more (no_elif no_else) (ap (λ i. then_branches done (branch l c i no_branches)) (all_end a)) (ap (λ z. z ∷ ps) (alone x (codes "endif") line ts h)) r
+frame_sound line x ts a (in_else before done) fs ps w h r =
+    inside_else end a line [] ps nothing_more (all_end a) (ap (λ z. z ∷ ps) (alone x (codes "endif") line ts h)) r
+frame_sound line x ts a (in_loop before k l) fs ps w h r =
+    inside_loop end end a line [] [] ps nothing_more no_else (all_end a) (ap (λ z. z ∷ ps) (alone x (codes "endfor") line ts h)) r
+frame_sound line x ts a (in_loop_else before k l i) fs ps w h r =
+    inside_loop_else end a line [] ps nothing_more (all_end a) (ap (λ z. z ∷ ps) (alone x (codes "endfor") line ts h)) r
+frame_sound line x ts a (in_opening before k o) fs ps w h r =
+    let b = both (bytes_eq x (end_word o)) (names_end o ts) h in
+    inside_opening end a line (word x ∷ ts) [] ps nothing_more (all_end a) (opening_ends o x ts b.0 b.1) refl r
+
+end_sound : (line : ℕ) (x : Text) (ts : List Token) (a : Body) (fs : List Frame) (next : State) (ps : List Piece) (w : Body) → end_tag x ts a fs ≡ Ok next → Rest ps w next → Closes a fs (block line (word x ∷ ts) ∷ ps) w
+unfolding end_tag
+end_sound line x ts a [] next ps w e r = no_error syntax next e
+end_sound line x ts a (f ∷ fs) next ps w e r =
+    by_test (ends_frame x ts f) _ _ _ e
+    (λ h q. frame_sound line x ts a f fs ps w h (subst (Rest ps w) (sym (ok_is q)) r))
+    (λ h q. no_error syntax next q)
 
 -- a word that is w
-by_word : (x w : Text) (line : ℕ) (ts : List Token) (ss : List Segment) (v : Body) (st : State) → bytes_eq x w ≡ true → Rest (block line (word w ∷ ts) ∷ ss) v st → Rest (block line (word x ∷ ts) ∷ ss) v st
-by_word x w line ts ss v st h r = subst (λ y. Rest (block line (word y ∷ ts) ∷ ss) v st) (sym ((bytes_eq-Decides x w).0 h)) r
+with_word : (x w : Text) (line : ℕ) (ts : List Token) (ps : List Piece) (v : Body) (st : State) → bytes_eq x w ≡ true → Rest (block line (word w ∷ ts) ∷ ps) v st → Rest (block line (word x ∷ ts) ∷ ps) v st
+with_word x w line ts ps v st h r = subst (λ y. Rest (block line (word y ∷ ts) ∷ ps) v st) (sym ((bytes_eq-Decides x w).0 h)) r
 
-block_sound : (n line : ℕ) (x : Text) (ts : List Token) (st next : State) (ss : List Segment) (w : Body) → block_tag n line x ts st ≡ Ok next → Rest ss w next → Rest (block line (word x ∷ ts) ∷ ss) w st
+block_sound : (n line : ℕ) (x : Text) (ts : List Token) (st next : State) (ps : List Piece) (w : Body) → block_tag n line x ts st ≡ Ok next → Rest ps w next → Rest (block line (word x ∷ ts) ∷ ps) w st
 unfolding block_tag
-block_sound n line x ts st next ss w e r =
-    by_test (bytes_eq x (codes "if")) _ _ _ e (λ h q. by_word x (codes "if") line ts ss w st h (if_sound n line ts st next ss w q r)) (λ h1 e1.
-    by_test (bytes_eq x (codes "elif")) _ _ _ e1 (λ h q. by_word x (codes "elif") line ts ss w st h (elif_sound n line ts st.body st.frames next ss w q r)) (λ h2 e2.
-    by_test (bytes_eq x (codes "else")) _ _ _ e2 (λ h q. by_word x (codes "else") line ts ss w st h (else_sound line ts st.body st.frames next ss w q r)) (λ h3 e3.
-    by_test (bytes_eq x (codes "endif")) _ _ _ e3 (λ h q. by_word x (codes "endif") line ts ss w st h (endif_sound line ts st.body st.frames next ss w q r)) (λ h4 e4.
-    no_error syntax next e4))))
+block_sound n line x ts st next ps w e r =
+    by_test (bytes_eq x (codes "elif")) _ _ _ e (λ h q. with_word x (codes "elif") line ts ps w st h (elif_sound n line ts st.body st.frames next ps w q r)) (λ h1 e1.
+    by_test (bytes_eq x (codes "else")) _ _ _ e1 (λ h q. with_word x (codes "else") line ts ps w st h (else_sound line ts st.body st.frames next ps w q r)) (λ h2 e2.
+    by_test (is_end_word x) _ _ _ e2 (λ h q. end_sound line x ts st.body st.frames next ps w q r) (λ h3 e3.
+    head_tag_sound n line x ts st next ps w e3 r)))
 
-step_sound : (n : ℕ) (s : Segment) (st next : State) (ss : List Segment) (w : Body) → step n st s ≡ Ok next → Rest ss w next → Rest (s ∷ ss) w st
-step_sound n (cut.comment x) st next ss w e r =
-    grows end (cut.comment x ∷ []) (λ b tail f. a_comment f) (subst (λ a. Ends a st.frames ss w) (sym (all_end st.body)) (subst (Rest ss w) (sym (ok_is e)) r))
-step_sound n (cut.data_of d) st next ss w e r =
-    grows (stmt (data_of (encode_utf8_all d)) end) (cut.data_of d ∷ []) (λ b tail f. some_data f) (subst (Rest ss w) (sym (ok_is e)) r)
-step_sound n (cut.tag kind.Variable line ts) st next ss w e r = print_sound n line ts st next ss w e r
-step_sound n (cut.tag kind.Block line []) st next ss w e r = no_error syntax next e
-step_sound n (cut.tag kind.Block line (cut.name x ∷ ts)) st next ss w e r = block_sound n line x ts st next ss w e r
-step_sound n (cut.tag kind.Block line (cut.number m ∷ ts)) st next ss w e r = no_error syntax next e
-step_sound n (cut.tag kind.Block line (cut.text x ∷ ts)) st next ss w e r = no_error syntax next e
-step_sound n (cut.tag kind.Block line (cut.sign s ∷ ts)) st next ss w e r = no_error syntax next e
+step_sound : (n : ℕ) (p : Piece) (st next : State) (ps : List Piece) (w : Body) → step n st p ≡ Ok next → Rest ps w next → Rest (p ∷ ps) w st
+step_sound n (kept.text d) st next ps w e r =
+    grows (stmt (data_of (encode_utf8_all d)) end) (kept.text d ∷ []) (λ b tail f. some_data f) (subst (Rest ps w) (sym (ok_is e)) r)
+step_sound n (kept.tag kind.Variable line ts) st next ps w e r = print_sound n line ts st next ps w e r
+step_sound n (kept.tag kind.Block line []) st next ps w e r = no_error syntax next e
+step_sound n (kept.tag kind.Block line (cut.name x ∷ ts)) st next ps w e r = block_sound n line x ts st next ps w e r
+step_sound n (kept.tag kind.Block line (cut.number m ∷ ts)) st next ps w e r = no_error syntax next e
+step_sound n (kept.tag kind.Block line (cut.text x ∷ ts)) st next ps w e r = no_error syntax next e
+step_sound n (kept.tag kind.Block line (cut.sign s ∷ ts)) st next ps w e r = no_error syntax next e
 
--- ---- all segments
+-- ---- all pieces
 
 abbrev ending : State → Result Body Fault
 ending st = whole st.body st.frames
@@ -154,20 +263,20 @@ first_ok : {A B C : Type 0} (o : Result A Fault) (f : A → Result B Fault) (g :
 first_ok (Ok x) f g w e = (x, refl, e)
 first_ok (Err x) f g w e = no_error x w e
 
-ends_whole : (a : Body) (fs : List Frame) (w : Body) → whole a fs ≡ Ok w → Ends a fs [] w
+ends_whole : (a : Body) (fs : List Frame) (w : Body) → whole a fs ≡ Ok w → Closes a fs [] w
 ends_whole a [] w e = outside end nothing_more (all_end a ∙ ok_is e)
 ends_whole a (f ∷ fs) w e = no_error syntax w e
 
-run_sound : (n : ℕ) (ss : List Segment) (st : State) (w : Body) → (run n st ss >>= ending) ≡ Ok w → Rest ss w st
+run_sound : (n : ℕ) (ps : List Piece) (st : State) (w : Body) → (run n st ps >>= ending) ≡ Ok w → Rest ps w st
 unfolding run
 run_sound n [] st w e = ends_whole st.body st.frames w e
-run_sound n (s ∷ ss) st w e =
-    let q = first_ok (step n st s) (λ next. run n next ss) ending w e in
-    step_sound n s st q.0 ss w q.1 (run_sound n ss q.0 w q.2)
+run_sound n (p ∷ ps) st w e =
+    let q = first_ok (step n st p) (λ next. run n next ps) ending w e in
+    step_sound n p st q.0 ps w q.1 (run_sound n ps q.0 w q.2)
 
-spelled : (ss : List Segment) (w : Body) → Ends end [] ss w → Forms w ss
-spelled ss w (outside b f e) = subst (λ b. Forms b ss) e f
+spelled : (ps : List Piece) (w : Body) → Closes end [] ps w → Forms w ps
+spelled ps w (outside b f e) = subst (λ b. Forms b ps) e f
 
-pub read_is_spelled : (n : ℕ) (ss : List Segment) (b : Body) → parsed n ss ≡ Ok b → Forms b ss
+pub read_is_spelled : (n : ℕ) (ps : List Piece) (b : Body) → parsed n ps ≡ Ok b → Forms b ps
 unfolding parsed
-read_is_spelled n ss b e = spelled ss b (run_sound n ss start b e)
+read_is_spelled n ps b e = spelled ps b (run_sound n ps start b e)

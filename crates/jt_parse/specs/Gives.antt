@@ -1,6 +1,5 @@
--- What the functions of the parser give, and what a refusal says.
-use Rattle.std.specs.Prelude.{◌≡◌, ℕ, ◌<◌, ◌≤◌, List, map, reverse, Option, Some, None, Result, Ok, Err}
-use Rattle.jt_scan.specs.Cut.{Segment}
+-- What the functions of the parser give.
+use Rattle.std.specs.Prelude.{◌≡◌, ℕ, List, map, reverse, Bool, true, false, Option, Some, None, Result, Ok, Err}
 use Rattle.jt_expr.specs.Trees as trees
 use Rattle.jt_expr.specs.Reading.{Fault, syntax, deep}
 use Rattle.jt_expr.specs.View.{expr_view}
@@ -9,16 +8,21 @@ use Rattle.jt_expr.specs.declared.error.ExprError.{ExprError}
 use Rattle.jt_expr.specs.declared.error.ExprError.TheVariants as fault
 use Rattle.jt_expr.specs.declared.named.Named.{Named}
 use Rattle.jt_expr.specs.declared.named.Named.TheVariants as named
-use Rattle.jt_parse.specs.Names.{body_unknown, StandsAt}
-use Rattle.jt_parse.specs.Trees.{Body, Branches, body_levels}
-use Rattle.jt_parse.specs.Grammar.{Forms}
+use Rattle.jt_parse.specs.Names.{Found, body_unknown}
+use Rattle.jt_parse.specs.Places.{is_placed}
+use Rattle.jt_parse.specs.Trees.{Body}
+use Rattle.jt_parse.specs.Tags as tags
 use Rattle.jt_parse.specs.Reading as reading
 use Rattle.jt_parse.specs.Reading.{State, state, Frame}
 use Rattle.jt_parse.specs.View.{body_view, branches_view, body_of}
+use Rattle.jt_parse.specs.HeadView.{loop_view, opening_view, head_view}
+use Rattle.jt_parse.specs.declared.heads.Head.{Head}
 use Rattle.jt_parse.specs.declared.error.ParseError.{ParseError}
 use Rattle.jt_parse.specs.declared.error.ParseError.TheVariants as e
 use Rattle.jt_parse.specs.declared.tree.Template.{Template}
-use Rattle.jt_parse.specs.declared.parser.Frame.{Frame as Open}
+use Rattle.jt_parse.specs.declared.frames.Frame.{Frame as Open}
+use Rattle.jt_parse.specs.declared.frames.Kind.{Kind}
+use Rattle.jt_parse.specs.declared.frames.Kind.TheVariants as k
 use Rattle.jt_parse.specs.declared.parser.Parser.{Parser}
 
 -- a refusal is the reader's, or want of memory
@@ -33,13 +37,20 @@ abbrev pub GivesExpr : Result trees.Expr Fault → Result Expr ParseError → Ty
 GivesExpr o (Ok x) = o ≡ Ok (expr_view x)
 GivesExpr o (Err f) = Refuses o f
 
--- the branch that is being read, or the else part
-abbrev pub frame_by : Body → Branches → Option (ℕ × Expr) → Frame
-frame_by before done (Some p) = reading.in_branch before done p.0 (expr_view p.1)
-frame_by before done None = reading.in_else before done
+abbrev pub GivesHead : Result tags.Head Fault → Result Head ParseError → Type 0
+GivesHead o (Ok x) = o ≡ Ok (head_view x)
+GivesHead o (Err f) = Refuses o f
+
+-- what is open, behind the statements before it
+abbrev pub frame_by : Body → ℕ → Kind → Frame
+frame_by before line (k.Branch bs l c) = reading.in_branch before (branches_view bs.items) l (expr_view c)
+frame_by before line (k.Else bs) = reading.in_else before (branches_view bs.items)
+frame_by before line (k.Loop l) = reading.in_loop before line (loop_view l)
+frame_by before line (k.LoopElse l body) = reading.in_loop_else before line (loop_view l) (body_view body.items)
+frame_by before line (k.Opening o) = reading.in_opening before line (opening_view o)
 
 abbrev pub frame_view : Open → Frame
-frame_view f = frame_by (body_view f.before.items) (branches_view f.branches.items) f.open
+frame_view f = frame_by (body_view f.before.items) f.line f.kind
 
 -- the last frame is the innermost
 abbrev pub frames_view : List Open → List Frame
@@ -65,38 +76,40 @@ refusal_at line fault.UnknownTest = e.UnknownTest line
 refusal_at line fault.NoMemory = e.NoMemory
 
 -- each name has a meaning, or the refusal is for the first tag with one that has none
-abbrev pub GivesNames : Option (ℕ × trees.Expr) → Result (Unit {0}) ParseError → Type 0
+abbrev pub GivesNames : Found → Result (Unit {0}) ParseError → Type 0
 GivesNames found (Ok u) = found ≡ None
 GivesNames found (Err (e.Syntax line)) = ⊥
 GivesNames found (Err (e.TooDeep line)) = ⊥
-GivesNames found (Err (e.UnknownFilter line)) = StandsAt line named.Filter found
-GivesNames found (Err (e.UnknownTest line)) = StandsAt line named.Test found
+GivesNames found (Err (e.UnknownFilter line)) = found ≡ Some (line, named.Filter)
+GivesNames found (Err (e.UnknownTest line)) = found ≡ Some (line, named.Test)
 GivesNames found (Err e.NoMemory) = ⊥
 
--- what is read has its first names without a meaning in a tag of this line, and such a one is to blame there
+-- statements stand where they may, or the refusal says that they don't
+abbrev pub GivesPlaces : Bool → Result (Unit {0}) ParseError → Type 0
+GivesPlaces placed (Ok u) = placed ≡ true
+GivesPlaces placed (Err (e.Syntax line)) = placed ≡ false
+GivesPlaces placed (Err (e.TooDeep line)) = ⊥
+GivesPlaces placed (Err (e.UnknownFilter line)) = ⊥
+GivesPlaces placed (Err (e.UnknownTest line)) = ⊥
+GivesPlaces placed (Err e.NoMemory) = ⊥
+
+-- what is read, where its statements stand where they may
+abbrev pub IsMisplaced : Result Body Fault → Type 0
+IsMisplaced o = (b : Body) × (o ≡ Ok b) × (is_placed b ≡ false)
+
+-- what is read is placed, and has its first name without a meaning in a tag of this line, and such a one is to blame there
 abbrev pub Finds : Result Body Fault → ℕ → Named → Type 0
-Finds o line x = (b : Body) × (o ≡ Ok b) × StandsAt line x (body_unknown b)
+Finds o line x = (b : Body) × (o ≡ Ok b) × (is_placed b ≡ true) × (body_unknown b ≡ Some (line, x))
+
+-- no tree is read, or one whose statements stand where they may not
+pub data IsNone (o : Result Body Fault) : Type 0 where
+  not_read : o ≡ Err syntax → IsNone o
+  misplaced : IsMisplaced o → IsNone o
 
 abbrev pub GivesKnown : Result Body Fault → Result Template ParseError → Type 0
-GivesKnown o (Ok t) = (o ≡ Ok (body_of t)) × (body_unknown (body_of t) ≡ None)
-GivesKnown o (Err (e.Syntax line)) = o ≡ Err syntax
+GivesKnown o (Ok t) = (o ≡ Ok (body_of t)) × (is_placed (body_of t) ≡ true) × (body_unknown (body_of t) ≡ None)
+GivesKnown o (Err (e.Syntax line)) = IsNone o
 GivesKnown o (Err (e.TooDeep line)) = o ≡ Err deep
 GivesKnown o (Err (e.UnknownFilter line)) = Finds o line named.Filter
 GivesKnown o (Err (e.UnknownTest line)) = Finds o line named.Test
 GivesKnown o (Err e.NoMemory) = Unit {0}
-
--- the tree that the segments spell, of at most 100 levels, has its first names without a meaning in a
--- tag of this line, and such a one is to blame there
-abbrev pub HoldsUnknown : ℕ → Named → List Segment → Type 0
-HoldsUnknown line x ss = (b : Body) × Forms b ss × (body_levels b ≤ 100) × StandsAt line x (body_unknown b)
-
--- what a refusal says of the segments
-abbrev pub IsRefusal : ParseError → List Segment → Type 0
--- no tree is spelled so
-IsRefusal (e.Syntax line) ss = (b : Body) → Forms b ss → ⊥
--- each tree that is spelled so has more than 100 levels
-IsRefusal (e.TooDeep line) ss = (b : Body) → Forms b ss → 100 < body_levels b
-IsRefusal (e.UnknownFilter line) ss = HoldsUnknown line named.Filter ss
-IsRefusal (e.UnknownTest line) ss = HoldsUnknown line named.Test ss
--- a growth was refused
-IsRefusal e.NoMemory ss = Unit {0}

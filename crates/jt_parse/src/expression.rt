@@ -5,10 +5,12 @@ ghost use Rattle.std.specs.Str.{chars};
 ghost use Rattle.jt_scan.specs.View.{token_view};
 ghost use Rattle.jt_expr.specs.Reading.{parsed};
 ghost use Rattle.jt_parse.specs.Words.{is_plain};
-ghost use Rattle.jt_parse.specs.Gives.{GivesExpr, refusal_at};
+ghost use Rattle.jt_parse.specs.TagReading as tags;
+ghost use Rattle.jt_parse.specs.Gives.{GivesExpr, GivesHead, refusal_at};
 
 use crate::error::ParseError;
-use crate::parser::MAX_LEVELS;
+use crate::heads::Head;
+use crate::tags::read_head;
 use jt_expr::{Expr, ExprError};
 use jt_scan::Token;
 use std::alloc::{AllocError, Global};
@@ -20,11 +22,28 @@ pub(crate) fn expression(
     levels: usize,
     line: u32,
 ) -> Result<Expr, ParseError>
-    requires { levels ≤ MAX_LEVELS }
+    requires { levels ≤ 100 }
     ensures { GivesExpr (parsed levels (map token_view tokens.now)) result }
 {
     match jt_expr::expression(alloc, tokens, levels) {
         Ok(expr) => Ok(expr),
+        Err(refusal) => Err(refused(line, refusal)),
+    }
+}
+
+/// What the first tag of a statement says, whose word and line are given.
+pub(crate) fn head(
+    alloc: Global,
+    word: &str,
+    tokens: &[Token<'_>],
+    levels: usize,
+    line: u32,
+) -> Result<Head, ParseError>
+    requires { levels ≤ 100 }
+    ensures { GivesHead (tags.all_of (tags.head_at levels line (chars word.now) (map token_view tokens.now))) result }
+{
+    match read_head(alloc, word, tokens, levels, line) {
+        Ok(head) => Ok(head),
         Err(refusal) => Err(refused(line, refusal)),
     }
 }
@@ -55,4 +74,11 @@ pub(crate) fn is_word(word: &str, known: &str) -> bool
     ensures { result ≡ bytes_eq (chars word.now) known.now }
 {
     word == known
+}
+
+/// Whether a word is the name.
+pub(crate) fn is_name(word: &str, name: &String) -> bool
+    ensures { result ≡ bytes_eq (encode_utf8_all (chars word.now)) (string_bytes name.now) }
+{
+    word == name.as_str()
 }

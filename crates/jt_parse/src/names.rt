@@ -1,29 +1,100 @@
 //! The names of filters and tests in a template that have no meaning.
 
-ghost use Rattle.jt_expr.specs.View.{expr_view};
-ghost use Rattle.jt_parse.specs.Names.{unknown_at, stmt_unknown, body_unknown};
-ghost use Rattle.jt_parse.specs.View.{stmt_view, body_view};
+ghost use Rattle.std.specs.Prelude.{◌≡◌, ◌||◌, true, false, option_map};
+ghost use Rattle.jt_expr.specs.View.{expr_view, pairs_view};
+ghost use Rattle.jt_expr.specs.Named.{has_unknown, pairs_have_unknown};
+ghost use Rattle.jt_parse.specs.Names as spec;
+ghost use Rattle.jt_parse.specs.View.{stmt_view, body_view, filtering_view, filterings_view};
 ghost use Rattle.jt_parse.specs.Gives.{GivesNames};
 
 use crate::error::ParseError;
-use crate::expression::refused;
-use crate::tree::Stmt;
-use jt_expr::{Expr, check_names};
+use crate::tree::{Filtering, Stmt};
+use jt_expr::{Expr, Named, any_unknown, any_unknown_pair, has_unknown, is_unknown_filter};
 
-/// Refuses the expression of a tag of the line, if a name in it has no meaning.
-fn check_at(line: u32, expr: &Expr) -> Result<(), ParseError>
-    ensures { GivesNames (unknown_at line (expr_view expr.now)) result }
+/// Refuses a tag of the line, if a filter or a test in it has no meaning.
+fn check_tag(line: u32, filters: bool, tests: bool) -> Result<(), ParseError>
+    ensures { GivesNames (spec.blamed line filters tests) result }
 {
-    match check_names(expr) {
-        Ok(()) => Ok(()),
-        Err(refusal) => Err(refused(line, refusal)),
+    if filters {
+        return Err(ParseError::UnknownFilter { line });
     }
+    if tests {
+        return Err(ParseError::UnknownTest { line });
+    }
+    Ok(())
+}
+
+/// The same for a tag with one expression.
+fn check_expression(line: u32, expr: &Expr) -> Result<(), ParseError>
+    ensures { GivesNames (spec.unknown_in line (λ u. has_unknown u (expr_view expr.now))) result }
+{
+    let filters = has_unknown(expr, Named::Filter);
+    let tests = has_unknown(expr, Named::Test);
+    check_tag(line, filters, tests)
+}
+
+/// Whether such a name stands in a condition.
+fn condition_unknown(condition: &Option<Expr>, named: Named) -> bool
+    ensures { result ≡ spec.condition_unknown named (option_map expr_view condition.now) }
+{
+    match condition {
+        Some(expr) => has_unknown(expr, named),
+        None => false,
+    }
+}
+
+/// The same for the tag of a loop.
+fn check_loop(line: u32, over: &Expr, condition: &Option<Expr>) -> Result<(), ParseError>
+    ensures { GivesNames (spec.unknown_in line (λ u. has_unknown u (expr_view over.now) || spec.condition_unknown u (option_map expr_view condition.now))) result }
+{
+    let filters = has_unknown(over, Named::Filter) || condition_unknown(condition, Named::Filter);
+    let tests = has_unknown(over, Named::Test) || condition_unknown(condition, Named::Test);
+    check_tag(line, filters, tests)
+}
+
+/// The same for a tag with values.
+fn check_values(line: u32, values: &Vec<(String, Expr)>) -> Result<(), ParseError>
+    ensures { GivesNames (spec.unknown_in line (λ u. pairs_have_unknown u (pairs_view values.now.items))) result }
+{
+    let filters = any_unknown_pair(values, Named::Filter);
+    let tests = any_unknown_pair(values, Named::Test);
+    check_tag(line, filters, tests)
+}
+
+/// Whether such a name stands in a filter.
+fn filtering_unknown(filter: &Filtering, named: Named) -> bool
+    ensures { result ≡ spec.filtering_unknown named (filtering_view filter.now) }
+{
+    is_unknown_filter(&filter.name, named)
+        || any_unknown(&filter.arguments, named)
+        || any_unknown_pair(&filter.keywords, named)
+}
+
+/// Whether such a name stands in one of the filters.
+fn filterings_unknown(filters: &Vec<Filtering>, named: Named) -> bool
+    ensures { result ≡ spec.filterings_unknown named (filterings_view filters.now.items) }
+{
+    for filter in filters {
+        if filtering_unknown(filter, named) {
+            return true;
+        }
+    }
+    false
+}
+
+/// The same for a filter tag.
+fn check_filters(line: u32, filters: &Vec<Filtering>) -> Result<(), ParseError>
+    ensures { GivesNames (spec.unknown_in line (λ u. spec.filterings_unknown u (filterings_view filters.now.items))) result }
+{
+    let unknown_filters = filterings_unknown(filters, Named::Filter);
+    let unknown_tests = filterings_unknown(filters, Named::Test);
+    check_tag(line, unknown_filters, unknown_tests)
 }
 
 /// Refuses the first tag of statements in which a name has no meaning.
 #[cycle(names)]
 pub(crate) fn check_body(body: &Vec<Stmt>) -> Result<(), ParseError>
-    ensures { GivesNames (body_unknown (body_view body.now.items)) result }
+    ensures { GivesNames (spec.body_unknown (body_view body.now.items)) result }
 {
     for statement in body {
         check_statement(statement)?;
@@ -34,17 +105,34 @@ pub(crate) fn check_body(body: &Vec<Stmt>) -> Result<(), ParseError>
 /// The same in a statement.
 #[cycle(names)]
 fn check_statement(statement: &Stmt) -> Result<(), ParseError>
-    ensures { GivesNames (stmt_unknown (stmt_view statement.now)) result }
+    ensures { GivesNames (spec.stmt_unknown (stmt_view statement.now)) result }
 {
     match statement {
-        Stmt::Data(_) => Ok(()),
-        Stmt::Print(line, expr) => check_at(*line, expr),
+        Stmt::Data(_) | Stmt::Include(_, _, _, _) | Stmt::Extends(_, _) => Ok(()),
+        Stmt::Print(line, expr) | Stmt::Set(line, _, expr) => check_expression(*line, expr),
         Stmt::If(branches, other) => {
             for (line, condition, body) in branches {
-                check_at(*line, condition)?;
+                check_expression(*line, condition)?;
                 check_body(body)?;
             }
             check_body(other)
         }
+        Stmt::For(line, _, over, condition, body, other) => {
+            check_loop(*line, over, condition)?;
+            check_body(body)?;
+            check_body(other)
+        }
+        Stmt::With(line, values, body) => {
+            check_values(*line, values)?;
+            check_body(body)
+        }
+        Stmt::FilterBlock(line, filters, body) => {
+            check_filters(*line, filters)?;
+            check_body(body)
+        }
+        Stmt::SetBlock(_, _, body)
+        | Stmt::Autoescape(_, _, body)
+        | Stmt::Macro(_, _, _, body)
+        | Stmt::Block(_, _, _, _, body) => check_body(body),
     }
 }

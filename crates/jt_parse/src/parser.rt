@@ -1,47 +1,43 @@
 //! The tree that the segments of a template spell.
 //!
-//! The segments are read one after the other, and each `if` that is open is kept in a row of
+//! The segments are read one after the other, and each statement that is open is kept in a row of
 //! frames, so that no source, however deep, reaches the end of the stack.
 
-ghost use Rattle.std.specs.Prelude.{◌≡◌, ◌≤◌, ◌-◌, suc, length, None, map, IfOk, IfErr, MatchOption, MatchResult, [], ◌∷◌};
+ghost use Rattle.std.specs.Prelude.{◌≡◌, ◌≤◌, ◌-◌, suc, length, nat_lt, None, true, false, [], ◌∷◌, map, IfOk, IfErr, MatchResult};
 ghost use Rattle.std.specs.Str.{chars};
 ghost use Rattle.jt_scan.specs.Cut as cut;
 ghost use Rattle.jt_scan.specs.View.{token_view, segment_view, cut_of};
-ghost use Rattle.jt_expr.specs.View.{expr_view};
 ghost use Rattle.jt_parse.specs.Names.{body_unknown};
 ghost use Rattle.jt_parse.specs.Trees as trees;
 ghost use Rattle.jt_parse.specs.Trees.{Body, body_levels, body_weight};
 ghost use Rattle.jt_parse.specs.Bytes.{body_bytes, bytes_of};
-ghost use Rattle.jt_parse.specs.Grammar.{Forms};
+ghost use Rattle.jt_parse.specs.Grammar.{Spelled};
+ghost use Rattle.jt_parse.specs.Kept as kept;
 ghost use Rattle.jt_parse.specs.Reading as reading;
-ghost use Rattle.jt_parse.specs.View.{stmt_view, body_view, branches_view, body_of};
-ghost use Rattle.jt_parse.specs.Gives.{GivesState, GivesTemplate, GivesKnown, IsRefusal, frame_view, frames_view, state_view};
+ghost use Rattle.jt_parse.specs.View.{body_of, reads_of};
+ghost use Rattle.jt_parse.specs.HeadView.{head_view};
+ghost use Rattle.jt_parse.specs.SideView.{side_view, ahead_view};
+ghost use Rattle.jt_parse.specs.Gives.{GivesState, GivesTemplate, GivesKnown, frame_by, frames_view, state_view};
+ghost use Rattle.jt_parse.specs.Refusals.{IsRefusal, max_levels};
 ghost use Rattle.jt_parse.specs.declared.error.ParseError.TheVariants as error;
 
 use crate::error::ParseError;
-use crate::expression::{copy_of, expression, is_word};
+use crate::expression::{copy_of, expression, head, is_word};
+use crate::frames::{
+    Frame, Kind, ends_frame, finished, is_end_word, pop_frame, push_branch, push_frame,
+    push_statement,
+};
+use crate::heads::Head;
+use crate::kept::{Side, kept, side_ahead, side_behind};
 use crate::names::check_body;
+use crate::places::check_places;
 use crate::tree::{Stmt, Template};
-use jt_expr::Expr;
-use jt_scan::{Kind, Segment, Token};
+use jt_scan::{Kind as TagKind, Part, Segment, Token};
 use std::alloc::Global;
 use std::mem;
 
 /// How many levels of statements and expressions a template may have.
 pub const MAX_LEVELS: usize = 100;
-
-/// An `if` that is open.
-#[derive(Drop)]
-struct Frame {
-    /// The statements before it.
-    before: Vec<Stmt>,
-    /// Its branches that are read.
-    branches: Vec<(u32, Expr, Vec<Stmt>)>,
-    /// The line of its opening tag.
-    line: u32,
-    /// The line and the condition of the branch that is being read; none in the else part.
-    open: Option<(u32, Expr)>,
-}
 
 /// What is read so far.
 #[derive(Drop)]
@@ -49,117 +45,134 @@ struct Parser {
     alloc: Global,
     /// The statements of the innermost part that is open.
     body: Vec<Stmt>,
-    /// The open `if`s, the innermost last.
+    /// The open statements, the innermost last.
     frames: Vec<Frame>,
 }
 
-/// How many levels an expression may have in a statement inside the open ones.
-fn levels_left(frames: &Vec<Frame>) -> usize
-    ensures { result ≡ MAX_LEVELS - suc (length (frames_view frames.now.items)) }
+/// How many levels an expression may have in a statement with so many others around it.
+fn levels_left(outer: usize, line: u32) -> Result<usize, ParseError>
+    ensures left { IfOk result (λ n. (n ≡ max_levels - suc outer) × (nat_lt outer max_levels ≡ true)) }
+    ensures refused { IfErr result (λ e. (e ≡ error.TooDeep line) × (nat_lt outer max_levels ≡ false)) }
 {
-    MAX_LEVELS.saturating_sub(frames.len()).saturating_sub(1)
+    if outer < MAX_LEVELS {
+        Ok(MAX_LEVELS - outer - 1)
+    } else {
+        Err(ParseError::TooDeep { line })
+    }
 }
 
-/// One statement behind the others.
-fn push_statement(body: &mut Vec<Stmt>, statement: Stmt) -> Result<(), ParseError>
-    ensures pushed { IfOk result (λ u. body_view body.new.items ≡ reading.then_one (body_view body.old.items) (stmt_view statement)) }
-    ensures refused { IfErr result (λ e. e ≡ error.NoMemory) }
+/// The number of open statements.
+fn depth(frames: &Vec<Frame>) -> usize
+    ensures { result ≡ length (frames_view frames.now.items) }
 {
-    body.push(statement)?;
-    Ok(())
-}
-
-/// One branch behind the others.
-fn push_branch(
-    branches: &mut Vec<(u32, Expr, Vec<Stmt>)>,
-    line: u32,
-    condition: Expr,
-    body: Vec<Stmt>,
-) -> Result<(), ParseError>
-    ensures pushed { IfOk result (λ u. branches_view branches.new.items ≡ reading.then_branch (branches_view branches.old.items) line (expr_view condition) (body_view body.items)) }
-    ensures refused { IfErr result (λ e. e ≡ error.NoMemory) }
-{
-    branches.push((line, condition, body))?;
-    Ok(())
-}
-
-/// The statement of branches and an else part.
-fn if_statement(branches: Vec<(u32, Expr, Vec<Stmt>)>, other: Vec<Stmt>) -> Stmt
-    ensures { stmt_view result ≡ trees.choose (branches_view branches.items) (body_view other.items) }
-{
-    Stmt::If(branches, other)
-}
-
-/// Takes the innermost frame.
-fn pop_frame(frames: &mut Vec<Frame>) -> Option<Frame>
-    ensures { MatchOption result (frames_view frames.old.items ≡ [])
-        (λ f. frames_view frames.old.items ≡ frame_view f ∷ frames_view frames.new.items) }
-{
-    frames.pop()
-}
-
-/// One frame more.
-fn push_frame(frames: &mut Vec<Frame>, frame: Frame) -> Result<(), ParseError>
-    ensures pushed { IfOk result (λ u. frames_view frames.new.items ≡ frame_view frame ∷ frames_view frames.old.items) }
-    ensures refused { IfErr result (λ e. e ≡ error.NoMemory) }
-{
-    frames.push(frame)?;
-    Ok(())
+    frames.len()
 }
 
 impl Parser {
     /// `{{ e }}`
     #[tactic(auto, unfolding(crate::specs::Reading::print_tag))]
     fn print_tag(&mut self, line: u32, tokens: &[Token<'_>]) -> Result<(), ParseError>
-        ensures { GivesState (reading.print_tag MAX_LEVELS line (map token_view tokens.now) (state_view self.old)) result self.new }
+        ensures { GivesState (reading.print_tag max_levels line (map token_view tokens.now) (state_view self.old)) result self.new }
     {
-        let printed = expression(self.alloc, tokens, levels_left(&self.frames), line)?;
+        let levels = levels_left(depth(&self.frames), line)?;
+        let printed = expression(self.alloc, tokens, levels, line)?;
         push_statement(&mut self.body, Stmt::Print(line, printed))?;
         Ok(())
     }
 
-    /// `{% if c %}`
-    #[tactic(auto, unfolding(crate::specs::Reading::if_tag))]
-    fn if_tag(&mut self, line: u32, tokens: &[Token<'_>]) -> Result<(), ParseError>
-        ensures { GivesState (reading.if_tag MAX_LEVELS line (map token_view tokens.now) (state_view self.old)) result self.new }
+    /// One open statement more.
+    fn open(&mut self, line: u32, kind: Kind) -> Result<(), ParseError>
+        ensures opened { IfOk result (λ u. state_view self.new ≡ reading.state trees.end (frame_by (state_view self.old).body line kind ∷ (state_view self.old).frames)) }
+        ensures refused { IfErr result (λ e. e ≡ error.NoMemory) }
     {
-        let condition = expression(self.alloc, tokens, levels_left(&self.frames), line)?;
         let before = mem::replace(&mut self.body, Vec::new(self.alloc));
-        let frame = Frame {
-            before,
-            branches: Vec::new(self.alloc),
-            line,
-            open: Some((line, condition)),
-        };
-        push_frame(&mut self.frames, frame)?;
+        push_frame(&mut self.frames, Frame { before, line, kind })
+    }
+
+    /// What follows the first tag of a statement.
+    fn headed(&mut self, line: u32, head: Head) -> Result<(), ParseError>
+        ensures headed { IfOk result (λ u. state_view self.new ≡ reading.headed line (head_view head) (state_view self.old)) }
+        ensures refused { IfErr result (λ e. e ≡ error.NoMemory) }
+    {
+        match head {
+            Head::Statement(statement) => push_statement(&mut self.body, statement),
+            Head::If(condition) => {
+                let branches = Vec::new(self.alloc);
+                self.open(line, Kind::Branch(branches, line, condition))
+            }
+            Head::Loop(head) => self.open(line, Kind::Loop(head)),
+            Head::Opening(opening) => self.open(line, Kind::Opening(opening)),
+        }
+    }
+
+    /// The first tag of a statement.
+    #[tactic(auto, unfolding(crate::specs::Reading::head_tag))]
+    fn head_tag(&mut self, line: u32, word: &str, tokens: &[Token<'_>]) -> Result<(), ParseError>
+        ensures { GivesState (reading.head_tag max_levels line (chars word.now) (map token_view tokens.now) (state_view self.old)) result self.new }
+    {
+        let levels = levels_left(depth(&self.frames), line)?;
+        let head = head(self.alloc, word, tokens, levels, line)?;
+        self.headed(line, head)?;
         Ok(())
     }
 
     /// `{% elif c %}`
     #[tactic(auto, unfolding(crate::specs::Reading::elif_tag))]
     fn elif_tag(&mut self, line: u32, tokens: &[Token<'_>]) -> Result<(), ParseError>
-        ensures { GivesState (reading.elif_tag MAX_LEVELS line (map token_view tokens.now) (state_view self.old).body (state_view self.old).frames) result self.new }
+        ensures { GivesState (reading.elif_tag max_levels line (map token_view tokens.now) (state_view self.old).body (state_view self.old).frames) result self.new }
     {
         let Some(frame) = pop_frame(&mut self.frames) else {
             return Err(ParseError::Syntax { line });
         };
         let Frame {
             before,
-            mut branches,
             line: opening,
-            open,
+            kind,
         } = frame;
-        let Some((first, condition)) = open else {
+        let Kind::Branch(mut branches, first, condition) = kind else {
             return Err(ParseError::Syntax { line });
         };
-        let next = expression(self.alloc, tokens, levels_left(&self.frames), line)?;
+        let levels = levels_left(depth(&self.frames), line)?;
+        let next = expression(self.alloc, tokens, levels, line)?;
         let body = mem::replace(&mut self.body, Vec::new(self.alloc));
         push_branch(&mut branches, first, condition, body)?;
         let frame = Frame {
             before,
-            branches,
             line: opening,
-            open: Some((line, next)),
+            kind: Kind::Branch(branches, line, next),
+        };
+        push_frame(&mut self.frames, frame)?;
+        Ok(())
+    }
+
+    /// What the else part of a frame is read in.
+    fn else_by(&mut self, line: u32) -> Result<(), ParseError>
+        ensures { GivesState (reading.else_by (state_view self.old).body (state_view self.old).frames) result self.new }
+    {
+        let Some(frame) = pop_frame(&mut self.frames) else {
+            return Err(ParseError::Syntax { line });
+        };
+        let Frame {
+            before,
+            line: opening,
+            kind,
+        } = frame;
+        let kind = match kind {
+            Kind::Branch(mut branches, first, condition) => {
+                let body = mem::replace(&mut self.body, Vec::new(self.alloc));
+                push_branch(&mut branches, first, condition, body)?;
+                Kind::Else(branches)
+            }
+            Kind::Loop(head) => {
+                let body = mem::replace(&mut self.body, Vec::new(self.alloc));
+                Kind::LoopElse(head, body)
+            }
+            _ => return Err(ParseError::Syntax { line }),
+        };
+        let frame = Frame {
+            before,
+            line: opening,
+            kind,
         };
         push_frame(&mut self.frames, frame)?;
         Ok(())
@@ -173,101 +186,84 @@ impl Parser {
         if !tokens.is_empty() {
             return Err(ParseError::Syntax { line });
         }
-        let Some(frame) = pop_frame(&mut self.frames) else {
-            return Err(ParseError::Syntax { line });
-        };
-        let Frame {
-            before,
-            mut branches,
-            line: opening,
-            open,
-        } = frame;
-        let Some((first, condition)) = open else {
-            return Err(ParseError::Syntax { line });
-        };
-        let body = mem::replace(&mut self.body, Vec::new(self.alloc));
-        push_branch(&mut branches, first, condition, body)?;
-        let frame = Frame {
-            before,
-            branches,
-            line: opening,
-            open: None,
-        };
-        push_frame(&mut self.frames, frame)?;
-        Ok(())
+        self.else_by(line)
     }
 
-    /// `{% endif %}`
-    #[tactic(auto, unfolding(crate::specs::Reading::endif_tag))]
-    fn endif_tag(&mut self, line: u32, tokens: &[Token<'_>]) -> Result<(), ParseError>
-        ensures { GivesState (reading.endif_tag (map token_view tokens.now) (state_view self.old).body (state_view self.old).frames) result self.new }
+    /// A tag that ends a statement.
+    #[tactic(auto, unfolding(crate::specs::Reading::end_tag))]
+    fn end_tag(&mut self, line: u32, word: &str, tokens: &[Token<'_>]) -> Result<(), ParseError>
+        ensures { GivesState (reading.end_tag (chars word.now) (map token_view tokens.now) (state_view self.old).body (state_view self.old).frames) result self.new }
     {
-        if !tokens.is_empty() {
-            return Err(ParseError::Syntax { line });
-        }
         let Some(frame) = pop_frame(&mut self.frames) else {
             return Err(ParseError::Syntax { line });
         };
-        let Frame {
-            before,
-            mut branches,
-            line: _opening,
-            open,
-        } = frame;
-        let body = mem::replace(&mut self.body, before);
-        match open {
-            Some((first, condition)) => {
-                push_branch(&mut branches, first, condition, body)?;
-                push_statement(&mut self.body, if_statement(branches, Vec::new(self.alloc)))?;
-            }
-            None => push_statement(&mut self.body, if_statement(branches, body))?,
+        if !ends_frame(&frame, word, tokens) {
+            return Err(ParseError::Syntax { line });
         }
+        let body = mem::replace(&mut self.body, Vec::new(self.alloc));
+        let (before, statement) = finished(self.alloc, frame, body)?;
+        self.body = before;
+        push_statement(&mut self.body, statement)?;
         Ok(())
     }
 
     /// A block tag, by its first word.
     #[tactic(auto, unfolding(crate::specs::Reading::block_tag))]
     fn block_tag(&mut self, line: u32, word: &str, tokens: &[Token<'_>]) -> Result<(), ParseError>
-        ensures { GivesState (reading.block_tag MAX_LEVELS line (chars word.now) (map token_view tokens.now) (state_view self.old)) result self.new }
+        ensures { GivesState (reading.block_tag max_levels line (chars word.now) (map token_view tokens.now) (state_view self.old)) result self.new }
     {
-        if is_word(word, "if") {
-            self.if_tag(line, tokens)
-        } else if is_word(word, "elif") {
+        if is_word(word, "elif") {
             self.elif_tag(line, tokens)
         } else if is_word(word, "else") {
             self.else_tag(line, tokens)
-        } else if is_word(word, "endif") {
-            self.endif_tag(line, tokens)
+        } else if is_end_word(word) {
+            self.end_tag(line, word, tokens)
         } else {
-            Err(ParseError::Syntax { line })
+            self.head_tag(line, word, tokens)
         }
     }
 
     /// A tag.
-    fn tag(&mut self, kind: Kind, line: u32, tokens: &[Token<'_>]) -> Result<(), ParseError>
-        ensures { GivesState (reading.step MAX_LEVELS (state_view self.old) (cut.tag kind line (map token_view tokens.now))) result self.new }
+    fn tag(&mut self, kind: TagKind, line: u32, tokens: &[Token<'_>]) -> Result<(), ParseError>
+        ensures { GivesState (reading.step max_levels (state_view self.old) (kept.tag kind line (map token_view tokens.now))) result self.new }
     {
         match kind {
-            Kind::Variable => self.print_tag(line, tokens),
-            Kind::Block => match tokens {
+            TagKind::Variable => self.print_tag(line, tokens),
+            TagKind::Block => match tokens {
                 [Token::Name(word), rest @ ..] => self.block_tag(line, word, rest),
                 _ => Err(ParseError::Syntax { line }),
             },
         }
     }
 
-    /// One segment.
-    fn step(&mut self, segment: &Segment<'_>) -> Result<(), ParseError>
-        ensures { GivesState (reading.step MAX_LEVELS (state_view self.old) (segment_view segment.now)) result self.new }
+    /// What is left of a text.
+    #[tactic(auto, unfolding(crate::specs::Reading::run))]
+    fn text(&mut self, text: &str) -> Result<(), ParseError>
+        ensures { GivesState (reading.run max_levels (state_view self.old) (kept.with_text (chars text.now) [])) result self.new }
     {
-        match segment {
-            Segment::Data(text) => {
-                let copy = copy_of(self.alloc, text)?;
-                push_statement(&mut self.body, Stmt::Data(copy))?;
-                Ok(())
+        if text.is_empty() {
+            return Ok(());
+        }
+        let copy = copy_of(self.alloc, text)?;
+        push_statement(&mut self.body, Stmt::Data(copy))?;
+        Ok(())
+    }
+
+    /// One segment, between two sides.
+    #[tactic(auto, unfolding(crate::specs::Reading::run))]
+    fn step(&mut self, segment: &Segment<'_>, left: Side, right: Side) -> Result<(), ParseError>
+        ensures { GivesState (reading.run max_levels (state_view self.old) (kept.with_segment segment.now.options (side_view left) (side_view right) (segment_view segment.now) [])) result self.new }
+    {
+        let options = segment.options;
+        match &segment.part {
+            Part::Data(text) => self.text(kept(text, options, left, right)),
+            Part::Tag(tag) => self.tag(tag.kind, tag.line, &tag.tokens),
+            Part::Comment(_, _) => Ok(()),
+            Part::Raw(marks, text, ends) => {
+                let left = Side::Block(marks.closing);
+                let right = Side::Block(ends.opening);
+                self.text(kept(text, options, left, right))
             }
-            Segment::Tag(tag) => self.tag(tag.kind, tag.line, &tag.tokens),
-            Segment::Comment(_) => Ok(()),
         }
     }
 }
@@ -275,15 +271,19 @@ impl Parser {
 /// The tree that all the segments spell, as the reader has it.
 #[tactic(auto, unfolding(crate::specs::Reading::run, crate::specs::Reading::parsed))]
 fn read(alloc: Global, segments: &[Segment<'_>]) -> Result<Template, ParseError>
-    ensures { GivesTemplate (reading.parsed MAX_LEVELS (cut_of segments.now)) result }
+    ensures { GivesTemplate (reading.parsed max_levels (kept.pieces (reads_of segments.now))) result }
 {
     let mut parser = Parser {
         alloc,
         body: Vec::new(alloc),
         frames: Vec::new(alloc),
     };
-    'segments: for segment in segments {
-        parser.step(segment)?;
+    let mut left = Side::Nothing;
+    let mut rest = segments;
+    'segments: while let [segment, behind @ ..] = rest {
+        parser.step(segment, left, side_ahead(behind))?;
+        left = side_behind(&segment.part);
+        rest = behind;
     }
     match pop_frame(&mut parser.frames) {
         Some(frame) => Err(ParseError::Syntax { line: frame.line }),
@@ -291,27 +291,29 @@ fn read(alloc: Global, segments: &[Segment<'_>]) -> Result<Template, ParseError>
     }
 }
 
-/// The same, if each filter and each test has a meaning.
+/// The same, if each statement stands where it may, and each filter and each test has a meaning.
 fn read_known(alloc: Global, segments: &[Segment<'_>]) -> Result<Template, ParseError>
-    ensures { GivesKnown (reading.parsed MAX_LEVELS (cut_of segments.now)) result }
+    ensures { GivesKnown (reading.parsed max_levels (kept.pieces (reads_of segments.now))) result }
 {
     let template = read(alloc, segments)?;
+    check_places(&template.body)?;
     check_body(&template.body)?;
     Ok(template)
 }
 
-/// The tree that the segments spell, in which each filter and each test has a meaning. P1 Syntax,
-/// where no tree is spelled so, P2 TooDeep, where each has more than [`MAX_LEVELS`] levels, P3
-/// UnknownFilter or P4 UnknownTest, where the tree has a name without a meaning, or P5 NoMemory,
-/// where a growth was refused. The line is that of the tag in which the fault was found, and of an
-/// `if` that is never closed its own.
+/// The tree that the segments spell, with what the whitespace rules leave of the text between tags,
+/// in which each filter and each test has a meaning. P1 Syntax, where no tree is spelled so, P2
+/// TooDeep, where each has more than [`MAX_LEVELS`] levels, P3 UnknownFilter or P4 UnknownTest,
+/// where the tree has a name without a meaning, or P5 NoMemory, where a growth was refused. The
+/// line is that of the tag in which the fault was found, and of a statement that is never closed
+/// its first tag's.
 pub fn parse(alloc: Global, segments: &[Segment<'_>]) -> Result<Template, ParseError>
     ensures spelled { IfOk result
-        (λ t. Forms (body_of t) (cut_of segments.now) × (body_levels (body_of t) ≤ 100)) }
+        (λ t. Spelled (body_of t) (kept.pieces (reads_of segments.now)) × (body_levels (body_of t) ≤ max_levels)) }
     ensures known { IfOk result (λ t. body_unknown (body_of t) ≡ None) }
-    ensures only { (b : Body) → Forms b (cut_of segments.now) → body_levels b ≤ 100 → body_unknown b ≡ None →
+    ensures only { (b : Body) → Spelled b (kept.pieces (reads_of segments.now)) → body_levels b ≤ max_levels → body_unknown b ≡ None →
         MatchResult result (λ t. body_of t ≡ b) (λ e. e ≡ error.NoMemory) }
-    ensures refused { IfErr result (λ e. IsRefusal e (cut_of segments.now)) }
+    ensures refused { IfErr result (λ e. IsRefusal e (kept.pieces (reads_of segments.now))) }
     ensures weighs { IfOk result (λ t. body_weight (body_of t) ≤ cut.weight_of (cut_of segments.now)) }
     ensures short { IfOk result (λ t. body_bytes (body_of t) ≤ bytes_of (cut_of segments.now)) }
 {

@@ -4,7 +4,7 @@ use Rattle.jt_scan.specs.declared.error.ScanError.{ScanError}
 use Rattle.jt_scan.specs.declared.error.ScanError.TheVariants as error
 use Rattle.jt_scan.specs.declared.segment.Kind.{Kind}
 use Rattle.jt_scan.specs.Cut.{Text, Segment, Cuts, no_more, more, IsCut, weight_of}
-use Rattle.jt_scan.specs.Refused.{IsBroken, no_closer, no_quote, bad_escape, too_large, no_token, behind_space, behind_token, IsFaulty, in_tag, in_comment, IsFaultOf, IsRefusal}
+use Rattle.jt_scan.specs.Refused.{IsBroken, no_closer, no_quote, bad_escape, too_large, no_token, behind_space, behind_token, IsFaulty, in_tag, no_endraw, in_comment, IsFaultOf, IsRefusal}
 use Rattle.jt_scan.specs.Scanning.{cut, IsGiven}
 use Rattle.jt_scan.proofs.CutLaws.{cut_found, cut_says, cut_refuses, FaultyAt}
 use Rattle.jt_scan.proofs.Weight.{weighs}
@@ -42,7 +42,7 @@ MayBe (error.UnclosedText n) = Unit {0}
 MayBe (error.BadCharacter n) = Unit {0}
 MayBe (error.BadEscape n) = Unit {0}
 MayBe (error.NumberTooLarge n) = Unit {0}
-MayBe (error.UnclosedRaw n) = ⊥
+MayBe (error.UnclosedRaw n) = Unit {0}
 MayBe error.SourceTooLong = ⊥
 MayBe error.NoMemory = ⊥
 
@@ -57,6 +57,7 @@ broken_may (behind_token b s i) = broken_may i
 
 faulty_may : {n : ℕ} {e : ScanError} {x : Text} → IsFaulty n e x → MayBe e
 faulty_may (in_tag i) = broken_may i
+faulty_may (no_endraw i r h) = tt
 faulty_may (in_comment h) = tt
 
 cuts_may : {source : Text} {e : ScanError} {ss : List Segment} {x : Text} → Cuts source (FaultyAt source e) ss x → MayBe e
@@ -72,7 +73,7 @@ holds (error.UnclosedText n) x h = found _ x h
 holds (error.BadCharacter n) x h = found _ x h
 holds (error.BadEscape n) x h = found _ x h
 holds (error.NumberTooLarge n) x h = found _ x h
-holds (error.UnclosedRaw n) x h = cuts_may (found _ x h).1
+holds (error.UnclosedRaw n) x h = found _ x h
 holds error.SourceTooLong x h = cuts_may (found _ x h).1
 holds error.NoMemory x h = tt
 

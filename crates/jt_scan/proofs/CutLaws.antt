@@ -1,12 +1,14 @@
 -- The one cut of a source is found, and a refusal holds.
-use Rattle.std.proofs.Common.{◌≡◌, ℕ, zero, suc, ◌+◌, ◌<◌, ◌||◌, ◌⊎◌, inl, inr, Bool, true, false, List, [], ◌∷◌, ◌++◌, length, drop, refl, sym, ap, subst, ◌∙◌, arith, Result, Ok, Err, append-nil}
+use Rattle.std.proofs.Common.{◌≡◌, ℕ, zero, suc, ◌+◌, ◌<◌, ◌||◌, ◌⊎◌, inl, inr, Bool, true, false, List, [], ◌∷◌, ◌++◌, length, drop, refl, sym, ap, subst, ◌∙◌, arith, Option, Some, None, Result, Ok, Err, append-nil}
 use Rattle.jt_scan.specs.declared.error.ScanError.{ScanError}
-use Rattle.jt_scan.specs.declared.error.ScanError.TheVariants.{UnclosedTag}
+use Rattle.jt_scan.specs.declared.error.ScanError.TheVariants.{UnclosedTag, UnclosedRaw}
 use Rattle.jt_scan.specs.declared.segment.Kind.{Kind}
 use Rattle.jt_scan.specs.declared.segment.Kind.TheVariants.{Variable, Block}
-use Rattle.jt_scan.specs.Cut.{Text, Token, second, Segment, data_of, tag, comment, opens, begins, ends_comment, NoneBegins, EndsData, IsSegment, some_data, a_tag, a_comment, Cuts, no_more, more, line_at}
-use Rattle.jt_scan.specs.Refused.{IsFaulty, in_tag, in_comment}
-use Rattle.jt_scan.specs.Scanning.{Outcome, ◌>>=◌, clear_run, inside, tag_at, ended_comment, comment_at, data_at, segment_at, with_segment, then_cut, cut}
+use Rattle.jt_scan.specs.Cut.{Text, Token, second, Segment, data_of, tag, comment, opens, begins, ends_comment, NoneBegins, EndsData, IsSegment, some_data, a_tag, a_comment, a_raw, Cuts, no_more, more, line_at, raw, marks, comment_marks, first_mark, behind_mark, is_raw, ends_raw, endraw_at, is_found, Inside}
+use Rattle.jt_scan.specs.declared.segment.Mark.{Mark}
+use Rattle.jt_scan.specs.declared.segment.Marks.{Marks}
+use Rattle.jt_scan.specs.Refused.{IsFaulty, in_tag, no_endraw, in_comment}
+use Rattle.jt_scan.specs.Scanning.{Outcome, ◌>>=◌, Tokens, clear_run, inside, ended_raw, raw_at, tag_of, tag_at, ended_comment, comment_at, data_at, segment_at, with_segment, then_cut, cut}
 use Rattle.jt_scan.proofs.Steps.{by_test, ok_parts, bind_ok, begins_says, opener_says, Stops, clear_of, clear_says}
 use Rattle.jt_scan.proofs.InsideLaws.{inside_found, inside_says, inside_refuses}
 use Rattle.jt_scan.proofs.Weight.{shrinks}
@@ -21,7 +23,7 @@ ends (c ∷ cs) h = h
 
 -- ---- what the definitions have is found
 
-comment_found : (n : ℕ) (x rest : Text) → NoneBegins ends_comment x (35 ∷ 125 ∷ rest) → comment_at n (x ++ (35 ∷ 125 ∷ rest)) ≡ Ok (comment x, rest)
+comment_found : (n : ℕ) (x rest : Text) → NoneBegins ends_comment x (35 ∷ 125 ∷ rest) → comment_at n (x ++ (35 ∷ 125 ∷ rest)) ≡ Ok (comment (comment_marks x) x, rest)
 comment_found n x rest h = rw (clear_of ends_comment x (35 ∷ 125 ∷ rest) h refl) refl
 
 none : (a b c : Bool) → (a || b || c) ≡ false → (a ≡ false) × (b ≡ false) × (c ≡ false)
@@ -33,12 +35,29 @@ none false false true h = cc
 opens_none : (x : Text) → opens x ≡ false → (begins 123 123 x ≡ false) × (begins 123 37 x ≡ false) × (begins 123 35 x ≡ false)
 opens_none x h = none (begins 123 123 x) (begins 123 37 x) (begins 123 35 x) h
 
+tag_found : {k : Kind} {ts : List Token} {mark : Mark} (x : Text) {rest : Text} → Inside k 0 ts mark (behind_mark x) rest → (n : ℕ) → is_raw k ts ≡ false
+    → tag_at k n x ≡ Ok (tag k (marks (first_mark x) mark) n ts, rest)
+tag_found {k} {ts} {mark} x {rest} i n r =
+    ap (λ o. o >>= λ p z. tag_of k n (marks (first_mark x) p.1) p.0 z) (inside_found i n (length (behind_mark x) + 1) (omega arith)) ∙ (rw r refl)
+
+endraw_stops : (y : Text) (p : Marks × Text) → endraw_at y ≡ Some p → Stops ends_raw y
+endraw_stops [] p e = tt
+endraw_stops (c ∷ y) p e = rw e refl
+
+raw_found : {ts : List Token} {mark : Mark} {ends : Marks} (x d y : Text) {rest : Text} → Inside Block 0 ts mark (behind_mark x) (d ++ y) → (n : ℕ) → is_raw Block ts ≡ true → NoneBegins ends_raw d y → endraw_at y ≡ Some (ends, rest)
+    → tag_at Block n x ≡ Ok (raw (marks (first_mark x) mark) d ends, rest)
+unfolding raw_at
+raw_found {ts} {mark} {ends} x d y {rest} i n r h e =
+    ap (λ o. o >>= λ p z. tag_of Block n (marks (first_mark x) p.1) p.0 z) (inside_found i n (length (behind_mark x) + 1) (omega arith))
+    ∙ (rw (r, clear_of ends_raw d y h (endraw_stops y (ends, rest) e)) (rw e refl))
+
 pub segment_found : {n : ℕ} {s : Segment} {x rest : Text} → IsSegment n s x rest → segment_at n x ≡ Ok (s, rest)
 unfolding segment_at
 segment_found (some_data {c} {d} {rest} h e) = let o = opens_none (c ∷ (d ++ rest)) h.0 in rw (o.0, o.1, o.2, clear_of opens (c ∷ d) rest h (stops rest e))
-segment_found {n} (a_tag {k = Variable} {x} i) = rw (inside_found i n (length x + 1) (omega arith))
-segment_found {n} (a_tag {k = Block} {x} i) = rw (inside_found i n (length x + 1) (omega arith))
+segment_found {n} (a_tag {k = Variable} {x} i r) = tag_found x i n r
+segment_found {n} (a_tag {k = Block} {x} i r) = tag_found x i n r
 segment_found {n} (a_comment {x} {rest} h) = comment_found n x rest h
+segment_found {n} (a_raw {x} {d} y i r h e) = raw_found x d y i n r h e
 
 pub cut_more : (source x rest : Text) (m : ℕ) (s : Segment) (ss : List Segment) → 0 < length x → segment_at (line_at source x) x ≡ Ok (s, rest) → cut source m rest ≡ Ok ss → cut source (suc m) x ≡ Ok (s ∷ ss)
 unfolding cut
@@ -58,12 +77,38 @@ cut_found {source} {ss} {x} (more {s} {ss = us} {rest} p c) (suc m) le = cut_mor
 
 -- ---- and nothing else is
 
+raw_says : (n : ℕ) (ms : Marks) (s : Segment) (x rest : Text) → raw_at n ms x ≡ Ok (s, rest)
+    → (d : Text) × (y : Text) × (ends : Marks) × (x ≡ d ++ y) × NoneBegins ends_raw d y × (endraw_at y ≡ Some (ends, rest)) × (raw ms d ends ≡ s)
+unfolding raw_at
+raw_says n ms s x rest e = let c = clear_says ends_raw x in by (clear_run ends_raw x).0 (clear_run ends_raw x).1 c.0 c.1 (endraw_at (clear_run ends_raw x).1) refl e
+  where
+    by : (d y : Text) → x ≡ d ++ y → NoneBegins ends_raw d y → (o : Option (Marks × Text)) → endraw_at y ≡ o → ended_raw n ms d o ≡ Ok (s, rest)
+        → (d : Text) × (y : Text) × (ends : Marks) × (x ≡ d ++ y) × NoneBegins ends_raw d y × (endraw_at y ≡ Some (ends, rest)) × (raw ms d ends ≡ s)
+    by d y w h None is q = cc
+    by d y w h (Some p) is q = let u = ok_parts q in (d, y, p.0, w, h, is ∙ ap (λ z. Some (p.0, z)) u.1, u.0)
+
+raw_is_block : (k : Kind) (ts : List Token) → is_raw k ts ≡ true → k ≡ Block
+raw_is_block Variable ts h = cc
+raw_is_block Block ts h = refl
+
+tag_of_says : (k : Kind) (n : ℕ) (mark : Mark) (ts : List Token) (s : Segment) (x u rest : Text) → Inside k 0 ts mark (behind_mark x) u → tag_of k n (marks (first_mark x) mark) ts u ≡ Ok (s, rest) → IsSegment n s (123 ∷ second k ∷ x) rest
+tag_of_says k n mark ts s x u rest i e =
+    by_test (is_raw k ts) _ _ _ e
+    (λ h q.
+    let r = raw_says n (marks (first_mark x) mark) s u rest q in
+    let b : k ≡ Block = raw_is_block k ts h in
+    subst (λ z. IsSegment n z (123 ∷ second k ∷ x) rest) r.6
+    (subst (λ j. IsSegment n (raw (marks (first_mark x) mark) r.0 r.2) (123 ∷ second j ∷ x) rest) (sym b)
+    (a_raw r.1 (subst (λ z. Inside Block 0 ts mark (behind_mark x) z) r.3 (subst (λ j. Inside j 0 ts mark (behind_mark x) u) b i)) (subst (λ j. is_raw j ts ≡ true) b h) r.4 r.5)))
+    (λ h q.
+    let p = ok_parts q in
+    subst (λ z. IsSegment n z (123 ∷ second k ∷ x) rest) p.0
+    (a_tag (subst (λ z. Inside k 0 ts mark (behind_mark x) z) p.1 i) h))
+
 tag_says : (k : Kind) (n : ℕ) (s : Segment) (x rest : Text) → tag_at k n x ≡ Ok (s, rest) → IsSegment n s (123 ∷ second k ∷ x) rest
 tag_says k n s x rest e =
-    let b = bind_ok (inside k n (length x + 1) 0 x) (λ ts z. Ok (tag k n ts, z)) s rest e in
-    let p = ok_parts b.3 in
-    subst (λ u. IsSegment n u (123 ∷ second k ∷ x) rest) p.0
-    (a_tag (inside_says k n (length x + 1) 0 b.0 x rest (subst (λ z. inside k n (length x + 1) 0 x ≡ Ok (b.0, z)) p.1 b.2)))
+    let b = bind_ok (inside k n (length (behind_mark x) + 1) 0 (behind_mark x)) (λ p z. tag_of k n (marks (first_mark x) p.1) p.0 z) s rest e in
+    tag_of_says k n b.0.1 b.0.0 s x b.1 rest (inside_says k n (length (behind_mark x) + 1) 0 b.0.0 b.0.1 (behind_mark x) b.1 b.2) b.3
 
 comment_behind : (n : ℕ) (s : Segment) (d y rest : Text) → NoneBegins ends_comment d y → Stops ends_comment y → ended_comment n d y ≡ Ok (s, rest) → IsSegment n s (123 ∷ 35 ∷ (d ++ y)) rest
 comment_behind n s d [] rest h t e = cc
@@ -71,7 +116,7 @@ comment_behind n s d (c ∷ y) rest h t e =
     let p = ok_parts e in let b = begins_says 35 125 c y t in
     let is : c ∷ y ≡ 35 ∷ 125 ∷ rest = ap (λ k. k ∷ y) b.0 ∙ ap (λ z. 35 ∷ z) (b.1 ∙ ap (λ z. 125 ∷ z) p.1) in
     subst (λ u. IsSegment n u (123 ∷ 35 ∷ (d ++ (c ∷ y))) rest) p.0
-    (subst (λ z. IsSegment n (comment d) (123 ∷ 35 ∷ (d ++ z)) rest) (sym is) (a_comment (subst (NoneBegins ends_comment d) is h)))
+    (subst (λ z. IsSegment n (comment (comment_marks d) d) (123 ∷ 35 ∷ (d ++ z)) rest) (sym is) (a_comment (subst (NoneBegins ends_comment d) is h)))
 
 comment_says : (n : ℕ) (s : Segment) (x rest : Text) → comment_at n x ≡ Ok (s, rest) → IsSegment n s (123 ∷ 35 ∷ x) rest
 comment_says n s x rest e =
@@ -124,9 +169,36 @@ cut_says source (suc m) ss (c ∷ cs) e =
 err_same : {A : Type 0} {d e : ScanError} → ◌≡◌ {A = Outcome A} (Err d) (Err e) → d ≡ e
 err_same h = cc
 
-tag_refuses : (k : Kind) (n : ℕ) (x : Text) (e : ScanError) (o : Outcome (List Token)) → inside k n (length x + 1) 0 x ≡ o → (o >>= λ ts z. Ok (tag k n ts, z)) ≡ Err e → IsFaulty n e (123 ∷ second k ∷ x)
-tag_refuses k n x e (Ok p) w h = cc
-tag_refuses k n x e (Err d) w h = in_tag (inside_refuses k n (length x + 1) 0 x e (omega arith) (w ∙ ap (λ u. Err u) (err_same h)))
+raw_refuses : (n : ℕ) (ms : Marks) (x : Text) (e : ScanError) → raw_at n ms x ≡ Err e → (e ≡ UnclosedRaw n) × NoneBegins ends_raw x []
+unfolding raw_at
+raw_refuses n ms x e h = let c = clear_says ends_raw x in by (clear_run ends_raw x).0 (clear_run ends_raw x).1 c.0 c.1 c.2 (endraw_at (clear_run ends_raw x).1) refl h
+  where
+    at_end : (y : Text) → Stops ends_raw y → endraw_at y ≡ None → y ≡ []
+    at_end [] s is = refl
+    at_end (c ∷ y) s is = let f : is_found (endraw_at (c ∷ y)) ≡ false = ap (λ o. is_found o) is in cc
+
+    by : (d y : Text) → x ≡ d ++ y → NoneBegins ends_raw d y → Stops ends_raw y → (o : Option (Marks × Text)) → endraw_at y ≡ o → ended_raw n ms d o ≡ Err e → (e ≡ UnclosedRaw n) × NoneBegins ends_raw x []
+    by d y w h s (Some p) is q = cc
+    by d y w h s None is q =
+        let f : y ≡ [] = at_end y s is in
+        let g : x ≡ d = w ∙ ap (λ z. d ++ z) f ∙ append-nil d in
+        (sym (err_same q), subst (λ z. NoneBegins ends_raw z []) (sym g) (subst (NoneBegins ends_raw d) f h))
+
+tag_of_refuses : (k : Kind) (n : ℕ) (mark : Mark) (ts : List Token) (x u : Text) (e : ScanError) → Inside k 0 ts mark (behind_mark x) u → tag_of k n (marks (first_mark x) mark) ts u ≡ Err e → IsFaulty n e (123 ∷ second k ∷ x)
+tag_of_refuses k n mark ts x u e i h =
+    by_test (is_raw k ts) _ _ _ h
+    (λ r q.
+    let b : k ≡ Block = raw_is_block k ts r in
+    let f = raw_refuses n (marks (first_mark x) mark) u e q in
+    subst (λ z. IsFaulty n z (123 ∷ second k ∷ x)) (sym f.0)
+    (subst (λ j. IsFaulty n (UnclosedRaw n) (123 ∷ second j ∷ x)) (sym b)
+    (no_endraw (subst (λ j. Inside j 0 ts mark (behind_mark x) u) b i) (subst (λ j. is_raw j ts ≡ true) b r) f.1)))
+    (λ r q. cc)
+
+tag_refuses : (k : Kind) (n : ℕ) (x : Text) (e : ScanError) (o : Outcome Tokens) → inside k n (length (behind_mark x) + 1) 0 (behind_mark x) ≡ o
+    → (o >>= λ p z. tag_of k n (marks (first_mark x) p.1) p.0 z) ≡ Err e → IsFaulty n e (123 ∷ second k ∷ x)
+tag_refuses k n x e (Ok p) w h = tag_of_refuses k n p.0.1 p.0.0 x p.1 e (inside_says k n (length (behind_mark x) + 1) 0 p.0.0 p.0.1 (behind_mark x) p.1 w) h
+tag_refuses k n x e (Err d) w h = in_tag (inside_refuses k n (length (behind_mark x) + 1) 0 (behind_mark x) e (omega arith) (w ∙ ap (λ u. Err u) (err_same h)))
 
 comment_open : (n : ℕ) (e : ScanError) (d y : Text) → NoneBegins ends_comment d y → ended_comment n d y ≡ Err e → IsFaulty n e (123 ∷ 35 ∷ (d ++ y))
 comment_open n e d [] h q = subst (λ u. IsFaulty n u (123 ∷ 35 ∷ (d ++ []))) (err_same q) (subst (λ z. IsFaulty n (UnclosedTag n) (123 ∷ 35 ∷ z)) (search (append-nil)) (in_comment h))

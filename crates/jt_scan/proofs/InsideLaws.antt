@@ -1,47 +1,63 @@
 -- The tokens of a tag's inside are found, and nothing else is.
-use Rattle.std.proofs.Common.{◌≡◌, ℕ, zero, suc, ◌<◌, ◌==◌, true, false, List, [], ◌∷◌, ◌++◌, length, drop, refl, sym, ap, subst, ◌∙◌, arith, Ok, Err, length-append}
+use Rattle.std.proofs.Common.{◌≡◌, ℕ, zero, suc, ◌<◌, ◌==◌, ◌&&◌, if◌then◌else◌, Bool, true, false, List, [], ◌∷◌, ◌++◌, length, refl, sym, ap, subst, ◌∙◌, arith, Option, Some, None, Ok, Err, length-append}
 use Rattle.std.proofs.lemmas.Bool.Decides.{nat_tests}
 use Rattle.jt_scan.specs.declared.error.ScanError.{ScanError}
 use Rattle.jt_scan.specs.declared.segment.Kind.{Kind}
-use Rattle.jt_scan.specs.Cut.{Text, Token, closer, begins, closes, braces, is_space, Spelled, Inside, closed, space, token}
+use Rattle.jt_scan.specs.declared.segment.Mark.{Mark}
+use Rattle.jt_scan.specs.Cut.{Text, Token, may_close, closing_text, closer_at, is_found, closes, braces, is_space, Spelled, Inside, closed, space, token}
 use Rattle.jt_scan.specs.Refused.{IsBroken, no_closer as has_no_closer, behind_space, behind_token}
-use Rattle.jt_scan.specs.Scanning.{Outcome, ◌>>=◌, inside, with_token, token_at, Front, closing, spells, front_at, then_inside}
-use Rattle.jt_scan.proofs.Steps.{by_test, both, ok_parts, bind_ok, opener_says}
+use Rattle.jt_scan.specs.Scanning.{Outcome, ◌>>=◌, Tokens, inside, with_token, token_at, Front, closing, spells, front_by, front_at, then_inside}
+use Rattle.jt_scan.proofs.Steps.{by_test, ok_parts, bind_ok}
 use Rattle.jt_scan.proofs.TokenLaws.{spelled_head, token_found, token_says, token_refuses}
-use Rattle.jt_scan.proofs.Tables.{closer_is_no_space, closer_begins}
+use Rattle.jt_scan.proofs.Tables.{closing_head, closer_found, IsCloser, closer_says}
 
 -- ---- what stands in front
 
-front_closes : (k : Kind) (line : ℕ) (rest : Text) → front_at k line 0 (closer k ∷ 125 ∷ rest) ≡ Ok (closing, rest)
+front_closes : (k : Kind) (line : ℕ) (mark : Mark) (rest : Text) → may_close k mark ≡ true → front_at k line 0 (closing_text k mark rest) ≡ Ok (closing mark, rest)
 unfolding front_at
-front_closes k line rest = rw (closer_begins k rest) refl
+front_closes k line mark rest h = rw (closer_found k mark rest h) refl
+
+not_closed : (k : Kind) (line depth : ℕ) (x : Text) → closes k depth x ≡ false → front_at k line depth x ≡ (token_at line x >>= λ t u. Ok (spells t, u))
+unfolding front_at
+not_closed k line depth x h = by (depth == 0) (closer_at k x) h
+  where
+    by : (b : Bool) (o : Option (Mark × Text)) → (b && is_found o) ≡ false → front_by line (if b then o else None) x ≡ (token_at line x >>= λ t u. Ok (spells t, u))
+    by true None e = refl
+    by true (Some p) e = cc
+    by false o e = refl
 
 front_spells : (k : Kind) (line depth : ℕ) {t : Token} {s x : Text} → closes k depth (s ++ x) ≡ false → Spelled t s x → front_at k line depth (s ++ x) ≡ Ok (spells t, x)
-unfolding front_at
-front_spells k line depth b sp = rw (b, token_found line sp) refl
+front_spells k line depth {t} {s} {x} b sp = not_closed k line depth (s ++ x) b ∙ (rw (token_found line sp) refl)
 
-closes_says : (k : Kind) (depth : ℕ) (x : Text) → closes k depth x ≡ true → (depth ≡ 0) × (x ≡ closer k ∷ 125 ∷ drop 2 x)
-closes_says k depth x h = let p = both (depth == 0) (begins (closer k) 125 x) h in (none depth p.0, opener_says (closer k) 125 x p.1)
+is_none : (n : ℕ) → (n == 0) ≡ true → n ≡ 0
+is_none n e = grind (arith, nat_tests)
+
+closed_front : (k : Kind) (line depth : ℕ) (f : Front) (x rest : Text) → closes k depth x ≡ true → front_at k line depth x ≡ Ok (f, rest) → (depth ≡ 0) × (mark : Mark) × (f ≡ closing mark) × IsCloser k mark x rest
+unfolding front_at
+closed_front k line depth f x rest h e = by (depth == 0) (closer_at k x) refl refl h e
   where
-    none : (n : ℕ) → (n == 0) ≡ true → n ≡ 0
-    none n e = grind (arith, nat_tests)
+    by : (b : Bool) (o : Option (Mark × Text)) → (depth == 0) ≡ b → closer_at k x ≡ o → (b && is_found o) ≡ true → front_by line (if b then o else None) x ≡ Ok (f, rest)
+        → (depth ≡ 0) × (mark : Mark) × (f ≡ closing mark) × IsCloser k mark x rest
+    by true None d is g q = cc
+    by false o d is g q = cc
+    by true (Some p) d is g q =
+        let u = ok_parts q in
+        (is_none depth d, p.0, sym u.0, closer_says k p.0 x rest (is ∙ ap (λ z. Some (p.0, z)) u.1))
 
 -- the closer, where no brace is open, or a token's spelling
 abbrev pub IsFront : Kind → ℕ → Front → Text → Text → Type 0
-IsFront k depth closing x rest = (depth ≡ 0) × (x ≡ closer k ∷ 125 ∷ rest)
+IsFront k depth (closing mark) x rest = (depth ≡ 0) × (may_close k mark ≡ true) × (x ≡ closing_text k mark rest)
 IsFront k depth (spells t) x rest = (s : Text) × (x ≡ s ++ rest) × Spelled t s rest × (length rest < length x) × (closes k depth x ≡ false)
 
 pub front_says : (k : Kind) (line depth : ℕ) (f : Front) (x rest : Text) → front_at k line depth x ≡ Ok (f, rest) → IsFront k depth f x rest
-unfolding front_at
-front_says k line depth f x rest e =
-    by_test (closes k depth x) _ _ _ e
-    (λ h q.
-    let p = ok_parts q in let c = closes_says k depth x h in
-    subst (λ g. IsFront k depth g x rest) p.0 (c.0, c.1 ∙ ap (λ z. closer k ∷ 125 ∷ z) p.1))
-    (λ h q.
-    let b = bind_ok (token_at line x) (λ t u. Ok (spells t, u)) f rest q in
-    let p = ok_parts b.3 in let s = token_says line b.0 x b.1 b.2 in
-    subst (λ g. IsFront k depth g x rest) p.0 (subst (λ z. IsFront k depth (spells b.0) x z) p.1 (s.0, s.1, s.2, s.3, h)))
+front_says k line depth f x rest e = by (closes k depth x) refl
+  where
+    by : (b : Bool) → closes k depth x ≡ b → IsFront k depth f x rest
+    by true h = let c = closed_front k line depth f x rest h e in subst (λ g. IsFront k depth g x rest) (sym c.2) (c.0, c.3.0, c.3.1)
+    by false h =
+        let b = bind_ok (token_at line x) (λ t u. Ok (spells t, u)) f rest (sym (not_closed k line depth x h) ∙ e) in
+        let p = ok_parts b.3 in let s = token_says line b.0 x b.1 b.2 in
+        subst (λ g. IsFront k depth g x rest) p.0 (subst (λ z. IsFront k depth (spells b.0) x z) p.1 (s.0, s.1, s.2, s.3, h))
 
 err_same : {A : Type 0} {d e : ScanError} → ◌≡◌ {A = Outcome A} (Err d) (Err e) → d ≡ e
 err_same h = cc
@@ -50,53 +66,69 @@ spells_err : (o : Outcome Token) (e : ScanError) → (o >>= λ t u. Ok (spells t
 spells_err (Ok p) e h = cc
 spells_err (Err d) e h = ap (λ k. Err k) (err_same h)
 
-pub front_refuses : (k : Kind) (line depth : ℕ) (x : Text) (e : ScanError) → ((c : ℕ) (cs : Text) → x ≡ c ∷ cs → is_space c ≡ false) → front_at k line depth x ≡ Err e → IsBroken k line depth e x
+no_refusal : (k : Kind) (line depth : ℕ) (x : Text) (e : ScanError) → closes k depth x ≡ true → front_at k line depth x ≡ Err e → ⊥
 unfolding front_at
-front_refuses k line depth x e s h =
-    by_test (closes k depth x) _ _ _ h
-    (λ b q. cc)
-    (λ b q. token_refuses k line depth x e s b (spells_err (token_at line x) e q))
+no_refusal k line depth x e h q = by (depth == 0) (closer_at k x) h q
+  where
+    by : (b : Bool) (o : Option (Mark × Text)) → (b && is_found o) ≡ true → front_by line (if b then o else None) x ≡ Err e → ⊥
+    by true None g r = cc
+    by false o g r = cc
+    by true (Some p) g r = cc
+
+pub front_refuses : (k : Kind) (line depth : ℕ) (x : Text) (e : ScanError) → ((c : ℕ) (cs : Text) → x ≡ c ∷ cs → is_space c ≡ false) → front_at k line depth x ≡ Err e → IsBroken k line depth e x
+front_refuses k line depth x e s h = by (closes k depth x) refl
+  where
+    by : (b : Bool) → closes k depth x ≡ b → IsBroken k line depth e x
+    by true b = absurd (no_refusal k line depth x e b h)
+    by false b = token_refuses k line depth x e s b (spells_err (token_at line x) e (sym (not_closed k line depth x b) ∙ h))
 
 -- ---- the tokens
+
+pub pair_parts : {ts us : List Token} {a b : Mark} → ◌≡◌ {A = Tokens} (ts, a) (us, b) → (ts ≡ us) × (a ≡ b)
+pair_parts e = (ap (λ (p : Tokens). p.0) e, ap (λ (p : Tokens). p.1) e)
 
 inside_step : (k : Kind) (line m depth c : ℕ) (x cs : Text) → x ≡ c ∷ cs → is_space c ≡ false → inside k line (suc m) depth x ≡ (front_at k line depth x >>= then_inside (inside k line m) depth)
 unfolding inside
 inside_step k line m depth c x cs e h = rw e (rw h refl)
 
-pub inside_found : {k : Kind} {depth : ℕ} {ts : List Token} {x rest : Text} → Inside k depth ts x rest → (line m : ℕ) → length x < m → inside k line m depth x ≡ Ok (ts, rest)
+pub inside_found : {k : Kind} {depth : ℕ} {ts : List Token} {mark : Mark} {x rest : Text} → Inside k depth ts mark x rest → (line m : ℕ) → length x < m → inside k line m depth x ≡ Ok ((ts, mark), rest)
 unfolding inside
-inside_found closed line zero le = absurd (omega arith)
+inside_found (closed ok) line zero le = absurd (omega arith)
 inside_found (space h i) line zero le = absurd (omega arith)
 inside_found (token b sp i) line zero le = absurd (omega arith)
-inside_found {k} (closed {rest}) line (suc m) le = rw (closer_is_no_space k, front_closes k line rest) refl
+inside_found {k} (closed {mark} {rest} ok) line (suc m) le =
+    let hd = closing_head k mark rest in
+    inside_step k line m 0 hd.0 (closing_text k mark rest) hd.1 hd.2 hd.3 ∙ (rw (front_closes k line mark rest ok) refl)
 inside_found (space h i) line (suc m) le = rw (h, inside_found i line m (omega arith)) refl
 inside_found {k} (token {depth} {s} {x} b sp i) line (suc m) le =
     let hd = spelled_head sp in
     inside_step k line m depth hd.0 (s ++ x) (hd.1 ++ x) (ap (λ y. y ++ x) hd.2) hd.3 ∙ (rw (front_spells k line depth b sp, inside_found i line m (omega (arith, length-append s x, ap length hd.2))) refl)
 
-pub inside_says : (k : Kind) (line m depth : ℕ) (ts : List Token) (x rest : Text) → inside k line m depth x ≡ Ok (ts, rest) → Inside k depth ts x rest
+pub inside_says : (k : Kind) (line m depth : ℕ) (ts : List Token) (mark : Mark) (x rest : Text) → inside k line m depth x ≡ Ok ((ts, mark), rest) → Inside k depth ts mark x rest
 unfolding inside
-inside_says k line zero depth ts x rest e = cc
-inside_says k line (suc m) depth ts [] rest e = cc
-inside_says k line (suc m) depth ts (c ∷ cs) rest e =
+inside_says k line zero depth ts mark x rest e = cc
+inside_says k line (suc m) depth ts mark [] rest e = cc
+inside_says k line (suc m) depth ts mark (c ∷ cs) rest e =
     by_test (is_space c) _ _ _ e
-    (λ h q. space h (inside_says k line m depth ts cs rest q))
+    (λ h q. space h (inside_says k line m depth ts mark cs rest q))
     (λ h q.
-    let b = bind_ok (front_at k line depth (c ∷ cs)) (then_inside (inside k line m) depth) ts rest q in
-    turned b.0 b.1 (front_says k line depth b.0 (c ∷ cs) b.1 b.2) b.3 (λ d us z q2. inside_says k line m d us b.1 z q2))
+    let b = bind_ok (front_at k line depth (c ∷ cs)) (then_inside (inside k line m) depth) (ts, mark) rest q in
+    turned b.0 b.1 (front_says k line depth b.0 (c ∷ cs) b.1 b.2) b.3 (λ d us a z q2. inside_says k line m d us a b.1 z q2))
   where
-    turned : (f : Front) (u : Text) → IsFront k depth f (c ∷ cs) u → then_inside (inside k line m) depth f u ≡ Ok (ts, rest) → ((d : ℕ) (us : List Token) (z : Text) → inside k line m d u ≡ Ok (us, z) → Inside k d us u z) → Inside k depth ts (c ∷ cs) rest
-    turned closing u is q next =
-        let p = ok_parts q in
-        subst (λ d. Inside k d ts (c ∷ cs) rest) (sym is.0)
-        (subst (λ us. Inside k 0 us (c ∷ cs) rest) p.0 (subst (λ z. Inside k 0 [] z rest) (sym (is.1 ∙ ap (λ z. closer k ∷ 125 ∷ z) p.1)) closed))
+    turned : (f : Front) (u : Text) → IsFront k depth f (c ∷ cs) u → then_inside (inside k line m) depth f u ≡ Ok ((ts, mark), rest) → ((d : ℕ) (us : List Token) (a : Mark) (z : Text) → inside k line m d u ≡ Ok ((us, a), z) → Inside k d us a u z) → Inside k depth ts mark (c ∷ cs) rest
+    turned (closing found) u is q next =
+        let p = ok_parts q in let same = pair_parts p.0 in
+        subst (λ d. Inside k d ts mark (c ∷ cs) rest) (sym is.0)
+        (subst (λ us. Inside k 0 us mark (c ∷ cs) rest) same.0
+        (subst (λ a. Inside k 0 [] a (c ∷ cs) rest) same.1 (subst (λ z. Inside k 0 [] found z rest) (sym (is.2 ∙ ap (λ z. closing_text k found z) p.1)) (closed is.1))))
     turned (spells t) u is q next =
-        let b = bind_ok (inside k line m (braces depth t) u) (λ us z. Ok (t ∷ us, z)) ts rest q in let p = ok_parts b.3 in
-        subst (λ us. Inside k depth us (c ∷ cs) rest) p.0
-        (subst (λ z. Inside k depth (t ∷ b.0) z rest) (sym is.1)
-        (token (subst (λ z. closes k depth z ≡ false) is.1 is.4) is.2 (next (braces depth t) b.0 rest (subst (λ z. inside k line m (braces depth t) u ≡ Ok (b.0, z)) p.1 b.2))))
+        let b = bind_ok (inside k line m (braces depth t) u) (λ p z. Ok ((t ∷ p.0, p.1), z)) (ts, mark) rest q in let p = ok_parts b.3 in let same = pair_parts p.0 in
+        subst (λ us. Inside k depth us mark (c ∷ cs) rest) same.0
+        (subst (λ a. Inside k depth (t ∷ b.0.0) a (c ∷ cs) rest) same.1
+        (subst (λ z. Inside k depth (t ∷ b.0.0) b.0.1 z rest) (sym is.1)
+        (token (subst (λ z. closes k depth z ≡ false) is.1 is.4) is.2 (next (braces depth t) b.0.0 b.0.1 rest (subst (λ z. inside k line m (braces depth t) u ≡ Ok (b.0, z)) p.1 b.2)))))
 
-with_err : (t : Token) (o : Outcome (List Token)) (e : ScanError) → with_token t o ≡ Err e → o ≡ Err e
+with_err : (t : Token) (o : Outcome Tokens) (e : ScanError) → with_token t o ≡ Err e → o ≡ Err e
 with_err t (Ok p) e h = cc
 with_err t (Err x) e h = ap (λ k. Err k) (err_same h)
 
@@ -110,7 +142,7 @@ inside_refuses k line (suc m) depth (c ∷ cs) e le h =
     (λ a q. turned a (front_at k line depth (c ∷ cs)) refl q (λ d u lt q2. inside_refuses k line m d u e (omega arith) q2))
   where
     on : (f : Front) (u : Text) → IsFront k depth f (c ∷ cs) u → then_inside (inside k line m) depth f u ≡ Err e → ((d : ℕ) (z : Text) → length z < length (c ∷ cs) → inside k line m d z ≡ Err e → IsBroken k line d e z) → IsBroken k line depth e (c ∷ cs)
-    on closing u is q next = cc
+    on (closing mark) u is q next = cc
     on (spells t) u is q next =
         subst (λ z. IsBroken k line depth e z) (sym is.1) (behind_token (subst (λ z. closes k depth z ≡ false) is.1 is.4) is.2 (next (braces depth t) u is.3 (with_err t (inside k line m (braces depth t) u) e q)))
 

@@ -1,4 +1,5 @@
 pub mod Steps
+pub mod Words
 pub mod Tables
 pub mod NumberLaws
 pub mod QuoteLaws
@@ -13,3 +14,4 @@ pub mod Turns
 pub mod QuoteTurns
 pub mod Answer
 pub mod EndsLaws
+pub mod Raws

@@ -1,5 +1,5 @@
 -- One turn of the loop over a tag's tokens, and of the loop over segments.
-use Rattle.std.proofs.Common.{◌≡◌, ℕ, zero, suc, ◌+◌, ◌<◌, ◌≤◌, ◌==◌, ◌&&◌, Bool, true, false, List, [], ◌∷◌, ◌++◌, length, drop, refl, sym, ap, ap₂, subst, ◌∙◌, arith, append_assoc, append-nil, Result, Ok, Err, length-append, IsUtf8, cond}
+use Rattle.std.proofs.Common.{◌≡◌, ℕ, zero, suc, ◌+◌, ◌<◌, ◌≤◌, ◌==◌, Bool, true, false, List, [], ◌∷◌, ◌++◌, length, drop, refl, sym, ap, ap₂, subst, ◌∙◌, arith, append_assoc, append-nil, if◌then◌else◌, codes, Option, Some, None, Result, Ok, Err, length-append, IsUtf8, cond}
 use Rattle.std.proofs.lemmas.List.Sums.{sum_by-append, count_by-le-length}
 use Rattle.std.proofs.lemmas.Str.{encodes-chars, chars-nil, length-le-encodes}
 use Rattle.std.specs.Str.{chars}
@@ -11,9 +11,13 @@ use Rattle.jt_scan.specs.declared.segment.Kind.TheVariants.{Variable, Block}
 use Rattle.jt_scan.specs.declared.segment.Sign.{Sign}
 use Rattle.jt_scan.specs.declared.segment.Sign.TheVariants as s
 use Rattle.jt_scan.specs.Cut as cuts
-use Rattle.jt_scan.specs.Cut.{Text, Token, Segment, data_of, comment, begins, closes, braces, opens, ends_comment, is_space, IsSegment, some_data, a_tag, a_comment, Inside, closed, space, token, closer, second, starts_name, name, line_at, lines}
-use Rattle.jt_scan.specs.Scanning.{Outcome, ◌>>=◌, EndsWith, after_space, closing, spells, token_at, front_at, with_token, then_inside, inside, tag_at, run, clear_run, ended_comment, comment_at, segment_at, with_segment, then_cut, cut, IsGiven}
-use Rattle.jt_scan.proofs.Steps.{Stops, clear_says, run_says}
+use Rattle.jt_scan.specs.Cut.{Text, Token, Segment, data_of, comment, begins, closes, braces, opens, ends_comment, is_space, IsSegment, some_data, a_tag, a_comment, a_raw, Inside, closed, space, token, closer, closing_text, closer_at, mark_text, first_mark, behind_mark, marks, comment_marks, after_word, endraw_closed, endraw_named, endraw_at, ends_raw, raw, second, starts_name, name, line_at, lines, after_space}
+use Rattle.jt_scan.specs.declared.segment.Mark.{Mark}
+use Rattle.jt_scan.specs.declared.segment.Mark.TheVariants as m
+use Rattle.jt_scan.specs.declared.segment.Marks.{Marks}
+use Rattle.jt_scan.proofs.Tables.{closer_says, marked}
+use Rattle.jt_scan.specs.Scanning.{Outcome, ◌>>=◌, EndsWith, Tokens, closing, spells, counted, front_by, token_at, front_at, with_token, then_inside, inside, tag_at, run, clear_run, raw_at, ended_comment, comment_at, segment_at, with_segment, then_cut, cut, IsGiven}
+use Rattle.jt_scan.proofs.Steps.{Stops, by_test, opener_says, clear_says, run_says}
 use Rattle.jt_scan.proofs.InsideLaws.{IsFront, front_says}
 use Rattle.jt_scan.proofs.CutLaws.{segment_says}
 use Rattle.jt_scan.proofs.Weight.{shrinks}
@@ -35,14 +39,14 @@ no_memory_given e o h = subst (λ k. IsGiven k o) (sym h) tt
 -- ---- tokens
 
 -- the tokens in front of an outcome's
-abbrev pub prefixed : List Token → Outcome (List Token) → Outcome (List Token)
-prefixed ts o = o >>= λ us z. Ok (ts ++ us, z)
+abbrev pub prefixed : List Token → Outcome Tokens → Outcome Tokens
+prefixed ts o = o >>= λ p z. Ok ((ts ++ p.0, p.1), z)
 
 -- the tokens ts are read, x is left, and so many braces are open
-abbrev pub IsRead : Kind → ℕ → Outcome (List Token) → List Token → ℕ → Text → Type 0
+abbrev pub IsRead : Kind → ℕ → Outcome Tokens → List Token → ℕ → Text → Type 0
 IsRead k line whole ts depth x = (m : ℕ) × (length x < m) × (prefixed ts (inside k line m depth x) ≡ whole)
 
-prefixed_none : (o : Outcome (List Token)) → prefixed [] o ≡ o
+prefixed_none : (o : Outcome Tokens) → prefixed [] o ≡ o
 prefixed_none (Ok p) = refl
 prefixed_none (Err e) = refl
 
@@ -67,9 +71,9 @@ skipped k line depth (c ∷ cs) (suc m) le = stepped (is_space c) refl (skipped 
 
 front_of_none : (k : Kind) (line depth : ℕ) → front_at k line depth [] ≡ Err (error.UnclosedTag line)
 unfolding front_at token_at
-front_of_none k line depth = rw (shut (depth == 0)) refl
+front_of_none k line depth = shut (depth == 0)
   where
-    shut : (b : Bool) → (b && false) ≡ false
+    shut : (b : Bool) → front_by line (if b then closer_at k [] else None) [] ≡ Err (error.UnclosedTag line)
     shut true = refl
     shut false = refl
 
@@ -79,28 +83,28 @@ opened k line depth y zero le s = absurd (omega arith)
 opened k line depth [] (suc n) le s = (n, le, sym (ap (λ o. o >>= then_inside (inside k line n) depth) (front_of_none k line depth)))
 opened k line depth (c ∷ cs) (suc n) le s = (n, le, rw s refl)
 
-abbrev pub IsTurn : Kind → ℕ → Outcome (List Token) → List Token → ℕ → Text → Type 0
+abbrev pub IsTurn : Kind → ℕ → Outcome Tokens → List Token → ℕ → Text → Type 0
 IsTurn k line whole ts depth y = (j : ℕ) × (length y < suc j) × (prefixed ts (front_at k line depth y >>= then_inside (inside k line j) depth) ≡ whole)
 
-pub turn : (k : Kind) (line : ℕ) (whole : Outcome (List Token)) (ts : List Token) (depth : ℕ) (x : Text) → IsRead k line whole ts depth x → IsTurn k line whole ts depth (after_space x)
+pub turn : (k : Kind) (line : ℕ) (whole : Outcome Tokens) (ts : List Token) (depth : ℕ) (x : Text) → IsRead k line whole ts depth x → IsTurn k line whole ts depth (after_space x)
 turn k line whole ts depth x r =
     let s = skipped k line depth x r.0 r.1 in
     let o = opened k line depth (after_space x) s.0 s.1 s.3 in
     (o.0, o.1, ap (prefixed ts) (sym (s.2 ∙ o.2)) ∙ r.2)
 
-pub turn_ends : (k : Kind) (line : ℕ) (whole : Outcome (List Token)) (ts : List Token) (depth : ℕ) (y rest : Text) → IsTurn k line whole ts depth y → front_at k line depth y ≡ Ok (closing, rest) → whole ≡ Ok (ts, rest)
-turn_ends k line whole ts depth y rest t e = sym t.2 ∙ (rw (e, append-nil ts) refl)
+pub turn_ends : (k : Kind) (line : ℕ) (whole : Outcome Tokens) (ts : List Token) (depth : ℕ) (mark : Mark) (y rest : Text) → IsTurn k line whole ts depth y → front_at k line depth y ≡ Ok (closing mark, rest) → whole ≡ Ok ((ts, mark), rest)
+turn_ends k line whole ts depth mark y rest t e = sym t.2 ∙ (rw (e, append-nil ts) refl)
 
-after_one : (t : Token) (ts : List Token) (o : Outcome (List Token)) → prefixed ts (with_token t o) ≡ prefixed (ts ++ (t ∷ [])) o
-after_one t ts (Ok p) = rw (append_assoc ts (t ∷ []) p.0) refl
+after_one : (t : Token) (ts : List Token) (o : Outcome Tokens) → prefixed ts (with_token t o) ≡ prefixed (ts ++ (t ∷ [])) o
+after_one t ts (Ok p) = rw (append_assoc ts (t ∷ []) p.0.0) refl
 after_one t ts (Err e) = refl
 
-pub turn_goes_on : (k : Kind) (line : ℕ) (whole : Outcome (List Token)) (ts : List Token) (depth : ℕ) (t : Token) (y rest : Text) → IsTurn k line whole ts depth y → front_at k line depth y ≡ Ok (spells t, rest) → IsRead k line whole (ts ++ (t ∷ [])) (braces depth t) rest
+pub turn_goes_on : (k : Kind) (line : ℕ) (whole : Outcome Tokens) (ts : List Token) (depth : ℕ) (t : Token) (y rest : Text) → IsTurn k line whole ts depth y → front_at k line depth y ≡ Ok (spells t, rest) → IsRead k line whole (ts ++ (t ∷ [])) (braces depth t) rest
 turn_goes_on k line whole ts depth t y rest r e =
     let f : IsFront k depth (spells t) y rest = front_says k line depth (spells t) y rest e in
     (r.0, omega (arith, r.1, f.3), sym (after_one t ts (inside k line r.0 (braces depth t) rest)) ∙ ap (λ o. prefixed ts (o >>= then_inside (inside k line r.0) depth)) (sym e) ∙ r.2)
 
-pub turn_refused : (k : Kind) (line : ℕ) (whole : Outcome (List Token)) (ts : List Token) (depth : ℕ) (y : Text) (e : ScanError) → IsTurn k line whole ts depth y → front_at k line depth y ≡ Err e → whole ≡ Err e
+pub turn_refused : (k : Kind) (line : ℕ) (whole : Outcome Tokens) (ts : List Token) (depth : ℕ) (y : Text) (e : ScanError) → IsTurn k line whole ts depth y → front_at k line depth y ≡ Err e → whole ≡ Err e
 turn_refused k line whole ts depth y e r h = sym r.2 ∙ ap (λ o. prefixed ts (o >>= then_inside (inside k line r.0) depth)) h
 
 no_longer : (x : Text) → length (after_space x) ≤ length x
@@ -117,10 +121,10 @@ shorter k line depth t x rest e =
     let f : IsFront k depth (spells t) (after_space x) rest = front_says k line depth (spells t) (after_space x) rest e in omega (arith, f.3, no_longer x)
 
 -- the same at the text behind whitespace
-pub tokens_end : (k : Kind) (line : ℕ) (whole : Outcome (List Token)) (ts : List Token) (depth : ℕ) (x y rest : Text) → IsRead k line whole ts depth x → y ≡ after_space x → front_at k line depth y ≡ Ok (closing, rest) → whole ≡ Ok (ts, rest)
-tokens_end k line whole ts depth x y rest r same e = turn_ends k line whole ts depth (after_space x) rest (turn k line whole ts depth x r) (subst (λ z. front_at k line depth z ≡ Ok (closing, rest)) same e)
+pub tokens_end : (k : Kind) (line : ℕ) (whole : Outcome Tokens) (ts : List Token) (depth : ℕ) (mark : Mark) (x y rest : Text) → IsRead k line whole ts depth x → y ≡ after_space x → front_at k line depth y ≡ Ok (closing mark, rest) → whole ≡ Ok ((ts, mark), rest)
+tokens_end k line whole ts depth mark x y rest r same e = turn_ends k line whole ts depth mark (after_space x) rest (turn k line whole ts depth x r) (subst (λ z. front_at k line depth z ≡ Ok (closing mark, rest)) same e)
 
-pub tokens_go_on : (k : Kind) (line : ℕ) (whole : Outcome (List Token)) (ts us : List Token) (depth more : ℕ) (t : Token) (x y rest : Text) → IsRead k line whole ts depth x → y ≡ after_space x → front_at k line depth y ≡ Ok (spells t, rest) → us ≡ ts ++ (t ∷ []) → more ≡ braces depth t → IsRead k line whole us more rest
+pub tokens_go_on : (k : Kind) (line : ℕ) (whole : Outcome Tokens) (ts us : List Token) (depth more : ℕ) (t : Token) (x y rest : Text) → IsRead k line whole ts depth x → y ≡ after_space x → front_at k line depth y ≡ Ok (spells t, rest) → us ≡ ts ++ (t ∷ []) → more ≡ braces depth t → IsRead k line whole us more rest
 tokens_go_on k line whole ts us depth more t x y rest r same e all braced =
     subst (λ d. IsRead k line whole us d rest) (sym braced)
     (subst (λ vs. IsRead k line whole vs (braces depth t) rest) (sym all) (turn_goes_on k line whole ts depth t (after_space x) rest (turn k line whole ts depth x r) (subst (λ z. front_at k line depth z ≡ Ok (spells t, rest)) same e)))
@@ -128,7 +132,7 @@ tokens_go_on k line whole ts us depth more t x y rest r same e all braced =
 pub tokens_shrink : (k : Kind) (line depth : ℕ) (t : Token) (x y rest : Text) → y ≡ after_space x → front_at k line depth y ≡ Ok (spells t, rest) → length rest < length x
 tokens_shrink k line depth t x y rest same e = shorter k line depth t x rest (subst (λ z. front_at k line depth z ≡ Ok (spells t, rest)) same e)
 
-pub tokens_refused : (k : Kind) (line : ℕ) (whole : Outcome (List Token)) (ts : List Token) (depth : ℕ) (x y : Text) (e : ScanError) → IsRead k line whole ts depth x → y ≡ after_space x → IsGiven e (front_at k line depth y) → IsGiven e whole
+pub tokens_refused : (k : Kind) (line : ℕ) (whole : Outcome Tokens) (ts : List Token) (depth : ℕ) (x y : Text) (e : ScanError) → IsRead k line whole ts depth x → y ≡ after_space x → IsGiven e (front_at k line depth y) → IsGiven e whole
 tokens_refused k line whole ts depth x y e r same g =
     given_along e (front_at k line depth y) whole (λ h. turn_refused k line whole ts depth (after_space x) e (turn k line whole ts depth x r) (subst (λ z. front_at k line depth z ≡ Err e) same h)) g
 
@@ -202,14 +206,63 @@ cut_refused source ss x line e r z at h =
     sym r.2 ∙ ap (before_all ss) j.2 ∙ ap (λ o. before_all ss (then_cut o (cut source j.0))) here
 
 -- a segment's text and the rest are what stood there
-inside_end : {k : Kind} {depth : ℕ} {ts : List Token} {x rest : Text} → Inside k depth ts x rest → EndsWith x rest
-inside_end {k} (closed {rest}) = (closer k ∷ 125 ∷ [], refl)
+closing_end : (k : Kind) (mark : Mark) (rest : Text) → EndsWith (closing_text k mark rest) rest
+closing_end k m.Absent rest = (closer k ∷ 125 ∷ [], refl)
+closing_end k m.Minus rest = (45 ∷ closer k ∷ 125 ∷ [], refl)
+closing_end k m.Plus rest = (43 ∷ closer k ∷ 125 ∷ [], refl)
+
+inside_end : {k : Kind} {depth : ℕ} {ts : List Token} {mark : Mark} {x rest : Text} → Inside k depth ts mark x rest → EndsWith x rest
+inside_end {k} (closed {mark} {rest} ok) = closing_end k mark rest
 inside_end (space {c} h i) = let e = inside_end i in (c ∷ e.0, ap (λ z. c ∷ z) e.1)
 inside_end (token {s} {rest} b p i) = let e = inside_end i in (s ++ e.0, ap (λ z. s ++ z) e.1 ∙ sym (append_assoc s e.0 rest))
 
+ends_through : {x y z : Text} → EndsWith x y → EndsWith y z → EndsWith x z
+ends_through e f = (e.0 ++ f.0, e.1 ∙ ap (λ w. e.0 ++ w) f.1 ∙ sym (append_assoc e.0 f.0 _))
+
+mark_end : (x : Text) → EndsWith x (behind_mark x)
+mark_end x = (mark_text (first_mark x), marked x)
+
+space_end : (x : Text) → EndsWith x (after_space x)
+unfolding after_space
+space_end [] = ([], refl)
+space_end (c ∷ cs) = by (is_space c) refl (space_end cs)
+  where
+    by : (b : Bool) → is_space c ≡ b → EndsWith cs (after_space cs) → EndsWith (c ∷ cs) (after_space (c ∷ cs))
+    by true h e = rw h (c ∷ e.0, ap (λ z. c ∷ z) e.1)
+    by false h e = rw h ([], refl)
+
+word_end : (w x rest : Text) → after_word w x ≡ Some rest → EndsWith x rest
+word_end [] x rest e = let h : x ≡ rest = cc in ([], h)
+word_end (a ∷ w) [] rest e = cc
+word_end (a ∷ w) (c ∷ x) rest e = by_test (c == a) _ _ _ e (λ h q. let f = word_end w x rest q in (c ∷ f.0, ap (λ z. c ∷ z) f.1)) (λ h q. cc)
+
+closer_end : (opening : Mark) (o : Option (Mark × Text)) (x : Text) (ends : Marks) (rest : Text) → closer_at Block x ≡ o → endraw_closed opening o ≡ Some (ends, rest) → EndsWith x rest
+closer_end opening None x ends rest is e = cc
+closer_end opening (Some p) x ends rest is e =
+    let same : ◌≡◌ {A = Marks × Text} (marks opening p.0, p.1) (ends, rest) = cc in
+    let s = closer_says Block p.0 x p.1 is in
+    subst (EndsWith x) (ap (λ (q : Marks × Text). q.1) same) (subst (λ z. EndsWith z p.1) (sym s.1) (closing_end Block p.0 p.1))
+
+named_end : (opening : Mark) (o : Option Text) (x : Text) (ends : Marks) (rest : Text) → ((y : Text) → o ≡ Some y → EndsWith x y) → endraw_named opening o ≡ Some (ends, rest) → EndsWith x rest
+named_end opening None x ends rest f e = cc
+named_end opening (Some y) x ends rest f e = ends_through (f y refl) (ends_through (space_end y) (closer_end opening (closer_at Block (after_space y)) (after_space y) ends rest refl e))
+
+endraw_end : (x : Text) {ends : Marks} {rest : Text} → endraw_at x ≡ Some (ends, rest) → EndsWith x rest
+unfolding endraw_at
+endraw_end x {ends} {rest} e =
+    by_test (begins 123 37 x) _ _ _ e
+    (λ h q.
+    let y = drop 2 x in
+    ends_through (123 ∷ 37 ∷ [], opener_says 123 37 x h)
+    (named_end (first_mark y) (after_word (codes "endraw") (after_space (behind_mark y))) y ends rest
+    (λ z w. ends_through (mark_end y) (ends_through (space_end (behind_mark y)) (word_end (codes "endraw") (after_space (behind_mark y)) z w))) q))
+    (λ h q. cc)
+
 segment_end : {n : ℕ} {s : Segment} {x rest : Text} → IsSegment n s x rest → EndsWith x rest
 segment_end (some_data {c} {d} h e) = (c ∷ d, refl)
-segment_end (a_tag {k} i) = let e = inside_end i in (123 ∷ second k ∷ e.0, ap (λ z. 123 ∷ second k ∷ z) e.1)
+segment_end (a_tag {k} {x} i r) = let e = ends_through (mark_end x) (inside_end i) in (123 ∷ second k ∷ e.0, ap (λ z. 123 ∷ second k ∷ z) e.1)
+segment_end (a_raw {x} {d} y i r h e) =
+    let f = ends_through (mark_end x) (ends_through (inside_end i) (ends_through (d, refl) (endraw_end y e))) in (123 ∷ 37 ∷ f.0, ap (λ z. 123 ∷ 37 ∷ z) f.1)
 segment_end (a_comment {x} {rest} h) = (123 ∷ 35 ∷ (x ++ (35 ∷ 125 ∷ [])), ap (λ z. 123 ∷ 35 ∷ z) (sym (append_assoc x (35 ∷ 125 ∷ []) rest)))
 
 pub ends_with : (n : ℕ) (s : Segment) (x rest : Text) → 0 < length x → segment_at n x ≡ Ok (s, rest) → EndsWith x rest
@@ -271,8 +324,16 @@ pub segment_of_data : (n : ℕ) (x d y : Text) → begins 123 123 x ≡ false �
 unfolding segment_at
 segment_of_data n x d y a b c e = rw (a, b, c, e) refl
 
-pub comment_read : (n : ℕ) (x d y rest : Text) → clear_run ends_comment x ≡ (d, y) → y ≡ 35 ∷ 125 ∷ rest → comment_at n x ≡ Ok (comment d, rest)
+pub comment_read : (n : ℕ) (x d y rest : Text) → clear_run ends_comment x ≡ (d, y) → y ≡ 35 ∷ 125 ∷ rest → comment_at n x ≡ Ok (comment (comment_marks d) d, rest)
 comment_read n x d y rest e f = rw (e, f) refl
+
+pub raw_read : (n : ℕ) (ms : Marks) (x d y : Text) (ends : Marks) (rest : Text) → clear_run ends_raw x ≡ (d, y) → endraw_at y ≡ Some (ends, rest) → raw_at n ms x ≡ Ok (raw ms d ends, rest)
+unfolding raw_at
+raw_read n ms x d y ends rest e f = rw (e, f) refl
+
+pub raw_open : (n : ℕ) (ms : Marks) (x d y : Text) → clear_run ends_raw x ≡ (d, y) → endraw_at y ≡ None → raw_at n ms x ≡ Err (error.UnclosedRaw n)
+unfolding raw_at
+raw_open n ms x d y e f = rw (e, f) refl
 
 pub comment_open : (n : ℕ) (x d y : Text) → clear_run ends_comment x ≡ (d, y) → begins 35 125 y ≡ false → comment_at n x ≡ Err (error.UnclosedTag n)
 comment_open n x d y e f = rw e (at_end y (subst (Stops ends_comment) (ap (λ (p : Text × Text). p.1) e) (clear_says ends_comment x).2) f)
@@ -301,14 +362,18 @@ token_named line c x cs found rest e s r w =
 
 -- ---- the closer, or a token
 
-pub front_closed : (k : Kind) (line depth : ℕ) (x rest : Text) → closes k depth x ≡ true → x ≡ closer k ∷ 125 ∷ rest → front_at k line depth x ≡ Ok (closing, rest)
+pub front_closed : (k : Kind) (line depth : ℕ) (x : Text) (mark : Mark) (rest : Text) → counted k depth x ≡ Some (mark, rest) → front_at k line depth x ≡ Ok (closing mark, rest)
 unfolding front_at
-front_closed k line depth x rest h e = rw h (ap (λ z. Ok (closing, drop 2 z)) e)
+front_closed k line depth x mark rest e = rw e refl
 
-pub front_spelled : (k : Kind) (line depth : ℕ) (x : Text) (t : Token) (rest : Text) → closes k depth x ≡ false → token_at line x ≡ Ok (t, rest) → front_at k line depth x ≡ Ok (spells t, rest)
+-- no closer that counts is in front
+abbrev pub IsOpen : Kind → ℕ → Text → Type 0
+IsOpen k depth x = counted k depth x ≡ None
+
+pub front_spelled : (k : Kind) (line depth : ℕ) (x : Text) (t : Token) (rest : Text) → IsOpen k depth x → token_at line x ≡ Ok (t, rest) → front_at k line depth x ≡ Ok (spells t, rest)
 unfolding front_at
 front_spelled k line depth x t rest h e = rw (h, e) refl
 
-pub front_refused : (k : Kind) (line depth : ℕ) (x : Text) (e : ScanError) → closes k depth x ≡ false → IsGiven e (token_at line x) → IsGiven e (front_at k line depth x)
+pub front_refused : (k : Kind) (line depth : ℕ) (x : Text) (e : ScanError) → IsOpen k depth x → IsGiven e (token_at line x) → IsGiven e (front_at k line depth x)
 unfolding front_at
 front_refused k line depth x e h g = given_along e (token_at line x) (front_at k line depth x) (λ w. rw (h, w) refl) g

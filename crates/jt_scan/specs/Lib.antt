@@ -1,3 +1,4 @@
+pub mod Words
 pub mod Literals
 pub mod Cut
 pub mod LineEnds

@@ -2,12 +2,14 @@
 use Rattle.std.specs.Prelude.{◌≡◌, ℕ, pos, zero, suc, ◌+◌, ◌*◌, nat_lt, Bool, true, false, ◌==◌, List, [], ◌∷◌, ◌++◌, ◌||◌, slice_index, length, drop, Option, Some, None, ◌&&◌, Result, Ok, Err, if◌then◌else◌}
 use Rattle.unicode_ident.specs.Ident.{is_xid_continue}
 use Rattle.jt_scan.specs.declared.error.ScanError.{ScanError}
-use Rattle.jt_scan.specs.declared.error.ScanError.TheVariants.{UnclosedTag, UnclosedText, BadCharacter, BadEscape, NumberTooLarge, NoMemory}
+use Rattle.jt_scan.specs.declared.error.ScanError.TheVariants.{UnclosedTag, UnclosedText, BadCharacter, BadEscape, NumberTooLarge, UnclosedRaw, NoMemory}
 use Rattle.jt_scan.specs.declared.segment.Kind.{Kind}
 use Rattle.jt_scan.specs.declared.segment.Kind.TheVariants.{Variable, Block}
 use Rattle.jt_scan.specs.declared.segment.Sign.{Sign}
 use Rattle.jt_scan.specs.declared.segment.Sign.TheVariants as s
-use Rattle.jt_scan.specs.Cut.{Text, Token, name, number, text, sign, max_number, Segment, data_of, tag, comment, begins, closes, braces, is_space, starts_name, opens, ends_comment, line_at}
+use Rattle.jt_scan.specs.declared.segment.Mark.{Mark}
+use Rattle.jt_scan.specs.declared.segment.Marks.{Marks}
+use Rattle.jt_scan.specs.Cut.{Text, Token, name, number, text, sign, max_number, Segment, data_of, tag, comment, raw, begins, closer_at, braces, is_space, starts_name, opens, ends_comment, line_at, first_mark, behind_mark, marks, comment_marks, is_raw, ends_raw, endraw_at}
 use Rattle.jt_scan.specs.Literals.{digit_value, is_digit, digit_first, base_of, names_base, is_quote, pieces, unescaped}
 
 abbrev pub Outcome : Type 0 → Type 0
@@ -149,38 +151,63 @@ token_at line (c ∷ cs) =
 
 -- what stands in front in a tag, where no whitespace does
 pub data Front : Type 0 where
-  -- the closer
-  closing : Front
+  -- the closer with its mark
+  closing : Mark → Front
   spells : Token → Front
 
-unfoldable pub front_at : Kind → ℕ → ℕ → Text → Outcome Front
-front_at k line depth x =
-    if closes k depth x then Ok (closing, drop 2 x)
-    else (token_at line x >>= λ t rest. Ok (spells t, rest))
+-- where a closer that counts is in front, and where none is
+abbrev pub front_by : ℕ → Option (Mark × Text) → Text → Outcome Front
+front_by line (Some p) x = Ok (closing p.0, p.1)
+front_by line None x = token_at line x >>= λ t rest. Ok (spells t, rest)
 
-abbrev pub with_token : Token → Outcome (List Token) → Outcome (List Token)
-with_token t o = o >>= λ ts rest. Ok (t ∷ ts, rest)
+-- the closer in front that counts
+abbrev pub counted : Kind → ℕ → Text → Option (Mark × Text)
+counted k depth x = if depth == 0 then closer_at k x else None
+
+unfoldable pub front_at : Kind → ℕ → ℕ → Text → Outcome Front
+front_at k line depth x = front_by line (counted k depth x) x
+
+-- tokens, and the mark of their tag's closer
+abbrev pub Tokens : Type 0
+Tokens = List Token × Mark
+
+abbrev pub with_token : Token → Outcome Tokens → Outcome Tokens
+with_token t o = o >>= λ p rest. Ok ((t ∷ p.0, p.1), rest)
 
 -- f reads on where so many braces are open
-abbrev pub then_inside : (ℕ → Text → Outcome (List Token)) → ℕ → Front → Text → Outcome (List Token)
-then_inside f depth closing rest = Ok ([], rest)
+abbrev pub then_inside : (ℕ → Text → Outcome Tokens) → ℕ → Front → Text → Outcome Tokens
+then_inside f depth (closing mark) rest = Ok (([], mark), rest)
 then_inside f depth (spells t) rest = with_token t (f (braces depth t) rest)
 
 -- the tokens up to the closer, and what is behind it; the number m bounds the turns, and each takes a character
-unfoldable pub inside : Kind → ℕ → ℕ → ℕ → Text → Outcome (List Token)
+unfoldable pub inside : Kind → ℕ → ℕ → ℕ → Text → Outcome Tokens
 inside k line zero depth x = Err (UnclosedTag line)
-inside k line (suc m) depth [] = Err (UnclosedTag line)
-inside k line (suc m) depth (c ∷ cs) =
-    if is_space c then inside k line m depth cs
-    else (front_at k line depth (c ∷ cs) >>= then_inside (inside k line m) depth)
+inside k line (suc n) depth [] = Err (UnclosedTag line)
+inside k line (suc n) depth (c ∷ cs) =
+    if is_space c then inside k line n depth cs
+    else (front_at k line depth (c ∷ cs) >>= then_inside (inside k line n) depth)
 
+-- the text of a `raw` tag up to its `endraw` tag, where one is found
+abbrev pub ended_raw : ℕ → Marks → Text → Option (Marks × Text) → Outcome Segment
+ended_raw line ms d None = Err (UnclosedRaw line)
+ended_raw line ms d (Some p) = Ok (raw ms d p.0, p.1)
+
+unfoldable pub raw_at : ℕ → Marks → Text → Outcome Segment
+raw_at line ms x = ended_raw line ms (clear_run ends_raw x).0 (endraw_at (clear_run ends_raw x).1)
+
+-- the segment that a tag with these tokens makes
+abbrev pub tag_of : Kind → ℕ → Marks → List Token → Text → Outcome Segment
+tag_of k line ms ts rest = if is_raw k ts then raw_at line ms rest else Ok (tag k ms line ts, rest)
+
+-- x stands behind an opener
 abbrev pub tag_at : Kind → ℕ → Text → Outcome Segment
-tag_at k line x = inside k line (length x + 1) 0 x >>= λ ts rest. Ok (tag k line ts, rest)
+tag_at k line x =
+    inside k line (length (behind_mark x) + 1) 0 (behind_mark x) >>= λ p rest. tag_of k line (marks (first_mark x) p.1) p.0 rest
 
 -- the comment in front of its end, if it has one
 abbrev pub ended_comment : ℕ → Text → Text → Outcome Segment
 ended_comment line x [] = Err (UnclosedTag line)
-ended_comment line x (c ∷ rest) = Ok (comment x, drop 1 rest)
+ended_comment line x (c ∷ rest) = Ok (comment (comment_marks x) x, drop 1 rest)
 
 abbrev pub comment_at : ℕ → Text → Outcome Segment
 comment_at line x = ended_comment line (clear_run ends_comment x).0 (clear_run ends_comment x).1
@@ -214,11 +241,6 @@ cut source (suc m) (c ∷ cs) = then_cut (segment_at (line_at source (c ∷ cs))
 abbrev pub IsGiven : {A : Type 0} → ScanError → Result A ScanError → Type 0
 IsGiven NoMemory o = Unit {0}
 IsGiven e o = o ≡ Err e
-
--- what is behind whitespace
-unfoldable pub after_space : Text → Text
-after_space [] = []
-after_space (c ∷ cs) = if is_space c then after_space cs else c ∷ cs
 
 -- the text ends with the other one
 abbrev pub EndsWith : Text → Text → Type 0

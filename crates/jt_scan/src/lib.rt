@@ -1,8 +1,10 @@
 //! Sources of templates, cut into segments and tokens.
 #![tactic(auto)]
 
+mod endraw;
 mod error;
 mod find;
+mod marks;
 mod numbers;
 mod options;
 mod quotes;
@@ -17,5 +19,6 @@ pub use error::ScanError;
 pub use options::Options;
 pub use quotes::text_value;
 pub use scanner::scan;
-pub use segment::{Kind, Segment, Sign, Tag, Token};
+pub use segment::{Kind, Mark, Marks, Part, Segment, Sign, Tag, Token};
 pub use source::{MAX_SOURCE_LEN, Source};
+pub use text::{before, behind_space, first, is_word};

@@ -1,20 +1,46 @@
 //! The cut of a source into segments.
 
-ghost use Rattle.std.specs.Prelude.{◌≡◌, ◌≤◌, ◌<◌, ◌+◌, Ok, List, length, MatchResult, IfOk, IfErr};
+ghost use Rattle.std.specs.Prelude.{◌≡◌, ◌≤◌, ◌<◌, ◌+◌, ◌++◌, ◌∷◌, [], Ok, List, length, map, MatchResult, IfOk, IfErr};
 ghost use Rattle.std.specs.Str.{chars};
 ghost use Rattle.jt_scan.specs.Cut as cut;
 ghost use Rattle.jt_scan.specs.Refused.{IsRefusal};
 ghost use Rattle.jt_scan.specs.Scanning as spec;
-ghost use Rattle.jt_scan.specs.View.{segment_view, cut_of};
+ghost use Rattle.jt_scan.specs.View.{token_view, part_view, cut_of, HaveOptions};
 ghost use Rattle.jt_scan.specs.declared.error.ScanError.TheVariants as error;
 
+use crate::endraw::{read_endraw, split_raw};
 use crate::error::ScanError;
 use crate::find::{split_comment, split_data};
-use crate::segment::{Kind, Segment, Tag};
+use crate::marks::{comment_marks, read_mark};
+use crate::options::Options;
+use crate::segment::{Kind, Marks, Part, Segment, Tag, Token};
 use crate::source::Source;
-use crate::text::{before, behind_pair, lines};
+use crate::text::{before, behind_pair, is_word, lines};
 use crate::tokens::read_tokens;
 use std::alloc::Global;
+
+/// Whether the only token is the word `raw`.
+fn is_raw(kind: Kind, tokens: &[Token<'_>]) -> bool
+    ensures { result ≡ cut.is_raw kind (map token_view tokens.now) }
+{
+    match (kind, tokens) {
+        (Kind::Block, [Token::Name(word)]) => is_word(word, "raw"),
+        _ => false,
+    }
+}
+
+/// The text behind a `raw` tag with its `endraw` tag, and what is behind that.
+fn read_raw(text: &str, marks: Marks, line: u32) -> Result<(Part<'_>, &str), ScanError>
+    ensures { MatchResult result
+        (λ p. spec.raw_at line marks (chars text.now) ≡ Ok (part_view p.0, chars p.1.now))
+        (λ e. spec.IsGiven e (spec.raw_at line marks (chars text.now))) }
+{
+    let (raw, end) = split_raw(text);
+    match read_endraw(end) {
+        Some((ends, rest)) => Ok((Part::Raw(marks, raw, ends), rest)),
+        None => Err(ScanError::UnclosedRaw { line }),
+    }
+}
 
 /// The tag whose opener is in front of the text, and what is behind it.
 fn read_tag<'a>(
@@ -22,36 +48,45 @@ fn read_tag<'a>(
     text: &'a str,
     kind: Kind,
     line: u32,
-) -> Result<(Segment<'a>, &'a str), ScanError>
+) -> Result<(Part<'a>, &'a str), ScanError>
     ensures { MatchResult result
-        (λ p. spec.tag_at kind line (chars text.now) ≡ Ok (segment_view p.0, chars p.1.now))
+        (λ p. spec.tag_at kind line (chars text.now) ≡ Ok (part_view p.0, chars p.1.now))
         (λ e. spec.IsGiven e (spec.tag_at kind line (chars text.now))) }
 {
-    let (tokens, rest) = read_tokens(alloc, text, kind, line)?;
-    Ok((Segment::Tag(Tag { kind, line, tokens }), rest))
+    let (opening, inside) = read_mark(text);
+    let (tokens, closing, rest) = read_tokens(alloc, inside, kind, line)?;
+    let marks = Marks { opening, closing };
+    if is_raw(kind, &tokens) {
+        return read_raw(rest, marks, line);
+    }
+    Ok((
+        Part::Tag(Tag {
+            kind,
+            marks,
+            line,
+            tokens,
+        }),
+        rest,
+    ))
 }
 
 /// The comment whose opener is in front of the text, and what is behind it.
-fn read_comment<'a>(text: &'a str, line: u32) -> Result<(Segment<'a>, &'a str), ScanError>
+fn read_comment<'a>(text: &'a str, line: u32) -> Result<(Part<'a>, &'a str), ScanError>
     ensures { MatchResult result
-        (λ p. spec.comment_at line (chars text.now) ≡ Ok (segment_view p.0, chars p.1.now))
+        (λ p. spec.comment_at line (chars text.now) ≡ Ok (part_view p.0, chars p.1.now))
         (λ e. spec.IsGiven e (spec.comment_at line (chars text.now))) }
 {
     let (comment, end) = split_comment(text);
     match behind_pair(end, '#', '}') {
-        Some(rest) => Ok((Segment::Comment(comment), rest)),
+        Some(rest) => Ok((Part::Comment(comment_marks(comment), comment), rest)),
         None => Err(ScanError::UnclosedTag { line }),
     }
 }
 
 /// The segment in front, and what is behind it.
-fn read_segment<'a>(
-    alloc: Global,
-    text: &'a str,
-    line: u32,
-) -> Result<(Segment<'a>, &'a str), ScanError>
+fn read_part<'a>(alloc: Global, text: &'a str, line: u32) -> Result<(Part<'a>, &'a str), ScanError>
     ensures { MatchResult result
-        (λ p. spec.segment_at line (chars text.now) ≡ Ok (segment_view p.0, chars p.1.now))
+        (λ p. spec.segment_at line (chars text.now) ≡ Ok (part_view p.0, chars p.1.now))
         (λ e. spec.IsGiven e (spec.segment_at line (chars text.now))) }
 {
     if let Some(inside) = behind_pair(text, '{', '{') {
@@ -64,38 +99,59 @@ fn read_segment<'a>(
         return read_comment(inside, line);
     }
     let (data, rest) = split_data(text);
-    Ok((Segment::Data(data), rest))
+    Ok((Part::Data(data), rest))
 }
 
-/// The segments of a text.
-fn read_segments<'a>(alloc: Global, text: &'a str) -> Result<Vec<Segment<'a>>, ScanError>
+/// One segment behind the others.
+fn push_segment<'a>(
+    segments: &mut Vec<Segment<'a>>,
+    options: Options,
+    part: Part<'a>,
+) -> Result<(), ScanError>
+    requires { HaveOptions options segments.old.items }
+    ensures cut { IfOk result (λ u. cut_of segments.new.items ≡ cut_of segments.old.items ++ (part_view part.entry ∷ [])) }
+    ensures options { IfOk result (λ u. HaveOptions options segments.new.items) }
+    ensures refused { IfErr result (λ e. e ≡ error.NoMemory) }
+{
+    segments.push(Segment { options, part })?;
+    Ok(())
+}
+
+/// The segments of a text that is read so.
+fn read_segments<'a>(
+    alloc: Global,
+    text: &'a str,
+    options: Options,
+) -> Result<Vec<Segment<'a>>, ScanError>
     requires { length text.now ≤ 1048576 }
-    ensures { let outcome = spec.cut (chars text.now) (length (chars text.now) + 1) (chars text.now) in
+    ensures cut { let outcome = spec.cut (chars text.now) (length (chars text.now) + 1) (chars text.now) in
         MatchResult result (λ v. outcome ≡ Ok (cut_of v.items)) (λ e. spec.IsGiven e outcome) }
+    ensures options { IfOk result (λ v. HaveOptions options v.items) }
 {
     let mut segments = Vec::new(alloc);
     let mut rest = text;
     let mut line = 1;
     'segments: while !rest.is_empty() {
-        let (found, behind) = read_segment(alloc, rest, line)?;
-        segments.push(found)?;
+        let (found, behind) = read_part(alloc, rest, line)?;
+        push_segment(&mut segments, options, found)?;
         line += lines(before(rest, behind)) as u32;
         rest = behind;
     }
     Ok(segments)
 }
 
-/// The segments of a source: data, tags with their tokens, and comments, all of them slices of
-/// the source, in its order. A refusal has the line of the tag: the source ends inside it or
-/// inside a text of it, a character begins no token, an escape has no meaning, or a number is
-/// above the greatest. `NoMemory` has none.
+/// The segments of a source: data, tags with their tokens, comments and raw text, all of them slices
+/// of the source, in its order, each with the source's options. A refusal has the line of the tag: the source ends inside it or
+/// inside a text of it, a character begins no token, an escape has no meaning, a number is above
+/// the greatest, or a `raw` tag has no `endraw` tag behind it. `NoMemory` has none.
 pub fn scan(alloc: Global, source: &Source) -> Result<Vec<Segment<'_>>, ScanError>
     ensures cut { IfOk result (λ v. cut.IsCut (cut_of v.items) (chars source.now.text)) }
     ensures only { (ss : List cut.Segment) → cut.IsCut ss (chars source.now.text) →
         MatchResult result (λ v. cut_of v.items ≡ ss) (λ e. e ≡ error.NoMemory) }
     ensures refused { IfErr result (λ e. IsRefusal e (chars source.now.text)) }
+    ensures options { IfOk result (λ v. HaveOptions source.now.options v.items) }
     ensures weighs { IfOk result
         (λ v. cut.weight_of (cut_of v.items) ≤ length (chars source.now.text)) }
 {
-    read_segments(alloc, source.text())
+    read_segments(alloc, source.text(), source.options())
 }

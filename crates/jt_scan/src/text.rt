@@ -1,9 +1,10 @@
 //! Steps over a text, character by character.
 
-ghost use Rattle.std.specs.Prelude.{◌≡◌, ◌≤◌, ◌++◌, ◌∷◌, [], false, length, MatchOption, slice_index};
+ghost use Rattle.std.specs.Prelude.{◌≡◌, ◌≤◌, ◌++◌, ◌∷◌, [], false, length, MatchOption, slice_index, bytes_eq, IsTrue};
 ghost use Rattle.std.specs.Str.{chars};
 ghost use Rattle.jt_scan.specs.Cut as cut;
 ghost use Rattle.jt_scan.specs.Scanning as spec;
+ghost use Rattle.jt_scan.specs.Words.{is_plain};
 
 use unicode_ident::{is_xid_continue, is_xid_start};
 
@@ -44,10 +45,10 @@ pub fn starts_name(c: char) -> bool
     is_xid_start(c) || c == '_'
 }
 
-#[tactic(auto, unfolding(crate::specs::Scanning::after_space))]
+#[tactic(auto, unfolding(crate::specs::Cut::after_space))]
 /// What is behind the whitespace in front.
 pub fn behind_space(text: &str) -> &str
-    ensures { chars result.now ≡ spec.after_space (chars text.now) }
+    ensures { chars result.now ≡ cut.after_space (chars text.now) }
 {
     let mut rest = text;
     'space: while let Some((c, more)) = first(rest) {
@@ -93,4 +94,12 @@ pub fn lines(text: &str) -> usize
         }
     }
     count
+}
+
+/// Whether a word is the known one, of ASCII letters.
+pub fn is_word(word: &str, known: &str) -> bool
+    requires { IsTrue (is_plain known.now) }
+    ensures { result ≡ bytes_eq (chars word.now) known.now }
+{
+    word == known
 }

@@ -1,47 +1,26 @@
 //! The tokens of a tag.
 
-ghost use Rattle.std.specs.Prelude.{◌≡◌, ◌<◌, ◌+◌, ◌-◌, ◌^◌, ◌∷◌, true, false, Ok, length, map, MatchOption, MatchResult};
+ghost use Rattle.std.specs.Prelude.{◌≡◌, ◌<◌, ◌+◌, ◌-◌, ◌^◌, false, Some, None, Ok, length, map, MatchOption, MatchResult};
 ghost use Rattle.std.specs.Str.{chars};
 ghost use Rattle.jt_scan.specs.Cut as cut;
 ghost use Rattle.jt_scan.specs.Scanning as spec;
 ghost use Rattle.jt_scan.specs.View.{token_view, front_view};
 
 use crate::error::ScanError;
+use crate::marks::read_closer;
 use crate::numbers::{digit_value, read_number};
 use crate::quotes::{has_meaning, is_quote, split_quoted};
-use crate::segment::{Kind, Sign, Token};
+use crate::segment::{Kind, Mark, Sign, Token};
 use crate::signs::read_sign;
-use crate::text::{before, behind_name, behind_pair, behind_space, first, starts_name};
+use crate::text::{before, behind_name, behind_space, first, starts_name};
 use std::alloc::Global;
 
 /// What stands in front in a tag, where no whitespace does.
 #[derive(Clone, Copy)]
 pub enum Front<'a> {
-    Closer,
+    /// The closer, with its mark.
+    Closer(Mark),
     Token(Token<'a>),
-}
-
-/// The first character of the tag's closer, which ends with `}`.
-fn closer(kind: Kind) -> char
-    ensures { result ≡ cut.closer kind }
-{
-    match kind {
-        Kind::Variable => '}',
-        Kind::Block => '%',
-    }
-}
-
-/// What is behind the tag's closer, where it is in front and no brace is open.
-fn behind_closer(text: &str, kind: Kind, depth: usize) -> Option<&str>
-    ensures { MatchOption result (cut.closes kind depth (chars text.now) ≡ false)
-        (λ rest. (cut.closes kind depth (chars text.now) ≡ true)
-        × (chars text.now ≡ cut.closer kind ∷ 125 ∷ chars rest.now)) }
-{
-    if depth == 0 {
-        behind_pair(text, closer(kind), '}')
-    } else {
-        None
-    }
 }
 
 /// The number whose first digit is given, and what is behind it.
@@ -98,6 +77,18 @@ fn read_token(text: &str, line: u32) -> Result<(Token<'_>, &str), ScanError>
     }
 }
 
+/// The mark of the tag's closer, where it is in front and no brace is open, and what is behind it.
+fn counted_closer(text: &str, kind: Kind, depth: usize) -> Option<(Mark, &str)>
+    ensures { MatchOption result (spec.counted kind depth (chars text.now) ≡ None)
+        (λ p. spec.counted kind depth (chars text.now) ≡ Some (p.0, chars p.1.now)) }
+{
+    if depth == 0 {
+        read_closer(text, kind)
+    } else {
+        None
+    }
+}
+
 /// What stands in front in a tag where so many braces are open, and what is behind it.
 fn read_front(
     text: &str,
@@ -109,8 +100,8 @@ fn read_front(
         (λ p. spec.front_at kind line depth (chars text.now) ≡ Ok (front_view p.0, chars p.1.now))
         (λ e. spec.IsGiven e (spec.front_at kind line depth (chars text.now))) }
 {
-    if let Some(rest) = behind_closer(text, kind, depth) {
-        return Ok((Front::Closer, rest));
+    if let Some((mark, rest)) = counted_closer(text, kind, depth) {
+        return Ok((Front::Closer(mark), rest));
     }
     let (token, rest) = read_token(text, line)?;
     Ok((Front::Token(token), rest))
@@ -128,16 +119,16 @@ fn braces(depth: usize, token: Token<'_>) -> usize
     }
 }
 
-/// The tokens of a tag's inside up to its closer, and what is behind it.
+/// The tokens of a tag's inside up to its closer with the closer's mark, and what is behind it.
 pub fn read_tokens<'a>(
     alloc: Global,
     text: &'a str,
     kind: Kind,
     line: u32,
-) -> Result<(Vec<Token<'a>>, &'a str), ScanError>
+) -> Result<(Vec<Token<'a>>, Mark, &'a str), ScanError>
     ensures { let outcome = spec.inside kind line (length (chars text.now) + 1) 0 (chars text.now) in
         MatchResult result
-        (λ p. outcome ≡ Ok (map token_view p.0.items, chars p.1.now))
+        (λ p. outcome ≡ Ok ((map token_view p.0.items, p.1), chars p.2.now))
         (λ e. spec.IsGiven e outcome) }
 {
     let mut tokens = Vec::new(alloc);
@@ -145,8 +136,9 @@ pub fn read_tokens<'a>(
     let mut depth = 0;
     'tokens: loop {
         let (found, behind) = read_front(behind_space(rest), kind, depth, line)?;
-        let Front::Token(token) = found else {
-            return Ok((tokens, behind));
+        let token = match found {
+            Front::Closer(mark) => return Ok((tokens, mark, behind)),
+            Front::Token(token) => token,
         };
         tokens.push(token)?;
         depth = braces(depth, token);

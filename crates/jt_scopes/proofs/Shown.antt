@@ -1,122 +1,97 @@
--- Expressions as they are written, by their forms, and what a caller of a function counts in them.
-use Rattle.std.proofs.Common.{◌≡◌, ℕ, suc, ◌+◌, ◌<◌, Bool, false, List, [], ◌∷◌, length, drop, get_or, refl, sym, ap, ◌∙◌, arith, nat_eq, Option, Some, None, Result, Ok, Err, IfOk, Vec, Box, String, Global, string_bytes}
-use Rattle.std.proofs.lemmas.Bool.Decides.{nat_tests}
-use Rattle.std.specs.Option.{option_or}
-use Rattle.jt_expr.specs.Trees as trees
-use Rattle.jt_parse.specs.Trees as written
-use Rattle.jt_parse.specs.View as parsed
-use Rattle.jt_parse.specs.declared.tree.Stmt.{Stmt}
-use Rattle.jt_parse.specs.declared.tree.Stmt.TheVariants as statement
-use Rattle.jt_parse.proofs.Views.{view-If}
-use Rattle.jt_scopes.specs.declared.error.ScopeError.{ScopeError}
-use Rattle.jt_expr.specs.declared.tree.BinaryOperator.{BinaryOperator}
-use Rattle.jt_expr.specs.View.{expr_view, exprs_view, pairs_view}
+-- Statements as they are written, form by form, and what is left of them.
+use Rattle.std.proofs.Common.{◌≡◌, ℕ, ◌+◌, ◌<◌, List, [], ◌∷◌, length, map, drop, get_or, refl, sym, ap, ◌∙◌, Bool, Vec, Global, String, string_bytes, Option}
+use Rattle.std.specs.Prelude.{option_map}
+use Rattle.std.proofs.lemmas.List.{drop_more}
+use denote.Ref.{Bor}
+use Rattle.jt_expr.specs.View.{expr_view, pairs_view}
+use Rattle.jt_expr.specs.Trees as expressions
 use Rattle.jt_expr.specs.declared.tree.Expr.{Expr}
-use Rattle.jt_expr.specs.declared.tree.Expr.TheVariants as e
-use Rattle.jt_expr.proofs.Views.{view-Attribute, view-Item, view-Map, view-Call, view-Filter, view-Test, view-Binary, view-When, view-Choice}
-use Rattle.jt_scopes.specs.Resolve.{count}
-use Rattle.jt_scopes.specs.Rules.{no_keywords, broken, stmt_broken, body_broken, branches_broken}
-use Rattle.jt_scopes.proofs.Gathered.{Branch, branches_left}
+use Rattle.jt_parse.specs.Trees as trees
+use Rattle.jt_parse.specs.Trees.{Text}
+use Rattle.jt_parse.specs.View.{names_view, filterings_view, parameters_view, stmts_of, branches_of, stmt_step, stmt_view, body_view, branches_view}
+use Rattle.jt_parse.specs.declared.tree.Filtering.{Filtering}
+use Rattle.jt_parse.specs.declared.tree.Parameter.{Parameter}
+use Rattle.jt_parse.specs.declared.tree.Stmt.{Stmt, fold-roll-Stmt}
+use Rattle.jt_parse.specs.declared.tree.Stmt.TheOpen.{Stmt-F}
+use Rattle.jt_parse.specs.declared.tree.Stmt.TheVariants as v
+use Rattle.jt_parse.specs.declared.tree.Stmt.TheVariants.{rolls-Data, rolls-Print, rolls-If, rolls-For, rolls-Set, rolls-SetBlock, rolls-With, rolls-FilterBlock, rolls-Autoescape, rolls-Macro, rolls-Include, rolls-Extends, rolls-Block}
+use Rattle.jt_uses.specs.Names.{texts}
 
-pub shown_Map : (ps : Vec (String Global × Expr) Global) → expr_view (e.Map ps) ≡ trees.map_of (pairs_view ps.items)
-shown_Map ps = view-Map ps
+abbrev pub Branch : Type 0
+Branch = ℕ × Expr × Vec Stmt Global
 
-pub shown_Call : (a : Box Expr Global) (ts : Vec Expr Global) (ps : Vec (String Global × Expr) Global) → expr_view (e.Call a ts ps) ≡ trees.call (expr_view a.value) (exprs_view ts.items) (pairs_view ps.items)
-shown_Call a ts ps = view-Call a ts ps
+abbrev pub Pair : Type 0
+Pair = String Global × Expr
 
-pub shown_Filter : (a : Box Expr Global) (x : String Global) (ts : Vec Expr Global) (ps : Vec (String Global × Expr) Global) → expr_view (e.Filter a x ts ps) ≡ trees.filter (expr_view a.value) (string_bytes x) (exprs_view ts.items) (pairs_view ps.items)
-shown_Filter a x ts ps = view-Filter a x ts ps
+-- ---- what is left
 
-pub shown_Test : (a : Box Expr Global) (n : Bool) (x : String Global) (ts : Vec Expr Global) (ps : Vec (String Global × Expr) Global) → expr_view (e.Test a n x ts ps) ≡ trees.test (expr_view a.value) n (string_bytes x) (exprs_view ts.items) (pairs_view ps.items)
-shown_Test a n x ts ps = view-Test a n x ts ps
+pub statements_left : (ss : List Stmt) (i : ℕ) (s : Stmt) → i < length ss → s ≡ get_or ss i s → body_view (drop i ss) ≡ trees.stmt (stmt_view s) (body_view (drop (i + 1) ss))
+statements_left ss i s lt is = ap body_view (drop_more ss i s lt) ∙ ap (λ (z : Stmt). trees.stmt (stmt_view z) (body_view (drop (i + 1) ss))) (sym is)
 
-pub counted : (ts : List Expr) → count (exprs_view ts) ≡ length ts
-counted [] = refl
-counted (t ∷ ts) = ap suc (counted ts)
+pub branches_left : (bs : List Branch) (i : ℕ) (b : Branch) → i < length bs → b ≡ get_or bs i b
+    → branches_view (drop i bs) ≡ trees.branch b.0 (expr_view b.1) (body_view b.2.items) (branches_view (drop (i + 1) bs))
+branches_left bs i b lt is =
+    ap branches_view (drop_more bs i b lt) ∙ ap (λ (z : Branch). trees.branch z.0 (expr_view z.1) (body_view z.2.items) (branches_view (drop (i + 1) bs))) (sym is)
 
-pub keyless : (ps : List (String Global × Expr)) → no_keywords (pairs_view ps) ≡ nat_eq (length ps) 0
-keyless [] = refl
-keyless (p ∷ ps) = sym (some_left (length ps))
-  where
-    some_left : (n : ℕ) → nat_eq (suc n) 0 ≡ false
-    some_left n = grind (arith, nat_tests)
+pub pairs_left : (ps : List Pair) (i : ℕ) (p : Pair) → i < length ps → p ≡ get_or ps i p → pairs_view (drop i ps) ≡ expressions.pair (string_bytes p.0) (expr_view p.1) (pairs_view (drop (i + 1) ps))
+pairs_left ps i p lt is = ap pairs_view (drop_more ps i p lt) ∙ ap (λ (z : Pair). expressions.pair (string_bytes z.0) (expr_view z.1) (pairs_view (drop (i + 1) ps))) (sym is)
 
--- ---- by what stands behind the references
+pub texts_left : (ks : List (Bor Text)) (i : ℕ) (k : Bor Text) → i < length ks → k ≡ get_or ks i k → texts (drop i ks) ≡ k.now ∷ texts (drop (i + 1) ks)
+texts_left ks i k lt is = ap texts (drop_more ks i k lt) ∙ ap (λ (z : Bor Text). z.now ∷ texts (drop (i + 1) ks)) (sym is)
 
-pub shown_item : (x a b : Expr) (p q : Box Expr Global) → x ≡ e.Item p q → a ≡ p.value → b ≡ q.value → trees.item (expr_view a) (expr_view b) ≡ expr_view x
-shown_item x a b p q is f g = ap (λ z. trees.item (expr_view z) (expr_view b)) f ∙ ap (λ z. trees.item (expr_view p.value) (expr_view z)) g ∙ sym (ap expr_view is ∙ view-Item p q)
+pub names_left : (ks : List (String Global)) (i : ℕ) (k : String Global) → i < length ks → k ≡ get_or ks i k → names_view (drop i ks) ≡ string_bytes k ∷ names_view (drop (i + 1) ks)
+names_left ks i k lt is = ap names_view (drop_more ks i k lt) ∙ ap (λ (z : String Global). string_bytes z ∷ names_view (drop (i + 1) ks)) (sym is)
 
-pub shown_binary : (x a b : Expr) (o : BinaryOperator) (p q : Box Expr Global) → x ≡ e.Binary o p q → a ≡ p.value → b ≡ q.value → trees.binary o (expr_view a) (expr_view b) ≡ expr_view x
-shown_binary x a b o p q is f g = ap (λ z. trees.binary o (expr_view z) (expr_view b)) f ∙ ap (λ z. trees.binary o (expr_view p.value) (expr_view z)) g ∙ sym (ap expr_view is ∙ view-Binary o p q)
+-- ---- forms
 
-pub shown_when : (x a b : Expr) (p q : Box Expr Global) → x ≡ e.When p q → a ≡ p.value → b ≡ q.value → trees.when (expr_view a) (expr_view b) ≡ expr_view x
-shown_when x a b p q is f g = ap (λ z. trees.when (expr_view z) (expr_view b)) f ∙ ap (λ z. trees.when (expr_view p.value) (expr_view z)) g ∙ sym (ap expr_view is ∙ view-When p q)
+-- a view of each branch that keeps line and condition, and shows each statement inside
+branches_map : (g : Branch → ℕ × Expr × Vec trees.Stmt Global) → ((b : Branch) → (g b).0 ≡ b.0) → ((b : Branch) → (g b).1 ≡ b.1)
+    → ((b : Branch) → (g b).2.items ≡ map stmt_view b.2.items) → (bs : List Branch) → branches_of (map g bs) ≡ branches_view bs
+branches_map g p q r [] = refl
+branches_map g p q r (b ∷ bs) =
+    ap (λ l. trees.branch l (expr_view (g b).1) (stmts_of (g b).2.items) (branches_of (map g bs))) (p b)
+    ∙ ap (λ e. trees.branch b.0 (expr_view e) (stmts_of (g b).2.items) (branches_of (map g bs))) (q b)
+    ∙ ap (λ v. trees.branch b.0 (expr_view b.1) (stmts_of v) (branches_of (map g bs))) (r b)
+    ∙ ap (trees.branch b.0 (expr_view b.1) (body_view b.2.items)) (branches_map g p q r bs)
 
-pub shown_choice : (x a b c : Expr) (p q r : Box Expr Global) → x ≡ e.Choice p q r → a ≡ p.value → b ≡ q.value → c ≡ r.value → trees.choice (expr_view a) (expr_view b) (expr_view c) ≡ expr_view x
-shown_choice x a b c p q r is f g h =
-    ap (λ z. trees.choice (expr_view z) (expr_view b) (expr_view c)) f ∙ ap (λ z. trees.choice (expr_view p.value) (expr_view z) (expr_view c)) g
-    ∙ ap (λ z. trees.choice (expr_view p.value) (expr_view q.value) (expr_view z)) h ∙ sym (ap expr_view is ∙ view-Choice p q r)
+pub view-Data : (t : String Global) → stmt_view (v.Data t) ≡ trees.data_of (string_bytes t)
+view-Data t = ap stmt_view (sym (rolls-Data t)) ∙ fold-roll-Stmt trees.Stmt stmt_step (Stmt-F.Data t)
 
-pub shown_test : (x a : Expr) (n : Bool) (k : String Global) (us : List Expr) (qs : List (String Global × Expr)) (p : Box Expr Global) (ts : Vec Expr Global) (ps : Vec (String Global × Expr) Global)
-    → x ≡ e.Test p n k ts ps → a ≡ p.value → us ≡ ts.items → qs ≡ ps.items → trees.test (expr_view a) n (string_bytes k) (exprs_view us) (pairs_view qs) ≡ expr_view x
-shown_test x a n k us qs p ts ps is f g h =
-    ap (λ z. trees.test (expr_view z) n (string_bytes k) (exprs_view us) (pairs_view qs)) f ∙ ap (λ z. trees.test (expr_view p.value) n (string_bytes k) (exprs_view z) (pairs_view qs)) g
-    ∙ ap (λ z. trees.test (expr_view p.value) n (string_bytes k) (exprs_view ts.items) (pairs_view z)) h ∙ sym (ap expr_view is ∙ view-Test p n k ts ps)
+pub view-Print : (line : ℕ) (e : Expr) → stmt_view (v.Print line e) ≡ trees.print line (expr_view e)
+view-Print line e = ap stmt_view (sym (rolls-Print line e)) ∙ fold-roll-Stmt trees.Stmt stmt_step (Stmt-F.Print line e)
 
-pub shown_call : (x f : Expr) (us : List Expr) (qs : List (String Global × Expr)) (p : Box Expr Global) (ts : Vec Expr Global) (ps : Vec (String Global × Expr) Global)
-    → x ≡ e.Call p ts ps → f ≡ p.value → us ≡ ts.items → qs ≡ ps.items → trees.call (expr_view f) (exprs_view us) (pairs_view qs) ≡ expr_view x
-shown_call x f us qs p ts ps is g h k =
-    ap (λ z. trees.call (expr_view z) (exprs_view us) (pairs_view qs)) g ∙ ap (λ z. trees.call (expr_view p.value) (exprs_view z) (pairs_view qs)) h
-    ∙ ap (λ z. trees.call (expr_view p.value) (exprs_view ts.items) (pairs_view z)) k ∙ sym (ap expr_view is ∙ view-Call p ts ps)
+pub view-If : (bs : Vec Branch Global) (other : Vec Stmt Global) → stmt_view (v.If bs other) ≡ trees.choose (branches_view bs.items) (body_view other.items)
+view-If bs other =
+    ap stmt_view (sym (rolls-If bs other)) ∙ fold-roll-Stmt trees.Stmt stmt_step (Stmt-F.If bs other)
+    ∙ ap (λ z. trees.choose z (body_view other.items)) (branches_map _ (λ b. refl) (λ b. refl) (λ b. refl) bs.items)
 
-pub shown_filter : (x a : Expr) (k : String Global) (us : List Expr) (qs : List (String Global × Expr)) (p : Box Expr Global) (ts : Vec Expr Global) (ps : Vec (String Global × Expr) Global)
-    → x ≡ e.Filter p k ts ps → a ≡ p.value → us ≡ ts.items → qs ≡ ps.items → trees.filter (expr_view a) (string_bytes k) (exprs_view us) (pairs_view qs) ≡ expr_view x
-shown_filter x a k us qs p ts ps is f g h =
-    ap (λ z. trees.filter (expr_view z) (string_bytes k) (exprs_view us) (pairs_view qs)) f ∙ ap (λ z. trees.filter (expr_view p.value) (string_bytes k) (exprs_view z) (pairs_view qs)) g
-    ∙ ap (λ z. trees.filter (expr_view p.value) (string_bytes k) (exprs_view ts.items) (pairs_view z)) h ∙ sym (ap expr_view is ∙ view-Filter p k ts ps)
+pub view-For : (line : ℕ) (xs : Vec (String Global) Global) (e : Expr) (c : Option Expr) (body other : Vec Stmt Global)
+    → stmt_view (v.For line xs e c body other) ≡ trees.for_each line (names_view xs.items) (expr_view e) (option_map expr_view c) (body_view body.items) (body_view other.items)
+view-For line xs e c body other = ap stmt_view (sym (rolls-For line xs e c body other)) ∙ fold-roll-Stmt trees.Stmt stmt_step (Stmt-F.For line xs e c body other)
 
-pub shown_map : (x : Expr) (qs : List (String Global × Expr)) (ps : Vec (String Global × Expr) Global) → x ≡ e.Map ps → qs ≡ ps.items → trees.map_of (pairs_view qs) ≡ expr_view x
-shown_map x qs ps is h = ap (λ z. trees.map_of (pairs_view z)) h ∙ sym (ap expr_view is ∙ view-Map ps)
+pub view-Set : (line : ℕ) (xs : Vec (String Global) Global) (e : Expr) → stmt_view (v.Set line xs e) ≡ trees.set line (names_view xs.items) (expr_view e)
+view-Set line xs e = ap stmt_view (sym (rolls-Set line xs e)) ∙ fold-roll-Stmt trees.Stmt stmt_step (Stmt-F.Set line xs e)
 
-pub shown_attribute : (x a : Expr) (p : Box Expr Global) (k : String Global) → x ≡ e.Attribute p k → a ≡ p.value → trees.attribute (expr_view a) (string_bytes k) ≡ expr_view x
-shown_attribute x a p k is f = ap (λ z. trees.attribute (expr_view z) (string_bytes k)) f ∙ sym (ap expr_view is ∙ view-Attribute p k)
+pub view-SetBlock : (line : ℕ) (x : String Global) (body : Vec Stmt Global) → stmt_view (v.SetBlock line x body) ≡ trees.set_block line (string_bytes x) (body_view body.items)
+view-SetBlock line x body = ap stmt_view (sym (rolls-SetBlock line x body)) ∙ fold-roll-Stmt trees.Stmt stmt_step (Stmt-F.SetBlock line x body)
 
-pub shown_If : (bs : Vec (ℕ × Expr × Vec Stmt Global) Global) (other : Vec Stmt Global) → parsed.stmt_view (statement.If bs other) ≡ written.choose (parsed.branches_view bs.items) (parsed.body_view other.items)
-shown_If bs other = view-If bs other
+pub view-With : (line : ℕ) (ps : Vec Pair Global) (body : Vec Stmt Global) → stmt_view (v.With line ps body) ≡ trees.with_values line (pairs_view ps.items) (body_view body.items)
+view-With line ps body = ap stmt_view (sym (rolls-With line ps body)) ∙ fold-roll-Stmt trees.Stmt stmt_step (Stmt-F.With line ps body)
 
--- ---- the first of two
+pub view-FilterBlock : (line : ℕ) (fs : Vec Filtering Global) (body : Vec Stmt Global) → stmt_view (v.FilterBlock line fs body) ≡ trees.filter_block line (filterings_view fs.items) (body_view body.items)
+view-FilterBlock line fs body = ap stmt_view (sym (rolls-FilterBlock line fs body)) ∙ fold-roll-Stmt trees.Stmt stmt_step (Stmt-F.FilterBlock line fs body)
 
-pub or_both : (r r' s s' : Option ScopeError) → r ≡ r' → s ≡ s' → option_or r s ≡ option_or r' s'
-or_both r r' s s' h k = ap (λ z. option_or z s) h ∙ ap (λ z. option_or r' z) k
+pub view-Autoescape : (line : ℕ) (on : Bool) (body : Vec Stmt Global) → stmt_view (v.Autoescape line on body) ≡ trees.autoescape line on (body_view body.items)
+view-Autoescape line on body = ap stmt_view (sym (rolls-Autoescape line on body)) ∙ fold-roll-Stmt trees.Stmt stmt_step (Stmt-F.Autoescape line on body)
 
--- ---- what an `if` breaks
+pub view-Macro : (line : ℕ) (x : String Global) (ps : Vec Parameter Global) (body : Vec Stmt Global) → stmt_view (v.Macro line x ps body) ≡ trees.macro line (string_bytes x) (parameters_view ps.items) (body_view body.items)
+view-Macro line x ps body = ap stmt_view (sym (rolls-Macro line x ps body)) ∙ fold-roll-Stmt trees.Stmt stmt_step (Stmt-F.Macro line x ps body)
 
--- a branch of an `if` breaks a rule, and those before it none
-pub branch_broken : (x : Stmt) (bs : Vec Branch Global) (other : Vec Stmt Global) (items : List Branch) (i : ℕ) (b : Branch) (rule : ScopeError)
-    → x ≡ statement.If bs other → items ≡ bs.items → i < length items → b ≡ get_or items i b
-    → branches_broken (parsed.branches_view (drop i items)) ≡ branches_broken (parsed.branches_view items)
-    → Some rule ≡ option_or (broken (expr_view b.1)) (body_broken (parsed.body_view b.2.items)) → Some rule ≡ stmt_broken (parsed.stmt_view x)
-branch_broken x bs other items i b rule is e lt at h k =
-    let rest = branches_broken (parsed.branches_view (drop (i + 1) items)) in
-    let last = body_broken (parsed.body_view other.items) in
-    ap (λ o. option_or (option_or o rest) last) k
-    ∙ ap (λ z. option_or (branches_broken z) last) (sym (branches_left items i b lt at))
-    ∙ ap (λ o. option_or o last) h
-    ∙ ap (λ (z : List Branch). option_or (branches_broken (parsed.branches_view z)) last) e
-    ∙ ap stmt_broken (sym (ap parsed.stmt_view is ∙ view-If bs other))
+pub view-Include : (line : ℕ) (n : String Global) (missing context : Bool) → stmt_view (v.Include line n missing context) ≡ trees.include line (string_bytes n) missing context
+view-Include line n missing context = ap stmt_view (sym (rolls-Include line n missing context)) ∙ fold-roll-Stmt trees.Stmt stmt_step (Stmt-F.Include line n missing context)
 
--- no branch of an `if` breaks a rule
-pub other_broken : (x : Stmt) (bs : Vec Branch Global) (other : Vec Stmt Global) (items : List Branch) (others : List Stmt) (r : Option ScopeError)
-    → x ≡ statement.If bs other → items ≡ bs.items → others ≡ other.items → None ≡ branches_broken (parsed.branches_view items) → r ≡ body_broken (parsed.body_view others)
-    → r ≡ stmt_broken (parsed.stmt_view x)
-other_broken x bs other items others r is e f h k =
-    k ∙ ap (λ (z : List Stmt). body_broken (parsed.body_view z)) f
-    ∙ ap (λ o. option_or o (body_broken (parsed.body_view other.items))) h
-    ∙ ap (λ (z : List Branch). option_or (branches_broken (parsed.branches_view z)) (body_broken (parsed.body_view other.items))) e
-    ∙ ap stmt_broken (sym (ap parsed.stmt_view is ∙ view-If bs other))
+pub view-Extends : (line : ℕ) (n : String Global) → stmt_view (v.Extends line n) ≡ trees.extends line (string_bytes n)
+view-Extends line n = ap stmt_view (sym (rolls-Extends line n)) ∙ fold-roll-Stmt trees.Stmt stmt_step (Stmt-F.Extends line n)
 
--- ---- what holds of any value
-
-pub holds_of : {A E : Type 0} (r : Result A E) (P : Type 0) → P → IfOk r (λ x. P)
-holds_of (Ok x) P h = h
-holds_of (Err e) P h = tt
+pub view-Block : (line : ℕ) (x : String Global) (scoped required : Bool) (body : Vec Stmt Global) → stmt_view (v.Block line x scoped required body) ≡ trees.block line (string_bytes x) scoped required (body_view body.items)
+view-Block line x scoped required body = ap stmt_view (sym (rolls-Block line x scoped required body)) ∙ fold-roll-Stmt trees.Stmt stmt_step (Stmt-F.Block line x scoped required body)

@@ -1,17 +1,13 @@
-//! Names to slots: what a template reads gets a place among the globals, and what it writes a place in a pool of values.
+//! Names to slots: a chain becomes a program.
 #![tactic(auto)]
 
-mod error;
-mod expressions;
-mod forms;
-mod laws;
-mod names;
-mod program;
-mod resolving;
-mod rules;
-mod scope;
+mod entering;
+mod locals;
+mod placing;
+mod putting;
+mod routines;
+mod statements;
+mod targets;
 
-pub use error::ScopeError;
-pub use laws::template_laws;
-pub use program::{Maker, Resolved, SExpr, SStmt};
-pub use resolving::resolve;
+pub use jt_rules::ScopeError;
+pub use routines::resolve_home;

@@ -1,7 +1,7 @@
 //! Rows of expressions, with their trees or their refusals.
 
 use jt_expr::{Expr, ExprError, Literal, check_names, expression};
-use jt_scan::{Options, Segment, Source, Token, scan};
+use jt_scan::{Options, Part, Source, Token, scan};
 use std::alloc::{AllocError, Global};
 use std::test::Fail;
 
@@ -114,7 +114,7 @@ fn told(alloc: Global, text: &str) -> Result<String, AllocError> {
     };
     let mut told = String::new(alloc);
     for segment in segments.as_slice() {
-        if let Segment::Tag(tag) = segment {
+        if let Part::Tag(tag) = &segment.part {
             tell_tag(alloc, &mut told, tag.tokens.as_slice())?;
         }
     }
@@ -142,6 +142,11 @@ fn expressions_are_read(rt: HostRuntime) -> Result<(), Fail> {
         ),
         ("{{ -a.b[0]|f }}", " P3 UnknownFilter"),
         ("{{ -a.b[0] }}", " (Negate (item (.b a) 0))"),
+        ("{{ -a|abs }}", " (|abs (Negate a))"),
+        (
+            "{{ a|join('x')|d(1, boolean=true) }}",
+            " (|d (|join a 'x') 1 boolean: true)",
+        ),
         ("{{ -a is even }}", " (is even (Negate a))"),
         ("{{ +(1, ) }}", " P1 Syntax"),
         ("{{ (a) }}", " (group a)"),
@@ -190,7 +195,7 @@ fn no_expressions(rt: HostRuntime) -> Result<(), Fail> {
         ("{{ f(k=1, 2) }}", " P1 Syntax"),
         ("{{ {a: 1} }}", " P1 Syntax"),
         ("{{ a is whole }}", " P4 UnknownTest"),
-        ("{{ 1|abs }}", " P3 UnknownFilter"),
+        ("{{ 1|nope }}", " P3 UnknownFilter"),
         ("{{ (a|f) is whole }}", " P3 UnknownFilter"),
         ("{{ a is whole or b|f }}", " P3 UnknownFilter"),
     ];

@@ -3,14 +3,10 @@
 #![tactic(auto)]
 
 #[cfg(test)]
-mod codegen;
-#[cfg(test)]
 mod expr;
-#[cfg(test)]
-mod inherit;
 #[cfg(test)]
 mod parse;
 #[cfg(test)]
-mod scan;
+mod rendering;
 #[cfg(test)]
-mod scopes;
+mod scan;

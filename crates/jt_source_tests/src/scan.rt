@@ -1,36 +1,73 @@
 //! Rows of sources, with their segments or their refusal.
 
-use jt_scan::{Kind, MAX_SOURCE_LEN, Options, ScanError, Segment, Source, Token, scan, text_value};
+use jt_scan::{
+    Kind, MAX_SOURCE_LEN, Mark, Marks, Options, Part, ScanError, Segment, Source, Tag, Token, scan,
+    text_value,
+};
 use std::alloc::{AllocError, Global};
 use std::test::Fail;
 
-/// What a segment is: `<data>`, `{#comment#}`, or a tag's closing delimiter, line and tokens.
-fn tell(alloc: Global, segment: &Segment<'_>) -> Result<String, AllocError> {
-    match segment {
-        Segment::Data(text) => format!(in alloc; "<{text}>"),
-        Segment::Comment(text) => format!(in alloc; "#{text}#"),
-        Segment::Tag(tag) => {
-            let mut told = match tag.kind {
-                Kind::Variable => format!(in alloc; "v{}:", tag.line)?,
-                Kind::Block => format!(in alloc; "b{}:", tag.line)?,
-            };
-            for token in tag.tokens.as_slice() {
-                match token {
-                    Token::Name(name) => told.push_str(*name)?,
-                    Token::Number(number) => told.push_str(format!(in alloc;
-                        "{number}"
-                    )?.as_str())?,
-                    Token::Text(raw) => {
-                        let value = text_value(alloc, *raw)?;
-                        told.push_str(format!(in alloc; "'{value}'")?.as_str())?;
-                    }
-                    Token::Sign(sign) => told.push_str(format!(in alloc; "{sign:?}")?.as_str())?,
-                }
-                told.push(';')?;
-            }
-            Ok(told)
-        }
+/// How a mark is spelled.
+fn spelled(mark: Mark) -> &'static str {
+    match mark {
+        Mark::Absent => "",
+        Mark::Minus => "-",
+        Mark::Plus => "+",
     }
+}
+
+/// The tokens of a tag, each with a semicolon behind it.
+fn tell_tokens(alloc: Global, told: &mut String, tokens: &[Token<'_>]) -> Result<(), AllocError> {
+    for token in tokens {
+        match token {
+            Token::Name(name) => told.push_str(*name)?,
+            Token::Number(number) => told.push_str(format!(in alloc; "{number}")?.as_str())?,
+            Token::Text(raw) => {
+                let value = text_value(alloc, *raw)?;
+                told.push_str(format!(in alloc; "'{value}'")?.as_str())?;
+            }
+            Token::Sign(sign) => told.push_str(format!(in alloc; "{sign:?}")?.as_str())?,
+        }
+        told.push(';')?;
+    }
+    Ok(())
+}
+
+/// A tag: `v` or `b`, its opening mark, its line, its tokens and its closing mark.
+fn tell_tag(alloc: Global, tag: &Tag<'_>) -> Result<String, AllocError> {
+    let kind = match tag.kind {
+        Kind::Variable => "v",
+        Kind::Block => "b",
+    };
+    let opening = spelled(tag.marks.opening);
+    let mut told = format!(in alloc; "{kind}{opening}{}:", tag.line)?;
+    tell_tokens(alloc, &mut told, tag.tokens.as_slice())?;
+    told.push_str(spelled(tag.marks.closing))?;
+    Ok(told)
+}
+
+/// What a segment is: `<data>`, `r#comment#` with the marks about the `r`, `r<raw>r` or a tag.
+fn tell(alloc: Global, segment: &Segment<'_>) -> Result<String, AllocError> {
+    match &segment.part {
+        Part::Data(text) => format!(in alloc; "<{text}>"),
+        Part::Comment(marks, text) => {
+            let told = tell_marks(alloc, marks)?;
+            format!(in alloc; "{told}#{text}#")
+        }
+        Part::Raw(begins, text, ends) => {
+            let first = tell_marks(alloc, begins)?;
+            let last = tell_marks(alloc, ends)?;
+            format!(in alloc; "{first}<{text}>{last}")
+        }
+        Part::Tag(tag) => tell_tag(alloc, tag),
+    }
+}
+
+/// `r` between the marks of a tag.
+fn tell_marks(alloc: Global, marks: &Marks) -> Result<String, AllocError> {
+    let opening = spelled(marks.opening);
+    let closing = spelled(marks.closing);
+    format!(in alloc; "{opening}r{closing}")
 }
 
 /// What the segments of a text are, or its refusal.
@@ -61,9 +98,9 @@ fn sources_are_cut(rt: HostRuntime) -> Result<(), Fail> {
         ("{{ x }}", "v1:x;"),
         ("{{\tnot\u{b}x_1\n}}", "v1:not;x_1;"),
         ("é{{é_1 ß}}è", "<é>v1:é_1;ß;<è>"),
-        ("a\n{# b\n{{ #}{% if x %}", "<a\n># b\n{{ #b3:if;x;"),
-        ("{# a #} b #}", "# a #< b #}>"),
-        ("{{}}{%%}{##}", "v1:b1:##"),
+        ("a\n{# b\n{{ #}{% if x %}", "<a\n>r# b\n{{ #b3:if;x;"),
+        ("{# a #} b #}", "r# a #< b #}>"),
+        ("{{}}{%%}{##}", "v1:b1:r##"),
         ("{ { } }{", "<{ { } }{>"),
         ("{{ a***-b }}", "v1:a;Power;Times;Minus;b;"),
         ("{{ a<=b>==c }}", "v1:a;LessEqual;b;GreaterEqual;Assign;c;"),
@@ -126,6 +163,37 @@ fn sources_are_cut(rt: HostRuntime) -> Result<(), Fail> {
     Ok(())
 }
 
+#[test]
+fn marks_and_raw_text_are_cut(rt: HostRuntime) -> Result<(), Fail> {
+    let rows = [
+        ("{{- a -}}", "v-1:a;-"),
+        ("{{+ a }}{{ b +}}", "v+1:a;v1:b;Plus;"),
+        ("{{ a+}}", "v1:a;Plus;"),
+        ("{%- a -%}{%+ b +%}", "b-1:a;-b+1:b;+"),
+        ("{%-%}{{-}}", "b-1:v-1:"),
+        ("{%--%}{%+-%}", "b-1:-b+1:-"),
+        (
+            "{#- a -#}{#+ b +#}{#-#}{#--#}",
+            "-r-#- a -#+r+#+ b +#-r#-#-r-#--#",
+        ),
+        ("{{ a - }}", "v1:a;Minus;"),
+        ("{{- -1 -}}", "v-1:Minus;1;-"),
+        ("{% raw %}a{{ b }}{# c{% endraw %}d", "r<a{{ b }}{# c>r<d>"),
+        ("{%- raw -%} a {%+ endraw +%}", "-r-< a >+r+"),
+        ("{%raw%}{%endraw%}", "r<>r"),
+        ("{% raw %}{% raw %}{% endraw %}", "r<{% raw %}>r"),
+        ("{% raw %}{% endraw x %}{% endraw %}", "r<{% endraw x %}>r"),
+        ("{% raw %}a", "UnclosedRaw { line: 1 }"),
+        ("\n{% raw %}{{ endraw }}", "UnclosedRaw { line: 2 }"),
+        ("{% raw x %}", "b1:raw;x;"),
+        ("{{ raw }}", "v1:raw;"),
+    ];
+    for (text, want) in rows {
+        assert_eq!(rt; told(rt.alloc(), text)?.as_str(), want, "{text}");
+    }
+    Ok(())
+}
+
 /// A text with the same piece so many times behind its beginning.
 fn filled(
     alloc: Global,
@@ -153,6 +221,14 @@ fn long_sources_are_answered(rt: HostRuntime) -> Result<(), Fail> {
         ("{{ '", "\\x41", 250_000, "\\x4'}}", "BadEscape { line: 1 }"),
         ("{{ ", "{", 1_000_000, "", "UnclosedTag { line: 1 }"),
         ("{{ ", "} ", 500_000, "/", "BadCharacter { line: 1 }"),
+        (
+            "{% raw %}",
+            "{% endraw",
+            100_000,
+            "",
+            "UnclosedRaw { line: 1 }",
+        ),
+        ("{% raw %}", "{%-", 300_000, "", "UnclosedRaw { line: 1 }"),
     ];
     for (start, piece, times, end, want) in rows {
         let text = filled(rt.alloc(), start, piece, times, end)?;

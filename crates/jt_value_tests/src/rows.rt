@@ -5,7 +5,7 @@ use std::process::Abort;
 use std::test::Fail;
 
 /// Checks rows `asked => wanted`, one a line, against what `answer` gives of each.
-pub fn rows_hold<F: Fn(Global, &str) -> Result<String, Fail>>(
+pub(crate) fn rows_hold<F: Fn(Global, &str) -> Result<String, Fail>>(
     rt: &(impl Abort + AllocGlobal),
     answer: F,
     rows: &str,

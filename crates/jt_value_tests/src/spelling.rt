@@ -7,7 +7,7 @@ use std::alloc::Global;
 
 /// The value of a spelling: `n5`, `tabc` (text), `mabc` (markup), `+` and `-` (truth values), `0` (none), `l` and spellings with
 /// `,` between (a list), `k` and pairs as `key=n5` with `,` between (a map); all else is undefined.
-pub fn value(alloc: Global, spelling: &str) -> Result<Value, NoMemory> {
+pub(crate) fn value(alloc: Global, spelling: &str) -> Result<Value, NoMemory> {
     let rest = spelling.get(1..).unwrap_or("");
     match spelling.as_bytes().first() {
         Some(b'l') => {
@@ -35,7 +35,7 @@ pub fn value(alloc: Global, spelling: &str) -> Result<Value, NoMemory> {
 }
 
 /// The values of spellings with blanks between.
-pub fn values(alloc: Global, spellings: &str) -> Result<Vec<Value>, NoMemory> {
+pub(crate) fn values(alloc: Global, spellings: &str) -> Result<Vec<Value>, NoMemory> {
     let mut found = Vec::new(alloc);
     for spelling in spellings.split(' ') {
         found.push(value(alloc, spelling)?)?;
@@ -59,7 +59,7 @@ fn simple(alloc: Global, spelling: &str) -> Result<Value, NoMemory> {
 
 /// What a call answered: a value in the same spelling, where lists in lists have `/` behind their items and a map is `k`; else
 /// the error.
-pub fn shown(alloc: Global, answer: &Result<Value, OpError>) -> Result<String, NoMemory> {
+pub(crate) fn shown(alloc: Global, answer: &Result<Value, OpError>) -> Result<String, NoMemory> {
     let value = match answer {
         Ok(value) => value,
         Err(error) => return Ok(format!(in alloc; "{error}")?),

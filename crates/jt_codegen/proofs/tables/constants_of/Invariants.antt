@@ -1,7 +1,7 @@
 use Rattle.std.proofs.Common.{◌≡◌, ◌++◌, map, drop}
 use Rattle.jt_value.specs.View.{view}
 use Rattle.jt_image.specs.View.{constants_view}
-use Rattle.jt_codegen.specs.Lower.{constant_of}
+use Rattle.jt_lower.specs.Lower.{constant_of}
 use Rattle.jt_codegen.proofs.tables.constants_of.Given as goal
 
 abbrev pub invariant-loop-value : goal.invariant-loop-value

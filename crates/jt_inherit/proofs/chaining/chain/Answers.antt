@@ -1,15 +1,179 @@
-use Rattle.std.proofs.Common.{rules}
-use Rattle.jt_inherit.proofs.Found.{tree_of}
+use Rattle.std.proofs.Common.{◌≡◌, ◌+◌, ◌*◌, ◌<◌, ◌≤◌, List, ℕ, length, map, sym, ap, subst, ◌∙◌, arith, Err, Vec, Global}
+use Rattle.std.specs.List.{AllByRecursion}
+use Rattle.std.proofs.lemmas.Result.{err_from_is_err_and}
+use Rattle.jt_order.specs.Graph.{IsClosed, IsOrder}
+use Rattle.jt_order.specs.View.{graph_of}
+use Rattle.jt_inherit.specs.Chain.{sources_in}
+use Rattle.jt_inherit.specs.Chains.{IsChain}
+use Rattle.jt_inherit.specs.Found.{HasHomes, found_templates, found_homes}
+use Rattle.jt_inherit.specs.Includes.{InOrder}
+use Rattle.jt_inherit.specs.Pages.{AreWhole, home_name}
+use Rattle.jt_inherit.specs.Places.{home_at}
+use Rattle.jt_inherit.specs.SetView.{strings}
+use Rattle.jt_inherit.specs.Small.{chains_weight, chains_len}
+use Rattle.jt_inherit.proofs.OnWay.{all_short}
+use Rattle.jt_inherit.proofs.Placed.{length-map}
+use Rattle.jt_inherit.proofs.Whole.{ways_placed, next_len, closed, chain_breaks, order_breaks, in_order, chained, weighs, few_homes, some_homes, all_whole, homes_named}
 use Rattle.jt_inherit.proofs.chaining.chain.Goals as goal
 
-pub returns-in_err-template-clause-only : goal.returns-in_err-template-clause-only
-returns-in_err-template-clause-only g c =
-    λ k is.
-    let h = c.in_err-template.ensures.only k.body (tree_of (g.L.Library.sources c.args.library.now) c.args.entry.now c.args.options k c.in-Some.source.now (search rules) is) in
-    search rules
+pub check_chains-requires : goal.check_chains-requires
+check_chains-requires g c =
+    let given = g.L.Library.sources c.args.library.now in
+    let f = c.in_ok-found.found in
+    let ts = found_templates f in
+    let ks = strings f.names.keys in
+    let hs = found_homes f in
+    let ws = graph_of f.ways.items in
+    let ns = graph_of f.next.items in
+    let found = c.in_ok-found.ensures.found in
+    let all : length ws ≡ length hs = length-map (λ (v : Vec ℕ Global). v.items) f.ways.items ∙ c.in_ok-found.ensures.all in
+    ways_placed given ts hs hs ws ns found.followed
 
-pub returns-clause-only : goal.returns-clause-only
-returns-clause-only g c =
-    λ k is.
-    let h = c.in_ok-template.ensures.only k.body (tree_of (g.L.Library.sources c.args.library.now) c.args.entry.now c.args.options k c.in-Some.source.now (search rules) is) in
-    search rules
+pub returns-in_err-check_chains-clause-refused : goal.returns-in_err-check_chains-clause-refused
+returns-in_err-check_chains-clause-refused g c =
+    let given = g.L.Library.sources c.args.library.now in
+    let f = c.in_ok-found.found in
+    let ts = found_templates f in
+    let ks = strings f.names.keys in
+    let hs = found_homes f in
+    let ws = graph_of f.ways.items in
+    let ns = graph_of f.next.items in
+    let found = c.in_ok-found.ensures.found in
+    let all : length ws ≡ length hs = length-map (λ (v : Vec ℕ Global). v.items) f.ways.items ∙ c.in_ok-found.ensures.all in
+    let e = c.in_err-check_chains.field-0.0 in
+    let p = err_from_is_err_and c.from_residual-in_err-check_chains.result c.from_residual-in_err-check_chains.ensures.1 in
+    rw (p.1, p.2)
+    (chain_breaks given c.args.options c.args.entry.now ts ks hs ws ns found c.in_ok-found.ensures.root all e c.in_err-check_chains.ensures.broken)
+
+pub order-requires : goal.order-requires
+order-requires g c =
+    let given = g.L.Library.sources c.args.library.now in
+    let f = c.in_ok-found.found in
+    let ts = found_templates f in
+    let ks = strings f.names.keys in
+    let hs = found_homes f in
+    let ws = graph_of f.ways.items in
+    let ns = graph_of f.next.items in
+    let found = c.in_ok-found.ensures.found in
+    let all : length ws ≡ length hs = length-map (λ (v : Vec ℕ Global). v.items) f.ways.items ∙ c.in_ok-found.ensures.all in
+    subst (λ (z : List (Vec ℕ Global)). IsClosed (graph_of z)) (sym c.deref.ensures.value) (closed given c.args.options c.args.entry.now ts ks hs ws ns found c.in_ok-found.ensures.root all)
+
+pub returns-in_err-order-clause-refused : goal.returns-in_err-order-clause-refused
+returns-in_err-order-clause-refused g c =
+    let given = g.L.Library.sources c.args.library.now in
+    let f = c.in_ok-found.found in
+    let ts = found_templates f in
+    let ks = strings f.names.keys in
+    let hs = found_homes f in
+    let ws = graph_of f.ways.items in
+    let ns = graph_of f.next.items in
+    let found = c.in_ok-found.ensures.found in
+    let all : length ws ≡ length hs = length-map (λ (v : Vec ℕ Global). v.items) f.ways.items ∙ c.in_ok-found.ensures.all in
+    let p = err_from_is_err_and c.from_residual-in_err-order.result c.from_residual-in_err-order.ensures.1 in
+    rw p.1
+    (order_breaks given c.args.options c.args.entry.now ts ks hs ws ns found c.in_ok-found.ensures.root all (graph_of c.deref.result.now) c.in_err-order.field-0.0 p.0 (ap graph_of c.deref.ensures.value) p.2
+    (λ q. c.in_err-order.ensures.cycle (ap Err q)))
+
+pub homes_in-requires-clause-within : goal.homes_in-requires-clause-within
+homes_in-requires-clause-within g c =
+    let given = g.L.Library.sources c.args.library.now in
+    let f = c.in_ok-found.found in
+    let ts = found_templates f in
+    let ks = strings f.names.keys in
+    let hs = found_homes f in
+    let ws = graph_of f.ways.items in
+    let ns = graph_of f.next.items in
+    let found = c.in_ok-found.ensures.found in
+    let all : length ws ≡ length hs = length-map (λ (v : Vec ℕ Global). v.items) f.ways.items ∙ c.in_ok-found.ensures.all in
+    let kept = c.in_ok-check_chains.ensures.kept in
+    let is = c.in_ok-order.order.items in
+    let o : IsOrder ns is = subst (λ (z : List (Vec ℕ Global)). IsOrder (graph_of z) is) c.deref.ensures.value c.in_ok-order.ensures.ordered in
+    let lens : length ns ≡ length f.ways.items = next_len given ts hs hs ws ns found.followed ∙ length-map (λ (v : Vec ℕ Global). v.items) f.ways.items in
+    subst (λ z. AllByRecursion (λ i. i < length f.ways.items) z) (sym c.deref-2.ensures.value) (subst (λ n. AllByRecursion (λ i. i < n) is) lens o.within)
+
+pub invariant_of-result : goal.invariant_of-result
+invariant_of-result g c =
+    let given = g.L.Library.sources c.args.library.now in
+    let f = c.in_ok-found.found in
+    let ts = found_templates f in
+    let ks = strings f.names.keys in
+    let hs = found_homes f in
+    let ws = graph_of f.ways.items in
+    let ns = graph_of f.next.items in
+    let found = c.in_ok-found.ensures.found in
+    let all : length ws ≡ length hs = length-map (λ (v : Vec ℕ Global). v.items) f.ways.items ∙ c.in_ok-found.ensures.all in
+    let kept = c.in_ok-check_chains.ensures.kept in
+    let is = c.in_ok-order.order.items in
+    let o : IsOrder ns is = subst (λ (z : List (Vec ℕ Global)). IsOrder (graph_of z) is) c.deref.ensures.value c.in_ok-order.ensures.ordered in
+    let homes = c.in_ok-homes.homes.items in
+    let has : HasHomes hs ws is homes = subst (λ z. HasHomes hs ws z homes) c.deref-2.ensures.value c.in_ok-homes.ensures in
+    let named = homes_named hs ws is homes has in
+    record {
+      once = found.known.read.once;
+      some = omega (arith, ap length named, length-map home_name homes, length-map (home_at hs) is, some_homes given c.args.options c.args.entry.now ts ks hs ws ns found c.in_ok-found.ensures.root all kept is o);
+      order = subst (InOrder (sources_in ts)) (sym named) (in_order given c.args.options c.args.entry.now ts ks hs ws ns found c.in_ok-found.ensures.root all kept is o);
+      whole = all_whole given c.args.options c.args.entry.now ts ks hs ws ns found c.in_ok-found.ensures.root all kept is o homes has;
+    }
+
+pub returns-clause-chained : goal.returns-clause-chained
+returns-clause-chained g c =
+    let given = g.L.Library.sources c.args.library.now in
+    let f = c.in_ok-found.found in
+    let ts = found_templates f in
+    let ks = strings f.names.keys in
+    let hs = found_homes f in
+    let ws = graph_of f.ways.items in
+    let ns = graph_of f.next.items in
+    let found = c.in_ok-found.ensures.found in
+    let all : length ws ≡ length hs = length-map (λ (v : Vec ℕ Global). v.items) f.ways.items ∙ c.in_ok-found.ensures.all in
+    let kept = c.in_ok-check_chains.ensures.kept in
+    let is = c.in_ok-order.order.items in
+    let o : IsOrder ns is = subst (λ (z : List (Vec ℕ Global)). IsOrder (graph_of z) is) c.deref.ensures.value c.in_ok-order.ensures.ordered in
+    let homes = c.in_ok-homes.homes.items in
+    let has : HasHomes hs ws is homes = subst (λ z. HasHomes hs ws z homes) c.deref-2.ensures.value c.in_ok-homes.ensures in
+    let named = homes_named hs ws is homes has in
+    subst (λ z. IsChain given c.args.entry.now c.args.options (record { templates = ts; order = z; escaping = c.args.options.autoescape })) (sym named)
+    (chained given c.args.options c.args.entry.now ts ks hs ws ns found c.in_ok-found.ensures.root all kept is o)
+
+pub returns-clause-weighs : goal.returns-clause-weighs
+returns-clause-weighs g c =
+    let given = g.L.Library.sources c.args.library.now in
+    let f = c.in_ok-found.found in
+    let ts = found_templates f in
+    let ks = strings f.names.keys in
+    let hs = found_homes f in
+    let ws = graph_of f.ways.items in
+    let ns = graph_of f.next.items in
+    let found = c.in_ok-found.ensures.found in
+    let all : length ws ≡ length hs = length-map (λ (v : Vec ℕ Global). v.items) f.ways.items ∙ c.in_ok-found.ensures.all in
+    let kept = c.in_ok-check_chains.ensures.kept in
+    let is = c.in_ok-order.order.items in
+    let o : IsOrder ns is = subst (λ (z : List (Vec ℕ Global)). IsOrder (graph_of z) is) c.deref.ensures.value c.in_ok-order.ensures.ordered in
+    let homes = c.in_ok-homes.homes.items in
+    let has : HasHomes hs ws is homes = subst (λ z. HasHomes hs ws z homes) c.deref-2.ensures.value c.in_ok-homes.ensures in
+    let named = homes_named hs ws is homes has in
+    subst (λ z. chains_weight (sources_in ts) z ≤ chains_len given (sources_in ts) z) (sym named) (weighs given c.args.options c.args.entry.now ts ks hs ws ns found c.in_ok-found.ensures.root all kept is o)
+
+pub returns-clause-short : goal.returns-clause-short
+returns-clause-short g c =
+    let f = c.in_ok-found.found in
+    all_short (g.L.Library.sources c.args.library.now) (found_templates f) c.in_ok-found.ensures.found.known.within
+
+pub returns-clause-few : goal.returns-clause-few
+returns-clause-few g c =
+    let given = g.L.Library.sources c.args.library.now in
+    let f = c.in_ok-found.found in
+    let ts = found_templates f in
+    let ks = strings f.names.keys in
+    let hs = found_homes f in
+    let ws = graph_of f.ways.items in
+    let ns = graph_of f.next.items in
+    let found = c.in_ok-found.ensures.found in
+    let all : length ws ≡ length hs = length-map (λ (v : Vec ℕ Global). v.items) f.ways.items ∙ c.in_ok-found.ensures.all in
+    let kept = c.in_ok-check_chains.ensures.kept in
+    let is = c.in_ok-order.order.items in
+    let o : IsOrder ns is = subst (λ (z : List (Vec ℕ Global)). IsOrder (graph_of z) is) c.deref.ensures.value c.in_ok-order.ensures.ordered in
+    let homes = c.in_ok-homes.homes.items in
+    let has : HasHomes hs ws is homes = subst (λ z. HasHomes hs ws z homes) c.deref-2.ensures.value c.in_ok-homes.ensures in
+    let named = homes_named hs ws is homes has in
+    subst (λ z. 7 * length z ≤ chains_weight (sources_in ts) z + 7) (sym named) (few_homes given c.args.options c.args.entry.now ts ks hs ws ns found c.in_ok-found.ensures.root all kept is o)

@@ -1,6 +1,6 @@
 use Rattle.std.proofs.Common.{◌≡◌, false, rules}
 use Rattle.std.proofs.lemmas.Result.{IfOk-weaker}
-use Rattle.clap.specs.Words.{Rule, rule_of}
+use Rattle.clap.specs.Words.{rule_of}
 use Rattle.jt_line.specs.Line.{context_rule}
 use Rattle.jt_line.proofs.Adding.{adds}
 use Rattle.jt_line.proofs.line.add_context.Goals as goal

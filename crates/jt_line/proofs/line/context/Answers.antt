@@ -1,4 +1,4 @@
-use Rattle.std.proofs.Common.{◌∙◌, ap, codes, option_map, sym, Some, List, ℕ, Bor, Option, ◌≡◌}
+use Rattle.std.proofs.Common.{◌∙◌, ap, codes, option_map, sym, Some, List, ℕ, Bor, ◌≡◌}
 use Rattle.clap.specs.Words.{found_of, first_value}
 use Rattle.clap.proofs.WalkLemmas.{first_value-rows}
 use Rattle.jt_line.proofs.line.context.Goals as goal

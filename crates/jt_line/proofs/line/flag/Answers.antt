@@ -1,7 +1,8 @@
-use Rattle.std.proofs.Common.{Option, subst}
+use Rattle.std.proofs.Common.{Option, subst, sym}
+use Rattle.std.specs.Prelude.{IfSome}
 use Rattle.clap.specs.Words.{Text, found_of, one_text}
 use Rattle.clap.proofs.WalkLemmas.{one_text-rows}
-use Rattle.jt_line.specs.Line.{IsFlag}
+use Rattle.jt_line.specs.Line.{IsFlag, IsSwitch}
 use Rattle.jt_line.proofs.Found.{flagged}
 use Rattle.jt_line.proofs.line.flag.Goals as goal
 
@@ -10,4 +11,5 @@ returns c =
     let found = found_of c.args.found.now in
     let name = c.args.name.now in
     subst (λ (text : Option Text). IsFlag text c.get_flag.result) (one_text-rows found name)
-    (flagged (one_text found name) c.get_flag.result c.get_flag.ensures.none c.get_flag.ensures.value c.get_flag.ensures.other)
+    (flagged (one_text found name) c.get_flag.result
+    (subst (λ (text : Option Text). IfSome text IsSwitch) (sym (one_text-rows found name)) c.requires) c.get_flag.ensures.none c.get_flag.ensures.value c.get_flag.ensures.other)

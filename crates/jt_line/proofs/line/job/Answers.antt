@@ -2,8 +2,10 @@ use Rattle.std.proofs.Common.{◌≡◌, ◌∙◌, ap, subst, sym, option_map, 
 use Rattle.clap.specs.Words.{App, app_of, fault_of, is_simple, is_simple_and_free, subcommand_of}
 use Rattle.clap.specs.Walk.{texts}
 use Rattle.std.proofs.lemmas.Result.{IfOk-weaker}
-use Rattle.jt_line.specs.Line.{program_app, IsAsked, IsKnown}
+use Rattle.std.specs.Prelude.{IfSome}
+use Rattle.jt_line.specs.Line.{program_app, HasNumbers, HasSwitches, IsAsked, IsKnown, Takes}
 use Rattle.jt_line.proofs.Found.{always, listed, usage_weaker}
+use Rattle.jt_line.proofs.Checked.{checked}
 use Rattle.jt_line.proofs.Commands.{is_clear, is_read, named}
 use Rattle.jt_line.proofs.line.job.Goals as goal
 
@@ -12,10 +14,13 @@ asked-requires c =
     let app = app_of c.in-Ok.program in
     let same : app ≡ program_app = c.in-Ok.ensures in
     let words = texts c.args.words.now in
-    let taken : fault_of app words ≡ [] = c.in-Ok-try_get_matches_from.ensures.kinds (ap is_simple_and_free same ∙ is_clear) in
-    let found = (c.in-Ok-try_get_matches_from.ensures.matches (ap is_simple same ∙ is_read)).1 in
-    subst IsKnown (sym (ap (option_map (λ p. p.0)) (found ∙ ap (λ (a : App). subcommand_of a words) same)))
-    (named words (subst (λ (a : App). fault_of a words ≡ []) same taken))
+    let clear : fault_of app words ≡ [] = c.in-Ok-try_get_matches_from.ensures.kinds (ap is_simple_and_free same ∙ is_clear) in
+    let taken : Takes words = subst (λ (a : App). fault_of a words ≡ []) same clear in
+    let found = (c.in-Ok-try_get_matches_from.ensures.matches (ap is_simple same ∙ is_read)).1 ∙ ap (λ (a : App). subcommand_of a words) same in
+    record {
+      known = subst IsKnown (sym (ap (option_map (λ p. p.0)) found)) (named words taken);
+      read = subst (λ o. IfSome o (λ p. HasNumbers p.1 × HasSwitches p.1)) (sym found) (checked words taken);
+    }
 
 pub returns-in-Ok-try_get_matches_from-clause-taken : goal.returns-in-Ok-try_get_matches_from-clause-taken
 returns-in-Ok-try_get_matches_from-clause-taken c =

@@ -1,8 +1,9 @@
-use Rattle.std.proofs.Common.{Option, subst}
+use Rattle.std.proofs.Common.{Option, subst, sym}
+use Rattle.std.specs.Prelude.{IfSome}
 use Rattle.std.specs.Str.Parse.{ParsesUnsigned, ExplainsUnsignedError, HasUnsignedDigitsIfOk}
 use Rattle.clap.specs.Words.{Text, found_of, one_text}
 use Rattle.clap.proofs.WalkLemmas.{one_text-rows}
-use Rattle.jt_line.specs.Line.{IsGiven}
+use Rattle.jt_line.specs.Line.{IsGiven, IsNumber}
 use Rattle.jt_line.proofs.Found.{given}
 use Rattle.jt_line.proofs.line.long_number.Goals as goal
 
@@ -12,4 +13,5 @@ returns c =
     let name = c.args.name.now in
     subst (λ (text : Option Text). IsGiven 64 c.args.default text c.unwrap_or.result) (one_text-rows found name)
     (given _ (λ bs r. ParsesUnsigned 64 10 bs r × ExplainsUnsignedError 10 bs r × HasUnsignedDigitsIfOk bs r) 64 c.args.default
-    (one_text found name) c.get_one.result c.unwrap_or.result (λ t x g. g.0) c.get_one.ensures.none c.get_one.ensures.value c.unwrap_or.ensures)
+    (one_text found name) c.get_one.result c.unwrap_or.result
+    (subst (λ (text : Option Text). IfSome text (IsNumber 64)) (sym (one_text-rows found name)) c.requires) (λ t x g. g.0) c.get_one.ensures.none c.get_one.ensures.value c.unwrap_or.ensures)

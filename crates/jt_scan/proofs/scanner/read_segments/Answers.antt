@@ -1,14 +1,13 @@
-use Rattle.std.proofs.Common.{◌≡◌, ◌+◌, ◌<◌, ◌∷◌, [], length, ap, subst, ◌∙◌, rules, arith}
+use Rattle.std.proofs.Common.{◌≡◌, ◌+◌, ◌<◌, length, subst, rules, arith}
 use Rattle.std.proofs.lemmas.Bool.Decides.{nat_tests}
-use Rattle.std.proofs.lemmas.List.{map-append}
 use Rattle.std.specs.Str.{chars}
 use Rattle.jt_scan.specs.Scanning.{cut, IsGiven}
-use Rattle.jt_scan.specs.View.{segment_view, cut_of}
+use Rattle.jt_scan.specs.View.{part_view, cut_of}
 use Rattle.jt_scan.proofs.Turns.{IsCutOff, cut_ends, segments_refused, segments_go_on, ends_with, leaves_less, line_is, lines_fit, line_goes_on, not_empty, no_chars, few_chars}
 use Rattle.jt_scan.proofs.scanner.read_segments.Goals as goal
 
-pub returns-in_err-found : goal.returns-in_err-found
-returns-in_err-found c =
+pub returns-in_err-found-clause-cut : goal.returns-in_err-found-clause-cut
+returns-in_err-found-clause-cut c =
     let t = chars c.args.text.now in
     let le : 0 < length c.segments.rest.now = grind (arith, nat_tests) in
     let g : IsGiven c.in_err-found.field-0.0 (cut t (length t + 1) t) =
@@ -18,7 +17,7 @@ returns-in_err-found c =
 pub before-requires : goal.before-requires
 before-requires c =
     let le : 0 < length c.segments.rest.now = grind (arith, nat_tests) in
-    ends_with c.segments.line (segment_view c.in_ok-found.found) (chars c.segments.rest.now) (chars c.in_ok-found.behind.now) (not_empty c.segments.rest.now c.segments.invariant.0 le) c.in_ok-found.ensures
+    ends_with c.segments.line (part_view c.in_ok-found.found) (chars c.segments.rest.now) (chars c.in_ok-found.behind.now) (not_empty c.segments.rest.now c.segments.invariant.0 le) c.in_ok-found.ensures
 
 pub overflow_cast-line : goal.overflow_cast-line
 overflow_cast-line c =
@@ -33,7 +32,7 @@ overflow_add-line c =
 pub segments-smaller : goal.segments-smaller
 segments-smaller c =
     let le : 0 < length c.segments.rest.now = grind (arith, nat_tests) in
-    leaves_less c.segments.line (segment_view c.in_ok-found.found) (chars c.segments.rest.now) (chars c.in_ok-found.behind.now) (not_empty c.segments.rest.now c.segments.invariant.0 le) c.in_ok-found.ensures
+    leaves_less c.segments.line (part_view c.in_ok-found.found) (chars c.segments.rest.now) (chars c.in_ok-found.behind.now) (not_empty c.segments.rest.now c.segments.invariant.0 le) c.in_ok-found.ensures
 
 pub segments-preserved : goal.segments-preserved
 segments-preserved c =
@@ -41,12 +40,12 @@ segments-preserved c =
     let le : 0 < length c.segments.rest.now = grind (arith, nat_tests) in (
       search rules,
       rw c.lines.ensures (line_goes_on c.segments.line t (chars c.segments.rest.now) (chars c.before-in-segments.result.now) (chars c.in_ok-found.behind.now) c.segments.invariant.1 c.before-in-segments.ensures),
-      segments_go_on t _ _ (segment_view c.in_ok-found.found) (chars c.segments.rest.now) (chars c.in_ok-found.behind.now) c.segments.line c.segments.invariant.2 (not_empty c.segments.rest.now c.segments.invariant.0 le) (line_is c.segments.line t (chars c.segments.rest.now) c.segments.invariant.1) c.in_ok-found.ensures
-          (ap cut_of c.in_ok-push.ensures.items ∙ map-append segment_view c.segments.segments.items (c.in_ok-found.found ∷ [])),
+      segments_go_on t _ _ (part_view c.in_ok-found.found) (chars c.segments.rest.now) (chars c.in_ok-found.behind.now) c.segments.line c.segments.invariant.2 (not_empty c.segments.rest.now c.segments.invariant.0 le) (line_is c.segments.line t (chars c.segments.rest.now) c.segments.invariant.1) c.in_ok-found.ensures c.in_ok-push_segment.ensures.cut,
+      c.in_ok-push_segment.ensures.options,
     )
 
-pub returns : goal.returns
-returns c =
+pub returns-clause-cut : goal.returns-clause-cut
+returns-clause-cut c =
     let t = chars c.args.text.now in
     let le : length c.segments.rest.now ≡ 0 = grind (arith, nat_tests) in
     cut_ends t (cut_of c.segments.segments.items) (subst (IsCutOff t (cut_of c.segments.segments.items)) (no_chars c.segments.rest.now le) c.segments.invariant.2)

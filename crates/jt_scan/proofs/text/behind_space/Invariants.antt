@@ -2,7 +2,7 @@ use Rattle.std.proofs.Common.{◌≡◌, length}
 use denote.Text.{Utf8}
 use denote.Shadow.{shadow}
 use Rattle.std.specs.Str.{chars}
-use Rattle.jt_scan.specs.Scanning.{after_space}
+use Rattle.jt_scan.specs.Cut.{after_space}
 use Rattle.jt_scan.proofs.text.behind_space.Given as goal
 
 abbrev pub invariant-space : goal.invariant-space

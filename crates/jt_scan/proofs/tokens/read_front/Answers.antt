@@ -6,7 +6,7 @@ use Rattle.jt_scan.proofs.Turns.{front_closed, front_spelled, front_refused}
 use Rattle.jt_scan.proofs.tokens.read_front.Goals as goal
 
 pub returns-in-Some : goal.returns-in-Some
-returns-in-Some c = front_closed c.args.kind c.args.line c.args.depth (chars c.args.text.now) (chars c.in-Some.rest.now) c.in-Some.ensures.0 c.in-Some.ensures.1
+returns-in-Some c = front_closed c.args.kind c.args.line c.args.depth (chars c.args.text.now) c.in-Some.mark (chars c.in-Some.rest.now) c.in-Some.ensures
 
 pub returns-in_err-token : goal.returns-in_err-token
 returns-in_err-token c =

@@ -15,9 +15,9 @@ returns-in_err-found c =
     let g : IsGiven c.in_err-found.field-0.0 whole = tokens_refused c.args.kind c.args.line whole _ _ _ _ c.in_err-found.field-0.0 c.tokens.invariant.2 c.behind_space.ensures c.in_err-found.ensures in
     search rules
 
-pub returns-in_default : goal.returns-in_default
-returns-in_default c =
-    tokens_end c.args.kind c.args.line _ _ _ _ _ _ c.tokens.invariant.2 c.behind_space.ensures (rw c.in_default.is at c.in_ok-found.ensures)
+pub returns-in-Closer : goal.returns-in-Closer
+returns-in-Closer c =
+    tokens_end c.args.kind c.args.line _ _ _ c.in-Closer.mark _ _ _ c.tokens.invariant.2 c.behind_space.ensures (rw c.in-Closer.is at c.in_ok-found.ensures)
 
 pub tokens-smaller : goal.tokens-smaller
 tokens-smaller c =

@@ -1,0 +1,143 @@
+#!/usr/bin/env python3
+"""Times `jt render` on filters whose input is a text of 1,000,000 letters or a list of 1,000,000 items.
+
+    bench/filters.py [--jt PATH] [--items N] [--steps N] [--runs N] [--most SECONDS] [NAME ..]
+
+Without --jt it takes the program that `rt run` keeps, crates/jt_cli/out/jt_cli. Each row is a template over `text`, letters
+in both cases, `numbers`, `texts` and `pairs`, a map, each of --items (1,000,000) letters, items or entries. It is rendered
+--runs times (1), and the shortest time is printed that the program took of a processor, less what a template took that
+only reads the same context. --steps N renders each row in N sizes, each twice the one before, --items being the greatest:
+a cost that grows faster than n log n shows. The last rows are no filters: a loop, calls of macros, chains of includes, and
+a join whose text would be too large. The status is 1 where a row took longer than --most (2 seconds), or where it is
+answered otherwise than it must be.
+"""
+import argparse, json, os, pathlib, resource, subprocess, sys, tempfile
+
+MILLION = 1_000_000
+BUDGET = ["--fuel", "4000000000000", "--output", "4000000000", "--size", "4000000000"]
+
+# name, what the context holds, the template, and the text that it gives, or the line's first words, for n items
+ROWS = [
+    ("abs", "numbers", "{{ numbers|first|abs }}", lambda n: "0"),
+    ("capitalize", "text", "{{ text|capitalize|length }}", str),
+    ("default", "numbers", "{{ numbers|default(1)|length }}", str),
+    ("dictsort", "pairs", "{{ pairs|dictsort|length }}", str),
+    ("escape", "text", "{{ text|escape|length }}", str),
+    ("first", "text", "{{ text|first }}", lambda n: "a"),
+    ("last", "numbers", "{{ numbers|last }}", lambda n: str(n - 1)),
+    ("forceescape", "text", "{{ text|forceescape|length }}", str),
+    ("int", "text", "{{ text|int }}", lambda n: "0"),
+    ("items", "pairs", "{{ pairs|items|length }}", str),
+    ("join", "texts", "{{ texts|join(',')|length }}", lambda n: str(8 * n - 1)),
+    ("join of markup", "texts", "{{ texts|join('<b>'|safe)|length }}", lambda n: str(10 * n - 3)),
+    ("length", "text", "{{ text|length }}", str),
+    ("list of a text", "text", "{{ text|list|length }}", str),
+    ("lower", "text", "{{ text|lower|length }}", str),
+    ("upper", "text", "{{ text|upper|length }}", str),
+    ("max", "numbers", "{{ numbers|max }}", lambda n: str(n - 1)),
+    ("max of texts", "texts", "{{ texts|max }}", lambda n: f"{n - 1:07}"),
+    ("min", "numbers", "{{ numbers|min }}", lambda n: "0"),
+    ("replace", "text", "{{ text|replace('a', 'bb')|length }}", lambda n: str(n + (n + 3) // 4)),
+    ("replace of nothing", "text", "{{ text|replace('zz', '')|length }}", str),
+    ("reverse of a text", "text", "{{ text|reverse|length }}", str),
+    ("reverse", "numbers", "{{ numbers|reverse|first }}", lambda n: str(n - 1)),
+    ("safe", "text", "{{ text|safe|length }}", str),
+    ("sort", "numbers", "{{ numbers|sort(true)|first }}", lambda n: str(n - 1)),
+    ("sort of texts", "texts", "{{ texts|sort|first }}", lambda n: "0000000"),
+    ("string", "text", "{{ text|string|length }}", str),
+    ("sum", "numbers", "{{ numbers|sum }}", lambda n: str(n * (n - 1) // 2)),
+    ("trim", "text", "{{ (' ' ~ text ~ ' ')|trim|length }}", str),
+    ("unique", "numbers", "{{ numbers|unique|length }}", str),
+    ("unique of texts", "texts", "{{ texts|unique|length }}", str),
+    ("a loop", "numbers", "{% for x in numbers %}{% endfor %}{{ numbers|length }}", str),
+    ("a loop with a condition", "numbers", "{% for x in numbers if x < 3 %}{{ x }}{% endfor %}", lambda n: "012"),
+    ("a loop over range", None, "{% for x in range(N) %}{% endfor %}", lambda n: ""),
+]
+
+
+def held(kind, n):
+    """What the context holds under its name."""
+    if kind == "text":
+        return ("aBcD" * (n // 4 + 1))[:n]
+    if kind == "numbers":
+        return list(range(n))
+    if kind == "texts":
+        return [f"{i:07}" for i in range(n)]
+    return {f"{i:07}": i for i in range(n)}
+
+
+def processor_seconds():
+    used = resource.getrusage(resource.RUSAGE_CHILDREN)
+    return used.ru_utime + used.ru_stime
+
+
+def rendered(jt, folder, name, options=BUDGET):
+    """The seconds that the program took of a processor, and its text or its line."""
+    begin = processor_seconds()
+    ran = subprocess.run([jt, "render", "d", name, "context.json", *options], cwd=folder, capture_output=True)
+    took = processor_seconds() - begin
+    told = ran.stderr if ran.returncode else ran.stdout
+    return took, told.decode(errors="replace").strip()
+
+
+def row(jt, kind, template, n, runs):
+    """The shortest of some runs, less reading the context, and the answer."""
+    with tempfile.TemporaryDirectory() as folder:
+        os.mkdir(f"{folder}/d")
+        pathlib.Path(folder, "context.json").write_text(json.dumps({kind: held(kind, n)} if kind else {}))
+        pathlib.Path(folder, "d", "t").write_text(template.replace("N", str(n)))
+        pathlib.Path(folder, "d", "empty").write_text("")
+        found = [rendered(jt, folder, "t") for _ in range(runs)]
+        read = min(rendered(jt, folder, "empty")[0] for _ in range(runs))
+    return max(min(took for took, _ in found) - read, 0), found[0][1]
+
+
+def others(jt):
+    """Rows that are no filters: a name, the seconds, the answer and the answer's beginning that it must have."""
+    with tempfile.TemporaryDirectory() as folder:
+        os.mkdir(f"{folder}/d")
+        pathlib.Path(folder, "context.json").write_text(json.dumps({"a": "a" * 100_000}))
+        write = lambda name, text: pathlib.Path(folder, "d", name).write_text(text)
+        write("join", "{{ range(100000)|join(a) }}")
+        write("calls", "{% macro m(n) %}{% if n > 0 %}{{ m(n - 1) }}{% endif %}{{ n }}{% endmacro %}{{ m(40) }}")
+        for i in range(1023):
+            write(f"c{i}", f'{{% include "c{i + 1}" %}}')
+        write("c1023", "end")
+        yield "a join that is too large", *rendered(jt, folder, "join", []), "jt: spent Size"
+        yield "m(40) within 1,000 calls", *rendered(jt, folder, "calls", ["--depth", "1000"]), "0123456789"
+        yield "1,024 templates that include one another", *rendered(jt, folder, "c0", ["--depth", "2000"]), "end"
+
+
+def main():
+    here = pathlib.Path(__file__).resolve().parent
+    parser = argparse.ArgumentParser(description=__doc__, formatter_class=argparse.RawDescriptionHelpFormatter)
+    parser.add_argument("--jt", default=str(here.parent / "crates/jt_cli/out/jt_cli"))
+    parser.add_argument("--items", type=int, default=MILLION)
+    parser.add_argument("--steps", type=int, default=1)
+    parser.add_argument("--runs", type=int, default=1)
+    parser.add_argument("--most", type=float, default=2.0)
+    parser.add_argument("names", nargs="*")
+    asked = parser.parse_args()
+    jt, failed = os.path.abspath(asked.jt), 0
+
+    def say(name, times, answer, is_right):
+        nonlocal failed
+        wrong = [] if is_right else [f"another answer: {answer[:60]}"]
+        wrong += ["slow"] if times[-1] > asked.most else []
+        failed += bool(wrong)
+        print(" ".join(f"{took:8.3f} s" for took in times) + f"  {name}" + "".join(f"  <-- {it}" for it in wrong), flush=True)
+
+    sizes = [asked.items >> step for step in reversed(range(asked.steps))]
+    for name, kind, template, wanted in ROWS:
+        if not asked.names or name in asked.names:
+            found = [row(jt, kind, template, n, asked.runs) for n in sizes]
+            say(name, [took for took, _ in found], found[-1][1], all(told == wanted(n) for (_, told), n in zip(found, sizes)))
+    for name, took, answer, begins in others(jt):
+        if not asked.names or name in asked.names:
+            say(name, [took], answer, answer.startswith(begins))
+    print(f"{failed} out of order")
+    sys.exit(failed > 0)
+
+
+if __name__ == "__main__":
+    main()

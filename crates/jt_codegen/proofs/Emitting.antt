@@ -1,0 +1,180 @@
+-- The code of statements, put behind other code.
+use Rattle.std.proofs.Common.{◌≡◌, ℕ, zero, suc, ◌+◌, ◌-◌, ◌<◌, ◌≤◌, ◌^◌, Bool, true, false, List, [], ◌∷◌, ◌++◌, length, drop, get_or, map, Option, Some, None, Vec, Global, refl, sym, ap, ◌∙◌, subst, arith, length-append}
+use Rattle.std.specs.Prelude.{min, nat_lt, option_map}
+use Rattle.std.specs.List.{AllByRecursion}
+use Rattle.std.proofs.lemmas.List.{drop_more, at_drop_all}
+use Rattle.std.proofs.lemmas.Bool.Decides.{nat_tests}
+use Rattle.jt_image.specs.declared.instruction.Instruction.TheVariants as op
+use Rattle.jt_parse.specs.Trees.{Text}
+use Rattle.jt_slots.specs.Got.{Place}
+use Rattle.jt_slots.specs.Slots as slots
+use Rattle.jt_slots.specs.Slots.{SBody}
+use Rattle.jt_slots.specs.View.{Front, slot_view, place_view, expr_view, stmt_view, body_view, choice_view}
+use Rattle.jt_slots.specs.declared.program.Slot.{Slot}
+use Rattle.jt_slots.specs.declared.program.SExpr.{SExpr}
+use Rattle.jt_slots.specs.declared.program.SStmt.{SStmt}
+use Rattle.jt_lower.specs.Asm.{Asm, nil, one, both, choose}
+use Rattle.jt_lower.specs.Lower.{expr_asm, store_if_of, stores_asm, stmt_asm, body_asm}
+use Rattle.jt_lower.specs.Emission.{StandsFor, Puts, Reserves, Patches, Ends}
+use Rattle.jt_lower.specs.declared.emitter.Emitter.{Emitter}
+use Rattle.jt_codegen.specs.Statements.{slots_view, Emits, Closes}
+use Rattle.jt_codegen.proofs.Fronts.{SBranch}
+use Rattle.jt_codegen.proofs.Putting.{puts_nothing, puts_then, puts_as, puts_last, puts_first, puts_choice, reserved_len, reserved_within, ended_len, ended_within}
+
+pub stands_raised : (n m h : ℕ) → m ≡ min (n + 1) 18446744073709551615 → StandsFor n h → StandsFor m (suc h)
+stands_raised n m h same s = through (nat_lt n (2 ^ 32)) refl
+  where
+    through : (b : Bool) → nat_lt n (2 ^ 32) ≡ b → StandsFor m (suc h)
+    through true e = let lt : n < 2 ^ 32 = grind (arith, nat_tests, e) in let is : n ≡ h = s.same lt in record { same = λ k. omega (arith, is, same, k, lt); above = λ k. omega (arith, is, same, k, lt) }
+    through false e = let le : 2 ^ 32 ≤ n = grind (arith, nat_tests, e) in let is : 2 ^ 32 ≤ h = s.above le in record { same = λ k. absurd (omega (arith, same, k, le)); above = λ k. omega (arith, is) }
+
+pub stands_itself : (n : ℕ) → StandsFor n n
+stands_itself n = record { same = λ l. refl; above = λ l. l }
+
+-- ---- statements
+
+-- a statement alone in front of others
+pub emits_one : (h : ℕ) (old new : Emitter) (s : slots.SStmt ℕ) → Puts old (stmt_asm s h) new → Emits h old (λ behind. slots.stmt s behind) new
+emits_one h old new s p = λ behind final q. puts_then old new final (stmt_asm s h) (body_asm behind h) p q
+
+pub emits_as : (h : ℕ) (old new : Emitter) (f g : Front) → ((behind : SBody ℕ) → f behind ≡ g behind) → Emits h old g new → Emits h old f new
+emits_as h old new f g same e = λ behind final q. subst (λ b. Puts old (body_asm b h) final) (sym (same behind)) (e behind final q)
+
+-- statements alone
+pub emits_alone : (h : ℕ) (old new : Emitter) (f : Front) → Emits h old f new → Puts old (body_asm (f slots.end) h) new
+emits_alone h old new f e = e slots.end new (puts_nothing new)
+
+-- whatever comes last: all stand behind the old code when those that are left stand behind the new one
+abbrev pub Leads : ℕ → Emitter → Front → Emitter → Front → Type 0
+Leads h old all now left = (behind : SBody ℕ) (final : Emitter) → Puts now (body_asm (left behind) h) final → Puts old (body_asm (all behind) h) final
+
+module _ (templates : List Text) (h : ℕ) where
+  statements_left : (ss : List SStmt) (i : ℕ) (s : SStmt) → i < length ss → s ≡ get_or ss i s → (behind : SBody ℕ) → body_view templates (drop i ss) behind ≡ stmt_view templates s (body_view templates (drop (i + 1) ss) behind)
+  statements_left ss i s lt is behind =
+      ap (λ l. body_view templates l behind) (drop_more ss i s lt) ∙ ap (λ (x : SStmt). stmt_view templates x (body_view templates (drop (i + 1) ss) behind)) (sym is)
+
+  pub leads_more : (ss : List SStmt) (i : ℕ) (s : SStmt) (old now new : Emitter) (all : Front) → i < length ss → s ≡ get_or ss i s → Leads h old all now (body_view templates (drop i ss)) → Emits h now (stmt_view templates s) new
+      → Leads h old all new (body_view templates (drop (i + 1) ss))
+  leads_more ss i s old now new all lt is l e = λ behind final q.
+      l behind final (subst (λ b. Puts now (body_asm b h) final) (sym (statements_left ss i s lt is behind)) (e (body_view templates (drop (i + 1) ss) behind) final q))
+
+  pub leads_all : (ss : List SStmt) (i : ℕ) (old now : Emitter) (all : Front) → length ss ≤ i → Leads h old all now (body_view templates (drop i ss)) → Emits h old all now
+  leads_all ss i old now all le l = λ behind final q.
+      l behind final (subst (λ b. Puts now (body_asm b h) final) (sym (at_drop_all (λ es. body_view templates es behind) ss i le)) q)
+
+  -- ---- branches
+
+  -- a branch, and code for where it is not taken
+  abbrev pub first_asm : SBranch → Asm → Asm
+  first_asm b other = both (expr_asm (Some (place_view templates b.0)) (expr_view b.1) h) (choose (body_asm (body_view templates b.2.items slots.end) h) other)
+
+  -- branches, and code for where none is taken
+  abbrev pub inner_asm : List SBranch → Asm → Asm
+  inner_asm [] other = other
+  inner_asm (b ∷ bs) other = both (first_asm b (inner_asm bs other)) nil
+
+  inner_is : (bs : List SBranch) (other : Front) → body_asm (choice_view templates bs other slots.end) h ≡ inner_asm bs (body_asm (other slots.end) h)
+  inner_is [] other = refl
+  inner_is (b ∷ bs) other = ap (λ x. both (first_asm b x) nil) (inner_is bs other)
+
+  -- the same of branches, the last jumps of which aren't written yet: they stand at the ends, and go behind whatever comes last
+  pub record Opens (old : Emitter) (all : List SBranch) (now : Emitter) (left : List SBranch) (ends : List ℕ) : Type 0 where
+    pub counted : length ends + length left ≡ length all
+    pub within : AllByRecursion (λ e. e < length now.code.items) ends
+    pub puts : (other : Asm) (final done : Emitter) → Puts now (inner_asm left other) final → Closes final ends done → Puts old (inner_asm all other) done
+
+  pub opens_first : (old : Emitter) (all : List SBranch) → Opens old all old all []
+  opens_first old all = record { counted = omega arith; within = tt; puts = λ other final done p same. subst (λ z. Puts old (inner_asm all other) z) (sym same) p }
+
+  closes_snoc : (final done : Emitter) (es : List ℕ) (m : ℕ) → Closes final (es ++ m ∷ []) done → (mid : Emitter) × Patches final m (op.Jump (length final.code.items)) mid × Closes mid es done
+  closes_snoc final done [] m c = (done, subst (λ z. Patches z m (op.Jump (length z.code.items)) done) c.1 c.2, refl)
+  closes_snoc final done (e ∷ es) m c = let r = closes_snoc final c.0 es m c.1 in (r.0, r.1, (c.0, r.2, c.2))
+
+  all_below : (es : List ℕ) (n m : ℕ) → n ≤ m → AllByRecursion (λ e. e < n) es → AllByRecursion (λ e. e < m) es
+  all_below [] n m le a = tt
+  all_below (e ∷ es) n m le a = (omega (arith, le, a.0), all_below es n m le a.1)
+
+  within_more : (es : List ℕ) (n m e : ℕ) → n ≤ m → e < m → AllByRecursion (λ e. e < n) es → AllByRecursion (λ e. e < m) (es ++ e ∷ [])
+  within_more [] n m e le lt a = (lt, tt)
+  within_more (x ∷ es) n m e le lt a = (omega (arith, le, a.0), within_more es n m e le lt a.1)
+
+  pub opens_more : (bs : List SBranch) (i : ℕ) (b : SBranch) (ss : List SStmt) (old now c1 c2 c3 c4 : Emitter) (ends : List ℕ) (choice last : ℕ) → i < length bs → b ≡ get_or bs i b → ss ≡ b.2.items → Opens old bs now (drop i bs) ends
+      → Puts now (expr_asm (Some (place_view templates b.0)) (expr_view b.1) h) c1 → Reserves c1 (op.JumpIfFalse 0) choice c2 → Emits h c2 (body_view templates ss) c3 → Ends c3 choice last c4
+      → Opens old bs c4 (drop (i + 1) bs) (ends ++ last ∷ [])
+  opens_more bs i b ss old now c1 c2 c3 c4 ends choice last lt is same o tested tests taken ended = record {
+    counted = omega (arith, o.counted, length-append ends (last ∷ []), ap length (drop_more bs i b lt));
+    within = within_more ends (length now.code.items) (length c4.code.items) last longer (omega (arith, ended.reserves.at, ended_len c3 c4 choice last ended)) o.within;
+    puts = λ other final done q c.
+        let r = closes_snoc final done ends last c in
+        let rest = inner_asm (drop (i + 1) bs) other in
+        let whole : Puts now (both (first_asm b rest) nil) r.0 = puts_last now r.0 (first_asm b rest) (puts_then now c1 r.0 x (choose a rest) tested (puts_choice c1 c2 c3 c4 final r.0 a rest choice last tests body ended q r.1)) in
+        o.puts other r.0 done (subst (λ z. Puts now z r.0) (sym (left other)) whole) r.2;
+  }
+    where
+      x : Asm
+      x = expr_asm (Some (place_view templates b.0)) (expr_view b.1) h
+
+      a : Asm
+      a = body_asm (body_view templates b.2.items slots.end) h
+
+      body : Puts c2 a c3
+      body = subst (λ l. Puts c2 (body_asm (body_view templates l slots.end) h) c3) same (emits_alone h c2 c3 (body_view templates ss) taken)
+
+      longer : length now.code.items ≤ length c4.code.items
+      longer = omega (arith, tested.len, reserved_len c1 c2 (op.JumpIfFalse 0) choice tests, body.len, ended_len c3 c4 choice last ended)
+
+      left : (other : Asm) → inner_asm (drop i bs) other ≡ both (first_asm b (inner_asm (drop (i + 1) bs) other)) nil
+      left other = ap (λ l. inner_asm l other) (drop_more bs i b lt) ∙ ap (λ (z : SBranch). both (first_asm z (inner_asm (drop (i + 1) bs) other)) nil) (sym is)
+
+  pub opens_within : (old now new : Emitter) (bs : List SBranch) (left : List SBranch) (other : Front) (ends es : List ℕ) → Opens old bs now left ends → Emits h now other new → es ≡ ends → AllByRecursion (λ e. e < length new.code.items) es
+  opens_within old now new bs left other ends es o e same =
+      let p = emits_alone h now new other e in
+      subst (AllByRecursion (λ e. e < length new.code.items)) (sym same) (all_below ends (length now.code.items) (length new.code.items) (omega (arith, p.len)) o.within)
+
+  no_ends : (es : List ℕ) (n : ℕ) → length es + 0 ≡ 0 → es ≡ []
+  no_ends [] n e = refl
+  no_ends (x ∷ es) n e = absurd (omega (arith, e))
+
+  -- branches and the else part, whole
+  pub emits_branches : (bs : List SBranch) (i : ℕ) (other : Front) (old now new done : Emitter) (ends es : List ℕ) → length bs ≤ i → Opens old bs now (drop i bs) ends → Emits h now other new → es ≡ ends → Closes new es done → Emits h old (choice_view templates bs other) done
+  emits_branches bs i other old now new done ends es le o e same closes = λ behind final q. by bs (subst (λ l. Opens old bs now l ends) (at_drop_all (λ l. l) bs i le) o) behind final q
+    where
+      closed : Closes new ends done
+      closed = subst (λ l. Closes new l done) same closes
+
+      by : (cs : List SBranch) → Opens old cs now [] ends → (behind : SBody ℕ) (final : Emitter) → Puts done (body_asm behind h) final → Puts old (body_asm (choice_view templates cs other behind) h) final
+      by [] p behind final q =
+          let none = no_ends ends 0 p.counted in
+          let is : done ≡ new = subst (λ l. Closes new l done) none closed in
+          p.puts (body_asm (other behind) h) final final (e behind final (subst (λ z. Puts z (body_asm behind h) final) is q)) (subst (λ l. Closes final l final) (sym none) refl)
+      by (c ∷ cs) p behind final q =
+          let whole = p.puts (body_asm (other slots.end) h) new done (emits_alone h now new other e) closed in
+          let first = first_asm c (inner_asm cs (body_asm (other slots.end) h)) in
+          let seen : first_asm c (body_asm (choice_view templates cs other slots.end) h) ≡ first = ap (first_asm c) (inner_is cs other) in
+          subst (λ z. Puts old (both z (body_asm behind h)) final) (sym seen) (puts_then old done final first (body_asm behind h) (puts_first old done first whole) q)
+
+-- ---- jumps that are closed, and slots, from the last one on
+
+pub closes_len : (old new : Emitter) (es : List ℕ) → Closes old es new → length new.code.items ≡ length old.code.items
+closes_len old new [] c = ap (λ (z : Emitter). length z.code.items) c
+closes_len old new (e ∷ es) c = c.2.len ∙ closes_len old c.0 es c.1
+
+pub below_at : (es : List ℕ) (n i : ℕ) → AllByRecursion (λ e. e < n) es → i < length es → get_or es i 0 < n
+below_at [] n i a lt = absurd (omega (arith, lt))
+below_at (e ∷ es) n zero a lt = a.0
+below_at (e ∷ es) n (suc i) a lt = below_at es n i a.1 (omega (arith, lt))
+
+pub drop_before : {A : Type 0} (xs : List A) (at : ℕ) (d : A) → 0 < at → at ≤ length xs → drop (at - 1) xs ≡ get_or xs (at - 1) d ∷ drop at xs
+drop_before xs at d some le =
+    let lt : at - 1 < length xs = omega (arith, some, le) in
+    let next : at - 1 + 1 ≡ at = omega (arith, some) in
+    drop_more xs (at - 1) d lt ∙ ap (λ n. get_or xs (at - 1) d ∷ drop n xs) next
+
+pub stores_more : (o : Option Place) (ss : List (Option Slot)) (at : ℕ) (d s : Option Slot) (c0 c1 c2 : Emitter) → 0 < at → at ≤ length ss → get_or ss (at - 1) d ≡ s → Puts c0 (stores_asm o (slots_view (drop at ss))) c1 → Puts c1 (one o (store_if_of (option_map slot_view s))) c2
+    → Puts c0 (stores_asm o (slots_view (drop (at - 1) ss))) c2
+stores_more o ss at d s c0 c1 c2 some le is p q =
+    let left : drop (at - 1) ss ≡ s ∷ drop at ss = drop_before ss at d some le ∙ ap (λ x. x ∷ drop at ss) is in
+    subst (λ l. Puts c0 (stores_asm o (slots_view l)) c2) (sym left) (puts_then c0 c1 c2 (stores_asm o (slots_view (drop at ss))) (one o (store_if_of (option_map slot_view s))) p q)
+
+pub stores_all : (o : Option Place) (ss : List (Option Slot)) (at : ℕ) (c0 c1 : Emitter) → at ≤ 0 → Puts c0 (stores_asm o (slots_view (drop at ss))) c1 → Puts c0 (stores_asm o (slots_view ss)) c1
+stores_all o ss at c0 c1 le p = let none : at ≡ 0 = omega (arith, le) in subst (λ n. Puts c0 (stores_asm o (slots_view (drop n ss))) c1) none p

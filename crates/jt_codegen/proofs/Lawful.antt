@@ -1,0 +1,570 @@
+-- What is resolved is lawful: its slots are globals that there are, and its constants values that have a place.
+use Rattle.std.proofs.Common.{◌≡◌, ℕ, zero, suc, ◌+◌, ◌<◌, ◌≤◌, Bool, true, false, if◌then◌else◌, List, [], ◌∷◌, ◌++◌, length, Option, Some, None, arith, refl, sym, ap, ◌∙◌, subst, length-append}
+use Rattle.std.specs.Option.{is_none}
+use Rattle.std.specs.List.{AllByRecursion}
+use Rattle.std.specs.Str.{bytes_eq}
+use Rattle.std.specs.Prelude as prelude
+use Rattle.std.specs.Prelude.{map, flat_map, codes, ◌||◌}
+use Rattle.std.proofs.lemmas.Slice.Eq.{bytes_eq-Decides}
+use Rattle.std.proofs.lemmas.List.{length-map}
+use Rattle.jt_value.specs.Tree as tree
+use Rattle.jt_value.specs.Tree.{Tree}
+use Rattle.jt_ops.specs.declared.op_id.OpId.TheVariants as op
+use Rattle.jt_ops.specs.declared.test_id.TestId.{TestId}
+use Rattle.jt_expr.specs.Trees as written
+use Rattle.jt_expr.specs.Trees.{Expr, Literal, constant, name, group, list_of, map_of, attribute, item, call, filter, test, unary, binary, when, choice, Exprs, no_exprs, expr, Pairs, no_pairs, pair}
+use Rattle.jt_meaning.specs.Operators.{Form, operation, negation, conjunction, disjunction, form}
+use Rattle.jt_slots.specs.Got.{Place}
+use Rattle.jt_slots.specs.Tests.{test_named}
+use Rattle.jt_slots.specs.Values.{literal, as_value}
+use Rattle.jt_inherit.specs.Uses.{count, keywords, set_in, own_names}
+use Rattle.jt_inherit.specs.Includes.{included}
+use Rattle.jt_parse.specs.Trees.{Text, Parameter, Filtering, Stmt, data_of, print, choose, for_each, set, set_block, with_values, filter_block, autoescape, macro, include, extends, block, Body, end, stmt, Branches, no_branches, branch}
+use Rattle.jt_inherit.specs.Chain.{Home, Template, templates, BlockBody, MacroBody, macros, macro_of, Callee, a_macro, a_range, a_super, a_block, a_cycle, no_callee, named_alone, named_in, callee, is_loop}
+use Rattle.jt_slots.specs.Loops.{Field, field_named}
+use Rattle.jt_slots.specs.Filters.{default_value, some_given}
+use Rattle.jt_parse.specs.Texts.{among, ascending}
+use Rattle.jt_rules.specs.World.{World}
+use Rattle.jt_meaning.specs.Expressions.{filter_parameters}
+use Rattle.jt_meaning.specs.Layout.{Table, slot_in, globals_from, defaults_of, first_default, names_in, names, first_in, numbered_bodies, numbered_of, globals, block_parameters, shared, default_in, default_place, first_slot, unit, of_chain}
+use Rattle.jt_meaning.specs.Meaning.{is_set}
+use Rattle.jt_meaning.specs.Programs.{body_routines, chain_routines, routines, count_globals, program}
+use Rattle.jt_slots.specs.Slots as slots
+use Rattle.jt_slots.specs.Slots.{Slot, local, global, SExpr, SRow, Targets, one, several, SBody, variable, run, Routine}
+use Rattle.jt_slots.specs.Takes.{BodyTakes}
+use Rattle.jt_slots.specs.TheFilters.{the_filters}
+use Rattle.jt_slots.specs.Pool.{Constant, own, known}
+use Rattle.jt_meaning.specs.Resolve.{value_or, read_from, turned_round, tested_by, filtered_by, in_form, field_from, followed, locals_from, fresh, fresh_targets, kept_slots, slot_of, set_targets, filled, filled_some, first_locals, reads, handed_on, Part, Spot, place, grown, bound_table, bound_all, copied, scoped, next_given, first_body, invoked_body, invoked_super, invoked, resolved, resolved_row, resolved_asides, resolved_entries, resolved_condition, resolved_filters, resolved_values, placed_body, resolved_stmt, resolved_body, resolved_choice, top_spot, resolved_sets, resolved_chain, resolved_routine, chain_routine, macro_routine}
+use Rattle.jt_lower.specs.Fits.{IsBare, IsPooled}
+use Rattle.jt_lower.specs.Lawful.{ConstantLawful, SlotLawful, ExprLawful, RowLawful, SomeLawful, SlotsLawful, TargetsLawful, ConditionLawful, StmtLawful, BodyLawful, RoutineLawful, AreLawful}
+
+literal_pooled : (l : Literal) → IsPooled (literal l)
+literal_pooled (written.number n) = tt
+literal_pooled (written.text s) = tt
+literal_pooled (written.truth b) = tt
+literal_pooled written.nothing = tt
+
+default_pooled : (l : Option Literal) → IsPooled (default_value l)
+default_pooled None = tt
+default_pooled (Some l) = literal_pooled l
+
+as_pooled : (b : Bool) (s : Text) → IsPooled (as_value b s)
+as_pooled true s = tt
+as_pooled false s = tt
+
+module _ (front globals_count : ℕ) (some : 0 < front) where
+  abbrev E : SExpr Constant → Type 0
+  E = ExprLawful front globals_count
+
+  abbrev R : SRow Constant → Type 0
+  R = RowLawful front globals_count
+
+  abbrev B : SBody Constant → Type 0
+  B = BodyLawful front globals_count
+
+  abbrev S : Slot → Type 0
+  S = SlotLawful front globals_count
+
+  abbrev pub Fine : Table → Type 0
+  Fine t = AllByRecursion (λ e. S e.1) t
+
+  abbrev SomeFine : Option Slot → Type 0
+  SomeFine = SomeLawful front globals_count
+
+  slot_fine : (t : Table) (x : Text) → Fine t → SomeFine (slot_in x t)
+  slot_fine [] x h = tt
+  slot_fine (b ∷ bs) x h = through (bytes_eq b.0 x) (slot_fine bs x h.1)
+    where
+      through : (c : Bool) → SomeFine (slot_in x bs) → SomeFine (if c then Some b.1 else slot_in x bs)
+      through true g = h.0
+      through false g = g
+
+  of_fine : (t : Table) (x : Text) → Fine t → S (slot_of x t)
+  of_fine [] x h = tt
+  of_fine (b ∷ bs) x h = through (bytes_eq b.0 x) (of_fine bs x h.1)
+    where
+      through : (c : Bool) → S (slot_of x bs) → S (if c then b.1 else slot_of x bs)
+      through true g = h.0
+      through false g = g
+
+  value_fine : (s : Option Slot) (k : Constant) → SomeFine s → ConstantLawful front globals_count k → E (value_or s k)
+  value_fine None k h g = g
+  value_fine (Some s) k h g = h
+
+  read_fine : (s : Option Slot) → SomeFine s → E (read_from s)
+  read_fine s h = value_fine s (known 0) h some
+
+  from_fine : (m : ℕ) (xs : List Text) → Fine (locals_from m xs)
+  from_fine m [] = tt
+  from_fine m (x ∷ xs) = (tt, from_fine (suc m) xs)
+
+  pub globals_fine : (m : ℕ) (xs : List Text) → m + length xs ≤ globals_count → Fine (globals_from m xs)
+  globals_fine m [] h = tt
+  globals_fine m (x ∷ xs) h = (omega (arith, h), globals_fine (suc m) xs (omega (arith, h)))
+
+  pub bound_fine : (xs : List Text) (m : ℕ) (t : Table) → Fine t → Fine (bound_table xs m t)
+  bound_fine [] m t g = g
+  bound_fine (x ∷ xs) m t g = bound_fine xs (suc m) ((x, local m) ∷ t) (tt, g)
+
+  field_fine : (f : Option Field) → E (field_from f)
+  field_fine None = some
+  field_fine (Some f) = tt
+
+  either_fine : (b : Bool) (x y : SExpr Constant) → E x → E y → E (if b then x else y)
+  either_fine true x y h k = h
+  either_fine false x y h k = k
+
+  turned_fine : (b : Bool) (e : SExpr Constant) → E e → E (turned_round b e)
+  turned_fine false e h = h
+  turned_fine true e h = (h, tt)
+
+  tested_fine : (t : Option TestId) (es : SRow Constant) → R es → E (tested_by t es)
+  tested_fine None es h = tt
+  tested_fine (Some t) es h = h
+
+  filtered_fine : (f : Option ℕ) (b : Bool) (es : SRow Constant) → R es → E (filtered_by f b es)
+  filtered_fine None b es h = tt
+  filtered_fine (Some f) b es h = h
+
+  form_fine : (f : Form) (a b : SExpr Constant) → E a → E b → E (in_form f a b)
+  form_fine (operation o) a b h k = (h, (k, tt))
+  form_fine (negation o) a b h k = ((h, (k, tt)), tt)
+  form_fine conjunction a b h k = (h, k)
+  form_fine disjunction a b h k = (h, k)
+
+  filled_fine : (ps : List Parameter) (m d : ℕ) (ks : Table) → d + length ps ≤ front → Fine ks → R (filled ps m d ks)
+  filled_fine [] m d ks l h = tt
+  filled_fine (p ∷ ps) (suc m) d ks l h = filled_fine ps m (suc d) ks (omega (arith, l)) h
+  filled_fine (p ∷ ps) zero d ks l h = (value_fine (slot_in p.name ks) (known d) (slot_fine ks p.name h) (let lt : d < front = omega (arith, l) in lt), filled_fine ps zero (suc d) ks (omega (arith, l)) h)
+
+  some_fine : (ps : List Parameter) (m : ℕ) (xs : List Text) (ks : Table) → Fine ks → R (filled_some ps m xs ks)
+  some_fine [] m xs ks h = tt
+  some_fine (p ∷ ps) (suc m) xs ks h = some_fine ps m xs ks h
+  some_fine (p ∷ ps) zero xs ks h = through (some_given (p ∷ ps) xs) (some_fine ps zero xs ks h)
+    where
+      d : Constant
+      d = own (default_value p.default)
+
+      through : (b : Bool) → R (filled_some ps zero xs ks) → R (if b then slots.item (value_or (slot_in p.name ks) d) (filled_some ps zero xs ks) else slots.none)
+      through true g = (value_fine (slot_in p.name ks) d (slot_fine ks p.name h) (default_pooled p.default), g)
+      through false g = tt
+
+  first_fine : (m : ℕ) (xs : List Text) → R (first_locals m xs)
+  first_fine m [] = tt
+  first_fine m (x ∷ xs) = (tt, first_fine (suc m) xs)
+
+  reads_fine : (t : Table) (xs : List Text) → Fine t → R (reads t xs)
+  reads_fine t [] h = tt
+  reads_fine t (x ∷ xs) h = (read_fine (slot_in x t) (slot_fine t x h), reads_fine t xs h)
+
+  reads_bare : (t : Table) (xs : List Text) → IsBare (reads t xs)
+  reads_bare t [] = tt
+  reads_bare t (x ∷ xs) = through (slot_in x t) (reads_bare t xs)
+    where
+      through : (s : Option Slot) → IsBare (reads t xs) → IsBare (slots.item (read_from s) (reads t xs))
+      through None h = h
+      through (Some s) h = h
+
+  fresh_each : (m : ℕ) (xs : List Text) → SlotsLawful front globals_count (fresh m xs)
+  fresh_each m [] = tt
+  fresh_each m (x ∷ xs) = (tt, fresh_each (suc m) xs)
+
+  fresh_fine : (m : ℕ) (xs : List Text) → TargetsLawful front globals_count (fresh_targets m xs)
+  fresh_fine m [] = tt
+  fresh_fine m (x ∷ []) = tt
+  fresh_fine m (x ∷ (y ∷ ys)) = fresh_each m (x ∷ (y ∷ ys))
+
+  kept_each : (t : Table) (xs : List Text) → Fine t → SlotsLawful front globals_count (kept_slots t xs)
+  kept_each t [] h = tt
+  kept_each t (x ∷ xs) h = (through (among x xs) (slot_fine t x h), kept_each t xs h)
+    where
+      through : (b : Bool) → SomeFine (slot_in x t) → SomeFine (if b then None else slot_in x t)
+      through true g = tt
+      through false g = g
+
+  set_fine : (t : Table) (xs : List Text) → Fine t → TargetsLawful front globals_count (set_targets t xs)
+  set_fine t [] h = tt
+  set_fine t (x ∷ []) h = of_fine t x h
+  set_fine t (x ∷ (y ∷ ys)) h = kept_each t (x ∷ (y ∷ ys)) h
+
+  pub followed_fine : (a b : SBody Constant) → B a → B b → B (followed a b)
+  followed_fine slots.end b h k = k
+  followed_fine (slots.stmt s rest) b h k = (h.0, followed_fine rest b h.1 k)
+
+  pub copied_fine : (p : Place) (t : Table) (m : ℕ) (xs : List Text) (b : SBody Constant) → Fine t → B b → B (copied p t m xs b)
+  copied_fine p t m [] b g k = k
+  copied_fine p t m (x ∷ xs) b g k = ((tt, read_fine (slot_in x t) (slot_fine t x g)), copied_fine p t (suc m) xs b g k)
+
+  handed_fine : (p : Place) (t : Table) (m : ℕ) (xs : List Text) → m + length xs ≤ globals_count → Fine t → B (handed_on p t m xs)
+  handed_fine p t m [] l h = tt
+  handed_fine p t m (x ∷ xs) l h = ((omega (arith, l), read_fine (slot_in x t) (slot_fine t x h)), handed_fine p t (suc m) xs (omega (arith, l)) h)
+
+  abbrev Front : (SRow Constant → SRow Constant) → Type 0
+  Front f = (b : SRow Constant) → R b → R (f b)
+
+  -- globals of each chain are there, and so are the defaults of its macros
+  module _ (world : World) (order : List Home) (few : (h : Home) → first_slot world order h + length (names world order h) ≤ globals_count)
+      (laid : (h : Home) → among h order ≡ true → (f : Expr) (m : MacroBody) → callee (macros world.sources h) f ≡ a_macro m → default_place world order h m.name + length m.parameters ≤ front) where
+    body_fined : (h : Home) (on : Bool) (i : Option ℕ) (es : SRow Constant) → R es → E (invoked_body world order h on i es)
+    body_fined h on None es k = as_pooled on []
+    body_fined h on (Some i) es k = k
+
+    super_fined : (sp : Spot) (p : Option Part) → E (invoked_super world order sp p)
+    super_fined sp None = as_pooled sp.escaping []
+    super_fined sp (Some p) = let xs = block_parameters world order sp.home p.name in body_fined sp.home sp.escaping (next_given p.behind) (first_locals 0 xs) (first_fine 0 xs)
+
+    globals_of_fine : (h : Home) → Fine (globals world order h)
+    globals_of_fine h = globals_fine (first_slot world order h) (names world order h) (few h)
+
+    invoked_fined : (c : Callee) (f : Expr) (sp : Spot) (row asides : SRow Constant → SRow Constant) (m : ℕ) (ks : Table) → among sp.home order ≡ true → callee (macros world.sources sp.home) f ≡ c → Fine ks → Front row → Front asides → E (invoked world order c sp row asides m ks)
+    invoked_fined (a_macro x) f sp row asides m ks i e h r a =
+        let rest = filled x.parameters m (default_place world order sp.home x.name) ks in
+        r (asides rest) (a rest (filled_fine x.parameters m (default_place world order sp.home x.name) ks (laid sp.home i f x e) h))
+    invoked_fined a_range f sp row asides m ks i e h r a = r slots.none tt
+    invoked_fined a_super f sp row asides m ks i e h r a = super_fined sp sp.part
+    invoked_fined (a_block x) f sp row asides m ks i e h r a =
+        let t = globals world order sp.home in
+        let xs = block_parameters world order sp.home x in
+        body_fined sp.home sp.escaping (first_body (numbered_of world sp.home x)) (reads t xs) (reads_fine t xs (globals_of_fine sp.home))
+    invoked_fined a_cycle f sp row asides m ks i e h r a = (r slots.none tt, ((tt, (tt, tt)), tt))
+    invoked_fined no_callee f sp row asides m ks i e h r a = some
+
+    mutual
+      pub fined : (e : Expr) (sp : Spot) → among sp.home order ≡ true → Fine sp.table → E (resolved world order e sp)
+      fined (constant l) sp i t = literal_pooled l
+      fined (name x) sp i t = read_fine (slot_in x sp.table) (slot_fine sp.table x t)
+      fined (group a) sp i t = fined a sp i t
+      fined (list_of ts) sp i t = row_fined ts sp i t slots.none tt
+      fined (map_of ps) sp i t = entries_fined ps sp i t
+      fined (attribute a x) sp i t =
+          either_fine (is_loop a) (field_from (field_named x)) (slots.made (slots.operator op.Item) (slots.item (resolved world order a sp) (slots.item (slots.pooled (own (tree.text x))) slots.none)))
+          (field_fine (field_named x)) (fined a sp i t, (tt, tt))
+      fined (item a b) sp i t = (fined a sp i t, (fined b sp i t, tt))
+      fined (call f ts ps) sp i t =
+          invoked_fined (callee (macros world.sources sp.home) f) f sp (resolved_row world order ts sp) (resolved_asides world order ps sp) (count ts) (locals_from sp.free (keywords ps)) i refl
+          (from_fine sp.free (keywords ps)) (λ b h. row_fined ts sp i t b h) (λ b h. asides_fined ps sp i t b h)
+      fined (filter a x ts ps) sp i t =
+          let f = world.filters.named x in
+          let ks = locals_from sp.free (keywords ps) in
+          let rest = filled_some (filter_parameters world.filters f) (count ts) (keywords ps) ks in
+          let row = resolved_row world order ts sp (resolved_asides world order ps sp rest) in
+          filtered_fine f sp.escaping (slots.item (resolved world order a sp) row) (fined a sp i t, row_fined ts sp i t (resolved_asides world order ps sp rest) (asides_fined ps sp i t rest (some_fine (filter_parameters world.filters f) (count ts) (keywords ps) ks (from_fine sp.free (keywords ps)))))
+      fined (test a m x ts ps) sp i t =
+          let es = slots.item (resolved world order a sp) (resolved_row world order ts sp slots.none) in
+          turned_fine m (tested_by (test_named x) es) (tested_fine (test_named x) es (fined a sp i t, row_fined ts sp i t slots.none tt))
+      fined (unary u a) sp i t = (fined a sp i t, tt)
+      fined (binary b x y) sp i t = form_fine (form sp.escaping b) (resolved world order x sp) (resolved world order y sp) (fined x sp i t) (fined y sp i t)
+      fined (when c a) sp i t = (fined c sp i t, fined a sp i t, some)
+      fined (choice c a b) sp i t = (fined c sp i t, fined a sp i t, fined b sp i t)
+
+      pub row_fined : (ts : Exprs) (sp : Spot) → among sp.home order ≡ true → Fine sp.table → (b : SRow Constant) → R b → R (resolved_row world order ts sp b)
+      row_fined no_exprs sp i t b h = h
+      row_fined (expr a ts) sp i t b h = (fined a sp i t, row_fined ts sp i t b h)
+
+      pub asides_fined : (ps : Pairs) (sp : Spot) → among sp.home order ≡ true → Fine sp.table → (b : SRow Constant) → R b → R (resolved_asides world order ps sp b)
+      asides_fined no_pairs sp i t b h = h
+      asides_fined (pair x a ps) sp i t b h = (fined a sp i t, asides_fined ps (grown sp) i t b h)
+
+      entries_fined : (ps : Pairs) (sp : Spot) → among sp.home order ≡ true → Fine sp.table → R (resolved_entries world order ps sp)
+      entries_fined no_pairs sp i t = tt
+      entries_fined (pair x a ps) sp i t = (tt, (fined a sp i t, entries_fined ps sp i t))
+
+    condition_fined : (c : Option Expr) (sp : Spot) → among sp.home order ≡ true → Fine sp.table → ConditionLawful front globals_count (resolved_condition world order c sp)
+    condition_fined None sp i t = tt
+    condition_fined (Some c) sp i t = fined c sp i t
+
+    filters_fined : (fs : List Filtering) (sp : Spot) (e : SExpr Constant) → among sp.home order ≡ true → Fine sp.table → E e → E (resolved_filters world order fs sp e)
+    filters_fined [] sp e i t h = h
+    filters_fined (f ∷ fs) sp e i t h =
+        let n = world.filters.named f.name in
+        let ks = locals_from sp.free (keywords f.keywords) in
+        let rest = filled_some (filter_parameters world.filters n) (count f.arguments) (keywords f.keywords) ks in
+        let row = resolved_row world order f.arguments sp (resolved_asides world order f.keywords sp rest) in
+        filters_fined fs sp (filtered_by n sp.escaping (slots.item e row)) i t (filtered_fine n sp.escaping (slots.item e row) (
+          h,
+          row_fined f.arguments sp i t (resolved_asides world order f.keywords sp rest) (asides_fined f.keywords sp i t rest (some_fine (filter_parameters world.filters n) (count f.arguments) (keywords f.keywords) ks (from_fine sp.free (keywords f.keywords)))),
+        ))
+
+    values_fined : (ps : Pairs) (sp : Spot) (line : ℕ) (b : SBody Constant) → among sp.home order ≡ true → Fine sp.table → B b → B (resolved_values world order ps sp line b)
+    values_fined no_pairs sp line b i t h = h
+    values_fined (pair x e ps) sp line b i t h = ((tt, fined e sp i t), values_fined ps (grown sp) line b i t h)
+
+    placed_fined : (sp : Spot) (i : Option ℕ) (x : Text) (t : Table) → Fine t → B (placed_body world order sp i x t)
+    placed_fined sp None x t h = tt
+    placed_fined sp (Some i) x t h = ((reads_fine t (block_parameters world order sp.home x) h, reads_bare t (block_parameters world order sp.home x)), tt)
+
+    table_fine : (b : Bool) (sp : Spot) → Fine sp.table → Fine (if b then sp.table else globals world order sp.home)
+    table_fine true sp t = t
+    table_fine false sp t = globals_of_fine sp.home
+
+    seen_fine : (b : Bool) (t : Table) → Fine t → Fine (if b then t else [])
+    seen_fine true t h = h
+    seen_fine false t h = tt
+
+    include_fined : (sp : Spot) (line : ℕ) (m : Text) (c : Bool) (b : Bool) → Fine sp.table
+        → B (if b then slots.end else followed (handed_on (place sp line) (if c then sp.table else []) (first_slot world order m) (names world order m)) (slots.stmt (run (unit world order (of_chain m)) slots.none) slots.end))
+    include_fined sp line m c true t = tt
+    include_fined sp line m c false t =
+        followed_fine (handed_on (place sp line) (if c then sp.table else []) (first_slot world order m) (names world order m)) (slots.stmt (run (unit world order (of_chain m)) slots.none) slots.end)
+        (handed_fine (place sp line) (if c then sp.table else []) (first_slot world order m) (names world order m) (few m) (seen_fine c sp.table t)) ((tt, tt), tt)
+
+    pub scope_fined : (b : Body) (sp : Spot) → Fine sp.table → B (resolved_body world order b (bound_all (set_in b) sp)) → B (scoped (set_in b) sp (resolved_body world order b))
+    scope_fined b sp t h = copied_fine (place sp 1) sp.table sp.free (set_in b) (resolved_body world order b (bound_all (set_in b) sp)) t h
+
+    mutual
+      pub stmt_fined : (s : Stmt) (sp : Spot) → among sp.home order ≡ true → Fine sp.table → B (resolved_stmt world order s sp)
+      stmt_fined (data_of x) sp i t = (tt, tt)
+      stmt_fined (print line e) sp i t = (fined e sp i t, tt)
+      stmt_fined (choose bs other) sp i t = choice_fined bs sp i t (resolved_body world order other sp) (all_fined other sp i t)
+      stmt_fined (for_each line xs e c body other) sp i t =
+          let inner = bound_all xs sp in
+          let ft = bound_fine xs sp.free sp.table t in (
+            (
+              fresh_fine sp.free xs,
+              fined e sp i t,
+              condition_fined c inner i ft,
+              scope_fined body inner ft (all_fined body (bound_all (set_in body) inner) i (bound_fine (set_in body) (sp.free + length xs) (bound_table xs sp.free sp.table) ft)),
+              all_fined other sp i t,
+            ),
+            tt,
+          )
+      stmt_fined (set line xs e) sp i t = ((set_fine sp.table xs t, fined e sp i t), tt)
+      stmt_fined (set_block line x body) sp i t = ((of_fine sp.table x t, scope_fined body sp t (all_fined body (bound_all (set_in body) sp) i (bound_fine (set_in body) sp.free sp.table t))), tt)
+      stmt_fined (with_values line ps body) sp i t =
+          let inner = bound_all (keywords ps) sp in
+          let ft = bound_fine (keywords ps) sp.free sp.table t in
+          values_fined ps sp line (scoped (set_in body) inner (resolved_body world order body)) i t
+          (scope_fined body inner ft (all_fined body (bound_all (set_in body) inner) i (bound_fine (set_in body) (sp.free + length (keywords ps)) (bound_table (keywords ps) sp.free sp.table) ft)))
+      stmt_fined (filter_block line fs body) sp i t =
+          ((tt, scope_fined body (grown sp) t (all_fined body (bound_all (set_in body) (grown sp)) i (bound_fine (set_in body) (suc sp.free) sp.table t))), (filters_fined fs (grown sp) (variable (local sp.free)) i t tt, tt))
+      stmt_fined (autoescape line on body) sp i t =
+          let inner = record sp { escaping = on } in
+          scope_fined body inner t (all_fined body (bound_all (set_in body) inner) i (bound_fine (set_in body) sp.free sp.table t))
+      stmt_fined (macro line x ps body) sp i t = tt
+      stmt_fined (include line m missing with_context) sp i t = include_fined sp line m with_context (is_none (world.sources m)) t
+      stmt_fined (extends line m) sp i t = tt
+      stmt_fined (block line x is required body) sp i t =
+          placed_fined sp (first_body (numbered_of world sp.home x)) x (if is then sp.table else globals world order sp.home) (table_fine is sp t)
+
+      pub all_fined : (b : Body) (sp : Spot) → among sp.home order ≡ true → Fine sp.table → B (resolved_body world order b sp)
+      all_fined end sp i t = tt
+      all_fined (stmt s rest) sp i t = followed_fine (resolved_stmt world order s sp) (resolved_body world order rest sp) (stmt_fined s sp i t) (all_fined rest sp i t)
+
+      choice_fined : (bs : Branches) (sp : Spot) → among sp.home order ≡ true → Fine sp.table → (other : SBody Constant) → B other → B (resolved_choice world order bs sp other)
+      choice_fined no_branches sp i t other h = h
+      choice_fined (branch line c body rest) sp i t other h = ((fined c sp i t, all_fined body sp i t, choice_fined rest sp i t other h), tt)
+
+-- ---- routines, in an order of chains
+
+same_is : (x : Text) → bytes_eq x x ≡ true
+same_is x = (bytes_eq-Decides x x).1 refl
+
+same_text : (x y : Text) → bytes_eq x y ≡ true → x ≡ y
+same_text x y e = (bytes_eq-Decides x y).0 e
+
+append_all : {A : Type 0} (P : A → Type 0) (xs ys : List A) → AllByRecursion P xs → AllByRecursion P ys → AllByRecursion P (xs ++ ys)
+append_all P [] ys h k = k
+append_all P (x ∷ xs) ys h k = (h.0, append_all P xs ys h.1 k)
+
+module _ (world : World) (order : List Home) where
+  abbrev front_count : ℕ
+  front_count = length (shared world order)
+
+  -- ---- globals
+
+  first_le : (ks : List Home) (h : Home) → first_in world order ks h ≤ count_globals world order ks
+  first_le [] h = omega arith
+  first_le (k ∷ ks) h = through (bytes_eq k h) (first_le ks h)
+    where
+      through : (b : Bool) → first_in world order ks h ≤ count_globals world order ks → (if b then 0 else length (names world order k) + first_in world order ks h) ≤ length (names world order k) + count_globals world order ks
+      through true l = omega arith
+      through false l = omega (arith, l)
+
+  first_few : (ks : List Home) (h : Home) → among h ks ≡ true → first_in world order ks h + length (names world order h) ≤ count_globals world order ks
+  first_few [] h e = absurd (let none : false ≡ true = e in cc)
+  first_few (k ∷ ks) h e = through (bytes_eq k h) refl e (first_few ks h)
+    where
+      through : (b : Bool) → bytes_eq k h ≡ b → (b || among h ks) ≡ true → (among h ks ≡ true → first_in world order ks h + length (names world order h) ≤ count_globals world order ks)
+          → (if b then 0 else length (names world order k) + first_in world order ks h) + length (names world order h) ≤ length (names world order k) + count_globals world order ks
+      through true p e f = let same : length (names world order k) ≡ length (names world order h) = ap (λ x. length (names world order x)) (same_text k h p) in omega (arith, same)
+      through false p e f = let l = f e in omega (arith, l)
+
+  names_none : (ks : List Home) (h : Home) → among h ks ≡ false → names_in world ks h ≡ []
+  names_none [] h e = refl
+  names_none (k ∷ ks) h e = through (bytes_eq k h) e (names_none ks h)
+    where
+      through : (b : Bool) → (b || among h ks) ≡ false → (among h ks ≡ false → names_in world ks h ≡ []) → (if b then ascending (own_names world.sources h ++ flat_map (names_in world ks) (included world.sources h)) else names_in world ks h) ≡ []
+      through true e f = absurd (let none : true ≡ false = e in cc)
+      through false e f = f e
+
+  pub few_globals : (h : Home) → first_slot world order h + length (names world order h) ≤ count_globals world order order
+  few_globals h = through (among h order) refl
+    where
+      through : (b : Bool) → among h order ≡ b → first_slot world order h + length (names world order h) ≤ count_globals world order order
+      through true e = first_few order h e
+      through false e = let none : length (names world order h) ≡ 0 = ap length (names_none order h e) in omega (arith, first_le order h, none)
+
+  -- ---- defaults
+
+  named_so : (x : Text) (b : MacroBody) (ms : List MacroBody) → macro_of x ms ≡ Some b → b.name ≡ x
+  named_so x b [] e = absurd (let none : None ≡ Some b = e in cc)
+  named_so x b (m ∷ ms) e = through (bytes_eq m.name x) refl e (named_so x b ms)
+    where
+      through : (c : Bool) → bytes_eq m.name x ≡ c → (if c then Some m else macro_of x ms) ≡ Some b → (macro_of x ms ≡ Some b → b.name ≡ x) → b.name ≡ x
+      through true p e f = let same : m ≡ b = (let s : Some m ≡ Some b = e in cc) in ap (λ z. z.name) (sym same) ∙ same_text m.name x p
+      through false p e f = f e
+
+  first_defaults : (x : Text) (b : MacroBody) (ms : List MacroBody) → macro_of x ms ≡ Some b → first_default x ms + length b.parameters ≤ length (defaults_of ms)
+  first_defaults x b [] e = absurd (let none : None ≡ Some b = e in cc)
+  first_defaults x b (m ∷ ms) e = through (bytes_eq m.name x) e (first_defaults x b ms)
+    where
+      counted : length (defaults_of (m ∷ ms)) ≡ length m.parameters + length (defaults_of ms)
+      counted = length-append (map (λ p. default_value p.default) m.parameters) (defaults_of ms) ∙ ap (λ n. n + length (defaults_of ms)) (length-map m.parameters (λ p. default_value p.default))
+
+      through : (c : Bool) → (if c then Some m else macro_of x ms) ≡ Some b → (macro_of x ms ≡ Some b → first_default x ms + length b.parameters ≤ length (defaults_of ms))
+          → (if c then 0 else length m.parameters + first_default x ms) + length b.parameters ≤ length (defaults_of (m ∷ ms))
+      through true e f = let same : length m.parameters ≡ length b.parameters = (let s : Some m ≡ Some b = e in let is : m ≡ b = cc in ap (λ z. length z.parameters) is) in omega (arith, same, counted)
+      through false e f = omega (arith, f e, counted)
+
+  defaults_in : (ks : List Home) (h : Home) (x : Text) (b : MacroBody) → among h ks ≡ true → macro_of x (macros world.sources h) ≡ Some b → default_in world order ks h x + length b.parameters ≤ length (flat_map (λ g. defaults_of (macros world.sources g)) ks)
+  defaults_in [] h x b e m = absurd (let none : false ≡ true = e in cc)
+  defaults_in (k ∷ ks) h x b e m = through (bytes_eq k h) refl e (λ f. defaults_in ks h x b f m)
+    where
+      behind : List Tree
+      behind = flat_map (λ g. defaults_of (macros world.sources g)) ks
+
+      counted : length (defaults_of (macros world.sources k) ++ behind) ≡ length (defaults_of (macros world.sources k)) + length behind
+      counted = length-append (defaults_of (macros world.sources k)) behind
+
+      through : (c : Bool) → bytes_eq k h ≡ c → (c || among h ks) ≡ true → (among h ks ≡ true → default_in world order ks h x + length b.parameters ≤ length behind)
+          → (if c then first_default x (macros world.sources h) else length (defaults_of (macros world.sources k)) + default_in world order ks h x) + length b.parameters ≤ length (defaults_of (macros world.sources k) ++ behind)
+      through true p e f =
+          let same : length (defaults_of (macros world.sources k)) ≡ length (defaults_of (macros world.sources h)) = ap (λ z. length (defaults_of (macros world.sources z))) (same_text k h p) in
+          omega (arith, first_defaults x b (macros world.sources h) m, same, counted)
+      through false p e f = omega (arith, f e, counted)
+
+  range_is : (x : Text) (m : MacroBody) (o : Option MacroBody) → named_alone o x ≡ a_macro m → o ≡ Some m
+  range_is x m None e = absurd (by (bytes_eq x (codes "range")) (bytes_eq x (codes "super")) e)
+    where
+      by : (a b : Bool) → (if a then a_range else if b then a_super else no_callee) ≡ a_macro m → ⊥
+      by true b e = (let s : a_range ≡ a_macro m = e in cc)
+      by false true e = (let s : a_super ≡ a_macro m = e in cc)
+      by false false e = (let s : no_callee ≡ a_macro m = e in cc)
+  range_is x m (Some n) e = let same : n ≡ m = (let s : a_macro n ≡ a_macro m = e in cc) in ap Some same
+
+  in_none : (y x : Text) (m : MacroBody) → named_in y x ≡ a_macro m → ⊥
+  in_none y x m e = by (bytes_eq y (codes "self")) (bytes_eq y (codes "loop")) (bytes_eq x (codes "cycle")) e
+    where
+      by : (a b c : Bool) → (if a then a_block x else if b then (if c then a_cycle else no_callee) else no_callee) ≡ a_macro m → ⊥
+      by true b c e = (let s : a_block x ≡ a_macro m = e in cc)
+      by false true true e = (let s : a_cycle ≡ a_macro m = e in cc)
+      by false true false e = (let s : no_callee ≡ a_macro m = e in cc)
+      by false false c e = (let s : no_callee ≡ a_macro m = e in cc)
+
+  callee_macro : (ms : List MacroBody) (f : Expr) (m : MacroBody) → callee ms f ≡ a_macro m → (x : Text) × (macro_of x ms ≡ Some m)
+  callee_macro ms (name x) m e = (x, range_is x m (macro_of x ms) e)
+  callee_macro ms (attribute (name y) x) m e = absurd (in_none y x m e)
+  callee_macro ms f m e = absurd cc
+
+  laid_defaults : (h : Home) → among h order ≡ true → (f : Expr) (m : MacroBody) → callee (macros world.sources h) f ≡ a_macro m → default_place world order h m.name + length m.parameters ≤ front_count
+  laid_defaults h i f m e =
+      let r = callee_macro (macros world.sources h) f m e in
+      let same : macro_of m.name (macros world.sources h) ≡ Some m = ap (λ x. macro_of x (macros world.sources h)) (named_so r.0 m (macros world.sources h) r.1) ∙ r.1 in
+      omega (arith, defaults_in order h m.name m i same)
+
+  some_front : 0 < front_count
+  some_front = omega arith
+
+  -- ---- bodies
+
+  abbrev L : SBody Constant → Type 0
+  L = BodyLawful front_count (count_globals world order order)
+
+  at_top : (h : Home) → Fine front_count (count_globals world order order) some_front (globals world order h)
+  at_top h = globals_fine front_count (count_globals world order order) some_front (first_slot world order h) (names world order h) (few_globals h)
+
+  body_lawful : (b : Body) (sp : Spot) → among sp.home order ≡ true → Fine front_count (count_globals world order order) some_front sp.table → L (resolved_body world order b sp)
+  body_lawful b sp i t = all_fined front_count (count_globals world order order) some_front world order few_globals laid_defaults b sp i t
+
+  sets_lawful : (h : Home) → among h order ≡ true → (b : Body) (t : Text) → L (resolved_sets world order b (top_spot world order h t))
+  sets_lawful h i end t = tt
+  sets_lawful h i (stmt s rest) t = which (is_set s) (sets_lawful h i rest t)
+    where
+      sp : Spot
+      sp = top_spot world order h t
+
+      which : (b : Bool) → L (resolved_sets world order rest sp) → L (if b then followed (resolved_stmt world order s sp) (resolved_sets world order rest sp) else resolved_sets world order rest sp)
+      which false r = r
+      which true r = followed_fine front_count (count_globals world order order) some_front (resolved_stmt world order s sp) (resolved_sets world order rest sp)
+          (stmt_fined front_count (count_globals world order order) some_front world order few_globals laid_defaults s sp i (at_top h)) r
+
+  chain_lawful : (h : Home) → among h order ≡ true → (ts : List Template) → L (resolved_chain world order h ts)
+  chain_lawful h i [] = tt
+  chain_lawful h i (t ∷ []) = body_lawful t.body (top_spot world order h t.name) i (at_top h)
+  chain_lawful h i (t ∷ u ∷ us) = followed_fine front_count (count_globals world order order) some_front (resolved_sets world order t.body (top_spot world order h t.name)) (resolved_chain world order h (u ∷ us)) (sets_lawful h i t.body t.name) (chain_lawful h i (u ∷ us))
+
+  abbrev Good : Routine Constant → Type 0
+  Good r = RoutineLawful front_count (count_globals world order order) r
+
+  -- a body in a scope of its own, with parameters
+  routine_lawful : (ps : List Text) (b : Body) (sp : Spot) → among sp.home order ≡ true → Fine front_count (count_globals world order order) some_front sp.table → Good (resolved_routine world order ps b sp)
+  routine_lawful ps b sp i t =
+      let inner = bound_all ps sp in
+      let ft = bound_fine front_count (count_globals world order order) some_front ps sp.free sp.table t in
+      let whole = scoped (set_in b) inner (resolved_body world order b) in
+      record {
+        body = scope_fined front_count (count_globals world order order) some_front world order few_globals laid_defaults b inner ft
+            (body_lawful b (bound_all (set_in b) inner) i (bound_fine front_count (count_globals world order order) some_front (set_in b) (sp.free + length ps) (bound_table ps sp.free sp.table) ft));
+        locals = omega arith;
+      }
+
+  macros_lawful : (h : Home) → among h order ≡ true → (ms : List MacroBody) → AllByRecursion Good (map (macro_routine world order h) ms)
+  macros_lawful h i [] = tt
+  macros_lawful h i (m ∷ ms) = (routine_lawful (map (λ p. p.name) m.parameters) m.body (top_spot world order h m.template) i (at_top h), macros_lawful h i ms)
+
+  bodies_lawful : (h : Home) → among h order ≡ true → (bs : List (ℕ × BlockBody)) → AllByRecursion Good (body_routines world order h bs)
+  bodies_lawful h i [] = tt
+  bodies_lawful h i (b ∷ bs) = (
+    routine_lawful (block_parameters world order h b.1.name) b.1.body
+        (record (top_spot world order h b.1.template) { escaping = b.1.escaping; part = Some (record { name = b.1.name; behind = prelude.filter (λ c. bytes_eq c.1.name b.1.name) bs }) }) i (at_top h),
+    bodies_lawful h i bs,
+  )
+
+  routines_of : (hs : List Home) → ((h : Home) → among h hs ≡ true → among h order ≡ true) → AllByRecursion Good (flat_map (chain_routines world order) hs)
+  routines_of [] i = tt
+  routines_of (h ∷ hs) i =
+      let here = i h (ap (λ b. b || among h hs) (same_is h)) in
+      append_all Good (chain_routines world order h) (flat_map (chain_routines world order) hs) (
+        record { body = chain_lawful h here (templates world.sources h); locals = omega arith },
+        append_all Good (map (macro_routine world order h) (macros world.sources h)) (body_routines world order h (numbered_bodies world h)) (macros_lawful h here (macros world.sources h)) (bodies_lawful h here (numbered_bodies world h)),
+      )
+      (routines_of hs (λ g j. i g (later (bytes_eq h g) (among g hs) j)))
+    where
+      later : (a b : Bool) → b ≡ true → (a || b) ≡ true
+      later true b e = refl
+      later false b e = e
+
+  defaults_pooled : (ms : List MacroBody) → AllByRecursion IsPooled (defaults_of ms)
+  defaults_pooled [] = tt
+  defaults_pooled (m ∷ ms) = append_all IsPooled (map (λ p. default_value p.default) m.parameters) (defaults_of ms) (each m.parameters) (defaults_pooled ms)
+    where
+      each : (ps : List Parameter) → AllByRecursion IsPooled (map (λ p. default_value p.default) ps)
+      each [] = tt
+      each (p ∷ ps) = (default_pooled p.default, each ps)
+
+  front_pooled : (hs : List Home) → AllByRecursion IsPooled (flat_map (λ h. defaults_of (macros world.sources h)) hs)
+  front_pooled [] = tt
+  front_pooled (h ∷ hs) = append_all IsPooled (defaults_of (macros world.sources h)) (flat_map (λ g. defaults_of (macros world.sources g)) hs) (defaults_pooled (macros world.sources h)) (front_pooled hs)
+
+-- the program of chains in order, each operation of which gets as many values as it takes, is lawful
+pub program_lawful : (world : World) (entry : Home) (rest : List Home)
+    → AllByRecursion (λ r. BodyTakes the_filters (program world (entry ∷ rest) entry).routines false r.body) (program world (entry ∷ rest) entry).routines
+    → AreLawful (names world (entry ∷ rest) entry) (count_globals world (entry ∷ rest) (entry ∷ rest)) (shared world (entry ∷ rest)) (routines world (entry ∷ rest))
+program_lawful world entry rest takes = record {
+  few = omega (arith, few_globals world (entry ∷ rest) entry);
+  pooled = (tt, front_pooled world (entry ∷ rest) (entry ∷ rest));
+  routines = routines_of world (entry ∷ rest) (entry ∷ rest) (λ h e. e);
+  takes = takes;
+  entry = chain_routine world (entry ∷ rest) entry;
+  is_entry = refl;
+}

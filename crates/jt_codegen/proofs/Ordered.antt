@@ -1,0 +1,63 @@
+-- The tables of the code of a chain are in order.
+use Rattle.std.proofs.Common.{◌≡◌, ◌≢◌, ℕ, suc, ◌+◌, ◌<◌, ◌≤◌, List, [], ◌∷◌, length, map, refl, arith}
+use Rattle.std.specs.List.{AllByRecursion}
+use Rattle.jt_image.specs.Code.{Section}
+use Rattle.jt_image.specs.IsCode.{Ascend, AreDistinct}
+use Rattle.jt_image.specs.Parts.{IsUnitInOrder, HasTables}
+use Rattle.jt_parse.specs.Trees.{Text}
+use Rattle.jt_inherit.specs.Chain.{Home}
+use Rattle.jt_rules.specs.World.{World}
+use Rattle.jt_meaning.specs.Ascends.{Above, Ascends}
+use Rattle.jt_meaning.specs.Layout.{names, shared}
+use Rattle.jt_meaning.specs.Programs.{program, routines}
+use Rattle.jt_meaning.specs.Resolve.{chain_routine}
+use Rattle.jt_slots.specs.Slots.{Routine, Program}
+use Rattle.jt_slots.specs.Pool.{placed_routine}
+use Rattle.jt_lower.specs.Lower.{unit_of, numbered, compiled}
+use Rattle.jt_codegen.proofs.Routines.{parameters_within}
+
+numbered_slots : (i m : ℕ) (xs : List Text) → i + length xs ≤ m → AllByRecursion (λ n. n.slot < m) (numbered i xs)
+numbered_slots i m [] h = tt
+numbered_slots i m (x ∷ xs) h = (omega (arith, h), numbered_slots (suc i) m xs (omega (arith, h)))
+
+pub numbered_texts : (P : Text → Type 0) (i : ℕ) (xs : List Text) → AllByRecursion P xs → AllByRecursion (λ n. P n.text) (numbered i xs)
+numbered_texts P i [] h = tt
+numbered_texts P i (x ∷ xs) h = (h.0, numbered_texts P (suc i) xs h.1)
+
+numbered_above : (i : ℕ) (x : Text) (xs : List Text) → Above x xs → Ascend (record { slot = i; text = x } ∷ numbered (suc i) xs)
+numbered_above i x [] h = tt
+numbered_above i x (y ∷ ys) h = (h.0, numbered_above (suc i) y ys h.1)
+
+numbered_ascend : (xs : List Text) → Ascends xs → Ascend (numbered 0 xs)
+numbered_ascend [] h = tt
+numbered_ascend (x ∷ xs) h = numbered_above 0 x xs h
+
+numbered_apart : (j i : ℕ) (xs : List Text) → j < i → AllByRecursion (λ n. j ≢ n.slot) (numbered i xs)
+numbered_apart j i [] h = tt
+numbered_apart j i (x ∷ xs) h = ((λ e. omega (arith, h, e)), numbered_apart j (suc i) xs (omega (arith, h)))
+
+numbered_distinct : (i : ℕ) (xs : List Text) → AreDistinct (numbered i xs)
+numbered_distinct i [] = tt
+numbered_distinct i (x ∷ xs) = (numbered_apart i (suc i) xs (omega arith), numbered_distinct (suc i) xs)
+
+-- units emit
+emitting : (rs : List (Routine ℕ)) → AllByRecursion (λ u. u.parameters ≤ u.locals) (map unit_of rs) → AllByRecursion IsUnitInOrder (map unit_of rs)
+emitting [] h = tt
+emitting (r ∷ rs) h = ((omega arith, h.0), emitting rs h.1)
+
+-- wherever no name is empty, names ascend, and there is a global for each
+pub tables : (world : World) (entry : Home) (rest : List Home) → AllByRecursion (λ x. 0 < length x) (names world (entry ∷ rest) entry) → Ascends (names world (entry ∷ rest) entry) → length (names world (entry ∷ rest) entry) ≤ (program world (entry ∷ rest) entry).globals
+    → HasTables (compiled (program world (entry ∷ rest) entry))
+tables world entry rest some ascends few =
+    let order = entry ∷ rest in
+    let p = program world order entry in
+    record {
+      names = record {
+        slots = numbered_slots 0 p.globals p.names (omega (arith, few));
+        some = numbered_texts (λ x. 0 < length x) 0 p.names some;
+        ascend = numbered_ascend p.names ascends;
+        distinct = numbered_distinct 0 p.names;
+      };
+      units = emitting p.routines (parameters_within world order (length (shared world order)));
+      entry = record { entry = unit_of (placed_routine (chain_routine world order entry) (length (shared world order))); is = refl; emits = refl; plain = refl };
+    }

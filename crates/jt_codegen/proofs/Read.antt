@@ -1,0 +1,103 @@
+-- What holds of each template that was read holds of the templates of each chain; and what holds of the names in those holds of a
+-- chain's names.
+use Rattle.std.proofs.Common.{◌≡◌, ℕ, ◌+◌, ◌≤◌, Bool, true, false, if◌then◌else◌, List, [], ◌∷◌, ◌++◌, length, Option, Some, None, refl, subst, arith}
+use Rattle.std.specs.Prelude.{flat_map}
+use Rattle.std.specs.List.{AllByRecursion}
+use Rattle.std.specs.Ordering.{nat_cmp, is_lt}
+use Rattle.std.specs.Cmp.Lexicographic.{slice_cmp}
+use Rattle.std.specs.Str.{bytes_eq}
+use Rattle.std.proofs.lemmas.Slice.Eq.{bytes_eq-Decides}
+use Rattle.jt_parse.specs.Bytes.{body_bytes}
+use Rattle.jt_parse.specs.Texts.{inserted, all_inserted, ascending}
+use Rattle.jt_parse.specs.Trees.{Text, Body}
+use Rattle.jt_inherit.specs.Chain.{Sources, Home, Template, sources_in, template, templates, names_up}
+use Rattle.jt_inherit.specs.Chains.{Given}
+use Rattle.jt_inherit.specs.Small.{source_len, templates_len, chains_len}
+use Rattle.jt_inherit.specs.Includes.{included}
+use Rattle.jt_inherit.specs.Uses.{body_names, own_names}
+use Rattle.jt_rules.specs.World.{World}
+use Rattle.jt_meaning.specs.Layout.{names_in}
+
+pub all_append : {A : Type 0} (P : A → Type 0) (xs ys : List A) → AllByRecursion P xs → AllByRecursion P ys → AllByRecursion P (xs ++ ys)
+all_append P [] ys h g = g
+all_append P (x ∷ xs) ys h g = (h.0, all_append P xs ys h.1 g)
+
+pub all_flat : {A B : Type 0} (P : B → Type 0) (f : A → List B) (xs : List A) → AllByRecursion (λ x. AllByRecursion P (f x)) xs → AllByRecursion P (flat_map f xs)
+all_flat P f [] h = tt
+all_flat P f (x ∷ xs) h = all_append P (f x) (flat_map f xs) h.0 (all_flat P f xs h.1)
+
+pub all_each : {A : Type 0} (P Q : A → Type 0) → ((x : A) → P x → Q x) → (xs : List A) → AllByRecursion P xs → AllByRecursion Q xs
+all_each P Q f [] h = tt
+all_each P Q f (x ∷ xs) h = (f x h.0, all_each P Q f xs h.1)
+
+-- ---- templates of chains
+
+module _ (P : Text → Body → Type 0) where
+  abbrev Has : Text → Option Body → Type 0
+  Has m None = Unit {0}
+  Has m (Some b) = P m b
+
+  source_has : (ts : List Template) → AllByRecursion (λ t. P t.name t.body) ts → (m : Text) → Has m (sources_in ts m)
+  source_has [] a m = tt
+  source_has (t ∷ ts) a m = through (bytes_eq t.name m) refl (source_has ts a.1 m)
+    where
+      through : (b : Bool) → bytes_eq t.name m ≡ b → Has m (sources_in ts m) → Has m (if b then Some t.body else sources_in ts m)
+      through true e g = subst (λ n. P n t.body) ((bytes_eq-Decides t.name m).0 e) a.0
+      through false e g = g
+
+  named_have : (sources : Sources) → ((m : Text) → Has m (sources m)) → (ms : List Text) → AllByRecursion (λ t. P t.name t.body) (flat_map (λ m. template m (sources m)) ms)
+  named_have sources k [] = tt
+  named_have sources k (m ∷ ms) = all_append (λ t. P t.name t.body) (template m (sources m)) (flat_map (λ l. template l (sources l)) ms) (by (sources m) (k m)) (named_have sources k ms)
+    where
+      by : (o : Option Body) → Has m o → AllByRecursion (λ t. P t.name t.body) (template m o)
+      by None h = tt
+      by (Some b) h = (h, tt)
+
+  pub chain_has : (ts : List Template) → AllByRecursion (λ t. P t.name t.body) ts → (h : Home) → AllByRecursion (λ t. P t.name t.body) (templates (sources_in ts) h)
+  chain_has ts a h = named_have (sources_in ts) (source_has ts a) (names_up (sources_in ts) 16 (Some h))
+
+-- ---- bytes: what is no longer than its source is no longer than all sources together
+
+module _ (given : Given) (n : ℕ) where
+  summed : (ts : List Template) → AllByRecursion (λ t. body_bytes t.body ≤ source_len (given t.name)) ts → templates_len given ts ≤ n → AllByRecursion (λ t. body_bytes t.body ≤ n) ts
+  summed [] a le = tt
+  summed (t ∷ ts) a le = (omega (arith, a.0, le), summed ts a.1 (omega (arith, le)))
+
+  pub all_short : (ts : List Template) → AllByRecursion (λ t. body_bytes t.body ≤ source_len (given t.name)) ts → (hs : List Home) → chains_len given (sources_in ts) hs ≤ n
+      → AllByRecursion (λ h. AllByRecursion (λ t. body_bytes t.body ≤ n) (templates (sources_in ts) h)) hs
+  all_short ts a [] le = tt
+  all_short ts a (h ∷ hs) le = (summed (templates (sources_in ts) h) (chain_has (λ m b. body_bytes b ≤ source_len (given m)) ts a h) (omega (arith, le)), all_short ts a hs (omega (arith, le)))
+
+-- ---- names
+
+module _ (P : Text → Type 0) where
+  inserted_all : (x : Text) (xs : List Text) → P x → AllByRecursion P xs → AllByRecursion P (inserted x xs)
+  inserted_all x [] h g = (h, tt)
+  inserted_all x (y ∷ ys) h g = through (bytes_eq y x) (is_lt (slice_cmp nat_cmp x y)) (inserted_all x ys h g.1)
+    where
+      through : (b c : Bool) → AllByRecursion P (inserted x ys) → AllByRecursion P (if b then y ∷ ys else if c then x ∷ y ∷ ys else y ∷ inserted x ys)
+      through true c k = g
+      through false true k = (h, g)
+      through false false k = (g.0, k)
+
+  all_inserted_all : (xs ys : List Text) → AllByRecursion P xs → AllByRecursion P ys → AllByRecursion P (all_inserted xs ys)
+  all_inserted_all [] ys h g = g
+  all_inserted_all (x ∷ xs) ys h g = all_inserted_all xs (inserted x ys) h.1 (inserted_all x ys h.0 g)
+
+  handed_all : (f : Home → List Text) → ((m : Home) → AllByRecursion P (f m)) → (ms : List Home) → AllByRecursion P (flat_map f ms)
+  handed_all f g [] = tt
+  handed_all f g (m ∷ ms) = all_append P (f m) (flat_map f ms) (g m) (handed_all f g ms)
+
+  own_or_later : (b : Bool) (own later behind : List Text) → AllByRecursion P own → AllByRecursion P later → AllByRecursion P behind → AllByRecursion P (if b then ascending (own ++ later) else behind)
+  own_or_later true own later behind h g k = all_inserted_all (own ++ later) [] (all_append P own later h g) tt
+  own_or_later false own later behind h g k = k
+
+  pub names_all : (world : World) → ((h : Home) → AllByRecursion P (own_names world.sources h)) → (hs : List Home) (h : Home) → AllByRecursion P (names_in world hs h)
+  names_all world own [] h = tt
+  names_all world own (k ∷ ks) h =
+      own_or_later (bytes_eq k h) (own_names world.sources h) (flat_map (names_in world ks) (included world.sources h)) (names_in world ks h) (own h)
+      (handed_all (names_in world ks) (λ m. names_all world own ks m) (included world.sources h)) (names_all world own ks h)
+
+  -- where each name of each template that was read is so
+  pub own_all : (ts : List Template) → AllByRecursion (λ t. AllByRecursion P (body_names t.body)) ts → (h : Home) → AllByRecursion P (own_names (sources_in ts) h)
+  own_all ts a h = all_flat P (λ t. body_names t.body) (templates (sources_in ts) h) (chain_has (λ m b. AllByRecursion P (body_names b)) ts a h)

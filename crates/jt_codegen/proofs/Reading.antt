@@ -1,0 +1,83 @@
+-- Instructions by their fields, and units.
+use Rattle.std.proofs.Common.{◌≡◌, ℕ, ◌+◌, true, false, List, [], ◌∷◌, ◌++◌, length, map, None, Some, Vec, Global, refl, sym, ap, ◌∙◌, subst, arith, append-nil}
+use Rattle.std.specs.Prelude.{option_map}
+use Rattle.std.proofs.lemmas.List.{map-append}
+use Rattle.jt_image.specs.declared.instruction.Instruction.{Instruction}
+use Rattle.jt_image.specs.declared.instruction.Instruction.TheVariants as op
+use Rattle.jt_image.specs.declared.wire.Instr.{Instr}
+use Rattle.jt_image.specs.declared.parts.Unit as given
+use Rattle.jt_image.specs.Spelling.{wire_of}
+use Rattle.jt_image.specs.Reading.{instruction_of}
+use Rattle.jt_image.specs.Parts.{in_front, each_of, section_of_unit}
+use Rattle.jt_parse.specs.Trees.{Text}
+use Rattle.jt_slots.specs.Slots.{end}
+use Rattle.jt_slots.specs.View.{body_view, routine_view}
+use Rattle.jt_slots.specs.declared.program.Routine.{Routine}
+use Rattle.jt_lower.specs.Asm.{Asm, one, both, flat}
+use Rattle.jt_lower.specs.Lower.{body_asm, unit_of}
+use Rattle.jt_lower.specs.Emission.{HasPlace, Puts}
+use Rattle.jt_lower.specs.declared.emitter.Emitter.{Emitter}
+use Rattle.jt_codegen.specs.Statements.{Emits}
+use Rattle.jt_codegen.specs.Units.{FitsUnit}
+use Rattle.jt_codegen.proofs.Putting.{puts_then}
+use Rattle.jt_codegen.proofs.Emitting.{emits_alone}
+
+read_wire : (i : Instruction) → instruction_of (wire_of i) ≡ Some i
+unfolding instruction_of
+read_wire (op.Const n) = refl
+read_wire (op.Load n) = refl
+read_wire (op.Store n) = refl
+read_wire (op.GLoad n) = refl
+read_wire (op.GStore n) = refl
+read_wire op.Drop = refl
+read_wire op.Dup = refl
+read_wire (op.Emit n) = refl
+read_wire (op.Data n) = refl
+read_wire (op.Jump n) = refl
+read_wire (op.JumpIfFalse n) = refl
+read_wire (op.JumpIfTrue n) = refl
+read_wire (op.Op n) = refl
+read_wire (op.Filter n m k) = refl
+read_wire (op.Test n m) = refl
+read_wire (op.MakeList n) = refl
+read_wire (op.MakeMap n) = refl
+read_wire op.LoopStart = refl
+read_wire (op.LoopNext n) = refl
+read_wire (op.LoopGet n m) = refl
+read_wire (op.LoopKeep n) = refl
+read_wire op.LoopRewind = refl
+read_wire op.LoopEnd = refl
+read_wire op.CaptureBegin = refl
+read_wire (op.CaptureEnd n) = refl
+read_wire (op.Unpack n) = refl
+read_wire (op.Call n) = refl
+read_wire op.Return = refl
+
+pub read_wires : (is : List Instruction) → each_of instruction_of (map wire_of is) ≡ Some is
+read_wires [] = refl
+read_wires (i ∷ is) = ap (λ o. in_front o (each_of instruction_of (map wire_of is))) (read_wire i) ∙ ap (in_front (Some i)) (read_wires is)
+
+module _ (templates : List Text) (r : Routine) (c0 c1 c2 : Emitter) (empty : c0.code.items ≡ []) (whole : c0.overflowed ≡ false) (body : Emits 0 c0 (body_view templates r.body.items) c1) (last : Puts c1 (one None op.Return) c2) where
+  abbrev statements : Asm
+  statements = body_asm (body_view templates r.body.items end) 0
+
+  abbrev all : Asm
+  all = both statements (one None op.Return)
+
+  puts : Puts c0 all c2
+  puts = puts_then c0 c1 c2 statements (one None op.Return) (emits_alone 0 c0 c1 (body_view templates r.body.items) body) last
+
+  pub unit_emitted : (parameters locals : ℕ) → parameters ≡ r.parameters → locals ≡ r.locals → c2.overflowed ≡ false → section_of_unit (record { parameters = parameters; kind = 0; locals = locals; code = c2.code }) ≡ Some (unit_of (routine_view templates r))
+  unit_emitted parameters locals p l fine =
+      let is = flat statements 0 ++ op.Return ∷ [] in
+      let items : c2.code.items ≡ map wire_of is = puts.emitted fine ∙ ap (λ (l : List Instr). l ++ map wire_of (flat all (length l))) empty in
+      ap (option_map (λ (code : List Instruction). record { parameters = parameters; kind = 0; locals = locals; code = code })) (ap (each_of instruction_of) items ∙ read_wires is)
+      ∙ ap (λ (n : ℕ). Some (record { parameters = n; kind = 0; locals = locals; code = is })) p
+      ∙ ap (λ (n : ℕ). Some (record { parameters = r.parameters; kind = 0; locals = n; code = is })) l
+
+  pub unit_refused : c2.overflowed ≡ true → ¬ (FitsUnit (unit_of (routine_view templates r)))
+  unit_refused over = λ fits.
+      let place : HasPlace 0 all = record { len = omega (arith, fits.len); fields = fits.writable.code } in
+      let none : c2.overflowed ≡ false = puts.place (subst (λ (l : List Instr). HasPlace (length l) all) (sym empty) place) whole in
+      let both_ways : true ≡ false = sym over ∙ none in
+      cc

@@ -1,0 +1,90 @@
+-- The parameters and the locals of the routines of chains.
+use Rattle.std.proofs.Common.{◌≡◌, ℕ, suc, ◌<◌, ◌≤◌, ◌+◌, max, Bool, true, false, if◌then◌else◌, List, [], ◌∷◌, ◌++◌, length, map, Option, Some, None, refl, ap, subst, arith}
+use Rattle.std.specs.Prelude.{flat_map, filter}
+use Rattle.std.specs.List.{AllByRecursion}
+use Rattle.std.specs.Str.{bytes_eq}
+use Rattle.jt_parse.specs.Trees.{Parameter}
+use Rattle.jt_image.specs.Code.{Section}
+use Rattle.jt_inherit.specs.Chain.{Home, BlockBody, MacroBody, macros}
+use Rattle.jt_rules.specs.World.{World}
+use Rattle.jt_meaning.specs.Layout.{numbered_bodies, is_scoped, scopes, block_parameters}
+use Rattle.jt_meaning.specs.Measure.{IsFew, AreFew}
+use Rattle.jt_meaning.specs.Programs.{body_routines, chain_routines, routines}
+use Rattle.jt_meaning.specs.Resolve.{chain_routine, macro_routine, body_routine}
+use Rattle.jt_slots.specs.Slots.{Routine}
+use Rattle.jt_slots.specs.Pool.{Constant, body_values, placed_routines}
+use Rattle.jt_lower.specs.Lower.{unit_of}
+use Rattle.jt_codegen.proofs.Read.{all_append}
+
+mapped_len : {A B : Type 0} (f : A → B) (xs : List A) → length (map f xs) ≡ length xs
+mapped_len f [] = refl
+mapped_len f (x ∷ xs) = ap suc (mapped_len f xs)
+
+-- said of parameters and locals alone
+abbrev pub Of : {K : Type 0} → (ℕ → ℕ → Type 0) → Routine K → Type 0
+Of P r = P r.parameters r.locals
+
+placed_all : (P : ℕ → ℕ → Type 0) (rs : List (Routine Constant)) (n : ℕ) → AllByRecursion (Of P) rs → AllByRecursion (Of P) (placed_routines rs n)
+placed_all P [] n h = tt
+placed_all P (r ∷ rs) n h = (h.0, placed_all P rs (n + length (body_values r.body)) h.1)
+
+units_all : (P : ℕ → ℕ → Type 0) (rs : List (Routine ℕ)) → AllByRecursion (Of P) rs → AllByRecursion (λ u. P u.parameters u.locals) (map unit_of rs)
+units_all P [] h = tt
+units_all P (r ∷ rs) h = (h.0, units_all P rs h.1)
+
+module _ (P : ℕ → ℕ → Type 0) (world : World) (order : List Home) where
+  module _ (chains : (h : Home) → Of P (chain_routine world order h)) (bodies : (h : Home) (b : BlockBody) (behind : List (ℕ × BlockBody)) → Of P (body_routine world order h b behind)) where
+    macros_all : (h : Home) (ms : List MacroBody) → AllByRecursion (λ m. Of P (macro_routine world order h m)) ms → AllByRecursion (Of P) (map (macro_routine world order h) ms)
+    macros_all h [] g = tt
+    macros_all h (m ∷ ms) g = (g.0, macros_all h ms g.1)
+
+    bodies_all : (h : Home) (bs : List (ℕ × BlockBody)) → AllByRecursion (Of P) (body_routines world order h bs)
+    bodies_all h [] = tt
+    bodies_all h (b ∷ bs) = (bodies h b.1 (filter (λ c. bytes_eq c.1.name b.1.name) bs), bodies_all h bs)
+
+    all_of : (hs : List Home) → AllByRecursion (λ h. AllByRecursion (λ m. Of P (macro_routine world order h m)) (macros world.sources h)) hs → AllByRecursion (Of P) (flat_map (chain_routines world order) hs)
+    all_of [] g = tt
+    all_of (h ∷ hs) g =
+        all_append (Of P) (chain_routines world order h) (flat_map (chain_routines world order) hs)
+        (chains h, all_append (Of P) (map (macro_routine world order h) (macros world.sources h)) (body_routines world order h (numbered_bodies world h)) (macros_all h (macros world.sources h) g.0) (bodies_all h (numbered_bodies world h))) (all_of hs g.1)
+
+    -- what holds of each routine holds of each unit
+    pub units_so : (n : ℕ) → AllByRecursion (λ h. AllByRecursion (λ m. Of P (macro_routine world order h m)) (macros world.sources h)) order → AllByRecursion (λ u. P u.parameters u.locals) (map unit_of (placed_routines (routines world order) n))
+    units_so n g = units_all P (placed_routines (routines world order) n) (placed_all P (routines world order) n (all_of order g))
+
+-- parameters are locals
+abbrev Within : ℕ → ℕ → Type 0
+Within parameters locals = parameters ≤ locals
+
+pub parameters_within : (world : World) (order : List Home) (n : ℕ) → AllByRecursion (λ u. u.parameters ≤ u.locals) (map unit_of (placed_routines (routines world order) n))
+parameters_within world order n = units_so Within world order (λ h. omega arith) (λ h b behind. omega arith) n (all order)
+  where
+    each : (h : Home) (ms : List MacroBody) → AllByRecursion (λ m. Of Within (macro_routine world order h m)) ms
+    each h [] = tt
+    each h (m ∷ ms) = (omega arith, each h ms)
+
+    all : (hs : List Home) → AllByRecursion (λ h. AllByRecursion (λ m. Of Within (macro_routine world order h m)) (macros world.sources h)) hs
+    all [] = tt
+    all (h ∷ hs) = (each h (macros world.sources h), all hs)
+
+-- where they are few, they have place in their fields
+abbrev Few : ℕ → ℕ → Type 0
+Few parameters locals = parameters ≤ 200
+
+pub parameters_few : (world : World) (entry : Home) (rest : List Home) (n : ℕ) → AreFew world (entry ∷ rest) → AllByRecursion (λ u. u.parameters ≤ 200) (map unit_of (placed_routines (routines world (entry ∷ rest)) n))
+parameters_few world entry rest n few = units_so Few world order (λ h. omega arith) (λ h b behind. scoped h (is_scoped world h b.name)) n (all order few)
+  where
+    order : List Home
+    order = entry ∷ rest
+
+    scoped : (h : Home) (b : Bool) → length (if b then scopes world order h else []) ≤ 200
+    scoped h true = (few.0.names h).1
+    scoped h false = omega arith
+
+    each : (h : Home) (ms : List MacroBody) → AllByRecursion (λ m. length m.parameters ≤ 200) ms → AllByRecursion (λ m. Of Few (macro_routine world order h m)) ms
+    each h [] g = tt
+    each h (m ∷ ms) g = (omega (arith, g.0, mapped_len (λ (p : Parameter). p.name) m.parameters), each h ms g.1)
+
+    all : (hs : List Home) → AllByRecursion (IsFew world order) hs → AllByRecursion (λ h. AllByRecursion (λ m. Of Few (macro_routine world order h m)) (macros world.sources h)) hs
+    all [] g = tt
+    all (h ∷ hs) g = (each h (macros world.sources h) g.0.macros, all hs g.1)

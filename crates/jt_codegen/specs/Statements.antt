@@ -1,0 +1,23 @@
+-- The code of statements, put behind other code.
+use Rattle.std.specs.Prelude.{◌≡◌, ℕ, List, [], ◌∷◌, length, map, Option, option_map}
+use Rattle.jt_image.specs.declared.instruction.Instruction.TheVariants as op
+use Rattle.jt_slots.specs.Slots as slots
+use Rattle.jt_slots.specs.Slots.{SBody}
+use Rattle.jt_slots.specs.View.{Front, slot_view}
+use Rattle.jt_slots.specs.declared.program.Slot.{Slot}
+use Rattle.jt_lower.specs.Lower.{body_asm}
+use Rattle.jt_lower.specs.Emission.{Puts, Patches}
+use Rattle.jt_lower.specs.declared.emitter.Emitter.{Emitter}
+
+-- slots as contracts see them, each one or none
+abbrev pub slots_view : List (Option Slot) → List (Option slots.Slot)
+slots_view ss = map (option_map slot_view) ss
+
+-- whatever comes last: where its code stands behind the new code, the code of all stands behind the old one
+abbrev pub Emits : ℕ → Emitter → Front → Emitter → Type 0
+Emits h old front new = (behind : SBody ℕ) (final : Emitter) → Puts new (body_asm behind h) final → Puts old (body_asm (front behind) h) final
+
+-- the jumps at these points go behind all instructions
+abbrev pub Closes : Emitter → List ℕ → Emitter → Type 0
+Closes old [] new = new ≡ old
+Closes old (e ∷ es) new = (mid : Emitter) × Closes old es mid × Patches mid e (op.Jump (length mid.code.items)) new

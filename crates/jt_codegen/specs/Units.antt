@@ -1,0 +1,42 @@
+-- What an image has place for.
+use Rattle.std.specs.Prelude.{ℕ, ◌<◌, ◌≤◌, ◌^◌, List, length}
+use Rattle.std.specs.List.{AllByRecursion}
+use Rattle.jt_image.specs.Code.{Section, Code}
+use Rattle.jt_image.specs.IsCode.{max_locals, max_instructions}
+use Rattle.jt_image.specs.Parts.{KeepsLimits, IsWritable}
+use Rattle.jt_image.specs.declared.error.ImageError.{ImageError}
+use Rattle.jt_image.specs.declared.error.ImageError.TheVariants as image_error
+use Rattle.jt_codegen.specs.declared.emission.EmitError.{EmitError}
+use Rattle.jt_codegen.specs.declared.emission.EmitError.TheVariants as error
+
+-- an image has place for the unit, alone
+pub record FitsUnit (u : Section) : Type 0 where
+  pub locals : u.locals ≤ max_locals
+  pub len : length u.code ≤ max_instructions
+  pub writable : IsWritable u
+
+-- what a refusal says of a unit
+abbrev pub Refuses : EmitError → Section → Type 0
+Refuses error.CodeTooLong u = ¬ (FitsUnit u)
+Refuses error.NoMemory u = Unit {0}
+
+-- what a refusal says of units
+abbrev pub RefusesUnits : EmitError → List Section → Type 0
+RefusesUnits error.CodeTooLong us = ¬ (AllByRecursion FitsUnit us)
+RefusesUnits error.NoMemory us = Unit {0}
+
+-- an image has place for the code
+pub record FitsImage (k : Code) : Type 0 where
+  pub globals : k.globals < 2 ^ 16
+  pub limits : KeepsLimits k
+  pub units : AllByRecursion FitsUnit k.units
+
+-- what a refusal says of a whole code
+abbrev pub RefusesCode : EmitError → Code → Type 0
+RefusesCode error.CodeTooLong k = ¬ (FitsImage k)
+RefusesCode error.NoMemory k = Unit {0}
+
+-- where parts are no image: all but want of memory is want of place
+abbrev pub of_image : ImageError → EmitError
+of_image image_error.NoMemory = error.NoMemory
+of_image e = error.CodeTooLong

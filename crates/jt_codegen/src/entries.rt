@@ -1,0 +1,92 @@
+//! How many entries the code of resolved statements needs.
+
+ghost use Rattle.std.specs.Prelude.{◌≡◌, ◌&&◌, ◌≤◌, ◌↔◌, nat_le, ℕ, List, Option, option_map, map, IsTrue};
+ghost use Rattle.std.specs.List.{AllByRecursion};
+ghost use Rattle.jt_parse.specs.Trees.{Text};
+ghost use Rattle.jt_slots.specs.Size.{targets_height, condition_height, body_height};
+ghost use Rattle.jt_slots.specs.Slots as slots;
+ghost use Rattle.jt_slots.specs.Slots.{SBody};
+ghost use Rattle.jt_slots.specs.View.{targets_view, expr_view, stmt_view, body_view, routine_view};
+
+use jt_lower::{fits_expression, fits_row};
+use jt_slots::{Routine, SExpr, SStmt, Targets};
+
+/// Whether what takes a value needs at most so many entries.
+fn fits_targets(targets: &Targets, room: usize) -> bool
+    ensures { result ≡ nat_le (targets_height (targets_view targets.now)) room }
+{
+    match targets {
+        Targets::One(_) => room >= 1,
+        Targets::Several(slots) => room >= 1 && slots.len() <= room,
+    }
+}
+
+/// Whether a condition needs at most so many entries.
+fn fits_condition(condition: &Option<SExpr>, room: usize) -> bool
+    ensures { result ≡ nat_le (condition_height (option_map expr_view condition.now)) room }
+{
+    match condition {
+        None => true,
+        Some(expr) => fits_expression(expr, room),
+    }
+}
+
+/// Whether a statement needs at most so many entries.
+#[cycle(entries)]
+fn fits_statement(statement: &SStmt, room: usize) -> bool
+    ensures { (templates : List Text) (behind : SBody ℕ) → nat_le (body_height (stmt_view templates statement.now behind)) room ≡ result && nat_le (body_height behind) room }
+{
+    match statement {
+        SStmt::PutPooled(_) => true,
+        SStmt::Print(_, _, expr) => fits_expression(expr, room),
+        SStmt::Assign(_, targets, expr) => {
+            fits_expression(expr, room) && fits_targets(targets, room)
+        }
+        SStmt::If(branches, other) => {
+            for (_, condition, body) in branches {
+                if !fits_expression(condition, room) {
+                    return false;
+                }
+                if !fits_body(body, room) {
+                    return false;
+                }
+            }
+            fits_body(other, room)
+        }
+        SStmt::For(_, targets, iterated, condition, body, other) => {
+            if room == 0 {
+                return false;
+            }
+            let head = fits_expression(iterated, room) & fits_targets(targets, room - 1);
+            let turn = fits_condition(condition, room - 1) & fits_body(body, room - 1);
+            head & turn & fits_body(other, room)
+        }
+        SStmt::Capture(_, _, body) => room >= 1 && fits_body(body, room - 1),
+        SStmt::Run(_, row) => fits_row(row, room),
+    }
+}
+
+/// Whether statements need at most so many entries.
+#[cycle(entries)]
+fn fits_body(body: &[SStmt], room: usize) -> bool
+    ensures { (templates : List Text) (behind : SBody ℕ) → nat_le (body_height (body_view templates body.now behind)) room ≡ result && nat_le (body_height behind) room }
+{
+    for statement in body {
+        if !fits_statement(statement, room) {
+            return false;
+        }
+    }
+    true
+}
+
+/// Whether no routine needs more entries than that.
+pub(crate) fn fits_entries(routines: &[Routine], room: usize) -> bool
+    ensures { (templates : List Text) → IsTrue result ↔ AllByRecursion (λ (r : slots.Routine ℕ). body_height r.body ≤ room) (map (routine_view templates) routines.now) }
+{
+    for routine in routines {
+        if !fits_body(&routine.body, room) {
+            return false;
+        }
+    }
+    true
+}

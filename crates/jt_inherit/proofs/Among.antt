@@ -1,0 +1,81 @@
+-- Names among others.
+use Rattle.std.proofs.Common.{◌≡◌, ℕ, Bool, true, false, ◌||◌, List, [], ◌∷◌, ◌++◌, map, refl, sym, ap, subst, ◌∙◌}
+use Rattle.std.proofs.lemmas.Cmp.{nat_list_eq_equiv}
+use Rattle.std.proofs.lemmas.Slice.Eq.{bytes_eq-Decides}
+use Rattle.std.specs.List.{AllByRecursion}
+use Rattle.std.specs.Str.{bytes_eq}
+use Rattle.jt_parse.specs.Texts.{among, repeated}
+use Rattle.jt_parse.specs.Trees.{Text}
+
+pub same : (x y : Text) → bytes_eq x y ≡ true → x ≡ y
+same x y = (bytes_eq-Decides x y).0
+
+pub reflexive : (x : Text) → bytes_eq x x ≡ true
+reflexive x = nat_list_eq_equiv.refl x
+
+pub symmetric : (x y : Text) → bytes_eq x y ≡ bytes_eq y x
+symmetric x y = nat_list_eq_equiv.symm x y
+
+pub or_false : (a b : Bool) → (a || b) ≡ false → (a ≡ false) × (b ≡ false)
+or_false true b e = absurd (cc)
+or_false false b e = (refl, e)
+
+pub or_true : (a b : Bool) → b ≡ true → (a || b) ≡ true
+or_true true b h = refl
+or_true false b h = h
+
+pub both_false : (a b : Bool) → a ≡ false → b ≡ false → (a || b) ≡ false
+both_false a b p q = ap (λ c. c || b) p ∙ q
+
+-- in front, or behind
+pub among_front : (x : Text) (xs ys : List Text) → among x xs ≡ true → among x (xs ++ ys) ≡ true
+among_front x [] ys h = absurd (cc)
+among_front x (y ∷ xs) ys h = by (bytes_eq y x) refl (among_front x xs ys)
+  where
+    by : (b : Bool) → bytes_eq y x ≡ b → (among x xs ≡ true → among x (xs ++ ys) ≡ true) → among x (y ∷ xs ++ ys) ≡ true
+    by true e r = ap (λ c. c || among x (xs ++ ys)) e
+    by false e r =
+        let rest : among x xs ≡ true = sym (ap (λ c. c || among x xs) e) ∙ h in
+        or_true (bytes_eq y x) (among x (xs ++ ys)) (r rest)
+
+pub among_behind : (x : Text) (xs ys : List Text) → among x ys ≡ true → among x (xs ++ ys) ≡ true
+among_behind x [] ys h = h
+among_behind x (y ∷ xs) ys h = or_true (bytes_eq y x) (among x (xs ++ ys)) (among_behind x xs ys h)
+
+pub among_next : (x : Text) (xs ys : List Text) → among x (xs ++ x ∷ ys) ≡ true
+among_next x xs ys = among_behind x xs (x ∷ ys) (ap (λ b. b || among x ys) (reflexive x))
+
+not_next : (x y : Text) (xs : List Text) → among x xs ≡ false → bytes_eq y x ≡ false → among x (xs ++ y ∷ []) ≡ false
+not_next x y [] h e = both_false (bytes_eq y x) false e refl
+not_next x y (z ∷ xs) h e =
+    let k = or_false (bytes_eq z x) (among x xs) h in
+    both_false (bytes_eq z x) (among x (xs ++ y ∷ [])) k.0 (not_next x y xs k.1 e)
+
+-- a name that isn't there comes behind others
+pub once_more : (x : Text) (xs : List Text) → repeated xs ≡ false → among x xs ≡ false → repeated (xs ++ x ∷ []) ≡ false
+once_more x [] o h = refl
+once_more x (y ∷ xs) o h =
+    let a = or_false (among y xs) (repeated xs) o in
+    let b = or_false (bytes_eq y x) (among x xs) h in
+    both_false (among y (xs ++ x ∷ [])) (repeated (xs ++ x ∷ [])) (not_next y x xs a.0 (symmetric x y ∙ b.0)) (once_more x xs a.1 b.1)
+
+-- and one that is there comes again
+pub comes_again : (x : Text) (xs : List Text) → among x xs ≡ true → repeated (xs ++ x ∷ []) ≡ true
+comes_again x [] h = absurd (cc)
+comes_again x (y ∷ xs) h = by (bytes_eq y x) refl (comes_again x xs)
+  where
+    by : (b : Bool) → bytes_eq y x ≡ b → (among x xs ≡ true → repeated (xs ++ x ∷ []) ≡ true) → repeated (y ∷ xs ++ x ∷ []) ≡ true
+    by true e r =
+        let first : among y (xs ++ x ∷ []) ≡ true = subst (λ z. among z (xs ++ x ∷ []) ≡ true) (sym (same y x e)) (among_next x xs []) in
+        ap (λ c. c || repeated (xs ++ x ∷ [])) first
+    by false e r =
+        let rest : among x xs ≡ true = sym (ap (λ c. c || among x xs) e) ∙ h in
+        or_true (among y (xs ++ x ∷ [])) (repeated (xs ++ x ∷ [])) (r rest)
+
+pub map_more : {X Y : Type 0} (f : X → Y) (xs : List X) (x : X) → map f (xs ++ x ∷ []) ≡ map f xs ++ f x ∷ []
+map_more f [] x = refl
+map_more f (y ∷ xs) x = ap (λ l. f y ∷ l) (map_more f xs x)
+
+pub all_more : {X : Type 0} (P : X → Type 0) (xs : List X) (x : X) → AllByRecursion P xs → P x → AllByRecursion P (xs ++ x ∷ [])
+all_more P [] x a p = (p, tt)
+all_more P (y ∷ xs) x a p = (a.0, all_more P xs x a.1 p)

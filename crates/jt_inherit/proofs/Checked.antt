@@ -1,0 +1,330 @@
+-- The rules on bodies of blocks, as they are checked one body after the other.
+use Rattle.std.proofs.Common.{◌≡◌, ℕ, zero, suc, ◌+◌, ◌<◌, ◌≤◌, Bool, true, false, not, cond, ◌&&◌, ◌||◌, if◌then◌else◌, List, [], ◌∷◌, ◌++◌, length, map, take, drop, get_or, refl, sym, ap, subst, ◌∙◌, arith}
+use Rattle.std.specs.Prelude.{filter, slice_get, unwrap_or, option_map, ◌==◌}
+use Rattle.std.proofs.Common.{Some}
+use Rattle.std.proofs.lemmas.Bool.Decides.{nat_tests}
+use Rattle.std.proofs.lemmas.List.{drop_more}
+use Rattle.std.proofs.lemmas.Option.{slice_get-get_or, get_or_from_slice_get}
+use Rattle.std.specs.List.{list_any}
+use Rattle.std.specs.Str.{bytes_eq}
+use denote.Ref.{Bor}
+use Rattle.jt_parse.specs.Texts.{among, repeated}
+use Rattle.jt_parse.specs.Trees.{Text, end}
+use Rattle.std.specs.Option.{option_to_list}
+use Rattle.jt_inherit.specs.Along.{body_at, templates_at}
+use Rattle.jt_inherit.specs.Kept.{any_double}
+use Rattle.jt_inherit.specs.Chain.{Template, BlockBody, from_given, blocks_in}
+use Rattle.jt_inherit.specs.Checks.{named, lacks_body, lacks_next, block_names}
+use Rattle.jt_inherit.specs.Parts.{block_view, blocks_view, name_at}
+use Rattle.jt_inherit.specs.declared.parts.Block.{Block}
+use Rattle.jt_inherit.specs.Rules.{is_required, lacks_super, is_empty}
+use Rattle.jt_inherit.specs.Supers.{calls_super}
+use Rattle.jt_inherit.specs.SetView.{texts}
+use Rattle.jt_inherit.proofs.Among.{same, reflexive, symmetric, or_false, or_true, both_false, among_next, once_more}
+
+-- ---- a set of texts
+
+pub any_text : (x : Text) (ks : List (Bor Text)) → list_any (λ k. bytes_eq x k.now) ks ≡ among x (texts ks)
+any_text x [] = refl
+any_text x (k ∷ ks) = ap (λ b. b || list_any (λ (j : Bor Text). bytes_eq x j.now) ks) (symmetric x k.now) ∙ ap (λ b. bytes_eq k.now x || b) (any_text x ks)
+
+pub texts_more : (ks : List (Bor Text)) (x : Bor Text) → texts (ks ++ x ∷ []) ≡ texts ks ++ x.now ∷ []
+texts_more [] x = refl
+texts_more (k ∷ ks) x = ap (λ l. k.now ∷ l) (texts_more ks x)
+
+-- ---- a name that comes again
+
+pub again : (x : Text) (xs ys : List Text) → among x xs ≡ true → repeated (xs ++ x ∷ ys) ≡ true
+again x [] ys h = absurd (cc)
+again x (y ∷ xs) ys h = by (bytes_eq y x) refl (again x xs ys)
+  where
+    by : (b : Bool) → bytes_eq y x ≡ b → (among x xs ≡ true → repeated (xs ++ x ∷ ys) ≡ true) → repeated (y ∷ xs ++ x ∷ ys) ≡ true
+    by true e r =
+        let first : among y (xs ++ x ∷ ys) ≡ true = subst (λ z. among z (xs ++ x ∷ ys) ≡ true) (sym (same y x e)) (among_next x xs ys) in
+        ap (λ c. c || repeated (xs ++ x ∷ ys)) first
+    by false e r =
+        let rest : among x xs ≡ true = sym (ap (λ c. c || among x xs) e) ∙ h in
+        or_true (among y (xs ++ x ∷ ys)) (repeated (xs ++ x ∷ ys)) (r rest)
+
+-- ---- the nearest body
+
+abbrev pub names_of : List BlockBody → List Text
+names_of bs = map (λ b. b.name) bs
+
+-- each nearest body of these is given
+abbrev pub AreGiven : List BlockBody → Type 0
+AreGiven bs = (x : Text) → is_required (named x bs) ≡ false
+
+-- a body behind others is the nearest one where its name is new
+named_new : (x : Text) (bs cs : List BlockBody) → among x (names_of bs) ≡ false → named x (bs ++ cs) ≡ named x cs
+named_new x [] cs h = refl
+named_new x (b ∷ bs) cs h =
+    let k = or_false (bytes_eq b.name x) (among x (names_of bs)) h in
+    ap (λ c. cond c (b ∷ named x (bs ++ cs)) (named x (bs ++ cs))) k.0 ∙ named_new x bs cs k.1
+
+-- and others are, where it isn't
+named_old : (x : Text) (bs cs : List BlockBody) → among x (names_of bs) ≡ true → is_required (named x (bs ++ cs)) ≡ is_required (named x bs)
+named_old x [] cs h = absurd (cc)
+named_old x (b ∷ bs) cs h = by (bytes_eq b.name x) refl (named_old x bs cs)
+  where
+    by : (c : Bool) → bytes_eq b.name x ≡ c → (among x (names_of bs) ≡ true → is_required (named x (bs ++ cs)) ≡ is_required (named x bs))
+        → is_required (named x (b ∷ bs ++ cs)) ≡ is_required (named x (b ∷ bs))
+    by true e r =
+        ap (λ c. is_required (cond c (b ∷ named x (bs ++ cs)) (named x (bs ++ cs)))) e ∙ sym (ap (λ c. is_required (cond c (b ∷ named x bs) (named x bs))) e)
+    by false e r =
+        let rest : among x (names_of bs) ≡ true = sym (ap (λ c. c || among x (names_of bs)) e) ∙ h in
+        ap (λ c. is_required (cond c (b ∷ named x (bs ++ cs)) (named x (bs ++ cs)))) e ∙ r rest ∙ sym (ap (λ c. is_required (cond c (b ∷ named x bs) (named x bs))) e)
+
+named_one : (x : Text) (b : BlockBody) → named x (b ∷ []) ≡ cond (bytes_eq b.name x) (b ∷ []) []
+named_one x b = refl
+
+-- one body more
+pub given_more : (bs : List BlockBody) (b : BlockBody) → AreGiven bs → (not (among b.name (names_of bs)) && b.required) ≡ false → AreGiven (bs ++ b ∷ [])
+given_more bs b g h x = by (among x (names_of bs)) refl
+  where
+    none : among x (names_of bs) ≡ false → (c : Bool) → bytes_eq b.name x ≡ c → is_required (cond c (b ∷ []) []) ≡ false
+    none n true e =
+        let m : among b.name (names_of bs) ≡ false = ap (λ y. among y (names_of bs)) (same b.name x e) ∙ n in
+        sym (ap (λ c. not c && b.required) m) ∙ h
+    none n false e = refl
+
+    by : (a : Bool) → among x (names_of bs) ≡ a → is_required (named x (bs ++ b ∷ [])) ≡ false
+    by true e = named_old x bs (b ∷ []) e ∙ g x
+    by false e = ap is_required (named_new x bs (b ∷ []) e) ∙ none e (bytes_eq b.name x) refl
+
+any_none : {X : Type 0} (p : X → Bool) → ((x : X) → p x ≡ false) → (xs : List X) → list_any p xs ≡ false
+any_none p h [] = refl
+any_none p h (x ∷ xs) = both_false (p x) (list_any p xs) (h x) (any_none p h xs)
+
+any_here : {X : Type 0} (p : X → Bool) (xs : List X) (x : X) (ys : List X) → p x ≡ true → list_any p (xs ++ x ∷ ys) ≡ true
+any_here p [] x ys h = ap (λ b. b || list_any p ys) h
+any_here p (y ∷ xs) x ys h = or_true (p y) (list_any p (xs ++ x ∷ ys)) (any_here p xs x ys h)
+
+pub all_given : (bs : List BlockBody) → AreGiven bs → lacks_body bs ≡ false
+all_given bs g = any_none (λ b. is_required (named b.name bs)) (λ b. g b.name) bs
+
+pub none_given : (bs : List BlockBody) (b : BlockBody) (cs : List BlockBody) → among b.name (names_of bs) ≡ false → b.required ≡ true → lacks_body (bs ++ b ∷ cs) ≡ true
+none_given bs b cs n r =
+    any_here (λ c. is_required (named c.name (bs ++ b ∷ cs))) bs b cs
+    (ap is_required (named_new b.name bs (b ∷ cs) n) ∙ ap (λ c. is_required (cond c (b ∷ named b.name cs) (named b.name cs))) (reflexive b.name) ∙ r)
+
+-- ---- bodies to go on with
+
+-- whether a given body of the name is among these
+abbrev pub has_given : Text → List BlockBody → Bool
+has_given x [] = false
+has_given x (b ∷ bs) = (bytes_eq b.name x && not b.required) || has_given x bs
+
+none_behind : (x : Text) (bs : List BlockBody) → is_empty (from_given (named x bs)) ≡ not (has_given x bs)
+none_behind x [] = refl
+none_behind x (b ∷ bs) = by (bytes_eq b.name x) b.required refl refl (none_behind x bs)
+  where
+    by : (c r : Bool) → bytes_eq b.name x ≡ c → b.required ≡ r → is_empty (from_given (named x bs)) ≡ not (has_given x bs)
+        → is_empty (from_given (named x (b ∷ bs))) ≡ not (has_given x (b ∷ bs))
+    by false r e f h =
+        ap (λ c. is_empty (from_given (cond c (b ∷ named x bs) (named x bs)))) e ∙ h ∙ sym (ap (λ c. not ((c && not b.required) || has_given x bs)) e)
+    by true true e f h =
+        ap (λ c. is_empty (from_given (cond c (b ∷ named x bs) (named x bs)))) e ∙ ap (λ r. is_empty (if r then from_given (named x bs) else b ∷ named x bs)) f ∙ h
+        ∙ sym (ap (λ c. not ((c && not b.required) || has_given x bs)) e ∙ ap (λ r. not (not r || has_given x bs)) f)
+    by true false e f h =
+        ap (λ c. is_empty (from_given (cond c (b ∷ named x bs) (named x bs)))) e ∙ ap (λ r. is_empty (if r then from_given (named x bs) else b ∷ named x bs)) f
+        ∙ sym (ap (λ c. not ((c && not b.required) || has_given x bs)) e ∙ ap (λ r. not (not r || has_given x bs)) f)
+
+-- no body of these lacks one
+abbrev pub HaveNext : List BlockBody → Type 0
+HaveNext bs = (x : Text) → lacks_super (named x bs) ≡ false
+
+pub next_more : (b : BlockBody) (bs : List BlockBody) → HaveNext bs → (not (has_given b.name bs) && calls_super b.body) ≡ false → HaveNext (b ∷ bs)
+next_more b bs n h x = by (bytes_eq b.name x) refl
+  where
+    swap : (p q : Bool) → (p && q) ≡ (q && p)
+    swap true true = refl
+    swap true false = refl
+    swap false true = refl
+    swap false false = refl
+
+    by : (c : Bool) → bytes_eq b.name x ≡ c → lacks_super (named x (b ∷ bs)) ≡ false
+    by false e = ap (λ c. lacks_super (cond c (b ∷ named x bs) (named x bs))) e ∙ n x
+    by true e =
+        let y = same b.name x e in
+        let first : (calls_super b.body && is_empty (from_given (named x bs))) ≡ false =
+        ap (λ z. calls_super b.body && z) (none_behind x bs) ∙ swap (calls_super b.body) (not (has_given x bs)) ∙ ap (λ z. not (has_given z bs) && calls_super b.body) (sym y) ∙ h in
+        ap (λ c. lacks_super (cond c (b ∷ named x bs) (named x bs))) e ∙ both_false (calls_super b.body && is_empty (from_given (named x bs))) (lacks_super (named x bs)) first (n x)
+
+pub all_next : (bs : List BlockBody) → HaveNext bs → lacks_next bs ≡ false
+all_next bs n = any_none (λ b. lacks_super (named b.name bs)) (λ b. n b.name) bs
+
+lacks_front : (x : Text) (bs cs : List BlockBody) → lacks_super (named x cs) ≡ true → lacks_super (named x (bs ++ cs)) ≡ true
+lacks_front x [] cs h = h
+lacks_front x (b ∷ bs) cs h = by (bytes_eq b.name x) (lacks_front x bs cs h)
+  where
+    by : (c : Bool) → lacks_super (named x (bs ++ cs)) ≡ true → lacks_super (cond c (b ∷ named x (bs ++ cs)) (named x (bs ++ cs))) ≡ true
+    by true r = or_true (calls_super b.body && is_empty (from_given (named x (bs ++ cs)))) (lacks_super (named x (bs ++ cs))) r
+    by false r = r
+
+pub none_next : (bs : List BlockBody) (b : BlockBody) (cs : List BlockBody) → has_given b.name cs ≡ false → calls_super b.body ≡ true → lacks_next (bs ++ b ∷ cs) ≡ true
+none_next bs b cs n h =
+    let empty : is_empty (from_given (named b.name cs)) ≡ true = none_behind b.name cs ∙ ap not n in
+    let here : lacks_super (named b.name (b ∷ cs)) ≡ true =
+    ap (λ c. lacks_super (cond c (b ∷ named b.name cs) (named b.name cs))) (reflexive b.name)
+    ∙ ap (λ c. (c && is_empty (from_given (named b.name cs))) || lacks_super (named b.name cs)) h ∙ ap (λ c. c || lacks_super (named b.name cs)) empty in
+    any_here (λ c. lacks_super (named c.name (bs ++ b ∷ cs))) bs b cs (lacks_front b.name bs (b ∷ cs) here)
+
+-- ---- one element more
+
+pub parted : {X : Type 0} (xs : List X) (i : ℕ) (x : X) → i < length xs → x ≡ get_or xs i x → (rest : List X) × (xs ≡ take i xs ++ x ∷ rest)
+parted [] i x lt is = absurd (omega arith)
+parted (y ∷ ys) zero x lt is = (ys, ap (λ z. z ∷ ys) (sym is))
+parted (y ∷ ys) (suc i) x lt is =
+    let r = parted ys i x (omega arith) is in
+    (r.0, ap (λ l. y ∷ l) r.1)
+
+take_suc : {X : Type 0} (xs : List X) (i : ℕ) (x : X) → i < length xs → x ≡ get_or xs i x → take (suc i) xs ≡ take i xs ++ x ∷ []
+take_suc [] i x lt is = absurd (omega arith)
+take_suc (y ∷ ys) zero x lt is = ap (λ z. z ∷ []) (sym is)
+take_suc (y ∷ ys) (suc i) x lt is = ap (λ l. y ∷ l) (take_suc ys i x (omega arith) is)
+
+pub take_next : {X : Type 0} (xs : List X) (i : ℕ) (x : X) → i < length xs → x ≡ get_or xs i x → take (i + 1) xs ≡ take i xs ++ x ∷ []
+take_next xs i x lt is = (let e : i + 1 ≡ suc i = omega arith in ap (λ n. take n xs) e) ∙ take_suc xs i x lt is
+
+pub map_append : {X Y : Type 0} (f : X → Y) (xs ys : List X) → map f (xs ++ ys) ≡ map f xs ++ map f ys
+map_append f [] ys = refl
+map_append f (x ∷ xs) ys = ap (λ l. f x ∷ l) (map_append f xs ys)
+
+pub take_all : {X : Type 0} (xs : List X) (i : ℕ) → length xs ≤ i → take i xs ≡ xs
+take_all [] zero le = refl
+take_all [] (suc i) le = refl
+take_all (x ∷ xs) zero le = absurd (omega arith)
+take_all (x ∷ xs) (suc i) le = ap (λ l. x ∷ l) (take_all xs i (omega arith))
+
+module _ {X : Type 0} (f : X → Text) (xs : List X) (i : ℕ) (x : X) (lt : i < length xs) (is : x ≡ get_or xs i x) where
+  pub repeat_found : (ks : List Text) → ks ≡ map f (take i xs) → among (f x) ks ≡ true → repeated (map f xs) ≡ true
+  repeat_found ks e h =
+      let p = parted xs i x lt is in
+      ap (λ l. repeated (map f l)) p.1 ∙ ap repeated (map_append f (take i xs) (x ∷ p.0)) ∙ again (f x) (map f (take i xs)) (map f p.0) (ap (among (f x)) (sym e) ∙ h)
+
+  pub repeat_goes : (ks ms : List Text) (b : Bool) → ks ≡ map f (take i xs) → repeated ks ≡ false → b ≡ among (f x) ks → ms ≡ (if b then ks else ks ++ f x ∷ []) → b ≡ false
+      → (ms ≡ map f (take (i + 1) xs)) × (repeated ms ≡ false)
+  repeat_goes ks ms b e o k m off =
+      let added : ms ≡ ks ++ f x ∷ [] = m ∙ ap (λ c. if c then ks else ks ++ f x ∷ []) off in (
+        added ∙ ap (λ l. l ++ f x ∷ []) e ∙ sym (map_append f (take i xs) (x ∷ [])) ∙ ap (map f) (sym (take_next xs i x lt is)),
+        ap repeated added ∙ once_more (f x) ks o (sym k ∙ off),
+      )
+
+or_nil : (c : Bool) → (c || false) ≡ c
+or_nil true = refl
+or_nil false = refl
+
+or_three : (c d e : Bool) → (c || (d || e)) ≡ ((c || d) || e)
+or_three true d e = refl
+or_three false d e = refl
+
+pub among_snoc : (l : List Text) (n y : Text) → among y (l ++ n ∷ []) ≡ (among y l || bytes_eq n y)
+among_snoc [] n y = or_nil (bytes_eq n y)
+among_snoc (z ∷ l) n y = ap (λ c. bytes_eq z y || c) (among_snoc l n y) ∙ or_three (bytes_eq z y) (among y l) (bytes_eq n y)
+
+-- a set that gets a name
+pub among_set : (ks ms pre : List Text) (n : Text) (b : Bool) → ((y : Text) → among y ks ≡ among y pre) → b ≡ among n ks → ms ≡ (if b then ks else ks ++ n ∷ []) → (y : Text) → among y ms ≡ among y (pre ++ n ∷ [])
+among_set ks ms pre n b h k m y = ap (among y) m ∙ by b refl
+  where
+    there : (c : Bool) → bytes_eq n y ≡ c → among n pre ≡ true → among y pre ≡ (among y pre || bytes_eq n y)
+    there true e a =
+        let q : among y pre ≡ true = ap (λ z. among z pre) (sym (same n y e)) ∙ a in
+        q ∙ sym (ap (λ c. c || bytes_eq n y) q)
+    there false e a = or_none (among y pre) ∙ ap (λ c. among y pre || c) (sym e)
+      where
+        or_none : (c : Bool) → c ≡ (c || false)
+        or_none true = refl
+        or_none false = refl
+
+    by : (c : Bool) → b ≡ c → among y (if b then ks else ks ++ n ∷ []) ≡ among y (pre ++ n ∷ [])
+    by true e =
+        ap (λ c. among y (if c then ks else ks ++ n ∷ [])) e ∙ h y ∙ there (bytes_eq n y) refl (sym (h n) ∙ sym k ∙ e) ∙ sym (among_snoc pre n y)
+    by false e =
+        ap (λ c. among y (if c then ks else ks ++ n ∷ [])) e ∙ among_snoc ks n y ∙ ap (λ c. c || bytes_eq n y) (h y) ∙ sym (among_snoc pre n y)
+
+-- ---- bodies in a row
+
+pub names_seen : (ts : List Template) (xs : List Block) → names_of (blocks_view ts xs) ≡ block_names xs
+names_seen ts [] = refl
+names_seen ts (x ∷ xs) = ap (λ l. x.name.now ∷ l) (names_seen ts xs)
+
+module _ (ts : List Template) (xs : List Block) (i : ℕ) (x : Block) (lt : i < length xs) (is : x ≡ get_or xs i x) where
+  pub body_lacking : (ks : List Text) → ((y : Text) → among y ks ≡ among y (block_names (take i xs))) → (not (among x.name.now ks) && x.required) ≡ true → lacks_body (blocks_view ts xs) ≡ true
+  body_lacking ks h both =
+      let p = parted xs i x lt is in
+      let a = and_both (not (among x.name.now ks)) x.required both in
+      let n : among x.name.now (names_of (blocks_view ts (take i xs))) ≡ false = ap (among x.name.now) (names_seen ts (take i xs)) ∙ sym (h x.name.now) ∙ not_true (among x.name.now ks) a.0 in
+      ap (λ l. lacks_body (blocks_view ts l)) p.1 ∙ ap lacks_body (map_append (block_view ts) (take i xs) (x ∷ p.0)) ∙ none_given (blocks_view ts (take i xs)) (block_view ts x) (blocks_view ts p.0) n a.1
+    where
+      and_both : (a b : Bool) → (a && b) ≡ true → (a ≡ true) × (b ≡ true)
+      and_both true b e = (refl, e)
+      and_both false b e = absurd (cc)
+
+      not_true : (a : Bool) → not a ≡ true → a ≡ false
+      not_true true e = cc
+      not_true false e = refl
+
+  pub body_goes : (ks : List Text) → ((y : Text) → among y ks ≡ among y (block_names (take i xs))) → AreGiven (blocks_view ts (take i xs)) → (not (among x.name.now ks) && x.required) ≡ false
+      → AreGiven (blocks_view ts (take (i + 1) xs))
+  body_goes ks h g off =
+      let e : blocks_view ts (take (i + 1) xs) ≡ blocks_view ts (take i xs) ++ block_view ts x ∷ [] = ap (blocks_view ts) (take_next xs i x lt is) ∙ map_append (block_view ts) (take i xs) (x ∷ []) in
+      let n : among x.name.now (names_of (blocks_view ts (take i xs))) ≡ among x.name.now ks = ap (among x.name.now) (names_seen ts (take i xs)) ∙ sym (h x.name.now) in
+      subst AreGiven (sym e) (given_more (blocks_view ts (take i xs)) (block_view ts x) g (ap (λ c. not c && x.required) n ∙ off))
+
+pub not_not : (b : Bool) → not (not b) ≡ b
+not_not true = refl
+not_not false = refl
+
+-- a set that gets the name of a given body
+pub given_noted : (ks ms : List Text) (n : Text) (b r : Bool) (x : Text) → b ≡ among n ks → ms ≡ (if b then ks else ks ++ n ∷ []) → not r ≡ true → among x ms ≡ ((bytes_eq n x && not r) || among x ks)
+given_noted ks ms n b r x k m off =
+    among_set ks ms ks n b (λ y. refl) k m x ∙ among_snoc ks n x ∙ swapped (among x ks) (bytes_eq n x) ∙ ap (λ c. (bytes_eq n x && c) || among x ks) (sym off)
+  where
+    swapped : (a c : Bool) → (a || c) ≡ ((c && true) || a)
+    swapped true true = refl
+    swapped true false = refl
+    swapped false true = refl
+    swapped false false = refl
+
+-- ---- templates by their places, one more
+
+nothing : Template
+nothing = record { name = []; body = end }
+
+module _ (e : Bool) (ts : List Template) (is : List ℕ) (k : ℕ) (lt : k < length is) (within : get_or is k 0 < length ts) (xs : List Block) (b : Bool)
+    (seen : blocks_view ts xs ≡ blocks_in (name_at ts (get_or is k 0)) (body_at ts (get_or is k 0)) e) (told : b ≡ repeated (block_names xs)) where
+  double_left : any_double e (templates_at ts (drop k is)) ≡ (b || any_double e (templates_at ts (drop (k + 1) is)))
+  double_left =
+      let i = get_or is k 0 in
+      let t = get_or ts i nothing in
+      let at : slice_get ts i ≡ Some t = slice_get-get_or ts i nothing within in
+      let found : blocks_in (name_at ts i) (body_at ts i) e ≡ blocks_in t.name t.body e =
+      ap (λ o. blocks_in (unwrap_or (option_map (λ (u : Template). u.name) o) []) (unwrap_or (option_map (λ (u : Template). u.body) o) end) e) at in
+      let twice : repeated (map (λ (x : BlockBody). x.name) (blocks_in t.name t.body e)) ≡ b =
+      ap (λ l. repeated (names_of l)) (sym found) ∙ ap (λ l. repeated (names_of l)) (sym seen) ∙ ap repeated (names_seen ts xs) ∙ sym told in
+      ap (λ l. any_double e (templates_at ts l)) (drop_more is k 0 lt) ∙ ap (λ o. any_double e (option_to_list o ++ templates_at ts (drop (k + 1) is))) at
+      ∙ ap (λ c. c || any_double e (templates_at ts (drop (k + 1) is))) twice
+
+  pub double_found : b ≡ true → any_double e (templates_at ts (drop k is)) ≡ true
+  double_found h = double_left ∙ ap (λ c. c || any_double e (templates_at ts (drop (k + 1) is))) h
+
+  pub double_none : b ≡ false → any_double e (templates_at ts (drop k is)) ≡ any_double e (templates_at ts (drop (k + 1) is))
+  double_none h = double_left ∙ ap (λ c. c || any_double e (templates_at ts (drop (k + 1) is))) h
+
+pub next_lacking : (ts : List Template) (qs : List Block) (b : Block) (rest : List Block) → (not (has_given b.name.now (blocks_view ts rest)) && calls_super (block_view ts b).body) ≡ true → lacks_next (blocks_view ts (qs ++ b ∷ rest)) ≡ true
+next_lacking ts qs b rest h =
+    let a = and_both (not (has_given b.name.now (blocks_view ts rest))) (calls_super (block_view ts b).body) h in
+    ap lacks_next (map_append (block_view ts) qs (b ∷ rest)) ∙ none_next (blocks_view ts qs) (block_view ts b) (blocks_view ts rest) (not_true (has_given b.name.now (blocks_view ts rest)) a.0) a.1
+  where
+    and_both : (a b : Bool) → (a && b) ≡ true → (a ≡ true) × (b ≡ true)
+    and_both true b e = (refl, e)
+    and_both false b e = absurd (cc)
+
+    not_true : (a : Bool) → not a ≡ true → a ≡ false
+    not_true true e = cc
+    not_true false e = refl
+
+pub no_items : {X : Type 0} (xs : List X) → length xs ≡ 0 → xs ≡ []
+no_items [] e = refl
+no_items (x ∷ xs) e = absurd (omega arith)

@@ -1,0 +1,291 @@
+-- Chains that were followed: what is known of them stays as more is found.
+use Rattle.std.proofs.Common.{◌≡◌, ℕ, zero, suc, ◌+◌, ◌<◌, ◌≤◌, Bool, true, false, not, cond, ◌||◌, if◌then◌else◌, List, [], ◌∷◌, ◌++◌, length, map, refl, sym, ap, subst, ◌∙◌, arith, ◌⊎◌, ⊎_elim, inl, inr, Option, Some, None, length-append, get_or, string_bytes, String, Vec, Global}
+use Rattle.std.specs.Prelude.{slice_get, flat_map, filter, unwrap_or}
+use Rattle.std.specs.List.{AllByRecursion}
+use Rattle.std.specs.Option.{is_some, option_to_list}
+use Rattle.std.specs.Str.{bytes_eq}
+use Rattle.std.proofs.lemmas.Option.{slice_get_within}
+use Rattle.std.proofs.lemmas.List.{append_assoc}
+use Rattle.jt_scan.specs.declared.options.Options.{Options}
+use Rattle.jt_parse.specs.Texts.{among, repeated}
+use Rattle.jt_parse.specs.Trees.{Text, Body}
+use Rattle.jt_inherit.specs.Along.{ArePlaces, templates_at, includes_along, body_at}
+use Rattle.jt_inherit.specs.Chain.{Sources, Template, templates, sources_in}
+use Rattle.jt_inherit.specs.Chains.{Given, IsRead}
+use Rattle.jt_inherit.specs.Found.{AreNext, IsMet, IsNeedFault, IsNextFault, IsFollowed, AreFollowed, AreFound, known_of, chosen}
+use Rattle.jt_inherit.specs.Includes.{included, needs_in}
+use Rattle.jt_inherit.specs.Needs.{Need, needed, includes_in}
+use Rattle.jt_inherit.specs.Parts.{name_at}
+use Rattle.jt_inherit.specs.Places.{home_at}
+use Rattle.jt_inherit.specs.Refusals.{Breaks}
+use Rattle.jt_inherit.specs.Rules.{Reaches, here, asked, way}
+use Rattle.jt_inherit.specs.Ways.{AreKnown, IsWay}
+use Rattle.jt_inherit.specs.declared.error.ChainError.{ChainError}
+use Rattle.jt_inherit.specs.declared.error.ChainError.TheVariants as error
+use Rattle.jt_inherit.proofs.Among.{same, reflexive, or_true, both_false, among_front, among_behind}
+use Rattle.jt_inherit.proofs.Following.{met_grows, numbers_grow, text_among}
+use Rattle.jt_inherit.proofs.Growing.{reach_more, reaches_next}
+use Rattle.jt_inherit.proofs.Leads.{names, templates_grow, way_grows, few_templates, templates_to_root, asked_breaks}
+use Rattle.jt_inherit.proofs.Needed.{by_templates}
+use Rattle.jt_inherit.proofs.Placed.{along_templates, map_at, length-map}
+use Rattle.jt_order.specs.View.{graph_of}
+use Rattle.jt_inherit.specs.Pages.{page_view, pages_view}
+use Rattle.jt_inherit.specs.SetView.{strings}
+use Rattle.jt_inherit.specs.declared.linked.Page.{Page}
+
+-- ---- templates at places
+
+placed_one : (ts : List Template) (i : ℕ) → i < length ts → (t : Template) × (slice_get ts i ≡ Some t)
+placed_one [] i lt = absurd (omega arith)
+placed_one (t ∷ ts) zero lt = (t, refl)
+placed_one (t ∷ ts) (suc i) lt = placed_one ts i (omega arith)
+
+pub placed_templates : (ts : List Template) (is : List ℕ) → ArePlaces ts is → map (slice_get ts) is ≡ map Some (templates_at ts is)
+placed_templates ts [] a = refl
+placed_templates ts (i ∷ is) a =
+    let p = placed_one ts i a.0 in
+    let e = p.1 in
+    ap (λ o. o ∷ map (slice_get ts) is) e ∙ ap (λ l. Some p.0 ∷ l) (placed_templates ts is a.1)
+    ∙ sym (ap (λ o. map Some (option_to_list o ++ templates_at ts is)) e)
+
+pub includes_told : (ts : List Template) (is : List ℕ) → ArePlaces ts is → includes_along ts is ≡ flat_map (λ t. includes_in t.body) (templates_at ts is)
+includes_told ts is a = along_templates (λ n b. includes_in b) ts is (templates_at ts is) (placed_templates ts is a)
+
+pub includes_grow : (ts us : List Template) (is : List ℕ) → ArePlaces ts is → ArePlaces (ts ++ us) is → includes_along (ts ++ us) is ≡ includes_along ts is
+includes_grow ts us is a b = includes_told (ts ++ us) is b ∙ ap (flat_map (λ t. includes_in t.body)) (templates_grow ts us is a) ∙ sym (includes_told ts is a)
+
+-- ---- what has a source
+
+pub some_source : (ts : List Template) (m : Text) → is_some (sources_in ts m) ≡ among m (names ts)
+some_source [] m = refl
+some_source (t ∷ ts) m = by (bytes_eq t.name m) refl (some_source ts m)
+  where
+    by : (b : Bool) → bytes_eq t.name m ≡ b → is_some (sources_in ts m) ≡ among m (names ts) → is_some (if bytes_eq t.name m then Some t.body else sources_in ts m) ≡ (bytes_eq t.name m || among m (names ts))
+    by true e r = ap (λ b. is_some (if b then Some t.body else sources_in ts m)) e ∙ sym (ap (λ b. b || among m (names ts)) e)
+    by false e r = ap (λ b. is_some (if b then Some t.body else sources_in ts m)) e ∙ r ∙ sym (ap (λ b. b || among m (names ts)) e)
+
+filter_same : (p q : Text → Bool) → ((m : Text) → p m ≡ q m) → (xs : List Text) → filter p xs ≡ filter q xs
+filter_same p q e [] = refl
+filter_same p q e (x ∷ xs) = ap (λ b. cond b (x ∷ filter p xs) (filter p xs)) (e x) ∙ ap (λ l. cond (q x) (x ∷ l) l) (filter_same p q e xs)
+
+pub whole_way : (ts : List Template) (h : Text) (is : List ℕ) → IsWay ts h is None → templates (sources_in ts) h ≡ templates_at ts is
+whole_way ts h is w = templates_to_root (sources_in ts) h (templates_at ts is) (omega (arith, few_templates ts is, w.few)) w.leads
+
+-- what a chain includes
+pub included_is : (ts : List Template) (h : Text) (is : List ℕ) → IsWay ts h is None → included (sources_in ts) h ≡ chosen (names ts) (includes_along ts is)
+included_is ts h is w =
+    ap (λ us. filter (λ m. is_some (sources_in ts m)) (flat_map (λ t. needs_in true t.body) us)) (whole_way ts h is w)
+    ∙ ap (filter (λ m. is_some (sources_in ts m))) (sym (by_templates true (templates_at ts is)) ∙ ap (needed true) (sym (includes_told ts is w.places)))
+    ∙ filter_same (λ m. is_some (sources_in ts m)) (λ m. among m (names ts)) (some_source ts) (needed true (includes_along ts is))
+
+none_read : (given : Given) (options : Options) (ts : List Template) (n : Text) → AllByRecursion (IsRead given options) ts → given n ≡ None → among n (names ts) ≡ false
+none_read given options [] n a e = refl
+none_read given options (t ∷ ts) n a e = by (bytes_eq t.name n) refl (none_read given options ts n a.1 e)
+  where
+    by : (b : Bool) → bytes_eq t.name n ≡ b → among n (names ts) ≡ false → among n (names (t ∷ ts)) ≡ false
+    by true h r =
+        let k : given n ≡ Some a.0.source = ap given (sym (same t.name n h)) ∙ a.0.found in
+        let none : None ≡ Some a.0.source = sym e ∙ k in
+        absurd (cc)
+    by false h r = both_false (bytes_eq t.name n) (among n (names ts)) h r
+
+-- what may be missing, and is, stays so
+chosen_same : (given : Given) (ks ms : List Text) → ((n : Text) → given n ≡ None → among n (ks ++ ms) ≡ false) → (ns : List Need) → AllByRecursion (IsMet given ks) ns → chosen (ks ++ ms) ns ≡ chosen ks ns
+chosen_same given ks ms absent [] a = refl
+chosen_same given ks ms absent (n ∷ ns) a = ⊎_elim
+    (λ p. step true (among_front n.name ks ms p) p (chosen_same given ks ms absent ns a.1))
+    (λ q. step false (absent n.name q.2) (not_front (among n.name ks) refl (absent n.name q.2)) (chosen_same given ks ms absent ns a.1))
+    a.0
+  where
+    not_front : (b : Bool) → among n.name ks ≡ b → among n.name (ks ++ ms) ≡ false → among n.name ks ≡ false
+    not_front true e f =
+        let k : true ≡ false = sym (among_front n.name ks ms e) ∙ f in
+        absurd (cc)
+    not_front false e f = e
+
+    step : (b : Bool) → among n.name (ks ++ ms) ≡ b → among n.name ks ≡ b → chosen (ks ++ ms) ns ≡ chosen ks ns → chosen (ks ++ ms) (n ∷ ns) ≡ chosen ks (n ∷ ns)
+    step b p q r =
+        ap (λ z. cond z (n.name ∷ chosen (ks ++ ms) ns) (chosen (ks ++ ms) ns)) (p ∙ sym q)
+        ∙ ap (λ l. cond (among n.name ks) (n.name ∷ l) l) r
+
+-- ---- chains that were followed
+
+module _ (given : Given) (options : Options) (ts us : List Template) (hs ms : List Text) (read : AllByRecursion (IsRead given options) (ts ++ us)) where
+  more_names : names (ts ++ us) ≡ names ts ++ names us
+  more_names = both_names ts
+    where
+      both_names : (vs : List Template) → names (vs ++ us) ≡ names vs ++ names us
+      both_names [] = refl
+      both_names (v ∷ vs) = ap (λ l. v.name ∷ l) (both_names vs)
+
+  followed_grows : (h : Text) (w n : List ℕ) → IsFollowed given ts hs h w n → IsFollowed given (ts ++ us) (hs ++ ms) h w n
+  followed_grows h w n f =
+      let grown = way_grows ts us h w None f.led in
+      let needs = includes_grow ts us w f.led.places grown.places in
+      let same_chosen : chosen (names (ts ++ us)) (includes_along (ts ++ us) w) ≡ chosen (names ts) (includes_along ts w) =
+      ap (λ ks. chosen ks (includes_along (ts ++ us) w)) more_names ∙ ap (chosen (names ts ++ names us)) needs
+      ∙ chosen_same given (names ts) (names us) (λ x e. sym (ap (among x) more_names) ∙ none_read given options (ts ++ us) x read e) (includes_along ts w) f.met in
+      record {
+        led = grown;
+        met = subst (λ l. AllByRecursion (IsMet given (names (ts ++ us))) l) (sym needs)
+            (subst (λ ks. AllByRecursion (IsMet given ks) (includes_along ts w)) (sym more_names) (met_grows given (names ts) (names us) (includes_along ts w) f.met));
+        numbered = subst (λ l. map (slice_get (hs ++ ms)) n ≡ map Some l) (sym same_chosen) (numbers_grow hs ms n (chosen (names ts) (includes_along ts w)) f.numbered);
+      }
+
+  all_grow : (gs : List Text) (ws ns : List (List ℕ)) → AreFollowed given ts hs gs ws ns → AreFollowed given (ts ++ us) (hs ++ ms) gs ws ns
+  all_grow gs [] [] a = tt
+  all_grow gs [] (n ∷ ns) a = absurd a
+  all_grow gs (w ∷ ws) [] a = absurd a
+  all_grow [] (w ∷ ws) (n ∷ ns) a = absurd a
+  all_grow (g ∷ gs) (w ∷ ws) (n ∷ ns) a = (followed_grows g w n a.0, all_grow gs ws ns a.1)
+
+followed_longer : (given : Given) (ts : List Template) (hs gs fs : List Text) (ws ns : List (List ℕ)) → AreFollowed given ts hs gs ws ns → AreFollowed given ts hs (gs ++ fs) ws ns
+followed_longer given ts hs gs fs [] [] a = tt
+followed_longer given ts hs gs fs [] (n ∷ ns) a = absurd a
+followed_longer given ts hs gs fs (w ∷ ws) [] a = absurd a
+followed_longer given ts hs [] fs (w ∷ ws) (n ∷ ns) a = absurd a
+followed_longer given ts hs (g ∷ gs) fs (w ∷ ws) (n ∷ ns) a = (a.0, followed_longer given ts hs gs fs ws ns a.1)
+
+followed_next : (given : Given) (ts : List Template) (hs gs : List Text) (ws ns : List (List ℕ)) (h : Text) (w n : List ℕ) → AreFollowed given ts hs gs ws ns → slice_get gs (length ws) ≡ Some h → IsFollowed given ts hs h w n
+    → AreFollowed given ts hs gs (ws ++ w ∷ []) (ns ++ n ∷ [])
+followed_next given ts hs [] [] [] h w n a at f = absurd (cc)
+followed_next given ts hs (g ∷ gs) [] [] h w n a at f =
+    let e : g ≡ h = cc in
+    (subst (λ x. IsFollowed given ts hs x w n) (sym e) f, tt)
+followed_next given ts hs gs [] (m ∷ ns) h w n a at f = absurd a
+followed_next given ts hs gs (v ∷ ws) [] h w n a at f = absurd a
+followed_next given ts hs [] (v ∷ ws) (m ∷ ns) h w n a at f = absurd a
+followed_next given ts hs (g ∷ gs) (v ∷ ws) (m ∷ ns) h w n a at f = (a.0, followed_next given ts hs gs ws ns h w n a.1 at f)
+
+first_stays : (hs ms : List Text) → 0 < length hs → home_at (hs ++ ms) 0 ≡ home_at hs 0
+first_stays [] ms lt = absurd (omega arith)
+first_stays (h ∷ hs) ms lt = refl
+
+at_front : (xs ys : List Text) (i : ℕ) (x : Text) → slice_get xs i ≡ Some x → slice_get (xs ++ ys) i ≡ Some x
+at_front [] ys i x e = absurd (cc)
+at_front (y ∷ xs) ys zero x e = e
+at_front (y ∷ xs) ys (suc i) x e = at_front xs ys i x e
+
+-- one chain more was followed
+module _ (given : Given) (options : Options) (ts0 : List Template) (ks0 hs : List Text) (ws ns : List (List ℕ)) (f : AreFound given options ts0 ks0 hs ws ns) (h : Text) (at : slice_get hs (length ws) ≡ Some h)
+    (ts1 m1 : List Template) (e1 : ts1 ≡ ts0 ++ m1) (is : List ℕ) (w : IsWay ts1 h is None) where
+  pub reached_here : Reaches (sources_in ts1) options.autoescape (home_at hs 0) h
+  reached_here = reach_more ts0 ts1 m1 options.autoescape (home_at hs 0) h e1 (f.reached h (text_among hs (length ws) h at))
+
+  -- a refusal of what it includes
+  pub need_breaks : AreKnown given options ts1 (names ts1) → (e : ChainError) → (e ≡ error.NoMemory) ⊎ IsNeedFault given options (includes_along ts1 is) e → Breaks e given (home_at hs 0) options
+  need_breaks known e fault = ⊎_elim
+      (λ m. subst (λ z. Breaks z given (home_at hs 0) options) (sym m) tt)
+      (λ n. asked_breaks given options (home_at hs 0) ts1 known.read h reached_here n.name e (asks true n.name n.asked) (λ q. asks false n.name (n.must q)) n.fault)
+      fault
+    where
+      asks : (all : Bool) (x : Text) → among x (needed all (includes_along ts1 is)) ≡ true → among x (asked (sources_in ts1) options.autoescape all h) ≡ true
+      asks all x a =
+          let needs : flat_map (λ t. needs_in all t.body) (templates (sources_in ts1) h) ≡ needed all (includes_along ts1 is) =
+          ap (flat_map (λ t. needs_in all t.body)) (whole_way ts1 h is w) ∙ sym (by_templates all (templates_at ts1 is)) ∙ ap (needed all) (sym (includes_told ts1 is w.places)) in
+          among_behind x (way (sources_in ts1) options.autoescape h) (flat_map (λ t. needs_in all t.body) (templates (sources_in ts1) h)) (ap (among x) needs ∙ a)
+
+  module _ (ts2 m2 : List Template) (e2 : ts2 ≡ ts1 ++ m2) (ks2 : List Text) (known : AreKnown given options ts2 ks2) where
+    pub way_there : IsWay ts2 h is None
+    way_there = subst (λ vs. IsWay vs h is None) (sym e2) (way_grows ts1 m2 h is None w)
+
+    needs_there : includes_along ts2 is ≡ includes_along ts1 is
+    needs_there = ap (λ vs. includes_along vs is) e2 ∙ includes_grow ts1 m2 is w.places (subst (λ vs. ArePlaces vs is) e2 way_there.places)
+
+    chosen_there : included (sources_in ts2) h ≡ chosen ks2 (includes_along ts2 is)
+    chosen_there = included_is ts2 h is way_there ∙ ap (λ ks. chosen ks (includes_along ts2 is)) (sym known.named)
+
+    all_more : ts2 ≡ ts0 ++ (m1 ++ m2)
+    all_more = e2 ∙ ap (λ l. l ++ m2) e1 ∙ append_assoc ts0 m1 m2
+
+    reached_from : (x : Text) → (among x hs ≡ true) ⊎ (among x (chosen ks2 (includes_along ts2 is)) ≡ true) → Reaches (sources_in ts2) options.autoescape (home_at hs 0) x
+    reached_from x c = ⊎_elim
+        (λ a. reach_more ts0 ts2 (m1 ++ m2) options.autoescape (home_at hs 0) x all_more (f.reached x a))
+        (λ a. reaches_next (reach_more ts1 ts2 m2 options.autoescape (home_at hs 0) h e2 reached_here) (ap (among x) chosen_there ∙ a))
+        c
+
+    pub next_breaks : (e : ChainError) → IsNextFault hs (chosen ks2 (includes_along ts2 is)) e → Breaks e given (home_at hs 0) options
+    next_breaks e fault = ⊎_elim
+        (λ m. subst (λ z. Breaks z given (home_at hs 0) options) (sym m) tt)
+        (λ t. subst (λ z. Breaks z given (home_at hs 0) options) (sym t.0)
+        (record { templates = ts2; read = known.read; holds = inr (t.1.0, t.1.1, ap not t.1.2, λ x a. reached_from x (t.1.3 x a)) }))
+        fault
+
+    pub found_more : AllByRecursion (IsMet given ks2) (includes_along ts1 is) → (hs2 : List Text) (next : List ℕ) → AreNext hs hs2 (chosen ks2 (includes_along ts2 is)) next
+        → AreFound given options ts2 ks2 hs2 (ws ++ is ∷ []) (ns ++ next ∷ [])
+    found_more met hs2 next n =
+        let first : home_at hs2 0 ≡ home_at hs 0 = ap (λ l. home_at l 0) n.grown ∙ first_stays hs n.more f.some in
+        let read = subst (AllByRecursion (IsRead given options)) all_more known.read.each in
+        let old : AreFollowed given (ts0 ++ (m1 ++ m2)) (hs ++ n.more) hs ws ns = all_grow given options ts0 (m1 ++ m2) hs n.more read hs ws ns f.followed in
+        let here_followed : IsFollowed given ts2 hs2 h is next = (record {
+          led = way_there;
+          met = subst (λ l. AllByRecursion (IsMet given (names ts2)) l) (sym needs_there) (subst (λ ks. AllByRecursion (IsMet given ks) (includes_along ts1 is)) known.named met);
+          numbered = subst (λ ks. map (slice_get hs2) next ≡ map Some (chosen ks (includes_along ts2 is))) known.named n.numbered;
+        }) in
+        record {
+          known = known;
+          some = omega (arith, ap length n.grown, length-append hs n.more, f.some);
+          once = n.once;
+          few = n.few;
+          reached = λ x a. subst (λ z. Reaches (sources_in ts2) options.autoescape z x) (sym first) (reached_from x (n.from x a));
+          followed = followed_next given ts2 hs2 hs2 ws ns h is next
+              (subst (λ vs. AreFollowed given vs hs2 hs2 ws ns) (sym all_more)
+              (subst (λ l. AreFollowed given (ts0 ++ (m1 ++ m2)) l l ws ns) (sym n.grown)
+              (followed_longer given (ts0 ++ (m1 ++ m2)) (hs ++ n.more) hs n.more ws ns old)))
+              (subst (λ l. slice_get l (length ws) ≡ Some h) (sym n.grown) (at_front hs n.more (length ws) h at)) here_followed;
+        }
+
+    pub first_same : (hs2 : List Text) (next : List ℕ) → AreNext hs hs2 (chosen ks2 (includes_along ts2 is)) next → home_at hs2 0 ≡ home_at hs 0
+    first_same hs2 next n = ap (λ l. home_at l 0) n.grown ∙ first_stays hs n.more f.some
+
+-- the entry alone is found
+pub found_first : (given : Given) (options : Options) (entry : Text) (ts : List Template) (ks hs : List Text) (ws ns : List (List ℕ)) → hs ≡ entry ∷ [] → ts ≡ [] → ks ≡ [] → ws ≡ [] → ns ≡ []
+    → AreFound given options ts ks hs ws ns
+found_first given options entry ts ks hs ws ns eh et ek ew en =
+    subst (λ z. AreFound given options ts ks z ws ns) (sym eh)
+    (subst (λ z. AreFound given options z ks (entry ∷ []) ws ns) (sym et)
+    (subst (λ z. AreFound given options [] z (entry ∷ []) ws ns) (sym ek)
+    (subst (λ z. AreFound given options [] [] (entry ∷ []) z ns) (sym ew)
+    (subst (λ z. AreFound given options [] [] (entry ∷ []) [] z) (sym en)
+    (record {
+      known = record { read = record { each = tt; once = refl }; within = tt; named = refl };
+      some = omega arith;
+      once = refl;
+      few = omega arith;
+      reached = λ x a. subst (λ z. Reaches (sources_in []) options.autoescape entry z) (only x a) here;
+      followed = tt;
+    })))))
+  where
+    only : (x : Text) → among x (entry ∷ []) ≡ true → entry ≡ x
+    only x a = by (bytes_eq entry x) refl a
+      where
+        by : (b : Bool) → bytes_eq entry x ≡ b → (bytes_eq entry x || false) ≡ true → entry ≡ x
+        by true e h = same entry x e
+        by false e h =
+            let k : false ≡ true = sym (ap (λ b. b || false) e) ∙ h in
+            absurd (cc)
+
+-- no more ways than chains
+pub followed_len : (given : Given) (ts : List Template) (hs gs : List Text) (ws ns : List (List ℕ)) → AreFollowed given ts hs gs ws ns → length ws ≤ length gs
+followed_len given ts hs gs [] [] a = omega arith
+followed_len given ts hs gs [] (n ∷ ns) a = absurd a
+followed_len given ts hs gs (w ∷ ws) [] a = absurd a
+followed_len given ts hs [] (w ∷ ws) (n ∷ ns) a = absurd a
+followed_len given ts hs (g ∷ gs) (w ∷ ws) (n ∷ ns) a = omega (arith, followed_len given ts hs gs ws ns a.1)
+
+-- the chain that is next
+pub home_number : (keys ks : List (String Global)) (ws : List (Vec ℕ Global)) (k : String Global) (i : ℕ) (h : Text) → ks ≡ keys → i ≡ length ws → i < length ks → k ≡ get_or ks i k → h ≡ string_bytes k
+    → slice_get (strings keys) (length (graph_of ws)) ≡ Some h
+home_number keys ks ws k i h e at lt is named =
+    let len : length (graph_of ws) ≡ i = length-map (λ (v : Vec ℕ Global). v.items) ws ∙ sym at in
+    ap (λ z. slice_get (strings z) (length (graph_of ws))) (sym e) ∙ ap (slice_get (strings ks)) len ∙ map_at string_bytes ks i k lt is ∙ ap (λ (x : Text). Some x) (sym named)
+
+pub known_names : (given : Given) (options : Options) (ts : List Template) (ks : List Text) → AreKnown given options ts ks → AreKnown given options ts (names ts)
+known_names given options ts ks k = record { read = k.read; within = k.within; named = refl }
+
+pub both_pages : (ps qs rs : List Page) → rs ≡ ps ++ qs → pages_view rs ≡ pages_view ps ++ pages_view qs
+both_pages ps qs rs e = ap pages_view e ∙ both ps
+  where
+    both : (zs : List Page) → pages_view (zs ++ qs) ≡ pages_view zs ++ pages_view qs
+    both [] = refl
+    both (z ∷ zs) = ap (λ l. page_view z ∷ l) (both zs)

@@ -1,0 +1,326 @@
+-- Ways that go on, and what is known of them.
+use Rattle.std.proofs.Common.{◌≡◌, ℕ, zero, suc, ◌+◌, ◌-◌, ◌<◌, ◌≤◌, ◌==◌, Bool, true, false, not, ◌&&◌, ◌||◌, if◌then◌else◌, List, [], ◌∷◌, ◌++◌, length, map, drop, get_or, refl, sym, ap, subst, ◌∙◌, arith, inl, Option, Some, None, IsTrue, length-append, string_bytes}
+use Rattle.std.specs.Prelude.{flat_map, slice_get}
+use Rattle.std.specs.Option.{option_to_list}
+use Rattle.std.proofs.lemmas.Option.{slice_get_within, slice_get-get_or}
+use Rattle.std.specs.List.{AllByRecursion}
+use Rattle.std.specs.Str.{bytes_eq}
+use Rattle.std.proofs.lemmas.List.{append-nil, append_assoc, drop_more}
+use Rattle.jt_scan.specs.declared.options.Options.{Options}
+use Rattle.jt_parse.specs.Texts.{among, repeated}
+use Rattle.jt_parse.specs.Trees.{Text, Body, end}
+use Rattle.jt_inherit.specs.Along.{ArePlaces, templates_at}
+use Rattle.jt_inherit.specs.Chain.{Sources, Template, template, templates, extends_of, parent_of, names_up, sources_in}
+use Rattle.jt_inherit.specs.Chains.{Given, AreRead, IsRead}
+use Rattle.jt_inherit.specs.Faults.{IsFaultOf}
+use Rattle.jt_inherit.specs.Includes.{needs_in}
+use Rattle.jt_inherit.specs.Pages.{page_view, pages_view}
+use Rattle.jt_inherit.specs.declared.linked.Page.{Page}
+use Rattle.jt_inherit.specs.Refusals.{Breaks}
+use Rattle.jt_inherit.specs.Rules.{Reaches, asked, way}
+use Rattle.jt_inherit.specs.Ways.{Leads, AreKnown, IsWay, IsWithin}
+use Rattle.jt_inherit.specs.declared.error.ChainError.{ChainError}
+use Rattle.jt_inherit.specs.declared.error.ChainError.TheVariants as error
+use Rattle.jt_inherit.proofs.Among.{same, reflexive, or_false, among_front, among_next, once_more, comes_again, map_more, all_more}
+use Rattle.jt_inherit.proofs.Placed.{length-map, only_one, map_at, place_within}
+
+abbrev pub names : List Template → List Text
+names = map (λ t. t.name)
+
+-- ---- sources that grow
+
+abbrev pub Grows : Sources → Sources → Type 0
+Grows s r = (n : Text) (b : Body) → s n ≡ Some b → r n ≡ Some b
+
+pub more_sources : (ts us : List Template) → Grows (sources_in ts) (sources_in (ts ++ us))
+more_sources [] us n b e = absurd (cc)
+more_sources (t ∷ ts) us n b e = by (bytes_eq t.name n) refl (more_sources ts us n b)
+  where
+    by : (c : Bool) → bytes_eq t.name n ≡ c → (sources_in ts n ≡ Some b → sources_in (ts ++ us) n ≡ Some b) → sources_in (t ∷ ts ++ us) n ≡ Some b
+    by true h r =
+        ap (λ c. if c then Some t.body else sources_in (ts ++ us) n) h ∙ (sym (ap (λ c. if c then Some t.body else sources_in ts n) h) ∙ e)
+    by false h r =
+        ap (λ c. if c then Some t.body else sources_in (ts ++ us) n) h ∙ r (sym (ap (λ c. if c then Some t.body else sources_in ts n) h) ∙ e)
+
+pub last_source : (ts : List Template) (t : Template) → among t.name (names ts) ≡ false → sources_in (ts ++ t ∷ []) t.name ≡ Some t.body
+last_source [] t h = ap (λ c. if c then Some t.body else None) (reflexive t.name)
+last_source (u ∷ ts) t h =
+    let k = or_false (bytes_eq u.name t.name) (among t.name (names ts)) h in
+    ap (λ c. if c then Some u.body else sources_in (ts ++ t ∷ []) t.name) k.0 ∙ last_source ts t k.1
+
+pub leads_grow : (s r : Sources) → Grows s r → (o : Option Text) (ts : List Template) (p : Option Text) → Leads s o ts p → Leads r o ts p
+leads_grow s r g o [] p l = l
+leads_grow s r g None (t ∷ ts) p l = absurd l
+leads_grow s r g (Some n) (t ∷ ts) p l = (l.0, g n t.body l.1, leads_grow s r g (extends_of t.body) ts p l.2)
+
+-- one template more
+pub leads_more : (s : Sources) (o : Option Text) (ts : List Template) (t : Template) → Leads s o ts (Some t.name) → s t.name ≡ Some t.body → Leads s o (ts ++ t ∷ []) (extends_of t.body)
+leads_more s None [] t l e = absurd (cc)
+leads_more s (Some n) [] t l e =
+    let h : n ≡ t.name = cc in
+    (sym h, ap s h ∙ e, refl)
+leads_more s None (u ∷ ts) t l e = absurd l
+leads_more s (Some n) (u ∷ ts) t l e = (l.0, l.1, leads_more s (extends_of u.body) ts t l.2 e)
+
+-- ---- the names on the way
+
+none_up : (s : Sources) (k : ℕ) → names_up s k None ≡ []
+none_up s zero = refl
+none_up s (suc k) = refl
+
+pub names_lead : (s : Sources) (m k : ℕ) (o : Option Text) (ts : List Template) (p : Option Text) → m ≡ length ts + k → Leads s o ts p → names_up s m o ≡ names ts ++ names_up s k p
+names_lead s m k o [] p e l =
+    let h : m ≡ k = omega arith in
+    ap (λ j. names_up s j o) h ∙ ap (names_up s k) l
+names_lead s m k None (t ∷ ts) p e l = absurd l
+names_lead s zero k (Some n) (t ∷ ts) p e l = absurd (omega arith)
+names_lead s (suc m) k (Some n) (t ∷ ts) p e l =
+    ap (λ o. n ∷ names_up s m (parent_of o)) l.1 ∙ ap (λ x. x ∷ names_up s m (extends_of t.body)) (sym l.0)
+    ∙ ap (λ xs. t.name ∷ xs) (names_lead s m k (extends_of t.body) ts p (omega arith) l.2)
+
+pub names_to_root : (s : Sources) (m : ℕ) (o : Option Text) (ts : List Template) → length ts ≤ m → Leads s o ts None → names_up s m o ≡ names ts
+names_to_root s m o ts le l =
+    let k = m - length ts in
+    names_lead s m k o ts None (omega arith) l ∙ ap (λ xs. names ts ++ xs) (none_up s k) ∙ append-nil (names ts)
+
+pub templates_lead : (s : Sources) (o : Option Text) (ts : List Template) (p : Option Text) → Leads s o ts p → flat_map (λ n. template n (s n)) (names ts) ≡ ts
+templates_lead s o [] p l = refl
+templates_lead s None (t ∷ ts) p l = absurd l
+templates_lead s (Some n) (t ∷ ts) p l =
+    ap (λ b. template t.name b ++ flat_map (λ m. template m (s m)) (names ts)) (ap s l.0 ∙ l.1) ∙ ap (λ xs. t ∷ xs) (templates_lead s (extends_of t.body) ts p l.2)
+
+pub templates_to_root : (s : Sources) (h : Text) (ts : List Template) → length ts ≤ 16 → Leads s (Some h) ts None → templates s h ≡ ts
+templates_to_root s h ts le l = ap (flat_map (λ n. template n (s n))) (names_to_root s 16 (Some h) ts le l) ∙ templates_lead s (Some h) ts None l
+
+-- the next name is asked for
+pub next_asked : (s : Sources) (e all : Bool) (h : Text) (ts : List Template) (n : Text) → length ts ≤ 16 → Leads s (Some h) ts (Some n) → among n (asked s e all h) ≡ true
+next_asked s e all h ts n le l =
+    let k = 16 - length ts in
+    let up : way s e h ≡ names ts ++ names_up s (suc k) (Some n) = names_lead s 17 (suc k) (Some h) ts (Some n) (omega arith) l in
+    among_front n (way s e h) (flat_map (λ t. needs_in all t.body) (templates s h))
+    (subst (λ xs. among n xs ≡ true) (sym up) (among_next n (names ts) (names_up s k (parent_of (s n)))))
+
+-- ---- templates at places, as more are read
+
+pub places_grow : (ts us : List Template) (is : List ℕ) → ArePlaces ts is → ArePlaces (ts ++ us) is
+places_grow ts us [] a = tt
+places_grow ts us (i ∷ is) a = (omega (arith, a.0, length-append ts us), places_grow ts us is a.1)
+
+at_front : (ts us : List Template) (i : ℕ) → i < length ts → slice_get (ts ++ us) i ≡ slice_get ts i
+at_front [] us i lt = absurd (omega arith)
+at_front (t ∷ ts) us zero lt = refl
+at_front (t ∷ ts) us (suc i) lt = at_front ts us i (omega arith)
+
+pub templates_grow : (ts us : List Template) (is : List ℕ) → ArePlaces ts is → templates_at (ts ++ us) is ≡ templates_at ts is
+templates_grow ts us [] a = refl
+templates_grow ts us (i ∷ is) a = ap (λ o. option_to_list o ++ templates_at (ts ++ us) is) (at_front ts us i a.0) ∙ ap (λ l. option_to_list (slice_get ts i) ++ l) (templates_grow ts us is a.1)
+
+pub templates_more : (ts : List Template) (is : List ℕ) (i : ℕ) (t : Template) → slice_get ts i ≡ Some t → templates_at ts (is ++ i ∷ []) ≡ templates_at ts is ++ t ∷ []
+templates_more ts [] i t e = ap (λ o. option_to_list o ++ []) e
+templates_more ts (j ∷ is) i t e =
+    ap (λ l. option_to_list (slice_get ts j) ++ l) (templates_more ts is i t e) ∙ sym (append_assoc (option_to_list (slice_get ts j)) (templates_at ts is) (t ∷ []))
+
+pub few_templates : (ts : List Template) (is : List ℕ) → length (templates_at ts is) ≤ length is
+few_templates ts [] = omega arith
+few_templates ts (i ∷ is) =
+    let one = at_most (slice_get ts i) in
+    omega (arith, one, few_templates ts is, length-append (option_to_list (slice_get ts i)) (templates_at ts is))
+  where
+    at_most : (o : Option Template) → length (option_to_list o) ≤ 1
+    at_most None = omega arith
+    at_most (Some t) = omega arith
+
+pub all_templates : (ts : List Template) (is : List ℕ) → ArePlaces ts is → length (templates_at ts is) ≡ length is
+all_templates ts [] a = refl
+all_templates ts (i ∷ is) a = by (slice_get ts i) refl (all_templates ts is a.1)
+  where
+    by : (o : Option Template) → slice_get ts i ≡ o → length (templates_at ts is) ≡ length is → length (templates_at ts (i ∷ is)) ≡ suc (length is)
+    by None e r =
+        let h = slice_get-get_or ts i (let none : Template = record { name = []; body = end } in none) a.0 in
+        absurd (cc)
+    by (Some t) e r = ap (λ o. length (option_to_list o ++ templates_at ts is)) e ∙ ap suc r
+
+pub all_at_places : (P : Template → Type 0) (ts : List Template) (is : List ℕ) → AllByRecursion P ts → AllByRecursion P (templates_at ts is)
+all_at_places P ts [] a = tt
+all_at_places P ts (i ∷ is) a = by (slice_get ts i) refl (all_at_places P ts is a)
+  where
+    at : (us : List Template) (j : ℕ) (t : Template) → slice_get us j ≡ Some t → AllByRecursion P us → P t
+    at [] j t e h = absurd (cc)
+    at (u ∷ us) zero t e h = subst P (let k : u ≡ t = cc in k) h.0
+    at (u ∷ us) (suc j) t e h = at us j t e h.1
+
+    by : (o : Option Template) → slice_get ts i ≡ o → AllByRecursion P (templates_at ts is) → AllByRecursion P (option_to_list (slice_get ts i) ++ templates_at ts is)
+    by None e r = subst (λ o. AllByRecursion P (option_to_list o ++ templates_at ts is)) (sym e) r
+    by (Some t) e r = subst (λ o. AllByRecursion P (option_to_list o ++ templates_at ts is)) (sym e) (at ts i t e a, r)
+
+-- ---- what is known as one more is read
+
+pub known_more : (given : Given) (options : Options) (ts : List Template) (ks : List Text) (t : Template) → AreKnown given options ts ks → among t.name ks ≡ false → IsRead given options t → IsWithin given t
+    → AreKnown given options (ts ++ t ∷ []) (ks ++ t.name ∷ [])
+known_more given options ts ks t k new r i =
+    let fresh : among t.name (names ts) ≡ false = ap (among t.name) (sym k.named) ∙ new in
+    record {
+      read = record {
+        each = all_more (IsRead given options) ts t k.read.each r;
+        once = ap repeated (map_more (λ (u : Template). u.name) ts t) ∙ once_more t.name (names ts) k.read.once fresh;
+      };
+      within = all_more (IsWithin given) ts t k.within i;
+      named = ap (λ l. l ++ t.name ∷ []) k.named ∙ sym (map_more (λ (u : Template). u.name) ts t);
+    }
+
+pub last_at : {X : Type 0} (xs : List X) (x : X) → slice_get (xs ++ x ∷ []) (length xs) ≡ Some x
+last_at [] x = refl
+last_at (y ∷ xs) x = last_at xs x
+
+pub length_names : (ts : List Template) → length (names ts) ≡ length ts
+length_names [] = refl
+length_names (t ∷ ts) = ap suc (length_names ts)
+
+-- the template of a name at its place
+pub template_named : (ts : List Template) (i : ℕ) (n : Text) → slice_get (names ts) i ≡ Some n → (t : Template) × (slice_get ts i ≡ Some t) × (t.name ≡ n)
+template_named [] i n e = absurd (cc)
+template_named (t ∷ ts) zero n e = (t, refl, cc)
+template_named (t ∷ ts) (suc i) n e = template_named ts i n e
+
+-- ---- ways
+
+pub way_begins : (ts : List Template) (h n : Text) → h ≡ n → IsWay ts h [] (Some n)
+way_begins ts h n e = record { places = tt; leads = ap Some e; once = refl; few = omega arith }
+
+pub way_grows : (ts us : List Template) (h : Text) (is : List ℕ) (p : Option Text) → IsWay ts h is p → IsWay (ts ++ us) h is p
+way_grows ts us h is p w =
+    let e = sym (templates_grow ts us is w.places) in
+    record {
+      places = places_grow ts us is w.places;
+      leads = subst (λ vs. Leads (sources_in (ts ++ us)) (Some h) vs p) e (leads_grow (sources_in ts) (sources_in (ts ++ us)) (more_sources ts us) (Some h) (templates_at ts is) p w.leads);
+      once = subst (λ vs. repeated (names vs) ≡ false) e w.once;
+      few = w.few;
+    }
+
+pub way_next : (ts : List Template) (h : Text) (is : List ℕ) (i : ℕ) (t : Template) (n : Text) → IsWay ts h is (Some n) → slice_get ts i ≡ Some t → t.name ≡ n → among n (names (templates_at ts is)) ≡ false
+    → repeated (names ts) ≡ false → length is < 16 → IsWay ts h (is ++ i ∷ []) (extends_of t.body)
+way_next ts h is i t n w at is_named new once lt =
+    let e = sym (templates_more ts is i t at) in
+    let us = templates_at ts is in
+    record {
+      places = all_more (λ j. j < length ts) is i w.places (slice_get_within ts i t at);
+      leads = subst (λ vs. Leads (sources_in ts) (Some h) vs (extends_of t.body)) e
+          (leads_more (sources_in ts) (Some h) us t (subst (λ x. Leads (sources_in ts) (Some h) us (Some x)) (sym is_named) w.leads) (only_one ts i t once at));
+      once = subst (λ vs. repeated (names vs) ≡ false) e
+          (ap repeated (map_more (λ (u : Template). u.name) us t) ∙ once_more t.name (names us) w.once (ap (λ x. among x (names us)) is_named ∙ new));
+      few = omega (arith, length-append is (i ∷ []));
+    }
+
+-- ---- a chain that is reached, and what is wrong on its way
+
+module _ (given : Given) (options : Options) (root : Text) (ts : List Template) (read : AreRead given options ts) (h : Text) (r : Reaches (sources_in ts) options.autoescape root h) where
+  pub cycle_breaks : (is : List ℕ) (n : Text) → IsWay ts h is (Some n) → among n (names (templates_at ts is)) ≡ true → Breaks error.ExtendsCycle given root options
+  cycle_breaks is n w there =
+      let s = sources_in ts in
+      let us = templates_at ts is in
+      let up : names_up s (length us + 1) (Some h) ≡ names us ++ n ∷ [] = names_lead s (length us + 1) 1 (Some h) us (Some n) refl w.leads in
+      record {
+        templates = ts;
+        read = read;
+        holds = (h, r, (length us + 1, ap repeated up ∙ comes_again n (names us) there));
+      }
+
+  pub long_breaks : (is : List ℕ) (n : Text) → IsWay ts h is (Some n) → length is ≡ 16 → among n (names (templates_at ts is)) ≡ false → Breaks error.ChainTooLong given root options
+  long_breaks is n w full new =
+      let s = sources_in ts in
+      let us = templates_at ts is in
+      let len : length us ≡ 16 = all_templates ts is w.places ∙ full in
+      let up : way s options.autoescape h ≡ names us ++ n ∷ [] = names_lead s 17 1 (Some h) us (Some n) (omega (arith, len)) w.leads in
+      record {
+        templates = ts;
+        read = read;
+        holds = inl (h, r, subst (λ xs. ((length xs == 17) && not (repeated xs)) ≡ true) (sym up) (seventeen n us len (once_more n (names us) w.once new)));
+      }
+    where
+      seventeen : (n : Text) (us : List Template) → length us ≡ 16 → repeated (names us ++ n ∷ []) ≡ false → ((length (names us ++ n ∷ []) == 17) && not (repeated (names us ++ n ∷ []))) ≡ true
+      seventeen n us len o =
+          let count : length (names us ++ n ∷ []) ≡ 17 = length-append (names us) (n ∷ []) ∙ ap (λ k. k + 1) (length-map (λ (u : Template). u.name) us ∙ len) in
+          ap (λ k. (k == 17) && not (repeated (names us ++ n ∷ []))) count ∙ ap not o
+
+  -- a refusal of a template that the chain asks for
+  pub asked_breaks : (n : Text) (e : ChainError) → among n (asked (sources_in ts) options.autoescape true h) ≡ true → (e ≡ error.Missing → among n (asked (sources_in ts) options.autoescape false h) ≡ true)
+      → IsFaultOf e given n options → Breaks e given root options
+  asked_breaks n error.Missing a must f = record { name = n; reached = record { templates = ts; read = read; holds = (h, r, must refl) }; found = f }
+  asked_breaks n error.BadName a must f = record { templates = ts; read = read; holds = (h, r, (n, a, f)) }
+  asked_breaks n (error.Scan m e) a must f =
+      record {
+        reached = record { templates = ts; read = read; holds = (h, r, ap (λ x. among x (asked (sources_in ts) options.autoescape true h)) f.0 ∙ a) };
+        source = f.1.0;
+        found = ap given f.0 ∙ f.1.1;
+        fault = f.1.2;
+      }
+  asked_breaks n (error.Parse m e) a must f =
+      record {
+        reached = record { templates = ts; read = read; holds = (h, r, ap (λ x. among x (asked (sources_in ts) options.autoescape true h)) f.0 ∙ a) };
+        source = f.1.0;
+        found = ap given f.0 ∙ f.1.1;
+        fault = f.1.2;
+      }
+  asked_breaks n error.NoMemory a must f = tt
+  asked_breaks n error.ExtendsCycle a must f = absurd f
+  asked_breaks n error.ChainTooLong a must f = absurd f
+  asked_breaks n error.DoubleBlock a must f = absurd f
+  asked_breaks n error.RequiredNotGiven a must f = absurd f
+  asked_breaks n error.NoSuper a must f = absurd f
+  asked_breaks n error.IncludeCycle a must f = absurd f
+  asked_breaks n error.MacroTwice a must f = absurd f
+
+  pub fault_breaks : (is : List ℕ) (n : Text) → IsWay ts h is (Some n) → (e : ChainError) → IsFaultOf e given n options → Breaks e given root options
+  fault_breaks is n w e f =
+      let few : length (templates_at ts is) ≤ 16 = omega (arith, few_templates ts is, w.few) in
+      asked_breaks n e (next_asked (sources_in ts) options.autoescape true h (templates_at ts is) n few w.leads)
+      (λ q. next_asked (sources_in ts) options.autoescape false h (templates_at ts is) n few w.leads) f
+
+-- ---- pages, one more
+
+pub pages_more : (ps qs : List Page) (p : Page) → qs ≡ ps ++ p ∷ [] → pages_view qs ≡ pages_view ps ++ page_view p ∷ []
+pages_more ps qs p e = ap pages_view e ∙ map_more page_view ps p
+
+pub pages_longer : (ps qs : List Page) (p : Page) → qs ≡ ps ++ p ∷ [] → length (pages_view qs) ≡ length (pages_view ps) + 1
+pages_longer ps qs p e = ap length (pages_more ps qs p e) ∙ length-append (pages_view ps) (page_view p ∷ [])
+
+-- the name of the last page at its place
+pub page_last : (ps qs : List Page) (p : Page) (n : Text) (k : ℕ) → qs ≡ ps ++ p ∷ [] → string_bytes p.name ≡ n → k ≡ length ps → slice_get (names (pages_view qs)) k ≡ Some n
+page_last ps qs p n k e is at =
+    let len : k ≡ length (names (pages_view ps)) = omega (arith, at, length_names (pages_view ps), length-map page_view ps) in
+    ap (λ ts. slice_get (names ts) k) (pages_more ps qs p e) ∙ ap (λ l. slice_get l k) (map_more (λ (t : Template). t.name) (pages_view ps) (page_view p))
+    ∙ ap (slice_get (names (pages_view ps) ++ string_bytes p.name ∷ [])) len ∙ last_at (names (pages_view ps)) (string_bytes p.name) ∙ ap (λ (x : Text). Some x) is
+
+-- ---- a way goes on
+
+pub on_way : (ps qs : List Page) (is js : List ℕ) (n m : Text) (b : Bool) → qs ≡ ps → js ≡ is → m ≡ n → b ≡ among m (names (templates_at (pages_view qs) js)) → b ≡ among n (names (templates_at (pages_view ps) is))
+on_way ps qs is js n m b p q r e =
+    e ∙ ap (λ (z : List Page). among m (names (templates_at (pages_view z) js))) p ∙ ap (λ (z : List ℕ). among m (names (templates_at (pages_view ps) z))) q ∙ ap (λ (z : Text). among z (names (templates_at (pages_view ps) is))) r
+
+name_of_slice : (ts : List Template) (i : ℕ) (t : Template) → slice_get ts i ≡ Some t → slice_get (names ts) i ≡ Some t.name
+name_of_slice [] i t e = absurd (cc)
+name_of_slice (u ∷ ts) zero t e =
+    let h : u ≡ t = cc in
+    ap (λ (z : Template). Some z.name) h
+name_of_slice (u ∷ ts) (suc i) t e = name_of_slice ts i t e
+
+pub way_turn : (ts us more : List Template) → us ≡ ts ++ more → (h : Text) (is js : List ℕ) (i : ℕ) (n m : Text) (o : Option Text) (t : Template) → IsWay ts h is (Some n) → among n (names (templates_at ts is)) ≡ false
+    → length is < 16 → repeated (names us) ≡ false → slice_get (names us) i ≡ Some m → m ≡ n → js ≡ is ++ i ∷ [] → slice_get us i ≡ Some t → o ≡ extends_of t.body → IsWay us h js o
+way_turn ts us more e h is js i n m o t w new lt once at same_name longer there ext =
+    let grown : IsWay us h is (Some n) = subst (λ vs. IsWay vs h is (Some n)) (sym e) (way_grows ts more h is (Some n) w) in
+    let fresh : among n (names (templates_at us is)) ≡ false = ap (λ vs. among n (names (templates_at vs is))) e ∙ ap (λ vs. among n (names vs)) (templates_grow ts more is w.places) ∙ new in
+    let told : Some t.name ≡ Some m = sym (name_of_slice us i t there) ∙ at in
+    let named : t.name ≡ m = cc in
+    let next = way_next us h is i t n grown there (named ∙ same_name) fresh once lt in
+    subst (λ z. IsWay us h z o) (sym longer) (subst (IsWay us h (is ++ i ∷ [])) (sym ext) next)
+
+pub grown_both : {X : Type 0} (xs ys zs us vs : List X) → ys ≡ xs ++ us → zs ≡ ys ++ vs → zs ≡ xs ++ (us ++ vs)
+grown_both xs ys zs us vs p q = q ∙ ap (λ l. l ++ vs) p ∙ append_assoc xs us vs
+
+pub on_way_turn : (ps : List Page) (is : List ℕ) (k : ℕ) (p : Page) (x : Text) → k < length is → ArePlaces (pages_view ps) is → p ≡ get_or ps (get_or is k 0) p
+    → among x (names (templates_at (pages_view ps) (drop k is))) ≡ (bytes_eq (string_bytes p.name) x || among x (names (templates_at (pages_view ps) (drop (k + 1) is))))
+on_way_turn ps is k p x lt a at =
+    let ts = pages_view ps in
+    let i = get_or is k 0 in
+    let within : i < length ps = place_within ps is k lt a in
+    ap (λ l. among x (names (templates_at ts l))) (drop_more is k 0 lt) ∙ ap (λ o. among x (names (option_to_list o ++ templates_at ts (drop (k + 1) is)))) (map_at page_view ps i p within at)

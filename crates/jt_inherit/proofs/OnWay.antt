@@ -1,0 +1,114 @@
+-- Templates on the way of a chain: their names, sources and weights.
+use Rattle.std.proofs.Common.{◌≡◌, ℕ, zero, suc, ◌+◌, ◌<◌, ◌≤◌, ◌==◌, Bool, true, false, not, ◌&&◌, ◌||◌, nat_lt, List, [], ◌∷◌, ◌++◌, length, map, refl, sym, ap, subst, ◌∙◌, arith, inl, inr, ⊎_elim, Option, Some, None, IsTrue}
+use Rattle.std.specs.Prelude.{flat_map, filter, slice_get, option_map}
+use Rattle.std.specs.List.{AllByRecursion, list_any}
+use Rattle.std.specs.Option.{is_some, is_none}
+use Rattle.std.specs.Str.{bytes_eq}
+use Rattle.std.proofs.lemmas.List.{append-nil}
+use Rattle.std.proofs.lemmas.Bool.Decides.{nat_tests}
+use Rattle.jt_scan.specs.declared.options.Options.{Options}
+use Rattle.jt_parse.specs.Bytes.{body_bytes}
+use Rattle.jt_parse.specs.Texts.{among, repeated}
+use Rattle.jt_parse.specs.Trees.{Text, Body}
+use Rattle.jt_inherit.specs.Chain.{Sources, Template, templates, extends_of, parent_of, names_up, sources_in, macros, all_bodies}
+use Rattle.jt_inherit.specs.Chains.{Given, AreRead, IsRead, IsComplete, IsChain}
+use Rattle.jt_inherit.specs.Checks.{lacks_body, lacks_next}
+use Rattle.jt_inherit.specs.Includes.{included, needs_in, InOrder, AllIn}
+use Rattle.jt_inherit.specs.Kept.{KeepAll, BreakOne, their_blocks, their_macros, any_double}
+use Rattle.jt_inherit.specs.Names.{IsName}
+use Rattle.jt_inherit.specs.Pages.{names_at}
+use Rattle.jt_inherit.specs.Refusals.{Breaks}
+use Rattle.jt_inherit.specs.Rules as rules
+use Rattle.jt_inherit.specs.Rules.{Somewhere, Reaches, here, through, asked, way, is_whole, KeepsRules}
+use Rattle.jt_inherit.specs.Small.{templates_weight, templates_len, chains_weight, chains_len, source_len}
+use Rattle.jt_inherit.specs.View.{Seen}
+use Rattle.jt_inherit.specs.Ways.{Leads, IsWay, IsWithin}
+use Rattle.jt_inherit.specs.declared.error.ChainError.{ChainError}
+use Rattle.jt_inherit.specs.declared.error.ChainError.TheVariants as error
+use Rattle.jt_inherit.proofs.Among.{same, reflexive, or_true, both_false}
+use Rattle.jt_inherit.proofs.Leads.{names, names_to_root, templates_to_root}
+use Rattle.jt_inherit.proofs.Placed.{length-map, given_templates}
+
+-- ---- names on the way
+
+front_up : (s : Sources) (k : ℕ) (n : Text) (t : Template) → t.name ≡ n → s n ≡ Some t.body → names_up s (suc k) (Some n) ≡ t.name ∷ names_up s k (extends_of t.body)
+front_up s k n t e f = ap (λ o. n ∷ names_up s k (parent_of o)) f ∙ ap (λ x. x ∷ names_up s k (extends_of t.body)) (sym e)
+
+among_up : (s : Sources) (k : ℕ) (o : Option Text) (ts : List Template) (x : Text) → Leads s o ts None → among x (names_up s k o) ≡ true → among x (names ts) ≡ true
+among_up s zero o ts x l h = absurd (cc)
+among_up s (suc k) None ts x l h = absurd (cc)
+among_up s (suc k) (Some n) [] x l h = absurd (cc)
+among_up s (suc k) (Some n) (t ∷ ts) x l h =
+    by (bytes_eq t.name x) refl (subst (λ xs. among x xs ≡ true) (front_up s k n t l.0 l.1) h) (among_up s k (extends_of t.body) ts x l.2)
+  where
+    by : (b : Bool) → bytes_eq t.name x ≡ b → (bytes_eq t.name x || among x (names_up s k (extends_of t.body))) ≡ true
+        → (among x (names_up s k (extends_of t.body)) ≡ true → among x (names ts) ≡ true) → (bytes_eq t.name x || among x (names ts)) ≡ true
+    by true e g r = ap (λ b. b || among x (names ts)) e
+    by false e g r = or_true (bytes_eq t.name x) (among x (names ts)) (r (sym (ap (λ b. b || among x (names_up s k (extends_of t.body))) e) ∙ g))
+
+pub repeated_up : (s : Sources) (k : ℕ) (o : Option Text) (ts : List Template) → Leads s o ts None → repeated (names_up s k o) ≡ true → repeated (names ts) ≡ true
+repeated_up s zero o ts l h = absurd (cc)
+repeated_up s (suc k) None ts l h = absurd (cc)
+repeated_up s (suc k) (Some n) [] l h = absurd (cc)
+repeated_up s (suc k) (Some n) (t ∷ ts) l h =
+    let up = names_up s k (extends_of t.body) in
+    by (among t.name up) refl (subst (λ xs. repeated xs ≡ true) (front_up s k n t l.0 l.1) h) (repeated_up s k (extends_of t.body) ts l.2)
+  where
+    by : (b : Bool) → among t.name (names_up s k (extends_of t.body)) ≡ b → (among t.name (names_up s k (extends_of t.body)) || repeated (names_up s k (extends_of t.body))) ≡ true
+        → (repeated (names_up s k (extends_of t.body)) ≡ true → repeated (names ts) ≡ true) → (among t.name (names ts) || repeated (names ts)) ≡ true
+    by true e g r = ap (λ b. b || repeated (names ts)) (among_up s k (extends_of t.body) ts t.name l.2 e)
+    by false e g r = or_true (among t.name (names ts)) (repeated (names ts)) (r (sym (ap (λ b. b || repeated (names_up s k (extends_of t.body))) e) ∙ g))
+
+pub all_among : (P : Text → Type 0) (ts : List Template) (n : Text) → AllByRecursion (λ t. P t.name) ts → among n (names ts) ≡ true → P n
+all_among P [] n a h = absurd (cc)
+all_among P (t ∷ ts) n a h = by (bytes_eq t.name n) refl (all_among P ts n a.1)
+  where
+    by : (b : Bool) → bytes_eq t.name n ≡ b → (among n (names ts) ≡ true → P n) → P n
+    by true e r = subst P (same t.name n e) a.0
+    by false e r = r (sym (ap (λ b. b || among n (names ts)) e) ∙ h)
+
+pub have_sources : (s : Sources) (ts : List Template) → AllByRecursion (λ t. s t.name ≡ Some t.body) ts → list_any (λ n. is_none (s n)) (names ts) ≡ false
+have_sources s [] a = refl
+have_sources s (t ∷ ts) a = both_false (is_none (s t.name)) (list_any (λ n. is_none (s n)) (names ts)) (ap is_none a.0) (have_sources s ts a.1)
+
+pub all_named : (given : Given) (options : Options) (ts : List Template) → AllByRecursion (IsRead given options) ts → AllByRecursion (λ t. IsName t.name) ts
+all_named given options [] a = tt
+all_named given options (t ∷ ts) a = (a.0.named, all_named given options ts a.1)
+
+pub never : (b : Bool) → b ≡ false → b ≡ true → ⊥
+never true p q = cc
+never false p q = cc
+
+pub and_false : (a b : Bool) → b ≡ false → (a && b) ≡ false
+and_false true b e = e
+and_false false b e = refl
+
+pub and_true : (a b : Bool) → a ≡ true → b ≡ true → (a && b) ≡ true
+and_true a b p q = ap (λ c. c && b) p ∙ q
+
+pub too_few : (n : ℕ) (b : Bool) → n ≤ 16 → ((n == 17) && b) ≡ false
+too_few n b le =
+    let e : (n == 17) ≡ false = grind (arith, nat_tests) in
+    ap (λ c. c && b) e
+
+pub few_names : (n : ℕ) → n ≤ 16 → nat_lt n 17 ≡ true
+few_names n le = grind (arith, nat_tests)
+
+-- ---- weights
+
+pub weigh : (given : Given) (ts : List Template) → AllByRecursion (IsWithin given) ts → templates_weight ts ≤ templates_len given ts
+weigh given [] a = omega arith
+weigh given (t ∷ ts) a = omega (arith, a.0.weighs, weigh given ts a.1)
+
+pub all_short : (given : Given) (ts : List Template) → AllByRecursion (IsWithin given) ts → AllByRecursion (λ t. body_bytes t.body ≤ source_len (given t.name)) ts
+all_short given [] a = tt
+all_short given (t ∷ ts) a = (a.0.short, all_short given ts a.1)
+
+pub names_placed : (ts : List Template) (is : List ℕ) (us : List Template) → map (slice_get ts) is ≡ map Some us → names_at ts is ≡ map (λ t. Some t.name) us
+names_placed ts [] [] e = refl
+names_placed ts [] (u ∷ us) e = absurd (cc)
+names_placed ts (i ∷ is) [] e = absurd (cc)
+names_placed ts (i ∷ is) (u ∷ us) e =
+    let h : slice_get ts i ≡ Some u = cc in
+    let r : map (slice_get ts) is ≡ map Some us = cc in
+    ap (λ o. option_map (λ (t : Template). t.name) o ∷ names_at ts is) h ∙ ap (λ l. Some u.name ∷ l) (names_placed ts is us r)

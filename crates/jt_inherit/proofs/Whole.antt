@@ -1,0 +1,433 @@
+-- The chains that an entry reaches, all of them followed and checked, in an order of what they include.
+use Rattle.std.proofs.Common.{◌≡◌, ℕ, zero, suc, ◌+◌, ◌*◌, ◌<◌, ◌≤◌, ◌==◌, Bool, true, false, not, ◌&&◌, ◌||◌, if◌then◌else◌, nat_lt, List, [], ◌∷◌, ◌++◌, length, map, refl, sym, ap, subst, ◌∙◌, arith, inl, inr, ◌⊎◌, ⊎_elim, Option, Some, None, IsTrue, Vec, Global}
+use Rattle.std.specs.Prelude.{flat_map, slice_get, unwrap_or}
+use Rattle.std.specs.List.{AllByRecursion, list_any}
+use Rattle.std.specs.Option.{is_some, is_none}
+use Rattle.std.specs.Str.{bytes_eq}
+use Rattle.std.proofs.lemmas.Bool.{cases_lt}
+use Rattle.std.proofs.lemmas.Bool.Decides.{nat_tests}
+use Rattle.jt_order.specs.Graph as graph
+use Rattle.jt_order.specs.Graph.{Graph, next_of, IsClosed, HasCycle, IsOrder}
+use Rattle.jt_order.specs.declared.error.OrderError.{OrderError}
+use Rattle.jt_order.specs.declared.error.OrderError.TheVariants as order
+use Rattle.jt_scan.specs.declared.options.Options.{Options}
+use Rattle.jt_parse.specs.Texts.{among, repeated}
+use Rattle.jt_parse.specs.Trees.{Text, Body}
+use Rattle.jt_inherit.specs.Along.{ArePlaces, templates_at, includes_along}
+use Rattle.jt_inherit.specs.Chain.{Template, templates, sources_in, names_up, macros, all_bodies}
+use Rattle.jt_inherit.specs.Chains.{Given, AreRead, IsRead, IsComplete, IsChain}
+use Rattle.jt_inherit.specs.Checks.{lacks_body, lacks_next}
+use Rattle.jt_inherit.specs.Found.{AreFound, IsFollowed, AreFollowed, IsMet, BreaksAt, HasHomes, chosen}
+use Rattle.jt_inherit.specs.Includes.{included, needs_in, InOrder}
+use Rattle.jt_inherit.specs.Kept.{KeepAll, BreakOne, their_blocks, their_macros, any_double}
+use Rattle.jt_inherit.specs.Names.{IsName}
+use Rattle.jt_inherit.specs.Needs.{Need, needed}
+use Rattle.jt_inherit.specs.Pages.{home_name, names_at, AreWhole}
+use Rattle.jt_inherit.specs.Places.{home_at}
+use Rattle.jt_inherit.specs.Refusals.{Breaks}
+use Rattle.jt_inherit.specs.Refused.{gives}
+use Rattle.jt_inherit.specs.Rules as rules
+use Rattle.jt_inherit.specs.Rules.{Reaches, here, asked, way, is_whole, KeepsRules}
+use Rattle.jt_inherit.specs.Small.{templates_weight, templates_len, chains_weight, chains_len}
+use Rattle.jt_inherit.specs.Ways.{IsWay, IsWithin}
+use Rattle.jt_inherit.specs.declared.error.ChainError.{ChainError}
+use Rattle.jt_inherit.specs.declared.error.ChainError.TheVariants as error
+use Rattle.jt_inherit.specs.declared.linked.Home.{Home}
+use Rattle.jt_inherit.proofs.Among.{same, both_false, or_true, or_false}
+use Rattle.jt_inherit.proofs.Fewer.{few_chains}
+use Rattle.jt_inherit.proofs.Finding.{placed_templates, includes_told, included_is, whole_way, some_source}
+use Rattle.jt_inherit.proofs.Following.{among_cases, text_among}
+use Rattle.jt_inherit.proofs.Growing.{reaches_then}
+use Rattle.jt_inherit.proofs.Leads.{names, names_to_root, few_templates, all_at_places}
+use Rattle.jt_inherit.proofs.Needed.{by_templates}
+use Rattle.jt_inherit.proofs.OnWay.{never, and_false, and_true, too_few, few_names, all_named, have_sources, all_among, repeated_up, weigh, names_placed}
+use Rattle.jt_inherit.proofs.Ordered.{home_there, home_among, number_of, names_in_order, reached_in_order, no_cycle, first_in_order, no_more, named_among}
+use Rattle.jt_inherit.proofs.Placed.{length-map, given_templates}
+
+-- ---- chains by their numbers
+
+pub at_number : (P : List ℕ → Type 0) (ws : Graph) (i : ℕ) → i < length ws → AllByRecursion P ws → P (next_of ws i)
+at_number P [] i lt a = absurd (omega arith)
+at_number P (w ∷ ws) zero lt a = a.0
+at_number P (w ∷ ws) (suc i) lt a = at_number P ws i (omega arith) a.1
+
+followed_number : (given : Given) (ts : List Template) (hs gs : List Text) (ws ns : Graph) (i : ℕ) → i < length ws → AreFollowed given ts hs gs ws ns → IsFollowed given ts hs (home_at gs i) (next_of ws i) (next_of ns i)
+followed_number given ts hs gs [] ns i lt a = absurd (omega arith)
+followed_number given ts hs gs (w ∷ ws) [] i lt a = absurd a
+followed_number given ts hs [] (w ∷ ws) (n ∷ ns) i lt a = absurd a
+followed_number given ts hs (g ∷ gs) (w ∷ ws) (n ∷ ns) zero lt a = a.0
+followed_number given ts hs (g ∷ gs) (w ∷ ws) (n ∷ ns) (suc i) lt a = followed_number given ts hs gs ws ns i (omega arith) a.1
+
+pub next_len : (given : Given) (ts : List Template) (hs gs : List Text) (ws ns : Graph) → AreFollowed given ts hs gs ws ns → length ns ≡ length ws
+next_len given ts hs gs [] [] a = refl
+next_len given ts hs gs [] (n ∷ ns) a = absurd a
+next_len given ts hs gs (w ∷ ws) [] a = absurd a
+next_len given ts hs [] (w ∷ ws) (n ∷ ns) a = absurd a
+next_len given ts hs (g ∷ gs) (w ∷ ws) (n ∷ ns) a = ap suc (next_len given ts hs gs ws ns a.1)
+
+pub ways_placed : (given : Given) (ts : List Template) (hs gs : List Text) (ws ns : Graph) → AreFollowed given ts hs gs ws ns → AllByRecursion (ArePlaces ts) ws
+ways_placed given ts hs gs [] ns a = tt
+ways_placed given ts hs gs (w ∷ ws) [] a = absurd a
+ways_placed given ts hs [] (w ∷ ws) (n ∷ ns) a = absurd a
+ways_placed given ts hs (g ∷ gs) (w ∷ ws) (n ∷ ns) a = (a.0.led.places, ways_placed given ts hs gs ws ns a.1)
+
+some_within : (hs : List Text) (j : ℕ) (n : Text) → slice_get hs j ≡ Some n → j < length hs
+some_within [] j n e = absurd (cc)
+some_within (h ∷ hs) zero n e = omega arith
+some_within (h ∷ hs) (suc j) n e =
+    let r = some_within hs j n e in
+    omega arith
+
+numbers_within : (hs : List Text) (js : List ℕ) (ns : List Text) → map (slice_get hs) js ≡ map Some ns → AllByRecursion (λ j. j < length hs) js
+numbers_within hs [] ns e = tt
+numbers_within hs (j ∷ js) [] e = absurd (cc)
+numbers_within hs (j ∷ js) (n ∷ ns) e =
+    let h : slice_get hs j ≡ Some n = cc in
+    let r : map (slice_get hs) js ≡ map Some ns = cc in
+    (some_within hs j n h, numbers_within hs js ns r)
+
+next_within : (given : Given) (ts : List Template) (hs gs : List Text) (ws ns : Graph) → AreFollowed given ts hs gs ws ns → AllByRecursion (λ js. AllByRecursion (λ j. j < length hs) js) ns
+next_within given ts hs gs [] [] a = tt
+next_within given ts hs gs [] (n ∷ ns) a = absurd a
+next_within given ts hs gs (w ∷ ws) [] a = absurd a
+next_within given ts hs [] (w ∷ ws) (n ∷ ns) a = absurd a
+next_within given ts hs (g ∷ gs) (w ∷ ws) (n ∷ ns) a =
+    (numbers_within hs n (chosen (names ts) (includes_along ts w)) a.0.numbered, next_within given ts hs gs ws ns a.1)
+
+numbered_among : (hs : List Text) (j : ℕ) (js : List ℕ) (ns : List Text) → map (slice_get hs) js ≡ map Some ns → graph.among j js ≡ true → among (home_at hs j) ns ≡ true
+numbered_among hs j [] ns e a = absurd (cc)
+numbered_among hs j (k ∷ js) [] e a = absurd (cc)
+numbered_among hs j (k ∷ js) (n ∷ ns) e a =
+    let h : slice_get hs k ≡ Some n = cc in
+    let r : map (slice_get hs) js ≡ map Some ns = cc in
+    by (k == j) refl h (numbered_among hs j js ns r)
+  where
+    by : (b : Bool) → (k == j) ≡ b → slice_get hs k ≡ Some n → (graph.among j js ≡ true → among (home_at hs j) ns ≡ true) → among (home_at hs j) (n ∷ ns) ≡ true
+    by true q h f =
+        let i : k ≡ j = grind (arith, nat_tests) in
+        let name : home_at hs j ≡ n = ap (λ o. unwrap_or o []) (ap (slice_get hs) (sym i) ∙ h) in
+        ap (λ x. among x (n ∷ ns)) name ∙ text_among (n ∷ ns) 0 n refl
+    by false q h f = or_true (bytes_eq n (home_at hs j)) (among (home_at hs j) ns) (f (sym (ap (λ b. b || graph.among j js) q) ∙ a))
+
+none_next : (ns : Graph) (i j : ℕ) → length ns ≤ i → graph.among j (next_of ns i) ≡ true → ⊥
+none_next [] i j le a = cc
+none_next (n ∷ ns) zero j le a = omega arith
+none_next (n ∷ ns) (suc i) j le a = none_next ns i j (omega arith) a
+
+-- ---- tests over names
+
+any_both : (p : Text → Bool) (xs ys : List Text) → list_any p xs ≡ false → list_any p ys ≡ false → list_any p (xs ++ ys) ≡ false
+any_both p [] ys a b = b
+any_both p (x ∷ xs) ys a b =
+    let k = or_false (p x) (list_any p xs) a in
+    both_false (p x) (list_any p (xs ++ ys)) k.0 (any_both p xs ys k.1 b)
+
+-- ---- what is met
+
+module _ (given : Given) (ts : List Template) where
+  has_source : (n : Text) → among n (names ts) ≡ true → is_none (sources_in ts n) ≡ false
+  has_source n a = by (sources_in ts n) (some_source ts n ∙ a)
+    where
+      by : (o : Option Body) → is_some o ≡ true → is_none o ≡ false
+      by None e = absurd (cc)
+      by (Some b) e = refl
+
+  needs_sources : (ns : List Need) → AllByRecursion (IsMet given (names ts)) ns → list_any (λ n. is_none (sources_in ts n)) (needed false ns) ≡ false
+  needs_sources [] a = refl
+  needs_sources (n ∷ ns) a = by n.ignoring refl (needs_sources ns a.1) a.0
+    where
+      by : (b : Bool) → n.ignoring ≡ b → list_any (λ m. is_none (sources_in ts m)) (needed false ns) ≡ false → IsMet given (names ts) n → list_any (λ m. is_none (sources_in ts m)) (needed false (n ∷ ns)) ≡ false
+      by true e r m = ap (λ b. list_any (λ k. is_none (sources_in ts k)) ((if not b then n.name ∷ [] else []) ++ needed false ns)) e ∙ r
+      by false e r m =
+          ap (λ b. list_any (λ k. is_none (sources_in ts k)) ((if not b then n.name ∷ [] else []) ++ needed false ns)) e
+          ∙ both_false (is_none (sources_in ts n.name)) (list_any (λ k. is_none (sources_in ts k)) (needed false ns))
+          (⊎_elim (λ p. has_source n.name p) (λ q. absurd (never n.ignoring e q.0)) m) r
+
+  needs_met : (P : Text → Type 0) → ((n : Need) → IsMet given (names ts) n → P n.name) → (ns : List Need) → AllByRecursion (IsMet given (names ts)) ns → (x : Text) → among x (needed true ns) ≡ true → P x
+  needs_met P f [] a x h = absurd (cc)
+  needs_met P f (n ∷ ns) a x h = by (bytes_eq n.name x) refl (needs_met P f ns a.1 x)
+    where
+      by : (b : Bool) → bytes_eq n.name x ≡ b → (among x (needed true ns) ≡ true → P x) → P x
+      by true e r = subst P (same n.name x e) (f n a.0)
+      by false e r = r (sym (ap (λ b. b || among x (needed true ns)) e) ∙ h)
+
+-- ---- a chain that was followed
+
+module _ (given : Given) (options : Options) (ts : List Template) (read : AreRead given options ts) (h : Text) (is : List ℕ) (w : IsWay ts h is None) where
+  few : length (templates_at ts is) ≤ 16
+  few = omega (arith, few_templates ts is, w.few)
+
+  pub up : way (sources_in ts) options.autoescape h ≡ names (templates_at ts is)
+  up = names_to_root (sources_in ts) 17 (Some h) (templates_at ts is) (omega (arith, few)) w.leads
+
+  held : AllByRecursion (λ t. sources_in ts t.name ≡ Some t.body) (templates_at ts is)
+  held = subst (AllByRecursion (λ t. sources_in ts t.name ≡ Some t.body)) (whole_way ts h is w) (given_templates (sources_in ts) h)
+
+  pub asked_is : (all : Bool) → asked (sources_in ts) options.autoescape all h ≡ names (templates_at ts is) ++ needed all (includes_along ts is)
+  asked_is all =
+      ap (λ xs. xs ++ flat_map (λ t. needs_in all t.body) (templates (sources_in ts) h)) up
+      ∙ ap (λ us. names (templates_at ts is) ++ flat_map (λ t. needs_in all t.body) us) (whole_way ts h is w)
+      ∙ ap (λ xs. names (templates_at ts is) ++ xs) (sym (by_templates all (templates_at ts is)) ∙ ap (needed all) (sym (includes_told ts is w.places)))
+
+  pub is_one : is_whole (sources_in ts) options.autoescape h ≡ true
+  is_one =
+      let us = templates_at ts is in
+      let s = sources_in ts in
+      subst (λ xs. (not (repeated xs) && (nat_lt (length xs) 17 && not (list_any (λ n. is_none (s n)) xs))) ≡ true) (sym up)
+      (and_true (not (repeated (names us))) (nat_lt (length (names us)) 17 && not (list_any (λ n. is_none (s n)) (names us))) (ap not w.once)
+      (and_true (nat_lt (length (names us)) 17) (not (list_any (λ n. is_none (s n)) (names us))) (few_names (length (names us)) (omega (arith, few, length-map (λ (t : Template). t.name) us)))
+      (ap not (have_sources s us held))))
+
+  -- a rule on blocks or macros that is broken
+  pub one_breaks : (root : Text) → Reaches (sources_in ts) options.autoescape root h → (e : ChainError) → BreakOne options.autoescape (templates_at ts is) e → Breaks e given root options
+  one_breaks root r error.DoubleBlock b =
+      record { templates = ts; read = read; holds = (h, r, subst (λ us. any_double options.autoescape us ≡ true) (sym (whole_way ts h is w)) b) }
+  one_breaks root r error.RequiredNotGiven b =
+      record { templates = ts; read = read; holds = (h, r, and_true (is_whole (sources_in ts) options.autoescape h) (lacks_body (all_bodies (sources_in ts) options.autoescape h)) is_one (subst (λ us. lacks_body (their_blocks options.autoescape us) ≡ true) (sym (whole_way ts h is w)) b)) }
+  one_breaks root r error.NoSuper b =
+      record { templates = ts; read = read; holds = (h, r, and_true (is_whole (sources_in ts) options.autoescape h) (lacks_next (all_bodies (sources_in ts) options.autoescape h)) is_one (subst (λ us. lacks_next (their_blocks options.autoescape us) ≡ true) (sym (whole_way ts h is w)) b)) }
+  one_breaks root r error.MacroTwice b =
+      record { templates = ts; read = read; holds = (h, r, and_true (is_whole (sources_in ts) options.autoescape h) (repeated (map (λ m. m.name) (macros (sources_in ts) h))) is_one (subst (λ us. repeated (map (λ m. m.name) (their_macros options.autoescape us)) ≡ true) (sym (whole_way ts h is w)) b)) }
+  one_breaks root r error.NoMemory b = tt
+  one_breaks root r error.Missing b = absurd b
+  one_breaks root r error.BadName b = absurd b
+  one_breaks root r error.ExtendsCycle b = absurd b
+  one_breaks root r error.ChainTooLong b = absurd b
+  one_breaks root r error.IncludeCycle b = absurd b
+  one_breaks root r (error.Scan n e) b = absurd b
+  one_breaks root r (error.Parse n e) b = absurd b
+
+  module _ (met : AllByRecursion (IsMet given (names ts)) (includes_along ts is)) where
+    pub none_missing : list_any (λ n. is_none (sources_in ts n)) (asked (sources_in ts) options.autoescape false h) ≡ false
+    none_missing =
+        ap (list_any (λ n. is_none (sources_in ts n))) (asked_is false)
+        ∙ any_both (λ n. is_none (sources_in ts n)) (names (templates_at ts is)) (needed false (includes_along ts is)) (have_sources (sources_in ts) (templates_at ts is) held) (needs_sources given ts (includes_along ts is) met)
+
+    pub all_asked : (P : Text → Type 0) → AllByRecursion (λ t. P t.name) (templates_at ts is) → ((n : Need) → IsMet given (names ts) n → P n.name) → (x : Text) → among x (asked (sources_in ts) options.autoescape true h) ≡ true → P x
+    all_asked P a f x i = ⊎_elim
+        (λ p. all_among P (templates_at ts is) x a p)
+        (λ q. needs_met given ts P f (includes_along ts is) met x q)
+        (among_cases x (names (templates_at ts is)) (needed true (includes_along ts is)) (sym (ap (among x) (asked_is true)) ∙ i))
+
+-- ---- all chains
+
+module _ (given : Given) (options : Options) (entry : Text) (ts : List Template) (ks hs : List Text) (ws ns : Graph) (f : AreFound given options ts ks hs ws ns) (root : home_at hs 0 ≡ entry) (all : length ws ≡ length hs) where
+  number : (i : ℕ) → i < length hs → IsFollowed given ts hs (home_at hs i) (next_of ws i) (next_of ns i)
+  number i lt = followed_number given ts hs hs ws ns i (omega (arith, all)) f.followed
+
+  lens : length ns ≡ length hs
+  lens = next_len given ts hs hs ws ns f.followed ∙ all
+
+  pub closed : IsClosed ns
+  closed = subst (λ n. AllByRecursion (λ js. AllByRecursion (λ j. j < n) js) ns) (sym lens) (next_within given ts hs hs ws ns f.followed)
+
+  reached : (h : Text) → among h hs ≡ true → Reaches (sources_in ts) options.autoescape entry h
+  reached h a = subst (λ z. Reaches (sources_in ts) options.autoescape z h) root (f.reached h a)
+
+  includes_next : (i : ℕ) → i < length hs → map (slice_get hs) (next_of ns i) ≡ map Some (included (sources_in ts) (home_at hs i))
+  includes_next i lt = (number i lt).numbered ∙ ap (map Some) (sym (included_is ts (home_at hs i) (next_of ws i) (number i lt).led))
+
+  pub chain_breaks : (e : ChainError) → BreaksAt options.autoescape ts ws e → Breaks e given entry options
+  chain_breaks e b =
+      let i = b.number in
+      let lt : i < length hs = omega (arith, b.within, all) in
+      one_breaks given options ts f.known.read (home_at hs i) (next_of ws i) (number i lt).led entry (reached (home_at hs i) (home_among hs i lt)) e b.broken
+
+  -- ---- a cycle of numbers is one of chains
+
+  edge : (i j : ℕ) → graph.among j (next_of ns i) ≡ true → (i < length hs) × (among (home_at hs j) (included (sources_in ts) (home_at hs i)) ≡ true)
+  edge i j a = ⊎_elim (λ (lt : i < length hs). (lt, numbered_among hs j (next_of ns i) (included (sources_in ts) (home_at hs i)) (includes_next i lt) a)) (λ (le : length hs ≤ i). absurd (none_next ns i j (omega (arith, lens, le)) a)) (cases_lt i (length hs))
+
+  along : {i j : ℕ} → graph.Reaches ns i j → (m : Text) × (among m (included (sources_in ts) (home_at hs i)) ≡ true) × Reaches (sources_in ts) options.autoescape m (home_at hs j)
+  along (graph.step {i} {j} a) = (home_at hs j, (edge i j a).1, here)
+  along (graph.further {i} {j} a r) =
+      let k = along r in
+      (home_at hs j, (edge i j a).1, rules.through k.1 k.2)
+
+  begins_at : {i j : ℕ} → graph.Reaches ns i j → i < length hs
+  begins_at (graph.step {i} {j} a) = (edge i j a).0
+  begins_at (graph.further {i} {j} a r) = (edge i j a).0
+
+  pub cycle_breaks : HasCycle ns → Breaks error.IncludeCycle given entry options
+  cycle_breaks c = record {
+    templates = ts;
+    read = f.known.read;
+    holds = (home_at hs c.0, reached (home_at hs c.0) (home_among hs c.0 (begins_at c.1)), along c.1);
+  }
+
+  pub order_breaks : (g : Graph) (r : OrderError) (e : ChainError) → g ≡ ns → gives r e → (r ≡ order.Cycle → HasCycle g) → Breaks e given entry options
+  order_breaks g order.Cycle e q is c = subst (λ z. Breaks z given entry options) (sym is) (cycle_breaks (subst HasCycle q (c refl)))
+  order_breaks g order.NoMemory e q is c = subst (λ z. Breaks z given entry options) (sym is) tt
+
+  -- ---- in an order of what they include
+
+  module _ (kept : AllByRecursion (λ w. KeepAll options.autoescape (templates_at ts w)) ws) (is : List ℕ) (o : IsOrder ns is) where
+    within : AllByRecursion (λ i. i < length hs) is
+    within = subst (λ n. AllByRecursion (λ i. i < n) is) lens o.within
+
+    pub in_order : InOrder (sources_in ts) (map (home_at hs) is)
+    in_order = names_in_order (sources_in ts) hs ns is f.once within includes_next o.ordered
+
+    entry_in : among entry (map (home_at hs) is) ≡ true
+    entry_in = subst (λ x. among x (map (home_at hs) is) ≡ true) root (named_among hs 0 is (o.all 0 (omega (arith, lens, f.some))))
+
+    in_homes : (x : Text) → among x (map (home_at hs) is) ≡ true → among x hs ≡ true
+    in_homes x a = from is within a
+      where
+        from : (js : List ℕ) → AllByRecursion (λ i. i < length hs) js → among x (map (home_at hs) js) ≡ true → among x hs ≡ true
+        from [] w a = absurd (cc)
+        from (j ∷ js) w a = by (bytes_eq (home_at hs j) x) refl (from js w.1)
+          where
+            by : (b : Bool) → bytes_eq (home_at hs j) x ≡ b → (among x (map (home_at hs) js) ≡ true → among x hs ≡ true) → among x hs ≡ true
+            by true e r = ap (λ y. among y hs) (sym (same (home_at hs j) x e)) ∙ home_among hs j w.0
+            by false e r = r (sym (ap (λ b. b || among x (map (home_at hs) js)) e) ∙ a)
+
+    ordered : {h : Text} → Reaches (sources_in ts) options.autoescape entry h → among h (map (home_at hs) is) ≡ true
+    ordered r = reached_in_order (sources_in ts) options.autoescape (map (home_at hs) is) in_order r entry_in
+
+    -- the chain of a name
+    way_of : (h : Text) → among h hs ≡ true → (w : List ℕ) × IsWay ts h w None × KeepAll options.autoescape (templates_at ts w) × AllByRecursion (IsMet given (names ts)) (includes_along ts w)
+    way_of h a =
+        let k = number_of hs h a in
+        let n = number k.0 k.1 in
+        (next_of ws k.0, subst (λ x. IsWay ts x (next_of ws k.0) None) k.2 n.led, at_number (λ w. KeepAll options.autoescape (templates_at ts w)) ws k.0 (omega (arith, k.1, all)) kept, n.met)
+
+    way_reached : {h : Text} → Reaches (sources_in ts) options.autoescape entry h → (w : List ℕ) × IsWay ts h w None × KeepAll options.autoescape (templates_at ts w) × AllByRecursion (IsMet given (names ts)) (includes_along ts w)
+    way_reached {h} r = way_of h (in_homes h (ordered r))
+
+    named_met : (n : Need) → IsMet given (names ts) n → IsName n.name
+    named_met n m = ⊎_elim (λ p. all_among IsName ts n.name (all_named given options ts f.known.read.each) p) (λ q. q.1) m
+
+    keeps : KeepsRules (sources_in ts) options.autoescape entry
+    keeps = record {
+      missing = λ x.
+          let k = way_reached x.1 in
+          never (list_any (λ n. is_none (sources_in ts n)) (asked (sources_in ts) options.autoescape false x.0)) (none_missing given options ts f.known.read x.0 k.0 k.1 k.3) x.2;
+      bad_name = λ x.
+          let k = way_reached x.1 in
+          x.2.2 (all_asked given options ts f.known.read x.0 k.0 k.1 k.3 IsName (all_at_places (λ t. IsName t.name) ts k.0 (all_named given options ts f.known.read.each)) named_met x.2.0 x.2.1);
+      extends_cycle = λ x.
+          let k = way_reached x.1 in
+          never (repeated (names (templates_at ts k.0))) k.1.once (repeated_up (sources_in ts) x.2.0 (Some x.0) (templates_at ts k.0) k.1.leads x.2.1);
+      too_long = λ x. ⊎_elim
+          (λ y.
+          let k = way_reached y.1 in
+          let us = templates_at ts k.0 in
+          let le : length us ≤ 16 = omega (arith, few_templates ts k.0, k.1.few) in
+          never ((length (way (sources_in ts) options.autoescape y.0) == 17) && not (repeated (way (sources_in ts) options.autoescape y.0)))
+          (ap (λ xs. (length xs == 17) && not (repeated xs)) (up given options ts f.known.read y.0 k.0 k.1) ∙ too_few (length (names us)) (not (repeated (names us))) (omega (arith, le, length-map (λ (t : Template). t.name) us))) y.2)
+          (λ y.
+          let le = no_more y.0 hs (not_true (repeated y.0) y.2) (λ h a. in_homes h (ordered (y.3 h a))) in
+          let gt : 1024 < length y.0 = y.1 in
+          let most = f.few in
+          omega (arith, le, gt, most))
+          x;
+      double_block = λ x.
+          let k = way_reached x.1 in
+          never (any_double options.autoescape (templates (sources_in ts) x.0)) (ap (any_double options.autoescape) (whole_way ts x.0 k.0 k.1) ∙ k.2.doubles) x.2;
+      required_not_given = λ x.
+          let k = way_reached x.1 in
+          never (is_whole (sources_in ts) options.autoescape x.0 && lacks_body (all_bodies (sources_in ts) options.autoescape x.0))
+          (and_false (is_whole (sources_in ts) options.autoescape x.0) (lacks_body (all_bodies (sources_in ts) options.autoescape x.0)) (ap (λ us. lacks_body (their_blocks options.autoescape us)) (whole_way ts x.0 k.0 k.1) ∙ k.2.bodies)) x.2;
+      no_super = λ x.
+          let k = way_reached x.1 in
+          never (is_whole (sources_in ts) options.autoescape x.0 && lacks_next (all_bodies (sources_in ts) options.autoescape x.0))
+          (and_false (is_whole (sources_in ts) options.autoescape x.0) (lacks_next (all_bodies (sources_in ts) options.autoescape x.0)) (ap (λ us. lacks_next (their_blocks options.autoescape us)) (whole_way ts x.0 k.0 k.1) ∙ k.2.next)) x.2;
+      include_cycle = λ x. no_cycle (sources_in ts) options.autoescape (map (home_at hs) is) in_order x.0 x.2.0 (ordered x.1) x.2.1 x.2.2;
+      macro_twice = λ x.
+          let k = way_reached x.1 in
+          never (is_whole (sources_in ts) options.autoescape x.0 && repeated (map (λ m. m.name) (macros (sources_in ts) x.0)))
+          (and_false (is_whole (sources_in ts) options.autoescape x.0) (repeated (map (λ m. m.name) (macros (sources_in ts) x.0))) (ap (λ us. repeated (map (λ m. m.name) (their_macros options.autoescape us))) (whole_way ts x.0 k.0 k.1) ∙ k.2.macros)) x.2;
+    }
+      where
+        not_true : (b : Bool) → not b ≡ true → b ≡ false
+        not_true true e = absurd (cc)
+        not_true false e = refl
+
+    complete : (h : Text) → among h hs ≡ true → IsComplete given (record { templates = ts; order = map (home_at hs) is; escaping = options.autoescape }) h
+    complete h a =
+        let k = way_of h a in
+        λ n i. all_asked given options ts f.known.read h k.0 k.1 k.3 (λ x. (among x (names ts) ≡ true) ⊎ (given x ≡ None))
+        (all_at_places (λ t. (among t.name (names ts) ≡ true) ⊎ (given t.name ≡ None)) ts k.0 (each_known ts (λ x p. p)))
+        (λ m p. ⊎_elim (λ q. inl q) (λ q. inr q.2) p) n i
+      where
+        each_known : (us : List Template) → ((x : Text) → among x (names us) ≡ true → among x (names ts) ≡ true) → AllByRecursion (λ t. (among t.name (names ts) ≡ true) ⊎ (given t.name ≡ None)) us
+        each_known [] g = tt
+        each_known (u ∷ us) g = (inl (g u.name (text_among (names (u ∷ us)) 0 u.name refl)), each_known us (λ x p. g x (or_true (bytes_eq u.name x) (among x (names us)) p)))
+
+    all_complete : (js : List ℕ) → AllByRecursion (λ i. i < length hs) js → AllByRecursion (IsComplete given (record { templates = ts; order = map (home_at hs) is; escaping = options.autoescape })) (map (home_at hs) js)
+    all_complete [] w = tt
+    all_complete (j ∷ js) w = (complete (home_at hs j) (home_among hs j w.0), all_complete js w.1)
+
+    begins : (rest : List Text) × (map (home_at hs) is ≡ entry ∷ rest)
+    begins = from is in_order entry_in within
+      where
+        from : (js : List ℕ) → InOrder (sources_in ts) (map (home_at hs) js) → among entry (map (home_at hs) js) ≡ true → AllByRecursion (λ i. i < length hs) js → (rest : List Text) × (map (home_at hs) js ≡ entry ∷ rest)
+        from [] p a w = absurd (cc)
+        from (j ∷ js) p a w =
+            let e = first_in_order (sources_in ts) options.autoescape (home_at hs j) (map (home_at hs) js) entry p a (reached (home_at hs j) (home_among hs j w.0)) in
+            (map (home_at hs) js, ap (λ x. x ∷ map (home_at hs) js) e)
+
+    all_reached : (js : List ℕ) → AllByRecursion (λ i. i < length hs) js → AllByRecursion (λ h. Reaches (sources_in ts) options.autoescape entry h) (map (home_at hs) js)
+    all_reached [] w = tt
+    all_reached (j ∷ js) w = (reached (home_at hs j) (home_among hs j w.0), all_reached js w.1)
+
+    pub chained : IsChain given entry options (record { templates = ts; order = map (home_at hs) is; escaping = options.autoescape })
+    chained = record {
+      read = f.known.read;
+      complete = all_complete is within;
+      included = begins.0;
+      begins = begins.1;
+      reached = all_reached is within;
+      order = in_order;
+      escaping = refl;
+      rules = keeps;
+    }
+
+    weighs_along : (js : List ℕ) → AllByRecursion (λ i. i < length hs) js → chains_weight (sources_in ts) (map (home_at hs) js) ≤ chains_len given (sources_in ts) (map (home_at hs) js)
+    weighs_along [] w = omega arith
+    weighs_along (j ∷ js) w =
+        let k = way_of (home_at hs j) (home_among hs j w.0) in
+        let us = templates_at ts k.0 in
+        let one : templates_weight us ≤ templates_len given us = weigh given us (all_at_places (IsWithin given) ts k.0 f.known.within) in
+        let a : templates_weight (templates (sources_in ts) (home_at hs j)) ≡ templates_weight us = ap templates_weight (whole_way ts (home_at hs j) k.0 k.1) in
+        let b : templates_len given (templates (sources_in ts) (home_at hs j)) ≡ templates_len given us = ap (templates_len given) (whole_way ts (home_at hs j) k.0 k.1) in
+        omega (arith, one, a, b, weighs_along js w.1)
+
+    pub weighs : chains_weight (sources_in ts) (map (home_at hs) is) ≤ chains_len given (sources_in ts) (map (home_at hs) is)
+    weighs = weighs_along is within
+
+    pub few_homes : 7 * length (map (home_at hs) is) ≤ chains_weight (sources_in ts) (map (home_at hs) is) + 7
+    few_homes =
+        let b = begins in
+        subst (λ os. 7 * length os ≤ chains_weight (sources_in ts) os + 7) (sym b.1)
+        (few_chains (sources_in ts) options.autoescape entry b.0 (subst (InOrder (sources_in ts)) b.1 in_order)
+        (λ h a. reached h (in_homes h (subst (λ os. among h os ≡ true) (sym b.1) a))))
+
+    pub some_homes : 0 < length is
+    some_homes = from is (o.all 0 (omega (arith, lens, f.some)))
+      where
+        from : (js : List ℕ) → graph.among 0 js ≡ true → 0 < length js
+        from [] a = absurd (cc)
+        from (j ∷ js) a = omega arith
+
+    whole_along : (js : List ℕ) (homes : List Home) → AllByRecursion (λ i. i < length hs) js → HasHomes hs ws js homes → AreWhole ts homes
+    whole_along [] [] w a = tt
+    whole_along [] (k ∷ homes) w a = absurd a
+    whole_along (j ∷ js) [] w a = absurd a
+    whole_along (j ∷ js) (k ∷ homes) w a =
+        let n = number j w.0 in
+        let us = templates_at ts (next_of ws j) in (
+          ap (names_at ts) a.0.1 ∙ names_placed ts (next_of ws j) us (placed_templates ts (next_of ws j) n.led.places)
+              ∙ ap (λ vs. map (λ t. Some t.name) vs) (sym (whole_way ts (home_at hs j) (next_of ws j) n.led)) ∙ ap (λ x. map (λ t. Some t.name) (templates (sources_in ts) x)) (sym a.0.0),
+          whole_along js homes w.1 a.1,
+        )
+
+    pub all_whole : (homes : List Home) → HasHomes hs ws is homes → AreWhole ts homes
+    all_whole homes a = whole_along is homes within a
+
+pub homes_named : (hs : List Text) (ws : Graph) (is : List ℕ) (homes : List Home) → HasHomes hs ws is homes → map home_name homes ≡ map (home_at hs) is
+homes_named hs ws [] [] a = refl
+homes_named hs ws [] (k ∷ homes) a = absurd a
+homes_named hs ws (i ∷ is) [] a = absurd a
+homes_named hs ws (i ∷ is) (k ∷ homes) a = ap (λ x. x ∷ map home_name homes) a.0.0 ∙ ap (λ l. home_at hs i ∷ l) (homes_named hs ws is homes a.1)

@@ -1,0 +1,33 @@
+use Rattle.std.proofs.Common.{◌≡◌, ap, length, arith, string_bytes, map, ◌∙◌}
+use Rattle.jt_order.specs.View.{graph_of}
+use Rattle.jt_inherit.specs.Found.{found_templates, found_homes}
+use Rattle.jt_inherit.specs.Pages.{pages_view}
+use Rattle.jt_inherit.specs.Places.{home_at}
+use Rattle.jt_inherit.specs.SetView.{strings}
+use Rattle.jt_inherit.proofs.Finding.{found_first, followed_len}
+use Rattle.jt_inherit.proofs.Placed.{length-map}
+use Rattle.jt_inherit.proofs.discovery.discover.Goals as goal
+
+pub chains-init : goal.chains-init
+chains-init g c =
+    let f = c.in_ok-found.found in
+    let i = c.in_ok-found.ensures in
+    record {
+      found = found_first (g.L.Library.sources c.args.library.now) c.args.options c.args.entry.now (found_templates f) (strings f.names.keys) (found_homes f) (graph_of f.ways.items) (graph_of f.next.items)
+          i.homes (ap pages_view i.pages) (ap strings i.names) (ap graph_of i.ways) (ap graph_of i.next);
+      root = ap (λ l. home_at l 0) i.homes;
+    }
+
+pub returns-clause-all : goal.returns-clause-all
+returns-clause-all g c =
+    let f = c.chains.found in
+    omega (
+      arith,
+      c.chains-test.false,
+      c.len-in-chains.ensures.len,
+      c.len.ensures,
+      f.ways.ok.0,
+      length-map string_bytes f.homes.keys,
+      followed_len _ _ _ _ _ _ c.chains.invariant.found.followed,
+      length-map (λ v. v.items) f.ways.items,
+    )

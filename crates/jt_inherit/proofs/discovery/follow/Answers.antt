@@ -1,0 +1,146 @@
+use Rattle.std.proofs.Common.{◌≡◌, ◌⊎◌, ◌++◌, ◌∷◌, [], List, ℕ, Some, None, sym, ap, subst, ◌∙◌, arith, length, string_bytes, Vec, Global}
+use Rattle.std.specs.Prelude.{slice_get}
+use Rattle.std.specs.List.{AllByRecursion}
+use Rattle.std.proofs.lemmas.Result.{err_from_is_err_and}
+use Rattle.jt_order.specs.View.{graph_of}
+use Rattle.jt_parse.specs.Trees.{Text}
+use Rattle.jt_inherit.specs.Along.{ArePlaces, includes_along}
+use Rattle.jt_inherit.specs.Chain.{Template}
+use Rattle.jt_inherit.specs.Found.{AreFound, AreNext, IsMet, IsNeedFault, IsNextFault, chosen, found_templates, found_homes}
+use Rattle.jt_inherit.specs.Pages.{page_view, pages_view}
+use Rattle.jt_inherit.specs.Places.{home_at}
+use Rattle.jt_inherit.specs.SetView.{strings}
+use Rattle.jt_inherit.specs.Ways.{AreKnown}
+use Rattle.jt_inherit.specs.declared.error.ChainError.TheVariants as error
+use Rattle.jt_inherit.specs.declared.linked.Page.{Page}
+use Rattle.jt_inherit.proofs.Among.{map_more}
+use Rattle.jt_inherit.proofs.Finding.{home_number, known_names, need_breaks, next_breaks, found_more, way_there, both_pages}
+use Rattle.jt_inherit.proofs.Following.{text_among}
+use Rattle.jt_inherit.proofs.Placed.{length-map}
+use Rattle.jt_inherit.proofs.discovery.follow.Goals as goal
+
+pub returns-in_err-way-clause-refused : goal.returns-in_err-way-clause-refused
+returns-in_err-way-clause-refused g c =
+    let given = g.L.Library.sources c.args.library.now in
+    let f = c.args.found.now in
+    let ts0 = found_templates f in
+    let hs = found_homes f in
+    let ws = graph_of f.ways.items in
+    let ns = graph_of f.next.items in
+    let h = c.deref.result.now in
+    let at = home_number f.homes.keys c.as_slice-homes.result.now f.ways.items c.index-homes-len.result c.len.result h c.as_slice-homes.ensures.keys
+    (omega (arith, c.len.ensures, f.ways.ok.0)) (omega (arith, c.len.ensures, f.ways.ok.0, c.requires.more, length-map string_bytes f.homes.keys, ap length c.as_slice-homes.ensures.keys)) c.index-homes-len.is c.deref.ensures in
+    let p = err_from_is_err_and c.from_residual.result c.from_residual.ensures.1 in
+    rw (p.1, p.2)
+    (c.in_err-way.ensures.refused (home_at hs 0) (c.requires.found.reached h (text_among hs (length ws) h at)))
+
+pub returns-in_err-fresh-clause-refused : goal.returns-in_err-fresh-clause-refused
+returns-in_err-fresh-clause-refused g c =
+    let given = g.L.Library.sources c.args.library.now in
+    let f = c.args.found.now in
+    let ts0 = found_templates f in
+    let hs = found_homes f in
+    let ws = graph_of f.ways.items in
+    let ns = graph_of f.next.items in
+    let h = c.deref.result.now in
+    let at = home_number f.homes.keys c.as_slice-homes.result.now f.ways.items c.index-homes-len.result c.len.result h c.as_slice-homes.ensures.keys
+    (omega (arith, c.len.ensures, f.ways.ok.0)) (omega (arith, c.len.ensures, f.ways.ok.0, c.requires.more, length-map string_bytes f.homes.keys, ap length c.as_slice-homes.ensures.keys)) c.index-homes-len.is c.deref.ensures in
+    let ts1 = pages_view c.read_way.new.pages.items in
+    let more = c.in_ok-way.ensures.grown in
+    let is = c.in_ok-way.way.items in
+    let w = c.in_ok-way.ensures.way in
+    let e = c.in_err-fresh.field-0.0 in
+    let p = err_from_is_err_and c.from_residual-in_err-fresh.result c.from_residual-in_err-fresh.ensures.1 in
+    let same_needs : includes_along (pages_view c.deref-2.result.now) c.deref-3.result.now ≡ includes_along ts1 is =
+    ap (λ (z : List Page). includes_along (pages_view z) c.deref-3.result.now) c.deref-2.ensures.value ∙ ap (includes_along ts1) c.deref-3.ensures.value in
+    rw (p.1, p.2)
+    (need_breaks given c.args.options ts0 (strings f.names.keys) hs ws ns c.requires.found h at ts1 more.0 more.1 is w (known_names given c.args.options ts1 (strings c.read_way.new.names.keys) c.in_ok-way.ensures.known) e
+    (subst (λ l. (e ≡ error.NoMemory) ⊎ IsNeedFault given c.args.options l e) same_needs c.in_err-fresh.ensures.refused))
+
+pub next_chains-requires-clause-places : goal.next_chains-requires-clause-places
+next_chains-requires-clause-places g c =
+    let given = g.L.Library.sources c.args.library.now in
+    let f = c.args.found.now in
+    let ts0 = found_templates f in
+    let hs = found_homes f in
+    let ws = graph_of f.ways.items in
+    let ns = graph_of f.next.items in
+    let h = c.deref.result.now in
+    let at = home_number f.homes.keys c.as_slice-homes.result.now f.ways.items c.index-homes-len.result c.len.result h c.as_slice-homes.ensures.keys
+    (omega (arith, c.len.ensures, f.ways.ok.0)) (omega (arith, c.len.ensures, f.ways.ok.0, c.requires.more, length-map string_bytes f.homes.keys, ap length c.as_slice-homes.ensures.keys)) c.index-homes-len.is c.deref.ensures in
+    let ts1 = pages_view c.read_way.new.pages.items in
+    let more = c.in_ok-way.ensures.grown in
+    let is = c.in_ok-way.way.items in
+    let w = c.in_ok-way.ensures.way in
+    let ts2 = pages_view c.append.new.self.items in
+    let fresh = pages_view c.in_ok-fresh.fresh.items in
+    let grown = both_pages c.read_way.new.pages.items c.in_ok-fresh.fresh.items c.append.new.self.items c.in_ok-append.ensures.items in
+    let ks2 = strings c.read_includes.new.names.keys in
+    let e2 = ap (λ (z : List Page). pages_view z ++ fresh) c.deref-2.ensures.value ∙ sym grown in
+    let known : AreKnown given c.args.options ts2 ks2 = subst (λ us. AreKnown given c.args.options us ks2) e2 c.in_ok-fresh.ensures.known in
+    subst (λ (z : List Page). ArePlaces (pages_view z) c.deref-5.result.now) (sym c.deref-4.ensures.value)
+    (subst (ArePlaces ts2) (sym c.deref-5.ensures.value) (way_there given c.args.options ts0 (strings f.names.keys) hs ws ns c.requires.found h at ts1 more.0 more.1 is w ts2 fresh grown ks2 known).places)
+
+pub returns-in_err-next-clause-refused : goal.returns-in_err-next-clause-refused
+returns-in_err-next-clause-refused g c =
+    let given = g.L.Library.sources c.args.library.now in
+    let f = c.args.found.now in
+    let ts0 = found_templates f in
+    let hs = found_homes f in
+    let ws = graph_of f.ways.items in
+    let ns = graph_of f.next.items in
+    let h = c.deref.result.now in
+    let at = home_number f.homes.keys c.as_slice-homes.result.now f.ways.items c.index-homes-len.result c.len.result h c.as_slice-homes.ensures.keys
+    (omega (arith, c.len.ensures, f.ways.ok.0)) (omega (arith, c.len.ensures, f.ways.ok.0, c.requires.more, length-map string_bytes f.homes.keys, ap length c.as_slice-homes.ensures.keys)) c.index-homes-len.is c.deref.ensures in
+    let ts1 = pages_view c.read_way.new.pages.items in
+    let more = c.in_ok-way.ensures.grown in
+    let is = c.in_ok-way.way.items in
+    let w = c.in_ok-way.ensures.way in
+    let ts2 = pages_view c.append.new.self.items in
+    let fresh = pages_view c.in_ok-fresh.fresh.items in
+    let grown = both_pages c.read_way.new.pages.items c.in_ok-fresh.fresh.items c.append.new.self.items c.in_ok-append.ensures.items in
+    let ks2 = strings c.read_includes.new.names.keys in
+    let e2 = ap (λ (z : List Page). pages_view z ++ fresh) c.deref-2.ensures.value ∙ sym grown in
+    let known : AreKnown given c.args.options ts2 ks2 = subst (λ us. AreKnown given c.args.options us ks2) e2 c.in_ok-fresh.ensures.known in
+    let e = c.in_err-next.field-0.0 in
+    let p = err_from_is_err_and c.from_residual-in_err-next.result c.from_residual-in_err-next.ensures.1 in
+    let same_needs : includes_along (pages_view c.deref-4.result.now) c.deref-5.result.now ≡ includes_along ts2 is =
+    ap (λ (z : List Page). includes_along (pages_view z) c.deref-5.result.now) c.deref-4.ensures.value ∙ ap (includes_along ts2) c.deref-5.ensures.value in
+    rw (p.1, p.2)
+    (next_breaks given c.args.options ts0 (strings f.names.keys) hs ws ns c.requires.found h at ts1 more.0 more.1 is w ts2 fresh grown ks2 known e
+    (subst (λ l. IsNextFault hs (chosen ks2 l) e) same_needs c.in_err-next.ensures.refused))
+
+pub returns-clause-found : goal.returns-clause-found
+returns-clause-found g c =
+    let given = g.L.Library.sources c.args.library.now in
+    let f = c.args.found.now in
+    let ts0 = found_templates f in
+    let hs = found_homes f in
+    let ws = graph_of f.ways.items in
+    let ns = graph_of f.next.items in
+    let h = c.deref.result.now in
+    let at = home_number f.homes.keys c.as_slice-homes.result.now f.ways.items c.index-homes-len.result c.len.result h c.as_slice-homes.ensures.keys
+    (omega (arith, c.len.ensures, f.ways.ok.0)) (omega (arith, c.len.ensures, f.ways.ok.0, c.requires.more, length-map string_bytes f.homes.keys, ap length c.as_slice-homes.ensures.keys)) c.index-homes-len.is c.deref.ensures in
+    let ts1 = pages_view c.read_way.new.pages.items in
+    let more = c.in_ok-way.ensures.grown in
+    let is = c.in_ok-way.way.items in
+    let w = c.in_ok-way.ensures.way in
+    let ts2 = pages_view c.append.new.self.items in
+    let fresh = pages_view c.in_ok-fresh.fresh.items in
+    let grown = both_pages c.read_way.new.pages.items c.in_ok-fresh.fresh.items c.append.new.self.items c.in_ok-append.ensures.items in
+    let ks2 = strings c.read_includes.new.names.keys in
+    let e2 = ap (λ (z : List Page). pages_view z ++ fresh) c.deref-2.ensures.value ∙ sym grown in
+    let known : AreKnown given c.args.options ts2 ks2 = subst (λ us. AreKnown given c.args.options us ks2) e2 c.in_ok-fresh.ensures.known in
+    let hs2 = strings c.next_chains.new.homes.keys in
+    let next = c.in_ok-next.next.items in
+    let same_needs : includes_along (pages_view c.deref-4.result.now) c.deref-5.result.now ≡ includes_along ts2 is =
+    ap (λ (z : List Page). includes_along (pages_view z) c.deref-5.result.now) c.deref-4.ensures.value ∙ ap (includes_along ts2) c.deref-5.ensures.value in
+    let first_needs : includes_along (pages_view c.deref-2.result.now) c.deref-3.result.now ≡ includes_along ts1 is =
+    ap (λ (z : List Page). includes_along (pages_view z) c.deref-3.result.now) c.deref-2.ensures.value ∙ ap (includes_along ts1) c.deref-3.ensures.value in
+    let longer : graph_of c.push.new.self.items ≡ ws ++ is ∷ [] = ap graph_of c.in_ok-push.ensures.items ∙ map_more (λ (v : Vec ℕ Global). v.items) f.ways.items c.in_ok-way.way in
+    let longer_next : graph_of c.push-2.new.self.items ≡ ns ++ next ∷ [] = ap graph_of c.in_ok-push-2.ensures.items ∙ map_more (λ (v : Vec ℕ Global). v.items) f.next.items c.in_ok-next.next in
+    subst (λ z. AreFound given c.args.options ts2 ks2 hs2 z (graph_of c.push-2.new.self.items)) (sym longer)
+    (subst (AreFound given c.args.options ts2 ks2 hs2 (ws ++ is ∷ [])) (sym longer_next)
+    (found_more given c.args.options ts0 (strings f.names.keys) hs ws ns c.requires.found h at ts1 more.0 more.1 is w ts2 fresh grown ks2 known
+    (subst (AllByRecursion (IsMet given ks2)) first_needs c.in_ok-fresh.ensures.met) hs2 next
+    (subst (λ l. AreNext hs hs2 (chosen ks2 l) next) same_needs c.in_ok-next.ensures.next)))

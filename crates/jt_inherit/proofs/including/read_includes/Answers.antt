@@ -1,0 +1,32 @@
+use Rattle.std.proofs.Common.{◌≡◌, inr, take, sym, ap, subst, ◌∙◌}
+use Rattle.std.specs.List.{AllByRecursion}
+use Rattle.std.proofs.lemmas.Result.{err_from_is_err_and}
+use Rattle.jt_inherit.specs.Along.{includes_along}
+use Rattle.jt_inherit.specs.Found.{IsMet}
+use Rattle.jt_inherit.specs.Needs.{needs_view}
+use Rattle.jt_inherit.specs.Pages.{pages_view}
+use Rattle.jt_inherit.specs.SetView.{strings}
+use Rattle.jt_inherit.proofs.Following.{need_fault, met_turn, met_grows}
+use Rattle.jt_inherit.proofs.including.read_includes.Goals as goal
+
+pub returns-in_err-read_include-clause-refused : goal.returns-in_err-read_include-clause-refused
+returns-in_err-read_include-clause-refused g c =
+    let l = c.loop-include in
+    let e = c.in_err-read_include.field-0.0 in
+    let p = err_from_is_err_and c.from_residual-in_err-read_include.result c.from_residual-in_err-read_include.ensures.1 in
+    rw (p.1, p.2)
+    (inr (need_fault (g.L.Library.sources c.args.library.now) c.args.options c.deref-include-items.result.now (includes_along (pages_view c.args.pages.now) c.args.way.now) l.include-index _ e
+    (ap needs_view c.deref-include-items.ensures.value ∙ c.in_ok-found.ensures) c.loop-include-test.true c.in_err-read_include.ensures.refused))
+
+pub loop-include-preserved : goal.loop-include-preserved
+loop-include-preserved g c =
+    let l = c.loop-include in
+    let given = g.L.Library.sources c.args.library.now in
+    let ks = strings l.names.keys in
+    let more = c.in_ok-read_include.ensures.grown in
+    let met = subst (λ z. AllByRecursion (IsMet given z) (needs_view (take l.include-index c.deref-include-items.result.now))) (sym more.1)
+    (met_grows given ks more.0 (needs_view (take l.include-index c.deref-include-items.result.now)) l.invariant.met) in
+    record {
+      known = c.in_ok-read_include.ensures.known (pages_view c.args.pages.now) l.invariant.known;
+      met = met_turn (IsMet given (strings c.read_include.new.names.keys)) c.deref-include-items.result.now l.include-index _ c.loop-include-test.true met c.in_ok-read_include.ensures.met;
+    }

@@ -1,0 +1,52 @@
+use Rattle.std.proofs.Common.{◌≡◌, ◌<◌, ◌≤◌, length, ap, subst, arith, IsUtf8}
+use Rattle.std.proofs.lemmas.Str.{IsUtf8-string_bytes}
+use Rattle.jt_scan.specs.Cut.{weight_of}
+use Rattle.jt_scan.specs.SourceView.{Held}
+use Rattle.jt_scan.specs.View.{cut_of}
+use Rattle.jt_parse.specs.Bytes.{bytes_of}
+use Rattle.jt_scan.specs.LineEnds.{normalized}
+use Rattle.jt_parse.specs.Grammar.{Spelled}
+use Rattle.jt_parse.specs.Kept.{pieces}
+use Rattle.jt_parse.specs.Refusals.{IsRefusal}
+use Rattle.jt_parse.specs.Trees.{body_levels}
+use Rattle.jt_parse.specs.View.{body_of, reads_of}
+use Rattle.jt_inherit.proofs.Cuts.{limited, tree_found, unspelled}
+use Rattle.jt_inherit.proofs.Lengths.{taken, few_chars, few_bytes, cut_short}
+use Rattle.jt_inherit.proofs.reading.template_of.Goals as goal
+
+pub returns-in-Ok-parse-clause-weighs : goal.returns-in-Ok-parse-clause-weighs
+returns-in-Ok-parse-clause-weighs c =
+    let utf8 : IsUtf8 c.in-Ok.source.text = subst IsUtf8 (ap (λ (s : Held). s.text) c.source.view_is) (IsUtf8-string_bytes c.source.inside.text) in
+    let text = taken c.args.options c.args.text.now c.in-Ok.source (λ long. let no = c.in-Ok.ensures.long long in absurd (cc)) c.in-Ok.ensures.short in
+    omega (
+      arith,
+      c.in-Ok-parse.ensures.weighs,
+      ap (λ z. weight_of (cut_of z)) c.as_slice.ensures.value,
+      c.in-Ok-scan.ensures.weighs,
+      few_chars c.args.options.keep_trailing_newline c.args.text.now c.in-Ok.source.text utf8 text,
+    )
+
+pub returns-in-Ok-parse-clause-short : goal.returns-in-Ok-parse-clause-short
+returns-in-Ok-parse-clause-short c =
+    let utf8 : IsUtf8 c.in-Ok.source.text = subst IsUtf8 (ap (λ (s : Held). s.text) c.source.view_is) (IsUtf8-string_bytes c.source.inside.text) in
+    let text = taken c.args.options c.args.text.now c.in-Ok.source (λ long. let no = c.in-Ok.ensures.long long in absurd (cc)) c.in-Ok.ensures.short in
+    omega (
+      arith,
+      c.in-Ok-parse.ensures.short,
+      ap (λ z. bytes_of (cut_of z)) c.as_slice.ensures.value,
+      cut_short c.in-Ok-scan.ensures.cut,
+      few_bytes c.args.options.keep_trailing_newline c.args.text.now c.in-Ok.source.text utf8 text,
+    )
+
+pub returns-in-Ok-parse-clause-spelled : goal.returns-in-Ok-parse-clause-spelled
+returns-in-Ok-parse-clause-spelled c =
+    let short : length c.args.text.now ≤ 1048576 = limited c.args.text.now (λ long. let no = c.in-Ok.ensures.long long in absurd (cc)) in
+    let text : c.in-Ok.source.text ≡ normalized c.args.options.keep_trailing_newline c.args.text.now = taken c.args.options c.args.text.now c.in-Ok.source (λ long. let no = c.in-Ok.ensures.long long in absurd (cc)) c.in-Ok.ensures.short in
+    tree_found c.args.options c.args.text.now c.in-Ok.source (c.in-Ok.ensures.short short) c.in-Ok-scan.segments.items c.in-Ok-parse.template short c.in-Ok-scan.ensures.cut c.in-Ok-scan.ensures.options
+    (subst (λ z. Spelled (body_of c.in-Ok-parse.template) (pieces (reads_of z)) × (body_levels (body_of c.in-Ok-parse.template) ≤ 100)) c.as_slice.ensures.value c.in-Ok-parse.ensures.spelled) c.in-Ok-parse.ensures.known
+
+pub returns-clause-refused : goal.returns-clause-refused
+returns-clause-refused c =
+    let short : length c.args.text.now ≤ 1048576 = limited c.args.text.now (λ long. let no = c.in-Ok.ensures.long long in absurd (cc)) in
+    unspelled c.args.options c.args.text.now c.in-Ok.source (c.in-Ok.ensures.short short) c.in-Ok-scan.segments.items c.args.name.now c.in-Err-parse.refusal c.unparsed.result c.in-Ok-scan.ensures.cut c.in-Ok-scan.ensures.options
+    (subst (λ z. IsRefusal c.in-Err-parse.refusal (pieces (reads_of z))) c.as_slice.ensures.value c.in-Err-parse.ensures.refused) c.unparsed.ensures

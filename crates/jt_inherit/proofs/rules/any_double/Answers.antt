@@ -1,0 +1,29 @@
+use Rattle.std.proofs.Common.{List, length, sym, ap, ◌∙◌, arith}
+use Rattle.jt_parse.specs.Texts.{repeated}
+use Rattle.jt_inherit.specs.Checks.{block_names}
+use Rattle.jt_inherit.specs.Pages.{page_view, pages_view}
+use Rattle.jt_inherit.specs.declared.parts.Block.{Block}
+use Rattle.jt_inherit.proofs.Checked.{double_found, double_none}
+use Rattle.jt_inherit.proofs.Placed.{length-map, place_within}
+use Rattle.jt_inherit.proofs.rules.any_double.Goals as goal
+
+pub blocks_of_page-requires : goal.blocks_of_page-requires
+blocks_of_page-requires c = place_within c.args.pages.now c.args.places.now c.loop-place.place-index c.loop-place-test.true c.requires
+
+pub returns-then-branch : goal.returns-then-branch
+returns-then-branch c =
+    let ps = c.args.pages.now in
+    let is = c.args.places.now in
+    let k = c.loop-place.place-index in
+    sym (c.loop-place.invariant
+    ∙ double_found c.args.escaping (pages_view ps) is k c.loop-place-test.true (omega (arith, length-map page_view ps, place_within ps is k c.loop-place-test.true c.requires)) c.in_ok-blocks.blocks.items c.in_ok-blocks_repeat.field-0 c.in_ok-blocks.ensures
+    (c.in_ok-blocks_repeat.ensures ∙ ap (λ (z : List Block). repeated (block_names z)) c.deref.ensures.value) c.if-branch.true)
+
+pub loop-place-preserved : goal.loop-place-preserved
+loop-place-preserved c =
+    let ps = c.args.pages.now in
+    let is = c.args.places.now in
+    let k = c.loop-place.place-index in
+    c.loop-place.invariant
+    ∙ double_none c.args.escaping (pages_view ps) is k c.loop-place-test.true (omega (arith, length-map page_view ps, place_within ps is k c.loop-place-test.true c.requires)) c.in_ok-blocks.blocks.items c.in_ok-blocks_repeat.field-0 c.in_ok-blocks.ensures
+    (c.in_ok-blocks_repeat.ensures ∙ ap (λ (z : List Block). repeated (block_names z)) c.deref.ensures.value) c.if-branch.false

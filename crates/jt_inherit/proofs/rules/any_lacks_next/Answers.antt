@@ -1,0 +1,46 @@
+use Rattle.std.proofs.Common.{◌≡◌, ◌++◌, ◌∷◌, ◌&&◌, ◌||◌, [], List, not, length, sym, ap, subst, ◌∙◌, arith}
+use Rattle.std.specs.Option.{option_to_list}
+use Rattle.std.specs.Str.{bytes_eq}
+use Rattle.std.proofs.lemmas.List.{append_assoc}
+use Rattle.jt_parse.specs.View.{body_view}
+use Rattle.jt_inherit.specs.Checks.{lacks_next}
+use Rattle.jt_inherit.specs.Parts.{block_view, blocks_view}
+use Rattle.jt_inherit.specs.Supers.{calls_super}
+use Rattle.jt_inherit.specs.declared.parts.Block.{Block}
+use Rattle.jt_inherit.proofs.Checked.{any_text, has_given, HaveNext, next_more, next_lacking, all_next, no_items}
+use Rattle.jt_inherit.proofs.rules.any_lacks_next.Goals as goal
+
+pub returns-then-is_lacking : goal.returns-then-is_lacking
+returns-then-is_lacking c =
+    λ ts.
+    let v = c.loop-block.invariant in
+    let b = c.in-Some.block in
+    let qs = c.pop.new.self.items in
+    let popped = c.pop.ensures.items ∙ ap (λ o. qs ++ option_to_list o) c.in-Some.is in
+    let whole : c.args.bodies.items ≡ qs ++ b ∷ v.0 = v.1 ∙ ap (λ (l : List Block). l ++ v.0) popped ∙ append_assoc qs (b ∷ []) v.0 in
+    let has : c.contains.result ≡ has_given b.name.now (blocks_view ts v.0) = c.contains.ensures ∙ any_text b.name.now c.loop-block.given.keys ∙ v.2 ts b.name.now in
+    let test = ap (λ z. not z && calls_super (body_view b.body.now)) (sym has) ∙ ap (λ z. not c.contains.result && z) (sym c.calls_super.ensures) ∙ sym c.is_lacking.ensures in
+    sym (ap (λ (l : List Block). lacks_next (blocks_view ts l)) whole ∙ next_lacking ts qs b v.0 (test ∙ c.if-is_lacking.true))
+
+pub loop-block-preserved : goal.loop-block-preserved
+loop-block-preserved c =
+    let v = c.loop-block.invariant in
+    let b = c.in-Some.block in
+    let qs = c.pop.new.self.items in
+    let popped = c.pop.ensures.items ∙ ap (λ o. qs ++ option_to_list o) c.in-Some.is in (
+      b ∷ v.0,
+      v.1 ∙ ap (λ (l : List Block). l ++ v.0) popped ∙ append_assoc qs (b ∷ []) v.0,
+      λ ts x. c.in_ok-note_given.ensures x ∙ ap (λ z. (bytes_eq b.name.now x && not b.required) || z) (v.2 ts x),
+      λ ts.
+          let has : c.contains.result ≡ has_given b.name.now (blocks_view ts v.0) = c.contains.ensures ∙ any_text b.name.now c.loop-block.given.keys ∙ v.2 ts b.name.now in
+          let test = ap (λ z. not z && calls_super (body_view b.body.now)) (sym has) ∙ ap (λ z. not c.contains.result && z) (sym c.calls_super.ensures) ∙ sym c.is_lacking.ensures in
+          next_more (block_view ts b) (blocks_view ts v.0) (v.3 ts) (test ∙ c.if-is_lacking.false),
+    )
+
+pub returns : goal.returns
+returns c =
+    λ ts.
+    let v = c.loop-block.invariant in
+    let none = no_items c.loop-block.bodies.items (omega (arith, c.in_default.ensures.cases.0)) in
+    let whole : c.args.bodies.items ≡ v.0 = v.1 ∙ ap (λ (l : List Block). l ++ v.0) none in
+    sym (ap (λ (l : List Block). lacks_next (blocks_view ts l)) whole ∙ all_next (blocks_view ts v.0) (v.3 ts))

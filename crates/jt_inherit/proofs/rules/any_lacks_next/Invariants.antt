@@ -1,0 +1,19 @@
+use Rattle.std.proofs.Common.{◌≡◌, ◌++◌, ℕ, List, length}
+use Rattle.jt_parse.specs.Trees.{Text}
+use Rattle.jt_parse.specs.Texts.{among}
+use Rattle.jt_inherit.specs.Chain.{Template}
+use Rattle.jt_inherit.specs.Parts.{blocks_view}
+use Rattle.jt_inherit.specs.SetView.{texts}
+use Rattle.jt_inherit.specs.declared.parts.Block.{Block}
+use Rattle.jt_inherit.proofs.Checked.{has_given, HaveNext}
+use Rattle.jt_inherit.proofs.rules.any_lacks_next.Given as goal
+
+abbrev pub decreases-loop-block : goal.decreases-loop-block
+decreases-loop-block l = length l.bodies.items
+
+abbrev pub invariant-loop-block : goal.invariant-loop-block
+invariant-loop-block l =
+    (behind : List Block)
+    × (l.initial.bodies.items ≡ l.bodies.items ++ behind)
+    × ((ts : List Template) (x : Text) → among x (texts l.given.keys) ≡ has_given x (blocks_view ts behind))
+    × ((ts : List Template) → HaveNext (blocks_view ts behind))

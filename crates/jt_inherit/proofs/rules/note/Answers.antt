@@ -1,0 +1,8 @@
+use Rattle.std.proofs.Common.{not, ap, ◌∙◌}
+use Rattle.jt_parse.specs.Texts.{among}
+use Rattle.jt_inherit.specs.SetView.{texts}
+use Rattle.jt_inherit.proofs.Checked.{any_text, not_not}
+use Rattle.jt_inherit.proofs.rules.note.Goals as goal
+
+pub returns-clause-known : goal.returns-clause-known
+returns-clause-known c = ap not c.in_ok-added.ensures.added ∙ not_not _ ∙ any_text c.args.name.now c.args.names.now.keys

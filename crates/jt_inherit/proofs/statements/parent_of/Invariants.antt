@@ -1,0 +1,7 @@
+use Rattle.std.proofs.Common.{◌≡◌, drop}
+use Rattle.jt_parse.specs.View.{body_view}
+use Rattle.jt_inherit.specs.Chain.{extends_of}
+use Rattle.jt_inherit.proofs.statements.parent_of.Given as goal
+
+abbrev pub invariant-loop-statement : goal.invariant-loop-statement
+invariant-loop-statement l = extends_of (body_view l.body) ≡ extends_of (body_view (drop l.statement-index l.body))

@@ -1,0 +1,10 @@
+use Rattle.std.proofs.Common.{◌≡◌, drop}
+use Rattle.jt_expr.specs.View.{exprs_view, pairs_view}
+use Rattle.jt_inherit.specs.Supers.{row_super, pairs_super}
+use Rattle.jt_inherit.proofs.supers.+expressions.Given as goal
+
+abbrev pub invariant-any_super-loop-item : goal.invariant-any_super-loop-item
+invariant-any_super-loop-item l = row_super (exprs_view l.item-items) ≡ row_super (exprs_view (drop l.item-index l.item-items))
+
+abbrev pub invariant-any_super_pair-loop-value : goal.invariant-any_super_pair-loop-value
+invariant-any_super_pair-loop-value l = pairs_super (pairs_view l.value-items) ≡ pairs_super (pairs_view (drop l.value-index l.value-items))

@@ -1,0 +1,27 @@
+-- The rules on the bodies of a chain's blocks, each as a test.
+use Rattle.std.specs.Prelude.{Bool, List, map, filter}
+use Rattle.std.specs.List.{list_any}
+use Rattle.std.specs.Str.{bytes_eq}
+use Rattle.jt_parse.specs.Trees.{Text}
+use Rattle.jt_inherit.specs.Chain.{BlockBody}
+use Rattle.jt_inherit.specs.Rules.{is_required, lacks_super}
+use Rattle.jt_inherit.specs.declared.parts.Macro.{Macro}
+use Rattle.jt_inherit.specs.declared.parts.Block.{Block}
+
+-- those of one block
+abbrev pub named : Text → List BlockBody → List BlockBody
+named x bs = filter (λ b. bytes_eq b.name x) bs
+
+-- whether the nearest body of one of them is a required one
+abbrev pub lacks_body : List BlockBody → Bool
+lacks_body bs = list_any (λ b. is_required (named b.name bs)) bs
+
+-- whether one calls `super()` with none behind it to go on with
+abbrev pub lacks_next : List BlockBody → Bool
+lacks_next bs = list_any (λ b. lacks_super (named b.name bs)) bs
+
+abbrev pub block_names : List Block → List Text
+block_names bs = map (λ b. b.name.now) bs
+
+abbrev pub macro_names : List Macro → List Text
+macro_names ms = map (λ m. m.name.now) ms

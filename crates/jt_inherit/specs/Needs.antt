@@ -1,0 +1,41 @@
+-- The includes of a template, in the order of the source.
+use Rattle.std.specs.Prelude.{Bool, not, ◌||◌, if◌then◌else◌, List, [], ◌∷◌, ◌++◌, map}
+use Rattle.jt_parse.specs.Trees.{Text, Stmt, choose, for_each, set_block, with_values, filter_block, autoescape, macro, include, block, Body, end, stmt, Branches, no_branches, branch}
+use Rattle.jt_inherit.specs.declared.statements.Include.{Include}
+
+-- the name of a template, and whether it may be missing
+pub record Need : Type 0 where
+  pub name : Text
+  pub ignoring : Bool
+
+abbrev mutual
+  pub includes_of : Stmt → List Need
+  includes_of (include line n ignore_missing with_context) = record { name = n; ignoring = ignore_missing } ∷ []
+  includes_of (choose bs other) = includes_under bs ++ includes_in other
+  includes_of (for_each line xs e c body other) = includes_in body ++ includes_in other
+  includes_of (set_block line x body) = includes_in body
+  includes_of (with_values line ps body) = includes_in body
+  includes_of (filter_block line fs body) = includes_in body
+  includes_of (autoescape line on body) = includes_in body
+  includes_of (macro line x ps body) = includes_in body
+  includes_of (block line x scoped required body) = includes_in body
+  includes_of s = []
+
+  pub includes_in : Body → List Need
+  includes_in end = []
+  includes_in (stmt s rest) = includes_of s ++ includes_in rest
+
+  pub includes_under : Branches → List Need
+  includes_under no_branches = []
+  includes_under (branch line c body rest) = includes_in body ++ includes_under rest
+
+-- the names, or those alone that may not be missing
+abbrev pub needed : Bool → List Need → List Text
+needed all [] = []
+needed all (n ∷ ns) = (if all || not n.ignoring then n.name ∷ [] else []) ++ needed all ns
+
+abbrev pub need_view : Include → Need
+need_view n = record { name = n.name.now; ignoring = n.ignoring }
+
+abbrev pub needs_view : List Include → List Need
+needs_view = map need_view

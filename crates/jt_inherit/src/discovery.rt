@@ -1,0 +1,103 @@
+//! The chains that an entry reaches, in the order in which they are found.
+
+ghost use Rattle.std.specs.Prelude.{◌≡◌, ◌+◌, ◌<◌, length, OnOk, IfOk, IfErr};
+ghost use Rattle.jt_inherit.specs.Found.{IsFirst, IsFound, found_homes, root_of};
+ghost use Rattle.jt_inherit.specs.Refusals.{Breaks};
+
+use crate::error::ChainError;
+use crate::including::{next_chains, read_includes};
+use crate::library::Library;
+use crate::linked::Page;
+use crate::sets::put;
+use crate::way::read_way;
+use indexmap::IndexSet;
+use jt_scan::Options;
+use std::alloc::{AllocError, Global};
+
+/// What was found so far.
+#[derive(Drop)]
+pub(crate) struct Found {
+    /// The names of the templates that were read.
+    pub(crate) names: IndexSet<String>,
+    /// These templates, each once.
+    pub(crate) pages: Vec<Page>,
+    /// The chains by the names of their entries.
+    pub(crate) homes: IndexSet<String>,
+    /// Of each chain that was followed the places of its templates.
+    pub(crate) ways: Vec<Vec<usize>>,
+    /// Of each chain that was followed the numbers of those that it includes.
+    pub(crate) next: Vec<Vec<usize>>,
+}
+
+/// Nothing but the entry.
+fn begin(alloc: Global, entry: &str) -> Result<Found, AllocError>
+    ensures { IfOk result (λ f. IsFirst entry.now f) }
+{
+    let mut homes = IndexSet::new(alloc);
+    put(alloc, &mut homes, entry)?;
+    Ok(Found {
+        names: IndexSet::new(alloc),
+        pages: Vec::new(alloc),
+        homes,
+        ways: Vec::new(alloc),
+        next: Vec::new(alloc),
+    })
+}
+
+/// Follows the next chain: reads its templates and what they include.
+fn follow<L: Library>(
+    alloc: Global,
+    found: &mut Found,
+    library: &L,
+    options: Options,
+) -> Result<(), ChainError>
+    requires found { IsFound (L.sources library.now) options found.old }
+    requires more { length found.old.ways.items < length (found_homes found.old) }
+    ensures found { OnOk result (IsFound (L.sources library.now) options found.new) }
+    ensures one { OnOk result (length found.new.ways.items ≡ length found.old.ways.items + 1) }
+    ensures root { OnOk result (root_of found.new ≡ root_of found.old) }
+    ensures refused { IfErr result (λ e. Breaks e (L.sources library.now) (root_of found.old) options) }
+{
+    let homes = found.homes.as_slice();
+    let home = &homes[found.ways.len()];
+    let way = read_way(
+        alloc,
+        &mut found.names,
+        &mut found.pages,
+        home,
+        library,
+        options,
+    )?;
+    let mut fresh = read_includes(
+        alloc,
+        &mut found.names,
+        &found.pages,
+        &way,
+        library,
+        options,
+    )?;
+    found.pages.append(&mut fresh)?;
+    let next = next_chains(alloc, &found.names, &mut found.homes, &found.pages, &way)?;
+    found.ways.push(way)?;
+    found.next.push(next)?;
+    Ok(())
+}
+
+/// Finds the chains that an entry reaches.
+pub(crate) fn discover<L: Library>(
+    alloc: Global,
+    entry: &str,
+    library: &L,
+    options: Options,
+) -> Result<Found, ChainError>
+    ensures found { IfOk result (IsFound (L.sources library.now) options) }
+    ensures all { IfOk result (λ f. length f.ways.items ≡ length (found_homes f)) }
+    ensures root { IfOk result (λ f. root_of f ≡ entry.now) }
+    ensures refused { IfErr result (λ e. Breaks e (L.sources library.now) entry.now options) }
+{
+    let mut found = begin(alloc, entry)?;
+    'chains: while found.ways.len() < found.homes.len() {
+        follow(alloc, &mut found, library, options)?;
+    }
+    Ok(found)
+}

@@ -1,0 +1,58 @@
+//! Templates that were read, each once, with their names beside them.
+
+ghost use Rattle.std.specs.Prelude.{◌≡◌, ◌++◌, ◌∷◌, [], false, List, map, slice_get, Some, OnOk, IfOk, IfErr, string_bytes};
+ghost use Rattle.jt_parse.specs.Texts.{among};
+ghost use Rattle.jt_inherit.specs.Chain.{Template};
+ghost use Rattle.jt_inherit.specs.Faults.{IsFaultOf};
+ghost use Rattle.jt_inherit.specs.Pages.{pages_view};
+ghost use Rattle.jt_inherit.specs.SetView.{strings};
+ghost use Rattle.jt_inherit.specs.Ways.{AreKnown};
+
+use crate::error::ChainError;
+use crate::library::Library;
+use crate::linked::Page;
+use crate::reading::read_page;
+use crate::sets::{find, put};
+use indexmap::IndexSet;
+use jt_scan::Options;
+use std::alloc::{AllocError, Global};
+
+/// Puts a template, whose name is new, behind the others.
+pub(crate) fn add_page(
+    alloc: Global,
+    names: &mut IndexSet<String>,
+    pages: &mut Vec<Page>,
+    page: Page,
+) -> Result<(), AllocError>
+    requires { among (string_bytes page.name) (strings names.old.keys) ≡ false }
+    ensures pages { OnOk result (pages.new.items ≡ pages.old.items ++ page ∷ []) }
+    ensures names { OnOk result (strings names.new.keys ≡ strings names.old.keys ++ string_bytes page.name ∷ []) }
+{
+    put(alloc, names, &page.name)?;
+    pages.push(page)?;
+    Ok(())
+}
+
+/// The place of the template of a name, which is read where it wasn't before.
+pub(crate) fn read_place<L: Library>(
+    alloc: Global,
+    names: &mut IndexSet<String>,
+    pages: &mut Vec<Page>,
+    name: &str,
+    library: &L,
+    options: Options,
+) -> Result<usize, ChainError>
+    requires { AreKnown (L.sources library.now) options (pages_view pages.old.items) (strings names.old.keys) }
+    ensures known { OnOk result (AreKnown (L.sources library.now) options (pages_view pages.new.items) (strings names.new.keys)) }
+    ensures grown { OnOk result ((more : List Template) × (pages_view pages.new.items ≡ pages_view pages.old.items ++ more)) }
+    ensures place { IfOk result (λ i. slice_get (map (λ t. t.name) (pages_view pages.new.items)) i ≡ Some name.now) }
+    ensures refused { IfErr result (λ e. IsFaultOf e (L.sources library.now) name.now options) }
+{
+    if let Some(place) = find(names, name) {
+        return Ok(place);
+    }
+    let place = pages.len();
+    let page = read_page(alloc, name, library, options)?;
+    add_page(alloc, names, pages, page)?;
+    Ok(place)
+}

@@ -1,0 +1,78 @@
+//! What the statements of a template name: the template that it extends, and those that it
+//! includes.
+
+ghost use Rattle.std.specs.Prelude.{◌≡◌, ◌++◌, option_map, IfOk};
+ghost use Rattle.jt_parse.specs.View.{stmt_view, body_view};
+ghost use Rattle.jt_inherit.specs.Chain.{extends_of};
+ghost use Rattle.jt_inherit.specs.Needs.{includes_of, includes_in, needs_view};
+
+use jt_parse::Stmt;
+use std::alloc::AllocError;
+
+/// An include: the template's name, and whether it may be missing.
+#[derive(Clone, Copy)]
+pub struct Include<'a> {
+    pub name: &'a str,
+    pub ignoring: bool,
+}
+
+/// The name of the template that statements extend.
+pub(crate) fn parent_of(body: &[Stmt]) -> Option<&str>
+    ensures { option_map (λ s. s.now) result ≡ extends_of (body_view body.now) }
+{
+    for statement in body {
+        if let Stmt::Extends(_, name) = statement {
+            return Some(name.as_str());
+        }
+    }
+    None
+}
+
+/// Adds the includes of statements, in the order of the source.
+#[cycle(includes)]
+pub(crate) fn add_includes<'a>(
+    found: &mut Vec<Include<'a>>,
+    body: &'a [Stmt],
+) -> Result<(), AllocError>
+    ensures { IfOk result (λ _. needs_view found.new.items ≡ needs_view found.old.items ++ includes_in (body_view body.now)) }
+{
+    for statement in body {
+        add_statement(found, statement)?;
+    }
+    Ok(())
+}
+
+/// Adds those of one statement.
+#[cycle(includes)]
+fn add_statement<'a>(found: &mut Vec<Include<'a>>, statement: &'a Stmt) -> Result<(), AllocError>
+    ensures { IfOk result (λ _. needs_view found.new.items ≡ needs_view found.old.items ++ includes_of (stmt_view statement.now)) }
+{
+    match statement {
+        Stmt::Data(_) | Stmt::Print(_, _) | Stmt::Set(_, _, _) | Stmt::Extends(_, _) => Ok(()),
+        Stmt::Include(_, name, ignoring, _) => {
+            found.push(Include {
+                name: name.as_str(),
+                ignoring: *ignoring,
+            })?;
+            Ok(())
+        }
+        Stmt::If(branches, other) => {
+            for (_, _, body) in branches {
+                add_includes(found, body)?;
+            }
+            add_includes(found, other)?;
+            Ok(())
+        }
+        Stmt::For(_, _, _, _, body, other) => {
+            add_includes(found, body)?;
+            add_includes(found, other)?;
+            Ok(())
+        }
+        Stmt::SetBlock(_, _, body)
+        | Stmt::With(_, _, body)
+        | Stmt::FilterBlock(_, _, body)
+        | Stmt::Autoescape(_, _, body)
+        | Stmt::Macro(_, _, _, body)
+        | Stmt::Block(_, _, _, _, body) => add_includes(found, body),
+    }
+}

@@ -1,0 +1,139 @@
+//! Whether a block's body calls `super()`, inner blocks apart.
+
+ghost use Rattle.std.specs.Prelude.{◌≡◌, option_map};
+ghost use Rattle.jt_expr.specs.View.{expr_view, exprs_view, pairs_view};
+ghost use Rattle.jt_inherit.specs.Supers as spec;
+ghost use Rattle.jt_parse.specs.View.{stmt_view, body_view, branches_view, filtering_view, filterings_view};
+
+use jt_parse::{Expr, Filtering, Stmt};
+
+/// Whether an expression is the name `super`.
+fn is_super(expr: &Expr) -> bool
+    ensures { result ≡ spec.is_super (expr_view expr.now) }
+{
+    match expr {
+        Expr::Name(name) => name.as_str() == "super",
+        _ => false,
+    }
+}
+
+/// Whether it is called in an expression.
+#[cycle(expressions)]
+fn has_super(expr: &Expr) -> bool
+    ensures { result ≡ spec.has_super (expr_view expr.now) }
+{
+    match expr {
+        Expr::Constant(_) | Expr::Name(_) => false,
+        Expr::Group(a) => has_super(a),
+        Expr::List(items) => any_super(items),
+        Expr::Map(pairs) => any_super_pair(pairs),
+        Expr::Attribute(a, _) => has_super(a),
+        Expr::Item(a, b) => has_super(a) || has_super(b),
+        Expr::Call(a, items, pairs) => {
+            is_super(a) || has_super(a) || any_super(items) || any_super_pair(pairs)
+        }
+        Expr::Filter(a, _, items, pairs) => {
+            has_super(a) || any_super(items) || any_super_pair(pairs)
+        }
+        Expr::Test(a, _, _, items, pairs) => {
+            has_super(a) || any_super(items) || any_super_pair(pairs)
+        }
+        Expr::Unary(_, a) => has_super(a),
+        Expr::Binary(_, a, b) => has_super(a) || has_super(b),
+        Expr::When(c, a) => has_super(c) || has_super(a),
+        Expr::Choice(c, a, b) => has_super(c) || has_super(a) || has_super(b),
+    }
+}
+
+/// Whether it is called in one of the expressions.
+#[cycle(expressions)]
+fn any_super(items: &Vec<Expr>) -> bool
+    ensures { result ≡ spec.row_super (exprs_view items.now.items) }
+{
+    for item in items {
+        if has_super(item) {
+            return true;
+        }
+    }
+    false
+}
+
+/// Whether it is called in one of the values.
+#[cycle(expressions)]
+fn any_super_pair(pairs: &Vec<(String, Expr)>) -> bool
+    ensures { result ≡ spec.pairs_super (pairs_view pairs.now.items) }
+{
+    for (_, value) in pairs {
+        if has_super(value) {
+            return true;
+        }
+    }
+    false
+}
+
+/// Whether it is called in a condition.
+fn condition_super(condition: &Option<Expr>) -> bool
+    ensures { result ≡ spec.condition_super (option_map expr_view condition.now) }
+{
+    match condition {
+        Some(expr) => has_super(expr),
+        None => false,
+    }
+}
+
+/// Whether it is called in an argument of one of the filters.
+fn filters_super(filters: &Vec<Filtering>) -> bool
+    ensures { result ≡ spec.filtering_super (filterings_view filters.now.items) }
+{
+    for filter in filters {
+        if any_super(&filter.arguments) || any_super_pair(&filter.keywords) {
+            return true;
+        }
+    }
+    false
+}
+
+/// Whether statements call `super()`, inner blocks apart.
+#[cycle(statements)]
+pub(crate) fn calls_super(body: &[Stmt]) -> bool
+    ensures { result ≡ spec.calls_super (body_view body.now) }
+{
+    for statement in body {
+        if statement_super(statement) {
+            return true;
+        }
+    }
+    false
+}
+
+/// Whether one statement does.
+#[cycle(statements)]
+fn statement_super(statement: &Stmt) -> bool
+    ensures { result ≡ spec.stmt_super (stmt_view statement.now) }
+{
+    match statement {
+        Stmt::Data(_)
+        | Stmt::Macro(_, _, _, _)
+        | Stmt::Include(_, _, _, _)
+        | Stmt::Extends(_, _)
+        | Stmt::Block(_, _, _, _, _) => false,
+        Stmt::Print(_, expr) | Stmt::Set(_, _, expr) => has_super(expr),
+        Stmt::If(branches, other) => {
+            for (_, condition, body) in branches {
+                if has_super(condition) {
+                    return true;
+                }
+                if calls_super(body) {
+                    return true;
+                }
+            }
+            calls_super(other)
+        }
+        Stmt::For(_, _, over, condition, body, other) => {
+            has_super(over) || condition_super(condition) || calls_super(body) || calls_super(other)
+        }
+        Stmt::SetBlock(_, _, body) | Stmt::Autoescape(_, _, body) => calls_super(body),
+        Stmt::With(_, values, body) => any_super_pair(values) || calls_super(body),
+        Stmt::FilterBlock(_, filters, body) => calls_super(body) || filters_super(filters),
+    }
+}

@@ -1,0 +1,84 @@
+//! The way from a chain's entry to the root.
+
+ghost use Rattle.std.specs.Prelude.{◌≡◌, ◌++◌, List, map, None, OnOk, IfOk, IfErr, option_map, string_bytes};
+ghost use Rattle.jt_parse.specs.Texts.{among};
+ghost use Rattle.jt_parse.specs.Trees.{Text};
+ghost use Rattle.jt_parse.specs.View.{body_of};
+ghost use Rattle.jt_inherit.specs.Along.{ArePlaces, templates_at};
+ghost use Rattle.jt_inherit.specs.Chain.{Template, extends_of, sources_in};
+ghost use Rattle.jt_inherit.specs.Pages.{pages_view};
+ghost use Rattle.jt_inherit.specs.Refusals.{Breaks};
+ghost use Rattle.jt_inherit.specs.Rules.{Reaches};
+ghost use Rattle.jt_inherit.specs.SetView.{strings};
+ghost use Rattle.jt_inherit.specs.Ways.{AreKnown, IsWay};
+
+use crate::error::ChainError;
+use crate::library::Library;
+use crate::linked::Page;
+use crate::shelf::read_place;
+use crate::statements::parent_of;
+use indexmap::IndexSet;
+use jt_scan::Options;
+use std::alloc::{AllocError, Global};
+
+/// The greatest number of templates in a chain.
+const MAX_TEMPLATES: usize = 16;
+
+/// Whether one of the templates at these places has the name.
+fn is_on_way(pages: &[Page], way: &[usize], name: &str) -> bool
+    requires { ArePlaces (pages_view pages.now) way.now }
+    ensures { result ≡ among name.now (map (λ t. t.name) (templates_at (pages_view pages.now) way.now)) }
+{
+    for place in way {
+        if pages[*place].name.as_str() == name {
+            return true;
+        }
+    }
+    false
+}
+
+/// The name of the template that a template extends.
+fn parent_name(alloc: Global, page: &Page) -> Result<Option<String>, AllocError>
+    ensures { IfOk result (λ o. option_map string_bytes o ≡ extends_of (body_of page.now.template)) }
+{
+    match parent_of(page.template.body()) {
+        Some(name) => Ok(Some(String::from_str(alloc, name)?)),
+        None => Ok(None),
+    }
+}
+
+/// Reads the templates from a chain's entry to the root: their places.
+pub(crate) fn read_way<L: Library>(
+    alloc: Global,
+    names: &mut IndexSet<String>,
+    pages: &mut Vec<Page>,
+    entry: &str,
+    library: &L,
+    options: Options,
+) -> Result<Vec<usize>, ChainError>
+    requires { AreKnown (L.sources library.now) options (pages_view pages.old.items) (strings names.old.keys) }
+    ensures known { OnOk result (AreKnown (L.sources library.now) options (pages_view pages.new.items) (strings names.new.keys)) }
+    ensures grown { OnOk result ((more : List Template) × (pages_view pages.new.items ≡ pages_view pages.old.items ++ more)) }
+    ensures way { IfOk result (λ is. IsWay (pages_view pages.new.items) entry.now is.items None) }
+    // of any chain from which this one is reached
+    ensures refused { IfErr result (λ e. (root : Text) → Reaches (sources_in (pages_view pages.old.items)) options.autoescape root entry.now →
+        Breaks e (L.sources library.now) root options) }
+{
+    let mut way = Vec::new(alloc);
+    let mut name = String::from_str(alloc, entry)?;
+    for _turn in 0..MAX_TEMPLATES {
+        if is_on_way(pages, &way, &name) {
+            return Err(ChainError::ExtendsCycle);
+        }
+        let place = read_place(alloc, names, pages, &name, library, options)?;
+        way.push(place)?;
+        match parent_name(alloc, &pages[place])? {
+            Some(parent) => name = parent,
+            None => return Ok(way),
+        }
+    }
+    if is_on_way(pages, &way, &name) {
+        return Err(ChainError::ExtendsCycle);
+    }
+    Err(ChainError::ChainTooLong)
+}

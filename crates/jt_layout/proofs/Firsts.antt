@@ -1,0 +1,115 @@
+-- Places of the first of some names.
+use Rattle.std.proofs.Common.{◌≡◌, ℕ, zero, suc, ◌+◌, ◌<◌, Bool, true, false, ◌||◌, cond, List, [], ◌∷◌, length, map, drop, get_or, refl, sym, ap, subst, ◌∙◌, Option, Some, None, if◌then◌else◌, add-one, arith}
+use Rattle.std.specs.Prelude.{slice_get, unwrap_or, option_map, filter}
+use Rattle.std.specs.Option.{is_none}
+use Rattle.std.proofs.lemmas.List.{drop_more}
+use Rattle.std.proofs.lemmas.Cmp.{nat_list_eq_equiv}
+use Rattle.std.proofs.lemmas.Slice.Eq.{bytes_eq-Decides}
+use Rattle.std.specs.Str.{bytes_eq}
+use denote.Ref.{Bor}
+use Rattle.jt_parse.specs.Texts.{among}
+use Rattle.jt_parse.specs.Trees.{Text}
+use Rattle.jt_inherit.specs.Chain.{Home, Template, BlockBody, sources_in}
+use Rattle.jt_inherit.specs.Pages.{home_name}
+use Rattle.jt_inherit.specs.Places.{home_at}
+use Rattle.jt_inherit.specs.declared.linked.Home as linked
+use Rattle.jt_slots.specs.Slots.{global}
+use Rattle.jt_meaning.specs.Layout.{slot_in, globals_from, counted_from}
+use Rattle.jt_meaning.specs.Resolve.{first_body}
+use Rattle.jt_uses.specs.Names.{texts}
+use Rattle.jt_layout.specs.Laid.{IsChainAt}
+use Rattle.jt_layout.specs.Places.{first_of}
+
+pub same : (x y : Text) → bytes_eq x y ≡ true → x ≡ y
+same x y = (bytes_eq-Decides x y).0
+
+pub reflexive : (x : Text) → bytes_eq x x ≡ true
+reflexive x = nat_list_eq_equiv.refl x
+
+pub or_right : (a b : Bool) → b ≡ true → (a || b) ≡ true
+or_right true b h = refl
+or_right false b h = h
+
+-- one name more, in front of those that are left
+pub first_turn : (ks : List (Bor Text)) (i : ℕ) (k : Bor Text) (x : Text) (n m : ℕ) → i < length ks → k ≡ get_or ks i k → m ≡ n + 1
+    → (if bytes_eq k.now x then Some n else first_of x m (texts (drop (i + 1) ks))) ≡ first_of x n (texts (drop i ks))
+first_turn ks i k x n m lt is e =
+    ap (λ j. if bytes_eq k.now x then Some n else first_of x j (texts (drop (i + 1) ks))) (e ∙ add-one n)
+    ∙ ap (λ (z : Bor Text). first_of x n (z.now ∷ texts (drop (i + 1) ks))) is
+    ∙ ap (λ (l : List (Bor Text)). first_of x n (texts l)) (sym (drop_more ks i k lt))
+
+-- ---- what the first of a name is
+
+-- names in slots
+pub in_slots : (x : Text) (n : ℕ) (xs : List Text) → option_map global (first_of x n xs) ≡ slot_in x (globals_from n xs)
+in_slots x n [] = refl
+in_slots x n (y ∷ ys) = by (bytes_eq y x) (in_slots x (suc n) ys)
+  where
+    by : (b : Bool) → option_map global (first_of x (suc n) ys) ≡ slot_in x (globals_from (suc n) ys)
+        → option_map global (if b then Some n else first_of x (suc n) ys) ≡ (if b then Some (global n) else slot_in x (globals_from (suc n) ys))
+    by true h = refl
+    by false h = h
+
+-- bodies of a block
+pub first_bodies : (x : Text) (n : ℕ) (bs : List BlockBody) → first_of x n (map (λ b. b.name) bs) ≡ first_body (filter (λ b. bytes_eq b.1.name x) (counted_from n bs))
+first_bodies x n [] = refl
+first_bodies x n (b ∷ bs) = by (bytes_eq b.name x) (first_bodies x (suc n) bs)
+  where
+    by : (c : Bool) → first_of x (suc n) (map (λ (d : BlockBody). d.name) bs) ≡ first_body (filter (λ d. bytes_eq d.1.name x) (counted_from (suc n) bs))
+        → (if c then Some n else first_of x (suc n) (map (λ (d : BlockBody). d.name) bs))
+        ≡ first_body (cond c ((n, b) ∷ filter (λ d. bytes_eq d.1.name x) (counted_from (suc n) bs)) (filter (λ d. bytes_eq d.1.name x) (counted_from (suc n) bs)))
+    by true h = refl
+    by false h = h
+
+-- templates
+pub of_sources : (x : Text) (n : ℕ) (ts : List Template) → is_none (first_of x n (map (λ t. t.name) ts)) ≡ is_none (sources_in ts x)
+of_sources x n [] = refl
+of_sources x n (t ∷ ts) = by (bytes_eq t.name x) (of_sources x (suc n) ts)
+  where
+    by : (b : Bool) → is_none (first_of x (suc n) (map (λ (u : Template). u.name) ts)) ≡ is_none (sources_in ts x)
+        → is_none (if b then Some n else first_of x (suc n) (map (λ (u : Template). u.name) ts)) ≡ is_none (if b then Some t.body else sources_in ts x)
+    by true h = refl
+    by false h = h
+
+-- chains
+abbrev IsFrom : List Home → Text → ℕ → Option ℕ → Type 0
+IsFrom hs x n None = among x hs ≡ false
+IsFrom hs x n (Some i) = (j : ℕ) × (i ≡ n + j) × (j < length hs) × (home_at hs j ≡ x)
+
+from : (x : Text) (n : ℕ) (hs : List Home) → IsFrom hs x n (first_of x n hs)
+from x n [] = refl
+from x n (h ∷ hs) = by (bytes_eq h x) refl (from x (suc n) hs)
+  where
+    later : (o : Option ℕ) → bytes_eq h x ≡ false → IsFrom hs x (suc n) o → IsFrom (h ∷ hs) x n o
+    later None e r = ap (λ b. b || among x hs) e ∙ r
+    later (Some i) e r = (suc r.0, omega (arith, r.1), omega (arith, r.2), r.3)
+
+    by : (b : Bool) → bytes_eq h x ≡ b → IsFrom hs x (suc n) (first_of x (suc n) hs) → IsFrom (h ∷ hs) x n (if b then Some n else first_of x (suc n) hs)
+    by true e r = (0, omega arith, omega arith, same h x e)
+    by false e r = later (first_of x (suc n) hs) e r
+
+pub is_chain : (x : Text) (order : List Home) (o : Option ℕ) → o ≡ first_of x 0 order → IsChainAt order x o
+is_chain x order None e = subst (IsFrom order x 0) (sym e) (from x 0 order)
+is_chain x order (Some i) e =
+    let r : IsFrom order x 0 (Some i) = subst (IsFrom order x 0) (sym e) (from x 0 order) in
+    let is : i ≡ r.0 = omega (arith, r.1) in
+    (omega (arith, r.2), ap (home_at order) is ∙ r.3)
+
+-- ---- chains by their places
+
+map_at : {X Y : Type 0} (f : X → Y) (xs : List X) (i : ℕ) (x : X) → i < length xs → x ≡ get_or xs i x → slice_get (map f xs) i ≡ Some (f x)
+map_at f [] i x lt is = absurd (omega arith)
+map_at f (y ∷ ys) zero x lt is = ap (λ z. Some (f z)) (sym is)
+map_at f (y ∷ ys) (suc i) x lt is = map_at f ys i x (omega arith) is
+
+-- the name of the chain at a place
+pub name_of_home : (hs : List linked.Home) (i : ℕ) (h : linked.Home) → i < length hs → h ≡ get_or hs i h → home_at (map home_name hs) i ≡ home_name h
+name_of_home hs i h lt is = ap (λ o. unwrap_or o []) (map_at home_name hs i h lt is)
+
+pub home_get : (hs : List Home) (i : ℕ) → get_or hs i [] ≡ home_at hs i
+home_get [] i = refl
+home_get (h ∷ hs) zero = refl
+home_get (h ∷ hs) (suc i) = home_get hs i
+
+pub homes_left : (hs : List Home) (i : ℕ) → i < length hs → drop i hs ≡ home_at hs i ∷ drop (i + 1) hs
+homes_left hs i lt = drop_more hs i [] lt ∙ ap (λ h. h ∷ drop (i + 1) hs) (home_get hs i)

@@ -1,0 +1,149 @@
+-- The table of a chain.
+use Rattle.std.proofs.Common.{◌≡◌, ℕ, zero, suc, ◌+◌, ◌<◌, true, false, not, ◌||◌, List, [], ◌∷◌, ◌++◌, length, map, drop, get_or, refl, sym, ap, subst, ◌∙◌, Option, Some, None, if◌then◌else◌, arith, add-one, string_bytes}
+use Rattle.std.specs.Prelude.{slice_get, option_map}
+use Rattle.std.specs.Option.{is_some, is_none}
+use Rattle.std.specs.Str.{bytes_eq}
+use Rattle.jt_parse.specs.Texts.{among}
+use Rattle.jt_parse.specs.Trees.{Text}
+use Rattle.jt_inherit.specs.Chain.{Home, Sources, Template, BlockBody, MacroBody, macros, macro_of, all_bodies, sources_in}
+use Rattle.jt_inherit.specs.Includes.{InOrder}
+use Rattle.jt_inherit.specs.Pages.{home_name, page_view, pages_view}
+use Rattle.jt_inherit.specs.Parts.{macro_view, block_view}
+use Rattle.jt_inherit.specs.Places.{home_at}
+use Rattle.jt_inherit.specs.Uses as uses
+use Rattle.jt_inherit.specs.View.{chain_view, sources_of}
+use Rattle.jt_inherit.specs.declared.linked.Chain.{Chain}
+use Rattle.jt_inherit.specs.declared.linked.Page.{Page}
+use Rattle.jt_inherit.specs.declared.parts.Block.{Block}
+use Rattle.jt_rules.specs.World.{World}
+use Rattle.jt_slots.specs.Slots.{global}
+use Rattle.jt_meaning.specs.Layout.{slot_in, globals_from, counted_from, of_macro, of_body, place_of, first_default, default_place, numbered_of, names, scopes, block_parameters, is_scoped, unit, defaults_of}
+use Rattle.jt_meaning.specs.Resolve.{first_body}
+use Rattle.jt_layout.specs.Front.{Stands, its_world, its_order, its_home}
+use Rattle.jt_layout.specs.Laid.{IsCalled}
+use Rattle.jt_layout.specs.Places.{first_of, defaults_from, nexts}
+use Rattle.jt_layout.specs.declared.front.Front.{Front}
+use Rattle.jt_layout.specs.declared.laid.Laid.{Laid}
+use Rattle.jt_layout.proofs.Bodied.{length-counted, length-nexts}
+use Rattle.jt_layout.proofs.Called.{length-map, first_macro, no_macro}
+use Rattle.jt_layout.proofs.Firsts.{same, reflexive, or_right, in_slots, first_bodies, homes_left, of_sources}
+use Rattle.jt_layout.proofs.Fronts.{apart, macro_unit, body_unit, default_here, front_turn, count_keys}
+
+map_both : {A B C : Type 0} (f : B → C) (g : A → B) (xs : List A) → map (λ x. f (g x)) xs ≡ map f (map g xs)
+map_both f g [] = refl
+map_both f g (x ∷ xs) = ap (λ l. f (g x) ∷ l) (map_both f g xs)
+
+-- a chain is among the chains, and not among those behind it
+among_at : (hs : List Home) (i : ℕ) → i < length hs → among (home_at hs i) hs ≡ true
+among_at [] i lt = absurd (omega arith)
+among_at (h ∷ hs) zero lt = ap (λ b. b || among h hs) (reflexive h)
+among_at (h ∷ hs) (suc i) lt = or_right (bytes_eq h (home_at hs i)) (among (home_at hs i) hs) (among_at hs i (omega arith))
+
+new_at : (s : Sources) (hs : List Home) (i : ℕ) → i < length hs → InOrder s hs → not (among (home_at hs i) (drop (suc i) hs)) ≡ true
+new_at s [] i lt o = absurd (omega arith)
+new_at s (h ∷ hs) zero lt o = o.0
+new_at s (h ∷ hs) (suc i) lt o = new_at s hs i (omega arith) o.1.1
+
+module _ (c : Chain) (i : ℕ) (lt : i < length c.homes.items) (f : Front) where
+  abbrev W : World
+  W = its_world c
+
+  abbrev O : List Home
+  O = its_order c
+
+  abbrev ts : List Template
+  ts = (chain_view c).templates
+
+  abbrev h : Home
+  h = its_home c i
+
+  abbrev pub rest : List Home
+  rest = drop (i + 1) O
+
+  within : i < length O
+  within = omega (arith, lt, length-map home_name c.homes.items)
+
+  abbrev Here : Type 0
+  Here = Stands W O (h ∷ rest) f
+
+  pub here : Stands W O (drop i O) f → Here
+  here = subst (λ hs. Stands W O hs f) (homes_left O i within)
+
+  module _ (s : Here) where
+    pub slots_laid : (ns : List Text) (x : Text) (p : Option ℕ) → ns ≡ names W O h → p ≡ first_of x f.slot ns → option_map global p ≡ slot_in x (globals_from (f.slot) (names W O h))
+    slots_laid ns x p e q = ap (option_map global) q ∙ in_slots x f.slot ns ∙ ap (λ l. slot_in x (globals_from f.slot l)) e
+
+    module _ (l : Laid) (all : map (macro_view ts) l.macros.items ≡ macros W.sources h) (defaults : l.defaults.items ≡ defaults_from f.default (macros W.sources h)) (units : l.macro_unit ≡ f.unit + 1) where
+      pub is_called : (x : Text) (o : Option ℕ) → o ≡ first_of x 0 (map (λ m. m.name.now) l.macros.items) → IsCalled W O ts h l x o
+      is_called x None e = ap (macro_of x) (sym all) ∙ no_macro ts x l.macros.items 0 (sym e)
+      is_called x (Some k) e =
+          let r = first_macro ts x l.macros.items 0 k (sym e) in
+          let a = r.2 in
+          let is : k ≡ r.0 = omega (arith, r.1) in
+          let name : x ≡ a.code.name.now = sym (same a.code.name.now x a.named) in
+          let keyed = macro_unit W O h rest f s x r.0 (λ ks. ap (λ ms. place_of (of_macro h x) (map (λ (m : MacroBody). of_macro h m.name) ms ++ ks)) (sym all) ∙ a.unit h ks) in
+          record {
+            code = a.code;
+            found = ap (slice_get l.macros.items) is ∙ a.found;
+            meant = ap (macro_of x) (sym all) ∙ a.meant;
+            first_default = ap (λ ds. slice_get ds k) defaults ∙ ap (λ ms. slice_get (defaults_from f.default ms) k) (sym all) ∙ ap (slice_get (defaults_from f.default (map (macro_view ts) l.macros.items))) is ∙ a.default f.default
+                ∙ ap (λ ms. Some (f.default + first_default x ms)) all ∙ ap Some (sym (default_here W O h rest f s x)) ∙ ap (λ y. Some (default_place W O h y)) name;
+            macro_unit = (let sum : l.macro_unit + k ≡ f.unit + suc r.0 = omega (arith, units, is) in sum) ∙ sym keyed ∙ ap (λ y. unit W O (of_macro h y)) name;
+          }
+
+    -- the bodies
+    module _ (bs : List Block) (all : map (block_view ts) bs ≡ all_bodies W.sources W.escaping h) where
+      pub count_blocks : length bs ≡ length (all_bodies W.sources W.escaping h)
+      count_blocks = sym (length-map (block_view ts) bs) ∙ ap length all
+
+      pub body_units : (u m k : ℕ) → u ≡ m + length (macros W.sources h) → m ≡ f.unit + 1 → k < length bs → u + k ≡ unit W O (of_body h k)
+      body_units u m k e g lt' =
+          let there : k < length (all_bodies W.sources W.escaping h) = omega (arith, lt', count_blocks) in
+          omega (arith, e, g, body_unit W O h rest f s k there)
+
+      pub firsts_laid : (x : Text) (p : Option ℕ) → p ≡ first_of x 0 (map (λ b. b.name.now) bs) → p ≡ first_body (numbered_of W h x)
+      firsts_laid x p e =
+          e ∙ ap (first_of x 0) (map_both (λ (b : BlockBody). b.name) (block_view ts) bs ∙ ap (map (λ (b : BlockBody). b.name)) all) ∙ first_bodies x 0 (all_bodies W.sources W.escaping h)
+
+      pub count_next : (ns : List (Option ℕ)) → ns ≡ nexts (counted_from 0 (all_bodies W.sources W.escaping h)) → length ns ≡ length bs
+      count_next ns e = ap length e ∙ length-nexts (counted_from 0 (all_bodies W.sources W.escaping h)) ∙ length-counted 0 (all_bodies W.sources W.escaping h) ∙ sym count_blocks
+
+    pub scoped_laid : (x : Text) (p : Option ℕ) (ns : List Text) → is_some p ≡ is_scoped W h x → ns ≡ uses.scope_names W.sources h → block_parameters W O h x ≡ (if is_some p then ns else [])
+    scoped_laid x p ns e g =
+        let bound : scopes W O h ≡ ns = ap (λ b. if b then uses.scope_names W.sources h else []) (among_at O i within) ∙ sym g in
+        ap (λ b. if b then scopes W O h else []) (sym e) ∙ ap (λ l. if is_some p then l else []) bound
+
+    -- what is in front of the next chain
+    pub behind : (g : Front) (n ms bs : ℕ) → g.slot ≡ f.slot + n → n ≡ length (names W O h) → g.unit ≡ (f.unit + 1) + ms + bs → ms ≡ length (macros W.sources h)
+        → bs ≡ length (all_bodies W.sources W.escaping h) → g.default ≡ f.default + length (defaults_of (macros W.sources h)) → Stands W O rest g
+    behind g n ms bs p q u a b d =
+        let new : not (among h rest) ≡ true = ap (λ k. not (among h (drop k O))) (add-one i) ∙ new_at W.sources O i within c.order in
+        front_turn W O h rest f s new g (omega (arith, p, q)) (omega (arith, u, a, b, count_keys W h)) d
+
+-- ---- the chains one by one
+
+-- what holds of each of some tables, with one more behind them
+pub each_more : {A : Type 0} (P : ℕ → A → Type 0) (xs : List A) (y : A) → ((i : ℕ) (t : A) → i < length xs → t ≡ get_or xs i t → P i t) → P (length xs) y
+    → (i : ℕ) (t : A) → i < length (xs ++ y ∷ []) → t ≡ get_or (xs ++ y ∷ []) i t → P i t
+each_more P [] y all last zero t lt is = subst (P 0) (sym is) last
+each_more P [] y all last (suc i) t lt is = absurd (omega arith)
+each_more P (x ∷ xs) y all last zero t lt is = all zero t (omega arith) is
+each_more P (x ∷ xs) y all last (suc i) t lt is = each_more (λ j. P (suc j)) xs y (λ j u l q. all (suc j) u (omega arith) q) last i t (omega arith) is
+
+module _ (c : Chain) (i : ℕ) (lt : i < length c.homes.items) where
+  inside : i < length (its_order c)
+  inside = omega (arith, lt, length-map home_name c.homes.items)
+
+  pub among_left : among (its_home c i) (drop i (its_order c)) ≡ true
+  among_left = ap (among (its_home c i)) (homes_left (its_order c) i inside) ∙ ap (λ b. b || among (its_home c i) (drop (i + 1) (its_order c))) (reflexive (its_home c i))
+
+  -- a chain behind it is another one
+  pub left_turn : (x : Home) → among x (drop (i + 1) (its_order c)) ≡ true → (bytes_eq (its_home c i) x ≡ false) × (among x (drop i (its_order c)) ≡ true)
+  left_turn x a = (
+    apart (its_home c i) (drop (i + 1) (its_order c)) (ap (λ k. not (among (its_home c i) (drop k (its_order c)))) (add-one i) ∙ new_at (sources_of (chain_view c)) (its_order c) i inside c.order) x a,
+    ap (among x) (homes_left (its_order c) i inside) ∙ or_right (bytes_eq (its_home c i) x) (among x (drop (i + 1) (its_order c))) a,
+  )
+
+-- the templates that were read
+pub sources_laid : (ps : List Page) (x : Text) (p : Option ℕ) → p ≡ first_of x 0 (map (λ q. string_bytes q.name) ps) → is_none p ≡ is_none (sources_in (pages_view ps) x)
+sources_laid ps x p e = ap is_none (e ∙ ap (first_of x 0) (map_both (λ (t : Template). t.name) page_view ps)) ∙ of_sources x 0 (pages_view ps)

@@ -1,0 +1,80 @@
+use Rattle.std.proofs.Common.{◌≡◌, ◌+◌, length, sym, ap, ◌∙◌, arith}
+use Rattle.std.specs.Prelude.{slice_get}
+use Rattle.jt_inherit.specs.Chain.{macros}
+use Rattle.jt_inherit.specs.Parts.{macro_view}
+use Rattle.jt_inherit.specs.View.{chain_view}
+use Rattle.jt_meaning.specs.Layout as layout
+use Rattle.jt_uses.specs.Names.{texts}
+use Rattle.jt_layout.specs.Front.{its_world, its_order, its_home}
+use Rattle.jt_layout.specs.declared.laid.Laid.{Laid}
+use Rattle.jt_layout.proofs.Bodied.{next_at}
+use Rattle.jt_layout.proofs.Called.{length-map}
+use Rattle.jt_layout.proofs.Fronts.{slot_here, chain_unit}
+use Rattle.jt_layout.proofs.Tables.{rest, here, slots_laid, is_called, body_units, firsts_laid, count_next, count_blocks, scoped_laid, behind}
+use Rattle.jt_layout.proofs.laying.lay_chain.Goals as goal
+
+pub returns-clause-laid : goal.returns-clause-laid
+returns-clause-laid c =
+    let a = c.args.chain.now in
+    let i = c.args.home in
+    let f = c.args.front in
+    let ms = c.in_ok-macros.macros in
+    let bs = c.in_ok-bodies.bodies in
+    let W = its_world a in
+    let O = its_order a in
+    let h = its_home a i in
+    let lt = c.requires.stands in
+    let s = here a i lt f c.requires.front in
+    let named = ap texts c.deref.ensures.value ∙ c.requires.named in
+    let slot = slot_here W O h (rest a i lt f) f s in
+    let count : length ms.all.items ≡ length (macros W.sources h) = sym (length-map (macro_view (chain_view a).templates) ms.all.items) ∙ ap length c.in_ok-macros.ensures.all in
+    let unit : c.in_ok-body_unit.body_unit ≡ c.in_ok-macro_unit.macro_unit + length (macros W.sources h) = omega (arith, c.in_ok-body_unit.ensures.added, c.len.ensures, ms.all.ok.0, count) in
+    let l : Laid = record {
+      names = c.args.names;
+      slots = c.in_ok-slots.slots;
+      first_slot = f.slot;
+      unit = f.unit;
+      macro_unit = c.in_ok-macro_unit.macro_unit;
+      body_unit = c.in_ok-body_unit.body_unit;
+      macros = ms.all;
+      called = ms.called;
+      defaults = ms.defaults.places;
+      blocks = bs.all;
+      first_bodies = bs.firsts;
+      next_bodies = bs.nexts;
+      scope_names = bs.scope_names;
+      scoped = bs.scoped;
+    } in
+    record {
+      named = c.requires.named;
+      in_slots = λ x. slots_laid a i lt f s (texts c.deref.result.now) x _ named (c.in_ok-slots.ensures.placed x) ∙ ap (λ n. layout.slot_in x (layout.globals_from n (layout.names W O h))) (sym slot);
+      from = sym slot;
+      chain_unit = sym (chain_unit W O h (rest a i lt f) f s);
+      all_macros = c.in_ok-macros.ensures.all;
+      by_names = λ x. is_called a i lt f s l c.in_ok-macros.ensures.all c.in_ok-macros.ensures.defaults c.in_ok-macro_unit.ensures.added x _ (c.in_ok-macros.ensures.called x);
+      all_blocks = c.in_ok-bodies.ensures.all;
+      body_units = λ k under. body_units a i lt f s bs.all.items c.in_ok-bodies.ensures.all _ _ k unit c.in_ok-macro_unit.ensures.added under;
+      firsts = λ x. firsts_laid a i lt f s bs.all.items c.in_ok-bodies.ensures.all x _ (c.in_ok-bodies.ensures.firsts x);
+      nexts = λ k n e b cs d. next_at (layout.numbered_bodies W h) k n (ap (λ ns. slice_get ns k) (sym c.in_ok-bodies.ensures.nexts) ∙ e) (k, b) cs d;
+      all_next = count_next a i lt f s bs.all.items c.in_ok-bodies.ensures.all bs.nexts.items c.in_ok-bodies.ensures.nexts;
+      scoped = λ x. scoped_laid a i lt f s x _ _ (c.in_ok-bodies.ensures.scoped x) c.in_ok-bodies.ensures.names;
+    }
+
+pub returns-clause-behind : goal.returns-clause-behind
+returns-clause-behind c =
+    let a = c.args.chain.now in
+    let i = c.args.home in
+    let f = c.args.front in
+    let ms = c.in_ok-macros.macros in
+    let bs = c.in_ok-bodies.bodies in
+    let W = its_world a in
+    let h = its_home a i in
+    let lt = c.requires.stands in
+    let s = here a i lt f c.requires.front in
+    let count : length ms.all.items ≡ length (macros W.sources h) = sym (length-map (macro_view (chain_view a).templates) ms.all.items) ∙ ap length c.in_ok-macros.ensures.all in
+    let slots : length c.args.names.items ≡ length (layout.names W (its_order a) h) = sym (length-map (λ k. k.now) c.args.names.items) ∙ ap length c.requires.named in
+    let units : c.in_ok-more-2.field-0 ≡ (f.unit + 1) + length ms.all.items + length bs.all.items =
+    omega (arith, c.in_ok-more-2.ensures.added, c.in_ok-body_unit.ensures.added, c.in_ok-macro_unit.ensures.added, c.len.ensures, c.len-3.ensures, ms.all.ok.0, bs.all.ok.0) in
+    let slots_are : c.in_ok-more.field-0 ≡ f.slot + length c.args.names.items = omega (arith, c.in_ok-more.ensures.added, c.len-2.ensures, c.args.names.ok.0) in
+    behind a i lt f s _ (length c.args.names.items) (length ms.all.items) (length bs.all.items) slots_are slots units count
+    (count_blocks a i lt f s bs.all.items c.in_ok-bodies.ensures.all) c.in_ok-macros.ensures.ended

@@ -1,0 +1,33 @@
+use Rattle.std.proofs.Common.{map, sym, ap, ◌∙◌, arith, string_bytes}
+use Rattle.jt_inherit.specs.Pages.{home_name}
+use Rattle.jt_inherit.specs.declared.linked.Page.{Page}
+use Rattle.jt_uses.specs.Names.{texts}
+use Rattle.jt_layout.specs.Front.{its_order}
+use Rattle.jt_layout.specs.Places.{first_of}
+use Rattle.jt_layout.proofs.Called.{length-map}
+use Rattle.jt_layout.proofs.Firsts.{is_chain}
+use Rattle.jt_layout.proofs.Tables.{sources_laid}
+use Rattle.jt_layout.proofs.laying.lay_out.Goals as goal
+
+pub gather-requires : goal.gather-requires
+gather-requires c =
+    let names = ap texts c.deref-2.ensures.value ∙ c.in_ok-template_names.ensures ∙ ap (map (λ (p : Page). string_bytes p.name)) c.deref.ensures.value in
+    λ x. sources_laid c.args.chain.now.templates.items x _ (c.in_ok-sources.ensures.placed x ∙ ap (first_of x 0) names)
+
+pub lay_chains-requires : goal.lay_chains-requires
+lay_chains-requires c = λ x. c.in_ok-gathered.ensures.gathered x
+
+pub returns-clause-laid : goal.returns-clause-laid
+returns-clause-laid c =
+    let a = c.args.chain.now in
+    let count = c.in_ok-tables.ensures.all in
+    let names = ap texts c.deref-2.ensures.value ∙ c.in_ok-template_names.ensures ∙ ap (map (λ (p : Page). string_bytes p.name)) c.deref.ensures.value in
+    let chains = ap texts c.deref-4.ensures.value ∙ c.in_ok-chain_names.ensures ∙ ap (map home_name) c.deref-3.ensures.value in
+    record {
+      inside = omega (arith, count, a.some);
+      all_homes = count ∙ sym (length-map home_name a.homes.items);
+      each = λ i l lt e. c.in_ok-tables.ensures.each i l lt e;
+      all_units = c.in_ok-tables.ensures.units;
+      chains = λ x. is_chain x (its_order a) _ (c.in_ok-places.ensures.placed x ∙ ap (first_of x 0) chains);
+      sources = λ x. sources_laid a.templates.items x _ (c.in_ok-sources.ensures.placed x ∙ ap (first_of x 0) names);
+    }

@@ -1,0 +1,4 @@
+pub mod Front
+pub mod Laid
+pub mod Names
+pub mod Places

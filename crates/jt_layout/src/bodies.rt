@@ -1,0 +1,105 @@
+//! The bodies of the blocks of a chain.
+
+ghost use Rattle.std.specs.Prelude.{◌≡◌, ◌<◌, ◌&&◌, List, length, map, IfOk, IfErr};
+ghost use Rattle.std.specs.List.{list_any};
+ghost use Rattle.std.specs.Option.{is_some};
+ghost use Rattle.std.specs.Str.{bytes_eq};
+ghost use Rattle.jt_parse.specs.Trees.{Text};
+ghost use Rattle.jt_inherit.specs.Chain.{Template, all_bodies};
+ghost use Rattle.jt_inherit.specs.Parts.{block_view};
+ghost use Rattle.jt_inherit.specs.Places.{home_at};
+ghost use Rattle.jt_inherit.specs.Uses as uses;
+ghost use Rattle.jt_inherit.specs.View.{chain_view, sources_of};
+ghost use Rattle.jt_rules.specs.World.{world_of};
+ghost use Rattle.jt_rules.specs.declared.error.ScopeError.TheVariants as error;
+ghost use Rattle.jt_meaning.specs.Layout.{counted_from, numbered_of, is_scoped};
+ghost use Rattle.jt_meaning.specs.Resolve.{first_body};
+ghost use Rattle.jt_uses.specs.Names.{texts};
+ghost use Rattle.jt_layout.specs.Names.{place_in};
+ghost use Rattle.jt_layout.specs.Places.{nexts, first_of};
+
+use crate::index::Index;
+use crate::lists::{block_names, list_of};
+use jt_inherit::{Block, Chain};
+use jt_rules::ScopeError;
+use jt_uses::scope_names;
+use std::alloc::Global;
+
+/// For each body the next one of its block that is not required.
+fn next_bodies(alloc: Global, blocks: &[Block<'_>]) -> Result<Vec<Option<usize>>, ScopeError>
+    ensures next { IfOk result (λ ns. (ts : List Template) → ns.items ≡ nexts (counted_from 0 (map (block_view ts) blocks.now))) }
+    ensures refused { IfErr result (λ e. e ≡ error.NoMemory) }
+{
+    let mut given = Index::new(alloc);
+    let mut next = vec![in alloc; None; blocks.len()]?;
+    let mut left = blocks.len();
+    while left > 0 {
+        left -= 1;
+        let block = &blocks[left];
+        next[left] = given.place(block.name);
+        if block.required {
+            continue;
+        }
+        given.put(block.name, left)?;
+    }
+    Ok(next)
+}
+
+/// The blocks of which a tag says `scoped`.
+fn scoped_blocks<'a>(alloc: Global, blocks: &[Block<'a>]) -> Result<Index<'a>, ScopeError>
+    ensures scoped { IfOk result (λ i. (ts : List Template) (x : Text) → is_some (place_in i.places x) ≡ list_any (λ b. b.scoped && bytes_eq b.name x) (map (block_view ts) blocks.now)) }
+    ensures refused { IfErr result (λ e. e ≡ error.NoMemory) }
+{
+    let mut scoped = Index::new(alloc);
+    for block in blocks {
+        if !block.scoped {
+            continue;
+        }
+        scoped.put(block.name, 0)?;
+    }
+    Ok(scoped)
+}
+
+/// The bodies of the blocks of a chain.
+#[derive(Drop)]
+pub(crate) struct Bodies<'a> {
+    pub(crate) all: Vec<Block<'a>>,
+    /// The first body of each block, and the next one of each that is not required.
+    pub(crate) firsts: Index<'a>,
+    pub(crate) nexts: Vec<Option<usize>>,
+    /// The names that the chain's scopes bind, and the blocks that have them as parameters.
+    pub(crate) scope_names: Vec<&'a str>,
+    pub(crate) scoped: Index<'a>,
+}
+
+/// The bodies of the blocks of a chain.
+pub(crate) fn bodies_of<'a>(
+    alloc: Global,
+    chain: &'a Chain,
+    home: usize,
+) -> Result<Bodies<'a>, ScopeError>
+    requires { home < length chain.now.homes.items }
+    ensures all { IfOk result (λ b. map (block_view (chain_view chain.now).templates) b.all.items ≡
+        all_bodies (sources_of (chain_view chain.now)) chain.now.autoescape (home_at (chain_view chain.now).order home)) }
+    ensures firsts { IfOk result (λ b. (x : Text) → place_in b.firsts.places x ≡ first_of x 0 (map (λ k. k.name.now) b.all.items)) }
+    ensures nexts { IfOk result (λ b. b.nexts.items ≡
+        nexts (counted_from 0 (all_bodies (sources_of (chain_view chain.now)) chain.now.autoescape (home_at (chain_view chain.now).order home)))) }
+    ensures names { IfOk result (λ b. texts b.scope_names.items ≡ uses.scope_names (sources_of (chain_view chain.now)) (home_at (chain_view chain.now).order home)) }
+    ensures scoped { IfOk result (λ b. (x : Text) → is_some (place_in b.scoped.places x) ≡
+        is_scoped (world_of (chain_view chain.now)) (home_at (chain_view chain.now).order home) x) }
+    ensures refused { IfErr result (λ e. e ≡ error.NoMemory) }
+{
+    let all = chain.blocks(alloc, home)?;
+    let names = block_names(alloc, &all)?;
+    let firsts = Index::of(alloc, &names, 0)?;
+    let nexts = next_bodies(alloc, &all)?;
+    let scope_names = list_of(alloc, scope_names(alloc, chain, home)?)?;
+    let scoped = scoped_blocks(alloc, &all)?;
+    Ok(Bodies {
+        all,
+        firsts,
+        nexts,
+        scope_names,
+        scoped,
+    })
+}

@@ -1,0 +1,126 @@
+//! The names of chains, from the last one to the first.
+
+ghost use Rattle.std.specs.Prelude.{◌≡◌, ◌<◌, ◌+◌, false, [], length, drop, IfOk, IfErr, if◌then◌else◌};
+ghost use Rattle.std.specs.Option.{is_none};
+ghost use Rattle.std.specs.Str.{bytes_eq};
+ghost use Rattle.jt_parse.specs.Texts.{all_inserted};
+ghost use Rattle.jt_parse.specs.Trees.{Text};
+ghost use Rattle.jt_inherit.specs.Places.{home_at};
+ghost use Rattle.jt_inherit.specs.View.{chain_view, sources_of};
+ghost use Rattle.jt_rules.specs.World.{world_of};
+ghost use Rattle.jt_rules.specs.declared.error.ScopeError.TheVariants as error;
+ghost use Rattle.jt_meaning.specs.Layout.{names_in};
+ghost use Rattle.jt_uses.specs.Names.{texts};
+ghost use Rattle.jt_layout.specs.Names.{place_in};
+ghost use Rattle.jt_layout.specs.Places.{names_at};
+
+use crate::includes::included_names;
+use crate::index::Index;
+use crate::lists::list_of;
+use jt_inherit::Chain;
+use jt_rules::ScopeError;
+use jt_uses::own_names;
+use std::alloc::{AllocError, Global};
+use std::collections::{BTreeMap, BTreeSet};
+
+/// The names of chains, by the names of the chains.
+#[derive(Drop)]
+pub(crate) struct Gathered<'a> {
+    pub(crate) names: BTreeMap<&'a str, Vec<&'a str>>,
+}
+
+impl<'a> Gathered<'a> {
+    /// No chains.
+    fn new(alloc: Global) -> Self
+        ensures { (x : Text) → names_at result.names x ≡ [] }
+    {
+        Gathered {
+            names: BTreeMap::new(alloc),
+        }
+    }
+
+    /// Gives a chain its names, in the stead of earlier ones.
+    fn put(&mut self, chain: &'a str, names: Vec<&'a str>) -> Result<(), ScopeError>
+        ensures put { IfOk result (λ u. (x : Text) → names_at self.new.names x ≡ (if bytes_eq chain.now x then texts names.entry.items else names_at self.old.names x)) }
+        ensures refused { IfErr result (λ e. e ≡ error.NoMemory) }
+    {
+        self.names.insert(chain, names)?;
+        Ok(())
+    }
+
+    /// Adds the names of a chain to others; none of one that isn't there.
+    fn add_to(&self, names: &mut BTreeSet<&'a str>, chain: &str) -> Result<(), AllocError>
+        ensures { IfOk result (λ u. texts names.new.keys ≡ all_inserted (names_at self.now.names chain.now) (texts names.old.keys)) }
+    {
+        match self.names.get(chain) {
+            Some(others) => add_names(names, others),
+            None => Ok(()),
+        }
+    }
+
+    /// Hands out the names of a chain; none for one that isn't there.
+    pub(crate) fn take(&mut self, alloc: Global, chain: &str) -> Vec<&'a str>
+        ensures taken { texts result.items ≡ names_at self.old.names chain.now }
+        ensures others { (x : Text) → bytes_eq chain.now x ≡ false → names_at self.new.names x ≡ names_at self.old.names x }
+    {
+        match self.names.remove(chain) {
+            Some(names) => names,
+            None => Vec::new(alloc),
+        }
+    }
+}
+
+/// Adds names to others.
+fn add_names<'a>(names: &mut BTreeSet<&'a str>, others: &[&'a str]) -> Result<(), AllocError>
+    ensures { IfOk result (λ u. texts names.new.keys ≡ all_inserted (texts others.now) (texts names.old.keys)) }
+{
+    for name in others {
+        names.insert(*name)?;
+    }
+    Ok(())
+}
+
+/// The names of a chain and of those that it includes, where the names of the chains behind it are there.
+fn names_of_chain<'a>(
+    alloc: Global,
+    chain: &'a Chain,
+    home: usize,
+    sources: &Index<'a>,
+    behind: &Gathered<'a>,
+) -> Result<Vec<&'a str>, AllocError>
+    requires stands { home < length chain.now.homes.items }
+    requires sources { (x : Text) → is_none (place_in sources.now.places x) ≡ is_none (sources_of (chain_view chain.now) x) }
+    requires behind { (x : Text) → names_at behind.now.names x ≡ names_in (world_of (chain_view chain.now)) (drop (home + 1) (chain_view chain.now).order) x }
+    ensures { IfOk result (λ ns. texts ns.items ≡
+        names_in (world_of (chain_view chain.now)) (drop home (chain_view chain.now).order) (home_at (chain_view chain.now).order home)) }
+{
+    let mut names = own_names(alloc, chain, home)?;
+    let included = included_names(alloc, chain, home)?;
+    for name in &included {
+        if sources.place(name).is_none() {
+            continue;
+        }
+        behind.add_to(&mut names, name)?;
+    }
+    list_of(alloc, names)
+}
+
+/// The names of all chains. Each chain stands before those that it includes.
+pub(crate) fn gather<'a>(
+    alloc: Global,
+    chain: &'a Chain,
+    sources: &Index<'a>,
+) -> Result<Gathered<'a>, ScopeError>
+    requires { (x : Text) → is_none (place_in sources.now.places x) ≡ is_none (sources_of (chain_view chain.now) x) }
+    ensures gathered { IfOk result (λ g. (x : Text) → names_at g.names x ≡ names_in (world_of (chain_view chain.now)) (chain_view chain.now).order x) }
+    ensures refused { IfErr result (λ e. e ≡ error.NoMemory) }
+{
+    let mut gathered = Gathered::new(alloc);
+    let mut left = chain.homes.len();
+    while left > 0 {
+        left -= 1;
+        let names = names_of_chain(alloc, chain, left, sources, &gathered)?;
+        gathered.put(chain.homes[left].name.as_str(), names)?;
+    }
+    Ok(gathered)
+}

@@ -1,0 +1,74 @@
+//! The names that templates include.
+
+ghost use Rattle.std.specs.Prelude.{◌≡◌, ◌<◌, ◌++◌, true, length, flat_map, IfOk};
+ghost use Rattle.jt_parse.specs.View.{stmt_view, body_view};
+ghost use Rattle.jt_inherit.specs.Chain.{templates};
+ghost use Rattle.jt_inherit.specs.Includes.{needs_by, needs_in};
+ghost use Rattle.jt_inherit.specs.Places.{home_at};
+ghost use Rattle.jt_inherit.specs.View.{chain_view, sources_of};
+ghost use Rattle.jt_uses.specs.Names.{texts};
+
+use jt_inherit::Chain;
+use jt_parse::Stmt;
+use std::alloc::{AllocError, Global};
+
+/// Adds the names that statements include, as often as they stand there.
+#[cycle(includes)]
+fn add_included<'a>(found: &mut Vec<&'a str>, body: &'a [Stmt]) -> Result<(), AllocError>
+    ensures { IfOk result (λ _. texts found.new.items ≡ texts found.old.items ++ needs_in true (body_view body.now)) }
+{
+    for statement in body {
+        add_statement(found, statement)?;
+    }
+    Ok(())
+}
+
+/// Adds those of one statement.
+#[cycle(includes)]
+fn add_statement<'a>(found: &mut Vec<&'a str>, statement: &'a Stmt) -> Result<(), AllocError>
+    ensures { IfOk result (λ _. texts found.new.items ≡ texts found.old.items ++ needs_by true (stmt_view statement.now)) }
+{
+    match statement {
+        Stmt::Data(_) | Stmt::Print(_, _) | Stmt::Set(_, _, _) | Stmt::Extends(_, _) => Ok(()),
+        Stmt::Include(_, name, _, _) => {
+            found.push(name.as_str())?;
+            Ok(())
+        }
+        Stmt::If(branches, other) => {
+            for (_, _, body) in branches {
+                add_included(found, body)?;
+            }
+            add_included(found, other)?;
+            Ok(())
+        }
+        Stmt::For(_, _, _, _, body, other) => {
+            add_included(found, body)?;
+            add_included(found, other)?;
+            Ok(())
+        }
+        Stmt::SetBlock(_, _, body)
+        | Stmt::With(_, _, body)
+        | Stmt::FilterBlock(_, _, body)
+        | Stmt::Autoescape(_, _, body)
+        | Stmt::Macro(_, _, _, body)
+        | Stmt::Block(_, _, _, _, body) => add_included(found, body),
+    }
+}
+
+/// The names that the templates of a chain include, as often as they stand there.
+pub(crate) fn included_names(
+    alloc: Global,
+    chain: &Chain,
+    home: usize,
+) -> Result<Vec<&str>, AllocError>
+    requires { home < length chain.now.homes.items }
+    ensures { IfOk result (λ ns. texts ns.items ≡
+        flat_map (λ t. needs_in true t.body) (templates (sources_of (chain_view chain.now)) (home_at (chain_view chain.now).order home))) }
+{
+    let layers = chain.layers(alloc, home)?;
+    let mut found = Vec::new(alloc);
+    for layer in &layers {
+        add_included(&mut found, layer.body)?;
+    }
+    Ok(found)
+}

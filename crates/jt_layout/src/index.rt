@@ -1,0 +1,61 @@
+//! Places of names.
+
+ghost use Rattle.std.specs.Prelude.{◌≡◌, IfOk, IfErr, Some, None, if◌then◌else◌};
+ghost use Rattle.jt_uses.specs.Names.{texts};
+ghost use Rattle.std.specs.Str.{bytes_eq};
+ghost use Rattle.jt_parse.specs.Trees.{Text};
+ghost use Rattle.jt_rules.specs.declared.error.ScopeError.TheVariants as error;
+ghost use Rattle.jt_layout.specs.Names.{place_in};
+ghost use Rattle.jt_layout.specs.Places.{first_of};
+
+use crate::count::more;
+use jt_rules::ScopeError;
+use std::alloc::Global;
+use std::collections::BTreeMap;
+
+/// A place for each of some names.
+#[derive(Drop)]
+pub struct Index<'a> {
+    pub places: BTreeMap<&'a str, usize>,
+}
+
+impl<'a> Index<'a> {
+    /// No names.
+    pub fn new(alloc: Global) -> Self
+        ensures { (x : Text) → place_in result.places x ≡ None }
+    {
+        Index {
+            places: BTreeMap::new(alloc),
+        }
+    }
+
+    /// The places of names, from one on; the first of a name counts.
+    pub(crate) fn of(alloc: Global, names: &[&'a str], first: usize) -> Result<Self, ScopeError>
+        ensures placed { IfOk result (λ i. (x : Text) → place_in i.places x ≡ first_of x first (texts names.now)) }
+        ensures refused { IfErr result (λ e. e ≡ error.NoMemory) }
+    {
+        let mut index = Index::new(alloc);
+        let mut left = names.len();
+        while left > 0 {
+            left -= 1;
+            index.put(names[left], more(first, left)?)?;
+        }
+        Ok(index)
+    }
+
+    /// Gives a name its place, in the stead of an earlier one.
+    pub fn put(&mut self, name: &'a str, place: usize) -> Result<(), ScopeError>
+        ensures put { IfOk result (λ u. (x : Text) → place_in self.new.places x ≡ (if bytes_eq name.now x then Some place else place_in self.old.places x)) }
+        ensures refused { IfErr result (λ e. e ≡ error.NoMemory) }
+    {
+        self.places.insert(name, place)?;
+        Ok(())
+    }
+
+    /// The place of a name.
+    pub fn place(&self, name: &str) -> Option<usize>
+        ensures { result ≡ place_in self.now.places name.now }
+    {
+        self.places.get(name).copied()
+    }
+}

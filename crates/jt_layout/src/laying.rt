@@ -1,0 +1,141 @@
+//! Lays out the chains that an entry's includes reach.
+
+ghost use Rattle.std.specs.Prelude.{◌≡◌, ◌<◌, ◌+◌, ℕ, true, false, length, drop, IfOk, IfErr, get_or};
+ghost use Rattle.std.specs.Option.{is_none};
+ghost use Rattle.jt_parse.specs.Trees.{Text};
+ghost use Rattle.jt_inherit.specs.View.{chain_view};
+ghost use Rattle.jt_rules.specs.declared.error.ScopeError.TheVariants as error;
+ghost use Rattle.jt_meaning.specs.Layout as layout;
+ghost use Rattle.jt_uses.specs.Names.{texts};
+ghost use Rattle.jt_layout.specs.Front.{Stands, its_world, its_order, its_home};
+ghost use Rattle.jt_layout.specs.Laid.{IsLaid, IsLaidOut};
+ghost use Rattle.jt_layout.specs.Places.{names_at};
+ghost use Rattle.jt_layout.specs.declared.laid.Laid.{Laid};
+
+use crate::bodies::bodies_of;
+use crate::count::more;
+use crate::front::Front;
+use crate::gathered::{Gathered, gather};
+use crate::index::Index;
+use crate::laid::Laid;
+use crate::lists::{chain_names, template_names};
+use crate::macros::macros_of;
+use crate::scope::Scope;
+use jt_inherit::Chain;
+use jt_rules::ScopeError;
+use std::alloc::Global;
+
+/// The table of a chain, and what is in front of the next one.
+#[derive(Drop)]
+struct Placed<'a> {
+    laid: Laid<'a>,
+    behind: Front,
+}
+
+/// Lays out one chain.
+fn lay_chain<'a>(
+    alloc: Global,
+    chain: &'a Chain,
+    home: usize,
+    names: Vec<&'a str>,
+    front: Front,
+) -> Result<Placed<'a>, ScopeError>
+    requires stands { home < length chain.now.homes.items }
+    requires named { texts names.items ≡ layout.names (its_world chain.now) (its_order chain.now) (its_home chain.now home) }
+    requires front { Stands (its_world chain.now) (its_order chain.now) (drop home (its_order chain.now)) front }
+    ensures laid { IfOk result (λ p. IsLaid (its_world chain.now) (its_order chain.now) (chain_view chain.now).templates (its_home chain.now home) p.laid) }
+    ensures behind { IfOk result (λ p. Stands (its_world chain.now) (its_order chain.now) (drop (home + 1) (its_order chain.now)) p.behind) }
+    ensures refused { IfErr result (λ e. e ≡ error.NoMemory) }
+{
+    let slots = Index::of(alloc, &names, front.slot)?;
+    let macros = macros_of(alloc, chain, home, front.default)?;
+    let bodies = bodies_of(alloc, chain, home)?;
+    let macro_unit = more(front.unit, 1)?;
+    let body_unit = more(macro_unit, macros.all.len())?;
+    let behind = Front {
+        slot: more(front.slot, names.len())?,
+        unit: more(body_unit, bodies.all.len())?,
+        default: macros.defaults.end,
+    };
+    let laid = Laid {
+        names,
+        slots,
+        first_slot: front.slot,
+        unit: front.unit,
+        macro_unit,
+        body_unit,
+        macros: macros.all,
+        called: macros.called,
+        defaults: macros.defaults.places,
+        blocks: bodies.all,
+        first_bodies: bodies.firsts,
+        next_bodies: bodies.nexts,
+        scope_names: bodies.scope_names,
+        scoped: bodies.scoped,
+    };
+    Ok(Placed { laid, behind })
+}
+
+/// The tables of all chains, and how many units they have.
+#[derive(Drop)]
+struct Tables<'a> {
+    homes: Vec<Laid<'a>>,
+    units: usize,
+}
+
+/// Lays out one chain after the other.
+fn lay_chains<'a>(
+    alloc: Global,
+    chain: &'a Chain,
+    mut gathered: Gathered<'a>,
+) -> Result<Tables<'a>, ScopeError>
+    requires { (x : Text) → names_at gathered.names x ≡ layout.names (its_world chain.now) (its_order chain.now) x }
+    ensures each { IfOk result (λ t. (i : ℕ) (l : Laid) → i < length t.homes.items → l ≡ get_or t.homes.items i l
+        → IsLaid (its_world chain.now) (its_order chain.now) (chain_view chain.now).templates (its_home chain.now i) l) }
+    ensures all { IfOk result (λ t. length t.homes.items ≡ length chain.now.homes.items) }
+    ensures units { IfOk result (λ t. t.units ≡ length (layout.keys (its_world chain.now) (its_order chain.now))) }
+    ensures refused { IfErr result (λ e. e ≡ error.NoMemory) }
+{
+    let mut homes = Vec::with_capacity(alloc, chain.homes.len())?;
+    let mut front = Front {
+        slot: 0,
+        unit: 0,
+        default: 1,
+    };
+    for home in 0..chain.homes.len() {
+        let names = gathered.take(alloc, chain.homes[home].name.as_str());
+        let placed = lay_chain(alloc, chain, home, names, front)?;
+        homes.push(placed.laid)?;
+        front = placed.behind;
+    }
+    Ok(Tables {
+        homes,
+        units: front.unit,
+    })
+}
+
+/// Lays out the chains, and begins with the entry's.
+///
+/// # Errors
+///
+/// `NoMemory` where a growth was refused.
+pub fn lay_out(alloc: Global, chain: &Chain) -> Result<Scope<'_>, ScopeError>
+    ensures laid { IfOk result (λ s. IsLaidOut s) }
+    ensures chain { IfOk result (λ s. s.chain.now ≡ chain.now) }
+    ensures first { IfOk result (λ s. s.home ≡ 0) }
+    ensures all { IfOk result (λ s. length s.homes.items ≡ length chain.now.homes.items) }
+    ensures refused { IfErr result (λ e. e ≡ error.NoMemory) }
+{
+    let sources = Index::of(alloc, &template_names(alloc, &chain.templates)?, 0)?;
+    let places = Index::of(alloc, &chain_names(alloc, &chain.homes)?, 0)?;
+    let gathered = gather(alloc, chain, &sources)?;
+    let tables = lay_chains(alloc, chain, gathered)?;
+    Ok(Scope {
+        chain,
+        homes: tables.homes,
+        places,
+        sources,
+        units: tables.units,
+        home: 0,
+    })
+}

@@ -1,0 +1,20 @@
+//! How the names, macros and bodies of chains are laid out: names in slots of globals, macros and bodies as units.
+#![tactic(auto)]
+
+mod bodies;
+mod count;
+mod front;
+mod gathered;
+mod includes;
+mod index;
+mod laid;
+mod laying;
+mod lists;
+mod macros;
+mod scope;
+
+pub use index::Index;
+pub use jt_rules::ScopeError;
+pub use laid::Laid;
+pub use laying::lay_out;
+pub use scope::Scope;

@@ -1,0 +1,78 @@
+//! The macros of a chain by their names, and the places of their defaults.
+
+ghost use Rattle.std.specs.Prelude.{◌≡◌, ◌<◌, ◌+◌, List, length, map, IfOk, IfErr};
+ghost use Rattle.jt_parse.specs.Trees.{Text};
+ghost use Rattle.jt_inherit.specs.Chain.{Template, macros};
+ghost use Rattle.jt_inherit.specs.Parts.{macro_view};
+ghost use Rattle.jt_inherit.specs.Places.{home_at};
+ghost use Rattle.jt_inherit.specs.View.{chain_view, sources_of};
+ghost use Rattle.jt_rules.specs.declared.error.ScopeError.TheVariants as error;
+ghost use Rattle.jt_meaning.specs.Layout.{defaults_of};
+ghost use Rattle.jt_layout.specs.Names.{place_in};
+ghost use Rattle.jt_layout.specs.Places.{first_of, defaults_from};
+
+use crate::count::more;
+use crate::index::Index;
+use crate::lists::macro_names;
+use jt_inherit::{Chain, Macro};
+use jt_rules::ScopeError;
+use std::alloc::Global;
+
+/// The place of the first default of each macro, and the one behind all of them.
+#[derive(Drop)]
+pub(crate) struct Defaults {
+    pub(crate) places: Vec<usize>,
+    pub(crate) end: usize,
+}
+
+/// The places of the defaults of macros, from one on.
+fn default_places(alloc: Global, macros: &[Macro<'_>], first: usize) -> Result<Defaults, ScopeError>
+    ensures placed { IfOk result (λ d. (ts : List Template) → d.places.items ≡ defaults_from first (map (macro_view ts) macros.now)) }
+    ensures ended { IfOk result (λ d. (ts : List Template) → d.end ≡ first + length (defaults_of (map (macro_view ts) macros.now))) }
+    ensures refused { IfErr result (λ e. e ≡ error.NoMemory) }
+{
+    let mut places = Vec::with_capacity(alloc, macros.len())?;
+    let mut end = first;
+    for entry in macros {
+        places.push(end)?;
+        end = more(end, entry.parameters.len())?;
+    }
+    Ok(Defaults { places, end })
+}
+
+/// The macros of a chain.
+#[derive(Drop)]
+pub(crate) struct Macros<'a> {
+    pub(crate) all: Vec<Macro<'a>>,
+    /// The place of the first macro of each name.
+    pub(crate) called: Index<'a>,
+    pub(crate) defaults: Defaults,
+}
+
+/// The macros of a chain, where the places of their defaults begin at one.
+pub(crate) fn macros_of<'a>(
+    alloc: Global,
+    chain: &'a Chain,
+    home: usize,
+    first: usize,
+) -> Result<Macros<'a>, ScopeError>
+    requires { home < length chain.now.homes.items }
+    ensures all { IfOk result (λ m. map (macro_view (chain_view chain.now).templates) m.all.items ≡
+        macros (sources_of (chain_view chain.now)) (home_at (chain_view chain.now).order home)) }
+    ensures called { IfOk result (λ m. (x : Text) → place_in m.called.places x ≡ first_of x 0 (map (λ k. k.name.now) m.all.items)) }
+    ensures defaults { IfOk result (λ m. m.defaults.places.items ≡
+        defaults_from first (macros (sources_of (chain_view chain.now)) (home_at (chain_view chain.now).order home))) }
+    ensures ended { IfOk result (λ m. m.defaults.end ≡
+        first + length (defaults_of (macros (sources_of (chain_view chain.now)) (home_at (chain_view chain.now).order home)))) }
+    ensures refused { IfErr result (λ e. e ≡ error.NoMemory) }
+{
+    let all = chain.macros(alloc, home)?;
+    let names = macro_names(alloc, &all)?;
+    let called = Index::of(alloc, &names, 0)?;
+    let defaults = default_places(alloc, &all, first)?;
+    Ok(Macros {
+        all,
+        called,
+        defaults,
+    })
+}

@@ -1,0 +1,272 @@
+-- Instructions put behind others, and jumps that are written when their target is known.
+use Rattle.std.proofs.Common.{◌≡◌, ℕ, ◌+◌, ◌<◌, ◌≤◌, ◌^◌, List, [], ◌∷◌, ◌++◌, length, map, refl, sym, ap, ◌∙◌, subst, arith, Option, None, append_assoc, append-nil, length-append}
+use Rattle.std.specs.Prelude.{slice_set}
+use Rattle.std.specs.List.{AllByRecursion}
+use Rattle.std.proofs.Math.Seq.{set-append_seam}
+use Rattle.std.proofs.lemmas.List.{map-append, length-map, length-set}
+use Rattle.jt_image.specs.declared.instruction.Instruction.{Instruction}
+use Rattle.jt_image.specs.declared.instruction.Instruction.TheVariants as op
+use Rattle.jt_image.specs.declared.wire.Instr.{Instr}
+use Rattle.jt_image.specs.Spelling.{wire_of}
+use Rattle.jt_image.specs.IsCode.{IsInstruction}
+use Rattle.jt_slots.specs.Got.{Place}
+use Rattle.jt_lower.specs.Asm.{Asm, nil, one, both, choose, when, each, invoke, flat}
+use Rattle.jt_lower.specs.Emission.{Emitted, HasPlace, Puts, Reserves, Patches, Ends, EndsTurns}
+use Rattle.jt_lower.specs.declared.emitter.Emitter.{Emitter}
+
+abbrev W : List Instruction → List Instr
+W is = map wire_of is
+
+-- an instruction alone; its place is no part of the code
+abbrev alone : Instruction → Asm
+alone i = one None i
+
+len_wired : (is : List Instruction) → length (W is) ≡ length is
+len_wired is = length-map is wire_of
+
+-- ---- instructions behind others
+
+pub emitted_nothing : (c : List Instr) → Emitted c nil c
+emitted_nothing c = sym (append-nil c)
+
+pub emitted_len : (c d : List Instr) (a : Asm) → Emitted c a d → length d ≡ length c + length (flat a (length c))
+emitted_len c d a e = omega (arith, ap length e, length-append c (W (flat a (length c))), len_wired (flat a (length c)))
+
+pub emitted_then : (c0 c1 c2 : List Instr) (a b : Asm) → Emitted c0 a c1 → Emitted c1 b c2 → Emitted c0 (both a b) c2
+emitted_then c0 c1 c2 a b e f =
+    let n = length c0 in
+    let fa = flat a n in
+    let fb = flat b (n + length fa) in
+    let at : length c1 ≡ n + length fa = emitted_len c0 c1 a e in
+    f ∙ ap (λ k. c1 ++ W (flat b k)) at ∙ ap (λ l. l ++ W fb) e ∙ append_assoc c0 (W fa) (W fb) ∙ ap (λ l. c0 ++ l) (sym (map-append wire_of fa fb))
+
+-- a choice, the second side of which comes last
+choose_opened : (c1 c2 c3 c4 c5 z : List Instr) (a x : Asm) (n m t : ℕ) → Emitted c1 (alone (op.JumpIfFalse 0)) c2 → Emitted c2 a c3 → Emitted c3 (alone (op.Jump 0)) c4 → n ≡ length c1 → m ≡ length c3 → t ≡ length c4
+    → c5 ≡ slice_set c4 n (wire_of (op.JumpIfFalse t)) → Emitted c5 x z → Emitted c1 (choose a x) (slice_set z m (wire_of (op.Jump (length z))))
+choose_opened c1 c2 c3 c4 c5 z a x n m t e2 e3 e4 en em et e5 e =
+    let p = length c1 in
+    let ca = flat a (p + 1) in
+    let q = p + 1 + length ca + 1 in
+    let cx = flat x q in
+    let x0 : Instr = wire_of (op.JumpIfFalse 0) in
+    let y0 : Instr = wire_of (op.Jump 0) in
+    let j : Instr = wire_of (op.JumpIfFalse q) in
+    let k : Instr = wire_of (op.Jump (q + length cx)) in
+    let l2 : length c2 ≡ p + 1 = emitted_len c1 c2 (alone (op.JumpIfFalse 0)) e2 in
+    let f3 : c3 ≡ c2 ++ W ca = e3 ∙ ap (λ i. c2 ++ W (flat a i)) l2 in
+    let l3 : length c3 ≡ p + 1 + length ca = omega (arith, l2, ap length f3, length-append c2 (W ca), len_wired ca) in
+    let l4 : length c4 ≡ q = omega (arith, l3, emitted_len c3 c4 (alone (op.Jump 0)) e4) in
+    let s4 : c4 ≡ c1 ++ x0 ∷ (W ca ++ y0 ∷ []) =
+    e4 ∙ ap (λ l. l ++ y0 ∷ []) f3 ∙ ap (λ l. (l ++ W ca) ++ y0 ∷ []) e2 ∙ ap (λ l. l ++ y0 ∷ []) (append_assoc c1 (x0 ∷ []) (W ca)) ∙ append_assoc c1 (x0 ∷ W ca) (y0 ∷ []) in
+    let whole = c1 ++ x0 ∷ (W ca ++ y0 ∷ []) in
+    let s5 : c5 ≡ c1 ++ j ∷ (W ca ++ y0 ∷ []) =
+    e5 ∙ ap (λ l. slice_set l n (wire_of (op.JumpIfFalse t))) s4
+    ∙ ap (λ i. slice_set whole i (wire_of (op.JumpIfFalse t))) en
+    ∙ ap (λ v. slice_set whole p (wire_of (op.JumpIfFalse v))) (et ∙ l4)
+    ∙ set-append_seam c1 x0 (W ca ++ y0 ∷ []) j in
+    let l5 : length c5 ≡ q = omega (arith, ap length s5, length-append c1 (j ∷ (W ca ++ y0 ∷ [])), length-append (W ca) (y0 ∷ []), len_wired ca) in
+    let fz : z ≡ c5 ++ W cx = e ∙ ap (λ i. c5 ++ W (flat x i)) l5 in
+    let lz : length z ≡ q + length cx = omega (arith, ap length fz, length-append c5 (W cx), len_wired cx, l5) in
+    let sz : z ≡ (c1 ++ j ∷ W ca) ++ y0 ∷ W cx =
+    fz ∙ ap (λ l. l ++ W cx) s5 ∙ append_assoc c1 (j ∷ (W ca ++ y0 ∷ [])) (W cx) ∙ ap (λ l. c1 ++ j ∷ l) (append_assoc (W ca) (y0 ∷ []) (W cx)) ∙ sym (append_assoc c1 (j ∷ W ca) (y0 ∷ W cx)) in
+    let lm : m ≡ length (c1 ++ j ∷ W ca) = omega (arith, em, l3, length-append c1 (j ∷ W ca), len_wired ca) in
+    ap (λ v. slice_set z m (wire_of (op.Jump v))) lz
+    ∙ ap (λ l. slice_set l m k) sz
+    ∙ ap (λ i. slice_set ((c1 ++ j ∷ W ca) ++ y0 ∷ W cx) i k) lm
+    ∙ set-append_seam (c1 ++ j ∷ W ca) y0 (W cx) k
+    ∙ append_assoc c1 (j ∷ W ca) (k ∷ W cx)
+    ∙ ap (λ l. c1 ++ j ∷ l) (sym (map-append wire_of ca (op.Jump (q + length cx) ∷ cx)))
+
+-- ---- place for instructions
+
+all_front : (is js : List Instruction) → AllByRecursion IsInstruction (is ++ js) → AllByRecursion IsInstruction is
+all_front [] js h = tt
+all_front (i ∷ is) js h = (h.0, all_front is js h.1)
+
+all_back : (is js : List Instruction) → AllByRecursion IsInstruction (is ++ js) → AllByRecursion IsInstruction js
+all_back [] js h = h
+all_back (i ∷ is) js h = all_back is js h.1
+
+pub place_first : (n : ℕ) (a b : Asm) → HasPlace n (both a b) → HasPlace n a
+place_first n a b h =
+    let fa = flat a n in
+    let fb = flat b (n + length fa) in
+    record { len = omega (arith, h.len, length-append fa fb); fields = all_front fa fb h.fields }
+
+pub place_second : (n : ℕ) (a b : Asm) → HasPlace n (both a b) → HasPlace (n + length (flat a n)) b
+place_second n a b h =
+    let fa = flat a n in
+    let fb = flat b (n + length fa) in
+    record { len = omega (arith, h.len, length-append fa fb); fields = all_back fa fb h.fields }
+
+pub place_taken : (n : ℕ) (a b : Asm) → HasPlace n (choose a b) → HasPlace (n + 1) a
+place_taken n a b h =
+    let ca = flat a (n + 1) in
+    let q = n + 1 + length ca + 1 in
+    let cb = flat b q in
+    let last = op.Jump (q + length cb) ∷ cb in
+    record { len = omega (arith, h.len, length-append ca last); fields = all_front ca last h.fields.1 }
+
+pub place_other : (n : ℕ) (a b : Asm) → HasPlace n (choose a b) → HasPlace (n + 1 + length (flat a (n + 1)) + 1) b
+place_other n a b h =
+    let ca = flat a (n + 1) in
+    let q = n + 1 + length ca + 1 in
+    let cb = flat b q in
+    let last = op.Jump (q + length cb) ∷ cb in
+    record { len = omega (arith, h.len, length-append ca last); fields = (all_back ca last h.fields.1).1 }
+
+-- what is done for a true value, the test of which was written last
+when_opened : (c1 c2 c3 new : List Instr) (a : Asm) (choice : ℕ) → choice ≡ length c1 → Emitted c1 (alone (op.JumpIfFalse 0)) c2 → Emitted c2 a c3 → new ≡ slice_set c3 choice (wire_of (op.JumpIfFalse (length c3))) → Emitted c1 (when a) new
+when_opened c1 c2 c3 new a choice at jumps ea ends =
+    let p = length c1 in
+    let ca = flat a (p + 1) in
+    let q = p + 1 + length ca in
+    let x0 : Instr = wire_of (op.JumpIfFalse 0) in
+    let x : Instr = wire_of (op.JumpIfFalse q) in
+    let l2 : length c2 ≡ p + 1 = emitted_len c1 c2 (alone (op.JumpIfFalse 0)) jumps in
+    let f3 : c3 ≡ c2 ++ W ca = ea ∙ ap (λ i. c2 ++ W (flat a i)) l2 in
+    let l3 : length c3 ≡ q = omega (arith, l2, ap length f3, length-append c2 (W ca), len_wired ca) in
+    let s3 : c3 ≡ c1 ++ x0 ∷ W ca = f3 ∙ ap (λ l. l ++ W ca) jumps ∙ append_assoc c1 (x0 ∷ []) (W ca) in
+    ends ∙ ap (λ n. slice_set c3 n (wire_of (op.JumpIfFalse (length c3)))) at ∙ ap (λ n. slice_set c3 p (wire_of (op.JumpIfFalse n))) l3 ∙ ap (λ l. slice_set l p x) s3 ∙ set-append_seam c1 x0 (W ca) x
+
+-- turns, the test of which was written last
+turns_opened : (c1 c2 c3 c4 new : List Instr) (a : Asm) (top : ℕ) → top ≡ length c1 → Emitted c1 (alone (op.LoopNext 0)) c2 → Emitted c2 a c3 → Emitted c3 (alone (op.Jump top)) c4 → new ≡ slice_set c4 top (wire_of (op.LoopNext (length c4))) → Emitted c1 (each a) new
+turns_opened c1 c2 c3 c4 new a top at jumps ea back ends =
+    let p = length c1 in
+    let ca = flat a (p + 1) in
+    let q = p + 1 + length ca + 1 in
+    let x0 : Instr = wire_of (op.LoopNext 0) in
+    let x : Instr = wire_of (op.LoopNext q) in
+    let y : Instr = wire_of (op.Jump p) in
+    let l2 : length c2 ≡ p + 1 = emitted_len c1 c2 (alone (op.LoopNext 0)) jumps in
+    let f3 : c3 ≡ c2 ++ W ca = ea ∙ ap (λ i. c2 ++ W (flat a i)) l2 in
+    let l3 : length c3 + 1 ≡ q = omega (arith, l2, ap length f3, length-append c2 (W ca), len_wired ca) in
+    let l4 : length c4 ≡ q = emitted_len c3 c4 (alone (op.Jump top)) back ∙ l3 in
+    let s4 : c4 ≡ c1 ++ x0 ∷ (W ca ++ y ∷ []) =
+    back ∙ ap (λ n. c3 ++ wire_of (op.Jump n) ∷ []) at ∙ ap (λ l. l ++ y ∷ []) f3 ∙ ap (λ l. (l ++ W ca) ++ y ∷ []) jumps ∙ ap (λ l. l ++ y ∷ []) (append_assoc c1 (x0 ∷ []) (W ca)) ∙ append_assoc c1 (x0 ∷ W ca) (y ∷ []) in
+    ends
+    ∙ ap (λ n. slice_set c4 n (wire_of (op.LoopNext (length c4)))) at
+    ∙ ap (λ n. slice_set c4 p (wire_of (op.LoopNext n))) l4
+    ∙ ap (λ l. slice_set l p x) s4
+    ∙ set-append_seam c1 x0 (W ca ++ y ∷ []) x
+    ∙ ap (λ l. c1 ++ x ∷ l) (sym (map-append wire_of ca (op.Jump p ∷ [])))
+
+-- ---- place for what choices and loops do
+
+place_when : (n : ℕ) (a : Asm) → HasPlace n (when a) → HasPlace (n + 1) a
+place_when n a h = record { len = omega (arith, h.len); fields = h.fields.1 }
+
+place_turn : (n : ℕ) (a : Asm) → HasPlace n (each a) → HasPlace (n + 1) a
+place_turn n a h =
+    let ca = flat a (n + 1) in
+    record { len = omega (arith, h.len, length-append ca (op.Jump n ∷ [])); fields = all_front ca (op.Jump n ∷ []) h.fields.1 }
+
+-- ---- instructions behind others, as far as there is place
+
+pub puts_nothing : (c : Emitter) → Puts c nil c
+puts_nothing c = record { len = omega arith; kept = λ h. h; emitted = λ h. emitted_nothing c.code.items; place = λ h k. k }
+
+pub puts_then : (c0 c1 c2 : Emitter) (a b : Asm) → Puts c0 a c1 → Puts c1 b c2 → Puts c0 (both a b) c2
+puts_then c0 c1 c2 a b p q =
+    let n = length c0.code.items in
+    let fa = flat a n in
+    let fb = flat b (n + length fa) in
+    let behind : length (flat b (length c1.code.items)) ≡ length fb = ap (λ k. length (flat b k)) p.len in
+    record {
+      len = omega (arith, p.len, q.len, behind, length-append fa fb);
+      kept = λ h. p.kept (q.kept h);
+      emitted = λ h. emitted_then c0.code.items c1.code.items c2.code.items a b (p.emitted (q.kept h)) (q.emitted h);
+      place = λ h k. q.place (subst (λ m. HasPlace m b) (sym p.len) (place_second n a b h)) (p.place (place_first n a b h) k);
+    }
+
+-- the same instructions behind another Asm
+pub puts_as : (c d : Emitter) (a b : Asm) → a ≡ b → Puts c b d → Puts c a d
+puts_as c d a b same p = subst (λ x. Puts c x d) (sym same) p
+
+reserved_len : (c d : Emitter) (i : Instruction) (n : ℕ) → Reserves c i n d → length d.code.items ≡ length c.code.items + 1
+reserved_len c d i n r = ap length r.code ∙ length-append c.code.items (wire_of i ∷ [])
+
+pub reserved_within : (c d e : Emitter) (i : Instruction) (n : ℕ) (a : Asm) → Reserves c i n d → Puts d a e → n < length e.code.items
+reserved_within c d e i n a r p = omega (arith, r.at, reserved_len c d i n r, p.len)
+
+ended_len : (c d : Emitter) (choice last : ℕ) → Ends c choice last d → length d.code.items ≡ length c.code.items + 1
+ended_len c d choice last e = e.patches.len ∙ reserved_len c e.jumped (op.Jump 0) last e.reserves
+
+pub ended_within : (c d z : Emitter) (choice last : ℕ) (b : Asm) → Ends c choice last d → Puts d b z → last < length z.code.items
+ended_within c d z choice last b e p = omega (arith, e.reserves.at, ended_len c d choice last e, p.len)
+
+-- both sides of a choice stand behind its test, and its jumps are written
+pub puts_choice : (c1 c2 c3 c5 z new : Emitter) (a b : Asm) (choice last : ℕ) → Reserves c1 (op.JumpIfFalse 0) choice c2 → Puts c2 a c3 → Ends c3 choice last c5 → Puts c5 b z → Patches z last (op.Jump (length z.code.items)) new → Puts c1 (choose a b) new
+puts_choice c1 c2 c3 c5 z new a b choice last tests pa ends pb closes =
+    let p = length c1.code.items in
+    let ca = flat a (p + 1) in
+    let q = p + 1 + length ca + 1 in
+    let cb = flat b q in
+    let l2 : length c2.code.items ≡ p + 1 = reserved_len c1 c2 (op.JumpIfFalse 0) choice tests in
+    let la : length (flat a (length c2.code.items)) ≡ length ca = ap (λ k. length (flat a k)) l2 in
+    let l3 : length c3.code.items + 1 ≡ q = omega (arith, pa.len, l2, la) in
+    let l5 : length c5.code.items ≡ q = ended_len c3 c5 choice last ends ∙ l3 in
+    let lb : length (flat b (length c5.code.items)) ≡ length cb = ap (λ k. length (flat b k)) l5 in
+    let lz : length z.code.items ≡ q + length cb = omega (arith, pb.len, l5, lb) in
+    let l4 : length ends.jumped.code.items ≡ q = reserved_len c3 ends.jumped (op.Jump 0) last ends.reserves ∙ l3 in
+    record {
+      len = omega (arith, closes.len, lz, length-append ca (op.Jump (q + length cb) ∷ cb));
+      kept = λ h. let k3 = (ends.patches.kept (pb.kept (closes.kept h))) in sym tests.same ∙ pa.kept (sym ends.reserves.same ∙ k3);
+      emitted = λ h.
+          let kz = closes.kept h in
+          let k5 = pb.kept kz in
+          let k3 = sym ends.reserves.same ∙ ends.patches.kept k5 in
+          closes.code h ∙ choose_opened c1.code.items c2.code.items c3.code.items ends.jumped.code.items c5.code.items z.code.items a b choice last (length ends.jumped.code.items) tests.code (pa.emitted k3) ends.reserves.code tests.at ends.reserves.at refl (ends.patches.code k5) (pb.emitted kz);
+      place = λ h k.
+          let h1 = subst (λ m. HasPlace m a) (sym l2) (place_taken p a b h) in
+          let h2 = subst (λ m. HasPlace m b) (sym l5) (place_other p a b h) in
+          let k3 = pa.place h1 (tests.same ∙ k) in
+          let k5 = ends.patches.place (subst (λ m. m < 2 ^ 32) (sym l4) h.fields.0) (ends.reserves.same ∙ k3) in
+          closes.place (subst (λ m. m < 2 ^ 32) (sym lz) (all_back ca (op.Jump (q + length cb) ∷ cb) h.fields.1).0) (pb.place h2 k5);
+    }
+
+-- what is done for a true value stands behind its test
+pub puts_when : (c1 c2 c3 new : Emitter) (a : Asm) (choice : ℕ) → Reserves c1 (op.JumpIfFalse 0) choice c2 → Puts c2 a c3 → Patches c3 choice (op.JumpIfFalse (length c3.code.items)) new → Puts c1 (when a) new
+puts_when c1 c2 c3 new a choice tests pa ends =
+    let p = length c1.code.items in
+    let ca = flat a (p + 1) in
+    let q = p + 1 + length ca in
+    let l2 : length c2.code.items ≡ p + 1 = reserved_len c1 c2 (op.JumpIfFalse 0) choice tests in
+    let la : length (flat a (length c2.code.items)) ≡ length ca = ap (λ k. length (flat a k)) l2 in
+    let l3 : length c3.code.items ≡ q = omega (arith, pa.len, l2, la) in
+    record {
+      len = omega (arith, ends.len, l3);
+      kept = λ h. sym tests.same ∙ pa.kept (ends.kept h);
+      emitted = λ h. when_opened c1.code.items c2.code.items c3.code.items new.code.items a choice tests.at tests.code (pa.emitted (ends.kept h)) (ends.code h);
+      place = λ h k.
+          let h1 = subst (λ m. HasPlace m a) (sym l2) (place_when p a h) in
+          ends.place (subst (λ m. m < 2 ^ 32) (sym l3) h.fields.0) (pa.place h1 (tests.same ∙ k));
+    }
+
+-- what is done once for each item stands behind its test, and the jumps of the loop are written
+pub puts_turns : (c1 c2 c3 new : Emitter) (a : Asm) (top : ℕ) → Reserves c1 (op.LoopNext 0) top c2 → Puts c2 a c3 → EndsTurns c3 top new → Puts c1 (each a) new
+puts_turns c1 c2 c3 new a top begins pa ends =
+    let p = length c1.code.items in
+    let ca = flat a (p + 1) in
+    let q = p + 1 + length ca + 1 in
+    let l2 : length c2.code.items ≡ p + 1 = reserved_len c1 c2 (op.LoopNext 0) top begins in
+    let la : length (flat a (length c2.code.items)) ≡ length ca = ap (λ k. length (flat a k)) l2 in
+    let l3 : length c3.code.items + 1 ≡ q = omega (arith, pa.len, l2, la) in
+    let l4 : length ends.back.code.items ≡ q = omega (arith, ends.goes.len, l3) in
+    record {
+      len = omega (arith, ends.patches.len, l4, length-append ca (op.Jump p ∷ []));
+      kept = λ h. sym begins.same ∙ pa.kept (ends.goes.kept (ends.patches.kept h));
+      emitted = λ h.
+          let k4 = ends.patches.kept h in
+          let k3 = ends.goes.kept k4 in
+          turns_opened c1.code.items c2.code.items c3.code.items ends.back.code.items new.code.items a top begins.at begins.code (pa.emitted k3) (ends.goes.emitted k4) (ends.patches.code h);
+      place = λ h k.
+          let h1 = subst (λ m. HasPlace m a) (sym l2) (place_turn p a h) in
+          let back : p < 2 ^ 32 = (all_back ca (op.Jump p ∷ []) h.fields.1).0 in
+          let h3 : HasPlace (length c3.code.items) (alone (op.Jump top)) = record { len = omega (arith, h.len, l3, length-append ca (op.Jump p ∷ [])); fields = (omega (arith, back, begins.at), tt) } in
+          ends.patches.place (subst (λ m. m < 2 ^ 32) (sym l4) h.fields.0) (ends.goes.place h3 (pa.place h1 (begins.same ∙ k)));
+    }
+
+-- a call is its instruction
+pub puts_call : (c d : Emitter) (o : Option Place) (u : ℕ) → Puts c (one o (op.Call u)) d → Puts c (invoke o u) d
+puts_call c d o u p = record { len = p.len; kept = p.kept; emitted = p.emitted; place = λ h k. p.place (record { len = h.len; fields = h.fields }) k }

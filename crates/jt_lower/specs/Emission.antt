@@ -1,0 +1,61 @@
+-- Instructions that are put behind others, and jumps that are written when their target is known.
+use Rattle.std.specs.Prelude.{◌≡◌, ℕ, ◌+◌, ◌<◌, ◌≤◌, ◌^◌, false, List, [], ◌∷◌, ◌++◌, length, map, Option, Some, None, slice_set}
+use Rattle.std.specs.List.{AllByRecursion}
+use Rattle.jt_image.specs.declared.instruction.Instruction.{Instruction}
+use Rattle.jt_image.specs.declared.instruction.Instruction.TheVariants as op
+use Rattle.jt_image.specs.declared.wire.Instr.{Instr}
+use Rattle.jt_image.specs.Spelling.{wire_of}
+use Rattle.jt_image.specs.IsCode.{IsInstruction, max_instructions}
+use Rattle.jt_lower.specs.Asm.{Asm, one, flat}
+use Rattle.jt_lower.specs.declared.emitter.Emitter.{Emitter}
+
+-- this instruction, or none where its fields have no place for what it holds
+abbrev pub Given : Option Instruction → Instruction → Type 0
+Given None i = ¬ (IsInstruction i)
+Given (Some x) i = x ≡ i
+
+-- the code has these instructions put behind it, by their fields
+abbrev pub Emitted : List Instr → Asm → List Instr → Type 0
+Emitted old a new = new ≡ old ++ map wire_of (flat a (length old))
+
+-- behind n instructions there is place for these, and their fields for what they hold
+pub record HasPlace (n : ℕ) (a : Asm) : Type 0 where
+  pub len : n + length (flat a n) ≤ max_instructions
+  pub fields : AllByRecursion IsInstruction (flat a n)
+
+-- As many are put behind the others as stand for these; they are these where nothing overflows, and nothing does where there is place.
+pub record Puts (old : Emitter) (a : Asm) (new : Emitter) : Type 0 where
+  pub len : length new.code.items ≡ length old.code.items + length (flat a (length old.code.items))
+  pub kept : new.overflowed ≡ false → old.overflowed ≡ false
+  pub emitted : new.overflowed ≡ false → Emitted old.code.items a new.code.items
+  pub place : HasPlace (length old.code.items) a → old.overflowed ≡ false → new.overflowed ≡ false
+
+-- a jump behind the others, at this point
+pub record Reserves (old : Emitter) (jump : Instruction) (point : ℕ) (new : Emitter) : Type 0 where
+  pub at : point ≡ length old.code.items
+  pub code : new.code.items ≡ old.code.items ++ wire_of jump ∷ []
+  pub same : new.overflowed ≡ old.overflowed
+
+-- this instruction in place of the one at the point
+pub record Patches (old : Emitter) (point : ℕ) (i : Instruction) (new : Emitter) : Type 0 where
+  pub len : length new.code.items ≡ length old.code.items
+  pub kept : new.overflowed ≡ false → old.overflowed ≡ false
+  pub code : new.overflowed ≡ false → new.code.items ≡ slice_set old.code.items point (wire_of i)
+  pub place : IsInstruction i → old.overflowed ≡ false → new.overflowed ≡ false
+
+-- a jump behind the others, at this point, and the test at the choice goes behind it
+pub record Ends (old : Emitter) (choice last : ℕ) (new : Emitter) : Type 0 where
+  pub jumped : Emitter
+  pub reserves : Reserves old (op.Jump 0) last jumped
+  pub patches : Patches jumped choice (op.JumpIfFalse (length jumped.code.items)) new
+
+-- the way back to the test at the top, and the test goes behind it where no turn is left
+pub record EndsTurns (old : Emitter) (top : ℕ) (new : Emitter) : Type 0 where
+  pub back : Emitter
+  pub goes : Puts old (one None (op.Jump top)) back
+  pub patches : Patches back top (op.LoopNext (length back.code.items)) new
+
+-- a count of entries, as far as fields have place for it
+pub record StandsFor (n h : ℕ) : Type 0 where
+  pub same : n < 2 ^ 32 → n ≡ h
+  pub above : 2 ^ 32 ≤ n → 2 ^ 32 ≤ h

@@ -1,0 +1,112 @@
+-- What a program must keep so that its code does what it means: each number is in its table, each row has as many values as what
+-- takes it, and fields of loops stand in loops.
+use Rattle.std.specs.Prelude.{◌≡◌, ℕ, ◌<◌, ◌≤◌, Bool, true, false, IsTrue, List, [], ◌∷◌, length, Option, Some, None, slice_get}
+use Rattle.jt_value.specs.Tree as tree
+use Rattle.jt_value.specs.Tree.{Tree}
+use Rattle.jt_ops.specs.OpTable.{op_operands}
+use Rattle.jt_ops.specs.TestTable.{test_values}
+use Rattle.jt_filters.specs.FilterIds.{filter_of, accepts}
+use Rattle.jt_image.specs.Typed.{max_entries}
+use Rattle.jt_slots.specs.Takes.{InPairs}
+use Rattle.jt_parse.specs.Trees.{Text}
+use Rattle.jt_slots.specs.Slots as slots
+use Rattle.jt_slots.specs.Slots.{Slot, local, global, Maker, SExpr, SRow, Targets, SStmt, SBody, Routine, Program}
+use Rattle.jt_slots.specs.Size.{row_count, body_height}
+
+-- each takes so many values
+abbrev pub MakerFits : Maker → ℕ → Type 0
+MakerFits (slots.operator o) n = op_operands o ≡ n
+MakerFits (slots.test t) n = test_values t ≡ n
+MakerFits (slots.filter f escaping) n = IsTrue (accepts (filter_of f) n)
+MakerFits slots.a_list n = Unit {0}
+MakerFits slots.a_map n = InPairs n
+
+-- the routine of a call takes so many values
+pub record TakesRow (rs : List (Routine ℕ)) (u : ℕ) (n : ℕ) : Type 0 where
+  pub routine : Routine ℕ
+  pub is : slice_get rs u ≡ Some routine
+  pub parameters : routine.parameters ≡ n
+
+-- constants and variables alone: nothing of the row fails, so that each fault of a statement is met in a tag
+abbrev pub IsBare : {K : Type 0} → SRow K → Type 0
+IsBare slots.none = Unit {0}
+IsBare (slots.item (slots.pooled i) es) = IsBare es
+IsBare (slots.item (slots.variable s) es) = IsBare es
+IsBare (slots.item e es) = ⊥
+IsBare (slots.aside i e es) = ⊥
+
+-- in a program, in a routine of so many locals
+module _ (p : Program) (locals : ℕ) where
+  abbrev pub SlotFits : Slot → Type 0
+  SlotFits (local i) = i < locals
+  SlotFits (global i) = i < p.globals
+
+  -- true inside a loop of the routine
+  abbrev mutual
+    pub ExprFits : Bool → SExpr ℕ → Type 0
+    ExprFits inside (slots.pooled i) = i < length p.pool
+    ExprFits inside (slots.variable s) = SlotFits s
+    ExprFits inside (slots.field f) = inside ≡ true
+    ExprFits inside (slots.made k es) = MakerFits k (row_count es) × RowFits inside es
+    ExprFits inside (slots.conjunction a b) = ExprFits inside a × ExprFits inside b
+    ExprFits inside (slots.disjunction a b) = ExprFits inside a × ExprFits inside b
+    ExprFits inside (slots.choice c a b) = ExprFits inside c × ExprFits inside a × ExprFits inside b
+    ExprFits inside (slots.invoke u escaping es) = TakesRow p.routines u (row_count es) × RowFits inside es
+
+    pub RowFits : Bool → SRow ℕ → Type 0
+    RowFits inside slots.none = Unit {0}
+    RowFits inside (slots.item e es) = ExprFits inside e × RowFits inside es
+    RowFits inside (slots.aside i e es) = (i < locals) × ExprFits inside e × RowFits inside es
+
+  abbrev pub SomeFits : Option Slot → Type 0
+  SomeFits None = Unit {0}
+  SomeFits (Some s) = SlotFits s
+
+  abbrev pub SlotsFit : List (Option Slot) → Type 0
+  SlotsFit [] = Unit {0}
+  SlotsFit (s ∷ ss) = SomeFits s × SlotsFit ss
+
+  abbrev pub TargetsFit : Targets → Type 0
+  TargetsFit (slots.one s) = SlotFits s
+  TargetsFit (slots.several ss) = SlotsFit ss
+
+  -- a condition sees no loop
+  abbrev pub ConditionFits : Option (SExpr ℕ) → Type 0
+  ConditionFits None = Unit {0}
+  ConditionFits (Some c) = ExprFits false c
+
+  -- a plain text of the pool
+  abbrev pub TextFits : ℕ → Type 0
+  TextFits i = (t : Text) × (slice_get p.pool i ≡ Some (tree.text t))
+
+  abbrev mutual
+    pub StmtFits : Bool → SStmt ℕ → Type 0
+    StmtFits inside (slots.put_pooled i) = TextFits i
+    StmtFits inside (slots.print q escaping e) = ExprFits inside e
+    StmtFits inside (slots.assign q xs e) = TargetsFit xs × ExprFits inside e
+    StmtFits inside (slots.if_else q c a b) = ExprFits inside c × BodyFits inside a × BodyFits inside b
+    StmtFits inside (slots.for_each q xs e c body other) = TargetsFit xs × ExprFits inside e × ConditionFits c × BodyFits true body × BodyFits inside other
+    StmtFits inside (slots.capture escaping s body) = SlotFits s × BodyFits inside body
+    StmtFits inside (slots.run u es) = TakesRow p.routines u (row_count es) × RowFits inside es × IsBare es
+
+    pub BodyFits : Bool → SBody ℕ → Type 0
+    BodyFits inside slots.end = Unit {0}
+    BodyFits inside (slots.stmt s rest) = StmtFits inside s × BodyFits inside rest
+
+-- a routine begins outside loops, and needs no more entries than a shape may have
+pub record RoutineFits (p : Program) (r : Routine ℕ) : Type 0 where
+  pub body : BodyFits p r.locals false r.body
+  pub low : body_height r.body ≤ max_entries
+
+-- no list and no map
+abbrev pub IsPooled : Tree → Type 0
+IsPooled (tree.list ts) = ⊥
+IsPooled (tree.map es) = ⊥
+IsPooled t = Unit {0}
+
+pub record ProgramFits (p : Program) : Type 0 where
+  pub routines : (u : ℕ) (r : Routine ℕ) → slice_get p.routines u ≡ Some r → RoutineFits p r
+  pub entry : Routine ℕ
+  pub is_entry : slice_get p.routines 0 ≡ Some entry
+  pub pooled : (i : ℕ) (t : Tree) → slice_get p.pool i ≡ Some t → IsPooled t
+  pub names : length p.names ≤ p.globals

@@ -1,0 +1,144 @@
+-- The code of resolved programs, its jumps still in pairs.
+use Rattle.std.specs.Prelude.{ℕ, zero, suc, Bool, true, false, List, [], ◌∷◌, ◌++◌, length, map, Option, Some, None}
+use Rattle.jt_value.specs.Tree as tree
+use Rattle.jt_value.specs.Tree.{Tree}
+use Rattle.jt_ops.specs.OpTable.{op_id}
+use Rattle.jt_ops.specs.TestTable.{test_id}
+use Rattle.jt_image.specs.declared.instruction.Instruction.{Instruction}
+use Rattle.jt_image.specs.declared.instruction.Instruction.TheVariants as op
+use Rattle.jt_image.specs.declared.loop_field.LoopField.{LoopField}
+use Rattle.jt_image.specs.declared.loop_field.LoopField.TheVariants as of_loop
+use Rattle.jt_image.specs.Loops.{field_id}
+use Rattle.jt_image.specs.Code as code
+use Rattle.jt_image.specs.Code.{Constant, Name, Section, Code}
+use Rattle.jt_slots.specs.Got.{Place}
+use Rattle.jt_parse.specs.Trees.{Text}
+use Rattle.jt_slots.specs.Loops as loops
+use Rattle.jt_slots.specs.Loops.{Field}
+use Rattle.jt_slots.specs.Size.{row_count}
+use Rattle.jt_slots.specs.Slots as slots
+use Rattle.jt_slots.specs.Slots.{Slot, local, global, Maker, SExpr, SRow, Targets, SStmt, SBody, Routine, Program}
+use Rattle.jt_lower.specs.Asm.{Asm, nil, one, both, choose, when, each, invoke, flat}
+
+-- keys and values in turn are half as many entries
+abbrev pub half : ℕ → ℕ
+half zero = zero
+half (suc zero) = zero
+half (suc (suc n)) = suc (half n)
+
+-- escaped or not, markup or plain
+abbrev pub flag : Bool → ℕ
+flag true = 1
+flag false = 0
+
+-- what makes one value of that many
+abbrev pub maker : Maker → ℕ → Instruction
+maker (slots.operator o) n = op.Op (op_id o)
+maker (slots.test t) n = op.Test (test_id t) n
+maker (slots.filter f escaping) n = op.Filter f n (flag escaping)
+maker slots.a_list n = op.MakeList n
+maker slots.a_map n = op.MakeMap (half n)
+
+-- the field as images tell it
+abbrev pub told_as : Field → LoopField
+told_as loops.index = of_loop.Index
+told_as loops.index0 = of_loop.Index0
+told_as loops.revindex = of_loop.RevIndex
+told_as loops.revindex0 = of_loop.RevIndex0
+told_as loops.first = of_loop.First
+told_as loops.last = of_loop.Last
+told_as loops.total = of_loop.Length
+told_as loops.previtem = of_loop.Previous
+told_as loops.nextitem = of_loop.Next
+
+abbrev pub load_of : Slot → Instruction
+load_of (local i) = op.Load i
+load_of (global i) = op.GLoad i
+
+abbrev pub store_of : Slot → Instruction
+store_of (local i) = op.Store i
+store_of (global i) = op.GStore i
+
+-- Each has the place of its tag, which a fault of it gets, and the entries above the innermost loop of its routine.
+abbrev mutual
+  pub expr_asm : Option Place → SExpr ℕ → ℕ → Asm
+  expr_asm o (slots.pooled i) h = one o (op.Const i)
+  expr_asm o (slots.variable s) h = one o (load_of s)
+  expr_asm o (slots.field f) h = one o (op.LoopGet (field_id (told_as f)) h)
+  expr_asm o (slots.made k es) h = both (row_asm o es h) (one o (maker k (row_count es)))
+  -- the right operand in place of the left one
+  expr_asm o (slots.conjunction a b) h = both (expr_asm o a h) (both (one o op.Dup) (choose (both (one o op.Drop) (expr_asm o b h)) nil))
+  expr_asm o (slots.disjunction a b) h = both (expr_asm o a h) (both (one o op.Dup) (choose nil (both (one o op.Drop) (expr_asm o b h))))
+  expr_asm o (slots.choice c a b) h = both (expr_asm o c h) (choose (expr_asm o a h) (expr_asm o b h))
+  expr_asm o (slots.invoke u escaping es) h = both (one o op.CaptureBegin) (both (row_asm o es (suc h)) (both (invoke o u) (one o (op.CaptureEnd (flag escaping)))))
+
+  pub row_asm : Option Place → SRow ℕ → ℕ → Asm
+  row_asm o slots.none h = nil
+  row_asm o (slots.item e es) h = both (expr_asm o e h) (row_asm o es (suc h))
+  row_asm o (slots.aside i e es) h = both (expr_asm o e h) (both (one o (op.Store i)) (row_asm o es h))
+
+-- a value into a slot, or into none
+abbrev pub store_if_of : Option Slot → Instruction
+store_if_of None = op.Drop
+store_if_of (Some s) = store_of s
+
+-- values into slots, the last one first
+abbrev pub stores_asm : Option Place → List (Option Slot) → Asm
+stores_asm o [] = nil
+stores_asm o (s ∷ ss) = both (stores_asm o ss) (one o (store_if_of s))
+
+abbrev pub take_asm : Option Place → Targets → Asm
+take_asm o (slots.one s) = one o (store_of s)
+take_asm o (slots.several ss) = both (one o (op.Unpack (length ss))) (stores_asm o ss)
+
+-- the item of a turn is taken, and then this is done
+abbrev pub turn_asm : Option Place → Targets → Asm → Asm
+turn_asm o xs body = both (both (one o (op.LoopGet 0 0)) (take_asm o xs)) body
+
+-- the turns of the loop at the top, and the other part where there was none
+abbrev pub over_asm : Option Place → Targets → Asm → Asm → Asm
+over_asm o xs body other = both (each (turn_asm o xs body)) (both (one o op.LoopEnd) (when other))
+
+-- the items for which the condition holds, in place of all
+abbrev pub kept_asm : Option Place → Targets → Option (SExpr ℕ) → Asm
+kept_asm o xs None = nil
+kept_asm o xs (Some c) = both (each (turn_asm o xs (both (expr_asm o c 0) (one o (op.LoopKeep 0))))) (one o op.LoopRewind)
+
+abbrev mutual
+  pub stmt_asm : SStmt ℕ → ℕ → Asm
+  stmt_asm (slots.put_pooled i) h = one None (op.Data i)
+  stmt_asm (slots.print p escaping e) h = both (expr_asm (Some p) e h) (one (Some p) (op.Emit (flag escaping)))
+  stmt_asm (slots.assign p xs e) h = both (expr_asm (Some p) e h) (take_asm (Some p) xs)
+  stmt_asm (slots.if_else p c a b) h = both (expr_asm (Some p) c h) (choose (body_asm a h) (body_asm b h))
+  stmt_asm (slots.for_each p xs e c body other) h =
+      both (both (expr_asm (Some p) e h) (both (one (Some p) op.LoopStart) (kept_asm (Some p) xs c))) (over_asm (Some p) xs (body_asm body 0) (body_asm other h))
+  stmt_asm (slots.capture escaping s body) h = both (one None op.CaptureBegin) (both (body_asm body (suc h)) (both (one None (op.CaptureEnd (flag escaping))) (one None (store_of s))))
+  stmt_asm (slots.run u es) h = both (row_asm None es h) (invoke None u)
+
+  pub body_asm : SBody ℕ → ℕ → Asm
+  body_asm slots.end h = nil
+  body_asm (slots.stmt s rest) h = both (stmt_asm s h) (body_asm rest h)
+
+-- a routine's unit: its body, and Return
+abbrev pub unit_of : Routine ℕ → Section
+unit_of r = record { parameters = r.parameters; kind = 0; locals = r.locals; code = flat (body_asm r.body 0) 0 ++ op.Return ∷ [] }
+
+-- the values of a pool are constants; it has no lists and maps
+abbrev pub constant_of : Tree → Constant
+constant_of tree.undefined = code.undefined
+constant_of tree.nothing = code.nothing
+constant_of (tree.truth_value b) = code.truth_value b
+constant_of (tree.number z) = code.number z
+constant_of (tree.text s) = code.text s
+constant_of (tree.markup s) = code.markup s
+constant_of (tree.list ts) = code.undefined
+constant_of (tree.map es) = code.undefined
+
+-- each name with its slot
+abbrev pub numbered : ℕ → List Text → List Name
+numbered n [] = []
+numbered n (x ∷ xs) = record { slot = n; text = x } ∷ numbered (suc n) xs
+
+-- the code of a program
+abbrev pub compiled : Program → Code
+compiled p = record { globals = p.globals; names = numbered 0 p.names; constants = map constant_of p.pool; units = map unit_of p.routines }

@@ -1,0 +1,111 @@
+//! The code of resolved expressions.
+
+ghost use Rattle.std.specs.Prelude.{◌≡◌, ℕ, Option, OnOk};
+ghost use Rattle.jt_slots.specs.Size.{row_count};
+ghost use Rattle.jt_slots.specs.Got.{Place};
+ghost use Rattle.jt_slots.specs.Slots.{none};
+ghost use Rattle.jt_slots.specs.View.{expr_view, row_view};
+ghost use Rattle.jt_lower.specs.Lower.{expr_asm, row_asm};
+ghost use Rattle.jt_lower.specs.Emission.{StandsFor, Puts};
+
+use crate::emitter::Emitter;
+use crate::instructions::{call_of, constant_of, flag, load_of, made_of, store_of, told_of};
+use jt_image::Instruction;
+use jt_slots::{SExpr, Slot};
+use std::alloc::AllocError;
+
+/// Puts the code of an expression behind the others, with so many entries above the innermost loop.
+#[cycle(expressions)]
+pub fn emit_expression(code: &mut Emitter, expr: &SExpr, above: usize) -> Result<(), AllocError>
+    ensures { OnOk result ((o : Option Place) (h : ℕ) → StandsFor above h → Puts code.old (expr_asm o (expr_view expr.now) h) code.new) }
+{
+    match expr {
+        SExpr::Pooled(place) => {
+            code.put(constant_of(*place))?;
+            Ok(())
+        }
+        SExpr::Variable(slot) => {
+            code.put(load_of(*slot))?;
+            Ok(())
+        }
+        SExpr::Field(told) => {
+            code.put(told_of(*told, above))?;
+            Ok(())
+        }
+        SExpr::Made(made, row) => {
+            emit_row(code, row, above)?;
+            code.put(made_of(*made, count_values(row)))?;
+            Ok(())
+        }
+        SExpr::Conjunction(left, right) => {
+            emit_expression(code, left, above)?;
+            code.put(Some(Instruction::Dup))?;
+            let choice = code.begin_choice()?;
+            code.put(Some(Instruction::Drop))?;
+            emit_expression(code, right, above)?;
+            let last = code.end_branch(choice)?;
+            code.close(last);
+            Ok(())
+        }
+        SExpr::Disjunction(left, right) => {
+            emit_expression(code, left, above)?;
+            code.put(Some(Instruction::Dup))?;
+            let choice = code.begin_choice()?;
+            let last = code.end_branch(choice)?;
+            code.put(Some(Instruction::Drop))?;
+            emit_expression(code, right, above)?;
+            code.close(last);
+            Ok(())
+        }
+        SExpr::Choice(condition, taken, other) => {
+            emit_expression(code, condition, above)?;
+            let choice = code.begin_choice()?;
+            emit_expression(code, taken, above)?;
+            let last = code.end_branch(choice)?;
+            emit_expression(code, other, above)?;
+            code.close(last);
+            Ok(())
+        }
+        SExpr::Invoke(routine, escaping, row) => {
+            let printed = flag(*escaping);
+            code.put(Some(Instruction::CaptureBegin))?;
+            emit_row(code, row, above.saturating_add(1))?;
+            code.put(call_of(*routine))?;
+            code.put(Some(Instruction::CaptureEnd { flag: printed }))?;
+            Ok(())
+        }
+    }
+}
+
+/// How many values a row has: what is kept aside is none of them.
+fn count_values(row: &[(Option<usize>, SExpr)]) -> usize
+    ensures { result ≡ row_count (row_view row.now none) }
+{
+    let mut count = 0;
+    for (kept, _) in row {
+        if kept.is_none() {
+            count += 1;
+        }
+    }
+    count
+}
+
+/// Puts the code of a row of expressions behind the others, from left to right.
+#[cycle(expressions)]
+pub fn emit_row(
+    code: &mut Emitter,
+    row: &[(Option<usize>, SExpr)],
+    above: usize,
+) -> Result<(), AllocError>
+    ensures { OnOk result ((o : Option Place) (h : ℕ) → StandsFor above h → Puts code.old (row_asm o (row_view row.now none) h) code.new) }
+{
+    let mut top = above;
+    for (kept, expr) in row {
+        emit_expression(code, expr, top)?;
+        match kept {
+            Some(local) => code.put(store_of(Slot::Local(*local)))?,
+            None => top = top.saturating_add(1),
+        }
+    }
+    Ok(())
+}

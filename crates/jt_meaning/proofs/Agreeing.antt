@@ -1,0 +1,257 @@
+-- When an environment and a memory agree, and what keeps that.
+use Rattle.std.proofs.Common.{◌≡◌, ℕ, suc, ◌+◌, ◌<◌, ◌≤◌, Bool, true, false, if◌then◌else◌, List, [], ◌∷◌, length, map, Some, None, refl, sym, ap, ◌∙◌, subst, arith, inl, inr}
+use Rattle.std.specs.Str.{bytes_eq}
+use Rattle.jt_value.specs.Tree.{Tree}
+use Rattle.jt_value.specs.Pairs.{Pairs}
+use Rattle.jt_parse.specs.Trees.{Text}
+use Rattle.jt_meaning.specs.Env.{Env, read, bound, all_bound}
+use Rattle.jt_slots.specs.Values.{value_in}
+use Rattle.jt_inherit.specs.Chain.{Home}
+use Rattle.jt_slots.specs.Loops.{tree_at}
+use Rattle.jt_rules.specs.World.{World}
+use Rattle.jt_slots.specs.Slots.{Slot, local, global, Memory, load, put_at, store}
+use Rattle.jt_meaning.specs.Layout.{Table, slot_in, globals_from, names, first_slot, globals}
+use Rattle.jt_meaning.specs.Resolve.{bound_table}
+use Rattle.jt_meaning.proofs.Reading.{same_text, is_same, no_both, read_bound, IsInner, inner_bound, inner_globals, held, put_elsewhere}
+use Rattle.jt_meaning.specs.Layout.{scopes}
+use Rattle.jt_meaning.proofs.Among.{Among, AllAmong}
+
+-- ---- what stays: the first locals, and the first globals
+
+pub record Kept (b g : ℕ) (m n : Memory) : Type 0 where
+  pub locals : (i : ℕ) → i < b → tree_at n.locals i ≡ tree_at m.locals i
+  pub globals : (i : ℕ) → i < g → tree_at n.globals i ≡ tree_at m.globals i
+
+pub kept_same : (b g : ℕ) (m : Memory) → Kept b g m m
+kept_same b g m = record { locals = λ i l. refl; globals = λ i l. refl }
+
+pub kept_then : {b g : ℕ} {m n o : Memory} → Kept b g m n → Kept b g n o → Kept b g m o
+kept_then u v = record { locals = λ i l. v.locals i l ∙ u.locals i l; globals = λ i l. v.globals i l ∙ u.globals i l }
+
+pub kept_less : {b g c d : ℕ} {m n : Memory} → c ≤ b → d ≤ g → Kept b g m n → Kept c d m n
+kept_less {b = b} {g = g} {c = c} {d = d} p q u = record {
+  locals = λ i l. u.locals i (let e : i < b = omega (arith, p, l) in e);
+  globals = λ i l. u.globals i (let e : i < g = omega (arith, q, l) in e);
+}
+
+-- the output does not count
+pub kept_out : {b g : ℕ} {m n : Memory} (o : Memory) → o.locals ≡ n.locals → o.globals ≡ n.globals → Kept b g m n → Kept b g m o
+kept_out o e f u = record { locals = λ i l. ap (λ ts. tree_at ts i) e ∙ u.locals i l; globals = λ i l. ap (λ ts. tree_at ts i) f ∙ u.globals i l }
+
+apart_less : (i b j : ℕ) → b ≤ i → j < b → i ≡ j → ⊥
+apart_less i b j p l e = omega (arith, p, l, e)
+
+-- a local behind them is stored
+pub kept_store : (b g i : ℕ) (v : Tree) (m : Memory) → b ≤ i → Kept b g m (store (local i) v m)
+kept_store b g i v m p = record { locals = λ j l. put_elsewhere i j v m.locals (apart_less i b j p l); globals = λ j l. refl }
+
+pub kept_global : (b g i : ℕ) (v : Tree) (m : Memory) → g ≤ i → Kept b g m (store (global i) v m)
+kept_global b g i v m p = record { locals = λ j l. refl; globals = λ j l. put_elsewhere i j v m.globals (apart_less i g j p l) }
+
+-- ---- values in a row of locals
+
+abbrev pub Held : List Tree → ℕ → List Tree → Type 0
+Held ts k [] = Unit {0}
+Held ts k (v ∷ vs) = (tree_at ts k ≡ v) × Held ts (suc k) vs
+
+pub held_put : (ts : List Tree) (k j : ℕ) (v : Tree) (vs : List Tree) → k < j → Held ts j vs → Held (put_at k v ts) j vs
+held_put ts k j v [] l h = tt
+held_put ts k j v (w ∷ ws) l h = (put_elsewhere k j v ts (λ e. omega (arith, l, e)) ∙ h.0, held_put ts k (suc j) v ws (let e : k < suc j = omega (arith, l) in e) h.1)
+
+pub held_kept : {b g : ℕ} {m n : Memory} (k : ℕ) (vs : List Tree) → k + length vs ≤ b → Kept b g m n → Held m.locals k vs → Held n.locals k vs
+held_kept k [] p u h = tt
+held_kept {b = b} k (v ∷ vs) p u h = (u.locals k (let e : k < b = omega (arith, p) in e) ∙ h.0, held_kept (suc k) vs (let e : suc k + length vs ≤ b = omega (arith, p) in e) u h.1)
+
+-- ---- slots of globals
+
+-- a name's global is one of the range
+pub global_slot : (n : ℕ) (ns : List Text) (x : Text) (i : ℕ) → slot_in x (globals_from n ns) ≡ Some (global i) → (n ≤ i) × (i < n + length ns)
+global_slot n [] x i e = absurd (nothing e)
+  where
+    nothing : {A : Type 0} {y : A} → None ≡ Some y → ⊥
+    nothing q = cc
+global_slot n (y ∷ ys) x i e = through (bytes_eq y x) e (λ e'. global_slot (suc n) ys x i e')
+  where
+    here : Some (global n) ≡ Some (global i) → n ≡ i
+    here q = cc
+
+    through : (b : Bool) → (if b then Some (global n) else slot_in x (globals_from (suc n) ys)) ≡ Some (global i)
+        → (slot_in x (globals_from (suc n) ys) ≡ Some (global i) → (suc n ≤ i) × (i < suc n + length ys)) → (n ≤ i) × (i < n + length (y ∷ ys))
+    through true q f = let e : n ≡ i = here q in (omega (arith, e), omega (arith, e))
+    through false q f = let r = f q in let p = r.0 in let l = r.1 in (omega (arith, p), omega (arith, l))
+
+-- each name of the range has one
+pub global_given : (n : ℕ) (ns : List Text) (x : Text) → Among x ns → (i : ℕ) × (slot_in x (globals_from n ns) ≡ Some (global i))
+global_given n [] x h = absurd h
+global_given n (y ∷ ys) x h = through (bytes_eq y x) refl h (λ h'. global_given (suc n) ys x h')
+  where
+    through : (b : Bool) → bytes_eq y x ≡ b → Among x (y ∷ ys) → (Among x ys → (i : ℕ) × (slot_in x (globals_from (suc n) ys) ≡ Some (global i)))
+        → (i : ℕ) × ((if b then Some (global n) else slot_in x (globals_from (suc n) ys)) ≡ Some (global i))
+    through true e k f = (n, refl)
+    through false e (inl s) f = absurd (no_both (is_same y x s) e)
+    through false e (inr k) f = f k
+
+-- different names have different ones
+pub globals_apart : (n : ℕ) (ns : List Text) (x y : Text) (s : Slot) → slot_in x (globals_from n ns) ≡ Some s → slot_in y (globals_from n ns) ≡ Some s → x ≡ y
+globals_apart n [] x y s e f = absurd (nothing e)
+  where
+    nothing : {A : Type 0} {z : A} → None ≡ Some z → ⊥
+    nothing q = cc
+globals_apart n (z ∷ zs) x y s e f = through (bytes_eq z x) (bytes_eq z y) refl refl e f (λ e' f'. globals_apart (suc n) zs x y s e' f')
+  where
+    first : Some (global n) ≡ Some s → s ≡ global n
+    first q = cc
+
+    clash : (w : Text) → s ≡ global n → slot_in w (globals_from (suc n) zs) ≡ Some s → ⊥
+    clash w q r = let g = global_slot (suc n) zs w n (subst (λ t. slot_in w (globals_from (suc n) zs) ≡ Some t) q r) in let p = g.0 in omega (arith, p)
+
+    through : (b c : Bool) → bytes_eq z x ≡ b → bytes_eq z y ≡ c → (if b then Some (global n) else slot_in x (globals_from (suc n) zs)) ≡ Some s
+        → (if c then Some (global n) else slot_in y (globals_from (suc n) zs)) ≡ Some s
+        → (slot_in x (globals_from (suc n) zs) ≡ Some s → slot_in y (globals_from (suc n) zs) ≡ Some s → x ≡ y) → x ≡ y
+    through true true p q e f r = sym (same_text z x p) ∙ same_text z y q
+    through true false p q e f r = absurd (clash y (first e) f)
+    through false true p q e f r = absurd (clash x (first f) e)
+    through false false p q e f r = r e f
+
+-- ---- agreement
+
+module _ (world : World) (order : List Home) where
+  -- the first slot behind a chain's globals
+  abbrev pub limit : Home → ℕ
+  limit h = first_slot world order h + length (names world order h)
+
+  abbrev pub Below : ℕ → ℕ → Slot → Type 0
+  Below k g (local i) = i < k
+  Below k g (global i) = i < g
+
+  -- each name of the chain has a slot of its own in the table,
+  -- below the first free local or among the chain's globals; one that no scope binds has its global
+  pub record Fits (h : Home) (table : Table) (k : ℕ) : Type 0 where
+    pub slotted : (x : Text) → Among x (names world order h) → (s : Slot) × (slot_in x table ≡ Some s) × Below k (limit h) s
+    pub apart : (x y : Text) (s : Slot) → Among x (names world order h) → Among y (names world order h) → slot_in x table ≡ Some s → slot_in y table ≡ Some s → x ≡ y
+    pub outer : (x : Text) → (Among x (scopes world order h) → ⊥) → slot_in x table ≡ slot_in x (globals world order h)
+    pub few : AllAmong (scopes world order h) (names world order h)
+
+  -- the globals of a chain
+  abbrev pub GlobalsAgree : Home → Pairs → List Tree → Type 0
+  GlobalsAgree h gs ts = (x : Text) → Among x (names world order h) → (i : ℕ) → slot_in x (globals world order h) ≡ Some (global i) → value_in gs x ≡ tree_at ts i
+
+  -- each name reads what its slot holds, and so do the globals
+  pub record Agrees (h : Home) (table : Table) (env : Env) (m : Memory) : Type 0 where
+    pub names : (x : Text) → Among x (names world order h) → read env x ≡ held (slot_in x table) m
+    pub globals : GlobalsAgree h env.globals m.globals
+
+  load_kept : (k g : ℕ) (m n : Memory) (s : Slot) → Below k g s → Kept k g m n → load s n ≡ load s m
+  load_kept k g m n (local i) l u = u.locals i l
+  load_kept k g m n (global i) l u = u.globals i l
+
+  pub agrees_kept : {h : Home} {table : Table} {k : ℕ} {env : Env} {m n : Memory} → Fits h table k → Agrees h table env m → Kept k (limit h) m n → Agrees h table env n
+  agrees_kept {h = h} {table = table} {k = k} {env = env} {m = m} {n = n} fits a u = record {
+    names = λ x i. let s = fits.slotted x i in a.names x i ∙ ap (λ o. held o m) s.1 ∙ sym (load_kept k (limit h) m n s.0 s.2 u) ∙ sym (ap (λ o. held o n) s.1);
+    globals = λ x i j e. a.globals x i j e ∙ sym (u.globals j (global_slot (first_slot world order h) (names world order h) x j e).1);
+  }
+
+  -- a local of its own for one name more
+  pub fits_one : {h : Home} {table : Table} {k : ℕ} (x : Text) → Among x (scopes world order h) → Fits h table k → Fits h ((x, local k) ∷ table) (suc k)
+  fits_one {h = h} {table = table} {k = k} x bound_in fits = record {
+    slotted = λ y i. in_it y (bytes_eq x y) (fits.slotted y i);
+    apart = λ y z s i j e f. part y z s (bytes_eq x y) (bytes_eq x z) refl refl i j e f;
+    outer = λ y n. around y (bytes_eq x y) refl n (fits.outer y n);
+    few = fits.few;
+  }
+    where
+      more : (s : Slot) → Below k (limit h) s → Below (suc k) (limit h) s
+      more (local i) l = omega (arith, l)
+      more (global i) l = l
+
+      in_it : (y : Text) (b : Bool) → (s : Slot) × (slot_in y table ≡ Some s) × Below k (limit h) s → (s : Slot) × ((if b then Some (local k) else slot_in y table) ≡ Some s) × Below (suc k) (limit h) s
+      in_it y true t = (local k, refl, omega arith)
+      in_it y false t = (t.0, t.1, more t.0 t.2)
+
+      first : {s : Slot} → Some (local k) ≡ Some s → s ≡ local k
+      first q = cc
+
+      inside_some : {s t : Slot} → Some s ≡ Some t → s ≡ t
+      inside_some q = cc
+
+      clash : (y : Text) (s : Slot) → Among y (names world order h) → s ≡ local k → slot_in y table ≡ Some s → ⊥
+      clash y s i q r = let t = fits.slotted y i in let e : t.0 ≡ local k = inside_some (sym t.1 ∙ r) ∙ q in let l : k < k = subst (λ u. Below k (limit h) u) e t.2 in omega (arith, l)
+
+      part : (y z : Text) (s : Slot) (b c : Bool) → bytes_eq x y ≡ b → bytes_eq x z ≡ c → Among y (names world order h) → Among z (names world order h)
+          → (if b then Some (local k) else slot_in y table) ≡ Some s → (if c then Some (local k) else slot_in z table) ≡ Some s → y ≡ z
+      part y z s true true p q i j e f = sym (same_text x y p) ∙ same_text x z q
+      part y z s true false p q i j e f = absurd (clash z s j (first e) f)
+      part y z s false true p q i j e f = absurd (clash y s i (first f) e)
+      part y z s false false p q i j e f = fits.apart y z s i j e f
+
+      around : (y : Text) (b : Bool) → bytes_eq x y ≡ b → (Among y (scopes world order h) → ⊥) → slot_in y table ≡ slot_in y (globals world order h) → (if b then Some (local k) else slot_in y table) ≡ slot_in y (globals world order h)
+      around y true p n e = absurd (n (subst (λ z. Among z (scopes world order h)) (same_text x y p) bound_in))
+      around y false p n e = e
+
+  -- a local free for nothing in particular
+  pub fits_more : {h : Home} {table : Table} {k : ℕ} → Fits h table k → Fits h table (suc k)
+  fits_more {h = h} {table = table} {k = k} fits = record { slotted = λ y i. let s = fits.slotted y i in (s.0, s.1, more s.0 s.2); apart = fits.apart; outer = fits.outer; few = fits.few }
+    where
+      more : (s : Slot) → Below k (limit h) s → Below (suc k) (limit h) s
+      more (local i) l = omega (arith, l)
+      more (global i) l = l
+
+  -- a name that is bound in the innermost scope, where its local holds the value
+  pub bind_held : {h : Home} {table : Table} {env : Env} {n : Memory} (x : Text) (v : Tree) (k : ℕ) → IsInner env → tree_at n.locals k ≡ v → Agrees h table env n → Agrees h ((x, local k) ∷ table) (bound env x v) n
+  bind_held {h = h} {table = table} {env = env} {n = n} x v k inner e a = record {
+    names = λ y i. read_bound env x y v ∙ through y (bytes_eq x y) (a.names y i);
+    globals = λ y i j f. ap (λ g. value_in g y) (inner_globals env x v inner) ∙ a.globals y i j f;
+  }
+    where
+      through : (y : Text) (b : Bool) → read env y ≡ held (slot_in y table) n → (if b then v else read env y) ≡ held (if b then Some (local k) else slot_in y table) n
+      through y true r = sym e
+      through y false r = r
+
+  -- a name that gets a local with what it reads anyway
+  pub copy_held : {h : Home} {table : Table} {env : Env} {n : Memory} (x : Text) (k : ℕ) → tree_at n.locals k ≡ read env x → Agrees h table env n → Agrees h ((x, local k) ∷ table) env n
+  copy_held {h = h} {table = table} {env = env} {n = n} x k e a = record { names = λ y i. through y (bytes_eq x y) refl (a.names y i); globals = a.globals }
+    where
+      through : (y : Text) (b : Bool) → bytes_eq x y ≡ b → read env y ≡ held (slot_in y table) n → read env y ≡ held (if b then Some (local k) else slot_in y table) n
+      through y true q r = ap (λ z. read env z) (sym (same_text x y q)) ∙ sym e
+      through y false q r = r
+
+  -- names that are bound one after the other, where a row of locals holds their values
+  pub pairs_held : {h : Home} {env : Env} {n : Memory} (table : Table) (k : ℕ) (bs : Pairs) → IsInner env → Held n.locals k (map (λ b. b.1) bs) → Agrees h table env n → Agrees h (bound_table (map (λ b. b.0) bs) k table) (all_bound env bs) n
+  pairs_held table k [] inner held a = a
+  pairs_held {h = h} {env = env} {n = n} table k (b ∷ bs) inner held a =
+      pairs_held {env = bound env b.0 b.1} ((b.0, local k) ∷ table) (suc k) bs (inner_bound env b.0 b.1 inner) held.1 (bind_held b.0 b.1 k inner held.0 a)
+
+  -- names that get locals with what they read anyway
+  pub copies_held : {h : Home} {env : Env} {n : Memory} (table : Table) (k : ℕ) (xs : List Text) → Held n.locals k (map (read env) xs) → Agrees h table env n → Agrees h (bound_table xs k table) env n
+  copies_held table k [] held a = a
+  copies_held table k (x ∷ xs) held a = copies_held ((x, local k) ∷ table) (suc k) xs held.1 (copy_held x k held.0 a)
+
+  pub fits_all : {h : Home} (xs : List Text) (k : ℕ) (table : Table) → AllAmong xs (scopes world order h) → Fits h table k → Fits h (bound_table xs k table) (k + length xs)
+  fits_all {h = h} [] k table a f = subst (λ n. Fits h table n) (let e : k ≡ k + 0 = omega arith in e) f
+  fits_all {h = h} (x ∷ xs) k table a f =
+      subst (λ n. Fits h (bound_table xs (suc k) ((x, local k) ∷ table)) n) (let e : suc k + length xs ≡ k + length (x ∷ xs) = omega arith in e) (fits_all xs (suc k) ((x, local k) ∷ table) a.1 (fits_one x a.0 f))
+
+-- names in locals from a base on
+abbrev pub InLocals : ℕ → Table → List Text → Type 0
+InLocals b table xs = (x : Text) → Among x xs → (i : ℕ) × (slot_in x table ≡ Some (local i)) × (b ≤ i)
+
+-- a name that has a local from the base on keeps having one
+later_local : (b k : ℕ) (table : Table) (x y : Text) → b ≤ k → (i : ℕ) × (slot_in x table ≡ Some (local i)) × (b ≤ i) → (i : ℕ) × (slot_in x ((y, local k) ∷ table) ≡ Some (local i)) × (b ≤ i)
+later_local b k table x y l s = through (bytes_eq y x)
+  where
+    through : (c : Bool) → (i : ℕ) × ((if c then Some (local k) else slot_in x table) ≡ Some (local i)) × (b ≤ i)
+    through true = (k, refl, l)
+    through false = s
+
+still_local : (b k : ℕ) (table : Table) (x : Text) (ys : List Text) → b ≤ k → (i : ℕ) × (slot_in x table ≡ Some (local i)) × (b ≤ i) → (i : ℕ) × (slot_in x (bound_table ys k table) ≡ Some (local i)) × (b ≤ i)
+still_local b k table x [] l s = s
+still_local b k table x (y ∷ ys) l s = still_local b (suc k) ((y, local k) ∷ table) x ys (let e : b ≤ suc k = omega (arith, l) in e) (later_local b k table x y l s)
+
+pub in_locals : (b k : ℕ) (table : Table) (xs : List Text) → b ≤ k → InLocals b (bound_table xs k table) xs
+in_locals b k table [] l x i = absurd i
+in_locals b k table (y ∷ ys) l x (inl e) = still_local b (suc k) ((y, local k) ∷ table) x ys (let f : b ≤ suc k = omega (arith, l) in f) (here (bytes_eq y x) (is_same y x e))
+  where
+    here : (c : Bool) → c ≡ true → (i : ℕ) × ((if c then Some (local k) else slot_in x table) ≡ Some (local i)) × (b ≤ i)
+    here true q = (k, refl, l)
+    here false q = absurd (no_both q refl)
+in_locals b k table (y ∷ ys) l x (inr i) = in_locals b (suc k) ((y, local k) ∷ table) ys (let f : b ≤ suc k = omega (arith, l) in f) x i

@@ -1,0 +1,66 @@
+-- Names among others.
+use Rattle.std.proofs.Common.{◌≡◌, Bool, true, false, if◌then◌else◌, List, [], ◌∷◌, ◌++◌, refl, ◌⊎◌, inl, inr}
+use Rattle.std.specs.Bool.{Decides}
+use Rattle.std.specs.Str.{bytes_eq}
+use Rattle.std.proofs.lemmas.Slice.Eq.{bytes_eq-Decides}
+use Rattle.std.specs.Ordering.{nat_cmp, is_lt}
+use Rattle.std.specs.Cmp.Lexicographic.{slice_cmp}
+use Rattle.jt_parse.specs.Trees.{Text}
+use Rattle.jt_parse.specs.Texts.{inserted, all_inserted, ascending}
+
+-- the text is one of these
+abbrev pub Among : Text → List Text → Type 0
+Among x [] = ⊥
+Among x (y ∷ ys) = (y ≡ x) ⊎ Among x ys
+
+-- all of these are among those
+abbrev pub AllAmong : List Text → List Text → Type 0
+AllAmong [] ns = Unit {0}
+AllAmong (x ∷ xs) ns = Among x ns × AllAmong xs ns
+
+among_front : (xs ys ns : List Text) → AllAmong (xs ++ ys) ns → AllAmong xs ns
+among_front [] ys ns h = tt
+among_front (x ∷ xs) ys ns h = (h.0, among_front xs ys ns h.1)
+
+among_back : (xs ys ns : List Text) → AllAmong (xs ++ ys) ns → AllAmong ys ns
+among_back [] ys ns h = h
+among_back (x ∷ xs) ys ns h = among_back xs ys ns h.1
+
+surely : (b : Bool) (P : Type 0) → Decides b P → P → b ≡ true
+surely b P d h = d.1 h
+
+same_text : (x y : Text) → bytes_eq x y ≡ true → x ≡ y
+same_text x y e = (bytes_eq-Decides x y).0 e
+
+-- a text that is put among others is there, and so are the others
+inserted_there : (x : Text) (ns : List Text) → Among x (inserted x ns)
+inserted_there x [] = inl refl
+inserted_there x (y ∷ ys) = through (bytes_eq y x) (is_lt (slice_cmp nat_cmp x y)) refl (inserted_there x ys)
+  where
+    through : (b c : Bool) → bytes_eq y x ≡ b → Among x (inserted x ys) → Among x (if b then y ∷ ys else if c then x ∷ y ∷ ys else y ∷ inserted x ys)
+    through true c e h = inl (same_text y x e)
+    through false true e h = inl refl
+    through false false e h = inr h
+
+inserted_keeps : (x z : Text) (ns : List Text) → Among z ns → Among z (inserted x ns)
+inserted_keeps x z [] h = absurd h
+inserted_keeps x z (y ∷ ys) h = through (bytes_eq y x) (is_lt (slice_cmp nat_cmp x y)) h (inserted_keeps x z ys)
+  where
+    through : (b c : Bool) → Among z (y ∷ ys) → (Among z ys → Among z (inserted x ys)) → Among z (if b then y ∷ ys else if c then x ∷ y ∷ ys else y ∷ inserted x ys)
+    through true c k f = k
+    through false true k f = inr k
+    through false false (inl e) f = inl e
+    through false false (inr k) f = inr (f k)
+
+-- texts that are put among others are there, and so are the others
+all_keep : (xs : List Text) (z : Text) (ns : List Text) → Among z ns → Among z (all_inserted xs ns)
+all_keep [] z ns h = h
+all_keep (x ∷ xs) z ns h = all_keep xs z (inserted x ns) (inserted_keeps x z ns h)
+
+all_there : (xs ns : List Text) → AllAmong xs (all_inserted xs ns)
+all_there [] ns = tt
+all_there (x ∷ xs) ns = (all_keep xs x (inserted x ns) (inserted_there x ns), all_there xs (inserted x ns))
+
+-- all texts are among those in ascending order
+pub all_ascending : (xs : List Text) → AllAmong xs (ascending xs)
+all_ascending xs = all_there xs []

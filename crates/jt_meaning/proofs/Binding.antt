@@ -1,0 +1,205 @@
+-- Targets and scopes: what is bound by names is stored in slots.
+use Rattle.std.proofs.Common.{◌≡◌, ℕ, suc, ◌<◌, ◌≤◌, Bool, true, false, if◌then◌else◌, List, [], ◌∷◌, map, Option, Some, None, refl, sym, ap, ◌∙◌, subst, arith, inl, inr}
+use Rattle.std.specs.Prelude.{◌||◌}
+use Rattle.std.specs.Str.{bytes_eq}
+use Rattle.jt_value.specs.Tree.{Tree}
+use Rattle.jt_value.specs.Pairs.{Pairs}
+use Rattle.jt_slots.specs.Got.{bind, checked}
+use Rattle.jt_parse.specs.Trees.{Text}
+use Rattle.jt_meaning.specs.Env.{Env, read, bound, all_bound}
+use Rattle.jt_inherit.specs.Chain.{Home}
+use Rattle.jt_slots.specs.Loops.{items_of_value}
+use Rattle.jt_parse.specs.Texts.{among}
+use Rattle.jt_rules.specs.World.{World}
+use Rattle.jt_meaning.specs.Meaning.{each_target, targets}
+use Rattle.jt_slots.specs.Slots.{Slot, local, global, Memory, load, store, store_if, store_each, take}
+use Rattle.jt_meaning.specs.Layout.{Table, slot_in, names, first_slot, globals}
+use Rattle.jt_meaning.specs.Resolve.{fresh, fresh_targets, kept_slots, slot_of, set_targets}
+use Rattle.jt_meaning.proofs.Both.{Both, both, fault, bind_both, by_right, checked_both}
+use Rattle.jt_meaning.proofs.Reading.{same_text, same_is, is_same, no_both, read_bound, held, put_here, put_elsewhere}
+use Rattle.jt_meaning.proofs.Agreeing.{Kept, kept_same, kept_then, kept_less, kept_store, Held, held_put, limit, Below, Fits}
+use Rattle.jt_meaning.proofs.Among.{Among, AllAmong}
+
+-- ---- fresh targets
+
+pub record Taken (k g : ℕ) (m : Memory) (xs : List Text) (s : Pairs) (n : Memory) : Type 0 where
+  pub names : map (λ p. p.0) s ≡ xs
+  pub values : Held n.locals k (map (λ p. p.1) s)
+  pub kept : Kept k g m n
+  pub out : n.out ≡ m.out
+
+each_taken : (g : ℕ) (xs : List Text) (vs : List Tree) (k : ℕ) (m : Memory) → Both (Taken k g m xs) (each_target xs vs) (store_each (fresh k xs) vs m)
+each_taken g [] [] k m = both (record { names = refl; values = tt; kept = kept_same k g m; out = refl })
+each_taken g [] (v ∷ vs) k m = fault
+each_taken g (x ∷ xs) [] k m = fault
+each_taken g (x ∷ xs) (v ∷ vs) k m =
+    bind_both (each_taken g xs vs (suc k) m) (λ s n w. both (record {
+      names = ap (λ ys. x ∷ ys) w.names;
+      values = (put_here k v n.locals, held_put n.locals k (suc k) v (map (λ p. p.1) s) (let e : k < suc k = omega arith in e) w.values);
+      kept = kept_then (kept_less (let e : k ≤ suc k = omega arith in e) (let e : g ≤ g = omega arith in e) w.kept) (kept_store k g k v n (let e : k ≤ k = omega arith in e));
+      out = w.out;
+    }))
+
+several_taken : (g : ℕ) (xs : List Text) (v : Tree) (k : ℕ) (m : Memory) → Both (Taken k g m xs) (bind (checked (items_of_value v)) (each_target xs)) (bind (checked (items_of_value v)) (λ vs. store_each (fresh k xs) vs m))
+several_taken g xs v k m = bind_both (checked_both (items_of_value v)) (λ vs ws e. by_right (ap (λ z. store_each (fresh k xs) z m) e) (each_taken g xs vs k m))
+
+pub taken : (g : ℕ) (xs : List Text) (v : Tree) (k : ℕ) (m : Memory) → Both (Taken k g m xs) (targets xs v) (take (fresh_targets k xs) v m)
+taken g [] v k m = several_taken g [] v k m
+taken g (x ∷ []) v k m = both (record { names = refl; values = (put_here k v m.locals, tt); kept = kept_store k g k v m (let e : k ≤ k = omega arith in e); out = refl })
+taken g (x ∷ y ∷ ys) v k m = several_taken g (x ∷ y ∷ ys) v k m
+
+-- ---- reading behind several bindings
+
+pub reads_all : (bs : Pairs) (e f : Env) (y : Text) → read e y ≡ read f y → read (all_bound e bs) y ≡ read (all_bound f bs) y
+reads_all [] e f y r = r
+reads_all (b ∷ bs) e f y r = reads_all bs (bound e b.0 b.1) (bound f b.0 b.1) y (read_bound e b.0 y b.1 ∙ ap (λ v. if bytes_eq b.0 y then b.1 else v) r ∙ sym (read_bound f b.0 y b.1))
+
+reads_bound : (bs : Pairs) (e f : Env) (x : Text) → Among x (map (λ b. b.0) bs) → read (all_bound e bs) x ≡ read (all_bound f bs) x
+reads_bound [] e f x i = absurd i
+reads_bound (b ∷ bs) e f x (inl p) =
+    reads_all bs (bound e b.0 b.1) (bound f b.0 b.1) x (read_bound e b.0 x b.1 ∙ here (bytes_eq b.0 x) (is_same b.0 x p) ∙ sym (read_bound f b.0 x b.1))
+  where
+    here : (c : Bool) → c ≡ true → (if c then b.1 else read e x) ≡ (if c then b.1 else read f x)
+    here true q = refl
+    here false q = absurd (no_both q refl)
+reads_bound (b ∷ bs) e f x (inr i) = reads_bound bs (bound e b.0 b.1) (bound f b.0 b.1) x i
+
+reads_not : (bs : Pairs) (e : Env) (x : Text) → (Among x (map (λ b. b.0) bs) → ⊥) → read (all_bound e bs) x ≡ read e x
+reads_not [] e x n = refl
+reads_not (b ∷ bs) e x n = reads_not bs (bound e b.0 b.1) x (λ i. n (inr i)) ∙ read_bound e b.0 x b.1 ∙ elsewhere (bytes_eq b.0 x) refl
+  where
+    elsewhere : (c : Bool) → bytes_eq b.0 x ≡ c → (if c then b.1 else read e x) ≡ read e x
+    elsewhere true q = absurd (n (inl (same_text b.0 x q)))
+    elsewhere false q = refl
+
+among_is : (x : Text) (xs : List Text) → among x xs ≡ true → Among x xs
+among_is x [] e = absurd (no_both e refl)
+among_is x (y ∷ ys) e = through (bytes_eq y x) refl e (λ f. among_is x ys f)
+  where
+    through : (b : Bool) → bytes_eq y x ≡ b → (b || among x ys) ≡ true → (among x ys ≡ true → Among x ys) → Among x (y ∷ ys)
+    through true p q f = inl (same_text y x p)
+    through false p q f = inr (f q)
+
+pub among_has : (x : Text) (xs : List Text) → Among x xs → among x xs ≡ true
+among_has x [] i = absurd i
+among_has x (y ∷ ys) (inl p) = ap (λ b. b || among x ys) (is_same y x p)
+among_has x (y ∷ ys) (inr i) = ap (λ b. bytes_eq y x || b) (among_has x ys i) ∙ or_true (bytes_eq y x)
+  where
+    or_true : (b : Bool) → (b || true) ≡ true
+    or_true true = refl
+    or_true false = refl
+
+-- ---- slots that are there
+
+slot_there : (x : Text) (table : Table) (s : Slot) → slot_in x table ≡ Some s → slot_of x table ≡ s
+slot_there x [] s e = absurd (nothing e)
+  where
+    nothing : None ≡ Some s → ⊥
+    nothing q = cc
+slot_there x (b ∷ bs) s e = through (bytes_eq b.0 x) e (λ f. slot_there x bs s f)
+  where
+    through : (c : Bool) → (if c then Some b.1 else slot_in x bs) ≡ Some s → (slot_in x bs ≡ Some s → slot_of x bs ≡ s) → (if c then b.1 else slot_of x bs) ≡ s
+    through true q f = cc
+    through false q f = f q
+
+load_here : (s : Slot) (v : Tree) (m : Memory) → load s (store s v m) ≡ v
+load_here (local i) v m = put_here i v m.locals
+load_here (global i) v m = put_here i v m.globals
+
+load_elsewhere : (s t : Slot) (v : Tree) (m : Memory) → (s ≡ t → ⊥) → load t (store s v m) ≡ load t m
+load_elsewhere (local i) (local j) v m n = put_elsewhere i j v m.locals (λ e. n (ap local e))
+load_elsewhere (local i) (global j) v m n = refl
+load_elsewhere (global i) (local j) v m n = refl
+load_elsewhere (global i) (global j) v m n = put_elsewhere i j v m.globals (λ e. n (ap global e))
+
+store_out : (s : Slot) (v : Tree) (m : Memory) → (store s v m).out ≡ m.out
+store_out (local i) v m = refl
+store_out (global i) v m = refl
+
+module _ (world : World) (order : List Home) (h : Home) (table : Table) (k : ℕ) (fits : Fits world order h table k) (S : List Text) (m : Memory) (T : Memory → Type 0) (first : T m)
+    (next : (x : Text) (s : Slot) (v : Tree) (n : Memory) → Among x S → Among x (names world order h) → slot_in x table ≡ Some s → T n → T (store s v n)) where
+  -- names that are set: each reads what its slot holds, as before the others do
+  pub record Set (xs : List Text) (s : Pairs) (n : Memory) : Type 0 where
+    pub names : map (λ p. p.0) s ≡ xs
+    pub reads : (env : Env) → ((y : Text) → Among y (Rattle.jt_meaning.specs.Layout.names world order h) → read env y ≡ held (slot_in y table) m)
+        → (y : Text) → Among y (Rattle.jt_meaning.specs.Layout.names world order h) → read (all_bound env s) y ≡ held (slot_in y table) n
+    pub touched : T n
+    pub out : n.out ≡ m.out
+
+  -- one name more, in front
+  set_more : (x : Text) (v : Tree) (xs : List Text) (s : Pairs) (n : Memory) → Among x S → Among x (names world order h) → Set xs s n → Set (x ∷ xs) ((x, v) ∷ s) (store_if (if among x xs then None else slot_in x table) v n)
+  set_more x v xs s n inS inN w = through (among x xs) refl
+    where
+      shadowed : Among x xs → (env : Env) (y : Text) → read (all_bound (bound env x v) s) y ≡ read (all_bound env s) y
+      shadowed i env y = which (bytes_eq x y) refl
+        where
+          which : (b : Bool) → bytes_eq x y ≡ b → read (all_bound (bound env x v) s) y ≡ read (all_bound env s) y
+          which true e = reads_bound s (bound env x v) env y (subst (λ zs. Among y zs) (sym w.names) (subst (λ z. Among z xs) (same_text x y e) i))
+          which false e = reads_all s (bound env x v) env y (read_bound env x y v ∙ ap (λ b. if b then v else read env y) e)
+
+      slotted : (t : Slot) × (slot_in x table ≡ Some t) × Below world order k (limit world order h) t
+      slotted = fits.slotted x inN
+
+      set_here : (t : Slot) → slot_in x table ≡ Some t → (among x xs ≡ false) → (env : Env) → ((y : Text) → Among y (names world order h) → read env y ≡ held (slot_in y table) m)
+          → (y : Text) → Among y (names world order h) → read (all_bound (bound env x v) s) y ≡ held (slot_in y table) (store t v n)
+      set_here t e f env a y i = which (bytes_eq x y) refl
+        where
+          not_there : Among x (map (λ p. p.0) s) → ⊥
+          not_there j = no_both (among_has x xs (subst (λ zs. Among x zs) w.names j)) f
+
+          which : (b : Bool) → bytes_eq x y ≡ b → read (all_bound (bound env x v) s) y ≡ held (slot_in y table) (store t v n)
+          which true c =
+              let p = same_text x y c in
+              ap (λ z. read (all_bound (bound env x v) s) z) (sym p)
+              ∙ reads_not s (bound env x v) x not_there ∙ read_bound env x x v ∙ ap (λ b. if b then v else read env x) (same_is x) ∙ sym (load_here t v n) ∙ sym (ap (λ o. held o (store t v n)) e)
+              ∙ ap (λ z. held (slot_in z table) (store t v n)) p
+          which false c =
+              let u = fits.slotted y i in
+              let differ : t ≡ u.0 → ⊥ = λ r. no_both (is_same x y (fits.apart x y t inN i e (u.1 ∙ ap Some (sym r)))) c in
+              reads_all s (bound env x v) env y (read_bound env x y v ∙ ap (λ b. if b then v else read env y) c)
+              ∙ w.reads env a y i ∙ ap (λ o. held o n) u.1 ∙ sym (load_elsewhere t u.0 v n differ) ∙ sym (ap (λ o. held o (store t v n)) u.1)
+
+      at_slot : (o : Option Slot) → slot_in x table ≡ o → among x xs ≡ false → Set (x ∷ xs) ((x, v) ∷ s) (store_if o v n)
+      at_slot None e f = absurd (nothing (sym e ∙ slotted.1))
+        where
+          nothing : None ≡ Some slotted.0 → ⊥
+          nothing q = cc
+      at_slot (Some t) e f = record {
+        names = ap (λ ys. x ∷ ys) w.names;
+        reads = λ env a y i. set_here t e f env a y i;
+        touched = next x t v n inS inN e w.touched;
+        out = store_out t v n ∙ w.out;
+      }
+
+      through : (b : Bool) → among x xs ≡ b → Set (x ∷ xs) ((x, v) ∷ s) (store_if (if b then None else slot_in x table) v n)
+      through true e = record {
+        names = ap (λ ys. x ∷ ys) w.names;
+        reads = λ env a y i. shadowed (among_is x xs e) env y ∙ w.reads env a y i;
+        touched = w.touched;
+        out = w.out;
+      }
+      through false e = at_slot (slot_in x table) refl e
+
+  nothing_set : Set [] [] m
+  nothing_set = record { names = refl; reads = λ env a y i. a y i; touched = first; out = refl }
+
+  each_set : (xs : List Text) (vs : List Tree) → AllAmong xs S → AllAmong xs (names world order h) → Both (Set xs) (each_target xs vs) (store_each (kept_slots table xs) vs m)
+  each_set [] [] a b = both nothing_set
+  each_set [] (v ∷ vs) a b = fault
+  each_set (x ∷ xs) [] a b = fault
+  each_set (x ∷ xs) (v ∷ vs) a b = bind_both (each_set xs vs a.1 b.1) (λ s n w. both (set_more x v xs s n a.0 b.0 w))
+
+  several_set : (xs : List Text) (v : Tree) → AllAmong xs S → AllAmong xs (names world order h)
+      → Both (Set xs) (bind (checked (items_of_value v)) (each_target xs)) (bind (checked (items_of_value v)) (λ vs. store_each (kept_slots table xs) vs m))
+  several_set xs v a b = bind_both (checked_both (items_of_value v)) (λ vs ws e. by_right (ap (λ z. store_each (kept_slots table xs) z m) e) (each_set xs vs a b))
+
+  -- one name
+  pub one_set : (x : Text) (v : Tree) → Among x S → Among x (names world order h) → Set (x ∷ []) ((x, v) ∷ []) (store (slot_of x table) v m)
+  one_set x v inS inN =
+      let s = fits.slotted x inN in
+      subst (λ n. Set (x ∷ []) ((x, v) ∷ []) n) (ap (λ o. store_if o v m) s.1 ∙ ap (λ t. store t v m) (sym (slot_there x table s.0 s.1))) (set_more x v [] [] m inS inN nothing_set)
+
+  pub all_set : (xs : List Text) (v : Tree) → AllAmong xs S → AllAmong xs (names world order h) → Both (Set xs) (targets xs v) (take (set_targets table xs) v m)
+  all_set [] v a b = several_set [] v a b
+  all_set (x ∷ []) v a b = both (one_set x v a.0 b.0)
+  all_set (x ∷ y ∷ ys) v a b = several_set (x ∷ y ∷ ys) v a b

@@ -1,0 +1,330 @@
+-- What is resolved has at most as many constants of its own as it has tokens.
+use Rattle.std.proofs.Common.{◌≡◌, ℕ, zero, suc, ◌+◌, ◌*◌, max, min, ◌≤◌, Bool, true, false, if◌then◌else◌, List, [], ◌∷◌, ◌++◌, length, Option, Some, None, arith, refl, sym, subst, length-append}
+use Rattle.std.specs.Option.{is_none}
+use Rattle.std.specs.List.{AllByRecursion}
+use Rattle.std.specs.Str.{bytes_eq}
+use Rattle.std.specs.Prelude.{codes, map, pos}
+use Rattle.jt_value.specs.Tree as tree
+use Rattle.jt_ops.specs.declared.op_id.OpId.{OpId}
+use Rattle.jt_ops.specs.declared.op_id.OpId.TheVariants as op
+use Rattle.jt_ops.specs.declared.test_id.TestId.{TestId}
+use Rattle.jt_expr.specs.Trees as written
+use Rattle.jt_expr.specs.Trees.{Expr, Literal, constant, name, group, list_of, map_of, attribute, item, call, filter, test, unary, binary, when, choice, Exprs, no_exprs, expr, Pairs, no_pairs, pair, weight, literal_weight, operator_weight, is_weight, enclosed, perhaps_enclosed, exprs_weight, pairs_weight}
+use Rattle.jt_expr.specs.declared.tree.BinaryOperator.{BinaryOperator}
+use Rattle.jt_expr.specs.declared.tree.BinaryOperator.TheVariants as o
+use Rattle.jt_meaning.specs.Operators.{Form, operation, negation, conjunction, disjunction, form}
+use Rattle.jt_slots.specs.Got.{Place}
+use Rattle.jt_slots.specs.Tests.{test_named}
+use Rattle.jt_inherit.specs.Uses.{count, keywords, set_by, set_in, set_under}
+use Rattle.jt_parse.specs.Trees.{Text, Parameter, Filtering, Stmt, data_of, print, choose, for_each, set, set_block, with_values, filter_block, autoescape, macro, include, extends, block, Body, end, stmt, Branches, no_branches, branch, condition_weight, filtering_weight}
+use Rattle.jt_inherit.specs.Chain.{Home, MacroBody, macros, macro_of, Callee, a_macro, a_range, a_super, a_block, a_cycle, no_callee, named_alone, named_in, callee, is_loop}
+use Rattle.jt_slots.specs.Loops.{Field, index0, field_named}
+use Rattle.jt_slots.specs.Filters.{default_value, some_given}
+use Rattle.jt_parse.specs.Texts.{among}
+use Rattle.jt_rules.specs.World.{World}
+use Rattle.jt_meaning.specs.Expressions.{filter_parameters}
+use Rattle.jt_meaning.specs.Layout.{Table, slot_in, names, numbered_of, globals, block_parameters, is_scoped, default_place, first_slot, unit, of_chain}
+use Rattle.jt_slots.specs.Slots as slots
+use Rattle.jt_slots.specs.Slots.{Slot, local, SExpr, SRow, Targets, one, several, SBody, variable, run}
+use Rattle.jt_slots.specs.Pool.{Constant, own, known, expr_values, row_values, condition_values, stmt_values, body_values}
+use Rattle.jt_meaning.specs.Resolve.{value_or, read_from, turned_round, tested_by, filtered_by, in_form, field_from, followed, locals_from, fresh, fresh_targets, kept_slots, set_targets, filled, filled_some, first_locals, reads, handed_on, Part, Spot, place, grown, bound_all, copied, scoped, next_given, first_body, invoked_body, invoked_super, invoked, resolved, resolved_row, resolved_asides, resolved_entries, resolved_condition, resolved_filters, resolved_values, placed_body, resolved_stmt, resolved_body, resolved_choice}
+use Rattle.jt_meaning.specs.Measure.{stmt_own, body_own, branch_own, IsFew}
+use Rattle.jt_meaning.proofs.Sizing.{expr_some, is_some_weight}
+
+abbrev expr_count : SExpr Constant → ℕ
+expr_count e = length (expr_values e)
+
+abbrev row_count : SRow Constant → ℕ
+row_count es = length (row_values es)
+
+abbrev body_count : SBody Constant → ℕ
+body_count b = length (body_values b)
+
+either_count : (b : Bool) (x y : SExpr Constant) (n : ℕ) → expr_count x ≤ n → expr_count y ≤ n → expr_count (if b then x else y) ≤ n
+either_count true x y n h k = h
+either_count false x y n h k = k
+
+known_count : (s : Option Slot) (i : ℕ) → expr_count (value_or s (known i)) ≡ 0
+known_count None i = refl
+known_count (Some s) i = refl
+
+own_count : (s : Option Slot) (v : tree.Tree) → expr_count (value_or s (own v)) ≤ 1
+own_count None v = omega arith
+own_count (Some s) v = omega arith
+
+field_count : (f : Option Field) → expr_count (field_from f) ≡ 0
+field_count None = refl
+field_count (Some f) = refl
+
+pair_count : (a b : SExpr Constant) → row_count (slots.item a (slots.item b slots.none)) ≡ expr_count a + expr_count b
+pair_count a b = omega (arith, length-append (expr_values a) (row_values (slots.item b slots.none)), length-append (expr_values b) [])
+
+single_count : (a : SExpr Constant) → row_count (slots.item a slots.none) ≡ expr_count a
+single_count a = omega (arith, length-append (expr_values a) [])
+
+turned_count : (b : Bool) (e : SExpr Constant) → expr_count (turned_round b e) ≤ expr_count e
+turned_count false e = omega arith
+turned_count true e = omega (arith, single_count e)
+
+tested_count : (t : Option TestId) (es : SRow Constant) → expr_count (tested_by t es) ≤ row_count es
+tested_count None es = omega arith
+tested_count (Some t) es = omega arith
+
+filtered_count : (f : Option ℕ) (b : Bool) (es : SRow Constant) → expr_count (filtered_by f b es) ≤ row_count es
+filtered_count None b es = omega arith
+filtered_count (Some f) b es = omega arith
+
+form_count : (f : Form) (a b : SExpr Constant) → expr_count (in_form f a b) ≤ expr_count a + expr_count b
+form_count (operation o) a b = omega (arith, pair_count a b)
+form_count (negation o) a b = omega (arith, pair_count a b, single_count (slots.made (slots.operator o) (slots.item a (slots.item b slots.none))))
+form_count conjunction a b = omega (arith, length-append (expr_values a) (expr_values b))
+form_count disjunction a b = omega (arith, length-append (expr_values a) (expr_values b))
+
+filled_count : (ps : List Parameter) (n d : ℕ) (ks : Table) → row_count (filled ps n d ks) ≡ 0
+filled_count [] n d ks = refl
+filled_count (p ∷ ps) (suc n) d ks = filled_count ps n (suc d) ks
+filled_count (p ∷ ps) zero d ks =
+    omega (arith, known_count (slot_in p.name ks) d, filled_count ps zero (suc d) ks, length-append (expr_values (value_or (slot_in p.name ks) (known d))) (row_values (filled ps zero (suc d) ks)))
+
+none_given : (ps : List Parameter) → some_given ps [] ≡ false
+none_given [] = refl
+none_given (p ∷ ps) = none_given ps
+
+some_count : (ps : List Parameter) (n : ℕ) (xs : List Text) (ks : Table) → row_count (filled_some ps n xs ks) ≤ length ps
+some_count [] n xs ks = omega arith
+some_count (p ∷ ps) (suc n) xs ks = omega (arith, some_count ps n xs ks)
+some_count (p ∷ ps) zero xs ks = through (some_given (p ∷ ps) xs) (some_count ps zero xs ks)
+  where
+    through : (b : Bool) → row_count (filled_some ps zero xs ks) ≤ length ps → row_count (if b then slots.item (value_or (slot_in p.name ks) (own (default_value p.default))) (filled_some ps zero xs ks) else slots.none) ≤ suc (length ps)
+    through true h =
+        omega (arith, h, own_count (slot_in p.name ks) (default_value p.default), length-append (expr_values (value_or (slot_in p.name ks) (own (default_value p.default)))) (row_values (filled_some ps zero xs ks)))
+    through false h = omega arith
+
+none_count : (ps : List Parameter) (n : ℕ) (ks : Table) → row_count (filled_some ps n [] ks) ≡ 0
+none_count [] n ks = refl
+none_count (p ∷ ps) (suc n) ks = none_count ps n ks
+none_count (p ∷ ps) zero ks =
+    subst (λ b. row_count (if b then slots.item (value_or (slot_in p.name ks) (own (default_value p.default))) (filled_some ps zero [] ks) else slots.none) ≡ 0) (sym (none_given (p ∷ ps))) refl
+
+few_count : (ps : List Parameter) (n : ℕ) (xs : List Text) (ks : Table) → length ps ≤ 3 → row_count (filled_some ps n xs ks) ≤ 3 * min 1 (length xs)
+few_count ps n [] ks h = omega (arith, none_count ps n ks)
+few_count ps n (x ∷ xs) ks h = omega (arith, h, some_count ps n (x ∷ xs) ks)
+
+first_count : (n : ℕ) (xs : List Text) → row_count (first_locals n xs) ≡ 0
+first_count n [] = refl
+first_count n (x ∷ xs) = first_count (suc n) xs
+
+reads_count : (t : Table) (xs : List Text) → row_count (reads t xs) ≡ 0
+reads_count t [] = refl
+reads_count t (x ∷ xs) = omega (arith, known_count (slot_in x t) 0, reads_count t xs, length-append (expr_values (value_or (slot_in x t) (known 0))) (row_values (reads t xs)))
+
+pub followed_count : (a b : SBody Constant) → body_count (followed a b) ≡ body_count a + body_count b
+followed_count slots.end b = omega arith
+followed_count (slots.stmt s rest) b =
+    omega (arith, followed_count rest b, length-append (stmt_values s) (body_values rest), length-append (stmt_values s) (body_values (followed rest b)))
+
+alone_count : (s : slots.SStmt Constant) → body_count (slots.stmt s slots.end) ≡ length (stmt_values s)
+alone_count s = omega (arith, length-append (stmt_values s) [])
+
+pub copied_count : (p : Place) (t : Table) (n : ℕ) (xs : List Text) (b : SBody Constant) → body_count (copied p t n xs b) ≡ body_count b
+copied_count p t n [] b = refl
+copied_count p t n (x ∷ xs) b =
+    omega (arith, known_count (slot_in x t) 0, copied_count p t (suc n) xs b, length-append (expr_values (value_or (slot_in x t) (known 0))) (body_values (copied p t (suc n) xs b)))
+
+handed_count : (p : Place) (t : Table) (n : ℕ) (xs : List Text) → body_count (handed_on p t n xs) ≡ 0
+handed_count p t n [] = refl
+handed_count p t n (x ∷ xs) =
+    omega (arith, known_count (slot_in x t) 0, handed_count p t (suc n) xs, length-append (expr_values (value_or (slot_in x t) (known 0))) (body_values (handed_on p t (suc n) xs)))
+
+abbrev Front : ℕ → (SRow Constant → SRow Constant) → Type 0
+Front w f = (b : SRow Constant) → row_count (f b) ≤ w + row_count b
+
+module _ (world : World) (order : List Home) where
+  body_counted : (h : Home) (on : Bool) (i : Option ℕ) (es : SRow Constant) → row_count es ≡ 0 → expr_count (invoked_body world order h on i es) ≤ 1
+  body_counted h on None es k = omega arith
+  body_counted h on (Some i) es k = omega (arith, k)
+
+  super_counted : (sp : Spot) (p : Option Part) → expr_count (invoked_super world order sp p) ≤ 1
+  super_counted sp None = omega arith
+  super_counted sp (Some p) =
+      let xs = block_parameters world order sp.home p.name in
+      body_counted sp.home sp.escaping (next_given p.behind) (first_locals 0 xs) (first_count 0 xs)
+
+  invoked_counted : (c : Callee) (sp : Spot) (row asides : SRow Constant → SRow Constant) (n : ℕ) (ks : Table) (w v : ℕ) → Front w row → Front v asides
+      → expr_count (invoked world order c sp row asides n ks) ≤ enclosed (w + v)
+  invoked_counted (a_macro m) sp row asides n ks w v r a =
+      let rest = filled m.parameters n (default_place world order sp.home m.name) ks in
+      omega (arith, r (asides rest), a rest, filled_count m.parameters n (default_place world order sp.home m.name) ks)
+  invoked_counted a_range sp row asides n ks w v r a = omega (arith, r slots.none)
+  invoked_counted a_super sp row asides n ks w v r a = omega (arith, super_counted sp sp.part)
+  invoked_counted (a_block x) sp row asides n ks w v r a =
+      let t = globals world order sp.home in
+      let xs = block_parameters world order sp.home x in
+      omega (arith, body_counted sp.home sp.escaping (first_body (numbered_of world sp.home x)) (reads t xs) (reads_count t xs))
+  invoked_counted a_cycle sp row asides n ks w v r a =
+      let i : SExpr Constant = slots.made (slots.operator op.Remainder) (slots.item (slots.field index0) (slots.item (slots.pooled (own (tree.number (pos n)))) slots.none)) in
+      omega (arith, r slots.none, pair_count (slots.made slots.a_list (row slots.none)) i)
+  invoked_counted no_callee sp row asides n ks w v r a = omega arith
+
+  filter_few : (f : Option ℕ) → ((i : ℕ) → length (world.filters.parameters i) ≤ 3) → length (filter_parameters world.filters f) ≤ 3
+  filter_few None h = omega arith
+  filter_few (Some i) h = h i
+
+  abbrev Three : Type 0
+  Three = (i : ℕ) → length (world.filters.parameters i) ≤ 3
+
+  mutual
+    pub counted : (e : Expr) (sp : Spot) → Three → expr_count (resolved world order e sp) ≤ weight e
+    counted (constant l) sp k = omega (arith, expr_some (constant l))
+    counted (name x) sp k = omega (arith, known_count (slot_in x sp.table) 0)
+    counted (group a) sp k = omega (arith, counted a sp k)
+    counted (list_of ts) sp k = omega (arith, row_counted ts sp k slots.none)
+    counted (map_of ps) sp k = omega (arith, entries_counted ps sp k)
+    counted (attribute a x) sp k =
+        either_count (is_loop a) (field_from (field_named x)) (slots.made (slots.operator op.Item) (slots.item (resolved world order a sp) (slots.item (slots.pooled (own (tree.text x))) slots.none)))
+        (2 + weight a) (omega (arith, field_count (field_named x))) (omega (arith, counted a sp k, pair_count (resolved world order a sp) (slots.pooled (own (tree.text x)))))
+    counted (item a b) sp k = omega (arith, counted a sp k, counted b sp k, pair_count (resolved world order a sp) (resolved world order b sp))
+    counted (call f ts ps) sp k =
+        omega (
+          arith,
+          invoked_counted (callee (macros world.sources sp.home) f) sp (resolved_row world order ts sp) (resolved_asides world order ps sp) (count ts) (locals_from sp.free (keywords ps))
+              (exprs_weight ts) (pairs_weight 2 ps) (λ b. row_counted ts sp k b) (λ b. omega (arith, asides_counted ps sp k b)),
+        )
+    counted (filter a x ts ps) sp k =
+        let f = world.filters.named x in
+        let rest = filled_some (filter_parameters world.filters f) (count ts) (keywords ps) (locals_from sp.free (keywords ps)) in
+        let row = resolved_row world order ts sp (resolved_asides world order ps sp rest) in
+        omega (
+          arith,
+          filtered_count f sp.escaping (slots.item (resolved world order a sp) row),
+          length-append (expr_values (resolved world order a sp)) (row_values row),
+          counted a sp k,
+          row_counted ts sp k (resolved_asides world order ps sp rest),
+          asides_counted ps sp k rest,
+          few_count (filter_parameters world.filters f) (count ts) (keywords ps) (locals_from sp.free (keywords ps)) (filter_few f k),
+        )
+    counted (test a n x ts ps) sp k =
+        let row = resolved_row world order ts sp slots.none in
+        let es = slots.item (resolved world order a sp) row in
+        omega (arith, turned_count n (tested_by (test_named x) es), tested_count (test_named x) es, length-append (expr_values (resolved world order a sp)) (row_values row), counted a sp k, row_counted ts sp k slots.none, is_some_weight n)
+    counted (unary u a) sp k = omega (arith, counted a sp k, single_count (resolved world order a sp))
+    counted (binary b x y) sp k = omega (arith, form_count (form sp.escaping b) (resolved world order x sp) (resolved world order y sp), counted x sp k, counted y sp k)
+    counted (when c a) sp k =
+        omega (arith, counted c sp k, counted a sp k, length-append (expr_values (resolved world order c sp)) (expr_values (resolved world order a sp) ++ []), length-append (expr_values (resolved world order a sp)) [])
+    counted (choice c a b) sp k =
+        omega (
+          arith,
+          counted c sp k,
+          counted a sp k,
+          counted b sp k,
+          length-append (expr_values (resolved world order c sp)) (expr_values (resolved world order a sp) ++ expr_values (resolved world order b sp)),
+          length-append (expr_values (resolved world order a sp)) (expr_values (resolved world order b sp)),
+        )
+
+    pub row_counted : (ts : Exprs) (sp : Spot) → Three → (b : SRow Constant) → row_count (resolved_row world order ts sp b) ≤ exprs_weight ts + row_count b
+    row_counted no_exprs sp k b = omega arith
+    row_counted (expr a ts) sp k b = omega (arith, counted a sp k, row_counted ts sp k b, length-append (expr_values (resolved world order a sp)) (row_values (resolved_row world order ts sp b)))
+
+    pub asides_counted : (ps : Pairs) (sp : Spot) → Three → (b : SRow Constant) → row_count (resolved_asides world order ps sp b) + 3 * min 1 (length (keywords ps)) ≤ pairs_weight 2 ps + row_count b
+    asides_counted no_pairs sp k b = omega arith
+    asides_counted (pair x a ps) sp k b = omega (arith, counted a sp k, asides_counted ps (grown sp) k b, length-append (expr_values (resolved world order a sp)) (row_values (resolved_asides world order ps (grown sp) b)))
+
+    entries_counted : (ps : Pairs) (sp : Spot) → Three → row_count (resolved_entries world order ps sp) ≤ pairs_weight 3 ps
+    entries_counted no_pairs sp k = omega arith
+    entries_counted (pair x a ps) sp k = omega (arith, counted a sp k, entries_counted ps sp k, length-append (expr_values (resolved world order a sp)) (row_values (resolved_entries world order ps sp)))
+
+  -- ---- statements
+
+  condition_counted : (c : Option Expr) (sp : Spot) → Three → length (condition_values (resolved_condition world order c sp)) ≤ condition_weight c
+  condition_counted None sp k = omega arith
+  condition_counted (Some c) sp k = omega (arith, counted c sp k)
+
+  filters_counted : (fs : List Filtering) (sp : Spot) (e : SExpr Constant) → Three → expr_count (resolved_filters world order fs sp e) ≤ expr_count e + filtering_weight fs
+  filters_counted [] sp e k = omega arith
+  filters_counted (f ∷ fs) sp e k =
+      let i = world.filters.named f.name in
+      let rest = filled_some (filter_parameters world.filters i) (count f.arguments) (keywords f.keywords) (locals_from sp.free (keywords f.keywords)) in
+      let row = resolved_row world order f.arguments sp (resolved_asides world order f.keywords sp rest) in
+      omega (
+        arith,
+        filters_counted fs sp (filtered_by i sp.escaping (slots.item e row)) k,
+        filtered_count i sp.escaping (slots.item e row),
+        length-append (expr_values e) (row_values row),
+        row_counted f.arguments sp k (resolved_asides world order f.keywords sp rest),
+        asides_counted f.keywords sp k rest,
+        few_count (filter_parameters world.filters i) (count f.arguments) (keywords f.keywords) (locals_from sp.free (keywords f.keywords)) (filter_few i k),
+      )
+
+  values_counted : (ps : Pairs) (sp : Spot) (line : ℕ) (b : SBody Constant) → Three → body_count (resolved_values world order ps sp line b) ≤ pairs_weight 2 ps + body_count b
+  values_counted no_pairs sp line b k = omega arith
+  values_counted (pair x e ps) sp line b k = omega (arith, counted e sp k, values_counted ps (grown sp) line b k, length-append (expr_values (resolved world order e sp)) (body_values (resolved_values world order ps (grown sp) line b)))
+
+  placed_counted : (sp : Spot) (i : Option ℕ) (x : Text) (t : Table) → body_count (placed_body world order sp i x t) ≡ 0
+  placed_counted sp None x t = refl
+  placed_counted sp (Some i) x t =
+      let xs = block_parameters world order sp.home x in
+      omega (arith, reads_count t xs, length-append (row_values (reads t xs)) [])
+
+  include_counted : (sp : Spot) (line : ℕ) (n : Text) (c : Bool) (b : Bool)
+      → body_count (if b then slots.end else followed (handed_on (place sp line) (if c then sp.table else []) (first_slot world order n) (names world order n)) (slots.stmt (run (unit world order (of_chain n)) slots.none) slots.end)) ≡ 0
+  include_counted sp line n c true = refl
+  include_counted sp line n c false =
+      let xs = names world order n in
+      let hs = handed_on (place sp line) (if c then sp.table else []) (first_slot world order n) xs in
+      omega (arith, followed_count hs (slots.stmt (run (unit world order (of_chain n)) slots.none) slots.end), handed_count (place sp line) (if c then sp.table else []) (first_slot world order n) xs)
+
+  pub scope_counted : (b : Body) (sp : Spot) → body_count (resolved_body world order b (bound_all (set_in b) sp)) ≤ body_own b → body_count (scoped (set_in b) sp (resolved_body world order b)) ≤ body_own b
+  scope_counted b sp h = omega (arith, h, copied_count (place sp 1) sp.table sp.free (set_in b) (resolved_body world order b (bound_all (set_in b) sp)))
+
+  mutual
+    pub stmt_counted : (s : Stmt) (sp : Spot) → Three → body_count (resolved_stmt world order s sp) ≤ stmt_own s
+    stmt_counted (data_of t) sp k = omega arith
+    stmt_counted (print line e) sp k = omega (arith, counted e sp k, alone_count (slots.print (place sp line) sp.escaping (resolved world order e sp)))
+    stmt_counted (choose bs other) sp k = omega (arith, choice_counted bs sp k (resolved_body world order other sp), all_counted other sp k)
+    stmt_counted (for_each line xs e c body other) sp k =
+        let inner = bound_all xs sp in
+        let b = scoped (set_in body) inner (resolved_body world order body) in
+        let d = resolved_body world order other sp in
+        let i = resolved_condition world order c inner in
+        let v = resolved world order e sp in
+        omega (
+          arith,
+          alone_count (slots.for_each (place sp line) (fresh_targets sp.free xs) v i b d),
+          length-append (expr_values v) (condition_values i ++ (body_values b ++ body_values d)),
+          length-append (condition_values i) (body_values b ++ body_values d),
+          length-append (body_values b) (body_values d),
+          counted e sp k,
+          condition_counted c inner k,
+          scope_counted body inner (all_counted body (bound_all (set_in body) inner) k),
+          all_counted other sp k,
+        )
+    stmt_counted (set line xs e) sp k = omega (arith, counted e sp k, alone_count (slots.assign (place sp line) (set_targets sp.table xs) (resolved world order e sp)))
+    stmt_counted (set_block line x body) sp k =
+        omega (arith, scope_counted body sp (all_counted body (bound_all (set_in body) sp) k), length-append (body_values (scoped (set_in body) sp (resolved_body world order body))) [])
+    stmt_counted (with_values line ps body) sp k =
+        let inner = bound_all (keywords ps) sp in
+        omega (arith, values_counted ps sp line (scoped (set_in body) inner (resolved_body world order body)) k, scope_counted body inner (all_counted body (bound_all (set_in body) inner) k))
+    stmt_counted (filter_block line fs body) sp k =
+        let b = scoped (set_in body) (grown sp) (resolved_body world order body) in
+        let v = resolved_filters world order fs (grown sp) (variable (local sp.free)) in
+        omega (arith, scope_counted body (grown sp) (all_counted body (bound_all (set_in body) (grown sp)) k), filters_counted fs (grown sp) (variable (local sp.free)) k, length-append (body_values b) (expr_values v ++ []), length-append (expr_values v) [])
+    stmt_counted (autoescape line on body) sp k =
+        let inner = record sp { escaping = on } in
+        omega (arith, scope_counted body inner (all_counted body (bound_all (set_in body) inner) k))
+    stmt_counted (macro line x ps body) sp k = omega arith
+    stmt_counted (include line n missing with_context) sp k = omega (arith, include_counted sp line n with_context (is_none (world.sources n)))
+    stmt_counted (extends line n) sp k = omega arith
+    stmt_counted (block line x is required body) sp k =
+        omega (arith, placed_counted sp (first_body (numbered_of world sp.home x)) x (if is then sp.table else globals world order sp.home))
+
+    pub all_counted : (b : Body) (sp : Spot) → Three → body_count (resolved_body world order b sp) ≤ body_own b
+    all_counted end sp k = omega arith
+    all_counted (stmt s rest) sp k = omega (arith, stmt_counted s sp k, all_counted rest sp k, followed_count (resolved_stmt world order s sp) (resolved_body world order rest sp))
+
+    choice_counted : (bs : Branches) (sp : Spot) → Three → (other : SBody Constant) → body_count (resolved_choice world order bs sp other) ≤ branch_own bs + body_count other
+    choice_counted no_branches sp k other = omega arith
+    choice_counted (branch line c body rest) sp k other =
+        let v = resolved world order c sp in
+        let b = resolved_body world order body sp in
+        let d = resolved_choice world order rest sp other in
+        omega (arith, counted c sp k, all_counted body sp k, choice_counted rest sp k other, length-append (expr_values v) (body_values b ++ body_values d), length-append (body_values b) (body_values d), alone_count (slots.if_else (place sp line) v b d))

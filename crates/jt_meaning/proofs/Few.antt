@@ -1,0 +1,354 @@
+-- Where the sources of chains read or bind few names, few of them are in each chain.
+use Rattle.std.proofs.Common.{◌≡◌, ℕ, zero, suc, ◌+◌, ◌≤◌, ◌<◌, Bool, true, false, if◌then◌else◌, List, [], ◌∷◌, ◌++◌, length, map, Option, Some, None, refl, sym, ap, ◌∙◌, subst, arith, ◌⊎◌, inl, inr}
+use Rattle.std.specs.Prelude.{not, ◌||◌, flat_map, filter, Contains, slice_index_or}
+use Rattle.std.specs.List.{AllByRecursion}
+use Rattle.std.specs.Option.{option_or, is_some}
+use Rattle.std.specs.declared.cmp.Ordering.{Ordering}
+use Rattle.std.specs.declared.cmp.Ordering.TheVariants.{Less, Equal, Greater}
+use Rattle.std.specs.Ordering.{nat_cmp, is_lt, is_eq, ordering_reverse}
+use Rattle.std.specs.Cmp.Lexicographic.{slice_cmp}
+use Rattle.std.specs.Str.{bytes_eq}
+use Rattle.std.proofs.lemmas.Cmp.{nat_list_cmp_total}
+use Rattle.std.proofs.lemmas.Map.Text.{is_eq-slice_cmp}
+use Rattle.jt_parse.specs.Texts.{among, repeated, inserted, all_inserted, ascending}
+use Rattle.jt_parse.specs.Trees.{Text, Parameter, Stmt, data_of, print, choose, for_each, set, set_block, with_values, filter_block, autoescape, macro, include, extends, block, Body, end, stmt}
+use Rattle.jt_inherit.specs.Chain.{Home, Template, templates, MacroBody, macros_in, macros}
+use Rattle.jt_inherit.specs.Includes.{included}
+use Rattle.jt_inherit.specs.Small.{NamesFew}
+use Rattle.jt_inherit.specs.Uses.{stmt_names, body_names, own_names, scope_names_in, scope_names}
+use Rattle.jt_inherit.specs.View.{Seen, sources_of}
+use Rattle.jt_slots.specs.Filters.{Filters}
+use Rattle.jt_slots.specs.TheFilters.{the_filters, filter_of, filter_parameters, parameters_of, with_defaults, defaults}
+use Rattle.jt_filters.specs.declared.filter_id.FilterId.{FilterId}
+use Rattle.jt_filters.specs.declared.filter_id.FilterId.TheVariants as f
+use Rattle.jt_filters.specs.FilterTable.{argument_names}
+use Rattle.jt_rules.specs.World.{World, world_of}
+use Rattle.jt_rules.specs.Rules.{Within, parameter_names, body_broken, stmt_broken, macro_broken, read_alone, all_used, unless, refused, templates_broken, chains_broken}
+use Rattle.jt_rules.specs.declared.error.ScopeError.{ScopeError}
+use Rattle.jt_rules.specs.declared.error.ScopeError.TheVariants as error
+use Rattle.jt_meaning.specs.Ascends.{IsBefore, Above, Ascends}
+use Rattle.jt_meaning.specs.Layout.{names_in, names}
+use Rattle.jt_meaning.specs.Measure.{HasFewNames, IsFew, AreFew}
+use Rattle.jt_meaning.proofs.Among.{Among, AllAmong}
+use Rattle.jt_meaning.proofs.Reading.{same_text, is_same, same_is, no_both, among_front, among_back, each_among}
+use Rattle.jt_meaning.proofs.Scopes.{ascending_from, ascending_among, all_among, templates_bind}
+
+-- ---- names in order ascend strictly
+
+behind : (x y : Text) → bytes_eq y x ≡ false → is_lt (slice_cmp nat_cmp x y) ≡ false → IsBefore y x
+behind x y e l = through (slice_cmp nat_cmp x y) l (nat_list_cmp_total.antisymm y x)
+  where
+    through : (o : Ordering) → is_lt o ≡ false → slice_cmp nat_cmp y x ≡ ordering_reverse o → IsBefore y x
+    through Less l r = absurd cc
+    through Equal l r = absurd (never (sym (ap is_eq r) ∙ is_eq-slice_cmp y x ∙ e))
+      where
+        never : true ≡ false → ⊥
+        never q = cc
+    through Greater l r = ap is_lt r
+
+inserted_above : (x z : Text) (ns : List Text) → IsBefore z x → Above z ns → Above z (inserted x ns)
+inserted_above x z [] l h = (l, tt)
+inserted_above x z (y ∷ ys) l h = through (bytes_eq y x) (is_lt (slice_cmp nat_cmp x y)) refl refl (λ g. inserted_above x y ys g h.1)
+  where
+    through : (b c : Bool) → bytes_eq y x ≡ b → is_lt (slice_cmp nat_cmp x y) ≡ c → (IsBefore y x → Above y (inserted x ys)) → Above z (if b then y ∷ ys else if c then x ∷ y ∷ ys else y ∷ inserted x ys)
+    through true c e f g = h
+    through false true e f g = (l, (f, h.1))
+    through false false e f g = (h.0, g (behind x y e f))
+
+inserted_ascends : (x : Text) (ns : List Text) → Ascends ns → Ascends (inserted x ns)
+inserted_ascends x [] h = tt
+inserted_ascends x (y ∷ ys) h = through (bytes_eq y x) (is_lt (slice_cmp nat_cmp x y)) refl refl
+  where
+    through : (b c : Bool) → bytes_eq y x ≡ b → is_lt (slice_cmp nat_cmp x y) ≡ c → Ascends (if b then y ∷ ys else if c then x ∷ y ∷ ys else y ∷ inserted x ys)
+    through true c e f = h
+    through false true e f = (f, h)
+    through false false e f = inserted_above x y ys (behind x y e f) h
+
+all_ascend : (xs ns : List Text) → Ascends ns → Ascends (all_inserted xs ns)
+all_ascend [] ns h = h
+all_ascend (x ∷ xs) ns h = all_ascend xs (inserted x ns) (inserted_ascends x ns h)
+
+pub ascending_ascends : (xs : List Text) → Ascends (ascending xs)
+ascending_ascends xs = all_ascend xs [] tt
+
+pub names_ascend : (world : World) (hs : List Home) (h : Home) → Ascends (names_in world hs h)
+names_ascend world [] h = tt
+names_ascend world (k ∷ ks) h = through (bytes_eq k h) (names_ascend world ks h)
+  where
+    through : (b : Bool) → Ascends (names_in world ks h) → Ascends (if b then ascending (own_names world.sources h ++ flat_map (names_in world ks) (included world.sources h)) else names_in world ks h)
+    through true e = ascending_ascends (own_names world.sources h ++ flat_map (names_in world ks) (included world.sources h))
+    through false e = e
+
+-- ---- texts that differ, all among others, are no more than those
+
+abbrev Differs : List Text → Type 0
+Differs [] = Unit {0}
+Differs (x ∷ xs) = (Among x xs → ⊥) × Differs xs
+
+less_is : (o : Ordering) → is_lt o ≡ true → o ≡ Less
+less_is Less e = refl
+less_is Equal e = absurd cc
+less_is Greater e = absurd cc
+
+before_trans : (x y z : Text) → IsBefore x y → IsBefore y z → IsBefore x z
+before_trans x y z a b = ap is_lt (nat_list_cmp_total.trans x y z (less_is (slice_cmp nat_cmp x y) a) (less_is (slice_cmp nat_cmp y z) b))
+
+never_before : (x : Text) → IsBefore x x → ⊥
+never_before x a = through (slice_cmp nat_cmp x x) (less_is (slice_cmp nat_cmp x x) a) (nat_list_cmp_total.antisymm x x)
+  where
+    through : (o : Ordering) → o ≡ Less → o ≡ ordering_reverse o → ⊥
+    through Less e r = cc
+    through Equal e r = cc
+    through Greater e r = cc
+
+above_all : (z : Text) (ns : List Text) → Above z ns → (x : Text) → Among x ns → IsBefore z x
+above_all z [] h x i = absurd i
+above_all z (y ∷ ys) h x (inl e) = subst (λ w. IsBefore z w) e h.0
+above_all z (y ∷ ys) h x (inr i) = before_trans z y x h.0 (above_all y ys h.1 x i)
+
+above_differs : (z : Text) (ns : List Text) → Above z ns → (Among z ns → ⊥) × Differs ns
+above_differs z [] h = (λ i. i, tt)
+above_differs z (y ∷ ys) h = (λ i. never_before z (above_all z (y ∷ ys) h z i), above_differs y ys h.1)
+
+ascends_differs : (ns : List Text) → Ascends ns → Differs ns
+ascends_differs [] h = tt
+ascends_differs (y ∷ ys) h = above_differs y ys h
+
+removed : Text → List Text → List Text
+removed x [] = []
+removed x (y ∷ ys) = if bytes_eq y x then ys else y ∷ removed x ys
+
+removed_len : (x : Text) (ns : List Text) → Among x ns → suc (length (removed x ns)) ≤ length ns
+unfolding removed
+removed_len x [] i = absurd i
+removed_len x (y ∷ ys) i = through (bytes_eq y x) refl i (removed_len x ys)
+  where
+    through : (b : Bool) → bytes_eq y x ≡ b → Among x (y ∷ ys) → (Among x ys → suc (length (removed x ys)) ≤ length ys) → suc (length (if b then ys else y ∷ removed x ys)) ≤ suc (length ys)
+    through true e k r = omega arith
+    through false e (inl p) r = absurd (no_both (is_same y x p) e)
+    through false e (inr k) r = let l = r k in omega (arith, l)
+
+removed_keeps : (x z : Text) (ns : List Text) → (x ≡ z → ⊥) → Among z ns → Among z (removed x ns)
+unfolding removed
+removed_keeps x z [] d i = absurd i
+removed_keeps x z (y ∷ ys) d i = through (bytes_eq y x) refl i (removed_keeps x z ys d)
+  where
+    through : (b : Bool) → bytes_eq y x ≡ b → Among z (y ∷ ys) → (Among z ys → Among z (removed x ys)) → Among z (if b then ys else y ∷ removed x ys)
+    through true e (inl p) r = absurd (d (sym (same_text y x e) ∙ p))
+    through true e (inr k) r = k
+    through false e (inl p) r = inl p
+    through false e (inr k) r = inr (r k)
+
+no_more : (xs ns : List Text) → Differs xs → AllAmong xs ns → length xs ≤ length ns
+no_more [] ns d a = omega arith
+no_more (x ∷ xs) ns d a =
+    let r = no_more xs (removed x ns) d.1 (all_among xs (removed x ns) (λ z i. removed_keeps x z ns (λ e. d.0 (subst (λ w. Among w xs) (sym e) i)) (each_among xs ns a.1 z i))) in
+    let l = removed_len x ns a.0 in
+    omega (arith, r, l)
+
+-- ---- names that are contained are among them
+
+contained : (ns : List Text) (x : Text) → Contains ns x → Among x ns
+contained ns x c = at ns c.0 c.1 c.2
+  where
+    at : (ns : List Text) (k : ℕ) → k < length ns → slice_index_or ns k x ≡ x → Among x ns
+    at [] k l e = absurd (omega (arith, l))
+    at (y ∷ ys) zero l e = inl e
+    at (y ∷ ys) (suc k) l e = inr (at ys k (let m : k < length ys = omega (arith, l) in m) e)
+
+all_contained : (ns xs : List Text) → AllByRecursion (λ x. Contains ns x) xs → AllAmong xs ns
+all_contained ns [] h = tt
+all_contained ns (x ∷ xs) h = (contained ns x h.0, all_contained ns xs h.1)
+
+-- ---- the names of a chain come from the chains of the order
+
+both_among : (xs ys ns : List Text) → AllAmong xs ns → AllAmong ys ns → AllAmong (xs ++ ys) ns
+both_among [] ys ns a b = b
+both_among (x ∷ xs) ys ns a b = (a.0, both_among xs ys ns a.1 b)
+
+flat_from : (g : Home → List Text) (ms : List Home) (ns : List Text) → ((m : Home) → AllAmong (g m) ns) → AllAmong (flat_map g ms) ns
+flat_from g [] ns h = tt
+flat_from g (m ∷ ms) ns h = both_among (g m) (flat_map g ms) ns (h m) (flat_from g ms ns h)
+
+pub names_from : (world : World) (ns : List Text) (hs : List Home) → AllByRecursion (λ h. AllAmong (own_names world.sources h) ns) hs → (h : Home) → AllAmong (names_in world hs h) ns
+names_from world ns [] a h = tt
+names_from world ns (k ∷ ks) a h = through (bytes_eq k h) refl (λ m. names_from world ns ks a.1 m)
+  where
+    through : (b : Bool) → bytes_eq k h ≡ b → ((m : Home) → AllAmong (names_in world ks m) ns) → AllAmong (if b then ascending (own_names world.sources h ++ flat_map (names_in world ks) (included world.sources h)) else names_in world ks h) ns
+    through true e r =
+        ascending_among (own_names world.sources h ++ flat_map (names_in world ks) (included world.sources h)) ns
+        (both_among (own_names world.sources h) (flat_map (names_in world ks) (included world.sources h)) ns (subst (λ z. AllAmong (own_names world.sources z) ns) (same_text k h e) a.0)
+        (flat_from (names_in world ks) (included world.sources h) ns r))
+    through false e r = r h
+
+-- ---- macros have parameters that differ
+
+none_first : (a b : Option ScopeError) → option_or a b ≡ None → a ≡ None
+none_first None b e = refl
+none_first (Some x) b e = absurd (some_none e)
+  where
+    some_none : Some x ≡ None → ⊥
+    some_none q = cc
+
+none_second : (a b : Option ScopeError) → option_or a b ≡ None → b ≡ None
+none_second None b e = e
+none_second (Some x) b e = absurd (some_none e)
+  where
+    some_none : Some x ≡ None → ⊥
+    some_none q = cc
+
+unless_none : (b : Bool) → unless (not b) ≡ None → b ≡ false
+unless_none true e = absurd (some_none e)
+  where
+    some_none : Some error.BadArguments ≡ None → ⊥
+    some_none q = cc
+unless_none false e = refl
+
+repeated_differs : (xs : List Text) → repeated xs ≡ false → Differs xs
+repeated_differs [] e = tt
+repeated_differs (x ∷ xs) e = let p = or_false (among x xs) e in (λ i. no_both (is_among xs i) p.0, repeated_differs xs p.1)
+  where
+    or_false : (b : Bool) {c : Bool} → (b || c) ≡ false → (b ≡ false) × (c ≡ false)
+    or_false true e = absurd (never e)
+      where
+        never : true ≡ false → ⊥
+        never q = cc
+    or_false false e = (refl, e)
+
+    is_among : (ys : List Text) → Among x ys → among x ys ≡ true
+    is_among [] i = absurd i
+    is_among (y ∷ ys) (inl p) = ap (λ b. b || among x ys) (is_same y x p)
+    is_among (y ∷ ys) (inr i) = later (bytes_eq y x) (is_among ys i)
+      where
+        later : (b : Bool) → among x ys ≡ true → (b || among x ys) ≡ true
+        later true r = refl
+        later false r = r
+
+module _ (world : World) (h : Home) where
+  abbrev at_top : Within
+  at_top = record { in_loop = false; in_block = false }
+
+  abbrev OneEach : MacroBody → Type 0
+  OneEach m = repeated (parameter_names m.parameters) ≡ false
+
+  macro_named : (x : Text) (ps : List Parameter) → macro_broken world h x ps ≡ None → repeated (parameter_names ps) ≡ false
+  macro_named x ps e =
+      unless_none (repeated (parameter_names ps))
+      (none_first (unless (not (repeated (parameter_names ps)))) _ (none_second (all_used world h (parameter_names ps)) _ (none_second (read_alone x) _ e)))
+
+  macros_named : (t : Text) (c : Body) → body_broken world h c at_top ≡ None → AllByRecursion OneEach (macros_in t c)
+  macros_named t end e = tt
+  macros_named t (stmt (macro line x ps body) rest) e =
+      let s = none_first (stmt_broken world h (macro line x ps body) at_top) (body_broken world h rest at_top) e in
+      (macro_named x ps (none_first (macro_broken world h x ps) (body_broken world h body at_top) s), macros_named t rest (none_second (stmt_broken world h (macro line x ps body) at_top) (body_broken world h rest at_top) e))
+  macros_named t (stmt (data_of d) rest) e = macros_named t rest (none_second (stmt_broken world h (data_of d) at_top) (body_broken world h rest at_top) e)
+  macros_named t (stmt (print line x) rest) e = macros_named t rest (none_second (stmt_broken world h (print line x) at_top) (body_broken world h rest at_top) e)
+  macros_named t (stmt (choose bs other) rest) e = macros_named t rest (none_second (stmt_broken world h (choose bs other) at_top) (body_broken world h rest at_top) e)
+  macros_named t (stmt (for_each line xs x c body other) rest) e = macros_named t rest (none_second (stmt_broken world h (for_each line xs x c body other) at_top) (body_broken world h rest at_top) e)
+  macros_named t (stmt (set line xs x) rest) e = macros_named t rest (none_second (stmt_broken world h (set line xs x) at_top) (body_broken world h rest at_top) e)
+  macros_named t (stmt (set_block line x body) rest) e = macros_named t rest (none_second (stmt_broken world h (set_block line x body) at_top) (body_broken world h rest at_top) e)
+  macros_named t (stmt (with_values line ps body) rest) e = macros_named t rest (none_second (stmt_broken world h (with_values line ps body) at_top) (body_broken world h rest at_top) e)
+  macros_named t (stmt (filter_block line fs body) rest) e = macros_named t rest (none_second (stmt_broken world h (filter_block line fs body) at_top) (body_broken world h rest at_top) e)
+  macros_named t (stmt (autoescape line on body) rest) e = macros_named t rest (none_second (stmt_broken world h (autoescape line on body) at_top) (body_broken world h rest at_top) e)
+  macros_named t (stmt (include line n i w) rest) e = macros_named t rest (none_second (stmt_broken world h (include line n i w) at_top) (body_broken world h rest at_top) e)
+  macros_named t (stmt (extends line n) rest) e = macros_named t rest (none_second (stmt_broken world h (extends line n) at_top) (body_broken world h rest at_top) e)
+  macros_named t (stmt (block line x s r body) rest) e = macros_named t rest (none_second (stmt_broken world h (block line x s r body) at_top) (body_broken world h rest at_top) e)
+
+  abbrev Few : MacroBody → Type 0
+  Few m = length m.parameters ≤ 200
+
+  mapped_len : {A B : Type 0} (g : A → B) (xs : List A) → length (map g xs) ≡ length xs
+  mapped_len g [] = refl
+  mapped_len g (x ∷ xs) = ap suc (mapped_len g xs)
+
+  module _ (ns : List Text) (few : length ns ≤ 200) where
+    named_few : (m : MacroBody) → OneEach m → AllAmong (map (λ p. p.name) m.parameters) ns → Few m
+    named_few m e a = let l = no_more (parameter_names m.parameters) ns (repeated_differs (parameter_names m.parameters) e) a in let k = mapped_len (λ (p : Parameter). p.name) m.parameters in omega (arith, l, k, few)
+
+    body_few : (t : Text) (c : Body) → AllAmong (body_names c) ns → AllByRecursion OneEach (macros_in t c) → AllByRecursion Few (macros_in t c)
+    body_few t end a o = tt
+    body_few t (stmt (macro line x ps body) rest) a o =
+        let b = among_front (map (λ p. p.name) ps ++ body_names body) (body_names rest) ns a in
+        (named_few (record { name = x; template = t; parameters = ps; body = body }) o.0 (among_front (map (λ p. p.name) ps) (body_names body) ns b), body_few t rest (among_back (map (λ p. p.name) ps ++ body_names body) (body_names rest) ns a) o.1)
+    body_few t (stmt (data_of d) rest) a o = body_few t rest a o
+    body_few t (stmt (print line x) rest) a o = body_few t rest (among_back (stmt_names (print line x)) (body_names rest) ns a) o
+    body_few t (stmt (choose bs other) rest) a o = body_few t rest (among_back (stmt_names (choose bs other)) (body_names rest) ns a) o
+    body_few t (stmt (for_each line xs x c body other) rest) a o = body_few t rest (among_back (stmt_names (for_each line xs x c body other)) (body_names rest) ns a) o
+    body_few t (stmt (set line xs x) rest) a o = body_few t rest (among_back (stmt_names (set line xs x)) (body_names rest) ns a) o
+    body_few t (stmt (set_block line x body) rest) a o = body_few t rest (among_back (stmt_names (set_block line x body)) (body_names rest) ns a) o
+    body_few t (stmt (with_values line ps body) rest) a o = body_few t rest (among_back (stmt_names (with_values line ps body)) (body_names rest) ns a) o
+    body_few t (stmt (filter_block line fs body) rest) a o = body_few t rest (among_back (stmt_names (filter_block line fs body)) (body_names rest) ns a) o
+    body_few t (stmt (autoescape line on body) rest) a o = body_few t rest (among_back (stmt_names (autoescape line on body)) (body_names rest) ns a) o
+    body_few t (stmt (include line n i w) rest) a o = body_few t rest a o
+    body_few t (stmt (extends line n) rest) a o = body_few t rest a o
+    body_few t (stmt (block line x s r body) rest) a o = body_few t rest (among_back (stmt_names (block line x s r body)) (body_names rest) ns a) o
+
+    all_append : {A : Type 0} (P : A → Type 0) (xs ys : List A) → AllByRecursion P xs → AllByRecursion P ys → AllByRecursion P (xs ++ ys)
+    all_append P [] ys a b = b
+    all_append P (x ∷ xs) ys a b = (a.0, all_append P xs ys a.1 b)
+
+    macros_few : (ts : List Template) → AllAmong (flat_map (λ t. body_names t.body) ts) ns → templates_broken world h ts ≡ None → AllByRecursion Few (flat_map (λ t. macros_in t.name t.body) ts)
+    macros_few [] a e = tt
+    macros_few (t ∷ ts) a e =
+        let here = none_first (option_or (body_broken world h t.body at_top) _) (templates_broken world h ts) e in
+        all_append Few (macros_in t.name t.body) (flat_map (λ u. macros_in u.name u.body) ts)
+        (body_few t.name t.body (among_front (body_names t.body) (flat_map (λ u. body_names u.body) ts) ns a) (macros_named t.name t.body (none_first (body_broken world h t.body at_top) _ here)))
+        (macros_few ts (among_back (body_names t.body) (flat_map (λ u. body_names u.body) ts) ns a) (none_second (option_or (body_broken world h t.body at_top) _) (templates_broken world h ts) e))
+
+-- ---- filters
+
+defaults_len : (xs : List Text) (ds : List (Option Rattle.jt_expr.specs.Trees.Literal)) → length (with_defaults xs ds) ≤ length ds
+defaults_len [] ds = omega arith
+defaults_len (x ∷ xs) [] = omega arith
+defaults_len (x ∷ xs) (d ∷ ds) = let l = defaults_len xs ds in omega (arith, l)
+
+three : (i : FilterId) → length (defaults i) ≤ 3
+three i = search arith
+
+filters_few : (n : ℕ) → length (the_filters.parameters n) ≤ 3
+unfolding the_filters
+filters_few n = through (filter_of n)
+  where
+    through : (o : Option FilterId) → length (parameters_of o) ≤ 3
+    through None = omega arith
+    through (Some i) = let a = defaults_len (argument_names i) (defaults i) in let b = three i in omega (arith, a, b)
+
+-- ---- all chains
+
+chains_few : (c : Seen) (ns : List Text) → length ns ≤ 200 → ((k : Home) → AllAmong (names (world_of c) c.order k) ns) → (hs : List Home) → AllByRecursion (λ h. AllAmong (own_names (sources_of c) h) ns) hs → chains_broken (world_of c) hs ≡ None → ((k : Home) → HasFewNames (world_of c) c.order k)
+    → AllByRecursion (IsFew (world_of c) c.order) hs
+chains_few c ns l from [] a e n = tt
+chains_few c ns l from (h ∷ hs) a e n = (
+  record { names = n; macros = macros_few (world_of c) h ns l (templates (sources_of c) h) a.0 (none_first (templates_broken (world_of c) h (templates (sources_of c) h)) (chains_broken (world_of c) hs) e); filters = filters_few },
+  chains_few c ns l from hs a.1 (none_second (templates_broken (world_of c) h (templates (sources_of c) h)) (chains_broken (world_of c) hs) e) n,
+)
+
+pub few_by : (c : Seen) → NamesFew c → chains_broken (world_of c) c.order ≡ None → AreFew (world_of c) c.order
+few_by c n e =
+    let each = all_own c.order n.all in
+    let from = λ (k : Home). names_from (world_of c) n.names c.order each k in
+    chains_few c n.names n.few from c.order each e (λ k. (
+      (let l = no_more (names (world_of c) c.order k) n.names (ascends_differs (names (world_of c) c.order k) (names_ascend (world_of c) c.order k)) (from k) in let f = n.few in omega (arith, l, f)),
+      scopes_few k (among k c.order) refl,
+    ))
+  where
+    all_own : (hs : List Home) → AllByRecursion (λ h. AllByRecursion (λ x. Contains n.names x) (own_names (sources_of c) h)) hs → AllByRecursion (λ h. AllAmong (own_names (sources_of c) h) n.names) hs
+    all_own [] a = tt
+    all_own (h ∷ hs) a = (all_contained n.names (own_names (sources_of c) h) a.0, all_own hs a.1)
+
+    own_of : (k : Home) (hs : List Home) → among k hs ≡ true → AllByRecursion (λ h. AllAmong (own_names (sources_of c) h) n.names) hs → AllAmong (own_names (sources_of c) k) n.names
+    own_of k [] e a = absurd (no_both e refl)
+    own_of k (h ∷ hs) e a = through (bytes_eq h k) refl e (λ f. own_of k hs f a.1)
+      where
+        through : (b : Bool) → bytes_eq h k ≡ b → (b || among k hs) ≡ true → (among k hs ≡ true → AllAmong (own_names (sources_of c) k) n.names) → AllAmong (own_names (sources_of c) k) n.names
+        through true p e f = subst (λ z. AllAmong (own_names (sources_of c) z) n.names) (same_text h k p) a.0
+        through false p e f = f e
+
+    scopes_few : (k : Home) (b : Bool) → among k c.order ≡ b → length (if b then scope_names (sources_of c) k else []) ≤ 200
+    scopes_few k true p =
+        let bs = flat_map (λ t. scope_names_in t.body) (templates (sources_of c) k) in
+        let a = ascending_among bs n.names (templates_bind (templates (sources_of c) k) n.names (own_of k c.order p (all_own c.order n.all))) in
+        let l = no_more (ascending bs) n.names (ascends_differs (ascending bs) (ascending_ascends bs)) a in
+        let f = n.few in
+        omega (arith, l, f)
+    scopes_few k false p = omega arith

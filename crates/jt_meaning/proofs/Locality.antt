@@ -1,0 +1,355 @@
+-- What is resolved uses at most as many locals as hold something, and one more for each token.
+use Rattle.std.proofs.Common.{◌≡◌, ℕ, zero, suc, ◌+◌, ◌*◌, max, min, ◌≤◌, Bool, true, false, if◌then◌else◌, List, [], ◌∷◌, ◌++◌, length, Option, Some, None, arith, refl, length-append}
+use Rattle.std.specs.Option.{is_none}
+use Rattle.std.specs.List.{AllByRecursion}
+use Rattle.std.specs.Str.{bytes_eq}
+use Rattle.std.specs.Prelude.{codes, map}
+use Rattle.jt_value.specs.Tree as tree
+use Rattle.jt_ops.specs.declared.op_id.OpId.{OpId}
+use Rattle.jt_ops.specs.declared.op_id.OpId.TheVariants as op
+use Rattle.jt_ops.specs.declared.test_id.TestId.{TestId}
+use Rattle.jt_expr.specs.Trees as written
+use Rattle.jt_expr.specs.Trees.{Expr, Literal, constant, name, group, list_of, map_of, attribute, item, call, filter, test, unary, binary, when, choice, Exprs, no_exprs, expr, Pairs, no_pairs, pair, weight, literal_weight, operator_weight, is_weight, enclosed, perhaps_enclosed, exprs_weight, pairs_weight}
+use Rattle.jt_expr.specs.declared.tree.BinaryOperator.{BinaryOperator}
+use Rattle.jt_expr.specs.declared.tree.BinaryOperator.TheVariants as o
+use Rattle.jt_meaning.specs.Operators.{Form, operation, negation, conjunction, disjunction, form}
+use Rattle.jt_slots.specs.Got.{Place}
+use Rattle.jt_slots.specs.Tests.{test_named}
+use Rattle.jt_inherit.specs.Uses.{count, keywords, set_by, set_in, set_under}
+use Rattle.jt_parse.specs.Trees.{Text, Parameter, Filtering, Stmt, data_of, print, choose, for_each, set, set_block, with_values, filter_block, autoescape, macro, include, extends, block, Body, end, stmt, Branches, no_branches, branch, condition_weight, filtering_weight}
+use Rattle.jt_inherit.specs.Chain.{Home, MacroBody, macros, macro_of, Callee, a_macro, a_range, a_super, a_block, a_cycle, no_callee, named_alone, named_in, callee, is_loop}
+use Rattle.jt_slots.specs.Loops.{Field, field_named}
+use Rattle.jt_slots.specs.Filters.{default_value, some_given}
+use Rattle.jt_parse.specs.Texts.{among}
+use Rattle.jt_rules.specs.World.{World}
+use Rattle.jt_meaning.specs.Expressions.{filter_parameters}
+use Rattle.jt_meaning.specs.Layout.{Table, slot_in, globals_from, names, numbered_of, globals, block_parameters, is_scoped, default_place, first_slot, unit, of_chain}
+use Rattle.jt_slots.specs.Slots as slots
+use Rattle.jt_slots.specs.Slots.{Slot, local, global, SExpr, SRow, Targets, one, several, SBody, variable, run}
+use Rattle.jt_slots.specs.Pool.{Constant, own, known}
+use Rattle.jt_meaning.specs.Resolve.{value_or, read_from, turned_round, tested_by, filtered_by, in_form, field_from, followed, locals_from, fresh, fresh_targets, kept_slots, set_targets, filled, filled_some, first_locals, reads, handed_on, Part, Spot, place, grown, bound_table, bound_all, slot_of, copied, scoped, next_given, first_body, invoked_body, invoked_super, invoked, resolved, resolved_row, resolved_asides, resolved_entries, resolved_condition, resolved_filters, resolved_values, placed_body, resolved_stmt, resolved_body, resolved_choice}
+use Rattle.jt_slots.specs.Locals.{slot_locals, slots_locals, targets_locals, expr_locals, row_locals, condition_locals, stmt_locals, body_locals}
+use Rattle.jt_meaning.specs.Measure.{stmt_own, body_own, branch_own, IsFew}
+use Rattle.jt_meaning.proofs.Sizing.{expr_some, is_some_weight}
+
+names_few : (ps : Pairs) → length (keywords ps) ≤ pairs_weight 2 ps
+names_few no_pairs = omega arith
+names_few (pair k a ps) = omega (arith, names_few ps)
+
+mutual
+  by_few : (s : Stmt) → length (set_by s) ≤ stmt_own s
+  by_few (data_of t) = omega arith
+  by_few (print line e) = omega arith
+  by_few (choose bs other) = omega (arith, under_few bs, in_few other, length-append (set_under bs) (set_in other))
+  by_few (for_each line xs e c body other) = omega (arith, in_few other)
+  by_few (set line xs e) = omega arith
+  by_few (set_block line x body) = omega arith
+  by_few (with_values line ps body) = omega arith
+  by_few (filter_block line fs body) = omega arith
+  by_few (autoescape line on body) = omega arith
+  by_few (macro line x ps body) = omega arith
+  by_few (include line m missing with_context) = omega arith
+  by_few (extends line m) = omega arith
+  by_few (block line x is required body) = omega arith
+
+  pub in_few : (b : Body) → length (set_in b) ≤ body_own b
+  in_few end = omega arith
+  in_few (stmt s rest) = omega (arith, by_few s, in_few rest, length-append (set_by s) (set_in rest))
+
+  under_few : (bs : Branches) → length (set_under bs) ≤ branch_own bs
+  under_few no_branches = omega arith
+  under_few (branch line c body rest) = omega (arith, in_few body, under_few rest, length-append (set_in body) (set_under rest))
+
+module _ (n : ℕ) (some : 1 ≤ n) where
+  -- a table's locals are below the limit
+  abbrev pub Below : Table → Type 0
+  Below t = AllByRecursion (λ e. slot_locals e.1 ≤ n) t
+
+  abbrev SlotBelow : Option Slot → Type 0
+  SlotBelow None = Unit {0}
+  SlotBelow (Some s) = slot_locals s ≤ n
+
+  slot_below : (t : Table) (x : Text) → Below t → SlotBelow (slot_in x t)
+  slot_below [] x h = tt
+  slot_below (b ∷ bs) x h = through (bytes_eq b.0 x) (slot_below bs x h.1)
+    where
+      through : (c : Bool) → SlotBelow (slot_in x bs) → SlotBelow (if c then Some b.1 else slot_in x bs)
+      through true g = h.0
+      through false g = g
+
+  of_below : (t : Table) (x : Text) → Below t → slot_locals (slot_of x t) ≤ n
+  of_below [] x h = omega (arith, some)
+  of_below (b ∷ bs) x h = through (bytes_eq b.0 x) (of_below bs x h.1)
+    where
+      through : (c : Bool) → slot_locals (slot_of x bs) ≤ n → slot_locals (if c then b.1 else slot_of x bs) ≤ n
+      through true g = h.0
+      through false g = g
+
+  value_local : (s : Option Slot) (k : Constant) → SlotBelow s → expr_locals (value_or s k) ≤ n
+  value_local None k h = omega arith
+  value_local (Some s) k h = h
+
+  from_below : (m : ℕ) (xs : List Text) → m + length xs ≤ n → Below (locals_from m xs)
+  from_below m [] h = tt
+  from_below m (x ∷ xs) h = (omega (arith, h), from_below (suc m) xs (omega (arith, h)))
+
+  pub globals_below : (m : ℕ) (xs : List Text) → Below (globals_from m xs)
+  globals_below m [] = tt
+  globals_below m (x ∷ xs) = (omega arith, globals_below (suc m) xs)
+
+  pub bound_below : (xs : List Text) (m : ℕ) (t : Table) → m + length xs ≤ n → Below t → Below (bound_table xs m t)
+  bound_below [] m t h g = g
+  bound_below (x ∷ xs) m t h g = bound_below xs (suc m) ((x, local m) ∷ t) (omega (arith, h)) (omega (arith, h), g)
+
+  field_local : (f : Option Field) → expr_locals (field_from f) ≡ 0
+  field_local None = refl
+  field_local (Some f) = refl
+
+  either_local : (b : Bool) (x y : SExpr Constant) → expr_locals x ≤ n → expr_locals y ≤ n → expr_locals (if b then x else y) ≤ n
+  either_local true x y h k = h
+  either_local false x y h k = k
+
+  turned_local : (b : Bool) (e : SExpr Constant) → expr_locals (turned_round b e) ≤ expr_locals e
+  turned_local false e = omega arith
+  turned_local true e = omega arith
+
+  tested_local : (t : Option TestId) (es : SRow Constant) → expr_locals (tested_by t es) ≤ row_locals es
+  tested_local None es = omega arith
+  tested_local (Some t) es = omega arith
+
+  filtered_local : (f : Option ℕ) (b : Bool) (es : SRow Constant) → expr_locals (filtered_by f b es) ≤ row_locals es
+  filtered_local None b es = omega arith
+  filtered_local (Some f) b es = omega arith
+
+  form_local : (f : Form) (a b : SExpr Constant) → expr_locals (in_form f a b) ≤ max (expr_locals a) (expr_locals b)
+  form_local (operation o) a b = omega arith
+  form_local (negation o) a b = omega arith
+  form_local conjunction a b = omega arith
+  form_local disjunction a b = omega arith
+
+  filled_local : (ps : List Parameter) (m d : ℕ) (ks : Table) → Below ks → row_locals (filled ps m d ks) ≤ n
+  filled_local [] m d ks h = omega arith
+  filled_local (p ∷ ps) (suc m) d ks h = filled_local ps m (suc d) ks h
+  filled_local (p ∷ ps) zero d ks h = omega (arith, value_local (slot_in p.name ks) (known d) (slot_below ks p.name h), filled_local ps zero (suc d) ks h)
+
+  some_local : (ps : List Parameter) (m : ℕ) (xs : List Text) (ks : Table) → Below ks → row_locals (filled_some ps m xs ks) ≤ n
+  some_local [] m xs ks h = omega arith
+  some_local (p ∷ ps) (suc m) xs ks h = some_local ps m xs ks h
+  some_local (p ∷ ps) zero xs ks h = through (some_given (p ∷ ps) xs) (some_local ps zero xs ks h)
+    where
+      through : (b : Bool) → row_locals (filled_some ps zero xs ks) ≤ n → row_locals (if b then slots.item (value_or (slot_in p.name ks) (own (default_value p.default))) (filled_some ps zero xs ks) else slots.none) ≤ n
+      through true g = omega (arith, g, value_local (slot_in p.name ks) (own (default_value p.default)) (slot_below ks p.name h))
+      through false g = omega arith
+
+  first_local : (m : ℕ) (xs : List Text) → m + length xs ≤ n → row_locals (first_locals m xs) ≤ n
+  first_local m [] h = omega arith
+  first_local m (x ∷ xs) h = omega (arith, h, first_local (suc m) xs (omega (arith, h)))
+
+  reads_local : (t : Table) (xs : List Text) → Below t → row_locals (reads t xs) ≤ n
+  reads_local t [] h = omega arith
+  reads_local t (x ∷ xs) h = omega (arith, value_local (slot_in x t) (known 0) (slot_below t x h), reads_local t xs h)
+
+  fresh_each : (m : ℕ) (xs : List Text) → m + length xs ≤ n → slots_locals (fresh m xs) ≤ n
+  fresh_each m [] h = omega arith
+  fresh_each m (x ∷ xs) h = omega (arith, h, fresh_each (suc m) xs (omega (arith, h)))
+
+  fresh_local : (m : ℕ) (xs : List Text) → m + length xs ≤ n → targets_locals (fresh_targets m xs) ≤ n
+  fresh_local m [] h = omega arith
+  fresh_local m (x ∷ []) h = omega (arith, h)
+  fresh_local m (x ∷ (y ∷ ys)) h = fresh_each m (x ∷ (y ∷ ys)) h
+
+  kept_each : (t : Table) (xs : List Text) → Below t → slots_locals (kept_slots t xs) ≤ n
+  kept_each t [] h = omega arith
+  kept_each t (x ∷ xs) h = through (among x xs) (slot_in x t) (slot_below t x h) (kept_each t xs h)
+    where
+      either : (s : Option Slot) → SlotBelow s → slots_locals (kept_slots t xs) ≤ n → slots_locals (s ∷ kept_slots t xs) ≤ n
+      either None g k = k
+      either (Some s) g k = omega (arith, g, k)
+
+      through : (b : Bool) (s : Option Slot) → SlotBelow s → slots_locals (kept_slots t xs) ≤ n → slots_locals ((if b then None else s) ∷ kept_slots t xs) ≤ n
+      through true s g k = k
+      through false s g k = either s g k
+
+  set_local : (t : Table) (xs : List Text) → Below t → targets_locals (set_targets t xs) ≤ n
+  set_local t [] h = omega arith
+  set_local t (x ∷ []) h = of_below t x h
+  set_local t (x ∷ (y ∷ ys)) h = kept_each t (x ∷ (y ∷ ys)) h
+
+  pub followed_local : (a b : SBody Constant) → body_locals (followed a b) ≡ max (body_locals a) (body_locals b)
+  followed_local slots.end b = omega arith
+  followed_local (slots.stmt s rest) b = omega (arith, followed_local rest b)
+
+  pub copied_local : (p : Place) (t : Table) (m : ℕ) (xs : List Text) (b : SBody Constant) → m + length xs ≤ n → Below t → body_locals b ≤ n → body_locals (copied p t m xs b) ≤ n
+  copied_local p t m [] b h g k = k
+  copied_local p t m (x ∷ xs) b h g k = omega (arith, h, value_local (slot_in x t) (known 0) (slot_below t x g), copied_local p t (suc m) xs b (omega (arith, h)) g k)
+
+  handed_local : (p : Place) (t : Table) (m : ℕ) (xs : List Text) → Below t → body_locals (handed_on p t m xs) ≤ n
+  handed_local p t m [] h = omega arith
+  handed_local p t m (x ∷ xs) h = omega (arith, value_local (slot_in x t) (known 0) (slot_below t x h), handed_local p t (suc m) xs h)
+
+  abbrev Front : (SRow Constant → SRow Constant) → Type 0
+  Front f = (b : SRow Constant) → row_locals b ≤ n → row_locals (f b) ≤ n
+
+  module _ (world : World) (order : List Home) (few : (h : Home) (x : Text) → length (block_parameters world order h x) ≤ n) where
+    body_localed : (h : Home) (on : Bool) (i : Option ℕ) (es : SRow Constant) → row_locals es ≤ n → expr_locals (invoked_body world order h on i es) ≤ n
+    body_localed h on None es k = omega arith
+    body_localed h on (Some i) es k = k
+
+    super_localed : (sp : Spot) (p : Option Part) → expr_locals (invoked_super world order sp p) ≤ n
+    super_localed sp None = omega arith
+    super_localed sp (Some p) =
+        let xs = block_parameters world order sp.home p.name in
+        body_localed sp.home sp.escaping (next_given p.behind) (first_locals 0 xs) (first_local 0 xs (omega (arith, few sp.home p.name)))
+
+    invoked_localed : (c : Callee) (sp : Spot) (row asides : SRow Constant → SRow Constant) (m : ℕ) (ks : Table) → Below ks → Front row → Front asides → expr_locals (invoked world order c sp row asides m ks) ≤ n
+    invoked_localed (a_macro x) sp row asides m ks h r a =
+        let rest = filled x.parameters m (default_place world order sp.home x.name) ks in
+        r (asides rest) (a rest (filled_local x.parameters m (default_place world order sp.home x.name) ks h))
+    invoked_localed a_range sp row asides m ks h r a = r slots.none (omega arith)
+    invoked_localed a_super sp row asides m ks h r a = super_localed sp sp.part
+    invoked_localed (a_block x) sp row asides m ks h r a =
+        let t = globals world order sp.home in
+        let xs = block_parameters world order sp.home x in
+        body_localed sp.home sp.escaping (first_body (numbered_of world sp.home x)) (reads t xs) (reads_local t xs (globals_below (first_slot world order sp.home) (names world order sp.home)))
+    invoked_localed a_cycle sp row asides m ks h r a = omega (arith, r slots.none (omega arith))
+    invoked_localed no_callee sp row asides m ks h r a = omega arith
+
+    mutual
+      pub localed : (e : Expr) (sp : Spot) → Below sp.table → sp.free + weight e ≤ n → expr_locals (resolved world order e sp) ≤ n
+      localed (constant l) sp t k = omega arith
+      localed (name x) sp t k = value_local (slot_in x sp.table) (known 0) (slot_below sp.table x t)
+      localed (group a) sp t k = localed a sp t (omega (arith, k))
+      localed (list_of ts) sp t k = row_localed ts sp t (omega (arith, k)) slots.none (omega arith)
+      localed (map_of ps) sp t k = entries_localed ps sp t (omega (arith, k))
+      localed (attribute a x) sp t k =
+          either_local (is_loop a) (field_from (field_named x)) (slots.made (slots.operator op.Item) (slots.item (resolved world order a sp) (slots.item (slots.pooled (own (tree.text x))) slots.none)))
+          (omega (arith, field_local (field_named x))) (omega (arith, localed a sp t (omega (arith, k))))
+      localed (item a b) sp t k = omega (arith, localed a sp t (omega (arith, k)), localed b sp t (omega (arith, k)))
+      localed (call f ts ps) sp t k =
+          invoked_localed (callee (macros world.sources sp.home) f) sp (resolved_row world order ts sp) (resolved_asides world order ps sp) (count ts) (locals_from sp.free (keywords ps))
+          (from_below sp.free (keywords ps) (omega (arith, k, names_few ps))) (λ b h. row_localed ts sp t (omega (arith, k)) b h) (λ b h. asides_localed ps sp t (omega (arith, k)) b h)
+      localed (filter a x ts ps) sp t k =
+          let f = world.filters.named x in
+          let ks = locals_from sp.free (keywords ps) in
+          let rest = filled_some (filter_parameters world.filters f) (count ts) (keywords ps) ks in
+          let row = resolved_row world order ts sp (resolved_asides world order ps sp rest) in
+          omega (
+            arith,
+            filtered_local f sp.escaping (slots.item (resolved world order a sp) row),
+            localed a sp t (omega (arith, k)),
+            row_localed ts sp t (omega (arith, k)) (resolved_asides world order ps sp rest)
+                (asides_localed ps sp t (omega (arith, k)) rest (some_local (filter_parameters world.filters f) (count ts) (keywords ps) ks (from_below sp.free (keywords ps) (omega (arith, k, names_few ps))))),
+          )
+      localed (test a m x ts ps) sp t k =
+          let es = slots.item (resolved world order a sp) (resolved_row world order ts sp slots.none) in
+          omega (arith, turned_local m (tested_by (test_named x) es), tested_local (test_named x) es, localed a sp t (omega (arith, k)), row_localed ts sp t (omega (arith, k, is_some_weight m)) slots.none (omega arith))
+      localed (unary u a) sp t k = omega (arith, localed a sp t (omega (arith, k)))
+      localed (binary b x y) sp t k =
+          omega (arith, form_local (form sp.escaping b) (resolved world order x sp) (resolved world order y sp), localed x sp t (omega (arith, k)), localed y sp t (omega (arith, k)))
+      localed (when c a) sp t k = omega (arith, localed c sp t (omega (arith, k)), localed a sp t (omega (arith, k)))
+      localed (choice c a b) sp t k = omega (arith, localed c sp t (omega (arith, k)), localed a sp t (omega (arith, k)), localed b sp t (omega (arith, k)))
+
+      pub row_localed : (ts : Exprs) (sp : Spot) → Below sp.table → sp.free + exprs_weight ts ≤ n → (b : SRow Constant) → row_locals b ≤ n → row_locals (resolved_row world order ts sp b) ≤ n
+      row_localed no_exprs sp t k b h = h
+      row_localed (expr a ts) sp t k b h = omega (arith, localed a sp t (omega (arith, k)), row_localed ts sp t (omega (arith, k)) b h)
+
+      pub asides_localed : (ps : Pairs) (sp : Spot) → Below sp.table → sp.free + pairs_weight 2 ps ≤ n → (b : SRow Constant) → row_locals b ≤ n → row_locals (resolved_asides world order ps sp b) ≤ n
+      asides_localed no_pairs sp t k b h = h
+      asides_localed (pair x a ps) sp t k b h = omega (arith, k, localed a sp t (omega (arith, k)), asides_localed ps (grown sp) t (omega (arith, k)) b h)
+
+      entries_localed : (ps : Pairs) (sp : Spot) → Below sp.table → sp.free + pairs_weight 3 ps ≤ n → row_locals (resolved_entries world order ps sp) ≤ n
+      entries_localed no_pairs sp t k = omega arith
+      entries_localed (pair x a ps) sp t k = omega (arith, localed a sp t (omega (arith, k)), entries_localed ps sp t (omega (arith, k)))
+
+    -- ---- statements: the names that a scope sets have their locals when its statements begin
+
+    condition_localed : (c : Option Expr) (sp : Spot) → Below sp.table → sp.free + condition_weight c ≤ n → condition_locals (resolved_condition world order c sp) ≤ n
+    condition_localed None sp t k = omega arith
+    condition_localed (Some c) sp t k = localed c sp t (omega (arith, k))
+
+    filters_localed : (fs : List Filtering) (sp : Spot) (e : SExpr Constant) → Below sp.table → sp.free + filtering_weight fs ≤ n → expr_locals e ≤ n → expr_locals (resolved_filters world order fs sp e) ≤ n
+    filters_localed [] sp e t k h = h
+    filters_localed (f ∷ fs) sp e t k h =
+        let i = world.filters.named f.name in
+        let ks = locals_from sp.free (keywords f.keywords) in
+        let rest = filled_some (filter_parameters world.filters i) (count f.arguments) (keywords f.keywords) ks in
+        let row = resolved_row world order f.arguments sp (resolved_asides world order f.keywords sp rest) in
+        filters_localed fs sp (filtered_by i sp.escaping (slots.item e row)) t (omega (arith, k)) (omega (
+          arith,
+          filtered_local i sp.escaping (slots.item e row),
+          h,
+          row_localed f.arguments sp t (omega (arith, k)) (resolved_asides world order f.keywords sp rest)
+              (asides_localed f.keywords sp t (omega (arith, k)) rest (some_local (filter_parameters world.filters i) (count f.arguments) (keywords f.keywords) ks (from_below sp.free (keywords f.keywords) (omega (arith, k, names_few f.keywords))))),
+        ))
+
+    values_localed : (ps : Pairs) (sp : Spot) (line : ℕ) (b : SBody Constant) → Below sp.table → sp.free + pairs_weight 2 ps ≤ n → body_locals b ≤ n → body_locals (resolved_values world order ps sp line b) ≤ n
+    values_localed no_pairs sp line b t k h = h
+    values_localed (pair x e ps) sp line b t k h = omega (arith, k, localed e sp t (omega (arith, k)), values_localed ps (grown sp) line b t (omega (arith, k)) h)
+
+    placed_localed : (sp : Spot) (i : Option ℕ) (x : Text) (t : Table) → Below t → body_locals (placed_body world order sp i x t) ≤ n
+    placed_localed sp None x t h = omega arith
+    placed_localed sp (Some i) x t h = omega (arith, reads_local t (block_parameters world order sp.home x) h)
+
+    table_below : (b : Bool) (sp : Spot) → Below sp.table → Below (if b then sp.table else globals world order sp.home)
+    table_below true sp t = t
+    table_below false sp t = globals_below (first_slot world order sp.home) (names world order sp.home)
+
+    seen_below : (b : Bool) (t : Table) → Below t → Below (if b then t else [])
+    seen_below true t h = h
+    seen_below false t h = tt
+
+    include_localed : (sp : Spot) (line : ℕ) (m : Text) (c : Bool) (b : Bool) → Below sp.table
+        → body_locals (if b then slots.end else followed (handed_on (place sp line) (if c then sp.table else []) (first_slot world order m) (names world order m)) (slots.stmt (run (unit world order (of_chain m)) slots.none) slots.end)) ≤ n
+    include_localed sp line m c true t = omega arith
+    include_localed sp line m c false t =
+        let xs = names world order m in
+        let hs = handed_on (place sp line) (if c then sp.table else []) (first_slot world order m) xs in
+        omega (arith, followed_local hs (slots.stmt (run (unit world order (of_chain m)) slots.none) slots.end), handed_local (place sp line) (if c then sp.table else []) (first_slot world order m) xs (seen_below c sp.table t))
+
+    pub scope_localed : (b : Body) (sp : Spot) → Below sp.table → sp.free + body_own b ≤ n → body_locals (resolved_body world order b (bound_all (set_in b) sp)) ≤ n → body_locals (scoped (set_in b) sp (resolved_body world order b)) ≤ n
+    scope_localed b sp t k h = copied_local (place sp 1) sp.table sp.free (set_in b) (resolved_body world order b (bound_all (set_in b) sp)) (omega (arith, k, in_few b)) t h
+
+    mutual
+      pub stmt_localed : (s : Stmt) (sp : Spot) → Below sp.table → sp.free + stmt_own s ≤ n + length (set_by s) → body_locals (resolved_stmt world order s sp) ≤ n
+      stmt_localed (data_of x) sp t k = omega arith
+      stmt_localed (print line e) sp t k = omega (arith, localed e sp t (omega (arith, k)))
+      stmt_localed (choose bs other) sp t k =
+          let l = length-append (set_under bs) (set_in other) in
+          choice_localed bs sp t (omega (arith, k, l, in_few other)) (resolved_body world order other sp) (all_localed other sp t (omega (arith, k, l, under_few bs)))
+      stmt_localed (for_each line xs e c body other) sp t k =
+          let inner = bound_all xs sp in
+          omega (
+            arith,
+            fresh_local sp.free xs (omega (arith, k, in_few other)),
+            localed e sp t (omega (arith, k, in_few other)),
+            condition_localed c inner (bound_below xs sp.free sp.table (omega (arith, k, in_few other)) t) (omega (arith, k, in_few other)),
+            scope_localed body inner (bound_below xs sp.free sp.table (omega (arith, k, in_few other)) t) (omega (arith, k, in_few other)) (all_localed body (bound_all (set_in body) inner) (bound_below (set_in body) (sp.free + length xs) (bound_table xs sp.free sp.table) (omega (arith, k, in_few other, in_few body)) (bound_below xs sp.free sp.table (omega (arith, k, in_few other)) t)) (omega (arith, k, in_few other))),
+            all_localed other sp t (omega (arith, k)),
+          )
+      stmt_localed (set line xs e) sp t k = omega (arith, localed e sp t (omega (arith, k)), set_local sp.table xs t)
+      stmt_localed (set_block line x body) sp t k = omega (arith, of_below sp.table x t, scope_localed body sp (t) (omega (arith, k)) (all_localed body (bound_all (set_in body) sp) (bound_below (set_in body) (sp.free) (sp.table) (omega (arith, k, in_few body)) (t)) (omega (arith, k))))
+      stmt_localed (with_values line ps body) sp t k =
+          let inner = bound_all (keywords ps) sp in
+          values_localed ps sp line (scoped (set_in body) inner (resolved_body world order body)) t (omega (arith, k)) (scope_localed body inner (bound_below (keywords ps) sp.free sp.table (omega (arith, k, names_few ps)) t) (omega (arith, k, names_few ps)) (all_localed body (bound_all (set_in body) inner) (bound_below (set_in body) (sp.free + length (keywords ps)) (bound_table (keywords ps) sp.free sp.table) (omega (arith, k, names_few ps, in_few body)) (bound_below (keywords ps) sp.free sp.table (omega (arith, k, names_few ps)) t)) (omega (arith, k, names_few ps))))
+      stmt_localed (filter_block line fs body) sp t k =
+          omega (arith, k, scope_localed body (grown sp) (t) (omega (arith, k)) (all_localed body (bound_all (set_in body) (grown sp)) (bound_below (set_in body) (suc sp.free) (sp.table) (omega (arith, k, in_few body)) (t)) (omega (arith, k))), filters_localed fs (grown sp) (variable (local sp.free)) t (omega (arith, k)) (omega (arith, k)))
+      stmt_localed (autoescape line on body) sp t k =
+          let inner = record sp { escaping = on } in
+          scope_localed body inner (t) (omega (arith, k)) (all_localed body (bound_all (set_in body) inner) (bound_below (set_in body) (sp.free) (sp.table) (omega (arith, k, in_few body)) (t)) (omega (arith, k)))
+      stmt_localed (macro line x ps body) sp t k = omega arith
+      stmt_localed (include line m missing with_context) sp t k = include_localed sp line m with_context (is_none (world.sources m)) t
+      stmt_localed (extends line m) sp t k = omega arith
+      stmt_localed (block line x is required body) sp t k =
+          placed_localed sp (first_body (numbered_of world sp.home x)) x (if is then sp.table else globals world order sp.home) (table_below is sp t)
+
+      pub all_localed : (b : Body) (sp : Spot) → Below sp.table → sp.free + body_own b ≤ n + length (set_in b) → body_locals (resolved_body world order b sp) ≤ n
+      all_localed end sp t k = omega arith
+      all_localed (stmt s rest) sp t k =
+          let l = length-append (set_by s) (set_in rest) in
+          omega (arith, stmt_localed s sp t (omega (arith, k, l, in_few rest)), all_localed rest sp t (omega (arith, k, l, by_few s)), followed_local (resolved_stmt world order s sp) (resolved_body world order rest sp))
+
+      choice_localed : (bs : Branches) (sp : Spot) → Below sp.table → sp.free + branch_own bs ≤ n + length (set_under bs) → (other : SBody Constant) → body_locals other ≤ n → body_locals (resolved_choice world order bs sp other) ≤ n
+      choice_localed no_branches sp t k other h = h
+      choice_localed (branch line c body rest) sp t k other h =
+          let l = length-append (set_in body) (set_under rest) in
+          omega (arith, localed c sp t (omega (arith, k, l, in_few body, under_few rest)), all_localed body sp t (omega (arith, k, l, under_few rest)), choice_localed rest sp t (omega (arith, k, l, in_few body)) other h)

@@ -1,0 +1,356 @@
+-- What is resolved needs at most half as many entries as it has tokens, and besides as many as a call loads parameters.
+use Rattle.std.proofs.Common.{◌≡◌, ℕ, zero, suc, ◌+◌, ◌*◌, max, min, ◌≤◌, Bool, true, false, if◌then◌else◌, List, [], ◌∷◌, ◌++◌, length, Option, Some, None, arith, refl, sym, subst}
+use Rattle.std.specs.Option.{is_none}
+use Rattle.std.specs.List.{AllByRecursion}
+use Rattle.std.specs.Str.{bytes_eq}
+use Rattle.std.specs.Prelude.{codes, map}
+use Rattle.jt_value.specs.Tree as tree
+use Rattle.jt_ops.specs.declared.op_id.OpId.{OpId}
+use Rattle.jt_ops.specs.declared.op_id.OpId.TheVariants as op
+use Rattle.jt_ops.specs.declared.test_id.TestId.{TestId}
+use Rattle.jt_expr.specs.Trees as written
+use Rattle.jt_expr.specs.Trees.{Expr, Literal, constant, name, group, list_of, map_of, attribute, item, call, filter, test, unary, binary, when, choice, Exprs, no_exprs, expr, Pairs, no_pairs, pair, weight, literal_weight, operator_weight, is_weight, enclosed, perhaps_enclosed, exprs_weight, pairs_weight}
+use Rattle.jt_expr.specs.declared.tree.BinaryOperator.{BinaryOperator}
+use Rattle.jt_expr.specs.declared.tree.BinaryOperator.TheVariants as o
+use Rattle.jt_meaning.specs.Operators.{Form, operation, negation, conjunction, disjunction, form}
+use Rattle.jt_slots.specs.Got.{Place}
+use Rattle.jt_slots.specs.Tests.{test_named}
+use Rattle.jt_inherit.specs.Uses.{count, keywords, set_by, set_in, set_under}
+use Rattle.jt_parse.specs.Trees.{Text, Parameter, Filtering, Stmt, data_of, print, choose, for_each, set, set_block, with_values, filter_block, autoescape, macro, include, extends, block, Body, end, stmt, Branches, no_branches, branch, condition_weight, filtering_weight}
+use Rattle.jt_inherit.specs.Chain.{Home, MacroBody, macros, macro_of, Callee, a_macro, a_range, a_super, a_block, a_cycle, no_callee, named_alone, named_in, callee, is_loop}
+use Rattle.jt_slots.specs.Loops.{Field, field_named}
+use Rattle.jt_slots.specs.Filters.{default_value, some_given}
+use Rattle.jt_parse.specs.Texts.{among}
+use Rattle.jt_rules.specs.World.{World}
+use Rattle.jt_meaning.specs.Expressions.{filter_parameters}
+use Rattle.jt_meaning.specs.Layout.{Table, slot_in, names, numbered_of, globals, block_parameters, is_scoped, default_place, first_slot, unit, of_chain}
+use Rattle.jt_slots.specs.Slots as slots
+use Rattle.jt_slots.specs.Slots.{Slot, local, SExpr, SRow, Targets, one, several, SBody, variable, run}
+use Rattle.jt_slots.specs.Pool.{Constant, own, known}
+use Rattle.jt_meaning.specs.Resolve.{value_or, read_from, turned_round, tested_by, filtered_by, in_form, field_from, followed, locals_from, fresh, fresh_targets, kept_slots, set_targets, filled, filled_some, first_locals, reads, handed_on, Part, Spot, place, grown, bound_all, copied, scoped, next_given, first_body, invoked_body, invoked_super, invoked, resolved, resolved_row, resolved_asides, resolved_entries, resolved_condition, resolved_filters, resolved_values, placed_body, resolved_stmt, resolved_body, resolved_choice}
+use Rattle.jt_slots.specs.Size.{targets_height, expr_height, row_height, condition_height, stmt_height, body_height}
+use Rattle.jt_meaning.specs.Measure.{HasAtMost}
+use Rattle.jt_parse.specs.Trees.{stmt_bound, body_bound, branch_bound}
+use Rattle.jt_meaning.proofs.Free.{stmt_free, body_free, branch_free}
+use Rattle.jt_meaning.proofs.Sizing.{expr_some, operator_some, is_some_weight, kept_len, fresh_len}
+
+-- ---- parts
+
+either_low : (b : Bool) (x y : SExpr Constant) (n : ℕ) → 2 * expr_height x ≤ n → 2 * expr_height y ≤ n → 2 * expr_height (if b then x else y) ≤ n
+either_low true x y n h k = h
+either_low false x y n h k = k
+
+value_low : (s : Option Slot) (k : Constant) → expr_height (value_or s k) ≡ 1
+value_low None k = refl
+value_low (Some s) k = refl
+
+field_low : (f : Option Field) → expr_height (field_from f) ≡ 1
+field_low None = refl
+field_low (Some f) = refl
+
+turned_low : (b : Bool) (e : SExpr Constant) → expr_height (turned_round b e) ≤ max 1 (expr_height e)
+turned_low false e = omega arith
+turned_low true e = omega arith
+
+tested_low : (t : Option TestId) (es : SRow Constant) → expr_height (tested_by t es) ≤ max 1 (row_height es)
+tested_low None es = omega arith
+tested_low (Some t) es = omega arith
+
+filtered_low : (f : Option ℕ) (b : Bool) (es : SRow Constant) → expr_height (filtered_by f b es) ≤ max 1 (row_height es)
+filtered_low None b es = omega arith
+filtered_low (Some f) b es = omega arith
+
+form_low : (f : Form) (a b : SExpr Constant) → expr_height (in_form f a b) ≤ max (expr_height a) (max 2 (1 + expr_height b))
+form_low (operation o) a b = omega arith
+form_low (negation o) a b = omega arith
+form_low conjunction a b = omega arith
+form_low disjunction a b = omega arith
+
+filled_low : (ps : List Parameter) (n d : ℕ) (ks : Table) → row_height (filled ps n d ks) ≤ length ps
+filled_low [] n d ks = omega arith
+filled_low (p ∷ ps) (suc n) d ks = omega (arith, filled_low ps n (suc d) ks)
+filled_low (p ∷ ps) zero d ks = omega (arith, value_low (slot_in p.name ks) (known d), filled_low ps zero (suc d) ks)
+
+none_given : (ps : List Parameter) → some_given ps [] ≡ false
+none_given [] = refl
+none_given (p ∷ ps) = none_given ps
+
+-- at most the filter's parameters, and none where no name is given
+some_low : (ps : List Parameter) (n : ℕ) (xs : List Text) (ks : Table) → row_height (filled_some ps n xs ks) ≤ length ps
+some_low [] n xs ks = omega arith
+some_low (p ∷ ps) (suc n) xs ks = omega (arith, some_low ps n xs ks)
+some_low (p ∷ ps) zero xs ks = through (some_given (p ∷ ps) xs) (some_low ps zero xs ks)
+  where
+    through : (b : Bool) → row_height (filled_some ps zero xs ks) ≤ length ps → row_height (if b then slots.item (value_or (slot_in p.name ks) (own (default_value p.default))) (filled_some ps zero xs ks) else slots.none) ≤ suc (length ps)
+    through true h = omega (arith, h, value_low (slot_in p.name ks) (own (default_value p.default)))
+    through false h = omega arith
+
+none_low : (ps : List Parameter) (n : ℕ) (ks : Table) → row_height (filled_some ps n [] ks) ≡ 0
+none_low [] n ks = refl
+none_low (p ∷ ps) (suc n) ks = none_low ps n ks
+none_low (p ∷ ps) zero ks =
+    subst (λ b. row_height (if b then slots.item (value_or (slot_in p.name ks) (own (default_value p.default))) (filled_some ps zero [] ks) else slots.none) ≡ 0) (sym (none_given (p ∷ ps))) refl
+
+few_low : (ps : List Parameter) (n : ℕ) (xs : List Text) (ks : Table) → length ps ≤ 3 → row_height (filled_some ps n xs ks) ≤ 3 * min 1 (length xs)
+few_low ps n [] ks h = omega (arith, none_low ps n ks)
+few_low ps n (x ∷ xs) ks h = omega (arith, h, some_low ps n (x ∷ xs) ks)
+
+names_weigh : (ps : Pairs) → 4 * min 1 (length (keywords ps)) ≤ pairs_weight 2 ps
+names_weigh no_pairs = omega arith
+names_weigh (pair k a ps) = omega (arith, expr_some a)
+
+first_low : (n : ℕ) (xs : List Text) → row_height (first_locals n xs) ≤ length xs
+first_low n [] = omega arith
+first_low n (x ∷ xs) = omega (arith, first_low (suc n) xs)
+
+reads_low : (t : Table) (xs : List Text) → row_height (reads t xs) ≤ length xs
+reads_low t [] = omega arith
+reads_low t (x ∷ xs) = omega (arith, value_low (slot_in x t) (known 0), reads_low t xs)
+
+fresh_low : (n : ℕ) (xs : List Text) → targets_height (fresh_targets n xs) ≤ max 1 (length xs)
+fresh_low n [] = omega arith
+fresh_low n (x ∷ []) = omega arith
+fresh_low n (x ∷ (y ∷ ys)) = omega (arith, fresh_len n (x ∷ (y ∷ ys)))
+
+set_low : (t : Table) (xs : List Text) → targets_height (set_targets t xs) ≤ max 1 (length xs)
+set_low t [] = omega arith
+set_low t (x ∷ []) = omega arith
+set_low t (x ∷ (y ∷ ys)) = omega (arith, kept_len t (x ∷ (y ∷ ys)))
+
+pub followed_low : (a b : SBody Constant) → body_height (followed a b) ≡ max (body_height a) (body_height b)
+followed_low slots.end b = omega arith
+followed_low (slots.stmt s rest) b = omega (arith, followed_low rest b)
+
+pub copied_low : (p : Place) (t : Table) (n : ℕ) (xs : List Text) (b : SBody Constant) → body_height (copied p t n xs b) ≤ max 1 (body_height b)
+copied_low p t n [] b = omega arith
+copied_low p t n (x ∷ xs) b = omega (arith, value_low (slot_in x t) (known 0), copied_low p t (suc n) xs b)
+
+handed_low : (p : Place) (t : Table) (n : ℕ) (xs : List Text) → body_height (handed_on p t n xs) ≤ 1
+handed_low p t n [] = omega arith
+handed_low p t n (x ∷ xs) = omega (arith, value_low (slot_in x t) (known 0), handed_low p t (suc n) xs)
+
+-- ---- what is called: its parameters are few, and `loop.cycle` has three tokens
+
+abbrev CalleeLow : ℕ → ℕ → Callee → Type 0
+CalleeLow q w (a_macro m) = length m.parameters ≤ q
+CalleeLow q w a_cycle = 3 ≤ w
+CalleeLow q w _ = Unit {0}
+
+module _ (q : ℕ) where
+  macro_low : (ms : List MacroBody) (x : Text) → AllByRecursion (λ m. length m.parameters ≤ q) ms → CalleeLow q 1 (named_alone (macro_of x ms) x)
+  macro_low [] x h = by_range (bytes_eq x (codes "range")) (bytes_eq x (codes "super"))
+    where
+      by_range : (a b : Bool) → CalleeLow q 1 (if a then a_range else if b then a_super else no_callee)
+      by_range true b = tt
+      by_range false true = tt
+      by_range false false = tt
+  macro_low (m ∷ ms) x h = through (bytes_eq m.name x) (macro_low ms x h.1)
+    where
+      through : (b : Bool) → CalleeLow q 1 (named_alone (macro_of x ms) x) → CalleeLow q 1 (named_alone (if b then Some m else macro_of x ms) x)
+      through true g = h.0
+      through false g = g
+
+  in_low : (of x : Text) → CalleeLow q 3 (named_in of x)
+  in_low of x = through (bytes_eq of (codes "self")) (bytes_eq of (codes "loop")) (bytes_eq x (codes "cycle"))
+    where
+      through : (a b c : Bool) → CalleeLow q 3 (if a then a_block x else if b then (if c then a_cycle else no_callee) else no_callee)
+      through true b c = tt
+      through false true true = omega arith
+      through false true false = tt
+      through false false c = tt
+
+  callee_low : (ms : List MacroBody) (e : Expr) → AllByRecursion (λ m. length m.parameters ≤ q) ms → CalleeLow q (weight e) (callee ms e)
+  callee_low ms (name x) h = macro_low ms x h
+  callee_low ms (attribute (name of) x) h = in_low of x
+  callee_low ms (attribute (constant l) x) h = tt
+  callee_low ms (attribute (group a) x) h = tt
+  callee_low ms (attribute (list_of ts) x) h = tt
+  callee_low ms (attribute (map_of ps) x) h = tt
+  callee_low ms (attribute (attribute a k) x) h = tt
+  callee_low ms (attribute (item a b) x) h = tt
+  callee_low ms (attribute (call a ts ps) x) h = tt
+  callee_low ms (attribute (filter a y ts ps) x) h = tt
+  callee_low ms (attribute (test a n y ts ps) x) h = tt
+  callee_low ms (attribute (unary o a) x) h = tt
+  callee_low ms (attribute (binary o a b) x) h = tt
+  callee_low ms (attribute (when c a) x) h = tt
+  callee_low ms (attribute (choice c a b) x) h = tt
+  callee_low ms (constant l) h = tt
+  callee_low ms (group a) h = tt
+  callee_low ms (list_of ts) h = tt
+  callee_low ms (map_of ps) h = tt
+  callee_low ms (item a b) h = tt
+  callee_low ms (call a ts ps) h = tt
+  callee_low ms (filter a y ts ps) h = tt
+  callee_low ms (test a n y ts ps) h = tt
+  callee_low ms (unary o a) h = tt
+  callee_low ms (binary o a b) h = tt
+  callee_low ms (when c a) h = tt
+  callee_low ms (choice c a b) h = tt
+
+module _ (world : World) (order : List Home) (q : ℕ) where
+  body_low : (h : Home) (on : Bool) (i : Option ℕ) (es : SRow Constant) → row_height es ≤ q → expr_height (invoked_body world order h on i es) ≤ 1 + q
+  body_low h on None es k = omega arith
+  body_low h on (Some i) es k = omega (arith, k)
+
+  super_low : (sp : Spot) (p : Option Part) → ((x : Text) → length (block_parameters world order sp.home x) ≤ q) → expr_height (invoked_super world order sp p) ≤ 1 + q
+  super_low sp None k = omega arith
+  super_low sp (Some p) k =
+      let xs = block_parameters world order sp.home p.name in
+      body_low sp.home sp.escaping (next_given p.behind) (first_locals 0 xs) (omega (arith, first_low 0 xs, k p.name))
+
+  -- rows in front of others
+  abbrev RowLow : ℕ → (SRow Constant → SRow Constant) → Type 0
+  RowLow w f = (b : SRow Constant) (z : ℕ) → 2 * q ≤ z → 2 * row_height b ≤ z → 2 * row_height (f b) ≤ w + z
+
+  abbrev AsidesLow : ℕ → (SRow Constant → SRow Constant) → Type 0
+  AsidesLow v f = (b : SRow Constant) → 2 * row_height (f b) ≤ max (v + 2 * q) (2 * row_height b)
+
+  invoked_low : (c : Callee) (sp : Spot) (row asides : SRow Constant → SRow Constant) (n : ℕ) (ks : Table) (u w v : ℕ) → 1 ≤ u → CalleeLow q u c → ((x : Text) → length (block_parameters world order sp.home x) ≤ q) → RowLow w row → AsidesLow v asides
+      → 2 * expr_height (invoked world order c sp row asides n ks) ≤ u + enclosed (w + v) + 1 + 2 * q
+  invoked_low (a_macro m) sp row asides n ks u w v some f k r a =
+      let rest = filled m.parameters n (default_place world order sp.home m.name) ks in
+      let low = filled_low m.parameters n (default_place world order sp.home m.name) ks in
+      let hs : 2 * row_height (row (asides rest)) ≤ w + (v + 2 * q) = r (asides rest) (v + 2 * q) (omega arith) (omega (arith, a rest, low, f)) in
+      omega (arith, some, hs)
+  invoked_low a_range sp row asides n ks u w v some f k r a = omega (arith, some, r slots.none (2 * q) (omega arith) (omega arith))
+  invoked_low a_super sp row asides n ks u w v some f k r a = omega (arith, some, super_low sp sp.part k)
+  invoked_low (a_block x) sp row asides n ks u w v some f k r a =
+      let t = globals world order sp.home in
+      let xs = block_parameters world order sp.home x in
+      omega (arith, some, body_low sp.home sp.escaping (first_body (numbered_of world sp.home x)) (reads t xs) (omega (arith, reads_low t xs, k x)))
+  invoked_low a_cycle sp row asides n ks u w v some f k r a = omega (arith, f, r slots.none (2 * q) (omega arith) (omega arith))
+  invoked_low no_callee sp row asides n ks u w v some f k r a = omega (arith, some)
+
+  filter_few : (f : Option ℕ) → ((i : ℕ) → length (world.filters.parameters i) ≤ 3) → length (filter_parameters world.filters f) ≤ 3
+  filter_few None h = omega arith
+  filter_few (Some i) h = h i
+
+  -- the arguments of a filter behind its input: `n` is what they weigh with their parentheses
+  filter_row : (ts : Exprs) (ps : Pairs) (row asides : SRow Constant → SRow Constant) (rest : SRow Constant) → RowLow (exprs_weight ts) row → AsidesLow (pairs_weight 2 ps) asides
+      → row_height rest ≤ 3 * min 1 (length (keywords ps)) → 2 + 2 * row_height (row (asides rest)) ≤ 3 + perhaps_enclosed (exprs_weight ts + pairs_weight 2 ps) + 2 * q
+  filter_row ts ps row asides rest r a low =
+      let v = pairs_weight 2 ps in
+      let z = max (v + 2 * q) (6 * min 1 (length (keywords ps))) in
+      let hs : 2 * row_height (row (asides rest)) ≤ exprs_weight ts + z = r (asides rest) z (omega arith) (omega (arith, a rest, low)) in
+      omega (arith, hs, names_weigh ps)
+
+  mutual
+    pub resolved_low : (e : Expr) (sp : Spot) → HasAtMost world order q sp.home → 2 * expr_height (resolved world order e sp) ≤ weight e + 1 + 2 * q
+    resolved_low (constant l) sp k = omega (arith, expr_some (constant l))
+    resolved_low (name x) sp k = omega (arith, value_low (slot_in x sp.table) (known 0))
+    resolved_low (group a) sp k = omega (arith, resolved_low a sp k)
+    resolved_low (list_of ts) sp k = omega (arith, row_low ts sp k slots.none (2 * q) (omega arith) (omega arith))
+    resolved_low (map_of ps) sp k = omega (arith, entries_low ps sp k)
+    resolved_low (attribute a x) sp k =
+        either_low (is_loop a) (field_from (field_named x)) (slots.made (slots.operator op.Item) (slots.item (resolved world order a sp) (slots.item (slots.pooled (own (tree.text x))) slots.none)))
+        (2 + weight a + 1 + 2 * q) (omega (arith, field_low (field_named x))) (omega (arith, resolved_low a sp k, expr_some a))
+    resolved_low (item a b) sp k = omega (arith, resolved_low a sp k, resolved_low b sp k, expr_some a)
+    resolved_low (call f ts ps) sp k =
+        invoked_low (callee (macros world.sources sp.home) f) sp (resolved_row world order ts sp) (resolved_asides world order ps sp) (count ts) (locals_from sp.free (keywords ps))
+        (weight f) (exprs_weight ts) (pairs_weight 2 ps) (expr_some f) (callee_low q (macros world.sources sp.home) f k.macros) k.blocks (λ b z. row_low ts sp k b z) (λ b. asides_low ps sp k b)
+    resolved_low (filter a x ts ps) sp k =
+        let f = world.filters.named x in
+        let rest = filled_some (filter_parameters world.filters f) (count ts) (keywords ps) (locals_from sp.free (keywords ps)) in
+        let es = slots.item (resolved world order a sp) (resolved_row world order ts sp (resolved_asides world order ps sp rest)) in
+        omega (
+          arith,
+          filtered_low f sp.escaping es,
+          resolved_low a sp k,
+          expr_some a,
+          filter_row ts ps (resolved_row world order ts sp) (resolved_asides world order ps sp) rest (λ b z. row_low ts sp k b z) (λ b. asides_low ps sp k b)
+              (few_low (filter_parameters world.filters f) (count ts) (keywords ps) (locals_from sp.free (keywords ps)) (filter_few f k.filters)),
+        )
+    resolved_low (test a n x ts ps) sp k =
+        let es = slots.item (resolved world order a sp) (resolved_row world order ts sp slots.none) in
+        omega (arith, turned_low n (tested_by (test_named x) es), tested_low (test_named x) es, resolved_low a sp k, row_low ts sp k slots.none (2 * q) (omega arith) (omega arith), is_some_weight n, expr_some a)
+    resolved_low (unary u a) sp k = omega (arith, resolved_low a sp k, expr_some a)
+    resolved_low (binary b x y) sp k =
+        omega (arith, form_low (form sp.escaping b) (resolved world order x sp) (resolved world order y sp), resolved_low x sp k, resolved_low y sp k, operator_some b, expr_some x, expr_some y)
+    resolved_low (when c a) sp k = omega (arith, resolved_low c sp k, resolved_low a sp k, expr_some c, expr_some a)
+    resolved_low (choice c a b) sp k = omega (arith, resolved_low c sp k, resolved_low a sp k, resolved_low b sp k)
+
+    pub row_low : (ts : Exprs) (sp : Spot) → HasAtMost world order q sp.home → (b : SRow Constant) (z : ℕ) → 2 * q ≤ z → 2 * row_height b ≤ z → 2 * row_height (resolved_row world order ts sp b) ≤ exprs_weight ts + z
+    row_low no_exprs sp k b z h g = omega (arith, g)
+    row_low (expr a ts) sp k b z h g = omega (arith, h, resolved_low a sp k, row_low ts sp k b z h g, expr_some a)
+
+    pub asides_low : (ps : Pairs) (sp : Spot) → HasAtMost world order q sp.home → (b : SRow Constant) → 2 * row_height (resolved_asides world order ps sp b) ≤ max (pairs_weight 2 ps + 2 * q) (2 * row_height b)
+    asides_low no_pairs sp k b = omega arith
+    asides_low (pair x a ps) sp k b = omega (arith, resolved_low a sp k, asides_low ps (grown sp) k b)
+
+    entries_low : (ps : Pairs) (sp : Spot) → HasAtMost world order q sp.home → 2 * row_height (resolved_entries world order ps sp) ≤ pairs_weight 3 ps + 2 * q
+    entries_low no_pairs sp k = omega arith
+    entries_low (pair x a ps) sp k = omega (arith, resolved_low a sp k, entries_low ps sp k, expr_some a)
+
+  -- ---- statements
+
+  condition_low : (c : Option Expr) (sp : Spot) → HasAtMost world order q sp.home → 2 * condition_height (resolved_condition world order c sp) ≤ condition_weight c + 2 * q
+  condition_low None sp k = omega arith
+  condition_low (Some c) sp k = omega (arith, resolved_low c sp k)
+
+  filters_low : (fs : List Filtering) (sp : Spot) (e : SExpr Constant) → HasAtMost world order q sp.home → 2 * expr_height (resolved_filters world order fs sp e) ≤ max (2 * expr_height e) (1 + filtering_weight fs + 2 * q)
+  filters_low [] sp e k = omega arith
+  filters_low (f ∷ fs) sp e k =
+      let i = world.filters.named f.name in
+      let rest = filled_some (filter_parameters world.filters i) (count f.arguments) (keywords f.keywords) (locals_from sp.free (keywords f.keywords)) in
+      let es = slots.item e (resolved_row world order f.arguments sp (resolved_asides world order f.keywords sp rest)) in
+      omega (
+        arith,
+        filters_low fs sp (filtered_by i sp.escaping es) k,
+        filtered_low i sp.escaping es,
+        filter_row f.arguments f.keywords (resolved_row world order f.arguments sp) (resolved_asides world order f.keywords sp) rest (λ b z. row_low f.arguments sp k b z) (λ b. asides_low f.keywords sp k b)
+            (few_low (filter_parameters world.filters i) (count f.arguments) (keywords f.keywords) (locals_from sp.free (keywords f.keywords)) (filter_few i k.filters)),
+      )
+
+  values_low : (ps : Pairs) (sp : Spot) (line : ℕ) (b : SBody Constant) → HasAtMost world order q sp.home → 2 * body_height (resolved_values world order ps sp line b) ≤ max (pairs_weight 0 ps + 2 * q) (2 * body_height b)
+  values_low no_pairs sp line b k = omega arith
+  values_low (pair x e ps) sp line b k = omega (arith, expr_some e, resolved_low e sp k, values_low ps (grown sp) line b k)
+
+  placed_low : (sp : Spot) (i : Option ℕ) (x : Text) (t : Table) → length (block_parameters world order sp.home x) ≤ q → body_height (placed_body world order sp i x t) ≤ q
+  placed_low sp None x t k = omega arith
+  placed_low sp (Some i) x t k = omega (arith, reads_low t (block_parameters world order sp.home x), k)
+
+  include_low : (sp : Spot) (line : ℕ) (n : Text) (c : Bool) (b : Bool)
+      → body_height (if b then slots.end else followed (handed_on (place sp line) (if c then sp.table else []) (first_slot world order n) (names world order n)) (slots.stmt (run (unit world order (of_chain n)) slots.none) slots.end)) ≤ 1
+  include_low sp line n c true = omega arith
+  include_low sp line n c false =
+      let xs = names world order n in
+      let hs = handed_on (place sp line) (if c then sp.table else []) (first_slot world order n) xs in
+      omega (arith, followed_low hs (slots.stmt (run (unit world order (of_chain n)) slots.none) slots.end), handed_low (place sp line) (if c then sp.table else []) (first_slot world order n) xs)
+
+  -- a scope of its own, its copies in front
+  pub scope_low : (b : Body) (sp : Spot) → 2 * body_height (resolved_body world order b (bound_all (set_in b) sp)) ≤ body_free b + 2 * q
+      → 2 * body_height (scoped (set_in b) sp (resolved_body world order b)) ≤ max 2 (body_free b + 2 * q)
+  scope_low b sp h = omega (arith, h, copied_low (place sp 1) sp.table sp.free (set_in b) (resolved_body world order b (bound_all (set_in b) sp)))
+
+  mutual
+    pub stmt_low : (s : Stmt) (sp : Spot) → HasAtMost world order q sp.home → stmt_bound s ≤ q → 2 * body_height (resolved_stmt world order s sp) ≤ stmt_free s + 2 * q
+    stmt_low (data_of t) sp k g = omega arith
+    stmt_low (print line e) sp k g = omega (arith, resolved_low e sp k)
+    stmt_low (choose bs other) sp k g = omega (arith, choice_low bs sp k (omega (arith, g)) (resolved_body world order other sp), all_low other sp k (omega (arith, g)))
+    stmt_low (for_each line xs e c body other) sp k g =
+        let inner = bound_all xs sp in
+        omega (arith, g, fresh_low sp.free xs, resolved_low e sp k, condition_low c inner k, scope_low body inner (all_low body (bound_all (set_in body) inner) k (omega (arith, g))), all_low other sp k (omega (arith, g)))
+    stmt_low (set line xs e) sp k g = omega (arith, g, set_low sp.table xs, resolved_low e sp k)
+    stmt_low (set_block line x body) sp k g = omega (arith, scope_low body sp (all_low body (bound_all (set_in body) sp) k (omega (arith, g))))
+    stmt_low (with_values line ps body) sp k g =
+        let inner = bound_all (keywords ps) sp in
+        omega (arith, values_low ps sp line (scoped (set_in body) inner (resolved_body world order body)) k, scope_low body inner (all_low body (bound_all (set_in body) inner) k (omega (arith, g))))
+    stmt_low (filter_block line fs body) sp k g =
+        omega (arith, scope_low body (grown sp) (all_low body (bound_all (set_in body) (grown sp)) k (omega (arith, g))), filters_low fs (grown sp) (variable (local sp.free)) k)
+    stmt_low (autoescape line on body) sp k g =
+        let inner = record sp { escaping = on } in
+        omega (arith, scope_low body inner (all_low body (bound_all (set_in body) inner) k (omega (arith, g))))
+    stmt_low (macro line x ps body) sp k g = omega arith
+    stmt_low (include line n missing with_context) sp k g = omega (arith, include_low sp line n with_context (is_none (world.sources n)))
+    stmt_low (extends line n) sp k g = omega arith
+    stmt_low (block line x is required body) sp k g =
+        omega (arith, placed_low sp (first_body (numbered_of world sp.home x)) x (if is then sp.table else globals world order sp.home) (k.blocks x))
+
+    pub all_low : (b : Body) (sp : Spot) → HasAtMost world order q sp.home → body_bound b ≤ q → 2 * body_height (resolved_body world order b sp) ≤ body_free b + 2 * q
+    all_low end sp k g = omega arith
+    all_low (stmt s rest) sp k g = omega (arith, stmt_low s sp k (omega (arith, g)), all_low rest sp k (omega (arith, g)), followed_low (resolved_stmt world order s sp) (resolved_body world order rest sp))
+
+    choice_low : (bs : Branches) (sp : Spot) → HasAtMost world order q sp.home → branch_bound bs ≤ q → (other : SBody Constant) → 2 * body_height (resolved_choice world order bs sp other) ≤ max (branch_free bs + 2 * q) (2 * body_height other)
+    choice_low no_branches sp k g other = omega arith
+    choice_low (branch line c body rest) sp k g other = omega (arith, resolved_low c sp k, all_low body sp k (omega (arith, g)), choice_low rest sp k (omega (arith, g)) other)

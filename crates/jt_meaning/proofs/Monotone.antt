@@ -1,0 +1,185 @@
+-- A text or fault at n is the same with more calls: `Under g h` says that h is g, or that g is deeper.
+use Rattle.std.proofs.Common.{ℕ, zero, suc, refl}
+use Rattle.std.specs.Prelude.{Bool, true, false, List, [], ◌∷◌, Option, Some, None, if◌then◌else◌}
+use Rattle.std.specs.Option.{is_none}
+use Rattle.jt_value.specs.Tree as tree
+use Rattle.jt_value.specs.Tree.{Tree}
+use Rattle.jt_value.specs.Pairs.{Pairs}
+use Rattle.jt_ops.specs.declared.test_id.TestId.{TestId}
+use Rattle.jt_expr.specs.Trees as written
+use Rattle.jt_expr.specs.Trees.{Expr, constant, name, group, list_of, map_of, attribute, item, unary, binary, when, choice, Exprs, no_exprs, expr, no_pairs, pair}
+use Rattle.jt_slots.specs.Got.{Place, Got, gives, fails, deeper, bind, at}
+use Rattle.jt_meaning.specs.Operators.{Form, operation, negation, conjunction, disjunction, form}
+use Rattle.jt_meaning.specs.Expressions.{asked, turned, either, combined, filtered, block_text, super_text, called, value, values, named_values}
+use Rattle.jt_slots.specs.Tests.{test_named}
+use Rattle.jt_parse.specs.Trees.{Text, Filtering, Stmt, data_of, print, choose, for_each, set, set_block, with_values, filter_block, autoescape, macro, include, extends, block, Body, end, stmt, Branches, no_branches, branch}
+use Rattle.jt_meaning.specs.Env.{Env, inside, top}
+use Rattle.jt_inherit.specs.Chain.{Home, Template, templates, BlockBody, bodies, from_given, macros, Callee, a_macro, a_range, a_super, a_block, a_cycle, no_callee, callee, is_loop}
+use Rattle.jt_slots.specs.Loops.{Loop}
+use Rattle.jt_slots.specs.Filters.{Filters}
+use Rattle.jt_rules.specs.World.{World}
+use Rattle.jt_meaning.specs.Around.{Placement, Around, State, Called, the_macro, the_block, the_chain, Calls, tag}
+use Rattle.jt_meaning.specs.Laws.{Stays}
+use Rattle.jt_meaning.specs.Meaning.{turns, gone_over, outside, is_set, kept, through, meaning, meanings, chosen, sets, rendered, performed, calls_below, mean}
+
+pub data Under {A : Type 0} : Got A → Got A → Type 0 where
+  less : {g : Got A} → Under deeper g
+  same : {g : Got A} → Under g g
+
+pub bound : {A B : Type 0} {g h : Got A} {f k : A → Got B} → Under g h → ((x : A) → Under (f x) (k x)) → Under (bind g f) (bind h k)
+bound less fs = less
+bound {g = gives x} same fs = fs x
+bound {g = fails e p} same fs = same
+bound {g = deeper} same fs = less
+
+if_under : {A : Type 0} (b : Bool) {g h f k : Got A} → Under g h → Under f k → Under (if b then g else f) (if b then h else k)
+if_under true u v = u
+if_under false u v = v
+
+at_under : {A : Type 0} {g h : Got A} (p : Place) → Under g h → Under (at p g) (at p h)
+at_under p less = less
+at_under p same = same
+
+turned_under : (n : Bool) {g h : Got Tree} → Under g h → Under (turned n g) (turned n h)
+turned_under false u = u
+turned_under true u = bound u (λ v. same)
+
+asked_under : (t : Option TestId) {g h : Got (List Tree)} → Under g h → Under (asked t g) (asked t h)
+asked_under None u = same
+asked_under (Some t) u = bound u (λ vs. same)
+
+filtered_under : (fs : Filters) (f : Option ℕ) (on : Bool) {g h : Got (List Tree)} → Under g h → Under (filtered fs f on g) (filtered fs f on h)
+filtered_under fs None on u = same
+filtered_under fs (Some f) on u = bound u (λ vs. same)
+
+combined_under : (f : Form) {g h g' h' : Got Tree} → Under g g' → Under h h' → Under (combined f g h) (combined f g' h')
+combined_under (operation o) u w = bound u (λ v. bound w (λ x. same))
+combined_under (negation o) u w = turned_under true (bound u (λ v. bound w (λ x. same)))
+combined_under conjunction u w = bound u (λ v. if_under (tree.truth v) w same)
+combined_under disjunction u w = bound u (λ v. if_under (tree.truth v) same w)
+
+either_under : {c g h c' g' h' : Got Tree} → Under c c' → Under g g' → Under h h' → Under (either c g h) (either c' g' h')
+either_under u v w = bound u (λ x. if_under (tree.truth x) v w)
+
+turns_under : (f g : Option Loop → State → Got State) → ((l : Option Loop) (st : State) → Under (f l st) (g l st)) → (xs : List Text) (p : Place) (all : List Tree) (i : ℕ) (vs : List Tree) (st : State) → Under (turns f xs p all i vs st) (turns g xs p all i vs st)
+turns_under f g us xs p all i [] st = same
+turns_under f g us xs p all i (v ∷ vs) st = bound same (λ s. bound (bound (us _ _) (λ r. same)) (λ r. turns_under f g us xs p all (suc i) vs r))
+
+gone_under : (f g : Option Loop → State → Got State) → ((l : Option Loop) (st : State) → Under (f l st) (g l st)) → (j k : State → Got State) → ((st : State) → Under (j st) (k st)) → (xs : List Text) (p : Place) (vs : List Tree) (st : State) → Under (gone_over f j xs p vs st) (gone_over g k xs p vs st)
+gone_under f g us j k os xs p [] st = os st
+gone_under f g us j k os xs p (v ∷ vs) st = turns_under f g us xs p (v ∷ vs) 0 (v ∷ vs) st
+
+module _ (world : World) (c d : Calls) (under : (x : Called) → Under (c x) (d x)) where
+  block_under : (h : Home) (bs : List BlockBody) (env : Env) → Under (block_text c h bs env) (block_text d h bs env)
+  block_under h [] env = same
+  block_under h (b ∷ bs) env = under _
+
+  super_under : (h : Home) (q : Option Placement) → Under (super_text c h q) (super_text d h q)
+  super_under h None = same
+  super_under h (Some q) = block_under h (from_given q.behind) q.env
+
+  called_under : (f : Callee) (a : Around) (env : Env) {g g' : Got (List Tree)} {k k' : Got Pairs} → Under g g' → Under k k' → Under (called world c f a env g k) (called world d f a env g' k')
+  called_under (a_macro m) a env u w = bound u (λ vs. bound w (λ ks. bound (under _) (λ s. same)))
+  called_under a_range a env u w = bound u (λ vs. same)
+  called_under a_super a env u w = bound (super_under a.home a.block) (λ s. same)
+  called_under (a_block x) a env u w = bound (block_under a.home (bodies world.sources world.escaping a.home x) (top env.globals)) (λ s. same)
+  called_under a_cycle a env u w = bound u (λ vs. same)
+  called_under no_callee a env u w = same
+
+  mutual
+    pub value_under : (e : Expr) (a : Around) (env : Env) → Under (value world c e a env) (value world d e a env)
+    value_under (constant l) a env = same
+    value_under (name x) a env = same
+    value_under (group e) a env = value_under e a env
+    value_under (list_of ts) a env = bound (values_under ts a env) (λ vs. same)
+    value_under (map_of ps) a env = bound (named_under ps a env) (λ vs. same)
+    value_under (attribute e k) a env = if_under (is_loop e) same (bound (value_under e a env) (λ v. same))
+    value_under (item e k) a env = bound (value_under e a env) (λ v. bound (value_under k a env) (λ w. same))
+    value_under (written.call f ts ps) a env = called_under (callee (macros world.sources a.home) f) a env (values_under ts a env) (named_under ps a env)
+    value_under (written.filter e x ts ps) a env =
+        filtered_under world.filters (world.filters.named x) a.escaping (bound (value_under e a env) (λ v. bound (values_under ts a env) (λ vs. bound (named_under ps a env) (λ ks. same))))
+    value_under (written.test e n x ts ps) a env = turned_under n (asked_under (test_named x) (bound (value_under e a env) (λ v. bound (values_under ts a env) (λ vs. same))))
+    value_under (unary o e) a env = bound (value_under e a env) (λ v. same)
+    value_under (binary o e f) a env = combined_under (form a.escaping o) (value_under e a env) (value_under f a env)
+    value_under (when e f) a env = either_under (value_under e a env) (value_under f a env) same
+    value_under (choice e f g) a env = either_under (value_under e a env) (value_under f a env) (value_under g a env)
+
+    pub values_under : (ts : Exprs) (a : Around) (env : Env) → Under (values world c ts a env) (values world d ts a env)
+    values_under no_exprs a env = same
+    values_under (expr e ts) a env = bound (value_under e a env) (λ v. bound (values_under ts a env) (λ vs. same))
+
+    pub named_under : (ps : written.Pairs) (a : Around) (env : Env) → Under (named_values world c ps a env) (named_values world d ps a env)
+    named_under no_pairs a env = same
+    named_under (pair x e ps) a env = bound (value_under e a env) (λ v. bound (named_under ps a env) (λ bs. same))
+
+  kept_under : (o : Option Expr) (xs : List Text) (a : Around) (env : Env) (vs : List Tree) → Under (kept world c o xs a env vs) (kept world d o xs a env vs)
+  kept_under None xs a env vs = same
+  kept_under (Some e) xs a env [] = same
+  kept_under (Some e) xs a env (v ∷ vs) = bound same (λ s. bound (value_under e (outside a) (inside s env)) (λ b. bound (kept_under (Some e) xs a env vs) (λ rest. same)))
+
+  through_under : (fs : List Filtering) (a : Around) (env : Env) {g h : Got Tree} → Under g h → Under (through world c fs a env g) (through world d fs a env h)
+  through_under [] a env u = u
+  through_under (f ∷ fs) a env u =
+      through_under fs a env (filtered_under world.filters (world.filters.named f.name) a.escaping (bound u (λ v. bound (values_under f.arguments a env) (λ vs. bound (named_under f.keywords a env) (λ ks. same)))))
+
+  mutual
+    pub meaning_under : (s : Stmt) (a : Around) (st : State) → Under (meaning world c s a st) (meaning world d s a st)
+    meaning_under (data_of t) a st = same
+    meaning_under (print line e) a st = at_under (tag a line) (bound (value_under e a st.env) (λ v. same))
+    meaning_under (choose bs other) a st = chosen_under bs a st (meanings world c other a) (meanings world d other a) (λ st. meanings_under other a st)
+    meaning_under (for_each line xs e o body other) a st =
+        bound (at_under (tag a line) (bound (value_under e a st.env) (λ v. bound same (λ vs. kept_under o xs a st.env vs)))) (λ vs.
+        gone_under (λ l. meanings world c body (record a { loop = l })) (λ l. meanings world d body (record a { loop = l })) (λ l st. meanings_under body (record a { loop = l }) st) (meanings world c other a) (meanings world d other a) (λ st. meanings_under other a st) xs (tag a line) vs st)
+    meaning_under (set line xs e) a st = bound (at_under (tag a line) (bound (value_under e a st.env) (λ v. same))) (λ s. same)
+    meaning_under (set_block line x body) a st = bound (bound (meanings_under body a _) (λ r. same)) (λ v. same)
+    meaning_under (with_values line ps body) a st = bound (at_under (tag a line) (named_under ps a st.env)) (λ bs. bound (meanings_under body a _) (λ r. same))
+    meaning_under (filter_block line fs body) a st = bound (bound (meanings_under body a _) (λ r. same)) (λ v. at_under (tag a line) (bound (through_under fs a st.env same) (λ w. same)))
+    meaning_under (autoescape line on body) a st = bound (meanings_under body _ _) (λ r. same)
+    meaning_under (macro line x ps body) a st = same
+    meaning_under (include line n ignore_missing with_context) a st = if_under (is_none (world.sources n)) same (bound (under _) (λ s. same))
+    meaning_under (extends line n) a st = same
+    meaning_under (block line x scoped required body) a st = bound (block_under a.home (bodies world.sources world.escaping a.home x) (if scoped then st.env else top st.env.globals)) (λ s. same)
+
+    pub meanings_under : (b : Body) (a : Around) (st : State) → Under (meanings world c b a st) (meanings world d b a st)
+    meanings_under end a st = same
+    meanings_under (stmt s rest) a st = bound (meaning_under s a st) (λ r. meanings_under rest a r)
+
+    pub chosen_under : (bs : Branches) (a : Around) (st : State) (j k : State → Got State) → ((st : State) → Under (j st) (k st)) → Under (chosen world c bs a st j) (chosen world d bs a st k)
+    chosen_under no_branches a st j k os = os st
+    chosen_under (branch line e body rest) a st j k os = bound (at_under (tag a line) (value_under e a st.env)) (λ v. if_under (tree.truth v) (meanings_under body a st) (chosen_under rest a st j k os))
+
+  sets_under : (b : Body) (a : Around) (st : State) → Under (sets world c b a st) (sets world d b a st)
+  sets_under end a st = same
+  sets_under (stmt s rest) a st = if_under (is_set s) (bound (meaning_under s a st) (λ r. sets_under rest a r)) (sets_under rest a st)
+
+  rendered_under : (h : Home) (ts : List Template) (st : State) → Under (rendered world c h ts st) (rendered world d h ts st)
+  rendered_under h [] st = same
+  rendered_under h (t ∷ []) st = meanings_under t.body _ st
+  rendered_under h (t ∷ u ∷ us) st = bound (sets_under t.body _ st) (λ r. rendered_under h (u ∷ us) r)
+
+  performed_under : (x : Called) → Under (performed world c x) (performed world d x)
+  performed_under (the_macro h m s gs) = bound (meanings_under m.body _ _) (λ st. same)
+  performed_under (the_block h b bs env) = bound (meanings_under b.body _ _) (λ st. same)
+  performed_under (the_chain h gs) = bound (rendered_under h (templates world.sources h) _) (λ st. same)
+
+-- one call more, and any number
+pub calls_under : (world : World) (n : ℕ) (x : Called) → Under (calls_below world n x) (calls_below world (suc n) x)
+calls_under world zero x = less
+calls_under world (suc n) x = performed_under world (calls_below world n) (calls_below world (suc n)) (calls_under world n) x
+
+-- what a chain means at n, if it isn't deeper, it means with one call more
+pub mean_under : (world : World) (entry : Home) (context : Pairs) (n : ℕ) → Under (mean world entry context n) (mean world entry context (suc n))
+mean_under world entry context n = performed_under world (calls_below world n) (calls_below world (suc n)) (calls_under world n) (the_chain entry context)
+
+-- the same, by cases
+pub mean_stays : (world : World) (entry : Home) (context : Pairs) (n : ℕ) → Stays (mean world entry context n) (mean world entry context (suc n))
+mean_stays world entry context n = through (mean_under world entry context n)
+  where
+    itself : (g : Got Text) → Stays g g
+    itself (gives x) = refl
+    itself (fails e p) = refl
+    itself deeper = tt
+
+    through : {g h : Got Text} → Under g h → Stays g h
+    through less = tt
+    through {g = g} same = itself g

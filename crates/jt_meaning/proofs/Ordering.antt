@@ -1,0 +1,472 @@
+-- What follows from the order of chains: names, slots, and what the bodies of a chain hold.
+use Rattle.std.proofs.Common.{◌≡◌, ℕ, ◌+◌, ◌≤◌, Bool, true, false, if◌then◌else◌, List, [], ◌∷◌, ◌++◌, length, map, Option, Some, None, refl, sym, ap, ◌∙◌, subst, arith, inl, inr}
+use Rattle.std.specs.Prelude.{not, ◌&&◌, ◌||◌, flat_map, filter}
+use Rattle.std.specs.Option.{is_some, is_none}
+use Rattle.std.specs.List.{list_any}
+use Rattle.std.specs.Str.{bytes_eq}
+use Rattle.jt_parse.specs.Texts.{ascending, among}
+use Rattle.jt_parse.specs.Trees.{Text, Stmt, data_of, print, choose, for_each, set, set_block, with_values, filter_block, autoescape, macro, include, extends, block, Body, end, stmt, Branches, no_branches, branch}
+use Rattle.jt_inherit.specs.Chain.{Home, Template, templates, BlockBody, blocks_of, blocks_in, blocks_under, all_bodies, MacroBody, macros_in, macros, macro_of}
+use Rattle.jt_rules.specs.World.{World}
+use Rattle.jt_inherit.specs.Uses.{keywords, expr_names, pair_names, condition_names, filtering_names, stmt_names, body_names, branch_names, own_names}
+use Rattle.jt_inherit.specs.Includes.{needs_by, needs_in, needs_under, included, AllIn, InOrder}
+use Rattle.jt_meaning.specs.Layout.{names_in, names, first_in, first_slot, is_scoped, defaults_of, first_default, shared, default_in, default_place, numbered_bodies, counted_from}
+use Rattle.jt_meaning.proofs.Reading.{same_text, same_is, no_both, among_front, among_back, each_among}
+use Rattle.jt_meaning.proofs.Valuing.{counted_are}
+use Rattle.jt_meaning.proofs.Calling.{Hands, Included}
+use Rattle.jt_inherit.specs.Uses.{set_in, scope_names_in, scope_names}
+use Rattle.jt_meaning.proofs.Scopes.{names_of, scopes_bound, templates_bind, ascending_among}
+use Rattle.jt_meaning.proofs.Stating.{Each, each_front, each_back, Scoping, a_tag, a_name, named, scoped_by, scoped_in, scoped_under, Proper, names_proper, behind_proper}
+use Rattle.jt_meaning.proofs.Among.{Among, AllAmong, all_ascending}
+use Rattle.jt_meaning.specs.Layout.{scopes}
+
+or_right : (a : Bool) {b : Bool} → b ≡ true → (a || b) ≡ true
+or_right true e = refl
+or_right false e = e
+
+among_append : (x : Text) (xs ys : List Text) → among x ys ≡ true → among x (xs ++ ys) ≡ true
+among_append x [] ys e = e
+among_append x (z ∷ zs) ys e = or_right (bytes_eq z x) (among_append x zs ys e)
+
+-- ---- the first place of a chain in the order
+
+abbrev NotIn : Text → List Text → Type 0
+NotIn x [] = Unit {0}
+NotIn x (k ∷ ks) = (bytes_eq k x ≡ false) × NotIn x ks
+
+first_at : (h : Home) (hs : List Home) → among h hs ≡ true → (pre ks : List Home) × (hs ≡ pre ++ (h ∷ ks)) × NotIn h pre
+first_at h [] e = absurd (no_both e refl)
+first_at h (k ∷ ks) e = through (bytes_eq k h) refl e (λ f. first_at h ks f)
+  where
+    through : (b : Bool) → bytes_eq k h ≡ b → (b || among h ks) ≡ true → (among h ks ≡ true → (pre qs : List Home) × (ks ≡ pre ++ (h ∷ qs)) × NotIn h pre) → (pre qs : List Home) × (k ∷ ks ≡ pre ++ (h ∷ qs)) × NotIn h pre
+    through true p e f = ([], ks, ap (λ z. z ∷ ks) (same_text k h p), tt)
+    through false p e f = let r = f e in (k ∷ r.0, r.1, ap (λ zs. k ∷ zs) r.2, (p, r.3))
+
+not_true : (b : Bool) → not b ≡ true → b ≡ true → ⊥
+not_true true e f = no_both f (sym e)
+not_true false e f = no_both f refl
+
+abbrev pub Every : {A : Type 0} → (A → Type 0) → List A → Type 0
+Every P [] = Unit {0}
+Every P (x ∷ xs) = P x × Every P xs
+
+pub every_append : {A : Type 0} (P : A → Type 0) (xs ys : List A) → Every P xs → Every P ys → Every P (xs ++ ys)
+every_append P [] ys a b = b
+every_append P (x ∷ xs) ys a b = (a.0, every_append P xs ys a.1 b)
+
+every_back : {A : Type 0} (P : A → Type 0) (xs ys : List A) → Every P (xs ++ ys) → Every P ys
+every_back P [] ys a = a
+every_back P (x ∷ xs) ys a = every_back P xs ys a.1
+
+each_append : {A : Type 0} (P : A → Type 0) (xs ys : List A) → Each P xs → Each P ys → Each P (xs ++ ys)
+each_append P [] ys a b = b
+each_append P (x ∷ xs) ys a b = (a.0, each_append P xs ys a.1 b)
+
+each_map : {A : Type 0} (P Q : A → Type 0) (xs : List A) → ((x : A) → P x → Q x) → Each P xs → Each Q xs
+each_map P Q [] f a = tt
+each_map P Q (x ∷ xs) f a = (f x a.0, each_map P Q xs f a.1)
+
+-- ---- the blocks whose tags say `scoped` are among those of the template
+
+abbrev Says : List BlockBody → Text → Type 0
+Says bs x = list_any (λ b. b.scoped && bytes_eq b.name x) bs ≡ true
+
+says_left : (bs cs : List BlockBody) (x : Text) → Says bs x → Says (bs ++ cs) x
+says_left [] cs x e = absurd (no_both e refl)
+says_left (b ∷ bs) cs x e = through (b.scoped && bytes_eq b.name x) e (λ f. says_left bs cs x f)
+  where
+    through : (c : Bool) → (c || list_any (λ d. d.scoped && bytes_eq d.name x) bs) ≡ true → (Says bs x → Says (bs ++ cs) x) → (c || list_any (λ d. d.scoped && bytes_eq d.name x) (bs ++ cs)) ≡ true
+    through true e f = refl
+    through false e f = f e
+
+says_right : (bs cs : List BlockBody) (x : Text) → Says cs x → Says (bs ++ cs) x
+says_right [] cs x e = e
+says_right (b ∷ bs) cs x e = or_right (b.scoped && bytes_eq b.name x) (says_right bs cs x e)
+
+-- nothing is said of names
+abbrev Saying : List BlockBody → Scoping → Type 0
+Saying bs (a_tag x) = Says bs x
+Saying bs (a_name x) = Unit {0}
+
+saying_left : (bs cs : List BlockBody) (s : Scoping) → Saying bs s → Saying (bs ++ cs) s
+saying_left bs cs (a_tag x) e = says_left bs cs x e
+saying_left bs cs (a_name x) e = tt
+
+saying_right : (bs cs : List BlockBody) (s : Scoping) → Saying cs s → Saying (bs ++ cs) s
+saying_right bs cs (a_tag x) e = says_right bs cs x e
+saying_right bs cs (a_name x) e = tt
+
+names_said : (bs : List BlockBody) (xs : List Text) (ss : List Scoping) → Each (Saying bs) ss → Each (Saying bs) (named xs ++ ss)
+names_said bs [] ss e = e
+names_said bs (x ∷ xs) ss e = (tt, names_said bs xs ss e)
+
+both_said : (bs cs : List BlockBody) (xs ys : List Scoping) → Each (Saying bs) xs → Each (Saying cs) ys → Each (Saying (bs ++ cs)) (xs ++ ys)
+both_said bs cs xs ys a b = each_append (Saying (bs ++ cs)) xs ys (each_map (Saying bs) (Saying (bs ++ cs)) xs (saying_left bs cs) a) (each_map (Saying cs) (Saying (bs ++ cs)) ys (saying_right bs cs) b)
+
+module _ (t : Text) where
+  mutual
+    scoped_stmt : (s : Stmt) (on : Bool) → Each (Saying (blocks_of t s on)) (scoped_by s)
+    scoped_stmt (block line x true required body) on = (
+      ap (λ b. b || list_any (λ d. d.scoped && bytes_eq d.name x) (blocks_in t body on)) (same_is x),
+      names_said (blocks_of t (block line x true required body) on) (set_in body) (scoped_in body)
+          (each_map (Saying (blocks_in t body on)) (Saying (blocks_of t (block line x true required body) on)) (scoped_in body) (saying_right (record { template = t; name = x; scoped = true; required = required; escaping = on; body = body } ∷ []) (blocks_in t body on)) (scoped_body body on)),
+    )
+    scoped_stmt (block line x false required body) on =
+        names_said (blocks_of t (block line x false required body) on) (set_in body) (scoped_in body)
+        (each_map (Saying (blocks_in t body on)) (Saying (blocks_of t (block line x false required body) on)) (scoped_in body) (saying_right (record { template = t; name = x; scoped = false; required = required; escaping = on; body = body } ∷ []) (blocks_in t body on)) (scoped_body body on))
+    scoped_stmt (choose bs other) on = both_said (blocks_under t bs on) (blocks_in t other on) (scoped_under bs) (scoped_in other) (scoped_branches bs on) (scoped_body other on)
+    scoped_stmt (for_each line xs e c body other) on =
+        names_said (blocks_in t body on ++ blocks_in t other on) xs (named (set_in body) ++ (scoped_in body ++ scoped_in other))
+        (names_said (blocks_in t body on ++ blocks_in t other on) (set_in body) (scoped_in body ++ scoped_in other)
+        (both_said (blocks_in t body on) (blocks_in t other on) (scoped_in body) (scoped_in other) (scoped_body body on) (scoped_body other on)))
+    scoped_stmt (set_block line x body) on = names_said (blocks_in t body on) (set_in body) (scoped_in body) (scoped_body body on)
+    scoped_stmt (with_values line ps body) on =
+        names_said (blocks_in t body on) (keywords ps) (named (set_in body) ++ scoped_in body) (names_said (blocks_in t body on) (set_in body) (scoped_in body) (scoped_body body on))
+    scoped_stmt (filter_block line fs body) on = names_said (blocks_in t body on) (set_in body) (scoped_in body) (scoped_body body on)
+    scoped_stmt (autoescape line now body) on = names_said (blocks_in t body now) (set_in body) (scoped_in body) (scoped_body body now)
+    scoped_stmt (macro line x ps body) on =
+        names_said (blocks_in t body on) (map (λ p. p.name) ps) (named (set_in body) ++ scoped_in body) (names_said (blocks_in t body on) (set_in body) (scoped_in body) (scoped_body body on))
+    scoped_stmt (data_of d) on = tt
+    scoped_stmt (print line e) on = tt
+    scoped_stmt (set line xs e) on = tt
+    scoped_stmt (include line n i w) on = tt
+    scoped_stmt (extends line n) on = tt
+
+    scoped_body : (c : Body) (on : Bool) → Each (Saying (blocks_in t c on)) (scoped_in c)
+    scoped_body end on = tt
+    scoped_body (stmt s rest) on = both_said (blocks_of t s on) (blocks_in t rest on) (scoped_by s) (scoped_in rest) (scoped_stmt s on) (scoped_body rest on)
+
+    scoped_branches : (bs : Branches) (on : Bool) → Each (Saying (blocks_under t bs on)) (scoped_under bs)
+    scoped_branches no_branches on = tt
+    scoped_branches (branch line c body rest) on = both_said (blocks_in t body on) (blocks_under t rest on) (scoped_in body) (scoped_under rest) (scoped_body body on) (scoped_branches rest on)
+
+said_templates : (on : Bool) (ts : List Template) → Each (Saying (flat_map (λ t. blocks_in t.name t.body on) ts)) (flat_map (λ t. scoped_in t.body) ts)
+said_templates on [] = tt
+said_templates on (t ∷ ts) =
+    both_said (blocks_in t.name t.body on) (flat_map (λ t. blocks_in t.name t.body on) ts) (scoped_in t.body) (flat_map (λ t. scoped_in t.body) ts) (scoped_body t.name t.body on) (said_templates on ts)
+
+all_proper : (world : World) (order : List Home) (h : Home) (ss : List Scoping) → Each (Saying (all_bodies world.sources world.escaping h)) ss → AllAmong (names_of ss) (scopes world order h) → Each (Proper world order h) ss
+all_proper world order h [] e a = tt
+all_proper world order h (a_tag x ∷ ss) e a = (e.0, all_proper world order h ss e.1 a)
+all_proper world order h (a_name x ∷ ss) e a = (a.0, all_proper world order h ss e.1 a.1)
+
+scopes_are : (world : World) (order : List Home) (h : Home) → among h order ≡ true → scopes world order h ≡ scope_names world.sources h
+scopes_are world order h e = ap (λ b. if b then scope_names world.sources h else []) e
+
+scoped_templates : (world : World) (order : List Home) (h : Home) → among h order ≡ true → Each (Proper world order h) (flat_map (λ t. scoped_in t.body) (templates world.sources h))
+scoped_templates world order h e =
+    all_proper world order h (flat_map (λ t. scoped_in t.body) (templates world.sources h)) (said_templates world.escaping (templates world.sources h))
+    (subst (λ zs. AllAmong (names_of (flat_map (λ t. scoped_in t.body) (templates world.sources h))) zs) (sym (scopes_are world order h e)) (scopes_bound world h))
+
+module _ (world : World) where
+  -- what stands behind a place keeps the order, and none before it comes again
+  behind_order : (pre qs : List Home) → InOrder world.sources (pre ++ qs) → InOrder world.sources qs × ((m : Home) → among m qs ≡ true → NotIn m pre)
+  behind_order [] qs o = (o, λ m e. tt)
+  behind_order (k ∷ pre) qs o =
+      let r = behind_order pre qs o.1.1 in
+      (r.0, λ m e. (differs m (bytes_eq k m) refl (among_append m pre qs e), r.1 m e))
+    where
+      differs : (m : Home) (b : Bool) → bytes_eq k m ≡ b → among m (pre ++ qs) ≡ true → b ≡ false
+      differs m true p e = absurd (not_true (among k (pre ++ qs)) o.0 (ap (λ z. among z (pre ++ qs)) (same_text k m p) ∙ e))
+      differs m false p e = refl
+
+  names_behind : (m : Home) (pre qs : List Home) → NotIn m pre → names_in world (pre ++ qs) m ≡ names_in world qs m
+  names_behind m [] qs n = refl
+  names_behind m (k ∷ pre) qs n = ap (λ b. if b then ascending (own_names world.sources m ++ flat_map (names_in world (pre ++ qs)) (included world.sources m)) else names_in world (pre ++ qs) m) n.0 ∙ names_behind m pre qs n.1
+
+  names_here : (h : Home) (ks : List Home) → names_in world (h ∷ ks) h ≡ ascending (own_names world.sources h ++ flat_map (names_in world ks) (included world.sources h))
+  names_here h ks = ap (λ b. if b then ascending (own_names world.sources h ++ flat_map (names_in world ks) (included world.sources h)) else names_in world ks h) (same_is h)
+
+  module _ (order : List Home) where
+    total : List Home → ℕ
+    total [] = 0
+    total (k ∷ ks) = length (names world order k) + total ks
+
+    first_behind : (m : Home) (pre qs : List Home) → NotIn m pre → first_in world order (pre ++ qs) m ≡ total pre + first_in world order qs m
+    unfolding total
+    first_behind m [] qs n = let e : first_in world order qs m ≡ 0 + first_in world order qs m = omega arith in e
+    first_behind m (k ∷ pre) qs n =
+        ap (λ b. if b then 0 else length (names world order k) + first_in world order (pre ++ qs) m) n.0
+        ∙ (let e = first_behind m pre qs n.1 in let f : length (names world order k) + first_in world order (pre ++ qs) m ≡ length (names world order k) + total pre + first_in world order qs m = omega (arith, e) in f)
+
+    module _ (ordered : InOrder world.sources order) (h : Home) (known : among h order ≡ true) where
+      at : (pre ks : List Home) × (order ≡ pre ++ (h ∷ ks)) × NotIn h pre
+      at = first_at h order known
+
+      parts : InOrder world.sources (at.0 ++ (h ∷ at.1))
+      parts = subst (InOrder world.sources) at.2 ordered
+
+      names_are : names world order h ≡ ascending (own_names world.sources h ++ flat_map (names_in world at.1) (included world.sources h))
+      names_are = ap (λ o. names_in world o h) at.2 ∙ names_behind h at.0 (h ∷ at.1) at.3 ∙ names_here h at.1
+
+      flat_among : (f : Home → List Text) (ms : List Home) (m : Home) → Among m ms → (x : Text) → Among x (f m) → Among x (flat_map f ms)
+      flat_among f [] m i x j = absurd i
+      flat_among f (k ∷ ks) m (inl e) x j = front (f k) (subst (λ z. Among x (f z)) (sym e) j)
+        where
+          front : (ys : List Text) → Among x ys → Among x (ys ++ flat_map f ks)
+          front [] i = absurd i
+          front (y ∷ ys) (inl e) = inl e
+          front (y ∷ ys) (inr i) = inr (front ys i)
+      flat_among f (k ∷ ks) m (inr i) x j = back (f k) (flat_among f ks m i x j)
+        where
+          back : (ys : List Text) → Among x (flat_map f ks) → Among x (ys ++ flat_map f ks)
+          back [] i = i
+          back (y ∷ ys) i = inr (back ys i)
+
+      append_right : (x : Text) (xs ys : List Text) → Among x ys → Among x (xs ++ ys)
+      append_right x [] ys i = i
+      append_right x (z ∷ zs) ys i = inr (append_right x zs ys i)
+
+      -- a chain that this one includes
+      hands : (m : Home) → Among m (included world.sources h) → among m at.1 ≡ true → Hands world order h m
+      hands m i e =
+          let r = behind_order at.0 (h ∷ at.1) parts in
+          let in_all : among m (h ∷ at.1) ≡ true = or_right (bytes_eq h m) e in
+          let away = r.1 m in_all in
+          let other = apart (bytes_eq h m) refl r.0.0 in
+          let skip : NotIn m (h ∷ []) = (other, tt) in
+          let same : names world order m ≡ names_in world at.1 m = ap (λ o. names_in world o m) at.2 ∙ names_behind m at.0 (h ∷ at.1) away ∙ names_behind m (h ∷ []) at.1 skip in
+          let first_h = ap (λ o. first_in world order o h) at.2 ∙ first_behind h at.0 (h ∷ at.1) at.3 ∙ ap (λ b. total at.0 + (if b then 0 else length (names world order h) + first_in world order at.1 h)) (same_is h) in
+          let first_m = ap (λ o. first_in world order o m) at.2 ∙ first_behind m at.0 (h ∷ at.1) away ∙ ap (λ b. total at.0 + (if b then 0 else length (names world order h) + first_in world order at.1 m)) other in
+          record {
+            known = ap (λ o. among m o) at.2 ∙ among_append m at.0 (h ∷ at.1) in_all;
+            behind = let f : first_in world order order h + length (names world order h) ≤ first_in world order order m = omega (arith, first_h, first_m) in f;
+            names = λ x j.
+                let k = flat_among (names_in world at.1) (included world.sources h) m i x (subst (λ zs. Among x zs) same j) in
+                let all = own_names world.sources h ++ flat_map (names_in world at.1) (included world.sources h) in
+                subst (λ zs. Among x zs) (sym names_are) (each_among all (ascending all) (all_ascending all) x (append_right x (own_names world.sources h) (flat_map (names_in world at.1) (included world.sources h)) k));
+          }
+        where
+          apart : (b : Bool) → bytes_eq h m ≡ b → not (among h at.1) ≡ true → b ≡ false
+          apart true p n = absurd (not_true (among h at.1) n (ap (λ z. among z at.1) (same_text h m p) ∙ e))
+          apart false p n = refl
+
+      -- ---- what a body of the chain holds
+
+      abbrev IsScopedHere : Text → Type 0
+      IsScopedHere x = is_scoped world h x ≡ true
+
+      pub record Belongs (c : Body) : Type 0 where
+        pub names : AllAmong (body_names c) (Rattle.jt_meaning.specs.Layout.names world order h)
+        pub included : Each (Included world order h) (needs_in true c)
+        pub scoped : Each (Proper world order h) (scoped_in c)
+
+      -- a body that is a scope: its names are among those that scopes bind
+      pub record Owned (c : Body) : Type 0 where
+        pub belongs : Belongs c
+        pub own : AllAmong (set_in c) (scopes world order h)
+
+      pub record OwnedMacro (m : MacroBody) : Type 0 where
+        pub body : Owned m.body
+        pub parameters : AllAmong (map (λ p. p.name) m.parameters) (scopes world order h)
+
+      -- of what a body that is a scope holds
+      owned : (c : Body) → AllAmong (body_names c) (names world order h) → Each (Included world order h) (needs_in true c) → Each (Proper world order h) (named (set_in c) ++ scoped_in c) → Owned c
+      owned c a n d = record { belongs = record { names = a; included = n; scoped = behind_proper world order h (set_in c) (scoped_in c) d }; own = names_proper world order h (set_in c) (scoped_in c) d }
+
+      -- all that the templates include
+      with_source : (x : Text) (xs : List Text) → Among x xs → is_some (world.sources x) ≡ true → Among x (filter (λ m. is_some (world.sources m)) xs)
+      with_source x [] i e = absurd i
+      with_source x (y ∷ ys) (inl p) e = here (is_some (world.sources y)) (ap (λ z. is_some (world.sources z)) p ∙ e)
+        where
+          here : (b : Bool) → b ≡ true → Among x (if b then y ∷ filter (λ m. is_some (world.sources m)) ys else filter (λ m. is_some (world.sources m)) ys)
+          here true e = inl p
+          here false e = absurd (no_both e refl)
+      with_source x (y ∷ ys) (inr i) e = later (is_some (world.sources y)) (with_source x ys i e)
+        where
+          later : (b : Bool) → Among x (filter (λ m. is_some (world.sources m)) ys) → Among x (if b then y ∷ filter (λ m. is_some (world.sources m)) ys else filter (λ m. is_some (world.sources m)) ys)
+          later true i = inr i
+          later false i = i
+
+      all_in : (x : Text) (xs ks : List Text) → Among x xs → AllIn xs ks → among x ks ≡ true
+      all_in x [] ks i a = absurd i
+      all_in x (y ∷ ys) ks (inl p) a = ap (λ z. among z ks) (sym p) ∙ a.0
+      all_in x (y ∷ ys) ks (inr i) a = all_in x ys ks i a.1
+
+      no_source : (o : Option Body) → is_some o ≡ false → is_none o ≡ true
+      no_source None e = refl
+      no_source (Some b) e = absurd (no_both refl e)
+
+      each_included : (xs : List Text) → ((x : Text) → Among x xs → Among x (flat_map (λ t. needs_in true t.body) (templates world.sources h))) → Each (Included world order h) xs
+      each_included [] f = tt
+      each_included (x ∷ xs) f = (one (is_some (world.sources x)) refl, each_included xs (λ y i. f y (inr i)))
+        where
+          one : (b : Bool) → is_some (world.sources x) ≡ b → Included world order h x
+          one false e = inl (no_source (world.sources x) e)
+          one true e =
+              let i = with_source x (flat_map (λ t. needs_in true t.body) (templates world.sources h)) (f x (inl refl)) e in
+              let r = behind_order at.0 (h ∷ at.1) parts in
+              inr (hands x i (all_in x (included world.sources h) at.1 i r.0.1.0))
+
+      -- the same of a statement, and of branches
+      abbrev StmtBelongs : Stmt → Type 0
+      StmtBelongs s = AllAmong (stmt_names s) (names world order h) × Each (Included world order h) (needs_by true s) × Each (Proper world order h) (scoped_by s)
+
+      abbrev BranchesBelong : Branches → Type 0
+      BranchesBelong bs = AllAmong (branch_names bs) (names world order h) × Each (Included world order h) (needs_under true bs) × Each (Proper world order h) (scoped_under bs)
+
+      abbrev all_names : List Text
+      all_names = names world order h
+
+      belongs_front : (s : Stmt) (rest : Body) → Belongs (stmt s rest) → StmtBelongs s
+      belongs_front s rest b = (
+        among_front (stmt_names s) (body_names rest) all_names b.names,
+        each_front (Included world order h) (needs_by true s) (needs_in true rest) b.included,
+        each_front (Proper world order h) (scoped_by s) (scoped_in rest) b.scoped,
+      )
+
+      belongs_back : (s : Stmt) (rest : Body) → Belongs (stmt s rest) → Belongs rest
+      belongs_back s rest b = record {
+        names = among_back (stmt_names s) (body_names rest) all_names b.names;
+        included = each_back (Included world order h) (needs_by true s) (needs_in true rest) b.included;
+        scoped = each_back (Proper world order h) (scoped_by s) (scoped_in rest) b.scoped;
+      }
+
+      template_bodies : (ts : List Template) → AllAmong (flat_map (λ t. body_names t.body) ts) all_names → Each (Included world order h) (flat_map (λ t. needs_in true t.body) ts)
+          → Each (Proper world order h) (flat_map (λ t. scoped_in t.body) ts) → Every (λ t. Belongs t.body) ts
+      template_bodies [] a b c = tt
+      template_bodies (t ∷ ts) a b c = (
+        record {
+          names = among_front (body_names t.body) (flat_map (λ u. body_names u.body) ts) all_names a;
+          included = each_front (Included world order h) (needs_in true t.body) (flat_map (λ u. needs_in true u.body) ts) b;
+          scoped = each_front (Proper world order h) (scoped_in t.body) (flat_map (λ u. scoped_in u.body) ts) c;
+        },
+        template_bodies ts (among_back (body_names t.body) (flat_map (λ u. body_names u.body) ts) all_names a)
+            (each_back (Included world order h) (needs_in true t.body) (flat_map (λ u. needs_in true u.body) ts) b)
+            (each_back (Proper world order h) (scoped_in t.body) (flat_map (λ u. scoped_in u.body) ts) c),
+      )
+
+      -- the templates of the chain
+      pub templates_belong : Every (λ t. Belongs t.body) (templates world.sources h)
+      templates_belong =
+          let all = own_names world.sources h ++ flat_map (names_in world at.1) (included world.sources h) in
+          template_bodies (templates world.sources h)
+          (subst (λ zs. AllAmong (own_names world.sources h) zs) (sym names_are) (among_front (own_names world.sources h) (flat_map (names_in world at.1) (included world.sources h)) (ascending all) (all_ascending all)))
+          (each_included (flat_map (λ t. needs_in true t.body) (templates world.sources h)) (λ x i. i))
+          (scoped_templates world order h known)
+
+      -- the names that scopes bind are names of the chain
+      pub scopes_known : AllAmong (scopes world order h) (names world order h)
+      scopes_known =
+          let all = own_names world.sources h ++ flat_map (names_in world at.1) (included world.sources h) in
+          subst (λ zs. AllAmong zs (names world order h)) (sym (scopes_are world order h known)) (ascending_among (flat_map (λ t. scope_names_in t.body) (templates world.sources h)) (names world order h)
+          (templates_bind (templates world.sources h) (names world order h) (subst (λ zs. AllAmong (own_names world.sources h) zs) (sym names_are) (among_front (own_names world.sources h) (flat_map (names_in world at.1) (included world.sources h)) (ascending all) (all_ascending all)))))
+
+      macro_bodies : (t : Text) (c : Body) → Belongs c → Every OwnedMacro (macros_in t c)
+      macro_bodies t end b = tt
+      macro_bodies t (stmt (macro line x ps body) rest) b =
+          let f = belongs_front (macro line x ps body) rest b in
+          let xs = map (λ p. p.name) ps in (
+            record {
+              body = owned body (among_back xs (body_names body) all_names f.0) f.1 (behind_proper world order h xs (named (set_in body) ++ scoped_in body) f.2);
+              parameters = names_proper world order h xs (named (set_in body) ++ scoped_in body) f.2;
+            },
+            macro_bodies t rest (belongs_back (macro line x ps body) rest b),
+          )
+      macro_bodies t (stmt s rest) b = macro_bodies t rest (belongs_back s rest b)
+
+      pub all_macro_bodies : (ts : List Template) → Every (λ t. Belongs t.body) ts → Every OwnedMacro (flat_map (λ t. macros_in t.name t.body) ts)
+      all_macro_bodies [] b = tt
+      all_macro_bodies (t ∷ ts) b = every_append OwnedMacro (macros_in t.name t.body) (flat_map (λ u. macros_in u.name u.body) ts) (macro_bodies t.name t.body b.0) (all_macro_bodies ts b.1)
+
+      macro_among : (x : Text) (m : MacroBody) (ms : List MacroBody) → Every OwnedMacro ms → macro_of x ms ≡ Some m → OwnedMacro m
+      macro_among x m [] b e = absurd (nothing e)
+        where
+          nothing : None ≡ Some m → ⊥
+          nothing q = cc
+      macro_among x m (n ∷ ns) b e = through (bytes_eq n.name x) e (λ f. macro_among x m ns b.1 f)
+        where
+          is_it : Some n ≡ Some m → n ≡ m
+          is_it q = cc
+
+          through : (c : Bool) → (if c then Some n else macro_of x ns) ≡ Some m → (macro_of x ns ≡ Some m → OwnedMacro m) → OwnedMacro m
+          through true e f = subst (λ z. OwnedMacro z) (is_it e) b.0
+          through false e f = f e
+
+      -- the macros of the chain
+      pub macro_belongs : (x : Text) (m : MacroBody) → macro_of x (macros world.sources h) ≡ Some m → OwnedMacro m
+      macro_belongs x m e = macro_among x m (macros world.sources h) (all_macro_bodies (templates world.sources h) templates_belong) e
+
+      abbrev pub InBelongs : List BlockBody → Type 0
+      InBelongs bs = Every (λ b. Owned b.body) bs
+
+      module _ (t : Text) where
+        mutual
+          stmt_blocks : (s : Stmt) (on : Bool) → StmtBelongs s → InBelongs (blocks_of t s on)
+          stmt_blocks (block line x true required body) on b = let o = owned body b.0 b.1 b.2.1 in (o, body_blocks body on o.belongs)
+          stmt_blocks (block line x false required body) on b = let o = owned body b.0 b.1 b.2 in (o, body_blocks body on o.belongs)
+          stmt_blocks (choose bs other) on b =
+              every_append (λ b. Owned b.body) (blocks_under t bs on) (blocks_in t other on)
+              (branch_blocks bs on (
+                among_front (branch_names bs) (body_names other) all_names b.0,
+                each_front (Included world order h) (needs_under true bs) (needs_in true other) b.1,
+                each_front (Proper world order h) (scoped_under bs) (scoped_in other) b.2,
+              ))
+              (body_blocks other on (record {
+                names = among_back (branch_names bs) (body_names other) all_names b.0;
+                included = each_back (Included world order h) (needs_under true bs) (needs_in true other) b.1;
+                scoped = each_back (Proper world order h) (scoped_under bs) (scoped_in other) b.2;
+              }))
+          stmt_blocks (for_each line xs e c body other) on b =
+              let b1 = among_back (expr_names e) (xs ++ (condition_names c ++ (body_names body ++ body_names other))) all_names b.0 in
+              let b2 = among_back xs (condition_names c ++ (body_names body ++ body_names other)) all_names b1 in
+              let b3 = among_back (condition_names c) (body_names body ++ body_names other) all_names b2 in
+              let d = behind_proper world order h (set_in body) (scoped_in body ++ scoped_in other) (behind_proper world order h xs (named (set_in body) ++ (scoped_in body ++ scoped_in other)) b.2) in
+              every_append (λ b. Owned b.body) (blocks_in t body on) (blocks_in t other on)
+              (body_blocks body on (record {
+                names = among_front (body_names body) (body_names other) all_names b3;
+                included = each_front (Included world order h) (needs_in true body) (needs_in true other) b.1;
+                scoped = each_front (Proper world order h) (scoped_in body) (scoped_in other) d;
+              }))
+              (body_blocks other on (record {
+                names = among_back (body_names body) (body_names other) all_names b3;
+                included = each_back (Included world order h) (needs_in true body) (needs_in true other) b.1;
+                scoped = each_back (Proper world order h) (scoped_in body) (scoped_in other) d;
+              }))
+          stmt_blocks (set_block line x body) on b = body_blocks body on (owned body b.0.1 b.1 b.2).belongs
+          stmt_blocks (with_values line ps body) on b =
+              body_blocks body on (owned body (among_back (keywords ps) (body_names body) all_names (among_back (pair_names ps) (keywords ps ++ body_names body) all_names b.0)) b.1 (behind_proper world order h (keywords ps) (named (set_in body) ++ scoped_in body) b.2)).belongs
+          stmt_blocks (filter_block line fs body) on b = body_blocks body on (owned body (among_front (body_names body) (filtering_names fs) all_names b.0) b.1 b.2).belongs
+          stmt_blocks (autoescape line now body) on b = body_blocks body now (owned body b.0 b.1 b.2).belongs
+          stmt_blocks (macro line x ps body) on b =
+              body_blocks body on (owned body (among_back (map (λ p. p.name) ps) (body_names body) all_names b.0) b.1 (behind_proper world order h (map (λ p. p.name) ps) (named (set_in body) ++ scoped_in body) b.2)).belongs
+          stmt_blocks (data_of d) on b = tt
+          stmt_blocks (print line e) on b = tt
+          stmt_blocks (set line xs e) on b = tt
+          stmt_blocks (include line n i w) on b = tt
+          stmt_blocks (extends line n) on b = tt
+
+          body_blocks : (c : Body) (on : Bool) → Belongs c → InBelongs (blocks_in t c on)
+          body_blocks end on b = tt
+          body_blocks (stmt s rest) on b = every_append (λ b. Owned b.body) (blocks_of t s on) (blocks_in t rest on) (stmt_blocks s on (belongs_front s rest b)) (body_blocks rest on (belongs_back s rest b))
+
+          branch_blocks : (bs : Branches) (on : Bool) → BranchesBelong bs → InBelongs (blocks_under t bs on)
+          branch_blocks no_branches on b = tt
+          branch_blocks (branch line c body rest) on b =
+              let b1 = among_back (expr_names c) (body_names body ++ branch_names rest) all_names b.0 in
+              every_append (λ b. Owned b.body) (blocks_in t body on) (blocks_under t rest on)
+              (body_blocks body on (record {
+                names = among_front (body_names body) (branch_names rest) all_names b1;
+                included = each_front (Included world order h) (needs_in true body) (needs_under true rest) b.1;
+                scoped = each_front (Proper world order h) (scoped_in body) (scoped_under rest) b.2;
+              }))
+              (branch_blocks rest on (
+                among_back (body_names body) (branch_names rest) all_names b1,
+                each_back (Included world order h) (needs_in true body) (needs_under true rest) b.1,
+                each_back (Proper world order h) (scoped_in body) (scoped_under rest) b.2,
+              ))
+
+      pub all_block_bodies : (on : Bool) (ts : List Template) → Every (λ t. Belongs t.body) ts → InBelongs (flat_map (λ t. blocks_in t.name t.body on) ts)
+      all_block_bodies on [] b = tt
+      all_block_bodies on (t ∷ ts) b = every_append (λ b. Owned b.body) (blocks_in t.name t.body on) (flat_map (λ u. blocks_in u.name u.body on) ts) (body_blocks t.name t.body on b.0) (all_block_bodies on ts b.1)
+
+      map_parts : (pre post : List (ℕ × BlockBody)) → map (λ c. c.1) (pre ++ post) ≡ map (λ c. c.1) pre ++ map (λ c. c.1) post
+      map_parts [] post = refl
+      map_parts (p ∷ pre) post = ap (λ zs. p.1 ∷ zs) (map_parts pre post)
+
+      -- the blocks' bodies of the chain
+      pub body_belongs : (i : ℕ) (c : BlockBody) (pre post : List (ℕ × BlockBody)) → numbered_bodies world h ≡ pre ++ ((i, c) ∷ post) → Owned c.body
+      body_belongs i c pre post e =
+          let all = all_block_bodies world.escaping (templates world.sources h) templates_belong in
+          let same = sym (counted_are 0 (all_bodies world.sources world.escaping h)) ∙ ap (map (λ d. d.1)) e ∙ map_parts pre ((i, c) ∷ post) in
+          (every_back (λ b. Owned b.body) (map (λ d. d.1) pre) (c ∷ map (λ d. d.1) post) (subst InBelongs same all)).0

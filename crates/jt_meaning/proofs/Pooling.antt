@@ -1,0 +1,169 @@
+-- A tree with places in the pool means what it means with its values.
+use Rattle.std.proofs.Common.{◌≡◌, ℕ, zero, suc, ◌+◌, Bool, true, false, if◌then◌else◌, List, [], ◌∷◌, ◌++◌, length, Option, Some, None, refl, ap, ◌∙◌, subst, arith}
+use Rattle.std.specs.Prelude.{slice_get}
+use Rattle.jt_value.specs.Tree as tree
+use Rattle.jt_value.specs.Tree.{Tree}
+use Rattle.jt_slots.specs.Got.{Place, Got, gives, bind, checked, at}
+use Rattle.jt_slots.specs.Values.{shown, bytes_of, as_value}
+use Rattle.jt_slots.specs.Slots.{with_locals, SExpr, pooled, variable, field, made, conjunction, disjunction, choice, invoke, SRow, none, item, aside, Targets, SStmt, put_pooled, print, assign, if_else, for_each, capture, run, SBody, end, stmt, Routine, Memory, Valued, Listed, SCalls, take, store, local, make, valued, in_front, svalue, svalues, skept, sturns, sgone_over, smeaning, smeanings, sperformed, scalls}
+use Rattle.jt_slots.specs.Loops.{Loop, items_of_value, tree_at}
+use Rattle.jt_slots.specs.Filters.{Filters}
+use Rattle.jt_slots.specs.Pool.{Constant, own, known, constant_in, constant_values, expr_values, row_values, condition_values, stmt_values, body_values, routines_values, placed, placed_expr, placed_row, placed_condition, placed_stmt, placed_body, placed_routines}
+use Rattle.jt_meaning.proofs.Both.{bind_ext}
+use Rattle.jt_meaning.proofs.Agreeing.{Held}
+
+held_front : (ts : List Tree) (n : ℕ) (us vs : List Tree) → Held ts n (us ++ vs) → Held ts n us
+held_front ts n [] vs h = tt
+held_front ts n (u ∷ us) vs h = (h.0, held_front ts (suc n) us vs h.1)
+
+held_back : (ts : List Tree) (n : ℕ) (us vs : List Tree) → Held ts n (us ++ vs) → Held ts (n + length us) vs
+held_back ts n [] vs h = subst (λ k. Held ts k vs) (let e : n ≡ n + 0 = omega arith in e) h
+held_back ts n (u ∷ us) vs h = subst (λ k. Held ts k vs) (let e : suc n + length us ≡ n + length (u ∷ us) = omega arith in e) (held_back ts (suc n) us vs h.1)
+
+module _ (fs : Filters) (pool : List Tree) (call call' : SCalls) (same : (u : ℕ) (ts gs : List Tree) → call' u ts gs ≡ call u ts gs) where
+  -- the values of a constant
+  constant_placed : (k : Constant) (n : ℕ) → Held pool n (constant_values k) → tree_at pool (placed k n) ≡ constant_in pool k
+  constant_placed (own v) n h = h.0
+  constant_placed (known i) n h = refl
+
+  abbrev by_value : SExpr Constant → Option Loop → Memory → Got Valued
+  by_value e l m = svalue fs (constant_in pool) call e l m
+
+  abbrev by_place : SExpr ℕ → Option Loop → Memory → Got Valued
+  by_place e l m = svalue fs (tree_at pool) call' e l m
+
+  abbrev row_by_value : SRow Constant → Option Loop → Memory → Got Listed
+  row_by_value es l m = svalues fs (constant_in pool) call es l m
+
+  abbrev row_by_place : SRow ℕ → Option Loop → Memory → Got Listed
+  row_by_place es l m = svalues fs (tree_at pool) call' es l m
+
+  if_same : {A : Type 0} (b : Bool) (x y x' y' : A) → x ≡ x' → y ≡ y' → (if b then x else y) ≡ (if b then x' else y')
+  if_same true x y x' y' e f = e
+  if_same false x y x' y' e f = f
+
+  -- the same, and then the same
+  then_same : {A B : Type 0} (g h : Got A) (f k : A → Got B) → g ≡ h → ((x : A) → f x ≡ k x) → bind g f ≡ bind h k
+  then_same g h f k e d = ap (λ z. bind z f) e ∙ bind_ext h f k d
+
+  mutual
+    expr_placed : (e : SExpr Constant) (n : ℕ) (l : Option Loop) (m : Memory) → Held pool n (expr_values e) → by_place (placed_expr e n) l m ≡ by_value e l m
+    expr_placed (pooled k) n l m h = ap (valued m) (constant_placed k n h)
+    expr_placed (variable s) n l m h = refl
+    expr_placed (field f) n l m h = refl
+    expr_placed (made k es) n l m h = ap (λ g. bind g (λ r. bind (checked (make fs k r.values)) (valued r.memory))) (row_placed es n l m h)
+    expr_placed (conjunction a b) n l m h =
+        then_same (by_place (placed_expr a n) l m) (by_value a l m) (λ r. if tree.truth r.value then by_place (placed_expr b (n + length (expr_values a))) l r.memory else gives r) (λ r. if tree.truth r.value then by_value b l r.memory else gives r)
+        (expr_placed a n l m (held_front pool n (expr_values a) (expr_values b) h))
+        (λ r. if_same (tree.truth r.value) (by_place (placed_expr b (n + length (expr_values a))) l r.memory) (gives r) (by_value b l r.memory) (gives r) (expr_placed b (n + length (expr_values a)) l r.memory (held_back pool n (expr_values a) (expr_values b) h)) refl)
+    expr_placed (disjunction a b) n l m h =
+        then_same (by_place (placed_expr a n) l m) (by_value a l m) (λ r. if tree.truth r.value then gives r else by_place (placed_expr b (n + length (expr_values a))) l r.memory) (λ r. if tree.truth r.value then gives r else by_value b l r.memory)
+        (expr_placed a n l m (held_front pool n (expr_values a) (expr_values b) h))
+        (λ r. if_same (tree.truth r.value) (gives r) (by_place (placed_expr b (n + length (expr_values a))) l r.memory) (gives r) (by_value b l r.memory) refl (expr_placed b (n + length (expr_values a)) l r.memory (held_back pool n (expr_values a) (expr_values b) h)))
+    expr_placed (choice c a b) n l m h =
+        let rest = held_back pool n (expr_values c) (expr_values a ++ expr_values b) h in
+        then_same (by_place (placed_expr c n) l m) (by_value c l m)
+        (λ r. if tree.truth r.value then by_place (placed_expr a (n + length (expr_values c))) l r.memory else by_place (placed_expr b (n + length (expr_values c) + length (expr_values a))) l r.memory)
+        (λ r. if tree.truth r.value then by_value a l r.memory else by_value b l r.memory)
+        (expr_placed c n l m (held_front pool n (expr_values c) (expr_values a ++ expr_values b) h))
+        (λ r. if_same (tree.truth r.value) (by_place (placed_expr a (n + length (expr_values c))) l r.memory) (by_place (placed_expr b (n + length (expr_values c) + length (expr_values a))) l r.memory) (by_value a l r.memory) (by_value b l r.memory)
+        (expr_placed a (n + length (expr_values c)) l r.memory (held_front pool (n + length (expr_values c)) (expr_values a) (expr_values b) rest))
+        (expr_placed b (n + length (expr_values c) + length (expr_values a)) l r.memory (held_back pool (n + length (expr_values c)) (expr_values a) (expr_values b) rest)))
+    expr_placed (invoke u on es) n l m h =
+        then_same (row_by_place (placed_row es n) l m) (row_by_value es l m)
+        (λ r. bind (call' u r.values r.memory.globals) (λ w. valued (record r.memory { globals = w.globals }) (as_value on w.text))) (λ r. bind (call u r.values r.memory.globals) (λ w. valued (record r.memory { globals = w.globals }) (as_value on w.text)))
+        (row_placed es n l m h) (λ r. ap (λ g. bind g (λ w. valued (record r.memory { globals = w.globals }) (as_value on w.text))) (same u r.values r.memory.globals))
+
+    row_placed : (es : SRow Constant) (n : ℕ) (l : Option Loop) (m : Memory) → Held pool n (row_values es) → row_by_place (placed_row es n) l m ≡ row_by_value es l m
+    row_placed none n l m h = refl
+    row_placed (item e es) n l m h =
+        then_same (by_place (placed_expr e n) l m) (by_value e l m) (λ r. bind (row_by_place (placed_row es (n + length (expr_values e))) l r.memory) (λ rs. gives (in_front r.value rs))) (λ r. bind (row_by_value es l r.memory) (λ rs. gives (in_front r.value rs)))
+        (expr_placed e n l m (held_front pool n (expr_values e) (row_values es) h))
+        (λ r. ap (λ g. bind g (λ rs. gives (in_front r.value rs))) (row_placed es (n + length (expr_values e)) l r.memory (held_back pool n (expr_values e) (row_values es) h)))
+    row_placed (aside i e es) n l m h =
+        then_same (by_place (placed_expr e n) l m) (by_value e l m) (λ r. row_by_place (placed_row es (n + length (expr_values e))) l (store (local i) r.value r.memory)) (λ r. row_by_value es l (store (local i) r.value r.memory))
+        (expr_placed e n l m (held_front pool n (expr_values e) (row_values es) h))
+        (λ r. row_placed es (n + length (expr_values e)) l (store (local i) r.value r.memory) (held_back pool n (expr_values e) (row_values es) h))
+
+  kept_placed : (c : Option (SExpr Constant)) (n : ℕ) (xs : Targets) (vs : List Tree) (m : Memory) → Held pool n (condition_values c) → skept fs (tree_at pool) call' (placed_condition c n) xs vs m ≡ skept fs (constant_in pool) call c xs vs m
+  kept_placed None n xs vs m h = refl
+  kept_placed (Some c) n xs [] m h = refl
+  kept_placed (Some c) n xs (v ∷ vs) m h =
+      bind_ext (take xs v m) (λ o. bind (by_place (placed_expr c n) None o) (λ r. bind (skept fs (tree_at pool) call' (placed_condition (Some c) n) xs vs r.memory) (λ rest. gives (if tree.truth r.value then in_front v rest else rest))))
+      (λ o. bind (by_value c None o) (λ r. bind (skept fs (constant_in pool) call (Some c) xs vs r.memory) (λ rest. gives (if tree.truth r.value then in_front v rest else rest))))
+      (λ o. then_same (by_place (placed_expr c n) None o) (by_value c None o) (λ r. bind (skept fs (tree_at pool) call' (placed_condition (Some c) n) xs vs r.memory) (λ rest. gives (if tree.truth r.value then in_front v rest else rest)))
+      (λ r. bind (skept fs (constant_in pool) call (Some c) xs vs r.memory) (λ rest. gives (if tree.truth r.value then in_front v rest else rest)))
+      (expr_placed c n None o h) (λ r. ap (λ g. bind g (λ rest. gives (if tree.truth r.value then in_front v rest else rest))) (kept_placed (Some c) n xs vs r.memory h)))
+
+  turns_same : (f k : Option Loop → Memory → Got Memory) → ((l : Option Loop) (m : Memory) → f l m ≡ k l m) → (xs : Targets) (p : Place) (all : List Tree) (i : ℕ) (vs : List Tree) (m : Memory) → sturns f xs p all i vs m ≡ sturns k xs p all i vs m
+  turns_same f k d xs p all i [] m = refl
+  turns_same f k d xs p all i (v ∷ vs) m =
+      bind_ext (at p (take xs v m)) (λ n. bind (f (Some (record { items = all; before = i })) n) (sturns f xs p all (suc i) vs)) (λ n. bind (k (Some (record { items = all; before = i })) n) (sturns k xs p all (suc i) vs))
+      (λ n. then_same (f (Some (record { items = all; before = i })) n) (k (Some (record { items = all; before = i })) n) (sturns f xs p all (suc i) vs) (sturns k xs p all (suc i) vs) (d (Some (record { items = all; before = i })) n) (λ o. turns_same f k d xs p all (suc i) vs o))
+
+  gone_same : (f k : Option Loop → Memory → Got Memory) → ((l : Option Loop) (m : Memory) → f l m ≡ k l m) → (g h : Memory → Got Memory) → ((m : Memory) → g m ≡ h m) → (xs : Targets) (p : Place) (vs : List Tree) (m : Memory) → sgone_over f g xs p vs m ≡ sgone_over k h xs p vs m
+  gone_same f k d g h e xs p [] m = e m
+  gone_same f k d g h e xs p (v ∷ vs) m = turns_same f k d xs p (v ∷ vs) 0 (v ∷ vs) m
+
+  abbrev body_by_value : SBody Constant → Option Loop → Memory → Got Memory
+  body_by_value b l m = smeanings fs (constant_in pool) call b l m
+
+  abbrev body_by_place : SBody ℕ → Option Loop → Memory → Got Memory
+  body_by_place b l m = smeanings fs (tree_at pool) call' b l m
+
+  mutual
+    stmt_placed : (s : SStmt Constant) (n : ℕ) (l : Option Loop) (m : Memory) → Held pool n (stmt_values s) → smeaning fs (tree_at pool) call' (placed_stmt s n) l m ≡ smeaning fs (constant_in pool) call s l m
+    stmt_placed (put_pooled k) n l m h = ap (λ v. gives (record m { out = m.out ++ bytes_of v })) (constant_placed k n h)
+    stmt_placed (print p on e) n l m h = ap (λ g. at p (bind g (λ r. bind (shown on r.value) (λ s. gives (record r.memory { out = r.memory.out ++ s }))))) (expr_placed e n l m h)
+    stmt_placed (assign p xs e) n l m h = ap (λ g. at p (bind g (λ r. take xs r.value r.memory))) (expr_placed e n l m h)
+    stmt_placed (if_else p c a b) n l m h =
+        let rest = held_back pool n (expr_values c) (body_values a ++ body_values b) h in
+        then_same (at p (by_place (placed_expr c n) l m)) (at p (by_value c l m))
+        (λ r. if tree.truth r.value then body_by_place (placed_body a (n + length (expr_values c))) l r.memory else body_by_place (placed_body b (n + length (expr_values c) + length (body_values a))) l r.memory)
+        (λ r. if tree.truth r.value then body_by_value a l r.memory else body_by_value b l r.memory)
+        (ap (at p) (expr_placed c n l m (held_front pool n (expr_values c) (body_values a ++ body_values b) h)))
+        (λ r. if_same (tree.truth r.value) (body_by_place (placed_body a (n + length (expr_values c))) l r.memory) (body_by_place (placed_body b (n + length (expr_values c) + length (body_values a))) l r.memory) (body_by_value a l r.memory) (body_by_value b l r.memory)
+        (body_placed a (n + length (expr_values c)) l r.memory (held_front pool (n + length (expr_values c)) (body_values a) (body_values b) rest))
+        (body_placed b (n + length (expr_values c) + length (body_values a)) l r.memory (held_back pool (n + length (expr_values c)) (body_values a) (body_values b) rest)))
+    stmt_placed (for_each p xs e c body other) n l m h =
+        let n1 = n + length (expr_values e) in
+        let n2 = n1 + length (condition_values c) in
+        let n3 = n2 + length (body_values body) in
+        let h1 = held_back pool n (expr_values e) (condition_values c ++ (body_values body ++ body_values other)) h in
+        let h2 = held_back pool n1 (condition_values c) (body_values body ++ body_values other) h1 in
+        then_same (at p (bind (by_place (placed_expr e n) l m) (λ r. bind (checked (items_of_value r.value)) (λ vs. skept fs (tree_at pool) call' (placed_condition c n1) xs vs r.memory))))
+        (at p (bind (by_value e l m) (λ r. bind (checked (items_of_value r.value)) (λ vs. skept fs (constant_in pool) call c xs vs r.memory))))
+        (λ r. sgone_over (λ l' m'. body_by_place (placed_body body n2) l' m') (λ m'. body_by_place (placed_body other n3) l m') xs p r.values r.memory)
+        (λ r. sgone_over (λ l' m'. body_by_value body l' m') (λ m'. body_by_value other l m') xs p r.values r.memory)
+        (ap (at p) (then_same (by_place (placed_expr e n) l m) (by_value e l m) (λ r. bind (checked (items_of_value r.value)) (λ vs. skept fs (tree_at pool) call' (placed_condition c n1) xs vs r.memory))
+        (λ r. bind (checked (items_of_value r.value)) (λ vs. skept fs (constant_in pool) call c xs vs r.memory)) (expr_placed e n l m (held_front pool n (expr_values e) (condition_values c ++ (body_values body ++ body_values other)) h))
+        (λ r. bind_ext (checked (items_of_value r.value)) (λ vs. skept fs (tree_at pool) call' (placed_condition c n1) xs vs r.memory) (λ vs. skept fs (constant_in pool) call c xs vs r.memory)
+        (λ vs. kept_placed c n1 xs vs r.memory (held_front pool n1 (condition_values c) (body_values body ++ body_values other) h1)))))
+        (λ r. gone_same (λ l' m'. body_by_place (placed_body body n2) l' m') (λ l' m'. body_by_value body l' m') (λ l' m'. body_placed body n2 l' m' (held_front pool n2 (body_values body) (body_values other) h2))
+        (λ m'. body_by_place (placed_body other n3) l m') (λ m'. body_by_value other l m') (λ m'. body_placed other n3 l m' (held_back pool n2 (body_values body) (body_values other) h2)) xs p r.values r.memory)
+    stmt_placed (capture on s body) n l m h = ap (λ g. bind g (λ o. gives (store s (as_value on o.out) (record o { out = m.out })))) (body_placed body n l (record m { out = [] }) h)
+    stmt_placed (run u es) n l m h =
+        then_same (row_by_place (placed_row es n) l m) (row_by_value es l m)
+        (λ r. bind (call' u r.values r.memory.globals) (λ w. gives (record r.memory { globals = w.globals; out = r.memory.out ++ w.text }))) (λ r. bind (call u r.values r.memory.globals) (λ w. gives (record r.memory { globals = w.globals; out = r.memory.out ++ w.text })))
+        (row_placed es n l m h) (λ r. ap (λ g. bind g (λ w. gives (record r.memory { globals = w.globals; out = r.memory.out ++ w.text }))) (same u r.values r.memory.globals))
+
+    pub body_placed : (b : SBody Constant) (n : ℕ) (l : Option Loop) (m : Memory) → Held pool n (body_values b) → body_by_place (placed_body b n) l m ≡ body_by_value b l m
+    body_placed end n l m h = refl
+    body_placed (stmt s rest) n l m h =
+        then_same (smeaning fs (tree_at pool) call' (placed_stmt s n) l m) (smeaning fs (constant_in pool) call s l m) (λ o. body_by_place (placed_body rest (n + length (stmt_values s))) l o) (λ o. body_by_value rest l o)
+        (stmt_placed s n l m (held_front pool n (stmt_values s) (body_values rest) h)) (λ o. body_placed rest (n + length (stmt_values s)) l o (held_back pool n (stmt_values s) (body_values rest) h))
+
+  -- a routine of a list
+  pub routine_placed : (rs : List (Routine Constant)) (n u : ℕ) (ts gs : List Tree) → Held pool n (routines_values rs)
+      → sperformed fs (tree_at pool) call' (slice_get (placed_routines rs n) u) ts gs ≡ sperformed fs (constant_in pool) call (slice_get rs u) ts gs
+  routine_placed [] n u ts gs h = refl
+  routine_placed (r ∷ rs) n zero ts gs h =
+      ap (λ g. bind g (λ m. gives (record { text = m.out; globals = m.globals }))) (body_placed r.body n None (record { locals = with_locals r.locals ts; globals = gs; out = [] }) (held_front pool n (body_values r.body) (routines_values rs) h))
+  routine_placed (r ∷ rs) n (suc u) ts gs h = routine_placed rs (n + length (body_values r.body)) u ts gs (held_back pool n (body_values r.body) (routines_values rs) h)
+
+-- at each depth
+pub calls_placed : (fs : Filters) (pool : List Tree) (rs : List (Routine Constant)) (n : ℕ) → Held pool n (routines_values rs) → (d u : ℕ) (ts gs : List Tree)
+    → scalls fs (tree_at pool) (placed_routines rs n) d u ts gs ≡ scalls fs (constant_in pool) rs d u ts gs
+calls_placed fs pool rs n h zero u ts gs = refl
+calls_placed fs pool rs n h (suc d) u ts gs =
+    routine_placed fs pool (scalls fs (constant_in pool) rs d) (scalls fs (tree_at pool) (placed_routines rs n) d) (λ v us hs. calls_placed fs pool rs n h d v us hs) rs n u ts gs h

@@ -1,0 +1,269 @@
+-- Worked rows, computed from the definitions: by names, and by the slots of the entry's program. The entry is `t`; escaping is on; at most
+-- 9 calls are open.
+use Rattle.std.proofs.Common.{refl}
+use Rattle.std.specs.Prelude.{pos, true, false, [], ◌∷◌, codes, Some, None}
+use Rattle.std.specs.Fmt.{digits}
+use Rattle.std.specs.Str.{chars as characters}
+use Rattle.jt_value.specs.Tree as v
+use Rattle.jt_value.specs.View.{items_of}
+use Rattle.jt_value.specs.declared.fault.Fault.TheVariants.{Undefined, Unpack, ZeroDivide}
+use Rattle.jt_expr.specs.Trees as e
+use Rattle.jt_expr.specs.Trees.{no_exprs, no_pairs}
+use Rattle.jt_slots.specs.Tests.{test_named}
+use Rattle.jt_parse.specs.Trees.{end}
+use Rattle.jt_meaning.proofs.Small.{name, num, str, exprs, listing, call, Call, pair, of, Filter, Test, Binary, body, chars, print, Print, set, Set, SetBlock, With, FilterBlock, Autoescape, For, when, block, Block, Macro, Include, extends, parameter, source, Shows, FaultsAt, IsDeeper}
+
+-- {% for x in xs if x > 5 %}{{ loop.index }}:{{ x }} {% else %}none{% endfor %}
+row_5 : Shows (source "t" (For 1 (codes "x" ∷ []) (name "xs") (Some (Binary 15 (name "x") (num 5))) (body (print (of (name "loop") "index") ∷ chars ":" ∷ print (name "x") ∷ chars " " ∷ [])) (body (chars "none" ∷ [])) ∷ []) ∷ []) ((codes "xs", v.list (items_of (v.number (pos 6) ∷ v.number (pos 1) ∷ v.number (pos 7) ∷ []))) ∷ []) "1:6 2:7 "
+unfolding digits characters test_named
+row_5 = (refl, refl)
+
+-- the same, where no item is kept
+row_5_none : Shows (source "t" (For 1 (codes "x" ∷ []) (name "xs") (Some (Binary 15 (name "x") (num 5))) (body (print (of (name "loop") "index") ∷ chars ":" ∷ print (name "x") ∷ chars " " ∷ [])) (body (chars "none" ∷ [])) ∷ []) ∷ []) ((codes "xs", v.list (items_of (v.number (pos 1) ∷ []))) ∷ []) "none"
+unfolding digits characters test_named
+row_5_none = (refl, refl)
+
+-- {% set x = 1 %}{% for i in [1, 2] %}{{ x }}{% set x = 9 %}{% endfor %}{{ x }}
+row_6 : Shows (source "t" (set "x" (num 1) ∷ For 1 (codes "i" ∷ []) (listing (num 1 ∷ num 2 ∷ [])) None (body (print (name "x") ∷ set "x" (num 9) ∷ [])) end ∷ print (name "x") ∷ []) ∷ []) ([]) "111"
+unfolding digits characters test_named
+row_6 = (refl, refl)
+
+-- base: [{% block t %}base{% endblock %}]; t: {% extends "base" %}{% block t %}{{ super() }}+child{% endblock %}
+row_7 : Shows (source "t" (extends "base" ∷ block "t" (print (call (name "super") []) ∷ chars "+child" ∷ []) ∷ []) ∷ source "base" (chars "[" ∷ block "t" (chars "base" ∷ []) ∷ chars "]" ∷ []) ∷ []) ([]) "[base+child]"
+unfolding digits characters test_named
+row_7 = (refl, refl)
+
+-- {% for i in [1] %}{% block b %}{{ i }}{% endblock %}{% endfor %}
+row_8 : Shows (source "t" (For 1 (codes "i" ∷ []) (listing (num 1 ∷ [])) None (body (Block 1 (codes "b") false false (body (print (name "i") ∷ [])) ∷ [])) end ∷ []) ∷ []) ([]) ""
+unfolding digits characters test_named
+row_8 = (refl, refl)
+
+-- {% for i in [1] %}{% block b scoped %}{{ i }}{% endblock %}{% endfor %}
+row_8_scoped : Shows (source "t" (For 1 (codes "i" ∷ []) (listing (num 1 ∷ [])) None (body (Block 1 (codes "b") true false (body (print (name "i") ∷ [])) ∷ [])) end ∷ []) ∷ []) ([]) "1"
+unfolding digits characters test_named
+row_8_scoped = (refl, refl)
+
+-- {{ nope }}
+row_10 : Shows (source "t" (print (name "nope") ∷ []) ∷ []) ([]) ""
+unfolding digits characters test_named
+row_10 = (refl, refl)
+
+-- {{ nope.x }}
+row_10_item : FaultsAt (source "t" (print (of (name "nope") "x") ∷ []) ∷ []) ([]) Undefined "t" 1
+unfolding digits characters test_named
+row_10_item = (refl, refl)
+
+-- {% macro m() %}{{ m() }}{% endmacro %}{{ m() }}
+row_13 : IsDeeper (source "t" (Macro 1 (codes "m") [] (body (print (call (name "m") []) ∷ [])) ∷ print (call (name "m") []) ∷ []) ∷ []) ([])
+unfolding digits characters test_named
+row_13 = (refl, refl)
+
+-- {% set a, b = [1, 2] %}{{ b }}{{ a }}
+row_22 : Shows (source "t" (Set 1 (codes "a" ∷ codes "b" ∷ []) (listing (num 1 ∷ num 2 ∷ [])) ∷ print (name "b") ∷ print (name "a") ∷ []) ∷ []) ([]) "21"
+unfolding digits characters test_named
+row_22 = (refl, refl)
+
+-- the same with [1]
+row_22_one : FaultsAt (source "t" (Set 1 (codes "a" ∷ codes "b" ∷ []) (listing (num 1 ∷ [])) ∷ print (name "b") ∷ print (name "a") ∷ []) ∷ []) ([]) Unpack "t" 1
+unfolding digits characters test_named
+row_22_one = (refl, refl)
+
+-- {% set a = 1 %}{% with a = 2, b = a %}{{ a }}{{ b }}{% endwith %}{{ a }}
+row_23 : Shows (source "t" (set "a" (num 1) ∷ With 1 (pair (codes "a") (num 2) (pair (codes "b") (name "a") no_pairs)) (body (print (name "a") ∷ print (name "b") ∷ [])) ∷ print (name "a") ∷ []) ∷ []) ([]) "211"
+unfolding digits characters test_named
+row_23 = (refl, refl)
+
+-- p: <{{ i }}>; t: {% for i in [1, 2] %}{% include "p" %}{% endfor %}
+row_24 : Shows (source "t" (For 1 (codes "i" ∷ []) (listing (num 1 ∷ num 2 ∷ [])) None (body (Include 1 (codes "p") false true ∷ [])) end ∷ []) ∷ source "p" (chars "<" ∷ print (name "i") ∷ chars ">" ∷ []) ∷ []) ([]) "<1><2>"
+unfolding digits characters test_named
+row_24 = (refl, refl)
+
+-- p: <{{ i }}>; t: {% for i in [1, 2] %}{% include "p" without context %}{% endfor %}
+row_24_without : Shows (source "t" (For 1 (codes "i" ∷ []) (listing (num 1 ∷ num 2 ∷ [])) None (body (Include 1 (codes "p") false false ∷ [])) end ∷ []) ∷ source "p" (chars "<" ∷ print (name "i") ∷ chars ">" ∷ []) ∷ []) ([]) "<><>"
+unfolding digits characters test_named
+row_24_without = (refl, refl)
+
+-- {% set m %}<i>{% endset %}{{ m }}{{ "<i>" }}
+row_25 : Shows (source "t" (SetBlock 1 (codes "m") (body (chars "<i>" ∷ [])) ∷ print (name "m") ∷ print (str "<i>") ∷ []) ∷ []) ([]) "<i>&lt;i&gt;"
+unfolding digits characters test_named
+row_25 = (refl, refl)
+
+-- {% macro f(a, b=2) %}{{ a }}-{{ b }};{% endmacro %}{{ f(1) }}{{ f(1, b=3) }}{{ f() }}
+row_26 : Shows (source "t" (Macro 1 (codes "f") (parameter "a" ∷ record { name = codes "b"; default = Some (e.number (pos 2)) } ∷ []) (body (print (name "a") ∷ chars "-" ∷ print (name "b") ∷ chars ";" ∷ [])) ∷ print (call (name "f") (num 1 ∷ [])) ∷ print (Call (name "f") (exprs (num 1 ∷ [])) (pair (codes "b") (num 3) no_pairs)) ∷ print (call (name "f") []) ∷ []) ∷ []) ([]) "1-2;1-3;-2;"
+unfolding digits characters test_named
+row_26 = (refl, refl)
+
+-- {% for x in "ab" %}{{ loop.cycle("x", "y") }}{{ loop.last }}{% endfor %}
+row_27 : Shows (source "t" (For 1 (codes "x" ∷ []) (str "ab") None (body (print (call (of (name "loop") "cycle") (str "x" ∷ str "y" ∷ [])) ∷ print (of (name "loop") "last") ∷ [])) end ∷ []) ∷ []) ([]) "xFalseyTrue"
+unfolding digits characters test_named
+row_27 = (refl, refl)
+
+-- {% filter upper %}a{{ "<" }}{% endfilter %}
+r5_filter : Shows (source "t" (FilterBlock 1 (record { name = codes "upper"; arguments = no_exprs; keywords = no_pairs } ∷ []) (body (chars "a" ∷ print (str "<") ∷ [])) ∷ []) ∷ []) ([]) "A&LT;"
+unfolding digits characters test_named
+r5_filter = (refl, refl)
+
+-- {% for a, b in [[1, 2], [3, 4]] %}{{ a + b }}{{ loop.revindex }},{% endfor %}
+r5_targets : Shows (source "t" (For 1 (codes "a" ∷ codes "b" ∷ []) (listing (listing (num 1 ∷ num 2 ∷ []) ∷ listing (num 3 ∷ num 4 ∷ []) ∷ [])) None (body (print (Binary 0 (name "a") (name "b")) ∷ print (of (name "loop") "revindex") ∷ chars "," ∷ [])) end ∷ []) ∷ []) ([]) "32,71,"
+unfolding digits characters test_named
+r5_targets = (refl, refl)
+
+-- {% for x in [1] %}{{ loop.previtem is defined }}{% endfor %}
+r5_previtem : Shows (source "t" (For 1 (codes "x" ∷ []) (listing (num 1 ∷ [])) None (body (print (Test false (of (name "loop") "previtem") (codes "defined") no_exprs no_pairs) ∷ [])) end ∷ []) ∷ []) ([]) "False"
+unfolding digits characters test_named
+r5_previtem = (refl, refl)
+
+-- {% include "no" ignore missing %}x
+r7_missing : Shows (source "t" (Include 1 (codes "no") true true ∷ chars "x" ∷ []) ∷ []) ([]) "x"
+unfolding digits characters test_named
+r7_missing = (refl, refl)
+
+-- {% macro m() %}<{% endmacro %}{{ m() }}{{ m()|length }}
+r7_length : Shows (source "t" (Macro 1 (codes "m") [] (body (chars "<" ∷ [])) ∷ print (call (name "m") []) ∷ print (Filter (call (name "m") []) (codes "length") no_exprs no_pairs) ∷ []) ∷ []) ([]) "<1"
+unfolding digits characters test_named
+r7_length = (refl, refl)
+
+-- root: {% block t %}1{% endblock %}; mid and t extend it and add 2 and 3 behind super()
+r8_super : Shows (source "t" (extends "mid" ∷ block "t" (print (call (name "super") []) ∷ chars "3" ∷ []) ∷ []) ∷ source "mid" (extends "root" ∷ block "t" (print (call (name "super") []) ∷ chars "2" ∷ []) ∷ []) ∷ source "root" (block "t" (chars "1" ∷ []) ∷ []) ∷ []) ([]) "123"
+unfolding digits characters test_named
+r8_super = (refl, refl)
+
+-- {% block t %}x{% endblock %}{{ self.t() }}
+r8_self : Shows (source "t" (block "t" (chars "x" ∷ []) ∷ print (call (of (name "self") "t") []) ∷ []) ∷ []) ([]) "xx"
+unfolding digits characters test_named
+r8_self = (refl, refl)
+
+-- base: {{ a }}; t: {% extends "base" %}{% set a = 1 %}gone
+r8_child_set : Shows (source "t" (extends "base" ∷ set "a" (num 1) ∷ chars "gone" ∷ []) ∷ source "base" (print (name "a") ∷ []) ∷ []) ([]) "1"
+unfolding digits characters test_named
+r8_child_set = (refl, refl)
+
+-- base: {% set a = 2 %}{{ a }}; the same entry
+r8_root_set : Shows (source "t" (extends "base" ∷ set "a" (num 1) ∷ chars "gone" ∷ []) ∷ source "base" (set "a" (num 2) ∷ print (name "a") ∷ []) ∷ []) ([]) "2"
+unfolding digits characters test_named
+r8_root_set = (refl, refl)
+
+-- a LF {{ nope.x }}
+r15_line : FaultsAt (source "t" (chars "a" ∷ Print 2 (of (name "nope") "x") ∷ []) ∷ []) ([]) Undefined "t" 2
+unfolding digits characters test_named
+r15_line = (refl, refl)
+
+-- p: LF {{ 1 // n }}; t: {% include "p" %}; n = 0
+r15_include : FaultsAt (source "t" (Include 1 (codes "p") false true ∷ []) ∷ source "p" (chars "a" ∷ Print 2 (Binary 3 (num 1) (name "n")) ∷ []) ∷ []) ((codes "n", v.number (pos 0)) ∷ []) ZeroDivide "p" 2
+unfolding digits characters test_named
+r15_include = (refl, refl)
+
+-- {% macro m(a) %} LF {{ a.b }} LF {% endmacro %} LF LF {{ m() }}
+r15_body : FaultsAt (source "t" (Macro 1 (codes "m") (parameter "a" ∷ []) (body (Print 2 (of (name "a") "b") ∷ [])) ∷ Print 5 (call (name "m") []) ∷ []) ∷ []) ([]) Undefined "t" 2
+unfolding digits characters test_named
+r15_body = (refl, refl)
+
+-- the same with {{ m(nope.x) }} last
+r15_argument : FaultsAt (source "t" (Macro 1 (codes "m") (parameter "a" ∷ []) (body (Print 2 (of (name "a") "b") ∷ [])) ∷ Print 5 (call (name "m") (of (name "nope") "x" ∷ [])) ∷ []) ∷ []) ([]) Undefined "t" 5
+unfolding digits characters test_named
+r15_argument = (refl, refl)
+
+-- a local that holds undefined hides a global from an include; p: [{{ x }}]; t: {% set x = 1 %}{% with x = nope %}{% include "p" %}{% endwith %}
+hidden_by_undefined : Shows (source "t" (set "x" (num 1) ∷ With 1 (pair (codes "x") (name "nope") no_pairs) (body (Include 1 (codes "p") false true ∷ [])) ∷ []) ∷ source "p" (chars "[" ∷ print (name "x") ∷ chars "]" ∷ []) ∷ []) ([]) "[]"
+unfolding digits characters test_named
+hidden_by_undefined = (refl, refl)
+
+-- a body has the autoescape state of its own place: {% autoescape false %}{% block t %}{{ "<" }}{% endblock %}{% endautoescape %}
+escaping_off : Shows (source "t" (Autoescape 1 false (body (block "t" (print (str "<") ∷ []) ∷ [])) ∷ []) ∷ []) ([]) "<"
+unfolding digits characters test_named
+escaping_off = (refl, refl)
+
+-- and an overriding body that of its place in the child
+escaping_of_the_override : Shows (source "t" (extends "base" ∷ block "t" (print (str "<") ∷ print (call (name "super") []) ∷ []) ∷ []) ∷ source "base" (Autoescape 1 false (body (block "t" (print (str "<") ∷ []) ∷ [])) ∷ []) ∷ []) ([]) "&lt;<"
+unfolding digits characters test_named
+escaping_of_the_override = (refl, refl)
+
+-- super() runs in the scope of the placement: base: {% block t %}{{ a }}{% endblock %}; t sets a in its body and calls super()
+super_in_the_placement : Shows (source "t" (extends "base" ∷ block "t" (set "a" (num 1) ∷ print (call (name "super") []) ∷ chars "." ∷ []) ∷ []) ∷ source "base" (block "t" (print (name "a") ∷ []) ∷ []) ∷ []) ([]) "."
+unfolding digits characters test_named
+super_in_the_placement = (refl, refl)
+
+-- an override needs no scoped: base: {% for i in [1, 2] %}{% block b scoped %}{% endblock %}{% endfor %}; t prints i in b
+scoped_at_the_placement : Shows (source "t" (extends "base" ∷ block "b" (print (name "i") ∷ []) ∷ []) ∷ source "base" (For 1 (codes "i" ∷ []) (listing (num 1 ∷ num 2 ∷ [])) None (body (Block 1 (codes "b") true false (body []) ∷ [])) end ∷ []) ∷ []) ([]) "12"
+unfolding digits characters test_named
+scoped_at_the_placement = (refl, refl)
+
+-- a macro sees the globals as they are when it runs, and no local: {% macro m() %}{{ x }}{% endmacro %}{% set x = 1 %}{{ m() }}{% set x = 2 %}{% with x = 3 %}{{ m() }}{% endwith %}
+globals_when_it_runs : Shows (source "t" (Macro 1 (codes "m") [] (body (print (name "x") ∷ [])) ∷ set "x" (num 1) ∷ print (call (name "m") []) ∷ set "x" (num 2) ∷ With 1 (pair (codes "x") (num 3) no_pairs) (body (print (call (name "m") []) ∷ [])) ∷ []) ∷ []) ([]) "12"
+unfolding digits characters test_named
+globals_when_it_runs = (refl, refl)
+
+-- super() passes over required bodies
+super_over_required : Shows (source "t" (extends "mid" ∷ block "t" (print (call (name "super") []) ∷ chars "3" ∷ []) ∷ []) ∷ source "mid" (extends "root" ∷ Block 1 (codes "t") false true (body []) ∷ []) ∷ source "root" (block "t" (chars "1" ∷ []) ∷ []) ∷ []) ([]) "13"
+unfolding digits characters test_named
+super_over_required = (refl, refl)
+
+-- the sets of an include are not seen outside; p: {% set x = 2 %}{{ x }}; t: {% set x = 1 %}{% include "p" %}{{ x }}
+sets_of_an_include : Shows (source "t" (set "x" (num 1) ∷ Include 1 (codes "p") false true ∷ print (name "x") ∷ []) ∷ source "p" (set "x" (num 2) ∷ print (name "x") ∷ []) ∷ []) ([]) "21"
+unfolding digits characters test_named
+sets_of_an_include = (refl, refl)
+
+-- {{ m(m(1, 2), b=m(3, m(4))) }}
+nested_arguments : Shows (source "t" (Macro 1 (codes "m") (parameter "a" ∷ parameter "b" ∷ []) (body (chars "(" ∷ print (name "a") ∷ print (name "b") ∷ chars ")" ∷ [])) ∷ print (Call (name "m") (exprs (call (name "m") (num 1 ∷ num 2 ∷ []) ∷ [])) (pair (codes "b") (call (name "m") (num 3 ∷ call (name "m") (num 4 ∷ []) ∷ [])) no_pairs)) ∷ []) ∷ []) ([]) "((12)(3(4)))"
+unfolding digits characters test_named
+nested_arguments = (refl, refl)
+
+-- {{ m(b=m(1), a=m(2)) }}
+keywords_in_any_order : Shows (source "t" (Macro 1 (codes "m") (parameter "a" ∷ parameter "b" ∷ []) (body (chars "(" ∷ print (name "a") ∷ print (name "b") ∷ chars ")" ∷ [])) ∷ print (Call (name "m") no_exprs (pair (codes "b") (call (name "m") (num 1 ∷ [])) (pair (codes "a") (call (name "m") (num 2 ∷ [])) no_pairs))) ∷ []) ∷ []) ([]) "((2)(1))"
+unfolding digits characters test_named
+keywords_in_any_order = (refl, refl)
+
+-- {% set x = 1 %}{% with y = 5 %}{{ x }}{% set x = 2 %}{{ x }}{{ y }}{% endwith %}{{ x }}{{ y }}
+read_before_set : Shows (source "t" (set "x" (num 1) ∷ With 1 (pair (codes "y") (num 5) no_pairs) (body (print (name "x") ∷ set "x" (num 2) ∷ print (name "x") ∷ print (name "y") ∷ [])) ∷ print (name "x") ∷ print (name "y") ∷ []) ∷ []) ([]) "1251"
+unfolding digits characters test_named
+read_before_set = (refl, refl)
+
+-- {% for i in [1, 2] %}{% if i > 1 %}{% set i = 9 %}{% endif %}{{ i }}{% endfor %}
+set_in_an_if : Shows (source "t" (For 1 (codes "i" ∷ []) (listing (num 1 ∷ num 2 ∷ [])) None (body (when (Binary 15 (name "i") (num 1)) (set "i" (num 9) ∷ []) ∷ print (name "i") ∷ [])) end ∷ []) ∷ []) ([]) "19"
+unfolding digits characters test_named
+set_in_an_if = (refl, refl)
+
+-- the else part of a loop sets in the scope around: {% for i in [] %}{% else %}{% set x = 7 %}{% endfor %}{{ x }}
+else_of_a_loop : Shows (source "t" (For 1 (codes "i" ∷ []) (listing []) None end (body (set "x" (num 7) ∷ [])) ∷ print (name "x") ∷ []) ∷ []) ([]) "7"
+unfolding digits characters test_named
+else_of_a_loop = (refl, refl)
+
+-- base: {% for i in [1, 2] %}{% block b scoped %}{{ i }}{{ x }}{% endblock %}{% endfor %}; t: {% block b %}{% set i = 8 %}{{ super() }}{{ i }},{% endblock %}
+scoped_super : Shows (source "t" (extends "base" ∷ block "b" (set "i" (num 8) ∷ print (call (name "super") []) ∷ print (name "i") ∷ chars "," ∷ []) ∷ []) ∷ source "base" (For 1 (codes "i" ∷ []) (listing (num 1 ∷ num 2 ∷ [])) None (body (Block 1 (codes "b") true false (body (print (name "i") ∷ print (name "x") ∷ [])) ∷ [])) end ∷ []) ∷ []) ((codes "x", v.number (pos 5)) ∷ []) "158,258,"
+unfolding digits characters test_named
+scoped_super = (refl, refl)
+
+-- a scoped block in a scoped block, and self.c() from outside: {% with i = 1 %}{% block b scoped %}{% with j = 2 %}{% block c scoped %}{{ i }}{{ j }};{% endblock %}{% endwith %}{% endblock %}{% endwith %}{{ self.c() }}
+nested_blocks : Shows (source "t" (With 1 (pair (codes "i") (num 1) no_pairs) (body (Block 1 (codes "b") true false (body (With 1 (pair (codes "j") (num 2) no_pairs) (body (Block 1 (codes "c") true false (body (print (name "i") ∷ print (name "j") ∷ chars ";" ∷ [])) ∷ [])) ∷ [])) ∷ [])) ∷ print (call (of (name "self") "c") []) ∷ []) ∷ []) ([]) "12;;"
+unfolding digits characters test_named
+nested_blocks = (refl, refl)
+
+-- a context value that only the inner of two includes reads
+name_of_an_include : Shows (source "t" (Include 1 (codes "p") false true ∷ []) ∷ source "p" (Include 1 (codes "q") false true ∷ []) ∷ source "q" (print (name "y") ∷ []) ∷ []) ((codes "y", v.number (pos 4)) ∷ []) "4"
+unfolding digits characters test_named
+name_of_an_include = (refl, refl)
+
+-- {% for x in [1, 2] %}{% set s %}{{ s }}{{ x }}{{ loop.index }}{% endset %}{{ s }}.{% endfor %}{{ s }}
+captures_and_loops : Shows (source "t" (For 1 (codes "x" ∷ []) (listing (num 1 ∷ num 2 ∷ [])) None (body (SetBlock 1 (codes "s") (body (print (name "s") ∷ print (name "x") ∷ print (of (name "loop") "index") ∷ [])) ∷ print (name "s") ∷ chars "." ∷ [])) end ∷ print (name "s") ∷ []) ∷ []) ((codes "s", v.text (codes "<")) ∷ []) "&lt;11.&lt;22.&lt;"
+unfolding digits characters test_named
+captures_and_loops = (refl, refl)
+
+-- {% set a, a = [1, 2] %}{{ a }}, and the same in a scope
+later_target_wins : Shows (source "t" (Set 1 (codes "a" ∷ codes "a" ∷ []) (listing (num 1 ∷ num 2 ∷ [])) ∷ print (name "a") ∷ With 1 no_pairs (body (Set 1 (codes "a" ∷ codes "a" ∷ []) (listing (num 3 ∷ num 4 ∷ [])) ∷ print (name "a") ∷ [])) ∷ []) ∷ []) ([]) "24"
+unfolding digits characters test_named
+later_target_wins = (refl, refl)
+
+-- {% for a, a in [[1, 2]] if a > 1 %}{{ a }}{% endfor %}
+later_of_a_loop : Shows (source "t" (For 1 (codes "a" ∷ codes "a" ∷ []) (listing (listing (num 1 ∷ num 2 ∷ []) ∷ [])) (Some (Binary 15 (name "a") (num 1))) (body (print (name "a") ∷ [])) end ∷ []) ∷ []) ([]) "2"
+unfolding digits characters test_named
+later_of_a_loop = (refl, refl)
+
+-- {{ x|d("y") }}{{ 0|d("z", true) }}{{ 0|d(boolean=true, default_value="v") }}{{ 0|d(boolean=true) }}
+filter_arguments : Shows (source "t" (print (Filter (name "x") (codes "d") (exprs (str "y" ∷ [])) no_pairs) ∷ print (Filter (num 0) (codes "d") (exprs (str "z" ∷ name "one" ∷ [])) no_pairs) ∷ print (Filter (num 0) (codes "d") no_exprs (pair (codes "boolean") (num 1) (pair (codes "default_value") (str "v") no_pairs))) ∷ print (Filter (num 0) (codes "d") no_exprs (pair (codes "boolean") (num 1) no_pairs)) ∷ []) ∷ []) ((codes "one", v.number (pos 1)) ∷ []) "yzv"
+unfolding digits characters test_named
+filter_arguments = (refl, refl)
+
+-- {% autoescape false %}{{ "<" }}{% endautoescape %}{{ "<" }}
+escaping_is_lexical : Shows (source "t" (Autoescape 1 false (body (print (str "<") ∷ [])) ∷ print (str "<") ∷ []) ∷ []) ([]) "<&lt;"
+unfolding digits characters test_named
+escaping_is_lexical = (refl, refl)

@@ -1,0 +1,390 @@
+-- What is resolved has at most 100 instructions for each token: expressions, rows, statements and bodies.
+use Rattle.std.proofs.Common.{◌≡◌, ℕ, zero, suc, ◌+◌, ◌*◌, max, min, ◌≤◌, Bool, true, false, if◌then◌else◌, List, [], ◌∷◌, ◌++◌, length, Option, Some, None, arith, refl, length-append}
+use Rattle.std.specs.Option.{is_none}
+use Rattle.std.specs.List.{AllByRecursion}
+use Rattle.std.specs.Str.{bytes_eq}
+use Rattle.std.specs.Prelude.{codes, map}
+use Rattle.jt_value.specs.Tree as tree
+use Rattle.jt_ops.specs.declared.op_id.OpId.{OpId}
+use Rattle.jt_ops.specs.declared.op_id.OpId.TheVariants as op
+use Rattle.jt_ops.specs.declared.test_id.TestId.{TestId}
+use Rattle.jt_expr.specs.Trees as written
+use Rattle.jt_expr.specs.Trees.{Expr, Literal, constant, name, group, list_of, map_of, attribute, item, call, filter, test, unary, binary, when, choice, Exprs, no_exprs, expr, Pairs, no_pairs, pair, weight, literal_weight, operator_weight, is_weight, enclosed, perhaps_enclosed, exprs_weight, pairs_weight}
+use Rattle.jt_expr.specs.declared.tree.BinaryOperator.{BinaryOperator}
+use Rattle.jt_expr.specs.declared.tree.BinaryOperator.TheVariants as o
+use Rattle.jt_meaning.specs.Operators.{Form, operation, negation, conjunction, disjunction, form}
+use Rattle.jt_slots.specs.Got.{Place}
+use Rattle.jt_slots.specs.Tests.{test_named}
+use Rattle.jt_inherit.specs.Uses.{count, keywords, set_by, set_in, set_under}
+use Rattle.jt_parse.specs.Trees.{Text, Parameter, Filtering, Stmt, data_of, print, choose, for_each, set, set_block, with_values, filter_block, autoescape, macro, include, extends, block, Body, end, stmt, Branches, no_branches, branch, condition_weight, filtering_weight}
+use Rattle.jt_inherit.specs.Chain.{Home, MacroBody, macros, macro_of, Callee, a_macro, a_range, a_super, a_block, a_cycle, no_callee, named_alone, named_in, callee, is_loop}
+use Rattle.jt_slots.specs.Loops.{Field, field_named}
+use Rattle.jt_slots.specs.Filters.{default_value, some_given}
+use Rattle.jt_parse.specs.Texts.{among}
+use Rattle.jt_rules.specs.World.{World}
+use Rattle.jt_meaning.specs.Expressions.{filter_parameters}
+use Rattle.jt_meaning.specs.Layout.{Table, slot_in, names, numbered_of, globals, block_parameters, is_scoped, default_place, first_slot, unit, of_chain}
+use Rattle.jt_slots.specs.Slots as slots
+use Rattle.jt_slots.specs.Slots.{Slot, local, SExpr, SRow, Targets, one, several, SBody, variable, run}
+use Rattle.jt_slots.specs.Pool.{Constant, own, known}
+use Rattle.jt_meaning.specs.Resolve.{value_or, read_from, turned_round, tested_by, filtered_by, in_form, field_from, followed, locals_from, fresh, fresh_targets, kept_slots, set_targets, filled, filled_some, first_locals, reads, handed_on, Part, Spot, place, grown, bound_all, copied, scoped, next_given, first_body, invoked_body, invoked_super, invoked, resolved, resolved_row, resolved_asides, resolved_entries, resolved_condition, resolved_filters, resolved_values, placed_body, resolved_stmt, resolved_body, resolved_choice}
+use Rattle.jt_slots.specs.Size.{targets_size, expr_size, row_size, condition_size, stmt_size, body_size}
+use Rattle.jt_meaning.specs.Measure.{stmt_own, body_own, branch_own, IsFew}
+use Rattle.jt_meaning.specs.Layout.{scopes}
+use Rattle.jt_meaning.specs.Measure.{HasFewNames}
+
+-- ---- weights have tokens
+
+literal_some : (l : Literal) → 1 ≤ literal_weight l
+literal_some (written.number n) = omega arith
+literal_some (written.text s) = omega arith
+literal_some (written.truth b) = omega arith
+literal_some written.nothing = omega arith
+
+pub operator_some : (b : BinaryOperator) → 1 ≤ operator_weight b
+operator_some o.Or = omega arith
+operator_some o.And = omega arith
+operator_some o.Equal = omega arith
+operator_some o.NotEqual = omega arith
+operator_some o.Less = omega arith
+operator_some o.LessOrEqual = omega arith
+operator_some o.Greater = omega arith
+operator_some o.GreaterOrEqual = omega arith
+operator_some o.In = omega arith
+operator_some o.NotIn = omega arith
+operator_some o.Add = omega arith
+operator_some o.Subtract = omega arith
+operator_some o.Concatenate = omega arith
+operator_some o.Multiply = omega arith
+operator_some o.FloorDivide = omega arith
+operator_some o.Remainder = omega arith
+operator_some o.Power = omega arith
+
+pub expr_some : (e : Expr) → 1 ≤ weight e
+expr_some (constant l) = literal_some l
+expr_some (name x) = omega arith
+expr_some (group a) = omega arith
+expr_some (list_of ts) = omega arith
+expr_some (map_of ps) = omega arith
+expr_some (attribute a k) = omega arith
+expr_some (item a b) = omega arith
+expr_some (call a ts ps) = omega (arith, expr_some a)
+expr_some (filter a x ts ps) = omega arith
+expr_some (test a n x ts ps) = omega (arith, expr_some a)
+expr_some (unary u a) = omega arith
+expr_some (binary b x y) = omega (arith, expr_some x)
+expr_some (when c a) = omega arith
+expr_some (choice c a b) = omega arith
+
+pub is_some_weight : (b : Bool) → 2 ≤ is_weight b
+is_some_weight false = omega arith
+is_some_weight true = omega arith
+
+-- ---- parts
+
+either_size : (b : Bool) (x y : SExpr Constant) (n : ℕ) → expr_size x ≤ n → expr_size y ≤ n → expr_size (if b then x else y) ≤ n
+either_size true x y n h k = h
+either_size false x y n h k = k
+
+value_size : (s : Option Slot) (k : Constant) → expr_size (value_or s k) ≡ 1
+value_size None k = refl
+value_size (Some s) k = refl
+
+field_size : (f : Option Field) → expr_size (field_from f) ≡ 1
+field_size None = refl
+field_size (Some f) = refl
+
+turned_size : (b : Bool) (e : SExpr Constant) → expr_size (turned_round b e) ≤ expr_size e + 1
+turned_size false e = omega arith
+turned_size true e = omega arith
+
+tested_size : (t : Option TestId) (es : SRow Constant) → expr_size (tested_by t es) ≤ row_size es + 1
+tested_size None es = omega arith
+tested_size (Some t) es = omega arith
+
+filtered_size : (f : Option ℕ) (b : Bool) (es : SRow Constant) → expr_size (filtered_by f b es) ≤ row_size es + 1
+filtered_size None b es = omega arith
+filtered_size (Some f) b es = omega arith
+
+form_size : (f : Form) (a b : SExpr Constant) → expr_size (in_form f a b) ≤ expr_size a + expr_size b + 4
+form_size (operation o) a b = omega arith
+form_size (negation o) a b = omega arith
+form_size conjunction a b = omega arith
+form_size disjunction a b = omega arith
+
+filled_size : (ps : List Parameter) (n d : ℕ) (ks : Table) → row_size (filled ps n d ks) ≤ length ps
+filled_size [] n d ks = omega arith
+filled_size (p ∷ ps) (suc n) d ks = omega (arith, filled_size ps n (suc d) ks)
+filled_size (p ∷ ps) zero d ks = omega (arith, value_size (slot_in p.name ks) (known d), filled_size ps zero (suc d) ks)
+
+some_size : (ps : List Parameter) (n : ℕ) (xs : List Text) (ks : Table) → row_size (filled_some ps n xs ks) ≤ length ps
+some_size [] n xs ks = omega arith
+some_size (p ∷ ps) (suc n) xs ks = omega (arith, some_size ps n xs ks)
+some_size (p ∷ ps) zero xs ks = through (some_given (p ∷ ps) xs) (some_size ps zero xs ks)
+  where
+    through : (b : Bool) → row_size (filled_some ps zero xs ks) ≤ length ps → row_size (if b then slots.item (value_or (slot_in p.name ks) (own (default_value p.default))) (filled_some ps zero xs ks) else slots.none) ≤ suc (length ps)
+    through true h = omega (arith, h, value_size (slot_in p.name ks) (own (default_value p.default)))
+    through false h = omega arith
+
+first_size : (n : ℕ) (xs : List Text) → row_size (first_locals n xs) ≡ length xs
+first_size n [] = refl
+first_size n (x ∷ xs) = omega (arith, first_size (suc n) xs)
+
+reads_size : (t : Table) (xs : List Text) → row_size (reads t xs) ≡ length xs
+reads_size t [] = refl
+reads_size t (x ∷ xs) = omega (arith, value_size (slot_in x t) (known 0), reads_size t xs)
+
+pub fresh_len : (n : ℕ) (xs : List Text) → length (fresh n xs) ≡ length xs
+fresh_len n [] = refl
+fresh_len n (x ∷ xs) = omega (arith, fresh_len (suc n) xs)
+
+fresh_size : (n : ℕ) (xs : List Text) → targets_size (fresh_targets n xs) ≤ 1 + length xs
+fresh_size n [] = omega arith
+fresh_size n (x ∷ []) = omega arith
+fresh_size n (x ∷ (y ∷ ys)) = omega (arith, fresh_len n (x ∷ (y ∷ ys)))
+
+pub kept_len : (t : Table) (xs : List Text) → length (kept_slots t xs) ≡ length xs
+kept_len t [] = refl
+kept_len t (x ∷ xs) = omega (arith, kept_len t xs)
+
+set_size : (t : Table) (xs : List Text) → targets_size (set_targets t xs) ≤ 1 + length xs
+set_size t [] = omega arith
+set_size t (x ∷ []) = omega arith
+set_size t (x ∷ (y ∷ ys)) = omega (arith, kept_len t (x ∷ (y ∷ ys)))
+
+pub followed_size : (a b : SBody Constant) → body_size (followed a b) ≡ body_size a + body_size b
+followed_size slots.end b = omega arith
+followed_size (slots.stmt s rest) b = omega (arith, followed_size rest b)
+
+pub copied_size : (p : Place) (t : Table) (n : ℕ) (xs : List Text) (b : SBody Constant) → body_size (copied p t n xs b) ≡ 2 * length xs + body_size b
+copied_size p t n [] b = omega arith
+copied_size p t n (x ∷ xs) b = omega (arith, value_size (slot_in x t) (known 0), copied_size p t (suc n) xs b)
+
+handed_size : (p : Place) (t : Table) (n : ℕ) (xs : List Text) → body_size (handed_on p t n xs) ≡ 2 * length xs
+handed_size p t n [] = omega arith
+handed_size p t n (x ∷ xs) = omega (arith, value_size (slot_in x t) (known 0), handed_size p t (suc n) xs)
+
+-- ---- what is called
+
+abbrev CalleeFew : Callee → Type 0
+CalleeFew (a_macro m) = length m.parameters ≤ 200
+CalleeFew _ = Unit {0}
+
+macro_few : (ms : List MacroBody) (x : Text) → AllByRecursion (λ m. length m.parameters ≤ 200) ms → CalleeFew (named_alone (macro_of x ms) x)
+macro_few [] x h = by_range (bytes_eq x (codes "range")) (bytes_eq x (codes "super"))
+  where
+    by_range : (a b : Bool) → CalleeFew (if a then a_range else if b then a_super else no_callee)
+    by_range true b = tt
+    by_range false true = tt
+    by_range false false = tt
+macro_few (m ∷ ms) x h = through (bytes_eq m.name x) (macro_few ms x h.1)
+  where
+    through : (b : Bool) → CalleeFew (named_alone (macro_of x ms) x) → CalleeFew (named_alone (if b then Some m else macro_of x ms) x)
+    through true g = h.0
+    through false g = g
+
+in_few : (of x : Text) → CalleeFew (named_in of x)
+in_few of x = through (bytes_eq of (codes "self")) (bytes_eq of (codes "loop")) (bytes_eq x (codes "cycle"))
+  where
+    through : (a b c : Bool) → CalleeFew (if a then a_block x else if b then (if c then a_cycle else no_callee) else no_callee)
+    through true b c = tt
+    through false true true = tt
+    through false true false = tt
+    through false false c = tt
+
+pub callee_few : (ms : List MacroBody) (e : Expr) → AllByRecursion (λ m. length m.parameters ≤ 200) ms → CalleeFew (callee ms e)
+callee_few ms (name x) h = macro_few ms x h
+callee_few ms (attribute (name of) x) h = in_few of x
+callee_few ms (attribute (constant l) x) h = tt
+callee_few ms (attribute (group a) x) h = tt
+callee_few ms (attribute (list_of ts) x) h = tt
+callee_few ms (attribute (map_of ps) x) h = tt
+callee_few ms (attribute (attribute a k) x) h = tt
+callee_few ms (attribute (item a b) x) h = tt
+callee_few ms (attribute (call a ts ps) x) h = tt
+callee_few ms (attribute (filter a y ts ps) x) h = tt
+callee_few ms (attribute (test a n y ts ps) x) h = tt
+callee_few ms (attribute (unary o a) x) h = tt
+callee_few ms (attribute (binary o a b) x) h = tt
+callee_few ms (attribute (when c a) x) h = tt
+callee_few ms (attribute (choice c a b) x) h = tt
+callee_few ms (constant l) h = tt
+callee_few ms (group a) h = tt
+callee_few ms (list_of ts) h = tt
+callee_few ms (map_of ps) h = tt
+callee_few ms (item a b) h = tt
+callee_few ms (call a ts ps) h = tt
+callee_few ms (filter a y ts ps) h = tt
+callee_few ms (test a n y ts ps) h = tt
+callee_few ms (unary o a) h = tt
+callee_few ms (binary o a b) h = tt
+callee_few ms (when c a) h = tt
+callee_few ms (choice c a b) h = tt
+
+-- what stands in front of a row takes at most this many instructions, and 100 less where there is something
+abbrev Front : ℕ → (SRow Constant → SRow Constant) → Type 0
+Front w f = (b : SRow Constant) → row_size (f b) + 100 * min 1 w ≤ 100 * w + row_size b
+
+module _ (world : World) (order : List Home) where
+  pub parameters_few : (h : Home) (x : Text) → HasFewNames world order h → length (block_parameters world order h x) ≤ 200
+  parameters_few h x k = through (is_scoped world h x)
+    where
+      through : (b : Bool) → length (if b then scopes world order h else []) ≤ 200
+      through true = k.1
+      through false = omega arith
+
+  body_sized : (h : Home) (on : Bool) (i : Option ℕ) (es : SRow Constant) → row_size es ≤ 200 → expr_size (invoked_body world order h on i es) ≤ 203
+  body_sized h on None es k = omega arith
+  body_sized h on (Some i) es k = omega (arith, k)
+
+  super_sized : (sp : Spot) (p : Option Part) → HasFewNames world order sp.home → expr_size (invoked_super world order sp p) ≤ 203
+  super_sized sp None k = omega arith
+  super_sized sp (Some p) k =
+      let xs = block_parameters world order sp.home p.name in
+      body_sized sp.home sp.escaping (next_given p.behind) (first_locals 0 xs) (omega (arith, first_size 0 xs, parameters_few sp.home p.name k))
+
+  invoked_sized : (c : Callee) (sp : Spot) (row asides : SRow Constant → SRow Constant) (n : ℕ) (ks : Table) (w v : ℕ) → CalleeFew c → HasFewNames world order sp.home → Front w row → Front v asides
+      → expr_size (invoked world order c sp row asides n ks) ≤ 100 * (1 + enclosed (w + v))
+  invoked_sized (a_macro m) sp row asides n ks w v f k r a =
+      let rest = filled m.parameters n (default_place world order sp.home m.name) ks in
+      omega (arith, f, r (asides rest), a rest, filled_size m.parameters n (default_place world order sp.home m.name) ks)
+  invoked_sized a_range sp row asides n ks w v f k r a = omega (arith, r slots.none)
+  invoked_sized a_super sp row asides n ks w v f k r a = omega (arith, super_sized sp sp.part k)
+  invoked_sized (a_block x) sp row asides n ks w v f k r a =
+      let t = globals world order sp.home in
+      let xs = block_parameters world order sp.home x in
+      omega (arith, body_sized sp.home sp.escaping (first_body (numbered_of world sp.home x)) (reads t xs) (omega (arith, reads_size t xs, parameters_few sp.home x k)))
+  invoked_sized a_cycle sp row asides n ks w v f k r a = omega (arith, r slots.none)
+  invoked_sized no_callee sp row asides n ks w v f k r a = omega arith
+
+  filter_few : (f : Option ℕ) → ((i : ℕ) → length (world.filters.parameters i) ≤ 3) → length (filter_parameters world.filters f) ≤ 3
+  filter_few None h = omega arith
+  filter_few (Some i) h = h i
+
+  mutual
+    pub resolved_sized : (e : Expr) (sp : Spot) → IsFew world order sp.home → expr_size (resolved world order e sp) ≤ 100 * weight e
+    resolved_sized (constant l) sp k = omega (arith, literal_some l)
+    resolved_sized (name x) sp k = omega (arith, value_size (slot_in x sp.table) (known 0))
+    resolved_sized (group a) sp k = omega (arith, resolved_sized a sp k)
+    resolved_sized (list_of ts) sp k = omega (arith, row_sized ts sp k slots.none)
+    resolved_sized (map_of ps) sp k = omega (arith, entries_sized ps sp k)
+    resolved_sized (attribute a x) sp k =
+        either_size (is_loop a) (field_from (field_named x)) (slots.made (slots.operator op.Item) (slots.item (resolved world order a sp) (slots.item (slots.pooled (own (tree.text x))) slots.none)))
+        (100 * (2 + weight a)) (omega (arith, field_size (field_named x))) (omega (arith, resolved_sized a sp k))
+    resolved_sized (item a b) sp k = omega (arith, resolved_sized a sp k, resolved_sized b sp k)
+    resolved_sized (call f ts ps) sp k =
+        omega (
+          arith,
+          expr_some f,
+          invoked_sized (callee (macros world.sources sp.home) f) sp (resolved_row world order ts sp) (resolved_asides world order ps sp) (count ts) (locals_from sp.free (keywords ps))
+              (exprs_weight ts) (pairs_weight 2 ps) (callee_few (macros world.sources sp.home) f k.macros) (k.names sp.home) (λ b. row_sized ts sp k b) (λ b. asides_sized ps sp k b),
+        )
+    resolved_sized (filter a x ts ps) sp k =
+        let f = world.filters.named x in
+        let rest = filled_some (filter_parameters world.filters f) (count ts) (keywords ps) (locals_from sp.free (keywords ps)) in
+        let es = slots.item (resolved world order a sp) (resolved_row world order ts sp (resolved_asides world order ps sp rest)) in
+        omega (
+          arith,
+          filtered_size f sp.escaping es,
+          resolved_sized a sp k,
+          row_sized ts sp k (resolved_asides world order ps sp rest),
+          asides_sized ps sp k rest,
+          some_size (filter_parameters world.filters f) (count ts) (keywords ps) (locals_from sp.free (keywords ps)),
+          filter_few f k.filters,
+        )
+    resolved_sized (test a n x ts ps) sp k =
+        let es = slots.item (resolved world order a sp) (resolved_row world order ts sp slots.none) in
+        omega (arith, turned_size n (tested_by (test_named x) es), tested_size (test_named x) es, resolved_sized a sp k, row_sized ts sp k slots.none, is_some_weight n)
+    resolved_sized (unary u a) sp k = omega (arith, resolved_sized a sp k)
+    resolved_sized (binary b x y) sp k =
+        omega (arith, form_size (form sp.escaping b) (resolved world order x sp) (resolved world order y sp), resolved_sized x sp k, resolved_sized y sp k, operator_some b)
+    resolved_sized (when c a) sp k = omega (arith, resolved_sized c sp k, resolved_sized a sp k)
+    resolved_sized (choice c a b) sp k = omega (arith, resolved_sized c sp k, resolved_sized a sp k, resolved_sized b sp k)
+
+    pub row_sized : (ts : Exprs) (sp : Spot) → IsFew world order sp.home → (b : SRow Constant) → row_size (resolved_row world order ts sp b) + 100 * min 1 (exprs_weight ts) ≤ 100 * exprs_weight ts + row_size b
+    row_sized no_exprs sp k b = omega arith
+    row_sized (expr a ts) sp k b = omega (arith, resolved_sized a sp k, row_sized ts sp k b)
+
+    pub asides_sized : (ps : Pairs) (sp : Spot) → IsFew world order sp.home → (b : SRow Constant) → row_size (resolved_asides world order ps sp b) + 100 * min 1 (pairs_weight 2 ps) ≤ 100 * pairs_weight 2 ps + row_size b
+    asides_sized no_pairs sp k b = omega arith
+    asides_sized (pair x a ps) sp k b = omega (arith, resolved_sized a sp k, asides_sized ps (grown sp) k b)
+
+    entries_sized : (ps : Pairs) (sp : Spot) → IsFew world order sp.home → row_size (resolved_entries world order ps sp) ≤ 100 * pairs_weight 3 ps
+    entries_sized no_pairs sp k = omega arith
+    entries_sized (pair x a ps) sp k = omega (arith, resolved_sized a sp k, entries_sized ps sp k)
+
+  -- ---- statements
+
+  condition_sized : (xs : Targets) (c : Option Expr) (sp : Spot) (n : ℕ) → IsFew world order sp.home → targets_size xs ≤ 1 + n → condition_size xs (resolved_condition world order c sp) ≤ 6 + n + 100 * condition_weight c
+  condition_sized xs None sp n k h = omega arith
+  condition_sized xs (Some c) sp n k h = omega (arith, h, resolved_sized c sp k)
+
+  filters_sized : (fs : List Filtering) (sp : Spot) (e : SExpr Constant) → IsFew world order sp.home → expr_size (resolved_filters world order fs sp e) ≤ expr_size e + 100 * filtering_weight fs
+  filters_sized [] sp e k = omega arith
+  filters_sized (f ∷ fs) sp e k =
+      let i = world.filters.named f.name in
+      let rest = filled_some (filter_parameters world.filters i) (count f.arguments) (keywords f.keywords) (locals_from sp.free (keywords f.keywords)) in
+      let es = slots.item e (resolved_row world order f.arguments sp (resolved_asides world order f.keywords sp rest)) in
+      omega (
+        arith,
+        filters_sized fs sp (filtered_by i sp.escaping es) k,
+        filtered_size i sp.escaping es,
+        row_sized f.arguments sp k (resolved_asides world order f.keywords sp rest),
+        asides_sized f.keywords sp k rest,
+        some_size (filter_parameters world.filters i) (count f.arguments) (keywords f.keywords) (locals_from sp.free (keywords f.keywords)),
+        filter_few i k.filters,
+      )
+
+  values_sized : (ps : Pairs) (sp : Spot) (line : ℕ) (b : SBody Constant) → IsFew world order sp.home → body_size (resolved_values world order ps sp line b) ≤ 100 * pairs_weight 2 ps + body_size b
+  values_sized no_pairs sp line b k = omega arith
+  values_sized (pair x e ps) sp line b k = omega (arith, resolved_sized e sp k, values_sized ps (grown sp) line b k)
+
+  placed_sized : (sp : Spot) (i : Option ℕ) (x : Text) (t : Table) → HasFewNames world order sp.home → body_size (placed_body world order sp i x t) ≤ 201
+  placed_sized sp None x t k = omega arith
+  placed_sized sp (Some i) x t k = omega (arith, reads_size t (block_parameters world order sp.home x), parameters_few sp.home x k)
+
+  include_sized : (sp : Spot) (line : ℕ) (n : Text) (c : Bool) (b : Bool) → length (names world order n) ≤ 200
+      → body_size (if b then slots.end else followed (handed_on (place sp line) (if c then sp.table else []) (first_slot world order n) (names world order n)) (slots.stmt (run (unit world order (of_chain n)) slots.none) slots.end)) ≤ 401
+  include_sized sp line n c true k = omega arith
+  include_sized sp line n c false k =
+      let xs = names world order n in
+      let hs = handed_on (place sp line) (if c then sp.table else []) (first_slot world order n) xs in
+      omega (arith, k, followed_size hs (slots.stmt (run (unit world order (of_chain n)) slots.none) slots.end), handed_size (place sp line) (if c then sp.table else []) (first_slot world order n) xs)
+
+  -- a scope of its own, its copies in front
+  pub scope_sized : (b : Body) (sp : Spot) → body_size (resolved_body world order b (bound_all (set_in b) sp)) + 2 * length (set_in b) ≤ 100 * body_own b
+      → body_size (scoped (set_in b) sp (resolved_body world order b)) ≤ 100 * body_own b
+  scope_sized b sp h = omega (arith, h, copied_size (place sp 1) sp.table sp.free (set_in b) (resolved_body world order b (bound_all (set_in b) sp)))
+
+  mutual
+    -- with the copies at the start of its scope
+    pub stmt_sized : (s : Stmt) (sp : Spot) → IsFew world order sp.home → body_size (resolved_stmt world order s sp) + 2 * length (set_by s) ≤ 100 * stmt_own s
+    stmt_sized (data_of t) sp k = omega arith
+    stmt_sized (print line e) sp k = omega (arith, resolved_sized e sp k)
+    stmt_sized (choose bs other) sp k =
+        omega (arith, choice_sized bs sp k (resolved_body world order other sp), all_sized other sp k, length-append (set_under bs) (set_in other))
+    stmt_sized (for_each line xs e c body other) sp k =
+        let inner = bound_all xs sp in
+        omega (arith, fresh_size sp.free xs, resolved_sized e sp k, condition_sized (fresh_targets sp.free xs) c inner (length xs) k (fresh_size sp.free xs), scope_sized body inner (all_sized body (bound_all (set_in body) inner) k), all_sized other sp k)
+    stmt_sized (set line xs e) sp k = omega (arith, set_size sp.table xs, resolved_sized e sp k)
+    stmt_sized (set_block line x body) sp k = omega (arith, scope_sized body sp (all_sized body (bound_all (set_in body) sp) k))
+    stmt_sized (with_values line ps body) sp k =
+        let b = scoped (set_in body) (bound_all (keywords ps) sp) (resolved_body world order body) in
+        omega (arith, values_sized ps sp line b k, scope_sized body (bound_all (keywords ps) sp) (all_sized body (bound_all (set_in body) (bound_all (keywords ps) sp)) k))
+    stmt_sized (filter_block line fs body) sp k = omega (arith, scope_sized body (grown sp) (all_sized body (bound_all (set_in body) (grown sp)) k), filters_sized fs (grown sp) (variable (local sp.free)) k)
+    stmt_sized (autoescape line on body) sp k = omega (arith, scope_sized body (record sp { escaping = on }) (all_sized body (bound_all (set_in body) (record sp { escaping = on })) k))
+    stmt_sized (macro line x ps body) sp k = omega arith
+    stmt_sized (include line n missing with_context) sp k = omega (arith, include_sized sp line n with_context (is_none (world.sources n)) ((k.names n).0))
+    stmt_sized (extends line n) sp k = omega arith
+    stmt_sized (block line x is required body) sp k =
+        omega (arith, placed_sized sp (first_body (numbered_of world sp.home x)) x (if is then sp.table else globals world order sp.home) (k.names sp.home))
+
+    pub all_sized : (b : Body) (sp : Spot) → IsFew world order sp.home → body_size (resolved_body world order b sp) + 2 * length (set_in b) ≤ 100 * body_own b
+    all_sized end sp k = omega arith
+    all_sized (stmt s rest) sp k =
+        omega (arith, stmt_sized s sp k, all_sized rest sp k, followed_size (resolved_stmt world order s sp) (resolved_body world order rest sp), length-append (set_by s) (set_in rest))
+
+    choice_sized : (bs : Branches) (sp : Spot) → IsFew world order sp.home → (other : SBody Constant) → body_size (resolved_choice world order bs sp other) + 2 * length (set_under bs) ≤ 100 * branch_own bs + body_size other
+    choice_sized no_branches sp k other = omega arith
+    choice_sized (branch line c body rest) sp k other =
+        omega (arith, resolved_sized c sp k, all_sized body sp k, choice_sized rest sp k other, length-append (set_in body) (set_under rest))

@@ -1,0 +1,361 @@
+-- Where the rules are kept and each test and filter is known, what is resolved gets as many values as it takes.
+use Rattle.std.proofs.Common.{◌≡◌, ℕ, zero, suc, ◌+◌, ◌≤◌, ◌==◌, Bool, true, false, ◌&&◌, if◌then◌else◌, List, [], ◌∷◌, ◌++◌, length, map, Option, Some, None, refl, sym, ap, ◌∙◌, subst, arith, append_assoc}
+use Rattle.std.specs.Prelude.{not, ◌||◌, nat_lt, max}
+use Rattle.std.specs.Option.{option_or, is_some}
+use Rattle.std.proofs.lemmas.Bool.Decides.{nat_tests}
+use Rattle.jt_ops.specs.declared.op_id.OpId.TheVariants as op
+use Rattle.jt_ops.specs.declared.test_id.TestId.{TestId}
+use Rattle.jt_ops.specs.OpTable.{op_operands}
+use Rattle.jt_ops.specs.TestTable.{test_values}
+use Rattle.jt_expr.specs.declared.tree.UnaryOperator.{UnaryOperator}
+use Rattle.jt_expr.specs.declared.tree.UnaryOperator.TheVariants as u
+use Rattle.jt_expr.specs.declared.tree.BinaryOperator.{BinaryOperator}
+use Rattle.jt_expr.specs.declared.tree.BinaryOperator.TheVariants as o
+use Rattle.jt_value.specs.Tree as tree
+use Rattle.jt_expr.specs.Trees as written
+use Rattle.jt_expr.specs.Trees.{Expr, constant, name, group, list_of, attribute, item, unary, binary, when, choice, Exprs, no_exprs, expr, no_pairs, pair}
+use Rattle.jt_meaning.specs.Operators.{unary_operation, Form, operation, negation, conjunction, disjunction, form, range_of}
+use Rattle.jt_slots.specs.Tests.{test_named}
+use Rattle.jt_inherit.specs.Uses.{count, keywords}
+use Rattle.jt_rules.specs.Rules.{no_keywords, unless, test_broken, Within, refused, fits, reached, filter_broken, call_broken, broken, called_broken, row_broken, pairs_broken}
+use Rattle.jt_slots.specs.Takes.{InPairs, HasParameters, ExprTakes, RowTakes}
+use Rattle.jt_rules.specs.declared.error.ScopeError.{ScopeError}
+use Rattle.jt_rules.specs.declared.error.ScopeError.TheVariants as error
+use Rattle.jt_parse.specs.Trees.{Text, Parameter}
+use Rattle.jt_inherit.specs.Chain.{Home, BlockBody, from_given, MacroBody, macros, macro_of, Callee, a_macro, a_range, a_super, a_block, a_cycle, no_callee, callee, is_loop}
+use Rattle.jt_slots.specs.Loops.{Field, field_named}
+use Rattle.jt_slots.specs.Filters.{Filters, some_given}
+use Rattle.jt_parse.specs.Texts.{among}
+use Rattle.jt_rules.specs.World.{World}
+use Rattle.jt_meaning.specs.Expressions.{filter_parameters}
+use Rattle.jt_slots.specs.Slots as slots
+use Rattle.jt_slots.specs.Slots.{Slot, operator, a_list, made, SExpr, SRow, none, Routine}
+use Rattle.jt_slots.specs.Size.{row_count}
+use Rattle.jt_rules.specs.Known.{IsThere, ExprKnown, RowKnown, PairsKnown}
+use Rattle.jt_meaning.specs.Layout.{Table, slot_in, block_parameters, globals, numbered_of, default_place}
+use Rattle.jt_slots.specs.Pool.{Constant, own, known}
+use Rattle.jt_meaning.specs.Resolve.{value_or, operation_of, turned_round, tested_by, filtered_by, in_form, field_from, locals_from, filled, filled_some, first_locals, reads, Spot, Part, grown, next_given, first_body, invoked_body, invoked_super, invoked, resolved, resolved_row, resolved_asides, resolved_entries}
+use Rattle.jt_meaning.specs.Programs.{routines}
+use Rattle.jt_meaning.proofs.Calling.{Tail}
+use Rattle.jt_meaning.proofs.Valuing.{GivenBy, given_by, named_macro}
+use Rattle.jt_meaning.proofs.Finding.{macro_is, body_is}
+
+-- ---- nothing is broken where neither part is
+
+pub none_first : (r s : Option ScopeError) → option_or r s ≡ None → r ≡ None
+none_first None s h = refl
+none_first (Some e) s h = absurd (cc)
+
+pub none_second : (r s : Option ScopeError) → option_or r s ≡ None → s ≡ None
+none_second None s h = h
+none_second (Some e) s h = absurd (cc)
+
+right_arguments : (b : Bool) → unless b ≡ None → b ≡ true
+right_arguments true h = refl
+right_arguments false h = absurd (cc)
+
+not_refused : (b : Bool) (e : ScopeError) → refused b e ≡ None → b ≡ false
+not_refused true e h = absurd (cc)
+not_refused false e h = refl
+
+both_first : (a b : Bool) → a && b ≡ true → a ≡ true
+both_first true b h = refl
+both_first false b h = absurd (cc)
+
+both_second : (a b : Bool) → a && b ≡ true → b ≡ true
+both_second true b h = h
+both_second false b h = absurd (cc)
+
+-- ---- operators
+
+abbrev TakesTwo : Form → Type 0
+TakesTwo (operation p) = op_operands p ≡ 2
+TakesTwo (negation p) = op_operands p ≡ 2
+TakesTwo conjunction = Unit {0}
+TakesTwo disjunction = Unit {0}
+
+form_two : (escaping : Bool) (p : BinaryOperator) → TakesTwo (form escaping p)
+form_two escaping o.Or = tt
+form_two escaping o.And = tt
+form_two escaping o.Equal = refl
+form_two escaping o.NotEqual = refl
+form_two escaping o.Less = refl
+form_two escaping o.LessOrEqual = refl
+form_two escaping o.Greater = refl
+form_two escaping o.GreaterOrEqual = refl
+form_two escaping o.In = refl
+form_two escaping o.NotIn = refl
+form_two escaping o.Add = refl
+form_two escaping o.Subtract = refl
+form_two true o.Concatenate = refl
+form_two false o.Concatenate = refl
+form_two escaping o.Multiply = refl
+form_two escaping o.FloorDivide = refl
+form_two escaping o.Remainder = refl
+form_two escaping o.Power = refl
+
+unary_one : (p : UnaryOperator) → op_operands (unary_operation p) ≡ 1
+unary_one u.Negate = refl
+unary_one u.Plus = refl
+unary_one u.Not = refl
+
+range_takes : (n : ℕ) → nat_lt 0 n ≡ true → nat_lt n 4 ≡ true → op_operands (range_of n) ≡ n
+range_takes zero h k = absurd (cc)
+range_takes (suc zero) h k = refl
+range_takes (suc (suc zero)) h k = refl
+range_takes (suc (suc (suc zero))) h k = refl
+range_takes (suc (suc (suc (suc n)))) h k = absurd (never (suc (suc (suc (suc n)))) (omega arith) k)
+  where
+    never : (m : ℕ) → 4 ≤ m → nat_lt m 4 ≡ true → ⊥
+    never m le e = grind (arith, nat_tests)
+
+same_number : (m n : ℕ) → (m == n) ≡ true → m ≡ n
+same_number m n h = grind (arith, nat_tests, h)
+
+at_most : (m n : ℕ) → not (nat_lt m n) ≡ true → n ≤ m
+at_most m n h = grind (arith, nat_tests, h)
+
+-- ---- arguments
+
+filled_count : (ps : List Parameter) (n d : ℕ) (table : Table) → n ≤ length ps → n + row_count (filled ps n d table) ≡ length ps
+filled_count [] n d table l = omega (arith, l)
+filled_count (p ∷ ps) zero d table l = let e = filled_count ps zero (suc d) table (omega arith) in omega (arith, e)
+filled_count (p ∷ ps) (suc n) d table l = let e = filled_count ps n (suc d) table (let f : n ≤ length ps = omega (arith, l) in f) in omega (arith, e)
+
+none_reached : (ps : List Parameter) (ks : List Text) → some_given ps ks ≡ false → reached ps ks ≡ 0
+none_reached [] ks e = refl
+none_reached (p ∷ ps) ks e = ap (λ b. if b then suc (reached ps ks) else 0) e
+
+or_false : (a b : Bool) → (a || b) ≡ false → b ≡ false
+or_false true b e = absurd (cc)
+or_false false b e = e
+
+some_zero : (ps : List Parameter) (xs : List Text) (table : Table) → row_count (filled_some ps zero xs table) ≡ reached ps xs
+some_zero [] xs table = refl
+some_zero (p ∷ ps) xs table = through (some_given (p ∷ ps) xs) (some_zero ps xs table)
+  where
+    through : (b : Bool) → row_count (filled_some ps zero xs table) ≡ reached ps xs
+        → row_count (if b then slots.item (value_or (slot_in p.name table) (own (Rattle.jt_slots.specs.Filters.default_value p.default))) (filled_some ps zero xs table) else none) ≡ (if b then suc (reached ps xs) else 0)
+    through true e = ap suc e
+    through false e = refl
+
+pub some_count : (ps : List Parameter) (n : ℕ) (xs : List Text) (table : Table) → n + row_count (filled_some ps n xs table) ≡ max n (reached ps xs)
+some_count [] n xs table = omega arith
+some_count (p ∷ ps) zero xs table = let e = some_zero (p ∷ ps) xs table in omega (arith, e)
+some_count (p ∷ ps) (suc n) xs table = through (some_given (p ∷ ps) xs) refl (some_count ps n xs table)
+  where
+    through : (b : Bool) → some_given (p ∷ ps) xs ≡ b → n + row_count (filled_some ps n xs table) ≡ max n (reached ps xs)
+        → suc n + row_count (filled_some ps n xs table) ≡ max (suc n) (if b then suc (reached ps xs) else 0)
+    through true f e = omega (arith, e)
+    through false f e = let z = none_reached ps xs (or_false (among p.name xs) (some_given ps xs) f) in omega (arith, e, z)
+
+module _ (world : World) (order : List Home) where
+  abbrev pub rs : List (Routine Constant)
+  rs = routines world order
+
+  abbrev pub ETakes : Bool → SExpr Constant → Type 0
+  ETakes l e = ExprTakes world.filters rs l e
+
+  abbrev pub RTakes : Bool → SRow Constant → Type 0
+  RTakes l es = RowTakes world.filters rs l es
+
+  pub slot_takes : (l : Bool) (s : Option Slot) (k : Constant) → ETakes l (value_or s k)
+  slot_takes l None k = tt
+  slot_takes l (Some s) k = tt
+
+  filled_takes : (l : Bool) (ps : List Parameter) (n d : ℕ) (table : Table) → RTakes l (filled ps n d table)
+  filled_takes l [] n d table = tt
+  filled_takes l (p ∷ ps) zero d table = (slot_takes l (slot_in p.name table) (known d), filled_takes l ps zero (suc d) table)
+  filled_takes l (p ∷ ps) (suc n) d table = filled_takes l ps n (suc d) table
+
+  pub some_takes : (l : Bool) (ps : List Parameter) (n : ℕ) (xs : List Text) (table : Table) → RTakes l (filled_some ps n xs table)
+  some_takes l [] n xs table = tt
+  some_takes l (p ∷ ps) (suc n) xs table = some_takes l ps n xs table
+  some_takes l (p ∷ ps) zero xs table = through (some_given (p ∷ ps) xs) (some_takes l ps zero xs table)
+    where
+      d : Constant
+      d = own (Rattle.jt_slots.specs.Filters.default_value p.default)
+
+      through : (b : Bool) → RTakes l (filled_some ps zero xs table) → RTakes l (if b then slots.item (value_or (slot_in p.name table) d) (filled_some ps zero xs table) else none)
+      through true e = (slot_takes l (slot_in p.name table) d, e)
+      through false e = tt
+
+  pub reads_take : (l : Bool) (table : Table) (xs : List Text) → RTakes l (reads table xs)
+  reads_take l table [] = tt
+  reads_take l table (x ∷ xs) = (slot_takes l (slot_in x table) (known 0), reads_take l table xs)
+
+  pub reads_count : (table : Table) (xs : List Text) → row_count (reads table xs) ≡ length xs
+  reads_count table [] = refl
+  reads_count table (x ∷ xs) = ap suc (reads_count table xs)
+
+  locals_take : (l : Bool) (n : ℕ) (xs : List Text) → RTakes l (first_locals n xs)
+  locals_take l n [] = tt
+  locals_take l n (x ∷ xs) = (tt, locals_take l (suc n) xs)
+
+  locals_count : (n : ℕ) (xs : List Text) → row_count (first_locals n xs) ≡ length xs
+  locals_count n [] = refl
+  locals_count n (x ∷ xs) = ap suc (locals_count (suc n) xs)
+
+  form_takes : (l : Bool) (f : Form) (a b : SExpr Constant) → TakesTwo f → ETakes l a → ETakes l b → ETakes l (in_form f a b)
+  form_takes l (operation p) a b t h k = (t, (h, (k, tt)))
+  form_takes l (negation p) a b t h k = (refl, ((t, (h, (k, tt))), tt))
+  form_takes l conjunction a b t h k = (h, k)
+  form_takes l disjunction a b t h k = (h, k)
+
+  turned_takes : (l n : Bool) (e : SExpr Constant) → ETakes l e → ETakes l (turned_round n e)
+  turned_takes l false e h = h
+  turned_takes l true e h = (refl, (h, tt))
+
+  tested_takes : (l : Bool) (t : Option TestId) (ts : Exprs) (ps : written.Pairs) (es : SRow Constant) → IsThere t → test_broken t ts ps ≡ None → row_count es ≡ suc (count ts) → RTakes l es → ETakes l (tested_by t es)
+  tested_takes l None ts ps es k h c r = absurd k
+  tested_takes l (Some t) ts ps es k h c r =
+      let right = right_arguments ((suc (count ts) == test_values t) && no_keywords ps) h in
+      (sym (same_number (suc (count ts)) (test_values t) (both_first (suc (count ts) == test_values t) (no_keywords ps) right)) ∙ sym c, r)
+
+  pub filtered_takes : (l : Bool) (f : Option ℕ) (on : Bool) (n : ℕ) (ks : List Text) (es : SRow Constant) → IsThere f → filter_broken world.filters f n ks ≡ None → row_count es ≡ suc (max n (reached (filter_parameters world.filters f) ks)) → RTakes l es → ETakes l (filtered_by f on es)
+  filtered_takes l None on n ks es k h c r = absurd k
+  filtered_takes l (Some f) on n ks es k h c r = (ap (world.filters.takes f) c ∙ both_first (world.filters.takes f (suc (max n (reached (world.filters.parameters f) ks)))) _ (right_arguments _ h), r)
+
+  -- a body of a block, on arguments for its parameters
+  body_takes : (l : Bool) (h : Home) (on : Bool) (x : Text) (bs : List (ℕ × BlockBody)) (cs : List BlockBody) (i : Option ℕ) (es : SRow Constant) → among h order ≡ true → Tail world order h x bs → GivenBy bs cs i → row_count es ≡ length (block_parameters world order h x) → RTakes l es
+      → ETakes l (invoked_body world order h on i es)
+  body_takes l h on x bs cs None es e t g c r = tt
+  body_takes l h on x bs [] (Some i) es e t g c r = absurd g
+  body_takes l h on x bs (d ∷ ds) (Some i) es e t g c r =
+      let found = body_is world order h x i d (t.0 ++ g.0) g.1 e (t.1 ∙ ap (λ z. t.0 ++ z) g.2 ∙ sym (append_assoc t.0 g.0 ((i, d) ∷ g.1))) in
+      (subst (λ z. HasParameters z (row_count es)) (sym found.0) (ap (λ z. length (block_parameters world order h z)) found.1 ∙ sym c), r)
+
+  abbrev pub PartTail : Home → Option Part → Type 0
+  PartTail h None = Unit {0}
+  PartTail h (Some p) = Tail world order h p.name p.behind
+
+  not_false : (b : Bool) → not b ≡ false → b ≡ true
+  not_false true h = refl
+  not_false false h = absurd (cc)
+
+  fields_take : (l : Bool) (f : Option Field) → (is_some f ≡ true → l ≡ true) → ETakes l (field_from f)
+  fields_take l None h = tt
+  fields_take l (Some f) h = h refl
+
+  attribute_takes : (w : Within) (b : Bool) (k : Text) (r : Option ScopeError) (e : SExpr Constant) → (if b then refused (not (w.in_loop && is_some (field_named k))) error.LoopOutside else r) ≡ None → (r ≡ None → ETakes w.in_loop e)
+      → ETakes w.in_loop (if b then field_from (field_named k) else operation_of op.Item e (slots.pooled (own (tree.text k))))
+  attribute_takes w true k r e h f = fields_take w.in_loop (field_named k) (λ g. both_first w.in_loop (is_some (field_named k)) (not_false (w.in_loop && is_some (field_named k)) (not_refused (not (w.in_loop && is_some (field_named k))) error.LoopOutside h)))
+  attribute_takes w false k r e h f = (refl, (f h, (tt, tt)))
+
+  pub row_counts : (ts : Exprs) (sp : Spot) (behind : SRow Constant) → row_count (resolved_row world order ts sp behind) ≡ count ts + row_count behind
+  row_counts no_exprs sp behind = omega arith
+  row_counts (expr a ts) sp behind = let e = row_counts ts sp behind in omega (arith, e)
+
+  pub aside_counts : (ps : written.Pairs) (sp : Spot) (behind : SRow Constant) → row_count (resolved_asides world order ps sp behind) ≡ row_count behind
+  aside_counts no_pairs sp behind = refl
+  aside_counts (pair k a ps) sp behind = aside_counts ps (grown sp) behind
+
+  entries_pair : (ps : written.Pairs) (sp : Spot) → InPairs (row_count (resolved_entries world order ps sp))
+  entries_pair no_pairs sp = tt
+  entries_pair (pair k a ps) sp = entries_pair ps sp
+
+  call_takes : (c : Callee) (sp : Spot) (w : Within) (f : Expr) (ts : Exprs) (ps : written.Pairs) → among sp.home order ≡ true → PartTail sp.home sp.part → ((b : MacroBody) → c ≡ a_macro b → (x : Text) × (macro_of x (macros world.sources sp.home) ≡ Some b))
+      → call_broken world sp.home c w f ts ps ≡ None → ((behind : SRow Constant) → RTakes w.in_loop behind → RTakes w.in_loop (resolved_row world order ts sp behind)) → ((behind : SRow Constant) → RTakes w.in_loop behind → RTakes w.in_loop (resolved_asides world order ps sp behind))
+      → ETakes w.in_loop (invoked world order c sp (resolved_row world order ts sp) (resolved_asides world order ps sp) (count ts) (locals_from sp.free (keywords ps)))
+  call_takes (a_macro b) sp w f ts ps e t named h rows asides =
+      let x = named b refl in
+      let d = default_place world order sp.home b.name in
+      let table = locals_from sp.free (keywords ps) in
+      let few = at_most (length b.parameters) (count ts) (both_first (not (nat_lt (length b.parameters) (count ts))) _ (right_arguments (fits b.parameters (count ts) (keywords ps)) h)) in
+      let n1 = row_counts ts sp (resolved_asides world order ps sp (filled b.parameters (count ts) d table)) in
+      let n2 = aside_counts ps sp (filled b.parameters (count ts) d table) in
+      let n3 = filled_count b.parameters (count ts) d table few in
+      let n4 = names_count b.parameters in
+      let all : length (map (λ p. p.name) b.parameters) ≡ row_count (resolved_row world order ts sp (resolved_asides world order ps sp (filled b.parameters (count ts) d table))) = omega (arith, n1, n2, n3, n4) in (
+        subst (λ z. HasParameters z (row_count (resolved_row world order ts sp (resolved_asides world order ps sp (filled b.parameters (count ts) d table))))) (sym (macro_is world order sp.home x.0 b e x.1)) all,
+        rows (resolved_asides world order ps sp (filled b.parameters (count ts) d table)) (asides (filled b.parameters (count ts) d table) (filled_takes w.in_loop b.parameters (count ts) d table)),
+      )
+    where
+      names_count : (qs : List Parameter) → length (map (λ p. p.name) qs) ≡ length qs
+      names_count [] = refl
+      names_count (q ∷ qs) = ap suc (names_count qs)
+  call_takes a_range sp w f ts ps e t named h rows asides =
+      let right = right_arguments (nat_lt 0 (count ts) && (nat_lt (count ts) 4 && no_keywords ps)) h in
+      let rest = both_second (nat_lt 0 (count ts)) (nat_lt (count ts) 4 && no_keywords ps) right in
+      let n = row_counts ts sp none in
+      (range_takes (count ts) (both_first (nat_lt 0 (count ts)) (nat_lt (count ts) 4 && no_keywords ps) right) (both_first (nat_lt (count ts) 4) (no_keywords ps) rest) ∙ (let m : count ts ≡ row_count (resolved_row world order ts sp none) = omega (arith, n) in m), rows none tt)
+  call_takes a_super sp w f ts ps e t named h rows asides = super_takes sp.part t
+    where
+      super_takes : (p : Option Part) → PartTail sp.home p → ETakes w.in_loop (invoked_super world order sp p)
+      super_takes None t = tt
+      super_takes (Some p) t =
+          body_takes w.in_loop sp.home sp.escaping p.name p.behind (from_given (map (λ d. d.1) p.behind)) (next_given p.behind) (first_locals 0 (block_parameters world order sp.home p.name)) e t (given_by p.behind)
+          (locals_count 0 (block_parameters world order sp.home p.name)) (locals_take w.in_loop 0 (block_parameters world order sp.home p.name))
+  call_takes (a_block x) sp w f ts ps e t named h rows asides =
+      body_takes w.in_loop sp.home sp.escaping x (numbered_of world sp.home x) (map (λ d. d.1) (numbered_of world sp.home x)) (first_body (numbered_of world sp.home x)) (reads (globals world order sp.home) (block_parameters world order sp.home x)) e ([], refl)
+      (firsts (numbered_of world sp.home x)) (reads_count (globals world order sp.home) (block_parameters world order sp.home x)) (reads_take w.in_loop (globals world order sp.home) (block_parameters world order sp.home x))
+    where
+      firsts : (bs : List (ℕ × BlockBody)) → GivenBy bs (map (λ d. d.1) bs) (first_body bs)
+      firsts [] = tt
+      firsts (b ∷ bs) = ([], bs, refl, refl)
+  call_takes a_cycle sp w f ts ps e t named h rows asides =
+      let inside = not_false w.in_loop (not_refused (not w.in_loop) error.LoopOutside (none_first (refused (not w.in_loop) error.LoopOutside) _ h)) in
+      (refl, ((tt, rows none tt), ((refl, (inside, (tt, tt))), tt)))
+  call_takes no_callee sp w f ts ps e t named h rows asides = tt
+
+  module _ (w : Within) where
+    mutual
+      pub expr_takes : (e : Expr) (sp : Spot) → among sp.home order ≡ true → PartTail sp.home sp.part → broken world sp.home e w ≡ None → ExprKnown world.filters e → ETakes w.in_loop (resolved world order e sp)
+      expr_takes (constant c) sp e t h k = tt
+      expr_takes (name x) sp e t h k = slot_takes w.in_loop (slot_in x sp.table) (known 0)
+      expr_takes (group a) sp e t h k = expr_takes a sp e t h k
+      expr_takes (list_of ts) sp e t h k = (tt, row_takes ts sp e t h k none tt)
+      expr_takes (written.map_of ps) sp e t h k = (entries_pair ps sp, entries_take ps sp e t h k)
+      expr_takes (attribute a x) sp e t h k = attribute_takes w (is_loop a) x (broken world sp.home a w) (resolved world order a sp) h (λ g. expr_takes a sp e t g k)
+      expr_takes (item a b) sp e t h k = (refl, (expr_takes a sp e t (none_first (broken world sp.home a w) (broken world sp.home b w) h) k.0, (expr_takes b sp e t (none_second (broken world sp.home a w) (broken world sp.home b w) h) k.1, tt)))
+      expr_takes (written.call f ts ps) sp e t h k =
+          let h1 = none_second (called_broken world sp.home f w) _ h in
+          let h2 = none_second (call_broken world sp.home (callee (macros world.sources sp.home) f) w f ts ps) _ h1 in
+          call_takes (callee (macros world.sources sp.home) f) sp w f ts ps e t (λ b c. named_macro (macros world.sources sp.home) f b c) (none_first (call_broken world sp.home (callee (macros world.sources sp.home) f) w f ts ps) _ h1)
+          (λ behind r. row_takes ts sp e t (none_first (row_broken world sp.home ts w) (pairs_broken world sp.home ps w) h2) k.0 behind r) (λ behind r. asides_take ps sp e t (none_second (row_broken world sp.home ts w) (pairs_broken world sp.home ps w) h2) k.1 behind r)
+      expr_takes (written.filter a x ts ps) sp e t h k =
+          let h1 = none_second (filter_broken world.filters (world.filters.named x) (count ts) (keywords ps)) _ h in
+          let h2 = none_second (broken world sp.home a w) _ h1 in
+          let rest = filled_some (filter_parameters world.filters (world.filters.named x)) (count ts) (keywords ps) (locals_from sp.free (keywords ps)) in
+          filtered_takes w.in_loop (world.filters.named x) sp.escaping (count ts) (keywords ps) (slots.item (resolved world order a sp) (resolved_row world order ts sp (resolved_asides world order ps sp rest))) k.0
+          (none_first (filter_broken world.filters (world.filters.named x) (count ts) (keywords ps)) _ h)
+          (ap suc (row_counts ts sp (resolved_asides world order ps sp rest) ∙ ap (λ n. count ts + n) (aside_counts ps sp rest) ∙ some_count (filter_parameters world.filters (world.filters.named x)) (count ts) (keywords ps) (locals_from sp.free (keywords ps)))) (
+            expr_takes a sp e t (none_first (broken world sp.home a w) _ h1) k.1,
+            row_takes ts sp e t (none_first (row_broken world sp.home ts w) (pairs_broken world sp.home ps w) h2) k.2 (resolved_asides world order ps sp rest)
+                (asides_take ps sp e t (none_second (row_broken world sp.home ts w) (pairs_broken world sp.home ps w) h2) k.3 rest (some_takes w.in_loop (filter_parameters world.filters (world.filters.named x)) (count ts) (keywords ps) (locals_from sp.free (keywords ps)))),
+          )
+      expr_takes (written.test a n x ts ps) sp e t h k =
+          let h1 = none_second (test_broken (test_named x) ts ps) _ h in
+          let h2 = none_second (broken world sp.home a w) _ h1 in
+          let c = row_counts ts sp none in
+          turned_takes w.in_loop n (tested_by (test_named x) (slots.item (resolved world order a sp) (resolved_row world order ts sp none)))
+          (tested_takes w.in_loop (test_named x) ts ps (slots.item (resolved world order a sp) (resolved_row world order ts sp none)) k.0 (none_first (test_broken (test_named x) ts ps) _ h)
+          (let d : suc (row_count (resolved_row world order ts sp none)) ≡ suc (count ts) = omega (arith, c) in d)
+          (expr_takes a sp e t (none_first (broken world sp.home a w) _ h1) k.1, row_takes ts sp e t (none_first (row_broken world sp.home ts w) (pairs_broken world sp.home ps w) h2) k.2 none tt))
+      expr_takes (unary p a) sp e t h k = (unary_one p, (expr_takes a sp e t h k, tt))
+      expr_takes (binary p a b) sp e t h k =
+          form_takes w.in_loop (form sp.escaping p) (resolved world order a sp) (resolved world order b sp) (form_two sp.escaping p)
+          (expr_takes a sp e t (none_first (broken world sp.home a w) (broken world sp.home b w) h) k.0) (expr_takes b sp e t (none_second (broken world sp.home a w) (broken world sp.home b w) h) k.1)
+      expr_takes (when c a) sp e t h k =
+          (expr_takes c sp e t (none_first (broken world sp.home c w) (broken world sp.home a w) h) k.0, expr_takes a sp e t (none_second (broken world sp.home c w) (broken world sp.home a w) h) k.1, tt)
+      expr_takes (choice c a b) sp e t h k =
+          let rest = none_second (broken world sp.home c w) (option_or (broken world sp.home a w) (broken world sp.home b w)) h in (
+            expr_takes c sp e t (none_first (broken world sp.home c w) (option_or (broken world sp.home a w) (broken world sp.home b w)) h) k.0,
+            expr_takes a sp e t (none_first (broken world sp.home a w) (broken world sp.home b w) rest) k.1,
+            expr_takes b sp e t (none_second (broken world sp.home a w) (broken world sp.home b w) rest) k.2,
+          )
+
+      pub row_takes : (ts : Exprs) (sp : Spot) → among sp.home order ≡ true → PartTail sp.home sp.part → row_broken world sp.home ts w ≡ None → RowKnown world.filters ts → (behind : SRow Constant) → RTakes w.in_loop behind → RTakes w.in_loop (resolved_row world order ts sp behind)
+      row_takes no_exprs sp e t h k behind r = r
+      row_takes (expr a ts) sp e t h k behind r =
+          (expr_takes a sp e t (none_first (broken world sp.home a w) (row_broken world sp.home ts w) h) k.0, row_takes ts sp e t (none_second (broken world sp.home a w) (row_broken world sp.home ts w) h) k.1 behind r)
+
+      pub asides_take : (ps : written.Pairs) (sp : Spot) → among sp.home order ≡ true → PartTail sp.home sp.part → pairs_broken world sp.home ps w ≡ None → PairsKnown world.filters ps → (behind : SRow Constant) → RTakes w.in_loop behind → RTakes w.in_loop (resolved_asides world order ps sp behind)
+      asides_take no_pairs sp e t h k behind r = r
+      asides_take (pair x a ps) sp e t h k behind r =
+          (expr_takes a sp e t (none_first (broken world sp.home a w) (pairs_broken world sp.home ps w) h) k.0, asides_take ps (grown sp) e t (none_second (broken world sp.home a w) (pairs_broken world sp.home ps w) h) k.1 behind r)
+
+      pub entries_take : (ps : written.Pairs) (sp : Spot) → among sp.home order ≡ true → PartTail sp.home sp.part → pairs_broken world sp.home ps w ≡ None → PairsKnown world.filters ps → RTakes w.in_loop (resolved_entries world order ps sp)
+      entries_take no_pairs sp e t h k = tt
+      entries_take (pair x a ps) sp e t h k =
+          (tt, (expr_takes a sp e t (none_first (broken world sp.home a w) (pairs_broken world sp.home ps w) h) k.0, entries_take ps sp e t (none_second (broken world sp.home a w) (pairs_broken world sp.home ps w) h) k.1))

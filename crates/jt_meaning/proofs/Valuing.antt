@@ -1,0 +1,672 @@
+-- An expression means the same by names and by slots.
+use Rattle.std.proofs.Common.{◌≡◌, ℕ, zero, suc, pos, ◌<◌, ◌≤◌, Bool, true, false, if◌then◌else◌, List, [], ◌∷◌, ◌++◌, length, map, Option, Some, None, refl, sym, ap, ◌∙◌, subst, arith, append_assoc, inl, inr}
+use Rattle.std.specs.Prelude.{unwrap_or, Result, Ok, Err, filter, codes}
+use Rattle.std.specs.Str.{bytes_eq}
+use Rattle.jt_value.specs.Tree as tree
+use Rattle.jt_value.specs.Tree.{Tree}
+use Rattle.jt_value.specs.Pairs.{Pairs, look}
+use Rattle.jt_value.specs.View.{items_of}
+use Rattle.jt_value.specs.declared.fault.Fault.{Fault}
+use Rattle.jt_ops.specs.declared.op_id.OpId.{OpId}
+use Rattle.jt_ops.specs.declared.op_id.OpId.TheVariants as op
+use Rattle.jt_ops.specs.declared.test_id.TestId.{TestId}
+use Rattle.jt_ops.specs.Operation as operators
+use Rattle.jt_ops.specs.Operation.{as_truth}
+use Rattle.jt_ops.specs.Testing.{tested}
+use Rattle.jt_ops.specs.Ranges.{ranged}
+use Rattle.jt_ops.specs.Making.{listed, mapped}
+use Rattle.jt_expr.specs.Trees as written
+use Rattle.jt_expr.specs.Trees.{Expr, constant, name, group, list_of, map_of, attribute, item, unary, binary, when, choice, Exprs, no_exprs, expr, no_pairs, pair}
+use Rattle.jt_slots.specs.Got.{Got, gives, fails, deeper, bind, checked}
+use Rattle.jt_meaning.specs.Operators.{unary_operation, Form, operation, negation, conjunction, disjunction, form, range_of}
+use Rattle.jt_slots.specs.Tests.{test_named}
+use Rattle.jt_slots.specs.Values.{literal, as_value}
+use Rattle.jt_meaning.specs.Expressions.{operated, asked, turned, either, combined, filtered, filter_parameters, entries_of, field_of, cycled, block_text, super_text, valued_text, called, value, values, named_values}
+use Rattle.jt_inherit.specs.Uses.{count, keywords, expr_names, row_names, pair_names}
+use Rattle.jt_parse.specs.Trees.{Text, Parameter}
+use Rattle.jt_meaning.specs.Env.{Env, read, top}
+use Rattle.jt_inherit.specs.Chain.{Home, BlockBody, bodies, all_bodies, from_given, MacroBody, macros, macro_of, Callee, a_macro, a_range, a_super, a_block, a_cycle, no_callee, callee, named_alone, is_loop}
+use Rattle.jt_slots.specs.Loops.{Loop, Field, index0, field_named, loop_field}
+use Rattle.jt_slots.specs.Filters.{Filters, default_value, parameters, some_given, by_name, arguments}
+use Rattle.jt_rules.specs.World.{World}
+use Rattle.jt_meaning.specs.Around.{Placement, the_macro, the_block, Calls}
+use Rattle.jt_slots.specs.Slots as slots
+use Rattle.jt_slots.specs.Slots.{Slot, local, global, Maker, operator, a_list, a_map, SExpr, made, SRow, none, Memory, Valued, Listed, Written, SCalls, load, put_at, store, make, valued, in_front, svalue, svalues}
+use Rattle.jt_meaning.specs.Layout.{Table, slot_in, first_slot, of_macro, of_body, names, globals, block_parameters, is_scoped, numbered_of, numbered_bodies, counted_from, unit, default_place}
+use Rattle.jt_meaning.specs.Programs.{pool}
+use Rattle.jt_slots.specs.Pool.{Constant, own, known, constant_in}
+use Rattle.jt_meaning.specs.Resolve.{no_value, value_or, read_from, operation_of, turned_round, tested_by, filtered_by, in_form, field_from, locals_from, filled, filled_some, first_locals, reads, Spot, Part, grown, next_given, first_body, invoked_body, invoked_super, invoked, resolved, resolved_row, resolved_asides, resolved_entries}
+use Rattle.jt_meaning.proofs.Both.{Both, both, fault, bind_both, if_both, weaken, right_both, bind_gives, bind_assoc, bind_ext, by_left, by_right}
+use Rattle.jt_meaning.proofs.Reading.{among_front, among_back, held, put_here}
+use Rattle.jt_meaning.proofs.Agreeing.{Kept, kept_same, kept_then, kept_less, kept_store, Held, limit, global_given}
+use Rattle.jt_meaning.proofs.Calling.{Evaluated, Rowed, Known, Sees, Tail, PartHolds, Good, good_kept, good_grown, around_of, Wrote, CallsMean, DefaultsAt, DefaultsLaid}
+use Rattle.jt_meaning.specs.Layout.{scopes}
+use Rattle.jt_meaning.proofs.Among.{Among, AllAmong}
+
+-- ---- rows of values
+
+abbrev pub prefixed : List Tree → Listed → Listed
+prefixed [] r = r
+prefixed (v ∷ vs) r = in_front v (prefixed vs r)
+
+prefixed_values : (vs : List Tree) (r : Listed) → (prefixed vs r).values ≡ vs ++ r.values
+prefixed_values [] r = refl
+prefixed_values (v ∷ vs) r = ap (λ ts. v ∷ ts) (prefixed_values vs r)
+
+prefixed_memory : (vs : List Tree) (r : Listed) → (prefixed vs r).memory ≡ r.memory
+prefixed_memory [] r = refl
+prefixed_memory (v ∷ vs) r = prefixed_memory vs r
+
+pub map_length : {A B : Type 0} (f : A → B) (xs : List A) → length (map f xs) ≡ length xs
+map_length f [] = refl
+map_length f (x ∷ xs) = ap suc (map_length f xs)
+
+append_none : (vs : List Tree) → vs ++ [] ≡ vs
+append_none [] = refl
+append_none (v ∷ vs) = ap (λ ts. v ∷ ts) (append_none vs)
+
+-- the first values of a row
+abbrev pub FrontOf : List Tree → List Tree → Type 0
+FrontOf [] ts = Unit {0}
+FrontOf (v ∷ vs) [] = ⊥
+FrontOf (v ∷ vs) (t ∷ ts) = (t ≡ v) × FrontOf vs ts
+
+held_behind : (t : Tree) (ts : List Tree) (k : ℕ) (vs : List Tree) → Held ts k vs → Held (t ∷ ts) (suc k) vs
+held_behind t ts k [] h = tt
+held_behind t ts k (v ∷ vs) h = (h.0, held_behind t ts (suc k) vs h.1)
+
+front_held : (vs ts : List Tree) → FrontOf vs ts → Held ts 0 vs
+front_held [] ts f = tt
+front_held (v ∷ vs) [] f = absurd f
+front_held (v ∷ vs) (t ∷ ts) f = (f.0, held_behind t ts 0 vs (front_held vs ts f.1))
+
+-- ---- arguments by name, and the locals that keep them
+
+abbrev pub Looked : Option Tree → Option Slot → Memory → Type 0
+Looked None None m = Unit {0}
+Looked None (Some s) m = ⊥
+Looked (Some v) None m = ⊥
+Looked (Some v) (Some s) m = load s m ≡ v
+
+abbrev pub KeywordsHeld : Table → Pairs → Memory → Type 0
+KeywordsHeld table ks m = (x : Text) → Looked (look x ks) (slot_in x table) m
+
+keywords_held : (m : Memory) (k : ℕ) (ks : Pairs) → Held m.locals k (map (λ p. p.1) ks) → KeywordsHeld (locals_from k (map (λ p. p.0) ks)) ks m
+keywords_held m k [] h x = tt
+keywords_held m k (p ∷ ps) h x = through (bytes_eq p.0 x) (keywords_held m (suc k) ps h.1 x)
+  where
+    through : (b : Bool) → Looked (look x ps) (slot_in x (locals_from (suc k) (map (λ q. q.0) ps))) m → Looked (if b then Some p.1 else look x ps) (if b then Some (local k) else slot_in x (locals_from (suc k) (map (λ q. q.0) ps))) m
+    through true l = h.0
+    through false l = l
+
+parameter_names : (ps : List Parameter) (vs : List Tree) (ks : Pairs) → map (λ p. p.0) (parameters ps vs ks) ≡ map (λ p. p.name) ps
+parameter_names [] vs ks = refl
+parameter_names (p ∷ ps) [] ks = ap (λ xs. p.name ∷ xs) (parameter_names ps [] ks)
+parameter_names (p ∷ ps) (v ∷ vs) ks = ap (λ xs. p.name ∷ xs) (parameter_names ps vs ks)
+
+-- ---- bodies and their places
+
+pub counted_are : {A : Type 0} (n : ℕ) (xs : List A) → map (λ c. c.1) (counted_from n xs) ≡ xs
+counted_are n [] = refl
+counted_are n (x ∷ xs) = ap (λ ys. x ∷ ys) (counted_are (suc n) xs)
+
+filter_map : (p : BlockBody → Bool) (bs : List (ℕ × BlockBody)) → map (λ c. c.1) (filter (λ c. p c.1) bs) ≡ filter p (map (λ c. c.1) bs)
+filter_map p [] = refl
+filter_map p (b ∷ bs) = through (p b.1) (filter_map p bs)
+  where
+    through : (c : Bool) → map (λ d. d.1) (filter (λ d. p d.1) bs) ≡ filter p (map (λ d. d.1) bs)
+        → map (λ d. d.1) (if c then b ∷ filter (λ d. p d.1) bs else filter (λ d. p d.1) bs) ≡ (if c then b.1 ∷ filter p (map (λ d. d.1) bs) else filter p (map (λ d. d.1) bs))
+    through true e = ap (λ ys. b.1 ∷ ys) e
+    through false e = e
+
+pub numbered_are : (world : World) (h : Home) (x : Text) → bodies world.sources world.escaping h x ≡ map (λ c. c.1) (numbered_of world h x)
+numbered_are world h x =
+    ap (λ bs. filter (λ b. bytes_eq b.name x) bs) (sym (counted_are 0 (all_bodies world.sources world.escaping h)))
+    ∙ sym (filter_map (λ b. bytes_eq b.name x) (numbered_bodies world h))
+
+-- what `super()` goes on with has the place that resolving finds
+abbrev pub GivenBy : List (ℕ × BlockBody) → List BlockBody → Option ℕ → Type 0
+GivenBy bs [] None = Unit {0}
+GivenBy bs [] (Some i) = ⊥
+GivenBy bs (c ∷ cs) None = ⊥
+GivenBy bs (c ∷ cs) (Some i) = (before behind : List (ℕ × BlockBody)) × (bs ≡ before ++ ((i, c) ∷ behind)) × (cs ≡ map (λ d. d.1) behind)
+
+pub given_by : (bs : List (ℕ × BlockBody)) → GivenBy bs (from_given (map (λ d. d.1) bs)) (next_given bs)
+given_by [] = tt
+given_by (b ∷ bs) = through b.1.required (given_by bs)
+  where
+    later : (cs : List BlockBody) (o : Option ℕ) → GivenBy bs cs o → GivenBy (b ∷ bs) cs o
+    later [] None g = g
+    later [] (Some i) g = g
+    later (c ∷ cs) None g = g
+    later (c ∷ cs) (Some i) g = (b ∷ g.0, g.1, ap (λ ds. b ∷ ds) g.2, g.3)
+
+    through : (r : Bool) → GivenBy bs (from_given (map (λ d. d.1) bs)) (next_given bs)
+        → GivenBy (b ∷ bs) (if r then from_given (map (λ d. d.1) bs) else b.1 ∷ map (λ d. d.1) bs) (if r then next_given bs else Some b.0)
+    through true g = later (from_given (map (λ d. d.1) bs)) (next_given bs) g
+    through false g = ([], bs, refl, refl)
+
+-- ---- `range` of any number of arguments
+
+range_same : (n : ℕ) (vs : List Tree) → operators.operation (range_of n) vs ≡ ranged vs
+range_same zero vs = refl
+range_same (suc zero) vs = refl
+range_same (suc (suc zero)) vs = refl
+range_same (suc (suc (suc n))) vs = refl
+
+-- what is called in front of arguments
+pub named_macro : (ms : List MacroBody) (f : Expr) (b : MacroBody) → callee ms f ≡ a_macro b → (x : Text) × (macro_of x ms ≡ Some b)
+named_macro ms (name x) b e = (x, alone (macro_of x ms) e)
+  where
+    other : (p q : Bool) → (if p then a_range else if q then a_super else no_callee) ≡ a_macro b → ⊥
+    other true q e = cc
+    other false true e = cc
+    other false false e = cc
+
+    alone : (o : Option MacroBody) → named_alone o x ≡ a_macro b → o ≡ Some b
+    alone None e = absurd (other (bytes_eq x (codes "range")) (bytes_eq x (codes "super")) e)
+    alone (Some m) e = cc
+named_macro ms (attribute (name of) x) b e = absurd (other (bytes_eq of (codes "self")) (bytes_eq of (codes "loop")) (bytes_eq x (codes "cycle")) e)
+  where
+    other : (p q r : Bool) → (if p then a_block x else if q then (if r then a_cycle else no_callee) else no_callee) ≡ a_macro b → ⊥
+    other true q r e = cc
+    other false true true e = cc
+    other false true false e = cc
+    other false false r e = cc
+named_macro ms f b e = cc
+
+-- ---- groupings
+
+regroup : {A B C D : Type 0} (g : Got A) (h : Got B) (f : A → B → C) (k : C → Got D) → bind g (λ x. bind h (λ y. k (f x y))) ≡ bind (bind g (λ x. bind h (λ y. gives (f x y)))) k
+regroup (gives x) (gives y) f k = refl
+regroup (gives x) (fails e p) f k = refl
+regroup (gives x) deeper f k = refl
+regroup (fails e p) h f k = refl
+regroup deeper h f k = refl
+
+-- ---- one value made of others, over slots
+
+module _ (world : World) (order : List Home) (calls : Calls) (scall : SCalls) (mean : CallsMean world order calls scall) (laid : DefaultsLaid world order) (l : Option Loop) (q : Option Placement) where
+  abbrev pub fs : Filters
+  fs = world.filters
+
+  abbrev pub constants : Constant → Tree
+  constants = constant_in (pool world order)
+
+  abbrev pub seen : SExpr Constant → Memory → Got Valued
+  seen e m = svalue fs constants scall e l m
+
+  abbrev pub seen_row : SRow Constant → Memory → Got Listed
+  seen_row es m = svalues fs constants scall es l m
+
+  -- what an operation makes of one value, and of two
+  one_after : (g : Got Valued) (f : List Tree → Memory → Got Valued)
+      → bind (bind g (λ r. gives (in_front r.value (record { values = []; memory = r.memory })))) (λ r. f r.values r.memory) ≡ bind g (λ r. f (r.value ∷ []) r.memory)
+  one_after (gives r) f = refl
+  one_after (fails e p) f = refl
+  one_after deeper f = refl
+
+  on_one : (o : OpId) (e : SExpr Constant) (m : Memory) → seen (made (operator o) (slots.item e none)) m ≡ bind (seen e m) (λ r. bind (operated o (r.value ∷ [])) (valued r.memory))
+  on_one o e m = one_after (seen e m) (λ vs n. bind (operated o vs) (valued n))
+
+  two_after : (g : Got Valued) (h : Memory → Got Valued) (f : List Tree → Memory → Got Valued)
+      → bind (bind g (λ r. bind (bind (h r.memory) (λ s. gives (in_front s.value (record { values = []; memory = s.memory })))) (λ rs. gives (in_front r.value rs)))) (λ r. f r.values r.memory)
+      ≡ bind g (λ r. bind (h r.memory) (λ s. f (r.value ∷ s.value ∷ []) s.memory))
+  two_after (gives r) h f = second (h r.memory)
+    where
+      second : (k : Got Valued)
+          → bind (bind (bind k (λ s. gives (in_front s.value (record { values = []; memory = s.memory })))) (λ rs. gives (in_front r.value rs))) (λ q. f q.values q.memory)
+          ≡ bind k (λ s. f (r.value ∷ s.value ∷ []) s.memory)
+      second (gives s) = refl
+      second (fails e p) = refl
+      second deeper = refl
+  two_after (fails e p) h f = refl
+  two_after deeper h f = refl
+
+  on_two : (o : OpId) (e k : SExpr Constant) (m : Memory)
+      → seen (operation_of o e k) m ≡ bind (seen e m) (λ r. bind (seen k r.memory) (λ s. bind (operated o (r.value ∷ s.value ∷ [])) (valued s.memory)))
+  on_two o e k m = two_after (seen e m) (λ n. seen k n) (λ vs n. bind (operated o vs) (valued n))
+
+  -- a result over a memory that was kept
+  done : {b g : ℕ} {m n : Memory} (r : Result Tree Fault) → Kept b g m n → n.out ≡ m.out → Both (Evaluated b g m) (checked r) (bind (checked r) (valued n))
+  done (Ok v) u o = both (record { value = refl; kept = u; out = o })
+  done (Err e) u o = fault
+
+  done_as : {b g : ℕ} {m n : Memory} (r s : Result Tree Fault) → r ≡ s → Kept b g m n → n.out ≡ m.out → Both (Evaluated b g m) (checked r) (bind (checked s) (valued n))
+  done_as r s e u o = by_left (ap checked e) (done s u o)
+
+  made_both : {b g : ℕ} {m : Memory} {h : Got (List Tree)} (k : Maker) (o : List Tree → Result Tree Fault) (es : SRow Constant) → ((vs : List Tree) → o vs ≡ make fs k vs)
+      → Both (Rowed b g m) h (seen_row es m) → Both (Evaluated b g m) (bind h (λ vs. checked (o vs))) (seen (made k es) m)
+  made_both k o es e u = bind_both u (λ vs r w. done_as (o vs) (make fs k r.values) (e vs ∙ ap (make fs k) (sym w.values)) w.kept w.out)
+
+  -- one operand
+  one_both : {b g : ℕ} {m : Memory} {h : Got Tree} (o : OpId) (e : SExpr Constant) → Both (Evaluated b g m) h (seen e m)
+      → Both (Evaluated b g m) (bind h (λ v. operated o (v ∷ []))) (seen (made (operator o) (slots.item e none)) m)
+  one_both {m = m} o e u = by_right (on_one o e m) (bind_both u (λ v r w. done_as (operators.operation o (v ∷ [])) (operators.operation o (r.value ∷ [])) (ap (λ x. operators.operation o (x ∷ [])) (sym w.value)) w.kept w.out))
+
+  turned_both : {b g : ℕ} {m : Memory} {h : Got Tree} (n : Bool) (e : SExpr Constant) → Both (Evaluated b g m) h (seen e m) → Both (Evaluated b g m) (turned n h) (seen (turned_round n e) m)
+  turned_both false e u = u
+  turned_both true e u = one_both op.Not e u
+
+  -- from a memory that was kept
+  abbrev Later : ℕ → ℕ → Memory → Got Tree → SExpr Constant → Type 0
+  Later b g m h e = (n : Memory) → Kept b g m n → n.out ≡ m.out → Both (Evaluated b g n) h (seen e n)
+
+  after : {b g : ℕ} {m n : Memory} {v : Tree} {r : Valued} → Kept b g m n → n.out ≡ m.out → Evaluated b g n v r → Evaluated b g m v r
+  after u o w = record { value = w.value; kept = kept_then u w.kept; out = w.out ∙ o }
+
+  then_both : {b g : ℕ} {m : Memory} {h : Got Tree} (e : SExpr Constant) → Later b g m h e → (n : Memory) → Kept b g m n → n.out ≡ m.out → Both (Evaluated b g m) h (seen e n)
+  then_both e later n u o = weaken (λ v r w. after u o w) (later n u o)
+
+  two_both : {b g : ℕ} {m : Memory} {h k : Got Tree} (o : OpId) (e f : SExpr Constant) → Both (Evaluated b g m) h (seen e m) → Later b g m k f
+      → Both (Evaluated b g m) (bind h (λ v. bind k (λ w. operated o (v ∷ w ∷ [])))) (seen (operation_of o e f) m)
+  two_both {m = m} o e f u later =
+      by_right (on_two o e f m) (bind_both u (λ v r w. bind_both (then_both f later r.memory w.kept w.out) (λ x s z.
+      done_as (operators.operation o (v ∷ x ∷ [])) (operators.operation o (r.value ∷ s.value ∷ [])) (ap (λ y. operators.operation o (y ∷ x ∷ [])) (sym w.value) ∙ ap (λ y. operators.operation o (r.value ∷ y ∷ [])) (sym z.value)) z.kept z.out)))
+
+  -- one way or the other, by the truth of a value that both have
+  truth_both : {b g : ℕ} {m : Memory} {h k : Got Tree} {p q : Got Valued} (v w : Tree) → w ≡ v → Both (Evaluated b g m) h p → Both (Evaluated b g m) k q
+      → Both (Evaluated b g m) (if tree.truth v then h else k) (if tree.truth w then p else q)
+  truth_both {h = h} {k = k} {p = p} {q = q} v w e s t = by_right (ap (λ x. if tree.truth x then p else q) e) (if_both (tree.truth v) s t)
+
+  itself : {b g : ℕ} {m : Memory} (v : Tree) (r : Valued) → Evaluated b g m v r → Both (Evaluated b g m) (gives v) (gives r)
+  itself v r w = both w
+
+  form_both : {b g : ℕ} {m : Memory} {h k : Got Tree} (f : Form) (e i : SExpr Constant) → Both (Evaluated b g m) h (seen e m) → Later b g m k i
+      → Both (Evaluated b g m) (combined f h k) (seen (in_form f e i) m)
+  form_both (operation o) e i u later = two_both o e i u later
+  form_both (negation o) e i u later = turned_both true (operation_of o e i) (two_both o e i u later)
+  form_both conjunction e i u later = bind_both u (λ v r w. truth_both v r.value w.value (then_both i later r.memory w.kept w.out) (itself v r w))
+  form_both disjunction e i u later = bind_both u (λ v r w. truth_both v r.value w.value (itself v r w) (then_both i later r.memory w.kept w.out))
+
+  choice_both : {b g : ℕ} {m : Memory} {h k j : Got Tree} (c e i : SExpr Constant) → Both (Evaluated b g m) h (seen c m) → Later b g m k e → Later b g m j i
+      → Both (Evaluated b g m) (either h k j) (seen (slots.choice c e i) m)
+  choice_both c e i u later other = bind_both u (λ v r w. truth_both v r.value w.value (then_both e later r.memory w.kept w.out) (then_both i other r.memory w.kept w.out))
+
+  asked_both : {b g : ℕ} {m : Memory} {h : Got (List Tree)} (t : Option TestId) (es : SRow Constant) → Both (Rowed b g m) h (seen_row es m) → Both (Evaluated b g m) (asked t h) (seen (tested_by t es) m)
+  asked_both None es u = fault
+  asked_both (Some t) es u = made_both (slots.test t) (λ vs. as_truth (tested t vs)) es (λ vs. refl) u
+
+  pub filtered_both : {b g : ℕ} {m : Memory} {h : Got (List Tree)} (f : Option ℕ) (on : Bool) (es : SRow Constant) → Both (Rowed b g m) h (seen_row es m) → Both (Evaluated b g m) (filtered fs f on h) (seen (filtered_by f on es) m)
+  filtered_both None on es u = fault
+  filtered_both (Some f) on es u = made_both (slots.filter f on) (λ vs. fs.operation f on vs) es (λ vs. refl) u
+
+  -- a value with others behind it
+  item_gives : (e : SExpr Constant) (es : SRow Constant) (m : Memory) (v : Tree) (vs : List Tree) → seen e m ≡ gives (record { value = v; memory = m }) → seen_row es m ≡ gives (record { values = vs; memory = m })
+      → seen_row (slots.item e es) m ≡ gives (record { values = v ∷ vs; memory = m })
+  item_gives e es m v vs p q = ap (λ g. bind g (λ r. bind (seen_row es r.memory) (λ rs. gives (in_front r.value rs)))) p ∙ ap (λ g. bind g (λ rs. gives (in_front v rs))) q
+
+  -- what is not given by place is given by name, or has its default
+  value_looked : (o : Option Tree) (s : Option Slot) (d : Constant) (m : Memory) → Looked o s m → seen (value_or s d) m ≡ gives (record { value = unwrap_or o (constants d); memory = m })
+  value_looked None None d m k = refl
+  value_looked None (Some s) d m k = absurd k
+  value_looked (Some v) None d m k = absurd k
+  value_looked (Some v) (Some s) d m k = ap (λ w. gives (record { value = w; memory = m })) k
+
+  filled_gives : (ps : List Parameter) (vs : List Tree) (d : ℕ) (table : Table) (ks : Pairs) (m : Memory) → KeywordsHeld table ks m → DefaultsAt world order d ps
+      → (ws : List Tree) × (seen_row (filled ps (length vs) d table) m ≡ gives (record { values = ws; memory = m })) × FrontOf (map (λ p. p.1) (parameters ps vs ks)) (vs ++ ws)
+  filled_gives [] vs d table ks m k h = ([], refl, tt)
+  filled_gives (p ∷ ps) (v ∷ vs) d table ks m k h = let r = filled_gives ps vs (suc d) table ks m k h.1 in (r.0, r.1, (refl, r.2))
+  filled_gives (p ∷ ps) [] d table ks m k h =
+      let r = filled_gives ps [] (suc d) table ks m k h.1 in
+      let e = value_looked (look p.name ks) (slot_in p.name table) (known d) m (k p.name) in (
+        unwrap_or (look p.name ks) (constants (known d)) ∷ r.0,
+        item_gives (value_or (slot_in p.name table) (known d)) (filled ps zero (suc d) table) m (unwrap_or (look p.name ks) (constants (known d))) r.0 e r.1,
+        (ap (λ x. unwrap_or (look p.name ks) x) h.0, r.2),
+      )
+
+  named_gives : (ps : List Parameter) (xs : List Text) (table : Table) (ks : Pairs) (m : Memory) → KeywordsHeld table ks m
+      → seen_row (filled_some ps zero xs table) m ≡ gives (record { values = by_name ps xs ks; memory = m })
+  named_gives [] xs table ks m k = refl
+  named_gives (p ∷ ps) xs table ks m k = through (some_given (p ∷ ps) xs) (named_gives ps xs table ks m k)
+    where
+      d : Constant
+      d = own (default_value p.default)
+
+      through : (b : Bool) → seen_row (filled_some ps zero xs table) m ≡ gives (record { values = by_name ps xs ks; memory = m })
+          → seen_row (if b then slots.item (value_or (slot_in p.name table) d) (filled_some ps zero xs table) else none) m
+          ≡ gives (record { values = (if b then unwrap_or (look p.name ks) (default_value p.default) ∷ by_name ps xs ks else []); memory = m })
+      through false e = refl
+      through true e =
+          item_gives (value_or (slot_in p.name table) d) (filled_some ps zero xs table) m (unwrap_or (look p.name ks) (default_value p.default)) (by_name ps xs ks)
+          (value_looked (look p.name ks) (slot_in p.name table) d m (k p.name)) e
+
+  some_gives : (ps : List Parameter) (vs : List Tree) (xs : List Text) (table : Table) (ks : Pairs) (m : Memory) → KeywordsHeld table ks m
+      → (ws : List Tree) × (seen_row (filled_some ps (length vs) xs table) m ≡ gives (record { values = ws; memory = m })) × (arguments ps vs xs ks ≡ vs ++ ws)
+  some_gives ps [] xs table ks m k = (by_name ps xs ks, named_gives ps xs table ks m k, refl)
+  some_gives [] (v ∷ vs) xs table ks m k = ([], refl, sym (append_none (v ∷ vs)))
+  some_gives (p ∷ ps) (v ∷ vs) xs table ks m k = let r = some_gives ps vs xs table ks m k in (r.0, r.1, ap (λ ts. v ∷ ts) r.2)
+
+  -- what names read, as a row
+  pub read_gives : (s : Option Slot) (m : Memory) → seen (read_from s) m ≡ gives (record { value = held s m; memory = m })
+  read_gives None m = refl
+  read_gives (Some s) m = refl
+
+  pub reads_give : (table : Table) (xs : List Text) (m : Memory) → seen_row (reads table xs) m ≡ gives (record { values = map (λ x. held (slot_in x table) m) xs; memory = m })
+  reads_give table [] m = refl
+  reads_give table (x ∷ xs) m =
+      item_gives (read_from (slot_in x table)) (reads table xs) m (held (slot_in x table) m) (map (λ y. held (slot_in y table) m) xs) (read_gives (slot_in x table) m) (reads_give table xs m)
+
+  locals_give : (n : ℕ) (xs : List Text) (vs : List Tree) (m : Memory) → length vs ≡ length xs → Held m.locals n vs → seen_row (first_locals n xs) m ≡ gives (record { values = vs; memory = m })
+  locals_give n [] [] m e h = refl
+  locals_give n [] (v ∷ vs) m e h = absurd (omega (arith, e))
+  locals_give n (x ∷ xs) [] m e h = absurd (omega (arith, e))
+  locals_give n (x ∷ xs) (v ∷ vs) m e h =
+      item_gives (slots.variable (local n)) (first_locals (suc n) xs) m v vs (ap (λ w. gives (record { value = w; memory = m })) h.0) (locals_give (suc n) xs vs m (let f : length vs ≡ length xs = omega (arith, e) in f) h.1)
+
+  -- ---- calls
+
+  abbrev pub end : Spot → ℕ
+  end sp = limit world order sp.home
+
+  abbrev pub Same : Spot → Memory → Got Tree → SExpr Constant → Type 0
+  Same sp m g e = Both (Evaluated sp.free (end sp) m) g (seen e m)
+
+  -- a text by names, and what a routine writes over a memory that was kept
+  text_both : {m : Memory} (sp : Spot) (on : Bool) (g : Got Text) (w : Got Written) (n : Memory) → Kept sp.free (end sp) m n → n.out ≡ m.out → Both (Wrote world order (end sp) n.globals) g w
+      → Both (Evaluated sp.free (end sp) m) (valued_text on g) (bind w (λ x. valued (record n { globals = x.globals }) (as_value on x.text)))
+  text_both {m = m} sp on g w n u o c = bind_both c (λ s x y. both (record {
+    value = ap (as_value on) y.text;
+    kept = kept_then u (record { locals = λ i z. refl; globals = y.globals });
+    out = o;
+  }))
+
+  -- a body of a block as a value
+  body_both : {m : Memory} (sp : Spot) (on : Bool) (cs : List BlockBody) (o : Option ℕ) (env : Env) (es : SRow Constant) (x : Text) (bs : List (ℕ × BlockBody)) (vs : List Tree)
+      → Known world order sp.home → Tail world order sp.home x bs → GivenBy bs cs o → seen_row es m ≡ gives (record { values = vs; memory = m }) → Sees world order sp.home x env vs m.globals
+      → Same sp m (valued_text on (block_text calls sp.home cs env)) (invoked_body world order sp.home on o es)
+  body_both {m = m} sp on [] None env es x bs vs kn tail given r sees = both (record { value = refl; kept = kept_same sp.free (end sp) m; out = refl })
+  body_both sp on [] (Some i) env es x bs vs kn tail given r sees = absurd given
+  body_both sp on (c ∷ cs) None env es x bs vs kn tail given r sees = absurd given
+  body_both {m = m} sp on (c ∷ cs) (Some i) env es x bs vs kn tail given r sees =
+      let t : Tail world order sp.home x ((i, c) ∷ given.1) = (tail.0 ++ given.0, tail.1 ∙ ap (λ ds. tail.0 ++ ds) given.2 ∙ sym (append_assoc tail.0 given.0 ((i, c) ∷ given.1))) in
+      let call = mean.block_means sp.home kn x i c given.1 t env vs m.globals sees in
+      let call' = subst (λ ds. Both (Wrote world order (end sp) m.globals) (calls (the_block sp.home c ds env)) (scall (unit world order (of_body sp.home i)) vs m.globals)) (sym given.3) call in
+      by_right (ap (λ g. bind g (λ z. bind (scall (unit world order (of_body sp.home i)) z.values z.memory.globals) (λ w. valued (record z.memory { globals = w.globals }) (as_value on w.text)))) r)
+      (text_both sp on (calls (the_block sp.home c cs env)) (scall (unit world order (of_body sp.home i)) vs m.globals) m (kept_same sp.free (end sp) m) refl call')
+
+  -- a value that needs nothing
+  given_both : {m : Memory} (sp : Spot) (v : Tree) → Both (Evaluated sp.free (end sp) m) (gives v) (gives (record { value = v; memory = m }))
+  given_both {m = m} sp v = both (record { value = refl; kept = kept_same sp.free (end sp) m; out = refl })
+
+  field_both : {m : Memory} (sp : Spot) (f : Option Field) → Same sp m (field_of f l) (field_from f)
+  field_both sp None = given_both sp tree.undefined
+  field_both {m = m} sp (Some f) = done (loop_field f l) (kept_same sp.free (end sp) m) refl
+
+  abbrev pub bound_names : Spot → List Text
+  bound_names sp = scopes world order sp.home
+
+  abbrev pub ns : Spot → List Text
+  ns sp = names world order sp.home
+
+  attribute_both : {m : Memory} (b : Bool) (k : Text) (sp : Spot) (h : Got Tree) (e : SExpr Constant) (xs : List Text) → AllAmong (if b then [] else xs) (ns sp) → (AllAmong xs (ns sp) → Same sp m h e)
+      → Same sp m (if b then field_of (field_named k) l else bind h (λ v. operated op.Item (v ∷ tree.text k ∷ []))) (if b then field_from (field_named k) else operation_of op.Item e (slots.pooled (own (tree.text k))))
+  attribute_both true k sp h e xs i f = field_both sp (field_named k)
+  attribute_both false k sp h e xs i f = two_both op.Item e (slots.pooled (own (tree.text k))) (f i) (λ n u o. given_both sp (tree.text k))
+
+  -- values of arguments by place, as many as are written
+  abbrev pub Counted : Spot → Memory → ℕ → List Tree → Listed → Type 0
+  Counted sp m n vs r = Rowed sp.free (end sp) m vs r × (length vs ≡ n)
+
+  -- a macro's parameters, and the row of its arguments
+  record Passed (sp : Spot) (m : Memory) (b : MacroBody) (p : Pairs) (r : Listed) : Type 0 where
+    pub names : map (λ c. c.0) p ≡ map (λ c. c.name) b.parameters
+    pub values : Held r.values 0 (map (λ c. c.1) p)
+    pub kept : Kept sp.free (end sp) m r.memory
+    pub out : r.memory.out ≡ m.out
+
+  filled_end : {m n : Memory} (b : MacroBody) (sp : Spot) (vs : List Tree) (c : ℕ) → length vs ≡ c → (kw : List Text) (ks : Pairs) → map (λ p. p.0) ks ≡ kw → Held n.locals sp.free (map (λ p. p.1) ks)
+      → (d : ℕ) → DefaultsAt world order d b.parameters → Kept sp.free (end sp) m n → n.out ≡ m.out
+      → Both (λ p r. Passed sp m b p (prefixed vs r)) (gives (parameters b.parameters vs ks)) (seen_row (filled b.parameters c d (locals_from sp.free kw)) n)
+  filled_end {m = m} {n = n} b sp vs c len kw ks nm h d ds u o =
+      let r = filled_gives b.parameters vs d (locals_from sp.free (map (λ p. p.0) ks)) ks n (keywords_held n sp.free ks h) ds in
+      let e = subst (λ z. seen_row (filled b.parameters z d (locals_from sp.free (map (λ p. p.0) ks))) n ≡ gives (record { values = r.0; memory = n })) len r.1 in
+      let f = subst (λ z. seen_row (filled b.parameters c d (locals_from sp.free z)) n ≡ gives (record { values = r.0; memory = n })) nm e in
+      let row : Listed = record { values = r.0; memory = n } in
+      by_right f (both (record {
+        names = parameter_names b.parameters vs ks;
+        values = subst (λ z. Held z 0 (map (λ q. q.1) (parameters b.parameters vs ks))) (sym (prefixed_values vs row)) (front_held (map (λ q. q.1) (parameters b.parameters vs ks)) (vs ++ r.0) r.2);
+        kept = subst (λ z. Kept sp.free (end sp) m z) (sym (prefixed_memory vs row)) u;
+        out = ap (λ z. z.out) (prefixed_memory vs row) ∙ o;
+      }))
+
+  pub arguments_end : {m n : Memory} (ps : List Parameter) (sp : Spot) (v w : Tree) → w ≡ v → (vs : List Tree) (c : ℕ) → length vs ≡ c → (kw : List Text) (ks : Pairs) → map (λ p. p.0) ks ≡ kw
+      → Held n.locals sp.free (map (λ p. p.1) ks) → Kept sp.free (end sp) m n → n.out ≡ m.out
+      → Both (λ x r. Rowed sp.free (end sp) m x (in_front w (prefixed vs r))) (gives (v ∷ arguments ps vs kw ks)) (seen_row (filled_some ps c kw (locals_from sp.free kw)) n)
+  arguments_end {m = m} {n = n} ps sp v w e vs c len kw ks nm h u o =
+      let r = some_gives ps vs kw (locals_from sp.free (map (λ p. p.0) ks)) ks n (keywords_held n sp.free ks h) in
+      let e1 = subst (λ z. seen_row (filled_some ps z kw (locals_from sp.free (map (λ p. p.0) ks))) n ≡ gives (record { values = r.0; memory = n })) len r.1 in
+      let f = subst (λ z. seen_row (filled_some ps c kw (locals_from sp.free z)) n ≡ gives (record { values = r.0; memory = n })) nm e1 in
+      let row : Listed = record { values = r.0; memory = n } in
+      by_right f (both (record {
+        values = ap (λ t. t ∷ (prefixed vs row).values) e ∙ ap (λ ts. v ∷ ts) (prefixed_values vs row ∙ sym r.2);
+        kept = subst (λ z. Kept sp.free (end sp) m z) (sym (prefixed_memory vs row)) u;
+        out = ap (λ z. z.out) (prefixed_memory vs row) ∙ o;
+      }))
+
+  -- `loop.cycle(..)`
+  cycle_both : {m : Memory} (sp : Spot) (n : ℕ) (h : Got (List Tree)) (es : SRow Constant) → Both (Counted sp m n) h (seen_row es m)
+      → Same sp m (bind h (cycled l)) (operation_of op.Item (made a_list es) (operation_of op.Remainder (slots.field index0) (slots.pooled (own (tree.number (pos n))))))
+  cycle_both {m = m} sp n h es u =
+      by_right (on_two op.Item (made a_list es) left m ∙ bind_assoc (seen_row es m) (λ r. gives (record { value = tree.list (items_of r.values); memory = r.memory })) (λ r. bind (seen left r.memory) (λ s. bind (operated op.Item (r.value ∷ s.value ∷ [])) (valued s.memory))))
+      (bind_both u (λ vs r w.
+      let rest : Both (Evaluated sp.free (end sp) r.memory) (bind (checked (loop_field index0 l)) (λ i. operated op.Remainder (i ∷ tree.number (pos (length vs)) ∷ []))) (seen left r.memory) =
+      two_both {k = gives (tree.number (pos (length vs)))} op.Remainder (slots.field index0) (slots.pooled (own (tree.number (pos n)))) (done (loop_field index0 l) (kept_same sp.free (end sp) r.memory) refl)
+      (λ o k f. both (record { value = ap (λ z. tree.number (pos z)) (sym w.1); kept = kept_same sp.free (end sp) o; out = refl })) in
+      by_left (sym (bind_assoc (checked (loop_field index0 l)) (λ i. operated op.Remainder (i ∷ tree.number (pos (length vs)) ∷ [])) (λ k. operated op.Item (tree.list (items_of vs) ∷ k ∷ []))))
+      (bind_both rest (λ k s z.
+      done_as (operators.operation op.Item (tree.list (items_of vs) ∷ k ∷ [])) (operators.operation op.Item (tree.list (items_of r.values) ∷ s.value ∷ []))
+      (ap (λ y. operators.operation op.Item (tree.list (items_of y) ∷ k ∷ [])) (sym w.0.values) ∙ ap (λ y. operators.operation op.Item (tree.list (items_of r.values) ∷ y ∷ [])) (sym z.value))
+      (kept_then w.0.kept z.kept) (z.out ∙ w.0.out)))))
+    where
+      left : SExpr Constant
+      left = operation_of op.Remainder (slots.field index0) (slots.pooled (own (tree.number (pos n))))
+
+  -- the row of a block's parameters: what their names read
+  pub reads_are : (table : Table) (env : Env) (m : Memory) (xs all : List Text) → ((x : Text) → Among x all → read env x ≡ held (slot_in x table) m) → AllAmong xs all → map (λ x. held (slot_in x table) m) xs ≡ map (read env) xs
+  reads_are table env m [] all f i = refl
+  reads_are table env m (x ∷ xs) all f i = ap (λ v. v ∷ map (λ y. held (slot_in y table) m) xs) (sym (f x i.0)) ∙ ap (λ ts. read env x ∷ ts) (reads_are table env m xs all f i.1)
+
+  -- a call, by what its arguments do
+  call_both : {m : Memory} (c : Callee) (sp : Spot) (env : Env) (ts : Exprs) (ps : written.Pairs) → Good world order sp q env m → ((b : MacroBody) → c ≡ a_macro b → (x : Text) × (macro_of x (macros world.sources sp.home) ≡ Some b))
+      → Both (Counted sp m (count ts)) (values world calls ts (around_of world order sp l q) env) (seen_row (resolved_row world order ts sp none) m)
+      → ((b : MacroBody) (d : ℕ) → DefaultsAt world order d b.parameters → Both (Passed sp m b) (bind (values world calls ts (around_of world order sp l q) env) (λ vs. bind (named_values world calls ps (around_of world order sp l q) env) (λ ks. gives (parameters b.parameters vs ks))))
+      (seen_row (resolved_row world order ts sp (resolved_asides world order ps sp (filled b.parameters (count ts) d (locals_from sp.free (keywords ps))))) m))
+      → Same sp m (called world calls c (around_of world order sp l q) env (values world calls ts (around_of world order sp l q) env) (named_values world calls ps (around_of world order sp l q) env))
+      (invoked world order c sp (resolved_row world order ts sp) (resolved_asides world order ps sp) (count ts) (locals_from sp.free (keywords ps)))
+  call_both {m = m} (a_macro b) sp env ts ps g named row passed =
+      let x = named b refl in
+      by_left (regroup (values world calls ts (around_of world order sp l q) env) (named_values world calls ps (around_of world order sp l q) env) (λ vs ks. parameters b.parameters vs ks) (λ p. valued_text sp.escaping (calls (the_macro sp.home b p env.globals))))
+      (bind_both (passed b (default_place world order sp.home b.name) (laid sp.home g.known x.0 b x.1)) (λ p r w.
+      text_both sp sp.escaping (calls (the_macro sp.home b p env.globals)) (scall (unit world order (of_macro sp.home b.name)) r.values r.memory.globals) r.memory w.kept w.out
+      (mean.macro_means sp.home g.known x.0 b x.1 p env.globals r.values r.memory.globals w.names w.values (good_kept world order g w.kept).agrees.globals)))
+  call_both a_range sp env ts ps g named row passed = made_both (operator (range_of (count ts))) ranged (resolved_row world order ts sp none) (λ vs. sym (range_same (count ts) vs)) (weaken (λ vs r w. w.0) row)
+  call_both {m = m} a_super sp env ts ps g named row passed = super_both sp.part q refl refl g.part
+    where
+      super_both : (p : Option Part) (z : Option Placement) → p ≡ sp.part → z ≡ q → PartHolds world order sp.home p z sp.free m → Same sp m (valued_text sp.escaping (super_text calls sp.home z)) (invoked_super world order sp p)
+      super_both None None e f h = given_both sp (as_value sp.escaping [])
+      super_both None (Some z) e f h = absurd h
+      super_both (Some p) None e f h = absurd h
+      super_both (Some p) (Some z) e f h =
+          body_both sp sp.escaping (from_given z.behind) (next_given p.behind) z.env (first_locals 0 (block_parameters world order sp.home p.name)) p.name p.behind (map (read z.env) (block_parameters world order sp.home p.name)) g.known h.tail
+          (subst (λ bs. GivenBy p.behind (from_given bs) (next_given p.behind)) (sym h.behind) (given_by p.behind))
+          (locals_give 0 (block_parameters world order sp.home p.name) (map (read z.env) (block_parameters world order sp.home p.name)) m (map_length (read z.env) (block_parameters world order sp.home p.name)) h.parameters) h.sees
+  call_both {m = m} (a_block x) sp env ts ps g named row passed =
+      subst (λ bs. Same sp m (valued_text sp.escaping (block_text calls sp.home bs (top env.globals))) (invoked_body world order sp.home sp.escaping (first_body (numbered_of world sp.home x)) (reads (globals world order sp.home) (block_parameters world order sp.home x))))
+      (sym (numbered_are world sp.home x))
+      (body_both sp sp.escaping (map (λ d. d.1) (numbered_of world sp.home x)) (first_body (numbered_of world sp.home x)) (top env.globals) (reads (globals world order sp.home) (block_parameters world order sp.home x)) x (numbered_of world sp.home x)
+      (map (λ y. held (slot_in y (globals world order sp.home)) m) (block_parameters world order sp.home x)) g.known ([], refl) (firsts (numbered_of world sp.home x)) (reads_give (globals world order sp.home) (block_parameters world order sp.home x) m)
+      (record { arguments = seen_params (is_scoped world sp.home x); globals = g.agrees.globals; others = λ y i f j e. g.agrees.globals y i j e }))
+    where
+      firsts : (bs : List (ℕ × BlockBody)) → GivenBy bs (map (λ d. d.1) bs) (first_body bs)
+      firsts [] = tt
+      firsts (b ∷ bs) = ([], bs, refl, refl)
+
+      at_globals : (y : Text) → Among y (ns sp) → read (top env.globals) y ≡ held (slot_in y (globals world order sp.home)) m
+      at_globals y i = let s = global_given (first_slot world order sp.home) (ns sp) y i in g.agrees.globals y i s.0 s.1 ∙ sym (ap (λ o. held o m) s.1)
+
+      seen_params : (b : Bool) → map (λ y. held (slot_in y (globals world order sp.home)) m) (if b then bound_names sp else []) ≡ map (read (top env.globals)) (if b then bound_names sp else [])
+      seen_params true = reads_are (globals world order sp.home) (top env.globals) m (bound_names sp) (ns sp) at_globals g.fits.few
+      seen_params false = refl
+  call_both a_cycle sp env ts ps g named row passed = cycle_both sp (count ts) (values world calls ts (around_of world order sp l q) env) (resolved_row world order ts sp none) row
+  call_both no_callee sp env ts ps g named row passed = given_both sp tree.undefined
+
+  -- ---- arguments in front of a row
+
+  row_apart : (ts : Exprs) (sp : Spot) (behind : SRow Constant) (m : Memory)
+      → seen_row (resolved_row world order ts sp behind) m ≡ bind (seen_row (resolved_row world order ts sp none) m) (λ r. bind (seen_row behind r.memory) (λ s. gives (prefixed r.values s)))
+  row_apart no_exprs sp behind m = sym (bind_gives (seen_row behind m))
+  row_apart (expr e ts) sp behind m =
+      bind_ext (seen (resolved world order e sp) m) (λ r. bind (seen_row (resolved_row world order ts sp behind) r.memory) (λ s. gives (in_front r.value s)))
+      (λ r. bind (bind (seen_row (resolved_row world order ts sp none) r.memory) (λ s. gives (in_front r.value s))) (λ t. bind (seen_row behind t.memory) (λ s. gives (prefixed t.values s))))
+      (λ r. ap (λ g. bind g (λ s. gives (in_front r.value s))) (row_apart ts sp behind r.memory) ∙ turn r.value (seen_row (resolved_row world order ts sp none) r.memory))
+      ∙ sym (bind_assoc (seen (resolved world order e sp) m) (λ r. bind (seen_row (resolved_row world order ts sp none) r.memory) (λ s. gives (in_front r.value s))) (λ t. bind (seen_row behind t.memory) (λ s. gives (prefixed t.values s))))
+    where
+      inner : (v : Tree) (vs : List Tree) (k : Got Listed) → bind (bind k (λ s. gives (prefixed vs s))) (λ s. gives (in_front v s)) ≡ bind k (λ s. gives (in_front v (prefixed vs s)))
+      inner v vs (gives s) = refl
+      inner v vs (fails e' p) = refl
+      inner v vs deeper = refl
+
+      turn : (v : Tree) (g : Got Listed)
+          → bind (bind g (λ t. bind (seen_row behind t.memory) (λ s. gives (prefixed t.values s)))) (λ s. gives (in_front v s))
+          ≡ bind (bind g (λ s. gives (in_front v s))) (λ t. bind (seen_row behind t.memory) (λ s. gives (prefixed t.values s)))
+      turn v (gives t) = inner v t.values (seen_row behind t.memory)
+      turn v (fails e' p) = refl
+      turn v deeper = refl
+
+  pub row_in_front : {X : Type 0} {m : Memory} {g : Got (List Tree)} (ts : Exprs) (sp : Spot) (S : X → Listed → Type 0) (f : List Tree → Got X) (behind : SRow Constant)
+      → Both (Counted sp m (count ts)) g (seen_row (resolved_row world order ts sp none) m)
+      → ((vs : List Tree) (n : Memory) → length vs ≡ count ts → Kept sp.free (end sp) m n → n.out ≡ m.out → Both (λ x r. S x (prefixed vs r)) (f vs) (seen_row behind n))
+      → Both S (bind g f) (seen_row (resolved_row world order ts sp behind) m)
+  row_in_front {m = m} ts sp S f behind u k =
+      by_right (row_apart ts sp behind m) (bind_both u (λ vs r w. right_both (prefixed r.values)
+      (subst (λ ys. Both (λ x s. S x (prefixed ys s)) (f vs) (seen_row behind r.memory)) (sym w.0.values) (k vs r.memory w.1 w.0.kept w.0.out))))
+
+  -- the memory behind arguments that are kept aside
+  abbrev pub kept_aside : written.Pairs → Spot → Memory → Got Memory
+  kept_aside no_pairs sp m = gives m
+  kept_aside (pair x e ps) sp m = bind (seen (resolved world order e sp) m) (λ r. kept_aside ps (grown sp) (store (local sp.free) r.value r.memory))
+
+  aside_apart : (ps : written.Pairs) (sp : Spot) (behind : SRow Constant) (m : Memory) → seen_row (resolved_asides world order ps sp behind) m ≡ bind (kept_aside ps sp m) (λ n. seen_row behind n)
+  aside_apart no_pairs sp behind m = refl
+  aside_apart (pair x e ps) sp behind m =
+      bind_ext (seen (resolved world order e sp) m) (λ r. seen_row (resolved_asides world order ps (grown sp) behind) (store (local sp.free) r.value r.memory))
+      (λ r. bind (kept_aside ps (grown sp) (store (local sp.free) r.value r.memory)) (λ n. seen_row behind n)) (λ r. aside_apart ps (grown sp) behind (store (local sp.free) r.value r.memory))
+      ∙ sym (bind_assoc (seen (resolved world order e sp) m) (λ r. kept_aside ps (grown sp) (store (local sp.free) r.value r.memory)) (λ n. seen_row behind n))
+
+  pub record Aside (sp : Spot) (m : Memory) (kw : List Text) (ks : Pairs) (n : Memory) : Type 0 where
+    pub names : map (λ p. p.0) ks ≡ kw
+    pub values : Held n.locals sp.free (map (λ p. p.1) ks)
+    pub kept : Kept sp.free (end sp) m n
+    pub out : n.out ≡ m.out
+
+  pub asides_in_front : {X : Type 0} {m : Memory} {g : Got Pairs} (ps : written.Pairs) (sp : Spot) (S : X → Listed → Type 0) (f : Pairs → Got X) (behind : SRow Constant)
+      → Both (Aside sp m (keywords ps)) g (kept_aside ps sp m)
+      → ((ks : Pairs) (n : Memory) → Aside sp m (keywords ps) ks n → Both S (f ks) (seen_row behind n))
+      → Both S (bind g f) (seen_row (resolved_asides world order ps sp behind) m)
+  asides_in_front {m = m} ps sp S f behind u k = by_right (aside_apart ps sp behind m) (bind_both u (λ ks n w. k ks n w))
+
+  -- ---- every expression
+
+  mutual
+    pub value_same : (e : Expr) (sp : Spot) (env : Env) (m : Memory) → Good world order sp q env m → AllAmong (expr_names e) (ns sp) → Same sp m (value world calls e (around_of world order sp l q) env) (resolved world order e sp)
+    value_same (constant c) sp env m g i = given_both sp (literal c)
+    value_same (name x) sp env m g i = by_right (read_gives (slot_in x sp.table) m) (both (record { value = sym (g.agrees.names x i.0); kept = kept_same sp.free (end sp) m; out = refl }))
+    value_same (group e) sp env m g i = value_same e sp env m g i
+    value_same (list_of ts) sp env m g i = made_both a_list listed (resolved_row world order ts sp none) (λ vs. refl) (weaken (λ vs r w. w.0) (values_same ts sp env m g i))
+    value_same (written.map_of ps) sp env m g i = bind_both (entries_same ps sp env m g i) (λ bs r w. done_as (mapped (entries_of bs)) (make fs a_map r.values) (ap mapped (sym w.values)) w.kept w.out)
+    value_same (attribute e k) sp env m g i =
+        attribute_both (is_loop e) k sp (value world calls e (around_of world order sp l q) env) (resolved world order e sp) (expr_names e) i (λ j. value_same e sp env m g j)
+    value_same (item e k) sp env m g i =
+        two_both op.Item (resolved world order e sp) (resolved world order k sp) (value_same e sp env m g (among_front (expr_names e) (expr_names k) (ns sp) i))
+        (λ n u o. value_same k sp env n (good_kept world order g u) (among_back (expr_names e) (expr_names k) (ns sp) i))
+    value_same (written.call f ts ps) sp env m g i =
+        let front = among_front (row_names ts) (pair_names ps) (ns sp) i in
+        let back = among_back (row_names ts) (pair_names ps) (ns sp) i in
+        call_both (callee (macros world.sources sp.home) f) sp env ts ps g (λ b e. named_macro (macros world.sources sp.home) f b e) (values_same ts sp env m g front)
+        (λ b d ds. row_in_front ts sp (Passed sp m b) (λ vs. bind (named_values world calls ps (around_of world order sp l q) env) (λ ks. gives (parameters b.parameters vs ks)))
+        (resolved_asides world order ps sp (filled b.parameters (count ts) d (locals_from sp.free (keywords ps)))) (values_same ts sp env m g front) (λ vs n len u o.
+        asides_in_front ps sp (λ p r. Passed sp m b p (prefixed vs r)) (λ ks. gives (parameters b.parameters vs ks)) (filled b.parameters (count ts) d (locals_from sp.free (keywords ps)))
+        (asides_same ps sp env n (good_kept world order g u) back) (λ ks n' w. filled_end b sp vs (count ts) len (keywords ps) ks w.names w.values d ds (kept_then u w.kept) (w.out ∙ o))))
+    value_same (written.filter e x ts ps) sp env m g i =
+        let front = among_front (expr_names e) (row_names ts ++ pair_names ps) (ns sp) i in
+        let back = among_back (expr_names e) (row_names ts ++ pair_names ps) (ns sp) i in
+        let back1 = among_front (row_names ts) (pair_names ps) (ns sp) back in
+        let back2 = among_back (row_names ts) (pair_names ps) (ns sp) back in
+        let rest = filled_some (filter_parameters fs (fs.named x)) (count ts) (keywords ps) (locals_from sp.free (keywords ps)) in
+        filtered_both (fs.named x) sp.escaping (slots.item (resolved world order e sp) (resolved_row world order ts sp (resolved_asides world order ps sp rest)))
+        (bind_both (value_same e sp env m g front) (λ v r w. right_both (in_front r.value)
+        (row_in_front ts sp (λ y s. Rowed sp.free (end sp) m y (in_front r.value s))
+        (λ vs. bind (named_values world calls ps (around_of world order sp l q) env) (λ ks. gives (v ∷ arguments (filter_parameters fs (fs.named x)) vs (keywords ps) ks)))
+        (resolved_asides world order ps sp rest) (values_same ts sp env r.memory (good_kept world order g w.kept) back1) (λ vs n len u o.
+        asides_in_front ps sp (λ y s. Rowed sp.free (end sp) m y (in_front r.value (prefixed vs s)))
+        (λ ks. gives (v ∷ arguments (filter_parameters fs (fs.named x)) vs (keywords ps) ks)) rest (asides_same ps sp env n (good_kept world order g (kept_then w.kept u)) back2) (λ ks n' z.
+        arguments_end (filter_parameters fs (fs.named x)) sp v r.value w.value vs (count ts) len (keywords ps) ks z.names z.values (kept_then w.kept (kept_then u z.kept)) (z.out ∙ o ∙ w.out))))))
+    value_same (written.test e n x ts ps) sp env m g i =
+        let front = among_front (expr_names e) (row_names ts ++ pair_names ps) (ns sp) i in
+        let back = among_front (row_names ts) (pair_names ps) (ns sp) (among_back (expr_names e) (row_names ts ++ pair_names ps) (ns sp) i) in
+        turned_both n (tested_by (test_named x) (slots.item (resolved world order e sp) (resolved_row world order ts sp none)))
+        (asked_both (test_named x) (slots.item (resolved world order e sp) (resolved_row world order ts sp none))
+        (bind_both (value_same e sp env m g front) (λ v r w. bind_both (values_same ts sp env r.memory (good_kept world order g w.kept) back) (λ vs s z.
+        both (record { values = ap (λ y. y ∷ s.values) w.value ∙ ap (λ ys. v ∷ ys) z.0.values; kept = kept_then w.kept z.0.kept; out = z.0.out ∙ w.out })))))
+    value_same (unary o e) sp env m g i = one_both (unary_operation o) (resolved world order e sp) (value_same e sp env m g i)
+    value_same (binary o e k) sp env m g i =
+        form_both (form sp.escaping o) (resolved world order e sp) (resolved world order k sp) (value_same e sp env m g (among_front (expr_names e) (expr_names k) (ns sp) i))
+        (λ n u o. value_same k sp env n (good_kept world order g u) (among_back (expr_names e) (expr_names k) (ns sp) i))
+    value_same (when c e) sp env m g i =
+        choice_both (resolved world order c sp) (resolved world order e sp) no_value (value_same c sp env m g (among_front (expr_names c) (expr_names e) (ns sp) i))
+        (λ n u o. value_same e sp env n (good_kept world order g u) (among_back (expr_names c) (expr_names e) (ns sp) i)) (λ n u o. given_both sp tree.undefined)
+    value_same (choice c e k) sp env m g i =
+        let back = among_back (expr_names c) (expr_names e ++ expr_names k) (ns sp) i in
+        choice_both (resolved world order c sp) (resolved world order e sp) (resolved world order k sp) (value_same c sp env m g (among_front (expr_names c) (expr_names e ++ expr_names k) (ns sp) i))
+        (λ n u o. value_same e sp env n (good_kept world order g u) (among_front (expr_names e) (expr_names k) (ns sp) back))
+        (λ n u o. value_same k sp env n (good_kept world order g u) (among_back (expr_names e) (expr_names k) (ns sp) back))
+
+    pub values_same : (ts : Exprs) (sp : Spot) (env : Env) (m : Memory) → Good world order sp q env m → AllAmong (row_names ts) (ns sp)
+        → Both (Counted sp m (count ts)) (values world calls ts (around_of world order sp l q) env) (seen_row (resolved_row world order ts sp none) m)
+    values_same no_exprs sp env m g i = both (record { values = refl; kept = kept_same sp.free (end sp) m; out = refl }, refl)
+    values_same (expr e ts) sp env m g i =
+        bind_both (value_same e sp env m g (among_front (expr_names e) (row_names ts) (ns sp) i)) (λ v r w.
+        bind_both (values_same ts sp env r.memory (good_kept world order g w.kept) (among_back (expr_names e) (row_names ts) (ns sp) i)) (λ vs s z.
+        both (record { values = ap (λ y. y ∷ s.values) w.value ∙ ap (λ ys. v ∷ ys) z.0.values; kept = kept_then w.kept z.0.kept; out = z.0.out ∙ w.out }, ap suc z.1)))
+
+    -- arguments by name, each kept in a local
+    pub asides_same : (ps : written.Pairs) (sp : Spot) (env : Env) (m : Memory) → Good world order sp q env m → AllAmong (pair_names ps) (ns sp)
+        → Both (Aside sp m (keywords ps)) (named_values world calls ps (around_of world order sp l q) env) (kept_aside ps sp m)
+    asides_same no_pairs sp env m g i = both (record { names = refl; values = tt; kept = kept_same sp.free (end sp) m; out = refl })
+    asides_same (pair x e ps) sp env m g i =
+        bind_both (value_same e sp env m g (among_front (expr_names e) (pair_names ps) (ns sp) i)) (λ v r w.
+        let stored = kept_then w.kept (kept_store sp.free (end sp) sp.free r.value r.memory (let e : sp.free ≤ sp.free = omega arith in e)) in
+        by_right (sym (bind_gives (kept_aside ps (grown sp) (store (local sp.free) r.value r.memory))))
+        (bind_both (asides_same ps (grown sp) env (store (local sp.free) r.value r.memory) (good_grown world order (good_kept world order g stored)) (among_back (expr_names e) (pair_names ps) (ns sp) i)) (λ ks n z.
+        both (record {
+          names = ap (λ ys. x ∷ ys) z.names;
+          values = (z.kept.locals sp.free (let e : sp.free < suc sp.free = omega arith in e) ∙ put_here sp.free r.value r.memory.locals ∙ w.value, z.values);
+          kept = kept_then stored (kept_less (let e : sp.free ≤ suc sp.free = omega arith in e) (let e : end sp ≤ end sp = omega arith in e) z.kept);
+          out = z.out ∙ w.out;
+        }))))
+
+    -- keys and values in turn
+    pub entries_same : (ps : written.Pairs) (sp : Spot) (env : Env) (m : Memory) → Good world order sp q env m → AllAmong (pair_names ps) (ns sp)
+        → Both (λ bs r. Rowed sp.free (end sp) m (entries_of bs) r) (named_values world calls ps (around_of world order sp l q) env) (seen_row (resolved_entries world order ps sp) m)
+    entries_same no_pairs sp env m g i = both (record { values = refl; kept = kept_same sp.free (end sp) m; out = refl })
+    entries_same (pair x e ps) sp env m g i =
+        right_both (in_front (tree.text x)) (bind_both (value_same e sp env m g (among_front (expr_names e) (pair_names ps) (ns sp) i)) (λ v r w.
+        bind_both (entries_same ps sp env r.memory (good_kept world order g w.kept) (among_back (expr_names e) (pair_names ps) (ns sp) i)) (λ bs s z.
+        both (record { values = ap (λ y. tree.text x ∷ y ∷ s.values) w.value ∙ ap (λ ys. tree.text x ∷ v ∷ ys) z.values; kept = kept_then w.kept z.kept; out = z.out ∙ w.out }))))
+
+  -- a filter on what an expression gives
+  pub filter_both : {m : Memory} {h : Got Tree} (x : Text) (ts : Exprs) (ps : written.Pairs) (sp : Spot) (env : Env) (e : SExpr Constant) → Good world order sp q env m → AllAmong (row_names ts) (ns sp) → AllAmong (pair_names ps) (ns sp) → Same sp m h e
+      → Same sp m (filtered fs (fs.named x) sp.escaping (bind h (λ v. bind (values world calls ts (around_of world order sp l q) env) (λ vs. bind (named_values world calls ps (around_of world order sp l q) env) (λ ks.
+      gives (v ∷ arguments (filter_parameters fs (fs.named x)) vs (keywords ps) ks))))))
+      (filtered_by (fs.named x) sp.escaping (slots.item e (resolved_row world order ts sp (resolved_asides world order ps sp (filled_some (filter_parameters fs (fs.named x)) (count ts) (keywords ps) (locals_from sp.free (keywords ps)))))))
+  filter_both {m = m} x ts ps sp env e g front back u =
+      let rest = filled_some (filter_parameters fs (fs.named x)) (count ts) (keywords ps) (locals_from sp.free (keywords ps)) in
+      filtered_both (fs.named x) sp.escaping (slots.item e (resolved_row world order ts sp (resolved_asides world order ps sp rest)))
+      (bind_both u (λ v r w. right_both (in_front r.value)
+      (row_in_front ts sp (λ y s. Rowed sp.free (end sp) m y (in_front r.value s))
+      (λ vs. bind (named_values world calls ps (around_of world order sp l q) env) (λ ks. gives (v ∷ arguments (filter_parameters fs (fs.named x)) vs (keywords ps) ks)))
+      (resolved_asides world order ps sp rest) (values_same ts sp env r.memory (good_kept world order g w.kept) front) (λ vs n len k o.
+      asides_in_front ps sp (λ y s. Rowed sp.free (end sp) m y (in_front r.value (prefixed vs s)))
+      (λ ks. gives (v ∷ arguments (filter_parameters fs (fs.named x)) vs (keywords ps) ks)) rest (asides_same ps sp env n (good_kept world order g (kept_then w.kept k)) back) (λ ks n' z.
+      arguments_end (filter_parameters fs (fs.named x)) sp v r.value w.value vs (count ts) len (keywords ps) ks z.names z.values (kept_then w.kept (kept_then k z.kept)) (z.out ∙ o ∙ w.out))))))

@@ -1,0 +1,515 @@
+-- A program is as small as the weight of its chains says: each body is a part of one unit.
+use Rattle.std.proofs.Common.{◌≡◌, ℕ, zero, suc, ◌+◌, ◌*◌, max, ◌≤◌, Bool, true, false, if◌then◌else◌, List, [], ◌∷◌, ◌++◌, length, Option, Some, None, arith, refl, length-append}
+use Rattle.std.specs.Prelude.{flat_map, filter, map}
+use Rattle.std.specs.List.{AllByRecursion}
+use Rattle.std.specs.Str.{bytes_eq}
+use Rattle.jt_parse.specs.Trees.{Text, Parameter, parameters_weight, default_weight, Stmt, data_of, print, choose, for_each, set, set_block, with_values, filter_block, autoescape, macro, include, extends, block, stmt_weight, Body, end, stmt, body_weight, Branches, no_branches, branch, branch_weight}
+use Rattle.jt_inherit.specs.Chain.{Home, Template, templates, BlockBody, blocks_of, blocks_in, blocks_under, all_bodies, MacroBody, macros_in, macros}
+use Rattle.jt_slots.specs.Filters.{default_value}
+use Rattle.jt_rules.specs.World.{World}
+use Rattle.jt_meaning.specs.Meaning.{is_set}
+use Rattle.jt_inherit.specs.Uses.{set_in}
+use Rattle.jt_meaning.specs.Layout.{first_slot, names, block_parameters, counted_from, numbered_bodies, shared, defaults_of}
+use Rattle.jt_slots.specs.Slots as slots
+use Rattle.jt_slots.specs.Slots.{SExpr, SRow, SStmt, SBody, Routine}
+use Rattle.jt_slots.specs.Pool.{Constant, expr_values, row_values, condition_values, stmt_values, body_values, routines_values, placed_expr, placed_row, placed_condition, placed_stmt, placed_body, placed_routines}
+use Rattle.jt_meaning.specs.Resolve.{followed, Part, Spot, bound_table, bound_all, scoped, resolved_stmt, resolved_body, resolved_sets, top_spot, resolved_chain, chain_routine, macro_routine, body_routine}
+use Rattle.jt_meaning.specs.Programs.{body_routines, chain_routines, routines, count_globals, program}
+use Rattle.jt_slots.specs.Size.{expr_size, row_size, condition_size, stmt_size, body_size, routines_size, expr_height, row_height, condition_height, stmt_height, body_height}
+use Rattle.jt_slots.specs.Locals.{body_locals}
+use Rattle.jt_meaning.specs.Measure.{stmt_own, body_own, branch_own, IsFew, HasAtMost, AreFew, IsSized}
+use Rattle.jt_inherit.specs.Small.{templates_weight, chains_weight}
+use Rattle.jt_meaning.proofs.Sizing.{parameters_few, followed_size, stmt_sized, all_sized, scope_sized}
+use Rattle.jt_meaning.proofs.Locality.{Below, globals_below, bound_below, scope_localed, stmt_localed, all_localed}
+use Rattle.jt_meaning.proofs.Locality as locality
+use Rattle.jt_meaning.proofs.Constants.{followed_count, stmt_counted, all_counted, scope_counted}
+use Rattle.jt_meaning.proofs.Lowness.{followed_low, stmt_low, all_low, scope_low}
+use Rattle.jt_parse.specs.Trees.{body_bound, stmt_bound}
+use Rattle.jt_meaning.specs.Layout.{scopes}
+use Rattle.jt_meaning.specs.Layout.{is_scoped}
+use Rattle.jt_meaning.proofs.Free.{stmt_free, body_free, Paid, PaidMacro, AllPaid, MacrosPaid, body_paid, templates_bound, templates_pay, chain_blocks, chain_macros, scopes_few}
+use Rattle.jt_inherit.specs.Uses.{scope_names}
+use Rattle.jt_parse.specs.Texts.{among}
+
+-- ---- each body counts once: in its template, or as a block's or a macro's
+
+abbrev bodies_own : List BlockBody → ℕ
+bodies_own [] = 0
+bodies_own (b ∷ bs) = body_own b.body + 1 + bodies_own bs
+
+abbrev macros_own : List MacroBody → ℕ
+macros_own [] = 0
+macros_own (m ∷ ms) = body_own m.body + 2 * length m.parameters + 1 + macros_own ms
+
+bodies_append : (a b : List BlockBody) → bodies_own (a ++ b) ≡ bodies_own a + bodies_own b
+bodies_append [] b = omega arith
+bodies_append (x ∷ a) b = omega (arith, bodies_append a b)
+
+macros_append : (a b : List MacroBody) → macros_own (a ++ b) ≡ macros_own a + macros_own b
+macros_append [] b = omega arith
+macros_append (x ∷ a) b = omega (arith, macros_append a b)
+
+parameters_weigh : (ps : List Parameter) → 2 * length ps ≤ parameters_weight ps
+parameters_weigh [] = omega arith
+parameters_weigh (p ∷ ps) = omega (arith, parameters_weigh ps)
+
+module _ (t : Text) where
+  mutual
+    stmt_once : (s : Stmt) (on : Bool) → stmt_own s + bodies_own (blocks_of t s on) ≤ stmt_weight s
+    stmt_once (data_of x) on = omega arith
+    stmt_once (print line e) on = omega arith
+    stmt_once (choose bs other) on = omega (arith, bodies_append (blocks_under t bs on) (blocks_in t other on), branch_once bs on, body_once other on)
+    stmt_once (for_each line xs e c body other) on = omega (arith, bodies_append (blocks_in t body on) (blocks_in t other on), body_once body on, body_once other on)
+    stmt_once (set line xs e) on = omega arith
+    stmt_once (set_block line x body) on = omega (arith, body_once body on)
+    stmt_once (with_values line ps body) on = omega (arith, body_once body on)
+    stmt_once (filter_block line fs body) on = omega (arith, body_once body on)
+    stmt_once (autoescape line now body) on = omega (arith, body_once body now)
+    stmt_once (macro line x ps body) on = omega (arith, body_once body on)
+    stmt_once (include line n missing with_context) on = omega arith
+    stmt_once (extends line n) on = omega arith
+    stmt_once (block line x is required body) on = omega (arith, body_once body on)
+
+    body_once : (b : Body) (on : Bool) → body_own b + bodies_own (blocks_in t b on) ≤ body_weight b
+    body_once end on = omega arith
+    body_once (stmt s rest) on = omega (arith, bodies_append (blocks_of t s on) (blocks_in t rest on), stmt_once s on, body_once rest on)
+
+    branch_once : (bs : Branches) (on : Bool) → branch_own bs + bodies_own (blocks_under t bs on) ≤ branch_weight bs
+    branch_once no_branches on = omega arith
+    branch_once (branch line c body rest) on = omega (arith, bodies_append (blocks_in t body on) (blocks_under t rest on), body_once body on, branch_once rest on)
+
+  -- with the macros at its top
+  top_once : (b : Body) (on : Bool) → body_own b + bodies_own (blocks_in t b on) + macros_own (macros_in t b) ≤ body_weight b
+  top_once end on = omega arith
+  top_once (stmt (data_of x) rest) on = omega (arith, top_once rest on)
+  top_once (stmt (print line e) rest) on = omega (arith, top_once rest on)
+  top_once (stmt (choose bs other) rest) on = omega (arith, top_once rest on, stmt_once (choose bs other) on, bodies_append (blocks_of t (choose bs other) on) (blocks_in t rest on))
+  top_once (stmt (for_each line xs e c body other) rest) on = omega (arith, top_once rest on, stmt_once (for_each line xs e c body other) on, bodies_append (blocks_of t (for_each line xs e c body other) on) (blocks_in t rest on))
+  top_once (stmt (set line xs e) rest) on = omega (arith, top_once rest on)
+  top_once (stmt (set_block line x body) rest) on = omega (arith, top_once rest on, body_once body on, bodies_append (blocks_in t body on) (blocks_in t rest on))
+  top_once (stmt (with_values line ps body) rest) on = omega (arith, top_once rest on, body_once body on, bodies_append (blocks_in t body on) (blocks_in t rest on))
+  top_once (stmt (filter_block line fs body) rest) on = omega (arith, top_once rest on, body_once body on, bodies_append (blocks_in t body on) (blocks_in t rest on))
+  top_once (stmt (autoescape line now body) rest) on = omega (arith, top_once rest on, body_once body now, bodies_append (blocks_in t body now) (blocks_in t rest on))
+  top_once (stmt (macro line x ps body) rest) on = omega (arith, top_once rest on, body_once body on, bodies_append (blocks_in t body on) (blocks_in t rest on), parameters_weigh ps)
+  top_once (stmt (include line n missing with_context) rest) on = omega (arith, top_once rest on)
+  top_once (stmt (extends line n) rest) on = omega (arith, top_once rest on)
+  top_once (stmt (block line x is required body) rest) on = omega (arith, top_once rest on, body_once body on, bodies_append (blocks_in t body on) (blocks_in t rest on))
+
+abbrev templates_own : List Template → ℕ
+templates_own [] = 0
+templates_own (t ∷ ts) = body_own t.body + templates_own ts
+
+chain_once : (on : Bool) (ts : List Template) → templates_own ts + bodies_own (flat_map (λ t. blocks_in t.name t.body on) ts) + macros_own (flat_map (λ t. macros_in t.name t.body) ts) ≤ templates_weight ts
+chain_once on [] = omega arith
+chain_once on (t ∷ ts) =
+    omega (
+      arith,
+      top_once t.name t.body on,
+      chain_once on ts,
+      bodies_append (blocks_in t.name t.body on) (flat_map (λ t. blocks_in t.name t.body on) ts),
+      macros_append (macros_in t.name t.body) (flat_map (λ t. macros_in t.name t.body) ts),
+    )
+
+-- ---- the instructions of a chain's routines
+
+routines_append : {K : Type 0} (a b : List (Routine K)) → routines_size (a ++ b) ≡ routines_size a + routines_size b
+routines_append [] b = omega arith
+routines_append (r ∷ a) b = omega (arith, routines_append a b)
+
+module _ (world : World) (order : List Home) (h : Home) where
+  module _ (k : IsFew world order h) where
+    sets_sized : (b : Body) (t : Text) → body_size (resolved_sets world order b (top_spot world order h t)) ≤ 100 * body_own b
+    sets_sized end t = omega arith
+    sets_sized (stmt s rest) t = through (is_set s) (sets_sized rest t)
+      where
+        through : (b : Bool) → body_size (resolved_sets world order rest (top_spot world order h t)) ≤ 100 * body_own rest
+            → body_size (if b then followed (resolved_stmt world order s (top_spot world order h t)) (resolved_sets world order rest (top_spot world order h t)) else resolved_sets world order rest (top_spot world order h t)) ≤ 100 * (stmt_own s + body_own rest)
+        through true g = omega (arith, g, stmt_sized world order s (top_spot world order h t) k, followed_size (resolved_stmt world order s (top_spot world order h t)) (resolved_sets world order rest (top_spot world order h t)))
+        through false g = omega (arith, g)
+
+    chain_sized : (ts : List Template) → body_size (resolved_chain world order h ts) ≤ 100 * templates_own ts
+    chain_sized [] = omega arith
+    chain_sized (t ∷ []) = omega (arith, all_sized world order t.body (top_spot world order h t.name) k)
+    chain_sized (t ∷ (u ∷ us)) =
+        omega (arith, chain_sized (u ∷ us), sets_sized t.body t.name, followed_size (resolved_sets world order t.body (top_spot world order h t.name)) (resolved_chain world order h (u ∷ us)))
+
+    macros_sized : (ms : List MacroBody) → routines_size (map (macro_routine world order h) ms) ≤ 100 * macros_own ms
+    macros_sized [] = omega arith
+    macros_sized (m ∷ ms) =
+        let sp = bound_all (map (λ p. p.name) m.parameters) (top_spot world order h m.template) in
+        omega (arith, macros_sized ms, scope_sized world order m.body sp (all_sized world order m.body (bound_all (set_in m.body) sp) k))
+
+    blocks_sized : (n : ℕ) (bs : List BlockBody) → routines_size (body_routines world order h (counted_from n bs)) ≤ 100 * bodies_own bs
+    blocks_sized n [] = omega arith
+    blocks_sized n (b ∷ bs) =
+        let part : Part = record { name = b.name; behind = filter (λ c. bytes_eq c.1.name b.name) (counted_from (suc n) bs) } in
+        let sp = bound_all (block_parameters world order h b.name) (record (top_spot world order h b.template) { escaping = b.escaping; part = Some part }) in
+        omega (arith, blocks_sized (suc n) bs, scope_sized world order b.body sp (all_sized world order b.body (bound_all (set_in b.body) sp) k))
+
+    all_in_chain : routines_size (chain_routines world order h) ≤ 100 * templates_weight (templates world.sources h) + 1
+    all_in_chain =
+        let ts = templates world.sources h in
+        omega (
+          arith,
+          chain_once world.escaping ts,
+          chain_sized ts,
+          macros_sized (macros world.sources h),
+          blocks_sized 0 (all_bodies world.sources world.escaping h),
+          routines_append (map (macro_routine world order h) (macros world.sources h)) (body_routines world order h (numbered_bodies world h)),
+        )
+
+-- ---- places in the pool change no size and no height
+
+mutual
+  expr_placed : (e : SExpr Constant) (n : ℕ) → (expr_size (placed_expr e n) ≡ expr_size e) × (expr_height (placed_expr e n) ≡ expr_height e)
+  expr_placed (slots.pooled c) n = (refl, refl)
+  expr_placed (slots.variable s) n = (refl, refl)
+  expr_placed (slots.field f) n = (refl, refl)
+  expr_placed (slots.made m es) n = let a = row_placed es n in (omega (arith, a.0), omega (arith, a.1))
+  expr_placed (slots.conjunction x y) n = let a = expr_placed x n in let b = expr_placed y (n + length (expr_values x)) in (omega (arith, a.0, b.0), omega (arith, a.1, b.1))
+  expr_placed (slots.disjunction x y) n = let a = expr_placed x n in let b = expr_placed y (n + length (expr_values x)) in (omega (arith, a.0, b.0), omega (arith, a.1, b.1))
+  expr_placed (slots.choice c x y) n =
+      let a = expr_placed c n in let b = expr_placed x (n + length (expr_values c)) in let d = expr_placed y (n + length (expr_values c) + length (expr_values x)) in
+      (omega (arith, a.0, b.0, d.0), omega (arith, a.1, b.1, d.1))
+  expr_placed (slots.invoke u on es) n = let a = row_placed es n in (omega (arith, a.0), omega (arith, a.1))
+
+  row_placed : (es : SRow Constant) (n : ℕ) → (row_size (placed_row es n) ≡ row_size es) × (row_height (placed_row es n) ≡ row_height es)
+  row_placed slots.none n = (refl, refl)
+  row_placed (slots.item e es) n = let a = expr_placed e n in let b = row_placed es (n + length (expr_values e)) in (omega (arith, a.0, b.0), omega (arith, a.1, b.1))
+  row_placed (slots.aside i e es) n = let a = expr_placed e n in let b = row_placed es (n + length (expr_values e)) in (omega (arith, a.0, b.0), omega (arith, a.1, b.1))
+
+condition_placed : (xs : slots.Targets) (c : Option (SExpr Constant)) (n : ℕ) → (condition_size xs (placed_condition c n) ≡ condition_size xs c) × (condition_height (placed_condition c n) ≡ condition_height c)
+condition_placed xs None n = (refl, refl)
+condition_placed xs (Some c) n = let a = expr_placed c n in (omega (arith, a.0), a.1)
+
+mutual
+  stmt_placed : (s : SStmt Constant) (n : ℕ) → (stmt_size (placed_stmt s n) ≡ stmt_size s) × (stmt_height (placed_stmt s n) ≡ stmt_height s)
+  stmt_placed (slots.put_pooled c) n = (refl, refl)
+  stmt_placed (slots.print p on e) n = let a = expr_placed e n in (omega (arith, a.0), a.1)
+  stmt_placed (slots.assign p xs e) n = let a = expr_placed e n in (omega (arith, a.0), omega (arith, a.1))
+  stmt_placed (slots.if_else p c x y) n =
+      let a = expr_placed c n in let b = body_placed x (n + length (expr_values c)) in let d = body_placed y (n + length (expr_values c) + length (body_values x)) in
+      (omega (arith, a.0, b.0, d.0), omega (arith, a.1, b.1, d.1))
+  stmt_placed (slots.for_each p xs e c body other) n =
+      let a = expr_placed e n in
+      let b = condition_placed xs c (n + length (expr_values e)) in
+      let d = body_placed body (n + length (expr_values e) + length (condition_values c)) in
+      let f = body_placed other (n + length (expr_values e) + length (condition_values c) + length (body_values body)) in
+      (omega (arith, a.0, b.0, d.0, f.0), omega (arith, a.1, b.1, d.1, f.1))
+  stmt_placed (slots.capture on s body) n = let a = body_placed body n in (omega (arith, a.0), omega (arith, a.1))
+  stmt_placed (slots.run u es) n = let a = row_placed es n in (omega (arith, a.0), a.1)
+
+  body_placed : (b : SBody Constant) (n : ℕ) → (body_size (placed_body b n) ≡ body_size b) × (body_height (placed_body b n) ≡ body_height b)
+  body_placed slots.end n = (refl, refl)
+  body_placed (slots.stmt s rest) n = let a = stmt_placed s n in let b = body_placed rest (n + length (stmt_values s)) in (omega (arith, a.0, b.0), omega (arith, a.1, b.1))
+
+routines_placed : (rs : List (Routine Constant)) (n : ℕ) → routines_size (placed_routines rs n) ≡ routines_size rs
+routines_placed [] n = refl
+routines_placed (r ∷ rs) n = let a = body_placed r.body n in omega (arith, a.0, routines_placed rs (n + length (body_values r.body)))
+
+heights_placed : (w : ℕ) (rs : List (Routine Constant)) (n : ℕ) → AllByRecursion (λ r. 2 * body_height r.body ≤ w) rs → AllByRecursion (λ r. 2 * body_height r.body ≤ w) (placed_routines rs n)
+heights_placed w [] n h = tt
+heights_placed w (r ∷ rs) n h = let a = body_placed r.body n in (omega (arith, a.1, h.0), heights_placed w rs (n + length (body_values r.body)) h.1)
+
+-- ---- the entries of a chain's routines: the names that are bound pay for what calls load
+
+abbrev Low : ℕ → Routine Constant → Type 0
+Low w r = 2 * body_height r.body ≤ w
+
+low_append : (w : ℕ) (a b : List (Routine Constant)) → AllByRecursion (Low w) a → AllByRecursion (Low w) b → AllByRecursion (Low w) (a ++ b)
+low_append w [] b h g = g
+low_append w (r ∷ a) b h g = (h.0, low_append w a b h.1 g)
+
+low_more : (w v : ℕ) → w ≤ v → (a : List (Routine Constant)) → AllByRecursion (Low w) a → AllByRecursion (Low v) a
+low_more w v e [] h = tt
+low_more w v e (r ∷ a) h = (omega (arith, e, h.0), low_more w v e a h.1)
+
+module _ (world : World) (order : List Home) (h : Home) (q : ℕ) (k : HasAtMost world order q h) where
+  sets_low : (b : Body) (t : Text) → body_bound b ≤ q → 2 * body_height (resolved_sets world order b (top_spot world order h t)) ≤ body_free b + 2 * q
+  sets_low end t g = omega arith
+  sets_low (stmt s rest) t g = through (is_set s) (sets_low rest t (omega (arith, g)))
+    where
+      through : (b : Bool) → 2 * body_height (resolved_sets world order rest (top_spot world order h t)) ≤ body_free rest + 2 * q
+          → 2 * body_height (if b then followed (resolved_stmt world order s (top_spot world order h t)) (resolved_sets world order rest (top_spot world order h t)) else resolved_sets world order rest (top_spot world order h t)) ≤ stmt_free s + body_free rest + 2 * q
+      through true f =
+          omega (arith, f, stmt_low world order q s (top_spot world order h t) k (omega (arith, g)), followed_low (resolved_stmt world order s (top_spot world order h t)) (resolved_sets world order rest (top_spot world order h t)))
+      through false f = omega (arith, f)
+
+  -- templates one behind the other need as many entries as the one that needs most
+  chain_low : (w : ℕ) (ts : List Template) → AllByRecursion (λ t. (body_free t.body + 2 * q ≤ w) × (body_bound t.body ≤ q)) ts → 2 * body_height (resolved_chain world order h ts) ≤ w
+  chain_low w [] g = omega arith
+  chain_low w (t ∷ []) g = let f = g.0.0 in omega (arith, f, all_low world order q t.body (top_spot world order h t.name) k g.0.1)
+  chain_low w (t ∷ (u ∷ us)) g =
+      let f = g.0.0 in
+      omega (arith, f, chain_low w (u ∷ us) g.1, sets_low t.body t.name g.0.1, followed_low (resolved_sets world order t.body (top_spot world order h t.name)) (resolved_chain world order h (u ∷ us)))
+
+  blocks_low : (w n : ℕ) (bs : List BlockBody) → AllPaid w q bs → AllByRecursion (Low (max 2 w)) (body_routines world order h (counted_from n bs))
+  blocks_low w n [] g = tt
+  blocks_low w n (b ∷ bs) g =
+      let part : Part = record { name = b.name; behind = filter (λ c. bytes_eq c.1.name b.name) (counted_from (suc n) bs) } in
+      let sp = bound_all (block_parameters world order h b.name) (record (top_spot world order h b.template) { escaping = b.escaping; part = Some part }) in
+      let f = g.0.free in
+      (omega (arith, f, scope_low world order q b.body sp (all_low world order q b.body (bound_all (set_in b.body) sp) k g.0.bound)), blocks_low w (suc n) bs g.1)
+
+  macros_low : (w : ℕ) (ms : List MacroBody) → MacrosPaid w q ms → AllByRecursion (Low (max 2 w)) (map (macro_routine world order h) ms)
+  macros_low w [] g = tt
+  macros_low w (m ∷ ms) g =
+      let sp = bound_all (map (λ p. p.name) m.parameters) (top_spot world order h m.template) in
+      let f = g.0.body.free in
+      (omega (arith, f, scope_low world order q m.body sp (all_low world order q m.body (bound_all (set_in m.body) sp) k g.0.body.bound)), macros_low w ms g.1)
+
+-- each template of a chain, beside the names that all of them bind
+templates_each : (w n : ℕ) (ts : List Template) → templates_weight ts + 2 * n ≤ w + 2 * templates_bound ts → templates_bound ts ≤ n → AllByRecursion (λ t. (body_free t.body + 2 * n ≤ w) × (body_bound t.body ≤ n)) ts
+templates_each w n [] e l = tt
+templates_each w n (t ∷ ts) e l =
+    let p = body_paid t.body in
+    let r = templates_pay ts in
+    ((omega (arith, p, r, e), omega (arith, l)), templates_each w n ts (omega (arith, p, e)) (omega (arith, l)))
+
+macros_few : (w n : ℕ) (ms : List MacroBody) → MacrosPaid w n ms → AllByRecursion (λ m. length m.parameters ≤ n) ms
+macros_few w n [] p = tt
+macros_few w n (m ∷ ms) p = (p.0.parameters, macros_few w n ms p.1)
+
+module _ (world : World) (order : List Home) (h : Home) (k : IsFew world order h) where
+  abbrev ts : List Template
+  ts = templates world.sources h
+
+  at_most : HasAtMost world order (templates_bound ts) h
+  at_most = record { macros = macros_few (templates_weight ts) (templates_bound ts) (macros world.sources h) (chain_macros ts); blocks = λ x. of_scopes (is_scoped world h x); filters = k.filters }
+    where
+      in_order : (b : Bool) → length (if b then scope_names world.sources h else []) ≤ templates_bound ts
+      in_order true = scopes_few ts
+      in_order false = omega arith
+
+      of_scopes : (b : Bool) → length (if b then scopes world order h else []) ≤ templates_bound ts
+      of_scopes true = in_order (among h order)
+      of_scopes false = omega arith
+
+  low_in_chain : AllByRecursion (Low (max 2 (templates_weight ts))) (chain_routines world order h)
+  low_in_chain =
+      let q = templates_bound ts in
+      let w = templates_weight ts in (
+        (let c = chain_low world order h q at_most w ts (templates_each w q ts (omega arith) (omega arith)) in omega (arith, c)),
+        low_append (max 2 w) (map (macro_routine world order h) (macros world.sources h)) (body_routines world order h (numbered_bodies world h))
+            (macros_low world order h q at_most w (macros world.sources h) (chain_macros ts))
+            (blocks_low world order h q at_most w 0 (all_bodies world.sources world.escaping h) (chain_blocks world.escaping ts)),
+      )
+
+-- ---- all chains
+
+chains_sized : (world : World) (order hs : List Home) → AllByRecursion (IsFew world order) hs
+    → routines_size (flat_map (chain_routines world order) hs) ≤ 100 * chains_weight world.sources hs + length hs
+chains_sized world order [] k = omega arith
+chains_sized world order (h ∷ hs) k =
+    omega (arith, chains_sized world order hs k.1, all_in_chain world order h k.0, routines_append (chain_routines world order h) (flat_map (chain_routines world order) hs))
+
+chains_low : (world : World) (order hs : List Home) → AllByRecursion (IsFew world order) hs → AllByRecursion (Low (max 2 (chains_weight world.sources hs))) (flat_map (chain_routines world order) hs)
+chains_low world order [] k = tt
+chains_low world order (h ∷ hs) k =
+    let w = max 2 (chains_weight world.sources (h ∷ hs)) in
+    low_append w (chain_routines world order h) (flat_map (chain_routines world order) hs)
+    (low_more (max 2 (templates_weight (templates world.sources h))) w (omega arith) (chain_routines world order h) (low_in_chain world order h k.0))
+    (low_more (max 2 (chains_weight world.sources hs)) w (omega arith) (flat_map (chain_routines world order) hs) (chains_low world order hs k.1))
+
+-- ---- constants: those of the routines' own, and the defaults of macros
+
+values_append : (a b : List (Routine Constant)) → length (routines_values (a ++ b)) ≡ length (routines_values a) + length (routines_values b)
+values_append [] b = omega arith
+values_append (r ∷ a) b = omega (arith, values_append a b, length-append (body_values r.body) (routines_values (a ++ b)), length-append (body_values r.body) (routines_values a))
+
+mapped_len : {A B : Type 0} (f : A → B) (xs : List A) → length (map f xs) ≡ length xs
+mapped_len f [] = refl
+mapped_len f (x ∷ xs) = omega (arith, mapped_len f xs)
+
+module _ (world : World) (order : List Home) (h : Home) (k : (f : ℕ) → length (world.filters.parameters f) ≤ 3) where
+  sets_counted : (b : Body) (t : Text) → length (body_values (resolved_sets world order b (top_spot world order h t))) ≤ body_own b
+  sets_counted end t = omega arith
+  sets_counted (stmt s rest) t = through (is_set s) (sets_counted rest t)
+    where
+      through : (b : Bool) → length (body_values (resolved_sets world order rest (top_spot world order h t))) ≤ body_own rest
+          → length (body_values (if b then followed (resolved_stmt world order s (top_spot world order h t)) (resolved_sets world order rest (top_spot world order h t)) else resolved_sets world order rest (top_spot world order h t))) ≤ stmt_own s + body_own rest
+      through true g = omega (arith, g, stmt_counted world order s (top_spot world order h t) k, followed_count (resolved_stmt world order s (top_spot world order h t)) (resolved_sets world order rest (top_spot world order h t)))
+      through false g = omega (arith, g)
+
+  chain_counted : (ts : List Template) → length (body_values (resolved_chain world order h ts)) ≤ templates_own ts
+  chain_counted [] = omega arith
+  chain_counted (t ∷ []) = omega (arith, all_counted world order t.body (top_spot world order h t.name) k)
+  chain_counted (t ∷ (u ∷ us)) =
+      omega (arith, chain_counted (u ∷ us), sets_counted t.body t.name, followed_count (resolved_sets world order t.body (top_spot world order h t.name)) (resolved_chain world order h (u ∷ us)))
+
+  macros_counted : (ms : List MacroBody) → length (routines_values (map (macro_routine world order h) ms)) + length (defaults_of ms) ≤ macros_own ms
+  macros_counted [] = omega arith
+  macros_counted (m ∷ ms) =
+      let sp = bound_all (map (λ p. p.name) m.parameters) (top_spot world order h m.template) in
+      let r = macro_routine world order h m in
+      omega (
+        arith,
+        macros_counted ms,
+        scope_counted world order m.body sp (all_counted world order m.body (bound_all (set_in m.body) sp) k),
+        length-append (body_values r.body) (routines_values (map (macro_routine world order h) ms)),
+        length-append (map (λ p. default_value p.default) m.parameters) (defaults_of ms),
+        mapped_len (λ (p : Parameter). default_value p.default) m.parameters,
+      )
+
+  blocks_counted : (n : ℕ) (bs : List BlockBody) → length (routines_values (body_routines world order h (counted_from n bs))) ≤ bodies_own bs
+  blocks_counted n [] = omega arith
+  blocks_counted n (b ∷ bs) =
+      let part : Part = record { name = b.name; behind = filter (λ c. bytes_eq c.1.name b.name) (counted_from (suc n) bs) } in
+      let sp = bound_all (block_parameters world order h b.name) (record (top_spot world order h b.template) { escaping = b.escaping; part = Some part }) in
+      let r = scoped (set_in b.body) sp (resolved_body world order b.body) in
+      omega (arith, blocks_counted (suc n) bs, scope_counted world order b.body sp (all_counted world order b.body (bound_all (set_in b.body) sp) k), length-append (body_values r) (routines_values (body_routines world order h (counted_from (suc n) bs))))
+
+  counted_in_chain : length (routines_values (chain_routines world order h)) + length (defaults_of (macros world.sources h)) ≤ templates_weight (templates world.sources h)
+  counted_in_chain =
+      let ts = templates world.sources h in
+      let a = map (macro_routine world order h) (macros world.sources h) in
+      let b = body_routines world order h (numbered_bodies world h) in
+      omega (
+        arith,
+        chain_once world.escaping ts,
+        chain_counted ts,
+        macros_counted (macros world.sources h),
+        blocks_counted 0 (all_bodies world.sources world.escaping h),
+        values_append a b,
+        length-append (body_values (resolved_chain world order h ts)) (routines_values (a ++ b)),
+      )
+
+  -- a unit a chain, a macro and a body
+  macros_number : (ms : List MacroBody) → length (map (macro_routine world order h) ms) ≤ macros_own ms
+  macros_number [] = omega arith
+  macros_number (m ∷ ms) = omega (arith, macros_number ms)
+
+  bodies_number : (n : ℕ) (bs : List BlockBody) → length (body_routines world order h (counted_from n bs)) ≤ bodies_own bs
+  bodies_number n [] = omega arith
+  bodies_number n (b ∷ bs) = omega (arith, bodies_number (suc n) bs)
+
+  units_in_chain : length (chain_routines world order h) ≤ templates_weight (templates world.sources h) + 1
+  units_in_chain =
+      omega (
+        arith,
+        chain_once world.escaping (templates world.sources h),
+        macros_number (macros world.sources h),
+        bodies_number 0 (all_bodies world.sources world.escaping h),
+        length-append (map (macro_routine world order h) (macros world.sources h)) (body_routines world order h (numbered_bodies world h)),
+      )
+
+chains_counted : (world : World) (order hs : List Home) (k : (f : ℕ) → length (world.filters.parameters f) ≤ 3)
+    → length (routines_values (flat_map (chain_routines world order) hs)) + length (flat_map (λ h. defaults_of (macros world.sources h)) hs) ≤ chains_weight world.sources hs
+chains_counted world order [] k = omega arith
+chains_counted world order (h ∷ hs) k =
+    omega (
+      arith,
+      chains_counted world order hs k,
+      counted_in_chain world order h k,
+      values_append (chain_routines world order h) (flat_map (chain_routines world order) hs),
+      length-append (defaults_of (macros world.sources h)) (flat_map (λ h. defaults_of (macros world.sources h)) hs),
+    )
+
+units_counted : (world : World) (order hs : List Home) (k : (f : ℕ) → length (world.filters.parameters f) ≤ 3) → length (flat_map (chain_routines world order) hs) ≤ chains_weight world.sources hs + length hs
+units_counted world order [] k = omega arith
+units_counted world order (h ∷ hs) k = omega (arith, units_counted world order hs k, units_in_chain world order h k, length-append (chain_routines world order h) (flat_map (chain_routines world order) hs))
+
+placed_len : (rs : List (Routine Constant)) (n : ℕ) → length (placed_routines rs n) ≡ length rs
+placed_len [] n = refl
+placed_len (r ∷ rs) n = omega (arith, placed_len rs (n + length (body_values r.body)))
+
+globals_counted : (world : World) (order hs : List Home) → ((k : Home) → length (names world order k) ≤ 200) → count_globals world order hs ≤ 200 * length hs
+globals_counted world order [] k = omega arith
+globals_counted world order (h ∷ hs) k = omega (arith, k h, globals_counted world order hs k)
+
+-- ---- locals: a unit's parameters, and one for each token
+
+abbrev Holds : {K : Type 0} → ℕ → Routine K → Type 0
+Holds n r = r.locals ≤ n
+
+holds_append : (n : ℕ) (a b : List (Routine Constant)) → AllByRecursion (Holds n) a → AllByRecursion (Holds n) b → AllByRecursion (Holds n) (a ++ b)
+holds_append n [] b h g = g
+holds_append n (r ∷ a) b h g = (h.0, holds_append n a b h.1 g)
+
+module _ (world : World) (order : List Home) (n : ℕ) (some : 1 ≤ n) (few : (h : Home) (x : Text) → length (block_parameters world order h x) ≤ n) (h : Home) where
+  top : (t : Text) → Below n some (top_spot world order h t).table
+  top t = globals_below n some (first_slot world order h) (names world order h)
+
+  sets_localed : (b : Body) (t : Text) → body_own b ≤ n → body_locals (resolved_sets world order b (top_spot world order h t)) ≤ n
+  sets_localed end t k = omega arith
+  sets_localed (stmt s rest) t k = through (is_set s) (sets_localed rest t (omega (arith, k)))
+    where
+      through : (b : Bool) → body_locals (resolved_sets world order rest (top_spot world order h t)) ≤ n
+          → body_locals (if b then followed (resolved_stmt world order s (top_spot world order h t)) (resolved_sets world order rest (top_spot world order h t)) else resolved_sets world order rest (top_spot world order h t)) ≤ n
+      through true g =
+          omega (
+            arith,
+            g,
+            stmt_localed n some world order few s (top_spot world order h t) (top t) (omega (arith, k)),
+            locality.followed_local n some (resolved_stmt world order s (top_spot world order h t)) (resolved_sets world order rest (top_spot world order h t)),
+          )
+      through false g = g
+
+  chain_localed : (ts : List Template) → templates_own ts ≤ n → body_locals (resolved_chain world order h ts) ≤ n
+  chain_localed [] k = omega arith
+  chain_localed (t ∷ []) k = all_localed n some world order few t.body (top_spot world order h t.name) (top t.name) (omega (arith, k))
+  chain_localed (t ∷ (u ∷ us)) k =
+      omega (
+        arith,
+        chain_localed (u ∷ us) (omega (arith, k)),
+        sets_localed t.body t.name (omega (arith, k)),
+        locality.followed_local n some (resolved_sets world order t.body (top_spot world order h t.name)) (resolved_chain world order h (u ∷ us)),
+      )
+
+  -- a body behind parameters
+  routine_localed : (ps : List Text) (b : Body) (sp : Spot) → Below n some sp.table → sp.free + length ps + body_own b ≤ n → body_locals (scoped (set_in b) (bound_all ps sp) (resolved_body world order b)) ≤ n
+  routine_localed ps b sp t k =
+      let inner = bound_all ps sp in
+      let it : Below n some (bound_table ps sp.free sp.table) = bound_below n some ps sp.free sp.table (omega (arith, k)) t in
+      scope_localed n some world order few b inner it (omega (arith, k))
+      (all_localed n some world order few b (bound_all (set_in b) inner) (bound_below n some (set_in b) (sp.free + length ps) (bound_table ps sp.free sp.table) (omega (arith, k, locality.in_few b)) it) (omega (arith, k)))
+
+  macros_localed : (ms : List MacroBody) → AllByRecursion (λ m. length m.parameters ≤ 200) ms → 200 + macros_own ms ≤ n → AllByRecursion (Holds n) (map (macro_routine world order h) ms)
+  macros_localed [] f k = tt
+  macros_localed (m ∷ ms) f k =
+      let l = mapped_len (λ (p : Parameter). p.name) m.parameters in
+      (omega (arith, k, f.0, l, routine_localed (map (λ p. p.name) m.parameters) m.body (top_spot world order h m.template) (top m.template) (omega (arith, k, f.0, l))), macros_localed ms f.1 (omega (arith, k)))
+
+  blocks_localed : (i : ℕ) (bs : List BlockBody) → ((x : Text) → length (block_parameters world order h x) ≤ 200) → 200 + bodies_own bs ≤ n → AllByRecursion (Holds n) (body_routines world order h (counted_from i bs))
+  blocks_localed i [] f k = tt
+  blocks_localed i (b ∷ bs) f k =
+      let part : Part = record { name = b.name; behind = filter (λ c. bytes_eq c.1.name b.name) (counted_from (suc i) bs) } in
+      let sp = record (top_spot world order h b.template) { escaping = b.escaping; part = Some part } in
+      let ps = block_parameters world order h b.name in
+      (omega (arith, k, f b.name, routine_localed ps b.body sp (top b.template) (omega (arith, k, f b.name))), blocks_localed (suc i) bs f (omega (arith, k)))
+
+  localed_in_chain : IsFew world order h → 200 + templates_weight (templates world.sources h) ≤ n → AllByRecursion (Holds n) (chain_routines world order h)
+  localed_in_chain k room =
+      let once = chain_once world.escaping (templates world.sources h) in (
+        chain_localed (templates world.sources h) (omega (arith, room, once)),
+        holds_append n (map (macro_routine world order h) (macros world.sources h)) (body_routines world order h (numbered_bodies world h))
+            (macros_localed (macros world.sources h) k.macros (omega (arith, room, once)))
+            (blocks_localed 0 (all_bodies world.sources world.escaping h) (λ x. parameters_few world order h x (k.names h)) (omega (arith, room, once))),
+      )
+
+chains_localed : (world : World) (order hs : List Home) (n : ℕ) (some : 1 ≤ n) (few : (h : Home) (x : Text) → length (block_parameters world order h x) ≤ n)
+    → AllByRecursion (IsFew world order) hs → 200 + chains_weight world.sources hs ≤ n → AllByRecursion (Holds n) (flat_map (chain_routines world order) hs)
+chains_localed world order [] n some few k room = tt
+chains_localed world order (h ∷ hs) n some few k room =
+    holds_append n (chain_routines world order h) (flat_map (chain_routines world order) hs) (localed_in_chain world order n some few h k.0 (omega (arith, room)))
+    (chains_localed world order hs n some few k.1 (omega (arith, room)))
+
+holds_placed : (n : ℕ) (rs : List (Routine Constant)) (i : ℕ) → AllByRecursion (Holds n) rs → AllByRecursion (Holds n) (placed_routines rs i)
+holds_placed n [] i h = tt
+holds_placed n (r ∷ rs) i h = (h.0, holds_placed n rs (i + length (body_values r.body)) h.1)
+
+pub program_sized : (world : World) (entry : Home) (rest : List Home) → AreFew world (entry ∷ rest) → IsSized world (entry ∷ rest) (program world (entry ∷ rest) entry)
+program_sized world entry rest k =
+    let order = entry ∷ rest in
+    let rs = routines world order in
+    let n = length (shared world order) in
+    record {
+      instructions = omega (arith, routines_placed rs n, chains_sized world order order k);
+      constants = omega (arith, chains_counted world order order k.0.filters, length-append (shared world order) (routines_values rs));
+      units = omega (arith, units_counted world order order k.0.filters, placed_len rs n);
+      names = (k.0.names entry).0;
+      globals = globals_counted world order order (λ h. (k.0.names h).0);
+      locals = holds_placed (200 + chains_weight world.sources order) rs n (chains_localed world order order (200 + chains_weight world.sources order) (omega arith)
+          (λ h x. omega (arith, parameters_few world order h x (k.0.names h))) k (omega arith));
+      entries = heights_placed (max 2 (chains_weight world.sources order)) rs n (chains_low world order order k);
+    }

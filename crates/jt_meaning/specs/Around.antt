@@ -1,0 +1,43 @@
+-- What stands around an expression or a statement, and what is called from it.
+use Rattle.std.specs.Prelude.{ℕ, Bool, true, false, List, Option}
+use Rattle.jt_value.specs.Tree as tree
+use Rattle.jt_value.specs.Tree.{Tree}
+use Rattle.jt_value.specs.Pairs.{Pairs}
+use Rattle.jt_slots.specs.Got.{Place, Got}
+use Rattle.jt_parse.specs.Trees.{Text}
+use Rattle.jt_meaning.specs.Env.{Env}
+use Rattle.jt_inherit.specs.Chain.{Sources, Home, BlockBody, MacroBody}
+use Rattle.jt_slots.specs.Loops.{Loop}
+use Rattle.jt_slots.specs.Filters.{Filters}
+
+-- a block's body that is being printed: the bodies behind it, and the environment of its placement
+pub record Placement : Type 0 where
+  pub behind : List BlockBody
+  pub env : Env
+
+pub record Around : Type 0 where
+  pub home : Home
+  pub template : Text
+  pub escaping : Bool
+  pub loop : Option Loop
+  pub block : Option Placement
+
+-- the environment, and the text so far
+pub record State : Type 0 where
+  pub env : Env
+  pub out : Text
+
+-- what is called: a macro of a chain with its parameters and the globals, a block's body and those behind it in an environment, or
+-- another chain with its globals
+pub data Called : Type 0 where
+  the_macro : Home → MacroBody → Pairs → Pairs → Called
+  the_block : Home → BlockBody → List BlockBody → Env → Called
+  the_chain : Home → Pairs → Called
+
+-- a call gives a text, and changes nothing that its caller can read
+abbrev pub Calls : Type 0
+Calls = Called → Got Text
+
+-- the place of a tag
+abbrev pub tag : Around → ℕ → Place
+tag a line = record { template = a.template; line = line }

@@ -1,0 +1,45 @@
+-- What holds of every chain and its program.
+use Rattle.std.specs.Prelude.{◌≡◌, ℕ, ◌≤◌, suc, false, List, ◌∷◌}
+use Rattle.std.specs.List.{AllByRecursion}
+use Rattle.jt_value.specs.Pairs.{Pairs}
+use Rattle.jt_slots.specs.Got.{Got, deeper}
+use Rattle.jt_parse.specs.Trees.{Text}
+use Rattle.jt_inherit.specs.Chain.{Home}
+use Rattle.jt_inherit.specs.Small.{NamesFew}
+use Rattle.jt_inherit.specs.View.{Seen, sources_of}
+use Rattle.jt_parse.specs.Bytes.{body_bytes}
+use Rattle.jt_inherit.specs.Chain.{templates}
+use Rattle.jt_meaning.specs.Bytes.{IsShort}
+use Rattle.jt_meaning.specs.Ascends.{Ascends}
+use Rattle.jt_meaning.specs.Layout.{names}
+use Rattle.jt_rules.specs.World.{World, world_of}
+use Rattle.jt_meaning.specs.Meaning.{mean}
+use Rattle.jt_slots.specs.Slots.{smean}
+use Rattle.jt_meaning.specs.Programs.{program}
+use Rattle.jt_inherit.specs.Includes.{InOrder}
+use Rattle.jt_rules.specs.Rules.{KeepsRules}
+use Rattle.jt_rules.specs.Known.{ChainsKnown}
+use Rattle.jt_slots.specs.Takes.{BodyTakes}
+use Rattle.jt_meaning.specs.Measure.{AreFew, IsSized}
+
+-- a text or a fault is the same with one call more
+abbrev pub Stays : Got Text → Got Text → Type 0
+Stays deeper h = Unit {0}
+Stays g h = h ≡ g
+
+-- Where the chains are in order, the entry first, the entry's program means what its chain means: for every context, and every depth of calls.
+pub record ProgramLaws : Type 0 where
+  pub means : (world : World) (entry : Home) (rest : List Home) → InOrder world.sources (entry ∷ rest) → (context : Pairs) (n : ℕ) → smean world.filters (program world (entry ∷ rest) entry) context n ≡ mean world entry context n
+  pub stays : (world : World) (entry : Home) (context : Pairs) (n : ℕ) → Stays (mean world entry context n) (mean world entry context (suc n))
+  -- where the rules are kept and each test and filter is known, each operation and each routine gets as many values as it takes
+  pub takes : (world : World) (entry : Home) (rest : List Home) → InOrder world.sources (entry ∷ rest) → KeepsRules world (entry ∷ rest) → ChainsKnown world (entry ∷ rest)
+      → AllByRecursion (λ r. BodyTakes world.filters (program world (entry ∷ rest) entry).routines false r.body) (program world (entry ∷ rest) entry).routines
+  -- where names and parameters are few, the program is as small as the weight of its chains says
+  pub sized : (world : World) (entry : Home) (rest : List Home) → AreFew world (entry ∷ rest) → IsSized world (entry ∷ rest) (program world (entry ∷ rest) entry)
+  -- names ascend
+  pub ascends : (world : World) (order : List Home) (h : Home) → Ascends (names world order h)
+  -- where the sources of chains read or bind few names and the rules are kept, names and parameters are few
+  pub few : (c : Seen) → NamesFew c → KeepsRules (world_of c) c.order → AreFew (world_of c) c.order
+  -- where no template's names and texts have more bytes than so many, no name and no text of the program has
+  pub short : (c : Seen) (entry : Home) (rest : List Home) (n : ℕ) → c.order ≡ entry ∷ rest → AllByRecursion (λ h. AllByRecursion (λ t. body_bytes t.body ≤ n) (templates (sources_of c) h)) c.order
+      → IsShort n (program (world_of c) c.order entry)

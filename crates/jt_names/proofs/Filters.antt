@@ -1,0 +1,23 @@
+-- The filters by their ids.
+use Rattle.std.proofs.Common.{◌≡◌, refl, ap, Some}
+use Rattle.std.specs.Prelude.{option_map}
+use Rattle.jt_filters.specs.FilterTable.{filter_id}
+use Rattle.jt_filters.specs.FilterIds.{filter_of}
+use Rattle.jt_filters.specs.declared.filter_id.FilterId.{FilterId}
+use Rattle.jt_filters.specs.declared.filter_id.FilterId.TheVariants as filter
+use Rattle.jt_parse.specs.Trees.{Text}
+use Rattle.jt_meaning.specs.Expressions as meant
+use Rattle.jt_slots.specs.TheFilters.{the_filters, filter_named, filter_parameters, parameters_of}
+
+has_filter : (x : FilterId) → filter_of (filter_id x) ≡ Some x
+unfolding filter_of
+has_filter filter.Abs = refl
+has_filter x = refl
+
+pub named_is : (x : Text) → the_filters.named x ≡ option_map filter_id (filter_named x)
+unfolding the_filters
+named_is x = refl
+
+pub parameters_are : (f : FilterId) → meant.filter_parameters the_filters (Some (filter_id f)) ≡ filter_parameters f
+unfolding the_filters
+parameters_are f = ap parameters_of (has_filter f)

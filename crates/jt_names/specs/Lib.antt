@@ -1,0 +1,4 @@
+pub mod Callees
+pub mod Formed
+pub mod Names
+pub mod Scoped

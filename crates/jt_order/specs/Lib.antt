@@ -1,0 +1,3 @@
+pub mod Graph
+pub mod View
+pub mod Walks

@@ -1,0 +1,50 @@
+-- Where the statements of a template stand, one after the other.
+use Rattle.std.proofs.Common.{◌≡◌, ℕ, ◌+◌, ◌<◌, ◌&&◌, Bool, true, false, not, List, length, drop, get_or, refl, sym, ap, subst, ◌∙◌, Option, Some, None, Vec, Global}
+use Rattle.std.proofs.lemmas.List.{drop_more, at_drop_all}
+use Rattle.jt_expr.specs.View.{expr_view}
+use Rattle.jt_expr.specs.declared.tree.Expr.{Expr}
+use Rattle.jt_parse.specs.Trees as trees
+use Rattle.jt_parse.specs.Trees.{Body}
+use Rattle.jt_parse.specs.Places as places
+use Rattle.jt_parse.specs.Places.{is_placed, is_child, within, stmt_placed, body_placed, branches_placed}
+use Rattle.jt_parse.specs.PlaceView.{place_view}
+use Rattle.jt_parse.specs.View.{stmt_view, body_view, branches_view}
+use Rattle.jt_parse.specs.declared.places.Place.{Place}
+use Rattle.jt_parse.specs.declared.tree.Stmt.{Stmt}
+use Rattle.jt_parse.specs.declared.tree.Stmt.TheVariants.{If}
+use Rattle.jt_parse.proofs.Views.{view-If}
+
+-- what is left, with nothing read yet but whitespace, or at this place
+abbrev pub placed_by : Option Place → Body → Bool
+placed_by None b = is_placed b
+placed_by (Some p) b = body_placed (place_view p) b
+
+abbrev pub Branch : Type 0
+Branch = ℕ × Expr × Vec Stmt Global
+
+-- what is left of branches
+pub branches_left : (bs : List Branch) (i : ℕ) (b : Branch) → i < length bs → b ≡ get_or bs i b → branches_view (drop i bs) ≡ trees.branch b.0 (expr_view b.1) (body_view b.2.items) (branches_view (drop (i + 1) bs))
+branches_left bs i b lt is =
+    ap (λ (z : List Branch). branches_view z) (drop_more bs i b lt)
+    ∙ ap (λ (z : Branch). trees.branch z.0 (expr_view z.1) (body_view z.2.items) (branches_view (drop (i + 1) bs))) (sym is)
+
+pub branch_misplaced : (q : places.Place) (bs : List Branch) (i : ℕ) (b : Branch) → i < length bs → b ≡ get_or bs i b → body_placed q (body_view b.2.items) ≡ false → branches_placed q (branches_view (drop i bs)) ≡ false
+branch_misplaced q bs i b lt is bad = ap (branches_placed q) (branches_left bs i b lt is) ∙ ap (λ c. c && branches_placed q (branches_view (drop (i + 1) bs))) bad
+
+choice_is : (p : places.Place) (s : Stmt) (bs : Vec Branch Global) (other : Vec Stmt Global) → s ≡ If bs other
+    → stmt_placed p (stmt_view s) ≡ (not (is_child p) && (branches_placed (within p) (branches_view bs.items) && body_placed (within p) (body_view other.items)))
+choice_is p s bs other is = ap (stmt_placed p) (ap stmt_view is ∙ view-If bs other)
+
+never : (a b : Bool) → (a && (false && b)) ≡ false
+never true b = refl
+never false b = refl
+
+pub if_misplaced : (p : places.Place) (s : Stmt) (bs : Vec Branch Global) (other : Vec Stmt Global) → s ≡ If bs other → branches_placed (within p) (branches_view bs.items) ≡ false → stmt_placed p (stmt_view s) ≡ false
+if_misplaced p s bs other is bad =
+    choice_is p s bs other is ∙ ap (λ c. not (is_child p) && (c && body_placed (within p) (body_view other.items))) bad ∙ never (not (is_child p)) (body_placed (within p) (body_view other.items))
+
+pub if_placed : (p : places.Place) (s : Stmt) (bs : Vec Branch Global) (other : Vec Stmt Global) → s ≡ If bs other → not (is_child p) ≡ true → branches_placed (within p) (branches_view bs.items) ≡ true
+    → stmt_placed p (stmt_view s) ≡ body_placed (within p) (body_view other.items)
+if_placed p s bs other is top good =
+    choice_is p s bs other is ∙ ap (λ c. c && (branches_placed (within p) (branches_view bs.items) && body_placed (within p) (body_view other.items))) top
+    ∙ ap (λ c. c && body_placed (within p) (body_view other.items)) good

@@ -1,0 +1,5 @@
+use Rattle.jt_parse.proofs.Views.{view-If}
+use Rattle.jt_parse.proofs.frames.if_statement.Goals as goal
+
+pub returns : goal.returns
+returns c = view-If c.args.branches c.args.other

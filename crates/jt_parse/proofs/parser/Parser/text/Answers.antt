@@ -1,0 +1,18 @@
+use Rattle.std.proofs.Common.{◌≡◌, ◌<◌, length, ap, sym, ◌∙◌, arith, Ok}
+use Rattle.std.proofs.lemmas.Bool.Decides.{nat_tests}
+use Rattle.jt_parse.specs.Trees.{data_of}
+use Rattle.jt_parse.specs.Reading.{state, then_one}
+use Rattle.jt_parse.specs.Gives.{state_view}
+use Rattle.jt_parse.proofs.Steps.{text_none, text_some}
+use Rattle.jt_parse.proofs.Views.{view-Data}
+use Rattle.jt_parse.proofs.parser.Parser.text.Goals as goal
+
+pub returns-then-is_empty : goal.returns-then-is_empty
+returns-then-is_empty c = let none : length c.args.text.now ≡ 0 = grind (arith, nat_tests) in text_none 100 (state_view c.args.self.now) c.args.text.now none
+
+pub returns : goal.returns
+returns c =
+    let st = state_view c.args.self.now in
+    let some : 0 < length c.args.text.now = grind (arith, nat_tests) in
+    text_some 100 st c.args.text.now c.utf8.text some
+    ∙ ap (λ b. Ok (state b st.frames)) (sym (c.in_ok-push_statement.ensures.pushed ∙ ap (then_one st.body) (view-Data c.in_ok-copy.copy ∙ ap data_of c.in_ok-copy.ensures)))

@@ -1,5 +1,0 @@
-use Rattle.jt_parse.proofs.Views.{view-If}
-use Rattle.jt_parse.proofs.parser.if_statement.Goals as goal
-
-pub returns : goal.returns
-returns c = view-If c.args.branches c.args.other

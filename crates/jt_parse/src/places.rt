@@ -1,0 +1,214 @@
+//! Where statements may stand.
+
+ghost use Rattle.std.specs.Prelude.{◌≡◌, true, false};
+ghost use Rattle.jt_scan.specs.Cut as cut;
+ghost use Rattle.jt_parse.specs.Places as spec;
+ghost use Rattle.jt_parse.specs.Gives.{GivesPlaces};
+ghost use Rattle.jt_parse.specs.View.{stmt_view, body_view, branches_view};
+ghost use Rattle.jt_parse.specs.PlaceView.{place_view};
+
+use crate::error::ParseError;
+use crate::tree::Stmt;
+use jt_expr::Expr;
+
+/// Where a statement stands.
+#[derive(Clone, Copy, PartialEq, Eq)]
+pub enum Place {
+    /// At the top of a template that extends another.
+    ChildTop,
+    /// At the top of one that does not.
+    RootTop,
+    /// Inside a macro.
+    InMacro,
+    /// Anywhere else.
+    Inside,
+}
+
+/// Inside a statement that stands there.
+fn within(place: Place) -> Place
+    ensures { place_view result ≡ spec.within (place_view place) }
+{
+    match place {
+        Place::InMacro => Place::InMacro,
+        _ => Place::Inside,
+    }
+}
+
+/// Whether a statement of a child stands outside its blocks.
+fn is_child(place: Place) -> bool
+    ensures { result ≡ spec.is_child (place_view place) }
+{
+    place == Place::ChildTop
+}
+
+/// Whether a macro may stand there.
+fn is_top(place: Place) -> bool
+    ensures { result ≡ spec.is_top (place_view place) }
+{
+    matches!(place, Place::ChildTop | Place::RootTop)
+}
+
+/// Whether it is inside a macro.
+fn is_macro(place: Place) -> bool
+    ensures { result ≡ spec.is_macro (place_view place) }
+{
+    place == Place::InMacro
+}
+
+/// Whether a byte is whitespace.
+fn is_space(b: u8) -> bool
+    ensures { result ≡ cut.is_space b }
+{
+    b == b' ' || b == b'\t' || b == b'\n' || b == 0x0b || b == 0x0c || b == b'\r'
+}
+
+/// Whether there is only whitespace in a text.
+fn is_blank_text(text: &str) -> bool
+    ensures { result ≡ spec.is_blank_text text.now }
+{
+    for b in text.as_bytes() {
+        if !is_space(*b) {
+            return false;
+        }
+    }
+    true
+}
+
+/// Whether a statement is whitespace.
+fn is_blank(statement: &Stmt) -> bool
+    ensures { result ≡ spec.is_blank_stmt (stmt_view statement.now) }
+{
+    match statement {
+        Stmt::Data(text) => is_blank_text(text),
+        _ => false,
+    }
+}
+
+/// Whether there is only whitespace in statements.
+fn is_blank_body(body: &Vec<Stmt>) -> bool
+    ensures { result ≡ spec.is_blank_body (body_view body.now.items) }
+{
+    for statement in body {
+        if !is_blank(statement) {
+            return false;
+        }
+    }
+    true
+}
+
+/// The answer, with the line of the tag where it is no.
+fn answer(allowed: bool, line: u32, found: &mut u32) -> bool
+    ensures { result ≡ allowed }
+{
+    if !allowed {
+        *found = line;
+    }
+    allowed
+}
+
+/// The line of the first of some branches.
+fn first_line(branches: &Vec<(u32, Expr, Vec<Stmt>)>) -> u32 {
+    match branches.first() {
+        Some((line, _, _)) => *line,
+        None => 1,
+    }
+}
+
+/// Whether statements stand where they may; if not, `found` has the line of the first that does
+/// not.
+#[cycle(places)]
+fn body_placed(body: &Vec<Stmt>, place: Place, found: &mut u32) -> bool
+    ensures { result ≡ spec.body_placed (place_view place) (body_view body.now.items) }
+{
+    for statement in body {
+        if !statement_placed(statement, place, found) {
+            return false;
+        }
+    }
+    true
+}
+
+/// The same of a statement.
+#[cycle(places)]
+fn statement_placed(statement: &Stmt, place: Place, found: &mut u32) -> bool
+    ensures { result ≡ spec.stmt_placed (place_view place) (stmt_view statement.now) }
+{
+    match statement {
+        Stmt::Data(_) | Stmt::Set(_, _, _) => true,
+        Stmt::Print(line, _) | Stmt::Include(line, _, _, _) => {
+            answer(!is_child(place), *line, found)
+        }
+        Stmt::Extends(line, _) => answer(false, *line, found),
+        Stmt::If(branches, other) => {
+            if !answer(!is_child(place), first_line(branches), found) {
+                return false;
+            }
+            for (_, _, body) in branches {
+                if !body_placed(body, within(place), found) {
+                    return false;
+                }
+            }
+            body_placed(other, within(place), found)
+        }
+        Stmt::For(line, _, _, _, body, other) => {
+            answer(!is_child(place), *line, found)
+                && body_placed(body, within(place), found)
+                && body_placed(other, within(place), found)
+        }
+        Stmt::SetBlock(_, _, body) => body_placed(body, within(place), found),
+        Stmt::With(line, _, body)
+        | Stmt::FilterBlock(line, _, body)
+        | Stmt::Autoescape(line, _, body) => {
+            answer(!is_child(place), *line, found) && body_placed(body, within(place), found)
+        }
+        Stmt::Macro(line, _, _, body) => {
+            answer(is_top(place), *line, found) && body_placed(body, Place::InMacro, found)
+        }
+        Stmt::Block(line, _, _, required, body) => {
+            answer(!is_macro(place), *line, found)
+                && answer(!*required || is_blank_body(body), *line, found)
+                && body_placed(body, within(place), found)
+        }
+    }
+}
+
+/// Whether the statements of a template stand where they may.
+fn template_placed(body: &Vec<Stmt>, found: &mut u32) -> bool
+    ensures { result ≡ spec.is_placed (body_view body.now.items) }
+{
+    let mut place = None;
+    for statement in body {
+        match (place, statement) {
+            (None, Stmt::Extends(_, _)) => place = Some(Place::ChildTop),
+            (None, Stmt::Data(text)) => {
+                if !is_blank_text(text) {
+                    place = Some(Place::RootTop);
+                }
+            }
+            (None, _) => {
+                place = Some(Place::RootTop);
+                if !statement_placed(statement, Place::RootTop, found) {
+                    return false;
+                }
+            }
+            (Some(top), _) => {
+                if !statement_placed(statement, top, found) {
+                    return false;
+                }
+            }
+        }
+    }
+    true
+}
+
+/// Refuses a template whose statements do not all stand where they may.
+pub(crate) fn check_places(body: &Vec<Stmt>) -> Result<(), ParseError>
+    ensures { GivesPlaces (spec.is_placed (body_view body.now.items)) result }
+{
+    let mut line = 1;
+    if template_placed(body, &mut line) {
+        Ok(())
+    } else {
+        Err(ParseError::Syntax { line })
+    }
+}

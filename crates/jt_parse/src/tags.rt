@@ -1,0 +1,478 @@
+//! The tags of statements, read token by token.
+
+ghost use Rattle.std.specs.Prelude.{◌≡◌, ◌≤◌, ◌<◌, ◌∷◌, ◌^◌, length, map, option_map, string_bytes, IsTrue, IfOk, true, false};
+ghost use Rattle.std.specs.Str.{chars};
+ghost use Rattle.jt_scan.specs.View.{token_view};
+ghost use Rattle.jt_scan.specs.declared.segment.Sign.TheVariants as sign;
+ghost use Rattle.jt_expr.specs.View.{expr_view, literal_view};
+ghost use Rattle.jt_expr.specs.Cursor.{ahead, GivesDone};
+ghost use Rattle.jt_parse.specs.Words.{is_plain};
+ghost use Rattle.jt_parse.specs.Tags.{defaults_last};
+ghost use Rattle.jt_parse.specs.TagReading as spec;
+ghost use Rattle.jt_expr.specs.Reading as reading;
+ghost use Rattle.jt_expr.specs.Gives.{level_of_form};
+ghost use Rattle.jt_parse.specs.View.{names_view, filtering_view, filterings_view, parameter_view, parameters_view};
+ghost use Rattle.jt_parse.specs.HeadView.{GivesBy, GivesAll, GivesWhole, value_view, values_view, head_view};
+
+use crate::expression::is_word;
+use crate::heads::{Head, Loop, Opening};
+use crate::tree::{Filtering, Parameter, Stmt};
+use jt_expr::{
+    Cursor, Expr, ExprError, Form, Literal, Part, Parts, arguments, copy_of, literal_of, read,
+};
+use jt_scan::{Sign, Token, text_value};
+use std::alloc::Global;
+
+/// Takes the word, which must stand in front.
+#[tactic(auto, unfolding(crate::specs::TagReading::expect_word))]
+fn expect_word(cursor: &mut Cursor<'_>, word: &str) -> Result<(), ExprError>
+    requires { IsTrue (is_plain word.now) }
+    ensures { GivesDone (spec.expect_word word.now (ahead cursor.old)) result (ahead cursor.new) }
+{
+    if cursor.eat_word(word) {
+        Ok(())
+    } else {
+        Err(ExprError::Syntax)
+    }
+}
+
+/// A name.
+#[tactic(auto, unfolding(crate::specs::TagReading::target_at))]
+fn target(alloc: Global, cursor: &mut Cursor<'_>) -> Result<String, ExprError>
+    ensures { GivesBy string_bytes (spec.target_at (ahead cursor.old)) result (ahead cursor.new) }
+{
+    let name = cursor.name()?;
+    Ok(copy_of(alloc, name)?)
+}
+
+/// `a, b`
+fn targets(alloc: Global, cursor: &mut Cursor<'_>) -> Result<Vec<String>, ExprError>
+    ensures { GivesBy (λ v. names_view v.items) (spec.separated spec.target_at sign.Comma (length (ahead cursor.old)) (ahead cursor.old)) result (ahead cursor.new) }
+{
+    let mut found = Vec::new(alloc);
+    for _turn in 0..cursor.left() {
+        let name = target(alloc, cursor)?;
+        found.push(name)?;
+        if !cursor.eat(Sign::Comma) {
+            return Ok(found);
+        }
+    }
+    Err(ExprError::Syntax)
+}
+
+/// An expression of at most so many levels.
+fn expression(
+    alloc: Global,
+    cursor: &mut Cursor<'_>,
+    levels: usize,
+    form: Form,
+) -> Result<Expr, ExprError>
+    requires { levels ≤ 100 }
+    ensures { GivesBy expr_view (reading.read levels (level_of_form form) (ahead cursor.old)) result (ahead cursor.new) }
+{
+    let Part { expr, .. } = read(alloc, cursor, levels, form)?;
+    Ok(Box::into_inner(expr))
+}
+
+/// `a = e`
+#[tactic(auto, unfolding(crate::specs::TagReading::value_at))]
+fn value(alloc: Global, cursor: &mut Cursor<'_>, levels: usize) -> Result<(String, Expr), ExprError>
+    requires { levels ≤ 100 }
+    ensures { GivesBy value_view (spec.value_at levels (ahead cursor.old)) result (ahead cursor.new) }
+{
+    let name = target(alloc, cursor)?;
+    cursor.expect(Sign::Assign)?;
+    let value = expression(alloc, cursor, levels, Form::Whole)?;
+    Ok((name, value))
+}
+
+/// `a = e, b = f`
+fn values(
+    alloc: Global,
+    cursor: &mut Cursor<'_>,
+    levels: usize,
+) -> Result<Vec<(String, Expr)>, ExprError>
+    requires { levels ≤ 100 }
+    ensures { GivesBy (λ v. values_view v.items) (spec.separated (spec.value_at levels) sign.Comma (length (ahead cursor.old)) (ahead cursor.old)) result (ahead cursor.new) }
+{
+    let mut found = Vec::new(alloc);
+    for _turn in 0..cursor.left() {
+        let one = value(alloc, cursor, levels)?;
+        found.push(one)?;
+        if !cursor.eat(Sign::Comma) {
+            return Ok(found);
+        }
+    }
+    Err(ExprError::Syntax)
+}
+
+/// `f(a)`
+#[tactic(auto, unfolding(crate::specs::TagReading::filtering_at))]
+fn filtering(alloc: Global, cursor: &mut Cursor<'_>, levels: usize) -> Result<Filtering, ExprError>
+    requires { levels ≤ 100 }
+    ensures { GivesBy filtering_view (spec.filtering_at levels (ahead cursor.old)) result (ahead cursor.new) }
+{
+    let name = target(alloc, cursor)?;
+    let Parts { items, pairs, .. } = arguments(alloc, cursor, levels)?;
+    Ok(Filtering {
+        name,
+        arguments: items,
+        keywords: pairs,
+    })
+}
+
+/// `f(a)|g`
+fn filterings(
+    alloc: Global,
+    cursor: &mut Cursor<'_>,
+    levels: usize,
+) -> Result<Vec<Filtering>, ExprError>
+    requires { levels ≤ 100 }
+    ensures { GivesBy (λ v. filterings_view v.items) (spec.separated (spec.filtering_at levels) sign.Pipe (length (ahead cursor.old)) (ahead cursor.old)) result (ahead cursor.new) }
+{
+    let mut found = Vec::new(alloc);
+    for _turn in 0..cursor.left() {
+        let one = filtering(alloc, cursor, levels)?;
+        found.push(one)?;
+        if !cursor.eat(Sign::Pipe) {
+            return Ok(found);
+        }
+    }
+    Err(ExprError::Syntax)
+}
+
+/// A number, a text or a constant.
+#[tactic(auto, unfolding(crate::specs::TagReading::literal_at))]
+fn literal(alloc: Global, cursor: &mut Cursor<'_>) -> Result<Literal, ExprError>
+    ensures { GivesBy literal_view (spec.literal_at (ahead cursor.old)) result (ahead cursor.new) }
+{
+    match cursor.take() {
+        Some(Token::Number(number)) => Ok(Literal::Number(number)),
+        Some(Token::Text(raw)) => Ok(Literal::Text(text_value(alloc, raw)?)),
+        Some(Token::Name(word)) => match literal_of(word) {
+            Some(literal) => Ok(literal),
+            None => Err(ExprError::Syntax),
+        },
+        _ => Err(ExprError::Syntax),
+    }
+}
+
+/// A parameter's default, if it has one.
+#[tactic(auto, unfolding(crate::specs::TagReading::default_at))]
+fn default_of(alloc: Global, cursor: &mut Cursor<'_>) -> Result<Option<Literal>, ExprError>
+    ensures { GivesBy (option_map literal_view) (spec.default_at (ahead cursor.old)) result (ahead cursor.new) }
+{
+    if !cursor.eat(Sign::Assign) {
+        return Ok(None);
+    }
+    let default = literal(alloc, cursor)?;
+    Ok(Some(default))
+}
+
+/// `a`, or `a = 1`
+#[tactic(auto, unfolding(crate::specs::TagReading::parameter_at))]
+fn parameter(alloc: Global, cursor: &mut Cursor<'_>) -> Result<Parameter, ExprError>
+    ensures { GivesBy parameter_view (spec.parameter_at (ahead cursor.old)) result (ahead cursor.new) }
+{
+    let name = target(alloc, cursor)?;
+    let default = default_of(alloc, cursor)?;
+    Ok(Parameter { name, default })
+}
+
+/// `a, b = 1`
+fn parameter_row(alloc: Global, cursor: &mut Cursor<'_>) -> Result<Vec<Parameter>, ExprError>
+    ensures { GivesBy (λ v. parameters_view v.items) (spec.separated spec.parameter_at sign.Comma (length (ahead cursor.old)) (ahead cursor.old)) result (ahead cursor.new) }
+{
+    let mut found = Vec::new(alloc);
+    for _turn in 0..cursor.left() {
+        let one = parameter(alloc, cursor)?;
+        found.push(one)?;
+        if !cursor.eat(Sign::Comma) {
+            return Ok(found);
+        }
+    }
+    Err(ExprError::Syntax)
+}
+
+/// Whether no parameter without a default stands behind one that has a default.
+fn defaults_are_last(parameters: &[Parameter]) -> bool
+    ensures { result ≡ defaults_last (parameters_view parameters.now) }
+{
+    let mut defaults = false;
+    for parameter in parameters {
+        if parameter.default.is_some() {
+            defaults = true;
+        } else if defaults {
+            return false;
+        }
+    }
+    true
+}
+
+/// The parameters of a macro, up to the closing parenthesis.
+#[tactic(auto, unfolding(crate::specs::TagReading::parameters_at))]
+fn parameters(alloc: Global, cursor: &mut Cursor<'_>) -> Result<Vec<Parameter>, ExprError>
+    ensures { GivesBy (λ v. parameters_view v.items) (spec.parameters_at (ahead cursor.old)) result (ahead cursor.new) }
+{
+    if cursor.eat(Sign::RightParen) {
+        return Ok(Vec::new(alloc));
+    }
+    let found = parameter_row(alloc, cursor)?;
+    cursor.expect(Sign::RightParen)?;
+    if !defaults_are_last(&found) {
+        return Err(ExprError::Syntax);
+    }
+    Ok(found)
+}
+
+/// The condition of a loop, if it has one.
+#[tactic(auto, unfolding(crate::specs::TagReading::condition_at))]
+fn condition(
+    alloc: Global,
+    cursor: &mut Cursor<'_>,
+    levels: usize,
+) -> Result<Option<Expr>, ExprError>
+    requires { levels ≤ 100 }
+    ensures { GivesBy (option_map expr_view) (spec.condition_at levels (ahead cursor.old)) result (ahead cursor.new) }
+{
+    if !cursor.eat_word("if") {
+        return Ok(None);
+    }
+    let found = expression(alloc, cursor, levels, Form::Whole)?;
+    Ok(Some(found))
+}
+
+/// A text literal.
+#[tactic(auto, unfolding(crate::specs::TagReading::text_at))]
+fn text(alloc: Global, cursor: &mut Cursor<'_>) -> Result<String, ExprError>
+    ensures { GivesBy string_bytes (spec.text_at (ahead cursor.old)) result (ahead cursor.new) }
+{
+    match cursor.take() {
+        Some(Token::Text(raw)) => Ok(text_value(alloc, raw)?),
+        _ => Err(ExprError::Syntax),
+    }
+}
+
+/// Whether `ignore missing` is said.
+#[tactic(auto, unfolding(crate::specs::TagReading::missing_at))]
+fn missing(cursor: &mut Cursor<'_>) -> Result<bool, ExprError>
+    ensures { GivesBy (λ b. b) (spec.missing_at (ahead cursor.old)) result (ahead cursor.new) }
+{
+    if !cursor.eat_word("ignore") {
+        return Ok(false);
+    }
+    expect_word(cursor, "missing")?;
+    Ok(true)
+}
+
+/// Whether an included template sees the names around.
+#[tactic(auto, unfolding(crate::specs::TagReading::context_at))]
+fn context(cursor: &mut Cursor<'_>) -> Result<bool, ExprError>
+    ensures { GivesBy (λ b. b) (spec.context_at (ahead cursor.old)) result (ahead cursor.new) }
+{
+    if cursor.eat_word("with") {
+        expect_word(cursor, "context")?;
+        return Ok(true);
+    }
+    if cursor.eat_word("without") {
+        expect_word(cursor, "context")?;
+        return Ok(false);
+    }
+    Ok(true)
+}
+
+/// `if c`
+#[tactic(auto, unfolding(crate::specs::TagReading::if_head))]
+fn if_head(alloc: Global, cursor: &mut Cursor<'_>, levels: usize) -> Result<Head, ExprError>
+    requires { levels ≤ 100 }
+    ensures { GivesBy head_view (spec.if_head levels (ahead cursor.old)) result (ahead cursor.new) }
+{
+    let condition = expression(alloc, cursor, levels, Form::Whole)?;
+    Ok(Head::If(condition))
+}
+
+/// `for a, b in e if c`
+#[tactic(auto, unfolding(crate::specs::TagReading::for_head))]
+fn for_head(alloc: Global, cursor: &mut Cursor<'_>, levels: usize) -> Result<Head, ExprError>
+    requires { levels ≤ 100 }
+    ensures { GivesBy head_view (spec.for_head levels (ahead cursor.old)) result (ahead cursor.new) }
+{
+    let targets = targets(alloc, cursor)?;
+    expect_word(cursor, "in")?;
+    let over = expression(alloc, cursor, levels, Form::Disjunction)?;
+    let condition = condition(alloc, cursor, levels)?;
+    Ok(Head::Loop(Loop {
+        targets,
+        over,
+        condition,
+    }))
+}
+
+/// The one name of a text that is captured.
+fn only_name(names: Vec<String>) -> Result<Head, ExprError>
+    ensures { GivesAll head_view (spec.text_by (names_view names.items)) result }
+{
+    let mut names = names;
+    let Some(name) = names.pop() else {
+        return Err(ExprError::Syntax);
+    };
+    if names.is_empty() {
+        Ok(Head::Opening(Opening::Text(name)))
+    } else {
+        Err(ExprError::Syntax)
+    }
+}
+
+/// `set a, b = e`, or `set a`
+#[tactic(auto, unfolding(crate::specs::TagReading::set_head))]
+fn set_head(
+    alloc: Global,
+    cursor: &mut Cursor<'_>,
+    levels: usize,
+    line: u32,
+) -> Result<Head, ExprError>
+    requires { levels ≤ 100 }
+    ensures { GivesBy head_view (spec.set_head levels line (ahead cursor.old)) result (ahead cursor.new) }
+{
+    let names = targets(alloc, cursor)?;
+    if !cursor.eat(Sign::Assign) {
+        return only_name(names);
+    }
+    let value = expression(alloc, cursor, levels, Form::Whole)?;
+    Ok(Head::Statement(Stmt::Set(line, names, value)))
+}
+
+/// `with a = e, b = f`
+#[tactic(auto, unfolding(crate::specs::TagReading::with_head))]
+fn with_head(alloc: Global, cursor: &mut Cursor<'_>, levels: usize) -> Result<Head, ExprError>
+    requires { levels ≤ 100 }
+    ensures { GivesBy head_view (spec.with_head levels (ahead cursor.old)) result (ahead cursor.new) }
+{
+    if cursor.left() == 0 {
+        return Ok(Head::Opening(Opening::Values(Vec::new(alloc))));
+    }
+    let found = values(alloc, cursor, levels)?;
+    Ok(Head::Opening(Opening::Values(found)))
+}
+
+/// `filter f(a)|g`
+#[tactic(auto, unfolding(crate::specs::TagReading::filter_head))]
+fn filter_head(alloc: Global, cursor: &mut Cursor<'_>, levels: usize) -> Result<Head, ExprError>
+    requires { levels ≤ 100 }
+    ensures { GivesBy head_view (spec.filter_head levels (ahead cursor.old)) result (ahead cursor.new) }
+{
+    let found = filterings(alloc, cursor, levels)?;
+    Ok(Head::Opening(Opening::Filters(found)))
+}
+
+/// `autoescape true`, or `false`
+#[tactic(auto, unfolding(crate::specs::TagReading::autoescape_head))]
+fn autoescape_head(cursor: &mut Cursor<'_>) -> Result<Head, ExprError>
+    ensures { GivesBy head_view (spec.autoescape_head (ahead cursor.old)) result (ahead cursor.new) }
+{
+    if cursor.eat_word("true") {
+        return Ok(Head::Opening(Opening::Escaping(true)));
+    }
+    if cursor.eat_word("false") {
+        return Ok(Head::Opening(Opening::Escaping(false)));
+    }
+    Err(ExprError::Syntax)
+}
+
+/// `macro f(a, b=1)`
+#[tactic(auto, unfolding(crate::specs::TagReading::macro_head))]
+fn macro_head(alloc: Global, cursor: &mut Cursor<'_>) -> Result<Head, ExprError>
+    ensures { GivesBy head_view (spec.macro_head (ahead cursor.old)) result (ahead cursor.new) }
+{
+    let name = target(alloc, cursor)?;
+    cursor.expect(Sign::LeftParen)?;
+    let found = parameters(alloc, cursor)?;
+    Ok(Head::Opening(Opening::Macro(name, found)))
+}
+
+/// `include "x" ignore missing without context`
+#[tactic(auto, unfolding(crate::specs::TagReading::include_head))]
+fn include_head(alloc: Global, cursor: &mut Cursor<'_>, line: u32) -> Result<Head, ExprError>
+    ensures { GivesBy head_view (spec.include_head line (ahead cursor.old)) result (ahead cursor.new) }
+{
+    let name = text(alloc, cursor)?;
+    let missing = missing(cursor)?;
+    let context = context(cursor)?;
+    Ok(Head::Statement(Stmt::Include(line, name, missing, context)))
+}
+
+/// `extends "x"`
+#[tactic(auto, unfolding(crate::specs::TagReading::extends_head))]
+fn extends_head(alloc: Global, cursor: &mut Cursor<'_>, line: u32) -> Result<Head, ExprError>
+    ensures { GivesBy head_view (spec.extends_head line (ahead cursor.old)) result (ahead cursor.new) }
+{
+    let name = text(alloc, cursor)?;
+    Ok(Head::Statement(Stmt::Extends(line, name)))
+}
+
+/// `block b scoped required`
+#[tactic(auto, unfolding(crate::specs::TagReading::block_head))]
+fn block_head(alloc: Global, cursor: &mut Cursor<'_>) -> Result<Head, ExprError>
+    ensures { GivesBy head_view (spec.block_head (ahead cursor.old)) result (ahead cursor.new) }
+{
+    let name = target(alloc, cursor)?;
+    let scoped = cursor.eat_word("scoped");
+    let required = cursor.eat_word("required");
+    Ok(Head::Opening(Opening::Block(name, scoped, required)))
+}
+
+/// A statement's first tag, by its first word.
+#[tactic(auto, unfolding(crate::specs::TagReading::head_at))]
+fn head(
+    alloc: Global,
+    cursor: &mut Cursor<'_>,
+    levels: usize,
+    line: u32,
+    word: &str,
+) -> Result<Head, ExprError>
+    requires { levels ≤ 100 }
+    ensures { GivesBy head_view (spec.head_at levels line (chars word.now) (ahead cursor.old)) result (ahead cursor.new) }
+{
+    if is_word(word, "if") {
+        if_head(alloc, cursor, levels)
+    } else if is_word(word, "for") {
+        for_head(alloc, cursor, levels)
+    } else if is_word(word, "set") {
+        set_head(alloc, cursor, levels, line)
+    } else if is_word(word, "with") {
+        with_head(alloc, cursor, levels)
+    } else if is_word(word, "filter") {
+        filter_head(alloc, cursor, levels)
+    } else if is_word(word, "autoescape") {
+        autoescape_head(cursor)
+    } else if is_word(word, "macro") {
+        macro_head(alloc, cursor)
+    } else if is_word(word, "include") {
+        include_head(alloc, cursor, line)
+    } else if is_word(word, "extends") {
+        extends_head(alloc, cursor, line)
+    } else if is_word(word, "block") {
+        block_head(alloc, cursor)
+    } else {
+        Err(ExprError::Syntax)
+    }
+}
+
+/// What the first tag of a statement says, whose first word is given with all tokens behind it.
+pub fn read_head(
+    alloc: Global,
+    word: &str,
+    tokens: &[Token<'_>],
+    levels: usize,
+    line: u32,
+) -> Result<Head, ExprError>
+    requires { levels ≤ 100 }
+    ensures { GivesWhole (spec.all_of (spec.head_at levels line (chars word.now) (map token_view tokens.now))) result }
+{
+    let mut cursor = Cursor { rest: tokens };
+    let found = head(alloc, &mut cursor, levels, line, word)?;
+    if cursor.left() > 0 {
+        return Err(ExprError::Syntax);
+    }
+    Ok(found)
+}

@@ -1,0 +1,5 @@
+pub mod Fronts
+pub mod Homes
+pub mod Leading
+pub mod Made
+pub mod Moving

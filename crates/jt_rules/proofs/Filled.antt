@@ -1,0 +1,86 @@
+-- Parameters that are given by name or have a default.
+use Rattle.std.proofs.Common.{◌≡◌, ℕ, zero, suc, ◌+◌, ◌<◌, Bool, true, false, not, ◌&&◌, ◌||◌, if◌then◌else◌, List, [], ◌∷◌, length, take, drop, get_or, refl, sym, ap, ◌∙◌, arith, Option, Some, None, string_bytes}
+use Rattle.std.specs.Option.{is_some}
+use Rattle.std.specs.Prelude.{option_map}
+use Rattle.std.proofs.lemmas.List.{drop_more}
+use Rattle.jt_expr.specs.View.{literal_view}
+use Rattle.jt_parse.specs.Texts.{among}
+use Rattle.jt_parse.specs.Trees as trees
+use Rattle.jt_parse.specs.Trees.{Text}
+use Rattle.jt_parse.specs.View.{parameters_view}
+use Rattle.jt_parse.specs.declared.tree.Parameter.{Parameter}
+use Rattle.jt_slots.specs.Filters.{some_given}
+use Rattle.jt_rules.specs.Rules as rules
+
+abbrev pub all_filled : List Text → List Parameter → Bool
+all_filled ks [] = true
+all_filled ks (p ∷ ps) = (among (string_bytes p.name) ks || is_some p.default) && all_filled ks ps
+
+or_true : (b c : Bool) → c ≡ true → (b || c) ≡ true
+or_true true c e = refl
+or_true false c e = e
+
+module _ (ks : List Text) where
+  -- one that is given is among them
+  given_at : (ps : List Parameter) (i : ℕ) (p : Parameter) → i < length ps → p ≡ get_or ps i p → among (string_bytes p.name) ks ≡ true → some_given (parameters_view ps) ks ≡ true
+  given_at [] i p lt is e = absurd (omega arith)
+  given_at (q ∷ ps) zero p lt is e = ap (λ (z : Parameter). among (string_bytes z.name) ks || some_given (parameters_view ps) ks) (sym is) ∙ ap (λ b. b || some_given (parameters_view ps) ks) e
+  given_at (q ∷ ps) (suc i) p lt is e = or_true (among (string_bytes q.name) ks) (some_given (parameters_view ps) ks) (given_at ps i p (omega arith) is e)
+
+  -- where none is given, none is reached
+  pub none_reached : (ps : List trees.Parameter) → some_given ps ks ≡ false → rules.reached ps ks ≡ 0
+  none_reached [] e = refl
+  none_reached (p ∷ ps) e = ap (λ b. if b then suc (rules.reached ps ks) else 0) e
+
+  -- the last one that is given
+  pub last_reached : (ps : List Parameter) (i : ℕ) (p : Parameter) → i < length ps → p ≡ get_or ps i p → among (string_bytes p.name) ks ≡ true
+      → some_given (parameters_view (drop (suc i) ps)) ks ≡ false → rules.reached (parameters_view ps) ks ≡ suc i
+  last_reached [] i p lt is e none = absurd (omega arith)
+  last_reached (q ∷ ps) zero p lt is e none =
+      ap (λ b. if b then suc (rules.reached (parameters_view ps) ks) else 0) (given_at (q ∷ ps) zero p lt is e) ∙ ap suc (none_reached (parameters_view ps) none)
+  last_reached (q ∷ ps) (suc i) p lt is e none =
+      ap (λ b. if b then suc (rules.reached (parameters_view ps) ks) else 0) (given_at (q ∷ ps) (suc i) p lt is e) ∙ ap suc (last_reached ps i p (omega arith) is e none)
+
+  -- one more that isn't given
+  pub none_more : (ps : List Parameter) (i : ℕ) (p : Parameter) → i < length ps → p ≡ get_or ps i p → among (string_bytes p.name) ks ≡ false
+      → some_given (parameters_view (drop (suc i) ps)) ks ≡ false → some_given (parameters_view (drop i ps)) ks ≡ false
+  none_more [] i p lt is e none = absurd (omega arith)
+  none_more (q ∷ ps) zero p lt is e none =
+      ap (λ (z : Parameter). among (string_bytes z.name) ks || some_given (parameters_view ps) ks) (sym is) ∙ ap (λ b. b || some_given (parameters_view ps) ks) e ∙ none
+  none_more (q ∷ ps) (suc i) p lt is e none = none_more ps i p (omega arith) is e none
+
+  mapped : {A B : Type 0} → (f : A → B) (o : Option A) → is_some (option_map f o) ≡ is_some o
+  mapped f (Some a) = refl
+  mapped f None = refl
+
+  -- each up to the last one that is given
+  filled_up_to : (ps : List Parameter) → all_filled ks (take (rules.reached (parameters_view ps) ks) ps) ≡ rules.is_filled (parameters_view ps) 0 ks
+  filled_up_to [] = refl
+  filled_up_to (p ∷ ps) = by (some_given (parameters_view (p ∷ ps)) ks) (filled_up_to ps)
+    where
+      rest : Bool → Bool
+      rest b = (among (string_bytes p.name) ks || b) && rules.is_filled (parameters_view ps) 0 ks
+
+      by : (b : Bool) → all_filled ks (take (rules.reached (parameters_view ps) ks) ps) ≡ rules.is_filled (parameters_view ps) 0 ks
+          → all_filled ks (take (if b then suc (rules.reached (parameters_view ps) ks) else 0) (p ∷ ps))
+          ≡ (not b || ((among (string_bytes p.name) ks || is_some (option_map literal_view p.default)) && rules.is_filled (parameters_view ps) 0 ks))
+      by true h =
+          ap (λ c. (among (string_bytes p.name) ks || is_some p.default) && c) h
+          ∙ ap (λ b. (among (string_bytes p.name) ks || b) && rules.is_filled (parameters_view ps) 0 ks) (sym (mapped literal_view p.default))
+      by false h = refl
+
+  pub filled_among : (ps : List Parameter) (r : ℕ) → r ≡ rules.reached (parameters_view ps) ks → all_filled ks (take r ps) ≡ rules.is_filled (parameters_view ps) 0 ks
+  filled_among ps r e = ap (λ n. all_filled ks (take n ps)) e ∙ filled_up_to ps
+
+  -- one that is neither given nor has a default
+  pub unfilled_at : (ps : List Parameter) (i : ℕ) (p : Parameter) → i < length ps → p ≡ get_or ps i p → among (string_bytes p.name) ks ≡ false → is_some p.default ≡ false → all_filled ks (drop i ps) ≡ false
+  unfilled_at ps i p lt is e d =
+      ap (all_filled ks) (drop_more ps i p lt) ∙ ap (λ (z : Parameter). (among (string_bytes z.name) ks || is_some z.default) && all_filled ks (drop (i + 1) ps)) (sym is)
+      ∙ ap (λ b. (b || is_some p.default) && all_filled ks (drop (i + 1) ps)) e ∙ ap (λ b. b && all_filled ks (drop (i + 1) ps)) d
+
+-- those behind the ones that are filled by place
+pub filled_behind : (ps : List trees.Parameter) (n : ℕ) (ks : List Text) → rules.is_filled ps n ks ≡ rules.is_filled (drop n ps) 0 ks
+filled_behind [] zero ks = refl
+filled_behind [] (suc n) ks = refl
+filled_behind (p ∷ ps) zero ks = refl
+filled_behind (p ∷ ps) (suc n) ks = filled_behind ps n ks

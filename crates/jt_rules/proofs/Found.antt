@@ -1,0 +1,197 @@
+-- The first rule that calls, filters and tests break.
+use Rattle.std.proofs.Common.{◌≡◌, ℕ, ◌+◌, ◌<◌, ◌≤◌, refl, sym, ap, ◌∙◌, List, [], ◌∷◌, length, drop, get_or, Bool, true, Option, Some, None, Vec, Box, String, Global, string_bytes}
+use Rattle.std.specs.Prelude.{option_map}
+use Rattle.std.proofs.lemmas.List.{drop_more, at_drop_all}
+use Rattle.std.specs.Option.{option_or}
+use Rattle.jt_expr.specs.View.{expr_view, exprs_view, pairs_view}
+use Rattle.jt_expr.specs.declared.tree.Expr.{Expr}
+use Rattle.jt_expr.specs.declared.tree.Expr.TheVariants as e
+use Rattle.jt_rules.proofs.Shown.{shown_Call, shown_Filter, shown_Test, shown_If, shown_For, shown_With}
+use Rattle.jt_rules.proofs.Turns.{or_grouped, or_three, or_none, some_first, none_first, filterings_turn}
+use Rattle.jt_parse.specs.Trees.{Text}
+use Rattle.jt_parse.specs.View.{stmt_view, body_view, branches_view, names_view, filtering_view, filterings_view}
+use Rattle.jt_parse.specs.declared.tree.Filtering.{Filtering}
+use Rattle.jt_parse.specs.declared.tree.Stmt.{Stmt}
+use Rattle.jt_parse.specs.declared.tree.Stmt.TheVariants as statement
+use Rattle.jt_inherit.specs.Chain.{Home, callee, macros}
+use Rattle.jt_inherit.specs.Uses.{count, keywords}
+use Rattle.jt_inherit.specs.declared.linked.Chain.{Chain}
+use Rattle.jt_slots.specs.Filters.{Filters}
+use Rattle.jt_slots.specs.Tests.{test_named}
+use Rattle.jt_slots.specs.TheFilters.{the_filters}
+use Rattle.jt_rules.specs.Rules as rules
+use Rattle.jt_rules.specs.World.{World}
+use Rattle.jt_rules.specs.Standing.{world_in}
+use Rattle.jt_rules.specs.declared.error.ScopeError.{ScopeError}
+use Rattle.jt_rules.proofs.Left.{Entry, Branch, branches_left}
+
+abbrev Found : Type 0
+Found = Option ScopeError
+
+pub its_filters : (c : Chain) → (world_in c).filters ≡ the_filters
+unfolding world_in
+its_filters c = refl
+
+module _ (world : World) (home : Home) (w : rules.Within) where
+  pub found_call : (x f g : Expr) (us vs : List Expr) (qs rs : List Entry) (p : Box Expr Global) (ts : Vec Expr Global) (ps : Vec Entry Global) (r1 r2 r3 r4 o1 o2 o3 : Found)
+      → x ≡ e.Call p ts ps → f ≡ p.value → g ≡ p.value → us ≡ ts.items → qs ≡ ps.items → vs ≡ ts.items → rs ≡ ps.items
+      → r1 ≡ rules.called_broken world home (expr_view f) w
+      → r2 ≡ rules.call_broken world home (callee (macros world.sources home) (expr_view g)) w (expr_view g) (exprs_view us) (pairs_view qs)
+      → r3 ≡ rules.row_broken world home (exprs_view vs) w → r4 ≡ rules.pairs_broken world home (pairs_view rs) w
+      → o1 ≡ option_or r3 r4 → o2 ≡ option_or r2 o1 → o3 ≡ option_or r1 o2 → o3 ≡ rules.broken world home (expr_view x) w
+  found_call x f g us vs qs rs p ts ps r1 r2 r3 r4 o1 o2 o3 is ef eg eu eq ev er h1 h2 h3 h4 k1 k2 k3 =
+      let c = λ (z : Expr) (ys : List Expr) (zs : List Entry). rules.call_broken world home (callee (macros world.sources home) (expr_view z)) w (expr_view z) (exprs_view ys) (pairs_view zs) in
+      let e1 : r1 ≡ rules.called_broken world home (expr_view p.value) w = h1 ∙ ap (λ z. rules.called_broken world home (expr_view z) w) ef in
+      let e2 : r2 ≡ c p.value ts.items ps.items = h2 ∙ ap (λ z. c z us qs) eg ∙ ap (λ z. c p.value z qs) eu ∙ ap (c p.value ts.items) eq in
+      let e3 : r3 ≡ rules.row_broken world home (exprs_view ts.items) w = h3 ∙ ap (λ z. rules.row_broken world home (exprs_view z) w) ev in
+      let e4 : r4 ≡ rules.pairs_broken world home (pairs_view ps.items) w = h4 ∙ ap (λ z. rules.pairs_broken world home (pairs_view z) w) er in
+      k3 ∙ ap (λ z. option_or z o2) e1 ∙ ap (option_or _) (k2 ∙ ap (λ z. option_or z o1) e2 ∙ ap (option_or _) (k1 ∙ ap (λ z. option_or z r4) e3 ∙ ap (option_or _) e4))
+      ∙ ap (λ z. rules.broken world home z w) (sym (ap expr_view is ∙ shown_Call p ts ps))
+
+  pub found_inner : (x f : Expr) (us : List Expr) (qs : List Entry) (p : Box Expr Global) (ts : Vec Expr Global) (ps : Vec Entry Global) (r1 r2 r3 o1 o2 : Found)
+      → x ≡ e.Call p ts ps → f ≡ p.value → us ≡ ts.items → qs ≡ ps.items
+      → r1 ≡ rules.called_broken world home (expr_view f) w → r2 ≡ rules.row_broken world home (exprs_view us) w → r3 ≡ rules.pairs_broken world home (pairs_view qs) w
+      → o1 ≡ option_or r2 r3 → o2 ≡ option_or r1 o1 → o2 ≡ rules.called_broken world home (expr_view x) w
+  found_inner x f us qs p ts ps r1 r2 r3 o1 o2 is ef eu eq h1 h2 h3 k1 k2 =
+      let e1 : r1 ≡ rules.called_broken world home (expr_view p.value) w = h1 ∙ ap (λ z. rules.called_broken world home (expr_view z) w) ef in
+      let e2 : r2 ≡ rules.row_broken world home (exprs_view ts.items) w = h2 ∙ ap (λ z. rules.row_broken world home (exprs_view z) w) eu in
+      let e3 : r3 ≡ rules.pairs_broken world home (pairs_view ps.items) w = h3 ∙ ap (λ z. rules.pairs_broken world home (pairs_view z) w) eq in
+      k2 ∙ ap (λ z. option_or z o1) e1 ∙ ap (option_or _) (k1 ∙ ap (λ z. option_or z r3) e2 ∙ ap (option_or _) e3)
+      ∙ ap (λ z. rules.called_broken world home z w) (sym (ap expr_view is ∙ shown_Call p ts ps))
+
+  -- a call by a name, and then the input and the arguments
+  applied : (f : Expr) (vs : List Expr) (rs : List Entry) (p : Box Expr Global) (ts : Vec Expr Global) (ps : Vec Entry Global) (r2 r3 r4 o1 o2 : Found)
+      → f ≡ p.value → vs ≡ ts.items → rs ≡ ps.items
+      → r2 ≡ rules.broken world home (expr_view f) w → r3 ≡ rules.row_broken world home (exprs_view vs) w → r4 ≡ rules.pairs_broken world home (pairs_view rs) w
+      → o1 ≡ option_or r3 r4 → o2 ≡ option_or r2 o1
+      → o2 ≡ option_or (rules.broken world home (expr_view p.value) w) (option_or (rules.row_broken world home (exprs_view ts.items) w) (rules.pairs_broken world home (pairs_view ps.items) w))
+  applied f vs rs p ts ps r2 r3 r4 o1 o2 ef ev er h2 h3 h4 k1 k2 =
+      let e2 : r2 ≡ rules.broken world home (expr_view p.value) w = h2 ∙ ap (λ z. rules.broken world home (expr_view z) w) ef in
+      let e3 : r3 ≡ rules.row_broken world home (exprs_view ts.items) w = h3 ∙ ap (λ z. rules.row_broken world home (exprs_view z) w) ev in
+      let e4 : r4 ≡ rules.pairs_broken world home (pairs_view ps.items) w = h4 ∙ ap (λ z. rules.pairs_broken world home (pairs_view z) w) er in
+      k2 ∙ ap (λ z. option_or z o1) e2 ∙ ap (option_or _) (k1 ∙ ap (λ z. option_or z r4) e3 ∙ ap (option_or _) e4)
+
+  pub found_filter : world.filters ≡ the_filters → (x f : Expr) (n : Text) (us vs : List Expr) (qs rs : List Entry) (p : Box Expr Global) (y : String Global) (ts : Vec Expr Global) (ps : Vec Entry Global) (r1 r2 r3 r4 o1 o2 o3 : Found)
+      → x ≡ e.Filter p y ts ps → n ≡ string_bytes y → us ≡ ts.items → qs ≡ ps.items → f ≡ p.value → vs ≡ ts.items → rs ≡ ps.items
+      → r1 ≡ rules.filter_broken the_filters (the_filters.named n) (count (exprs_view us)) (keywords (pairs_view qs))
+      → r2 ≡ rules.broken world home (expr_view f) w → r3 ≡ rules.row_broken world home (exprs_view vs) w → r4 ≡ rules.pairs_broken world home (pairs_view rs) w
+      → o1 ≡ option_or r3 r4 → o2 ≡ option_or r2 o1 → o3 ≡ option_or r1 o2 → o3 ≡ rules.broken world home (expr_view x) w
+  found_filter ours x f n us vs qs rs p y ts ps r1 r2 r3 r4 o1 o2 o3 is en eu eq ef ev er h1 h2 h3 h4 k1 k2 k3 =
+      let c = λ (fs : Filters) (m : Text) (ys : List Expr) (zs : List Entry). rules.filter_broken fs (fs.named m) (count (exprs_view ys)) (keywords (pairs_view zs)) in
+      let e1 : r1 ≡ c world.filters (string_bytes y) ts.items ps.items =
+      h1 ∙ ap (λ z. c the_filters z us qs) en ∙ ap (λ z. c the_filters (string_bytes y) z qs) eu ∙ ap (c the_filters (string_bytes y) ts.items) eq ∙ ap (λ z. c z (string_bytes y) ts.items ps.items) (sym ours) in
+      k3 ∙ ap (λ z. option_or z o2) e1 ∙ ap (option_or _) (applied f vs rs p ts ps r2 r3 r4 o1 o2 ef ev er h2 h3 h4 k1 k2)
+      ∙ ap (λ z. rules.broken world home z w) (sym (ap expr_view is ∙ shown_Filter p y ts ps))
+
+  pub found_test : (x f : Expr) (n : Text) (us vs : List Expr) (qs rs : List Entry) (p : Box Expr Global) (b : Bool) (y : String Global) (ts : Vec Expr Global) (ps : Vec Entry Global) (r1 r2 r3 r4 o1 o2 o3 : Found)
+      → x ≡ e.Test p b y ts ps → n ≡ string_bytes y → us ≡ ts.items → qs ≡ ps.items → f ≡ p.value → vs ≡ ts.items → rs ≡ ps.items
+      → r1 ≡ rules.test_broken (test_named n) (exprs_view us) (pairs_view qs)
+      → r2 ≡ rules.broken world home (expr_view f) w → r3 ≡ rules.row_broken world home (exprs_view vs) w → r4 ≡ rules.pairs_broken world home (pairs_view rs) w
+      → o1 ≡ option_or r3 r4 → o2 ≡ option_or r2 o1 → o3 ≡ option_or r1 o2 → o3 ≡ rules.broken world home (expr_view x) w
+  found_test x f n us vs qs rs p b y ts ps r1 r2 r3 r4 o1 o2 o3 is en eu eq ef ev er h1 h2 h3 h4 k1 k2 k3 =
+      let c = λ (m : Text) (ys : List Expr) (zs : List Entry). rules.test_broken (test_named m) (exprs_view ys) (pairs_view zs) in
+      let e1 : r1 ≡ c (string_bytes y) ts.items ps.items = h1 ∙ ap (λ z. c z us qs) en ∙ ap (λ z. c (string_bytes y) z qs) eu ∙ ap (c (string_bytes y) ts.items) eq in
+      k3 ∙ ap (λ z. option_or z o2) e1 ∙ ap (option_or _) (applied f vs rs p ts ps r2 r3 r4 o1 o2 ef ev er h2 h3 h4 k1 k2)
+      ∙ ap (λ z. rules.broken world home z w) (sym (ap expr_view is ∙ shown_Test p b y ts ps))
+
+  pub filter_called : (x f : Expr) (vs : List Expr) (rs : List Entry) (p : Box Expr Global) (y : String Global) (ts : Vec Expr Global) (ps : Vec Entry Global) (r2 r3 r4 o1 o2 : Found)
+      → x ≡ e.Filter p y ts ps → f ≡ p.value → vs ≡ ts.items → rs ≡ ps.items
+      → r2 ≡ rules.broken world home (expr_view f) w → r3 ≡ rules.row_broken world home (exprs_view vs) w → r4 ≡ rules.pairs_broken world home (pairs_view rs) w
+      → o1 ≡ option_or r3 r4 → o2 ≡ option_or r2 o1 → o2 ≡ rules.called_broken world home (expr_view x) w
+  filter_called x f vs rs p y ts ps r2 r3 r4 o1 o2 is ef ev er h2 h3 h4 k1 k2 =
+      applied f vs rs p ts ps r2 r3 r4 o1 o2 ef ev er h2 h3 h4 k1 k2 ∙ ap (λ z. rules.called_broken world home z w) (sym (ap expr_view is ∙ shown_Filter p y ts ps))
+
+  pub test_called : (x f : Expr) (vs : List Expr) (rs : List Entry) (p : Box Expr Global) (b : Bool) (y : String Global) (ts : Vec Expr Global) (ps : Vec Entry Global) (r2 r3 r4 o1 o2 : Found)
+      → x ≡ e.Test p b y ts ps → f ≡ p.value → vs ≡ ts.items → rs ≡ ps.items
+      → r2 ≡ rules.broken world home (expr_view f) w → r3 ≡ rules.row_broken world home (exprs_view vs) w → r4 ≡ rules.pairs_broken world home (pairs_view rs) w
+      → o1 ≡ option_or r3 r4 → o2 ≡ option_or r2 o1 → o2 ≡ rules.called_broken world home (expr_view x) w
+  test_called x f vs rs p b y ts ps r2 r3 r4 o1 o2 is ef ev er h2 h3 h4 k1 k2 =
+      applied f vs rs p ts ps r2 r3 r4 o1 o2 ef ev er h2 h3 h4 k1 k2 ∙ ap (λ z. rules.called_broken world home z w) (sym (ap expr_view is ∙ shown_Test p b y ts ps))
+
+  -- ---- a filter of a filter tag
+
+  abbrev filter_part : Filtering → Found
+  filter_part f = rules.filter_broken world.filters (world.filters.named (string_bytes f.name)) (count (exprs_view f.arguments.items)) (keywords (pairs_view f.keywords.items))
+
+  abbrev row_part : Filtering → Found
+  row_part f = rules.row_broken world home (exprs_view f.arguments.items) w
+
+  abbrev pairs_part : Filtering → Found
+  pairs_part f = rules.pairs_broken world home (pairs_view f.keywords.items) w
+
+  pub filtering_rule : world.filters ≡ the_filters → (f : Filtering) (n : Text) (us : List Expr) (qs : List Entry) (r : Found) → n ≡ string_bytes f.name → us ≡ f.arguments.items → qs ≡ f.keywords.items
+      → r ≡ rules.filter_broken the_filters (the_filters.named n) (count (exprs_view us)) (keywords (pairs_view qs)) → r ≡ filter_part f
+  filtering_rule ours f n us qs r en eu eq h =
+      let c = λ (fs : Filters) (m : Text) (ys : List Expr) (zs : List Entry). rules.filter_broken fs (fs.named m) (count (exprs_view ys)) (keywords (pairs_view zs)) in
+      h ∙ ap (λ z. c the_filters z us qs) en ∙ ap (λ z. c the_filters (string_bytes f.name) z qs) eu ∙ ap (c the_filters (string_bytes f.name) f.arguments.items) eq
+      ∙ ap (λ z. c z (string_bytes f.name) f.arguments.items f.keywords.items) (sym ours)
+
+  pub filtering_first : (f : Filtering) (r : Found) (e : ScopeError) → r ≡ filter_part f → r ≡ Some e → Some e ≡ rules.filtering_broken world home (filtering_view f ∷ []) w
+  filtering_first f r e h k = some_first (filter_part f) (option_or (row_part f) (option_or (pairs_part f) None)) e (sym h ∙ k)
+
+  pub filtering_second : (f : Filtering) (r q : Found) (e : ScopeError) → r ≡ filter_part f → r ≡ None → q ≡ row_part f → q ≡ Some e → Some e ≡ rules.filtering_broken world home (filtering_view f ∷ []) w
+  filtering_second f r q e h n k i =
+      some_first (row_part f) (option_or (pairs_part f) None) e (sym k ∙ i) ∙ none_first (filter_part f) (option_or (row_part f) (option_or (pairs_part f) None)) (sym h ∙ n)
+
+  pub filtering_third : (f : Filtering) (r q : Found) → r ≡ filter_part f → r ≡ None → q ≡ row_part f → q ≡ None → pairs_part f ≡ rules.filtering_broken world home (filtering_view f ∷ []) w
+  filtering_third f r q h n k m =
+      sym (or_none (pairs_part f)) ∙ none_first (row_part f) (option_or (pairs_part f) None) (sym k ∙ m) ∙ none_first (filter_part f) (option_or (row_part f) (option_or (pairs_part f) None)) (sym h ∙ n)
+
+  pub filterings_left : (fs : List Filtering) (i : ℕ) (f : Filtering) → i < length fs → f ≡ get_or fs i f
+      → rules.filtering_broken world home (filterings_view (drop i fs)) w ≡ option_or (rules.filtering_broken world home (filtering_view f ∷ []) w) (rules.filtering_broken world home (filterings_view (drop (i + 1) fs)) w)
+  filterings_left fs i f lt is =
+      ap (λ (z : List Filtering). rules.filtering_broken world home (filterings_view z) w) (drop_more fs i f lt)
+      ∙ ap (λ (z : Filtering). rules.filtering_broken world home (filtering_view z ∷ filterings_view (drop (i + 1) fs)) w) (sym is)
+      ∙ filterings_turn world home (filtering_view f) (filterings_view (drop (i + 1) fs)) w
+
+  -- ---- statements
+
+  abbrev in_branches : List Branch → Found
+  in_branches bs = rules.branches_broken world home (branches_view bs) w
+
+  abbrev in_body : List Stmt → Found
+  in_body ss = rules.body_broken world home (body_view ss) w
+
+  choice_is : (s : Stmt) (bs : Vec Branch Global) (other : Vec Stmt Global) (ls : List Branch) → s ≡ statement.If bs other → ls ≡ bs.items
+      → rules.stmt_broken world home (stmt_view s) w ≡ option_or (in_branches ls) (in_body other.items)
+  choice_is s bs other ls is el =
+      ap (λ z. rules.stmt_broken world home z w) (ap stmt_view is ∙ shown_If bs other) ∙ ap (λ (z : List Branch). option_or (in_branches z) (in_body other.items)) (sym el)
+
+  -- a branch breaks a rule
+  pub choice_found : (s : Stmt) (bs : Vec Branch Global) (other : Vec Stmt Global) (ls : List Branch) (i : ℕ) (b : Branch) (e : ScopeError) → s ≡ statement.If bs other → ls ≡ bs.items → i < length ls → b ≡ get_or ls i b
+      → in_branches (drop i ls) ≡ in_branches ls → option_or (rules.broken world home (expr_view b.1) w) (in_body b.2.items) ≡ Some e → Some e ≡ rules.stmt_broken world home (stmt_view s) w
+  choice_found s bs other ls i b e is el lt at before h =
+      let here : in_branches (drop i ls) ≡ Some e =
+      ap (λ z. rules.branches_broken world home z w) (branches_left ls i b lt at) ∙ ap (λ z. option_or z (in_branches (drop (i + 1) ls))) h in
+      some_first (in_branches ls) (in_body other.items) e (sym before ∙ here) ∙ sym (choice_is s bs other ls is el)
+
+  -- no branch does
+  pub choice_over : (s : Stmt) (bs : Vec Branch Global) (other : Vec Stmt Global) (ls : List Branch) (o : List Stmt) (i : ℕ) → s ≡ statement.If bs other → ls ≡ bs.items → o ≡ other.items → length ls ≤ i
+      → in_branches (drop i ls) ≡ in_branches ls → in_body o ≡ rules.stmt_broken world home (stmt_view s) w
+  choice_over s bs other ls o i is el eo le before =
+      ap (λ (z : List Stmt). in_body z) eo ∙ none_first (in_branches ls) (in_body other.items) (sym before ∙ at_drop_all (λ (z : List Branch). in_branches z) ls i le) ∙ sym (choice_is s bs other ls is el)
+
+  pub loop_found : (s : Stmt) (line : ℕ) (xs : Vec (String Global) Global) (e : Expr) (c : Option Expr) (body other : Vec Stmt Global) (ys : List (String Global)) (b o : List Stmt) (r1 r2 r3 o1 o2 : Found)
+      → s ≡ statement.For line xs e c body other → ys ≡ xs.items → b ≡ body.items → o ≡ other.items
+      → r1 ≡ option_or (rules.broken world home (expr_view e) w) (option_or (rules.all_used world home (names_view ys)) (rules.condition_broken world home (option_map expr_view c) w))
+      → r2 ≡ rules.body_broken world home (body_view b) (record w { in_loop = true }) → r3 ≡ in_body o → o1 ≡ option_or r2 r3 → o2 ≡ option_or r1 o1 → o2 ≡ rules.stmt_broken world home (stmt_view s) w
+  loop_found s line xs e c body other ys b o r1 r2 r3 o1 o2 is ex eb eo h1 h2 h3 k1 k2 =
+      let first = rules.broken world home (expr_view e) w in
+      let names = λ (z : List (String Global)). rules.all_used world home (names_view z) in
+      let when = rules.condition_broken world home (option_map expr_view c) w in
+      let turns = λ (z : List Stmt). rules.body_broken world home (body_view z) (record w { in_loop = true }) in
+      k2 ∙ ap (λ z. option_or z o1) (h1 ∙ ap (λ (z : List (String Global)). option_or first (option_or (names z) when)) ex)
+      ∙ ap (option_or (option_or first (option_or (names xs.items) when)))
+      (k1 ∙ ap (λ z. option_or z r3) (h2 ∙ ap turns eb) ∙ ap (option_or (turns body.items)) (h3 ∙ ap (λ (z : List Stmt). in_body z) eo))
+      ∙ or_three first (names xs.items) when (option_or (turns body.items) (in_body other.items))
+      ∙ sym (ap (λ z. rules.stmt_broken world home z w) (ap stmt_view is ∙ shown_For line xs e c body other))
+
+  pub with_found : (s : Stmt) (line : ℕ) (ps : Vec Entry Global) (body : Vec Stmt Global) (qs : List Entry) (b : List Stmt) (r1 r2 o1 : Found) → s ≡ statement.With line ps body → qs ≡ ps.items → b ≡ body.items
+      → r1 ≡ option_or (rules.pairs_broken world home (pairs_view qs) w) (rules.all_used world home (keywords (pairs_view qs))) → r2 ≡ in_body b → o1 ≡ option_or r1 r2 → o1 ≡ rules.stmt_broken world home (stmt_view s) w
+  with_found s line ps body qs b r1 r2 o1 is eq eb h1 h2 k1 =
+      let values = λ (z : List Entry). rules.pairs_broken world home (pairs_view z) w in
+      let names = λ (z : List Entry). rules.all_used world home (keywords (pairs_view z)) in
+      k1 ∙ ap (λ z. option_or z r2) (h1 ∙ ap (λ (z : List Entry). option_or (values z) (names z)) eq)
+      ∙ ap (option_or (option_or (values ps.items) (names ps.items))) (h2 ∙ ap (λ (z : List Stmt). in_body z) eb)
+      ∙ or_grouped (values ps.items) (names ps.items) (in_body body.items)
+      ∙ sym (ap (λ z. rules.stmt_broken world home z w) (ap stmt_view is ∙ shown_With line ps body))

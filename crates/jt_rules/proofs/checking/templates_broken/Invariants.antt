@@ -1,0 +1,11 @@
+use Rattle.std.proofs.Common.{◌≡◌, drop, map}
+use Rattle.jt_inherit.specs.Layers.{layer_view}
+use Rattle.jt_inherit.specs.View.{chain_view}
+use Rattle.jt_rules.specs.Rules as rules
+use Rattle.jt_rules.specs.ScopeView.{its_world, its_home}
+use Rattle.jt_rules.proofs.checking.templates_broken.Given as goal
+
+abbrev pub invariant-loop-layer : goal.invariant-loop-layer
+invariant-loop-layer l =
+    rules.templates_broken (its_world l.scope) (its_home l.scope) (map (layer_view (chain_view l.scope.chain.now).templates) (drop l.layer-index l.layer-items))
+    ≡ rules.templates_broken (its_world l.scope) (its_home l.scope) (map (layer_view (chain_view l.scope.chain.now).templates) l.layer-items)

@@ -1,0 +1,47 @@
+//! How often a template binds names, as often as written.
+
+ghost use Rattle.std.specs.Prelude.{◌≡◌, ◌^◌, ◌-◌, min};
+ghost use Rattle.jt_parse.specs.Trees.{stmt_bound, body_bound};
+ghost use Rattle.jt_parse.specs.View.{stmt_view, body_view};
+
+use jt_parse::Stmt;
+
+/// How often a statement binds names; the greatest number where it is more.
+#[cycle(bound)]
+fn bound_by(statement: &Stmt) -> usize
+    ensures { result ≡ min (stmt_bound (stmt_view statement.now)) (2 ^ 64 - 1) }
+{
+    match statement {
+        Stmt::If(branches, other) => {
+            let mut bound = bound_in(other);
+            for (_, _, inside) in branches {
+                bound = bound.saturating_add(bound_in(inside));
+            }
+            bound
+        }
+        Stmt::For(_, targets, _, _, inside, other) => {
+            let parts = bound_in(inside).saturating_add(bound_in(other));
+            targets.len().saturating_add(parts)
+        }
+        Stmt::Set(_, targets, _) => targets.len(),
+        Stmt::SetBlock(_, _, inside) => bound_in(inside).saturating_add(1),
+        Stmt::With(_, pairs, inside) => pairs.len().saturating_add(bound_in(inside)),
+        Stmt::FilterBlock(_, _, inside) => bound_in(inside),
+        Stmt::Autoescape(_, _, inside) => bound_in(inside),
+        Stmt::Macro(_, _, parameters, inside) => parameters.len().saturating_add(bound_in(inside)),
+        Stmt::Block(_, _, _, _, inside) => bound_in(inside),
+        Stmt::Data(_) | Stmt::Print(..) | Stmt::Include(..) | Stmt::Extends(..) => 0,
+    }
+}
+
+/// How often statements bind names; the greatest number where it is more.
+#[cycle(bound)]
+pub(crate) fn bound_in(body: &[Stmt]) -> usize
+    ensures { result ≡ min (body_bound (body_view body.now)) (2 ^ 64 - 1) }
+{
+    let mut bound = 0usize;
+    for statement in body {
+        bound = bound.saturating_add(bound_by(statement));
+    }
+    bound
+}

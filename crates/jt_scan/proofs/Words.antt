@@ -1,0 +1,33 @@
+-- Texts and their characters.
+use Rattle.std.proofs.Common.{◌≡◌, ℕ, zero, suc, ◌<◌, Bool, true, false, ◌&&◌, List, [], ◌∷◌, slice_index, refl, sym, ap, ◌∙◌, arith, chars, bytes_eq, encode_utf8_all, IsUtf8, IsAscii}
+use Rattle.std.specs.Bool.{one_answer}
+use lib.Utf8.{scalars}
+use Rattle.std.specs.Str.{is_utf8}
+use Rattle.std.proofs.lemmas.Bool.Decides.{nat_tests}
+use Rattle.std.proofs.lemmas.Slice.Eq.{bytes_eq-Decides}
+use Rattle.std.proofs.lemmas.Str.{chars-IsAscii, is_utf8-from_IsUtf8, IsUtf8-from_ascii}
+use Rattle.jt_scan.specs.Words.{is_plain}
+
+both : (a b : Bool) → (a && b) ≡ true → (a ≡ true) × (b ≡ true)
+both true b e = (refl, e)
+both false b e = absurd (cc)
+
+-- the characters of a text spell its bytes
+pub spelled_again : (t : List ℕ) → IsUtf8 t → encode_utf8_all (chars t) ≡ t
+unfolding is_utf8
+spelled_again t u =
+    (bytes_eq-Decides (encode_utf8_all (chars t)) t).0 (both (scalars (chars t)) (bytes_eq (encode_utf8_all (chars t)) t) (is_utf8-from_IsUtf8 t u)).1
+
+plain_ascii : (w : List ℕ) → is_plain w ≡ true → (i : ℕ) → slice_index w i < 128
+plain_ascii [] e i = omega arith
+plain_ascii (c ∷ cs) e zero = let b = (both _ (is_plain cs) e).0 in grind (arith, nat_tests)
+plain_ascii (c ∷ cs) e (suc i) = plain_ascii cs (both _ (is_plain cs) e).1 i
+
+-- a text is a plain word where its characters are
+pub same_text : (t w : List ℕ) → IsUtf8 t → is_plain w ≡ true → bytes_eq t w ≡ bytes_eq (chars t) w
+same_text t w u p =
+    let a : IsAscii w = plain_ascii w p in
+    one_answer (bytes_eq t w) (bytes_eq (chars t) w) (bytes_eq-Decides t w) (
+      λ h. sym (spelled_again t u) ∙ ap encode_utf8_all ((bytes_eq-Decides (chars t) w).0 h) ∙ ap encode_utf8_all (sym (chars-IsAscii w a)) ∙ spelled_again w (IsUtf8-from_ascii w a),
+      λ h. (bytes_eq-Decides (chars t) w).1 (ap chars h ∙ chars-IsAscii w a),
+    )

@@ -1,0 +1,91 @@
+//! Marks of tags, and the closers that have them.
+
+ghost use Rattle.std.specs.Prelude.{◌≡◌, false, true, Some, None, MatchOption};
+ghost use Rattle.std.specs.Str.{chars};
+ghost use Rattle.jt_scan.specs.Cut as cut;
+
+use crate::segment::{Kind, Mark, Marks};
+use crate::text::{behind_pair, first};
+
+/// The mark that a character is.
+fn mark_of(c: char) -> Mark
+    ensures { result ≡ cut.mark_of c }
+{
+    match c {
+        '-' => Mark::Minus,
+        '+' => Mark::Plus,
+        _ => Mark::Absent,
+    }
+}
+
+/// The mark in front, and what is behind it.
+pub fn read_mark(text: &str) -> (Mark, &str)
+    ensures mark { result.0 ≡ cut.first_mark (chars text.now) }
+    ensures rest { chars result.1.now ≡ cut.behind_mark (chars text.now) }
+{
+    let Some((c, more)) = first(text) else {
+        return (Mark::Absent, text);
+    };
+    match mark_of(c) {
+        Mark::Absent => (Mark::Absent, text),
+        mark => (mark, more),
+    }
+}
+
+#[tactic(auto, unfolding(crate::specs::Cut::last_from))]
+/// The mark that ends a text.
+fn last_mark(text: &str) -> Mark
+    ensures { result ≡ cut.last_mark (chars text.now) }
+{
+    let mut rest = text;
+    let mut mark = Mark::Absent;
+    'text: while let Some((c, more)) = first(rest) {
+        mark = mark_of(c);
+        rest = more;
+    }
+    mark
+}
+
+/// The marks of a comment between whose delimiters the text stands.
+pub fn comment_marks(text: &str) -> Marks
+    ensures { result ≡ cut.comment_marks (chars text.now) }
+{
+    let (opening, rest) = read_mark(text);
+    Marks {
+        opening,
+        closing: last_mark(rest),
+    }
+}
+
+/// The first character of the tag's closer, which ends with `}`.
+fn closer(kind: Kind) -> char
+    ensures { result ≡ cut.closer kind }
+{
+    match kind {
+        Kind::Variable => '}',
+        Kind::Block => '%',
+    }
+}
+
+/// Whether the mark may stand before the tag's closer.
+fn may_close(kind: Kind, mark: Mark) -> bool
+    ensures { result ≡ cut.may_close kind mark }
+{
+    !(kind == Kind::Variable && mark == Mark::Plus)
+}
+
+/// The mark of the closer in front, and what is behind it.
+pub fn read_closer(text: &str, kind: Kind) -> Option<(Mark, &str)>
+    ensures { MatchOption result (cut.closer_at kind (chars text.now) ≡ None)
+        (λ p. cut.closer_at kind (chars text.now) ≡ Some (p.0, chars p.1.now)) }
+{
+    if let Some(rest) = behind_pair(text, closer(kind), '}') {
+        return Some((Mark::Absent, rest));
+    }
+    let (mark, behind) = read_mark(text);
+    if mark == Mark::Absent || !may_close(kind, mark) {
+        return None;
+    }
+    let rest = behind_pair(behind, closer(kind), '}')?;
+    Some((mark, rest))
+}

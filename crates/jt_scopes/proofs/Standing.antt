@@ -1,0 +1,80 @@
+-- Blocks where their tags stand, and included chains.
+use Rattle.std.proofs.Common.{◌≡◌, ℕ, suc, ◌+◌, List, [], ◌∷◌, ◌++◌, length, map, flat_map, refl, sym, ap, ◌∙◌, subst, Bool, true, false, Option, Some, None, length-append, append_assoc, arith}
+use Rattle.std.specs.Prelude.{if◌then◌else◌, option_map, ◌||◌}
+use Rattle.std.specs.Option.{is_none}
+use Rattle.std.specs.Str.{bytes_eq}
+use Rattle.jt_value.specs.Tree.{Tree}
+use Rattle.jt_parse.specs.Texts.{among, ascending}
+use Rattle.jt_inherit.specs.Includes.{included}
+use Rattle.jt_inherit.specs.Uses.{own_names}
+use Rattle.jt_parse.specs.Trees as trees
+use Rattle.jt_parse.specs.Trees.{Text, Body}
+use Rattle.jt_inherit.specs.Chain.{Home, macros, BlockBody, MacroBody}
+use Rattle.jt_rules.specs.World.{World}
+use Rattle.jt_slots.specs.Pool.{Constant}
+use Rattle.jt_slots.specs.Slots as slots
+use Rattle.jt_slots.specs.Slots.{SBody}
+use Rattle.jt_meaning.specs.Layout.{Key, of_chain, of_macro, of_body, same_key, place_of, chain_keys, numbered_bodies, names, names_in, first_slot, unit, keys, block_parameters, Table}
+use Rattle.jt_meaning.specs.Resolve.{Spot, followed, alone, handed_on, reads, placed_body}
+use Rattle.jt_layout.specs.declared.scope.Scope.{Scope}
+use Rattle.jt_names.specs.Scoped.{RowLeads, world_in, order_in, spot_in}
+use Rattle.jt_names.specs.declared.spot.Spot as code_spot
+use Rattle.jt_scopes.specs.Stated.{line_in, stmt_in}
+use Rattle.jt_scopes.proofs.Fronts.{Entry}
+
+pub no_row : (es : List Entry) → es ≡ [] → (p : List Tree) → RowLeads slots.none slots.none [] es p p
+no_row es e p = let P : List Entry → Type 0 = λ l. RowLeads slots.none slots.none [] l p p in subst P (sym e) (record { shown = refl; pooled = refl })
+
+-- ---- chains that are not in the order
+
+neither : (a b : Bool) → (a || b) ≡ false → (a ≡ false) × (b ≡ false)
+neither true b e = absurd (cc e)
+neither false b e = (refl, e)
+
+if_false : {A : Type 0} (b : Bool) (x y : A) → b ≡ false → (if b then x else y) ≡ y
+if_false true x y e = absurd (cc e)
+if_false false x y e = refl
+
+pub absent_names : (world : World) (ks : List Home) (x : Text) → among x ks ≡ false → names_in world ks x ≡ []
+absent_names world [] x e = refl
+absent_names world (k ∷ ks) x e =
+    let both : (bytes_eq k x ≡ false) × (among x ks ≡ false) = neither (bytes_eq k x) (among x ks) e in
+    if_false (bytes_eq k x) (ascending (own_names world.sources x ++ flat_map (names_in world ks) (included world.sources x))) (names_in world ks x) both.0 ∙ absent_names world ks x both.1
+
+-- keys that are none of these
+mapped_past : {A : Type 0} (f : A → Key) (k : Key) → ((a : A) → same_key (f a) k ≡ false) → (xs : List A) (ys : List Key) → place_of k (map f xs ++ ys) ≡ length (map f xs) + place_of k ys
+mapped_past f k h [] ys = omega arith
+mapped_past f k h (x ∷ xs) ys =
+    let later : place_of k (map f xs ++ ys) ≡ length (map f xs) + place_of k ys = mapped_past f k h xs ys in
+    ap (λ b. if b then 0 else suc (place_of k (map f xs ++ ys))) (h x) ∙ omega arith
+
+pub absent_unit : (world : World) (ks : List Home) (x : Text) → among x ks ≡ false → place_of (of_chain x) (flat_map (chain_keys world) ks) ≡ length (flat_map (chain_keys world) ks)
+absent_unit world [] x e = refl
+absent_unit world (k ∷ ks) x e =
+    let both : (bytes_eq k x ≡ false) × (among x ks ≡ false) = neither (bytes_eq k x) (among x ks) e in
+    let ms : List Key = map (λ (m : MacroBody). of_macro k m.name) (macros world.sources k) in
+    let bs : List Key = map (λ (b : ℕ × BlockBody). of_body k b.0) (numbered_bodies world k) in
+    let rest : List Key = flat_map (chain_keys world) ks in
+    let last : place_of (of_chain x) rest ≡ length rest = absent_unit world ks x both.1 in
+    let past : place_of (of_chain x) (ms ++ (bs ++ rest)) ≡ length ms + place_of (of_chain x) (bs ++ rest) = mapped_past (λ (m : MacroBody). of_macro k m.name) (of_chain x) (λ m. refl) (macros world.sources k) (bs ++ rest) in
+    let behind : place_of (of_chain x) (bs ++ rest) ≡ length bs + place_of (of_chain x) rest = mapped_past (λ (b : ℕ × BlockBody). of_body k b.0) (of_chain x) (λ b. refl) (numbered_bodies world k) rest in
+    let long : length ((ms ++ bs) ++ rest) ≡ length ms + (length bs + length rest) = ap length (append_assoc ms bs rest) ∙ length-append ms (bs ++ rest) ∙ ap (λ n. length ms + n) (length-append bs rest) in
+    let found : place_of (of_chain x) ((ms ++ bs) ++ rest) ≡ length ((ms ++ bs) ++ rest) =
+    ap (place_of (of_chain x)) (append_assoc ms bs rest) ∙ past ∙ ap (λ n. length ms + n) (behind ∙ ap (λ n. length bs + n) last) ∙ sym long in
+    if_false (bytes_eq k x) 0 (suc (place_of (of_chain x) ((ms ++ bs) ++ rest))) both.0 ∙ ap suc found
+
+-- ---- statements
+
+pub include_shown : (s : Scope) (spot : code_spot.Spot) (line : ℕ) (x : Text) (missing context : Bool) (n : ℕ) (xs : List Text) (u : ℕ) → is_none ((world_in s).sources x) ≡ false
+    → n ≡ first_slot (world_in s) (order_in s) x → xs ≡ names (world_in s) (order_in s) x → u ≡ unit (world_in s) (order_in s) (of_chain x)
+    → followed (handed_on (line_in s spot line) (if context then (spot_in s spot).table else []) n xs) (alone (slots.run u slots.none)) ≡ stmt_in s (trees.include line x missing context) spot
+include_shown s spot line x missing context n xs u there e f g =
+    let table : Table = if context then (spot_in s spot).table else [] in
+    let part = λ (m : ℕ) (ys : List Text) (w : ℕ). followed (handed_on (line_in s spot line) table m ys) (alone (slots.run w slots.none)) in
+    ap (λ m. part m xs u) e ∙ ap (λ ys. part (first_slot (world_in s) (order_in s) x) ys u) f ∙ ap (λ w. part (first_slot (world_in s) (order_in s) x) (names (world_in s) (order_in s) x) w) g
+    ∙ sym (if_false (is_none ((world_in s).sources x)) slots.end (part (first_slot (world_in s) (order_in s) x) (names (world_in s) (order_in s) x) (unit (world_in s) (order_in s) (of_chain x))) there)
+
+pub block_run : (world : World) (order : List Home) (sp : Spot) (found : Option ℕ) (x : Text) (table : Table) (u : ℕ) → Some u ≡ option_map (λ j. unit world order (of_body sp.home j)) found
+    → alone (slots.run u (reads table (block_parameters world order sp.home x))) ≡ placed_body world order sp found x table
+block_run world order sp None x table u e = absurd (cc e)
+block_run world order sp (Some i) x table u e = let same : u ≡ unit world order (of_body sp.home i) = cc e in ap (λ n. alone (slots.run n (reads table (block_parameters world order sp.home x)))) same

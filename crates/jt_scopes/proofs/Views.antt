@@ -1,0 +1,59 @@
+-- Resolved expressions, form by form.
+use Rattle.std.proofs.Common.{◌≡◌, ℕ, List, [], ◌∷◌, ◌++◌, map, refl, sym, ap, ◌∙◌, Bool, Vec, Box, String, Global, string_bytes, Option, Some, None}
+use Rattle.jt_parse.specs.Trees.{Text}
+use Rattle.jt_slots.specs.Slots as slots
+use Rattle.jt_slots.specs.Slots.{SRow, SBody}
+use Rattle.jt_slots.specs.View.{slot_view, field_view, maker_view, entry_front, row_front, expr_step, expr_view, row_view}
+use Rattle.jt_slots.specs.declared.program.Slot.{Slot}
+use Rattle.jt_slots.specs.declared.program.Field.{Field}
+use Rattle.jt_slots.specs.declared.program.Maker.{Maker}
+use Rattle.jt_slots.specs.declared.program.SExpr.{SExpr, fold-roll-SExpr}
+use Rattle.jt_slots.specs.declared.program.SExpr.TheOpen.{SExpr-F}
+use Rattle.jt_slots.specs.declared.program.SExpr.TheVariants as e
+use Rattle.jt_slots.specs.declared.program.SExpr.TheVariants.{rolls-Pooled, rolls-Variable, rolls-Field, rolls-Made, rolls-Conjunction, rolls-Disjunction, rolls-Choice, rolls-Invoke}
+
+abbrev pub Entry : Type 0
+Entry = Option ℕ × SExpr
+
+abbrev Shown : Type 0
+Shown = Option ℕ × slots.SExpr ℕ
+
+-- a view of each entry that keeps the local, and shows the expression
+row_map : (g : Entry → Shown) → ((b : Entry) → (g b).0 ≡ b.0) → ((b : Entry) → (g b).1 ≡ expr_view b.1) → (es : List Entry) (behind : SRow ℕ) → row_front (map g es) behind ≡ row_view es behind
+row_map g k v [] behind = refl
+row_map g k v (b ∷ bs) behind =
+    ap (λ (z : SRow ℕ). entry_front (g b).0 (g b).1 z) (row_map g k v bs behind)
+    ∙ ap (λ (i : Option ℕ). entry_front i (g b).1 (row_view bs behind)) (k b)
+    ∙ ap (λ (x : slots.SExpr ℕ). entry_front b.0 x (row_view bs behind)) (v b)
+
+pub view-Pooled : (i : ℕ) → expr_view (e.Pooled i) ≡ slots.pooled i
+view-Pooled i = ap expr_view (sym (rolls-Pooled i)) ∙ fold-roll-SExpr (slots.SExpr ℕ) expr_step (SExpr-F.Pooled i)
+
+pub view-Variable : (s : Slot) → expr_view (e.Variable s) ≡ slots.variable (slot_view s)
+view-Variable s = ap expr_view (sym (rolls-Variable s)) ∙ fold-roll-SExpr (slots.SExpr ℕ) expr_step (SExpr-F.Variable s)
+
+pub view-Field : (f : Field) → expr_view (e.Field f) ≡ slots.field (field_view f)
+view-Field f = ap expr_view (sym (rolls-Field f)) ∙ fold-roll-SExpr (slots.SExpr ℕ) expr_step (SExpr-F.Field f)
+
+pub view-Made : (k : Maker) (es : Vec Entry Global) → expr_view (e.Made k es) ≡ slots.made (maker_view k) (row_view es.items slots.none)
+view-Made k es =
+    ap expr_view (sym (rolls-Made k es)) ∙ fold-roll-SExpr (slots.SExpr ℕ) expr_step (SExpr-F.Made k es)
+    ∙ ap (slots.made (maker_view k)) (row_map _ (λ b. refl) (λ b. refl) es.items slots.none)
+
+pub view-Conjunction : (a b : Box SExpr Global) → expr_view (e.Conjunction a b) ≡ slots.conjunction (expr_view a.value) (expr_view b.value)
+view-Conjunction a b = ap expr_view (sym (rolls-Conjunction a b)) ∙ fold-roll-SExpr (slots.SExpr ℕ) expr_step (SExpr-F.Conjunction a b)
+
+pub view-Disjunction : (a b : Box SExpr Global) → expr_view (e.Disjunction a b) ≡ slots.disjunction (expr_view a.value) (expr_view b.value)
+view-Disjunction a b = ap expr_view (sym (rolls-Disjunction a b)) ∙ fold-roll-SExpr (slots.SExpr ℕ) expr_step (SExpr-F.Disjunction a b)
+
+pub view-Choice : (c a b : Box SExpr Global) → expr_view (e.Choice c a b) ≡ slots.choice (expr_view c.value) (expr_view a.value) (expr_view b.value)
+view-Choice c a b = ap expr_view (sym (rolls-Choice c a b)) ∙ fold-roll-SExpr (slots.SExpr ℕ) expr_step (SExpr-F.Choice c a b)
+
+pub view-Invoke : (u : ℕ) (escaping : Bool) (es : Vec Entry Global) → expr_view (e.Invoke u escaping es) ≡ slots.invoke u escaping (row_view es.items slots.none)
+view-Invoke u escaping es =
+    ap expr_view (sym (rolls-Invoke u escaping es)) ∙ fold-roll-SExpr (slots.SExpr ℕ) expr_step (SExpr-F.Invoke u escaping es)
+    ∙ ap (slots.invoke u escaping) (row_map _ (λ b. refl) (λ b. refl) es.items slots.none)
+
+pub row_push : (es : List Entry) (b : Entry) (behind : SRow ℕ) → row_view (es ++ b ∷ []) behind ≡ row_view es (entry_front b.0 (expr_view b.1) behind)
+row_push [] b behind = refl
+row_push (d ∷ es) b behind = ap (λ (z : SRow ℕ). entry_front d.0 (expr_view d.1) z) (row_push es b behind)

@@ -1,0 +1,9 @@
+use Rattle.std.proofs.Common.{◌≡◌, ◌++◌, map, drop}
+use Rattle.jt_expr.specs.View.{pairs_view}
+use Rattle.jt_inherit.specs.Uses.{keywords}
+use Rattle.jt_uses.specs.Names.{texts}
+use Rattle.jt_scopes.proofs.entering.keywords_of.Given as goal
+
+-- what was found, and what is left
+abbrev pub invariant-loop-key : goal.invariant-loop-key
+invariant-loop-key l = texts l.found.items ++ keywords (pairs_view (drop l.key-index l.pairs)) ≡ keywords (pairs_view l.pairs)

@@ -1,5 +1,0 @@
-use Rattle.jt_scopes.proofs.TestNames.{test_found}
-use Rattle.jt_scopes.proofs.forms.test_of.Goals as goal
-
-pub returns : goal.returns
-returns c = test_found c.args.name.now c.by_name.result c.by_name.ensures.found c.by_name.ensures.only

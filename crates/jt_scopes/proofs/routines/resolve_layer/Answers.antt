@@ -1,0 +1,25 @@
+use Rattle.std.proofs.Common.{◌≡◌, Bool, sym, ap, ◌∙◌}
+use Rattle.std.specs.Prelude.{if◌then◌else◌}
+use Rattle.std.proofs.lemmas.Result.{IfOk-weaker}
+use Rattle.jt_parse.specs.View.{body_view}
+use Rattle.jt_inherit.specs.Layers.{layer_view}
+use Rattle.jt_inherit.specs.View.{chain_view}
+use Rattle.jt_meaning.specs.Resolve.{Spot, resolved_body, resolved_sets}
+use Rattle.jt_names.specs.Scoped.{world_in, order_in, templates_in}
+use Rattle.jt_scopes.specs.Stated.{layer_in}
+use Rattle.jt_scopes.proofs.Leading.{led_of}
+use Rattle.jt_scopes.proofs.routines.resolve_layer.Goals as goal
+
+pub returns-then-is_root-clause-led : goal.returns-then-is_root-clause-led
+returns-then-is_root-clause-led c =
+    let scope = c.args.scope.now in
+    let layer = layer_view (chain_view scope.chain.now).templates c.args.layer.now in
+    IfOk-weaker c.resolve_body.result _ _ (λ u h. led_of (templates_in scope) _ _ _ _ _ _
+    (ap (λ (z : Spot). resolved_body (world_in scope) (order_in scope) (body_view c.args.layer.now.body.now) z) c.top_spot-spot.ensures ∙ ap (layer_in scope layer) (sym c.if-is_root.true)) h) c.resolve_body.ensures.led
+
+pub returns-clause-led : goal.returns-clause-led
+returns-clause-led c =
+    let scope = c.args.scope.now in
+    let layer = layer_view (chain_view scope.chain.now).templates c.args.layer.now in
+    IfOk-weaker c.resolve_sets.result _ _ (λ u h. led_of (templates_in scope) _ _ _ _ _ _
+    (ap (λ (z : Spot). resolved_sets (world_in scope) (order_in scope) (body_view c.args.layer.now.body.now) z) c.top_spot-spot.ensures ∙ ap (layer_in scope layer) (sym c.if-is_root.false)) h) c.resolve_sets.ensures.led

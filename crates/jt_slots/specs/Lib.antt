@@ -1,0 +1,12 @@
+pub mod Filters
+pub mod Got
+pub mod Locals
+pub mod Loops
+pub mod Pool
+pub mod Size
+pub mod Slots
+pub mod Takes
+pub mod Tests
+pub mod Values
+pub mod View
+pub mod TheFilters

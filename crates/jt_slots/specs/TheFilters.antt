@@ -1,0 +1,47 @@
+-- The filters of the language, as templates name them.
+use Rattle.std.specs.Prelude.{false, pos, List, [], ◌∷◌, Option, Some, None, option_map}
+use Rattle.std.specs.List.{find, list_any}
+use Rattle.std.specs.Str.{bytes_eq}
+use Rattle.jt_filters.specs.declared.filter_id.FilterId.{FilterId}
+use Rattle.jt_filters.specs.declared.filter_id.FilterId.TheVariants as filter
+use Rattle.jt_filters.specs.FilterTable.{filters, filter_id, filter_names, argument_names}
+unfoldable pub use Rattle.jt_filters.specs.FilterIds.{filter_of}
+use Rattle.jt_filters.specs.FilterIds.{accepts, filtered_by}
+use Rattle.jt_expr.specs.Trees as trees
+use Rattle.jt_expr.specs.Trees.{Literal}
+use Rattle.jt_parse.specs.Trees.{Text, Parameter}
+use Rattle.jt_slots.specs.Filters.{Filters}
+
+-- the filter of a name, if one has it
+unfoldable pub filter_named : Text → Option FilterId
+filter_named x = find (λ f. list_any (bytes_eq x) (filter_names f)) filters
+
+-- what each argument is where it is not given
+abbrev pub defaults : FilterId → List (Option Literal)
+defaults filter.Default = Some (trees.text []) ∷ Some (trees.truth false) ∷ []
+defaults filter.Int = Some (trees.number (pos 0)) ∷ []
+defaults filter.Join = Some (trees.text []) ∷ []
+defaults filter.Sort = Some (trees.truth false) ∷ []
+defaults f = None ∷ None ∷ None ∷ []
+
+abbrev pub with_defaults : List Text → List (Option Literal) → List Parameter
+with_defaults [] ds = []
+with_defaults (x ∷ xs) [] = []
+with_defaults (x ∷ xs) (d ∷ ds) = record { name = x; default = d } ∷ with_defaults xs ds
+
+-- the arguments behind the input, in the order of their places
+abbrev pub filter_parameters : FilterId → List Parameter
+filter_parameters f = with_defaults (argument_names f) (defaults f)
+
+abbrev pub parameters_of : Option FilterId → List Parameter
+parameters_of None = []
+parameters_of (Some f) = filter_parameters f
+
+-- filters go by their ids
+unfoldable pub the_filters : Filters
+the_filters = record {
+  named = λ x. option_map filter_id (filter_named x);
+  parameters = λ n. parameters_of (filter_of n);
+  takes = λ n. accepts (filter_of n);
+  operation = λ n. filtered_by (filter_of n);
+}

@@ -1,0 +1,133 @@
+//! Resolved templates: each name is a slot of the locals or of the globals, each literal and each piece of data a place in a pool of
+//! values, each macro, block and chain a routine.
+
+use jt_filters::FilterId;
+use jt_ops::{OpId, TestId};
+use jt_value::Value;
+
+/// Where a tag stands: the place of its template among those of the program, and its line.
+#[derive(Clone, Copy, Debug, PartialEq, Eq)]
+pub struct Place {
+    pub template: usize,
+    pub line: u32,
+}
+
+/// Where a name's value is kept.
+#[derive(Clone, Copy, Debug, PartialEq, Eq)]
+pub enum Slot {
+    /// A local of the routine.
+    Local(usize),
+    /// A global of the program.
+    Global(usize),
+}
+
+/// What `loop` tells of the innermost loop.
+#[derive(Clone, Copy, Debug, PartialEq, Eq)]
+pub enum Field {
+    /// The turn, from 1.
+    Index,
+    /// The turn, from 0.
+    Index0,
+    /// The turns from this one on.
+    RevIndex,
+    /// The turns behind this one.
+    RevIndex0,
+    /// Whether it is the first turn.
+    First,
+    /// Whether it is the last turn.
+    Last,
+    /// How many turns there are.
+    Length,
+    /// The item of the turn before.
+    Previous,
+    /// The item of the next turn.
+    Next,
+}
+
+/// What is made of a row of values.
+#[derive(Clone, Copy, Debug, PartialEq, Eq)]
+pub enum Maker {
+    /// What an operation gives.
+    Operator(OpId),
+    /// Whether a test holds.
+    Test(TestId),
+    /// What a filter gives, and whether escaping is on.
+    Filter(FilterId, bool),
+    /// The list of the values.
+    List,
+    /// The map of keys and values in turn.
+    Map,
+}
+
+/// An expression. A row of arguments goes from left to right; what has a number isn't an argument,
+/// but kept aside in that local.
+#[derive(Drop)]
+pub enum SExpr {
+    /// The value at a place of the pool.
+    Pooled(usize),
+    /// The value of a slot.
+    Variable(Slot),
+    /// What the innermost loop tells.
+    Field(Field),
+    /// What is made of the values of a row.
+    Made(Maker, Vec<(Option<usize>, SExpr)>),
+    /// The first if it is false, else the second.
+    Conjunction(Box<SExpr>, Box<SExpr>),
+    /// The first if it is true, else the second.
+    Disjunction(Box<SExpr>, Box<SExpr>),
+    /// The second if the first is true, else the third.
+    Choice(Box<SExpr>, Box<SExpr>, Box<SExpr>),
+    /// The text of a routine on a row of arguments: markup with true, else a plain text.
+    Invoke(usize, bool, Vec<(Option<usize>, SExpr)>),
+}
+
+/// What takes a value.
+#[derive(Debug, Drop)]
+pub enum Targets {
+    /// A slot.
+    One(Slot),
+    /// Slots that take its items, each one or none.
+    Several(Vec<Option<Slot>>),
+}
+
+/// A statement.
+#[derive(Drop)]
+pub enum SStmt {
+    /// The plain text at a place of the pool, as it is.
+    PutPooled(usize),
+    /// What an expression prints, and whether it is escaped.
+    Print(Place, bool, SExpr),
+    /// A value into what takes it.
+    Assign(Place, Targets, SExpr),
+    /// The branches, each with the place of its tag, its condition and statements, and the else part.
+    If(Vec<(Place, SExpr, Vec<SStmt>)>, Vec<SStmt>),
+    /// What takes the items, what is gone over, the condition, the statements of a turn, and the
+    /// else part.
+    For(Place, Targets, SExpr, Option<SExpr>, Vec<SStmt>, Vec<SStmt>),
+    /// The text of statements into a slot: markup with true, else a plain text.
+    Capture(bool, Slot, Vec<SStmt>),
+    /// What a routine prints on a row of arguments.
+    Run(usize, Vec<(Option<usize>, SExpr)>),
+}
+
+/// A unit of code to be: its parameters, its locals, the parameters among them, and its statements.
+#[derive(Drop)]
+pub struct Routine {
+    pub parameters: usize,
+    pub locals: usize,
+    pub body: Vec<SStmt>,
+}
+
+/// A resolved chain. Routine 0 is the entry's.
+#[derive(Drop)]
+pub struct Program {
+    /// The names of the templates that places speak of.
+    pub templates: Vec<String>,
+    /// The names of the first globals, by their slots.
+    pub names: Vec<String>,
+    /// How many globals there are.
+    pub globals: usize,
+    /// The values of constants: no lists and no maps.
+    pub pool: Vec<Value>,
+    pub routines: Vec<Routine>,
+}

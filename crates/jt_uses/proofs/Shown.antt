@@ -1,0 +1,86 @@
+-- Expressions as they are written, by their forms, and what a caller of a function counts in them.
+use Rattle.std.proofs.Common.{◌≡◌, ℕ, suc, ◌+◌, ◌<◌, Bool, false, List, [], ◌∷◌, length, drop, get_or, refl, sym, ap, ◌∙◌, arith, nat_eq, Option, Some, None, Result, Ok, Err, IfOk, Vec, Box, String, Global, string_bytes}
+use Rattle.std.proofs.Common.{rules}
+use Rattle.std.specs.Prelude.{option_map}
+use Rattle.jt_expr.specs.Trees as trees
+use Rattle.jt_parse.specs.Trees as written
+use Rattle.jt_parse.specs.View.{stmt_view, body_view, names_view, filterings_view, parameters_view}
+use Rattle.jt_parse.specs.declared.tree.Stmt.{Stmt, the_lemmas}
+use Rattle.jt_parse.specs.declared.tree.Stmt.TheVariants as statement
+use Rattle.jt_parse.specs.declared.tree.Filtering.{Filtering}
+use Rattle.jt_parse.specs.declared.tree.Parameter.{Parameter}
+use Rattle.jt_expr.specs.declared.tree.BinaryOperator.{BinaryOperator}
+use Rattle.jt_expr.specs.View.{expr_view, exprs_view, pairs_view}
+use Rattle.jt_expr.specs.declared.tree.Expr.{Expr}
+use Rattle.jt_expr.specs.declared.tree.Expr.TheVariants as e
+use Rattle.jt_uses.proofs.Views.{view-Attribute, view-Item, view-Map, view-Call, view-Filter, view-Test, view-Binary, view-When, view-Choice}
+
+pub shown_Map : (ps : Vec (String Global × Expr) Global) → expr_view (e.Map ps) ≡ trees.map_of (pairs_view ps.items)
+shown_Map ps = view-Map ps
+
+pub shown_Call : (a : Box Expr Global) (ts : Vec Expr Global) (ps : Vec (String Global × Expr) Global) → expr_view (e.Call a ts ps) ≡ trees.call (expr_view a.value) (exprs_view ts.items) (pairs_view ps.items)
+shown_Call a ts ps = view-Call a ts ps
+
+pub shown_Filter : (a : Box Expr Global) (x : String Global) (ts : Vec Expr Global) (ps : Vec (String Global × Expr) Global) → expr_view (e.Filter a x ts ps) ≡ trees.filter (expr_view a.value) (string_bytes x) (exprs_view ts.items) (pairs_view ps.items)
+shown_Filter a x ts ps = view-Filter a x ts ps
+
+pub shown_Test : (a : Box Expr Global) (n : Bool) (x : String Global) (ts : Vec Expr Global) (ps : Vec (String Global × Expr) Global) → expr_view (e.Test a n x ts ps) ≡ trees.test (expr_view a.value) n (string_bytes x) (exprs_view ts.items) (pairs_view ps.items)
+shown_Test a n x ts ps = view-Test a n x ts ps
+
+-- ---- by what stands behind the references
+
+pub shown_item : (x a b : Expr) (p q : Box Expr Global) → x ≡ e.Item p q → a ≡ p.value → b ≡ q.value → trees.item (expr_view a) (expr_view b) ≡ expr_view x
+shown_item x a b p q is f g = ap (λ z. trees.item (expr_view z) (expr_view b)) f ∙ ap (λ z. trees.item (expr_view p.value) (expr_view z)) g ∙ sym (ap expr_view is ∙ view-Item p q)
+
+pub shown_binary : (x a b : Expr) (o : BinaryOperator) (p q : Box Expr Global) → x ≡ e.Binary o p q → a ≡ p.value → b ≡ q.value → trees.binary o (expr_view a) (expr_view b) ≡ expr_view x
+shown_binary x a b o p q is f g = ap (λ z. trees.binary o (expr_view z) (expr_view b)) f ∙ ap (λ z. trees.binary o (expr_view p.value) (expr_view z)) g ∙ sym (ap expr_view is ∙ view-Binary o p q)
+
+pub shown_when : (x a b : Expr) (p q : Box Expr Global) → x ≡ e.When p q → a ≡ p.value → b ≡ q.value → trees.when (expr_view a) (expr_view b) ≡ expr_view x
+shown_when x a b p q is f g = ap (λ z. trees.when (expr_view z) (expr_view b)) f ∙ ap (λ z. trees.when (expr_view p.value) (expr_view z)) g ∙ sym (ap expr_view is ∙ view-When p q)
+
+pub shown_choice : (x a b c : Expr) (p q r : Box Expr Global) → x ≡ e.Choice p q r → a ≡ p.value → b ≡ q.value → c ≡ r.value → trees.choice (expr_view a) (expr_view b) (expr_view c) ≡ expr_view x
+shown_choice x a b c p q r is f g h =
+    ap (λ z. trees.choice (expr_view z) (expr_view b) (expr_view c)) f ∙ ap (λ z. trees.choice (expr_view p.value) (expr_view z) (expr_view c)) g
+    ∙ ap (λ z. trees.choice (expr_view p.value) (expr_view q.value) (expr_view z)) h ∙ sym (ap expr_view is ∙ view-Choice p q r)
+
+pub shown_test : (x a : Expr) (n : Bool) (k : String Global) (us : List Expr) (qs : List (String Global × Expr)) (p : Box Expr Global) (ts : Vec Expr Global) (ps : Vec (String Global × Expr) Global)
+    → x ≡ e.Test p n k ts ps → a ≡ p.value → us ≡ ts.items → qs ≡ ps.items → trees.test (expr_view a) n (string_bytes k) (exprs_view us) (pairs_view qs) ≡ expr_view x
+shown_test x a n k us qs p ts ps is f g h =
+    ap (λ z. trees.test (expr_view z) n (string_bytes k) (exprs_view us) (pairs_view qs)) f ∙ ap (λ z. trees.test (expr_view p.value) n (string_bytes k) (exprs_view z) (pairs_view qs)) g
+    ∙ ap (λ z. trees.test (expr_view p.value) n (string_bytes k) (exprs_view ts.items) (pairs_view z)) h ∙ sym (ap expr_view is ∙ view-Test p n k ts ps)
+
+pub shown_call : (x f : Expr) (us : List Expr) (qs : List (String Global × Expr)) (p : Box Expr Global) (ts : Vec Expr Global) (ps : Vec (String Global × Expr) Global)
+    → x ≡ e.Call p ts ps → f ≡ p.value → us ≡ ts.items → qs ≡ ps.items → trees.call (expr_view f) (exprs_view us) (pairs_view qs) ≡ expr_view x
+shown_call x f us qs p ts ps is g h k =
+    ap (λ z. trees.call (expr_view z) (exprs_view us) (pairs_view qs)) g ∙ ap (λ z. trees.call (expr_view p.value) (exprs_view z) (pairs_view qs)) h
+    ∙ ap (λ z. trees.call (expr_view p.value) (exprs_view ts.items) (pairs_view z)) k ∙ sym (ap expr_view is ∙ view-Call p ts ps)
+
+pub shown_filter : (x a : Expr) (k : String Global) (us : List Expr) (qs : List (String Global × Expr)) (p : Box Expr Global) (ts : Vec Expr Global) (ps : Vec (String Global × Expr) Global)
+    → x ≡ e.Filter p k ts ps → a ≡ p.value → us ≡ ts.items → qs ≡ ps.items → trees.filter (expr_view a) (string_bytes k) (exprs_view us) (pairs_view qs) ≡ expr_view x
+shown_filter x a k us qs p ts ps is f g h =
+    ap (λ z. trees.filter (expr_view z) (string_bytes k) (exprs_view us) (pairs_view qs)) f ∙ ap (λ z. trees.filter (expr_view p.value) (string_bytes k) (exprs_view z) (pairs_view qs)) g
+    ∙ ap (λ z. trees.filter (expr_view p.value) (string_bytes k) (exprs_view ts.items) (pairs_view z)) h ∙ sym (ap expr_view is ∙ view-Filter p k ts ps)
+
+pub shown_map : (x : Expr) (qs : List (String Global × Expr)) (ps : Vec (String Global × Expr) Global) → x ≡ e.Map ps → qs ≡ ps.items → trees.map_of (pairs_view qs) ≡ expr_view x
+shown_map x qs ps is h = ap (λ z. trees.map_of (pairs_view z)) h ∙ sym (ap expr_view is ∙ view-Map ps)
+
+pub shown_attribute : (x a : Expr) (p : Box Expr Global) (k : String Global) → x ≡ e.Attribute p k → a ≡ p.value → trees.attribute (expr_view a) (string_bytes k) ≡ expr_view x
+shown_attribute x a p k is f = ap (λ z. trees.attribute (expr_view z) (string_bytes k)) f ∙ sym (ap expr_view is ∙ view-Attribute p k)
+
+-- ---- statements
+
+pub shown_For : (line : ℕ) (xs : Vec (String Global) Global) (e : Expr) (c : Option Expr) (body other : Vec Stmt Global)
+    → stmt_view (statement.For line xs e c body other) ≡ written.for_each line (names_view xs.items) (expr_view e) (option_map expr_view c) (body_view body.items) (body_view other.items)
+shown_For line xs e c body other = search (rules, the_lemmas)
+
+pub shown_Set : (line : ℕ) (xs : Vec (String Global) Global) (e : Expr) → stmt_view (statement.Set line xs e) ≡ written.set line (names_view xs.items) (expr_view e)
+shown_Set line xs e = search (rules, the_lemmas)
+
+pub shown_With : (line : ℕ) (ps : Vec (String Global × Expr) Global) (body : Vec Stmt Global) → stmt_view (statement.With line ps body) ≡ written.with_values line (pairs_view ps.items) (body_view body.items)
+shown_With line ps body = search (rules, the_lemmas)
+
+pub shown_FilterBlock : (line : ℕ) (fs : Vec Filtering Global) (body : Vec Stmt Global) → stmt_view (statement.FilterBlock line fs body) ≡ written.filter_block line (filterings_view fs.items) (body_view body.items)
+shown_FilterBlock line fs body = search (rules, the_lemmas)
+
+pub shown_Macro : (line : ℕ) (x : String Global) (ps : Vec Parameter Global) (body : Vec Stmt Global) → stmt_view (statement.Macro line x ps body) ≡ written.macro line (string_bytes x) (parameters_view ps.items) (body_view body.items)
+shown_Macro line x ps body = search (rules, the_lemmas)

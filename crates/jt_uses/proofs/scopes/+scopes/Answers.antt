@@ -1,0 +1,17 @@
+use Rattle.std.proofs.Common.{List, ◌++◌, refl, sym, ap, ◌∙◌, arith}
+use Rattle.std.proofs.lemmas.List.{at_drop_all, append-nil}
+use Rattle.jt_parse.specs.View.{branches_view}
+use Rattle.jt_inherit.specs.Uses.{scope_names_by, scope_names_in, scope_names_under}
+use Rattle.jt_uses.specs.Names.{texts}
+use Rattle.jt_uses.proofs.Left.{Branch}
+use Rattle.jt_uses.proofs.Gathered.{choice_added}
+use Rattle.jt_uses.proofs.scopes.+scopes.Goals as goal
+
+pub add_scope-returns-in_ok-add_scopes-in-If-2 : goal.add_scope-returns-in_ok-add_scopes-in-If-2
+add_scope-returns-in_ok-add_scopes-in-If-2 t c =
+    let l = c.loop-body in
+    let bs = c.deref-body-items.result.now in
+    let ended = at_drop_all (λ (z : List Branch). texts l.found.items ++ scope_names_under (branches_view z)) bs l.body-index c.loop-body-test.false in
+    choice_added scope_names_by scope_names_in scope_names_under (λ z b. refl) c.args.statement.now c.in-If.branches c.in-If.other bs c.deref-in-If.result.now
+    (texts c.args.found.now.items) (texts l.found.items) (texts c.add_scopes-in-If.new.found.items) c.in-If.is c.deref-body-items.ensures.value c.deref-in-If.ensures.value
+    (sym (append-nil (texts l.found.items)) ∙ sym ended ∙ l.invariant) c.in_ok-add_scopes-in-If-2.ensures

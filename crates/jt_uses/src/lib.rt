@@ -1,0 +1,9 @@
+//! The names that a chain's templates read, bind or set.
+#![tactic(auto)]
+
+mod chains;
+mod own;
+mod scopes;
+mod sets;
+
+pub use chains::{own_names, scope_names, set_names};

@@ -1,0 +1,271 @@
+//! The different names that a chain reads or binds.
+
+ghost use Rattle.std.specs.Prelude.{◌≡◌, ◌++◌, if◌then◌else◌, [], map, option_map, IfOk};
+ghost use Rattle.jt_expr.specs.View.{expr_view, exprs_view, pairs_view};
+ghost use Rattle.jt_parse.specs.Texts.{inserted, all_inserted};
+ghost use Rattle.jt_inherit.specs.Chain.{is_loop};
+ghost use Rattle.jt_parse.specs.View.{stmt_view, body_view, names_view, filterings_view, parameters_view};
+ghost use Rattle.jt_inherit.specs.Uses.{expr_names, row_names, pair_names, condition_names, filtering_names, stmt_names, body_names, keywords};
+ghost use Rattle.jt_uses.specs.Names.{texts};
+
+use jt_expr::Expr;
+use jt_parse::{Filtering, Parameter, Stmt};
+use std::alloc::AllocError;
+use std::collections::BTreeSet;
+
+/// Whether an expression is the bare name `loop`.
+fn is_loop_name(expr: &Expr) -> bool
+    ensures { result ≡ is_loop (expr_view expr.now) }
+{
+    match expr {
+        Expr::Name(name) => name.as_str() == "loop",
+        _ => false,
+    }
+}
+
+/// Adds a name.
+pub(crate) fn add_name<'a>(names: &mut BTreeSet<&'a str>, name: &'a str) -> Result<(), AllocError>
+    ensures { IfOk result (λ u. texts names.new.keys ≡ inserted name.now (texts names.old.keys)) }
+{
+    names.insert(name)?;
+    Ok(())
+}
+
+/// Adds the names of an expression.
+#[tactic(auto, using(crate::proofs::Inserted::inserted_both, crate::proofs::Shown::shown_Map, crate::proofs::Shown::shown_Call, crate::proofs::Shown::shown_Filter, crate::proofs::Shown::shown_Test))]
+#[cycle(gather)]
+fn add_expression<'a>(names: &mut BTreeSet<&'a str>, expr: &'a Expr) -> Result<(), AllocError>
+    ensures { IfOk result (λ u. texts names.new.keys ≡ all_inserted (expr_names (expr_view expr.now)) (texts names.old.keys)) }
+{
+    match expr {
+        Expr::Constant(_) => Ok(()),
+        Expr::Name(name) => add_name(names, name.as_str()),
+        Expr::Group(inside) => add_expression(names, inside),
+        Expr::List(row) => add_row(names, row),
+        Expr::Map(pairs) => add_pairs(names, pairs),
+        Expr::Attribute(value, _) => add_of_attribute(names, value),
+        Expr::Item(value, index) => {
+            add_expression(names, value)?;
+            add_expression(names, index)?;
+            Ok(())
+        }
+        Expr::Call(_, row, pairs) => {
+            add_row(names, row)?;
+            add_pairs(names, pairs)?;
+            Ok(())
+        }
+        Expr::Filter(value, _, row, pairs) => {
+            add_expression(names, value)?;
+            add_row(names, row)?;
+            add_pairs(names, pairs)?;
+            Ok(())
+        }
+        Expr::Test(value, _, _, row, pairs) => {
+            add_expression(names, value)?;
+            add_row(names, row)?;
+            add_pairs(names, pairs)?;
+            Ok(())
+        }
+        Expr::Unary(_, operand) => add_expression(names, operand),
+        Expr::Binary(_, left, right) => {
+            add_expression(names, left)?;
+            add_expression(names, right)?;
+            Ok(())
+        }
+        Expr::When(condition, value) => {
+            add_expression(names, condition)?;
+            add_expression(names, value)?;
+            Ok(())
+        }
+        Expr::Choice(condition, value, other) => {
+            add_expression(names, condition)?;
+            add_expression(names, value)?;
+            add_expression(names, other)?;
+            Ok(())
+        }
+    }
+}
+
+/// Adds the names of what has an attribute; `loop` is none.
+#[cycle(gather)]
+fn add_of_attribute<'a>(names: &mut BTreeSet<&'a str>, value: &'a Expr) -> Result<(), AllocError>
+    ensures { IfOk result (λ u. texts names.new.keys ≡ all_inserted (if is_loop (expr_view value.now) then [] else expr_names (expr_view value.now)) (texts names.old.keys)) }
+{
+    if is_loop_name(value) {
+        return Ok(());
+    }
+    add_expression(names, value)
+}
+
+/// Adds the names of a row of expressions.
+#[cycle(gather)]
+fn add_row<'a>(names: &mut BTreeSet<&'a str>, row: &'a [Expr]) -> Result<(), AllocError>
+    ensures { IfOk result (λ u. texts names.new.keys ≡ all_inserted (row_names (exprs_view row.now)) (texts names.old.keys)) }
+{
+    for expr in row {
+        add_expression(names, expr)?;
+    }
+    Ok(())
+}
+
+/// Adds the names of values behind their keys.
+#[cycle(gather)]
+fn add_pairs<'a>(
+    names: &mut BTreeSet<&'a str>,
+    pairs: &'a [(String, Expr)],
+) -> Result<(), AllocError>
+    ensures { IfOk result (λ u. texts names.new.keys ≡ all_inserted (pair_names (pairs_view pairs.now)) (texts names.old.keys)) }
+{
+    for (_, value) in pairs {
+        add_expression(names, value)?;
+    }
+    Ok(())
+}
+
+/// Adds the names of targets.
+fn add_targets<'a>(names: &mut BTreeSet<&'a str>, targets: &'a [String]) -> Result<(), AllocError>
+    ensures { IfOk result (λ u. texts names.new.keys ≡ all_inserted (names_view targets.now) (texts names.old.keys)) }
+{
+    for target in targets {
+        add_name(names, target.as_str())?;
+    }
+    Ok(())
+}
+
+/// Adds the keys of pairs.
+fn add_keywords<'a>(
+    names: &mut BTreeSet<&'a str>,
+    pairs: &'a [(String, Expr)],
+) -> Result<(), AllocError>
+    ensures { IfOk result (λ u. texts names.new.keys ≡ all_inserted (keywords (pairs_view pairs.now)) (texts names.old.keys)) }
+{
+    for (name, _) in pairs {
+        add_name(names, name.as_str())?;
+    }
+    Ok(())
+}
+
+/// Adds the names of parameters.
+fn add_parameters<'a>(
+    names: &mut BTreeSet<&'a str>,
+    parameters: &'a [Parameter],
+) -> Result<(), AllocError>
+    ensures { IfOk result (λ u. texts names.new.keys ≡ all_inserted (map (λ p. p.name) (parameters_view parameters.now)) (texts names.old.keys)) }
+{
+    for parameter in parameters {
+        add_name(names, parameter.name.as_str())?;
+    }
+    Ok(())
+}
+
+/// Adds the names of a loop's condition.
+fn add_condition<'a>(
+    names: &mut BTreeSet<&'a str>,
+    condition: &'a Option<Expr>,
+) -> Result<(), AllocError>
+    ensures { IfOk result (λ u. texts names.new.keys ≡ all_inserted (condition_names (option_map expr_view condition.now)) (texts names.old.keys)) }
+{
+    match condition {
+        Some(condition) => add_expression(names, condition),
+        None => Ok(()),
+    }
+}
+
+/// Adds the names of the filters of a filter tag.
+#[tactic(auto, using(crate::proofs::Inserted::inserted_both))]
+fn add_filterings<'a>(
+    names: &mut BTreeSet<&'a str>,
+    filterings: &'a [Filtering],
+) -> Result<(), AllocError>
+    ensures { IfOk result (λ u. texts names.new.keys ≡ all_inserted (filtering_names (filterings_view filterings.now)) (texts names.old.keys)) }
+{
+    for filtering in filterings {
+        add_row(names, &filtering.arguments)?;
+        add_pairs(names, &filtering.keywords)?;
+    }
+    Ok(())
+}
+
+/// Adds the names of the head of a loop.
+#[tactic(auto, using(crate::proofs::Inserted::inserted_both))]
+fn add_head<'a>(
+    names: &mut BTreeSet<&'a str>,
+    items: &'a Expr,
+    targets: &'a [String],
+    condition: &'a Option<Expr>,
+) -> Result<(), AllocError>
+    ensures { IfOk result (λ u. texts names.new.keys ≡ all_inserted (expr_names (expr_view items.now) ++ (names_view targets.now ++ condition_names (option_map expr_view condition.now))) (texts names.old.keys)) }
+{
+    add_expression(names, items)?;
+    add_targets(names, targets)?;
+    add_condition(names, condition)?;
+    Ok(())
+}
+
+/// Adds the names of a statement.
+#[tactic(auto, using(crate::proofs::Inserted::inserted_both, crate::proofs::Shown::shown_For, crate::proofs::Shown::shown_Set, crate::proofs::Shown::shown_With, crate::proofs::Shown::shown_FilterBlock, crate::proofs::Shown::shown_Macro))]
+#[cycle(add)]
+fn add_statement<'a>(names: &mut BTreeSet<&'a str>, statement: &'a Stmt) -> Result<(), AllocError>
+    ensures { IfOk result (λ u. texts names.new.keys ≡ all_inserted (stmt_names (stmt_view statement.now)) (texts names.old.keys)) }
+{
+    match statement {
+        Stmt::Data(_) | Stmt::Include(..) | Stmt::Extends(..) => Ok(()),
+        Stmt::Print(_, expr) => add_expression(names, expr),
+        Stmt::If(branches, other) => {
+            for (_, condition, body) in branches {
+                add_expression(names, condition)?;
+                add_statements(names, body)?;
+            }
+            add_statements(names, other)?;
+            Ok(())
+        }
+        Stmt::For(_, targets, items, condition, inside, other) => {
+            add_head(names, items, targets, condition)?;
+            add_statements(names, inside)?;
+            add_statements(names, other)?;
+            Ok(())
+        }
+        Stmt::Set(_, targets, value) => {
+            add_expression(names, value)?;
+            add_targets(names, targets)?;
+            Ok(())
+        }
+        Stmt::SetBlock(_, name, inside) => {
+            add_name(names, name.as_str())?;
+            add_statements(names, inside)?;
+            Ok(())
+        }
+        Stmt::With(_, pairs, inside) => {
+            add_pairs(names, pairs)?;
+            add_keywords(names, pairs)?;
+            add_statements(names, inside)?;
+            Ok(())
+        }
+        Stmt::FilterBlock(_, filterings, inside) => {
+            add_statements(names, inside)?;
+            add_filterings(names, filterings)?;
+            Ok(())
+        }
+        Stmt::Autoescape(_, _, inside) => add_statements(names, inside),
+        Stmt::Macro(_, _, parameters, inside) => {
+            add_parameters(names, parameters)?;
+            add_statements(names, inside)?;
+            Ok(())
+        }
+        Stmt::Block(_, _, _, _, inside) => add_statements(names, inside),
+    }
+}
+
+/// Adds the names of statements.
+#[cycle(add)]
+pub(crate) fn add_statements<'a>(
+    names: &mut BTreeSet<&'a str>,
+    body: &'a [Stmt],
+) -> Result<(), AllocError>
+    ensures { IfOk result (λ u. texts names.new.keys ≡ all_inserted (body_names (body_view body.now)) (texts names.old.keys)) }
+{
+    for statement in body {
+        add_statement(names, statement)?;
+    }
+    Ok(())
+}
