@@ -23,7 +23,7 @@ use Rattle.jt_filters.specs.declared.filter_id.FilterId.{FilterId}
 use Rattle.jt_filters.specs.declared.filter_id.FilterId.TheVariants as f
 use Rattle.jt_filters.specs.FilterTable.{argument_names}
 use Rattle.jt_rules.specs.World.{World, world_of}
-use Rattle.jt_rules.specs.Rules.{Within, parameter_names, body_broken, stmt_broken, macro_broken, read_alone, all_used, unless, refused, templates_broken, chains_broken}
+use Rattle.jt_rules.specs.Walk.{Within, parameter_names, body_broken, stmt_broken, macro_broken, read_alone, all_used, unless, refused, templates_broken, chains_broken}
 use Rattle.jt_rules.specs.declared.error.ScopeError.{ScopeError}
 use Rattle.jt_rules.specs.declared.error.ScopeError.TheVariants as error
 use Rattle.jt_meaning.specs.Ascends.{IsBefore, Above, Ascends}

@@ -19,7 +19,7 @@ use Rattle.jt_rules.specs.Known.{ExprKnown, ConditionKnown, FilteringKnown, Stmt
 use Rattle.jt_meaning.specs.Layout.{Table, slot_in, of_chain, block_parameters, globals, numbered_of, unit, names, first_slot}
 use Rattle.jt_slots.specs.Pool.{Constant, known}
 use Rattle.jt_meaning.specs.Resolve.{followed, alone, reads, handed_on, filled_some, locals_from, Spot, place, grown, bound_all, copied, scoped, first_body, resolved_row, resolved_asides, resolved_condition, resolved_filters, resolved_values, placed_body, resolved_stmt, resolved_body, resolved_choice}
-use Rattle.jt_rules.specs.Rules.{Within, filter_broken, all_used, used, broken, row_broken, pairs_broken, condition_broken, filtering_broken, stmt_broken, body_broken, branches_broken}
+use Rattle.jt_rules.specs.Walk.{Within, filter_broken, all_used, used, broken, row_broken, pairs_broken, condition_broken, filtering_broken, stmt_broken, body_broken, branches_broken}
 use Rattle.jt_meaning.proofs.Calling.{Included}
 use Rattle.jt_meaning.proofs.Stating.{Each, each_front, each_back}
 use Rattle.jt_meaning.proofs.Finding.{chain_is, body_is}

@@ -17,7 +17,7 @@ use Rattle.jt_expr.specs.Trees.{Expr, constant, name, group, list_of, attribute,
 use Rattle.jt_meaning.specs.Operators.{unary_operation, Form, operation, negation, conjunction, disjunction, form, range_of}
 use Rattle.jt_slots.specs.Tests.{test_named}
 use Rattle.jt_inherit.specs.Uses.{count, keywords}
-use Rattle.jt_rules.specs.Rules.{no_keywords, unless, test_broken, Within, refused, fits, reached, filter_broken, call_broken, broken, called_broken, row_broken, pairs_broken}
+use Rattle.jt_rules.specs.Walk.{no_keywords, unless, test_broken, Within, refused, fits, reached, filter_broken, call_broken, broken, called_broken, row_broken, pairs_broken}
 use Rattle.jt_slots.specs.Takes.{InPairs, HasParameters, ExprTakes, RowTakes}
 use Rattle.jt_rules.specs.declared.error.ScopeError.{ScopeError}
 use Rattle.jt_rules.specs.declared.error.ScopeError.TheVariants as error

@@ -15,7 +15,7 @@ use Rattle.jt_parse.specs.Trees.{Text, Parameter}
 use Rattle.jt_slots.specs.Filters.{some_given}
 use Rattle.jt_slots.specs.TheFilters.{the_filters, filter_named, filter_parameters, parameters_of}
 use Rattle.jt_rules.specs.Fitting.{filter_takes}
-use Rattle.jt_rules.specs.Rules as rules
+use Rattle.jt_rules.specs.Walk as rules
 use Rattle.jt_rules.specs.declared.error.ScopeError.{ScopeError}
 use Rattle.jt_rules.proofs.Filled.{none_reached}
 use Rattle.jt_rules.proofs.Left.{Entry}

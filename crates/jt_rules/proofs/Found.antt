@@ -19,7 +19,7 @@ use Rattle.jt_inherit.specs.declared.linked.Chain.{Chain}
 use Rattle.jt_slots.specs.Filters.{Filters}
 use Rattle.jt_slots.specs.Tests.{test_named}
 use Rattle.jt_slots.specs.TheFilters.{the_filters}
-use Rattle.jt_rules.specs.Rules as rules
+use Rattle.jt_rules.specs.Walk as rules
 use Rattle.jt_rules.specs.World.{World}
 use Rattle.jt_rules.specs.Standing.{world_in}
 use Rattle.jt_rules.specs.declared.error.ScopeError.{ScopeError}

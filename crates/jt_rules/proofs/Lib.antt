@@ -11,3 +11,4 @@ pub mod Named
 pub mod Sets
 pub mod Shown
 pub mod Turns
+pub mod Walked

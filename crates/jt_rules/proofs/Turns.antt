@@ -16,8 +16,7 @@ use Rattle.jt_inherit.specs.Uses.{count, keywords, own_names}
 use Rattle.jt_inherit.specs.Pages.{home_name}
 use Rattle.jt_inherit.specs.declared.linked.Home as written
 use Rattle.std.proofs.lemmas.Bool.Decides.{nat_tests}
-use Rattle.jt_rules.specs.Rules as rules
-use Rattle.jt_rules.specs.Rules.{Breaks}
+use Rattle.jt_rules.specs.Walk as rules
 use Rattle.jt_inherit.specs.View.{chain_view, sources_of}
 use Rattle.jt_inherit.specs.declared.linked.Chain.{Chain}
 use Rattle.jt_rules.specs.Standing.{world_in, home_in}
@@ -104,14 +103,6 @@ names_left world order i lt =
     ap (rules.names_counted world) (drop_more order i [] lt) ∙ ap (λ h. length (ascending (own_names world.sources h)) + rules.names_counted world (drop (i + 1) order)) (there order i)
 
 -- the rule that is found is broken
-pub found_breaks : (e : ScopeError) (world : World) (order : List Home) → Some e ≡ rules.chains_broken world order → Breaks e world order
-found_breaks error.LoopOutside world order h = sym h
-found_breaks error.MacroAsValue world order h = sym h
-found_breaks error.NotCallable world order h = sym h
-found_breaks error.BadArguments world order h = sym h
-found_breaks error.TooManySlots world order h = inl (sym h)
-found_breaks error.NoMemory world order h = tt
-
 pub texts_length : (ks : List (Bor Text)) → length (texts ks) ≡ length ks
 texts_length [] = refl
 texts_length (k ∷ ks) = ap suc (texts_length ks)

@@ -9,7 +9,7 @@ ghost use Rattle.jt_parse.specs.View.{names_view, parameter_view, parameters_vie
 ghost use Rattle.jt_inherit.specs.Uses.{count, keywords};
 ghost use Rattle.jt_slots.specs.TheFilters.{the_filters, filter_parameters};
 ghost use Rattle.jt_slots.specs.Tests.{test_named};
-ghost use Rattle.jt_rules.specs.Rules as rules;
+ghost use Rattle.jt_rules.specs.Walk as rules;
 ghost use Rattle.jt_rules.specs.Fitting.{filter_takes};
 ghost use Rattle.jt_rules.specs.Standing.{texts, is_among};
 
