@@ -14,7 +14,7 @@ use crate::step::step;
 use jt_budget::Budget;
 use jt_image::{Code, code_laws};
 use jt_value::{Context, NoMemory};
-use jt_verify::Verified;
+use jt_verify::{Verified, VerifiedView};
 use std::alloc::Global;
 
 /// Runs an image for a context under a budget. `NoMemory` is answered only where a growth was refused.
@@ -31,6 +31,22 @@ pub fn run(
 {
     code_laws();
     run_code(alloc, verified.image(), context, budget)
+}
+
+/// Runs a code in place, as `run` does an image. `NoMemory` is answered only where a growth was refused.
+pub fn run_view(
+    alloc: Global,
+    verified: &VerifiedView<'_>,
+    context: &Context,
+    budget: Budget,
+) -> Result<Outcome, NoMemory>
+    // The outcome is that of the run.
+    ensures outcome { IfOk result (λ o. Run verified.now (pairs_of context.now) (budget_view budget) (outcome_view o)) }
+    // Every run of the code has one outcome, stays within its fuel and is never wrong.
+    ensures safe { (x : Pairs) (b : config.Budget) → IsSafe verified.now x b }
+{
+    code_laws();
+    run_code(alloc, verified.code(), context, budget)
 }
 
 // Runs a typed code.

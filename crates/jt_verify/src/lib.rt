@@ -7,7 +7,7 @@ mod shape;
 mod typing;
 mod verifier;
 
-pub use checked::{Checked, Verified, verify};
+pub use checked::{Checked, Verified, VerifiedView, verify, verify_view};
 pub use refusal::{Refusal, flaw_name};
 pub use shape::{Shape, join};
 pub use verifier::verify_code;
