@@ -15,7 +15,7 @@ use Rattle.jt_filters.specs.Kinds.{have_order}
 use Rattle.jt_filters.specs.Listing.{given, on_items, listed, reversed, pairs_of, joined_by}
 use Rattle.jt_filters.specs.Operands.{Builds, HasPayload}
 use Rattle.jt_filters.specs.Ordering.{sorted_list, sorted_pairs, distinct}
-use Rattle.jt_filters.specs.Texts.{of_same_kind, keeping_kind, safe, escaped_once, escaped_again, replaced, replaced_behind}
+use Rattle.jt_filters.specs.Texts.{of_same_kind, keeping_kind, safe, escaped_once, escaped_again, replaced}
 
 pub built : (wanted : Result Tree Fault) (r : Result Value ValueError) → HasPayload wanted → IsAnswer wanted r → Builds wanted r
 built wanted (Ok v) p h = h

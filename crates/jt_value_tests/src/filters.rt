@@ -3,6 +3,7 @@
 use crate::rows::rows_hold;
 use crate::spelling::{shown, values};
 use jt_filters::{FilterId, Limits, apply};
+use jt_value::Value;
 use std::alloc::Global;
 use std::test::Fail;
 
@@ -107,6 +108,29 @@ fn filters(rt: HostRuntime) -> Result<(), Fail> {
         upper 0 => tNONE
         upper n1 n2 => another number of values
         select l => no filter",
+    )
+}
+
+/// What `unique` answers of the list of some values.
+fn distinct(alloc: Global, spellings: &str) -> Result<String, Fail> {
+    let wide = Limits {
+        size: 1000,
+        nesting: 10,
+    };
+    let list = Value::list(alloc, values(alloc, spellings)?)?;
+    Ok(shown(alloc, &apply(alloc, FilterId::Unique, &[list], true, wide))?)
+}
+
+#[test]
+fn unique_of_all_kinds(rt: HostRuntime) -> Result<(), Fail> {
+    rows_hold(
+        &rt,
+        distinct,
+        r"tA ma tB mA => ltA,tB
+        n1 + - n0 n-1 0 u 0 u n1 => ln1,-,n-1,0,u
+        ln1,tA l+,mA ln1,ta ln1 l l => ln1/tA/,n1/ta/,n1/,
+        ka=n1,b=+ kb=n1,a=n1 ka=n1 kb=n1 ka=n1,b=n2 => lk,k,k,k
+        tl l t1 n1 k l t t0 0 => ltl,,t1,n1,k,t,t0,0",
     )
 }
 

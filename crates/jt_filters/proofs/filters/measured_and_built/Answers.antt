@@ -2,8 +2,11 @@ use Rattle.std.proofs.Common.{◌∷◌, map}
 use Rattle.jt_value.specs.View.{view}
 use Rattle.jt_filters.specs.Filtering.{filtered}
 use Rattle.jt_filters.specs.Operands.{tree_of}
-use Rattle.jt_filters.proofs.Applied.{refused, needs_memory}
-use Rattle.jt_filters.proofs.filters.applied.Goals as goal
+use Rattle.jt_filters.proofs.Applied.{faulty, refused, needs_memory}
+use Rattle.jt_filters.proofs.filters.measured_and_built.Goals as goal
+
+pub returns-in-Err : goal.returns-in-Err
+returns-in-Err c = faulty c.args.limits (filtered c.args.filter c.args.autoescape (tree_of c.args.operand ∷ map view c.args.arguments.now)) c.in-Err.fault c.in-Err.ensures
 
 pub returns-in-Err-allow : goal.returns-in-Err-allow
 returns-in-Err-allow c =
