@@ -244,7 +244,7 @@ module _ (front globals_count : ℕ) (some : 0 < front) where
           invoked_fined (callee (macros world.sources sp.home) f) f sp (resolved_row world order ts sp) (resolved_asides world order ps sp) (count ts) (locals_from sp.free (keywords ps)) i refl
           (from_fine sp.free (keywords ps)) (λ b h. row_fined ts sp i t b h) (λ b h. asides_fined ps sp i t b h)
       fined (filter a x ts ps) sp i t =
-          let f = world.filters.named x in
+          let f = world.filters.named x ts ps in
           let ks = locals_from sp.free (keywords ps) in
           let rest = filled_some (filter_parameters world.filters f) (count ts) (keywords ps) ks in
           let row = resolved_row world order ts sp (resolved_asides world order ps sp rest) in
@@ -276,7 +276,7 @@ module _ (front globals_count : ℕ) (some : 0 < front) where
     filters_fined : (fs : List Filtering) (sp : Spot) (e : SExpr Constant) → among sp.home order ≡ true → Fine sp.table → E e → E (resolved_filters world order fs sp e)
     filters_fined [] sp e i t h = h
     filters_fined (f ∷ fs) sp e i t h =
-        let n = world.filters.named f.name in
+        let n = world.filters.named f.name f.arguments f.keywords in
         let ks = locals_from sp.free (keywords f.keywords) in
         let rest = filled_some (filter_parameters world.filters n) (count f.arguments) (keywords f.keywords) ks in
         let row = resolved_row world order f.arguments sp (resolved_asides world order f.keywords sp rest) in

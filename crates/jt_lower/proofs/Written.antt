@@ -135,6 +135,7 @@ test_fits tests.Undefined = omega arith
 
 filter_fits : (x : FilterId) → filter_id x < 2 ^ 8
 filter_fits filters.Abs = omega arith
+filter_fits filters.Attr = omega arith
 filter_fits filters.Capitalize = omega arith
 filter_fits filters.Default = omega arith
 filter_fits filters.DictSort = omega arith
@@ -148,17 +149,23 @@ filter_fits filters.Last = omega arith
 filter_fits filters.Length = omega arith
 filter_fits filters.List = omega arith
 filter_fits filters.Lower = omega arith
+filter_fits filters.Map = omega arith
 filter_fits filters.Max = omega arith
 filter_fits filters.Min = omega arith
+filter_fits filters.Reject = omega arith
+filter_fits filters.RejectAttr = omega arith
 filter_fits filters.Replace = omega arith
 filter_fits filters.Reverse = omega arith
 filter_fits filters.Safe = omega arith
+filter_fits filters.Select = omega arith
+filter_fits filters.SelectAttr = omega arith
 filter_fits filters.Sort = omega arith
 filter_fits filters.String = omega arith
 filter_fits filters.Sum = omega arith
 filter_fits filters.Trim = omega arith
 filter_fits filters.Unique = omega arith
 filter_fits filters.Upper = omega arith
+filter_fits filters.MapAttribute = omega arith
 
 found_passes : {A : Type 0} (p : A → Bool) (xs : List A) (x : A) → find p xs ≡ Some x → p x ≡ true
 found_passes p [] x e = absurd cc

@@ -203,7 +203,7 @@ module _ (world : World) (order : List Home) where
               (exprs_bytes ts) (pairs_bytes ps) (λ b. row_counted ts sp k b) (λ b. omega (arith, asides_counted ps sp k b)),
         )
     counted (filter a x ts ps) sp k =
-        let f = world.filters.named x in
+        let f = world.filters.named x ts ps in
         let rest = filled_some (filter_parameters world.filters f) (count ts) (keywords ps) (locals_from sp.free (keywords ps)) in
         let row = resolved_row world order ts sp (resolved_asides world order ps sp rest) in
         omega (
@@ -254,7 +254,7 @@ module _ (world : World) (order : List Home) where
   filters_counted : (fs : List Filtering) (sp : Spot) (e : SExpr Constant) → Three → expr_count (resolved_filters world order fs sp e) ≤ expr_count e + filtering_bytes fs
   filters_counted [] sp e k = omega arith
   filters_counted (f ∷ fs) sp e k =
-      let i = world.filters.named f.name in
+      let i = world.filters.named f.name f.arguments f.keywords in
       let rest = filled_some (filter_parameters world.filters i) (count f.arguments) (keywords f.keywords) (locals_from sp.free (keywords f.keywords)) in
       let row = resolved_row world order f.arguments sp (resolved_asides world order f.keywords sp rest) in
       omega (

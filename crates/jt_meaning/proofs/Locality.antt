@@ -229,7 +229,7 @@ module _ (n : ℕ) (some : 1 ≤ n) where
           invoked_localed (callee (macros world.sources sp.home) f) sp (resolved_row world order ts sp) (resolved_asides world order ps sp) (count ts) (locals_from sp.free (keywords ps))
           (from_below sp.free (keywords ps) (omega (arith, k, names_few ps))) (λ b h. row_localed ts sp t (omega (arith, k)) b h) (λ b h. asides_localed ps sp t (omega (arith, k)) b h)
       localed (filter a x ts ps) sp t k =
-          let f = world.filters.named x in
+          let f = world.filters.named x ts ps in
           let ks = locals_from sp.free (keywords ps) in
           let rest = filled_some (filter_parameters world.filters f) (count ts) (keywords ps) ks in
           let row = resolved_row world order ts sp (resolved_asides world order ps sp rest) in
@@ -270,7 +270,7 @@ module _ (n : ℕ) (some : 1 ≤ n) where
     filters_localed : (fs : List Filtering) (sp : Spot) (e : SExpr Constant) → Below sp.table → sp.free + filtering_weight fs ≤ n → expr_locals e ≤ n → expr_locals (resolved_filters world order fs sp e) ≤ n
     filters_localed [] sp e t k h = h
     filters_localed (f ∷ fs) sp e t k h =
-        let i = world.filters.named f.name in
+        let i = world.filters.named f.name f.arguments f.keywords in
         let ks = locals_from sp.free (keywords f.keywords) in
         let rest = filled_some (filter_parameters world.filters i) (count f.arguments) (keywords f.keywords) ks in
         let row = resolved_row world order f.arguments sp (resolved_asides world order f.keywords sp rest) in

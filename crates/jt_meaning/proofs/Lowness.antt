@@ -250,7 +250,7 @@ module _ (world : World) (order : List Home) (q : ℕ) where
         invoked_low (callee (macros world.sources sp.home) f) sp (resolved_row world order ts sp) (resolved_asides world order ps sp) (count ts) (locals_from sp.free (keywords ps))
         (weight f) (exprs_weight ts) (pairs_weight 2 ps) (expr_some f) (callee_low q (macros world.sources sp.home) f k.macros) k.blocks (λ b z. row_low ts sp k b z) (λ b. asides_low ps sp k b)
     resolved_low (filter a x ts ps) sp k =
-        let f = world.filters.named x in
+        let f = world.filters.named x ts ps in
         let rest = filled_some (filter_parameters world.filters f) (count ts) (keywords ps) (locals_from sp.free (keywords ps)) in
         let es = slots.item (resolved world order a sp) (resolved_row world order ts sp (resolved_asides world order ps sp rest)) in
         omega (
@@ -291,7 +291,7 @@ module _ (world : World) (order : List Home) (q : ℕ) where
   filters_low : (fs : List Filtering) (sp : Spot) (e : SExpr Constant) → HasAtMost world order q sp.home → 2 * expr_height (resolved_filters world order fs sp e) ≤ max (2 * expr_height e) (1 + filtering_weight fs + 2 * q)
   filters_low [] sp e k = omega arith
   filters_low (f ∷ fs) sp e k =
-      let i = world.filters.named f.name in
+      let i = world.filters.named f.name f.arguments f.keywords in
       let rest = filled_some (filter_parameters world.filters i) (count f.arguments) (keywords f.keywords) (locals_from sp.free (keywords f.keywords)) in
       let es = slots.item e (resolved_row world order f.arguments sp (resolved_asides world order f.keywords sp rest)) in
       omega (

@@ -97,7 +97,7 @@ module _ (world : World) (c d : Calls) (under : (x : Called) → Under (c x) (d 
     value_under (item e k) a env = bound (value_under e a env) (λ v. bound (value_under k a env) (λ w. same))
     value_under (written.call f ts ps) a env = called_under (callee (macros world.sources a.home) f) a env (values_under ts a env) (named_under ps a env)
     value_under (written.filter e x ts ps) a env =
-        filtered_under world.filters (world.filters.named x) a.escaping (bound (value_under e a env) (λ v. bound (values_under ts a env) (λ vs. bound (named_under ps a env) (λ ks. same))))
+        filtered_under world.filters (world.filters.named x ts ps) a.escaping (bound (value_under e a env) (λ v. bound (values_under ts a env) (λ vs. bound (named_under ps a env) (λ ks. same))))
     value_under (written.test e n x ts ps) a env = turned_under n (asked_under (test_named x) (bound (value_under e a env) (λ v. bound (values_under ts a env) (λ vs. same))))
     value_under (unary o e) a env = bound (value_under e a env) (λ v. same)
     value_under (binary o e f) a env = combined_under (form a.escaping o) (value_under e a env) (value_under f a env)
@@ -120,7 +120,7 @@ module _ (world : World) (c d : Calls) (under : (x : Called) → Under (c x) (d 
   through_under : (fs : List Filtering) (a : Around) (env : Env) {g h : Got Tree} → Under g h → Under (through world c fs a env g) (through world d fs a env h)
   through_under [] a env u = u
   through_under (f ∷ fs) a env u =
-      through_under fs a env (filtered_under world.filters (world.filters.named f.name) a.escaping (bound u (λ v. bound (values_under f.arguments a env) (λ vs. bound (named_under f.keywords a env) (λ ks. same)))))
+      through_under fs a env (filtered_under world.filters (world.filters.named f.name f.arguments f.keywords) a.escaping (bound u (λ v. bound (values_under f.arguments a env) (λ vs. bound (named_under f.keywords a env) (λ ks. same)))))
 
   mutual
     pub meaning_under : (s : Stmt) (a : Around) (st : State) → Under (meaning world c s a st) (meaning world d s a st)

@@ -280,7 +280,7 @@ module _ (world : World) (order : List Home) where
               (exprs_weight ts) (pairs_weight 2 ps) (callee_few (macros world.sources sp.home) f k.macros) (k.names sp.home) (λ b. row_sized ts sp k b) (λ b. asides_sized ps sp k b),
         )
     resolved_sized (filter a x ts ps) sp k =
-        let f = world.filters.named x in
+        let f = world.filters.named x ts ps in
         let rest = filled_some (filter_parameters world.filters f) (count ts) (keywords ps) (locals_from sp.free (keywords ps)) in
         let es = slots.item (resolved world order a sp) (resolved_row world order ts sp (resolved_asides world order ps sp rest)) in
         omega (
@@ -322,7 +322,7 @@ module _ (world : World) (order : List Home) where
   filters_sized : (fs : List Filtering) (sp : Spot) (e : SExpr Constant) → IsFew world order sp.home → expr_size (resolved_filters world order fs sp e) ≤ expr_size e + 100 * filtering_weight fs
   filters_sized [] sp e k = omega arith
   filters_sized (f ∷ fs) sp e k =
-      let i = world.filters.named f.name in
+      let i = world.filters.named f.name f.arguments f.keywords in
       let rest = filled_some (filter_parameters world.filters i) (count f.arguments) (keywords f.keywords) (locals_from sp.free (keywords f.keywords)) in
       let es = slots.item e (resolved_row world order f.arguments sp (resolved_asides world order f.keywords sp rest)) in
       omega (

@@ -5,6 +5,7 @@ pub mod Filtered
 pub mod Fits
 pub mod Forms
 pub mod Found
+pub mod Inner
 pub mod Known
 pub mod Left
 pub mod Named

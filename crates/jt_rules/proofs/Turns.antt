@@ -55,7 +55,7 @@ equal_found (Err x) u v e h = tt
 pub filterings_turn : (world : World) (home : Home) (f : Filtering) (fs : List Filtering) (w : rules.Within)
     → rules.filtering_broken world home (f ∷ fs) w ≡ option_or (rules.filtering_broken world home (f ∷ []) w) (rules.filtering_broken world home fs w)
 filterings_turn world home f fs w =
-    four (rules.filter_broken world.filters (world.filters.named f.name) (count f.arguments) (keywords f.keywords)) (rules.row_broken world home f.arguments w) (rules.pairs_broken world home f.keywords w) (rules.filtering_broken world home fs w)
+    four (rules.filter_broken world.filters (world.filters.named f.name f.arguments f.keywords) f.arguments f.keywords) (rules.row_broken world home f.arguments w) (rules.pairs_broken world home f.keywords w) (rules.filtering_broken world home fs w)
   where
     four : (a b c d : Found) → option_or a (option_or b (option_or c d)) ≡ option_or (option_or a (option_or b (option_or c None))) d
     four None None None d = refl

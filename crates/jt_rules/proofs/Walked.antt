@@ -15,7 +15,7 @@ use Rattle.jt_inherit.specs.Uses.{count, keywords}
 use Rattle.jt_inherit.specs.Chain.{Home, Template, MacroBody, BlockBody, templates, bodies, macros, macro_of, Callee, a_macro, a_range, a_super, a_block, a_cycle, no_callee, named_alone, named_in, callee, is_loop}
 use Rattle.jt_slots.specs.Loops.{Field, field_named}
 use Rattle.jt_slots.specs.Tests.{test_named}
-use Rattle.jt_rules.specs.Arguments.{callee_takes, test_takes, filter_takes}
+use Rattle.jt_rules.specs.Arguments.{callee_takes, test_takes, filter_fits, filter_takes, names_rightly}
 use Rattle.jt_rules.specs.Rules.{ForSome, IsOnlyCalled, MisusesLoop, LoopOutside, MacroAsValue, CannotBeCalled, NotCallable, BadArguments, TooManyParameters, BindsTooMany, BrokenIn, Broken, KeepsRules, Breaks, names_counted}
 use Rattle.jt_rules.specs.Spots.{Within, Use, reads, binds, asks_loop, calls, filters, tests, declares, Spot, at, bound, parameter_names, is_called_by_name, expr_spots, row_spots, pair_spots, condition_spots, filtering_spots, outside, stmt_spots, body_spots, branch_spots, chain_spots}
 use Rattle.jt_rules.specs.Walk.{read_alone, unless, test_broken, filter_broken, refused, is_macro, used, all_used, call_broken, broken, called_broken, row_broken, pairs_broken, condition_broken, filtering_broken, macro_broken, stmt_broken, body_broken, branches_broken, templates_broken, chains_broken}
@@ -66,6 +66,15 @@ other x y e is = differs (sym ((bytes_eq-Decides x y).1 is) ∙ e)
 judged_unless : (P : ScopeError → Type 0) (right : Bool) → (right ≡ false → P error.BadArguments) → ((rule : ScopeError) → P rule → right ≡ false) → Judged (unless right) P
 judged_unless P true bad each = λ rule p. differs (each rule p)
 judged_unless P false bad each = bad refl
+
+one_false : (a b : Bool) → (a && b) ≡ false → (a ≡ false) ⊎ (b ≡ false)
+one_false true b e = inr e
+one_false false b e = inl refl
+
+not_both_true : (a b : Bool) → (a ≡ false) ⊎ (b ≡ false) → (a && b) ≡ false
+not_both_true true b (inl e) = differs e
+not_both_true true b (inr e) = e
+not_both_true false b e = refl
 
 module _ (world : World) (home : Home) where
   -- ---- names
@@ -281,13 +290,17 @@ module _ (world : World) (home : Home) where
       by false false false false false true e1 e2 e3 e4 e5 e6 = grind (arith, nat_tests)
       by false false false false false false e1 e2 e3 e4 e5 e6 = right e1 e2 e3 e4 e5 e6
 
+  -- a filter takes its arguments, and what they name is named rightly
+  abbrev filter_right : Option ℕ → Exprs → trees.Pairs → Bool
+  filter_right o ts ps = filter_takes world.filters o (count ts) (keywords ps) && names_rightly world.filters o ts ps
+
   -- the rules that are broken at a place
   abbrev At : Use → Within → ScopeError → Type 0
   At (reads x) w rule = OfName (is_macro world home x) x rule
   At (binds x) w rule = OfName (is_macro world home x) x rule
   At (asks_loop k) w rule = OfField k w rule
   At (calls f ts ps) w rule = OfCall (MisusesLoop f w) (callee (macros world.sources home) f) w ts ps rule
-  At (filters x ts ps) w rule = OfArguments (filter_takes world.filters (world.filters.named x) (count ts) (keywords ps)) rule
+  At (filters x ts ps) w rule = OfArguments (filter_right (world.filters.named x ts ps) ts ps) rule
   At (tests x ts ps) w rule = OfArguments (test_takes (test_named x) ts ps) rule
   At (declares x ps) w rule = OfMacro x ps rule
 
@@ -354,16 +367,16 @@ module _ (world : World) (home : Home) where
   all_bound_told [] w = nothing
   all_bound_told (x ∷ xs) w = in_turn (used world home x) (all_used world home xs) (at w (binds x)) (bound xs w) (bound_told x w) (all_bound_told xs w)
 
-  filter_told : (x : Text) (ts : Exprs) (ps : trees.Pairs) (w : Within) → Tells (filter_broken world.filters (world.filters.named x) (count ts) (keywords ps)) (at w (filters x ts ps))
-  filter_told x ts ps w = by (world.filters.named x) refl
+  filter_told : (x : Text) (ts : Exprs) (ps : trees.Pairs) (w : Within) → Tells (filter_broken world.filters (world.filters.named x ts ps) ts ps) (at w (filters x ts ps))
+  filter_told x ts ps w = by (world.filters.named x ts ps) refl
     where
-      by : (o : Option ℕ) → world.filters.named x ≡ o → Tells (filter_broken world.filters o (count ts) (keywords ps)) (at w (filters x ts ps))
-      by None e = one None (filters x ts ps) w (λ rule h. differs (ap (λ o. filter_takes world.filters o (count ts) (keywords ps)) (sym e) ∙ only_arguments (filter_takes world.filters (world.filters.named x) (count ts) (keywords ps)) rule h))
+      by : (o : Option ℕ) → world.filters.named x ts ps ≡ o → Tells (filter_broken world.filters o ts ps) (at w (filters x ts ps))
+      by None e = one None (filters x ts ps) w (λ rule h. differs (ap (λ o. filter_right o ts ps) (sym e) ∙ only_arguments (filter_right (world.filters.named x ts ps) ts ps) rule h))
       by (Some f) e =
-          let right = filter_takes world.filters (Some f) (count ts) (keywords ps) in
-          let is : right ≡ filter_takes world.filters (world.filters.named x) (count ts) (keywords ps) = ap (λ o. filter_takes world.filters o (count ts) (keywords ps)) (sym e) in
-          one (unless right) (filters x ts ps) w
-          (judged_unless (OfArguments (filter_takes world.filters (world.filters.named x) (count ts) (keywords ps))) right (λ g. sym is ∙ g) (λ rule h. is ∙ only_arguments (filter_takes world.filters (world.filters.named x) (count ts) (keywords ps)) rule h))
+          let is : filter_right (Some f) ts ps ≡ filter_right (world.filters.named x ts ps) ts ps = ap (λ o. filter_right o ts ps) (sym e) in
+          one (unless (filter_right (Some f) ts ps)) (filters x ts ps) w
+          (judged_unless (OfArguments (filter_right (world.filters.named x ts ps) ts ps)) (filter_right (Some f) ts ps) (λ g. sym is ∙ g)
+          (λ rule h. is ∙ only_arguments (filter_right (world.filters.named x ts ps) ts ps) rule h))
 
   test_told : (x : Text) (ts : Exprs) (ps : trees.Pairs) (w : Within) → Tells (test_broken (test_named x) ts ps) (at w (tests x ts ps))
   test_told x ts ps w = by (test_named x) refl
@@ -440,7 +453,7 @@ module _ (world : World) (home : Home) where
         call_told f w ts ps (option_or (row_broken world home ts w) (pairs_broken world home ps w)) (row_spots ts w ++ pair_spots ps w) (called_told f w ts ps)
         (in_turn (row_broken world home ts w) (pairs_broken world home ps w) (row_spots ts w) (pair_spots ps w) (row_told ts w) (pairs_told ps w))
     told (filter a x ts ps) w =
-        in_turn (filter_broken world.filters (world.filters.named x) (count ts) (keywords ps)) (option_or (broken world home a w) (option_or (row_broken world home ts w) (pairs_broken world home ps w)))
+        in_turn (filter_broken world.filters (world.filters.named x ts ps) ts ps) (option_or (broken world home a w) (option_or (row_broken world home ts w) (pairs_broken world home ps w)))
         (at w (filters x ts ps)) (expr_spots a w ++ (row_spots ts w ++ pair_spots ps w)) (filter_told x ts ps w)
         (in_turn (broken world home a w) (option_or (row_broken world home ts w) (pairs_broken world home ps w)) (expr_spots a w) (row_spots ts w ++ pair_spots ps w) (told a w)
         (in_turn (row_broken world home ts w) (pairs_broken world home ps w) (row_spots ts w) (pair_spots ps w) (row_told ts w) (pairs_told ps w)))
@@ -509,7 +522,7 @@ module _ (world : World) (home : Home) where
   filtering_told : (fs : List Filtering) (w : Within) → Tells (filtering_broken world home fs w) (filtering_spots fs w)
   filtering_told [] w = nothing
   filtering_told (f ∷ fs) w =
-      in_turn (filter_broken world.filters (world.filters.named f.name) (count f.arguments) (keywords f.keywords))
+      in_turn (filter_broken world.filters (world.filters.named f.name f.arguments f.keywords) f.arguments f.keywords)
       (option_or (row_broken world home f.arguments w) (option_or (pairs_broken world home f.keywords w) (filtering_broken world home fs w)))
       (at w (filters f.name f.arguments f.keywords)) (row_spots f.arguments w ++ (pair_spots f.keywords w ++ filtering_spots fs w)) (filter_told f.name f.arguments f.keywords w)
       (in_turn (row_broken world home f.arguments w) (option_or (pairs_broken world home f.keywords w) (filtering_broken world home fs w)) (row_spots f.arguments w) (pair_spots f.keywords w ++ filtering_spots fs w) (row_told f.arguments w)
@@ -638,11 +651,11 @@ module _ (world : World) (home : Home) where
   called_back u w h = h
 
   arguments_to : (u : Use) (w : Within) → At u w error.BadArguments → BadArguments world home u w
-  arguments_to (reads x) w h = h
+  arguments_to (filters x ts ps) w h = one_false (filter_takes world.filters (world.filters.named x ts ps) (count ts) (keywords ps)) (names_rightly world.filters (world.filters.named x ts ps) ts ps) h
   arguments_to u w h = h
 
   arguments_back : (u : Use) (w : Within) → BadArguments world home u w → At u w error.BadArguments
-  arguments_back (reads x) w h = h
+  arguments_back (filters x ts ps) w h = not_both_true (filter_takes world.filters (world.filters.named x ts ps) (count ts) (keywords ps)) (names_rightly world.filters (world.filters.named x ts ps) ts ps) h
   arguments_back u w h = h
 
   slots_to : (u : Use) (w : Within) → At u w error.TooManySlots → TooManyParameters world home u w

@@ -45,9 +45,19 @@ is_filled [] n ks = true
 is_filled (p ∷ ps) (suc n) ks = is_filled ps n ks
 is_filled (p ∷ ps) zero ks = not (some_given (p ∷ ps) ks) || ((among p.name ks || is_some p.default) && is_filled ps zero ks)
 
--- a filter takes its values, and by name only what it names; a filter that there is not is the parser's matter
-abbrev pub filter_takes : Filters → Option ℕ → ℕ → List Text → Bool
-filter_takes fs None n ks = true
-filter_takes fs (Some f) n ks =
+-- a filter takes its values, and by name only what it names
+abbrev pub filter_fits : Filters → ℕ → ℕ → List Text → Bool
+filter_fits fs f n ks =
     fs.takes f (suc (max n (reached (fs.parameters f) ks))) && (is_filled (fs.parameters f) n ks
     && (not (repeated ks) && not (list_any (λ k. not (among k (map (λ p. p.name) (drop n (fs.parameters f))))) ks)))
+
+-- the same of a filter that a name may mean; one that there is not is the parser's matter
+abbrev pub filter_takes : Filters → Option ℕ → ℕ → List Text → Bool
+filter_takes fs None n ks = true
+filter_takes fs (Some f) n ks = filter_fits fs f n ks
+
+-- what the arguments of a filter name is named rightly: the filters, tests and keys inside filters over items are text literals, and are
+-- called with as many values as they take
+abbrev pub names_rightly : Filters → Option ℕ → Exprs → trees.Pairs → Bool
+names_rightly fs None ts ps = true
+names_rightly fs (Some f) ts ps = fs.inside f ts ps

@@ -8,7 +8,7 @@ use Rattle.jt_parse.specs.Texts.{ascending, repeated}
 use Rattle.jt_parse.specs.Trees.{Text, body_bound}
 use Rattle.jt_slots.specs.Loops.{field_named}
 use Rattle.jt_slots.specs.Tests.{test_named}
-use Rattle.jt_rules.specs.Arguments.{callee_takes, test_takes, filter_takes}
+use Rattle.jt_rules.specs.Arguments.{callee_takes, test_takes, filter_takes, names_rightly}
 use Rattle.jt_rules.specs.Spots.{Within, Use, reads, binds, asks_loop, calls, filters, tests, declares, parameter_names, chain_spots}
 use Rattle.jt_rules.specs.World.{World}
 use Rattle.jt_rules.specs.declared.error.ScopeError.{ScopeError}
@@ -60,10 +60,11 @@ module _ (world : World) (home : Home) where
   NotCallable (calls f ts ps) w = CannotBeCalled (callee (macros world.sources home) f) w
   NotCallable u w = ⊥
 
-  -- V4: arguments that are not taken, or a parameter that comes twice
+  -- V4: arguments that are not taken, names inside a filter that are not named rightly, or a parameter that comes twice
   abbrev pub BadArguments : Use → Within → Type 0
   BadArguments (calls f ts ps) w = callee_takes (callee (macros world.sources home) f) ts ps ≡ false
-  BadArguments (filters x ts ps) w = filter_takes world.filters (world.filters.named x) (count ts) (keywords ps) ≡ false
+  BadArguments (filters x ts ps) w =
+      (filter_takes world.filters (world.filters.named x ts ps) (count ts) (keywords ps) ≡ false) ⊎ (names_rightly world.filters (world.filters.named x ts ps) ts ps ≡ false)
   BadArguments (tests x ts ps) w = test_takes (test_named x) ts ps ≡ false
   BadArguments (declares x ps) w = IsTrue (repeated (parameter_names ps))
   BadArguments u w = ⊥

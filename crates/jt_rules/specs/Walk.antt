@@ -15,9 +15,9 @@ use Rattle.jt_slots.specs.Loops.{field_named}
 use Rattle.jt_slots.specs.Filters.{Filters}
 use Rattle.jt_rules.specs.World.{World}
 pub use Rattle.jt_rules.specs.Spots.{Within, parameter_names}
-pub use Rattle.jt_rules.specs.Arguments.{no_keywords, fits, reached, is_filled}
+pub use Rattle.jt_rules.specs.Arguments.{no_keywords, fits, reached, is_filled, filter_fits}
 pub use Rattle.jt_rules.specs.Rules.{names_counted}
-use Rattle.jt_rules.specs.Arguments.{callee_takes, test_takes, filter_takes}
+use Rattle.jt_rules.specs.Arguments.{callee_takes, test_takes}
 use Rattle.jt_ops.specs.declared.test_id.TestId.{TestId}
 use Rattle.jt_parse.specs.Texts.{repeated}
 
@@ -40,9 +40,9 @@ abbrev pub test_broken : Option TestId → Exprs → trees.Pairs → Option Scop
 test_broken None ts ps = None
 test_broken (Some t) ts ps = unless (test_takes (Some t) ts ps)
 
-abbrev pub filter_broken : Filters → Option ℕ → ℕ → List Text → Option ScopeError
-filter_broken fs None n ks = None
-filter_broken fs (Some f) n ks = unless (filter_takes fs (Some f) n ks)
+abbrev pub filter_broken : Filters → Option ℕ → Exprs → trees.Pairs → Option ScopeError
+filter_broken fs None ts ps = None
+filter_broken fs (Some f) ts ps = unless (filter_fits fs f (count ts) (keywords ps) && fs.inside f ts ps)
 
 abbrev pub refused : Bool → ScopeError → Option ScopeError
 refused wrong e = if wrong then Some e else None
@@ -83,7 +83,7 @@ module _ (world : World) (home : Home) where
     broken (call f ts ps) w =
         option_or (called_broken f w) (option_or (call_broken (callee (macros world.sources home) f) w f ts ps) (option_or (row_broken ts w) (pairs_broken ps w)))
     broken (filter a x ts ps) w =
-        option_or (filter_broken world.filters (world.filters.named x) (count ts) (keywords ps)) (option_or (broken a w) (option_or (row_broken ts w) (pairs_broken ps w)))
+        option_or (filter_broken world.filters (world.filters.named x ts ps) ts ps) (option_or (broken a w) (option_or (row_broken ts w) (pairs_broken ps w)))
     broken (test a n x ts ps) w = option_or (test_broken (test_named x) ts ps) (option_or (broken a w) (option_or (row_broken ts w) (pairs_broken ps w)))
     broken (unary o a) w = broken a w
     broken (binary o a b) w = option_or (broken a w) (broken b w)
@@ -123,7 +123,7 @@ module _ (world : World) (home : Home) where
   abbrev pub filtering_broken : List Filtering → Within → Option ScopeError
   filtering_broken [] w = None
   filtering_broken (f ∷ fs) w =
-      option_or (filter_broken world.filters (world.filters.named f.name) (count f.arguments) (keywords f.keywords))
+      option_or (filter_broken world.filters (world.filters.named f.name f.arguments f.keywords) f.arguments f.keywords)
       (option_or (row_broken f.arguments w) (option_or (pairs_broken f.keywords w) (filtering_broken fs w)))
 
   -- a macro's own name and its parameters

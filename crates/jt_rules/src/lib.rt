@@ -6,6 +6,7 @@ mod bindings;
 mod checking;
 mod error;
 mod expressions;
+mod inside;
 mod laws;
 mod scope;
 mod statements;
