@@ -91,6 +91,7 @@ second false b h = h
 module _ (fs : Filters) (named : (x : Text) (ts : Exprs) (ps : Pairs) → is_filter x ≡ true → IsThere (fs.named x ts ps)) where
   -- nor do its arguments name an unknown one, but that is another matter
   filter_found : (x : Text) (ts : Exprs) (ps : Pairs) → filter_unknown n.Filter x ts ps ≡ false → IsThere (fs.named x ts ps)
+  unfolding filter_unknown
   filter_found x ts ps h = named x ts ps (not_false (is_filter x) (first (not (is_filter x)) (inside_unknown n.Filter (filter_written x ts ps) ts) h))
 
   mutual

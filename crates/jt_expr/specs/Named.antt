@@ -70,7 +70,7 @@ inside_unknown u None ts = false
 inside_unknown u (Some f) ts = arguments_unknown u f 1 ts
 
 -- a filter's own name, or one that its arguments name
-abbrev pub filter_unknown : Named → Text → Exprs → Pairs → Bool
+unfoldable pub filter_unknown : Named → Text → Exprs → Pairs → Bool
 filter_unknown u x ts ps = unknown_filter u x || inside_unknown u (filter_written x ts ps) ts
 
 -- in the tree stands a filter, or a test, whose name has no meaning

@@ -2,6 +2,7 @@
 
 ghost use Rattle.std.specs.Prelude.{◌≡◌, MatchResult, option_map};
 ghost use Rattle.jt_filters.specs.FilterTable.{named_at};
+ghost use Rattle.jt_expr.specs.Trees.{no_exprs};
 ghost use Rattle.jt_expr.specs.View.{expr_view, exprs_view, pairs_view};
 ghost use Rattle.jt_expr.specs.Named as spec;
 
@@ -82,8 +83,19 @@ pub fn literal_text(expr: &Expr) -> Option<&str>
 fn only_name<'a>(items: &[Expr], pairs: &'a [(String, Expr)]) -> Option<&'a str>
     ensures { option_map (λ s. s.now) result ≡ spec.only_name (exprs_view items.now) (pairs_view pairs.now) }
 {
-    match (items, pairs) {
-        ([], [(name, _)]) => Some(name.as_str()),
+    match items {
+        [] => single_name(pairs),
+        _ => None,
+    }
+}
+
+/// The name of the only argument by name, where there is one alone.
+fn single_name(pairs: &[(String, Expr)]) -> Option<&str>
+    ensures { option_map (λ s. s.now) result ≡ spec.only_name no_exprs (pairs_view pairs.now) }
+{
+    match pairs {
+        [] => None,
+        [(name, _)] => Some(name.as_str()),
         _ => None,
     }
 }
