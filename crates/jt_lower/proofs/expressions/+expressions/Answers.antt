@@ -1,14 +1,13 @@
-use Rattle.std.proofs.Common.{◌≡◌, ℕ, suc, ◌+◌, Some, None, Option, refl, sym, ap, ◌∙◌, subst, arith}
+use Rattle.std.proofs.Common.{◌≡◌, suc, ◌+◌, None, refl, sym, ap, ◌∙◌, subst, arith}
 use Rattle.std.specs.Prelude.{min}
 use Rattle.jt_image.specs.Loops.{field_id}
 use Rattle.jt_image.specs.declared.instruction.Instruction.TheVariants as op
-use Rattle.jt_slots.specs.Slots as slots
 use Rattle.jt_slots.specs.Slots.{none}
 use Rattle.jt_slots.specs.Size.{row_count}
 use Rattle.jt_slots.specs.View.{slot_view, field_view, maker_view, expr_view, row_view}
 use Rattle.jt_lower.specs.Asm.{Asm, nil, one, both, choose, invoke}
 use Rattle.jt_lower.specs.Lower.{maker, told_as, flag, load_of, expr_asm, row_asm}
-use Rattle.jt_lower.specs.Emission.{StandsFor, Given, Puts}
+use Rattle.jt_lower.specs.Emission.{Given, Puts}
 use Rattle.jt_lower.proofs.Patched.{puts_nothing, puts_then, puts_as, puts_call, puts_choice, reserved_within, ended_within}
 use Rattle.jt_lower.proofs.Viewed.{view_Pooled, view_Variable, view_Field, seen_made, seen_conjunction, seen_disjunction, seen_choice, seen_invoke}
 use Rattle.jt_lower.proofs.Rows.{stands_raised, row_item, row_aside}
