@@ -296,7 +296,7 @@ fn flaws_have_their_lines(rt: HostRuntime) -> Result<(), Fail> {
         image_says(&rt, image_of(alloc, code)?.as_slice(), line.as_str())?;
     }
     let mut deep = Vec::new(alloc);
-    for _turn in 0..1_025u32 {
+    for _turn in 0..1_026u32 {
         deep.push((1, 0))?;
     }
     let image = image_of(alloc, deep.as_slice())?;
