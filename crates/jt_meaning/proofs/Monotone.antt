@@ -1,5 +1,5 @@
 -- A text or fault at n is the same with more calls: `Under g h` says that h is g, or that g is deeper.
-use Rattle.std.proofs.Common.{ℕ, zero, suc, refl}
+use Rattle.std.proofs.Common.{◌≡◌, ◌≤◌, ◌+◌, ◌-◌, ℕ, zero, suc, refl, subst, arith}
 use Rattle.std.specs.Prelude.{Bool, true, false, List, [], ◌∷◌, Option, Some, None, if◌then◌else◌}
 use Rattle.std.specs.Option.{is_none}
 use Rattle.jt_value.specs.Tree as tree
@@ -171,9 +171,21 @@ calls_under world (suc n) x = performed_under world (calls_below world n) (calls
 pub mean_under : (world : World) (entry : Home) (context : Pairs) (n : ℕ) → Under (mean world entry context n) (mean world entry context (suc n))
 mean_under world entry context n = performed_under world (calls_below world n) (calls_below world (suc n)) (calls_under world n) (the_chain entry context)
 
+-- the same at every greater depth
+more_under : {g h k : Got Text} → Under g h → Under h k → Under g k
+more_under less v = less
+more_under same v = v
+
+later_under : (world : World) (entry : Home) (context : Pairs) (n k m : ℕ) → m ≡ k + n → Under (mean world entry context n) (mean world entry context m)
+later_under world entry context n zero m e = let q : n ≡ m = omega arith in subst (λ z. Under (mean world entry context n) (mean world entry context z)) q same
+later_under world entry context n (suc k) m e =
+    let q : suc (k + n) ≡ m = omega arith in
+    subst (λ z. Under (mean world entry context n) (mean world entry context z)) q
+    (more_under (later_under world entry context n k (k + n) refl) (mean_under world entry context (k + n)))
+
 -- the same, by cases
-pub mean_stays : (world : World) (entry : Home) (context : Pairs) (n : ℕ) → Stays (mean world entry context n) (mean world entry context (suc n))
-mean_stays world entry context n = through (mean_under world entry context n)
+pub mean_stays : (world : World) (entry : Home) (context : Pairs) (n m : ℕ) → n ≤ m → Stays (mean world entry context n) (mean world entry context m)
+mean_stays world entry context n m le = through (later_under world entry context n (m - n) m (omega arith))
   where
     itself : (g : Got Text) → Stays g g
     itself (gives x) = refl

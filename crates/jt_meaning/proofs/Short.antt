@@ -344,31 +344,14 @@ program_short world entry rest n k h =
 -- ---- the filters of the language
 
 defaults_bare : (i : FilterId) → Bare (filter_parameters i)
+defaults_bare filter_id.Attr = (refl, tt)
 defaults_bare filter_id.Default = (refl, (refl, tt))
 defaults_bare filter_id.Int = (refl, tt)
 defaults_bare filter_id.Join = (refl, tt)
-defaults_bare filter_id.Sort = (refl, tt)
+defaults_bare filter_id.MapAttribute = (refl, tt)
 defaults_bare filter_id.Replace = (refl, (refl, tt))
-defaults_bare filter_id.Abs = tt
-defaults_bare filter_id.Capitalize = tt
-defaults_bare filter_id.DictSort = tt
-defaults_bare filter_id.Escape = tt
-defaults_bare filter_id.First = tt
-defaults_bare filter_id.ForceEscape = tt
-defaults_bare filter_id.Items = tt
-defaults_bare filter_id.Last = tt
-defaults_bare filter_id.Length = tt
-defaults_bare filter_id.List = tt
-defaults_bare filter_id.Lower = tt
-defaults_bare filter_id.Max = tt
-defaults_bare filter_id.Min = tt
-defaults_bare filter_id.Reverse = tt
-defaults_bare filter_id.Safe = tt
-defaults_bare filter_id.String = tt
-defaults_bare filter_id.Sum = tt
-defaults_bare filter_id.Trim = tt
-defaults_bare filter_id.Unique = tt
-defaults_bare filter_id.Upper = tt
+defaults_bare filter_id.Sort = (refl, tt)
+defaults_bare i = tt
 
 filters_bare : (n : ℕ) → Bare (the_filters.parameters n)
 unfolding the_filters
