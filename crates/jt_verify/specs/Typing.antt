@@ -8,7 +8,7 @@ use Rattle.jt_image.specs.Typed.{Among, max_entries}
 use Rattle.jt_image.specs.declared.kind.Kind.{Kind}
 use Rattle.jt_verify.specs.declared.links.Mark.{Mark}
 use Rattle.jt_verify.specs.declared.typing.Leads.{Leads}
-use Rattle.jt_verify.specs.declared.typing.Effect.{Effect}
+use Rattle.jt_verify.specs.declared.typing.Outcome.{Outcome}
 use Rattle.jt_verify.specs.declared.typing.EffectError.{EffectError}
 use Rattle.jt_verify.specs.declared.typing.EffectError.TheVariants as errors
 use Rattle.jt_verify.specs.Arena.{Lists, shape_in, kind_of}
@@ -38,7 +38,7 @@ Fits n p (Err (errors.Flaw f)) = ⊥
 Fits n p (Err (errors.TooTall q)) = (q ≡ p) × (max_entries < n)
 
 -- what the effect of an instruction is; a shape that is too long is not made
-abbrev pub EffectGives : Lists → Result Effect EffectError → Result effects.Leads Flaw → Type 0
+abbrev pub EffectGives : Lists → Result Outcome EffectError → Result effects.Leads Flaw → Type 0
 EffectGives t (Ok e) effect = effect ≡ Ok (record { shape = marked e.mark (shape_in t e.shape); points = points_of e.leads })
 EffectGives t (Err (errors.Flaw f)) effect = effect ≡ Err f
 EffectGives t (Err (errors.TooTall q)) effect = IsTall q effect

@@ -28,7 +28,7 @@ pub(crate) struct Leads {
 
 /// What an instruction does: the shape behind it, below a mark that it puts on top, and where it leads.
 #[derive(Clone, Copy)]
-pub(crate) struct Effect {
+pub(crate) struct Outcome {
     pub(crate) shape: Handle,
     pub(crate) mark: Option<Mark>,
     pub(crate) leads: Leads,
@@ -103,7 +103,7 @@ fn push_value(arena: &Arena, shape: Handle) -> Handle
 }
 
 // To the next instruction.
-fn goes_on(header: &UnitHeader, point: usize, shape: Handle) -> Result<Effect, EffectError>
+fn goes_on(header: &UnitHeader, point: usize, shape: Handle) -> Result<Outcome, EffectError>
     requires { point < header.now.instructions }
     ensures gives { (u : Section) → header.now ≡ header_of u → (t : Lists) → EffectGives t result (goes_on_of u point (shape_in t shape)) }
     ensures within { IfOk result (λ e. AreWithin header.now.instructions e.leads) }
@@ -111,7 +111,7 @@ fn goes_on(header: &UnitHeader, point: usize, shape: Handle) -> Result<Effect, E
 {
     let instructions = header.instructions;
     if point + 1 < instructions {
-        Ok(Effect {
+        Ok(Outcome {
             shape,
             mark: None,
             leads: Leads {
@@ -143,7 +143,7 @@ fn opens(
     point: usize,
     shape: Handle,
     mark: Mark,
-) -> Result<Effect, EffectError>
+) -> Result<Outcome, EffectError>
     requires point { point < header.now.instructions }
     requires within { IsIn arena.now shape }
     ensures gives { (u : Section) → header.now ≡ header_of u → EffectGives arena.now result (goes_on_of u point (kind_of mark ∷ shape_in arena.now shape)) }
@@ -155,7 +155,7 @@ fn opens(
         return Err(EffectError::Flaw(Flaw::FallsOff));
     }
     fits(arena, shape, 1, point + 1)?;
-    Ok(Effect {
+    Ok(Outcome {
         shape,
         mark: Some(mark),
         leads: Leads {
@@ -166,13 +166,13 @@ fn opens(
 }
 
 // To the target of a jump.
-fn jumps(header: &UnitHeader, target: u32, shape: Handle) -> Result<Effect, EffectError>
+fn jumps(header: &UnitHeader, target: u32, shape: Handle) -> Result<Outcome, EffectError>
     ensures gives { (u : Section) → header.now ≡ header_of u → (t : Lists) → EffectGives t result (jumps_of u target (shape_in t shape)) }
     ensures within { IfOk result (λ e. AreWithin header.now.instructions e.leads) }
     ensures plain { IfOk result (λ e. (e.shape ≡ shape) × (e.mark ≡ None)) }
 {
     if (target as usize) < header.instructions {
-        Ok(Effect {
+        Ok(Outcome {
             shape,
             mark: None,
             leads: Leads {
@@ -191,7 +191,7 @@ fn branches(
     point: usize,
     target: u32,
     shape: Handle,
-) -> Result<Effect, EffectError>
+) -> Result<Outcome, EffectError>
     requires { point < header.now.instructions }
     ensures gives { (u : Section) → header.now ≡ header_of u → (t : Lists) → EffectGives t result (branches_of u point target (shape_in t shape)) }
     ensures within { IfOk result (λ e. AreWithin header.now.instructions e.leads) }
@@ -204,7 +204,7 @@ fn branches(
     if point + 1 >= instructions {
         return Err(EffectError::Flaw(Flaw::FallsOff));
     }
-    Ok(Effect {
+    Ok(Outcome {
         shape,
         mark: None,
         leads: Leads {
@@ -221,7 +221,7 @@ fn makes(
     point: usize,
     count: usize,
     shape: Handle,
-) -> Result<Effect, EffectError>
+) -> Result<Outcome, EffectError>
     requires point { point < header.now.instructions }
     requires within { IsIn arena.now shape }
     requires small { length (shape_in arena.now shape) ≤ max_entries }
@@ -240,7 +240,7 @@ fn spreads(
     point: usize,
     count: u32,
     shape: Handle,
-) -> Result<Effect, EffectError>
+) -> Result<Outcome, EffectError>
     requires point { point < header.now.instructions }
     requires within { IsIn arena.now shape }
     ensures gives { (u : Section) → header.now ≡ header_of u → EffectGives arena.now result (goes_on_of u point (pushes count (shape_in arena.now shape))) }
@@ -276,7 +276,7 @@ fn calls<C: Code>(
     point: usize,
     unit: u32,
     shape: Handle,
-) -> Result<Effect, EffectError>
+) -> Result<Outcome, EffectError>
     requires point { point < header.now.instructions }
     requires within { IsIn arena.now shape }
     requires small { length (shape_in arena.now shape) ≤ max_entries }
@@ -383,7 +383,7 @@ pub(crate) fn effect<C: Code>(
     point: usize,
     instruction: Instruction,
     shape: Handle,
-) -> Result<Effect, EffectError>
+) -> Result<Outcome, EffectError>
     requires point { point < header.now.instructions }
     requires inside { IsIn arena.now shape }
     requires small { length (shape_in arena.now shape) ≤ max_entries }
@@ -516,7 +516,7 @@ pub(crate) fn effect<C: Code>(
             if !may_return(arena, header.kind, shape) {
                 return Err(EffectError::Flaw(Flaw::BadReturn));
             }
-            Ok(Effect {
+            Ok(Outcome {
                 shape,
                 mark: None,
                 leads: Leads {
