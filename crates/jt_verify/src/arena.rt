@@ -206,7 +206,10 @@ fn add(
     ensures links { IfOk result (λ k. links.new.items ≡ slice_set (links.old.items ++ 0 ∷ 0 ∷ 0 ∷ []) place k) }
     ensures err { OnErr result ((nodes.new.items ≡ nodes.old.items) × (links.new.items ≡ links.old.items)) }
 {
-    let Ok(node) = u32::try_from(nodes.len() + 1) else {
+    let Ok(last) = u32::try_from(nodes.len()) else {
+        return Err(AllocError);
+    };
+    let Some(node) = last.checked_add(1) else {
         return Err(AllocError);
     };
     nodes.reserve(1)?;

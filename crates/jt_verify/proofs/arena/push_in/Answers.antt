@@ -18,21 +18,21 @@ returns-in-To-clause-node c = found_pushed c.args.nodes.now.items c.as_slice.res
 pub add-requires : goal.add-requires
 add-requires c = omega (arith, c.in-Vacant.ensures.1, c.requires.arena.links.places, ap (λ (ns : List Node). length ns) c.as_slice.ensures)
 
-pub returns-in_err-node-clause-arena : goal.returns-in_err-node-clause-arena
-returns-in_err-node-clause-arena c = rw (c.in_err-node.ensures.err.0, c.in_err-node.ensures.err.1) c.requires.arena
+pub returns-in_err-node-in-Vacant-clause-arena : goal.returns-in_err-node-in-Vacant-clause-arena
+returns-in_err-node-in-Vacant-clause-arena c = rw (c.in_err-node-in-Vacant.ensures.err.0, c.in_err-node-in-Vacant.ensures.err.1) c.requires.arena
 
-pub returns-in_err-node-clause-kept : goal.returns-in_err-node-clause-kept
-returns-in_err-node-clause-kept c = rw c.in_err-node.ensures.err.0 (kept_same _)
+pub returns-in_err-node-in-Vacant-clause-kept : goal.returns-in_err-node-in-Vacant-clause-kept
+returns-in_err-node-in-Vacant-clause-kept c = rw c.in_err-node-in-Vacant.ensures.err.0 (kept_same _)
 
-pub returns-in-Vacant-clause-arena : goal.returns-in-Vacant-clause-arena
-returns-in-Vacant-clause-arena c =
+pub returns-in_ok-node-in-Vacant-clause-arena : goal.returns-in_ok-node-in-Vacant-clause-arena
+returns-in_ok-node-in-Vacant-clause-arena c =
     let ns = c.args.nodes.now.items in
     let ls = c.args.links.now.items in
     let f = vacant_pushed ns c.as_slice.result.now ls c.as_slice-2.result.now c.args.mark c.args.shape c.digits.result c.in-Vacant.place c.as_slice.ensures c.as_slice-2.ensures c.digits.ensures c.in-Vacant.ensures in
-    rw (c.in_ok-node.ensures.nodes, c.in_ok-node.ensures.links) (pushed ns ls c.requires.arena c.in-Vacant.place c.in_ok-node.node f.0 f.1 c.args.mark c.args.shape c.args.height (omega (arith, c.in_ok-node.ensures.node)) c.requires.within c.requires.height f)
+    rw (c.in_ok-node-in-Vacant.ensures.nodes, c.in_ok-node-in-Vacant.ensures.links) (pushed ns ls c.requires.arena c.in-Vacant.place c.in_ok-node-in-Vacant.node f.0 f.1 c.args.mark c.args.shape c.args.height (omega (arith, c.in_ok-node-in-Vacant.ensures.node)) c.requires.within c.requires.height f)
 
-pub returns-in-Vacant-clause-kept : goal.returns-in-Vacant-clause-kept
-returns-in-Vacant-clause-kept c = rw c.in_ok-node.ensures.nodes (kept_pushed c.args.nodes.now.items (record { mark = c.args.mark; below = c.args.shape; height = c.args.height }) c.requires.arena.len)
+pub returns-in_ok-node-in-Vacant-clause-kept : goal.returns-in_ok-node-in-Vacant-clause-kept
+returns-in_ok-node-in-Vacant-clause-kept c = rw c.in_ok-node-in-Vacant.ensures.nodes (kept_pushed c.args.nodes.now.items (record { mark = c.args.mark; below = c.args.shape; height = c.args.height }) c.requires.arena.len)
 
-pub returns-in-Vacant-clause-node : goal.returns-in-Vacant-clause-node
-returns-in-Vacant-clause-node c = rw c.in_ok-node.ensures.nodes (shape_pushed c.args.nodes.now.items (record { mark = c.args.mark; below = c.args.shape; height = c.args.height }) c.requires.arena.len c.in_ok-node.node (omega (arith, c.in_ok-node.ensures.node)))
+pub returns-in_ok-node-in-Vacant-clause-node : goal.returns-in_ok-node-in-Vacant-clause-node
+returns-in_ok-node-in-Vacant-clause-node c = rw c.in_ok-node-in-Vacant.ensures.nodes (shape_pushed c.args.nodes.now.items (record { mark = c.args.mark; below = c.args.shape; height = c.args.height }) c.requires.arena.len c.in_ok-node-in-Vacant.node (omega (arith, c.in_ok-node-in-Vacant.ensures.node)))
