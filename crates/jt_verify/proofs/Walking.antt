@@ -93,6 +93,9 @@ module _ (k : Code) (u : Section) (t : Lists) (hs : List (Option Handle)) (w : L
   pub path_within : x.point < length hs
   path_within = omega (arith, in_table k u (table_in t hs) (paths_in t w) (path_in t x) working, length-map hs (option_map (shape_in t)))
 
+  pub path_in_code : x.point < length u.code
+  path_in_code = omega (arith, in_table k u (table_in t hs) (paths_in t w) (path_in t x) working, working.len)
+
   pub clash_holds : (n : ℕ) (e : Refusal) → Clashes (table_in t hs) n (path_in t x) e → RefusesUnit k u n e
   clash_holds n e c = clash_refuses k u n (table_in t hs) (paths_in t w) (path_in t x) e working c
 

@@ -12,5 +12,4 @@ mod verifier;
 pub use checked::{Checked, Verified, VerifiedView, verify, verify_view};
 pub use refusal::{Refusal, flaw_name};
 pub use shape::{Shape, join};
-pub use typing::operands;
 pub use verifier::verify_code;

@@ -294,8 +294,8 @@ fn calls<C: Code>(
     goes_on(header, point, push_value(arena, below))
 }
 
-/// How many operands an operator takes.
-pub fn operands(operator: OpId) -> usize
+// How many operands an operator takes.
+fn operands(operator: OpId) -> usize
     ensures { result ≡ op_operands operator }
 {
     if operator.takes(1) {

@@ -2,7 +2,7 @@ use Rattle.std.proofs.Common.{arith, rules, ap, subst}
 use Rattle.jt_image.specs.declared.code.UnitHeader.{UnitHeader}
 use Rattle.jt_verify.specs.Typing.{AreWithin}
 use Rattle.jt_verify.specs.Working.{unit_of}
-use Rattle.jt_verify.proofs.Walking.{path_inside, path_within, clash_holds, step_flaw_holds, works_met, less_met, works_stepped, less_stepped}
+use Rattle.jt_verify.proofs.Walking.{path_inside, path_within, path_in_code, clash_holds, step_flaw_holds, works_met, less_met, works_stepped, less_stepped}
 use Rattle.jt_verify.proofs.verifier.follow.Goals as goal
 
 pub arrive-requires-clause-point : goal.arrive-requires-clause-point
@@ -39,8 +39,8 @@ returns-then-is_known-clause-less g c =
 pub step-requires-clause-point : goal.step-requires-clause-point
 step-requires-clause-point g c =
     let k = g.C.Code.code c.args.code.now in
-    let lt = path_within k (unit_of k c.args.unit) c.args.arena.now c.args.shapes.now.items c.args.paths.now.items c.args.path c.requires.works in
-    omega (arith, lt, c.requires.works.working.len, ap (λ (h : UnitHeader). h.instructions) c.requires.unit.header)
+    let lt = path_in_code k (unit_of k c.args.unit) c.args.arena.now c.args.shapes.now.items c.args.paths.now.items c.args.path c.requires.works in
+    omega (arith, lt, ap (λ (h : UnitHeader). h.instructions) c.requires.unit.header)
 
 pub step-requires-clause-shape : goal.step-requires-clause-shape
 step-requires-clause-shape g c =
