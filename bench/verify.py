@@ -8,7 +8,8 @@ as docs/image.md says. Each is checked --runs times (3); the shortest time is pr
 the most memory that it held, less those of an image of one instruction. The status is 1 where an image takes more than --most
 (0.1 seconds) or --room (40 MB), or where the answer is none that it should have. --keep writes the images to a folder.
 """
-import argparse, os, pathlib, resource, struct, subprocess, sys, tempfile, time
+import os, pathlib, struct, subprocess, sys, tempfile
+from timing import flags
 
 CONST, DROP, DUP, JUMP_IF_FALSE, MAKE_LIST, RETURN = 0x01, 0x06, 0x07, 0x0B, 0x10, 0x1C
 LOOP_START, LOOP_GET, LOOP_END, CAPTURE_BEGIN, CAPTURE_END, UNPACK = 0x12, 0x14, 0x17, 0x18, 0x19, 0x1A
@@ -127,9 +128,7 @@ def check(program, path):
 
 
 def main():
-    here = pathlib.Path(__file__).resolve().parent.parent
-    words = argparse.ArgumentParser(description=__doc__, formatter_class=argparse.RawDescriptionHelpFormatter)
-    words.add_argument("--jt", default=str(here / "crates/jt_cli/out/jt_cli"))
+    words = flags(__doc__)
     words.add_argument("--runs", type=int, default=3)
     words.add_argument("--most", type=float, default=0.1)
     words.add_argument("--room", type=float, default=40)
