@@ -1,6 +1,6 @@
 //! Sessions that take turns.
 
-ghost use Rattle.std.specs.Prelude.{Some, None, if◌then◌else◌, string_bytes, bytes_eq};
+ghost use Rattle.std.specs.Prelude.{Some, None, if◌then◌else◌, codes, bytes_eq};
 
 use jt_codegen::compile;
 use jt_host::{Host, HostError};
@@ -20,7 +20,7 @@ struct One<'a> {
 }
 
 impl Library for One<'_> {
-    ghost sources = { λ s name. if bytes_eq name "t" then Some s.source.now else None };
+    ghost sources = { λ s name. if bytes_eq name (codes "t") then Some s.source.now else None };
 
     fn source(&self, name: &str) -> Option<&str> {
         if name == "t" { Some(self.source) } else { None }
