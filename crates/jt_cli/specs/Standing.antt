@@ -1,0 +1,51 @@
+-- Where the sessions of `turns` stand in a host.
+use Rattle.std.specs.Prelude.{◌≡◌, ℕ, ◌+◌, ◌<◌, ◌≤◌, Bool, true, List, [], ◌∷◌, length, Option, Some, None, is_some, string_bytes}
+use Rattle.std.specs.List.{list_all}
+use Rattle.jt_value.specs.Pairs.{Pairs}
+use Rattle.jt_budget.specs.declared.Budget.{Budget}
+use Rattle.jt_image.specs.Code.{Code}
+use Rattle.jt_machine.specs.Session.{Session, Status, advanced, outcome_of, started, going, done, lost}
+use Rattle.jt_machine.specs.View.{budget_view}
+use Rattle.jt_line.specs.declared.Pair.{Pair}
+use Rattle.jt_host.specs.Turns.{World}
+use Rattle.jt_cli.specs.Commands.{IsContextAt}
+use Rattle.jt_cli.specs.Files.{Known}
+use Rattle.jt_cli.specs.Program.{IsImageOf}
+
+module _ (files : Known) (b : Budget) where
+  -- a session of a pair's image for its context, after some instructions
+  pub record IsSession (p : Pair) (s : Session) : Type 0 where
+    pub bytes : List ℕ
+    pub held : files.holds (string_bytes p.image) bytes
+    pub pairs : Pairs
+    pub given : IsContextAt files (Some p.context) pairs
+    pub code : Code
+    pub image : IsImageOf bytes code
+    pub steps : ℕ
+    pub is : s ≡ advanced steps (started code pairs (budget_view b))
+
+  -- the sessions are those of the pairs, by ids one after another
+  abbrev pub AreSessions : ℕ → List Pair → List (ℕ × Session) → Type 0
+  AreSessions i [] [] = Unit {0}
+  AreSessions i [] (e ∷ es) = ⊥
+  AreSessions i (p ∷ ps) [] = ⊥
+  AreSessions i (p ∷ ps) (e ∷ es) = (e.0 ≡ i) × IsSession p e.1 × AreSessions (i + 1) ps es
+
+  -- the host has the sessions of the pairs, and no other
+  abbrev pub Stands : List Pair → World → Type 0
+  Stands ps w = (w.last ≡ length ps) × AreSessions 1 ps w.sessions
+
+-- what a session has of its fuel, where it goes on still, and one more
+abbrev pub fuel_of : Status → ℕ
+fuel_of (going c) = c.left.fuel + 1
+fuel_of (done o) = 0
+fuel_of lost = 0
+
+-- the same of all sessions
+abbrev pub fuel_left : List (ℕ × Session) → ℕ
+fuel_left [] = 0
+fuel_left (e ∷ es) = fuel_of e.1.status + fuel_left es
+
+-- each session has ended
+abbrev pub have_ended : List (ℕ × Session) → Bool
+have_ended = list_all (λ e. is_some (outcome_of e.1))

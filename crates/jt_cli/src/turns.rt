@@ -1,0 +1,143 @@
+//! Images that run in turns.
+ghost use Rattle.std.specs.Prelude.{◌≡◌, ◌≤◌, ◌<◌, ◌+◌, ◌++◌, true, false, List, [], ◌∷◌, length, Err, IfOk, IfErr, OnOk, string_bytes};
+ghost use Rattle.jt_machine.specs.View.{limit_view, outcome_view};
+ghost use Rattle.jt_line.specs.declared.Pair.{Pair as LinePair};
+ghost use Rattle.jt_host.specs.Turns.{empty};
+ghost use Rattle.jt_cli.specs.Commands.{AreOutcomes, TakesTurns};
+ghost use Rattle.jt_cli.specs.Files.{Known};
+ghost use Rattle.jt_cli.specs.Lines.{limit_name, session_line, session_lines};
+ghost use Rattle.jt_cli.specs.Standing.{Stands, fuel_left, have_ended};
+
+use crate::commands::verified_of;
+use crate::files::Files;
+use crate::messages::{Failure, no_session};
+use crate::program::{bytes_at, context_at};
+use jt_budget::{Budget, Spent};
+use jt_host::Host;
+use jt_line::Pair;
+use jt_machine::{Outcome, Progress};
+use std::alloc::{AllocError, Global};
+
+/// The lines of the images at paths, which run for the contexts of files in turns of so many instructions.
+pub fn take_turns<F: Files>(
+    alloc: Global,
+    files: &F,
+    sessions: Vec<Pair>,
+    budget: Budget,
+    slice: u32,
+) -> Result<String, Failure>
+    requires { 1 ≤ slice }
+    ensures { TakesTurns (F.known files.now) sessions.items budget result }
+{
+    let count = sessions.len() as u64;
+    let mut host = Host::new(alloc);
+    for session in sessions {
+        open(alloc, files, &mut host, session, budget)?;
+    }
+    run_all(&mut host, count, slice)?;
+    lines(alloc, &host, count)
+}
+
+/// Opens the session of a pair.
+fn open<F: Files>(
+    alloc: Global,
+    files: &F,
+    host: &mut Host,
+    pair: Pair,
+    budget: Budget,
+) -> Result<(), Failure>
+    ensures opened { OnOk result ((ps : List LinePair) → Stands (F.known files.now) budget ps host.old
+        → Stands (F.known files.now) budget (ps ++ pair ∷ []) host.new) }
+    ensures err { IfErr result (λ e. (ps : List LinePair) → Stands (F.known files.now) budget ps host.old
+        → TakesTurns (F.known files.now) (ps ++ pair ∷ []) budget (Err e)) }
+{
+    let Pair { image, context } = pair;
+    let bytes = bytes_at(files, image)?;
+    let context = context_at(alloc, files, Some(context))?;
+    let verified = verified_of(alloc, &bytes)?;
+    match host.open(verified, &context, budget) {
+        Ok(_) => Ok(()),
+        Err((_, error)) => Err(no_session(error)),
+    }
+}
+
+/// Gives the sessions 1 to `count` turns, until all have ended.
+fn run_all(host: &mut Host, count: u64, slice: u32) -> Result<(), Failure>
+    requires slice { 1 ≤ slice }
+    ensures run { OnOk result ((files : Known) (b : Budget) (ps : List LinePair) → length ps ≡ count → Stands files b ps host.old
+        → Stands files b ps host.new × (have_ended host.new.sessions ≡ true)) }
+    ensures err { IfErr result (λ e. (files : Known) (b : Budget) (ps : List LinePair) → length ps ≡ count → Stands files b ps host.old → e ≡ Failure.NoMemory) }
+{
+    let mut going = true;
+    'rounds: while going {
+        going = run_each(host, count, slice)?;
+    }
+    Ok(())
+}
+
+/// Gives each of the sessions 1 to `count` a turn, and says whether one of them goes on still.
+fn run_each(host: &mut Host, count: u64, slice: u32) -> Result<bool, Failure>
+    requires slice { 1 ≤ slice }
+    ensures run { OnOk result ((files : Known) (b : Budget) (ps : List LinePair) → length ps ≡ count → Stands files b ps host.old → Stands files b ps host.new) }
+    ensures going { IfOk result (λ going. going ≡ true → fuel_left host.new.sessions < fuel_left host.old.sessions) }
+    ensures ended { IfOk result (λ going. (files : Known) (b : Budget) (ps : List LinePair) → length ps ≡ count → Stands files b ps host.old
+        → going ≡ false → have_ended host.new.sessions ≡ true) }
+    ensures err { IfErr result (λ e. (files : Known) (b : Budget) (ps : List LinePair) → length ps ≡ count → Stands files b ps host.old → e ≡ Failure.NoMemory) }
+{
+    let mut going = false;
+    'ids: for before in 0..count {
+        match host.turn(before + 1, slice) {
+            Ok(Progress::Going) => going = true,
+            Ok(Progress::Done) => {}
+            Err(error) => return Err(no_session(error)),
+        }
+    }
+    Ok(going)
+}
+
+/// The lines of the sessions 1 to `count`, which have ended.
+fn lines(alloc: Global, host: &Host, count: u64) -> Result<String, Failure>
+    ensures { (files : Known) (b : Budget) (ps : List LinePair) → length ps ≡ count → Stands files b ps host.now → have_ended host.now.sessions ≡ true
+        → TakesTurns files ps b result }
+{
+    let mut text = String::new(alloc);
+    'ids: for before in 0..count {
+        let id = before + 1;
+        match host.outcome(id) {
+            Ok(Some(outcome)) => text.push_str(&line(alloc, id, outcome)?)?,
+            Ok(None) => {}
+            Err(error) => return Err(no_session(error)),
+        }
+    }
+    Ok(text)
+}
+
+/// The line of a session.
+fn line(alloc: Global, id: u64, outcome: &Outcome) -> Result<String, AllocError>
+    ensures { IfOk result (λ line. string_bytes line ≡ session_line id (outcome_view outcome.now)) }
+{
+    match outcome {
+        Outcome::Text(text) => {
+            let size = text.len();
+            format!(in alloc; "{id} text {size}:{text}\n")
+        }
+        Outcome::Fault(fault) => format!(in alloc; "{id} fault {fault}\n"),
+        Outcome::Spent(spent) => {
+            let limit = limit_text(*spent);
+            format!(in alloc; "{id} spent {limit}\n")
+        }
+    }
+}
+
+/// The name of a limit.
+fn limit_text(spent: Spent) -> &'static str
+    ensures { result.now ≡ limit_name (limit_view spent) }
+{
+    match spent {
+        Spent::Fuel => "Fuel",
+        Spent::Depth => "Depth",
+        Spent::Output => "Output",
+        Spent::Size => "Size",
+        Spent::Nesting => "Nesting",
+    }
+}
