@@ -1,3 +1,5 @@
 mod Endings
+mod Fuel
 mod Gathering
+mod Sessions
 pub mod Taking

@@ -1,5 +1,5 @@
 -- The words of `turns`, two by two.
-use Rattle.std.proofs.Common.{◌≡◌, ◌≢◌, ◌∙◌, ◌+◌, ◌*◌, ◌<◌, ◌%◌, ℕ, List, [], ◌∷◌, ◌++◌, length, Option, Some, None, ap, refl, sym, subst, codes, arith, take, suc, get_or, append_assoc, Bor, option_map}
+use Rattle.std.proofs.Common.{◌≡◌, ◌≢◌, ◌∙◌, ◌+◌, ◌*◌, ◌<◌, ◌%◌, ℕ, List, [], ◌∷◌, ◌++◌, length, Option, Some, None, ap, refl, sym, subst, codes, arith, take, suc, get_or, append_assoc, length-map, Bor, option_map}
 use Rattle.std.proofs.Math.Seq.{take-suc}
 use Rattle.std.proofs.lemmas.List.{map-append}
 use Rattle.clap.specs.Walk.{texts}
@@ -11,7 +11,7 @@ use Rattle.jt_line.specs.declared.jobs.Job.{Job}
 use Rattle.jt_line.specs.declared.jobs.Options.{Options}
 use Rattle.jt_line.specs.declared.jobs.Pair.{Pair}
 use Rattle.jt_line.specs.Line.{ArePaired, ComeInPairs, IsAsked, IsCommand, pair_words, words_of_pairs}
-use Rattle.std.specs.Prelude.{slice_get, string_bytes, unwrap_or}
+use Rattle.std.specs.Prelude.{IfSome, slice_get, string_bytes, unwrap_or}
 
 -- two words a pair
 pub twice : (ps : List Pair) → length (words_of_pairs ps) ≡ 2 * length ps
@@ -68,11 +68,24 @@ two_more words i d fits =
     ap texts both ∙ map-append (λ (s : Bor Text). s.now) (take (2 * i) words) (get_or words (2 * i) d ∷ get_or words (2 * i + 1) d ∷ [])
 
 -- the words that are found
-pub found_words : (o : Option (Bor (List (Bor Text)))) (d : Bor (List (Bor Text))) (v : Option (List Text)) → d.now ≡ [] → option_map (λ s. texts s.now) o ≡ v
-    → texts (unwrap_or o d).now ≡ unwrap_or v []
-found_words None d v e f = ap texts e ∙ ap (λ x. unwrap_or x []) f
-found_words (Some s) d v e f = ap (λ x. unwrap_or x []) f
+pub found_words : (o : Option (Bor (List (Bor Text)))) (d r : Bor (List (Bor Text))) (v : Option (List Text)) → r ≡ unwrap_or o d → d.now ≡ []
+    → option_map (λ s. texts s.now) o ≡ v → texts r.now ≡ unwrap_or v []
+found_words None d r v is e f = ap (λ (s : Bor (List (Bor Text))). texts s.now) is ∙ (ap texts e ∙ ap (λ x. unwrap_or x []) f)
+found_words (Some s) d r v is e f = ap (λ (s : Bor (List (Bor Text))). texts s.now) is ∙ ap (λ x. unwrap_or x []) f
 
--- no word is no pair
-pub no_pair : (words : List Text) → length words ≡ 0 → ComeInPairs words → ⊥
-no_pair words e paired = let some = paired.0 in omega (arith, e, some)
+-- what holds of the rows of a command that was found
+pub at_rows : (P : List Row → Type 0) (o : Option (Text × List Row)) (rows : List Row) → Some rows ≡ option_map (λ p. p.1) o → IfSome o (λ p. P p.1) → P rows
+at_rows P None rows e h = absurd (cc)
+at_rows P (Some c) rows e h = let same : c.1 ≡ rows = cc in subst P same h
+
+-- pairs of no words
+pub no_words : (ps : List Pair) (words : List (Bor Text)) → words_of_pairs ps ≡ texts words → ps ≡ [] → length words ≡ 0
+no_words ps words e none =
+    let empty : length (texts words) ≡ 0 = ap length (sym e) ∙ ap (λ (qs : List Pair). length (words_of_pairs qs)) none in
+    sym (length-map (λ (s : Bor Text). s.now) words) ∙ empty
+
+-- words that come in pairs
+pub come_of : (words : List (Bor Text)) (all : List Text) → texts words ≡ all → ComeInPairs all → (0 < length words) × (length words % 2 ≡ 0)
+come_of words all e paired =
+    let same : length words ≡ length all = sym (length-map (λ (s : Bor Text). s.now) words) ∙ ap length e in
+    (subst (λ (n : ℕ). 0 < n) (sym same) paired.0, ap (λ n. n % 2) same ∙ paired.1)
