@@ -1,5 +1,5 @@
 -- Sessions by their ids, one after another.
-use Rattle.std.proofs.Common.{◌≡◌, ◌≢◌, ◌∙◌, ℕ, ◌+◌, ◌-◌, ◌<◌, ◌≤◌, Bool, true, false, cond, List, [], ◌∷◌, ◌++◌, length, Option, Some, None, ap, arith, refl, sym, subst, append_assoc}
+use Rattle.std.proofs.Common.{◌≡◌, ◌≢◌, ◌∙◌, ℕ, ◌+◌, ◌-◌, ◌<◌, ◌≤◌, suc, Bool, true, false, cond, List, [], ◌∷◌, ◌++◌, length, Option, Some, None, ap, arith, refl, sym, subst, append_assoc}
 use Rattle.std.specs.Prelude.{◌==◌, slice_get}
 use Rattle.std.proofs.lemmas.Bool.{eqb-true, eq-eqb}
 use Rattle.jt_budget.specs.declared.Budget.{Budget}
@@ -15,6 +15,9 @@ use Rattle.jt_host.specs.Turns.{find, replace}
 use Rattle.jt_cli.specs.Files.{Known}
 use Rattle.jt_cli.specs.Lines.{session_line, session_lines}
 use Rattle.jt_cli.specs.Standing.{AreSessions, IsSession, fuel_left, fuel_of}
+
+false_true : false ≡ true → ⊥
+false_true e = absurd (cc)
 
 -- an outcome after some instructions is that of the run
 pub run_of : (k : Code) (x : Pairs) (b : config.Budget) (n : ℕ) (o : Outcome) → outcome_of (advanced n (started k x b)) ≡ Some o → Run k x b o
@@ -92,5 +95,16 @@ module _ (files : Known) (b : Budget) where
   found_of i j (p ∷ ps) (x ∷ es) h least most = go (x.0 == j) refl
     where
       go : (c : Bool) → (x.0 == j) ≡ c → Found i j (p ∷ ps) (x ∷ es)
-      go true is = ?
-      go false is = ?
+      go true is =
+          let here : x.0 ≡ j = eqb-true x.0 j is in
+          let first = h.0 in
+          let none : j - i ≡ 0 = omega (arith, here, first) in
+          record { session = x.1; found = rw is refl; pair = p; place = ap (slice_get (p ∷ ps)) none; of = h.1 }
+      go false is =
+          let differs : x.0 ≢ j = λ e. false_true (sym is ∙ eq-eqb x.0 j e) in
+          let first = h.0 in
+          let above : i + 1 ≤ j = omega (arith, differs, first, least) in
+          let below : j < (i + 1) + length ps = omega (arith, most) in
+          let rest = found_of (i + 1) j ps es h.2 above below in
+          let one : j - i ≡ suc (j - (i + 1)) = omega (arith, above) in
+          record { session = rest.session; found = rw is rest.found; pair = rest.pair; place = ap (slice_get (p ∷ ps)) one ∙ rest.place; of = rest.of }

@@ -1,7 +1,7 @@
 -- The words of `turns`, two by two.
-use Rattle.std.proofs.Common.{◌≡◌, ◌≢◌, ◌∙◌, ◌+◌, ◌*◌, ◌<◌, ◌%◌, ℕ, List, [], ◌∷◌, ◌++◌, length, Option, Some, None, ap, refl, sym, subst, codes, arith, take, suc, get_or, append_assoc, length-map, Bor, option_map}
+use Rattle.std.proofs.Common.{◌≡◌, ◌≢◌, ◌∙◌, ◌+◌, ◌*◌, ◌<◌, ◌%◌, ℕ, List, [], ◌∷◌, ◌++◌, length, Option, Some, None, ap, refl, sym, subst, codes, arith, take, suc, get_or, append_assoc, Bor, option_map}
 use Rattle.std.proofs.Math.Seq.{take-suc}
-use Rattle.std.proofs.lemmas.List.{map-append}
+use Rattle.std.proofs.lemmas.List.{length-map, map-append}
 use Rattle.clap.specs.Walk.{texts}
 use Rattle.clap.specs.Words.{Row, Text}
 use Rattle.jt_budget.specs.declared.Budget.{Budget}
@@ -82,10 +82,10 @@ at_rows P (Some c) rows e h = let same : c.1 ≡ rows = cc in subst P same h
 pub no_words : (ps : List Pair) (words : List (Bor Text)) → words_of_pairs ps ≡ texts words → ps ≡ [] → length words ≡ 0
 no_words ps words e none =
     let empty : length (texts words) ≡ 0 = ap length (sym e) ∙ ap (λ (qs : List Pair). length (words_of_pairs qs)) none in
-    sym (length-map (λ (s : Bor Text). s.now) words) ∙ empty
+    sym (length-map words (λ (s : Bor Text). s.now)) ∙ empty
 
 -- words that come in pairs
 pub come_of : (words : List (Bor Text)) (all : List Text) → texts words ≡ all → ComeInPairs all → (0 < length words) × (length words % 2 ≡ 0)
 come_of words all e paired =
-    let same : length words ≡ length all = sym (length-map (λ (s : Bor Text). s.now) words) ∙ ap length e in
+    let same : length words ≡ length all = sym (length-map words (λ (s : Bor Text). s.now)) ∙ ap length e in
     (subst (λ (n : ℕ). 0 < n) (sym same) paired.0, ap (λ n. n % 2) same ∙ paired.1)
