@@ -7,3 +7,4 @@ pub mod Emitting
 pub mod Pieces
 pub mod Slicing
 pub mod Sinking
+pub mod AtOnce

@@ -7,3 +7,4 @@ pub mod Sinks
 pub mod Session
 pub mod SessionCode
 pub mod StageView
+pub mod AtOnce

@@ -1,6 +1,7 @@
 //! Runs verified images under budgets.
 #![tactic(auto)]
 
+mod at_once;
 mod calls;
 mod captures;
 mod items;

@@ -8,6 +8,7 @@ ghost use Rattle.jt_image.specs.Config as config;
 ghost use Rattle.jt_image.specs.Run.{Run, IsSafe};
 ghost use Rattle.jt_machine.specs.View.{budget_view, outcome_view};
 
+use crate::at_once::hurry;
 use crate::outcome::Outcome;
 use crate::start::{context_passes, start};
 use crate::step::step;
@@ -67,6 +68,7 @@ fn run_code<C: Code>(
     let _depth = budget.depth;
     let mut state = start(alloc, code, context, budget)?;
     'steps: loop {
+        hurry(code, &mut state);
         if let Some(outcome) = step(alloc, code, &mut state)? {
             return Ok(outcome);
         }

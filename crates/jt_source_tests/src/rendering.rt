@@ -469,7 +469,7 @@ const OVER_ITEMS: &str = r##"{{ [1, 2, 3]|select("odd")|join(",") }} => [1,3]
     {% filter select('nope') %}{% endfilter %} => P4
     {% filter map(s) %}{% endfilter %} => V4
     {% macro f(x) %}{{ x|map('abs')|join(',') }}{% endmacro %}{{ f([-1, 2]) }} => [1,2]
-    {"rows": [{"n": 2, "t": "b"}, {"n": 1, "t": "a"}]} ;; {% for t in rows|selectattr("n", "gt", 1)|map(attribute="t") %}{{ t }}{% endfor %} => [b]"##;
+    {"rows": [{"n": 2, "t": "b"}, {"n": 1, "t": "a"}]}¦{% for t in rows|selectattr("n", "gt", 1)|map(attribute="t") %}{{ t }}{% endfor %} => [b]"##;
 
 #[test]
 fn filters_over_items_hold(rt: HostRuntime) -> Result<(), Fail> {
