@@ -1,5 +1,5 @@
 -- Chains that break no rule: their programs fit, and their code does what they mean.
-use Rattle.std.proofs.Common.{◌≡◌, ℕ, List, [], ◌∷◌, Option, None, refl, sym, ap, ◌∙◌, subst}
+use Rattle.std.proofs.Common.{◌≡◌, List, [], ◌∷◌, None, refl, sym, ◌∙◌, subst}
 use Rattle.std.specs.List.{AllByRecursion}
 use Rattle.jt_scan.specs.declared.options.Options.{Options}
 use Rattle.jt_image.specs.IsCode.{IsCode}
@@ -21,7 +21,7 @@ use Rattle.jt_lower.specs.Lower.{compiled}
 use Rattle.jt_lower.specs.Fits.{ProgramFits}
 use Rattle.jt_lower.specs.Lawful.{AreLow}
 use Rattle.jt_lower.specs.Compiles.{LowLaws}
-use Rattle.jt_codegen.specs.Compiled.{DoesChain, IsOnlyChain, IsCompiled}
+use Rattle.jt_codegen.specs.Compiled.{IsOnlyChain, IsCompiled}
 use Rattle.jt_codegen.proofs.Knowing.{chains_known, filter_there}
 use Rattle.jt_codegen.proofs.Lawful.{program_lawful}
 

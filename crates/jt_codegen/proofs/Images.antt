@@ -1,5 +1,5 @@
 -- A chain that breaks no rule: its image, and what its refusals say.
-use Rattle.std.proofs.Common.{◌≡◌, ℕ, zero, suc, ◌+◌, ◌*◌, ◌<◌, ◌≤◌, Bool, true, false, List, [], ◌∷◌, map, length, Option, Some, refl, sym, ap, ◌∙◌, subst, arith}
+use Rattle.std.proofs.Common.{◌≡◌, ℕ, suc, ◌+◌, ◌*◌, ◌<◌, ◌≤◌, Bool, true, false, List, [], ◌∷◌, map, length, Some, refl, sym, ap, ◌∙◌, subst, arith}
 use Rattle.std.specs.Prelude.{slice_get, nat_le, IsTrue}
 use Rattle.std.specs.List.{AllByRecursion}
 use Rattle.std.proofs.lemmas.Bool.Decides.{nat_tests}
@@ -11,7 +11,7 @@ use Rattle.jt_image.specs.Parts.{HasTables}
 use Rattle.jt_image.specs.Laws.{CodeLaws}
 use Rattle.jt_parse.specs.Bytes.{body_bytes}
 use Rattle.jt_parse.specs.Trees.{Text}
-use Rattle.jt_inherit.specs.Chain.{Home, Template}
+use Rattle.jt_inherit.specs.Chain.{Home}
 use Rattle.jt_inherit.specs.Chains.{Given, IsChain}
 use Rattle.jt_inherit.specs.Places.{home_at}
 use Rattle.jt_inherit.specs.Refusals as inherit
@@ -26,10 +26,10 @@ use Rattle.jt_rules.specs.declared.error.ScopeError.{ScopeError}
 use Rattle.jt_rules.specs.declared.error.ScopeError.TheVariants as scope_error
 use Rattle.jt_rules.specs.World.{World, world_of}
 use Rattle.jt_meaning.specs.Bytes.{IsShort}
-use Rattle.jt_meaning.specs.Layout.{names, shared}
+use Rattle.jt_meaning.specs.Layout.{shared}
 use Rattle.jt_meaning.specs.Laws.{ProgramLaws}
 use Rattle.jt_meaning.specs.Measure.{AreFew, IsSized}
-use Rattle.jt_meaning.specs.Programs.{program, routines, count_globals}
+use Rattle.jt_meaning.specs.Programs.{program, routines}
 use Rattle.jt_slots.specs.Size.{body_height}
 use Rattle.jt_slots.specs.Slots.{Routine, Program}
 use Rattle.jt_slots.specs.View.{routine_view, templates_of, program_of}

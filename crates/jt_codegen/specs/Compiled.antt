@@ -1,5 +1,5 @@
 -- What it is for a code to be that of an entry in a library.
-use Rattle.std.specs.Prelude.{◌≡◌, ℕ, Option, List, ◌∷◌}
+use Rattle.std.specs.Prelude.{◌≡◌, ℕ, Option}
 use Rattle.jt_value.specs.Pairs.{Pairs}
 use Rattle.jt_value.specs.declared.fault.Fault.{Fault}
 use Rattle.jt_scan.specs.declared.options.Options.{Options}

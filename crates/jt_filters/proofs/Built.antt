@@ -9,7 +9,7 @@ use Rattle.jt_value.specs.Iteration.{items_of_tree}
 use Rattle.jt_value.specs.Payload.{has_payload}
 use Rattle.jt_value.specs.Tree as tree
 use Rattle.jt_value.specs.Tree.{Tree, Items, printed, is_nonempty}
-use Rattle.jt_escape.specs.Joining.{IsAnswer, or_unprintable, joined_markup, joined_plain, joined_text, has_markup}
+use Rattle.jt_escape.specs.Joining.{IsAnswer, or_unprintable, joined_text, has_markup}
 use Rattle.jt_escape.specs.Joining as joins
 use Rattle.jt_filters.specs.Kinds.{have_order}
 use Rattle.jt_filters.specs.Listing.{given, on_items, listed, reversed, pairs_of, joined_by}

@@ -6,7 +6,6 @@ use Rattle.std.specs.Char.{encode_utf8}
 use Rattle.std.specs.Str.{chars, IsUtf8, IsCharBoundary}
 use Rattle.jt_value.specs.Iteration.{character_items}
 use Rattle.jt_value.specs.Tree as tree
-use Rattle.jt_value.specs.Tree.{Items}
 
 -- a text may be cut behind its first character
 pub cut_behind : (bs rest : List ℕ) (c n : ℕ) → IsUtf8 bs → bs ≡ encode_utf8 c ++ rest → n ≡ length (encode_utf8 c) → IsCharBoundary bs n

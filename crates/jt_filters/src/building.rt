@@ -1,5 +1,5 @@
 //! What a filter gives, built. Its size and nesting are tested before.
-ghost use Rattle.std.specs.Prelude.{◌≡◌, ◌∷◌, [], Bool, map};
+ghost use Rattle.std.specs.Prelude.{◌∷◌, [], map};
 ghost use Rattle.jt_value.specs.View.{view};
 ghost use Rattle.jt_filters.specs.Single.{single};
 ghost use Rattle.jt_filters.specs.Operands.{tree_of, Builds};

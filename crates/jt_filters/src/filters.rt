@@ -1,5 +1,5 @@
 //! Filters on values.
-ghost use Rattle.std.specs.Prelude.{◌≡◌, ◌∷◌, Bool, true, map, length, nat_le};
+ghost use Rattle.std.specs.Prelude.{◌≡◌, ◌∷◌, true, map, length, nat_le};
 ghost use Rattle.jt_value.specs.View.{view};
 ghost use Rattle.jt_ops.specs.Limited.{limited_by, Answers};
 ghost use Rattle.jt_filters.specs.FilterTable.{least_values, most_values};

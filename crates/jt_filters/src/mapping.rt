@@ -1,5 +1,5 @@
 //! Filters that call a filter or a test on each item of their input, or look up its attribute.
-ghost use Rattle.std.specs.Prelude.{◌≡◌, Bool, map, Ok, IfOk, IfErr, Some, option_map};
+ghost use Rattle.std.specs.Prelude.{◌≡◌, map, Ok, IfOk, IfErr, Some, option_map};
 ghost use Rattle.jt_value.specs.Payload.{text_of};
 ghost use Rattle.jt_value.specs.View.{view, items_view};
 ghost use Rattle.jt_filters.specs.Listing.{on_items};

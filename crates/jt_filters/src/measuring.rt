@@ -1,6 +1,6 @@
 //! The size and the nesting of what a filter gives, each the greatest number where it is greater. They need no memory: `unique` is
 //! slower where it is refused.
-ghost use Rattle.std.specs.Prelude.{◌≡◌, ◌∷◌, [], Bool, map};
+ghost use Rattle.std.specs.Prelude.{◌≡◌, ◌∷◌, [], map};
 ghost use Rattle.jt_value.specs.View.{view};
 ghost use Rattle.jt_filters.specs.Single.{single};
 ghost use Rattle.jt_filters.specs.Operands.{tree_of, measured};

@@ -1,5 +1,5 @@
 -- The names of a program and the texts of its pool are no longer than the trees of its chains have bytes.
-use Rattle.std.proofs.Common.{◌≡◌, ℕ, zero, suc, ◌+◌, ◌≤◌, Bool, true, false, if◌then◌else◌, List, [], ◌∷◌, ◌++◌, length, map, Option, Some, None, refl, sym, ap, ◌∙◌, subst, arith, inl, inr}
+use Rattle.std.proofs.Common.{◌≡◌, ℕ, suc, ◌≤◌, Bool, true, false, if◌then◌else◌, List, [], ◌∷◌, ◌++◌, length, map, Option, Some, None, refl, sym, subst, arith, inl, inr}
 use Rattle.std.specs.Prelude.{flat_map, filter}
 use Rattle.std.specs.List.{AllByRecursion}
 use Rattle.std.specs.Str.{bytes_eq}
@@ -21,12 +21,12 @@ use Rattle.jt_inherit.specs.View.{Seen, sources_of}
 use Rattle.jt_slots.specs.TheFilters.{the_filters, filter_of, filter_parameters, parameters_of}
 use Rattle.jt_rules.specs.World.{World, world_of}
 use Rattle.jt_meaning.specs.Bytes.{value_bytes, IsShort}
-use Rattle.jt_meaning.specs.Layout.{names, names_in, counted_from, numbered_bodies, block_parameters, shared, defaults_of}
+use Rattle.jt_meaning.specs.Layout.{names, counted_from, numbered_bodies, block_parameters, defaults_of}
 use Rattle.jt_meaning.specs.Meaning.{is_set}
 use Rattle.jt_meaning.specs.Programs.{program, routines, chain_routines, body_routines}
 use Rattle.jt_meaning.specs.Resolve.{followed, Part, bound_all, resolved_stmt, resolved_body, resolved_sets, top_spot, resolved_chain, scoped, macro_routine}
 use Rattle.jt_meaning.proofs.Among.{Among, AllAmong}
-use Rattle.jt_meaning.proofs.Bytes.{bytes_in, bytes_append, literal_is, Bare, Three, stmt_counted, all_counted, scope_counted}
+use Rattle.jt_meaning.proofs.Bytes.{bytes_in, literal_is, Bare, Three, stmt_counted, all_counted, scope_counted}
 use Rattle.jt_meaning.proofs.Few.{names_from}
 
 all_append : {A : Type 0} (P : A → Type 0) (xs ys : List A) → AllByRecursion P xs → AllByRecursion P ys → AllByRecursion P (xs ++ ys)

@@ -15,7 +15,7 @@ use Rattle.jt_slots.specs.Values.{literal, as_value}
 use Rattle.jt_inherit.specs.Uses.{count, keywords, set_in}
 use Rattle.jt_parse.specs.Trees.{Text, Parameter, Filtering, Stmt, data_of, print, choose, for_each, set, set_block, with_values, filter_block, autoescape, macro, include, extends, block, Body, end, stmt, Branches, no_branches, branch}
 use Rattle.jt_inherit.specs.Chain.{Home, Template, templates, BlockBody, MacroBody, macros, Callee, a_macro, a_range, a_super, a_block, a_cycle, no_callee, callee, is_loop}
-use Rattle.jt_slots.specs.Loops.{Field, index0, field_named, tree_at}
+use Rattle.jt_slots.specs.Loops.{Field, index0, field_named}
 use Rattle.jt_slots.specs.Filters.{default_value, some_given}
 use Rattle.jt_parse.specs.Texts.{among}
 use Rattle.jt_rules.specs.World.{World}

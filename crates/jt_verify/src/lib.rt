@@ -1,7 +1,9 @@
 //! Verifies codes: each point that is reached has one shape, and every instruction there is in order.
 #![tactic(auto)]
 
+mod arena;
 mod checked;
+mod links;
 mod refusal;
 mod shape;
 mod typing;

@@ -43,7 +43,7 @@ returns-clause-placed c =
     let pairs : pairs_view c.as_slice-pairs.result.now ≡ f.keywords = ap pairs_view c.as_slice-pairs.ensures.value in
     let written = written_as c.as_str.ensures.value row pairs in
     let named : (world_in s).filters.named f.name f.arguments f.keywords ≡ Some (filter_id c.in-Some.filter) =
-        named_is f.name f.arguments f.keywords ∙ ap (option_map filter_id) (sym written ∙ sym c.filter_of.ensures ∙ c.in-Some.is) in
+    named_is f.name f.arguments f.keywords ∙ ap (option_map filter_id) (sym written ∙ sym c.filter_of.ensures ∙ c.in-Some.is) in
     IfOk-weaker c.resolve_filtered.result _ _ (λ e h k p n g.
     let r = values c.resolve_filtered.new.pool in
     let O : Option ℕ → Type 0 = λ o. IsPlaced (filtered_in s o k f.arguments f.keywords spot) (expr_view e) p r in

@@ -3,7 +3,7 @@ use Rattle.jt_expr.specs.Cursor.{ahead}
 use Rattle.jt_expr.specs.Reading.{read}
 use Rattle.jt_expr.specs.Gives.{level_of_form}
 use Rattle.jt_expr.proofs.Turns.{deeper}
-use Rattle.jt_expr.proofs.grammar.+read.Goals as goal
+use Rattle.jt_expr.proofs.grammar.+read_within.Goals as goal
 
 pub returns-then-limit-eq0 : goal.returns-then-limit-eq0
 unfolding read
