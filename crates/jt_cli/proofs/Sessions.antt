@@ -16,7 +16,7 @@ use Rattle.jt_cli.specs.Files.{Known}
 use Rattle.jt_cli.specs.Lines.{session_line, session_lines}
 use Rattle.jt_cli.specs.Standing.{AreSessions, IsSession, fuel_left, fuel_of}
 
-false_true : false ≡ true → ⊥
+pub false_true : false ≡ true → ⊥
 false_true e = absurd (cc)
 
 -- an outcome after some instructions is that of the run
@@ -66,45 +66,3 @@ module _ (files : Known) (b : Budget) where
     steps = h.steps + n;
     is = ap (advanced n) h.is ∙ laws.both h.steps n (started h.code h.pairs (budget_view b));
   }
-
-  pub turned : SessionLaws → (i j n : ℕ) (ps : List Pair) (es : List (ℕ × Session)) (s : Session) → AreSessions files b i ps es → find j es ≡ Some s
-      → AreSessions files b i ps (replace j (advanced n s) es)
-  turned laws i j n [] [] s h e = tt
-  turned laws i j n [] (x ∷ es) s h e = absurd h
-  turned laws i j n (p ∷ ps) [] s h e = absurd h
-  turned laws i j n (p ∷ ps) (x ∷ es) s h e = go (x.0 == j) refl e (λ d. turned laws (i + 1) j n ps es s h.2 d)
-    where
-      go : (c : Bool) → (x.0 == j) ≡ c → cond c (Some x.1) (find j es) ≡ Some s → (find j es ≡ Some s → AreSessions files b (i + 1) ps (replace j (advanced n s) es))
-          → AreSessions files b i (p ∷ ps) (cond c ((j, advanced n s) ∷ es) (x ∷ replace j (advanced n s) es))
-      go true is d below =
-          let same : x.1 ≡ s = cc in
-          (sym (eqb-true x.0 j is) ∙ h.0, moved_session laws p s n (subst (IsSession files b p) same h.1), h.2)
-      go false is d below = (h.0, h.1, below d)
-
-  -- the session of an id that was given, and its pair
-  pub record Found (i j : ℕ) (ps : List Pair) (es : List (ℕ × Session)) : Type 0 where
-    pub session : Session
-    pub found : find j es ≡ Some session
-    pub pair : Pair
-    pub place : slice_get ps (j - i) ≡ Some pair
-    pub of : IsSession files b pair session
-
-  pub found_of : (i j : ℕ) (ps : List Pair) (es : List (ℕ × Session)) → AreSessions files b i ps es → i ≤ j → j < i + length ps → Found i j ps es
-  found_of i j [] es h least most = absurd (omega (arith, least, most))
-  found_of i j (p ∷ ps) [] h least most = absurd h
-  found_of i j (p ∷ ps) (x ∷ es) h least most = go (x.0 == j) refl
-    where
-      go : (c : Bool) → (x.0 == j) ≡ c → Found i j (p ∷ ps) (x ∷ es)
-      go true is =
-          let here : x.0 ≡ j = eqb-true x.0 j is in
-          let first = h.0 in
-          let none : j - i ≡ 0 = omega (arith, here, first) in
-          record { session = x.1; found = rw is refl; pair = p; place = ap (slice_get (p ∷ ps)) none; of = h.1 }
-      go false is =
-          let differs : x.0 ≢ j = λ e. false_true (sym is ∙ eq-eqb x.0 j e) in
-          let first = h.0 in
-          let above : i + 1 ≤ j = omega (arith, differs, first, least) in
-          let below : j < (i + 1) + length ps = omega (arith, most) in
-          let rest = found_of (i + 1) j ps es h.2 above below in
-          let one : j - i ≡ suc (j - (i + 1)) = omega (arith, above) in
-          record { session = rest.session; found = rw is rest.found; pair = rest.pair; place = ap (slice_get (p ∷ ps)) one ∙ rest.place; of = rest.of }

@@ -1,9 +1,10 @@
 -- Where the sessions of `turns` stand in a host.
-use Rattle.std.specs.Prelude.{◌≡◌, ℕ, ◌+◌, ◌<◌, ◌≤◌, Bool, true, List, [], ◌∷◌, length, Option, Some, None, is_some, string_bytes}
+use Rattle.std.specs.Prelude.{◌≡◌, ℕ, ◌+◌, Bool, List, [], ◌∷◌, ◌++◌, length, Option, Some, None, is_some, option_to_list, string_bytes}
 use Rattle.std.specs.List.{list_all}
 use Rattle.jt_value.specs.Pairs.{Pairs}
 use Rattle.jt_budget.specs.declared.Budget.{Budget}
 use Rattle.jt_image.specs.Code.{Code}
+use Rattle.jt_image.specs.Config.{Outcome}
 use Rattle.jt_machine.specs.Session.{Session, Status, advanced, outcome_of, started, going, done, lost}
 use Rattle.jt_machine.specs.View.{budget_view}
 use Rattle.jt_line.specs.declared.Pair.{Pair}
@@ -35,6 +36,22 @@ module _ (files : Known) (b : Budget) where
   abbrev pub Stands : List Pair → World → Type 0
   Stands ps w = (w.last ≡ length ps) × AreSessions 1 ps w.sessions
 
+-- the ids of sessions, one after another
+abbrev pub AreNumbered : ℕ → List (ℕ × Session) → Type 0
+AreNumbered i [] = Unit {0}
+AreNumbered i (e ∷ es) = (e.0 ≡ i) × AreNumbered (i + 1) es
+
+-- there are so many sessions, by the ids from 1
+abbrev pub IsNumbered : ℕ → List (ℕ × Session) → Type 0
+IsNumbered n es = (length es ≡ n) × AreNumbered 1 es
+
+-- each session is some instructions on
+abbrev pub HaveMoved : List (ℕ × Session) → List (ℕ × Session) → Type 0
+HaveMoved [] [] = Unit {0}
+HaveMoved [] (e ∷ es) = ⊥
+HaveMoved (d ∷ ds) [] = ⊥
+HaveMoved (d ∷ ds) (e ∷ es) = (d.0 ≡ e.0) × ((n : ℕ) × (e.1 ≡ advanced n d.1)) × HaveMoved ds es
+
 -- what a session has of its fuel, where it goes on still, and one more
 abbrev pub fuel_of : Status → ℕ
 fuel_of (going c) = c.left.fuel + 1
@@ -49,3 +66,8 @@ fuel_left (e ∷ es) = fuel_of e.1.status + fuel_left es
 -- each session has ended
 abbrev pub have_ended : List (ℕ × Session) → Bool
 have_ended = list_all (λ e. is_some (outcome_of e.1))
+
+-- the outcomes of those that have ended, in order
+abbrev pub outcomes : List (ℕ × Session) → List Outcome
+outcomes [] = []
+outcomes (e ∷ es) = option_to_list (outcome_of e.1) ++ outcomes es

@@ -1,12 +1,10 @@
 //! Images that run in turns.
-ghost use Rattle.std.specs.Prelude.{◌≡◌, ◌≤◌, ◌<◌, ◌+◌, ◌++◌, true, false, List, [], ◌∷◌, length, Err, IfOk, IfErr, OnOk, string_bytes};
+ghost use Rattle.std.specs.Prelude.{◌≡◌, ◌≤◌, ◌<◌, ◌++◌, true, false, List, [], ◌∷◌, Err, IfOk, IfErr, OnOk, string_bytes};
 ghost use Rattle.jt_machine.specs.View.{limit_view, outcome_view};
 ghost use Rattle.jt_line.specs.declared.Pair.{Pair as LinePair};
-ghost use Rattle.jt_host.specs.Turns.{empty};
-ghost use Rattle.jt_cli.specs.Commands.{AreOutcomes, TakesTurns};
-ghost use Rattle.jt_cli.specs.Files.{Known};
+ghost use Rattle.jt_cli.specs.Commands.{TakesTurns};
 ghost use Rattle.jt_cli.specs.Lines.{limit_name, session_line, session_lines};
-ghost use Rattle.jt_cli.specs.Standing.{Stands, fuel_left, have_ended};
+ghost use Rattle.jt_cli.specs.Standing.{HaveMoved, IsNumbered, Stands, fuel_left, have_ended, outcomes};
 
 use crate::commands::verified_of;
 use crate::files::Files;
@@ -15,7 +13,7 @@ use crate::program::{bytes_at, context_at};
 use jt_budget::{Budget, Spent};
 use jt_host::Host;
 use jt_line::Pair;
-use jt_machine::{Outcome, Progress};
+use jt_machine::{Outcome, Progress, session_laws};
 use std::alloc::{AllocError, Global};
 
 /// The lines of the images at paths, which run for the contexts of files in turns of so many instructions.
@@ -29,6 +27,7 @@ pub fn take_turns<F: Files>(
     requires { 1 ≤ slice }
     ensures { TakesTurns (F.known files.now) sessions.items budget result }
 {
+    session_laws();
     let count = sessions.len() as u64;
     let mut host = Host::new(alloc);
     for session in sessions {
@@ -64,10 +63,12 @@ fn open<F: Files>(
 /// Gives the sessions 1 to `count` turns, until all have ended.
 fn run_all(host: &mut Host, count: u64, slice: u32) -> Result<(), Failure>
     requires slice { 1 ≤ slice }
-    ensures run { OnOk result ((files : Known) (b : Budget) (ps : List LinePair) → length ps ≡ count → Stands files b ps host.old
-        → Stands files b ps host.new × (have_ended host.new.sessions ≡ true)) }
-    ensures err { IfErr result (λ e. (files : Known) (b : Budget) (ps : List LinePair) → length ps ≡ count → Stands files b ps host.old → e ≡ Failure.NoMemory) }
+    requires numbered { IsNumbered count host.old.sessions }
+    ensures moved { OnOk result (HaveMoved host.old.sessions host.new.sessions) }
+    ensures ended { OnOk result (have_ended host.new.sessions ≡ true) }
+    ensures err { IfErr result (λ e. e ≡ Failure.NoMemory) }
 {
+    session_laws();
     let mut going = true;
     'rounds: while going {
         going = run_each(host, count, slice)?;
@@ -78,12 +79,14 @@ fn run_all(host: &mut Host, count: u64, slice: u32) -> Result<(), Failure>
 /// Gives each of the sessions 1 to `count` a turn, and says whether one of them goes on still.
 fn run_each(host: &mut Host, count: u64, slice: u32) -> Result<bool, Failure>
     requires slice { 1 ≤ slice }
-    ensures run { OnOk result ((files : Known) (b : Budget) (ps : List LinePair) → length ps ≡ count → Stands files b ps host.old → Stands files b ps host.new) }
+    requires numbered { IsNumbered count host.old.sessions }
+    ensures moved { OnOk result (HaveMoved host.old.sessions host.new.sessions) }
+    ensures left { OnOk result (fuel_left host.new.sessions ≤ fuel_left host.old.sessions) }
     ensures going { IfOk result (λ going. going ≡ true → fuel_left host.new.sessions < fuel_left host.old.sessions) }
-    ensures ended { IfOk result (λ going. (files : Known) (b : Budget) (ps : List LinePair) → length ps ≡ count → Stands files b ps host.old
-        → going ≡ false → have_ended host.new.sessions ≡ true) }
-    ensures err { IfErr result (λ e. (files : Known) (b : Budget) (ps : List LinePair) → length ps ≡ count → Stands files b ps host.old → e ≡ Failure.NoMemory) }
+    ensures ended { IfOk result (λ going. going ≡ false → have_ended host.new.sessions ≡ true) }
+    ensures err { IfErr result (λ e. e ≡ Failure.NoMemory) }
 {
+    session_laws();
     let mut going = false;
     'ids: for before in 0..count {
         match host.turn(before + 1, slice) {
@@ -97,8 +100,10 @@ fn run_each(host: &mut Host, count: u64, slice: u32) -> Result<bool, Failure>
 
 /// The lines of the sessions 1 to `count`, which have ended.
 fn lines(alloc: Global, host: &Host, count: u64) -> Result<String, Failure>
-    ensures { (files : Known) (b : Budget) (ps : List LinePair) → length ps ≡ count → Stands files b ps host.now → have_ended host.now.sessions ≡ true
-        → TakesTurns files ps b result }
+    requires numbered { IsNumbered count host.now.sessions }
+    requires ended { have_ended host.now.sessions ≡ true }
+    ensures lines { IfOk result (λ text. string_bytes text ≡ session_lines 1 (outcomes host.now.sessions)) }
+    ensures err { IfErr result (λ e. e ≡ Failure.NoMemory) }
 {
     let mut text = String::new(alloc);
     'ids: for before in 0..count {
