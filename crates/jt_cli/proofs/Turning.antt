@@ -19,7 +19,7 @@ use Rattle.jt_cli.specs.Commands.{AreOutcomes, IsOutcome}
 use Rattle.jt_cli.specs.Ending.{of_host}
 use Rattle.jt_cli.specs.Files.{Known}
 use Rattle.jt_cli.specs.Lines.{session_line, session_lines}
-use Rattle.jt_cli.specs.Standing.{AreNumbered, AreSessions, HaveMoved, IsSession, fuel_left, fuel_of, have_ended, outcomes}
+use Rattle.jt_cli.specs.Standing.{AreNumbered, AreSessions, HadTurn, HaveMoved, IsSession, fuel_left, fuel_of, have_ended, outcomes}
 use Rattle.jt_cli.proofs.Fuel.{less, no_more}
 use Rattle.jt_cli.proofs.Sessions.{false_true, moved_session, replaced_fuel, run_of}
 
@@ -121,7 +121,7 @@ ended_more i j (suc n) t (x ∷ es) is h end so =
 -- ---- a turn
 
 -- the session that had a turn, and what it was told
-pub record HadTurn (w v : World) (j n : ℕ) (p : Progress) : Type 0 where
+pub record Took (w v : World) (j n : ℕ) (p : Progress) : Type 0 where
   pub session : Session
   pub found : find j w.sessions ≡ Some session
   pub told : told_of (advanced n session).status ≡ Some p
@@ -131,14 +131,14 @@ told_so : (o : Option Progress) (p : Progress) → told o ≡ turned p → o ≡
 told_so None p e = absurd (cc)
 told_so (Some q) p e = let same : q ≡ p = cc in ap Some same
 
-pub had_turn : (w v : World) (j n : ℕ) (p : Progress) → v ≡ after (turns j n) w → reply (turns j n) w ≡ turned p → HadTurn w v j n p
-had_turn w v j n p is told_p = go (find j w.sessions) refl is told_p
+pub had_turn : (w v : World) (j n : ℕ) (p : Progress) → HadTurn w v j n p → Took w v j n p
+had_turn w v j n p h = go (find j w.sessions) refl h.new h.told
   where
-    go : (o : Option Session) → find j w.sessions ≡ o → v ≡ turning o j n w → turning_reply o n ≡ turned p → HadTurn w v j n p
+    go : (o : Option Session) → find j w.sessions ≡ o → v ≡ turning o j n w → turning_reply o n ≡ turned p → Took w v j n p
     go None found e r = absurd (cc)
     go (Some s) found e r = record { session = s; found = found; told = told_so _ p r; new = ap (λ (x : World). x.sessions) e }
 
-pub turn_takes : (w v : World) (j n : ℕ) (p : Progress) → HadTurn w v j n p → fuel_left v.sessions ≤ fuel_left w.sessions
+pub turn_takes : (w v : World) (j n : ℕ) (p : Progress) → Took w v j n p → fuel_left v.sessions ≤ fuel_left w.sessions
 turn_takes w v j n p t =
     let s = t.session in
     let sums = replaced_fuel j s (advanced n s) w.sessions t.found in
@@ -146,7 +146,7 @@ turn_takes w v j n p t =
     let is : fuel_left v.sessions ≡ fuel_left (replace j (advanced n s) w.sessions) = ap fuel_left t.new in
     omega (arith, sums, falls, is)
 
-pub turn_takes_some : (w v : World) (j n : ℕ) → 1 ≤ n → HadTurn w v j n progress.Going → fuel_left v.sessions < fuel_left w.sessions
+pub turn_takes_some : (w v : World) (j n : ℕ) → 1 ≤ n → Took w v j n progress.Going → fuel_left v.sessions < fuel_left w.sessions
 turn_takes_some w v j n some t =
     let s = t.session in
     let sums = replaced_fuel j s (advanced n s) w.sessions t.found in
@@ -159,7 +159,7 @@ done_so (going c) e = absurd (cc)
 done_so (done o) e = refl
 done_so lost e = absurd (cc)
 
-pub turn_ends : (w v : World) (j m n : ℕ) → j ≡ 1 + m → AreNumbered 1 w.sessions → HadTurn w v j n progress.Done
+pub turn_ends : (w v : World) (j m n : ℕ) → j ≡ 1 + m → AreNumbered 1 w.sessions → Took w v j n progress.Done
     → have_ended (take m w.sessions) ≡ true → have_ended (take (suc m) v.sessions) ≡ true
 turn_ends w v j m n is numbered t so =
     subst (λ (es : List (ℕ × Session)). have_ended (take (suc m) es) ≡ true) (sym t.new)

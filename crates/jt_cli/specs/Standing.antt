@@ -1,5 +1,5 @@
 -- Where the sessions of `turns` stand in a host.
-use Rattle.std.specs.Prelude.{◌≡◌, ℕ, ◌+◌, Bool, List, [], ◌∷◌, ◌++◌, length, Option, Some, None, is_some, option_to_list, string_bytes}
+use Rattle.std.specs.Prelude.{◌≡◌, ℕ, ◌+◌, Bool, true, false, List, [], ◌∷◌, ◌++◌, length, Option, Some, None, is_some, option_to_list, string_bytes}
 use Rattle.std.specs.List.{list_all}
 use Rattle.jt_value.specs.Pairs.{Pairs}
 use Rattle.jt_budget.specs.declared.Budget.{Budget}
@@ -8,7 +8,12 @@ use Rattle.jt_image.specs.Config.{Outcome}
 use Rattle.jt_machine.specs.Session.{Session, Status, advanced, outcome_of, started, going, done, lost}
 use Rattle.jt_machine.specs.View.{budget_view}
 use Rattle.jt_line.specs.declared.Pair.{Pair}
-use Rattle.jt_host.specs.Turns.{World}
+use Rattle.jt_machine.specs.declared.outcome.Progress.{Progress}
+use Rattle.jt_machine.specs.declared.outcome.Progress.TheVariants as progress
+use Rattle.jt_host.specs.Turns.{World, after, reply, turned, turns, TurnRefused}
+use Rattle.jt_host.specs.declared.HostError.{HostError}
+use Rattle.jt_cli.specs.declared.messages.Failure.{Failure}
+use Rattle.jt_cli.specs.Ending.{of_host}
 use Rattle.jt_cli.specs.Commands.{IsContextAt}
 use Rattle.jt_cli.specs.Files.{Known}
 use Rattle.jt_cli.specs.Program.{IsImageOf}
@@ -51,6 +56,22 @@ HaveMoved [] [] = Unit {0}
 HaveMoved [] (e ∷ es) = ⊥
 HaveMoved (d ∷ ds) [] = ⊥
 HaveMoved (d ∷ ds) (e ∷ es) = (d.0 ≡ e.0) × ((n : ℕ) × (e.1 ≡ advanced n d.1)) × HaveMoved ds es
+
+-- what a turn tells, by whether the session goes on still
+abbrev pub progress_of : Bool → Progress
+progress_of true = progress.Going
+progress_of false = progress.Done
+
+-- the turn of an id was answered so
+pub record HadTurn (w v : World) (i n : ℕ) (p : Progress) : Type 0 where
+  pub new : v ≡ after (turns i n) w
+  pub told : reply (turns i n) w ≡ turned p
+
+-- the turn of an id was refused so
+pub record IsTurnRefused (w v : World) (i n : ℕ) (e : Failure) : Type 0 where
+  pub error : HostError
+  pub of : e ≡ of_host error
+  pub why : TurnRefused i n w v error
 
 -- what a session has of its fuel, where it goes on still, and one more
 abbrev pub fuel_of : Status → ℕ

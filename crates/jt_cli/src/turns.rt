@@ -4,7 +4,7 @@ ghost use Rattle.jt_machine.specs.View.{limit_view, outcome_view};
 ghost use Rattle.jt_line.specs.declared.Pair.{Pair as LinePair};
 ghost use Rattle.jt_cli.specs.Commands.{TakesTurns};
 ghost use Rattle.jt_cli.specs.Lines.{limit_name, session_line, session_lines};
-ghost use Rattle.jt_cli.specs.Standing.{HaveMoved, IsNumbered, Stands, fuel_left, have_ended, outcomes};
+ghost use Rattle.jt_cli.specs.Standing.{HadTurn, HaveMoved, IsNumbered, IsTurnRefused, Stands, fuel_left, have_ended, outcomes, progress_of};
 
 use crate::commands::verified_of;
 use crate::files::Files;
@@ -89,13 +89,24 @@ fn run_each(host: &mut Host, count: u64, slice: u32) -> Result<bool, Failure>
     session_laws();
     let mut going = false;
     'ids: for before in 0..count {
-        match host.turn(before + 1, slice) {
-            Ok(Progress::Going) => going = true,
-            Ok(Progress::Done) => {}
-            Err(error) => return Err(no_session(error)),
+        let goes_on = turn(host, before + 1, slice)?;
+        if goes_on {
+            going = true;
         }
     }
     Ok(going)
+}
+
+/// Gives a session a turn, and says whether it goes on still.
+fn turn(host: &mut Host, id: u64, slice: u32) -> Result<bool, Failure>
+    ensures turned { IfOk result (λ goes_on. HadTurn host.old host.new id slice (progress_of goes_on)) }
+    ensures refused { IfErr result (λ e. IsTurnRefused host.old host.new id slice e) }
+{
+    match host.turn(id, slice) {
+        Ok(Progress::Going) => Ok(true),
+        Ok(Progress::Done) => Ok(false),
+        Err(error) => Err(no_session(error)),
+    }
 }
 
 /// The lines of the sessions 1 to `count`, which have ended.
