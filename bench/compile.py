@@ -1,7 +1,7 @@
 #!/usr/bin/env python3
 """Times `jt compile` on sources of 1 MiB that are hard on a compiler: long chains, deep nesting, marks, raw text, unclosed tags.
 
-    bench/compile.py [--jt PATH] [--bytes N] [--runs N] [--most SECONDS] [NAME ..]
+    bench/compile.py [--jt PATH] [--bytes N] [--steps N] [--runs N] [--most SECONDS] [NAME ..]
 
 Without --jt it takes the program that `rt run` keeps, crates/jt_cli/out/jt_cli. Each source is compiled --runs times
 (3), and the shortest time is printed that the program took of a processor, with what it answered. --steps N compiles
@@ -9,7 +9,8 @@ each source in N sizes, each twice the one before, --bytes (1 MiB) being the gre
 sizes show a cost that is not linear. The status is 1 where a source took longer than --most (1 second), or where the
 answer is none that its kind of source may have.
 """
-import argparse, os, pathlib, resource, subprocess, sys, tempfile
+import os, pathlib, tempfile
+from timing import Rows, sized, timed
 
 MIB = 1_048_576
 
@@ -107,16 +108,9 @@ def sources(size):
     yield "distinct names", distinct_names(size), ["ok", "V5", "G1"]
 
 
-def processor_seconds():
-    used = resource.getrusage(resource.RUSAGE_CHILDREN)
-    return used.ru_utime + used.ru_stime
-
-
 def compile_once(jt, folder):
     """The seconds that the program took, and what it answered: ok, the refusal's code, or its line."""
-    begin = processor_seconds()
-    ran = subprocess.run([jt, "compile", "d", "t", "out"], cwd=folder, capture_output=True)
-    took = processor_seconds() - begin
+    took, ran = timed([jt, "compile", "d", "t", "out"], cwd=folder)
     if ran.returncode == 0:
         return took, "ok"
     line = ran.stderr.decode(errors="replace").strip()
@@ -134,29 +128,14 @@ def compile_source(jt, source, runs):
 
 
 def main():
-    here = pathlib.Path(__file__).resolve().parent
-    parser = argparse.ArgumentParser(description=__doc__, formatter_class=argparse.RawDescriptionHelpFormatter)
-    parser.add_argument("--jt", default=str(here.parent / "crates/jt_cli/out/jt_cli"))
-    parser.add_argument("--bytes", type=int, default=MIB)
-    parser.add_argument("--steps", type=int, default=1)
-    parser.add_argument("--runs", type=int, default=3)
-    parser.add_argument("--most", type=float, default=1.0)
-    parser.add_argument("names", nargs="*")
-    asked = parser.parse_args()
-    jt, failed = os.path.abspath(asked.jt), 0
-    sizes = [asked.bytes >> step for step in reversed(range(asked.steps))]
-    for rows in zip(*map(sources, sizes)):
-        name, answers = rows[0][0], rows[0][2]
-        if asked.names and name not in asked.names:
-            continue
-        found = [compile_source(jt, source, asked.runs) for _, source, _ in rows]
-        wrong = [] if all(answer in answers for _, answer in found) else ["another answer"]
-        wrong += ["slow"] if found[-1][0] > asked.most else []
-        failed += bool(wrong)
-        times = " ".join(f"{took:8.3f} s" for took, _ in found)
-        print(f"{times}  {found[-1][1]:4}  {name}" + "".join(f"  <-- {it}" for it in wrong), flush=True)
-    print(f"{failed} out of order")
-    sys.exit(failed > 0)
+    asked = sized(__doc__, "bytes", MIB, runs=3, most=1.0)
+    rows = Rows(asked)
+    for row in zip(*map(sources, asked.sizes)):
+        name, answers = row[0][0], row[0][2]
+        if rows.wants(name):
+            found = [compile_source(asked.jt, source, asked.runs) for _, source, _ in row]
+            rows.tell(name, [took for took, _ in found], found[-1][1], all(answer in answers for _, answer in found))
+    rows.end()
 
 
 if __name__ == "__main__":

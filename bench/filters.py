@@ -11,7 +11,8 @@ a cost that grows faster than n log n shows. The last rows are no filters: a loo
 a join whose text would be too large. The status is 1 where a row took longer than --most (2 seconds), or where it is
 answered otherwise than it must be.
 """
-import argparse, json, os, pathlib, resource, subprocess, sys, tempfile
+import json, os, pathlib, tempfile
+from timing import Rows, sized, timed
 
 MILLION = 1_000_000
 BUDGET = ["--fuel", "4000000000000", "--output", "4000000000", "--size", "4000000000"]
@@ -66,16 +67,9 @@ def held(kind, n):
     return {f"{i:07}": i for i in range(n)}
 
 
-def processor_seconds():
-    used = resource.getrusage(resource.RUSAGE_CHILDREN)
-    return used.ru_utime + used.ru_stime
-
-
 def rendered(jt, folder, name, options=BUDGET):
     """The seconds that the program took of a processor, and its text or its line."""
-    begin = processor_seconds()
-    ran = subprocess.run([jt, "render", "d", name, "context.json", *options], cwd=folder, capture_output=True)
-    took = processor_seconds() - begin
+    took, ran = timed([jt, "render", "d", name, "context.json", *options], cwd=folder)
     told = ran.stderr if ran.returncode else ran.stdout
     return took, told.decode(errors="replace").strip()
 
@@ -109,34 +103,17 @@ def others(jt):
 
 
 def main():
-    here = pathlib.Path(__file__).resolve().parent
-    parser = argparse.ArgumentParser(description=__doc__, formatter_class=argparse.RawDescriptionHelpFormatter)
-    parser.add_argument("--jt", default=str(here.parent / "crates/jt_cli/out/jt_cli"))
-    parser.add_argument("--items", type=int, default=MILLION)
-    parser.add_argument("--steps", type=int, default=1)
-    parser.add_argument("--runs", type=int, default=1)
-    parser.add_argument("--most", type=float, default=2.0)
-    parser.add_argument("names", nargs="*")
-    asked = parser.parse_args()
-    jt, failed = os.path.abspath(asked.jt), 0
-
-    def say(name, times, answer, is_right):
-        nonlocal failed
-        wrong = [] if is_right else [f"another answer: {answer[:60]}"]
-        wrong += ["slow"] if times[-1] > asked.most else []
-        failed += bool(wrong)
-        print(" ".join(f"{took:8.3f} s" for took in times) + f"  {name}" + "".join(f"  <-- {it}" for it in wrong), flush=True)
-
-    sizes = [asked.items >> step for step in reversed(range(asked.steps))]
+    asked = sized(__doc__, "items", MILLION, runs=1, most=2.0)
+    rows = Rows(asked)
     for name, kind, template, wanted in ROWS:
-        if not asked.names or name in asked.names:
-            found = [row(jt, kind, template, n, asked.runs) for n in sizes]
-            say(name, [took for took, _ in found], found[-1][1], all(told == wanted(n) for (_, told), n in zip(found, sizes)))
-    for name, took, answer, begins in others(jt):
-        if not asked.names or name in asked.names:
-            say(name, [took], answer, answer.startswith(begins))
-    print(f"{failed} out of order")
-    sys.exit(failed > 0)
+        if rows.wants(name):
+            found = [row(asked.jt, kind, template, n, asked.runs) for n in asked.sizes]
+            is_right = all(told == wanted(n) for (_, told), n in zip(found, asked.sizes))
+            rows.tell(name, [took for took, _ in found], found[-1][1], is_right)
+    for name, took, answer, begins in others(asked.jt):
+        if rows.wants(name):
+            rows.tell(name, [took], answer, answer.startswith(begins))
+    rows.end()
 
 
 if __name__ == "__main__":

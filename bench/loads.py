@@ -9,7 +9,8 @@ turn, and drops it. Each is run --runs times (3), and the shortest time is print
 A value is shared and not copied, so a list costs what a number costs. The status is 1 where a list takes more than
 --most (2) times as long, or where a run ends with anything but the text `True`. --keep writes the images to a folder.
 """
-import argparse, os, pathlib, resource, struct, subprocess, sys, tempfile
+import os, pathlib, struct, sys, tempfile
+from timing import flags, timed
 
 CONST, LOAD, STORE, GLOAD, GSTORE, DROP, DUP, EMIT = range(0x01, 0x09)
 JUMP, OP, LOOP_START, LOOP_NEXT, LOOP_GET, LOOP_END, MAKE_LIST, RETURN = 0x0A, 0x0D, 0x12, 0x13, 0x14, 0x17, 0x10, 0x1C
@@ -66,16 +67,12 @@ def images(loads, items):
 def run(program, path):
     """What a run printed, and the processor time that it took."""
     budget = ["--fuel", str(10**12), "--size", str(2**32 - 1), "--nesting", "255", "--output", "1000"]
-    before = resource.getrusage(resource.RUSAGE_CHILDREN)
-    done = subprocess.run([program, "run", path, *budget], stdout=subprocess.PIPE, stderr=subprocess.PIPE)
-    after = resource.getrusage(resource.RUSAGE_CHILDREN)
-    return done.stdout or done.stderr, after.ru_utime + after.ru_stime - before.ru_utime - before.ru_stime
+    took, ran = timed([program, "run", path, *budget])
+    return ran.stdout or ran.stderr, took
 
 
 def main():
-    here = pathlib.Path(__file__).resolve().parent.parent
-    words = argparse.ArgumentParser(description=__doc__, formatter_class=argparse.RawDescriptionHelpFormatter)
-    words.add_argument("--jt", default=str(here / "crates/jt_cli/out/jt_cli"))
+    words = flags(__doc__)
     words.add_argument("--loads", type=int, default=1_000_000)
     words.add_argument("--items", type=int, default=100_000)
     words.add_argument("--runs", type=int, default=3)

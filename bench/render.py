@@ -12,9 +12,8 @@ runs this (`pip install Jinja2`). Of --runs (20) runs the shortest time counts. 
 
 A ratio below 1 says that jt took less. The texts of both have to be the same, or the status is 1.
 """
-import argparse, json, pathlib, resource, subprocess, sys, tempfile, time
-
-ROOT = pathlib.Path(__file__).resolve().parent.parent
+import json, subprocess, sys, tempfile, time
+from timing import ROOT, flags, timed
 
 PYTHON = """
 import json, jinja2, sys
@@ -25,19 +24,15 @@ sys.stdout.write(env.get_template(name).render(json.load(open(folder + "/context
 """
 
 
-def processor_time():
-    used = resource.getrusage(resource.RUSAGE_CHILDREN)
-    return used.ru_utime + used.ru_stime
-
-
 def shortest(words, runs):
     """The shortest wall time and processor time of a process, and what it wrote."""
     walls, processors, text = [], [], b""
     for _ in range(runs):
-        before, start = processor_time(), time.perf_counter()
-        text = subprocess.run(words, check=True, capture_output=True).stdout
+        start = time.perf_counter()
+        processor, ran = timed(words, check=True)
         walls.append(time.perf_counter() - start)
-        processors.append(processor_time() - before)
+        processors.append(processor)
+        text = ran.stdout
     return min(walls), min(processors), text
 
 
@@ -56,8 +51,7 @@ def within(folder, name, escape, keep, runs):
 
 
 def main():
-    parser = argparse.ArgumentParser(description=__doc__, formatter_class=argparse.RawDescriptionHelpFormatter)
-    parser.add_argument("--jt", default=ROOT / "crates/jt_cli/out/jt_cli")
+    parser = flags(__doc__)
     parser.add_argument("--runs", type=int, default=20)
     parser.add_argument("folders", nargs="*")
     asked = parser.parse_args()
@@ -72,8 +66,8 @@ def main():
             subprocess.run([asked.jt, "compile", templates, name, image, *options], check=True)
             render = shortest([asked.jt, "render", templates, name, context, *options], asked.runs)
             run = shortest([asked.jt, "run", image, context], asked.runs)
-        flags = [str(int(escape)), str(int(keep))]
-        python = shortest([sys.executable, "-c", PYTHON, str(folder), name, *flags], asked.runs)
+        words = [str(int(escape)), str(int(keep))]
+        python = shortest([sys.executable, "-c", PYTHON, str(folder), name, *words], asked.runs)
         inside = within(folder, name, escape, keep, asked.runs)
         same = render[2] == run[2] == python[2]
         status |= not same

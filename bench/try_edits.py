@@ -15,7 +15,7 @@ from kit import rt
 FLAGS = ["--jobs", "1"]
 HEAD = re.compile(r"(?m)^( *)(?:pub(?:\([a-z]+\))? )?(?:const )?fn (\w+)")
 CYCLE = re.compile(r"#\[cycle\((\w+)\)\]")
-GOAL = re.compile(r"(?m)^(?:note: )?(?:\./)?(\S+?):(\d+):\d+: (?:error|it is not proved)")
+GOAL = re.compile(r"(?m)^(?:note: )?(?:\./)?(\S+?):(\d+):\d+: (?:error(?!\[)|it is not proved)")
 
 
 class Spot:

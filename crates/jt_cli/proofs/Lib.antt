@@ -1,2 +1,3 @@
+mod Endings
+mod Gathering
 pub mod Taking
-mod Yielding

@@ -1,3 +1,5 @@
+pub mod Commands
 pub mod Ending
+pub mod Files
 pub mod Program
 pub mod Templates

@@ -79,18 +79,17 @@ ComesTo bytes x b (Err e) = IsNoImage bytes e
 
 -- ---- contexts
 
+-- the bytes spell no context, and the refusal says what is so
+abbrev pub IsNoContext : List ℕ → Failure → Type 0
+IsNoContext bytes (failure.Context e) =
+    (e ≢ context_error.NoMemory) × (((IsUtf8 bytes → ⊥) × (e ≡ context_error.NotJson)) ⊎ Holds bytes e)
+IsNoContext bytes failure.NoMemory = Unit {0}
+IsNoContext bytes e = ⊥
+
 -- what is answered is so: the context of a file's bytes, or why there is none
 abbrev pub GivesContext : List ℕ → Result Context Failure → Type 0
 GivesContext bytes (Ok c) = IsContext bytes (pairs_of c)
-GivesContext bytes (Err (failure.Context e)) =
-    (e ≢ context_error.NoMemory) × (((IsUtf8 bytes → ⊥) × (e ≡ context_error.NotJson)) ⊎ Holds bytes e)
-GivesContext bytes (Err failure.NoMemory) = Unit {0}
-GivesContext bytes (Err e) = ⊥
-
--- the context of some file, or the empty one where there is no file
-abbrev pub IsContextOfFile : Option (String Global) → Pairs → Type 0
-IsContextOfFile None x = x ≡ []
-IsContextOfFile (Some path) x = (bytes : List ℕ) × IsContext bytes x
+GivesContext bytes (Err e) = IsNoContext bytes e
 
 -- ---- templates
 
@@ -115,30 +114,3 @@ RendersTo sources entry options x b (Err (failure.Spent s)) = IsRendered sources
 RendersTo sources entry options x b (Err (failure.Template e)) = IsUncompiled sources entry options e
 RendersTo sources entry options x b (Err failure.NoMemory) = Unit {0}
 RendersTo sources entry options x b (Err other) = ⊥
-
--- ---- what a job prints
-
--- the text is the one that a run of an image prints
-abbrev pub IsRunText : Pairs → Budget → List ℕ → Type 0
-IsRunText x b text = (bytes : List ℕ) × (s : String Global) × (string_bytes s ≡ text) × IsRun bytes x b (outcome.Text s)
-
--- the text is the one that a template of the name has
-abbrev pub IsRenderedText : Text → Options → Pairs → Budget → List ℕ → Type 0
-IsRenderedText entry options x b text =
-    (sources : Given) × (s : String Global) × (string_bytes s ≡ text) × IsRendered sources entry options x b (outcome.Text s)
-
--- What a command prints, for some contents of the files: of `compile` nothing; of `check`, where the image is
--- accepted, a line; of `run` and `render` the text of the run, with the options and the budget of the job.
-abbrev pub YieldsBy : Command → LineOptions → Budget → List ℕ → Type 0
-YieldsBy (command.Compile dir name out) o b text = text ≡ []
-YieldsBy (command.Check image) o b text = (bytes : List ℕ) × (n : ℕ × ℕ) × IsCounted bytes n
-YieldsBy (command.Run image context) o b text = (x : Pairs) × IsContextOfFile context x × IsRunText x b text
-YieldsBy (command.Render dir name context) o b text =
-    (x : Pairs) × IsContextOfFile context x × IsRenderedText (string_bytes name) (scan_options o) x b text
-
-abbrev pub Yields : Job → List ℕ → Type 0
-Yields j = YieldsBy j.command j.options j.budget
-
--- the text is what the command of a line prints
-abbrev pub IsYield : Option (Word × List Row) → List ℕ → Type 0
-IsYield found text = (j : Job) × IsAsked found j × Yields j text

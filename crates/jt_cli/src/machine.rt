@@ -55,7 +55,7 @@ impl<T: Drop> From<AllocFailed<T>> for FileError {
 }
 
 impl<R: Runtime + AllocGlobal> Files for Machine<'_, R> {
-    fn list(&mut self, dir: &str) -> Result<Vec<String>, FileError> {
+    fn list(&self, dir: &str) -> Result<Vec<String>, FileError> {
         let mut names = Vec::new(self.rt.alloc());
         for entry in fs::read_dir(self.rt, dir)? {
             let entry = entry?;
@@ -66,7 +66,7 @@ impl<R: Runtime + AllocGlobal> Files for Machine<'_, R> {
         Ok(names)
     }
 
-    fn read(&mut self, path: &str) -> Result<Vec<u8>, FileError> {
+    fn read(&self, path: &str) -> Result<Vec<u8>, FileError> {
         let bytes = fs::read(self.rt, path)?;
         Ok(bytes)
     }

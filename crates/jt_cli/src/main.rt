@@ -57,6 +57,8 @@ fn perform_on(rt: &HostRuntime, words: &[String]) -> u8 {
 }
 
 #[cfg(test)]
+mod refusals;
+#[cfg(test)]
 mod rows;
 #[cfg(test)]
 mod tests;

@@ -1,20 +1,24 @@
 //! A whole run of the program.
-ghost use Rattle.std.specs.Prelude.{◌≡◌, ◌≢◌, ◌≤◌, ◌⊎◌, ℕ, List, [], codes, string_bytes, IfOk, IfErr, OnOk};
-ghost use Rattle.std.specs.List.Sorted.{IsSorted};
+ghost use Rattle.std.specs.Prelude.{◌≡◌, ◌≢◌, ◌≤◌, ◌⊎◌, ◌++◌, ℕ, List, [], ◌∷◌, Ok, Err, map, codes, string_bytes, None, IfOk, IfErr, IsErrOf, OnOk};
+ghost use Rattle.std.specs.List.Sorted.{IsPermutation, IsSorted};
 ghost use Rattle.std.specs.String.{string_cmp};
 ghost use Rattle.std.specs.Io.KnownBytes.{Appends};
 ghost use Rattle.clap.specs.Walk.{texts};
-ghost use Rattle.jt_cli.specs.Ending.{IfUntaken, IsOfFiles, code_of, status_of};
 ghost use Rattle.clap.specs.Words.{subcommand_of};
 ghost use Rattle.jt_value.specs.ContextView.{pairs_of};
-ghost use Rattle.jt_line.specs.Line.{Takes, Asks, IsAsked, program_app};
-ghost use Rattle.jt_cli.specs.Program.{IsContextOfFile, IsYield, Yields};
+ghost use Rattle.jt_line.specs.Line.{Takes, Asks, program_app};
+ghost use Rattle.jt_cli.specs.Commands.{Answers, ChangesOnly, Checks, Compiles, Ending, IsCompile, IsContextAt, IsUnread, JobEnds, LineEnds, Renders, Runs, Tells};
+ghost use Rattle.jt_cli.specs.Ending.{IfUntaken, code_of, status_of};
+ghost use Rattle.jt_cli.specs.Files.{AreSources, IsLibrary};
+ghost use Rattle.jt_cli.specs.Templates.{source_of};
 
 use crate::commands::{context_of, counts_of, image_of, render_text, run_image, scan_options};
 use crate::files::{FileError, Files};
 use crate::messages::{Failure, Status, no_file};
 use crate::templates::Templates;
+use jt_budget::Budget;
 use jt_line::{Command, Job, job};
+use jt_scan::Options;
 use jt_value::Context;
 use std::alloc::Global;
 use std::io::Write;
@@ -36,19 +40,20 @@ pub fn perform<F: Files, W: Write, E: Write>(
     // it is 2 where the program does not take the line, unless memory ran out, and only there
     ensures usage { ¬ Takes (texts words.now) → (result ≡ 2) ⊎ (result ≡ 6) }
     ensures taken { Takes (texts words.now) → result ≢ 2 }
-    // where it is 0 a text that the line asks for was added to standard output, and nothing to
-    // standard error
-    ensures printed { result ≡ 0 → (text : List ℕ) × Appends (W.contents out.old) (W.contents out.new) text
-        × IsYield (subcommand_of program_app (texts words.now)) text }
+    // it tells how the command of the line ended, over the files as they were
+    ensures ends { result ≢ 2 → result ≢ 6 → (e : Ending)
+        × Answers (F.known files.old) (F.known files.new) (subcommand_of program_app (texts words.now)) e
+        × Tells (W.contents out.old) (W.contents out.new) e result }
+    // where it is 0 nothing was added to standard error
     ensures silent { result ≡ 0 → errors.new ≡ errors.old }
-    // the text is empty where the line asks for a template to be compiled
-    ensures quiet { result ≡ 0 → Asks (codes "compile") (texts words.now) →
-        Appends (W.contents out.old) (W.contents out.new) [] }
     // where it is neither 0 nor 5 standard output is as it was
     ensures untouched { result ≢ 0 → result ≢ 5 → out.new ≡ out.old }
+    // the files are as they were, but where a template was to be compiled and nothing refused it
+    ensures kept { ¬ Asks (codes "compile") (texts words.now) → files.new ≡ files.old }
+    ensures unwritten { result ≢ 0 → result ≢ 5 → result ≢ 6 → files.new ≡ files.old }
 {
-    match print(alloc, words, files, out) {
-        Ok(()) => Status::Done.code(),
+    match done(alloc, words, files) {
+        Ok(text) => print(&text, out, errors),
         Err(failure) => report(errors, &failure),
     }
 }
@@ -62,32 +67,25 @@ pub fn report<E: Write>(errors: &mut E, failure: &Failure) -> u8
     failure.status().code()
 }
 
-fn print<F: Files, W: Write>(
-    alloc: Global,
-    words: &[&str],
-    files: &mut F,
-    out: &mut W,
-) -> Result<(), Failure>
-    ensures usage { ¬ Takes (texts words.now) → IfUntaken result }
-    ensures taken { Takes (texts words.now) → IfErr result (λ e. status_of e ≢ Status.Usage) }
-    ensures quiet { OnOk result (Asks (codes "compile") (texts words.now) → Appends (W.contents out.old) (W.contents out.new) []) }
-    ensures printed { OnOk result ((text : List ℕ) × Appends (W.contents out.old) (W.contents out.new) text
-        × IsYield (subcommand_of program_app (texts words.now)) text) }
-    ensures untouched { IfErr result (λ e. e ≢ Failure.Output → out.new ≡ out.old) }
+/// Prints the text of a command that is done, and answers the status.
+fn print<W: Write, E: Write>(text: &str, out: &mut W, errors: &mut E) -> u8
+    ensures status { (result ≡ 0) ⊎ (result ≡ 5) }
+    ensures printed { result ≡ 0 → Appends (W.contents out.old) (W.contents out.new) text.now }
+    ensures silent { result ≡ 0 → errors.new ≡ errors.old }
 {
-    let text = done(alloc, words, files)?;
     match out.write_all(text.as_bytes()) {
-        Ok(()) => Ok(()),
-        Err(_) => Err(Failure::Output),
+        Ok(()) => Status::Done.code(),
+        Err(_) => report(errors, &Failure::Output),
     }
 }
 
 /// Does what the line asks for, but for printing. The text is what it prints.
 fn done<F: Files>(alloc: Global, words: &[&str], files: &mut F) -> Result<String, Failure>
     ensures usage { ¬ Takes (texts words.now) → IfUntaken result }
-    ensures quiet { IfOk result (λ text. Asks (codes "compile") (texts words.now) → string_bytes text ≡ []) }
-    ensures asked { IfOk result (λ text. IsYield (subcommand_of program_app (texts words.now)) (string_bytes text)) }
     ensures taken { Takes (texts words.now) → IfErr result (λ e. (status_of e ≢ Status.Usage) × (e ≢ Failure.Output)) }
+    ensures kept { ¬ Asks (codes "compile") (texts words.now) → files.new ≡ files.old }
+    ensures unwritten { IfErr result (λ e. status_of e ≢ Status.File → status_of e ≢ Status.Memory → files.new ≡ files.old) }
+    ensures ends { LineEnds (F.known files.old) (F.known files.new) (subcommand_of program_app (texts words.now)) result }
 {
     let job = job(alloc, words)?;
     carried_out(alloc, job, files)
@@ -95,7 +93,9 @@ fn done<F: Files>(alloc: Global, words: &[&str], files: &mut F) -> Result<String
 
 /// Does what a job asks for, but for printing. The text is what it prints.
 fn carried_out<F: Files>(alloc: Global, job: Job, files: &mut F) -> Result<String, Failure>
-    ensures yields { IfOk result (λ text. Yields job (string_bytes text)) }
+    ensures ends { JobEnds (F.known files.old) (F.known files.new) job result }
+    ensures kept { ¬ IsCompile job.command → files.new ≡ files.old }
+    ensures unwritten { IfErr result (λ e. status_of e ≢ Status.File → status_of e ≢ Status.Memory → files.new ≡ files.old) }
     ensures other { IfErr result (λ e. (status_of e ≢ Status.Usage) × (e ≢ Failure.Output)) }
 {
     let Job {
@@ -103,40 +103,83 @@ fn carried_out<F: Files>(alloc: Global, job: Job, files: &mut F) -> Result<Strin
         options,
         budget,
     } = job;
+    let options = scan_options(options);
     match command {
-        Command::Compile { dir, name, out } => {
-            let templates = templates_in(alloc, files, dir)?;
-            let bytes = image_of(alloc, name.as_str(), &templates, scan_options(options))?;
-            put_at(files, out, &bytes)?;
-            Ok(String::new(alloc))
-        }
-        Command::Check { image } => {
-            let bytes = bytes_at(files, image)?;
-            let (units, instructions) = counts_of(alloc, &bytes)?;
-            Ok(format!(in alloc; "ok units={units} instructions={instructions}\n")?)
-        }
-        Command::Run { image, context } => {
-            let bytes = bytes_at(files, image)?;
-            let context = context_at(alloc, files, context)?;
-            run_image(alloc, &bytes, &context, budget)
-        }
+        Command::Compile { dir, name, out } => compile_to(alloc, files, dir, &name, options, out),
+        Command::Check { image } => check_at(alloc, files, image),
+        Command::Run { image, context } => run_at(alloc, files, image, context, budget),
         Command::Render { dir, name, context } => {
-            let templates = templates_in(alloc, files, dir)?;
-            let context = context_at(alloc, files, context)?;
-            let options = scan_options(options);
-            render_text(alloc, name.as_str(), &templates, options, &context, budget)
+            render_in(alloc, files, dir, &name, options, context, budget)
         }
     }
 }
 
-/// The context in a file, or the empty one where there is no file.
-fn context_at<F: Files>(
+/// Writes the image of a template to the file at `out`, and prints nothing.
+fn compile_to<F: Files>(
     alloc: Global,
     files: &mut F,
-    path: Option<String>,
-) -> Result<Context, Failure>
-    ensures given { IfOk result (λ context. IsContextOfFile path (pairs_of context)) }
-    ensures other { IfErr result (λ e. (status_of e ≢ Status.Usage) × (e ≢ Failure.Output)) }
+    dir: String,
+    name: &str,
+    options: Options,
+    out: String,
+) -> Result<String, Failure>
+    ensures only { ChangesOnly (F.known files.old) (F.known files.new) (string_bytes out) }
+    ensures ends { IsUnread (F.known files.old) None result
+        ⊎ Compiles (F.known files.old) (F.known files.new) (string_bytes dir) name.now (string_bytes out) options result }
+    ensures unwritten { IfErr result (λ e. status_of e ≢ Status.File → status_of e ≢ Status.Memory → files.new ≡ files.old) }
+{
+    let templates = templates_in(alloc, files, dir)?;
+    let bytes = image_of(alloc, name, &templates, options)?;
+    put_at(files, out, &bytes)?;
+    Ok(String::new(alloc))
+}
+
+/// The line that says how large the image at a path is.
+fn check_at<F: Files>(alloc: Global, files: &F, image: String) -> Result<String, Failure>
+    ensures { IsUnread (F.known files.now) None result ⊎ Checks (F.known files.now) (string_bytes image) result }
+{
+    let bytes = bytes_at(files, image)?;
+    let (units, instructions) = counts_of(alloc, &bytes)?;
+    Ok(format!(in alloc; "ok units={units} instructions={instructions}\n")?)
+}
+
+/// The text of the image at a path, run for the context of a file.
+fn run_at<F: Files>(
+    alloc: Global,
+    files: &F,
+    image: String,
+    context: Option<String>,
+    budget: Budget,
+) -> Result<String, Failure>
+    ensures { IsUnread (F.known files.now) context result ⊎ Runs (F.known files.now) (string_bytes image) context budget result }
+{
+    let bytes = bytes_at(files, image)?;
+    let context = context_at(alloc, files, context)?;
+    run_image(alloc, &bytes, &context, budget)
+}
+
+/// The text of a template of a directory for the context of a file.
+fn render_in<F: Files>(
+    alloc: Global,
+    files: &F,
+    dir: String,
+    name: &str,
+    options: Options,
+    context: Option<String>,
+    budget: Budget,
+) -> Result<String, Failure>
+    ensures { IsUnread (F.known files.now) context result
+        ⊎ Renders (F.known files.now) (string_bytes dir) name.now options context budget result }
+{
+    let templates = templates_in(alloc, files, dir)?;
+    let context = context_at(alloc, files, context)?;
+    render_text(alloc, name, &templates, options, &context, budget)
+}
+
+/// The context in a file, or the empty one where there is no file.
+fn context_at<F: Files>(alloc: Global, files: &F, path: Option<String>) -> Result<Context, Failure>
+    ensures given { IfOk result (λ context. IsContextAt (F.known files.now) path (pairs_of context)) }
+    ensures err { IfErr result (λ e. IsUnread (F.known files.now) path (Err e)) }
 {
     match path {
         Some(path) => {
@@ -148,8 +191,9 @@ fn context_at<F: Files>(
 }
 
 /// The bytes of the file at `path`.
-fn bytes_at<F: Files>(files: &mut F, path: String) -> Result<Vec<u8>, Failure>
-    ensures { IfErr result (λ e. (e ≡ Failure.File path) ⊎ (e ≡ Failure.NoMemory)) }
+fn bytes_at<F: Files>(files: &F, path: String) -> Result<Vec<u8>, Failure>
+    ensures held { IfOk result (λ bytes. (F.known files.now).holds (string_bytes path) bytes.items) }
+    ensures err { IfErr result (λ e. IsUnread (F.known files.now) None (Err e)) }
 {
     match files.read(path.as_str()) {
         Ok(bytes) => Ok(bytes),
@@ -159,7 +203,9 @@ fn bytes_at<F: Files>(files: &mut F, path: String) -> Result<Vec<u8>, Failure>
 
 /// Makes `bytes` the contents of the file at `path`.
 fn put_at<F: Files>(files: &mut F, path: String, bytes: &[u8]) -> Result<(), Failure>
-    ensures { IfErr result (λ e. (e ≡ Failure.File path) ⊎ (e ≡ Failure.NoMemory)) }
+    ensures written { OnOk result ((F.known files.new).holds (string_bytes path) bytes.now) }
+    ensures only { ChangesOnly (F.known files.old) (F.known files.new) (string_bytes path) }
+    ensures err { IfErr result (λ e. IsUnread (F.known files.old) None (Err e)) }
 {
     match files.write(path.as_str(), bytes) {
         Ok(()) => Ok(()),
@@ -168,8 +214,11 @@ fn put_at<F: Files>(files: &mut F, path: String, bytes: &[u8]) -> Result<(), Fai
 }
 
 /// The names of the files directly in `dir`, in the order of their bytes.
-fn names_in<F: Files>(files: &mut F, dir: &str) -> Result<Vec<String>, FileError>
-    ensures { IfOk result (λ names. IsSorted string_cmp names.items) }
+fn names_in<F: Files>(files: &F, dir: &str) -> Result<Vec<String>, FileError>
+    ensures listed { IfOk result (λ names. (given : List (List ℕ)) × (F.known files.now).lists dir.now given
+        × IsPermutation given (map string_bytes names.items)) }
+    ensures sorted { IfOk result (λ names. IsSorted string_cmp names.items) }
+    ensures failed { IsErrOf result FileError.Failed → (F.known files.now).fails dir.now }
 {
     let mut names = files.list(dir)?;
     names.sort_unstable();
@@ -177,8 +226,9 @@ fn names_in<F: Files>(files: &mut F, dir: &str) -> Result<Vec<String>, FileError
 }
 
 /// The templates of the files directly in `dir`, by their names. A file that is no text is none.
-fn templates_in<F: Files>(alloc: Global, files: &mut F, dir: String) -> Result<Templates, Failure>
-    ensures { IfErr result IsOfFiles }
+fn templates_in<F: Files>(alloc: Global, files: &F, dir: String) -> Result<Templates, Failure>
+    ensures library { IfOk result (λ templates. IsLibrary (F.known files.now) (string_bytes dir) (source_of templates)) }
+    ensures err { IfErr result (λ e. IsUnread (F.known files.now) None (Err e)) }
 {
     let names = match names_in(files, dir.as_str()) {
         Ok(names) => names,
@@ -186,11 +236,27 @@ fn templates_in<F: Files>(alloc: Global, files: &mut F, dir: String) -> Result<T
     };
     let mut templates = Templates::new(alloc);
     for name in names {
-        let path = format!(in alloc; "{dir}/{name}")?;
-        let bytes = bytes_at(files, path)?;
-        if let Ok(source) = String::from_utf8(bytes) {
-            templates.insert(name, source)?;
-        }
+        read_into(alloc, files, &mut templates, dir.as_str(), name)?;
     }
     Ok(templates)
+}
+
+/// Takes the file of a name in `dir` among the templates, where it is a text.
+fn read_into<F: Files>(
+    alloc: Global,
+    files: &F,
+    templates: &mut Templates,
+    dir: &str,
+    name: String,
+) -> Result<(), Failure>
+    ensures read { OnOk result ((names : List (List ℕ)) → AreSources (F.known files.now) dir.now names (source_of templates.old)
+        → AreSources (F.known files.now) dir.now (names ++ string_bytes name ∷ []) (source_of templates.new)) }
+    ensures err { IfErr result (λ e. IsUnread (F.known files.now) None (Err e)) }
+{
+    let path = format!(in alloc; "{dir}/{name}")?;
+    let bytes = bytes_at(files, path)?;
+    match String::from_utf8(bytes) {
+        Ok(source) => Ok(templates.insert(name, source)?),
+        Err(_) => Ok(()),
+    }
 }

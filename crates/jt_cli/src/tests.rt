@@ -1,11 +1,12 @@
 use crate::files::{FileError, Files};
+use crate::machine::Machine;
 use crate::program::perform;
 use jt_budget::Budget;
 use jt_line::{Command, DEFAULT, Job, Options, USUAL, job};
 use std::alloc::Global;
-use std::io;
 use std::process::Abort;
 use std::test::Fail;
+use std::{env, fs, io, process};
 
 /// Image X: its one unit prints `x`.
 const X: [u8; 44] = [
@@ -21,11 +22,11 @@ struct OneFile<'a> {
 }
 
 impl Files for OneFile<'_> {
-    fn list(&mut self, _dir: &str) -> Result<Vec<String>, FileError> {
+    fn list(&self, _dir: &str) -> Result<Vec<String>, FileError> {
         Err(FileError::Failed)
     }
 
-    fn read(&mut self, path: &str) -> Result<Vec<u8>, FileError> {
+    fn read(&self, path: &str) -> Result<Vec<u8>, FileError> {
         match path {
             "image" => match Vec::from_slice(self.alloc, self.bytes) {
                 Ok(bytes) => Ok(bytes),
@@ -50,7 +51,7 @@ struct Site<'a> {
 }
 
 impl Files for Site<'_> {
-    fn list(&mut self, dir: &str) -> Result<Vec<String>, FileError> {
+    fn list(&self, dir: &str) -> Result<Vec<String>, FileError> {
         match dir {
             "site" => {}
             "memory" => return Err(FileError::NoMemory),
@@ -63,7 +64,7 @@ impl Files for Site<'_> {
         Ok(names)
     }
 
-    fn read(&mut self, path: &str) -> Result<Vec<u8>, FileError> {
+    fn read(&self, path: &str) -> Result<Vec<u8>, FileError> {
         match path {
             "out" => return Ok(Vec::from_slice(self.alloc, self.out.as_slice())?),
             "site/memory" => return Err(FileError::NoMemory),
@@ -614,5 +615,28 @@ fn reads_a_line_of_compile(rt: HostRuntime) -> Result<(), Fail> {
             "{words:?}"
         );
     }
+    Ok(())
+}
+
+#[test]
+fn the_machine_keeps_what_is_written(rt: HostRuntime) -> Result<(), Fail> {
+    let alloc = rt.alloc();
+    let number = process::id(rt.process());
+    let dir = format!(in alloc; "{}/jt-{number}", env::temp_dir(&rt)?.display())?;
+    let path = format!(in alloc; "{dir}/a")?;
+    fs::create_dir(&rt, dir.as_str())?;
+    let mut files = Machine::new(&rt);
+    for bytes in [b"longer".as_slice(), b"\xff", b""] {
+        assert!(rt; files.write(path.as_str(), bytes).is_ok());
+        assert_eq!(rt; files.read(path.as_str())?.as_slice(), bytes);
+    }
+    let sub = format!(in alloc; "{dir}/sub")?;
+    fs::create_dir(&rt, sub.as_str())?;
+    let names = files.list(dir.as_str())?;
+    assert_eq!(rt; names.len(), 1);
+    assert_eq!(rt; names[0].as_str(), "a");
+    fs::remove_dir_all(&rt, dir.as_str())?;
+    assert_eq!(rt; files.read(path.as_str()).err(), Some(FileError::Failed));
+    assert_eq!(rt; files.list(dir.as_str()).err(), Some(FileError::Failed));
     Ok(())
 }

@@ -1,5 +1,5 @@
 -- Chains that break no rule: their programs fit, and their code does what they mean.
-use Rattle.std.proofs.Common.{◌≡◌, ℕ, List, [], ◌∷◌, Option, None, refl, sym, ap, ◌∙◌, subst}
+use Rattle.std.proofs.Common.{◌≡◌, List, [], ◌∷◌, None, refl, sym, ◌∙◌, subst}
 use Rattle.std.specs.List.{AllByRecursion}
 use Rattle.jt_scan.specs.declared.options.Options.{Options}
 use Rattle.jt_image.specs.IsCode.{IsCode}
@@ -16,11 +16,12 @@ use Rattle.jt_meaning.specs.Laws.{ProgramLaws}
 use Rattle.jt_meaning.specs.Layout.{names, shared}
 use Rattle.jt_meaning.specs.Programs.{program, routines, count_globals}
 use Rattle.jt_slots.specs.Slots.{Program}
+use Rattle.jt_slots.specs.TheFilters.{the_filters}
 use Rattle.jt_lower.specs.Lower.{compiled}
 use Rattle.jt_lower.specs.Fits.{ProgramFits}
 use Rattle.jt_lower.specs.Lawful.{AreLow}
 use Rattle.jt_lower.specs.Compiles.{LowLaws}
-use Rattle.jt_codegen.specs.Compiled.{DoesChain, IsCompiled}
+use Rattle.jt_codegen.specs.Compiled.{IsOnlyChain, IsCompiled}
 use Rattle.jt_codegen.proofs.Knowing.{chains_known, filter_there}
 use Rattle.jt_codegen.proofs.Lawful.{program_lawful}
 
@@ -28,7 +29,19 @@ read_known : (given : Given) (options : Options) (ts : List Template) → AllByR
 read_known given options [] a = tt
 read_known given options (t ∷ ts) a = (a.0.tree.known, read_known given options ts a.1)
 
-module _ (low : LowLaws) (programs : ProgramLaws) (given : Given) (entry : Text) (options : Options) (c : Seen) (is : IsChain given entry options c) (kept : KeepsRules (world_of c) c.order) where
+-- chains with the same sources are read with the same
+pub only_chain : (given : Given) (entry : Text) (options : Options) (c : Seen) → IsChain given entry options c → ((d : Seen) → IsChain given entry options d → (n : Text) → sources_of c n ≡ sources_of d n) → IsOnlyChain given entry options c
+only_chain given entry options c is one = record {
+  is = is;
+  only = λ d id.
+      let same : d.escaping ≡ c.escaping = id.escaping ∙ sym is.escaping in
+      λ i. record { filters = the_filters; sources = λ n. sym (one d id n) i; escaping = same i };
+}
+
+module _ (low : LowLaws) (programs : ProgramLaws) (given : Given) (entry : Text) (options : Options) (c : Seen) (the : IsOnlyChain given entry options c) (kept : KeepsRules (world_of c) c.order) where
+  abbrev is : IsChain given entry options c
+  is = the.is
+
   abbrev world : World
   world = world_of c
 
@@ -57,7 +70,7 @@ module _ (low : LowLaws) (programs : ProgramLaws) (given : Given) (entry : Text)
       let means = programs.means world entry is.included ordered in
       record {
         chain = c;
-        is = is;
+        is = the;
         lawful = kept;
         typed = low.typed p fit;
         does = record {
@@ -68,8 +81,8 @@ module _ (low : LowLaws) (programs : ProgramLaws) (given : Given) (entry : Text)
         };
       }
 
-pub by_order : LowLaws → ProgramLaws → (given : Given) (entry : Text) (options : Options) (c : Seen) (is : IsChain given entry options c) → KeepsRules (world_of c) c.order → AreLow (routines (world_of c) c.order) → IsCode (compiled (program (world_of c) c.order entry))
+pub by_order : LowLaws → ProgramLaws → (given : Given) (entry : Text) (options : Options) (c : Seen) (the : IsOnlyChain given entry options c) → KeepsRules (world_of c) c.order → AreLow (routines (world_of c) c.order) → IsCode (compiled (program (world_of c) c.order entry))
     → IsCompiled given entry options (compiled (program (world_of c) c.order entry))
-by_order low programs given entry options c is kept few whole =
-    subst (λ (o : List Home). IsCompiled given entry options (compiled (program (world_of c) o entry))) (sym is.begins)
-    (image_compiled low programs given entry options c is kept (subst (λ (o : List Home). AreLow (routines (world_of c) o)) is.begins few) (subst (λ (o : List Home). IsCode (compiled (program (world_of c) o entry))) is.begins whole))
+by_order low programs given entry options c the kept few whole =
+    subst (λ (o : List Home). IsCompiled given entry options (compiled (program (world_of c) o entry))) (sym the.is.begins)
+    (image_compiled low programs given entry options c the kept (subst (λ (o : List Home). AreLow (routines (world_of c) o)) the.is.begins few) (subst (λ (o : List Home). IsCode (compiled (program (world_of c) o entry))) the.is.begins whole))

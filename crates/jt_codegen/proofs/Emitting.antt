@@ -1,5 +1,5 @@
 -- The code of statements, put behind other code.
-use Rattle.std.proofs.Common.{◌≡◌, ℕ, zero, suc, ◌+◌, ◌-◌, ◌<◌, ◌≤◌, ◌^◌, Bool, true, false, List, [], ◌∷◌, ◌++◌, length, drop, get_or, map, Option, Some, None, Vec, Global, refl, sym, ap, ◌∙◌, subst, arith, length-append}
+use Rattle.std.proofs.Common.{◌≡◌, ℕ, zero, suc, ◌+◌, ◌-◌, ◌<◌, ◌≤◌, ◌^◌, Bool, true, false, List, [], ◌∷◌, ◌++◌, length, drop, get_or, Option, Some, refl, sym, ap, ◌∙◌, subst, arith, length-append}
 use Rattle.std.specs.Prelude.{min, nat_lt, option_map}
 use Rattle.std.specs.List.{AllByRecursion}
 use Rattle.std.proofs.lemmas.List.{drop_more, at_drop_all}
@@ -11,7 +11,6 @@ use Rattle.jt_slots.specs.Slots as slots
 use Rattle.jt_slots.specs.Slots.{SBody}
 use Rattle.jt_slots.specs.View.{Front, slot_view, place_view, expr_view, stmt_view, body_view, choice_view}
 use Rattle.jt_slots.specs.declared.program.Slot.{Slot}
-use Rattle.jt_slots.specs.declared.program.SExpr.{SExpr}
 use Rattle.jt_slots.specs.declared.program.SStmt.{SStmt}
 use Rattle.jt_lower.specs.Asm.{Asm, nil, one, both, choose}
 use Rattle.jt_lower.specs.Lower.{expr_asm, store_if_of, stores_asm, stmt_asm, body_asm}
@@ -19,7 +18,7 @@ use Rattle.jt_lower.specs.Emission.{StandsFor, Puts, Reserves, Patches, Ends}
 use Rattle.jt_lower.specs.declared.emitter.Emitter.{Emitter}
 use Rattle.jt_codegen.specs.Statements.{slots_view, Emits, Closes}
 use Rattle.jt_codegen.proofs.Fronts.{SBranch}
-use Rattle.jt_codegen.proofs.Putting.{puts_nothing, puts_then, puts_as, puts_last, puts_first, puts_choice, reserved_len, reserved_within, ended_len, ended_within}
+use Rattle.jt_codegen.proofs.Putting.{puts_nothing, puts_then, puts_last, puts_first, puts_choice, reserved_len, ended_len}
 
 pub stands_raised : (n m h : ℕ) → m ≡ min (n + 1) 18446744073709551615 → StandsFor n h → StandsFor m (suc h)
 stands_raised n m h same s = through (nat_lt n (2 ^ 32)) refl

@@ -1,5 +1,5 @@
 -- A chain that breaks no rule: its image, and what its refusals say.
-use Rattle.std.proofs.Common.{◌≡◌, ℕ, zero, suc, ◌+◌, ◌*◌, ◌<◌, ◌≤◌, Bool, true, false, List, [], ◌∷◌, map, length, Option, Some, refl, sym, ap, ◌∙◌, subst, arith}
+use Rattle.std.proofs.Common.{◌≡◌, ℕ, suc, ◌+◌, ◌*◌, ◌<◌, ◌≤◌, Bool, true, false, List, [], ◌∷◌, map, length, Some, refl, sym, ap, ◌∙◌, subst, arith}
 use Rattle.std.specs.Prelude.{slice_get, nat_le, IsTrue}
 use Rattle.std.specs.List.{AllByRecursion}
 use Rattle.std.proofs.lemmas.Bool.Decides.{nat_tests}
@@ -11,22 +11,25 @@ use Rattle.jt_image.specs.Parts.{HasTables}
 use Rattle.jt_image.specs.Laws.{CodeLaws}
 use Rattle.jt_parse.specs.Bytes.{body_bytes}
 use Rattle.jt_parse.specs.Trees.{Text}
-use Rattle.jt_inherit.specs.Chain.{Home, Template}
+use Rattle.jt_inherit.specs.Chain.{Home}
 use Rattle.jt_inherit.specs.Chains.{Given, IsChain}
 use Rattle.jt_inherit.specs.Places.{home_at}
+use Rattle.jt_inherit.specs.Refusals as inherit
 use Rattle.jt_inherit.specs.Small.{chains_weight, chains_len, source_len, IsSmall}
 use Rattle.jt_inherit.specs.Uses.{body_names}
 use Rattle.jt_inherit.specs.View.{Seen, sources_of}
+use Rattle.jt_inherit.specs.declared.error.ChainError.{ChainError}
+use Rattle.jt_inherit.specs.declared.error.ChainError.TheVariants as chain_error
 use Rattle.jt_rules.specs.Rules as rules
 use Rattle.jt_rules.specs.Rules.{KeepsRules}
 use Rattle.jt_rules.specs.declared.error.ScopeError.{ScopeError}
 use Rattle.jt_rules.specs.declared.error.ScopeError.TheVariants as scope_error
 use Rattle.jt_rules.specs.World.{World, world_of}
 use Rattle.jt_meaning.specs.Bytes.{IsShort}
-use Rattle.jt_meaning.specs.Layout.{names, shared}
+use Rattle.jt_meaning.specs.Layout.{shared}
 use Rattle.jt_meaning.specs.Laws.{ProgramLaws}
 use Rattle.jt_meaning.specs.Measure.{AreFew, IsSized}
-use Rattle.jt_meaning.specs.Programs.{program, routines, count_globals}
+use Rattle.jt_meaning.specs.Programs.{program, routines}
 use Rattle.jt_slots.specs.Size.{body_height}
 use Rattle.jt_slots.specs.Slots.{Routine, Program}
 use Rattle.jt_slots.specs.View.{routine_view, templates_of, program_of}
@@ -36,9 +39,9 @@ use Rattle.jt_lower.specs.Compiles.{LowLaws}
 use Rattle.jt_lower.specs.Fits.{ProgramFits}
 use Rattle.jt_lower.specs.Lawful.{AreLow}
 use Rattle.jt_lower.specs.Lower.{compiled}
-use Rattle.jt_codegen.specs.Compiled.{IsCompiled}
+use Rattle.jt_codegen.specs.Compiled.{IsOnlyChain, IsCompiled}
 use Rattle.jt_codegen.specs.Limits.{NeedsTooMany}
-use Rattle.jt_codegen.specs.Refusals.{of_scope, of_emit, Breaks, HasProgram, NamesLimit}
+use Rattle.jt_codegen.specs.Refusals.{of_chain, of_scope, of_emit, Breaks, HasProgram, NamesLimit}
 use Rattle.jt_codegen.specs.Units.{FitsImage, RefusesCode}
 use Rattle.jt_codegen.specs.declared.emission.EmitError.{EmitError}
 use Rattle.jt_codegen.specs.declared.emission.EmitError.TheVariants as emit_error
@@ -88,8 +91,23 @@ high_of q rs b same counted e = λ h.
     let no : true ≡ false = sym is_true ∙ e in
     absurd cc
 
+-- a refusal of the chain
+pub chain_refused : (given : Given) (entry : Text) (options : Options) (e : ChainError) → inherit.Breaks e given entry options → ((c : Seen) → IsChain given entry options c → e ≡ chain_error.NoMemory) → Breaks given entry options (of_chain e)
+chain_refused given entry options chain_error.Missing b none = (λ e. cc, b, λ c is. let no = none c is in absurd cc)
+chain_refused given entry options chain_error.BadName b none = (λ e. cc, b, λ c is. let no = none c is in absurd cc)
+chain_refused given entry options chain_error.ExtendsCycle b none = (λ e. cc, b, λ c is. let no = none c is in absurd cc)
+chain_refused given entry options chain_error.ChainTooLong b none = (λ e. cc, b, λ c is. let no = none c is in absurd cc)
+chain_refused given entry options chain_error.DoubleBlock b none = (λ e. cc, b, λ c is. let no = none c is in absurd cc)
+chain_refused given entry options chain_error.RequiredNotGiven b none = (λ e. cc, b, λ c is. let no = none c is in absurd cc)
+chain_refused given entry options chain_error.NoSuper b none = (λ e. cc, b, λ c is. let no = none c is in absurd cc)
+chain_refused given entry options chain_error.IncludeCycle b none = (λ e. cc, b, λ c is. let no = none c is in absurd cc)
+chain_refused given entry options chain_error.MacroTwice b none = (λ e. cc, b, λ c is. let no = none c is in absurd cc)
+chain_refused given entry options (chain_error.Scan n f) b none = (λ e. cc, b, λ c is. let no = none c is in absurd cc)
+chain_refused given entry options (chain_error.Parse n f) b none = (λ e. cc, b, λ c is. let no = none c is in absurd cc)
+chain_refused given entry options chain_error.NoMemory b none = tt
+
 -- a rule of names and calls that is broken
-pub rule_refused : (given : Given) (entry : Text) (options : Options) (c : Seen) → IsChain given entry options c → (e : ScopeError) → rules.Breaks e (world_of c) c.order → Breaks given entry options (of_scope e)
+pub rule_refused : (given : Given) (entry : Text) (options : Options) (c : Seen) → IsOnlyChain given entry options c → (e : ScopeError) → rules.Breaks e (world_of c) c.order → Breaks given entry options (of_scope e)
 rule_refused given entry options c is scope_error.LoopOutside r = record { chain = c; is = is; fault = λ e. cc; broken = r }
 rule_refused given entry options c is scope_error.MacroAsValue r = record { chain = c; is = is; fault = λ e. cc; broken = r }
 rule_refused given entry options c is scope_error.NotCallable r = record { chain = c; is = is; fault = λ e. cc; broken = r }
@@ -97,7 +115,10 @@ rule_refused given entry options c is scope_error.BadArguments r = record { chai
 rule_refused given entry options c is scope_error.TooManySlots r = record { chain = c; is = is; fault = λ e. cc; broken = r }
 rule_refused given entry options c is scope_error.NoMemory r = tt
 
-module _ (code : CodeLaws) (low : LowLaws) (programs : ProgramLaws) (given : Given) (entry : Text) (options : Options) (c : Seen) (is : IsChain given entry options c) (kept : KeepsRules (world_of c) c.order) where
+module _ (code : CodeLaws) (low : LowLaws) (programs : ProgramLaws) (given : Given) (entry : Text) (options : Options) (c : Seen) (the : IsOnlyChain given entry options c) (kept : KeepsRules (world_of c) c.order) where
+  abbrev is : IsChain given entry options c
+  is = the.is
+
   abbrev world : World
   world = world_of c
 
@@ -134,12 +155,12 @@ module _ (code : CodeLaws) (low : LowLaws) (programs : ProgramLaws) (given : Giv
   pub image_compiled : (q : Program) (k : Code) → IsOf q → Low q → k ≡ compiled q → IsCode k → IsCompiled given entry options k
   image_compiled q k same few held whole =
       let one : compiled (program world c.order entry) ≡ k = ap compiled (sym (of_entry q same)) ∙ sym held in
-      subst (IsCompiled given entry options) one (by_order low programs given entry options c is kept (lows q same few) (subst IsCode (sym one) whole))
+      subst (IsCompiled given entry options) one (by_order low programs given entry options c the kept (lows q same few) (subst IsCode (sym one) whole))
 
   -- ---- refusals hold
 
   has_program : (Fact : Program → Type 0) (q : Program) → IsOf q → Fact q → HasProgram given entry options Fact
-  has_program Fact q same fact = record { chain = c; is = is; lawful = kept; fact = subst Fact (of_entry q same) fact }
+  has_program Fact q same fact = record { chain = c; is = the; lawful = kept; fact = subst Fact (of_entry q same) fact }
 
   pub stack_refused : (q : Program) → IsOf q → ¬ (Low q) → HasProgram given entry options NeedsTooMany
   stack_refused q same n = has_program NeedsTooMany q same (needs_too_many q n)
@@ -171,7 +192,7 @@ module _ (code : CodeLaws) (low : LowLaws) (programs : ProgramLaws) (given : Giv
       few_chains = subst (λ (o : List Home). 7 * length o ≤ chains_weight (sources_of c) o + 7) is.begins few
 
       fitting : ProgramFits p
-      fitting = fits low programs given entry options c is kept (low.low (routines world order) (length (shared world order)) (small_low code low world order p sized weight))
+      fitting = fits low programs given entry options c the kept (low.low (routines world order) (length (shared world order)) (small_low code low world order p sized weight))
 
       pub fits_small : (q : Program) → IsOf q → FitsImage (compiled q)
       fits_small q same =

@@ -1,24 +1,24 @@
 -- Where no filter and no test has an unknown name, the tests and filters of chains are known.
 use Rattle.std.proofs.Common.{◌≡◌, ℕ, Bool, true, false, ◌||◌, List, [], ◌∷◌, ◌++◌, Option, Some, None, refl, sym, ◌∙◌, subst}
-use Rattle.std.specs.Prelude.{not, if◌then◌else◌, flat_map, option_map}
+use Rattle.std.specs.Prelude.{not, if◌then◌else◌, flat_map, option_map, codes}
 use Rattle.std.specs.Str.{bytes_eq}
 use Rattle.std.specs.Option.{option_or}
 use Rattle.std.specs.List.{list_any, find, AllByRecursion}
 use Rattle.jt_ops.specs.declared.test_id.TestId.{TestId}
 use Rattle.jt_ops.specs.TestTable.{test_names}
-use Rattle.jt_expr.specs.declared.named.Named.{Named}
 use Rattle.jt_expr.specs.declared.named.Named.TheVariants as n
-use Rattle.jt_expr.specs.Named.{all_tests, is_test, is_filter, has_unknown, exprs_have_unknown, pairs_have_unknown}
-use Rattle.jt_filters.specs.FilterTable.{filters, filter_id, filter_names}
+use Rattle.jt_expr.specs.Named.{all_tests, is_test, is_filter, only_name, filter_written, inside_unknown, filter_unknown, has_unknown, exprs_have_unknown, pairs_have_unknown}
+use Rattle.jt_filters.specs.FilterTable.{filters, filter_id, filter_names, with_only}
 use Rattle.jt_filters.specs.declared.filter_id.FilterId.{FilterId}
+use Rattle.jt_filters.specs.declared.filter_id.FilterId.TheVariants as which
 use Rattle.jt_expr.specs.Trees as written
 use Rattle.jt_expr.specs.Trees.{Expr, constant, name, group, list_of, map_of, attribute, item, filter, test, unary, binary, when, choice, Exprs, no_exprs, expr, Pairs, no_pairs, pair}
-use Rattle.jt_parse.specs.Names.{Found, blamed, unknown_in, condition_unknown, filtering_unknown, filterings_unknown, stmt_unknown, body_unknown, branch_unknown}
+use Rattle.jt_parse.specs.Names.{blamed, unknown_in, condition_unknown, filtering_unknown, filterings_unknown, stmt_unknown, body_unknown, branch_unknown}
 use Rattle.jt_parse.specs.Trees.{Text, Filtering, Stmt, data_of, print, choose, for_each, set, set_block, with_values, filter_block, autoescape, macro, include, extends, block, Body, end, stmt, Branches, no_branches, branch}
-use Rattle.jt_inherit.specs.Chain.{Sources, Home, Template, sources_in, template, templates, names_up}
+use Rattle.jt_inherit.specs.Chain.{Sources, Home, Template, sources_in, template, names_up}
 use Rattle.jt_slots.specs.Filters.{Filters}
 use Rattle.jt_slots.specs.Tests.{tests, test_named}
-use Rattle.jt_slots.specs.TheFilters.{the_filters, filter_named}
+use Rattle.jt_slots.specs.TheFilters.{the_filters}
 use Rattle.jt_rules.specs.World.{World}
 use Rattle.jt_rules.specs.Known.{IsThere, ExprKnown, RowKnown, PairsKnown, ConditionKnown, FilteringKnown, StmtKnown, BodyKnown, BranchesKnown, TemplatesKnown, ChainsKnown}
 
@@ -57,17 +57,25 @@ any_filter : (x : Text) → is_filter x ≡ list_any (has_filter_name x) filters
 unfolding is_filter
 any_filter x = refl
 
-named_filter : (x : Text) → the_filters.named x ≡ option_map filter_id (find (has_filter_name x) filters)
-unfolding the_filters filter_named
-named_filter x = refl
+named_filter : (x : Text) (ts : Exprs) (ps : Pairs) → the_filters.named x ts ps ≡ option_map filter_id (with_only (find (has_filter_name x) filters) (only_name ts ps))
+unfolding the_filters filter_written
+named_filter x ts ps = refl
 
-there_with_id : (o : Option FilterId) → IsThere o → IsThere (option_map filter_id o)
-there_with_id None h = h
-there_with_id (Some f) h = tt
+-- with its only argument by name, a filter is another one at most
+there_with_only : (o : Option FilterId) (only : Option Text) → IsThere o → IsThere (option_map filter_id (with_only o only))
+there_with_only None only h = h
+there_with_only (Some which.Map) None h = tt
+there_with_only (Some which.Map) (Some x) h = by (bytes_eq x (codes "attribute"))
+  where
+    by : (b : Bool) → IsThere (option_map filter_id (if b then Some which.MapAttribute else Some which.Map))
+    by true = tt
+    by false = tt
+there_with_only (Some g) only h = tt
 
--- a name that some filter has is one of the filters'
-pub filter_there : (x : Text) → is_filter x ≡ true → IsThere (the_filters.named x)
-filter_there x h = subst IsThere (sym (named_filter x)) (there_with_id (find (has_filter_name x) filters) (found (has_filter_name x) filters (sym (any_filter x) ∙ h)))
+-- a name that some filter has is one of the filters', with any arguments
+pub filter_there : (x : Text) (ts : Exprs) (ps : Pairs) → is_filter x ≡ true → IsThere (the_filters.named x ts ps)
+filter_there x ts ps h =
+    subst IsThere (sym (named_filter x ts ps)) (there_with_only (find (has_filter_name x) filters) (only_name ts ps) (found (has_filter_name x) filters (sym (any_filter x) ∙ h)))
 
 -- ---- trees
 
@@ -79,9 +87,11 @@ second : (a b : Bool) → (a || b) ≡ false → b ≡ false
 second true b h = absurd cc
 second false b h = h
 
-module _ (fs : Filters) (named : (x : Text) → is_filter x ≡ true → IsThere (fs.named x)) where
-  filter_found : (x : Text) → not (is_filter x) ≡ false → IsThere (fs.named x)
-  filter_found x h = named x (not_false (is_filter x) h)
+module _ (fs : Filters) (named : (x : Text) (ts : Exprs) (ps : Pairs) → is_filter x ≡ true → IsThere (fs.named x ts ps)) where
+  -- nor do its arguments name an unknown one, but that is another matter
+  filter_found : (x : Text) (ts : Exprs) (ps : Pairs) → filter_unknown n.Filter x ts ps ≡ false → IsThere (fs.named x ts ps)
+  unfolding filter_unknown
+  filter_found x ts ps h = named x ts ps (not_false (is_filter x) (first (not (is_filter x)) (inside_unknown n.Filter (filter_written x ts ps) ts) h))
 
   mutual
     expr_known : (e : Expr) → has_unknown n.Filter e ≡ false → has_unknown n.Test e ≡ false → ExprKnown fs e
@@ -103,11 +113,13 @@ module _ (fs : Filters) (named : (x : Text) → is_filter x ≡ true → IsThere
         )
     expr_known (filter a x ts ps) f t =
         let inner = has_unknown n.Filter a || (exprs_have_unknown n.Filter ts || pairs_have_unknown n.Filter ps) in
-        let inside = second (not (is_filter x)) inner f in
+        let inner_tests = has_unknown n.Test a || (exprs_have_unknown n.Test ts || pairs_have_unknown n.Test ps) in
+        let inside = second (filter_unknown n.Filter x ts ps) inner f in
+        let inside_tests = second (filter_unknown n.Test x ts ps) inner_tests t in
         let g = second (has_unknown n.Filter a) (exprs_have_unknown n.Filter ts || pairs_have_unknown n.Filter ps) inside in
-        let u = second (has_unknown n.Test a) (exprs_have_unknown n.Test ts || pairs_have_unknown n.Test ps) t in (
-          filter_found x (first (not (is_filter x)) inner f),
-          expr_known a (first (has_unknown n.Filter a) (exprs_have_unknown n.Filter ts || pairs_have_unknown n.Filter ps) inside) (first (has_unknown n.Test a) (exprs_have_unknown n.Test ts || pairs_have_unknown n.Test ps) t),
+        let u = second (has_unknown n.Test a) (exprs_have_unknown n.Test ts || pairs_have_unknown n.Test ps) inside_tests in (
+          filter_found x ts ps (first (filter_unknown n.Filter x ts ps) inner f),
+          expr_known a (first (has_unknown n.Filter a) (exprs_have_unknown n.Filter ts || pairs_have_unknown n.Filter ps) inside) (first (has_unknown n.Test a) (exprs_have_unknown n.Test ts || pairs_have_unknown n.Test ps) inside_tests),
           row_known ts (first (exprs_have_unknown n.Filter ts) (pairs_have_unknown n.Filter ps) g) (first (exprs_have_unknown n.Test ts) (pairs_have_unknown n.Test ps) u),
           pairs_known ps (second (exprs_have_unknown n.Filter ts) (pairs_have_unknown n.Filter ps) g) (second (exprs_have_unknown n.Test ts) (pairs_have_unknown n.Test ps) u),
         )
@@ -179,9 +191,10 @@ module _ (fs : Filters) (named : (x : Text) → is_filter x ≡ true → IsThere
   filterings_known (g ∷ gs) f t =
       let here = first (filtering_unknown n.Filter g) (filterings_unknown n.Filter gs) f in
       let inner = exprs_have_unknown n.Filter g.arguments || pairs_have_unknown n.Filter g.keywords in
-      let inside = second (not (is_filter g.name)) inner here in
-      let u = first (filtering_unknown n.Test g) (filterings_unknown n.Test gs) t in (
-        filter_found g.name (first (not (is_filter g.name)) inner here),
+      let inside = second (filter_unknown n.Filter g.name g.arguments g.keywords) inner here in
+      let tests = first (filtering_unknown n.Test g) (filterings_unknown n.Test gs) t in
+      let u = second (filter_unknown n.Test g.name g.arguments g.keywords) (exprs_have_unknown n.Test g.arguments || pairs_have_unknown n.Test g.keywords) tests in (
+        filter_found g.name g.arguments g.keywords (first (filter_unknown n.Filter g.name g.arguments g.keywords) inner here),
         row_known g.arguments (first (exprs_have_unknown n.Filter g.arguments) (pairs_have_unknown n.Filter g.keywords) inside) (first (exprs_have_unknown n.Test g.arguments) (pairs_have_unknown n.Test g.keywords) u),
         pairs_known g.keywords (second (exprs_have_unknown n.Filter g.arguments) (pairs_have_unknown n.Filter g.keywords) inside) (second (exprs_have_unknown n.Test g.arguments) (pairs_have_unknown n.Test g.keywords) u),
         filterings_known gs (second (filtering_unknown n.Filter g) (filterings_unknown n.Filter gs) f) (second (filtering_unknown n.Test g) (filterings_unknown n.Test gs) t),
@@ -254,7 +267,7 @@ module _ (fs : Filters) (named : (x : Text) → is_filter x ≡ true → IsThere
       by None h = tt
       by (Some b) h = (h, tt)
 
-pub chains_known : (world : World) → ((x : Text) → is_filter x ≡ true → IsThere (world.filters.named x)) → (ts : List Template) → ((m : Text) → world.sources m ≡ sources_in ts m) → AllByRecursion (λ t. body_unknown t.body ≡ None) ts → (hs : List Home) → ChainsKnown world hs
+pub chains_known : (world : World) → ((x : Text) (us : Exprs) (ps : Pairs) → is_filter x ≡ true → IsThere (world.filters.named x us ps)) → (ts : List Template) → ((m : Text) → world.sources m ≡ sources_in ts m) → AllByRecursion (λ t. body_unknown t.body ≡ None) ts → (hs : List Home) → ChainsKnown world hs
 chains_known world named ts same a [] = tt
 chains_known world named ts same a (h ∷ hs) =
     (named_known world.filters named world.sources (λ m. subst (Fine world.filters named) (sym (same m)) (source_known world.filters named ts a m)) (names_up world.sources 16 (Some h)), chains_known world named ts same a hs)

@@ -1,5 +1,5 @@
 -- What is resolved is lawful: its slots are globals that there are, and its constants values that have a place.
-use Rattle.std.proofs.Common.{◌≡◌, ℕ, zero, suc, ◌+◌, ◌<◌, ◌≤◌, Bool, true, false, if◌then◌else◌, List, [], ◌∷◌, ◌++◌, length, Option, Some, None, arith, refl, sym, ap, ◌∙◌, subst, length-append}
+use Rattle.std.proofs.Common.{◌≡◌, ℕ, zero, suc, ◌+◌, ◌<◌, ◌≤◌, Bool, true, false, if◌then◌else◌, List, [], ◌∷◌, ◌++◌, length, Option, Some, None, arith, refl, sym, ap, ◌∙◌, length-append}
 use Rattle.std.specs.Option.{is_none}
 use Rattle.std.specs.List.{AllByRecursion}
 use Rattle.std.specs.Str.{bytes_eq}
@@ -36,7 +36,7 @@ use Rattle.jt_slots.specs.TheFilters.{the_filters}
 use Rattle.jt_slots.specs.Pool.{Constant, own, known}
 use Rattle.jt_meaning.specs.Resolve.{value_or, read_from, turned_round, tested_by, filtered_by, in_form, field_from, followed, locals_from, fresh, fresh_targets, kept_slots, slot_of, set_targets, filled, filled_some, first_locals, reads, handed_on, Part, Spot, place, grown, bound_table, bound_all, copied, scoped, next_given, first_body, invoked_body, invoked_super, invoked, resolved, resolved_row, resolved_asides, resolved_entries, resolved_condition, resolved_filters, resolved_values, placed_body, resolved_stmt, resolved_body, resolved_choice, top_spot, resolved_sets, resolved_chain, resolved_routine, chain_routine, macro_routine}
 use Rattle.jt_lower.specs.Fits.{IsBare, IsPooled}
-use Rattle.jt_lower.specs.Lawful.{ConstantLawful, SlotLawful, ExprLawful, RowLawful, SomeLawful, SlotsLawful, TargetsLawful, ConditionLawful, StmtLawful, BodyLawful, RoutineLawful, AreLawful}
+use Rattle.jt_lower.specs.Lawful.{ConstantLawful, SlotLawful, ExprLawful, RowLawful, SomeLawful, SlotsLawful, TargetsLawful, ConditionLawful, BodyLawful, RoutineLawful, AreLawful}
 
 literal_pooled : (l : Literal) → IsPooled (literal l)
 literal_pooled (written.number n) = tt
@@ -244,7 +244,7 @@ module _ (front globals_count : ℕ) (some : 0 < front) where
           invoked_fined (callee (macros world.sources sp.home) f) f sp (resolved_row world order ts sp) (resolved_asides world order ps sp) (count ts) (locals_from sp.free (keywords ps)) i refl
           (from_fine sp.free (keywords ps)) (λ b h. row_fined ts sp i t b h) (λ b h. asides_fined ps sp i t b h)
       fined (filter a x ts ps) sp i t =
-          let f = world.filters.named x in
+          let f = world.filters.named x ts ps in
           let ks = locals_from sp.free (keywords ps) in
           let rest = filled_some (filter_parameters world.filters f) (count ts) (keywords ps) ks in
           let row = resolved_row world order ts sp (resolved_asides world order ps sp rest) in
@@ -276,7 +276,7 @@ module _ (front globals_count : ℕ) (some : 0 < front) where
     filters_fined : (fs : List Filtering) (sp : Spot) (e : SExpr Constant) → among sp.home order ≡ true → Fine sp.table → E e → E (resolved_filters world order fs sp e)
     filters_fined [] sp e i t h = h
     filters_fined (f ∷ fs) sp e i t h =
-        let n = world.filters.named f.name in
+        let n = world.filters.named f.name f.arguments f.keywords in
         let ks = locals_from sp.free (keywords f.keywords) in
         let rest = filled_some (filter_parameters world.filters n) (count f.arguments) (keywords f.keywords) ks in
         let row = resolved_row world order f.arguments sp (resolved_asides world order f.keywords sp rest) in

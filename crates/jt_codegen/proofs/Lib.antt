@@ -1,3 +1,4 @@
+pub mod Depths
 pub mod Fronts
 pub mod Putting
 pub mod Emitting

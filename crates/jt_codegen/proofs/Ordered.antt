@@ -1,7 +1,6 @@
 -- The tables of the code of a chain are in order.
-use Rattle.std.proofs.Common.{◌≡◌, ◌≢◌, ℕ, suc, ◌+◌, ◌<◌, ◌≤◌, List, [], ◌∷◌, length, map, refl, arith}
+use Rattle.std.proofs.Common.{◌≢◌, ℕ, suc, ◌+◌, ◌<◌, ◌≤◌, List, [], ◌∷◌, length, map, refl, arith}
 use Rattle.std.specs.List.{AllByRecursion}
-use Rattle.jt_image.specs.Code.{Section}
 use Rattle.jt_image.specs.IsCode.{Ascend, AreDistinct}
 use Rattle.jt_image.specs.Parts.{IsUnitInOrder, HasTables}
 use Rattle.jt_parse.specs.Trees.{Text}
@@ -9,9 +8,9 @@ use Rattle.jt_inherit.specs.Chain.{Home}
 use Rattle.jt_rules.specs.World.{World}
 use Rattle.jt_meaning.specs.Ascends.{Above, Ascends}
 use Rattle.jt_meaning.specs.Layout.{names, shared}
-use Rattle.jt_meaning.specs.Programs.{program, routines}
+use Rattle.jt_meaning.specs.Programs.{program}
 use Rattle.jt_meaning.specs.Resolve.{chain_routine}
-use Rattle.jt_slots.specs.Slots.{Routine, Program}
+use Rattle.jt_slots.specs.Slots.{Routine}
 use Rattle.jt_slots.specs.Pool.{placed_routine}
 use Rattle.jt_lower.specs.Lower.{unit_of, numbered, compiled}
 use Rattle.jt_codegen.proofs.Routines.{parameters_within}

@@ -1,11 +1,9 @@
 -- Instructions by their fields, and units.
-use Rattle.std.proofs.Common.{◌≡◌, ℕ, ◌+◌, true, false, List, [], ◌∷◌, ◌++◌, length, map, None, Some, Vec, Global, refl, sym, ap, ◌∙◌, subst, arith, append-nil}
+use Rattle.std.proofs.Common.{◌≡◌, ℕ, true, false, List, [], ◌∷◌, ◌++◌, length, map, None, Some, refl, sym, ap, ◌∙◌, subst, arith}
 use Rattle.std.specs.Prelude.{option_map}
-use Rattle.std.proofs.lemmas.List.{map-append}
 use Rattle.jt_image.specs.declared.instruction.Instruction.{Instruction}
 use Rattle.jt_image.specs.declared.instruction.Instruction.TheVariants as op
 use Rattle.jt_image.specs.declared.wire.Instr.{Instr}
-use Rattle.jt_image.specs.declared.parts.Unit as given
 use Rattle.jt_image.specs.Spelling.{wire_of}
 use Rattle.jt_image.specs.Reading.{instruction_of}
 use Rattle.jt_image.specs.Parts.{in_front, each_of, section_of_unit}

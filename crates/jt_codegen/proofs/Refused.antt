@@ -1,5 +1,5 @@
 -- What the refusals of images say of the code of a program.
-use Rattle.std.proofs.Common.{◌≡◌, Option, Some, None, subst}
+use Rattle.std.proofs.Common.{◌≡◌, Option, Some, subst}
 use Rattle.jt_image.specs.Code.{Code}
 use Rattle.jt_image.specs.Parts.{IsRefusal, HasTables}
 use Rattle.jt_image.specs.declared.error.ImageError.{ImageError}

@@ -1,13 +1,12 @@
 -- The parameters and the locals of the routines of chains.
-use Rattle.std.proofs.Common.{◌≡◌, ℕ, suc, ◌<◌, ◌≤◌, ◌+◌, max, Bool, true, false, if◌then◌else◌, List, [], ◌∷◌, ◌++◌, length, map, Option, Some, None, refl, ap, subst, arith}
+use Rattle.std.proofs.Common.{◌≡◌, ℕ, suc, ◌≤◌, ◌+◌, Bool, true, false, if◌then◌else◌, List, [], ◌∷◌, length, map, refl, ap, arith}
 use Rattle.std.specs.Prelude.{flat_map, filter}
 use Rattle.std.specs.List.{AllByRecursion}
 use Rattle.std.specs.Str.{bytes_eq}
 use Rattle.jt_parse.specs.Trees.{Parameter}
-use Rattle.jt_image.specs.Code.{Section}
 use Rattle.jt_inherit.specs.Chain.{Home, BlockBody, MacroBody, macros}
 use Rattle.jt_rules.specs.World.{World}
-use Rattle.jt_meaning.specs.Layout.{numbered_bodies, is_scoped, scopes, block_parameters}
+use Rattle.jt_meaning.specs.Layout.{numbered_bodies, is_scoped, scopes}
 use Rattle.jt_meaning.specs.Measure.{IsFew, AreFew}
 use Rattle.jt_meaning.specs.Programs.{body_routines, chain_routines, routines}
 use Rattle.jt_meaning.specs.Resolve.{chain_routine, macro_routine, body_routine}

@@ -6,8 +6,8 @@ use Rattle.std.proofs.lemmas.List.Concat.{flat_map-cons}
 use Rattle.jt_value.specs.Tree as tree
 use Rattle.jt_value.specs.Tree.{Tree}
 use Rattle.jt_image.specs.Code.{Name, Section}
-use Rattle.jt_image.specs.Spelling.{name_bytes, constant_bytes, spelling}
-use Rattle.jt_image.specs.IsCode.{IsInstruction, total_len, max_locals, max_instructions, max_bytes}
+use Rattle.jt_image.specs.Spelling.{name_bytes, constant_bytes}
+use Rattle.jt_image.specs.IsCode.{IsInstruction, total_len, max_locals, max_instructions}
 use Rattle.jt_image.specs.Typed.{max_entries}
 use Rattle.jt_image.specs.Parts.{KeepsLimits}
 use Rattle.jt_image.specs.Laws.{CodeLaws}
@@ -17,7 +17,7 @@ use Rattle.jt_inherit.specs.Small.{chains_weight}
 use Rattle.jt_rules.specs.World.{World}
 use Rattle.jt_meaning.specs.Bytes.{value_bytes, IsShort}
 use Rattle.jt_meaning.specs.Measure.{IsSized}
-use Rattle.jt_slots.specs.Size.{body_height, routines_size}
+use Rattle.jt_slots.specs.Size.{body_height}
 use Rattle.jt_slots.specs.Slots.{Routine, Program}
 use Rattle.jt_lower.specs.Compiles.{LowLaws}
 use Rattle.jt_lower.specs.Fits.{ProgramFits}

@@ -1,21 +1,20 @@
 -- No name that a tree reads or binds is empty, since none is that a source spells.
-use Rattle.std.proofs.Common.{◌≡◌, ℕ, ◌<◌, Bool, true, false, if◌then◌else◌, List, [], ◌∷◌, ◌++◌, length, map, codes, encode_utf8_all, Option, Some, None, refl, arith}
+use Rattle.std.proofs.Common.{ℕ, ◌<◌, Bool, true, false, if◌then◌else◌, List, [], ◌∷◌, ◌++◌, length, map, codes, encode_utf8_all, Option, Some, None, arith}
 use Rattle.std.specs.List.{AllByRecursion}
 use Rattle.std.proofs.lemmas.Str.{length-le-encodes}
 use Rattle.jt_scan.specs.declared.options.Options.{Options}
 use Rattle.jt_scan.specs.declared.segment.Kind.{Kind}
-use Rattle.jt_scan.specs.declared.segment.Kind.TheVariants as kind
 use Rattle.jt_scan.specs.declared.segment.Mark.{Mark}
 use Rattle.jt_scan.specs.declared.segment.Sign.{Sign}
 use Rattle.jt_scan.specs.declared.segment.Sign.TheVariants as s
 use Rattle.jt_scan.specs.Cut as cut
 use Rattle.jt_scan.specs.Cut.{Token, Segment, Inside, IsSegment, Cuts}
-use Rattle.jt_expr.specs.Trees.{Expr, Exprs, Pairs}
+use Rattle.jt_expr.specs.Trees.{Expr, Pairs}
 use Rattle.jt_expr.specs.Grammar as g
 use Rattle.jt_expr.specs.Grammar.{Tokens, word, Level, operator_tokens, is_tokens, Row, Parts, no_parts, put, Spells, Goes, Primary, Arguments, TestArguments, Holds, IsPart}
 use Rattle.jt_parse.specs.Kept as kept
 use Rattle.jt_parse.specs.Kept.{Side, Piece, with_text, with_segment, side_ahead, side_behind, pieces_from}
-use Rattle.jt_parse.specs.Trees.{Text, Parameter, Filtering, Stmt, Body, Branches}
+use Rattle.jt_parse.specs.Trees.{Text, Parameter, Filtering, Body, Branches}
 use Rattle.jt_parse.specs.Tags as tags
 use Rattle.jt_parse.specs.Tags.{Separated, IsName, IsValue, pairs_of, Values, IsFiltering, IsParameter, Parameters, Loop, Opening, a_text, values, filters, escaping, a_macro, a_block, Head, a_statement, an_if, a_loop, an_opening, made, looped, Condition, Says}
 use Rattle.jt_parse.specs.Grammar as grammar

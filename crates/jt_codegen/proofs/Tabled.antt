@@ -1,8 +1,7 @@
 -- The tables and the units of a program.
-use Rattle.std.proofs.Common.{◌≡◌, ℕ, zero, suc, ◌+◌, ◌<◌, ◌≤◌, List, [], ◌∷◌, ◌++◌, length, drop, get_or, map, Option, Some, None, String, string_bytes, Global, refl, sym, ap, ◌∙◌, subst, arith, append_assoc, append-nil}
-use Rattle.std.specs.Prelude.{option_map}
+use Rattle.std.proofs.Common.{◌≡◌, ℕ, suc, ◌+◌, ◌<◌, ◌≤◌, List, [], ◌∷◌, ◌++◌, length, drop, get_or, map, Option, Some, None, String, string_bytes, Global, refl, sym, ap, ◌∙◌, subst, arith, append_assoc, append-nil}
 use Rattle.std.specs.List.{AllByRecursion}
-use Rattle.std.proofs.lemmas.List.{map-append, length-map, drop_more, at_drop_all}
+use Rattle.std.proofs.lemmas.List.{map-append, drop_more, at_drop_all}
 use Rattle.jt_image.specs.Code.{Section}
 use Rattle.jt_image.specs.declared.parts.Unit as given
 use Rattle.jt_image.specs.View.{name_view, names_view}
@@ -12,7 +11,7 @@ use Rattle.jt_slots.specs.View.{routine_view, templates_of, program_of}
 use Rattle.jt_slots.specs.declared.program.Routine.{Routine}
 use Rattle.jt_slots.specs.declared.program.Program.{Program}
 use Rattle.jt_lower.specs.Lower.{unit_of, numbered, compiled}
-use Rattle.jt_codegen.specs.Units.{FitsUnit, Refuses, RefusesUnits, FitsImage, RefusesCode}
+use Rattle.jt_codegen.specs.Units.{FitsUnit, Refuses, RefusesUnits, RefusesCode}
 use Rattle.jt_codegen.specs.declared.emission.EmitError.{EmitError}
 use Rattle.jt_codegen.specs.declared.emission.EmitError.TheVariants as error
 

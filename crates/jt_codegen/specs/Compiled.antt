@@ -1,5 +1,5 @@
 -- What it is for a code to be that of an entry in a library.
-use Rattle.std.specs.Prelude.{◌≡◌, ℕ, Option, List, ◌∷◌}
+use Rattle.std.specs.Prelude.{◌≡◌, ℕ, Option}
 use Rattle.jt_value.specs.Pairs.{Pairs}
 use Rattle.jt_value.specs.declared.fault.Fault.{Fault}
 use Rattle.jt_scan.specs.declared.options.Options.{Options}
@@ -26,10 +26,15 @@ pub record DoesChain (world : World) (entry : Home) (k : Code) : Type 0 where
   pub enough_text : (x : Pairs) (n : ℕ) (t : Text) → mean world entry x n ≡ gives t → Enough k x (config.text t)
   pub enough_fault : (x : Pairs) (n : ℕ) (f : Fault) (q : Option Place) → mean world entry x n ≡ fails f q → Enough k x (config.fault f)
 
--- the entry has a chain that breaks no rule, and the code is typed and does what the chain means
+-- The entry has the chain, and no other but for the order of its parts: what templates are read with is the same.
+pub record IsOnlyChain (given : Given) (entry : Text) (options : Options) (c : Seen) : Type 0 where
+  pub is : IsChain given entry options c
+  pub only : (d : Seen) → IsChain given entry options d → world_of d ≡ world_of c
+
+-- the entry's chain breaks no rule, and the code is typed and does what the chain means
 pub record IsCompiled (given : Given) (entry : Text) (options : Options) (k : Code) : Type 0 where
   pub chain : Seen
-  pub is : IsChain given entry options chain
+  pub is : IsOnlyChain given entry options chain
   pub lawful : KeepsRules (world_of chain) chain.order
   pub typed : IsTyped k
   pub does : DoesChain (world_of chain) entry k

@@ -14,6 +14,7 @@ use Rattle.jt_rules.specs.World.{world_of}
 use Rattle.jt_rules.specs.declared.error.ScopeError.{ScopeError}
 use Rattle.jt_rules.specs.declared.error.ScopeError.TheVariants as scope_error
 use Rattle.jt_meaning.specs.Programs.{program}
+use Rattle.jt_codegen.specs.Compiled.{IsOnlyChain}
 use Rattle.jt_codegen.specs.Limits.{IsTooLong, NeedsTooMany}
 use Rattle.jt_codegen.specs.declared.emission.EmitError.{EmitError}
 use Rattle.jt_codegen.specs.declared.emission.EmitError.TheVariants as emit_error
@@ -37,23 +38,27 @@ of_emit emit_error.NoMemory = error.NoMemory
 -- ---- when they hold
 
 module _ (given : Given) (entry : Text) (options : Options) where
+  -- the entry has no chain that keeps the rules of chains
+  abbrev pub HasNoChain : Type 0
+  HasNoChain = (c : Seen) → IsChain given entry options c → ⊥
+
   -- the rule of names and calls that is named is broken by the entry's chain, or one that its includes reach
   pub record BreaksRule (e : ScopeError) : Type 0 where
     pub chain : Seen
-    pub is : IsChain given entry options chain
+    pub is : IsOnlyChain given entry options chain
     pub fault : e ≢ scope_error.NoMemory
     pub broken : rules.Breaks e (world_of chain) chain.order
 
-  -- there is a chain that breaks no rule, and the fact holds of the program that it is resolved to
+  -- the entry's chain breaks no rule, and the fact holds of the program that it is resolved to
   pub record HasProgram (Fact : Program → Type 0) : Type 0 where
     pub chain : Seen
-    pub is : IsChain given entry options chain
+    pub is : IsOnlyChain given entry options chain
     pub lawful : KeepsRules (world_of chain) chain.order
     pub fact : Fact (program (world_of chain) chain.order entry)
 
   -- the refusal holds; want of memory is no claim
   abbrev pub Breaks : CompileError → Type 0
-  Breaks (error.Chain e) = (e ≢ chain_error.NoMemory) × inherit.Breaks e given entry options
+  Breaks (error.Chain e) = (e ≢ chain_error.NoMemory) × inherit.Breaks e given entry options × HasNoChain
   Breaks (error.Scope e) = BreaksRule e
   Breaks error.CodeTooLong = HasProgram IsTooLong
   Breaks error.NoMemory = Unit {0}

@@ -1,5 +1,5 @@
 -- What an image has place for.
-use Rattle.std.specs.Prelude.{ℕ, ◌<◌, ◌≤◌, ◌^◌, List, length}
+use Rattle.std.specs.Prelude.{◌<◌, ◌≤◌, ◌^◌, List, length}
 use Rattle.std.specs.List.{AllByRecursion}
 use Rattle.jt_image.specs.Code.{Section, Code}
 use Rattle.jt_image.specs.IsCode.{max_locals, max_instructions}

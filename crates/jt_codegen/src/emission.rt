@@ -5,9 +5,10 @@ ghost use Rattle.std.specs.List.{AllByRecursion};
 ghost use Rattle.jt_image.specs.Parts.{section_of_unit};
 ghost use Rattle.jt_parse.specs.Trees.{Text};
 ghost use Rattle.jt_slots.specs.Got.{Place};
-ghost use Rattle.jt_slots.specs.View.{targets_view, expr_view, stmt_view, body_view, routine_view};
+ghost use Rattle.jt_slots.specs.Slots as slots;
+ghost use Rattle.jt_slots.specs.View.{slot_view, targets_view, expr_view, stmt_view, body_view, routine_view};
 ghost use Rattle.std.specs.Prelude.{option_map};
-ghost use Rattle.jt_lower.specs.Lower.{kept_asm, unit_of};
+ghost use Rattle.jt_lower.specs.Lower.{kept_asm, stmt_asm, unit_of};
 ghost use Rattle.jt_lower.specs.Emission.{StandsFor, Puts};
 ghost use Rattle.jt_codegen.specs.Statements.{Emits, Closes};
 ghost use Rattle.jt_codegen.specs.Units.{Refuses};
@@ -15,7 +16,7 @@ ghost use Rattle.jt_codegen.specs.Units.{Refuses};
 use crate::targets::{emit_item, emit_targets};
 use jt_image::{Instruction, Unit};
 use jt_lower::{Emitter, call_of, data_of, emit_expression, emit_row, flag, store_of};
-use jt_slots::{Routine, SExpr, SStmt, Targets};
+use jt_slots::{Routine, SExpr, SStmt, Slot, Targets};
 use std::alloc::{AllocError, AllocFailed, Global};
 
 /// Why no code is made.
@@ -150,26 +151,12 @@ fn emit_statement(
             Ok(())
         }
         SStmt::For(_, targets, iterated, condition, body, other) => {
-            emit_expression(code, iterated, above)?;
-            code.put(Some(Instruction::LoopStart))?;
-            emit_condition(code, targets, condition)?;
-            let top = code.begin_turns()?;
-            emit_item(code, targets)?;
-            emit_statements(alloc, code, body, 0)?;
-            code.end_turns(top)?;
-            code.put(Some(Instruction::LoopEnd))?;
-            let choice = code.begin_choice()?;
-            emit_statements(alloc, code, other, above)?;
-            code.end_when(choice);
-            Ok(())
+            emit_loop(
+                alloc, code, targets, iterated, condition, body, other, above,
+            )
         }
         SStmt::Capture(escaping, slot, body) => {
-            let captured = flag(*escaping);
-            code.put(Some(Instruction::CaptureBegin))?;
-            emit_statements(alloc, code, body, above.saturating_add(1))?;
-            code.put(Some(Instruction::CaptureEnd { flag: captured }))?;
-            code.put(store_of(*slot))?;
-            Ok(())
+            emit_capture(alloc, code, *escaping, *slot, body, above)
         }
         SStmt::Run(routine, row) => {
             emit_row(code, row, above)?;
@@ -177,6 +164,57 @@ fn emit_statement(
             Ok(())
         }
     }
+}
+
+/// Puts the code of a loop behind the others: its turns, and what stands for none.
+#[cycle(statements)]
+fn emit_loop(
+    alloc: Global,
+    code: &mut Emitter,
+    targets: &Targets,
+    iterated: &SExpr,
+    condition: &Option<SExpr>,
+    body: &[SStmt],
+    other: &[SStmt],
+    above: usize,
+) -> Result<(), AllocError>
+    ensures { OnOk result ((templates : List Text) (p : Place) (h : ℕ) → StandsFor above h
+        → Puts code.old (stmt_asm (slots.for_each p (targets_view targets.now) (expr_view iterated.now) (option_map expr_view condition.now)
+        (body_view templates body.now slots.end) (body_view templates other.now slots.end)) h) code.new) }
+{
+    emit_expression(code, iterated, above)?;
+    code.put(Some(Instruction::LoopStart))?;
+    emit_condition(code, targets, condition)?;
+    let top = code.begin_turns()?;
+    emit_item(code, targets)?;
+    emit_statements(alloc, code, body, 0)?;
+    code.end_turns(top)?;
+    code.put(Some(Instruction::LoopEnd))?;
+    let choice = code.begin_choice()?;
+    emit_statements(alloc, code, other, above)?;
+    code.end_when(choice);
+    Ok(())
+}
+
+/// Puts the code of a capture behind the others: the text of its body goes into the slot.
+#[cycle(statements)]
+fn emit_capture(
+    alloc: Global,
+    code: &mut Emitter,
+    escaping: bool,
+    slot: Slot,
+    body: &[SStmt],
+    above: usize,
+) -> Result<(), AllocError>
+    ensures { OnOk result ((templates : List Text) (h : ℕ) → StandsFor above h
+        → Puts code.old (stmt_asm (slots.capture escaping (slot_view slot) (body_view templates body.now slots.end)) h) code.new) }
+{
+    let captured = flag(escaping);
+    code.put(Some(Instruction::CaptureBegin))?;
+    emit_statements(alloc, code, body, above.saturating_add(1))?;
+    code.put(Some(Instruction::CaptureEnd { flag: captured }))?;
+    code.put(store_of(slot))?;
+    Ok(())
 }
 
 /// Puts the code of statements behind the others.

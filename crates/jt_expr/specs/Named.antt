@@ -1,15 +1,18 @@
--- Filters and tests whose names have a meaning.
-use Rattle.std.specs.Prelude.{◌≡◌, Bool, true, false, not, ◌||◌, List, [], ◌∷◌, bytes_eq}
+-- Filters and tests whose names have a meaning. A filter's arguments may name filters and tests too.
+use Rattle.std.specs.Prelude.{◌≡◌, ℕ, suc, Bool, true, false, not, ◌||◌, List, [], ◌∷◌, Option, Some, None, bytes_eq}
 use Rattle.std.specs.List.{list_any}
 use Rattle.jt_ops.specs.declared.test_id.TestId.{TestId}
 use Rattle.jt_ops.specs.declared.test_id.TestId.TheVariants as test_of
 use Rattle.jt_ops.specs.TestTable.{test_names}
-use Rattle.jt_filters.specs.FilterTable.{filters, filter_names}
+use Rattle.jt_filters.specs.FilterTable.{filters, filter_names, filter_meant, named_at}
+use Rattle.jt_filters.specs.declared.filter_id.FilterId.{FilterId}
+use Rattle.jt_filters.specs.declared.filter_id.Naming.{Naming}
+use Rattle.jt_filters.specs.declared.filter_id.Naming.TheVariants as naming
 use Rattle.jt_expr.specs.declared.named.Named.{Named}
 use Rattle.jt_expr.specs.declared.named.Named.TheVariants as n
 use Rattle.jt_expr.specs.declared.error.ExprError.{ExprError}
 use Rattle.jt_expr.specs.declared.error.ExprError.TheVariants as e
-use Rattle.jt_expr.specs.Trees.{Text, Expr, constant, name, group, list_of, map_of, attribute, item, call, filter, test, unary, binary, when, choice, Exprs, no_exprs, expr, Pairs, no_pairs, pair}
+use Rattle.jt_expr.specs.Trees.{Text, text, Expr, constant, name, group, list_of, map_of, attribute, item, call, filter, test, unary, binary, when, choice, Exprs, no_exprs, expr, Pairs, no_pairs, pair}
 
 abbrev pub all_tests : List TestId
 all_tests =
@@ -32,6 +35,44 @@ abbrev pub unknown_test : Named → Text → Bool
 unknown_test n.Filter x = false
 unknown_test n.Test x = not (is_test x)
 
+-- the text of a text literal; in parentheses it is none
+abbrev pub literal_text : Expr → Option Text
+literal_text (constant (text x)) = Some x
+literal_text t = None
+
+-- the name of the only argument, where there is one alone and it is given by its name
+abbrev pub only_name : Exprs → Pairs → Option Text
+only_name no_exprs (pair x t no_pairs) = Some x
+only_name ts ps = None
+
+-- the filter that a name means, with its arguments as they are written
+unfoldable pub filter_written : Text → Exprs → Pairs → Option FilterId
+filter_written x ts ps = filter_meant x (only_name ts ps)
+
+-- a name that an argument gives; the key of an attribute always has a meaning
+abbrev pub unknown_naming : Named → Naming → Text → Bool
+unknown_naming u naming.Filter x = unknown_filter u x
+unknown_naming u naming.Test x = unknown_test u x
+unknown_naming u naming.Key x = false
+
+abbrev pub argument_unknown : Named → Option Naming → Option Text → Bool
+argument_unknown u None literal = false
+argument_unknown u (Some what) None = false
+argument_unknown u (Some what) (Some x) = unknown_naming u what x
+
+-- one of a filter's arguments, from a place among its values on, names a filter or a test that there is not
+abbrev pub arguments_unknown : Named → FilterId → ℕ → Exprs → Bool
+arguments_unknown u f place no_exprs = false
+arguments_unknown u f place (expr t ts) = argument_unknown u (named_at f place) (literal_text t) || arguments_unknown u f (suc place) ts
+
+abbrev pub inside_unknown : Named → Option FilterId → Exprs → Bool
+inside_unknown u None ts = false
+inside_unknown u (Some f) ts = arguments_unknown u f 1 ts
+
+-- a filter's own name, or one that its arguments name
+unfoldable pub filter_unknown : Named → Text → Exprs → Pairs → Bool
+filter_unknown u x ts ps = unknown_filter u x || inside_unknown u (filter_written x ts ps) ts
+
 -- in the tree stands a filter, or a test, whose name has no meaning
 abbrev mutual
   pub has_unknown : Named → Expr → Bool
@@ -43,7 +84,7 @@ abbrev mutual
   has_unknown u (attribute a k) = has_unknown u a
   has_unknown u (item a b) = has_unknown u a || has_unknown u b
   has_unknown u (call a ts ps) = has_unknown u a || (exprs_have_unknown u ts || pairs_have_unknown u ps)
-  has_unknown u (filter a x ts ps) = unknown_filter u x || (has_unknown u a || (exprs_have_unknown u ts || pairs_have_unknown u ps))
+  has_unknown u (filter a x ts ps) = filter_unknown u x ts ps || (has_unknown u a || (exprs_have_unknown u ts || pairs_have_unknown u ps))
   has_unknown u (test a b x ts ps) = unknown_test u x || (has_unknown u a || (exprs_have_unknown u ts || pairs_have_unknown u ps))
   has_unknown u (unary op a) = has_unknown u a
   has_unknown u (binary op a b) = has_unknown u a || has_unknown u b

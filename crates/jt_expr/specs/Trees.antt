@@ -45,6 +45,11 @@ mutual
     no_pairs : Pairs
     pair : Text → Expr → Pairs → Pairs
 
+-- how many stand in a row
+abbrev pub count : Exprs → ℕ
+count no_exprs = 0
+count (expr t ts) = suc (count ts)
+
 -- ---- levels: each form is one, around what it holds
 
 abbrev mutual

@@ -750,6 +750,18 @@ impl<F: Fn(Global, &mut Cursor<'_>, usize, Form) -> Result<Part, ExprError>> Gra
 pub fn read(
     alloc: Global,
     cursor: &mut Cursor<'_>,
+    limit: u8,
+    form: Form,
+) -> Result<Part, ExprError>
+    ensures { Gives (spec.read limit (level_of_form form) (ahead cursor.old)) result (ahead cursor.new) }
+{
+    read_within(alloc, cursor, usize::from(limit), form)
+}
+
+/// The same, of which each call allows one level less.
+fn read_within(
+    alloc: Global,
+    cursor: &mut Cursor<'_>,
     limit: usize,
     form: Form,
 ) -> Result<Part, ExprError>
@@ -762,20 +774,19 @@ pub fn read(
     Grammar {
         alloc,
         below: limit - 1,
-        inner: read,
+        inner: read_within,
     }
     .form(cursor, form)
 }
 
 /// The arguments of a filter, none or some in parentheses, each of at most so many levels.
-pub fn arguments(alloc: Global, cursor: &mut Cursor<'_>, limit: usize) -> Result<Parts, ExprError>
-    requires { limit < 2 ^ 32 }
+pub fn arguments(alloc: Global, cursor: &mut Cursor<'_>, limit: u8) -> Result<Parts, ExprError>
     ensures { GivesParts (spec.arguments_at (spec.read limit) (suc limit) (ahead cursor.old)) result (ahead cursor.new) }
 {
     Grammar {
         alloc,
-        below: limit,
-        inner: read,
+        below: usize::from(limit),
+        inner: read_within,
     }
     .arguments(cursor)
 }

@@ -15,7 +15,8 @@ pub use cursor::Cursor;
 pub use error::ExprError;
 pub use grammar::{arguments, read};
 pub use named::{
-    Named, any_unknown, any_unknown_pair, check_names, has_unknown, is_unknown_filter,
+    Named, any_unknown, any_unknown_pair, check_names, filter_of, has_unknown, is_filter_unknown,
+    literal_text,
 };
 pub use part::{Part, Parts};
 pub use rows::Form;

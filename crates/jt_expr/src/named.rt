@@ -1,12 +1,14 @@
-//! Filters and tests whose names have a meaning.
+//! Filters and tests whose names have a meaning, those too that a filter's arguments name.
 
-ghost use Rattle.std.specs.Prelude.{◌≡◌, MatchResult};
+ghost use Rattle.std.specs.Prelude.{◌≡◌, MatchResult, option_map};
+ghost use Rattle.jt_filters.specs.FilterTable.{named_at};
+ghost use Rattle.jt_expr.specs.Trees.{no_exprs};
 ghost use Rattle.jt_expr.specs.View.{expr_view, exprs_view, pairs_view};
 ghost use Rattle.jt_expr.specs.Named as spec;
 
 use crate::error::ExprError;
-use crate::tree::Expr;
-use jt_filters::FilterId;
+use crate::tree::{Expr, Literal};
+use jt_filters::{FilterId, Naming};
 use jt_ops::TestId;
 
 /// What has a name that may have no meaning.
@@ -58,13 +60,105 @@ fn is_unknown_test(name: &str, named: Named) -> bool
 }
 
 /// Whether a filter of this name is what is looked for.
-pub fn is_unknown_filter(name: &str, named: Named) -> bool
+fn is_unknown_filter(name: &str, named: Named) -> bool
     ensures { result ≡ spec.unknown_filter named name.now }
 {
     match named {
         Named::Filter => !is_filter(name),
         Named::Test => false,
     }
+}
+
+/// The text of a text literal; in parentheses it is none.
+pub fn literal_text(expr: &Expr) -> Option<&str>
+    ensures { option_map (λ s. s.now) result ≡ spec.literal_text (expr_view expr.now) }
+{
+    match expr {
+        Expr::Constant(Literal::Text(text)) => Some(text.as_str()),
+        _ => None,
+    }
+}
+
+/// The name of the only argument, where there is one alone and it is given by its name.
+fn only_name<'a>(items: &[Expr], pairs: &'a [(String, Expr)]) -> Option<&'a str>
+    ensures { option_map (λ s. s.now) result ≡ spec.only_name (exprs_view items.now) (pairs_view pairs.now) }
+{
+    match items {
+        [] => single_name(pairs),
+        _ => None,
+    }
+}
+
+/// The name of the only argument by name, where there is one alone.
+fn single_name(pairs: &[(String, Expr)]) -> Option<&str>
+    ensures { option_map (λ s. s.now) result ≡ spec.only_name no_exprs (pairs_view pairs.now) }
+{
+    match pairs {
+        [] => None,
+        [(name, _)] => Some(name.as_str()),
+        _ => None,
+    }
+}
+
+/// The filter that a name means, with its arguments as they are written; none where no filter has
+/// the name. `map` whose only argument is given by the name `attribute` is another filter than `map`.
+pub fn filter_of(name: &str, items: &[Expr], pairs: &[(String, Expr)]) -> Option<FilterId>
+    ensures { result ≡ spec.filter_written name.now (exprs_view items.now) (pairs_view pairs.now) }
+{
+    FilterId::named(name, only_name(items, pairs))
+}
+
+/// Whether a name that an argument gives is what is looked for.
+fn is_unknown_naming(naming: Naming, name: &str, named: Named) -> bool
+    ensures { result ≡ spec.unknown_naming named naming name.now }
+{
+    match naming {
+        Naming::Filter => is_unknown_filter(name, named),
+        Naming::Test => is_unknown_test(name, named),
+        Naming::Key => false,
+    }
+}
+
+/// Whether the argument at a place of a filter gives such a name.
+fn argument_unknown(filter: FilterId, place: usize, argument: &Expr, named: Named) -> bool
+    ensures { result ≡ spec.argument_unknown named (named_at filter place) (spec.literal_text (expr_view argument.now)) }
+{
+    let Some(naming) = filter.named_at(place) else {
+        return false;
+    };
+    match literal_text(argument) {
+        Some(name) => is_unknown_naming(naming, name, named),
+        None => false,
+    }
+}
+
+/// Whether one of a filter's arguments by place gives such a name.
+fn arguments_unknown(filter: FilterId, items: &[Expr], named: Named) -> bool
+    ensures { result ≡ spec.arguments_unknown named filter 1 (exprs_view items.now) }
+{
+    for (index, argument) in items.iter().enumerate() {
+        if argument_unknown(filter, index + 1, argument, named) {
+            return true;
+        }
+    }
+    false
+}
+
+/// The same of a filter, if it is known.
+fn inside_unknown(filter: Option<FilterId>, items: &[Expr], named: Named) -> bool
+    ensures { result ≡ spec.inside_unknown named filter (exprs_view items.now) }
+{
+    match filter {
+        Some(filter) => arguments_unknown(filter, items, named),
+        None => false,
+    }
+}
+
+/// Whether a filter's name, or one that its arguments give, is what is looked for.
+pub fn is_filter_unknown(name: &str, items: &[Expr], pairs: &[(String, Expr)], named: Named) -> bool
+    ensures { result ≡ spec.filter_unknown named name.now (exprs_view items.now) (pairs_view pairs.now) }
+{
+    is_unknown_filter(name, named) || inside_unknown(filter_of(name, items, pairs), items, named)
 }
 
 /// Whether such a name stands in an expression.
@@ -83,7 +177,7 @@ pub fn has_unknown(expr: &Expr, named: Named) -> bool
             has_unknown(a, named) || any_unknown(items, named) || any_unknown_pair(pairs, named)
         }
         Expr::Filter(a, name, items, pairs) => {
-            is_unknown_filter(name, named)
+            is_filter_unknown(name, items, pairs, named)
                 || has_unknown(a, named)
                 || any_unknown(items, named)
                 || any_unknown_pair(pairs, named)

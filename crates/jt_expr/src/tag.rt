@@ -1,6 +1,6 @@
 //! The expression that the tokens of a tag spell.
 
-ghost use Rattle.std.specs.Prelude.{◌≡◌, ◌≤◌, ◌<◌, ◌^◌, map, IfOk, MatchResult, IsErrOf};
+ghost use Rattle.std.specs.Prelude.{◌≡◌, ◌≤◌, ◌<◌, map, IfOk, MatchResult, IsErrOf};
 ghost use Rattle.jt_scan.specs.View.{token_view};
 ghost use Rattle.jt_expr.specs.Trees as trees;
 ghost use Rattle.jt_expr.specs.Trees.{levels};
@@ -19,8 +19,7 @@ use jt_scan::Token;
 use std::alloc::Global;
 
 /// The expression that all the tokens spell, of at most so many levels.
-pub fn expression(alloc: Global, tokens: &[Token<'_>], limit: usize) -> Result<Expr, ExprError>
-    requires { limit ≤ 2 ^ 32 }
+pub fn expression(alloc: Global, tokens: &[Token<'_>], limit: u8) -> Result<Expr, ExprError>
     // What is answered is spelled so, within the levels.
     ensures spelled { IfOk result (λ x. Spells whole (expr_view x) (map token_view tokens.now) × (levels (expr_view x) ≤ limit)) }
     // A tree within the levels is answered, and no other is spelled so.
@@ -37,8 +36,7 @@ pub fn expression(alloc: Global, tokens: &[Token<'_>], limit: usize) -> Result<E
 }
 
 #[tactic(auto, unfolding(crate::specs::Reading::parsed))]
-fn read_all(alloc: Global, tokens: &[Token<'_>], limit: usize) -> Result<Expr, ExprError>
-    requires { limit ≤ 2 ^ 32 }
+fn read_all(alloc: Global, tokens: &[Token<'_>], limit: u8) -> Result<Expr, ExprError>
     ensures { GivesWhole (parsed limit (map token_view tokens.now)) result }
 {
     let mut rest = Cursor { rest: tokens };

@@ -1,12 +1,9 @@
 -- Items that count once, and items from the front.
-use Rattle.std.proofs.Common.{◌≡◌, ℕ, zero, suc, ◌+◌, ◌-◌, ◌^◌, ◌<◌, min, max, Bool, true, false, cond, List, [], ◌∷◌, ◌++◌, Some, None, refl, sym, ap, ◌∙◌, arith, bytes_eq}
+use Rattle.std.proofs.Common.{◌≡◌, ℕ, zero, suc, ◌+◌, ◌-◌, max, Bool, true, false, cond, List, Some, None, refl, sym, ap, ◌∙◌, arith, bytes_eq}
 use Rattle.jt_value.specs.Equality.{equal}
 use Rattle.jt_value.specs.Payload.{text_of, joined_items}
 use Rattle.jt_value.specs.Tree as tree
 use Rattle.jt_value.specs.Tree.{Tree, Items, no_items, item, size, nesting, items_size, items_nesting}
-use Rattle.jt_value.specs.View.{view, items_view}
-use Rattle.jt_value.specs.declared.value.Value.{Value}
-use Rattle.jt_filters.proofs.Lists.{pushed}
 use Rattle.jt_filters.specs.Operands.{front}
 use Rattle.jt_filters.specs.Ordering.{alike, fold, has_alike, unseen}
 
@@ -134,7 +131,3 @@ kept_nesting all n t rest e new = ap items_nesting (unseen_kept all n t rest e n
 pub values_left : (all : Items) (n : ℕ) (t : Tree) (rest : Items) (before : Items) → joined_items (front n all) (item t rest) ≡ all → has_alike t (front n all) ≡ true
     → joined_items before (unseen (front (n + 1) all) rest) ≡ joined_items before (unseen (front n all) (item t rest))
 values_left all n t rest before e old = ap (λ (ts : Items). joined_items before ts) (sym (unseen_left all n t rest e old))
-
-pub values_kept : (all : Items) (n : ℕ) (t : Tree) (rest : Items) (before after : List Value) (v : Value) → joined_items (front n all) (item t rest) ≡ all → has_alike t (front n all) ≡ false → after ≡ before ++ v ∷ [] → view v ≡ t
-    → joined_items (items_view after) (unseen (front (n + 1) all) rest) ≡ joined_items (items_view before) (unseen (front n all) (item t rest))
-values_kept all n t rest before after v e new is same = pushed before after v t (unseen (front (n + 1) all) rest) is same ∙ ap (λ (ts : Items). joined_items (items_view before) ts) (sym (unseen_kept all n t rest e new))

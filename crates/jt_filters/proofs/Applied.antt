@@ -1,8 +1,7 @@
 -- What is measured, allowed and built is what a filter gives under limits.
-use Rattle.std.proofs.Common.{◌≡◌, ℕ, ◌-◌, ◌^◌, min, Bool, true, false, cond, refl, sym, ap, ◌∙◌}
+use Rattle.std.proofs.Common.{◌≡◌, ℕ, ◌-◌, ◌^◌, min, Bool, true, false, cond, sym, ap}
 use Rattle.std.specs.Prelude.{Result, Ok, Err, nat_lt}
 use Rattle.jt_value.specs.declared.fault.Fault.{Fault}
-use Rattle.jt_value.specs.Payload.{has_payload}
 use Rattle.jt_value.specs.Tree as tree
 use Rattle.jt_value.specs.Tree.{Tree}
 use Rattle.jt_ops.specs.declared.limits.Limits.{Limits}
@@ -51,6 +50,10 @@ pub needs_memory : (limits : Limits) (wanted : Result Tree Fault) (s n : ℕ) �
     → HasPayload wanted → NeedsMemory (limited_by limits wanted)
 needs_memory limits (Ok t) s n e f p = rw (f t (size_is t s n e) (nesting_is t s n e)) p
 needs_memory limits (Err other) s n e f p = cc
+
+pub within : (limits : Limits) (t : Tree) (s n : ℕ) → Ok (s, n) ≡ measured (Ok t)
+    → ((t : Tree) → s ≡ min (tree.size t) (2 ^ 64 - 1) → n ≡ min (tree.nesting t) (2 ^ 32 - 1) → limited_by limits (Ok t) ≡ Ok t) → limited_by limits (Ok t) ≡ Ok t
+within limits t s n e f = f t (size_is t s n e) (nesting_is t s n e)
 
 pub built_fault : (limits : Limits) (wanted : Result Tree Fault) (fault : Fault) → wanted ≡ Err fault → limited_by limits wanted ≡ Err (error.Fault fault)
 built_fault limits wanted fault e = ap (limited_by limits) e

@@ -15,7 +15,6 @@ use Rattle.std.specs.Char.{encode_utf8}
 use Rattle.std.specs.Fmt.{digits}
 use Rattle.std.specs.Str.{chars}
 use Rattle.jt_filters.specs.Filtering.{filtered}
-use Rattle.jt_filters.specs.Mapping.{attr, map, select, select_by, map_attribute}
 
 abbrev behind : Result Tree Fault → Result (List Tree) Fault → Result (List Tree) Fault
 behind (Ok t) (Ok ts) = Ok (t ∷ ts)
@@ -76,22 +75,22 @@ unfolding digits chars encode_utf8
 row_5 = refl
 
 -- '{{ [1, 2, 3]|select("odd")|join(",") }}'
-row_6 : printing true ((call (filtered filter.Join true) ((call (select true) ((call listed_all (Ok (number (pos 1)) ∷ Ok (number (pos 2)) ∷ Ok (number (pos 3)) ∷ [])) ∷ Ok (text (codes "odd")) ∷ [])) ∷ Ok (text (codes ",")) ∷ [])) ∷ []) ≡ Ok (codes "1,3")
+row_6 : printing true ((call (filtered filter.Join true) ((call (filtered filter.Select true) ((call listed_all (Ok (number (pos 1)) ∷ Ok (number (pos 2)) ∷ Ok (number (pos 3)) ∷ [])) ∷ Ok (text (codes "odd")) ∷ [])) ∷ Ok (text (codes ",")) ∷ [])) ∷ []) ≡ Ok (codes "1,3")
 unfolding digits chars encode_utf8
 row_6 = refl
 
 -- '{{ [{"a": 1}, {"a": 2}]|map(attribute="a")|sum }}'
-row_7 : printing true ((call (filtered filter.Sum true) ((call map_attribute ((call listed_all ((call mapped (Ok (text (codes "a")) ∷ Ok (number (pos 1)) ∷ [])) ∷ (call mapped (Ok (text (codes "a")) ∷ Ok (number (pos 2)) ∷ [])) ∷ [])) ∷ Ok (text (codes "a")) ∷ [])) ∷ [])) ∷ []) ≡ Ok (codes "3")
+row_7 : printing true ((call (filtered filter.Sum true) ((call (filtered filter.MapAttribute true) ((call listed_all ((call mapped (Ok (text (codes "a")) ∷ Ok (number (pos 1)) ∷ [])) ∷ (call mapped (Ok (text (codes "a")) ∷ Ok (number (pos 2)) ∷ [])) ∷ [])) ∷ Ok (text (codes "a")) ∷ [])) ∷ [])) ∷ []) ≡ Ok (codes "3")
 unfolding digits chars encode_utf8
 row_7 = refl
 
 -- '{{ ["x", "y"]|map("upper")|join }}'
-row_8 : printing true ((call (filtered filter.Join true) ((call (map true) ((call listed_all (Ok (text (codes "x")) ∷ Ok (text (codes "y")) ∷ [])) ∷ Ok (text (codes "upper")) ∷ [])) ∷ [])) ∷ []) ≡ Ok (codes "XY")
+row_8 : printing true ((call (filtered filter.Join true) ((call (filtered filter.Map true) ((call listed_all (Ok (text (codes "x")) ∷ Ok (text (codes "y")) ∷ [])) ∷ Ok (text (codes "upper")) ∷ [])) ∷ [])) ∷ []) ≡ Ok (codes "XY")
 unfolding digits chars encode_utf8
 row_8 = refl
 
 -- '{{ [{"a": 1}, {"a": 2}]|rejectattr("a", "eq", 2)|length }}'
-row_9 : printing true ((call (filtered filter.Length true) ((call (select_by false) ((call listed_all ((call mapped (Ok (text (codes "a")) ∷ Ok (number (pos 1)) ∷ [])) ∷ (call mapped (Ok (text (codes "a")) ∷ Ok (number (pos 2)) ∷ [])) ∷ [])) ∷ Ok (text (codes "a")) ∷ Ok (text (codes "eq")) ∷ Ok (number (pos 2)) ∷ [])) ∷ [])) ∷ []) ≡ Ok (codes "1")
+row_9 : printing true ((call (filtered filter.Length true) ((call (filtered filter.RejectAttr true) ((call listed_all ((call mapped (Ok (text (codes "a")) ∷ Ok (number (pos 1)) ∷ [])) ∷ (call mapped (Ok (text (codes "a")) ∷ Ok (number (pos 2)) ∷ [])) ∷ [])) ∷ Ok (text (codes "a")) ∷ Ok (text (codes "eq")) ∷ Ok (number (pos 2)) ∷ [])) ∷ [])) ∷ []) ≡ Ok (codes "1")
 unfolding digits chars encode_utf8
 row_9 = refl
 
@@ -446,117 +445,117 @@ unfolding digits chars encode_utf8
 row_79 = refl
 
 -- "{{ {'a': 1}|attr('a') }}{{ 1|attr('a') }}"
-row_80 : printing true ((call attr ((call mapped (Ok (text (codes "a")) ∷ Ok (number (pos 1)) ∷ [])) ∷ Ok (text (codes "a")) ∷ [])) ∷ (call attr (Ok (number (pos 1)) ∷ Ok (text (codes "a")) ∷ [])) ∷ []) ≡ Ok (codes "1")
+row_80 : printing true ((call (filtered filter.Attr true) ((call mapped (Ok (text (codes "a")) ∷ Ok (number (pos 1)) ∷ [])) ∷ Ok (text (codes "a")) ∷ [])) ∷ (call (filtered filter.Attr true) (Ok (number (pos 1)) ∷ Ok (text (codes "a")) ∷ [])) ∷ []) ≡ Ok (codes "1")
 unfolding digits chars encode_utf8
 row_80 = refl
 
 -- '{{ nope|attr(1) }}'
-row_81 : printing true ((call attr (Ok undefined ∷ Ok (number (pos 1)) ∷ [])) ∷ []) ≡ Err fault.Undefined
+row_81 : printing true ((call (filtered filter.Attr true) (Ok undefined ∷ Ok (number (pos 1)) ∷ [])) ∷ []) ≡ Err fault.Undefined
 unfolding digits chars encode_utf8
 row_81 = refl
 
 -- '{{ 1|attr(1) }}'
-row_82 : printing true ((call attr (Ok (number (pos 1)) ∷ Ok (number (pos 1)) ∷ [])) ∷ []) ≡ Err fault.BadArgument
+row_82 : printing true ((call (filtered filter.Attr true) (Ok (number (pos 1)) ∷ Ok (number (pos 1)) ∷ [])) ∷ []) ≡ Err fault.BadArgument
 unfolding digits chars encode_utf8
 row_82 = refl
 
 -- "{{ {'a': 1}|attr(name='a') }}"
-row_83 : printing true ((call attr ((call mapped (Ok (text (codes "a")) ∷ Ok (number (pos 1)) ∷ [])) ∷ Ok (text (codes "a")) ∷ [])) ∷ []) ≡ Ok (codes "1")
+row_83 : printing true ((call (filtered filter.Attr true) ((call mapped (Ok (text (codes "a")) ∷ Ok (number (pos 1)) ∷ [])) ∷ Ok (text (codes "a")) ∷ [])) ∷ []) ≡ Ok (codes "1")
 unfolding digits chars encode_utf8
 row_83 = refl
 
 -- "{{ [1, 2]|map('string')|join('-') }}"
-row_84 : printing true ((call (filtered filter.Join true) ((call (map true) ((call listed_all (Ok (number (pos 1)) ∷ Ok (number (pos 2)) ∷ [])) ∷ Ok (text (codes "string")) ∷ [])) ∷ Ok (text (codes "-")) ∷ [])) ∷ []) ≡ Ok (codes "1-2")
+row_84 : printing true ((call (filtered filter.Join true) ((call (filtered filter.Map true) ((call listed_all (Ok (number (pos 1)) ∷ Ok (number (pos 2)) ∷ [])) ∷ Ok (text (codes "string")) ∷ [])) ∷ Ok (text (codes "-")) ∷ [])) ∷ []) ≡ Ok (codes "1-2")
 unfolding digits chars encode_utf8
 row_84 = refl
 
 -- "{{ ['a']|map('replace', 'a', 'b')|join }}"
-row_85 : printing true ((call (filtered filter.Join true) ((call (map true) ((call listed_all (Ok (text (codes "a")) ∷ [])) ∷ Ok (text (codes "replace")) ∷ Ok (text (codes "a")) ∷ Ok (text (codes "b")) ∷ [])) ∷ [])) ∷ []) ≡ Ok (codes "b")
+row_85 : printing true ((call (filtered filter.Join true) ((call (filtered filter.Map true) ((call listed_all (Ok (text (codes "a")) ∷ [])) ∷ Ok (text (codes "replace")) ∷ Ok (text (codes "a")) ∷ Ok (text (codes "b")) ∷ [])) ∷ [])) ∷ []) ≡ Ok (codes "b")
 unfolding digits chars encode_utf8
 row_85 = refl
 
 -- "{{ [nope, 1]|map('default', 'x')|join }}"
-row_86 : printing true ((call (filtered filter.Join true) ((call (map true) ((call listed_all (Ok undefined ∷ Ok (number (pos 1)) ∷ [])) ∷ Ok (text (codes "default")) ∷ Ok (text (codes "x")) ∷ [])) ∷ [])) ∷ []) ≡ Ok (codes "x1")
+row_86 : printing true ((call (filtered filter.Join true) ((call (filtered filter.Map true) ((call listed_all (Ok undefined ∷ Ok (number (pos 1)) ∷ [])) ∷ Ok (text (codes "default")) ∷ Ok (text (codes "x")) ∷ [])) ∷ [])) ∷ []) ≡ Ok (codes "x1")
 unfolding digits chars encode_utf8
 row_86 = refl
 
 -- "{{ [[1], [2, 3]]|map('join', ',')|join(';') }}"
-row_87 : printing true ((call (filtered filter.Join true) ((call (map true) ((call listed_all ((call listed_all (Ok (number (pos 1)) ∷ [])) ∷ (call listed_all (Ok (number (pos 2)) ∷ Ok (number (pos 3)) ∷ [])) ∷ [])) ∷ Ok (text (codes "join")) ∷ Ok (text (codes ",")) ∷ [])) ∷ Ok (text (codes ";")) ∷ [])) ∷ []) ≡ Ok (codes "1;2,3")
+row_87 : printing true ((call (filtered filter.Join true) ((call (filtered filter.Map true) ((call listed_all ((call listed_all (Ok (number (pos 1)) ∷ [])) ∷ (call listed_all (Ok (number (pos 2)) ∷ Ok (number (pos 3)) ∷ [])) ∷ [])) ∷ Ok (text (codes "join")) ∷ Ok (text (codes ",")) ∷ [])) ∷ Ok (text (codes ";")) ∷ [])) ∷ []) ≡ Ok (codes "1;2,3")
 unfolding digits chars encode_utf8
 row_87 = refl
 
 -- "{{ 5|map('upper') }}"
-row_88 : printing true ((call (map true) (Ok (number (pos 5)) ∷ Ok (text (codes "upper")) ∷ [])) ∷ []) ≡ Err fault.NotIterable
+row_88 : printing true ((call (filtered filter.Map true) (Ok (number (pos 5)) ∷ Ok (text (codes "upper")) ∷ [])) ∷ []) ≡ Err fault.NotIterable
 unfolding digits chars encode_utf8
 row_88 = refl
 
 -- "{{ [[1]]|map('upper') }}"
-row_89 : printing true ((call (map true) ((call listed_all ((call listed_all (Ok (number (pos 1)) ∷ [])) ∷ [])) ∷ Ok (text (codes "upper")) ∷ [])) ∷ []) ≡ Err fault.Unprintable
+row_89 : printing true ((call (filtered filter.Map true) ((call listed_all ((call listed_all (Ok (number (pos 1)) ∷ [])) ∷ [])) ∷ Ok (text (codes "upper")) ∷ [])) ∷ []) ≡ Err fault.Unprintable
 unfolding digits chars encode_utf8
 row_89 = refl
 
 -- "{{ [nope]|map(attribute='a') }}"
-row_90 : printing true ((call map_attribute ((call listed_all (Ok undefined ∷ [])) ∷ Ok (text (codes "a")) ∷ [])) ∷ []) ≡ Err fault.Undefined
+row_90 : printing true ((call (filtered filter.MapAttribute true) ((call listed_all (Ok undefined ∷ [])) ∷ Ok (text (codes "a")) ∷ [])) ∷ []) ≡ Err fault.Undefined
 unfolding digits chars encode_utf8
 row_90 = refl
 
 -- "{{ [{'a': 1}, 5]|map(attribute='a')|join('-') }}"
-row_91 : printing true ((call (filtered filter.Join true) ((call map_attribute ((call listed_all ((call mapped (Ok (text (codes "a")) ∷ Ok (number (pos 1)) ∷ [])) ∷ Ok (number (pos 5)) ∷ [])) ∷ Ok (text (codes "a")) ∷ [])) ∷ Ok (text (codes "-")) ∷ [])) ∷ []) ≡ Ok (codes "1-")
+row_91 : printing true ((call (filtered filter.Join true) ((call (filtered filter.MapAttribute true) ((call listed_all ((call mapped (Ok (text (codes "a")) ∷ Ok (number (pos 1)) ∷ [])) ∷ Ok (number (pos 5)) ∷ [])) ∷ Ok (text (codes "a")) ∷ [])) ∷ Ok (text (codes "-")) ∷ [])) ∷ []) ≡ Ok (codes "1-")
 unfolding digits chars encode_utf8
 row_91 = refl
 
 -- "{{ [0, 1, '', 'a']|select|join }}{{ [0, 1, '', 'a']|reject|length }}"
-row_92 : printing true ((call (filtered filter.Join true) ((call (select true) ((call listed_all (Ok (number (pos 0)) ∷ Ok (number (pos 1)) ∷ Ok (text []) ∷ Ok (text (codes "a")) ∷ [])) ∷ [])) ∷ [])) ∷ (call (filtered filter.Length true) ((call (select false) ((call listed_all (Ok (number (pos 0)) ∷ Ok (number (pos 1)) ∷ Ok (text []) ∷ Ok (text (codes "a")) ∷ [])) ∷ [])) ∷ [])) ∷ []) ≡ Ok (codes "1a2")
+row_92 : printing true ((call (filtered filter.Join true) ((call (filtered filter.Select true) ((call listed_all (Ok (number (pos 0)) ∷ Ok (number (pos 1)) ∷ Ok (text []) ∷ Ok (text (codes "a")) ∷ [])) ∷ [])) ∷ [])) ∷ (call (filtered filter.Length true) ((call (filtered filter.Reject true) ((call listed_all (Ok (number (pos 0)) ∷ Ok (number (pos 1)) ∷ Ok (text []) ∷ Ok (text (codes "a")) ∷ [])) ∷ [])) ∷ [])) ∷ []) ≡ Ok (codes "1a2")
 unfolding digits chars encode_utf8
 row_92 = refl
 
 -- "{{ [1, 2, 3]|select('divisibleby', 2)|join }}"
-row_93 : printing true ((call (filtered filter.Join true) ((call (select true) ((call listed_all (Ok (number (pos 1)) ∷ Ok (number (pos 2)) ∷ Ok (number (pos 3)) ∷ [])) ∷ Ok (text (codes "divisibleby")) ∷ Ok (number (pos 2)) ∷ [])) ∷ [])) ∷ []) ≡ Ok (codes "2")
+row_93 : printing true ((call (filtered filter.Join true) ((call (filtered filter.Select true) ((call listed_all (Ok (number (pos 1)) ∷ Ok (number (pos 2)) ∷ Ok (number (pos 3)) ∷ [])) ∷ Ok (text (codes "divisibleby")) ∷ Ok (number (pos 2)) ∷ [])) ∷ [])) ∷ []) ≡ Ok (codes "2")
 unfolding digits chars encode_utf8
 row_93 = refl
 
 -- "{{ [1]|select('divisibleby', 0) }}"
-row_94 : printing true ((call (select true) ((call listed_all (Ok (number (pos 1)) ∷ [])) ∷ Ok (text (codes "divisibleby")) ∷ Ok (number (pos 0)) ∷ [])) ∷ []) ≡ Err fault.ZeroDivide
+row_94 : printing true ((call (filtered filter.Select true) ((call listed_all (Ok (number (pos 1)) ∷ [])) ∷ Ok (text (codes "divisibleby")) ∷ Ok (number (pos 0)) ∷ [])) ∷ []) ≡ Err fault.ZeroDivide
 unfolding digits chars encode_utf8
 row_94 = refl
 
 -- "{{ []|select('divisibleby', 0)|length }}"
-row_95 : printing true ((call (filtered filter.Length true) ((call (select true) ((call listed_all ([])) ∷ Ok (text (codes "divisibleby")) ∷ Ok (number (pos 0)) ∷ [])) ∷ [])) ∷ []) ≡ Ok (codes "0")
+row_95 : printing true ((call (filtered filter.Length true) ((call (filtered filter.Select true) ((call listed_all ([])) ∷ Ok (text (codes "divisibleby")) ∷ Ok (number (pos 0)) ∷ [])) ∷ [])) ∷ []) ≡ Ok (codes "0")
 unfolding digits chars encode_utf8
 row_95 = refl
 
 -- "{{ ['a']|select('odd') }}"
-row_96 : printing true ((call (select true) ((call listed_all (Ok (text (codes "a")) ∷ [])) ∷ Ok (text (codes "odd")) ∷ [])) ∷ []) ≡ Err fault.BadType
+row_96 : printing true ((call (filtered filter.Select true) ((call listed_all (Ok (text (codes "a")) ∷ [])) ∷ Ok (text (codes "odd")) ∷ [])) ∷ []) ≡ Err fault.BadType
 unfolding digits chars encode_utf8
 row_96 = refl
 
 -- "{{ [1, 2, 3]|reject('in', [1, 2])|join }}"
-row_97 : printing true ((call (filtered filter.Join true) ((call (select false) ((call listed_all (Ok (number (pos 1)) ∷ Ok (number (pos 2)) ∷ Ok (number (pos 3)) ∷ [])) ∷ Ok (text (codes "in")) ∷ (call listed_all (Ok (number (pos 1)) ∷ Ok (number (pos 2)) ∷ [])) ∷ [])) ∷ [])) ∷ []) ≡ Ok (codes "3")
+row_97 : printing true ((call (filtered filter.Join true) ((call (filtered filter.Reject true) ((call listed_all (Ok (number (pos 1)) ∷ Ok (number (pos 2)) ∷ Ok (number (pos 3)) ∷ [])) ∷ Ok (text (codes "in")) ∷ (call listed_all (Ok (number (pos 1)) ∷ Ok (number (pos 2)) ∷ [])) ∷ [])) ∷ [])) ∷ []) ≡ Ok (codes "3")
 unfolding digits chars encode_utf8
 row_97 = refl
 
 -- "{{ [nope, 1]|select('defined')|join }}"
-row_98 : printing true ((call (filtered filter.Join true) ((call (select true) ((call listed_all (Ok undefined ∷ Ok (number (pos 1)) ∷ [])) ∷ Ok (text (codes "defined")) ∷ [])) ∷ [])) ∷ []) ≡ Ok (codes "1")
+row_98 : printing true ((call (filtered filter.Join true) ((call (filtered filter.Select true) ((call listed_all (Ok undefined ∷ Ok (number (pos 1)) ∷ [])) ∷ Ok (text (codes "defined")) ∷ [])) ∷ [])) ∷ []) ≡ Ok (codes "1")
 unfolding digits chars encode_utf8
 row_98 = refl
 
 -- "{{ [{'a': 0}, {'a': 1}]|selectattr('a')|length }}"
-row_99 : printing true ((call (filtered filter.Length true) ((call (select_by true) ((call listed_all ((call mapped (Ok (text (codes "a")) ∷ Ok (number (pos 0)) ∷ [])) ∷ (call mapped (Ok (text (codes "a")) ∷ Ok (number (pos 1)) ∷ [])) ∷ [])) ∷ Ok (text (codes "a")) ∷ [])) ∷ [])) ∷ []) ≡ Ok (codes "1")
+row_99 : printing true ((call (filtered filter.Length true) ((call (filtered filter.SelectAttr true) ((call listed_all ((call mapped (Ok (text (codes "a")) ∷ Ok (number (pos 0)) ∷ [])) ∷ (call mapped (Ok (text (codes "a")) ∷ Ok (number (pos 1)) ∷ [])) ∷ [])) ∷ Ok (text (codes "a")) ∷ [])) ∷ [])) ∷ []) ≡ Ok (codes "1")
 unfolding digits chars encode_utf8
 row_99 = refl
 
 -- "{{ [nope]|selectattr('a') }}"
-row_100 : printing true ((call (select_by true) ((call listed_all (Ok undefined ∷ [])) ∷ Ok (text (codes "a")) ∷ [])) ∷ []) ≡ Err fault.Undefined
+row_100 : printing true ((call (filtered filter.SelectAttr true) ((call listed_all (Ok undefined ∷ [])) ∷ Ok (text (codes "a")) ∷ [])) ∷ []) ≡ Err fault.Undefined
 unfolding digits chars encode_utf8
 row_100 = refl
 
 -- "{{ [{'a': 1}, {}]|selectattr('a', 'defined')|length }}"
-row_101 : printing true ((call (filtered filter.Length true) ((call (select_by true) ((call listed_all ((call mapped (Ok (text (codes "a")) ∷ Ok (number (pos 1)) ∷ [])) ∷ (call mapped ([])) ∷ [])) ∷ Ok (text (codes "a")) ∷ Ok (text (codes "defined")) ∷ [])) ∷ [])) ∷ []) ≡ Ok (codes "1")
+row_101 : printing true ((call (filtered filter.Length true) ((call (filtered filter.SelectAttr true) ((call listed_all ((call mapped (Ok (text (codes "a")) ∷ Ok (number (pos 1)) ∷ [])) ∷ (call mapped ([])) ∷ [])) ∷ Ok (text (codes "a")) ∷ Ok (text (codes "defined")) ∷ [])) ∷ [])) ∷ []) ≡ Ok (codes "1")
 unfolding digits chars encode_utf8
 row_101 = refl
 
 -- "{{ [1, 2]|rejectattr('a')|length }}"
-row_102 : printing true ((call (filtered filter.Length true) ((call (select_by false) ((call listed_all (Ok (number (pos 1)) ∷ Ok (number (pos 2)) ∷ [])) ∷ Ok (text (codes "a")) ∷ [])) ∷ [])) ∷ []) ≡ Ok (codes "2")
+row_102 : printing true ((call (filtered filter.Length true) ((call (filtered filter.RejectAttr true) ((call listed_all (Ok (number (pos 1)) ∷ Ok (number (pos 2)) ∷ [])) ∷ Ok (text (codes "a")) ∷ [])) ∷ [])) ∷ []) ≡ Ok (codes "2")
 unfolding digits chars encode_utf8
 row_102 = refl
 
@@ -629,3 +628,43 @@ row_115 = refl
 row_116 : printing false (Ok (text (codes "<")) ∷ (call (filtered filter.Escape false) (Ok (text (codes "<")) ∷ [])) ∷ []) ≡ Ok (codes "<&lt;")
 unfolding digits chars encode_utf8
 row_116 = refl
+
+-- "{{ []|map('nope') }}"
+row_117 : printing true ((call (filtered filter.Map true) ((call listed_all ([])) ∷ Ok (text (codes "nope")) ∷ [])) ∷ []) ≡ Err fault.BadArgument
+unfolding digits chars encode_utf8
+row_117 = refl
+
+-- "{{ 5|map('nope') }}"
+row_118 : printing true ((call (filtered filter.Map true) (Ok (number (pos 5)) ∷ Ok (text (codes "nope")) ∷ [])) ∷ []) ≡ Err fault.NotIterable
+unfolding digits chars encode_utf8
+row_118 = refl
+
+-- "{{ []|map('select') }}"
+row_119 : printing true ((call (filtered filter.Map true) ((call listed_all ([])) ∷ Ok (text (codes "select")) ∷ [])) ∷ []) ≡ Err fault.BadArgument
+unfolding digits chars encode_utf8
+row_119 = refl
+
+-- "{{ []|map('replace', 'a') }}"
+row_120 : printing true ((call (filtered filter.Map true) ((call listed_all ([])) ∷ Ok (text (codes "replace")) ∷ Ok (text (codes "a")) ∷ [])) ∷ []) ≡ Err fault.BadArgument
+unfolding digits chars encode_utf8
+row_120 = refl
+
+-- "{{ []|select('odd', 1) }}"
+row_121 : printing true ((call (filtered filter.Select true) ((call listed_all ([])) ∷ Ok (text (codes "odd")) ∷ Ok (number (pos 1)) ∷ [])) ∷ []) ≡ Err fault.BadArgument
+unfolding digits chars encode_utf8
+row_121 = refl
+
+-- "{{ []|selectattr(1) }}"
+row_122 : printing true ((call (filtered filter.SelectAttr true) ((call listed_all ([])) ∷ Ok (number (pos 1)) ∷ [])) ∷ []) ≡ Err fault.BadArgument
+unfolding digits chars encode_utf8
+row_122 = refl
+
+-- "{{ [{'a': 'x'}]|map('attr', 'a')|join }}"
+row_123 : printing true ((call (filtered filter.Join true) ((call (filtered filter.Map true) ((call listed_all ((call mapped (Ok (text (codes "a")) ∷ Ok (text (codes "x")) ∷ [])) ∷ [])) ∷ Ok (text (codes "attr")) ∷ Ok (text (codes "a")) ∷ [])) ∷ [])) ∷ []) ≡ Ok (codes "x")
+unfolding digits chars encode_utf8
+row_123 = refl
+
+-- "{{ [{'a': 1}, {'a': 2}]|rejectattr('a', 'eq', 2)|length }}"
+row_124 : printing true ((call (filtered filter.Length true) ((call (filtered filter.RejectAttr true) ((call listed_all ((call mapped (Ok (text (codes "a")) ∷ Ok (number (pos 1)) ∷ [])) ∷ (call mapped (Ok (text (codes "a")) ∷ Ok (number (pos 2)) ∷ [])) ∷ [])) ∷ Ok (text (codes "a")) ∷ Ok (text (codes "eq")) ∷ Ok (number (pos 2)) ∷ [])) ∷ [])) ∷ []) ≡ Ok (codes "1")
+unfolding digits chars encode_utf8
+row_124 = refl

@@ -1,10 +1,10 @@
 -- The first and the last of some items.
-use Rattle.std.proofs.Common.{◌≡◌, ℕ, zero, suc, ◌+◌, ◌-◌, negsuc, pos, Bool, true, cond, ltb, refl, sym, ap, ◌∙◌, Some, None, arith}
+use Rattle.std.proofs.Common.{◌≡◌, ℕ, suc, ◌+◌, ◌-◌, Bool, true, cond, ltb, refl, ap, ◌∙◌, Some, None, arith}
 use Rattle.std.specs.Prelude.{Option, Ok}
 use Rattle.std.specs.Option.{option_and_then}
 use Rattle.std.proofs.lemmas.Bool.Decides.{nat_tests}
 use Rattle.jt_value.specs.Tree.{Tree, undefined, Items, no_items, item}
-use Rattle.jt_ops.specs.ItemOf.{item_at, items_count, indexed_item, or_undefined}
+use Rattle.jt_ops.specs.ItemOf.{item_at, items_count, or_undefined}
 use Rattle.jt_filters.specs.Listing.{first_item, last_item}
 use Rattle.jt_filters.specs.Operands.{last_of}
 

@@ -1,15 +1,9 @@
 -- Comparisons of texts by fold.
-use Rattle.std.proofs.Common.{◌≡◌, ℕ, ◌+◌, ◌<◌, ◌≤◌, Bool, true, false, cond, List, [], ◌∷◌, ◌++◌, length, get_or, drop, refl, sym, ap, ◌∙◌, arith}
+use Rattle.std.proofs.Common.{◌≡◌, ℕ, ◌+◌, ◌<◌, ◌≤◌, Bool, true, false, List, [], ◌∷◌, length, get_or, drop, refl, sym, ◌∙◌, arith}
 use Rattle.std.specs.Prelude.{nat_lt}
 use Rattle.std.proofs.lemmas.List.{at_drop_more, at_drop_all}
 use Rattle.std.proofs.lemmas.Bool.Decides.{nat_tests}
-use Rattle.jt_value.specs.Tree.{Tree, Items, no_items, item}
-use Rattle.jt_value.specs.View.{view, items_view}
-use Rattle.jt_value.specs.declared.value.Value.{Value}
-use Rattle.jt_value.specs.Payload.{more_items}
-use Rattle.jt_value.proofs.Lists.{items_view-push}
-use Rattle.jt_value.specs.Payload.{joined_items}
-use Rattle.jt_filters.specs.Ordering.{text_precedes, unseen, has_alike}
+use Rattle.jt_filters.specs.Ordering.{text_precedes}
 
 -- the second text ends first
 pub precedes_past : (l r : List ℕ) (i : ℕ) → i < length l → length r ≤ i → text_precedes (drop i l) (drop i r) ≡ false

@@ -1,9 +1,8 @@
 -- The sizes of changed texts.
-use Rattle.std.proofs.Common.{◌≡◌, ℕ, ◌+◌, ◌-◌, ◌^◌, min, Bool, true, false, List, map, length, Some, refl, sym, ap, ◌∙◌, arith}
-use Rattle.std.specs.Prelude.{Result, Ok, Err, Option}
+use Rattle.std.proofs.Common.{◌≡◌, ℕ, ◌+◌, ◌-◌, ◌^◌, min, true, false, List, length, Some, refl, ap, ◌∙◌}
+use Rattle.std.specs.Prelude.{Ok, Option}
 use Rattle.std.specs.Char.{to_ascii_lowercase, to_ascii_uppercase}
 use Rattle.std.specs.Str.{str_to_ascii_lowercase, str_to_ascii_uppercase}
-use Rattle.jt_value.specs.declared.fault.Fault.{Fault}
 use Rattle.jt_value.specs.Tree as tree
 use Rattle.jt_value.specs.Tree.{Tree, printed}
 use Rattle.jt_escape.specs.Escaping.{escaped}

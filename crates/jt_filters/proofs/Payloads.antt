@@ -13,7 +13,7 @@ use Rattle.jt_filters.specs.Listing.{length_of, counted, entries_count, has_plac
 use Rattle.std.specs.Prelude.{Option, Ok, Err}
 use Rattle.std.specs.Str.{chars}
 use Rattle.jt_value.specs.Tree as tree
-use Rattle.jt_value.specs.Tree.{Tree, Items, no_items, Entries}
+use Rattle.jt_value.specs.Tree.{Tree, Items, Entries}
 use Rattle.jt_value.specs.Iteration.{items_of_tree, character_items, key_items}
 use Rattle.jt_value.specs.declared.fault.Fault.TheVariants as fault
 use Rattle.jt_value.specs.Payload.{text_of, items_of_list, entries_of_map}

@@ -1,6 +1,6 @@
 -- Values by what they hold: which filters they fit.
-use Rattle.std.proofs.Common.{◌≡◌, ℕ, Bool, true, false, List, Some, None, refl, sym, ap, ◌∙◌}
-use Rattle.std.specs.Prelude.{Result, Ok, Err}
+use Rattle.std.proofs.Common.{◌≡◌, ℕ, false, List, Some, None, refl, sym, ap}
+use Rattle.std.specs.Prelude.{Ok, Err}
 use Rattle.jt_value.specs.Tree as tree
 use Rattle.jt_value.specs.Tree.{Tree, Items}
 use Rattle.jt_value.specs.Iteration.{items_of_tree, key_items}

@@ -1,13 +1,18 @@
--- The filters: the id by which an image names each, the least and the most values that it takes with its input, its names, and
--- its arguments that may be given by name, the first at place 1, each with its value where it isn't given, if it has one.
-use Rattle.std.specs.Prelude.{ℕ, List, [], ◌∷◌, ◌+◌, pos, false, map, Option, Some, None, option_map, position, codes}
-use Rattle.jt_value.specs.Tree.{Tree, text, number, truth_value}
+-- The filters: the id by which an image names each, the least and the most values that it takes with its input, its names, and its
+-- arguments that may be given by name, the first at place 1, each with its value where it isn't given, if it has one. `map` by an
+-- attribute has no name of its own: it is `map` whose only argument is given by the name `attribute`.
+use Rattle.std.specs.Prelude.{ℕ, ◌==◌, ◌+◌, pos, Bool, true, false, List, [], ◌∷◌, map, Option, Some, None, option_map, position, codes, if◌then◌else◌, find}
+use Rattle.std.specs.List.{list_any}
 use Rattle.std.specs.Str.{bytes_eq}
+use Rattle.jt_value.specs.Tree.{Tree, text, number, truth_value}
 use Rattle.jt_filters.specs.declared.filter_id.FilterId.{FilterId}
 use Rattle.jt_filters.specs.declared.filter_id.FilterId.TheVariants as filter
+use Rattle.jt_filters.specs.declared.filter_id.Naming.{Naming}
+use Rattle.jt_filters.specs.declared.filter_id.Naming.TheVariants as naming
 
 abbrev pub filter_row : FilterId → ℕ × ℕ × ℕ × List (List ℕ)
 filter_row filter.Abs = (0, 1, 1, codes "abs" ∷ [])
+filter_row filter.Attr = (1, 2, 2, codes "attr" ∷ [])
 filter_row filter.Capitalize = (2, 1, 1, codes "capitalize" ∷ [])
 filter_row filter.Default = (3, 1, 3, codes "default" ∷ codes "d" ∷ [])
 filter_row filter.DictSort = (4, 1, 1, codes "dictsort" ∷ [])
@@ -21,17 +26,23 @@ filter_row filter.Last = (11, 1, 1, codes "last" ∷ [])
 filter_row filter.Length = (12, 1, 1, codes "length" ∷ codes "count" ∷ [])
 filter_row filter.List = (13, 1, 1, codes "list" ∷ [])
 filter_row filter.Lower = (14, 1, 1, codes "lower" ∷ [])
+filter_row filter.Map = (15, 2, 255, codes "map" ∷ [])
 filter_row filter.Max = (16, 1, 1, codes "max" ∷ [])
 filter_row filter.Min = (17, 1, 1, codes "min" ∷ [])
+filter_row filter.Reject = (18, 1, 255, codes "reject" ∷ [])
+filter_row filter.RejectAttr = (19, 2, 255, codes "rejectattr" ∷ [])
 filter_row filter.Replace = (20, 3, 3, codes "replace" ∷ [])
 filter_row filter.Reverse = (21, 1, 1, codes "reverse" ∷ [])
 filter_row filter.Safe = (22, 1, 1, codes "safe" ∷ [])
+filter_row filter.Select = (23, 1, 255, codes "select" ∷ [])
+filter_row filter.SelectAttr = (24, 2, 255, codes "selectattr" ∷ [])
 filter_row filter.Sort = (25, 1, 2, codes "sort" ∷ [])
 filter_row filter.String = (26, 1, 1, codes "string" ∷ [])
 filter_row filter.Sum = (27, 1, 1, codes "sum" ∷ [])
 filter_row filter.Trim = (28, 1, 1, codes "trim" ∷ [])
 filter_row filter.Unique = (29, 1, 1, codes "unique" ∷ [])
 filter_row filter.Upper = (30, 1, 1, codes "upper" ∷ [])
+filter_row filter.MapAttribute = (31, 2, 2, [])
 
 abbrev pub filter_id : FilterId → ℕ
 filter_id f = (filter_row f).0
@@ -47,11 +58,13 @@ filter_names f = (filter_row f).3
 
 -- the arguments that may be given by name, and what each is where it isn't given
 abbrev pub filter_parameters : FilterId → List (List ℕ × Option Tree)
+filter_parameters filter.Attr = (codes "name", None) ∷ []
 filter_parameters filter.Default = (codes "default_value", Some (text [])) ∷ (codes "boolean", Some (truth_value false)) ∷ []
 filter_parameters filter.Int = (codes "default", Some (number (pos 0))) ∷ []
 filter_parameters filter.Join = (codes "d", Some (text [])) ∷ []
 filter_parameters filter.Replace = (codes "old", None) ∷ (codes "new", None) ∷ []
 filter_parameters filter.Sort = (codes "reverse", Some (truth_value false)) ∷ []
+filter_parameters filter.MapAttribute = (codes "attribute", None) ∷ []
 filter_parameters f = []
 
 abbrev pub argument_names : FilterId → List (List ℕ)
@@ -61,7 +74,40 @@ argument_names f = map (λ p. p.0) (filter_parameters f)
 abbrev pub place_of : FilterId → List ℕ → Option ℕ
 place_of f name = option_map (λ i. i + 1) (position (λ other. bytes_eq other name) (argument_names f))
 
+-- what the value at a place names: the filter or the test that is called on each item, with the values behind it as arguments, or
+-- the key of an attribute; in a template these are text literals
+abbrev pub named_at : FilterId → ℕ → Option Naming
+named_at filter.Map place = if place == 1 then Some naming.Filter else None
+named_at filter.Select place = if place == 1 then Some naming.Test else None
+named_at filter.Reject place = if place == 1 then Some naming.Test else None
+named_at filter.SelectAttr place = if place == 1 then Some naming.Key else if place == 2 then Some naming.Test else None
+named_at filter.RejectAttr place = if place == 1 then Some naming.Key else if place == 2 then Some naming.Test else None
+named_at filter.MapAttribute place = if place == 1 then Some naming.Key else None
+named_at f place = None
+
+-- whether `map` may call it: those that name a filter, a test or an attribute it may not
+abbrev pub may_be_inner : FilterId → Bool
+may_be_inner filter.Map = false
+may_be_inner filter.MapAttribute = false
+may_be_inner filter.Reject = false
+may_be_inner filter.RejectAttr = false
+may_be_inner filter.Select = false
+may_be_inner filter.SelectAttr = false
+may_be_inner f = true
+
 -- all filters, in the order of their ids
 abbrev pub filters : List FilterId
 filters =
-    filter.Abs ∷ filter.Capitalize ∷ filter.Default ∷ filter.DictSort ∷ filter.Escape ∷ filter.First ∷ filter.ForceEscape ∷ filter.Int ∷ filter.Items ∷ filter.Join ∷ filter.Last ∷ filter.Length ∷ filter.List ∷ filter.Lower ∷ filter.Max ∷ filter.Min ∷ filter.Replace ∷ filter.Reverse ∷ filter.Safe ∷ filter.Sort ∷ filter.String ∷ filter.Sum ∷ filter.Trim ∷ filter.Unique ∷ filter.Upper ∷ []
+    filter.Abs ∷ filter.Attr ∷ filter.Capitalize ∷ filter.Default ∷ filter.DictSort ∷ filter.Escape ∷ filter.First ∷ filter.ForceEscape ∷ filter.Int ∷ filter.Items ∷ filter.Join ∷ filter.Last ∷ filter.Length ∷ filter.List ∷ filter.Lower ∷ filter.Map ∷ filter.Max ∷ filter.Min ∷ filter.Reject ∷ filter.RejectAttr ∷ filter.Replace ∷ filter.Reverse ∷ filter.Safe ∷ filter.Select ∷ filter.SelectAttr ∷ filter.Sort ∷ filter.String ∷ filter.Sum ∷ filter.Trim ∷ filter.Unique ∷ filter.Upper ∷ filter.MapAttribute ∷ []
+
+-- the filter of a name
+abbrev pub filter_of_name : List ℕ → Option FilterId
+filter_of_name name = find (λ f. list_any (bytes_eq name) (filter_names f)) filters
+
+-- what a name means as it is written: `map` whose only argument is given by the name `attribute` is `map` by an attribute
+abbrev pub with_only : Option FilterId → Option (List ℕ) → Option FilterId
+with_only (Some filter.Map) (Some argument) = if bytes_eq argument (codes "attribute") then Some filter.MapAttribute else Some filter.Map
+with_only found only = found
+
+abbrev pub filter_meant : List ℕ → Option (List ℕ) → Option FilterId
+filter_meant name only = with_only (filter_of_name name) only

@@ -1,3 +1,4 @@
+pub mod Codes
 pub mod FilterIds
 pub mod FilterTable
 pub mod Filtering
@@ -8,4 +9,7 @@ pub mod Numbers
 pub mod Operands
 pub mod Ordering
 pub mod Ranks
+pub mod Rows
+pub mod Seen
+pub mod Single
 pub mod Texts

@@ -1,136 +1,142 @@
--- Filters that call a filter or a test on each item: its name comes first, and its arguments behind it. No call answers them yet.
-use Rattle.std.specs.Prelude.{ℕ, suc, Bool, true, false, ◌&&◌, nat_le, List, [], ◌∷◌, length, find, Option, Some, None, Result, Ok, Err, nat_eq, if◌then◌else◌}
+-- Filters that call a filter or a test on each item, or look up its attribute: the name comes first, and its arguments behind it.
+use Rattle.std.specs.Prelude.{ℕ, ◌+◌, ◌==◌, Bool, true, false, ◌&&◌, nat_le, List, [], ◌∷◌, length, find, Option, Some, None, Result, Ok, Err, if◌then◌else◌}
 use Rattle.std.specs.List.{list_any}
 use Rattle.std.specs.Str.{bytes_eq}
 use Rattle.jt_value.specs.declared.fault.Fault.{Fault}
-use Rattle.jt_value.specs.declared.fault.Fault.TheVariants.{BadType, BadArgument, Undefined}
-use Rattle.jt_value.specs.Tree.{Tree, undefined, text, markup, list, Items, no_items, item, truth}
+use Rattle.jt_value.specs.declared.fault.Fault.TheVariants.{BadType, BadArgument}
+use Rattle.jt_value.specs.Payload.{joined_items, text_of}
+use Rattle.jt_value.specs.Tree.{Tree, text, list, Items, no_items, item, truth}
 use Rattle.jt_ops.specs.declared.test_id.TestId.{TestId}
 use Rattle.jt_ops.specs.ItemOf.{item_of}
 use Rattle.jt_ops.specs.Tables.{tests}
 use Rattle.jt_ops.specs.TestTable.{test_names, test_values}
-use Rattle.jt_ops.specs.Testing.{is_text, tested, turned_round}
+use Rattle.jt_ops.specs.Testing.{tested, turned_round}
 use Rattle.jt_filters.specs.declared.filter_id.FilterId.{FilterId}
-use Rattle.jt_filters.specs.FilterTable.{filters, filter_names, least_values, most_values}
-use Rattle.jt_filters.specs.Filtering.{filtered}
-use Rattle.jt_filters.specs.Listing.{on_items}
+use Rattle.jt_filters.specs.declared.filter_id.FilterId.TheVariants as filter
+use Rattle.jt_filters.specs.FilterTable.{filter_of_name, may_be_inner, least_values, most_values}
+use Rattle.jt_filters.specs.Single.{single}
 
--- what a text names, as long as the value is a text
-abbrev pub named_by : {A : Type 0} → (List ℕ → Option A) → Tree → Option A
-named_by look (text name) = look name
-named_by look (markup name) = look name
-named_by look t = None
+-- what a value names: only a text, markup or not, names something
+abbrev pub named_by : {A : Type 0} → (List ℕ → Option A) → Option (List ℕ) → Option A
+named_by look (Some name) = look name
+named_by look None = None
 
 -- the test of a name
 abbrev pub test_named : List ℕ → Option TestId
 test_named name = find (λ test. list_any (bytes_eq name) (test_names test)) tests
 
--- `attr`: the item at a key that is a text
-abbrev pub attribute : Tree → Tree → Result Tree Fault
-attribute undefined key = Err Undefined
-attribute t key = if is_text key then item_of t key else Err BadArgument
+-- the filter of a name that `map` may call; none of those here
+abbrev pub if_inner : Option FilterId → Option FilterId
+if_inner None = None
+if_inner (Some f) = if may_be_inner f then Some f else None
 
--- a judgement of a value, by one of the value's item at a key
-abbrev pub on_result : (Tree → Result Bool Fault) → Result Tree Fault → Result Bool Fault
-on_result judge (Ok t) = judge t
-on_result judge (Err fault) = Err fault
+abbrev pub filter_named : List ℕ → Option FilterId
+filter_named name = if_inner (filter_of_name name)
 
-abbrev pub on_attribute : Tree → (Tree → Result Bool Fault) → Tree → Result Bool Fault
-on_attribute key judge t = on_result judge (item_of t key)
+-- whether a filter takes so many values, its input among them
+abbrev pub takes_values : FilterId → ℕ → Bool
+takes_values f n = nat_le (least_values f) n && nat_le n (most_values f)
 
--- a test with arguments as a judgement, if it takes so many
-abbrev pub judgement_of : Option TestId → List Tree → Result (Tree → Result Bool Fault) Fault
-judgement_of None arguments = Err BadArgument
-judgement_of (Some test) arguments =
-    if nat_eq (test_values test) (suc (length arguments)) then Ok (λ t. tested test (t ∷ arguments)) else Err BadArgument
+-- items in front of those behind them; the first fault counts
+abbrev pub in_front : Result Items Fault → Result Items Fault → Result Items Fault
+in_front (Err fault) rest = Err fault
+in_front (Ok ts) (Err fault) = Err fault
+in_front (Ok ts) (Ok us) = Ok (joined_items ts us)
 
--- the judgement by a test's name and its arguments, or by a value's truth where there is no name
-abbrev pub judgement : List Tree → Result (Tree → Result Bool Fault) Fault
-judgement [] = Ok (λ t. Ok (truth t))
-judgement (name ∷ arguments) = judgement_of (named_by test_named name) arguments
-
--- an item in front of those kept behind it, if it is kept; the first fault counts
-abbrev pub kept_before : Tree → Result Bool Fault → Result Items Fault → Result Items Fault
-kept_before t (Err fault) rest = Err fault
-kept_before t (Ok b) (Err fault) = Err fault
-kept_before t (Ok true) (Ok ts) = Ok (item t ts)
-kept_before t (Ok false) (Ok ts) = Ok ts
-
--- the items that a judgement keeps
-abbrev pub kept : (Tree → Result Bool Fault) → Items → Result Items Fault
-kept judge no_items = Ok no_items
-kept judge (item t ts) = kept_before t (judge t) (kept judge ts)
+-- what each item gives, in a row
+abbrev pub gathered : (Tree → Result Items Fault) → Items → Result Items Fault
+gathered give no_items = Ok no_items
+gathered give (item t ts) = in_front (give t) (gathered give ts)
 
 -- items as a list
 abbrev pub as_list : Result Items Fault → Result Tree Fault
 as_list (Ok ts) = Ok (list ts)
 as_list (Err fault) = Err fault
 
--- the list of the items that a judgement keeps once it is changed, if there is one
-abbrev pub kept_by : ((Tree → Result Bool Fault) → Tree → Result Bool Fault) → Result (Tree → Result Bool Fault) Fault → Items → Result Tree Fault
-kept_by change (Ok judge) ts = as_list (kept (change judge) ts)
-kept_by change (Err fault) ts = Err fault
+-- the list of what each item gives; where nothing says what it is, that fault counts, also where there are no items
+abbrev pub gathered_by : Result (Tree → Result Items Fault) Fault → Items → Result Tree Fault
+gathered_by (Ok give) ts = as_list (gathered give ts)
+gathered_by (Err fault) ts = Err fault
+
+-- a result as the only item
+abbrev pub alone : Result Tree Fault → Result Items Fault
+alone (Ok t) = Ok (item t no_items)
+alone (Err fault) = Err fault
+
+-- an item, if it is kept
+abbrev pub if_kept : Tree → Result Bool Fault → Result Items Fault
+if_kept t (Ok true) = Ok (item t no_items)
+if_kept t (Ok false) = Ok no_items
+if_kept t (Err fault) = Err fault
+
+-- a test with arguments as a judgement, if it takes so many
+abbrev pub judgement_of : Option TestId → List Tree → Result (Tree → Result Bool Fault) Fault
+judgement_of None arguments = Err BadArgument
+judgement_of (Some test) arguments =
+    if length arguments + 1 == test_values test then Ok (λ t. tested test (t ∷ arguments)) else Err BadArgument
+
+-- the judgement by a test's name and its arguments, or by a value's truth where there is no name
+abbrev pub judgement : List Tree → Result (Tree → Result Bool Fault) Fault
+judgement [] = Ok (λ t. Ok (truth t))
+judgement (name ∷ arguments) = judgement_of (named_by test_named (text_of name)) arguments
 
 -- to keep the values that pass, or those that fail
-abbrev pub passing : Bool → (Tree → Result Bool Fault) → Tree → Result Bool Fault
-passing true judge t = judge t
-passing false judge t = turned_round (judge t)
+abbrev pub passing : Bool → Result Bool Fault → Result Bool Fault
+passing true judged = judged
+passing false judged = turned_round judged
+
+-- what is judged of an item: the item itself, or its attribute
+abbrev pub part_of : Option (List ℕ) → Tree → Result Tree Fault
+part_of None t = Ok t
+part_of (Some key) t = item_of t (text key)
+
+abbrev pub judged : (Tree → Result Bool Fault) → Result Tree Fault → Result Bool Fault
+judged judge (Ok t) = judge t
+judged judge (Err fault) = Err fault
+
+-- the items whose part passes a judgement, or fails it
+abbrev pub keeping : Bool → Option (List ℕ) → Result (Tree → Result Bool Fault) Fault → Result (Tree → Result Items Fault) Fault
+keeping passes key (Ok judge) = Ok (λ t. if_kept t (passing passes (judged judge (part_of key t))))
+keeping passes key (Err fault) = Err fault
 
 -- `select` and `reject`
-abbrev pub selected : Bool → List Tree → Items → Result Tree Fault
-selected passes arguments ts = kept_by (passing passes) (judgement arguments) ts
+abbrev pub selecting : Bool → List Tree → Result (Tree → Result Items Fault) Fault
+selecting passes arguments = keeping passes None (judgement arguments)
 
 -- `selectattr` and `rejectattr`
-abbrev pub selected_by : Bool → Tree → List Tree → Items → Result Tree Fault
-selected_by passes key arguments ts =
-    if is_text key then kept_by (λ judge. passing passes (on_attribute key judge)) (judgement arguments) ts else Err BadArgument
+abbrev pub keeping_by : Bool → Option (List ℕ) → Result (Tree → Result Bool Fault) Fault → Result (Tree → Result Items Fault) Fault
+keeping_by passes (Some key) found = keeping passes (Some key) found
+keeping_by passes None found = Err BadArgument
 
--- a result in front of those behind it; the first fault counts
-abbrev pub result_before : Result Tree Fault → Result Items Fault → Result Items Fault
-result_before (Err fault) rest = Err fault
-result_before (Ok t) (Err fault) = Err fault
-result_before (Ok t) (Ok ts) = Ok (item t ts)
-
--- what a change makes of each item
-abbrev pub each : (Tree → Result Tree Fault) → Items → Result Items Fault
-each change no_items = Ok no_items
-each change (item t ts) = result_before (change t) (each change ts)
+abbrev pub selecting_by : Bool → List Tree → Result (Tree → Result Items Fault) Fault
+selecting_by passes (key ∷ arguments) = keeping_by passes (text_of key) (judgement arguments)
+selecting_by passes [] = Err BadType
 
 -- `map` by an attribute
-abbrev pub attributes : Tree → Items → Result Tree Fault
-attributes key ts = if is_text key then as_list (each (λ t. item_of t key) ts) else Err BadArgument
+abbrev pub attribute_at : Option (List ℕ) → Result (Tree → Result Items Fault) Fault
+attribute_at (Some key) = Ok (λ t. alone (item_of t (text key)))
+attribute_at None = Err BadArgument
 
--- the filter of a name; none of those here, which `map` doesn't call
-abbrev pub filter_named : List ℕ → Option FilterId
-filter_named name = find (λ f. list_any (bytes_eq name) (filter_names f)) filters
-
--- whether a filter takes so many values, its input among them
-abbrev pub takes_values : FilterId → ℕ → Bool
-takes_values f n = nat_le (least_values f) n && nat_le n (most_values f)
+abbrev pub attributes : List Tree → Result (Tree → Result Items Fault) Fault
+attributes (key ∷ []) = attribute_at (text_of key)
+attributes others = Err BadType
 
 -- `map` by a filter with arguments, if it may be called with so many
-abbrev pub mapped_by : Option FilterId → Bool → List Tree → Items → Result Tree Fault
-mapped_by None autoescape arguments ts = Err BadArgument
-mapped_by (Some f) autoescape arguments ts =
-    if takes_values f (suc (length arguments)) then as_list (each (λ t. filtered f autoescape (t ∷ arguments)) ts) else Err BadArgument
+abbrev pub mapping_by : Option FilterId → Bool → List Tree → Result (Tree → Result Items Fault) Fault
+mapping_by None autoescape arguments = Err BadArgument
+mapping_by (Some f) autoescape arguments =
+    if takes_values f (length arguments + 1) then Ok (λ t. alone (single f autoescape (t ∷ arguments))) else Err BadArgument
 
--- `attr`, `map`, `select` and `reject`, `selectattr` and `rejectattr`, `map` by an attribute, on their values, the input first
-abbrev pub attr : List Tree → Result Tree Fault
-attr (t ∷ name ∷ []) = attribute t name
-attr ts = Err BadType
+abbrev pub mapping : Bool → List Tree → Result (Tree → Result Items Fault) Fault
+mapping autoescape (name ∷ arguments) = mapping_by (named_by filter_named (text_of name)) autoescape arguments
+mapping autoescape [] = Err BadType
 
-abbrev pub map : Bool → List Tree → Result Tree Fault
-map autoescape (t ∷ name ∷ arguments) = on_items (mapped_by (named_by filter_named name) autoescape arguments) t
-map autoescape ts = Err BadType
-
-abbrev pub select : Bool → List Tree → Result Tree Fault
-select passes (t ∷ arguments) = on_items (selected passes arguments) t
-select passes ts = Err BadType
-
-abbrev pub select_by : Bool → List Tree → Result Tree Fault
-select_by passes (t ∷ key ∷ arguments) = on_items (selected_by passes key arguments) t
-select_by passes ts = Err BadType
-
-abbrev pub map_attribute : List Tree → Result Tree Fault
-map_attribute (t ∷ key ∷ []) = on_items (attributes key) t
-map_attribute ts = Err BadType
+-- what such a filter with its arguments makes of each item
+abbrev pub giving : FilterId → Bool → List Tree → Result (Tree → Result Items Fault) Fault
+giving filter.Map autoescape arguments = mapping autoescape arguments
+giving filter.MapAttribute autoescape arguments = attributes arguments
+giving filter.Select autoescape arguments = selecting true arguments
+giving filter.Reject autoescape arguments = selecting false arguments
+giving filter.SelectAttr autoescape arguments = selecting_by true arguments
+giving filter.RejectAttr autoescape arguments = selecting_by false arguments
+giving f autoescape arguments = Err BadType

@@ -1,5 +1,5 @@
 -- What the private functions say of what a filter works on, and of what they answer.
-use Rattle.std.specs.Prelude.{◌≡◌, ℕ, zero, suc, List, length, Bool, ◌+◌, ℤ, pos, negsuc, ◌-◌, ◌^◌, min, true, Option, Some, None, Result, Ok, Err}
+use Rattle.std.specs.Prelude.{◌≡◌, ℕ, zero, suc, List, length, Bool, ◌+◌, ℤ, ◌-◌, ◌^◌, min, true, Option, Some, None, Result, Ok, Err}
 use Rattle.std.specs.Str.{chars}
 use Rattle.jt_value.specs.Iteration.{character_items, key_items}
 use Rattle.jt_value.specs.Payload.{has_payload}

@@ -1,11 +1,11 @@
 //! What a filter gives, built. Its size and nesting are tested before.
-ghost use Rattle.std.specs.Prelude.{◌≡◌, ◌∷◌, ◌+◌, [], Bool, true, map, length, nat_le};
+ghost use Rattle.std.specs.Prelude.{◌∷◌, [], map};
 ghost use Rattle.jt_value.specs.View.{view};
-ghost use Rattle.jt_filters.specs.FilterTable.{least_values, most_values};
-ghost use Rattle.jt_filters.specs.Filtering.{filtered};
+ghost use Rattle.jt_filters.specs.Single.{single};
 ghost use Rattle.jt_filters.specs.Operands.{tree_of, Builds};
 ghost use Rattle.jt_filters.specs.Operands as operands;
 
+use crate::attributes::attribute;
 use crate::filter_id::FilterId;
 use crate::joining::join;
 use crate::listing::{dictsort, items, list, reverse};
@@ -26,15 +26,13 @@ pub(crate) fn build(
     arguments: &[Value],
     autoescape: bool,
 ) -> Result<Value, ValueError>
-    requires least { nat_le (least_values filter) (length arguments.now + 1) ≡ true }
-    requires most { nat_le (length arguments.now + 1) (most_values filter) ≡ true }
-    ensures { Builds (filtered filter autoescape (tree_of operand.entry ∷ map view arguments.now)) result }
+    ensures { Builds (single filter autoescape (tree_of operand.entry ∷ map view arguments.now)) result }
 {
     match arguments {
         [] => build_one(alloc, filter, operand, autoescape),
         [argument] => build_two(alloc, filter, operand, argument, autoescape),
         [first, second] => build_three(alloc, filter, operand, first, second, autoescape),
-        _ => unreachable!(),
+        _ => Err(Fault::BadType.into()),
     }
 }
 
@@ -52,8 +50,7 @@ fn build_one(
     operand: Operand<'_>,
     autoescape: bool,
 ) -> Result<Value, ValueError>
-    requires { nat_le (least_values filter) 1 ≡ true }
-    ensures { Builds (filtered filter autoescape (tree_of operand.entry ∷ [])) result }
+    ensures { Builds (single filter autoescape (tree_of operand.entry ∷ [])) result }
 {
     match filter {
         FilterId::Abs => scalar(alloc, abs(operand)),
@@ -80,7 +77,7 @@ fn build_one(
         FilterId::Trim => trim(alloc, operand),
         FilterId::Unique => unique(alloc, operand),
         FilterId::Upper => upper(alloc, operand),
-        FilterId::Replace => unreachable!(),
+        _ => Err(Fault::BadType.into()),
     }
 }
 
@@ -92,11 +89,10 @@ fn build_two(
     argument: &Value,
     autoescape: bool,
 ) -> Result<Value, ValueError>
-    requires least { nat_le (least_values filter) 2 ≡ true }
-    requires most { nat_le 2 (most_values filter) ≡ true }
-    ensures { Builds (filtered filter autoescape (tree_of operand.entry ∷ view argument.now ∷ [])) result }
+    ensures { Builds (single filter autoescape (tree_of operand.entry ∷ view argument.now ∷ [])) result }
 {
     match filter {
+        FilterId::Attr => scalar(alloc, attribute(operand, argument)),
         FilterId::Default => scalar(
             alloc,
             Ok(or_default(operand, Operand::Value(argument), false)),
@@ -104,7 +100,7 @@ fn build_two(
         FilterId::Int => scalar(alloc, int(operand, Operand::Value(argument))),
         FilterId::Join => join(alloc, operand, Operand::Value(argument), autoescape),
         FilterId::Sort => sort(alloc, operand, argument.truth()),
-        _ => unreachable!(),
+        _ => Err(Fault::BadType.into()),
     }
 }
 
@@ -117,8 +113,7 @@ fn build_three(
     second: &Value,
     autoescape: bool,
 ) -> Result<Value, ValueError>
-    requires { nat_le 3 (most_values filter) ≡ true }
-    ensures { Builds (filtered filter autoescape (tree_of operand.entry ∷ view first.now ∷ view second.now ∷ [])) result }
+    ensures { Builds (single filter autoescape (tree_of operand.entry ∷ view first.now ∷ view second.now ∷ [])) result }
 {
     match filter {
         FilterId::Default => scalar(
@@ -126,6 +121,6 @@ fn build_three(
             Ok(or_default(operand, Operand::Value(first), second.truth())),
         ),
         FilterId::Replace => replace(alloc, operand, first, second),
-        _ => unreachable!(),
+        _ => Err(Fault::BadType.into()),
     }
 }

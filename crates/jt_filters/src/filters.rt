@@ -1,17 +1,19 @@
 //! Filters on values.
-ghost use Rattle.std.specs.Prelude.{◌≡◌, ◌∷◌, ◌+◌, [], Bool, true, map, length, nat_le};
+ghost use Rattle.std.specs.Prelude.{◌≡◌, ◌∷◌, true, map, length, nat_le};
 ghost use Rattle.jt_value.specs.View.{view};
 ghost use Rattle.jt_ops.specs.Limited.{limited_by, Answers};
 ghost use Rattle.jt_filters.specs.FilterTable.{least_values, most_values};
 ghost use Rattle.jt_filters.specs.Filtering.{filtered};
-ghost use Rattle.jt_filters.specs.Operands.{tree_of};
+ghost use Rattle.jt_filters.specs.Operands.{tree_of, measured, Builds};
 
 use crate::building::build;
 use crate::filter_id::FilterId;
+use crate::mapping::{mapped, mapped_measure};
 use crate::measuring::measure;
 use crate::operand::Operand;
+use crate::unique::unique_under;
 use jt_ops::{Limits, OpError, allow};
-use jt_value::{Value, ValueError};
+use jt_value::{Fault, Value, ValueError};
 use std::alloc::Global;
 
 /// What a filter gives of its values, the input first, under limits. `autoescape` says whether `join` keeps markup. The result's
@@ -47,8 +49,7 @@ pub fn apply(
     }
 }
 
-/// The same of an operand and the filter's arguments.
-#[tactic(auto, using(crate::proofs::Applied::faulty, crate::proofs::Applied::needs_memory))]
+/// The same of an operand and the filter's arguments. `unique` finds its items once for its measure and its value.
 fn applied(
     alloc: Global,
     filter: FilterId,
@@ -57,20 +58,70 @@ fn applied(
     autoescape: bool,
     limits: Limits,
 ) -> Result<Value, OpError>
-    requires least { nat_le (least_values filter) (length arguments.now + 1) ≡ true }
-    requires most { nat_le (length arguments.now + 1) (most_values filter) ≡ true }
     ensures { Answers result (limited_by limits (filtered filter autoescape (tree_of operand.entry ∷ map view arguments.now))) }
 {
-    let (size, nesting) = match measure(filter, operand, arguments, autoescape) {
+    match (filter, arguments) {
+        (FilterId::Unique, []) => unique_under(alloc, operand, limits),
+        _ => measured_and_built(alloc, filter, operand, arguments, autoescape, limits),
+    }
+}
+
+/// The same, measured before it is built.
+#[tactic(auto, using(crate::proofs::Applied::faulty, crate::proofs::Applied::needs_memory))]
+fn measured_and_built(
+    alloc: Global,
+    filter: FilterId,
+    operand: Operand<'_>,
+    arguments: &[Value],
+    autoescape: bool,
+    limits: Limits,
+) -> Result<Value, OpError>
+    ensures { Answers result (limited_by limits (filtered filter autoescape (tree_of operand.entry ∷ map view arguments.now))) }
+{
+    let (size, nesting) = match filter_measure(alloc, filter, operand, arguments, autoescape) {
         Ok(measure) => measure,
         Err(fault) => return Err(OpError::Fault(fault)),
     };
     if let Err(error) = allow(size, nesting, limits) {
         return Err(error);
     }
-    match build(alloc, filter, operand, arguments, autoescape) {
+    match filter_value(alloc, filter, operand, arguments, autoescape) {
         Ok(value) => Ok(value),
         Err(ValueError::Fault(fault)) => Err(OpError::Fault(fault)),
         Err(ValueError::NoMemory) => Err(OpError::NoMemory),
+    }
+}
+
+/// The measure of what a filter gives, of those that call others too.
+fn filter_measure(
+    alloc: Global,
+    filter: FilterId,
+    operand: Operand<'_>,
+    arguments: &[Value],
+    autoescape: bool,
+) -> Result<(u64, u32), Fault>
+    ensures { result ≡ measured (filtered filter autoescape (tree_of operand.entry ∷ map view arguments.now)) }
+{
+    if filter.may_be_inner() {
+        measure(alloc, filter, operand, arguments, autoescape)
+    } else {
+        mapped_measure(alloc, filter, operand, arguments, autoescape)
+    }
+}
+
+/// What a filter gives, of those that call others too.
+fn filter_value(
+    alloc: Global,
+    filter: FilterId,
+    operand: Operand<'_>,
+    arguments: &[Value],
+    autoescape: bool,
+) -> Result<Value, ValueError>
+    ensures { Builds (filtered filter autoescape (tree_of operand.entry ∷ map view arguments.now)) result }
+{
+    if filter.may_be_inner() {
+        build(alloc, filter, operand, arguments, autoescape)
+    } else {
+        mapped(alloc, filter, operand, arguments, autoescape)
     }
 }

@@ -1,14 +1,18 @@
 //! Filters, operators and tests on values, under limits of size and nesting.
 #![tactic(auto)]
 
+mod attributes;
 mod building;
+mod codes;
 mod filter_id;
 mod filters;
 mod folding;
+mod inner;
 mod item_list;
 mod joining;
 mod kinds;
 mod listing;
+mod mapping;
 mod measuring;
 mod operand;
 mod replacing;
@@ -17,6 +21,6 @@ mod sorting;
 mod texts;
 mod unique;
 
-pub use filter_id::FilterId;
+pub use filter_id::{FilterId, Naming};
 pub use filters::apply;
 pub use jt_ops::{Limits, OpError, OpId, TestId, binary, binary_owned, range, test, unary};

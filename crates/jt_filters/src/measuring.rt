@@ -1,11 +1,12 @@
-//! The size and the nesting of what a filter gives, each the greatest number where it is greater. They take no memory.
-ghost use Rattle.std.specs.Prelude.{◌≡◌, ◌∷◌, ◌+◌, [], Bool, true, map, length, nat_le};
+//! The size and the nesting of what a filter gives, each the greatest number where it is greater. They need no memory: `unique` is
+//! slower where it is refused.
+ghost use Rattle.std.specs.Prelude.{◌≡◌, ◌∷◌, [], map};
 ghost use Rattle.jt_value.specs.View.{view};
-ghost use Rattle.jt_filters.specs.FilterTable.{least_values, most_values};
-ghost use Rattle.jt_filters.specs.Filtering.{filtered};
+ghost use Rattle.jt_filters.specs.Single.{single};
 ghost use Rattle.jt_filters.specs.Operands.{tree_of, measured};
 ghost use Rattle.jt_filters.specs.Operands as operands;
 
+use crate::attributes::attribute;
 use crate::filter_id::FilterId;
 use crate::joining::join_measure;
 use crate::listing::{dictsort_measure, listed_measure, pairs_of_measure, reversed_measure};
@@ -16,23 +17,24 @@ use crate::sorting::sort_measure;
 use crate::texts::{escape_measure, force_escape_measure, printed_measure, trim_measure};
 use crate::unique::unique_measure;
 use jt_value::{Fault, Value};
+use std::alloc::Global;
 
-/// The measure of what a filter gives, or its fault.
+/// The measure of what a filter gives, or its fault. A call with another number of values than the filter takes, which no caller
+/// makes, has the fault of the definition.
 pub(crate) fn measure(
+    alloc: Global,
     filter: FilterId,
     operand: Operand<'_>,
     arguments: &[Value],
     autoescape: bool,
 ) -> Result<(u64, u32), Fault>
-    requires least { nat_le (least_values filter) (length arguments.now + 1) ≡ true }
-    requires most { nat_le (length arguments.now + 1) (most_values filter) ≡ true }
-    ensures { result ≡ measured (filtered filter autoescape (tree_of operand.entry ∷ map view arguments.now)) }
+    ensures { result ≡ measured (single filter autoescape (tree_of operand.entry ∷ map view arguments.now)) }
 {
     match arguments {
-        [] => measure_one(filter, operand, autoescape),
+        [] => measure_one(alloc, filter, operand, autoescape),
         [argument] => measure_two(filter, operand, argument, autoescape),
         [first, second] => measure_three(filter, operand, first, second, autoescape),
-        _ => unreachable!(),
+        _ => Err(Fault::BadType),
     }
 }
 
@@ -46,12 +48,12 @@ fn scalar_measure(given: Result<Operand<'_>, Fault>) -> Result<(u64, u32), Fault
 
 /// The same of a filter of its input alone.
 fn measure_one(
+    alloc: Global,
     filter: FilterId,
     operand: Operand<'_>,
     autoescape: bool,
 ) -> Result<(u64, u32), Fault>
-    requires { nat_le (least_values filter) 1 ≡ true }
-    ensures { result ≡ measured (filtered filter autoescape (tree_of operand.entry ∷ [])) }
+    ensures { result ≡ measured (single filter autoescape (tree_of operand.entry ∷ [])) }
 {
     match filter {
         FilterId::Abs => scalar_measure(abs(operand)),
@@ -76,9 +78,9 @@ fn measure_one(
         FilterId::String => printed_measure(operand),
         FilterId::Sum => scalar_measure(sum(operand)),
         FilterId::Trim => trim_measure(operand),
-        FilterId::Unique => unique_measure(operand),
+        FilterId::Unique => unique_measure(alloc, operand),
         FilterId::Upper => printed_measure(operand),
-        FilterId::Replace => unreachable!(),
+        _ => Err(Fault::BadType),
     }
 }
 
@@ -89,11 +91,10 @@ fn measure_two(
     argument: &Value,
     autoescape: bool,
 ) -> Result<(u64, u32), Fault>
-    requires least { nat_le (least_values filter) 2 ≡ true }
-    requires most { nat_le 2 (most_values filter) ≡ true }
-    ensures { result ≡ measured (filtered filter autoescape (tree_of operand.entry ∷ view argument.now ∷ [])) }
+    ensures { result ≡ measured (single filter autoescape (tree_of operand.entry ∷ view argument.now ∷ [])) }
 {
     match filter {
+        FilterId::Attr => scalar_measure(attribute(operand, argument)),
         FilterId::Default => scalar_measure(Ok(or_default(
             operand,
             Operand::Value(argument),
@@ -102,7 +103,7 @@ fn measure_two(
         FilterId::Int => scalar_measure(int(operand, Operand::Value(argument))),
         FilterId::Join => join_measure(operand, Operand::Value(argument), autoescape),
         FilterId::Sort => sort_measure(operand, argument.truth()),
-        _ => unreachable!(),
+        _ => Err(Fault::BadType),
     }
 }
 
@@ -114,8 +115,7 @@ fn measure_three(
     second: &Value,
     autoescape: bool,
 ) -> Result<(u64, u32), Fault>
-    requires { nat_le 3 (most_values filter) ≡ true }
-    ensures { result ≡ measured (filtered filter autoescape (tree_of operand.entry ∷ view first.now ∷ view second.now ∷ [])) }
+    ensures { result ≡ measured (single filter autoescape (tree_of operand.entry ∷ view first.now ∷ view second.now ∷ [])) }
 {
     match filter {
         FilterId::Default => scalar_measure(Ok(or_default(
@@ -124,6 +124,6 @@ fn measure_three(
             second.truth(),
         ))),
         FilterId::Replace => replace_measure(operand, first, second),
-        _ => unreachable!(),
+        _ => Err(Fault::BadType),
     }
 }

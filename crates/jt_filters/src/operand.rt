@@ -2,7 +2,7 @@
 ghost use Rattle.std.specs.Prelude.{◌≡◌, ◌-◌, ◌^◌, min, option_map, IfOk, IfErr, Some, None};
 ghost use Rattle.jt_value.specs.Payload.{text_of, items_of_list, entries_of_map};
 ghost use Rattle.jt_value.specs.Tree.{truth, printed, size, nesting};
-ghost use Rattle.jt_value.specs.View.{view, items_view, entries_view};
+ghost use Rattle.jt_value.specs.View.{items_view, entries_view};
 ghost use Rattle.jt_ops.specs.Operands as operands;
 ghost use Rattle.jt_ops.specs.Testing as testing;
 ghost use Rattle.jt_filters.specs.Kinds.{is_plain};

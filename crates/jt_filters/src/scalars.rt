@@ -1,12 +1,10 @@
 //! Filters that give a number, or a value that is there already. They take no memory.
-ghost use Rattle.std.specs.Prelude.{◌≡◌, ◌||◌, ◌&&◌, not, if◌then◌else◌, true, Ok, pos};
+ghost use Rattle.std.specs.Prelude.{◌≡◌, ◌||◌, ◌&&◌, not, if◌then◌else◌, Ok, pos};
 ghost use Rattle.jt_value.specs.Tree as tree;
 ghost use Rattle.jt_value.specs.Tree.{truth};
-ghost use Rattle.jt_value.specs.View.{view};
 ghost use Rattle.jt_ops.specs.Arithmetic.{on_number, as_number};
-ghost use Rattle.jt_ops.specs.ItemOf.{item_of, item_at, or_undefined};
 ghost use Rattle.jt_ops.specs.Testing.{is_undefined};
-ghost use Rattle.jt_filters.specs.Listing.{on_items, first_item, last_item, length_of, entries_count};
+ghost use Rattle.jt_filters.specs.Listing.{on_items, first_item, last_item, length_of};
 ghost use Rattle.jt_filters.specs.Listing as listing;
 ghost use Rattle.jt_filters.specs.Numbers as numbers;
 ghost use Rattle.jt_filters.specs.Numbers.{as_int, sum_behind, total};

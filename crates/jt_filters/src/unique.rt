@@ -1,27 +1,108 @@
-//! Filter `unique`.
-ghost use Rattle.std.specs.Prelude.{◌≡◌, ◌+◌, ◌-◌, ◌^◌, min, max, IfOk, OnOk};
+//! Filter `unique`. An item is looked for by its code among those in front of it, so a list takes time in proportion to n log n.
+ghost use Rattle.std.specs.Prelude.{◌≡◌, ◌+◌, ◌-◌, ◌^◌, ◌||◌, min, max, IfOk, OnOk, Ok, Err};
 ghost use Rattle.jt_value.specs.Tree as tree;
 ghost use Rattle.jt_value.specs.Tree.{Items, items_size, items_nesting};
 ghost use Rattle.jt_value.specs.Payload.{joined_items};
 ghost use Rattle.jt_value.specs.Equality.{equal};
 ghost use Rattle.jt_value.specs.View.{view, items_view};
 ghost use Rattle.jt_escape.specs.Joining.{IsAnswer};
+ghost use Rattle.jt_ops.specs.Limited.{limited_by, Answers};
 ghost use Rattle.jt_filters.specs.Listing.{on_items};
 ghost use Rattle.jt_filters.specs.Operands.{tree_of, items_in, measured, front};
 ghost use Rattle.jt_filters.specs.Ordering.{distinct, unseen};
 ghost use Rattle.jt_filters.specs.Ordering as ordering;
+ghost use Rattle.jt_filters.specs.Seen.{operand_items, Knows};
 
+use crate::codes::code_of;
 use crate::item_list::{ItemList, items_of};
 use crate::operand::Operand;
+use jt_ops::{Limits, OpError, allow};
 use jt_value::{Fault, NoMemory, Value, ValueError};
 use std::alloc::Global;
+use std::collections::BTreeMap;
 
-/// The measure of filter `unique`.
-pub(crate) fn unique_measure(operand: Operand<'_>) -> Result<(u64, u32), Fault>
+/// Filter `unique` under limits. The first items are found once, then measured, and then the list is built of them.
+pub(crate) fn unique_under(
+    alloc: Global,
+    operand: Operand<'_>,
+    limits: Limits,
+) -> Result<Value, OpError>
+    ensures { Answers result (limited_by limits (on_items distinct (tree_of operand.entry))) }
+{
+    let items = match items_of(operand) {
+        Ok(items) => items,
+        Err(fault) => return Err(OpError::Fault(fault)),
+    };
+    match first_items(alloc, items) {
+        Ok(firsts) => list_under(alloc, &firsts, limits),
+        Err(_) => Err(refused(items, limits)),
+    }
+}
+
+/// The list of some operands under limits.
+fn list_under(alloc: Global, operands: &[Operand<'_>], limits: Limits) -> Result<Value, OpError>
+    ensures { Answers result (limited_by limits (Ok (tree.list (operand_items operands.now)))) }
+{
+    let (size, nesting) = list_measure(operands);
+    if let Err(error) = allow(size, nesting, limits) {
+        return Err(error);
+    }
+    match operand_list(alloc, operands) {
+        Ok(list) => Ok(list),
+        Err(_) => Err(OpError::NoMemory),
+    }
+}
+
+/// Why there is no list of the first items where memory is refused: the limit that the list passes, else the refusal.
+fn refused(items: ItemList<'_>, limits: Limits) -> OpError
+    ensures { Answers (Err result) (limited_by limits (Ok (tree.list (unseen tree.no_items (items_in items.entry))))) }
+{
+    let (size, nesting) = unseen_list_measure(items);
+    match allow(size, nesting, limits) {
+        Ok(()) => OpError::NoMemory,
+        Err(error) => error,
+    }
+}
+
+/// The measure of filter `unique`. Where memory is refused each item is compared to all in front of it, which takes none.
+pub(crate) fn unique_measure(alloc: Global, operand: Operand<'_>) -> Result<(u64, u32), Fault>
     ensures { result ≡ measured (on_items distinct (tree_of operand.entry)) }
 {
-    let (size, nesting) = unseen_measure(items_of(operand)?);
-    Ok((size.saturating_add(1), nesting.saturating_add(1)))
+    let items = items_of(operand)?;
+    match first_items(alloc, items) {
+        Ok(firsts) => Ok(list_measure(&firsts)),
+        Err(_) => Ok(unseen_list_measure(items)),
+    }
+}
+
+/// The measure of the list of some operands.
+fn list_measure(operands: &[Operand<'_>]) -> (u64, u32)
+    ensures { Ok result ≡ measured (Ok (tree.list (operand_items operands.now))) }
+{
+    let (size, nesting) = operands_measure(operands);
+    (size.saturating_add(1), nesting.saturating_add(1))
+}
+
+/// The measure of the list of the items that are like none in front of them, without memory.
+fn unseen_list_measure(items: ItemList<'_>) -> (u64, u32)
+    ensures { Ok result ≡ measured (Ok (tree.list (unseen tree.no_items (items_in items.entry)))) }
+{
+    let (size, nesting) = unseen_measure(items);
+    (size.saturating_add(1), nesting.saturating_add(1))
+}
+
+/// The size and the nesting of some operands, each the greatest number where it is greater.
+fn operands_measure(operands: &[Operand<'_>]) -> (u64, u32)
+    ensures size { result.0 ≡ min (items_size (operand_items operands.now)) (2 ^ 64 - 1) }
+    ensures nesting { result.1 ≡ min (items_nesting (operand_items operands.now)) (2 ^ 32 - 1) }
+{
+    let mut size = 0u64;
+    let mut nesting = 0u32;
+    for operand in operands {
+        size = size.saturating_add(operand.size());
+        nesting = nesting.max(operand.nesting());
+    }
+    (size, nesting)
 }
 
 /// The size and the nesting of the items that are like none in front of them, each the greatest number where it is greater.
@@ -65,43 +146,95 @@ fn item_measure(item: Operand<'_>, all: ItemList<'_>, count: usize) -> (u64, u32
 pub(crate) fn unique(alloc: Global, operand: Operand<'_>) -> Result<Value, ValueError>
     ensures { IsAnswer (on_items distinct (tree_of operand.entry)) result }
 {
-    let items = unseen_values(alloc, items_of(operand)?)?;
-    Ok(Value::list(alloc, items)?)
+    let firsts = first_items(alloc, items_of(operand)?)?;
+    Ok(operand_list(alloc, &firsts)?)
 }
 
-/// The values of the items that are like none in front of them.
-fn unseen_values(alloc: Global, all: ItemList<'_>) -> Result<Vec<Value>, NoMemory>
-    ensures { IfOk result (λ v. items_view v.items ≡ unseen tree.no_items (items_in all.entry)) }
+/// The list of some operands.
+fn operand_list(alloc: Global, operands: &[Operand<'_>]) -> Result<Value, NoMemory>
+    ensures { IfOk result (λ v. view v ≡ tree.list (operand_items operands.now)) }
 {
-    let total = all.len();
-    let mut left = total;
-    let mut items = all;
-    let mut values = Vec::new(alloc);
-    while let Some((item, behind)) = items.split_first() {
-        push_unseen(alloc, &mut values, item, all, total - left)?;
-        left -= 1;
-        items = behind;
+    Value::list(alloc, operand_values(alloc, operands)?)
+}
+
+/// The values of some operands.
+fn operand_values(alloc: Global, operands: &[Operand<'_>]) -> Result<Vec<Value>, NoMemory>
+    ensures { IfOk result (λ v. items_view v.items ≡ operand_items operands.now) }
+{
+    let mut values = Vec::with_capacity(alloc, operands.len())?;
+    for operand in operands {
+        values.push(operand.value(alloc)?)?;
     }
     Ok(values)
 }
 
-/// Puts an item that has so many others in front behind the values, unless it is like one of those.
-#[tactic(auto, using(crate::proofs::Alike::values_left, crate::proofs::Alike::values_kept))]
-fn push_unseen(
+/// The items that are like none in front of them.
+fn first_items(alloc: Global, all: ItemList<'_>) -> Result<Vec<Operand<'_>>, NoMemory>
+    ensures { IfOk result (λ v. operand_items v.items ≡ unseen tree.no_items (items_in all.entry)) }
+{
+    let total = all.len();
+    let mut left = total;
+    let mut items = all;
+    let mut seen = BTreeMap::new(alloc);
+    let mut firsts = Vec::new(alloc);
+    while let Some((item, behind)) = items.split_first() {
+        push_new(alloc, &mut seen, &mut firsts, item, all, total - left)?;
+        left -= 1;
+        items = behind;
+    }
+    Ok(firsts)
+}
+
+/// Puts an item that has so many others in front, which are known, behind the first ones, unless it is like one of those.
+#[tactic(auto, using(crate::proofs::Alike::values_left, crate::proofs::Known::firsts_kept))]
+fn push_new<'a>(
     alloc: Global,
-    values: &mut Vec<Value>,
-    item: Operand<'_>,
-    all: ItemList<'_>,
+    seen: &mut BTreeMap<Vec<u8>, Operand<'a>>,
+    firsts: &mut Vec<Operand<'a>>,
+    item: Operand<'a>,
+    all: ItemList<'a>,
     count: usize,
 ) -> Result<(), NoMemory>
-    ensures { OnOk result ((rest : Items) → joined_items (front count (items_in all.entry)) (tree.item (tree_of item.entry) rest) ≡ items_in all.entry
-        → joined_items (items_view values.new.items) (unseen (front (count + 1) (items_in all.entry)) rest)
-        ≡ joined_items (items_view values.old.items) (unseen (front count (items_in all.entry)) (tree.item (tree_of item.entry) rest))) }
+    requires { Knows seen.old (front count (items_in all)) }
+    ensures known { OnOk result ((rest : Items) → joined_items (front count (items_in all.entry)) (tree.item (tree_of item.entry) rest) ≡ items_in all.entry
+        → Knows seen.new (front (count + 1) (items_in all.entry))) }
+    ensures firsts { OnOk result ((rest : Items) → joined_items (front count (items_in all.entry)) (tree.item (tree_of item.entry) rest) ≡ items_in all.entry
+        → joined_items (operand_items firsts.new.items) (unseen (front (count + 1) (items_in all.entry)) rest)
+        ≡ joined_items (operand_items firsts.old.items) (unseen (front count (items_in all.entry)) (tree.item (tree_of item.entry) rest))) }
 {
-    if !has_alike(item, all, count) {
-        values.push(item.value(alloc)?)?;
+    if !was_seen(alloc, seen, item, all, count)? {
+        firsts.push(item)?;
     }
     Ok(())
+}
+
+/// Whether an item is like one of so many others in front, which are known. It is known then too.
+fn was_seen<'a>(
+    alloc: Global,
+    seen: &mut BTreeMap<Vec<u8>, Operand<'a>>,
+    item: Operand<'a>,
+    all: ItemList<'a>,
+    count: usize,
+) -> Result<bool, NoMemory>
+    requires { Knows seen.old (front count (items_in all)) }
+    ensures like { IfOk result (λ b. b ≡ ordering.has_alike (tree_of item.entry) (front count (items_in all.entry))) }
+    ensures known { OnOk result ((rest : Items) → joined_items (front count (items_in all.entry)) (tree.item (tree_of item.entry) rest) ≡ items_in all.entry
+        → Knows seen.new (front (count + 1) (items_in all.entry))) }
+{
+    let code = code_of(alloc, item)?;
+    if let Some(first) = seen.get(code.as_slice()).copied() {
+        return Ok(is_like(item, first, all, count));
+    }
+    seen.insert(code, item)?;
+    Ok(false)
+}
+
+/// Whether an item is like another one, or like one of so many items from the front. Two that have the same code are alike, so that
+/// no more than one comparison is made.
+fn is_like(item: Operand<'_>, other: Operand<'_>, all: ItemList<'_>, count: usize) -> bool
+    ensures { result ≡ (ordering.alike (tree_of item.entry) (tree_of other.entry) || ordering.has_alike (tree_of item.entry) (front count (items_in all.entry))) }
+{
+    are_alike(item, other) || has_alike(item, all, count)
 }
 
 /// Whether one of so many items from the front is like an item.

@@ -1,1 +1,3 @@
 mod Members
+pub mod Alone
+pub mod Standing

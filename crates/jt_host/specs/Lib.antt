@@ -1,2 +1,5 @@
 pub mod Json
 pub mod Rendering
+pub mod Turns
+pub mod WorldCode
+pub mod Places

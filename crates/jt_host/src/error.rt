@@ -1,4 +1,4 @@
-//! Why there is no context, and why nothing is rendered.
+//! Why there is no context, why nothing is rendered, and why a host refuses.
 
 use jt_codegen::CompileError;
 use jt_value::NoMemory;
@@ -92,4 +92,21 @@ impl From<NoMemory> for RenderError {
     fn from(_refused: NoMemory) -> RenderError {
         RenderError::NoMemory
     }
+}
+
+/// Why a host refuses. It prints as its code and its name.
+#[derive(Clone, Copy, Debug, PartialEq, Eq, Error)]
+pub enum HostError {
+    /// No session that is open has the id.
+    #[error("H1 NoSession")]
+    NoSession,
+    /// 64 sessions are open.
+    #[error("H2 Full")]
+    Full,
+    /// A growth was refused, now or in an earlier turn of the session.
+    #[error("H3 NoMemory")]
+    NoMemory,
+    /// Each id was given.
+    #[error("H4 NoId")]
+    NoId,
 }

@@ -200,7 +200,7 @@ pub record IsWired (w : Instr) (i : Instruction) : Type 0 where
   pub by_b : (j : Instruction) × (known_of w.op w.a w.b 0 ≡ Ok j)
   pub whole : known_of w.op w.a w.b w.c ≡ Ok i
 
-wired : (i : Instruction) → IsWired (wire_of i) i
+pub wired : (i : Instruction) → IsWired (wire_of i) i
 unfolding known_of instruction_of
 wired (op.Const c) = record { by_op = (op.Const 0, refl); by_a = (op.Const 0, refl); by_b = (op.Const 0, refl); whole = refl }
 wired (op.Load c) = record { by_op = (op.Load 0, refl); by_a = (op.Load 0, refl); by_b = (op.Load 0, refl); whole = refl }
@@ -232,10 +232,10 @@ wired (op.Call c) = record { by_op = (op.Call 0, refl); by_a = (op.Call 0, refl)
 wired op.Return = record { by_op = (op.Return, refl); by_a = (op.Return, refl); by_b = (op.Return, refl); whole = refl }
 
 -- the fields of an instruction fit the wire's
-abbrev HasSmallWire : Instruction → Type 0
+abbrev pub HasSmallWire : Instruction → Type 0
 HasSmallWire i = ((wire_of i).b < 2 ^ 16) × ((wire_of i).c < 2 ^ 32)
 
-small_wire : (i : Instruction) → IsInstruction i → HasSmallWire i
+pub small_wire : (i : Instruction) → IsInstruction i → HasSmallWire i
 small_wire (op.Const c) h = (omega arith, h)
 small_wire (op.Load c) h = (omega arith, h)
 small_wire (op.Store c) h = (omega arith, h)

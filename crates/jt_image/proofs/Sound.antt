@@ -378,7 +378,7 @@ HasCode u = AllByRecursion IsInstruction u.code
 abbrev pub good_instruction : List Instruction → Instruction → Type 0
 good_instruction before i = IsInstruction i
 
-all_instructions : (before code : List Instruction) → AllGood good_instruction before code → AllByRecursion IsInstruction code
+pub all_instructions : (before code : List Instruction) → AllGood good_instruction before code → AllByRecursion IsInstruction code
 all_instructions before [] h = tt
 all_instructions before (i ∷ is) h = (h.0, all_instructions (before ++ i ∷ []) is h.1)
 
@@ -399,7 +399,7 @@ sections_found hs bytes fits = each_found section_at code_bytes head_of HasCode 
 
 -- ---- how many instructions there are
 
-many_count : {A : Type 0} (step : List A → List ℕ → Read A) (n : ℕ) (before : List A) (bytes : List ℕ) → AllOk (many_at step n before bytes) (λ x. length x.0 ≡ length before + n)
+pub many_count : {A : Type 0} (step : List A → List ℕ → Read A) (n : ℕ) (before : List A) (bytes : List ℕ) → AllOk (many_at step n before bytes) (λ x. length x.0 ≡ length before + n)
 unfolding many_at
 many_count step zero before bytes = omega arith
 many_count {A} step (suc n) before bytes =

@@ -6,6 +6,8 @@ pub mod View
 pub mod HeaderView
 pub mod ImageView
 pub mod Readers
+pub mod InPlace
+pub mod Viewed
 pub mod Ids
 pub mod Effect
 pub mod Typed

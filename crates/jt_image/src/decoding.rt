@@ -14,7 +14,7 @@ use crate::tables::{all_constants_at, all_names_at};
 use crate::units::units_at;
 use std::alloc::Global;
 
-const MAX_BYTES: usize = 16_777_216;
+pub(crate) const MAX_BYTES: usize = 16_777_216;
 
 #[tactic(auto, unfolding(crate::specs::Reading::code_of))]
 fn read(alloc: Global, bytes: &[u8]) -> Result<Image, ImageError>

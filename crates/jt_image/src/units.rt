@@ -20,10 +20,10 @@ pub(crate) const MAX_INSTRUCTIONS: u32 = 262_144;
 /// The numbers of a unit.
 #[derive(Drop)]
 pub(crate) struct Header {
-    parameters: u8,
-    kind: u8,
-    locals: u16,
-    len: u32,
+    pub(crate) parameters: u8,
+    pub(crate) kind: u8,
+    pub(crate) locals: u16,
+    pub(crate) len: u32,
 }
 
 /// Units, and how many instructions they have together.
@@ -107,11 +107,15 @@ fn header_at(first: bool, total: u32, bytes: &[u8]) -> Result<(Header, &[u8]), I
 /// The numbers of all units, and how many instructions there are.
 #[derive(Drop)]
 pub(crate) struct Headers {
-    items: Vec<Header>,
-    total: u32,
+    pub(crate) items: Vec<Header>,
+    pub(crate) total: u32,
 }
 
-fn headers_at(alloc: Global, count: u16, bytes: &[u8]) -> Result<(Headers, &[u8]), ImageError>
+pub(crate) fn headers_at(
+    alloc: Global,
+    count: u16,
+    bytes: &[u8],
+) -> Result<(Headers, &[u8]), ImageError>
     ensures gives { Gives (λ x. (headers_view x.0.items.items, x.1.now)) result (headers_at count bytes.now) }
     ensures total { IfOk result (λ x. x.0.total ≡ header_total (headers_view x.0.items.items)) }
 {
@@ -166,7 +170,7 @@ fn by_fields(bytes: &[u8]) -> Result<(Instruction, &[u8]), ImageError>
 }
 
 // eight bytes at once where they are an instruction, else field by field for the first fault
-fn instruction_at(bytes: &[u8]) -> Result<(Instruction, &[u8]), ImageError>
+pub(crate) fn instruction_at(bytes: &[u8]) -> Result<(Instruction, &[u8]), ImageError>
     ensures { Gives (λ x. (x.0, x.1.now)) result (instruction_at bytes.now) }
 {
     if bytes.len() < 8 {

@@ -11,8 +11,8 @@ const X: [u8; 44] = [
     0, 9, 0, 0, 0, 0, 0, 0, 0, 0x1c, 0, 0, 0, 0, 0, 0, 0,
 ];
 
-/// Checks that the readers of an image tell of X.
-fn is_x(rt: &impl Abort, image: &Image) {
+/// Checks that the readers of a code tell of X.
+fn is_x<C: Code>(rt: &impl Abort, image: &C) {
     assert_eq!(rt;
         (image.globals(), image.names(), image.constants()),
         (0, 0, 1)
@@ -46,10 +46,21 @@ fn reads_and_writes_x(rt: HostRuntime) -> Result<(), Fail> {
 }
 
 #[test]
+fn views_x(rt: HostRuntime) -> Result<(), Fail> {
+    is_x(&rt, &view(rt.alloc(), &X)?);
+    Ok(())
+}
+
+#[test]
 fn beginnings_are_cut_off(rt: HostRuntime) {
     for end in 0..44 {
         assert_eq!(rt;
             decode(rt.alloc(), &X[..end]).err(),
+            Some(ImageError::Truncated),
+            "{end}"
+        );
+        assert_eq!(rt;
+            view(rt.alloc(), &X[..end]).err(),
             Some(ImageError::Truncated),
             "{end}"
         );
@@ -63,9 +74,10 @@ fn changed(alloc: Global, asked: &str) -> Result<String, Fail> {
     *bytes
         .get_mut(usize::try_from(at)?)
         .ok_or("a row has no place")? = u8::try_from(value)?;
-    match decode(alloc, &bytes) {
-        Ok(_) => Ok(String::from_str(alloc, "an image")?),
-        Err(error) => Ok(format!(in alloc; "{error:?}")?),
+    match (decode(alloc, &bytes).err(), view(alloc, &bytes).err()) {
+        (None, None) => Ok(String::from_str(alloc, "an image")?),
+        (Some(error), Some(of_view)) if error == of_view => Ok(format!(in alloc; "{error:?}")?),
+        (error, of_view) => Ok(format!(in alloc; "{error:?}, and {of_view:?} of a view")?),
     }
 }
 

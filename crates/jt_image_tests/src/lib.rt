@@ -11,8 +11,12 @@ mod loops;
 #[cfg(test)]
 mod machine;
 #[cfg(test)]
+mod pieces;
+#[cfg(test)]
 mod rows;
 #[cfg(test)]
 mod running;
+#[cfg(test)]
+mod slices;
 #[cfg(test)]
 mod verify;

@@ -1,8 +1,8 @@
 //! Small images, accepted and refused, and shapes joined.
 
 use crate::rows::{numbers, rows_hold};
-use jt_image::{Code, Constant, Flaw, Image, Instr, Kind, Parts, Unit, assemble, decode};
-use jt_verify::{Refusal, Shape, join, verify, verify_code};
+use jt_image::{Code, Constant, Flaw, Image, Instr, Kind, Parts, Unit, assemble, decode, view};
+use jt_verify::{Refusal, Shape, join, verify, verify_code, verify_view};
 use std::alloc::{AllocError, Global};
 use std::fmt::InlineText;
 use std::test::*;
@@ -56,6 +56,14 @@ fn bytes_of(alloc: Global, first: &[Line], second: &[Line]) -> Result<Vec<u8>, A
     Ok(bytes)
 }
 
+// What the verifier answers of bytes in place.
+fn refusal_of_view(alloc: Global, bytes: &[u8]) -> Result<Option<Refusal>, Fail> {
+    match verify_view(alloc, view(alloc, bytes)?) {
+        Ok(_) => Ok(None),
+        Err((_, refusal)) => Ok(Some(refusal)),
+    }
+}
+
 // What the verifier answers.
 fn refusal_of(alloc: Global, image: Image) -> Option<Refusal> {
     match verify(alloc, image) {
@@ -88,6 +96,24 @@ fn accepts_x_and_its_loop(rt: HostRuntime) -> Result<(), Fail> {
         refusal_of(rt.alloc(), decode(rt.alloc(), &bytes)?),
         Some(out)
     );
+    Ok(())
+}
+
+#[test]
+fn accepts_views(rt: HostRuntime) -> Result<(), Fail> {
+    match verify_view(rt.alloc(), view(rt.alloc(), &X)?) {
+        Ok(verified) => assert_eq!(rt; verified.code().instructions(), 2),
+        Err(_) => assert!(rt; false),
+    }
+    let mut bytes = X;
+    bytes[28] = JUMP;
+    bytes[32] = 2;
+    let out = Refusal::Flaw {
+        flaw: Flaw::JumpOut,
+        unit: 0,
+        point: 0,
+    };
+    assert_eq!(rt; refusal_of_view(rt.alloc(), &bytes)?, Some(out));
     Ok(())
 }
 
@@ -126,7 +152,11 @@ fn flaw_of(alloc: Global, asked: &str) -> Result<String, Fail> {
     let lines = lines_of(alloc, asked.strip_prefix("unit").unwrap_or(asked))?;
     let plain: &[Line] = &[(RETURN, 0)];
     let first = decode(alloc, &bytes_of(alloc, &lines, plain)?)?;
-    let second = decode(alloc, &bytes_of(alloc, plain, &lines)?)?;
+    let bytes = bytes_of(alloc, plain, &lines)?;
+    let second = decode(alloc, &bytes)?;
+    if refusal_of_view(alloc, &bytes)? != refusal_of(alloc, decode(alloc, &bytes)?) {
+        return Err(Fail::from("a view is refused otherwise"));
+    }
     let (first, second) = (flaw_at(alloc, first, 0)?, flaw_at(alloc, second, 1)?);
     if first.as_str() == second.as_str() {
         return Ok(first);

@@ -1,5 +1,5 @@
 -- Names among others.
-use Rattle.std.proofs.Common.{◌≡◌, ℕ, Bool, true, false, ◌||◌, List, [], ◌∷◌, ◌++◌, map, refl, sym, ap, subst, ◌∙◌}
+use Rattle.std.proofs.Common.{◌≡◌, ℕ, Bool, true, false, ◌||◌, List, [], ◌∷◌, ◌++◌, map, refl, sym, ap, subst, ◌∙◌, ◌⊎◌, ⊎_elim, inl, inr}
 use Rattle.std.proofs.lemmas.Cmp.{nat_list_eq_equiv}
 use Rattle.std.proofs.lemmas.Slice.Eq.{bytes_eq-Decides}
 use Rattle.std.specs.List.{AllByRecursion}
@@ -79,3 +79,24 @@ map_more f (y ∷ xs) x = ap (λ l. f y ∷ l) (map_more f xs x)
 pub all_more : {X : Type 0} (P : X → Type 0) (xs : List X) (x : X) → AllByRecursion P xs → P x → AllByRecursion P (xs ++ x ∷ [])
 all_more P [] x a p = (p, tt)
 all_more P (y ∷ xs) x a p = (a.0, all_more P xs x a.1 p)
+
+pub among_cases : (x : Text) (xs ys : List Text) → among x (xs ++ ys) ≡ true → (among x xs ≡ true) ⊎ (among x ys ≡ true)
+among_cases x [] ys h = inr h
+among_cases x (y ∷ xs) ys h = by (bytes_eq y x) refl (among_cases x xs ys)
+  where
+    by : (b : Bool) → bytes_eq y x ≡ b → (among x (xs ++ ys) ≡ true → (among x xs ≡ true) ⊎ (among x ys ≡ true)) → (among x (y ∷ xs) ≡ true) ⊎ (among x ys ≡ true)
+    by true e r = inl (ap (λ b. b || among x xs) e)
+    by false e r = ⊎_elim (λ p. inl (or_true (bytes_eq y x) (among x xs) p)) (λ q. inr q) (r (sym (ap (λ b. b || among x (xs ++ ys)) e) ∙ h))
+
+pub only_among : (x y : Text) → among y (x ∷ []) ≡ true → x ≡ y
+only_among x y a = by (bytes_eq x y) refl a
+  where
+    by : (b : Bool) → bytes_eq x y ≡ b → (bytes_eq x y || false) ≡ true → x ≡ y
+    by true e h = same x y e
+    by false e h =
+        let no : false ≡ true = sym (ap (λ b. b || false) e) ∙ h in
+        absurd (cc)
+
+-- where one name is put behind others
+pub among_last : (old new : List Text) (x y : Text) → new ≡ old ++ x ∷ [] → x ≡ y → (n : Text) → among n new ≡ true → (among n old ≡ true) ⊎ (n ≡ y)
+among_last old new x y e is n a = ⊎_elim (λ p. inl p) (λ q. inr (sym (only_among x n q) ∙ is)) (among_cases n old (x ∷ []) (sym (ap (among n) e) ∙ a))

@@ -1,24 +1,28 @@
 -- Segments with their options, and the tree that they spell.
-use Rattle.std.proofs.Common.{◌≡◌, ℕ, ◌<◌, ◌≤◌, List, [], ◌∷◌, length, map, refl, sym, ap, subst, ◌∙◌, chars, ⊎_elim, Option, None}
+use Rattle.std.proofs.Common.{◌≡◌, ℕ, ◌<◌, ◌≤◌, List, [], ◌∷◌, length, map, refl, sym, ap, subst, ◌∙◌, chars, ⊎_elim, Some, None, arith}
 use Rattle.std.proofs.lemmas.Bool.{cases_lt}
+use Rattle.jt_scan.specs.Cut as cut
 use Rattle.jt_scan.specs.Cut.{Text, IsCut}
 use Rattle.jt_scan.specs.LineEnds.{normalized}
 use Rattle.jt_scan.specs.SourceView.{Held}
 use Rattle.jt_scan.specs.View.{cut_of, segment_view, HaveOptions}
+use Rattle.jt_scan.specs.Refused as scanner
+use Rattle.jt_scan.specs.declared.error.ScanError.{ScanError}
+use Rattle.jt_scan.specs.declared.error.ScanError.TheVariants as scan_error
 use Rattle.jt_scan.specs.declared.options.Options.{Options}
 use Rattle.jt_scan.specs.declared.segment.Segment.{Segment}
 use Rattle.jt_parse.specs.Grammar.{Spelled}
 use Rattle.jt_parse.specs.Kept.{Read, pieces}
 use Rattle.jt_parse.specs.Names.{body_unknown}
 use Rattle.jt_parse.specs.Refusals.{IsRefusal}
-use Rattle.jt_parse.specs.Trees.{body_levels}
+use Rattle.jt_parse.specs.Trees.{Body, body_levels}
 use Rattle.jt_parse.specs.View.{body_of, reads_of, read_view}
 use Rattle.jt_parse.specs.declared.error.ParseError.{ParseError}
 use Rattle.jt_parse.specs.declared.error.ParseError.TheVariants as parse_error
 use Rattle.jt_parse.specs.declared.tree.Template.{Template}
-use Rattle.jt_inherit.specs.Chains.{IsTree}
-use Rattle.jt_inherit.specs.Faults.{IsFault, IsParse}
-use Rattle.jt_inherit.specs.Refusals.{IsUnspelled}
+use Rattle.jt_inherit.specs.Chains.{Given, IsTree, HasNoTree, IsOnly}
+use Rattle.jt_inherit.specs.Faults.{IsFault, IsScan, IsParse}
+use Rattle.jt_inherit.specs.Refusals.{IsUncut, IsUnspelled}
 use Rattle.jt_inherit.specs.declared.error.ChainError.{ChainError}
 use Rattle.jt_inherit.specs.declared.error.ChainError.TheVariants as error
 
@@ -41,6 +45,22 @@ module _ (options : Options) (given : Text) (s : Held) (is : s ≡ record { text
   its_reads : HaveOptions s.options ss → reads_of ss ≡ map (λ s. (options, s)) (cut_of ss)
   its_reads h = read_cut options ss (subst (λ o. HaveOptions o ss) (ap (λ (z : Held). z.options) is) h)
 
+  -- the cut of a tree that the source spells is one of the text
+  text_cut : (b : Body) (t : IsTree options given b) → IsCut t.segments (chars s.text)
+  text_cut b t = subst (λ x. IsCut t.segments (chars x)) (sym its_text) t.cut
+
+  read_so : (b : Body) (t : IsTree options given b) → cut_of ss ≡ t.segments → HaveOptions s.options ss → Spelled b (pieces (reads_of ss))
+  read_so b t e h = subst (λ rs. Spelled b (pieces rs)) (sym (its_reads h ∙ ap (map (λ q. (options, q))) e)) t.spelled
+
+  module _ (h : HaveOptions s.options ss) (once : (qs : List cut.Segment) → IsCut qs (chars s.text) → cut_of ss ≡ qs) where
+    -- where one tree alone is read from the segments, the source spells no other
+    pub only_tree : (t : Template) → ((d : Body) → Spelled d (pieces (reads_of ss)) → body_levels d ≤ 100 → body_unknown d ≡ None → body_of t ≡ d) → (b : Body) → IsTree options given b → b ≡ body_of t
+    only_tree t one b i = sym (one b (read_so b i (once i.segments (text_cut b i)) h) i.levels i.known)
+
+    -- and none where none is
+    pub no_tree : (e : ParseError) → (e ≡ parse_error.NoMemory → ⊥) → ((d : Body) → Spelled d (pieces (reads_of ss)) → body_levels d ≤ 100 → body_unknown d ≡ None → e ≡ parse_error.NoMemory) → HasNoTree options given
+    no_tree e f none = λ b i. f (none b (read_so b i (once i.segments (text_cut b i)) h) i.levels i.known)
+
   pub tree_found : (t : Template) → length given ≤ 1048576 → IsCut (cut_of ss) (chars s.text) → HaveOptions s.options ss → Spelled (body_of t) (pieces (reads_of ss)) × (body_levels (body_of t) ≤ 100)
       → body_unknown (body_of t) ≡ None → IsTree options given (body_of t)
   tree_found t le c h p k = record {
@@ -55,16 +75,66 @@ module _ (options : Options) (given : Text) (s : Held) (is : s ≡ record { text
   refused_as : (e : ParseError) → (e ≡ parse_error.NoMemory → ⊥) → IsCut (cut_of ss) (chars s.text) → HaveOptions s.options ss → IsRefusal e (pieces (reads_of ss)) → IsUnspelled e options given
   refused_as e f c h r = record { fault = f; segments = cut_of ss; cut = its_cut c; refused = subst (λ rs. IsRefusal e (pieces rs)) (its_reads h) r }
 
-  pub unspelled : (name : Text) (e : ParseError) (x : ChainError) → IsCut (cut_of ss) (chars s.text) → HaveOptions s.options ss → IsRefusal e (pieces (reads_of ss)) → IsParse name e x → IsFault x name options given
-  unspelled name e (error.Parse n f) c h r p = (p.0, subst (λ z. IsUnspelled z options given) (sym p.1) (refused_as e p.2 c h r))
-  unspelled name e error.NoMemory c h r p = tt
-  unspelled name e (error.Scan n f) c h r p = absurd p
-  unspelled name e error.Missing c h r p = absurd p
-  unspelled name e error.BadName c h r p = absurd p
-  unspelled name e error.ExtendsCycle c h r p = absurd p
-  unspelled name e error.ChainTooLong c h r p = absurd p
-  unspelled name e error.DoubleBlock c h r p = absurd p
-  unspelled name e error.RequiredNotGiven c h r p = absurd p
-  unspelled name e error.NoSuper c h r p = absurd p
-  unspelled name e error.IncludeCycle c h r p = absurd p
-  unspelled name e error.MacroTwice c h r p = absurd p
+  pub unspelled : (name : Text) (e : ParseError) (x : ChainError) → IsCut (cut_of ss) (chars s.text) → HaveOptions s.options ss → IsRefusal e (pieces (reads_of ss)) → ((e ≡ parse_error.NoMemory → ⊥) → HasNoTree options given)
+      → IsParse name e x → IsFault x name options given
+  unspelled name e (error.Parse n f) c h r none p = (p.0, subst (λ z. IsUnspelled z options given) (sym p.1) (refused_as e p.2 c h r), none p.2)
+  unspelled name e error.NoMemory c h r none p = tt
+  unspelled name e (error.Scan n f) c h r none p = absurd p
+  unspelled name e error.Missing c h r none p = absurd p
+  unspelled name e error.BadName c h r none p = absurd p
+  unspelled name e error.ExtendsCycle c h r none p = absurd p
+  unspelled name e error.ChainTooLong c h r none p = absurd p
+  unspelled name e error.DoubleBlock c h r none p = absurd p
+  unspelled name e error.RequiredNotGiven c h r none p = absurd p
+  unspelled name e error.NoSuper c h r none p = absurd p
+  unspelled name e error.IncludeCycle c h r none p = absurd p
+  unspelled name e error.MacroTwice c h r none p = absurd p
+
+-- ---- a source that isn't cut
+
+-- a refusal of the scanner, with the template's name
+pub unscanned : (options : Options) (given name : Text) (e : ScanError) (x : ChainError) → ((e ≡ scan_error.NoMemory → ⊥) → IsUncut e options given × HasNoTree options given) → IsScan name e x → IsFault x name options given
+unscanned options given name e (error.Scan n f) r p = (p.0, subst (λ z. IsUncut z options given) (sym p.1) (r p.2).0, (r p.2).1)
+unscanned options given name e error.NoMemory r p = tt
+unscanned options given name e (error.Parse n f) r p = absurd p
+unscanned options given name e error.Missing r p = absurd p
+unscanned options given name e error.BadName r p = absurd p
+unscanned options given name e error.ExtendsCycle r p = absurd p
+unscanned options given name e error.ChainTooLong r p = absurd p
+unscanned options given name e error.DoubleBlock r p = absurd p
+unscanned options given name e error.RequiredNotGiven r p = absurd p
+unscanned options given name e error.NoSuper r p = absurd p
+unscanned options given name e error.IncludeCycle r p = absurd p
+unscanned options given name e error.MacroTwice r p = absurd p
+
+pub too_long : (options : Options) (given : Text) (e : ScanError) → (1048576 < length given → e ≡ scan_error.SourceTooLong) → (length given ≤ 1048576 → e ≡ scan_error.NoMemory) → (e ≡ scan_error.NoMemory → ⊥) → IsUncut e options given × HasNoTree options given
+too_long options given e long short f = ⊎_elim
+    (λ (gt : 1048576 < length given). (subst (λ z. IsUncut z options given) (sym (long gt)) gt, λ b t. let le = t.limited in omega (arith, gt, le)))
+    (λ (le : length given ≤ 1048576). absurd (f (short le)))
+    (cases_lt 1048576 (length given))
+
+uncut_so : (options : Options) (given : Text) (e : ScanError) → (e ≡ scan_error.NoMemory → ⊥) → scanner.IsRefusal e (chars (normalized options.keep_trailing_newline given)) → IsUncut e options given
+uncut_so options given (scan_error.UnclosedTag n) f r = r
+uncut_so options given (scan_error.UnclosedText n) f r = r
+uncut_so options given (scan_error.BadCharacter n) f r = r
+uncut_so options given (scan_error.BadEscape n) f r = r
+uncut_so options given (scan_error.NumberTooLarge n) f r = r
+uncut_so options given (scan_error.UnclosedRaw n) f r = r
+uncut_so options given scan_error.SourceTooLong f r = absurd r
+uncut_so options given scan_error.NoMemory f r = absurd (f refl)
+
+pub no_cut : (options : Options) (given text : Text) (e : ScanError) → text ≡ normalized options.keep_trailing_newline given → scanner.IsRefusal e (chars text) → ((qs : List cut.Segment) → IsCut qs (chars text) → e ≡ scan_error.NoMemory)
+    → (e ≡ scan_error.NoMemory → ⊥) → IsUncut e options given × HasNoTree options given
+no_cut options given text e is r none f = (
+  uncut_so options given e f (subst (λ z. scanner.IsRefusal e (chars z)) is r),
+  λ b t. f (none t.segments (subst (λ x. IsCut t.segments (chars x)) (sym is) t.cut)),
+)
+
+-- ---- the template of a name
+
+-- where its source spells no other tree
+pub only_read : (given : Given) (options : Options) (name text : Text) (b : Body) → given name ≡ Some text → ((d : Body) → IsTree options text d → d ≡ b) → IsOnly given options (record { name = name; body = b })
+only_read given options name text b found one = λ d r.
+    let told : Some r.source ≡ Some text = sym r.found ∙ found in
+    let source : r.source ≡ text = cc in
+    one d (subst (λ z. IsTree options z d) source r.tree)

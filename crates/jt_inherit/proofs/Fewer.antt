@@ -3,13 +3,14 @@ use Rattle.std.proofs.Common.{◌≡◌, ℕ, suc, ◌+◌, ◌*◌, ◌≤◌, 
 use Rattle.std.specs.Prelude.{not, flat_map, filter, IsTrue}
 use Rattle.std.specs.Option.{is_some}
 use Rattle.std.specs.Str.{bytes_eq}
-use Rattle.jt_parse.specs.Texts.{among}
+use Rattle.jt_parse.specs.Texts.{among, repeated}
 use Rattle.jt_parse.specs.Trees.{Text, Stmt, data_of, print, choose, for_each, set, set_block, with_values, filter_block, autoescape, macro, include, extends, block, Body, end, stmt, Branches, no_branches, branch, stmt_weight, body_weight, branch_weight}
 use Rattle.jt_inherit.specs.Chain.{Sources, Home, Template, templates}
 use Rattle.jt_inherit.specs.Includes.{needs_by, needs_in, needs_under, included, AllIn, InOrder}
 use Rattle.jt_inherit.specs.Rules.{Reaches, here, through}
 use Rattle.jt_inherit.specs.Small.{templates_weight, chains_weight}
-use Rattle.jt_inherit.proofs.Among.{same, reflexive, among_front, among_behind}
+use Rattle.jt_inherit.proofs.Among.{same, reflexive, both_false, among_front, among_behind}
+use Rattle.jt_inherit.proofs.Ordered.{no_more}
 
 -- ---- tags
 
@@ -101,71 +102,22 @@ module _ (sources : Sources) where
       by true is f later = among_front h (included sources g) (flat_map (included sources) gs) (subst (λ x. among h (included sources x) ≡ true) (sym (same g k is)) i)
       by false is f later = among_behind h (included sources g) (flat_map (included sources) gs) (later f)
 
--- ---- different texts that are all among others are no more
-
-without : Text → List Text → List Text
-without x [] = []
-without x (y ∷ ys) = if bytes_eq y x then ys else y ∷ without x ys
-
-without_len : (x : Text) (ys : List Text) → among x ys ≡ true → length ys ≡ suc (length (without x ys))
-unfolding without
-without_len x [] e = absurd cc
-without_len x (y ∷ ys) e = by (bytes_eq y x) e (without_len x ys)
-  where
-    by : (b : Bool) → (b || among x ys) ≡ true → (among x ys ≡ true → length ys ≡ suc (length (without x ys))) → suc (length ys) ≡ suc (length (if b then ys else y ∷ without x ys))
-    by true e f = refl
-    by false e f = ap suc (f e)
-
-without_keeps : (x z : Text) (ys : List Text) → bytes_eq x z ≡ false → among z ys ≡ true → among z (without x ys) ≡ true
-unfolding without
-without_keeps x z [] n e = absurd cc
-without_keeps x z (y ∷ ys) n e = by (bytes_eq y x) refl (bytes_eq y z) refl e (without_keeps x z ys n)
-  where
-    by : (b : Bool) → bytes_eq y x ≡ b → (c : Bool) → bytes_eq y z ≡ c → (c || among z ys) ≡ true → (among z ys ≡ true → among z (without x ys) ≡ true) → among z (if b then ys else y ∷ without x ys) ≡ true
-    by true is true at e f = (let one : y ≡ x = same y x is in let no : true ≡ false = sym at ∙ ap (λ w. bytes_eq w z) one ∙ n in absurd cc)
-    by true is false at e f = e
-    by false is true at e f = ap (λ c. c || among z (without x ys)) at
-    by false is false at e f = ap (λ c. c || among z (without x ys)) at ∙ f e
-
-abbrev Apart : List Text → Type 0
-Apart [] = Unit {0}
-Apart (x ∷ xs) = (among x xs ≡ false) × Apart xs
-
-apart_next : (x z : Text) (xs : List Text) → among x xs ≡ false → among z xs ≡ true → bytes_eq x z ≡ false
-apart_next x z xs n e = by (bytes_eq x z) refl
-  where
-    by : (b : Bool) → bytes_eq x z ≡ b → bytes_eq x z ≡ false
-    by true is = (let no : true ≡ false = sym e ∙ ap (λ w. among w xs) (sym (same x z is)) ∙ n in absurd cc)
-    by false is = is
-
-no_more : (xs ys : List Text) → Apart xs → ((z : Text) → among z xs ≡ true → among z ys ≡ true) → length xs ≤ length ys
-no_more [] ys a f = omega arith
-no_more (x ∷ xs) ys a f =
-    let one : among x ys ≡ true = f x (ap (λ b. b || among x xs) (reflexive x)) in
-    let rest = no_more xs (without x ys) a.1 (λ z e. without_keeps x z ys (apart_next x z xs a.0 e) (f z (by z (bytes_eq x z) e))) in
-    omega (arith, rest, without_len x ys one)
-  where
-    by : (z : Text) (b : Bool) → among z xs ≡ true → (b || among z xs) ≡ true
-    by z true e = refl
-    by z false e = e
-
 -- ---- the whole
 
 not_false : (b : Bool) → IsTrue (not b) → b ≡ false
 not_false true h = absurd (let no : false ≡ true = h in cc)
 not_false false h = refl
 
-apart_order : (sources : Sources) (hs : List Home) → InOrder sources hs → Apart hs
-apart_order sources [] o = tt
-apart_order sources (h ∷ hs) o = (not_false (among h hs) o.0, apart_order sources hs o.1.1)
+once_in_order : (sources : Sources) (hs : List Home) → InOrder sources hs → repeated hs ≡ false
+once_in_order sources [] o = refl
+once_in_order sources (h ∷ hs) o = both_false (among h hs) (repeated hs) (not_false (among h hs) o.0) (once_in_order sources hs o.1.1)
 
 -- where each chain of the order is reached from the entry
 pub few_chains : (sources : Sources) (escaping : Bool) (entry : Home) (rest : List Home) → InOrder sources (entry ∷ rest) → ((h : Home) → among h (entry ∷ rest) ≡ true → Reaches sources escaping entry h)
     → 7 * length (entry ∷ rest) ≤ chains_weight sources (entry ∷ rest) + 7
 few_chains sources escaping entry rest o reached =
     let order = entry ∷ rest in
-    let apart = apart_order sources order o in
-    let fewer = no_more rest (flat_map (included sources) order) apart.1 (λ h e. placed h e (tagged sources escaping order o (reached h (later sources h (bytes_eq entry h) rest e)) (ap (λ b. b || among entry rest) (reflexive entry)))) in
+    let fewer = no_more rest (flat_map (included sources) order) (once_in_order sources rest o.1.1) (λ h e. placed h e (tagged sources escaping order o (reached h (later sources h (bytes_eq entry h) rest e)) (ap (λ b. b || among entry rest) (reflexive entry)))) in
     omega (arith, fewer, includes_weigh sources order)
   where
     placed : (h : Text) → among h rest ≡ true → (h ≡ entry) ⊎ HasTag sources (entry ∷ rest) h → among h (flat_map (included sources) (entry ∷ rest)) ≡ true

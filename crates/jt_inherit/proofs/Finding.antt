@@ -18,14 +18,14 @@ use Rattle.jt_inherit.specs.Needs.{Need, needed, includes_in}
 use Rattle.jt_inherit.specs.Parts.{name_at}
 use Rattle.jt_inherit.specs.Places.{home_at}
 use Rattle.jt_inherit.specs.Refusals.{Breaks}
-use Rattle.jt_inherit.specs.Rules.{Reaches, here, asked, way}
+use Rattle.jt_inherit.specs.Rules.{Asks, Reaches, here, asked, way}
 use Rattle.jt_inherit.specs.Ways.{AreKnown, IsWay}
 use Rattle.jt_inherit.specs.declared.error.ChainError.{ChainError}
 use Rattle.jt_inherit.specs.declared.error.ChainError.TheVariants as error
-use Rattle.jt_inherit.proofs.Among.{same, reflexive, or_true, both_false, among_front, among_behind}
+use Rattle.jt_inherit.proofs.Among.{same, both_false, among_front, among_behind, only_among}
 use Rattle.jt_inherit.proofs.Following.{met_grows, numbers_grow, text_among}
-use Rattle.jt_inherit.proofs.Growing.{reach_more, reaches_next}
-use Rattle.jt_inherit.proofs.Leads.{names, templates_grow, way_grows, few_templates, templates_to_root, asked_breaks}
+use Rattle.jt_inherit.proofs.Growing.{reach_more, ask_more, reaches_next}
+use Rattle.jt_inherit.proofs.Leads.{names, names_to_root, templates_grow, way_grows, few_templates, templates_to_root, asked_breaks}
 use Rattle.jt_inherit.proofs.Needed.{by_templates}
 use Rattle.jt_inherit.proofs.Placed.{along_templates, map_at, length-map}
 use Rattle.jt_order.specs.View.{graph_of}
@@ -78,7 +78,28 @@ included_is ts h is w =
     ∙ ap (filter (λ m. is_some (sources_in ts m))) (sym (by_templates true (templates_at ts is)) ∙ ap (needed true) (sym (includes_told ts is w.places)))
     ∙ filter_same (λ m. is_some (sources_in ts m)) (λ m. among m (names ts)) (some_source ts) (needed true (includes_along ts is))
 
-none_read : (given : Given) (options : Options) (ts : List Template) (n : Text) → AllByRecursion (IsRead given options) ts → given n ≡ None → among n (names ts) ≡ false
+-- the way of a chain, and what it asks for
+module _ (ts : List Template) (e : Bool) (h : Text) (is : List ℕ) (w : IsWay ts h is None) where
+  pub few_way : length (templates_at ts is) ≤ 16
+  few_way = omega (arith, few_templates ts is, w.few)
+
+  pub way_names : way (sources_in ts) e h ≡ names (templates_at ts is)
+  way_names = names_to_root (sources_in ts) 17 (Some h) (templates_at ts is) (omega (arith, few_way)) w.leads
+
+  pub asked_way : (all : Bool) → asked (sources_in ts) e all h ≡ names (templates_at ts is) ++ needed all (includes_along ts is)
+  asked_way all =
+      ap (λ xs. xs ++ flat_map (λ t. needs_in all t.body) (templates (sources_in ts) h)) way_names
+      ∙ ap (λ us. names (templates_at ts is) ++ flat_map (λ t. needs_in all t.body) us) (whole_way ts h is w)
+      ∙ ap (λ xs. names (templates_at ts is) ++ xs) (sym (by_templates all (templates_at ts is)) ∙ ap (needed all) (sym (includes_told ts is w.places)))
+
+  -- each template on the way, and each that is included
+  pub asks_way : (n : Text) → among n (names (templates_at ts is)) ≡ true → among n (asked (sources_in ts) e true h) ≡ true
+  asks_way n a = ap (among n) (asked_way true) ∙ among_front n (names (templates_at ts is)) (needed true (includes_along ts is)) a
+
+  pub asks_needed : (all : Bool) (n : Text) → among n (needed all (includes_along ts is)) ≡ true → among n (asked (sources_in ts) e all h) ≡ true
+  asks_needed all n a = ap (among n) (asked_way all) ∙ among_behind n (names (templates_at ts is)) (needed all (includes_along ts is)) a
+
+pub none_read : (given : Given) (options : Options) (ts : List Template) (n : Text) → AllByRecursion (IsRead given options) ts → given n ≡ None → among n (names ts) ≡ false
 none_read given options [] n a e = refl
 none_read given options (t ∷ ts) n a e = by (bytes_eq t.name n) refl (none_read given options ts n a.1 e)
   where
@@ -176,14 +197,8 @@ module _ (given : Given) (options : Options) (ts0 : List Template) (ks0 hs : Lis
   pub need_breaks : AreKnown given options ts1 (names ts1) → (e : ChainError) → (e ≡ error.NoMemory) ⊎ IsNeedFault given options (includes_along ts1 is) e → Breaks e given (home_at hs 0) options
   need_breaks known e fault = ⊎_elim
       (λ m. subst (λ z. Breaks z given (home_at hs 0) options) (sym m) tt)
-      (λ n. asked_breaks given options (home_at hs 0) ts1 known.read h reached_here n.name e (asks true n.name n.asked) (λ q. asks false n.name (n.must q)) n.fault)
+      (λ n. asked_breaks given options (home_at hs 0) ts1 known h reached_here n.name e (asks_needed ts1 options.autoescape h is w true n.name n.asked) (λ q. asks_needed ts1 options.autoescape h is w false n.name (n.must q)) n.fault)
       fault
-    where
-      asks : (all : Bool) (x : Text) → among x (needed all (includes_along ts1 is)) ≡ true → among x (asked (sources_in ts1) options.autoescape all h) ≡ true
-      asks all x a =
-          let needs : flat_map (λ t. needs_in all t.body) (templates (sources_in ts1) h) ≡ needed all (includes_along ts1 is) =
-          ap (flat_map (λ t. needs_in all t.body)) (whole_way ts1 h is w) ∙ sym (by_templates all (templates_at ts1 is)) ∙ ap (needed all) (sym (includes_told ts1 is w.places)) in
-          among_behind x (way (sources_in ts1) options.autoescape h) (flat_map (λ t. needs_in all t.body) (templates (sources_in ts1) h)) (ap (among x) needs ∙ a)
 
   module _ (ts2 m2 : List Template) (e2 : ts2 ≡ ts1 ++ m2) (ks2 : List Text) (known : AreKnown given options ts2 ks2) where
     pub way_there : IsWay ts2 h is None
@@ -208,12 +223,24 @@ module _ (given : Given) (options : Options) (ts0 : List Template) (ks0 hs : Lis
     next_breaks e fault = ⊎_elim
         (λ m. subst (λ z. Breaks z given (home_at hs 0) options) (sym m) tt)
         (λ t. subst (λ z. Breaks z given (home_at hs 0) options) (sym t.0)
-        (record { templates = ts2; read = known.read; holds = inr (t.1.0, t.1.1, ap not t.1.2, λ x a. reached_from x (t.1.3 x a)) }))
+        (record { templates = ts2; read = known.read; only = known.only; holds = inr (t.1.0, t.1.1, ap not t.1.2, λ x a. reached_from x (t.1.3 x a)) }))
         fault
 
-    pub found_more : AllByRecursion (IsMet given ks2) (includes_along ts1 is) → (hs2 : List Text) (next : List ℕ) → AreNext hs hs2 (chosen ks2 (includes_along ts2 is)) next
+    -- what is known is asked for
+    asks_more : (ks1 : List Text) → ((n : Text) → among n ks1 ≡ true → (among n ks0 ≡ true) ⊎ (among n (names (templates_at ts1 is)) ≡ true))
+        → ((n : Text) → among n ks2 ≡ true → (among n ks1 ≡ true) ⊎ (among n (needed true (includes_along ts1 is)) ≡ true)) → (n : Text) → among n ks2 ≡ true → Asks (sources_in ts2) options.autoescape (home_at hs 0) n
+    asks_more ks1 on_way needs n a = ⊎_elim
+        (λ p. ⊎_elim
+        (λ q. ask_more ts0 ts2 (m1 ++ m2) options.autoescape (home_at hs 0) n all_more (f.asked n q))
+        (λ q. ask_more ts1 ts2 m2 options.autoescape (home_at hs 0) n e2 (h, reached_here, asks_way ts1 options.autoescape h is w n q))
+        (on_way n p))
+        (λ p. ask_more ts1 ts2 m2 options.autoescape (home_at hs 0) n e2 (h, reached_here, asks_needed ts1 options.autoescape h is w true n p))
+        (needs n a)
+
+    pub found_more : (ks1 : List Text) → ((n : Text) → among n ks1 ≡ true → (among n ks0 ≡ true) ⊎ (among n (names (templates_at ts1 is)) ≡ true))
+        → ((n : Text) → among n ks2 ≡ true → (among n ks1 ≡ true) ⊎ (among n (needed true (includes_along ts1 is)) ≡ true)) → AllByRecursion (IsMet given ks2) (includes_along ts1 is) → (hs2 : List Text) (next : List ℕ) → AreNext hs hs2 (chosen ks2 (includes_along ts2 is)) next
         → AreFound given options ts2 ks2 hs2 (ws ++ is ∷ []) (ns ++ next ∷ [])
-    found_more met hs2 next n =
+    found_more ks1 on_way needs met hs2 next n =
         let first : home_at hs2 0 ≡ home_at hs 0 = ap (λ l. home_at l 0) n.grown ∙ first_stays hs n.more f.some in
         let read = subst (AllByRecursion (IsRead given options)) all_more known.read.each in
         let old : AreFollowed given (ts0 ++ (m1 ++ m2)) (hs ++ n.more) hs ws ns = all_grow given options ts0 (m1 ++ m2) hs n.more read hs ws ns f.followed in
@@ -224,6 +251,7 @@ module _ (given : Given) (options : Options) (ts0 : List Template) (ks0 hs : Lis
         }) in
         record {
           known = known;
+          asked = λ x a. subst (λ z. Asks (sources_in ts2) options.autoescape z x) (sym first) (asks_more ks1 on_way needs x a);
           some = omega (arith, ap length n.grown, length-append hs n.more, f.some);
           once = n.once;
           few = n.few;
@@ -248,22 +276,14 @@ found_first given options entry ts ks hs ws ns eh et ek ew en =
     (subst (λ z. AreFound given options [] [] (entry ∷ []) z ns) (sym ew)
     (subst (λ z. AreFound given options [] [] (entry ∷ []) [] z) (sym en)
     (record {
-      known = record { read = record { each = tt; once = refl }; within = tt; named = refl };
+      known = record { read = record { each = tt; once = refl }; only = tt; within = tt; named = refl };
+      asked = λ n a. absurd (cc);
       some = omega arith;
       once = refl;
       few = omega arith;
-      reached = λ x a. subst (λ z. Reaches (sources_in []) options.autoescape entry z) (only x a) here;
+      reached = λ x a. subst (λ z. Reaches (sources_in []) options.autoescape entry z) (only_among entry x a) here;
       followed = tt;
     })))))
-  where
-    only : (x : Text) → among x (entry ∷ []) ≡ true → entry ≡ x
-    only x a = by (bytes_eq entry x) refl a
-      where
-        by : (b : Bool) → bytes_eq entry x ≡ b → (bytes_eq entry x || false) ≡ true → entry ≡ x
-        by true e h = same entry x e
-        by false e h =
-            let k : false ≡ true = sym (ap (λ b. b || false) e) ∙ h in
-            absurd (cc)
 
 -- no more ways than chains
 pub followed_len : (given : Given) (ts : List Template) (hs gs : List Text) (ws ns : List (List ℕ)) → AreFollowed given ts hs gs ws ns → length ws ≤ length gs
@@ -281,7 +301,7 @@ home_number keys ks ws k i h e at lt is named =
     ap (λ z. slice_get (strings z) (length (graph_of ws))) (sym e) ∙ ap (slice_get (strings ks)) len ∙ map_at string_bytes ks i k lt is ∙ ap (λ (x : Text). Some x) (sym named)
 
 pub known_names : (given : Given) (options : Options) (ts : List Template) (ks : List Text) → AreKnown given options ts ks → AreKnown given options ts (names ts)
-known_names given options ts ks k = record { read = k.read; within = k.within; named = refl }
+known_names given options ts ks k = record { read = k.read; only = k.only; within = k.within; named = refl }
 
 pub both_pages : (ps qs rs : List Page) → rs ≡ ps ++ qs → pages_view rs ≡ pages_view ps ++ pages_view qs
 both_pages ps qs rs e = ap pages_view e ∙ both ps

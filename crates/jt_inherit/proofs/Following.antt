@@ -14,7 +14,7 @@ use Rattle.jt_inherit.specs.Needs.{Need, needed, need_view, needs_view}
 use Rattle.jt_inherit.specs.declared.error.ChainError.{ChainError}
 use Rattle.jt_inherit.specs.declared.error.ChainError.TheVariants as error
 use Rattle.jt_inherit.specs.declared.statements.Include.{Include}
-use Rattle.jt_inherit.proofs.Among.{same, reflexive, or_true, or_false, once_more, among_front, among_behind}
+use Rattle.jt_inherit.proofs.Among.{same, reflexive, or_true, or_false, once_more, among_front, among_behind, among_cases}
 use Rattle.jt_inherit.proofs.Leads.{last_at}
 
 -- ---- names among others
@@ -25,14 +25,6 @@ text_among (y ∷ xs) zero x e =
     let h : y ≡ x = cc in
     ap (λ b. b || among x xs) (ap (λ z. bytes_eq z x) h ∙ reflexive x)
 text_among (y ∷ xs) (suc i) x e = or_true (bytes_eq y x) (among x xs) (text_among xs i x e)
-
-pub among_cases : (x : Text) (xs ys : List Text) → among x (xs ++ ys) ≡ true → (among x xs ≡ true) ⊎ (among x ys ≡ true)
-among_cases x [] ys h = inr h
-among_cases x (y ∷ xs) ys h = by (bytes_eq y x) refl (among_cases x xs ys)
-  where
-    by : (b : Bool) → bytes_eq y x ≡ b → (among x (xs ++ ys) ≡ true → (among x xs ≡ true) ⊎ (among x ys ≡ true)) → (among x (y ∷ xs) ≡ true) ⊎ (among x ys ≡ true)
-    by true e r = inl (ap (λ b. b || among x xs) e)
-    by false e r = ⊎_elim (λ p. inl (or_true (bytes_eq y x) (among x xs) p)) (λ q. inr q) (r (sym (ap (λ b. b || among x (xs ++ ys)) e) ∙ h))
 
 -- ---- those that are known
 
@@ -187,7 +179,7 @@ number_fault old ks x e a once f =
 
 -- ---- a refusal where a template is included
 
-asked_at : (all : Bool) (ns : List Include) (k : ℕ) (d : Include) → k < length ns → (all || not (get_or ns k d).ignoring) ≡ true → among (get_or ns k d).name.now (needed all (needs_view ns)) ≡ true
+pub asked_at : (all : Bool) (ns : List Include) (k : ℕ) (d : Include) → k < length ns → (all || not (get_or ns k d).ignoring) ≡ true → among (get_or ns k d).name.now (needed all (needs_view ns)) ≡ true
 asked_at all [] k d lt e = absurd (omega arith)
 asked_at all (n ∷ ns) zero d lt e =
     ap (λ b. among n.name.now ((if b then n.name.now ∷ [] else []) ++ needed all (needs_view ns))) e ∙ ap (λ b. b || among n.name.now (needed all (needs_view ns))) (reflexive n.name.now)

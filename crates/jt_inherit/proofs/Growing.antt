@@ -1,5 +1,5 @@
--- Chains that reach one another do so when more is read.
-use Rattle.std.proofs.Common.{◌≡◌, ℕ, zero, suc, Bool, true, false, cond, ◌||◌, List, [], ◌∷◌, ◌++◌, map, refl, sym, ap, subst, ◌∙◌, Option, Some, None}
+-- Chains that reach one another, and ask for names, do so when more is read.
+use Rattle.std.proofs.Common.{◌≡◌, ℕ, zero, suc, ◌≤◌, arith, ◌⊎◌, ⊎_elim, Bool, true, false, cond, ◌||◌, List, [], ◌∷◌, ◌++◌, map, refl, sym, ap, subst, ◌∙◌, Option, Some, None}
 use Rattle.std.specs.Prelude.{flat_map, filter}
 use Rattle.std.specs.Option.{is_some}
 use Rattle.std.specs.Str.{bytes_eq}
@@ -8,9 +8,9 @@ use Rattle.jt_parse.specs.Texts.{among}
 use Rattle.jt_parse.specs.Trees.{Text, Body}
 use Rattle.jt_inherit.specs.Chain.{Sources, Template, template, templates, extends_of, parent_of, names_up, sources_in}
 use Rattle.jt_inherit.specs.Includes.{included, needs_in}
-use Rattle.jt_inherit.specs.Rules.{Reaches, here, through}
-use Rattle.jt_inherit.proofs.Among.{same, or_true, among_front}
-use Rattle.jt_inherit.proofs.Leads.{Grows, more_sources}
+use Rattle.jt_inherit.specs.Rules.{Asks, Reaches, here, through, asked, way}
+use Rattle.jt_inherit.proofs.Among.{same, reflexive, or_true, among_front, among_behind, among_cases}
+use Rattle.jt_inherit.proofs.Leads.{more_sources}
 
 -- ---- what is among the names that pass a test
 
@@ -46,51 +46,61 @@ none_up : (s : Sources) (k : ℕ) → names_up s k None ≡ []
 none_up s zero = refl
 none_up s (suc k) = refl
 
-up_some : (s : Sources) (k : ℕ) (n : Text) (b : Body) → s n ≡ Some b → flat_map (λ m. template m (s m)) (names_up s (suc k) (Some n)) ≡ template n (Some b) ++ flat_map (λ m. template m (s m)) (names_up s k (extends_of b))
+pub up_some : (s : Sources) (k : ℕ) (n : Text) (b : Body) → s n ≡ Some b → flat_map (λ m. template m (s m)) (names_up s (suc k) (Some n)) ≡ template n (Some b) ++ flat_map (λ m. template m (s m)) (names_up s k (extends_of b))
 up_some s k n b e = ap (λ o. template n o ++ flat_map (λ m. template m (s m)) (names_up s k (parent_of o))) e
 
 up_none : (s : Sources) (k : ℕ) (n : Text) → s n ≡ None → flat_map (λ m. template m (s m)) (names_up s (suc k) (Some n)) ≡ []
 up_none s k n e = ap (λ o. template n o ++ flat_map (λ m. template m (s m)) (names_up s k (parent_of o))) e ∙ ap (flat_map (λ m. template m (s m))) (none_up s k)
 
-more_up : (s r : Sources) → Grows s r → (k : ℕ) (o : Option Text) → (rest : List Template) × (flat_map (λ n. template n (r n)) (names_up r k o) ≡ flat_map (λ n. template n (s n)) (names_up s k o) ++ rest)
-more_up s r g zero o = ([], refl)
-more_up s r g (suc k) None = ([], refl)
-more_up s r g (suc k) (Some n) = by (s n) refl (λ b. more_up s r g k (extends_of b))
+-- the first sources of these names are among the others
+abbrev pub Carries : Sources → Sources → List Text → Type 0
+Carries s r xs = (n : Text) → among n xs ≡ true → (b : Body) → s n ≡ Some b → r n ≡ Some b
+
+pub carries_up : (s r : Sources) (k : ℕ) (n : Text) (b : Body) → r n ≡ Some b → Carries s r (names_up r (suc k) (Some n)) → Carries s r (names_up r k (extends_of b))
+carries_up s r k n b e g m a =
+    g m (or_true (bytes_eq n m) (among m (names_up r k (parent_of (r n)))) (ap (λ o. among m (names_up r k (parent_of o))) e ∙ a))
+
+pub front_carried : (s r : Sources) (k : ℕ) (n : Text) → Carries s r (names_up r (suc k) (Some n)) → (b : Body) → s n ≡ Some b → r n ≡ Some b
+front_carried s r k n g b e = g n (ap (λ c. c || among n (names_up r k (parent_of (r n)))) (reflexive n)) b e
+
+-- the names on the way, and the templates, are the first of those where more is read
+pub names_more : (s r : Sources) (k : ℕ) (o : Option Text) → Carries s r (names_up r k o) → (rest : List Text) × (names_up r k o ≡ names_up s k o ++ rest)
+names_more s r zero o g = ([], refl)
+names_more s r (suc k) None g = ([], refl)
+names_more s r (suc k) (Some n) g = by (s n) refl (λ b e. names_more s r k (extends_of b) (carries_up s r k n b (front_carried s r k n g b e) g))
+  where
+    by : (o : Option Body) → s n ≡ o → ((b : Body) → s n ≡ Some b → (rest : List Text) × (names_up r k (extends_of b) ≡ names_up s k (extends_of b) ++ rest)) → (rest : List Text) × (names_up r (suc k) (Some n) ≡ names_up s (suc k) (Some n) ++ rest)
+    by None e f = (names_up r k (parent_of (r n)), sym (ap (λ o. n ∷ names_up s k (parent_of o) ++ names_up r k (parent_of (r n))) e ∙ ap (λ l. n ∷ l ++ names_up r k (parent_of (r n))) (none_up s k)))
+    by (Some b) e f =
+        let more = f b e in
+        (more.0, ap (λ o. n ∷ names_up r k (parent_of o)) (front_carried s r k n g b e) ∙ ap (λ l. n ∷ l) more.1 ∙ sym (ap (λ o. n ∷ names_up s k (parent_of o) ++ more.0) e))
+
+pub templates_more : (s r : Sources) (k : ℕ) (o : Option Text) → Carries s r (names_up r k o)
+    → (rest : List Template) × (flat_map (λ n. template n (r n)) (names_up r k o) ≡ flat_map (λ n. template n (s n)) (names_up s k o) ++ rest)
+templates_more s r zero o g = ([], refl)
+templates_more s r (suc k) None g = ([], refl)
+templates_more s r (suc k) (Some n) g = by (s n) refl (λ b e. templates_more s r k (extends_of b) (carries_up s r k n b (front_carried s r k n g b e) g))
   where
     by : (o : Option Body) → s n ≡ o
-        → ((b : Body) → (rest : List Template) × (flat_map (λ m. template m (r m)) (names_up r k (extends_of b)) ≡ flat_map (λ m. template m (s m)) (names_up s k (extends_of b)) ++ rest))
+        → ((b : Body) → s n ≡ Some b → (rest : List Template) × (flat_map (λ m. template m (r m)) (names_up r k (extends_of b)) ≡ flat_map (λ m. template m (s m)) (names_up s k (extends_of b)) ++ rest))
         → (rest : List Template) × (flat_map (λ m. template m (r m)) (names_up r (suc k) (Some n)) ≡ flat_map (λ m. template m (s m)) (names_up s (suc k) (Some n)) ++ rest)
     by None e f = (flat_map (λ m. template m (r m)) (names_up r (suc k) (Some n)), sym (ap (λ l. l ++ flat_map (λ m. template m (r m)) (names_up r (suc k) (Some n))) (up_none s k n e)))
-    by (Some b) e f = (
-      (f b).0,
-      up_some r k n b (g n b e) ∙ ap (λ l. template n (Some b) ++ l) (f b).1 ∙ sym (ap (λ l. l ++ (f b).0) (up_some s k n b e)),
-    )
+    by (Some b) e f =
+        let more = f b e in
+        (more.0, up_some r k n b (front_carried s r k n g b e) ∙ ap (λ l. template n (Some b) ++ l) more.1 ∙ sym (ap (λ l. l ++ more.0) (up_some s k n b e)))
 
-flat-append : {X Y : Type 0} (f : X → List Y) (xs ys : List X) → flat_map f (xs ++ ys) ≡ flat_map f xs ++ flat_map f ys
+-- the first names on the way, and more of them
+pub up_more : (s : Sources) (m k : ℕ) (o : Option Text) → k ≤ m → (rest : List Text) × (names_up s m o ≡ names_up s k o ++ rest)
+up_more s m zero o le = (names_up s m o, refl)
+up_more s zero (suc k) o le = absurd (omega arith)
+up_more s (suc m) (suc k) None le = ([], refl)
+up_more s (suc m) (suc k) (Some n) le =
+    let more = up_more s m k (parent_of (s n)) (omega (arith, le)) in
+    (more.0, ap (λ l. n ∷ l) more.1)
+
+pub flat-append : {X Y : Type 0} (f : X → List Y) (xs ys : List X) → flat_map f (xs ++ ys) ≡ flat_map f xs ++ flat_map f ys
 flat-append f [] ys = refl
 flat-append f (x ∷ xs) ys = ap (λ l. f x ++ l) (flat-append f xs ys) ∙ sym (append_assoc (f x) (flat_map f xs) (flat_map f ys))
-
--- ---- what a chain includes as sources grow
-
-module _ (s r : Sources) (g : Grows s r) where
-  still_some : (n : Text) → is_some (s n) ≡ true → is_some (r n) ≡ true
-  still_some n h = by (s n) refl h
-    where
-      by : (o : Option Body) → s n ≡ o → is_some o ≡ true → is_some (r n) ≡ true
-      by None e k = absurd (cc)
-      by (Some b) e k = ap is_some (g n b e)
-
-  pub included_grows : (h m : Text) → among m (included s h) ≡ true → among m (included r h) ≡ true
-  included_grows h m a =
-      let more = more_up s r g 16 (Some h) in
-      let f : Template → List Text = λ t. needs_in true t.body in
-      let k = among_passes (λ n. is_some (s n)) m (flat_map f (templates s h)) a in
-      let e : flat_map f (templates r h) ≡ flat_map f (templates s h) ++ flat_map f more.0 = ap (flat_map f) more.1 ∙ flat-append f (templates s h) more.0 in
-      passes_among (λ n. is_some (r n)) m (flat_map f (templates r h)) (ap (among m) e ∙ among_front m (flat_map f (templates s h)) (flat_map f more.0) k.0) (still_some m k.1)
-
-  pub reaches_grows : (escaping : Bool) {h k : Text} → Reaches s escaping h k → Reaches r escaping h k
-  reaches_grows escaping here = here
-  reaches_grows escaping (through {h} {m} a rest) = through (included_grows h m a) (reaches_grows escaping rest)
 
 -- ---- ways of chains, one behind the other
 
@@ -102,5 +112,57 @@ pub reaches_next : {s : Sources} {e : Bool} {h k m : Text} → Reaches s e h k �
 reaches_next here a = through a here
 reaches_next (through b r) a = through b (reaches_next r a)
 
+-- ---- what is reached, and asked for, where what is asked for there has the same source
+
+module _ (s r : Sources) (e : Bool) (entry : Text) (g : (n : Text) (b : Body) → Asks r e entry n → s n ≡ Some b → r n ≡ Some b) where
+  pub on_way : (h : Text) → Reaches r e entry h → Carries s r (way r e h)
+  on_way h p n a b = g n b (h, p, among_front n (way r e h) (flat_map (λ t. needs_in true t.body) (templates r h)) a)
+
+  -- the first 16 names are among the first 17
+  pub on_first : (h : Text) → Reaches r e entry h → Carries s r (names_up r 16 (Some h))
+  on_first h p n a b =
+      let more = up_more r 17 16 (Some h) (omega arith) in
+      on_way h p n (ap (among n) more.1 ∙ among_front n (names_up r 16 (Some h)) more.0 a) b
+
+  pub needs_more : (all : Bool) (h : Text) → Reaches r e entry h → (n : Text) → among n (flat_map (λ t. needs_in all t.body) (templates s h)) ≡ true → among n (flat_map (λ t. needs_in all t.body) (templates r h)) ≡ true
+  needs_more all h p n a =
+      let f : Template → List Text = λ t. needs_in all t.body in
+      let more = templates_more s r 16 (Some h) (on_first h p) in
+      ap (among n) (ap (flat_map f) more.1 ∙ flat-append f (templates s h) more.0) ∙ among_front n (flat_map f (templates s h)) (flat_map f more.0) a
+
+  pub asked_more : (all : Bool) (h : Text) → Reaches r e entry h → (n : Text) → among n (asked s e all h) ≡ true → among n (asked r e all h) ≡ true
+  asked_more all h p n a =
+      let theirs = flat_map (λ t. needs_in all t.body) (templates r h) in
+      let more = names_more s r 17 (Some h) (on_way h p) in
+      ⊎_elim
+      (λ q. among_front n (way r e h) theirs (ap (among n) more.1 ∙ among_front n (way s e h) more.0 q))
+      (λ q. among_behind n (way r e h) theirs (needs_more all h p n q))
+      (among_cases n (way s e h) (flat_map (λ t. needs_in all t.body) (templates s h)) a)
+
+  pub included_more : (h : Text) → Reaches r e entry h → (m : Text) → among m (included s h) ≡ true → among m (included r h) ≡ true
+  included_more h p m a =
+      let k = among_passes (λ n. is_some (s n)) m (flat_map (λ t. needs_in true t.body) (templates s h)) a in
+      let needed = needs_more true h p m k.0 in
+      passes_among (λ n. is_some (r n)) m (flat_map (λ t. needs_in true t.body) (templates r h)) needed
+      (by (s m) refl k.1 (h, p, among_behind m (way r e h) (flat_map (λ t. needs_in true t.body) (templates r h)) needed))
+    where
+      by : (o : Option Body) → s m ≡ o → is_some o ≡ true → Asks r e entry m → is_some (r m) ≡ true
+      by None q t i = absurd (cc)
+      by (Some b) q t i = ap is_some (g m b i q)
+
+  pub reaches_more : {h k : Text} → Reaches r e entry h → Reaches s e h k → Reaches r e h k
+  reaches_more p here = here
+  reaches_more p (through {h} {m} a rest) = through (included_more h p m a) (reaches_more (reaches_next p (included_more h p m a)) rest)
+
+  pub asks_more : (n : Text) → Asks s e entry n → Asks r e entry n
+  asks_more n x =
+      let p = reaches_more here x.1 in
+      (x.0, p, asked_more true x.0 p n x.2)
+
 pub reach_more : (ts us more : List Template) (e : Bool) (h k : Text) → us ≡ ts ++ more → Reaches (sources_in ts) e h k → Reaches (sources_in us) e h k
-reach_more ts us more e h k grown r = subst (λ vs. Reaches (sources_in vs) e h k) (sym grown) (reaches_grows (sources_in ts) (sources_in (ts ++ more)) (more_sources ts more) e r)
+reach_more ts us more e h k grown r =
+    subst (λ vs. Reaches (sources_in vs) e h k) (sym grown) (reaches_more (sources_in ts) (sources_in (ts ++ more)) e h (λ n b i. more_sources ts more n b) here r)
+
+pub ask_more : (ts us more : List Template) (e : Bool) (h n : Text) → us ≡ ts ++ more → Asks (sources_in ts) e h n → Asks (sources_in us) e h n
+ask_more ts us more e h n grown i =
+    subst (λ vs. Asks (sources_in vs) e h n) (sym grown) (asks_more (sources_in ts) (sources_in (ts ++ more)) e h (λ m b k. more_sources ts more m b) n i)

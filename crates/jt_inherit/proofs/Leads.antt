@@ -1,5 +1,5 @@
 -- Ways that go on, and what is known of them.
-use Rattle.std.proofs.Common.{◌≡◌, ℕ, zero, suc, ◌+◌, ◌-◌, ◌<◌, ◌≤◌, ◌==◌, Bool, true, false, not, ◌&&◌, ◌||◌, if◌then◌else◌, List, [], ◌∷◌, ◌++◌, length, map, drop, get_or, refl, sym, ap, subst, ◌∙◌, arith, inl, Option, Some, None, IsTrue, length-append, string_bytes}
+use Rattle.std.proofs.Common.{◌≡◌, ℕ, zero, suc, ◌+◌, ◌-◌, ◌<◌, ◌≤◌, ◌==◌, Bool, true, false, not, ◌&&◌, ◌||◌, if◌then◌else◌, List, [], ◌∷◌, ◌++◌, length, map, drop, get_or, refl, sym, ap, subst, ◌∙◌, arith, inl, inr, ◌⊎◌, ⊎_elim, Option, Some, None, IsTrue, length-append, string_bytes}
 use Rattle.std.specs.Prelude.{flat_map, slice_get}
 use Rattle.std.specs.Option.{option_to_list}
 use Rattle.std.proofs.lemmas.Option.{slice_get_within, slice_get-get_or}
@@ -11,7 +11,7 @@ use Rattle.jt_parse.specs.Texts.{among, repeated}
 use Rattle.jt_parse.specs.Trees.{Text, Body, end}
 use Rattle.jt_inherit.specs.Along.{ArePlaces, templates_at}
 use Rattle.jt_inherit.specs.Chain.{Sources, Template, template, templates, extends_of, parent_of, names_up, sources_in}
-use Rattle.jt_inherit.specs.Chains.{Given, AreRead, IsRead}
+use Rattle.jt_inherit.specs.Chains.{Given, IsRead, IsOnly}
 use Rattle.jt_inherit.specs.Faults.{IsFaultOf}
 use Rattle.jt_inherit.specs.Includes.{needs_in}
 use Rattle.jt_inherit.specs.Pages.{page_view, pages_view}
@@ -155,15 +155,16 @@ all_at_places P ts (i ∷ is) a = by (slice_get ts i) refl (all_at_places P ts i
 
 -- ---- what is known as one more is read
 
-pub known_more : (given : Given) (options : Options) (ts : List Template) (ks : List Text) (t : Template) → AreKnown given options ts ks → among t.name ks ≡ false → IsRead given options t → IsWithin given t
+pub known_more : (given : Given) (options : Options) (ts : List Template) (ks : List Text) (t : Template) → AreKnown given options ts ks → among t.name ks ≡ false → IsRead given options t → IsOnly given options t → IsWithin given t
     → AreKnown given options (ts ++ t ∷ []) (ks ++ t.name ∷ [])
-known_more given options ts ks t k new r i =
+known_more given options ts ks t k new r only i =
     let fresh : among t.name (names ts) ≡ false = ap (among t.name) (sym k.named) ∙ new in
     record {
       read = record {
         each = all_more (IsRead given options) ts t k.read.each r;
         once = ap repeated (map_more (λ (u : Template). u.name) ts t) ∙ once_more t.name (names ts) k.read.once fresh;
       };
+      only = all_more (IsOnly given options) ts t k.only only;
       within = all_more (IsWithin given) ts t k.within i;
       named = ap (λ l. l ++ t.name ∷ []) k.named ∙ sym (map_more (λ (u : Template). u.name) ts t);
     }
@@ -213,7 +214,7 @@ way_next ts h is i t n w at is_named new once lt =
 
 -- ---- a chain that is reached, and what is wrong on its way
 
-module _ (given : Given) (options : Options) (root : Text) (ts : List Template) (read : AreRead given options ts) (h : Text) (r : Reaches (sources_in ts) options.autoescape root h) where
+module _ (given : Given) (options : Options) (root : Text) (ts : List Template) {ks : List Text} (known : AreKnown given options ts ks) (h : Text) (r : Reaches (sources_in ts) options.autoescape root h) where
   pub cycle_breaks : (is : List ℕ) (n : Text) → IsWay ts h is (Some n) → among n (names (templates_at ts is)) ≡ true → Breaks error.ExtendsCycle given root options
   cycle_breaks is n w there =
       let s = sources_in ts in
@@ -221,7 +222,8 @@ module _ (given : Given) (options : Options) (root : Text) (ts : List Template) 
       let up : names_up s (length us + 1) (Some h) ≡ names us ++ n ∷ [] = names_lead s (length us + 1) 1 (Some h) us (Some n) refl w.leads in
       record {
         templates = ts;
-        read = read;
+        read = known.read;
+        only = known.only;
         holds = (h, r, (length us + 1, ap repeated up ∙ comes_again n (names us) there));
       }
 
@@ -233,7 +235,8 @@ module _ (given : Given) (options : Options) (root : Text) (ts : List Template) 
       let up : way s options.autoescape h ≡ names us ++ n ∷ [] = names_lead s 17 1 (Some h) us (Some n) (omega (arith, len)) w.leads in
       record {
         templates = ts;
-        read = read;
+        read = known.read;
+        only = known.only;
         holds = inl (h, r, subst (λ xs. ((length xs == 17) && not (repeated xs)) ≡ true) (sym up) (seventeen n us len (once_more n (names us) w.once new)));
       }
     where
@@ -245,21 +248,23 @@ module _ (given : Given) (options : Options) (root : Text) (ts : List Template) 
   -- a refusal of a template that the chain asks for
   pub asked_breaks : (n : Text) (e : ChainError) → among n (asked (sources_in ts) options.autoescape true h) ≡ true → (e ≡ error.Missing → among n (asked (sources_in ts) options.autoescape false h) ≡ true)
       → IsFaultOf e given n options → Breaks e given root options
-  asked_breaks n error.Missing a must f = record { name = n; reached = record { templates = ts; read = read; holds = (h, r, must refl) }; found = f }
-  asked_breaks n error.BadName a must f = record { templates = ts; read = read; holds = (h, r, (n, a, f)) }
+  asked_breaks n error.Missing a must f = record { name = n; reached = record { templates = ts; read = known.read; only = known.only; holds = (h, r, must refl) }; found = f }
+  asked_breaks n error.BadName a must f = record { templates = ts; read = known.read; only = known.only; holds = (h, r, (n, a, f)) }
   asked_breaks n (error.Scan m e) a must f =
       record {
-        reached = record { templates = ts; read = read; holds = (h, r, ap (λ x. among x (asked (sources_in ts) options.autoescape true h)) f.0 ∙ a) };
+        reached = record { templates = ts; read = known.read; only = known.only; holds = (h, r, ap (λ x. among x (asked (sources_in ts) options.autoescape true h)) f.0 ∙ a) };
         source = f.1.0;
         found = ap given f.0 ∙ f.1.1;
         fault = f.1.2;
+        none = f.1.3;
       }
   asked_breaks n (error.Parse m e) a must f =
       record {
-        reached = record { templates = ts; read = read; holds = (h, r, ap (λ x. among x (asked (sources_in ts) options.autoescape true h)) f.0 ∙ a) };
+        reached = record { templates = ts; read = known.read; only = known.only; holds = (h, r, ap (λ x. among x (asked (sources_in ts) options.autoescape true h)) f.0 ∙ a) };
         source = f.1.0;
         found = ap given f.0 ∙ f.1.1;
         fault = f.1.2;
+        none = f.1.3;
       }
   asked_breaks n error.NoMemory a must f = tt
   asked_breaks n error.ExtendsCycle a must f = absurd f
@@ -313,6 +318,21 @@ way_turn ts us more e h is js i n m o t w new lt once at same_name longer there 
     let named : t.name ≡ m = cc in
     let next = way_next us h is i t n grown there (named ∙ same_name) fresh once lt in
     subst (λ z. IsWay us h z o) (sym longer) (subst (IsWay us h (is ++ i ∷ [])) (sym ext) next)
+
+-- what was new before, and the template that is put on the way
+pub way_from : (ts us more : List Template) → us ≡ ts ++ more → (is js : List ℕ) (i : ℕ) (n m : Text) (t : Template) → ArePlaces ts is → slice_get (names us) i ≡ Some m → m ≡ n → js ≡ is ++ i ∷ [] → slice_get us i ≡ Some t → (k0 k1 k2 : List Text)
+    → ((x : Text) → among x k1 ≡ true → (among x k0 ≡ true) ⊎ (among x (names (templates_at ts is)) ≡ true)) → ((x : Text) → among x k2 ≡ true → (among x k1 ≡ true) ⊎ (x ≡ m))
+    → (x : Text) → among x k2 ≡ true → (among x k0 ≡ true) ⊎ (among x (names (templates_at us js)) ≡ true)
+way_from ts us more e is js i n m t places at same_name longer there k0 k1 k2 before last x a =
+    let told : Some t.name ≡ Some m = sym (name_of_slice us i t there) ∙ at in
+    let named : t.name ≡ m = cc in
+    let theirs : names (templates_at us js) ≡ names (templates_at ts is) ++ t.name ∷ [] =
+    ap (λ l. names (templates_at us l)) longer ∙ ap names (templates_more us is i t there) ∙ map_more (λ (u : Template). u.name) (templates_at us is) t
+    ∙ ap (λ l. names l ++ t.name ∷ []) (ap (λ l. templates_at l is) e ∙ templates_grow ts more is places) in
+    ⊎_elim
+    (λ p. ⊎_elim (λ q. inl q) (λ q. inr (ap (among x) theirs ∙ among_front x (names (templates_at ts is)) (t.name ∷ []) q)) (before x p))
+    (λ p. inr (ap (among x) theirs ∙ ap (λ y. among x (names (templates_at ts is) ++ y ∷ [])) (named ∙ sym p) ∙ among_next x (names (templates_at ts is)) []))
+    (last x a)
 
 pub grown_both : {X : Type 0} (xs ys zs us vs : List X) → ys ≡ xs ++ us → zs ≡ ys ++ vs → zs ≡ xs ++ (us ++ vs)
 grown_both xs ys zs us vs p q = q ∙ ap (λ l. l ++ vs) p ∙ append_assoc xs us vs

@@ -1,4 +1,5 @@
 pub mod Among
+pub mod Carried
 pub mod Checked
 pub mod Cuts
 pub mod Escapes
@@ -18,6 +19,7 @@ pub mod Ordered
 pub mod Placed
 pub mod Raws
 pub mod Ruled
+pub mod Settled
 pub mod Shown
 pub mod SuperIn
 pub mod Whole

@@ -11,7 +11,7 @@ use Rattle.jt_parse.specs.Bytes.{body_bytes}
 use Rattle.jt_parse.specs.Texts.{among, repeated}
 use Rattle.jt_parse.specs.Trees.{Text, Body}
 use Rattle.jt_inherit.specs.Chain.{Sources, Template, templates, extends_of, parent_of, names_up, sources_in, macros, all_bodies}
-use Rattle.jt_inherit.specs.Chains.{Given, AreRead, IsRead, IsComplete, IsChain}
+use Rattle.jt_inherit.specs.Chains.{Given, IsRead}
 use Rattle.jt_inherit.specs.Checks.{lacks_body, lacks_next}
 use Rattle.jt_inherit.specs.Includes.{included, needs_in, InOrder, AllIn}
 use Rattle.jt_inherit.specs.Kept.{KeepAll, BreakOne, their_blocks, their_macros, any_double}

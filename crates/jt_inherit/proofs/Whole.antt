@@ -1,6 +1,6 @@
 -- The chains that an entry reaches, all of them followed and checked, in an order of what they include.
-use Rattle.std.proofs.Common.{◌≡◌, ℕ, zero, suc, ◌+◌, ◌*◌, ◌<◌, ◌≤◌, ◌==◌, Bool, true, false, not, ◌&&◌, ◌||◌, if◌then◌else◌, nat_lt, List, [], ◌∷◌, ◌++◌, length, map, refl, sym, ap, subst, ◌∙◌, arith, inl, inr, ◌⊎◌, ⊎_elim, Option, Some, None, IsTrue, Vec, Global}
-use Rattle.std.specs.Prelude.{flat_map, slice_get, unwrap_or}
+use Rattle.std.proofs.Common.{◌≡◌, ◌≢◌, ◌↔◌, ℕ, zero, suc, ◌+◌, ◌*◌, ◌<◌, ◌≤◌, ◌==◌, Bool, true, false, not, ◌&&◌, ◌||◌, if◌then◌else◌, nat_lt, List, [], ◌∷◌, ◌++◌, length, map, refl, sym, ap, subst, ◌∙◌, arith, inl, inr, ◌⊎◌, ⊎_elim, Option, Some, None, IsTrue, Vec, Global}
+use Rattle.std.specs.Prelude.{slice_get, unwrap_or}
 use Rattle.std.specs.List.{AllByRecursion, list_any}
 use Rattle.std.specs.Option.{is_some, is_none}
 use Rattle.std.specs.Str.{bytes_eq}
@@ -15,10 +15,10 @@ use Rattle.jt_parse.specs.Texts.{among, repeated}
 use Rattle.jt_parse.specs.Trees.{Text, Body}
 use Rattle.jt_inherit.specs.Along.{ArePlaces, templates_at, includes_along}
 use Rattle.jt_inherit.specs.Chain.{Template, templates, sources_in, names_up, macros, all_bodies}
-use Rattle.jt_inherit.specs.Chains.{Given, AreRead, IsRead, IsComplete, IsChain}
+use Rattle.jt_inherit.specs.Chains.{Given, IsRead, IsChain}
 use Rattle.jt_inherit.specs.Checks.{lacks_body, lacks_next}
 use Rattle.jt_inherit.specs.Found.{AreFound, IsFollowed, AreFollowed, IsMet, BreaksAt, HasHomes, chosen}
-use Rattle.jt_inherit.specs.Includes.{included, needs_in, InOrder}
+use Rattle.jt_inherit.specs.Includes.{included, InOrder}
 use Rattle.jt_inherit.specs.Kept.{KeepAll, BreakOne, their_blocks, their_macros, any_double}
 use Rattle.jt_inherit.specs.Names.{IsName}
 use Rattle.jt_inherit.specs.Needs.{Need, needed}
@@ -27,19 +27,19 @@ use Rattle.jt_inherit.specs.Places.{home_at}
 use Rattle.jt_inherit.specs.Refusals.{Breaks}
 use Rattle.jt_inherit.specs.Refused.{gives}
 use Rattle.jt_inherit.specs.Rules as rules
-use Rattle.jt_inherit.specs.Rules.{Reaches, here, asked, way, is_whole, KeepsRules}
+use Rattle.jt_inherit.specs.Rules.{Asks, Reaches, here, asked, way, is_whole, KeepsRules}
 use Rattle.jt_inherit.specs.Small.{templates_weight, templates_len, chains_weight, chains_len}
-use Rattle.jt_inherit.specs.Ways.{IsWay, IsWithin}
+use Rattle.jt_inherit.specs.View.{Seen}
+use Rattle.jt_inherit.specs.Ways.{AreKnown, IsWay, IsWithin}
 use Rattle.jt_inherit.specs.declared.error.ChainError.{ChainError}
 use Rattle.jt_inherit.specs.declared.error.ChainError.TheVariants as error
 use Rattle.jt_inherit.specs.declared.linked.Home.{Home}
-use Rattle.jt_inherit.proofs.Among.{same, both_false, or_true, or_false}
+use Rattle.jt_inherit.proofs.Among.{same, both_false, or_true, or_false, among_cases}
 use Rattle.jt_inherit.proofs.Fewer.{few_chains}
-use Rattle.jt_inherit.proofs.Finding.{placed_templates, includes_told, included_is, whole_way, some_source}
-use Rattle.jt_inherit.proofs.Following.{among_cases, text_among}
+use Rattle.jt_inherit.proofs.Finding.{none_read, few_way, way_names, asked_way, placed_templates, included_is, whole_way, some_source}
+use Rattle.jt_inherit.proofs.Following.{text_among}
 use Rattle.jt_inherit.proofs.Growing.{reaches_then}
-use Rattle.jt_inherit.proofs.Leads.{names, names_to_root, few_templates, all_at_places}
-use Rattle.jt_inherit.proofs.Needed.{by_templates}
+use Rattle.jt_inherit.proofs.Leads.{names, few_templates, all_at_places}
 use Rattle.jt_inherit.proofs.OnWay.{never, and_false, and_true, too_few, few_names, all_named, have_sources, all_among, repeated_up, weigh, names_placed}
 use Rattle.jt_inherit.proofs.Ordered.{home_there, home_among, number_of, names_in_order, reached_in_order, no_cycle, first_in_order, no_more, named_among}
 use Rattle.jt_inherit.proofs.Placed.{length-map, given_templates}
@@ -153,41 +153,29 @@ module _ (given : Given) (ts : List Template) where
 
 -- ---- a chain that was followed
 
-module _ (given : Given) (options : Options) (ts : List Template) (read : AreRead given options ts) (h : Text) (is : List ℕ) (w : IsWay ts h is None) where
-  few : length (templates_at ts is) ≤ 16
-  few = omega (arith, few_templates ts is, w.few)
-
-  pub up : way (sources_in ts) options.autoescape h ≡ names (templates_at ts is)
-  up = names_to_root (sources_in ts) 17 (Some h) (templates_at ts is) (omega (arith, few)) w.leads
-
+module _ (given : Given) (options : Options) (ts : List Template) {ks : List Text} (known : AreKnown given options ts ks) (h : Text) (is : List ℕ) (w : IsWay ts h is None) where
   held : AllByRecursion (λ t. sources_in ts t.name ≡ Some t.body) (templates_at ts is)
   held = subst (AllByRecursion (λ t. sources_in ts t.name ≡ Some t.body)) (whole_way ts h is w) (given_templates (sources_in ts) h)
-
-  pub asked_is : (all : Bool) → asked (sources_in ts) options.autoescape all h ≡ names (templates_at ts is) ++ needed all (includes_along ts is)
-  asked_is all =
-      ap (λ xs. xs ++ flat_map (λ t. needs_in all t.body) (templates (sources_in ts) h)) up
-      ∙ ap (λ us. names (templates_at ts is) ++ flat_map (λ t. needs_in all t.body) us) (whole_way ts h is w)
-      ∙ ap (λ xs. names (templates_at ts is) ++ xs) (sym (by_templates all (templates_at ts is)) ∙ ap (needed all) (sym (includes_told ts is w.places)))
 
   pub is_one : is_whole (sources_in ts) options.autoescape h ≡ true
   is_one =
       let us = templates_at ts is in
       let s = sources_in ts in
-      subst (λ xs. (not (repeated xs) && (nat_lt (length xs) 17 && not (list_any (λ n. is_none (s n)) xs))) ≡ true) (sym up)
+      subst (λ xs. (not (repeated xs) && (nat_lt (length xs) 17 && not (list_any (λ n. is_none (s n)) xs))) ≡ true) (sym (way_names ts options.autoescape h is w))
       (and_true (not (repeated (names us))) (nat_lt (length (names us)) 17 && not (list_any (λ n. is_none (s n)) (names us))) (ap not w.once)
-      (and_true (nat_lt (length (names us)) 17) (not (list_any (λ n. is_none (s n)) (names us))) (few_names (length (names us)) (omega (arith, few, length-map (λ (t : Template). t.name) us)))
+      (and_true (nat_lt (length (names us)) 17) (not (list_any (λ n. is_none (s n)) (names us))) (few_names (length (names us)) (omega (arith, few_way ts options.autoescape h is w, length-map (λ (t : Template). t.name) us)))
       (ap not (have_sources s us held))))
 
   -- a rule on blocks or macros that is broken
   pub one_breaks : (root : Text) → Reaches (sources_in ts) options.autoescape root h → (e : ChainError) → BreakOne options.autoescape (templates_at ts is) e → Breaks e given root options
   one_breaks root r error.DoubleBlock b =
-      record { templates = ts; read = read; holds = (h, r, subst (λ us. any_double options.autoescape us ≡ true) (sym (whole_way ts h is w)) b) }
+      record { templates = ts; read = known.read; only = known.only; holds = (h, r, subst (λ us. any_double options.autoescape us ≡ true) (sym (whole_way ts h is w)) b) }
   one_breaks root r error.RequiredNotGiven b =
-      record { templates = ts; read = read; holds = (h, r, and_true (is_whole (sources_in ts) options.autoescape h) (lacks_body (all_bodies (sources_in ts) options.autoescape h)) is_one (subst (λ us. lacks_body (their_blocks options.autoescape us) ≡ true) (sym (whole_way ts h is w)) b)) }
+      record { templates = ts; read = known.read; only = known.only; holds = (h, r, and_true (is_whole (sources_in ts) options.autoescape h) (lacks_body (all_bodies (sources_in ts) options.autoescape h)) is_one (subst (λ us. lacks_body (their_blocks options.autoescape us) ≡ true) (sym (whole_way ts h is w)) b)) }
   one_breaks root r error.NoSuper b =
-      record { templates = ts; read = read; holds = (h, r, and_true (is_whole (sources_in ts) options.autoescape h) (lacks_next (all_bodies (sources_in ts) options.autoescape h)) is_one (subst (λ us. lacks_next (their_blocks options.autoescape us) ≡ true) (sym (whole_way ts h is w)) b)) }
+      record { templates = ts; read = known.read; only = known.only; holds = (h, r, and_true (is_whole (sources_in ts) options.autoescape h) (lacks_next (all_bodies (sources_in ts) options.autoescape h)) is_one (subst (λ us. lacks_next (their_blocks options.autoescape us) ≡ true) (sym (whole_way ts h is w)) b)) }
   one_breaks root r error.MacroTwice b =
-      record { templates = ts; read = read; holds = (h, r, and_true (is_whole (sources_in ts) options.autoescape h) (repeated (map (λ m. m.name) (macros (sources_in ts) h))) is_one (subst (λ us. repeated (map (λ m. m.name) (their_macros options.autoescape us)) ≡ true) (sym (whole_way ts h is w)) b)) }
+      record { templates = ts; read = known.read; only = known.only; holds = (h, r, and_true (is_whole (sources_in ts) options.autoescape h) (repeated (map (λ m. m.name) (macros (sources_in ts) h))) is_one (subst (λ us. repeated (map (λ m. m.name) (their_macros options.autoescape us)) ≡ true) (sym (whole_way ts h is w)) b)) }
   one_breaks root r error.NoMemory b = tt
   one_breaks root r error.Missing b = absurd b
   one_breaks root r error.BadName b = absurd b
@@ -200,14 +188,14 @@ module _ (given : Given) (options : Options) (ts : List Template) (read : AreRea
   module _ (met : AllByRecursion (IsMet given (names ts)) (includes_along ts is)) where
     pub none_missing : list_any (λ n. is_none (sources_in ts n)) (asked (sources_in ts) options.autoescape false h) ≡ false
     none_missing =
-        ap (list_any (λ n. is_none (sources_in ts n))) (asked_is false)
+        ap (list_any (λ n. is_none (sources_in ts n))) (asked_way ts options.autoescape h is w false)
         ∙ any_both (λ n. is_none (sources_in ts n)) (names (templates_at ts is)) (needed false (includes_along ts is)) (have_sources (sources_in ts) (templates_at ts is) held) (needs_sources given ts (includes_along ts is) met)
 
     pub all_asked : (P : Text → Type 0) → AllByRecursion (λ t. P t.name) (templates_at ts is) → ((n : Need) → IsMet given (names ts) n → P n.name) → (x : Text) → among x (asked (sources_in ts) options.autoescape true h) ≡ true → P x
     all_asked P a f x i = ⊎_elim
         (λ p. all_among P (templates_at ts is) x a p)
         (λ q. needs_met given ts P f (includes_along ts is) met x q)
-        (among_cases x (names (templates_at ts is)) (needed true (includes_along ts is)) (sym (ap (among x) (asked_is true)) ∙ i))
+        (among_cases x (names (templates_at ts is)) (needed true (includes_along ts is)) (sym (ap (among x) (asked_way ts options.autoescape h is w true)) ∙ i))
 
 -- ---- all chains
 
@@ -231,7 +219,7 @@ module _ (given : Given) (options : Options) (entry : Text) (ts : List Template)
   chain_breaks e b =
       let i = b.number in
       let lt : i < length hs = omega (arith, b.within, all) in
-      one_breaks given options ts f.known.read (home_at hs i) (next_of ws i) (number i lt).led entry (reached (home_at hs i) (home_among hs i lt)) e b.broken
+      one_breaks given options ts f.known (home_at hs i) (next_of ws i) (number i lt).led entry (reached (home_at hs i) (home_among hs i lt)) e b.broken
 
   -- ---- a cycle of numbers is one of chains
 
@@ -252,6 +240,7 @@ module _ (given : Given) (options : Options) (entry : Text) (ts : List Template)
   cycle_breaks c = record {
     templates = ts;
     read = f.known.read;
+    only = f.known.only;
     holds = (home_at hs c.0, reached (home_at hs c.0) (home_among hs c.0 (begins_at c.1)), along c.1);
   }
 
@@ -302,10 +291,10 @@ module _ (given : Given) (options : Options) (entry : Text) (ts : List Template)
     keeps = record {
       missing = λ x.
           let k = way_reached x.1 in
-          never (list_any (λ n. is_none (sources_in ts n)) (asked (sources_in ts) options.autoescape false x.0)) (none_missing given options ts f.known.read x.0 k.0 k.1 k.3) x.2;
+          never (list_any (λ n. is_none (sources_in ts n)) (asked (sources_in ts) options.autoescape false x.0)) (none_missing given options ts f.known x.0 k.0 k.1 k.3) x.2;
       bad_name = λ x.
           let k = way_reached x.1 in
-          x.2.2 (all_asked given options ts f.known.read x.0 k.0 k.1 k.3 IsName (all_at_places (λ t. IsName t.name) ts k.0 (all_named given options ts f.known.read.each)) named_met x.2.0 x.2.1);
+          x.2.2 (all_asked given options ts f.known x.0 k.0 k.1 k.3 IsName (all_at_places (λ t. IsName t.name) ts k.0 (all_named given options ts f.known.read.each)) named_met x.2.0 x.2.1);
       extends_cycle = λ x.
           let k = way_reached x.1 in
           never (repeated (names (templates_at ts k.0))) k.1.once (repeated_up (sources_in ts) x.2.0 (Some x.0) (templates_at ts k.0) k.1.leads x.2.1);
@@ -315,7 +304,7 @@ module _ (given : Given) (options : Options) (entry : Text) (ts : List Template)
           let us = templates_at ts k.0 in
           let le : length us ≤ 16 = omega (arith, few_templates ts k.0, k.1.few) in
           never ((length (way (sources_in ts) options.autoescape y.0) == 17) && not (repeated (way (sources_in ts) options.autoescape y.0)))
-          (ap (λ xs. (length xs == 17) && not (repeated xs)) (up given options ts f.known.read y.0 k.0 k.1) ∙ too_few (length (names us)) (not (repeated (names us))) (omega (arith, le, length-map (λ (t : Template). t.name) us))) y.2)
+          (ap (λ xs. (length xs == 17) && not (repeated xs)) (way_names ts options.autoescape y.0 k.0 k.1) ∙ too_few (length (names us)) (not (repeated (names us))) (omega (arith, le, length-map (λ (t : Template). t.name) us))) y.2)
           (λ y.
           let le = no_more y.0 hs (not_true (repeated y.0) y.2) (λ h a. in_homes h (ordered (y.3 h a))) in
           let gt : 1024 < length y.0 = y.1 in
@@ -344,20 +333,30 @@ module _ (given : Given) (options : Options) (entry : Text) (ts : List Template)
         not_true true e = absurd (cc)
         not_true false e = refl
 
-    complete : (h : Text) → among h hs ≡ true → IsComplete given (record { templates = ts; order = map (home_at hs) is; escaping = options.autoescape }) h
-    complete h a =
-        let k = way_of h a in
-        λ n i. all_asked given options ts f.known.read h k.0 k.1 k.3 (λ x. (among x (names ts) ≡ true) ⊎ (given x ≡ None))
+    abbrev pub chain : Seen
+    chain = record { templates = ts; order = map (home_at hs) is; escaping = options.autoescape }
+
+    -- what is asked for is read, or has no source
+    complete : (n : Text) → Asks (sources_in ts) options.autoescape entry n → (among n (names ts) ≡ true) ⊎ (given n ≡ None)
+    complete n x =
+        let k = way_reached x.1 in
+        all_asked given options ts f.known x.0 k.0 k.1 k.3 (λ x. (among x (names ts) ≡ true) ⊎ (given x ≡ None))
         (all_at_places (λ t. (among t.name (names ts) ≡ true) ⊎ (given t.name ≡ None)) ts k.0 (each_known ts (λ x p. p)))
-        (λ m p. ⊎_elim (λ q. inl q) (λ q. inr q.2) p) n i
+        (λ m p. ⊎_elim (λ q. inl q) (λ q. inr q.2) p) n x.2
       where
         each_known : (us : List Template) → ((x : Text) → among x (names us) ≡ true → among x (names ts) ≡ true) → AllByRecursion (λ t. (among t.name (names ts) ≡ true) ⊎ (given t.name ≡ None)) us
         each_known [] g = tt
         each_known (u ∷ us) g = (inl (g u.name (text_among (names (u ∷ us)) 0 u.name refl)), each_known us (λ x p. g x (or_true (bytes_eq u.name x) (among x (names us)) p)))
 
-    all_complete : (js : List ℕ) → AllByRecursion (λ i. i < length hs) js → AllByRecursion (IsComplete given (record { templates = ts; order = map (home_at hs) is; escaping = options.autoescape })) (map (home_at hs) js)
-    all_complete [] w = tt
-    all_complete (j ∷ js) w = (complete (home_at hs j) (home_among hs j w.0), all_complete js w.1)
+    -- the templates are those that are asked for and that the library has
+    templates_asked : (n : Text) → (among n (names ts) ≡ true) ↔ (Asks (sources_in ts) options.autoescape entry n × (given n ≢ None))
+    templates_asked n = (
+      λ a. (
+        subst (λ z. Asks (sources_in ts) options.autoescape z n) root (f.asked n (ap (among n) f.known.named ∙ a)),
+        λ none. let no : true ≡ false = sym a ∙ none_read given options ts n f.known.read.each none in absurd (cc),
+      ),
+      λ p. ⊎_elim (λ a. a) (λ none. absurd (p.1 none)) (complete n p.0),
+    )
 
     begins : (rest : List Text) × (map (home_at hs) is ≡ entry ∷ rest)
     begins = from is in_order entry_in within
@@ -372,15 +371,15 @@ module _ (given : Given) (options : Options) (entry : Text) (ts : List Template)
     all_reached [] w = tt
     all_reached (j ∷ js) w = (reached (home_at hs j) (home_among hs j w.0), all_reached js w.1)
 
-    pub chained : IsChain given entry options (record { templates = ts; order = map (home_at hs) is; escaping = options.autoescape })
+    pub chained : IsChain given entry options chain
     chained = record {
+      escaping = refl;
       read = f.known.read;
-      complete = all_complete is within;
+      asked = templates_asked;
       included = begins.0;
       begins = begins.1;
       reached = all_reached is within;
       order = in_order;
-      escaping = refl;
       rules = keeps;
     }
 

@@ -1,5 +1,5 @@
 -- Which chains an entry begins in a library.
-use Rattle.std.specs.Prelude.{◌≡◌, ◌<◌, ◌≤◌, ◌⊎◌, Bool, true, false, ℕ, List, ◌∷◌, [], Option, Some, None, length, map, chars, IsTrue}
+use Rattle.std.specs.Prelude.{◌≡◌, ◌≢◌, ◌≤◌, ◌↔◌, false, ℕ, List, ◌∷◌, Option, Some, None, length, map, chars, IsTrue}
 use Rattle.std.specs.List.{AllByRecursion}
 use Rattle.jt_scan.specs.Cut.{Segment, IsCut}
 use Rattle.jt_scan.specs.LineEnds.{normalized}
@@ -9,11 +9,10 @@ use Rattle.jt_parse.specs.Kept.{pieces}
 use Rattle.jt_parse.specs.Names.{body_unknown}
 use Rattle.jt_parse.specs.Texts.{among, repeated}
 use Rattle.jt_parse.specs.Trees.{Text, Body, body_levels}
-use Rattle.jt_inherit.specs.Chain.{Home, Template, sources_in}
+use Rattle.jt_inherit.specs.Chain.{Home, Template}
 use Rattle.jt_inherit.specs.Includes.{InOrder}
 use Rattle.jt_inherit.specs.Names.{IsName}
-use Rattle.jt_inherit.specs.Rules as rules
-use Rattle.jt_inherit.specs.Rules.{KeepsRules, asked}
+use Rattle.jt_inherit.specs.Rules.{Asks, Reaches, KeepsRules}
 use Rattle.jt_inherit.specs.View.{Seen, sources_of}
 
 -- the source of each name, as it is given
@@ -34,6 +33,10 @@ pub record IsTree (options : Options) (source : Text) (body : Body) : Type 0 whe
   pub levels : body_levels body ≤ 100
   pub known : body_unknown body ≡ None
 
+-- it spells none
+abbrev pub HasNoTree : Options → Text → Type 0
+HasNoTree options source = (b : Body) → IsTree options source b → ⊥
+
 -- the library has a source of the template's name, which is a name that a template may have, and it is a source of the template's tree
 pub record IsRead (given : Given) (options : Options) (t : Template) : Type 0 where
   pub named : IsName t.name
@@ -41,23 +44,23 @@ pub record IsRead (given : Given) (options : Options) (t : Template) : Type 0 wh
   pub found : given t.name ≡ Some source
   pub tree : IsTree options source t.body
 
+-- no other tree is read by its name
+abbrev pub IsOnly : Given → Options → Template → Type 0
+IsOnly given options t = (b : Body) → IsRead given options (record { name = t.name; body = b }) → b ≡ t.body
+
 -- templates of the library, each once
 pub record AreRead (given : Given) (options : Options) (ts : List Template) : Type 0 where
   pub each : AllByRecursion (IsRead given options) ts
   pub once : repeated (map (λ t. t.name) ts) ≡ false
 
--- each name that the chain asks for is read, or has no source
-abbrev pub IsComplete : Given → Seen → Home → Type 0
-IsComplete given c h = (n : Text) → IsTrue (among n (asked (sources_of c) c.escaping true h)) → IsTrue (among n (map (λ t. t.name) c.templates)) ⊎ (given n ≡ None)
-
--- the chain of an entry, with those that its includes reach: it breaks no rule of chains
+-- The chain of an entry, with those that its includes reach: it breaks no rule of chains. Its templates are those that are asked for and
+-- that the library has, and its chains those that are reached.
 pub record IsChain (given : Given) (entry : Text) (options : Options) (c : Seen) : Type 0 where
+  pub escaping : c.escaping ≡ options.autoescape
   pub read : AreRead given options c.templates
-  pub complete : AllByRecursion (IsComplete given c) c.order
+  pub asked : (n : Text) → IsTrue (among n (map (λ t. t.name) c.templates)) ↔ (Asks (sources_of c) c.escaping entry n × (given n ≢ None))
   pub included : List Home
   pub begins : c.order ≡ entry ∷ included
-  -- each chain is the entry's or reached by includes
-  pub reached : AllByRecursion (λ h. rules.Reaches (sources_of c) c.escaping entry h) c.order
+  pub reached : AllByRecursion (λ h. Reaches (sources_of c) c.escaping entry h) c.order
   pub order : InOrder (sources_of c) c.order
-  pub escaping : c.escaping ≡ options.autoescape
   pub rules : KeepsRules (sources_of c) c.escaping entry

@@ -15,7 +15,7 @@ use Rattle.jt_inherit.specs.Names.{IsName}
 use Rattle.jt_inherit.specs.Needs.{Need, needed}
 use Rattle.jt_inherit.specs.Pages.{pages_view, home_name}
 use Rattle.jt_inherit.specs.Places.{home_at}
-use Rattle.jt_inherit.specs.Rules.{Reaches}
+use Rattle.jt_inherit.specs.Rules.{Asks, Reaches}
 use Rattle.jt_inherit.specs.SetView.{strings}
 use Rattle.jt_inherit.specs.Ways.{AreKnown, IsWay}
 use Rattle.jt_inherit.specs.declared.discovery.Found.{Found}
@@ -83,6 +83,7 @@ AreFollowed given ts hs (g ∷ gs) (w ∷ ws) (n ∷ ns) = IsFollowed given ts h
 -- the templates that were read, and the chains that were found, the entry's first
 pub record AreFound (given : Given) (options : Options) (ts : List Template) (names hs : List Text) (ways next : List (List ℕ)) : Type 0 where
   pub known : AreKnown given options ts names
+  pub asked : (n : Text) → IsTrue (among n names) → Asks (sources_in ts) options.autoescape (home_at hs 0) n
   pub some : 0 < length hs
   pub once : repeated hs ≡ false
   pub few : length hs ≤ 1024

@@ -1,6 +1,7 @@
 -- What a refusal says of a library and an entry. What has been read shows the broken rule: templates that are not read count as names
 -- without a source, which breaks no rule but the one that a source is missing.
-use Rattle.std.specs.Prelude.{◌≡◌, ◌≢◌, ◌<◌, true, false, IsTrue, List, Some, None, length, map, string_bytes}
+use Rattle.std.specs.Prelude.{◌≡◌, ◌≢◌, ◌<◌, false, IsTrue, List, Some, None, length, map, string_bytes}
+use Rattle.std.specs.List.{AllByRecursion}
 use Rattle.jt_scan.specs.Cut.{Segment, IsCut}
 use Rattle.jt_scan.specs.Refused as scanner
 use Rattle.jt_scan.specs.declared.error.ScanError.{ScanError}
@@ -12,8 +13,8 @@ use Rattle.jt_parse.specs.Texts.{among}
 use Rattle.jt_parse.specs.Trees.{Text}
 use Rattle.jt_parse.specs.declared.error.ParseError.{ParseError}
 use Rattle.jt_parse.specs.declared.error.ParseError.TheVariants as parse_error
-use Rattle.jt_inherit.specs.Chain.{Sources, Home, Template, sources_in}
-use Rattle.jt_inherit.specs.Chains.{Given, scanned, AreRead}
+use Rattle.jt_inherit.specs.Chain.{Sources, Template, sources_in}
+use Rattle.jt_inherit.specs.Chains.{Given, scanned, HasNoTree, AreRead, IsOnly}
 use Rattle.jt_inherit.specs.Rules as rules
 use Rattle.jt_inherit.specs.Rules.{Somewhere, asked}
 use Rattle.jt_inherit.specs.declared.error.ChainError.{ChainError}
@@ -32,22 +33,20 @@ pub record IsUnspelled (e : ParseError) (options : Options) (source : Text) : Ty
   pub cut : IsCut segments (scanned options source)
   pub refused : parser.IsRefusal e (pieces (map (λ s. (options, s)) segments))
 
--- templates that were read on the way from the entry, of which this holds
+-- templates that were read on the way from the entry, and that can be read in no other way, of which this holds
 pub record Shows (given : Given) (options : Options) (P : Sources → Type 0) : Type 0 where
   pub templates : List Template
   pub read : AreRead given options templates
+  pub only : AllByRecursion (IsOnly given options) templates
   pub holds : P (sources_in templates)
 
--- some chain that is reached asks for the name; with true, also where it may be missing
-abbrev pub Asks : Options → Text → Text → Sources → Type 0
-Asks options entry n sources = Somewhere sources options.autoescape entry (λ h. IsTrue (among n (asked sources options.autoescape true h)))
-
--- a name that is asked for has a source with the fault
+-- a name that is asked for has a source with the fault, which spells no tree
 pub record HasFault (given : Given) (entry : Text) (options : Options) (n : Text) (P : Text → Type 0) : Type 0 where
-  pub reached : Shows given options (Asks options entry n)
+  pub reached : Shows given options (λ s. rules.Asks s options.autoescape entry n)
   pub source : Text
   pub found : given n ≡ Some source
   pub fault : P source
+  pub none : HasNoTree options source
 
 -- a name that is asked for, and may not be missing, has no source
 pub record IsMissing (given : Given) (entry : Text) (options : Options) : Type 0 where

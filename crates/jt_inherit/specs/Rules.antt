@@ -40,6 +40,10 @@ module _ (sources : Sources) (escaping : Bool) where
   abbrev pub Somewhere : Home → (Home → Type 0) → Type 0
   Somewhere entry P = (h : Home) × Reaches entry h × P h
 
+  -- some chain that is reached asks for the name, if only where it may be missing
+  abbrev pub Asks : Home → Text → Type 0
+  Asks entry n = Somewhere entry (λ h. IsTrue (among n (asked true h)))
+
   -- the way to the root ends within 16 templates, and each of them has a source
   abbrev pub is_whole : Home → Bool
   is_whole h = not (repeated (way h)) && (nat_lt (length (way h)) 17 && not (list_any (λ n. is_none (sources n)) (way h)))

@@ -1,14 +1,10 @@
 -- Names that trees read or bind, and chains that they include.
-use Rattle.std.specs.Prelude.{ℕ, suc, if◌then◌else◌, List, [], ◌∷◌, ◌++◌, map, flat_map, Option, Some, None}
+use Rattle.std.specs.Prelude.{if◌then◌else◌, List, [], ◌∷◌, ◌++◌, map, flat_map, Option, Some, None}
 use Rattle.jt_expr.specs.Trees.{Expr, constant, name, group, list_of, map_of, attribute, item, call, filter, test, unary, binary, when, choice, Exprs, no_exprs, expr, Pairs, no_pairs, pair}
+pub use Rattle.jt_expr.specs.Trees.{count}
 use Rattle.jt_inherit.specs.Chain.{is_loop, Sources, Home, templates}
 use Rattle.jt_parse.specs.Texts.{ascending}
 use Rattle.jt_parse.specs.Trees.{Text, Filtering, Stmt, data_of, print, choose, for_each, set, set_block, with_values, filter_block, autoescape, macro, include, extends, block, Body, end, stmt, Branches, no_branches, branch}
-
--- how many arguments are given by place
-abbrev pub count : Exprs → ℕ
-count no_exprs = 0
-count (expr a ts) = suc (count ts)
 
 -- the names of arguments that are given by name, or the keys of a map
 abbrev pub keywords : Pairs → List Text

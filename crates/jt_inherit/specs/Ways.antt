@@ -7,7 +7,7 @@ use Rattle.jt_parse.specs.Trees.{Text, body_weight}
 use Rattle.jt_scan.specs.declared.options.Options.{Options}
 use Rattle.jt_inherit.specs.Along.{ArePlaces, templates_at}
 use Rattle.jt_inherit.specs.Chain.{Sources, Template, extends_of, sources_in}
-use Rattle.jt_inherit.specs.Chains.{Given, AreRead, IsRead}
+use Rattle.jt_inherit.specs.Chains.{Given, AreRead, IsOnly}
 use Rattle.jt_inherit.specs.Small.{source_len}
 
 -- these templates are the next ones on the way from a name, and behind them comes the last name, if any
@@ -21,9 +21,10 @@ pub record IsWithin (given : Given) (t : Template) : Type 0 where
   pub weighs : body_weight t.body ≤ source_len (given t.name)
   pub short : body_bytes t.body ≤ source_len (given t.name)
 
--- the templates that were read: each once, and no tree is longer than its source. Their names are kept beside them
+-- the templates that were read: each once, in the only way, and no tree is longer than its source. Their names are kept beside them
 pub record AreKnown (given : Given) (options : Options) (ts : List Template) (names : List Text) : Type 0 where
   pub read : AreRead given options ts
+  pub only : AllByRecursion (IsOnly given options) ts
   pub within : AllByRecursion (IsWithin given) ts
   pub named : names ≡ map (λ t. t.name) ts
 

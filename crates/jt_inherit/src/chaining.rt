@@ -1,10 +1,11 @@
 //! The chain that an entry begins.
 
-ghost use Rattle.std.specs.Prelude.{◌≡◌, ◌+◌, ◌*◌, ◌<◌, ◌≤◌, length, OnOk, IfOk, IfErr};
+ghost use Rattle.std.specs.Prelude.{◌≡◌, ◌+◌, ◌*◌, ◌<◌, ◌≤◌, length, OnOk, IfOk, IfErr, MatchResult};
 ghost use Rattle.std.specs.List.{AllByRecursion};
 ghost use Rattle.jt_order.specs.Graph.{next_of};
 ghost use Rattle.jt_order.specs.View.{graph_of};
 ghost use Rattle.jt_parse.specs.Bytes.{body_bytes};
+ghost use Rattle.jt_parse.specs.Trees.{Text};
 ghost use Rattle.jt_inherit.specs.Along.{ArePlaces, templates_at};
 ghost use Rattle.jt_inherit.specs.Chains.{IsChain};
 ghost use Rattle.jt_inherit.specs.Found.{BreaksAt, HasHomes, found_homes, found_templates};
@@ -13,7 +14,7 @@ ghost use Rattle.jt_inherit.specs.Pages.{home_name};
 ghost use Rattle.jt_inherit.specs.Places.{home_at};
 ghost use Rattle.jt_inherit.specs.Refusals.{Breaks};
 ghost use Rattle.jt_inherit.specs.Small.{chains_weight, chains_len, source_len};
-ghost use Rattle.jt_inherit.specs.View.{chain_view, sources_of};
+ghost use Rattle.jt_inherit.specs.View.{Seen, chain_view, sources_of};
 
 use crate::discovery::{Found, discover};
 use crate::error::ChainError;
@@ -39,6 +40,9 @@ pub fn chain<L: Library>(
 ) -> Result<Chain, ChainError>
     // every source is read, and no rule of chains is broken
     ensures chained { IfOk result (λ c. IsChain (L.sources library.now) entry.now options (chain_view c)) }
+    // the entry has no other chain, but for the order of templates and chains; where it has one, only memory can want
+    ensures only { (d : Seen) → IsChain (L.sources library.now) entry.now options d →
+        MatchResult result (λ c. (n : Text) → sources_of (chain_view c) n ≡ sources_of d n) (λ e. e ≡ ChainError.NoMemory) }
     // the rule that is named is broken
     ensures refused { IfErr result (λ e. Breaks e (L.sources library.now) entry.now options) }
     // the trees weigh no more than their sources have bytes, each counted once for each chain

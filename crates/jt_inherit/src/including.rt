@@ -1,13 +1,13 @@
 //! What the templates of a chain include: the templates, and the chains that begin there.
 
-ghost use Rattle.std.specs.Prelude.{◌≡◌, ◌≤◌, ◌++◌, ◌∷◌, [], ◌⊎◌, false, List, length, slice_get, Some, OnOk, IfOk, IfErr, if◌then◌else◌};
+ghost use Rattle.std.specs.Prelude.{◌≡◌, ◌≤◌, ◌++◌, ◌∷◌, [], ◌⊎◌, true, false, List, length, slice_get, Some, OnOk, IfOk, IfErr, IsTrue, if◌then◌else◌};
 ghost use Rattle.std.specs.List.{AllByRecursion};
 ghost use Rattle.jt_parse.specs.Texts.{among, repeated};
 ghost use Rattle.jt_parse.specs.Trees.{Text};
 ghost use Rattle.jt_inherit.specs.Along.{ArePlaces, includes_along};
 ghost use Rattle.jt_inherit.specs.Chain.{Template};
 ghost use Rattle.jt_inherit.specs.Found.{IsMet, IsFaultAt, IsNeedFault, AreNext, AddsNext, IsNextFault, known_of, chosen};
-ghost use Rattle.jt_inherit.specs.Needs.{need_view, needs_view};
+ghost use Rattle.jt_inherit.specs.Needs.{need_view, needed, needs_view};
 ghost use Rattle.jt_inherit.specs.Pages.{pages_view};
 ghost use Rattle.jt_inherit.specs.SetView.{strings};
 ghost use Rattle.jt_inherit.specs.Ways.{AreKnown};
@@ -55,6 +55,7 @@ fn read_include<L: Library>(
     ensures known { OnOk result ((ts : List Template) → AreKnown (L.sources library.now) options (ts ++ pages_view fresh.old.items) (strings names.old.keys) →
         AreKnown (L.sources library.now) options (ts ++ pages_view fresh.new.items) (strings names.new.keys)) }
     ensures grown { OnOk result ((more : List Text) × (strings names.new.keys ≡ strings names.old.keys ++ more)) }
+    ensures from { OnOk result ((n : Text) → IsTrue (among n (strings names.new.keys)) → IsTrue (among n (strings names.old.keys)) ⊎ (n ≡ include.entry.name.now)) }
     ensures met { OnOk result (IsMet (L.sources library.now) (strings names.new.keys) (need_view include.entry)) }
     ensures refused { IfErr result (λ e. IsFaultAt (L.sources library.now) options (need_view include.entry) e) }
 {
@@ -83,6 +84,9 @@ pub(crate) fn read_includes<L: Library>(
     requires known { AreKnown (L.sources library.now) options (pages_view pages.now) (strings names.old.keys) }
     requires places { ArePlaces (pages_view pages.now) way.now }
     ensures known { IfOk result (λ fresh. AreKnown (L.sources library.now) options (pages_view pages.now ++ pages_view fresh.items) (strings names.new.keys)) }
+    // what is new is included
+    ensures from { OnOk result ((n : Text) → IsTrue (among n (strings names.new.keys)) → IsTrue (among n (strings names.old.keys)) ⊎
+        IsTrue (among n (needed true (includes_along (pages_view pages.now) way.now)))) }
     ensures met { OnOk result (AllByRecursion (IsMet (L.sources library.now) (strings names.new.keys)) (includes_along (pages_view pages.now) way.now)) }
     ensures refused { IfErr result (λ e. (e ≡ ChainError.NoMemory) ⊎ IsNeedFault (L.sources library.now) options (includes_along (pages_view pages.now) way.now) e) }
 {

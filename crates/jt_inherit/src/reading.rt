@@ -2,9 +2,9 @@
 
 ghost use Rattle.std.specs.Prelude.{◌≡◌, ◌≤◌, length, string_bytes, IfOk, IfErr};
 ghost use Rattle.jt_parse.specs.Bytes.{body_bytes};
-ghost use Rattle.jt_parse.specs.Trees.{body_weight};
+ghost use Rattle.jt_parse.specs.Trees.{Body, body_weight};
 ghost use Rattle.jt_parse.specs.View.{body_of};
-ghost use Rattle.jt_inherit.specs.Chains.{IsTree, IsRead};
+ghost use Rattle.jt_inherit.specs.Chains.{IsTree, IsRead, IsOnly};
 ghost use Rattle.jt_inherit.specs.Faults.{IsFault, IsFaultOf, IsScan, IsParse};
 ghost use Rattle.jt_inherit.specs.Names.{IsName};
 ghost use Rattle.jt_inherit.specs.Pages.{page_view};
@@ -27,6 +27,7 @@ pub(crate) fn read_page<L: Library>(
 ) -> Result<Page, ChainError>
     ensures named { IfOk result (λ p. string_bytes p.name ≡ name.now) }
     ensures read { IfOk result (λ p. IsRead (L.sources library.now) options (page_view p)) }
+    ensures only { IfOk result (λ p. IsOnly (L.sources library.now) options (page_view p)) }
     ensures within { IfOk result (λ p. IsWithin (L.sources library.now) (page_view p)) }
     ensures refused { IfErr result (λ e. IsFaultOf e (L.sources library.now) name.now options) }
     ensures missing { result ≡ Err ChainError.Missing → IsName name.now }
@@ -52,6 +53,7 @@ fn template_of(
     options: Options,
 ) -> Result<Template, ChainError>
     ensures spelled { IfOk result (λ t. IsTree options text.now (body_of t)) }
+    ensures only { (b : Body) → IsTree options text.now b → IfOk result (λ t. b ≡ body_of t) }
     ensures refused { IfErr result (λ e. IsFault e name.now options text.now) }
     ensures weighs { IfOk result (λ t. body_weight (body_of t) ≤ length text.now) }
     ensures short { IfOk result (λ t. body_bytes (body_of t) ≤ length text.now) }

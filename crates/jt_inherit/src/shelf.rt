@@ -1,7 +1,8 @@
 //! Templates that were read, each once, with their names beside them.
 
-ghost use Rattle.std.specs.Prelude.{◌≡◌, ◌++◌, ◌∷◌, [], false, List, map, slice_get, Some, OnOk, IfOk, IfErr, string_bytes};
+ghost use Rattle.std.specs.Prelude.{◌≡◌, ◌⊎◌, ◌++◌, ◌∷◌, [], false, List, map, slice_get, Some, OnOk, IfOk, IfErr, IsTrue, string_bytes};
 ghost use Rattle.jt_parse.specs.Texts.{among};
+ghost use Rattle.jt_parse.specs.Trees.{Text};
 ghost use Rattle.jt_inherit.specs.Chain.{Template};
 ghost use Rattle.jt_inherit.specs.Faults.{IsFaultOf};
 ghost use Rattle.jt_inherit.specs.Pages.{pages_view};
@@ -45,6 +46,7 @@ pub(crate) fn read_place<L: Library>(
     requires { AreKnown (L.sources library.now) options (pages_view pages.old.items) (strings names.old.keys) }
     ensures known { OnOk result (AreKnown (L.sources library.now) options (pages_view pages.new.items) (strings names.new.keys)) }
     ensures grown { OnOk result ((more : List Template) × (pages_view pages.new.items ≡ pages_view pages.old.items ++ more)) }
+    ensures from { OnOk result ((n : Text) → IsTrue (among n (strings names.new.keys)) → IsTrue (among n (strings names.old.keys)) ⊎ (n ≡ name.now)) }
     ensures place { IfOk result (λ i. slice_get (map (λ t. t.name) (pages_view pages.new.items)) i ≡ Some name.now) }
     ensures refused { IfErr result (λ e. IsFaultOf e (L.sources library.now) name.now options) }
 {

@@ -1,6 +1,6 @@
 //! The way from a chain's entry to the root.
 
-ghost use Rattle.std.specs.Prelude.{◌≡◌, ◌++◌, List, map, None, OnOk, IfOk, IfErr, option_map, string_bytes};
+ghost use Rattle.std.specs.Prelude.{◌≡◌, ◌⊎◌, ◌++◌, List, map, None, OnOk, IfOk, IfErr, IsTrue, option_map, string_bytes};
 ghost use Rattle.jt_parse.specs.Texts.{among};
 ghost use Rattle.jt_parse.specs.Trees.{Text};
 ghost use Rattle.jt_parse.specs.View.{body_of};
@@ -59,6 +59,9 @@ pub(crate) fn read_way<L: Library>(
     requires { AreKnown (L.sources library.now) options (pages_view pages.old.items) (strings names.old.keys) }
     ensures known { OnOk result (AreKnown (L.sources library.now) options (pages_view pages.new.items) (strings names.new.keys)) }
     ensures grown { OnOk result ((more : List Template) × (pages_view pages.new.items ≡ pages_view pages.old.items ++ more)) }
+    // what is new was on the way
+    ensures from { IfOk result (λ is. (n : Text) → IsTrue (among n (strings names.new.keys)) → IsTrue (among n (strings names.old.keys)) ⊎
+        IsTrue (among n (map (λ t. t.name) (templates_at (pages_view pages.new.items) is.items)))) }
     ensures way { IfOk result (λ is. IsWay (pages_view pages.new.items) entry.now is.items None) }
     // of any chain from which this one is reached
     ensures refused { IfErr result (λ e. (root : Text) → Reaches (sources_in (pages_view pages.old.items)) options.autoescape root entry.now →

@@ -1,5 +1,5 @@
 -- Programs of every form, their code, and runs of both, computed from the definitions.
-use Rattle.std.proofs.Common.{◌≡◌, Bool, ℕ, zero, suc, true, false, List, [], ◌∷◌, Some, None, refl, arith, subst}
+use Rattle.std.proofs.Common.{◌≡◌, Bool, ℕ, zero, suc, true, false, List, [], ◌∷◌, Some, refl, arith, subst}
 use Rattle.std.specs.Prelude.{pos, codes, slice_get}
 use Rattle.jt_value.specs.Tree as tree
 use Rattle.jt_value.specs.Tree.{Tree}

@@ -1,9 +1,9 @@
 -- Instructions put behind others, and jumps that are written when their target is known.
-use Rattle.std.proofs.Common.{◌≡◌, ℕ, ◌+◌, ◌<◌, ◌≤◌, ◌^◌, List, [], ◌∷◌, ◌++◌, length, map, refl, sym, ap, ◌∙◌, subst, arith, Option, None, append_assoc, append-nil, length-append}
+use Rattle.std.proofs.Common.{◌≡◌, ℕ, ◌+◌, ◌<◌, ◌^◌, List, [], ◌∷◌, ◌++◌, length, map, refl, sym, ap, ◌∙◌, subst, arith, Option, None, append_assoc, append-nil, length-append}
 use Rattle.std.specs.Prelude.{slice_set}
 use Rattle.std.specs.List.{AllByRecursion}
 use Rattle.std.proofs.Math.Seq.{set-append_seam}
-use Rattle.std.proofs.lemmas.List.{map-append, length-map, length-set}
+use Rattle.std.proofs.lemmas.List.{map-append, length-map}
 use Rattle.jt_image.specs.declared.instruction.Instruction.{Instruction}
 use Rattle.jt_image.specs.declared.instruction.Instruction.TheVariants as op
 use Rattle.jt_image.specs.declared.wire.Instr.{Instr}

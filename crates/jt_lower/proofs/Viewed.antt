@@ -1,9 +1,8 @@
 -- The forms of expressions that hold others, as contracts see them.
-use Rattle.std.proofs.Common.{◌≡◌, ℕ, ◌+◌, ◌<◌, ◌≤◌, List, [], ◌∷◌, length, drop, get_or, map, Option, Some, None, refl, sym, ap, ◌∙◌, suc, Bool, rules, Vec, Box, Global}
+use Rattle.std.proofs.Common.{◌≡◌, ℕ, ◌+◌, ◌<◌, List, [], ◌∷◌, length, drop, get_or, map, Option, refl, sym, ap, ◌∙◌, Bool, rules, Vec, Box, Global}
 use Rattle.std.proofs.lemmas.List.{drop_more}
 use Rattle.jt_slots.specs.Slots as slots
 use Rattle.jt_slots.specs.Slots.{SRow, none}
-use Rattle.jt_slots.specs.Size.{row_count}
 use Rattle.jt_slots.specs.View.{slot_view, field_view, maker_view, entry_front, row_front, expr_step, expr_view, row_view}
 use Rattle.jt_slots.specs.declared.program.Slot.{Slot}
 use Rattle.jt_slots.specs.declared.program.Field.{Field}

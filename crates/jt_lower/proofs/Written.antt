@@ -1,6 +1,6 @@
 -- Where an image's tables have place for a program, the fields of each instruction have place for what it holds.
-use Rattle.std.proofs.Common.{◌≡◌, ℕ, zero, suc, ◌+◌, max, ◌<◌, ◌≤◌, ◌^◌, Bool, true, false, ◌&&◌, if◌then◌else◌, List, [], ◌∷◌, ◌++◌, length, map, Option, Some, None, refl, sym, ap, ◌∙◌, subst, arith}
-use Rattle.std.specs.Prelude.{slice_get, nat_le, ◌==◌, IsTrue}
+use Rattle.std.proofs.Common.{◌≡◌, ℕ, zero, suc, ◌+◌, ◌<◌, ◌≤◌, ◌^◌, Bool, true, false, if◌then◌else◌, List, [], ◌∷◌, ◌++◌, length, map, Option, Some, None, refl, sym, ap, ◌∙◌, arith}
+use Rattle.std.specs.Prelude.{slice_get, ◌==◌, IsTrue}
 use Rattle.std.specs.List.{find, AllByRecursion}
 use Rattle.std.proofs.lemmas.Option.{slice_get_within}
 use Rattle.std.proofs.lemmas.Bool.Decides.{nat_tests}
@@ -15,7 +15,6 @@ use Rattle.jt_filters.specs.declared.filter_id.FilterId.TheVariants as filters
 use Rattle.jt_filters.specs.FilterTable as table
 use Rattle.jt_filters.specs.FilterTable.{filter_id}
 use Rattle.jt_filters.specs.FilterIds.{filter_of, accepts}
-use Rattle.jt_image.specs.declared.instruction.Instruction.{Instruction}
 use Rattle.jt_image.specs.declared.instruction.Instruction.TheVariants as op
 use Rattle.jt_image.specs.declared.loop_field.LoopField.{LoopField}
 use Rattle.jt_image.specs.declared.loop_field.LoopField.TheVariants as of_loop
@@ -25,14 +24,12 @@ use Rattle.jt_image.specs.IsCode.{IsInstruction, total_len, max_locals, max_inst
 use Rattle.jt_image.specs.Parts.{KeepsLimits}
 use Rattle.jt_image.specs.Typed.{max_entries}
 use Rattle.jt_slots.specs.Got.{Place}
-use Rattle.jt_slots.specs.Loops as loops
-use Rattle.jt_slots.specs.Loops.{Field}
 use Rattle.jt_slots.specs.Slots as slots
 use Rattle.jt_slots.specs.Slots.{Slot, local, global, Maker, SExpr, SRow, Targets, SStmt, SBody, Routine, Program}
 use Rattle.jt_slots.specs.Size.{row_count, targets_height, expr_height, row_height, condition_height, stmt_height, body_height}
 use Rattle.jt_lower.specs.Asm.{Asm, nil, one, both, choose, when, each, invoke, flat}
-use Rattle.jt_lower.specs.Lower.{half, flag, maker, told_as, load_of, store_of, store_if_of, expr_asm, row_asm, stores_asm, take_asm, turn_asm, over_asm, kept_asm, stmt_asm, body_asm, unit_of, constant_of, compiled}
-use Rattle.jt_lower.specs.Fits.{MakerFits, TakesRow, SlotFits, ExprFits, RowFits, SomeFits, SlotsFit, TargetsFit, ConditionFits, TextFits, StmtFits, BodyFits, RoutineFits, ProgramFits}
+use Rattle.jt_lower.specs.Lower.{half, flag, maker, told_as, load_of, store_of, store_if_of, expr_asm, row_asm, stores_asm, take_asm, kept_asm, stmt_asm, body_asm, unit_of, constant_of, compiled}
+use Rattle.jt_lower.specs.Fits.{MakerFits, TakesRow, SlotFits, ExprFits, RowFits, SomeFits, SlotsFit, TargetsFit, ConditionFits, StmtFits, BodyFits, RoutineFits, ProgramFits}
 use Rattle.jt_lower.proofs.Sized.{asm_size, flat_size}
 
 all_append : {A : Type 0} (P : A → Type 0) (xs ys : List A) → AllByRecursion P xs → AllByRecursion P ys → AllByRecursion P (xs ++ ys)
@@ -135,6 +132,7 @@ test_fits tests.Undefined = omega arith
 
 filter_fits : (x : FilterId) → filter_id x < 2 ^ 8
 filter_fits filters.Abs = omega arith
+filter_fits filters.Attr = omega arith
 filter_fits filters.Capitalize = omega arith
 filter_fits filters.Default = omega arith
 filter_fits filters.DictSort = omega arith
@@ -148,17 +146,23 @@ filter_fits filters.Last = omega arith
 filter_fits filters.Length = omega arith
 filter_fits filters.List = omega arith
 filter_fits filters.Lower = omega arith
+filter_fits filters.Map = omega arith
 filter_fits filters.Max = omega arith
 filter_fits filters.Min = omega arith
+filter_fits filters.Reject = omega arith
+filter_fits filters.RejectAttr = omega arith
 filter_fits filters.Replace = omega arith
 filter_fits filters.Reverse = omega arith
 filter_fits filters.Safe = omega arith
+filter_fits filters.Select = omega arith
+filter_fits filters.SelectAttr = omega arith
 filter_fits filters.Sort = omega arith
 filter_fits filters.String = omega arith
 filter_fits filters.Sum = omega arith
 filter_fits filters.Trim = omega arith
 filter_fits filters.Unique = omega arith
 filter_fits filters.Upper = omega arith
+filter_fits filters.MapAttribute = omega arith
 
 found_passes : {A : Type 0} (p : A → Bool) (xs : List A) (x : A) → find p xs ≡ Some x → p x ≡ true
 found_passes p [] x e = absurd cc

@@ -3,6 +3,7 @@
 ghost use Rattle.std.specs.Prelude.{◌≡◌, ℕ, Option, OnOk};
 ghost use Rattle.jt_slots.specs.Size.{row_count};
 ghost use Rattle.jt_slots.specs.Got.{Place};
+ghost use Rattle.jt_slots.specs.Slots as slots;
 ghost use Rattle.jt_slots.specs.Slots.{none};
 ghost use Rattle.jt_slots.specs.View.{expr_view, row_view};
 ghost use Rattle.jt_lower.specs.Lower.{expr_asm, row_asm};
@@ -37,34 +38,10 @@ pub fn emit_expression(code: &mut Emitter, expr: &SExpr, above: usize) -> Result
             code.put(made_of(*made, count_values(row)))?;
             Ok(())
         }
-        SExpr::Conjunction(left, right) => {
-            emit_expression(code, left, above)?;
-            code.put(Some(Instruction::Dup))?;
-            let choice = code.begin_choice()?;
-            code.put(Some(Instruction::Drop))?;
-            emit_expression(code, right, above)?;
-            let last = code.end_branch(choice)?;
-            code.close(last);
-            Ok(())
-        }
-        SExpr::Disjunction(left, right) => {
-            emit_expression(code, left, above)?;
-            code.put(Some(Instruction::Dup))?;
-            let choice = code.begin_choice()?;
-            let last = code.end_branch(choice)?;
-            code.put(Some(Instruction::Drop))?;
-            emit_expression(code, right, above)?;
-            code.close(last);
-            Ok(())
-        }
+        SExpr::Conjunction(left, right) => emit_conjunction(code, left, right, above),
+        SExpr::Disjunction(left, right) => emit_disjunction(code, left, right, above),
         SExpr::Choice(condition, taken, other) => {
-            emit_expression(code, condition, above)?;
-            let choice = code.begin_choice()?;
-            emit_expression(code, taken, above)?;
-            let last = code.end_branch(choice)?;
-            emit_expression(code, other, above)?;
-            code.close(last);
-            Ok(())
+            emit_choice(code, condition, taken, other, above)
         }
         SExpr::Invoke(routine, escaping, row) => {
             let printed = flag(*escaping);
@@ -75,6 +52,67 @@ pub fn emit_expression(code: &mut Emitter, expr: &SExpr, above: usize) -> Result
             Ok(())
         }
     }
+}
+
+/// Puts the code of `and` behind the others: the left value, and the right one in its place where that is true.
+#[cycle(expressions)]
+fn emit_conjunction(
+    code: &mut Emitter,
+    left: &SExpr,
+    right: &SExpr,
+    above: usize,
+) -> Result<(), AllocError>
+    ensures { OnOk result ((o : Option Place) (h : ℕ) → StandsFor above h → Puts code.old (expr_asm o (slots.conjunction (expr_view left.now) (expr_view right.now)) h) code.new) }
+{
+    emit_expression(code, left, above)?;
+    code.put(Some(Instruction::Dup))?;
+    let choice = code.begin_choice()?;
+    code.put(Some(Instruction::Drop))?;
+    emit_expression(code, right, above)?;
+    let last = code.end_branch(choice)?;
+    code.close(last);
+    Ok(())
+}
+
+/// Puts the code of `or` behind the others: the left value, and the right one in its place where that is false.
+#[cycle(expressions)]
+fn emit_disjunction(
+    code: &mut Emitter,
+    left: &SExpr,
+    right: &SExpr,
+    above: usize,
+) -> Result<(), AllocError>
+    ensures { OnOk result ((o : Option Place) (h : ℕ) → StandsFor above h → Puts code.old (expr_asm o (slots.disjunction (expr_view left.now) (expr_view right.now)) h) code.new) }
+{
+    emit_expression(code, left, above)?;
+    code.put(Some(Instruction::Dup))?;
+    let choice = code.begin_choice()?;
+    let last = code.end_branch(choice)?;
+    code.put(Some(Instruction::Drop))?;
+    emit_expression(code, right, above)?;
+    code.close(last);
+    Ok(())
+}
+
+/// Puts the code of a choice behind the others: the condition, and one of two values.
+#[cycle(expressions)]
+fn emit_choice(
+    code: &mut Emitter,
+    condition: &SExpr,
+    taken: &SExpr,
+    other: &SExpr,
+    above: usize,
+) -> Result<(), AllocError>
+    ensures { OnOk result ((o : Option Place) (h : ℕ) → StandsFor above h
+        → Puts code.old (expr_asm o (slots.choice (expr_view condition.now) (expr_view taken.now) (expr_view other.now)) h) code.new) }
+{
+    emit_expression(code, condition, above)?;
+    let choice = code.begin_choice()?;
+    emit_expression(code, taken, above)?;
+    let last = code.end_branch(choice)?;
+    emit_expression(code, other, above)?;
+    code.close(last);
+    Ok(())
 }
 
 /// How many values a row has: what is kept aside is none of them.

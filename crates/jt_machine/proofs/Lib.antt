@@ -3,3 +3,8 @@ pub mod Steps
 pub mod Taking
 pub mod Mapping
 pub mod Returning
+pub mod Emitting
+pub mod Pieces
+pub mod Slicing
+pub mod Sinking
+pub mod AtOnce

@@ -1,20 +1,27 @@
 //! Runs verified images under budgets.
 #![tactic(auto)]
 
+mod at_once;
 mod calls;
 mod captures;
 mod items;
 mod limits;
 mod loops;
+mod machine;
 mod making;
 mod maps;
 mod outcome;
 mod parts;
 mod runs;
+mod sink;
 mod start;
 mod state;
 mod step;
 mod unpacking;
+mod writing;
 
-pub use outcome::Outcome;
-pub use runs::run;
+pub use machine::{Machine, session_laws};
+pub use outcome::{Ended, Outcome, Progress};
+pub use runs::{run, run_view};
+pub use sink::{IoSink, Sink, SinkFailed};
+pub use writing::{RunToError, run_to};

@@ -10,3 +10,19 @@ pub enum Outcome {
     Fault(Fault),
     Spent(Spent),
 }
+
+/// How a run ends whose text is written as it is made: whole, with a fault of the template, or with a number of the budget that did
+/// not suffice.
+#[derive(Clone, Copy, Debug, PartialEq, Eq)]
+pub enum Ended {
+    Whole,
+    Fault(Fault),
+    Spent(Spent),
+}
+
+/// Whether a run that was carried on goes on still.
+#[derive(Clone, Copy, Debug, PartialEq, Eq)]
+pub enum Progress {
+    Going,
+    Done,
+}

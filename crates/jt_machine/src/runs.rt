@@ -8,13 +8,14 @@ ghost use Rattle.jt_image.specs.Config as config;
 ghost use Rattle.jt_image.specs.Run.{Run, IsSafe};
 ghost use Rattle.jt_machine.specs.View.{budget_view, outcome_view};
 
+use crate::at_once::hurry;
 use crate::outcome::Outcome;
 use crate::start::{context_passes, start};
 use crate::step::step;
 use jt_budget::Budget;
 use jt_image::{Code, code_laws};
 use jt_value::{Context, NoMemory};
-use jt_verify::Verified;
+use jt_verify::{Verified, VerifiedView};
 use std::alloc::Global;
 
 /// Runs an image for a context under a budget. `NoMemory` is answered only where a growth was refused.
@@ -31,6 +32,22 @@ pub fn run(
 {
     code_laws();
     run_code(alloc, verified.image(), context, budget)
+}
+
+/// Runs a code in place, as `run` does an image. `NoMemory` is answered only where a growth was refused.
+pub fn run_view(
+    alloc: Global,
+    verified: &VerifiedView<'_>,
+    context: &Context,
+    budget: Budget,
+) -> Result<Outcome, NoMemory>
+    // The outcome is that of the run.
+    ensures outcome { IfOk result (λ o. Run verified.now (pairs_of context.now) (budget_view budget) (outcome_view o)) }
+    // Every run of the code has one outcome, stays within its fuel and is never wrong.
+    ensures safe { (x : Pairs) (b : config.Budget) → IsSafe verified.now x b }
+{
+    code_laws();
+    run_code(alloc, verified.code(), context, budget)
 }
 
 // Runs a typed code.
@@ -51,6 +68,7 @@ fn run_code<C: Code>(
     let _depth = budget.depth;
     let mut state = start(alloc, code, context, budget)?;
     'steps: loop {
+        hurry(code, &mut state);
         if let Some(outcome) = step(alloc, code, &mut state)? {
             return Ok(outcome);
         }

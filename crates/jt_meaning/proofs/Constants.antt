@@ -1,34 +1,27 @@
 -- What is resolved has at most as many constants of its own as it has tokens.
-use Rattle.std.proofs.Common.{◌≡◌, ℕ, zero, suc, ◌+◌, ◌*◌, max, min, ◌≤◌, Bool, true, false, if◌then◌else◌, List, [], ◌∷◌, ◌++◌, length, Option, Some, None, arith, refl, sym, subst, length-append}
+use Rattle.std.proofs.Common.{◌≡◌, ℕ, zero, suc, ◌+◌, ◌*◌, min, ◌≤◌, Bool, true, false, if◌then◌else◌, List, [], ◌∷◌, ◌++◌, length, Option, Some, None, arith, refl, sym, subst, length-append}
 use Rattle.std.specs.Option.{is_none}
-use Rattle.std.specs.List.{AllByRecursion}
-use Rattle.std.specs.Str.{bytes_eq}
-use Rattle.std.specs.Prelude.{codes, map, pos}
+use Rattle.std.specs.Prelude.{pos}
 use Rattle.jt_value.specs.Tree as tree
-use Rattle.jt_ops.specs.declared.op_id.OpId.{OpId}
 use Rattle.jt_ops.specs.declared.op_id.OpId.TheVariants as op
 use Rattle.jt_ops.specs.declared.test_id.TestId.{TestId}
-use Rattle.jt_expr.specs.Trees as written
-use Rattle.jt_expr.specs.Trees.{Expr, Literal, constant, name, group, list_of, map_of, attribute, item, call, filter, test, unary, binary, when, choice, Exprs, no_exprs, expr, Pairs, no_pairs, pair, weight, literal_weight, operator_weight, is_weight, enclosed, perhaps_enclosed, exprs_weight, pairs_weight}
-use Rattle.jt_expr.specs.declared.tree.BinaryOperator.{BinaryOperator}
-use Rattle.jt_expr.specs.declared.tree.BinaryOperator.TheVariants as o
+use Rattle.jt_expr.specs.Trees.{Expr, constant, name, group, list_of, map_of, attribute, item, call, filter, test, unary, binary, when, choice, Exprs, no_exprs, expr, Pairs, no_pairs, pair, weight, enclosed, exprs_weight, pairs_weight}
 use Rattle.jt_meaning.specs.Operators.{Form, operation, negation, conjunction, disjunction, form}
 use Rattle.jt_slots.specs.Got.{Place}
 use Rattle.jt_slots.specs.Tests.{test_named}
-use Rattle.jt_inherit.specs.Uses.{count, keywords, set_by, set_in, set_under}
+use Rattle.jt_inherit.specs.Uses.{count, keywords, set_in}
 use Rattle.jt_parse.specs.Trees.{Text, Parameter, Filtering, Stmt, data_of, print, choose, for_each, set, set_block, with_values, filter_block, autoescape, macro, include, extends, block, Body, end, stmt, Branches, no_branches, branch, condition_weight, filtering_weight}
-use Rattle.jt_inherit.specs.Chain.{Home, MacroBody, macros, macro_of, Callee, a_macro, a_range, a_super, a_block, a_cycle, no_callee, named_alone, named_in, callee, is_loop}
+use Rattle.jt_inherit.specs.Chain.{Home, macros, Callee, a_macro, a_range, a_super, a_block, a_cycle, no_callee, callee, is_loop}
 use Rattle.jt_slots.specs.Loops.{Field, index0, field_named}
 use Rattle.jt_slots.specs.Filters.{default_value, some_given}
-use Rattle.jt_parse.specs.Texts.{among}
 use Rattle.jt_rules.specs.World.{World}
 use Rattle.jt_meaning.specs.Expressions.{filter_parameters}
-use Rattle.jt_meaning.specs.Layout.{Table, slot_in, names, numbered_of, globals, block_parameters, is_scoped, default_place, first_slot, unit, of_chain}
+use Rattle.jt_meaning.specs.Layout.{Table, slot_in, names, numbered_of, globals, block_parameters, default_place, first_slot, unit, of_chain}
 use Rattle.jt_slots.specs.Slots as slots
 use Rattle.jt_slots.specs.Slots.{Slot, local, SExpr, SRow, Targets, one, several, SBody, variable, run}
 use Rattle.jt_slots.specs.Pool.{Constant, own, known, expr_values, row_values, condition_values, stmt_values, body_values}
-use Rattle.jt_meaning.specs.Resolve.{value_or, read_from, turned_round, tested_by, filtered_by, in_form, field_from, followed, locals_from, fresh, fresh_targets, kept_slots, set_targets, filled, filled_some, first_locals, reads, handed_on, Part, Spot, place, grown, bound_all, copied, scoped, next_given, first_body, invoked_body, invoked_super, invoked, resolved, resolved_row, resolved_asides, resolved_entries, resolved_condition, resolved_filters, resolved_values, placed_body, resolved_stmt, resolved_body, resolved_choice}
-use Rattle.jt_meaning.specs.Measure.{stmt_own, body_own, branch_own, IsFew}
+use Rattle.jt_meaning.specs.Resolve.{value_or, turned_round, tested_by, filtered_by, in_form, field_from, followed, locals_from, fresh_targets, set_targets, filled, filled_some, first_locals, reads, handed_on, Part, Spot, place, grown, bound_all, copied, scoped, next_given, first_body, invoked_body, invoked_super, invoked, resolved, resolved_row, resolved_asides, resolved_entries, resolved_condition, resolved_filters, resolved_values, placed_body, resolved_stmt, resolved_body, resolved_choice}
+use Rattle.jt_meaning.specs.Measure.{stmt_own, body_own, branch_own}
 use Rattle.jt_meaning.proofs.Sizing.{expr_some, is_some_weight}
 
 abbrev expr_count : SExpr Constant → ℕ
@@ -191,7 +184,7 @@ module _ (world : World) (order : List Home) where
               (exprs_weight ts) (pairs_weight 2 ps) (λ b. row_counted ts sp k b) (λ b. omega (arith, asides_counted ps sp k b)),
         )
     counted (filter a x ts ps) sp k =
-        let f = world.filters.named x in
+        let f = world.filters.named x ts ps in
         let rest = filled_some (filter_parameters world.filters f) (count ts) (keywords ps) (locals_from sp.free (keywords ps)) in
         let row = resolved_row world order ts sp (resolved_asides world order ps sp rest) in
         omega (
@@ -242,7 +235,7 @@ module _ (world : World) (order : List Home) where
   filters_counted : (fs : List Filtering) (sp : Spot) (e : SExpr Constant) → Three → expr_count (resolved_filters world order fs sp e) ≤ expr_count e + filtering_weight fs
   filters_counted [] sp e k = omega arith
   filters_counted (f ∷ fs) sp e k =
-      let i = world.filters.named f.name in
+      let i = world.filters.named f.name f.arguments f.keywords in
       let rest = filled_some (filter_parameters world.filters i) (count f.arguments) (keywords f.keywords) (locals_from sp.free (keywords f.keywords)) in
       let row = resolved_row world order f.arguments sp (resolved_asides world order f.keywords sp rest) in
       omega (

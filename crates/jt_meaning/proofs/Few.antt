@@ -1,8 +1,8 @@
 -- Where the sources of chains read or bind few names, few of them are in each chain.
-use Rattle.std.proofs.Common.{◌≡◌, ℕ, zero, suc, ◌+◌, ◌≤◌, ◌<◌, Bool, true, false, if◌then◌else◌, List, [], ◌∷◌, ◌++◌, length, map, Option, Some, None, refl, sym, ap, ◌∙◌, subst, arith, ◌⊎◌, inl, inr}
-use Rattle.std.specs.Prelude.{not, ◌||◌, flat_map, filter, Contains, slice_index_or}
+use Rattle.std.proofs.Common.{◌≡◌, ℕ, zero, suc, ◌≤◌, ◌<◌, Bool, true, false, if◌then◌else◌, List, [], ◌∷◌, ◌++◌, length, map, Option, Some, None, refl, sym, ap, ◌∙◌, subst, arith, inl, inr}
+use Rattle.std.specs.Prelude.{not, ◌||◌, flat_map, Contains, slice_index_or}
 use Rattle.std.specs.List.{AllByRecursion}
-use Rattle.std.specs.Option.{option_or, is_some}
+use Rattle.std.specs.Option.{option_or}
 use Rattle.std.specs.declared.cmp.Ordering.{Ordering}
 use Rattle.std.specs.declared.cmp.Ordering.TheVariants.{Less, Equal, Greater}
 use Rattle.std.specs.Ordering.{nat_cmp, is_lt, is_eq, ordering_reverse}
@@ -11,27 +11,25 @@ use Rattle.std.specs.Str.{bytes_eq}
 use Rattle.std.proofs.lemmas.Cmp.{nat_list_cmp_total}
 use Rattle.std.proofs.lemmas.Map.Text.{is_eq-slice_cmp}
 use Rattle.jt_parse.specs.Texts.{among, repeated, inserted, all_inserted, ascending}
-use Rattle.jt_parse.specs.Trees.{Text, Parameter, Stmt, data_of, print, choose, for_each, set, set_block, with_values, filter_block, autoescape, macro, include, extends, block, Body, end, stmt}
-use Rattle.jt_inherit.specs.Chain.{Home, Template, templates, MacroBody, macros_in, macros}
+use Rattle.jt_parse.specs.Trees.{Text, Parameter, data_of, print, choose, for_each, set, set_block, with_values, filter_block, autoescape, macro, include, extends, block, Body, end, stmt}
+use Rattle.jt_inherit.specs.Chain.{Home, Template, templates, MacroBody, macros_in}
 use Rattle.jt_inherit.specs.Includes.{included}
 use Rattle.jt_inherit.specs.Small.{NamesFew}
 use Rattle.jt_inherit.specs.Uses.{stmt_names, body_names, own_names, scope_names_in, scope_names}
 use Rattle.jt_inherit.specs.View.{Seen, sources_of}
-use Rattle.jt_slots.specs.Filters.{Filters}
-use Rattle.jt_slots.specs.TheFilters.{the_filters, filter_of, filter_parameters, parameters_of, with_defaults, defaults}
+use Rattle.jt_slots.specs.TheFilters.{the_filters, filter_of, parameters_of, with_defaults, defaults}
 use Rattle.jt_filters.specs.declared.filter_id.FilterId.{FilterId}
-use Rattle.jt_filters.specs.declared.filter_id.FilterId.TheVariants as f
 use Rattle.jt_filters.specs.FilterTable.{argument_names}
 use Rattle.jt_rules.specs.World.{World, world_of}
-use Rattle.jt_rules.specs.Rules.{Within, parameter_names, body_broken, stmt_broken, macro_broken, read_alone, all_used, unless, refused, templates_broken, chains_broken}
+use Rattle.jt_rules.specs.Walk.{Within, parameter_names, body_broken, stmt_broken, macro_broken, read_alone, all_used, unless, templates_broken, chains_broken}
 use Rattle.jt_rules.specs.declared.error.ScopeError.{ScopeError}
 use Rattle.jt_rules.specs.declared.error.ScopeError.TheVariants as error
 use Rattle.jt_meaning.specs.Ascends.{IsBefore, Above, Ascends}
 use Rattle.jt_meaning.specs.Layout.{names_in, names}
 use Rattle.jt_meaning.specs.Measure.{HasFewNames, IsFew, AreFew}
 use Rattle.jt_meaning.proofs.Among.{Among, AllAmong}
-use Rattle.jt_meaning.proofs.Reading.{same_text, is_same, same_is, no_both, among_front, among_back, each_among}
-use Rattle.jt_meaning.proofs.Scopes.{ascending_from, ascending_among, all_among, templates_bind}
+use Rattle.jt_meaning.proofs.Reading.{same_text, is_same, no_both, among_front, among_back, each_among}
+use Rattle.jt_meaning.proofs.Scopes.{ascending_among, all_among, templates_bind}
 
 -- ---- names in order ascend strictly
 

@@ -2,12 +2,11 @@
 -- no parameters; with all names of the chain as parameters its tag and `self.b()` would load all of them, and the entry would need 1,105
 -- entries, more than a shape may have. Its source has 1,999 bytes:
 -- {%block b scoped%}{%endblock%}{{[a,..,_,Qa,..,Zu,1,..,1,self.b()]}}
-use Rattle.std.proofs.Common.{◌≡◌, ℕ, zero, suc, true, false, List, [], ◌∷◌, ◌++◌, length, Option, None, refl}
+use Rattle.std.proofs.Common.{◌≡◌, ℕ, zero, suc, true, false, List, [], ◌∷◌, ◌++◌, length, refl}
 use Rattle.std.specs.Prelude.{map, codes}
 use Rattle.jt_expr.specs.Trees as e
 use Rattle.jt_expr.specs.Trees.{Expr, Exprs, no_exprs, expr}
 use Rattle.jt_parse.specs.Trees.{Text, Body, body_weight}
-use Rattle.jt_inherit.specs.Chain.{Home}
 use Rattle.jt_rules.specs.World.{World}
 use Rattle.jt_meaning.specs.Layout.{names}
 use Rattle.jt_meaning.specs.Resolve.{chain_routine}

@@ -1,5 +1,5 @@
 -- A text or fault at n is the same with more calls: `Under g h` says that h is g, or that g is deeper.
-use Rattle.std.proofs.Common.{ℕ, zero, suc, refl}
+use Rattle.std.proofs.Common.{◌≡◌, ◌≤◌, ◌+◌, ◌-◌, ℕ, zero, suc, refl, subst, arith}
 use Rattle.std.specs.Prelude.{Bool, true, false, List, [], ◌∷◌, Option, Some, None, if◌then◌else◌}
 use Rattle.std.specs.Option.{is_none}
 use Rattle.jt_value.specs.Tree as tree
@@ -97,7 +97,7 @@ module _ (world : World) (c d : Calls) (under : (x : Called) → Under (c x) (d 
     value_under (item e k) a env = bound (value_under e a env) (λ v. bound (value_under k a env) (λ w. same))
     value_under (written.call f ts ps) a env = called_under (callee (macros world.sources a.home) f) a env (values_under ts a env) (named_under ps a env)
     value_under (written.filter e x ts ps) a env =
-        filtered_under world.filters (world.filters.named x) a.escaping (bound (value_under e a env) (λ v. bound (values_under ts a env) (λ vs. bound (named_under ps a env) (λ ks. same))))
+        filtered_under world.filters (world.filters.named x ts ps) a.escaping (bound (value_under e a env) (λ v. bound (values_under ts a env) (λ vs. bound (named_under ps a env) (λ ks. same))))
     value_under (written.test e n x ts ps) a env = turned_under n (asked_under (test_named x) (bound (value_under e a env) (λ v. bound (values_under ts a env) (λ vs. same))))
     value_under (unary o e) a env = bound (value_under e a env) (λ v. same)
     value_under (binary o e f) a env = combined_under (form a.escaping o) (value_under e a env) (value_under f a env)
@@ -120,7 +120,7 @@ module _ (world : World) (c d : Calls) (under : (x : Called) → Under (c x) (d 
   through_under : (fs : List Filtering) (a : Around) (env : Env) {g h : Got Tree} → Under g h → Under (through world c fs a env g) (through world d fs a env h)
   through_under [] a env u = u
   through_under (f ∷ fs) a env u =
-      through_under fs a env (filtered_under world.filters (world.filters.named f.name) a.escaping (bound u (λ v. bound (values_under f.arguments a env) (λ vs. bound (named_under f.keywords a env) (λ ks. same)))))
+      through_under fs a env (filtered_under world.filters (world.filters.named f.name f.arguments f.keywords) a.escaping (bound u (λ v. bound (values_under f.arguments a env) (λ vs. bound (named_under f.keywords a env) (λ ks. same)))))
 
   mutual
     pub meaning_under : (s : Stmt) (a : Around) (st : State) → Under (meaning world c s a st) (meaning world d s a st)
@@ -171,9 +171,21 @@ calls_under world (suc n) x = performed_under world (calls_below world n) (calls
 pub mean_under : (world : World) (entry : Home) (context : Pairs) (n : ℕ) → Under (mean world entry context n) (mean world entry context (suc n))
 mean_under world entry context n = performed_under world (calls_below world n) (calls_below world (suc n)) (calls_under world n) (the_chain entry context)
 
+-- the same at every greater depth
+more_under : {g h k : Got Text} → Under g h → Under h k → Under g k
+more_under less v = less
+more_under same v = v
+
+later_under : (world : World) (entry : Home) (context : Pairs) (n k m : ℕ) → m ≡ k + n → Under (mean world entry context n) (mean world entry context m)
+later_under world entry context n zero m e = let q : n ≡ m = omega arith in subst (λ z. Under (mean world entry context n) (mean world entry context z)) q same
+later_under world entry context n (suc k) m e =
+    let q : suc (k + n) ≡ m = omega arith in
+    subst (λ z. Under (mean world entry context n) (mean world entry context z)) q
+    (more_under (later_under world entry context n k (k + n) refl) (mean_under world entry context (k + n)))
+
 -- the same, by cases
-pub mean_stays : (world : World) (entry : Home) (context : Pairs) (n : ℕ) → Stays (mean world entry context n) (mean world entry context (suc n))
-mean_stays world entry context n = through (mean_under world entry context n)
+pub mean_stays : (world : World) (entry : Home) (context : Pairs) (n m : ℕ) → n ≤ m → Stays (mean world entry context n) (mean world entry context m)
+mean_stays world entry context n m le = through (later_under world entry context n (m - n) m (omega arith))
   where
     itself : (g : Got Text) → Stays g g
     itself (gives x) = refl

@@ -5,7 +5,7 @@ use Rattle.jt_rules.specs.declared.error.ScopeError.{ScopeError}
 use Rattle.jt_rules.specs.declared.error.ScopeError.TheVariants as error
 use Rattle.jt_expr.specs.Trees.{no_exprs, no_pairs}
 use Rattle.jt_parse.specs.Trees.{Text, Body, end}
-use Rattle.jt_rules.specs.Rules.{chains_broken}
+use Rattle.jt_rules.specs.Walk.{chains_broken}
 use Rattle.jt_inherit.specs.Chain.{Sources}
 use Rattle.jt_inherit.specs.Includes.{InOrder}
 use Rattle.jt_inherit.specs.Rules.{here, Missing, ExtendsCycle, DoubleBlock, RequiredNotGiven, NoSuper, IncludeCycle, MacroTwice}

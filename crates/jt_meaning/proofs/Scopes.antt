@@ -1,8 +1,6 @@
 -- The names that scopes bind, and the blocks whose tags say `scoped`, in the order of the tree.
-use Rattle.std.proofs.Common.{◌≡◌, Bool, true, false, if◌then◌else◌, List, [], ◌∷◌, ◌++◌, map, Option, Some, None, refl, sym, ap, ◌∙◌, subst, ◌⊎◌, inl, inr, append_assoc}
-use Rattle.std.specs.Prelude.{◌&&◌, ◌||◌, flat_map}
-use Rattle.std.specs.Bool.{Decides}
-use Rattle.std.specs.List.{list_any}
+use Rattle.std.proofs.Common.{◌≡◌, Bool, true, false, if◌then◌else◌, List, [], ◌∷◌, ◌++◌, map, refl, sym, ap, ◌∙◌, subst, ◌⊎◌, inl, inr}
+use Rattle.std.specs.Prelude.{flat_map}
 use Rattle.std.specs.Ordering.{nat_cmp, is_lt}
 use Rattle.std.specs.Cmp.Lexicographic.{slice_cmp}
 use Rattle.std.specs.Str.{bytes_eq}
@@ -13,7 +11,7 @@ use Rattle.jt_inherit.specs.Uses.{keywords, expr_names, pair_names, condition_na
 use Rattle.jt_rules.specs.World.{World}
 use Rattle.jt_meaning.proofs.Among.{Among, AllAmong, all_ascending}
 use Rattle.jt_meaning.proofs.Reading.{same_text, is_same, no_both, among_front, among_back, each_among}
-use Rattle.jt_meaning.proofs.Stating.{Each, Scoping, a_tag, a_name, named, scoped_by, scoped_in, scoped_under, Proper, among_both, in_among}
+use Rattle.jt_meaning.proofs.Stating.{Scoping, a_tag, a_name, named, scoped_by, scoped_in, scoped_under, among_both, in_among}
 
 -- ---- the names alone
 

@@ -17,7 +17,7 @@ use Rattle.jt_meaning.specs.Layout.{counted_from, numbered_bodies, block_paramet
 use Rattle.jt_slots.specs.Pool.{Constant}
 use Rattle.jt_meaning.specs.Resolve.{Part, top_spot, place, bound_all, followed, resolved_stmt, resolved_body, resolved_sets, resolved_chain, macro_routine}
 use Rattle.jt_meaning.specs.Programs.{body_routines, chain_routines}
-use Rattle.jt_rules.specs.Rules.{Within, used, all_used, broken, pairs_broken, condition_broken, filtering_broken, macro_broken, stmt_broken, body_broken, branches_broken, templates_broken, chains_broken}
+use Rattle.jt_rules.specs.Walk.{Within, used, all_used, broken, pairs_broken, condition_broken, filtering_broken, macro_broken, stmt_broken, body_broken, branches_broken, templates_broken, chains_broken}
 use Rattle.jt_meaning.proofs.Calling.{Included, Tail}
 use Rattle.jt_meaning.proofs.Reading.{same_is}
 use Rattle.jt_meaning.proofs.Stating.{Each, each_front, each_back}

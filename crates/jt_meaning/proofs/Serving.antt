@@ -19,7 +19,7 @@ use Rattle.jt_rules.specs.Known.{ExprKnown, ConditionKnown, FilteringKnown, Stmt
 use Rattle.jt_meaning.specs.Layout.{Table, slot_in, of_chain, block_parameters, globals, numbered_of, unit, names, first_slot}
 use Rattle.jt_slots.specs.Pool.{Constant, known}
 use Rattle.jt_meaning.specs.Resolve.{followed, alone, reads, handed_on, filled_some, locals_from, Spot, place, grown, bound_all, copied, scoped, first_body, resolved_row, resolved_asides, resolved_condition, resolved_filters, resolved_values, placed_body, resolved_stmt, resolved_body, resolved_choice}
-use Rattle.jt_rules.specs.Rules.{Within, filter_broken, all_used, used, broken, row_broken, pairs_broken, condition_broken, filtering_broken, stmt_broken, body_broken, branches_broken}
+use Rattle.jt_rules.specs.Walk.{Within, filter_broken, all_used, used, broken, row_broken, pairs_broken, condition_broken, filtering_broken, stmt_broken, body_broken, branches_broken}
 use Rattle.jt_meaning.proofs.Calling.{Included}
 use Rattle.jt_meaning.proofs.Stating.{Each, each_front, each_back}
 use Rattle.jt_meaning.proofs.Finding.{chain_is, body_is}
@@ -57,16 +57,16 @@ module _ (world : World) (order : List Home) where
       → ETakes world order w.in_loop (resolved_filters world order fs sp e)
   filters_take w [] sp e k t h f r = r
   filters_take w (g ∷ fs) sp e k t h f r =
-      let h1 = none_second (filter_broken world.filters (world.filters.named g.name) (count g.arguments) (keywords g.keywords)) _ h in
+      let h1 = none_second (filter_broken world.filters (world.filters.named g.name g.arguments g.keywords) g.arguments g.keywords) _ h in
       let h2 = none_second (row_broken world sp.home g.arguments w) _ h1 in
-      let rest = filled_some (filter_parameters world.filters (world.filters.named g.name)) (count g.arguments) (keywords g.keywords) (locals_from sp.free (keywords g.keywords)) in
+      let rest = filled_some (filter_parameters world.filters (world.filters.named g.name g.arguments g.keywords)) (count g.arguments) (keywords g.keywords) (locals_from sp.free (keywords g.keywords)) in
       filters_take w fs sp _ k t (none_second (pairs_broken world sp.home g.keywords w) _ h2) f.3
-      (filtered_takes world order w.in_loop (world.filters.named g.name) sp.escaping (count g.arguments) (keywords g.keywords) (slots.item e (resolved_row world order g.arguments sp (resolved_asides world order g.keywords sp rest))) f.0
-      (none_first (filter_broken world.filters (world.filters.named g.name) (count g.arguments) (keywords g.keywords)) _ h)
-      (ap suc (row_counts world order g.arguments sp (resolved_asides world order g.keywords sp rest) ∙ ap (λ n. count g.arguments + n) (aside_counts world order g.keywords sp rest) ∙ some_count (filter_parameters world.filters (world.filters.named g.name)) (count g.arguments) (keywords g.keywords) (locals_from sp.free (keywords g.keywords)))) (
+      (filtered_takes world order w.in_loop (world.filters.named g.name g.arguments g.keywords) sp.escaping g.arguments g.keywords (slots.item e (resolved_row world order g.arguments sp (resolved_asides world order g.keywords sp rest))) f.0
+      (none_first (filter_broken world.filters (world.filters.named g.name g.arguments g.keywords) g.arguments g.keywords) _ h)
+      (ap suc (row_counts world order g.arguments sp (resolved_asides world order g.keywords sp rest) ∙ ap (λ n. count g.arguments + n) (aside_counts world order g.keywords sp rest) ∙ some_count (filter_parameters world.filters (world.filters.named g.name g.arguments g.keywords)) (count g.arguments) (keywords g.keywords) (locals_from sp.free (keywords g.keywords)))) (
         r,
         row_takes world order w g.arguments sp k t (none_first (row_broken world sp.home g.arguments w) _ h1) f.1 (resolved_asides world order g.keywords sp rest)
-            (asides_take world order w g.keywords sp k t (none_first (pairs_broken world sp.home g.keywords w) _ h2) f.2 rest (some_takes world order w.in_loop (filter_parameters world.filters (world.filters.named g.name)) (count g.arguments) (keywords g.keywords) (locals_from sp.free (keywords g.keywords)))),
+            (asides_take world order w g.keywords sp k t (none_first (pairs_broken world sp.home g.keywords w) _ h2) f.2 rest (some_takes world order w.in_loop (filter_parameters world.filters (world.filters.named g.name g.arguments g.keywords)) (count g.arguments) (keywords g.keywords) (locals_from sp.free (keywords g.keywords)))),
       ))
 
   values_take : (w : Within) (ps : written.Pairs) (sp : Spot) (line : ℕ) (behind : SBody Constant) → among sp.home order ≡ true → PartTail world order sp.home sp.part → pairs_broken world sp.home ps w ≡ None → Rattle.jt_rules.specs.Known.PairsKnown world.filters ps → BTakes w.in_loop behind

@@ -1,5 +1,5 @@
 -- The names of a program and the texts of its pool are no longer than the trees of its chains have bytes.
-use Rattle.std.proofs.Common.{◌≡◌, ℕ, zero, suc, ◌+◌, ◌≤◌, Bool, true, false, if◌then◌else◌, List, [], ◌∷◌, ◌++◌, length, map, Option, Some, None, refl, sym, ap, ◌∙◌, subst, arith, inl, inr}
+use Rattle.std.proofs.Common.{◌≡◌, ℕ, suc, ◌≤◌, Bool, true, false, if◌then◌else◌, List, [], ◌∷◌, ◌++◌, length, map, Option, Some, None, refl, sym, subst, arith, inl, inr}
 use Rattle.std.specs.Prelude.{flat_map, filter}
 use Rattle.std.specs.List.{AllByRecursion}
 use Rattle.std.specs.Str.{bytes_eq}
@@ -21,12 +21,12 @@ use Rattle.jt_inherit.specs.View.{Seen, sources_of}
 use Rattle.jt_slots.specs.TheFilters.{the_filters, filter_of, filter_parameters, parameters_of}
 use Rattle.jt_rules.specs.World.{World, world_of}
 use Rattle.jt_meaning.specs.Bytes.{value_bytes, IsShort}
-use Rattle.jt_meaning.specs.Layout.{names, names_in, counted_from, numbered_bodies, block_parameters, shared, defaults_of}
+use Rattle.jt_meaning.specs.Layout.{names, counted_from, numbered_bodies, block_parameters, defaults_of}
 use Rattle.jt_meaning.specs.Meaning.{is_set}
 use Rattle.jt_meaning.specs.Programs.{program, routines, chain_routines, body_routines}
 use Rattle.jt_meaning.specs.Resolve.{followed, Part, bound_all, resolved_stmt, resolved_body, resolved_sets, top_spot, resolved_chain, scoped, macro_routine}
 use Rattle.jt_meaning.proofs.Among.{Among, AllAmong}
-use Rattle.jt_meaning.proofs.Bytes.{bytes_in, bytes_append, literal_is, Bare, Three, stmt_counted, all_counted, scope_counted}
+use Rattle.jt_meaning.proofs.Bytes.{bytes_in, literal_is, Bare, Three, stmt_counted, all_counted, scope_counted}
 use Rattle.jt_meaning.proofs.Few.{names_from}
 
 all_append : {A : Type 0} (P : A → Type 0) (xs ys : List A) → AllByRecursion P xs → AllByRecursion P ys → AllByRecursion P (xs ++ ys)
@@ -344,31 +344,14 @@ program_short world entry rest n k h =
 -- ---- the filters of the language
 
 defaults_bare : (i : FilterId) → Bare (filter_parameters i)
+defaults_bare filter_id.Attr = (refl, tt)
 defaults_bare filter_id.Default = (refl, (refl, tt))
 defaults_bare filter_id.Int = (refl, tt)
 defaults_bare filter_id.Join = (refl, tt)
-defaults_bare filter_id.Sort = (refl, tt)
+defaults_bare filter_id.MapAttribute = (refl, tt)
 defaults_bare filter_id.Replace = (refl, (refl, tt))
-defaults_bare filter_id.Abs = tt
-defaults_bare filter_id.Capitalize = tt
-defaults_bare filter_id.DictSort = tt
-defaults_bare filter_id.Escape = tt
-defaults_bare filter_id.First = tt
-defaults_bare filter_id.ForceEscape = tt
-defaults_bare filter_id.Items = tt
-defaults_bare filter_id.Last = tt
-defaults_bare filter_id.Length = tt
-defaults_bare filter_id.List = tt
-defaults_bare filter_id.Lower = tt
-defaults_bare filter_id.Max = tt
-defaults_bare filter_id.Min = tt
-defaults_bare filter_id.Reverse = tt
-defaults_bare filter_id.Safe = tt
-defaults_bare filter_id.String = tt
-defaults_bare filter_id.Sum = tt
-defaults_bare filter_id.Trim = tt
-defaults_bare filter_id.Unique = tt
-defaults_bare filter_id.Upper = tt
+defaults_bare filter_id.Sort = (refl, tt)
+defaults_bare i = tt
 
 filters_bare : (n : ℕ) → Bare (the_filters.parameters n)
 unfolding the_filters

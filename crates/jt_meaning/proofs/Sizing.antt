@@ -1,11 +1,10 @@
 -- What is resolved has at most 100 instructions for each token: expressions, rows, statements and bodies.
-use Rattle.std.proofs.Common.{◌≡◌, ℕ, zero, suc, ◌+◌, ◌*◌, max, min, ◌≤◌, Bool, true, false, if◌then◌else◌, List, [], ◌∷◌, ◌++◌, length, Option, Some, None, arith, refl, length-append}
+use Rattle.std.proofs.Common.{◌≡◌, ℕ, zero, suc, ◌+◌, ◌*◌, min, ◌≤◌, Bool, true, false, if◌then◌else◌, List, [], ◌∷◌, length, Option, Some, None, arith, refl, length-append}
 use Rattle.std.specs.Option.{is_none}
 use Rattle.std.specs.List.{AllByRecursion}
 use Rattle.std.specs.Str.{bytes_eq}
-use Rattle.std.specs.Prelude.{codes, map}
+use Rattle.std.specs.Prelude.{codes}
 use Rattle.jt_value.specs.Tree as tree
-use Rattle.jt_ops.specs.declared.op_id.OpId.{OpId}
 use Rattle.jt_ops.specs.declared.op_id.OpId.TheVariants as op
 use Rattle.jt_ops.specs.declared.test_id.TestId.{TestId}
 use Rattle.jt_expr.specs.Trees as written
@@ -20,15 +19,14 @@ use Rattle.jt_parse.specs.Trees.{Text, Parameter, Filtering, Stmt, data_of, prin
 use Rattle.jt_inherit.specs.Chain.{Home, MacroBody, macros, macro_of, Callee, a_macro, a_range, a_super, a_block, a_cycle, no_callee, named_alone, named_in, callee, is_loop}
 use Rattle.jt_slots.specs.Loops.{Field, field_named}
 use Rattle.jt_slots.specs.Filters.{default_value, some_given}
-use Rattle.jt_parse.specs.Texts.{among}
 use Rattle.jt_rules.specs.World.{World}
 use Rattle.jt_meaning.specs.Expressions.{filter_parameters}
 use Rattle.jt_meaning.specs.Layout.{Table, slot_in, names, numbered_of, globals, block_parameters, is_scoped, default_place, first_slot, unit, of_chain}
 use Rattle.jt_slots.specs.Slots as slots
 use Rattle.jt_slots.specs.Slots.{Slot, local, SExpr, SRow, Targets, one, several, SBody, variable, run}
 use Rattle.jt_slots.specs.Pool.{Constant, own, known}
-use Rattle.jt_meaning.specs.Resolve.{value_or, read_from, turned_round, tested_by, filtered_by, in_form, field_from, followed, locals_from, fresh, fresh_targets, kept_slots, set_targets, filled, filled_some, first_locals, reads, handed_on, Part, Spot, place, grown, bound_all, copied, scoped, next_given, first_body, invoked_body, invoked_super, invoked, resolved, resolved_row, resolved_asides, resolved_entries, resolved_condition, resolved_filters, resolved_values, placed_body, resolved_stmt, resolved_body, resolved_choice}
-use Rattle.jt_slots.specs.Size.{targets_size, expr_size, row_size, condition_size, stmt_size, body_size}
+use Rattle.jt_meaning.specs.Resolve.{value_or, turned_round, tested_by, filtered_by, in_form, field_from, followed, locals_from, fresh, fresh_targets, kept_slots, set_targets, filled, filled_some, first_locals, reads, handed_on, Part, Spot, place, grown, bound_all, copied, scoped, next_given, first_body, invoked_body, invoked_super, invoked, resolved, resolved_row, resolved_asides, resolved_entries, resolved_condition, resolved_filters, resolved_values, placed_body, resolved_stmt, resolved_body, resolved_choice}
+use Rattle.jt_slots.specs.Size.{targets_size, expr_size, row_size, condition_size, body_size}
 use Rattle.jt_meaning.specs.Measure.{stmt_own, body_own, branch_own, IsFew}
 use Rattle.jt_meaning.specs.Layout.{scopes}
 use Rattle.jt_meaning.specs.Measure.{HasFewNames}
@@ -280,7 +278,7 @@ module _ (world : World) (order : List Home) where
               (exprs_weight ts) (pairs_weight 2 ps) (callee_few (macros world.sources sp.home) f k.macros) (k.names sp.home) (λ b. row_sized ts sp k b) (λ b. asides_sized ps sp k b),
         )
     resolved_sized (filter a x ts ps) sp k =
-        let f = world.filters.named x in
+        let f = world.filters.named x ts ps in
         let rest = filled_some (filter_parameters world.filters f) (count ts) (keywords ps) (locals_from sp.free (keywords ps)) in
         let es = slots.item (resolved world order a sp) (resolved_row world order ts sp (resolved_asides world order ps sp rest)) in
         omega (
@@ -322,7 +320,7 @@ module _ (world : World) (order : List Home) where
   filters_sized : (fs : List Filtering) (sp : Spot) (e : SExpr Constant) → IsFew world order sp.home → expr_size (resolved_filters world order fs sp e) ≤ expr_size e + 100 * filtering_weight fs
   filters_sized [] sp e k = omega arith
   filters_sized (f ∷ fs) sp e k =
-      let i = world.filters.named f.name in
+      let i = world.filters.named f.name f.arguments f.keywords in
       let rest = filled_some (filter_parameters world.filters i) (count f.arguments) (keywords f.keywords) (locals_from sp.free (keywords f.keywords)) in
       let es = slots.item e (resolved_row world order f.arguments sp (resolved_asides world order f.keywords sp rest)) in
       omega (

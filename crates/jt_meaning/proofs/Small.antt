@@ -49,7 +49,7 @@ defaulted (t ∷ vs) = Ok t
 defaulted [] = Err faults.BadType
 
 abbrev pub small : Filters
-small = record { named = named; parameters = parameters; takes = λ f n. true; operation = λ f on vs. if f == 0 then uppered vs else if f == 1 then measured vs else defaulted vs }
+small = record { named = λ x ts ps. named x; parameters = parameters; takes = λ f n. true; inside = λ f ts ps. true; operation = λ f on vs. if f == 0 then uppered vs else if f == 1 then measured vs else defaulted vs }
 
 -- ---- words for trees
 

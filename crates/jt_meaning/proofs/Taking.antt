@@ -17,7 +17,7 @@ use Rattle.jt_expr.specs.Trees.{Expr, constant, name, group, list_of, attribute,
 use Rattle.jt_meaning.specs.Operators.{unary_operation, Form, operation, negation, conjunction, disjunction, form, range_of}
 use Rattle.jt_slots.specs.Tests.{test_named}
 use Rattle.jt_inherit.specs.Uses.{count, keywords}
-use Rattle.jt_rules.specs.Rules.{no_keywords, unless, test_broken, Within, refused, fits, reached, filter_broken, call_broken, broken, called_broken, row_broken, pairs_broken}
+use Rattle.jt_rules.specs.Walk.{no_keywords, unless, test_broken, Within, refused, fits, reached, filter_fits, filter_broken, call_broken, broken, called_broken, row_broken, pairs_broken}
 use Rattle.jt_slots.specs.Takes.{InPairs, HasParameters, ExprTakes, RowTakes}
 use Rattle.jt_rules.specs.declared.error.ScopeError.{ScopeError}
 use Rattle.jt_rules.specs.declared.error.ScopeError.TheVariants as error
@@ -212,9 +212,11 @@ module _ (world : World) (order : List Home) where
       let right = right_arguments ((suc (count ts) == test_values t) && no_keywords ps) h in
       (sym (same_number (suc (count ts)) (test_values t) (both_first (suc (count ts) == test_values t) (no_keywords ps) right)) ∙ sym c, r)
 
-  pub filtered_takes : (l : Bool) (f : Option ℕ) (on : Bool) (n : ℕ) (ks : List Text) (es : SRow Constant) → IsThere f → filter_broken world.filters f n ks ≡ None → row_count es ≡ suc (max n (reached (filter_parameters world.filters f) ks)) → RTakes l es → ETakes l (filtered_by f on es)
-  filtered_takes l None on n ks es k h c r = absurd k
-  filtered_takes l (Some f) on n ks es k h c r = (ap (world.filters.takes f) c ∙ both_first (world.filters.takes f (suc (max n (reached (world.filters.parameters f) ks)))) _ (right_arguments _ h), r)
+  pub filtered_takes : (l : Bool) (f : Option ℕ) (on : Bool) (ts : Exprs) (ps : written.Pairs) (es : SRow Constant) → IsThere f → filter_broken world.filters f ts ps ≡ None → row_count es ≡ suc (max (count ts) (reached (filter_parameters world.filters f) (keywords ps))) → RTakes l es → ETakes l (filtered_by f on es)
+  filtered_takes l None on ts ps es k h c r = absurd k
+  filtered_takes l (Some f) on ts ps es k h c r =
+      let fit = both_first (filter_fits world.filters f (count ts) (keywords ps)) (world.filters.inside f ts ps) (right_arguments (filter_fits world.filters f (count ts) (keywords ps) && world.filters.inside f ts ps) h) in
+      (ap (world.filters.takes f) c ∙ both_first (world.filters.takes f (suc (max (count ts) (reached (world.filters.parameters f) (keywords ps))))) _ fit, r)
 
   -- a body of a block, on arguments for its parameters
   body_takes : (l : Bool) (h : Home) (on : Bool) (x : Text) (bs : List (ℕ × BlockBody)) (cs : List BlockBody) (i : Option ℕ) (es : SRow Constant) → among h order ≡ true → Tail world order h x bs → GivenBy bs cs i → row_count es ≡ length (block_parameters world order h x) → RTakes l es
@@ -314,15 +316,15 @@ module _ (world : World) (order : List Home) where
           call_takes (callee (macros world.sources sp.home) f) sp w f ts ps e t (λ b c. named_macro (macros world.sources sp.home) f b c) (none_first (call_broken world sp.home (callee (macros world.sources sp.home) f) w f ts ps) _ h1)
           (λ behind r. row_takes ts sp e t (none_first (row_broken world sp.home ts w) (pairs_broken world sp.home ps w) h2) k.0 behind r) (λ behind r. asides_take ps sp e t (none_second (row_broken world sp.home ts w) (pairs_broken world sp.home ps w) h2) k.1 behind r)
       expr_takes (written.filter a x ts ps) sp e t h k =
-          let h1 = none_second (filter_broken world.filters (world.filters.named x) (count ts) (keywords ps)) _ h in
+          let h1 = none_second (filter_broken world.filters (world.filters.named x ts ps) ts ps) _ h in
           let h2 = none_second (broken world sp.home a w) _ h1 in
-          let rest = filled_some (filter_parameters world.filters (world.filters.named x)) (count ts) (keywords ps) (locals_from sp.free (keywords ps)) in
-          filtered_takes w.in_loop (world.filters.named x) sp.escaping (count ts) (keywords ps) (slots.item (resolved world order a sp) (resolved_row world order ts sp (resolved_asides world order ps sp rest))) k.0
-          (none_first (filter_broken world.filters (world.filters.named x) (count ts) (keywords ps)) _ h)
-          (ap suc (row_counts ts sp (resolved_asides world order ps sp rest) ∙ ap (λ n. count ts + n) (aside_counts ps sp rest) ∙ some_count (filter_parameters world.filters (world.filters.named x)) (count ts) (keywords ps) (locals_from sp.free (keywords ps)))) (
+          let rest = filled_some (filter_parameters world.filters (world.filters.named x ts ps)) (count ts) (keywords ps) (locals_from sp.free (keywords ps)) in
+          filtered_takes w.in_loop (world.filters.named x ts ps) sp.escaping ts ps (slots.item (resolved world order a sp) (resolved_row world order ts sp (resolved_asides world order ps sp rest))) k.0
+          (none_first (filter_broken world.filters (world.filters.named x ts ps) ts ps) _ h)
+          (ap suc (row_counts ts sp (resolved_asides world order ps sp rest) ∙ ap (λ n. count ts + n) (aside_counts ps sp rest) ∙ some_count (filter_parameters world.filters (world.filters.named x ts ps)) (count ts) (keywords ps) (locals_from sp.free (keywords ps)))) (
             expr_takes a sp e t (none_first (broken world sp.home a w) _ h1) k.1,
             row_takes ts sp e t (none_first (row_broken world sp.home ts w) (pairs_broken world sp.home ps w) h2) k.2 (resolved_asides world order ps sp rest)
-                (asides_take ps sp e t (none_second (row_broken world sp.home ts w) (pairs_broken world sp.home ps w) h2) k.3 rest (some_takes w.in_loop (filter_parameters world.filters (world.filters.named x)) (count ts) (keywords ps) (locals_from sp.free (keywords ps)))),
+                (asides_take ps sp e t (none_second (row_broken world sp.home ts w) (pairs_broken world sp.home ps w) h2) k.3 rest (some_takes w.in_loop (filter_parameters world.filters (world.filters.named x ts ps)) (count ts) (keywords ps) (locals_from sp.free (keywords ps)))),
           )
       expr_takes (written.test a n x ts ps) sp e t h k =
           let h1 = none_second (test_broken (test_named x) ts ps) _ h in

@@ -1,5 +1,5 @@
 -- An expression means the same by names and by slots.
-use Rattle.std.proofs.Common.{◌≡◌, ℕ, zero, suc, pos, ◌<◌, ◌≤◌, Bool, true, false, if◌then◌else◌, List, [], ◌∷◌, ◌++◌, length, map, Option, Some, None, refl, sym, ap, ◌∙◌, subst, arith, append_assoc, inl, inr}
+use Rattle.std.proofs.Common.{◌≡◌, ℕ, zero, suc, pos, ◌<◌, ◌≤◌, Bool, true, false, if◌then◌else◌, List, [], ◌∷◌, ◌++◌, length, map, Option, Some, None, refl, sym, ap, ◌∙◌, subst, arith, append_assoc}
 use Rattle.std.specs.Prelude.{unwrap_or, Result, Ok, Err, filter, codes}
 use Rattle.std.specs.Str.{bytes_eq}
 use Rattle.jt_value.specs.Tree as tree
@@ -593,15 +593,15 @@ module _ (world : World) (order : List Home) (calls : Calls) (scall : SCalls) (m
         let back = among_back (expr_names e) (row_names ts ++ pair_names ps) (ns sp) i in
         let back1 = among_front (row_names ts) (pair_names ps) (ns sp) back in
         let back2 = among_back (row_names ts) (pair_names ps) (ns sp) back in
-        let rest = filled_some (filter_parameters fs (fs.named x)) (count ts) (keywords ps) (locals_from sp.free (keywords ps)) in
-        filtered_both (fs.named x) sp.escaping (slots.item (resolved world order e sp) (resolved_row world order ts sp (resolved_asides world order ps sp rest)))
+        let rest = filled_some (filter_parameters fs (fs.named x ts ps)) (count ts) (keywords ps) (locals_from sp.free (keywords ps)) in
+        filtered_both (fs.named x ts ps) sp.escaping (slots.item (resolved world order e sp) (resolved_row world order ts sp (resolved_asides world order ps sp rest)))
         (bind_both (value_same e sp env m g front) (λ v r w. right_both (in_front r.value)
         (row_in_front ts sp (λ y s. Rowed sp.free (end sp) m y (in_front r.value s))
-        (λ vs. bind (named_values world calls ps (around_of world order sp l q) env) (λ ks. gives (v ∷ arguments (filter_parameters fs (fs.named x)) vs (keywords ps) ks)))
+        (λ vs. bind (named_values world calls ps (around_of world order sp l q) env) (λ ks. gives (v ∷ arguments (filter_parameters fs (fs.named x ts ps)) vs (keywords ps) ks)))
         (resolved_asides world order ps sp rest) (values_same ts sp env r.memory (good_kept world order g w.kept) back1) (λ vs n len u o.
         asides_in_front ps sp (λ y s. Rowed sp.free (end sp) m y (in_front r.value (prefixed vs s)))
-        (λ ks. gives (v ∷ arguments (filter_parameters fs (fs.named x)) vs (keywords ps) ks)) rest (asides_same ps sp env n (good_kept world order g (kept_then w.kept u)) back2) (λ ks n' z.
-        arguments_end (filter_parameters fs (fs.named x)) sp v r.value w.value vs (count ts) len (keywords ps) ks z.names z.values (kept_then w.kept (kept_then u z.kept)) (z.out ∙ o ∙ w.out))))))
+        (λ ks. gives (v ∷ arguments (filter_parameters fs (fs.named x ts ps)) vs (keywords ps) ks)) rest (asides_same ps sp env n (good_kept world order g (kept_then w.kept u)) back2) (λ ks n' z.
+        arguments_end (filter_parameters fs (fs.named x ts ps)) sp v r.value w.value vs (count ts) len (keywords ps) ks z.names z.values (kept_then w.kept (kept_then u z.kept)) (z.out ∙ o ∙ w.out))))))
     value_same (written.test e n x ts ps) sp env m g i =
         let front = among_front (expr_names e) (row_names ts ++ pair_names ps) (ns sp) i in
         let back = among_front (row_names ts) (pair_names ps) (ns sp) (among_back (expr_names e) (row_names ts ++ pair_names ps) (ns sp) i) in
@@ -657,16 +657,16 @@ module _ (world : World) (order : List Home) (calls : Calls) (scall : SCalls) (m
 
   -- a filter on what an expression gives
   pub filter_both : {m : Memory} {h : Got Tree} (x : Text) (ts : Exprs) (ps : written.Pairs) (sp : Spot) (env : Env) (e : SExpr Constant) → Good world order sp q env m → AllAmong (row_names ts) (ns sp) → AllAmong (pair_names ps) (ns sp) → Same sp m h e
-      → Same sp m (filtered fs (fs.named x) sp.escaping (bind h (λ v. bind (values world calls ts (around_of world order sp l q) env) (λ vs. bind (named_values world calls ps (around_of world order sp l q) env) (λ ks.
-      gives (v ∷ arguments (filter_parameters fs (fs.named x)) vs (keywords ps) ks))))))
-      (filtered_by (fs.named x) sp.escaping (slots.item e (resolved_row world order ts sp (resolved_asides world order ps sp (filled_some (filter_parameters fs (fs.named x)) (count ts) (keywords ps) (locals_from sp.free (keywords ps)))))))
+      → Same sp m (filtered fs (fs.named x ts ps) sp.escaping (bind h (λ v. bind (values world calls ts (around_of world order sp l q) env) (λ vs. bind (named_values world calls ps (around_of world order sp l q) env) (λ ks.
+      gives (v ∷ arguments (filter_parameters fs (fs.named x ts ps)) vs (keywords ps) ks))))))
+      (filtered_by (fs.named x ts ps) sp.escaping (slots.item e (resolved_row world order ts sp (resolved_asides world order ps sp (filled_some (filter_parameters fs (fs.named x ts ps)) (count ts) (keywords ps) (locals_from sp.free (keywords ps)))))))
   filter_both {m = m} x ts ps sp env e g front back u =
-      let rest = filled_some (filter_parameters fs (fs.named x)) (count ts) (keywords ps) (locals_from sp.free (keywords ps)) in
-      filtered_both (fs.named x) sp.escaping (slots.item e (resolved_row world order ts sp (resolved_asides world order ps sp rest)))
+      let rest = filled_some (filter_parameters fs (fs.named x ts ps)) (count ts) (keywords ps) (locals_from sp.free (keywords ps)) in
+      filtered_both (fs.named x ts ps) sp.escaping (slots.item e (resolved_row world order ts sp (resolved_asides world order ps sp rest)))
       (bind_both u (λ v r w. right_both (in_front r.value)
       (row_in_front ts sp (λ y s. Rowed sp.free (end sp) m y (in_front r.value s))
-      (λ vs. bind (named_values world calls ps (around_of world order sp l q) env) (λ ks. gives (v ∷ arguments (filter_parameters fs (fs.named x)) vs (keywords ps) ks)))
+      (λ vs. bind (named_values world calls ps (around_of world order sp l q) env) (λ ks. gives (v ∷ arguments (filter_parameters fs (fs.named x ts ps)) vs (keywords ps) ks)))
       (resolved_asides world order ps sp rest) (values_same ts sp env r.memory (good_kept world order g w.kept) front) (λ vs n len k o.
       asides_in_front ps sp (λ y s. Rowed sp.free (end sp) m y (in_front r.value (prefixed vs s)))
-      (λ ks. gives (v ∷ arguments (filter_parameters fs (fs.named x)) vs (keywords ps) ks)) rest (asides_same ps sp env n (good_kept world order g (kept_then w.kept k)) back) (λ ks n' z.
-      arguments_end (filter_parameters fs (fs.named x)) sp v r.value w.value vs (count ts) len (keywords ps) ks z.names z.values (kept_then w.kept (kept_then k z.kept)) (z.out ∙ o ∙ w.out))))))
+      (λ ks. gives (v ∷ arguments (filter_parameters fs (fs.named x ts ps)) vs (keywords ps) ks)) rest (asides_same ps sp env n (good_kept world order g (kept_then w.kept k)) back) (λ ks n' z.
+      arguments_end (filter_parameters fs (fs.named x ts ps)) sp v r.value w.value vs (count ts) len (keywords ps) ks z.names z.values (kept_then w.kept (kept_then k z.kept)) (z.out ∙ o ∙ w.out))))))

@@ -1,9 +1,9 @@
 -- A program is as small as the weight of its chains says: each body is a part of one unit.
-use Rattle.std.proofs.Common.{◌≡◌, ℕ, zero, suc, ◌+◌, ◌*◌, max, ◌≤◌, Bool, true, false, if◌then◌else◌, List, [], ◌∷◌, ◌++◌, length, Option, Some, None, arith, refl, length-append}
+use Rattle.std.proofs.Common.{◌≡◌, ℕ, suc, ◌+◌, ◌*◌, max, ◌≤◌, Bool, true, false, if◌then◌else◌, List, [], ◌∷◌, ◌++◌, length, Option, Some, None, arith, refl, length-append}
 use Rattle.std.specs.Prelude.{flat_map, filter, map}
 use Rattle.std.specs.List.{AllByRecursion}
 use Rattle.std.specs.Str.{bytes_eq}
-use Rattle.jt_parse.specs.Trees.{Text, Parameter, parameters_weight, default_weight, Stmt, data_of, print, choose, for_each, set, set_block, with_values, filter_block, autoescape, macro, include, extends, block, stmt_weight, Body, end, stmt, body_weight, Branches, no_branches, branch, branch_weight}
+use Rattle.jt_parse.specs.Trees.{Text, Parameter, parameters_weight, Stmt, data_of, print, choose, for_each, set, set_block, with_values, filter_block, autoescape, macro, include, extends, block, stmt_weight, Body, end, stmt, body_weight, Branches, no_branches, branch, branch_weight}
 use Rattle.jt_inherit.specs.Chain.{Home, Template, templates, BlockBody, blocks_of, blocks_in, blocks_under, all_bodies, MacroBody, macros_in, macros}
 use Rattle.jt_slots.specs.Filters.{default_value}
 use Rattle.jt_rules.specs.World.{World}
@@ -12,8 +12,8 @@ use Rattle.jt_inherit.specs.Uses.{set_in}
 use Rattle.jt_meaning.specs.Layout.{first_slot, names, block_parameters, counted_from, numbered_bodies, shared, defaults_of}
 use Rattle.jt_slots.specs.Slots as slots
 use Rattle.jt_slots.specs.Slots.{SExpr, SRow, SStmt, SBody, Routine}
-use Rattle.jt_slots.specs.Pool.{Constant, expr_values, row_values, condition_values, stmt_values, body_values, routines_values, placed_expr, placed_row, placed_condition, placed_stmt, placed_body, placed_routines}
-use Rattle.jt_meaning.specs.Resolve.{followed, Part, Spot, bound_table, bound_all, scoped, resolved_stmt, resolved_body, resolved_sets, top_spot, resolved_chain, chain_routine, macro_routine, body_routine}
+use Rattle.jt_slots.specs.Pool.{Constant, expr_values, condition_values, stmt_values, body_values, routines_values, placed_expr, placed_row, placed_condition, placed_stmt, placed_body, placed_routines}
+use Rattle.jt_meaning.specs.Resolve.{followed, Part, Spot, bound_table, bound_all, scoped, resolved_stmt, resolved_body, resolved_sets, top_spot, resolved_chain, macro_routine}
 use Rattle.jt_meaning.specs.Programs.{body_routines, chain_routines, routines, count_globals, program}
 use Rattle.jt_slots.specs.Size.{expr_size, row_size, condition_size, stmt_size, body_size, routines_size, expr_height, row_height, condition_height, stmt_height, body_height}
 use Rattle.jt_slots.specs.Locals.{body_locals}
@@ -24,10 +24,10 @@ use Rattle.jt_meaning.proofs.Locality.{Below, globals_below, bound_below, scope_
 use Rattle.jt_meaning.proofs.Locality as locality
 use Rattle.jt_meaning.proofs.Constants.{followed_count, stmt_counted, all_counted, scope_counted}
 use Rattle.jt_meaning.proofs.Lowness.{followed_low, stmt_low, all_low, scope_low}
-use Rattle.jt_parse.specs.Trees.{body_bound, stmt_bound}
+use Rattle.jt_parse.specs.Trees.{body_bound}
 use Rattle.jt_meaning.specs.Layout.{scopes}
 use Rattle.jt_meaning.specs.Layout.{is_scoped}
-use Rattle.jt_meaning.proofs.Free.{stmt_free, body_free, Paid, PaidMacro, AllPaid, MacrosPaid, body_paid, templates_bound, templates_pay, chain_blocks, chain_macros, scopes_few}
+use Rattle.jt_meaning.proofs.Free.{stmt_free, body_free, AllPaid, MacrosPaid, body_paid, templates_bound, templates_pay, chain_blocks, chain_macros, scopes_few}
 use Rattle.jt_inherit.specs.Uses.{scope_names}
 use Rattle.jt_parse.specs.Texts.{among}
 

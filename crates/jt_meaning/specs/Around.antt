@@ -1,14 +1,11 @@
 -- What stands around an expression or a statement, and what is called from it.
-use Rattle.std.specs.Prelude.{ℕ, Bool, true, false, List, Option}
-use Rattle.jt_value.specs.Tree as tree
-use Rattle.jt_value.specs.Tree.{Tree}
+use Rattle.std.specs.Prelude.{ℕ, Bool, List, Option}
 use Rattle.jt_value.specs.Pairs.{Pairs}
 use Rattle.jt_slots.specs.Got.{Place, Got}
 use Rattle.jt_parse.specs.Trees.{Text}
 use Rattle.jt_meaning.specs.Env.{Env}
-use Rattle.jt_inherit.specs.Chain.{Sources, Home, BlockBody, MacroBody}
+use Rattle.jt_inherit.specs.Chain.{Home, BlockBody, MacroBody}
 use Rattle.jt_slots.specs.Loops.{Loop}
-use Rattle.jt_slots.specs.Filters.{Filters}
 
 -- a block's body that is being printed: the bodies behind it, and the environment of its placement
 pub record Placement : Type 0 where

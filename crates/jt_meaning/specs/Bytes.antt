@@ -1,5 +1,5 @@
 -- How long the names of a program and the texts of its pool are, in bytes.
-use Rattle.std.specs.Prelude.{ℕ, ◌≤◌, length, List}
+use Rattle.std.specs.Prelude.{ℕ, ◌≤◌, length}
 use Rattle.std.specs.List.{AllByRecursion}
 use Rattle.jt_value.specs.Tree as tree
 use Rattle.jt_value.specs.Tree.{Tree}

@@ -116,8 +116,8 @@ module _ (world : World) (calls : Calls) where
     value (item e k) a env = bind (value e a env) (λ v. bind (value k a env) (λ w. operated op.Item (v ∷ w ∷ [])))
     value (call f ts ps) a env = called (callee (macros world.sources a.home) f) a env (values ts a env) (named_values ps a env)
     value (filter e x ts ps) a env =
-        filtered world.filters (world.filters.named x) a.escaping (bind (value e a env) (λ v. bind (values ts a env) (λ vs. bind (named_values ps a env) (λ ks.
-        gives (v ∷ arguments (filter_parameters world.filters (world.filters.named x)) vs (keywords ps) ks)))))
+        filtered world.filters (world.filters.named x ts ps) a.escaping (bind (value e a env) (λ v. bind (values ts a env) (λ vs. bind (named_values ps a env) (λ ks.
+        gives (v ∷ arguments (filter_parameters world.filters (world.filters.named x ts ps)) vs (keywords ps) ks)))))
     value (test e n x ts ps) a env = turned n (asked (test_named x) (bind (value e a env) (λ v. bind (values ts a env) (λ vs. gives (v ∷ vs)))))
     value (unary o e) a env = bind (value e a env) (λ v. operated (unary_operation o) (v ∷ []))
     value (binary o e f) a env = combined (form a.escaping o) (value e a env) (value f a env)

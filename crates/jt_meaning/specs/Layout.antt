@@ -1,13 +1,12 @@
 -- How the names, macros and bodies of chains are laid out in a program: slots of globals, routines, and values in front of the pool.
-use Rattle.std.specs.Prelude.{ℕ, suc, ◌+◌, ◌==◌, ◌&&◌, Bool, false, List, [], ◌∷◌, ◌++◌, length, map, flat_map, filter, Option, Some, None, if◌then◌else◌, true}
-use Rattle.std.specs.Option.{is_some}
+use Rattle.std.specs.Prelude.{ℕ, suc, ◌+◌, ◌==◌, ◌&&◌, Bool, false, List, [], ◌∷◌, ◌++◌, length, map, flat_map, filter, Option, Some, None, if◌then◌else◌}
 use Rattle.std.specs.List.{list_any}
 use Rattle.std.specs.Str.{bytes_eq}
 use Rattle.jt_value.specs.Tree as tree
 use Rattle.jt_value.specs.Tree.{Tree}
 use Rattle.jt_parse.specs.Texts.{among, ascending}
 use Rattle.jt_parse.specs.Trees.{Text}
-use Rattle.jt_inherit.specs.Chain.{Home, templates, BlockBody, all_bodies, MacroBody, macros}
+use Rattle.jt_inherit.specs.Chain.{Home, BlockBody, all_bodies, MacroBody, macros}
 use Rattle.jt_slots.specs.Filters.{default_value}
 use Rattle.jt_rules.specs.World.{World}
 use Rattle.jt_inherit.specs.Uses.{own_names, scope_names}

@@ -82,8 +82,8 @@ module _ (world : World) (calls : Calls) where
   abbrev pub through : List Filtering → Around → Env → Got Tree → Got Tree
   through [] a env g = g
   through (f ∷ fs) a env g =
-      through fs a env (filtered world.filters (world.filters.named f.name) a.escaping (bind g (λ v. bind (values world calls f.arguments a env) (λ vs. bind (named_values world calls f.keywords a env) (λ ks.
-      gives (v ∷ arguments (filter_parameters world.filters (world.filters.named f.name)) vs (keywords f.keywords) ks))))))
+      through fs a env (filtered world.filters (world.filters.named f.name f.arguments f.keywords) a.escaping (bind g (λ v. bind (values world calls f.arguments a env) (λ vs. bind (named_values world calls f.keywords a env) (λ ks.
+      gives (v ∷ arguments (filter_parameters world.filters (world.filters.named f.name f.arguments f.keywords)) vs (keywords f.keywords) ks))))))
 
   abbrev mutual
     pub meaning : Stmt → Around → State → Got State

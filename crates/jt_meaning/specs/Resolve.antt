@@ -15,7 +15,7 @@ use Rattle.jt_slots.specs.Values.{literal, as_value}
 use Rattle.jt_inherit.specs.Uses.{count, keywords, set_in}
 use Rattle.jt_parse.specs.Trees.{Text, Parameter, Filtering, Stmt, data_of, print, choose, for_each, set, set_block, with_values, filter_block, autoescape, macro, include, extends, block, Body, end, stmt, Branches, no_branches, branch}
 use Rattle.jt_inherit.specs.Chain.{Home, Template, templates, BlockBody, MacroBody, macros, Callee, a_macro, a_range, a_super, a_block, a_cycle, no_callee, callee, is_loop}
-use Rattle.jt_slots.specs.Loops.{Field, index0, field_named, tree_at}
+use Rattle.jt_slots.specs.Loops.{Field, index0, field_named}
 use Rattle.jt_slots.specs.Filters.{default_value, some_given}
 use Rattle.jt_parse.specs.Texts.{among}
 use Rattle.jt_rules.specs.World.{World}
@@ -218,8 +218,8 @@ module _ (world : World) (order : List Home) where
     resolved (call f ts ps) sp =
         invoked (callee (macros world.sources sp.home) f) sp (resolved_row ts sp) (resolved_asides ps sp) (count ts) (locals_from sp.free (keywords ps))
     resolved (filter a x ts ps) sp =
-        filtered_by (world.filters.named x) sp.escaping (slots.item (resolved a sp) (resolved_row ts sp (resolved_asides ps sp
-        (filled_some (filter_parameters world.filters (world.filters.named x)) (count ts) (keywords ps) (locals_from sp.free (keywords ps))))))
+        filtered_by (world.filters.named x ts ps) sp.escaping (slots.item (resolved a sp) (resolved_row ts sp (resolved_asides ps sp
+        (filled_some (filter_parameters world.filters (world.filters.named x ts ps)) (count ts) (keywords ps) (locals_from sp.free (keywords ps))))))
     resolved (test a n x ts ps) sp = turned_round n (tested_by (test_named x) (slots.item (resolved a sp) (resolved_row ts sp none)))
     resolved (unary o a) sp = made (operator (unary_operation o)) (slots.item (resolved a sp) none)
     resolved (binary o a b) sp = in_form (form sp.escaping o) (resolved a sp) (resolved b sp)
@@ -247,8 +247,8 @@ module _ (world : World) (order : List Home) where
   abbrev pub resolved_filters : List Filtering → Spot → SExpr Constant → SExpr Constant
   resolved_filters [] sp e = e
   resolved_filters (f ∷ fs) sp e =
-      resolved_filters fs sp (filtered_by (world.filters.named f.name) sp.escaping (slots.item e (resolved_row f.arguments sp (resolved_asides f.keywords sp
-      (filled_some (filter_parameters world.filters (world.filters.named f.name)) (count f.arguments) (keywords f.keywords) (locals_from sp.free (keywords f.keywords)))))))
+      resolved_filters fs sp (filtered_by (world.filters.named f.name f.arguments f.keywords) sp.escaping (slots.item e (resolved_row f.arguments sp (resolved_asides f.keywords sp
+      (filled_some (filter_parameters world.filters (world.filters.named f.name f.arguments f.keywords)) (count f.arguments) (keywords f.keywords) (locals_from sp.free (keywords f.keywords)))))))
 
   -- ---- statements
 

@@ -5,18 +5,19 @@ use Rattle.jt_filters.specs.FilterTable.{filter_id}
 use Rattle.jt_filters.specs.FilterIds.{filter_of}
 use Rattle.jt_filters.specs.declared.filter_id.FilterId.{FilterId}
 use Rattle.jt_filters.specs.declared.filter_id.FilterId.TheVariants as filter
+use Rattle.jt_expr.specs.Trees.{Exprs, Pairs}
 use Rattle.jt_parse.specs.Trees.{Text}
 use Rattle.jt_meaning.specs.Expressions as meant
-use Rattle.jt_slots.specs.TheFilters.{the_filters, filter_named, filter_parameters, parameters_of}
+use Rattle.jt_slots.specs.TheFilters.{the_filters, filter_written, filter_parameters, parameters_of}
 
 has_filter : (x : FilterId) → filter_of (filter_id x) ≡ Some x
 unfolding filter_of
 has_filter filter.Abs = refl
 has_filter x = refl
 
-pub named_is : (x : Text) → the_filters.named x ≡ option_map filter_id (filter_named x)
+pub named_is : (x : Text) (ts : Exprs) (ps : Pairs) → the_filters.named x ts ps ≡ option_map filter_id (filter_written x ts ps)
 unfolding the_filters
-named_is x = refl
+named_is x ts ps = refl
 
 pub parameters_are : (f : FilterId) → meant.filter_parameters the_filters (Some (filter_id f)) ≡ filter_parameters f
 unfolding the_filters

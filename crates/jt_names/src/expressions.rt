@@ -265,7 +265,7 @@ fn resolve_filter(
     ensures placed { IfOk result (λ e. IsPlaced (expr_in scope.now (trees.filter (written.expr_view value.now) name.now (written.exprs_view row.now) (written.pairs_view pairs.now)) spot.now) (expr_view e) (values pool.old) (values pool.new)) }
     ensures refused { IfErr result (λ e. e ≡ error.NoMemory) }
 {
-    match filter_of(name) {
+    match filter_of(name, row, pairs) {
         None => Ok(no_operation(alloc)),
         Some(filter) => {
             let first = resolve_expression(alloc, scope, spot, value, pool)?;

@@ -56,15 +56,15 @@ fn resolve_filtering(
 ) -> Result<SExpr, ScopeError>
     requires { IsLaidOut scope.now }
     ensures placed { IfOk result (λ e. (c : slots.SExpr Constant) (p : List Tree) → length p ≡ start → IsPlaced c (expr_view value) p (values pool.old)
-        → IsPlaced (filtered_in scope.now ((world_in scope.now).filters.named (filtering_view filtering.now).name) c (filtering_view filtering.now).arguments (filtering_view filtering.now).keywords spot.now)
+        → IsPlaced (filtered_in scope.now ((world_in scope.now).filters.named (filtering_view filtering.now).name (filtering_view filtering.now).arguments (filtering_view filtering.now).keywords) c (filtering_view filtering.now).arguments (filtering_view filtering.now).keywords spot.now)
         (expr_view e) p (values pool.new)) }
     ensures refused { IfErr result (λ e. e ≡ error.NoMemory) }
 {
-    let Some(filter) = filter_of(filtering.name.as_str()) else {
+    let row = filtering.arguments.as_slice();
+    let pairs = filtering.keywords.as_slice();
+    let Some(filter) = filter_of(filtering.name.as_str(), row, pairs) else {
         pool.truncate(start);
         return Ok(no_operation(alloc));
     };
-    let row = filtering.arguments.as_slice();
-    let pairs = filtering.keywords.as_slice();
     resolve_filtered(alloc, scope, spot, filter, value, row, pairs, pool)
 }

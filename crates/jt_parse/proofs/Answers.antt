@@ -1,5 +1,5 @@
 -- What is answered of pieces.
-use Rattle.std.proofs.Common.{◌≡◌, ℕ, ◌≤◌, List, Bool, true, false, refl, sym, ap, ◌∙◌, Option, Some, None, Result, Ok, Err, IfOk, IfErr, MatchResult}
+use Rattle.std.proofs.Common.{◌≡◌, ℕ, ◌≤◌, List, true, false, refl, sym, ap, ◌∙◌, None, Result, Ok, Err, IfOk, IfErr, MatchResult}
 use Rattle.jt_expr.specs.Reading.{Fault, syntax, deep}
 use Rattle.jt_expr.specs.Trees.{Expr}
 use Rattle.jt_expr.specs.Gives.{GivesWhole}
@@ -18,12 +18,12 @@ use Rattle.jt_scan.specs.View.{cut_of}
 use Rattle.jt_scan.specs.declared.segment.Segment.{Segment as Part}
 use Rattle.jt_parse.proofs.Weighs.{weighs_less}
 use Rattle.jt_parse.proofs.Short.{no_longer}
-use Rattle.jt_parse.specs.Names.{Found, body_unknown}
+use Rattle.jt_parse.specs.Names.{body_unknown}
 use Rattle.jt_parse.specs.Places.{is_placed}
-use Rattle.jt_parse.specs.Grammar.{Forms, Spelled}
+use Rattle.jt_parse.specs.Grammar.{Spelled}
 use Rattle.jt_parse.specs.Reading.{parsed}
 use Rattle.jt_parse.specs.View.{body_of, reads_of}
-use Rattle.jt_parse.specs.Gives.{Refuses, GivesTemplate, GivesNames, GivesPlaces, IsMisplaced, IsNone, not_read, misplaced, GivesKnown, Finds, refusal_at}
+use Rattle.jt_parse.specs.Gives.{Refuses, GivesTemplate, GivesNames, GivesPlaces, IsNone, not_read, misplaced, GivesKnown, Finds, refusal_at}
 use Rattle.jt_parse.specs.Refusals.{HoldsUnknown, IsRefusal}
 use Rattle.jt_parse.specs.declared.error.ParseError.{ParseError}
 use Rattle.jt_parse.specs.declared.error.ParseError.TheVariants as e

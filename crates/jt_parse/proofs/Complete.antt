@@ -1,17 +1,16 @@
 -- What pieces spell is read, or too deep.
-use Rattle.std.proofs.Common.{◌≡◌, ℕ, suc, ◌+◌, ◌-◌, ◌<◌, ◌≤◌, max, nat_lt, Bool, true, false, List, [], ◌∷◌, ◌++◌, length, codes, refl, sym, ap, subst, ◌∙◌, append_assoc, append-nil, arith, Result, Ok, encode_utf8_all, bytes_eq, ⊎_elim, Err}
+use Rattle.std.proofs.Common.{◌≡◌, ℕ, suc, ◌+◌, ◌-◌, ◌<◌, ◌≤◌, max, nat_lt, true, false, List, [], ◌∷◌, ◌++◌, length, codes, refl, sym, ap, ◌∙◌, append_assoc, append-nil, arith, Result, Ok, encode_utf8_all, bytes_eq, ⊎_elim}
 use Rattle.std.proofs.lemmas.Bool.{cases_lt}
 use Rattle.std.proofs.lemmas.Bool.Decides.{nat_tests}
 use Rattle.std.proofs.lemmas.Slice.Eq.{bytes_eq-Decides}
 use Rattle.jt_scan.specs.Cut.{Token}
 use Rattle.jt_expr.specs.Trees.{Expr, levels}
-use Rattle.jt_expr.specs.Grammar as expressions
-use Rattle.jt_expr.specs.Grammar.{word, Spells}
+use Rattle.jt_expr.specs.Grammar.{word}
 use Rattle.jt_expr.specs.Reading as reader
 use Rattle.jt_expr.specs.Reading.{Fault, deep}
 use Rattle.jt_parse.specs.Trees.{Stmt, data_of, print, choose, Body, end, stmt, Branches, no_branches, branch, stmt_levels, body_levels, branch_levels}
 use Rattle.jt_parse.specs.Kept.{Piece}
-use Rattle.jt_parse.specs.Tags.{Loop, Opening, a_text, values, filters, escaping, a_macro, a_block, Head, a_statement, an_if, a_loop, an_opening, made, looped, Says, Ends, by_word, by_name, opening_levels, loop_levels}
+use Rattle.jt_parse.specs.Tags.{Loop, Opening, a_text, values, filters, escaping, a_macro, a_block, Head, made, looped, Says, Ends, by_word, by_name, opening_levels, loop_levels}
 use Rattle.jt_parse.specs.TagReading.{head_at, all_of}
 use Rattle.jt_parse.specs.Grammar.{block, Forms, nothing_more, some_data, a_print, one_tag, an_if_statement, a_for_statement, enclosed, GoesOn, no_elif, an_elif, Otherwise, no_else, an_else}
 use Rattle.jt_parse.specs.Reading.{then_all, then_one, then_branches, then_branch, Frame, in_branch, in_else, in_loop, in_loop_else, in_opening, State, state, start, ◌>>=◌, allowed, headed, run, whole, parsed, print_tag, head_tag, elif_tag, else_tag, end_tag, block_tag}

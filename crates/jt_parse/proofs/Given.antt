@@ -1,5 +1,5 @@
 -- The values of a tag.
-use Rattle.std.proofs.Common.{◌≡◌, ℕ, ◌<◌, List, [], ◌∷◌, length, refl, ap, ◌∙◌, arith, Ok, String, Global, string_bytes}
+use Rattle.std.proofs.Common.{◌≡◌, ℕ, ◌<◌, List, [], ◌∷◌, length, refl, ap, arith, Ok, String, Global, string_bytes}
 use Rattle.jt_scan.specs.declared.segment.Sign.TheVariants as s
 use Rattle.jt_expr.specs.Trees.{Expr, pair}
 use Rattle.jt_expr.specs.Grammar.{Tokens}

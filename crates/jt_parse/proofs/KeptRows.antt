@@ -1,5 +1,5 @@
 -- What is left of some texts, computed.
-use Rattle.std.proofs.Common.{◌≡◌, Bool, true, false, [], ◌∷◌, codes, refl}
+use Rattle.std.proofs.Common.{◌≡◌, Bool, true, false, [], codes, refl}
 use Rattle.jt_scan.specs.declared.options.Options.{Options}
 use Rattle.jt_scan.specs.declared.segment.Mark.TheVariants as m
 use Rattle.jt_scan.specs.Cut.{after_space}

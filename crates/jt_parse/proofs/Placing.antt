@@ -1,6 +1,6 @@
 -- Where the statements of a template stand, one after the other.
-use Rattle.std.proofs.Common.{◌≡◌, ℕ, ◌+◌, ◌<◌, ◌&&◌, Bool, true, false, not, List, length, drop, get_or, refl, sym, ap, subst, ◌∙◌, Option, Some, None, Vec, Global}
-use Rattle.std.proofs.lemmas.List.{drop_more, at_drop_all}
+use Rattle.std.proofs.Common.{◌≡◌, ℕ, ◌+◌, ◌<◌, ◌&&◌, Bool, true, false, not, List, length, drop, get_or, refl, sym, ap, ◌∙◌, Option, Some, None, Vec, Global}
+use Rattle.std.proofs.lemmas.List.{drop_more}
 use Rattle.jt_expr.specs.View.{expr_view}
 use Rattle.jt_expr.specs.declared.tree.Expr.{Expr}
 use Rattle.jt_parse.specs.Trees as trees

@@ -1,5 +1,5 @@
 -- The names and texts of a tree are no longer than those of its segments.
-use Rattle.std.proofs.Common.{◌≡◌, ℕ, ◌+◌, ◌-◌, ◌≤◌, if◌then◌else◌, Bool, true, false, List, [], ◌∷◌, ◌++◌, length, take, drop, codes, encode_utf8_all, arith, refl, sym, ap, ◌∙◌, Option, Some, None, length-append}
+use Rattle.std.proofs.Common.{◌≡◌, ℕ, ◌+◌, ◌-◌, ◌≤◌, if◌then◌else◌, Bool, true, false, List, [], ◌∷◌, ◌++◌, length, take, drop, codes, encode_utf8_all, arith, refl, sym, ap, ◌∙◌, Option, length-append}
 use Rattle.std.proofs.lemmas.List.{take-append-drop}
 use Rattle.std.proofs.lemmas.Str.{encodes-append}
 use lib.Utf8.{encodes}
@@ -13,7 +13,7 @@ use Rattle.jt_scan.specs.Cut as cut
 use Rattle.jt_scan.specs.Cut.{Segment}
 use Rattle.jt_expr.specs.Trees.{Expr, Pairs}
 use Rattle.jt_expr.specs.Grammar.{Tokens, word}
-use Rattle.jt_expr.specs.Sizes.{expr_bytes, exprs_bytes, pairs_bytes, literal_bytes, tokens_bytes}
+use Rattle.jt_expr.specs.Sizes.{expr_bytes, exprs_bytes, pairs_bytes, tokens_bytes}
 use Rattle.jt_expr.proofs.Short.{spells_short}
 use Rattle.jt_parse.specs.Trees.{Text, Filtering, Parameter, Body, Branches}
 use Rattle.jt_parse.specs.Bytes.{texts_bytes, condition_bytes, filtering_bytes, default_bytes, parameters_bytes, stmt_bytes, body_bytes, branch_bytes, segment_bytes, bytes_of}
@@ -21,7 +21,7 @@ use Rattle.jt_parse.specs.Kept as kept
 use Rattle.jt_parse.specs.Kept.{Piece, Side, pieces_from, with_segment, with_text, side_ahead, side_behind, block_side, variable_side, after_left, without_end, after_lf}
 use Rattle.jt_scan.specs.declared.segment.Mark.TheVariants as m
 use Rattle.jt_parse.specs.View.{reads_of}
-use Rattle.jt_parse.specs.Tags.{Separated, only, also, IsName, a_name, IsValue, a_value, pairs_of, Values, no_values, some_values, IsFiltering, a_filter, IsParameter, plain, with_default, Parameters, no_parameters, some_parameters, Loop, Opening, a_text as set_text, values, filters, escaping, a_macro, a_block, Head, a_statement, an_if, a_loop, an_opening, made, Condition, no_condition, a_condition, flag, Context, missing_words, Says, says_if, says_for, says_set, says_text, says_with, says_filter, says_autoescape, says_macro, says_include, says_extends, says_block}
+use Rattle.jt_parse.specs.Tags.{Separated, only, also, IsName, a_name, IsValue, a_value, pairs_of, Values, no_values, some_values, IsFiltering, a_filter, IsParameter, plain, with_default, Parameters, no_parameters, some_parameters, Opening, a_text as set_text, values, filters, escaping, a_macro, a_block, Head, a_statement, an_if, a_loop, an_opening, made, Condition, no_condition, a_condition, Says, says_if, says_for, says_set, says_text, says_with, says_filter, says_autoescape, says_macro, says_include, says_extends, says_block}
 use Rattle.jt_parse.specs.Grammar.{block, Forms, nothing_more, some_data, a_print, one_tag, an_if_statement, a_for_statement, enclosed, GoesOn, no_elif, an_elif, Otherwise, no_else, an_else}
 use Rattle.jt_parse.proofs.Weighs.{literal_spelled, filter_spelled}
 use Rattle.jt_parse.proofs.Sides.{space_end, lf_end, whole_end}

@@ -1,5 +1,5 @@
 -- Pieces, segment by segment.
-use Rattle.std.proofs.Common.{◌≡◌, ℕ, ◌<◌, length, arith, encode_utf8_all, IsUtf8, List, [], ◌∷◌, ◌++◌, refl, sym, ap, subst, ◌∙◌, Result, Ok, Err}
+use Rattle.std.proofs.Common.{◌≡◌, ℕ, ◌<◌, length, arith, encode_utf8_all, IsUtf8, List, [], ◌∷◌, ◌++◌, refl, sym, ap, ◌∙◌, Result, Ok, Err}
 use Rattle.jt_scan.specs.declared.options.Options.{Options}
 use Rattle.jt_scan.specs.Cut as cut
 use Rattle.jt_scan.specs.Cut.{Text, Segment}

@@ -1,17 +1,17 @@
 -- What the tokens of a statement's tag say is read, or too deep.
-use Rattle.std.proofs.Common.{◌≡◌, ℕ, zero, suc, ◌+◌, ◌<◌, ◌≤◌, max, nat_le, Bool, true, false, if◌then◌else◌, List, [], ◌∷◌, ◌++◌, length, drop, codes, encode_utf8_all, bytes_eq, refl, sym, ap, subst, ◌∙◌, append_assoc, append-nil, arith, Option, Some, None, Result, Ok, Err, length-append}
+use Rattle.std.proofs.Common.{◌≡◌, ℕ, zero, suc, ◌<◌, ◌≤◌, max, nat_le, Bool, true, false, if◌then◌else◌, List, [], ◌∷◌, ◌++◌, length, drop, codes, encode_utf8_all, bytes_eq, refl, sym, ap, ◌∙◌, append_assoc, append-nil, arith, Option, Some, None, Ok, Err, length-append}
 use Rattle.jt_scan.specs.declared.segment.Sign.{Sign}
 use Rattle.jt_scan.specs.declared.segment.Sign.TheVariants as s
 use Rattle.jt_scan.specs.Cut as cut
-use Rattle.jt_expr.specs.Trees.{Literal, Expr, no_pairs, levels, exprs_levels, pairs_levels}
+use Rattle.jt_expr.specs.Trees.{Expr, no_pairs, levels, exprs_levels, pairs_levels}
 use Rattle.jt_expr.specs.Grammar.{Tokens, word, is_reserved, whole, disjunction, Spells}
-use Rattle.jt_expr.specs.Reading.{Outcome, Reader, ◌>>=◌, Fault, syntax, deep, sees, says, cap, expect, word_at, name_at, read, arguments_at}
+use Rattle.jt_expr.specs.Reading.{Outcome, Reader, ◌>>=◌, syntax, deep, sees, says, cap, expect, word_at, name_at, read}
 use Rattle.jt_expr.proofs.Complete.{Stops, nothing_stops, comma_stops, if_stops, spelled_is_read, arguments_are_read}
 use Rattle.jt_expr.proofs.Branches.{sees_self}
 use Rattle.jt_parse.specs.Trees as trees
 use Rattle.jt_parse.specs.Trees.{Text, Parameter, Filtering, stmt_levels, condition_levels, filtering_levels}
-use Rattle.jt_parse.specs.Tags.{Separated, only, also, IsName, a_name, IsValue, a_value, pairs_of, Values, no_values, some_values, IsFiltering, a_filter, literal_token, IsParameter, plain, with_default, defaults_last, Parameters, no_parameters, some_parameters, Head, a_statement, an_if, a_loop, an_opening, values, filters, escaping, a_macro, a_block, a_text, Condition, no_condition, a_condition, flag, Context, unsaid, with_context, without_context, missing_words, truth_word, Says, says_if, says_for, says_set, says_text, says_with, says_filter, says_autoescape, says_macro, says_include, says_extends, says_block, opening_levels, loop_levels}
-use Rattle.jt_parse.specs.TagReading.{separated, expect_word, target_at, value_at, filtering_at, literal_by, literal_at, default_at, parameter_at, parameters_at, condition_at, text_at, missing_at, context_at, if_head, for_head, text_by, set_head, with_head, filter_head, autoescape_head, macro_head, include_head, extends_head, block_head, head_at, all_taken, all_of}
+use Rattle.jt_parse.specs.Tags.{Separated, only, also, IsName, a_name, IsValue, a_value, pairs_of, Values, no_values, some_values, IsFiltering, a_filter, IsParameter, plain, with_default, defaults_last, Parameters, no_parameters, some_parameters, Head, a_statement, an_if, a_loop, an_opening, values, filters, escaping, a_macro, a_block, a_text, Condition, no_condition, a_condition, flag, Context, unsaid, with_context, without_context, missing_words, Says, says_if, says_for, says_set, says_text, says_with, says_filter, says_autoescape, says_macro, says_include, says_extends, says_block, opening_levels, loop_levels}
+use Rattle.jt_parse.specs.TagReading.{separated, expect_word, target_at, value_at, filtering_at, literal_at, default_at, parameter_at, parameters_at, condition_at, text_at, missing_at, context_at, if_head, for_head, text_by, set_head, with_head, filter_head, autoescape_head, macro_head, include_head, extends_head, block_head, head_at, all_of}
 use Rattle.jt_parse.specs.Reading.{is_end_word}
 use Rattle.jt_parse.proofs.Bodies.{within, within_in, chained}
 use Rattle.jt_parse.proofs.Rows.{on_one}

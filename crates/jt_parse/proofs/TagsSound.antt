@@ -1,18 +1,18 @@
 -- What is read of a statement's tag is what its tokens say.
-use Rattle.std.proofs.Common.{◌≡◌, ℕ, zero, suc, Bool, true, false, if◌then◌else◌, List, [], ◌∷◌, ◌++◌, length, drop, codes, encode_utf8_all, bytes_eq, refl, sym, ap, ap₂, subst, ◌∙◌, append_assoc, append-nil, Option, Some, None, Result, Ok, Err}
+use Rattle.std.proofs.Common.{◌≡◌, ℕ, zero, suc, Bool, true, false, if◌then◌else◌, List, [], ◌∷◌, ◌++◌, length, drop, codes, encode_utf8_all, bytes_eq, refl, sym, ap, ap₂, subst, ◌∙◌, append_assoc, append-nil, Option, Some, None, Ok, Err}
 use Rattle.std.proofs.lemmas.Slice.Eq.{bytes_eq-Decides}
 use Rattle.jt_scan.specs.declared.segment.Sign.{Sign}
 use Rattle.jt_scan.specs.declared.segment.Sign.TheVariants as s
 use Rattle.jt_scan.specs.Cut as cut
 use Rattle.jt_scan.specs.Cut.{Token}
-use Rattle.jt_expr.specs.Trees.{Literal, Expr, no_pairs}
+use Rattle.jt_expr.specs.Trees.{Literal, Expr}
 use Rattle.jt_expr.specs.Grammar.{Tokens, word, is_reserved, whole, disjunction, Spells}
-use Rattle.jt_expr.specs.Reading.{Outcome, Reader, ◌>>=◌, Fault, syntax, sees, says, past, expect, word_at, name_at, unreserved, read, arguments_at}
+use Rattle.jt_expr.specs.Reading.{Outcome, Reader, ◌>>=◌, syntax, sees, says, past, expect, word_at, name_at, unreserved, read, arguments_at}
 use Rattle.jt_expr.proofs.Branches.{by_test, says_sound, sees_sound}
 use Rattle.jt_expr.proofs.Sound.{read_is_spelled, arguments_are_spelled}
 use Rattle.jt_parse.specs.Trees as trees
 use Rattle.jt_parse.specs.Trees.{Text, Parameter, Filtering}
-use Rattle.jt_parse.specs.Tags.{Separated, only, also, IsName, a_name, IsValue, a_value, pairs_of, Values, no_values, some_values, IsFiltering, a_filter, literal_token, IsParameter, plain, with_default, defaults_last, Parameters, no_parameters, some_parameters, Head, a_statement, an_if, a_loop, an_opening, values, filters, escaping, a_macro, a_block, a_text, Condition, no_condition, a_condition, flag, Context, unsaid, with_context, without_context, missing_words, truth_word, Says, says_if, says_for, says_set, says_text, says_with, says_filter, says_autoescape, says_macro, says_include, says_extends, says_block}
+use Rattle.jt_parse.specs.Tags.{Separated, only, also, IsName, a_name, IsValue, a_value, pairs_of, no_values, some_values, IsFiltering, a_filter, literal_token, IsParameter, plain, with_default, defaults_last, Parameters, no_parameters, some_parameters, Head, a_statement, an_if, a_loop, an_opening, values, filters, escaping, a_macro, a_block, a_text, Condition, no_condition, a_condition, flag, Context, unsaid, with_context, without_context, missing_words, truth_word, Says, says_if, says_for, says_set, says_text, says_with, says_filter, says_autoescape, says_macro, says_include, says_extends, says_block}
 use Rattle.jt_parse.specs.TagReading.{separated, expect_word, target_at, value_at, filtering_at, literal_by, literal_at, default_at, parameter_at, parameters_at, condition_at, text_at, missing_at, context_at, if_head, for_head, text_by, set_head, with_head, filter_head, autoescape_head, macro_head, include_head, extends_head, block_head, head_at, all_taken, all_of}
 use Rattle.jt_parse.proofs.Rows.{on_one}
 

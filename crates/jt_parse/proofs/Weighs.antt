@@ -1,5 +1,5 @@
 -- A tree is no heavier than its segments.
-use Rattle.std.proofs.Common.{◌≡◌, ℕ, pos, ◌+◌, ◌-◌, ◌*◌, ◌≤◌, max, Bool, true, false, List, [], ◌∷◌, ◌++◌, length, codes, encode_utf8_all, arith, refl, subst, sym, ap, map, Option, Some, None}
+use Rattle.std.proofs.Common.{◌≡◌, ℕ, pos, ◌+◌, ◌-◌, ◌*◌, ◌≤◌, false, List, [], ◌∷◌, ◌++◌, length, codes, encode_utf8_all, arith, refl, subst, Option, Some}
 use Rattle.jt_scan.specs.declared.segment.Sign.{Sign}
 use Rattle.jt_scan.specs.declared.segment.Sign.TheVariants as s
 use Rattle.jt_scan.specs.declared.segment.Segment.{Segment as Part}
@@ -8,15 +8,14 @@ use Rattle.jt_scan.specs.Cut as cut
 use Rattle.jt_scan.specs.Cut.{Token, Segment, weight, weight_of, tokens_weight}
 use Rattle.jt_expr.specs.Trees as e
 use Rattle.jt_expr.specs.Trees.{Expr, Exprs, Pairs, Literal, exprs_weight, pairs_weight, perhaps_enclosed, literal_weight}
-use Rattle.jt_expr.specs.Grammar.{Tokens, word, is_reserved, whole, postfix, postscript, Spells, unsigned, postfixes, postscripts, stay, filtered, a_number, a_text, a_constant, Arguments}
+use Rattle.jt_expr.specs.Grammar.{Tokens, word, is_reserved, postfix, postscript, Spells, unsigned, postfixes, postscripts, stay, filtered, a_number, a_text, a_constant, Arguments}
 use Rattle.jt_expr.proofs.Weighs.{spells_weighs}
-use Rattle.jt_parse.specs.Trees as trees
 use Rattle.jt_parse.specs.Trees.{Text, Filtering, Parameter, Body, Branches, stmt_weight, body_weight, branch_weight, condition_weight, filtering_weight, default_weight, parameters_weight}
 use Rattle.jt_parse.specs.Kept as kept
 use Rattle.jt_parse.specs.Kept.{Piece, Read, Side, pieces_from, with_segment, with_text, side_ahead, side_behind, block_side}
 use Rattle.jt_scan.specs.declared.options.Options.{Options}
 use Rattle.jt_parse.specs.View.{reads_of}
-use Rattle.jt_parse.specs.Tags.{Separated, only, also, IsName, a_name, IsValue, a_value, pairs_of, Values, no_values, some_values, IsFiltering, a_filter, literal_token, IsParameter, plain, with_default, Parameters, no_parameters, some_parameters, Loop, Opening, a_text as set_text, values, filters, escaping, a_macro, a_block, Head, a_statement, an_if, a_loop, an_opening, made, Condition, no_condition, a_condition, flag, Context, missing_words, Says, says_if, says_for, says_set, says_text, says_with, says_filter, says_autoescape, says_macro, says_include, says_extends, says_block, Ends, by_word, by_name, end_word}
+use Rattle.jt_parse.specs.Tags.{Separated, only, also, IsName, a_name, IsValue, a_value, pairs_of, Values, no_values, some_values, IsFiltering, a_filter, literal_token, IsParameter, plain, with_default, Parameters, no_parameters, some_parameters, Opening, a_text as set_text, values, filters, escaping, a_macro, a_block, Head, a_statement, an_if, a_loop, an_opening, made, Condition, no_condition, a_condition, Says, says_if, says_for, says_set, says_text, says_with, says_filter, says_autoescape, says_macro, says_include, says_extends, says_block, Ends, by_word, by_name}
 use Rattle.jt_parse.specs.Grammar.{block, Forms, nothing_more, some_data, a_print, one_tag, an_if_statement, a_for_statement, enclosed, GoesOn, no_elif, an_elif, Otherwise, no_else, an_else}
 
 -- ---- tokens

@@ -1,5 +1,5 @@
 -- What the functions of the parser give.
-use Rattle.std.specs.Prelude.{◌≡◌, ℕ, List, map, reverse, Bool, true, false, Option, Some, None, Result, Ok, Err}
+use Rattle.std.specs.Prelude.{◌≡◌, ℕ, List, map, reverse, Bool, true, false, Some, None, Result, Ok, Err}
 use Rattle.jt_expr.specs.Trees as trees
 use Rattle.jt_expr.specs.Reading.{Fault, syntax, deep}
 use Rattle.jt_expr.specs.View.{expr_view}

@@ -1,9 +1,9 @@
 -- Which names of filters and tests in templates have a meaning.
-use Rattle.std.specs.Prelude.{◌≡◌, ℕ, Bool, false, ◌||◌, List, [], ◌∷◌, Option, Some, None, if◌then◌else◌}
+use Rattle.std.specs.Prelude.{ℕ, Bool, false, ◌||◌, List, [], ◌∷◌, Option, Some, None, if◌then◌else◌}
 use Rattle.std.specs.Option.{option_or}
 use Rattle.jt_expr.specs.declared.named.Named.{Named}
 use Rattle.jt_expr.specs.declared.named.Named.TheVariants as named
-use Rattle.jt_expr.specs.Named.{has_unknown, exprs_have_unknown, pairs_have_unknown, unknown_filter}
+use Rattle.jt_expr.specs.Named.{has_unknown, exprs_have_unknown, pairs_have_unknown, filter_unknown}
 use Rattle.jt_expr.specs.Trees.{Expr}
 use Rattle.jt_parse.specs.Trees.{Filtering, Stmt, data_of, print, choose, for_each, set, set_block, with_values, filter_block, autoescape, macro, include, extends, block, Body, end, stmt, Branches, no_branches, branch}
 
@@ -23,7 +23,7 @@ condition_unknown u None = false
 condition_unknown u (Some c) = has_unknown u c
 
 abbrev pub filtering_unknown : Named → Filtering → Bool
-filtering_unknown u f = unknown_filter u f.name || (exprs_have_unknown u f.arguments || pairs_have_unknown u f.keywords)
+filtering_unknown u f = filter_unknown u f.name f.arguments f.keywords || (exprs_have_unknown u f.arguments || pairs_have_unknown u f.keywords)
 
 abbrev pub filterings_unknown : Named → List Filtering → Bool
 filterings_unknown u [] = false

@@ -1,5 +1,5 @@
 -- Where each statement may stand in a template.
-use Rattle.std.specs.Prelude.{ℕ, Bool, true, false, not, ◌&&◌, ◌||◌, List, if◌then◌else◌}
+use Rattle.std.specs.Prelude.{Bool, true, false, not, ◌&&◌, ◌||◌, if◌then◌else◌}
 use Rattle.std.specs.List.{list_all}
 use Rattle.jt_scan.specs.Cut.{is_space}
 use Rattle.jt_parse.specs.Trees.{Text, Stmt, data_of, print, choose, for_each, set, set_block, with_values, filter_block, autoescape, macro, include, extends, block, Body, end, stmt, Branches, no_branches, branch}

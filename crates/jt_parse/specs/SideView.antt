@@ -1,5 +1,5 @@
 -- What contracts see of the sides of a text.
-use Rattle.std.specs.Prelude.{ℕ, Bool, List, map}
+use Rattle.std.specs.Prelude.{ℕ, Bool, List}
 use Rattle.jt_scan.specs.Cut.{is_space}
 use Rattle.jt_scan.specs.declared.segment.Segment.{Segment}
 use Rattle.jt_parse.specs.Kept as kept

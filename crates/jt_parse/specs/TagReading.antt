@@ -8,7 +8,7 @@ use Rattle.jt_expr.specs.Grammar.{Tokens, whole, disjunction}
 use Rattle.jt_expr.specs.Reading.{Outcome, Reader, ◌>>=◌, Fault, syntax, sees, says, past, expect, name_at, read, arguments_at}
 use Rattle.jt_parse.specs.Trees as trees
 use Rattle.jt_parse.specs.Trees.{Text, Parameter, Filtering}
-use Rattle.jt_parse.specs.Tags.{literal_token, defaults_last, pairs_of, Loop, a_text, values, filters, escaping, a_macro, a_block, Head, a_statement, an_if, a_loop, an_opening}
+use Rattle.jt_parse.specs.Tags.{literal_token, defaults_last, pairs_of, a_text, values, filters, escaping, a_macro, a_block, Head, a_statement, an_if, a_loop, an_opening}
 
 -- parts with a sign between them; the number bounds the turns, and each takes a token
 unfoldable pub separated : {A : Type 0} → Reader A → Sign → ℕ → Reader (List A)

@@ -1,5 +1,5 @@
 -- What contracts see of trees: statements and branches, and not where they lie in memory.
-use Rattle.std.specs.Prelude.{ℕ, List, [], ◌∷◌, map, string_bytes, Vec, String, Option, option_map}
+use Rattle.std.specs.Prelude.{ℕ, List, [], ◌∷◌, map, string_bytes, Vec, String, option_map}
 use Rattle.std.specs.declared.alloc.Global.{Global}
 use Rattle.jt_parse.specs.Trees as trees
 use Rattle.jt_parse.specs.Trees.{Text, Body, end, Branches, no_branches}

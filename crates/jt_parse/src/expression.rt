@@ -19,10 +19,9 @@ use std::alloc::{AllocError, Global};
 pub(crate) fn expression(
     alloc: Global,
     tokens: &[Token<'_>],
-    levels: usize,
+    levels: u8,
     line: u32,
 ) -> Result<Expr, ParseError>
-    requires { levels ≤ 100 }
     ensures { GivesExpr (parsed levels (map token_view tokens.now)) result }
 {
     match jt_expr::expression(alloc, tokens, levels) {
@@ -36,10 +35,9 @@ pub(crate) fn head(
     alloc: Global,
     word: &str,
     tokens: &[Token<'_>],
-    levels: usize,
+    levels: u8,
     line: u32,
 ) -> Result<Head, ParseError>
-    requires { levels ≤ 100 }
     ensures { GivesHead (tags.all_of (tags.head_at levels line (chars word.now) (map token_view tokens.now))) result }
 {
     match read_head(alloc, word, tokens, levels, line) {

@@ -9,7 +9,7 @@ ghost use Rattle.jt_parse.specs.Gives.{GivesNames};
 
 use crate::error::ParseError;
 use crate::tree::{Filtering, Stmt};
-use jt_expr::{Expr, Named, any_unknown, any_unknown_pair, has_unknown, is_unknown_filter};
+use jt_expr::{Expr, Named, any_unknown, any_unknown_pair, has_unknown, is_filter_unknown};
 
 /// Refuses a tag of the line, if a filter or a test in it has no meaning.
 fn check_tag(line: u32, filters: bool, tests: bool) -> Result<(), ParseError>
@@ -65,7 +65,7 @@ fn check_values(line: u32, values: &Vec<(String, Expr)>) -> Result<(), ParseErro
 fn filtering_unknown(filter: &Filtering, named: Named) -> bool
     ensures { result ≡ spec.filtering_unknown named (filtering_view filter.now) }
 {
-    is_unknown_filter(&filter.name, named)
+    is_filter_unknown(&filter.name, &filter.arguments, &filter.keywords, named)
         || any_unknown(&filter.arguments, named)
         || any_unknown_pair(&filter.keywords, named)
 }

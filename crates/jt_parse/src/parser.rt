@@ -50,12 +50,12 @@ struct Parser {
 }
 
 /// How many levels an expression may have in a statement with so many others around it.
-fn levels_left(outer: usize, line: u32) -> Result<usize, ParseError>
+fn levels_left(outer: usize, line: u32) -> Result<u8, ParseError>
     ensures left { IfOk result (λ n. (n ≡ max_levels - suc outer) × (nat_lt outer max_levels ≡ true)) }
     ensures refused { IfErr result (λ e. (e ≡ error.TooDeep line) × (nat_lt outer max_levels ≡ false)) }
 {
     if outer < MAX_LEVELS {
-        Ok(MAX_LEVELS - outer - 1)
+        Ok((MAX_LEVELS - outer - 1) as u8)
     } else {
         Err(ParseError::TooDeep { line })
     }

@@ -1,6 +1,6 @@
 //! The tags of statements, read token by token.
 
-ghost use Rattle.std.specs.Prelude.{◌≡◌, ◌≤◌, ◌<◌, ◌∷◌, ◌^◌, length, map, option_map, string_bytes, IsTrue, IfOk, true, false};
+ghost use Rattle.std.specs.Prelude.{◌≡◌, ◌≤◌, ◌<◌, ◌∷◌, length, map, option_map, string_bytes, IsTrue, IfOk, true, false};
 ghost use Rattle.std.specs.Str.{chars};
 ghost use Rattle.jt_scan.specs.View.{token_view};
 ghost use Rattle.jt_scan.specs.declared.segment.Sign.TheVariants as sign;
@@ -64,10 +64,9 @@ fn targets(alloc: Global, cursor: &mut Cursor<'_>) -> Result<Vec<String>, ExprEr
 fn expression(
     alloc: Global,
     cursor: &mut Cursor<'_>,
-    levels: usize,
+    levels: u8,
     form: Form,
 ) -> Result<Expr, ExprError>
-    requires { levels ≤ 100 }
     ensures { GivesBy expr_view (reading.read levels (level_of_form form) (ahead cursor.old)) result (ahead cursor.new) }
 {
     let Part { expr, .. } = read(alloc, cursor, levels, form)?;
@@ -76,8 +75,7 @@ fn expression(
 
 /// `a = e`
 #[tactic(auto, unfolding(crate::specs::TagReading::value_at))]
-fn value(alloc: Global, cursor: &mut Cursor<'_>, levels: usize) -> Result<(String, Expr), ExprError>
-    requires { levels ≤ 100 }
+fn value(alloc: Global, cursor: &mut Cursor<'_>, levels: u8) -> Result<(String, Expr), ExprError>
     ensures { GivesBy value_view (spec.value_at levels (ahead cursor.old)) result (ahead cursor.new) }
 {
     let name = target(alloc, cursor)?;
@@ -90,9 +88,8 @@ fn value(alloc: Global, cursor: &mut Cursor<'_>, levels: usize) -> Result<(Strin
 fn values(
     alloc: Global,
     cursor: &mut Cursor<'_>,
-    levels: usize,
+    levels: u8,
 ) -> Result<Vec<(String, Expr)>, ExprError>
-    requires { levels ≤ 100 }
     ensures { GivesBy (λ v. values_view v.items) (spec.separated (spec.value_at levels) sign.Comma (length (ahead cursor.old)) (ahead cursor.old)) result (ahead cursor.new) }
 {
     let mut found = Vec::new(alloc);
@@ -108,8 +105,7 @@ fn values(
 
 /// `f(a)`
 #[tactic(auto, unfolding(crate::specs::TagReading::filtering_at))]
-fn filtering(alloc: Global, cursor: &mut Cursor<'_>, levels: usize) -> Result<Filtering, ExprError>
-    requires { levels ≤ 100 }
+fn filtering(alloc: Global, cursor: &mut Cursor<'_>, levels: u8) -> Result<Filtering, ExprError>
     ensures { GivesBy filtering_view (spec.filtering_at levels (ahead cursor.old)) result (ahead cursor.new) }
 {
     let name = target(alloc, cursor)?;
@@ -125,9 +121,8 @@ fn filtering(alloc: Global, cursor: &mut Cursor<'_>, levels: usize) -> Result<Fi
 fn filterings(
     alloc: Global,
     cursor: &mut Cursor<'_>,
-    levels: usize,
+    levels: u8,
 ) -> Result<Vec<Filtering>, ExprError>
-    requires { levels ≤ 100 }
     ensures { GivesBy (λ v. filterings_view v.items) (spec.separated (spec.filtering_at levels) sign.Pipe (length (ahead cursor.old)) (ahead cursor.old)) result (ahead cursor.new) }
 {
     let mut found = Vec::new(alloc);
@@ -227,12 +222,7 @@ fn parameters(alloc: Global, cursor: &mut Cursor<'_>) -> Result<Vec<Parameter>, 
 
 /// The condition of a loop, if it has one.
 #[tactic(auto, unfolding(crate::specs::TagReading::condition_at))]
-fn condition(
-    alloc: Global,
-    cursor: &mut Cursor<'_>,
-    levels: usize,
-) -> Result<Option<Expr>, ExprError>
-    requires { levels ≤ 100 }
+fn condition(alloc: Global, cursor: &mut Cursor<'_>, levels: u8) -> Result<Option<Expr>, ExprError>
     ensures { GivesBy (option_map expr_view) (spec.condition_at levels (ahead cursor.old)) result (ahead cursor.new) }
 {
     if !cursor.eat_word("if") {
@@ -283,8 +273,7 @@ fn context(cursor: &mut Cursor<'_>) -> Result<bool, ExprError>
 
 /// `if c`
 #[tactic(auto, unfolding(crate::specs::TagReading::if_head))]
-fn if_head(alloc: Global, cursor: &mut Cursor<'_>, levels: usize) -> Result<Head, ExprError>
-    requires { levels ≤ 100 }
+fn if_head(alloc: Global, cursor: &mut Cursor<'_>, levels: u8) -> Result<Head, ExprError>
     ensures { GivesBy head_view (spec.if_head levels (ahead cursor.old)) result (ahead cursor.new) }
 {
     let condition = expression(alloc, cursor, levels, Form::Whole)?;
@@ -293,8 +282,7 @@ fn if_head(alloc: Global, cursor: &mut Cursor<'_>, levels: usize) -> Result<Head
 
 /// `for a, b in e if c`
 #[tactic(auto, unfolding(crate::specs::TagReading::for_head))]
-fn for_head(alloc: Global, cursor: &mut Cursor<'_>, levels: usize) -> Result<Head, ExprError>
-    requires { levels ≤ 100 }
+fn for_head(alloc: Global, cursor: &mut Cursor<'_>, levels: u8) -> Result<Head, ExprError>
     ensures { GivesBy head_view (spec.for_head levels (ahead cursor.old)) result (ahead cursor.new) }
 {
     let targets = targets(alloc, cursor)?;
@@ -328,10 +316,9 @@ fn only_name(names: Vec<String>) -> Result<Head, ExprError>
 fn set_head(
     alloc: Global,
     cursor: &mut Cursor<'_>,
-    levels: usize,
+    levels: u8,
     line: u32,
 ) -> Result<Head, ExprError>
-    requires { levels ≤ 100 }
     ensures { GivesBy head_view (spec.set_head levels line (ahead cursor.old)) result (ahead cursor.new) }
 {
     let names = targets(alloc, cursor)?;
@@ -344,8 +331,7 @@ fn set_head(
 
 /// `with a = e, b = f`
 #[tactic(auto, unfolding(crate::specs::TagReading::with_head))]
-fn with_head(alloc: Global, cursor: &mut Cursor<'_>, levels: usize) -> Result<Head, ExprError>
-    requires { levels ≤ 100 }
+fn with_head(alloc: Global, cursor: &mut Cursor<'_>, levels: u8) -> Result<Head, ExprError>
     ensures { GivesBy head_view (spec.with_head levels (ahead cursor.old)) result (ahead cursor.new) }
 {
     if cursor.left() == 0 {
@@ -357,8 +343,7 @@ fn with_head(alloc: Global, cursor: &mut Cursor<'_>, levels: usize) -> Result<He
 
 /// `filter f(a)|g`
 #[tactic(auto, unfolding(crate::specs::TagReading::filter_head))]
-fn filter_head(alloc: Global, cursor: &mut Cursor<'_>, levels: usize) -> Result<Head, ExprError>
-    requires { levels ≤ 100 }
+fn filter_head(alloc: Global, cursor: &mut Cursor<'_>, levels: u8) -> Result<Head, ExprError>
     ensures { GivesBy head_view (spec.filter_head levels (ahead cursor.old)) result (ahead cursor.new) }
 {
     let found = filterings(alloc, cursor, levels)?;
@@ -426,11 +411,10 @@ fn block_head(alloc: Global, cursor: &mut Cursor<'_>) -> Result<Head, ExprError>
 fn head(
     alloc: Global,
     cursor: &mut Cursor<'_>,
-    levels: usize,
+    levels: u8,
     line: u32,
     word: &str,
 ) -> Result<Head, ExprError>
-    requires { levels ≤ 100 }
     ensures { GivesBy head_view (spec.head_at levels line (chars word.now) (ahead cursor.old)) result (ahead cursor.new) }
 {
     if is_word(word, "if") {
@@ -463,10 +447,9 @@ pub fn read_head(
     alloc: Global,
     word: &str,
     tokens: &[Token<'_>],
-    levels: usize,
+    levels: u8,
     line: u32,
 ) -> Result<Head, ExprError>
-    requires { levels ≤ 100 }
     ensures { GivesWhole (spec.all_of (spec.head_at levels line (chars word.now) (map token_view tokens.now))) result }
 {
     let mut cursor = Cursor { rest: tokens };

@@ -10,7 +10,7 @@ use Rattle.jt_parse.specs.Trees.{Text}
 use Rattle.jt_parse.specs.View.{parameters_view}
 use Rattle.jt_parse.specs.declared.tree.Parameter.{Parameter}
 use Rattle.jt_slots.specs.Filters.{some_given}
-use Rattle.jt_rules.specs.Rules as rules
+use Rattle.jt_rules.specs.Walk as rules
 
 abbrev pub all_filled : List Text → List Parameter → Bool
 all_filled ks [] = true

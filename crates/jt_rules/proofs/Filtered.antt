@@ -4,18 +4,21 @@ use Rattle.std.specs.Prelude.{option_map, map}
 use Rattle.std.specs.List.{list_any}
 use Rattle.std.specs.Option.{is_some}
 use Rattle.std.proofs.lemmas.Bool.Decides.{nat_tests}
+use Rattle.jt_expr.specs.Trees as trees
+use Rattle.jt_expr.specs.Trees.{Exprs}
 use Rattle.jt_expr.specs.View.{pairs_view}
 use Rattle.jt_filters.specs.FilterIds.{filter_of, accepts}
 use Rattle.jt_filters.specs.FilterTable.{filter_id}
 use Rattle.jt_filters.specs.declared.filter_id.FilterId.{FilterId}
 use Rattle.jt_filters.specs.declared.filter_id.FilterId.TheVariants as filter
-use Rattle.jt_inherit.specs.Uses.{keywords}
+use Rattle.jt_inherit.specs.Uses.{count, keywords}
 use Rattle.jt_parse.specs.Texts.{among, repeated}
 use Rattle.jt_parse.specs.Trees.{Text, Parameter}
 use Rattle.jt_slots.specs.Filters.{some_given}
-use Rattle.jt_slots.specs.TheFilters.{the_filters, filter_named, filter_parameters, parameters_of}
+use Rattle.jt_slots.specs.Inside.{names_well, inside_of}
+use Rattle.jt_slots.specs.TheFilters.{the_filters, filter_written, filter_parameters, parameters_of}
 use Rattle.jt_rules.specs.Fitting.{filter_takes}
-use Rattle.jt_rules.specs.Rules as rules
+use Rattle.jt_rules.specs.Walk as rules
 use Rattle.jt_rules.specs.declared.error.ScopeError.{ScopeError}
 use Rattle.jt_rules.proofs.Filled.{none_reached}
 use Rattle.jt_rules.proofs.Left.{Entry}
@@ -25,26 +28,29 @@ unfolding filter_of
 known_filter filter.Abs = refl
 known_filter f = refl
 
-rule_of : Option FilterId → ℕ → List Text → Option ScopeError
-rule_of None n ks = None
-rule_of (Some f) n ks = rules.unless (filter_takes f (filter_parameters f) n ks)
+abbrev pub taken_rightly : FilterId → ℕ → Exprs → trees.Pairs → Bool
+taken_rightly f n ts ps = filter_takes f (filter_parameters f) n (keywords ps) && names_well f ts ps
+
+rule_of : Option FilterId → Exprs → trees.Pairs → Option ScopeError
+rule_of None ts ps = None
+rule_of (Some f) ts ps = rules.unless (taken_rightly f (count ts) ts ps)
 
 -- filters go by their ids
-by_id : (o : Option FilterId) (n : ℕ) (ks : List Text) → rules.filter_broken the_filters (option_map filter_id o) n ks ≡ rule_of o n ks
+by_id : (o : Option FilterId) (ts : Exprs) (ps : trees.Pairs) → rules.filter_broken the_filters (option_map filter_id o) ts ps ≡ rule_of o ts ps
 unfolding the_filters rule_of
-by_id None n ks = refl
-by_id (Some f) n ks =
-    ap (λ (o : Option FilterId). rules.unless (accepts o (suc (max n (rules.reached (parameters_of o) ks))) && (rules.is_filled (parameters_of o) n ks && (not (repeated ks) && not (list_any (λ k. not (among k (map (λ p. p.name) (drop n (parameters_of o))))) ks))))) (known_filter f)
+by_id None ts ps = refl
+by_id (Some f) ts ps =
+    ap (λ (o : Option FilterId). rules.unless ((accepts o (suc (max (count ts) (rules.reached (parameters_of o) (keywords ps)))) && (rules.is_filled (parameters_of o) (count ts) (keywords ps) && (not (repeated (keywords ps)) && not (list_any (λ k. not (among k (map (λ p. p.name) (drop (count ts) (parameters_of o))))) (keywords ps))))) && inside_of o ts ps)) (known_filter f)
 
-pub filter_known : (x : Text) (f : FilterId) (n m : ℕ) (ks : List Text) (b : Bool) (r : Option ScopeError) → Some f ≡ filter_named x → m ≡ n → b ≡ filter_takes f (filter_parameters f) n ks → r ≡ rules.unless b
-    → r ≡ rules.filter_broken the_filters (the_filters.named x) m ks
+pub filter_known : (x : Text) (f : FilterId) (n : ℕ) (ts : Exprs) (ps : trees.Pairs) (b : Bool) (r : Option ScopeError) → Some f ≡ filter_written x ts ps → count ts ≡ n → b ≡ taken_rightly f n ts ps → r ≡ rules.unless b
+    → r ≡ rules.filter_broken the_filters (the_filters.named x ts ps) ts ps
 unfolding the_filters rule_of
-filter_known x f n m ks b r is same e h =
-    h ∙ ap rules.unless e ∙ ap (λ (k : ℕ). rule_of (Some f) k ks) (sym same) ∙ ap (λ (o : Option FilterId). rule_of o m ks) is ∙ sym (by_id (filter_named x) m ks)
+filter_known x f n ts ps b r is same e h =
+    h ∙ ap rules.unless e ∙ ap (λ (k : ℕ). rules.unless (taken_rightly f k ts ps)) (sym same) ∙ ap (λ (o : Option FilterId). rule_of o ts ps) is ∙ sym (by_id (filter_written x ts ps) ts ps)
 
-pub filter_unknown : (x : Text) (m : ℕ) (ks : List Text) → None ≡ filter_named x → None ≡ rules.filter_broken the_filters (the_filters.named x) m ks
+pub filter_unknown : (x : Text) (ts : Exprs) (ps : trees.Pairs) → None ≡ filter_written x ts ps → None ≡ rules.filter_broken the_filters (the_filters.named x ts ps) ts ps
 unfolding the_filters rule_of
-filter_unknown x m ks is = ap (λ (o : Option FilterId). rule_of o m ks) is ∙ sym (by_id (filter_named x) m ks)
+filter_unknown x ts ps is = ap (λ (o : Option FilterId). rule_of o ts ps) is ∙ sym (by_id (filter_written x ts ps) ts ps)
 
 -- ---- no arguments by name
 

@@ -12,7 +12,7 @@ use Rattle.jt_inherit.specs.Uses.{count}
 use Rattle.jt_filters.specs.FilterIds.{accepts}
 use Rattle.jt_filters.specs.declared.filter_id.FilterId.{FilterId}
 use Rattle.jt_rules.specs.Fitting.{filter_takes}
-use Rattle.jt_rules.specs.Rules as rules
+use Rattle.jt_rules.specs.Walk as rules
 use Rattle.jt_rules.proofs.Filled.{filled_behind}
 use Rattle.jt_rules.proofs.Shown.{counted}
 

@@ -4,7 +4,7 @@ use Rattle.std.specs.Str.{bytes_eq}
 use Rattle.jt_expr.specs.Trees.{Expr, constant, name, group, list_of, map_of, attribute, item, call, filter, test, unary, binary, when, choice}
 use Rattle.jt_parse.specs.Trees.{Text}
 use Rattle.jt_inherit.specs.Chain.{Home, MacroBody, Callee, no_callee, callee, named_in}
-use Rattle.jt_rules.specs.Rules as rules
+use Rattle.jt_rules.specs.Walk as rules
 use Rattle.jt_rules.specs.ScopeView.{name_in}
 use Rattle.jt_rules.specs.World.{World}
 use Rattle.jt_rules.specs.declared.error.ScopeError.{ScopeError}

@@ -19,7 +19,7 @@ use Rattle.jt_inherit.specs.declared.linked.Chain.{Chain}
 use Rattle.jt_slots.specs.Filters.{Filters}
 use Rattle.jt_slots.specs.Tests.{test_named}
 use Rattle.jt_slots.specs.TheFilters.{the_filters}
-use Rattle.jt_rules.specs.Rules as rules
+use Rattle.jt_rules.specs.Walk as rules
 use Rattle.jt_rules.specs.World.{World}
 use Rattle.jt_rules.specs.Standing.{world_in}
 use Rattle.jt_rules.specs.declared.error.ScopeError.{ScopeError}
@@ -73,11 +73,11 @@ module _ (world : World) (home : Home) (w : rules.Within) where
 
   pub found_filter : world.filters ≡ the_filters → (x f : Expr) (n : Text) (us vs : List Expr) (qs rs : List Entry) (p : Box Expr Global) (y : String Global) (ts : Vec Expr Global) (ps : Vec Entry Global) (r1 r2 r3 r4 o1 o2 o3 : Found)
       → x ≡ e.Filter p y ts ps → n ≡ string_bytes y → us ≡ ts.items → qs ≡ ps.items → f ≡ p.value → vs ≡ ts.items → rs ≡ ps.items
-      → r1 ≡ rules.filter_broken the_filters (the_filters.named n) (count (exprs_view us)) (keywords (pairs_view qs))
+      → r1 ≡ rules.filter_broken the_filters (the_filters.named n (exprs_view us) (pairs_view qs)) (exprs_view us) (pairs_view qs)
       → r2 ≡ rules.broken world home (expr_view f) w → r3 ≡ rules.row_broken world home (exprs_view vs) w → r4 ≡ rules.pairs_broken world home (pairs_view rs) w
       → o1 ≡ option_or r3 r4 → o2 ≡ option_or r2 o1 → o3 ≡ option_or r1 o2 → o3 ≡ rules.broken world home (expr_view x) w
   found_filter ours x f n us vs qs rs p y ts ps r1 r2 r3 r4 o1 o2 o3 is en eu eq ef ev er h1 h2 h3 h4 k1 k2 k3 =
-      let c = λ (fs : Filters) (m : Text) (ys : List Expr) (zs : List Entry). rules.filter_broken fs (fs.named m) (count (exprs_view ys)) (keywords (pairs_view zs)) in
+      let c = λ (fs : Filters) (m : Text) (ys : List Expr) (zs : List Entry). rules.filter_broken fs (fs.named m (exprs_view ys) (pairs_view zs)) (exprs_view ys) (pairs_view zs) in
       let e1 : r1 ≡ c world.filters (string_bytes y) ts.items ps.items =
       h1 ∙ ap (λ z. c the_filters z us qs) en ∙ ap (λ z. c the_filters (string_bytes y) z qs) eu ∙ ap (c the_filters (string_bytes y) ts.items) eq ∙ ap (λ z. c z (string_bytes y) ts.items ps.items) (sym ours) in
       k3 ∙ ap (λ z. option_or z o2) e1 ∙ ap (option_or _) (applied f vs rs p ts ps r2 r3 r4 o1 o2 ef ev er h2 h3 h4 k1 k2)
@@ -111,7 +111,7 @@ module _ (world : World) (home : Home) (w : rules.Within) where
   -- ---- a filter of a filter tag
 
   abbrev filter_part : Filtering → Found
-  filter_part f = rules.filter_broken world.filters (world.filters.named (string_bytes f.name)) (count (exprs_view f.arguments.items)) (keywords (pairs_view f.keywords.items))
+  filter_part f = rules.filter_broken world.filters (world.filters.named (string_bytes f.name) (exprs_view f.arguments.items) (pairs_view f.keywords.items)) (exprs_view f.arguments.items) (pairs_view f.keywords.items)
 
   abbrev row_part : Filtering → Found
   row_part f = rules.row_broken world home (exprs_view f.arguments.items) w
@@ -120,9 +120,9 @@ module _ (world : World) (home : Home) (w : rules.Within) where
   pairs_part f = rules.pairs_broken world home (pairs_view f.keywords.items) w
 
   pub filtering_rule : world.filters ≡ the_filters → (f : Filtering) (n : Text) (us : List Expr) (qs : List Entry) (r : Found) → n ≡ string_bytes f.name → us ≡ f.arguments.items → qs ≡ f.keywords.items
-      → r ≡ rules.filter_broken the_filters (the_filters.named n) (count (exprs_view us)) (keywords (pairs_view qs)) → r ≡ filter_part f
+      → r ≡ rules.filter_broken the_filters (the_filters.named n (exprs_view us) (pairs_view qs)) (exprs_view us) (pairs_view qs) → r ≡ filter_part f
   filtering_rule ours f n us qs r en eu eq h =
-      let c = λ (fs : Filters) (m : Text) (ys : List Expr) (zs : List Entry). rules.filter_broken fs (fs.named m) (count (exprs_view ys)) (keywords (pairs_view zs)) in
+      let c = λ (fs : Filters) (m : Text) (ys : List Expr) (zs : List Entry). rules.filter_broken fs (fs.named m (exprs_view ys) (pairs_view zs)) (exprs_view ys) (pairs_view zs) in
       h ∙ ap (λ z. c the_filters z us qs) en ∙ ap (λ z. c the_filters (string_bytes f.name) z qs) eu ∙ ap (c the_filters (string_bytes f.name) f.arguments.items) eq
       ∙ ap (λ z. c z (string_bytes f.name) f.arguments.items f.keywords.items) (sym ours)
 

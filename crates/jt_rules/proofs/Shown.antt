@@ -18,7 +18,7 @@ use Rattle.jt_parse.specs.declared.tree.Stmt.TheVariants.{rolls-If}
 use Rattle.jt_parse.specs.declared.tree.Filtering.{Filtering}
 use Rattle.jt_parse.specs.declared.tree.Parameter.{Parameter}
 use Rattle.jt_inherit.specs.Uses.{count}
-use Rattle.jt_rules.specs.Rules.{no_keywords}
+use Rattle.jt_rules.specs.Arguments.{no_keywords}
 use Rattle.jt_rules.proofs.Left.{Branch, Entry}
 
 -- ---- expressions

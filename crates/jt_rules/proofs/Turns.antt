@@ -16,8 +16,7 @@ use Rattle.jt_inherit.specs.Uses.{count, keywords, own_names}
 use Rattle.jt_inherit.specs.Pages.{home_name}
 use Rattle.jt_inherit.specs.declared.linked.Home as written
 use Rattle.std.proofs.lemmas.Bool.Decides.{nat_tests}
-use Rattle.jt_rules.specs.Rules as rules
-use Rattle.jt_rules.specs.Rules.{Breaks}
+use Rattle.jt_rules.specs.Walk as rules
 use Rattle.jt_inherit.specs.View.{chain_view, sources_of}
 use Rattle.jt_inherit.specs.declared.linked.Chain.{Chain}
 use Rattle.jt_rules.specs.Standing.{world_in, home_in}
@@ -56,7 +55,7 @@ equal_found (Err x) u v e h = tt
 pub filterings_turn : (world : World) (home : Home) (f : Filtering) (fs : List Filtering) (w : rules.Within)
     → rules.filtering_broken world home (f ∷ fs) w ≡ option_or (rules.filtering_broken world home (f ∷ []) w) (rules.filtering_broken world home fs w)
 filterings_turn world home f fs w =
-    four (rules.filter_broken world.filters (world.filters.named f.name) (count f.arguments) (keywords f.keywords)) (rules.row_broken world home f.arguments w) (rules.pairs_broken world home f.keywords w) (rules.filtering_broken world home fs w)
+    four (rules.filter_broken world.filters (world.filters.named f.name f.arguments f.keywords) f.arguments f.keywords) (rules.row_broken world home f.arguments w) (rules.pairs_broken world home f.keywords w) (rules.filtering_broken world home fs w)
   where
     four : (a b c d : Found) → option_or a (option_or b (option_or c d)) ≡ option_or (option_or a (option_or b (option_or c None))) d
     four None None None d = refl
@@ -104,14 +103,6 @@ names_left world order i lt =
     ap (rules.names_counted world) (drop_more order i [] lt) ∙ ap (λ h. length (ascending (own_names world.sources h)) + rules.names_counted world (drop (i + 1) order)) (there order i)
 
 -- the rule that is found is broken
-pub found_breaks : (e : ScopeError) (world : World) (order : List Home) → Some e ≡ rules.chains_broken world order → Breaks e world order
-found_breaks error.LoopOutside world order h = sym h
-found_breaks error.MacroAsValue world order h = sym h
-found_breaks error.NotCallable world order h = sym h
-found_breaks error.BadArguments world order h = sym h
-found_breaks error.TooManySlots world order h = inl (sym h)
-found_breaks error.NoMemory world order h = tt
-
 pub texts_length : (ks : List (Bor Text)) → length (texts ks) ≡ length ks
 texts_length [] = refl
 texts_length (k ∷ ks) = ap suc (texts_length ks)

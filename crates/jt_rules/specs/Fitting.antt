@@ -5,7 +5,7 @@ use Rattle.jt_filters.specs.FilterIds.{accepts}
 use Rattle.jt_filters.specs.declared.filter_id.FilterId.{FilterId}
 use Rattle.jt_parse.specs.Texts.{among, repeated}
 use Rattle.jt_parse.specs.Trees.{Text, Parameter}
-use Rattle.jt_rules.specs.Rules.{reached, is_filled}
+use Rattle.jt_rules.specs.Arguments.{reached, is_filled}
 
 -- a filter with these parameters takes `n` arguments by place, and others by name
 abbrev pub filter_takes : FilterId → List Parameter → ℕ → List Text → Bool

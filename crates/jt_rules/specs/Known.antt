@@ -23,7 +23,7 @@ module _ (fs : Filters) where
     ExprKnown (attribute a k) = ExprKnown a
     ExprKnown (item a b) = ExprKnown a × ExprKnown b
     ExprKnown (call a ts ps) = RowKnown ts × PairsKnown ps
-    ExprKnown (filter a x ts ps) = IsThere (fs.named x) × ExprKnown a × RowKnown ts × PairsKnown ps
+    ExprKnown (filter a x ts ps) = IsThere (fs.named x ts ps) × ExprKnown a × RowKnown ts × PairsKnown ps
     ExprKnown (test a n x ts ps) = IsThere (test_named x) × ExprKnown a × RowKnown ts × PairsKnown ps
     ExprKnown (unary o a) = ExprKnown a
     ExprKnown (binary o a b) = ExprKnown a × ExprKnown b
@@ -44,7 +44,7 @@ module _ (fs : Filters) where
 
   abbrev pub FilteringKnown : List Filtering → Type 0
   FilteringKnown [] = Unit {0}
-  FilteringKnown (f ∷ fs') = IsThere (fs.named f.name) × RowKnown f.arguments × PairsKnown f.keywords × FilteringKnown fs'
+  FilteringKnown (f ∷ fs') = IsThere (fs.named f.name f.arguments f.keywords) × RowKnown f.arguments × PairsKnown f.keywords × FilteringKnown fs'
 
   abbrev mutual
     pub StmtKnown : Stmt → Type 0

@@ -1,212 +1,111 @@
--- The static rules of names and calls. They are lexical, so a tag that never runs counts.
-use Rattle.std.specs.Prelude.{◌≡◌, ℕ, zero, suc, ◌+◌, ◌<◌, ◌≤◌, max, nat_lt, ◌==◌, Bool, true, false, not, ◌&&◌, ◌||◌, ◌⊎◌, List, [], ◌∷◌, length, map, drop, codes, Option, Some, None, if◌then◌else◌}
-use Rattle.std.specs.Option.{option_or, is_some}
-use Rattle.std.specs.List.{list_any}
-use Rattle.std.specs.Str.{bytes_eq}
-use Rattle.jt_expr.specs.Trees as trees
-use Rattle.jt_expr.specs.Trees.{Expr, constant, name, group, list_of, map_of, attribute, item, call, filter, test, unary, binary, when, choice, Exprs, no_exprs, expr, no_pairs, pair}
-use Rattle.jt_slots.specs.Tests.{test_named}
+-- The static rules of names and calls, one predicate each, of one place of a chain. They are lexical, so a tag that never runs counts.
+use Rattle.std.specs.Prelude.{◌≡◌, ◌≢◌, ℕ, ◌+◌, ◌<◌, Bool, true, false, IsTrue, ◌⊎◌, List, [], ◌∷◌, length, codes, Option, None}
+use Rattle.std.specs.Option.{is_some}
+use Rattle.jt_expr.specs.Trees.{Expr, name, attribute}
 use Rattle.jt_inherit.specs.Uses.{count, keywords, own_names}
-use Rattle.jt_parse.specs.Texts.{ascending, among}
+use Rattle.jt_inherit.specs.Chain.{Home, Template, templates, bodies, macros, macro_of, Callee, a_super, a_block, no_callee, callee, is_loop}
+use Rattle.jt_parse.specs.Texts.{ascending, repeated}
+use Rattle.jt_parse.specs.Trees.{Text, body_bound}
+use Rattle.jt_slots.specs.Loops.{field_named}
+use Rattle.jt_slots.specs.Tests.{test_named}
+use Rattle.jt_rules.specs.Arguments.{callee_takes, test_takes, filter_takes, names_rightly}
+use Rattle.jt_rules.specs.Spots.{Within, Use, reads, binds, asks_loop, calls, filters, tests, declares, parameter_names, chain_spots}
+use Rattle.jt_rules.specs.World.{World}
 use Rattle.jt_rules.specs.declared.error.ScopeError.{ScopeError}
 use Rattle.jt_rules.specs.declared.error.ScopeError.TheVariants as error
-use Rattle.jt_parse.specs.Trees.{Text, Parameter, Filtering, Stmt, data_of, print, choose, for_each, set, set_block, with_values, filter_block, autoescape, macro, include, extends, block, Body, end, stmt, Branches, no_branches, branch, body_bound}
-use Rattle.jt_inherit.specs.Chain.{Home, Template, templates, bodies, macros, macro_of, Callee, a_macro, a_range, a_super, a_block, a_cycle, no_callee, callee, is_loop}
-use Rattle.jt_slots.specs.Loops.{field_named}
-use Rattle.jt_slots.specs.Filters.{Filters, some_given}
-use Rattle.jt_rules.specs.World.{World}
-use Rattle.jt_ops.specs.declared.test_id.TestId.{TestId}
-use Rattle.jt_ops.specs.TestTable.{test_values}
-use Rattle.jt_parse.specs.Texts.{repeated}
 
--- what a name breaks that is read by itself: `loop` where no loop is, and what can only be called
-abbrev pub read_alone : Text → Option ScopeError
-read_alone x =
-    if bytes_eq x (codes "loop") then Some error.LoopOutside
-    else if bytes_eq x (codes "self") || (bytes_eq x (codes "super") || bytes_eq x (codes "range")) then Some error.NotCallable
-    else None
+-- of one of these
+abbrev pub ForSome : {A : Type 0} → (A → Type 0) → List A → Type 0
+ForSome P [] = ⊥
+ForSome P (x ∷ xs) = P x ⊎ ForSome P xs
 
-abbrev pub no_keywords : trees.Pairs → Bool
-no_keywords no_pairs = true
-no_keywords (pair k a ps) = false
+-- the names of forms that are only called
+abbrev pub IsOnlyCalled : Text → Type 0
+IsOnlyCalled x = (x ≡ codes "self") ⊎ ((x ≡ codes "super") ⊎ (x ≡ codes "range"))
 
--- what arguments break that ought to be right
-abbrev pub unless : Bool → Option ScopeError
-unless right = if right then None else Some error.BadArguments
-
--- `range` takes one to three arguments, and no keyword
-abbrev pub range_broken : Exprs → trees.Pairs → Option ScopeError
-range_broken ts ps = unless (nat_lt 0 (count ts) && (nat_lt (count ts) 4 && no_keywords ps))
-
--- a test takes its values, the tested one among them, and no keyword; a test that there is not is the parser's matter
-abbrev pub test_broken : Option TestId → Exprs → trees.Pairs → Option ScopeError
-test_broken None ts ps = None
-test_broken (Some t) ts ps = unless ((suc (count ts) == test_values t) && no_keywords ps)
-
--- what stands around: a loop of the same block or macro body, and a block
-pub record Within : Type 0 where
-  pub in_loop : Bool
-  pub in_block : Bool
-
-abbrev pub refused : Bool → ScopeError → Option ScopeError
-refused wrong e = if wrong then Some e else None
-
--- `n` arguments by place and these by name fit parameters: not too many, none twice, and each name is one of a parameter that is left
-abbrev pub fits : List Parameter → ℕ → List Text → Bool
-fits ps n ks = not (nat_lt (length ps) n) && (not (repeated ks) && not (list_any (λ k. not (among k (map (λ p. p.name) (drop n ps)))) ks))
-
-abbrev pub parameter_names : List Parameter → List Text
-parameter_names ps = map (λ p. p.name) ps
-
--- how many of the parameters come before the last one that is given by name, with it
-abbrev pub reached : List Parameter → List Text → ℕ
-reached [] ks = 0
-reached (p ∷ ps) ks = if some_given (p ∷ ps) ks then suc (reached ps ks) else 0
-
--- each parameter up to there is given or has a default
-abbrev pub is_filled : List Parameter → ℕ → List Text → Bool
-is_filled [] n ks = true
-is_filled (p ∷ ps) (suc n) ks = is_filled ps n ks
-is_filled (p ∷ ps) zero ks = not (some_given (p ∷ ps) ks) || ((among p.name ks || is_some p.default) && is_filled ps zero ks)
-
--- a filter takes its values, and by name only what it names; a filter that there is not is the parser's matter
-abbrev pub filter_broken : Filters → Option ℕ → ℕ → List Text → Option ScopeError
-filter_broken fs None n ks = None
-filter_broken fs (Some f) n ks =
-    unless (fs.takes f (suc (max n (reached (fs.parameters f) ks))) && (is_filled (fs.parameters f) n ks
-    && (not (repeated ks) && not (list_any (λ k. not (among k (map (λ p. p.name) (drop n (fs.parameters f))))) ks))))
+-- `loop` itself, another field of it than `cycle`, or `cycle` where no loop is around
+abbrev pub MisusesLoop : Expr → Within → Type 0
+MisusesLoop (name x) w = x ≡ codes "loop"
+MisusesLoop (attribute a k) w = IsTrue (is_loop a) × ((k ≢ codes "cycle") ⊎ (w.in_loop ≡ false))
+MisusesLoop f w = ⊥
 
 module _ (world : World) (home : Home) where
-  abbrev pub is_macro : Text → Bool
-  is_macro x = is_some (macro_of x (macros world.sources home))
+  -- V1: `loop` is read by itself, bound or misused in a call, or a field is read that it has not, or where no loop is around
+  abbrev pub LoopOutside : Use → Within → Type 0
+  LoopOutside (reads x) w = x ≡ codes "loop"
+  LoopOutside (binds x) w = x ≡ codes "loop"
+  LoopOutside (declares x ps) w = x ≡ codes "loop"
+  LoopOutside (asks_loop k) w = (w.in_loop ≡ false) ⊎ (field_named k ≡ None)
+  LoopOutside (calls f ts ps) w = MisusesLoop f w
+  LoopOutside u w = ⊥
 
-  -- a name that is read as a value, or bound
-  abbrev pub used : Text → Option ScopeError
-  used x = option_or (read_alone x) (refused (is_macro x) error.MacroAsValue)
+  -- V2: a macro is read as a value, or its name is bound
+  abbrev pub MacroAsValue : Use → Within → Type 0
+  MacroAsValue (reads x) w = IsTrue (is_some (macro_of x (macros world.sources home)))
+  MacroAsValue (binds x) w = IsTrue (is_some (macro_of x (macros world.sources home)))
+  MacroAsValue u w = ⊥
 
-  abbrev pub all_used : List Text → Option ScopeError
-  all_used [] = None
-  all_used (x ∷ xs) = option_or (used x) (all_used xs)
+  -- what can't be called: `super` outside a block, a block that there is not, and all that is no form of a call
+  abbrev pub CannotBeCalled : Callee → Within → Type 0
+  CannotBeCalled no_callee w = Unit {0}
+  CannotBeCalled a_super w = w.in_block ≡ false
+  CannotBeCalled (a_block x) w = bodies world.sources world.escaping home x ≡ []
+  CannotBeCalled f w = ⊥
 
-  -- a call, by what it names
-  abbrev pub call_broken : Callee → Within → Expr → Exprs → trees.Pairs → Option ScopeError
-  call_broken (a_macro m) w f ts ps = unless (fits m.parameters (count ts) (keywords ps))
-  call_broken a_range w f ts ps = range_broken ts ps
-  call_broken a_super w f ts ps = option_or (refused (not w.in_block) error.NotCallable) (unless (count ts == 0 && no_keywords ps))
-  call_broken (a_block x) w f ts ps =
-      option_or (refused (nat_lt (length (bodies world.sources world.escaping home x)) 1) error.NotCallable) (unless (count ts == 0 && no_keywords ps))
-  call_broken a_cycle w f ts ps = option_or (refused (not w.in_loop) error.LoopOutside) (unless (nat_lt 0 (count ts) && no_keywords ps))
-  call_broken no_callee w f ts ps = Some error.NotCallable
+  -- V3: `self`, `super` or `range` is read by itself or bound, or what is called can't be
+  abbrev pub NotCallable : Use → Within → Type 0
+  NotCallable (reads x) w = IsOnlyCalled x
+  NotCallable (binds x) w = IsOnlyCalled x
+  NotCallable (declares x ps) w = IsOnlyCalled x
+  NotCallable (calls f ts ps) w = CannotBeCalled (callee (macros world.sources home) f) w
+  NotCallable u w = ⊥
 
-  -- ---- the first rule that a tree breaks, by its forms
+  -- V4: arguments that are not taken, names inside a filter that are not named rightly, or a parameter that comes twice
+  abbrev pub BadArguments : Use → Within → Type 0
+  BadArguments (calls f ts ps) w = callee_takes (callee (macros world.sources home) f) ts ps ≡ false
+  BadArguments (filters x ts ps) w =
+      (filter_takes world.filters (world.filters.named x ts ps) (count ts) (keywords ps) ≡ false) ⊎ (names_rightly world.filters (world.filters.named x ts ps) ts ps ≡ false)
+  BadArguments (tests x ts ps) w = test_takes (test_named x) ts ps ≡ false
+  BadArguments (declares x ps) w = IsTrue (repeated (parameter_names ps))
+  BadArguments u w = ⊥
 
-  abbrev mutual
-    pub broken : Expr → Within → Option ScopeError
-    broken (constant l) w = None
-    broken (name x) w = used x
-    broken (group a) w = broken a w
-    broken (list_of ts) w = row_broken ts w
-    broken (map_of ps) w = pairs_broken ps w
-    broken (attribute a k) w = if is_loop a then refused (not (w.in_loop && is_some (field_named k))) error.LoopOutside else broken a w
-    broken (item a b) w = option_or (broken a w) (broken b w)
-    broken (call f ts ps) w =
-        option_or (called_broken f w) (option_or (call_broken (callee (macros world.sources home) f) w f ts ps) (option_or (row_broken ts w) (pairs_broken ps w)))
-    broken (filter a x ts ps) w =
-        option_or (filter_broken world.filters (world.filters.named x) (count ts) (keywords ps)) (option_or (broken a w) (option_or (row_broken ts w) (pairs_broken ps w)))
-    broken (test a n x ts ps) w = option_or (test_broken (test_named x) ts ps) (option_or (broken a w) (option_or (row_broken ts w) (pairs_broken ps w)))
-    broken (unary o a) w = broken a w
-    broken (binary o a b) w = option_or (broken a w) (broken b w)
-    broken (when c a) w = option_or (broken c w) (broken a w)
-    broken (choice c a b) w = option_or (broken c w) (option_or (broken a w) (broken b w))
+  -- V5, of a macro: more than 255 parameters
+  abbrev pub TooManyParameters : Use → Within → Type 0
+  TooManyParameters (declares x ps) w = 255 < length ps
+  TooManyParameters u w = ⊥
 
-    -- what is called: the named forms are no values that are read
-    pub called_broken : Expr → Within → Option ScopeError
-    called_broken (name x) w = refused (bytes_eq x (codes "loop")) error.LoopOutside
-    called_broken (attribute (name of) k) w = refused (bytes_eq of (codes "loop") && not (bytes_eq k (codes "cycle"))) error.LoopOutside
-    called_broken (constant l) w = None
-    called_broken (group a) w = broken a w
-    called_broken (list_of ts) w = row_broken ts w
-    called_broken (map_of ps) w = pairs_broken ps w
-    called_broken (attribute a k) w = broken a w
-    called_broken (item a b) w = option_or (broken a w) (broken b w)
-    called_broken (call f ts ps) w = option_or (called_broken f w) (option_or (row_broken ts w) (pairs_broken ps w))
-    called_broken (filter a x ts ps) w = option_or (broken a w) (option_or (row_broken ts w) (pairs_broken ps w))
-    called_broken (test a n x ts ps) w = option_or (broken a w) (option_or (row_broken ts w) (pairs_broken ps w))
-    called_broken (unary o a) w = broken a w
-    called_broken (binary o a b) w = option_or (broken a w) (broken b w)
-    called_broken (when c a) w = option_or (broken c w) (broken a w)
-    called_broken (choice c a b) w = option_or (broken c w) (option_or (broken a w) (broken b w))
+  -- V5, of a template: more than 4,096 names are bound, counted as often as written
+  abbrev pub BindsTooMany : Template → Type 0
+  BindsTooMany t = 4096 < body_bound t.body
 
-    pub row_broken : Exprs → Within → Option ScopeError
-    row_broken no_exprs w = None
-    row_broken (expr a ts) w = option_or (broken a w) (row_broken ts w)
+  -- at one of the chain's places
+  abbrev pub Somewhere : (Use → Within → Type 0) → Type 0
+  Somewhere P = ForSome (λ s. P s.use_made s.around) (chain_spots world.sources home)
 
-    pub pairs_broken : trees.Pairs → Within → Option ScopeError
-    pairs_broken no_pairs w = None
-    pairs_broken (pair k a ps) w = option_or (broken a w) (pairs_broken ps w)
-
-  abbrev pub condition_broken : Option Expr → Within → Option ScopeError
-  condition_broken None w = None
-  condition_broken (Some c) w = broken c (record w { in_loop = false })
-
-  abbrev pub filtering_broken : List Filtering → Within → Option ScopeError
-  filtering_broken [] w = None
-  filtering_broken (f ∷ fs) w =
-      option_or (filter_broken world.filters (world.filters.named f.name) (count f.arguments) (keywords f.keywords))
-      (option_or (row_broken f.arguments w) (option_or (pairs_broken f.keywords w) (filtering_broken fs w)))
-
-  -- a macro's own name and its parameters
-  abbrev pub macro_broken : Text → List Parameter → Option ScopeError
-  macro_broken x ps =
-      option_or (read_alone x) (option_or (all_used (parameter_names ps)) (option_or (unless (not (repeated (parameter_names ps)))) (refused (nat_lt 255 (length ps)) error.TooManySlots)))
-
-  abbrev mutual
-    pub stmt_broken : Stmt → Within → Option ScopeError
-    stmt_broken (data_of t) w = None
-    stmt_broken (print line e) w = broken e w
-    stmt_broken (choose bs other) w = option_or (branches_broken bs w) (body_broken other w)
-    stmt_broken (for_each line xs e c body other) w =
-        option_or (broken e w) (option_or (all_used xs) (option_or (condition_broken c w) (option_or (body_broken body (record w { in_loop = true })) (body_broken other w))))
-    stmt_broken (set line xs e) w = option_or (broken e w) (all_used xs)
-    stmt_broken (set_block line x body) w = option_or (used x) (body_broken body w)
-    stmt_broken (with_values line ps body) w = option_or (pairs_broken ps w) (option_or (all_used (keywords ps)) (body_broken body w))
-    stmt_broken (filter_block line fs body) w = option_or (filtering_broken fs w) (body_broken body w)
-    stmt_broken (autoescape line on body) w = body_broken body w
-    stmt_broken (macro line x ps body) w = option_or (macro_broken x ps) (body_broken body (record { in_loop = false; in_block = false }))
-    stmt_broken (include line n ignore_missing with_context) w = None
-    stmt_broken (extends line n) w = None
-    stmt_broken (block line x scoped required body) w = body_broken body (record { in_loop = false; in_block = true })
-
-    pub body_broken : Body → Within → Option ScopeError
-    body_broken end w = None
-    body_broken (stmt s rest) w = option_or (stmt_broken s w) (body_broken rest w)
-
-    pub branches_broken : Branches → Within → Option ScopeError
-    branches_broken no_branches w = None
-    branches_broken (branch line c body rest) w = option_or (option_or (broken c w) (body_broken body w)) (branches_broken rest w)
-
-  -- of the templates of a chain; a template binds at most 4,096 names, as often as written
-  abbrev pub templates_broken : List Template → Option ScopeError
-  templates_broken [] = None
-  templates_broken (t ∷ ts) =
-      option_or (option_or (body_broken t.body (record { in_loop = false; in_block = false })) (refused (nat_lt 4096 (body_bound t.body)) error.TooManySlots)) (templates_broken ts)
-
--- the first rule that the chains break
-abbrev pub chains_broken : World → List Home → Option ScopeError
-chains_broken world [] = None
-chains_broken world (h ∷ hs) = option_or (templates_broken world h (templates world.sources h)) (chains_broken world hs)
+  -- a rule is broken in the chain
+  abbrev pub BrokenIn : ScopeError → Type 0
+  BrokenIn error.LoopOutside = Somewhere LoopOutside
+  BrokenIn error.MacroAsValue = Somewhere MacroAsValue
+  BrokenIn error.NotCallable = Somewhere NotCallable
+  BrokenIn error.BadArguments = Somewhere BadArguments
+  BrokenIn error.TooManySlots = Somewhere TooManyParameters ⊎ ForSome BindsTooMany (templates world.sources home)
+  BrokenIn error.NoMemory = ⊥
 
 -- how many names the chains read or bind, once a chain
 abbrev pub names_counted : World → List Home → ℕ
 names_counted world [] = 0
 names_counted world (h ∷ hs) = length (ascending (own_names world.sources h)) + names_counted world hs
 
-pub record KeepsRules (world : World) (order : List Home) : Type 0 where
-  pub none : chains_broken world order ≡ None
-  pub few : names_counted world order ≤ 65535
+-- a rule is broken in one of the chains; V5, of all chains: they read or bind more than 65,535 names
+abbrev pub Broken : ScopeError → World → List Home → Type 0
+Broken error.TooManySlots world order = ForSome (λ h. BrokenIn world h error.TooManySlots) order ⊎ (65535 < names_counted world order)
+Broken rule world order = ForSome (λ h. BrokenIn world h rule) order
 
--- the rule that a refusal names is broken; want of memory breaks none
+-- no rule is broken
+pub record KeepsRules (world : World) (order : List Home) : Type 0 where
+  pub none : (rule : ScopeError) → Broken rule world order → ⊥
+
+-- what a refusal says: its rule is broken; want of memory breaks none
 abbrev pub Breaks : ScopeError → World → List Home → Type 0
-Breaks error.TooManySlots world order = (chains_broken world order ≡ Some error.TooManySlots) ⊎ (65535 < names_counted world order)
 Breaks error.NoMemory world order = Unit {0}
-Breaks e world order = chains_broken world order ≡ Some e
+Breaks rule world order = Broken rule world order

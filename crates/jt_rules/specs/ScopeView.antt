@@ -5,7 +5,7 @@ use Rattle.jt_parse.specs.Trees.{Text}
 use Rattle.jt_inherit.specs.Chain.{Home}
 use Rattle.jt_rules.specs.Standing.{world_in, home_in}
 use Rattle.jt_rules.specs.World.{World}
-use Rattle.jt_rules.specs.Rules as rules
+use Rattle.jt_rules.specs.Walk as rules
 use Rattle.jt_rules.specs.declared.scope.Scope.{Scope}
 use Rattle.jt_rules.specs.declared.scope.Within.{Within}
 

@@ -8,12 +8,14 @@ ghost use Rattle.jt_parse.specs.Trees.{Text};
 ghost use Rattle.jt_parse.specs.View.{names_view, parameter_view, parameters_view};
 ghost use Rattle.jt_inherit.specs.Uses.{count, keywords};
 ghost use Rattle.jt_slots.specs.TheFilters.{the_filters, filter_parameters};
+ghost use Rattle.jt_slots.specs.Inside.{names_well};
 ghost use Rattle.jt_slots.specs.Tests.{test_named};
-ghost use Rattle.jt_rules.specs.Rules as rules;
+ghost use Rattle.jt_rules.specs.Walk as rules;
 ghost use Rattle.jt_rules.specs.Fitting.{filter_takes};
 ghost use Rattle.jt_rules.specs.Standing.{texts, is_among};
 
 use crate::error::ScopeError;
+use crate::inside::are_names_well;
 use jt_expr::Expr;
 use jt_filters::FilterId;
 use jt_parse::Parameter;
@@ -218,12 +220,27 @@ pub(crate) fn filter_broken(
     row: &[Expr],
     pairs: &[(String, Expr)],
 ) -> Result<Option<ScopeError>, AllocError>
-    ensures { IfOk result (λ o. o ≡ rules.filter_broken the_filters (the_filters.named name.now) (count (exprs_view row.now)) (keywords (pairs_view pairs.now))) }
+    ensures { IfOk result (λ o. o ≡ rules.filter_broken the_filters (the_filters.named name.now (exprs_view row.now) (pairs_view pairs.now)) (exprs_view row.now) (pairs_view pairs.now)) }
 {
-    match filter_of(name) {
-        Some(filter) => Ok(unless(filter_fits(alloc, filter, row.len(), pairs)?)),
+    match filter_of(name, row, pairs) {
+        Some(filter) => Ok(unless(filter_accepts(alloc, filter, row, pairs)?)),
         None => Ok(None),
     }
+}
+
+/// Whether a filter takes these arguments, and what they name is named rightly.
+fn filter_accepts(
+    alloc: Global,
+    filter: FilterId,
+    row: &[Expr],
+    pairs: &[(String, Expr)],
+) -> Result<bool, AllocError>
+    ensures { IfOk result (λ b. b ≡ (filter_takes filter (filter_parameters filter) (length row.now) (keywords (pairs_view pairs.now)) && names_well filter (exprs_view row.now) (pairs_view pairs.now))) }
+{
+    if !filter_fits(alloc, filter, row.len(), pairs)? {
+        return Ok(false);
+    }
+    Ok(are_names_well(filter, row, pairs))
 }
 
 /// Whether a filter takes so many arguments by place, and these by name.

@@ -8,7 +8,7 @@ ghost use Rattle.jt_parse.specs.View.{body_view};
 ghost use Rattle.jt_inherit.specs.Chain.{templates};
 ghost use Rattle.jt_inherit.specs.Uses.{own_names};
 ghost use Rattle.jt_inherit.specs.View.{chain_view};
-ghost use Rattle.jt_rules.specs.Rules as rules;
+ghost use Rattle.jt_rules.specs.Walk as rules;
 ghost use Rattle.jt_rules.specs.Rules.{KeepsRules, Breaks};
 ghost use Rattle.jt_rules.specs.ScopeView.{its_world, its_home};
 ghost use Rattle.jt_rules.specs.Standing.{world_in, home_in};

@@ -8,7 +8,7 @@ ghost use Rattle.jt_inherit.specs.Chain.{callee, macros, named_alone, named_in, 
 ghost use Rattle.jt_inherit.specs.Uses.{count};
 ghost use Rattle.jt_parse.specs.Trees.{Text};
 ghost use Rattle.jt_slots.specs.Loops.{field_named};
-ghost use Rattle.jt_rules.specs.Rules as rules;
+ghost use Rattle.jt_rules.specs.Walk as rules;
 ghost use Rattle.jt_rules.specs.Standing.{texts, is_block};
 ghost use Rattle.jt_rules.specs.ScopeView.{its_world, its_home, within_view, name_in};
 ghost use Rattle.jt_rules.specs.declared.error.ScopeError.TheVariants as error;

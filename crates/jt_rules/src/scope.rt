@@ -38,7 +38,7 @@ pub(crate) struct Scope<'a> {
 }
 
 impl<'a> Scope<'a> {
-    ghost use Rattle.jt_rules.specs.Rules as rules;
+    ghost use Rattle.jt_rules.specs.Walk as rules;
     ghost use Rattle.jt_rules.specs.ScopeView.{its_world, its_home};
 
     /// What can be called in the chain at a place.

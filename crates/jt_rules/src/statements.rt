@@ -5,7 +5,7 @@ ghost use Rattle.std.specs.Option.{option_or};
 ghost use Rattle.jt_expr.specs.View.{expr_view, pairs_view};
 ghost use Rattle.jt_parse.specs.View.{stmt_view, body_view, names_view, filtering_view, filterings_view, parameters_view};
 ghost use Rattle.jt_inherit.specs.Uses.{keywords};
-ghost use Rattle.jt_rules.specs.Rules as rules;
+ghost use Rattle.jt_rules.specs.Walk as rules;
 ghost use Rattle.jt_rules.specs.ScopeView.{its_world, its_home, within_view};
 
 use crate::arguments::{

@@ -1,5 +1,5 @@
 -- Statements that were put behind one another.
-use Rattle.std.proofs.Common.{◌≡◌, ℕ, ◌+◌, List, [], ◌∷◌, ◌++◌, length, map, refl, sym, ap, ◌∙◌, subst, Bool, Option, Some, None, Vec, Global, append_assoc, append-nil, length-append, arith}
+use Rattle.std.proofs.Common.{◌≡◌, ℕ, ◌+◌, List, [], ◌∷◌, ◌++◌, length, map, refl, sym, ap, ◌∙◌, subst, Bool, Option, Vec, Global, append_assoc, append-nil, length-append, arith}
 use Rattle.std.specs.Prelude.{option_map}
 use Rattle.std.proofs.lemmas.List.{map-append}
 use Rattle.jt_value.specs.Tree.{Tree}
@@ -7,10 +7,10 @@ use Rattle.jt_value.specs.View.{view}
 use Rattle.jt_value.specs.declared.value.Value.{Value}
 use Rattle.jt_parse.specs.Trees.{Text}
 use Rattle.jt_slots.specs.Got.{Place}
-use Rattle.jt_slots.specs.Pool.{Constant, own, known, expr_values, row_values, condition_values, stmt_values, body_values, placed_expr, placed_row, placed_condition, placed_stmt, placed_body}
+use Rattle.jt_slots.specs.Pool.{Constant, own, expr_values, condition_values, stmt_values, body_values, placed_expr, placed_condition, placed_stmt, placed_body}
 use Rattle.jt_slots.specs.Slots as slots
 use Rattle.jt_slots.specs.Slots.{SExpr, SRow, SBody}
-use Rattle.jt_slots.specs.View.{Front, slot_view, targets_view, place_view, expr_view, row_view, stmt_view, body_view, choice_view}
+use Rattle.jt_slots.specs.View.{Front, slot_view, targets_view, place_view, expr_view, stmt_view, body_view, choice_view}
 use Rattle.jt_slots.specs.declared.program.Place as code_place
 use Rattle.jt_slots.specs.declared.program.Slot as code_slot
 use Rattle.jt_slots.specs.declared.program.Targets as code_targets

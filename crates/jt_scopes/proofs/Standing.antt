@@ -11,10 +11,9 @@ use Rattle.jt_parse.specs.Trees as trees
 use Rattle.jt_parse.specs.Trees.{Text, Body}
 use Rattle.jt_inherit.specs.Chain.{Home, macros, BlockBody, MacroBody}
 use Rattle.jt_rules.specs.World.{World}
-use Rattle.jt_slots.specs.Pool.{Constant}
 use Rattle.jt_slots.specs.Slots as slots
 use Rattle.jt_slots.specs.Slots.{SBody}
-use Rattle.jt_meaning.specs.Layout.{Key, of_chain, of_macro, of_body, same_key, place_of, chain_keys, numbered_bodies, names, names_in, first_slot, unit, keys, block_parameters, Table}
+use Rattle.jt_meaning.specs.Layout.{Key, of_chain, of_macro, of_body, same_key, place_of, chain_keys, numbered_bodies, names, names_in, first_slot, unit, block_parameters, Table}
 use Rattle.jt_meaning.specs.Resolve.{Spot, followed, alone, handed_on, reads, placed_body}
 use Rattle.jt_layout.specs.declared.scope.Scope.{Scope}
 use Rattle.jt_names.specs.Scoped.{RowLeads, world_in, order_in, spot_in}

@@ -1,15 +1,15 @@
 -- What statements are resolved to, part by part.
-use Rattle.std.proofs.Common.{◌≡◌, ℕ, zero, suc, ◌+◌, ◌<◌, List, [], ◌∷◌, ◌++◌, length, map, drop, get_or, refl, sym, ap, ◌∙◌, subst, Bool, true, false, Option, Some, None, Vec, Global, String, string_bytes, add-one, append_assoc}
+use Rattle.std.proofs.Common.{◌≡◌, ℕ, zero, suc, ◌+◌, ◌<◌, List, [], ◌∷◌, ◌++◌, length, map, drop, get_or, refl, sym, ap, ◌∙◌, subst, Option, None, Vec, Global, String, string_bytes, add-one, append_assoc}
 use Rattle.std.proofs.lemmas.List.{drop_more, map-append}
 use Rattle.std.specs.Prelude.{if◌then◌else◌, option_map}
 use denote.Ref.{Bor}
 use Rattle.jt_value.specs.Tree.{Tree}
 use Rattle.jt_expr.specs.Trees as expressions
 use Rattle.jt_expr.specs.Trees.{Pairs, no_pairs, pair}
-use Rattle.jt_expr.specs.View.{expr_view, pairs_view}
+use Rattle.jt_expr.specs.View.{expr_view}
 use Rattle.jt_expr.specs.declared.tree.Expr.{Expr}
 use Rattle.jt_inherit.specs.Chain.{Home}
-use Rattle.jt_inherit.specs.Uses.{keywords, set_in}
+use Rattle.jt_inherit.specs.Uses.{set_in}
 use Rattle.jt_rules.specs.World.{World}
 use Rattle.jt_parse.specs.Trees as trees
 use Rattle.jt_parse.specs.Trees.{Text}
@@ -18,7 +18,7 @@ use Rattle.jt_parse.specs.View.{names_view, stmt_view, body_view, branches_view}
 use Rattle.jt_parse.specs.declared.tree.Stmt.{Stmt}
 use Rattle.jt_parse.specs.declared.tree.Stmt.TheVariants as v
 use Rattle.jt_slots.specs.Got.{Place}
-use Rattle.jt_slots.specs.Pool.{Constant, own, known}
+use Rattle.jt_slots.specs.Pool.{Constant}
 use Rattle.jt_slots.specs.Slots as slots
 use Rattle.jt_slots.specs.Slots.{Slot, SExpr, SBody, local, global, one, Targets}
 use Rattle.jt_slots.specs.View.{slot_view}
@@ -26,7 +26,7 @@ use Rattle.jt_slots.specs.declared.program.SExpr as code
 use Rattle.jt_slots.specs.declared.program.Slot as code_slot
 use Rattle.jt_slots.specs.declared.program.SStmt.{SStmt}
 use Rattle.jt_meaning.specs.Layout.{Table, slot_in}
-use Rattle.jt_meaning.specs.Resolve.{Spot, read_from, followed, alone, copied, handed_on, resolved, resolved_values, resolved_body, resolved_condition, resolved_filters, grown, kept_slots, fresh_targets, slot_of, bound_all, place}
+use Rattle.jt_meaning.specs.Resolve.{Spot, read_from, followed, alone, copied, handed_on, resolved, resolved_values, resolved_body, resolved_condition, resolved_filters, grown, kept_slots, fresh_targets, bound_all, place}
 use Rattle.jt_uses.specs.Names.{texts}
 use Rattle.jt_layout.specs.declared.scope.Scope.{Scope}
 use Rattle.jt_names.specs.Names.{last_among}
@@ -35,7 +35,7 @@ use Rattle.jt_names.specs.declared.spot.Spot as code_spot
 use Rattle.jt_names.specs.Scoped.{IsPlaced, BodyLeads, world_in, order_in, spot_in, templates_in, expr_in}
 use Rattle.jt_scopes.specs.Stated.{Led, IsAsked, IsTurn, slot_if, line_in, stmt_in, body_in, choice_in, scoped_in, values_in}
 use Rattle.jt_scopes.proofs.Leading.{led_of, lead_of, lead_both}
-use Rattle.jt_scopes.proofs.Shown.{Branch, Pair, names_left, view-If, view-For, view-SetBlock, view-With, view-Autoescape}
+use Rattle.jt_scopes.proofs.Shown.{Branch, names_left, view-If, view-For}
 use Rattle.jt_scopes.proofs.Kept.{slot_kept}
 
 -- ---- copies of names
@@ -97,25 +97,6 @@ module _ (s : Scope) (spot : code_spot.Spot) (x : Stmt) where
       let T : Targets = fresh_targets spot.free (names_view xs.items) in
       ap (λ z. F z ns us os) (taken ∙ ap (λ n. fresh_targets spot.free (names_view n)) g) ∙ ap (λ n. F T n us os) f ∙ ap (λ m. F T xs.items m os) h ∙ ap (λ o. F T xs.items body.items o) j
       ∙ sym (ap (λ z. stmt_in s z spot) (ap stmt_view is ∙ view-For line xs e k body other))
-
-  pub set_block_shown : (line : ℕ) (n : String Global) (body : Vec Stmt Global) (us : List Stmt) (y : Text) (z : Slot) → x ≡ v.SetBlock line n body → us ≡ body.items → y ≡ string_bytes n → z ≡ slot_of y (spot_in s spot).table
-      → alone (slots.capture spot.escaping z (scoped_in s (body_view us) (spot_in s spot))) ≡ stmt_in s (stmt_view x) spot
-  set_block_shown line n body us y z is e f g =
-      ap (λ w. alone (slots.capture spot.escaping w (scoped_in s (body_view us) (spot_in s spot)))) (g ∙ ap (λ w. slot_of w (spot_in s spot).table) f)
-      ∙ ap (λ w. alone (slots.capture spot.escaping (slot_of (string_bytes n) (spot_in s spot).table) (scoped_in s (body_view w) (spot_in s spot)))) e
-      ∙ sym (ap (λ w. stmt_in s w spot) (ap stmt_view is ∙ view-SetBlock line n body))
-
-  pub with_shown : (line : ℕ) (ps : Vec Pair Global) (body : Vec Stmt Global) (qs rs : List Pair) (us : List Stmt) (ks : List Text) → x ≡ v.With line ps body → qs ≡ ps.items → rs ≡ ps.items → us ≡ body.items → ks ≡ keywords (pairs_view rs)
-      → values_in s (pairs_view qs) spot line (scoped_in s (body_view us) (bound_all ks (spot_in s spot))) ≡ stmt_in s (stmt_view x) spot
-  with_shown line ps body qs rs us ks is e f g h =
-      ap (λ w. values_in s (pairs_view w) spot line (scoped_in s (body_view us) (bound_all ks (spot_in s spot)))) e
-      ∙ ap (λ w. values_in s (pairs_view ps.items) spot line (scoped_in s (body_view us) (bound_all w (spot_in s spot)))) (h ∙ ap (λ w. keywords (pairs_view w)) f)
-      ∙ ap (λ w. values_in s (pairs_view ps.items) spot line (scoped_in s (body_view w) (bound_all (keywords (pairs_view ps.items)) (spot_in s spot)))) g
-      ∙ sym (ap (λ w. stmt_in s w spot) (ap stmt_view is ∙ view-With line ps body))
-
-  pub autoescape_shown : (line : ℕ) (on : Bool) (body : Vec Stmt Global) (us : List Stmt) → x ≡ v.Autoescape line on body → us ≡ body.items
-      → scoped_in s (body_view us) (record (spot_in s spot) { escaping = on }) ≡ stmt_in s (stmt_view x) spot
-  autoescape_shown line on body us is e = ap (λ w. scoped_in s (body_view w) (record (spot_in s spot) { escaping = on })) e ∙ sym (ap (λ w. stmt_in s w spot) (ap stmt_view is ∙ view-Autoescape line on body))
 
 -- a filter tag: its text, and what its filters make of it
 pub filter_shown : (s : Scope) (spot : code_spot.Spot) (line : ℕ) (fs : List trees.Filtering) (b : trees.Body) (n : ℕ) → n ≡ spot.free + 1

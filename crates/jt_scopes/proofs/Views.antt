@@ -1,6 +1,5 @@
 -- Resolved expressions, form by form.
-use Rattle.std.proofs.Common.{◌≡◌, ℕ, List, [], ◌∷◌, ◌++◌, map, refl, sym, ap, ◌∙◌, Bool, Vec, Box, String, Global, string_bytes, Option, Some, None}
-use Rattle.jt_parse.specs.Trees.{Text}
+use Rattle.std.proofs.Common.{◌≡◌, ℕ, List, [], ◌∷◌, ◌++◌, map, refl, sym, ap, ◌∙◌, Bool, Vec, Box, Global, Option}
 use Rattle.jt_slots.specs.Slots as slots
 use Rattle.jt_slots.specs.Slots.{SRow, SBody}
 use Rattle.jt_slots.specs.View.{slot_view, field_view, maker_view, entry_front, row_front, expr_step, expr_view, row_view}

@@ -1,6 +1,6 @@
 //! Resolves statements: names to slots, and literals and data to places of a pool.
 
-ghost use Rattle.std.specs.Prelude.{◌≡◌, option_map, IfOk, IfErr};
+ghost use Rattle.std.specs.Prelude.{◌≡◌, ℕ, option_map, IfOk, IfErr};
 ghost use Rattle.jt_expr.specs.View as written;
 ghost use Rattle.jt_layout.specs.Laid.{IsLaidOut};
 ghost use Rattle.jt_meaning.specs.Resolve as resolve;
@@ -83,23 +83,16 @@ pub fn resolve_statement<'a>(
             resolve_set(alloc, scope, spot, *line, names, value, done, pool)
         }
         Stmt::SetBlock(_, name, body) => {
-            let text = resolve_inside(alloc, scope, spot, body, pool)?;
-            put_capture(spot.escaping, set_slot(scope, spot, name), text, done)
+            resolve_set_block(alloc, scope, spot, body, name, done, pool)
         }
         Stmt::With(line, pairs, body) => {
-            resolve_values(alloc, scope, spot, *line, pairs, done, pool)?;
-            let names = keywords_of(alloc, pairs)?;
-            resolve_within(alloc, scope, spot, body, names, done, pool)
+            resolve_with(alloc, scope, spot, body, *line, pairs, done, pool)
         }
         Stmt::FilterBlock(line, filterings, body) => {
             resolve_filtered(alloc, scope, spot, body, *line, filterings, done, pool)
         }
         Stmt::Autoescape(_, escaping, body) => {
-            let inside = Spot {
-                escaping: *escaping,
-                ..*spot
-            };
-            resolve_scoped(alloc, scope, &inside, body, done, pool)
+            resolve_escaping(alloc, scope, spot, body, *escaping, done, pool)
         }
         Stmt::Macro(_, _, _, _) => Ok(()),
         Stmt::Extends(_, _) => Ok(()),
@@ -274,6 +267,68 @@ fn resolve_filtered<'a>(
     put_capture(spot.escaping, kept, text, done)?;
     let shown = resolve_filterings(alloc, scope, &inside, filterings, kept, pool)?;
     put_print(spot, line, shown, done)
+}
+
+/// Resolves a block that sets a name to its text.
+#[cycle(resolve)]
+fn resolve_set_block<'a>(
+    alloc: Global,
+    scope: &Scope<'a>,
+    spot: &Spot<'_, 'a>,
+    body: &'a [Stmt],
+    name: &str,
+    done: &mut Vec<SStmt>,
+    pool: &mut Vec<Value>,
+) -> Result<(), ScopeError>
+    requires { IsLaidOut scope.now }
+    ensures led { IfOk result (λ u. (line : ℕ) → Led (templates_in scope.now) (stmt_in scope.now (trees.set_block line name.now (body_view body.now)) spot.now)
+        done.old.items done.new.items (values pool.old) (values pool.new)) }
+    ensures refused { IfErr result (λ e. e ≡ error.NoMemory) }
+{
+    let text = resolve_inside(alloc, scope, spot, body, pool)?;
+    put_capture(spot.escaping, set_slot(scope, spot, name), text, done)
+}
+
+/// Resolves a `with`: its values, and then its body where they have their names.
+#[cycle(resolve)]
+fn resolve_with<'a>(
+    alloc: Global,
+    scope: &Scope<'a>,
+    spot: &Spot<'_, 'a>,
+    body: &'a [Stmt],
+    line: u32,
+    pairs: &'a [(String, Expr)],
+    done: &mut Vec<SStmt>,
+    pool: &mut Vec<Value>,
+) -> Result<(), ScopeError>
+    requires { IsLaidOut scope.now }
+    ensures led { IfOk result (λ u. Led (templates_in scope.now) (stmt_in scope.now (trees.with_values line (written.pairs_view pairs.now) (body_view body.now)) spot.now)
+        done.old.items done.new.items (values pool.old) (values pool.new)) }
+    ensures refused { IfErr result (λ e. e ≡ error.NoMemory) }
+{
+    resolve_values(alloc, scope, spot, line, pairs, done, pool)?;
+    let names = keywords_of(alloc, pairs)?;
+    resolve_within(alloc, scope, spot, body, names, done, pool)
+}
+
+/// Resolves a body under an autoescape state of its own.
+#[cycle(resolve)]
+fn resolve_escaping<'a>(
+    alloc: Global,
+    scope: &Scope<'a>,
+    spot: &Spot<'_, 'a>,
+    body: &'a [Stmt],
+    escaping: bool,
+    done: &mut Vec<SStmt>,
+    pool: &mut Vec<Value>,
+) -> Result<(), ScopeError>
+    requires { IsLaidOut scope.now }
+    ensures led { IfOk result (λ u. (line : ℕ) → Led (templates_in scope.now) (stmt_in scope.now (trees.autoescape line escaping (body_view body.now)) spot.now)
+        done.old.items done.new.items (values pool.old) (values pool.new)) }
+    ensures refused { IfErr result (λ e. e ≡ error.NoMemory) }
+{
+    let inside = Spot { escaping, ..*spot };
+    resolve_scoped(alloc, scope, &inside, body, done, pool)
 }
 
 /// Resolves what prints a value, behind other statements.

@@ -1,4 +1,4 @@
--- Tests and filters by their names.
+-- Tests by their names.
 use Rattle.std.proofs.Common.{◌≡◌, ℕ, Bool, true, false, cond, ◌||◌, List, [], ◌∷◌, get_or, refl, sym, ap, ◌∙◌, arith, Option, Some, None, IfSome, Contains, bytes_eq}
 use Rattle.std.specs.List.{list_any, find}
 use Rattle.std.proofs.lemmas.List.Folds.{list_any_at}
@@ -7,11 +7,7 @@ use Rattle.std.proofs.lemmas.Slice.Eq.{bytes_eq-Decides}
 use Rattle.jt_ops.specs.declared.test_id.TestId.{TestId}
 use Rattle.jt_ops.specs.declared.test_id.TestId.TheVariants as t
 use Rattle.jt_ops.specs.TestTable.{test_names}
-use Rattle.jt_filters.specs.declared.filter_id.FilterId.{FilterId}
-use Rattle.jt_filters.specs.declared.filter_id.FilterId.TheVariants as f
-use Rattle.jt_filters.specs.FilterTable.{filters, filter_names}
 use Rattle.jt_slots.specs.Tests.{tests, test_named}
-use Rattle.jt_slots.specs.TheFilters.{filter_named}
 
 contained : (x : List ℕ) (ks : List (List ℕ)) → Contains ks x → list_any (bytes_eq x) ks ≡ true
 contained x ks c = list_any_at (bytes_eq x) ks c.0 x c.1 ((bytes_eq-Decides x (get_or ks c.0 x)).1 (sym c.2))
@@ -72,37 +68,6 @@ a_test p t.None h = list_any_at p tests 17 t.Boolean (omega arith) h
 a_test p t.String h = list_any_at p tests 18 t.Boolean (omega arith) h
 a_test p t.Undefined h = list_any_at p tests 19 t.Boolean (omega arith) h
 
-a_filter : (p : FilterId → Bool) (i : FilterId) → p i ≡ true → list_any p filters ≡ true
-a_filter p f.Abs h = list_any_at p filters 0 f.Abs (omega arith) h
-a_filter p f.Capitalize h = list_any_at p filters 1 f.Abs (omega arith) h
-a_filter p f.Default h = list_any_at p filters 2 f.Abs (omega arith) h
-a_filter p f.DictSort h = list_any_at p filters 3 f.Abs (omega arith) h
-a_filter p f.Escape h = list_any_at p filters 4 f.Abs (omega arith) h
-a_filter p f.First h = list_any_at p filters 5 f.Abs (omega arith) h
-a_filter p f.ForceEscape h = list_any_at p filters 6 f.Abs (omega arith) h
-a_filter p f.Int h = list_any_at p filters 7 f.Abs (omega arith) h
-a_filter p f.Items h = list_any_at p filters 8 f.Abs (omega arith) h
-a_filter p f.Join h = list_any_at p filters 9 f.Abs (omega arith) h
-a_filter p f.Last h = list_any_at p filters 10 f.Abs (omega arith) h
-a_filter p f.Length h = list_any_at p filters 11 f.Abs (omega arith) h
-a_filter p f.List h = list_any_at p filters 12 f.Abs (omega arith) h
-a_filter p f.Lower h = list_any_at p filters 13 f.Abs (omega arith) h
-a_filter p f.Max h = list_any_at p filters 14 f.Abs (omega arith) h
-a_filter p f.Min h = list_any_at p filters 15 f.Abs (omega arith) h
-a_filter p f.Replace h = list_any_at p filters 16 f.Abs (omega arith) h
-a_filter p f.Reverse h = list_any_at p filters 17 f.Abs (omega arith) h
-a_filter p f.Safe h = list_any_at p filters 18 f.Abs (omega arith) h
-a_filter p f.Sort h = list_any_at p filters 19 f.Abs (omega arith) h
-a_filter p f.String h = list_any_at p filters 20 f.Abs (omega arith) h
-a_filter p f.Sum h = list_any_at p filters 21 f.Abs (omega arith) h
-a_filter p f.Trim h = list_any_at p filters 22 f.Abs (omega arith) h
-a_filter p f.Unique h = list_any_at p filters 23 f.Abs (omega arith) h
-a_filter p f.Upper h = list_any_at p filters 24 f.Abs (omega arith) h
-
 pub test_found : (x : List ℕ) (r : Option TestId) → IfSome r (λ i. Contains (test_names i) x) → ((i : TestId) → Contains (test_names i) x → r ≡ Some i) → r ≡ test_named x
 unfolding test_named
 test_found x r here only = found test_names tests a_test x r here only
-
-pub filter_found : (x : List ℕ) (r : Option FilterId) → IfSome r (λ i. Contains (filter_names i) x) → ((i : FilterId) → Contains (filter_names i) x → r ≡ Some i) → r ≡ filter_named x
-unfolding filter_named
-filter_found x r here only = found filter_names filters a_filter x r here only

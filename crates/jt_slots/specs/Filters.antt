@@ -4,18 +4,21 @@ use Rattle.jt_value.specs.Tree as tree
 use Rattle.jt_value.specs.Tree.{Tree}
 use Rattle.jt_value.specs.Pairs.{Pairs, look}
 use Rattle.jt_value.specs.declared.fault.Fault.{Fault}
-use Rattle.jt_expr.specs.Trees.{Literal}
+use Rattle.jt_expr.specs.Trees as trees
+use Rattle.jt_expr.specs.Trees.{Literal, Exprs}
 use Rattle.jt_parse.specs.Texts.{among}
 use Rattle.jt_slots.specs.Values.{literal}
 use Rattle.jt_parse.specs.Trees.{Text, Parameter}
 
 pub record Filters : Type 0 where
-  -- the filter of a name, by its number
-  pub named : Text → Option ℕ
+  -- the filter that a name means, with its arguments as they are written, by its number
+  pub named : Text → Exprs → trees.Pairs → Option ℕ
   -- what stands behind its input and can be given by name, in the order of its places
   pub parameters : ℕ → List Parameter
   -- whether it takes so many values, its input among them
   pub takes : ℕ → ℕ → Bool
+  -- whether what its arguments name, if they name something, is named rightly
+  pub inside : ℕ → Exprs → trees.Pairs → Bool
   -- what it gives on its input and arguments, under an autoescape state
   pub operation : ℕ → Bool → List Tree → Result Tree Fault
 

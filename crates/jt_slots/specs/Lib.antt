@@ -1,5 +1,6 @@
 pub mod Filters
 pub mod Got
+pub mod Inside
 pub mod Locals
 pub mod Loops
 pub mod Pool

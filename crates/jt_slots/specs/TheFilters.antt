@@ -1,20 +1,16 @@
 -- The filters of the language, as templates name them.
 use Rattle.std.specs.Prelude.{false, pos, List, [], ◌∷◌, Option, Some, None, option_map}
-use Rattle.std.specs.List.{find, list_any}
-use Rattle.std.specs.Str.{bytes_eq}
 use Rattle.jt_filters.specs.declared.filter_id.FilterId.{FilterId}
 use Rattle.jt_filters.specs.declared.filter_id.FilterId.TheVariants as filter
-use Rattle.jt_filters.specs.FilterTable.{filters, filter_id, filter_names, argument_names}
+use Rattle.jt_filters.specs.FilterTable.{filter_id, argument_names}
 unfoldable pub use Rattle.jt_filters.specs.FilterIds.{filter_of}
 use Rattle.jt_filters.specs.FilterIds.{accepts, filtered_by}
+unfoldable pub use Rattle.jt_expr.specs.Named.{filter_written}
 use Rattle.jt_expr.specs.Trees as trees
 use Rattle.jt_expr.specs.Trees.{Literal}
 use Rattle.jt_parse.specs.Trees.{Text, Parameter}
 use Rattle.jt_slots.specs.Filters.{Filters}
-
--- the filter of a name, if one has it
-unfoldable pub filter_named : Text → Option FilterId
-filter_named x = find (λ f. list_any (bytes_eq x) (filter_names f)) filters
+use Rattle.jt_slots.specs.Inside.{inside_of}
 
 -- what each argument is where it is not given
 abbrev pub defaults : FilterId → List (Option Literal)
@@ -40,8 +36,9 @@ parameters_of (Some f) = filter_parameters f
 -- filters go by their ids
 unfoldable pub the_filters : Filters
 the_filters = record {
-  named = λ x. option_map filter_id (filter_named x);
+  named = λ x ts ps. option_map filter_id (filter_written x ts ps);
   parameters = λ n. parameters_of (filter_of n);
   takes = λ n. accepts (filter_of n);
+  inside = λ n. inside_of (filter_of n);
   operation = λ n. filtered_by (filter_of n);
 }

@@ -1,4 +1,4 @@
-//! Filters and tests by their names, and the arguments of filters.
+//! Tests by their names, and the arguments of filters.
 
 ghost use Rattle.std.specs.Prelude.{◌≡◌, ◌∷◌, [], option_map, IfOk};
 ghost use Rattle.jt_expr.specs.View.{literal_view};
@@ -20,19 +20,13 @@ pub fn test_of(name: &str) -> Option<TestId>
     TestId::by_name(name)
 }
 
-/// The filter of a name; none where no filter has it.
-pub fn filter_of(name: &str) -> Option<FilterId>
-    ensures { result ≡ the.filter_named name.now }
-{
-    FilterId::by_name(name)
-}
-
 /// The arguments of a filter behind its input, in the order of their places: each with what it is
 /// where it is not given.
 pub fn filter_parameters(alloc: Global, filter: FilterId) -> Result<Vec<Parameter>, AllocError>
     ensures { IfOk result (λ ps. parameters_view ps.items ≡ the.filter_parameters filter) }
 {
     match filter {
+        FilterId::Attr => one(alloc, "name", None),
         FilterId::Default => default_parameters(alloc),
         FilterId::Int => one(alloc, "default", Some(Literal::Number(0))),
         FilterId::Join => {
@@ -41,6 +35,7 @@ pub fn filter_parameters(alloc: Global, filter: FilterId) -> Result<Vec<Paramete
         }
         FilterId::Replace => replace_parameters(alloc),
         FilterId::Sort => one(alloc, "reverse", Some(Literal::Truth(false))),
+        FilterId::MapAttribute => one(alloc, "attribute", None),
         _ => Ok(Vec::new(alloc)),
     }
 }

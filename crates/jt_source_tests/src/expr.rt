@@ -198,6 +198,11 @@ fn no_expressions(rt: HostRuntime) -> Result<(), Fail> {
         ("{{ 1|nope }}", " P3 UnknownFilter"),
         ("{{ (a|f) is whole }}", " P3 UnknownFilter"),
         ("{{ a is whole or b|f }}", " P3 UnknownFilter"),
+        ("{{ a|map('f') }}", " P3 UnknownFilter"),
+        ("{{ a|map('upper', b|f) }}", " P3 UnknownFilter"),
+        ("{{ a|select('whole') }}", " P4 UnknownTest"),
+        ("{{ a|rejectattr(k, 'whole') }}", " P4 UnknownTest"),
+        ("{{ a|select('whole')|f }}", " P3 UnknownFilter"),
     ];
     for (text, want) in rows {
         assert_eq!(rt; told(rt.alloc(), text)?.as_str(), want, "{text}");

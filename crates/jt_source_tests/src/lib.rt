@@ -10,3 +10,5 @@ mod parse;
 mod rendering;
 #[cfg(test)]
 mod scan;
+#[cfg(test)]
+mod sessions;

@@ -396,6 +396,86 @@ fn filters_hold(rt: HostRuntime) -> Result<(), Fail> {
     rows_hold(&rt, FILTERS)
 }
 
+/// Filters that go over Items.
+const OVER_ITEMS: &str = r##"{{ [1, 2, 3]|select("odd")|join(",") }} => [1,3]
+    {{ [{"a": 1}, {"a": 2}]|map(attribute="a")|sum }} => [3]
+    {{ ["x", "y"]|map("upper")|join }} => [XY]
+    {{ [{"a": 1}, {"a": 2}]|rejectattr("a", "eq", 2)|length }} => [1]
+    {{ [1]|map("select") }} => V4
+    {{ [1]|select("nope") }} => P4
+    {{ {'a': 1}|attr('a') }}{{ 1|attr('a') }} => [1]
+    {{ nope|attr(1) }} => F2
+    {{ 1|attr(1) }} => F9
+    {{ {'a': 1}|attr(name='a') }} => [1]
+    {{ [1, 2]|map('string')|join('-') }} => [1-2]
+    {{ ['a']|map('replace', 'a', 'b')|join }} => [b]
+    {{ [nope, 1]|map('default', 'x')|join }} => [x1]
+    {{ [[1], [2, 3]]|map('join', ',')|join(';') }} => [1;2,3]
+    {{ 5|map('upper') }} => F6
+    {{ [[1]]|map('upper') }} => F5
+    {{ [1]|map }} => V4
+    {{ [1]|map() }} => V4
+    {{ [1]|map('nope') }} => P3
+    {{ [1]|map(s) }} => V4
+    {{ [1]|map('upper', 1) }} => V4
+    {{ [1]|map('default', default_value=1) }} => V4
+    {{ [1]|map('map', 'upper') }} => V4
+    {{ [1]|map('rejectattr', 'a') }} => V4
+    {{ [1]|map(attribute=s) }} => V4
+    {{ [1]|map(attribute='a', x=1) }} => V4
+    {{ [1]|map('upper', attribute='a') }} => V4
+    {{ [nope]|map(attribute='a') }} => F2
+    {{ [{'a': 1}, 5]|map(attribute='a')|join('-') }} => [1-]
+    {{ [0, 1, '', 'a']|select|join }}{{ [0, 1, '', 'a']|reject|length }} => [1a2]
+    {{ [1, 2, 3]|select('divisibleby', 2)|join }} => [2]
+    {{ [1]|select('divisibleby') }} => V4
+    {{ [1]|select('divisibleby', 0) }} => F4
+    {{ []|select('divisibleby', 0)|length }} => [0]
+    {{ [1]|select(s) }} => V4
+    {{ [1]|select('eq', x=1) }} => V4
+    {{ ['a']|select('odd') }} => F1
+    {{ [1, 2, 3]|reject('in', [1, 2])|join }} => [3]
+    {{ [nope, 1]|select('defined')|join }} => [1]
+    {{ [{'a': 0}, {'a': 1}]|selectattr('a')|length }} => [1]
+    {{ [nope]|selectattr('a') }} => F2
+    {{ [{'a': 1}, {}]|selectattr('a', 'defined')|length }} => [1]
+    {{ [1]|selectattr }} => V4
+    {{ [1]|selectattr(1) }} => V4
+    {{ [1]|selectattr('a', 'nope') }} => P4
+    {{ [1]|selectattr('a', 'eq') }} => V4
+    {{ [1, 2]|rejectattr('a')|length }} => [2]
+    {{ nope|attr('a') }} => F2
+    {{ [1, 2]|attr('0') is undefined }} => [True]
+    {{ [1]|map(('upper')) }} => V4
+    {{ [1]|map('upper' ~ '') }} => V4
+    {{ [1]|map(('nope')) }} => V4
+    {{ [1]|selectattr(('a')) }} => V4
+    {{ [1]|map(attribute=1) }} => V4
+    {{ [1]|map(attribute='a', attribute='b') }} => V4
+    {{ [1]|map(name='upper') }} => V4
+    {{ [1]|selectattr(s, 'nope') }} => P4
+    {{ [1]|map('replace', 'a') }} => V4
+    {{ [1]|select('true')|length }}{{ [true]|select('true')|length }} => [01]
+    {{ [1]|selectattr('odd')|length }} => [0]
+    {{ [{'a': 1}]|map('attr', 'a')|join }} => [1]
+    {{ [{'a': {'b': 1}}]|map(attribute='a.b')|first is undefined }} => [True]
+    {{ {'b': 1, 'a': 2}|map('upper')|join }}{{ 'ab'|map('upper')|join }} => [BAAB]
+    {{ [nope]|map('default', [1])|first|first }} => [1]
+    {{ [["<", "<"|safe]]|map('join')|first }} => [&lt;<]
+    {% autoescape false %}{{ [["<", "<"|safe]]|map('join')|first }}{% endautoescape %} => [<<]
+    {% filter list|map('upper')|join %}ab{% endfilter %} => [AB]
+    {% filter list|map(attribute='a')|length %}ab{% endfilter %} => [2]
+    {% filter map('nope') %}{% endfilter %} => P3
+    {% filter select('nope') %}{% endfilter %} => P4
+    {% filter map(s) %}{% endfilter %} => V4
+    {% macro f(x) %}{{ x|map('abs')|join(',') }}{% endmacro %}{{ f([-1, 2]) }} => [1,2]
+    {"rows": [{"n": 2, "t": "b"}, {"n": 1, "t": "a"}]}¦{% for t in rows|selectattr("n", "gt", 1)|map(attribute="t") %}{{ t }}{% endfor %} => [b]"##;
+
+#[test]
+fn filters_over_items_hold(rt: HostRuntime) -> Result<(), Fail> {
+    rows_hold(&rt, OVER_ITEMS)
+}
+
 /// Marks, raw text and comments.
 const WHITESPACE: &str = r##"{{ "a" -}} ␤ b => [ab]
     a␤ {{- 1 }} => [a1]

@@ -3,6 +3,7 @@
 use crate::rows::rows_hold;
 use crate::spelling::{shown, values};
 use jt_filters::{FilterId, Limits, apply};
+use jt_value::Value;
 use std::alloc::Global;
 use std::test::Fail;
 
@@ -106,7 +107,59 @@ fn filters(rt: HostRuntime) -> Result<(), Fail> {
         unique ln1,+,ta,mA,n2 => ln1,ta,n2
         upper 0 => tNONE
         upper n1 n2 => another number of values
-        select l => no filter",
+        slice l => no filter",
+    )
+}
+
+#[test]
+fn filters_over_items(rt: HostRuntime) -> Result<(), Fail> {
+    rows_hold(
+        &rt,
+        filtered,
+        r"map ln-1,n2 tabs => ln1,n2
+        map kb=n1,a=n2 tupper => ltB,tA
+        map lu,n1 tdefault tx => ltx,n1
+        map lta,mb tattr tx => lu,u
+        map lta => another number of values
+        map lta tselect => F9 BadArgument
+        map lta tnope => F9 BadArgument
+        map lta tabs n1 => F9 BadArgument
+        map ln1,ta tfirst => F6 NotIterable
+        map n5 tnope => F6 NotIterable
+        reject ln1,n0,tx,t,- => ln0,t,-
+        reject ln1,n2 teq n2 => ln1
+        rejectattr lta,mb tx => lta,mb
+        select ln1,n0,tx,t,- => ln1,tx
+        select ln1,n2,n3,n4 teven => ln2,n4
+        select ln1,ta teven => F1 BadType
+        select lta tnope => F9 BadArgument
+        selectattr lta,mb tx => l
+        selectattr ln1 tx tundefined => ln1
+        selectattr lu tx => F2 Undefined
+        selectattr ln1 n1 => F9 BadArgument",
+    )
+}
+
+/// What `unique` answers of the list of some values.
+fn distinct(alloc: Global, spellings: &str) -> Result<String, Fail> {
+    let wide = Limits {
+        size: 1000,
+        nesting: 10,
+    };
+    let list = Value::list(alloc, values(alloc, spellings)?)?;
+    Ok(shown(alloc, &apply(alloc, FilterId::Unique, &[list], true, wide))?)
+}
+
+#[test]
+fn unique_of_all_kinds(rt: HostRuntime) -> Result<(), Fail> {
+    rows_hold(
+        &rt,
+        distinct,
+        r"tA ma tB mA => ltA,tB
+        n1 + - n0 n-1 0 u 0 u n1 => ln1,-,n-1,0,u
+        ln1,tA l+,mA ln1,ta ln1 l l => ln1/tA/,n1/ta/,n1/,
+        ka=n1,b=+ kb=n1,a=n1 ka=n1 kb=n1 ka=n1,b=n2 => lk,k,k,k
+        tl l t1 n1 k l t t0 0 => ltl,,t1,n1,k,t,t0,0",
     )
 }
 
@@ -123,6 +176,10 @@ fn limits(rt: HostRuntime) -> Result<(), Fail> {
         5 0 escape t< => m&lt;
         4 0 escape t< => too large
         2 0 sort ln2,n1 => too large
+        4 1 map ln-1,n2,n3 tabs => ln1,n2,n3
+        3 1 map ln-1,n2,n3 tabs => too large
+        3 0 select ln0,n2,n3 => too deep
+        3 1 unique lta,tA,n3 => too large
         5 1 items kx=n0 => too deep",
     )
 }

@@ -6,10 +6,10 @@ use Rattle.jt_image.specs.Code.{Section, Code}
 use Rattle.jt_image.specs.Effect.{Shape, effect_at}
 use Rattle.jt_image.specs.Typed.{Reaches, at_start, along, IsTypedUnit, Equal, HasSame, Among, max_entries}
 use Rattle.jt_verify.specs.Typing.{as_list, points_of, AreWithin}
-use Rattle.jt_verify.specs.Working.{Table, shape_at, work_left, IsDue, IsFollowed, Comes, IsWorking, sent}
+use Rattle.jt_verify.specs.Working.{Path, Table, shape_at, work_left, IsDue, IsFollowed, Comes, IsWorking, sent}
 use Rattle.jt_verify.specs.declared.typing.Leads.{Leads}
-use Rattle.jt_verify.specs.declared.verifier.Path.{Path}
-use Rattle.jt_verify.proofs.Tables.{same_or, set_here, set_there, set_keeps, set_gives, unknown-set, none_at, length-replicate, among_swapped, all_weaker, all_among, all_of, waits_left, waits_right, waits_either, waits_sent, all_to, paths_last, paths_append, paths_sent}
+use Rattle.jt_verify.proofs.Numbers.{same_or}
+use Rattle.jt_verify.proofs.Tables.{set_here, set_there, set_keeps, set_gives, unknown-set, none_at, length-replicate, among_swapped, all_weaker, all_among, all_of, waits_left, waits_right, waits_either, waits_sent, all_to, paths_last, paths_append, paths_sent}
 
 -- ---- a path that ends where its shape is known
 

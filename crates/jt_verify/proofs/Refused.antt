@@ -8,12 +8,12 @@ use Rattle.jt_image.specs.declared.instruction.Instruction.{Instruction}
 use Rattle.jt_image.specs.Code.{Section, Code}
 use Rattle.jt_image.specs.Effect.{Shape, Leads, effect_of, effect_at}
 use Rattle.jt_image.specs.Typed.{Shapes, Reaches, at_start, along, IsTypedBy, IsTypedUnit, IsTyped, Equal, HasSame}
+use Rattle.jt_verify.specs.Arena.{Lists}
 use Rattle.jt_verify.specs.Refusing.{HasClash, HasFlaw, HoldsAt, RefusalHolds}
 use Rattle.jt_verify.specs.Typing.{IsTall}
-use Rattle.jt_verify.specs.Working.{Table, shape_at, unit_of, ClashesAt, Clashes, StepFlaw, Steps, Comes, IsWorking, RefusesUnit}
+use Rattle.jt_verify.specs.Working.{Path, Table, shape_at, unit_of, ClashesAt, Clashes, StepFlaw, Steps, Comes, IsWorking, RefusesUnit}
 use Rattle.jt_verify.specs.declared.refusal.Refusal.{Refusal}
 use Rattle.jt_verify.specs.declared.refusal.Refusal.TheVariants as refusal
-use Rattle.jt_verify.specs.declared.verifier.Path.{Path}
 use Rattle.jt_verify.proofs.Tables.{all_among, paths_last}
 
 one_shape : (a b : Shape) → Some a ≡ Some b → a ≡ b
@@ -56,9 +56,9 @@ step_holds : (k : Code) (u : Section) (x : Path) (f : Flaw) (q : ℕ) → Reache
 step_holds k u x f q reached (inl h) = subst (λ (p : ℕ). HoldsAt k u p f) (sym h.0) (inl (x.shape, reached, h.1))
 step_holds k u x f q reached (inr h) = subst (λ (g : Flaw). HoldsAt k u q g) (sym h.0) (inr (tall_clash k u x q (effect_at k u x.point x.shape) reached refl h.1))
 
-pub step_refuses : (k : Code) (u : Section) (n : ℕ) (t : Table) (w : List Path) (x : Path) (r : Shape) (e : Refusal) → IsWorking k u t (w ++ x ∷ []) → Steps k u n x.point x.shape r (Err e) → RefusesUnit k u n e
-step_refuses k u n t w x r (refusal.Flaw f m p) i h = (h.0, step_holds k u x f p (paths_last (Comes k u) w x i.coming).0.1 h.1)
-step_refuses k u n t w x r refusal.NoMemory i h = tt
+pub step_refuses : (r : Lists) (k : Code) (u : Section) (n : ℕ) (t : Table) (w : List Path) (x : Path) (e : Refusal) → IsWorking k u t (w ++ x ∷ []) → Steps r k u n x.point x.shape (Err e) → RefusesUnit k u n e
+step_refuses r k u n t w x (refusal.Flaw f m p) i h = (h.0, step_holds k u x f p (paths_last (Comes k u) w x i.coming).0.1 h.1)
+step_refuses r k u n t w x refusal.NoMemory i h = tt
 
 pub empty_refuses : (k : Code) (u : Section) (n : ℕ) → length u.code ≡ 0 → RefusesUnit k u n (refusal.Flaw flaw.FallsOff n 0)
 empty_refuses k u n e = (refl, inl ([], at_start, falls u.code e))

@@ -7,14 +7,8 @@ use Rattle.jt_image.specs.Code.{Section}
 use Rattle.jt_image.specs.Readers.{header_of}
 use Rattle.jt_image.specs.Effect.{Shape}
 use Rattle.jt_image.specs.Typed.{Among}
-use Rattle.jt_verify.specs.Working.{Table, shape_at, unknown, Waits}
-use Rattle.jt_verify.specs.declared.verifier.Path.{Path}
-
-pub same_or : (a b : ℕ) → (a ≡ b) ⊎ (a ≢ b)
-same_or zero zero = inl refl
-same_or zero (suc b) = inr (λ e. absurd cc)
-same_or (suc a) zero = inr (λ e. absurd cc)
-same_or (suc a) (suc b) = elim (same_or a b) [ inl e ↦ inl (ap suc e) | inr n ↦ inr (λ (e : suc a ≡ suc b). n (omega arith)) ]
+use Rattle.jt_verify.specs.Working.{Path, Table, shape_at, unknown, Waits}
+use Rattle.jt_verify.proofs.Numbers.{same_or}
 
 -- ---- a shape put into a table
 
@@ -121,11 +115,11 @@ waits_sent s [] q h = absurd h
 waits_sent s (p ∷ ps) q (inl e) = inl (sym e, refl)
 waits_sent s (p ∷ ps) q (inr h) = inr (waits_sent s ps q h)
 
-pub paths_last : (P : Path → Type 0) (w : List Path) (x : Path) → AllByRecursion P (w ++ x ∷ []) → P x × AllByRecursion P w
+pub paths_last : {A : Type 0} (P : A → Type 0) (w : List A) (x : A) → AllByRecursion P (w ++ x ∷ []) → P x × AllByRecursion P w
 paths_last P [] x a = (a.0, tt)
 paths_last P (y ∷ w) x a = let r = paths_last P w x a.1 in (r.0, (a.0, r.1))
 
-pub paths_append : (P : Path → Type 0) (w v : List Path) → AllByRecursion P w → AllByRecursion P v → AllByRecursion P (w ++ v)
+pub paths_append : {A : Type 0} (P : A → Type 0) (w v : List A) → AllByRecursion P w → AllByRecursion P v → AllByRecursion P (w ++ v)
 paths_append P [] v a b = b
 paths_append P (x ∷ w) v a b = (a.0, paths_append P w v a.1 b)
 

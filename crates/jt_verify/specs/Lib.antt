@@ -1,5 +1,6 @@
 pub mod Names
 pub mod Tops
+pub mod Arena
 pub mod Shapes
 pub mod Typing
 pub mod Refusing

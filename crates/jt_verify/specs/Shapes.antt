@@ -1,13 +1,14 @@
 -- What is below the top of a shape, and how two shapes differ.
-use Rattle.std.specs.Prelude.{◌≡◌, ◌≢◌, ◌⊎◌, [], ◌∷◌, length, Result, Ok, Err}
+use Rattle.std.specs.Prelude.{◌≡◌, ◌≢◌, ◌⊎◌, ◌<◌, [], ◌∷◌, length, Result, Ok, Err}
+use Rattle.jt_image.specs.declared.kind.Kind.{Kind}
 use Rattle.jt_image.specs.declared.kind.Kind.TheVariants as kind
 use Rattle.jt_image.specs.declared.kind.Flaw.{Flaw}
 use Rattle.jt_image.specs.declared.kind.Flaw.TheVariants as flaw
 use Rattle.jt_image.specs.Effect.{Shape}
 use Rattle.jt_verify.specs.declared.refusal.Refusal.{Refusal}
 use Rattle.jt_verify.specs.declared.refusal.Refusal.TheVariants as refusal
-use Rattle.jt_verify.specs.declared.typing.EffectError.{EffectError}
-use Rattle.jt_verify.specs.declared.typing.EffectError.TheVariants as errors
+use Rattle.jt_verify.specs.declared.links.Handle.{Handle}
+use Rattle.jt_verify.specs.Arena.{Lists, shape_in, IsIn}
 
 -- what is below a value at the top
 abbrev pub below_value : Shape → Result Shape Flaw
@@ -30,15 +31,14 @@ below_capture (kind.Capture ∷ s) = Ok s
 below_capture (kind.Value ∷ s) = Err flaw.WrongKind
 below_capture (kind.Frame ∷ s) = Err flaw.WrongKind
 
--- r is what is below the top, or the flaw is named; want of memory says nothing
-abbrev pub Below : Result Shape Flaw → Shape → Result (Unit {0}) EffectError → Type 0
-Below below r (Ok u) = below ≡ Ok r
-Below below r (Err (errors.Flaw f)) = below ≡ Err f
-Below below r (Err (errors.TooTall q)) = ⊥
-Below below r (Err errors.NoMemory) = Unit {0}
+-- the handle is what is below the top, or the flaw is named
+abbrev pub Below : Lists → Result Shape Flaw → Result Handle Flaw → Type 0
+Below t below (Ok h) = below ≡ Ok (shape_in t h)
+Below t below (Err f) = below ≡ Err f
 
-abbrev pub Pops : Shape → Shape → Result (Unit {0}) EffectError → Type 0
-Pops s r e = Below (below_value s) r e
+-- the shape is that kind on the handle
+abbrev pub IsTopped : Lists → Kind → Handle → Shape → Type 0
+IsTopped t k b s = (s ≡ k ∷ shape_in t b) × IsIn t b × (length (shape_in t b) < length s)
 
 -- shapes of other lengths, or of one length with other kinds; the place is not known
 abbrev pub Differ : Shape → Shape → Refusal → Type 0

@@ -1,9 +1,9 @@
 -- The kinds that a shape holds.
-use Rattle.std.specs.Prelude.{List, [], ◌∷◌}
+use Rattle.std.specs.Prelude.{List, [], reverse, Option, Some, None}
 use Rattle.jt_image.specs.declared.kind.Kind.{Kind}
-use Rattle.jt_verify.specs.declared.shape.Top.{Top}
-use Rattle.jt_verify.specs.declared.shape.Top.TheVariants.{None, On}
+use Rattle.smallvec.specs.SmallVec.{SmallVec}
 
-abbrev pub kinds : Top → List Kind
+-- the entries are kept with the top last
+abbrev pub kinds : Option (SmallVec Kind) → List Kind
 kinds None = []
-kinds (On k below) = k ∷ below.value
+kinds (Some entries) = reverse entries.items

@@ -1,5 +1,5 @@
 -- What is known of a unit while it is verified.
-use Rattle.std.specs.Prelude.{◌≡◌, ◌≢◌, ◌⊎◌, ℕ, ◌+◌, ◌<◌, ◌≤◌, Bool, true, false, List, [], ◌∷◌, ◌++◌, length, map, Option, Some, None, unwrap_or, Result, Ok, Err, slice_get}
+use Rattle.std.specs.Prelude.{◌≡◌, ◌≢◌, ◌⊎◌, ℕ, ◌+◌, ◌<◌, ◌≤◌, Bool, true, false, List, [], ◌∷◌, ◌++◌, length, map, Option, Some, None, option_map, unwrap_or, Result, Ok, Err, slice_get}
 use Rattle.std.specs.List.{AllByRecursion}
 use Rattle.jt_image.specs.declared.kind.Flaw.{Flaw}
 use Rattle.jt_image.specs.declared.kind.Flaw.TheVariants as flaw
@@ -14,7 +14,10 @@ use Rattle.jt_verify.specs.Refusing.{HoldsAt}
 use Rattle.jt_verify.specs.declared.typing.Leads.{Leads}
 use Rattle.jt_verify.specs.declared.refusal.Refusal.{Refusal}
 use Rattle.jt_verify.specs.declared.refusal.Refusal.TheVariants as refusal
-use Rattle.jt_verify.specs.declared.verifier.Path.{Path}
+use Rattle.jt_verify.specs.declared.links.Handle.{Handle}
+use Rattle.jt_verify.specs.declared.verifier.Path.{Path as Waiting}
+use Rattle.jt_verify.specs.declared.verifier.After.{After}
+use Rattle.jt_verify.specs.Arena.{Lists, shape_in, IsIn}
 
 -- a unit of a code; one outside its table is empty, but none is asked for
 abbrev pub unit_of : Code → ℕ → Section
@@ -24,6 +27,11 @@ unit_of k n = unwrap_or (slice_get k.units n) (record { parameters = 0; kind = 0
 pub record IsUnit (k : Code) (n : ℕ) (h : UnitHeader) : Type 0 where
   pub is : slice_get k.units n ≡ Some (unit_of k n)
   pub header : h ≡ header_of (unit_of k n)
+
+-- a shape that comes to a point
+pub record Path : Type 0 where
+  pub point : ℕ
+  pub shape : Shape
 
 -- the shapes that are known, one place a point
 abbrev pub Table : Type 0
@@ -86,6 +94,13 @@ ClashesAt (Some r) s flaw.DepthDiffers = length r ≢ length s
 ClashesAt (Some r) s flaw.KindDiffers = (length r ≡ length s) × (r ≢ s)
 ClashesAt o s f = ⊥
 
+-- shapes that meet are equal, or of other lengths, or of one length with other kinds
+abbrev pub Meets : Shape → Shape → Result (Unit {0}) Flaw → Type 0
+Meets r s (Ok u) = r ≡ s
+Meets r s (Err flaw.DepthDiffers) = length r ≢ length s
+Meets r s (Err flaw.KindDiffers) = (length r ≡ length s) × (r ≢ s)
+Meets r s (Err f) = ⊥
+
 -- a path may not end at its point
 abbrev pub Clashes : Table → ℕ → Path → Refusal → Type 0
 Clashes t n x r = (f : Flaw) × (r ≡ refusal.Flaw f n x.point) × ClashesAt (shape_at t x.point) x.shape f
@@ -94,11 +109,11 @@ Clashes t n x r = (f : Flaw) × (r ≡ refusal.Flaw f n x.point) × ClashesAt (s
 abbrev pub StepFlaw : Code → Section → ℕ → Shape → Flaw → ℕ → Type 0
 StepFlaw k u p s f q = ((q ≡ p) × (effect_at k u p s ≡ Err f)) ⊎ ((f ≡ flaw.TooDeep) × IsTall q (effect_at k u p s))
 
--- the effect at a point of unit n, where r is the shape behind it
-abbrev pub Steps : Code → Section → ℕ → ℕ → Shape → Shape → Result Leads Refusal → Type 0
-Steps k u n p s r (Ok l) = effect_at k u p s ≡ Ok (record { shape = r; points = points_of l })
-Steps k u n p s r (Err (refusal.Flaw f m q)) = (m ≡ n) × StepFlaw k u p s f q
-Steps k u n p s r (Err refusal.NoMemory) = Unit {0}
+-- the effect at a point of unit n
+abbrev pub Steps : Lists → Code → Section → ℕ → ℕ → Shape → Result After Refusal → Type 0
+Steps t k u n p s (Ok a) = effect_at k u p s ≡ Ok (record { shape = shape_in t a.shape; points = points_of a.leads })
+Steps t k u n p s (Err (refusal.Flaw f m q)) = (m ≡ n) × StepFlaw k u p s f q
+Steps t k u n p s (Err refusal.NoMemory) = Unit {0}
 
 -- the paths that an instruction sends; the last is followed first
 abbrev pub sent : Leads → Shape → List Path
@@ -108,3 +123,33 @@ sent l s = map (λ p. record { point = p; shape = s }) (as_list l.target ++ as_l
 abbrev pub RefusesUnit : Code → Section → ℕ → Refusal → Type 0
 RefusesUnit k u n (refusal.Flaw f m p) = (m ≡ n) × HoldsAt k u p f
 RefusesUnit k u n refusal.NoMemory = Unit {0}
+
+-- ---- shapes by their handles
+
+abbrev pub path_in : Lists → Waiting → Path
+path_in t x = record { point = x.point; shape = shape_in t x.shape }
+
+abbrev pub paths_in : Lists → List Waiting → List Path
+paths_in t w = map (path_in t) w
+
+abbrev pub table_in : Lists → List (Option Handle) → Table
+table_in t hs = map (option_map (shape_in t)) hs
+
+-- the path's shape is one of the arena's
+abbrev pub IsInPath : Lists → Waiting → Type 0
+IsInPath t x = IsIn t x.shape
+
+-- the handle, if there is one, is one of the arena's
+abbrev pub IsInIf : Lists → Option Handle → Type 0
+IsInIf t None = Unit {0}
+IsInIf t (Some h) = IsIn t h
+
+-- all handles are the arena's, and what they stand for is what is known of the unit
+pub record Works (k : Code) (u : Section) (t : Lists) (hs : List (Option Handle)) (w : List Waiting) : Type 0 where
+  pub table : AllByRecursion (IsInIf t) hs
+  pub paths : AllByRecursion (IsInPath t) w
+  pub working : IsWorking k u (table_in t hs) (paths_in t w)
+
+-- the paths that are sent, by their handles
+abbrev pub handles_sent : Leads → Handle → List Waiting
+handles_sent l h = map (λ p. record { point = p; shape = h }) (as_list l.target ++ as_list l.next)

@@ -5,7 +5,7 @@ ghost use Rattle.jt_verify.specs.Refusing.{RefusalHolds};
 
 use crate::refusal::Refusal;
 use crate::verifier::verify_code;
-use jt_image::{Code, Image};
+use jt_image::{Code, Image, View};
 use std::alloc::Global;
 use std::marker::Model;
 
@@ -61,6 +61,24 @@ impl Checked<Image> {
     }
 }
 
+/// A view that is in order.
+pub type VerifiedView<'a> = Checked<View<'a>>;
+
+// Accepts what has a code exactly where the code is in order.
+fn accept<C: Code>(alloc: Global, code: C) -> Result<Checked<C>, (C, Refusal)>
+    ensures ok { IfOk result (λ v. (v ≡ C.code code) × IsTyped (C.code code)) }
+    ensures err { IfErr result (λ e. (e.0 ≡ code) × RefusalHolds (C.code code) e.1) }
+    ensures exact { IfErr result (λ e. IsTyped (C.code code) → e.1 ≡ Refusal.NoMemory) }
+{
+    match verify_code(alloc, &code) {
+        Ok(()) => {
+            let _units = code.units();
+            Ok(Checked { inner: code })
+        }
+        Err(refusal) => Err((code, refusal)),
+    }
+}
+
 /// Accepts an image exactly where it is in order.
 pub fn verify(alloc: Global, image: Image) -> Result<Verified, (Image, Refusal)>
     // What is accepted is that image, and it is typed.
@@ -70,11 +88,20 @@ pub fn verify(alloc: Global, image: Image) -> Result<Verified, (Image, Refusal)>
     // A typed image is refused only for want of memory.
     ensures exact { IfErr result (λ e. IsTyped image → e.1 ≡ Refusal.NoMemory) }
 {
-    match verify_code(alloc, &image) {
-        Ok(()) => {
-            let _units = image.units();
-            Ok(Checked { inner: image })
-        }
-        Err(refusal) => Err((image, refusal)),
-    }
+    accept(alloc, image)
+}
+
+/// Accepts a view exactly where its code is in order.
+pub fn verify_view<'a>(
+    alloc: Global,
+    view: View<'a>,
+) -> Result<VerifiedView<'a>, (View<'a>, Refusal)>
+    // What is accepted is that view, and its code is typed.
+    ensures ok { IfOk result (λ v. (v ≡ view.entry) × IsTyped view.entry) }
+    // A refusal hands the view back, and holds.
+    ensures err { IfErr result (λ e. (e.0 ≡ view.entry) × RefusalHolds view.entry e.1) }
+    // A view of a typed code is refused only for want of memory.
+    ensures exact { IfErr result (λ e. IsTyped view.entry → e.1 ≡ Refusal.NoMemory) }
+{
+    accept(alloc, view)
 }

@@ -1,51 +1,52 @@
 //! Shapes: the kinds of the entries of an activation.
-ghost use Rattle.std.specs.Prelude.{◌≡◌, ◌≢◌, ◌≤◌, [], ◌∷◌, length, slice_get, IfOk, OnOk, OnErr, MatchBool, MatchResult};
-ghost use Rattle.jt_image.specs.Effect.{may_return};
-ghost use Rattle.jt_image.specs.Typed.{max_entries};
-ghost use Rattle.jt_verify.specs.Shapes.{below_frame, below_capture, Below, Differ, Pops};
+ghost use Rattle.std.specs.Prelude.{◌≡◌, ◌≢◌, [], ◌∷◌, length, OnOk, OnErr, MatchBool, MatchResult};
+ghost use Rattle.jt_verify.specs.Shapes.{Differ};
 
 use crate::refusal::Refusal;
-use crate::typing::EffectError;
 use jt_image::{Flaw, Kind};
 use jt_value::NoMemory;
+use smallvec::SmallVec;
 use std::alloc::Global;
 use std::marker::Model;
-use std::mem;
-use std::rc::Rc;
 
-/// The kinds of the entries. Contracts see the top first. A shape shares what is below its top with the shapes that it came from.
-#[cycle(shape)]
-#[derive(Drop)]
-pub struct Shape {
-    len: usize,
-    top: Top,
+/// The kind of an entry.
+#[derive(Clone, Copy)]
+struct Entry {
+    kind: Kind,
 }
 
-/// The top of a shape.
-#[cycle(shape)]
+impl Model for Entry {
+    ghost use Rattle.jt_image.specs.declared.kind.Kind.{Kind};
+
+    ghost Value = { Kind };
+
+    ghost view = { λ e. e.kind };
+
+    ghost inverse = { λ k. record { kind = k } };
+}
+
+impl Default for Entry {
+    fn default() -> Entry {
+        Entry { kind: Kind::Value }
+    }
+}
+
+/// The kinds of the entries. Contracts see the top first.
 #[derive(Drop)]
-pub(crate) enum Top {
-    None,
-    On(Kind, Rc<Shape>),
+pub struct Shape {
+    // the top is last; none until an allocator comes with the first entry
+    entries: Option<SmallVec<Entry, 32>>,
 }
 
 impl Model for Shape {
-    ghost use Rattle.std.specs.Prelude.{◌≡◌, List, length};
+    ghost use Rattle.std.specs.Prelude.{List};
     ghost use Rattle.jt_image.specs.declared.kind.Kind.{Kind};
 
     ghost Value = { List Kind };
 
     ghost use Rattle.jt_verify.specs.Tops.{kinds};
 
-    ghost view = { λ s. kinds s.top };
-
-    ghost invariant = { λ s. s.len ≡ length (kinds s.top) };
-
-    ghost size = { length };
-
-    ghost use Rattle.std.proofs.Common.{arith, length-append};
-
-    ghost size_decreases = { λ a h. Prim.grind (arith, length-append) };
+    ghost view = { λ s. kinds s.entries };
 }
 
 impl Shape {
@@ -53,123 +54,39 @@ impl Shape {
     pub fn new() -> Shape
         ensures { result ≡ [] }
     {
-        Shape {
-            len: 0,
-            top: Top::None,
-        }
+        Shape { entries: None }
     }
 
     /// How many entries there are.
     pub fn len(&self) -> usize
         ensures { result ≡ length self.now }
     {
-        self.len
-    }
-
-    /// Whether there is no entry.
-    pub fn is_empty(&self) -> bool
-        ensures { result ≡ may_return 0 self.now }
-    {
-        matches!(&self.top, Top::None)
-    }
-
-    /// Whether there is one entry, a value.
-    pub fn is_value(&self) -> bool
-        ensures { result ≡ may_return 1 self.now }
-    {
-        match &self.top {
-            Top::On(Kind::Value, below) => below.is_empty(),
-            _ => false,
+        match &self.entries {
+            None => 0,
+            Some(entries) => entries.len(),
         }
     }
 
-    /// The same shape again. The two share their entries.
-    pub fn share(&self) -> Result<Shape, NoMemory>
-        ensures { IfOk result (λ s. s ≡ self.now) }
-    {
-        let top = match &self.top {
-            Top::None => Top::None,
-            Top::On(kind, below) => Top::On(*kind, below.clone()?),
-        };
-        Ok(Shape { len: self.len, top })
-    }
-
-    /// Puts an entry on top of a shape that is not too long. Without memory nothing changes.
+    /// Puts an entry on top. Without memory nothing changes.
     pub fn push(&mut self, alloc: Global, kind: Kind) -> Result<(), NoMemory>
-        requires { length self.old ≤ max_entries }
         ensures ok { OnOk result (self.new ≡ kind ∷ self.old) }
         ensures err { OnErr result (self.new ≡ self.old) }
     {
-        let below = mem::replace(self, Shape::new());
-        let len = below.len + 1;
-        match Rc::new(alloc, below) {
-            Ok(below) => {
-                *self = Shape {
-                    len,
-                    top: Top::On(kind, below),
-                };
-                Ok(())
+        match &mut self.entries {
+            Some(entries) => {
+                if entries.push(Entry { kind }).is_err() {
+                    return Err(NoMemory);
+                }
             }
-            Err(failed) => {
-                *self = failed.value;
-                Err(NoMemory)
-            }
-        }
-    }
-
-    /// Takes a value off the top.
-    pub(crate) fn pop_value(&mut self) -> Result<(), EffectError>
-        ensures { Pops self.old self.new result }
-    {
-        let below = match &self.top {
-            Top::On(Kind::Value, below) => below.share()?,
-            Top::On(_, _) => return Err(EffectError::Flaw(Flaw::WrongKind)),
-            Top::None => return Err(EffectError::Flaw(Flaw::MissingOperand)),
-        };
-        *self = below;
-        Ok(())
-    }
-
-    /// Takes a loop off the top.
-    pub(crate) fn pop_frame(&mut self) -> Result<(), EffectError>
-        ensures { Below (below_frame self.old) self.new result }
-    {
-        let below = match &self.top {
-            Top::On(Kind::Frame, below) => below.share()?,
-            Top::On(_, _) => return Err(EffectError::Flaw(Flaw::WrongKind)),
-            Top::None => return Err(EffectError::Flaw(Flaw::MissingOperand)),
-        };
-        *self = below;
-        Ok(())
-    }
-
-    /// Takes a capture off the top.
-    pub(crate) fn pop_capture(&mut self) -> Result<(), EffectError>
-        ensures { Below (below_capture self.old) self.new result }
-    {
-        let below = match &self.top {
-            Top::On(Kind::Capture, below) => below.share()?,
-            Top::On(_, _) => return Err(EffectError::Flaw(Flaw::WrongKind)),
-            Top::None => return Err(EffectError::Flaw(Flaw::MissingOperand)),
-        };
-        *self = below;
-        Ok(())
-    }
-}
-
-/// The kind of the entry that has so many entries above it.
-pub(crate) fn kind_below(shape: &Shape, above: usize) -> Option<Kind>
-    ensures { result ≡ slice_get shape.now above }
-{
-    match &shape.top {
-        Top::None => None,
-        Top::On(kind, below) => {
-            if above == 0 {
-                Some(*kind)
-            } else {
-                kind_below(below, above - 1)
+            None => {
+                let mut entries = SmallVec::new(alloc);
+                if entries.push(Entry { kind }).is_err() {
+                    return Err(NoMemory);
+                }
+                self.entries = Some(entries);
             }
         }
+        Ok(())
     }
 }
 
@@ -183,31 +100,35 @@ fn is_same(left: Kind, right: Kind) -> bool
     )
 }
 
-// Whether two shapes have the same kinds, from the top down.
-fn are_same(left: &Shape, right: &Shape) -> bool
+// Whether lists of one length have the same kinds.
+fn are_same(left: &[Entry], right: &[Entry]) -> bool
+    requires { length left.now ≡ length right.now }
     ensures { MatchBool result (left.now ≡ right.now) (left.now ≢ right.now) }
 {
-    match (&left.top, &right.top) {
-        (Top::None, Top::None) => true,
-        (Top::On(a, left_below), Top::On(b, right_below)) => {
-            is_same(*a, *b) && are_same(left_below, right_below)
+    'entries: for index in 0..left.len() {
+        let (ours, theirs) = (left[index], right[index]);
+        if !is_same(ours.kind, theirs.kind) {
+            return false;
         }
-        _ => false,
     }
+    true
 }
 
 /// Joins two paths that meet: their shapes have to be equal. `join` knows no place, so a refusal names unit 0 and point 0.
 pub fn join(left: &Shape, right: &Shape) -> Result<(), Refusal>
     ensures { MatchResult result (λ _. left.now ≡ right.now) (λ e. Differ left.now right.now e) }
 {
-    if left.len != right.len {
+    if left.len() != right.len() {
         return Err(Refusal::Flaw {
             flaw: Flaw::DepthDiffers,
             unit: 0,
             point: 0,
         });
     }
-    if !are_same(left, right) {
+    let (Some(left), Some(right)) = (&left.entries, &right.entries) else {
+        return Ok(());
+    };
+    if !are_same(left.as_slice(), right.as_slice()) {
         return Err(Refusal::Flaw {
             flaw: Flaw::KindDiffers,
             unit: 0,

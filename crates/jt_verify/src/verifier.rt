@@ -1,130 +1,161 @@
 //! The verifier: it follows each path through a unit, and keeps the shape of each point that it comes to.
 ghost use Rattle.std.specs.Prelude.{◌≡◌, ◌<◌, ◌≤◌, [], ◌∷◌, ◌++◌, None, length, replicate, IfOk, IfErr, OnOk, MatchResult};
+ghost use Rattle.std.specs.List.{AllByRecursion};
 ghost use Rattle.jt_image.specs.Typed.{IsTyped, IsTypedUnit, Equal, max_entries};
+ghost use Rattle.jt_verify.specs.Arena.{shape_in, IsIn, IsKept};
 ghost use Rattle.jt_verify.specs.Typing.{AreWithin};
-ghost use Rattle.jt_verify.specs.Working.{unit_of, IsUnit, IsWorking, Arrives, Clashes, Steps, sent, work_left, RefusesUnit};
+ghost use Rattle.jt_verify.specs.Working.{unit_of, IsUnit, Works, Arrives, Clashes, Meets, Steps, path_in, paths_in, table_in, IsInIf, handles_sent, work_left, RefusesUnit};
 ghost use Rattle.jt_verify.specs.Refusing.{RefusalHolds};
 
+use crate::arena::Arena;
+use crate::links::Handle;
 use crate::refusal::Refusal;
-use crate::shape::{Shape, join};
 use crate::typing::{EffectError, Leads, MAX_ENTRIES, effect};
 use jt_image::{Code, Flaw, UnitHeader};
-use jt_value::NoMemory;
 use std::alloc::{AllocError, Global};
 
 /// A shape that comes to a point.
-#[derive(Drop)]
+#[derive(Clone, Copy)]
 pub(crate) struct Path {
     pub(crate) point: usize,
-    pub(crate) shape: Shape,
+    pub(crate) shape: Handle,
+}
+
+/// What is behind an instruction: a shape, and where it comes.
+#[derive(Clone, Copy)]
+pub(crate) struct After {
+    pub(crate) shape: Handle,
+    pub(crate) leads: Leads,
+}
+
+// Whether two shapes that meet are equal, and how they differ otherwise.
+fn meets(arena: &Arena, known: Handle, shape: Handle) -> Result<(), Flaw>
+    requires known { IsIn arena.now known }
+    requires shape { IsIn arena.now shape }
+    ensures { Meets (shape_in arena.now known) (shape_in arena.now shape) result }
+{
+    if arena.is_equal(known, shape) {
+        return Ok(());
+    }
+    if arena.height(known) == arena.height(shape) {
+        return Err(Flaw::KindDiffers);
+    }
+    Err(Flaw::DepthDiffers)
 }
 
 // Whether a path's shape is known at its point, which is new otherwise.
-fn arrive(shapes: &[Option<Shape>], unit: usize, path: &Path) -> Result<bool, Refusal>
-    requires { path.now.point < length shapes.now }
-    ensures { MatchResult result (λ is_known. Arrives shapes.now path.now is_known) (λ e. Clashes shapes.now unit path.now e) }
+fn arrive(
+    arena: &Arena,
+    shapes: &[Option<Handle>],
+    unit: usize,
+    path: Path,
+) -> Result<bool, Refusal>
+    requires point { path.point < length shapes.now }
+    requires shape { IsIn arena.now path.shape }
+    requires shapes { AllByRecursion (IsInIf arena.now) shapes.now }
+    ensures { MatchResult result (λ is_known. Arrives (table_in arena.now shapes.now) (path_in arena.now path) is_known) (λ e. Clashes (table_in arena.now shapes.now) unit (path_in arena.now path) e) }
 {
     let point = path.point;
-    if path.shape.len() > MAX_ENTRIES {
+    if arena.height(path.shape) > MAX_ENTRIES {
         return Err(Refusal::Flaw {
             flaw: Flaw::TooDeep,
             unit,
             point,
         });
     }
-    let Some(known) = &shapes[point] else {
+    let Some(known) = shapes[point] else {
         return Ok(false);
     };
-    match join(known, &path.shape) {
+    match meets(arena, known, path.shape) {
         Ok(()) => Ok(true),
-        Err(Refusal::Flaw { flaw, .. }) => Err(Refusal::Flaw { flaw, unit, point }),
-        Err(Refusal::NoMemory) => unreachable!(),
+        Err(flaw) => Err(Refusal::Flaw { flaw, unit, point }),
     }
 }
 
-// Changes a shape as the instruction at a point does.
+// The shape behind the instruction at a point, and where it comes.
 fn step<C: Code>(
-    alloc: Global,
+    arena: &mut Arena,
     code: &C,
     unit: usize,
     header: &UnitHeader,
-    point: usize,
-    shape: &mut Shape,
-) -> Result<Leads, Refusal>
+    path: Path,
+) -> Result<After, Refusal>
     requires unit { IsUnit (C.code code.now) unit header.now }
-    requires point { point < header.now.instructions }
-    requires small { length shape.old ≤ max_entries }
-    ensures steps { Steps (C.code code.now) (unit_of (C.code code.now) unit) unit point shape.old shape.new result }
-    ensures within { IfOk result (λ l. AreWithin header.now.instructions l) }
+    requires point { path.point < header.now.instructions }
+    requires shape { IsIn arena.old path.shape }
+    requires small { length (shape_in arena.old path.shape) ≤ max_entries }
+    ensures steps { Steps arena.new (C.code code.now) (unit_of (C.code code.now) unit) unit path.point (shape_in arena.old path.shape) result }
+    ensures within { IfOk result (λ a. AreWithin header.now.instructions a.leads) }
+    ensures shape { IfOk result (λ a. IsIn arena.new a.shape) }
+    ensures kept { IsKept arena.old arena.new }
 {
+    let point = path.point;
     let Some(instruction) = code.instruction(unit, point) else {
         unreachable!()
     };
-    match effect(alloc, code, header, point, instruction, shape) {
-        Ok(leads) => Ok(leads),
-        Err(EffectError::Flaw(flaw)) => Err(Refusal::Flaw { flaw, unit, point }),
-        Err(EffectError::TooTall(point)) => Err(Refusal::Flaw {
-            flaw: Flaw::TooDeep,
-            unit,
-            point,
-        }),
-        Err(EffectError::NoMemory) => Err(Refusal::NoMemory),
-    }
+    let found = match effect(arena, code, header, point, instruction, path.shape) {
+        Ok(found) => found,
+        Err(EffectError::Flaw(flaw)) => return Err(Refusal::Flaw { flaw, unit, point }),
+        Err(EffectError::TooTall(point)) => {
+            return Err(Refusal::Flaw {
+                flaw: Flaw::TooDeep,
+                unit,
+                point,
+            });
+        }
+    };
+    let leads = found.leads;
+    let shape = match found.mark {
+        None => found.shape,
+        Some(mark) => arena.push(found.shape, mark)?,
+    };
+    Ok(After { shape, leads })
 }
 
 // Sends a shape on to each point that is led to; the next one is followed first.
-fn send(paths: &mut Vec<Path>, leads: Leads, shape: Shape) -> Result<(), NoMemory>
-    ensures { OnOk result (paths.new.items ≡ paths.old.items ++ sent leads shape) }
+fn send(paths: &mut Vec<Path>, leads: Leads, shape: Handle) -> Result<(), AllocError>
+    ensures { OnOk result (paths.new.items ≡ paths.old.items ++ handles_sent leads shape) }
 {
-    match (leads.next, leads.target) {
-        (Some(next), Some(target)) => {
-            let copy = shape.share()?;
-            paths.push(Path {
-                point: target,
-                shape: copy,
-            })?;
-            paths.push(Path { point: next, shape })?;
-        }
-        (Some(point), None) => paths.push(Path { point, shape })?,
-        (None, Some(point)) => paths.push(Path { point, shape })?,
-        (None, None) => {}
+    if let Some(point) = leads.target {
+        paths.push(Path { point, shape })?;
+    }
+    if let Some(point) = leads.next {
+        paths.push(Path { point, shape })?;
     }
     Ok(())
 }
 
 // Follows a path one instruction on, where its point is new.
 fn follow<C: Code>(
-    alloc: Global,
+    arena: &mut Arena,
     code: &C,
     unit: usize,
     header: &UnitHeader,
     path: Path,
-    shapes: &mut Vec<Option<Shape>>,
+    shapes: &mut Vec<Option<Handle>>,
     paths: &mut Vec<Path>,
 ) -> Result<(), Refusal>
     requires unit { IsUnit (C.code code.now) unit header.now }
-    requires works { IsWorking (C.code code.now) (unit_of (C.code code.now) unit) shapes.old.items (paths.old.items ++ path ∷ []) }
-    ensures ok { OnOk result (IsWorking (C.code code.now) (unit_of (C.code code.now) unit) shapes.new.items paths.new.items) }
-    ensures less { OnOk result (work_left shapes.new.items paths.new.items < work_left shapes.old.items (paths.old.items ++ path ∷ [])) }
+    requires works { Works (C.code code.now) (unit_of (C.code code.now) unit) arena.old shapes.old.items (paths.old.items ++ path ∷ []) }
+    ensures ok { OnOk result (Works (C.code code.now) (unit_of (C.code code.now) unit) arena.new shapes.new.items paths.new.items) }
+    ensures less { OnOk result (work_left (table_in arena.new shapes.new.items) (paths_in arena.new paths.new.items) < work_left (table_in arena.old shapes.old.items) (paths_in arena.old (paths.old.items ++ path ∷ []))) }
     ensures err { IfErr result (λ e. RefusesUnit (C.code code.now) (unit_of (C.code code.now) unit) unit e) }
 {
-    let is_known = arrive(shapes, unit, &path)?;
+    let is_known = arrive(arena, shapes, unit, path)?;
     if is_known {
         return Ok(());
     }
-    let Path { point, mut shape } = path;
-    let known = shape.share()?;
-    let leads = step(alloc, code, unit, header, point, &mut shape)?;
-    shapes[point] = Some(known);
-    send(paths, leads, shape)?;
+    let after = step(arena, code, unit, header, path)?;
+    shapes[path.point] = Some(path.shape);
+    send(paths, after.leads, after.shape)?;
     Ok(())
 }
 
 // Nothing is known yet.
-fn unknown_shapes(alloc: Global, len: usize) -> Result<Vec<Option<Shape>>, AllocError>
+fn unknown_shapes(alloc: Global, len: usize) -> Result<Vec<Option<Handle>>, AllocError>
     ensures { IfOk result (λ t. t.items ≡ replicate len None) }
 {
-    let mut shapes: Vec<Option<Shape>> = Vec::new(alloc);
+    let mut shapes: Vec<Option<Handle>> = Vec::with_capacity(alloc, len)?;
     'shapes: for _ in 0..len {
         shapes.push(None)?;
     }
@@ -149,14 +180,23 @@ fn verify_unit<C: Code>(
             point: 0,
         });
     }
+    let mut arena = Arena::new(alloc)?;
     let mut shapes = unknown_shapes(alloc, header.instructions)?;
     let mut paths: Vec<Path> = Vec::new(alloc);
     paths.push(Path {
         point: 0,
-        shape: Shape::new(),
+        shape: Handle { values: 0, node: 0 },
     })?;
     'paths: while let Some(path) = paths.pop() {
-        follow(alloc, code, unit, header, path, &mut shapes, &mut paths)?;
+        follow(
+            &mut arena,
+            code,
+            unit,
+            header,
+            path,
+            &mut shapes,
+            &mut paths,
+        )?;
     }
     Ok(())
 }

@@ -1,15 +1,17 @@
-use Rattle.std.proofs.lemmas.Result.{IfOk-weaker}
+use Rattle.std.proofs.Common.{rules}
 use Rattle.clap.specs.Walk.{texts}
 use Rattle.clap.specs.Words.{subcommand_of}
 use Rattle.jt_line.specs.Line.{program_app}
-use Rattle.std.proofs.Common.{string_bytes}
-use Rattle.jt_cli.proofs.Yielding.{compile_quiet}
+use Rattle.jt_cli.specs.Commands.{Answers}
+use Rattle.jt_cli.proofs.Endings.{line_ends}
 use Rattle.jt_cli.proofs.program.done.Goals as goal
 
-pub returns-clause-asked : goal.returns-clause-asked
-returns-clause-asked g c = IfOk-weaker c.carried_out.result _ _ (λ text y. (c.in_ok-job.job, c.in_ok-job.ensures.asked, y)) c.carried_out.ensures.yields
-
-pub returns-clause-quiet : goal.returns-clause-quiet
-returns-clause-quiet g c = IfOk-weaker c.carried_out.result _ _
-    (λ text y asks. compile_quiet (subcommand_of program_app (texts c.args.words.now)) c.in_ok-job.job (string_bytes text) c.in_ok-job.ensures.asked y asks)
-    c.carried_out.ensures.yields
+pub returns-clause-ends : goal.returns-clause-ends
+returns-clause-ends g c =
+    let found = subcommand_of program_app (texts c.args.words.now) in
+    let answers : Answers (g.F.Files.known c.args.files.now) (g.F.Files.known c.carried_out.new.files) found c.carried_out.result = record {
+      job = c.in_ok-job.job;
+      asked = c.in_ok-job.ensures.asked;
+      ends = c.carried_out.ensures.ends;
+    } in
+    line_ends _ _ found c.carried_out.result answers

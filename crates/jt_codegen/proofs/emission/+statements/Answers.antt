@@ -1,13 +1,16 @@
-use Rattle.std.proofs.Common.{◌≡◌, ℕ, suc, ◌+◌, List, ◌∷◌, [], ◌++◌, Some, None, Option, drop, refl, sym, ap, ◌∙◌, subst, arith}
+use Rattle.std.proofs.Common.{◌≡◌, suc, ◌+◌, List, [], Some, None, drop, refl, sym, ap, ◌∙◌, subst, arith}
 use Rattle.std.specs.Prelude.{min, option_map}
+use Rattle.std.proofs.lemmas.Result.{IfOk-weaker}
 use Rattle.jt_image.specs.declared.instruction.Instruction.TheVariants as op
 use Rattle.jt_slots.specs.Slots as slots
 use Rattle.jt_slots.specs.Slots.{SBody, none}
-use Rattle.jt_slots.specs.View.{Front, slot_view, targets_view, place_view, expr_view, row_view, stmt_view, body_view, choice_view}
+use Rattle.jt_slots.specs.declared.program.SStmt.{SStmt}
+use Rattle.jt_slots.specs.View.{slot_view, targets_view, place_view, expr_view, row_view, stmt_view, body_view, choice_view}
 use Rattle.jt_lower.specs.Asm.{Asm, one, both, each, when, invoke}
 use Rattle.jt_lower.specs.Lower.{flag, store_of, expr_asm, row_asm, take_asm, kept_asm, turn_asm, over_asm, body_asm, stmt_asm}
-use Rattle.jt_lower.specs.Emission.{Given, Puts}
-use Rattle.jt_codegen.specs.Statements.{Emits, Closes}
+use Rattle.jt_lower.specs.Emission.{Puts}
+use Rattle.jt_codegen.specs.Statements.{Emits}
+use Rattle.jt_codegen.proofs.Depths.{loop_depth}
 use Rattle.jt_codegen.proofs.Fronts.{view-If, view-For, view-Capture, view-PutPooled, view-Print, view-Assign, view-Run}
 use Rattle.jt_codegen.proofs.Putting.{puts_then, puts_call, puts_when, puts_turns, reserved_within}
 use Rattle.jt_codegen.proofs.Emitting.{stands_itself, stands_raised, emits_one, emits_as, emits_alone, leads_more, leads_all, Opens, opens_more, opens_within, emits_branches}
@@ -27,20 +30,20 @@ emit_statement-close_all-requires t c =
     let s = stands_itself c.args.above in
     opens_within [] c.args.above c.args.code.now l.code c.emit_statements-in-If.new.code bs (drop l.condition-index bs) (body_view [] c.deref-in-If.result.now) l.ends.items c.deref-in-If-2.result.now (l.invariant [] c.args.above s) (c.in_ok-emit_statements-in-If-2.ensures [] c.args.above s) c.deref-in-If-2.ensures.value
 
-pub emit_statement-end_turns-requires : goal.emit_statement-end_turns-requires
-emit_statement-end_turns-requires t c =
+pub emit_loop-end_turns-requires : goal.emit_loop-end_turns-requires
+emit_loop-end_turns-requires t c =
     let o = None in
-    let item : Asm = both (one o (op.LoopGet 0 0)) (take_asm o (targets_view c.in-For.targets)) in
-    let body = emits_alone 0 c.emit_item.new.code c.emit_statements-in-For.new.code (body_view [] c.deref-in-For.result.now) (c.in_ok-emit_statements-in-For.ensures [] 0 (stands_itself 0)) in
-    let b : Asm = body_asm (body_view [] c.deref-in-For.result.now slots.end) 0 in
-    reserved_within c.emit_condition.new.code c.begin_turns.new.self c.emit_statements-in-For.new.code (op.LoopNext 0) c.in_ok-top-in-For.top (both item b) c.in_ok-top-in-For.ensures
-    (puts_then c.begin_turns.new.self c.emit_item.new.code c.emit_statements-in-For.new.code item b (c.in_ok-emit_item-in-For.ensures o) body)
+    let item : Asm = both (one o (op.LoopGet 0 0)) (take_asm o (targets_view c.args.targets.now)) in
+    let b : Asm = body_asm (body_view [] c.args.body.now slots.end) 0 in
+    let body = emits_alone 0 c.emit_item.new.code c.emit_statements.new.code (body_view [] c.args.body.now) (c.in_ok-emit_statements.ensures [] 0 (stands_itself 0)) in
+    reserved_within c.emit_condition.new.code c.begin_turns.new.self c.emit_statements.new.code (op.LoopNext 0) c.in_ok-top.top (both item b) c.in_ok-top.ensures
+    (puts_then c.begin_turns.new.self c.emit_item.new.code c.emit_statements.new.code item b (c.in_ok-emit_item.ensures o) body)
 
-pub emit_statement-end_when-requires : goal.emit_statement-end_when-requires
-emit_statement-end_when-requires t c =
+pub emit_loop-end_when-requires : goal.emit_loop-end_when-requires
+emit_loop-end_when-requires t c =
     let h = c.args.above in
-    let other = emits_alone h c.begin_choice-in-For.new.self c.emit_statements-in-For-2.new.code (body_view [] c.deref-in-For-2.result.now) (c.in_ok-emit_statements-in-For-2.ensures [] h (stands_itself h)) in
-    reserved_within c.put-in-For-2.new.self c.begin_choice-in-For.new.self c.emit_statements-in-For-2.new.code (op.JumpIfFalse 0) c.in_ok-choice-in-For.choice (body_asm (body_view [] c.deref-in-For-2.result.now slots.end) h) c.in_ok-choice-in-For.ensures other
+    let other = emits_alone h c.begin_choice.new.self c.emit_statements-2.new.code (body_view [] c.args.other.now) (c.in_ok-emit_statements-2.ensures [] h (stands_itself h)) in
+    reserved_within c.put-2.new.self c.begin_choice.new.self c.emit_statements-2.new.code (op.JumpIfFalse 0) c.in_ok-choice.choice (body_asm (body_view [] c.args.other.now slots.end) h) c.in_ok-choice.ensures other
 
 -- ---- statements that hold no others
 
@@ -89,63 +92,76 @@ emit_statement-returns-in_ok-put-in-Run t c = λ ts h s.
 
 -- ---- statements that hold others
 
-pub emit_statement-returns-in_ok-put-in-Capture-3 : goal.emit_statement-returns-in_ok-put-in-Capture-3
-emit_statement-returns-in_ok-put-in-Capture-3 t c = λ ts h s.
-    let v = c.in-Capture in
-    let body = body_view ts v.body.items slots.end in
-    let form = slots.capture v.escaping (slot_view v.slot) body in
+pub emit_capture-returns : goal.emit_capture-returns
+emit_capture-returns t c = λ ts h s.
     let begins = one None op.CaptureBegin in
-    let ends = one None (op.CaptureEnd (flag v.escaping)) in
-    let stores = one None (store_of (slot_view v.slot)) in
+    let ends = one None (op.CaptureEnd (flag c.args.escaping)) in
+    let stores = one None (store_of (slot_view c.args.slot)) in
     let raised : c.saturating_add.result ≡ min (c.args.above + 1) 18446744073709551615 = omega arith in
     let c0 = c.args.code.now in
-    let c1 = c.put-in-Capture.new.self in
-    let c2 = c.emit_statements-in-Capture.new.code in
-    let c3 = c.put-in-Capture-2.new.self in
-    let c4 = c.put-in-Capture-3.new.self in
-    let inner = subst (λ l. Emits (suc h) c1 (body_view ts l) c2) c.deref-in-Capture.ensures.value (c.in_ok-emit_statements-in-Capture.ensures ts (suc h) (stands_raised c.args.above c.saturating_add.result h raised s)) in
-    emits_as h c0 c4 (stmt_view ts c.args.statement.now) (λ b. slots.stmt form b) (λ b. ap (λ x. stmt_view ts x b) v.is ∙ view-Capture ts v.escaping v.slot v.body b)
-    (emits_one h c0 c4 form (puts_then c0 c1 c4 begins (both (body_asm body (suc h)) (both ends stores)) (c.in_ok-put-in-Capture.ensures None op.CaptureBegin refl)
-    (puts_then c1 c2 c4 (body_asm body (suc h)) (both ends stores) (emits_alone (suc h) c1 c2 (body_view ts v.body.items) inner)
-    (puts_then c2 c3 c4 ends stores (c.in_ok-put-in-Capture-2.ensures None (op.CaptureEnd (flag v.escaping)) (ap op.CaptureEnd c.flag-captured.ensures)) (c.in_ok-put-in-Capture-3.ensures None (store_of (slot_view v.slot)) c.store_of.ensures)))))
+    let c1 = c.put.new.self in
+    let c2 = c.emit_statements.new.code in
+    let c3 = c.put-2.new.self in
+    let c4 = c.put-3.new.self in
+    let body : Asm = body_asm (body_view ts c.args.body.now slots.end) (suc h) in
+    puts_then c0 c1 c4 begins (both body (both ends stores)) (c.in_ok-put.ensures None op.CaptureBegin refl)
+    (puts_then c1 c2 c4 body (both ends stores) (emits_alone (suc h) c1 c2 (body_view ts c.args.body.now) (c.in_ok-emit_statements.ensures ts (suc h) (stands_raised c.args.above c.saturating_add.result h raised s)))
+    (puts_then c2 c3 c4 ends stores (c.in_ok-put-2.ensures None (op.CaptureEnd (flag c.args.escaping)) (ap op.CaptureEnd c.flag-captured.ensures)) (c.in_ok-put-3.ensures None (store_of (slot_view c.args.slot)) c.store_of.ensures)))
 
-pub emit_statement-returns-in_ok-emit_statements-in-For-2 : goal.emit_statement-returns-in_ok-emit_statements-in-For-2
-emit_statement-returns-in_ok-emit_statements-in-For-2 t c = λ ts h s.
-    let v = c.in-For in
-    let p = place_view ts v.field-0 in
-    let o = Some p in
-    let xs = targets_view v.targets in
-    let body = body_view ts v.body.items slots.end in
-    let other = body_view ts v.other.items slots.end in
-    let condition = option_map expr_view v.condition in
-    let form = slots.for_each p xs (expr_view v.iterated) condition body other in
+pub emit_statement-returns-in-Capture : goal.emit_statement-returns-in-Capture
+emit_statement-returns-in-Capture t c =
+    let v = c.in-Capture in
     let c0 = c.args.code.now in
-    let c1 = c.emit_expression-in-For.new.code in
-    let c2 = c.put-in-For.new.self in
+    let c1 = c.emit_capture.new.code in
+    IfOk-weaker c.emit_capture.result _ _ (λ u g. λ ts h s.
+    let form = slots.capture v.escaping (slot_view v.slot) (body_view ts v.body.items slots.end) in
+    emits_as h c0 c1 (stmt_view ts c.args.statement.now) (λ b. slots.stmt form b) (λ b. ap (λ x. stmt_view ts x b) v.is ∙ view-Capture ts v.escaping v.slot v.body b)
+    (emits_one h c0 c1 form (subst (λ l. Puts c0 (stmt_asm (slots.capture v.escaping (slot_view v.slot) (body_view ts l slots.end)) h) c1) c.deref-in-Capture.ensures.value (g ts h s)))) c.emit_capture.ensures
+
+pub emit_loop-returns : goal.emit_loop-returns
+emit_loop-returns t c = λ ts p h s.
+    let o = Some p in
+    let xs = targets_view c.args.targets.now in
+    let c0 = c.args.code.now in
+    let c1 = c.emit_expression.new.code in
+    let c2 = c.put.new.self in
     let c3 = c.emit_condition.new.code in
     let c4 = c.begin_turns.new.self in
     let c5 = c.emit_item.new.code in
-    let c6 = c.emit_statements-in-For.new.code in
+    let c6 = c.emit_statements.new.code in
     let c7 = c.end_turns.new.self in
-    let c8 = c.put-in-For-2.new.self in
-    let c9 = c.begin_choice-in-For.new.self in
-    let c10 = c.emit_statements-in-For-2.new.code in
+    let c8 = c.put-2.new.self in
+    let c9 = c.begin_choice.new.self in
+    let c10 = c.emit_statements-2.new.code in
     let c11 = c.end_when.new.self in
-    let x : Asm = expr_asm o (expr_view v.iterated) h in
+    let x : Asm = expr_asm o (expr_view c.args.iterated.now) h in
     let start : Asm = one o op.LoopStart in
-    let kept : Asm = kept_asm o xs condition in
+    let kept : Asm = kept_asm o xs (option_map expr_view c.args.condition.now) in
     let item : Asm = both (one o (op.LoopGet 0 0)) (take_asm o xs) in
-    let b : Asm = body_asm body 0 in
-    let z : Asm = body_asm other h in
-    let turns = subst (λ l. Emits 0 c5 (body_view ts l) c6) c.deref-in-For.ensures.value (c.in_ok-emit_statements-in-For.ensures ts 0 (stands_itself 0)) in
-    let others = subst (λ l. Emits h c9 (body_view ts l) c10) c.deref-in-For-2.ensures.value (c.in_ok-emit_statements-in-For-2.ensures ts h s) in
-    emits_as h c0 c11 (stmt_view ts c.args.statement.now) (λ b. slots.stmt form b) (λ b. ap (λ x. stmt_view ts x b) v.is ∙ view-For ts v.field-0 v.targets v.iterated v.condition v.body v.other b)
-    (emits_one h c0 c11 form (puts_then c0 c3 c11 (both x (both start kept)) (over_asm o xs b z)
-    (puts_then c0 c1 c3 x (both start kept) (c.in_ok-emit_expression-in-For.ensures o h s) (puts_then c1 c2 c3 start kept (c.in_ok-put-in-For.ensures o op.LoopStart refl) (c.in_ok-emit_condition-in-For.ensures o)))
+    let b : Asm = body_asm (body_view ts c.args.body.now slots.end) 0 in
+    let z : Asm = body_asm (body_view ts c.args.other.now slots.end) h in
+    let turns = emits_alone 0 c5 c6 (body_view ts c.args.body.now) (c.in_ok-emit_statements.ensures ts 0 (stands_itself 0)) in
+    let others = emits_alone h c9 c10 (body_view ts c.args.other.now) (c.in_ok-emit_statements-2.ensures ts h s) in
+    puts_then c0 c3 c11 (both x (both start kept)) (over_asm o xs b z)
+    (puts_then c0 c1 c3 x (both start kept) (c.in_ok-emit_expression.ensures o h s) (puts_then c1 c2 c3 start kept (c.in_ok-put.ensures o op.LoopStart refl) (c.in_ok-emit_condition.ensures o)))
     (puts_then c3 c7 c11 (each (turn_asm o xs b)) (both (one o op.LoopEnd) (when z))
-    (puts_turns c3 c4 c6 c7 (both item b) c.in_ok-top-in-For.top c.in_ok-top-in-For.ensures (puts_then c4 c5 c6 item b (c.in_ok-emit_item-in-For.ensures o) (emits_alone 0 c5 c6 (body_view ts v.body.items) turns)) c.in_ok-end_turns-in-For.ensures)
-    (puts_then c7 c8 c11 (one o op.LoopEnd) (when z) (c.in_ok-put-in-For-2.ensures o op.LoopEnd refl)
-    (puts_when c8 c9 c10 c11 z c.in_ok-choice-in-For.choice c.in_ok-choice-in-For.ensures (emits_alone h c9 c10 (body_view ts v.other.items) others) c.end_when.ensures)))))
+    (puts_turns c3 c4 c6 c7 (both item b) c.in_ok-top.top c.in_ok-top.ensures (puts_then c4 c5 c6 item b (c.in_ok-emit_item.ensures o) turns) c.in_ok-end_turns.ensures)
+    (puts_then c7 c8 c11 (one o op.LoopEnd) (when z) (c.in_ok-put-2.ensures o op.LoopEnd refl)
+    (puts_when c8 c9 c10 c11 z c.in_ok-choice.choice c.in_ok-choice.ensures others c.end_when.ensures)))
+
+pub emit_statement-returns-in-For : goal.emit_statement-returns-in-For
+emit_statement-returns-in-For t c =
+    let v = c.in-For in
+    let c0 = c.args.code.now in
+    let c1 = c.emit_loop.new.code in
+    let us = c.deref-in-For.result.now in
+    IfOk-weaker c.emit_loop.result _ _ (λ u g. λ ts h s.
+    let p = place_view ts v.field-0 in
+    let form = λ (ds es : List SStmt). slots.for_each p (targets_view v.targets) (expr_view v.iterated) (option_map expr_view v.condition) (body_view ts ds slots.end) (body_view ts es slots.end) in
+    let whole = form v.body.items v.other.items in
+    emits_as h c0 c1 (stmt_view ts c.args.statement.now) (λ b. slots.stmt whole b) (λ b. ap (λ x. stmt_view ts x b) v.is ∙ view-For ts v.field-0 v.targets v.iterated v.condition v.body v.other b)
+    (emits_one h c0 c1 whole (subst (λ l. Puts c0 (stmt_asm (form l v.other.items) h) c1) c.deref-in-For.ensures.value
+    (subst (λ l. Puts c0 (stmt_asm (form us l) h) c1) c.deref-in-For-2.ensures.value (g ts p h s))))) c.emit_loop.ensures
 
 pub emit_statement-loop-condition-preserved : goal.emit_statement-loop-condition-preserved
 emit_statement-loop-condition-preserved t c = λ ts h s.
@@ -180,3 +196,11 @@ pub emit_statements-returns : goal.emit_statements-returns
 emit_statements-returns t c = λ ts h s.
     let l = c.loop-statement in
     leads_all ts h c.args.body.now l.statement-index c.args.code.now l.code (body_view ts c.args.body.now) (omega arith) (l.invariant ts h s)
+
+-- ---- each part is smaller
+
+pub emit_statement-emit_loop-requires : goal.emit_statement-emit_loop-requires
+emit_statement-emit_loop-requires t c =
+    let v = c.in-For in
+    let less = loop_depth c.args.statement.now c.deref-in-For.result.now c.deref-in-For-2.result.now v.field-0 v.targets v.iterated v.condition v.body v.other v.is c.deref-in-For.ensures.value c.deref-in-For-2.ensures.value in
+    omega (arith, less)

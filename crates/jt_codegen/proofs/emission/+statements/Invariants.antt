@@ -1,9 +1,28 @@
-use Rattle.std.proofs.Common.{ℕ, List, drop}
+use Rattle.std.proofs.Common.{ℕ, ◌+◌, ◌*◌, List, drop}
+use Rattle.std.specs.Prelude.{max}
+use denote.Param.Weighed.{most}
+use Rattle.jt_slots.specs.declared.program.SStmt.{size-SStmt}
 use Rattle.jt_parse.specs.Trees.{Text}
 use Rattle.jt_slots.specs.View.{body_view}
 use Rattle.jt_lower.specs.Emission.{StandsFor}
 use Rattle.jt_codegen.proofs.Emitting.{Leads, Opens}
 use Rattle.jt_codegen.proofs.emission.+statements.Given as goal
+
+-- ---- how deep the statements are that are left, and who hands its own on
+
+abbrev pub decreases-emit_statement : goal.decreases-emit_statement
+decreases-emit_statement l = 3 * size-SStmt l.statement.now
+
+abbrev pub decreases-emit_statements : goal.decreases-emit_statements
+decreases-emit_statements l = 3 * most (λ x. size-SStmt x) l.body.now + 1
+
+abbrev pub decreases-emit_capture : goal.decreases-emit_capture
+decreases-emit_capture l = 3 * most (λ x. size-SStmt x) l.body.now + 2
+
+abbrev pub decreases-emit_loop : goal.decreases-emit_loop
+decreases-emit_loop l = 3 * max (most (λ x. size-SStmt x) l.body.now) (most (λ x. size-SStmt x) l.other.now) + 2
+
+-- ---- what is left
 
 abbrev pub invariant-emit_statements-loop-statement : goal.invariant-emit_statements-loop-statement
 invariant-emit_statements-loop-statement l = (templates : List Text) (h : ℕ) → StandsFor l.above h → Leads h l.initial.code (body_view templates l.body) l.code (body_view templates (drop l.statement-index l.body))

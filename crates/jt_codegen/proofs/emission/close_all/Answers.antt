@@ -1,4 +1,4 @@
-use Rattle.std.proofs.Common.{◌≡◌, ◌-◌, ◌<◌, length, get_or, sym, arith, subst}
+use Rattle.std.proofs.Common.{◌-◌, ◌<◌, length, sym, arith, subst}
 use Rattle.jt_codegen.specs.Statements.{Closes}
 use Rattle.jt_codegen.proofs.Emitting.{closes_len, below_at, drop_before}
 use Rattle.jt_codegen.proofs.emission.close_all.Goals as goal

@@ -1,4 +1,4 @@
-use Rattle.std.proofs.Common.{None, refl, sym, ap, subst}
+use Rattle.std.proofs.Common.{None, refl, subst}
 use Rattle.jt_image.specs.declared.instruction.Instruction.TheVariants as op
 use Rattle.jt_slots.specs.View.{body_view}
 use Rattle.jt_codegen.specs.Statements.{Emits}

@@ -1,4 +1,4 @@
-use Rattle.std.proofs.Common.{List, ◌++◌, ◌∷◌, [], ◌+◌, drop, sym, subst, arith}
+use Rattle.std.proofs.Common.{List, ◌+◌, drop, sym, subst, arith}
 use Rattle.std.proofs.lemmas.Result.{err_from_is_err_and}
 use Rattle.jt_image.specs.declared.parts.Unit as given
 use Rattle.jt_codegen.proofs.Tabled.{Made, made_more, made_all, unit_refused}

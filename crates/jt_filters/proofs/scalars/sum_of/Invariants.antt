@@ -1,6 +1,6 @@
 use Rattle.std.proofs.Common.{◌≡◌}
 use Rattle.jt_ops.specs.ItemOf.{items_count}
-use Rattle.jt_filters.specs.Operands.{tree_of, items_in}
+use Rattle.jt_filters.specs.Operands.{items_in}
 use Rattle.std.specs.Prelude.{Ok}
 use Rattle.std.proofs.Common.{pos}
 use Rattle.jt_filters.specs.Numbers.{sum_behind}

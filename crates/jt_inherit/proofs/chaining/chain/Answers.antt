@@ -13,6 +13,7 @@ use Rattle.jt_inherit.specs.SetView.{strings}
 use Rattle.jt_inherit.specs.Small.{chains_weight, chains_len}
 use Rattle.jt_inherit.proofs.OnWay.{all_short}
 use Rattle.jt_inherit.proofs.Placed.{length-map}
+use Rattle.jt_inherit.proofs.Settled.{no_chain, one_chain}
 use Rattle.jt_inherit.proofs.Whole.{ways_placed, next_len, closed, chain_breaks, order_breaks, in_order, chained, weighs, few_homes, some_homes, all_whole, homes_named}
 use Rattle.jt_inherit.proofs.chaining.chain.Goals as goal
 
@@ -177,3 +178,68 @@ returns-clause-few g c =
     let has : HasHomes hs ws is homes = subst (λ z. HasHomes hs ws z homes) c.deref-2.ensures.value c.in_ok-homes.ensures in
     let named = homes_named hs ws is homes has in
     subst (λ z. 7 * length z ≤ chains_weight (sources_in ts) z + 7) (sym named) (few_homes given c.args.options c.args.entry.now ts ks hs ws ns found c.in_ok-found.ensures.root all kept is o)
+
+-- ---- one chain alone, and none where there is a refusal
+
+pub returns-in_err-found-clause-only : goal.returns-in_err-found-clause-only
+returns-in_err-found-clause-only g c =
+    let p = err_from_is_err_and c.from_residual.result c.from_residual.ensures.1 in
+    rw (p.1, p.2)
+    (λ d i. no_chain (g.L.Library.sources c.args.library.now) c.args.options c.args.entry.now d i c.in_err-found.field-0.0 c.in_err-found.ensures.refused)
+
+pub returns-in_err-check_chains-clause-only : goal.returns-in_err-check_chains-clause-only
+returns-in_err-check_chains-clause-only g c =
+    let given = g.L.Library.sources c.args.library.now in
+    let f = c.in_ok-found.found in
+    let ts = found_templates f in
+    let ks = strings f.names.keys in
+    let hs = found_homes f in
+    let ws = graph_of f.ways.items in
+    let ns = graph_of f.next.items in
+    let found = c.in_ok-found.ensures.found in
+    let all : length ws ≡ length hs = length-map (λ (v : Vec ℕ Global). v.items) f.ways.items ∙ c.in_ok-found.ensures.all in
+    let e = c.in_err-check_chains.field-0.0 in
+    let p = err_from_is_err_and c.from_residual-in_err-check_chains.result c.from_residual-in_err-check_chains.ensures.1 in
+    rw (p.1, p.2)
+    (λ d i. no_chain given c.args.options c.args.entry.now d i e (chain_breaks given c.args.options c.args.entry.now ts ks hs ws ns found c.in_ok-found.ensures.root all e c.in_err-check_chains.ensures.broken))
+
+pub returns-in_err-order-clause-only : goal.returns-in_err-order-clause-only
+returns-in_err-order-clause-only g c =
+    let given = g.L.Library.sources c.args.library.now in
+    let f = c.in_ok-found.found in
+    let ts = found_templates f in
+    let ks = strings f.names.keys in
+    let hs = found_homes f in
+    let ws = graph_of f.ways.items in
+    let ns = graph_of f.next.items in
+    let found = c.in_ok-found.ensures.found in
+    let all : length ws ≡ length hs = length-map (λ (v : Vec ℕ Global). v.items) f.ways.items ∙ c.in_ok-found.ensures.all in
+    let p = err_from_is_err_and c.from_residual-in_err-order.result c.from_residual-in_err-order.ensures.1 in
+    rw p.1
+    (λ d i. no_chain given c.args.options c.args.entry.now d i p.0
+    (order_breaks given c.args.options c.args.entry.now ts ks hs ws ns found c.in_ok-found.ensures.root all (graph_of c.deref.result.now) c.in_err-order.field-0.0 p.0 (ap graph_of c.deref.ensures.value) p.2
+    (λ q. c.in_err-order.ensures.cycle (ap Err q))))
+
+pub returns-in_err-homes-clause-only : goal.returns-in_err-homes-clause-only
+returns-in_err-homes-clause-only g c =
+    let p = err_from_is_err_and c.from_residual-in_err-homes.result c.from_residual-in_err-homes.ensures.1 in
+    rw p.1
+    (λ d i. p.2)
+
+pub returns-clause-only : goal.returns-clause-only
+returns-clause-only g c =
+    let given = g.L.Library.sources c.args.library.now in
+    let f = c.in_ok-found.found in
+    let ts = found_templates f in
+    let ks = strings f.names.keys in
+    let hs = found_homes f in
+    let ws = graph_of f.ways.items in
+    let ns = graph_of f.next.items in
+    let found = c.in_ok-found.ensures.found in
+    let all : length ws ≡ length hs = length-map (λ (v : Vec ℕ Global). v.items) f.ways.items ∙ c.in_ok-found.ensures.all in
+    let kept = c.in_ok-check_chains.ensures.kept in
+    let is = c.in_ok-order.order.items in
+    let o : IsOrder ns is = subst (λ (z : List (Vec ℕ Global)). IsOrder (graph_of z) is) c.deref.ensures.value c.in_ok-order.ensures.ordered in
+    λ d i.
+    one_chain given c.args.options c.args.entry.now (record { templates = ts; order = map (home_at hs) is; escaping = c.args.options.autoescape }) d
+    (chained given c.args.options c.args.entry.now ts ks hs ws ns found c.in_ok-found.ensures.root all kept is o) i found.known.only

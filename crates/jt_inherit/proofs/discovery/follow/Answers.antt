@@ -1,12 +1,14 @@
-use Rattle.std.proofs.Common.{◌≡◌, ◌⊎◌, ◌++◌, ◌∷◌, [], List, ℕ, Some, None, sym, ap, subst, ◌∙◌, arith, length, string_bytes, Vec, Global}
+use Rattle.std.proofs.Common.{◌≡◌, true, ◌⊎◌, ◌++◌, ◌∷◌, [], List, ℕ, Some, None, sym, ap, subst, ◌∙◌, arith, length, string_bytes, Vec, Global}
 use Rattle.std.specs.Prelude.{slice_get}
 use Rattle.std.specs.List.{AllByRecursion}
 use Rattle.std.proofs.lemmas.Result.{err_from_is_err_and}
 use Rattle.jt_order.specs.View.{graph_of}
+use Rattle.jt_parse.specs.Texts.{among}
 use Rattle.jt_parse.specs.Trees.{Text}
 use Rattle.jt_inherit.specs.Along.{ArePlaces, includes_along}
 use Rattle.jt_inherit.specs.Chain.{Template}
 use Rattle.jt_inherit.specs.Found.{AreFound, AreNext, IsMet, IsNeedFault, IsNextFault, chosen, found_templates, found_homes}
+use Rattle.jt_inherit.specs.Needs.{needed}
 use Rattle.jt_inherit.specs.Pages.{page_view, pages_view}
 use Rattle.jt_inherit.specs.Places.{home_at}
 use Rattle.jt_inherit.specs.SetView.{strings}
@@ -141,6 +143,7 @@ returns-clause-found g c =
     let longer_next : graph_of c.push-2.new.self.items ≡ ns ++ next ∷ [] = ap graph_of c.in_ok-push-2.ensures.items ∙ map_more (λ (v : Vec ℕ Global). v.items) f.next.items c.in_ok-next.next in
     subst (λ z. AreFound given c.args.options ts2 ks2 hs2 z (graph_of c.push-2.new.self.items)) (sym longer)
     (subst (AreFound given c.args.options ts2 ks2 hs2 (ws ++ is ∷ [])) (sym longer_next)
-    (found_more given c.args.options ts0 (strings f.names.keys) hs ws ns c.requires.found h at ts1 more.0 more.1 is w ts2 fresh grown ks2 known
+    (found_more given c.args.options ts0 (strings f.names.keys) hs ws ns c.requires.found h at ts1 more.0 more.1 is w ts2 fresh grown ks2 known (strings c.read_way.new.names.keys) c.in_ok-way.ensures.from
+    (λ n a. subst (λ l. (among n (strings c.read_way.new.names.keys) ≡ true) ⊎ (among n (needed true l) ≡ true)) first_needs (c.in_ok-fresh.ensures.from n a))
     (subst (AllByRecursion (IsMet given ks2)) first_needs c.in_ok-fresh.ensures.met) hs2 next
     (subst (λ l. AreNext hs hs2 (chosen ks2 l) next) same_needs c.in_ok-next.ensures.next)))

@@ -6,7 +6,7 @@ use Rattle.jt_inherit.specs.Chain.{Template}
 use Rattle.jt_inherit.specs.Pages.{page_view, pages_view}
 use Rattle.jt_inherit.specs.SetView.{strings}
 use Rattle.jt_inherit.specs.Ways.{AreKnown}
-use Rattle.jt_inherit.proofs.Among.{among_next}
+use Rattle.jt_inherit.proofs.Among.{among_next, among_last}
 use Rattle.jt_inherit.proofs.Following.{text_among}
 use Rattle.jt_inherit.proofs.Leads.{known_more, pages_more}
 use Rattle.jt_inherit.proofs.including.read_include.Goals as goal
@@ -24,10 +24,14 @@ returns-in_ok-add_page-in-Ok-clause-known g c =
     let unknown : among (string_bytes p.name) ks ≡ false = ap (λ (n : Text). among n ks) c.in-Ok.ensures.named ∙ c.in_default.ensures in
     let e = append_assoc ts ps (page_view p ∷ []) ∙ ap (λ (l : List Template). ts ++ l) (sym (pages_more c.args.fresh.now.items c.add_page.new.pages.items p c.in_ok-add_page-in-Ok.ensures.pages)) in
     subst (λ us. AreKnown given c.args.options us (strings c.add_page.new.names.keys)) e
-    (subst (AreKnown given c.args.options ((ts ++ ps) ++ page_view p ∷ [])) (sym c.in_ok-add_page-in-Ok.ensures.names) (known_more given c.args.options (ts ++ ps) ks (page_view p) k unknown c.in-Ok.ensures.read c.in-Ok.ensures.within))
+    (subst (AreKnown given c.args.options ((ts ++ ps) ++ page_view p ∷ [])) (sym c.in_ok-add_page-in-Ok.ensures.names) (known_more given c.args.options (ts ++ ps) ks (page_view p) k unknown c.in-Ok.ensures.read c.in-Ok.ensures.only c.in-Ok.ensures.within))
 
 pub returns-in_ok-add_page-in-Ok-clause-met : goal.returns-in_ok-add_page-in-Ok-clause-met
 returns-in_ok-add_page-in-Ok-clause-met g c =
     let ks = strings c.args.names.now.keys in
     let n = c.args.include.name.now in
     inl (ap (among n) (c.in_ok-add_page-in-Ok.ensures.names ∙ ap (λ (x : Text). ks ++ x ∷ []) c.in-Ok.ensures.named) ∙ among_next n ks [])
+
+pub returns-in_ok-add_page-in-Ok-clause-from : goal.returns-in_ok-add_page-in-Ok-clause-from
+returns-in_ok-add_page-in-Ok-clause-from g c =
+    among_last (strings c.args.names.now.keys) (strings c.add_page.new.names.keys) (string_bytes c.in-Ok.page.name) c.args.include.name.now c.in_ok-add_page-in-Ok.ensures.names c.in-Ok.ensures.named

@@ -1,12 +1,13 @@
-use Rattle.std.proofs.Common.{◌≡◌, inr, take, sym, ap, subst, ◌∙◌}
+use Rattle.std.proofs.Common.{◌≡◌, true, inr, ⊎_elim, take, refl, sym, ap, subst, ◌∙◌}
 use Rattle.std.specs.List.{AllByRecursion}
 use Rattle.std.proofs.lemmas.Result.{err_from_is_err_and}
+use Rattle.jt_parse.specs.Texts.{among}
 use Rattle.jt_inherit.specs.Along.{includes_along}
 use Rattle.jt_inherit.specs.Found.{IsMet}
-use Rattle.jt_inherit.specs.Needs.{needs_view}
+use Rattle.jt_inherit.specs.Needs.{needed, needs_view}
 use Rattle.jt_inherit.specs.Pages.{pages_view}
 use Rattle.jt_inherit.specs.SetView.{strings}
-use Rattle.jt_inherit.proofs.Following.{need_fault, met_turn, met_grows}
+use Rattle.jt_inherit.proofs.Following.{asked_at, need_fault, met_turn, met_grows}
 use Rattle.jt_inherit.proofs.including.read_includes.Goals as goal
 
 pub returns-in_err-read_include-clause-refused : goal.returns-in_err-read_include-clause-refused
@@ -24,9 +25,14 @@ loop-include-preserved g c =
     let given = g.L.Library.sources c.args.library.now in
     let ks = strings l.names.keys in
     let more = c.in_ok-read_include.ensures.grown in
+    let same_needs : needs_view c.deref-include-items.result.now ≡ includes_along (pages_view c.args.pages.now) c.args.way.now = ap needs_view c.deref-include-items.ensures.value ∙ c.in_ok-found.ensures in
     let met = subst (λ z. AllByRecursion (IsMet given z) (needs_view (take l.include-index c.deref-include-items.result.now))) (sym more.1)
     (met_grows given ks more.0 (needs_view (take l.include-index c.deref-include-items.result.now)) l.invariant.met) in
     record {
       known = c.in_ok-read_include.ensures.known (pages_view c.args.pages.now) l.invariant.known;
+      from = λ n a. ⊎_elim
+          (λ p. l.invariant.from n p)
+          (λ p. inr (ap (among n) (ap (needed true) (sym same_needs)) ∙ ap (λ x. among x (needed true (needs_view c.deref-include-items.result.now))) p ∙ asked_at true c.deref-include-items.result.now l.include-index _ c.loop-include-test.true refl))
+          (c.in_ok-read_include.ensures.from n a);
       met = met_turn (IsMet given (strings c.read_include.new.names.keys)) c.deref-include-items.result.now l.include-index _ c.loop-include-test.true met c.in_ok-read_include.ensures.met;
     }

@@ -1,4 +1,4 @@
-use Rattle.std.proofs.Common.{◌≡◌, ◌<◌, ◌≤◌, length, ap, subst, arith, IsUtf8}
+use Rattle.std.proofs.Common.{◌≡◌, ◌<◌, ◌≤◌, None, length, ap, subst, arith, IsUtf8}
 use Rattle.std.proofs.lemmas.Str.{IsUtf8-string_bytes}
 use Rattle.jt_scan.specs.Cut.{weight_of}
 use Rattle.jt_scan.specs.SourceView.{Held}
@@ -8,9 +8,11 @@ use Rattle.jt_scan.specs.LineEnds.{normalized}
 use Rattle.jt_parse.specs.Grammar.{Spelled}
 use Rattle.jt_parse.specs.Kept.{pieces}
 use Rattle.jt_parse.specs.Refusals.{IsRefusal}
-use Rattle.jt_parse.specs.Trees.{body_levels}
+use Rattle.jt_parse.specs.Names.{body_unknown}
+use Rattle.jt_parse.specs.Trees.{Body, body_levels}
 use Rattle.jt_parse.specs.View.{body_of, reads_of}
-use Rattle.jt_inherit.proofs.Cuts.{limited, tree_found, unspelled}
+use Rattle.jt_parse.specs.declared.error.ParseError.TheVariants as parse_error
+use Rattle.jt_inherit.proofs.Cuts.{limited, tree_found, only_tree, no_tree, unspelled}
 use Rattle.jt_inherit.proofs.Lengths.{taken, few_chars, few_bytes, cut_short}
 use Rattle.jt_inherit.proofs.reading.template_of.Goals as goal
 
@@ -45,8 +47,18 @@ returns-in-Ok-parse-clause-spelled c =
     tree_found c.args.options c.args.text.now c.in-Ok.source (c.in-Ok.ensures.short short) c.in-Ok-scan.segments.items c.in-Ok-parse.template short c.in-Ok-scan.ensures.cut c.in-Ok-scan.ensures.options
     (subst (λ z. Spelled (body_of c.in-Ok-parse.template) (pieces (reads_of z)) × (body_levels (body_of c.in-Ok-parse.template) ≤ 100)) c.as_slice.ensures.value c.in-Ok-parse.ensures.spelled) c.in-Ok-parse.ensures.known
 
+pub returns-in-Ok-parse-clause-only : goal.returns-in-Ok-parse-clause-only
+returns-in-Ok-parse-clause-only c =
+    let short : length c.args.text.now ≤ 1048576 = limited c.args.text.now (λ long. let no = c.in-Ok.ensures.long long in absurd (cc)) in
+    λ b t.
+    only_tree c.args.options c.args.text.now c.in-Ok.source (c.in-Ok.ensures.short short) c.in-Ok-scan.segments.items c.in-Ok-scan.ensures.options c.in-Ok-scan.ensures.only c.in-Ok-parse.template
+    (subst (λ z. (d : Body) → Spelled d (pieces (reads_of z)) → body_levels d ≤ 100 → body_unknown d ≡ None → body_of c.in-Ok-parse.template ≡ d) c.as_slice.ensures.value c.in-Ok-parse.ensures.only) b t
+
 pub returns-clause-refused : goal.returns-clause-refused
 returns-clause-refused c =
     let short : length c.args.text.now ≤ 1048576 = limited c.args.text.now (λ long. let no = c.in-Ok.ensures.long long in absurd (cc)) in
-    unspelled c.args.options c.args.text.now c.in-Ok.source (c.in-Ok.ensures.short short) c.in-Ok-scan.segments.items c.args.name.now c.in-Err-parse.refusal c.unparsed.result c.in-Ok-scan.ensures.cut c.in-Ok-scan.ensures.options
-    (subst (λ z. IsRefusal c.in-Err-parse.refusal (pieces (reads_of z))) c.as_slice.ensures.value c.in-Err-parse.ensures.refused) c.unparsed.ensures
+    let e = c.in-Err-parse.refusal in
+    let none = no_tree c.args.options c.args.text.now c.in-Ok.source (c.in-Ok.ensures.short short) c.in-Ok-scan.segments.items c.in-Ok-scan.ensures.options c.in-Ok-scan.ensures.only e in
+    unspelled c.args.options c.args.text.now c.in-Ok.source (c.in-Ok.ensures.short short) c.in-Ok-scan.segments.items c.args.name.now e c.unparsed.result c.in-Ok-scan.ensures.cut c.in-Ok-scan.ensures.options
+    (subst (λ z. IsRefusal e (pieces (reads_of z))) c.as_slice.ensures.value c.in-Err-parse.ensures.refused)
+    (λ f. none f (subst (λ z. (d : Body) → Spelled d (pieces (reads_of z)) → body_levels d ≤ 100 → body_unknown d ≡ None → e ≡ parse_error.NoMemory) c.as_slice.ensures.value c.in-Err-parse.ensures.only)) c.unparsed.ensures

@@ -1,4 +1,4 @@
-use Rattle.std.proofs.Common.{◌≡◌, ◌++◌, ◌∷◌, [], List, false, sym, ap, subst, ◌∙◌, map, Some, arith, string_bytes}
+use Rattle.std.proofs.Common.{◌≡◌, ◌++◌, ◌∷◌, [], List, false, sym, ap, subst, ◌∙◌, map, Some, arith, string_bytes, inl}
 use Rattle.std.specs.Prelude.{slice_get}
 use Rattle.std.proofs.lemmas.List.{append-nil}
 use Rattle.jt_parse.specs.Texts.{among}
@@ -6,6 +6,7 @@ use Rattle.jt_parse.specs.Trees.{Text}
 use Rattle.jt_inherit.specs.Pages.{page_view, pages_view}
 use Rattle.jt_inherit.specs.SetView.{strings}
 use Rattle.jt_inherit.specs.Ways.{AreKnown}
+use Rattle.jt_inherit.proofs.Among.{among_last}
 use Rattle.jt_inherit.proofs.Leads.{known_more, pages_more, page_last}
 use Rattle.jt_inherit.proofs.shelf.read_place.Goals as goal
 
@@ -25,7 +26,7 @@ returns-clause-known g c =
     let p = c.in_ok-page.page in
     let fresh : among (string_bytes p.name) (strings c.args.names.now.keys) ≡ false = ap (λ (n : Text). among n (strings c.args.names.now.keys)) c.in_ok-page.ensures.named ∙ c.in_default.ensures in
     subst (λ us. AreKnown given c.args.options us (strings c.add_page.new.names.keys)) (sym (pages_more c.args.pages.now.items c.add_page.new.pages.items p c.in_ok-add_page.ensures.pages))
-    (subst (AreKnown given c.args.options (ts ++ page_view p ∷ [])) (sym c.in_ok-add_page.ensures.names) (known_more given c.args.options ts (strings c.args.names.now.keys) (page_view p) c.requires fresh c.in_ok-page.ensures.read c.in_ok-page.ensures.within))
+    (subst (AreKnown given c.args.options (ts ++ page_view p ∷ [])) (sym c.in_ok-add_page.ensures.names) (known_more given c.args.options ts (strings c.args.names.now.keys) (page_view p) c.requires fresh c.in_ok-page.ensures.read c.in_ok-page.ensures.only c.in_ok-page.ensures.within))
 
 pub returns-clause-grown : goal.returns-clause-grown
 returns-clause-grown g c = (page_view c.in_ok-page.page ∷ [], pages_more c.args.pages.now.items c.add_page.new.pages.items c.in_ok-page.page c.in_ok-add_page.ensures.pages)
@@ -34,3 +35,9 @@ pub returns-clause-place : goal.returns-clause-place
 returns-clause-place g c =
     page_last c.args.pages.now.items c.add_page.new.pages.items c.in_ok-page.page c.args.name.now c.len-place.result c.in_ok-add_page.ensures.pages c.in_ok-page.ensures.named
     (omega (arith, c.len-place.ensures, c.args.pages.now.ok.0))
+
+pub returns-in-Some-clause-from : goal.returns-in-Some-clause-from
+returns-in-Some-clause-from g c = λ n a. inl a
+
+pub returns-clause-from : goal.returns-clause-from
+returns-clause-from g c = among_last (strings c.args.names.now.keys) (strings c.add_page.new.names.keys) (string_bytes c.in_ok-page.page.name) c.args.name.now c.in_ok-add_page.ensures.names c.in_ok-page.ensures.named

@@ -7,9 +7,10 @@ use Rattle.jt_parse.specs.Trees.{Text}
 use Rattle.jt_inherit.specs.Along.{templates_at}
 use Rattle.jt_inherit.specs.Faults.{IsFaultOf}
 use Rattle.jt_inherit.specs.Pages.{page_view, pages_view}
+use Rattle.jt_inherit.specs.SetView.{strings}
 use Rattle.jt_inherit.specs.Ways.{IsWay}
 use Rattle.jt_inherit.proofs.Growing.{reach_more}
-use Rattle.jt_inherit.proofs.Leads.{names, length_names, on_way, way_turn, grown_both, cycle_breaks, long_breaks, fault_breaks}
+use Rattle.jt_inherit.proofs.Leads.{names, length_names, on_way, way_turn, way_from, grown_both, cycle_breaks, long_breaks, fault_breaks}
 use Rattle.jt_inherit.proofs.Placed.{length-map, map_at}
 use Rattle.jt_inherit.proofs.way.read_way.Goals as goal
 
@@ -22,7 +23,7 @@ returns-then-is_on_way-clause-refused g c =
     let known = on_way l.pages.items c.deref.result.now l.way.items c.deref-in-loop-turn.result.now (string_bytes l.name) c.deref-in-loop-turn-2.result.now c.is_on_way.result
     c.deref.ensures.value c.deref-in-loop-turn.ensures.value c.deref-in-loop-turn-2.ensures c.is_on_way.ensures in
     let reached = reach_more (pages_view c.args.pages.now.items) ts l.invariant.grown.0 c.args.options.autoescape root h l.invariant.grown.1 r in
-    cycle_breaks (g.L.Library.sources c.args.library.now) c.args.options root ts l.invariant.known.read h reached l.way.items (string_bytes l.name) l.invariant.led (sym known ∙ c.if-is_on_way.true)
+    cycle_breaks (g.L.Library.sources c.args.library.now) c.args.options root ts l.invariant.known h reached l.way.items (string_bytes l.name) l.invariant.led (sym known ∙ c.if-is_on_way.true)
 
 pub returns-in_err-place-clause-refused : goal.returns-in_err-place-clause-refused
 returns-in_err-place-clause-refused g c =
@@ -35,7 +36,7 @@ returns-in_err-place-clause-refused g c =
     rw (p.1, p.2)
     (λ root r.
     let reached = reach_more (pages_view c.args.pages.now.items) ts l.invariant.grown.0 c.args.options.autoescape root h l.invariant.grown.1 r in
-    fault_breaks given c.args.options root ts l.invariant.known.read h reached l.way.items (string_bytes l.name) l.invariant.led f
+    fault_breaks given c.args.options root ts l.invariant.known h reached l.way.items (string_bytes l.name) l.invariant.led f
     (subst (λ x. IsFaultOf f given x c.args.options) c.deref-in-loop-turn-3.ensures c.in_err-place.ensures.refused))
 
 pub index-requires : goal.index-requires
@@ -61,6 +62,18 @@ returns-in-None-clause-way g c =
     l.invariant.led (sym known ∙ c.if-is_on_way.false) few c.in_ok-place.ensures.known.read.once c.in_ok-place.ensures.place c.deref-in-loop-turn-3.ensures c.in_ok-push.ensures.items
     (map_at page_view ps c.in_ok-place.place c.index.result.now within c.index.ensures) c.in_ok-parent.ensures)
 
+pub returns-in-None-clause-from : goal.returns-in-None-clause-from
+returns-in-None-clause-from g c =
+    let l = c.loop-turn in
+    let ts = pages_view l.pages.items in
+    let n = string_bytes l.name in
+    let ps = c.read_place.new.pages.items in
+    let within : c.in_ok-place.place < length ps =
+    omega (arith, slice_get_within (names (pages_view ps)) c.in_ok-place.place c.deref-in-loop-turn-3.result.now c.in_ok-place.ensures.place, length_names (pages_view ps), length-map page_view ps) in
+    way_from ts (pages_view ps) c.in_ok-place.ensures.grown.0 c.in_ok-place.ensures.grown.1 l.way.items c.push.new.self.items c.in_ok-place.place n c.deref-in-loop-turn-3.result.now (page_view c.index.result.now)
+    l.invariant.led.places c.in_ok-place.ensures.place c.deref-in-loop-turn-3.ensures c.in_ok-push.ensures.items (map_at page_view ps c.in_ok-place.place c.index.result.now within c.index.ensures)
+    (strings c.args.names.now.keys) (strings l.names.keys) (strings c.read_place.new.names.keys) l.invariant.from c.in_ok-place.ensures.from
+
 pub loop-turn-preserved : goal.loop-turn-preserved
 loop-turn-preserved g c =
     let l = c.loop-turn in
@@ -76,6 +89,9 @@ loop-turn-preserved g c =
     record {
       known = c.in_ok-place.ensures.known;
       grown = (l.invariant.grown.0 ++ c.in_ok-place.ensures.grown.0, grown_both (pages_view c.args.pages.now.items) ts (pages_view ps) l.invariant.grown.0 c.in_ok-place.ensures.grown.0 l.invariant.grown.1 c.in_ok-place.ensures.grown.1);
+      from = way_from ts (pages_view ps) c.in_ok-place.ensures.grown.0 c.in_ok-place.ensures.grown.1 l.way.items c.push.new.self.items c.in_ok-place.place n c.deref-in-loop-turn-3.result.now (page_view c.index.result.now)
+          l.invariant.led.places c.in_ok-place.ensures.place c.deref-in-loop-turn-3.ensures c.in_ok-push.ensures.items (map_at page_view ps c.in_ok-place.place c.index.result.now within c.index.ensures)
+          (strings c.args.names.now.keys) (strings l.names.keys) (strings c.read_place.new.names.keys) l.invariant.from c.in_ok-place.ensures.from;
       counted = ap length c.in_ok-push.ensures.items ∙ length-append l.way.items (c.in_ok-place.place ∷ []) ∙ ap (λ k. k + 1) l.invariant.counted;
       led = subst (λ (o : Option (String Global)). IsWay (pages_view ps) h c.push.new.self.items (option_map string_bytes o)) c.in-Some.is
           (way_turn ts (pages_view ps) c.in_ok-place.ensures.grown.0 c.in_ok-place.ensures.grown.1 h l.way.items c.push.new.self.items c.in_ok-place.place n c.deref-in-loop-turn-3.result.now _ (page_view c.index.result.now)
@@ -92,7 +108,7 @@ returns-then-is_on_way-2-clause-refused g c =
     let known = on_way l.pages.items c.deref-2.result.now l.way.items c.deref-3.result.now (string_bytes l.name) c.deref-4.result.now c.is_on_way-2.result
     c.deref-2.ensures.value c.deref-3.ensures.value c.deref-4.ensures c.is_on_way-2.ensures in
     let reached = reach_more (pages_view c.args.pages.now.items) ts l.invariant.grown.0 c.args.options.autoescape root h l.invariant.grown.1 r in
-    cycle_breaks (g.L.Library.sources c.args.library.now) c.args.options root ts l.invariant.known.read h reached l.way.items (string_bytes l.name) l.invariant.led (sym known ∙ c.if-is_on_way-2.true)
+    cycle_breaks (g.L.Library.sources c.args.library.now) c.args.options root ts l.invariant.known h reached l.way.items (string_bytes l.name) l.invariant.led (sym known ∙ c.if-is_on_way-2.true)
 
 pub returns-clause-refused : goal.returns-clause-refused
 returns-clause-refused g c =
@@ -104,4 +120,4 @@ returns-clause-refused g c =
     c.deref-2.ensures.value c.deref-3.ensures.value c.deref-4.ensures c.is_on_way-2.ensures in
     let reached = reach_more (pages_view c.args.pages.now.items) ts l.invariant.grown.0 c.args.options.autoescape root h l.invariant.grown.1 r in
     let full : length l.way.items ≡ 16 = omega (arith, l.invariant.counted, c.loop-turn-test.false, l.auto._turn-end) in
-    long_breaks (g.L.Library.sources c.args.library.now) c.args.options root ts l.invariant.known.read h reached l.way.items (string_bytes l.name) l.invariant.led full (sym known ∙ c.if-is_on_way-2.false)
+    long_breaks (g.L.Library.sources c.args.library.now) c.args.options root ts l.invariant.known h reached l.way.items (string_bytes l.name) l.invariant.led full (sym known ∙ c.if-is_on_way-2.false)

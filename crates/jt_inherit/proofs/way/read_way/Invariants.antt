@@ -1,14 +1,19 @@
-use Rattle.std.proofs.Common.{◌≡◌, ◌++◌, List, length, Some, string_bytes}
+use Rattle.std.proofs.Common.{◌≡◌, ◌⊎◌, ◌++◌, true, List, length, Some, string_bytes}
+use Rattle.jt_parse.specs.Texts.{among}
+use Rattle.jt_parse.specs.Trees.{Text}
+use Rattle.jt_inherit.specs.Along.{templates_at}
 use Rattle.jt_inherit.specs.Chain.{Template}
 use Rattle.jt_inherit.specs.Pages.{pages_view}
 use Rattle.jt_inherit.specs.SetView.{strings}
 use Rattle.jt_inherit.specs.Ways.{AreKnown, IsWay}
+use Rattle.jt_inherit.proofs.Leads.{names}
 use Rattle.jt_inherit.proofs.way.read_way.Given as goal
 
 abbrev pub invariant-loop-turn : goal.invariant-loop-turn
 invariant-loop-turn g l = record {
   known : AreKnown (g.L.Library.sources l.library) l.options (pages_view l.pages.items) (strings l.names.keys);
   grown : (more : List Template) × (pages_view l.pages.items ≡ pages_view l.initial.pages.items ++ more);
+  from : (n : Text) → among n (strings l.names.keys) ≡ true → (among n (strings l.initial.names.keys) ≡ true) ⊎ (among n (names (templates_at (pages_view l.pages.items) l.way.items)) ≡ true);
   counted : length l.way.items ≡ l._turn;
   led : IsWay (pages_view l.pages.items) l.entry l.way.items (Some (string_bytes l.name));
 }

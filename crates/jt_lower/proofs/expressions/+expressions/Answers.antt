@@ -1,5 +1,6 @@
-use Rattle.std.proofs.Common.{◌≡◌, ℕ, suc, ◌+◌, Some, None, Option, refl, sym, ap, ◌∙◌, subst, arith}
+use Rattle.std.proofs.Common.{◌≡◌, suc, ◌+◌, None, refl, sym, ap, ◌∙◌, subst, arith}
 use Rattle.std.specs.Prelude.{min}
+use Rattle.std.proofs.lemmas.Result.{IfOk-weaker}
 use Rattle.jt_image.specs.Loops.{field_id}
 use Rattle.jt_image.specs.declared.instruction.Instruction.TheVariants as op
 use Rattle.jt_slots.specs.Slots as slots
@@ -8,7 +9,7 @@ use Rattle.jt_slots.specs.Size.{row_count}
 use Rattle.jt_slots.specs.View.{slot_view, field_view, maker_view, expr_view, row_view}
 use Rattle.jt_lower.specs.Asm.{Asm, nil, one, both, choose, invoke}
 use Rattle.jt_lower.specs.Lower.{maker, told_as, flag, load_of, expr_asm, row_asm}
-use Rattle.jt_lower.specs.Emission.{StandsFor, Given, Puts}
+use Rattle.jt_lower.specs.Emission.{Given}
 use Rattle.jt_lower.proofs.Patched.{puts_nothing, puts_then, puts_as, puts_call, puts_choice, reserved_within, ended_within}
 use Rattle.jt_lower.proofs.Viewed.{view_Pooled, view_Variable, view_Field, seen_made, seen_conjunction, seen_disjunction, seen_choice, seen_invoke}
 use Rattle.jt_lower.proofs.Rows.{stands_raised, row_item, row_aside}
@@ -17,36 +18,33 @@ use Rattle.jt_lower.proofs.expressions.+expressions.Goals.{emit_row-in-Some+in_o
 
 -- ---- jumps are there when they are written
 
-pub emit_expression-end_branch-requires : goal.emit_expression-end_branch-requires
-emit_expression-end_branch-requires t c =
+pub emit_conjunction-end_branch-requires : goal.emit_conjunction-end_branch-requires
+emit_conjunction-end_branch-requires t c =
     let o = None in
-    let ends : Puts c.begin_choice.new.self (both (one o op.Drop) (expr_asm o (expr_view c.deref-in-Conjunction-2.result.now) c.args.above)) c.emit_expression-in-Conjunction.new.code =
-    puts_then c.begin_choice.new.self c.put-in-Conjunction-2.new.self c.emit_expression-in-Conjunction.new.code (one o op.Drop) (expr_asm o (expr_view c.deref-in-Conjunction-2.result.now) c.args.above)
-    (c.in_ok-put-in-Conjunction-2.ensures o op.Drop refl) (c.in_ok-emit_expression-in-Conjunction-2.ensures o c.args.above (record { same = λ l. refl; above = λ l. l })) in
-    reserved_within c.put-in-Conjunction.new.self c.begin_choice.new.self c.emit_expression-in-Conjunction.new.code (op.JumpIfFalse 0) c.in_ok-choice-in-Conjunction.choice
-    (both (one o op.Drop) (expr_asm o (expr_view c.deref-in-Conjunction-2.result.now) c.args.above)) c.in_ok-choice-in-Conjunction.ensures ends
+    let b : Asm = expr_asm o (expr_view c.args.right.now) c.args.above in
+    reserved_within c.put.new.self c.begin_choice.new.self c.emit_expression-2.new.code (op.JumpIfFalse 0) c.in_ok-choice.choice (both (one o op.Drop) b) c.in_ok-choice.ensures
+    (puts_then c.begin_choice.new.self c.put-2.new.self c.emit_expression-2.new.code (one o op.Drop) b
+    (c.in_ok-put-2.ensures o op.Drop refl) (c.in_ok-emit_expression-2.ensures o c.args.above (record { same = λ l. refl; above = λ l. l })))
 
-pub emit_expression-close-requires-in-Disjunction : goal.emit_expression-close-requires-in-Disjunction
-emit_expression-close-requires-in-Disjunction t c =
+pub emit_disjunction-close-requires : goal.emit_disjunction-close-requires
+emit_disjunction-close-requires t c =
     let o = None in
-    let b : Asm = expr_asm o (expr_view c.deref-in-Disjunction-2.result.now) c.args.above in
-    ended_within c.begin_choice-in-Disjunction.new.self c.end_branch-in-Disjunction.new.self c.emit_expression-in-Disjunction-2.new.code c.in_ok-choice-in-Disjunction.choice c.in_ok-last-in-Disjunction.last (both (one o op.Drop) b) c.in_ok-last-in-Disjunction.ensures
-    (puts_then c.end_branch-in-Disjunction.new.self c.put-in-Disjunction-2.new.self c.emit_expression-in-Disjunction-2.new.code (one o op.Drop) b
-    (c.in_ok-put-in-Disjunction-2.ensures o op.Drop refl) (c.in_ok-emit_expression-in-Disjunction-2.ensures o c.args.above (record { same = λ l. refl; above = λ l. l })))
+    let b : Asm = expr_asm o (expr_view c.args.right.now) c.args.above in
+    ended_within c.begin_choice.new.self c.end_branch.new.self c.emit_expression-2.new.code c.in_ok-choice.choice c.in_ok-last.last (both (one o op.Drop) b) c.in_ok-last.ensures
+    (puts_then c.end_branch.new.self c.put-2.new.self c.emit_expression-2.new.code (one o op.Drop) b
+    (c.in_ok-put-2.ensures o op.Drop refl) (c.in_ok-emit_expression-2.ensures o c.args.above (record { same = λ l. refl; above = λ l. l })))
 
-pub emit_expression-end_branch-requires-in-Choice : goal.emit_expression-end_branch-requires-in-Choice
-emit_expression-end_branch-requires-in-Choice t c =
+pub emit_choice-end_branch-requires : goal.emit_choice-end_branch-requires
+emit_choice-end_branch-requires t c =
     let o = None in
-    let a : Asm = expr_asm o (expr_view c.deref-in-Choice-2.result.now) c.args.above in
-    reserved_within c.emit_expression-in-Choice.new.code c.begin_choice-in-Choice.new.self c.emit_expression-in-Choice-2.new.code (op.JumpIfFalse 0) c.in_ok-choice-in-Choice.choice a c.in_ok-choice-in-Choice.ensures
-    (c.in_ok-emit_expression-in-Choice-2.ensures o c.args.above (record { same = λ l. refl; above = λ l. l }))
+    reserved_within c.emit_expression.new.code c.begin_choice.new.self c.emit_expression-2.new.code (op.JumpIfFalse 0) c.in_ok-choice.choice (expr_asm o (expr_view c.args.taken.now) c.args.above) c.in_ok-choice.ensures
+    (c.in_ok-emit_expression-2.ensures o c.args.above (record { same = λ l. refl; above = λ l. l }))
 
-pub emit_expression-close-requires-in-Choice : goal.emit_expression-close-requires-in-Choice
-emit_expression-close-requires-in-Choice t c =
+pub emit_choice-close-requires : goal.emit_choice-close-requires
+emit_choice-close-requires t c =
     let o = None in
-    let b : Asm = expr_asm o (expr_view c.deref-in-Choice-3.result.now) c.args.above in
-    ended_within c.emit_expression-in-Choice-2.new.code c.end_branch-in-Choice.new.self c.emit_expression-in-Choice-3.new.code c.in_ok-choice-in-Choice.choice c.in_ok-last-in-Choice.last b c.in_ok-last-in-Choice.ensures
-    (c.in_ok-emit_expression-in-Choice-3.ensures o c.args.above (record { same = λ l. refl; above = λ l. l }))
+    ended_within c.emit_expression-2.new.code c.end_branch.new.self c.emit_expression-3.new.code c.in_ok-choice.choice c.in_ok-last.last (expr_asm o (expr_view c.args.other.now) c.args.above) c.in_ok-last.ensures
+    (c.in_ok-emit_expression-3.ensures o c.args.above (record { same = λ l. refl; above = λ l. l }))
 
 -- ---- what holds no others
 
@@ -79,72 +77,75 @@ emit_expression-returns-in_ok-put-in-Made t c = λ o h s.
     puts_as c.args.code.now c.put-in-Made.new.self (expr_asm o (expr_view c.args.expr.now) h) (both (row_asm o es h) (one o i)) (ap (λ x. expr_asm o x h) seen)
     (puts_then c.args.code.now c.emit_row.new.code c.put-in-Made.new.self (row_asm o es h) (one o i) (c.in_ok-emit_row-in-Made.ensures o h s) (c.in_ok-put-in-Made.ensures o i given))
 
-pub emit_expression-returns-in_ok-last-in-Conjunction : goal.emit_expression-returns-in_ok-last-in-Conjunction
-emit_expression-returns-in_ok-last-in-Conjunction t c = λ o h s.
+pub emit_expression-returns-in-Conjunction : goal.emit_expression-returns-in-Conjunction
+emit_expression-returns-in-Conjunction t c =
     let l = c.deref-in-Conjunction.result.now in
     let r = c.deref-in-Conjunction-2.result.now in
     let seen = seen_conjunction c.args.expr.now c.in-Conjunction.left c.in-Conjunction.right l r c.in-Conjunction.is c.deref-in-Conjunction.ensures c.deref-in-Conjunction-2.ensures in
-    let a : Asm = expr_asm o (expr_view l) h in
-    let b : Asm = expr_asm o (expr_view r) h in
-    let c0 = c.args.code.now in
-    let c1 = c.emit_expression.new.code in
-    let c2 = c.put-in-Conjunction.new.self in
-    let c3 = c.begin_choice.new.self in
-    let c4 = c.put-in-Conjunction-2.new.self in
-    let c5 = c.emit_expression-in-Conjunction.new.code in
-    let c6 = c.end_branch.new.self in
-    let c7 = c.close.new.self in
-    let taken : Asm = both (one o op.Drop) b in
-    puts_as c0 c7 (expr_asm o (expr_view c.args.expr.now) h) (both a (both (one o op.Dup) (choose taken nil))) (ap (λ x. expr_asm o x h) seen)
-    (puts_then c0 c1 c7 a (both (one o op.Dup) (choose taken nil)) (c.in_ok-emit_expression-in-Conjunction.ensures o h s)
-    (puts_then c1 c2 c7 (one o op.Dup) (choose taken nil) (c.in_ok-put-in-Conjunction.ensures o op.Dup refl)
-    (puts_choice c2 c3 c5 c6 c6 c7 taken nil c.in_ok-choice-in-Conjunction.choice c.in_ok-last-in-Conjunction.last c.in_ok-choice-in-Conjunction.ensures
-    (puts_then c3 c4 c5 (one o op.Drop) b (c.in_ok-put-in-Conjunction-2.ensures o op.Drop refl) (c.in_ok-emit_expression-in-Conjunction-2.ensures o h s))
-    c.in_ok-last-in-Conjunction.ensures (puts_nothing c6) c.close.ensures)))
+    IfOk-weaker c.emit_conjunction.result _ _ (λ u g. λ o h s. puts_as c.args.code.now c.emit_conjunction.new.code (expr_asm o (expr_view c.args.expr.now) h) (expr_asm o (slots.conjunction (expr_view l) (expr_view r)) h) (ap (λ x. expr_asm o x h) seen) (g o h s)) c.emit_conjunction.ensures
 
-pub emit_expression-returns-in_ok-emit_expression-in-Disjunction-2 : goal.emit_expression-returns-in_ok-emit_expression-in-Disjunction-2
-emit_expression-returns-in_ok-emit_expression-in-Disjunction-2 t c = λ o h s.
+pub emit_expression-returns-in-Disjunction : goal.emit_expression-returns-in-Disjunction
+emit_expression-returns-in-Disjunction t c =
     let l = c.deref-in-Disjunction.result.now in
     let r = c.deref-in-Disjunction-2.result.now in
     let seen = seen_disjunction c.args.expr.now c.in-Disjunction.left c.in-Disjunction.right l r c.in-Disjunction.is c.deref-in-Disjunction.ensures c.deref-in-Disjunction-2.ensures in
-    let a : Asm = expr_asm o (expr_view l) h in
-    let b : Asm = expr_asm o (expr_view r) h in
-    let c0 = c.args.code.now in
-    let c1 = c.emit_expression-in-Disjunction.new.code in
-    let c2 = c.put-in-Disjunction.new.self in
-    let c3 = c.begin_choice-in-Disjunction.new.self in
-    let c4 = c.end_branch-in-Disjunction.new.self in
-    let c5 = c.put-in-Disjunction-2.new.self in
-    let c6 = c.emit_expression-in-Disjunction-2.new.code in
-    let c7 = c.close-in-Disjunction.new.self in
-    let other : Asm = both (one o op.Drop) b in
-    puts_as c0 c7 (expr_asm o (expr_view c.args.expr.now) h) (both a (both (one o op.Dup) (choose nil other))) (ap (λ x. expr_asm o x h) seen)
-    (puts_then c0 c1 c7 a (both (one o op.Dup) (choose nil other)) (c.in_ok-emit_expression-in-Disjunction.ensures o h s)
-    (puts_then c1 c2 c7 (one o op.Dup) (choose nil other) (c.in_ok-put-in-Disjunction.ensures o op.Dup refl)
-    (puts_choice c2 c3 c3 c4 c6 c7 nil other c.in_ok-choice-in-Disjunction.choice c.in_ok-last-in-Disjunction.last c.in_ok-choice-in-Disjunction.ensures (puts_nothing c3) c.in_ok-last-in-Disjunction.ensures
-    (puts_then c4 c5 c6 (one o op.Drop) b (c.in_ok-put-in-Disjunction-2.ensures o op.Drop refl) (c.in_ok-emit_expression-in-Disjunction-2.ensures o h s))
-    c.close-in-Disjunction.ensures)))
+    IfOk-weaker c.emit_disjunction.result _ _ (λ u g. λ o h s. puts_as c.args.code.now c.emit_disjunction.new.code (expr_asm o (expr_view c.args.expr.now) h) (expr_asm o (slots.disjunction (expr_view l) (expr_view r)) h) (ap (λ x. expr_asm o x h) seen) (g o h s)) c.emit_disjunction.ensures
 
-pub emit_expression-returns-in_ok-emit_expression-in-Choice-3 : goal.emit_expression-returns-in_ok-emit_expression-in-Choice-3
-emit_expression-returns-in_ok-emit_expression-in-Choice-3 t c = λ o h s.
+pub emit_expression-returns-in-Choice : goal.emit_expression-returns-in-Choice
+emit_expression-returns-in-Choice t c =
     let w = c.deref-in-Choice.result.now in
     let u = c.deref-in-Choice-2.result.now in
     let v = c.deref-in-Choice-3.result.now in
     let seen = seen_choice c.args.expr.now c.in-Choice.condition c.in-Choice.taken c.in-Choice.other w u v c.in-Choice.is c.deref-in-Choice.ensures c.deref-in-Choice-2.ensures c.deref-in-Choice-3.ensures in
-    let d : Asm = expr_asm o (expr_view w) h in
-    let a : Asm = expr_asm o (expr_view u) h in
-    let b : Asm = expr_asm o (expr_view v) h in
+    IfOk-weaker c.emit_choice.result _ _ (λ z g. λ o h s. puts_as c.args.code.now c.emit_choice.new.code (expr_asm o (expr_view c.args.expr.now) h) (expr_asm o (slots.choice (expr_view w) (expr_view u) (expr_view v)) h) (ap (λ x. expr_asm o x h) seen) (g o h s)) c.emit_choice.ensures
+
+pub emit_conjunction-returns : goal.emit_conjunction-returns
+emit_conjunction-returns t c = λ o h s.
+    let a : Asm = expr_asm o (expr_view c.args.left.now) h in
+    let b : Asm = expr_asm o (expr_view c.args.right.now) h in
+    let taken : Asm = both (one o op.Drop) b in
     let c0 = c.args.code.now in
-    let c1 = c.emit_expression-in-Choice.new.code in
-    let c2 = c.begin_choice-in-Choice.new.self in
-    let c3 = c.emit_expression-in-Choice-2.new.code in
-    let c4 = c.end_branch-in-Choice.new.self in
-    let c5 = c.emit_expression-in-Choice-3.new.code in
-    let c6 = c.close-in-Choice.new.self in
-    puts_as c0 c6 (expr_asm o (expr_view c.args.expr.now) h) (both d (choose a b)) (ap (λ x. expr_asm o x h) seen)
-    (puts_then c0 c1 c6 d (choose a b) (c.in_ok-emit_expression-in-Choice.ensures o h s)
-    (puts_choice c1 c2 c3 c4 c5 c6 a b c.in_ok-choice-in-Choice.choice c.in_ok-last-in-Choice.last c.in_ok-choice-in-Choice.ensures (c.in_ok-emit_expression-in-Choice-2.ensures o h s) c.in_ok-last-in-Choice.ensures
-    (c.in_ok-emit_expression-in-Choice-3.ensures o h s) c.close-in-Choice.ensures))
+    let c1 = c.emit_expression.new.code in
+    let c2 = c.put.new.self in
+    let c3 = c.begin_choice.new.self in
+    let c5 = c.emit_expression-2.new.code in
+    let c6 = c.end_branch.new.self in
+    let c7 = c.close.new.self in
+    puts_then c0 c1 c7 a (both (one o op.Dup) (choose taken nil)) (c.in_ok-emit_expression.ensures o h s)
+    (puts_then c1 c2 c7 (one o op.Dup) (choose taken nil) (c.in_ok-put.ensures o op.Dup refl)
+    (puts_choice c2 c3 c5 c6 c6 c7 taken nil c.in_ok-choice.choice c.in_ok-last.last c.in_ok-choice.ensures
+    (puts_then c3 c.put-2.new.self c5 (one o op.Drop) b (c.in_ok-put-2.ensures o op.Drop refl) (c.in_ok-emit_expression-2.ensures o h s))
+    c.in_ok-last.ensures (puts_nothing c6) c.close.ensures))
+
+pub emit_disjunction-returns : goal.emit_disjunction-returns
+emit_disjunction-returns t c = λ o h s.
+    let a : Asm = expr_asm o (expr_view c.args.left.now) h in
+    let b : Asm = expr_asm o (expr_view c.args.right.now) h in
+    let other : Asm = both (one o op.Drop) b in
+    let c0 = c.args.code.now in
+    let c1 = c.emit_expression.new.code in
+    let c2 = c.put.new.self in
+    let c3 = c.begin_choice.new.self in
+    let c4 = c.end_branch.new.self in
+    let c6 = c.emit_expression-2.new.code in
+    let c7 = c.close.new.self in
+    puts_then c0 c1 c7 a (both (one o op.Dup) (choose nil other)) (c.in_ok-emit_expression.ensures o h s)
+    (puts_then c1 c2 c7 (one o op.Dup) (choose nil other) (c.in_ok-put.ensures o op.Dup refl)
+    (puts_choice c2 c3 c3 c4 c6 c7 nil other c.in_ok-choice.choice c.in_ok-last.last c.in_ok-choice.ensures (puts_nothing c3) c.in_ok-last.ensures
+    (puts_then c4 c.put-2.new.self c6 (one o op.Drop) b (c.in_ok-put-2.ensures o op.Drop refl) (c.in_ok-emit_expression-2.ensures o h s))
+    c.close.ensures))
+
+pub emit_choice-returns : goal.emit_choice-returns
+emit_choice-returns t c = λ o h s.
+    let d : Asm = expr_asm o (expr_view c.args.condition.now) h in
+    let a : Asm = expr_asm o (expr_view c.args.taken.now) h in
+    let b : Asm = expr_asm o (expr_view c.args.other.now) h in
+    let c0 = c.args.code.now in
+    let c1 = c.emit_expression.new.code in
+    let c6 = c.close.new.self in
+    puts_then c0 c1 c6 d (choose a b) (c.in_ok-emit_expression.ensures o h s)
+    (puts_choice c1 c.begin_choice.new.self c.emit_expression-2.new.code c.end_branch.new.self c.emit_expression-3.new.code c6 a b c.in_ok-choice.choice c.in_ok-last.last c.in_ok-choice.ensures
+    (c.in_ok-emit_expression-2.ensures o h s) c.in_ok-last.ensures (c.in_ok-emit_expression-3.ensures o h s) c.close.ensures)
 
 pub emit_expression-returns-in_ok-put-in-Invoke-3 : goal.emit_expression-returns-in_ok-put-in-Invoke-3
 emit_expression-returns-in_ok-put-in-Invoke-3 t c = λ o h s.

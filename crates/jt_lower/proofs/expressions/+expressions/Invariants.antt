@@ -1,11 +1,33 @@
-use Rattle.std.proofs.Common.{ℕ, Option, drop}
+use Rattle.std.proofs.Common.{ℕ, ◌+◌, ◌*◌, Option, drop}
+use Rattle.std.specs.Prelude.{max}
+use denote.Param.Weighed.{most}
 use Rattle.jt_slots.specs.Got.{Place}
 use Rattle.jt_slots.specs.Slots.{none}
+use Rattle.jt_slots.specs.declared.program.SExpr.{size-SExpr}
 use Rattle.jt_slots.specs.View.{row_view}
 use Rattle.jt_lower.specs.Lower.{row_asm}
 use Rattle.jt_lower.specs.Emission.{StandsFor}
 use Rattle.jt_lower.proofs.Rows.{Leaves}
 use Rattle.jt_lower.proofs.expressions.+expressions.Given as goal
+
+-- ---- how deep the expressions are that are left, and who hands its own on
+
+abbrev pub decreases-emit_expression : goal.decreases-emit_expression
+decreases-emit_expression l = 2 * size-SExpr l.expr.now
+
+abbrev pub decreases-emit_row : goal.decreases-emit_row
+decreases-emit_row l = 2 * most (λ x. size-SExpr x.1) l.row.now + 1
+
+abbrev pub decreases-emit_conjunction : goal.decreases-emit_conjunction
+decreases-emit_conjunction l = 2 * max (size-SExpr l.left.now) (size-SExpr l.right.now) + 1
+
+abbrev pub decreases-emit_disjunction : goal.decreases-emit_disjunction
+decreases-emit_disjunction l = 2 * max (size-SExpr l.left.now) (size-SExpr l.right.now) + 1
+
+abbrev pub decreases-emit_choice : goal.decreases-emit_choice
+decreases-emit_choice l = 2 * max (size-SExpr l.condition.now) (max (size-SExpr l.taken.now) (size-SExpr l.other.now)) + 1
+
+-- ---- of a row, what is left
 
 abbrev pub invariant-emit_row-loop-kept : goal.invariant-emit_row-loop-kept
 invariant-emit_row-loop-kept l = (o : Option Place) (h : ℕ) → StandsFor l.above h → Leaves o l.initial.code (row_asm o (row_view l.row none) h) l.code (drop l.kept-index l.row) l.top

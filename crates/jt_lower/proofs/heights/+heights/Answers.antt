@@ -1,6 +1,5 @@
-use Rattle.std.proofs.Common.{◌-◌, true, false, sym, ap, ◌∙◌, cond, if◌then◌else◌}
+use Rattle.std.proofs.Common.{◌-◌, sym, ap, ◌∙◌, if◌then◌else◌}
 use Rattle.std.specs.Prelude.{nat_le}
-use Rattle.std.specs.Option.{is_some}
 use Rattle.jt_slots.specs.Size.{expr_height, row_height}
 use Rattle.jt_slots.specs.Slots.{none}
 use Rattle.jt_slots.specs.View.{expr_view, row_view}

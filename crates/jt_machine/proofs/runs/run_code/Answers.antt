@@ -1,8 +1,12 @@
+use Rattle.std.specs.Prelude.{Vec}
+use Rattle.std.specs.declared.alloc.Global.{Global}
 use Rattle.std.proofs.Common.{◌≡◌, ◌∙◌, sym, refl, ap, None, length, arith}
 use Rattle.jt_value.specs.ContextView.{pairs_of}
 use Rattle.jt_image.specs.Config.{Config}
 use Rattle.jt_image.specs.Run.{next, Goes, Ends, passed}
+use Rattle.jt_machine.specs.declared.state.Caller.{Caller}
 use Rattle.jt_machine.specs.View.{budget_view, config_view, outcome_view}
+use Rattle.jt_machine.proofs.AtOnce.{reached_gone, ending_gone}
 use Rattle.jt_machine.proofs.Steps.{callers_len, ending_now, ending_back, reached_next, reached_sound}
 use Rattle.jt_machine.proofs.runs.run_code.Goals as goal
 
@@ -15,32 +19,44 @@ steps-init g c =
     }
 
 pub step-requires-clause-not_wrong : goal.step-requires-clause-not_wrong
-step-requires-clause-not_wrong g c = (reached_sound c.code_laws.ensures (g.C.Code.code c.args.code.now) c.requires.whole c.requires.typed (pairs_of c.args.context.now) (budget_view c.args.budget) (config_view c.steps.state) c.steps.invariant.reached).not_wrong
+step-requires-clause-not_wrong g c =
+    let k = g.C.Code.code c.args.code.now in
+    let r = reached_gone k (pairs_of c.args.context.now) (budget_view c.args.budget) c.steps.state c.hurry.new.state c.steps.invariant.reached c.hurry.ensures in
+    (reached_sound c.code_laws.ensures k c.requires.whole c.requires.typed (pairs_of c.args.context.now) (budget_view c.args.budget) (config_view c.hurry.new.state) r).not_wrong
 
 pub step-requires-clause-sized : goal.step-requires-clause-sized
-step-requires-clause-sized g c = (reached_sound c.code_laws.ensures (g.C.Code.code c.args.code.now) c.requires.whole c.requires.typed (pairs_of c.args.context.now) (budget_view c.args.budget) (config_view c.steps.state) c.steps.invariant.reached).sized
+step-requires-clause-sized g c =
+    let k = g.C.Code.code c.args.code.now in
+    let r = reached_gone k (pairs_of c.args.context.now) (budget_view c.args.budget) c.steps.state c.hurry.new.state c.steps.invariant.reached c.hurry.ensures in
+    (reached_sound c.code_laws.ensures k c.requires.whole c.requires.typed (pairs_of c.args.context.now) (budget_view c.args.budget) (config_view c.hurry.new.state) r).sized
 
 pub step-requires-clause-few : goal.step-requires-clause-few
-step-requires-clause-few g c = (reached_sound c.code_laws.ensures (g.C.Code.code c.args.code.now) c.requires.whole c.requires.typed (pairs_of c.args.context.now) (budget_view c.args.budget) (config_view c.steps.state) c.steps.invariant.reached).few
+step-requires-clause-few g c =
+    let k = g.C.Code.code c.args.code.now in
+    let r = reached_gone k (pairs_of c.args.context.now) (budget_view c.args.budget) c.steps.state c.hurry.new.state c.steps.invariant.reached c.hurry.ensures in
+    (reached_sound c.code_laws.ensures k c.requires.whole c.requires.typed (pairs_of c.args.context.now) (budget_view c.args.budget) (config_view c.hurry.new.state) r).few
 
 pub step-requires-clause-depth : goal.step-requires-clause-depth
-step-requires-clause-depth g c = c.steps.invariant.depth
+step-requires-clause-depth g c = omega (arith, c.steps.invariant.depth, c.hurry.ensures.depth, ap (λ (waiting : Vec Caller Global). length waiting.items) c.hurry.ensures.callers)
 
 pub steps-preserved : goal.steps-preserved
 steps-preserved g c =
     let k = g.C.Code.code c.args.code.now in
-    let e : next k (config_view c.steps.state) ≡ Goes (config_view c.step.new.state) = c.in_ok-outcome.ensures ∙ rw c.in_default-2.is refl in
+    let e : next k (config_view c.hurry.new.state) ≡ Goes (config_view c.step.new.state) = c.in_ok-outcome.ensures ∙ rw c.in_default-2.is refl in
+    let r = reached_gone k (pairs_of c.args.context.now) (budget_view c.args.budget) c.steps.state c.hurry.new.state c.steps.invariant.reached c.hurry.ensures in
     record {
-      reached = reached_next k (pairs_of c.args.context.now) (budget_view c.args.budget) (config_view c.steps.state) (config_view c.step.new.state) c.steps.invariant.reached e;
-      same = λ o r. c.steps.invariant.same o (ending_back k (config_view c.steps.state) (config_view c.step.new.state) o e r);
-      depth = omega (arith, c.steps.invariant.depth, callers_len c.steps.state.callers.items, callers_len c.step.new.state.callers.items, (reached_sound c.code_laws.ensures k c.requires.whole c.requires.typed (pairs_of c.args.context.now) (budget_view c.args.budget) (config_view c.steps.state) c.steps.invariant.reached).depth (config_view c.step.new.state) e);
+      reached = reached_next k (pairs_of c.args.context.now) (budget_view c.args.budget) (config_view c.hurry.new.state) (config_view c.step.new.state) r e;
+      same = λ o r. c.steps.invariant.same o (ending_gone k c.steps.state c.hurry.new.state o c.hurry.ensures (ending_back k (config_view c.hurry.new.state) (config_view c.step.new.state) o e r));
+      depth = omega (arith, c.steps.invariant.depth, c.hurry.ensures.depth, ap (λ (waiting : Vec Caller Global). length waiting.items) c.hurry.ensures.callers, callers_len c.hurry.new.state.callers.items, callers_len c.step.new.state.callers.items, (reached_sound c.code_laws.ensures k c.requires.whole c.requires.typed (pairs_of c.args.context.now) (budget_view c.args.budget) (config_view c.hurry.new.state) r).depth (config_view c.step.new.state) e);
     }
 
 pub steps-smaller : goal.steps-smaller
 steps-smaller g c =
     let k = g.C.Code.code c.args.code.now in
-    let e : next k (config_view c.steps.state) ≡ Goes (config_view c.step.new.state) = c.in_ok-outcome.ensures ∙ rw c.in_default-2.is refl in
-    (reached_sound c.code_laws.ensures k c.requires.whole c.requires.typed (pairs_of c.args.context.now) (budget_view c.args.budget) (config_view c.steps.state) c.steps.invariant.reached).takes (config_view c.step.new.state) e
+    let e : next k (config_view c.hurry.new.state) ≡ Goes (config_view c.step.new.state) = c.in_ok-outcome.ensures ∙ rw c.in_default-2.is refl in
+    let r = reached_gone k (pairs_of c.args.context.now) (budget_view c.args.budget) c.steps.state c.hurry.new.state c.steps.invariant.reached c.hurry.ensures in
+    let less = (reached_sound c.code_laws.ensures k c.requires.whole c.requires.typed (pairs_of c.args.context.now) (budget_view c.args.budget) (config_view c.hurry.new.state) r).takes (config_view c.step.new.state) e in
+    omega (arith, less, c.hurry.ensures.fuel)
 
 pub returns-in-Some-2 : goal.returns-in-Some-2
 returns-in-Some-2 g c =
@@ -48,7 +64,7 @@ returns-in-Some-2 g c =
     let o = outcome_view c.in-Some-2.outcome in
     let x = pairs_of c.args.context.now in
     let b = budget_view c.args.budget in
-    let e : next k (config_view c.steps.state) ≡ Ends o = c.in_ok-outcome.ensures ∙ rw c.in-Some-2.is refl in
-    let r = c.steps.invariant.same o (ending_now k (config_view c.steps.state) o e) in
+    let e : next k (config_view c.hurry.new.state) ≡ Ends o = c.in_ok-outcome.ensures ∙ rw c.in-Some-2.is refl in
+    let r = c.steps.invariant.same o (ending_gone k c.steps.state c.hurry.new.state o c.hurry.ensures (ending_now k (config_view c.hurry.new.state) o e)) in
     let n : passed b x k.names ≡ None = sym c.in_default.ensures in
     rw n r

@@ -219,7 +219,7 @@ resolve_filter-returns-in-None-clause-placed t c =
     let ts = exprs_view c.args.row.now in
     let ps = pairs_view c.args.pairs.now in
     let p = values c.args.pool.now in
-    let named : (world_in s).filters.named c.args.name.now ≡ None = named_is c.args.name.now ∙ ap (option_map filter_id) (sym c.filter_of.ensures ∙ c.in-None.is) in
+    let named : (world_in s).filters.named c.args.name.now ts ps ≡ None = named_is c.args.name.now ts ps ∙ ap (option_map filter_id) (sym c.filter_of.ensures ∙ c.in-None.is) in
     let P : Option ℕ → Type 0 = λ o. IsPlaced (filtered_in s o a ts ps c.args.spot.now) (coded c.no_operation.result) p p in
     subst P (sym named) (c.no_operation.ensures p)
 
@@ -231,7 +231,7 @@ resolve_filter-returns-in_ok-first-in-Some-clause-placed t c =
     let ps = pairs_view c.args.pairs.now in
     let p = values c.args.pool.now in
     let q = values c.resolve_filtered.new.pool in
-    let named : (world_in s).filters.named c.args.name.now ≡ Some (filter_id c.in-Some.filter) = named_is c.args.name.now ∙ ap (option_map filter_id) (sym c.filter_of.ensures ∙ c.in-Some.is) in
+    let named : (world_in s).filters.named c.args.name.now ts ps ≡ Some (filter_id c.in-Some.filter) = named_is c.args.name.now ts ps ∙ ap (option_map filter_id) (sym c.filter_of.ensures ∙ c.in-Some.is) in
     IfOk-weaker c.resolve_filtered.result _ _ (λ e h.
     let P : Option ℕ → Type 0 = λ o. IsPlaced (filtered_in s o a ts ps c.args.spot.now) (coded e) p q in
     subst P (sym named) (h a p c.in_ok-first-in-Some.ensures.placed)) c.resolve_filtered.ensures.placed

@@ -7,6 +7,7 @@ use Rattle.jt_value.specs.View.{view}
 use Rattle.jt_expr.specs.Trees as trees
 use Rattle.jt_expr.specs.View.{exprs_view, pairs_view}
 use Rattle.jt_filters.specs.FilterTable.{filter_id}
+use Rattle.jt_parse.specs.Trees.{Text}
 use Rattle.jt_parse.specs.View.{filtering_view}
 use Rattle.jt_slots.specs.Pool.{expr_values}
 use Rattle.jt_slots.specs.TheFilters as the
@@ -15,11 +16,18 @@ use Rattle.jt_names.specs.Scoped.{values, IsPlaced, world_in, filtered_in}
 use Rattle.jt_names.proofs.Filters.{named_is}
 use Rattle.jt_names.proofs.filterings.resolve_filtering.Goals as goal
 
+-- the same name with the same arguments
+written_as : {x y : Text} {ts us : trees.Exprs} {ps qs : trees.Pairs} → x ≡ y → ts ≡ us → ps ≡ qs → the.filter_written x ts ps ≡ the.filter_written y us qs
+written_as {y = y} {ts = ts} {us = us} {ps = ps} e f g = ap (λ z. the.filter_written z ts ps) e ∙ ap (λ z. the.filter_written y z ps) f ∙ ap (the.filter_written y us) g
+
 pub returns-in_default-clause-placed : goal.returns-in_default-clause-placed
 returns-in_default-clause-placed c = λ k p n h.
     let s = c.args.scope.now in
     let f = filtering_view c.args.filtering.now in
-    let named : (world_in s).filters.named f.name ≡ None = named_is f.name ∙ ap (option_map filter_id) (ap the.filter_named (sym c.as_str.ensures.value) ∙ sym c.filter_of.ensures ∙ c.in_default.is) in
+    let row : exprs_view c.as_slice-row.result.now ≡ f.arguments = ap exprs_view c.as_slice-row.ensures.value in
+    let pairs : pairs_view c.as_slice-pairs.result.now ≡ f.keywords = ap pairs_view c.as_slice-pairs.ensures.value in
+    let written = written_as c.as_str.ensures.value row pairs in
+    let named : (world_in s).filters.named f.name f.arguments f.keywords ≡ None = named_is f.name f.arguments f.keywords ∙ ap (option_map filter_id) (sym written ∙ sym c.filter_of.ensures ∙ c.in_default.is) in
     let P : Option ℕ → Type 0 = λ o. IsPlaced (filtered_in s o k f.arguments f.keywords c.args.spot.now) (expr_view c.no_operation.result) p (values c.truncate.new.self) in
     let Q : List Tree → Type 0 = λ r. IsPlaced (filtered_in s None k f.arguments f.keywords c.args.spot.now) (expr_view c.no_operation.result) p r in
     let cut : p ≡ values c.truncate.new.self =
@@ -31,9 +39,11 @@ returns-clause-placed c =
     let s = c.args.scope.now in
     let spot = c.args.spot.now in
     let f = filtering_view c.args.filtering.now in
-    let named : (world_in s).filters.named f.name ≡ Some (filter_id c.in-Some.filter) = named_is f.name ∙ ap (option_map filter_id) (ap the.filter_named (sym c.as_str.ensures.value) ∙ sym c.filter_of.ensures ∙ c.in-Some.is) in
     let row : exprs_view c.as_slice-row.result.now ≡ f.arguments = ap exprs_view c.as_slice-row.ensures.value in
     let pairs : pairs_view c.as_slice-pairs.result.now ≡ f.keywords = ap pairs_view c.as_slice-pairs.ensures.value in
+    let written = written_as c.as_str.ensures.value row pairs in
+    let named : (world_in s).filters.named f.name f.arguments f.keywords ≡ Some (filter_id c.in-Some.filter) =
+    named_is f.name f.arguments f.keywords ∙ ap (option_map filter_id) (sym written ∙ sym c.filter_of.ensures ∙ c.in-Some.is) in
     IfOk-weaker c.resolve_filtered.result _ _ (λ e h k p n g.
     let r = values c.resolve_filtered.new.pool in
     let O : Option ℕ → Type 0 = λ o. IsPlaced (filtered_in s o k f.arguments f.keywords spot) (expr_view e) p r in

@@ -2,7 +2,7 @@ use Rattle.std.proofs.Common.{length, ◌∙◌, ap}
 use Rattle.jt_expr.specs.View.{exprs_view, pairs_view}
 use Rattle.jt_parse.specs.View.{parameters_view}
 use Rattle.jt_inherit.specs.Uses.{count, keywords}
-use Rattle.jt_rules.specs.Rules as rules
+use Rattle.jt_rules.specs.Walk as rules
 use Rattle.jt_rules.specs.Standing.{texts}
 use Rattle.jt_rules.proofs.Fits.{equal_ok, fits_is, too_many, named_well}
 use Rattle.jt_rules.proofs.arguments.fits.Goals as goal

@@ -1,7 +1,7 @@
 use Rattle.std.proofs.Common.{◌≡◌, ◌++◌, drop}
 use Rattle.jt_rules.specs.Standing.{texts}
 use Rattle.jt_parse.specs.View as parsed
-use Rattle.jt_rules.specs.Rules as rules
+use Rattle.jt_rules.specs.Walk as rules
 use Rattle.jt_rules.proofs.arguments.parameter_names.Given as goal
 
 abbrev pub invariant-loop-parameter : goal.invariant-loop-parameter

@@ -2,7 +2,7 @@ use Rattle.std.proofs.Common.{◌≡◌, ◌+◌, ◌<◌, length, drop, sym, ap
 use Rattle.jt_inherit.specs.Places.{home_at}
 use Rattle.jt_inherit.specs.View.{chain_view}
 use Rattle.jt_inherit.specs.declared.linked.Chain.{Chain}
-use Rattle.jt_rules.specs.Rules as rules
+use Rattle.jt_rules.specs.Walk as rules
 use Rattle.jt_rules.specs.Standing.{world_in, home_in}
 use Rattle.jt_rules.proofs.Turns.{chain_broken, chains_left, homes_length, its_place, some_first, none_first}
 use Rattle.jt_rules.proofs.checking.chains_broken.Goals as goal

@@ -1,6 +1,6 @@
 use Rattle.std.proofs.Common.{◌≡◌, drop}
 use Rattle.jt_inherit.specs.View.{chain_view}
-use Rattle.jt_rules.specs.Rules as rules
+use Rattle.jt_rules.specs.Walk as rules
 use Rattle.jt_rules.specs.Standing.{world_in}
 use Rattle.jt_rules.proofs.checking.chains_broken.Given as goal
 

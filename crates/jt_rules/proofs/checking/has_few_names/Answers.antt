@@ -1,6 +1,6 @@
 use Rattle.std.proofs.Common.{◌+◌, ◌<◌, length, drop, sym, ap, ◌∙◌, arith}
 use Rattle.jt_inherit.specs.View.{chain_view}
-use Rattle.jt_rules.specs.Rules as rules
+use Rattle.jt_rules.specs.Walk as rules
 use Rattle.jt_rules.specs.Standing.{world_in, home_in}
 use Rattle.jt_rules.proofs.Turns.{homes_length, names_left, too_many_names}
 use Rattle.jt_rules.proofs.checking.has_few_names.Goals as goal

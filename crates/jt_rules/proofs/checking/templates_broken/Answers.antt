@@ -2,7 +2,7 @@ use Rattle.std.proofs.Common.{◌+◌, drop, sym, ap, ◌∙◌}
 use Rattle.std.proofs.lemmas.List.{at_drop_all}
 use Rattle.jt_parse.specs.View.{body_view}
 use Rattle.jt_inherit.specs.View.{chain_view}
-use Rattle.jt_rules.specs.Rules as rules
+use Rattle.jt_rules.specs.Walk as rules
 use Rattle.jt_rules.specs.ScopeView.{its_world, its_home}
 use Rattle.jt_rules.proofs.Turns.{page_broken, shown_layers, its_layers, layers_left, some_first}
 use Rattle.jt_rules.proofs.checking.templates_broken.Goals as goal

@@ -1,6 +1,6 @@
 use Rattle.std.proofs.Common.{◌≡◌, drop}
 use Rattle.jt_expr.specs.View.{exprs_view, pairs_view}
-use Rattle.jt_rules.specs.Rules as rules
+use Rattle.jt_rules.specs.Walk as rules
 use Rattle.jt_rules.specs.ScopeView.{its_world, its_home, within_view}
 use Rattle.jt_rules.proofs.expressions.+broken.Given as goal
 

@@ -1,6 +1,6 @@
 use Rattle.std.proofs.Common.{◌≡◌, drop}
 use Rattle.jt_rules.specs.Standing.{texts}
-use Rattle.jt_rules.specs.Rules as rules
+use Rattle.jt_rules.specs.Walk as rules
 use Rattle.jt_rules.specs.ScopeView.{its_world, its_home}
 use Rattle.jt_rules.proofs.expressions.all_used.Given as goal
 

@@ -1,7 +1,7 @@
 use Rattle.std.proofs.Common.{sym, ap, ◌∙◌}
 use Rattle.std.specs.Option.{option_or}
 use Rattle.jt_parse.specs.View.{stmt_view, body_view}
-use Rattle.jt_rules.specs.Rules as rules
+use Rattle.jt_rules.specs.Walk as rules
 use Rattle.jt_rules.specs.ScopeView.{its_world, its_home, within_view}
 use Rattle.jt_rules.proofs.Found.{choice_found, choice_over, loop_found, with_found}
 use Rattle.jt_rules.proofs.Turns.{equal_found}

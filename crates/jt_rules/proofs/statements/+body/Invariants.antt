@@ -1,6 +1,6 @@
 use Rattle.std.proofs.Common.{◌≡◌, drop}
 use Rattle.jt_parse.specs.View as parsed
-use Rattle.jt_rules.specs.Rules as rules
+use Rattle.jt_rules.specs.Walk as rules
 use Rattle.jt_rules.specs.ScopeView.{its_world, its_home, within_view}
 use Rattle.jt_rules.proofs.statements.+body.Given as goal
 

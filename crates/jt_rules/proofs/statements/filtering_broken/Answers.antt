@@ -2,7 +2,7 @@ use Rattle.std.proofs.Common.{ap, ◌∙◌}
 use Rattle.jt_expr.specs.View.{exprs_view, pairs_view}
 use Rattle.jt_parse.specs.View.{filtering_view}
 use Rattle.std.proofs.Common.{[], ◌∷◌}
-use Rattle.jt_rules.specs.Rules as rules
+use Rattle.jt_rules.specs.Walk as rules
 use Rattle.jt_rules.specs.ScopeView.{its_world, its_home, within_view}
 use Rattle.jt_rules.proofs.Found.{its_filters, filtering_rule, filtering_first, filtering_second, filtering_third}
 use Rattle.jt_rules.proofs.Turns.{equal_found}

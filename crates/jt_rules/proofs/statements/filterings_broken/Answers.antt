@@ -1,6 +1,6 @@
 use Rattle.std.proofs.Common.{◌+◌, [], ◌∷◌, drop, sym, ◌∙◌}
 use Rattle.jt_parse.specs.View.{filtering_view, filterings_view}
-use Rattle.jt_rules.specs.Rules as rules
+use Rattle.jt_rules.specs.Walk as rules
 use Rattle.jt_rules.specs.ScopeView.{its_world, its_home, within_view}
 use Rattle.jt_rules.proofs.Found.{filterings_left}
 use Rattle.jt_rules.proofs.Turns.{some_first, none_first}

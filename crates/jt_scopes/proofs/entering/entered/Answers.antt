@@ -1,4 +1,4 @@
-use Rattle.std.proofs.Common.{◌≡◌, ◌+◌, List, map, length, sym, ap, ◌∙◌, Global}
+use Rattle.std.proofs.Common.{◌+◌, List, map, sym, ap, ◌∙◌, Global}
 use Rattle.std.proofs.lemmas.List.{length-map}
 use Rattle.std.specs.declared.rc.Rc.{Rc}
 use denote.Ref.{Bor}

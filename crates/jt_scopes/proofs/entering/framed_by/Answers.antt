@@ -1,4 +1,4 @@
-use Rattle.std.proofs.Common.{◌≡◌, List, map, take, take_all, ap, ◌∙◌, arith, Global}
+use Rattle.std.proofs.Common.{List, map, take_all, ap, ◌∙◌, arith, Global}
 use Rattle.std.specs.declared.rc.Rc.{Rc}
 use Rattle.jt_uses.specs.Names.{texts}
 use Rattle.jt_names.specs.Scoped.{framed}

@@ -1,4 +1,4 @@
-use Rattle.std.proofs.Common.{◌≡◌, ◌++◌, map, drop}
+use Rattle.std.proofs.Common.{◌≡◌, ◌++◌, drop}
 use Rattle.jt_expr.specs.View.{pairs_view}
 use Rattle.jt_inherit.specs.Uses.{keywords}
 use Rattle.jt_uses.specs.Names.{texts}

@@ -1,6 +1,6 @@
-use Rattle.std.proofs.Common.{◌≡◌, ℕ, max, sym, ap, ◌∙◌}
+use Rattle.std.proofs.Common.{max, sym, ap, ◌∙◌}
 use Rattle.std.proofs.lemmas.Result.{IfOk-weaker}
-use Rattle.jt_slots.specs.Locals.{slot_locals, expr_locals, row_locals}
+use Rattle.jt_slots.specs.Locals.{expr_locals, row_locals}
 use Rattle.jt_slots.specs.Slots.{none}
 use Rattle.jt_slots.specs.View.{expr_view, row_view}
 use Rattle.jt_scopes.proofs.Counted.{row_step}

@@ -1,4 +1,4 @@
-use Rattle.std.proofs.Common.{◌≡◌, ℕ, List, max, sym, ap, ◌∙◌, arith}
+use Rattle.std.proofs.Common.{List, max, sym, ap, ◌∙◌, arith}
 use Rattle.std.proofs.lemmas.List.{at_drop_all}
 use Rattle.jt_slots.specs.Locals.{body_locals}
 use Rattle.jt_slots.specs.View.{body_view}

@@ -1,4 +1,3 @@
-use Rattle.std.proofs.Common.{◌≡◌}
 use Rattle.jt_scopes.proofs.Counted.{slots_step}
 use Rattle.jt_scopes.proofs.locals.slots_locals.Goals as goal
 

@@ -1,4 +1,3 @@
-use Rattle.std.proofs.Common.{◌≡◌}
 use Rattle.jt_scopes.proofs.placing.handed.Goals as goal
 
 pub returns-else-with_context : goal.returns-else-with_context

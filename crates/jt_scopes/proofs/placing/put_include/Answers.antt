@@ -1,7 +1,6 @@
-use Rattle.std.proofs.Common.{◌≡◌, refl, ℕ, ◌<◌, List, [], length, sym, ap, ◌∙◌, subst, false, not, Option}
+use Rattle.std.proofs.Common.{◌≡◌, refl, ℕ, ◌<◌, [], sym, ap, ◌∙◌, subst, false, not, Option}
 use Rattle.std.specs.Option.{is_none}
 use Rattle.std.proofs.lemmas.Result.{IfOk-weaker}
-use Rattle.jt_parse.specs.Trees.{Text}
 use Rattle.jt_slots.specs.Slots as slots
 use Rattle.jt_meaning.specs.Layout.{of_chain, first_slot, names, unit}
 use Rattle.jt_layout.specs.Laid.{IsChainAt}

@@ -1,4 +1,4 @@
-use Rattle.std.proofs.Common.{◌≡◌, ℕ, ◌+◌, List, ◌++◌, map, drop, ap, ◌∙◌, arith}
+use Rattle.std.proofs.Common.{◌+◌, ◌++◌, map, drop, ap, ◌∙◌, arith}
 use Rattle.jt_inherit.specs.Parts.{block_view}
 use Rattle.jt_inherit.specs.View.{chain_view}
 use Rattle.jt_meaning.specs.Layout.{numbered_bodies}

@@ -1,5 +1,5 @@
-use Rattle.std.proofs.Common.{◌≡◌, List, map, refl, sym, ap, ◌∙◌, subst}
-use Rattle.jt_inherit.specs.Chain.{Template, templates}
+use Rattle.std.proofs.Common.{List, map, refl, sym, ap, ◌∙◌}
+use Rattle.jt_inherit.specs.Chain.{templates}
 use Rattle.jt_inherit.specs.Layers.{layer_view}
 use Rattle.jt_inherit.specs.View.{chain_view}
 use Rattle.jt_inherit.specs.declared.layers.Layer.{Layer}

@@ -1,4 +1,4 @@
-use Rattle.std.proofs.Common.{◌≡◌, List, [], ◌∷◌, ◌++◌, map}
+use Rattle.std.proofs.Common.{[], ◌∷◌}
 use Rattle.std.proofs.lemmas.Result.{IfOk-weaker}
 use Rattle.jt_names.specs.Scoped.{world_in, order_in, home_in, templates_in}
 use Rattle.jt_meaning.specs.Resolve.{chain_routine}

@@ -1,9 +1,8 @@
-use Rattle.std.proofs.Common.{◌≡◌, Bool, sym, ap, ◌∙◌, false}
+use Rattle.std.proofs.Common.{sym, ap, ◌∙◌}
 use Rattle.std.specs.Prelude.{if◌then◌else◌}
 use Rattle.std.proofs.lemmas.Result.{IfOk-weaker}
 use Rattle.jt_parse.specs.View.{stmt_view}
 use Rattle.jt_slots.specs.Slots as slots
-use Rattle.jt_meaning.specs.Meaning.{is_set}
 use Rattle.jt_names.specs.Scoped.{templates_in}
 use Rattle.jt_scopes.specs.Stated.{stmt_in}
 use Rattle.jt_scopes.proofs.Leading.{led_of, led_nothing}

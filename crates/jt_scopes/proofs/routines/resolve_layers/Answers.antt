@@ -1,4 +1,4 @@
-use Rattle.std.proofs.Common.{◌≡◌, refl, ◌+◌, List, map, drop, sym, ap, ◌∙◌, arith}
+use Rattle.std.proofs.Common.{refl, ◌+◌, List, map, drop, arith}
 use Rattle.std.proofs.lemmas.List.{at_drop_all}
 use Rattle.jt_inherit.specs.Layers.{layer_view}
 use Rattle.jt_inherit.specs.View.{chain_view}

@@ -1,4 +1,4 @@
-use Rattle.std.proofs.Common.{◌≡◌, List, length, max, sym, ap, ◌∙◌}
+use Rattle.std.proofs.Common.{List, length, max, sym, ap, ◌∙◌}
 use Rattle.std.proofs.lemmas.List.{length-map}
 use denote.Ref.{Bor}
 use Rattle.jt_parse.specs.Trees.{Text}

@@ -1,4 +1,5 @@
-use Rattle.std.proofs.Common.{◌≡◌, ℕ, ◌+◌, List, drop, sym, ap, ◌∙◌, arith}
+use Rattle.std.proofs.Common.{◌+◌, List, drop, sym, ap, ◌∙◌, arith}
+use Rattle.std.specs.Prelude.{string_bytes}
 use Rattle.std.proofs.lemmas.List.{at_drop_all}
 use Rattle.std.proofs.lemmas.Result.{IfOk-weaker}
 use Rattle.jt_expr.specs.View.{expr_view, pairs_view}
@@ -6,17 +7,16 @@ use Rattle.jt_parse.specs.Trees as trees
 use Rattle.jt_parse.specs.View.{names_view, filterings_view, stmt_view, body_view, branches_view}
 use Rattle.jt_parse.specs.declared.tree.Stmt.{Stmt}
 use Rattle.jt_slots.specs.Slots as slots
-use Rattle.jt_slots.specs.View.{slot_view, targets_view}
 use Rattle.jt_meaning.specs.Resolve.{followed, alone, bound_all, resolved_filters}
 use Rattle.jt_inherit.specs.View.{chain_view}
 use Rattle.jt_uses.specs.Names.{texts}
 use Rattle.jt_names.specs.Scoped.{values, world_in, order_in, expr_in, spot_in, templates_in}
-use Rattle.jt_scopes.specs.Stated.{line_in, stmt_in, body_in, choice_in, scoped_in}
+use Rattle.jt_scopes.specs.Stated.{line_in, stmt_in, body_in, choice_in, scoped_in, values_in}
 use Rattle.jt_scopes.proofs.Leading.{lead_both, lead_of, lead_left, lead_same, led_of, led_both, led_begun, followed_again, choice_same, choice_other, branch_as, branch_led}
 use Rattle.jt_scopes.proofs.Placed.{place_shown}
-use Rattle.jt_scopes.proofs.Shown.{Branch, statements_left, branches_left, view-Data, view-Print, view-Set, view-FilterBlock, view-Macro, view-Include, view-Extends, view-Block}
+use Rattle.jt_scopes.proofs.Shown.{Branch, statements_left, branches_left, view-Data, view-Print, view-Set, view-SetBlock, view-With, view-Autoescape, view-FilterBlock, view-Macro, view-Include, view-Extends, view-Block}
 use Rattle.jt_scopes.proofs.Smaller.{branch_smaller, other_smaller, turn_smaller, last_smaller, text_smaller, with_smaller, filtered_smaller, autoescape_smaller}
-use Rattle.jt_scopes.proofs.Stating.{stmt_as, filter_shown, if_shown, loop_shown, set_block_shown, with_shown, autoescape_shown, values_led, copies_as, scope_led, scoped_as, turn_as}
+use Rattle.jt_scopes.proofs.Stating.{stmt_as, filter_shown, if_shown, loop_shown, values_led, copies_as, scope_led, scoped_as, turn_as}
 use Rattle.jt_scopes.proofs.statements.+resolve.Goals as goal
 
 -- ---- bodies
@@ -95,6 +95,31 @@ resolve_filtered-returns-clause-led t c =
     IfOk-weaker c.put_print.result _ _ (λ u h. led_of T (followed first second) _ _ _ _ _ (filter_shown scope spot c.args.line fs b c.in_ok-free.free c.in_ok-free.ensures.added)
     (led_both T first second _ _ _ _ _ _ (c.in_ok-put_capture.ensures.put T _ _ _ c.in_ok-text.ensures.led) (h scope _ _ _ c.in_ok-shown.ensures.placed))) c.put_print.ensures.put
 
+pub resolve_set_block-returns-clause-led : goal.resolve_set_block-returns-clause-led
+resolve_set_block-returns-clause-led t c =
+    let scope = c.args.scope.now in
+    let spot = c.args.spot.now in
+    let sp = spot_in scope spot in
+    let T = templates_in scope in
+    let b = body_view c.args.body.now in
+    IfOk-weaker c.put_capture.result _ _ (λ u h. λ line. led_of T _ (stmt_in scope (trees.set_block line c.args.name.now b) spot) _ _ _ _
+    (ap (λ z. alone (slots.capture spot.escaping z (scoped_in scope b sp))) c.set_slot.ensures) (h T _ _ _ c.in_ok-text.ensures.led)) c.put_capture.ensures.put
+
+pub resolve_with-returns-clause-led : goal.resolve_with-returns-clause-led
+resolve_with-returns-clause-led t c =
+    let scope = c.args.scope.now in
+    let spot = c.args.spot.now in
+    let sp = spot_in scope spot in
+    let ps = pairs_view c.args.pairs.now in
+    let b = body_view c.args.body.now in
+    IfOk-weaker c.resolve_within.result _ _ (λ u h. led_of (templates_in scope) _ (stmt_in scope (trees.with_values c.args.line ps b) spot) _ _ _ _
+    (ap (λ w. values_in scope ps spot c.args.line (scoped_in scope b (bound_all w sp))) c.in_ok-names.ensures.same)
+    (values_led scope spot ps c.args.line _ _ _ _ _ _ _ c.in_ok-resolve_values.ensures.led h)) c.resolve_within.ensures.led
+
+pub resolve_escaping-returns-clause-led : goal.resolve_escaping-returns-clause-led
+resolve_escaping-returns-clause-led t c =
+    IfOk-weaker c.resolve_scoped.result _ _ (λ u h. λ line. h) c.resolve_scoped.ensures.led
+
 -- ---- statements
 
 pub resolve_statement-returns-in-Data-clause-led : goal.resolve_statement-returns-in-Data-clause-led
@@ -150,22 +175,21 @@ resolve_statement-returns-in-Set-clause-led t c =
     IfOk-weaker c.resolve_set.result _ _ (λ u h. stmt_as c.args.scope.now c.args.spot.now _ _ _ _ _ _ (ap (λ z. trees.set c.in-Set.line (names_view z) (expr_view c.in-Set.value)) c.deref-in-Set.ensures.value
     ∙ sym (ap stmt_view c.in-Set.is ∙ view-Set c.in-Set.line c.in-Set.names c.in-Set.value)) h) c.resolve_set.ensures.led
 
-pub resolve_statement-returns-in_ok-text-in-SetBlock-clause-led : goal.resolve_statement-returns-in_ok-text-in-SetBlock-clause-led
-resolve_statement-returns-in_ok-text-in-SetBlock-clause-led t c =
-    let scope = c.args.scope.now in
-    let T = templates_in scope in
-    IfOk-weaker c.put_capture.result _ _ (λ u h. led_of T _ _ _ _ _ _
-    (set_block_shown scope c.args.spot.now c.args.statement.now c.in-SetBlock.field-0 c.in-SetBlock.name c.in-SetBlock.body c.deref-in-SetBlock.result.now c.deref-in-SetBlock-2.result.now _ c.in-SetBlock.is c.deref-in-SetBlock.ensures.value c.deref-in-SetBlock-2.ensures c.set_slot.ensures)
-    (h T _ _ _ c.in_ok-text-in-SetBlock.ensures.led)) c.put_capture.ensures.put
+pub resolve_statement-returns-in-SetBlock-clause-led : goal.resolve_statement-returns-in-SetBlock-clause-led
+resolve_statement-returns-in-SetBlock-clause-led t c =
+    let v = c.in-SetBlock in
+    let us = c.deref-in-SetBlock.result.now in
+    IfOk-weaker c.resolve_set_block.result _ _ (λ u h. stmt_as c.args.scope.now c.args.spot.now _ _ _ _ _ _
+    (ap (λ z. trees.set_block v.field-0 z (body_view us)) c.deref-in-SetBlock-2.ensures ∙ ap (λ z. trees.set_block v.field-0 (string_bytes v.name) (body_view z)) c.deref-in-SetBlock.ensures.value
+    ∙ sym (ap stmt_view v.is ∙ view-SetBlock v.field-0 v.name v.body)) (h v.field-0)) c.resolve_set_block.ensures.led
 
-pub resolve_statement-returns-in_ok-names-in-With-clause-led : goal.resolve_statement-returns-in_ok-names-in-With-clause-led
-resolve_statement-returns-in_ok-names-in-With-clause-led t c =
-    let scope = c.args.scope.now in
-    let spot = c.args.spot.now in
-    let T = templates_in scope in
-    IfOk-weaker c.resolve_within.result _ _ (λ u h. led_of T _ _ _ _ _ _
-    (with_shown scope spot c.args.statement.now c.in-With.line c.in-With.pairs c.in-With.body c.deref-in-With.result.now c.deref-in-With-2.result.now c.deref-in-With-3.result.now _ c.in-With.is c.deref-in-With.ensures.value c.deref-in-With-2.ensures.value c.deref-in-With-3.ensures.value c.in_ok-names-in-With.ensures.same)
-    (values_led scope spot (pairs_view c.deref-in-With.result.now) c.in-With.line _ _ _ _ _ _ _ c.in_ok-resolve_values-in-With.ensures.led h)) c.resolve_within.ensures.led
+pub resolve_statement-returns-in-With-clause-led : goal.resolve_statement-returns-in-With-clause-led
+resolve_statement-returns-in-With-clause-led t c =
+    let v = c.in-With in
+    let us = c.deref-in-With.result.now in
+    IfOk-weaker c.resolve_with.result _ _ (λ u h. stmt_as c.args.scope.now c.args.spot.now _ _ _ _ _ _
+    (ap (λ z. trees.with_values v.line (pairs_view z) (body_view us)) c.deref-in-With-2.ensures.value ∙ ap (λ z. trees.with_values v.line (pairs_view v.pairs.items) (body_view z)) c.deref-in-With.ensures.value
+    ∙ sym (ap stmt_view v.is ∙ view-With v.line v.pairs v.body)) h) c.resolve_with.ensures.led
 
 pub resolve_statement-returns-in-FilterBlock-clause-led : goal.resolve_statement-returns-in-FilterBlock-clause-led
 resolve_statement-returns-in-FilterBlock-clause-led t c =
@@ -176,8 +200,9 @@ resolve_statement-returns-in-FilterBlock-clause-led t c =
 
 pub resolve_statement-returns-in-Autoescape-clause-led : goal.resolve_statement-returns-in-Autoescape-clause-led
 resolve_statement-returns-in-Autoescape-clause-led t c =
-    IfOk-weaker c.resolve_scoped.result _ _ (λ u h. led_of (templates_in c.args.scope.now) _ _ _ _ _ _
-    (autoescape_shown c.args.scope.now c.args.spot.now c.args.statement.now c.in-Autoescape.field-0 c.in-Autoescape.escaping c.in-Autoescape.body c.deref-in-Autoescape.result.now c.in-Autoescape.is c.deref-in-Autoescape.ensures.value) h) c.resolve_scoped.ensures.led
+    let v = c.in-Autoescape in
+    IfOk-weaker c.resolve_escaping.result _ _ (λ u h. stmt_as c.args.scope.now c.args.spot.now _ _ _ _ _ _
+    (ap (λ z. trees.autoescape v.field-0 v.escaping (body_view z)) c.deref-in-Autoescape.ensures.value ∙ sym (ap stmt_view v.is ∙ view-Autoescape v.field-0 v.escaping v.body)) (h v.field-0)) c.resolve_escaping.ensures.led
 
 pub resolve_statement-returns-in-Macro-clause-led : goal.resolve_statement-returns-in-Macro-clause-led
 resolve_statement-returns-in-Macro-clause-led t c = λ left.
@@ -224,14 +249,14 @@ resolve_statement-resolve_whole-requires-in-For t c =
     let less = last_smaller c.args.statement.now c.in-For.line c.in-For.names c.in-For.value c.in-For.condition c.in-For.body c.in-For.other c.deref-in-For-3.result.now c.in-For.is c.deref-in-For-3.ensures.value in
     (omega (arith, less), c.requires)
 
-pub resolve_statement-resolve_inside-requires : goal.resolve_statement-resolve_inside-requires
-resolve_statement-resolve_inside-requires t c =
+pub resolve_statement-resolve_set_block-requires : goal.resolve_statement-resolve_set_block-requires
+resolve_statement-resolve_set_block-requires t c =
     let less = text_smaller c.args.statement.now c.in-SetBlock.field-0 c.in-SetBlock.name c.in-SetBlock.body c.deref-in-SetBlock.result.now c.in-SetBlock.is c.deref-in-SetBlock.ensures.value in
     (omega (arith, less), c.requires)
 
-pub resolve_statement-resolve_within-requires : goal.resolve_statement-resolve_within-requires
-resolve_statement-resolve_within-requires t c =
-    let less = with_smaller c.args.statement.now c.in-With.line c.in-With.pairs c.in-With.body c.deref-in-With-3.result.now c.in-With.is c.deref-in-With-3.ensures.value in
+pub resolve_statement-resolve_with-requires : goal.resolve_statement-resolve_with-requires
+resolve_statement-resolve_with-requires t c =
+    let less = with_smaller c.args.statement.now c.in-With.line c.in-With.pairs c.in-With.body c.deref-in-With.result.now c.in-With.is c.deref-in-With.ensures.value in
     (omega (arith, less), c.requires)
 
 pub resolve_statement-resolve_filtered-requires : goal.resolve_statement-resolve_filtered-requires
@@ -239,7 +264,7 @@ resolve_statement-resolve_filtered-requires t c =
     let less = filtered_smaller c.args.statement.now c.in-FilterBlock.line c.in-FilterBlock.filterings c.in-FilterBlock.body c.deref-in-FilterBlock.result.now c.in-FilterBlock.is c.deref-in-FilterBlock.ensures.value in
     (omega (arith, less), c.requires)
 
-pub resolve_statement-resolve_scoped-requires : goal.resolve_statement-resolve_scoped-requires
-resolve_statement-resolve_scoped-requires t c =
+pub resolve_statement-resolve_escaping-requires : goal.resolve_statement-resolve_escaping-requires
+resolve_statement-resolve_escaping-requires t c =
     let less = autoescape_smaller c.args.statement.now c.in-Autoescape.field-0 c.in-Autoescape.escaping c.in-Autoescape.body c.deref-in-Autoescape.result.now c.in-Autoescape.is c.deref-in-Autoescape.ensures.value in
     (omega (arith, less), c.requires)

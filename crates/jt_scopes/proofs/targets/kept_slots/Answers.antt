@@ -1,7 +1,5 @@
-use Rattle.std.proofs.Common.{◌≡◌, ℕ, ◌+◌, List, [], ◌∷◌, ◌++◌, map, drop, length, sym, ap, ◌∙◌, String, Global, string_bytes, append_assoc, Option, None}
-use Rattle.std.specs.Prelude.{option_map}
+use Rattle.std.proofs.Common.{◌∙◌}
 use Rattle.jt_names.specs.Scoped.{spot_in}
-use Rattle.jt_parse.specs.View.{names_view}
 use Rattle.jt_scopes.proofs.Stating.{kept_step}
 use Rattle.jt_scopes.proofs.targets.kept_slots.Goals as goal
 

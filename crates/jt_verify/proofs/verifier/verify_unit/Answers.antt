@@ -1,7 +1,7 @@
 use Rattle.std.proofs.Common.{arith, ap}
 use Rattle.jt_image.specs.declared.code.UnitHeader.{UnitHeader}
 use Rattle.jt_verify.specs.Working.{unit_of}
-use Rattle.jt_verify.proofs.Following.{starts, no_paths}
+use Rattle.jt_verify.proofs.Walking.{works_at_start, works_done}
 use Rattle.jt_verify.proofs.Refused.{empty_refuses}
 use Rattle.jt_verify.proofs.verifier.verify_unit.Goals as goal
 
@@ -15,10 +15,10 @@ pub paths-init : goal.paths-init
 paths-init g c =
     let k = g.C.Code.code c.args.code.now in
     let len = ap (λ (h : UnitHeader). h.instructions) c.requires.unit.header in
-    let i = starts k (unit_of k c.args.unit) c.args.header.now.instructions len (omega (arith, c.if-header-eq0.false)) in
-    rw (c.in_ok-push.ensures.items, c.new-paths.ensures.items, c.in_ok-shapes.ensures, c.new.ensures) i
+    let i = works_at_start k (unit_of k c.args.unit) c.args.header.now.instructions len (omega (arith, c.if-header-eq0.false)) in
+    rw (c.in_ok-push.ensures.items, c.new-paths.ensures.items, c.in_ok-shapes.ensures, c.in_ok-arena.ensures) i
 
 pub returns-clause-ok : goal.returns-clause-ok
 returns-clause-ok g c =
     let k = g.C.Code.code c.args.code.now in
-    no_paths k (unit_of k c.args.unit) c.paths.shapes.items c.paths.paths.items (omega (arith, c.in_default.ensures.cases, c.paths.paths.ok.0)) c.paths.invariant
+    works_done k (unit_of k c.args.unit) c.paths.arena c.paths.shapes.items c.paths.paths.items (omega (arith, c.in_default.ensures.cases, c.paths.paths.ok.0)) c.paths.invariant

@@ -1,4 +1,4 @@
-use Rattle.std.proofs.Common.{◌<◌, ◌≡◌, length, None, arith, ap, sym, subst}
+use Rattle.std.proofs.Common.{◌≡◌, length, None, arith, subst}
 use Rattle.jt_image.specs.declared.instruction.Instruction.TheVariants as op
 use Rattle.jt_lower.specs.Asm.{one}
 use Rattle.jt_lower.specs.Emission.{Puts, Patches}

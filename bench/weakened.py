@@ -1,0 +1,118 @@
+#!/usr/bin/env python3
+"""Shows that each layer's contract is needed: takes a clause of one public call out, in a copy, and tells which crate above is then
+no longer proved: bench/weakened.py [CRATE ..]
+
+A developer's tool, run by hand over kept work (`rt all check` makes it): it prints a table as Markdown, a row for each layer of LAYERS
+or for the crates that are named. The layer itself must still be proved without the clause (a clause that is taken out can only help
+it); then the crates that stand on it are checked, from the lowest, until one is not proved. The status is 0 where each layer's
+clause was missed. A copy of the kept work of all crates is made below TMPDIR, so some gigabytes must be free.
+"""
+import os, re, shutil, subprocess, sys, tempfile
+from kit import rt, sums
+
+# a layer, the file and the name of its call, and the clause's name, if it has one
+LAYERS = [
+    ("jt_value", "src/measure.rt", "truth", ""),
+    ("jt_escape", "src/escaping.rt", "escape_into", "ok"),
+    ("jt_ops", "src/operators.rt", "binary", ""),
+    ("jt_filters", "src/filters.rt", "apply", ""),
+    ("jt_scan", "src/scanner.rt", "scan", "only"),
+    ("jt_expr", "src/tag.rt", "expression", "spelled"),
+    ("jt_parse", "src/parser.rt", "parse", "spelled"),
+    ("jt_order", "src/ordering.rt", "order", "ordered"),
+    ("jt_inherit", "src/chaining.rt", "chain", "only"),
+    ("jt_uses", "src/chains.rt", "own_names", ""),
+    ("jt_slots", "src/named.rt", "filter_parameters", ""),
+    ("jt_rules", "src/checking.rt", "check_rules", "kept"),
+    ("jt_meaning", "src/laws.rt", "program_laws", ""),
+    ("jt_layout", "src/laying.rt", "lay_out", "laid"),
+    ("jt_names", "src/expressions.rt", "resolve_expression", "placed"),
+    ("jt_scopes", "src/routines.rt", "resolve_home", "put"),
+    ("jt_resolve", "src/resolving.rt", "resolve", "resolved"),
+    ("jt_lower", "src/emitter.rt", "patch", ""),
+    ("jt_codegen", "src/compiling.rt", "compile", "compiled"),
+    ("jt_image", "src/decoding.rt", "decode", "found"),
+    ("jt_verify", "src/checked.rt", "verify", "ok"),
+    ("jt_budget", "src/budget.rt", "charge", "err"),
+    ("jt_machine", "src/runs.rt", "run", "outcome"),
+    ("jt_line", "src/line.rt", "job", "asked"),
+    ("jt_host", "src/rendering.rt", "render", "rendered"),
+]
+
+
+def without(text, call, clause):
+    """The text without the clause of the call's contract, or None where it has no such clause."""
+    head = re.search(rf"(?m)^ *pub fn {call}\b", text)
+    named = re.compile(rf"(?m)^ *ensures {clause + ' ' if clause else ''}\{{") if head else None
+    at = named.search(text, head.start()) if named else None
+    if not at:
+        return None
+    depth, end = 1, at.end()
+    while depth:
+        depth += {"{": 1, "}": -1}.get(text[end], 0)
+        end += 1
+    return text[: at.start()] + text[end:].lstrip("\n")
+
+
+def first_goal(crate):
+    """Whether the crate is proved, and the first goal that is not."""
+    words = [*rt.rtlib.guarded(), rt.rtlib.RATTLE, "check", *crate.words(["--jobs", "2"]), *rt.rtlib.KEPT]
+    how = {"cwd": crate.folder, "stdin": subprocess.DEVNULL, "stdout": subprocess.PIPE, "stderr": subprocess.STDOUT, "errors": "replace"}
+    ran = subprocess.run(words, **how)
+    open_goal = re.search(r"(?m)^fn (\S+): not proved", ran.stdout)
+    return ran.returncode == 0, open_goal[1] if open_goal else "a lemma"
+
+
+def row(root, layer, file, call, clause):
+    """The table's row of a layer, and whether its clause was missed."""
+    place = f"{root}/crates/{layer}/{file}"
+    text = rt.rtlib.text_of(place)
+    weaker = without(text, call, clause)
+    said = f"| {layer} | `{call}`{f', `{clause}`' if clause else ''} |"
+    if weaker is None:
+        return f"{said} has no such clause |", False
+    with open(place, "w", encoding="utf-8") as it:
+        it.write(weaker)
+    try:
+        return missed(root, layer, said)
+    finally:
+        with open(place, "w", encoding="utf-8") as it:
+            it.write(text)
+
+
+def missed(root, layer, said):
+    """Goes up from the layer until a crate is not proved."""
+    sums.clear()
+    crates = rt.rtlib.crates_below(root)
+    weaker = {layer}
+    for crate in crates:
+        if crate.name != layer and not weaker & {it.name for it in crate.deps}:
+            continue
+        proved, goal = first_goal(crate)
+        if not proved:
+            return (f"{said} {crate.name}: `{goal}` |", True) if crate.name != layer else (f"{said} not proved itself |", False)
+        weaker.add(crate.name)
+        sums.clear()
+        if crate.makes_rlib() and crate.build_rlib(["--jobs", "2"], anew=False):
+            return f"{said} {crate.name} has no library |", False
+    return f"{said} **none** |", False
+
+
+def main(names):
+    layers = [it for it in LAYERS if not names or it[0] in names]
+    with tempfile.TemporaryDirectory(prefix="weakened-") as room:
+        for it in ("crates.txt", "HANDLES"):
+            shutil.copy(it, room)
+        shutil.copytree("crates", f"{room}/crates", symlinks=True)
+        print("| Layer | Call and clause | The first crate above that is not proved without it |\n|---|---|---|")
+        answers = []
+        for layer in layers:
+            line, well = row(room, *layer)
+            print(line, flush=True)
+            answers.append(well)
+    return 0 if layers and all(answers) else 1
+
+
+if __name__ == "__main__":
+    rt.rtlib.guarded()
+    sys.exit(main(sys.argv[1:]))

@@ -1,0 +1,133 @@
+//! Codes of items: bytes by which they are told apart. Items that are alike have the same code, and others another one.
+ghost use Rattle.std.specs.Prelude.{◌≡◌, ◌++◌, ◌∷◌, [], IfOk, OnOk};
+ghost use Rattle.jt_value.specs.Tree as tree;
+ghost use Rattle.jt_value.specs.View.{view, items_view, entries_view};
+ghost use Rattle.jt_filters.specs.Codes as codes;
+ghost use Rattle.jt_filters.specs.Codes.{code, item_code, number_code, text_code, rows, rows_in};
+ghost use Rattle.jt_filters.specs.Operands.{tree_of};
+ghost use Rattle.jt_filters.specs.Ordering.{fold};
+
+use crate::operand::Operand;
+use jt_value::{NoMemory, Value};
+use std::alloc::Global;
+use std::collections::BTreeMap;
+
+/// The code of an item. A text, markup or not, has that of its fold.
+#[tactic(auto, using(crate::proofs::SameCodes::folded_text, crate::proofs::SameCodes::no_text))]
+pub(crate) fn code_of(alloc: Global, item: Operand<'_>) -> Result<Vec<u8>, NoMemory>
+    ensures { IfOk result (λ v. v.items ≡ item_code (tree_of item.entry)) }
+{
+    let mut bytes = Vec::new(alloc);
+    match item.as_text() {
+        Some(text) => push_folded(alloc, &mut bytes, text)?,
+        None => push_operand(alloc, &mut bytes, item)?,
+    }
+    Ok(bytes)
+}
+
+/// Puts the code of a text's fold behind some bytes.
+fn push_folded(alloc: Global, bytes: &mut Vec<u8>, text: &str) -> Result<(), NoMemory>
+    ensures { OnOk result (bytes.new.items ≡ bytes.old.items ++ text_code (fold text.now)) }
+{
+    let mut folded = String::from_str(alloc, text)?;
+    folded.make_ascii_lowercase();
+    push_text(bytes, folded.as_str())
+}
+
+/// Puts the code of an operand behind some bytes.
+fn push_operand(alloc: Global, bytes: &mut Vec<u8>, operand: Operand<'_>) -> Result<(), NoMemory>
+    ensures { OnOk result (bytes.new.items ≡ bytes.old.items ++ code (tree_of operand.entry)) }
+{
+    match operand {
+        Operand::Undefined => push_byte(bytes, 1),
+        Operand::Number(number) => push_number(bytes, number),
+        Operand::Text(text) => push_text(bytes, text),
+        Operand::Value(value) => push_value(alloc, bytes, value),
+    }
+}
+
+/// Puts a byte behind the others.
+fn push_byte(bytes: &mut Vec<u8>, byte: u8) -> Result<(), NoMemory>
+    ensures { OnOk result (bytes.new.items ≡ bytes.old.items ++ byte ∷ []) }
+{
+    bytes.push(byte)?;
+    Ok(())
+}
+
+/// Puts the code of a number behind some bytes.
+fn push_number(bytes: &mut Vec<u8>, number: i64) -> Result<(), NoMemory>
+    ensures { OnOk result (bytes.new.items ≡ bytes.old.items ++ number_code number) }
+{
+    bytes.push(3)?;
+    bytes.extend_from_slice(&number.to_le_bytes())?;
+    Ok(())
+}
+
+/// Puts the code of a text behind some bytes.
+fn push_text(bytes: &mut Vec<u8>, text: &str) -> Result<(), NoMemory>
+    ensures { OnOk result (bytes.new.items ≡ bytes.old.items ++ text_code text.now) }
+{
+    bytes.push(4)?;
+    bytes.extend_from_slice(text.as_bytes())?;
+    bytes.push(255)?;
+    Ok(())
+}
+
+/// Puts the code of a value behind some bytes.
+#[cycle(codes)]
+fn push_value(alloc: Global, bytes: &mut Vec<u8>, value: &Value) -> Result<(), NoMemory>
+    ensures { OnOk result (bytes.new.items ≡ bytes.old.items ++ code (view value.now)) }
+{
+    match value {
+        Value::Undefined => push_byte(bytes, 1),
+        Value::None => push_byte(bytes, 2),
+        Value::Bool(truth) => push_number(bytes, if *truth { 1 } else { 0 }),
+        Value::Int(number) => push_number(bytes, *number),
+        Value::Text(text) => push_text(bytes, text.as_str()),
+        Value::Markup(text) => push_text(bytes, text.as_str()),
+        Value::List(list) => push_items(alloc, bytes, list.items()),
+        Value::Map(map) => push_rows(bytes, rows_of(alloc, map.entries())?),
+    }
+}
+
+/// Puts the code of a list of items behind some bytes.
+#[cycle(codes)]
+fn push_items(alloc: Global, bytes: &mut Vec<u8>, items: &[Value]) -> Result<(), NoMemory>
+    ensures { OnOk result (bytes.new.items ≡ bytes.old.items ++ code (tree.list (items_view items.now))) }
+{
+    push_byte(bytes, 5)?;
+    for item in items {
+        push_value(alloc, bytes, item)?;
+    }
+    push_byte(bytes, 0)
+}
+
+/// The keys of a map in order, each with the code of its first value.
+#[cycle(codes)]
+fn rows_of(alloc: Global, entries: &[(String, Value)]) -> Result<BTreeMap<&str, Vec<u8>>, NoMemory>
+    ensures { IfOk result (λ m. rows_in m.entries ≡ rows (entries_view entries.now)) }
+{
+    let mut rows = BTreeMap::new(alloc);
+    let mut left = entries.len();
+    while left > 0 {
+        left -= 1;
+        let entry = &entries[left];
+        let mut bytes = Vec::new(alloc);
+        push_value(alloc, &mut bytes, &entry.1)?;
+        rows.insert(entry.0.as_str(), bytes)?;
+    }
+    Ok(rows)
+}
+
+/// Puts the code of a map's rows behind some bytes.
+fn push_rows(bytes: &mut Vec<u8>, rows: BTreeMap<&str, Vec<u8>>) -> Result<(), NoMemory>
+    ensures { OnOk result (bytes.new.items ≡ bytes.old.items ++ 6 ∷ codes.rows_code (rows_in rows.entry.entries)) }
+{
+    let mut rows = rows;
+    push_byte(bytes, 6)?;
+    while let Some((key, row)) = rows.pop_first() {
+        push_text(bytes, key)?;
+        bytes.extend_from_slice(row.as_slice())?;
+    }
+    push_byte(bytes, 0)
+}

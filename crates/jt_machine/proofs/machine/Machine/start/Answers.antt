@@ -1,0 +1,30 @@
+use Rattle.std.proofs.Common.{◌∙◌, length, sym, ap, arith}
+use Rattle.jt_value.specs.ContextView.{pairs_of}
+use Rattle.jt_image.specs.Code.{Code}
+use Rattle.jt_image.specs.Config.{Config}
+use Rattle.jt_image.specs.Run.{Goes, start}
+use Rattle.jt_machine.specs.View.{budget_view}
+use Rattle.jt_machine.proofs.Steps.{callers_len}
+use Rattle.jt_machine.proofs.Slicing.{runs_in_slices}
+use Rattle.jt_machine.proofs.machine.Machine.start.Goals as goal
+
+pub returns-in-Some-clause-slices : goal.returns-in-Some-clause-slices
+returns-in-Some-clause-slices c = λ x b. runs_in_slices c.args.verified x b ((c.code_laws.ensures.runs c.args.verified c.image.ensures.whole c.image.ensures.typed).safe x b)
+
+pub returns-in-Ok-clause-slices : goal.returns-in-Ok-clause-slices
+returns-in-Ok-clause-slices c = λ x b. runs_in_slices c.args.verified x b ((c.code_laws.ensures.runs c.args.verified c.image.ensures.whole c.image.ensures.typed).safe x b)
+
+pub returns-in-Err-clause-slices : goal.returns-in-Err-clause-slices
+returns-in-Err-clause-slices c = λ x b. runs_in_slices c.args.verified x b ((c.code_laws.ensures.runs c.args.verified c.image.ensures.whole c.image.ensures.typed).safe x b)
+
+pub invariant_of-result-in-Ok : goal.invariant_of-result-in-Ok
+invariant_of-result-in-Ok c =
+    let x = pairs_of c.args.context.now in
+    let b = budget_view c.args.budget in
+    record {
+      context = x;
+      budget = b;
+      steps = 0;
+      reached = ap Goes (ap (λ (k : Code). start k x b) (sym c.image-2.ensures.image) ∙ sym c.in-Ok.ensures);
+      depth = omega (arith, ap (λ (y : Config). y.left.depth) c.in-Ok.ensures, ap (λ (y : Config). length y.machine.callers) c.in-Ok.ensures, callers_len c.in-Ok.state.callers.items);
+    }

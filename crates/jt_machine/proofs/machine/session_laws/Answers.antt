@@ -1,0 +1,5 @@
+use Rattle.jt_machine.proofs.Slicing.{laws}
+use Rattle.jt_machine.proofs.machine.session_laws.Goals as goal
+
+pub returns : goal.returns
+returns c = laws

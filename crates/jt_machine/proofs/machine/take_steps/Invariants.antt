@@ -1,0 +1,11 @@
+use Rattle.std.proofs.Common.{◌≡◌}
+use Rattle.jt_image.specs.Run.{Goes, after}
+use Rattle.jt_machine.specs.StageView.{IsReached}
+use Rattle.jt_machine.specs.View.{config_view}
+use Rattle.jt_machine.proofs.machine.take_steps.Given as goal
+
+abbrev pub invariant-steps : goal.invariant-steps
+invariant-steps g l = record {
+  so_far : after (g.C.Code.code l.code) l.counter (config_view l.fn.state) ≡ Goes (config_view l.state);
+  reached : IsReached (g.C.Code.code l.code) l.state;
+}

@@ -1,0 +1,195 @@
+//! Runs that stop and go on.
+ghost use Rattle.std.specs.Prelude.{◌≡◌, None, IfOk, IfErr, IfNone, OnOk, OnErr, option_map, option_copied, Some};
+ghost use Rattle.jt_value.specs.Pairs.{Pairs};
+ghost use Rattle.jt_value.specs.ContextView.{pairs_of};
+ghost use Rattle.jt_image.specs.IsCode.{IsCode};
+ghost use Rattle.jt_image.specs.Typed.{IsTyped};
+ghost use Rattle.jt_image.specs.Config as config;
+ghost use Rattle.jt_image.specs.Run.{IsSafe, after};
+ghost use Rattle.jt_machine.specs.Session.{SessionLaws};
+ghost use Rattle.jt_machine.specs.StageView.{IsReached};
+ghost use Rattle.jt_machine.specs.View.{config_view, next_view};
+
+use crate::outcome::{Outcome, Progress};
+use crate::start::{context_passes, start};
+use crate::state::State;
+use crate::step::step;
+use jt_budget::Budget;
+use jt_image::{Code, code_laws};
+use jt_value::{Context, NoMemory};
+use jt_verify::Verified;
+use std::alloc::Global;
+use std::marker::Model;
+use std::mem;
+
+/// Where a run stands.
+#[derive(Drop)]
+pub(crate) enum Stage {
+    Going(State),
+    Done(Outcome),
+    Lost,
+}
+
+/// A run of an image that stops after so many instructions and goes on later.
+#[derive(Drop)]
+pub struct Machine {
+    alloc: Global,
+    verified: Verified,
+    stage: Stage,
+}
+
+impl Model for Machine {
+    ghost use Rattle.jt_machine.specs.Session.{Session};
+    ghost use Rattle.jt_machine.specs.SessionCode.{coded_session};
+
+    ghost Value = { Session };
+
+    ghost coded = { coded_session };
+
+    ghost use Rattle.jt_machine.specs.StageView.{stage_view, IsUnderway};
+
+    ghost view = { λ m. record { code = m.verified; status = stage_view m.stage } };
+
+    ghost invariant = { λ m. IsUnderway m.verified m.stage };
+}
+
+impl Machine {
+    ghost use Rattle.jt_machine.specs.Session.{started, advanced, lost_session, is_lost, outcome_of, told_of, RunsInSlices};
+    ghost use Rattle.jt_machine.specs.View.{budget_view, outcome_view};
+
+    /// The run of an image for a context under a budget, before its first instruction. Where a value of the context passes a limit it
+    /// has ended.
+    ///
+    /// # Errors
+    ///
+    /// Hands the image back where a growth was refused.
+    pub fn start(
+        alloc: Global,
+        verified: Verified,
+        context: &Context,
+        budget: Budget,
+    ) -> Result<Machine, (Verified, NoMemory)>
+        ensures started { IfOk result (λ m. m ≡ started verified (pairs_of context.now) (budget_view budget)) }
+        ensures back { IfErr result (λ e. e.0 ≡ verified) }
+        // Every run of the image has one outcome, stays within its fuel and is never wrong.
+        ensures safe { (x : Pairs) (b : config.Budget) → IsSafe verified x b }
+        // In slices it comes to that outcome.
+        ensures slices { (x : Pairs) (b : config.Budget) → RunsInSlices verified x b }
+    {
+        code_laws();
+        if let Some(spent) = context_passes(verified.image(), context, &budget) {
+            return Ok(Machine {
+                alloc,
+                verified,
+                stage: Stage::Done(Outcome::Spent(spent)),
+            });
+        }
+        let _depth = budget.depth;
+        match start(alloc, verified.image(), context, budget) {
+            Ok(state) => Ok(Machine {
+                alloc,
+                verified,
+                stage: Stage::Going(state),
+            }),
+            Err(refused) => Err((verified, refused)),
+        }
+    }
+
+    /// Carries out so many instructions, or fewer where the run ends, and says whether it goes on still.
+    ///
+    /// # Errors
+    ///
+    /// `NoMemory` where a growth was refused. The run is lost then: it has no outcome, and each later call answers the same.
+    pub fn advance(&mut self, k: u32) -> Result<Progress, NoMemory>
+        ensures steps { OnOk result (self.new ≡ advanced k self.old) }
+        ensures progress { IfOk result (λ p. told_of self.new.status ≡ Some p) }
+        ensures lost { OnErr result (self.new ≡ lost_session self.old) }
+    {
+        match mem::replace(&mut self.stage, Stage::Lost) {
+            Stage::Going(state) => {
+                let mut state = state;
+                match take_steps(self.alloc, self.verified.image(), &mut state, k)? {
+                    None => {
+                        self.stage = Stage::Going(state);
+                        Ok(Progress::Going)
+                    }
+                    Some(outcome) => {
+                        self.stage = Stage::Done(outcome);
+                        Ok(Progress::Done)
+                    }
+                }
+            }
+            Stage::Done(outcome) => {
+                self.stage = Stage::Done(outcome);
+                Ok(Progress::Done)
+            }
+            Stage::Lost => Err(NoMemory),
+        }
+    }
+
+    /// The outcome, once the run has ended.
+    pub fn outcome(&self) -> Option<&Outcome>
+        ensures { option_map outcome_view (option_copied result) ≡ outcome_of self.now }
+    {
+        match &self.stage {
+            Stage::Going(_) => None,
+            Stage::Done(outcome) => Some(outcome),
+            Stage::Lost => None,
+        }
+    }
+
+    /// Whether the run was lost, since a growth was refused.
+    pub fn is_lost(&self) -> bool
+        ensures { result ≡ is_lost self.now.status }
+    {
+        match &self.stage {
+            Stage::Going(_) => false,
+            Stage::Done(_) => false,
+            Stage::Lost => true,
+        }
+    }
+
+    /// The image, and the outcome if the run has ended.
+    pub fn finish(self) -> (Verified, Option<Outcome>)
+        ensures image { result.0 ≡ self.code }
+        ensures outcome { option_map outcome_view result.1 ≡ outcome_of self }
+    {
+        let Machine {
+            verified,
+            stage,
+            ..
+        } = self;
+        match stage {
+            Stage::Going(_) => (verified, None),
+            Stage::Done(outcome) => (verified, Some(outcome)),
+            Stage::Lost => (verified, None),
+        }
+    }
+}
+
+// Carries out so many instructions, or fewer where the run ends.
+fn take_steps<C: Code>(
+    alloc: Global,
+    code: &C,
+    state: &mut State,
+    k: u32,
+) -> Result<Option<Outcome>, NoMemory>
+    requires whole { IsCode (C.code code.now) }
+    requires typed { IsTyped (C.code code.now) }
+    requires reached { IsReached (C.code code.now) state.old }
+    ensures steps { IfOk result (λ r. after (C.code code.now) k (config_view state.old) ≡ next_view r state.new) }
+    ensures reached { IfOk result (λ r. IfNone r (IsReached (C.code code.now) state.new)) }
+{
+    code_laws();
+    'steps: for _ in 0..k {
+        if let Some(outcome) = step(alloc, code, state)? {
+            return Ok(Some(outcome));
+        }
+    }
+    Ok(None)
+}
+
+/// Slices of runs add up.
+pub fn session_laws()
+    ensures { SessionLaws }
+{}

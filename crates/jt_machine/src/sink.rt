@@ -1,0 +1,98 @@
+//! Writers of pieces.
+ghost use Rattle.std.specs.Prelude.{◌≡◌, ◌≢◌, ◌<◌, ◌≤◌, ℕ, Bool, true, false, List, [], length, take, Option, IfOk, OnOk, OnErr};
+ghost use Rattle.std.specs.Io.KnownBytes.{Appends};
+ghost use Rattle.jt_machine.specs.Sinks.{TookFront};
+
+use std::io::Write;
+use thiserror::Error;
+
+/// A sink has refused a piece.
+#[derive(Clone, Copy, Debug, PartialEq, Eq, Error)]
+#[error("a sink has failed")]
+pub struct SinkFailed;
+
+/// A writer that takes bytes in pieces. Once it has refused a piece it has failed for good.
+pub trait Sink {
+    /// The bytes that it took, where they are known.
+    ghost taken: { Self → Option (List ℕ) };
+
+    /// Whether it has refused a piece.
+    ghost failed: { Self → Bool };
+
+    /// Takes a beginning of the piece and answers its length, which is 0 only for an empty piece; or refuses, and takes nothing.
+    fn put(&mut self, piece: &[u8]) -> Result<usize, SinkFailed>
+        requires works { failed self.old ≡ false }
+        ensures within { IfOk result (λ n. n ≤ length piece.now) }
+        ensures some { IfOk result (λ n. piece.now ≢ [] → 0 < n) }
+        ensures took { IfOk result (λ n. Appends (taken self.old) (taken self.new) (take n piece.now)) }
+        ensures works { OnOk result (failed self.new ≡ false) }
+        ensures nothing { OnErr result (Appends (taken self.old) (taken self.new) []) }
+        ensures fails { OnErr result (failed self.new ≡ true) };
+
+    /// Whether it has refused a piece.
+    fn has_failed(&self) -> bool
+        ensures { result ≡ failed self.now };
+}
+
+/// A sink over a writer of std. An error of the writer is a failure, and so is that it takes no byte of a piece that is not empty.
+#[derive(Drop)]
+pub struct IoSink<W: Write> {
+    writer: W,
+    failed: bool,
+}
+
+impl<W: Write> IoSink<W> {
+    /// A sink that has not failed, over the writer.
+    pub fn new(writer: W) -> IoSink<W>
+        ensures writer { ⟦<IoSink<W> as Sink>⟧.taken result ≡ W.contents writer }
+        ensures works { ⟦<IoSink<W> as Sink>⟧.failed result ≡ false }
+    {
+        IoSink {
+            writer,
+            failed: false,
+        }
+    }
+
+    /// The writer.
+    pub fn into_inner(self) -> W
+        ensures { W.contents result ≡ ⟦<IoSink<W> as Sink>⟧.taken self }
+    {
+        self.writer
+    }
+}
+
+impl<W: Write> Sink for IoSink<W> {
+    ghost taken = { λ s. W.contents s.writer };
+
+    ghost failed = { λ s. s.failed };
+
+    fn put(&mut self, piece: &[u8]) -> Result<usize, SinkFailed> {
+        match self.writer.write(piece) {
+            Ok(count) if count > 0 || piece.is_empty() => Ok(count),
+            _ => {
+                self.failed = true;
+                Err(SinkFailed)
+            }
+        }
+    }
+
+    fn has_failed(&self) -> bool {
+        self.failed
+    }
+}
+
+/// Puts all of the bytes, or those that the sink takes before it refuses a piece.
+pub(crate) fn put_all<W: Sink>(sink: &mut W, bytes: &[u8]) -> Result<(), SinkFailed>
+    requires { W.failed sink.old ≡ false }
+    ensures all { OnOk result (Appends (W.taken sink.old) (W.taken sink.new) bytes.now) }
+    ensures works { OnOk result (W.failed sink.new ≡ false) }
+    ensures front { OnErr result (TookFront bytes.now (W.taken sink.old) (W.taken sink.new)) }
+    ensures fails { OnErr result (W.failed sink.new ≡ true) }
+{
+    let mut rest = bytes;
+    'pieces: while !rest.is_empty() {
+        let count = sink.put(rest)?;
+        rest = &rest[count..];
+    }
+    Ok(())
+}

@@ -1,0 +1,165 @@
+//! Runs whose text is written in pieces.
+ghost use Rattle.std.specs.Prelude.{◌≡◌, ◌≢◌, [], ◌<◌, ◌^◌, true, false, IfOk, IfErr, OnOk, OnErr, string_bytes};
+ghost use Rattle.std.specs.Io.KnownBytes.{Appends};
+ghost use Rattle.jt_value.specs.Pairs.{Pairs};
+ghost use Rattle.jt_value.specs.ContextView.{pairs_of};
+ghost use Rattle.jt_image.specs.IsCode.{IsCode};
+ghost use Rattle.jt_image.specs.Typed.{IsTyped};
+ghost use Rattle.jt_image.specs.Config as config;
+ghost use Rattle.jt_image.specs.Run.{IsSafe};
+ghost use Rattle.jt_machine.specs.Emitting.{HasWritten, HasBegun, outcome_of, emitted_by, config_behind, text_written};
+ghost use Rattle.jt_machine.specs.Sinks.{TookFront};
+ghost use Rattle.jt_machine.specs.View.{budget_view, config_view, outcome_view};
+
+use crate::outcome::{Ended, Outcome};
+use crate::sink::{Sink, SinkFailed, put_all};
+use crate::start::{context_passes, start};
+use crate::state::State;
+use crate::step::step;
+use jt_budget::Budget;
+use jt_image::{Code, code_laws};
+use jt_value::{Context, NoMemory};
+use jt_verify::Verified;
+use std::alloc::Global;
+use thiserror::Error;
+
+/// Why a run that is written was cut short.
+#[derive(Clone, Copy, Debug, PartialEq, Eq, Error)]
+pub enum RunToError {
+    /// A growth was refused.
+    #[error("no memory")]
+    NoMemory,
+    /// The sink failed.
+    #[error("a sink has failed")]
+    Write,
+}
+
+impl From<NoMemory> for RunToError {
+    ghost use Rattle.std.specs.Prelude.{◌≡◌};
+    ghost use Rattle.jt_machine.specs.declared.writing.RunToError.TheVariants as error;
+
+    ghost from_gives = { λ _ e. e ≡ error.NoMemory };
+
+    fn from(_refused: NoMemory) -> RunToError {
+        RunToError::NoMemory
+    }
+}
+
+impl From<SinkFailed> for RunToError {
+    ghost use Rattle.std.specs.Prelude.{◌≡◌};
+    ghost use Rattle.jt_machine.specs.declared.writing.RunToError.TheVariants as error;
+
+    ghost from_gives = { λ _ e. e ≡ error.Write };
+
+    fn from(_refused: SinkFailed) -> RunToError {
+        RunToError::Write
+    }
+}
+
+/// Runs an image for a context under a budget, and puts its text into a sink as it is emitted to the outermost buffer.
+///
+/// # Errors
+///
+/// `NoMemory` only where a growth was refused, and `Write` only where the sink failed. What was written is then a beginning of what
+/// the run emits.
+pub fn run_to<W: Sink>(
+    alloc: Global,
+    verified: &Verified,
+    context: &Context,
+    budget: Budget,
+    sink: &mut W,
+) -> Result<Ended, RunToError>
+    requires works { W.failed sink.old ≡ false }
+    // The run ends so, and just what it emitted to the outermost buffer is written: its text, where it is whole.
+    ensures ended { IfOk result (λ e. HasWritten verified.now (pairs_of context.now) (budget_view budget) e (W.taken sink.old) (W.taken sink.new)) }
+    // On an error a beginning of that is written.
+    ensures begun { OnErr result (HasBegun verified.now (pairs_of context.now) (budget_view budget) (W.taken sink.old) (W.taken sink.new)) }
+    // The sink has failed exactly where that is the answer.
+    ensures write { IfErr result (λ e. e ≡ RunToError.Write → W.failed sink.new ≡ true) }
+    ensures memory { IfErr result (λ e. e ≡ RunToError.NoMemory → W.failed sink.new ≡ false) }
+    ensures still { OnOk result (W.failed sink.new ≡ false) }
+    // Every run of the image has one outcome, stays within its fuel and is never wrong.
+    ensures safe { (x : Pairs) (b : config.Budget) → IsSafe verified.now x b }
+{
+    code_laws();
+    write_code(alloc, verified.image(), context, budget, sink)
+}
+
+// Runs a typed code, and puts its text into a sink.
+fn write_code<C: Code, W: Sink>(
+    alloc: Global,
+    code: &C,
+    context: &Context,
+    budget: Budget,
+    sink: &mut W,
+) -> Result<Ended, RunToError>
+    requires whole { IsCode (C.code code.now) }
+    requires typed { IsTyped (C.code code.now) }
+    requires works { W.failed sink.old ≡ false }
+    ensures ended { IfOk result (λ e. HasWritten (C.code code.now) (pairs_of context.now) (budget_view budget) e (W.taken sink.old) (W.taken sink.new)) }
+    ensures begun { OnErr result (HasBegun (C.code code.now) (pairs_of context.now) (budget_view budget) (W.taken sink.old) (W.taken sink.new)) }
+    ensures write { IfErr result (λ e. e ≡ RunToError.Write → W.failed sink.new ≡ true) }
+    ensures memory { IfErr result (λ e. e ≡ RunToError.NoMemory → W.failed sink.new ≡ false) }
+    ensures still { OnOk result (W.failed sink.new ≡ false) }
+{
+    code_laws();
+    if let Some(spent) = context_passes(code, context, &budget) {
+        return Ok(Ended::Spent(spent));
+    }
+    let _depth = budget.depth;
+    let mut state = start(alloc, code, context, budget)?;
+    'steps: loop {
+        send(&mut state, sink)?;
+        if let Some(outcome) = step(alloc, code, &mut state)? {
+            return Ok(close(outcome, sink)?);
+        }
+    }
+}
+
+// Puts what stands in the outermost buffer, and empties the buffer.
+fn send<W: Sink>(state: &mut State, sink: &mut W) -> Result<(), SinkFailed>
+    requires { W.failed sink.old ≡ false }
+    ensures all { OnOk result (Appends (W.taken sink.old) (W.taken sink.new) (emitted_by (config_view state.old))) }
+    ensures emptied { OnOk result (config_behind (emitted_by (config_view state.old)) (config_view state.new) ≡ config_view state.old) }
+    ensures works { OnOk result (W.failed sink.new ≡ false) }
+    ensures front { OnErr result (TookFront (emitted_by (config_view state.old)) (W.taken sink.old) (W.taken sink.new)) }
+    ensures fails { OnErr result (W.failed sink.new ≡ true) }
+{
+    match state.outer.first_mut() {
+        Some(outermost) => drain(outermost, sink),
+        None => drain(&mut state.buffer, sink),
+    }
+}
+
+// Puts what stands in a buffer, and empties it.
+fn drain<W: Sink>(buffer: &mut String, sink: &mut W) -> Result<(), SinkFailed>
+    requires { W.failed sink.old ≡ false }
+    ensures all { OnOk result (Appends (W.taken sink.old) (W.taken sink.new) (string_bytes buffer.old)) }
+    ensures emptied { OnOk result (string_bytes buffer.new ≡ []) }
+    ensures works { OnOk result (W.failed sink.new ≡ false) }
+    ensures front { OnErr result (TookFront (string_bytes buffer.old) (W.taken sink.old) (W.taken sink.new)) }
+    ensures fails { OnErr result (W.failed sink.new ≡ true) }
+{
+    put_all(sink, buffer.as_bytes())?;
+    buffer.clear();
+    Ok(())
+}
+
+// Puts the text that a run ended with, and says how it ended.
+fn close<W: Sink>(outcome: Outcome, sink: &mut W) -> Result<Ended, SinkFailed>
+    requires { W.failed sink.old ≡ false }
+    ensures ended { IfOk result (λ e. outcome_of e (text_written (outcome_view outcome)) ≡ outcome_view outcome) }
+    ensures all { OnOk result (Appends (W.taken sink.old) (W.taken sink.new) (text_written (outcome_view outcome))) }
+    ensures works { OnOk result (W.failed sink.new ≡ false) }
+    ensures front { OnErr result (TookFront (text_written (outcome_view outcome)) (W.taken sink.old) (W.taken sink.new)) }
+    ensures fails { OnErr result (W.failed sink.new ≡ true) }
+{
+    match outcome {
+        Outcome::Text(text) => {
+            put_all(sink, text.as_bytes())?;
+            Ok(Ended::Whole)
+        }
+        Outcome::Fault(fault) => Ok(Ended::Fault(fault)),
+        Outcome::Spent(spent) => Ok(Ended::Spent(spent)),
+    }
+}

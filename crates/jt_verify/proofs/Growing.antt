@@ -1,0 +1,144 @@
+-- An arena with one node more.
+use Rattle.std.proofs.Common.{◌≡◌, ◌≢◌, ℕ, zero, suc, ◌+◌, ◌*◌, ◌<◌, ◌≤◌, List, [], ◌∷◌, ◌++◌, length, get_or, Some, refl, sym, ap, subst, ◌∙◌, arith, inl, inr}
+use Rattle.std.specs.Prelude.{slice_get, slice_set}
+use Rattle.std.proofs.lemmas.List.{length-append, length-set, get_or_append_left, get_or_push, get_or-set_same, get_or-set_other}
+use Rattle.jt_image.specs.Effect.{Shape, pushes}
+use Rattle.jt_verify.specs.declared.links.Mark.{Mark}
+use Rattle.jt_verify.specs.declared.links.Handle.{Handle}
+use Rattle.jt_verify.specs.declared.links.Node.{Node}
+use Rattle.jt_verify.specs.declared.links.Link.TheVariants as link
+use Rattle.jt_verify.specs.Arena.{Lists, shape_in, IsIn, IsKept, StandsFor, entered, lists_of, kind_of, digit_of, IsNode, AreLinks, KeepsLinks, Finding, IsSound, IsArena}
+use Rattle.jt_verify.proofs.Numbers.{same_or, node_within, node_left, node_last, node_either, padded}
+use Rattle.jt_verify.proofs.Nodes.{finds_more, grow_push, is_new, found_is}
+
+pub kept_same : (t : Lists) → IsKept t t
+kept_same t = record { more = omega arith; same = λ i l. refl }
+
+module _ (ns : List Node) (ls : List ℕ) (a : IsArena ns ls) (n : Node) (q : ℕ) (r : List ℕ) (lt : IsIn (lists_of ns) n.below) (height : n.height ≡ length (entered (lists_of ns) n)) (f : Finding ns ls n.mark n.below (3 * n.below.node) (2 * n.below.values + digit_of n.mark) (link.Vacant q)) (set_here : get_or r q 0 ≡ suc (length ns)) (set_there : (p : ℕ) → p ≢ q → get_or r p 0 ≡ get_or ls p 0) (room : 3 * (suc (length ns) + 1) ≤ length r) where
+  abbrev more : List Node
+  more = ns ++ n ∷ []
+
+  one_more : length more ≡ suc (length ns)
+  one_more = omega (arith, length-append ns (n ∷ []))
+
+  pub lists_more : lists_of more ≡ lists_of ns ++ entered (lists_of ns) n ∷ []
+  lists_more = grow_push ([] ∷ []) ns n
+
+  at_old : (i : ℕ) → i < length (lists_of ns) → get_or (lists_of more) i [] ≡ get_or (lists_of ns) i []
+  at_old i l = ap (λ (t : Lists). get_or t i []) lists_more ∙ get_or_append_left (lists_of ns) (entered (lists_of ns) n ∷ []) [] i l
+
+  at_new : get_or (lists_of more) (suc (length ns)) [] ≡ entered (lists_of ns) n
+  at_new = ap (λ (t : Lists). get_or t (suc (length ns)) []) lists_more ∙ get_or_push (lists_of ns) (entered (lists_of ns) n) [] (suc (length ns)) a.len
+
+  length-lists : length (lists_of more) ≡ suc (suc (length ns))
+  length-lists = omega (arith, ap (λ (t : Lists). length t) lists_more, length-append (lists_of ns) (entered (lists_of ns) n ∷ []), a.len)
+
+  pub kept : IsKept (lists_of ns) (lists_of more)
+  kept = record { more = omega (arith, length-lists, a.len); same = at_old }
+
+  pub entered_kept : (x : Node) → x.below.node < length (lists_of ns) → entered (lists_of more) x ≡ entered (lists_of ns) x
+  entered_kept x l = ap (λ (s : Shape). kind_of x.mark ∷ pushes x.below.values s) (at_old x.below.node l)
+
+  keeps : KeepsLinks ls r
+  keeps p k e = set_there p (λ same. let z : get_or ls p 0 ≡ 0 = subst (λ (x : ℕ). get_or ls x 0 ≡ 0) (sym same) f.0 in absurd (omega (arith, z, e))) ∙ e
+
+  nodes_left : (m : Mark) (b : Handle) (i : ℕ) → IsNode ns m b i → IsNode more m b i
+  nodes_left m b i h = record { node = h.node; is = node_left ns n i h.node h.is; mark = h.mark; below = h.below }
+
+  links_more : AreLinks (length more) r
+  links_more = record {
+    places = omega (arith, room, one_more);
+    upward = λ p k e. elim (same_or p q) [
+      | inl s ↦ let at : get_or r p 0 ≡ suc (length ns) = subst (λ (x : ℕ). get_or r x 0 ≡ suc (length ns)) (sym s) set_here in (omega (arith, at, e, s, f.1), omega (arith, at, e, one_more))
+      | inr d ↦ let o = a.links.upward p k (sym (set_there p d) ∙ e) in (o.0, omega (arith, o.1, one_more))
+    ];
+  }
+
+  sound_new : IsSound more r (lists_of more) (length ns) n
+  sound_new = record {
+    older = omega (arith, lt, a.len);
+    shape = at_new ∙ sym (entered_kept n lt);
+    height = height ∙ ap (λ (s : Shape). length s) (sym (entered_kept n lt));
+    found = f.3 more r (length ns) keeps set_here (record { node = n; is = node_last ns n; mark = refl; below = refl });
+  }
+
+  sound_old : (i : ℕ) (x : Node) → slice_get ns i ≡ Some x → IsSound more r (lists_of more) i x
+  sound_old i x e =
+      let s = a.sound i x e in
+      let l = node_within ns i x e in
+      let same = entered_kept x (omega (arith, s.older, l, a.len)) in
+      record {
+        older = s.older;
+        shape = at_old (suc i) (omega (arith, l, a.len)) ∙ s.shape ∙ sym same;
+        height = s.height ∙ ap (λ (s : Shape). length s) (sym same);
+        found = finds_more ns more ls r x.mark x.below keeps (nodes_left x.mark x.below) (3 * x.below.node) (2 * x.below.values + digit_of x.mark) i s.found;
+      }
+
+  new_differs : (j : ℕ) → j < suc (length ns) → get_or (lists_of more) j [] ≡ get_or (lists_of more) (suc (length ns)) [] → ⊥
+  new_differs j l e = is_new ns ls a n.mark n.below lt f.2 j (omega (arith, l, a.len)) (sym (at_old j (omega (arith, l, a.len))) ∙ e ∙ at_new)
+
+  distinct_more : (i j : ℕ) → i < length (lists_of more) → j < length (lists_of more) → get_or (lists_of more) i [] ≡ get_or (lists_of more) j [] → i ≡ j
+  distinct_more i j li lj e = elim (same_or i (suc (length ns))) [
+    | inl si ↦ elim (same_or j (suc (length ns))) [
+      | inl sj ↦ si ∙ sym sj
+      | inr dj ↦ absurd (new_differs j (omega (arith, lj, dj, length-lists)) (sym e ∙ ap (λ (x : ℕ). get_or (lists_of more) x []) si))
+    ]
+    | inr di ↦ elim (same_or j (suc (length ns))) [
+      | inl sj ↦ absurd (new_differs i (omega (arith, li, di, length-lists)) (e ∙ ap (λ (x : ℕ). get_or (lists_of more) x []) sj))
+      | inr dj ↦ a.distinct i j (omega (arith, li, di, length-lists, a.len)) (omega (arith, lj, dj, length-lists, a.len)) (sym (at_old i (omega (arith, li, di, length-lists, a.len))) ∙ e ∙ at_old j (omega (arith, lj, dj, length-lists, a.len)))
+    ]
+  ]
+
+  pub arena_more : IsArena more r
+  arena_more = record {
+    len = length-lists ∙ ap suc (sym one_more);
+    links = links_more;
+    sound = λ i x e. elim (node_either ns n i x e) [
+      | inl o ↦ sound_old i x o
+      | inr w ↦ subst (λ (y : Node). IsSound more r (lists_of more) i y) w.1 (subst (λ (j : ℕ). IsSound more r (lists_of more) j n) (sym w.0) sound_new)
+    ];
+    distinct = distinct_more;
+  }
+
+-- the vacant link leads to the new node, whose own links are vacant
+module _ (ns : List Node) (ls : List ℕ) (a : IsArena ns ls) (q k : ℕ) (z : get_or ls q 0 ≡ 0) (l : q < 3 * (length ns + 1)) where
+  abbrev linked : List ℕ
+  linked = slice_set (ls ++ 0 ∷ 0 ∷ 0 ∷ []) q k
+
+  pub linked_here : get_or linked q 0 ≡ k
+  linked_here = get_or-set_same (ls ++ 0 ∷ 0 ∷ 0 ∷ []) q k 0 (omega (arith, l, a.links.places, length-append ls (0 ∷ 0 ∷ 0 ∷ [])))
+
+  pub linked_there : (p : ℕ) → p ≢ q → get_or linked p 0 ≡ get_or ls p 0
+  linked_there p d = get_or-set_other (ls ++ 0 ∷ 0 ∷ 0 ∷ []) q p k 0 d ∙ padded ls p
+
+  pub linked_room : 3 * (suc (length ns) + 1) ≤ length linked
+  linked_room = omega (arith, a.links.places, length-set (ls ++ 0 ∷ 0 ∷ 0 ∷ []) q k, length-append ls (0 ∷ 0 ∷ 0 ∷ []))
+
+  -- a mark that was not found is pushed
+  pub pushed : (m : Mark) (b : Handle) (h : ℕ) → k ≡ suc (length ns) → IsIn (lists_of ns) b → h ≡ length (shape_in (lists_of ns) b) + 1 → Finding ns ls m b (3 * b.node) (2 * b.values + digit_of m) (link.Vacant q) → IsArena (ns ++ record { mark = m; below = b; height = h } ∷ []) linked
+  pushed m b h e i height f = arena_more ns ls a (record { mark = m; below = b; height = h }) q linked i (omega (arith, height)) f (linked_here ∙ e) linked_there linked_room
+
+-- the shapes behind a push
+module _ (ns : List Node) (n : Node) (len : length (lists_of ns) ≡ suc (length ns)) where
+  pub shapes_pushed : lists_of (ns ++ n ∷ []) ≡ lists_of ns ++ entered (lists_of ns) n ∷ []
+  shapes_pushed = grow_push ([] ∷ []) ns n
+
+  pub kept_pushed : IsKept (lists_of ns) (lists_of (ns ++ n ∷ []))
+  kept_pushed = record {
+    more = omega (arith, ap (λ (t : Lists). length t) shapes_pushed, length-append (lists_of ns) (entered (lists_of ns) n ∷ []));
+    same = λ i l. ap (λ (t : Lists). get_or t i []) shapes_pushed ∙ get_or_append_left (lists_of ns) (entered (lists_of ns) n ∷ []) [] i l;
+  }
+
+  pub shape_pushed : (k : ℕ) → k ≡ suc (length ns) → (get_or (lists_of (ns ++ n ∷ [])) k [] ≡ entered (lists_of ns) n) × (k < length (lists_of (ns ++ n ∷ [])))
+  shape_pushed k e = (
+    ap (λ (t : Lists). get_or t k []) shapes_pushed ∙ get_or_push (lists_of ns) (entered (lists_of ns) n) [] k (len ∙ sym e),
+    omega (arith, e, len, ap (λ (t : Lists). length t) shapes_pushed, length-append (lists_of ns) (entered (lists_of ns) n ∷ [])),
+  )
+
+-- what was looked up, in the lists that are meant
+pub found_pushed : (ns xs : List Node) (ls ys : List ℕ) → IsArena ns ls → (m : Mark) (b : Handle) (d k : ℕ) → xs ≡ ns → Finding xs ys m b (3 * b.node) d (link.To k) → StandsFor (lists_of ns) k (kind_of m ∷ shape_in (lists_of ns) b)
+found_pushed ns xs ls ys a m b d k e f = found_is ns ls a m b (3 * b.node) d k (f.0, f.1, subst (λ (zs : List Node). IsNode zs m b f.0) e f.2)
+
+pub vacant_pushed : (ns xs : List Node) (ls ys : List ℕ) (m : Mark) (b : Handle) (d q : ℕ) → xs ≡ ns → ys ≡ ls → d ≡ 2 * b.values + digit_of m → Finding xs ys m b (3 * b.node) d (link.Vacant q) → Finding ns ls m b (3 * b.node) (2 * b.values + digit_of m) (link.Vacant q)
+vacant_pushed ns xs ls ys m b d q e f g h =
+    subst (λ (c : ℕ). Finding ns ls m b (3 * b.node) c (link.Vacant q)) g (subst (λ (zs : List ℕ). Finding ns zs m b (3 * b.node) d (link.Vacant q)) f (subst (λ (zs : List Node). Finding zs ys m b (3 * b.node) d (link.Vacant q)) e h))

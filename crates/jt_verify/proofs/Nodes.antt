@@ -1,0 +1,188 @@
+-- What is known of an arena: no two handles stand for one shape.
+use Rattle.std.proofs.Common.{◌≡◌, ◌≢◌, ℕ, zero, suc, ◌+◌, ◌-◌, ◌*◌, ◌/◌, ◌%◌, ◌<◌, ◌≤◌, Bool, true, false, List, [], ◌∷◌, ◌++◌, length, get_or, Some, None, Result, Ok, Err, MatchBool, refl, sym, ap, subst, ◌∙◌, arith}
+use Rattle.std.specs.Prelude.{slice_get}
+use Rattle.std.proofs.lemmas.List.{length-append, get_or_append_left}
+use Rattle.jt_image.specs.declared.kind.Kind.{Kind}
+use Rattle.jt_image.specs.declared.kind.Kind.TheVariants as kind
+use Rattle.jt_image.specs.declared.kind.Flaw.{Flaw}
+use Rattle.jt_image.specs.declared.kind.Flaw.TheVariants as flaw
+use Rattle.jt_image.specs.Effect.{Shape, Leads, pops, pops_many, pushes}
+use Rattle.jt_verify.specs.declared.links.Mark.{Mark}
+use Rattle.jt_verify.specs.declared.links.Mark.TheVariants as mark
+use Rattle.jt_verify.specs.declared.links.Handle.{Handle}
+use Rattle.jt_verify.specs.declared.links.Node.{Node}
+use Rattle.jt_verify.specs.declared.links.Link.{Link}
+use Rattle.jt_verify.specs.declared.links.Link.TheVariants as link
+use Rattle.jt_verify.specs.Arena.{Lists, shape_in, IsIn, entered, grow, lists_of, kind_of, digit_of, IsNode, Finds, here, along, KeepsLinks, LeadsTo, AreLinks, Finding, IsSound, IsArena}
+use Rattle.jt_verify.proofs.Numbers.{some_node, node_within}
+use Rattle.jt_verify.proofs.Values.{HasNoValue, pushes_same, length-pushes, pops_too_many, below_values}
+
+-- ---- looking a mark up
+
+module _ (ns : List Node) (ls : List ℕ) (m : Mark) (b : Handle) where
+  none_there : (p d i : ℕ) → Finds ns ls m b p d i → get_or ls p 0 ≡ 0 → ⊥
+  none_there _ _ _ (here p d i e h) z = absurd (omega (arith, z, e))
+  none_there _ _ _ (along p d i k e f) z = absurd (omega (arith, z, e))
+
+  goes_along : (k p d i : ℕ) → Finds ns ls m b p d i → get_or ls p 0 ≡ suc k → (IsNode ns m b k → ⊥) → Finds ns ls m b (3 * suc k + 1 + d % 2) (d / 2) i
+  goes_along k _ _ _ (here p d i e h) link_is other = let same : i ≡ k = omega (arith, e, link_is) in absurd (other (subst (λ (j : ℕ). IsNode ns m b j) same h))
+  goes_along k _ _ _ (along p d i j e f) link_is other = let same : j ≡ k = omega (arith, e, link_is) in subst (λ (x : ℕ). Finds ns ls m b (3 * suc x + 1 + d % 2) (d / 2) i) same f
+
+  pub vacant_here : (p d : ℕ) → get_or ls p 0 ≡ 0 → p < 3 * (length ns + 1) → Finding ns ls m b p d (link.Vacant p)
+  vacant_here p d z lt = (z, lt, λ i f. none_there p d i f z, λ r s i keeps link_is node_is. here p d i link_is node_is)
+
+  pub found_along : (p d k : ℕ) (r : Link) → get_or ls p 0 ≡ suc k → (IsNode ns m b k → ⊥) → Finding ns ls m b (3 * suc k + 1 + d % 2) (d / 2) r → Finding ns ls m b p d r
+  found_along p d k (link.To n) link_is other h = h
+  found_along p d k (link.Vacant q) link_is other h = (h.0, h.1, λ i f. h.2 i (goes_along k p d i f link_is other), λ r s i keeps new_is node_is. along p d i k (keeps p k link_is) (h.3 r s i keeps new_is node_is))
+
+  -- one step of looking up, by the node's number
+  pub goes_on_from : (p d k : ℕ) (n : Node) (r : Link) → get_or ls p 0 ≡ k → 0 < k → slice_get ns (k - 1) ≡ Some n → (n.mark ≡ m → n.below ≢ b) → Finding ns ls m b (3 * k + 1 + d % 2) (d / 2) r → Finding ns ls m b p d r
+  goes_on_from p d zero n r e l is other h = absurd (omega arith)
+  goes_on_from p d (suc k) n r e l is other h = found_along p d k r e (λ x. differs x) h
+    where
+      same : suc k - 1 ≡ k
+      same = omega arith
+
+      one : (x y : Node) → Some x ≡ Some y → x ≡ y
+      one x y q = cc
+
+      differs : IsNode ns m b k → ⊥
+      differs x =
+          let nodes = one n x.node (sym is ∙ subst (λ (j : ℕ). slice_get ns j ≡ Some x.node) (sym same) x.is) in
+          other (ap (λ (y : Node). y.mark) nodes ∙ x.mark) (ap (λ (y : Node). y.below) nodes ∙ x.below)
+
+  pub found_here : (p d k : ℕ) (n : Node) → 0 < k → slice_get ns (k - 1) ≡ Some n → n.mark ≡ m → n.below ≡ b → Finding ns ls m b p d (link.To k)
+  found_here p d zero n l is e f = absurd (omega arith)
+  found_here p d (suc k) n l is e f = let same : suc k - 1 ≡ k = omega arith in (k, refl, record { node = n; is = subst (λ (j : ℕ). slice_get ns j ≡ Some n) same is; mark = e; below = f })
+
+-- a link leads to a node, and upward
+pub link_up : (n : ℕ) (ls : List ℕ) → AreLinks n ls → (p k : ℕ) → k ≡ get_or ls p 0 → 0 < k → (p < 3 * k) × (k ≤ n)
+link_up n ls a p zero e l = absurd (omega arith)
+link_up n ls a p (suc k) e l = let u = a.upward p k (sym e) in (u.0, omega (arith, u.1))
+
+-- links that lead to more nodes still lead to these
+pub finds_more : (ns rs : List Node) (ls r : List ℕ) (m : Mark) (b : Handle) → KeepsLinks ls r → ((i : ℕ) → IsNode ns m b i → IsNode rs m b i) → (p d i : ℕ) → Finds ns ls m b p d i → Finds rs r m b p d i
+finds_more ns rs ls r m b keeps nodes _ _ _ (here p d i e h) = here p d i (keeps p i e) (nodes i h)
+finds_more ns rs ls r m b keeps nodes _ _ _ (along p d i k e f) = along p d i k (keeps p k e) (finds_more ns rs ls r m b keeps nodes _ _ _ f)
+
+-- ---- the shapes of nodes
+
+pub grow_push : (t : Lists) (ns : List Node) (n : Node) → grow t (ns ++ n ∷ []) ≡ grow t ns ++ entered (grow t ns) n ∷ []
+grow_push t [] n = refl
+grow_push t (x ∷ ns) n = grow_push (t ++ entered t x ∷ []) ns n
+
+grow_front : (t : Lists) (ns : List Node) (i : ℕ) → i < length t → get_or (grow t ns) i [] ≡ get_or t i []
+grow_front t [] i lt = refl
+grow_front t (n ∷ ns) i lt = grow_front (t ++ entered t n ∷ []) ns i (omega (arith, length-append t (entered t n ∷ []))) ∙ get_or_append_left t (entered t n ∷ []) [] i lt
+
+pub bottom : (ns : List Node) → get_or (lists_of ns) 0 [] ≡ []
+bottom ns = grow_front ([] ∷ []) ns 0 (omega arith)
+
+marked : (m : Mark) (s : Shape) → HasNoValue (kind_of m ∷ s)
+marked mark.Frame s = tt
+marked mark.Capture s = tt
+
+kind_same : (m n : Mark) → kind_of m ≡ kind_of n → m ≡ n
+kind_same mark.Frame mark.Frame e = refl
+kind_same mark.Capture mark.Capture e = refl
+kind_same mark.Frame mark.Capture e = absurd cc
+kind_same mark.Capture mark.Frame e = absurd cc
+
+handle_same : (h g : Handle) → h.values ≡ g.values → h.node ≡ g.node → h ≡ g
+handle_same h g e f = subst (λ (n : ℕ). h ≡ record { values = g.values; node = n }) f (subst (λ (v : ℕ). h ≡ record { values = v; node = h.node }) e refl)
+
+head_same : (j k : Kind) (r s : Shape) → j ∷ r ≡ k ∷ s → j ≡ k
+head_same j k r s e = cc
+
+tail_same : (j k : Kind) (r s : Shape) → j ∷ r ≡ k ∷ s → r ≡ s
+tail_same j k r s e = cc
+
+module _ (ns : List Node) (ls : List ℕ) (a : IsArena ns ls) where
+  -- what is known of the node of a number
+  pub node_is : (k : ℕ) (n : Node) → 0 < k → slice_get ns (k - 1) ≡ Some n → (get_or (lists_of ns) k [] ≡ entered (lists_of ns) n) × (n.below.node < k) × (n.height ≡ length (entered (lists_of ns) n))
+  node_is zero n l e = absurd (omega arith)
+  node_is (suc i) n l e =
+      let same : suc i - 1 ≡ i = omega arith in
+      let s = a.sound i n (subst (λ (j : ℕ). slice_get ns j ≡ Some n) same e) in
+      (s.shape, omega (arith, s.older), s.height)
+
+  no_value : (i : ℕ) → i < length (lists_of ns) → HasNoValue (get_or (lists_of ns) i [])
+  no_value zero lt = subst (λ (s : Shape). HasNoValue s) (sym (bottom ns)) tt
+  no_value (suc i) lt =
+      let n = some_node ns i (omega (arith, a.len)) in
+      let s = a.sound i n.0 n.1 in
+      subst (λ (s : Shape). HasNoValue s) (sym s.shape) (marked n.0.mark (shape_in (lists_of ns) n.0.below))
+
+  -- different handles stand for different shapes
+  pub handles_same : (h g : Handle) → IsIn (lists_of ns) h → IsIn (lists_of ns) g → shape_in (lists_of ns) h ≡ shape_in (lists_of ns) g → h ≡ g
+  handles_same h g l m e =
+      let r = pushes_same h.values g.values (get_or (lists_of ns) h.node []) (get_or (lists_of ns) g.node []) (no_value h.node l) (no_value g.node m) e in
+      handle_same h g r.0 (a.distinct h.node g.node l m r.1)
+
+  -- a mark that links don't lead to is on no node
+  pub is_new : (m : Mark) (b : Handle) → IsIn (lists_of ns) b → ((i : ℕ) → Finds ns ls m b (3 * b.node) (2 * b.values + digit_of m) i → ⊥) → (j : ℕ) → j < length (lists_of ns) → get_or (lists_of ns) j [] ≡ kind_of m ∷ shape_in (lists_of ns) b → ⊥
+  is_new m b lt none zero l e = let f : ◌≡◌ {A = Shape} [] (kind_of m ∷ shape_in (lists_of ns) b) = sym (bottom ns) ∙ e in absurd cc
+  is_new m b lt none (suc j) l e =
+      let n = some_node ns j (omega (arith, a.len)) in
+      let s = a.sound j n.0 n.1 in
+      let same : entered (lists_of ns) n.0 ≡ kind_of m ∷ shape_in (lists_of ns) b = sym s.shape ∙ e in
+      let marks = kind_same n.0.mark m (head_same (kind_of n.0.mark) (kind_of m) (shape_in (lists_of ns) n.0.below) (shape_in (lists_of ns) b) same) in
+      let shapes = tail_same (kind_of n.0.mark) (kind_of m) (shape_in (lists_of ns) n.0.below) (shape_in (lists_of ns) b) same in
+      let below = handles_same n.0.below b (omega (arith, s.older, a.len, l)) lt shapes in
+      none j (subst (λ (x : Handle). Finds ns ls m x (3 * x.node) (2 * x.values + digit_of m) j) below (subst (λ (y : Mark). Finds ns ls y n.0.below (3 * n.0.below.node) (2 * n.0.below.values + digit_of y) j) marks s.found))
+
+  -- ---- what is read of a handle
+
+  at_bottom : (h : Handle) → h.node ≡ 0 → get_or (lists_of ns) h.node [] ≡ []
+  at_bottom h z = subst (λ (k : ℕ). get_or (lists_of ns) k [] ≡ []) (sym z) (bottom ns)
+
+  pub height_at_bottom : (h : Handle) → h.node ≡ 0 → h.values ≡ length (shape_in (lists_of ns) h)
+  height_at_bottom h z = omega (arith, length-pushes h.values (get_or (lists_of ns) h.node []), ap (λ (s : Shape). length s) (at_bottom h z))
+
+  pub height_on_node : (h : Handle) (n : Node) → 0 < h.node → slice_get ns (h.node - 1) ≡ Some n → h.values + n.height ≡ length (shape_in (lists_of ns) h)
+  height_on_node h n l e = let k = node_is h.node n l e in omega (arith, length-pushes h.values (get_or (lists_of ns) h.node []), ap (λ (s : Shape). length s) k.0, k.2)
+
+  pub empty_is : (h : Handle) → h.values ≡ 0 → h.node ≡ 0 → shape_in (lists_of ns) h ≡ []
+  empty_is h e z = ap (λ (v : ℕ). pushes v (get_or (lists_of ns) h.node [])) e ∙ at_bottom h z
+
+  pub top_is : (h : Handle) (n : Node) → h.values ≡ 0 → 0 < h.node → IsIn (lists_of ns) h → slice_get ns (h.node - 1) ≡ Some n → (shape_in (lists_of ns) h ≡ kind_of n.mark ∷ shape_in (lists_of ns) n.below) × (n.below.node < length (lists_of ns))
+  top_is h n e l i is = let k = node_is h.node n l is in (ap (λ (v : ℕ). pushes v (get_or (lists_of ns) h.node [])) e ∙ k.0, omega (arith, k.1, i))
+
+  pub equal_is : (r : Bool) (h g : Handle) → IsIn (lists_of ns) h → IsIn (lists_of ns) g → MatchBool r (h ≡ g) (h ≢ g) → MatchBool r (shape_in (lists_of ns) h ≡ shape_in (lists_of ns) g) (shape_in (lists_of ns) h ≢ shape_in (lists_of ns) g)
+  equal_is true h g l m e = ap (λ (x : Handle). shape_in (lists_of ns) x) e
+  equal_is false h g l m e = λ s. e (handles_same h g l m s)
+
+  pub pops_nothing : (h : Handle) (n : ℕ) → h.values < n → h.node ≡ 0 → (go : Shape → Result Leads Flaw) → pops_many n (shape_in (lists_of ns) h) go ≡ Err flaw.MissingOperand
+  pops_nothing h n l z = pops_too_many n h.values (get_or (lists_of ns) h.node []) flaw.MissingOperand l (λ go. ap (λ (s : Shape). pops s go) (at_bottom h z))
+
+  pub pops_a_mark : (h : Handle) (n : ℕ) (x : Node) → h.values < n → 0 < h.node → slice_get ns (h.node - 1) ≡ Some x → (go : Shape → Result Leads Flaw) → pops_many n (shape_in (lists_of ns) h) go ≡ Err flaw.WrongKind
+  pops_a_mark h n x l some is =
+      let k = node_is h.node x some is in
+      pops_too_many n h.values (get_or (lists_of ns) h.node []) flaw.WrongKind l (λ go. ap (λ (s : Shape). pops s go) k.0 ∙ wrong x.mark (shape_in (lists_of ns) x.below) go)
+    where
+      wrong : (m : Mark) (s : Shape) (go : Shape → Result Leads Flaw) → pops (kind_of m ∷ s) go ≡ Err flaw.WrongKind
+      wrong mark.Frame s go = refl
+      wrong mark.Capture s go = refl
+
+  pub kind_at_bottom : (h : Handle) (i : ℕ) → h.node ≡ 0 → h.values ≤ i → slice_get (shape_in (lists_of ns) h) i ≡ None
+  kind_at_bottom h i z l = below_values h.values (get_or (lists_of ns) h.node []) i l ∙ ap (λ (s : Shape). slice_get s (i - h.values)) (at_bottom h z)
+
+  pub kind_at_mark : (h : Handle) (n : Node) (i : ℕ) → 0 < h.node → slice_get ns (h.node - 1) ≡ Some n → i ≡ h.values → slice_get (shape_in (lists_of ns) h) i ≡ Some (kind_of n.mark)
+  kind_at_mark h n i l is e =
+      let k = node_is h.node n l is in
+      let zero_left : i - h.values ≡ 0 = omega (arith, e) in
+      below_values h.values (get_or (lists_of ns) h.node []) i (omega (arith, e)) ∙ ap (λ (s : Shape). slice_get s (i - h.values)) k.0 ∙ ap (λ (j : ℕ). slice_get (entered (lists_of ns) n) j) zero_left
+
+  pub kind_under_mark : (h : Handle) (n : Node) (i j : ℕ) → 0 < h.node → slice_get ns (h.node - 1) ≡ Some n → i ≡ h.values + suc j → slice_get (shape_in (lists_of ns) h) i ≡ slice_get (shape_in (lists_of ns) n.below) j
+  kind_under_mark h n i j l is e =
+      let k = node_is h.node n l is in
+      let left : i - h.values ≡ suc j = omega (arith, e) in
+      below_values h.values (get_or (lists_of ns) h.node []) i (omega (arith, e)) ∙ ap (λ (s : Shape). slice_get s (i - h.values)) k.0 ∙ ap (λ (x : ℕ). slice_get (entered (lists_of ns) n) x) left
+
+  -- a node that is found is that mark on that handle
+  pub found_is : (m : Mark) (b : Handle) (p d k : ℕ) → Finding ns ls m b p d (link.To k) → (get_or (lists_of ns) k [] ≡ kind_of m ∷ shape_in (lists_of ns) b) × (k < length (lists_of ns))
+  found_is m b p d k f =
+      let x = f.2 in
+      let s = a.sound f.0 x.node x.is in
+      let here_is : get_or (lists_of ns) (suc f.0) [] ≡ kind_of m ∷ shape_in (lists_of ns) b = s.shape ∙ ap (λ (y : Mark). kind_of y ∷ shape_in (lists_of ns) x.node.below) x.mark ∙ ap (λ (y : Handle). kind_of m ∷ shape_in (lists_of ns) y) x.below in
+      (ap (λ (j : ℕ). get_or (lists_of ns) j []) f.1 ∙ here_is, omega (arith, f.1, node_within ns f.0 x.node x.is, a.len))

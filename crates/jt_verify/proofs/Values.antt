@@ -1,0 +1,54 @@
+-- Values on top of a shape.
+use Rattle.std.proofs.Common.{◌≡◌, ℕ, zero, suc, ◌+◌, ◌-◌, ◌<◌, ◌≤◌, [], ◌∷◌, length, Some, Result, Err, refl, sym, ap, subst, ◌∙◌, arith}
+use Rattle.std.specs.Prelude.{slice_get}
+use Rattle.jt_image.specs.declared.kind.Kind.TheVariants as kind
+use Rattle.jt_image.specs.declared.kind.Flaw.{Flaw}
+use Rattle.jt_image.specs.Effect.{Shape, Leads, pops, pops_many, pushes}
+
+pub length-pushes : (n : ℕ) (s : Shape) → length (pushes n s) ≡ n + length s
+length-pushes zero s = omega arith
+length-pushes (suc n) s = omega (arith, length-pushes n s)
+
+pub one_pushed : (n : ℕ) (s : Shape) → 0 < n → pushes n s ≡ kind.Value ∷ pushes (n - 1) s
+one_pushed zero s l = absurd (omega arith)
+one_pushed (suc n) s l = let same : n ≡ suc n - 1 = omega arith in ap (λ (k : ℕ). kind.Value ∷ pushes k s) same
+
+pub pushes_both : (n m : ℕ) (s : Shape) → pushes (n + m) s ≡ pushes m (pushes n s)
+pushes_both n zero s = let same : n + 0 ≡ n = omega arith in ap (λ (k : ℕ). pushes k s) same
+pushes_both n (suc m) s = let same : n + suc m ≡ suc (n + m) = omega arith in ap (λ (k : ℕ). pushes k s) same ∙ ap (λ (r : Shape). kind.Value ∷ r) (pushes_both n m s)
+
+-- as many values as there are
+pub pops_values : (n v : ℕ) (s : Shape) (go : Shape → Result Leads Flaw) → n ≤ v → pops_many n (pushes v s) go ≡ go (pushes (v - n) s)
+pops_values zero v s go l = let same : v ≡ v - 0 = omega arith in ap (λ (k : ℕ). go (pushes k s)) same
+pops_values (suc n) zero s go l = absurd (omega arith)
+pops_values (suc n) (suc v) s go l = let same : v - n ≡ suc v - suc n = omega arith in pops_values n v s go (omega arith) ∙ ap (λ (k : ℕ). go (pushes k s)) same
+
+-- more than there are: the entry below them has the flaw
+pub pops_too_many : (n v : ℕ) (s : Shape) (f : Flaw) → v < n → ((go : Shape → Result Leads Flaw) → pops s go ≡ Err f) → (go : Shape → Result Leads Flaw) → pops_many n (pushes v s) go ≡ Err f
+pops_too_many zero v s f l h go = absurd (omega arith)
+pops_too_many (suc n) zero s f l h go = h (λ r. pops_many n r go)
+pops_too_many (suc n) (suc v) s f l h go = pops_too_many n v s f (omega arith) h go
+
+pub value_at : (v : ℕ) (s : Shape) (a : ℕ) → a < v → slice_get (pushes v s) a ≡ Some kind.Value
+value_at zero s a l = absurd (omega arith)
+value_at (suc v) s zero l = refl
+value_at (suc v) s (suc a) l = value_at v s a (omega arith)
+
+pub below_values : (v : ℕ) (s : Shape) (a : ℕ) → v ≤ a → slice_get (pushes v s) a ≡ slice_get s (a - v)
+below_values zero s a l = let same : a ≡ a - 0 = omega arith in ap (λ (k : ℕ). slice_get s k) same
+below_values (suc v) s zero l = absurd (omega arith)
+below_values (suc v) s (suc a) l = let same : a - v ≡ suc a - suc v = omega arith in below_values v s a (omega arith) ∙ ap (λ (k : ℕ). slice_get s k) same
+
+-- ---- a shape with no value at the top
+
+abbrev pub HasNoValue : Shape → Type 0
+HasNoValue [] = Unit {0}
+HasNoValue (kind.Value ∷ s) = ⊥
+HasNoValue (kind.Frame ∷ s) = Unit {0}
+HasNoValue (kind.Capture ∷ s) = Unit {0}
+
+pub pushes_same : (v w : ℕ) (x y : Shape) → HasNoValue x → HasNoValue y → pushes v x ≡ pushes w y → (v ≡ w) × (x ≡ y)
+pushes_same zero zero x y a b e = (refl, e)
+pushes_same zero (suc w) x y a b e = absurd (subst (λ (s : Shape). HasNoValue s) e a)
+pushes_same (suc v) zero x y a b e = absurd (subst (λ (s : Shape). HasNoValue s) (sym e) b)
+pushes_same (suc v) (suc w) x y a b e = let f : pushes v x ≡ pushes w y = cc in let r = pushes_same v w x y a b f in (ap suc r.0, r.1)

@@ -1,0 +1,38 @@
+use Rattle.std.proofs.Common.{◌+◌, List, length, ap, arith}
+use Rattle.jt_verify.specs.declared.links.Node.{Node}
+use Rattle.jt_verify.proofs.Growing.{kept_same, found_pushed, vacant_pushed, pushed, kept_pushed, shape_pushed}
+use Rattle.jt_verify.proofs.arena.push_in.Goals as goal
+
+pub find-requires-clause-links : goal.find-requires-clause-links
+find-requires-clause-links c = rw (c.as_slice.ensures, c.as_slice-2.ensures) c.requires.arena.links
+
+pub find-requires-clause-place : goal.find-requires-clause-place
+find-requires-clause-place c = rw c.as_slice.ensures (omega (arith, c.requires.within, c.requires.arena.len))
+
+pub returns-in-To-clause-kept : goal.returns-in-To-clause-kept
+returns-in-To-clause-kept c = kept_same _
+
+pub returns-in-To-clause-node : goal.returns-in-To-clause-node
+returns-in-To-clause-node c = found_pushed c.args.nodes.now.items c.as_slice.result.now c.args.links.now.items c.as_slice-2.result.now c.requires.arena c.args.mark c.args.shape c.digits.result c.in-To.node c.as_slice.ensures c.in-To.ensures
+
+pub add-requires : goal.add-requires
+add-requires c = omega (arith, c.in-Vacant.ensures.1, c.requires.arena.links.places, ap (λ (ns : List Node). length ns) c.as_slice.ensures)
+
+pub returns-in_err-node-in-Vacant-clause-arena : goal.returns-in_err-node-in-Vacant-clause-arena
+returns-in_err-node-in-Vacant-clause-arena c = rw (c.in_err-node-in-Vacant.ensures.err.0, c.in_err-node-in-Vacant.ensures.err.1) c.requires.arena
+
+pub returns-in_err-node-in-Vacant-clause-kept : goal.returns-in_err-node-in-Vacant-clause-kept
+returns-in_err-node-in-Vacant-clause-kept c = rw c.in_err-node-in-Vacant.ensures.err.0 (kept_same _)
+
+pub returns-in_ok-node-in-Vacant-clause-arena : goal.returns-in_ok-node-in-Vacant-clause-arena
+returns-in_ok-node-in-Vacant-clause-arena c =
+    let ns = c.args.nodes.now.items in
+    let ls = c.args.links.now.items in
+    let f = vacant_pushed ns c.as_slice.result.now ls c.as_slice-2.result.now c.args.mark c.args.shape c.digits.result c.in-Vacant.place c.as_slice.ensures c.as_slice-2.ensures c.digits.ensures c.in-Vacant.ensures in
+    rw (c.in_ok-node-in-Vacant.ensures.nodes, c.in_ok-node-in-Vacant.ensures.links) (pushed ns ls c.requires.arena c.in-Vacant.place c.in_ok-node-in-Vacant.node f.0 f.1 c.args.mark c.args.shape c.args.height (omega (arith, c.in_ok-node-in-Vacant.ensures.node)) c.requires.within c.requires.height f)
+
+pub returns-in_ok-node-in-Vacant-clause-kept : goal.returns-in_ok-node-in-Vacant-clause-kept
+returns-in_ok-node-in-Vacant-clause-kept c = rw c.in_ok-node-in-Vacant.ensures.nodes (kept_pushed c.args.nodes.now.items (record { mark = c.args.mark; below = c.args.shape; height = c.args.height }) c.requires.arena.len)
+
+pub returns-in_ok-node-in-Vacant-clause-node : goal.returns-in_ok-node-in-Vacant-clause-node
+returns-in_ok-node-in-Vacant-clause-node c = rw c.in_ok-node-in-Vacant.ensures.nodes (shape_pushed c.args.nodes.now.items (record { mark = c.args.mark; below = c.args.shape; height = c.args.height }) c.requires.arena.len c.in_ok-node-in-Vacant.node (omega (arith, c.in_ok-node-in-Vacant.ensures.node)))

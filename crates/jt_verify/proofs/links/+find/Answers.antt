@@ -1,0 +1,25 @@
+use Rattle.std.proofs.Common.{◌≡◌, ◌%◌, ◌<◌, get_or, sym, ◌∙◌, arith}
+use Rattle.jt_verify.proofs.Nodes.{link_up, vacant_here, found_here, goes_on_from}
+use Rattle.jt_verify.proofs.links.+find.Goals as goal
+
+pub node_at-node-requires-clause-within : goal.node_at-node-requires-clause-within
+node_at-node-requires-clause-within t c = (link_up _ c.args.links.now c.requires.links c.args.place c.link_at-next.result c.link_at-next.ensures (omega (arith, c.if-next-eq0.false))).1
+
+pub find-requires : goal.find-requires
+find-requires t c =
+    let up = link_up _ c.args.links.now c.requires.links c.args.place c.link_at-next.result c.link_at-next.ensures (omega (arith, c.if-next-eq0.false)) in
+    let digit : c.args.digits % 2 < 2 = omega arith in
+    (omega (arith, c.decreases, up.0, up.1, digit, c.requires.place, c.requires.links.places), (c.requires.links, omega (arith, up.1, digit)))
+
+pub returns-then-next-eq0 : goal.returns-then-next-eq0
+returns-then-next-eq0 t c = vacant_here c.args.nodes.now c.args.links.now c.args.mark c.args.below c.args.place c.args.digits (sym c.link_at-next.ensures ∙ c.if-next-eq0.true) c.requires.place
+
+pub returns-then-is_entry : goal.returns-then-is_entry
+returns-then-is_entry t c =
+    let e = rw c.if-is_entry.true at c.is_entry.ensures in
+    found_here c.args.nodes.now c.args.links.now c.args.mark c.args.below c.args.place c.args.digits c.link_at-next.result c.node_at-node.result (omega (arith, c.if-next-eq0.false)) c.node_at-node.ensures e.0 e.1
+
+pub returns : goal.returns
+returns t c =
+    let e = rw c.if-is_entry.false at c.is_entry.ensures in
+    goes_on_from c.args.nodes.now c.args.links.now c.args.mark c.args.below c.args.place c.args.digits c.link_at-next.result c.node_at-node.result c.find.result (sym c.link_at-next.ensures) (omega (arith, c.if-next-eq0.false)) c.node_at-node.ensures e c.find.ensures

@@ -1,0 +1,220 @@
+//! The shapes of a unit, each kept once.
+ghost use Rattle.std.specs.Prelude.{◌≡◌, ◌≢◌, ℕ, ◌+◌, ◌-◌, ◌^◌, ◌<◌, ◌≤◌, [], ◌∷◌, ◌++◌, length, slice_get, slice_set, IfOk, OnOk, OnErr, MatchBool};
+ghost use Rattle.jt_image.specs.Effect.{may_return, pushes};
+ghost use Rattle.jt_image.specs.Typed.{max_entries};
+ghost use Rattle.jt_verify.specs.Arena.{shape_in, IsIn, IsKept, StandsFor, Pops, PopsMany, kind_of, lists_of, IsArena};
+
+use crate::links::{Handle, Link, Mark, Node, digits, find, is_same, node_at};
+use jt_image::{Flaw, Kind};
+use smallvec::SmallVec;
+use std::alloc::{AllocError, Global};
+use std::marker::Model;
+
+/// Shapes, each kept once. Contracts see the shape of each node.
+#[derive(Drop)]
+pub(crate) struct Arena {
+    nodes: SmallVec<Node, 32>,
+    // three of each number of a node, and of 0: to the first mark on it, and to two further ones on what it stands on
+    links: SmallVec<u32, 128>,
+}
+
+impl Model for Arena {
+    ghost use Rattle.std.specs.Prelude.{List};
+    ghost use Rattle.jt_image.specs.declared.kind.Kind.{Kind};
+
+    ghost Value = { List (List Kind) };
+
+    ghost use Rattle.jt_verify.specs.Arena.{lists_of, IsArena};
+
+    ghost view = { λ a. lists_of a.nodes.items };
+
+    ghost invariant = { λ a. IsArena a.nodes.items a.links.items };
+}
+
+impl Arena {
+    /// The arena of the empty shape.
+    pub(crate) fn new(alloc: Global) -> Result<Arena, AllocError>
+        ensures { IfOk result (λ a. a ≡ [] ∷ []) }
+    {
+        Ok(Arena {
+            nodes: SmallVec::new(alloc),
+            links: SmallVec::from_slice(alloc, &[0; 3])?,
+        })
+    }
+
+    /// How many entries there are.
+    pub(crate) fn height(&self, shape: Handle) -> usize
+        requires { IsIn self.now shape }
+        ensures length { result ≡ length (shape_in self.now shape) }
+        ensures fits { result < 2 ^ 33 }
+    {
+        let nodes = self.nodes.as_slice();
+        if shape.node == 0 {
+            return shape.values as usize;
+        }
+        shape.values as usize + node_at(nodes, shape.node).height as usize
+    }
+
+    /// Whether two shapes are equal.
+    pub(crate) fn is_equal(&self, left: Handle, right: Handle) -> bool
+        requires left { IsIn self.now left }
+        requires right { IsIn self.now right }
+        ensures { MatchBool result (shape_in self.now left ≡ shape_in self.now right) (shape_in self.now left ≢ shape_in self.now right) }
+    {
+        let _nodes = &self.nodes;
+        is_same(left, right)
+    }
+
+    /// The entry at the top, and the shape below it.
+    pub(crate) fn pop(&self, shape: Handle) -> Option<(Kind, Handle)>
+        requires { IsIn self.now shape }
+        ensures { Pops self.now (shape_in self.now shape) result }
+    {
+        let nodes = self.nodes.as_slice();
+        if shape.values > 0 {
+            return Some((
+                Kind::Value,
+                Handle {
+                    values: shape.values - 1,
+                    node: shape.node,
+                },
+            ));
+        }
+        if shape.node == 0 {
+            return None;
+        }
+        let node = node_at(nodes, shape.node);
+        Some((node.mark.kind(), node.below))
+    }
+
+    /// The shape below that many values.
+    pub(crate) fn pop_values(&self, shape: Handle, count: usize) -> Result<Handle, Flaw>
+        requires { IsIn self.now shape }
+        ensures { PopsMany self.now count (shape_in self.now shape) result }
+    {
+        let nodes = self.nodes.as_slice();
+        if count <= shape.values as usize {
+            return Ok(Handle {
+                values: shape.values - count as u32,
+                node: shape.node,
+            });
+        }
+        if shape.node == 0 {
+            return Err(Flaw::MissingOperand);
+        }
+        let _node = node_at(nodes, shape.node);
+        Err(Flaw::WrongKind)
+    }
+
+    /// That many values on top of a shape that they don't make too long.
+    pub(crate) fn push_values(&self, shape: Handle, count: u32) -> Handle
+        requires within { IsIn self.now shape }
+        requires small { length (shape_in self.now shape) + count ≤ max_entries + 1 }
+        ensures shape { shape_in self.now result ≡ pushes count (shape_in self.now shape) }
+        ensures within { IsIn self.now result }
+    {
+        Handle {
+            values: shape.values + count,
+            node: shape.node,
+        }
+    }
+
+    /// The kind of the entry that has so many entries above it.
+    pub(crate) fn kind_below(&self, shape: Handle, above: u32) -> Option<Kind>
+        requires { IsIn self.now shape }
+        ensures { result ≡ slice_get (shape_in self.now shape) above }
+    {
+        let nodes = self.nodes.as_slice();
+        let mut rest = shape;
+        let mut left = above;
+        'marks: while left >= rest.values && rest.node != 0 {
+            let node = node_at(nodes, rest.node);
+            if left == rest.values {
+                return Some(node.mark.kind());
+            }
+            left -= rest.values + 1;
+            rest = node.below;
+        }
+        if left < rest.values {
+            Some(Kind::Value)
+        } else {
+            None
+        }
+    }
+
+    /// A mark on top of a shape that is not too long, with what was there before.
+    pub(crate) fn push(&mut self, shape: Handle, mark: Mark) -> Result<Handle, AllocError>
+        requires within { IsIn self.old shape }
+        requires small { length (shape_in self.old shape) < max_entries }
+        ensures shape { IfOk result (λ h. shape_in self.new h ≡ kind_of mark ∷ shape_in self.old shape) }
+        ensures within { IfOk result (λ h. IsIn self.new h) }
+        ensures kept { IsKept self.old self.new }
+    {
+        let height = self.height(shape) as u32 + 1;
+        let node = push_in(&mut self.nodes, &mut self.links, shape, mark, height)?;
+        Ok(Handle { values: 0, node })
+    }
+}
+
+// The node of a mark on a shape, which is added unless it is there.
+fn push_in(
+    nodes: &mut SmallVec<Node, 32>,
+    links: &mut SmallVec<u32, 128>,
+    shape: Handle,
+    mark: Mark,
+    height: u32,
+) -> Result<u32, AllocError>
+    requires arena { IsArena nodes.old.items links.old.items }
+    requires within { IsIn (lists_of nodes.old.items) shape }
+    requires height { height ≡ length (shape_in (lists_of nodes.old.items) shape) + 1 }
+    ensures arena { IsArena nodes.new.items links.new.items }
+    ensures kept { IsKept (lists_of nodes.old.items) (lists_of nodes.new.items) }
+    ensures node { IfOk result (λ k. StandsFor (lists_of nodes.new.items) k (kind_of mark ∷ shape_in (lists_of nodes.old.items) shape)) }
+{
+    match find(
+        nodes.as_slice(),
+        links.as_slice(),
+        mark,
+        shape,
+        3 * shape.node as usize,
+        digits(mark, shape.values),
+    ) {
+        Link::To(node) => Ok(node),
+        Link::Vacant(place) => {
+            let below = shape;
+            let added = Node {
+                mark,
+                below,
+                height,
+            };
+            let node = add(nodes, links, added, place)?;
+            Ok(node)
+        }
+    }
+}
+
+// One node more, to which the link at a place leads from now on. The answer is its number.
+fn add(
+    nodes: &mut SmallVec<Node, 32>,
+    links: &mut SmallVec<u32, 128>,
+    added: Node,
+    place: usize,
+) -> Result<u32, AllocError>
+    requires { place < length links.old.items }
+    ensures node { IfOk result (λ k. k ≡ length nodes.old.items + 1) }
+    ensures nodes { OnOk result (nodes.new.items ≡ nodes.old.items ++ added ∷ []) }
+    ensures links { IfOk result (λ k. links.new.items ≡ slice_set (links.old.items ++ 0 ∷ 0 ∷ 0 ∷ []) place k) }
+    ensures err { OnErr result ((nodes.new.items ≡ nodes.old.items) × (links.new.items ≡ links.old.items)) }
+{
+    let Ok(last) = u32::try_from(nodes.len()) else {
+        return Err(AllocError);
+    };
+    let Some(node) = last.checked_add(1) else {
+        return Err(AllocError);
+    };
+    nodes.reserve(1)?;
+    links.extend_from_slice(&[0; 3])?;
+    nodes.push_reserved(added);
+    links[place] = node;
+    Ok(node)
+}

@@ -1,0 +1,132 @@
+//! The nodes of an arena, and the links by which a node is found from the one that it stands on.
+ghost use Rattle.std.specs.Prelude.{◌≡◌, ◌≢◌, ◌+◌, ◌-◌, ◌*◌, ◌<◌, ◌≤◌, length, get_or, slice_get, Some, MatchBool};
+ghost use Rattle.jt_verify.specs.Arena.{kind_of, digit_of, AreLinks, Finding};
+
+use jt_image::Kind;
+
+/// An entry that is no value.
+#[derive(Clone, Copy)]
+pub(crate) enum Mark {
+    Frame,
+    Capture,
+}
+
+impl Mark {
+    /// The kind of the entry.
+    pub(crate) fn kind(self) -> Kind
+        ensures { result ≡ kind_of self }
+    {
+        match self {
+            Mark::Frame => Kind::Frame,
+            Mark::Capture => Kind::Capture,
+        }
+    }
+}
+
+/// A shape of an arena: so many values on top of a node. Number 0 is no node: nothing lies below the values.
+#[derive(Clone, Copy)]
+pub(crate) struct Handle {
+    pub(crate) values: u32,
+    pub(crate) node: u32,
+}
+
+/// An entry that is no value, the shape below it, and the number of entries up to this one.
+#[derive(Clone, Copy)]
+pub(crate) struct Node {
+    pub(crate) mark: Mark,
+    pub(crate) below: Handle,
+    pub(crate) height: u32,
+}
+
+impl Default for Node {
+    fn default() -> Node {
+        Node {
+            mark: Mark::Frame,
+            below: Handle { values: 0, node: 0 },
+            height: 0,
+        }
+    }
+}
+
+/// A node, or the place of the link that would lead to it.
+#[derive(Clone, Copy)]
+pub(crate) enum Link {
+    To(u32),
+    Vacant(usize),
+}
+
+/// Whether two handles are the same.
+pub(crate) fn is_same(left: Handle, right: Handle) -> bool
+    ensures { MatchBool result (left ≡ right) (left ≢ right) }
+{
+    left.values == right.values && left.node == right.node
+}
+
+// Whether two marks are the same.
+fn is_same_mark(left: Mark, right: Mark) -> bool
+    ensures { MatchBool result (left ≡ right) (left ≢ right) }
+{
+    matches!(
+        (left, right),
+        (Mark::Frame, Mark::Frame) | (Mark::Capture, Mark::Capture)
+    )
+}
+
+/// The node of a number.
+pub(crate) fn node_at(nodes: &[Node], node: u32) -> Node
+    requires some { 0 < node }
+    requires within { node ≤ length nodes.now }
+    ensures { slice_get nodes.now (node - 1) ≡ Some result }
+{
+    nodes[node as usize - 1]
+}
+
+// The node to which a link leads, or 0.
+fn link_at(links: &[u32], place: usize) -> u32
+    requires { place < length links.now }
+    ensures { result ≡ get_or links.now place 0 }
+{
+    links[place]
+}
+
+// Whether a node is this mark on this handle.
+fn is_entry(node: Node, mark: Mark, below: Handle) -> bool
+    ensures { MatchBool result ((node.mark ≡ mark) × (node.below ≡ below)) (node.mark ≡ mark → node.below ≢ below) }
+{
+    is_same_mark(node.mark, mark) && is_same(node.below, below)
+}
+
+/// The digits by which a mark is looked up among those on one node: the mark's, then those of the number of values between.
+pub(crate) fn digits(mark: Mark, values: u32) -> usize
+    ensures { result ≡ 2 * values + digit_of mark }
+{
+    match mark {
+        Mark::Frame => 2 * values as usize,
+        Mark::Capture => 2 * values as usize + 1,
+    }
+}
+
+/// Looks a mark on a shape up, from a place on: at each node that is another one, the next digit says by which link to go on.
+pub(crate) fn find(
+    nodes: &[Node],
+    links: &[u32],
+    mark: Mark,
+    below: Handle,
+    place: usize,
+    digits: usize,
+) -> Link
+    requires links { AreLinks (length nodes.now) links.now }
+    requires place { place < 3 * (length nodes.now + 1) }
+    ensures { Finding nodes.now links.now mark below place digits result }
+{
+    let next = link_at(links, place);
+    if next == 0 {
+        return Link::Vacant(place);
+    }
+    let node = node_at(nodes, next);
+    if is_entry(node, mark, below) {
+        return Link::To(next);
+    }
+    let further = 3 * next as usize + 1 + digits % 2;
+    find(nodes, links, mark, below, further, digits / 2)
+}
