@@ -4,7 +4,7 @@ ghost use Rattle.jt_image.specs.Effect.{may_return, pushes};
 ghost use Rattle.jt_image.specs.Typed.{max_entries};
 ghost use Rattle.jt_verify.specs.Arena.{shape_in, IsIn, IsKept, StandsFor, Pops, PopsMany, kind_of, lists_of, IsArena};
 
-use crate::links::{Handle, Link, Mark, Node, digits, find, is_same, node_at};
+use crate::links::{Handle, Link, Mark, Node, digits, find, height_of, is_same, jump_on, node_at};
 use jt_image::{Flaw, Kind};
 use smallvec::SmallVec;
 use std::alloc::{AllocError, Global};
@@ -132,8 +132,17 @@ impl Arena {
             if left == rest.values {
                 return Some(node.mark.kind());
             }
-            left -= rest.values + 1;
-            rest = node.below;
+            let over = node.height - height_of(nodes, node.jump.to);
+            if left - rest.values >= over {
+                left -= rest.values + over;
+                rest = Handle {
+                    values: 0,
+                    node: node.jump.to,
+                };
+            } else {
+                left -= rest.values + 1;
+                rest = node.below;
+            }
         }
         if left < rest.values {
             Some(Kind::Value)
@@ -182,10 +191,12 @@ fn push_in(
         Link::To(node) => Ok(node),
         Link::Vacant(place) => {
             let below = shape;
+            let jump = jump_on(nodes.as_slice(), below.node);
             let added = Node {
                 mark,
                 below,
                 height,
+                jump,
             };
             let node = add(nodes, links, added, place)?;
             Ok(node)
