@@ -129,18 +129,19 @@ impl Arena {
         let mut left = above;
         'marks: while left >= rest.values && rest.node != 0 {
             let node = node_at(nodes, rest.node);
-            if left == rest.values {
+            let under = left - rest.values;
+            if under == 0 {
                 return Some(node.mark.kind());
             }
-            let over = node.height - height_of(nodes, node.jump.to);
-            if left - rest.values >= over {
-                left -= rest.values + over;
+            let between = node.height - height_of(nodes, node.jump.to);
+            if under >= between {
+                left = under - between;
                 rest = Handle {
                     values: 0,
                     node: node.jump.to,
                 };
             } else {
-                left -= rest.values + 1;
+                left = under - 1;
                 rest = node.below;
             }
         }
