@@ -5,8 +5,6 @@
 #[cfg(test)]
 mod budget;
 #[cfg(test)]
-mod ended;
-#[cfg(test)]
 mod image;
 #[cfg(test)]
 mod loops;
@@ -14,14 +12,6 @@ mod loops;
 mod machine;
 #[cfg(test)]
 mod pieces;
-#[cfg(test)]
-mod plain;
-#[cfg(test)]
-mod plain_loops;
-#[cfg(test)]
-mod plain_making;
-#[cfg(test)]
-mod plain_rows;
 #[cfg(test)]
 mod rows;
 #[cfg(test)]

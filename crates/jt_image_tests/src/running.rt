@@ -42,8 +42,8 @@ fn outcome_of_verified(
     }
 }
 
-/// An outcome, in words.
-pub(crate) fn told(alloc: Global, outcome: &Outcome) -> Result<String, Fail> {
+/// An outcome.
+fn told(alloc: Global, outcome: &Outcome) -> Result<String, Fail> {
     match outcome {
         Outcome::Text(text) => Ok(format!(in alloc; "text {text}")?),
         Outcome::Fault(fault) => Ok(format!(in alloc; "fault {fault:?}")?),

@@ -1,22 +1,60 @@
-//! The machine comes to the same end as the plain machine, with every fuel from 0 to 200.
+//! The machine comes to the same end as the plain machine, with every fuel from 0 to 200: on images written by hand, and on those of
+//! all rows of sources.
 
 use crate::ended::End;
 use crate::plain::plain_end;
-use crate::running::{AMPLE, told};
+use crate::rendering::{
+    CHAINS, FILTERS, MACROS, OVER_ITEMS, STATEMENTS, Shelf, WHITESPACE, WORKED, templates_of,
+    unfolded,
+};
 use jt_budget::Budget;
-use jt_image::{Image, decode};
-use jt_machine::run;
-use jt_value::{Context, Value};
-use jt_verify::{Verified, verify};
+use jt_codegen::compile;
+use jt_host::context_from_json;
+use jt_image::{Image, decode, encode, view};
+use jt_machine::{Outcome, run, run_view};
+use jt_scan::Options;
+use jt_value::{Context, NoMemory, Value};
+use jt_verify::{Verified, VerifiedView, verify, verify_view};
 use std::alloc::Global;
 use std::process::Abort;
 use std::test::Fail;
+
+/// The fuel up to which the ends are compared.
+const MOST_FUEL: u64 = 200;
+
+/// Limits that no row reaches.
+const AMPLE: Budget = Budget {
+    fuel: MOST_FUEL,
+    depth: 64,
+    output: 1_000,
+    size: 1_000,
+    nesting: 32,
+};
+
+/// Limits that one value of 80 bytes passes.
+const NARROW: Budget = Budget {
+    fuel: MOST_FUEL,
+    depth: 10,
+    output: 79,
+    size: 81,
+    nesting: 1,
+};
+
+/// Limits that most rows reach.
+const TINY: Budget = Budget {
+    fuel: MOST_FUEL,
+    depth: 1,
+    output: 3,
+    size: 4,
+    nesting: 0,
+};
 
 /// Images that the verifier accepts, each with what it does: all instructions are among them.
 const IMAGES: &str = r"
     Z: 4a5442430100000000000000010000000000020000001b000000000000001c00000000000000
     Y with Drop as instruction 1: 4a5442430100000000000200030501000000610100000000000900000001000000000000000600000000000000010000000100000012000000000000000a000000060000001800000000000000170000000000000006000000000000001c00000000000000
     X: 4a54424301000000000001000501000000780100000000000200000009000000000000001c00000000000000
+    X that jumps to its beginning: 4a5442430100000000000100050100000078010000000000020000000a000000000000001c00000000000000
     loop fields behind the last item: 4a54424301000000000002000502000000616205010000002c010000000000250000000100000000000000120000000000000013000000040000000a00000002000000140000000000000008000000000000000900000001000000140100000000000008000000000000000900000001000000140200000000000008000000000000000900000001000000140300000000000008000000000000000900000001000000140400000000000008000000000000000900000001000000140500000000000008000000000000000900000001000000140600000000000008000000000000000900000001000000140700000000000008000000000000000900000001000000140800000000000008000000000000000900000001000000140900000000000008000000000000000900000001000000170000000000000008000000000000001c00000000000000
     a doubled key keeps its place and takes the later value: 4a544243010000000000030005010000006b05010000006c0403000000000000000100000001001400000001000000000000000100000001000000010000000100000001000000000000000100000000000000010000000200000011000000030000000e090100000000001200000000000000130000001100000014000000000000001a0000000200000003000000000000000800000000000000020000000000000008000000000000000a00000009000000170000000000000006000000000000001c00000000000000
     a callee emits into the caller's capture: 4a544243010000000000010005010000006102000000000007000000000000000200000018000000000000001b0000000100000019000000000000000700000000000000080000000000000008000000000000001c0000000000000009000000000000001c00000000000000
@@ -57,25 +95,35 @@ fn bytes_of(alloc: Global, digits: &str) -> Result<Vec<u8>, Fail> {
     Ok(bytes)
 }
 
-fn verified_of(alloc: Global, digits: &str) -> Result<Verified, Fail> {
-    let bytes = bytes_of(alloc, digits)?;
-    let Ok(image) = decode(alloc, &bytes) else {
-        return Err(Fail::from("decode"));
-    };
+fn verified_of(alloc: Global, image: Image) -> Result<Verified, Fail> {
     match verify(alloc, image) {
         Ok(verified) => Ok(verified),
         Err(_) => Err(Fail::from("verify")),
     }
 }
 
-// The end of a run of the plain machine, as `told` says it.
-fn told_plainly(
-    alloc: Global,
-    image: &Image,
-    context: &Context,
-    budget: Budget,
-) -> Result<String, Fail> {
-    match plain_end(alloc, image, context, budget) {
+fn view_of(alloc: Global, bytes: &[u8]) -> Result<VerifiedView<'_>, Fail> {
+    let Ok(view) = view(alloc, bytes) else {
+        return Err(Fail::from("view"));
+    };
+    match verify_view(alloc, view) {
+        Ok(verified) => Ok(verified),
+        Err(_) => Err(Fail::from("verify_view")),
+    }
+}
+
+// The end of a run of the machine, in words.
+fn told(alloc: Global, answer: Result<Outcome, NoMemory>) -> Result<String, Fail> {
+    match answer? {
+        Outcome::Text(text) => Ok(format!(in alloc; "text {text}")?),
+        Outcome::Fault(fault) => Ok(format!(in alloc; "fault {fault:?}")?),
+        Outcome::Spent(spent) => Ok(format!(in alloc; "spent {spent}")?),
+    }
+}
+
+// The end of a run of the plain machine, in the same words.
+fn told_plainly(alloc: Global, end: End) -> Result<String, Fail> {
+    match end {
         End::Text(text) => Ok(format!(in alloc; "text {text}")?),
         End::Fault(fault) => Ok(format!(in alloc; "fault {fault:?}")?),
         End::Spent(spent) => Ok(format!(in alloc; "spent {spent}")?),
@@ -84,7 +132,40 @@ fn told_plainly(
     }
 }
 
-// Whether the two machines agree on an image with every fuel.
+// An image, and the same one in place, with what it is run for.
+#[derive(Drop)]
+struct Case<'a> {
+    name: &'a str,
+    verified: &'a Verified,
+    in_place: VerifiedView<'a>,
+    context: &'a Context,
+}
+
+// Whether the machines agree on a case with every fuel, within the other limits of a budget.
+fn agree_within(
+    rt: &(impl Abort + AllocGlobal),
+    case: &Case<'_>,
+    limits: Budget,
+) -> Result<(), Fail> {
+    let alloc = rt.alloc();
+    let name = case.name;
+    for fuel in 0..=MOST_FUEL {
+        let budget = Budget { fuel, ..limits };
+        let end = plain_end(alloc, case.verified.image(), case.context, budget);
+        let wanted = told_plainly(alloc, end)?;
+        let found = told(alloc, run(alloc, case.verified, case.context, budget))?;
+        assert_eq!(rt; found.as_str(), wanted.as_str(), "{name}, fuel {fuel}");
+        let found = told(alloc, run_view(alloc, &case.in_place, case.context, budget))?;
+        assert_eq!(rt;
+            found.as_str(),
+            wanted.as_str(),
+            "{name} in place, fuel {fuel}"
+        );
+    }
+    Ok(())
+}
+
+// Whether the machines agree on an image for a context.
 fn agree(
     rt: &(impl Abort + AllocGlobal),
     name: &str,
@@ -92,17 +173,15 @@ fn agree(
     context: &Context,
 ) -> Result<(), Fail> {
     let alloc = rt.alloc();
-    for fuel in 0..201 {
-        let budget = Budget { fuel, ..AMPLE };
-        let Ok(outcome) = run(alloc, verified, context, budget) else {
-            return Err(Fail::from("run"));
-        };
-        let wanted = told_plainly(alloc, verified.image(), context, budget)?;
-        assert_eq!(rt;
-            told(alloc, &outcome)?.as_str(),
-            wanted.as_str(),
-            "{name}, fuel {fuel}"
-        );
+    let bytes = encode(alloc, verified.image())?;
+    let case = Case {
+        name,
+        verified,
+        in_place: view_of(alloc, &bytes)?,
+        context,
+    };
+    for limits in [AMPLE, NARROW, TINY] {
+        agree_within(rt, &case, limits)?;
     }
     Ok(())
 }
@@ -117,17 +196,82 @@ fn context_of(alloc: Global, value: Value) -> Result<Context, Fail> {
 }
 
 #[test]
-fn the_machine_ends_as_the_plain_one(rt: HostRuntime) -> Result<(), Fail> {
+fn images_end_as_on_the_plain_machine(rt: HostRuntime) -> Result<(), Fail> {
     let alloc = rt.alloc();
     let empty = Context::new(alloc);
     let seven = context_of(alloc, Value::Int(7))?;
     let list = context_of(alloc, Value::list(alloc, vec![in alloc; Value::Int(1)]?)?)?;
     for row in IMAGES.trim().lines() {
         let (name, digits) = row.trim().split_once(": ").ok_or("a row has no image")?;
-        let verified = verified_of(alloc, digits)?;
+        let Ok(image) = decode(alloc, &bytes_of(alloc, digits)?) else {
+            return Err(Fail::from("decode"));
+        };
+        let verified = verified_of(alloc, image)?;
         agree(&rt, name, &verified, &empty)?;
         agree(&rt, name, &verified, &seven)?;
         agree(&rt, name, &verified, &list)?;
+    }
+    Ok(())
+}
+
+// Whether the machines agree on the image of sources, where these are not refused.
+fn sources_agree(
+    rt: &(impl Abort + AllocGlobal),
+    asked: &str,
+    options: Options,
+) -> Result<(), Fail> {
+    let alloc = rt.alloc();
+    let (shelf, context) = templates_of(alloc, asked)?;
+    let Ok(image) = compile(alloc, "t", &shelf, options) else {
+        return Ok(());
+    };
+    let verified = verified_of(alloc, image)?;
+    let Ok(context) = context_from_json(alloc, &context) else {
+        return Err(Fail::from("a row has no context"));
+    };
+    agree(rt, asked, &verified, &context)
+}
+
+// The same of rows, one a line.
+fn rows_agree(rt: &(impl Abort + AllocGlobal), rows: &str) -> Result<(), Fail> {
+    for row in rows.lines() {
+        let (asked, _) = row
+            .trim_start()
+            .split_once(" => ")
+            .ok_or("a row has no =>")?;
+        let asked = unfolded(rt.alloc(), asked)?;
+        sources_agree(rt, &asked, Options::new())?;
+    }
+    Ok(())
+}
+
+#[test]
+fn rows_end_as_on_the_plain_machine(rt: HostRuntime) -> Result<(), Fail> {
+    for rows in [
+        WORKED, STATEMENTS, CHAINS, MACROS, FILTERS, OVER_ITEMS, WHITESPACE,
+    ] {
+        rows_agree(&rt, rows)?;
+    }
+    Ok(())
+}
+
+#[test]
+fn sources_without_a_row_end_as_on_the_plain_machine(rt: HostRuntime) -> Result<(), Fail> {
+    let trimming = Options {
+        trim_blocks: true,
+        lstrip_blocks: true,
+        ..Options::new()
+    };
+    for source in [
+        "",
+        "x",
+        "Hello",
+        "{% macro m() %}{{ m() }}{% endmacro %}{{ m() }}",
+        "{{ '=' * 80 }}",
+        "a\r\nb\rc",
+        "  {% if true %}\n  x\n  {% endif %}\n",
+    ] {
+        sources_agree(&rt, source, trimming)?;
     }
     Ok(())
 }
