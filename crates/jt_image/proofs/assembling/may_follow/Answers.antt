@@ -1,4 +1,4 @@
-use Rattle.std.proofs.Common.{◌∙◌, sym, ap, arith, nat_cmp, string_bytes, List, ℕ}
+use Rattle.std.proofs.Common.{◌∙◌, sym, ap, arith, nat_cmp, List, ℕ}
 use Rattle.std.specs.Ordering.{is_lt}
 use Rattle.std.specs.Cmp.Lexicographic.{slice_cmp}
 use Rattle.jt_image.specs.View.{name_view}
