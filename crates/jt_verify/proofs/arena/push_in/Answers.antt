@@ -17,10 +17,10 @@ pub returns-in-To-clause-node : goal.returns-in-To-clause-node
 returns-in-To-clause-node c = found_pushed c.args.nodes.now.items c.as_slice.result.now c.args.links.now.items c.as_slice-2.result.now c.requires.arena c.args.mark c.args.shape c.digits.result c.in-To.node c.as_slice.ensures c.in-To.ensures
 
 pub jump_on-jump-requires-clause-within : goal.jump_on-jump-requires-clause-within
-jump_on-jump-requires-clause-within c = rw c.as_slice-3.ensures (omega (arith, c.requires.within, c.requires.arena.len))
+jump_on-jump-requires-clause-within c = rw c.as_slice-in-Vacant.ensures (omega (arith, c.requires.within, c.requires.arena.len))
 
 pub jump_on-jump-requires-clause-jumps : goal.jump_on-jump-requires-clause-jumps
-jump_on-jump-requires-clause-jumps c = rw c.as_slice-3.ensures c.requires.arena.jumps
+jump_on-jump-requires-clause-jumps c = rw c.as_slice-in-Vacant.ensures c.requires.arena.jumps
 
 pub add-requires : goal.add-requires
 add-requires c = omega (arith, c.in-Vacant.ensures.1, c.requires.arena.links.places, ap (λ (ns : List Node). length ns) c.as_slice.ensures)
@@ -37,7 +37,7 @@ returns-in_ok-node-in-Vacant-clause-arena c =
     let ls = c.args.links.now.items in
     let f = vacant_pushed ns c.as_slice.result.now ls c.as_slice-2.result.now c.args.mark c.args.shape c.digits.result c.in-Vacant.place c.as_slice.ensures c.as_slice-2.ensures c.digits.ensures c.in-Vacant.ensures in
     let jump = c.jump_on-jump.result in
-    let way = subst (λ (xs : List Node). (jump.to ≤ c.args.shape.node) × IsUnder (lists_of xs) jump.to (get_or (lists_of xs) c.args.shape.node [])) c.as_slice-3.ensures (c.jump_on-jump.ensures.older, c.jump_on-jump.ensures.under) in
+    let way = subst (λ (xs : List Node). (jump.to ≤ c.args.shape.node) × IsUnder (lists_of xs) jump.to (get_or (lists_of xs) c.args.shape.node [])) c.as_slice-in-Vacant.ensures (c.jump_on-jump.ensures.older, c.jump_on-jump.ensures.under) in
     rw (c.in_ok-node-in-Vacant.ensures.nodes, c.in_ok-node-in-Vacant.ensures.links) (pushed ns ls c.requires.arena c.in-Vacant.place c.in_ok-node-in-Vacant.node f.0 f.1 c.args.mark c.args.shape c.args.height jump (omega (arith, c.in_ok-node-in-Vacant.ensures.node)) c.requires.within c.requires.height way f)
 
 pub returns-in_ok-node-in-Vacant-clause-kept : goal.returns-in_ok-node-in-Vacant-clause-kept
