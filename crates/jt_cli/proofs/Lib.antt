@@ -1,3 +1,8 @@
 mod Endings
+mod Fuel
 mod Gathering
+mod Opening
+mod Rounds
+mod Sessions
+mod Turning
 pub mod Taking

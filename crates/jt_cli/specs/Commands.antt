@@ -1,5 +1,5 @@
 -- What each command comes to: what it reads from the files, how it ends and what it leaves.
-use Rattle.std.specs.Prelude.{◌≡◌, ◌≢◌, ◌⊎◌, ℕ, List, [], ◌++◌, Option, Some, None, Result, Ok, Err, String, codes, string_bytes}
+use Rattle.std.specs.Prelude.{◌≡◌, ◌≢◌, ◌⊎◌, ◌<◌, ℕ, List, [], ◌∷◌, ◌++◌, length, Contains, Option, Some, None, Result, Ok, Err, String, codes, string_bytes}
 use Rattle.std.specs.Fmt.{decimal}
 use Rattle.std.specs.declared.alloc.Global.{Global}
 use Rattle.std.specs.Io.KnownBytes.{Appends, Keeps}
@@ -9,18 +9,26 @@ use Rattle.jt_value.specs.Pairs.{Pairs}
 use Rattle.jt_inherit.specs.Chains.{Given}
 use Rattle.jt_parse.specs.Trees.{Text}
 use Rattle.jt_budget.specs.declared.Budget.{Budget}
+use Rattle.jt_image.specs.Code.{Code}
+use Rattle.jt_image.specs.Config.{Outcome}
+use Rattle.jt_image.specs.Run.{Run}
+use Rattle.jt_machine.specs.View.{budget_view}
+use Rattle.jt_host.specs.declared.HostError.TheVariants as host_error
 use Rattle.jt_host.specs.Json.{IsContext}
+use Rattle.jt_host.specs.Turns.{max_sessions}
 use Rattle.jt_host.specs.Rendering.{IsRefused as IsUncompiled}
 use Rattle.jt_line.specs.Line.{IsAsked}
 use Rattle.jt_line.specs.declared.Command.{Command}
 use Rattle.jt_line.specs.declared.Command.TheVariants as command
 use Rattle.jt_line.specs.declared.Job.{Job}
 use Rattle.jt_line.specs.declared.Options.{Options as LineOptions}
+use Rattle.jt_line.specs.declared.Pair.{Pair}
 use Rattle.jt_cli.specs.declared.messages.Failure.{Failure}
 use Rattle.jt_cli.specs.declared.messages.Failure.TheVariants as failure
 use Rattle.jt_cli.specs.Ending.{code_of, status_of}
 use Rattle.jt_cli.specs.Files.{Known, IsLibrary}
-use Rattle.jt_cli.specs.Program.{ComesTo, IsCounted, IsImage, IsNoContext, IsNoImage, RendersTo, scan_options}
+use Rattle.jt_cli.specs.Lines.{session_lines}
+use Rattle.jt_cli.specs.Program.{ComesTo, IsCounted, IsImage, IsImageOf, IsNoContext, IsNoImage, RendersTo, scan_options}
 
 -- how a command ends: with the text that it prints, or with a failure
 abbrev pub Ending : Type 0
@@ -88,6 +96,39 @@ module _ (files : Known) where
     pub given : IsContextAt files context pairs
     pub comes : RendersTo sources name options pairs b e
 
+module _ (files : Known) (b : Budget) where
+  -- the image of a pair runs for the context of the pair, and its run ends so
+  pub record IsOutcome (p : Pair) (o : Outcome) : Type 0 where
+    pub bytes : List ℕ
+    pub held : files.holds (string_bytes p.image) bytes
+    pub pairs : Pairs
+    pub given : IsContextAt files (Some p.context) pairs
+    pub code : Code
+    pub image : IsImageOf bytes code
+    pub runs : Run code pairs (budget_view b) o
+
+  -- each image runs for its context as if alone, and ends so
+  abbrev pub AreOutcomes : List Pair → List Outcome → Type 0
+  AreOutcomes [] [] = Unit {0}
+  AreOutcomes [] (o ∷ os) = ⊥
+  AreOutcomes (p ∷ ps) [] = ⊥
+  AreOutcomes (p ∷ ps) (o ∷ os) = IsOutcome p o × AreOutcomes ps os
+
+-- some pair gives no session: a file fails, that of the context spells none, or that of the image is none that is accepted
+pub record GivesNoSession (files : Known) (ps : List Pair) (e : Failure) : Type 0 where
+  pub pair : Pair
+  pub among : Contains ps pair
+  pub why : IsUnread files (Some pair.context) (Err e)
+      ⊎ ((bytes : List ℕ) × files.holds (string_bytes pair.image) bytes × IsNoImage bytes e)
+
+-- The images of pairs run for their contexts in turns: the line of each, whatever the turns are; or why there is none. The host is full
+-- only where there are more than 64.
+abbrev pub TakesTurns : Known → List Pair → Budget → Ending → Type 0
+TakesTurns files ps b (Ok text) = (os : List Outcome) × AreOutcomes files b ps os × (string_bytes text ≡ session_lines 1 os)
+TakesTurns files ps b (Err failure.NoMemory) = Unit {0}
+TakesTurns files ps b (Err (failure.Host e)) = (e ≡ host_error.Full) × (max_sessions < length ps)
+TakesTurns files ps b (Err e) = GivesNoSession files ps e
+
 module _ (files after : Known) where
   -- the template of a name, from the files of a directory, is compiled to an image at a path
   pub record Compiles (dir name out : Text) (options : ScanOptions) (e : Ending) : Type 0 where
@@ -107,6 +148,7 @@ module _ (files after : Known) where
   CommandEnds (command.Run image context) o b e = IsUnread files context e ⊎ Runs files (string_bytes image) context b e
   CommandEnds (command.Render dir name context) o b e =
       IsUnread files context e ⊎ Renders files (string_bytes dir) (string_bytes name) (scan_options o) context b e
+  CommandEnds (command.Turns sessions) o b e = TakesTurns files sessions.items b e
 
   abbrev pub JobEnds : Job → Ending → Type 0
   JobEnds j = CommandEnds j.command j.options j.budget

@@ -61,7 +61,7 @@ pub fn image_of(
 }
 
 /// The image that bytes spell, verified.
-fn verified_of(alloc: Global, bytes: &[u8]) -> Result<Verified, Failure>
+pub fn verified_of(alloc: Global, bytes: &[u8]) -> Result<Verified, Failure>
     ensures { VerifiesTo bytes.now result }
 {
     let image = match decode(alloc, bytes) {

@@ -7,6 +7,7 @@ mod machine;
 mod messages;
 mod program;
 mod templates;
+mod turns;
 
 use crate::machine::Machine;
 use crate::messages::Failure;
@@ -60,5 +61,7 @@ fn perform_on(rt: &HostRuntime, words: &[String]) -> u8 {
 mod refusals;
 #[cfg(test)]
 mod rows;
+#[cfg(test)]
+mod sessions;
 #[cfg(test)]
 mod tests;

@@ -16,6 +16,7 @@ use crate::commands::{context_of, counts_of, image_of, render_text, run_image, s
 use crate::files::{FileError, Files};
 use crate::messages::{Failure, Status, no_file};
 use crate::templates::Templates;
+use crate::turns::take_turns;
 use jt_budget::Budget;
 use jt_line::{Command, Job, job};
 use jt_scan::Options;
@@ -93,6 +94,7 @@ fn done<F: Files>(alloc: Global, words: &[&str], files: &mut F) -> Result<String
 
 /// Does what a job asks for, but for printing. The text is what it prints.
 fn carried_out<F: Files>(alloc: Global, job: Job, files: &mut F) -> Result<String, Failure>
+    requires { 1 ≤ job.slice }
     ensures ends { JobEnds (F.known files.old) (F.known files.new) job result }
     ensures kept { ¬ IsCompile job.command → files.new ≡ files.old }
     ensures unwritten { IfErr result (λ e. status_of e ≢ Status.File → status_of e ≢ Status.Memory → files.new ≡ files.old) }
@@ -102,6 +104,7 @@ fn carried_out<F: Files>(alloc: Global, job: Job, files: &mut F) -> Result<Strin
         command,
         options,
         budget,
+        slice,
     } = job;
     let options = scan_options(options);
     match command {
@@ -111,6 +114,7 @@ fn carried_out<F: Files>(alloc: Global, job: Job, files: &mut F) -> Result<Strin
         Command::Render { dir, name, context } => {
             render_in(alloc, files, dir, &name, options, context, budget)
         }
+        Command::Turns { sessions } => take_turns(alloc, files, sessions, budget, slice),
     }
 }
 
@@ -177,7 +181,11 @@ fn render_in<F: Files>(
 }
 
 /// The context in a file, or the empty one where there is no file.
-fn context_at<F: Files>(alloc: Global, files: &F, path: Option<String>) -> Result<Context, Failure>
+pub fn context_at<F: Files>(
+    alloc: Global,
+    files: &F,
+    path: Option<String>,
+) -> Result<Context, Failure>
     ensures given { IfOk result (λ context. IsContextAt (F.known files.now) path (pairs_of context)) }
     ensures err { IfErr result (λ e. IsUnread (F.known files.now) path (Err e)) }
 {
@@ -191,7 +199,7 @@ fn context_at<F: Files>(alloc: Global, files: &F, path: Option<String>) -> Resul
 }
 
 /// The bytes of the file at `path`.
-fn bytes_at<F: Files>(files: &F, path: String) -> Result<Vec<u8>, Failure>
+pub fn bytes_at<F: Files>(files: &F, path: String) -> Result<Vec<u8>, Failure>
     ensures held { IfOk result (λ bytes. (F.known files.now).holds (string_bytes path) bytes.items) }
     ensures err { IfErr result (λ e. IsUnread (F.known files.now) None (Err e)) }
 {

@@ -2,7 +2,7 @@ use crate::files::{FileError, Files};
 use crate::machine::Machine;
 use crate::program::perform;
 use jt_budget::Budget;
-use jt_line::{Command, DEFAULT, Job, Options, USUAL, job};
+use jt_line::{Command, DEFAULT, Job, Options, SLICE, USUAL, job};
 use std::alloc::Global;
 use std::process::Abort;
 use std::test::Fail;
@@ -562,7 +562,8 @@ fn reads_a_line(rt: HostRuntime) -> Result<(), Fail> {
                         context: None,
                     },
                     options: USUAL,
-                    budget
+                    budget,
+                    slice: SLICE,
                 },
             "{words:?}"
         );
@@ -610,7 +611,8 @@ fn reads_a_line_of_compile(rt: HostRuntime) -> Result<(), Fail> {
                 == Job {
                     command,
                     options,
-                    budget: DEFAULT
+                    budget: DEFAULT,
+                    slice: SLICE,
                 },
             "{words:?}"
         );

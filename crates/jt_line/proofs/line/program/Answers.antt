@@ -17,6 +17,8 @@ returns c =
     ∙ ap₂ with_subcommand first (ap (λ (a : App). a.top) c.in_ok-check.ensures.0) in
     let third = c.in_ok-subcommand-3.ensures.shape c.in_ok-run.ensures.1
     ∙ ap₂ with_subcommand second (ap (λ (a : App). a.top) c.in_ok-run.ensures.0) in
-    IfOk-weaker c.subcommand-4.result _ _
-    (λ r h. h.shape c.in_ok-render.ensures.1 ∙ ap₂ with_subcommand third (ap (λ (a : App). a.top) c.in_ok-render.ensures.0))
-    c.subcommand-4.ensures
+    let fourth = c.in_ok-subcommand-4.ensures.shape c.in_ok-render.ensures.1
+    ∙ ap₂ with_subcommand third (ap (λ (a : App). a.top) c.in_ok-render.ensures.0) in
+    IfOk-weaker c.subcommand-5.result _ _
+    (λ r h. h.shape c.in_ok-turns.ensures.1 ∙ ap₂ with_subcommand fourth (ap (λ (a : App). a.top) c.in_ok-turns.ensures.0))
+    c.subcommand-5.ensures
