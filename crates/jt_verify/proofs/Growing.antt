@@ -85,8 +85,8 @@ module _ (ns : List Node) (ls : List ℕ) (a : IsArena ns ls) (n : Node) (q : �
         (
           kind_of n.mark ∷ (pushes v [] ++ u.0),
           at_new
-          ∙ ap (λ (s : Shape). kind_of n.mark ∷ s) (pushes_end v (get_or (lists_of ns) n.below.node []) ∙ ap (λ (s : Shape). pushes v [] ++ s) u.1 ∙ sym (append_assoc (pushes v []) u.0 (get_or (lists_of ns) n.jump.to [])))
-          ∙ ap (λ (s : Shape). kind_of n.mark ∷ (pushes v [] ++ u.0 ++ s)) (sym (at_old n.jump.to low)),
+              ∙ ap (λ (s : Shape). kind_of n.mark ∷ s) (pushes_end v (get_or (lists_of ns) n.below.node []) ∙ ap (λ (s : Shape). pushes v [] ++ s) u.1 ∙ sym (append_assoc (pushes v []) u.0 (get_or (lists_of ns) n.jump.to [])))
+              ∙ ap (λ (s : Shape). kind_of n.mark ∷ (pushes v [] ++ u.0 ++ s)) (sym (at_old n.jump.to low)),
         ),
       )
 
