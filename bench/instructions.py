@@ -29,21 +29,23 @@ def image():
 
 
 def counts(program, path, fuel, out):
-    """How often a run with this fuel meets each address."""
+    """How often a run with this fuel meets each address of each object."""
     words = ["valgrind", "--tool=callgrind", "--dump-instr=yes", "--dump-line=no", "--compress-strings=no", "--compress-pos=no"]
     words += [f"--callgrind-out-file={out}", program, "run", "--fuel", str(fuel), path]
     ran = subprocess.run(words, capture_output=True)
     if b"jt: spent Fuel" not in ran.stderr or ran.stdout:
         sys.exit(f"bench/instructions.py: fuel {fuel}: {ran.stderr.decode(errors='replace')}")
-    met, of_call = collections.Counter(), False
+    met, of_call, place = collections.Counter(), False, ""
     for line in pathlib.Path(out).read_text().splitlines():
         if line.startswith("calls="):
             # (the next line is what the call cost altogether, and stands in its own lines too)
             of_call = True
+        elif line.startswith("ob="):
+            place = line
         elif line.startswith("0x"):
             if not of_call:
                 address, cost = line.split()
-                met[address] += int(cost)
+                met[place, address] += int(cost)
             of_call = False
     return met
 
