@@ -4,6 +4,7 @@
 mod at_once;
 mod calls;
 mod captures;
+mod entries;
 mod items;
 mod limits;
 mod loops;
@@ -14,6 +15,7 @@ mod outcome;
 mod parts;
 mod runs;
 mod sink;
+mod stack;
 mod start;
 mod state;
 mod step;

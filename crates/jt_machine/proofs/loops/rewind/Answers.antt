@@ -2,7 +2,8 @@ use Rattle.std.proofs.Common.{◌≡◌}
 use Rattle.jt_image.specs.Config.{frame}
 use Rattle.jt_image.specs.Loops.{loop_over}
 use Rattle.jt_machine.specs.Parts.{step_on, with_entry, rewind}
-use Rattle.jt_machine.specs.View.{config_view, values_view}
+use Rattle.jt_machine.specs.Entries.{values_view}
+use Rattle.jt_machine.specs.View.{config_view}
 use Rattle.jt_machine.proofs.loops.rewind.Goals as goal
 
 pub returns-in-Some : goal.returns-in-Some
