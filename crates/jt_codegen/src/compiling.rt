@@ -8,16 +8,13 @@ ghost use Rattle.jt_codegen.specs.Refusals.{Breaks, NamesLimit};
 use crate::entries::fits_entries;
 use crate::error::CompileError;
 use crate::image::image_of;
-use jt_image::{Image, code_laws};
+use jt_image::{Image, MAX_ENTRIES, code_laws};
 use jt_inherit::{Library, chain};
 use jt_lower::low_laws;
 use jt_meaning::program_laws;
 use jt_resolve::resolve;
 use jt_scan::Options;
 use std::alloc::Global;
-
-/// How many entries a unit may need.
-const MAX_ENTRIES: usize = 1_024;
 
 /// The image of the entry, which stands in the library with all templates that it reaches.
 ///

@@ -11,13 +11,10 @@ ghost use Rattle.jt_codegen.specs.Units.{RefusesUnits, RefusesCode};
 ghost use Rattle.jt_codegen.specs.declared.emission.EmitError.TheVariants.{NoMemory};
 
 use crate::emission::{EmitError, emit_unit};
-use jt_image::{Constant, Parts, Unit};
+use jt_image::{Constant, MAX_COUNT, Parts, Unit};
 use jt_slots::{Program, Routine};
 use jt_value::Value;
 use std::alloc::Global;
-
-/// How many names an image may have.
-const MAX_COUNT: usize = 65_535;
 
 /// The parts of the image of a program.
 ///

@@ -1,6 +1,7 @@
 -- Instructions that stay bytes: how many there are, and the one at a point.
 use Rattle.std.proofs.Common.{◌≡◌, ℕ, zero, suc, ◌+◌, ◌*◌, ◌<◌, ◌≤◌, ◌^◌, List, [], ◌∷◌, ◌++◌, length, drop, Option, Some, None, Result, Ok, Err, refl, sym, ap, subst, ◌∙◌, arith, append_assoc}
 use Rattle.std.specs.Prelude.{slice_get}
+use Rattle.std.specs.Option.{IsSome}
 use Rattle.std.specs.Int.{w32, from_le_bytes, to_le_bytes}
 use Rattle.std.specs.List.{flat_map, AllByRecursion}
 use Rattle.std.proofs.lemmas.List.Concat.{flat_map-cons}
@@ -30,6 +31,12 @@ place_gives h bytes rest e = ap (λ (r : Read). r >>= λ code. let o : Result (S
 
 pub place_whole : (n : ℕ) (bytes rest : List ℕ) → instructions_at n bytes ≡ Ok (instructions_in n bytes, rest) → length (instructions_in n bytes) ≡ n
 place_whole n bytes rest e = all_at (instructions_at n bytes) (λ x. length x.0 ≡ 0 + n) (instructions_in n bytes, rest) e (many_count (λ _. instruction_at) n [] bytes) ∙ omega arith
+
+-- a point below the length has an element
+pub is_there : {A : Type 0} (xs : List A) (i : ℕ) → i < length xs → IsSome (slice_get xs i)
+is_there [] i lt = absurd (omega (arith, lt))
+is_there (x ∷ xs) zero lt = refl
+is_there (x ∷ xs) (suc i) lt = is_there xs i (omega (arith, lt))
 
 pub all_push : {A : Type 0} (P : A → Type 0) (xs : List A) (x : A) → AllByRecursion P xs → P x → AllByRecursion P (xs ++ x ∷ [])
 all_push P [] x h p = (p, tt)

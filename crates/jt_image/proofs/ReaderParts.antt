@@ -1,6 +1,6 @@
 -- Names, texts and headers in the reader, as the definitions see them.
-use Rattle.std.proofs.Common.{◌≡◌, ℕ, suc, ◌+◌, ◌-◌, ◌++◌, false, true, ◌<◌, ◌≤◌, Bool, take, drop, ltb, replicate, inl, inr, ◌⊎◌, ◌≢◌, Ok, Err, List, [], ◌∷◌, length, get_or, set, refl, sym, ap, ◌∙◌, arith, string_bytes, nat_cmp}
-use Rattle.std.specs.Prelude.{◌==◌, ◌||◌, String}
+use Rattle.std.proofs.Common.{◌≡◌, ℕ, suc, ◌+◌, ◌-◌, ◌++◌, false, true, ◌<◌, ◌≤◌, Bool, take, drop, ltb, replicate, inl, inr, ◌⊎◌, ◌≢◌, Ok, Err, List, [], ◌∷◌, length, get_or, set, refl, map, sym, ap, ◌∙◌, arith, nat_cmp}
+use Rattle.std.specs.Prelude.{◌==◌, ◌||◌}
 use Rattle.std.specs.Str.{IsUtf8, is_utf8}
 use Rattle.std.proofs.lemmas.Str.{is_utf8-from_IsUtf8, IsUtf8-from_is_utf8}
 use Rattle.std.proofs.lemmas.Bool.{le-ltb, cases_eq}
@@ -10,23 +10,18 @@ use Rattle.jt_image.specs.declared.error.ImageError.TheVariants.{BadText}
 use Rattle.std.specs.Ordering.{is_lt}
 use Rattle.std.specs.Cmp.Lexicographic.{slice_cmp}
 use Rattle.jt_image.specs.Code as code
-use Rattle.jt_image.specs.View.{names_view}
 use Rattle.jt_image.specs.Reading.{Header, IsTable, is_used, may_follow, text_at, header_total, is_first}
-use Rattle.std.specs.declared.alloc.Global.{Global}
 
--- a slot and its name, as the reader holds them
-abbrev pub Name : Type 0
-Name = ℕ × String Global
-
-last_of : (m l : Name) (ns : List Name) (d : Name) → get_or (m ∷ l ∷ ns) (length (m ∷ l ∷ ns) - 1) d ≡ get_or (l ∷ ns) (length (l ∷ ns) - 1) d
+last_of : {A : Type 0} (m l : A) (ns : List A) (d : A) → get_or (m ∷ l ∷ ns) (length (m ∷ l ∷ ns) - 1) d ≡ get_or (l ∷ ns) (length (l ∷ ns) - 1) d
 last_of m l ns d =
     let e : length (m ∷ l ∷ ns) - 1 ≡ suc (length (l ∷ ns) - 1) = omega arith in
     rw e refl
 
-pub may_follow_last : (ns : List Name) (n : Name) (t : List ℕ) → 0 < length ns → n ≡ get_or ns (length ns - 1) n → may_follow (names_view ns) t ≡ is_lt (slice_cmp nat_cmp (string_bytes n.1) t)
-may_follow_last [] n t lt e = absurd (omega arith)
-may_follow_last (m ∷ []) n t lt e = ap (λ (x : Name). is_lt (slice_cmp nat_cmp (string_bytes x.1) t)) (sym e)
-may_follow_last (m ∷ l ∷ ns) n t lt e = may_follow_last (l ∷ ns) n t (omega arith) (e ∙ last_of m l ns n)
+-- what may follow names is told by the last of them, however they are held
+pub may_follow_last : {A : Type 0} (view : A → code.Name) (ns : List A) (d : A) (t : List ℕ) → 0 < length ns → may_follow (map view ns) t ≡ is_lt (slice_cmp nat_cmp (view (get_or ns (length ns - 1) d)).text t)
+may_follow_last view [] d t lt = absurd (omega arith)
+may_follow_last view (m ∷ []) d t lt = refl
+may_follow_last view (m ∷ l ∷ ns) d t lt = may_follow_last view (l ∷ ns) d t (omega arith) ∙ sym (ap (λ x. is_lt (slice_cmp nat_cmp (view x).text t)) (last_of m l ns d))
 
 pub header_total-push : (hs : List Header) (h : Header) → header_total (hs ++ h ∷ []) ≡ header_total hs + h.len
 header_total-push [] h = omega arith

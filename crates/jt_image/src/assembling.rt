@@ -12,19 +12,20 @@ ghost use Rattle.jt_image.specs.declared.error.ImageError.TheVariants.{LimitPass
 use crate::error::ImageError;
 use crate::image::{Constant, Image, Section};
 use crate::instruction::Instruction;
+use crate::limits::{MAX_BYTES, MAX_COUNT, MAX_INSTRUCTIONS, MAX_LOCALS};
 use crate::parts::{Parts, Unit};
-use crate::tables::may_follow;
-use crate::units::{MAX_INSTRUCTIONS, MAX_LOCALS, Units};
 use crate::wire::Instr;
 use std::alloc::{AllocError, Global};
 
-const MAX_BYTES: usize = 16_777_216;
-
-// the greatest count, and the greatest length of a name
-const MAX_COUNT: usize = 65_535;
-
 // magic, version, globals and three counts
 const FIXED_BYTES: usize = 14;
+
+// Units, and how many instructions they have together.
+#[derive(Drop)]
+struct Units {
+    sections: Vec<Section>,
+    instructions: u32,
+}
 
 fn instructions_of(alloc: Global, code: &[Instr]) -> Result<Vec<Instruction>, ImageError>
     ensures finds { Finds (λ v. v.items) result (each_of instruction_of code.now) }
@@ -195,6 +196,15 @@ fn units_are_in_order(sections: &[Section]) -> bool
         }
     }
     true
+}
+
+fn may_follow(names: &[(u16, String)], text: &str) -> bool
+    ensures { result ≡ may_follow (names_view names.now) text.now }
+{
+    match names {
+        [] => !text.is_empty(),
+        [.., last] => last.1.as_str() < text,
+    }
 }
 
 // whether a name may stand behind these: its slot is there and has no name yet, and its text is above the last

@@ -1,5 +1,6 @@
 //! Why bytes or parts are no image.
 
+use jt_value::NoMemory;
 use std::alloc::{AllocError, AllocFailed};
 use thiserror::Error;
 
@@ -53,6 +54,17 @@ impl<T: Drop> From<AllocFailed<T>> for ImageError {
     ghost from_gives = { λ _ e. e ≡ NoMemory };
 
     fn from(_e: AllocFailed<T>) -> ImageError {
+        ImageError::NoMemory
+    }
+}
+
+impl From<NoMemory> for ImageError {
+    ghost use Rattle.std.specs.Prelude.{◌≡◌};
+    ghost use Rattle.jt_image.specs.declared.error.ImageError.TheVariants.{NoMemory};
+
+    ghost from_gives = { λ _ e. e ≡ NoMemory };
+
+    fn from(_e: NoMemory) -> ImageError {
         ImageError::NoMemory
     }
 }

@@ -3,6 +3,7 @@
 
 mod assembling;
 mod code;
+mod copying;
 mod decoding;
 mod encoding;
 mod error;
@@ -12,7 +13,7 @@ mod in_place;
 mod instruction;
 mod kind;
 mod laws;
-mod lent;
+mod limits;
 mod loop_field;
 mod parts;
 mod places;
@@ -31,6 +32,7 @@ pub use in_place::View;
 pub use instruction::Instruction;
 pub use kind::{Flaw, Kind};
 pub use laws::code_laws;
+pub use limits::{MAX_BYTES, MAX_COUNT, MAX_ENTRIES, MAX_INSTRUCTIONS, MAX_LOCALS};
 pub use loop_field::LoopField;
 pub use parts::{Parts, Unit};
 pub use viewing::view;

@@ -1,5 +1,5 @@
 //! Units in place: where the instructions of each one begin.
-ghost use Rattle.std.specs.Prelude.{◌≡◌, ◌<◌, ◌≤◌, length, IfOk, slice_get};
+ghost use Rattle.std.specs.Prelude.{◌≡◌, ◌<◌, ◌≤◌, length, IfOk, Some, slice_get};
 ghost use Rattle.jt_image.specs.HeaderView.{header_view, headers_view};
 ghost use Rattle.jt_image.specs.InPlace.{instructions_in, place_view, places_view, IsPlace, fields_in};
 ghost use Rattle.jt_image.specs.IsCode.{total_len};
@@ -114,6 +114,16 @@ fn fields_of(front: &[u8]) -> Instr
     }
 }
 
+/// The instruction at a point that there is, of so many that the bytes begin with.
+pub(crate) fn instruction_below(len: u32, code: &[u8], point: usize) -> Instruction
+    requires whole { length (instructions_in len code.now) ≡ len }
+    requires below { point < len }
+    ensures { slice_get (instructions_in len code.now) point ≡ Some result }
+{
+    let (_, front) = code.split_at(INSTRUCTION_BYTES * point);
+    fields_of(front).known()
+}
+
 /// The instruction at a point, of so many that the bytes begin with.
 pub(crate) fn instruction_in(len: u32, code: &[u8], point: usize) -> Option<Instruction>
     requires { length (instructions_in len code.now) ≡ len }
@@ -122,6 +132,5 @@ pub(crate) fn instruction_in(len: u32, code: &[u8], point: usize) -> Option<Inst
     if point >= len as usize {
         return None;
     }
-    let (_, front) = code.split_at(INSTRUCTION_BYTES * point);
-    fields_of(front).instruction()
+    Some(instruction_below(len, code, point))
 }

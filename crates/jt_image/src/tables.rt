@@ -1,12 +1,13 @@
-//! Reading the tables of names and constants.
-ghost use Rattle.std.specs.Prelude.{◌≡◌, ◌<◌, ◌==◌, ◌&&◌, not, nat_lt, List, length, IfOk, Ok, Some, None, string_bytes, [], true, Err};
+//! Reading the tables of names and constants in place: their texts stay in the bytes.
+ghost use Rattle.std.specs.Prelude.{◌≡◌, ◌<◌, ◌==◌, ◌&&◌, not, nat_lt, List, length, IfOk, Ok, Some, None, [], true, Err};
 ghost use Rattle.std.specs.Int.{w16, w64, cast_signed};
-ghost use Rattle.jt_image.specs.View.{name_view, names_view, constant_view, constants_view};
+ghost use Rattle.jt_image.specs.InPlace.{lent_name, lent_names, lent_constants};
+ghost use Rattle.jt_image.specs.Readers.{constant_ref_view};
 ghost use Rattle.jt_image.specs.Reading.{Gives, IsTable, is_used, may_follow, slot_at, name_text_at, name_at, names_at, all_names_at, constant_of, constant_at, constants_at, all_constants_at};
 
+use crate::code::ConstantRef;
 use crate::error::ImageError;
 use crate::fields::{long_text_at, text_at, u8_at, u16_at, u64_at};
-use crate::image::Constant;
 use std::alloc::Global;
 
 /// A slot that is below the globals and has no name yet.
@@ -14,11 +15,11 @@ use std::alloc::Global;
 fn slot_at<'a>(
     globals: u16,
     used: &[bool],
-    before: &[(u16, String)],
+    before: &[(u16, &str)],
     bytes: &'a [u8],
 ) -> Result<(u16, &'a [u8]), ImageError>
-    requires { IsTable used.now globals (names_view before.now) }
-    ensures gives { Gives (λ x. (x.0, x.1.now)) result (slot_at globals (names_view before.now) bytes.now) }
+    requires { IsTable used.now globals (lent_names before.now) }
+    ensures gives { Gives (λ x. (x.0, x.1.now)) result (slot_at globals (lent_names before.now) bytes.now) }
     ensures below { IfOk result (λ x. x.0 < globals) }
 {
     let (slot, rest) = u16_at(bytes)?;
@@ -31,22 +32,21 @@ fn slot_at<'a>(
     Ok((slot, rest))
 }
 
-#[tactic(auto, using(crate::proofs::ReaderParts::may_follow_last))]
-pub(crate) fn may_follow(names: &[(u16, String)], text: &str) -> bool
-    ensures { result ≡ may_follow (names_view names.now) text.now }
+fn may_follow(names: &[(u16, &str)], text: &str) -> bool
+    ensures { result ≡ may_follow (lent_names names.now) text.now }
 {
     match names {
         [] => !text.is_empty(),
-        [.., last] => last.1.as_str() < text,
+        [.., last] => last.1 < text,
     }
 }
 
 #[tactic(auto, unfolding(crate::specs::Reading::name_text_at))]
 fn name_text_at<'a>(
-    before: &[(u16, String)],
+    before: &[(u16, &str)],
     bytes: &'a [u8],
 ) -> Result<(&'a str, &'a [u8]), ImageError>
-    ensures { Gives (λ x. (x.0.now, x.1.now)) result (name_text_at (names_view before.now) bytes.now) }
+    ensures { Gives (λ x. (x.0.now, x.1.now)) result (name_text_at (lent_names before.now) bytes.now) }
 {
     let (len, rest) = u16_at(bytes)?;
     let (text, rest) = text_at(len as usize, rest)?;
@@ -58,35 +58,33 @@ fn name_text_at<'a>(
 
 #[tactic(auto, unfolding(crate::specs::Reading::name_at))]
 fn name_at<'a>(
-    alloc: Global,
     globals: u16,
     used: &[bool],
-    before: &[(u16, String)],
+    before: &[(u16, &str)],
     bytes: &'a [u8],
-) -> Result<((u16, String), &'a [u8]), ImageError>
-    requires { IsTable used.now globals (names_view before.now) }
-    ensures gives { Gives (λ x. (name_view x.0, x.1.now)) result (name_at globals (names_view before.now) bytes.now) }
+) -> Result<((u16, &'a str), &'a [u8]), ImageError>
+    requires { IsTable used.now globals (lent_names before.now) }
+    ensures gives { Gives (λ x. (lent_name x.0, x.1.now)) result (name_at globals (lent_names before.now) bytes.now) }
     ensures below { IfOk result (λ x. x.0.0 < globals) }
 {
     let (slot, rest) = slot_at(globals, used, before, bytes)?;
     let (text, rest) = name_text_at(before, rest)?;
-    let text = String::from_str(alloc, text)?;
     Ok(((slot, text), rest))
 }
 
-fn names_at(
+fn names_at<'a>(
     alloc: Global,
     globals: u16,
     count: u16,
-    bytes: &[u8],
-) -> Result<(Vec<(u16, String)>, &[u8]), ImageError>
-    ensures { Gives (λ x. (names_view x.0.items, x.1.now)) result (names_at globals count bytes.now) }
+    bytes: &'a [u8],
+) -> Result<(Vec<(u16, &'a str)>, &'a [u8]), ImageError>
+    ensures { Gives (λ x. (lent_names x.0.items, x.1.now)) result (names_at globals count bytes.now) }
 {
-    let mut names = Vec::new(alloc);
+    let mut names: Vec<(u16, &'a str)> = Vec::new(alloc);
     let mut used = vec![in alloc; false; usize::from(globals)]?;
     let mut rest = bytes;
     'names: for _ in 0..count {
-        let (name, after) = name_at(alloc, globals, &used, &names, rest)?;
+        let (name, after) = name_at(globals, &used, &names, rest)?;
         used[usize::from(name.0)] = true;
         names.push(name)?;
         rest = after;
@@ -96,61 +94,61 @@ fn names_at(
 
 /// The names of globals.
 #[tactic(auto, unfolding(crate::specs::Reading::all_names_at))]
-pub(crate) fn all_names_at(
+pub(crate) fn all_names_at<'a>(
     alloc: Global,
     globals: u16,
-    bytes: &[u8],
-) -> Result<(Vec<(u16, String)>, &[u8]), ImageError>
-    ensures { Gives (λ x. (names_view x.0.items, x.1.now)) result (all_names_at globals bytes.now) }
+    bytes: &'a [u8],
+) -> Result<(Vec<(u16, &'a str)>, &'a [u8]), ImageError>
+    ensures { Gives (λ x. (lent_names x.0.items, x.1.now)) result (all_names_at globals bytes.now) }
 {
     let (count, rest) = u16_at(bytes)?;
     names_at(alloc, globals, count, rest)
 }
 
 #[tactic(auto, unfolding(crate::specs::Reading::constant_of))]
-fn constant_of(alloc: Global, tag: u8, bytes: &[u8]) -> Result<(Constant, &[u8]), ImageError>
-    ensures { Gives (λ x. (constant_view x.0, x.1.now)) result (constant_of tag bytes.now) }
+fn constant_of(tag: u8, bytes: &[u8]) -> Result<(ConstantRef<'_>, &[u8]), ImageError>
+    ensures { Gives (λ x. (constant_ref_view x.0, x.1.now)) result (constant_of tag bytes.now) }
 {
     match tag {
-        0 => Ok((Constant::Undefined, bytes)),
-        1 => Ok((Constant::None, bytes)),
-        2 => Ok((Constant::Bool(false), bytes)),
-        3 => Ok((Constant::Bool(true), bytes)),
+        0 => Ok((ConstantRef::Undefined, bytes)),
+        1 => Ok((ConstantRef::None, bytes)),
+        2 => Ok((ConstantRef::Bool(false), bytes)),
+        3 => Ok((ConstantRef::Bool(true), bytes)),
         4 => {
             let (number, rest) = u64_at(bytes)?;
-            Ok((Constant::Int(number.cast_signed()), rest))
+            Ok((ConstantRef::Int(number.cast_signed()), rest))
         }
         5 => {
             let (text, rest) = long_text_at(bytes)?;
-            Ok((Constant::Text(String::from_str(alloc, text)?), rest))
+            Ok((ConstantRef::Text(text), rest))
         }
         6 => {
             let (text, rest) = long_text_at(bytes)?;
-            Ok((Constant::Markup(String::from_str(alloc, text)?), rest))
+            Ok((ConstantRef::Markup(text), rest))
         }
         _ => Err(ImageError::BadTable),
     }
 }
 
 #[tactic(auto, unfolding(crate::specs::Reading::constant_at))]
-fn constant_at(alloc: Global, bytes: &[u8]) -> Result<(Constant, &[u8]), ImageError>
-    ensures { Gives (λ x. (constant_view x.0, x.1.now)) result (constant_at bytes.now) }
+fn constant_at(bytes: &[u8]) -> Result<(ConstantRef<'_>, &[u8]), ImageError>
+    ensures { Gives (λ x. (constant_ref_view x.0, x.1.now)) result (constant_at bytes.now) }
 {
     let (tag, rest) = u8_at(bytes)?;
-    constant_of(alloc, tag, rest)
+    constant_of(tag, rest)
 }
 
-fn constants_at(
+fn constants_at<'a>(
     alloc: Global,
     count: u16,
-    bytes: &[u8],
-) -> Result<(Vec<Constant>, &[u8]), ImageError>
-    ensures { Gives (λ x. (constants_view x.0.items, x.1.now)) result (constants_at count bytes.now) }
+    bytes: &'a [u8],
+) -> Result<(Vec<ConstantRef<'a>>, &'a [u8]), ImageError>
+    ensures { Gives (λ x. (lent_constants x.0.items, x.1.now)) result (constants_at count bytes.now) }
 {
-    let mut constants = Vec::new(alloc);
+    let mut constants: Vec<ConstantRef<'a>> = Vec::new(alloc);
     let mut rest = bytes;
     'constants: for _ in 0..count {
-        let (constant, after) = constant_at(alloc, rest)?;
+        let (constant, after) = constant_at(rest)?;
         constants.push(constant)?;
         rest = after;
     }
@@ -159,11 +157,11 @@ fn constants_at(
 
 /// The constants.
 #[tactic(auto, unfolding(crate::specs::Reading::all_constants_at))]
-pub(crate) fn all_constants_at(
+pub(crate) fn all_constants_at<'a>(
     alloc: Global,
-    bytes: &[u8],
-) -> Result<(Vec<Constant>, &[u8]), ImageError>
-    ensures { Gives (λ x. (constants_view x.0.items, x.1.now)) result (all_constants_at bytes.now) }
+    bytes: &'a [u8],
+) -> Result<(Vec<ConstantRef<'a>>, &'a [u8]), ImageError>
+    ensures { Gives (λ x. (lent_constants x.0.items, x.1.now)) result (all_constants_at bytes.now) }
 {
     let (count, rest) = u16_at(bytes)?;
     constants_at(alloc, count, rest)

@@ -1,21 +1,16 @@
 //! Reading units: their numbers first, then the instructions of each.
 ghost use Rattle.std.specs.Prelude.{◌≡◌, ◌+◌, ◌≤◌, ◌==◌, ◌||◌, not, nat_le, nat_lt, List, length, IfOk, Ok, Some, None, [], true, Err};
 ghost use Rattle.std.specs.Int.{w16, w32};
-ghost use Rattle.jt_image.specs.View.{section_view, sections_view};
 ghost use Rattle.jt_image.specs.HeaderView.{header_view, headers_view};
-ghost use Rattle.jt_image.specs.IsCode.{max_instructions, total_len};
-ghost use Rattle.jt_image.specs.Reading.{Gives, parameters_at, kind_at, locals_at, len_at, header_of, header_total, headers_at, known_of, instruction_at, instructions_at, section_at, sections_at, units_at};
+ghost use Rattle.jt_image.specs.IsCode.{max_instructions};
+ghost use Rattle.jt_image.specs.Reading.{Gives, parameters_at, kind_at, locals_at, len_at, header_of, header_total, headers_at, known_of, instruction_at};
 
 use crate::error::ImageError;
 use crate::fields::{u8_at, u16_at, u32_at};
-use crate::image::Section;
 use crate::instruction::Instruction;
+use crate::limits::{MAX_INSTRUCTIONS, MAX_LOCALS};
 use crate::wire::Instr;
 use std::alloc::Global;
-
-pub(crate) const MAX_LOCALS: u16 = 4096;
-
-pub(crate) const MAX_INSTRUCTIONS: u32 = 262_144;
 
 /// The numbers of a unit.
 #[derive(Drop)]
@@ -24,13 +19,6 @@ pub(crate) struct Header {
     pub(crate) kind: u8,
     pub(crate) locals: u16,
     pub(crate) len: u32,
-}
-
-/// Units, and how many instructions they have together.
-#[derive(Drop)]
-pub(crate) struct Units {
-    pub(crate) sections: Vec<Section>,
-    pub(crate) instructions: u32,
 }
 
 #[tactic(auto, unfolding(crate::specs::Reading::parameters_at))]
@@ -189,75 +177,4 @@ pub(crate) fn instruction_at(bytes: &[u8]) -> Result<(Instruction, &[u8]), Image
         Some(instruction) => Ok((instruction, rest)),
         None => by_fields(bytes),
     }
-}
-
-fn instructions_at(
-    alloc: Global,
-    count: u32,
-    bytes: &[u8],
-) -> Result<(Vec<Instruction>, &[u8]), ImageError>
-    ensures { Gives (λ x. (x.0.items, x.1.now)) result (instructions_at count bytes.now) }
-{
-    let mut code = Vec::new(alloc);
-    let mut rest = bytes;
-    'code: for _ in 0..count {
-        let (instruction, after) = instruction_at(rest)?;
-        code.push(instruction)?;
-        rest = after;
-    }
-    Ok((code, rest))
-}
-
-#[tactic(auto, unfolding(crate::specs::Reading::section_at))]
-fn section_at<'a>(
-    alloc: Global,
-    header: &Header,
-    bytes: &'a [u8],
-) -> Result<(Section, &'a [u8]), ImageError>
-    ensures { Gives (λ x. (section_view x.0, x.1.now)) result (section_at (header_view header.now) bytes.now) }
-{
-    let (code, rest) = instructions_at(alloc, header.len, bytes)?;
-    let section = Section {
-        parameters: header.parameters,
-        kind: header.kind,
-        locals: header.locals,
-        code,
-    };
-    Ok((section, rest))
-}
-
-fn sections_at<'a>(
-    alloc: Global,
-    headers: &[Header],
-    bytes: &'a [u8],
-) -> Result<(Vec<Section>, &'a [u8]), ImageError>
-    ensures { Gives (λ x. (sections_view x.0.items, x.1.now)) result (sections_at (headers_view headers.now) bytes.now) }
-{
-    let mut sections = Vec::new(alloc);
-    let mut rest = bytes;
-    'sections: for header in headers {
-        let (section, after) = section_at(alloc, header, rest)?;
-        sections.push(section)?;
-        rest = after;
-    }
-    Ok((sections, rest))
-}
-
-/// The units, and how many instructions they have.
-#[tactic(auto, unfolding(crate::specs::Reading::units_at))]
-pub(crate) fn units_at(alloc: Global, bytes: &[u8]) -> Result<(Units, &[u8]), ImageError>
-    ensures gives { Gives (λ x. (sections_view x.0.sections.items, x.1.now)) result (units_at bytes.now) }
-    ensures total { IfOk result (λ x. x.0.instructions ≡ total_len (sections_view x.0.sections.items)) }
-{
-    let (count, rest) = u16_at(bytes)?;
-    if count == 0 {
-        return Err(ImageError::BadTable);
-    }
-    let (headers, rest) = headers_at(alloc, count, rest)?;
-    let (sections, rest) = sections_at(alloc, &headers.items, rest)?;
-    let units = Units {
-        sections,
-        instructions: headers.total,
-    };
-    Ok((units, rest))
 }

@@ -7,12 +7,12 @@ ghost use Rattle.jt_image.specs.IsCode.{IsCode};
 ghost use Rattle.jt_image.specs.declared.error.ImageError.TheVariants.{NoMemory};
 ghost use Rattle.jt_image.specs.Reading.{Gives, code_of};
 
-use crate::decoding::MAX_BYTES;
 use crate::error::ImageError;
 use crate::fields::{start_at, u16_at};
 use crate::in_place::View;
-use crate::lent::{lent_constants_at, lent_names_at};
+use crate::limits::MAX_BYTES;
 use crate::places::all_places_at;
+use crate::tables::{all_constants_at, all_names_at};
 use std::alloc::Global;
 
 #[tactic(auto, unfolding(crate::specs::Reading::code_of))]
@@ -24,8 +24,8 @@ fn read(alloc: Global, bytes: &[u8]) -> Result<View<'_>, ImageError>
     }
     let rest = start_at(bytes)?;
     let (globals, rest) = u16_at(rest)?;
-    let (names, rest) = lent_names_at(alloc, globals, rest)?;
-    let (constants, rest) = lent_constants_at(alloc, rest)?;
+    let (names, rest) = all_names_at(alloc, globals, rest)?;
+    let (constants, rest) = all_constants_at(alloc, rest)?;
     let (places, rest) = all_places_at(alloc, rest)?;
     if !rest.is_empty() {
         return Err(ImageError::Trailing);

@@ -1,5 +1,6 @@
 //! Instructions as they stand in an image: the one table of opcodes.
-ghost use Rattle.std.specs.Prelude.{◌≡◌, ◌≢◌, MatchOption, IfSome};
+ghost use Rattle.std.specs.Prelude.{◌≡◌, ◌≢◌, MatchOption, IfSome, Some};
+ghost use Rattle.std.specs.Option.{IsSome};
 ghost use Rattle.jt_image.specs.Spelling.{wire_of};
 ghost use Rattle.jt_image.specs.IsCode.{IsInstruction};
 ghost use Rattle.jt_image.specs.Reading.{uses_none, uses_a, uses_ab, uses_ac, uses_c, instruction_of};
@@ -183,6 +184,50 @@ impl Instr {
             27 => self.uses_c(Instruction::Call { unit: c }),
             28 => self.uses_none(Instruction::Return),
             _ => None,
+        }
+    }
+
+    /// The instruction with these fields, where there is one.
+    #[tactic(auto, unfolding(crate::specs::Reading::instruction_of))]
+    pub(crate) fn known(self) -> Instruction
+        requires { IsSome (instruction_of self) }
+        ensures { instruction_of self ≡ Some result }
+    {
+        let (a, b, c) = (self.a, self.b, self.c);
+        match self.op {
+            1 => Instruction::Const { constant: c },
+            2 => Instruction::Load { local: c },
+            3 => Instruction::Store { local: c },
+            4 => Instruction::GLoad { global: c },
+            5 => Instruction::GStore { global: c },
+            6 => Instruction::Drop,
+            7 => Instruction::Dup,
+            8 => Instruction::Emit { flag: a },
+            9 => Instruction::Data { constant: c },
+            10 => Instruction::Jump { target: c },
+            11 => Instruction::JumpIfFalse { target: c },
+            12 => Instruction::JumpIfTrue { target: c },
+            13 => Instruction::Op { operator: a },
+            14 => Instruction::Filter {
+                filter: a,
+                values: b,
+                flag: c,
+            },
+            15 => Instruction::Test { test: a, values: b },
+            16 => Instruction::MakeList { items: c },
+            17 => Instruction::MakeMap { entries: c },
+            18 => Instruction::LoopStart,
+            19 => Instruction::LoopNext { target: c },
+            20 => Instruction::LoopGet { field: a, above: c },
+            21 => Instruction::LoopKeep { above: c },
+            22 => Instruction::LoopRewind,
+            23 => Instruction::LoopEnd,
+            24 => Instruction::CaptureBegin,
+            25 => Instruction::CaptureEnd { flag: a },
+            26 => Instruction::Unpack { values: c },
+            27 => Instruction::Call { unit: c },
+            28 => Instruction::Return,
+            _ => unreachable!(),
         }
     }
 

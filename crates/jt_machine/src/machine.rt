@@ -104,6 +104,8 @@ impl Machine {
         ensures steps { OnOk result (self.new ≡ advanced k self.old) }
         ensures progress { IfOk result (λ p. told_of self.new.status ≡ Some p) }
         ensures lost { OnErr result (self.new ≡ lost_session self.old) }
+        // A run that has ended wants no memory.
+        ensures unended { IfErr result (λ e. outcome_of self.old ≡ None) }
     {
         match mem::replace(&mut self.stage, Stage::Lost) {
             Stage::Going(state) => {

@@ -3,9 +3,21 @@
 #![tactic(auto)]
 
 #[cfg(test)]
+mod ended;
+#[cfg(test)]
 mod expr;
 #[cfg(test)]
 mod parse;
+#[cfg(test)]
+mod pieces;
+#[cfg(test)]
+mod plain;
+#[cfg(test)]
+mod plain_loops;
+#[cfg(test)]
+mod plain_making;
+#[cfg(test)]
+mod plain_rows;
 #[cfg(test)]
 mod rendering;
 #[cfg(test)]

@@ -18,7 +18,7 @@ use std::test::Fail;
 
 /// Templates by their names.
 #[derive(Drop)]
-struct Shelf {
+pub(crate) struct Shelf {
     templates: Vec<(String, String)>,
 }
 
@@ -34,7 +34,7 @@ impl Library for Shelf {
 }
 
 /// A row with its line ends.
-fn unfolded(alloc: Global, row: &str) -> Result<String, AllocError> {
+pub(crate) fn unfolded(alloc: Global, row: &str) -> Result<String, AllocError> {
     let mut text = String::with_capacity(alloc, row.len())?;
     for character in row.chars() {
         text.push(if character == '␤' { '\n' } else { character })?;
@@ -58,7 +58,7 @@ fn parts_of(alloc: Global, row: &str) -> Result<Vec<String>, AllocError> {
 }
 
 /// The templates of a row, the entry's under the name `t`, and its context.
-fn templates_of(alloc: Global, row: &str) -> Result<(Shelf, String), AllocError> {
+pub(crate) fn templates_of(alloc: Global, row: &str) -> Result<(Shelf, String), AllocError> {
     let mut parts = parts_of(alloc, row)?;
     let entry = parts.pop().unwrap_or(String::new(alloc));
     let mut templates = Vec::with_capacity(alloc, parts.len() + 1)?;
@@ -120,7 +120,7 @@ fn rows_hold(rt: &(impl Abort + AllocGlobal), rows: &str) -> Result<(), Fail> {
 }
 
 /// What the language gives, an example of each form.
-const WORKED: &str = r##"{"name": "World"}¦Hello {{ name }}!␤ => [Hello World!]
+pub(crate) const WORKED: &str = r##"{"name": "World"}¦Hello {{ name }}!␤ => [Hello World!]
     a ␤ {%- if true -%} ␤ b {% endif %}c => [ab c]
     {"x": "<&'\">"}¦{{ x }}{{ x|safe }} => [&lt;&amp;&#39;&#34;&gt;<&'">]
     {"xs": [6, 1, 7]}¦{% for x in xs if x > 5 %}{{ loop.index }}:{{ x }} {% else %}none{% endfor %} => [1:6 2:7 ]
@@ -196,7 +196,7 @@ fn worked_rows_hold(rt: HostRuntime) -> Result<(), Fail> {
 }
 
 /// Loops, `set`, `with`, `filter` and `autoescape`.
-const STATEMENTS: &str = r##"{% set a, b %}{% endset %} => P1
+pub(crate) const STATEMENTS: &str = r##"{% set a, b %}{% endset %} => P1
     {% set a = 1, 2 %} => P1
     {% for a, in x %}{% endfor %} => P1
     {% for (a, b) in x %}{% endfor %} => P1
@@ -253,7 +253,7 @@ fn statements_hold(rt: HostRuntime) -> Result<(), Fail> {
 }
 
 /// Templates that extend and include others.
-const CHAINS: &str = r##"{{ super() }} => V3
+pub(crate) const CHAINS: &str = r##"{{ super() }} => V3
     {% if false %}{% include 'no' %}{% endif %} => C1
     {% include 'a//b' ignore missing %} => C2
     {% include './a' ignore missing %} => C2
@@ -310,7 +310,7 @@ fn chains_hold(rt: HostRuntime) -> Result<(), Fail> {
 }
 
 /// Macros and their calls.
-const MACROS: &str = r##"{{ m() }}{% macro m() %}x{% endmacro %} => [x]
+pub(crate) const MACROS: &str = r##"{{ m() }}{% macro m() %}x{% endmacro %} => [x]
     {% macro m(a="x") %}{{ a }},{% endmacro %}{{ m() }}{{ m(none) }}{{ m(nope) }} => [x,None,,]
     {% macro m(a, b=1) %}{{ a }}{{ b }}{% endmacro %}{{ m(b=2, a=3) }} => [32]
     {% macro m(a) %}{% endmacro %}{{ m(a=1, a=2) }} => V4
@@ -340,7 +340,7 @@ fn macros_hold(rt: HostRuntime) -> Result<(), Fail> {
 }
 
 /// Filters.
-const FILTERS: &str = r##"{{ true|abs }} => F1
+pub(crate) const FILTERS: &str = r##"{{ true|abs }} => F1
     {{ none|upper }}{{ nope|upper }}{{ 1|upper }} => [NONE1]
     {{ nope|default }}{{ nope|d('x') }}{{ 0|d('x') }}{{ 0|d('x', true) }} => [x0x]
     {{ 0|default(boolean=1, default_value='y') }}{{ ''|d(boolean=true) }} => [y]
@@ -397,7 +397,7 @@ fn filters_hold(rt: HostRuntime) -> Result<(), Fail> {
 }
 
 /// Filters that go over Items.
-const OVER_ITEMS: &str = r##"{{ [1, 2, 3]|select("odd")|join(",") }} => [1,3]
+pub(crate) const OVER_ITEMS: &str = r##"{{ [1, 2, 3]|select("odd")|join(",") }} => [1,3]
     {{ [{"a": 1}, {"a": 2}]|map(attribute="a")|sum }} => [3]
     {{ ["x", "y"]|map("upper")|join }} => [XY]
     {{ [{"a": 1}, {"a": 2}]|rejectattr("a", "eq", 2)|length }} => [1]
@@ -477,7 +477,7 @@ fn filters_over_items_hold(rt: HostRuntime) -> Result<(), Fail> {
 }
 
 /// Marks, raw text and comments.
-const WHITESPACE: &str = r##"{{ "a" -}} ␤ b => [ab]
+pub(crate) const WHITESPACE: &str = r##"{{ "a" -}} ␤ b => [ab]
     a␤ {{- 1 }} => [a1]
     {{-}} => P1
     {{--1}} => [-1]

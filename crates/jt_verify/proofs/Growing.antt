@@ -1,20 +1,22 @@
 -- An arena with one node more.
-use Rattle.std.proofs.Common.{◌≡◌, ◌≢◌, ℕ, zero, suc, ◌+◌, ◌*◌, ◌<◌, ◌≤◌, List, [], ◌∷◌, ◌++◌, length, get_or, Some, refl, sym, ap, subst, ◌∙◌, arith, inl, inr}
+use Rattle.std.proofs.Common.{◌≡◌, ◌≢◌, ℕ, zero, suc, ◌+◌, ◌*◌, ◌<◌, ◌≤◌, List, [], ◌∷◌, ◌++◌, length, get_or, Some, refl, sym, ap, subst, ◌∙◌, append_assoc, arith, inl, inr}
 use Rattle.std.specs.Prelude.{slice_get, slice_set}
 use Rattle.std.proofs.lemmas.List.{length-append, length-set, get_or_append_left, get_or_push, get_or-set_same, get_or-set_other}
 use Rattle.jt_image.specs.Effect.{Shape, pushes}
 use Rattle.jt_verify.specs.declared.links.Mark.{Mark}
 use Rattle.jt_verify.specs.declared.links.Handle.{Handle}
 use Rattle.jt_verify.specs.declared.links.Node.{Node}
+use Rattle.jt_verify.specs.declared.links.Jump.{Jump}
 use Rattle.jt_verify.specs.declared.links.Link.TheVariants as link
-use Rattle.jt_verify.specs.Arena.{Lists, shape_in, IsIn, IsKept, StandsFor, entered, lists_of, kind_of, digit_of, IsNode, AreLinks, KeepsLinks, Finding, IsSound, IsArena}
+use Rattle.jt_verify.specs.Arena.{Lists, shape_in, IsIn, IsKept, StandsFor, entered, lists_of, kind_of, digit_of, IsUnder, AreJumps, IsNode, AreLinks, KeepsLinks, Finding, IsSound, IsArena}
 use Rattle.jt_verify.proofs.Numbers.{same_or, node_within, node_left, node_last, node_either, padded}
+use Rattle.jt_verify.proofs.Values.{pushes_end}
 use Rattle.jt_verify.proofs.Nodes.{finds_more, grow_push, is_new, found_is}
 
 pub kept_same : (t : Lists) → IsKept t t
 kept_same t = record { more = omega arith; same = λ i l. refl }
 
-module _ (ns : List Node) (ls : List ℕ) (a : IsArena ns ls) (n : Node) (q : ℕ) (r : List ℕ) (lt : IsIn (lists_of ns) n.below) (height : n.height ≡ length (entered (lists_of ns) n)) (f : Finding ns ls n.mark n.below (3 * n.below.node) (2 * n.below.values + digit_of n.mark) (link.Vacant q)) (set_here : get_or r q 0 ≡ suc (length ns)) (set_there : (p : ℕ) → p ≢ q → get_or r p 0 ≡ get_or ls p 0) (room : 3 * (suc (length ns) + 1) ≤ length r) where
+module _ (ns : List Node) (ls : List ℕ) (a : IsArena ns ls) (n : Node) (q : ℕ) (r : List ℕ) (lt : IsIn (lists_of ns) n.below) (height : n.height ≡ length (entered (lists_of ns) n)) (way : (n.jump.to ≤ n.below.node) × IsUnder (lists_of ns) n.jump.to (get_or (lists_of ns) n.below.node [])) (f : Finding ns ls n.mark n.below (3 * n.below.node) (2 * n.below.values + digit_of n.mark) (link.Vacant q)) (set_here : get_or r q 0 ≡ suc (length ns)) (set_there : (p : ℕ) → p ≢ q → get_or r p 0 ≡ get_or ls p 0) (room : 3 * (suc (length ns) + 1) ≤ length r) where
   abbrev more : List Node
   more = ns ++ n ∷ []
 
@@ -74,6 +76,32 @@ module _ (ns : List Node) (ls : List ℕ) (a : IsArena ns ls) (n : Node) (q : �
         found = finds_more ns more ls r x.mark x.below keeps (nodes_left x.mark x.below) (3 * x.below.node) (2 * x.below.values + digit_of x.mark) i s.found;
       }
 
+  jump_new : (n.jump.to ≤ length ns) × IsUnder (lists_of more) n.jump.to (get_or (lists_of more) (suc (length ns)) [])
+  jump_new =
+      let v = n.below.values in
+      let u = way.1 in
+      let low : n.jump.to < length (lists_of ns) = omega (arith, way.0, lt) in (
+        omega (arith, way.0, lt, a.len),
+        (
+          kind_of n.mark ∷ (pushes v [] ++ u.0),
+          at_new
+              ∙ ap (λ (s : Shape). kind_of n.mark ∷ s) (pushes_end v (get_or (lists_of ns) n.below.node []) ∙ ap (λ (s : Shape). pushes v [] ++ s) u.1 ∙ sym (append_assoc (pushes v []) u.0 (get_or (lists_of ns) n.jump.to [])))
+              ∙ ap (λ (s : Shape). kind_of n.mark ∷ (pushes v [] ++ u.0 ++ s)) (sym (at_old n.jump.to low)),
+        ),
+      )
+
+  jump_old : (i : ℕ) (x : Node) → slice_get ns i ≡ Some x → (x.jump.to ≤ i) × IsUnder (lists_of more) x.jump.to (get_or (lists_of more) (suc i) [])
+  jump_old i x e =
+      let j = a.jumps i x e in
+      let l = node_within ns i x e in
+      (j.0, (j.1.0, at_old (suc i) (omega (arith, l, a.len)) ∙ j.1.1 ∙ ap (λ (s : Shape). j.1.0 ++ s) (sym (at_old x.jump.to (omega (arith, j.0, l, a.len))))))
+
+  jumps_more : AreJumps more
+  jumps_more i x e = elim (node_either ns n i x e) [
+    | inl o ↦ jump_old i x o
+    | inr w ↦ subst (λ (y : Node). (y.jump.to ≤ i) × IsUnder (lists_of more) y.jump.to (get_or (lists_of more) (suc i) [])) w.1 (subst (λ (j : ℕ). (n.jump.to ≤ j) × IsUnder (lists_of more) n.jump.to (get_or (lists_of more) (suc j) [])) (sym w.0) jump_new)
+  ]
+
   new_differs : (j : ℕ) → j < suc (length ns) → get_or (lists_of more) j [] ≡ get_or (lists_of more) (suc (length ns)) [] → ⊥
   new_differs j l e = is_new ns ls a n.mark n.below lt f.2 j (omega (arith, l, a.len)) (sym (at_old j (omega (arith, l, a.len))) ∙ e ∙ at_new)
 
@@ -93,6 +121,7 @@ module _ (ns : List Node) (ls : List ℕ) (a : IsArena ns ls) (n : Node) (q : �
   arena_more = record {
     len = length-lists ∙ ap suc (sym one_more);
     links = links_more;
+    jumps = jumps_more;
     sound = λ i x e. elim (node_either ns n i x e) [
       | inl o ↦ sound_old i x o
       | inr w ↦ subst (λ (y : Node). IsSound more r (lists_of more) i y) w.1 (subst (λ (j : ℕ). IsSound more r (lists_of more) j n) (sym w.0) sound_new)
@@ -115,8 +144,8 @@ module _ (ns : List Node) (ls : List ℕ) (a : IsArena ns ls) (q k : ℕ) (z : g
   linked_room = omega (arith, a.links.places, length-set (ls ++ 0 ∷ 0 ∷ 0 ∷ []) q k, length-append ls (0 ∷ 0 ∷ 0 ∷ []))
 
   -- a mark that was not found is pushed
-  pub pushed : (m : Mark) (b : Handle) (h : ℕ) → k ≡ suc (length ns) → IsIn (lists_of ns) b → h ≡ length (shape_in (lists_of ns) b) + 1 → Finding ns ls m b (3 * b.node) (2 * b.values + digit_of m) (link.Vacant q) → IsArena (ns ++ record { mark = m; below = b; height = h } ∷ []) linked
-  pushed m b h e i height f = arena_more ns ls a (record { mark = m; below = b; height = h }) q linked i (omega (arith, height)) f (linked_here ∙ e) linked_there linked_room
+  pub pushed : (m : Mark) (b : Handle) (h : ℕ) (j : Jump) → k ≡ suc (length ns) → IsIn (lists_of ns) b → h ≡ length (shape_in (lists_of ns) b) + 1 → (j.to ≤ b.node) × IsUnder (lists_of ns) j.to (get_or (lists_of ns) b.node []) → Finding ns ls m b (3 * b.node) (2 * b.values + digit_of m) (link.Vacant q) → IsArena (ns ++ record { mark = m; below = b; height = h; jump = j } ∷ []) linked
+  pushed m b h j e i height way f = arena_more ns ls a (record { mark = m; below = b; height = h; jump = j }) q linked i (omega (arith, height)) way f (linked_here ∙ e) linked_there linked_room
 
 -- the shapes behind a push
 module _ (ns : List Node) (n : Node) (len : length (lists_of ns) ≡ suc (length ns)) where

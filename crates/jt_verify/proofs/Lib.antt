@@ -1,5 +1,6 @@
 pub mod Numbers
 pub mod Values
+pub mod Ways
 pub mod Nodes
 pub mod Growing
 pub mod Tables

@@ -1,5 +1,5 @@
 -- Values on top of a shape.
-use Rattle.std.proofs.Common.{◌≡◌, ℕ, zero, suc, ◌+◌, ◌-◌, ◌<◌, ◌≤◌, [], ◌∷◌, length, Some, Result, Err, refl, sym, ap, subst, ◌∙◌, arith}
+use Rattle.std.proofs.Common.{◌≡◌, ℕ, zero, suc, ◌+◌, ◌-◌, ◌<◌, ◌≤◌, [], ◌∷◌, ◌++◌, length, Some, Result, Err, refl, sym, ap, subst, ◌∙◌, arith}
 use Rattle.std.specs.Prelude.{slice_get}
 use Rattle.jt_image.specs.declared.kind.Kind.TheVariants as kind
 use Rattle.jt_image.specs.declared.kind.Flaw.{Flaw}
@@ -38,6 +38,16 @@ pub below_values : (v : ℕ) (s : Shape) (a : ℕ) → v ≤ a → slice_get (pu
 below_values zero s a l = let same : a ≡ a - 0 = omega arith in ap (λ (k : ℕ). slice_get s k) same
 below_values (suc v) s zero l = absurd (omega arith)
 below_values (suc v) s (suc a) l = let same : a - v ≡ suc a - suc v = omega arith in below_values v s a (omega arith) ∙ ap (λ (k : ℕ). slice_get s k) same
+
+-- values on top of a shape, with the shape at the end
+pub pushes_end : (v : ℕ) (s : Shape) → pushes v s ≡ pushes v [] ++ s
+pushes_end zero s = refl
+pushes_end (suc v) s = ap (λ (r : Shape). kind.Value ∷ r) (pushes_end v s)
+
+pub at_end : (r s : Shape) (i : ℕ) → length r ≤ i → slice_get (r ++ s) i ≡ slice_get s (i - length r)
+at_end [] s i l = let same : i ≡ i - 0 = omega arith in ap (λ (k : ℕ). slice_get s k) same
+at_end (x ∷ r) s zero l = absurd (omega arith)
+at_end (x ∷ r) s (suc i) l = let same : i - length r ≡ suc i - suc (length r) = omega arith in at_end r s i (omega arith) ∙ ap (λ (k : ℕ). slice_get s k) same
 
 -- ---- a shape with no value at the top
 

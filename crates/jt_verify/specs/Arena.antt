@@ -1,5 +1,5 @@
 -- What an arena of shapes holds: the lists that its nodes stand for, each once.
-use Rattle.std.specs.Prelude.{◌≡◌, ◌⊎◌, ℕ, suc, ◌+◌, ◌*◌, ◌/◌, ◌%◌, ◌<◌, ◌≤◌, List, [], ◌∷◌, ◌++◌, length, get_or, Option, Some, None, Result, Ok, Err, slice_get}
+use Rattle.std.specs.Prelude.{◌≡◌, ◌⊎◌, ℕ, zero, suc, ◌+◌, ◌*◌, ◌/◌, ◌%◌, ◌<◌, ◌≤◌, List, [], ◌∷◌, ◌++◌, length, get_or, Option, Some, None, Result, Ok, Err, slice_get}
 use Rattle.jt_image.specs.declared.kind.Kind.{Kind}
 use Rattle.jt_image.specs.declared.kind.Kind.TheVariants as kind
 use Rattle.jt_image.specs.declared.kind.Flaw.{Flaw}
@@ -8,6 +8,7 @@ use Rattle.jt_verify.specs.declared.links.Mark.{Mark}
 use Rattle.jt_verify.specs.declared.links.Mark.TheVariants as mark
 use Rattle.jt_verify.specs.declared.links.Handle.{Handle}
 use Rattle.jt_verify.specs.declared.links.Node.{Node}
+use Rattle.jt_verify.specs.declared.links.Jump.{Jump}
 use Rattle.jt_verify.specs.declared.links.Link.{Link}
 use Rattle.jt_verify.specs.declared.links.Link.TheVariants as link
 
@@ -61,6 +62,24 @@ grow t (n ∷ ns) = grow (t ++ entered t n ∷ []) ns
 abbrev pub lists_of : List Node → Lists
 lists_of ns = grow ([] ∷ []) ns
 
+-- the shape of a node is the end of this one
+abbrev pub IsUnder : Lists → ℕ → Shape → Type 0
+IsUnder t k s = (r : Shape) × (s ≡ r ++ get_or t k [])
+
+-- the number of entries up to a node; none up to number 0
+abbrev pub IsHeight : List Node → ℕ → ℕ → Type 0
+IsHeight ns zero h = h ≡ 0
+IsHeight ns (suc i) h = (n : Node) × (slice_get ns i ≡ Some n) × (n.height ≡ h)
+
+-- the way down from a node; none from number 0
+abbrev pub IsJump : List Node → ℕ → Jump → Type 0
+IsJump ns zero j = j.to ≡ 0
+IsJump ns (suc i) j = (n : Node) × (slice_get ns i ≡ Some n) × (n.jump ≡ j)
+
+-- ways down lead to older nodes, whose shapes lie under those that they lead from
+abbrev pub AreJumps : List Node → Type 0
+AreJumps ns = (i : ℕ) (n : Node) → slice_get ns i ≡ Some n → (n.jump.to ≤ i) × IsUnder (lists_of ns) n.jump.to (get_or (lists_of ns) (suc i) [])
+
 abbrev pub digit_of : Mark → ℕ
 digit_of mark.Frame = 0
 digit_of mark.Capture = 1
@@ -106,5 +125,6 @@ pub record IsSound (ns : List Node) (ls : List ℕ) (t : Lists) (i : ℕ) (n : N
 pub record IsArena (ns : List Node) (ls : List ℕ) : Type 0 where
   pub len : length (lists_of ns) ≡ suc (length ns)
   pub links : AreLinks (length ns) ls
+  pub jumps : AreJumps ns
   pub sound : (i : ℕ) (n : Node) → slice_get ns i ≡ Some n → IsSound ns ls (lists_of ns) i n
   pub distinct : (i j : ℕ) → i < length (lists_of ns) → j < length (lists_of ns) → get_or (lists_of ns) i [] ≡ get_or (lists_of ns) j [] → i ≡ j

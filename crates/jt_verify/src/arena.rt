@@ -4,7 +4,7 @@ ghost use Rattle.jt_image.specs.Effect.{may_return, pushes};
 ghost use Rattle.jt_image.specs.Typed.{max_entries};
 ghost use Rattle.jt_verify.specs.Arena.{shape_in, IsIn, IsKept, StandsFor, Pops, PopsMany, kind_of, lists_of, IsArena};
 
-use crate::links::{Handle, Link, Mark, Node, digits, find, is_same, node_at};
+use crate::links::{Handle, Link, Mark, Node, digits, find, height_of, is_same, jump_on, node_at};
 use jt_image::{Flaw, Kind};
 use smallvec::SmallVec;
 use std::alloc::{AllocError, Global};
@@ -129,11 +129,21 @@ impl Arena {
         let mut left = above;
         'marks: while left >= rest.values && rest.node != 0 {
             let node = node_at(nodes, rest.node);
-            if left == rest.values {
+            let under = left - rest.values;
+            if under == 0 {
                 return Some(node.mark.kind());
             }
-            left -= rest.values + 1;
-            rest = node.below;
+            let between = node.height - height_of(nodes, node.jump.to);
+            if under >= between {
+                left = under - between;
+                rest = Handle {
+                    values: 0,
+                    node: node.jump.to,
+                };
+            } else {
+                left = under - 1;
+                rest = node.below;
+            }
         }
         if left < rest.values {
             Some(Kind::Value)
@@ -182,10 +192,12 @@ fn push_in(
         Link::To(node) => Ok(node),
         Link::Vacant(place) => {
             let below = shape;
+            let jump = jump_on(nodes.as_slice(), below.node);
             let added = Node {
                 mark,
                 below,
                 height,
+                jump,
             };
             let node = add(nodes, links, added, place)?;
             Ok(node)

@@ -1,6 +1,6 @@
 //! The nodes of an arena, and the links by which a node is found from the one that it stands on.
-ghost use Rattle.std.specs.Prelude.{◌≡◌, ◌≢◌, ◌+◌, ◌-◌, ◌*◌, ◌<◌, ◌≤◌, length, get_or, slice_get, Some, MatchBool};
-ghost use Rattle.jt_verify.specs.Arena.{kind_of, digit_of, AreLinks, Finding};
+ghost use Rattle.std.specs.Prelude.{◌≡◌, ◌≢◌, ◌+◌, ◌-◌, ◌*◌, ◌<◌, ◌≤◌, [], length, get_or, slice_get, Some, MatchBool};
+ghost use Rattle.jt_verify.specs.Arena.{kind_of, digit_of, lists_of, IsUnder, IsHeight, IsJump, AreJumps, AreLinks, Finding};
 
 use jt_image::Kind;
 
@@ -30,12 +30,20 @@ pub(crate) struct Handle {
     pub(crate) node: u32,
 }
 
-/// An entry that is no value, the shape below it, and the number of entries up to this one.
+/// A way down: to a node further below, or to number 0, over so many nodes.
+#[derive(Clone, Copy)]
+pub(crate) struct Jump {
+    pub(crate) to: u32,
+    pub(crate) over: u32,
+}
+
+/// An entry that is no value, the shape below it, the number of entries up to this one, and a way further down.
 #[derive(Clone, Copy)]
 pub(crate) struct Node {
     pub(crate) mark: Mark,
     pub(crate) below: Handle,
     pub(crate) height: u32,
+    pub(crate) jump: Jump,
 }
 
 impl Default for Node {
@@ -44,6 +52,7 @@ impl Default for Node {
             mark: Mark::Frame,
             below: Handle { values: 0, node: 0 },
             height: 0,
+            jump: Jump { to: 0, over: 0 },
         }
     }
 }
@@ -79,6 +88,46 @@ pub(crate) fn node_at(nodes: &[Node], node: u32) -> Node
     ensures { slice_get nodes.now (node - 1) ≡ Some result }
 {
     nodes[node as usize - 1]
+}
+
+/// The number of entries up to a node.
+pub(crate) fn height_of(nodes: &[Node], node: u32) -> u32
+    requires { node ≤ length nodes.now }
+    ensures { IsHeight nodes.now node result }
+{
+    if node == 0 {
+        return 0;
+    }
+    node_at(nodes, node).height
+}
+
+// The way down from a node; there is none from number 0.
+fn jump_of(nodes: &[Node], node: u32) -> Jump
+    requires { node ≤ length nodes.now }
+    ensures { IsJump nodes.now node result }
+{
+    if node == 0 {
+        return Jump { to: 0, over: 0 };
+    }
+    node_at(nodes, node).jump
+}
+
+/// The way down for a new node on this one: two ways of one length become one, so that from any node a few steps lead to any node below.
+pub(crate) fn jump_on(nodes: &[Node], below: u32) -> Jump
+    requires within { below ≤ length nodes.now }
+    requires jumps { AreJumps nodes.now }
+    ensures older { result.to ≤ below }
+    ensures under { IsUnder (lists_of nodes.now) result.to (get_or (lists_of nodes.now) below []) }
+{
+    let near = jump_of(nodes, below);
+    let far = jump_of(nodes, near.to);
+    if near.over == far.over {
+        return Jump {
+            to: far.to,
+            over: far.over.saturating_mul(2).saturating_add(1),
+        };
+    }
+    Jump { to: below, over: 1 }
 }
 
 // The node to which a link leads, or 0.

@@ -14,10 +14,7 @@ ghost use Rattle.jt_image.specs.declared.kind.Kind.TheVariants as kind;
 use crate::arena::Arena;
 use crate::links::{Handle, Mark};
 use jt_filters::{FilterId, OpId, TestId};
-use jt_image::{Code, ConstantRef, Flaw, Instruction, Kind, LoopField, UnitHeader};
-
-/// Entries of a shape, at the most.
-pub(crate) const MAX_ENTRIES: usize = 1024;
+use jt_image::{Code, ConstantRef, Flaw, Instruction, Kind, LoopField, MAX_ENTRIES, UnitHeader};
 
 /// The points that an instruction leads to.
 #[derive(Clone, Copy, Debug, PartialEq, Eq)]

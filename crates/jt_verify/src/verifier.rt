@@ -10,8 +10,8 @@ ghost use Rattle.jt_verify.specs.Refusing.{RefusalHolds};
 use crate::arena::Arena;
 use crate::links::Handle;
 use crate::refusal::Refusal;
-use crate::typing::{EffectError, Leads, MAX_ENTRIES, effect};
-use jt_image::{Code, Flaw, UnitHeader};
+use crate::typing::{EffectError, Leads, effect};
+use jt_image::{Code, Flaw, MAX_ENTRIES, UnitHeader};
 use std::alloc::{AllocError, Global};
 
 /// A shape that comes to a point.

@@ -1,4 +1,5 @@
-use Rattle.std.proofs.Common.{◌+◌, List, length, ap, arith}
+use Rattle.std.proofs.Common.{◌+◌, ◌≤◌, List, [], length, get_or, ap, subst, arith}
+use Rattle.jt_verify.specs.Arena.{lists_of, IsUnder}
 use Rattle.jt_verify.specs.declared.links.Node.{Node}
 use Rattle.jt_verify.proofs.Growing.{kept_same, found_pushed, vacant_pushed, pushed, kept_pushed, shape_pushed}
 use Rattle.jt_verify.proofs.arena.push_in.Goals as goal
@@ -15,6 +16,12 @@ returns-in-To-clause-kept c = kept_same _
 pub returns-in-To-clause-node : goal.returns-in-To-clause-node
 returns-in-To-clause-node c = found_pushed c.args.nodes.now.items c.as_slice.result.now c.args.links.now.items c.as_slice-2.result.now c.requires.arena c.args.mark c.args.shape c.digits.result c.in-To.node c.as_slice.ensures c.in-To.ensures
 
+pub jump_on-jump-requires-clause-within : goal.jump_on-jump-requires-clause-within
+jump_on-jump-requires-clause-within c = rw c.as_slice-in-Vacant.ensures (omega (arith, c.requires.within, c.requires.arena.len))
+
+pub jump_on-jump-requires-clause-jumps : goal.jump_on-jump-requires-clause-jumps
+jump_on-jump-requires-clause-jumps c = rw c.as_slice-in-Vacant.ensures c.requires.arena.jumps
+
 pub add-requires : goal.add-requires
 add-requires c = omega (arith, c.in-Vacant.ensures.1, c.requires.arena.links.places, ap (λ (ns : List Node). length ns) c.as_slice.ensures)
 
@@ -29,10 +36,12 @@ returns-in_ok-node-in-Vacant-clause-arena c =
     let ns = c.args.nodes.now.items in
     let ls = c.args.links.now.items in
     let f = vacant_pushed ns c.as_slice.result.now ls c.as_slice-2.result.now c.args.mark c.args.shape c.digits.result c.in-Vacant.place c.as_slice.ensures c.as_slice-2.ensures c.digits.ensures c.in-Vacant.ensures in
-    rw (c.in_ok-node-in-Vacant.ensures.nodes, c.in_ok-node-in-Vacant.ensures.links) (pushed ns ls c.requires.arena c.in-Vacant.place c.in_ok-node-in-Vacant.node f.0 f.1 c.args.mark c.args.shape c.args.height (omega (arith, c.in_ok-node-in-Vacant.ensures.node)) c.requires.within c.requires.height f)
+    let jump = c.jump_on-jump.result in
+    let way = subst (λ (xs : List Node). (jump.to ≤ c.args.shape.node) × IsUnder (lists_of xs) jump.to (get_or (lists_of xs) c.args.shape.node [])) c.as_slice-in-Vacant.ensures (c.jump_on-jump.ensures.older, c.jump_on-jump.ensures.under) in
+    rw (c.in_ok-node-in-Vacant.ensures.nodes, c.in_ok-node-in-Vacant.ensures.links) (pushed ns ls c.requires.arena c.in-Vacant.place c.in_ok-node-in-Vacant.node f.0 f.1 c.args.mark c.args.shape c.args.height jump (omega (arith, c.in_ok-node-in-Vacant.ensures.node)) c.requires.within c.requires.height way f)
 
 pub returns-in_ok-node-in-Vacant-clause-kept : goal.returns-in_ok-node-in-Vacant-clause-kept
-returns-in_ok-node-in-Vacant-clause-kept c = rw c.in_ok-node-in-Vacant.ensures.nodes (kept_pushed c.args.nodes.now.items (record { mark = c.args.mark; below = c.args.shape; height = c.args.height }) c.requires.arena.len)
+returns-in_ok-node-in-Vacant-clause-kept c = rw c.in_ok-node-in-Vacant.ensures.nodes (kept_pushed c.args.nodes.now.items (record { mark = c.args.mark; below = c.args.shape; height = c.args.height; jump = c.jump_on-jump.result }) c.requires.arena.len)
 
 pub returns-in_ok-node-in-Vacant-clause-node : goal.returns-in_ok-node-in-Vacant-clause-node
-returns-in_ok-node-in-Vacant-clause-node c = rw c.in_ok-node-in-Vacant.ensures.nodes (shape_pushed c.args.nodes.now.items (record { mark = c.args.mark; below = c.args.shape; height = c.args.height }) c.requires.arena.len c.in_ok-node-in-Vacant.node (omega (arith, c.in_ok-node-in-Vacant.ensures.node)))
+returns-in_ok-node-in-Vacant-clause-node c = rw c.in_ok-node-in-Vacant.ensures.nodes (shape_pushed c.args.nodes.now.items (record { mark = c.args.mark; below = c.args.shape; height = c.args.height; jump = c.jump_on-jump.result }) c.requires.arena.len c.in_ok-node-in-Vacant.node (omega (arith, c.in_ok-node-in-Vacant.ensures.node)))
