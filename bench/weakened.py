@@ -37,6 +37,7 @@ LAYERS = [
     ("jt_machine", "src/runs.rt", "run", "outcome"),
     ("jt_line", "src/line.rt", "job", "asked"),
     ("jt_host", "src/rendering.rt", "render", "rendered"),
+    ("jt_turns", "src/turns.rt", "take_turns", ""),
 ]
 
 

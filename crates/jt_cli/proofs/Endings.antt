@@ -42,13 +42,13 @@ module _ (files after : Known) (found : Option (Word × List Row)) where
   job_ends e u m h = h
 
 -- a command that compiles has its name
-named : (name : Word) (rows : List Row) (k : Command) (o : Options) (b : Budget) → IsCommand name rows k o b → IsCompile k → name ≡ codes "compile"
-named name rows (command.Compile dir template out) o b h is = h.0
-named name rows k o b h is = absurd is
+named : (name : Word) (rows : List Row) (k : Command) (o : Options) (b : Budget) (n : ℕ) → IsCommand name rows k o b n → IsCompile k → name ≡ codes "compile"
+named name rows (command.Compile dir template out) o b n h is = h.0
+named name rows k o b n h is = absurd is
 
 pub compile_asked : (found : Option (Word × List Row)) (j : Job) → IsAsked found j → IsCompile j.command → option_map (λ c. c.0) found ≡ Some (codes "compile")
 compile_asked None j h is = absurd h
-compile_asked (Some c) j h is = ap Some (named c.0 c.1 j.command j.options j.budget h is)
+compile_asked (Some c) j h is = ap Some (named c.0 c.1 j.command j.options j.budget j.slice h is)
 
 -- what is known to be the same is kept
 pub keeps_itself : (known : Option (List ℕ)) → Keeps known known

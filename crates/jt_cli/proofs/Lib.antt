@@ -1,3 +1,4 @@
 mod Endings
 mod Gathering
+mod Starting
 pub mod Taking

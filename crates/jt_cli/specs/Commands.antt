@@ -1,5 +1,5 @@
 -- What each command comes to: what it reads from the files, how it ends and what it leaves.
-use Rattle.std.specs.Prelude.{◌≡◌, ◌≢◌, ◌⊎◌, ℕ, List, [], ◌++◌, Option, Some, None, Result, Ok, Err, String, codes, string_bytes}
+use Rattle.std.specs.Prelude.{◌≡◌, ◌≢◌, ◌⊎◌, ◌<◌, ℕ, Bool, true, false, List, [], ◌∷◌, ◌++◌, length, Contains, Option, Some, None, Result, Ok, Err, String, codes, string_bytes}
 use Rattle.std.specs.Fmt.{decimal}
 use Rattle.std.specs.declared.alloc.Global.{Global}
 use Rattle.std.specs.Io.KnownBytes.{Appends, Keeps}
@@ -8,19 +8,29 @@ use Rattle.jt_scan.specs.declared.options.Options.{Options as ScanOptions}
 use Rattle.jt_value.specs.Pairs.{Pairs}
 use Rattle.jt_inherit.specs.Chains.{Given}
 use Rattle.jt_parse.specs.Trees.{Text}
+use Rattle.jt_value.specs.ContextView.{pairs_of}
 use Rattle.jt_budget.specs.declared.Budget.{Budget}
+use Rattle.jt_image.specs.Config.{Outcome}
+use Rattle.jt_machine.specs.View.{budget_view}
 use Rattle.jt_host.specs.Json.{IsContext}
+use Rattle.jt_host.specs.Turns.{max_sessions}
+use Rattle.jt_host.specs.declared.HostError.TheVariants as host_error
 use Rattle.jt_host.specs.Rendering.{IsRefused as IsUncompiled}
 use Rattle.jt_line.specs.Line.{IsAsked}
 use Rattle.jt_line.specs.declared.Command.{Command}
 use Rattle.jt_line.specs.declared.Command.TheVariants as command
 use Rattle.jt_line.specs.declared.Job.{Job}
 use Rattle.jt_line.specs.declared.Options.{Options as LineOptions}
+use Rattle.jt_line.specs.declared.Pair.{Pair}
+use Rattle.jt_turns.specs.Lines.{session_lines}
+use Rattle.jt_turns.specs.Outcomes.{AreOutcomes}
+use Rattle.jt_turns.specs.declared.Start.{Start}
 use Rattle.jt_cli.specs.declared.messages.Failure.{Failure}
 use Rattle.jt_cli.specs.declared.messages.Failure.TheVariants as failure
+use Rattle.jt_machine.specs.Sinks.{TookFront}
 use Rattle.jt_cli.specs.Ending.{code_of, status_of}
 use Rattle.jt_cli.specs.Files.{Known, IsLibrary}
-use Rattle.jt_cli.specs.Program.{ComesTo, IsCounted, IsImage, IsNoContext, IsNoImage, RendersTo, scan_options}
+use Rattle.jt_cli.specs.Program.{ComesTo, IsCounted, IsImage, IsImageOf, IsNoContext, IsNoImage, RendersTo, scan_options}
 
 -- how a command ends: with the text that it prints, or with a failure
 abbrev pub Ending : Type 0
@@ -88,6 +98,33 @@ module _ (files : Known) where
     pub given : IsContextAt files context pairs
     pub comes : RendersTo sources name options pairs b e
 
+module _ (files : Known) where
+  -- the code of the image of a pair, and the context of the other file
+  pub record IsStart (p : Pair) (s : Start) : Type 0 where
+    pub bytes : List ℕ
+    pub held : files.holds (string_bytes p.image) bytes
+    pub image : IsImageOf bytes s.code
+    pub given : IsContextAt files (Some p.context) (pairs_of s.context)
+
+  abbrev pub AreStarts : List Pair → List Start → Type 0
+  AreStarts [] [] = Unit {0}
+  AreStarts [] (s ∷ ss) = ⊥
+  AreStarts (p ∷ ps) [] = ⊥
+  AreStarts (p ∷ ps) (s ∷ ss) = IsStart p s × AreStarts ps ss
+
+  -- a pair gives no session: a file fails, that of the context spells none, or that of the image is none that is accepted
+  abbrev pub IsNoStart : Pair → Failure → Type 0
+  IsNoStart p e = IsUnread files (Some p.context) (Err e) ⊎ ((bytes : List ℕ) × files.holds (string_bytes p.image) bytes × IsNoImage bytes e)
+
+  -- The images of pairs run for their contexts in turns, each as if alone: the line of each, whatever the turns are; or why there is none.
+  -- The host is full only where there are more than 64.
+  abbrev pub TakesTurns : List Pair → Budget → Ending → Type 0
+  TakesTurns ps b (Ok text) =
+      (ss : List Start) × AreStarts ps ss × ((os : List Outcome) × AreOutcomes (budget_view b) ss os × (string_bytes text ≡ session_lines 1 os))
+  TakesTurns ps b (Err failure.NoMemory) = Unit {0}
+  TakesTurns ps b (Err (failure.Host e)) = (e ≡ host_error.Full) × (max_sessions < length ps)
+  TakesTurns ps b (Err e) = (p : Pair) × Contains ps p × IsNoStart p e
+
 module _ (files after : Known) where
   -- the template of a name, from the files of a directory, is compiled to an image at a path
   pub record Compiles (dir name out : Text) (options : ScanOptions) (e : Ending) : Type 0 where
@@ -107,6 +144,7 @@ module _ (files after : Known) where
   CommandEnds (command.Run image context) o b e = IsUnread files context e ⊎ Runs files (string_bytes image) context b e
   CommandEnds (command.Render dir name context) o b e =
       IsUnread files context e ⊎ Renders files (string_bytes dir) (string_bytes name) (scan_options o) context b e
+  CommandEnds (command.Turns sessions) o b e = TakesTurns files sessions.items b e
 
   abbrev pub JobEnds : Job → Ending → Type 0
   JobEnds j = CommandEnds j.command j.options j.budget
@@ -131,7 +169,10 @@ IsCompile c = ⊥
 -- ---- what the program tells
 
 -- The status, and what stands on standard output behind what stood there: the whole text of a command that is
--- done, unless writing it failed; and nothing of one that failed.
-abbrev pub Tells : Option (List ℕ) → Option (List ℕ) → Ending → ℕ → Type 0
-Tells old new (Ok text) status = ((status ≡ 0) × Appends old new (string_bytes text)) ⊎ (status ≡ 5)
-Tells old new (Err e) status = (status ≡ code_of (status_of e)) × Keeps old new
+-- done, and status 0; or, with status 5, a beginning of it, and only where the sink has failed; and nothing of one
+-- that failed.
+abbrev pub Tells : Option (List ℕ) → Option (List ℕ) → Bool → Ending → ℕ → Type 0
+Tells old new sink_failed (Ok text) status =
+    ((status ≡ 0) × (sink_failed ≡ false) × Appends old new (string_bytes text))
+    ⊎ ((status ≡ 5) × (sink_failed ≡ true) × TookFront (string_bytes text) old new)
+Tells old new sink_failed (Err e) status = (status ≡ code_of (status_of e)) × Keeps old new

@@ -15,6 +15,8 @@ use Rattle.jt_codegen.specs.declared.error.CompileError.{CompileError}
 use Rattle.jt_codegen.specs.declared.error.CompileError.TheVariants as compile_error
 use Rattle.jt_host.specs.declared.ContextError.{ContextError}
 use Rattle.jt_host.specs.declared.ContextError.TheVariants as context_error
+use Rattle.jt_host.specs.declared.HostError.{HostError}
+use Rattle.jt_host.specs.declared.HostError.TheVariants as host_error
 use Rattle.jt_host.specs.declared.RenderError.{RenderError}
 use Rattle.jt_host.specs.declared.RenderError.TheVariants as render_error
 use Rattle.jt_verify.specs.declared.Refusal.{Refusal}
@@ -42,6 +44,7 @@ status_of (failure.Code r) = status.Refused
 status_of (failure.Template e) = status.Refused
 status_of (failure.Context e) = status.Refused
 status_of (failure.Spent s) = status.Spent
+status_of (failure.Host e) = status.Refused
 status_of (failure.File path) = status.File
 status_of failure.Output = status.File
 status_of failure.NoMemory = status.Memory
@@ -80,6 +83,11 @@ of_context e = failure.Context e
 abbrev pub of_render : RenderError → Failure
 of_render (render_error.Compile e) = of_compile e
 of_render render_error.NoMemory = failure.NoMemory
+
+-- what a refusal of the host comes to: its reason, or no memory
+abbrev pub of_host : HostError → Failure
+of_host host_error.NoMemory = failure.NoMemory
+of_host e = failure.Host e
 
 -- what the end of a run comes to: its text, or a failure
 abbrev pub of_outcome : Outcome → Result (String Global) Failure

@@ -9,11 +9,11 @@ use crate::templates::Templates;
 use jt_budget::Budget;
 use jt_codegen::compile;
 use jt_host::{ContextError, context_from_json, render};
-use jt_image::{Code, decode, encode};
-use jt_machine::run;
+use jt_image::{Code, decode, encode, view};
+use jt_machine::run_view;
 use jt_scan::Options;
 use jt_value::Context;
-use jt_verify::{Verified, verify};
+use jt_verify::{Verified, VerifiedView, verify, verify_view};
 use std::alloc::Global;
 
 /// How templates are read, by what the line asks for.
@@ -60,8 +60,22 @@ pub fn image_of(
     }
 }
 
+/// The code that bytes spell, in place, verified.
+fn verified_of(alloc: Global, bytes: &[u8]) -> Result<VerifiedView<'_>, Failure>
+    ensures { VerifiesTo bytes.now result }
+{
+    let code = match view(alloc, bytes) {
+        Ok(code) => code,
+        Err(error) => return Err(no_image(error)),
+    };
+    match verify_view(alloc, code) {
+        Ok(verified) => Ok(verified),
+        Err((_, refusal)) => Err(no_code(refusal)),
+    }
+}
+
 /// The image that bytes spell, verified.
-fn verified_of(alloc: Global, bytes: &[u8]) -> Result<Verified, Failure>
+pub fn verified_image(alloc: Global, bytes: &[u8]) -> Result<Verified, Failure>
     ensures { VerifiesTo bytes.now result }
 {
     let image = match decode(alloc, bytes) {
@@ -79,8 +93,8 @@ pub fn counts_of(alloc: Global, bytes: &[u8]) -> Result<(usize, usize), Failure>
     ensures { ChecksTo bytes.now result }
 {
     let verified = verified_of(alloc, bytes)?;
-    let image = verified.image();
-    Ok((image.units(), image.instructions()))
+    let code = verified.code();
+    Ok((code.units(), code.instructions()))
 }
 
 /// The text of the image that bytes spell, run for a context.
@@ -93,7 +107,7 @@ pub fn run_image(
     ensures { ComesTo bytes.now (pairs_of context.now) budget result }
 {
     let verified = verified_of(alloc, bytes)?;
-    match run(alloc, &verified, context, budget) {
+    match run_view(alloc, &verified, context, budget) {
         Ok(outcome) => text_of(outcome),
         Err(_) => Err(Failure::NoMemory),
     }

@@ -2,6 +2,8 @@
 
 use crate::files::{FileError, Files};
 use std::alloc::{AllocError, AllocFailed};
+use std::fs::OpenFile;
+use std::io::Read;
 use std::rt::Runtime;
 use std::{fs, io};
 
@@ -54,6 +56,15 @@ impl<T: Drop> From<AllocFailed<T>> for FileError {
     }
 }
 
+/// Room for the bytes that the system says a file has, and for one more: the end is then met without growing. None where it says
+/// nothing.
+fn room_for<F: OpenFile>(file: &F) -> usize {
+    match file.metadata() {
+        Ok(known) => usize::try_from(known.len()).unwrap_or(0).saturating_add(1),
+        Err(_) => 0,
+    }
+}
+
 impl<R: Runtime + AllocGlobal> Files for Machine<'_, R> {
     fn list(&self, dir: &str) -> Result<Vec<String>, FileError> {
         let mut names = Vec::new(self.rt.alloc());
@@ -67,7 +78,9 @@ impl<R: Runtime + AllocGlobal> Files for Machine<'_, R> {
     }
 
     fn read(&self, path: &str) -> Result<Vec<u8>, FileError> {
-        let bytes = fs::read(self.rt, path)?;
+        let mut file = fs::open(self.rt, path)?;
+        let mut bytes = Vec::with_capacity(self.rt.alloc(), room_for(&file))?;
+        file.read_to_end(&mut bytes)?;
         Ok(bytes)
     }
 

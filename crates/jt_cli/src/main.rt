@@ -7,10 +7,12 @@ mod machine;
 mod messages;
 mod program;
 mod templates;
+mod turns;
 
 use crate::machine::Machine;
 use crate::messages::Failure;
 use crate::program::{perform, report};
+use jt_machine::IoSink;
 use std::io;
 use std::process::ExitCode;
 
@@ -51,7 +53,7 @@ fn perform_on(rt: &HostRuntime, words: &[String]) -> u8 {
         alloc,
         texts.as_slice(),
         &mut files,
-        &mut rt.stdout(),
+        &mut IoSink::new(rt.stdout()),
         &mut rt.stderr(),
     )
 }
@@ -60,5 +62,7 @@ fn perform_on(rt: &HostRuntime, words: &[String]) -> u8 {
 mod refusals;
 #[cfg(test)]
 mod rows;
+#[cfg(test)]
+mod sessions;
 #[cfg(test)]
 mod tests;

@@ -1,18 +1,18 @@
 //! How a run of the program ends: its status, and the text that says why.
 
 ghost use Rattle.std.specs.Prelude.{◌≡◌};
-ghost use Rattle.jt_cli.specs.Ending.{code_of, status_of, of_line, of_file, of_image, of_code, of_compile, of_context, of_render, of_outcome};
+ghost use Rattle.jt_cli.specs.Ending.{code_of, status_of, of_line, of_file, of_image, of_code, of_compile, of_context, of_host, of_render, of_outcome};
 
 use crate::files::FileError;
 use jt_budget::Spent;
 use jt_codegen::CompileError;
-use jt_host::{ContextError, RenderError};
+use jt_host::{ContextError, HostError, RenderError};
 use jt_image::ImageError;
 use jt_line::JobError;
 use jt_machine::Outcome;
 use jt_value::Fault;
 use jt_verify::Refusal;
-use std::alloc::AllocError;
+use std::alloc::{AllocError, AllocFailed};
 use thiserror::Error;
 
 /// What the program ends with.
@@ -71,6 +71,9 @@ pub enum Failure {
     /// The budget was spent.
     #[error("jt: spent {0}\n")]
     Spent(Spent),
+    /// No session more is opened.
+    #[error("jt: refused {0}\n")]
+    Host(HostError),
     /// The file at this path could not be read or written.
     #[error("jt: file {0}\n")]
     File(String),
@@ -96,6 +99,7 @@ impl Failure {
             Failure::Template(_) => Status::Refused,
             Failure::Context(_) => Status::Refused,
             Failure::Spent(_) => Status::Spent,
+            Failure::Host(_) => Status::Refused,
             Failure::File(_) => Status::File,
             Failure::Output => Status::File,
             Failure::NoMemory => Status::Memory,
@@ -109,6 +113,16 @@ impl From<AllocError> for Failure {
     ghost from_gives = { λ _ f. f ≡ NoMemory };
 
     fn from(_error: AllocError) -> Failure {
+        Failure::NoMemory
+    }
+}
+
+impl<T: Drop> From<AllocFailed<T>> for Failure {
+    ghost use Rattle.jt_cli.specs.declared.messages.Failure.TheVariants.{NoMemory};
+
+    ghost from_gives = { λ _ f. f ≡ NoMemory };
+
+    fn from(_error: AllocFailed<T>) -> Failure {
         Failure::NoMemory
     }
 }
@@ -171,6 +185,16 @@ pub fn no_context(error: ContextError) -> Failure
     match error {
         ContextError::NoMemory => Failure::NoMemory,
         flaw => Failure::Context(flaw),
+    }
+}
+
+/// What a host that refuses comes to.
+pub fn no_session(error: HostError) -> Failure
+    ensures { result ≡ of_host error }
+{
+    match error {
+        HostError::NoMemory => Failure::NoMemory,
+        refusal => Failure::Host(refusal),
     }
 }
 

@@ -1,8 +1,7 @@
 //! A whole run of the program.
-ghost use Rattle.std.specs.Prelude.{◌≡◌, ◌≢◌, ◌≤◌, ◌⊎◌, ◌++◌, ℕ, List, [], ◌∷◌, Ok, Err, map, codes, string_bytes, None, IfOk, IfErr, IsErrOf, OnOk};
+ghost use Rattle.std.specs.Prelude.{◌≡◌, ◌≢◌, ◌≤◌, ◌⊎◌, ◌++◌, ℕ, true, List, [], ◌∷◌, Ok, Err, map, codes, string_bytes, None, IfOk, IfErr, IsErrOf, OnOk};
 ghost use Rattle.std.specs.List.Sorted.{IsPermutation, IsSorted};
 ghost use Rattle.std.specs.String.{string_cmp};
-ghost use Rattle.std.specs.Io.KnownBytes.{Appends};
 ghost use Rattle.clap.specs.Walk.{texts};
 ghost use Rattle.clap.specs.Words.{subcommand_of};
 ghost use Rattle.jt_value.specs.ContextView.{pairs_of};
@@ -16,8 +15,10 @@ use crate::commands::{context_of, counts_of, image_of, render_text, run_image, s
 use crate::files::{FileError, Files};
 use crate::messages::{Failure, Status, no_file};
 use crate::templates::Templates;
+use crate::turns::run_turns;
 use jt_budget::Budget;
 use jt_line::{Command, Job, job};
+use jt_machine::{Sink, put_all};
 use jt_scan::Options;
 use jt_value::Context;
 use std::alloc::Global;
@@ -27,8 +28,8 @@ use std::io::Write;
 /// 0 done, 1 fault, 2 usage, 3 refused, 4 spent, 5 file, 6 no memory.
 ///
 /// The text goes to `out`, with nothing added. Where the status is not 0 nothing stands there,
-/// unless writing it failed, and `errors` says why: by the usage, or by one line.
-pub fn perform<F: Files, W: Write, E: Write>(
+/// or a beginning of the text where `out` failed, and `errors` says why: by the usage, or by one line.
+pub fn perform<F: Files, W: Sink, E: Write>(
     alloc: Global,
     words: &[&str],
     files: &mut F,
@@ -43,17 +44,19 @@ pub fn perform<F: Files, W: Write, E: Write>(
     // it tells how the command of the line ended, over the files as they were
     ensures ends { result ≢ 2 → result ≢ 6 → (e : Ending)
         × Answers (F.known files.old) (F.known files.new) (subcommand_of program_app (texts words.now)) e
-        × Tells (W.contents out.old) (W.contents out.new) e result }
+        × Tells (W.taken out.old) (W.taken out.new) (W.failed out.new) e result }
     // where it is 0 nothing was added to standard error
     ensures silent { result ≡ 0 → errors.new ≡ errors.old }
     // where it is neither 0 nor 5 standard output is as it was
     ensures untouched { result ≢ 0 → result ≢ 5 → out.new ≡ out.old }
+    // so it is where it had failed before
+    ensures failed_before { W.failed out.old ≡ true → out.new ≡ out.old }
     // the files are as they were, but where a template was to be compiled and nothing refused it
     ensures kept { ¬ Asks (codes "compile") (texts words.now) → files.new ≡ files.old }
     ensures unwritten { result ≢ 0 → result ≢ 5 → result ≢ 6 → files.new ≡ files.old }
 {
     match done(alloc, words, files) {
-        Ok(text) => print(&text, out, errors),
+        Ok(text) => print(text, out, errors),
         Err(failure) => report(errors, &failure),
     }
 }
@@ -68,12 +71,15 @@ pub fn report<E: Write>(errors: &mut E, failure: &Failure) -> u8
 }
 
 /// Prints the text of a command that is done, and answers the status.
-fn print<W: Write, E: Write>(text: &str, out: &mut W, errors: &mut E) -> u8
-    ensures status { (result ≡ 0) ⊎ (result ≡ 5) }
-    ensures printed { result ≡ 0 → Appends (W.contents out.old) (W.contents out.new) text.now }
+fn print<W: Sink, E: Write>(text: String, out: &mut W, errors: &mut E) -> u8
+    ensures told { Tells (W.taken out.old) (W.taken out.new) (W.failed out.new) (Ok text) result }
+    ensures failed_before { W.failed out.old ≡ true → out.new ≡ out.old }
     ensures silent { result ≡ 0 → errors.new ≡ errors.old }
 {
-    match out.write_all(text.as_bytes()) {
+    if out.has_failed() {
+        return report(errors, &Failure::Output);
+    }
+    match put_all(out, text.as_bytes()) {
         Ok(()) => Status::Done.code(),
         Err(_) => report(errors, &Failure::Output),
     }
@@ -102,6 +108,7 @@ fn carried_out<F: Files>(alloc: Global, job: Job, files: &mut F) -> Result<Strin
         command,
         options,
         budget,
+        slice,
     } = job;
     let options = scan_options(options);
     match command {
@@ -111,6 +118,7 @@ fn carried_out<F: Files>(alloc: Global, job: Job, files: &mut F) -> Result<Strin
         Command::Render { dir, name, context } => {
             render_in(alloc, files, dir, &name, options, context, budget)
         }
+        Command::Turns { sessions } => run_turns(alloc, files, sessions, budget, slice),
     }
 }
 
@@ -177,7 +185,11 @@ fn render_in<F: Files>(
 }
 
 /// The context in a file, or the empty one where there is no file.
-fn context_at<F: Files>(alloc: Global, files: &F, path: Option<String>) -> Result<Context, Failure>
+pub fn context_at<F: Files>(
+    alloc: Global,
+    files: &F,
+    path: Option<String>,
+) -> Result<Context, Failure>
     ensures given { IfOk result (λ context. IsContextAt (F.known files.now) path (pairs_of context)) }
     ensures err { IfErr result (λ e. IsUnread (F.known files.now) path (Err e)) }
 {
@@ -191,7 +203,7 @@ fn context_at<F: Files>(alloc: Global, files: &F, path: Option<String>) -> Resul
 }
 
 /// The bytes of the file at `path`.
-fn bytes_at<F: Files>(files: &F, path: String) -> Result<Vec<u8>, Failure>
+pub fn bytes_at<F: Files>(files: &F, path: String) -> Result<Vec<u8>, Failure>
     ensures held { IfOk result (λ bytes. (F.known files.now).holds (string_bytes path) bytes.items) }
     ensures err { IfErr result (λ e. IsUnread (F.known files.now) None (Err e)) }
 {

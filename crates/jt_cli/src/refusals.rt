@@ -2,6 +2,7 @@
 
 use crate::files::{FileError, Files};
 use crate::program::perform;
+use jt_machine::IoSink;
 use std::alloc::{AllocError, Global};
 use std::process::Abort;
 use std::test::Fail;
@@ -61,7 +62,7 @@ fn says(
     line: &str,
 ) -> Result<(), Fail> {
     let alloc = rt.alloc();
-    let mut printed = Vec::new(alloc);
+    let mut printed = IoSink::new(Vec::new(alloc));
     let mut said = Vec::new(alloc);
     let status = match line.split_once(' ') {
         Some(("fault", _)) => 1,
@@ -70,7 +71,7 @@ fn says(
     };
     let got = perform(alloc, words, shelf, &mut printed, &mut said);
     assert_eq!(rt; got, status, "{line}");
-    assert!(rt; printed.is_empty(), "{line}");
+    assert!(rt; printed.into_inner().is_empty(), "{line}");
     let wanted = format!(in alloc; "jt: {line}\n")?;
     assert_eq!(rt; std::str::from_utf8(said.as_slice()), Ok(wanted.as_str()));
     Ok(())

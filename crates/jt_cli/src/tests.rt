@@ -2,7 +2,8 @@ use crate::files::{FileError, Files};
 use crate::machine::Machine;
 use crate::program::perform;
 use jt_budget::Budget;
-use jt_line::{Command, DEFAULT, Job, Options, USUAL, job};
+use jt_line::{Command, DEFAULT, Job, Options, SLICE, USUAL, job};
+use jt_machine::IoSink;
 use std::alloc::Global;
 use std::process::Abort;
 use std::test::Fail;
@@ -103,6 +104,31 @@ impl io::Write for Closed {
     }
 }
 
+/// A writer that takes one byte a call, and fails once, when it took `left` of them.
+#[derive(Drop)]
+struct Flaky {
+    taken: Vec<u8>,
+    left: usize,
+}
+
+impl io::Write for Flaky {
+    fn write(&mut self, buf: &[u8]) -> io::Result<usize> {
+        let Some(byte) = buf.first() else {
+            return Ok(0);
+        };
+        if self.left == 0 || self.taken.push(*byte).is_err() {
+            self.left = usize::MAX;
+            return Err(io::Error::from(io::ErrorKind::BrokenPipe));
+        }
+        self.left -= 1;
+        Ok(1)
+    }
+
+    fn flush(&mut self) -> io::Result<()> {
+        Ok(())
+    }
+}
+
 /// Checks the status of a run over `bytes`, what stands on standard output, and how standard error begins.
 fn shows(
     rt: &(impl Abort + AllocGlobal),
@@ -129,12 +155,12 @@ fn shows_on<F: Files>(
     errors: &str,
 ) {
     let alloc = rt.alloc();
-    let mut printed = Vec::new(alloc);
+    let mut printed = IoSink::new(Vec::new(alloc));
     let mut said = Vec::new(alloc);
     let got = perform(alloc, words, files, &mut printed, &mut said);
     assert_eq!(rt; got, status, "{words:?}");
     assert_eq!(rt;
-        std::str::from_utf8(printed.as_slice()),
+        std::str::from_utf8(printed.into_inner().as_slice()),
         Ok(out),
         "{words:?}"
     );
@@ -500,19 +526,53 @@ fn says_where_a_text_is_not_taken(rt: HostRuntime) {
         alloc,
         bytes: X.as_slice(),
     };
+    let mut out = IoSink::new(Closed);
     let mut said = Vec::new(alloc);
     let words = ["run", "image"];
-    let status = perform(alloc, words.as_slice(), &mut files, &mut Closed, &mut said);
+    let status = perform(alloc, words.as_slice(), &mut files, &mut out, &mut said);
     assert_eq!(rt; status, 5);
     assert_eq!(rt; said.as_slice(), b"jt: file -\n".as_slice());
+    let mut out = IoSink::new(said);
     assert_eq!(rt;
-        perform(alloc, words.as_slice(), &mut files, &mut said, &mut Closed),
+        perform(alloc, words.as_slice(), &mut files, &mut out, &mut Closed),
         0
     );
     assert_eq!(rt;
-        perform(alloc, &["run"], &mut files, &mut said, &mut Closed),
+        perform(alloc, &["run"], &mut files, &mut out, &mut Closed),
         2
     );
+    assert_eq!(rt; out.into_inner().as_slice(), b"jt: file -\nx".as_slice());
+}
+
+#[test]
+fn puts_a_beginning_until_a_sink_fails(rt: HostRuntime) {
+    let alloc = rt.alloc();
+    let files: [(&str, &[u8]); 1] = [("t", b"Hello")];
+    let words = ["render", "site", "t"];
+    for (left, status, front) in [(0, 5, ""), (2, 5, "He"), (4, 5, "Hell"), (5, 0, "Hello")] {
+        let mut site = Site {
+            alloc,
+            files: files.as_slice(),
+            out: Vec::new(alloc),
+        };
+        let mut out = IoSink::new(Flaky {
+            taken: Vec::new(alloc),
+            left,
+        });
+        let mut said = Vec::new(alloc);
+        let got = perform(alloc, words.as_slice(), &mut site, &mut out, &mut said);
+        assert_eq!(rt; got, status, "{left}");
+        if status == 5 {
+            // It would take a text now, but it has failed.
+            let got = perform(alloc, words.as_slice(), &mut site, &mut out, &mut said);
+            assert_eq!(rt; got, 5, "{left}");
+        }
+        assert_eq!(rt;
+            out.into_inner().taken.as_slice(),
+            front.as_bytes(),
+            "{left}"
+        );
+    }
 }
 
 #[test]
@@ -562,7 +622,8 @@ fn reads_a_line(rt: HostRuntime) -> Result<(), Fail> {
                         context: None,
                     },
                     options: USUAL,
-                    budget
+                    budget,
+                    slice: SLICE,
                 },
             "{words:?}"
         );
@@ -610,7 +671,8 @@ fn reads_a_line_of_compile(rt: HostRuntime) -> Result<(), Fail> {
                 == Job {
                     command,
                     options,
-                    budget: DEFAULT
+                    budget: DEFAULT,
+                    slice: SLICE,
                 },
             "{words:?}"
         );

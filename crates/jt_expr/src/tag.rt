@@ -29,7 +29,9 @@ pub fn expression(alloc: Global, tokens: &[Token<'_>], limit: u8) -> Result<Expr
     ensures syntax { IsErrOf result ExprError.Syntax → (t : trees.Expr) → Spells whole t (map token_view tokens.now) → ⊥ }
     // No tree within the levels is spelled so.
     ensures deep { IsErrOf result ExprError.TooDeep → (t : trees.Expr) → Spells whole t (map token_view tokens.now) → limit < levels t }
-    // What a reader with so many levels gives, and no other refusal.
+    // No other refusal is answered, but for want of memory.
+    ensures others { (IsErrOf result ExprError.UnknownFilter → ⊥) × (IsErrOf result ExprError.UnknownTest → ⊥) }
+    // What a reader with so many levels gives.
     ensures reads { GivesWhole (parsed limit (map token_view tokens.now)) result }
 {
     read_all(alloc, tokens, limit)

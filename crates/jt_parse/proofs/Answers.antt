@@ -16,6 +16,7 @@ use Rattle.jt_parse.specs.Bytes.{body_bytes, bytes_of}
 use Rattle.jt_scan.specs.Cut.{weight_of}
 use Rattle.jt_scan.specs.View.{cut_of}
 use Rattle.jt_scan.specs.declared.segment.Segment.{Segment as Part}
+use Rattle.jt_expr.specs.Promises.{ExpressionLaws}
 use Rattle.jt_parse.proofs.Weighs.{weighs_less}
 use Rattle.jt_parse.proofs.Short.{no_longer}
 use Rattle.jt_parse.specs.Names.{body_unknown}
@@ -116,10 +117,10 @@ answer_refused ps (Err (e.UnknownFilter l)) g = holds ps l named.Filter g
 answer_refused ps (Err (e.UnknownTest l)) g = holds ps l named.Test g
 answer_refused ps (Err e.NoMemory) g = tt
 
-pub answer_weighs : (gs : List Part) (r : Result Template ParseError) → GivesKnown (parsed 100 (pieces (reads_of gs))) r → IfOk r (λ t. body_weight (body_of t) ≤ weight_of (cut_of gs))
-answer_weighs gs (Ok t) g = weighs_less gs (exact 100 (body_of t) (pieces (reads_of gs)) g.0).0
-answer_weighs gs (Err x) g = tt
+pub answer_weighs : ExpressionLaws → (gs : List Part) (r : Result Template ParseError) → GivesKnown (parsed 100 (pieces (reads_of gs))) r → IfOk r (λ t. body_weight (body_of t) ≤ weight_of (cut_of gs))
+answer_weighs laws gs (Ok t) g = weighs_less laws gs (exact 100 (body_of t) (pieces (reads_of gs)) g.0).0
+answer_weighs laws gs (Err x) g = tt
 
-pub answer_short : (gs : List Part) (r : Result Template ParseError) → GivesKnown (parsed 100 (pieces (reads_of gs))) r → IfOk r (λ t. body_bytes (body_of t) ≤ bytes_of (cut_of gs))
-answer_short gs (Ok t) g = no_longer gs (exact 100 (body_of t) (pieces (reads_of gs)) g.0).0
-answer_short gs (Err x) g = tt
+pub answer_short : ExpressionLaws → (gs : List Part) (r : Result Template ParseError) → GivesKnown (parsed 100 (pieces (reads_of gs))) r → IfOk r (λ t. body_bytes (body_of t) ≤ bytes_of (cut_of gs))
+answer_short laws gs (Ok t) g = no_longer laws gs (exact 100 (body_of t) (pieces (reads_of gs)) g.0).0
+answer_short laws gs (Err x) g = tt

@@ -32,6 +32,7 @@ use crate::kept::{Side, kept, side_ahead, side_behind};
 use crate::names::check_body;
 use crate::places::check_places;
 use crate::tree::{Stmt, Template};
+use jt_expr::expression_laws;
 use jt_scan::{Kind as TagKind, Part, Segment, Token};
 use std::alloc::Global;
 use std::mem;
@@ -317,5 +318,6 @@ pub fn parse(alloc: Global, segments: &[Segment<'_>]) -> Result<Template, ParseE
     ensures weighs { IfOk result (λ t. body_weight (body_of t) ≤ cut.weight_of (cut_of segments.now)) }
     ensures short { IfOk result (λ t. body_bytes (body_of t) ≤ bytes_of (cut_of segments.now)) }
 {
+    expression_laws();
     read_known(alloc, segments)
 }

@@ -14,7 +14,7 @@ pub returns-clause-refused : goal.returns-clause-refused
 returns-clause-refused c = answer_refused _ _ c.read_known.ensures
 
 pub returns-clause-weighs : goal.returns-clause-weighs
-returns-clause-weighs c = answer_weighs c.args.segments.now _ c.read_known.ensures
+returns-clause-weighs c = answer_weighs c.expression_laws.ensures c.args.segments.now _ c.read_known.ensures
 
 pub returns-clause-short : goal.returns-clause-short
-returns-clause-short c = answer_short c.args.segments.now _ c.read_known.ensures
+returns-clause-short c = answer_short c.expression_laws.ensures c.args.segments.now _ c.read_known.ensures
