@@ -5,7 +5,8 @@ no longer proved: bench/weakened.py [CRATE ..]
 A developer's tool, run by hand over kept work (`rt all check` makes it): it prints a table as Markdown, a row for each layer of LAYERS
 or for the crates that are named. The layer itself must still be proved without the clause (a clause that is taken out can only help
 it); then the crates that stand on it are checked, from the lowest, until one is not proved. The status is 0 where each layer's
-clause was missed. A copy of the kept work of all crates is made below TMPDIR, so some gigabytes must be free.
+clause was missed. The copy below TMPDIR shares its files with the crates by hard links, but for the kept work of those that a row
+checks, so TMPDIR must lie on their file system, and some gigabytes must be free.
 """
 import os, re, shutil, subprocess, sys, tempfile
 from kit import rt, sums
@@ -81,22 +82,49 @@ def row(root, layer, file, call, clause):
             it.write(text)
 
 
+def set_apart(crate):
+    """Gives the crate kept work of its own, which a check may write to, and puts its library aside."""
+    made, shared = f"{crate.folder}/out", f"{crate.folder}/shared"
+    if not os.path.isdir(shared):
+        os.rename(made, shared)
+        os.makedirs(f"{made}/incremental")
+        shutil.copytree(f"{shared}/incremental", f"{made}/incremental", dirs_exist_ok=True)
+
+
+def put_back(crates):
+    """Has the crates' libraries stand again as they were before a row."""
+    for crate in crates:
+        made, shared = f"{crate.folder}/out", f"{crate.folder}/shared"
+        shutil.rmtree(made)
+        os.rename(shared, made)
+
+
 def missed(root, layer, said):
     """Goes up from the layer until a crate is not proved."""
     sums.clear()
-    crates = rt.rtlib.crates_below(root)
-    weaker = {layer}
-    for crate in crates:
-        if crate.name != layer and not weaker & {it.name for it in crate.deps}:
-            continue
-        proved, goal = first_goal(crate)
-        if not proved:
-            return (f"{said} {crate.name}: `{goal}` |", True) if crate.name != layer else (f"{said} not proved itself |", False)
-        weaker.add(crate.name)
-        sums.clear()
-        if crate.makes_rlib() and crate.build_rlib(["--jobs", "2"], anew=False):
-            return f"{said} {crate.name} has no library |", False
-    return f"{said} **none** |", False
+    apart = []
+    try:
+        weaker = {layer}
+        for crate in rt.rtlib.crates_below(root):
+            if crate.name != layer and not weaker & {it.name for it in crate.deps}:
+                continue
+            set_apart(crate)
+            apart.append(crate)
+            proved, goal = first_goal(crate)
+            if not proved:
+                return (f"{said} {crate.name}: `{goal}` |", True) if crate.name != layer else (f"{said} not proved itself |", False)
+            weaker.add(crate.name)
+            sums.clear()
+            if crate.makes_rlib() and crate.build_rlib(["--jobs", "2"], anew=False):
+                return f"{said} {crate.name} has no library |", False
+        return f"{said} **none** |", False
+    finally:
+        put_back(apart)
+
+
+def linked(file, to):
+    """A hard link to a file that rt made, and a copy of any other."""
+    return os.link(file, to) if "/out/" in file else shutil.copy2(file, to)
 
 
 def main(names):
@@ -104,7 +132,7 @@ def main(names):
     with tempfile.TemporaryDirectory(prefix="weakened-") as room:
         for it in ("crates.txt", "HANDLES"):
             shutil.copy(it, room)
-        shutil.copytree("crates", f"{room}/crates", symlinks=True)
+        shutil.copytree("crates", f"{room}/crates", symlinks=True, copy_function=linked)
         print("| Layer | Call and clause | The first crate above that is not proved without it |\n|---|---|---|")
         answers = []
         for layer in layers:

@@ -1,18 +1,8 @@
 //! The program `jt`.
 #![tactic(auto)]
 
-mod commands;
-mod files;
-mod machine;
-mod messages;
-mod program;
-mod templates;
-mod turns;
-
-use crate::machine::Machine;
-use crate::messages::Failure;
-use crate::program::{perform, report};
 use jt_machine::IoSink;
+use jt_program::{Failure, Machine, perform, report};
 use std::io;
 use std::process::ExitCode;
 
@@ -57,12 +47,3 @@ fn perform_on(rt: &HostRuntime, words: &[String]) -> u8 {
         &mut rt.stderr(),
     )
 }
-
-#[cfg(test)]
-mod refusals;
-#[cfg(test)]
-mod rows;
-#[cfg(test)]
-mod sessions;
-#[cfg(test)]
-mod tests;
