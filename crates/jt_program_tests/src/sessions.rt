@@ -111,6 +111,20 @@ fn shows(
     assert_eq!(rt; said.lines().next().unwrap_or(""), errors, "{words:?}");
 }
 
+/// Checks the lines that the sessions of some words come to, in turns of a slice.
+fn gives_lines(
+    rt: &(impl Abort + AllocGlobal),
+    disk: &mut Disk,
+    slice: &str,
+    words: &[&str],
+    lines: &str,
+) -> Result<(), Fail> {
+    let mut line = Vec::from_slice(rt.alloc(), &["turns", slice])?;
+    line.extend_from_slice(words)?;
+    shows(rt, disk, line.as_slice(), 0, lines, "");
+    Ok(())
+}
+
 #[test]
 fn each_session_has_its_line(rt: HostRuntime) -> Result<(), Fail> {
     let mut disk = made_disk(&rt)?;
@@ -135,13 +149,7 @@ fn each_session_has_its_line(rt: HostRuntime) -> Result<(), Fail> {
     ];
     for (words, lines) in rows {
         for slice in ["--slice=1", "--slice=3", "--slice=100", "--slice=1000000"] {
-            let mut line = Vec::new(rt.alloc());
-            line.push("turns")?;
-            line.push(slice)?;
-            for word in words {
-                line.push(*word)?;
-            }
-            shows(&rt, &mut disk, line.as_slice(), 0, lines, "");
+            gives_lines(&rt, &mut disk, slice, words, lines)?;
         }
     }
     Ok(())
