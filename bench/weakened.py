@@ -8,7 +8,7 @@ it); then the crates that stand on it are checked, from the lowest, until one is
 clause was missed. The copy below TMPDIR shares its files with the crates by hard links, but for the kept work of those that a row
 checks, so TMPDIR must lie on their file system, and some gigabytes must be free.
 """
-import os, re, shutil, subprocess, sys, tempfile
+import glob, os, pathlib, re, shutil, subprocess, sys, tempfile
 from kit import rt, sums
 
 # a layer, the file and the name of its call, and the clause's name, if it has one
@@ -56,6 +56,12 @@ def without(text, call, clause):
     return text[: at.start()] + text[end:].lstrip("\n")
 
 
+def unanswered(text, clause):
+    """The text of an Answers.antt without the answers for the clause where the call returns."""
+    of_clause = f"-clause-{clause}" if clause else ""
+    return re.sub(rf"(?ms)^pub returns\S*{of_clause} :.*?(?=^pub |\Z)", "", text)
+
+
 def first_goal(crate):
     """Whether the crate is proved, and the first goal that is not."""
     words = [*rt.rtlib.guarded(), rt.rtlib.RATTLE, "check", *crate.words(["--jobs", "2"]), *rt.rtlib.KEPT]
@@ -73,13 +79,17 @@ def row(root, layer, file, call, clause):
     said = f"| {layer} | `{call}`{f', `{clause}`' if clause else ''} |"
     if weaker is None:
         return f"{said} has no such clause |", False
-    with open(place, "w", encoding="utf-8") as it:
-        it.write(weaker)
+    texts = {place: (text, weaker)}
+    for answers in glob.glob(f"{root}/crates/{layer}/proofs/{file[4:-3]}/**/{call}/Answers.antt", recursive=True):
+        was = rt.rtlib.text_of(answers)
+        texts[answers] = (was, unanswered(was, clause))
     try:
+        for path, (_, now) in texts.items():
+            pathlib.Path(path).write_text(now, encoding="utf-8")
         return missed(root, layer, said)
     finally:
-        with open(place, "w", encoding="utf-8") as it:
-            it.write(text)
+        for path, (was, _) in texts.items():
+            pathlib.Path(path).write_text(was, encoding="utf-8")
 
 
 def set_apart(crate):
