@@ -5,6 +5,8 @@ pub mod Views
 pub mod Rows
 pub mod TagsComplete
 pub mod TagsSound
+pub mod FirstTags
+pub mod Levels
 pub mod Complete
 pub mod Sound
 pub mod Exact
