@@ -1,10 +1,11 @@
 -- A state behind what is read of an expression or of a statement's first tag.
-use Rattle.std.proofs.Common.{◌≡◌, ℕ, suc, ◌+◌, ◌-◌, ◌<◌, ◌≤◌, nat_lt, true, false, List, ◌∷◌, refl, sym, subst, arith, Result, Ok, Err}
+use Rattle.std.proofs.Common.{◌≡◌, ℕ, suc, ◌+◌, ◌-◌, ◌<◌, ◌≤◌, nat_lt, true, false, List, ◌∷◌, length, refl, sym, subst, arith, Result, Ok, Err}
 use Rattle.std.proofs.lemmas.Bool.Decides.{nat_tests}
 use Rattle.jt_scan.specs.Cut.{Token}
 use Rattle.jt_expr.specs.Trees.{Expr, levels}
 use Rattle.jt_parse.specs.Tags.{Head, Says, says_if, says_for, says_set, says_text, says_with, says_filter, says_autoescape, says_macro, says_include, says_extends, says_block, head_levels}
-use Rattle.jt_parse.specs.Reading.{Fault, State, After}
+use Rattle.jt_parse.specs.Trees.{Body, end, Branches}
+use Rattle.jt_parse.specs.Reading.{Fault, Frame, in_branch, then_branch, State, state, After, ElifTag}
 use Rattle.jt_parse.specs.Gives.{GivesOnly, Refuses}
 use Rattle.jt_expr.specs.Grammar.{Tokens, word, Spells, whole}
 use Rattle.jt_expr.specs.View.{expr_view}
@@ -45,11 +46,42 @@ pub no_room : {B : Type 0} (Form : B → Type 0) (height : B → ℕ) (n : ℕ) 
     → Refuses (After Form height n next) x
 no_room Form height n next line x is over = subst (λ z. Refuses (After Form height n next) z) (sym is) over
 
-pub no_levels_left : (outer n k : ℕ) → nat_lt outer n ≡ false → 0 < k → n < outer + k
-no_levels_left outer n k h some = grind (arith, nat_tests)
+pub expression_over : (outer d n l : ℕ) → nat_lt outer n ≡ false → outer ≡ d → n < suc d + l
+expression_over outer d n l h is = let le : n ≤ outer = grind (arith, nat_tests) in omega (arith, le, is)
 
-pub one_left : (outer n limit : ℕ) → nat_lt outer n ≡ true → limit ≡ n - suc outer → suc outer + limit ≡ n
-one_left outer n limit h is = let less : outer < n = grind (arith, nat_tests) in omega (arith, less, is)
+pub head_over : (outer d n l : ℕ) → nat_lt outer n ≡ false → outer ≡ d → 0 < l → n < d + l
+head_over outer d n l h is some = let le : n ≤ outer = grind (arith, nat_tests) in omega (arith, le, is, some)
+
+pub one_left : (outer d n limit : ℕ) → nat_lt outer n ≡ true → outer ≡ d → limit ≡ n - suc outer → suc d + limit ≡ n
+one_left outer d n limit h same is = let less : outer < n = grind (arith, nat_tests) in omega (arith, less, same, is)
+
+pub head_left : (outer d n limit : ℕ) → nat_lt outer n ≡ true → outer ≡ d → limit ≡ n - suc outer → d + suc limit ≡ n
+head_left outer d n limit h same is = let less : outer < n = grind (arith, nat_tests) in omega (arith, less, same, is)
+
+pub fitting : (around limit n l : ℕ) → around + limit ≡ n → l ≤ limit → around + l ≤ n
+fitting around limit n l all le = omega (arith, all, le)
+
+-- ---- {% elif c %}
+
+module _ (n line : ℕ) (ts : List Token) (body before : Body) (done : Branches) (l : ℕ) (c : Expr) (frames fs : List Frame) (is : frames ≡ in_branch before done l c ∷ fs) (outer : ℕ) (same : outer ≡ length fs) where
+  abbrev Next : Expr → State
+  Next e = state end (in_branch before (then_branch done l c body) line e ∷ fs)
+
+  pub elif_over : (x : ParseError) (k : ℕ) → x ≡ e.TooDeep k → nat_lt outer n ≡ false → Refuses (ElifTag n line ts body frames) x
+  elif_over x k deep h =
+      subst (λ z. Refuses (ElifTag n line ts body z) x) (sym is)
+      (no_room (λ c. Spells whole c ts) (λ c. suc (length fs) + levels c) n Next k x deep (λ b d. expression_over outer (length fs) n (levels b) h same))
+
+  pub elif_refused : (x : ParseError) (limit : ℕ) → nat_lt outer n ≡ true → limit ≡ n - suc outer → GivesOnly expr_view (λ c. Spells whole c ts) levels limit (Err x) → Refuses (ElifTag n line ts body frames) x
+  elif_refused x limit h left g =
+      subst (λ z. Refuses (ElifTag n line ts body z) x) (sym is)
+      (after_refused expr_view (λ c. Spells whole c ts) levels (suc (length fs)) limit n Next (one_left outer (length fs) n limit h same left) x g)
+
+  pub elif_ok : (a : Tree) (st : State) (limit : ℕ) → nat_lt outer n ≡ true → limit ≡ n - suc outer → GivesOnly expr_view (λ c. Spells whole c ts) levels limit (Ok a) → st ≡ Next (expr_view a)
+      → ElifTag n line ts body frames (Ok st)
+  elif_ok a st limit h left g to =
+      subst (λ z. ElifTag n line ts body z (Ok st)) (sym is)
+      (after_ok expr_view (λ c. Spells whole c ts) levels (suc (length fs)) limit n Next (one_left outer (length fs) n limit h same left) a st g to)
 
 -- a refusal of an expression
 pub expression_refused : (limit line : ℕ) (ts : Tokens) (f : ExprError) → (◌≡◌ {A = Result Tree ExprError} (Err f) (Err fault.Syntax) → (t : Expr) → Spells whole t ts → ⊥)

@@ -2,14 +2,17 @@
 use Rattle.std.proofs.Common.{◌≡◌, ℕ, ◌<◌, length, arith, encode_utf8_all, IsUtf8, List, [], ◌∷◌, ◌++◌, refl, sym, ap, subst, ◌∙◌, Result, Ok, Err}
 use Rattle.jt_scan.specs.declared.options.Options.{Options}
 use Rattle.jt_scan.specs.Cut as cut
-use Rattle.jt_scan.specs.Cut.{Text, Segment}
+use Rattle.jt_scan.specs.Cut.{Text, Token, Segment}
 use Rattle.std.specs.Str.{chars}
 use Rattle.std.proofs.lemmas.Str.{chars-nil}
 use Rattle.jt_scan.proofs.Turns.{not_empty}
 use Rattle.jt_parse.specs.Trees.{data_of}
-use Rattle.jt_parse.specs.Kept.{Side, nothing, side_ahead, side_behind, Piece, Read, with_text, with_segment, kept, block_side, pieces_from}
+use Rattle.jt_parse.specs.Kept.{tag, Side, nothing, side_ahead, side_behind, Piece, Read, with_text, with_segment, kept, block_side, pieces_from}
 use Rattle.jt_parse.specs.Reading.{Fault, syntax, deep, State, state, grown, Steps, Runs, ended, refused, went_on, start, Parsed, stopped}
-use Rattle.jt_parse.specs.Gives.{Refuses}
+use Rattle.jt_scan.specs.declared.segment.Kind.{Kind}
+use Rattle.jt_scan.specs.declared.segment.Marks.{Marks}
+use Rattle.jt_parse.specs.declared.parser.Parser.{Parser}
+use Rattle.jt_parse.specs.Gives.{Refuses, GivesState}
 use Rattle.jt_parse.specs.declared.error.ParseError.{ParseError}
 use Rattle.jt_parse.specs.declared.error.ParseError.TheVariants as e
 
@@ -93,3 +96,9 @@ one_refused n st p (e.TooDeep l) s = refused s
 one_refused n st p (e.UnknownFilter l) s = s
 one_refused n st p (e.UnknownTest l) s = s
 one_refused n st p e.NoMemory s = tt
+
+-- a tag as a segment
+pub tag_runs : (n : ℕ) (st : State) (o : Options) (left right : Side) (k : Kind) (ms : Marks) (line : ℕ) (ts : List Token) (r : Result (Unit {0}) ParseError) (new : Parser) → GivesState (Steps n st (tag k line ts)) r new
+    → GivesState (Runs n st (with_segment o left right (cut.tag k ms line ts) [])) r new
+tag_runs n st o left right k ms line ts (Ok u) new g = went_on g ended
+tag_runs n st o left right k ms line ts (Err x) new g = one_refused n st (tag k line ts) x g
