@@ -16,6 +16,7 @@ pub mod Given
 pub mod Placing
 pub mod Checking
 pub mod Steps
+pub mod Segments
 pub mod Weighs
 pub mod Short
 pub mod KeptRows
