@@ -43,4 +43,3 @@ chained l k m n r q e f =
     (λ (less : k ≤ n). within_in k n q less ∙ sym (within_in m n q (omega arith)))
     (cases_lt n k))
     (cases_lt n l)
-

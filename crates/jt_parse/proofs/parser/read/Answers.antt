@@ -8,7 +8,7 @@ use Rattle.jt_parse.proofs.parser.read.Goals as goal
 pub segments-preserved : goal.segments-preserved
 segments-preserved c =
     segment_read 100 (state_view c.segments.parser) (side_view c.segments.left) (side_view c.side_ahead.result) c.args.segments.now c.segments.rest.now c.segment-item.result
-    c.in-len1-up.len_at_least c.segment-item.is c.segments.invariant c.side_ahead.ensures _ _ c.side_behind.ensures c.in_ok-step.ensures
+    c.in-len1-up.len_at_least c.segment-item.is c.segments.invariant c.side_ahead.ensures _ _ c.side_behind-left.ensures c.in_ok-step.ensures
 
 pub returns-in_err-step : goal.returns-in_err-step
 returns-in_err-step c =

@@ -29,12 +29,11 @@ returns-in_err-head c =
 
 pub returns : goal.returns
 returns c =
-    let st = state_view c.args.self.now in
-    (
+    let st = state_view c.args.self.now in (
       head_view c.in_ok-head.head,
       c.in_ok-head.ensures.0,
       fitting (length st.frames) (suc c.in_ok-levels.levels) 100 (head_levels (head_view c.in_ok-head.head))
-      (head_left c.depth.result (length st.frames) 100 c.in_ok-levels.levels c.in_ok-levels.ensures.left.1 c.depth.ensures c.in_ok-levels.ensures.left.0) c.in_ok-head.ensures.1,
+          (head_left c.depth.result (length st.frames) 100 c.in_ok-levels.levels c.in_ok-levels.ensures.left.1 c.depth.ensures c.in_ok-levels.ensures.left.0) c.in_ok-head.ensures.1,
       c.in_ok-head.ensures.2,
       c.in_ok-headed.ensures.headed,
     )

@@ -30,12 +30,11 @@ returns-in_err-printed c =
 
 pub returns : goal.returns
 returns c =
-    let st = state_view c.args.self.now in
-    (
+    let st = state_view c.args.self.now in (
       expr_view c.in_ok-printed.printed,
       c.in_ok-printed.ensures.0,
       fitting (suc (length st.frames)) c.in_ok-levels.levels 100 (levels (expr_view c.in_ok-printed.printed))
-      (one_left c.depth.result (length st.frames) 100 c.in_ok-levels.levels c.in_ok-levels.ensures.left.1 c.depth.ensures c.in_ok-levels.ensures.left.0) c.in_ok-printed.ensures.1,
+          (one_left c.depth.result (length st.frames) 100 c.in_ok-levels.levels c.in_ok-levels.ensures.left.1 c.depth.ensures c.in_ok-levels.ensures.left.0) c.in_ok-printed.ensures.1,
       c.in_ok-printed.ensures.2,
       ap (λ b. state b st.frames) (c.in_ok-push_statement.ensures.pushed ∙ ap (then_one st.body) (view-Print c.args.line c.in_ok-printed.printed)),
     )
