@@ -1,5 +1,5 @@
 -- What is answered of pieces.
-use Rattle.std.proofs.Common.{◌≡◌, ℕ, ◌<◌, ◌≤◌, arith, List, true, false, refl, sym, ap, ◌∙◌, None, Result, Ok, Err, IfOk, IfErr, MatchResult}
+use Rattle.std.proofs.Common.{◌≡◌, ℕ, ◌<◌, ◌≤◌, arith, List, true, false, refl, ap, ◌∙◌, None, Result, Ok, Err, IfOk, IfErr, MatchResult}
 use Rattle.jt_expr.specs.declared.named.Named.{Named}
 use Rattle.jt_expr.specs.declared.named.Named.TheVariants as named
 use Rattle.jt_parse.specs.Trees.{Body, body_levels}
@@ -15,9 +15,9 @@ use Rattle.jt_parse.proofs.Short.{no_longer}
 use Rattle.jt_parse.specs.Names.{body_unknown}
 use Rattle.jt_parse.specs.Places.{is_placed}
 use Rattle.jt_parse.specs.Grammar.{Spelled}
-use Rattle.jt_parse.specs.Reading.{Fault, syntax, deep, Parsed}
+use Rattle.jt_parse.specs.Reading.{Fault, Parsed}
 use Rattle.jt_parse.specs.View.{body_of, reads_of}
-use Rattle.jt_parse.specs.Gives.{Refuses, GivesTemplate, GivesNames, GivesPlaces, IsNone, not_read, misplaced, GivesKnown, Finds}
+use Rattle.jt_parse.specs.Gives.{GivesTemplate, GivesNames, GivesPlaces, IsNone, not_read, misplaced, GivesKnown, Finds}
 use Rattle.jt_parse.specs.Refusals.{HoldsUnknown, IsRefusal}
 use Rattle.jt_parse.specs.declared.error.ParseError.{ParseError}
 use Rattle.jt_parse.specs.declared.error.ParseError.TheVariants as e

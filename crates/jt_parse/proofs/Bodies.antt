@@ -1,5 +1,5 @@
 -- Statements and branches behind others, and levels that are allowed.
-use Rattle.std.proofs.Common.{◌≡◌, ℕ, suc, ◌+◌, ◌-◌, ◌<◌, ◌≤◌, max, nat_le, if◌then◌else◌, refl, sym, ap, ◌∙◌, ⊎_elim, arith, Result, Err}
+use Rattle.std.proofs.Common.{◌≡◌, ℕ, ◌<◌, ◌≤◌, max, nat_le, if◌then◌else◌, refl, sym, ap, ◌∙◌, ⊎_elim, arith, Result, Err}
 use Rattle.std.proofs.lemmas.Bool.{cases_lt}
 use Rattle.std.proofs.lemmas.Bool.Decides.{nat_tests}
 use Rattle.jt_parse.specs.Trees.{Body, end, stmt, Branches, no_branches, branch}

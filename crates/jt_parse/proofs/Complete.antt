@@ -1,5 +1,5 @@
 -- What pieces spell is read, or too deep.
-use Rattle.std.proofs.Common.{◌≡◌, ℕ, suc, ◌+◌, ◌<◌, ◌≤◌, max, true, false, List, [], ◌∷◌, ◌++◌, length, codes, refl, sym, ap, subst, ◌∙◌, append_assoc, append-nil, arith, Result, Ok, Err, encode_utf8_all, bytes_eq}
+use Rattle.std.proofs.Common.{◌≡◌, ℕ, suc, ◌+◌, ◌≤◌, max, true, List, [], ◌∷◌, ◌++◌, length, codes, refl, sym, ap, subst, ◌∙◌, append_assoc, append-nil, arith, Result, Ok, encode_utf8_all, bytes_eq}
 use Rattle.std.proofs.lemmas.Slice.Eq.{bytes_eq-Decides}
 use Rattle.jt_scan.specs.Cut.{Token}
 use Rattle.jt_expr.specs.Trees.{Expr, levels}
@@ -9,9 +9,9 @@ use Rattle.jt_parse.specs.Trees.{Stmt, data_of, print, choose, Body, end, stmt, 
 use Rattle.jt_parse.specs.Kept.{Piece}
 use Rattle.jt_parse.specs.Tags.{Loop, Opening, a_text, values, filters, escaping, a_macro, a_block, Head, made, looped, Says, says_if, says_for, says_set, says_text, says_with, says_filter, says_autoescape, says_macro, says_include, says_extends, says_block, Ends, by_word, by_name, opening_levels, loop_levels, head_levels}
 use Rattle.jt_parse.specs.Grammar.{block, Forms, nothing_more, some_data, a_print, one_tag, an_if_statement, a_for_statement, enclosed, GoesOn, no_elif, an_elif, Otherwise, no_else, an_else}
-use Rattle.jt_parse.specs.Reading.{then_all, then_one, then_branches, then_branch, Frame, in_branch, in_else, in_loop, in_loop_else, in_opening, Fault, State, state, start, headed, After, Steps, Runs, ended, is_head, role, HeadTag, else_tag, end_tag, ElifTag}
+use Rattle.jt_parse.specs.Reading.{then_all, then_one, then_branches, then_branch, Frame, in_branch, in_else, in_loop, in_loop_else, in_opening, Fault, State, state, start, headed, After, Steps, Runs, ended, role, HeadTag, else_tag, end_tag}
 use Rattle.jt_parse.proofs.Bodies.{all_end, all_all, branches_all}
-use Rattle.jt_parse.proofs.Levels.{Within, fits, beyond, chained, mapped, only_step, reads_on}
+use Rattle.jt_parse.proofs.Levels.{Within, fits, chained, mapped, only_step, reads_on}
 
 -- the word of a statement's first tag is no other tag's
 head_word : {line : ℕ} {h : Head} {x : List Token} → Says line h x → (n : ℕ) (st : State) (s : Result State Fault) → Steps n st (block line x) s

@@ -5,9 +5,9 @@ use Rattle.jt_scan.specs.Cut.{Token}
 use Rattle.jt_expr.specs.Trees.{Expr, levels}
 use Rattle.jt_parse.specs.Tags.{Head, Says, says_if, says_for, says_set, says_text, says_with, says_filter, says_autoescape, says_macro, says_include, says_extends, says_block, head_levels}
 use Rattle.jt_parse.specs.Trees.{Body, end, Branches}
-use Rattle.jt_parse.specs.Reading.{Fault, Frame, in_branch, then_branch, State, state, After, ElifTag}
+use Rattle.jt_parse.specs.Reading.{Frame, in_branch, then_branch, State, state, After, ElifTag}
 use Rattle.jt_parse.specs.Gives.{GivesOnly, Refuses}
-use Rattle.jt_expr.specs.Grammar.{Tokens, word, Spells, whole}
+use Rattle.jt_expr.specs.Grammar.{Tokens, Spells, whole}
 use Rattle.jt_expr.specs.View.{expr_view}
 use Rattle.jt_expr.specs.declared.tree.Expr.{Expr as Tree}
 use Rattle.jt_expr.specs.declared.error.ExprError.{ExprError}

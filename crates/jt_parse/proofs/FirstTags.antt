@@ -1,5 +1,5 @@
 -- What is answered of a statement's first tag is the only thing that its tokens say.
-use Rattle.std.proofs.Common.{◌≡◌, ℕ, ◌<◌, ◌≤◌, max, suc, List, ◌∷◌, arith, refl, sym, ap, subst, ◌∙◌, Result, Ok, Err, ⊎_elim}
+use Rattle.std.proofs.Common.{◌≡◌, ℕ, ◌<◌, ◌≤◌, max, suc, List, ◌∷◌, arith, sym, subst, ◌∙◌, Result, Ok, Err, ⊎_elim}
 use Rattle.std.proofs.lemmas.Bool.{cases_lt}
 use Rattle.jt_expr.specs.Grammar.{Tokens, word}
 use Rattle.jt_expr.specs.Reading.{Fault, syntax, deep}

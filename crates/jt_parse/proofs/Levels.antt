@@ -1,6 +1,5 @@
 -- Levels that are allowed, where one reading goes on from another.
-use Rattle.std.proofs.Common.{◌≡◌, ℕ, ◌<◌, ◌≤◌, max, refl, sym, ap, ap₂, subst, ◌∙◌, arith, List, ◌∷◌, Result, Ok, Err, ⊎_elim}
-use Rattle.std.proofs.lemmas.Bool.{cases_lt}
+use Rattle.std.proofs.Common.{◌≡◌, ℕ, ◌<◌, ◌≤◌, max, refl, sym, ap, subst, ◌∙◌, arith, List, ◌∷◌, Result, Ok, Err}
 use Rattle.jt_parse.specs.Kept.{Piece}
 use Rattle.jt_parse.specs.Reading.{Fault, syntax, deep, State, After, Steps, Runs, refused, went_on}
 

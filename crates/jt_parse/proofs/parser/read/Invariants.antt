@@ -1,4 +1,4 @@
-use Rattle.std.proofs.Common.{◌≡◌, length, Result}
+use Rattle.std.proofs.Common.{length, Result}
 use Rattle.jt_parse.specs.Kept.{pieces, pieces_from}
 use Rattle.jt_parse.specs.Reading.{Fault, State, start, Runs}
 use Rattle.jt_parse.specs.View.{reads_of}

@@ -1,4 +1,4 @@
-use Rattle.std.proofs.Common.{◌≡◌, suc, ◌+◌, length, map, rules, ◌∷◌}
+use Rattle.std.proofs.Common.{suc, ◌+◌, length, map, ◌∷◌}
 use Rattle.std.proofs.lemmas.Result.{err_from_is_err_and}
 use Rattle.jt_scan.specs.View.{token_view}
 use Rattle.std.specs.Str.{chars}
@@ -7,7 +7,7 @@ use Rattle.jt_parse.specs.Tags.{Says, head_levels}
 use Rattle.jt_parse.specs.HeadView.{head_view}
 use Rattle.jt_parse.specs.Reading.{headed}
 use Rattle.jt_parse.specs.Gives.{state_view}
-use Rattle.jt_parse.proofs.Expressions.{after_ok, after_refused, no_room, head_over, some_levels, head_left, fitting}
+use Rattle.jt_parse.proofs.Expressions.{after_refused, no_room, head_over, some_levels, head_left, fitting}
 use Rattle.jt_parse.proofs.parser.Parser.head_tag.Goals as goal
 
 pub returns-in_err-levels : goal.returns-in_err-levels

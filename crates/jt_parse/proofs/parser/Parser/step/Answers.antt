@@ -1,4 +1,4 @@
-use Rattle.std.proofs.Common.{◌≡◌, map, ap, sym, subst, ◌∙◌, [], Ok}
+use Rattle.std.proofs.Common.{map, sym, subst, [], Ok}
 use Rattle.jt_scan.specs.View.{token_view, part_view}
 use Rattle.jt_parse.specs.Kept.{with_segment}
 use Rattle.jt_parse.specs.SideView.{side_view}
