@@ -13,9 +13,9 @@ from kit import rt, sums
 
 # a layer, the file and the name of its call, and the clause's name, if it has one
 LAYERS = [
-    ("jt_value", "src/measure.rt", "truth", ""),
+    ("jt_value", "src/making.rt", "as_list", ""),
     ("jt_escape", "src/escaping.rt", "escape_into", "ok"),
-    ("jt_ops", "src/operators.rt", "binary", ""),
+    ("jt_ops", "src/operators.rt", "unary", ""),
     ("jt_filters", "src/filters.rt", "apply", ""),
     ("jt_scan", "src/scanner.rt", "scan", "only"),
     ("jt_expr", "src/tag.rt", "expression", "spelled"),
@@ -116,6 +116,7 @@ def missed(root, layer, said):
     try:
         weaker = {layer}
         for crate in rt.rtlib.crates_below(root):
+            crate.out = sys.stderr
             if crate.name != layer and not weaker & {it.name for it in crate.deps}:
                 continue
             set_apart(crate)
