@@ -6,6 +6,8 @@ pub mod Rows
 pub mod TagsComplete
 pub mod TagsSound
 pub mod FirstTags
+pub mod Halves
+pub mod Separating
 pub mod Levels
 pub mod Complete
 pub mod Sound
