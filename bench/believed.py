@@ -9,8 +9,6 @@ import pathlib, re
 
 CRATES = pathlib.Path(__file__).resolve().parent.parent / "crates"
 USE = re.compile(r"(?:ghost |pub )*use\s+Rattle\.(\w+)\.specs((?:\.\w+)*)(?:\.\{([^}]*)\})?(?:\s+as\s+(\S+?))?;?\s*$")
-# what a program's one call stands in
-PROGRAM = {"perform", "Files"}
 
 
 def imports(text):
@@ -27,7 +25,7 @@ def imports(text):
 def exported(top):
     """The names that a crate's root passes on."""
     found = re.findall(r"(?m)^pub (?:use|mod|fn|struct|enum|trait) [^;{]*(?:\{[^}]*\})?", top.read_text(encoding="utf-8"))
-    return set(re.findall(r"\w+", " ".join(found))) | (PROGRAM if top.name == "main.rt" else set())
+    return set(re.findall(r"\w+", " ".join(found)))
 
 
 def clauses(text, public):

@@ -6,8 +6,8 @@ A developer's tool: it tells early what the gate will say, in a few checks inste
 
 A proof sees of other functions their contracts alone, so edits of the bodies of different functions can share a check. Each must
 be refused by a goal of its own function; what is not clearly refused so is named, to be tried by `rt must-fail`. Edits outside a
-function's body are named so too, and two of one function, or of one cycle of functions, never share a check. The status is 0
-where every edit was refused.
+function's body are named so too, and two of one function, or of one cycle of functions, never share a check. The edits are those
+of must-fail/ and of more-edits/. The status is 0 where every edit was refused.
 """
 import os, re, shutil, subprocess, sys, tempfile
 from kit import rt
@@ -110,11 +110,18 @@ def refused(crate, batch):
     return [edit for edit, where, _ in batch if any(it.has(*goal) for it in where for goal in goals)]
 
 
+def edits_of(crate):
+    """The edits of both folders, and the files of must-fail/ that are none."""
+    more = f"{crate.folder}/more-edits"
+    good, bad = rt.edits_of(crate)
+    return good + [f"{more}/{it}" for it in sorted(os.listdir(more) if os.path.isdir(more) else []) if it.endswith(".edit")], bad
+
+
 def tried(crate):
     """Tries the edits of one crate, and returns whether each was refused."""
     if any(dep.build_rlib(FLAGS, anew=False) for dep in crate.below()):
         sys.exit("bench/try_edits.py: a library below is not proved")
-    good, bad = rt.edits_of(crate)
+    good, bad = edits_of(crate)
     groups, alone = batches(crate, good)
     for batch in groups:
         own = refused(crate, batch)

@@ -5,16 +5,17 @@ no longer proved: bench/weakened.py [CRATE ..]
 A developer's tool, run by hand over kept work (`rt all check` makes it): it prints a table as Markdown, a row for each layer of LAYERS
 or for the crates that are named. The layer itself must still be proved without the clause (a clause that is taken out can only help
 it); then the crates that stand on it are checked, from the lowest, until one is not proved. The status is 0 where each layer's
-clause was missed. A copy of the kept work of all crates is made below TMPDIR, so some gigabytes must be free.
+clause was missed. The copy below TMPDIR shares its files with the crates by hard links, but for the kept work of those that a row
+checks, so TMPDIR must lie on their file system, and some gigabytes must be free.
 """
-import os, re, shutil, subprocess, sys, tempfile
+import glob, os, pathlib, re, shutil, subprocess, sys, tempfile
 from kit import rt, sums
 
 # a layer, the file and the name of its call, and the clause's name, if it has one
 LAYERS = [
-    ("jt_value", "src/measure.rt", "truth", ""),
+    ("jt_value", "src/making.rt", "as_list", ""),
     ("jt_escape", "src/escaping.rt", "escape_into", "ok"),
-    ("jt_ops", "src/operators.rt", "binary", ""),
+    ("jt_ops", "src/operators.rt", "unary", ""),
     ("jt_filters", "src/filters.rt", "apply", ""),
     ("jt_scan", "src/scanner.rt", "scan", "only"),
     ("jt_expr", "src/tag.rt", "expression", "spelled"),
@@ -26,17 +27,18 @@ LAYERS = [
     ("jt_rules", "src/checking.rt", "check_rules", "kept"),
     ("jt_meaning", "src/laws.rt", "program_laws", ""),
     ("jt_layout", "src/laying.rt", "lay_out", "laid"),
-    ("jt_names", "src/expressions.rt", "resolve_expression", "placed"),
+    ("jt_names", "src/filterings.rt", "resolve_filterings", "placed"),
     ("jt_scopes", "src/routines.rt", "resolve_home", "put"),
     ("jt_resolve", "src/resolving.rt", "resolve", "resolved"),
-    ("jt_lower", "src/emitter.rt", "patch", ""),
+    ("jt_lower", "src/laws.rt", "low_laws", ""),
     ("jt_codegen", "src/compiling.rt", "compile", "compiled"),
-    ("jt_image", "src/decoding.rt", "decode", "found"),
+    ("jt_image", "src/viewing.rt", "view", "found"),
     ("jt_verify", "src/checked.rt", "verify", "ok"),
     ("jt_budget", "src/budget.rt", "charge", "err"),
     ("jt_machine", "src/runs.rt", "run", "outcome"),
     ("jt_line", "src/line.rt", "job", "asked"),
     ("jt_host", "src/rendering.rt", "render", "rendered"),
+    ("jt_turns", "src/turns.rt", "take_turns", ""),
 ]
 
 
@@ -52,6 +54,12 @@ def without(text, call, clause):
         depth += {"{": 1, "}": -1}.get(text[end], 0)
         end += 1
     return text[: at.start()] + text[end:].lstrip("\n")
+
+
+def unanswered(text, clause):
+    """The text of an Answers.antt without the answers for the clause where the call returns."""
+    of_clause = f"-clause-{clause}" if clause else ""
+    return re.sub(rf"(?ms)^pub returns\S*{of_clause} :.*?(?=^pub |\Z)", "", text)
 
 
 def first_goal(crate):
@@ -71,31 +79,63 @@ def row(root, layer, file, call, clause):
     said = f"| {layer} | `{call}`{f', `{clause}`' if clause else ''} |"
     if weaker is None:
         return f"{said} has no such clause |", False
-    with open(place, "w", encoding="utf-8") as it:
-        it.write(weaker)
+    texts = {place: (text, weaker)}
+    for answers in glob.glob(f"{root}/crates/{layer}/proofs/{file[4:-3]}/**/{call}/Answers.antt", recursive=True):
+        was = rt.rtlib.text_of(answers)
+        texts[answers] = (was, unanswered(was, clause))
     try:
+        for path, (_, now) in texts.items():
+            pathlib.Path(path).write_text(now, encoding="utf-8")
         return missed(root, layer, said)
     finally:
-        with open(place, "w", encoding="utf-8") as it:
-            it.write(text)
+        for path, (was, _) in texts.items():
+            pathlib.Path(path).write_text(was, encoding="utf-8")
+
+
+def set_apart(crate):
+    """Gives the crate kept work of its own, which a check may write to, and puts its library aside."""
+    made, shared = f"{crate.folder}/out", f"{crate.folder}/shared"
+    if not os.path.isdir(shared):
+        os.rename(made, shared)
+        os.makedirs(f"{made}/incremental")
+        shutil.copytree(f"{shared}/incremental", f"{made}/incremental", dirs_exist_ok=True)
+
+
+def put_back(crates):
+    """Has the crates' libraries stand again as they were before a row."""
+    for crate in crates:
+        made, shared = f"{crate.folder}/out", f"{crate.folder}/shared"
+        shutil.rmtree(made)
+        os.rename(shared, made)
 
 
 def missed(root, layer, said):
     """Goes up from the layer until a crate is not proved."""
     sums.clear()
-    crates = rt.rtlib.crates_below(root)
-    weaker = {layer}
-    for crate in crates:
-        if crate.name != layer and not weaker & {it.name for it in crate.deps}:
-            continue
-        proved, goal = first_goal(crate)
-        if not proved:
-            return (f"{said} {crate.name}: `{goal}` |", True) if crate.name != layer else (f"{said} not proved itself |", False)
-        weaker.add(crate.name)
-        sums.clear()
-        if crate.makes_rlib() and crate.build_rlib(["--jobs", "2"], anew=False):
-            return f"{said} {crate.name} has no library |", False
-    return f"{said} **none** |", False
+    apart = []
+    try:
+        weaker = {layer}
+        for crate in rt.rtlib.crates_below(root):
+            crate.out = sys.stderr
+            if crate.name != layer and not weaker & {it.name for it in crate.deps}:
+                continue
+            set_apart(crate)
+            apart.append(crate)
+            proved, goal = first_goal(crate)
+            if not proved:
+                return (f"{said} {crate.name}: `{goal}` |", True) if crate.name != layer else (f"{said} not proved itself |", False)
+            weaker.add(crate.name)
+            sums.clear()
+            if crate.makes_rlib() and crate.build_rlib(["--jobs", "2"], anew=False):
+                return f"{said} {crate.name} has no library |", False
+        return f"{said} **none** |", False
+    finally:
+        put_back(apart)
+
+
+def linked(file, to):
+    """A hard link to a file that rt made, and a copy of any other."""
+    return os.link(file, to) if "/out/" in file else shutil.copy2(file, to)
 
 
 def main(names):
@@ -103,7 +143,7 @@ def main(names):
     with tempfile.TemporaryDirectory(prefix="weakened-") as room:
         for it in ("crates.txt", "HANDLES"):
             shutil.copy(it, room)
-        shutil.copytree("crates", f"{room}/crates", symlinks=True)
+        shutil.copytree("crates", f"{room}/crates", symlinks=True, copy_function=linked)
         print("| Layer | Call and clause | The first crate above that is not proved without it |\n|---|---|---|")
         answers = []
         for layer in layers:

@@ -1,16 +1,8 @@
 //! The program `jt`.
 #![tactic(auto)]
 
-mod commands;
-mod files;
-mod machine;
-mod messages;
-mod program;
-mod templates;
-
-use crate::machine::Machine;
-use crate::messages::Failure;
-use crate::program::{perform, report};
+use jt_machine::IoSink;
+use jt_program::{Failure, Machine, perform, report};
 use std::io;
 use std::process::ExitCode;
 
@@ -51,14 +43,7 @@ fn perform_on(rt: &HostRuntime, words: &[String]) -> u8 {
         alloc,
         texts.as_slice(),
         &mut files,
-        &mut rt.stdout(),
+        &mut IoSink::new(rt.stdout()),
         &mut rt.stderr(),
     )
 }
-
-#[cfg(test)]
-mod refusals;
-#[cfg(test)]
-mod rows;
-#[cfg(test)]
-mod tests;

@@ -101,6 +101,21 @@ fn emit_condition(
     }
 }
 
+/// Puts the code of an expression that is printed behind the others.
+fn emit_printed(
+    code: &mut Emitter,
+    escaping: bool,
+    expr: &SExpr,
+    above: usize,
+) -> Result<(), AllocError>
+    ensures { OnOk result ((p : Place) (h : ℕ) → StandsFor above h → Puts code.old (stmt_asm (slots.print p escaping (expr_view expr.now)) h) code.new) }
+{
+    let printed = flag(escaping);
+    emit_expression(code, expr, above)?;
+    code.put(Some(Instruction::Emit { flag: printed }))?;
+    Ok(())
+}
+
 /// Lets the jumps at these points go behind all instructions.
 fn close_all(code: &mut Emitter, ends: &[usize])
     requires { AllByRecursion (λ e. e < length code.old.code.items) ends.now }
@@ -126,12 +141,7 @@ fn emit_statement(
             code.put(data_of(*place))?;
             Ok(())
         }
-        SStmt::Print(_, escaping, expr) => {
-            let printed = flag(*escaping);
-            emit_expression(code, expr, above)?;
-            code.put(Some(Instruction::Emit { flag: printed }))?;
-            Ok(())
-        }
+        SStmt::Print(_, escaping, expr) => emit_printed(code, *escaping, expr, above),
         SStmt::Assign(_, targets, expr) => {
             emit_expression(code, expr, above)?;
             emit_targets(code, targets)?;

@@ -7,10 +7,11 @@ use Rattle.jt_expr.specs.declared.tree.UnaryOperator.{UnaryOperator}
 use Rattle.jt_expr.specs.declared.tree.UnaryOperator.TheVariants as u
 use Rattle.jt_expr.specs.declared.tree.BinaryOperator.{BinaryOperator}
 use Rattle.jt_expr.specs.declared.tree.BinaryOperator.TheVariants as o
-use Rattle.jt_expr.specs.Trees.{Text, Literal, number, text, Expr, constant, name, group, list_of, map_of, attribute, item, call, filter, test, unary, binary, when, choice, Exprs, no_exprs, expr, Pairs, no_pairs, levels, exprs_levels, pairs_levels}
+use Rattle.jt_expr.specs.Trees.{Text, Literal, number, text, Expr, constant, name, group, list_of, map_of, attribute, item, call, filter, test, unary, binary, when, choice, Exprs, no_exprs, expr, Pairs, no_pairs, levels}
 use Rattle.jt_expr.specs.Grammar.{Tokens, word, is_reserved, literal_of, names_test, Level, whole, disjunction, conjunction, inversion, comparison, sum, concatenation, product, power, postscript, signed, postfix, next, is_chain, level_of, operator_tokens, is_tokens, begins_argument, Row, items, entries, arguments, keywords, closer, takes_plain, takes_names, behind_key, Parts, no_parts, put, Spells, plain, an_if, an_if_else, chain, inverted, upright, compared, alone, postscripts, minus, plus, unsigned, postfixes, Goes, stay, operated, filtered, tested, attributed, indexed, called, Primary, a_number, a_text, a_constant, a_name, a_group, a_list, a_map, Arguments, without, within, TestArguments, as_filter, bare, Holds, closed, last, more, IsPart, without_key, an_entry, by_name}
 use Rattle.jt_expr.specs.Reading as r
 use Rattle.jt_expr.specs.Reading.{code, sees, says, past, cap, deep, Reader, Outcome, ◌>>=◌, operator, key_at, keyword, entry_key, read, read_at, again, loop, chain_step, chain_by, filter_step, test_step, postscript_step, postfix_step, read_whole, read_disjunction, read_conjunction, read_inversion, read_comparison, read_sum, read_concatenation, read_product, read_power, read_postscript, read_signed, read_postfix, expect, word_at, name_at, if_part, else_part}
+use Rattle.jt_expr.specs.Promises.{parts_levels}
 use Rattle.jt_expr.proofs.Caps.{bound, cap_within, cap_beyond}
 use Rattle.jt_expr.proofs.Branches.{no_literal, not_false, sees_self}
 use Rattle.jt_expr.proofs.Begins.{begins, begins_primary, begins_signed, begins_operand, primary-append, signed-append, argument-append, no_minus-primary, no_plus-primary, no_not-signed, part_open, second, second-append}
@@ -183,9 +184,6 @@ goes_stops (indexed d g) rest h = tt
 goes_stops (called d g) rest h = tt
 
 -- ---- levels
-
-abbrev pub parts_levels : Parts → ℕ
-parts_levels p = max (exprs_levels p.0) (pairs_levels p.1)
 
 pub put_levels : (k : Option Text) (t : Expr) (p : Parts) → parts_levels (put k t p) ≡ max (levels t) (parts_levels p)
 put_levels None t p = omega arith

@@ -69,6 +69,10 @@ answers_only n ts (Err e.UnknownFilter) g t d le = absurd g
 answers_only n ts (Err e.UnknownTest) g t d le = absurd g
 answers_only n ts (Err e.NoMemory) g t d le = refl
 
+pub answers_alone : (n : ℕ) (ts : Tokens) (r : Result Tree ExprError) → GivesWhole (parsed n ts) r → IfOk r (λ x. (t : Expr) → Spells whole t ts → t ≡ expr_view x)
+answers_alone n ts (Ok x) g = λ t d. one_tree t (expr_view x) ts d (parsed_spelled n (expr_view x) ts g).0
+answers_alone n ts (Err x) g = tt
+
 pub answers_syntax : (n : ℕ) (ts : Tokens) (r : Result Tree ExprError) → GivesWhole (parsed n ts) r → IsErrOf r e.Syntax → (t : Expr) → Spells whole t ts → ⊥
 answers_syntax n ts (Ok x) g h t d = cc
 answers_syntax n ts (Err e.Syntax) g h t d = syntax_only n ts g t d

@@ -14,7 +14,8 @@ use Rattle.jt_expr.specs.Reading as r
 use Rattle.jt_expr.specs.Reading.{code, sees, says, past, cap, deep, syntax, Reader, Outcome, ◌>>=◌, operator, key_at, keyword, entry_key, read, read_at, again, loop, chain_step, chain_by, filter_step, test_step, postscript_step, postfix_step, read_whole, read_disjunction, read_conjunction, read_inversion, read_comparison, read_sum, read_concatenation, read_product, read_power, read_postscript, read_signed, read_postfix, expect, word_at, name_at, unreserved, if_part, else_part}
 use Rattle.jt_expr.proofs.Branches.{by_test, says_sound, sees_sound, false_not}
 use Rattle.jt_expr.proofs.Begins.{begins, begins_primary}
-use Rattle.jt_expr.proofs.Complete.{with_key, parts_levels, put_levels}
+use Rattle.jt_expr.specs.Promises.{parts_levels}
+use Rattle.jt_expr.proofs.Complete.{with_key, put_levels}
 
 -- ---- steps
 

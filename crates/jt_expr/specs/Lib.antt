@@ -9,3 +9,4 @@ pub mod Collecting
 pub mod Gives
 pub mod Sizes
 pub mod Named
+pub mod Promises

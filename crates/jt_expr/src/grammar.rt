@@ -9,7 +9,10 @@ ghost use Rattle.jt_expr.specs.Reading as spec;
 ghost use Rattle.jt_expr.specs.Grammar as grammar;
 ghost use Rattle.jt_expr.specs.Elements as elements;
 ghost use Rattle.jt_expr.specs.Cursor.{ahead};
-ghost use Rattle.jt_expr.specs.Gives.{Gives, GivesParts, GivesKeyed, GivesElement, GivesKey, Nests, Fits, GivesStep, level_of_form, row_view};
+ghost use Rattle.jt_expr.specs.Trees.{levels};
+ghost use Rattle.jt_expr.specs.Grammar.{Spells, Arguments};
+ghost use Rattle.jt_expr.specs.Promises.{Reads, EndsAt, OpensNone, parts_levels};
+ghost use Rattle.jt_expr.specs.Gives.{Gives, GivesParts, GivesKeyed, GivesElement, GivesKey, Nests, Fits, GivesStep, level_of_form, row_view, parts_view};
 ghost use Rattle.jt_scan.specs.declared.segment.Sign.TheVariants as sign;
 
 use crate::cursor::Cursor;
@@ -753,7 +756,8 @@ pub fn read(
     limit: u8,
     form: Form,
 ) -> Result<Part, ExprError>
-    ensures { Gives (spec.read limit (level_of_form form) (ahead cursor.old)) result (ahead cursor.new) }
+    ensures promises { Reads (λ p. expr_view p.expr.value) (Spells (level_of_form form)) (EndsAt (level_of_form form)) levels limit (ahead cursor.old) result (ahead cursor.new) }
+    ensures reads { Gives (spec.read limit (level_of_form form) (ahead cursor.old)) result (ahead cursor.new) }
 {
     read_within(alloc, cursor, usize::from(limit), form)
 }
@@ -781,7 +785,8 @@ fn read_within(
 
 /// The arguments of a filter, none or some in parentheses, each of at most so many levels.
 pub fn arguments(alloc: Global, cursor: &mut Cursor<'_>, limit: u8) -> Result<Parts, ExprError>
-    ensures { GivesParts (spec.arguments_at (spec.read limit) (suc limit) (ahead cursor.old)) result (ahead cursor.new) }
+    ensures promises { Reads parts_view Arguments OpensNone parts_levels limit (ahead cursor.old) result (ahead cursor.new) }
+    ensures reads { GivesParts (spec.arguments_at (spec.read limit) (suc limit) (ahead cursor.old)) result (ahead cursor.new) }
 {
     Grammar {
         alloc,

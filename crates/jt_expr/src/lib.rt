@@ -4,6 +4,7 @@
 mod cursor;
 mod error;
 mod grammar;
+mod laws;
 mod named;
 mod part;
 mod rows;
@@ -14,6 +15,7 @@ mod words;
 pub use cursor::Cursor;
 pub use error::ExprError;
 pub use grammar::{arguments, read};
+pub use laws::expression_laws;
 pub use named::{
     Named, any_unknown, any_unknown_pair, check_names, filter_of, has_unknown, is_filter_unknown,
     literal_text,

@@ -25,12 +25,14 @@ pub fn expression(alloc: Global, tokens: &[Token<'_>], limit: u8) -> Result<Expr
     // A tree within the levels is answered, and no other is spelled so.
     ensures only { (t : trees.Expr) → Spells whole t (map token_view tokens.now) → levels t ≤ limit
         → MatchResult result (λ x. expr_view x ≡ t) (λ e. e ≡ ExprError.NoMemory) }
+    // No other tree of any depth is spelled so.
+    ensures alone { IfOk result (λ x. (t : trees.Expr) → Spells whole t (map token_view tokens.now) → t ≡ expr_view x) }
     // No tree of any depth is spelled so.
     ensures syntax { IsErrOf result ExprError.Syntax → (t : trees.Expr) → Spells whole t (map token_view tokens.now) → ⊥ }
     // No tree within the levels is spelled so.
     ensures deep { IsErrOf result ExprError.TooDeep → (t : trees.Expr) → Spells whole t (map token_view tokens.now) → limit < levels t }
-    // What a reader with so many levels gives, and no other refusal.
-    ensures reads { GivesWhole (parsed limit (map token_view tokens.now)) result }
+    // No other refusal is answered, but for want of memory.
+    ensures others { (IsErrOf result ExprError.UnknownFilter → ⊥) × (IsErrOf result ExprError.UnknownTest → ⊥) }
 {
     read_all(alloc, tokens, limit)
 }

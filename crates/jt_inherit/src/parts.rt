@@ -42,6 +42,13 @@ struct Spot<'a> {
     escaping: bool,
 }
 
+/// The same place, in another autoescape state.
+fn inside<'a>(spot: Spot<'a>, escaping: bool) -> Spot<'a>
+    ensures { result ≡ record spot.entry { escaping = escaping } }
+{
+    Spot { escaping, ..spot }
+}
+
 /// Adds the macros at the top of a template.
 fn add_macros<'a>(
     pages: &'a [Page],
@@ -109,13 +116,7 @@ fn add_statement<'a>(
             add_blocks(spot, body, found)?;
             Ok(())
         }
-        Stmt::Autoescape(_, escaping, body) => {
-            let inside = Spot {
-                escaping: *escaping,
-                ..spot
-            };
-            add_blocks(inside, body, found)
-        }
+        Stmt::Autoescape(_, escaping, body) => add_blocks(inside(spot, *escaping), body, found),
         Stmt::If(branches, other) => {
             for (_, _, body) in branches {
                 add_blocks(spot, body, found)?;

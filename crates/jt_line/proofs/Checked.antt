@@ -1,9 +1,10 @@
 -- The options and flags of a line that the program takes, as their parsers took them.
-use Rattle.std.proofs.Common.{◌≡◌, ◌&&◌, ◌||◌, ◌==◌, ◌<◌, ◌^◌, ℕ, Bool, true, false, not, codes, List, [], ◌∷◌, Option, Some, None, ap₂, arith, refl, subst, sym}
+use Rattle.std.proofs.Common.{◌≡◌, ◌&&◌, ◌||◌, ◌==◌, ◌<◌, ◌≤◌, ◌^◌, ℕ, Bool, true, false, not, codes, List, [], ◌∷◌, Option, Some, None, ap₂, arith, refl, subst, sym}
 use Rattle.std.specs.Prelude.{IfSome, find, option_map, pos}
 use Rattle.std.specs.List.{AllByRecursion, list_all}
 use Rattle.std.specs.Option.{option_map_or}
 use Rattle.std.specs.Str.{bytes_eq}
+use Rattle.std.specs.Str.Parse.{digits_value, without_leading_plus}
 use Rattle.std.proofs.lemmas.Bool.{eqb-true, not-true, true≢false}
 use Rattle.clap.specs.Facts.{parser_of_value}
 use Rattle.clap.specs.Faults.{entered_fault, level_fault}
@@ -15,9 +16,9 @@ use Rattle.clap.specs.declared.builder.ValueParser.{ValueParser}
 use Rattle.clap.specs.declared.builder.ValueParser.TheVariants as parser
 use Rattle.clap.proofs.OnLiterals.{clap_on_literals}
 use Rattle.clap.proofs.WalkLemmas.{both}
-use Rattle.jt_line.specs.Line.{program_app, HasNumbers, HasSwitches, IsNumber, IsSwitch, Takes}
+use Rattle.jt_line.specs.Line.{program_app, HasNumbers, HasSlice, HasSwitches, IsClear, IsNumber, IsSwitch}
 use Rattle.jt_line.proofs.Passed.{HasParser, IsRead, found, found_pass, neither, one_read}
-use Rattle.jt_line.proofs.Texts.{long_text, short_text, switch_text}
+use Rattle.jt_line.proofs.Texts.{long_text, short_text, slice_text, switch_text}
 
 -- ---- the parsers of the program's arguments, as tests
 
@@ -32,6 +33,10 @@ is_long _ = false
 is_short : ℕ → ValueParser → Bool
 is_short most (parser.Signed (pos low) (pos high)) = (low == 0) && (high == most)
 is_short most _ = false
+
+is_slice : ValueParser → Bool
+is_slice (parser.Signed (pos low) (pos high)) = (low == 1) && (high == 1000000)
+is_slice _ = false
 
 -- the test finds out this parser
 abbrev Finds : (ValueParser → Bool) → ValueParser → Type 0
@@ -55,6 +60,13 @@ finds_short most (parser.Signed (pos low) (pos high)) e =
     let h = both _ _ e in
     ap₂ (λ a b. parser.Signed (pos a) (pos b)) (eqb-true _ _ h.0) (eqb-true _ _ h.1)
 finds_short most _ e = absurd (true≢false (sym e))
+
+finds_slice : Finds is_slice (parser.Signed (pos 1) (pos 1000000))
+unfolding is_slice
+finds_slice (parser.Signed (pos low) (pos high)) e =
+    let h = both _ _ e in
+    ap₂ (λ a b. parser.Signed (pos a) (pos b)) (eqb-true _ _ h.0) (eqb-true _ _ h.1)
+finds_slice _ e = absurd (true≢false (sym e))
 
 -- each argument of this id has a parser that passes the test, and heeds the case of letters
 abbrev is_checked : Text → (ValueParser → Bool) → Rule → Bool
@@ -123,21 +135,36 @@ reads id p P words says h = rows (subcommand_of program_app words) h
     rows None k = tt
     rows (Some c) k = text (one_of id c.1) k
 
-switch : (id : Text) (words : List Text) → are_checked id is_switch (built program_app).subs ≡ true → Takes words → Reads id IsSwitch words
+switch : (id : Text) (words : List Text) → are_checked id is_switch (built program_app).subs ≡ true → IsClear words → Reads id IsSwitch words
 switch id words checked e =
     reads id parser.Bool IsSwitch words (λ text r. subst IsSwitch (sym r.1) (switch_text r.0 r.2)) (read_of id parser.Bool is_switch finds_switch program_app words checked e)
 
-long : (id : Text) (words : List Text) → are_checked id is_long (built program_app).subs ≡ true → Takes words → Reads id (IsNumber 64) words
+long : (id : Text) (words : List Text) → are_checked id is_long (built program_app).subs ≡ true → IsClear words → Reads id (IsNumber 64) words
 long id words checked e =
     let p : ValueParser = parser.Unsigned 0 18446744073709551615 in
     reads id p (IsNumber 64) words (λ text r. subst (IsNumber 64) (sym r.1) (long_text r.0 r.2)) (read_of id p is_long finds_long program_app words checked e)
 
-short : (bits most : ℕ) (id : Text) (words : List Text) → most < 2 ^ bits → are_checked id (is_short most) (built program_app).subs ≡ true → Takes words
+short : (bits most : ℕ) (id : Text) (words : List Text) → most < 2 ^ bits → are_checked id (is_short most) (built program_app).subs ≡ true → IsClear words
     → Reads id (IsNumber bits) words
 short bits most id words fits checked e =
     let p : ValueParser = parser.Signed (pos 0) (pos most) in
     reads id p (IsNumber bits) words (λ text r. subst (IsNumber bits) (sym r.1) (short_text bits most r.0 fits r.2))
     (read_of id p (is_short most) (finds_short most) program_app words checked e)
+
+sliced : are_checked (codes "slice") is_slice (built program_app).subs ≡ true
+unfolding clap_on_literals is_slice
+sliced = refl
+
+-- the text of a turn's option
+abbrev IsSliced : Text → Type 0
+IsSliced text = IsNumber 32 text
+    × (1 ≤ digits_value 10 (without_leading_plus text)) × (digits_value 10 (without_leading_plus text) ≤ 1000000)
+
+slice : (words : List Text) → IsClear words → Reads (codes "slice") IsSliced words
+slice words e =
+    let p : ValueParser = parser.Signed (pos 1) (pos 1000000) in
+    reads (codes "slice") p IsSliced words (λ text r. subst IsSliced (sym r.1) (slice_text r.0 r.2))
+    (read_of (codes "slice") p is_slice finds_slice program_app words sliced e)
 
 fuel : are_checked (codes "fuel") is_long (built program_app).subs ≡ true
 unfolding clap_on_literals is_long
@@ -175,17 +202,22 @@ plain : are_checked (codes "no-autoescape") is_switch (built program_app).subs �
 unfolding clap_on_literals is_switch
 plain = refl
 
-pub checked : (words : List Text) → Takes words → IfSome (subcommand_of program_app words) (λ c. HasNumbers c.1 × HasSwitches c.1)
+-- each option of the command that is given has a text of its kind
+abbrev pub HaveAll : Option (Text × List Row) → Type 0
+HaveAll o = IfSome o (λ c. HasNumbers c.1) × IfSome o (λ c. HasSwitches c.1) × IfSome o (λ c. HasSlice c.1)
+
+pub checked : (words : List Text) → IsClear words → HaveAll (subcommand_of program_app words)
 checked words e = go (subcommand_of program_app words) (long (codes "fuel") words fuel e) (short 32 4294967295 (codes "depth") words (omega arith) depth e)
     (long (codes "output") words output e) (short 32 4294967295 (codes "size") words (omega arith) size e) (short 8 255 (codes "nesting") words (omega arith) nesting e)
     (switch (codes "trim-blocks") words trim e) (switch (codes "lstrip-blocks") words strip e) (switch (codes "keep-trailing-newline") words newline e)
-    (switch (codes "no-autoescape") words plain e)
+    (switch (codes "no-autoescape") words plain e) (slice words e)
   where
     go : (o : Option (Text × List Row))
         → IfSome o (λ c. IfSome (one_of (codes "fuel") c.1) (IsNumber 64)) → IfSome o (λ c. IfSome (one_of (codes "depth") c.1) (IsNumber 32))
         → IfSome o (λ c. IfSome (one_of (codes "output") c.1) (IsNumber 64)) → IfSome o (λ c. IfSome (one_of (codes "size") c.1) (IsNumber 32))
         → IfSome o (λ c. IfSome (one_of (codes "nesting") c.1) (IsNumber 8)) → IfSome o (λ c. IfSome (one_of (codes "trim-blocks") c.1) IsSwitch)
         → IfSome o (λ c. IfSome (one_of (codes "lstrip-blocks") c.1) IsSwitch) → IfSome o (λ c. IfSome (one_of (codes "keep-trailing-newline") c.1) IsSwitch)
-        → IfSome o (λ c. IfSome (one_of (codes "no-autoescape") c.1) IsSwitch) → IfSome o (λ c. HasNumbers c.1 × HasSwitches c.1)
-    go None f d o s n t l k a = tt
-    go (Some c) f d o s n t l k a = ((f, d, o, s, n), (t, l, k, a))
+        → IfSome o (λ c. IfSome (one_of (codes "no-autoescape") c.1) IsSwitch) → IfSome o (λ c. IfSome (one_of (codes "slice") c.1) IsSliced)
+        → HaveAll o
+    go None f d o s n t l k a i = (tt, tt, tt)
+    go (Some c) f d o s n t l k a i = ((f, d, o, s, n), (t, l, k, a), i)

@@ -4,3 +4,4 @@ mod Commands
 mod Found
 mod Passed
 mod Texts
+mod Pairing

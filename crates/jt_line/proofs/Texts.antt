@@ -1,5 +1,5 @@
 -- What the text of an option says that its parser took.
-use Rattle.std.proofs.Common.{◌≡◌, ◌<◌, ◌^◌, ◌==◌, ◌||◌, ℕ, Bool, true, false, cond, codes, drop, List, [], ◌∷◌, Some, None, refl, ap, subst, sym, arith, inl, inr}
+use Rattle.std.proofs.Common.{◌≡◌, ◌<◌, ◌≤◌, ◌^◌, ◌==◌, ◌||◌, ℕ, Bool, true, false, cond, codes, drop, List, [], ◌∷◌, Some, None, refl, ap, subst, sym, arith, inl, inr}
 use Rattle.std.specs.Prelude.{pos, unwrap_or}
 use Rattle.std.specs.Str.{bytes_eq}
 use Rattle.std.specs.Str.Parse.{IsNumeral, digits_value, starts_with_minus, without_leading_plus}
@@ -29,24 +29,35 @@ no_plus (d ∷ ds) h =
     let plus : (d == 43) ≡ false = ne_eqb _ _ (λ e. omega (arith, digit_from_value d h.1.0)) in
     ap (λ (b : Bool). drop (cond b 1 0) (d ∷ ds)) plus
 
--- a number that is not below zero, which `-0` isn't either
-in_range : (bits high : ℕ) (t : Text) → high < 2 ^ bits → IsSignedIn (pos 0) (pos high) t → IsNumber bits (without_minus t)
-in_range bits high t fits passed = subst (IsNumber bits) (sym (without_minus_is t)) (go (starts_with_minus t) refl)
+-- a number from low, which is not below zero, and `-0` isn't either
+in_range : (bits low high : ℕ) (t : Text) → high < 2 ^ bits → IsSignedIn (pos low) (pos high) t
+    → IsNumber bits (without_minus t) × (low ≤ digits_value 10 (without_leading_plus (without_minus t))) × (digits_value 10 (without_leading_plus (without_minus t)) ≤ high)
+in_range bits low high t fits passed = subst Fits (sym (without_minus_is t)) (go (starts_with_minus t) refl)
   where
-    go : (b : Bool) → starts_with_minus t ≡ b → IsNumber bits (cond b (drop 1 t) t)
+    Fits : Text → Type 0
+    Fits u = IsNumber bits u × (low ≤ digits_value 10 (without_leading_plus u)) × (digits_value 10 (without_leading_plus u) ≤ high)
+
+    go : (b : Bool) → starts_with_minus t ≡ b → Fits (cond b (drop 1 t) t)
     go true minus =
         let low_ok = rw minus at passed.2 in
         let numeral : IsNumeral 10 (drop 1 t) = rw minus at passed.0 in
         let same = no_plus (drop 1 t) numeral in
         let small : digits_value 10 (drop 1 t) < 2 ^ bits = omega (arith, ints) in
-        (rw same numeral, rw same small)
+        let least : low ≤ digits_value 10 (drop 1 t) = omega (arith, ints) in
+        let most : digits_value 10 (drop 1 t) ≤ high = omega (arith, ints) in
+        ((rw same numeral, rw same small), rw same least, rw same most)
     go false minus =
+        let low_ok = rw minus at passed.2 in
         let high_ok = rw minus at passed.3 in
         let numeral = rw minus at passed.0 in
-        (numeral, omega (arith, ints))
+        ((numeral, omega (arith, ints)), omega (arith, ints), omega (arith, ints))
 
 pub short_text : (bits high : ℕ) (raw : Text) → high < 2 ^ bits → accepts false (parser.Signed (pos 0) (pos high)) raw ≡ true → IsNumber bits (without_minus raw)
-short_text bits high raw fits e = in_range bits high raw fits (accepts-Accepts false (parser.Signed (pos 0) (pos high)) raw e)
+short_text bits high raw fits e = (in_range bits 0 high raw fits (accepts-Accepts false (parser.Signed (pos 0) (pos high)) raw e)).0
+
+pub slice_text : (raw : Text) → accepts false (parser.Signed (pos 1) (pos 1000000)) raw ≡ true
+    → IsNumber 32 (without_minus raw) × (1 ≤ digits_value 10 (without_leading_plus (without_minus raw))) × (digits_value 10 (without_leading_plus (without_minus raw)) ≤ 1000000)
+slice_text raw e = in_range 32 1 1000000 raw (omega arith) (accepts-Accepts false (parser.Signed (pos 1) (pos 1000000)) raw e)
 
 pub long_text : (raw : Text) → accepts false (parser.Unsigned 0 18446744073709551615) raw ≡ true → IsNumber 64 raw
 long_text raw e =

@@ -1,13 +1,13 @@
 -- What a line asks for. How a line is read is clap's written rule: `fault_of` lists what is wrong
 -- with it, and `subcommand_of` gives its command with the rows of what was found.
-use Rattle.std.specs.Prelude.{◌≡◌, ◌<◌, ◌^◌, ◌⊎◌, ℕ, Bool, true, false, not, List, [], Option, Some, None, codes, pos, unwrap_or, option_map, IfSome, String}
+use Rattle.std.specs.Prelude.{◌≡◌, ◌≢◌, ◌<◌, ◌≤◌, ◌^◌, ◌%◌, ◌⊎◌, ℕ, length, ◌∷◌, Bool, true, false, not, List, [], Option, Some, None, codes, pos, unwrap_or, option_map, IfSome, String}
 use Rattle.std.specs.declared.alloc.Global.{Global}
 use Rattle.std.specs.String.{string_bytes}
 use Rattle.std.specs.Str.Parse.{IsNumeral, digits_value, without_leading_plus}
-use Rattle.clap.specs.Words.{App, app_of, Row, Rule, Text, first_of, new_app, new_rule, one_of, with_rule, with_subcommand, fault_of, subcommand_of}
+use Rattle.clap.specs.Words.{App, app_of, Row, Rule, Text, all_of, first_of, new_app, new_rule, one_of, with_rule, with_subcommand, fault_of, subcommand_of}
 use Rattle.clap.specs.declared.builder.Command.{Command as Built}
 use Rattle.clap.specs.declared.builder.Command.TheViews.{out-Command as fields_of}
-use Rattle.clap.specs.declared.builder.ArgAction.TheVariants.{SetTrue}
+use Rattle.clap.specs.declared.builder.ArgAction.TheVariants.{Append, SetTrue}
 use Rattle.clap.specs.declared.builder.ValueParser.{ValueParser}
 use Rattle.clap.specs.declared.builder.ValueParser.TheVariants as parser
 use Rattle.jt_line.specs.declared.jobs.Options.{Options}
@@ -15,6 +15,7 @@ use Rattle.jt_budget.specs.declared.Budget.{Budget}
 use Rattle.jt_line.specs.declared.jobs.Command.{Command}
 use Rattle.jt_line.specs.declared.jobs.Command.TheVariants as command
 use Rattle.jt_line.specs.declared.jobs.Job.{Job}
+use Rattle.jt_line.specs.declared.jobs.Pair.{Pair}
 use Rattle.jt_line.specs.declared.jobs.JobError.{JobError}
 use Rattle.jt_line.specs.declared.jobs.JobError.TheVariants as job_error
 
@@ -76,20 +77,46 @@ abbrev pub render_app : App
 render_app = with_budget (with_flags (with_rule (with_rule (with_rule (new_app (codes "render"))
     (word_rule (codes "DIR"))) (word_rule (codes "NAME"))) context_rule))
 
+-- the words for images and contexts, as many as are given
+abbrev pub pairs_rule : Rule
+pairs_rule = record (new_rule (codes "PAIRS")) { action = Some Append }
+
+-- `turns IMAGE CONTEXT ..`, where a turn has so many instructions
+abbrev pub turns_app : App
+turns_app = with_budget (with_rule (with_rule (new_app (codes "turns")) pairs_rule)
+    (option_rule (codes "slice") (parser.Signed (pos 1) (pos 1000000))))
+
 -- the program: a command, and then the words and options of that command
 abbrev pub program_app : App
 program_app = let a = new_app (codes "jt") in
-    with_subcommand (with_subcommand (with_subcommand (with_subcommand (record a {
+    with_subcommand (with_subcommand (with_subcommand (with_subcommand (with_subcommand (record a {
       top = record a.top {
         no_binary_name = true;
         disable_help_subcommand = true;
         subcommand_required = true;
       };
-    }) compile_app.top) check_app.top) run_app.top) render_app.top
+    }) compile_app.top) check_app.top) run_app.top) render_app.top) turns_app.top
+
+-- nothing is wrong with the line
+abbrev pub IsClear : List Text → Type 0
+IsClear words = fault_of program_app words ≡ []
+
+-- the words of `turns`
+abbrev pub pair_words : List Row → List Text
+pair_words rows = unwrap_or (all_of (codes "PAIRS") rows) []
+
+-- an even number of words, and not none
+abbrev pub ComeInPairs : List Text → Type 0
+ComeInPairs words = (0 < length words) × (length words % 2 ≡ 0)
+
+-- the words of `turns` are pairs of an image and a context
+abbrev pub ArePaired : Option (Text × List Row) → Type 0
+ArePaired None = Unit {0}
+ArePaired (Some c) = c.0 ≡ codes "turns" → ComeInPairs (pair_words c.1)
 
 -- the program takes the line
 abbrev pub Takes : List Text → Type 0
-Takes words = fault_of program_app words ≡ []
+Takes words = IsClear words × ArePaired (subcommand_of program_app words)
 
 -- ---- what a line that it takes asks for
 
@@ -112,6 +139,10 @@ IsBudget rows b = IsGiven 64 1000000 (one_of (codes "fuel") rows) b.fuel
     × IsGiven 64 1048576 (one_of (codes "output") rows) b.output
     × IsGiven 32 1048576 (one_of (codes "size") rows) b.size
     × IsGiven 8 32 (one_of (codes "nesting") rows) b.nesting
+
+-- how many instructions a turn has: 1 to 1,000,000, or 100 where the option isn't given
+abbrev pub IsSlice : List Row → ℕ → Type 0
+IsSlice rows n = IsGiven 32 100 (one_of (codes "slice") rows) n × (1 ≤ n) × (n ≤ 1000000)
 
 -- a flag, by the text of its row: `true` where it is given, and `false` or none where it isn't. A
 -- line that gives a flag twice, or with a value, is not taken
@@ -147,33 +178,42 @@ word_of name rows = unwrap_or (first_of name rows) []
 abbrev pub IsContext : List Row → Option (String Global) → Type 0
 IsContext rows file = option_map string_bytes file ≡ first_of (codes "CONTEXT") rows
 
+-- the words of the pairs, in order
+abbrev pub words_of_pairs : List Pair → List Text
+words_of_pairs [] = []
+words_of_pairs (p ∷ ps) = string_bytes p.image ∷ string_bytes p.context ∷ words_of_pairs ps
+
 -- the command of this name, with its words; what it doesn't take is as usual
-abbrev pub IsCommand : Text → List Row → Command → Options → Budget → Type 0
-IsCommand name rows (command.Compile dir template out) o b = (name ≡ codes "compile")
+abbrev pub IsCommand : Text → List Row → Command → Options → Budget → ℕ → Type 0
+IsCommand name rows (command.Compile dir template out) o b n = (name ≡ codes "compile")
     × (string_bytes dir ≡ word_of (codes "DIR") rows)
     × (string_bytes template ≡ word_of (codes "NAME") rows)
     × (string_bytes out ≡ word_of (codes "OUT") rows)
-    × IsOptions rows o × (b ≡ usual_budget)
-IsCommand name rows (command.Check image) o b = (name ≡ codes "check")
+    × IsOptions rows o × (b ≡ usual_budget) × (n ≡ 100)
+IsCommand name rows (command.Check image) o b n = (name ≡ codes "check")
     × (string_bytes image ≡ word_of (codes "IMAGE") rows)
-    × (o ≡ usual_options) × (b ≡ usual_budget)
-IsCommand name rows (command.Run image context) o b = (name ≡ codes "run")
+    × (o ≡ usual_options) × (b ≡ usual_budget) × (n ≡ 100)
+IsCommand name rows (command.Run image context) o b n = (name ≡ codes "run")
     × (string_bytes image ≡ word_of (codes "IMAGE") rows) × IsContext rows context
-    × (o ≡ usual_options) × IsBudget rows b
-IsCommand name rows (command.Render dir template context) o b = (name ≡ codes "render")
+    × (o ≡ usual_options) × IsBudget rows b × (n ≡ 100)
+IsCommand name rows (command.Render dir template context) o b n = (name ≡ codes "render")
     × (string_bytes dir ≡ word_of (codes "DIR") rows)
     × (string_bytes template ≡ word_of (codes "NAME") rows) × IsContext rows context
-    × IsOptions rows o × IsBudget rows b
+    × IsOptions rows o × IsBudget rows b × (n ≡ 100)
+IsCommand name rows (command.Turns sessions) o b n = (name ≡ codes "turns")
+    × (words_of_pairs sessions.items ≡ pair_words rows) × (sessions.items ≢ [])
+    × (o ≡ usual_options) × IsBudget rows b × IsSlice rows n
 
 -- the job that the command of a line asks for, by its name and what was found
 abbrev pub IsAsked : Option (Text × List Row) → Job → Type 0
 IsAsked None j = ⊥
-IsAsked (Some c) j = IsCommand c.0 c.1 j.command j.options j.budget
+IsAsked (Some c) j = IsCommand c.0 c.1 j.command j.options j.budget j.slice
 
 -- the name of a command
 abbrev pub IsKnown : Option Text → Type 0
 IsKnown name = (name ≡ Some (codes "compile")) ⊎ ((name ≡ Some (codes "check"))
-    ⊎ ((name ≡ Some (codes "run")) ⊎ (name ≡ Some (codes "render"))))
+    ⊎ ((name ≡ Some (codes "run")) ⊎ ((name ≡ Some (codes "render"))
+    ⊎ (name ≡ Some (codes "turns")))))
 
 -- the line names this command
 abbrev pub Asks : Text → List Text → Type 0
@@ -197,6 +237,11 @@ HasNumbers rows = IfSome (one_of (codes "fuel") rows) (IsNumber 64)
     × IfSome (one_of (codes "output") rows) (IsNumber 64)
     × IfSome (one_of (codes "size") rows) (IsNumber 32)
     × IfSome (one_of (codes "nesting") rows) (IsNumber 8)
+
+-- the option of a turn that is given has a number in its range
+abbrev pub HasSlice : List Row → Type 0
+HasSlice rows = IfSome (one_of (codes "slice") rows) (λ text. IsNumber 32 text
+    × (1 ≤ digits_value 10 (without_leading_plus text)) × (digits_value 10 (without_leading_plus text) ≤ 1000000))
 
 -- each flag has the text of one
 abbrev pub HasSwitches : List Row → Type 0

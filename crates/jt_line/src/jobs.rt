@@ -28,6 +28,17 @@ pub enum Command {
         name: String,
         context: Option<String>,
     },
+    /// Run images, each for its context, in turns.
+    Turns {
+        sessions: Vec<Pair>,
+    },
+}
+
+/// The files of an image and of a context.
+#[derive(Debug, Drop, PartialEq, Eq)]
+pub struct Pair {
+    pub image: String,
+    pub context: String,
 }
 
 /// How templates are read.
@@ -49,6 +60,8 @@ pub struct Job {
     pub command: Command,
     pub options: Options,
     pub budget: Budget,
+    /// How many instructions a turn has.
+    pub slice: u32,
 }
 
 /// Why a line asks for nothing.
@@ -81,6 +94,9 @@ pub const DEFAULT: Budget = Budget {
     size: 1_048_576,
     nesting: 32,
 };
+
+/// How many instructions a turn has where the line does not say.
+pub const SLICE: u32 = 100;
 
 /// How templates are read where the line does not say.
 pub const USUAL: Options = Options {

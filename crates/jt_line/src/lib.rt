@@ -4,5 +4,5 @@
 mod jobs;
 mod line;
 
-pub use jobs::{Command, DEFAULT, Job, JobError, Options, USUAL};
+pub use jobs::{Command, DEFAULT, Job, JobError, Options, Pair, SLICE, USUAL};
 pub use line::job;

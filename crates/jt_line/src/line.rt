@@ -1,17 +1,17 @@
 //! The command line.
 
-ghost use Rattle.std.specs.Prelude.{◌≡◌, ◌≢◌, false, codes, option_map, string_bytes, IfOk, IfErr, IfSome, OnOk};
+ghost use Rattle.std.specs.Prelude.{◌≡◌, ◌≢◌, ◌%◌, false, length, codes, option_map, string_bytes, IfOk, IfErr, IfSome, OnOk};
 ghost use Rattle.clap.specs.Words.{app_of, rule_of, first_of, found_of, rows_of, one_of, kind_of};
 ghost use Rattle.clap.specs.Words.{subcommand_of, subcommand_rows_of};
 ghost use Rattle.clap.specs.Walk.{texts};
 ghost use Rattle.clap.specs.declared.builder.Command.TheViews.{out-Command as fields_of};
-ghost use Rattle.jt_line.specs.Line.{Takes, IsAsked, IsKnown, IsBudget, IsOptions, IsGiven, IsFlag, IfUsage, Adds};
-ghost use Rattle.jt_line.specs.Line.{program_app, compile_app, check_app, run_app, render_app, with_budget, with_flags, word_of};
-ghost use Rattle.jt_line.specs.Line.{context_rule, option_rule, word_rule, flag_rule};
-ghost use Rattle.jt_line.specs.Line.{HasNumbers, HasSwitches, IsNumber, IsSwitch};
+ghost use Rattle.jt_line.specs.Line.{Takes, IsAsked, IsKnown, IsBudget, IsOptions, IsGiven, IsSlice, IsFlag, IfUsage, Adds};
+ghost use Rattle.jt_line.specs.Line.{program_app, compile_app, check_app, run_app, render_app, turns_app, with_budget, with_flags, word_of};
+ghost use Rattle.jt_line.specs.Line.{context_rule, option_rule, pairs_rule, word_rule, flag_rule};
+ghost use Rattle.jt_line.specs.Line.{HasNumbers, HasSlice, HasSwitches, IsNumber, IsSwitch, ComeInPairs, ArePaired, pair_words, words_of_pairs};
 
 use crate::jobs;
-use crate::jobs::{DEFAULT, Job, JobError, Options, USUAL};
+use crate::jobs::{DEFAULT, Job, JobError, Options, Pair, SLICE, USUAL};
 use clap::builder::ValueParser;
 use clap::error::ErrorKind;
 use clap::{Arg, ArgAction, ArgMatches, Command, value_parser};
@@ -40,19 +40,16 @@ pub fn job(alloc: Global, words: &[&str]) -> Result<Job, JobError>
 fn program<'a>(alloc: Global) -> Result<Command<'a>, AllocError>
     ensures { IfOk result (λ c. app_of c ≡ program_app) }
 {
-    let compile = compile_command(alloc)?;
-    let check = check_command(alloc)?;
-    let run = run_command(alloc)?;
-    let render = render_command(alloc)?;
-    Command::new(alloc, "jt")
+    let program = Command::new(alloc, "jt")
         .about("A compiler and sandbox for the Jinja template language")
         .no_binary_name(true)
         .disable_help_subcommand(true)
-        .subcommand_required(true)
-        .subcommand(compile)?
-        .subcommand(check)?
-        .subcommand(run)?
-        .subcommand(render)
+        .subcommand_required(true);
+    let program = program.subcommand(compile_command(alloc)?)?;
+    let program = program.subcommand(check_command(alloc)?)?;
+    let program = program.subcommand(run_command(alloc)?)?;
+    let program = program.subcommand(render_command(alloc)?)?;
+    program.subcommand(turns_command(alloc)?)
 }
 
 fn compile_command<'a>(alloc: Global) -> Result<Command<'a>, AllocError>
@@ -90,6 +87,17 @@ fn render_command<'a>(alloc: Global) -> Result<Command<'a>, AllocError>
     let with_context = add_context(alloc, with_name)?;
     let with_options = add_flags(alloc, with_context)?;
     add_budget(alloc, with_options)
+}
+
+fn turns_command<'a>(alloc: Global) -> Result<Command<'a>, AllocError>
+    ensures { IfOk result (λ c. (app_of c ≡ turns_app) × ((fields_of c).has_globals ≡ false)) }
+{
+    let turns = Command::new(alloc, "turns").about("Runs images, each for its context, in turns");
+    let with_pairs = add_pairs(alloc, turns)?;
+    let slice = "How many instructions a turn has, 1 to 1000000 [default: 100]";
+    let range = ValueParser::signed(1, 1_000_000);
+    let with_slice = add_option(alloc, with_pairs, "slice", range, slice)?;
+    add_budget(alloc, with_slice)
 }
 
 /// Adds how templates are read.
@@ -143,6 +151,17 @@ fn add_context<'a>(alloc: Global, command: Command<'a>) -> Result<Command<'a>, A
     command.arg(Arg::new(alloc, "CONTEXT").help("A file of JSON: the values of names"))
 }
 
+/// Adds the words for images and contexts, as many as are given.
+fn add_pairs<'a>(alloc: Global, command: Command<'a>) -> Result<Command<'a>, AllocError>
+    ensures { IfOk result (Adds command.entry pairs_rule) }
+{
+    command.arg(
+        Arg::new(alloc, "PAIRS")
+            .action(ArgAction::Append)
+            .help("The files of an image and of a context, for each session"),
+    )
+}
+
 /// Adds an option with one value.
 fn add_option<'a>(
     alloc: Global,
@@ -181,15 +200,18 @@ fn add_flag<'a>(
 /// The job of a line that was taken.
 fn asked(alloc: Global, matches: &ArgMatches<'_>) -> Result<Job, JobError>
     requires known { IsKnown (option_map (λ p. p.0) (subcommand_rows_of matches.now)) }
-    requires read { IfSome (subcommand_rows_of matches.now) (λ p. HasNumbers p.1 × HasSwitches p.1) }
+    requires numbers { IfSome (subcommand_rows_of matches.now) (λ p. HasNumbers p.1) }
+    requires switches { IfSome (subcommand_rows_of matches.now) (λ p. HasSwitches p.1) }
+    requires slice { IfSome (subcommand_rows_of matches.now) (λ p. HasSlice p.1) }
     ensures ok { IfOk result (IsAsked (subcommand_rows_of matches.now)) }
-    ensures err { IfErr result (λ e. e ≡ JobError.NoMemory) }
+    ensures err { IfErr result (IfUsage (¬ ArePaired (subcommand_rows_of matches.now))) }
 {
     match matches.subcommand() {
         Some(("compile", found)) => compile_job(alloc, found),
         Some(("check", found)) => check_job(alloc, found),
         Some(("run", found)) => run_job(alloc, found),
         Some(("render", found)) => render_job(alloc, found),
+        Some(("turns", found)) => turns_job(alloc, found),
         _ => unreachable!(),
     }
 }
@@ -206,6 +228,7 @@ fn compile_job(alloc: Global, found: &ArgMatches<'_>) -> Result<Job, JobError>
         command: jobs::Command::Compile { dir, name, out },
         options: options(found),
         budget: DEFAULT,
+        slice: SLICE,
     })
 }
 
@@ -218,6 +241,7 @@ fn check_job(alloc: Global, found: &ArgMatches<'_>) -> Result<Job, JobError>
         command: jobs::Command::Check { image },
         options: USUAL,
         budget: DEFAULT,
+        slice: SLICE,
     })
 }
 
@@ -232,6 +256,7 @@ fn run_job(alloc: Global, found: &ArgMatches<'_>) -> Result<Job, JobError>
         command: jobs::Command::Run { image, context },
         options: USUAL,
         budget: budget(found),
+        slice: SLICE,
     })
 }
 
@@ -248,7 +273,49 @@ fn render_job(alloc: Global, found: &ArgMatches<'_>) -> Result<Job, JobError>
         command: jobs::Command::Render { dir, name, context },
         options: options(found),
         budget: budget(found),
+        slice: SLICE,
     })
+}
+
+fn turns_job(alloc: Global, found: &ArgMatches<'_>) -> Result<Job, JobError>
+    requires numbers { HasNumbers (rows_of (found_of found.now)) }
+    requires slice { HasSlice (rows_of (found_of found.now)) }
+    ensures ok { IfOk result (IsAsked (Some (codes "turns", rows_of (found_of found.now)))) }
+    ensures err { IfErr result (IfUsage (¬ ComeInPairs (pair_words (rows_of (found_of found.now))))) }
+{
+    let words = found.get_strs("PAIRS").unwrap_or(&[]);
+    if words.is_empty() || words.len() % 2 != 0 {
+        return Err(JobError::Usage(String::from_str(alloc, "jt: usage\n")?));
+    }
+    let sessions = pairs(alloc, words)?;
+    Ok(Job {
+        command: jobs::Command::Turns { sessions },
+        options: USUAL,
+        budget: budget(found),
+        slice: slice(found),
+    })
+}
+
+/// The words two by two.
+fn pairs(alloc: Global, words: &[&str]) -> Result<Vec<Pair>, AllocError>
+    requires { length words.now % 2 ≡ 0 }
+    ensures { IfOk result (λ pairs. words_of_pairs pairs.items ≡ texts words.now) }
+{
+    let mut pairs = Vec::new(alloc);
+    for i in 0..words.len() / 2 {
+        let image = String::from_str(alloc, words[2 * i])?;
+        let context = String::from_str(alloc, words[2 * i + 1])?;
+        pairs.push(Pair { image, context })?;
+    }
+    Ok(pairs)
+}
+
+/// How many instructions a turn has.
+fn slice(found: &ArgMatches<'_>) -> u32
+    requires { HasSlice (rows_of (found_of found.now)) }
+    ensures { IsSlice (rows_of (found_of found.now)) result }
+{
+    number(found, "slice", SLICE)
 }
 
 /// The text of a word.

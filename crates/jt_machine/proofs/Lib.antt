@@ -8,3 +8,4 @@ pub mod Pieces
 pub mod Slicing
 pub mod Sinking
 pub mod AtOnce
+pub mod Stacking

@@ -1,3 +1,7 @@
+pub mod Entries
+pub mod Activations
+pub mod EntryCode
+pub mod StackView
 pub mod View
 pub mod Parts
 pub mod Making

@@ -1,18 +1,21 @@
 //! Calls, and how they come back.
-ghost use Rattle.std.specs.Prelude.{◌≡◌, ◌≢◌, ◌∷◌, ◌+◌, ◌<◌, ◌≤◌, ◌^◌, ℕ, Option, [], IfOk, IfSome, IfNone, OnOk, length};
-ghost use Rattle.jt_value.specs.View.{view};
+ghost use Rattle.std.specs.Prelude.{◌≡◌, ◌≢◌, ◌+◌, ◌<◌, ◌≤◌, ◌^◌, Option, IfOk, length};
 ghost use Rattle.jt_image.specs.Code.{Section};
 ghost use Rattle.jt_image.specs.IsCode.{IsCode};
-ghost use Rattle.jt_image.specs.Step.{locals_of, given_by, disorder};
+ghost use Rattle.jt_image.specs.Step.{locals_of};
 ghost use Rattle.jt_image.specs.Run.{Wrong};
+ghost use Rattle.jt_machine.specs.Entries.{values_view};
 ghost use Rattle.jt_machine.specs.Parts.{call as call_next, return_from, went_back, back_with};
-ghost use Rattle.jt_machine.specs.View.{config_view, next_view, entries_view, values_view, caller_view, callers_view, given_view};
+ghost use Rattle.jt_machine.specs.StackView.{caller_view};
+ghost use Rattle.jt_machine.specs.View.{config_view, next_view, given_view};
 
+use crate::entries::Entry;
 use crate::limits::passed_limit;
 use crate::making::take_values;
 use crate::outcome::Outcome;
-use crate::parts::{pay, push_entry};
-use crate::state::{Caller, Entry, State};
+use crate::parts::pay;
+use crate::stack::Caller;
+use crate::state::State;
 use jt_image::Code;
 use jt_value::{NoMemory, Value};
 use std::alloc::Global;
@@ -31,14 +34,6 @@ fn locals_with(arguments: Vec<Value>, locals: u16) -> Result<Vec<Value>, NoMemor
     Ok(values)
 }
 
-// Puts a caller in front of those that wait.
-fn push_caller(callers: &mut Vec<Caller>, caller: Caller) -> Result<(), NoMemory>
-    ensures { OnOk result (callers_view callers.new.items ≡ caller_view caller ∷ callers_view callers.old.items) }
-{
-    callers.push(caller)?;
-    Ok(())
-}
-
 /// Takes the arguments of a unit and begins it.
 pub(crate) fn call<C: Code>(
     alloc: Global,
@@ -54,7 +49,7 @@ pub(crate) fn call<C: Code>(
     let Some(header) = code.unit(unit as usize) else {
         unreachable!()
     };
-    let arguments = take_values(alloc, &mut state.entries, usize::from(header.parameters))?;
+    let arguments = take_values(alloc, &mut state.stack, usize::from(header.parameters))?;
     if let Some(outcome) = pay(state, 1) {
         return Ok(Some(outcome));
     }
@@ -62,46 +57,27 @@ pub(crate) fn call<C: Code>(
         return Ok(Some(Outcome::Spent(spent)));
     }
     let locals = locals_with(arguments, header.locals)?;
-    let caller = Caller {
-        unit: state.unit,
-        point: state.point + 1,
-        locals: mem::replace(&mut state.locals, locals),
-        entries: mem::replace(&mut state.entries, Vec::new(alloc)),
-    };
-    push_caller(&mut state.callers, caller)?;
+    let around = mem::replace(&mut state.locals, locals);
+    state.stack.enter(state.unit, state.point + 1, around)?;
     state.unit = unit as usize;
     state.point = 0;
     Ok(None)
 }
 
-// What a unit gives whose entries are these: its one value, or nothing.
-fn given_of(entries: Vec<Entry>) -> Option<Value>
-    ensures { (kind : ℕ) → given_by kind (entries_view entries.items) ≢ disorder → given_by kind (entries_view entries.items) ≡ given_view result }
-{
-    let mut entries = entries;
-    match entries.pop() {
-        Some(Entry::Value(value)) => Some(value),
-        Some(Entry::Frame(_)) => None,
-        Some(Entry::Capture) => None,
-        None => None,
-    }
-}
-
-// Lets a caller go on above these entries.
+// Lets a caller go on, whose entries are those of the activation that runs.
 fn go_on(state: &mut State, caller: Caller)
     requires { state.old.left.depth + 1 < 2 ^ 32 }
-    ensures { config_view state.new ≡ went_back (caller_view caller) (callers_view state.old.callers.items) (caller_view caller).entries (config_view state.old) }
+    ensures { config_view state.new ≡ went_back (caller_view caller state.old.stack.running) state.old.stack.callers state.old.stack.running (config_view state.old) }
 {
     let Caller {
         unit,
         point,
         locals,
-        entries,
+        ..
     } = caller;
     state.unit = unit;
     state.point = point;
     state.locals = locals;
-    state.entries = entries;
     state.left.leave();
 }
 
@@ -112,7 +88,7 @@ fn resume(
     given: Option<Value>,
 ) -> Result<Option<Outcome>, NoMemory>
     requires { state.old.left.depth + 1 < 2 ^ 32 }
-    ensures { IfOk result (λ r. back_with (caller_view caller) (callers_view state.old.callers.items) (given_view given) (config_view state.old) ≡ next_view r state.new) }
+    ensures { IfOk result (λ r. back_with (caller_view caller state.old.stack.running) state.old.stack.callers (given_view given) (config_view state.old) ≡ next_view r state.new) }
 {
     let Some(value) = given else {
         go_on(state, caller);
@@ -122,31 +98,22 @@ fn resume(
         return Ok(Some(Outcome::Spent(spent)));
     }
     go_on(state, caller);
-    push_entry(&mut state.entries, Entry::Value(value))?;
+    state.stack.push(Entry::Value(value))?;
     Ok(None)
-}
-
-// Takes the nearest caller.
-fn pop_caller(callers: &mut Vec<Caller>) -> Option<Caller>
-    ensures some { IfSome result (λ a. callers_view callers.old.items ≡ caller_view a ∷ callers_view callers.new.items) }
-    ensures none { IfNone result (callers_view callers.old.items ≡ []) }
-    ensures fewer { IfSome result (λ _. length callers.new.items < length callers.old.items) }
-{
-    callers.pop()
 }
 
 /// Goes back to the caller with what the unit gives, or ends with the text of the buffer.
 pub(crate) fn finish(alloc: Global, state: &mut State) -> Result<Option<Outcome>, NoMemory>
-    requires depth { state.old.left.depth + length state.old.callers.items < 2 ^ 32 }
+    requires depth { state.old.left.depth + length state.old.stack.callers < 2 ^ 32 }
     ensures { IfOk result (λ r. (u : Option Section) → return_from u (config_view state.old) ≢ Wrong → return_from u (config_view state.old) ≡ next_view r state.new) }
 {
     if let Some(outcome) = pay(state, 1) {
         return Ok(Some(outcome));
     }
-    let Some(caller) = pop_caller(&mut state.callers) else {
+    let given = state.stack.take_given();
+    let Some(caller) = state.stack.leave() else {
         let text = mem::replace(&mut state.buffer, String::new(alloc));
         return Ok(Some(Outcome::Text(text)));
     };
-    let entries = mem::replace(&mut state.entries, Vec::new(alloc));
-    resume(state, caller, given_of(entries))
+    resume(state, caller, given)
 }

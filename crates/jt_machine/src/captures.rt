@@ -6,9 +6,10 @@ ghost use Rattle.jt_image.specs.Run.{Wrong};
 ghost use Rattle.jt_machine.specs.Parts.{open_capture as open_next, close_capture as close_next};
 ghost use Rattle.jt_machine.specs.View.{config_view, next_view, outer_view};
 
+use crate::entries::Entry;
 use crate::outcome::Outcome;
-use crate::parts::{pay, pop_capture, push, push_entry, step_on};
-use crate::state::{Entry, State};
+use crate::parts::{pay, push, step_on};
+use crate::state::State;
 use jt_value::{NoMemory, Value};
 use std::alloc::Global;
 use std::mem;
@@ -29,7 +30,7 @@ pub(crate) fn open_capture(alloc: Global, state: &mut State) -> Result<Option<Ou
     if let Some(outcome) = pay(state, 1) {
         return Ok(Some(outcome));
     }
-    push_entry(&mut state.entries, Entry::Capture)?;
+    state.stack.push(Entry::Capture)?;
     let around = mem::replace(&mut state.buffer, String::new(alloc));
     push_outer(&mut state.outer, around)?;
     step_on(state)
@@ -63,7 +64,7 @@ pub(crate) fn close_capture(state: &mut State, marked: bool) -> Result<Option<Ou
     requires room { state.old.point + 1 < 2 ^ 64 }
     ensures { IfOk result (λ r. close_next marked (config_view state.old) ≡ next_view r state.new) }
 {
-    pop_capture(&mut state.entries);
+    state.stack.pop_capture();
     let around = pop_outer(&mut state.outer);
     if let Some(outcome) = pay(state, 1) {
         return Ok(Some(outcome));

@@ -11,13 +11,14 @@ ghost use Rattle.jt_image.specs.Ids.{operator_of, filter_of, test_of};
 ghost use Rattle.jt_image.specs.Step.{listed, mapped};
 ghost use Rattle.jt_image.specs.Run.{Wrong, limit_of};
 ghost use Rattle.jt_machine.specs.Parts.{make, operate as operate_next, apply_filter as filter_next, apply_test as test_next, answering, push as pushes, step_on as steps_on};
-ghost use Rattle.jt_machine.specs.View.{budget_view, config_view, next_view, entries_view, values_on, HasValues, AreSized, AreFew};
+ghost use Rattle.jt_machine.specs.View.{budget_view, config_view, next_view, values_on, HasValues, AreSized, AreFew};
 ghost use Rattle.jt_machine.specs.Making.{makes_with, Answered, AreMany};
 
 use crate::maps::map_of;
 use crate::outcome::Outcome;
-use crate::parts::{pay, pop, push, push_fitting};
-use crate::state::{Entry, State};
+use crate::parts::{pay, push, push_fitting};
+use crate::stack::Stack;
+use crate::state::State;
 use jt_budget::{Budget, Spent};
 use jt_filters::{
     FilterId, Limits, OpError, OpId, TestId, apply, binary_owned, range, test, unary,
@@ -35,15 +36,16 @@ enum Taken {
 // Takes that many values from the top, the deepest first.
 pub(crate) fn take_values(
     alloc: Global,
-    entries: &mut Vec<Entry>,
+    stack: &mut Stack,
     count: usize,
 ) -> Result<Vec<Value>, NoMemory>
-    requires { HasValues count (entries_view entries.old.items) }
-    ensures { IfOk result (λ vs. values_on count (entries_view entries.old.items) ≡ Some (map view vs.items, entries_view entries.new.items)) }
+    requires { HasValues count stack.old.running }
+    ensures taken { IfOk result (λ vs. values_on count stack.old.running ≡ Some (map view vs.items, stack.new.running)) }
+    ensures callers { stack.new.callers ≡ stack.old.callers }
 {
     let mut values = Vec::new(alloc);
     'values: for _ in 0..count {
-        values.push(pop(entries))?;
+        values.push(stack.pop())?;
     }
     values.reverse();
     Ok(values)
@@ -62,7 +64,7 @@ fn sizes(values: &[Value]) -> u64
 
 // Takes that many values and pays for their sizes.
 fn take_paid(alloc: Global, state: &mut State, count: usize) -> Result<Taken, NoMemory>
-    requires has { HasValues count (entries_view state.old.entries.items) }
+    requires has { HasValues count state.old.stack.running }
     requires sized { AreSized state.old }
     requires few { AreFew state.old }
     ensures next { IfOk result (λ o. (f : List Tree → Result Tree Fault) → make count f (config_view state.old) ≡ makes_with f o state.new) }
@@ -70,7 +72,7 @@ fn take_paid(alloc: Global, state: &mut State, count: usize) -> Result<Taken, No
     ensures point { state.new.point ≡ state.old.point }
 {
     let _size = state.left.size;
-    let values = take_values(alloc, &mut state.entries, count)?;
+    let values = take_values(alloc, &mut state.stack, count)?;
     if let Some(outcome) = pay(state, 1 + sizes(&values) / 64) {
         return Ok(Taken::Unpaid(outcome));
     }

@@ -82,7 +82,11 @@ impl<W: Write> Sink for IoSink<W> {
 }
 
 /// Puts all of the bytes, or those that the sink takes before it refuses a piece.
-pub(crate) fn put_all<W: Sink>(sink: &mut W, bytes: &[u8]) -> Result<(), SinkFailed>
+///
+/// # Errors
+///
+/// Where the sink refuses a piece, and so has failed. What it took is then a beginning of the bytes.
+pub fn put_all<W: Sink>(sink: &mut W, bytes: &[u8]) -> Result<(), SinkFailed>
     requires { W.failed sink.old ≡ false }
     ensures all { OnOk result (Appends (W.taken sink.old) (W.taken sink.new) bytes.now) }
     ensures works { OnOk result (W.failed sink.new ≡ false) }

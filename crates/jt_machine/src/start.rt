@@ -5,9 +5,11 @@ ghost use Rattle.jt_value.specs.View.{view};
 ghost use Rattle.jt_value.specs.Pairs.{look};
 ghost use Rattle.jt_value.specs.ContextView.{pairs_of};
 ghost use Rattle.jt_image.specs.Run.{limit_of_named, passed, filled, entry_locals as entry_locals_of, start as start_of};
-ghost use Rattle.jt_machine.specs.View.{budget_view, limit_view, values_view, config_view};
+ghost use Rattle.jt_machine.specs.Entries.{values_view};
+ghost use Rattle.jt_machine.specs.View.{budget_view, limit_view, config_view};
 
 use crate::limits::passed_limit;
+use crate::stack::Stack;
 use crate::state::State;
 use jt_budget::{Budget, Spent};
 use jt_image::Code;
@@ -115,12 +117,11 @@ pub(crate) fn start<C: Code>(
     Ok(State {
         unit: 0,
         point: 0,
-        entries: Vec::new(alloc),
+        stack: Stack::new(alloc),
         locals,
         globals,
         buffer: String::new(alloc),
         outer: Vec::new(alloc),
-        callers: Vec::new(alloc),
         left: budget,
     })
 }

@@ -5,14 +5,18 @@ ghost use Rattle.jt_value.specs.Iteration.{items_of_tree};
 ghost use Rattle.jt_value.specs.View.{view};
 ghost use Rattle.jt_image.specs.Step.{greatest, piled};
 ghost use Rattle.jt_image.specs.Run.{Wrong};
+ghost use Rattle.jt_machine.specs.Activations.{with_running};
+ghost use Rattle.jt_machine.specs.Entries.{values_view};
 ghost use Rattle.jt_machine.specs.Parts.{iterating, spread as spread_next, unpack as unpack_next};
-ghost use Rattle.jt_machine.specs.View.{config_view, next_view, entries_view, values_view, AreSized};
+ghost use Rattle.jt_machine.specs.View.{config_view, next_view, AreSized};
 
+use crate::entries::Entry;
 use crate::items::items_of;
 use crate::maps::pop_last;
 use crate::outcome::Outcome;
-use crate::parts::{pay, pop, push_entry, step_on};
-use crate::state::{Entry, State};
+use crate::parts::{pay, step_on};
+use crate::stack::Stack;
+use crate::state::State;
 use jt_value::{Fault, NoMemory, Value, ValueError};
 use std::alloc::Global;
 
@@ -39,13 +43,13 @@ fn greatest_nesting(values: &[Value]) -> u32
 }
 
 // Puts all of the values on top, the last one uppermost.
-fn push_all(entries: &mut Vec<Entry>, values: Vec<Value>) -> Result<(), NoMemory>
-    ensures { OnOk result (entries_view entries.new.items ≡ piled (values_view values.items) (entries_view entries.old.items)) }
+fn push_all(stack: &mut Stack, values: Vec<Value>) -> Result<(), NoMemory>
+    ensures { OnOk result (stack.new ≡ with_running (piled (values_view values.items) stack.old.running) stack.old) }
 {
     let mut values = values;
     values.reverse();
     'values: while let Some(value) = pop_last(&mut values) {
-        push_entry(entries, Entry::Value(value))?;
+        stack.push(Entry::Value(value))?;
     }
     Ok(())
 }
@@ -66,7 +70,7 @@ fn spread(state: &mut State, count: u32, values: Vec<Value>) -> Result<Option<Ou
     {
         return Ok(Some(Outcome::Spent(spent)));
     }
-    push_all(&mut state.entries, values)?;
+    push_all(&mut state.stack, values)?;
     step_on(state)
 }
 
@@ -99,7 +103,7 @@ pub(crate) fn unpack(
     ensures { IfOk result (λ r. unpack_next count (config_view state.old) ≡ next_view r state.new) }
 {
     let _size = state.left.size;
-    let value = pop(&mut state.entries);
+    let value = state.stack.pop();
     if let Some(outcome) = pay(state, 1 + value.size() / 64) {
         return Ok(Some(outcome));
     }

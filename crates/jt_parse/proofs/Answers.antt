@@ -1,81 +1,56 @@
 -- What is answered of pieces.
-use Rattle.std.proofs.Common.{◌≡◌, ℕ, ◌≤◌, List, true, false, refl, sym, ap, ◌∙◌, None, Result, Ok, Err, IfOk, IfErr, MatchResult}
-use Rattle.jt_expr.specs.Reading.{Fault, syntax, deep}
-use Rattle.jt_expr.specs.Trees.{Expr}
-use Rattle.jt_expr.specs.Gives.{GivesWhole}
-use Rattle.jt_expr.specs.declared.error.ExprError.{ExprError}
-use Rattle.jt_expr.specs.declared.error.ExprError.TheVariants as fault
+use Rattle.std.proofs.Common.{◌≡◌, ℕ, ◌<◌, ◌≤◌, arith, List, true, false, refl, ap, ◌∙◌, None, Result, Ok, Err, IfOk, IfErr, MatchResult}
 use Rattle.jt_expr.specs.declared.named.Named.{Named}
 use Rattle.jt_expr.specs.declared.named.Named.TheVariants as named
 use Rattle.jt_parse.specs.Trees.{Body, body_levels}
-use Rattle.jt_parse.specs.Tags as tags
-use Rattle.jt_parse.specs.HeadView as heads
 use Rattle.jt_parse.specs.Kept.{Piece, pieces}
 use Rattle.jt_parse.specs.Trees.{body_weight}
 use Rattle.jt_parse.specs.Bytes.{body_bytes, bytes_of}
 use Rattle.jt_scan.specs.Cut.{weight_of}
 use Rattle.jt_scan.specs.View.{cut_of}
 use Rattle.jt_scan.specs.declared.segment.Segment.{Segment as Part}
+use Rattle.jt_expr.specs.Promises.{ExpressionLaws}
 use Rattle.jt_parse.proofs.Weighs.{weighs_less}
 use Rattle.jt_parse.proofs.Short.{no_longer}
 use Rattle.jt_parse.specs.Names.{body_unknown}
 use Rattle.jt_parse.specs.Places.{is_placed}
 use Rattle.jt_parse.specs.Grammar.{Spelled}
-use Rattle.jt_parse.specs.Reading.{parsed}
+use Rattle.jt_parse.specs.Reading.{Fault, Parsed}
 use Rattle.jt_parse.specs.View.{body_of, reads_of}
-use Rattle.jt_parse.specs.Gives.{Refuses, GivesTemplate, GivesNames, GivesPlaces, IsNone, not_read, misplaced, GivesKnown, Finds, refusal_at}
+use Rattle.jt_parse.specs.Gives.{GivesTemplate, GivesNames, GivesPlaces, IsNone, not_read, misplaced, GivesKnown, Finds}
 use Rattle.jt_parse.specs.Refusals.{HoldsUnknown, IsRefusal}
 use Rattle.jt_parse.specs.declared.error.ParseError.{ParseError}
 use Rattle.jt_parse.specs.declared.error.ParseError.TheVariants as e
 use Rattle.jt_parse.specs.declared.tree.Template.{Template}
-use Rattle.jt_parse.proofs.Exact.{found, exact, syntax_only, deep_only, different, one_tree}
+use Rattle.jt_parse.proofs.Exact.{exact, is_read, syntax_only, deep_only}
 
 -- ---- what is read, its places, and its names
 
--- a refusal of an expression
-pub refused_at : (o : Result Expr Fault) (line : ℕ) (f : ExprError) → GivesWhole o (Err f) → Refuses o (refusal_at line f)
-refused_at o line fault.Syntax g = g
-refused_at o line fault.TooDeep g = g
-refused_at o line fault.UnknownFilter g = absurd g
-refused_at o line fault.UnknownTest g = absurd g
-refused_at o line fault.NoMemory g = tt
+pub refused_read : (O : Result Body Fault → Type 0) (f : ParseError) → GivesTemplate O (Err f) → GivesKnown O (Err f)
+refused_read O (e.Syntax l) g = not_read g
+refused_read O (e.TooDeep l) g = g
+refused_read O (e.UnknownFilter l) g = absurd g
+refused_read O (e.UnknownTest l) g = absurd g
+refused_read O e.NoMemory g = tt
 
--- a refusal of a statement's first tag
-pub head_refused_at : (o : Result tags.Head Fault) (line : ℕ) (f : ExprError) → heads.GivesWhole o (Err f) → Refuses o (refusal_at line f)
-head_refused_at o line fault.Syntax g = g
-head_refused_at o line fault.TooDeep g = g
-head_refused_at o line fault.UnknownFilter g = absurd g
-head_refused_at o line fault.UnknownTest g = absurd g
-head_refused_at o line fault.NoMemory g = tt
+pub found_misplaced : (O : Result Body Fault → Type 0) (b : Body) (f : ParseError) → O (Ok b) → GivesPlaces (is_placed b) (Err f) → GivesKnown O (Err f)
+found_misplaced O b (e.Syntax l) is g = misplaced (b, is, g)
+found_misplaced O b (e.TooDeep l) is g = absurd g
+found_misplaced O b (e.UnknownFilter l) is g = absurd g
+found_misplaced O b (e.UnknownTest l) is g = absurd g
+found_misplaced O b e.NoMemory is g = absurd g
 
-pub refused_read : (o : Result Body Fault) (f : ParseError) → GivesTemplate o (Err f) → GivesKnown o (Err f)
-refused_read o (e.Syntax l) g = not_read g
-refused_read o (e.TooDeep l) g = g
-refused_read o (e.UnknownFilter l) g = absurd g
-refused_read o (e.UnknownTest l) g = absurd g
-refused_read o e.NoMemory g = tt
+pub found_unknown : (O : Result Body Fault → Type 0) (b : Body) (f : ParseError) → O (Ok b) → is_placed b ≡ true → GivesNames (body_unknown b) (Err f) → GivesKnown O (Err f)
+found_unknown O b (e.Syntax l) is p g = absurd g
+found_unknown O b (e.TooDeep l) is p g = absurd g
+found_unknown O b (e.UnknownFilter l) is p g = (b, is, p, g)
+found_unknown O b (e.UnknownTest l) is p g = (b, is, p, g)
+found_unknown O b e.NoMemory is p g = absurd g
 
-pub found_misplaced : (o : Result Body Fault) (b : Body) (f : ParseError) → o ≡ Ok b → GivesPlaces (is_placed b) (Err f) → GivesKnown o (Err f)
-found_misplaced o b (e.Syntax l) is g = misplaced (b, is, g)
-found_misplaced o b (e.TooDeep l) is g = absurd g
-found_misplaced o b (e.UnknownFilter l) is g = absurd g
-found_misplaced o b (e.UnknownTest l) is g = absurd g
-found_misplaced o b e.NoMemory is g = absurd g
+not_known : {G : Type 0} (ps : List Piece) (b : Body) (line : ℕ) (n : Named) → Finds (Parsed 100 ps) line n → Spelled b ps → body_unknown b ≡ None → G
+not_known ps b line n (a, is, p, s) d k = let q : body_unknown a ≡ None = ap body_unknown (is_read 100 a b ps is d.0).0 ∙ k in absurd (cc)
 
-pub found_unknown : (o : Result Body Fault) (b : Body) (f : ParseError) → o ≡ Ok b → is_placed b ≡ true → GivesNames (body_unknown b) (Err f) → GivesKnown o (Err f)
-found_unknown o b (e.Syntax l) is p g = absurd g
-found_unknown o b (e.TooDeep l) is p g = absurd g
-found_unknown o b (e.UnknownFilter l) is p g = (b, is, p, g)
-found_unknown o b (e.UnknownTest l) is p g = (b, is, p, g)
-found_unknown o b e.NoMemory is p g = absurd g
-
-same_body : (o : Result Body Fault) (a b : Body) → o ≡ Ok a → o ≡ Ok b → a ≡ b
-same_body o a b is same = cc
-
-not_known : {G : Type 0} (o : Result Body Fault) (b : Body) (line : ℕ) (n : Named) → Finds o line n → o ≡ Ok b → body_unknown b ≡ None → G
-not_known o b line n (a, is, p, s) g k = let q : body_unknown a ≡ None = ap body_unknown (same_body o a b is g) ∙ k in absurd (cc)
-
-holds : (ps : List Piece) (line : ℕ) (n : Named) → Finds (parsed 100 ps) line n → HoldsUnknown line n ps
+holds : (ps : List Piece) (line : ℕ) (n : Named) → Finds (Parsed 100 ps) line n → HoldsUnknown line n ps
 holds ps line n (b, is, p, s) = let h = exact 100 b ps is in (b, (h.0, p), h.1, s)
 
 not_placed : {G : Type 0} (b : Body) → is_placed b ≡ true → is_placed b ≡ false → G
@@ -83,32 +58,31 @@ not_placed b t f = absurd (cc)
 
 -- ---- the answer
 
-pub answer_spelled : (ps : List Piece) (r : Result Template ParseError) → GivesKnown (parsed 100 ps) r → IfOk r (λ t. Spelled (body_of t) ps × (body_levels (body_of t) ≤ 100))
+pub answer_spelled : (ps : List Piece) (r : Result Template ParseError) → GivesKnown (Parsed 100 ps) r → IfOk r (λ t. Spelled (body_of t) ps × (body_levels (body_of t) ≤ 100))
 answer_spelled ps (Ok t) g = let h = exact 100 (body_of t) ps g.0 in ((h.0, g.1), h.1)
 answer_spelled ps (Err x) g = tt
 
-pub answer_known : (ps : List Piece) (r : Result Template ParseError) → GivesKnown (parsed 100 ps) r → IfOk r (λ t. body_unknown (body_of t) ≡ None)
+pub answer_known : (ps : List Piece) (r : Result Template ParseError) → GivesKnown (Parsed 100 ps) r → IfOk r (λ t. body_unknown (body_of t) ≡ None)
 answer_known ps (Ok t) g = g.2
 answer_known ps (Err x) g = tt
 
-none_only : {G : Type 0} (ps : List Piece) (b : Body) → IsNone (parsed 100 ps) → parsed 100 ps ≡ Ok b → is_placed b ≡ true → G
-none_only ps b (not_read n) f p = different syntax b (sym f ∙ n)
-none_only ps b (misplaced (a, is, m)) f p = not_placed b p (ap is_placed (sym (same_body (parsed 100 ps) a b is f)) ∙ m)
+-- a tree whose statements stand where they may is not spelled beside the one that is read
+none_spelled : (ps : List Piece) → IsNone (Parsed 100 ps) → (b : Body) → Spelled b ps → ⊥
+none_spelled ps (not_read n) b s = syntax_only 100 b ps n s.0
+none_spelled ps (misplaced (a, is, m)) b s = not_placed a (ap is_placed (is_read 100 a b ps is s.0).0 ∙ s.1) m
 
-pub answer_only : (ps : List Piece) (r : Result Template ParseError) → GivesKnown (parsed 100 ps) r → (b : Body) → Spelled b ps → body_levels b ≤ 100 → body_unknown b ≡ None → MatchResult r (λ t. body_of t ≡ b) (λ x. x ≡ e.NoMemory)
-answer_only ps (Ok t) g b s le k = same_body (parsed 100 ps) (body_of t) b g.0 (found 100 b ps s.0 le)
-answer_only ps (Err (e.Syntax l)) g b s le k = none_only ps b g (found 100 b ps s.0 le) s.1
-answer_only ps (Err (e.TooDeep l)) g b s le k = different deep b (sym (found 100 b ps s.0 le) ∙ g)
-answer_only ps (Err (e.UnknownFilter l)) g b s le k = not_known (parsed 100 ps) b l named.Filter g (found 100 b ps s.0 le) k
-answer_only ps (Err (e.UnknownTest l)) g b s le k = not_known (parsed 100 ps) b l named.Test g (found 100 b ps s.0 le) k
+over : {G : Type 0} (l n : ℕ) → l ≤ n → n < l → G
+over l n le gt = absurd (omega (arith, le, gt))
+
+pub answer_only : (ps : List Piece) (r : Result Template ParseError) → GivesKnown (Parsed 100 ps) r → (b : Body) → Spelled b ps → body_levels b ≤ 100 → body_unknown b ≡ None → MatchResult r (λ t. body_of t ≡ b) (λ x. x ≡ e.NoMemory)
+answer_only ps (Ok t) g b s le k = (is_read 100 (body_of t) b ps g.0 s.0).0
+answer_only ps (Err (e.Syntax l)) g b s le k = absurd (none_spelled ps g b s)
+answer_only ps (Err (e.TooDeep l)) g b s le k = over (body_levels b) 100 le (deep_only 100 b ps g s.0)
+answer_only ps (Err (e.UnknownFilter l)) g b s le k = not_known ps b l named.Filter g s k
+answer_only ps (Err (e.UnknownTest l)) g b s le k = not_known ps b l named.Test g s k
 answer_only ps (Err e.NoMemory) g b s le k = refl
 
--- a tree whose statements stand where they may is not spelled beside the one that is read
-none_spelled : (ps : List Piece) → IsNone (parsed 100 ps) → (b : Body) → Spelled b ps → ⊥
-none_spelled ps (not_read n) b s = syntax_only 100 b ps n s.0
-none_spelled ps (misplaced (a, is, m)) b s = not_placed a (ap is_placed (one_tree ps a b (exact 100 a ps is).0 s.0) ∙ s.1) m
-
-pub answer_refused : (ps : List Piece) (r : Result Template ParseError) → GivesKnown (parsed 100 ps) r → IfErr r (λ x. IsRefusal x ps)
+pub answer_refused : (ps : List Piece) (r : Result Template ParseError) → GivesKnown (Parsed 100 ps) r → IfErr r (λ x. IsRefusal x ps)
 answer_refused ps (Ok t) g = tt
 answer_refused ps (Err (e.Syntax l)) g = λ b s. none_spelled ps g b s
 answer_refused ps (Err (e.TooDeep l)) g = λ b s. deep_only 100 b ps g s.0
@@ -116,10 +90,10 @@ answer_refused ps (Err (e.UnknownFilter l)) g = holds ps l named.Filter g
 answer_refused ps (Err (e.UnknownTest l)) g = holds ps l named.Test g
 answer_refused ps (Err e.NoMemory) g = tt
 
-pub answer_weighs : (gs : List Part) (r : Result Template ParseError) → GivesKnown (parsed 100 (pieces (reads_of gs))) r → IfOk r (λ t. body_weight (body_of t) ≤ weight_of (cut_of gs))
-answer_weighs gs (Ok t) g = weighs_less gs (exact 100 (body_of t) (pieces (reads_of gs)) g.0).0
-answer_weighs gs (Err x) g = tt
+pub answer_weighs : ExpressionLaws → (gs : List Part) (r : Result Template ParseError) → GivesKnown (Parsed 100 (pieces (reads_of gs))) r → IfOk r (λ t. body_weight (body_of t) ≤ weight_of (cut_of gs))
+answer_weighs laws gs (Ok t) g = weighs_less laws gs (exact 100 (body_of t) (pieces (reads_of gs)) g.0).0
+answer_weighs laws gs (Err x) g = tt
 
-pub answer_short : (gs : List Part) (r : Result Template ParseError) → GivesKnown (parsed 100 (pieces (reads_of gs))) r → IfOk r (λ t. body_bytes (body_of t) ≤ bytes_of (cut_of gs))
-answer_short gs (Ok t) g = no_longer gs (exact 100 (body_of t) (pieces (reads_of gs)) g.0).0
-answer_short gs (Err x) g = tt
+pub answer_short : ExpressionLaws → (gs : List Part) (r : Result Template ParseError) → GivesKnown (Parsed 100 (pieces (reads_of gs))) r → IfOk r (λ t. body_bytes (body_of t) ≤ bytes_of (cut_of gs))
+answer_short laws gs (Ok t) g = no_longer laws gs (exact 100 (body_of t) (pieces (reads_of gs)) g.0).0
+answer_short laws gs (Err x) g = tt

@@ -1,10 +1,10 @@
 -- Statements and branches behind others, and levels that are allowed.
-use Rattle.std.proofs.Common.{◌≡◌, ℕ, suc, ◌+◌, ◌-◌, ◌<◌, ◌≤◌, max, nat_le, if◌then◌else◌, refl, sym, ap, ◌∙◌, ⊎_elim, arith, Result, Err}
+use Rattle.std.proofs.Common.{◌≡◌, ℕ, ◌<◌, ◌≤◌, max, nat_le, if◌then◌else◌, refl, sym, ap, ◌∙◌, ⊎_elim, arith, Result, Err}
 use Rattle.std.proofs.lemmas.Bool.{cases_lt}
 use Rattle.std.proofs.lemmas.Bool.Decides.{nat_tests}
 use Rattle.jt_parse.specs.Trees.{Body, end, stmt, Branches, no_branches, branch}
 use Rattle.jt_expr.specs.Reading.{Fault, deep}
-use Rattle.jt_parse.specs.Reading.{then_all, then_branches, ◌>>=◌}
+use Rattle.jt_parse.specs.Reading.{then_all, then_branches}
 
 pub all_end : (a : Body) → then_all a end ≡ a
 all_end end = refl
@@ -32,14 +32,6 @@ within_in l n r h = grind (arith, nat_tests)
 pub within_out : {A : Type 0} (l n : ℕ) (r : Result A Fault) → n < l → within l n r ≡ Err deep
 within_out l n r h = grind (arith, nat_tests)
 
--- what goes on from levels that are allowed
-pub within_bind : {A B : Type 0} (l n : ℕ) (r : Result A Fault) (f : A → Result B Fault) → (within l n r >>= f) ≡ within l n (r >>= f)
-within_bind l n r f =
-    ⊎_elim
-    (λ gt. ap (λ o. o >>= f) (within_out l n r gt) ∙ sym (within_out l n (r >>= f) gt))
-    (λ le. ap (λ o. o >>= f) (within_in l n r le) ∙ sym (within_in l n (r >>= f) le))
-    (cases_lt n l)
-
 -- two tests one after the other are one
 pub chained : {A : Type 0} (l k m n : ℕ) (r q : Result A Fault) → m ≡ max l k → (l ≤ n → r ≡ within k n q) → within l n r ≡ within m n q
 chained l k m n r q e f =
@@ -51,11 +43,3 @@ chained l k m n r q e f =
     (λ (less : k ≤ n). within_in k n q less ∙ sym (within_in m n q (omega arith)))
     (cases_lt n k))
     (cases_lt n l)
-
--- levels in so many others and a statement
-pub within_left : {A : Type 0} (l d n : ℕ) (r : Result A Fault) → 0 < l → within l (n - suc d) r ≡ within (d + suc l) n r
-within_left l d n r some =
-    ⊎_elim
-    (λ (gt : n - suc d < l). within_out l (n - suc d) r gt ∙ sym (within_out (d + suc l) n r (omega arith)))
-    (λ (le : l ≤ n - suc d). within_in l (n - suc d) r le ∙ sym (within_in (d + suc l) n r (omega arith)))
-    (cases_lt (n - suc d) l)

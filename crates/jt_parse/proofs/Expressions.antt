@@ -1,37 +1,95 @@
--- The expression that all the tokens of a tag spell.
-use Rattle.std.proofs.Common.{◌≡◌, ℕ, ◌<◌, ◌≤◌, List, refl, sym, ◌∙◌, Result, Ok, Err, ⊎_elim}
-use Rattle.std.proofs.lemmas.Bool.{cases_lt}
+-- A state behind what is read of an expression or of a statement's first tag.
+use Rattle.std.proofs.Common.{◌≡◌, ℕ, suc, ◌+◌, ◌-◌, ◌<◌, ◌≤◌, nat_lt, true, false, List, ◌∷◌, length, refl, sym, subst, arith, Result, Ok, Err}
+use Rattle.std.proofs.lemmas.Bool.Decides.{nat_tests}
 use Rattle.jt_scan.specs.Cut.{Token}
 use Rattle.jt_expr.specs.Trees.{Expr, levels}
-use Rattle.jt_expr.specs.Grammar.{whole, Spells}
-use Rattle.jt_expr.specs.Reading.{Fault, deep, read, parsed}
-use Rattle.jt_expr.proofs.Exact.{read_all, parsed_spelled}
-use Rattle.jt_parse.proofs.Bodies.{within, within_in, within_out}
+use Rattle.jt_parse.specs.Tags.{Head, Says, says_if, says_for, says_set, says_text, says_with, says_filter, says_autoescape, says_macro, says_include, says_extends, says_block, head_levels}
+use Rattle.jt_parse.specs.Trees.{Body, end, Branches}
+use Rattle.jt_parse.specs.Reading.{Frame, in_branch, then_branch, State, state, After, ElifTag}
+use Rattle.jt_parse.specs.Gives.{GivesOnly, Refuses}
+use Rattle.jt_expr.specs.Grammar.{Tokens, Spells, whole}
+use Rattle.jt_expr.specs.View.{expr_view}
+use Rattle.jt_expr.specs.declared.tree.Expr.{Expr as Tree}
+use Rattle.jt_expr.specs.declared.error.ExprError.{ExprError}
+use Rattle.jt_expr.specs.declared.error.ExprError.TheVariants as fault
+use Rattle.jt_parse.specs.Gives.{refusal_at}
+use Rattle.jt_parse.specs.declared.error.ParseError.{ParseError}
+use Rattle.jt_parse.specs.declared.error.ParseError.TheVariants as e
 
-pub no_error : {A B : Type 0} (f : Fault) (a : A) → ◌≡◌ {A = Result A Fault} (Err f) (Ok a) → B
-no_error f a e = absurd (cc)
+-- within so many levels around
+module _ {A B : Type 0} (view : A → B) (Form : B → Type 0) (height : B → ℕ) (around limit n : ℕ) (next : B → State) (all : around + limit ≡ n) where
+  pub after_ok : (a : A) (st : State) → GivesOnly view Form height limit (Ok a) → st ≡ next (view a) → After Form (λ b. around + height b) n next (Ok st)
+  after_ok a st g is = (view a, g.0, omega (arith, g.1, all), g.2, is)
 
--- what is spelled is read where its levels are allowed, and else too deep
-pub spelled_is_read : (n : ℕ) {e : Expr} {ts : List Token} → Spells whole e ts → parsed n ts ≡ within (levels e) n (Ok e)
-spelled_is_read n {e} {ts} d =
-    let reads = read_all n e ts d in
-    ⊎_elim
-    (λ (gt : n < levels e). reads.1 gt ∙ sym (within_out (levels e) n (Ok e) gt))
-    (λ (le : levels e ≤ n). reads.0 le ∙ sym (within_in (levels e) n (Ok e) le))
-    (cases_lt n (levels e))
+  pub after_refused : (x : ParseError) → GivesOnly view Form height limit (Err x) → Refuses (After Form (λ b. around + height b) n next) x
+  after_refused (e.Syntax l) g = g
+  after_refused (e.TooDeep l) g = λ b d. let p = g b d in omega (arith, p, all)
+  after_refused (e.UnknownFilter l) g = g
+  after_refused (e.UnknownTest l) g = g
+  after_refused e.NoMemory g = tt
 
-none_without_levels : (ts : List Token) → parsed 0 ts ≡ Err deep
-unfolding parsed read
-none_without_levels ts = refl
+pub some_levels : {line : ℕ} {h : Head} {x : List Token} → Says line h x → 0 < head_levels h
+some_levels (says_if d) = omega arith
+some_levels (says_for g d f) = omega arith
+some_levels (says_set g d) = omega arith
+some_levels (says_text h) = omega arith
+some_levels (says_with d) = omega arith
+some_levels (says_filter d) = omega arith
+some_levels (says_autoescape on) = omega arith
+some_levels (says_macro h d) = omega arith
+some_levels (says_include missing d) = omega arith
+some_levels says_extends = omega arith
+some_levels (says_block scoped required h) = omega arith
 
--- no expression is without levels
-pub some_levels : {e : Expr} {ts : List Token} → Spells whole e ts → 0 < levels e
-some_levels {e} {ts} d =
-    ⊎_elim
-    (λ (gt : 0 < levels e). gt)
-    (λ (le : levels e ≤ 0). no_error deep e (sym (none_without_levels ts) ∙ (read_all 0 e ts d).0 le))
-    (cases_lt 0 (levels e))
+-- nothing fits where so many levels are around
+pub no_room : {B : Type 0} (Form : B → Type 0) (height : B → ℕ) (n : ℕ) (next : B → State) (line : ℕ) (x : ParseError) → x ≡ e.TooDeep line → ((b : B) → Form b → n < height b)
+    → Refuses (After Form height n next) x
+no_room Form height n next line x is over = subst (λ z. Refuses (After Form height n next) z) (sym is) over
 
--- what is read is spelled so
-pub expression_sound : (n : ℕ) (ts : List Token) (e : Expr) → parsed n ts ≡ Ok e → Spells whole e ts
-expression_sound n ts e g = (parsed_spelled n e ts g).0
+pub expression_over : (outer d n l : ℕ) → nat_lt outer n ≡ false → outer ≡ d → n < suc d + l
+expression_over outer d n l h is = let le : n ≤ outer = grind (arith, nat_tests) in omega (arith, le, is)
+
+pub head_over : (outer d n l : ℕ) → nat_lt outer n ≡ false → outer ≡ d → 0 < l → n < d + l
+head_over outer d n l h is some = let le : n ≤ outer = grind (arith, nat_tests) in omega (arith, le, is, some)
+
+pub one_left : (outer d n limit : ℕ) → nat_lt outer n ≡ true → outer ≡ d → limit ≡ n - suc outer → suc d + limit ≡ n
+one_left outer d n limit h same is = let less : outer < n = grind (arith, nat_tests) in omega (arith, less, same, is)
+
+pub head_left : (outer d n limit : ℕ) → nat_lt outer n ≡ true → outer ≡ d → limit ≡ n - suc outer → d + suc limit ≡ n
+head_left outer d n limit h same is = let less : outer < n = grind (arith, nat_tests) in omega (arith, less, same, is)
+
+pub fitting : (around limit n l : ℕ) → around + limit ≡ n → l ≤ limit → around + l ≤ n
+fitting around limit n l all le = omega (arith, all, le)
+
+-- ---- {% elif c %}
+
+module _ (n line : ℕ) (ts : List Token) (body before : Body) (done : Branches) (l : ℕ) (c : Expr) (frames fs : List Frame) (is : frames ≡ in_branch before done l c ∷ fs) (outer : ℕ) (same : outer ≡ length fs) where
+  abbrev Next : Expr → State
+  Next e = state end (in_branch before (then_branch done l c body) line e ∷ fs)
+
+  pub elif_over : (x : ParseError) (k : ℕ) → x ≡ e.TooDeep k → nat_lt outer n ≡ false → Refuses (ElifTag n line ts body frames) x
+  elif_over x k deep h =
+      subst (λ z. Refuses (ElifTag n line ts body z) x) (sym is)
+      (no_room (λ c. Spells whole c ts) (λ c. suc (length fs) + levels c) n Next k x deep (λ b d. expression_over outer (length fs) n (levels b) h same))
+
+  pub elif_refused : (x : ParseError) (limit : ℕ) → nat_lt outer n ≡ true → limit ≡ n - suc outer → GivesOnly expr_view (λ c. Spells whole c ts) levels limit (Err x) → Refuses (ElifTag n line ts body frames) x
+  elif_refused x limit h left g =
+      subst (λ z. Refuses (ElifTag n line ts body z) x) (sym is)
+      (after_refused expr_view (λ c. Spells whole c ts) levels (suc (length fs)) limit n Next (one_left outer (length fs) n limit h same left) x g)
+
+  pub elif_ok : (a : Tree) (st : State) (limit : ℕ) → nat_lt outer n ≡ true → limit ≡ n - suc outer → GivesOnly expr_view (λ c. Spells whole c ts) levels limit (Ok a) → st ≡ Next (expr_view a)
+      → ElifTag n line ts body frames (Ok st)
+  elif_ok a st limit h left g to =
+      subst (λ z. ElifTag n line ts body z (Ok st)) (sym is)
+      (after_ok expr_view (λ c. Spells whole c ts) levels (suc (length fs)) limit n Next (one_left outer (length fs) n limit h same left) a st g to)
+
+-- a refusal of an expression
+pub expression_refused : (limit line : ℕ) (ts : Tokens) (f : ExprError) → (◌≡◌ {A = Result Tree ExprError} (Err f) (Err fault.Syntax) → (t : Expr) → Spells whole t ts → ⊥)
+    → (◌≡◌ {A = Result Tree ExprError} (Err f) (Err fault.TooDeep) → (t : Expr) → Spells whole t ts → limit < levels t)
+    → (◌≡◌ {A = Result Tree ExprError} (Err f) (Err fault.UnknownFilter) → ⊥) → (◌≡◌ {A = Result Tree ExprError} (Err f) (Err fault.UnknownTest) → ⊥)
+    → GivesOnly expr_view (λ c. Spells whole c ts) levels limit (Err (refusal_at line f))
+expression_refused limit line ts fault.Syntax none deep filters tests = none refl
+expression_refused limit line ts fault.TooDeep none deep filters tests = deep refl
+expression_refused limit line ts fault.UnknownFilter none deep filters tests = filters refl
+expression_refused limit line ts fault.UnknownTest none deep filters tests = tests refl
+expression_refused limit line ts fault.NoMemory none deep filters tests = tt

@@ -5,6 +5,8 @@ pub mod Views
 pub mod Rows
 pub mod TagsComplete
 pub mod TagsSound
+pub mod FirstTags
+pub mod Levels
 pub mod Complete
 pub mod Sound
 pub mod Exact
@@ -14,6 +16,7 @@ pub mod Given
 pub mod Placing
 pub mod Checking
 pub mod Steps
+pub mod Segments
 pub mod Weighs
 pub mod Short
 pub mod KeptRows

@@ -12,9 +12,9 @@ use Rattle.jt_scan.specs.Scanning.{EndsWith}
 use Rattle.jt_scan.specs.Cut as cut
 use Rattle.jt_scan.specs.Cut.{Segment}
 use Rattle.jt_expr.specs.Trees.{Expr, Pairs}
-use Rattle.jt_expr.specs.Grammar.{Tokens, word}
+use Rattle.jt_expr.specs.Grammar.{Tokens, word, Level, Spells}
 use Rattle.jt_expr.specs.Sizes.{expr_bytes, exprs_bytes, pairs_bytes, tokens_bytes}
-use Rattle.jt_expr.proofs.Short.{spells_short}
+use Rattle.jt_expr.specs.Promises.{ExpressionLaws}
 use Rattle.jt_parse.specs.Trees.{Text, Filtering, Parameter, Body, Branches}
 use Rattle.jt_parse.specs.Bytes.{texts_bytes, condition_bytes, filtering_bytes, default_bytes, parameters_bytes, stmt_bytes, body_bytes, branch_bytes, segment_bytes, bytes_of}
 use Rattle.jt_parse.specs.Kept as kept
@@ -52,164 +52,168 @@ names_sum : (bs : List Text) → sums text_length bs ≡ texts_bytes bs
 names_sum [] = refl
 names_sum (b ∷ bs) = omega (arith, names_sum bs)
 
-value_short : (a : Text × Expr) (x : Tokens) → IsValue a x → length a.0 + expr_bytes a.1 ≤ tokens_bytes x
-value_short a x (a_value h d) = omega (arith, spells_short d)
+module _ (laws : ExpressionLaws) where
+  spells_short : {k : Level} {t : Expr} {x : Tokens} → Spells k t x → expr_bytes t ≤ tokens_bytes x
+  spells_short {k} {t} {x} d = laws.short k t x d
 
-values_sum : (bs : List (Text × Expr)) → sums (λ (a : Text × Expr). length a.0 + expr_bytes a.1) bs ≡ pairs_bytes (pairs_of bs)
-values_sum [] = refl
-values_sum (b ∷ bs) = omega (arith, values_sum bs)
+  value_short : (a : Text × Expr) (x : Tokens) → IsValue a x → length a.0 + expr_bytes a.1 ≤ tokens_bytes x
+  value_short a x (a_value h d) = omega (arith, spells_short d)
 
-abbrev one_filter : Filtering → ℕ
-one_filter f = length f.name + exprs_bytes f.arguments + pairs_bytes f.keywords
+  values_sum : (bs : List (Text × Expr)) → sums (λ (a : Text × Expr). length a.0 + expr_bytes a.1) bs ≡ pairs_bytes (pairs_of bs)
+  values_sum [] = refl
+  values_sum (b ∷ bs) = omega (arith, values_sum bs)
 
-filter_short : (a : Filtering) (x : Tokens) → IsFiltering a x → one_filter a ≤ tokens_bytes x
-filter_short a x (a_filter {x = n} {y = y} h d) = omega (arith, spells_short (filter_spelled {n = n} h d), tokens-append y [])
+  abbrev one_filter : Filtering → ℕ
+  one_filter f = length f.name + exprs_bytes f.arguments + pairs_bytes f.keywords
 
-filters_sum : (bs : List Filtering) → sums one_filter bs ≡ filtering_bytes bs
-filters_sum [] = refl
-filters_sum (b ∷ bs) = omega (arith, filters_sum bs)
+  filter_short : (a : Filtering) (x : Tokens) → IsFiltering a x → one_filter a ≤ tokens_bytes x
+  filter_short a x (a_filter {x = n} {y = y} h d) = omega (arith, spells_short (filter_spelled {n = n} h d), tokens-append y [])
 
-parameter_short : (a : Parameter) (x : Tokens) → IsParameter a x → length a.name + default_bytes a.default ≤ tokens_bytes x
-parameter_short a x (plain h) = omega arith
-parameter_short a x (with_default {l = l} {t} h i) = omega (arith, spells_short (literal_spelled t l i))
+  filters_sum : (bs : List Filtering) → sums one_filter bs ≡ filtering_bytes bs
+  filters_sum [] = refl
+  filters_sum (b ∷ bs) = omega (arith, filters_sum bs)
 
-parameters_sum : (bs : List Parameter) → sums (λ (a : Parameter). length a.name + default_bytes a.default) bs ≡ parameters_bytes bs
-parameters_sum [] = refl
-parameters_sum (b ∷ bs) = omega (arith, parameters_sum bs)
+  parameter_short : (a : Parameter) (x : Tokens) → IsParameter a x → length a.name + default_bytes a.default ≤ tokens_bytes x
+  parameter_short a x (plain h) = omega arith
+  parameter_short a x (with_default {l = l} {t} h i) = omega (arith, spells_short (literal_spelled t l i))
 
-parameters_short : {ps : List Parameter} {x : Tokens} → Parameters ps x → parameters_bytes ps ≤ tokens_bytes x
-parameters_short no_parameters = omega arith
-parameters_short (some_parameters {ps} {x} d h) =
-    omega (arith, sep_short (λ (a : Parameter). length a.name + default_bytes a.default) parameter_short d, parameters_sum ps, tokens-append x (cut.sign s.RightParen ∷ []))
+  parameters_sum : (bs : List Parameter) → sums (λ (a : Parameter). length a.name + default_bytes a.default) bs ≡ parameters_bytes bs
+  parameters_sum [] = refl
+  parameters_sum (b ∷ bs) = omega (arith, parameters_sum bs)
 
-values_short : {ps : Pairs} {x : Tokens} → Values ps x → pairs_bytes ps ≤ tokens_bytes x
-values_short no_values = omega arith
-values_short (some_values {vs} d) = omega (arith, sep_short (λ (a : Text × Expr). length a.0 + expr_bytes a.1) value_short d, values_sum vs)
+  parameters_short : {ps : List Parameter} {x : Tokens} → Parameters ps x → parameters_bytes ps ≤ tokens_bytes x
+  parameters_short no_parameters = omega arith
+  parameters_short (some_parameters {ps} {x} d h) =
+      omega (arith, sep_short (λ (a : Parameter). length a.name + default_bytes a.default) parameter_short d, parameters_sum ps, tokens-append x (cut.sign s.RightParen ∷ []))
 
-condition_short : {c : Option Expr} {z : Tokens} → Condition c z → condition_bytes c ≤ tokens_bytes z
-condition_short no_condition = omega arith
-condition_short (a_condition d) = omega (arith, spells_short d)
+  values_short : {ps : Pairs} {x : Tokens} → Values ps x → pairs_bytes ps ≤ tokens_bytes x
+  values_short no_values = omega arith
+  values_short (some_values {vs} d) = omega (arith, sep_short (λ (a : Text × Expr). length a.0 + expr_bytes a.1) value_short d, values_sum vs)
 
--- ---- heads
+  condition_short : {c : Option Expr} {z : Tokens} → Condition c z → condition_bytes c ≤ tokens_bytes z
+  condition_short no_condition = omega arith
+  condition_short (a_condition d) = omega (arith, spells_short d)
 
-abbrev opening_bytes : Opening → ℕ
-opening_bytes (set_text x) = length x
-opening_bytes (values ps) = pairs_bytes ps
-opening_bytes (filters fs) = filtering_bytes fs
-opening_bytes (escaping on) = 0
-opening_bytes (a_macro x ps) = length x + parameters_bytes ps
-opening_bytes (a_block x scoped required) = length x
+  -- ---- heads
 
-abbrev head_bytes : Head → ℕ
-head_bytes (a_statement t) = stmt_bytes t
-head_bytes (an_if c) = expr_bytes c
-head_bytes (a_loop l) = texts_bytes l.targets + expr_bytes l.over + condition_bytes l.condition
-head_bytes (an_opening o) = opening_bytes o
+  abbrev opening_bytes : Opening → ℕ
+  opening_bytes (set_text x) = length x
+  opening_bytes (values ps) = pairs_bytes ps
+  opening_bytes (filters fs) = filtering_bytes fs
+  opening_bytes (escaping on) = 0
+  opening_bytes (a_macro x ps) = length x + parameters_bytes ps
+  opening_bytes (a_block x scoped required) = length x
 
-says_short : {line : ℕ} {h : Head} {x : Tokens} → Says line h x → head_bytes h ≤ tokens_bytes x
-says_short (says_if d) = omega (arith, spells_short d)
-says_short (says_for {ts} {x = x} {y} {z} g d f) =
-    omega (arith, sep_short text_length name_short g, names_sum ts, spells_short d, condition_short f, tokens-append x (word (codes "in") ∷ (y ++ z)), tokens-append y z)
-says_short (says_set {ts} {x = x} {y} g d) = omega (arith, sep_short text_length name_short g, names_sum ts, spells_short d, tokens-append x (cut.sign s.Assign ∷ y))
-says_short (says_text h) = omega arith
-says_short (says_with d) = omega (arith, values_short d)
-says_short (says_filter {fs} d) = omega (arith, sep_short one_filter filter_short d, filters_sum fs)
-says_short (says_autoescape on) = omega arith
-says_short (says_macro h d) = omega (arith, parameters_short d)
-says_short (says_include missing d) = omega arith
-says_short says_extends = omega arith
-says_short (says_block scoped required h) = omega arith
+  abbrev head_bytes : Head → ℕ
+  head_bytes (a_statement t) = stmt_bytes t
+  head_bytes (an_if c) = expr_bytes c
+  head_bytes (a_loop l) = texts_bytes l.targets + expr_bytes l.over + condition_bytes l.condition
+  head_bytes (an_opening o) = opening_bytes o
 
-made_bytes : (line : ℕ) (o : Opening) (b : Body) → stmt_bytes (made line o b) ≡ opening_bytes o + body_bytes b
-made_bytes line (set_text x) b = refl
-made_bytes line (values ps) b = refl
-made_bytes line (filters fs) b = refl
-made_bytes line (escaping on) b = omega arith
-made_bytes line (a_macro x ps) b = omega arith
-made_bytes line (a_block x scoped required) b = refl
+  says_short : {line : ℕ} {h : Head} {x : Tokens} → Says line h x → head_bytes h ≤ tokens_bytes x
+  says_short (says_if d) = omega (arith, spells_short d)
+  says_short (says_for {ts} {x = x} {y} {z} g d f) =
+      omega (arith, sep_short text_length name_short g, names_sum ts, spells_short d, condition_short f, tokens-append x (word (codes "in") ∷ (y ++ z)), tokens-append y z)
+  says_short (says_set {ts} {x = x} {y} g d) = omega (arith, sep_short text_length name_short g, names_sum ts, spells_short d, tokens-append x (cut.sign s.Assign ∷ y))
+  says_short (says_text h) = omega arith
+  says_short (says_with d) = omega (arith, values_short d)
+  says_short (says_filter {fs} d) = omega (arith, sep_short one_filter filter_short d, filters_sum fs)
+  says_short (says_autoescape on) = omega arith
+  says_short (says_macro h d) = omega (arith, parameters_short d)
+  says_short (says_include missing d) = omega arith
+  says_short says_extends = omega arith
+  says_short (says_block scoped required h) = omega arith
 
--- ---- pieces
+  made_bytes : (line : ℕ) (o : Opening) (b : Body) → stmt_bytes (made line o b) ≡ opening_bytes o + body_bytes b
+  made_bytes line (set_text x) b = refl
+  made_bytes line (values ps) b = refl
+  made_bytes line (filters fs) b = refl
+  made_bytes line (escaping on) b = omega arith
+  made_bytes line (a_macro x ps) b = omega arith
+  made_bytes line (a_block x scoped required) b = refl
 
-abbrev piece_bytes : Piece → ℕ
-piece_bytes (kept.text d) = length (encode_utf8_all d)
-piece_bytes (kept.tag k n ts) = tokens_bytes ts
+  -- ---- pieces
 
-abbrev pieces_bytes : List Piece → ℕ
-pieces_bytes [] = 0
-pieces_bytes (p ∷ ps) = piece_bytes p + pieces_bytes ps
+  abbrev piece_bytes : Piece → ℕ
+  piece_bytes (kept.text d) = length (encode_utf8_all d)
+  piece_bytes (kept.tag k n ts) = tokens_bytes ts
 
-pieces-append : (x y : List Piece) → pieces_bytes (x ++ y) ≡ pieces_bytes x + pieces_bytes y
-pieces-append [] y = omega arith
-pieces-append (p ∷ x) y = omega (arith, pieces-append x y)
+  abbrev pieces_bytes : List Piece → ℕ
+  pieces_bytes [] = 0
+  pieces_bytes (p ∷ ps) = piece_bytes p + pieces_bytes ps
 
-mutual
-  forms_short : {b : Body} {ps : List Piece} → Forms b ps → body_bytes b ≤ pieces_bytes ps
-  forms_short nothing_more = omega arith
-  forms_short (some_data f) = omega (arith, forms_short f)
-  forms_short (a_print d f) = omega (arith, spells_short d, forms_short f)
-  forms_short (one_tag d f) = omega (arith, says_short d, forms_short f)
-  forms_short (an_if_statement {xs = xs} {ys} {ps} last d i g f) =
-      let tag : Piece = block last (word (codes "endif") ∷ []) in
-      omega (arith, says_short d, forms_short i, goes_short g, forms_short f, pieces-append xs (ys ++ (tag ∷ ps)), pieces-append ys (tag ∷ ps))
-  forms_short (a_for_statement {xs = xs} {ys} {ps} last d i g f) =
-      let tag : Piece = block last (word (codes "endfor") ∷ []) in
-      omega (arith, says_short d, forms_short i, other_short g, forms_short f, pieces-append xs (ys ++ (tag ∷ ps)), pieces-append ys (tag ∷ ps))
-  forms_short (enclosed {inside = inside} {line} {o} {us = us} {xs} {ps} last d i g f) =
-      omega (arith, says_short d, forms_short i, forms_short f, made_bytes line o inside, pieces-append xs (block last us ∷ ps))
+  pieces-append : (x y : List Piece) → pieces_bytes (x ++ y) ≡ pieces_bytes x + pieces_bytes y
+  pieces-append [] y = omega arith
+  pieces-append (p ∷ x) y = omega (arith, pieces-append x y)
 
-  goes_short : {bs : Branches} {other : Body} {ys : List Piece} → GoesOn bs other ys → branch_bytes bs + body_bytes other ≤ pieces_bytes ys
-  goes_short (no_elif d) = omega (arith, other_short d)
-  goes_short (an_elif {xs = xs} {ys} d i g) = omega (arith, spells_short d, forms_short i, goes_short g, pieces-append xs ys)
+  mutual
+    forms_short : {b : Body} {ps : List Piece} → Forms b ps → body_bytes b ≤ pieces_bytes ps
+    forms_short nothing_more = omega arith
+    forms_short (some_data f) = omega (arith, forms_short f)
+    forms_short (a_print d f) = omega (arith, spells_short d, forms_short f)
+    forms_short (one_tag d f) = omega (arith, says_short d, forms_short f)
+    forms_short (an_if_statement {xs = xs} {ys} {ps} last d i g f) =
+        let tag : Piece = block last (word (codes "endif") ∷ []) in
+        omega (arith, says_short d, forms_short i, goes_short g, forms_short f, pieces-append xs (ys ++ (tag ∷ ps)), pieces-append ys (tag ∷ ps))
+    forms_short (a_for_statement {xs = xs} {ys} {ps} last d i g f) =
+        let tag : Piece = block last (word (codes "endfor") ∷ []) in
+        omega (arith, says_short d, forms_short i, other_short g, forms_short f, pieces-append xs (ys ++ (tag ∷ ps)), pieces-append ys (tag ∷ ps))
+    forms_short (enclosed {inside = inside} {line} {o} {us = us} {xs} {ps} last d i g f) =
+        omega (arith, says_short d, forms_short i, forms_short f, made_bytes line o inside, pieces-append xs (block last us ∷ ps))
 
-  other_short : {other : Body} {ys : List Piece} → Otherwise other ys → body_bytes other ≤ pieces_bytes ys
-  other_short no_else = omega arith
-  other_short (an_else f) = omega (arith, forms_short f)
+    goes_short : {bs : Branches} {other : Body} {ys : List Piece} → GoesOn bs other ys → branch_bytes bs + body_bytes other ≤ pieces_bytes ys
+    goes_short (no_elif d) = omega (arith, other_short d)
+    goes_short (an_elif {xs = xs} {ys} d i g) = omega (arith, spells_short d, forms_short i, goes_short g, pieces-append xs ys)
 
--- ---- what is left of a text is no longer
+    other_short : {other : Body} {ys : List Piece} → Otherwise other ys → body_bytes other ≤ pieces_bytes ys
+    other_short no_else = omega arith
+    other_short (an_else f) = omega (arith, forms_short f)
 
-joined_bytes : (x y z : List ℕ) → z ≡ x ++ y → length (encodes z) ≡ length (encodes x) + length (encodes y)
-joined_bytes x y z w = ap length (ap encodes w ∙ encodes-append x y) ∙ length-append (encodes x) (encodes y)
+  -- ---- what is left of a text is no longer
 
-end_short : (x y : List ℕ) → EndsWith x y → length (encodes y) ≤ length (encodes x)
-end_short x y w = omega (arith, joined_bytes w.0 y x w.1)
+  joined_bytes : (x y z : List ℕ) → z ≡ x ++ y → length (encodes z) ≡ length (encodes x) + length (encodes y)
+  joined_bytes x y z w = ap length (ap encodes w ∙ encodes-append x y) ∙ length-append (encodes x) (encodes y)
 
-front_short : (n : ℕ) (x : List ℕ) → length (encodes (take n x)) ≤ length (encodes x)
-front_short n x = omega (arith, joined_bytes (take n x) (drop n x) x (sym (take-append-drop n x)))
+  end_short : (x y : List ℕ) → EndsWith x y → length (encodes y) ≤ length (encodes x)
+  end_short x y w = omega (arith, joined_bytes w.0 y x w.1)
 
-left_end : (o : Options) (left : Side) (d : List ℕ) → EndsWith d (after_left o left d)
-left_end o kept.nothing d = whole_end d
-left_end o kept.words d = whole_end d
-left_end o (block_side m.Minus) d = space_end d
-left_end o (variable_side m.Minus) d = space_end d
-left_end o (block_side m.Plus) d = whole_end d
-left_end o (variable_side m.Plus) d = whole_end d
-left_end o (variable_side m.Absent) d = whole_end d
-left_end o (block_side m.Absent) d = by o.trim_blocks
-  where
-    by : (b : Bool) → EndsWith d (if b then after_lf d else d)
-    by true = lf_end d
-    by false = whole_end d
+  front_short : (n : ℕ) (x : List ℕ) → length (encodes (take n x)) ≤ length (encodes x)
+  front_short n x = omega (arith, joined_bytes (take n x) (drop n x) x (sym (take-append-drop n x)))
 
-kept_short : (o : Options) (left right : Side) (d : List ℕ) → length (encodes (kept.kept o left right d)) ≤ length (encodes d)
-kept_short o left right d =
-    omega (arith, end_short d (after_left o left d) (left_end o left d), front_short (length (after_left o left d) - length (kept.removed_right o (kept.is_start left) right d)) (after_left o left d))
+  left_end : (o : Options) (left : Side) (d : List ℕ) → EndsWith d (after_left o left d)
+  left_end o kept.nothing d = whole_end d
+  left_end o kept.words d = whole_end d
+  left_end o (block_side m.Minus) d = space_end d
+  left_end o (variable_side m.Minus) d = space_end d
+  left_end o (block_side m.Plus) d = whole_end d
+  left_end o (variable_side m.Plus) d = whole_end d
+  left_end o (variable_side m.Absent) d = whole_end d
+  left_end o (block_side m.Absent) d = by o.trim_blocks
+    where
+      by : (b : Bool) → EndsWith d (if b then after_lf d else d)
+      by true = lf_end d
+      by false = whole_end d
 
-text_short : (t : List ℕ) (ps : List Piece) → pieces_bytes (with_text t ps) ≤ length (encodes t) + pieces_bytes ps
-text_short [] ps = omega arith
-text_short (c ∷ t) ps = let same : encode_utf8_all (c ∷ t) ≡ encodes (c ∷ t) = refl in omega (arith, ap length same)
+  kept_short : (o : Options) (left right : Side) (d : List ℕ) → length (encodes (kept.kept o left right d)) ≤ length (encodes d)
+  kept_short o left right d =
+      omega (arith, end_short d (after_left o left d) (left_end o left d), front_short (length (after_left o left d) - length (kept.removed_right o (kept.is_start left) right d)) (after_left o left d))
 
-segment_short : (o : Options) (left right : Side) (g : Segment) (ps : List Piece) → pieces_bytes (with_segment o left right g ps) ≤ segment_bytes g + pieces_bytes ps
-segment_short o left right (cut.data_of d) ps = let same : encode_utf8_all d ≡ encodes d = refl in omega (arith, text_short (kept.kept o left right d) ps, kept_short o left right d, ap length same)
-segment_short o left right (cut.tag k ms n ts) ps = omega arith
-segment_short o left right (cut.comment ms x) ps = omega arith
-segment_short o left right (cut.raw ms d ends) ps =
-    let same : encode_utf8_all d ≡ encodes d = refl in
-    omega (arith, text_short (kept.kept o (block_side ms.closing) (block_side ends.opening) d) ps, kept_short o (block_side ms.closing) (block_side ends.opening) d, ap length same)
+  text_short : (t : List ℕ) (ps : List Piece) → pieces_bytes (with_text t ps) ≤ length (encodes t) + pieces_bytes ps
+  text_short [] ps = omega arith
+  text_short (c ∷ t) ps = let same : encode_utf8_all (c ∷ t) ≡ encodes (c ∷ t) = refl in omega (arith, ap length same)
 
-pieces_short : (left : Side) (gs : List Part) → pieces_bytes (pieces_from left (reads_of gs)) ≤ bytes_of (cut_of gs)
-pieces_short left [] = omega arith
-pieces_short left (g ∷ gs) =
-    omega (arith, segment_short g.options left (side_ahead (reads_of gs)) (segment_view g) (pieces_from (side_behind (segment_view g)) (reads_of gs)), pieces_short (side_behind (segment_view g)) gs)
+  segment_short : (o : Options) (left right : Side) (g : Segment) (ps : List Piece) → pieces_bytes (with_segment o left right g ps) ≤ segment_bytes g + pieces_bytes ps
+  segment_short o left right (cut.data_of d) ps = let same : encode_utf8_all d ≡ encodes d = refl in omega (arith, text_short (kept.kept o left right d) ps, kept_short o left right d, ap length same)
+  segment_short o left right (cut.tag k ms n ts) ps = omega arith
+  segment_short o left right (cut.comment ms x) ps = omega arith
+  segment_short o left right (cut.raw ms d ends) ps =
+      let same : encode_utf8_all d ≡ encodes d = refl in
+      omega (arith, text_short (kept.kept o (block_side ms.closing) (block_side ends.opening) d) ps, kept_short o (block_side ms.closing) (block_side ends.opening) d, ap length same)
 
-pub no_longer : {b : Body} (gs : List Part) → Forms b (kept.pieces (reads_of gs)) → body_bytes b ≤ bytes_of (cut_of gs)
-no_longer gs f = omega (arith, forms_short f, pieces_short kept.nothing gs)
+  pieces_short : (left : Side) (gs : List Part) → pieces_bytes (pieces_from left (reads_of gs)) ≤ bytes_of (cut_of gs)
+  pieces_short left [] = omega arith
+  pieces_short left (g ∷ gs) =
+      omega (arith, segment_short g.options left (side_ahead (reads_of gs)) (segment_view g) (pieces_from (side_behind (segment_view g)) (reads_of gs)), pieces_short (side_behind (segment_view g)) gs)
+
+  pub no_longer : {b : Body} (gs : List Part) → Forms b (kept.pieces (reads_of gs)) → body_bytes b ≤ bytes_of (cut_of gs)
+  no_longer gs f = omega (arith, forms_short f, pieces_short kept.nothing gs)

@@ -1,5 +1,5 @@
 -- What is read is spelled so.
-use Rattle.std.proofs.Common.{◌≡◌, ℕ, suc, ◌-◌, ◌&&◌, nat_lt, Bool, true, false, List, [], ◌∷◌, ◌++◌, length, codes, refl, sym, ap, subst, ◌∙◌, append_assoc, Result, Ok, Err, encode_utf8_all, bytes_eq}
+use Rattle.std.proofs.Common.{◌≡◌, ℕ, ◌&&◌, Bool, true, false, List, [], ◌∷◌, ◌++◌, codes, refl, sym, ap, subst, ◌∙◌, append_assoc, Result, Ok, Err, encode_utf8_all, bytes_eq}
 use Rattle.std.proofs.lemmas.Slice.Eq.{bytes_eq-Decides}
 use Rattle.jt_scan.specs.declared.segment.Kind.TheVariants as kind
 use Rattle.jt_scan.specs.Cut as cut
@@ -7,20 +7,15 @@ use Rattle.jt_scan.specs.Cut.{Token}
 use Rattle.jt_expr.specs.Trees.{Expr}
 use Rattle.jt_expr.specs.Grammar as expressions
 use Rattle.jt_expr.specs.Grammar.{word, Spells}
-use Rattle.jt_expr.specs.Reading as reader
-use Rattle.jt_expr.specs.Reading.{Fault, syntax, deep}
 use Rattle.jt_expr.proofs.Branches.{by_test}
 use Rattle.jt_parse.specs.Trees.{Text, Stmt, data_of, print, choose, Body, end, stmt, Branches, no_branches, branch}
 use Rattle.jt_parse.specs.Kept as kept
 use Rattle.jt_parse.specs.Kept.{Piece}
 use Rattle.jt_parse.specs.Tags.{Loop, Opening, a_text, values, filters, escaping, a_macro, a_block, Head, a_statement, an_if, a_loop, an_opening, made, looped, Says, Ends, by_word, by_name, end_word}
-use Rattle.jt_parse.specs.TagReading.{head_at, all_of}
 use Rattle.jt_parse.specs.Grammar.{block, Forms, nothing_more, some_data, a_print, one_tag, an_if_statement, a_for_statement, enclosed, GoesOn, no_elif, an_elif, Otherwise, no_else, an_else}
 use Rattle.jt_parse.specs.Reading as reading
-use Rattle.jt_parse.specs.Reading.{then_all, then_one, then_branches, then_branch, Frame, in_branch, in_else, in_loop, in_loop_else, in_opening, State, state, ◌>>=◌, allowed, headed, step, run, whole, start, parsed, print_tag, head_tag, elif_tag, else_tag, names_end, none_left, ends_frame, finished, end_tag, is_end_word, block_tag}
+use Rattle.jt_parse.specs.Reading.{then_all, then_one, then_branches, then_branch, Frame, in_branch, in_else, in_loop, in_loop_else, in_opening, Fault, syntax, deep, State, state, headed, After, PrintTag, HeadTag, ElifTag, Role, is_elif, is_else, is_end, is_head, role, BlockTag, Steps, Runs, ended, refused, went_on, start, else_tag, names_end, none_left, ends_frame, finished, end_tag, is_end_word}
 use Rattle.jt_parse.proofs.Bodies.{all_end, all_all, branches_all}
-use Rattle.jt_parse.proofs.Expressions.{expression_sound, no_error}
-use Rattle.jt_parse.proofs.TagsSound.{says_sound_all}
 
 abbrev endif : ℕ → Piece
 endif last = block last (word (codes "endif") ∷ [])
@@ -134,23 +129,16 @@ loop_else_in {a} {before} {w} {l} {k} {line} {fs} {ps} (inside_loop_else inner o
 ok_is : {A : Type 0} {a b : A} → ◌≡◌ {A = Result A Fault} (Ok a) (Ok b) → a ≡ b
 ok_is e = cc
 
-next_ok : {A : Type 0} (o : Result A Fault) (next : A → State) (st : State) → (o >>= λ x. Ok (next x)) ≡ Ok st → (x : A) × (o ≡ Ok x) × (next x ≡ st)
-next_ok (Ok x) next st e = (x, refl, ok_is e)
-next_ok (Err f) next st e = no_error f st e
-
-allowed_ok : {A : Type 0} (n d : ℕ) (f : ℕ → Result A Fault) (a : A) → allowed n d f ≡ Ok a → f (n - suc d) ≡ Ok a
-allowed_ok n d f a e = by_test (nat_lt d n) _ _ _ e (λ h q. q) (λ h q. no_error deep a q)
+no_error : {A B : Type 0} (f : Fault) (a : A) → ◌≡◌ {A = Result A Fault} (Ok a) (Err f) → B
+no_error f a e = absurd (cc)
 
 -- the rest of a reading
 abbrev Rest : List Piece → Body → State → Type 0
 Rest ps w st = Closes st.body st.frames ps w
 
-print_sound : (n line : ℕ) (ts : List Token) (st next : State) (ps : List Piece) (w : Body) → print_tag n line ts st ≡ Ok next → Rest ps w next → Rest (kept.tag kind.Variable line ts ∷ ps) w st
-unfolding print_tag
-print_sound n line ts st next ps w e r =
-    let q = next_ok (allowed n (length st.frames) (λ m. reader.parsed m ts)) (λ x. state (then_one st.body (print line x)) st.frames) next e in
-    let d = expression_sound (n - suc (length st.frames)) ts q.0 (allowed_ok n (length st.frames) (λ m. reader.parsed m ts) q.0 q.1) in
-    grows (stmt (print line q.0) end) (kept.tag kind.Variable line ts ∷ []) (λ b tail f. a_print d f) (subst (Rest ps w) (sym q.2) r)
+print_sound : (n line : ℕ) (ts : List Token) (st next : State) (ps : List Piece) (w : Body) → PrintTag n line ts st (Ok next) → Rest ps w next → Rest (kept.tag kind.Variable line ts ∷ ps) w st
+print_sound n line ts st next ps w q r =
+    grows (stmt (print line q.0) end) (kept.tag kind.Variable line ts ∷ []) (λ b tail f. a_print q.1 f) (subst (Rest ps w) q.4 r)
 
 headed_sound : (line : ℕ) (x : List Token) (h : Head) (st : State) (ps : List Piece) (w : Body) → Says line h x → Rest ps w (headed line h st) → Rest (block line x ∷ ps) w st
 headed_sound line x (a_statement s) st ps w d r = grows (stmt s end) (block line x ∷ []) (λ b tail f. one_tag d f) r
@@ -158,33 +146,26 @@ headed_sound line x (an_if c) st ps w d r = opened_if d r
 headed_sound line x (a_loop l) st ps w d r = opened_loop d r
 headed_sound line x (an_opening o) st ps w d r = opened_other d r
 
-head_tag_sound : (n line : ℕ) (x : Text) (ts : List Token) (st next : State) (ps : List Piece) (w : Body) → head_tag n line x ts st ≡ Ok next → Rest ps w next → Rest (block line (word x ∷ ts) ∷ ps) w st
-unfolding head_tag
-head_tag_sound n line x ts st next ps w e r =
-    let q = next_ok (allowed n (length st.frames) (λ m. all_of (head_at m line x ts))) (λ h. headed line h st) next e in
-    let d = says_sound_all (n - suc (length st.frames)) line x ts q.0 (allowed_ok n (length st.frames) (λ m. all_of (head_at m line x ts)) q.0 q.1) in
-    headed_sound line (word x ∷ ts) q.0 st ps w d (subst (Rest ps w) (sym q.2) r)
+head_tag_sound : (n line : ℕ) (x : Text) (ts : List Token) (st next : State) (ps : List Piece) (w : Body) → HeadTag n line x ts st (Ok next) → Rest ps w next → Rest (block line (word x ∷ ts) ∷ ps) w st
+head_tag_sound n line x ts st next ps w q r = headed_sound line (word x ∷ ts) q.0 st ps w q.1 (subst (Rest ps w) q.4 r)
 
-elif_sound : (n line : ℕ) (ts : List Token) (a : Body) (fs : List Frame) (next : State) (ps : List Piece) (w : Body) → elif_tag n line ts a fs ≡ Ok next → Rest ps w next → Closes a fs (block line (word (codes "elif") ∷ ts) ∷ ps) w
-unfolding elif_tag
+elif_sound : (n line : ℕ) (ts : List Token) (a : Body) (fs : List Frame) (next : State) (ps : List Piece) (w : Body) → ElifTag n line ts a fs (Ok next) → Rest ps w next → Closes a fs (block line (word (codes "elif") ∷ ts) ∷ ps) w
 elif_sound n line ts a [] next ps w e r = no_error syntax next e
 elif_sound n line ts a (in_else before done ∷ fs) next ps w e r = no_error syntax next e
 elif_sound n line ts a (in_loop before k l ∷ fs) next ps w e r = no_error syntax next e
 elif_sound n line ts a (in_loop_else before k l i ∷ fs) next ps w e r = no_error syntax next e
 elif_sound n line ts a (in_opening before k o ∷ fs) next ps w e r = no_error syntax next e
-elif_sound n line ts a (in_branch before done l c ∷ fs) next ps w e r =
-    let q = next_ok (allowed n (length fs) (λ m. reader.parsed m ts)) (λ x. state end (in_branch before (then_branch done l c a) line x ∷ fs)) next e in
-    elif_in (expression_sound (n - suc (length fs)) ts q.0 (allowed_ok n (length fs) (λ m. reader.parsed m ts) q.0 q.1)) (subst (Rest ps w) (sym q.2) r)
+elif_sound n line ts a (in_branch before done l c ∷ fs) next ps w q r = elif_in q.1 (subst (Rest ps w) q.4 r)
 
-else_sound : (line : ℕ) (ts : List Token) (a : Body) (fs : List Frame) (next : State) (ps : List Piece) (w : Body) → else_tag ts a fs ≡ Ok next → Rest ps w next → Closes a fs (block line (word (codes "else") ∷ ts) ∷ ps) w
+else_sound : (line : ℕ) (ts : List Token) (a : Body) (fs : List Frame) (next : State) (ps : List Piece) (w : Body) → Ok next ≡ else_tag ts a fs → Rest ps w next → Closes a fs (block line (word (codes "else") ∷ ts) ∷ ps) w
 unfolding else_tag
 else_sound line (t ∷ ts) a fs next ps w e r = no_error syntax next e
 else_sound line [] a [] next ps w e r = no_error syntax next e
 else_sound line [] a (in_else before done ∷ fs) next ps w e r = no_error syntax next e
 else_sound line [] a (in_loop_else before k l i ∷ fs) next ps w e r = no_error syntax next e
 else_sound line [] a (in_opening before k o ∷ fs) next ps w e r = no_error syntax next e
-else_sound line [] a (in_branch before done l c ∷ fs) next ps w e r = else_in (subst (Rest ps w) (sym (ok_is e)) r)
-else_sound line [] a (in_loop before k l ∷ fs) next ps w e r = loop_else_in (subst (Rest ps w) (sym (ok_is e)) r)
+else_sound line [] a (in_branch before done l c ∷ fs) next ps w e r = else_in (subst (Rest ps w) (ok_is e) r)
+else_sound line [] a (in_loop before k l ∷ fs) next ps w e r = loop_else_in (subst (Rest ps w) (ok_is e) r)
 
 both : (a b : Bool) → (a && b) ≡ true → (a ≡ true) × (b ≡ true)
 both true b h = (refl, h)
@@ -224,59 +205,51 @@ frame_sound line x ts a (in_opening before k o) fs ps w h r =
     let b = both (bytes_eq x (end_word o)) (names_end o ts) h in
     inside_opening end a line (word x ∷ ts) [] ps nothing_more (all_end a) (opening_ends o x ts b.0 b.1) refl r
 
-end_sound : (line : ℕ) (x : Text) (ts : List Token) (a : Body) (fs : List Frame) (next : State) (ps : List Piece) (w : Body) → end_tag x ts a fs ≡ Ok next → Rest ps w next → Closes a fs (block line (word x ∷ ts) ∷ ps) w
+end_sound : (line : ℕ) (x : Text) (ts : List Token) (a : Body) (fs : List Frame) (next : State) (ps : List Piece) (w : Body) → Ok next ≡ end_tag x ts a fs → Rest ps w next → Closes a fs (block line (word x ∷ ts) ∷ ps) w
 unfolding end_tag
 end_sound line x ts a [] next ps w e r = no_error syntax next e
 end_sound line x ts a (f ∷ fs) next ps w e r =
-    by_test (ends_frame x ts f) _ _ _ e
+    by_test (ends_frame x ts f) _ _ _ (sym e)
     (λ h q. frame_sound line x ts a f fs ps w h (subst (Rest ps w) (sym (ok_is q)) r))
-    (λ h q. no_error syntax next q)
+    (λ h q. no_error syntax next (sym q))
 
 -- a word that is w
 with_word : (x w : Text) (line : ℕ) (ts : List Token) (ps : List Piece) (v : Body) (st : State) → bytes_eq x w ≡ true → Rest (block line (word w ∷ ts) ∷ ps) v st → Rest (block line (word x ∷ ts) ∷ ps) v st
 with_word x w line ts ps v st h r = subst (λ y. Rest (block line (word y ∷ ts) ∷ ps) v st) (sym ((bytes_eq-Decides x w).0 h)) r
 
-block_sound : (n line : ℕ) (x : Text) (ts : List Token) (st next : State) (ps : List Piece) (w : Body) → block_tag n line x ts st ≡ Ok next → Rest ps w next → Rest (block line (word x ∷ ts) ∷ ps) w st
-unfolding block_tag
-block_sound n line x ts st next ps w e r =
-    by_test (bytes_eq x (codes "elif")) _ _ _ e (λ h q. with_word x (codes "elif") line ts ps w st h (elif_sound n line ts st.body st.frames next ps w q r)) (λ h1 e1.
-    by_test (bytes_eq x (codes "else")) _ _ _ e1 (λ h q. with_word x (codes "else") line ts ps w st h (else_sound line ts st.body st.frames next ps w q r)) (λ h2 e2.
-    by_test (is_end_word x) _ _ _ e2 (λ h q. end_sound line x ts st.body st.frames next ps w q r) (λ h3 e3.
-    head_tag_sound n line x ts st next ps w e3 r)))
+elif_word : (x : Text) → role x ≡ is_elif → bytes_eq x (codes "elif") ≡ true
+unfolding role
+elif_word x e = by_test (bytes_eq x (codes "elif")) _ _ _ e (λ h q. h) (λ h1 e1. by_test (bytes_eq x (codes "else")) _ _ _ e1 (λ h q. cc) (λ h2 e2. by_test (is_end_word x) _ _ _ e2 (λ h q. cc) (λ h3 e3. cc)))
 
-step_sound : (n : ℕ) (p : Piece) (st next : State) (ps : List Piece) (w : Body) → step n st p ≡ Ok next → Rest ps w next → Rest (p ∷ ps) w st
+else_word : (x : Text) → role x ≡ is_else → bytes_eq x (codes "else") ≡ true
+unfolding role
+else_word x e = by_test (bytes_eq x (codes "elif")) _ _ _ e (λ h q. cc) (λ h1 e1. by_test (bytes_eq x (codes "else")) _ _ _ e1 (λ h q. h) (λ h2 e2. by_test (is_end_word x) _ _ _ e2 (λ h q. cc) (λ h3 e3. cc)))
+
+block_sound : (n line : ℕ) (x : Text) (ts : List Token) (st next : State) (ps : List Piece) (w : Body) (k : Role) → role x ≡ k → BlockTag k n line x ts st (Ok next) → Rest ps w next → Rest (block line (word x ∷ ts) ∷ ps) w st
+block_sound n line x ts st next ps w is_elif h q r = with_word x (codes "elif") line ts ps w st (elif_word x h) (elif_sound n line ts st.body st.frames next ps w q r)
+block_sound n line x ts st next ps w is_else h q r = with_word x (codes "else") line ts ps w st (else_word x h) (else_sound line ts st.body st.frames next ps w q r)
+block_sound n line x ts st next ps w is_end h q r = end_sound line x ts st.body st.frames next ps w q r
+block_sound n line x ts st next ps w is_head h q r = head_tag_sound n line x ts st next ps w q r
+
+step_sound : (n : ℕ) (p : Piece) (st next : State) (ps : List Piece) (w : Body) → Steps n st p (Ok next) → Rest ps w next → Rest (p ∷ ps) w st
 step_sound n (kept.text d) st next ps w e r =
-    grows (stmt (data_of (encode_utf8_all d)) end) (kept.text d ∷ []) (λ b tail f. some_data f) (subst (Rest ps w) (sym (ok_is e)) r)
+    grows (stmt (data_of (encode_utf8_all d)) end) (kept.text d ∷ []) (λ b tail f. some_data f) (subst (Rest ps w) (ok_is e) r)
 step_sound n (kept.tag kind.Variable line ts) st next ps w e r = print_sound n line ts st next ps w e r
 step_sound n (kept.tag kind.Block line []) st next ps w e r = no_error syntax next e
-step_sound n (kept.tag kind.Block line (cut.name x ∷ ts)) st next ps w e r = block_sound n line x ts st next ps w e r
+step_sound n (kept.tag kind.Block line (cut.name x ∷ ts)) st next ps w e r = block_sound n line x ts st next ps w (role x) refl e r
 step_sound n (kept.tag kind.Block line (cut.number m ∷ ts)) st next ps w e r = no_error syntax next e
 step_sound n (kept.tag kind.Block line (cut.text x ∷ ts)) st next ps w e r = no_error syntax next e
 step_sound n (kept.tag kind.Block line (cut.sign s ∷ ts)) st next ps w e r = no_error syntax next e
 
 -- ---- all pieces
 
-abbrev ending : State → Result Body Fault
-ending st = whole st.body st.frames
-
-first_ok : {A B C : Type 0} (o : Result A Fault) (f : A → Result B Fault) (g : B → Result C Fault) (w : C) → ((o >>= f) >>= g) ≡ Ok w → (x : A) × (o ≡ Ok x) × ((f x >>= g) ≡ Ok w)
-first_ok (Ok x) f g w e = (x, refl, e)
-first_ok (Err x) f g w e = no_error x w e
-
-ends_whole : (a : Body) (fs : List Frame) (w : Body) → whole a fs ≡ Ok w → Closes a fs [] w
-ends_whole a [] w e = outside end nothing_more (all_end a ∙ ok_is e)
-ends_whole a (f ∷ fs) w e = no_error syntax w e
-
-run_sound : (n : ℕ) (ps : List Piece) (st : State) (w : Body) → (run n st ps >>= ending) ≡ Ok w → Rest ps w st
-unfolding run
-run_sound n [] st w e = ends_whole st.body st.frames w e
-run_sound n (p ∷ ps) st w e =
-    let q = first_ok (step n st p) (λ next. run n next ps) ending w e in
-    step_sound n p st q.0 ps w q.1 (run_sound n ps q.0 w q.2)
+run_sound : {n : ℕ} {st : State} {ps : List Piece} {o : Result State Fault} → Runs n st ps o → (b : Body) → o ≡ Ok (state b []) → Rest ps b st
+run_sound {n} {st} ended b e = subst (Rest [] b) (sym (ok_is e)) (outside end nothing_more (all_end b))
+run_sound {n} {st} (went_on {next} {p} {ps} s r) b e = step_sound n p st next ps b s (run_sound r b e)
+run_sound (refused {f} s) b e = no_error f (state b []) (sym e)
 
 spelled : (ps : List Piece) (w : Body) → Closes end [] ps w → Forms w ps
 spelled ps w (outside b f e) = subst (λ b. Forms b ps) e f
 
-pub read_is_spelled : (n : ℕ) (ps : List Piece) (b : Body) → parsed n ps ≡ Ok b → Forms b ps
-unfolding parsed
-read_is_spelled n ps b e = spelled ps b (run_sound n ps start b e)
+pub read_is_spelled : (n : ℕ) (ps : List Piece) (b : Body) → Runs n start ps (Ok (state b [])) → Forms b ps
+read_is_spelled n ps b r = spelled ps b (run_sound r b refl)

@@ -1,33 +1,38 @@
 -- Pieces, segment by segment.
-use Rattle.std.proofs.Common.{◌≡◌, ℕ, ◌<◌, length, arith, encode_utf8_all, IsUtf8, List, [], ◌∷◌, ◌++◌, refl, sym, ap, ◌∙◌, Result, Ok, Err}
+use Rattle.std.proofs.Common.{◌≡◌, ℕ, ◌<◌, length, arith, encode_utf8_all, IsUtf8, List, [], ◌∷◌, ◌++◌, refl, sym, ap, subst, ◌∙◌, Result, Ok, Err}
 use Rattle.jt_scan.specs.declared.options.Options.{Options}
 use Rattle.jt_scan.specs.Cut as cut
-use Rattle.jt_scan.specs.Cut.{Text, Segment}
-use Rattle.jt_expr.specs.Reading.{Fault}
+use Rattle.jt_scan.specs.Cut.{Text, Token, Segment}
 use Rattle.std.specs.Str.{chars}
 use Rattle.std.proofs.lemmas.Str.{chars-nil}
 use Rattle.jt_scan.proofs.Turns.{not_empty}
 use Rattle.jt_parse.specs.Trees.{data_of}
-use Rattle.jt_parse.specs.Kept.{Side, nothing, side_ahead, side_behind, Piece, Read, with_text, with_segment, kept, block_side, pieces_from}
-use Rattle.jt_parse.specs.Reading.{State, ◌>>=◌, grown, step, run, whole, parsed, start}
-use Rattle.jt_parse.specs.Gives.{Refuses}
+use Rattle.jt_parse.specs.Kept.{tag, Side, nothing, side_ahead, side_behind, Piece, Read, with_text, with_segment, kept, block_side, pieces_from}
+use Rattle.jt_parse.specs.Reading.{Fault, syntax, deep, State, grown, Steps, Runs, ended, refused, went_on, start, Parsed, stopped}
+use Rattle.jt_scan.specs.declared.segment.Kind.{Kind}
+use Rattle.jt_scan.specs.declared.segment.Marks.{Marks}
+use Rattle.jt_parse.specs.declared.parser.Parser.{Parser}
+use Rattle.jt_parse.specs.Gives.{Refuses, GivesState}
 use Rattle.jt_parse.specs.declared.error.ParseError.{ParseError}
 use Rattle.jt_parse.specs.declared.error.ParseError.TheVariants as e
 
-bind_bind : {A B C : Type 0} (o : Result A Fault) (f : A → Result B Fault) (g : B → Result C Fault) → ((o >>= f) >>= g) ≡ (o >>= λ a. f a >>= g)
-bind_bind (Ok a) f g = refl
-bind_bind (Err x) f g = refl
+-- one run behind another
+pub runs_on : {n : ℕ} {st next : State} {x y : List Piece} {o p : Result State Fault} → Runs n st x p → p ≡ Ok next → Runs n next y o → Runs n st (x ++ y) o
+runs_on {n} {st} {next} {x} {y} {o} ended e r = let same : st ≡ next = ok_is e in subst (λ z. Runs n z y o) (sym same) r
+  where
+    ok_is : {a b : State} → ◌≡◌ {A = Result State Fault} (Ok a) (Ok b) → a ≡ b
+    ok_is e = cc
+runs_on (went_on s r) e q = went_on s (runs_on r e q)
+runs_on (refused {f} s) e q = absurd (cc)
 
-bind_same : {A B : Type 0} (o : Result A Fault) (f g : A → Result B Fault) → ((a : A) → f a ≡ g a) → (o >>= f) ≡ (o >>= g)
-bind_same (Ok a) f g h = h a
-bind_same (Err x) f g h = refl
-
-run_split : (n : ℕ) (x y : List Piece) (st : State) → run n st (x ++ y) ≡ (run n st x >>= λ next. run n next y)
-unfolding run
-run_split n [] y st = refl
-run_split n (p ∷ x) y st =
-    bind_same (step n st p) (λ next. run n next (x ++ y)) (λ next. run n next x >>= λ after. run n after y) (λ next. run_split n x y next)
-    ∙ sym (bind_bind (step n st p) (λ next. run n next x) (λ after. run n after y))
+-- a refusal in front is one of the whole
+pub refused_in : {n : ℕ} {st : State} {x : List Piece} {p : Result State Fault} (f : Fault) (y : List Piece) → Runs n st x p → p ≡ Err f → Runs n st (x ++ y) (Err f)
+refused_in f y ended e = absurd (cc)
+refused_in f y (went_on s r) e = went_on s (refused_in f y r e)
+refused_in {n} {st} f y (refused {p} {f = g} s) e = let same : g ≡ f = errors e in refused (subst (λ z. Steps n st p (Err z)) same s)
+  where
+    errors : {a b : Fault} → ◌≡◌ {A = Result State Fault} (Err a) (Err b) → a ≡ b
+    errors e = cc
 
 text_split : (t : Text) (ps : List Piece) → with_text t ps ≡ with_text t [] ++ ps
 text_split [] ps = refl
@@ -39,59 +44,61 @@ with_split o left right (cut.tag k ms n ts) ps = refl
 with_split o left right (cut.comment ms x) ps = refl
 with_split o left right (cut.raw ms d ends) ps = text_split (kept o (block_side ms.closing) (block_side ends.opening) d) ps
 
-split_read : (n : ℕ) (st : State) (left : Side) (s : Read) (ss : List Read)
-    → run n st (pieces_from left (s ∷ ss)) ≡ (run n st (with_segment s.0 left (side_ahead ss) s.1 []) >>= λ next. run n next (pieces_from (side_behind s.1) ss))
-split_read n st left s ss =
-    ap (run n st) (with_split s.0 left (side_ahead ss) s.1 (pieces_from (side_behind s.1) ss))
-    ∙ run_split n (with_segment s.0 left (side_ahead ss) s.1 []) (pieces_from (side_behind s.1) ss) st
+-- the pieces of the first segment, and those behind
+first_pieces : (left right : Side) (s : Read) (ss : List Read) → right ≡ side_ahead ss → pieces_from left (s ∷ ss) ≡ with_segment s.0 left right s.1 [] ++ pieces_from (side_behind s.1) ss
+first_pieces left right s ss r =
+    with_split s.0 left (side_ahead ss) s.1 (pieces_from (side_behind s.1) ss) ∙ ap (λ z. with_segment s.0 left z s.1 [] ++ pieces_from (side_behind s.1) ss) (sym r)
 
 -- the next segment is read
-pub read_on : (n : ℕ) (st next : State) (left right behind : Side) (s : Read) (ss : List Read) (o : Result State Fault) → run n st (pieces_from left (s ∷ ss)) ≡ o → right ≡ side_ahead ss → behind ≡ side_behind s.1
-    → run n st (with_segment s.0 left right s.1 []) ≡ Ok next → run n next (pieces_from behind ss) ≡ o
-read_on n st next left right behind s ss o inv r b e =
-    ap (λ z. run n next (pieces_from z ss)) b
-    ∙ sym (split_read n st left s ss ∙ ap (λ z. run n st (with_segment s.0 left z s.1 []) >>= λ x. run n x (pieces_from (side_behind s.1) ss)) (sym r) ∙ ap (λ z. z >>= λ x. run n x (pieces_from (side_behind s.1) ss)) e)
-    ∙ inv
-
-refuse_on : {A B : Type 0} (o : Result A Fault) (f : A → Result B Fault) (p : Result B Fault) (x : ParseError) → p ≡ (o >>= f) → Refuses o x → Refuses p x
-refuse_on o f p (e.Syntax l) h q = h ∙ ap (λ z. z >>= f) q
-refuse_on o f p (e.TooDeep l) h q = h ∙ ap (λ z. z >>= f) q
-refuse_on o f p (e.UnknownFilter l) h q = q
-refuse_on o f p (e.UnknownTest l) h q = q
-refuse_on o f p e.NoMemory h q = tt
+pub read_on : (n : ℕ) (st next : State) (left right behind : Side) (s : Read) (ss all : List Read)
+    → ((o : Result State Fault) → Runs n st (pieces_from left (s ∷ ss)) o → Runs n start (pieces_from nothing all) o) → right ≡ side_ahead ss → behind ≡ side_behind s.1
+    → Runs n st (with_segment s.0 left right s.1 []) (Ok next) → (o : Result State Fault) → Runs n next (pieces_from behind ss) o → Runs n start (pieces_from nothing all) o
+read_on n st next left right behind s ss all inv r b q o p =
+    inv o (subst (λ z. Runs n st z o) (sym (first_pieces left right s ss r)) (runs_on q refl (subst (λ z. Runs n next (pieces_from z ss) o) b p)))
 
 -- a refusal of the next segment is one of the whole
-pub read_refused : (n : ℕ) (st : State) (left right : Side) (s : Read) (ss all : List Read) (x : ParseError) → run n st (pieces_from left (s ∷ ss)) ≡ run n start (pieces_from nothing all) → right ≡ side_ahead ss
-    → Refuses (run n st (with_segment s.0 left right s.1 [])) x → Refuses (parsed n (pieces_from nothing all)) x
-unfolding parsed
-read_refused n st left right s ss all x inv r q =
-    let f : State → Result State Fault = λ next. run n next (pieces_from (side_behind s.1) ss) in
-    let one : run n start (pieces_from nothing all) ≡ (run n st (with_segment s.0 left right s.1 []) >>= f) =
-    sym inv ∙ split_read n st left s ss ∙ ap (λ z. run n st (with_segment s.0 left z s.1 []) >>= f) (sym r) in
-    refuse_on (run n start (pieces_from nothing all)) (λ t. whole t.body t.frames) (run n start (pieces_from nothing all) >>= λ t. whole t.body t.frames) x refl
-    (refuse_on (run n st (with_segment s.0 left right s.1 [])) f (run n start (pieces_from nothing all)) x one q)
+pub read_refused : (n : ℕ) (st : State) (left right : Side) (s : Read) (ss all : List Read) (x : ParseError)
+    → ((o : Result State Fault) → Runs n st (pieces_from left (s ∷ ss)) o → Runs n start (pieces_from nothing all) o) → right ≡ side_ahead ss
+    → Refuses (Runs n st (with_segment s.0 left right s.1 [])) x → Refuses (Parsed n (pieces_from nothing all)) x
+read_refused n st left right s ss all x inv r q = by x q
+  where
+    stops : (f : Fault) → Runs n st (with_segment s.0 left right s.1 []) (Err f) → Parsed n (pieces_from nothing all) (Err f)
+    stops f p = stopped (inv (Err f) (subst (λ z. Runs n st z (Err f)) (sym (first_pieces left right s ss r)) (refused_in f (pieces_from (side_behind s.1) ss) p refl)))
+
+    by : (x : ParseError) → Refuses (Runs n st (with_segment s.0 left right s.1 [])) x → Refuses (Parsed n (pieces_from nothing all)) x
+    by (e.Syntax l) p = stops syntax p
+    by (e.TooDeep l) p = stops deep p
+    by (e.UnknownFilter l) p = p
+    by (e.UnknownTest l) p = p
+    by e.NoMemory p = tt
 
 -- ---- texts
 
-pub text_none : (n : ℕ) (st : State) (t : List ℕ) → length t ≡ 0 → run n st (with_text (chars t) []) ≡ Ok st
-unfolding run
-text_none n st [] h = ap (λ z. run n st (with_text z [])) chars-nil
-text_none n st (c ∷ t) h = absurd (omega arith)
+pub text_none : (n : ℕ) (st : State) (t : List ℕ) → length t ≡ 0 → Runs n st (with_text (chars t) []) (Ok st)
+text_none n st [] h = subst (λ z. Runs n st (with_text z []) (Ok st)) (sym chars-nil) ended
+text_none n st (c ∷ t) h = absurd (omega (arith, h))
 
-pub text_some : (n : ℕ) (st : State) (t : List ℕ) → IsUtf8 t → 0 < length t → run n st (with_text (chars t) []) ≡ Ok (grown st (data_of (encode_utf8_all (chars t))))
-unfolding run
-text_some n st t u h = by (chars t) (not_empty t u h)
+pub text_some : (n : ℕ) (st next : State) (t : List ℕ) → IsUtf8 t → 0 < length t → next ≡ grown st (data_of (encode_utf8_all (chars t))) → Runs n st (with_text (chars t) []) (Ok next)
+text_some n st next t u h e = by (chars t) (not_empty t u h) e
   where
-    by : (x : Text) → 0 < length x → run n st (with_text x []) ≡ Ok (grown st (data_of (encode_utf8_all x)))
-    by [] k = absurd (omega arith)
-    by (c ∷ x) k = refl
+    by : (x : Text) → 0 < length x → next ≡ grown st (data_of (encode_utf8_all x)) → Runs n st (with_text x []) (Ok next)
+    by [] k e = absurd (omega (arith, k))
+    by (c ∷ x) k e = went_on (ap (λ z. Ok z) e) ended
 
 -- ---- one piece
 
-pub run_one : (n : ℕ) (st : State) (p : Piece) → step n st p ≡ run n st (p ∷ [])
-unfolding run
-run_one n st p = by (step n st p)
-  where
-    by : (o : Result State Fault) → o ≡ (o >>= λ next. Ok next)
-    by (Ok x) = refl
-    by (Err x) = refl
+pub run_one : (n : ℕ) (st next : State) (p : Piece) → Steps n st p (Ok next) → Runs n st (p ∷ []) (Ok next)
+run_one n st next p s = went_on s ended
+
+pub one_refused : (n : ℕ) (st : State) (p : Piece) (x : ParseError) → Refuses (Steps n st p) x → Refuses (Runs n st (p ∷ [])) x
+one_refused n st p (e.Syntax l) s = refused s
+one_refused n st p (e.TooDeep l) s = refused s
+one_refused n st p (e.UnknownFilter l) s = s
+one_refused n st p (e.UnknownTest l) s = s
+one_refused n st p e.NoMemory s = tt
+
+-- a tag as a segment
+pub tag_runs : (n : ℕ) (st : State) (o : Options) (left right : Side) (k : Kind) (ms : Marks) (line : ℕ) (ts : List Token) (r : Result (Unit {0}) ParseError) (new : Parser) → GivesState (Steps n st (tag k line ts)) r new
+    → GivesState (Runs n st (with_segment o left right (cut.tag k ms line ts) [])) r new
+tag_runs n st o left right k ms line ts (Ok u) new g = went_on g ended
+tag_runs n st o left right k ms line ts (Err x) new g = one_refused n st (tag k line ts) x g

@@ -10,9 +10,8 @@ use Rattle.jt_expr.proofs.Complete.{Stops, nothing_stops, comma_stops, if_stops,
 use Rattle.jt_expr.proofs.Branches.{sees_self}
 use Rattle.jt_parse.specs.Trees as trees
 use Rattle.jt_parse.specs.Trees.{Text, Parameter, Filtering, stmt_levels, condition_levels, filtering_levels}
-use Rattle.jt_parse.specs.Tags.{Separated, only, also, IsName, a_name, IsValue, a_value, pairs_of, Values, no_values, some_values, IsFiltering, a_filter, IsParameter, plain, with_default, defaults_last, Parameters, no_parameters, some_parameters, Head, a_statement, an_if, a_loop, an_opening, values, filters, escaping, a_macro, a_block, a_text, Condition, no_condition, a_condition, flag, Context, unsaid, with_context, without_context, missing_words, Says, says_if, says_for, says_set, says_text, says_with, says_filter, says_autoescape, says_macro, says_include, says_extends, says_block, opening_levels, loop_levels}
+use Rattle.jt_parse.specs.Tags.{Separated, only, also, IsName, a_name, IsValue, a_value, pairs_of, Values, no_values, some_values, IsFiltering, a_filter, IsParameter, plain, with_default, defaults_last, Parameters, no_parameters, some_parameters, Head, a_statement, an_if, a_loop, an_opening, values, filters, escaping, a_macro, a_block, a_text, Condition, no_condition, a_condition, flag, Context, unsaid, with_context, without_context, missing_words, Says, says_if, says_for, says_set, says_text, says_with, says_filter, says_autoescape, says_macro, says_include, says_extends, says_block, head_levels}
 use Rattle.jt_parse.specs.TagReading.{separated, expect_word, target_at, value_at, filtering_at, literal_at, default_at, parameter_at, parameters_at, condition_at, text_at, missing_at, context_at, if_head, for_head, text_by, set_head, with_head, filter_head, autoescape_head, macro_head, include_head, extends_head, block_head, head_at, all_of}
-use Rattle.jt_parse.specs.Reading.{is_end_word}
 use Rattle.jt_parse.proofs.Bodies.{within, within_in, chained}
 use Rattle.jt_parse.proofs.Rows.{on_one}
 
@@ -186,19 +185,9 @@ missing_read false d = rw (no_ignore d) refl
 
 -- ---- heads
 
-abbrev pub head_level : Head → ℕ
-head_level (a_statement t) = stmt_levels t
-head_level (an_if c) = suc (levels c)
-head_level (a_loop l) = suc (loop_levels l)
-head_level (an_opening o) = suc (opening_levels o)
-
--- the word is no other tag's
-abbrev pub IsHeadWord : List ℕ → Type 0
-IsHeadWord w = (bytes_eq w (codes "elif") ≡ false) × (bytes_eq w (codes "else") ≡ false) × (is_end_word w ≡ false)
-
 -- the head's first word, the tokens behind it, and the levels in it
 abbrev pub IsReadAs : ℕ → Head → Tokens → Type 0
-IsReadAs line h x = (w : List ℕ) × (ts : Tokens) × (l : ℕ) × (x ≡ word w ∷ ts) × (head_level h ≡ suc l) × IsHeadWord w × ((m : ℕ) → all_of (head_at m line w ts) ≡ within l m (Ok h))
+IsReadAs line h x = (w : List ℕ) × (ts : Tokens) × (l : ℕ) × (x ≡ word w ∷ ts) × (head_levels h ≡ suc l) × ((m : ℕ) → all_of (head_at m line w ts) ≡ within l m (Ok h))
 
 if_read : {c : Expr} {x : Tokens} → Spells whole c x → (m : ℕ) → if_head m x ≡ cap (levels c) m (an_if c) []
 unfolding if_head
@@ -286,21 +275,21 @@ cap_within l m a o e = ap all_of e ∙ all_cap l m a
 
 pub says_is_read : {line : ℕ} {h : Head} {x : Tokens} → Says line h x → IsReadAs line h x
 unfolding head_at autoescape_head
-says_is_read (says_if {c} {x} d) = (codes "if", x, levels c, refl, refl, (refl, refl, refl), λ m. cap_within (levels c) m (an_if c) (if_head m x) (if_read d m))
+says_is_read (says_if {c} {x} d) = (codes "if", x, levels c, refl, refl, λ m. cap_within (levels c) m (an_if c) (if_head m x) (if_read d m))
 says_is_read (says_for {ts} {e} {c} {x} {y} {z} g d f) =
-    (codes "for", x ++ (word (codes "in") ∷ (y ++ z)), max (levels e) (condition_levels c), refl, refl, (refl, refl, refl), λ m. cap_within (max (levels e) (condition_levels c)) m (a_loop (record { targets = ts; over = e; condition = c })) (for_head m (x ++ (word (codes "in") ∷ (y ++ z)))) (for_read g d f m))
+    (codes "for", x ++ (word (codes "in") ∷ (y ++ z)), max (levels e) (condition_levels c), refl, refl, λ m. cap_within (max (levels e) (condition_levels c)) m (a_loop (record { targets = ts; over = e; condition = c })) (for_head m (x ++ (word (codes "in") ∷ (y ++ z)))) (for_read g d f m))
 says_is_read {line} (says_set {ts} {e} {x} {y} g d) =
-    (codes "set", x ++ (cut.sign s.Assign ∷ y), levels e, refl, refl, (refl, refl, refl), λ m. cap_within (levels e) m (a_statement (trees.set line ts e)) (set_head m line (x ++ (cut.sign s.Assign ∷ y))) (set_read line g d m))
-says_is_read {line} (says_text {x} h) = (codes "set", cut.name x ∷ [], 0, refl, refl, (refl, refl, refl), λ m. none_within m (an_opening (a_text (encode_utf8_all x))) (set_head m line (cut.name x ∷ [])) (text_read x line m h))
-says_is_read (says_with {ps} {x} d) = (codes "with", x, pairs_levels ps, refl, refl, (refl, refl, refl), λ m. cap_within (pairs_levels ps) m (an_opening (values ps)) (with_head m x) (with_read d m))
-says_is_read (says_filter {fs} {x} d) = (codes "filter", x, filtering_levels fs, refl, refl, (refl, refl, refl), λ m. cap_within (filtering_levels fs) m (an_opening (filters fs)) (filter_head m x) (filter_read d m))
-says_is_read (says_autoescape true) = (codes "autoescape", word (codes "true") ∷ [], 0, refl, refl, (refl, refl, refl), λ m. none_within m (an_opening (escaping true)) (Ok (an_opening (escaping true), [])) refl)
-says_is_read (says_autoescape false) = (codes "autoescape", word (codes "false") ∷ [], 0, refl, refl, (refl, refl, refl), λ m. none_within m (an_opening (escaping false)) (Ok (an_opening (escaping false), [])) refl)
+    (codes "set", x ++ (cut.sign s.Assign ∷ y), levels e, refl, refl, λ m. cap_within (levels e) m (a_statement (trees.set line ts e)) (set_head m line (x ++ (cut.sign s.Assign ∷ y))) (set_read line g d m))
+says_is_read {line} (says_text {x} h) = (codes "set", cut.name x ∷ [], 0, refl, refl, λ m. none_within m (an_opening (a_text (encode_utf8_all x))) (set_head m line (cut.name x ∷ [])) (text_read x line m h))
+says_is_read (says_with {ps} {x} d) = (codes "with", x, pairs_levels ps, refl, refl, λ m. cap_within (pairs_levels ps) m (an_opening (values ps)) (with_head m x) (with_read d m))
+says_is_read (says_filter {fs} {x} d) = (codes "filter", x, filtering_levels fs, refl, refl, λ m. cap_within (filtering_levels fs) m (an_opening (filters fs)) (filter_head m x) (filter_read d m))
+says_is_read (says_autoescape true) = (codes "autoescape", word (codes "true") ∷ [], 0, refl, refl, λ m. none_within m (an_opening (escaping true)) (Ok (an_opening (escaping true), [])) refl)
+says_is_read (says_autoescape false) = (codes "autoescape", word (codes "false") ∷ [], 0, refl, refl, λ m. none_within m (an_opening (escaping false)) (Ok (an_opening (escaping false), [])) refl)
 says_is_read (says_macro {x} {ps} {y} h d) =
-    (codes "macro", cut.name x ∷ cut.sign s.LeftParen ∷ y, 0, refl, refl, (refl, refl, refl), λ m. none_within m (an_opening (a_macro (encode_utf8_all x) ps)) (macro_head (cut.name x ∷ cut.sign s.LeftParen ∷ y)) (macro_read x h d))
+    (codes "macro", cut.name x ∷ cut.sign s.LeftParen ∷ y, 0, refl, refl, λ m. none_within m (an_opening (a_macro (encode_utf8_all x) ps)) (macro_head (cut.name x ∷ cut.sign s.LeftParen ∷ y)) (macro_read x h d))
 says_is_read {line} (says_include {v} {context} {y} missing d) =
-    (codes "include", cut.text v ∷ (missing_words missing ++ y), 0, refl, refl, (refl, refl, refl), λ m. none_within m (a_statement (trees.include line (encode_utf8_all v) missing context)) (include_head line (cut.text v ∷ (missing_words missing ++ y))) (include_read v line missing d))
+    (codes "include", cut.text v ∷ (missing_words missing ++ y), 0, refl, refl, λ m. none_within m (a_statement (trees.include line (encode_utf8_all v) missing context)) (include_head line (cut.text v ∷ (missing_words missing ++ y))) (include_read v line missing d))
 says_is_read {line} (says_extends {v}) =
-    (codes "extends", cut.text v ∷ [], 0, refl, refl, (refl, refl, refl), λ m. none_within m (a_statement (trees.extends line (encode_utf8_all v))) (extends_head line (cut.text v ∷ [])) (extends_read v line))
+    (codes "extends", cut.text v ∷ [], 0, refl, refl, λ m. none_within m (a_statement (trees.extends line (encode_utf8_all v))) (extends_head line (cut.text v ∷ [])) (extends_read v line))
 says_is_read (says_block {x} scoped required h) =
-    (codes "block", cut.name x ∷ (flag scoped (codes "scoped") ++ flag required (codes "required")), 0, refl, refl, (refl, refl, refl), λ m. none_within m (an_opening (a_block (encode_utf8_all x) scoped required)) (block_head (cut.name x ∷ (flag scoped (codes "scoped") ++ flag required (codes "required")))) (block_read x scoped required h))
+    (codes "block", cut.name x ∷ (flag scoped (codes "scoped") ++ flag required (codes "required")), 0, refl, refl, λ m. none_within m (an_opening (a_block (encode_utf8_all x) scoped required)) (block_head (cut.name x ∷ (flag scoped (codes "scoped") ++ flag required (codes "required")))) (block_read x scoped required h))

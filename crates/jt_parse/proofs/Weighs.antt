@@ -8,8 +8,8 @@ use Rattle.jt_scan.specs.Cut as cut
 use Rattle.jt_scan.specs.Cut.{Token, Segment, weight, weight_of, tokens_weight}
 use Rattle.jt_expr.specs.Trees as e
 use Rattle.jt_expr.specs.Trees.{Expr, Exprs, Pairs, Literal, exprs_weight, pairs_weight, perhaps_enclosed, literal_weight}
-use Rattle.jt_expr.specs.Grammar.{Tokens, word, is_reserved, postfix, postscript, Spells, unsigned, postfixes, postscripts, stay, filtered, a_number, a_text, a_constant, Arguments}
-use Rattle.jt_expr.proofs.Weighs.{spells_weighs}
+use Rattle.jt_expr.specs.Grammar.{Tokens, word, is_reserved, Level, postfix, postscript, Spells, unsigned, postfixes, postscripts, stay, filtered, a_number, a_text, a_constant, Arguments}
+use Rattle.jt_expr.specs.Promises.{ExpressionLaws}
 use Rattle.jt_parse.specs.Trees.{Text, Filtering, Parameter, Body, Branches, stmt_weight, body_weight, branch_weight, condition_weight, filtering_weight, default_weight, parameters_weight}
 use Rattle.jt_parse.specs.Kept as kept
 use Rattle.jt_parse.specs.Kept.{Piece, Read, Side, pieces_from, with_segment, with_text, side_ahead, side_behind, block_side}
@@ -52,137 +52,141 @@ names_sum : (bs : List Text) → sums (λ (a : Text). 1) bs ≡ 2 * length bs
 names_sum [] = refl
 names_sum (b ∷ bs) = omega (arith, names_sum bs)
 
-value_weighs : (a : Text × Expr) (x : Tokens) → IsValue a x → 2 + e.weight a.1 ≤ tokens_weight x
-value_weighs a x (a_value h d) = omega (arith, spells_weighs d)
+module _ (laws : ExpressionLaws) where
+  spells_weighs : {k : Level} {t : Expr} {x : Tokens} → Spells k t x → e.weight t ≤ tokens_weight x
+  spells_weighs {k} {t} {x} d = laws.weighs k t x d
 
-values_sum : (bs : List (Text × Expr)) → sums (λ (a : Text × Expr). 2 + e.weight a.1) bs ≡ pairs_weight 2 (pairs_of bs)
-values_sum [] = refl
-values_sum (b ∷ bs) = omega (arith, values_sum bs)
+  value_weighs : (a : Text × Expr) (x : Tokens) → IsValue a x → 2 + e.weight a.1 ≤ tokens_weight x
+  value_weighs a x (a_value h d) = omega (arith, spells_weighs d)
 
-abbrev one_filter : Filtering → ℕ
-one_filter f = 1 + perhaps_enclosed (exprs_weight f.arguments + pairs_weight 2 f.keywords)
+  values_sum : (bs : List (Text × Expr)) → sums (λ (a : Text × Expr). 2 + e.weight a.1) bs ≡ pairs_weight 2 (pairs_of bs)
+  values_sum [] = refl
+  values_sum (b ∷ bs) = omega (arith, values_sum bs)
 
-filter_weighs : (a : Filtering) (x : Tokens) → IsFiltering a x → one_filter a ≤ tokens_weight x
-filter_weighs a x (a_filter {x = n} {y = y} h d) = omega (arith, spells_weighs (filter_spelled {n = n} h d), tokens-append y [])
+  abbrev one_filter : Filtering → ℕ
+  one_filter f = 1 + perhaps_enclosed (exprs_weight f.arguments + pairs_weight 2 f.keywords)
 
-filters_sum : (bs : List Filtering) → sums one_filter bs ≡ filtering_weight bs
-filters_sum [] = refl
-filters_sum (b ∷ bs) = omega (arith, filters_sum bs)
+  filter_weighs : (a : Filtering) (x : Tokens) → IsFiltering a x → one_filter a ≤ tokens_weight x
+  filter_weighs a x (a_filter {x = n} {y = y} h d) = omega (arith, spells_weighs (filter_spelled {n = n} h d), tokens-append y [])
 
-parameter_weighs : (a : Parameter) (x : Tokens) → IsParameter a x → 1 + default_weight a.default ≤ tokens_weight x
-parameter_weighs a x (plain h) = omega arith
-parameter_weighs a x (with_default {l = l} {t} h i) = omega (arith, spells_weighs (literal_spelled t l i))
+  filters_sum : (bs : List Filtering) → sums one_filter bs ≡ filtering_weight bs
+  filters_sum [] = refl
+  filters_sum (b ∷ bs) = omega (arith, filters_sum bs)
 
-parameters_sum : (bs : List Parameter) → sums (λ (a : Parameter). 1 + default_weight a.default) bs ≡ parameters_weight bs
-parameters_sum [] = refl
-parameters_sum (b ∷ bs) = omega (arith, parameters_sum bs)
+  parameter_weighs : (a : Parameter) (x : Tokens) → IsParameter a x → 1 + default_weight a.default ≤ tokens_weight x
+  parameter_weighs a x (plain h) = omega arith
+  parameter_weighs a x (with_default {l = l} {t} h i) = omega (arith, spells_weighs (literal_spelled t l i))
 
-parameters_weigh : {ps : List Parameter} {x : Tokens} → Parameters ps x → parameters_weight ps ≤ tokens_weight x
-parameters_weigh no_parameters = omega arith
-parameters_weigh (some_parameters {ps} {x} d h) =
-    omega (arith, sep_weighs (λ (a : Parameter). 1 + default_weight a.default) parameter_weighs d, parameters_sum ps, tokens-append x (cut.sign s.RightParen ∷ []))
+  parameters_sum : (bs : List Parameter) → sums (λ (a : Parameter). 1 + default_weight a.default) bs ≡ parameters_weight bs
+  parameters_sum [] = refl
+  parameters_sum (b ∷ bs) = omega (arith, parameters_sum bs)
 
-values_weigh : {ps : Pairs} {x : Tokens} → Values ps x → pairs_weight 2 ps ≤ 1 + tokens_weight x
-values_weigh no_values = omega arith
-values_weigh (some_values {vs} d) = omega (arith, sep_weighs (λ (a : Text × Expr). 2 + e.weight a.1) value_weighs d, values_sum vs)
+  parameters_weigh : {ps : List Parameter} {x : Tokens} → Parameters ps x → parameters_weight ps ≤ tokens_weight x
+  parameters_weigh no_parameters = omega arith
+  parameters_weigh (some_parameters {ps} {x} d h) =
+      omega (arith, sep_weighs (λ (a : Parameter). 1 + default_weight a.default) parameter_weighs d, parameters_sum ps, tokens-append x (cut.sign s.RightParen ∷ []))
 
-condition_weighs : {c : Option Expr} {z : Tokens} → Condition c z → condition_weight c ≤ tokens_weight z
-condition_weighs no_condition = omega arith
-condition_weighs (a_condition d) = omega (arith, spells_weighs d)
+  values_weigh : {ps : Pairs} {x : Tokens} → Values ps x → pairs_weight 2 ps ≤ 1 + tokens_weight x
+  values_weigh no_values = omega arith
+  values_weigh (some_values {vs} d) = omega (arith, sep_weighs (λ (a : Text × Expr). 2 + e.weight a.1) value_weighs d, values_sum vs)
 
--- ---- heads
+  condition_weighs : {c : Option Expr} {z : Tokens} → Condition c z → condition_weight c ≤ tokens_weight z
+  condition_weighs no_condition = omega arith
+  condition_weighs (a_condition d) = omega (arith, spells_weighs d)
 
-abbrev opening_weight : Opening → ℕ
-opening_weight (set_text x) = 2
-opening_weight (values ps) = pairs_weight 2 ps
-opening_weight (filters fs) = filtering_weight fs
-opening_weight (escaping on) = 2
-opening_weight (a_macro x ps) = 3 + parameters_weight ps
-opening_weight (a_block x scoped required) = 2
+  -- ---- heads
 
-abbrev head_weight : Head → ℕ
-head_weight (a_statement t) = stmt_weight t - 4
-head_weight (an_if c) = 1 + e.weight c
-head_weight (a_loop l) = 1 + 2 * length l.targets + e.weight l.over + condition_weight l.condition
-head_weight (an_opening o) = opening_weight o
+  abbrev opening_weight : Opening → ℕ
+  opening_weight (set_text x) = 2
+  opening_weight (values ps) = pairs_weight 2 ps
+  opening_weight (filters fs) = filtering_weight fs
+  opening_weight (escaping on) = 2
+  opening_weight (a_macro x ps) = 3 + parameters_weight ps
+  opening_weight (a_block x scoped required) = 2
 
-says_weighs : {line : ℕ} {h : Head} {x : Tokens} → Says line h x → head_weight h ≤ tokens_weight x
-says_weighs (says_if d) = omega (arith, spells_weighs d)
-says_weighs (says_for {ts} {x = x} {y} {z} g d f) =
-    omega (arith, sep_weighs (λ (a : Text). 1) name_weighs g, names_sum ts, spells_weighs d, condition_weighs f, tokens-append x (word (codes "in") ∷ (y ++ z)), tokens-append y z)
-says_weighs (says_set {ts} {x = x} {y} g d) = omega (arith, sep_weighs (λ (a : Text). 1) name_weighs g, names_sum ts, spells_weighs d, tokens-append x (cut.sign s.Assign ∷ y))
-says_weighs (says_text h) = omega arith
-says_weighs (says_with d) = omega (arith, values_weigh d)
-says_weighs (says_filter {fs} d) = omega (arith, sep_weighs one_filter filter_weighs d, filters_sum fs)
-says_weighs (says_autoescape on) = omega arith
-says_weighs (says_macro h d) = omega (arith, parameters_weigh d)
-says_weighs (says_include missing d) = omega arith
-says_weighs says_extends = omega arith
-says_weighs (says_block scoped required h) = omega arith
+  abbrev head_weight : Head → ℕ
+  head_weight (a_statement t) = stmt_weight t - 4
+  head_weight (an_if c) = 1 + e.weight c
+  head_weight (a_loop l) = 1 + 2 * length l.targets + e.weight l.over + condition_weight l.condition
+  head_weight (an_opening o) = opening_weight o
 
-made_weight : (line : ℕ) (o : Opening) (b : Body) → stmt_weight (made line o b) ≡ 9 + opening_weight o + body_weight b
-made_weight line (set_text x) b = omega arith
-made_weight line (values ps) b = omega arith
-made_weight line (filters fs) b = omega arith
-made_weight line (escaping on) b = omega arith
-made_weight line (a_macro x ps) b = omega arith
-made_weight line (a_block x scoped required) b = omega arith
+  says_weighs : {line : ℕ} {h : Head} {x : Tokens} → Says line h x → head_weight h ≤ tokens_weight x
+  says_weighs (says_if d) = omega (arith, spells_weighs d)
+  says_weighs (says_for {ts} {x = x} {y} {z} g d f) =
+      omega (arith, sep_weighs (λ (a : Text). 1) name_weighs g, names_sum ts, spells_weighs d, condition_weighs f, tokens-append x (word (codes "in") ∷ (y ++ z)), tokens-append y z)
+  says_weighs (says_set {ts} {x = x} {y} g d) = omega (arith, sep_weighs (λ (a : Text). 1) name_weighs g, names_sum ts, spells_weighs d, tokens-append x (cut.sign s.Assign ∷ y))
+  says_weighs (says_text h) = omega arith
+  says_weighs (says_with d) = omega (arith, values_weigh d)
+  says_weighs (says_filter {fs} d) = omega (arith, sep_weighs one_filter filter_weighs d, filters_sum fs)
+  says_weighs (says_autoescape on) = omega arith
+  says_weighs (says_macro h d) = omega (arith, parameters_weigh d)
+  says_weighs (says_include missing d) = omega arith
+  says_weighs says_extends = omega arith
+  says_weighs (says_block scoped required h) = omega arith
 
-ends_weigh : {o : Opening} {us : Tokens} → Ends o us → 1 ≤ tokens_weight us
-ends_weigh (by_word o) = omega arith
-ends_weigh (by_name scoped required) = omega arith
+  made_weight : (line : ℕ) (o : Opening) (b : Body) → stmt_weight (made line o b) ≡ 9 + opening_weight o + body_weight b
+  made_weight line (set_text x) b = omega arith
+  made_weight line (values ps) b = omega arith
+  made_weight line (filters fs) b = omega arith
+  made_weight line (escaping on) b = omega arith
+  made_weight line (a_macro x ps) b = omega arith
+  made_weight line (a_block x scoped required) b = omega arith
 
--- ---- pieces
+  ends_weigh : {o : Opening} {us : Tokens} → Ends o us → 1 ≤ tokens_weight us
+  ends_weigh (by_word o) = omega arith
+  ends_weigh (by_name scoped required) = omega arith
 
-abbrev piece_weight : Piece → ℕ
-piece_weight (kept.text d) = 1
-piece_weight (kept.tag k n ts) = 4 + tokens_weight ts
+  -- ---- pieces
 
-abbrev pieces_weight : List Piece → ℕ
-pieces_weight [] = 0
-pieces_weight (p ∷ ps) = piece_weight p + pieces_weight ps
+  abbrev piece_weight : Piece → ℕ
+  piece_weight (kept.text d) = 1
+  piece_weight (kept.tag k n ts) = 4 + tokens_weight ts
 
-pieces-append : (x y : List Piece) → pieces_weight (x ++ y) ≡ pieces_weight x + pieces_weight y
-pieces-append [] y = omega arith
-pieces-append (p ∷ x) y = omega (arith, pieces-append x y)
+  abbrev pieces_weight : List Piece → ℕ
+  pieces_weight [] = 0
+  pieces_weight (p ∷ ps) = piece_weight p + pieces_weight ps
 
-mutual
-  forms_weigh : {b : Body} {ps : List Piece} → Forms b ps → body_weight b ≤ pieces_weight ps
-  forms_weigh nothing_more = omega arith
-  forms_weigh (some_data f) = omega (arith, forms_weigh f)
-  forms_weigh (a_print d f) = omega (arith, spells_weighs d, forms_weigh f)
-  forms_weigh (one_tag d f) = omega (arith, says_weighs d, forms_weigh f)
-  forms_weigh (an_if_statement {xs = xs} {ys} {ps} last d i g f) =
-      let tag : Piece = block last (word (codes "endif") ∷ []) in
-      omega (arith, says_weighs d, forms_weigh i, goes_weigh g, forms_weigh f, pieces-append xs (ys ++ (tag ∷ ps)), pieces-append ys (tag ∷ ps))
-  forms_weigh (a_for_statement {xs = xs} {ys} {ps} last d i g f) =
-      let tag : Piece = block last (word (codes "endfor") ∷ []) in
-      omega (arith, says_weighs d, forms_weigh i, other_weighs g, forms_weigh f, pieces-append xs (ys ++ (tag ∷ ps)), pieces-append ys (tag ∷ ps))
-  forms_weigh (enclosed {inside = inside} {line} {o} {us = us} {xs} {ps} last d i g f) =
-      omega (arith, says_weighs d, forms_weigh i, ends_weigh g, forms_weigh f, made_weight line o inside, pieces-append xs (block last us ∷ ps))
+  pieces-append : (x y : List Piece) → pieces_weight (x ++ y) ≡ pieces_weight x + pieces_weight y
+  pieces-append [] y = omega arith
+  pieces-append (p ∷ x) y = omega (arith, pieces-append x y)
 
-  goes_weigh : {bs : Branches} {other : Body} {ys : List Piece} → GoesOn bs other ys → branch_weight bs + body_weight other ≤ pieces_weight ys
-  goes_weigh (no_elif d) = omega (arith, other_weighs d)
-  goes_weigh (an_elif {xs = xs} {ys} d i g) = omega (arith, spells_weighs d, forms_weigh i, goes_weigh g, pieces-append xs ys)
+  mutual
+    forms_weigh : {b : Body} {ps : List Piece} → Forms b ps → body_weight b ≤ pieces_weight ps
+    forms_weigh nothing_more = omega arith
+    forms_weigh (some_data f) = omega (arith, forms_weigh f)
+    forms_weigh (a_print d f) = omega (arith, spells_weighs d, forms_weigh f)
+    forms_weigh (one_tag d f) = omega (arith, says_weighs d, forms_weigh f)
+    forms_weigh (an_if_statement {xs = xs} {ys} {ps} last d i g f) =
+        let tag : Piece = block last (word (codes "endif") ∷ []) in
+        omega (arith, says_weighs d, forms_weigh i, goes_weigh g, forms_weigh f, pieces-append xs (ys ++ (tag ∷ ps)), pieces-append ys (tag ∷ ps))
+    forms_weigh (a_for_statement {xs = xs} {ys} {ps} last d i g f) =
+        let tag : Piece = block last (word (codes "endfor") ∷ []) in
+        omega (arith, says_weighs d, forms_weigh i, other_weighs g, forms_weigh f, pieces-append xs (ys ++ (tag ∷ ps)), pieces-append ys (tag ∷ ps))
+    forms_weigh (enclosed {inside = inside} {line} {o} {us = us} {xs} {ps} last d i g f) =
+        omega (arith, says_weighs d, forms_weigh i, ends_weigh g, forms_weigh f, made_weight line o inside, pieces-append xs (block last us ∷ ps))
 
-  other_weighs : {other : Body} {ys : List Piece} → Otherwise other ys → body_weight other ≤ pieces_weight ys
-  other_weighs no_else = omega arith
-  other_weighs (an_else f) = omega (arith, forms_weigh f)
+    goes_weigh : {bs : Branches} {other : Body} {ys : List Piece} → GoesOn bs other ys → branch_weight bs + body_weight other ≤ pieces_weight ys
+    goes_weigh (no_elif d) = omega (arith, other_weighs d)
+    goes_weigh (an_elif {xs = xs} {ys} d i g) = omega (arith, spells_weighs d, forms_weigh i, goes_weigh g, pieces-append xs ys)
 
-text_weighs : (t : List ℕ) (ps : List Piece) → pieces_weight (with_text t ps) ≤ 1 + pieces_weight ps
-text_weighs [] ps = omega arith
-text_weighs (c ∷ t) ps = omega arith
+    other_weighs : {other : Body} {ys : List Piece} → Otherwise other ys → body_weight other ≤ pieces_weight ys
+    other_weighs no_else = omega arith
+    other_weighs (an_else f) = omega (arith, forms_weigh f)
 
-segment_weighs : (o : Options) (left right : Side) (g : Segment) (ps : List Piece) → pieces_weight (with_segment o left right g ps) ≤ weight g + pieces_weight ps
-segment_weighs o left right (cut.data_of d) ps = text_weighs (kept.kept o left right d) ps
-segment_weighs o left right (cut.tag k ms n ts) ps = omega arith
-segment_weighs o left right (cut.comment ms x) ps = omega arith
-segment_weighs o left right (cut.raw ms d ends) ps = text_weighs (kept.kept o (block_side ms.closing) (block_side ends.opening) d) ps
+  text_weighs : (t : List ℕ) (ps : List Piece) → pieces_weight (with_text t ps) ≤ 1 + pieces_weight ps
+  text_weighs [] ps = omega arith
+  text_weighs (c ∷ t) ps = omega arith
 
-pieces_weigh : (left : Side) (gs : List Part) → pieces_weight (pieces_from left (reads_of gs)) ≤ weight_of (cut_of gs)
-pieces_weigh left [] = omega arith
-pieces_weigh left (g ∷ gs) =
-    omega (arith, segment_weighs g.options left (side_ahead (reads_of gs)) (segment_view g) (pieces_from (side_behind (segment_view g)) (reads_of gs)), pieces_weigh (side_behind (segment_view g)) gs)
+  segment_weighs : (o : Options) (left right : Side) (g : Segment) (ps : List Piece) → pieces_weight (with_segment o left right g ps) ≤ weight g + pieces_weight ps
+  segment_weighs o left right (cut.data_of d) ps = text_weighs (kept.kept o left right d) ps
+  segment_weighs o left right (cut.tag k ms n ts) ps = omega arith
+  segment_weighs o left right (cut.comment ms x) ps = omega arith
+  segment_weighs o left right (cut.raw ms d ends) ps = text_weighs (kept.kept o (block_side ms.closing) (block_side ends.opening) d) ps
 
-pub weighs_less : {b : Body} (gs : List Part) → Forms b (kept.pieces (reads_of gs)) → body_weight b ≤ weight_of (cut_of gs)
-weighs_less gs f = omega (arith, forms_weigh f, pieces_weigh kept.nothing gs)
+  pieces_weigh : (left : Side) (gs : List Part) → pieces_weight (pieces_from left (reads_of gs)) ≤ weight_of (cut_of gs)
+  pieces_weigh left [] = omega arith
+  pieces_weigh left (g ∷ gs) =
+      omega (arith, segment_weighs g.options left (side_ahead (reads_of gs)) (segment_view g) (pieces_from (side_behind (segment_view g)) (reads_of gs)), pieces_weigh (side_behind (segment_view g)) gs)
+
+  pub weighs_less : {b : Body} (gs : List Part) → Forms b (kept.pieces (reads_of gs)) → body_weight b ≤ weight_of (cut_of gs)
+  weighs_less gs f = omega (arith, forms_weigh f, pieces_weigh kept.nothing gs)

@@ -1,9 +1,6 @@
 -- What the functions of the parser give.
-use Rattle.std.specs.Prelude.{◌≡◌, ℕ, List, map, reverse, Bool, true, false, Some, None, Result, Ok, Err}
-use Rattle.jt_expr.specs.Trees as trees
-use Rattle.jt_expr.specs.Reading.{Fault, syntax, deep}
+use Rattle.std.specs.Prelude.{◌≡◌, ℕ, ◌≤◌, ◌<◌, List, map, reverse, Bool, true, false, Some, None, Result, Ok, Err}
 use Rattle.jt_expr.specs.View.{expr_view}
-use Rattle.jt_expr.specs.declared.tree.Expr.{Expr}
 use Rattle.jt_expr.specs.declared.error.ExprError.{ExprError}
 use Rattle.jt_expr.specs.declared.error.ExprError.TheVariants as fault
 use Rattle.jt_expr.specs.declared.named.Named.{Named}
@@ -11,12 +8,10 @@ use Rattle.jt_expr.specs.declared.named.Named.TheVariants as named
 use Rattle.jt_parse.specs.Names.{Found, body_unknown}
 use Rattle.jt_parse.specs.Places.{is_placed}
 use Rattle.jt_parse.specs.Trees.{Body}
-use Rattle.jt_parse.specs.Tags as tags
 use Rattle.jt_parse.specs.Reading as reading
-use Rattle.jt_parse.specs.Reading.{State, state, Frame}
+use Rattle.jt_parse.specs.Reading.{Fault, syntax, deep, State, state, Frame}
 use Rattle.jt_parse.specs.View.{body_view, branches_view, body_of}
-use Rattle.jt_parse.specs.HeadView.{loop_view, opening_view, head_view}
-use Rattle.jt_parse.specs.declared.heads.Head.{Head}
+use Rattle.jt_parse.specs.HeadView.{loop_view, opening_view}
 use Rattle.jt_parse.specs.declared.error.ParseError.{ParseError}
 use Rattle.jt_parse.specs.declared.error.ParseError.TheVariants as e
 use Rattle.jt_parse.specs.declared.tree.Template.{Template}
@@ -25,21 +20,22 @@ use Rattle.jt_parse.specs.declared.frames.Kind.{Kind}
 use Rattle.jt_parse.specs.declared.frames.Kind.TheVariants as k
 use Rattle.jt_parse.specs.declared.parser.Parser.{Parser}
 
--- a refusal is the reader's, or want of memory
-abbrev pub Refuses : {A : Type 0} → Result A Fault → ParseError → Type 0
-Refuses o (e.Syntax line) = o ≡ Err syntax
-Refuses o (e.TooDeep line) = o ≡ Err deep
-Refuses o (e.UnknownFilter line) = ⊥
-Refuses o (e.UnknownTest line) = ⊥
-Refuses o e.NoMemory = Unit {0}
+-- The only thing of the form, within the levels. A refusal says that nothing is of the form, or all has more levels.
+abbrev pub GivesOnly : {A B : Type 0} → (A → B) → (B → Type 0) → (B → ℕ) → ℕ → Result A ParseError → Type 0
+GivesOnly {B = B} view Form height limit (Ok a) = Form (view a) × (height (view a) ≤ limit) × ((b : B) → Form b → b ≡ view a)
+GivesOnly {B = B} view Form height limit (Err (e.Syntax line)) = (b : B) → Form b → ⊥
+GivesOnly {B = B} view Form height limit (Err (e.TooDeep line)) = (b : B) → Form b → limit < height b
+GivesOnly view Form height limit (Err (e.UnknownFilter line)) = ⊥
+GivesOnly view Form height limit (Err (e.UnknownTest line)) = ⊥
+GivesOnly view Form height limit (Err e.NoMemory) = Unit {0}
 
-abbrev pub GivesExpr : Result trees.Expr Fault → Result Expr ParseError → Type 0
-GivesExpr o (Ok x) = o ≡ Ok (expr_view x)
-GivesExpr o (Err f) = Refuses o f
-
-abbrev pub GivesHead : Result tags.Head Fault → Result Head ParseError → Type 0
-GivesHead o (Ok x) = o ≡ Ok (head_view x)
-GivesHead o (Err f) = Refuses o f
+-- a refusal is one of the relation, or want of memory
+abbrev pub Refuses : {A : Type 0} → (Result A Fault → Type 0) → ParseError → Type 0
+Refuses O (e.Syntax line) = O (Err syntax)
+Refuses O (e.TooDeep line) = O (Err deep)
+Refuses O (e.UnknownFilter line) = ⊥
+Refuses O (e.UnknownTest line) = ⊥
+Refuses O e.NoMemory = Unit {0}
 
 -- what is open, behind the statements before it
 abbrev pub frame_by : Body → ℕ → Kind → Frame
@@ -59,13 +55,13 @@ frames_view fs = reverse (map frame_view fs)
 abbrev pub state_view : Parser → State
 state_view p = state (body_view p.body.items) (frames_view p.frames.items)
 
-abbrev pub GivesState : Result State Fault → Result (Unit {0}) ParseError → Parser → Type 0
-GivesState o (Ok u) new = o ≡ Ok (state_view new)
-GivesState o (Err f) new = Refuses o f
+abbrev pub GivesState : (Result State Fault → Type 0) → Result (Unit {0}) ParseError → Parser → Type 0
+GivesState O (Ok u) new = O (Ok (state_view new))
+GivesState O (Err f) new = Refuses O f
 
-abbrev pub GivesTemplate : Result Body Fault → Result Template ParseError → Type 0
-GivesTemplate o (Ok t) = o ≡ Ok (body_of t)
-GivesTemplate o (Err f) = Refuses o f
+abbrev pub GivesTemplate : (Result Body Fault → Type 0) → Result Template ParseError → Type 0
+GivesTemplate O (Ok t) = O (Ok (body_of t))
+GivesTemplate O (Err f) = Refuses O f
 
 -- a refusal of an expression, in a tag of the line
 abbrev pub refusal_at : ℕ → ExprError → ParseError
@@ -94,22 +90,22 @@ GivesPlaces placed (Err (e.UnknownTest line)) = ⊥
 GivesPlaces placed (Err e.NoMemory) = ⊥
 
 -- what is read, where its statements stand where they may
-abbrev pub IsMisplaced : Result Body Fault → Type 0
-IsMisplaced o = (b : Body) × (o ≡ Ok b) × (is_placed b ≡ false)
+abbrev pub IsMisplaced : (Result Body Fault → Type 0) → Type 0
+IsMisplaced O = (b : Body) × O (Ok b) × (is_placed b ≡ false)
 
 -- what is read is placed, and has its first name without a meaning in a tag of this line, and such a one is to blame there
-abbrev pub Finds : Result Body Fault → ℕ → Named → Type 0
-Finds o line x = (b : Body) × (o ≡ Ok b) × (is_placed b ≡ true) × (body_unknown b ≡ Some (line, x))
+abbrev pub Finds : (Result Body Fault → Type 0) → ℕ → Named → Type 0
+Finds O line x = (b : Body) × O (Ok b) × (is_placed b ≡ true) × (body_unknown b ≡ Some (line, x))
 
 -- no tree is read, or one whose statements stand where they may not
-pub data IsNone (o : Result Body Fault) : Type 0 where
-  not_read : o ≡ Err syntax → IsNone o
-  misplaced : IsMisplaced o → IsNone o
+pub data IsNone (O : Result Body Fault → Type 0) : Type 0 where
+  not_read : O (Err syntax) → IsNone O
+  misplaced : IsMisplaced O → IsNone O
 
-abbrev pub GivesKnown : Result Body Fault → Result Template ParseError → Type 0
-GivesKnown o (Ok t) = (o ≡ Ok (body_of t)) × (is_placed (body_of t) ≡ true) × (body_unknown (body_of t) ≡ None)
-GivesKnown o (Err (e.Syntax line)) = IsNone o
-GivesKnown o (Err (e.TooDeep line)) = o ≡ Err deep
-GivesKnown o (Err (e.UnknownFilter line)) = Finds o line named.Filter
-GivesKnown o (Err (e.UnknownTest line)) = Finds o line named.Test
-GivesKnown o (Err e.NoMemory) = Unit {0}
+abbrev pub GivesKnown : (Result Body Fault → Type 0) → Result Template ParseError → Type 0
+GivesKnown O (Ok t) = O (Ok (body_of t)) × (is_placed (body_of t) ≡ true) × (body_unknown (body_of t) ≡ None)
+GivesKnown O (Err (e.Syntax line)) = IsNone O
+GivesKnown O (Err (e.TooDeep line)) = O (Err deep)
+GivesKnown O (Err (e.UnknownFilter line)) = Finds O line named.Filter
+GivesKnown O (Err (e.UnknownTest line)) = Finds O line named.Test
+GivesKnown O (Err e.NoMemory) = Unit {0}

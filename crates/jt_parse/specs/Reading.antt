@@ -1,17 +1,23 @@
--- Reads the statements of a template from its pieces, one piece after the other.
-use Rattle.std.specs.Prelude.{ℕ, suc, ◌-◌, nat_lt, Bool, true, false, ◌&&◌, List, [], ◌∷◌, length, codes, encode_utf8_all, bytes_eq, if◌then◌else◌, Result, Ok, Err}
+-- Which state each piece leads to where statements are read one piece after the other. What tags spell is said by the relations of the
+-- grammar. Only clauses of private functions cite this.
+use Rattle.std.specs.Prelude.{◌≡◌, ℕ, suc, ◌+◌, ◌≤◌, ◌<◌, Bool, true, false, ◌&&◌, List, [], ◌∷◌, length, codes, encode_utf8_all, bytes_eq, if◌then◌else◌, Result, Ok, Err}
 use Rattle.std.specs.List.{list_any}
 use Rattle.jt_scan.specs.declared.segment.Kind.TheVariants as kind
 use Rattle.jt_scan.specs.Cut as cut
 use Rattle.jt_scan.specs.Cut.{Token}
-use Rattle.jt_expr.specs.Trees.{Expr}
-use Rattle.jt_expr.specs.Reading as expressions
-use Rattle.jt_expr.specs.Reading.{Fault, syntax, deep}
+use Rattle.jt_expr.specs.Trees.{Expr, levels}
+use Rattle.jt_expr.specs.Grammar as expressions
+use Rattle.jt_expr.specs.Grammar.{word, Spells}
 use Rattle.jt_parse.specs.Trees.{Text, Stmt, data_of, print, choose, Body, end, stmt, Branches, no_branches, branch}
 use Rattle.jt_parse.specs.Kept as kept
 use Rattle.jt_parse.specs.Kept.{Piece}
-use Rattle.jt_parse.specs.Tags.{Loop, Opening, a_block, Head, a_statement, an_if, a_loop, an_opening, made, looped, end_word}
-use Rattle.jt_parse.specs.TagReading.{head_at, all_of}
+use Rattle.jt_parse.specs.Tags.{Loop, Opening, a_block, Head, a_statement, an_if, a_loop, an_opening, made, looped, end_word, Says, head_levels}
+
+pub data Fault : Type 0 where
+  -- no tree is spelled so
+  syntax : Fault
+  -- each tree that is spelled so has more levels than are allowed
+  deep : Fault
 
 abbrev pub then_all : Body → Body → Body
 then_all end b = b
@@ -47,22 +53,19 @@ pub record State : Type 0 where
 abbrev pub state : Body → List Frame → State
 state body frames = record { body = body; frames = frames }
 
-infixl 10 ◌>>=◌
-abbrev pub ◌>>=◌ : {A B : Type 0} → Result A Fault → (A → Result B Fault) → Result B Fault
-(Ok a) >>= f = f a
-(Err e) >>= f = Err e
-
--- what is read in a statement with so many others around it, where n levels are allowed
-abbrev pub allowed : {A : Type 0} → ℕ → ℕ → (ℕ → Result A Fault) → Result A Fault
-allowed n outer f = if nat_lt outer n then f (n - suc outer) else Err deep
+-- Behind the only thing of the form, of at most n levels. It is refused where nothing is of the form, or all has more levels.
+abbrev pub After : {B : Type 0} → (B → Type 0) → (B → ℕ) → ℕ → (B → State) → Result State Fault → Type 0
+After {B = B} Form height n next (Ok st) = (b : B) × Form b × (height b ≤ n) × ((c : B) → Form c → c ≡ b) × (st ≡ next b)
+After {B = B} Form height n next (Err syntax) = (b : B) → Form b → ⊥
+After {B = B} Form height n next (Err deep) = (b : B) → Form b → n < height b
 
 -- one statement more
 abbrev pub grown : State → Stmt → State
 grown st s = state (then_one st.body s) st.frames
 
 -- {{ e }}
-unfoldable pub print_tag : ℕ → ℕ → List Token → State → Result State Fault
-print_tag n line ts st = allowed n (length st.frames) (λ m. expressions.parsed m ts) >>= λ e. Ok (grown st (print line e))
+abbrev pub PrintTag : ℕ → ℕ → List Token → State → Result State Fault → Type 0
+PrintTag n line ts st = After (λ e. Spells expressions.whole e ts) (λ e. suc (length st.frames) + levels e) n (λ e. grown st (print line e))
 
 -- behind the first tag of a statement
 abbrev pub headed : ℕ → Head → State → State
@@ -71,13 +74,14 @@ headed line (an_if c) st = state end (in_branch st.body no_branches line c ∷ s
 headed line (a_loop l) st = state end (in_loop st.body line l ∷ st.frames)
 headed line (an_opening o) st = state end (in_opening st.body line o ∷ st.frames)
 
-unfoldable pub head_tag : ℕ → ℕ → Text → List Token → State → Result State Fault
-head_tag n line x ts st = allowed n (length st.frames) (λ m. all_of (head_at m line x ts)) >>= λ h. Ok (headed line h st)
+abbrev pub HeadTag : ℕ → ℕ → Text → List Token → State → Result State Fault → Type 0
+HeadTag n line x ts st = After (λ h. Says line h (word x ∷ ts)) (λ h. length st.frames + head_levels h) n (λ h. headed line h st)
 
 -- {% elif c %}
-unfoldable pub elif_tag : ℕ → ℕ → List Token → Body → List Frame → Result State Fault
-elif_tag n line ts body (in_branch before done l c ∷ fs) = allowed n (length fs) (λ m. expressions.parsed m ts) >>= λ d. Ok (state end (in_branch before (then_branch done l c body) line d ∷ fs))
-elif_tag n line ts body fs = Err syntax
+abbrev pub ElifTag : ℕ → ℕ → List Token → Body → List Frame → Result State Fault → Type 0
+ElifTag n line ts body (in_branch before done l c ∷ fs) o =
+    After (λ e. Spells expressions.whole e ts) (λ e. suc (length fs) + levels e) n (λ e. state end (in_branch before (then_branch done l c body) line e ∷ fs)) o
+ElifTag n line ts body fs o = o ≡ Err syntax
 
 -- {% else %}
 abbrev pub else_by : Body → List Frame → Result State Fault
@@ -133,32 +137,45 @@ end_words =
 abbrev pub is_end_word : Text → Bool
 is_end_word x = list_any (bytes_eq x) end_words
 
-unfoldable pub block_tag : ℕ → ℕ → Text → List Token → State → Result State Fault
-block_tag n line x ts st =
-    if bytes_eq x (codes "elif") then elif_tag n line ts st.body st.frames
-    else if bytes_eq x (codes "else") then else_tag ts st.body st.frames
-    else if is_end_word x then end_tag x ts st.body st.frames
-    else head_tag n line x ts st
+-- what the first word of a block tag says of it
+pub data Role : Type 0 where
+  is_elif : Role
+  is_else : Role
+  is_end : Role
+  is_head : Role
+
+unfoldable pub role : Text → Role
+role x =
+    if bytes_eq x (codes "elif") then is_elif
+    else if bytes_eq x (codes "else") then is_else
+    else if is_end_word x then is_end
+    else is_head
+
+abbrev pub BlockTag : Role → ℕ → ℕ → Text → List Token → State → Result State Fault → Type 0
+BlockTag is_elif n line x ts st o = ElifTag n line ts st.body st.frames o
+BlockTag is_else n line x ts st o = o ≡ else_tag ts st.body st.frames
+BlockTag is_end n line x ts st o = o ≡ end_tag x ts st.body st.frames
+BlockTag is_head n line x ts st o = HeadTag n line x ts st o
 
 -- one piece
-abbrev pub step : ℕ → State → Piece → Result State Fault
-step n st (kept.text d) = Ok (grown st (data_of (encode_utf8_all d)))
-step n st (kept.tag kind.Variable line ts) = print_tag n line ts st
-step n st (kept.tag kind.Block line []) = Err syntax
-step n st (kept.tag kind.Block line (cut.name x ∷ ts)) = block_tag n line x ts st
-step n st (kept.tag kind.Block line (t ∷ ts)) = Err syntax
+abbrev pub Steps : ℕ → State → Piece → Result State Fault → Type 0
+Steps n st (kept.text d) o = o ≡ Ok (grown st (data_of (encode_utf8_all d)))
+Steps n st (kept.tag kind.Variable line ts) o = PrintTag n line ts st o
+Steps n st (kept.tag kind.Block line []) o = o ≡ Err syntax
+Steps n st (kept.tag kind.Block line (cut.name x ∷ ts)) o = BlockTag (role x) n line x ts st o
+Steps n st (kept.tag kind.Block line (t ∷ ts)) o = o ≡ Err syntax
 
-unfoldable pub run : ℕ → State → List Piece → Result State Fault
-run n st [] = Ok st
-run n st (p ∷ ps) = step n st p >>= λ next. run n next ps
-
-abbrev pub whole : Body → List Frame → Result Body Fault
-whole body [] = Ok body
-whole body (f ∷ fs) = Err syntax
+-- one piece after the other, up to the first that is refused
+pub data Runs (n : ℕ) : State → List Piece → Result State Fault → Type 0 where
+  ended : {st : State} → Runs n st [] (Ok st)
+  refused : {st : State} {p : Piece} {ps : List Piece} {f : Fault} → Steps n st p (Err f) → Runs n st (p ∷ ps) (Err f)
+  went_on : {st next : State} {p : Piece} {ps : List Piece} {o : Result State Fault} → Steps n st p (Ok next) → Runs n next ps o → Runs n st (p ∷ ps) o
 
 abbrev pub start : State
 start = state end []
 
--- the statements that all the pieces spell, of at most n levels
-unfoldable pub parsed : ℕ → List Piece → Result Body Fault
-parsed n ps = run n start ps >>= λ st. whole st.body st.frames
+-- the statements of all the pieces, of at most n levels
+pub data Parsed (n : ℕ) (ps : List Piece) : Result Body Fault → Type 0 where
+  whole : {b : Body} → Runs n start ps (Ok (state b [])) → Parsed n ps (Ok b)
+  stopped : {f : Fault} → Runs n start ps (Err f) → Parsed n ps (Err f)
+  left_open : {b : Body} {f : Frame} {fs : List Frame} → Runs n start ps (Ok (state b (f ∷ fs))) → Parsed n ps (Err syntax)

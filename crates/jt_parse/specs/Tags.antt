@@ -1,5 +1,5 @@
 -- What the tokens of a statement's tag say: one rule a form. What expressions spell is jt_expr's.
-use Rattle.std.specs.Prelude.{◌≡◌, ℕ, max, Bool, true, false, not, ◌&&◌, if◌then◌else◌, List, [], ◌∷◌, ◌++◌, codes, encode_utf8_all, Option, Some, None}
+use Rattle.std.specs.Prelude.{◌≡◌, ℕ, suc, max, Bool, true, false, not, ◌&&◌, if◌then◌else◌, List, [], ◌∷◌, ◌++◌, codes, encode_utf8_all, Option, Some, None}
 use Rattle.jt_scan.specs.declared.segment.Sign.{Sign}
 use Rattle.jt_scan.specs.declared.segment.Sign.TheVariants as s
 use Rattle.jt_scan.specs.Cut as cut
@@ -181,3 +181,10 @@ opening_levels o = 0
 
 abbrev pub loop_levels : Loop → ℕ
 loop_levels l = max (levels l.over) (condition_levels l.condition)
+
+-- of a statement with this first tag, at least
+abbrev pub head_levels : Head → ℕ
+head_levels (a_statement t) = stmt_levels t
+head_levels (an_if c) = suc (levels c)
+head_levels (a_loop l) = suc (loop_levels l)
+head_levels (an_opening o) = suc (opening_levels o)

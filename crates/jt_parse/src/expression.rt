@@ -1,12 +1,15 @@
 //! The expression of a tag, and words.
 
-ghost use Rattle.std.specs.Prelude.{◌≡◌, ◌≤◌, map, bytes_eq, encode_utf8_all, string_bytes, IfOk, IsTrue};
+ghost use Rattle.std.specs.Prelude.{◌≡◌, ◌≤◌, ◌∷◌, suc, map, bytes_eq, encode_utf8_all, string_bytes, IfOk, IsTrue};
 ghost use Rattle.std.specs.Str.{chars};
 ghost use Rattle.jt_scan.specs.View.{token_view};
-ghost use Rattle.jt_expr.specs.Reading.{parsed};
+ghost use Rattle.jt_expr.specs.Trees.{levels as tree_levels};
+ghost use Rattle.jt_expr.specs.Grammar.{word as word_token, whole, Spells};
+ghost use Rattle.jt_expr.specs.View.{expr_view};
 ghost use Rattle.jt_parse.specs.Words.{is_plain};
-ghost use Rattle.jt_parse.specs.TagReading as tags;
-ghost use Rattle.jt_parse.specs.Gives.{GivesExpr, GivesHead, refusal_at};
+ghost use Rattle.jt_parse.specs.Tags.{Says, head_levels};
+ghost use Rattle.jt_parse.specs.HeadView.{head_view};
+ghost use Rattle.jt_parse.specs.Gives.{GivesOnly, refusal_at};
 
 use crate::error::ParseError;
 use crate::heads::Head;
@@ -22,7 +25,7 @@ pub(crate) fn expression(
     levels: u8,
     line: u32,
 ) -> Result<Expr, ParseError>
-    ensures { GivesExpr (parsed levels (map token_view tokens.now)) result }
+    ensures { GivesOnly expr_view (λ e. Spells whole e (map token_view tokens.now)) tree_levels levels result }
 {
     match jt_expr::expression(alloc, tokens, levels) {
         Ok(expr) => Ok(expr),
@@ -38,7 +41,7 @@ pub(crate) fn head(
     levels: u8,
     line: u32,
 ) -> Result<Head, ParseError>
-    ensures { GivesHead (tags.all_of (tags.head_at levels line (chars word.now) (map token_view tokens.now))) result }
+    ensures { GivesOnly head_view (λ h. Says line h (word_token (chars word.now) ∷ map token_view tokens.now)) head_levels (suc levels) result }
 {
     match read_head(alloc, word, tokens, levels, line) {
         Ok(head) => Ok(head),

@@ -32,6 +32,7 @@ use crate::kept::{Side, kept, side_ahead, side_behind};
 use crate::names::check_body;
 use crate::places::check_places;
 use crate::tree::{Stmt, Template};
+use jt_expr::expression_laws;
 use jt_scan::{Kind as TagKind, Part, Segment, Token};
 use std::alloc::Global;
 use std::mem;
@@ -70,9 +71,8 @@ fn depth(frames: &Vec<Frame>) -> usize
 
 impl Parser {
     /// `{{ e }}`
-    #[tactic(auto, unfolding(crate::specs::Reading::print_tag))]
     fn print_tag(&mut self, line: u32, tokens: &[Token<'_>]) -> Result<(), ParseError>
-        ensures { GivesState (reading.print_tag max_levels line (map token_view tokens.now) (state_view self.old)) result self.new }
+        ensures { GivesState (reading.PrintTag max_levels line (map token_view tokens.now) (state_view self.old)) result self.new }
     {
         let levels = levels_left(depth(&self.frames), line)?;
         let printed = expression(self.alloc, tokens, levels, line)?;
@@ -106,9 +106,8 @@ impl Parser {
     }
 
     /// The first tag of a statement.
-    #[tactic(auto, unfolding(crate::specs::Reading::head_tag))]
     fn head_tag(&mut self, line: u32, word: &str, tokens: &[Token<'_>]) -> Result<(), ParseError>
-        ensures { GivesState (reading.head_tag max_levels line (chars word.now) (map token_view tokens.now) (state_view self.old)) result self.new }
+        ensures { GivesState (reading.HeadTag max_levels line (chars word.now) (map token_view tokens.now) (state_view self.old)) result self.new }
     {
         let levels = levels_left(depth(&self.frames), line)?;
         let head = head(self.alloc, word, tokens, levels, line)?;
@@ -117,9 +116,8 @@ impl Parser {
     }
 
     /// `{% elif c %}`
-    #[tactic(auto, unfolding(crate::specs::Reading::elif_tag))]
     fn elif_tag(&mut self, line: u32, tokens: &[Token<'_>]) -> Result<(), ParseError>
-        ensures { GivesState (reading.elif_tag max_levels line (map token_view tokens.now) (state_view self.old).body (state_view self.old).frames) result self.new }
+        ensures { GivesState (reading.ElifTag max_levels line (map token_view tokens.now) (state_view self.old).body (state_view self.old).frames) result self.new }
     {
         let Some(frame) = pop_frame(&mut self.frames) else {
             return Err(ParseError::Syntax { line });
@@ -147,7 +145,7 @@ impl Parser {
 
     /// What the else part of a frame is read in.
     fn else_by(&mut self, line: u32) -> Result<(), ParseError>
-        ensures { GivesState (reading.else_by (state_view self.old).body (state_view self.old).frames) result self.new }
+        ensures { GivesState (λ o. o ≡ reading.else_by (state_view self.old).body (state_view self.old).frames) result self.new }
     {
         let Some(frame) = pop_frame(&mut self.frames) else {
             return Err(ParseError::Syntax { line });
@@ -181,7 +179,7 @@ impl Parser {
     /// `{% else %}`
     #[tactic(auto, unfolding(crate::specs::Reading::else_tag))]
     fn else_tag(&mut self, line: u32, tokens: &[Token<'_>]) -> Result<(), ParseError>
-        ensures { GivesState (reading.else_tag (map token_view tokens.now) (state_view self.old).body (state_view self.old).frames) result self.new }
+        ensures { GivesState (λ o. o ≡ reading.else_tag (map token_view tokens.now) (state_view self.old).body (state_view self.old).frames) result self.new }
     {
         if !tokens.is_empty() {
             return Err(ParseError::Syntax { line });
@@ -192,7 +190,7 @@ impl Parser {
     /// A tag that ends a statement.
     #[tactic(auto, unfolding(crate::specs::Reading::end_tag))]
     fn end_tag(&mut self, line: u32, word: &str, tokens: &[Token<'_>]) -> Result<(), ParseError>
-        ensures { GivesState (reading.end_tag (chars word.now) (map token_view tokens.now) (state_view self.old).body (state_view self.old).frames) result self.new }
+        ensures { GivesState (λ o. o ≡ reading.end_tag (chars word.now) (map token_view tokens.now) (state_view self.old).body (state_view self.old).frames) result self.new }
     {
         let Some(frame) = pop_frame(&mut self.frames) else {
             return Err(ParseError::Syntax { line });
@@ -208,9 +206,9 @@ impl Parser {
     }
 
     /// A block tag, by its first word.
-    #[tactic(auto, unfolding(crate::specs::Reading::block_tag))]
+    #[tactic(auto, unfolding(crate::specs::Reading::role))]
     fn block_tag(&mut self, line: u32, word: &str, tokens: &[Token<'_>]) -> Result<(), ParseError>
-        ensures { GivesState (reading.block_tag max_levels line (chars word.now) (map token_view tokens.now) (state_view self.old)) result self.new }
+        ensures { GivesState (reading.BlockTag (reading.role (chars word.now)) max_levels line (chars word.now) (map token_view tokens.now) (state_view self.old)) result self.new }
     {
         if is_word(word, "elif") {
             self.elif_tag(line, tokens)
@@ -225,7 +223,7 @@ impl Parser {
 
     /// A tag.
     fn tag(&mut self, kind: TagKind, line: u32, tokens: &[Token<'_>]) -> Result<(), ParseError>
-        ensures { GivesState (reading.step max_levels (state_view self.old) (kept.tag kind line (map token_view tokens.now))) result self.new }
+        ensures { GivesState (reading.Steps max_levels (state_view self.old) (kept.tag kind line (map token_view tokens.now))) result self.new }
     {
         match kind {
             TagKind::Variable => self.print_tag(line, tokens),
@@ -237,9 +235,8 @@ impl Parser {
     }
 
     /// What is left of a text.
-    #[tactic(auto, unfolding(crate::specs::Reading::run))]
     fn text(&mut self, text: &str) -> Result<(), ParseError>
-        ensures { GivesState (reading.run max_levels (state_view self.old) (kept.with_text (chars text.now) [])) result self.new }
+        ensures { GivesState (reading.Runs max_levels (state_view self.old) (kept.with_text (chars text.now) [])) result self.new }
     {
         if text.is_empty() {
             return Ok(());
@@ -250,9 +247,8 @@ impl Parser {
     }
 
     /// One segment, between two sides.
-    #[tactic(auto, unfolding(crate::specs::Reading::run))]
     fn step(&mut self, segment: &Segment<'_>, left: Side, right: Side) -> Result<(), ParseError>
-        ensures { GivesState (reading.run max_levels (state_view self.old) (kept.with_segment segment.now.options (side_view left) (side_view right) (segment_view segment.now) [])) result self.new }
+        ensures { GivesState (reading.Runs max_levels (state_view self.old) (kept.with_segment segment.now.options (side_view left) (side_view right) (segment_view segment.now) [])) result self.new }
     {
         let options = segment.options;
         match &segment.part {
@@ -269,9 +265,8 @@ impl Parser {
 }
 
 /// The tree that all the segments spell, as the reader has it.
-#[tactic(auto, unfolding(crate::specs::Reading::run, crate::specs::Reading::parsed))]
 fn read(alloc: Global, segments: &[Segment<'_>]) -> Result<Template, ParseError>
-    ensures { GivesTemplate (reading.parsed max_levels (kept.pieces (reads_of segments.now))) result }
+    ensures { GivesTemplate (reading.Parsed max_levels (kept.pieces (reads_of segments.now))) result }
 {
     let mut parser = Parser {
         alloc,
@@ -293,7 +288,7 @@ fn read(alloc: Global, segments: &[Segment<'_>]) -> Result<Template, ParseError>
 
 /// The same, if each statement stands where it may, and each filter and each test has a meaning.
 fn read_known(alloc: Global, segments: &[Segment<'_>]) -> Result<Template, ParseError>
-    ensures { GivesKnown (reading.parsed max_levels (kept.pieces (reads_of segments.now))) result }
+    ensures { GivesKnown (reading.Parsed max_levels (kept.pieces (reads_of segments.now))) result }
 {
     let template = read(alloc, segments)?;
     check_places(&template.body)?;
@@ -317,5 +312,6 @@ pub fn parse(alloc: Global, segments: &[Segment<'_>]) -> Result<Template, ParseE
     ensures weighs { IfOk result (λ t. body_weight (body_of t) ≤ cut.weight_of (cut_of segments.now)) }
     ensures short { IfOk result (λ t. body_bytes (body_of t) ≤ bytes_of (cut_of segments.now)) }
 {
+    expression_laws();
     read_known(alloc, segments)
 }

@@ -158,18 +158,17 @@ module _ (world : World) (home : Home) (w : rules.Within) where
       ap (λ z. rules.stmt_broken world home z w) (ap stmt_view is ∙ shown_If bs other) ∙ ap (λ (z : List Branch). option_or (in_branches z) (in_body other.items)) (sym el)
 
   -- a branch breaks a rule
-  pub choice_found : (s : Stmt) (bs : Vec Branch Global) (other : Vec Stmt Global) (ls : List Branch) (i : ℕ) (b : Branch) (e : ScopeError) → s ≡ statement.If bs other → ls ≡ bs.items → i < length ls → b ≡ get_or ls i b
-      → in_branches (drop i ls) ≡ in_branches ls → option_or (rules.broken world home (expr_view b.1) w) (in_body b.2.items) ≡ Some e → Some e ≡ rules.stmt_broken world home (stmt_view s) w
-  choice_found s bs other ls i b e is el lt at before h =
+  pub branch_found : (ls : List Branch) (i : ℕ) (b : Branch) (e : ScopeError) → i < length ls → b ≡ get_or ls i b
+      → in_branches (drop i ls) ≡ in_branches ls → option_or (rules.broken world home (expr_view b.1) w) (in_body b.2.items) ≡ Some e → Some e ≡ in_branches ls
+  branch_found ls i b e lt at before h =
       let here : in_branches (drop i ls) ≡ Some e =
       ap (λ z. rules.branches_broken world home z w) (branches_left ls i b lt at) ∙ ap (λ z. option_or z (in_branches (drop (i + 1) ls))) h in
-      some_first (in_branches ls) (in_body other.items) e (sym before ∙ here) ∙ sym (choice_is s bs other ls is el)
+      sym here ∙ before
 
-  -- no branch does
-  pub choice_over : (s : Stmt) (bs : Vec Branch Global) (other : Vec Stmt Global) (ls : List Branch) (o : List Stmt) (i : ℕ) → s ≡ statement.If bs other → ls ≡ bs.items → o ≡ other.items → length ls ≤ i
-      → in_branches (drop i ls) ≡ in_branches ls → in_body o ≡ rules.stmt_broken world home (stmt_view s) w
-  choice_over s bs other ls o i is el eo le before =
-      ap (λ (z : List Stmt). in_body z) eo ∙ none_first (in_branches ls) (in_body other.items) (sym before ∙ at_drop_all (λ (z : List Branch). in_branches z) ls i le) ∙ sym (choice_is s bs other ls is el)
+  pub choice_found : (s : Stmt) (bs : Vec Branch Global) (other : Vec Stmt Global) (ls : List Branch) (o : List Stmt) (r1 r2 o1 : Found) → s ≡ statement.If bs other → ls ≡ bs.items → o ≡ other.items
+      → r1 ≡ in_branches ls → r2 ≡ in_body o → o1 ≡ option_or r1 r2 → o1 ≡ rules.stmt_broken world home (stmt_view s) w
+  choice_found s bs other ls o r1 r2 o1 is el eo h1 h2 k1 =
+      k1 ∙ ap (λ z. option_or z r2) h1 ∙ ap (option_or (in_branches ls)) (h2 ∙ ap (λ (z : List Stmt). in_body z) eo) ∙ sym (choice_is s bs other ls is el)
 
   pub loop_found : (s : Stmt) (line : ℕ) (xs : Vec (String Global) Global) (e : Expr) (c : Option Expr) (body other : Vec Stmt Global) (ys : List (String Global)) (b o : List Stmt) (r1 r2 r3 o1 o2 : Found)
       → s ≡ statement.For line xs e c body other → ys ≡ xs.items → b ≡ body.items → o ≡ other.items

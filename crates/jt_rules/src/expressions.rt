@@ -200,11 +200,7 @@ pub(crate) fn broken(
         Expr::List(row) => row_broken(scope, within, row),
         Expr::Map(pairs) => pairs_broken(scope, within, pairs),
         Expr::Attribute(value, field) => attribute_broken(scope, within, value, field),
-        Expr::Item(value, index) => {
-            let first = broken(scope, within, value)?;
-            let second = broken(scope, within, index)?;
-            Ok(first.or(second))
-        }
+        Expr::Item(value, index) => both_broken(scope, within, value, index),
         Expr::Call(called, row, pairs) => {
             let callee = called_broken(scope, within, called)?;
             let call = call_broken(scope, within, called, row, pairs)?;
@@ -227,16 +223,8 @@ pub(crate) fn broken(
             Ok(call.or(input.or(places.or(keywords))))
         }
         Expr::Unary(_, operand) => broken(scope, within, operand),
-        Expr::Binary(_, left, right) => {
-            let first = broken(scope, within, left)?;
-            let second = broken(scope, within, right)?;
-            Ok(first.or(second))
-        }
-        Expr::When(condition, value) => {
-            let first = broken(scope, within, condition)?;
-            let second = broken(scope, within, value)?;
-            Ok(first.or(second))
-        }
+        Expr::Binary(_, left, right) => both_broken(scope, within, left, right),
+        Expr::When(condition, value) => both_broken(scope, within, condition, value),
         Expr::Choice(condition, value, other) => {
             let first = broken(scope, within, condition)?;
             let second = broken(scope, within, value)?;
@@ -263,11 +251,7 @@ fn called_broken(
         Expr::List(row) => row_broken(scope, within, row),
         Expr::Map(pairs) => pairs_broken(scope, within, pairs),
         Expr::Attribute(value, field) => field_read_broken(scope, within, value, field),
-        Expr::Item(value, index) => {
-            let first = broken(scope, within, value)?;
-            let second = broken(scope, within, index)?;
-            Ok(first.or(second))
-        }
+        Expr::Item(value, index) => both_broken(scope, within, value, index),
         Expr::Call(inner, row, pairs) => {
             let callee = called_broken(scope, within, inner)?;
             let places = row_broken(scope, within, row)?;
@@ -287,16 +271,8 @@ fn called_broken(
             Ok(input.or(places.or(keywords)))
         }
         Expr::Unary(_, operand) => broken(scope, within, operand),
-        Expr::Binary(_, left, right) => {
-            let first = broken(scope, within, left)?;
-            let second = broken(scope, within, right)?;
-            Ok(first.or(second))
-        }
-        Expr::When(condition, value) => {
-            let first = broken(scope, within, condition)?;
-            let second = broken(scope, within, value)?;
-            Ok(first.or(second))
-        }
+        Expr::Binary(_, left, right) => both_broken(scope, within, left, right),
+        Expr::When(condition, value) => both_broken(scope, within, condition, value),
         Expr::Choice(condition, value, other) => {
             let first = broken(scope, within, condition)?;
             let second = broken(scope, within, value)?;
@@ -304,6 +280,22 @@ fn called_broken(
             Ok(first.or(second.or(third)))
         }
     }
+}
+
+/// The first rule that two expressions break.
+#[cycle(broken)]
+fn both_broken(
+    scope: &Scope<'_>,
+    within: Within,
+    first: &Expr,
+    second: &Expr,
+) -> Result<Option<ScopeError>, AllocError>
+    ensures { IfOk result (λ o. o ≡ option_or (rules.broken (its_world scope.now) (its_home scope.now) (expr_view first.now) (within_view within))
+        (rules.broken (its_world scope.now) (its_home scope.now) (expr_view second.now) (within_view within))) }
+{
+    let first = broken(scope, within, first)?;
+    let second = broken(scope, within, second)?;
+    Ok(first.or(second))
 }
 
 /// The first rule that an attribute breaks.

@@ -3,7 +3,7 @@
 ghost use Rattle.std.specs.Prelude.{◌≡◌, ◌∷◌, [], option_map, true, IfOk};
 ghost use Rattle.std.specs.Option.{option_or};
 ghost use Rattle.jt_expr.specs.View.{expr_view, pairs_view};
-ghost use Rattle.jt_parse.specs.View.{stmt_view, body_view, names_view, filtering_view, filterings_view, parameters_view};
+ghost use Rattle.jt_parse.specs.View.{stmt_view, body_view, branches_view, names_view, filtering_view, filterings_view, parameters_view};
 ghost use Rattle.jt_inherit.specs.Uses.{keywords};
 ghost use Rattle.jt_rules.specs.Walk as rules;
 ghost use Rattle.jt_rules.specs.ScopeView.{its_world, its_home, within_view};
@@ -20,6 +20,28 @@ use std::alloc::AllocError;
 
 /// The greatest number of a macro's parameters.
 const MAX_PARAMETERS: usize = 255;
+
+/// What stands around the body of a macro.
+const IN_A_MACRO: Within = Within {
+    in_loop: false,
+    in_block: false,
+};
+
+/// What stands around the body of a block.
+const IN_A_BLOCK: Within = Within {
+    in_loop: false,
+    in_block: true,
+};
+
+/// What stands around the body of a loop.
+fn in_a_loop(within: Within) -> Within
+    ensures { result ≡ record within { in_loop = true } }
+{
+    Within {
+        in_loop: true,
+        in_block: within.in_block,
+    }
+}
 
 /// The first rule that the condition of a loop breaks: `loop` is not there yet.
 fn condition_broken(
@@ -161,23 +183,13 @@ fn statement_broken(
         Stmt::Data(_) | Stmt::Include(..) | Stmt::Extends(..) => Ok(None),
         Stmt::Print(_, expr) => broken(scope, within, expr),
         Stmt::If(branches, other) => {
-            for (_, condition, inside) in branches {
-                if let Some(rule) = broken(scope, within, condition)? {
-                    return Ok(Some(rule));
-                }
-                if let Some(rule) = body_broken(scope, within, inside)? {
-                    return Ok(Some(rule));
-                }
-            }
-            body_broken(scope, within, other)
+            let first = branches_broken(scope, within, branches)?;
+            let last = body_broken(scope, within, other)?;
+            Ok(first.or(last))
         }
         Stmt::For(_, targets, items, condition, inside, other) => {
-            let around = Within {
-                in_loop: true,
-                in_block: within.in_block,
-            };
             let head = head_broken(scope, within, targets, items, condition)?;
-            let turns = body_broken(scope, around, inside)?;
+            let turns = body_broken(scope, in_a_loop(within), inside)?;
             let other = body_broken(scope, within, other)?;
             Ok(head.or(turns.or(other)))
         }
@@ -199,22 +211,32 @@ fn statement_broken(
         }
         Stmt::Autoescape(_, _, inside) => body_broken(scope, within, inside),
         Stmt::Macro(_, name, parameters, inside) => {
-            let around = Within {
-                in_loop: false,
-                in_block: false,
-            };
             let head = macro_broken(scope, name, parameters)?;
-            let inside = body_broken(scope, around, inside)?;
+            let inside = body_broken(scope, IN_A_MACRO, inside)?;
             Ok(head.or(inside))
         }
-        Stmt::Block(_, _, _, _, inside) => {
-            let around = Within {
-                in_loop: false,
-                in_block: true,
-            };
-            body_broken(scope, around, inside)
+        Stmt::Block(_, _, _, _, inside) => body_broken(scope, IN_A_BLOCK, inside),
+    }
+}
+
+/// The first rule that the branches of a choice break.
+#[cycle(body)]
+fn branches_broken(
+    scope: &Scope<'_>,
+    within: Within,
+    branches: &[(u32, Expr, Vec<Stmt>)],
+) -> Result<Option<ScopeError>, AllocError>
+    ensures { IfOk result (λ o. o ≡ rules.branches_broken (its_world scope.now) (its_home scope.now) (branches_view branches.now) (within_view within)) }
+{
+    for (_, condition, inside) in branches {
+        if let Some(rule) = broken(scope, within, condition)? {
+            return Ok(Some(rule));
+        }
+        if let Some(rule) = body_broken(scope, within, inside)? {
+            return Ok(Some(rule));
         }
     }
+    Ok(None)
 }
 
 /// The first rule that statements break.

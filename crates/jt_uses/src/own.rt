@@ -4,8 +4,8 @@ ghost use Rattle.std.specs.Prelude.{◌≡◌, ◌++◌, if◌then◌else◌, []
 ghost use Rattle.jt_expr.specs.View.{expr_view, exprs_view, pairs_view};
 ghost use Rattle.jt_parse.specs.Texts.{inserted, all_inserted};
 ghost use Rattle.jt_inherit.specs.Chain.{is_loop};
-ghost use Rattle.jt_parse.specs.View.{stmt_view, body_view, names_view, filterings_view, parameters_view};
-ghost use Rattle.jt_inherit.specs.Uses.{expr_names, row_names, pair_names, condition_names, filtering_names, stmt_names, body_names, keywords};
+ghost use Rattle.jt_parse.specs.View.{stmt_view, body_view, branches_view, names_view, filterings_view, parameters_view};
+ghost use Rattle.jt_inherit.specs.Uses.{expr_names, row_names, pair_names, condition_names, filtering_names, stmt_names, body_names, branch_names, keywords};
 ghost use Rattle.jt_uses.specs.Names.{texts};
 
 use jt_expr::Expr;
@@ -44,11 +44,7 @@ fn add_expression<'a>(names: &mut BTreeSet<&'a str>, expr: &'a Expr) -> Result<(
         Expr::List(row) => add_row(names, row),
         Expr::Map(pairs) => add_pairs(names, pairs),
         Expr::Attribute(value, _) => add_of_attribute(names, value),
-        Expr::Item(value, index) => {
-            add_expression(names, value)?;
-            add_expression(names, index)?;
-            Ok(())
-        }
+        Expr::Item(value, index) => add_both(names, value, index),
         Expr::Call(_, row, pairs) => {
             add_row(names, row)?;
             add_pairs(names, pairs)?;
@@ -67,16 +63,8 @@ fn add_expression<'a>(names: &mut BTreeSet<&'a str>, expr: &'a Expr) -> Result<(
             Ok(())
         }
         Expr::Unary(_, operand) => add_expression(names, operand),
-        Expr::Binary(_, left, right) => {
-            add_expression(names, left)?;
-            add_expression(names, right)?;
-            Ok(())
-        }
-        Expr::When(condition, value) => {
-            add_expression(names, condition)?;
-            add_expression(names, value)?;
-            Ok(())
-        }
+        Expr::Binary(_, left, right) => add_both(names, left, right),
+        Expr::When(condition, value) => add_both(names, condition, value),
         Expr::Choice(condition, value, other) => {
             add_expression(names, condition)?;
             add_expression(names, value)?;
@@ -84,6 +72,21 @@ fn add_expression<'a>(names: &mut BTreeSet<&'a str>, expr: &'a Expr) -> Result<(
             Ok(())
         }
     }
+}
+
+/// Adds the names of two expressions.
+#[tactic(auto, using(crate::proofs::Inserted::inserted_both))]
+#[cycle(gather)]
+fn add_both<'a>(
+    names: &mut BTreeSet<&'a str>,
+    first: &'a Expr,
+    second: &'a Expr,
+) -> Result<(), AllocError>
+    ensures { IfOk result (λ u. texts names.new.keys ≡ all_inserted (expr_names (expr_view first.now) ++ expr_names (expr_view second.now)) (texts names.old.keys)) }
+{
+    add_expression(names, first)?;
+    add_expression(names, second)?;
+    Ok(())
 }
 
 /// Adds the names of what has an attribute; `loop` is none.
@@ -202,6 +205,35 @@ fn add_head<'a>(
     Ok(())
 }
 
+/// Adds the names of an assignment.
+#[tactic(auto, using(crate::proofs::Inserted::inserted_both))]
+fn add_set<'a>(
+    names: &mut BTreeSet<&'a str>,
+    targets: &'a [String],
+    value: &'a Expr,
+) -> Result<(), AllocError>
+    ensures { IfOk result (λ u. texts names.new.keys ≡ all_inserted (expr_names (expr_view value.now) ++ names_view targets.now) (texts names.old.keys)) }
+{
+    add_expression(names, value)?;
+    add_targets(names, targets)?;
+    Ok(())
+}
+
+/// Adds the names of the branches of a choice.
+#[cycle(add)]
+fn add_branches<'a>(
+    names: &mut BTreeSet<&'a str>,
+    branches: &'a [(u32, Expr, Vec<Stmt>)],
+) -> Result<(), AllocError>
+    ensures { IfOk result (λ u. texts names.new.keys ≡ all_inserted (branch_names (branches_view branches.now)) (texts names.old.keys)) }
+{
+    for (_, condition, body) in branches {
+        add_expression(names, condition)?;
+        add_statements(names, body)?;
+    }
+    Ok(())
+}
+
 /// Adds the names of a statement.
 #[tactic(auto, using(crate::proofs::Inserted::inserted_both, crate::proofs::Shown::shown_For, crate::proofs::Shown::shown_Set, crate::proofs::Shown::shown_With, crate::proofs::Shown::shown_FilterBlock, crate::proofs::Shown::shown_Macro))]
 #[cycle(add)]
@@ -212,10 +244,7 @@ fn add_statement<'a>(names: &mut BTreeSet<&'a str>, statement: &'a Stmt) -> Resu
         Stmt::Data(_) | Stmt::Include(..) | Stmt::Extends(..) => Ok(()),
         Stmt::Print(_, expr) => add_expression(names, expr),
         Stmt::If(branches, other) => {
-            for (_, condition, body) in branches {
-                add_expression(names, condition)?;
-                add_statements(names, body)?;
-            }
+            add_branches(names, branches)?;
             add_statements(names, other)?;
             Ok(())
         }
@@ -225,11 +254,7 @@ fn add_statement<'a>(names: &mut BTreeSet<&'a str>, statement: &'a Stmt) -> Resu
             add_statements(names, other)?;
             Ok(())
         }
-        Stmt::Set(_, targets, value) => {
-            add_expression(names, value)?;
-            add_targets(names, targets)?;
-            Ok(())
-        }
+        Stmt::Set(_, targets, value) => add_set(names, targets, value),
         Stmt::SetBlock(_, name, inside) => {
             add_name(names, name.as_str())?;
             add_statements(names, inside)?;

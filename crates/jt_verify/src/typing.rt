@@ -1,8 +1,10 @@
 //! What an instruction does to a shape, and where it leads.
-ghost use Rattle.std.specs.Prelude.{◌≡◌, ◌+◌, ◌^◌, ◌<◌, ◌≤◌, ◌&&◌, nat_lt, [], ◌∷◌, length, None, Err, IfOk, IsSome, option_map, slice_get};
+ghost use Rattle.std.specs.Prelude.{◌≡◌, ◌+◌, ◌^◌, ◌<◌, ◌≤◌, ◌&&◌, nat_lt, [], ◌∷◌, length, None, Ok, Err, IfOk, IsSome, option_map, slice_get};
+ghost use Rattle.std.specs.Option.{is_some};
 ghost use Rattle.jt_image.specs.Code.{Section, is_text as is_text_of};
-ghost use Rattle.jt_image.specs.Effect.{pushes, calls as calls_of, goes_on as goes_on_of, makes as makes_of, jumps as jumps_of, branches as branches_of, may_return as may_return_of, effect as effect_of};
-ghost use Rattle.jt_image.specs.Ids.{operator_of, filter_of, accepts as accepts_of, test_of, takes as takes_of};
+ghost use Rattle.jt_image.specs.Effect.{require, pops, pops_frame, pops_capture, on_frame, pushes, calls as calls_of, goes_on as goes_on_of, makes as makes_of, jumps as jumps_of, branches as branches_of, may_return as may_return_of, effect as effect_of};
+ghost use Rattle.jt_image.specs.Ids.{operator_of, operands_of as operands_in, filter_of, accepts as accepts_of, test_of, takes as takes_of};
+ghost use Rattle.jt_image.specs.Loops.{field_of};
 ghost use Rattle.jt_image.specs.Readers.{header_of};
 ghost use Rattle.jt_image.specs.Typed.{max_entries};
 ghost use Rattle.jt_ops.specs.OpTable.{op_operands};
@@ -10,6 +12,7 @@ ghost use Rattle.jt_verify.specs.Arena.{Lists, shape_in, IsIn, kind_of};
 ghost use Rattle.jt_verify.specs.Shapes.{below_value, below_frame, below_capture, Below, IsTopped};
 ghost use Rattle.jt_verify.specs.Typing.{EffectGives, AreWithin, FindsFrame, Fits};
 ghost use Rattle.jt_image.specs.declared.kind.Kind.TheVariants as kind;
+ghost use Rattle.jt_image.specs.declared.kind.Flaw.TheVariants as flaw;
 
 use crate::arena::Arena;
 use crate::links::{Handle, Mark};
@@ -21,6 +24,15 @@ use jt_image::{Code, ConstantRef, Flaw, Instruction, Kind, LoopField, MAX_ENTRIE
 pub(crate) struct Leads {
     pub(crate) next: Option<usize>,
     pub(crate) target: Option<usize>,
+}
+
+/// Where an instruction stands: in a unit, at a point, with a shape in front of it.
+#[derive(Clone, Copy)]
+pub(crate) struct At<'a> {
+    pub(crate) arena: &'a Arena,
+    pub(crate) header: &'a UnitHeader,
+    pub(crate) point: usize,
+    pub(crate) shape: Handle,
 }
 
 /// What an instruction does: the shape behind it, below a mark that it puts on top, and where it leads.
@@ -212,22 +224,16 @@ fn branches(
 }
 
 // One value in place of that many, to the next instruction.
-fn makes(
-    arena: &Arena,
-    header: &UnitHeader,
-    point: usize,
-    count: usize,
-    shape: Handle,
-) -> Result<Outcome, EffectError>
-    requires point { point < header.now.instructions }
-    requires within { IsIn arena.now shape }
-    requires small { length (shape_in arena.now shape) ≤ max_entries }
-    ensures gives { (u : Section) → header.now ≡ header_of u → EffectGives arena.now result (makes_of u point count (shape_in arena.now shape)) }
-    ensures within { IfOk result (λ e. AreWithin header.now.instructions e.leads) }
-    ensures plain { IfOk result (λ e. IsIn arena.now e.shape × (e.mark ≡ None)) }
+fn makes(at: At<'_>, count: usize) -> Result<Outcome, EffectError>
+    requires point { at.point < at.header.now.instructions }
+    requires within { IsIn at.arena.now at.shape }
+    requires small { length (shape_in at.arena.now at.shape) ≤ max_entries }
+    ensures gives { (u : Section) → at.entry.header.now ≡ header_of u → EffectGives at.entry.arena.now result (makes_of u at.entry.point count (shape_in at.entry.arena.now at.entry.shape)) }
+    ensures within { IfOk result (λ e. AreWithin at.entry.header.now.instructions e.leads) }
+    ensures plain { IfOk result (λ e. IsIn at.entry.arena.now e.shape × (e.mark ≡ None)) }
 {
-    let below = arena.pop_values(shape, count)?;
-    goes_on(header, point, push_value(arena, below))
+    let below = at.arena.pop_values(at.shape, count)?;
+    goes_on(at.header, at.point, push_value(at.arena, below))
 }
 
 // That many values on top, to the next instruction, unless the shape would be too long there.
@@ -266,29 +272,24 @@ fn find_frame(arena: &Arena, shape: Handle, above: u32) -> Result<(), Flaw>
 }
 
 // The arguments of the unit that is called, and in their place what it gives, to the next instruction.
-fn calls<C: Code>(
-    arena: &Arena,
-    code: &C,
-    header: &UnitHeader,
-    point: usize,
-    unit: u32,
-    shape: Handle,
-) -> Result<Outcome, EffectError>
-    requires point { point < header.now.instructions }
-    requires within { IsIn arena.now shape }
-    requires small { length (shape_in arena.now shape) ≤ max_entries }
-    ensures gives { (u : Section) → header.now ≡ header_of u → EffectGives arena.now result (calls_of u point (slice_get (C.code code.now).units unit) (shape_in arena.now shape)) }
-    ensures within { IfOk result (λ e. AreWithin header.now.instructions e.leads) }
-    ensures plain { IfOk result (λ e. IsIn arena.now e.shape × (e.mark ≡ None)) }
+fn calls<C: Code>(code: &C, at: At<'_>, unit: u32) -> Result<Outcome, EffectError>
+    requires point { at.point < at.header.now.instructions }
+    requires within { IsIn at.arena.now at.shape }
+    requires small { length (shape_in at.arena.now at.shape) ≤ max_entries }
+    ensures gives { (u : Section) → at.entry.header.now ≡ header_of u → EffectGives at.entry.arena.now result (calls_of u at.entry.point (slice_get (C.code code.now).units unit) (shape_in at.entry.arena.now at.entry.shape)) }
+    ensures within { IfOk result (λ e. AreWithin at.entry.header.now.instructions e.leads) }
+    ensures plain { IfOk result (λ e. IsIn at.entry.arena.now e.shape × (e.mark ≡ None)) }
 {
     let Some(called) = code.unit(unit as usize) else {
         return bad_index();
     };
-    let below = arena.pop_values(shape, usize::from(called.parameters))?;
+    let below = at
+        .arena
+        .pop_values(at.shape, usize::from(called.parameters))?;
     if called.kind == 0 {
-        return goes_on(header, point, below);
+        return goes_on(at.header, at.point, below);
     }
-    goes_on(header, point, push_value(arena, below))
+    goes_on(at.header, at.point, push_value(at.arena, below))
 }
 
 // How many operands an operator takes.
@@ -372,155 +373,278 @@ fn bad_index<T>() -> Result<T, EffectError>
     Err(EffectError::Flaw(Flaw::BadIndex))
 }
 
-/// The effect of the instruction at a point, from a shape.
-pub(crate) fn effect<C: Code>(
-    arena: &Arena,
-    code: &C,
-    header: &UnitHeader,
-    point: usize,
-    instruction: Instruction,
-    shape: Handle,
-) -> Result<Outcome, EffectError>
-    requires point { point < header.now.instructions }
-    requires inside { IsIn arena.now shape }
-    requires small { length (shape_in arena.now shape) ≤ max_entries }
-    ensures gives { (u : Section) → header.now ≡ header_of u → EffectGives arena.now result (effect_of (C.code code.now) u point instruction (shape_in arena.now shape)) }
-    ensures within { IfOk result (λ e. AreWithin header.now.instructions e.leads) }
-    ensures inside { IfOk result (λ e. IsIn arena.now e.shape) }
-    ensures small { IfOk result (λ e. IsSome e.mark → length (shape_in arena.now e.shape) < max_entries) }
+// A value on top, where what is named is there.
+fn loads(at: At<'_>, there: bool) -> Result<Outcome, EffectError>
+    requires point { at.point < at.header.now.instructions }
+    requires within { IsIn at.arena.now at.shape }
+    requires small { length (shape_in at.arena.now at.shape) ≤ max_entries }
+    ensures gives { (u : Section) → at.entry.header.now ≡ header_of u → EffectGives at.entry.arena.now result (require there flaw.BadIndex (goes_on_of u at.entry.point (kind.Value ∷ shape_in at.entry.arena.now at.entry.shape))) }
+    ensures within { IfOk result (λ e. AreWithin at.entry.header.now.instructions e.leads) }
+    ensures plain { IfOk result (λ e. IsIn at.entry.arena.now e.shape × (e.mark ≡ None)) }
 {
+    if !there {
+        return bad_index();
+    }
+    goes_on(at.header, at.point, push_value(at.arena, at.shape))
+}
+
+// The value at the top is taken, where what is named is there.
+fn stores(at: At<'_>, there: bool) -> Result<Outcome, EffectError>
+    requires point { at.point < at.header.now.instructions }
+    requires within { IsIn at.arena.now at.shape }
+    ensures gives { (u : Section) → at.entry.header.now ≡ header_of u → EffectGives at.entry.arena.now result (require there flaw.BadIndex (pops (shape_in at.entry.arena.now at.entry.shape) (λ r. goes_on_of u at.entry.point r))) }
+    ensures within { IfOk result (λ e. AreWithin at.entry.header.now.instructions e.leads) }
+    ensures plain { IfOk result (λ e. IsIn at.entry.arena.now e.shape × (e.mark ≡ None)) }
+{
+    if !there {
+        return bad_index();
+    }
+    goes_on(at.header, at.point, pop_value(at.arena, at.shape)?)
+}
+
+// Nothing is put or taken, where what is named is there.
+fn stays(at: At<'_>, there: bool) -> Result<Outcome, EffectError>
+    requires point { at.point < at.header.now.instructions }
+    requires within { IsIn at.arena.now at.shape }
+    ensures gives { (u : Section) → at.entry.header.now ≡ header_of u → EffectGives at.entry.arena.now result (require there flaw.BadIndex (goes_on_of u at.entry.point (shape_in at.entry.arena.now at.entry.shape))) }
+    ensures within { IfOk result (λ e. AreWithin at.entry.header.now.instructions e.leads) }
+    ensures plain { IfOk result (λ e. IsIn at.entry.arena.now e.shape × (e.mark ≡ None)) }
+{
+    if !there {
+        return bad_index();
+    }
+    goes_on(at.header, at.point, at.shape)
+}
+
+// The value at the top once more.
+fn copies(at: At<'_>) -> Result<Outcome, EffectError>
+    requires point { at.point < at.header.now.instructions }
+    requires within { IsIn at.arena.now at.shape }
+    requires small { length (shape_in at.arena.now at.shape) ≤ max_entries }
+    ensures gives { (u : Section) → at.entry.header.now ≡ header_of u → EffectGives at.entry.arena.now result (pops (shape_in at.entry.arena.now at.entry.shape) (λ r. goes_on_of u at.entry.point (kind.Value ∷ kind.Value ∷ r))) }
+    ensures within { IfOk result (λ e. AreWithin at.entry.header.now.instructions e.leads) }
+    ensures plain { IfOk result (λ e. IsIn at.entry.arena.now e.shape × (e.mark ≡ None)) }
+{
+    let _below = pop_value(at.arena, at.shape)?;
+    goes_on(at.header, at.point, push_value(at.arena, at.shape))
+}
+
+// A value is tested, and both ways are open.
+fn tests(at: At<'_>, target: u32) -> Result<Outcome, EffectError>
+    requires point { at.point < at.header.now.instructions }
+    requires within { IsIn at.arena.now at.shape }
+    ensures gives { (u : Section) → at.entry.header.now ≡ header_of u → EffectGives at.entry.arena.now result (pops (shape_in at.entry.arena.now at.entry.shape) (λ r. branches_of u at.entry.point target r)) }
+    ensures within { IfOk result (λ e. AreWithin at.entry.header.now.instructions e.leads) }
+    ensures plain { IfOk result (λ e. IsIn at.entry.arena.now e.shape × (e.mark ≡ None)) }
+{
+    let below = pop_value(at.arena, at.shape)?;
+    branches(at.header, at.point, target, below)
+}
+
+// The result of an operator in place of its operands.
+fn operates(at: At<'_>, operator: u8) -> Result<Outcome, EffectError>
+    requires point { at.point < at.header.now.instructions }
+    requires within { IsIn at.arena.now at.shape }
+    requires small { length (shape_in at.arena.now at.shape) ≤ max_entries }
+    ensures gives { (u : Section) → at.entry.header.now ≡ header_of u → EffectGives at.entry.arena.now result (require (is_some (operator_of operator)) flaw.BadIndex (makes_of u at.entry.point (operands_in (operator_of operator)) (shape_in at.entry.arena.now at.entry.shape))) }
+    ensures within { IfOk result (λ e. AreWithin at.entry.header.now.instructions e.leads) }
+    ensures plain { IfOk result (λ e. IsIn at.entry.arena.now e.shape × (e.mark ≡ None)) }
+{
+    match operands_of(operator) {
+        Some(count) => makes(at, count),
+        None => bad_index(),
+    }
+}
+
+// One value in place of that many, where what makes it is there.
+fn makes_by(at: At<'_>, there: bool, count: u16) -> Result<Outcome, EffectError>
+    requires point { at.point < at.header.now.instructions }
+    requires within { IsIn at.arena.now at.shape }
+    requires small { length (shape_in at.arena.now at.shape) ≤ max_entries }
+    ensures gives { (u : Section) → at.entry.header.now ≡ header_of u → EffectGives at.entry.arena.now result (require there flaw.BadIndex (makes_of u at.entry.point count (shape_in at.entry.arena.now at.entry.shape))) }
+    ensures within { IfOk result (λ e. AreWithin at.entry.header.now.instructions e.leads) }
+    ensures plain { IfOk result (λ e. IsIn at.entry.arena.now e.shape × (e.mark ≡ None)) }
+{
+    if !there {
+        return bad_index();
+    }
+    makes(at, usize::from(count))
+}
+
+// A loop in place of the value that it goes over.
+fn starts(at: At<'_>) -> Result<Outcome, EffectError>
+    requires point { at.point < at.header.now.instructions }
+    requires within { IsIn at.arena.now at.shape }
+    ensures gives { (u : Section) → at.entry.header.now ≡ header_of u → EffectGives at.entry.arena.now result (pops (shape_in at.entry.arena.now at.entry.shape) (λ r. goes_on_of u at.entry.point (kind.Frame ∷ r))) }
+    ensures within { IfOk result (λ e. AreWithin at.entry.header.now.instructions e.leads) }
+    ensures small { IfOk result (λ e. IsIn at.entry.arena.now e.shape × (length (shape_in at.entry.arena.now e.shape) < max_entries)) }
+{
+    let below = pop_value(at.arena, at.shape)?;
+    opens(at.arena, at.header, at.point, below, Mark::Frame)
+}
+
+// A loop at the top stays, and both ways are open.
+fn turns(at: At<'_>, target: u32) -> Result<Outcome, EffectError>
+    requires point { at.point < at.header.now.instructions }
+    requires within { IsIn at.arena.now at.shape }
+    ensures gives { (u : Section) → at.entry.header.now ≡ header_of u → EffectGives at.entry.arena.now result (pops_frame (shape_in at.entry.arena.now at.entry.shape) (λ r. branches_of u at.entry.point target (kind.Frame ∷ r))) }
+    ensures within { IfOk result (λ e. AreWithin at.entry.header.now.instructions e.leads) }
+    ensures plain { IfOk result (λ e. IsIn at.entry.arena.now e.shape × (e.mark ≡ None)) }
+{
+    let _below = pop_frame(at.arena, at.shape)?;
+    branches(at.header, at.point, target, at.shape)
+}
+
+// A field of the loop that has that many entries above it.
+fn reads(at: At<'_>, field: u8, above: u32) -> Result<Outcome, EffectError>
+    requires point { at.point < at.header.now.instructions }
+    requires within { IsIn at.arena.now at.shape }
+    requires small { length (shape_in at.arena.now at.shape) ≤ max_entries }
+    ensures gives { (u : Section) → at.entry.header.now ≡ header_of u → EffectGives at.entry.arena.now result (require (is_some (field_of field)) flaw.BadIndex (on_frame (slice_get (shape_in at.entry.arena.now at.entry.shape) above) (goes_on_of u at.entry.point (kind.Value ∷ shape_in at.entry.arena.now at.entry.shape)))) }
+    ensures within { IfOk result (λ e. AreWithin at.entry.header.now.instructions e.leads) }
+    ensures plain { IfOk result (λ e. IsIn at.entry.arena.now e.shape × (e.mark ≡ None)) }
+{
+    if LoopField::by_id(field).is_none() {
+        return bad_index();
+    }
+    find_frame(at.arena, at.shape, above)?;
+    goes_on(at.header, at.point, push_value(at.arena, at.shape))
+}
+
+// A value is taken, for the loop that has that many entries above it then.
+fn keeps(at: At<'_>, above: u32) -> Result<Outcome, EffectError>
+    requires point { at.point < at.header.now.instructions }
+    requires within { IsIn at.arena.now at.shape }
+    ensures gives { (u : Section) → at.entry.header.now ≡ header_of u → EffectGives at.entry.arena.now result (pops (shape_in at.entry.arena.now at.entry.shape) (λ r. on_frame (slice_get r above) (goes_on_of u at.entry.point r))) }
+    ensures within { IfOk result (λ e. AreWithin at.entry.header.now.instructions e.leads) }
+    ensures plain { IfOk result (λ e. IsIn at.entry.arena.now e.shape × (e.mark ≡ None)) }
+{
+    let below = pop_value(at.arena, at.shape)?;
+    find_frame(at.arena, below, above)?;
+    goes_on(at.header, at.point, below)
+}
+
+// A loop at the top stays.
+fn rewinds(at: At<'_>) -> Result<Outcome, EffectError>
+    requires point { at.point < at.header.now.instructions }
+    requires within { IsIn at.arena.now at.shape }
+    ensures gives { (u : Section) → at.entry.header.now ≡ header_of u → EffectGives at.entry.arena.now result (pops_frame (shape_in at.entry.arena.now at.entry.shape) (λ r. goes_on_of u at.entry.point (kind.Frame ∷ r))) }
+    ensures within { IfOk result (λ e. AreWithin at.entry.header.now.instructions e.leads) }
+    ensures plain { IfOk result (λ e. IsIn at.entry.arena.now e.shape × (e.mark ≡ None)) }
+{
+    let _below = pop_frame(at.arena, at.shape)?;
+    goes_on(at.header, at.point, at.shape)
+}
+
+// A value in place of a loop.
+fn ends(at: At<'_>) -> Result<Outcome, EffectError>
+    requires point { at.point < at.header.now.instructions }
+    requires within { IsIn at.arena.now at.shape }
+    requires small { length (shape_in at.arena.now at.shape) ≤ max_entries }
+    ensures gives { (u : Section) → at.entry.header.now ≡ header_of u → EffectGives at.entry.arena.now result (pops_frame (shape_in at.entry.arena.now at.entry.shape) (λ r. goes_on_of u at.entry.point (kind.Value ∷ r))) }
+    ensures within { IfOk result (λ e. AreWithin at.entry.header.now.instructions e.leads) }
+    ensures plain { IfOk result (λ e. IsIn at.entry.arena.now e.shape × (e.mark ≡ None)) }
+{
+    let below = pop_frame(at.arena, at.shape)?;
+    goes_on(at.header, at.point, push_value(at.arena, below))
+}
+
+// A value in place of a capture.
+fn captures(at: At<'_>, flag: u8) -> Result<Outcome, EffectError>
+    requires point { at.point < at.header.now.instructions }
+    requires within { IsIn at.arena.now at.shape }
+    requires small { length (shape_in at.arena.now at.shape) ≤ max_entries }
+    ensures gives { (u : Section) → at.entry.header.now ≡ header_of u → EffectGives at.entry.arena.now result (require (nat_lt flag 2) flaw.BadIndex (pops_capture (shape_in at.entry.arena.now at.entry.shape) (λ r. goes_on_of u at.entry.point (kind.Value ∷ r)))) }
+    ensures within { IfOk result (λ e. AreWithin at.entry.header.now.instructions e.leads) }
+    ensures plain { IfOk result (λ e. IsIn at.entry.arena.now e.shape × (e.mark ≡ None)) }
+{
+    if !is_flag(flag) {
+        return bad_index();
+    }
+    let below = pop_capture(at.arena, at.shape)?;
+    goes_on(at.header, at.point, push_value(at.arena, below))
+}
+
+// That many values in place of one.
+fn unpacks(at: At<'_>, count: u32) -> Result<Outcome, EffectError>
+    requires point { at.point < at.header.now.instructions }
+    requires within { IsIn at.arena.now at.shape }
+    ensures gives { (u : Section) → at.entry.header.now ≡ header_of u → EffectGives at.entry.arena.now result (pops (shape_in at.entry.arena.now at.entry.shape) (λ r. goes_on_of u at.entry.point (pushes count r))) }
+    ensures within { IfOk result (λ e. AreWithin at.entry.header.now.instructions e.leads) }
+    ensures plain { IfOk result (λ e. IsIn at.entry.arena.now e.shape × (e.mark ≡ None)) }
+{
+    let below = pop_value(at.arena, at.shape)?;
+    spreads(at.arena, at.header, at.point, count, below)
+}
+
+// The run of the unit ends, where it may with this shape.
+fn returns(at: At<'_>) -> Result<Outcome, EffectError>
+    requires point { at.point < at.header.now.instructions }
+    requires within { IsIn at.arena.now at.shape }
+    ensures gives { (u : Section) → at.entry.header.now ≡ header_of u → EffectGives at.entry.arena.now result (require (may_return_of u.kind (shape_in at.entry.arena.now at.entry.shape)) flaw.BadReturn (Ok (record { shape = shape_in at.entry.arena.now at.entry.shape; points = [] }))) }
+    ensures within { IfOk result (λ e. AreWithin at.entry.header.now.instructions e.leads) }
+    ensures plain { IfOk result (λ e. IsIn at.entry.arena.now e.shape × (e.mark ≡ None)) }
+{
+    if !may_return(at.arena, at.header.kind, at.shape) {
+        return Err(EffectError::Flaw(Flaw::BadReturn));
+    }
+    Ok(Outcome {
+        shape: at.shape,
+        mark: None,
+        leads: Leads {
+            next: None,
+            target: None,
+        },
+    })
+}
+
+/// The effect of an instruction that stands there.
+pub(crate) fn effect<C: Code>(
+    code: &C,
+    at: At<'_>,
+    instruction: Instruction,
+) -> Result<Outcome, EffectError>
+    requires point { at.point < at.header.now.instructions }
+    requires inside { IsIn at.arena.now at.shape }
+    requires small { length (shape_in at.arena.now at.shape) ≤ max_entries }
+    ensures gives { (u : Section) → at.entry.header.now ≡ header_of u → EffectGives at.entry.arena.now result (effect_of (C.code code.now) u at.entry.point instruction (shape_in at.entry.arena.now at.entry.shape)) }
+    ensures within { IfOk result (λ e. AreWithin at.entry.header.now.instructions e.leads) }
+    ensures inside { IfOk result (λ e. IsIn at.entry.arena.now e.shape) }
+    ensures small { IfOk result (λ e. IsSome e.mark → length (shape_in at.entry.arena.now e.shape) < max_entries) }
+{
+    let locals = u32::from(at.header.locals);
     match instruction {
-        Instruction::Const { constant } => {
-            if constant as usize >= code.constants() {
-                return bad_index();
-            }
-            goes_on(header, point, push_value(arena, shape))
-        }
-        Instruction::Load { local } => {
-            if local >= u32::from(header.locals) {
-                return bad_index();
-            }
-            goes_on(header, point, push_value(arena, shape))
-        }
-        Instruction::Store { local } => {
-            if local >= u32::from(header.locals) {
-                return bad_index();
-            }
-            goes_on(header, point, pop_value(arena, shape)?)
-        }
-        Instruction::GLoad { global } => {
-            if global >= u32::from(code.globals()) {
-                return bad_index();
-            }
-            goes_on(header, point, push_value(arena, shape))
-        }
-        Instruction::GStore { global } => {
-            if global >= u32::from(code.globals()) {
-                return bad_index();
-            }
-            goes_on(header, point, pop_value(arena, shape)?)
-        }
-        Instruction::Drop => goes_on(header, point, pop_value(arena, shape)?),
-        Instruction::Dup => {
-            let _below = pop_value(arena, shape)?;
-            goes_on(header, point, push_value(arena, shape))
-        }
-        Instruction::Emit { flag } => {
-            if !is_flag(flag) {
-                return bad_index();
-            }
-            goes_on(header, point, pop_value(arena, shape)?)
-        }
-        Instruction::Data { constant } => {
-            if !is_text(code, constant) {
-                return bad_index();
-            }
-            goes_on(header, point, shape)
-        }
-        Instruction::Jump { target } => jumps(header, target, shape),
-        Instruction::JumpIfFalse { target } => {
-            branches(header, point, target, pop_value(arena, shape)?)
-        }
-        Instruction::JumpIfTrue { target } => {
-            branches(header, point, target, pop_value(arena, shape)?)
-        }
-        Instruction::Op { operator } => {
-            let Some(count) = operands_of(operator) else {
-                return bad_index();
-            };
-            makes(arena, header, point, count, shape)
-        }
+        Instruction::Const { constant } => loads(at, (constant as usize) < code.constants()),
+        Instruction::Load { local } => loads(at, local < locals),
+        Instruction::Store { local } => stores(at, local < locals),
+        Instruction::GLoad { global } => loads(at, global < u32::from(code.globals())),
+        Instruction::GStore { global } => stores(at, global < u32::from(code.globals())),
+        Instruction::Drop => stores(at, true),
+        Instruction::Dup => copies(at),
+        Instruction::Emit { flag } => stores(at, is_flag(flag)),
+        Instruction::Data { constant } => stays(at, is_text(code, constant)),
+        Instruction::Jump { target } => jumps(at.header, target, at.shape),
+        Instruction::JumpIfFalse { target } => tests(at, target),
+        Instruction::JumpIfTrue { target } => tests(at, target),
+        Instruction::Op { operator } => operates(at, operator),
         Instruction::Filter {
             filter,
-            values: count,
+            values,
             flag,
-        } => {
-            if !is_filter(filter, count, flag) {
-                return bad_index();
-            }
-            makes(arena, header, point, usize::from(count), shape)
-        }
-        Instruction::Test { test, values } => {
-            if !takes(test, values) {
-                return bad_index();
-            }
-            makes(arena, header, point, usize::from(values), shape)
-        }
-        Instruction::MakeList { items } => makes(arena, header, point, items as usize, shape),
-        Instruction::MakeMap { entries } => {
-            makes(arena, header, point, 2 * entries as usize, shape)
-        }
-        Instruction::LoopStart => {
-            opens(arena, header, point, pop_value(arena, shape)?, Mark::Frame)
-        }
-        Instruction::LoopNext { target } => {
-            let _below = pop_frame(arena, shape)?;
-            branches(header, point, target, shape)
-        }
-        Instruction::LoopGet { field, above } => {
-            if LoopField::by_id(field).is_none() {
-                return bad_index();
-            }
-            find_frame(arena, shape, above)?;
-            goes_on(header, point, push_value(arena, shape))
-        }
-        Instruction::LoopKeep { above } => {
-            let below = pop_value(arena, shape)?;
-            find_frame(arena, below, above)?;
-            goes_on(header, point, below)
-        }
-        Instruction::LoopRewind => {
-            let _below = pop_frame(arena, shape)?;
-            goes_on(header, point, shape)
-        }
-        Instruction::LoopEnd => {
-            let below = pop_frame(arena, shape)?;
-            goes_on(header, point, push_value(arena, below))
-        }
-        Instruction::CaptureBegin => opens(arena, header, point, shape, Mark::Capture),
-        Instruction::CaptureEnd { flag } => {
-            if !is_flag(flag) {
-                return bad_index();
-            }
-            let below = pop_capture(arena, shape)?;
-            goes_on(header, point, push_value(arena, below))
-        }
-        Instruction::Unpack { values } => {
-            spreads(arena, header, point, values, pop_value(arena, shape)?)
-        }
-        Instruction::Call { unit } => calls(arena, code, header, point, unit, shape),
-        Instruction::Return => {
-            if !may_return(arena, header.kind, shape) {
-                return Err(EffectError::Flaw(Flaw::BadReturn));
-            }
-            Ok(Outcome {
-                shape,
-                mark: None,
-                leads: Leads {
-                    next: None,
-                    target: None,
-                },
-            })
-        }
+        } => makes_by(at, is_filter(filter, values, flag), values),
+        Instruction::Test { test, values } => makes_by(at, takes(test, values), values),
+        Instruction::MakeList { items } => makes(at, items as usize),
+        Instruction::MakeMap { entries } => makes(at, 2 * entries as usize),
+        Instruction::LoopStart => starts(at),
+        Instruction::LoopNext { target } => turns(at, target),
+        Instruction::LoopGet { field, above } => reads(at, field, above),
+        Instruction::LoopKeep { above } => keeps(at, above),
+        Instruction::LoopRewind => rewinds(at),
+        Instruction::LoopEnd => ends(at),
+        Instruction::CaptureBegin => opens(at.arena, at.header, at.point, at.shape, Mark::Capture),
+        Instruction::CaptureEnd { flag } => captures(at, flag),
+        Instruction::Unpack { values } => unpacks(at, values),
+        Instruction::Call { unit } => calls(code, at, unit),
+        Instruction::Return => returns(at),
     }
 }

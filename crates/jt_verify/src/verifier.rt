@@ -10,7 +10,7 @@ ghost use Rattle.jt_verify.specs.Refusing.{RefusalHolds};
 use crate::arena::Arena;
 use crate::links::Handle;
 use crate::refusal::Refusal;
-use crate::typing::{EffectError, Leads, effect};
+use crate::typing::{At, EffectError, Leads, effect};
 use jt_image::{Code, Flaw, MAX_ENTRIES, UnitHeader};
 use std::alloc::{AllocError, Global};
 
@@ -93,7 +93,13 @@ fn step<C: Code>(
     let Some(instruction) = code.instruction(unit, point) else {
         unreachable!()
     };
-    let found = match effect(arena, code, header, point, instruction, path.shape) {
+    let at = At {
+        arena,
+        header,
+        point,
+        shape: path.shape,
+    };
+    let found = match effect(code, at, instruction) {
         Ok(found) => found,
         Err(EffectError::Flaw(flaw)) => return Err(Refusal::Flaw { flaw, unit, point }),
         Err(EffectError::TooTall(point)) => {

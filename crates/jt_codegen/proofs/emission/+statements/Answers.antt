@@ -53,18 +53,16 @@ emit_statement-returns-in_ok-put-in-PutPooled t c = λ ts h s.
     emits_as h c.args.code.now c.put.new.self (stmt_view ts c.args.statement.now) (λ b. slots.stmt (slots.put_pooled i) b) (λ b. ap (λ x. stmt_view ts x b) c.in-PutPooled.is ∙ view-PutPooled ts i b)
     (emits_one h c.args.code.now c.put.new.self (slots.put_pooled i) (c.in_ok-put-in-PutPooled.ensures None (op.Data i) c.data_of.ensures))
 
-pub emit_statement-returns-in_ok-put-in-Print : goal.emit_statement-returns-in_ok-put-in-Print
-emit_statement-returns-in_ok-put-in-Print t c = λ ts h s.
+pub emit_statement-returns-in-Print : goal.emit_statement-returns-in-Print
+emit_statement-returns-in-Print t c =
     let v = c.in-Print in
-    let p = place_view ts v.field-0 in
-    let o = Some p in
-    let last = op.Emit (flag v.escaping) in
-    let form = slots.print p v.escaping (expr_view v.expr) in
     let c0 = c.args.code.now in
-    let c1 = c.emit_expression.new.code in
-    let c2 = c.put-in-Print.new.self in
-    emits_as h c0 c2 (stmt_view ts c.args.statement.now) (λ b. slots.stmt form b) (λ b. ap (λ x. stmt_view ts x b) v.is ∙ view-Print ts v.field-0 v.escaping v.expr b)
-    (emits_one h c0 c2 form (puts_then c0 c1 c2 (expr_asm o (expr_view v.expr) h) (one o last) (c.in_ok-emit_expression-in-Print.ensures o h s) (c.in_ok-put-in-Print.ensures o last (ap op.Emit c.flag-printed.ensures))))
+    let c1 = c.emit_printed.new.code in
+    IfOk-weaker c.emit_printed.result _ _ (λ u g. λ ts h s.
+    let p = place_view ts v.field-0 in
+    let form = slots.print p v.escaping (expr_view v.expr) in
+    emits_as h c0 c1 (stmt_view ts c.args.statement.now) (λ b. slots.stmt form b) (λ b. ap (λ x. stmt_view ts x b) v.is ∙ view-Print ts v.field-0 v.escaping v.expr b)
+    (emits_one h c0 c1 form (g p h s))) c.emit_printed.ensures
 
 pub emit_statement-returns-in_ok-emit_targets-in-Assign : goal.emit_statement-returns-in_ok-emit_targets-in-Assign
 emit_statement-returns-in_ok-emit_targets-in-Assign t c = λ ts h s.
@@ -73,7 +71,7 @@ emit_statement-returns-in_ok-emit_targets-in-Assign t c = λ ts h s.
     let o = Some p in
     let form = slots.assign p (targets_view v.targets) (expr_view v.expr) in
     let c0 = c.args.code.now in
-    let c1 = c.emit_expression-in-Assign.new.code in
+    let c1 = c.emit_expression.new.code in
     let c2 = c.emit_targets.new.code in
     emits_as h c0 c2 (stmt_view ts c.args.statement.now) (λ b. slots.stmt form b) (λ b. ap (λ x. stmt_view ts x b) v.is ∙ view-Assign ts v.field-0 v.targets v.expr b)
     (emits_one h c0 c2 form (puts_then c0 c1 c2 (expr_asm o (expr_view v.expr) h) (take_asm o (targets_view v.targets)) (c.in_ok-emit_expression-in-Assign.ensures o h s) (c.in_ok-emit_targets-in-Assign.ensures o)))

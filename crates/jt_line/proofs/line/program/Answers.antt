@@ -10,13 +10,15 @@ top a = record a {
 
 pub returns : goal.returns
 returns c =
-    let base : app_of c.subcommand_required.result ≡ top (new_app (codes "jt")) = search rules in
-    let first = c.in_ok-subcommand.ensures.shape c.in_ok-compile.ensures.1
-    ∙ ap₂ with_subcommand base (ap (λ (a : App). a.top) c.in_ok-compile.ensures.0) in
-    let second = c.in_ok-subcommand-2.ensures.shape c.in_ok-check.ensures.1
-    ∙ ap₂ with_subcommand first (ap (λ (a : App). a.top) c.in_ok-check.ensures.0) in
-    let third = c.in_ok-subcommand-3.ensures.shape c.in_ok-run.ensures.1
-    ∙ ap₂ with_subcommand second (ap (λ (a : App). a.top) c.in_ok-run.ensures.0) in
-    IfOk-weaker c.subcommand-4.result _ _
-    (λ r h. h.shape c.in_ok-render.ensures.1 ∙ ap₂ with_subcommand third (ap (λ (a : App). a.top) c.in_ok-render.ensures.0))
-    c.subcommand-4.ensures
+    let base : app_of c.subcommand_required-program.result ≡ top (new_app (codes "jt")) = search rules in
+    let first = c.in_ok-program.ensures.shape c.in_ok-compile_command.ensures.1
+    ∙ ap₂ with_subcommand base (ap (λ (a : App). a.top) c.in_ok-compile_command.ensures.0) in
+    let second = c.in_ok-program-2.ensures.shape c.in_ok-check_command.ensures.1
+    ∙ ap₂ with_subcommand first (ap (λ (a : App). a.top) c.in_ok-check_command.ensures.0) in
+    let third = c.in_ok-program-3.ensures.shape c.in_ok-run_command.ensures.1
+    ∙ ap₂ with_subcommand second (ap (λ (a : App). a.top) c.in_ok-run_command.ensures.0) in
+    let fourth = c.in_ok-program-4.ensures.shape c.in_ok-render_command.ensures.1
+    ∙ ap₂ with_subcommand third (ap (λ (a : App). a.top) c.in_ok-render_command.ensures.0) in
+    IfOk-weaker c.subcommand-5.result _ _
+    (λ r h. h.shape c.in_ok-turns_command.ensures.1 ∙ ap₂ with_subcommand fourth (ap (λ (a : App). a.top) c.in_ok-turns_command.ensures.0))
+    c.subcommand-5.ensures

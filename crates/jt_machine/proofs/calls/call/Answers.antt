@@ -9,7 +9,8 @@ use Rattle.jt_image.specs.Config.{Config}
 use Rattle.jt_image.specs.Step.{entered, locals_of}
 use Rattle.jt_image.specs.Run.{Next, Goes, Ends}
 use Rattle.jt_machine.specs.Parts.{enter, call_section}
-use Rattle.jt_machine.specs.View.{config_view, entries_view, values_view, limit_view}
+use Rattle.jt_machine.specs.Entries.{values_view}
+use Rattle.jt_machine.specs.View.{config_view, limit_view}
 use Rattle.jt_machine.proofs.Taking.{called_is, call_values, call_gives, not_entered, has_entered, section_at, taken_count}
 use Rattle.jt_machine.proofs.calls.call.Goals as goal
 
@@ -26,21 +27,21 @@ returns-in-Some-pay g c =
     let k = g.C.Code.code c.args.code.now in
     let x = called_is (slice_get k.units c.args.unit) c.in-Some.header c.in-Some.ensures in
     let n : c.from.result ≡ x.0.parameters = c.from.ensures ∙ ap (λ (h : UnitHeader). h.parameters) x.2 in
-    let taken = rw n at c.in_ok-arguments.ensures in
+    let taken = rw n at c.in_ok-arguments.ensures.taken in
     ap (λ (o : Option Section). call_section c.args.unit o (config_view c.args.state.now)) x.1
-    ∙ call_gives c.args.unit x.0 (config_view c.args.state.now) (map view c.in_ok-arguments.arguments.items) (entries_view c.take_values.new.entries.items) taken
-    ∙ c.in-Some-pay.ensures.rest (λ e. enter e (λ f. Goes (record f { machine = entered c.args.unit x.0 (map view c.in_ok-arguments.arguments.items) f.machine.state.entries f.machine })))
+    ∙ call_gives c.args.unit x.0 (config_view c.args.state.now) (map view c.in_ok-arguments.arguments.items) c.take_values.new.stack.running taken
+    ∙ (rw c.in_ok-arguments.ensures.callers at (c.in-Some-pay.ensures.rest (λ e. enter e (λ f. Goes (record f { machine = entered c.args.unit x.0 (map view c.in_ok-arguments.arguments.items) f.machine.state.entries f.machine })))))
 
 pub returns-in-Err : goal.returns-in-Err
 returns-in-Err g c =
     let k = g.C.Code.code c.args.code.now in
     let x = called_is (slice_get k.units c.args.unit) c.in-Some.header c.in-Some.ensures in
     let n : c.from.result ≡ x.0.parameters = c.from.ensures ∙ ap (λ (h : UnitHeader). h.parameters) x.2 in
-    let taken = rw n at c.in_ok-arguments.ensures in
+    let taken = rw n at c.in_ok-arguments.ensures.taken in
     let go : Config → Next = λ f. Goes (record f { machine = entered c.args.unit x.0 (map view c.in_ok-arguments.arguments.items) f.machine.state.entries f.machine }) in
     ap (λ (o : Option Section). call_section c.args.unit o (config_view c.args.state.now)) x.1
-    ∙ call_gives c.args.unit x.0 (config_view c.args.state.now) (map view c.in_ok-arguments.arguments.items) (entries_view c.take_values.new.entries.items) taken
-    ∙ c.in_default-pay.ensures.rest (λ e. enter e go)
+    ∙ call_gives c.args.unit x.0 (config_view c.args.state.now) (map view c.in_ok-arguments.arguments.items) c.take_values.new.stack.running taken
+    ∙ (rw c.in_ok-arguments.ensures.callers at (c.in_default-pay.ensures.rest (λ e. enter e go)))
     ∙ not_entered (config_view c.pay.new.state) go c.in-Err.ensures.err.1
     ∙ ap (λ s. Ends (config.spent (limit_view s))) (sym c.in-Err.ensures.err.0)
 
@@ -49,8 +50,8 @@ locals_with-requires g c =
     let k = g.C.Code.code c.args.code.now in
     let x = called_is (slice_get k.units c.args.unit) c.in-Some.header c.in-Some.ensures in
     let n : c.from.result ≡ x.0.parameters = c.from.ensures ∙ ap (λ (h : UnitHeader). h.parameters) x.2 in
-    let taken = rw n at c.in_ok-arguments.ensures in
-    let many = taken_count x.0.parameters [] (entries_view c.args.state.now.entries.items) (map view c.in_ok-arguments.arguments.items) (entries_view c.take_values.new.entries.items) taken in
+    let taken = rw n at c.in_ok-arguments.ensures.taken in
+    let many = taken_count x.0.parameters [] c.args.state.now.stack.running (map view c.in_ok-arguments.arguments.items) c.take_values.new.stack.running taken in
     let section = section_at k.units c.args.unit x.0 c.requires.whole.units x.1 in
     omega (arith, many, section.within, length-map c.in_ok-arguments.arguments.items view, ap (λ (h : UnitHeader). h.locals) x.2)
 
@@ -59,13 +60,13 @@ returns g c =
     let k = g.C.Code.code c.args.code.now in
     let x = called_is (slice_get k.units c.args.unit) c.in-Some.header c.in-Some.ensures in
     let n : c.from.result ≡ x.0.parameters = c.from.ensures ∙ ap (λ (h : UnitHeader). h.parameters) x.2 in
-    let taken = rw n at c.in_ok-arguments.ensures in
+    let taken = rw n at c.in_ok-arguments.ensures.taken in
     let us = map view c.in_ok-arguments.arguments.items in
     let go : Config → Next = λ f. Goes (record f { machine = entered c.args.unit x.0 us f.machine.state.entries f.machine }) in
     let m : c.in-Some.header.locals ≡ x.0.locals = ap (λ (h : UnitHeader). h.locals) x.2 in
     let locals : values_view c.in_ok-locals.locals.items ≡ locals_of x.0.locals us = c.in_ok-locals.ensures ∙ ap (λ (z : ℕ). locals_of z us) m in
     let e = ap (λ (o : Option Section). call_section c.args.unit o (config_view c.args.state.now)) x.1
-    ∙ call_gives c.args.unit x.0 (config_view c.args.state.now) us (entries_view c.take_values.new.entries.items) taken
-    ∙ c.in_default-pay.ensures.rest (λ e. enter e go)
+    ∙ call_gives c.args.unit x.0 (config_view c.args.state.now) us c.take_values.new.stack.running taken
+    ∙ (rw c.in_ok-arguments.ensures.callers at (c.in_default-pay.ensures.rest (λ e. enter e go)))
     ∙ has_entered (config_view c.pay.new.state) go c.in_default-enter.ensures.ok.0 in
-    rw (c.in_ok-push_caller.ensures, c.replace.ensures.value, c.replace.ensures.after, c.replace-2.ensures.value, c.replace-2.ensures.after, c.new.ensures.items, locals, c.in_default-enter.ensures.ok.1) e
+    rw (c.in_ok-enter.ensures, c.replace-around.ensures.value, c.replace-around.ensures.after, locals, c.in_default-enter.ensures.ok.1) e

@@ -4,7 +4,7 @@ use Rattle.std.proofs.lemmas.List.{length-map}
 use Rattle.jt_value.specs.Tree as tree
 use Rattle.jt_value.specs.Tree.{Tree}
 use Rattle.jt_value.specs.View.{view}
-use Rattle.jt_machine.specs.View.{values_view}
+use Rattle.jt_machine.specs.Entries.{values_view}
 use Rattle.jt_machine.proofs.Steps.{locals_full}
 use Rattle.jt_machine.proofs.calls.locals_with.Goals as goal
 

@@ -4,28 +4,29 @@ use Rattle.jt_image.specs.Config.{Entry, frame}
 use Rattle.jt_image.specs.Loops.{told}
 use Rattle.jt_machine.specs.declared.state.State.{State}
 use Rattle.jt_machine.specs.Parts.{step_on, push, answering, get_field}
-use Rattle.jt_machine.specs.View.{config_view, entries_view, frame_view}
+use Rattle.jt_machine.specs.Entries.{frame_view}
+use Rattle.jt_machine.specs.View.{config_view}
 use Rattle.jt_machine.proofs.Steps.{framed_is}
 use Rattle.jt_machine.proofs.loops.get_field.Goals as goal
 
 pub returns-in-Some-pay : goal.returns-in-Some-pay
 returns-in-Some-pay c =
     let here = rw (← c.in-Some.ensures) at c.requires.not_wrong in
-    let x = framed_is (slice_get (entries_view c.args.state.now.entries.items) c.args.above) _ here in
+    let x = framed_is (slice_get c.args.state.now.stack.running c.args.above) _ here in
     rw (← c.in-Some.ensures, x.1) (c.in-Some-pay.ensures.rest (λ d. answering (told c.in-Some.field x.0) (λ t. push t d step_on)))
 
 pub frame_at-requires : goal.frame_at-requires
 frame_at-requires c =
     let here = rw (← c.in-Some.ensures) at c.requires.not_wrong in
-    let x = framed_is (slice_get (entries_view c.args.state.now.entries.items) c.args.above) _ here in
-    let same : entries_view c.pay.new.state.entries.items ≡ entries_view c.args.state.now.entries.items = ap (λ (s : State). entries_view s.entries.items) c.in_default-pay.ensures.same in
-    record { found = x.0; is = rw c.deref.ensures.value (ap (λ (es : List Entry). slice_get es c.args.above) same ∙ x.1) }
+    let x = framed_is (slice_get c.args.state.now.stack.running c.args.above) _ here in
+    let same : c.pay.new.state.stack.running ≡ c.args.state.now.stack.running = ap (λ (s : State). s.stack.running) c.in_default-pay.ensures.same in
+    record { found = x.0; is = ap (λ (es : List Entry). slice_get es c.args.above) same ∙ x.1 }
 
 pub returns : goal.returns
 returns c =
-    let same : entries_view c.pay.new.state.entries.items ≡ entries_view c.args.state.now.entries.items = ap (λ (s : State). entries_view s.entries.items) c.in_default-pay.ensures.same in
-    let there : slice_get (entries_view c.pay.new.state.entries.items) c.args.above ≡ Some (frame (frame_view c.frame_at.result.now)) = rw c.deref.ensures.value at c.frame_at.ensures in
-    let found : slice_get (entries_view c.args.state.now.entries.items) c.args.above ≡ Some (frame (frame_view c.frame_at.result.now)) = ap (λ (es : List Entry). slice_get es c.args.above) (sym same) ∙ there in
+    let same : c.pay.new.state.stack.running ≡ c.args.state.now.stack.running = ap (λ (s : State). s.stack.running) c.in_default-pay.ensures.same in
+    let there : slice_get (c.pay.new.state.stack.running) c.args.above ≡ Some (frame (frame_view c.frame_at.result.now)) = c.frame_at.ensures in
+    let found : slice_get c.args.state.now.stack.running c.args.above ≡ Some (frame (frame_view c.frame_at.result.now)) = ap (λ (es : List Entry). slice_get es c.args.above) (sym same) ∙ there in
     let e : get_field c.args.field c.args.above (config_view c.args.state.now) ≡ answering (told c.in-Some.field (frame_view c.frame_at.result.now)) (λ t. push t (config_view c.pay.new.state) step_on) =
     rw (← c.in-Some.ensures, found) (c.in_default-pay.ensures.rest (λ d. answering (told c.in-Some.field (frame_view c.frame_at.result.now)) (λ t. push t d step_on))) in
     rw e (c.push_told.ensures (told c.in-Some.field (frame_view c.frame_at.result.now)) c.told-answer.ensures)

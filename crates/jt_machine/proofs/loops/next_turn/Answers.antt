@@ -4,7 +4,7 @@ use Rattle.jt_image.specs.Config.{Frame, Entry, frame}
 use Rattle.jt_image.specs.Loops.{advanced}
 use Rattle.jt_machine.specs.declared.state.State.{State}
 use Rattle.jt_machine.specs.Parts.{step_on, next_turn}
-use Rattle.jt_machine.specs.View.{config_view, entries_view}
+use Rattle.jt_machine.specs.View.{config_view}
 use Rattle.jt_machine.proofs.Steps.{turn_frame, turned, turn_is}
 use Rattle.jt_machine.proofs.loops.next_turn.Goals as goal
 
@@ -18,23 +18,24 @@ returns-in-Some c =
 pub take_turn-requires : goal.take_turn-requires
 take_turn-requires c =
     let x = turn_frame c.args.target (config_view c.args.state.now) c.requires.not_wrong in
-    let same : entries_view c.pay.new.state.entries.items ≡ entries_view c.args.state.now.entries.items = ap (λ (s : State). entries_view s.entries.items) c.in_default.ensures.same in
+    let same : c.pay.new.state.stack.running ≡ c.args.state.now.stack.running = ap (λ (s : State). s.stack.running) c.in_default.ensures.same in
     record { top = x.top; rest = x.rest; is = same ∙ x.is }
 
 pub returns-then-take_turn : goal.returns-then-take_turn
 returns-then-take_turn c =
     let x = turn_frame c.args.target (config_view c.args.state.now) c.requires.not_wrong in
-    let same : entries_view c.pay.new.state.entries.items ≡ entries_view c.args.state.now.entries.items = ap (λ (s : State). entries_view s.entries.items) c.in_default.ensures.same in
-    let h = c.take_turn.ensures x.top x.rest (same ∙ x.is) in
+    let same : c.pay.new.state.stack.running ≡ c.args.state.now.stack.running = ap (λ (s : State). s.stack.running) c.in_default.ensures.same in
+    let h = c.take_turn.ensures.turned x.top x.rest (same ∙ x.is) in
     let t = rw c.if-take_turn.true at h in
-    let e : next_turn c.args.target (config_view c.args.state.now) ≡ turned true c.args.target (entries_view c.take_turn.new.entries.items) (config_view c.pay.new.state) =
-    turn_is c.args.target (config_view c.args.state.now) x.top x.rest (entries_view c.take_turn.new.entries.items) true x.is t.left t.entries ∙ c.in_default.ensures.rest (turned true c.args.target (entries_view c.take_turn.new.entries.items)) in
-    rw e c.step_on.ensures
+    let e : next_turn c.args.target (config_view c.args.state.now) ≡ turned true c.args.target c.take_turn.new.self.running (config_view c.pay.new.state) =
+    turn_is c.args.target (config_view c.args.state.now) x.top x.rest c.take_turn.new.self.running true x.is t.left t.entries ∙ c.in_default.ensures.rest (turned true c.args.target c.take_turn.new.self.running) in
+    let on = rw c.take_turn.ensures.callers at c.step_on.ensures in
+    rw e on
 
 pub returns : goal.returns
 returns c =
     let x = turn_frame c.args.target (config_view c.args.state.now) c.requires.not_wrong in
-    let same : entries_view c.pay.new.state.entries.items ≡ entries_view c.args.state.now.entries.items = ap (λ (s : State). entries_view s.entries.items) c.in_default.ensures.same in
-    let h = c.take_turn.ensures x.top x.rest (same ∙ x.is) in
+    let same : c.pay.new.state.stack.running ≡ c.args.state.now.stack.running = ap (λ (s : State). s.stack.running) c.in_default.ensures.same in
+    let h = c.take_turn.ensures.turned x.top x.rest (same ∙ x.is) in
     let t = rw c.if-take_turn.false at h in
-    turn_is c.args.target (config_view c.args.state.now) x.top x.rest (entries_view c.take_turn.new.entries.items) false x.is t.left t.entries ∙ c.in_default.ensures.rest (turned false c.args.target (entries_view c.take_turn.new.entries.items))
+    rw c.take_turn.ensures.callers (turn_is c.args.target (config_view c.args.state.now) x.top x.rest c.take_turn.new.self.running false x.is t.left t.entries ∙ c.in_default.ensures.rest (turned false c.args.target c.take_turn.new.self.running))

@@ -2,7 +2,8 @@ use Rattle.std.proofs.Common.{◌≡◌}
 use Rattle.jt_image.specs.Config.{frame}
 use Rattle.jt_image.specs.Loops.{loop_over}
 use Rattle.jt_machine.specs.Parts.{step_on, with_entry, rewind}
-use Rattle.jt_machine.specs.View.{config_view, values_view}
+use Rattle.jt_machine.specs.Entries.{values_view}
+use Rattle.jt_machine.specs.View.{config_view}
 use Rattle.jt_machine.proofs.loops.rewind.Goals as goal
 
 pub returns-in-Some : goal.returns-in-Some
@@ -12,4 +13,5 @@ pub returns : goal.returns
 returns c =
     let e : rewind (config_view c.args.state.now) ≡ step_on (with_entry (frame (loop_over (values_view c.pop_frame-frame.result.kept.items))) (config_view c.pay.new.state)) =
     rw c.pop_frame-frame.ensures (c.in_default.ensures.rest (λ e. step_on (with_entry (frame (loop_over (values_view c.pop_frame-frame.result.kept.items))) e))) in
-    rw (e, ← c.loop_of.ensures, ← c.in_ok-push_entry.ensures) c.step_on.ensures
+    let on = rw (c.in_ok-push.ensures, c.in_ok-loop_of.ensures) at c.step_on.ensures in
+    rw e on

@@ -2,8 +2,8 @@ use Rattle.std.proofs.Common.{◌≡◌, ◌+◌, ◌<◌, ◌^◌, ◌∙◌, s
 use Rattle.jt_image.specs.Config.{Config}
 use Rattle.jt_image.specs.Run.{next, after, Goes, Ends}
 use Rattle.jt_image.specs.Laws.{IsSound}
-use Rattle.jt_machine.specs.View.{config_view, outcome_view, next_view}
-use Rattle.jt_machine.proofs.Steps.{callers_len, reached_sound, reached_next}
+use Rattle.jt_machine.specs.View.{config_view, outcome_view}
+use Rattle.jt_machine.proofs.Steps.{reached_sound, reached_next}
 use Rattle.jt_machine.proofs.Slicing.{reached_on, one_more, all_made, ended_within}
 use Rattle.jt_machine.proofs.machine.take_steps.Goals as goal
 

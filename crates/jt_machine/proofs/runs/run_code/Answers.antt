@@ -1,13 +1,10 @@
-use Rattle.std.specs.Prelude.{Vec}
-use Rattle.std.specs.declared.alloc.Global.{Global}
-use Rattle.std.proofs.Common.{◌≡◌, ◌∙◌, sym, refl, ap, None, length, arith}
+use Rattle.std.proofs.Common.{◌≡◌, ◌∙◌, sym, refl, ap, None, List, length, arith}
 use Rattle.jt_value.specs.ContextView.{pairs_of}
-use Rattle.jt_image.specs.Config.{Config}
+use Rattle.jt_image.specs.Config.{Caller, Config}
 use Rattle.jt_image.specs.Run.{next, Goes, Ends, passed}
-use Rattle.jt_machine.specs.declared.state.Caller.{Caller}
 use Rattle.jt_machine.specs.View.{budget_view, config_view, outcome_view}
 use Rattle.jt_machine.proofs.AtOnce.{reached_gone, ending_gone}
-use Rattle.jt_machine.proofs.Steps.{callers_len, ending_now, ending_back, reached_next, reached_sound}
+use Rattle.jt_machine.proofs.Steps.{ending_now, ending_back, reached_next, reached_sound}
 use Rattle.jt_machine.proofs.runs.run_code.Goals as goal
 
 pub steps-init : goal.steps-init
@@ -15,7 +12,7 @@ steps-init g c =
     record {
       reached = (0, ap Goes (sym c.in_ok-state.ensures));
       same = λ o e. rw c.in_ok-state.ensures at e;
-      depth = omega (arith, ap (λ (x : Config). x.left.depth) c.in_ok-state.ensures, ap (λ (x : Config). length x.machine.callers) c.in_ok-state.ensures, callers_len c.in_ok-state.state.callers.items);
+      depth = omega (arith, ap (λ (x : Config). x.left.depth) c.in_ok-state.ensures, ap (λ (x : Config). length x.machine.callers) c.in_ok-state.ensures);
     }
 
 pub step-requires-clause-not_wrong : goal.step-requires-clause-not_wrong
@@ -37,7 +34,7 @@ step-requires-clause-few g c =
     (reached_sound c.code_laws.ensures k c.requires.whole c.requires.typed (pairs_of c.args.context.now) (budget_view c.args.budget) (config_view c.hurry.new.state) r).few
 
 pub step-requires-clause-depth : goal.step-requires-clause-depth
-step-requires-clause-depth g c = omega (arith, c.steps.invariant.depth, c.hurry.ensures.depth, ap (λ (waiting : Vec Caller Global). length waiting.items) c.hurry.ensures.callers)
+step-requires-clause-depth g c = omega (arith, c.steps.invariant.depth, c.hurry.ensures.depth, ap (λ (waiting : List Caller). length waiting) c.hurry.ensures.callers)
 
 pub steps-preserved : goal.steps-preserved
 steps-preserved g c =
@@ -47,7 +44,7 @@ steps-preserved g c =
     record {
       reached = reached_next k (pairs_of c.args.context.now) (budget_view c.args.budget) (config_view c.hurry.new.state) (config_view c.step.new.state) r e;
       same = λ o r. c.steps.invariant.same o (ending_gone k c.steps.state c.hurry.new.state o c.hurry.ensures (ending_back k (config_view c.hurry.new.state) (config_view c.step.new.state) o e r));
-      depth = omega (arith, c.steps.invariant.depth, c.hurry.ensures.depth, ap (λ (waiting : Vec Caller Global). length waiting.items) c.hurry.ensures.callers, callers_len c.hurry.new.state.callers.items, callers_len c.step.new.state.callers.items, (reached_sound c.code_laws.ensures k c.requires.whole c.requires.typed (pairs_of c.args.context.now) (budget_view c.args.budget) (config_view c.hurry.new.state) r).depth (config_view c.step.new.state) e);
+      depth = omega (arith, c.steps.invariant.depth, c.hurry.ensures.depth, ap (λ (waiting : List Caller). length waiting) c.hurry.ensures.callers, (reached_sound c.code_laws.ensures k c.requires.whole c.requires.typed (pairs_of c.args.context.now) (budget_view c.args.budget) (config_view c.hurry.new.state) r).depth (config_view c.step.new.state) e);
     }
 
 pub steps-smaller : goal.steps-smaller

@@ -4,4 +4,4 @@ use Rattle.jt_machine.proofs.Steps.{no_locals}
 use Rattle.jt_machine.proofs.start.start.Goals as goal
 
 pub returns : goal.returns
-returns g c = rw (c.in_ok-locals.ensures, c.in_ok-globals.ensures, c.new.ensures.items, c.new-2.ensures.bytes, c.new-3.ensures.items, c.new-4.ensures.items, c.entry_locals.ensures, no_locals (entry_locals (g.C.Code.code c.args.code.now).units)) refl
+returns g c = rw (c.in_ok-locals.ensures, c.in_ok-globals.ensures, c.new.ensures.running, c.new.ensures.callers, c.new-2.ensures.bytes, c.new-3.ensures.items, c.entry_locals.ensures, no_locals (entry_locals (g.C.Code.code c.args.code.now).units)) refl

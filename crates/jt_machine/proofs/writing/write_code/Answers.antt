@@ -5,7 +5,6 @@ use Rattle.jt_image.specs.Config.{Config}
 use Rattle.jt_image.specs.Run.{next, start, Goes, Ends, passed, IsSafe}
 use Rattle.jt_machine.specs.Emitting.{emitted_by}
 use Rattle.jt_machine.specs.View.{budget_view, config_view, outcome_view}
-use Rattle.jt_machine.proofs.Steps.{callers_len}
 use Rattle.jt_machine.proofs.Pieces.{nothing_yet, was_sent, went_on, whole_run, cut_short, text_is, on_err}
 use Rattle.jt_machine.proofs.writing.write_code.Goals as goal
 
@@ -17,7 +16,7 @@ steps-init g c =
     record {
       so_far = nothing_yet k x b (g.W.Sink.taken c.args.sink.now) (config_view c.in_ok-state.state) c.in_ok-state.ensures;
       works = c.requires.works;
-      depth = omega (arith, ap (λ (y : Config). y.left.depth) c.in_ok-state.ensures, ap (λ (y : Config). length y.machine.callers) c.in_ok-state.ensures, callers_len c.in_ok-state.state.callers.items);
+      depth = omega (arith, ap (λ (y : Config). y.left.depth) c.in_ok-state.ensures, ap (λ (y : Config). length y.machine.callers) c.in_ok-state.ensures);
     }
 
 pub step-requires-clause-not_wrong : goal.step-requires-clause-not_wrong
@@ -30,7 +29,7 @@ pub step-requires-clause-few : goal.step-requires-clause-few
 step-requires-clause-few g c = (was_sent c.code_laws.ensures (g.C.Code.code c.args.code.now) c.requires.whole c.requires.typed (pairs_of c.args.context.now) (budget_view c.args.budget) (g.W.Sink.taken c.args.sink.now) (g.W.Sink.taken c.steps.sink) (g.W.Sink.taken c.send.new.sink) (config_view c.steps.state) (config_view c.send.new.state) tt c.steps.invariant.so_far c.in_ok-send.ensures.all c.in_ok-send.ensures.emptied).sound.few
 
 pub step-requires-clause-depth : goal.step-requires-clause-depth
-step-requires-clause-depth g c = omega (arith, c.steps.invariant.depth, ap (λ (y : Config). y.left.depth) c.in_ok-send.ensures.emptied, ap (λ (y : Config). length y.machine.callers) c.in_ok-send.ensures.emptied, callers_len c.steps.state.callers.items, callers_len c.send.new.state.callers.items)
+step-requires-clause-depth g c = omega (arith, c.steps.invariant.depth, ap (λ (y : Config). y.left.depth) c.in_ok-send.ensures.emptied, ap (λ (y : Config). length y.machine.callers) c.in_ok-send.ensures.emptied)
 
 pub steps-preserved : goal.steps-preserved
 steps-preserved g c =
@@ -42,7 +41,7 @@ steps-preserved g c =
     record {
       so_far = went_on k x b (g.W.Sink.taken c.args.sink.now) (g.W.Sink.taken c.send.new.sink) (config_view c.send.new.state) (config_view c.step.new.state) tt s.so_far e;
       works = c.in_ok-send.ensures.works;
-      depth = omega (arith, c.steps.invariant.depth, ap (λ (y : Config). y.left.depth) c.in_ok-send.ensures.emptied, ap (λ (y : Config). length y.machine.callers) c.in_ok-send.ensures.emptied, callers_len c.steps.state.callers.items, callers_len c.send.new.state.callers.items, callers_len c.step.new.state.callers.items, s.sound.depth (config_view c.step.new.state) e);
+      depth = omega (arith, c.steps.invariant.depth, ap (λ (y : Config). y.left.depth) c.in_ok-send.ensures.emptied, ap (λ (y : Config). length y.machine.callers) c.in_ok-send.ensures.emptied, s.sound.depth (config_view c.step.new.state) e);
     }
 
 pub steps-smaller : goal.steps-smaller

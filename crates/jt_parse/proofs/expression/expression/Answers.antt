@@ -1,11 +1,16 @@
-use Rattle.std.proofs.Common.{map, subst, sym}
+use Rattle.std.proofs.Common.{map, subst, sym, Err}
 use Rattle.jt_scan.specs.View.{token_view}
-use Rattle.jt_expr.specs.Reading.{parsed}
-use Rattle.jt_parse.specs.Gives.{Refuses}
-use Rattle.jt_parse.proofs.Answers.{refused_at}
+use Rattle.jt_expr.specs.Trees.{levels}
+use Rattle.jt_expr.specs.Grammar.{Spells, whole}
+use Rattle.jt_expr.specs.View.{expr_view}
+use Rattle.jt_parse.specs.Gives.{GivesOnly}
+use Rattle.jt_parse.proofs.Expressions.{expression_refused}
 use Rattle.jt_parse.proofs.expression.expression.Goals as goal
+
+pub returns-in-Ok : goal.returns-in-Ok
+returns-in-Ok c = (c.in-Ok.ensures.spelled.0, c.in-Ok.ensures.spelled.1, c.in-Ok.ensures.alone)
 
 pub returns-in-Err : goal.returns-in-Err
 returns-in-Err c =
-    subst (Refuses (parsed c.args.levels (map token_view c.args.tokens.now))) (sym c.refused.ensures)
-    (refused_at _ c.args.line c.in-Err.refusal c.in-Err.ensures.reads)
+    subst (λ x. GivesOnly expr_view (λ e. Spells whole e (map token_view c.args.tokens.now)) levels c.args.levels (Err x)) (sym c.refused.ensures)
+    (expression_refused c.args.levels c.args.line (map token_view c.args.tokens.now) c.in-Err.refusal c.in-Err.ensures.syntax c.in-Err.ensures.deep c.in-Err.ensures.others.0 c.in-Err.ensures.others.1)

@@ -13,19 +13,16 @@ add_statements-loop-statement-preserved t c =
     let l = c.loop-statement in
     statement_added c.args.body.now l.statement-index c.statement-item.result (texts l.names.keys) (texts c.add_statement.new.names.keys) c.loop-statement-test.true c.statement-item.is c.in_ok-add_statement.ensures ∙ l.invariant
 
-pub add_statement-loop-condition-preserved : goal.add_statement-loop-condition-preserved
-add_statement-loop-condition-preserved t c =
+pub add_branches-loop-condition-preserved : goal.add_branches-loop-condition-preserved
+add_branches-loop-condition-preserved t c =
     let l = c.loop-condition in
     let b = c.loop-condition-item.result in
     let step =
-    c.in_ok-add_statements-in-If.ensures ∙ ap (λ z. all_inserted (body_names (parsed.body_view z)) (texts c.add_expression-in-loop-condition.new.names.keys)) c.deref.ensures.value
-    ∙ ap (all_inserted (body_names (parsed.body_view b.2.items))) c.in_ok-add_expression-in-If.ensures in
-    branch_added c.deref-condition-items.result.now l.condition-index b (texts l.names.keys) (texts c.add_statements.new.names.keys) c.loop-condition-test.true c.loop-condition-item.is step ∙ l.invariant
+    c.in_ok-add_statements.ensures ∙ ap (λ z. all_inserted (body_names (parsed.body_view z)) (texts c.add_expression.new.names.keys)) c.deref.ensures.value
+    ∙ ap (all_inserted (body_names (parsed.body_view b.2.items))) c.in_ok-add_expression.ensures in
+    branch_added c.args.branches.now l.condition-index b (texts l.names.keys) (texts c.add_statements.new.names.keys) c.loop-condition-test.true c.loop-condition-item.is step ∙ l.invariant
 
-pub add_statement-returns-in_ok-add_statements-in-If-2 : goal.add_statement-returns-in_ok-add_statements-in-If-2
-add_statement-returns-in_ok-add_statements-in-If-2 t c =
-    let l = c.loop-condition in
-    let bs = c.deref-condition-items.result.now in
-    let ended = at_drop_all (λ (z : List Branch). all_inserted (branch_names (parsed.branches_view z)) (texts l.names.keys)) bs l.condition-index (omega arith) in
-    choice_added c.args.statement.now c.in-If.branches c.in-If.other bs c.deref-in-If.result.now (texts c.args.names.now.keys) (texts l.names.keys) (texts c.add_statements-in-If.new.names.keys)
-    c.in-If.is c.deref-condition-items.ensures.value c.deref-in-If.ensures.value (sym ended ∙ l.invariant) c.in_ok-add_statements-in-If-2.ensures
+pub add_statement-returns-in_ok-add_statements-in-If : goal.add_statement-returns-in_ok-add_statements-in-If
+add_statement-returns-in_ok-add_statements-in-If t c =
+    choice_added c.args.statement.now c.in-If.branches c.in-If.other c.deref.result.now c.deref-in-If.result.now (texts c.args.names.now.keys) (texts c.add_branches.new.names.keys) (texts c.add_statements.new.names.keys)
+    c.in-If.is c.deref.ensures.value c.deref-in-If.ensures.value c.in_ok-add_branches-in-If.ensures c.in_ok-add_statements-in-If.ensures

@@ -1,4 +1,5 @@
 use Rattle.std.proofs.Common.{◌++◌, ap, ◌∙◌}
+use Rattle.std.proofs.lemmas.Result.{IfOk-weaker}
 use Rattle.jt_expr.specs.View.{expr_view, exprs_view, pairs_view}
 use Rattle.jt_inherit.specs.Uses.{expr_names, row_names, pair_names}
 use Rattle.jt_parse.specs.Texts.{all_inserted}
@@ -17,32 +18,17 @@ add_pairs-loop-value-preserved t c =
     let l = c.loop-value in
     entry_added c.args.pairs.now l.value-index c.loop-value-item.result (texts l.names.keys) (texts c.add_expression.new.names.keys) c.loop-value-test.true c.loop-value-item.is c.in_ok-add_expression.ensures ∙ l.invariant
 
-pub add_expression-returns-in_ok-add_expression-in-Item-2 : goal.add_expression-returns-in_ok-add_expression-in-Item-2
-add_expression-returns-in_ok-add_expression-in-Item-2 t c =
-    let a = c.deref-in-Item.result.now in
-    let b = c.deref-in-Item-2.result.now in
-    let old = texts c.args.names.now.keys in
-    both_inserted (expr_names (expr_view a)) (expr_names (expr_view b)) old (texts c.add_expression-in-Item.new.names.keys) (texts c.add_expression-in-Item-2.new.names.keys)
-    c.in_ok-add_expression-in-Item.ensures c.in_ok-add_expression-in-Item-2.ensures
-    ∙ ap (λ z. all_inserted (expr_names z) old) (shown_item c.args.expr.now a b c.in-Item.value c.in-Item.index c.in-Item.is c.deref-in-Item.ensures c.deref-in-Item-2.ensures)
+pub add_expression-returns-in-Item : goal.add_expression-returns-in-Item
+add_expression-returns-in-Item t c =
+    IfOk-weaker c.add_both.result _ _ (λ u g. g ∙ ap (λ z. all_inserted (expr_names z) (texts c.args.names.now.keys)) (shown_item c.args.expr.now c.deref-in-Item.result.now c.deref-in-Item-2.result.now c.in-Item.value c.in-Item.index c.in-Item.is c.deref-in-Item.ensures c.deref-in-Item-2.ensures)) c.add_both.ensures
 
-pub add_expression-returns-in_ok-add_expression-in-Binary-2 : goal.add_expression-returns-in_ok-add_expression-in-Binary-2
-add_expression-returns-in_ok-add_expression-in-Binary-2 t c =
-    let a = c.deref-in-Binary.result.now in
-    let b = c.deref-in-Binary-2.result.now in
-    let old = texts c.args.names.now.keys in
-    both_inserted (expr_names (expr_view a)) (expr_names (expr_view b)) old (texts c.add_expression-in-Binary.new.names.keys) (texts c.add_expression-in-Binary-2.new.names.keys)
-    c.in_ok-add_expression-in-Binary.ensures c.in_ok-add_expression-in-Binary-2.ensures
-    ∙ ap (λ z. all_inserted (expr_names z) old) (shown_binary c.args.expr.now a b c.in-Binary.field-0 c.in-Binary.left c.in-Binary.right c.in-Binary.is c.deref-in-Binary.ensures c.deref-in-Binary-2.ensures)
+pub add_expression-returns-in-Binary : goal.add_expression-returns-in-Binary
+add_expression-returns-in-Binary t c =
+    IfOk-weaker c.add_both-in-Binary.result _ _ (λ u g. g ∙ ap (λ z. all_inserted (expr_names z) (texts c.args.names.now.keys)) (shown_binary c.args.expr.now c.deref-in-Binary.result.now c.deref-in-Binary-2.result.now c.in-Binary.field-0 c.in-Binary.left c.in-Binary.right c.in-Binary.is c.deref-in-Binary.ensures c.deref-in-Binary-2.ensures)) c.add_both-in-Binary.ensures
 
-pub add_expression-returns-in_ok-add_expression-in-When-2 : goal.add_expression-returns-in_ok-add_expression-in-When-2
-add_expression-returns-in_ok-add_expression-in-When-2 t c =
-    let a = c.deref-in-When.result.now in
-    let b = c.deref-in-When-2.result.now in
-    let old = texts c.args.names.now.keys in
-    both_inserted (expr_names (expr_view a)) (expr_names (expr_view b)) old (texts c.add_expression-in-When.new.names.keys) (texts c.add_expression-in-When-2.new.names.keys)
-    c.in_ok-add_expression-in-When.ensures c.in_ok-add_expression-in-When-2.ensures
-    ∙ ap (λ z. all_inserted (expr_names z) old) (shown_when c.args.expr.now a b c.in-When.condition c.in-When.value c.in-When.is c.deref-in-When.ensures c.deref-in-When-2.ensures)
+pub add_expression-returns-in-When : goal.add_expression-returns-in-When
+add_expression-returns-in-When t c =
+    IfOk-weaker c.add_both-in-When.result _ _ (λ u g. g ∙ ap (λ z. all_inserted (expr_names z) (texts c.args.names.now.keys)) (shown_when c.args.expr.now c.deref-in-When.result.now c.deref-in-When-2.result.now c.in-When.condition c.in-When.value c.in-When.is c.deref-in-When.ensures c.deref-in-When-2.ensures)) c.add_both-in-When.ensures
 
 pub add_expression-returns-in_ok-add_expression-in-Choice-3 : goal.add_expression-returns-in_ok-add_expression-in-Choice-3
 add_expression-returns-in_ok-add_expression-in-Choice-3 t c =

@@ -1,9 +1,31 @@
-use Rattle.std.proofs.Common.{◌≡◌, drop}
+use Rattle.std.proofs.Common.{◌≡◌, ◌+◌, ◌*◌, drop}
+use Rattle.std.specs.Prelude.{max}
+use denote.Param.Weighed.{most}
+use Rattle.jt_expr.specs.declared.tree.Expr.{size-Expr}
 use Rattle.jt_uses.specs.Names.{texts}
 use Rattle.jt_expr.specs.View.{exprs_view, pairs_view}
 use Rattle.jt_inherit.specs.Uses as uses
 use Rattle.jt_parse.specs.Texts.{all_inserted}
 use Rattle.jt_uses.proofs.own.+gather.Given as goal
+
+-- ---- how deep the trees are that are left, and who hands its own on
+
+abbrev pub decreases-add_expression : goal.decreases-add_expression
+decreases-add_expression l = 2 * size-Expr l.expr.now
+
+abbrev pub decreases-add_both : goal.decreases-add_both
+decreases-add_both l = 2 * max (size-Expr l.first.now) (size-Expr l.second.now) + 1
+
+abbrev pub decreases-add_of_attribute : goal.decreases-add_of_attribute
+decreases-add_of_attribute l = 2 * size-Expr l.value.now + 1
+
+abbrev pub decreases-add_row : goal.decreases-add_row
+decreases-add_row l = 2 * most (λ x. size-Expr x) l.row.now + 1
+
+abbrev pub decreases-add_pairs : goal.decreases-add_pairs
+decreases-add_pairs l = 2 * most (λ x. size-Expr x.1) l.pairs.now + 1
+
+-- ---- what is left
 
 abbrev pub invariant-add_row-loop-expr : goal.invariant-add_row-loop-expr
 invariant-add_row-loop-expr l = all_inserted (uses.row_names (exprs_view (drop l.expr-index l.row))) (texts l.names.keys) ≡ all_inserted (uses.row_names (exprs_view l.row)) (texts l.initial.names.keys)

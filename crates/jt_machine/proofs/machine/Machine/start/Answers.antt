@@ -4,7 +4,6 @@ use Rattle.jt_image.specs.Code.{Code}
 use Rattle.jt_image.specs.Config.{Config}
 use Rattle.jt_image.specs.Run.{Goes, start}
 use Rattle.jt_machine.specs.View.{budget_view}
-use Rattle.jt_machine.proofs.Steps.{callers_len}
 use Rattle.jt_machine.proofs.Slicing.{runs_in_slices}
 use Rattle.jt_machine.proofs.machine.Machine.start.Goals as goal
 
@@ -26,5 +25,5 @@ invariant_of-result-in-Ok c =
       budget = b;
       steps = 0;
       reached = ap Goes (ap (λ (k : Code). start k x b) (sym c.image-2.ensures.image) ∙ sym c.in-Ok.ensures);
-      depth = omega (arith, ap (λ (y : Config). y.left.depth) c.in-Ok.ensures, ap (λ (y : Config). length y.machine.callers) c.in-Ok.ensures, callers_len c.in-Ok.state.callers.items);
+      depth = omega (arith, ap (λ (y : Config). y.left.depth) c.in-Ok.ensures, ap (λ (y : Config). length y.machine.callers) c.in-Ok.ensures);
     }

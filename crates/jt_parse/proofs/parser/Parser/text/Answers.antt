@@ -1,4 +1,4 @@
-use Rattle.std.proofs.Common.{◌≡◌, ◌<◌, length, ap, sym, ◌∙◌, arith, Ok}
+use Rattle.std.proofs.Common.{◌≡◌, ◌<◌, length, ap, ◌∙◌, arith}
 use Rattle.std.proofs.lemmas.Bool.Decides.{nat_tests}
 use Rattle.jt_parse.specs.Trees.{data_of}
 use Rattle.jt_parse.specs.Reading.{state, then_one}
@@ -14,5 +14,5 @@ pub returns : goal.returns
 returns c =
     let st = state_view c.args.self.now in
     let some : 0 < length c.args.text.now = grind (arith, nat_tests) in
-    text_some 100 st c.args.text.now c.utf8.text some
-    ∙ ap (λ b. Ok (state b st.frames)) (sym (c.in_ok-push_statement.ensures.pushed ∙ ap (then_one st.body) (view-Data c.in_ok-copy.copy ∙ ap data_of c.in_ok-copy.ensures)))
+    text_some 100 st _ c.args.text.now c.utf8.text some
+    (ap (λ b. state b st.frames) (c.in_ok-push_statement.ensures.pushed ∙ ap (then_one st.body) (view-Data c.in_ok-copy.copy ∙ ap data_of c.in_ok-copy.ensures)))

@@ -1,3 +1,0 @@
-mod Endings
-mod Gathering
-pub mod Taking

@@ -1,0 +1,18 @@
+use Rattle.std.proofs.Common.{◌≡◌, Some, codes, refl, rules, subst}
+use Rattle.std.proofs.lemmas.Result.{IfErr-weaker}
+use Rattle.clap.specs.Words.{found_of, rows_of, subcommand_rows_of}
+use Rattle.jt_line.specs.Line.{ArePaired, HasNumbers}
+use Rattle.jt_line.proofs.Found.{usage_weaker}
+use Rattle.jt_line.proofs.Pairing.{at_rows}
+use Rattle.jt_line.proofs.line.asked.Goals as goal
+
+pub render_job-requires-clause-numbers : goal.render_job-requires-clause-numbers
+render_job-requires-clause-numbers c = at_rows HasNumbers (subcommand_rows_of c.args.matches.now) _ c.in-Some-render-default.ensures.rows c.requires.numbers
+
+pub turns_job-requires-clause-numbers : goal.turns_job-requires-clause-numbers
+turns_job-requires-clause-numbers c = at_rows HasNumbers (subcommand_rows_of c.args.matches.now) _ c.in-Some-turns-default.ensures.rows c.requires.numbers
+
+pub returns-in-Some-turns-default-clause-err : goal.returns-in-Some-turns-default-clause-err
+returns-in-Some-turns-default-clause-err c =
+    let is : subcommand_rows_of c.args.matches.now ≡ Some (codes "turns", rows_of (found_of c.in-Some-turns-default.found.now)) = search rules in
+    IfErr-weaker c.turns_job.result _ _ (λ e h. usage_weaker _ _ e (λ unpaired paired. unpaired (subst ArePaired is paired refl)) h) c.turns_job.ensures.err

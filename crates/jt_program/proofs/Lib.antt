@@ -1,0 +1,4 @@
+mod Endings
+mod Gathering
+mod Starting
+pub mod Taking

@@ -1,0 +1,17 @@
+use Rattle.std.proofs.Common.{rules}
+use Rattle.clap.specs.Walk.{texts}
+use Rattle.clap.specs.Words.{subcommand_of}
+use Rattle.jt_line.specs.Line.{program_app}
+use Rattle.jt_program.specs.Commands.{Answers}
+use Rattle.jt_program.proofs.Endings.{line_ends}
+use Rattle.jt_program.proofs.program.done.Goals as goal
+
+pub returns-clause-ends : goal.returns-clause-ends
+returns-clause-ends g c =
+    let found = subcommand_of program_app (texts c.args.words.now) in
+    let answers : Answers (g.F.Files.known c.args.files.now) (g.F.Files.known c.carried_out.new.files) found c.carried_out.result = record {
+      job = c.in_ok-job.job;
+      asked = c.in_ok-job.ensures.asked;
+      ends = c.carried_out.ensures.ends;
+    } in
+    line_ends _ _ found c.carried_out.result answers

@@ -1,0 +1,27 @@
+use Rattle.std.proofs.Common.{◌≡◌, List, ℕ, rules, string_bytes, subst, sym}
+use Rattle.std.specs.Str.{IsUtf8}
+use Rattle.std.proofs.lemmas.Str.{IsUtf8-string_bytes}
+use Rattle.jt_program.specs.Files.{path_in}
+use Rattle.jt_program.specs.Templates.{source_of}
+use Rattle.jt_program.proofs.Gathering.{no_text_read, text_read}
+use Rattle.jt_program.proofs.program.read_into.Goals as goal
+
+pub returns-in_ok-insert-in-Ok-clause-read : goal.returns-in_ok-insert-in-Ok-clause-read
+returns-in_ok-insert-in-Ok-clause-read g c names each =
+    let files = g.F.Files.known c.args.files.now in
+    let source = string_bytes c.in-Ok.source in
+    let at : string_bytes c.in_ok-path.path ≡ path_in c.args.dir.now (string_bytes c.args.name) = c.in_ok-path.ensures.ok in
+    let same : source ≡ c.in_ok-bytes.bytes.items = search rules in
+    let valid : IsUtf8 source = IsUtf8-string_bytes c.in-Ok.source in
+    let held = subst (λ (p : List ℕ). files.holds p source) at (subst (files.holds (string_bytes c.in_ok-path.path)) (sym same) c.in_ok-bytes.ensures.held) in
+    text_read files c.args.dir.now names (source_of c.args.templates.now) (source_of c.insert.new.self) (string_bytes c.args.name) source held valid
+    c.in_ok-insert-in-Ok.ensures.taken c.in_ok-insert-in-Ok.ensures.others each
+
+pub returns-in-Err-clause-read : goal.returns-in-Err-clause-read
+returns-in-Err-clause-read g c names each =
+    let files = g.F.Files.known c.args.files.now in
+    let bytes = c.in_ok-bytes.bytes.items in
+    let at : string_bytes c.in_ok-path.path ≡ path_in c.args.dir.now (string_bytes c.args.name) = c.in_ok-path.ensures.ok in
+    let held = subst (λ (p : List ℕ). files.holds p bytes) at c.in_ok-bytes.ensures.held in
+    let bad : IsUtf8 bytes → ⊥ = search rules in
+    no_text_read files c.args.dir.now names (source_of c.args.templates.now) (string_bytes c.args.name) bytes held bad each

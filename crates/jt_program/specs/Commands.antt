@@ -1,0 +1,178 @@
+-- What each command comes to: what it reads from the files, how it ends and what it leaves.
+use Rattle.std.specs.Prelude.{◌≡◌, ◌≢◌, ◌⊎◌, ◌<◌, ℕ, Bool, true, false, List, [], ◌∷◌, ◌++◌, length, Contains, Option, Some, None, Result, Ok, Err, String, codes, string_bytes}
+use Rattle.std.specs.Fmt.{decimal}
+use Rattle.std.specs.declared.alloc.Global.{Global}
+use Rattle.std.specs.Io.KnownBytes.{Appends, Keeps}
+use Rattle.clap.specs.Words.{Row, Text as Word}
+use Rattle.jt_scan.specs.declared.options.Options.{Options as ScanOptions}
+use Rattle.jt_value.specs.Pairs.{Pairs}
+use Rattle.jt_inherit.specs.Chains.{Given}
+use Rattle.jt_parse.specs.Trees.{Text}
+use Rattle.jt_value.specs.ContextView.{pairs_of}
+use Rattle.jt_budget.specs.declared.Budget.{Budget}
+use Rattle.jt_image.specs.Config.{Outcome}
+use Rattle.jt_machine.specs.View.{budget_view}
+use Rattle.jt_host.specs.Json.{IsContext}
+use Rattle.jt_host.specs.Turns.{max_sessions}
+use Rattle.jt_host.specs.declared.HostError.TheVariants as host_error
+use Rattle.jt_host.specs.Rendering.{IsRefused as IsUncompiled}
+use Rattle.jt_line.specs.Line.{IsAsked}
+use Rattle.jt_line.specs.declared.Command.{Command}
+use Rattle.jt_line.specs.declared.Command.TheVariants as command
+use Rattle.jt_line.specs.declared.Job.{Job}
+use Rattle.jt_line.specs.declared.Options.{Options as LineOptions}
+use Rattle.jt_line.specs.declared.Pair.{Pair}
+use Rattle.jt_turns.specs.Lines.{session_lines}
+use Rattle.jt_turns.specs.Outcomes.{AreOutcomes}
+use Rattle.jt_turns.specs.declared.Start.{Start}
+use Rattle.jt_program.specs.declared.messages.Failure.{Failure}
+use Rattle.jt_program.specs.declared.messages.Failure.TheVariants as failure
+use Rattle.jt_machine.specs.Sinks.{TookFront}
+use Rattle.jt_program.specs.Ending.{code_of, status_of}
+use Rattle.jt_program.specs.Files.{Known, IsLibrary}
+use Rattle.jt_program.specs.Program.{ComesTo, IsCounted, IsImage, IsImageOf, IsNoContext, IsNoImage, RendersTo, scan_options}
+
+-- how a command ends: with the text that it prints, or with a failure
+abbrev pub Ending : Type 0
+Ending = Result (String Global) Failure
+
+-- ---- what is read
+
+module _ (files : Known) where
+  -- the context that a file spells, or the empty one where there is no file
+  abbrev pub IsContextAt : Option (String Global) → Pairs → Type 0
+  IsContextAt None x = x ≡ []
+  IsContextAt (Some path) x = (bytes : List ℕ) × files.holds (string_bytes path) bytes × IsContext bytes x
+
+  -- the file of a context spells none, and the refusal says what is so
+  abbrev pub HasNoContext : Option (String Global) → Failure → Type 0
+  HasNoContext None e = ⊥
+  HasNoContext (Some path) e = (bytes : List ℕ) × files.holds (string_bytes path) bytes × IsNoContext bytes e
+
+  -- what a command needs isn't there: a file fails, the file of the context spells none, or memory ran out
+  abbrev pub IsUnread : Option (String Global) → Ending → Type 0
+  IsUnread context (Ok text) = ⊥
+  IsUnread context (Err (failure.File path)) = files.fails (string_bytes path)
+  IsUnread context (Err (failure.Context e)) = HasNoContext context (failure.Context e)
+  IsUnread context (Err failure.NoMemory) = Unit {0}
+  IsUnread context (Err e) = ⊥
+
+-- ---- the commands
+
+-- the line of `check`
+abbrev pub counts_line : ℕ × ℕ → Text
+counts_line n = codes "ok units=" ++ (decimal n.0 ++ (codes " instructions=" ++ (decimal n.1 ++ codes "\n")))
+
+-- the line, where the bytes are an image of so many units and instructions, or why they are none
+abbrev pub IsChecked : List ℕ → Ending → Type 0
+IsChecked bytes (Ok text) = (n : ℕ × ℕ) × IsCounted bytes n × (string_bytes text ≡ counts_line n)
+IsChecked bytes (Err e) = IsNoImage bytes e
+
+-- the file at a path holds an image of the entry's template, and nothing is printed; or why there is none
+abbrev pub IsWritten : Known → Text → Given → Text → ScanOptions → Ending → Type 0
+IsWritten after out sources entry options (Ok text) =
+    (string_bytes text ≡ []) × ((bytes : List ℕ) × after.holds out bytes × IsImage sources entry options bytes)
+IsWritten after out sources entry options (Err (failure.Template e)) = IsUncompiled sources entry options e
+IsWritten after out sources entry options (Err e) = ⊥
+
+module _ (files : Known) where
+  -- the image at a path is verified
+  pub record Checks (image : Text) (e : Ending) : Type 0 where
+    pub bytes : List ℕ
+    pub held : files.holds image bytes
+    pub checked : IsChecked bytes e
+
+  -- the image at a path is run for a context
+  pub record Runs (image : Text) (context : Option (String Global)) (b : Budget) (e : Ending) : Type 0 where
+    pub bytes : List ℕ
+    pub held : files.holds image bytes
+    pub pairs : Pairs
+    pub given : IsContextAt files context pairs
+    pub comes : ComesTo bytes pairs b e
+
+  -- the template of a name, from the files of a directory, is rendered for a context
+  pub record Renders (dir name : Text) (options : ScanOptions) (context : Option (String Global)) (b : Budget) (e : Ending) : Type 0 where
+    pub sources : Given
+    pub library : IsLibrary files dir sources
+    pub pairs : Pairs
+    pub given : IsContextAt files context pairs
+    pub comes : RendersTo sources name options pairs b e
+
+module _ (files : Known) where
+  -- the code of the image of a pair, and the context of the other file
+  pub record IsStart (p : Pair) (s : Start) : Type 0 where
+    pub bytes : List ℕ
+    pub held : files.holds (string_bytes p.image) bytes
+    pub image : IsImageOf bytes s.code
+    pub given : IsContextAt files (Some p.context) (pairs_of s.context)
+
+  abbrev pub AreStarts : List Pair → List Start → Type 0
+  AreStarts [] [] = Unit {0}
+  AreStarts [] (s ∷ ss) = ⊥
+  AreStarts (p ∷ ps) [] = ⊥
+  AreStarts (p ∷ ps) (s ∷ ss) = IsStart p s × AreStarts ps ss
+
+  -- a pair gives no session: a file fails, that of the context spells none, or that of the image is none that is accepted
+  abbrev pub IsNoStart : Pair → Failure → Type 0
+  IsNoStart p e = IsUnread files (Some p.context) (Err e) ⊎ ((bytes : List ℕ) × files.holds (string_bytes p.image) bytes × IsNoImage bytes e)
+
+  -- The images of pairs run for their contexts in turns, each as if alone: the line of each, whatever the turns are; or why there is none.
+  -- The host is full only where there are more than 64.
+  abbrev pub TakesTurns : List Pair → Budget → Ending → Type 0
+  TakesTurns ps b (Ok text) =
+      (ss : List Start) × AreStarts ps ss × ((os : List Outcome) × AreOutcomes (budget_view b) ss os × (string_bytes text ≡ session_lines 1 os))
+  TakesTurns ps b (Err failure.NoMemory) = Unit {0}
+  TakesTurns ps b (Err (failure.Host e)) = (e ≡ host_error.Full) × (max_sessions < length ps)
+  TakesTurns ps b (Err e) = (p : Pair) × Contains ps p × IsNoStart p e
+
+module _ (files after : Known) where
+  -- the template of a name, from the files of a directory, is compiled to an image at a path
+  pub record Compiles (dir name out : Text) (options : ScanOptions) (e : Ending) : Type 0 where
+    pub sources : Given
+    pub library : IsLibrary files dir sources
+    pub written : IsWritten after out sources name options e
+
+  -- each file but the one at the path holds what it held
+  abbrev pub ChangesOnly : Text → Type 0
+  ChangesOnly path = (other bytes : List ℕ) → other ≢ path → files.holds other bytes → after.holds other bytes
+
+  -- What a command comes to, by what is known of the files before it and after it.
+  abbrev pub CommandEnds : Command → LineOptions → Budget → Ending → Type 0
+  CommandEnds (command.Compile dir name out) o b e = ChangesOnly (string_bytes out)
+      × (IsUnread files None e ⊎ Compiles (string_bytes dir) (string_bytes name) (string_bytes out) (scan_options o) e)
+  CommandEnds (command.Check image) o b e = IsUnread files None e ⊎ Checks files (string_bytes image) e
+  CommandEnds (command.Run image context) o b e = IsUnread files context e ⊎ Runs files (string_bytes image) context b e
+  CommandEnds (command.Render dir name context) o b e =
+      IsUnread files context e ⊎ Renders files (string_bytes dir) (string_bytes name) (scan_options o) context b e
+  CommandEnds (command.Turns sessions) o b e = TakesTurns files sessions.items b e
+
+  abbrev pub JobEnds : Job → Ending → Type 0
+  JobEnds j = CommandEnds j.command j.options j.budget
+
+  -- the line of a command asks for a job, which ends so
+  pub record Answers (found : Option (Word × List Row)) (e : Ending) : Type 0 where
+    pub job : Job
+    pub asked : IsAsked found job
+    pub ends : JobEnds job e
+
+  -- that, unless the line is none that the program takes, or memory ran out
+  abbrev pub LineEnds : Option (Word × List Row) → Ending → Type 0
+  LineEnds found (Err (failure.Usage text)) = Unit {0}
+  LineEnds found (Err failure.NoMemory) = Unit {0}
+  LineEnds found e = Answers found e
+
+-- the command is `compile`
+abbrev pub IsCompile : Command → Type 0
+IsCompile (command.Compile dir name out) = Unit {0}
+IsCompile c = ⊥
+
+-- ---- what the program tells
+
+-- The status, and what stands on standard output behind what stood there: the whole text of a command that is
+-- done, and status 0; or, with status 5, a beginning of it, and only where the sink has failed; and nothing of one
+-- that failed.
+abbrev pub Tells : Option (List ℕ) → Option (List ℕ) → Bool → Ending → ℕ → Type 0
+Tells old new sink_failed (Ok text) status =
+    ((status ≡ 0) × (sink_failed ≡ false) × Appends old new (string_bytes text))
+    ⊎ ((status ≡ 5) × (sink_failed ≡ true) × TookFront (string_bytes text) old new)
+Tells old new sink_failed (Err e) status = (status ≡ code_of (status_of e)) × Keeps old new

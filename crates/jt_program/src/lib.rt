@@ -1,0 +1,16 @@
+//! What the program `jt` does: its commands over files, an output and an output for errors.
+#![tactic(auto)]
+
+mod commands;
+mod files;
+mod machine;
+mod messages;
+mod program;
+mod templates;
+mod turns;
+
+pub use files::{FileError, Files};
+pub use machine::Machine;
+pub use messages::{Failure, Status};
+pub use program::{perform, report};
+pub use templates::Templates;

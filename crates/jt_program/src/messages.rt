@@ -1,0 +1,220 @@
+//! How a run of the program ends: its status, and the text that says why.
+
+ghost use Rattle.std.specs.Prelude.{◌≡◌};
+ghost use Rattle.jt_program.specs.Ending.{code_of, status_of, of_line, of_file, of_image, of_code, of_compile, of_context, of_host, of_render, of_outcome};
+
+use crate::files::FileError;
+use jt_budget::Spent;
+use jt_codegen::CompileError;
+use jt_host::{ContextError, HostError, RenderError};
+use jt_image::ImageError;
+use jt_line::JobError;
+use jt_machine::Outcome;
+use jt_value::Fault;
+use jt_verify::Refusal;
+use std::alloc::{AllocError, AllocFailed};
+use thiserror::Error;
+
+/// What the program ends with.
+#[derive(Clone, Copy, Debug, PartialEq, Eq)]
+pub enum Status {
+    Done,
+    Fault,
+    Usage,
+    Refused,
+    Spent,
+    File,
+    Memory,
+}
+
+impl Status {
+    /// The number of the status.
+    pub fn code(self) -> u8
+        ensures { result ≡ code_of self }
+    {
+        match self {
+            Status::Done => 0,
+            Status::Fault => 1,
+            Status::Usage => 2,
+            Status::Refused => 3,
+            Status::Spent => 4,
+            Status::File => 5,
+            Status::Memory => 6,
+        }
+    }
+}
+
+/// Why a run did not do what its line asks for. It shows as the text for standard error.
+#[derive(Debug, Drop, Error)]
+pub enum Failure {
+    /// The line is none that the program takes.
+    #[error("{0}")]
+    Usage(String),
+    /// The words of the line are no texts.
+    #[error("jt: usage\n")]
+    Words,
+    /// The template ended with a fault.
+    #[error("jt: fault {0}\n")]
+    Fault(Fault),
+    /// The bytes are no image.
+    #[error("jt: refused {0}\n")]
+    Image(ImageError),
+    /// The image has a flaw.
+    #[error("jt: refused {0}\n")]
+    Code(Refusal),
+    /// A template does not compile.
+    #[error("jt: refused {0}\n")]
+    Template(CompileError),
+    /// A file gives no context.
+    #[error("jt: refused {0}\n")]
+    Context(ContextError),
+    /// The budget was spent.
+    #[error("jt: spent {0}\n")]
+    Spent(Spent),
+    /// No session more is opened.
+    #[error("jt: refused {0}\n")]
+    Host(HostError),
+    /// The file at this path could not be read or written.
+    #[error("jt: file {0}\n")]
+    File(String),
+    /// The text could not be printed.
+    #[error("jt: file -\n")]
+    Output,
+    /// A growth was refused.
+    #[error("jt: no memory\n")]
+    NoMemory,
+}
+
+impl Failure {
+    /// The status that the program ends with.
+    pub fn status(&self) -> Status
+        ensures { result ≡ status_of self.now }
+    {
+        match self {
+            Failure::Usage(_) => Status::Usage,
+            Failure::Words => Status::Usage,
+            Failure::Fault(_) => Status::Fault,
+            Failure::Image(_) => Status::Refused,
+            Failure::Code(_) => Status::Refused,
+            Failure::Template(_) => Status::Refused,
+            Failure::Context(_) => Status::Refused,
+            Failure::Spent(_) => Status::Spent,
+            Failure::Host(_) => Status::Refused,
+            Failure::File(_) => Status::File,
+            Failure::Output => Status::File,
+            Failure::NoMemory => Status::Memory,
+        }
+    }
+}
+
+impl From<AllocError> for Failure {
+    ghost use Rattle.jt_program.specs.declared.messages.Failure.TheVariants.{NoMemory};
+
+    ghost from_gives = { λ _ f. f ≡ NoMemory };
+
+    fn from(_error: AllocError) -> Failure {
+        Failure::NoMemory
+    }
+}
+
+impl<T: Drop> From<AllocFailed<T>> for Failure {
+    ghost use Rattle.jt_program.specs.declared.messages.Failure.TheVariants.{NoMemory};
+
+    ghost from_gives = { λ _ f. f ≡ NoMemory };
+
+    fn from(_error: AllocFailed<T>) -> Failure {
+        Failure::NoMemory
+    }
+}
+
+impl From<JobError> for Failure {
+    ghost from_gives = { λ e f. f ≡ of_line e };
+
+    fn from(error: JobError) -> Failure {
+        match error {
+            JobError::Usage(text) => Failure::Usage(text),
+            JobError::NoMemory => Failure::NoMemory,
+        }
+    }
+}
+
+/// What a fault of the file at a path comes to.
+pub fn no_file(error: FileError, path: String) -> Failure
+    ensures { result ≡ of_file error path }
+{
+    match error {
+        FileError::Failed => Failure::File(path),
+        FileError::NoMemory => Failure::NoMemory,
+    }
+}
+
+/// What bytes that are no image come to.
+pub fn no_image(error: ImageError) -> Failure
+    ensures { result ≡ of_image error }
+{
+    match error {
+        ImageError::NoMemory => Failure::NoMemory,
+        fault => Failure::Image(fault),
+    }
+}
+
+/// What an image that is refused comes to.
+pub fn no_code(refusal: Refusal) -> Failure
+    ensures { result ≡ of_code refusal }
+{
+    match refusal {
+        Refusal::NoMemory => Failure::NoMemory,
+        flaw => Failure::Code(flaw),
+    }
+}
+
+/// What a template that does not compile comes to.
+pub fn no_template(refusal: CompileError) -> Failure
+    ensures { result ≡ of_compile refusal }
+{
+    match refusal {
+        CompileError::NoMemory => Failure::NoMemory,
+        fault => Failure::Template(fault),
+    }
+}
+
+/// What a file that gives no context comes to.
+pub fn no_context(error: ContextError) -> Failure
+    ensures { result ≡ of_context error }
+{
+    match error {
+        ContextError::NoMemory => Failure::NoMemory,
+        flaw => Failure::Context(flaw),
+    }
+}
+
+/// What a host that refuses comes to.
+pub fn no_session(error: HostError) -> Failure
+    ensures { result ≡ of_host error }
+{
+    match error {
+        HostError::NoMemory => Failure::NoMemory,
+        refusal => Failure::Host(refusal),
+    }
+}
+
+/// What templates that are not rendered come to.
+pub fn unrendered(refusal: RenderError) -> Failure
+    ensures { result ≡ of_render refusal }
+{
+    match refusal {
+        RenderError::Compile(refusal) => no_template(refusal),
+        RenderError::NoMemory => Failure::NoMemory,
+    }
+}
+
+/// The text that a run ended with, or what it failed by.
+pub fn text_of(outcome: Outcome) -> Result<String, Failure>
+    ensures { result ≡ of_outcome outcome }
+{
+    match outcome {
+        Outcome::Text(text) => Ok(text),
+        Outcome::Fault(fault) => Err(Failure::Fault(fault)),
+        Outcome::Spent(spent) => Err(Failure::Spent(spent)),
+    }
+}

@@ -1,0 +1,274 @@
+//! A whole run of the program.
+ghost use Rattle.std.specs.Prelude.{◌≡◌, ◌≢◌, ◌≤◌, ◌⊎◌, ◌++◌, ℕ, true, List, [], ◌∷◌, Ok, Err, map, codes, string_bytes, None, IfOk, IfErr, IsErrOf, OnOk};
+ghost use Rattle.std.specs.List.Sorted.{IsPermutation, IsSorted};
+ghost use Rattle.std.specs.String.{string_cmp};
+ghost use Rattle.clap.specs.Walk.{texts};
+ghost use Rattle.clap.specs.Words.{subcommand_of};
+ghost use Rattle.jt_value.specs.ContextView.{pairs_of};
+ghost use Rattle.jt_line.specs.Line.{Takes, Asks, program_app};
+ghost use Rattle.jt_program.specs.Commands.{Answers, ChangesOnly, Checks, Compiles, Ending, IsCompile, IsContextAt, IsUnread, JobEnds, LineEnds, Renders, Runs, Tells};
+ghost use Rattle.jt_program.specs.Ending.{IfUntaken, code_of, status_of};
+ghost use Rattle.jt_program.specs.Files.{AreSources, IsLibrary};
+ghost use Rattle.jt_program.specs.Templates.{source_of};
+
+use crate::commands::{context_of, counts_of, image_of, render_text, run_image, scan_options};
+use crate::files::{FileError, Files};
+use crate::messages::{Failure, Status, no_file};
+use crate::templates::Templates;
+use crate::turns::run_turns;
+use jt_budget::Budget;
+use jt_line::{Command, Job, job};
+use jt_machine::{Sink, put_all};
+use jt_scan::Options;
+use jt_value::Context;
+use std::alloc::Global;
+use std::io::Write;
+
+/// Does what `words`, the line without the program's name, ask for, and answers the status:
+/// 0 done, 1 fault, 2 usage, 3 refused, 4 spent, 5 file, 6 no memory.
+///
+/// The text goes to `out`, with nothing added. Where the status is not 0 nothing stands there,
+/// or a beginning of the text where `out` failed, and `errors` says why: by the usage, or by one line.
+pub fn perform<F: Files, W: Sink, E: Write>(
+    alloc: Global,
+    words: &[&str],
+    files: &mut F,
+    out: &mut W,
+    errors: &mut E,
+) -> u8
+    // it is one of the statuses
+    ensures status { result ≤ 6 }
+    // it is 2 where the program does not take the line, unless memory ran out, and only there
+    ensures usage { ¬ Takes (texts words.now) → (result ≡ 2) ⊎ (result ≡ 6) }
+    ensures taken { Takes (texts words.now) → result ≢ 2 }
+    // it tells how the command of the line ended, over the files as they were
+    ensures ends { result ≢ 2 → result ≢ 6 → (e : Ending)
+        × Answers (F.known files.old) (F.known files.new) (subcommand_of program_app (texts words.now)) e
+        × Tells (W.taken out.old) (W.taken out.new) (W.failed out.new) e result }
+    // where it is 0 nothing was added to standard error
+    ensures silent { result ≡ 0 → errors.new ≡ errors.old }
+    // where it is neither 0 nor 5 standard output is as it was
+    ensures untouched { result ≢ 0 → result ≢ 5 → out.new ≡ out.old }
+    // so it is where it had failed before
+    ensures failed_before { W.failed out.old ≡ true → out.new ≡ out.old }
+    // the files are as they were, but where a template was to be compiled and nothing refused it
+    ensures kept { ¬ Asks (codes "compile") (texts words.now) → files.new ≡ files.old }
+    ensures unwritten { result ≢ 0 → result ≢ 5 → result ≢ 6 → files.new ≡ files.old }
+{
+    match done(alloc, words, files) {
+        Ok(text) => print(text, out, errors),
+        Err(failure) => report(errors, &failure),
+    }
+}
+
+/// Says on `errors` what went wrong, and answers the status.
+pub fn report<E: Write>(errors: &mut E, failure: &Failure) -> u8
+    ensures { result ≡ code_of (status_of failure.now) }
+{
+    // Where standard error takes nothing, the status alone says how the run ended.
+    let _ = write!(errors, "{failure}");
+    failure.status().code()
+}
+
+/// Prints the text of a command that is done, and answers the status.
+fn print<W: Sink, E: Write>(text: String, out: &mut W, errors: &mut E) -> u8
+    ensures told { Tells (W.taken out.old) (W.taken out.new) (W.failed out.new) (Ok text) result }
+    ensures failed_before { W.failed out.old ≡ true → out.new ≡ out.old }
+    ensures silent { result ≡ 0 → errors.new ≡ errors.old }
+{
+    if out.has_failed() {
+        return report(errors, &Failure::Output);
+    }
+    match put_all(out, text.as_bytes()) {
+        Ok(()) => Status::Done.code(),
+        Err(_) => report(errors, &Failure::Output),
+    }
+}
+
+/// Does what the line asks for, but for printing. The text is what it prints.
+fn done<F: Files>(alloc: Global, words: &[&str], files: &mut F) -> Result<String, Failure>
+    ensures usage { ¬ Takes (texts words.now) → IfUntaken result }
+    ensures taken { Takes (texts words.now) → IfErr result (λ e. (status_of e ≢ Status.Usage) × (e ≢ Failure.Output)) }
+    ensures kept { ¬ Asks (codes "compile") (texts words.now) → files.new ≡ files.old }
+    ensures unwritten { IfErr result (λ e. status_of e ≢ Status.File → status_of e ≢ Status.Memory → files.new ≡ files.old) }
+    ensures ends { LineEnds (F.known files.old) (F.known files.new) (subcommand_of program_app (texts words.now)) result }
+{
+    let job = job(alloc, words)?;
+    carried_out(alloc, job, files)
+}
+
+/// Does what a job asks for, but for printing. The text is what it prints.
+fn carried_out<F: Files>(alloc: Global, job: Job, files: &mut F) -> Result<String, Failure>
+    ensures ends { JobEnds (F.known files.old) (F.known files.new) job result }
+    ensures kept { ¬ IsCompile job.command → files.new ≡ files.old }
+    ensures unwritten { IfErr result (λ e. status_of e ≢ Status.File → status_of e ≢ Status.Memory → files.new ≡ files.old) }
+    ensures other { IfErr result (λ e. (status_of e ≢ Status.Usage) × (e ≢ Failure.Output)) }
+{
+    let Job {
+        command,
+        options,
+        budget,
+        slice,
+    } = job;
+    let options = scan_options(options);
+    match command {
+        Command::Compile { dir, name, out } => compile_to(alloc, files, dir, &name, options, out),
+        Command::Check { image } => check_at(alloc, files, image),
+        Command::Run { image, context } => run_at(alloc, files, image, context, budget),
+        Command::Render { dir, name, context } => {
+            render_in(alloc, files, dir, &name, options, context, budget)
+        }
+        Command::Turns { sessions } => run_turns(alloc, files, sessions, budget, slice),
+    }
+}
+
+/// Writes the image of a template to the file at `out`, and prints nothing.
+fn compile_to<F: Files>(
+    alloc: Global,
+    files: &mut F,
+    dir: String,
+    name: &str,
+    options: Options,
+    out: String,
+) -> Result<String, Failure>
+    ensures only { ChangesOnly (F.known files.old) (F.known files.new) (string_bytes out) }
+    ensures ends { IsUnread (F.known files.old) None result
+        ⊎ Compiles (F.known files.old) (F.known files.new) (string_bytes dir) name.now (string_bytes out) options result }
+    ensures unwritten { IfErr result (λ e. status_of e ≢ Status.File → status_of e ≢ Status.Memory → files.new ≡ files.old) }
+{
+    let templates = templates_in(alloc, files, dir)?;
+    let bytes = image_of(alloc, name, &templates, options)?;
+    put_at(files, out, &bytes)?;
+    Ok(String::new(alloc))
+}
+
+/// The line that says how large the image at a path is.
+fn check_at<F: Files>(alloc: Global, files: &F, image: String) -> Result<String, Failure>
+    ensures { IsUnread (F.known files.now) None result ⊎ Checks (F.known files.now) (string_bytes image) result }
+{
+    let bytes = bytes_at(files, image)?;
+    let (units, instructions) = counts_of(alloc, &bytes)?;
+    Ok(format!(in alloc; "ok units={units} instructions={instructions}\n")?)
+}
+
+/// The text of the image at a path, run for the context of a file.
+fn run_at<F: Files>(
+    alloc: Global,
+    files: &F,
+    image: String,
+    context: Option<String>,
+    budget: Budget,
+) -> Result<String, Failure>
+    ensures { IsUnread (F.known files.now) context result ⊎ Runs (F.known files.now) (string_bytes image) context budget result }
+{
+    let bytes = bytes_at(files, image)?;
+    let context = context_at(alloc, files, context)?;
+    run_image(alloc, &bytes, &context, budget)
+}
+
+/// The text of a template of a directory for the context of a file.
+fn render_in<F: Files>(
+    alloc: Global,
+    files: &F,
+    dir: String,
+    name: &str,
+    options: Options,
+    context: Option<String>,
+    budget: Budget,
+) -> Result<String, Failure>
+    ensures { IsUnread (F.known files.now) context result
+        ⊎ Renders (F.known files.now) (string_bytes dir) name.now options context budget result }
+{
+    let templates = templates_in(alloc, files, dir)?;
+    let context = context_at(alloc, files, context)?;
+    render_text(alloc, name, &templates, options, &context, budget)
+}
+
+/// The context in a file, or the empty one where there is no file.
+pub fn context_at<F: Files>(
+    alloc: Global,
+    files: &F,
+    path: Option<String>,
+) -> Result<Context, Failure>
+    ensures given { IfOk result (λ context. IsContextAt (F.known files.now) path (pairs_of context)) }
+    ensures err { IfErr result (λ e. IsUnread (F.known files.now) path (Err e)) }
+{
+    match path {
+        Some(path) => {
+            let bytes = bytes_at(files, path)?;
+            context_of(alloc, &bytes)
+        }
+        None => Ok(Context::new(alloc)),
+    }
+}
+
+/// The bytes of the file at `path`.
+pub fn bytes_at<F: Files>(files: &F, path: String) -> Result<Vec<u8>, Failure>
+    ensures held { IfOk result (λ bytes. (F.known files.now).holds (string_bytes path) bytes.items) }
+    ensures err { IfErr result (λ e. IsUnread (F.known files.now) None (Err e)) }
+{
+    match files.read(path.as_str()) {
+        Ok(bytes) => Ok(bytes),
+        Err(error) => Err(no_file(error, path)),
+    }
+}
+
+/// Makes `bytes` the contents of the file at `path`.
+fn put_at<F: Files>(files: &mut F, path: String, bytes: &[u8]) -> Result<(), Failure>
+    ensures written { OnOk result ((F.known files.new).holds (string_bytes path) bytes.now) }
+    ensures only { ChangesOnly (F.known files.old) (F.known files.new) (string_bytes path) }
+    ensures err { IfErr result (λ e. IsUnread (F.known files.old) None (Err e)) }
+{
+    match files.write(path.as_str(), bytes) {
+        Ok(()) => Ok(()),
+        Err(error) => Err(no_file(error, path)),
+    }
+}
+
+/// The names of the files directly in `dir`, in the order of their bytes.
+fn names_in<F: Files>(files: &F, dir: &str) -> Result<Vec<String>, FileError>
+    ensures listed { IfOk result (λ names. (given : List (List ℕ)) × (F.known files.now).lists dir.now given
+        × IsPermutation given (map string_bytes names.items)) }
+    ensures sorted { IfOk result (λ names. IsSorted string_cmp names.items) }
+    ensures failed { IsErrOf result FileError.Failed → (F.known files.now).fails dir.now }
+{
+    let mut names = files.list(dir)?;
+    names.sort_unstable();
+    Ok(names)
+}
+
+/// The templates of the files directly in `dir`, by their names. A file that is no text is none.
+fn templates_in<F: Files>(alloc: Global, files: &F, dir: String) -> Result<Templates, Failure>
+    ensures library { IfOk result (λ templates. IsLibrary (F.known files.now) (string_bytes dir) (source_of templates)) }
+    ensures err { IfErr result (λ e. IsUnread (F.known files.now) None (Err e)) }
+{
+    let names = match names_in(files, dir.as_str()) {
+        Ok(names) => names,
+        Err(error) => return Err(no_file(error, dir)),
+    };
+    let mut templates = Templates::new(alloc);
+    for name in names {
+        read_into(alloc, files, &mut templates, dir.as_str(), name)?;
+    }
+    Ok(templates)
+}
+
+/// Takes the file of a name in `dir` among the templates, where it is a text.
+fn read_into<F: Files>(
+    alloc: Global,
+    files: &F,
+    templates: &mut Templates,
+    dir: &str,
+    name: String,
+) -> Result<(), Failure>
+    ensures read { OnOk result ((names : List (List ℕ)) → AreSources (F.known files.now) dir.now names (source_of templates.old)
+        → AreSources (F.known files.now) dir.now (names ++ string_bytes name ∷ []) (source_of templates.new)) }
+    ensures err { IfErr result (λ e. IsUnread (F.known files.now) None (Err e)) }
+{
+    let path = format!(in alloc; "{dir}/{name}")?;
+    let bytes = bytes_at(files, path)?;
+    match String::from_utf8(bytes) {
+        Ok(source) => Ok(templates.insert(name, source)?),
+        Err(_) => Ok(()),
+    }
+}

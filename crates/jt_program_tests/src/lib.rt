@@ -1,0 +1,12 @@
+//! Tests of what the program does, through its public calls: its commands over files in memory, the rows of the language from a
+//! source to its text, and the line of each refusal.
+#![tactic(auto)]
+
+#[cfg(test)]
+mod commands;
+#[cfg(test)]
+mod refusals;
+#[cfg(test)]
+mod rows;
+#[cfg(test)]
+mod sessions;

@@ -1,0 +1,5 @@
+mod Around
+mod Fuel
+mod Opening
+mod Sessions
+mod Turning

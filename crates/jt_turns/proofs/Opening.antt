@@ -1,0 +1,85 @@
+-- A session more, or why there is none.
+use Rattle.std.proofs.Common.{◌≡◌, ◌∙◌, ℕ, ◌+◌, ◌<◌, Bool, true, false, cond, List, [], ◌∷◌, ◌++◌, length, length-append, Option, Some, None, Ok, Err, ap, arith, refl, sym, subst, string_bytes, IfOk, IfErr, Result}
+use Rattle.std.specs.Prelude.{nat_le, String}
+use Rattle.std.specs.declared.alloc.Global.{Global}
+use Rattle.std.proofs.lemmas.Bool.Decides.{nat_tests}
+use Rattle.jt_value.specs.Pairs.{Pairs}
+use Rattle.jt_value.specs.ContextView.{pairs_of}
+use Rattle.jt_image.specs.Code.{Code}
+use Rattle.jt_image.specs.Config.{Budget}
+use Rattle.jt_machine.specs.Session.{Session, SessionLaws, started}
+use Rattle.jt_host.specs.declared.HostError.{HostError}
+use Rattle.jt_host.specs.declared.HostError.TheVariants as host_error
+use Rattle.jt_host.specs.Turns.{World, after, bar, max_id, max_sessions, opened, opening, opening_reply, opens, reply, OpenRefused}
+use Rattle.jt_turns.specs.declared.turns.Start.{Start}
+use Rattle.jt_turns.specs.Outcomes.{TakesTurns}
+use Rattle.jt_turns.specs.Standing.{AreSessions, IsNumbered, IsSession, Stands}
+use Rattle.jt_turns.proofs.Sessions.{one_session_more}
+use Rattle.jt_turns.proofs.Turning.{as_many, not_advanced, numbered_of}
+
+-- the world with one session more
+one_more : World → Session → World
+one_more w s = record { last = w.last + 1; sessions = w.sessions ++ (w.last + 1, s) ∷ [] }
+
+opened_world : (w v : World) (k : Code) (x : Pairs) (b : Budget) (i : ℕ) → v ≡ after (opens k x b) w → reply (opens k x b) w ≡ opened i → v ≡ one_more w (started k x b)
+unfolding one_more
+opened_world w v k x b i is told = go (bar w) is told
+  where
+    go : (o : Option HostError) → v ≡ opening o (started k x b) w → opening_reply o w ≡ opened i → v ≡ one_more w (started k x b)
+    go None e r = e
+    go (Some h) e r = absurd (cc)
+
+full_at : (n m : ℕ) (e : HostError) → cond (nat_le max_sessions n) (Some host_error.Full) (cond (nat_le max_id m) (Some host_error.NoId) None) ≡ Some e → m ≡ n
+    → (e ≡ host_error.Full) × (max_sessions < n + 1)
+full_at n m e is same = go (nat_le max_sessions n) refl (nat_le max_id m) refl is
+  where
+    go : (a : Bool) → nat_le max_sessions n ≡ a → (c : Bool) → nat_le max_id m ≡ c → cond a (Some host_error.Full) (cond c (Some host_error.NoId) None) ≡ Some e
+        → (e ≡ host_error.Full) × (max_sessions < n + 1)
+    go true f c g h = let this : host_error.Full ≡ e = cc in (sym this, grind (arith, nat_tests))
+    go false f true g h = absurd (grind (arith, nat_tests))
+    go false f false g h = absurd (cc)
+
+-- a list of no length
+pub nil_of : {A : Type 0} → (xs : List A) (n : ℕ) → length xs ≡ n → n ≡ 0 → xs ≡ []
+nil_of [] n e z = refl
+nil_of (x ∷ xs) n e z = absurd (omega (arith, e, z))
+
+module _ (b : Budget) where
+  pub stands_more : (ss : List Start) (s : Start) (w v : World) (i : ℕ) → Stands b ss w
+      → v ≡ after (opens s.code (pairs_of s.context) b) w → reply (opens s.code (pairs_of s.context) b) w ≡ opened i → Stands b (ss ++ s ∷ []) v
+  unfolding one_more
+  stands_more ss s w v i h is told =
+      let x = started s.code (pairs_of s.context) b in
+      let session : IsSession b s x = (0, not_advanced x) in
+      let id : 1 + length ss ≡ w.last + 1 = omega (arith, h.0) in
+      let more = subst (λ (n : ℕ). AreAll (w.sessions ++ (n, x) ∷ [])) id (one_session_more b 1 ss s w.sessions x h.1 session) in
+      let last : w.last + 1 ≡ length (ss ++ s ∷ []) = ap (λ (n : ℕ). n + 1) h.0 ∙ sym (length-append ss (s ∷ [])) in
+      subst (Stands b (ss ++ s ∷ [])) (sym (opened_world w v s.code (pairs_of s.context) b i is told)) (last, more)
+    where
+      AreAll : List (ℕ × Session) → Type 0
+      AreAll es = AreSessions b 1 (ss ++ s ∷ []) es
+
+  pub standing_are_numbered : (ss : List Start) (w : World) → Stands b ss w → IsNumbered (length ss) w.sessions
+  standing_are_numbered ss w h = (as_many b 1 ss w.sessions h.1, numbered_of b 1 ss w.sessions h.1)
+
+  -- an image that the host has no place for
+  pub refused_start : (ss : List Start) (s : Start) (w : World) (e : HostError) → Stands b ss w → OpenRefused w e → TakesTurns b (ss ++ s ∷ []) (Err e)
+  refused_start ss s w host_error.NoMemory h why = tt
+  refused_start ss s w host_error.Full h why =
+      let many = as_many b 1 ss w.sessions h.1 in
+      let full = full_at (length w.sessions) w.last host_error.Full why (h.0 ∙ sym many) in
+      let one = length-append ss (s ∷ []) in
+      omega (arith, full.1, many, one)
+  refused_start ss s w host_error.NoId h why =
+      let full = full_at (length w.sessions) w.last host_error.NoId why (h.0 ∙ sym (as_many b 1 ss w.sessions h.1)) in
+      let no = full.0 in absurd (cc)
+  refused_start ss s w host_error.NoSession h why =
+      let full = full_at (length w.sessions) w.last host_error.NoSession why (h.0 ∙ sym (as_many b 1 ss w.sessions h.1)) in
+      let no = full.0 in absurd (cc)
+
+  -- why some images give no lines holds of more
+  pub more_starts : (ss rs : List Start) (e : HostError) → TakesTurns b ss (Err e) → TakesTurns b (ss ++ rs) (Err e)
+  more_starts ss rs host_error.NoMemory h = tt
+  more_starts ss rs host_error.Full h = let n = length-append ss rs in omega (arith, n, h)
+  more_starts ss rs host_error.NoId h = h
+  more_starts ss rs host_error.NoSession h = h

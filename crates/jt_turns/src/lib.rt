@@ -1,0 +1,8 @@
+//! Verified images that run in turns: the line of each, whatever the turns are.
+#![tactic(auto)]
+
+mod lines;
+mod rounds;
+mod turns;
+
+pub use turns::{Start, take_turns};

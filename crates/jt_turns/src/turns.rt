@@ -1,0 +1,61 @@
+//! Images that run in turns.
+ghost use Rattle.std.specs.Prelude.{◌≡◌, ◌++◌, ◌∷◌, [], List, Err, IfErr, OnOk};
+ghost use Rattle.jt_image.specs.Config.{Budget as Limits};
+ghost use Rattle.jt_machine.specs.View.{budget_view};
+ghost use Rattle.jt_turns.specs.Outcomes.{TakesTurns};
+ghost use Rattle.jt_turns.specs.Standing.{Stands};
+
+use crate::lines::lines;
+use crate::rounds::run_all;
+use jt_budget::Budget;
+use jt_host::{Host, HostError};
+use jt_machine::session_laws;
+use jt_value::Context;
+use jt_verify::Verified;
+use std::alloc::Global;
+
+/// An image, and the context that it is to run for.
+#[derive(Drop)]
+pub struct Start {
+    pub code: Verified,
+    pub context: Context,
+}
+
+/// Runs images side by side, each under the budget, in turns of `slice` instructions, or of one where that is 0; and answers the line
+/// of each, in their order: `1 text 5:Hello`, with the number of the text's bytes, `2 fault F2 Undefined` or `3 spent Fuel`.
+///
+/// # Errors
+///
+/// `Full` where there are more than 64; `NoMemory` where a growth was refused.
+pub fn take_turns(
+    alloc: Global,
+    starts: Vec<Start>,
+    budget: Budget,
+    slice: u32,
+) -> Result<String, HostError>
+    ensures { TakesTurns (budget_view budget) starts.items result }
+{
+    session_laws();
+    let count = starts.len() as u64;
+    let mut host = Host::new(alloc);
+    for start in starts {
+        open(&mut host, start, budget)?;
+    }
+    run_all(&mut host, count, slice.max(1))?;
+    match lines(alloc, &host, count) {
+        Ok(text) => Ok(text),
+        Err(_) => Err(HostError::NoMemory),
+    }
+}
+
+/// Opens the session of an image.
+fn open(host: &mut Host, start: Start, budget: Budget) -> Result<(), HostError>
+    ensures opened { OnOk result ((ss : List Start) → Stands (budget_view budget) ss host.old → Stands (budget_view budget) (ss ++ start ∷ []) host.new) }
+    ensures refused { IfErr result (λ e. (ss : List Start) → Stands (budget_view budget) ss host.old → TakesTurns (budget_view budget) (ss ++ start ∷ []) (Err e)) }
+{
+    let Start { code, context } = start;
+    match host.open(code, &context, budget) {
+        Ok(_) => Ok(()),
+        Err((_, error)) => Err(error),
+    }
+}
