@@ -30,14 +30,28 @@ def exported(top):
 
 def clauses(text, public):
     """The clauses of a file's public calls, and what its public types and traits say of themselves."""
-    kept, owner = [], False
+    kept, owner, own = [], False, False
     for block in re.split(r"\n\n", text):
-        head = re.search(r"(?m)^(?:pub )?(?:impl|trait|struct|enum)\b[^{]*", block)
-        owner = bool(set(re.findall(r"\w+", head[0])) & public) if head else owner and block.startswith("    ")
+        head = re.search(r"(?m)^(?:pub )?(impl|trait|struct|enum)\b[^{]*", block)
+        if head:
+            own = head[1] == "impl" and " for " not in head[0]
+            owner = bool(set(re.findall(r"\w+", bare(head[0]))) & public)
+        elif not block.startswith("    "):
+            owner = False
         call = re.search(r"(?m)^(?:pub )?(?:const )?fn (\w+)", block)
-        if owner or call and call[1] in public:
+        hidden = own and not re.search(r"(?m)^ +pub (?:const )?fn ", block)
+        if owner and not hidden or call and call[1] in public:
             kept += re.findall(r"(?s)\b(?:requires|ensures|ghost)\b.*?(?=\n *\{\n|\n *(?:pub )?fn |\Z)", block)
     return "\n".join(kept)
+
+
+def bare(head):
+    """What stands before a block, without what stands in angle brackets."""
+    left, depth = "", 0
+    for at, it in enumerate(head):
+        depth += (it == "<") - (it == ">" and head[at - 1] != "-")
+        left += it if depth == 0 else " "
+    return left
 
 
 def begun(crate):

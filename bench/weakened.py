@@ -1,10 +1,10 @@
 #!/usr/bin/env python3
-"""Shows that each layer's contract is needed: takes a clause of one public call out, in a copy, and tells which crate above is then
-no longer proved: bench/weakened.py [CRATE ..]
+"""Shows that each layer's contract is needed: has a clause of one public call say nothing, in a copy, and tells which crate above is
+then no longer proved: bench/weakened.py [CRATE ..]
 
 A developer's tool, run by hand over kept work (`rt all check` makes it): it prints a table as Markdown, a row for each layer of LAYERS
-or for the crates that are named. The layer itself must still be proved without the clause (a clause that is taken out can only help
-it); then the crates that stand on it are checked, from the lowest, until one is not proved. The status is 0 where each layer's
+or for the crates that are named. The layer itself must still be proved without the clause (a clause that says nothing can only
+help it); then the crates that stand on it are checked, from the lowest, until one is not proved. The status is 0 where each layer's
 clause was missed. The copy below TMPDIR shares its files with the crates by hard links, but for the kept work of those that a row
 checks, so TMPDIR must lie on their file system, and some gigabytes must be free.
 """
@@ -43,7 +43,7 @@ LAYERS = [
 
 
 def without(text, call, clause):
-    """The text without the clause of the call's contract, or None where it has no such clause."""
+    """The text with a clause of the call's contract that says nothing, or None where it has no such clause."""
     head = re.search(rf"(?m)^ *pub fn {call}\b", text)
     named = re.compile(rf"(?m)^ *ensures {clause + ' ' if clause else ''}\{{") if head else None
     at = named.search(text, head.start()) if named else None
@@ -53,7 +53,8 @@ def without(text, call, clause):
     while depth:
         depth += {"{": 1, "}": -1}.get(text[end], 0)
         end += 1
-    return text[: at.start()] + text[end:].lstrip("\n")
+    # (the clause stays, so the goals of the call's other clauses keep their names)
+    return f"{text[: at.end()]} Unit {{0}} }}{text[end:]}"
 
 
 def unanswered(text, clause):
@@ -98,7 +99,8 @@ def set_apart(crate):
     if not os.path.isdir(shared):
         os.rename(made, shared)
         os.makedirs(f"{made}/incremental")
-        shutil.copytree(f"{shared}/incremental", f"{made}/incremental", dirs_exist_ok=True)
+        if os.path.isdir(f"{shared}/incremental"):
+            shutil.copytree(f"{shared}/incremental", f"{made}/incremental", dirs_exist_ok=True)
 
 
 def put_back(crates):

@@ -21,8 +21,10 @@ pub struct Budget {
 impl Budget {
     /// Takes a cost from the fuel. A cost above it is refused.
     pub fn charge(&mut self, cost: u64) -> Result<(), Spent>
-        ensures ok { OnOk result ((cost ≤ self.old.fuel) × (self.new ≡ record self.old { fuel = self.old.fuel - cost })) }
-        ensures err { IfErr result (λ e. (e ≡ Spent.Fuel) × (self.old.fuel < cost) × (self.new ≡ self.old)) }
+        ensures ok { OnOk result ((cost ≤ self.old.fuel)
+            × (self.new ≡ record self.old { fuel = self.old.fuel - cost })) }
+        ensures err { IfErr result
+            (λ e. (e ≡ Spent.Fuel) × (self.old.fuel < cost) × (self.new ≡ self.old)) }
     {
         if cost > self.fuel {
             return Err(Spent::Fuel);
@@ -33,8 +35,10 @@ impl Budget {
 
     /// Takes so many bytes from the output. More than are left are refused.
     pub fn emit(&mut self, bytes: u64) -> Result<(), Spent>
-        ensures ok { OnOk result ((bytes ≤ self.old.output) × (self.new ≡ record self.old { output = self.old.output - bytes })) }
-        ensures err { IfErr result (λ e. (e ≡ Spent.Output) × (self.old.output < bytes) × (self.new ≡ self.old)) }
+        ensures ok { OnOk result ((bytes ≤ self.old.output)
+            × (self.new ≡ record self.old { output = self.old.output - bytes })) }
+        ensures err { IfErr result
+            (λ e. (e ≡ Spent.Output) × (self.old.output < bytes) × (self.new ≡ self.old)) }
     {
         if bytes > self.output {
             return Err(Spent::Output);
@@ -45,8 +49,10 @@ impl Budget {
 
     /// Takes one of the depth, as a call is opened. Where none is left it is refused.
     pub fn enter(&mut self) -> Result<(), Spent>
-        ensures ok { OnOk result ((1 ≤ self.old.depth) × (self.new ≡ record self.old { depth = self.old.depth - 1 })) }
-        ensures err { IfErr result (λ e. (e ≡ Spent.Depth) × (self.old.depth ≡ 0) × (self.new ≡ self.old)) }
+        ensures ok { OnOk result
+            ((1 ≤ self.old.depth) × (self.new ≡ record self.old { depth = self.old.depth - 1 })) }
+        ensures err { IfErr result
+            (λ e. (e ≡ Spent.Depth) × (self.old.depth ≡ 0) × (self.new ≡ self.old)) }
     {
         if self.depth == 0 {
             return Err(Spent::Depth);
@@ -66,7 +72,8 @@ impl Budget {
     /// Whether a value of this size and nesting is within the limits. The size is tested first; nothing is taken.
     pub fn fits(&self, size: u64, nesting: u32) -> Result<(), Spent>
         ensures ok { OnOk result ((size ≤ self.now.size) × (nesting ≤ self.now.nesting)) }
-        ensures err { IfErr result (λ e. ((e ≡ Spent.Size) × (self.now.size < size)) ⊎ ((e ≡ Spent.Nesting) × (size ≤ self.now.size) × (self.now.nesting < nesting))) }
+        ensures err { IfErr result (λ e. ((e ≡ Spent.Size) × (self.now.size < size))
+            ⊎ ((e ≡ Spent.Nesting) × (size ≤ self.now.size) × (self.now.nesting < nesting))) }
     {
         if size > u64::from(self.size) {
             return Err(Spent::Size);

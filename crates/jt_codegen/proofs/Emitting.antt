@@ -18,7 +18,7 @@ use Rattle.jt_lower.specs.Emission.{StandsFor, Puts, Reserves, Patches, Ends}
 use Rattle.jt_lower.specs.declared.emitter.Emitter.{Emitter}
 use Rattle.jt_codegen.specs.Statements.{slots_view, Emits, Closes}
 use Rattle.jt_codegen.proofs.Fronts.{SBranch}
-use Rattle.jt_codegen.proofs.Putting.{puts_nothing, puts_then, puts_last, puts_first, puts_choice, reserved_len, ended_len}
+use Rattle.jt_codegen.proofs.Putting.{puts_nothing, puts_then, puts_last, puts_first, puts_choice}
 
 pub stands_raised : (n m h : ℕ) → m ≡ min (n + 1) 18446744073709551615 → StandsFor n h → StandsFor m (suc h)
 stands_raised n m h same s = through (nat_lt n (2 ^ 32)) refl
@@ -79,30 +79,20 @@ module _ (templates : List Text) (h : ℕ) where
   -- the same of branches, the last jumps of which aren't written yet: they stand at the ends, and go behind whatever comes last
   pub record Opens (old : Emitter) (all : List SBranch) (now : Emitter) (left : List SBranch) (ends : List ℕ) : Type 0 where
     pub counted : length ends + length left ≡ length all
-    pub within : AllByRecursion (λ e. e < length now.code.items) ends
     pub puts : (other : Asm) (final done : Emitter) → Puts now (inner_asm left other) final → Closes final ends done → Puts old (inner_asm all other) done
 
   pub opens_first : (old : Emitter) (all : List SBranch) → Opens old all old all []
-  opens_first old all = record { counted = omega arith; within = tt; puts = λ other final done p same. subst (λ z. Puts old (inner_asm all other) z) (sym same) p }
+  opens_first old all = record { counted = omega arith; puts = λ other final done p same. subst (λ z. Puts old (inner_asm all other) z) (sym same) p }
 
   closes_snoc : (final done : Emitter) (es : List ℕ) (m : ℕ) → Closes final (es ++ m ∷ []) done → (mid : Emitter) × Patches final m (op.Jump (length final.code.items)) mid × Closes mid es done
   closes_snoc final done [] m c = (done, subst (λ z. Patches z m (op.Jump (length z.code.items)) done) c.1 c.2, refl)
   closes_snoc final done (e ∷ es) m c = let r = closes_snoc final c.0 es m c.1 in (r.0, r.1, (c.0, r.2, c.2))
-
-  all_below : (es : List ℕ) (n m : ℕ) → n ≤ m → AllByRecursion (λ e. e < n) es → AllByRecursion (λ e. e < m) es
-  all_below [] n m le a = tt
-  all_below (e ∷ es) n m le a = (omega (arith, le, a.0), all_below es n m le a.1)
-
-  within_more : (es : List ℕ) (n m e : ℕ) → n ≤ m → e < m → AllByRecursion (λ e. e < n) es → AllByRecursion (λ e. e < m) (es ++ e ∷ [])
-  within_more [] n m e le lt a = (lt, tt)
-  within_more (x ∷ es) n m e le lt a = (omega (arith, le, a.0), within_more es n m e le lt a.1)
 
   pub opens_more : (bs : List SBranch) (i : ℕ) (b : SBranch) (ss : List SStmt) (old now c1 c2 c3 c4 : Emitter) (ends : List ℕ) (choice last : ℕ) → i < length bs → b ≡ get_or bs i b → ss ≡ b.2.items → Opens old bs now (drop i bs) ends
       → Puts now (expr_asm (Some (place_view templates b.0)) (expr_view b.1) h) c1 → Reserves c1 (op.JumpIfFalse 0) choice c2 → Emits h c2 (body_view templates ss) c3 → Ends c3 choice last c4
       → Opens old bs c4 (drop (i + 1) bs) (ends ++ last ∷ [])
   opens_more bs i b ss old now c1 c2 c3 c4 ends choice last lt is same o tested tests taken ended = record {
     counted = omega (arith, o.counted, length-append ends (last ∷ []), ap length (drop_more bs i b lt));
-    within = within_more ends (length now.code.items) (length c4.code.items) last longer (omega (arith, ended.reserves.at, ended_len c3 c4 choice last ended)) o.within;
     puts = λ other final done q c.
         let r = closes_snoc final done ends last c in
         let rest = inner_asm (drop (i + 1) bs) other in
@@ -119,16 +109,8 @@ module _ (templates : List Text) (h : ℕ) where
       body : Puts c2 a c3
       body = subst (λ l. Puts c2 (body_asm (body_view templates l slots.end) h) c3) same (emits_alone h c2 c3 (body_view templates ss) taken)
 
-      longer : length now.code.items ≤ length c4.code.items
-      longer = omega (arith, tested.len, reserved_len c1 c2 (op.JumpIfFalse 0) choice tests, body.len, ended_len c3 c4 choice last ended)
-
       left : (other : Asm) → inner_asm (drop i bs) other ≡ both (first_asm b (inner_asm (drop (i + 1) bs) other)) nil
       left other = ap (λ l. inner_asm l other) (drop_more bs i b lt) ∙ ap (λ (z : SBranch). both (first_asm z (inner_asm (drop (i + 1) bs) other)) nil) (sym is)
-
-  pub opens_within : (old now new : Emitter) (bs : List SBranch) (left : List SBranch) (other : Front) (ends es : List ℕ) → Opens old bs now left ends → Emits h now other new → es ≡ ends → AllByRecursion (λ e. e < length new.code.items) es
-  opens_within old now new bs left other ends es o e same =
-      let p = emits_alone h now new other e in
-      subst (AllByRecursion (λ e. e < length new.code.items)) (sym same) (all_below ends (length now.code.items) (length new.code.items) (omega (arith, p.len)) o.within)
 
   no_ends : (es : List ℕ) (n : ℕ) → length es + 0 ≡ 0 → es ≡ []
   no_ends [] n e = refl
@@ -153,15 +135,6 @@ module _ (templates : List Text) (h : ℕ) where
           subst (λ z. Puts old (both z (body_asm behind h)) final) (sym seen) (puts_then old done final first (body_asm behind h) (puts_first old done first whole) q)
 
 -- ---- jumps that are closed, and slots, from the last one on
-
-pub closes_len : (old new : Emitter) (es : List ℕ) → Closes old es new → length new.code.items ≡ length old.code.items
-closes_len old new [] c = ap (λ (z : Emitter). length z.code.items) c
-closes_len old new (e ∷ es) c = c.2.len ∙ closes_len old c.0 es c.1
-
-pub below_at : (es : List ℕ) (n i : ℕ) → AllByRecursion (λ e. e < n) es → i < length es → get_or es i 0 < n
-below_at [] n i a lt = absurd (omega (arith, lt))
-below_at (e ∷ es) n zero a lt = a.0
-below_at (e ∷ es) n (suc i) a lt = below_at es n i a.1 (omega (arith, lt))
 
 pub drop_before : {A : Type 0} (xs : List A) (at : ℕ) (d : A) → 0 < at → at ≤ length xs → drop (at - 1) xs ≡ get_or xs (at - 1) d ∷ drop at xs
 drop_before xs at d some le =

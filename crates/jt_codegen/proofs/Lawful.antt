@@ -34,7 +34,7 @@ use Rattle.jt_slots.specs.Slots.{Slot, local, global, SExpr, SRow, Targets, one,
 use Rattle.jt_slots.specs.Takes.{BodyTakes}
 use Rattle.jt_slots.specs.TheFilters.{the_filters}
 use Rattle.jt_slots.specs.Pool.{Constant, own, known}
-use Rattle.jt_meaning.specs.Resolve.{value_or, read_from, turned_round, tested_by, filtered_by, in_form, field_from, followed, locals_from, fresh, fresh_targets, kept_slots, slot_of, set_targets, filled, filled_some, first_locals, reads, handed_on, Part, Spot, place, grown, bound_table, bound_all, copied, scoped, next_given, first_body, invoked_body, invoked_super, invoked, resolved, resolved_row, resolved_asides, resolved_entries, resolved_condition, resolved_filters, resolved_values, placed_body, resolved_stmt, resolved_body, resolved_choice, top_spot, resolved_sets, resolved_chain, resolved_routine, chain_routine, macro_routine}
+use Rattle.jt_meaning.specs.Resolve.{value_or, read_from, turned_round, tested_by, filtered_by, in_form, field_from, followed, locals_from, fresh, fresh_targets, kept_slots, slot_of, set_targets, filled, filled_some, first_locals, reads, handed_on, Part, Spot, place, grown, bound_table, bound_all, copied, scoped, next_given, first_body, invoked_body, invoked_next, invoked_super, invoked, resolved, resolved_row, resolved_asides, resolved_entries, resolved_condition, resolved_filters, resolved_values, placed_body, resolved_stmt, resolved_body, resolved_choice, top_spot, resolved_sets, resolved_chain, resolved_routine, chain_routine, macro_routine}
 use Rattle.jt_lower.specs.Fits.{IsBare, IsPooled}
 use Rattle.jt_lower.specs.Lawful.{ConstantLawful, SlotLawful, ExprLawful, RowLawful, SomeLawful, SlotsLawful, TargetsLawful, ConditionLawful, BodyLawful, RoutineLawful, AreLawful}
 
@@ -107,7 +107,7 @@ module _ (front globals_count : ℕ) (some : 0 < front) where
   bound_fine (x ∷ xs) m t g = bound_fine xs (suc m) ((x, local m) ∷ t) (tt, g)
 
   field_fine : (f : Option Field) → E (field_from f)
-  field_fine None = some
+  field_fine None = tt
   field_fine (Some f) = tt
 
   either_fine : (b : Bool) (x y : SExpr Constant) → E x → E y → E (if b then x else y)
@@ -206,12 +206,16 @@ module _ (front globals_count : ℕ) (some : 0 < front) where
   module _ (world : World) (order : List Home) (few : (h : Home) → first_slot world order h + length (names world order h) ≤ globals_count)
       (laid : (h : Home) → among h order ≡ true → (f : Expr) (m : MacroBody) → callee (macros world.sources h) f ≡ a_macro m → default_place world order h m.name + length m.parameters ≤ front) where
     body_fined : (h : Home) (on : Bool) (i : Option ℕ) (es : SRow Constant) → R es → E (invoked_body world order h on i es)
-    body_fined h on None es k = as_pooled on []
+    body_fined h on None es k = tt
     body_fined h on (Some i) es k = k
 
+    next_fined : (h : Home) (on : Bool) (i : Option ℕ) (es : SRow Constant) → R es → E (invoked_next world order h on i es)
+    next_fined h on None es k = as_pooled on []
+    next_fined h on (Some i) es k = k
+
     super_fined : (sp : Spot) (p : Option Part) → E (invoked_super world order sp p)
-    super_fined sp None = as_pooled sp.escaping []
-    super_fined sp (Some p) = let xs = block_parameters world order sp.home p.name in body_fined sp.home sp.escaping (next_given p.behind) (first_locals 0 xs) (first_fine 0 xs)
+    super_fined sp None = tt
+    super_fined sp (Some p) = let xs = block_parameters world order sp.home p.name in next_fined sp.home sp.escaping (next_given p.behind) (first_locals 0 xs) (first_fine 0 xs)
 
     globals_of_fine : (h : Home) → Fine (globals world order h)
     globals_of_fine h = globals_fine (first_slot world order h) (names world order h) (few h)
@@ -227,7 +231,7 @@ module _ (front globals_count : ℕ) (some : 0 < front) where
         let xs = block_parameters world order sp.home x in
         body_fined sp.home sp.escaping (first_body (numbered_of world sp.home x)) (reads t xs) (reads_fine t xs (globals_of_fine sp.home))
     invoked_fined a_cycle f sp row asides m ks i e h r a = (r slots.none tt, ((tt, (tt, tt)), tt))
-    invoked_fined no_callee f sp row asides m ks i e h r a = some
+    invoked_fined no_callee f sp row asides m ks i e h r a = tt
 
     mutual
       pub fined : (e : Expr) (sp : Spot) → among sp.home order ≡ true → Fine sp.table → E (resolved world order e sp)
@@ -290,7 +294,7 @@ module _ (front globals_count : ℕ) (some : 0 < front) where
     values_fined (pair x e ps) sp line b i t h = ((tt, fined e sp i t), values_fined ps (grown sp) line b i t h)
 
     placed_fined : (sp : Spot) (i : Option ℕ) (x : Text) (t : Table) → Fine t → B (placed_body world order sp i x t)
-    placed_fined sp None x t h = tt
+    placed_fined sp None x t h = (tt, tt)
     placed_fined sp (Some i) x t h = ((reads_fine t (block_parameters world order sp.home x) h, reads_bare t (block_parameters world order sp.home x)), tt)
 
     table_fine : (b : Bool) (sp : Spot) → Fine sp.table → Fine (if b then sp.table else globals world order sp.home)

@@ -1,5 +1,5 @@
 -- Instructions put behind others, and jumps that are written when their target is known.
-use Rattle.std.proofs.Common.{◌≡◌, ℕ, ◌+◌, ◌<◌, ◌≤◌, ◌^◌, List, [], ◌∷◌, ◌++◌, length, map, refl, sym, ap, ◌∙◌, subst, arith, Option, None, append_assoc, append-nil, length-append}
+use Rattle.std.proofs.Common.{◌≡◌, ℕ, ◌+◌, ◌<◌, ◌≤◌, ◌^◌, false, List, [], ◌∷◌, ◌++◌, length, map, refl, sym, ap, ◌∙◌, subst, arith, Option, None, append_assoc, append-nil, length-append}
 use Rattle.std.specs.Prelude.{slice_set}
 use Rattle.std.specs.List.{AllByRecursion}
 use Rattle.std.proofs.Math.Seq.{set-append_seam}
@@ -8,7 +8,7 @@ use Rattle.jt_image.specs.declared.instruction.Instruction.{Instruction}
 use Rattle.jt_image.specs.declared.instruction.Instruction.TheVariants as op
 use Rattle.jt_image.specs.declared.wire.Instr.{Instr}
 use Rattle.jt_image.specs.Spelling.{wire_of}
-use Rattle.jt_image.specs.IsCode.{IsInstruction, max_instructions}
+use Rattle.jt_image.specs.IsCode.{IsInstruction}
 use Rattle.jt_slots.specs.Got.{Place}
 use Rattle.jt_lower.specs.Asm.{Asm, nil, one, both, choose, when, each, invoke, flat}
 use Rattle.jt_lower.specs.Emission.{Emitted, HasPlace, Puts, Reserves, Patches, Ends, EndsTurns}
@@ -87,28 +87,28 @@ all_back : (is js : List Instruction) → AllByRecursion IsInstruction (is ++ js
 all_back [] js h = h
 all_back (i ∷ is) js h = all_back is js h.1
 
-pub place_first : (n : ℕ) (a b : Asm) → HasPlace n (both a b) → HasPlace n a
-place_first n a b h =
+place_first : (m n : ℕ) (a b : Asm) → HasPlace m n (both a b) → HasPlace m n a
+place_first m n a b h =
     let fa = flat a n in
     let fb = flat b (n + length fa) in
     record { len = omega (arith, h.len, length-append fa fb); fields = all_front fa fb h.fields }
 
-pub place_second : (n : ℕ) (a b : Asm) → HasPlace n (both a b) → HasPlace (n + length (flat a n)) b
-place_second n a b h =
+place_second : (m n : ℕ) (a b : Asm) → HasPlace m n (both a b) → HasPlace m (n + length (flat a n)) b
+place_second m n a b h =
     let fa = flat a n in
     let fb = flat b (n + length fa) in
     record { len = omega (arith, h.len, length-append fa fb); fields = all_back fa fb h.fields }
 
-pub place_taken : (n : ℕ) (a b : Asm) → HasPlace n (choose a b) → HasPlace (n + 1) a
-place_taken n a b h =
+place_taken : (m n : ℕ) (a b : Asm) → HasPlace m n (choose a b) → HasPlace m (n + 1) a
+place_taken m n a b h =
     let ca = flat a (n + 1) in
     let q = n + 1 + length ca + 1 in
     let cb = flat b q in
     let last = op.Jump (q + length cb) ∷ cb in
     record { len = omega (arith, h.len, length-append ca last); fields = all_front ca last h.fields.1 }
 
-pub place_other : (n : ℕ) (a b : Asm) → HasPlace n (choose a b) → HasPlace (n + 1 + length (flat a (n + 1)) + 1) b
-place_other n a b h =
+place_other : (m n : ℕ) (a b : Asm) → HasPlace m n (choose a b) → HasPlace m (n + 1 + length (flat a (n + 1)) + 1) b
+place_other m n a b h =
     let ca = flat a (n + 1) in
     let q = n + 1 + length ca + 1 in
     let cb = flat b q in
@@ -153,76 +153,76 @@ turns_opened c1 c2 c3 c4 new a top at jumps ea back ends =
 
 -- ---- place for what choices and loops do
 
-place_when : (n : ℕ) (a : Asm) → HasPlace n (when a) → HasPlace (n + 1) a
-place_when n a h = record { len = omega (arith, h.len); fields = h.fields.1 }
+place_when : (m n : ℕ) (a : Asm) → HasPlace m n (when a) → HasPlace m (n + 1) a
+place_when m n a h = record { len = omega (arith, h.len); fields = h.fields.1 }
 
-place_turn : (n : ℕ) (a : Asm) → HasPlace n (each a) → HasPlace (n + 1) a
-place_turn n a h =
+place_turn : (m n : ℕ) (a : Asm) → HasPlace m n (each a) → HasPlace m (n + 1) a
+place_turn m n a h =
     let ca = flat a (n + 1) in
     record { len = omega (arith, h.len, length-append ca (op.Jump n ∷ [])); fields = all_front ca (op.Jump n ∷ []) h.fields.1 }
 
 -- ---- instructions behind others, as far as there is place
 
+-- the same place, by the limit and the length of the code
+place_at : (c : Emitter) (m n : ℕ) (a : Asm) → c.limit ≡ m → length c.code.items ≡ n → HasPlace m n a → HasPlace c.limit (length c.code.items) a
+place_at c m n a el en h = subst (λ k. HasPlace k (length c.code.items) a) (sym el) (subst (λ k. HasPlace m k a) (sym en) h)
+
+puts_len : (c d : Emitter) (a : Asm) → Puts c a d → d.overflowed ≡ false → length d.code.items ≡ length c.code.items + length (flat a (length c.code.items))
+puts_len c d a p h = emitted_len c.code.items d.code.items a (p.emitted h)
+
 pub puts_nothing : (c : Emitter) → Puts c nil c
-puts_nothing c = record { len = omega arith; kept = λ h. h; emitted = λ h. emitted_nothing c.code.items; place = λ h k. k }
+puts_nothing c = record { limit = refl; kept = λ h. h; emitted = λ h. emitted_nothing c.code.items; place = λ h k. k }
 
 pub puts_then : (c0 c1 c2 : Emitter) (a b : Asm) → Puts c0 a c1 → Puts c1 b c2 → Puts c0 (both a b) c2
 puts_then c0 c1 c2 a b p q =
     let n = length c0.code.items in
-    let fa = flat a n in
-    let fb = flat b (n + length fa) in
-    let behind : length (flat b (length c1.code.items)) ≡ length fb = ap (λ k. length (flat b k)) p.len in
     record {
-      len = omega (arith, p.len, q.len, behind, length-append fa fb);
+      limit = q.limit ∙ p.limit;
       kept = λ h. p.kept (q.kept h);
       emitted = λ h. emitted_then c0.code.items c1.code.items c2.code.items a b (p.emitted (q.kept h)) (q.emitted h);
-      place = λ h k. q.place (subst (λ m. HasPlace m b) (sym p.len) (place_second n a b h)) (p.place (place_first n a b h) k);
+      place = λ h k.
+          let k1 = p.place (place_first c0.limit n a b h) k in
+          q.place (place_at c1 c0.limit (n + length (flat a n)) b p.limit (puts_len c0 c1 a p k1) (place_second c0.limit n a b h)) k1;
     }
 
 -- the same instructions behind another Asm
 pub puts_as : (c d : Emitter) (a b : Asm) → a ≡ b → Puts c b d → Puts c a d
 puts_as c d a b same p = subst (λ x. Puts c x d) (sym same) p
 
-pub reserved_len : (c d : Emitter) (i : Instruction) (n : ℕ) → Reserves c i n d → length d.code.items ≡ length c.code.items + 1
-reserved_len c d i n r = ap length r.code ∙ length-append c.code.items (wire_of i ∷ [])
-
-pub reserved_within : (c d e : Emitter) (i : Instruction) (n : ℕ) (a : Asm) → Reserves c i n d → Puts d a e → n < length e.code.items
-reserved_within c d e i n a r p = omega (arith, r.at, reserved_len c d i n r, p.len)
-
-pub ended_len : (c d : Emitter) (choice last : ℕ) → Ends c choice last d → length d.code.items ≡ length c.code.items + 1
-ended_len c d choice last e = e.patches.len ∙ reserved_len c e.jumped (op.Jump 0) last e.reserves
-
-pub ended_within : (c d z : Emitter) (choice last : ℕ) (b : Asm) → Ends c choice last d → Puts d b z → last < length z.code.items
-ended_within c d z choice last b e p = omega (arith, e.reserves.at, ended_len c d choice last e, p.len)
-
 -- both sides of a choice stand behind its test, and its jumps are written
 pub puts_choice : (c1 c2 c3 c5 z new : Emitter) (a b : Asm) (choice last : ℕ) → Reserves c1 (op.JumpIfFalse 0) choice c2 → Puts c2 a c3 → Ends c3 choice last c5 → Puts c5 b z → Patches z last (op.Jump (length z.code.items)) new → Puts c1 (choose a b) new
 puts_choice c1 c2 c3 c5 z new a b choice last tests pa ends pb closes =
+    let m = c1.limit in
     let p = length c1.code.items in
     let ca = flat a (p + 1) in
     let q = p + 1 + length ca + 1 in
     let cb = flat b q in
-    let l2 : length c2.code.items ≡ p + 1 = reserved_len c1 c2 (op.JumpIfFalse 0) choice tests in
-    let la : length (flat a (length c2.code.items)) ≡ length ca = ap (λ k. length (flat a k)) l2 in
-    let l3 : length c3.code.items + 1 ≡ q = omega (arith, pa.len, l2, la) in
-    let l5 : length c5.code.items ≡ q = ended_len c3 c5 choice last ends ∙ l3 in
-    let lb : length (flat b (length c5.code.items)) ≡ length cb = ap (λ k. length (flat b k)) l5 in
-    let lz : length z.code.items ≡ q + length cb = omega (arith, pb.len, l5, lb) in
-    let l4 : length ends.jumped.code.items ≡ q = reserved_len c3 ends.jumped (op.Jump 0) last ends.reserves ∙ l3 in
+    let m2 : c2.limit ≡ m = tests.puts.limit in
+    let m3 : c3.limit ≡ m = pa.limit ∙ m2 in
+    let m5 : c5.limit ≡ m = ends.patches.limit ∙ ends.reserves.puts.limit ∙ m3 in
     record {
-      len = omega (arith, closes.len, lz, length-append ca (op.Jump (q + length cb) ∷ cb));
-      kept = λ h. let k3 = (ends.patches.kept (pb.kept (closes.kept h))) in sym tests.same ∙ pa.kept (sym ends.reserves.same ∙ k3);
+      limit = closes.limit ∙ pb.limit ∙ m5;
+      kept = λ h. tests.puts.kept (pa.kept (ends.reserves.puts.kept (ends.patches.kept (pb.kept (closes.kept h)))));
       emitted = λ h.
           let kz = closes.kept h in
           let k5 = pb.kept kz in
-          let k3 = sym ends.reserves.same ∙ ends.patches.kept k5 in
-          closes.code h ∙ choose_opened c1.code.items c2.code.items c3.code.items ends.jumped.code.items c5.code.items z.code.items a b choice last (length ends.jumped.code.items) tests.code (pa.emitted k3) ends.reserves.code tests.at ends.reserves.at refl (ends.patches.code k5) (pb.emitted kz);
+          let k4 = ends.patches.kept k5 in
+          let k3 = ends.reserves.puts.kept k4 in
+          closes.code h ∙ choose_opened c1.code.items c2.code.items c3.code.items ends.jumped.code.items c5.code.items z.code.items a b choice last (length ends.jumped.code.items) (tests.puts.emitted (pa.kept k3)) (pa.emitted k3) (ends.reserves.puts.emitted k4) tests.at ends.reserves.at refl (ends.patches.code k5) (pb.emitted kz);
       place = λ h k.
-          let h1 = subst (λ m. HasPlace m a) (sym l2) (place_taken p a b h) in
-          let h2 = subst (λ m. HasPlace m b) (sym l5) (place_other p a b h) in
-          let k3 = pa.place h1 (tests.same ∙ k) in
-          let k5 = ends.patches.place (subst (λ m. m < 2 ^ 32) (sym l4) h.fields.0) (ends.reserves.same ∙ k3) in
-          closes.place (subst (λ m. m < 2 ^ 32) (sym lz) (all_back ca (op.Jump (q + length cb) ∷ cb) h.fields.1).0) (pb.place h2 k5);
+          let out = op.Jump (q + length cb) ∷ cb in
+          let k2 = tests.puts.place (record { len = omega (arith, h.len); fields = (omega arith, tt) }) k in
+          let l2 : length c2.code.items ≡ p + 1 = puts_len c1 c2 (alone (op.JumpIfFalse 0)) tests.puts k2 in
+          let k3 = pa.place (place_at c2 m (p + 1) a m2 l2 (place_taken m p a b h)) k2 in
+          let l3 : length c3.code.items ≡ p + 1 + length ca = puts_len c2 c3 a pa k3 ∙ ap (λ n. n + length (flat a n)) l2 in
+          let jump : HasPlace m (p + 1 + length ca) (alone (op.Jump 0)) = record { len = omega (arith, h.len, length-append ca out); fields = (omega arith, tt) } in
+          let k4 = ends.reserves.puts.place (place_at c3 m (p + 1 + length ca) (alone (op.Jump 0)) m3 l3 jump) k3 in
+          let l4 : length ends.jumped.code.items ≡ q = puts_len c3 ends.jumped (alone (op.Jump 0)) ends.reserves.puts k4 ∙ ap (λ n. n + 1) l3 in
+          let k5 = ends.patches.place (subst (λ n. n < 2 ^ 32) (sym l4) h.fields.0) k4 in
+          let l5 : length c5.code.items ≡ q = ends.patches.len ∙ l4 in
+          let kz = pb.place (place_at c5 m q b m5 l5 (place_other m p a b h)) k5 in
+          let lz : length z.code.items ≡ q + length cb = puts_len c5 z b pb kz ∙ ap (λ n. n + length (flat b n)) l5 in
+          closes.place (subst (λ n. n < 2 ^ 32) (sym lz) (all_back ca out h.fields.1).0) kz;
     }
 
 -- what is done for a true value stands behind its test
@@ -230,46 +230,48 @@ pub puts_when : (c1 c2 c3 new : Emitter) (a : Asm) (choice : ℕ) → Reserves c
 puts_when c1 c2 c3 new a choice tests pa ends =
     let p = length c1.code.items in
     let ca = flat a (p + 1) in
-    let q = p + 1 + length ca in
-    let l2 : length c2.code.items ≡ p + 1 = reserved_len c1 c2 (op.JumpIfFalse 0) choice tests in
-    let la : length (flat a (length c2.code.items)) ≡ length ca = ap (λ k. length (flat a k)) l2 in
-    let l3 : length c3.code.items ≡ q = omega (arith, pa.len, l2, la) in
     record {
-      len = omega (arith, ends.len, l3);
-      kept = λ h. sym tests.same ∙ pa.kept (ends.kept h);
-      emitted = λ h. when_opened c1.code.items c2.code.items c3.code.items new.code.items a choice tests.at tests.code (pa.emitted (ends.kept h)) (ends.code h);
+      limit = ends.limit ∙ pa.limit ∙ tests.puts.limit;
+      kept = λ h. tests.puts.kept (pa.kept (ends.kept h));
+      emitted = λ h. let k3 = ends.kept h in when_opened c1.code.items c2.code.items c3.code.items new.code.items a choice tests.at (tests.puts.emitted (pa.kept k3)) (pa.emitted k3) (ends.code h);
       place = λ h k.
-          let h1 = subst (λ m. HasPlace m a) (sym l2) (place_when p a h) in
-          ends.place (subst (λ m. m < 2 ^ 32) (sym l3) h.fields.0) (pa.place h1 (tests.same ∙ k));
+          let k2 = tests.puts.place (record { len = omega (arith, h.len); fields = (omega arith, tt) }) k in
+          let l2 : length c2.code.items ≡ p + 1 = puts_len c1 c2 (alone (op.JumpIfFalse 0)) tests.puts k2 in
+          let k3 = pa.place (place_at c2 c1.limit (p + 1) a tests.puts.limit l2 (place_when c1.limit p a h)) k2 in
+          let l3 : length c3.code.items ≡ p + 1 + length ca = puts_len c2 c3 a pa k3 ∙ ap (λ n. n + length (flat a n)) l2 in
+          ends.place (subst (λ n. n < 2 ^ 32) (sym l3) h.fields.0) k3;
     }
 
 -- what is done once for each item stands behind its test, and the jumps of the loop are written
 pub puts_turns : (c1 c2 c3 new : Emitter) (a : Asm) (top : ℕ) → Reserves c1 (op.LoopNext 0) top c2 → Puts c2 a c3 → EndsTurns c3 top new → Puts c1 (each a) new
 puts_turns c1 c2 c3 new a top begins pa ends =
+    let m = c1.limit in
     let p = length c1.code.items in
     let ca = flat a (p + 1) in
     let q = p + 1 + length ca + 1 in
-    let l2 : length c2.code.items ≡ p + 1 = reserved_len c1 c2 (op.LoopNext 0) top begins in
-    let la : length (flat a (length c2.code.items)) ≡ length ca = ap (λ k. length (flat a k)) l2 in
-    let l3 : length c3.code.items + 1 ≡ q = omega (arith, pa.len, l2, la) in
-    let l4 : length ends.back.code.items ≡ q = omega (arith, ends.goes.len, l3) in
+    let m3 : c3.limit ≡ m = pa.limit ∙ begins.puts.limit in
     record {
-      len = omega (arith, ends.patches.len, l4, length-append ca (op.Jump p ∷ []));
-      kept = λ h. sym begins.same ∙ pa.kept (ends.goes.kept (ends.patches.kept h));
+      limit = ends.patches.limit ∙ ends.goes.limit ∙ m3;
+      kept = λ h. begins.puts.kept (pa.kept (ends.goes.kept (ends.patches.kept h)));
       emitted = λ h.
           let k4 = ends.patches.kept h in
           let k3 = ends.goes.kept k4 in
-          turns_opened c1.code.items c2.code.items c3.code.items ends.back.code.items new.code.items a top begins.at begins.code (pa.emitted k3) (ends.goes.emitted k4) (ends.patches.code h);
+          turns_opened c1.code.items c2.code.items c3.code.items ends.back.code.items new.code.items a top begins.at (begins.puts.emitted (pa.kept k3)) (pa.emitted k3) (ends.goes.emitted k4) (ends.patches.code h);
       place = λ h k.
-          let h1 = subst (λ m. HasPlace m a) (sym l2) (place_turn p a h) in
           let back : p < 2 ^ 32 = (all_back ca (op.Jump p ∷ []) h.fields.1).0 in
-          let h3 : HasPlace (length c3.code.items) (alone (op.Jump top)) = record { len = omega (arith, h.len, l3, length-append ca (op.Jump p ∷ [])); fields = (omega (arith, back, begins.at), tt) } in
-          ends.patches.place (subst (λ m. m < 2 ^ 32) (sym l4) h.fields.0) (ends.goes.place h3 (pa.place h1 (begins.same ∙ k)));
+          let k2 = begins.puts.place (record { len = omega (arith, h.len); fields = (omega arith, tt) }) k in
+          let l2 : length c2.code.items ≡ p + 1 = puts_len c1 c2 (alone (op.LoopNext 0)) begins.puts k2 in
+          let k3 = pa.place (place_at c2 m (p + 1) a begins.puts.limit l2 (place_turn m p a h)) k2 in
+          let l3 : length c3.code.items ≡ p + 1 + length ca = puts_len c2 c3 a pa k3 ∙ ap (λ n. n + length (flat a n)) l2 in
+          let jump : HasPlace m (p + 1 + length ca) (alone (op.Jump top)) = record { len = omega (arith, h.len, length-append ca (op.Jump p ∷ [])); fields = (omega (arith, back, begins.at), tt) } in
+          let k4 = ends.goes.place (place_at c3 m (p + 1 + length ca) (alone (op.Jump top)) m3 l3 jump) k3 in
+          let l4 : length ends.back.code.items ≡ q = puts_len c3 ends.back (alone (op.Jump top)) ends.goes k4 ∙ ap (λ n. n + 1) l3 in
+          ends.patches.place (subst (λ n. n < 2 ^ 32) (sym l4) h.fields.0) k4;
     }
 
 -- a call is its instruction
 pub puts_call : (c d : Emitter) (o : Option Place) (u : ℕ) → Puts c (one o (op.Call u)) d → Puts c (invoke o u) d
-puts_call c d o u p = record { len = p.len; kept = p.kept; emitted = p.emitted; place = λ h k. p.place (record { len = h.len; fields = h.fields }) k }
+puts_call c d o u p = record { limit = p.limit; kept = p.kept; emitted = p.emitted; place = λ h k. p.place (record { len = h.len; fields = h.fields }) k }
 
 pub puts_last : (c d : Emitter) (a : Asm) → Puts c a d → Puts c (both a nil) d
 puts_last c d a p = puts_then c d d a nil p (puts_nothing d)
@@ -279,8 +281,8 @@ puts_first c d a p =
     let n = length c.code.items in
     let same : flat (both a nil) n ≡ flat a n = append-nil (flat a n) in
     record {
-      len = p.len ∙ ap (λ is. n + length is) same;
+      limit = p.limit;
       kept = p.kept;
       emitted = λ h. p.emitted h ∙ ap (λ is. c.code.items ++ W is) same;
-      place = λ h k. p.place (record { len = subst (λ is. n + length is ≤ max_instructions) (sym same) h.len; fields = subst (AllByRecursion IsInstruction) (sym same) h.fields }) k;
+      place = λ h k. p.place (record { len = subst (λ is. n + length is ≤ c.limit) (sym same) h.len; fields = subst (AllByRecursion IsInstruction) (sym same) h.fields }) k;
     }

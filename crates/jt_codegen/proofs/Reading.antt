@@ -1,5 +1,5 @@
 -- Instructions by their fields, and units.
-use Rattle.std.proofs.Common.{◌≡◌, ℕ, true, false, List, [], ◌∷◌, ◌++◌, length, map, None, Some, refl, sym, ap, ◌∙◌, subst, arith}
+use Rattle.std.proofs.Common.{◌≡◌, ℕ, ◌≤◌, true, false, List, [], ◌∷◌, ◌++◌, length, map, None, Some, refl, sym, ap, ◌∙◌, subst, arith}
 use Rattle.std.specs.Prelude.{option_map}
 use Rattle.jt_image.specs.declared.instruction.Instruction.{Instruction}
 use Rattle.jt_image.specs.declared.instruction.Instruction.TheVariants as op
@@ -73,9 +73,13 @@ module _ (templates : List Text) (r : Routine) (c0 c1 c2 : Emitter) (empty : c0.
       ∙ ap (λ (n : ℕ). Some (record { parameters = n; kind = 0; locals = locals; code = is })) p
       ∙ ap (λ (n : ℕ). Some (record { parameters = r.parameters; kind = 0; locals = n; code = is })) l
 
-  pub unit_refused : c2.overflowed ≡ true → ¬ (FitsUnit (unit_of (routine_view templates r)))
-  unit_refused over = λ fits.
-      let place : HasPlace 0 all = record { len = omega (arith, fits.len); fields = fits.writable.code } in
-      let none : c2.overflowed ≡ false = puts.place (subst (λ (l : List Instr). HasPlace (length l) all) (sym empty) place) whole in
+  pub unit_within : (left : ℕ) → c0.limit ≡ left → length c2.code.items ≤ left
+  unit_within left limited = omega (arith, c2.within, puts.limit, limited)
+
+  pub unit_refused : (left : ℕ) → c0.limit ≡ left → c2.overflowed ≡ true → ¬ (FitsUnit left (unit_of (routine_view templates r)))
+  unit_refused left limited over = λ fits.
+      let place : HasPlace left 0 all = record { len = omega (arith, fits.len); fields = fits.writable.code } in
+      let placed : HasPlace c0.limit 0 all = subst (λ (n : ℕ). HasPlace n 0 all) (sym limited) place in
+      let none : c2.overflowed ≡ false = puts.place (subst (λ (l : List Instr). HasPlace c0.limit (length l) all) (sym empty) placed) whole in
       let both_ways : true ≡ false = sym over ∙ none in
       cc

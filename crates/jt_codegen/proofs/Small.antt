@@ -7,9 +7,9 @@ use Rattle.jt_value.specs.Tree as tree
 use Rattle.jt_value.specs.Tree.{Tree}
 use Rattle.jt_image.specs.Code.{Name, Section}
 use Rattle.jt_image.specs.Spelling.{name_bytes, constant_bytes}
-use Rattle.jt_image.specs.IsCode.{IsInstruction, total_len, max_locals, max_instructions}
+use Rattle.jt_image.specs.IsCode.{IsInstruction, max_locals}
 use Rattle.jt_image.specs.Typed.{max_entries}
-use Rattle.jt_image.specs.Parts.{KeepsLimits}
+use Rattle.jt_image.specs.Parts.{KeepsLimits, IsWritable}
 use Rattle.jt_image.specs.Laws.{CodeLaws}
 use Rattle.jt_parse.specs.Trees.{Text}
 use Rattle.jt_inherit.specs.Chain.{Home}
@@ -22,7 +22,7 @@ use Rattle.jt_slots.specs.Slots.{Routine, Program}
 use Rattle.jt_lower.specs.Compiles.{LowLaws}
 use Rattle.jt_lower.specs.Fits.{ProgramFits}
 use Rattle.jt_lower.specs.Lower.{unit_of, constant_of, numbered, compiled}
-use Rattle.jt_codegen.specs.Units.{FitsUnit, FitsImage}
+use Rattle.jt_codegen.specs.Units.{FitsImage}
 use Rattle.jt_codegen.proofs.Read.{all_each}
 use Rattle.jt_codegen.proofs.Tabled.{numbered_len}
 use Rattle.jt_codegen.proofs.Ordered.{numbered_texts}
@@ -78,13 +78,9 @@ units_locals n (r ∷ rs) le h = (omega (arith, le, h.0), units_locals n rs le h
 
 -- ---- an image has place for the code of a program that fits, where the limits are kept
 
-units_fit : (us : List Section) → AllByRecursion (λ u. u.parameters ≤ 200) us → AllByRecursion (λ u. u.locals ≤ max_locals) us → total_len us ≤ max_instructions → AllByRecursion (λ u. AllByRecursion IsInstruction u.code) us
-    → AllByRecursion FitsUnit us
-units_fit [] parameters locals len written = tt
-units_fit (u ∷ us) parameters locals len written = (
-  record { locals = locals.0; len = omega (arith, len); writable = record { parameters = omega (arith, parameters.0); code = written.0 } },
-  units_fit us parameters.1 locals.1 (omega (arith, len)) written.1,
-)
+units_writable : (us : List Section) → AllByRecursion (λ u. u.parameters ≤ 200) us → AllByRecursion (λ u. AllByRecursion IsInstruction u.code) us → AllByRecursion IsWritable us
+units_writable [] parameters written = tt
+units_writable (u ∷ us) parameters written = (record { parameters = omega (arith, parameters.0); code = written.0 }, units_writable us parameters.1 written.1)
 
 module _ (laws : CodeLaws) (low : LowLaws) (world : World) (order : List Home) (p : Program) (sized : IsSized world order p) (weight : chains_weight world.sources order ≤ 2000) where
   -- no routine needs more entries than a shape may have
@@ -106,4 +102,4 @@ module _ (laws : CodeLaws) (low : LowLaws) (world : World) (order : List Home) (
     pub small_fits : ProgramFits p → AllByRecursion (λ u. u.parameters ≤ 200) (compiled p).units → FitsImage (compiled p)
     small_fits fit parameters =
         let globals : p.globals < 2 ^ 16 = omega (arith, sized.globals, weight, few) in
-        record { globals = globals; limits = limits; units = units_fit (compiled p).units parameters limits.locals limits.instructions (low.written p fit globals limits) }
+        record { globals = globals; limits = limits; writable = units_writable (compiled p).units parameters (low.written p fit globals limits) }

@@ -1,8 +1,12 @@
 -- The tables and the units of a program.
-use Rattle.std.proofs.Common.{◌≡◌, ℕ, suc, ◌+◌, ◌<◌, ◌≤◌, List, [], ◌∷◌, ◌++◌, length, drop, get_or, map, Option, Some, None, String, string_bytes, Global, refl, sym, ap, ◌∙◌, subst, arith, append_assoc, append-nil}
-use Rattle.std.specs.List.{AllByRecursion}
+use Rattle.std.proofs.Common.{◌≡◌, ℕ, suc, ◌+◌, ◌-◌, ◌<◌, ◌≤◌, List, [], ◌∷◌, ◌++◌, length, drop, get_or, map, Option, Some, None, String, string_bytes, Global, refl, sym, ap, ◌∙◌, subst, arith, append_assoc, append-nil}
+use Rattle.std.specs.Prelude.{option_map}
 use Rattle.std.proofs.lemmas.List.{map-append, drop_more, at_drop_all}
 use Rattle.jt_image.specs.Code.{Section}
+use Rattle.jt_image.specs.declared.instruction.Instruction.{Instruction}
+use Rattle.jt_image.specs.declared.wire.Instr.{Instr}
+use Rattle.jt_image.specs.Reading.{instruction_of}
+use Rattle.jt_image.specs.IsCode.{total_len, max_instructions}
 use Rattle.jt_image.specs.declared.parts.Unit as given
 use Rattle.jt_image.specs.View.{name_view, names_view}
 use Rattle.jt_image.specs.Parts.{in_front, each_of, section_of_unit}
@@ -11,7 +15,7 @@ use Rattle.jt_slots.specs.View.{routine_view, templates_of, program_of}
 use Rattle.jt_slots.specs.declared.program.Routine.{Routine}
 use Rattle.jt_slots.specs.declared.program.Program.{Program}
 use Rattle.jt_lower.specs.Lower.{unit_of, numbered, compiled}
-use Rattle.jt_codegen.specs.Units.{FitsUnit, Refuses, RefusesUnits, RefusesCode}
+use Rattle.jt_codegen.specs.Units.{FitUnits, Refuses, RefusesUnits, RefusesCode}
 use Rattle.jt_codegen.specs.declared.emission.EmitError.{EmitError}
 use Rattle.jt_codegen.specs.declared.emission.EmitError.TheVariants as error
 
@@ -33,6 +37,36 @@ name_more vs ns i n x s lt is same at so_far =
 
 -- ---- units
 
+total_snoc : (us : List Section) (u : Section) → total_len (us ++ u ∷ []) ≡ total_len us + length u.code
+total_snoc [] u = omega arith
+total_snoc (v ∷ us) u = omega (arith, total_snoc us u)
+
+read_len : (xs : List Instr) (is : List Instruction) → each_of instruction_of xs ≡ Some is → length xs ≡ length is
+read_len [] is e = let none : [] ≡ is = (let same : Some [] ≡ Some is = e in cc) in ap length none
+read_len (x ∷ xs) is e = through (instruction_of x) (each_of instruction_of xs) refl e (λ js f. read_len xs js f)
+  where
+    through : (o : Option Instruction) (p : Option (List Instruction)) → each_of instruction_of xs ≡ p → in_front o p ≡ Some is → ((js : List Instruction) → each_of instruction_of xs ≡ Some js → length xs ≡ length js) → suc (length xs) ≡ length is
+    through None p q f more = absurd (let same : None ≡ Some is = f in cc)
+    through (Some i) None q f more = absurd (let same : None ≡ Some is = f in cc)
+    through (Some i) (Some js) q f more =
+        let same : Some (i ∷ js) ≡ Some is = f in
+        let is_it : i ∷ js ≡ is = cc in
+        ap suc (more js q) ∙ ap length is_it
+
+-- a unit has as many instructions as are read
+section_len : (u : given.Unit) (s : Section) → section_of_unit u ≡ Some s → length u.code.items ≡ length s.code
+section_len u s e = through (each_of instruction_of u.code.items) refl e
+  where
+    with_code : List Instruction → Section
+    with_code code = record { parameters = u.parameters; kind = u.kind; locals = u.locals; code = code }
+
+    through : (o : Option (List Instruction)) → each_of instruction_of u.code.items ≡ o → option_map with_code o ≡ Some s → length u.code.items ≡ length s.code
+    through None q f = absurd (let same : None ≡ Some s = f in cc)
+    through (Some is) q f =
+        let same : Some (with_code is) ≡ Some s = f in
+        let is_it : with_code is ≡ s = cc in
+        read_len u.code.items is q ∙ ap (λ (t : Section). length t.code) is_it
+
 module _ (templates : List Text) where
   abbrev pub unit : Routine → Section
   unit r = unit_of (routine_view templates r)
@@ -40,15 +74,16 @@ module _ (templates : List Text) where
   abbrev pub units : List Routine → List Section
   units rs = map unit_of (map (routine_view templates) rs)
 
-  -- units in front of those that are left are those of all routines; and where all fit, those that are left do
-  pub record Made (us : List given.Unit) (all left : List Routine) : Type 0 where
+  -- Units in front of those that are left are those of all routines, with so many instructions left; and where all fit, those that are left do.
+  pub record Made (us : List given.Unit) (n : ℕ) (all left : List Routine) : Type 0 where
     pub front : List Section
     pub read : each_of section_of_unit us ≡ Some front
     pub whole : front ++ units left ≡ units all
-    pub fits : AllByRecursion FitsUnit (units all) → AllByRecursion FitsUnit (units left)
+    pub counted : total_len front + n ≡ max_instructions
+    pub fits : FitUnits max_instructions (units all) → FitUnits n (units left)
 
-  pub made_first : (all : List Routine) → Made [] all all
-  made_first all = record { front = []; read = refl; whole = refl; fits = λ h. h }
+  pub made_first : (all : List Routine) → Made [] max_instructions all all
+  made_first all = record { front = []; read = refl; whole = refl; counted = omega arith; fits = λ h. h }
 
   each_snoc : (us : List given.Unit) (u : given.Unit) (front : List Section) (s : Section) → each_of section_of_unit us ≡ Some front → section_of_unit u ≡ Some s → each_of section_of_unit (us ++ u ∷ []) ≡ Some (front ++ s ∷ [])
   each_snoc [] u front s e is = let none : [] ≡ front = (let same : Some [] ≡ Some front = e in cc) in ap (λ o. in_front o (Some [])) is ∙ ap (λ l. Some (l ++ s ∷ [])) none
@@ -63,30 +98,43 @@ module _ (templates : List Text) where
           let is_it : t ∷ ts ≡ front = cc in
           ap (in_front (Some t)) (more ts q) ∙ ap (λ l. Some (l ++ s ∷ [])) is_it
 
-  pub made_more : (us : List given.Unit) (u : given.Unit) (rs : List Routine) (i : ℕ) (r : Routine) → i < length rs → r ≡ get_or rs i r → section_of_unit u ≡ Some (unit r) → Made us rs (drop i rs) → Made (us ++ u ∷ []) rs (drop (i + 1) rs)
-  made_more us u rs i r lt is e m =
+  pub made_more : (us : List given.Unit) (u : given.Unit) (n : ℕ) (rs : List Routine) (i : ℕ) (r : Routine) → i < length rs → r ≡ get_or rs i r → section_of_unit u ≡ Some (unit r) → length u.code.items ≤ n → Made us n rs (drop i rs) → Made (us ++ u ∷ []) (n - length u.code.items) rs (drop (i + 1) rs)
+  made_more us u n rs i r lt is e within m =
+      let len = section_len u (unit r) e in
       let left : drop i rs ≡ r ∷ drop (i + 1) rs = drop_more rs i r lt ∙ ap (λ y. y ∷ drop (i + 1) rs) (sym is) in
       record {
         front = m.front ++ unit r ∷ [];
         read = each_snoc us u m.front (unit r) m.read e;
         whole = append_assoc m.front (unit r ∷ []) (units (drop (i + 1) rs)) ∙ ap (λ l. m.front ++ units l) (sym left) ∙ m.whole;
-        fits = λ h. (subst (λ l. AllByRecursion FitsUnit (units l)) left (m.fits h)).1;
+        counted = omega (arith, m.counted, within, len, total_snoc m.front (unit r));
+        fits = λ h.
+            let f = subst (λ (l : List Routine). FitUnits n (units l)) left (m.fits h) in
+            let all : length (unit r).code + total_len (units (drop (i + 1) rs)) ≤ n = f.len in
+            record { locals = f.locals.1; len = omega (arith, all, len); writable = f.writable.1 };
       }
 
-  pub made_all : (us : List given.Unit) (rs : List Routine) (i : ℕ) → length rs ≤ i → Made us rs (drop i rs) → each_of section_of_unit us ≡ Some (units rs)
-  made_all us rs i le m = m.read ∙ ap Some (sym (append-nil m.front) ∙ ap (λ l. m.front ++ units l) (sym (at_drop_all (λ l. l) rs i le)) ∙ m.whole)
+  made_whole : (us : List given.Unit) (n : ℕ) (rs : List Routine) (i : ℕ) → length rs ≤ i → (m : Made us n rs (drop i rs)) → m.front ≡ units rs
+  made_whole us n rs i le m = sym (append-nil m.front) ∙ ap (λ l. m.front ++ units l) (sym (at_drop_all (λ l. l) rs i le)) ∙ m.whole
 
-  pub unit_refused : (e : EmitError) (us : List given.Unit) (rs : List Routine) (i : ℕ) (r : Routine) → i < length rs → r ≡ get_or rs i r → Refuses e (unit r) → Made us rs (drop i rs) → RefusesUnits e (units rs)
-  unit_refused error.NoMemory us rs i r lt is n m = tt
-  unit_refused error.CodeTooLong us rs i r lt is n m = λ h.
+  pub made_all : (us : List given.Unit) (n : ℕ) (rs : List Routine) (i : ℕ) → length rs ≤ i → Made us n rs (drop i rs) → each_of section_of_unit us ≡ Some (units rs)
+  made_all us n rs i le m = m.read ∙ ap Some (made_whole us n rs i le m)
+
+  pub made_short : (us : List given.Unit) (n : ℕ) (rs : List Routine) (i : ℕ) → length rs ≤ i → Made us n rs (drop i rs) → total_len (units rs) ≤ max_instructions
+  made_short us n rs i le m = omega (arith, m.counted, ap total_len (made_whole us n rs i le m))
+
+  pub unit_refused : (e : EmitError) (us : List given.Unit) (n : ℕ) (rs : List Routine) (i : ℕ) (r : Routine) → i < length rs → r ≡ get_or rs i r → Refuses e n (unit r) → Made us n rs (drop i rs) → RefusesUnits e (units rs)
+  unit_refused error.NoMemory us n rs i r lt is unfit m = tt
+  unit_refused error.CodeTooLong us n rs i r lt is unfit m = λ h.
       let left : drop i rs ≡ r ∷ drop (i + 1) rs = drop_more rs i r lt ∙ ap (λ y. y ∷ drop (i + 1) rs) (sym is) in
-      n (subst (λ l. AllByRecursion FitsUnit (units l)) left (m.fits h)).0
+      let f = subst (λ (l : List Routine). FitUnits n (units l)) left (m.fits h) in
+      let all : length (unit r).code + total_len (units (drop (i + 1) rs)) ≤ n = f.len in
+      unfit (record { locals = f.locals.0; len = omega (arith, all); writable = f.writable.0 })
 
 -- ---- the whole
 
 pub units_refused : (e : EmitError) (p : Program) → RefusesUnits e (units (templates_of p) p.routines.items) → RefusesCode e (compiled (program_of p))
 units_refused error.NoMemory p r = tt
-units_refused error.CodeTooLong p r = λ fits. r fits.units
+units_refused error.CodeTooLong p r = λ fits. r (record { locals = fits.limits.locals; len = fits.limits.instructions; writable = fits.writable })
 
 pub numbered_len : (i : ℕ) (xs : List Text) → length (numbered i xs) ≡ length xs
 numbered_len i [] = refl

@@ -1,4 +1,4 @@
--- The code of statements, put behind other code.
+-- What only private clauses cite: the code of statements, put behind other code.
 use Rattle.std.specs.Prelude.{◌≡◌, ℕ, List, [], ◌∷◌, length, map, Option, option_map}
 use Rattle.jt_image.specs.declared.instruction.Instruction.TheVariants as op
 use Rattle.jt_slots.specs.Slots as slots

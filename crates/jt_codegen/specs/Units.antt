@@ -1,35 +1,41 @@
 -- What an image has place for.
-use Rattle.std.specs.Prelude.{◌<◌, ◌≤◌, ◌^◌, List, length}
+use Rattle.std.specs.Prelude.{ℕ, ◌<◌, ◌≤◌, ◌^◌, List, length}
 use Rattle.std.specs.List.{AllByRecursion}
 use Rattle.jt_image.specs.Code.{Section, Code}
-use Rattle.jt_image.specs.IsCode.{max_locals, max_instructions}
+use Rattle.jt_image.specs.IsCode.{total_len, max_locals, max_instructions}
 use Rattle.jt_image.specs.Parts.{KeepsLimits, IsWritable}
 use Rattle.jt_image.specs.declared.error.ImageError.{ImageError}
 use Rattle.jt_image.specs.declared.error.ImageError.TheVariants as image_error
 use Rattle.jt_codegen.specs.declared.emission.EmitError.{EmitError}
 use Rattle.jt_codegen.specs.declared.emission.EmitError.TheVariants as error
 
--- an image has place for the unit, alone
-pub record FitsUnit (u : Section) : Type 0 where
+-- where so many instructions are left, an image has place for the unit
+pub record FitsUnit (left : ℕ) (u : Section) : Type 0 where
   pub locals : u.locals ≤ max_locals
-  pub len : length u.code ≤ max_instructions
+  pub len : length u.code ≤ left
   pub writable : IsWritable u
 
 -- what a refusal says of a unit
-abbrev pub Refuses : EmitError → Section → Type 0
-Refuses error.CodeTooLong u = ¬ (FitsUnit u)
-Refuses error.NoMemory u = Unit {0}
+abbrev pub Refuses : EmitError → ℕ → Section → Type 0
+Refuses error.CodeTooLong left u = ¬ (FitsUnit left u)
+Refuses error.NoMemory left u = Unit {0}
+
+-- where so many instructions are left, an image has place for the units together
+pub record FitUnits (left : ℕ) (us : List Section) : Type 0 where
+  pub locals : AllByRecursion (λ u. u.locals ≤ max_locals) us
+  pub len : total_len us ≤ left
+  pub writable : AllByRecursion IsWritable us
 
 -- what a refusal says of units
 abbrev pub RefusesUnits : EmitError → List Section → Type 0
-RefusesUnits error.CodeTooLong us = ¬ (AllByRecursion FitsUnit us)
+RefusesUnits error.CodeTooLong us = ¬ (FitUnits max_instructions us)
 RefusesUnits error.NoMemory us = Unit {0}
 
 -- an image has place for the code
 pub record FitsImage (k : Code) : Type 0 where
   pub globals : k.globals < 2 ^ 16
   pub limits : KeepsLimits k
-  pub units : AllByRecursion FitsUnit k.units
+  pub writable : AllByRecursion IsWritable k.units
 
 -- what a refusal says of a whole code
 abbrev pub RefusesCode : EmitError → Code → Type 0

@@ -30,11 +30,13 @@ pub fn compile<L: Library>(
     options: Options,
 ) -> Result<Image, CompileError>
     // typed code, with the meaning of the entry's chain, which breaks no rule
-    ensures compiled { IfOk result (λ image. IsCompiled (L.sources library.now) entry.now options image) }
+    ensures compiled { IfOk result
+        (λ image. IsCompiled (L.sources library.now) entry.now options image) }
     // the refusal holds
     ensures refused { IfErr result (λ e. Breaks (L.sources library.now) entry.now options e) }
     // a limit is never named where the chain is small
-    ensures small { IfErr result (λ e. NamesLimit e → ¬ (IsSmall (L.sources library.now) entry.now options)) }
+    ensures small { IfErr result
+        (λ e. NamesLimit e → ¬ (IsSmall (L.sources library.now) entry.now options)) }
 {
     code_laws();
     low_laws();

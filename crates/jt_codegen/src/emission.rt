@@ -1,7 +1,6 @@
 //! The code of resolved statements and routines.
 
-ghost use Rattle.std.specs.Prelude.{◌≡◌, ◌<◌, ℕ, List, Option, Some, length, IfOk, IfErr, OnOk};
-ghost use Rattle.std.specs.List.{AllByRecursion};
+ghost use Rattle.std.specs.Prelude.{◌≡◌, ◌≤◌, ℕ, List, Option, Some, length, IfOk, IfErr, OnOk};
 ghost use Rattle.jt_image.specs.Parts.{section_of_unit};
 ghost use Rattle.jt_parse.specs.Trees.{Text};
 ghost use Rattle.jt_slots.specs.Got.{Place};
@@ -50,16 +49,19 @@ impl<T: Drop> From<AllocFailed<T>> for EmitError {
     }
 }
 
-/// The unit of a routine: its statements, and then the return.
+/// The unit of a routine: its statements, and then the return. It has at most so many instructions as are left.
 ///
 /// # Errors
 ///
 /// `CodeTooLong` where an image has no place for it, `NoMemory` where a growth was refused.
-pub(crate) fn emit_unit(alloc: Global, routine: &Routine) -> Result<Unit, EmitError>
-    ensures emitted { IfOk result (λ u. (templates : List Text) → section_of_unit u ≡ Some (unit_of (routine_view templates routine.now))) }
-    ensures refused { IfErr result (λ e. (templates : List Text) → Refuses e (unit_of (routine_view templates routine.now))) }
+pub(crate) fn emit_unit(alloc: Global, routine: &Routine, left: usize) -> Result<Unit, EmitError>
+    ensures emitted { IfOk result (λ u. (templates : List Text)
+        → section_of_unit u ≡ Some (unit_of (routine_view templates routine.now))) }
+    ensures within { IfOk result (λ u. length u.code.items ≤ left) }
+    ensures refused { IfErr result (λ e. (templates : List Text)
+        → Refuses e left (unit_of (routine_view templates routine.now))) }
 {
-    let mut code = Emitter::new(alloc);
+    let mut code = Emitter::new(alloc, left);
     emit_statements(alloc, &mut code, &routine.body, 0)?;
     code.put(Some(Instruction::Return))?;
     let Ok(parameters) = u8::try_from(routine.parameters) else {
@@ -85,7 +87,9 @@ fn emit_condition(
     targets: &Targets,
     condition: &Option<SExpr>,
 ) -> Result<(), AllocError>
-    ensures { OnOk result ((o : Option Place) → Puts code.old (kept_asm o (targets_view targets.now) (option_map expr_view condition.now)) code.new) }
+    ensures { OnOk result ((o : Option Place)
+        → Puts code.old (kept_asm o (targets_view targets.now) (option_map expr_view condition.now))
+        code.new) }
 {
     match condition {
         None => Ok(()),
@@ -108,7 +112,9 @@ fn emit_printed(
     expr: &SExpr,
     above: usize,
 ) -> Result<(), AllocError>
-    ensures { OnOk result ((p : Place) (h : ℕ) → StandsFor above h → Puts code.old (stmt_asm (slots.print p escaping (expr_view expr.now)) h) code.new) }
+    ensures { OnOk result ((p : Place) (h : ℕ)
+        → StandsFor above h
+        → Puts code.old (stmt_asm (slots.print p escaping (expr_view expr.now)) h) code.new) }
 {
     let printed = flag(escaping);
     emit_expression(code, expr, above)?;
@@ -118,7 +124,6 @@ fn emit_printed(
 
 /// Lets the jumps at these points go behind all instructions.
 fn close_all(code: &mut Emitter, ends: &[usize])
-    requires { AllByRecursion (λ e. e < length code.old.code.items) ends.now }
     ensures { Closes code.old ends.now code.new }
 {
     for at in (0..ends.len()).rev() {
@@ -134,7 +139,9 @@ fn emit_statement(
     statement: &SStmt,
     above: usize,
 ) -> Result<(), AllocError>
-    ensures { OnOk result ((templates : List Text) (h : ℕ) → StandsFor above h → Emits h code.old (stmt_view templates statement.now) code.new) }
+    ensures { OnOk result ((templates : List Text) (h : ℕ)
+        → StandsFor above h
+        → Emits h code.old (stmt_view templates statement.now) code.new) }
 {
     match statement {
         SStmt::PutPooled(place) => {
@@ -188,9 +195,12 @@ fn emit_loop(
     other: &[SStmt],
     above: usize,
 ) -> Result<(), AllocError>
-    ensures { OnOk result ((templates : List Text) (p : Place) (h : ℕ) → StandsFor above h
-        → Puts code.old (stmt_asm (slots.for_each p (targets_view targets.now) (expr_view iterated.now) (option_map expr_view condition.now)
-        (body_view templates body.now slots.end) (body_view templates other.now slots.end)) h) code.new) }
+    ensures { OnOk result ((templates : List Text) (p : Place) (h : ℕ)
+        → StandsFor above h
+        → Puts code.old (stmt_asm (slots.for_each p (targets_view targets.now)
+        (expr_view iterated.now) (option_map expr_view condition.now)
+        (body_view templates body.now slots.end) (body_view templates other.now slots.end)) h)
+        code.new) }
 {
     emit_expression(code, iterated, above)?;
     code.put(Some(Instruction::LoopStart))?;
@@ -216,8 +226,11 @@ fn emit_capture(
     body: &[SStmt],
     above: usize,
 ) -> Result<(), AllocError>
-    ensures { OnOk result ((templates : List Text) (h : ℕ) → StandsFor above h
-        → Puts code.old (stmt_asm (slots.capture escaping (slot_view slot) (body_view templates body.now slots.end)) h) code.new) }
+    ensures { OnOk result ((templates : List Text) (h : ℕ)
+        → StandsFor above h
+        → Puts code.old (stmt_asm
+        (slots.capture escaping (slot_view slot) (body_view templates body.now slots.end)) h)
+        code.new) }
 {
     let captured = flag(escaping);
     code.put(Some(Instruction::CaptureBegin))?;
@@ -235,7 +248,9 @@ fn emit_statements(
     body: &[SStmt],
     above: usize,
 ) -> Result<(), AllocError>
-    ensures { OnOk result ((templates : List Text) (h : ℕ) → StandsFor above h → Emits h code.old (body_view templates body.now) code.new) }
+    ensures { OnOk result ((templates : List Text) (h : ℕ)
+        → StandsFor above h
+        → Emits h code.old (body_view templates body.now) code.new) }
 {
     for statement in body {
         emit_statement(alloc, code, statement, above)?;

@@ -34,7 +34,9 @@ fn fits_condition(condition: &Option<SExpr>, room: usize) -> bool
 /// Whether a statement needs at most so many entries.
 #[cycle(entries)]
 fn fits_statement(statement: &SStmt, room: usize) -> bool
-    ensures { (templates : List Text) (behind : SBody ℕ) → nat_le (body_height (stmt_view templates statement.now behind)) room ≡ result && nat_le (body_height behind) room }
+    ensures { (templates : List Text) (behind : SBody ℕ)
+        → nat_le (body_height (stmt_view templates statement.now behind)) room
+        ≡ result && nat_le (body_height behind) room }
 {
     match statement {
         SStmt::PutPooled(_) => true,
@@ -69,7 +71,9 @@ fn fits_statement(statement: &SStmt, room: usize) -> bool
 /// Whether statements need at most so many entries.
 #[cycle(entries)]
 fn fits_body(body: &[SStmt], room: usize) -> bool
-    ensures { (templates : List Text) (behind : SBody ℕ) → nat_le (body_height (body_view templates body.now behind)) room ≡ result && nat_le (body_height behind) room }
+    ensures { (templates : List Text) (behind : SBody ℕ)
+        → nat_le (body_height (body_view templates body.now behind)) room
+        ≡ result && nat_le (body_height behind) room }
 {
     for statement in body {
         if !fits_statement(statement, room) {
@@ -81,7 +85,10 @@ fn fits_body(body: &[SStmt], room: usize) -> bool
 
 /// Whether no routine needs more entries than that.
 pub(crate) fn fits_entries(routines: &[Routine], room: usize) -> bool
-    ensures { (templates : List Text) → IsTrue result ↔ AllByRecursion (λ (r : slots.Routine ℕ). body_height r.body ≤ room) (map (routine_view templates) routines.now) }
+    ensures { (templates : List Text)
+        → IsTrue result
+        ↔ AllByRecursion (λ (r : slots.Routine ℕ). body_height r.body ≤ room)
+        (map (routine_view templates) routines.now) }
 {
     for routine in routines {
         if !fits_body(&routine.body, room) {

@@ -2,6 +2,7 @@
 
 ghost use Rattle.std.specs.Prelude.{◌≡◌, ◌≤◌, List, length, map, string_bytes, Some, IfOk, IfErr};
 ghost use Rattle.jt_value.specs.View.{view};
+ghost use Rattle.jt_image.specs.IsCode.{total_len, max_instructions};
 ghost use Rattle.jt_image.specs.Parts.{each_of, section_of_unit, code_of_parts};
 ghost use Rattle.jt_image.specs.View.{names_view, constant_view, constants_view};
 ghost use Rattle.jt_parse.specs.Trees.{Text};
@@ -11,7 +12,7 @@ ghost use Rattle.jt_codegen.specs.Units.{RefusesUnits, RefusesCode};
 ghost use Rattle.jt_codegen.specs.declared.emission.EmitError.TheVariants.{NoMemory};
 
 use crate::emission::{EmitError, emit_unit};
-use jt_image::{Constant, MAX_COUNT, Parts, Unit};
+use jt_image::{Constant, MAX_COUNT, MAX_INSTRUCTIONS, Parts, Unit};
 use jt_slots::{Program, Routine};
 use jt_value::Value;
 use std::alloc::Global;
@@ -22,7 +23,11 @@ use std::alloc::Global;
 ///
 /// `CodeTooLong` where an image has no place for them, `NoMemory` where a growth was refused.
 pub(crate) fn parts_of(alloc: Global, program: &Program) -> Result<Parts, EmitError>
-    ensures emitted { IfOk result (λ p. code_of_parts p ≡ Some (compiled (program_of program.now))) }
+    ensures emitted { IfOk result
+        (λ p. code_of_parts p ≡ Some (compiled (program_of program.now))) }
+    // a code that is too long is refused before it is built
+    ensures short { IfOk result
+        (λ p. total_len (compiled (program_of program.now)).units ≤ max_instructions) }
     ensures refused { IfErr result (λ e. RefusesCode e (compiled (program_of program.now))) }
 {
     let Ok(globals) = u16::try_from(program.globals) else {
@@ -40,14 +45,22 @@ pub(crate) fn parts_of(alloc: Global, program: &Program) -> Result<Parts, EmitEr
     })
 }
 
-/// The units of routines.
+/// The units of routines, each with what those before it leave of the instructions.
 fn units_of(alloc: Global, routines: &[Routine]) -> Result<Vec<Unit>, EmitError>
-    ensures emitted { IfOk result (λ us. (templates : List Text) → each_of section_of_unit us.items ≡ Some (map unit_of (map (routine_view templates) routines.now))) }
-    ensures refused { IfErr result (λ e. (templates : List Text) → RefusesUnits e (map unit_of (map (routine_view templates) routines.now))) }
+    ensures emitted { IfOk result (λ us. (templates : List Text)
+        → each_of section_of_unit us.items
+        ≡ Some (map unit_of (map (routine_view templates) routines.now))) }
+    ensures short { IfOk result (λ us. (templates : List Text)
+        → total_len (map unit_of (map (routine_view templates) routines.now)) ≤ max_instructions) }
+    ensures refused { IfErr result (λ e. (templates : List Text)
+        → RefusesUnits e (map unit_of (map (routine_view templates) routines.now))) }
 {
     let mut units = Vec::with_capacity(alloc, routines.len())?;
+    let mut left = MAX_INSTRUCTIONS as usize;
     for routine in routines {
-        let unit = emit_unit(alloc, routine)?;
+        let unit = emit_unit(alloc, routine, left)?;
+        let made = unit.code.len();
+        left -= made;
         units.push(unit)?;
     }
     Ok(units)
@@ -56,7 +69,8 @@ fn units_of(alloc: Global, routines: &[Routine]) -> Result<Vec<Unit>, EmitError>
 /// Names with their slots, from the first one on.
 fn names_of(alloc: Global, names: &[String]) -> Result<Vec<(u16, String)>, EmitError>
     requires { length names.now ≤ 65535 }
-    ensures named { IfOk result (λ ns. names_view ns.items ≡ numbered 0 (map string_bytes names.now)) }
+    ensures named { IfOk result
+        (λ ns. names_view ns.items ≡ numbered 0 (map string_bytes names.now)) }
     ensures refused { IfErr result (λ e. e ≡ NoMemory) }
 {
     let mut numbered = Vec::with_capacity(alloc, names.len())?;
@@ -71,7 +85,8 @@ fn names_of(alloc: Global, names: &[String]) -> Result<Vec<(u16, String)>, EmitE
 
 /// The values of a pool as constants.
 fn constants_of(alloc: Global, pool: &[Value]) -> Result<Vec<Constant>, EmitError>
-    ensures held { IfOk result (λ cs. constants_view cs.items ≡ map constant_of (map view pool.now)) }
+    ensures held { IfOk result
+        (λ cs. constants_view cs.items ≡ map constant_of (map view pool.now)) }
     ensures refused { IfErr result (λ e. e ≡ NoMemory) }
 {
     let mut constants = Vec::with_capacity(alloc, pool.len())?;

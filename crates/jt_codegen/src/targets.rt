@@ -16,7 +16,8 @@ use std::alloc::AllocError;
 
 /// Takes a value into what takes it.
 pub(crate) fn emit_targets(code: &mut Emitter, targets: &Targets) -> Result<(), AllocError>
-    ensures { OnOk result ((o : Option Place) → Puts code.old (take_asm o (targets_view targets.now)) code.new) }
+    ensures { OnOk result
+        ((o : Option Place) → Puts code.old (take_asm o (targets_view targets.now)) code.new) }
 {
     match targets {
         Targets::One(slot) => {
@@ -33,7 +34,8 @@ pub(crate) fn emit_targets(code: &mut Emitter, targets: &Targets) -> Result<(), 
 
 /// Takes values into slots, the last one first; where there is no slot, a value is forgotten.
 fn emit_stores(code: &mut Emitter, slots: &[Option<Slot>]) -> Result<(), AllocError>
-    ensures { OnOk result ((o : Option Place) → Puts code.old (stores_asm o (slots_view slots.now)) code.new) }
+    ensures { OnOk result
+        ((o : Option Place) → Puts code.old (stores_asm o (slots_view slots.now)) code.new) }
 {
     for at in (0..slots.len()).rev() {
         match slots[at] {
@@ -46,7 +48,9 @@ fn emit_stores(code: &mut Emitter, slots: &[Option<Slot>]) -> Result<(), AllocEr
 
 /// Takes the item of a turn.
 pub(crate) fn emit_item(code: &mut Emitter, targets: &Targets) -> Result<(), AllocError>
-    ensures { OnOk result ((o : Option Place) → Puts code.old (both (one o (op.LoopGet 0 0)) (take_asm o (targets_view targets.now))) code.new) }
+    ensures { OnOk result ((o : Option Place)
+        → Puts code.old (both (one o (op.LoopGet 0 0)) (take_asm o (targets_view targets.now)))
+        code.new) }
 {
     code.put(Some(Instruction::LoopGet {
         field: LoopField::Item.id(),

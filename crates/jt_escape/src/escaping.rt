@@ -13,7 +13,8 @@ pub fn escape_into(text: &str, into: &mut String) -> Result<(), NoMemory>
     ensures unchanged { OnErr result (string_bytes into.new ≡ string_bytes into.old) }
 
     // It fails only where the string had to grow.
-    ensures full { OnErr result (string_capacity into.old < string_len into.old + length (escaped text.now)) }
+    ensures full { OnErr result
+        (string_capacity into.old < string_len into.old + length (escaped text.now)) }
 {
     let start = into.len();
     if append_escaped(text, into).is_err() {
@@ -26,7 +27,8 @@ pub fn escape_into(text: &str, into: &mut String) -> Result<(), NoMemory>
 /// Appends the escaped text. A refusal leaves what was appended before it.
 pub(crate) fn append_escaped(text: &str, into: &mut String) -> Result<(), AllocError>
     ensures ok { OnOk result (string_bytes into.new ≡ string_bytes into.old ++ escaped text.now) }
-    ensures full { OnErr result (string_capacity into.old < string_len into.old + length (escaped text.now)) }
+    ensures full { OnErr result
+        (string_capacity into.old < string_len into.old + length (escaped text.now)) }
     ensures grown { Extends (string_bytes into.old) (string_bytes into.new) }
 {
     // All before `written` is appended. What lies between it and `at` needs no entity.

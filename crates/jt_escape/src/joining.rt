@@ -79,7 +79,9 @@ fn join_between(
     between: &str,
     escaping: bool,
 ) -> Result<String, ValueError>
-    ensures { Makes (option_map (join_by (λ text. text) between.now) (pieces escaping (items_view items.now))) result }
+    ensures { Makes
+        (option_map (join_by (λ text. text) between.now) (pieces escaping (items_view items.now)))
+        result }
 {
     let mut joined = String::new(alloc);
     let Some((first, rest)) = items.split_first() else {
@@ -97,7 +99,8 @@ fn append_led(
     escaping: bool,
     into: &mut String,
 ) -> Result<(), ValueError>
-    ensures { Appends (led_pieces escaping between.now (items_view items.now)) (string_bytes into.old) result (string_bytes into.new) }
+    ensures { Appends (led_pieces escaping between.now (items_view items.now))
+        (string_bytes into.old) result (string_bytes into.new) }
 {
     for item in items {
         into.push_str(between)?;
@@ -107,7 +110,8 @@ fn append_led(
 }
 
 fn append_piece(value: &Value, escaping: bool, into: &mut String) -> Result<(), ValueError>
-    ensures { Appends (piece escaping (view value.now)) (string_bytes into.old) result (string_bytes into.new) }
+    ensures { Appends (piece escaping (view value.now)) (string_bytes into.old) result
+        (string_bytes into.new) }
 {
     if let Value::Markup(text) = value {
         into.push_str(text.as_str())?;
@@ -119,7 +123,8 @@ fn append_piece(value: &Value, escaping: bool, into: &mut String) -> Result<(), 
 }
 
 fn append_text(text: &str, escaping: bool, into: &mut String) -> Result<(), AllocError>
-    ensures { OnOk result (string_bytes into.new ≡ string_bytes into.old ++ (if escaping then escaped text.now else text.now)) }
+    ensures { OnOk result (string_bytes into.new
+        ≡ string_bytes into.old ++ (if escaping then escaped text.now else text.now)) }
 {
     if escaping {
         return append_escaped(text, into);

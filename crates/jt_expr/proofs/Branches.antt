@@ -10,7 +10,7 @@ use Rattle.jt_scan.specs.Cut as cut
 use Rattle.jt_scan.specs.Cut.{Token}
 use Rattle.jt_expr.specs.Trees.{Text, Literal, truth, nothing}
 use Rattle.jt_expr.specs.Grammar.{Tokens, word, reserved, is_reserved, literal_of, is_literal, is_operand}
-use Rattle.jt_expr.specs.Reading.{code, sees, says}
+use Rattle.jt_expr.specs.Front.{code, sees, says}
 
 -- what goes on from a test
 pub by_test : {A G : Type 0} (b : Bool) (x y z : A) → cond b x y ≡ z → (b ≡ true → x ≡ z → G) → (b ≡ false → y ≡ z → G) → G

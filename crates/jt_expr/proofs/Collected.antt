@@ -4,10 +4,11 @@ use Rattle.jt_scan.specs.declared.segment.Sign.TheVariants as s
 use Rattle.jt_expr.specs.declared.error.ExprError.{ExprError}
 use Rattle.jt_expr.specs.Trees.{Text, Expr, levels, Exprs, no_exprs, expr, Pairs, no_pairs, pair, exprs_levels, pairs_levels}
 use Rattle.jt_expr.specs.Grammar.{Tokens, Level, Row, closer, behind_key, Parts, no_parts, put}
-use Rattle.jt_expr.specs.Reading.{syntax, Reader, Outcome, ◌>>=◌, sees, expect, part, row}
+use Rattle.jt_expr.specs.Front.{sees}
+use Rattle.jt_expr.specs.Reading.{syntax, Reader, Outcome, ◌>>=◌, expect, part, row}
 use Rattle.jt_expr.specs.Elements.{Element, shut, last, further, element}
 use Rattle.jt_expr.specs.Collecting.{then_exprs, then_pairs, then_parts, then_part}
-use Rattle.jt_expr.specs.Cursor.{Refuses}
+use Rattle.jt_expr.specs.Gives.{Refuses}
 use Rattle.jt_expr.proofs.Loops.{refused}
 
 -- ---- parts behind parts

@@ -10,7 +10,8 @@ use Rattle.jt_expr.specs.declared.tree.BinaryOperator.TheVariants as o
 use Rattle.jt_expr.specs.Trees.{Text, Literal, number, text, Expr, constant, name, group, list_of, map_of, attribute, item, call, filter, test, unary, binary, when, choice, Exprs, no_exprs, expr, Pairs, no_pairs, levels}
 use Rattle.jt_expr.specs.Grammar.{Tokens, word, is_reserved, literal_of, names_test, Level, whole, disjunction, conjunction, inversion, comparison, sum, concatenation, product, power, postscript, signed, postfix, next, is_chain, level_of, operator_tokens, is_tokens, begins_argument, Row, items, entries, arguments, keywords, closer, takes_plain, takes_names, behind_key, Parts, no_parts, put, Spells, plain, an_if, an_if_else, chain, inverted, upright, compared, alone, postscripts, minus, plus, unsigned, postfixes, Goes, stay, operated, filtered, tested, attributed, indexed, called, Primary, a_number, a_text, a_constant, a_name, a_group, a_list, a_map, Arguments, without, within, TestArguments, as_filter, bare, Holds, closed, last, more, IsPart, without_key, an_entry, by_name}
 use Rattle.jt_expr.specs.Reading as r
-use Rattle.jt_expr.specs.Reading.{code, sees, says, past, cap, deep, Reader, Outcome, ◌>>=◌, operator, key_at, keyword, entry_key, read, read_at, again, loop, chain_step, chain_by, filter_step, test_step, postscript_step, postfix_step, read_whole, read_disjunction, read_conjunction, read_inversion, read_comparison, read_sum, read_concatenation, read_product, read_power, read_postscript, read_signed, read_postfix, expect, word_at, name_at, if_part, else_part}
+use Rattle.jt_expr.specs.Front.{sees, says}
+use Rattle.jt_expr.specs.Reading.{cap, deep, Reader, Outcome, ◌>>=◌, operator, key_at, keyword, entry_key, read, read_at, again, loop, chain_step, chain_by, filter_step, test_step, postscript_step, postfix_step, read_whole, read_inversion, read_comparison, read_postscript, read_signed, read_postfix, expect, word_at, name_at, if_part, else_part, read_chain}
 use Rattle.jt_expr.specs.Promises.{parts_levels}
 use Rattle.jt_expr.proofs.Caps.{bound, cap_within, cap_beyond}
 use Rattle.jt_expr.proofs.Branches.{no_literal, not_false, sees_self}
@@ -92,19 +93,23 @@ stops_above postscript ts h = h.3
 stops_above signed ts h = tt
 stops_above postfix ts h = tt
 
+-- what holds of each chain
+chain_cases : (P : Level → Type 0) → P disjunction → P conjunction → P sum → P concatenation → P product → P power → (k : Level) → is_chain k ≡ true → P k
+chain_cases P d c s t p w disjunction h = d
+chain_cases P d c s t p w conjunction h = c
+chain_cases P d c s t p w sum h = s
+chain_cases P d c s t p w concatenation h = t
+chain_cases P d c s t p w product h = p
+chain_cases P d c s t p w power h = w
+chain_cases P d c s t p w whole h = absurd (cc)
+chain_cases P d c s t p w inversion h = absurd (cc)
+chain_cases P d c s t p w comparison h = absurd (cc)
+chain_cases P d c s t p w postscript h = absurd (cc)
+chain_cases P d c s t p w signed h = absurd (cc)
+chain_cases P d c s t p w postfix h = absurd (cc)
+
 chain_above : (k : Level) (ts : Tokens) → is_chain k ≡ true → Above k ts → Stops (next k) ts
-chain_above disjunction ts c h = h
-chain_above conjunction ts c h = h
-chain_above sum ts c h = h
-chain_above concatenation ts c h = h
-chain_above product ts c h = h
-chain_above power ts c h = h
-chain_above whole ts c h = cc
-chain_above inversion ts c h = cc
-chain_above comparison ts c h = cc
-chain_above postscript ts c h = cc
-chain_above signed ts c h = cc
-chain_above postfix ts c h = cc
+chain_above k ts c = chain_cases (λ j. Above j ts → Stops (next j) ts) (λ h. h) (λ h. h) (λ h. h) (λ h. h) (λ h. h) (λ h. h) k c
 
 operator_stops : (op : BinaryOperator) (ts : Tokens) → Above (level_of op) (operator_tokens op ++ ts)
 unfolding operator
@@ -230,35 +235,14 @@ bind_bind (Ok p) f g = refl
 bind_bind (Err e) f g = refl
 
 chain_reads : (inner : Level → Reader Expr) (n : ℕ) (k : Level) (ts : Tokens) → is_chain k ≡ true → read_at inner n k ts ≡ (read_at inner n (next k) ts >>= on inner n k n)
-unfolding read_at read_disjunction read_conjunction read_sum read_concatenation read_product read_power
-chain_reads inner n disjunction ts c = refl
-chain_reads inner n conjunction ts c = refl
-chain_reads inner n sum ts c = refl
-chain_reads inner n concatenation ts c = refl
-chain_reads inner n product ts c = refl
-chain_reads inner n power ts c = refl
-chain_reads inner n whole ts c = cc
-chain_reads inner n inversion ts c = cc
-chain_reads inner n comparison ts c = cc
-chain_reads inner n postscript ts c = cc
-chain_reads inner n signed ts c = cc
-chain_reads inner n postfix ts c = cc
+unfolding read_at read_chain
+chain_reads inner n k ts c = chain_cases (λ j. read_at inner n j ts ≡ (read_at inner n (next j) ts >>= on inner n j n)) refl refl refl refl refl refl k c
 
 chain_turn : (inner : Level → Reader Expr) (n : ℕ) (k : Level) (turns : ℕ) (a : Expr) (ts : Tokens) → is_chain k ≡ true
     → on inner n k (suc turns) a ts ≡ (chain_by inner n (read_at inner n (next k)) a ts (operator k ts) >>= again (on inner n k turns) a)
 unfolding loop chain_step
-chain_turn inner n disjunction turns a ts c = refl
-chain_turn inner n conjunction turns a ts c = refl
-chain_turn inner n sum turns a ts c = refl
-chain_turn inner n concatenation turns a ts c = refl
-chain_turn inner n product turns a ts c = refl
-chain_turn inner n power turns a ts c = refl
-chain_turn inner n whole turns a ts c = cc
-chain_turn inner n inversion turns a ts c = cc
-chain_turn inner n comparison turns a ts c = cc
-chain_turn inner n postscript turns a ts c = cc
-chain_turn inner n signed turns a ts c = cc
-chain_turn inner n postfix turns a ts c = cc
+chain_turn inner n k turns a ts c =
+    chain_cases (λ j. on inner n j (suc turns) a ts ≡ (chain_by inner n (read_at inner n (next j)) a ts (operator j ts) >>= again (on inner n j turns) a)) refl refl refl refl refl refl k c
 
 step_stops : (inner : Level → Reader Expr) (n : ℕ) (k : Level) (a : Expr) (ts : Tokens) → Stops k ts → step inner n k a ts ≡ Ok (None, ts)
 unfolding chain_step postscript_step postfix_step operator
@@ -369,18 +353,7 @@ stay_behind signed ts h = tt
 stay_behind postfix ts h = tt
 
 chain_behind : (k : Level) (ts : Tokens) → is_chain k ≡ true → BehindArguments k ts
-chain_behind postscript ts c = cc
-chain_behind whole ts c = tt
-chain_behind disjunction ts c = tt
-chain_behind conjunction ts c = tt
-chain_behind inversion ts c = tt
-chain_behind comparison ts c = tt
-chain_behind sum ts c = tt
-chain_behind concatenation ts c = tt
-chain_behind product ts c = tt
-chain_behind power ts c = tt
-chain_behind signed ts c = tt
-chain_behind postfix ts c = tt
+chain_behind k ts c = chain_cases (λ j. BehindArguments j ts) tt tt tt tt tt tt k c
 
 is_behind : (b : Bool) (ts : Tokens) → ArgumentStops (is_tokens b ++ ts)
 is_behind false ts = (refl, (refl, refl, refl))

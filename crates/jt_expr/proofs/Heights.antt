@@ -5,9 +5,10 @@ use Rattle.jt_expr.specs.declared.part.Part.{Part}
 use Rattle.jt_expr.specs.declared.part.Parts.{Parts}
 use Rattle.jt_expr.specs.Trees.{exprs_levels, pairs_levels}
 use Rattle.jt_expr.specs.View.{expr_view, exprs_view, pairs_view}
+use Rattle.jt_expr.specs.Promises.{parts_view}
 use Rattle.jt_expr.specs.Grammar.{Tokens, Level, Row, items, entries}
 use Rattle.jt_expr.specs.Reading.{read, row}
-use Rattle.jt_expr.specs.Gives.{Gives, parts_view}
+use Rattle.jt_expr.specs.Gives.{Gives}
 use Rattle.jt_expr.proofs.Sound.{read_is_spelled, row_sound, items_plain, entries_keyed}
 
 pub height_of_inner : (n : ℕ) (k : Level) (ts new : Tokens) (r : Result Part ExprError) → Gives (read n k ts) r new → IfOk r (λ p. p.height ≤ n)

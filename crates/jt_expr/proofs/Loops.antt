@@ -5,7 +5,7 @@ use Rattle.jt_expr.specs.declared.error.ExprError.TheVariants as e
 use Rattle.jt_expr.specs.Trees.{Expr}
 use Rattle.jt_expr.specs.Grammar.{Tokens}
 use Rattle.jt_expr.specs.Reading.{deep, Reader, Outcome, ◌>>=◌, again, loop}
-use Rattle.jt_expr.specs.Cursor.{Refuses}
+use Rattle.jt_expr.specs.Gives.{Refuses}
 
 -- a refusal of a step is one of the whole
 pub refused : {A B : Type 0} (x : Outcome B) (o : Outcome A) (f : A → Reader B) (r : ExprError) → x ≡ (o >>= f) → Refuses o r → Refuses x r

@@ -10,10 +10,10 @@ use Rattle.jt_expr.specs.declared.part.Parts.{Parts as Row}
 use Rattle.jt_expr.specs.Trees.{Expr, levels}
 use Rattle.jt_expr.specs.View.{expr_view}
 use Rattle.jt_expr.specs.Grammar.{Tokens, Level, whole, disjunction, conjunction, inversion, comparison, sum, concatenation, product, power, postscript, signed, postfix, Parts, Spells, Arguments}
-use Rattle.jt_expr.specs.Reading.{Outcome, Fault, syntax, deep, cap, sees, read, arguments_at}
-use Rattle.jt_expr.specs.Cursor.{Refuses}
-use Rattle.jt_expr.specs.Gives.{Gives, GivesParts, parts_view}
-use Rattle.jt_expr.specs.Promises.{Leads, Reads, EndsAt, the_end, a_comma, an_if, OpensNone, parts_levels}
+use Rattle.jt_expr.specs.Front.{sees}
+use Rattle.jt_expr.specs.Reading.{Outcome, Fault, syntax, deep, cap, read, arguments_at}
+use Rattle.jt_expr.specs.Gives.{Refuses, Gives, GivesParts}
+use Rattle.jt_expr.specs.Promises.{Leads, Reads, EndsAt, the_end, a_comma, an_if, OpensNone, parts_levels, parts_view}
 use Rattle.jt_expr.proofs.Branches.{sees_sound, false_unless}
 use Rattle.jt_expr.proofs.Caps.{cap_within, cap_beyond}
 use Rattle.jt_expr.proofs.Complete.{Stops, nothing_stops, comma_stops, if_stops, spelled_is_read, arguments_are_read}

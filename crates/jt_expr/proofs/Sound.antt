@@ -11,7 +11,8 @@ use Rattle.jt_expr.specs.declared.tree.BinaryOperator.TheVariants as o
 use Rattle.jt_expr.specs.Trees.{Text, Literal, Expr, group, list_of, map_of, attribute, item, call, filter, test, unary, binary, when, choice, no_exprs, expr, no_pairs, levels}
 use Rattle.jt_expr.specs.Grammar.{Tokens, word, is_reserved, literal_of, names_test, Level, whole, disjunction, conjunction, inversion, comparison, sum, concatenation, product, power, postscript, signed, postfix, next, is_chain, level_of, operator_tokens, is_tokens, begins_argument, Row, items, entries, arguments, keywords, closer, takes_plain, takes_names, behind_key, Parts, no_parts, put, Spells, plain, an_if, an_if_else, chain, inverted, upright, compared, alone, postscripts, minus, plus, unsigned, postfixes, Goes, stay, operated, filtered, tested, attributed, indexed, called, Primary, a_number, a_text, a_constant, a_name, a_group, a_list, a_map, Arguments, without, within, TestArguments, as_filter, bare, Holds, closed, last, more, IsPart, without_key, an_entry, by_name}
 use Rattle.jt_expr.specs.Reading as r
-use Rattle.jt_expr.specs.Reading.{code, sees, says, past, cap, deep, syntax, Reader, Outcome, ◌>>=◌, operator, key_at, keyword, entry_key, read, read_at, again, loop, chain_step, chain_by, filter_step, test_step, postscript_step, postfix_step, read_whole, read_disjunction, read_conjunction, read_inversion, read_comparison, read_sum, read_concatenation, read_product, read_power, read_postscript, read_signed, read_postfix, expect, word_at, name_at, unreserved, if_part, else_part}
+use Rattle.jt_expr.specs.Front.{sees, says, past}
+use Rattle.jt_expr.specs.Reading.{cap, deep, syntax, Reader, Outcome, ◌>>=◌, operator, key_at, keyword, entry_key, read, read_at, again, loop, chain_step, chain_by, filter_step, test_step, postscript_step, postfix_step, read_whole, read_disjunction, read_conjunction, read_inversion, read_comparison, read_sum, read_concatenation, read_product, read_power, read_postscript, read_signed, read_postfix, expect, word_at, name_at, unreserved, if_part, else_part}
 use Rattle.jt_expr.proofs.Branches.{by_test, says_sound, sees_sound, false_not}
 use Rattle.jt_expr.proofs.Begins.{begins, begins_primary}
 use Rattle.jt_expr.specs.Promises.{parts_levels}
@@ -572,8 +573,12 @@ module _ (inner : Level → Reader Expr) (n : ℕ) (sound : (k : Level) (t : Exp
 
   -- ---- operators
 
+  -- what is read is a form of the level
+  abbrev IsSound : Level → Reader Expr → Type 0
+  IsSound k reader = (t : Expr) (ts rest : Tokens) → reader ts ≡ Ok (t, rest) → Found k (suc n) t ts rest
+
   -- a chain, over its operands
-  module _ (k : Level) (is : is_chain k ≡ true) (operand : Reader Expr) (operand_sound : (t : Expr) (ts rest : Tokens) → operand ts ≡ Ok (t, rest) → Found (next k) (suc n) t ts rest) where
+  module _ (k : Level) (is : is_chain k ≡ true) (operand : Reader Expr) (operand_sound : IsSound (next k) operand) where
     operated_sound : (op : BinaryOperator) (a b t : Expr) (ts v w rest : Tokens) → operator k ts ≡ Some (op, v) → Found (next k) (suc n) b v w → FoundOn k (suc n) (binary op a b) t w rest → FoundOn k (suc n) a t ts rest
     operated_sound op a b t ts v w rest e d g =
         let q = operator_sound k op ts v e in
@@ -595,28 +600,25 @@ module _ (inner : Level → Reader Expr) (n : ℕ) (sound : (k : Level) (t : Exp
     unfolding chain_step
     chain_step_sound = record { grows = λ a new ts v e. chain_by_grows a new ts v (operator k ts) refl e; stops = λ a ts v e. chain_by_stops a ts v (operator k ts) e }
 
-    chain_sound : (t : Expr) (ts rest : Tokens) → (operand ts >>= loop (chain_step inner (suc n) k operand) (suc n)) ≡ Ok (t, rest) → Found k (suc n) t ts rest
+    chain_sound : IsSound k (r.read_chain inner (suc n) k operand)
+    unfolding r.read_chain
     chain_sound t ts rest e =
         let a = bind_ok (operand ts) (loop (chain_step inner (suc n) k operand) (suc n)) t rest e in
         let d = operand_sound a.0 ts a.1 a.2 in
         let g = loop_sound k (chain_step inner (suc n) k operand) chain_step_sound (suc n) a.0 t a.1 rest d.3 a.3 in
         (d.0 ++ g.0, joined ts a.1 rest d.0 g.0 d.1 g.1, chain is d.2 g.2, g.3)
 
-  power_sound : (t : Expr) (ts rest : Tokens) → read_power inner (suc n) ts ≡ Ok (t, rest) → Found power (suc n) t ts rest
-  unfolding read_power
-  power_sound t ts rest e = chain_sound power refl (read_postscript inner (suc n)) postscript_sound t ts rest e
+  power_sound : IsSound power (read_power inner (suc n))
+  power_sound = chain_sound power refl (read_postscript inner (suc n)) postscript_sound
 
-  product_sound : (t : Expr) (ts rest : Tokens) → read_product inner (suc n) ts ≡ Ok (t, rest) → Found product (suc n) t ts rest
-  unfolding read_product
-  product_sound t ts rest e = chain_sound product refl (read_power inner (suc n)) power_sound t ts rest e
+  product_sound : IsSound product (read_product inner (suc n))
+  product_sound = chain_sound product refl (read_power inner (suc n)) power_sound
 
-  concatenation_sound : (t : Expr) (ts rest : Tokens) → read_concatenation inner (suc n) ts ≡ Ok (t, rest) → Found concatenation (suc n) t ts rest
-  unfolding read_concatenation
-  concatenation_sound t ts rest e = chain_sound concatenation refl (read_product inner (suc n)) product_sound t ts rest e
+  concatenation_sound : IsSound concatenation (read_concatenation inner (suc n))
+  concatenation_sound = chain_sound concatenation refl (read_product inner (suc n)) product_sound
 
-  sum_sound : (t : Expr) (ts rest : Tokens) → read_sum inner (suc n) ts ≡ Ok (t, rest) → Found sum (suc n) t ts rest
-  unfolding read_sum
-  sum_sound t ts rest e = chain_sound sum refl (read_concatenation inner (suc n)) concatenation_sound t ts rest e
+  sum_sound : IsSound sum (read_sum inner (suc n))
+  sum_sound = chain_sound sum refl (read_concatenation inner (suc n)) concatenation_sound
 
   compare_by_sound : (a t : Expr) (x ts rest : Tokens) → Spells sum a x → levels a ≤ suc n → (found : Option (BinaryOperator × Tokens)) → operator comparison ts ≡ found → r.compare_by inner (suc n) a ts found ≡ Ok (t, rest) → Found comparison (suc n) t (x ++ ts) rest
   compare_by_sound a t x ts rest z le None w e = let p = ok_parts e in subst (λ v. Found comparison (suc n) v (x ++ ts) rest) p.0 (x, ap (λ y. x ++ y) p.1, alone z, le)
@@ -646,13 +648,11 @@ module _ (inner : Level → Reader Expr) (n : ℕ) (sound : (k : Level) (t : Exp
       subst (λ v. Found inversion (suc n) v ts rest) p.0 (word (codes "not") ∷ d.0, says_sound (codes "not") ts h ∙ ap (λ z. word (codes "not") ∷ z) (d.1 ∙ ap (λ z. d.0 ++ z) p.1), inverted d.2, omega arith))
       (λ h k. let d = comparison_sound t ts rest k in (d.0, d.1, upright d.2, d.3))
 
-  conjunction_sound : (t : Expr) (ts rest : Tokens) → read_conjunction inner (suc n) ts ≡ Ok (t, rest) → Found conjunction (suc n) t ts rest
-  unfolding read_conjunction
-  conjunction_sound t ts rest e = chain_sound conjunction refl (read_inversion inner (suc n)) inversion_sound t ts rest e
+  conjunction_sound : IsSound conjunction (read_conjunction inner (suc n))
+  conjunction_sound = chain_sound conjunction refl (read_inversion inner (suc n)) inversion_sound
 
-  disjunction_sound : (t : Expr) (ts rest : Tokens) → read_disjunction inner (suc n) ts ≡ Ok (t, rest) → Found disjunction (suc n) t ts rest
-  unfolding read_disjunction
-  disjunction_sound t ts rest e = chain_sound disjunction refl (read_conjunction inner (suc n)) conjunction_sound t ts rest e
+  disjunction_sound : IsSound disjunction (read_disjunction inner (suc n))
+  disjunction_sound = chain_sound disjunction refl (read_conjunction inner (suc n)) conjunction_sound
 
   -- ---- inline ifs
 

@@ -1,17 +1,15 @@
--- What the steps of the cursor give.
-use Rattle.std.specs.Prelude.{◌≡◌, ℕ, List, [], ◌∷◌, map, encode_utf8_all, Option, Some, None, Result, Ok, Err}
+-- The tokens of a cursor, and what its steps take of them.
+use Rattle.std.specs.Prelude.{◌≡◌, ℕ, false, List, [], ◌∷◌, map, Option, Some, None, Result, Ok, Err}
 use Rattle.std.specs.Str.{chars}
 use denote.Ref.{Bor}
-use Rattle.jt_scan.specs.Literals.{unescaped}
+use Rattle.jt_scan.specs.declared.segment.Sign.{Sign}
 use Rattle.jt_scan.specs.declared.segment.Token.{Token}
 use Rattle.jt_scan.specs.View.{token_view}
-use Rattle.jt_expr.specs.declared.tree.BinaryOperator.{BinaryOperator}
+use Rattle.jt_scan.specs.Cut as cut
 use Rattle.jt_expr.specs.declared.cursor.Cursor.{Cursor}
 use Rattle.jt_expr.specs.declared.error.ExprError.{ExprError}
 use Rattle.jt_expr.specs.declared.error.ExprError.TheVariants as e
-use Rattle.jt_expr.specs.Trees.{Text}
-use Rattle.jt_expr.specs.Grammar.{Tokens}
-use Rattle.jt_expr.specs.Reading.{Outcome, syntax, deep}
+use Rattle.jt_expr.specs.Grammar.{Tokens, is_reserved}
 
 -- the tokens that are still to be read
 abbrev pub ahead : Cursor → Tokens
@@ -21,33 +19,20 @@ abbrev pub Takes : Tokens → Option Token → Tokens → Type 0
 Takes ts None new = (ts ≡ []) × (new ≡ [])
 Takes ts (Some t) new = ts ≡ token_view t ∷ new
 
--- an operator is taken with its tokens, or nothing is
-abbrev pub Operates : Option (BinaryOperator × Tokens) → Tokens → Option BinaryOperator → Tokens → Type 0
-Operates found ts None new = (found ≡ None) × (new ≡ ts)
-Operates found ts (Some op) new = found ≡ Some (op, new)
+-- the sign, or it does not stand in front
+abbrev pub TakesSign : Sign → Tokens → Result (Unit {0}) ExprError → Tokens → Type 0
+TakesSign k ts (Ok x) new = ts ≡ cut.sign k ∷ new
+TakesSign k ts (Err e.Syntax) new = (v : Tokens) → ts ≡ cut.sign k ∷ v → ⊥
+TakesSign k ts (Err e.TooDeep) new = ⊥
+TakesSign k ts (Err e.UnknownFilter) new = ⊥
+TakesSign k ts (Err e.UnknownTest) new = ⊥
+TakesSign k ts (Err e.NoMemory) new = ⊥
 
--- a name is taken with the sign behind it, or nothing is
-abbrev pub TakesName : Option (Text × Tokens) → Tokens → Option (Bor (List ℕ)) → Tokens → Type 0
-TakesName found ts None new = (found ≡ None) × (new ≡ ts)
-TakesName found ts (Some s) new = found ≡ Some (encode_utf8_all (chars s.now), new)
-
--- a text, as it stands between its quotes, is taken with the sign behind it, or nothing is
-abbrev pub TakesText : Option (Text × Tokens) → Tokens → Option (Bor (List ℕ)) → Tokens → Type 0
-TakesText found ts None new = (found ≡ None) × (new ≡ ts)
-TakesText found ts (Some s) new = found ≡ Some (encode_utf8_all (unescaped (chars s.now)), new)
-
--- a refusal is the reader's, or want of memory
-abbrev pub Refuses : {A : Type 0} → Outcome A → ExprError → Type 0
-Refuses o e.Syntax = o ≡ Err syntax
-Refuses o e.TooDeep = o ≡ Err deep
-Refuses o e.UnknownFilter = ⊥
-Refuses o e.UnknownTest = ⊥
-Refuses o e.NoMemory = Unit {0}
-
-abbrev pub GivesDone : Outcome (Unit {0}) → Result (Unit {0}) ExprError → Tokens → Type 0
-GivesDone o (Ok x) new = o ≡ Ok (tt, new)
-GivesDone o (Err f) new = Refuses o f
-
-abbrev pub GivesWord : Outcome Text → Result (Bor (List ℕ)) ExprError → Tokens → Type 0
-GivesWord o (Ok s) new = o ≡ Ok (chars s.now, new)
-GivesWord o (Err f) new = Refuses o f
+-- a name, or none stands in front
+abbrev pub TakesAName : Tokens → Result (Bor (List ℕ)) ExprError → Tokens → Type 0
+TakesAName ts (Ok s) new = (ts ≡ cut.name (chars s.now) ∷ new) × (is_reserved (chars s.now) ≡ false)
+TakesAName ts (Err e.Syntax) new = (x : List ℕ) (v : Tokens) → ts ≡ cut.name x ∷ v → is_reserved x ≡ false → ⊥
+TakesAName ts (Err e.TooDeep) new = ⊥
+TakesAName ts (Err e.UnknownFilter) new = ⊥
+TakesAName ts (Err e.UnknownTest) new = ⊥
+TakesAName ts (Err e.NoMemory) new = ⊥

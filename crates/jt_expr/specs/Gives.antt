@@ -1,12 +1,16 @@
--- What the functions of the grammar give.
-use Rattle.std.specs.Prelude.{◌≡◌, ℕ, ◌≤◌, ◌<◌, ◌^◌, Option, Some, None, option_map, Result, Ok, Err, String, string_bytes}
+-- What only private clauses cite: what the steps of the cursor and the functions of the grammar give, by the reader of Reading.
+use Rattle.std.specs.Prelude.{◌≡◌, ℕ, suc, ◌≤◌, ◌<◌, List, encode_utf8_all, Option, Some, None, option_map, Result, Ok, Err, String, string_bytes}
+use Rattle.std.specs.Str.{chars}
 use Rattle.std.specs.declared.alloc.Global.{Global}
-use denote.Ref.{MutBor}
+use denote.Ref.{Bor, MutBor}
+use denote.Param.Members.{Shared}
+use Rattle.jt_scan.specs.Literals.{unescaped}
 use Rattle.jt_expr.specs.declared.cursor.Cursor.{Cursor}
 use Rattle.jt_expr.specs.declared.error.ExprError.{ExprError}
 use Rattle.jt_expr.specs.declared.error.ExprError.TheVariants as e
 use Rattle.jt_expr.specs.declared.rows.Form.{Form}
-use Rattle.jt_expr.specs.declared.rows.Form.TheVariants as f
+use Rattle.jt_expr.specs.declared.rows.Chain.{Chain}
+use Rattle.jt_expr.specs.declared.rows.Chain.TheVariants as c
 use Rattle.jt_expr.specs.declared.rows.Row.{Row}
 use Rattle.jt_expr.specs.declared.rows.Row.TheVariants as w
 use Rattle.jt_expr.specs.declared.part.Part.{Part}
@@ -16,22 +20,51 @@ use Rattle.jt_expr.specs.declared.rows.Element.{Element}
 use Rattle.jt_expr.specs.declared.rows.Element.TheVariants as l
 use Rattle.jt_expr.specs.declared.rows.Step.{Step}
 use Rattle.jt_expr.specs.declared.rows.Step.TheVariants.{Grown, Ended}
-use Rattle.jt_expr.specs.declared.tree.Expr.{Expr as Tree}
+use Rattle.jt_expr.specs.declared.tree.BinaryOperator.{BinaryOperator}
 use Rattle.jt_expr.specs.Trees.{Text, Expr, levels}
-use Rattle.jt_expr.specs.View.{expr_view, exprs_view, pairs_view}
+use Rattle.jt_expr.specs.View.{expr_view}
+use Rattle.jt_expr.specs.Promises.{parts_view, level_of_form}
 use Rattle.jt_expr.specs.Grammar as grammar
-use Rattle.jt_expr.specs.Grammar.{Tokens, Level, whole, disjunction, inversion, signed, postfix}
-use Rattle.jt_expr.specs.Reading.{Outcome, Fault, syntax, deep, read}
+use Rattle.jt_expr.specs.Grammar.{Tokens, Level, next}
+use Rattle.jt_expr.specs.Reading.{Outcome, Reader, syntax, deep, read, read_at}
 use Rattle.jt_expr.specs.Elements as elements
-use Rattle.jt_expr.specs.Cursor.{ahead, Refuses}
+use Rattle.jt_expr.specs.Cursor.{ahead}
+
+-- ---- steps of the cursor
+
+-- an operator is taken with its tokens, or nothing is
+abbrev pub Operates : Option (BinaryOperator × Tokens) → Tokens → Option BinaryOperator → Tokens → Type 0
+Operates found ts None new = (found ≡ None) × (new ≡ ts)
+Operates found ts (Some op) new = found ≡ Some (op, new)
+
+-- a name is taken with the sign behind it, or nothing is
+abbrev pub TakesName : Option (Text × Tokens) → Tokens → Option (Bor (List ℕ)) → Tokens → Type 0
+TakesName found ts None new = (found ≡ None) × (new ≡ ts)
+TakesName found ts (Some s) new = found ≡ Some (encode_utf8_all (chars s.now), new)
+
+-- a text, as it stands between its quotes, is taken with the sign behind it, or nothing is
+abbrev pub TakesText : Option (Text × Tokens) → Tokens → Option (Bor (List ℕ)) → Tokens → Type 0
+TakesText found ts None new = (found ≡ None) × (new ≡ ts)
+TakesText found ts (Some s) new = found ≡ Some (encode_utf8_all (unescaped (chars s.now)), new)
+
+-- a refusal is the reader's, or want of memory
+abbrev pub Refuses : {A : Type 0} → Outcome A → ExprError → Type 0
+Refuses o e.Syntax = o ≡ Err syntax
+Refuses o e.TooDeep = o ≡ Err deep
+Refuses o e.UnknownFilter = ⊥
+Refuses o e.UnknownTest = ⊥
+Refuses o e.NoMemory = Unit {0}
+
+abbrev pub GivesWord : Outcome Text → Result (Bor (List ℕ)) ExprError → Tokens → Type 0
+GivesWord o (Ok s) new = o ≡ Ok (chars s.now, new)
+GivesWord o (Err f) new = Refuses o f
+
+-- ---- functions of the grammar
 
 -- a tree, as the reader has it
 abbrev pub Gives : Outcome Expr → Result Part ExprError → Tokens → Type 0
 Gives o (Ok p) new = o ≡ Ok (expr_view p.expr.value, new)
 Gives o (Err x) new = Refuses o x
-
-abbrev pub parts_view : Parts → grammar.Parts
-parts_view p = (exprs_view p.items.items, pairs_view p.pairs.items)
 
 abbrev pub GivesParts : Outcome grammar.Parts → Result Parts ExprError → Tokens → Type 0
 GivesParts o (Ok p) new = o ≡ Ok (parts_view p, new)
@@ -60,26 +93,38 @@ GivesKey found ts (Ok (Some k)) new = found ≡ Some (string_bytes k, new)
 GivesKey found ts (Err e.NoMemory) new = Unit {0}
 GivesKey found ts (Err x) new = ⊥
 
-abbrev pub level_of_form : Form → Level
-level_of_form f.Whole = whole
-level_of_form f.Disjunction = disjunction
-level_of_form f.Inversion = inversion
-level_of_form f.Signed = signed
-level_of_form f.Postfix = postfix
-
 abbrev pub row_view : Row → grammar.Row
 row_view w.Items = grammar.items
 row_view w.Entries = grammar.entries
 row_view w.Arguments = grammar.arguments
 row_view w.Keywords = grammar.keywords
 
+abbrev pub level_of_chain : Chain → Level
+level_of_chain c.Disjunction = grammar.disjunction
+level_of_chain c.Conjunction = grammar.conjunction
+level_of_chain c.Sum = grammar.sum
+level_of_chain c.Concatenation = grammar.concatenation
+level_of_chain c.Product = grammar.product
+level_of_chain c.Power = grammar.power
+
+-- what stands between the operators of a level
+abbrev pub operand_of : ℕ → Chain → Reader Expr
+operand_of below k = read_at (read below) (suc below) (next (level_of_chain k))
+
 -- a function value that reads what lies deeper
-pub record Nests (below : ℕ) (pre : Global → MutBor Cursor → ℕ → Form → Type 0)
-    (post : Global → MutBor Cursor → ℕ → Form → Result Part ExprError → MutBor Cursor → Type 0) : Type 0 where
-  pub small : below < 2 ^ 32
-  pub callable : (alloc : Global) (old : MutBor Cursor) (form : Form) → pre alloc old below form
-  pub reads : (alloc : Global) (old new : MutBor Cursor) (form : Form) (r : Result Part ExprError) → post alloc old below form r new
+pub record Nests {F : Type 0} (g : Shared F (Global × (MutBor Cursor × (ℕ × (Form × Unit {0})))) (Result Part ExprError × (MutBor Cursor × Unit {0}))) (below : ℕ) (inner : F) : Type 0 where
+  pub callable : (alloc : Global) (old : MutBor Cursor) (form : Form) → g.pre inner (alloc, (old, (below, (form, tt))))
+  pub reads : (alloc : Global) (old new : MutBor Cursor) (form : Form) (r : Result Part ExprError) → g.post inner (alloc, (old, (below, (form, tt)))) (r, (new, tt))
       → Gives (read below (level_of_form form) (ahead old.now)) r (ahead new.now)
+
+-- the levels around what has so many, if they are allowed
+abbrev pub Around : ℕ → ℕ → Result ℕ ExprError → Type 0
+Around below inside (Ok h) = (h ≡ suc inside) × (inside ≤ below)
+Around below inside (Err e.Syntax) = ⊥
+Around below inside (Err e.TooDeep) = below < inside
+Around below inside (Err e.UnknownFilter) = ⊥
+Around below inside (Err e.UnknownTest) = ⊥
+Around below inside (Err e.NoMemory) = ⊥
 
 -- the new tree, if its levels are allowed
 abbrev pub Fits : ℕ → Expr → Result Part ExprError → Type 0
@@ -95,11 +140,3 @@ abbrev pub GivesStep : Outcome (Option Expr) → Expr → Result Step ExprError 
 GivesStep o left (Ok (Grown p)) new = o ≡ Ok (Some (expr_view p.expr.value), new)
 GivesStep o left (Ok (Ended p)) new = (o ≡ Ok (None, new)) × (expr_view p.expr.value ≡ left)
 GivesStep o left (Err x) new = Refuses o x
-
-abbrev pub GivesWhole : Result Expr Fault → Result Tree ExprError → Type 0
-GivesWhole o (Ok x) = o ≡ Ok (expr_view x)
-GivesWhole o (Err e.Syntax) = o ≡ Err syntax
-GivesWhole o (Err e.TooDeep) = o ≡ Err deep
-GivesWhole o (Err e.UnknownFilter) = ⊥
-GivesWhole o (Err e.UnknownTest) = ⊥
-GivesWhole o (Err e.NoMemory) = Unit {0}

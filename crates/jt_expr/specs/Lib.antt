@@ -1,5 +1,6 @@
 pub mod Trees
 pub mod Grammar
+pub mod Front
 pub mod Reading
 pub mod Words
 pub mod View

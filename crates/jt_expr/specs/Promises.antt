@@ -6,9 +6,23 @@ use Rattle.jt_scan.specs.Cut as cut
 use Rattle.jt_scan.specs.Cut.{tokens_weight}
 use Rattle.jt_expr.specs.declared.error.ExprError.{ExprError}
 use Rattle.jt_expr.specs.declared.error.ExprError.TheVariants as e
+use Rattle.jt_expr.specs.declared.part.Parts.{Parts as Row}
+use Rattle.jt_expr.specs.declared.rows.Form.{Form}
+use Rattle.jt_expr.specs.declared.rows.Form.TheVariants as f
 use Rattle.jt_expr.specs.Trees.{Expr, exprs_levels, pairs_levels, weight}
 use Rattle.jt_expr.specs.Sizes.{expr_bytes, tokens_bytes}
-use Rattle.jt_expr.specs.Grammar.{Tokens, word, Level, disjunction, Parts, Spells}
+use Rattle.jt_expr.specs.View.{exprs_view, pairs_view}
+use Rattle.jt_expr.specs.Grammar.{Tokens, word, Level, whole, disjunction, inversion, signed, postfix, Parts, Spells}
+
+abbrev pub parts_view : Row → Parts
+parts_view p = (exprs_view p.items.items, pairs_view p.pairs.items)
+
+abbrev pub level_of_form : Form → Level
+level_of_form f.Whole = whole
+level_of_form f.Disjunction = disjunction
+level_of_form f.Inversion = inversion
+level_of_form f.Signed = signed
+level_of_form f.Postfix = postfix
 
 -- the form stands in front, and these tokens are left
 abbrev pub Leads : {B : Type 0} → (B → Tokens → Type 0) → B → Tokens → Tokens → Type 0

@@ -1,5 +1,5 @@
--- A reader of expressions from lists of tokens, which allows a number of levels.
-use Rattle.std.specs.Prelude.{ℕ, zero, suc, Bool, false, ◌==◌, [], ◌∷◌, length, drop, codes, encode_utf8_all, bytes_eq, Option, Some, None, Result, Ok, Err, if◌then◌else◌, nat_le}
+-- What only private clauses cite: a reader of expressions from lists of tokens, which allows a number of levels.
+use Rattle.std.specs.Prelude.{ℕ, zero, suc, Bool, [], ◌∷◌, length, drop, codes, encode_utf8_all, Option, Some, None, Result, Ok, Err, if◌then◌else◌, nat_le}
 use Rattle.jt_scan.specs.declared.segment.Sign.{Sign}
 use Rattle.jt_scan.specs.declared.segment.Sign.TheVariants as s
 use Rattle.jt_scan.specs.Cut as cut
@@ -8,6 +8,7 @@ use Rattle.jt_expr.specs.declared.tree.UnaryOperator.TheVariants as u
 use Rattle.jt_expr.specs.declared.tree.BinaryOperator.{BinaryOperator}
 use Rattle.jt_expr.specs.declared.tree.BinaryOperator.TheVariants as o
 use Rattle.jt_expr.specs.Trees.{Text, Literal, number, text, Expr, constant, name, group, list_of, map_of, attribute, item, call, filter, test, unary, binary, when, choice, no_exprs, expr, no_pairs, levels}
+use Rattle.jt_expr.specs.Front.{sees, says, past}
 use Rattle.jt_expr.specs.Grammar.{Tokens, is_reserved, literal_of, Level, whole, disjunction, conjunction, inversion, comparison, sum, concatenation, product, power, postscript, signed, postfix, begins_argument, Row, items, entries, arguments, keywords, closer, takes_plain, behind_key, Parts, no_parts, put}
 
 pub data Fault : Type 0 where
@@ -32,53 +33,6 @@ abbrev pub cap : {A : Type 0} → ℕ → ℕ → A → Reader A
 cap l n a ts = if nat_le l n then Ok (a, ts) else Err deep
 
 -- ---- what stands in front
-
--- the place of a sign in the list of all
-abbrev pub code : Sign → ℕ
-code s.Plus = 0
-code s.Minus = 1
-code s.Times = 2
-code s.Percent = 3
-code s.Tilde = 4
-code s.Less = 5
-code s.Greater = 6
-code s.Assign = 7
-code s.Dot = 8
-code s.Comma = 9
-code s.Colon = 10
-code s.Pipe = 11
-code s.LeftParen = 12
-code s.RightParen = 13
-code s.LeftBracket = 14
-code s.RightBracket = 15
-code s.LeftBrace = 16
-code s.RightBrace = 17
-code s.Power = 18
-code s.FloorDivide = 19
-code s.Equal = 20
-code s.NotEqual = 21
-code s.LessEqual = 22
-code s.GreaterEqual = 23
-
--- the sign
-abbrev pub sees : Sign → Tokens → Bool
-sees k [] = false
-sees k (cut.name x ∷ ts) = false
-sees k (cut.number n ∷ ts) = false
-sees k (cut.text v ∷ ts) = false
-sees k (cut.sign j ∷ ts) = code j == code k
-
--- the word
-abbrev pub says : Text → Tokens → Bool
-says w [] = false
-says w (cut.name x ∷ ts) = bytes_eq x w
-says w (cut.number n ∷ ts) = false
-says w (cut.text v ∷ ts) = false
-says w (cut.sign k ∷ ts) = false
-
--- what stands behind the first token, where it is one that is taken
-abbrev pub past : Bool → Tokens → Tokens
-past b ts = if b then drop 1 ts else ts
 
 unfoldable pub expect : Sign → Reader (Unit {0})
 expect k ts = if sees k ts then Ok (tt, drop 1 ts) else Err syntax
@@ -246,17 +200,21 @@ module _ (inner : Level → Reader Expr) (n : ℕ) where
   unfoldable pub chain_step : Level → Reader Expr → Expr → Reader (Option Expr)
   chain_step k operand left ts = chain_by operand left ts (operator k ts)
 
-  unfoldable pub read_power : Reader Expr
-  read_power ts = read_postscript ts >>= loop (chain_step power read_postscript) n
+  -- operands, with operators of the level between them
+  unfoldable pub read_chain : Level → Reader Expr → Reader Expr
+  read_chain k operand ts = operand ts >>= loop (chain_step k operand) n
 
-  unfoldable pub read_product : Reader Expr
-  read_product ts = read_power ts >>= loop (chain_step product read_power) n
+  abbrev pub read_power : Reader Expr
+  read_power = read_chain power read_postscript
 
-  unfoldable pub read_concatenation : Reader Expr
-  read_concatenation ts = read_product ts >>= loop (chain_step concatenation read_product) n
+  abbrev pub read_product : Reader Expr
+  read_product = read_chain product read_power
 
-  unfoldable pub read_sum : Reader Expr
-  read_sum ts = read_concatenation ts >>= loop (chain_step sum read_concatenation) n
+  abbrev pub read_concatenation : Reader Expr
+  read_concatenation = read_chain concatenation read_product
+
+  abbrev pub read_sum : Reader Expr
+  read_sum = read_chain sum read_concatenation
 
   abbrev pub compare_by : Expr → Tokens → Option (BinaryOperator × Tokens) → Outcome Expr
   compare_by left ts None = Ok (left, ts)
@@ -268,11 +226,11 @@ module _ (inner : Level → Reader Expr) (n : ℕ) where
   unfoldable pub read_inversion : Reader Expr
   read_inversion ts = if says (codes "not") ts then (inner inversion (drop 1 ts) >>= λ t v. Ok (unary u.Not t, v)) else read_comparison ts
 
-  unfoldable pub read_conjunction : Reader Expr
-  read_conjunction ts = read_inversion ts >>= loop (chain_step conjunction read_inversion) n
+  abbrev pub read_conjunction : Reader Expr
+  read_conjunction = read_chain conjunction read_inversion
 
-  unfoldable pub read_disjunction : Reader Expr
-  read_disjunction ts = read_conjunction ts >>= loop (chain_step disjunction read_conjunction) n
+  abbrev pub read_disjunction : Reader Expr
+  read_disjunction = read_chain disjunction read_conjunction
 
   -- ---- inline ifs
 
@@ -307,15 +265,3 @@ module _ (inner : Level → Reader Expr) (n : ℕ) where
 unfoldable pub read : ℕ → Level → Reader Expr
 read zero k ts = Err deep
 read (suc n) k ts = read_at (read n) (suc n) k ts
-
-abbrev pub all_taken : Expr → Tokens → Result Expr Fault
-all_taken t [] = Ok t
-all_taken t (u ∷ ts) = Err syntax
-
-abbrev pub all_of : Outcome Expr → Result Expr Fault
-all_of (Ok p) = all_taken p.0 p.1
-all_of (Err e) = Err e
-
--- the tree that all the tokens spell
-unfoldable pub parsed : ℕ → Tokens → Result Expr Fault
-parsed n ts = all_of (read n whole ts)

@@ -1,12 +1,15 @@
 //! A cursor over the tokens of a tag.
 
-ghost use Rattle.std.specs.Prelude.{◌≡◌, length, IsTrue};
-ghost use Rattle.jt_expr.specs.Words.{is_plain};
+ghost use Rattle.std.specs.Prelude.{◌≡◌, length};
+ghost use Rattle.jt_expr.specs.Words.{letters_of};
+ghost use Rattle.jt_expr.specs.Front as front;
 ghost use Rattle.jt_expr.specs.Reading as reading;
 ghost use Rattle.jt_expr.specs.Grammar as grammar;
-ghost use Rattle.jt_expr.specs.Cursor.{ahead, Takes, Operates, TakesName, TakesText, GivesDone, GivesWord};
+ghost use Rattle.jt_expr.specs.Cursor.{ahead, Takes, TakesSign, TakesAName};
+ghost use Rattle.jt_expr.specs.Gives.{level_of_chain, Operates, TakesName, TakesText, GivesWord};
 
 use crate::error::ExprError;
+use crate::rows::Chain;
 use crate::tree::BinaryOperator;
 use crate::words::{is_operand, is_reserved, is_word};
 use jt_scan::{Sign, Token};
@@ -27,7 +30,7 @@ impl<'a> Cursor<'a> {
 
     /// Whether the sign stands in front.
     pub(crate) fn sees(&self, sign: Sign) -> bool
-        ensures { result ≡ reading.sees sign (ahead self.now) }
+        ensures { result ≡ front.sees sign (ahead self.now) }
     {
         match self.rest {
             [Token::Sign(found), ..] => *found == sign,
@@ -37,8 +40,7 @@ impl<'a> Cursor<'a> {
 
     /// Whether the word stands in front.
     pub(crate) fn says(&self, word: &str) -> bool
-        requires { IsTrue (is_plain word.now) }
-        ensures { result ≡ reading.says word.now (ahead self.now) }
+        ensures { result ≡ front.says (letters_of word.now) (ahead self.now) }
     {
         match self.rest {
             [Token::Name(found), ..] => is_word(found, word),
@@ -73,8 +75,9 @@ impl<'a> Cursor<'a> {
 
     /// Takes the sign, if it stands in front.
     pub fn eat(&mut self, sign: Sign) -> bool
-        ensures found { result ≡ reading.sees sign (ahead self.old) }
-        ensures rest { ahead self.new ≡ reading.past (reading.sees sign (ahead self.old)) (ahead self.old) }
+        ensures found { result ≡ front.sees sign (ahead self.old) }
+        ensures rest { ahead self.new
+            ≡ front.past (front.sees sign (ahead self.old)) (ahead self.old) }
     {
         let found = self.sees(sign);
         if found {
@@ -85,9 +88,9 @@ impl<'a> Cursor<'a> {
 
     /// Takes the word, if it stands in front.
     pub fn eat_word(&mut self, word: &str) -> bool
-        requires { IsTrue (is_plain word.now) }
-        ensures found { result ≡ reading.says word.now (ahead self.old) }
-        ensures rest { ahead self.new ≡ reading.past (reading.says word.now (ahead self.old)) (ahead self.old) }
+        ensures found { result ≡ front.says (letters_of word.now) (ahead self.old) }
+        ensures rest { ahead self.new
+            ≡ front.past (front.says (letters_of word.now) (ahead self.old)) (ahead self.old) }
     {
         let found = self.says(word);
         if found {
@@ -97,9 +100,8 @@ impl<'a> Cursor<'a> {
     }
 
     /// Takes the sign, which must stand in front.
-    #[tactic(auto, unfolding(crate::specs::Reading::expect))]
     pub fn expect(&mut self, sign: Sign) -> Result<(), ExprError>
-        ensures { GivesDone (reading.expect sign (ahead self.old)) result (ahead self.new) }
+        ensures { TakesSign sign (ahead self.old) result (ahead self.new) }
     {
         if self.eat(sign) {
             Ok(())
@@ -120,21 +122,20 @@ impl<'a> Cursor<'a> {
     }
 
     /// Takes a name.
-    #[tactic(auto, unfolding(crate::specs::Reading::name_at))]
     pub fn name(&mut self) -> Result<&'a str, ExprError>
-        ensures { GivesWord (reading.name_at (ahead self.old)) result (ahead self.new) }
+        ensures { TakesAName (ahead self.old) result (ahead self.new) }
     {
-        let word = self.word()?;
-        if is_reserved(word) {
-            return Err(ExprError::Syntax);
+        match self.take() {
+            Some(Token::Name(name)) if !is_reserved(name) => Ok(name),
+            _ => Err(ExprError::Syntax),
         }
-        Ok(word)
     }
 
     /// Takes a name and the `=` behind it.
     #[tactic(auto, unfolding(crate::specs::Reading::keyword))]
     pub(crate) fn keyword(&mut self) -> Option<&'a str>
-        ensures { TakesName (reading.keyword (ahead self.old)) (ahead self.old) result (ahead self.new) }
+        ensures { TakesName (reading.keyword (ahead self.old)) (ahead self.old) result
+            (ahead self.new) }
     {
         match self.rest {
             [Token::Name(name), Token::Sign(Sign::Assign), rest @ ..] if !is_reserved(name) => {
@@ -148,7 +149,8 @@ impl<'a> Cursor<'a> {
     /// Takes a text and the colon behind it.
     #[tactic(auto, unfolding(crate::specs::Reading::entry_key))]
     pub(crate) fn entry_key(&mut self) -> Option<&'a str>
-        ensures { TakesText (reading.entry_key (ahead self.old)) (ahead self.old) result (ahead self.new) }
+        ensures { TakesText (reading.entry_key (ahead self.old)) (ahead self.old) result
+            (ahead self.new) }
     {
         match self.rest {
             [Token::Text(raw), Token::Sign(Sign::Colon), rest @ ..] => {
@@ -159,10 +161,26 @@ impl<'a> Cursor<'a> {
         }
     }
 
+    /// An operator of the level.
+    pub(crate) fn operator(&mut self, level: Chain) -> Option<BinaryOperator>
+        ensures { Operates (reading.operator (level_of_chain level) (ahead self.old))
+            (ahead self.old) result (ahead self.new) }
+    {
+        match level {
+            Chain::Disjunction => self.or_operator(),
+            Chain::Conjunction => self.and_operator(),
+            Chain::Sum => self.sum_operator(),
+            Chain::Concatenation => self.concatenation_operator(),
+            Chain::Product => self.product_operator(),
+            Chain::Power => self.power_operator(),
+        }
+    }
+
     /// `or`
     #[tactic(auto, unfolding(crate::specs::Reading::operator))]
-    pub(crate) fn or_operator(&mut self) -> Option<BinaryOperator>
-        ensures { Operates (reading.operator grammar.disjunction (ahead self.old)) (ahead self.old) result (ahead self.new) }
+    fn or_operator(&mut self) -> Option<BinaryOperator>
+        ensures { Operates (reading.operator grammar.disjunction (ahead self.old)) (ahead self.old)
+            result (ahead self.new) }
     {
         if self.eat_word("or") {
             Some(BinaryOperator::Or)
@@ -173,8 +191,9 @@ impl<'a> Cursor<'a> {
 
     /// `and`
     #[tactic(auto, unfolding(crate::specs::Reading::operator))]
-    pub(crate) fn and_operator(&mut self) -> Option<BinaryOperator>
-        ensures { Operates (reading.operator grammar.conjunction (ahead self.old)) (ahead self.old) result (ahead self.new) }
+    fn and_operator(&mut self) -> Option<BinaryOperator>
+        ensures { Operates (reading.operator grammar.conjunction (ahead self.old)) (ahead self.old)
+            result (ahead self.new) }
     {
         if self.eat_word("and") {
             Some(BinaryOperator::And)
@@ -186,7 +205,8 @@ impl<'a> Cursor<'a> {
     /// `==` and its like, `in` and `not in`
     #[tactic(auto, unfolding(crate::specs::Reading::operator))]
     pub(crate) fn comparison(&mut self) -> Option<BinaryOperator>
-        ensures { Operates (reading.operator grammar.comparison (ahead self.old)) (ahead self.old) result (ahead self.new) }
+        ensures { Operates (reading.operator grammar.comparison (ahead self.old)) (ahead self.old)
+            result (ahead self.new) }
     {
         if self.eat(Sign::Equal) {
             Some(BinaryOperator::Equal)
@@ -209,7 +229,8 @@ impl<'a> Cursor<'a> {
 
     /// `not in`, and nothing is taken where only the `not` stands.
     fn not_in(&mut self) -> Option<BinaryOperator>
-        ensures { Operates (reading.not_in (ahead self.old)) (ahead self.old) result (ahead self.new) }
+        ensures { Operates (reading.not_in (ahead self.old)) (ahead self.old) result
+            (ahead self.new) }
     {
         match self.rest {
             [Token::Name(one), Token::Name(two), rest @ ..]
@@ -223,8 +244,9 @@ impl<'a> Cursor<'a> {
 
     /// `+` and `-`
     #[tactic(auto, unfolding(crate::specs::Reading::operator))]
-    pub(crate) fn sum_operator(&mut self) -> Option<BinaryOperator>
-        ensures { Operates (reading.operator grammar.sum (ahead self.old)) (ahead self.old) result (ahead self.new) }
+    fn sum_operator(&mut self) -> Option<BinaryOperator>
+        ensures { Operates (reading.operator grammar.sum (ahead self.old)) (ahead self.old) result
+            (ahead self.new) }
     {
         if self.eat(Sign::Plus) {
             Some(BinaryOperator::Add)
@@ -237,8 +259,9 @@ impl<'a> Cursor<'a> {
 
     /// `~`
     #[tactic(auto, unfolding(crate::specs::Reading::operator))]
-    pub(crate) fn concatenation_operator(&mut self) -> Option<BinaryOperator>
-        ensures { Operates (reading.operator grammar.concatenation (ahead self.old)) (ahead self.old) result (ahead self.new) }
+    fn concatenation_operator(&mut self) -> Option<BinaryOperator>
+        ensures { Operates (reading.operator grammar.concatenation (ahead self.old))
+            (ahead self.old) result (ahead self.new) }
     {
         if self.eat(Sign::Tilde) {
             Some(BinaryOperator::Concatenate)
@@ -249,8 +272,9 @@ impl<'a> Cursor<'a> {
 
     /// `*`, `//` and `%`
     #[tactic(auto, unfolding(crate::specs::Reading::operator))]
-    pub(crate) fn product_operator(&mut self) -> Option<BinaryOperator>
-        ensures { Operates (reading.operator grammar.product (ahead self.old)) (ahead self.old) result (ahead self.new) }
+    fn product_operator(&mut self) -> Option<BinaryOperator>
+        ensures { Operates (reading.operator grammar.product (ahead self.old)) (ahead self.old)
+            result (ahead self.new) }
     {
         if self.eat(Sign::Times) {
             Some(BinaryOperator::Multiply)
@@ -265,8 +289,9 @@ impl<'a> Cursor<'a> {
 
     /// `**`
     #[tactic(auto, unfolding(crate::specs::Reading::operator))]
-    pub(crate) fn power_operator(&mut self) -> Option<BinaryOperator>
-        ensures { Operates (reading.operator grammar.power (ahead self.old)) (ahead self.old) result (ahead self.new) }
+    fn power_operator(&mut self) -> Option<BinaryOperator>
+        ensures { Operates (reading.operator grammar.power (ahead self.old)) (ahead self.old) result
+            (ahead self.new) }
     {
         if self.eat(Sign::Power) {
             Some(BinaryOperator::Power)

@@ -5,6 +5,7 @@ ghost use Rattle.std.specs.Prelude.{◌≡◌, ◌≤◌, ◌<◌, ◌^◌, suc,
 ghost use Rattle.std.specs.Str.{chars};
 ghost use Rattle.jt_expr.specs.Trees as trees;
 ghost use Rattle.jt_expr.specs.View.{expr_view, exprs_view, pairs_view};
+ghost use Rattle.jt_expr.specs.Front as front;
 ghost use Rattle.jt_expr.specs.Reading as spec;
 ghost use Rattle.jt_expr.specs.Grammar as grammar;
 ghost use Rattle.jt_expr.specs.Elements as elements;
@@ -12,13 +13,16 @@ ghost use Rattle.jt_expr.specs.Cursor.{ahead};
 ghost use Rattle.jt_expr.specs.Trees.{levels};
 ghost use Rattle.jt_expr.specs.Grammar.{Spells, Arguments};
 ghost use Rattle.jt_expr.specs.Promises.{Reads, EndsAt, OpensNone, parts_levels};
-ghost use Rattle.jt_expr.specs.Gives.{Gives, GivesParts, GivesKeyed, GivesElement, GivesKey, Nests, Fits, GivesStep, level_of_form, row_view, parts_view};
+ghost use Rattle.jt_expr.specs.Promises.{level_of_form, parts_view};
+ghost use Rattle.jt_expr.specs.Gives.{Gives, GivesParts, GivesKeyed, GivesElement, GivesKey};
+ghost use Rattle.jt_expr.specs.Gives.{Nests, Around, Fits, GivesStep, row_view};
+ghost use Rattle.jt_expr.specs.Gives.{level_of_chain, operand_of};
 ghost use Rattle.jt_scan.specs.declared.segment.Sign.TheVariants as sign;
 
 use crate::cursor::Cursor;
 use crate::error::ExprError;
 use crate::part::{Part, Parts};
-use crate::rows::{Element, Form, Keyed, Row, Step};
+use crate::rows::{Chain, Element, Form, Keyed, Row, Step};
 use crate::tree;
 use crate::tree::{BinaryOperator, Literal, UnaryOperator};
 use crate::words::{is_reserved, literal_of};
@@ -26,88 +30,81 @@ use jt_scan::{Sign, Token, text_value};
 use std::alloc::Global;
 
 /// The rules, over the reader of what lies deeper.
-#[derive(Clone, Copy)]
+#[derive(Drop)]
 pub struct Grammar<F> {
     pub alloc: Global,
     /// How many levels may lie deeper.
     pub below: usize,
     pub inner: F,
+    ghost small: { below < 2 ^ 32 },
 }
 
 impl<F: Fn(Global, &mut Cursor<'_>, usize, Form) -> Result<Part, ExprError>> Grammar<F> {
     /// A form that lies one level deeper.
     fn inner(&self, cursor: &mut Cursor<'_>, form: Form) -> Result<Part, ExprError>
-        requires { Nests self.now.below (F.pre self.now.inner) (F.post self.now.inner) }
-        ensures tree { Gives (spec.read self.now.below (level_of_form form) (ahead cursor.old)) result (ahead cursor.new) }
+        requires { Nests F.Fn self.now.below self.now.inner }
+        ensures tree { Gives (spec.read self.now.below (level_of_form form) (ahead cursor.old))
+            result (ahead cursor.new) }
         ensures height { IfOk result (λ p. p.height ≤ self.now.below) }
     {
         (self.inner)(self.alloc, cursor, self.below, form)
     }
 
-    /// `a.k`
-    fn attribute(&self, value: Part, name: &str) -> Result<Part, ExprError>
-        requires { Nests self.now.below (F.pre self.now.inner) (F.post self.now.inner) }
-        ensures { Fits (suc self.now.below) (trees.attribute (expr_view value.expr.value) (encode_utf8_all (chars name.now))) result }
+    /// The levels of a form around what has so many, where they are allowed.
+    fn around(&self, inside: usize) -> Result<usize, ExprError>
+        ensures { Around self.now.below inside result }
     {
-        let inside = value.height;
         if inside > self.below {
             return Err(ExprError::TooDeep);
         }
-        Ok(Part {
-            expr: tree::make_attribute(self.alloc, value.expr, name)?,
-            height: inside + 1,
-        })
+        Ok(inside + 1)
+    }
+
+    /// `a.k`
+    fn attribute(&self, value: Part, name: &str) -> Result<Part, ExprError>
+        ensures { Fits (suc self.now.below) (trees.attribute (expr_view value.expr.value)
+            (encode_utf8_all (chars name.now))) result }
+    {
+        let height = self.around(value.height)?;
+        let expr = tree::make_attribute(self.alloc, value.expr, name)?;
+        Ok(Part { expr, height })
     }
 
     /// `a[b]`
     fn item(&self, value: Part, index: Part) -> Result<Part, ExprError>
-        requires { Nests self.now.below (F.pre self.now.inner) (F.post self.now.inner) }
-        ensures { Fits (suc self.now.below) (trees.item (expr_view value.expr.value) (expr_view index.expr.value)) result }
+        ensures { Fits (suc self.now.below)
+            (trees.item (expr_view value.expr.value) (expr_view index.expr.value)) result }
     {
-        let inside = value.height.max(index.height);
-        if inside > self.below {
-            return Err(ExprError::TooDeep);
-        }
-        Ok(Part {
-            expr: tree::make_item(self.alloc, value.expr, index.expr)?,
-            height: inside + 1,
-        })
+        let height = self.around(value.height.max(index.height))?;
+        let expr = tree::make_item(self.alloc, value.expr, index.expr)?;
+        Ok(Part { expr, height })
     }
 
     /// `a(..)`
     fn call(&self, value: Part, arguments: Parts) -> Result<Part, ExprError>
-        requires { Nests self.now.below (F.pre self.now.inner) (F.post self.now.inner) }
-        ensures { Fits (suc self.now.below) (trees.call (expr_view value.expr.value) (exprs_view arguments.items.items) (pairs_view arguments.pairs.items)) result }
+        ensures { Fits (suc self.now.below) (trees.call (expr_view value.expr.value)
+            (exprs_view arguments.items.items) (pairs_view arguments.pairs.items)) result }
     {
-        let inside = value.height.max(arguments.height);
-        if inside > self.below {
-            return Err(ExprError::TooDeep);
-        }
-        Ok(Part {
-            expr: tree::make_call(self.alloc, value.expr, arguments.items, arguments.pairs)?,
-            height: inside + 1,
-        })
+        let height = self.around(value.height.max(arguments.height))?;
+        let expr = tree::make_call(self.alloc, value.expr, arguments.items, arguments.pairs)?;
+        Ok(Part { expr, height })
     }
 
     /// `a|f(..)`
     fn filter(&self, value: Part, name: &str, arguments: Parts) -> Result<Part, ExprError>
-        requires { Nests self.now.below (F.pre self.now.inner) (F.post self.now.inner) }
-        ensures { Fits (suc self.now.below) (trees.filter (expr_view value.expr.value) (encode_utf8_all (chars name.now)) (exprs_view arguments.items.items) (pairs_view arguments.pairs.items)) result }
+        ensures { Fits (suc self.now.below) (trees.filter (expr_view value.expr.value)
+            (encode_utf8_all (chars name.now)) (exprs_view arguments.items.items)
+            (pairs_view arguments.pairs.items)) result }
     {
-        let inside = value.height.max(arguments.height);
-        if inside > self.below {
-            return Err(ExprError::TooDeep);
-        }
-        Ok(Part {
-            expr: tree::make_filter(
-                self.alloc,
-                value.expr,
-                name,
-                arguments.items,
-                arguments.pairs,
-            )?,
-            height: inside + 1,
-        })
+        let height = self.around(value.height.max(arguments.height))?;
+        let expr = tree::make_filter(
+            self.alloc,
+            value.expr,
+            name,
+            arguments.items,
+            arguments.pairs,
+        )?;
+        Ok(Part { expr, height })
     }
 
     /// `a is t(..)`, or with true `a is not t(..)`
@@ -118,75 +115,56 @@ impl<F: Fn(Global, &mut Cursor<'_>, usize, Form) -> Result<Part, ExprError>> Gra
         name: &str,
         arguments: Parts,
     ) -> Result<Part, ExprError>
-        requires { Nests self.now.below (F.pre self.now.inner) (F.post self.now.inner) }
-        ensures { Fits (suc self.now.below) (trees.test (expr_view value.expr.value) negated (encode_utf8_all (chars name.now)) (exprs_view arguments.items.items) (pairs_view arguments.pairs.items)) result }
+        ensures { Fits (suc self.now.below) (trees.test (expr_view value.expr.value) negated
+            (encode_utf8_all (chars name.now)) (exprs_view arguments.items.items)
+            (pairs_view arguments.pairs.items)) result }
     {
-        let inside = value.height.max(arguments.height);
-        if inside > self.below {
-            return Err(ExprError::TooDeep);
-        }
-        Ok(Part {
-            expr: tree::make_test(
-                self.alloc,
-                value.expr,
-                negated,
-                name,
-                arguments.items,
-                arguments.pairs,
-            )?,
-            height: inside + 1,
-        })
+        let height = self.around(value.height.max(arguments.height))?;
+        let expr = tree::make_test(
+            self.alloc,
+            value.expr,
+            negated,
+            name,
+            arguments.items,
+            arguments.pairs,
+        )?;
+        Ok(Part { expr, height })
     }
 
     /// An operator and its operands.
     fn binary(&self, op: BinaryOperator, left: Part, right: Part) -> Result<Part, ExprError>
-        requires { Nests self.now.below (F.pre self.now.inner) (F.post self.now.inner) }
-        ensures { Fits (suc self.now.below) (trees.binary op (expr_view left.expr.value) (expr_view right.expr.value)) result }
+        ensures { Fits (suc self.now.below)
+            (trees.binary op (expr_view left.expr.value) (expr_view right.expr.value)) result }
     {
-        let inside = left.height.max(right.height);
-        if inside > self.below {
-            return Err(ExprError::TooDeep);
-        }
-        Ok(Part {
-            expr: tree::make_binary(self.alloc, op, left.expr, right.expr)?,
-            height: inside + 1,
-        })
+        let height = self.around(left.height.max(right.height))?;
+        let expr = tree::make_binary(self.alloc, op, left.expr, right.expr)?;
+        Ok(Part { expr, height })
     }
 
     /// `a if c`
     fn when(&self, condition: Part, value: Part) -> Result<Part, ExprError>
-        requires { Nests self.now.below (F.pre self.now.inner) (F.post self.now.inner) }
-        ensures { Fits (suc self.now.below) (trees.when (expr_view condition.expr.value) (expr_view value.expr.value)) result }
+        ensures { Fits (suc self.now.below)
+            (trees.when (expr_view condition.expr.value) (expr_view value.expr.value)) result }
     {
-        let inside = condition.height.max(value.height);
-        if inside > self.below {
-            return Err(ExprError::TooDeep);
-        }
-        Ok(Part {
-            expr: tree::make_when(self.alloc, condition.expr, value.expr)?,
-            height: inside + 1,
-        })
+        let height = self.around(condition.height.max(value.height))?;
+        let expr = tree::make_when(self.alloc, condition.expr, value.expr)?;
+        Ok(Part { expr, height })
     }
 
     /// `a if c else b`
     fn choice(&self, condition: Part, value: Part, other: Part) -> Result<Part, ExprError>
-        requires { Nests self.now.below (F.pre self.now.inner) (F.post self.now.inner) }
-        ensures { Fits (suc self.now.below) (trees.choice (expr_view condition.expr.value) (expr_view value.expr.value) (expr_view other.expr.value)) result }
+        ensures { Fits (suc self.now.below) (trees.choice (expr_view condition.expr.value)
+            (expr_view value.expr.value) (expr_view other.expr.value)) result }
     {
-        let inside = condition.height.max(value.height.max(other.height));
-        if inside > self.below {
-            return Err(ExprError::TooDeep);
-        }
-        Ok(Part {
-            expr: tree::make_choice(self.alloc, condition.expr, value.expr, other.expr)?,
-            height: inside + 1,
-        })
+        let height = self.around(condition.height.max(value.height.max(other.height)))?;
+        let expr = tree::make_choice(self.alloc, condition.expr, value.expr, other.expr)?;
+        Ok(Part { expr, height })
     }
 
     /// The key of a part, if it has one.
     fn key(&self, cursor: &mut Cursor<'_>, row: Row) -> Result<Option<String>, ExprError>
-        requires { Nests self.now.below (F.pre self.now.inner) (F.post self.now.inner) }
-        ensures { GivesKey (spec.key_at (row_view row) (ahead cursor.old)) (ahead cursor.old) result (ahead cursor.new) }
+        ensures { GivesKey (spec.key_at (row_view row) (ahead cursor.old)) (ahead cursor.old) result
+            (ahead cursor.new) }
     {
         match row {
             Row::Items => Ok(None),
@@ -204,8 +182,9 @@ impl<F: Fn(Global, &mut Cursor<'_>, usize, Form) -> Result<Part, ExprError>> Gra
     /// One part of a row.
     #[tactic(auto, unfolding(crate::specs::Reading::part))]
     fn part(&self, cursor: &mut Cursor<'_>, row: Row) -> Result<Keyed, ExprError>
-        requires { Nests self.now.below (F.pre self.now.inner) (F.post self.now.inner) }
-        ensures { GivesKeyed (spec.part (spec.read self.now.below) (suc self.now.below) (row_view row) (ahead cursor.old)) result (ahead cursor.new) }
+        requires { Nests F.Fn self.now.below self.now.inner }
+        ensures { GivesKeyed (spec.part (spec.read self.now.below) (suc self.now.below)
+            (row_view row) (ahead cursor.old)) result (ahead cursor.new) }
     {
         let key = self.key(cursor, row)?;
         if key.is_none() && !row.takes_plain() {
@@ -216,10 +195,11 @@ impl<F: Fn(Global, &mut Cursor<'_>, usize, Form) -> Result<Part, ExprError>> Gra
     }
 
     /// One part of a row, with the sign behind it.
-    #[tactic(auto, unfolding(crate::specs::Elements::element))]
+    #[tactic(auto, unfolding(crate::specs::Elements::element, crate::specs::Reading::expect))]
     fn element(&self, cursor: &mut Cursor<'_>, row: Row) -> Result<Element, ExprError>
-        requires { Nests self.now.below (F.pre self.now.inner) (F.post self.now.inner) }
-        ensures { GivesElement (elements.element (spec.read self.now.below) (suc self.now.below) (row_view row) (ahead cursor.old)) result (ahead cursor.new) }
+        requires { Nests F.Fn self.now.below self.now.inner }
+        ensures { GivesElement (elements.element (spec.read self.now.below) (suc self.now.below)
+            (row_view row) (ahead cursor.old)) result (ahead cursor.new) }
     {
         if cursor.eat(row.closer()) {
             return Ok(Element::Closed);
@@ -228,14 +208,18 @@ impl<F: Fn(Global, &mut Cursor<'_>, usize, Form) -> Result<Part, ExprError>> Gra
         if cursor.eat(Sign::Comma) {
             return Ok(Element::Further(keyed));
         }
-        cursor.expect(row.closer())?;
+        if !cursor.eat(row.closer()) {
+            return Err(ExprError::Syntax);
+        }
         Ok(Element::Last(keyed))
     }
 
     /// What stands in brackets, up to the closing sign.
     fn row(&self, cursor: &mut Cursor<'_>, first: Row) -> Result<Parts, ExprError>
-        requires { Nests self.now.below (F.pre self.now.inner) (F.post self.now.inner) }
-        ensures { GivesParts (spec.row (spec.read self.now.below) (suc self.now.below) (length (ahead cursor.old)) (row_view first) (ahead cursor.old)) result (ahead cursor.new) }
+        requires { Nests F.Fn self.now.below self.now.inner }
+        ensures { GivesParts (spec.row (spec.read self.now.below) (suc self.now.below)
+            (length (ahead cursor.old)) (row_view first) (ahead cursor.old)) result
+            (ahead cursor.new) }
     {
         let mut found = Parts::new(self.alloc);
         let mut row = first;
@@ -256,13 +240,16 @@ impl<F: Fn(Global, &mut Cursor<'_>, usize, Form) -> Result<Part, ExprError>> Gra
     }
 
     /// An expression in parentheses.
-    #[tactic(auto, unfolding(crate::specs::Reading::opened))]
+    #[tactic(auto, unfolding(crate::specs::Reading::opened, crate::specs::Reading::expect))]
     fn group(&self, cursor: &mut Cursor<'_>) -> Result<Part, ExprError>
-        requires { Nests self.now.below (F.pre self.now.inner) (F.post self.now.inner) }
-        ensures { Gives (spec.opened (spec.read self.now.below) (suc self.now.below) sign.LeftParen (ahead cursor.old)) result (ahead cursor.new) }
+        requires { Nests F.Fn self.now.below self.now.inner }
+        ensures { Gives (spec.opened (spec.read self.now.below) (suc self.now.below) sign.LeftParen
+            (ahead cursor.old)) result (ahead cursor.new) }
     {
         let inner = self.inner(cursor, Form::Whole)?;
-        cursor.expect(Sign::RightParen)?;
+        if !cursor.eat(Sign::RightParen) {
+            return Err(ExprError::Syntax);
+        }
         Ok(Part {
             expr: tree::make_group(self.alloc, inner.expr)?,
             height: inner.height + 1,
@@ -272,8 +259,9 @@ impl<F: Fn(Global, &mut Cursor<'_>, usize, Form) -> Result<Part, ExprError>> Gra
     /// `[..]`
     #[tactic(auto, unfolding(crate::specs::Reading::opened))]
     fn list(&self, cursor: &mut Cursor<'_>) -> Result<Part, ExprError>
-        requires { Nests self.now.below (F.pre self.now.inner) (F.post self.now.inner) }
-        ensures { Gives (spec.opened (spec.read self.now.below) (suc self.now.below) sign.LeftBracket (ahead cursor.old)) result (ahead cursor.new) }
+        requires { Nests F.Fn self.now.below self.now.inner }
+        ensures { Gives (spec.opened (spec.read self.now.below) (suc self.now.below)
+            sign.LeftBracket (ahead cursor.old)) result (ahead cursor.new) }
     {
         let parts = self.row(cursor, Row::Items)?;
         Ok(Part {
@@ -285,8 +273,9 @@ impl<F: Fn(Global, &mut Cursor<'_>, usize, Form) -> Result<Part, ExprError>> Gra
     /// `{..}`
     #[tactic(auto, unfolding(crate::specs::Reading::opened))]
     fn map(&self, cursor: &mut Cursor<'_>) -> Result<Part, ExprError>
-        requires { Nests self.now.below (F.pre self.now.inner) (F.post self.now.inner) }
-        ensures { Gives (spec.opened (spec.read self.now.below) (suc self.now.below) sign.LeftBrace (ahead cursor.old)) result (ahead cursor.new) }
+        requires { Nests F.Fn self.now.below self.now.inner }
+        ensures { Gives (spec.opened (spec.read self.now.below) (suc self.now.below) sign.LeftBrace
+            (ahead cursor.old)) result (ahead cursor.new) }
     {
         let parts = self.row(cursor, Row::Entries)?;
         Ok(Part {
@@ -297,8 +286,9 @@ impl<F: Fn(Global, &mut Cursor<'_>, usize, Form) -> Result<Part, ExprError>> Gra
 
     /// A constant or a name.
     fn word(&self, cursor: &mut Cursor<'_>, word: &str) -> Result<Part, ExprError>
-        requires { Nests self.now.below (F.pre self.now.inner) (F.post self.now.inner) }
-        ensures { Gives (spec.word_by (spec.read self.now.below) (suc self.now.below) (grammar.literal_of (chars word.now)) (chars word.now) (ahead cursor.old)) result (ahead cursor.new) }
+        ensures { Gives (spec.word_by (spec.read self.now.below) (suc self.now.below)
+            (grammar.literal_of (chars word.now)) (chars word.now) (ahead cursor.old)) result
+            (ahead cursor.new) }
     {
         if let Some(literal) = literal_of(word) {
             return Ok(Part {
@@ -318,8 +308,10 @@ impl<F: Fn(Global, &mut Cursor<'_>, usize, Form) -> Result<Part, ExprError>> Gra
     /// What postfix forms stand behind.
     #[tactic(auto, unfolding(crate::specs::Reading::primary, crate::specs::Reading::opened))]
     fn primary(&self, cursor: &mut Cursor<'_>) -> Result<Part, ExprError>
-        requires { Nests self.now.below (F.pre self.now.inner) (F.post self.now.inner) }
-        ensures { Gives (spec.primary (spec.read self.now.below) (suc self.now.below) (ahead cursor.old)) result (ahead cursor.new) }
+        requires { Nests F.Fn self.now.below self.now.inner }
+        ensures { Gives
+            (spec.primary (spec.read self.now.below) (suc self.now.below) (ahead cursor.old)) result
+            (ahead cursor.new) }
     {
         match cursor.take() {
             Some(Token::Name(word)) => self.word(cursor, word),
@@ -342,17 +334,21 @@ impl<F: Fn(Global, &mut Cursor<'_>, usize, Form) -> Result<Part, ExprError>> Gra
     }
 
     /// One attribute, item or call more, or none.
-    #[tactic(auto, unfolding(crate::specs::Reading::postfix_step))]
+    #[tactic(auto, unfolding(crate::specs::Reading::postfix_step, crate::specs::Reading::expect))]
     fn postfix_step(&self, cursor: &mut Cursor<'_>, left: Part) -> Result<Step, ExprError>
-        requires { Nests self.now.below (F.pre self.now.inner) (F.post self.now.inner) }
-        ensures { GivesStep (spec.postfix_step (spec.read self.now.below) (suc self.now.below) (expr_view left.expr.value) (ahead cursor.old)) (expr_view left.expr.value) result (ahead cursor.new) }
+        requires { Nests F.Fn self.now.below self.now.inner }
+        ensures { GivesStep (spec.postfix_step (spec.read self.now.below) (suc self.now.below)
+            (expr_view left.expr.value) (ahead cursor.old)) (expr_view left.expr.value) result
+            (ahead cursor.new) }
     {
         if cursor.eat(Sign::Dot) {
             let name = cursor.word()?;
             Ok(Step::Grown(self.attribute(left, name)?))
         } else if cursor.eat(Sign::LeftBracket) {
             let index = self.inner(cursor, Form::Whole)?;
-            cursor.expect(Sign::RightBracket)?;
+            if !cursor.eat(Sign::RightBracket) {
+                return Err(ExprError::Syntax);
+            }
             Ok(Step::Grown(self.item(left, index)?))
         } else if cursor.eat(Sign::LeftParen) {
             let arguments = self.row(cursor, Row::Arguments)?;
@@ -365,8 +361,10 @@ impl<F: Fn(Global, &mut Cursor<'_>, usize, Form) -> Result<Part, ExprError>> Gra
     /// A primary and its postfix forms.
     #[tactic(auto, unfolding(crate::specs::Reading::read_postfix))]
     fn postfix(&self, cursor: &mut Cursor<'_>) -> Result<Part, ExprError>
-        requires { Nests self.now.below (F.pre self.now.inner) (F.post self.now.inner) }
-        ensures { Gives (spec.read_postfix (spec.read self.now.below) (suc self.now.below) (ahead cursor.old)) result (ahead cursor.new) }
+        requires { Nests F.Fn self.now.below self.now.inner }
+        ensures { Gives
+            (spec.read_postfix (spec.read self.now.below) (suc self.now.below) (ahead cursor.old))
+            result (ahead cursor.new) }
     {
         let mut left = self.primary(cursor)?;
         for _turn in 0..self.below + 1 {
@@ -385,8 +383,10 @@ impl<F: Fn(Global, &mut Cursor<'_>, usize, Form) -> Result<Part, ExprError>> Gra
         op: UnaryOperator,
         form: Form,
     ) -> Result<Part, ExprError>
-        requires { Nests self.now.below (F.pre self.now.inner) (F.post self.now.inner) }
-        ensures { Gives (elements.under op (spec.read self.now.below (level_of_form form) (ahead cursor.old))) result (ahead cursor.new) }
+        requires { Nests F.Fn self.now.below self.now.inner }
+        ensures { Gives
+            (elements.under op (spec.read self.now.below (level_of_form form) (ahead cursor.old)))
+            result (ahead cursor.new) }
     {
         let value = self.inner(cursor, form)?;
         Ok(Part {
@@ -398,8 +398,10 @@ impl<F: Fn(Global, &mut Cursor<'_>, usize, Form) -> Result<Part, ExprError>> Gra
     /// Signs in front.
     #[tactic(auto, unfolding(crate::specs::Reading::read_signed))]
     fn signed(&self, cursor: &mut Cursor<'_>) -> Result<Part, ExprError>
-        requires { Nests self.now.below (F.pre self.now.inner) (F.post self.now.inner) }
-        ensures { Gives (spec.read_signed (spec.read self.now.below) (suc self.now.below) (ahead cursor.old)) result (ahead cursor.new) }
+        requires { Nests F.Fn self.now.below self.now.inner }
+        ensures { Gives
+            (spec.read_signed (spec.read self.now.below) (suc self.now.below) (ahead cursor.old))
+            result (ahead cursor.new) }
     {
         if cursor.eat(Sign::Minus) {
             self.prefixed(cursor, UnaryOperator::Negate, Form::Signed)
@@ -413,8 +415,10 @@ impl<F: Fn(Global, &mut Cursor<'_>, usize, Form) -> Result<Part, ExprError>> Gra
     /// Arguments of a filter or a test, or none.
     #[tactic(auto, unfolding(crate::specs::Reading::arguments_at))]
     fn arguments(&self, cursor: &mut Cursor<'_>) -> Result<Parts, ExprError>
-        requires { Nests self.now.below (F.pre self.now.inner) (F.post self.now.inner) }
-        ensures { GivesParts (spec.arguments_at (spec.read self.now.below) (suc self.now.below) (ahead cursor.old)) result (ahead cursor.new) }
+        requires { Nests F.Fn self.now.below self.now.inner }
+        ensures { GivesParts
+            (spec.arguments_at (spec.read self.now.below) (suc self.now.below) (ahead cursor.old))
+            result (ahead cursor.new) }
     {
         if cursor.eat(Sign::LeftParen) {
             self.row(cursor, Row::Arguments)
@@ -426,8 +430,10 @@ impl<F: Fn(Global, &mut Cursor<'_>, usize, Form) -> Result<Part, ExprError>> Gra
     /// Arguments of a test, one of which needs no parentheses.
     #[tactic(auto, unfolding(crate::specs::Reading::test_arguments))]
     fn test_arguments(&self, cursor: &mut Cursor<'_>) -> Result<Parts, ExprError>
-        requires { Nests self.now.below (F.pre self.now.inner) (F.post self.now.inner) }
-        ensures { GivesParts (spec.test_arguments (spec.read self.now.below) (suc self.now.below) (ahead cursor.old)) result (ahead cursor.new) }
+        requires { Nests F.Fn self.now.below self.now.inner }
+        ensures { GivesParts
+            (spec.test_arguments (spec.read self.now.below) (suc self.now.below) (ahead cursor.old))
+            result (ahead cursor.new) }
     {
         if !cursor.begins_argument() {
             return self.arguments(cursor);
@@ -439,12 +445,17 @@ impl<F: Fn(Global, &mut Cursor<'_>, usize, Form) -> Result<Part, ExprError>> Gra
     }
 
     /// A filter, behind its sign.
-    #[tactic(auto, unfolding(crate::specs::Reading::filter_step))]
+    #[tactic(auto, unfolding(crate::specs::Reading::filter_step, crate::specs::Reading::name_at))]
     fn filter_step(&self, cursor: &mut Cursor<'_>, left: Part) -> Result<Step, ExprError>
-        requires { Nests self.now.below (F.pre self.now.inner) (F.post self.now.inner) }
-        ensures { GivesStep (spec.filter_step (spec.read self.now.below) (suc self.now.below) (expr_view left.expr.value) (ahead cursor.old)) (expr_view left.expr.value) result (ahead cursor.new) }
+        requires { Nests F.Fn self.now.below self.now.inner }
+        ensures { GivesStep (spec.filter_step (spec.read self.now.below) (suc self.now.below)
+            (expr_view left.expr.value) (ahead cursor.old)) (expr_view left.expr.value) result
+            (ahead cursor.new) }
     {
-        let name = cursor.name()?;
+        let name = cursor.word()?;
+        if is_reserved(name) {
+            return Err(ExprError::Syntax);
+        }
         let arguments = self.arguments(cursor)?;
         Ok(Step::Grown(self.filter(left, name, arguments)?))
     }
@@ -452,8 +463,10 @@ impl<F: Fn(Global, &mut Cursor<'_>, usize, Form) -> Result<Part, ExprError>> Gra
     /// A test, behind the word `is`.
     #[tactic(auto, unfolding(crate::specs::Reading::test_step))]
     fn test_step(&self, cursor: &mut Cursor<'_>, left: Part) -> Result<Step, ExprError>
-        requires { Nests self.now.below (F.pre self.now.inner) (F.post self.now.inner) }
-        ensures { GivesStep (spec.test_step (spec.read self.now.below) (suc self.now.below) (spec.says (codes "not") (ahead cursor.old)) (expr_view left.expr.value) (ahead cursor.old)) (expr_view left.expr.value) result (ahead cursor.new) }
+        requires { Nests F.Fn self.now.below self.now.inner }
+        ensures { GivesStep (spec.test_step (spec.read self.now.below) (suc self.now.below)
+            (front.says (codes "not") (ahead cursor.old)) (expr_view left.expr.value)
+            (ahead cursor.old)) (expr_view left.expr.value) result (ahead cursor.new) }
     {
         let negated = cursor.eat_word("not");
         let name = cursor.word()?;
@@ -464,8 +477,10 @@ impl<F: Fn(Global, &mut Cursor<'_>, usize, Form) -> Result<Part, ExprError>> Gra
     /// One filter or test more, or none.
     #[tactic(auto, unfolding(crate::specs::Reading::postscript_step))]
     fn postscript_step(&self, cursor: &mut Cursor<'_>, left: Part) -> Result<Step, ExprError>
-        requires { Nests self.now.below (F.pre self.now.inner) (F.post self.now.inner) }
-        ensures { GivesStep (spec.postscript_step (spec.read self.now.below) (suc self.now.below) (expr_view left.expr.value) (ahead cursor.old)) (expr_view left.expr.value) result (ahead cursor.new) }
+        requires { Nests F.Fn self.now.below self.now.inner }
+        ensures { GivesStep (spec.postscript_step (spec.read self.now.below) (suc self.now.below)
+            (expr_view left.expr.value) (ahead cursor.old)) (expr_view left.expr.value) result
+            (ahead cursor.new) }
     {
         if cursor.eat(Sign::Pipe) {
             self.filter_step(cursor, left)
@@ -479,8 +494,9 @@ impl<F: Fn(Global, &mut Cursor<'_>, usize, Form) -> Result<Part, ExprError>> Gra
     /// Filters and tests behind what they apply to.
     #[tactic(auto, unfolding(crate::specs::Reading::read_postscript))]
     fn postscript(&self, cursor: &mut Cursor<'_>) -> Result<Part, ExprError>
-        requires { Nests self.now.below (F.pre self.now.inner) (F.post self.now.inner) }
-        ensures { Gives (spec.read_postscript (spec.read self.now.below) (suc self.now.below) (ahead cursor.old)) result (ahead cursor.new) }
+        requires { Nests F.Fn self.now.below self.now.inner }
+        ensures { Gives (spec.read_postscript (spec.read self.now.below) (suc self.now.below)
+            (ahead cursor.old)) result (ahead cursor.new) }
     {
         let mut left = self.signed(cursor)?;
         for _turn in 0..self.below + 1 {
@@ -492,115 +508,57 @@ impl<F: Fn(Global, &mut Cursor<'_>, usize, Form) -> Result<Part, ExprError>> Gra
         Err(ExprError::TooDeep)
     }
 
-    /// One operator more, or none: `**`.
-    #[tactic(auto, unfolding(crate::specs::Reading::chain_step))]
-    fn power_step(&self, cursor: &mut Cursor<'_>, left: Part) -> Result<Step, ExprError>
-        requires { Nests self.now.below (F.pre self.now.inner) (F.post self.now.inner) }
-        ensures { GivesStep (spec.chain_step (spec.read self.now.below) (suc self.now.below) grammar.power (spec.read_postscript (spec.read self.now.below) (suc self.now.below)) (expr_view left.expr.value) (ahead cursor.old)) (expr_view left.expr.value) result (ahead cursor.new) }
+    /// What stands between the operators of a level.
+    #[cycle(chain)]
+    #[tactic(auto, unfolding(crate::specs::Reading::read_at))]
+    fn operand(&self, cursor: &mut Cursor<'_>, level: Chain) -> Result<Part, ExprError>
+        requires { Nests F.Fn self.now.below self.now.inner }
+        ensures { Gives (operand_of self.now.below level (ahead cursor.old)) result
+            (ahead cursor.new) }
     {
-        let Some(op) = cursor.power_operator() else {
-            return Ok(Step::Ended(left));
-        };
-        let right = self.postscript(cursor)?;
-        Ok(Step::Grown(self.binary(op, left, right)?))
-    }
-
-    /// Operands with `**` between them.
-    #[tactic(auto, unfolding(crate::specs::Reading::read_power))]
-    fn power(&self, cursor: &mut Cursor<'_>) -> Result<Part, ExprError>
-        requires { Nests self.now.below (F.pre self.now.inner) (F.post self.now.inner) }
-        ensures { Gives (spec.read_power (spec.read self.now.below) (suc self.now.below) (ahead cursor.old)) result (ahead cursor.new) }
-    {
-        let mut left = self.postscript(cursor)?;
-        for _turn in 0..self.below + 1 {
-            match self.power_step(cursor, left)? {
-                Step::Grown(part) => left = part,
-                Step::Ended(part) => return Ok(part),
-            }
+        match level {
+            Chain::Disjunction => self.chain(cursor, Chain::Conjunction),
+            Chain::Conjunction => self.inversion(cursor),
+            Chain::Sum => self.chain(cursor, Chain::Concatenation),
+            Chain::Concatenation => self.chain(cursor, Chain::Product),
+            Chain::Product => self.chain(cursor, Chain::Power),
+            Chain::Power => self.postscript(cursor),
         }
-        Err(ExprError::TooDeep)
     }
 
-    /// One operator more, or none: `*`, `//` and `%`.
+    /// One operator of the level more, or none.
+    #[cycle(chain)]
     #[tactic(auto, unfolding(crate::specs::Reading::chain_step))]
-    fn product_step(&self, cursor: &mut Cursor<'_>, left: Part) -> Result<Step, ExprError>
-        requires { Nests self.now.below (F.pre self.now.inner) (F.post self.now.inner) }
-        ensures { GivesStep (spec.chain_step (spec.read self.now.below) (suc self.now.below) grammar.product (spec.read_power (spec.read self.now.below) (suc self.now.below)) (expr_view left.expr.value) (ahead cursor.old)) (expr_view left.expr.value) result (ahead cursor.new) }
+    fn chain_step(
+        &self,
+        cursor: &mut Cursor<'_>,
+        level: Chain,
+        left: Part,
+    ) -> Result<Step, ExprError>
+        requires { Nests F.Fn self.now.below self.now.inner }
+        ensures { GivesStep (spec.chain_step (spec.read self.now.below) (suc self.now.below)
+            (level_of_chain level) (operand_of self.now.below level) (expr_view left.expr.value)
+            (ahead cursor.old)) (expr_view left.expr.value) result (ahead cursor.new) }
     {
-        let Some(op) = cursor.product_operator() else {
+        let Some(op) = cursor.operator(level) else {
             return Ok(Step::Ended(left));
         };
-        let right = self.power(cursor)?;
+        let right = self.operand(cursor, level)?;
         Ok(Step::Grown(self.binary(op, left, right)?))
     }
 
-    /// Operands with `*`, `//` and `%` between them.
-    #[tactic(auto, unfolding(crate::specs::Reading::read_product))]
-    fn product(&self, cursor: &mut Cursor<'_>) -> Result<Part, ExprError>
-        requires { Nests self.now.below (F.pre self.now.inner) (F.post self.now.inner) }
-        ensures { Gives (spec.read_product (spec.read self.now.below) (suc self.now.below) (ahead cursor.old)) result (ahead cursor.new) }
+    /// Operands with operators of the level between them.
+    #[cycle(chain)]
+    #[tactic(auto, unfolding(crate::specs::Reading::read_chain))]
+    fn chain(&self, cursor: &mut Cursor<'_>, level: Chain) -> Result<Part, ExprError>
+        requires { Nests F.Fn self.now.below self.now.inner }
+        ensures { Gives (spec.read_chain (spec.read self.now.below) (suc self.now.below)
+            (level_of_chain level) (operand_of self.now.below level) (ahead cursor.old)) result
+            (ahead cursor.new) }
     {
-        let mut left = self.power(cursor)?;
+        let mut left = self.operand(cursor, level)?;
         for _turn in 0..self.below + 1 {
-            match self.product_step(cursor, left)? {
-                Step::Grown(part) => left = part,
-                Step::Ended(part) => return Ok(part),
-            }
-        }
-        Err(ExprError::TooDeep)
-    }
-
-    /// One operator more, or none: `~`.
-    #[tactic(auto, unfolding(crate::specs::Reading::chain_step))]
-    fn concatenation_step(&self, cursor: &mut Cursor<'_>, left: Part) -> Result<Step, ExprError>
-        requires { Nests self.now.below (F.pre self.now.inner) (F.post self.now.inner) }
-        ensures { GivesStep (spec.chain_step (spec.read self.now.below) (suc self.now.below) grammar.concatenation (spec.read_product (spec.read self.now.below) (suc self.now.below)) (expr_view left.expr.value) (ahead cursor.old)) (expr_view left.expr.value) result (ahead cursor.new) }
-    {
-        let Some(op) = cursor.concatenation_operator() else {
-            return Ok(Step::Ended(left));
-        };
-        let right = self.product(cursor)?;
-        Ok(Step::Grown(self.binary(op, left, right)?))
-    }
-
-    /// Operands with `~` between them.
-    #[tactic(auto, unfolding(crate::specs::Reading::read_concatenation))]
-    fn concatenation(&self, cursor: &mut Cursor<'_>) -> Result<Part, ExprError>
-        requires { Nests self.now.below (F.pre self.now.inner) (F.post self.now.inner) }
-        ensures { Gives (spec.read_concatenation (spec.read self.now.below) (suc self.now.below) (ahead cursor.old)) result (ahead cursor.new) }
-    {
-        let mut left = self.product(cursor)?;
-        for _turn in 0..self.below + 1 {
-            match self.concatenation_step(cursor, left)? {
-                Step::Grown(part) => left = part,
-                Step::Ended(part) => return Ok(part),
-            }
-        }
-        Err(ExprError::TooDeep)
-    }
-
-    /// One operator more, or none: `+` and `-`.
-    #[tactic(auto, unfolding(crate::specs::Reading::chain_step))]
-    fn sum_step(&self, cursor: &mut Cursor<'_>, left: Part) -> Result<Step, ExprError>
-        requires { Nests self.now.below (F.pre self.now.inner) (F.post self.now.inner) }
-        ensures { GivesStep (spec.chain_step (spec.read self.now.below) (suc self.now.below) grammar.sum (spec.read_concatenation (spec.read self.now.below) (suc self.now.below)) (expr_view left.expr.value) (ahead cursor.old)) (expr_view left.expr.value) result (ahead cursor.new) }
-    {
-        let Some(op) = cursor.sum_operator() else {
-            return Ok(Step::Ended(left));
-        };
-        let right = self.concatenation(cursor)?;
-        Ok(Step::Grown(self.binary(op, left, right)?))
-    }
-
-    /// Operands with `+` and `-` between them.
-    #[tactic(auto, unfolding(crate::specs::Reading::read_sum))]
-    fn sum(&self, cursor: &mut Cursor<'_>) -> Result<Part, ExprError>
-        requires { Nests self.now.below (F.pre self.now.inner) (F.post self.now.inner) }
-        ensures { Gives (spec.read_sum (spec.read self.now.below) (suc self.now.below) (ahead cursor.old)) result (ahead cursor.new) }
-    {
-        let mut left = self.concatenation(cursor)?;
-        for _turn in 0..self.below + 1 {
-            match self.sum_step(cursor, left)? {
+            match self.chain_step(cursor, level, left)? {
                 Step::Grown(part) => left = part,
                 Step::Ended(part) => return Ok(part),
             }
@@ -609,87 +567,34 @@ impl<F: Fn(Global, &mut Cursor<'_>, usize, Form) -> Result<Part, ExprError>> Gra
     }
 
     /// At most one comparison.
-    #[tactic(auto, unfolding(crate::specs::Reading::read_comparison))]
+    #[cycle(chain)]
+    #[tactic(auto, unfolding(crate::specs::Reading::read_comparison, crate::specs::Reading::read_at))]
     fn comparison(&self, cursor: &mut Cursor<'_>) -> Result<Part, ExprError>
-        requires { Nests self.now.below (F.pre self.now.inner) (F.post self.now.inner) }
-        ensures { Gives (spec.read_comparison (spec.read self.now.below) (suc self.now.below) (ahead cursor.old)) result (ahead cursor.new) }
+        requires { Nests F.Fn self.now.below self.now.inner }
+        ensures { Gives (spec.read_comparison (spec.read self.now.below) (suc self.now.below)
+            (ahead cursor.old)) result (ahead cursor.new) }
     {
-        let left = self.sum(cursor)?;
+        let left = self.chain(cursor, Chain::Sum)?;
         let Some(op) = cursor.comparison() else {
             return Ok(left);
         };
-        let right = self.sum(cursor)?;
+        let right = self.chain(cursor, Chain::Sum)?;
         self.binary(op, left, right)
     }
 
     /// `not` in front.
+    #[cycle(chain)]
     #[tactic(auto, unfolding(crate::specs::Reading::read_inversion))]
     fn inversion(&self, cursor: &mut Cursor<'_>) -> Result<Part, ExprError>
-        requires { Nests self.now.below (F.pre self.now.inner) (F.post self.now.inner) }
-        ensures { Gives (spec.read_inversion (spec.read self.now.below) (suc self.now.below) (ahead cursor.old)) result (ahead cursor.new) }
+        requires { Nests F.Fn self.now.below self.now.inner }
+        ensures { Gives
+            (spec.read_inversion (spec.read self.now.below) (suc self.now.below) (ahead cursor.old))
+            result (ahead cursor.new) }
     {
         if !cursor.eat_word("not") {
             return self.comparison(cursor);
         }
         self.prefixed(cursor, UnaryOperator::Not, Form::Inversion)
-    }
-
-    /// One operator more, or none: `and`.
-    #[tactic(auto, unfolding(crate::specs::Reading::chain_step))]
-    fn conjunction_step(&self, cursor: &mut Cursor<'_>, left: Part) -> Result<Step, ExprError>
-        requires { Nests self.now.below (F.pre self.now.inner) (F.post self.now.inner) }
-        ensures { GivesStep (spec.chain_step (spec.read self.now.below) (suc self.now.below) grammar.conjunction (spec.read_inversion (spec.read self.now.below) (suc self.now.below)) (expr_view left.expr.value) (ahead cursor.old)) (expr_view left.expr.value) result (ahead cursor.new) }
-    {
-        let Some(op) = cursor.and_operator() else {
-            return Ok(Step::Ended(left));
-        };
-        let right = self.inversion(cursor)?;
-        Ok(Step::Grown(self.binary(op, left, right)?))
-    }
-
-    /// Operands with `and` between them.
-    #[tactic(auto, unfolding(crate::specs::Reading::read_conjunction))]
-    fn conjunction(&self, cursor: &mut Cursor<'_>) -> Result<Part, ExprError>
-        requires { Nests self.now.below (F.pre self.now.inner) (F.post self.now.inner) }
-        ensures { Gives (spec.read_conjunction (spec.read self.now.below) (suc self.now.below) (ahead cursor.old)) result (ahead cursor.new) }
-    {
-        let mut left = self.inversion(cursor)?;
-        for _turn in 0..self.below + 1 {
-            match self.conjunction_step(cursor, left)? {
-                Step::Grown(part) => left = part,
-                Step::Ended(part) => return Ok(part),
-            }
-        }
-        Err(ExprError::TooDeep)
-    }
-
-    /// One operator more, or none: `or`.
-    #[tactic(auto, unfolding(crate::specs::Reading::chain_step))]
-    fn disjunction_step(&self, cursor: &mut Cursor<'_>, left: Part) -> Result<Step, ExprError>
-        requires { Nests self.now.below (F.pre self.now.inner) (F.post self.now.inner) }
-        ensures { GivesStep (spec.chain_step (spec.read self.now.below) (suc self.now.below) grammar.disjunction (spec.read_conjunction (spec.read self.now.below) (suc self.now.below)) (expr_view left.expr.value) (ahead cursor.old)) (expr_view left.expr.value) result (ahead cursor.new) }
-    {
-        let Some(op) = cursor.or_operator() else {
-            return Ok(Step::Ended(left));
-        };
-        let right = self.conjunction(cursor)?;
-        Ok(Step::Grown(self.binary(op, left, right)?))
-    }
-
-    /// Operands with `or` between them.
-    #[tactic(auto, unfolding(crate::specs::Reading::read_disjunction))]
-    fn disjunction(&self, cursor: &mut Cursor<'_>) -> Result<Part, ExprError>
-        requires { Nests self.now.below (F.pre self.now.inner) (F.post self.now.inner) }
-        ensures { Gives (spec.read_disjunction (spec.read self.now.below) (suc self.now.below) (ahead cursor.old)) result (ahead cursor.new) }
-    {
-        let mut left = self.conjunction(cursor)?;
-        for _turn in 0..self.below + 1 {
-            match self.disjunction_step(cursor, left)? {
-                Step::Grown(part) => left = part,
-                Step::Ended(part) => return Ok(part),
-            }
-        }
-        Err(ExprError::TooDeep)
     }
 
     /// What stands behind the condition of an inline if.
@@ -700,8 +605,10 @@ impl<F: Fn(Global, &mut Cursor<'_>, usize, Form) -> Result<Part, ExprError>> Gra
         value: Part,
         condition: Part,
     ) -> Result<Part, ExprError>
-        requires { Nests self.now.below (F.pre self.now.inner) (F.post self.now.inner) }
-        ensures { Gives (spec.else_part (spec.read self.now.below) (suc self.now.below) (expr_view value.expr.value) (expr_view condition.expr.value) (ahead cursor.old)) result (ahead cursor.new) }
+        requires { Nests F.Fn self.now.below self.now.inner }
+        ensures { Gives (spec.else_part (spec.read self.now.below) (suc self.now.below)
+            (expr_view value.expr.value) (expr_view condition.expr.value) (ahead cursor.old)) result
+            (ahead cursor.new) }
     {
         if !cursor.eat_word("else") {
             return self.when(condition, value);
@@ -711,37 +618,41 @@ impl<F: Fn(Global, &mut Cursor<'_>, usize, Form) -> Result<Part, ExprError>> Gra
     }
 
     /// What stands behind the value of an inline if.
-    #[tactic(auto, unfolding(crate::specs::Reading::if_part))]
+    #[tactic(auto, unfolding(crate::specs::Reading::if_part, crate::specs::Reading::read_at))]
     fn if_part(&self, cursor: &mut Cursor<'_>, value: Part) -> Result<Part, ExprError>
-        requires { Nests self.now.below (F.pre self.now.inner) (F.post self.now.inner) }
-        ensures { Gives (spec.if_part (spec.read self.now.below) (suc self.now.below) (expr_view value.expr.value) (ahead cursor.old)) result (ahead cursor.new) }
+        requires { Nests F.Fn self.now.below self.now.inner }
+        ensures { Gives (spec.if_part (spec.read self.now.below) (suc self.now.below)
+            (expr_view value.expr.value) (ahead cursor.old)) result (ahead cursor.new) }
     {
         if !cursor.eat_word("if") {
             return Ok(value);
         }
-        let condition = self.disjunction(cursor)?;
+        let condition = self.chain(cursor, Chain::Disjunction)?;
         self.else_part(cursor, value, condition)
     }
 
     /// An expression.
-    #[tactic(auto, unfolding(crate::specs::Reading::read_whole))]
+    #[tactic(auto, unfolding(crate::specs::Reading::read_whole, crate::specs::Reading::read_at))]
     fn whole(&self, cursor: &mut Cursor<'_>) -> Result<Part, ExprError>
-        requires { Nests self.now.below (F.pre self.now.inner) (F.post self.now.inner) }
-        ensures { Gives (spec.read_whole (spec.read self.now.below) (suc self.now.below) (ahead cursor.old)) result (ahead cursor.new) }
+        requires { Nests F.Fn self.now.below self.now.inner }
+        ensures { Gives
+            (spec.read_whole (spec.read self.now.below) (suc self.now.below) (ahead cursor.old))
+            result (ahead cursor.new) }
     {
-        let value = self.disjunction(cursor)?;
+        let value = self.chain(cursor, Chain::Disjunction)?;
         self.if_part(cursor, value)
     }
 
     /// A form of the level.
     #[tactic(auto, unfolding(crate::specs::Reading::read_at))]
     fn form(&self, cursor: &mut Cursor<'_>, form: Form) -> Result<Part, ExprError>
-        requires { Nests self.now.below (F.pre self.now.inner) (F.post self.now.inner) }
-        ensures { Gives (spec.read_at (spec.read self.now.below) (suc self.now.below) (level_of_form form) (ahead cursor.old)) result (ahead cursor.new) }
+        requires { Nests F.Fn self.now.below self.now.inner }
+        ensures { Gives (spec.read_at (spec.read self.now.below) (suc self.now.below)
+            (level_of_form form) (ahead cursor.old)) result (ahead cursor.new) }
     {
         match form {
             Form::Whole => self.whole(cursor),
-            Form::Disjunction => self.disjunction(cursor),
+            Form::Disjunction => self.chain(cursor, Chain::Disjunction),
             Form::Inversion => self.inversion(cursor),
             Form::Signed => self.signed(cursor),
             Form::Postfix => self.postfix(cursor),
@@ -756,8 +667,8 @@ pub fn read(
     limit: u8,
     form: Form,
 ) -> Result<Part, ExprError>
-    ensures promises { Reads (λ p. expr_view p.expr.value) (Spells (level_of_form form)) (EndsAt (level_of_form form)) levels limit (ahead cursor.old) result (ahead cursor.new) }
-    ensures reads { Gives (spec.read limit (level_of_form form) (ahead cursor.old)) result (ahead cursor.new) }
+    ensures promises { Reads (λ p. expr_view p.expr.value) (Spells (level_of_form form))
+        (EndsAt (level_of_form form)) levels limit (ahead cursor.old) result (ahead cursor.new) }
 {
     read_within(alloc, cursor, usize::from(limit), form)
 }
@@ -770,7 +681,8 @@ fn read_within(
     form: Form,
 ) -> Result<Part, ExprError>
     requires { limit ≤ 2 ^ 32 }
-    ensures { Gives (spec.read limit (level_of_form form) (ahead cursor.old)) result (ahead cursor.new) }
+    ensures { Gives (spec.read limit (level_of_form form) (ahead cursor.old)) result
+        (ahead cursor.new) }
 {
     if limit == 0 {
         return Err(ExprError::TooDeep);
@@ -785,8 +697,8 @@ fn read_within(
 
 /// The arguments of a filter, none or some in parentheses, each of at most so many levels.
 pub fn arguments(alloc: Global, cursor: &mut Cursor<'_>, limit: u8) -> Result<Parts, ExprError>
-    ensures promises { Reads parts_view Arguments OpensNone parts_levels limit (ahead cursor.old) result (ahead cursor.new) }
-    ensures reads { GivesParts (spec.arguments_at (spec.read limit) (suc limit) (ahead cursor.old)) result (ahead cursor.new) }
+    ensures promises { Reads parts_view Arguments OpensNone parts_levels limit (ahead cursor.old)
+        result (ahead cursor.new) }
 {
     Grammar {
         alloc,

@@ -24,7 +24,8 @@ pub enum Named {
 ///
 /// `UnknownFilter` where a filter has none, else `UnknownTest` where a test has none.
 pub fn check_names(expr: &Expr) -> Result<(), ExprError>
-    ensures { MatchResult result (λ u. spec.IsKnown (expr_view expr.now)) (λ e. spec.Blames e (expr_view expr.now)) }
+    ensures { MatchResult result (λ u. spec.IsKnown (expr_view expr.now))
+        (λ e. spec.Blames e (expr_view expr.now)) }
 {
     if has_unknown(expr, Named::Filter) {
         return Err(ExprError::UnknownFilter);
@@ -81,7 +82,8 @@ pub fn literal_text(expr: &Expr) -> Option<&str>
 
 /// The name of the only argument, where there is one alone and it is given by its name.
 fn only_name<'a>(items: &[Expr], pairs: &'a [(String, Expr)]) -> Option<&'a str>
-    ensures { option_map (λ s. s.now) result ≡ spec.only_name (exprs_view items.now) (pairs_view pairs.now) }
+    ensures { option_map (λ s. s.now) result
+        ≡ spec.only_name (exprs_view items.now) (pairs_view pairs.now) }
 {
     match items {
         [] => single_name(pairs),
@@ -121,7 +123,9 @@ fn is_unknown_naming(naming: Naming, name: &str, named: Named) -> bool
 
 /// Whether the argument at a place of a filter gives such a name.
 fn argument_unknown(filter: FilterId, place: usize, argument: &Expr, named: Named) -> bool
-    ensures { result ≡ spec.argument_unknown named (named_at filter place) (spec.literal_text (expr_view argument.now)) }
+    ensures { result
+        ≡ spec.argument_unknown named (named_at filter place)
+        (spec.literal_text (expr_view argument.now)) }
 {
     let Some(naming) = filter.named_at(place) else {
         return false;
@@ -156,7 +160,8 @@ fn inside_unknown(filter: Option<FilterId>, items: &[Expr], named: Named) -> boo
 
 /// Whether a filter's name, or one that its arguments give, is what is looked for.
 pub fn is_filter_unknown(name: &str, items: &[Expr], pairs: &[(String, Expr)], named: Named) -> bool
-    ensures { result ≡ spec.filter_unknown named name.now (exprs_view items.now) (pairs_view pairs.now) }
+    ensures { result
+        ≡ spec.filter_unknown named name.now (exprs_view items.now) (pairs_view pairs.now) }
 {
     is_unknown_filter(name, named) || inside_unknown(filter_of(name, items, pairs), items, named)
 }

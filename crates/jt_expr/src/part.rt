@@ -20,5 +20,6 @@ pub struct Parts {
     pub items: Vec<Expr>,
     pub pairs: Vec<(String, Expr)>,
     pub height: usize,
-    ghost counted: { height ≡ max (exprs_levels (exprs_view items.items)) (pairs_levels (pairs_view pairs.items)) },
+    ghost counted: { height
+        ≡ max (exprs_levels (exprs_view items.items)) (pairs_levels (pairs_view pairs.items)) },
 }

@@ -3,7 +3,8 @@
 ghost use Rattle.std.specs.Prelude.{◌≡◌, OnOk, Some, None, option_map, string_bytes};
 ghost use Rattle.jt_expr.specs.Grammar as grammar;
 ghost use Rattle.jt_expr.specs.View.{expr_view};
-ghost use Rattle.jt_expr.specs.Gives.{row_view, parts_view, keyed_view};
+ghost use Rattle.jt_expr.specs.Promises.{parts_view};
+ghost use Rattle.jt_expr.specs.Gives.{row_view, keyed_view};
 ghost use Rattle.jt_expr.specs.Collecting.{then_part};
 
 use crate::part::{Part, Parts};
@@ -30,7 +31,8 @@ impl Parts {
 
     /// One part without a key behind the others.
     fn push_item(&mut self, part: Part) -> Result<(), AllocError>
-        ensures { OnOk result (parts_view self.new ≡ then_part (parts_view self.old) (None, expr_view part.expr.value)) }
+        ensures { OnOk result (parts_view self.new
+            ≡ then_part (parts_view self.old) (None, expr_view part.expr.value)) }
     {
         let Part { expr, height } = part;
         self.items.push(Box::into_inner(expr))?;
@@ -40,7 +42,9 @@ impl Parts {
 
     /// One part with a key behind the others.
     fn push_pair(&mut self, key: String, part: Part) -> Result<(), AllocError>
-        ensures { OnOk result (parts_view self.new ≡ then_part (parts_view self.old) (Some (string_bytes key), expr_view part.expr.value)) }
+        ensures { OnOk result (parts_view self.new
+            ≡ then_part (parts_view self.old)
+            (Some (string_bytes key), expr_view part.expr.value)) }
     {
         let Part { expr, height } = part;
         self.pairs.push((key, Box::into_inner(expr)))?;
@@ -50,7 +54,8 @@ impl Parts {
 
     /// One part behind the others.
     pub(crate) fn push(&mut self, added: Keyed) -> Result<(), AllocError>
-        ensures { OnOk result (parts_view self.new ≡ then_part (parts_view self.old) (keyed_view added)) }
+        ensures { OnOk result
+            (parts_view self.new ≡ then_part (parts_view self.old) (keyed_view added)) }
     {
         let Keyed { key, part } = added;
         match key {
@@ -89,6 +94,17 @@ pub enum Form {
     Postfix,
 }
 
+/// A level at which any number of operators may stand between operands, from the loosest.
+#[derive(Clone, Copy, Debug, PartialEq, Eq)]
+pub enum Chain {
+    Disjunction,
+    Conjunction,
+    Sum,
+    Concatenation,
+    Product,
+    Power,
+}
+
 /// What a row holds.
 #[derive(Clone, Copy, Debug, PartialEq, Eq)]
 pub enum Row {
@@ -123,7 +139,8 @@ impl Row {
 
     /// What goes on behind a part with this key.
     pub(crate) fn behind_key(self, key: &Option<String>) -> Row
-        ensures { row_view result ≡ grammar.behind_key (row_view self) (option_map string_bytes key.now) }
+        ensures { row_view result
+            ≡ grammar.behind_key (row_view self) (option_map string_bytes key.now) }
     {
         match (self, key) {
             (Row::Arguments, Some(_)) => Row::Keywords,

@@ -1,13 +1,12 @@
 //! The expression that the tokens of a tag spell.
 
-ghost use Rattle.std.specs.Prelude.{◌≡◌, ◌≤◌, ◌<◌, map, IfOk, MatchResult, IsErrOf};
+ghost use Rattle.std.specs.Prelude.{◌≡◌, ◌≤◌, ◌<◌, map, IfOk, MatchResult, IsErrOf, []};
 ghost use Rattle.jt_scan.specs.View.{token_view};
 ghost use Rattle.jt_expr.specs.Trees as trees;
 ghost use Rattle.jt_expr.specs.Trees.{levels};
 ghost use Rattle.jt_expr.specs.View.{expr_view};
 ghost use Rattle.jt_expr.specs.Grammar.{Spells, whole};
-ghost use Rattle.jt_expr.specs.Reading.{parsed};
-ghost use Rattle.jt_expr.specs.Gives.{GivesWhole};
+ghost use Rattle.jt_expr.specs.Promises.{Reads};
 
 use crate::cursor::Cursor;
 use crate::error::ExprError;
@@ -21,25 +20,35 @@ use std::alloc::Global;
 /// The expression that all the tokens spell, of at most so many levels.
 pub fn expression(alloc: Global, tokens: &[Token<'_>], limit: u8) -> Result<Expr, ExprError>
     // What is answered is spelled so, within the levels.
-    ensures spelled { IfOk result (λ x. Spells whole (expr_view x) (map token_view tokens.now) × (levels (expr_view x) ≤ limit)) }
+    ensures spelled { IfOk result (λ x.
+        Spells whole (expr_view x) (map token_view tokens.now) × (levels (expr_view x) ≤ limit)) }
     // A tree within the levels is answered, and no other is spelled so.
     ensures only { (t : trees.Expr) → Spells whole t (map token_view tokens.now) → levels t ≤ limit
         → MatchResult result (λ x. expr_view x ≡ t) (λ e. e ≡ ExprError.NoMemory) }
     // No other tree of any depth is spelled so.
-    ensures alone { IfOk result (λ x. (t : trees.Expr) → Spells whole t (map token_view tokens.now) → t ≡ expr_view x) }
+    ensures alone { IfOk result
+        (λ x. (t : trees.Expr) → Spells whole t (map token_view tokens.now) → t ≡ expr_view x) }
     // No tree of any depth is spelled so.
-    ensures syntax { IsErrOf result ExprError.Syntax → (t : trees.Expr) → Spells whole t (map token_view tokens.now) → ⊥ }
+    ensures syntax { IsErrOf result ExprError.Syntax
+        → (t : trees.Expr)
+        → Spells whole t (map token_view tokens.now)
+        → ⊥ }
     // No tree within the levels is spelled so.
-    ensures deep { IsErrOf result ExprError.TooDeep → (t : trees.Expr) → Spells whole t (map token_view tokens.now) → limit < levels t }
+    ensures deep { IsErrOf result ExprError.TooDeep
+        → (t : trees.Expr)
+        → Spells whole t (map token_view tokens.now)
+        → limit < levels t }
     // No other refusal is answered, but for want of memory.
-    ensures others { (IsErrOf result ExprError.UnknownFilter → ⊥) × (IsErrOf result ExprError.UnknownTest → ⊥) }
+    ensures others { (IsErrOf result ExprError.UnknownFilter → ⊥)
+        × (IsErrOf result ExprError.UnknownTest → ⊥) }
 {
     read_all(alloc, tokens, limit)
 }
 
-#[tactic(auto, unfolding(crate::specs::Reading::parsed))]
+/// The same, where what all the tokens spell is what stands in front and ends there.
 fn read_all(alloc: Global, tokens: &[Token<'_>], limit: u8) -> Result<Expr, ExprError>
-    ensures { GivesWhole (parsed limit (map token_view tokens.now)) result }
+    ensures { Reads expr_view (Spells whole) (λ v. v ≡ []) levels limit
+        (map token_view tokens.now) result [] }
 {
     let mut rest = Cursor { rest: tokens };
     let Part { expr, .. } = grammar::read(alloc, &mut rest, limit, Form::Whole)?;

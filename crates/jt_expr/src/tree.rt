@@ -147,7 +147,8 @@ pub(crate) fn make_attribute(
     a: Box<Expr>,
     text: &str,
 ) -> Result<Box<Expr>, AllocError>
-    ensures { IfOk result (λ e. expr_view e.value ≡ trees.attribute (expr_view a.value) (encode_utf8_all (chars text.now))) }
+    ensures { IfOk result (λ e. expr_view e.value
+        ≡ trees.attribute (expr_view a.value) (encode_utf8_all (chars text.now))) }
 {
     let name = copy_of(alloc, text)?;
     Ok(Box::new(alloc, Expr::Attribute(a, name))?)
@@ -158,7 +159,8 @@ pub(crate) fn make_item(
     a: Box<Expr>,
     index: Box<Expr>,
 ) -> Result<Box<Expr>, AllocError>
-    ensures { IfOk result (λ e. expr_view e.value ≡ trees.item (expr_view a.value) (expr_view index.value)) }
+    ensures { IfOk result
+        (λ e. expr_view e.value ≡ trees.item (expr_view a.value) (expr_view index.value)) }
 {
     Ok(Box::new(alloc, Expr::Item(a, index))?)
 }
@@ -169,7 +171,8 @@ pub(crate) fn make_call(
     items: Vec<Expr>,
     pairs: Vec<(String, Expr)>,
 ) -> Result<Box<Expr>, AllocError>
-    ensures { IfOk result (λ e. expr_view e.value ≡ trees.call (expr_view a.value) (exprs_view items.items) (pairs_view pairs.items)) }
+    ensures { IfOk result (λ e. expr_view e.value
+        ≡ trees.call (expr_view a.value) (exprs_view items.items) (pairs_view pairs.items)) }
 {
     Ok(Box::new(alloc, Expr::Call(a, items, pairs))?)
 }
@@ -181,7 +184,9 @@ pub(crate) fn make_filter(
     items: Vec<Expr>,
     pairs: Vec<(String, Expr)>,
 ) -> Result<Box<Expr>, AllocError>
-    ensures { IfOk result (λ e. expr_view e.value ≡ trees.filter (expr_view a.value) (encode_utf8_all (chars text.now)) (exprs_view items.items) (pairs_view pairs.items)) }
+    ensures { IfOk result (λ e. expr_view e.value
+        ≡ trees.filter (expr_view a.value) (encode_utf8_all (chars text.now))
+        (exprs_view items.items) (pairs_view pairs.items)) }
 {
     let name = copy_of(alloc, text)?;
     Ok(Box::new(alloc, Expr::Filter(a, name, items, pairs))?)
@@ -195,7 +200,9 @@ pub(crate) fn make_test(
     items: Vec<Expr>,
     pairs: Vec<(String, Expr)>,
 ) -> Result<Box<Expr>, AllocError>
-    ensures { IfOk result (λ e. expr_view e.value ≡ trees.test (expr_view a.value) negated (encode_utf8_all (chars text.now)) (exprs_view items.items) (pairs_view pairs.items)) }
+    ensures { IfOk result (λ e. expr_view e.value
+        ≡ trees.test (expr_view a.value) negated (encode_utf8_all (chars text.now))
+        (exprs_view items.items) (pairs_view pairs.items)) }
 {
     let name = copy_of(alloc, text)?;
     Ok(Box::new(alloc, Expr::Test(a, negated, name, items, pairs))?)
@@ -217,7 +224,8 @@ pub(crate) fn make_binary(
     a: Box<Expr>,
     b: Box<Expr>,
 ) -> Result<Box<Expr>, AllocError>
-    ensures { IfOk result (λ e. expr_view e.value ≡ trees.binary op (expr_view a.value) (expr_view b.value)) }
+    ensures { IfOk result
+        (λ e. expr_view e.value ≡ trees.binary op (expr_view a.value) (expr_view b.value)) }
 {
     Ok(Box::new(alloc, Expr::Binary(op, a, b))?)
 }
@@ -227,7 +235,8 @@ pub(crate) fn make_when(
     condition: Box<Expr>,
     a: Box<Expr>,
 ) -> Result<Box<Expr>, AllocError>
-    ensures { IfOk result (λ e. expr_view e.value ≡ trees.when (expr_view condition.value) (expr_view a.value)) }
+    ensures { IfOk result
+        (λ e. expr_view e.value ≡ trees.when (expr_view condition.value) (expr_view a.value)) }
 {
     Ok(Box::new(alloc, Expr::When(condition, a))?)
 }
@@ -238,7 +247,8 @@ pub(crate) fn make_choice(
     a: Box<Expr>,
     b: Box<Expr>,
 ) -> Result<Box<Expr>, AllocError>
-    ensures { IfOk result (λ e. expr_view e.value ≡ trees.choice (expr_view condition.value) (expr_view a.value) (expr_view b.value)) }
+    ensures { IfOk result (λ e. expr_view e.value
+        ≡ trees.choice (expr_view condition.value) (expr_view a.value) (expr_view b.value)) }
 {
     Ok(Box::new(alloc, Expr::Choice(condition, a, b))?)
 }

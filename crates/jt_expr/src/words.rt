@@ -1,8 +1,8 @@
 //! Words of the language.
 
-ghost use Rattle.std.specs.Prelude.{◌≡◌, option_map, bytes_eq, IsTrue};
+ghost use Rattle.std.specs.Prelude.{◌≡◌, option_map, bytes_eq};
 ghost use Rattle.std.specs.Str.{chars};
-ghost use Rattle.jt_expr.specs.Words.{is_plain};
+ghost use Rattle.jt_expr.specs.Words.{letters_of};
 ghost use Rattle.jt_expr.specs.Grammar as grammar;
 ghost use Rattle.jt_expr.specs.View.{literal_view};
 
@@ -49,10 +49,9 @@ pub(crate) fn is_operand(word: &str) -> bool
     literal_of(word).is_some() || !is_reserved(word)
 }
 
-/// Whether a word is the known one, of ASCII letters.
+/// Whether a word is the known one.
 pub(crate) fn is_word(word: &str, known: &str) -> bool
-    requires { IsTrue (is_plain known.now) }
-    ensures { result ≡ bytes_eq (chars word.now) known.now }
+    ensures { result ≡ bytes_eq (chars word.now) (letters_of known.now) }
 {
     word == known
 }

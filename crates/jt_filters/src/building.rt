@@ -26,7 +26,8 @@ pub(crate) fn build(
     arguments: &[Value],
     autoescape: bool,
 ) -> Result<Value, ValueError>
-    ensures { Builds (single filter autoescape (tree_of operand.entry ∷ map view arguments.now)) result }
+    ensures { Builds (single filter autoescape (tree_of operand.entry ∷ map view arguments.now))
+        result }
 {
     match arguments {
         [] => build_one(alloc, filter, operand, autoescape),
@@ -89,7 +90,8 @@ fn build_two(
     argument: &Value,
     autoescape: bool,
 ) -> Result<Value, ValueError>
-    ensures { Builds (single filter autoescape (tree_of operand.entry ∷ view argument.now ∷ [])) result }
+    ensures { Builds (single filter autoescape (tree_of operand.entry ∷ view argument.now ∷ []))
+        result }
 {
     match filter {
         FilterId::Attr => scalar(alloc, attribute(operand, argument)),
@@ -113,7 +115,9 @@ fn build_three(
     second: &Value,
     autoescape: bool,
 ) -> Result<Value, ValueError>
-    ensures { Builds (single filter autoescape (tree_of operand.entry ∷ view first.now ∷ view second.now ∷ [])) result }
+    ensures { Builds
+        (single filter autoescape (tree_of operand.entry ∷ view first.now ∷ view second.now ∷ []))
+        result }
 {
     match filter {
         FilterId::Default => scalar(

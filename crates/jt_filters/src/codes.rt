@@ -93,7 +93,8 @@ fn push_value(alloc: Global, bytes: &mut Vec<u8>, value: &Value) -> Result<(), N
 /// Puts the code of a list of items behind some bytes.
 #[cycle(codes)]
 fn push_items(alloc: Global, bytes: &mut Vec<u8>, items: &[Value]) -> Result<(), NoMemory>
-    ensures { OnOk result (bytes.new.items ≡ bytes.old.items ++ code (tree.list (items_view items.now))) }
+    ensures { OnOk result
+        (bytes.new.items ≡ bytes.old.items ++ code (tree.list (items_view items.now))) }
 {
     push_byte(bytes, 5)?;
     for item in items {
@@ -121,7 +122,8 @@ fn rows_of(alloc: Global, entries: &[(String, Value)]) -> Result<BTreeMap<&str, 
 
 /// Puts the code of a map's rows behind some bytes.
 fn push_rows(bytes: &mut Vec<u8>, rows: BTreeMap<&str, Vec<u8>>) -> Result<(), NoMemory>
-    ensures { OnOk result (bytes.new.items ≡ bytes.old.items ++ 6 ∷ codes.rows_code (rows_in rows.entry.entries)) }
+    ensures { OnOk result
+        (bytes.new.items ≡ bytes.old.items ++ 6 ∷ codes.rows_code (rows_in rows.entry.entries)) }
 {
     let mut rows = rows;
     push_byte(bytes, 6)?;

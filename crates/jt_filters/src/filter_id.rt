@@ -138,7 +138,9 @@ impl FilterId {
     /// The filter of a name; none where no filter has it. `map` by an attribute has no name of its own.
     pub fn by_name(name: &str) -> Option<FilterId>
         ensures found { IfSome result (λ filter. Contains (filter_names filter) name.now) }
-        ensures only { (filter : FilterId) → Contains (filter_names filter) name.now → result ≡ Some filter }
+        ensures only { (filter : FilterId)
+            → Contains (filter_names filter) name.now
+            → result ≡ Some filter }
     {
         match name {
             "abs" => Some(FilterId::Abs),

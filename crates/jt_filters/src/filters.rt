@@ -32,7 +32,8 @@ pub fn apply(
 ) -> Result<Value, OpError>
     requires least { nat_le (least_values filter) (length values.now) ≡ true }
     requires most { nat_le (length values.now) (most_values filter) ≡ true }
-    ensures { Answers result (limited_by limits (filtered filter autoescape (map view values.now))) }
+    ensures { Answers result
+        (limited_by limits (filtered filter autoescape (map view values.now))) }
 {
     match values {
         [value, arguments @ ..] => {
@@ -58,7 +59,8 @@ fn applied(
     autoescape: bool,
     limits: Limits,
 ) -> Result<Value, OpError>
-    ensures { Answers result (limited_by limits (filtered filter autoescape (tree_of operand.entry ∷ map view arguments.now))) }
+    ensures { Answers result (limited_by limits
+        (filtered filter autoescape (tree_of operand.entry ∷ map view arguments.now))) }
 {
     match (filter, arguments) {
         (FilterId::Unique, []) => unique_under(alloc, operand, limits),
@@ -76,7 +78,8 @@ fn measured_and_built(
     autoescape: bool,
     limits: Limits,
 ) -> Result<Value, OpError>
-    ensures { Answers result (limited_by limits (filtered filter autoescape (tree_of operand.entry ∷ map view arguments.now))) }
+    ensures { Answers result (limited_by limits
+        (filtered filter autoescape (tree_of operand.entry ∷ map view arguments.now))) }
 {
     let (size, nesting) = match filter_measure(alloc, filter, operand, arguments, autoescape) {
         Ok(measure) => measure,
@@ -100,7 +103,8 @@ fn filter_measure(
     arguments: &[Value],
     autoescape: bool,
 ) -> Result<(u64, u32), Fault>
-    ensures { result ≡ measured (filtered filter autoescape (tree_of operand.entry ∷ map view arguments.now)) }
+    ensures { result
+        ≡ measured (filtered filter autoescape (tree_of operand.entry ∷ map view arguments.now)) }
 {
     if filter.may_be_inner() {
         measure(alloc, filter, operand, arguments, autoescape)
@@ -117,7 +121,8 @@ fn filter_value(
     arguments: &[Value],
     autoescape: bool,
 ) -> Result<Value, ValueError>
-    ensures { Builds (filtered filter autoescape (tree_of operand.entry ∷ map view arguments.now)) result }
+    ensures { Builds (filtered filter autoescape (tree_of operand.entry ∷ map view arguments.now))
+        result }
 {
     if filter.may_be_inner() {
         build(alloc, filter, operand, arguments, autoescape)

@@ -92,7 +92,8 @@ impl<'a> Selection<'a> {
 
     /// What is judged of an item: the item itself, or its attribute.
     fn part_of(self, item: Operand<'a>) -> Result<Operand<'a>, Fault>
-        ensures { chosen result ≡ part_of (option_map (λ k. k.now) self.entry.key) (tree_of item.entry) }
+        ensures { chosen result
+            ≡ part_of (option_map (λ k. k.now) self.entry.key) (tree_of item.entry) }
     {
         match self.key {
             Some(key) => item_of(item, key),
@@ -130,7 +131,9 @@ impl<'a> Change<'a> {
         item: Operand<'a>,
     ) -> Result<(), ValueError>
         requires { Gives self }
-        ensures ok { OnOk result (in_front (Ok (items_view values.old.items)) (gives self.entry (tree_of item.entry)) ≡ Ok (items_view values.new.items)) }
+        ensures ok { OnOk result (in_front (Ok (items_view values.old.items))
+            (gives self.entry (tree_of item.entry))
+            ≡ Ok (items_view values.new.items)) }
         ensures fault { IfErr result (RowFault (gives self.entry (tree_of item.entry))) }
     {
         let value = match self {

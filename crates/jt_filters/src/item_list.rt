@@ -33,7 +33,8 @@ impl<'a> ItemList<'a> {
 
     /// The first item and those behind it.
     pub(crate) fn split_first(self) -> Option<(Operand<'a>, ItemList<'a>)>
-        ensures some { IfSome result (λ p. items_in self.entry ≡ tree.item (tree_of p.0) (items_in p.1)) }
+        ensures some { IfSome result
+            (λ p. items_in self.entry ≡ tree.item (tree_of p.0) (items_in p.1)) }
         ensures none { IfNone result (items_in self.entry ≡ tree.no_items) }
     {
         match self {
@@ -55,7 +56,8 @@ impl<'a> ItemList<'a> {
 
 /// The first character of a text, as a text, and the rest.
 fn split_character(text: &str) -> Option<(&str, &str)>
-    ensures some { IfSome result (λ p. character_items (chars text.now) ≡ tree.item (tree.text p.0.now) (character_items (chars p.1.now))) }
+    ensures some { IfSome result (λ p. character_items (chars text.now)
+        ≡ tree.item (tree.text p.0.now) (character_items (chars p.1.now))) }
     ensures none { IfNone result (character_items (chars text.now) ≡ tree.no_items) }
 {
     match text.chars().next() {

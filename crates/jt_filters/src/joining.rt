@@ -24,7 +24,9 @@ pub(crate) fn join_measure(
     separator: Operand<'_>,
     autoescape: bool,
 ) -> Result<(u64, u32), Fault>
-    ensures { result ≡ measured (on_items (joined_by autoescape (tree_of separator.entry)) (tree_of operand.entry)) }
+    ensures { result
+        ≡ measured
+        (on_items (joined_by autoescape (tree_of separator.entry)) (tree_of operand.entry)) }
 {
     let items = items_of(operand)?;
     text_measure(joined_len(items, separator, escapes(items, separator, autoescape)))
@@ -39,7 +41,9 @@ fn text_measure(len: Result<u64, Fault>) -> Result<(u64, u32), Fault>
 
 /// Whether a join escapes what isn't markup: under autoescaping, where an item or the separator is markup.
 fn escapes(items: ItemList<'_>, separator: Operand<'_>, autoescape: bool) -> bool
-    ensures { result ≡ (autoescape && (is_markup (tree_of separator.entry) || joins.has_markup (items_in items.entry))) }
+    ensures { result
+        ≡ (autoescape
+        && (is_markup (tree_of separator.entry) || joins.has_markup (items_in items.entry))) }
 {
     autoescape && (separator.is_markup() || has_markup(items))
 }
@@ -61,7 +65,8 @@ fn has_markup(items: ItemList<'_>) -> bool
 /// How many bytes the joined text has, or the greatest number where they are more. The separator's fault counts first.
 #[tactic(auto, using(crate::proofs::Joins::joined_length, crate::proofs::Joins::none_joined, crate::proofs::Joins::unprintable_first, crate::proofs::Joins::unprintable_separator))]
 fn joined_len(items: ItemList<'_>, separator: Operand<'_>, escaping: bool) -> Result<u64, Fault>
-    ensures { result ≡ text_length (joined_text escaping (items_in items.entry) (tree_of separator.entry)) }
+    ensures { result
+        ≡ text_length (joined_text escaping (items_in items.entry) (tree_of separator.entry)) }
 {
     let between = piece_len(separator, escaping)?;
     match items.split_first() {
@@ -106,7 +111,8 @@ pub(crate) fn join(
     separator: Operand<'_>,
     autoescape: bool,
 ) -> Result<Value, ValueError>
-    ensures { IsAnswer (on_items (joined_by autoescape (tree_of separator.entry)) (tree_of operand.entry)) result }
+    ensures { IsAnswer
+        (on_items (joined_by autoescape (tree_of separator.entry)) (tree_of operand.entry)) result }
 {
     let items = items_of(operand)?;
     let separator = separator.value(alloc)?;

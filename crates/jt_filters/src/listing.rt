@@ -37,7 +37,8 @@ fn items_measure(items: ItemList<'_>) -> (u64, u32)
 #[tactic(auto, using(crate::proofs::Measures::reversed_size, crate::proofs::Measures::reversed_nesting, crate::proofs::Orders::sorted_size, crate::proofs::Orders::sorted_nesting))]
 pub(crate) fn list_measure(items: ItemList<'_>) -> (u64, u32)
     ensures listed { Ok result ≡ measured (Ok (tree.list (items_in items.entry))) }
-    ensures reversed { Ok result ≡ measured (Ok (tree.list (reversed_items (items_in items.entry)))) }
+    ensures reversed { Ok result
+        ≡ measured (Ok (tree.list (reversed_items (items_in items.entry)))) }
     ensures sorted { (before : Tree → Tree → Bool)
         → Ok result ≡ measured (Ok (tree.list (ordering.sorted before (items_in items.entry)))) }
 {
@@ -180,7 +181,9 @@ pub(crate) fn dictsort(alloc: Global, operand: Operand<'_>) -> Result<Value, Val
 fn pair_list_measure(entries: &[(String, Value)]) -> (u64, u32)
     ensures listed { Ok result ≡ measured (Ok (tree.list (pair_items (entries_view entries.now)))) }
     ensures sorted { (before : Tree → Tree → Bool)
-        → Ok result ≡ measured (Ok (tree.list (ordering.sorted before (pair_items (entries_view entries.now))))) }
+        → Ok result
+        ≡ measured
+        (Ok (tree.list (ordering.sorted before (pair_items (entries_view entries.now))))) }
 {
     let (size, nesting) = pairs_measure(entries);
     (size.saturating_add(1), nesting.saturating_add(1))
@@ -188,8 +191,10 @@ fn pair_list_measure(entries: &[(String, Value)]) -> (u64, u32)
 
 /// The size and the nesting of a map's entries as lists, each the greatest number where it is greater.
 fn pairs_measure(entries: &[(String, Value)]) -> (u64, u32)
-    ensures size { result.0 ≡ min (items_size (pair_items (entries_view entries.now))) (2 ^ 64 - 1) }
-    ensures nesting { result.1 ≡ min (items_nesting (pair_items (entries_view entries.now))) (2 ^ 32 - 1) }
+    ensures size { result.0
+        ≡ min (items_size (pair_items (entries_view entries.now))) (2 ^ 64 - 1) }
+    ensures nesting { result.1
+        ≡ min (items_nesting (pair_items (entries_view entries.now))) (2 ^ 32 - 1) }
 {
     let mut size = 0u64;
     let mut nesting = 0u32;

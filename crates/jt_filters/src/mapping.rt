@@ -25,7 +25,9 @@ pub(crate) fn mapped_measure(
     arguments: &[Value],
     autoescape: bool,
 ) -> Result<(u64, u32), Fault>
-    ensures { result ≡ measured (on_items (gathered_by (the.giving filter autoescape (map view arguments.now))) (tree_of operand.entry)) }
+    ensures { result
+        ≡ measured (on_items (gathered_by (the.giving filter autoescape (map view arguments.now)))
+        (tree_of operand.entry)) }
 {
     let items = items_of(operand)?;
     let change = change_of(filter, arguments, autoescape)?;
@@ -41,7 +43,8 @@ pub(crate) fn mapped(
     arguments: &[Value],
     autoescape: bool,
 ) -> Result<Value, ValueError>
-    ensures { Builds (on_items (gathered_by (the.giving filter autoescape (map view arguments.now))) (tree_of operand.entry)) result }
+    ensures { Builds (on_items (gathered_by (the.giving filter autoescape (map view arguments.now)))
+        (tree_of operand.entry)) result }
 {
     let items = items_of(operand)?;
     let change = change_of(filter, arguments, autoescape)?;
@@ -104,7 +107,8 @@ fn row_values<'a>(
     change: Change<'a>,
 ) -> Result<Vec<Value>, ValueError>
     requires { Gives change }
-    ensures ok { IfOk result (λ v. gathered (gives change.entry) (items_in items.entry) ≡ Ok (items_view v.items)) }
+    ensures ok { IfOk result
+        (λ v. gathered (gives change.entry) (items_in items.entry) ≡ Ok (items_view v.items)) }
     ensures fault { IfErr result (RowFault (gathered (gives change.entry) (items_in items.entry))) }
 {
     let mut items = items;
@@ -142,7 +146,9 @@ fn keeping<'a>(
     key: Option<&'a str>,
     arguments: &'a [Value],
 ) -> Result<Change<'a>, Fault>
-    ensures is { changing result ≡ the.keeping passes (option_map (λ k. k.now) key.entry) (the.judgement (map view arguments.now)) }
+    ensures is { changing result
+        ≡ the.keeping passes (option_map (λ k. k.now) key.entry)
+        (the.judgement (map view arguments.now)) }
     ensures fits { IfOk result Gives }
 {
     let judge = judge_of(arguments)?;
@@ -193,7 +199,8 @@ fn mapping(arguments: &[Value], autoescape: bool) -> Result<Change<'_>, Fault>
 
 /// What a filter gives that may be called with so many arguments.
 fn called(filter: FilterId, arguments: &[Value], autoescape: bool) -> Result<Change<'_>, Fault>
-    ensures is { changing result ≡ the.mapping_by (Some filter) autoescape (map view arguments.now) }
+    ensures is { changing result
+        ≡ the.mapping_by (Some filter) autoescape (map view arguments.now) }
     ensures fits { IfOk result Gives }
 {
     if filter.takes(arguments.len() + 1) {

@@ -28,7 +28,8 @@ pub(crate) fn measure(
     arguments: &[Value],
     autoescape: bool,
 ) -> Result<(u64, u32), Fault>
-    ensures { result ≡ measured (single filter autoescape (tree_of operand.entry ∷ map view arguments.now)) }
+    ensures { result
+        ≡ measured (single filter autoescape (tree_of operand.entry ∷ map view arguments.now)) }
 {
     match arguments {
         [] => measure_one(alloc, filter, operand, autoescape),
@@ -91,7 +92,8 @@ fn measure_two(
     argument: &Value,
     autoescape: bool,
 ) -> Result<(u64, u32), Fault>
-    ensures { result ≡ measured (single filter autoescape (tree_of operand.entry ∷ view argument.now ∷ [])) }
+    ensures { result
+        ≡ measured (single filter autoescape (tree_of operand.entry ∷ view argument.now ∷ [])) }
 {
     match filter {
         FilterId::Attr => scalar_measure(attribute(operand, argument)),
@@ -115,7 +117,9 @@ fn measure_three(
     second: &Value,
     autoescape: bool,
 ) -> Result<(u64, u32), Fault>
-    ensures { result ≡ measured (single filter autoescape (tree_of operand.entry ∷ view first.now ∷ view second.now ∷ [])) }
+    ensures { result
+        ≡ measured
+        (single filter autoescape (tree_of operand.entry ∷ view first.now ∷ view second.now ∷ [])) }
 {
     match filter {
         FilterId::Default => scalar_measure(Ok(or_default(

@@ -45,7 +45,8 @@ impl<'a> Operand<'a> {
 
     /// The entries of a map.
     pub(crate) fn as_map(self) -> Option<&'a [(String, Value)]>
-        ensures { option_map (λ s. entries_view s.now) result ≡ entries_of_map (tree_of self.entry) }
+        ensures { option_map (λ s. entries_view s.now) result
+            ≡ entries_of_map (tree_of self.entry) }
     {
         match self {
             Operand::Value(value) => value.as_map(),
@@ -122,7 +123,8 @@ impl<'a> Operand<'a> {
     /// The printed text, lent: a number's by the buffer.
     pub(crate) fn shown(self, buffer: &'a mut Buffer) -> Result<&'a str, Fault>
         ensures ok { IfOk result (λ s. printed (tree_of self.entry) ≡ Some s.now) }
-        ensures fault { IfErr result (λ f. (f ≡ Fault.Unprintable) × (printed (tree_of self.entry) ≡ None)) }
+        ensures fault { IfErr result
+            (λ f. (f ≡ Fault.Unprintable) × (printed (tree_of self.entry) ≡ None)) }
     {
         match self {
             Operand::Undefined => Ok(""),

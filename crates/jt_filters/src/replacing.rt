@@ -48,7 +48,8 @@ fn replacement<'a>(
     ensures old { IfOk result (λ p. 0 < length p.1.now) }
     ensures ok { IfOk result (λ p. replaced (tree_of operand.entry) (view old.now) (view new.now)
         ≡ Ok (tree.text (replaced_behind 0 p.1.now p.2.now p.0.now))) }
-    ensures fault { IfErr result (λ f. replaced (tree_of operand.entry) (view old.now) (view new.now) ≡ Err f) }
+    ensures fault { IfErr result
+        (λ f. replaced (tree_of operand.entry) (view old.now) (view new.now) ≡ Err f) }
 {
     let Some(text) = operand.as_plain() else {
         return Err(operand.misfit());

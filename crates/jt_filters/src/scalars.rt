@@ -46,7 +46,8 @@ pub(crate) fn or_default<'a>(
     boolean: bool,
 ) -> Operand<'a>
     ensures { let t = tree_of operand.entry in
-        tree_of result ≡ (if is_undefined t || (boolean && not (truth t)) then tree_of default.entry else t) }
+        tree_of result
+        ≡ (if is_undefined t || (boolean && not (truth t)) then tree_of default.entry else t) }
 {
     if operand.is_undefined() || (boolean && !operand.truth()) {
         default
@@ -169,7 +170,9 @@ fn best(items: ItemList<'_>, reverse: bool) -> Operand<'_>
 
 /// The first of an item and others that none comes before; in reverse, that none comes behind.
 fn best_of<'a>(first: Operand<'a>, behind: ItemList<'a>, reverse: bool) -> Operand<'a>
-    ensures { tree_of result ≡ ordering.best_of (ordering.comes_first reverse) (tree_of first.entry) (items_in behind.entry) }
+    ensures { tree_of result
+        ≡ ordering.best_of (ordering.comes_first reverse) (tree_of first.entry)
+        (items_in behind.entry) }
 {
     let mut best = first;
     let mut items = behind;

@@ -19,9 +19,12 @@ use std::alloc::Global;
 #[tactic(auto, using(crate::proofs::Measured::unchanged_measured, crate::proofs::Measured::lower_measured, crate::proofs::Measured::upper_measured, crate::proofs::Measured::capitalized_measured, crate::proofs::Measured::safe_measured))]
 pub(crate) fn printed_measure(operand: Operand<'_>) -> Result<(u64, u32), Fault>
     ensures same { result ≡ measured (keeping_kind unchanged (tree_of operand.entry)) }
-    ensures lower { result ≡ measured (keeping_kind str_to_ascii_lowercase (tree_of operand.entry)) }
-    ensures upper { result ≡ measured (keeping_kind str_to_ascii_uppercase (tree_of operand.entry)) }
-    ensures capitalized { result ≡ measured (keeping_kind texts.capitalized (tree_of operand.entry)) }
+    ensures lower { result
+        ≡ measured (keeping_kind str_to_ascii_lowercase (tree_of operand.entry)) }
+    ensures upper { result
+        ≡ measured (keeping_kind str_to_ascii_uppercase (tree_of operand.entry)) }
+    ensures capitalized { result
+        ≡ measured (keeping_kind texts.capitalized (tree_of operand.entry)) }
     ensures safe { result ≡ measured (texts.safe (tree_of operand.entry)) }
 {
     let mut buffer = Buffer::new();

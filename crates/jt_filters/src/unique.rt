@@ -55,7 +55,8 @@ fn list_under(alloc: Global, operands: &[Operand<'_>], limits: Limits) -> Result
 
 /// Why there is no list of the first items where memory is refused: the limit that the list passes, else the refusal.
 fn refused(items: ItemList<'_>, limits: Limits) -> OpError
-    ensures { Answers (Err result) (limited_by limits (Ok (tree.list (unseen tree.no_items (items_in items.entry))))) }
+    ensures { Answers (Err result)
+        (limited_by limits (Ok (tree.list (unseen tree.no_items (items_in items.entry))))) }
 {
     let (size, nesting) = unseen_list_measure(items);
     match allow(size, nesting, limits) {
@@ -107,8 +108,10 @@ fn operands_measure(operands: &[Operand<'_>]) -> (u64, u32)
 
 /// The size and the nesting of the items that are like none in front of them, each the greatest number where it is greater.
 fn unseen_measure(all: ItemList<'_>) -> (u64, u32)
-    ensures size { result.0 ≡ min (items_size (unseen tree.no_items (items_in all.entry))) (2 ^ 64 - 1) }
-    ensures nesting { result.1 ≡ min (items_nesting (unseen tree.no_items (items_in all.entry))) (2 ^ 32 - 1) }
+    ensures size { result.0
+        ≡ min (items_size (unseen tree.no_items (items_in all.entry))) (2 ^ 64 - 1) }
+    ensures nesting { result.1
+        ≡ min (items_nesting (unseen tree.no_items (items_in all.entry))) (2 ^ 32 - 1) }
 {
     let total = all.len();
     let mut left = total;
@@ -128,12 +131,22 @@ fn unseen_measure(all: ItemList<'_>) -> (u64, u32)
 /// The size and the nesting of an item that has so many others in front, nothing where it is like one of them.
 #[tactic(auto, using(crate::proofs::Alike::left_size, crate::proofs::Alike::kept_size, crate::proofs::Alike::left_nesting, crate::proofs::Alike::kept_nesting))]
 fn item_measure(item: Operand<'_>, all: ItemList<'_>, count: usize) -> (u64, u32)
-    ensures size { (rest : Items) → joined_items (front count (items_in all.entry)) (tree.item (tree_of item.entry) rest) ≡ items_in all.entry
-        → min (result.0 + items_size (unseen (front (count + 1) (items_in all.entry)) rest)) (2 ^ 64 - 1)
-        ≡ min (items_size (unseen (front count (items_in all.entry)) (tree.item (tree_of item.entry) rest))) (2 ^ 64 - 1) }
-    ensures nesting { (rest : Items) → joined_items (front count (items_in all.entry)) (tree.item (tree_of item.entry) rest) ≡ items_in all.entry
-        → min (max result.1 (items_nesting (unseen (front (count + 1) (items_in all.entry)) rest))) (2 ^ 32 - 1)
-        ≡ min (items_nesting (unseen (front count (items_in all.entry)) (tree.item (tree_of item.entry) rest))) (2 ^ 32 - 1) }
+    ensures size { (rest : Items)
+        → joined_items (front count (items_in all.entry)) (tree.item (tree_of item.entry) rest)
+        ≡ items_in all.entry
+        → min (result.0 + items_size (unseen (front (count + 1) (items_in all.entry)) rest))
+        (2 ^ 64 - 1)
+        ≡ min (items_size
+        (unseen (front count (items_in all.entry)) (tree.item (tree_of item.entry) rest)))
+        (2 ^ 64 - 1) }
+    ensures nesting { (rest : Items)
+        → joined_items (front count (items_in all.entry)) (tree.item (tree_of item.entry) rest)
+        ≡ items_in all.entry
+        → min (max result.1 (items_nesting (unseen (front (count + 1) (items_in all.entry)) rest)))
+        (2 ^ 32 - 1)
+        ≡ min (items_nesting
+        (unseen (front count (items_in all.entry)) (tree.item (tree_of item.entry) rest)))
+        (2 ^ 32 - 1) }
 {
     if has_alike(item, all, count) {
         (0, 0)
@@ -196,11 +209,17 @@ fn push_new<'a>(
     count: usize,
 ) -> Result<(), NoMemory>
     requires { Knows seen.old (front count (items_in all)) }
-    ensures known { OnOk result ((rest : Items) → joined_items (front count (items_in all.entry)) (tree.item (tree_of item.entry) rest) ≡ items_in all.entry
+    ensures known { OnOk result ((rest : Items)
+        → joined_items (front count (items_in all.entry)) (tree.item (tree_of item.entry) rest)
+        ≡ items_in all.entry
         → Knows seen.new (front (count + 1) (items_in all.entry))) }
-    ensures firsts { OnOk result ((rest : Items) → joined_items (front count (items_in all.entry)) (tree.item (tree_of item.entry) rest) ≡ items_in all.entry
-        → joined_items (operand_items firsts.new.items) (unseen (front (count + 1) (items_in all.entry)) rest)
-        ≡ joined_items (operand_items firsts.old.items) (unseen (front count (items_in all.entry)) (tree.item (tree_of item.entry) rest))) }
+    ensures firsts { OnOk result ((rest : Items)
+        → joined_items (front count (items_in all.entry)) (tree.item (tree_of item.entry) rest)
+        ≡ items_in all.entry
+        → joined_items (operand_items firsts.new.items)
+        (unseen (front (count + 1) (items_in all.entry)) rest)
+        ≡ joined_items (operand_items firsts.old.items)
+        (unseen (front count (items_in all.entry)) (tree.item (tree_of item.entry) rest))) }
 {
     if !was_seen(alloc, seen, item, all, count)? {
         firsts.push(item)?;
@@ -217,8 +236,11 @@ fn was_seen<'a>(
     count: usize,
 ) -> Result<bool, NoMemory>
     requires { Knows seen.old (front count (items_in all)) }
-    ensures like { IfOk result (λ b. b ≡ ordering.has_alike (tree_of item.entry) (front count (items_in all.entry))) }
-    ensures known { OnOk result ((rest : Items) → joined_items (front count (items_in all.entry)) (tree.item (tree_of item.entry) rest) ≡ items_in all.entry
+    ensures like { IfOk result
+        (λ b. b ≡ ordering.has_alike (tree_of item.entry) (front count (items_in all.entry))) }
+    ensures known { OnOk result ((rest : Items)
+        → joined_items (front count (items_in all.entry)) (tree.item (tree_of item.entry) rest)
+        ≡ items_in all.entry
         → Knows seen.new (front (count + 1) (items_in all.entry))) }
 {
     let code = code_of(alloc, item)?;
@@ -232,7 +254,9 @@ fn was_seen<'a>(
 /// Whether an item is like another one, or like one of so many items from the front. Two that have the same code are alike, so that
 /// no more than one comparison is made.
 fn is_like(item: Operand<'_>, other: Operand<'_>, all: ItemList<'_>, count: usize) -> bool
-    ensures { result ≡ (ordering.alike (tree_of item.entry) (tree_of other.entry) || ordering.has_alike (tree_of item.entry) (front count (items_in all.entry))) }
+    ensures { result
+        ≡ (ordering.alike (tree_of item.entry) (tree_of other.entry)
+        || ordering.has_alike (tree_of item.entry) (front count (items_in all.entry))) }
 {
     are_alike(item, other) || has_alike(item, all, count)
 }
@@ -240,7 +264,8 @@ fn is_like(item: Operand<'_>, other: Operand<'_>, all: ItemList<'_>, count: usiz
 /// Whether one of so many items from the front is like an item.
 #[tactic(auto, using(crate::proofs::Alike::front_more, crate::proofs::Alike::front_none))]
 fn has_alike(item: Operand<'_>, items: ItemList<'_>, count: usize) -> bool
-    ensures { result ≡ ordering.has_alike (tree_of item.entry) (front count (items_in items.entry)) }
+    ensures { result
+        ≡ ordering.has_alike (tree_of item.entry) (front count (items_in items.entry)) }
 {
     let mut left = count;
     let mut items = items;

@@ -1,4 +1,4 @@
--- Where a session stands in a list.
+-- What only private clauses cite: where a session stands in a list.
 use Rattle.std.specs.Prelude.{◌≡◌, ℕ, List, ◌∷◌, ◌++◌, length, None}
 use Rattle.jt_machine.specs.Session.{Session}
 use Rattle.jt_host.specs.Turns.{find}

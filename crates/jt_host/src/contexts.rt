@@ -85,7 +85,8 @@ fn value_of(alloc: Global, json: serde_json::Value) -> Result<Value, ContextErro
 /// The values of the items of an array.
 #[cycle(values)]
 fn items_of(alloc: Global, items: Vec<serde_json::Value>) -> Result<Vec<Value>, ContextError>
-    ensures ok { IfOk result (λ vs. items_of_json (json_items items.items) ≡ Some (items_view vs.items)) }
+    ensures ok { IfOk result
+        (λ vs. items_of_json (json_items items.items) ≡ Some (items_view vs.items)) }
     ensures err { IfErr result (ItemsFlaw (json_items items.items)) }
 {
     let mut values = Vec::with_capacity(alloc, items.len())?;
@@ -101,7 +102,8 @@ fn entries_of(
     alloc: Global,
     members: Map<String, serde_json::Value>,
 ) -> Result<IndexMap<String, Value>, ContextError>
-    ensures ok { IfOk result (λ m. entries_of_json (members_view members.entries) ≡ Some (entries_view m.entries)) }
+    ensures ok { IfOk result
+        (λ m. entries_of_json (members_view members.entries) ≡ Some (entries_view m.entries)) }
     ensures err { IfErr result (MembersFlaw (members_view members.entries)) }
 {
     let mut entries = IndexMap::new(alloc);

@@ -27,7 +27,8 @@ pub fn render<L: Library>(
     budget: Budget,
 ) -> Result<Outcome, RenderError>
     // the outcome is that of a run of a code that the entry compiles to
-    ensures rendered { IfOk result (IsRendered (L.sources library.now) entry.now options (pairs_of context.now) budget) }
+    ensures rendered { IfOk result
+        (IsRendered (L.sources library.now) entry.now options (pairs_of context.now) budget) }
     // the refusal is one that the compiler may answer
     ensures refused { IfErr result (IsUnrendered (L.sources library.now) entry.now options) }
 {

@@ -65,8 +65,11 @@ impl Host {
         context: &Context,
         budget: Budget,
     ) -> Result<u64, (Verified, HostError)>
-        ensures opens { OnOk result (self.new ≡ after (opens verified (pairs_of context.now) (budget_view budget)) self.old) }
-        ensures reply { IfOk result (λ id. reply (opens verified (pairs_of context.now) (budget_view budget)) self.old ≡ opened id) }
+        ensures opens { OnOk result (self.new
+            ≡ after (opens verified (pairs_of context.now) (budget_view budget)) self.old) }
+        ensures reply { IfOk result (λ id. reply
+            (opens verified (pairs_of context.now) (budget_view budget)) self.old
+            ≡ opened id) }
         ensures refused { IfErr result (λ e. OpenRefused self.old e.1) }
         ensures back { IfErr result (λ e. e.0 ≡ verified) }
         ensures unchanged { OnErr result (self.new ≡ self.old) }
@@ -119,8 +122,10 @@ impl Host {
     ///
     /// `NoSession` where no session has the id; `NoMemory` where it is lost.
     pub fn outcome(&self, id: u64) -> Result<Option<&Outcome>, HostError>
-        ensures outcome { IfOk result (λ o. Some (option_map outcome_view (option_copied o)) ≡ option_map outcome_of (find id self.now.sessions)) }
-        ensures going { OnOk result (option_map (λ s. is_lost s.status) (find id self.now.sessions) ≡ Some false) }
+        ensures outcome { IfOk result (λ o. Some (option_map outcome_view (option_copied o))
+            ≡ option_map outcome_of (find id self.now.sessions)) }
+        ensures going { OnOk result
+            (option_map (λ s. is_lost s.status) (find id self.now.sessions) ≡ Some false) }
         ensures refused { IfErr result (OutcomeRefused (find id self.now.sessions)) }
     {
         let Some(place) = place_of(&self.sessions, id) else {
@@ -140,8 +145,10 @@ impl Host {
     /// `NoSession` where no session has the id, and then nothing is changed.
     pub fn close(&mut self, id: u64) -> Result<Option<Outcome>, HostError>
         ensures closes { self.new ≡ after (closes id) self.old }
-        ensures reply { IfOk result (λ o. reply (closes id) self.old ≡ closed (option_map outcome_view o)) }
-        ensures refused { IfErr result (λ e. (e ≡ HostError.NoSession) × (reply (closes id) self.old ≡ refused e)) }
+        ensures reply { IfOk result
+            (λ o. reply (closes id) self.old ≡ closed (option_map outcome_view o)) }
+        ensures refused { IfErr result
+            (λ e. (e ≡ HostError.NoSession) × (reply (closes id) self.old ≡ refused e)) }
     {
         let Some(place) = place_of(&self.sessions, id) else {
             return Err(HostError::NoSession);

@@ -1,4 +1,4 @@
--- What the reader sees of headers.
+-- What only private clauses cite: what the reader sees of headers.
 use Rattle.std.specs.Prelude.{List, map}
 use Rattle.jt_image.specs.Reading as reading
 use Rattle.jt_image.specs.declared.units.Header.{Header}

@@ -43,7 +43,8 @@ fn instructions_of(alloc: Global, code: &[Instr]) -> Result<Vec<Instruction>, Im
 
 fn section_with(parameters: u8, kind: u8, locals: u16, code: Vec<Instruction>) -> Section
     requires { AllByRecursion IsInstruction code.items }
-    ensures is { result ≡ record { parameters = parameters; kind = kind; locals = locals; code = code } }
+    ensures is { result
+        ≡ record { parameters = parameters; kind = kind; locals = locals; code = code } }
     ensures fits { IsWritable (section_view result) }
 {
     Section {
@@ -76,7 +77,9 @@ fn sections_of(alloc: Global, units: &[Unit]) -> Result<Vec<Section>, ImageError
 
 // how many instructions all units have, unless they are too many
 fn instruction_count(sections: &[Section]) -> Result<u32, ImageError>
-    ensures { MatchResult result (λ n. (n ≡ total_len (sections_view sections.now)) × (n ≤ max_instructions)) (λ e. (e ≡ LimitPassed) × (max_instructions < total_len (sections_view sections.now))) }
+    ensures { MatchResult result
+        (λ n. (n ≡ total_len (sections_view sections.now)) × (n ≤ max_instructions))
+        (λ e. (e ≡ LimitPassed) × (max_instructions < total_len (sections_view sections.now))) }
 {
     let mut total = 0;
     'sections: for section in sections {
@@ -114,7 +117,8 @@ fn constant_len(constant: &Constant) -> usize
 }
 
 fn constants_len(constants: &[Constant]) -> usize
-    ensures len { result ≡ min (length (flat_map constant_bytes (constants_view constants.now))) (2 ^ 64 - 1) }
+    ensures len { result
+        ≡ min (length (flat_map constant_bytes (constants_view constants.now))) (2 ^ 64 - 1) }
     ensures held { AllByRecursion IsHeld (constants_view constants.now) }
 {
     let mut len: usize = 0;
@@ -136,7 +140,8 @@ fn texts_fit(names: &[(u16, String)]) -> bool
 }
 
 fn locals_fit(sections: &[Section]) -> bool
-    ensures { IsTrue result ↔ AllByRecursion (λ u. u.locals ≤ max_locals) (sections_view sections.now) }
+    ensures { IsTrue result
+        ↔ AllByRecursion (λ u. u.locals ≤ max_locals) (sections_view sections.now) }
 {
     'sections: for section in sections {
         if section.locals > MAX_LOCALS {
@@ -210,7 +215,10 @@ fn may_follow(names: &[(u16, String)], text: &str) -> bool
 // whether a name may stand behind these: its slot is there and has no name yet, and its text is above the last
 fn is_next(globals: u16, used: &[bool], before: &[(u16, String)], name: &(u16, String)) -> bool
     requires { IsTable used.now globals (names_view before.now) }
-    ensures { result ≡ (nat_lt name.now.0 globals && (not (is_used name.now.0 (names_view before.now)) && may_follow (names_view before.now) (string_bytes name.now.1))) }
+    ensures { result
+        ≡ (nat_lt name.now.0 globals
+        && (not (is_used name.now.0 (names_view before.now))
+        && may_follow (names_view before.now) (string_bytes name.now.1))) }
 {
     let slot = name.0;
     slot < globals && !used[usize::from(slot)] && may_follow(before, name.1.as_str())
@@ -236,9 +244,12 @@ fn names_are_in_order(
 
 // the units of the code that the parts are, if it has a spelling
 fn checked(alloc: Global, parts: &Parts) -> Result<Units, ImageError>
-    ensures is { IfOk result (λ u. code_of_parts parts.now ≡ Some (code_with parts.now (sections_view u.sections.items))) }
-    ensures spelled { IfOk result (λ u. IsCode (code_with parts.now (sections_view u.sections.items))) }
-    ensures counted { IfOk result (λ u. u.instructions ≡ total_len (sections_view u.sections.items)) }
+    ensures is { IfOk result (λ u.
+        code_of_parts parts.now ≡ Some (code_with parts.now (sections_view u.sections.items))) }
+    ensures spelled { IfOk result
+        (λ u. IsCode (code_with parts.now (sections_view u.sections.items))) }
+    ensures counted { IfOk result
+        (λ u. u.instructions ≡ total_len (sections_view u.sections.items)) }
     ensures refused { IfErr result (λ e. IsRefusal e (code_of_parts parts.now)) }
 {
     let globals = parts.globals;
@@ -264,7 +275,10 @@ pub fn assemble(alloc: Global, parts: Parts) -> Result<Image, (Parts, ImageError
     // the image is the code that the parts are
     ensures ok { IfOk result (λ i. IsCode i × (code_of_parts parts ≡ Some i)) }
     // a code with a spelling is refused for memory alone
-    ensures only { (k : Code) → code_of_parts parts ≡ Some k → IsCode k → MatchResult result (λ i. i ≡ k) (λ e. e.1 ≡ NoMemory) }
+    ensures only { (k : Code)
+        → code_of_parts parts ≡ Some k
+        → IsCode k
+        → MatchResult result (λ i. i ≡ k) (λ e. e.1 ≡ NoMemory) }
     // the parts come back as they were
     ensures back { IfErr result (λ e. e.0 ≡ parts) }
     // what is named holds

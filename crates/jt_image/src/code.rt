@@ -41,7 +41,8 @@ pub trait Code {
 
     /// The slot of a global, and its name.
     fn name(&self, index: usize) -> Option<(u16, &str)>
-        ensures { option_map (λ n. record { slot = n.0; text = n.1.now }) result ≡ slice_get (code self.now).names index };
+        ensures { option_map (λ n. record { slot = n.0; text = n.1.now }) result
+            ≡ slice_get (code self.now).names index };
 
     /// How many constants there are.
     fn constants(&self) -> usize

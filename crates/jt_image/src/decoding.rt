@@ -19,7 +19,10 @@ pub fn decode(alloc: Global, bytes: &[u8]) -> Result<Image, ImageError>
     // what is read is a code, and the bytes are its spelling
     ensures found { IfOk result (λ i. IsCode i × (bytes.now ≡ spelling i)) }
     // the spelling of a code is read as that code, unless memory runs out
-    ensures only { (k : Code) → IsCode k → bytes.now ≡ spelling k → MatchResult result (λ i. i ≡ k) (λ e. e ≡ NoMemory) }
+    ensures only { (k : Code)
+        → IsCode k
+        → bytes.now ≡ spelling k
+        → MatchResult result (λ i. i ≡ k) (λ e. e ≡ NoMemory) }
 {
     let view = view(alloc, bytes)?;
     Ok(image_of(alloc, &view)?)

@@ -32,7 +32,8 @@ fn put_name(out: &mut Vec<u8>, name: &(u16, String)) -> Result<(), NoMemory>
 
 fn put_names(out: &mut Vec<u8>, names: &[(u16, String)]) -> Result<(), NoMemory>
     requires { AllByRecursion (λ n. length n.text < 2 ^ 16) (names_view names.now) }
-    ensures { OnOk result (out.new.items ≡ out.old.items ++ flat_map name_bytes (names_view names.now)) }
+    ensures { OnOk result
+        (out.new.items ≡ out.old.items ++ flat_map name_bytes (names_view names.now)) }
 {
     'names: for name in names {
         put_name(out, name)?;
@@ -42,7 +43,8 @@ fn put_names(out: &mut Vec<u8>, names: &[(u16, String)]) -> Result<(), NoMemory>
 
 fn put_text(out: &mut Vec<u8>, text: &str) -> Result<(), NoMemory>
     requires { length text.now < 2 ^ 32 }
-    ensures { OnOk result (out.new.items ≡ out.old.items ++ (to_le_bytes w32 (length text.now) ++ text.now)) }
+    ensures { OnOk result
+        (out.new.items ≡ out.old.items ++ (to_le_bytes w32 (length text.now) ++ text.now)) }
 {
     out.extend_from_slice(&(text.len() as u32).to_le_bytes())?;
     out.extend_from_slice(text.as_bytes())?;
@@ -51,7 +53,8 @@ fn put_text(out: &mut Vec<u8>, text: &str) -> Result<(), NoMemory>
 
 fn put_constant(out: &mut Vec<u8>, constant: &Constant) -> Result<(), NoMemory>
     requires { IsConstant (constant_view constant.now) }
-    ensures { OnOk result (out.new.items ≡ out.old.items ++ constant_bytes (constant_view constant.now)) }
+    ensures { OnOk result
+        (out.new.items ≡ out.old.items ++ constant_bytes (constant_view constant.now)) }
 {
     match constant {
         Constant::Undefined => out.push(0)?,
@@ -76,7 +79,8 @@ fn put_constant(out: &mut Vec<u8>, constant: &Constant) -> Result<(), NoMemory>
 
 fn put_constants(out: &mut Vec<u8>, constants: &[Constant]) -> Result<(), NoMemory>
     requires { AllByRecursion IsConstant (constants_view constants.now) }
-    ensures { OnOk result (out.new.items ≡ out.old.items ++ flat_map constant_bytes (constants_view constants.now)) }
+    ensures { OnOk result
+        (out.new.items ≡ out.old.items ++ flat_map constant_bytes (constants_view constants.now)) }
 {
     'constants: for constant in constants {
         put_constant(out, constant)?;
@@ -86,7 +90,8 @@ fn put_constants(out: &mut Vec<u8>, constants: &[Constant]) -> Result<(), NoMemo
 
 fn put_header(out: &mut Vec<u8>, section: &Section) -> Result<(), NoMemory>
     requires { length section.now.code.items < 2 ^ 32 }
-    ensures { OnOk result (out.new.items ≡ out.old.items ++ header_bytes (section_view section.now)) }
+    ensures { OnOk result
+        (out.new.items ≡ out.old.items ++ header_bytes (section_view section.now)) }
 {
     out.push(section.parameters)?;
     out.push(section.kind)?;
@@ -97,7 +102,8 @@ fn put_header(out: &mut Vec<u8>, section: &Section) -> Result<(), NoMemory>
 
 fn put_headers(out: &mut Vec<u8>, sections: &[Section]) -> Result<(), NoMemory>
     requires { AllByRecursion (λ u. length u.code < 2 ^ 32) (sections_view sections.now) }
-    ensures { OnOk result (out.new.items ≡ out.old.items ++ flat_map header_bytes (sections_view sections.now)) }
+    ensures { OnOk result
+        (out.new.items ≡ out.old.items ++ flat_map header_bytes (sections_view sections.now)) }
 {
     'sections: for section in sections {
         put_header(out, section)?;
@@ -125,7 +131,9 @@ fn put_code(out: &mut Vec<u8>, code: &[Instruction]) -> Result<(), NoMemory>
 }
 
 fn put_codes(out: &mut Vec<u8>, sections: &[Section]) -> Result<(), NoMemory>
-    ensures { OnOk result (out.new.items ≡ out.old.items ++ flat_map (λ u. flat_map instruction_bytes u.code) (sections_view sections.now)) }
+    ensures { OnOk result (out.new.items
+        ≡ out.old.items
+        ++ flat_map (λ u. flat_map instruction_bytes u.code) (sections_view sections.now)) }
 {
     'sections: for section in sections {
         put_code(out, &section.code)?;

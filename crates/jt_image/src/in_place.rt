@@ -31,7 +31,8 @@ impl<'a> Model for View<'a> {
 
     ghost view = { viewed };
 
-    ghost invariant = { λ v. IsCode (viewed v) × (v.instructions ≡ total_len (viewed v).units) × AllByRecursion IsPlace v.units.items };
+    ghost invariant = { λ v. IsCode (viewed v) × (v.instructions ≡ total_len (viewed v).units)
+        × AllByRecursion IsPlace v.units.items };
 }
 
 impl<'a> Code for View<'a> {
@@ -82,5 +83,73 @@ impl<'a> Code for View<'a> {
 
     fn instructions(&self) -> usize {
         self.instructions as usize
+    }
+}
+
+// The readers of the trait, which need no import of it.
+impl<'a> View<'a> {
+    /// How many globals there are.
+    pub fn globals(&self) -> u16
+        ensures { result ≡ self.now.globals }
+    {
+        Code::globals(self)
+    }
+
+    /// How many names there are.
+    pub fn names(&self) -> usize
+        ensures { result ≡ length self.now.names }
+    {
+        Code::names(self)
+    }
+
+    /// The slot of a global, and its name.
+    pub fn name(&self, index: usize) -> Option<(u16, &str)>
+        ensures { option_map (λ n. record { slot = n.0; text = n.1.now }) result
+            ≡ slice_get self.now.names index }
+    {
+        Code::name(self, index)
+    }
+
+    /// How many constants there are.
+    pub fn constants(&self) -> usize
+        ensures { result ≡ length self.now.constants }
+    {
+        Code::constants(self)
+    }
+
+    /// A constant.
+    pub fn constant(&self, index: usize) -> Option<ConstantRef<'_>>
+        ensures { option_map constant_ref_view result ≡ slice_get self.now.constants index }
+    {
+        Code::constant(self, index)
+    }
+
+    /// How many units there are.
+    pub fn units(&self) -> usize
+        ensures count { result ≡ length self.now.units }
+        ensures whole { IsCode self.now }
+    {
+        Code::units(self)
+    }
+
+    /// The numbers of a unit.
+    pub fn unit(&self, unit: usize) -> Option<UnitHeader>
+        ensures { result ≡ option_map header_of (slice_get self.now.units unit) }
+    {
+        Code::unit(self, unit)
+    }
+
+    /// An instruction of a unit.
+    pub fn instruction(&self, unit: usize, point: usize) -> Option<Instruction>
+        ensures { result ≡ instruction_at self.now unit point }
+    {
+        Code::instruction(self, unit, point)
+    }
+
+    /// How many instructions all units have.
+    pub fn instructions(&self) -> usize
+        ensures { result ≡ total_len self.now.units }
+    {
+        Code::instructions(self)
     }
 }

@@ -35,7 +35,8 @@ pub(crate) struct Places<'a> {
 
 // the bytes behind that many instructions
 fn behind_instructions(count: u32, bytes: &[u8]) -> Result<&[u8], ImageError>
-    ensures { Gives (λ rest. (instructions_in count bytes.now, rest.now)) result (instructions_at count bytes.now) }
+    ensures { Gives (λ rest. (instructions_in count bytes.now, rest.now)) result
+        (instructions_at count bytes.now) }
 {
     let mut rest = bytes;
     'code: for _ in 0..count {
@@ -47,7 +48,8 @@ fn behind_instructions(count: u32, bytes: &[u8]) -> Result<&[u8], ImageError>
 
 #[tactic(auto, unfolding(crate::specs::Reading::section_at))]
 fn place_at<'a>(header: &Header, bytes: &'a [u8]) -> Result<(Place<'a>, &'a [u8]), ImageError>
-    ensures gives { Gives (λ x. (place_view x.0, x.1.now)) result (section_at (header_view header.now) bytes.now) }
+    ensures gives { Gives (λ x. (place_view x.0, x.1.now)) result
+        (section_at (header_view header.now) bytes.now) }
     ensures whole { IfOk result (λ x. IsPlace x.0) }
 {
     let rest = behind_instructions(header.len, bytes)?;
@@ -66,7 +68,8 @@ fn places_at<'a>(
     headers: &[Header],
     bytes: &'a [u8],
 ) -> Result<(Vec<Place<'a>>, &'a [u8]), ImageError>
-    ensures gives { Gives (λ x. (places_view x.0.items, x.1.now)) result (sections_at (headers_view headers.now) bytes.now) }
+    ensures gives { Gives (λ x. (places_view x.0.items, x.1.now)) result
+        (sections_at (headers_view headers.now) bytes.now) }
     ensures whole { IfOk result (λ x. AllByRecursion IsPlace x.0.items) }
 {
     let mut places: Vec<Place<'a>> = Vec::new(alloc);
@@ -85,7 +88,8 @@ pub(crate) fn all_places_at<'a>(
     alloc: Global,
     bytes: &'a [u8],
 ) -> Result<(Places<'a>, &'a [u8]), ImageError>
-    ensures gives { Gives (λ x. (places_view x.0.items.items, x.1.now)) result (units_at bytes.now) }
+    ensures gives { Gives (λ x. (places_view x.0.items.items, x.1.now)) result
+        (units_at bytes.now) }
     ensures total { IfOk result (λ x. x.0.instructions ≡ total_len (places_view x.0.items.items)) }
     ensures whole { IfOk result (λ x. AllByRecursion IsPlace x.0.items.items) }
 {

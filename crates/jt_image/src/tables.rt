@@ -19,7 +19,8 @@ fn slot_at<'a>(
     bytes: &'a [u8],
 ) -> Result<(u16, &'a [u8]), ImageError>
     requires { IsTable used.now globals (lent_names before.now) }
-    ensures gives { Gives (λ x. (x.0, x.1.now)) result (slot_at globals (lent_names before.now) bytes.now) }
+    ensures gives { Gives (λ x. (x.0, x.1.now)) result
+        (slot_at globals (lent_names before.now) bytes.now) }
     ensures below { IfOk result (λ x. x.0 < globals) }
 {
     let (slot, rest) = u16_at(bytes)?;
@@ -46,7 +47,8 @@ fn name_text_at<'a>(
     before: &[(u16, &str)],
     bytes: &'a [u8],
 ) -> Result<(&'a str, &'a [u8]), ImageError>
-    ensures { Gives (λ x. (x.0.now, x.1.now)) result (name_text_at (lent_names before.now) bytes.now) }
+    ensures { Gives (λ x. (x.0.now, x.1.now)) result
+        (name_text_at (lent_names before.now) bytes.now) }
 {
     let (len, rest) = u16_at(bytes)?;
     let (text, rest) = text_at(len as usize, rest)?;
@@ -64,7 +66,8 @@ fn name_at<'a>(
     bytes: &'a [u8],
 ) -> Result<((u16, &'a str), &'a [u8]), ImageError>
     requires { IsTable used.now globals (lent_names before.now) }
-    ensures gives { Gives (λ x. (lent_name x.0, x.1.now)) result (name_at globals (lent_names before.now) bytes.now) }
+    ensures gives { Gives (λ x. (lent_name x.0, x.1.now)) result
+        (name_at globals (lent_names before.now) bytes.now) }
     ensures below { IfOk result (λ x. x.0.0 < globals) }
 {
     let (slot, rest) = slot_at(globals, used, before, bytes)?;
@@ -78,7 +81,8 @@ fn names_at<'a>(
     count: u16,
     bytes: &'a [u8],
 ) -> Result<(Vec<(u16, &'a str)>, &'a [u8]), ImageError>
-    ensures { Gives (λ x. (lent_names x.0.items, x.1.now)) result (names_at globals count bytes.now) }
+    ensures { Gives (λ x. (lent_names x.0.items, x.1.now)) result
+        (names_at globals count bytes.now) }
 {
     let mut names: Vec<(u16, &'a str)> = Vec::new(alloc);
     let mut used = vec![in alloc; false; usize::from(globals)]?;
@@ -143,7 +147,8 @@ fn constants_at<'a>(
     count: u16,
     bytes: &'a [u8],
 ) -> Result<(Vec<ConstantRef<'a>>, &'a [u8]), ImageError>
-    ensures { Gives (λ x. (lent_constants x.0.items, x.1.now)) result (constants_at count bytes.now) }
+    ensures { Gives (λ x. (lent_constants x.0.items, x.1.now)) result
+        (constants_at count bytes.now) }
 {
     let mut constants: Vec<ConstantRef<'a>> = Vec::new(alloc);
     let mut rest = bytes;

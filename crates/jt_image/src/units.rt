@@ -74,7 +74,8 @@ fn len_at(total: u32, bytes: &[u8]) -> Result<(u32, &[u8]), ImageError>
 #[tactic(auto, unfolding(crate::specs::Reading::header_of))]
 fn header_at(first: bool, total: u32, bytes: &[u8]) -> Result<(Header, &[u8]), ImageError>
     requires { total ≤ max_instructions }
-    ensures gives { Gives (λ x. (header_view x.0, x.1.now)) result (header_of first total bytes.now) }
+    ensures gives { Gives (λ x. (header_view x.0, x.1.now)) result
+        (header_of first total bytes.now) }
     ensures within { IfOk result (λ x. total + x.0.len ≤ max_instructions) }
 {
     let (parameters, rest) = parameters_at(first, bytes)?;
@@ -104,7 +105,8 @@ pub(crate) fn headers_at(
     count: u16,
     bytes: &[u8],
 ) -> Result<(Headers, &[u8]), ImageError>
-    ensures gives { Gives (λ x. (headers_view x.0.items.items, x.1.now)) result (headers_at count bytes.now) }
+    ensures gives { Gives (λ x. (headers_view x.0.items.items, x.1.now)) result
+        (headers_at count bytes.now) }
     ensures total { IfOk result (λ x. x.0.total ≡ header_total (headers_view x.0.items.items)) }
 {
     let mut headers: Vec<Header> = Vec::new(alloc);

@@ -47,7 +47,10 @@ pub fn view(alloc: Global, bytes: &[u8]) -> Result<View<'_>, ImageError>
     // what is read is a code, and the bytes are its spelling
     ensures found { IfOk result (λ v. IsCode v × (bytes.now ≡ spelling v)) }
     // the spelling of a code is read as that code, unless memory runs out
-    ensures only { (k : Code) → IsCode k → bytes.now ≡ spelling k → MatchResult result (λ v. v ≡ k) (λ e. e ≡ NoMemory) }
+    ensures only { (k : Code)
+        → IsCode k
+        → bytes.now ≡ spelling k
+        → MatchResult result (λ v. v ≡ k) (λ e. e ≡ NoMemory) }
 {
     read(alloc, bytes)
 }

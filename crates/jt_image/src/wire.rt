@@ -237,7 +237,8 @@ impl Instr {
         // by the table of opcodes
         ensures table { result ≡ instruction_of self }
         // the one instruction with these fields
-        ensures exact { MatchOption result ((i : Instruction) → wire_of i ≢ self) (λ i. wire_of i ≡ self) }
+        ensures exact { MatchOption result ((i : Instruction) → wire_of i ≢ self)
+            (λ i. wire_of i ≡ self) }
         // its fields fit the wire's
         ensures fits { IfSome result (λ i. IsInstruction i) }
     {

@@ -1,6 +1,8 @@
 //! Budgets: what is taken, what is refused, and names.
 
+use crate::rows::{numbers, rows_hold};
 use jt_budget::{Budget, Spent};
+use std::alloc::Global;
 use std::test::Fail;
 
 const BUDGET: Budget = Budget {
@@ -42,30 +44,47 @@ fn calls_open_and_close(rt: HostRuntime) {
     assert_eq!(rt; budget, BUDGET);
 }
 
+// Whether a value of this size and this nesting fits.
+fn fitted(alloc: Global, asked: &str) -> Result<String, Fail> {
+    let [size, nesting] = numbers::<2>(asked)?;
+    let answer = BUDGET.fits(size, u32::try_from(nesting)?);
+    Ok(format!(in alloc; "{answer:?}")?)
+}
+
 #[test]
-fn the_size_comes_first(rt: HostRuntime) {
-    for (size, nesting, answer) in [
-        (10, 2, Ok(())),
-        (11, 2, Err(Spent::Size)),
-        (10, 3, Err(Spent::Nesting)),
-        (11, 3, Err(Spent::Size)),
-    ] {
-        assert_eq!(rt; BUDGET.fits(size, nesting), answer);
-    }
+fn the_size_comes_first(rt: HostRuntime) -> Result<(), Fail> {
+    rows_hold(
+        &rt,
+        fitted,
+        r"10 2 => Ok(())
+        11 2 => Err(Size)
+        10 3 => Err(Nesting)
+        11 3 => Err(Size)",
+    )
+}
+
+// What a number of a budget prints as, where it is spent.
+fn printed(alloc: Global, asked: &str) -> Result<String, Fail> {
+    let spent = match asked {
+        "fuel" => Spent::Fuel,
+        "depth" => Spent::Depth,
+        "output" => Spent::Output,
+        "size" => Spent::Size,
+        "nesting" => Spent::Nesting,
+        _ => return Err(Fail::from("a budget has no such number")),
+    };
+    Ok(format!(in alloc; "{spent}")?)
 }
 
 #[test]
 fn names(rt: HostRuntime) -> Result<(), Fail> {
-    let alloc = rt.alloc();
-    for (spent, name) in [
-        (Spent::Fuel, "Fuel"),
-        (Spent::Depth, "Depth"),
-        (Spent::Output, "Output"),
-        (Spent::Size, "Size"),
-        (Spent::Nesting, "Nesting"),
-    ] {
-        let shown = format!(in alloc; "{spent}")?;
-        assert_eq!(rt; shown.as_str(), name);
-    }
-    Ok(())
+    rows_hold(
+        &rt,
+        printed,
+        r"fuel => Fuel
+        depth => Depth
+        output => Output
+        size => Size
+        nesting => Nesting",
+    )
 }

@@ -7,6 +7,8 @@ mod budget;
 #[cfg(test)]
 mod image;
 #[cfg(test)]
+mod large;
+#[cfg(test)]
 mod loops;
 #[cfg(test)]
 mod machine;

@@ -78,30 +78,28 @@ fn list(alloc: Global, number: i64) -> Result<Value, Fail> {
     Ok(Value::list(alloc, items)?)
 }
 
+// What X comes to: the fuel and the output.
+fn constant_put(alloc: Global, asked: &str) -> Result<String, Fail> {
+    let [fuel, output] = numbers::<2>(asked)?;
+    let budget = Budget {
+        fuel,
+        output,
+        ..AMPLE
+    };
+    outcome(alloc, &X, &Context::new(alloc), budget)
+}
+
 #[test]
 fn a_constant_is_put(rt: HostRuntime) -> Result<(), Fail> {
-    let alloc = rt.alloc();
-    let context = Context::new(alloc);
-    for (fuel, output, wanted) in [
-        (2, 1, "text x"),
-        (1, 1, "spent Fuel"),
-        (2, 0, "spent Output"),
-        (1, 0, "spent Output"),
-        (0, 0, "spent Fuel"),
-    ] {
-        let found = outcome(
-            alloc,
-            &X,
-            &context,
-            Budget {
-                fuel,
-                output,
-                ..AMPLE
-            },
-        )?;
-        assert_eq!(rt; found.as_str(), wanted);
-    }
-    Ok(())
+    rows_hold(
+        &rt,
+        constant_put,
+        r"2 1 => text x
+        1 1 => spent Fuel
+        2 0 => spent Output
+        1 0 => spent Output
+        0 0 => spent Fuel",
+    )
 }
 
 // What N comes to, between quotes: a number, or no value, and the fuel.
@@ -133,15 +131,23 @@ fn a_number_is_printed_if_it_is_true(rt: HostRuntime) -> Result<(), Fail> {
     )
 }
 
+// What N comes to where `n` is a list: the flag, and the fuel.
+fn list_printed(alloc: Global, asked: &str) -> Result<String, Fail> {
+    let [flag, fuel] = numbers::<2>(asked)?;
+    let mut image = N;
+    image[52] = u8::try_from(flag)?;
+    let context = context_of(alloc, "n", list(alloc, 1)?)?;
+    outcome(alloc, &image, &context, Budget { fuel, ..AMPLE })
+}
+
 #[test]
 fn a_list_is_not_printed(rt: HostRuntime) -> Result<(), Fail> {
-    let alloc = rt.alloc();
-    let context = context_of(alloc, "n", list(alloc, 1)?)?;
-    for (fuel, wanted) in [(4, "fault Unprintable"), (3, "spent Fuel")] {
-        let found = outcome(alloc, &N, &context, Budget { fuel, ..AMPLE })?;
-        assert_eq!(rt; found.as_str(), wanted);
-    }
-    Ok(())
+    rows_hold(
+        &rt,
+        list_printed,
+        r"0 4 => fault Unprintable
+        0 3 => spent Fuel",
+    )
 }
 
 // What `<` is printed as: the flag, text or markup, and the output.
@@ -168,27 +174,34 @@ fn texts_are_escaped_and_markup_is_not(rt: HostRuntime) -> Result<(), Fail> {
 
 #[test]
 fn an_escaped_list_costs_before_its_fault(rt: HostRuntime) -> Result<(), Fail> {
-    let alloc = rt.alloc();
-    let mut image = N;
-    image[52] = 1;
-    let context = context_of(alloc, "n", list(alloc, 1)?)?;
-    for (fuel, wanted) in [(4, "fault Unprintable"), (3, "spent Fuel")] {
-        let found = outcome(alloc, &image, &context, Budget { fuel, ..AMPLE })?;
-        assert_eq!(rt; found.as_str(), wanted);
+    rows_hold(
+        &rt,
+        list_printed,
+        r"1 4 => fault Unprintable
+        1 3 => spent Fuel",
+    )
+}
+
+// What N comes to where `n` is a text of so many letters, with this fuel: how many are printed.
+fn letters_printed(alloc: Global, asked: &str) -> Result<String, Fail> {
+    let [count, fuel] = numbers::<2>(asked)?;
+    let context = context_of(alloc, "n", letters(alloc, usize::try_from(count)?)?)?;
+    let found = outcome(alloc, &N, &context, Budget { fuel, ..AMPLE })?;
+    match found.strip_prefix("text ") {
+        Some(text) => Ok(format!(in alloc; "{} letters", text.len())?),
+        None => Ok(found),
     }
-    Ok(())
 }
 
 #[test]
 fn printing_costs_by_size(rt: HostRuntime) -> Result<(), Fail> {
-    let alloc = rt.alloc();
-    for (count, fuel, is_spent) in [(62, 5, false), (63, 5, true), (63, 6, false)] {
-        let context = context_of(alloc, "n", letters(alloc, count)?)?;
-        let found = outcome(alloc, &N, &context, Budget { fuel, ..AMPLE })?;
-        let wanted = if is_spent { 10 } else { 5 + count };
-        assert_eq!(rt; found.len(), wanted);
-    }
-    Ok(())
+    rows_hold(
+        &rt,
+        letters_printed,
+        r"62 5 => 62 letters
+        63 5 => spent Fuel
+        63 6 => 63 letters",
+    )
 }
 
 // The outcome without fuel where the context has a list: its name, and the limits of size and nesting.
@@ -377,27 +390,31 @@ fn lists_and_maps(rt: HostRuntime) -> Result<(), Fail> {
     )
 }
 
+// What a list comes to: the number of its items, and the fuel.
+fn listed(alloc: Global, asked: &str) -> Result<String, Fail> {
+    let [count, fuel] = numbers::<2>(asked)?;
+    let count = u32::try_from(count)?;
+    let mut instructions = Vec::new(alloc);
+    for _ in 0..count {
+        instructions.push(constant(1))?;
+    }
+    instructions.push(list_of(count))?;
+    printed(alloc, &instructions, Budget { fuel, ..AMPLE })
+}
+
 // A list costs 1 more for each 64 of its items' sizes; so does printing it, which it cannot be, for each 64 of its own.
 #[test]
 fn making_costs_by_size(rt: HostRuntime) -> Result<(), Fail> {
-    let alloc = rt.alloc();
-    for (count, fuel, wanted) in [
-        (62, 64, "fault Unprintable"),
-        (62, 63, "spent Fuel"),
-        (63, 66, "fault Unprintable"),
-        (63, 65, "spent Fuel"),
-        (64, 68, "fault Unprintable"),
-        (64, 67, "spent Fuel"),
-    ] {
-        let mut instructions = Vec::new(alloc);
-        for _ in 0..count {
-            instructions.push(constant(1))?;
-        }
-        instructions.push(list_of(count))?;
-        let found = printed(alloc, &instructions, Budget { fuel, ..AMPLE })?;
-        assert_eq!(rt; found.as_str(), wanted);
-    }
-    Ok(())
+    rows_hold(
+        &rt,
+        listed,
+        r"62 64 => fault Unprintable
+        62 63 => spent Fuel
+        63 66 => fault Unprintable
+        63 65 => spent Fuel
+        64 68 => fault Unprintable
+        64 67 => spent Fuel",
+    )
 }
 
 #[test]

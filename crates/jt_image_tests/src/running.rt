@@ -1,10 +1,10 @@
 //! Runs of images, in words.
 
 use jt_budget::Budget;
-use jt_image::Image;
-use jt_machine::{Outcome, run};
-use jt_value::Context;
-use jt_verify::{Verified, verify};
+use jt_image::{Image, view};
+use jt_machine::{Outcome, run, run_view};
+use jt_value::{Context, NoMemory};
+use jt_verify::{verify, verify_view};
 use std::alloc::Global;
 use std::test::Fail;
 
@@ -24,27 +24,27 @@ pub(crate) fn outcome_of(
     budget: Budget,
 ) -> Result<String, Fail> {
     match verify(alloc, image) {
-        Ok(verified) => outcome_of_verified(alloc, &verified, context, budget),
+        Ok(verified) => told(alloc, run(alloc, &verified, context, budget)),
         Err((_, refusal)) => Ok(format!(in alloc; "{refusal}")?),
     }
 }
 
-/// The outcome of an image that is verified.
-fn outcome_of_verified(
+/// The outcome of the code that the bytes spell, read in place, or why it is refused.
+pub(crate) fn outcome_in_place(
     alloc: Global,
-    verified: &Verified,
+    bytes: &[u8],
     context: &Context,
     budget: Budget,
 ) -> Result<String, Fail> {
-    match run(alloc, verified, context, budget) {
-        Ok(outcome) => told(alloc, &outcome),
-        Err(_) => Err(Fail::from("run")),
+    match verify_view(alloc, view(alloc, bytes)?) {
+        Ok(verified) => told(alloc, run_view(alloc, &verified, context, budget)),
+        Err((_, refusal)) => Ok(format!(in alloc; "{refusal}")?),
     }
 }
 
-/// An outcome.
-fn told(alloc: Global, outcome: &Outcome) -> Result<String, Fail> {
-    match outcome {
+/// The answer of a run.
+fn told(alloc: Global, answer: Result<Outcome, NoMemory>) -> Result<String, Fail> {
+    match answer? {
         Outcome::Text(text) => Ok(format!(in alloc; "text {text}")?),
         Outcome::Fault(fault) => Ok(format!(in alloc; "fault {fault:?}")?),
         Outcome::Spent(spent) => Ok(format!(in alloc; "spent {spent}")?),

@@ -183,41 +183,45 @@ fn names_the_flaw_and_its_place(rt: HostRuntime) -> Result<(), Fail> {
     )
 }
 
+/// What the verifier answers of an Emit with this flag.
+fn flaw_of_flag(alloc: Global, asked: &str) -> Result<String, Fail> {
+    let mut bytes = EMITS;
+    bytes[32] = asked.parse::<u8>()?;
+    flaw_at(alloc, decode(alloc, &bytes)?, 0)
+}
+
 #[test]
 fn emit_has_two_flags(rt: HostRuntime) -> Result<(), Fail> {
-    let bad = Refusal::Flaw {
-        flaw: Flaw::BadIndex,
-        unit: 0,
-        point: 1,
-    };
-    for (flag, want) in [(0, None), (1, None), (2, Some(bad)), (255, Some(bad))] {
-        let mut bytes = EMITS;
-        bytes[32] = flag;
-        assert_eq!(rt; refusal_of(rt.alloc(), decode(rt.alloc(), &bytes)?), want);
+    rows_hold(
+        &rt,
+        flaw_of_flag,
+        r"0 => none
+        1 => none
+        2 => BadIndex 1
+        255 => BadIndex 1",
+    )
+}
+
+/// What the verifier answers of a unit that puts so many constants and drops them.
+fn flaw_of_many(alloc: Global, count: &str) -> Result<String, Fail> {
+    let count = count.parse::<usize>()?;
+    let mut lines: Vec<Line> = Vec::new(alloc);
+    for place in 0..count.saturating_mul(2) {
+        lines.push((if place < count { CONST } else { DROP }, 0))?;
     }
-    Ok(())
+    lines.push((RETURN, 0))?;
+    let bytes = bytes_of(alloc, &lines, &[(RETURN, 0)])?;
+    flaw_at(alloc, decode(alloc, &bytes)?, 0)
 }
 
 #[test]
 fn entries_are_counted_on_arrival(rt: HostRuntime) -> Result<(), Fail> {
-    let deep = Refusal::Flaw {
-        flaw: Flaw::TooDeep,
-        unit: 0,
-        point: 1025,
-    };
-    for (count, want) in [(1024usize, None), (1025, Some(deep))] {
-        let mut lines: Vec<Line> = Vec::new(rt.alloc());
-        for _ in 0..count {
-            lines.push((CONST, 0))?;
-        }
-        for _ in 0..count {
-            lines.push((DROP, 0))?;
-        }
-        lines.push((RETURN, 0))?;
-        let bytes = bytes_of(rt.alloc(), &lines, &[(RETURN, 0)])?;
-        assert_eq!(rt; refusal_of(rt.alloc(), decode(rt.alloc(), &bytes)?), want);
-    }
-    Ok(())
+    rows_hold(
+        &rt,
+        flaw_of_many,
+        r"1024 => none
+        1025 => TooDeep 1025",
+    )
 }
 
 // The fields of Const 0.
@@ -301,51 +305,58 @@ fn operands_are_counted(rt: HostRuntime) -> Result<(), Fail> {
     )
 }
 
-#[test]
-fn what_is_made_is_counted(rt: HostRuntime) -> Result<(), Fail> {
-    let deep = Refusal::Flaw {
-        flaw: Flaw::TooDeep,
-        unit: 0,
-        point: 1025,
-    };
-    for (fields, want) in [
-        ((16, 0, 0, 1024), None),
-        ((17, 0, 0, 512), None),
-        ((16, 0, 0, 0), Some(deep)),
-        ((17, 0, 0, 0), Some(deep)),
-    ] {
-        let image = image_of(rt.alloc(), 1024, fields)?;
-        assert_eq!(rt; refusal_of(rt.alloc(), image), want);
-    }
-    Ok(())
+/// What the verifier answers of an opcode and its field c behind 1024 constants.
+fn flaw_behind_many(alloc: Global, asked: &str) -> Result<String, Fail> {
+    let [op, c] = numbers::<2>(asked)?;
+    let fields = (u8::try_from(op)?, 0, 0, u32::try_from(c)?);
+    flaw_at(alloc, image_of(alloc, 1024, fields)?, 0)
 }
 
 #[test]
-fn joins_equal_shapes_alone(rt: HostRuntime) {
-    let empty = Shape::new();
-    let mut value = Shape::new();
-    let mut frame = Shape::new();
-    assert!(rt; value.push(rt.alloc(), Kind::Value).is_ok());
-    assert!(rt; frame.push(rt.alloc(), Kind::Frame).is_ok());
-    let depth = Err(Refusal::Flaw {
-        flaw: Flaw::DepthDiffers,
-        unit: 0,
-        point: 0,
-    });
-    let kind = Err(Refusal::Flaw {
-        flaw: Flaw::KindDiffers,
-        unit: 0,
-        point: 0,
-    });
-    for (left, right, want) in [
-        (&empty, &empty, Ok(())),
-        (&value, &value, Ok(())),
-        (&value, &empty, depth),
-        (&empty, &frame, depth),
-        (&value, &frame, kind),
-    ] {
-        assert_eq!(rt; join(left, right), want);
+fn what_is_made_is_counted(rt: HostRuntime) -> Result<(), Fail> {
+    rows_hold(
+        &rt,
+        flaw_behind_many,
+        r"16 1024 => none
+        17 512 => none
+        16 0 => TooDeep 1025
+        17 0 => TooDeep 1025",
+    )
+}
+
+/// The shape of no entry, or of one of this kind.
+fn shape_of(alloc: Global, word: &str) -> Result<Shape, Fail> {
+    let mut shape = Shape::new();
+    let pushed = match word {
+        "empty" => Ok(()),
+        "value" => shape.push(alloc, Kind::Value),
+        "frame" => shape.push(alloc, Kind::Frame),
+        _ => return Err(Fail::from("a shape has no name")),
+    };
+    match pushed {
+        Ok(()) => Ok(shape),
+        Err(_) => Err(Fail::from("no memory")),
     }
+}
+
+/// What the join of two shapes answers.
+fn joined(alloc: Global, asked: &str) -> Result<String, Fail> {
+    let (left, right) = asked.split_once(" ").ok_or("a row has one shape")?;
+    let answer = join(&shape_of(alloc, left)?, &shape_of(alloc, right)?);
+    Ok(format!(in alloc; "{answer:?}")?)
+}
+
+#[test]
+fn joins_equal_shapes_alone(rt: HostRuntime) -> Result<(), Fail> {
+    rows_hold(
+        &rt,
+        joined,
+        r"empty empty => Ok(())
+        value value => Ok(())
+        value empty => Err(Flaw { flaw: DepthDiffers, unit: 0, point: 0 })
+        empty frame => Err(Flaw { flaw: DepthDiffers, unit: 0, point: 0 })
+        value frame => Err(Flaw { flaw: KindDiffers, unit: 0, point: 0 })",
+    )
 }
 
 #[test]

@@ -4,7 +4,7 @@ use Rattle.std.proofs.lemmas.Bool.{cases_lt}
 use Rattle.jt_scan.specs.Cut as cut
 use Rattle.jt_scan.specs.Cut.{Text, IsCut}
 use Rattle.jt_scan.specs.LineEnds.{normalized}
-use Rattle.jt_scan.specs.SourceView.{Held}
+use Rattle.jt_scan.specs.SourceView.{Held, max_source_len}
 use Rattle.jt_scan.specs.View.{cut_of, segment_view, HaveOptions}
 use Rattle.jt_scan.specs.Refused as scanner
 use Rattle.jt_scan.specs.declared.error.ScanError.{ScanError}
@@ -32,8 +32,8 @@ read_cut options [] h = refl
 read_cut options (s ∷ ss) h =
     ap (λ o. let r : Read = (o, segment_view s) in r ∷ reads_of ss) h.0 ∙ ap (λ l. let r : Read = (options, segment_view s) in r ∷ l) (read_cut options ss h.1)
 
-pub limited : (given : Text) → (1048576 < length given → ⊥) → length given ≤ 1048576
-limited given long = ⊎_elim (λ (gt : 1048576 < length given). absurd (long gt)) (λ (le : length given ≤ 1048576). le) (cases_lt 1048576 (length given))
+pub limited : (given : Text) → (max_source_len < length given → ⊥) → length given ≤ max_source_len
+limited given long = ⊎_elim (λ (gt : max_source_len < length given). absurd (long gt)) (λ (le : length given ≤ max_source_len). le) (cases_lt max_source_len (length given))
 
 module _ (options : Options) (given : Text) (s : Held) (is : s ≡ record { text = normalized options.keep_trailing_newline given; options = options }) (ss : List Segment) where
   its_text : s.text ≡ normalized options.keep_trailing_newline given
@@ -61,7 +61,7 @@ module _ (options : Options) (given : Text) (s : Held) (is : s ≡ record { text
     pub no_tree : (e : ParseError) → (e ≡ parse_error.NoMemory → ⊥) → ((d : Body) → Spelled d (pieces (reads_of ss)) → body_levels d ≤ 100 → body_unknown d ≡ None → e ≡ parse_error.NoMemory) → HasNoTree options given
     no_tree e f none = λ b i. f (none b (read_so b i (once i.segments (text_cut b i)) h) i.levels i.known)
 
-  pub tree_found : (t : Template) → length given ≤ 1048576 → IsCut (cut_of ss) (chars s.text) → HaveOptions s.options ss → Spelled (body_of t) (pieces (reads_of ss)) × (body_levels (body_of t) ≤ 100)
+  pub tree_found : (t : Template) → length given ≤ max_source_len → IsCut (cut_of ss) (chars s.text) → HaveOptions s.options ss → Spelled (body_of t) (pieces (reads_of ss)) × (body_levels (body_of t) ≤ 100)
       → body_unknown (body_of t) ≡ None → IsTree options given (body_of t)
   tree_found t le c h p k = record {
     limited = le;
@@ -107,11 +107,11 @@ unscanned options given name e error.NoSuper r p = absurd p
 unscanned options given name e error.IncludeCycle r p = absurd p
 unscanned options given name e error.MacroTwice r p = absurd p
 
-pub too_long : (options : Options) (given : Text) (e : ScanError) → (1048576 < length given → e ≡ scan_error.SourceTooLong) → (length given ≤ 1048576 → e ≡ scan_error.NoMemory) → (e ≡ scan_error.NoMemory → ⊥) → IsUncut e options given × HasNoTree options given
+pub too_long : (options : Options) (given : Text) (e : ScanError) → (max_source_len < length given → e ≡ scan_error.SourceTooLong 1) → (length given ≤ max_source_len → e ≡ scan_error.NoMemory) → (e ≡ scan_error.NoMemory → ⊥) → IsUncut e options given × HasNoTree options given
 too_long options given e long short f = ⊎_elim
-    (λ (gt : 1048576 < length given). (subst (λ z. IsUncut z options given) (sym (long gt)) gt, λ b t. let le = t.limited in omega (arith, gt, le)))
-    (λ (le : length given ≤ 1048576). absurd (f (short le)))
-    (cases_lt 1048576 (length given))
+    (λ (gt : max_source_len < length given). (subst (λ z. IsUncut z options given) (sym (long gt)) (refl, gt), λ b t. let le = t.limited in omega (arith, gt, le)))
+    (λ (le : length given ≤ max_source_len). absurd (f (short le)))
+    (cases_lt max_source_len (length given))
 
 uncut_so : (options : Options) (given : Text) (e : ScanError) → (e ≡ scan_error.NoMemory → ⊥) → scanner.IsRefusal e (chars (normalized options.keep_trailing_newline given)) → IsUncut e options given
 uncut_so options given (scan_error.UnclosedTag n) f r = r
@@ -120,7 +120,7 @@ uncut_so options given (scan_error.BadCharacter n) f r = r
 uncut_so options given (scan_error.BadEscape n) f r = r
 uncut_so options given (scan_error.NumberTooLarge n) f r = r
 uncut_so options given (scan_error.UnclosedRaw n) f r = r
-uncut_so options given scan_error.SourceTooLong f r = absurd r
+uncut_so options given (scan_error.SourceTooLong n) f r = absurd r
 uncut_so options given scan_error.NoMemory f r = absurd (f refl)
 
 pub no_cut : (options : Options) (given text : Text) (e : ScanError) → text ≡ normalized options.keep_trailing_newline given → scanner.IsRefusal e (chars text) → ((qs : List cut.Segment) → IsCut qs (chars text) → e ≡ scan_error.NoMemory)

@@ -7,7 +7,7 @@ use Rattle.jt_scan.specs.Cut.{Text, Token, Segment, Spelled, a_name, a_number, a
 use Rattle.jt_scan.specs.declared.segment.Mark.{Mark}
 use Rattle.jt_inherit.proofs.Raws.{closing_long, behind_short, endraw_short}
 use Rattle.jt_scan.specs.LineEnds.{normalized}
-use Rattle.jt_scan.specs.SourceView.{Held}
+use Rattle.jt_scan.specs.SourceView.{Held, max_source_len}
 use Rattle.jt_scan.specs.declared.options.Options.{Options}
 use Rattle.jt_scan.proofs.EndsLaws.{never_longer}
 use Rattle.jt_expr.specs.Sizes.{token_bytes, tokens_bytes}
@@ -51,8 +51,8 @@ few_bytes keep source text u e =
     omega (arith, ap length (encodes-chars text u), ap length e, never_longer keep source)
 
 -- the text of a source that is not refused for its length
-pub taken : (options : Options) (given : Text) (s : Held) → (1048576 < length given → ⊥)
-    → (length given ≤ 1048576 → s ≡ record { text = normalized options.keep_trailing_newline given; options = options })
+pub taken : (options : Options) (given : Text) (s : Held) → (max_source_len < length given → ⊥)
+    → (length given ≤ max_source_len → s ≡ record { text = normalized options.keep_trailing_newline given; options = options })
     → s.text ≡ normalized options.keep_trailing_newline given
 taken options given s long short =
-    ap (λ (h : Held). h.text) (short (⊎_elim (λ (gt : 1048576 < length given). absurd (long gt)) (λ (le : length given ≤ 1048576). le) (cases_lt 1048576 (length given))))
+    ap (λ (h : Held). h.text) (short (⊎_elim (λ (gt : max_source_len < length given). absurd (long gt)) (λ (le : length given ≤ max_source_len). le) (cases_lt max_source_len (length given))))

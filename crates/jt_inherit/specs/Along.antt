@@ -1,4 +1,4 @@
--- The templates at some places, in this order.
+-- What only private clauses cite: the templates at some places, in this order.
 use Rattle.std.specs.Prelude.{ℕ, Bool, ◌<◌, List, [], ◌∷◌, ◌++◌, length, slice_get, unwrap_or, option_map}
 use Rattle.std.specs.List.{AllByRecursion}
 use Rattle.std.specs.Option.{option_to_list}

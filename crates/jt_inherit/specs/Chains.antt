@@ -3,10 +3,12 @@ use Rattle.std.specs.Prelude.{◌≡◌, ◌≢◌, ◌≤◌, ◌↔◌, false,
 use Rattle.std.specs.List.{AllByRecursion}
 use Rattle.jt_scan.specs.Cut.{Segment, IsCut}
 use Rattle.jt_scan.specs.LineEnds.{normalized}
+use Rattle.jt_scan.specs.SourceView.{max_source_len}
 use Rattle.jt_scan.specs.declared.options.Options.{Options}
 use Rattle.jt_parse.specs.Grammar.{Spelled}
 use Rattle.jt_parse.specs.Kept.{pieces}
 use Rattle.jt_parse.specs.Names.{body_unknown}
+use Rattle.jt_parse.specs.Refusals.{max_levels}
 use Rattle.jt_parse.specs.Texts.{among, repeated}
 use Rattle.jt_parse.specs.Trees.{Text, Body, body_levels}
 use Rattle.jt_inherit.specs.Chain.{Home, Template}
@@ -26,11 +28,11 @@ scanned options source = chars (normalized options.keep_trailing_newline source)
 -- a source of at most 1,048,576 bytes is cut into segments of which what is kept spells the tree, which has at most 100 levels, and each
 -- of its filters and tests has a meaning
 pub record IsTree (options : Options) (source : Text) (body : Body) : Type 0 where
-  pub limited : length source ≤ 1048576
+  pub limited : length source ≤ max_source_len
   pub segments : List Segment
   pub cut : IsCut segments (scanned options source)
   pub spelled : Spelled body (pieces (map (λ s. (options, s)) segments))
-  pub levels : body_levels body ≤ 100
+  pub levels : body_levels body ≤ max_levels
   pub known : body_unknown body ≡ None
 
 -- it spells none

@@ -1,4 +1,4 @@
--- The rules on the bodies of a chain's blocks, each as a test.
+-- What only private clauses cite: the rules on the bodies of a chain's blocks, each as a test.
 use Rattle.std.specs.Prelude.{Bool, List, map, filter}
 use Rattle.std.specs.List.{list_any}
 use Rattle.std.specs.Str.{bytes_eq}

@@ -1,4 +1,4 @@
--- What a refusal of one source says, before it is a refusal of a chain.
+-- What only private clauses cite: what a refusal of one source says, before it is a refusal of a chain.
 use Rattle.std.specs.Prelude.{◌≡◌, ◌≢◌, Some, None, string_bytes}
 use Rattle.jt_scan.specs.declared.error.ScanError.{ScanError}
 use Rattle.jt_scan.specs.declared.error.ScanError.TheVariants as scan_error

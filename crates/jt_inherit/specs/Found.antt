@@ -1,4 +1,4 @@
--- Chains while they are looked for: what is known of their includes, and of those that were followed.
+-- What only private clauses cite: chains while they are looked for: what is known of their includes, and of those that were followed.
 use Rattle.std.specs.Prelude.{◌≡◌, ℕ, ◌<◌, ◌≤◌, ◌⊎◌, true, false, Bool, IsTrue, List, [], ◌∷◌, ◌++◌, length, map, filter, slice_get, Some, None}
 use Rattle.std.specs.List.{AllByRecursion}
 use Rattle.jt_order.specs.Graph.{next_of}
@@ -15,7 +15,7 @@ use Rattle.jt_inherit.specs.Names.{IsName}
 use Rattle.jt_inherit.specs.Needs.{Need, needed}
 use Rattle.jt_inherit.specs.Pages.{pages_view, home_name}
 use Rattle.jt_inherit.specs.Places.{home_at}
-use Rattle.jt_inherit.specs.Rules.{Asks, Reaches}
+use Rattle.jt_inherit.specs.Rules.{max_chains, Asks, Reaches}
 use Rattle.jt_inherit.specs.SetView.{strings}
 use Rattle.jt_inherit.specs.Ways.{AreKnown, IsWay}
 use Rattle.jt_inherit.specs.declared.discovery.Found.{Found}
@@ -50,14 +50,14 @@ pub record AreNext (old new names : List Text) (numbers : List ℕ) : Type 0 whe
   pub more : List Text
   pub grown : new ≡ old ++ more
   pub once : repeated new ≡ false
-  pub few : length new ≤ 1024
+  pub few : length new ≤ max_chains
   pub from : (h : Text) → IsTrue (among h new) → IsTrue (among h old) ⊎ IsTrue (among h names)
   pub numbered : map (slice_get new) numbers ≡ map Some names
 
 -- with those of some names they are more than 1,024
 abbrev pub TooMany : List Text → List Text → Type 0
 TooMany old names =
-    (hs : List Text) × (1024 < length hs) × (repeated hs ≡ false) × ((h : Text) → IsTrue (among h hs) → IsTrue (among h old) ⊎ IsTrue (among h names))
+    (hs : List Text) × (max_chains < length hs) × (repeated hs ≡ false) × ((h : Text) → IsTrue (among h hs) → IsTrue (among h old) ⊎ IsTrue (among h names))
 
 -- the numbers come behind others
 abbrev pub AddsNext : List Text → List Text → List Text → List ℕ → List ℕ → Type 0
@@ -86,7 +86,7 @@ pub record AreFound (given : Given) (options : Options) (ts : List Template) (na
   pub asked : (n : Text) → IsTrue (among n names) → Asks (sources_in ts) options.autoescape (home_at hs 0) n
   pub some : 0 < length hs
   pub once : repeated hs ≡ false
-  pub few : length hs ≤ 1024
+  pub few : length hs ≤ max_chains
   pub reached : (h : Text) → IsTrue (among h hs) → Reaches (sources_in ts) options.autoescape (home_at hs 0) h
   pub followed : AreFollowed given ts hs hs ways next
 

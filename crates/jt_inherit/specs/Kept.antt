@@ -1,4 +1,4 @@
--- The rules on the blocks and macros of the templates of a chain.
+-- What only private clauses cite: the rules on the blocks and macros of the templates of a chain.
 use Rattle.std.specs.Prelude.{◌≡◌, true, false, Bool, List, map, flat_map}
 use Rattle.std.specs.List.{list_any}
 use Rattle.jt_parse.specs.Texts.{repeated}

@@ -7,6 +7,7 @@ pub mod Found
 pub mod Includes
 pub mod Kept
 pub mod Layers
+pub mod Lines
 pub mod Names
 pub mod Needs
 pub mod Pages

@@ -13,7 +13,7 @@ IsNameByte b = (32 ≤ b) × (b ≢ 92)
 abbrev pub IsPart : Text → Type 0
 IsPart p = (p ≢ []) × (p ≢ codes ".") × (p ≢ codes "..")
 
--- 1 to 255 bytes; the parts between `/` name no directory above, and none twice
+-- 1 to 255 bytes; no part between `/` is empty, `.` or `..`
 pub record IsName (x : Text) : Type 0 where
   pub some : 1 ≤ length x
   pub short : length x ≤ 255

@@ -4,6 +4,7 @@ use Rattle.std.specs.Prelude.{◌≡◌, ◌≢◌, ◌<◌, false, IsTrue, List
 use Rattle.std.specs.List.{AllByRecursion}
 use Rattle.jt_scan.specs.Cut.{Segment, IsCut}
 use Rattle.jt_scan.specs.Refused as scanner
+use Rattle.jt_scan.specs.SourceView.{max_source_len}
 use Rattle.jt_scan.specs.declared.error.ScanError.{ScanError}
 use Rattle.jt_scan.specs.declared.error.ScanError.TheVariants as scan_error
 use Rattle.jt_scan.specs.declared.options.Options.{Options}
@@ -20,9 +21,9 @@ use Rattle.jt_inherit.specs.Rules.{Somewhere, asked}
 use Rattle.jt_inherit.specs.declared.error.ChainError.{ChainError}
 use Rattle.jt_inherit.specs.declared.error.ChainError.TheVariants as error
 
--- the source, as it is given, is too long, or it has the fault
+-- the source, as it is given, is too long, of which line 1 is told, or it has the fault
 abbrev pub IsUncut : ScanError → Options → Text → Type 0
-IsUncut scan_error.SourceTooLong options source = 1048576 < length source
+IsUncut (scan_error.SourceTooLong n) options source = (n ≡ 1) × (max_source_len < length source)
 IsUncut scan_error.NoMemory options source = ⊥
 IsUncut e options source = scanner.IsRefusal e (scanned options source)
 

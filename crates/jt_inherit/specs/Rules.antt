@@ -9,6 +9,10 @@ use Rattle.jt_parse.specs.Texts.{among, repeated}
 use Rattle.jt_inherit.specs.Includes.{included, needs_in}
 use Rattle.jt_inherit.specs.Supers.{calls_super}
 
+-- the greatest number of chains that an entry reaches, its own among them
+abbrev pub max_chains : ℕ
+max_chains = 1024
+
 abbrev pub is_required : List BlockBody → Bool
 is_required [] = false
 is_required (b ∷ bs) = b.required
@@ -68,7 +72,7 @@ module _ (sources : Sources) (escaping : Bool) where
   abbrev pub ChainTooLong : Home → Type 0
   ChainTooLong entry =
       Somewhere entry (λ h. IsTrue ((length (way h) == 17) && not (repeated (way h))))
-      ⊎ ((hs : List Home) × (1024 < length hs) × IsTrue (not (repeated hs)) × ((h : Home) → IsTrue (among h hs) → Reaches entry h))
+      ⊎ ((hs : List Home) × (max_chains < length hs) × IsTrue (not (repeated hs)) × ((h : Home) → IsTrue (among h hs) → Reaches entry h))
 
   -- C5: one block name twice in a template
   abbrev pub DoubleBlock : Home → Type 0

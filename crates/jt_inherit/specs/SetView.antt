@@ -1,4 +1,4 @@
--- What contracts see of sets of texts.
+-- What only private clauses cite: what contracts see of sets of texts.
 use Rattle.std.specs.Prelude.{List, map, string_bytes}
 use Rattle.std.specs.declared.string.String.{String}
 use Rattle.std.specs.declared.alloc.Global.{Global}

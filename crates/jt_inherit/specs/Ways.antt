@@ -1,4 +1,4 @@
--- Ways: how templates lead from one name to another.
+-- What only private clauses cite: ways: how templates lead from one name to another.
 use Rattle.std.specs.Prelude.{◌≡◌, ℕ, ◌≤◌, false, List, [], ◌∷◌, Option, Some, None, length, map}
 use Rattle.std.specs.List.{AllByRecursion}
 use Rattle.jt_parse.specs.Bytes.{body_bytes}

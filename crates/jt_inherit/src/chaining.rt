@@ -39,19 +39,27 @@ pub fn chain<L: Library>(
     options: Options,
 ) -> Result<Chain, ChainError>
     // every source is read, and no rule of chains is broken
-    ensures chained { IfOk result (λ c. IsChain (L.sources library.now) entry.now options (chain_view c)) }
-    // the entry has no other chain, but for the order of templates and chains; where it has one, only memory can want
-    ensures only { (d : Seen) → IsChain (L.sources library.now) entry.now options d →
-        MatchResult result (λ c. (n : Text) → sources_of (chain_view c) n ≡ sources_of d n) (λ e. e ≡ ChainError.NoMemory) }
+    ensures chained { IfOk result
+        (λ c. IsChain (L.sources library.now) entry.now options (chain_view c)) }
+    // the entry has no other chain, but for the order of templates and chains; where it has one,
+    // only memory can want
+    ensures only { (d : Seen)
+        → IsChain (L.sources library.now) entry.now options d
+        → MatchResult result (λ c. (n : Text) → sources_of (chain_view c) n ≡ sources_of d n)
+        (λ e. e ≡ ChainError.NoMemory) }
     // the rule that is named is broken
     ensures refused { IfErr result (λ e. Breaks e (L.sources library.now) entry.now options) }
     // the trees weigh no more than their sources have bytes, each counted once for each chain
-    ensures weighs { IfOk result (λ c. chains_weight (sources_of (chain_view c)) (chain_view c).order ≤
-        chains_len (L.sources library.now) (sources_of (chain_view c)) (chain_view c).order) }
+    ensures weighs { IfOk result (λ c. chains_weight (sources_of (chain_view c))
+        (chain_view c).order
+        ≤ chains_len (L.sources library.now) (sources_of (chain_view c)) (chain_view c).order) }
     // names and texts of a tree are no longer than its source
-    ensures short { IfOk result (λ c. AllByRecursion (λ t. body_bytes t.body ≤ source_len (L.sources library.now t.name)) (chain_view c).templates) }
+    ensures short { IfOk result (λ c. AllByRecursion
+        (λ t. body_bytes t.body ≤ source_len (L.sources library.now t.name))
+        (chain_view c).templates) }
     // chains are few for the weight of their trees: each but the entry's has its own tag
-    ensures few { IfOk result (λ c. 7 * length (chain_view c).order ≤ chains_weight (sources_of (chain_view c)) (chain_view c).order + 7) }
+    ensures few { IfOk result (λ c. 7 * length (chain_view c).order
+        ≤ chains_weight (sources_of (chain_view c)) (chain_view c).order + 7) }
 {
     let found = discover(alloc, entry, library, options)?;
     check_chains(alloc, &found, options.autoescape)?;
@@ -66,9 +74,13 @@ pub fn chain<L: Library>(
 
 /// Refuses the chains where the blocks or macros of one break a rule.
 fn check_chains(alloc: Global, found: &Found, escaping: bool) -> Result<(), ChainError>
-    requires { AllByRecursion (ArePlaces (found_templates found.now)) (graph_of found.now.ways.items) }
-    ensures kept { OnOk result (AllByRecursion (λ way. KeepAll escaping (templates_at (found_templates found.now) way)) (graph_of found.now.ways.items)) }
-    ensures broken { IfErr result (λ e. BreaksAt escaping (found_templates found.now) (graph_of found.now.ways.items) e) }
+    requires { AllByRecursion (ArePlaces (found_templates found.now))
+        (graph_of found.now.ways.items) }
+    ensures kept { OnOk result (AllByRecursion
+        (λ way. KeepAll escaping (templates_at (found_templates found.now) way))
+        (graph_of found.now.ways.items)) }
+    ensures broken { IfErr result
+        (λ e. BreaksAt escaping (found_templates found.now) (graph_of found.now.ways.items) e) }
 {
     for way in &found.ways {
         check_rules(alloc, &found.pages, way, escaping)?;
@@ -80,7 +92,8 @@ fn check_chains(alloc: Global, found: &Found, escaping: bool) -> Result<(), Chai
 fn homes_in(alloc: Global, found: &Found, order: &[usize]) -> Result<Vec<Home>, AllocError>
     requires all { length found.now.ways.items ≡ length (found_homes found.now) }
     requires within { AllByRecursion (λ i. i < length found.now.ways.items) order.now }
-    ensures { IfOk result (λ homes. HasHomes (found_homes found.now) (graph_of found.now.ways.items) order.now homes.items) }
+    ensures { IfOk result (λ homes.
+        HasHomes (found_homes found.now) (graph_of found.now.ways.items) order.now homes.items) }
 {
     let mut homes = Vec::with_capacity(alloc, order.len())?;
     for number in order {
@@ -94,7 +107,8 @@ fn home_of(alloc: Global, found: &Found, number: usize) -> Result<Home, AllocErr
     requires all { length found.now.ways.items ≡ length (found_homes found.now) }
     requires within { number < length found.now.ways.items }
     ensures name { IfOk result (λ h. home_name h ≡ home_at (found_homes found.now) number) }
-    ensures templates { IfOk result (λ h. h.templates.items ≡ next_of (graph_of found.now.ways.items) number) }
+    ensures templates { IfOk result
+        (λ h. h.templates.items ≡ next_of (graph_of found.now.ways.items) number) }
 {
     Ok(Home {
         name: String::from_str(alloc, &found.homes.as_slice()[number])?,

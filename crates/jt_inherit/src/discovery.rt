@@ -56,7 +56,8 @@ fn follow<L: Library>(
     ensures found { OnOk result (IsFound (L.sources library.now) options found.new) }
     ensures one { OnOk result (length found.new.ways.items ≡ length found.old.ways.items + 1) }
     ensures root { OnOk result (root_of found.new ≡ root_of found.old) }
-    ensures refused { IfErr result (λ e. Breaks e (L.sources library.now) (root_of found.old) options) }
+    ensures refused { IfErr result
+        (λ e. Breaks e (L.sources library.now) (root_of found.old) options) }
 {
     let homes = found.homes.as_slice();
     let home = &homes[found.ways.len()];

@@ -1,5 +1,8 @@
 //! Why there is no chain.
 
+ghost use Rattle.std.specs.Prelude.{◌≡◌};
+ghost use Rattle.jt_inherit.specs.Lines as lines;
+
 use jt_order::OrderError;
 use jt_parse::ParseError;
 use jt_scan::ScanError;
@@ -48,7 +51,9 @@ pub enum ChainError {
 }
 
 /// The line that a refusal of the scanner names, or 1.
-fn scan_line(refusal: &ScanError) -> u32 {
+fn scan_line(refusal: &ScanError) -> u32
+    ensures { result ≡ lines.scan_line refusal.now }
+{
     match refusal {
         ScanError::UnclosedTag { line } => *line,
         ScanError::UnclosedText { line } => *line,
@@ -56,12 +61,15 @@ fn scan_line(refusal: &ScanError) -> u32 {
         ScanError::BadEscape { line } => *line,
         ScanError::NumberTooLarge { line } => *line,
         ScanError::UnclosedRaw { line } => *line,
-        ScanError::SourceTooLong | ScanError::NoMemory => 1,
+        ScanError::SourceTooLong { line } => *line,
+        ScanError::NoMemory => 1,
     }
 }
 
 /// The line that a refusal of the parser names, or 1.
-fn parse_line(refusal: &ParseError) -> u32 {
+fn parse_line(refusal: &ParseError) -> u32
+    ensures { result ≡ lines.parse_line refusal.now }
+{
     match refusal {
         ParseError::Syntax { line } => *line,
         ParseError::TooDeep { line } => *line,

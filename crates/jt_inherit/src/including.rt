@@ -33,7 +33,8 @@ fn includes_at<'a>(
     places: &[usize],
 ) -> Result<Vec<Include<'a>>, AllocError>
     requires { ArePlaces (pages_view pages.now) places.now }
-    ensures { IfOk result (λ found. needs_view found.items ≡ includes_along (pages_view pages.now) places.now) }
+    ensures { IfOk result
+        (λ found. needs_view found.items ≡ includes_along (pages_view pages.now) places.now) }
 {
     let mut found = Vec::new(alloc);
     for place in places {
@@ -52,12 +53,20 @@ fn read_include<L: Library>(
     library: &L,
     options: Options,
 ) -> Result<(), ChainError>
-    ensures known { OnOk result ((ts : List Template) → AreKnown (L.sources library.now) options (ts ++ pages_view fresh.old.items) (strings names.old.keys) →
-        AreKnown (L.sources library.now) options (ts ++ pages_view fresh.new.items) (strings names.new.keys)) }
-    ensures grown { OnOk result ((more : List Text) × (strings names.new.keys ≡ strings names.old.keys ++ more)) }
-    ensures from { OnOk result ((n : Text) → IsTrue (among n (strings names.new.keys)) → IsTrue (among n (strings names.old.keys)) ⊎ (n ≡ include.entry.name.now)) }
-    ensures met { OnOk result (IsMet (L.sources library.now) (strings names.new.keys) (need_view include.entry)) }
-    ensures refused { IfErr result (λ e. IsFaultAt (L.sources library.now) options (need_view include.entry) e) }
+    ensures known { OnOk result ((ts : List Template)
+        → AreKnown (L.sources library.now) options (ts ++ pages_view fresh.old.items)
+        (strings names.old.keys)
+        → AreKnown (L.sources library.now) options (ts ++ pages_view fresh.new.items)
+        (strings names.new.keys)) }
+    ensures grown { OnOk result
+        ((more : List Text) × (strings names.new.keys ≡ strings names.old.keys ++ more)) }
+    ensures from { OnOk result ((n : Text)
+        → IsTrue (among n (strings names.new.keys))
+        → IsTrue (among n (strings names.old.keys)) ⊎ (n ≡ include.entry.name.now)) }
+    ensures met { OnOk result
+        (IsMet (L.sources library.now) (strings names.new.keys) (need_view include.entry)) }
+    ensures refused { IfErr result
+        (λ e. IsFaultAt (L.sources library.now) options (need_view include.entry) e) }
 {
     if let Some(_place) = find(names, include.name) {
         return Ok(());
@@ -81,14 +90,22 @@ pub(crate) fn read_includes<L: Library>(
     library: &L,
     options: Options,
 ) -> Result<Vec<Page>, ChainError>
-    requires known { AreKnown (L.sources library.now) options (pages_view pages.now) (strings names.old.keys) }
+    requires known { AreKnown (L.sources library.now) options (pages_view pages.now)
+        (strings names.old.keys) }
     requires places { ArePlaces (pages_view pages.now) way.now }
-    ensures known { IfOk result (λ fresh. AreKnown (L.sources library.now) options (pages_view pages.now ++ pages_view fresh.items) (strings names.new.keys)) }
+    ensures known { IfOk result (λ fresh. AreKnown (L.sources library.now) options
+        (pages_view pages.now ++ pages_view fresh.items) (strings names.new.keys)) }
     // what is new is included
-    ensures from { OnOk result ((n : Text) → IsTrue (among n (strings names.new.keys)) → IsTrue (among n (strings names.old.keys)) ⊎
-        IsTrue (among n (needed true (includes_along (pages_view pages.now) way.now)))) }
-    ensures met { OnOk result (AllByRecursion (IsMet (L.sources library.now) (strings names.new.keys)) (includes_along (pages_view pages.now) way.now)) }
-    ensures refused { IfErr result (λ e. (e ≡ ChainError.NoMemory) ⊎ IsNeedFault (L.sources library.now) options (includes_along (pages_view pages.now) way.now) e) }
+    ensures from { OnOk result ((n : Text)
+        → IsTrue (among n (strings names.new.keys))
+        → IsTrue (among n (strings names.old.keys))
+        ⊎ IsTrue (among n (needed true (includes_along (pages_view pages.now) way.now)))) }
+    ensures met { OnOk result (AllByRecursion
+        (IsMet (L.sources library.now) (strings names.new.keys))
+        (includes_along (pages_view pages.now) way.now)) }
+    ensures refused { IfErr result (λ e. (e ≡ ChainError.NoMemory)
+        ⊎ IsNeedFault (L.sources library.now) options
+        (includes_along (pages_view pages.now) way.now) e) }
 {
     let found = includes_at(alloc, pages, way)?;
     let mut fresh = Vec::new(alloc);
@@ -102,10 +119,16 @@ pub(crate) fn read_includes<L: Library>(
 fn number_of(alloc: Global, homes: &mut IndexSet<String>, name: &str) -> Result<usize, ChainError>
     requires { length (strings homes.old.keys) ≤ MAX_CHAINS }
     ensures number { IfOk result (λ i. slice_get (strings homes.new.keys) i ≡ Some name.now) }
-    ensures put { OnOk result (strings homes.new.keys ≡ (if among name.now (strings homes.old.keys) then strings homes.old.keys else strings homes.old.keys ++ name.now ∷ [])) }
+    ensures put { OnOk result (strings homes.new.keys
+        ≡ (if among name.now (strings homes.old.keys) then strings homes.old.keys else strings
+        homes.old.keys
+        ++ name.now
+        ∷ [])) }
     ensures few { OnOk result (length (strings homes.new.keys) ≤ MAX_CHAINS) }
-    ensures refused { IfErr result (λ e. (e ≡ ChainError.NoMemory) ⊎
-        ((e ≡ ChainError.ChainTooLong) × (length (strings homes.old.keys) ≡ MAX_CHAINS) × (among name.now (strings homes.old.keys) ≡ false))) }
+    ensures refused { IfErr result (λ e. (e ≡ ChainError.NoMemory)
+        ⊎ ((e ≡ ChainError.ChainTooLong)
+        × (length (strings homes.old.keys) ≡ MAX_CHAINS)
+        × (among name.now (strings homes.old.keys) ≡ false))) }
 {
     if let Some(number) = find(homes, name) {
         return Ok(number);
@@ -128,8 +151,10 @@ fn add_number(
 ) -> Result<(), ChainError>
     requires once { repeated (strings homes.old.keys) ≡ false }
     requires few { length (strings homes.old.keys) ≤ MAX_CHAINS }
-    ensures next { OnOk result (AddsNext (strings homes.old.keys) (strings homes.new.keys) (known_of (strings names.now.keys) (name.now ∷ [])) numbers.old.items numbers.new.items) }
-    ensures refused { IfErr result (λ e. IsNextFault (strings homes.old.keys) (known_of (strings names.now.keys) (name.now ∷ [])) e) }
+    ensures next { OnOk result (AddsNext (strings homes.old.keys) (strings homes.new.keys)
+        (known_of (strings names.now.keys) (name.now ∷ [])) numbers.old.items numbers.new.items) }
+    ensures refused { IfErr result (λ e. IsNextFault (strings homes.old.keys)
+        (known_of (strings names.now.keys) (name.now ∷ [])) e) }
 {
     let Some(_place) = find(names, name) else {
         return Ok(());
@@ -152,8 +177,10 @@ pub(crate) fn next_chains(
     requires once { repeated (strings homes.old.keys) ≡ false }
     requires few { length (strings homes.old.keys) ≤ MAX_CHAINS }
     ensures next { IfOk result (λ numbers. AreNext (strings homes.old.keys) (strings homes.new.keys)
-        (chosen (strings names.now.keys) (includes_along (pages_view pages.now) way.now)) numbers.items) }
-    ensures refused { IfErr result (λ e. IsNextFault (strings homes.old.keys) (chosen (strings names.now.keys) (includes_along (pages_view pages.now) way.now)) e) }
+        (chosen (strings names.now.keys) (includes_along (pages_view pages.now) way.now))
+        numbers.items) }
+    ensures refused { IfErr result (λ e. IsNextFault (strings homes.old.keys)
+        (chosen (strings names.now.keys) (includes_along (pages_view pages.now) way.now)) e) }
 {
     let found = includes_at(alloc, pages, way)?;
     let mut numbers = Vec::new(alloc);

@@ -26,7 +26,8 @@ fn layers_at<'a>(
     places: &[usize],
 ) -> Result<Vec<Layer<'a>>, AllocError>
     requires { ArePlaces (pages_view pages.now) places.now }
-    ensures { IfOk result (λ ls. map (layer_view (pages_view pages.now)) ls.items ≡ layers_along (pages_view pages.now) places.now) }
+    ensures { IfOk result (λ ls. map (layer_view (pages_view pages.now)) ls.items
+        ≡ layers_along (pages_view pages.now) places.now) }
 {
     let mut found = Vec::with_capacity(alloc, places.len())?;
     for place in places {
@@ -42,8 +43,9 @@ impl Chain {
     /// The templates of a chain, from the entry's to the root.
     pub fn layers(&self, alloc: Global, home: usize) -> Result<Vec<Layer<'_>>, AllocError>
         requires { home < length self.now.homes.items }
-        ensures { IfOk result (λ ls. map (layer_view (chain_view self.now).templates) ls.items ≡
-            templates (sources_of (chain_view self.now)) (home_at (chain_view self.now).order home)) }
+        ensures { IfOk result (λ ls. map (layer_view (chain_view self.now).templates) ls.items
+            ≡ templates (sources_of (chain_view self.now))
+            (home_at (chain_view self.now).order home)) }
     {
         layers_at(alloc, &self.templates, &self.homes[home].templates)
     }

@@ -34,6 +34,9 @@ pub struct Chain {
     pub autoescape: bool,
     pub ghost once: { repeated (map (λ t. t.name) (pages_view templates.items)) ≡ false },
     pub ghost some: { 0 < length homes.items },
-    pub ghost order: { InOrder (sources_in (pages_view templates.items)) (map home_name homes.items) } by { InOrder-prop (sources_in (pages_view templates.items)) (map home_name homes.items) },
-    pub ghost whole: { AreWhole (pages_view templates.items) homes.items } by { AreWhole-prop (pages_view templates.items) homes.items },
+    pub ghost order: { InOrder (sources_in (pages_view templates.items))
+        (map home_name homes.items) } by { InOrder-prop (sources_in (pages_view templates.items))
+            (map home_name homes.items) },
+    pub ghost whole: { AreWhole (pages_view templates.items)
+        homes.items } by { AreWhole-prop (pages_view templates.items) homes.items },
 }

@@ -56,8 +56,9 @@ fn add_macros<'a>(
     body: &'a [Stmt],
     found: &mut Vec<Macro<'a>>,
 ) -> Result<(), AllocError>
-    ensures { IfOk result (λ _. macros_view (pages_view pages.now) found.new.items ≡
-        macros_view (pages_view pages.now) found.old.items ++ macros_in (name_at (pages_view pages.now) template) (body_view body.now)) }
+    ensures { IfOk result (λ _. macros_view (pages_view pages.now) found.new.items
+        ≡ macros_view (pages_view pages.now) found.old.items
+        ++ macros_in (name_at (pages_view pages.now) template) (body_view body.now)) }
 {
     for statement in body {
         if let Stmt::Macro(_, name, parameters, body) = statement {
@@ -79,8 +80,10 @@ fn add_blocks<'a>(
     body: &'a [Stmt],
     found: &mut Vec<Block<'a>>,
 ) -> Result<(), AllocError>
-    ensures { IfOk result (λ _. blocks_view (pages_view spot.entry.pages.now) found.new.items ≡
-        blocks_view (pages_view spot.entry.pages.now) found.old.items ++ blocks_in (name_at (pages_view spot.entry.pages.now) spot.entry.template) (body_view body.now) spot.entry.escaping) }
+    ensures { IfOk result (λ _. blocks_view (pages_view spot.entry.pages.now) found.new.items
+        ≡ blocks_view (pages_view spot.entry.pages.now) found.old.items
+        ++ blocks_in (name_at (pages_view spot.entry.pages.now) spot.entry.template)
+        (body_view body.now) spot.entry.escaping) }
 {
     for statement in body {
         add_statement(spot, statement, found)?;
@@ -95,8 +98,10 @@ fn add_statement<'a>(
     statement: &'a Stmt,
     found: &mut Vec<Block<'a>>,
 ) -> Result<(), AllocError>
-    ensures { IfOk result (λ _. blocks_view (pages_view spot.entry.pages.now) found.new.items ≡
-        blocks_view (pages_view spot.entry.pages.now) found.old.items ++ blocks_of (name_at (pages_view spot.entry.pages.now) spot.entry.template) (stmt_view statement.now) spot.entry.escaping) }
+    ensures { IfOk result (λ _. blocks_view (pages_view spot.entry.pages.now) found.new.items
+        ≡ blocks_view (pages_view spot.entry.pages.now) found.old.items
+        ++ blocks_of (name_at (pages_view spot.entry.pages.now) spot.entry.template)
+        (stmt_view statement.now) spot.entry.escaping) }
 {
     match statement {
         Stmt::Data(_)
@@ -143,7 +148,8 @@ pub(crate) fn macros_at<'a>(
     places: &[usize],
 ) -> Result<Vec<Macro<'a>>, AllocError>
     requires { ArePlaces (pages_view pages.now) places.now }
-    ensures { IfOk result (λ ms. macros_view (pages_view pages.now) ms.items ≡ macros_along (pages_view pages.now) places.now) }
+    ensures { IfOk result (λ ms. macros_view (pages_view pages.now) ms.items
+        ≡ macros_along (pages_view pages.now) places.now) }
 {
     let mut found = Vec::new(alloc);
     for place in places {
@@ -160,8 +166,9 @@ pub(crate) fn blocks_of_page<'a>(
     escaping: bool,
 ) -> Result<Vec<Block<'a>>, AllocError>
     requires { place < length pages.now }
-    ensures { IfOk result (λ bs. blocks_view (pages_view pages.now) bs.items ≡
-        blocks_in (name_at (pages_view pages.now) place) (body_at (pages_view pages.now) place) escaping) }
+    ensures { IfOk result (λ bs. blocks_view (pages_view pages.now) bs.items
+        ≡ blocks_in (name_at (pages_view pages.now) place) (body_at (pages_view pages.now) place)
+        escaping) }
 {
     let mut found = Vec::new(alloc);
     let spot = Spot {
@@ -181,7 +188,8 @@ pub(crate) fn blocks_at<'a>(
     escaping: bool,
 ) -> Result<Vec<Block<'a>>, AllocError>
     requires { ArePlaces (pages_view pages.now) places.now }
-    ensures { IfOk result (λ bs. blocks_view (pages_view pages.now) bs.items ≡ blocks_along (pages_view pages.now) escaping places.now) }
+    ensures { IfOk result (λ bs. blocks_view (pages_view pages.now) bs.items
+        ≡ blocks_along (pages_view pages.now) escaping places.now) }
 {
     let mut found = Vec::new(alloc);
     for place in places {
@@ -208,8 +216,9 @@ impl Chain {
     /// The bodies of all blocks of a chain, those of the entry's template first.
     pub fn blocks(&self, alloc: Global, home: usize) -> Result<Vec<Block<'_>>, AllocError>
         requires { home < length self.now.homes.items }
-        ensures { IfOk result (λ bs. map (block_view (chain_view self.now).templates) bs.items ≡
-            all_bodies (sources_of (chain_view self.now)) self.now.autoescape (home_at (chain_view self.now).order home)) }
+        ensures { IfOk result (λ bs. map (block_view (chain_view self.now).templates) bs.items
+            ≡ all_bodies (sources_of (chain_view self.now)) self.now.autoescape
+            (home_at (chain_view self.now).order home)) }
     {
         blocks_at(
             alloc,

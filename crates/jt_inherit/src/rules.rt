@@ -22,7 +22,8 @@ use std::alloc::{AllocError, Global};
 /// Adds a name; whether it was there before.
 fn note<'a>(names: &mut IndexSet<&'a str>, name: &'a str) -> Result<bool, AllocError>
     ensures known { IfOk result (λ known. known ≡ among name.now (texts names.old.keys)) }
-    ensures noted { IfOk result (λ known. texts names.new.keys ≡ (if known then texts names.old.keys else texts names.old.keys ++ name.now ∷ [])) }
+    ensures noted { IfOk result (λ known. texts names.new.keys
+        ≡ (if known then texts names.old.keys else texts names.old.keys ++ name.now ∷ [])) }
 {
     let added = names.insert(name)?;
     Ok(!added)
@@ -63,7 +64,10 @@ fn is_lacking(there: bool, asked: bool) -> bool
 
 /// Adds the name of a body to go on with.
 fn note_given<'a>(given: &mut IndexSet<&'a str>, block: &Block<'a>) -> Result<(), AllocError>
-    ensures { IfOk result (λ _. (x : Text) → among x (texts given.new.keys) ≡ ((bytes_eq block.now.name.now x && not block.now.required) || among x (texts given.old.keys))) }
+    ensures { IfOk result (λ _. (x : Text)
+        → among x (texts given.new.keys)
+        ≡ ((bytes_eq block.now.name.now x && not block.now.required)
+        || among x (texts given.old.keys))) }
 {
     if !block.required {
         note(given, block.name)?;
@@ -73,7 +77,8 @@ fn note_given<'a>(given: &mut IndexSet<&'a str>, block: &Block<'a>) -> Result<()
 
 /// Whether the nearest body of a block is a required one.
 pub(crate) fn any_lacks_body(alloc: Global, blocks: &[Block<'_>]) -> Result<bool, AllocError>
-    ensures { IfOk result (λ found. (ts : List Template) → found ≡ lacks_body (blocks_view ts blocks.now)) }
+    ensures { IfOk result
+        (λ found. (ts : List Template) → found ≡ lacks_body (blocks_view ts blocks.now)) }
 {
     let mut names = IndexSet::new(alloc);
     for block in blocks {
@@ -88,7 +93,8 @@ pub(crate) fn any_lacks_body(alloc: Global, blocks: &[Block<'_>]) -> Result<bool
 /// Whether a body calls `super()` with none behind it to go on with. The bodies are taken from the
 /// last one on.
 pub(crate) fn any_lacks_next(alloc: Global, mut bodies: Vec<Block<'_>>) -> Result<bool, AllocError>
-    ensures { IfOk result (λ found. (ts : List Template) → found ≡ lacks_next (blocks_view ts bodies.entry.items)) }
+    ensures { IfOk result
+        (λ found. (ts : List Template) → found ≡ lacks_next (blocks_view ts bodies.entry.items)) }
 {
     let mut given: IndexSet<&str> = IndexSet::new(alloc);
     while let Some(block) = bodies.pop() {
@@ -108,7 +114,8 @@ fn any_double(
     escaping: bool,
 ) -> Result<bool, AllocError>
     requires { ArePlaces (pages_view pages.now) places.now }
-    ensures { IfOk result (λ found. found ≡ spec.any_double escaping (templates_at (pages_view pages.now) places.now)) }
+    ensures { IfOk result (λ found.
+        found ≡ spec.any_double escaping (templates_at (pages_view pages.now) places.now)) }
 {
     for place in places {
         let blocks = blocks_of_page(alloc, pages, *place, escaping)?;
@@ -127,8 +134,10 @@ pub(crate) fn check_rules(
     escaping: bool,
 ) -> Result<(), ChainError>
     requires { ArePlaces (pages_view pages.now) places.now }
-    ensures kept { OnOk result (spec.KeepAll escaping (templates_at (pages_view pages.now) places.now)) }
-    ensures broken { IfErr result (spec.BreakOne escaping (templates_at (pages_view pages.now) places.now)) }
+    ensures kept { OnOk result
+        (spec.KeepAll escaping (templates_at (pages_view pages.now) places.now)) }
+    ensures broken { IfErr result
+        (spec.BreakOne escaping (templates_at (pages_view pages.now) places.now)) }
 {
     if any_double(alloc, pages, places, escaping)? {
         return Err(ChainError::DoubleBlock);

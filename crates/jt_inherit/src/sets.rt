@@ -9,7 +9,8 @@ use std::alloc::{AllocError, Global};
 
 /// The place of a name.
 pub(crate) fn find(names: &IndexSet<String>, name: &str) -> Option<usize>
-    ensures { MatchOption result (among name.now (strings names.now.keys) ≡ false) (λ i. slice_get (strings names.now.keys) i ≡ Some name.now) }
+    ensures { MatchOption result (among name.now (strings names.now.keys) ≡ false)
+        (λ i. slice_get (strings names.now.keys) i ≡ Some name.now) }
 {
     names.get_index_of(name)
 }

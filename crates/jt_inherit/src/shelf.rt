@@ -27,7 +27,8 @@ pub(crate) fn add_page(
 ) -> Result<(), AllocError>
     requires { among (string_bytes page.name) (strings names.old.keys) ≡ false }
     ensures pages { OnOk result (pages.new.items ≡ pages.old.items ++ page ∷ []) }
-    ensures names { OnOk result (strings names.new.keys ≡ strings names.old.keys ++ string_bytes page.name ∷ []) }
+    ensures names { OnOk result
+        (strings names.new.keys ≡ strings names.old.keys ++ string_bytes page.name ∷ []) }
 {
     put(alloc, names, &page.name)?;
     pages.push(page)?;
@@ -43,11 +44,17 @@ pub(crate) fn read_place<L: Library>(
     library: &L,
     options: Options,
 ) -> Result<usize, ChainError>
-    requires { AreKnown (L.sources library.now) options (pages_view pages.old.items) (strings names.old.keys) }
-    ensures known { OnOk result (AreKnown (L.sources library.now) options (pages_view pages.new.items) (strings names.new.keys)) }
-    ensures grown { OnOk result ((more : List Template) × (pages_view pages.new.items ≡ pages_view pages.old.items ++ more)) }
-    ensures from { OnOk result ((n : Text) → IsTrue (among n (strings names.new.keys)) → IsTrue (among n (strings names.old.keys)) ⊎ (n ≡ name.now)) }
-    ensures place { IfOk result (λ i. slice_get (map (λ t. t.name) (pages_view pages.new.items)) i ≡ Some name.now) }
+    requires { AreKnown (L.sources library.now) options (pages_view pages.old.items)
+        (strings names.old.keys) }
+    ensures known { OnOk result (AreKnown (L.sources library.now) options
+        (pages_view pages.new.items) (strings names.new.keys)) }
+    ensures grown { OnOk result ((more : List Template)
+        × (pages_view pages.new.items ≡ pages_view pages.old.items ++ more)) }
+    ensures from { OnOk result ((n : Text)
+        → IsTrue (among n (strings names.new.keys))
+        → IsTrue (among n (strings names.old.keys)) ⊎ (n ≡ name.now)) }
+    ensures place { IfOk result
+        (λ i. slice_get (map (λ t. t.name) (pages_view pages.new.items)) i ≡ Some name.now) }
     ensures refused { IfErr result (λ e. IsFaultOf e (L.sources library.now) name.now options) }
 {
     if let Some(place) = find(names, name) {

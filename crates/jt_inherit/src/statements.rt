@@ -34,7 +34,8 @@ pub(crate) fn add_includes<'a>(
     found: &mut Vec<Include<'a>>,
     body: &'a [Stmt],
 ) -> Result<(), AllocError>
-    ensures { IfOk result (λ _. needs_view found.new.items ≡ needs_view found.old.items ++ includes_in (body_view body.now)) }
+    ensures { IfOk result (λ _. needs_view found.new.items
+        ≡ needs_view found.old.items ++ includes_in (body_view body.now)) }
 {
     for statement in body {
         add_statement(found, statement)?;
@@ -45,7 +46,8 @@ pub(crate) fn add_includes<'a>(
 /// Adds those of one statement.
 #[cycle(includes)]
 fn add_statement<'a>(found: &mut Vec<Include<'a>>, statement: &'a Stmt) -> Result<(), AllocError>
-    ensures { IfOk result (λ _. needs_view found.new.items ≡ needs_view found.old.items ++ includes_of (stmt_view statement.now)) }
+    ensures { IfOk result (λ _. needs_view found.new.items
+        ≡ needs_view found.old.items ++ includes_of (stmt_view statement.now)) }
 {
     match statement {
         Stmt::Data(_) | Stmt::Print(_, _) | Stmt::Set(_, _, _) | Stmt::Extends(_, _) => Ok(()),

@@ -27,7 +27,8 @@ const MAX_TEMPLATES: usize = 16;
 /// Whether one of the templates at these places has the name.
 fn is_on_way(pages: &[Page], way: &[usize], name: &str) -> bool
     requires { ArePlaces (pages_view pages.now) way.now }
-    ensures { result ≡ among name.now (map (λ t. t.name) (templates_at (pages_view pages.now) way.now)) }
+    ensures { result
+        ≡ among name.now (map (λ t. t.name) (templates_at (pages_view pages.now) way.now)) }
 {
     for place in way {
         if pages[*place].name.as_str() == name {
@@ -39,7 +40,8 @@ fn is_on_way(pages: &[Page], way: &[usize], name: &str) -> bool
 
 /// The name of the template that a template extends.
 fn parent_name(alloc: Global, page: &Page) -> Result<Option<String>, AllocError>
-    ensures { IfOk result (λ o. option_map string_bytes o ≡ extends_of (body_of page.now.template)) }
+    ensures { IfOk result
+        (λ o. option_map string_bytes o ≡ extends_of (body_of page.now.template)) }
 {
     match parent_of(page.template.body()) {
         Some(name) => Ok(Some(String::from_str(alloc, name)?)),
@@ -56,16 +58,23 @@ pub(crate) fn read_way<L: Library>(
     library: &L,
     options: Options,
 ) -> Result<Vec<usize>, ChainError>
-    requires { AreKnown (L.sources library.now) options (pages_view pages.old.items) (strings names.old.keys) }
-    ensures known { OnOk result (AreKnown (L.sources library.now) options (pages_view pages.new.items) (strings names.new.keys)) }
-    ensures grown { OnOk result ((more : List Template) × (pages_view pages.new.items ≡ pages_view pages.old.items ++ more)) }
+    requires { AreKnown (L.sources library.now) options (pages_view pages.old.items)
+        (strings names.old.keys) }
+    ensures known { OnOk result (AreKnown (L.sources library.now) options
+        (pages_view pages.new.items) (strings names.new.keys)) }
+    ensures grown { OnOk result ((more : List Template)
+        × (pages_view pages.new.items ≡ pages_view pages.old.items ++ more)) }
     // what is new was on the way
-    ensures from { IfOk result (λ is. (n : Text) → IsTrue (among n (strings names.new.keys)) → IsTrue (among n (strings names.old.keys)) ⊎
-        IsTrue (among n (map (λ t. t.name) (templates_at (pages_view pages.new.items) is.items)))) }
+    ensures from { IfOk result (λ is. (n : Text)
+        → IsTrue (among n (strings names.new.keys))
+        → IsTrue (among n (strings names.old.keys))
+        ⊎ IsTrue
+        (among n (map (λ t. t.name) (templates_at (pages_view pages.new.items) is.items)))) }
     ensures way { IfOk result (λ is. IsWay (pages_view pages.new.items) entry.now is.items None) }
     // of any chain from which this one is reached
-    ensures refused { IfErr result (λ e. (root : Text) → Reaches (sources_in (pages_view pages.old.items)) options.autoescape root entry.now →
-        Breaks e (L.sources library.now) root options) }
+    ensures refused { IfErr result (λ e. (root : Text)
+        → Reaches (sources_in (pages_view pages.old.items)) options.autoescape root entry.now
+        → Breaks e (L.sources library.now) root options) }
 {
     let mut way = Vec::new(alloc);
     let mut name = String::from_str(alloc, entry)?;

@@ -1,4 +1,4 @@
--- What is in front of a chain.
+-- What only private clauses cite: what is in front of a chain.
 use Rattle.std.specs.Prelude.{◌≡◌, ℕ, ◌+◌, true, List, length, flat_map}
 use Rattle.jt_parse.specs.Texts.{among}
 use Rattle.jt_parse.specs.Trees.{Text}

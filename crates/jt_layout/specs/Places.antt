@@ -1,4 +1,4 @@
--- Places of names in lists, and the names of chains.
+-- What only private clauses cite: places of names in lists, and the names of chains.
 use Rattle.std.specs.Prelude.{ℕ, suc, ◌+◌, List, [], ◌∷◌, length, Option, Some, None, if◌then◌else◌, filter, Vec}
 use Rattle.std.specs.declared.alloc.Global.{Global}
 use Rattle.std.specs.Ordering.{nat_cmp}

@@ -27,7 +27,8 @@ use std::alloc::Global;
 
 /// For each body the next one of its block that is not required.
 fn next_bodies(alloc: Global, blocks: &[Block<'_>]) -> Result<Vec<Option<usize>>, ScopeError>
-    ensures next { IfOk result (λ ns. (ts : List Template) → ns.items ≡ nexts (counted_from 0 (map (block_view ts) blocks.now))) }
+    ensures next { IfOk result (λ ns.
+        (ts : List Template) → ns.items ≡ nexts (counted_from 0 (map (block_view ts) blocks.now))) }
     ensures refused { IfErr result (λ e. e ≡ error.NoMemory) }
 {
     let mut given = Index::new(alloc);
@@ -47,7 +48,9 @@ fn next_bodies(alloc: Global, blocks: &[Block<'_>]) -> Result<Vec<Option<usize>>
 
 /// The blocks of which a tag says `scoped`.
 fn scoped_blocks<'a>(alloc: Global, blocks: &[Block<'a>]) -> Result<Index<'a>, ScopeError>
-    ensures scoped { IfOk result (λ i. (ts : List Template) (x : Text) → is_some (place_in i.places x) ≡ list_any (λ b. b.scoped && bytes_eq b.name x) (map (block_view ts) blocks.now)) }
+    ensures scoped { IfOk result (λ i. (ts : List Template) (x : Text)
+        → is_some (place_in i.places x)
+        ≡ list_any (λ b. b.scoped && bytes_eq b.name x) (map (block_view ts) blocks.now)) }
     ensures refused { IfErr result (λ e. e ≡ error.NoMemory) }
 {
     let mut scoped = Index::new(alloc);
@@ -79,12 +82,17 @@ pub(crate) fn bodies_of<'a>(
     home: usize,
 ) -> Result<Bodies<'a>, ScopeError>
     requires { home < length chain.now.homes.items }
-    ensures all { IfOk result (λ b. map (block_view (chain_view chain.now).templates) b.all.items ≡
-        all_bodies (sources_of (chain_view chain.now)) chain.now.autoescape (home_at (chain_view chain.now).order home)) }
-    ensures firsts { IfOk result (λ b. (x : Text) → place_in b.firsts.places x ≡ first_of x 0 (map (λ k. k.name.now) b.all.items)) }
-    ensures nexts { IfOk result (λ b. b.nexts.items ≡
-        nexts (counted_from 0 (all_bodies (sources_of (chain_view chain.now)) chain.now.autoescape (home_at (chain_view chain.now).order home)))) }
-    ensures names { IfOk result (λ b. texts b.scope_names.items ≡ uses.scope_names (sources_of (chain_view chain.now)) (home_at (chain_view chain.now).order home)) }
+    ensures all { IfOk result (λ b. map (block_view (chain_view chain.now).templates) b.all.items
+        ≡ all_bodies (sources_of (chain_view chain.now)) chain.now.autoescape
+        (home_at (chain_view chain.now).order home)) }
+    ensures firsts { IfOk result (λ b. (x : Text)
+        → place_in b.firsts.places x ≡ first_of x 0 (map (λ k. k.name.now) b.all.items)) }
+    ensures nexts { IfOk result (λ b. b.nexts.items
+        ≡ nexts (counted_from 0 (all_bodies (sources_of (chain_view chain.now)) chain.now.autoescape
+        (home_at (chain_view chain.now).order home)))) }
+    ensures names { IfOk result (λ b. texts b.scope_names.items
+        ≡ uses.scope_names (sources_of (chain_view chain.now))
+        (home_at (chain_view chain.now).order home)) }
     ensures scoped { IfOk result (λ b. (x : Text) → is_some (place_in b.scoped.places x) ≡
         is_scoped (world_of (chain_view chain.now)) (home_at (chain_view chain.now).order home) x) }
     ensures refused { IfErr result (λ e. e ≡ error.NoMemory) }

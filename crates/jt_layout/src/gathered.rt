@@ -41,7 +41,10 @@ impl<'a> Gathered<'a> {
 
     /// Gives a chain its names, in the stead of earlier ones.
     fn put(&mut self, chain: &'a str, names: Vec<&'a str>) -> Result<(), ScopeError>
-        ensures put { IfOk result (λ u. (x : Text) → names_at self.new.names x ≡ (if bytes_eq chain.now x then texts names.entry.items else names_at self.old.names x)) }
+        ensures put { IfOk result (λ u. (x : Text)
+            → names_at self.new.names x
+            ≡ (if bytes_eq chain.now x then texts names.entry.items else names_at self.old.names
+            x)) }
         ensures refused { IfErr result (λ e. e ≡ error.NoMemory) }
     {
         self.names.insert(chain, names)?;
@@ -50,7 +53,8 @@ impl<'a> Gathered<'a> {
 
     /// Adds the names of a chain to others; none of one that isn't there.
     fn add_to(&self, names: &mut BTreeSet<&'a str>, chain: &str) -> Result<(), AllocError>
-        ensures { IfOk result (λ u. texts names.new.keys ≡ all_inserted (names_at self.now.names chain.now) (texts names.old.keys)) }
+        ensures { IfOk result (λ u. texts names.new.keys
+            ≡ all_inserted (names_at self.now.names chain.now) (texts names.old.keys)) }
     {
         match self.names.get(chain) {
             Some(others) => add_names(names, others),
@@ -61,7 +65,9 @@ impl<'a> Gathered<'a> {
     /// Hands out the names of a chain; none for one that isn't there.
     pub(crate) fn take(&mut self, alloc: Global, chain: &str) -> Vec<&'a str>
         ensures taken { texts result.items ≡ names_at self.old.names chain.now }
-        ensures others { (x : Text) → bytes_eq chain.now x ≡ false → names_at self.new.names x ≡ names_at self.old.names x }
+        ensures others { (x : Text)
+            → bytes_eq chain.now x ≡ false
+            → names_at self.new.names x ≡ names_at self.old.names x }
     {
         match self.names.remove(chain) {
             Some(names) => names,
@@ -72,7 +78,8 @@ impl<'a> Gathered<'a> {
 
 /// Adds names to others.
 fn add_names<'a>(names: &mut BTreeSet<&'a str>, others: &[&'a str]) -> Result<(), AllocError>
-    ensures { IfOk result (λ u. texts names.new.keys ≡ all_inserted (texts others.now) (texts names.old.keys)) }
+    ensures { IfOk result
+        (λ u. texts names.new.keys ≡ all_inserted (texts others.now) (texts names.old.keys)) }
 {
     for name in others {
         names.insert(*name)?;
@@ -89,10 +96,15 @@ fn names_of_chain<'a>(
     behind: &Gathered<'a>,
 ) -> Result<Vec<&'a str>, AllocError>
     requires stands { home < length chain.now.homes.items }
-    requires sources { (x : Text) → is_none (place_in sources.now.places x) ≡ is_none (sources_of (chain_view chain.now) x) }
-    requires behind { (x : Text) → names_at behind.now.names x ≡ names_in (world_of (chain_view chain.now)) (drop (home + 1) (chain_view chain.now).order) x }
-    ensures { IfOk result (λ ns. texts ns.items ≡
-        names_in (world_of (chain_view chain.now)) (drop home (chain_view chain.now).order) (home_at (chain_view chain.now).order home)) }
+    requires sources { (x : Text)
+        → is_none (place_in sources.now.places x) ≡ is_none (sources_of (chain_view chain.now) x) }
+    requires behind { (x : Text)
+        → names_at behind.now.names x
+        ≡ names_in (world_of (chain_view chain.now)) (drop (home + 1) (chain_view chain.now).order)
+        x }
+    ensures { IfOk result (λ ns. texts ns.items
+        ≡ names_in (world_of (chain_view chain.now)) (drop home (chain_view chain.now).order)
+        (home_at (chain_view chain.now).order home)) }
 {
     let mut names = own_names(alloc, chain, home)?;
     let included = included_names(alloc, chain, home)?;
@@ -111,8 +123,11 @@ pub(crate) fn gather<'a>(
     chain: &'a Chain,
     sources: &Index<'a>,
 ) -> Result<Gathered<'a>, ScopeError>
-    requires { (x : Text) → is_none (place_in sources.now.places x) ≡ is_none (sources_of (chain_view chain.now) x) }
-    ensures gathered { IfOk result (λ g. (x : Text) → names_at g.names x ≡ names_in (world_of (chain_view chain.now)) (chain_view chain.now).order x) }
+    requires { (x : Text)
+        → is_none (place_in sources.now.places x) ≡ is_none (sources_of (chain_view chain.now) x) }
+    ensures gathered { IfOk result (λ g. (x : Text)
+        → names_at g.names x
+        ≡ names_in (world_of (chain_view chain.now)) (chain_view chain.now).order x) }
     ensures refused { IfErr result (λ e. e ≡ error.NoMemory) }
 {
     let mut gathered = Gathered::new(alloc);

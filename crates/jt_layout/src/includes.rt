@@ -15,7 +15,8 @@ use std::alloc::{AllocError, Global};
 /// Adds the names that statements include, as often as they stand there.
 #[cycle(includes)]
 fn add_included<'a>(found: &mut Vec<&'a str>, body: &'a [Stmt]) -> Result<(), AllocError>
-    ensures { IfOk result (λ _. texts found.new.items ≡ texts found.old.items ++ needs_in true (body_view body.now)) }
+    ensures { IfOk result
+        (λ _. texts found.new.items ≡ texts found.old.items ++ needs_in true (body_view body.now)) }
 {
     for statement in body {
         add_statement(found, statement)?;
@@ -26,7 +27,8 @@ fn add_included<'a>(found: &mut Vec<&'a str>, body: &'a [Stmt]) -> Result<(), Al
 /// Adds those of one statement.
 #[cycle(includes)]
 fn add_statement<'a>(found: &mut Vec<&'a str>, statement: &'a Stmt) -> Result<(), AllocError>
-    ensures { IfOk result (λ _. texts found.new.items ≡ texts found.old.items ++ needs_by true (stmt_view statement.now)) }
+    ensures { IfOk result (λ _.
+        texts found.new.items ≡ texts found.old.items ++ needs_by true (stmt_view statement.now)) }
 {
     match statement {
         Stmt::Data(_) | Stmt::Print(_, _) | Stmt::Set(_, _, _) | Stmt::Extends(_, _) => Ok(()),
@@ -62,8 +64,9 @@ pub(crate) fn included_names(
     home: usize,
 ) -> Result<Vec<&str>, AllocError>
     requires { home < length chain.now.homes.items }
-    ensures { IfOk result (λ ns. texts ns.items ≡
-        flat_map (λ t. needs_in true t.body) (templates (sources_of (chain_view chain.now)) (home_at (chain_view chain.now).order home))) }
+    ensures { IfOk result (λ ns. texts ns.items
+        ≡ flat_map (λ t. needs_in true t.body) (templates (sources_of (chain_view chain.now))
+        (home_at (chain_view chain.now).order home))) }
 {
     let layers = chain.layers(alloc, home)?;
     let mut found = Vec::new(alloc);

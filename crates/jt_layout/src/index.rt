@@ -31,7 +31,8 @@ impl<'a> Index<'a> {
 
     /// The places of names, from one on; the first of a name counts.
     pub(crate) fn of(alloc: Global, names: &[&'a str], first: usize) -> Result<Self, ScopeError>
-        ensures placed { IfOk result (λ i. (x : Text) → place_in i.places x ≡ first_of x first (texts names.now)) }
+        ensures placed { IfOk result
+            (λ i. (x : Text) → place_in i.places x ≡ first_of x first (texts names.now)) }
         ensures refused { IfErr result (λ e. e ≡ error.NoMemory) }
     {
         let mut index = Index::new(alloc);
@@ -45,7 +46,9 @@ impl<'a> Index<'a> {
 
     /// Gives a name its place, in the stead of an earlier one.
     pub fn put(&mut self, name: &'a str, place: usize) -> Result<(), ScopeError>
-        ensures put { IfOk result (λ u. (x : Text) → place_in self.new.places x ≡ (if bytes_eq name.now x then Some place else place_in self.old.places x)) }
+        ensures put { IfOk result (λ u. (x : Text)
+            → place_in self.new.places x
+            ≡ (if bytes_eq name.now x then Some place else place_in self.old.places x)) }
         ensures refused { IfErr result (λ e. e ≡ error.NoMemory) }
     {
         self.places.insert(name, place)?;

@@ -41,10 +41,14 @@ fn lay_chain<'a>(
     front: Front,
 ) -> Result<Placed<'a>, ScopeError>
     requires stands { home < length chain.now.homes.items }
-    requires named { texts names.items ≡ layout.names (its_world chain.now) (its_order chain.now) (its_home chain.now home) }
-    requires front { Stands (its_world chain.now) (its_order chain.now) (drop home (its_order chain.now)) front }
-    ensures laid { IfOk result (λ p. IsLaid (its_world chain.now) (its_order chain.now) (chain_view chain.now).templates (its_home chain.now home) p.laid) }
-    ensures behind { IfOk result (λ p. Stands (its_world chain.now) (its_order chain.now) (drop (home + 1) (its_order chain.now)) p.behind) }
+    requires named { texts names.items
+        ≡ layout.names (its_world chain.now) (its_order chain.now) (its_home chain.now home) }
+    requires front { Stands (its_world chain.now) (its_order chain.now)
+        (drop home (its_order chain.now)) front }
+    ensures laid { IfOk result (λ p. IsLaid (its_world chain.now) (its_order chain.now)
+        (chain_view chain.now).templates (its_home chain.now home) p.laid) }
+    ensures behind { IfOk result (λ p. Stands (its_world chain.now) (its_order chain.now)
+        (drop (home + 1) (its_order chain.now)) p.behind) }
     ensures refused { IfErr result (λ e. e ≡ error.NoMemory) }
 {
     let slots = Index::of(alloc, &names, front.slot)?;
@@ -89,11 +93,16 @@ fn lay_chains<'a>(
     chain: &'a Chain,
     mut gathered: Gathered<'a>,
 ) -> Result<Tables<'a>, ScopeError>
-    requires { (x : Text) → names_at gathered.names x ≡ layout.names (its_world chain.now) (its_order chain.now) x }
-    ensures each { IfOk result (λ t. (i : ℕ) (l : Laid) → i < length t.homes.items → l ≡ get_or t.homes.items i l
-        → IsLaid (its_world chain.now) (its_order chain.now) (chain_view chain.now).templates (its_home chain.now i) l) }
+    requires { (x : Text)
+        → names_at gathered.names x ≡ layout.names (its_world chain.now) (its_order chain.now) x }
+    ensures each { IfOk result (λ t. (i : ℕ) (l : Laid)
+        → i < length t.homes.items
+        → l ≡ get_or t.homes.items i l
+        → IsLaid (its_world chain.now) (its_order chain.now) (chain_view chain.now).templates
+        (its_home chain.now i) l) }
     ensures all { IfOk result (λ t. length t.homes.items ≡ length chain.now.homes.items) }
-    ensures units { IfOk result (λ t. t.units ≡ length (layout.keys (its_world chain.now) (its_order chain.now))) }
+    ensures units { IfOk result
+        (λ t. t.units ≡ length (layout.keys (its_world chain.now) (its_order chain.now))) }
     ensures refused { IfErr result (λ e. e ≡ error.NoMemory) }
 {
     let mut homes = Vec::with_capacity(alloc, chain.homes.len())?;

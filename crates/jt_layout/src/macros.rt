@@ -27,8 +27,10 @@ pub(crate) struct Defaults {
 
 /// The places of the defaults of macros, from one on.
 fn default_places(alloc: Global, macros: &[Macro<'_>], first: usize) -> Result<Defaults, ScopeError>
-    ensures placed { IfOk result (λ d. (ts : List Template) → d.places.items ≡ defaults_from first (map (macro_view ts) macros.now)) }
-    ensures ended { IfOk result (λ d. (ts : List Template) → d.end ≡ first + length (defaults_of (map (macro_view ts) macros.now))) }
+    ensures placed { IfOk result (λ d. (ts : List Template)
+        → d.places.items ≡ defaults_from first (map (macro_view ts) macros.now)) }
+    ensures ended { IfOk result (λ d. (ts : List Template)
+        → d.end ≡ first + length (defaults_of (map (macro_view ts) macros.now))) }
     ensures refused { IfErr result (λ e. e ≡ error.NoMemory) }
 {
     let mut places = Vec::with_capacity(alloc, macros.len())?;
@@ -59,11 +61,15 @@ pub(crate) fn macros_of<'a>(
     requires { home < length chain.now.homes.items }
     ensures all { IfOk result (λ m. map (macro_view (chain_view chain.now).templates) m.all.items ≡
         macros (sources_of (chain_view chain.now)) (home_at (chain_view chain.now).order home)) }
-    ensures called { IfOk result (λ m. (x : Text) → place_in m.called.places x ≡ first_of x 0 (map (λ k. k.name.now) m.all.items)) }
-    ensures defaults { IfOk result (λ m. m.defaults.places.items ≡
-        defaults_from first (macros (sources_of (chain_view chain.now)) (home_at (chain_view chain.now).order home))) }
-    ensures ended { IfOk result (λ m. m.defaults.end ≡
-        first + length (defaults_of (macros (sources_of (chain_view chain.now)) (home_at (chain_view chain.now).order home)))) }
+    ensures called { IfOk result (λ m. (x : Text)
+        → place_in m.called.places x ≡ first_of x 0 (map (λ k. k.name.now) m.all.items)) }
+    ensures defaults { IfOk result (λ m. m.defaults.places.items
+        ≡ defaults_from first
+        (macros (sources_of (chain_view chain.now)) (home_at (chain_view chain.now).order home))) }
+    ensures ended { IfOk result (λ m. m.defaults.end
+        ≡ first
+        + length (defaults_of
+        (macros (sources_of (chain_view chain.now)) (home_at (chain_view chain.now).order home)))) }
     ensures refused { IfErr result (λ e. e ≡ error.NoMemory) }
 {
     let all = chain.macros(alloc, home)?;

@@ -133,16 +133,25 @@ IsGiven bits default None n = n ≡ default
 IsGiven bits default (Some text) n =
     IsNumber bits text × (n ≡ digits_value 10 (without_leading_plus text))
 
-abbrev pub IsBudget : List Row → Budget → Type 0
-IsBudget rows b = IsGiven 64 1000000 (one_of (codes "fuel") rows) b.fuel
-    × IsGiven 32 64 (one_of (codes "depth") rows) b.depth
-    × IsGiven 64 1048576 (one_of (codes "output") rows) b.output
-    × IsGiven 32 1048576 (one_of (codes "size") rows) b.size
-    × IsGiven 8 32 (one_of (codes "nesting") rows) b.nesting
+-- the numbers where no option is given
+abbrev pub usual_budget : Budget
+usual_budget =
+    record { fuel = 1000000; depth = 64; output = 1048576; size = 1048576; nesting = 32 }
 
--- how many instructions a turn has: 1 to 1,000,000, or 100 where the option isn't given
+abbrev pub usual_slice : ℕ
+usual_slice = 100
+
+-- each number of a budget: that of its option, or the usual one
+abbrev pub IsBudget : List Row → Budget → Type 0
+IsBudget rows b = IsGiven 64 usual_budget.fuel (one_of (codes "fuel") rows) b.fuel
+    × IsGiven 32 usual_budget.depth (one_of (codes "depth") rows) b.depth
+    × IsGiven 64 usual_budget.output (one_of (codes "output") rows) b.output
+    × IsGiven 32 usual_budget.size (one_of (codes "size") rows) b.size
+    × IsGiven 8 usual_budget.nesting (one_of (codes "nesting") rows) b.nesting
+
+-- how many instructions a turn has: 1 to 1,000,000, or the usual number where the option isn't given
 abbrev pub IsSlice : List Row → ℕ → Type 0
-IsSlice rows n = IsGiven 32 100 (one_of (codes "slice") rows) n × (1 ≤ n) × (n ≤ 1000000)
+IsSlice rows n = IsGiven 32 usual_slice (one_of (codes "slice") rows) n × (1 ≤ n) × (n ≤ 1000000)
 
 -- a flag, by the text of its row: `true` where it is given, and `false` or none where it isn't. A
 -- line that gives a flag twice, or with a value, is not taken
@@ -166,10 +175,6 @@ usual_options = record {
   autoescape = true;
 }
 
-abbrev pub usual_budget : Budget
-usual_budget =
-    record { fuel = 1000000; depth = 64; output = 1048576; size = 1048576; nesting = 32 }
-
 -- the text of a word
 abbrev pub word_of : Text → List Row → Text
 word_of name rows = unwrap_or (first_of name rows) []
@@ -189,17 +194,17 @@ IsCommand name rows (command.Compile dir template out) o b n = (name ≡ codes "
     × (string_bytes dir ≡ word_of (codes "DIR") rows)
     × (string_bytes template ≡ word_of (codes "NAME") rows)
     × (string_bytes out ≡ word_of (codes "OUT") rows)
-    × IsOptions rows o × (b ≡ usual_budget) × (n ≡ 100)
+    × IsOptions rows o × (b ≡ usual_budget) × (n ≡ usual_slice)
 IsCommand name rows (command.Check image) o b n = (name ≡ codes "check")
     × (string_bytes image ≡ word_of (codes "IMAGE") rows)
-    × (o ≡ usual_options) × (b ≡ usual_budget) × (n ≡ 100)
+    × (o ≡ usual_options) × (b ≡ usual_budget) × (n ≡ usual_slice)
 IsCommand name rows (command.Run image context) o b n = (name ≡ codes "run")
     × (string_bytes image ≡ word_of (codes "IMAGE") rows) × IsContext rows context
-    × (o ≡ usual_options) × IsBudget rows b × (n ≡ 100)
+    × (o ≡ usual_options) × IsBudget rows b × (n ≡ usual_slice)
 IsCommand name rows (command.Render dir template context) o b n = (name ≡ codes "render")
     × (string_bytes dir ≡ word_of (codes "DIR") rows)
     × (string_bytes template ≡ word_of (codes "NAME") rows) × IsContext rows context
-    × IsOptions rows o × IsBudget rows b × (n ≡ 100)
+    × IsOptions rows o × IsBudget rows b × (n ≡ usual_slice)
 IsCommand name rows (command.Turns sessions) o b n = (name ≡ codes "turns")
     × (words_of_pairs sessions.items ≡ pair_words rows) × (sessions.items ≢ [])
     × (o ≡ usual_options) × IsBudget rows b × IsSlice rows n

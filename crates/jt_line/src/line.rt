@@ -281,7 +281,8 @@ fn turns_job(alloc: Global, found: &ArgMatches<'_>) -> Result<Job, JobError>
     requires numbers { HasNumbers (rows_of (found_of found.now)) }
     requires slice { HasSlice (rows_of (found_of found.now)) }
     ensures ok { IfOk result (IsAsked (Some (codes "turns", rows_of (found_of found.now)))) }
-    ensures err { IfErr result (IfUsage (¬ ComeInPairs (pair_words (rows_of (found_of found.now))))) }
+    ensures err { IfErr result
+        (IfUsage (¬ ComeInPairs (pair_words (rows_of (found_of found.now))))) }
 {
     let words = found.get_strs("PAIRS").unwrap_or(&[]);
     if words.is_empty() || words.len() % 2 != 0 {
@@ -327,7 +328,8 @@ fn word<'a>(found: &ArgMatches<'a>, name: &str) -> &'a str
 
 /// The file of the context, where one is given.
 fn context(alloc: Global, found: &ArgMatches<'_>) -> Result<Option<String>, AllocError>
-    ensures { IfOk result (λ file. option_map string_bytes file ≡ first_of (codes "CONTEXT") (rows_of (found_of found.now))) }
+    ensures { IfOk result (λ file.
+        option_map string_bytes file ≡ first_of (codes "CONTEXT") (rows_of (found_of found.now))) }
 {
     match found.get_str("CONTEXT") {
         Some(file) => Ok(Some(String::from_str(alloc, file)?)),

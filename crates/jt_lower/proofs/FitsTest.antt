@@ -43,6 +43,7 @@ module _ (p : Program) (count : ℕ) where
     expr_ok inside (slots.pooled i) = nat_lt i (length p.pool)
     expr_ok inside (slots.variable s) = slot_ok s
     expr_ok inside (slots.field f) = inside
+    expr_ok inside slots.absent = false
     expr_ok inside (slots.made k es) = maker_ok k (row_count es) && row_ok inside es
     expr_ok inside (slots.conjunction a b) = expr_ok inside a && expr_ok inside b
     expr_ok inside (slots.disjunction a b) = expr_ok inside a && expr_ok inside b

@@ -84,6 +84,7 @@ mutual
   expr_low (slots.pooled k) n = refl
   expr_low (slots.variable s) n = refl
   expr_low (slots.field f) n = refl
+  expr_low slots.absent n = refl
   expr_low (slots.made k es) n = omega (arith, row_low es n)
   expr_low (slots.conjunction a b) n = omega (arith, expr_low a n, expr_low b (n + length (expr_values a)))
   expr_low (slots.disjunction a b) n = omega (arith, expr_low a n, expr_low b (n + length (expr_values a)))
@@ -121,6 +122,7 @@ mutual
   expr_sized (slots.pooled k) n = refl
   expr_sized (slots.variable s) n = refl
   expr_sized (slots.field f) n = refl
+  expr_sized slots.absent n = refl
   expr_sized (slots.made k es) n = omega (arith, row_sized es n)
   expr_sized (slots.conjunction a b) n = omega (arith, expr_sized a n, expr_sized b (n + length (expr_values a)))
   expr_sized (slots.disjunction a b) n = omega (arith, expr_sized a n, expr_sized b (n + length (expr_values a)))
@@ -188,6 +190,7 @@ module _ (names : List Text) (globals : ℕ) (front : List Tree) (rs : List (Rou
     expr_pooled (slots.pooled k) h = constant_pooled k h
     expr_pooled (slots.variable s) h = tt
     expr_pooled (slots.field f) h = tt
+    expr_pooled slots.absent h = tt
     expr_pooled (slots.made k es) h = row_pooled es h
     expr_pooled (slots.conjunction a b) h = all_append IsPooled (expr_values a) (expr_values b) (expr_pooled a h.0) (expr_pooled b h.1)
     expr_pooled (slots.disjunction a b) h = all_append IsPooled (expr_values a) (expr_values b) (expr_pooled a h.0) (expr_pooled b h.1)
@@ -259,6 +262,7 @@ module _ (names : List Text) (globals : ℕ) (front : List Tree) (rs : List (Rou
       expr_fits (slots.pooled k) inside n t h at le = constant_fits k n h at
       expr_fits (slots.variable s) inside n t h at le = slot_fits s h le
       expr_fits (slots.field f) inside n t h at le = t
+      expr_fits slots.absent inside n t h at le = t
       expr_fits (slots.made k es) inside n t h at le = (maker_fits k (row_count (placed_row es n)) t.0, row_fits es inside n t.1 h at le)
       expr_fits (slots.conjunction a b) inside n t h at le =
           (expr_fits a inside n t.0 h.0 (pool_front p.pool n (expr_values a) (expr_values b) at) (omega (arith, le)), expr_fits b inside (n + length (expr_values a)) t.1 h.1 (pool_back p.pool n (expr_values a) (expr_values b) at) (omega (arith, le)))

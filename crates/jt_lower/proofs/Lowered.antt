@@ -340,6 +340,7 @@ module _ (p : Program) (call : SCalls) (has : HasPool (compiled p) p.pool) (keep
     expr_does (slots.pooled i) q inside h l es bs out m fit fr w opened = (ap (λ v. does (at_bufs (value v ∷ es) bs m)) (has.values i), w)
     expr_does (slots.variable s) q inside h l es bs out m fit fr w opened = (load_does s q es bs m, w)
     expr_does (slots.field x) q inside h l es bs out m fit fr w opened = field_does x q inside h l es bs out m fit fr w
+    expr_does slots.absent q inside h l es bs out m fit fr w opened = absurd fit
     expr_does (slots.made x r) q inside h l es bs out m fit fr w opened =
         then_does q (KeptRow out (row_count r)) (RowOn es bs) (KeptValue out) (ValueOn es bs) (code (row_asm q r h) (at_bufs es bs m)) (MeansRow r l m) (code (one q (maker x (row_count r)))) (λ y. bind (checked (make the_filters x y.values)) (valued y.memory))
         (row_does r q inside h l es bs out m fit.1 fr w opened)

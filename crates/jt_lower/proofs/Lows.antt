@@ -18,6 +18,7 @@ pub height_some : (e : SExpr ℕ) → 1 ≤ expr_height e
 height_some (slots.pooled i) = omega arith
 height_some (slots.variable s) = omega arith
 height_some (slots.field f) = omega arith
+height_some slots.absent = omega arith
 height_some (slots.made k es) = omega arith
 height_some (slots.conjunction a b) = omega arith
 height_some (slots.disjunction a b) = omega arith

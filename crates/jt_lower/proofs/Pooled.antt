@@ -54,6 +54,7 @@ module _ (filters : Filters) (pool : List Tree) where
       expr_same (slots.pooled k) n l m at = ap (valued m) (constant_same k n at)
       expr_same (slots.variable s) n l m at = refl
       expr_same (slots.field f) n l m at = refl
+      expr_same slots.absent n l m at = refl
       expr_same (slots.made k es) n l m at = ap (λ g. bind g (λ r. bind (checked (make filters k r.values)) (valued r.memory))) (row_same es n l m at)
       expr_same (slots.conjunction a b) n l m at =
           let p = n + length (expr_values a) in

@@ -38,6 +38,7 @@ mutual
   expr_sized (slots.pooled i) o h = refl
   expr_sized (slots.variable s) o h = refl
   expr_sized (slots.field f) o h = refl
+  expr_sized slots.absent o h = refl
   expr_sized (slots.made k r) o h = omega (arith, row_sized r o h)
   expr_sized (slots.conjunction a b) o h = omega (arith, expr_sized a o h, expr_sized b o h)
   expr_sized (slots.disjunction a b) o h = omega (arith, expr_sized a o h, expr_sized b o h)

@@ -235,6 +235,7 @@ mutual
   some_height (slots.pooled i) = omega arith
   some_height (slots.variable s) = omega arith
   some_height (slots.field x) = omega arith
+  some_height slots.absent = omega arith
   some_height (slots.made h r) = omega arith
   some_height (slots.conjunction a b) = omega (arith, some_height a)
   some_height (slots.disjunction a b) = omega (arith, some_height a)
@@ -332,6 +333,7 @@ module _ (p : Program) (count : ℕ) where
     expr_types (slots.variable s) o inside h S f fr le = (omega arith, loads s S f)
     expr_types (slots.field x) o false h S f fr le = absurd cc
     expr_types (slots.field x) o true h S f fr le = (omega arith, gets (told_as x) h S fr)
+    expr_types slots.absent o inside h S f fr le = absurd f
     expr_types (slots.made x r) o inside h S f fr le =
         (pushes (row_count r) S, row_types r o inside h S f.1 fr (omega arith), (omega (arith, stack_long (row_count r) S, row_room r), maker_types x (row_count r) S f.0))
     expr_types (slots.conjunction a b) o inside h S f fr le =

@@ -34,6 +34,9 @@ view_Variable s = search (rules, the_lemmas)
 pub view_Field : (f : Field) → expr_view (e.Field f) ≡ slots.field (field_view f)
 view_Field f = search (rules, the_lemmas)
 
+pub view_Absent : expr_view e.Absent ≡ slots.absent
+view_Absent = search (rules, the_lemmas)
+
 pub view_Made : (k : Maker) (es : Vec Entry Global) → expr_view (e.Made k es) ≡ slots.made (maker_view k) (row_view es.items none)
 view_Made k es =
     ap expr_view (sym (rolls-Made k es)) ∙ fold-roll-SExpr (slots.SExpr ℕ) expr_step (SExpr-F.Made k es)

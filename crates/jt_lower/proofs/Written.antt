@@ -218,6 +218,7 @@ module _ (p : Program) (locals : ℕ) (pool : length p.pool ≤ 2 ^ 32) (globals
     expr_plain inside (slots.pooled i) o h f low = omega (arith, f, pool)
     expr_plain inside (slots.variable s) o h f low = load_plain s f
     expr_plain inside (slots.field k) o h f low = (field_fits (told_as k), omega (arith, low))
+    expr_plain inside slots.absent o h f low = tt
     expr_plain inside (slots.made k es) o h f low = (row_plain inside es o h f.1 (omega (arith, low)), maker_fits k (row_count es) f.0 (omega (arith, low, counted_low es)))
     expr_plain inside (slots.conjunction a b) o h f low = (expr_plain inside a o h f.0 (omega (arith, low)), (tt, ((tt, expr_plain inside b o h f.1 (omega (arith, low))), tt)))
     expr_plain inside (slots.disjunction a b) o h f low = (expr_plain inside a o h f.0 (omega (arith, low)), (tt, (tt, (tt, expr_plain inside b o h f.1 (omega (arith, low))))))

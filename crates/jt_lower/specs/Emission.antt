@@ -5,7 +5,7 @@ use Rattle.jt_image.specs.declared.instruction.Instruction.{Instruction}
 use Rattle.jt_image.specs.declared.instruction.Instruction.TheVariants as op
 use Rattle.jt_image.specs.declared.wire.Instr.{Instr}
 use Rattle.jt_image.specs.Spelling.{wire_of}
-use Rattle.jt_image.specs.IsCode.{IsInstruction, max_instructions}
+use Rattle.jt_image.specs.IsCode.{IsInstruction}
 use Rattle.jt_lower.specs.Asm.{Asm, one, flat}
 use Rattle.jt_lower.specs.declared.emitter.Emitter.{Emitter}
 
@@ -18,26 +18,26 @@ Given (Some x) i = x ≡ i
 abbrev pub Emitted : List Instr → Asm → List Instr → Type 0
 Emitted old a new = new ≡ old ++ map wire_of (flat a (length old))
 
--- behind n instructions there is place for these, and their fields for what they hold
-pub record HasPlace (n : ℕ) (a : Asm) : Type 0 where
-  pub len : n + length (flat a n) ≤ max_instructions
+-- where there may be so many instructions, there is place for these behind n others, and their fields for what they hold
+pub record HasPlace (limit n : ℕ) (a : Asm) : Type 0 where
+  pub len : n + length (flat a n) ≤ limit
   pub fields : AllByRecursion IsInstruction (flat a n)
 
--- As many are put behind the others as stand for these; they are these where nothing overflows, and nothing does where there is place.
+-- These are put behind the others where nothing overflows, and nothing does where there is place.
 pub record Puts (old : Emitter) (a : Asm) (new : Emitter) : Type 0 where
-  pub len : length new.code.items ≡ length old.code.items + length (flat a (length old.code.items))
+  pub limit : new.limit ≡ old.limit
   pub kept : new.overflowed ≡ false → old.overflowed ≡ false
   pub emitted : new.overflowed ≡ false → Emitted old.code.items a new.code.items
-  pub place : HasPlace (length old.code.items) a → old.overflowed ≡ false → new.overflowed ≡ false
+  pub place : HasPlace old.limit (length old.code.items) a → old.overflowed ≡ false → new.overflowed ≡ false
 
 -- a jump behind the others, at this point
 pub record Reserves (old : Emitter) (jump : Instruction) (point : ℕ) (new : Emitter) : Type 0 where
   pub at : point ≡ length old.code.items
-  pub code : new.code.items ≡ old.code.items ++ wire_of jump ∷ []
-  pub same : new.overflowed ≡ old.overflowed
+  pub puts : Puts old (one None jump) new
 
--- this instruction in place of the one at the point
+-- this instruction in place of the one at the point, if there is one
 pub record Patches (old : Emitter) (point : ℕ) (i : Instruction) (new : Emitter) : Type 0 where
+  pub limit : new.limit ≡ old.limit
   pub len : length new.code.items ≡ length old.code.items
   pub kept : new.overflowed ≡ false → old.overflowed ≡ false
   pub code : new.overflowed ≡ false → new.code.items ≡ slice_set old.code.items point (wire_of i)

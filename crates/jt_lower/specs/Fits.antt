@@ -47,6 +47,7 @@ module _ (p : Program) (locals : ℕ) where
     ExprFits inside (slots.pooled i) = i < length p.pool
     ExprFits inside (slots.variable s) = SlotFits s
     ExprFits inside (slots.field f) = inside ≡ true
+    ExprFits inside slots.absent = ⊥
     ExprFits inside (slots.made k es) = MakerFits k (row_count es) × RowFits inside es
     ExprFits inside (slots.conjunction a b) = ExprFits inside a × ExprFits inside b
     ExprFits inside (slots.disjunction a b) = ExprFits inside a × ExprFits inside b

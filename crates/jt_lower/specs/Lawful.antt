@@ -35,6 +35,7 @@ module _ (front globals : ℕ) where
     ExprLawful (slots.pooled k) = ConstantLawful k
     ExprLawful (slots.variable s) = SlotLawful s
     ExprLawful (slots.field f) = Unit {0}
+    ExprLawful slots.absent = Unit {0}
     ExprLawful (slots.made k es) = RowLawful es
     ExprLawful (slots.conjunction a b) = ExprLawful a × ExprLawful b
     ExprLawful (slots.disjunction a b) = ExprLawful a × ExprLawful b

@@ -65,6 +65,7 @@ abbrev mutual
   expr_asm o (slots.pooled i) h = one o (op.Const i)
   expr_asm o (slots.variable s) h = one o (load_of s)
   expr_asm o (slots.field f) h = one o (op.LoopGet (field_id (told_as f)) h)
+  expr_asm o slots.absent h = nil
   expr_asm o (slots.made k es) h = both (row_asm o es h) (one o (maker k (row_count es)))
   -- the right operand in place of the left one
   expr_asm o (slots.conjunction a b) h = both (expr_asm o a h) (both (one o op.Dup) (choose (both (one o op.Drop) (expr_asm o b h)) nil))

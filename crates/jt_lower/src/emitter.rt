@@ -1,5 +1,7 @@
 //! The instructions of a unit while it is written, and jumps that are written when their target is known.
 
+ghost use Rattle.std.specs.Prelude.{◌≤◌, length};
+
 use crate::instructions::{jump_of, test_of, turn_of};
 use jt_image::{Instr, Instruction};
 use std::alloc::{AllocError, Global};
@@ -9,38 +11,54 @@ use std::alloc::{AllocError, Global};
 pub struct Emitter {
     /// The instructions, by their fields.
     pub code: Vec<Instr>,
-    /// Whether some instruction holds more than its fields have place for: then the code means nothing.
+    /// How many there may be.
+    pub limit: usize,
+    /// Whether there would be more, or some instruction holds more than its fields have place for: then the code means nothing.
     pub overflowed: bool,
+    pub ghost within: { length code.items ≤ limit },
 }
 
 impl Emitter {
-    ghost use Rattle.std.specs.Prelude.{◌≡◌, ◌<◌, false, [], length, Option, None, IfOk, OnOk};
+    ghost use Rattle.std.specs.Prelude.{◌≡◌, false, [], Option, None, IfOk, OnOk};
     ghost use Rattle.jt_image.specs.declared.instruction.Instruction.TheVariants as op;
     ghost use Rattle.jt_slots.specs.Got.{Place};
     ghost use Rattle.jt_lower.specs.Asm.{one};
     ghost use Rattle.jt_lower.specs.Emission.{Given, Puts, Reserves, Patches, Ends, EndsTurns};
 
-    /// No instructions yet.
-    pub fn new(alloc: Global) -> Emitter
+    /// No instructions yet; there may be so many.
+    pub fn new(alloc: Global, limit: usize) -> Emitter
         ensures empty { result.code.items ≡ [] }
+        ensures limited { result.limit ≡ limit }
         ensures whole { result.overflowed ≡ false }
     {
         Emitter {
             code: Vec::new(alloc),
+            limit,
             overflowed: false,
         }
     }
 
     /// Puts an instruction behind the others; none stands for one that its fields have no place for.
     pub fn put(&mut self, instruction: Option<Instruction>) -> Result<(), AllocError>
-        ensures { OnOk result ((o : Option Place) (i : Instruction) → Given instruction i → Puts self.old (one o i) self.new) }
+        ensures { OnOk result ((o : Option Place) (i : Instruction)
+            → Given instruction i
+            → Puts self.old (one o i) self.new) }
     {
         match instruction {
-            Some(known) => self.code.push(known.wire())?,
-            None => {
-                self.code.push(Instruction::Return.wire())?;
-                self.overflowed = true;
-            }
+            Some(known) => self.push(known)?,
+            None => self.overflowed = true,
+        }
+        Ok(())
+    }
+
+    /// Puts an instruction behind the others, if there may be one more.
+    fn push(&mut self, instruction: Instruction) -> Result<(), AllocError>
+        ensures { OnOk result ((o : Option Place) → Puts self.old (one o instruction) self.new) }
+    {
+        if self.code.len() < self.limit {
+            self.code.push(instruction.wire())?;
+        } else {
+            self.overflowed = true;
         }
         Ok(())
     }
@@ -50,18 +68,26 @@ impl Emitter {
         ensures { IfOk result (λ point. Reserves self.old jump point self.new) }
     {
         let point = self.code.len();
-        self.code.push(jump.wire())?;
+        self.push(jump)?;
         Ok(point)
     }
 
-    /// Puts an instruction in place of the one at a point.
+    /// Puts an instruction in place of the one at a point; nothing where the code ends before that.
     pub fn patch(&mut self, point: usize, instruction: Option<Instruction>)
-        requires { point < length self.old.code.items }
         ensures { (i : Instruction) → Given instruction i → Patches self.old point i self.new }
     {
         match instruction {
-            Some(known) => self.code[point] = known.wire(),
+            Some(known) => self.replace(point, known),
             None => self.overflowed = true,
+        }
+    }
+
+    /// Puts an instruction in place of the one at a point, if there is one.
+    fn replace(&mut self, point: usize, instruction: Instruction)
+        ensures { Patches self.old point instruction self.new }
+    {
+        if point < self.code.len() {
+            self.code[point] = instruction.wire();
         }
     }
 
@@ -75,7 +101,6 @@ impl Emitter {
 
     /// Puts the jump out of a branch behind the others, and lets the test in front of the branch go behind it.
     pub fn end_branch(&mut self, choice: usize) -> Result<usize, AllocError>
-        requires { choice < length self.old.code.items }
         ensures { IfOk result (λ last. Ends self.old choice last self.new) }
     {
         let last = self.reserve(Instruction::Jump { target: 0 })?;
@@ -86,7 +111,6 @@ impl Emitter {
 
     /// Lets the jump at this point go behind all instructions.
     pub fn close(&mut self, last: usize)
-        requires { last < length self.old.code.items }
         ensures { Patches self.old last (op.Jump (length self.old.code.items)) self.new }
     {
         let past = jump_of(self.code.len());
@@ -95,7 +119,6 @@ impl Emitter {
 
     /// Lets the test at this point go behind all instructions: what it tests for stands there alone.
     pub fn end_when(&mut self, choice: usize)
-        requires { choice < length self.old.code.items }
         ensures { Patches self.old choice (op.JumpIfFalse (length self.old.code.items)) self.new }
     {
         let past = test_of(self.code.len());
@@ -112,7 +135,6 @@ impl Emitter {
 
     /// Puts the way back to the test behind the others, and lets the test go behind it.
     pub fn end_turns(&mut self, top: usize) -> Result<(), AllocError>
-        requires { top < length self.old.code.items }
         ensures { OnOk result (EndsTurns self.old top self.new) }
     {
         self.put(jump_of(top))?;

@@ -18,7 +18,9 @@ use std::alloc::AllocError;
 /// Puts the code of an expression behind the others, with so many entries above the innermost loop.
 #[cycle(expressions)]
 pub fn emit_expression(code: &mut Emitter, expr: &SExpr, above: usize) -> Result<(), AllocError>
-    ensures { OnOk result ((o : Option Place) (h : ℕ) → StandsFor above h → Puts code.old (expr_asm o (expr_view expr.now) h) code.new) }
+    ensures { OnOk result ((o : Option Place) (h : ℕ)
+        → StandsFor above h
+        → Puts code.old (expr_asm o (expr_view expr.now) h) code.new) }
 {
     match expr {
         SExpr::Pooled(place) => {
@@ -33,6 +35,7 @@ pub fn emit_expression(code: &mut Emitter, expr: &SExpr, above: usize) -> Result
             code.put(told_of(*told, above))?;
             Ok(())
         }
+        SExpr::Absent => Ok(()),
         SExpr::Made(made, row) => {
             emit_row(code, row, above)?;
             code.put(made_of(*made, count_values(row)))?;
@@ -62,7 +65,10 @@ fn emit_conjunction(
     right: &SExpr,
     above: usize,
 ) -> Result<(), AllocError>
-    ensures { OnOk result ((o : Option Place) (h : ℕ) → StandsFor above h → Puts code.old (expr_asm o (slots.conjunction (expr_view left.now) (expr_view right.now)) h) code.new) }
+    ensures { OnOk result ((o : Option Place) (h : ℕ)
+        → StandsFor above h
+        → Puts code.old
+        (expr_asm o (slots.conjunction (expr_view left.now) (expr_view right.now)) h) code.new) }
 {
     emit_expression(code, left, above)?;
     code.put(Some(Instruction::Dup))?;
@@ -82,7 +88,10 @@ fn emit_disjunction(
     right: &SExpr,
     above: usize,
 ) -> Result<(), AllocError>
-    ensures { OnOk result ((o : Option Place) (h : ℕ) → StandsFor above h → Puts code.old (expr_asm o (slots.disjunction (expr_view left.now) (expr_view right.now)) h) code.new) }
+    ensures { OnOk result ((o : Option Place) (h : ℕ)
+        → StandsFor above h
+        → Puts code.old
+        (expr_asm o (slots.disjunction (expr_view left.now) (expr_view right.now)) h) code.new) }
 {
     emit_expression(code, left, above)?;
     code.put(Some(Instruction::Dup))?;
@@ -103,8 +112,11 @@ fn emit_choice(
     other: &SExpr,
     above: usize,
 ) -> Result<(), AllocError>
-    ensures { OnOk result ((o : Option Place) (h : ℕ) → StandsFor above h
-        → Puts code.old (expr_asm o (slots.choice (expr_view condition.now) (expr_view taken.now) (expr_view other.now)) h) code.new) }
+    ensures { OnOk result ((o : Option Place) (h : ℕ)
+        → StandsFor above h
+        → Puts code.old (expr_asm o
+        (slots.choice (expr_view condition.now) (expr_view taken.now) (expr_view other.now)) h)
+        code.new) }
 {
     emit_expression(code, condition, above)?;
     let choice = code.begin_choice()?;
@@ -135,7 +147,9 @@ pub fn emit_row(
     row: &[(Option<usize>, SExpr)],
     above: usize,
 ) -> Result<(), AllocError>
-    ensures { OnOk result ((o : Option Place) (h : ℕ) → StandsFor above h → Puts code.old (row_asm o (row_view row.now none) h) code.new) }
+    ensures { OnOk result ((o : Option Place) (h : ℕ)
+        → StandsFor above h
+        → Puts code.old (row_asm o (row_view row.now none) h) code.new) }
 {
     let mut top = above;
     for (kept, expr) in row {

@@ -13,7 +13,7 @@ pub fn fits_expression(expr: &SExpr, room: usize) -> bool
     ensures { result ≡ nat_le (expr_height (expr_view expr.now)) room }
 {
     match expr {
-        SExpr::Pooled(_) | SExpr::Variable(_) | SExpr::Field(_) => room >= 1,
+        SExpr::Pooled(_) | SExpr::Variable(_) | SExpr::Field(_) | SExpr::Absent => room >= 1,
         SExpr::Made(_, row) => room >= 1 && fits_row(row, room),
         SExpr::Conjunction(left, right) | SExpr::Disjunction(left, right) => {
             room >= 2 && fits_expression(left, room) && fits_expression(right, room)

@@ -142,7 +142,9 @@ fn told_as(told: Field) -> LoopField
 
 /// Pushes a field of the loop that has so many entries above it.
 pub fn told_of(told: Field, above: usize) -> Option<Instruction>
-    ensures { (h : ℕ) → StandsFor above h → Given result (op.LoopGet (field_id (told_as (field_view told))) h) }
+    ensures { (h : ℕ)
+        → StandsFor above h
+        → Given result (op.LoopGet (field_id (told_as (field_view told))) h) }
 {
     match field(above) {
         Some(above) => Some(Instruction::LoopGet {

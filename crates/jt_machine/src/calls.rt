@@ -24,7 +24,8 @@ use std::mem;
 // The locals of a unit: its arguments first, and others undefined.
 fn locals_with(arguments: Vec<Value>, locals: u16) -> Result<Vec<Value>, NoMemory>
     requires { length arguments.items ≤ locals }
-    ensures { IfOk result (λ vs. values_view vs.items ≡ locals_of locals (values_view arguments.items)) }
+    ensures { IfOk result
+        (λ vs. values_view vs.items ≡ locals_of locals (values_view arguments.items)) }
 {
     let mut values = arguments;
     let missing = usize::from(locals) - values.len();
@@ -44,7 +45,8 @@ pub(crate) fn call<C: Code>(
     requires whole { IsCode (C.code code.now) }
     requires not_wrong { call_next (C.code code.now) unit (config_view state.old) ≢ Wrong }
     requires room { state.old.point + 1 < 2 ^ 64 }
-    ensures { IfOk result (λ r. call_next (C.code code.now) unit (config_view state.old) ≡ next_view r state.new) }
+    ensures { IfOk result
+        (λ r. call_next (C.code code.now) unit (config_view state.old) ≡ next_view r state.new) }
 {
     let Some(header) = code.unit(unit as usize) else {
         unreachable!()
@@ -67,7 +69,9 @@ pub(crate) fn call<C: Code>(
 // Lets a caller go on, whose entries are those of the activation that runs.
 fn go_on(state: &mut State, caller: Caller)
     requires { state.old.left.depth + 1 < 2 ^ 32 }
-    ensures { config_view state.new ≡ went_back (caller_view caller state.old.stack.running) state.old.stack.callers state.old.stack.running (config_view state.old) }
+    ensures { config_view state.new
+        ≡ went_back (caller_view caller state.old.stack.running) state.old.stack.callers
+        state.old.stack.running (config_view state.old) }
 {
     let Caller {
         unit,
@@ -88,7 +92,9 @@ fn resume(
     given: Option<Value>,
 ) -> Result<Option<Outcome>, NoMemory>
     requires { state.old.left.depth + 1 < 2 ^ 32 }
-    ensures { IfOk result (λ r. back_with (caller_view caller state.old.stack.running) state.old.stack.callers (given_view given) (config_view state.old) ≡ next_view r state.new) }
+    ensures { IfOk result (λ r. back_with (caller_view caller state.old.stack.running)
+        state.old.stack.callers (given_view given) (config_view state.old)
+        ≡ next_view r state.new) }
 {
     let Some(value) = given else {
         go_on(state, caller);
@@ -105,7 +111,9 @@ fn resume(
 /// Goes back to the caller with what the unit gives, or ends with the text of the buffer.
 pub(crate) fn finish(alloc: Global, state: &mut State) -> Result<Option<Outcome>, NoMemory>
     requires depth { state.old.left.depth + length state.old.stack.callers < 2 ^ 32 }
-    ensures { IfOk result (λ r. (u : Option Section) → return_from u (config_view state.old) ≢ Wrong → return_from u (config_view state.old) ≡ next_view r state.new) }
+    ensures { IfOk result (λ r. (u : Option Section)
+        → return_from u (config_view state.old) ≢ Wrong
+        → return_from u (config_view state.old) ≡ next_view r state.new) }
 {
     if let Some(outcome) = pay(state, 1) {
         return Ok(Some(outcome));

@@ -16,7 +16,8 @@ use std::mem;
 
 // Puts a buffer around the open one.
 fn push_outer(outer: &mut Vec<String>, buffer: String) -> Result<(), NoMemory>
-    ensures { OnOk result (outer_view outer.new.items ≡ string_bytes buffer ∷ outer_view outer.old.items) }
+    ensures { OnOk result
+        (outer_view outer.new.items ≡ string_bytes buffer ∷ outer_view outer.old.items) }
 {
     outer.push(buffer)?;
     Ok(())
@@ -49,7 +50,8 @@ fn pop_outer(outer: &mut Vec<String>) -> String
 
 // A captured text as a value.
 fn captured(text: String, marked: bool) -> Result<Value, NoMemory>
-    ensures { IfOk result (λ v. view v ≡ (if marked then tree.markup (string_bytes text) else tree.text (string_bytes text))) }
+    ensures { IfOk result (λ v. view v
+        ≡ (if marked then tree.markup (string_bytes text) else tree.text (string_bytes text))) }
 {
     if marked {
         Value::from_markup(text)

@@ -5,6 +5,7 @@ mod at_once;
 mod calls;
 mod captures;
 mod entries;
+mod escaping;
 mod items;
 mod limits;
 mod loops;

@@ -11,6 +11,7 @@ use jt_value::Value;
 pub(crate) fn passed_limit(value: &Value, budget: &Budget) -> Option<Spent>
     ensures { option_map limit_view result ≡ limit_of (budget_view budget.now) (view value.now) }
 {
+    // Only read, so that the limits are known to have fewer bits than what is counted.
     let _size = budget.size;
     let _nesting = budget.nesting;
     match budget.fits(value.size(), value.nesting()) {

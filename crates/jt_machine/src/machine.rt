@@ -6,8 +6,8 @@ ghost use Rattle.jt_image.specs.IsCode.{IsCode};
 ghost use Rattle.jt_image.specs.Typed.{IsTyped};
 ghost use Rattle.jt_image.specs.Config as config;
 ghost use Rattle.jt_image.specs.Run.{IsSafe, after};
-ghost use Rattle.jt_machine.specs.Session.{SessionLaws};
-ghost use Rattle.jt_machine.specs.StageView.{IsReached};
+ghost use Rattle.jt_machine.specs.Session.{SessionLaws, led, told_of};
+ghost use Rattle.jt_machine.specs.StageView.{stage_view, IsReached, IsUnderway};
 ghost use Rattle.jt_machine.specs.View.{config_view, next_view};
 
 use crate::outcome::{Outcome, Progress};
@@ -69,7 +69,8 @@ impl Machine {
         context: &Context,
         budget: Budget,
     ) -> Result<Machine, (Verified, NoMemory)>
-        ensures started { IfOk result (λ m. m ≡ started verified (pairs_of context.now) (budget_view budget)) }
+        ensures started { IfOk result
+            (λ m. m ≡ started verified (pairs_of context.now) (budget_view budget)) }
         ensures back { IfErr result (λ e. e.0 ≡ verified) }
         // Every run of the image has one outcome, stays within its fuel and is never wrong.
         ensures safe { (x : Pairs) (b : config.Budget) → IsSafe verified x b }
@@ -84,7 +85,6 @@ impl Machine {
                 stage: Stage::Done(Outcome::Spent(spent)),
             });
         }
-        let _depth = budget.depth;
         match start(alloc, verified.image(), context, budget) {
             Ok(state) => Ok(Machine {
                 alloc,
@@ -109,17 +109,9 @@ impl Machine {
     {
         match mem::replace(&mut self.stage, Stage::Lost) {
             Stage::Going(state) => {
-                let mut state = state;
-                match take_steps(self.alloc, self.verified.image(), &mut state, k)? {
-                    None => {
-                        self.stage = Stage::Going(state);
-                        Ok(Progress::Going)
-                    }
-                    Some(outcome) => {
-                        self.stage = Stage::Done(outcome);
-                        Ok(Progress::Done)
-                    }
-                }
+                let (stage, progress) = go_on(self.alloc, self.verified.image(), state, k)?;
+                self.stage = stage;
+                Ok(progress)
             }
             Stage::Done(outcome) => {
                 self.stage = Stage::Done(outcome);
@@ -169,6 +161,27 @@ impl Machine {
     }
 }
 
+// Where so many instructions lead, and whether the run goes on still.
+fn go_on<C: Code>(
+    alloc: Global,
+    code: &C,
+    mut state: State,
+    k: u32,
+) -> Result<(Stage, Progress), NoMemory>
+    requires whole { IsCode (C.code code.now) }
+    requires typed { IsTyped (C.code code.now) }
+    requires reached { IsReached (C.code code.now) state }
+    ensures steps { IfOk result
+        (λ r. stage_view r.0 ≡ led (after (C.code code.now) k (config_view state))) }
+    ensures underway { IfOk result (λ r. IsUnderway (C.code code.now) r.0) }
+    ensures progress { IfOk result (λ r. told_of (stage_view r.0) ≡ Some r.1) }
+{
+    match take_steps(alloc, code, &mut state, k)? {
+        None => Ok((Stage::Going(state), Progress::Going)),
+        Some(outcome) => Ok((Stage::Done(outcome), Progress::Done)),
+    }
+}
+
 // Carries out so many instructions, or fewer where the run ends.
 fn take_steps<C: Code>(
     alloc: Global,
@@ -179,7 +192,8 @@ fn take_steps<C: Code>(
     requires whole { IsCode (C.code code.now) }
     requires typed { IsTyped (C.code code.now) }
     requires reached { IsReached (C.code code.now) state.old }
-    ensures steps { IfOk result (λ r. after (C.code code.now) k (config_view state.old) ≡ next_view r state.new) }
+    ensures steps { IfOk result
+        (λ r. after (C.code code.now) k (config_view state.old) ≡ next_view r state.new) }
     ensures reached { IfOk result (λ r. IfNone r (IsReached (C.code code.now) state.new)) }
 {
     code_laws();

@@ -40,7 +40,8 @@ pub(crate) fn take_values(
     count: usize,
 ) -> Result<Vec<Value>, NoMemory>
     requires { HasValues count stack.old.running }
-    ensures taken { IfOk result (λ vs. values_on count stack.old.running ≡ Some (map view vs.items, stack.new.running)) }
+    ensures taken { IfOk result
+        (λ vs. values_on count stack.old.running ≡ Some (map view vs.items, stack.new.running)) }
     ensures callers { stack.new.callers ≡ stack.old.callers }
 {
     let mut values = Vec::new(alloc);
@@ -67,10 +68,12 @@ fn take_paid(alloc: Global, state: &mut State, count: usize) -> Result<Taken, No
     requires has { HasValues count state.old.stack.running }
     requires sized { AreSized state.old }
     requires few { AreFew state.old }
-    ensures next { IfOk result (λ o. (f : List Tree → Result Tree Fault) → make count f (config_view state.old) ≡ makes_with f o state.new) }
+    ensures next { IfOk result (λ o. (f : List Tree → Result Tree Fault)
+        → make count f (config_view state.old) ≡ makes_with f o state.new) }
     ensures many { IfOk result (λ o. AreMany count o) }
     ensures point { state.new.point ≡ state.old.point }
 {
+    // Only read, so that the limit is known to have 32 bits: the sum of the sizes is then what it is.
     let _size = state.left.size;
     let values = take_values(alloc, &mut state.stack, count)?;
     if let Some(outcome) = pay(state, 1 + sizes(&values) / 64) {
@@ -86,7 +89,10 @@ fn push_answer(
 ) -> Result<Option<Outcome>, NoMemory>
     requires room { state.old.point + 1 < 2 ^ 64 }
     requires fits { IfOk answer (λ v. limit_of (budget_view state.old.left) (view v) ≡ None) }
-    ensures { (r : Result Tree Fault) → Answered answer (limited state.old.left.size state.old.left.nesting r) → IfOk result (λ o. answering r (λ t. pushes t (config_view state.old) steps_on) ≡ next_view o state.new) }
+    ensures { (r : Result Tree Fault)
+        → Answered answer (limited state.old.left.size state.old.left.nesting r)
+        → IfOk result (λ o.
+        answering r (λ t. pushes t (config_view state.old) steps_on) ≡ next_view o state.new) }
 {
     match answer {
         Ok(value) => push_fitting(state, value),
@@ -94,19 +100,6 @@ fn push_answer(
         Err(OpError::TooLarge) => Ok(Some(Outcome::Spent(Spent::Size))),
         Err(OpError::TooDeep) => Ok(Some(Outcome::Spent(Spent::Nesting))),
         Err(OpError::NoMemory) => Err(NoMemory),
-    }
-}
-
-// How many operands an operator takes.
-fn operands(operator: OpId) -> usize
-    ensures { result ≡ op_operands operator }
-{
-    if operator.takes(1) {
-        1
-    } else if operator.takes(2) {
-        2
-    } else {
-        3
     }
 }
 
@@ -162,12 +155,13 @@ pub(crate) fn operate(
     requires sized { AreSized state.old }
     requires few { AreFew state.old }
     requires room { state.old.point + 1 < 2 ^ 64 }
-    ensures { IfOk result (λ r. operate_next operator (config_view state.old) ≡ next_view r state.new) }
+    ensures { IfOk result
+        (λ r. operate_next operator (config_view state.old) ≡ next_view r state.new) }
 {
     let Some(operator) = operator_by(operator) else {
         unreachable!()
     };
-    let values = match take_paid(alloc, state, operands(operator))? {
+    let values = match take_paid(alloc, state, operator.operands())? {
         Taken::Paid(values) => values,
         Taken::Unpaid(outcome) => return Ok(Some(outcome)),
     };
@@ -188,7 +182,8 @@ pub(crate) fn apply_filter(
     requires sized { AreSized state.old }
     requires few { AreFew state.old }
     requires room { state.old.point + 1 < 2 ^ 64 }
-    ensures { IfOk result (λ r. filter_next id count flag (config_view state.old) ≡ next_view r state.new) }
+    ensures { IfOk result
+        (λ r. filter_next id count flag (config_view state.old) ≡ next_view r state.new) }
 {
     let Some(filter) = filter_by(id) else {
         unreachable!()
@@ -212,7 +207,8 @@ pub(crate) fn apply_test(
     requires sized { AreSized state.old }
     requires few { AreFew state.old }
     requires room { state.old.point + 1 < 2 ^ 64 }
-    ensures { IfOk result (λ r. test_next id count (config_view state.old) ≡ next_view r state.new) }
+    ensures { IfOk result
+        (λ r. test_next id count (config_view state.old) ≡ next_view r state.new) }
 {
     let Some(id) = test_by(id) else {
         unreachable!()

@@ -80,7 +80,9 @@ pub(crate) fn pop_last(values: &mut Vec<Value>) -> Option<Value>
 // Takes the last key and its value, where keys and values stand in turn from the end.
 fn pop_pair(values: &mut Vec<Value>) -> Option<(Value, Value)>
     requires { HasTextKeys values.old.items }
-    ensures some { IfSome result (λ p. (es : Entries) → put_entries es (upward values.old.items) ≡ put_entries (put_entry (key_bytes (view p.0)) (view p.1) es) (upward values.new.items)) }
+    ensures some { IfSome result (λ p. (es : Entries)
+        → put_entries es (upward values.old.items)
+        ≡ put_entries (put_entry (key_bytes (view p.0)) (view p.1) es) (upward values.new.items)) }
     ensures text { IfSome result (λ p. is_text (view p.0) ≡ true) }
     ensures none { IfNone result ((es : Entries) → put_entries es (upward values.old.items) ≡ es) }
     ensures texts { IfSome result (λ _. HasTextKeys values.new.items) }
@@ -99,7 +101,8 @@ fn put_pair(
     value: Value,
 ) -> Result<(), NoMemory>
     requires { is_text (view key.now) ≡ true }
-    ensures { OnOk result (entries_view entries.new.entries ≡ put_entry (key_bytes (view key.now)) (view value) (entries_view entries.old.entries)) }
+    ensures { OnOk result (entries_view entries.new.entries
+        ≡ put_entry (key_bytes (view key.now)) (view value) (entries_view entries.old.entries)) }
 {
     let text = key_text(alloc, key)?;
     match entries.insert(text, value) {
@@ -111,7 +114,8 @@ fn put_pair(
 // The entries of keys and values in turn.
 fn entries_of(alloc: Global, mut values: Vec<Value>) -> Result<IndexMap<String, Value>, NoMemory>
     requires { list_all is_text (keys_of (map view values.items)) ≡ true }
-    ensures { IfOk result (λ m. entries_view m.entries ≡ put_entries no_entries (map view values.items)) }
+    ensures { IfOk result
+        (λ m. entries_view m.entries ≡ put_entries no_entries (map view values.items)) }
 {
     values.reverse();
     let mut entries: IndexMap<String, Value> = IndexMap::new(alloc);

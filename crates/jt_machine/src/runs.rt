@@ -26,7 +26,8 @@ pub fn run(
     budget: Budget,
 ) -> Result<Outcome, NoMemory>
     // The outcome is that of the run.
-    ensures outcome { IfOk result (λ o. Run verified.now (pairs_of context.now) (budget_view budget) (outcome_view o)) }
+    ensures outcome { IfOk result
+        (λ o. Run verified.now (pairs_of context.now) (budget_view budget) (outcome_view o)) }
     // Every run of the image has one outcome, stays within its fuel and is never wrong.
     ensures safe { (x : Pairs) (b : config.Budget) → IsSafe verified.now x b }
 {
@@ -42,7 +43,8 @@ pub fn run_view(
     budget: Budget,
 ) -> Result<Outcome, NoMemory>
     // The outcome is that of the run.
-    ensures outcome { IfOk result (λ o. Run verified.now (pairs_of context.now) (budget_view budget) (outcome_view o)) }
+    ensures outcome { IfOk result
+        (λ o. Run verified.now (pairs_of context.now) (budget_view budget) (outcome_view o)) }
     // Every run of the code has one outcome, stays within its fuel and is never wrong.
     ensures safe { (x : Pairs) (b : config.Budget) → IsSafe verified.now x b }
 {
@@ -59,13 +61,13 @@ fn run_code<C: Code>(
 ) -> Result<Outcome, NoMemory>
     requires whole { IsCode (C.code code.now) }
     requires typed { IsTyped (C.code code.now) }
-    ensures { IfOk result (λ o. Run (C.code code.now) (pairs_of context.now) (budget_view budget) (outcome_view o)) }
+    ensures { IfOk result
+        (λ o. Run (C.code code.now) (pairs_of context.now) (budget_view budget) (outcome_view o)) }
 {
     code_laws();
     if let Some(spent) = context_passes(code, context, &budget) {
         return Ok(Outcome::Spent(spent));
     }
-    let _depth = budget.depth;
     let mut state = start(alloc, code, context, budget)?;
     'steps: loop {
         hurry(code, &mut state);

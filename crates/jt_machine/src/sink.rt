@@ -24,7 +24,8 @@ pub trait Sink {
         requires works { failed self.old ≡ false }
         ensures within { IfOk result (λ n. n ≤ length piece.now) }
         ensures some { IfOk result (λ n. piece.now ≢ [] → 0 < n) }
-        ensures took { IfOk result (λ n. Appends (taken self.old) (taken self.new) (take n piece.now)) }
+        ensures took { IfOk result
+            (λ n. Appends (taken self.old) (taken self.new) (take n piece.now)) }
         ensures works { OnOk result (failed self.new ≡ false) }
         ensures nothing { OnErr result (Appends (taken self.old) (taken self.new) []) }
         ensures fails { OnErr result (failed self.new ≡ true) };

@@ -1,5 +1,5 @@
 //! How a run starts: the context is tested, and fills the globals.
-ghost use Rattle.std.specs.Prelude.{◌≡◌, IfOk, OnOk, Some, option_map, slice_get, slice_set, unwrap_or, replicate};
+ghost use Rattle.std.specs.Prelude.{◌≡◌, ◌+◌, ◌<◌, ◌^◌, IfOk, OnOk, Some, length, option_map, slice_get, slice_set, unwrap_or, replicate};
 ghost use Rattle.jt_value.specs.Tree as tree;
 ghost use Rattle.jt_value.specs.View.{view};
 ghost use Rattle.jt_value.specs.Pairs.{look};
@@ -18,7 +18,8 @@ use std::alloc::Global;
 
 // The limit that the value of a name passes. A name that the context lacks passes none.
 fn named_passes(name: &str, context: &Context, budget: &Budget) -> Option<Spent>
-    ensures { option_map limit_view result ≡ limit_of_named (budget_view budget.now) (look name.now (pairs_of context.now)) }
+    ensures { option_map limit_view result
+        ≡ limit_of_named (budget_view budget.now) (look name.now (pairs_of context.now)) }
 {
     match context.get(name) {
         Some(value) => passed_limit(value, budget),
@@ -28,7 +29,8 @@ fn named_passes(name: &str, context: &Context, budget: &Budget) -> Option<Spent>
 
 /// The first limit that a value of the context passes, in the order of the code's names.
 pub(crate) fn context_passes<C: Code>(code: &C, context: &Context, budget: &Budget) -> Option<Spent>
-    ensures { option_map limit_view result ≡ passed (budget_view budget.now) (pairs_of context.now) (C.code code.now).names }
+    ensures { option_map limit_view result
+        ≡ passed (budget_view budget.now) (pairs_of context.now) (C.code code.now).names }
 {
     'names: for i in 0..code.names() {
         let Some((_, name)) = code.name(i) else {
@@ -43,7 +45,8 @@ pub(crate) fn context_passes<C: Code>(code: &C, context: &Context, budget: &Budg
 
 // The value of a name, or undefined.
 fn named_value(alloc: Global, name: &str, context: &Context) -> Result<Value, NoMemory>
-    ensures { IfOk result (λ v. view v ≡ unwrap_or (look name.now (pairs_of context.now)) tree.undefined) }
+    ensures { IfOk result
+        (λ v. view v ≡ unwrap_or (look name.now (pairs_of context.now)) tree.undefined) }
 {
     match context.get(name) {
         Some(value) => value.try_clone(alloc),
@@ -59,7 +62,9 @@ fn fill(
     name: &str,
     context: &Context,
 ) -> Result<(), NoMemory>
-    ensures { OnOk result (values_view globals.new.items ≡ slice_set (values_view globals.old.items) slot (unwrap_or (look name.now (pairs_of context.now)) tree.undefined)) }
+    ensures { OnOk result (values_view globals.new.items
+        ≡ slice_set (values_view globals.old.items) slot
+        (unwrap_or (look name.now (pairs_of context.now)) tree.undefined)) }
 {
     let slot = usize::from(slot);
     let value = named_value(alloc, name, context)?;
@@ -81,7 +86,9 @@ fn undefined_values(alloc: Global, count: u16) -> Result<Vec<Value>, NoMemory>
 
 // The globals: the context's values by their names, and others undefined.
 fn globals_of<C: Code>(alloc: Global, code: &C, context: &Context) -> Result<Vec<Value>, NoMemory>
-    ensures { IfOk result (λ gs. values_view gs.items ≡ filled (pairs_of context.now) (C.code code.now).names (replicate (C.code code.now).globals tree.undefined)) }
+    ensures { IfOk result (λ gs. values_view gs.items
+        ≡ filled (pairs_of context.now) (C.code code.now).names
+        (replicate (C.code code.now).globals tree.undefined)) }
 {
     let mut globals = undefined_values(alloc, code.globals())?;
     'names: for i in 0..code.names() {
@@ -110,8 +117,12 @@ pub(crate) fn start<C: Code>(
     context: &Context,
     budget: Budget,
 ) -> Result<State, NoMemory>
-    ensures { IfOk result (λ s. config_view s ≡ start_of (C.code code.now) (pairs_of context.now) (budget_view budget)) }
+    ensures state { IfOk result (λ s.
+        config_view s ≡ start_of (C.code code.now) (pairs_of context.now) (budget_view budget)) }
+    ensures depth { IfOk result (λ s. s.left.depth + length s.stack.callers < 2 ^ 32) }
 {
+    // Only read, so that the depth is known to have 32 bits.
+    let _depth = budget.depth;
     let locals = undefined_values(alloc, entry_locals(code))?;
     let globals = globals_of(alloc, code, context)?;
     Ok(State {

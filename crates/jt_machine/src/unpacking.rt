@@ -14,7 +14,7 @@ use crate::entries::Entry;
 use crate::items::items_of;
 use crate::maps::pop_last;
 use crate::outcome::Outcome;
-use crate::parts::{pay, step_on};
+use crate::parts::{pay_for, step_on};
 use crate::stack::Stack;
 use crate::state::State;
 use jt_value::{Fault, NoMemory, Value, ValueError};
@@ -44,7 +44,8 @@ fn greatest_nesting(values: &[Value]) -> u32
 
 // Puts all of the values on top, the last one uppermost.
 fn push_all(stack: &mut Stack, values: Vec<Value>) -> Result<(), NoMemory>
-    ensures { OnOk result (stack.new ≡ with_running (piled (values_view values.items) stack.old.running) stack.old) }
+    ensures { OnOk result
+        (stack.new ≡ with_running (piled (values_view values.items) stack.old.running) stack.old) }
 {
     let mut values = values;
     values.reverse();
@@ -57,11 +58,13 @@ fn push_all(stack: &mut Stack, values: Vec<Value>) -> Result<(), NoMemory>
 // Puts that many values on top and goes on, or says how the run ends.
 fn spread(state: &mut State, count: u32, values: Vec<Value>) -> Result<Option<Outcome>, NoMemory>
     requires { state.old.point + 1 < 2 ^ 64 }
-    ensures { IfOk result (λ r. spread_next count (values_view values.items) (config_view state.old) ≡ next_view r state.new) }
+    ensures { IfOk result (λ r. spread_next count (values_view values.items) (config_view state.old)
+        ≡ next_view r state.new) }
 {
     if values.len() != count as usize {
         return Ok(Some(Outcome::Fault(Fault::Unpack)));
     }
+    // Only read, so that the limits are known to have fewer bits than what is counted.
     let _size = state.left.size;
     let _nesting = state.left.nesting;
     if let Err(spent) = state
@@ -82,7 +85,9 @@ fn spread_items(
     value: Value,
 ) -> Result<Option<Outcome>, NoMemory>
     requires { state.old.point + 1 < 2 ^ 64 }
-    ensures { IfOk result (λ r. iterating (items_of_tree (view value)) (λ ts. spread_next count ts (config_view state.old)) ≡ next_view r state.new) }
+    ensures { IfOk result (λ r. iterating (items_of_tree (view value))
+        (λ ts. spread_next count ts (config_view state.old))
+        ≡ next_view r state.new) }
 {
     match items_of(alloc, value) {
         Ok(items) => spread(state, count, items),
@@ -102,9 +107,8 @@ pub(crate) fn unpack(
     requires room { state.old.point + 1 < 2 ^ 64 }
     ensures { IfOk result (λ r. unpack_next count (config_view state.old) ≡ next_view r state.new) }
 {
-    let _size = state.left.size;
     let value = state.stack.pop();
-    if let Some(outcome) = pay(state, 1 + value.size() / 64) {
+    if let Some(outcome) = pay_for(state, &value) {
         return Ok(Some(outcome));
     }
     spread_items(alloc, state, count, value)

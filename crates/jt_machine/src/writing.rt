@@ -71,9 +71,11 @@ pub fn run_to<W: Sink>(
 ) -> Result<Ended, RunToError>
     requires works { W.failed sink.old ≡ false }
     // The run ends so, and just what it emitted to the outermost buffer is written: its text, where it is whole.
-    ensures ended { IfOk result (λ e. HasWritten verified.now (pairs_of context.now) (budget_view budget) e (W.taken sink.old) (W.taken sink.new)) }
+    ensures ended { IfOk result (λ e. HasWritten verified.now (pairs_of context.now)
+        (budget_view budget) e (W.taken sink.old) (W.taken sink.new)) }
     // On an error a beginning of that is written.
-    ensures begun { OnErr result (HasBegun verified.now (pairs_of context.now) (budget_view budget) (W.taken sink.old) (W.taken sink.new)) }
+    ensures begun { OnErr result (HasBegun verified.now (pairs_of context.now) (budget_view budget)
+        (W.taken sink.old) (W.taken sink.new)) }
     // The sink has failed exactly where that is the answer.
     ensures write { IfErr result (λ e. e ≡ RunToError.Write → W.failed sink.new ≡ true) }
     ensures memory { IfErr result (λ e. e ≡ RunToError.NoMemory → W.failed sink.new ≡ false) }
@@ -96,8 +98,10 @@ fn write_code<C: Code, W: Sink>(
     requires whole { IsCode (C.code code.now) }
     requires typed { IsTyped (C.code code.now) }
     requires works { W.failed sink.old ≡ false }
-    ensures ended { IfOk result (λ e. HasWritten (C.code code.now) (pairs_of context.now) (budget_view budget) e (W.taken sink.old) (W.taken sink.new)) }
-    ensures begun { OnErr result (HasBegun (C.code code.now) (pairs_of context.now) (budget_view budget) (W.taken sink.old) (W.taken sink.new)) }
+    ensures ended { IfOk result (λ e. HasWritten (C.code code.now) (pairs_of context.now)
+        (budget_view budget) e (W.taken sink.old) (W.taken sink.new)) }
+    ensures begun { OnErr result (HasBegun (C.code code.now) (pairs_of context.now)
+        (budget_view budget) (W.taken sink.old) (W.taken sink.new)) }
     ensures write { IfErr result (λ e. e ≡ RunToError.Write → W.failed sink.new ≡ true) }
     ensures memory { IfErr result (λ e. e ≡ RunToError.NoMemory → W.failed sink.new ≡ false) }
     ensures still { OnOk result (W.failed sink.new ≡ false) }
@@ -106,7 +110,6 @@ fn write_code<C: Code, W: Sink>(
     if let Some(spent) = context_passes(code, context, &budget) {
         return Ok(Ended::Spent(spent));
     }
-    let _depth = budget.depth;
     let mut state = start(alloc, code, context, budget)?;
     'steps: loop {
         send(&mut state, sink)?;
@@ -119,10 +122,14 @@ fn write_code<C: Code, W: Sink>(
 // Puts what stands in the outermost buffer, and empties the buffer.
 fn send<W: Sink>(state: &mut State, sink: &mut W) -> Result<(), SinkFailed>
     requires { W.failed sink.old ≡ false }
-    ensures all { OnOk result (Appends (W.taken sink.old) (W.taken sink.new) (emitted_by (config_view state.old))) }
-    ensures emptied { OnOk result (config_behind (emitted_by (config_view state.old)) (config_view state.new) ≡ config_view state.old) }
+    ensures all { OnOk result
+        (Appends (W.taken sink.old) (W.taken sink.new) (emitted_by (config_view state.old))) }
+    ensures emptied { OnOk result (config_behind (emitted_by (config_view state.old))
+        (config_view state.new)
+        ≡ config_view state.old) }
     ensures works { OnOk result (W.failed sink.new ≡ false) }
-    ensures front { OnErr result (TookFront (emitted_by (config_view state.old)) (W.taken sink.old) (W.taken sink.new)) }
+    ensures front { OnErr result
+        (TookFront (emitted_by (config_view state.old)) (W.taken sink.old) (W.taken sink.new)) }
     ensures fails { OnErr result (W.failed sink.new ≡ true) }
 {
     match state.outer.first_mut() {
@@ -134,10 +141,12 @@ fn send<W: Sink>(state: &mut State, sink: &mut W) -> Result<(), SinkFailed>
 // Puts what stands in a buffer, and empties it.
 fn drain<W: Sink>(buffer: &mut String, sink: &mut W) -> Result<(), SinkFailed>
     requires { W.failed sink.old ≡ false }
-    ensures all { OnOk result (Appends (W.taken sink.old) (W.taken sink.new) (string_bytes buffer.old)) }
+    ensures all { OnOk result
+        (Appends (W.taken sink.old) (W.taken sink.new) (string_bytes buffer.old)) }
     ensures emptied { OnOk result (string_bytes buffer.new ≡ []) }
     ensures works { OnOk result (W.failed sink.new ≡ false) }
-    ensures front { OnErr result (TookFront (string_bytes buffer.old) (W.taken sink.old) (W.taken sink.new)) }
+    ensures front { OnErr result
+        (TookFront (string_bytes buffer.old) (W.taken sink.old) (W.taken sink.new)) }
     ensures fails { OnErr result (W.failed sink.new ≡ true) }
 {
     put_all(sink, buffer.as_bytes())?;
@@ -148,10 +157,13 @@ fn drain<W: Sink>(buffer: &mut String, sink: &mut W) -> Result<(), SinkFailed>
 // Puts the text that a run ended with, and says how it ended.
 fn close<W: Sink>(outcome: Outcome, sink: &mut W) -> Result<Ended, SinkFailed>
     requires { W.failed sink.old ≡ false }
-    ensures ended { IfOk result (λ e. outcome_of e (text_written (outcome_view outcome)) ≡ outcome_view outcome) }
-    ensures all { OnOk result (Appends (W.taken sink.old) (W.taken sink.new) (text_written (outcome_view outcome))) }
+    ensures ended { IfOk result
+        (λ e. outcome_of e (text_written (outcome_view outcome)) ≡ outcome_view outcome) }
+    ensures all { OnOk result
+        (Appends (W.taken sink.old) (W.taken sink.new) (text_written (outcome_view outcome))) }
     ensures works { OnOk result (W.failed sink.new ≡ false) }
-    ensures front { OnErr result (TookFront (text_written (outcome_view outcome)) (W.taken sink.old) (W.taken sink.new)) }
+    ensures front { OnErr result
+        (TookFront (text_written (outcome_view outcome)) (W.taken sink.old) (W.taken sink.new)) }
     ensures fails { OnErr result (W.failed sink.new ≡ true) }
 {
     match outcome {

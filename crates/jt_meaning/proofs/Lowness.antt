@@ -22,7 +22,7 @@ use Rattle.jt_meaning.specs.Layout.{Table, slot_in, names, numbered_of, globals,
 use Rattle.jt_slots.specs.Slots as slots
 use Rattle.jt_slots.specs.Slots.{Slot, local, SExpr, SRow, Targets, one, several, SBody, variable, run}
 use Rattle.jt_slots.specs.Pool.{Constant, own, known}
-use Rattle.jt_meaning.specs.Resolve.{value_or, turned_round, tested_by, filtered_by, in_form, field_from, followed, locals_from, fresh_targets, set_targets, filled, filled_some, first_locals, reads, handed_on, Part, Spot, place, grown, bound_all, copied, scoped, next_given, first_body, invoked_body, invoked_super, invoked, resolved, resolved_row, resolved_asides, resolved_entries, resolved_condition, resolved_filters, resolved_values, placed_body, resolved_stmt, resolved_body, resolved_choice}
+use Rattle.jt_meaning.specs.Resolve.{value_or, turned_round, tested_by, filtered_by, in_form, field_from, followed, locals_from, fresh_targets, set_targets, filled, filled_some, first_locals, reads, handed_on, Part, Spot, place, grown, bound_all, copied, scoped, next_given, first_body, invoked_body, invoked_next, invoked_super, invoked, resolved, resolved_row, resolved_asides, resolved_entries, resolved_condition, resolved_filters, resolved_values, placed_body, resolved_stmt, resolved_body, resolved_choice}
 use Rattle.jt_slots.specs.Size.{targets_height, expr_height, row_height, condition_height, body_height}
 use Rattle.jt_meaning.specs.Measure.{HasAtMost}
 use Rattle.jt_parse.specs.Trees.{stmt_bound, body_bound, branch_bound}
@@ -188,11 +188,15 @@ module _ (world : World) (order : List Home) (q : ℕ) where
   body_low h on None es k = omega arith
   body_low h on (Some i) es k = omega (arith, k)
 
+  next_low : (h : Home) (on : Bool) (i : Option ℕ) (es : SRow Constant) → row_height es ≤ q → expr_height (invoked_next world order h on i es) ≤ 1 + q
+  next_low h on None es k = omega arith
+  next_low h on (Some i) es k = omega (arith, k)
+
   super_low : (sp : Spot) (p : Option Part) → ((x : Text) → length (block_parameters world order sp.home x) ≤ q) → expr_height (invoked_super world order sp p) ≤ 1 + q
   super_low sp None k = omega arith
   super_low sp (Some p) k =
       let xs = block_parameters world order sp.home p.name in
-      body_low sp.home sp.escaping (next_given p.behind) (first_locals 0 xs) (omega (arith, first_low 0 xs, k p.name))
+      next_low sp.home sp.escaping (next_given p.behind) (first_locals 0 xs) (omega (arith, first_low 0 xs, k p.name))
 
   -- rows in front of others
   abbrev RowLow : ℕ → (SRow Constant → SRow Constant) → Type 0
@@ -301,7 +305,7 @@ module _ (world : World) (order : List Home) (q : ℕ) where
   values_low no_pairs sp line b k = omega arith
   values_low (pair x e ps) sp line b k = omega (arith, expr_some e, resolved_low e sp k, values_low ps (grown sp) line b k)
 
-  placed_low : (sp : Spot) (i : Option ℕ) (x : Text) (t : Table) → length (block_parameters world order sp.home x) ≤ q → body_height (placed_body world order sp i x t) ≤ q
+  placed_low : (sp : Spot) (i : Option ℕ) (x : Text) (t : Table) → length (block_parameters world order sp.home x) ≤ q → body_height (placed_body world order sp i x t) ≤ 1 + q
   placed_low sp None x t k = omega arith
   placed_low sp (Some i) x t k = omega (arith, reads_low t (block_parameters world order sp.home x), k)
 

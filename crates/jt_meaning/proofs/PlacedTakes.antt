@@ -5,7 +5,7 @@ use Rattle.std.specs.List.{AllByRecursion}
 use Rattle.jt_inherit.specs.Chain.{Home}
 use Rattle.jt_slots.specs.Filters.{Filters}
 use Rattle.jt_rules.specs.World.{World}
-use Rattle.jt_slots.specs.Slots.{SExpr, pooled, variable, field, made, conjunction, disjunction, choice, invoke, SRow, none, item, aside, SStmt, put_pooled, print, assign, if_else, for_each, capture, run, SBody, end, stmt, Routine}
+use Rattle.jt_slots.specs.Slots.{SExpr, pooled, variable, field, absent, made, conjunction, disjunction, choice, invoke, SRow, none, item, aside, SStmt, put_pooled, print, assign, if_else, for_each, capture, run, SBody, end, stmt, Routine}
 use Rattle.jt_slots.specs.Size.{row_count}
 use Rattle.jt_slots.specs.Takes.{MakerTakes, HasParameters, ExprTakes, RowTakes, ConditionTakes, StmtTakes, BodyTakes}
 use Rattle.jt_slots.specs.Pool.{Constant, expr_values, condition_values, stmt_values, body_values, placed_expr, placed_row, placed_condition, placed_stmt, placed_body, placed_routines}
@@ -33,6 +33,7 @@ module _ (fs : Filters) (rs : List (Routine Constant)) (k : ℕ) where
     expr_placed l (pooled c) n h = tt
     expr_placed l (variable s) n h = tt
     expr_placed l (field f) n h = h
+    expr_placed l absent n h = h
     expr_placed l (made m es) n h = (subst (MakerTakes fs m) (sym (count_placed es n)) h.0, row_placed l es n h.1)
     expr_placed l (conjunction a b) n h = (expr_placed l a n h.0, expr_placed l b (n + length (expr_values a)) h.1)
     expr_placed l (disjunction a b) n h = (expr_placed l a n h.0, expr_placed l b (n + length (expr_values a)) h.1)

@@ -5,7 +5,7 @@ use Rattle.jt_value.specs.Tree as tree
 use Rattle.jt_value.specs.Tree.{Tree}
 use Rattle.jt_slots.specs.Got.{Place, Got, gives, bind, checked, at}
 use Rattle.jt_slots.specs.Values.{shown, bytes_of, as_value}
-use Rattle.jt_slots.specs.Slots.{with_locals, SExpr, pooled, variable, field, made, conjunction, disjunction, choice, invoke, SRow, none, item, aside, Targets, SStmt, put_pooled, print, assign, if_else, for_each, capture, run, SBody, end, stmt, Routine, Memory, Valued, Listed, SCalls, take, store, local, make, valued, in_front, svalue, svalues, skept, sturns, sgone_over, smeaning, smeanings, sperformed, scalls}
+use Rattle.jt_slots.specs.Slots.{with_locals, SExpr, pooled, variable, field, absent, made, conjunction, disjunction, choice, invoke, SRow, none, item, aside, Targets, SStmt, put_pooled, print, assign, if_else, for_each, capture, run, SBody, end, stmt, Routine, Memory, Valued, Listed, SCalls, take, store, local, make, valued, in_front, svalue, svalues, skept, sturns, sgone_over, smeaning, smeanings, sperformed, scalls}
 use Rattle.jt_slots.specs.Loops.{Loop, items_of_value, tree_at}
 use Rattle.jt_slots.specs.Filters.{Filters}
 use Rattle.jt_slots.specs.Pool.{Constant, own, known, constant_in, constant_values, expr_values, row_values, condition_values, stmt_values, body_values, routines_values, placed, placed_expr, placed_row, placed_condition, placed_stmt, placed_body, placed_routines}
@@ -51,6 +51,7 @@ module _ (fs : Filters) (pool : List Tree) (call call' : SCalls) (same : (u : 鈩
     expr_placed (pooled k) n l m h = ap (valued m) (constant_placed k n h)
     expr_placed (variable s) n l m h = refl
     expr_placed (field f) n l m h = refl
+    expr_placed absent n l m h = refl
     expr_placed (made k es) n l m h = ap (位 g. bind g (位 r. bind (checked (make fs k r.values)) (valued r.memory))) (row_placed es n l m h)
     expr_placed (conjunction a b) n l m h =
         then_same (by_place (placed_expr a n) l m) (by_value a l m) (位 r. if tree.truth r.value then by_place (placed_expr b (n + length (expr_values a))) l r.memory else gives r) (位 r. if tree.truth r.value then by_value b l r.memory else gives r)

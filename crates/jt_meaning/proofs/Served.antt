@@ -19,11 +19,11 @@ use Rattle.jt_meaning.specs.Resolve.{Part, top_spot, place, bound_all, followed,
 use Rattle.jt_meaning.specs.Programs.{body_routines, chain_routines}
 use Rattle.jt_rules.specs.Walk.{Within, used, all_used, broken, pairs_broken, condition_broken, filtering_broken, macro_broken, stmt_broken, body_broken, branches_broken, templates_broken, chains_broken}
 use Rattle.jt_meaning.proofs.Calling.{Included, Tail}
-use Rattle.jt_meaning.proofs.Reading.{same_is}
+use Rattle.jt_meaning.proofs.Reading.{same_is, no_both}
 use Rattle.jt_meaning.proofs.Stating.{Each, each_front, each_back}
 use Rattle.jt_meaning.proofs.Ordering.{Every, every_append, Belongs, Owned, OwnedMacro, templates_belong, all_macro_bodies, all_block_bodies}
-use Rattle.jt_meaning.proofs.Taking.{none_first, none_second, rs}
-use Rattle.jt_meaning.proofs.Serving.{BTakes, followed_takes, copied_takes, stmt_takes, body_serves}
+use Rattle.jt_meaning.proofs.Taking.{none_first, none_second, rs, HasBody}
+use Rattle.jt_meaning.proofs.Serving.{BTakes, followed_takes, copied_takes, Embodied, stmt_takes, body_serves}
 
 -- outside loops, at the top or in a macro, and in a block
 abbrev at_top : Within
@@ -32,65 +32,119 @@ at_top = record { in_loop = false; in_block = false }
 abbrev in_block : Within
 in_block = record { in_loop = false; in_block = true }
 
-module _ (world : World) (h : Home) where
-  -- a body keeps the rules, and its tests and filters are known
-  abbrev Fine : Within → Body → Type 0
-  Fine w c = (body_broken world h c w ≡ None) × BodyKnown world.filters c
+-- a list that has such a member is not empty when it is filtered
+never_empty : (x : Text) (pre : List BlockBody) (b : BlockBody) (bs : List BlockBody) → bytes_eq b.name x ≡ true → filter (λ c. bytes_eq c.name x) (pre ++ (b ∷ bs)) ≡ [] → ⊥
+never_empty x [] b bs same e = kept (bytes_eq b.name x) same e
+  where
+    kept : (c : Bool) → c ≡ true → (if c then b ∷ filter (λ d. bytes_eq d.name x) bs else filter (λ d. bytes_eq d.name x) bs) ≡ [] → ⊥
+    kept true s q = cc
+    kept false s q = no_both s refl
+never_empty x (p ∷ pre) b bs same e = through (bytes_eq p.name x) e (λ q. never_empty x pre b bs same q)
+  where
+    through : (c : Bool) → (if c then p ∷ filter (λ d. bytes_eq d.name x) (pre ++ (b ∷ bs)) else filter (λ d. bytes_eq d.name x) (pre ++ (b ∷ bs))) ≡ [] → (filter (λ d. bytes_eq d.name x) (pre ++ (b ∷ bs)) ≡ [] → ⊥) → ⊥
+    through true q r = cc
+    through false q r = r q
 
-  macros_fine : (t : Text) (c : Body) (w : Within) → Fine w c → Every (λ m. Fine at_top m.body) (macros_in t c)
+module _ (world : World) (order : List Home) (h : Home) where
+  -- each block that stands in the chain has a body there
+  abbrev Bodied : List BlockBody → Type 0
+  Bodied bs = Embodied world order h bs
+
+  abbrev IsBodied : BlockBody → Type 0
+  IsBodied b = HasBody world order h b.name
+
+  bodied_behind : (pre bs : List BlockBody) → all_bodies world.sources world.escaping h ≡ pre ++ bs → Bodied bs
+  bodied_behind pre [] e = tt
+  bodied_behind pre (b ∷ bs) e = (
+    λ none. never_empty b.name pre b bs (same_is b.name) (sym (ap (filter (λ c. bytes_eq c.name b.name)) e) ∙ none),
+    bodied_behind (pre ++ (b ∷ [])) bs (e ∙ sym (append_assoc pre (b ∷ []) bs)),
+  )
+
+  templates_bodied : (ts : List Template) → Bodied (flat_map (λ t. blocks_in t.name t.body world.escaping) ts) → Every (λ t. Bodied (blocks_in t.name t.body world.escaping)) ts
+  templates_bodied [] d = tt
+  templates_bodied (t ∷ ts) d = (
+    each_front IsBodied (blocks_in t.name t.body world.escaping) (flat_map (λ u. blocks_in u.name u.body world.escaping) ts) d,
+    templates_bodied ts (each_back IsBodied (blocks_in t.name t.body world.escaping) (flat_map (λ u. blocks_in u.name u.body world.escaping) ts) d),
+  )
+
+  -- a body of a template keeps the rules, its tests and filters are known, and its blocks have bodies
+  abbrev Fine : Within → Text → Bool → Body → Type 0
+  Fine w t on c = (body_broken world h c w ≡ None) × BodyKnown world.filters c × Bodied (blocks_in t c on)
+
+  abbrev FineMacro : MacroBody → Type 0
+  FineMacro m = Fine at_top m.template world.escaping m.body
+
+  macros_fine : (t : Text) (c : Body) (w : Within) → Fine w t world.escaping c → Every FineMacro (macros_in t c)
   macros_fine t end w f = tt
   macros_fine t (stmt (macro line x ps body) rest) w f = (
-    (none_second (macro_broken world h x ps) (body_broken world h body at_top) (none_first (stmt_broken world h (macro line x ps body) w) (body_broken world h rest w) f.0), f.1.0),
-    macros_fine t rest w (none_second (stmt_broken world h (macro line x ps body) w) (body_broken world h rest w) f.0, f.1.1),
+    (
+      none_second (macro_broken world h x ps) (body_broken world h body at_top) (none_first (stmt_broken world h (macro line x ps body) w) (body_broken world h rest w) f.0),
+      f.1.0,
+      each_front IsBodied (blocks_in t body world.escaping) (blocks_in t rest world.escaping) f.2,
+    ),
+    macros_fine t rest w (none_second (stmt_broken world h (macro line x ps body) w) (body_broken world h rest w) f.0, f.1.1, each_back IsBodied (blocks_in t body world.escaping) (blocks_in t rest world.escaping) f.2),
   )
-  macros_fine t (stmt s rest) w f = macros_fine t rest w (none_second (stmt_broken world h s w) (body_broken world h rest w) f.0, f.1.1)
+  macros_fine t (stmt s rest) w f =
+      macros_fine t rest w (none_second (stmt_broken world h s w) (body_broken world h rest w) f.0, f.1.1, each_back IsBodied (blocks_of t s world.escaping) (blocks_in t rest world.escaping) f.2)
+
+  abbrev FineBlock : BlockBody → Type 0
+  FineBlock b = Fine in_block b.template b.escaping b.body
 
   abbrev AllFine : List BlockBody → Type 0
-  AllFine bs = Every (λ b. Fine in_block b.body) bs
+  AllFine bs = Every FineBlock bs
 
   module _ (t : Text) where
     mutual
-      stmt_fine : (s : Stmt) (on : Bool) (w : Within) → stmt_broken world h s w ≡ None → StmtKnown world.filters s → AllFine (blocks_of t s on)
-      stmt_fine (block line x scoped required body) on w e k = ((e, k), body_fine body on in_block e k)
-      stmt_fine (choose bs other) on w e k =
-          every_append (λ b. Fine in_block b.body) (blocks_under t bs on) (blocks_in t other on) (branches_fine bs on w (none_first (branches_broken world h bs w) (body_broken world h other w) e) k.0)
-          (body_fine other on w (none_second (branches_broken world h bs w) (body_broken world h other w) e) k.1)
-      stmt_fine (for_each line xs a c body other) on w e k =
+      stmt_fine : (s : Stmt) (on : Bool) (w : Within) → stmt_broken world h s w ≡ None → StmtKnown world.filters s → Bodied (blocks_of t s on) → AllFine (blocks_of t s on)
+      stmt_fine (block line x scoped required body) on w e k d = ((e, k, d.1), body_fine body on in_block e k d.1)
+      stmt_fine (choose bs other) on w e k d =
+          every_append FineBlock (blocks_under t bs on) (blocks_in t other on)
+          (branches_fine bs on w (none_first (branches_broken world h bs w) (body_broken world h other w) e) k.0 (each_front IsBodied (blocks_under t bs on) (blocks_in t other on) d))
+          (body_fine other on w (none_second (branches_broken world h bs w) (body_broken world h other w) e) k.1 (each_back IsBodied (blocks_under t bs on) (blocks_in t other on) d))
+      stmt_fine (for_each line xs a c body other) on w e k d =
           let e3 = none_second (condition_broken world h c w) _ (none_second (all_used world h xs) _ (none_second (broken world h a w) _ e)) in
-          every_append (λ b. Fine in_block b.body) (blocks_in t body on) (blocks_in t other on) (body_fine body on (record w { in_loop = true }) (none_first (body_broken world h body (record w { in_loop = true })) (body_broken world h other w) e3) k.2)
-          (body_fine other on w (none_second (body_broken world h body (record w { in_loop = true })) (body_broken world h other w) e3) k.3)
-      stmt_fine (set_block line x body) on w e k = body_fine body on w (none_second (used world h x) (body_broken world h body w) e) k
-      stmt_fine (with_values line ps body) on w e k = body_fine body on w (none_second (all_used world h (keywords ps)) (body_broken world h body w) (none_second (pairs_broken world h ps w) _ e)) k.1
-      stmt_fine (filter_block line fs body) on w e k = body_fine body on w (none_second (filtering_broken world h fs w) (body_broken world h body w) e) k.1
-      stmt_fine (autoescape line now body) on w e k = body_fine body now w e k
-      stmt_fine (macro line x ps body) on w e k = body_fine body on at_top (none_second (macro_broken world h x ps) (body_broken world h body at_top) e) k
-      stmt_fine (data_of d) on w e k = tt
-      stmt_fine (print line a) on w e k = tt
-      stmt_fine (set line xs a) on w e k = tt
-      stmt_fine (include line n i c) on w e k = tt
-      stmt_fine (extends line n) on w e k = tt
+          every_append FineBlock (blocks_in t body on) (blocks_in t other on)
+          (body_fine body on (record w { in_loop = true }) (none_first (body_broken world h body (record w { in_loop = true })) (body_broken world h other w) e3) k.2 (each_front IsBodied (blocks_in t body on) (blocks_in t other on) d))
+          (body_fine other on w (none_second (body_broken world h body (record w { in_loop = true })) (body_broken world h other w) e3) k.3 (each_back IsBodied (blocks_in t body on) (blocks_in t other on) d))
+      stmt_fine (set_block line x body) on w e k d = body_fine body on w (none_second (used world h x) (body_broken world h body w) e) k d
+      stmt_fine (with_values line ps body) on w e k d = body_fine body on w (none_second (all_used world h (keywords ps)) (body_broken world h body w) (none_second (pairs_broken world h ps w) _ e)) k.1 d
+      stmt_fine (filter_block line fs body) on w e k d = body_fine body on w (none_second (filtering_broken world h fs w) (body_broken world h body w) e) k.1 d
+      stmt_fine (autoescape line now body) on w e k d = body_fine body now w e k d
+      stmt_fine (macro line x ps body) on w e k d = body_fine body on at_top (none_second (macro_broken world h x ps) (body_broken world h body at_top) e) k d
+      stmt_fine (data_of s) on w e k d = tt
+      stmt_fine (print line a) on w e k d = tt
+      stmt_fine (set line xs a) on w e k d = tt
+      stmt_fine (include line n i c) on w e k d = tt
+      stmt_fine (extends line n) on w e k d = tt
 
-      body_fine : (c : Body) (on : Bool) (w : Within) → body_broken world h c w ≡ None → BodyKnown world.filters c → AllFine (blocks_in t c on)
-      body_fine end on w e k = tt
-      body_fine (stmt s rest) on w e k =
-          every_append (λ b. Fine in_block b.body) (blocks_of t s on) (blocks_in t rest on) (stmt_fine s on w (none_first (stmt_broken world h s w) (body_broken world h rest w) e) k.0) (body_fine rest on w (none_second (stmt_broken world h s w) (body_broken world h rest w) e) k.1)
+      body_fine : (c : Body) (on : Bool) (w : Within) → body_broken world h c w ≡ None → BodyKnown world.filters c → Bodied (blocks_in t c on) → AllFine (blocks_in t c on)
+      body_fine end on w e k d = tt
+      body_fine (stmt s rest) on w e k d =
+          every_append FineBlock (blocks_of t s on) (blocks_in t rest on) (stmt_fine s on w (none_first (stmt_broken world h s w) (body_broken world h rest w) e) k.0 (each_front IsBodied (blocks_of t s on) (blocks_in t rest on) d))
+          (body_fine rest on w (none_second (stmt_broken world h s w) (body_broken world h rest w) e) k.1 (each_back IsBodied (blocks_of t s on) (blocks_in t rest on) d))
 
-      branches_fine : (bs : Branches) (on : Bool) (w : Within) → branches_broken world h bs w ≡ None → BranchesKnown world.filters bs → AllFine (blocks_under t bs on)
-      branches_fine no_branches on w e k = tt
-      branches_fine (branch line c body rest) on w e k =
-          every_append (λ b. Fine in_block b.body) (blocks_in t body on) (blocks_under t rest on) (body_fine body on w (none_second (broken world h c w) (body_broken world h body w) (none_first (option_or (broken world h c w) (body_broken world h body w)) (branches_broken world h rest w) e)) k.1) (branches_fine rest on w (none_second (option_or (broken world h c w) (body_broken world h body w)) (branches_broken world h rest w) e) k.2)
+      branches_fine : (bs : Branches) (on : Bool) (w : Within) → branches_broken world h bs w ≡ None → BranchesKnown world.filters bs → Bodied (blocks_under t bs on) → AllFine (blocks_under t bs on)
+      branches_fine no_branches on w e k d = tt
+      branches_fine (branch line c body rest) on w e k d =
+          every_append FineBlock (blocks_in t body on) (blocks_under t rest on)
+          (body_fine body on w (none_second (broken world h c w) (body_broken world h body w) (none_first (option_or (broken world h c w) (body_broken world h body w)) (branches_broken world h rest w) e)) k.1 (each_front IsBodied (blocks_in t body on) (blocks_under t rest on) d))
+          (branches_fine rest on w (none_second (option_or (broken world h c w) (body_broken world h body w)) (branches_broken world h rest w) e) k.2 (each_back IsBodied (blocks_in t body on) (blocks_under t rest on) d))
 
-  templates_fine : (ts : List Template) → templates_broken world h ts ≡ None → TemplatesKnown world.filters ts → Every (λ t. Fine at_top t.body) ts
-  templates_fine [] e k = tt
-  templates_fine (t ∷ ts) e k = ((none_first (body_broken world h t.body at_top) _ (none_first _ (templates_broken world h ts) e), k.0), templates_fine ts (none_second _ (templates_broken world h ts) e) k.1)
+  abbrev FineTemplate : Template → Type 0
+  FineTemplate t = Fine at_top t.name world.escaping t.body
 
-  all_macros_fine : (ts : List Template) → Every (λ t. Fine at_top t.body) ts → Every (λ m. Fine at_top m.body) (flat_map (λ t. macros_in t.name t.body) ts)
+  templates_fine : (ts : List Template) → templates_broken world h ts ≡ None → TemplatesKnown world.filters ts → Every (λ t. Bodied (blocks_in t.name t.body world.escaping)) ts → Every FineTemplate ts
+  templates_fine [] e k d = tt
+  templates_fine (t ∷ ts) e k d = ((none_first (body_broken world h t.body at_top) _ (none_first _ (templates_broken world h ts) e), k.0, d.0), templates_fine ts (none_second _ (templates_broken world h ts) e) k.1 d.1)
+
+  all_macros_fine : (ts : List Template) → Every FineTemplate ts → Every FineMacro (flat_map (λ t. macros_in t.name t.body) ts)
   all_macros_fine [] f = tt
-  all_macros_fine (t ∷ ts) f = every_append (λ m. Fine at_top m.body) (macros_in t.name t.body) (flat_map (λ u. macros_in u.name u.body) ts) (macros_fine t.name t.body at_top f.0) (all_macros_fine ts f.1)
+  all_macros_fine (t ∷ ts) f = every_append FineMacro (macros_in t.name t.body) (flat_map (λ u. macros_in u.name u.body) ts) (macros_fine t.name t.body at_top f.0) (all_macros_fine ts f.1)
 
-  all_blocks_fine : (on : Bool) (ts : List Template) → Every (λ t. Fine at_top t.body) ts → AllFine (flat_map (λ t. blocks_in t.name t.body on) ts)
-  all_blocks_fine on [] f = tt
-  all_blocks_fine on (t ∷ ts) f = every_append (λ b. Fine in_block b.body) (blocks_in t.name t.body on) (flat_map (λ u. blocks_in u.name u.body on) ts) (body_fine t.name t.body on at_top f.0.0 f.0.1) (all_blocks_fine on ts f.1)
+  all_blocks_fine : (ts : List Template) → Every FineTemplate ts → AllFine (flat_map (λ t. blocks_in t.name t.body world.escaping) ts)
+  all_blocks_fine [] f = tt
+  all_blocks_fine (t ∷ ts) f =
+      every_append FineBlock (blocks_in t.name t.body world.escaping) (flat_map (λ u. blocks_in u.name u.body world.escaping) ts) (body_fine t.name t.body world.escaping at_top f.0.0 f.0.1 f.0.2) (all_blocks_fine ts f.1)
 
 -- ---- routines
 
@@ -101,29 +155,30 @@ module _ (world : World) (order : List Home) (ordered : InOrder world.sources or
   abbrev InChain : Body → Type 0
   InChain c = Belongs world order ordered h known c
 
-  chain_sets : (c : Body) (t : Text) → Fine world h at_top c → Each (Included world order h) (needs_in true c) → BTakes world order false (resolved_sets world order c (top_spot world order h t))
+  chain_sets : (c : Body) (t : Text) → Fine world order h at_top t world.escaping c → Each (Included world order h) (needs_in true c) → BTakes world order false (resolved_sets world order c (top_spot world order h t))
   chain_sets end t f n = tt
   chain_sets (stmt s rest) t f n =
-      which (is_set s) (chain_sets rest t (none_second (stmt_broken world h s at_top) (body_broken world h rest at_top) f.0, f.1.1) (each_back (Included world order h) (Rattle.jt_inherit.specs.Includes.needs_by true s) (needs_in true rest) n))
+      which (is_set s) (chain_sets rest t (none_second (stmt_broken world h s at_top) (body_broken world h rest at_top) f.0, f.1.1, each_back (IsBodied world order h) (blocks_of t s world.escaping) (blocks_in t rest world.escaping) f.2) (each_back (Included world order h) (Rattle.jt_inherit.specs.Includes.needs_by true s) (needs_in true rest) n))
     where
       which : (b : Bool) → BTakes world order false (resolved_sets world order rest (top_spot world order h t))
           → BTakes world order false (if b then followed (resolved_stmt world order s (top_spot world order h t)) (resolved_sets world order rest (top_spot world order h t)) else resolved_sets world order rest (top_spot world order h t))
       which false r = r
       which true r =
           followed_takes world order false (resolved_stmt world order s (top_spot world order h t)) (resolved_sets world order rest (top_spot world order h t))
-          (stmt_takes world order s (top_spot world order h t) at_top known tt (none_first (stmt_broken world h s at_top) (body_broken world h rest at_top) f.0) f.1.0 (each_front (Included world order h) (Rattle.jt_inherit.specs.Includes.needs_by true s) (needs_in true rest) n)) r
+          (stmt_takes world order s (top_spot world order h t) at_top known refl (none_first (stmt_broken world h s at_top) (body_broken world h rest at_top) f.0) f.1.0 (each_front (Included world order h) (Rattle.jt_inherit.specs.Includes.needs_by true s) (needs_in true rest) n)
+          (each_front (IsBodied world order h) (blocks_of t s world.escaping) (blocks_in t rest world.escaping) f.2)) r
 
-  chain_takes : (ts : List Template) → Every (λ t. Fine world h at_top t.body) ts → Every (λ t. InChain t.body) ts → BTakes world order false (resolved_chain world order h ts)
+  chain_takes : (ts : List Template) → Every (FineTemplate world order h) ts → Every (λ t. InChain t.body) ts → BTakes world order false (resolved_chain world order h ts)
   chain_takes [] f b = tt
-  chain_takes (t ∷ []) f b = body_serves world order t.body (top_spot world order h t.name) at_top known tt f.0.0 f.0.1 b.0.included
+  chain_takes (t ∷ []) f b = body_serves world order t.body (top_spot world order h t.name) at_top known refl f.0.0 f.0.1 b.0.included f.0.2
   chain_takes (t ∷ u ∷ us) f b =
       followed_takes world order false (resolved_sets world order t.body (top_spot world order h t.name)) (resolved_chain world order h (u ∷ us)) (chain_sets t.body t.name f.0 b.0.included) (chain_takes (u ∷ us) f.1 b.1)
 
-  macros_take : (ms : List MacroBody) → Every (λ m. Fine world h at_top m.body) ms → Every (OwnedMacro world order ordered h known) ms → Every Serves (map (macro_routine world order h) ms)
+  macros_take : (ms : List MacroBody) → Every (FineMacro world order h) ms → Every (OwnedMacro world order ordered h known) ms → Every Serves (map (macro_routine world order h) ms)
   macros_take [] f b = tt
   macros_take (m ∷ ms) f b =
       let sp = bound_all (map (λ p. p.name) m.parameters) (top_spot world order h m.template) in
-      (copied_takes world order false (place sp 1) sp.table sp.free (set_in m.body) (resolved_body world order m.body (bound_all (set_in m.body) sp)) (body_serves world order m.body (bound_all (set_in m.body) sp) at_top known tt f.0.0 f.0.1 b.0.body.belongs.included), macros_take ms f.1 b.1)
+      (copied_takes world order false (place sp 1) sp.table sp.free (set_in m.body) (resolved_body world order m.body (bound_all (set_in m.body) sp)) (body_serves world order m.body (bound_all (set_in m.body) sp) at_top known refl f.0.0 f.0.1 b.0.body.belongs.included f.0.2), macros_take ms f.1 b.1)
 
   filter_behind : (p : (ℕ × BlockBody) → Bool) (pre : List (ℕ × BlockBody)) (b : ℕ × BlockBody) (bs : List (ℕ × BlockBody)) → p b ≡ true → filter p (pre ++ (b ∷ bs)) ≡ filter p pre ++ (b ∷ filter p bs)
   filter_behind p [] b bs e = ap (λ c. if c then b ∷ filter p bs else filter p bs) e
@@ -133,14 +188,14 @@ module _ (world : World) (order : List Home) (ordered : InOrder world.sources or
       through true f = ap (λ zs. x ∷ zs) f
       through false f = f
 
-  blocks_take : (pre bs : List (ℕ × BlockBody)) → numbered_bodies world h ≡ pre ++ bs → Every (λ b. Fine world h in_block b.1.body) bs → Every (λ b. Owned world order ordered h known b.1.body) bs → Every Serves (body_routines world order h bs)
+  blocks_take : (pre bs : List (ℕ × BlockBody)) → numbered_bodies world h ≡ pre ++ bs → Every (λ b. FineBlock world order h b.1) bs → Every (λ b. Owned world order ordered h known b.1.body) bs → Every Serves (body_routines world order h bs)
   blocks_take pre [] e f b = tt
   blocks_take pre (c ∷ cs) e f b =
       let same = λ (d : ℕ × BlockBody). bytes_eq d.1.name c.1.name in
       let part : Part = record { name = c.1.name; behind = filter same cs } in
       let sp = bound_all (block_parameters world order h c.1.name) (record (top_spot world order h c.1.template) { escaping = c.1.escaping; part = Some part }) in
       let tail : Tail world order h c.1.name (filter same cs) = (filter same pre ++ (c ∷ []), ap (filter same) e ∙ filter_behind same pre c cs (same_is c.1.name) ∙ sym (append_assoc (filter same pre) (c ∷ []) (filter same cs))) in (
-        copied_takes world order false (place sp 1) sp.table sp.free (set_in c.1.body) (resolved_body world order c.1.body (bound_all (set_in c.1.body) sp)) (body_serves world order c.1.body (bound_all (set_in c.1.body) sp) in_block known tail f.0.0 f.0.1 b.0.belongs.included),
+        copied_takes world order false (place sp 1) sp.table sp.free (set_in c.1.body) (resolved_body world order c.1.body (bound_all (set_in c.1.body) sp)) (body_serves world order c.1.body (bound_all (set_in c.1.body) sp) in_block known tail f.0.0 f.0.1 b.0.belongs.included f.0.2),
         blocks_take (pre ++ (c ∷ [])) cs (e ∙ sym (append_assoc pre (c ∷ []) cs)) f.1 b.1,
       )
 
@@ -151,12 +206,12 @@ module _ (world : World) (order : List Home) (ordered : InOrder world.sources or
   chain_serves : templates_broken world h (templates world.sources h) ≡ None → TemplatesKnown world.filters (templates world.sources h) → Every Serves (chain_routines world order h)
   chain_serves e k =
       let ts = templates world.sources h in
-      let f = templates_fine world h ts e k in
+      let f = templates_fine world order h ts e k (templates_bodied world order h ts (bodied_behind world order h [] (all_bodies world.sources world.escaping h) refl)) in
       let b = templates_belong world order ordered h known in (
         chain_takes ts f b,
         every_append Serves (map (macro_routine world order h) (macros world.sources h)) (body_routines world order h (numbered_bodies world h))
-            (macros_take (macros world.sources h) (all_macros_fine world h ts f) (all_macro_bodies world order ordered h known ts b))
-            (blocks_take [] (numbered_bodies world h) refl (counted_every (λ b. Fine world h in_block b.body) 0 (all_bodies world.sources world.escaping h) (all_blocks_fine world h world.escaping ts f))
+            (macros_take (macros world.sources h) (all_macros_fine world order h ts f) (all_macro_bodies world order ordered h known ts b))
+            (blocks_take [] (numbered_bodies world h) refl (counted_every (FineBlock world order h) 0 (all_bodies world.sources world.escaping h) (all_blocks_fine world order h ts f))
             (counted_every (λ b. Owned world order ordered h known b.body) 0 (all_bodies world.sources world.escaping h) (all_block_bodies world order ordered h known world.escaping ts b))),
       )
 

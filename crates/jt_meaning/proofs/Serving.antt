@@ -6,7 +6,7 @@ use Rattle.jt_expr.specs.Trees.{Expr}
 use Rattle.jt_slots.specs.Got.{Place}
 use Rattle.jt_inherit.specs.Uses.{count, keywords, set_in}
 use Rattle.jt_parse.specs.Trees.{Text, Filtering, Stmt, data_of, print, choose, for_each, set, set_block, with_values, filter_block, autoescape, macro, include, extends, block, Body, end, stmt, Branches, no_branches, branch}
-use Rattle.jt_inherit.specs.Chain.{Home, BlockBody}
+use Rattle.jt_inherit.specs.Chain.{Home, BlockBody, blocks_of, blocks_in, blocks_under}
 use Rattle.jt_parse.specs.Texts.{among}
 use Rattle.jt_rules.specs.World.{World}
 use Rattle.jt_meaning.specs.Expressions.{filter_parameters}
@@ -24,7 +24,7 @@ use Rattle.jt_meaning.proofs.Calling.{Included}
 use Rattle.jt_meaning.proofs.Stating.{Each, each_front, each_back}
 use Rattle.jt_meaning.proofs.Finding.{chain_is, body_is}
 use Rattle.jt_meaning.proofs.Reading.{no_both}
-use Rattle.jt_meaning.proofs.Taking.{none_first, none_second, rs, ETakes, PartTail, slot_takes, reads_take, reads_count, filtered_takes, some_takes, row_counts, aside_counts, some_count, expr_takes, row_takes, asides_take}
+use Rattle.jt_meaning.proofs.Taking.{none_first, none_second, rs, ETakes, HasBody, none_numbered, PartTail, slot_takes, reads_take, reads_count, filtered_takes, some_takes, row_counts, aside_counts, some_count, expr_takes, row_takes, asides_take}
 
 module _ (world : World) (order : List Home) where
   abbrev pub BTakes : Bool → SBody Constant → Type 0
@@ -42,9 +42,9 @@ module _ (world : World) (order : List Home) where
   handed_takes l p table n [] = tt
   handed_takes l p table n (x ∷ xs) = (slot_takes world order l (slot_in x table) (known 0), handed_takes l p table (suc n) xs)
 
-  placed_takes : (l : Bool) (sp : Spot) (x : Text) (table : Table) (bs : List (ℕ × BlockBody)) → among sp.home order ≡ true → numbered_of world sp.home x ≡ bs → BTakes l (placed_body world order sp (first_body bs) x table)
-  placed_takes l sp x table [] e t = tt
-  placed_takes l sp x table (b ∷ bs) e t =
+  placed_takes : (l : Bool) (sp : Spot) (x : Text) (table : Table) (bs : List (ℕ × BlockBody)) → among sp.home order ≡ true → HasBody world order sp.home x → numbered_of world sp.home x ≡ bs → BTakes l (placed_body world order sp (first_body bs) x table)
+  placed_takes l sp x table [] e there t = absurd (none_numbered world order sp.home x there t)
+  placed_takes l sp x table (b ∷ bs) e there t =
       let found = body_is world order sp.home x b.0 b.1 [] bs e t in (
         (
           subst (λ z. HasParameters z (row_count (reads table (block_parameters world order sp.home x)))) (sym found.0) (ap (λ z. length (block_parameters world order sp.home z)) found.1 ∙ sym (reads_count world order table (block_parameters world order sp.home x))),
@@ -53,7 +53,7 @@ module _ (world : World) (order : List Home) where
         tt,
       )
 
-  filters_take : (w : Within) (fs : List Filtering) (sp : Spot) (e : SExpr Constant) → among sp.home order ≡ true → PartTail world order sp.home sp.part → filtering_broken world sp.home fs w ≡ None → FilteringKnown world.filters fs → ETakes world order w.in_loop e
+  filters_take : (w : Within) (fs : List Filtering) (sp : Spot) (e : SExpr Constant) → among sp.home order ≡ true → PartTail world order w.in_block sp.home sp.part → filtering_broken world sp.home fs w ≡ None → FilteringKnown world.filters fs → ETakes world order w.in_loop e
       → ETakes world order w.in_loop (resolved_filters world order fs sp e)
   filters_take w [] sp e k t h f r = r
   filters_take w (g ∷ fs) sp e k t h f r =
@@ -69,24 +69,28 @@ module _ (world : World) (order : List Home) where
             (asides_take world order w g.keywords sp k t (none_first (pairs_broken world sp.home g.keywords w) _ h2) f.2 rest (some_takes world order w.in_loop (filter_parameters world.filters (world.filters.named g.name g.arguments g.keywords)) (count g.arguments) (keywords g.keywords) (locals_from sp.free (keywords g.keywords)))),
       ))
 
-  values_take : (w : Within) (ps : written.Pairs) (sp : Spot) (line : ℕ) (behind : SBody Constant) → among sp.home order ≡ true → PartTail world order sp.home sp.part → pairs_broken world sp.home ps w ≡ None → Rattle.jt_rules.specs.Known.PairsKnown world.filters ps → BTakes w.in_loop behind
+  values_take : (w : Within) (ps : written.Pairs) (sp : Spot) (line : ℕ) (behind : SBody Constant) → among sp.home order ≡ true → PartTail world order w.in_block sp.home sp.part → pairs_broken world sp.home ps w ≡ None → Rattle.jt_rules.specs.Known.PairsKnown world.filters ps → BTakes w.in_loop behind
       → BTakes w.in_loop (resolved_values world order ps sp line behind)
   values_take w written.no_pairs sp line behind e t h k r = r
   values_take w (written.pair x a ps) sp line behind e t h k r =
       (expr_takes world order w a sp e t (none_first (broken world sp.home a w) (pairs_broken world sp.home ps w) h) k.0, values_take w ps (grown sp) line behind e t (none_second (broken world sp.home a w) (pairs_broken world sp.home ps w) h) k.1 r)
 
-  condition_takes : (w : Within) (c : Option Expr) (sp : Spot) → among sp.home order ≡ true → PartTail world order sp.home sp.part → condition_broken world sp.home c w ≡ None → ConditionKnown world.filters c → ConditionTakes world.filters (rs world order) (resolved_condition world order c sp)
+  condition_takes : (w : Within) (c : Option Expr) (sp : Spot) → among sp.home order ≡ true → PartTail world order w.in_block sp.home sp.part → condition_broken world sp.home c w ≡ None → ConditionKnown world.filters c → ConditionTakes world.filters (rs world order) (resolved_condition world order c sp)
   condition_takes w None sp e t h k = tt
   condition_takes w (Some c) sp e t h k = expr_takes world order (record w { in_loop = false }) c sp e t h k
 
+  -- the blocks that stand there have bodies in the chain
+  abbrev pub Embodied : Home → List BlockBody → Type 0
+  Embodied h bs = Each (λ b. HasBody world order h b.name) bs
+
   mutual
-    pub stmt_takes : (s : Stmt) (sp : Spot) (w : Within) → among sp.home order ≡ true → PartTail world order sp.home sp.part → stmt_broken world sp.home s w ≡ None → StmtKnown world.filters s → Each (Included world order sp.home) (needs_by true s) → BTakes w.in_loop (resolved_stmt world order s sp)
-    stmt_takes (data_of d) sp w e t h k n = (tt, tt)
-    stmt_takes (print line a) sp w e t h k n = (expr_takes world order w a sp e t h k, tt)
-    stmt_takes (choose bs other) sp w e t h k n =
-        choice_takes bs sp w (resolved_body world order other sp) e t (none_first (branches_broken world sp.home bs w) (body_broken world sp.home other w) h) k.0 (each_front (Included world order sp.home) (needs_under true bs) (needs_in true other) n)
-        (body_serves other sp w e t (none_second (branches_broken world sp.home bs w) (body_broken world sp.home other w) h) k.1 (each_back (Included world order sp.home) (needs_under true bs) (needs_in true other) n))
-    stmt_takes (for_each line xs a c body other) sp w e t h k n =
+    pub stmt_takes : (s : Stmt) (sp : Spot) (w : Within) → among sp.home order ≡ true → PartTail world order w.in_block sp.home sp.part → stmt_broken world sp.home s w ≡ None → StmtKnown world.filters s → Each (Included world order sp.home) (needs_by true s) → Embodied sp.home (blocks_of sp.template s sp.escaping) → BTakes w.in_loop (resolved_stmt world order s sp)
+    stmt_takes (data_of s) sp w e t h k n d = (tt, tt)
+    stmt_takes (print line a) sp w e t h k n d = (expr_takes world order w a sp e t h k, tt)
+    stmt_takes (choose bs other) sp w e t h k n d =
+        choice_takes bs sp w (resolved_body world order other sp) e t (none_first (branches_broken world sp.home bs w) (body_broken world sp.home other w) h) k.0 (each_front (Included world order sp.home) (needs_under true bs) (needs_in true other) n) (each_front (λ b. HasBody world order sp.home b.name) (blocks_under sp.template bs sp.escaping) (blocks_in sp.template other sp.escaping) d)
+        (body_serves other sp w e t (none_second (branches_broken world sp.home bs w) (body_broken world sp.home other w) h) k.1 (each_back (Included world order sp.home) (needs_under true bs) (needs_in true other) n) (each_back (λ b. HasBody world order sp.home b.name) (blocks_under sp.template bs sp.escaping) (blocks_in sp.template other sp.escaping) d))
+    stmt_takes (for_each line xs a c body other) sp w e t h k n d =
         let h1 = none_second (broken world sp.home a w) _ h in
         let h2 = none_second (all_used world sp.home xs) _ h1 in
         let h3 = none_second (condition_broken world sp.home c w) _ h2 in (
@@ -94,29 +98,29 @@ module _ (world : World) (order : List Home) where
             expr_takes world order w a sp e t (none_first (broken world sp.home a w) _ h) k.0,
             condition_takes w c (bound_all xs sp) e t (none_first (condition_broken world sp.home c w) _ h2) k.1,
             copied_takes true (place sp 1) (bound_all xs sp).table (bound_all xs sp).free (set_in body) (resolved_body world order body (bound_all (set_in body) (bound_all xs sp)))
-                (body_serves body (bound_all (set_in body) (bound_all xs sp)) (record w { in_loop = true }) e t (none_first (body_broken world sp.home body (record w { in_loop = true })) _ h3) k.2 (each_front (Included world order sp.home) (needs_in true body) (needs_in true other) n)),
-            body_serves other sp w e t (none_second (body_broken world sp.home body (record w { in_loop = true })) _ h3) k.3 (each_back (Included world order sp.home) (needs_in true body) (needs_in true other) n),
+                (body_serves body (bound_all (set_in body) (bound_all xs sp)) (record w { in_loop = true }) e t (none_first (body_broken world sp.home body (record w { in_loop = true })) _ h3) k.2 (each_front (Included world order sp.home) (needs_in true body) (needs_in true other) n) (each_front (λ b. HasBody world order sp.home b.name) (blocks_in sp.template body sp.escaping) (blocks_in sp.template other sp.escaping) d)),
+            body_serves other sp w e t (none_second (body_broken world sp.home body (record w { in_loop = true })) _ h3) k.3 (each_back (Included world order sp.home) (needs_in true body) (needs_in true other) n) (each_back (λ b. HasBody world order sp.home b.name) (blocks_in sp.template body sp.escaping) (blocks_in sp.template other sp.escaping) d),
           ),
           tt,
         )
-    stmt_takes (set line xs a) sp w e t h k n = (expr_takes world order w a sp e t (none_first (broken world sp.home a w) _ h) k, tt)
-    stmt_takes (set_block line x body) sp w e t h k n =
-        (copied_takes w.in_loop (place sp 1) sp.table sp.free (set_in body) (resolved_body world order body (bound_all (set_in body) sp)) (body_serves body (bound_all (set_in body) sp) w e t (none_second (used world sp.home x) _ h) k n), tt)
-    stmt_takes (with_values line ps body) sp w e t h k n =
+    stmt_takes (set line xs a) sp w e t h k n d = (expr_takes world order w a sp e t (none_first (broken world sp.home a w) _ h) k, tt)
+    stmt_takes (set_block line x body) sp w e t h k n d =
+        (copied_takes w.in_loop (place sp 1) sp.table sp.free (set_in body) (resolved_body world order body (bound_all (set_in body) sp)) (body_serves body (bound_all (set_in body) sp) w e t (none_second (used world sp.home x) _ h) k n d), tt)
+    stmt_takes (with_values line ps body) sp w e t h k n d =
         let h1 = none_second (pairs_broken world sp.home ps w) _ h in
         let in_it = bound_all (keywords ps) sp in
         values_take w ps sp line (scoped (set_in body) in_it (resolved_body world order body)) e t (none_first (pairs_broken world sp.home ps w) _ h) k.0
-        (copied_takes w.in_loop (place sp 1) in_it.table in_it.free (set_in body) (resolved_body world order body (bound_all (set_in body) in_it)) (body_serves body (bound_all (set_in body) in_it) w e t (none_second (all_used world sp.home (keywords ps)) _ h1) k.1 n))
-    stmt_takes (filter_block line fs body) sp w e t h k n = (
+        (copied_takes w.in_loop (place sp 1) in_it.table in_it.free (set_in body) (resolved_body world order body (bound_all (set_in body) in_it)) (body_serves body (bound_all (set_in body) in_it) w e t (none_second (all_used world sp.home (keywords ps)) _ h1) k.1 n d))
+    stmt_takes (filter_block line fs body) sp w e t h k n d = (
       copied_takes w.in_loop (place sp 1) sp.table (suc sp.free) (set_in body) (resolved_body world order body (bound_all (set_in body) (grown sp)))
-          (body_serves body (bound_all (set_in body) (grown sp)) w e t (none_second (filtering_broken world sp.home fs w) _ h) k.1 n),
+          (body_serves body (bound_all (set_in body) (grown sp)) w e t (none_second (filtering_broken world sp.home fs w) _ h) k.1 n d),
       (filters_take w fs (grown sp) (slots.variable (local sp.free)) e t (none_first (filtering_broken world sp.home fs w) _ h) k.0 tt, tt),
     )
-    stmt_takes (autoescape line on body) sp w e t h k n =
+    stmt_takes (autoescape line on body) sp w e t h k n d =
         let in_it : Spot = record sp { escaping = on } in
-        copied_takes w.in_loop (place sp 1) sp.table sp.free (set_in body) (resolved_body world order body (bound_all (set_in body) in_it)) (body_serves body (bound_all (set_in body) in_it) w e t h k n)
-    stmt_takes (macro line x ps body) sp w e t h k n = tt
-    stmt_takes (include line x ignore_missing with_context) sp w e t h k n = including (is_none (world.sources x)) refl
+        copied_takes w.in_loop (place sp 1) sp.table sp.free (set_in body) (resolved_body world order body (bound_all (set_in body) in_it)) (body_serves body (bound_all (set_in body) in_it) w e t h k n d)
+    stmt_takes (macro line x ps body) sp w e t h k n d = tt
+    stmt_takes (include line x ignore_missing with_context) sp w e t h k n d = including (is_none (world.sources x)) refl
       where
         including : (c : Bool) → is_none (world.sources x) ≡ c
             → BTakes w.in_loop (if c then slots.end else followed (handed_on (place sp line) (if with_context then sp.table else []) (first_slot world order x) (names world order x)) (alone (run (unit world order (of_chain x)) none)))
@@ -129,25 +133,25 @@ module _ (world : World) (order : List Home) where
                 followed_takes w.in_loop (handed_on (place sp line) (if with_context then sp.table else []) (first_slot world order x) (names world order x)) (alone (run (unit world order (of_chain x)) none))
                 (handed_takes w.in_loop (place sp line) (if with_context then sp.table else []) (first_slot world order x) (names world order x))
                 ((subst (λ z. HasParameters z 0) (sym (chain_is world order x g.known)) refl, tt), tt)
-    stmt_takes (extends line x) sp w e t h k n = tt
-    stmt_takes (block line x scoped required body) sp w e t h k n = placed_takes w.in_loop sp x (if scoped then sp.table else globals world order sp.home) (numbered_of world sp.home x) e refl
+    stmt_takes (extends line x) sp w e t h k n d = tt
+    stmt_takes (block line x scoped required body) sp w e t h k n d = placed_takes w.in_loop sp x (if scoped then sp.table else globals world order sp.home) (numbered_of world sp.home x) e d.0 refl
 
-    pub body_serves : (c : Body) (sp : Spot) (w : Within) → among sp.home order ≡ true → PartTail world order sp.home sp.part → body_broken world sp.home c w ≡ None → BodyKnown world.filters c → Each (Included world order sp.home) (needs_in true c) → BTakes w.in_loop (resolved_body world order c sp)
-    body_serves end sp w e t h k n = tt
-    body_serves (stmt s rest) sp w e t h k n =
+    pub body_serves : (c : Body) (sp : Spot) (w : Within) → among sp.home order ≡ true → PartTail world order w.in_block sp.home sp.part → body_broken world sp.home c w ≡ None → BodyKnown world.filters c → Each (Included world order sp.home) (needs_in true c) → Embodied sp.home (blocks_in sp.template c sp.escaping) → BTakes w.in_loop (resolved_body world order c sp)
+    body_serves end sp w e t h k n d = tt
+    body_serves (stmt s rest) sp w e t h k n d =
         followed_takes w.in_loop (resolved_stmt world order s sp) (resolved_body world order rest sp)
-        (stmt_takes s sp w e t (none_first (stmt_broken world sp.home s w) (body_broken world sp.home rest w) h) k.0 (each_front (Included world order sp.home) (needs_by true s) (needs_in true rest) n))
-        (body_serves rest sp w e t (none_second (stmt_broken world sp.home s w) (body_broken world sp.home rest w) h) k.1 (each_back (Included world order sp.home) (needs_by true s) (needs_in true rest) n))
+        (stmt_takes s sp w e t (none_first (stmt_broken world sp.home s w) (body_broken world sp.home rest w) h) k.0 (each_front (Included world order sp.home) (needs_by true s) (needs_in true rest) n) (each_front (λ b. HasBody world order sp.home b.name) (blocks_of sp.template s sp.escaping) (blocks_in sp.template rest sp.escaping) d))
+        (body_serves rest sp w e t (none_second (stmt_broken world sp.home s w) (body_broken world sp.home rest w) h) k.1 (each_back (Included world order sp.home) (needs_by true s) (needs_in true rest) n) (each_back (λ b. HasBody world order sp.home b.name) (blocks_of sp.template s sp.escaping) (blocks_in sp.template rest sp.escaping) d))
 
-    pub choice_takes : (bs : Branches) (sp : Spot) (w : Within) (other : SBody Constant) → among sp.home order ≡ true → PartTail world order sp.home sp.part → branches_broken world sp.home bs w ≡ None → BranchesKnown world.filters bs → Each (Included world order sp.home) (needs_under true bs)
+    pub choice_takes : (bs : Branches) (sp : Spot) (w : Within) (other : SBody Constant) → among sp.home order ≡ true → PartTail world order w.in_block sp.home sp.part → branches_broken world sp.home bs w ≡ None → BranchesKnown world.filters bs → Each (Included world order sp.home) (needs_under true bs) → Embodied sp.home (blocks_under sp.template bs sp.escaping)
         → BTakes w.in_loop other → BTakes w.in_loop (resolved_choice world order bs sp other)
-    choice_takes no_branches sp w other e t h k n r = r
-    choice_takes (branch line c body rest) sp w other e t h k n r =
+    choice_takes no_branches sp w other e t h k n d r = r
+    choice_takes (branch line c body rest) sp w other e t h k n d r =
         let h1 = none_first (option_or (broken world sp.home c w) (body_broken world sp.home body w)) (branches_broken world sp.home rest w) h in (
           (
             expr_takes world order w c sp e t (none_first (broken world sp.home c w) (body_broken world sp.home body w) h1) k.0,
-            body_serves body sp w e t (none_second (broken world sp.home c w) (body_broken world sp.home body w) h1) k.1 (each_front (Included world order sp.home) (needs_in true body) (needs_under true rest) n),
-            choice_takes rest sp w other e t (none_second (option_or (broken world sp.home c w) (body_broken world sp.home body w)) (branches_broken world sp.home rest w) h) k.2 (each_back (Included world order sp.home) (needs_in true body) (needs_under true rest) n) r,
+            body_serves body sp w e t (none_second (broken world sp.home c w) (body_broken world sp.home body w) h1) k.1 (each_front (Included world order sp.home) (needs_in true body) (needs_under true rest) n) (each_front (λ b. HasBody world order sp.home b.name) (blocks_in sp.template body sp.escaping) (blocks_under sp.template rest sp.escaping) d),
+            choice_takes rest sp w other e t (none_second (option_or (broken world sp.home c w) (body_broken world sp.home body w)) (branches_broken world sp.home rest w) h) k.2 (each_back (Included world order sp.home) (needs_in true body) (needs_under true rest) n) (each_back (λ b. HasBody world order sp.home b.name) (blocks_in sp.template body sp.escaping) (blocks_under sp.template rest sp.escaping) d) r,
           ),
           tt,
         )

@@ -25,7 +25,7 @@ use Rattle.jt_meaning.specs.Layout.{Table, slot_in, names, numbered_of, globals,
 use Rattle.jt_slots.specs.Slots as slots
 use Rattle.jt_slots.specs.Slots.{Slot, local, SExpr, SRow, Targets, one, several, SBody, variable, run}
 use Rattle.jt_slots.specs.Pool.{Constant, own, known}
-use Rattle.jt_meaning.specs.Resolve.{value_or, turned_round, tested_by, filtered_by, in_form, field_from, followed, locals_from, fresh, fresh_targets, kept_slots, set_targets, filled, filled_some, first_locals, reads, handed_on, Part, Spot, place, grown, bound_all, copied, scoped, next_given, first_body, invoked_body, invoked_super, invoked, resolved, resolved_row, resolved_asides, resolved_entries, resolved_condition, resolved_filters, resolved_values, placed_body, resolved_stmt, resolved_body, resolved_choice}
+use Rattle.jt_meaning.specs.Resolve.{value_or, turned_round, tested_by, filtered_by, in_form, field_from, followed, locals_from, fresh, fresh_targets, kept_slots, set_targets, filled, filled_some, first_locals, reads, handed_on, Part, Spot, place, grown, bound_all, copied, scoped, next_given, first_body, invoked_body, invoked_next, invoked_super, invoked, resolved, resolved_row, resolved_asides, resolved_entries, resolved_condition, resolved_filters, resolved_values, placed_body, resolved_stmt, resolved_body, resolved_choice}
 use Rattle.jt_slots.specs.Size.{targets_size, expr_size, row_size, condition_size, body_size}
 use Rattle.jt_meaning.specs.Measure.{stmt_own, body_own, branch_own, IsFew}
 use Rattle.jt_meaning.specs.Layout.{scopes}
@@ -88,9 +88,9 @@ value_size : (s : Option Slot) (k : Constant) → expr_size (value_or s k) ≡ 1
 value_size None k = refl
 value_size (Some s) k = refl
 
-field_size : (f : Option Field) → expr_size (field_from f) ≡ 1
-field_size None = refl
-field_size (Some f) = refl
+field_size : (f : Option Field) → expr_size (field_from f) ≤ 1
+field_size None = omega arith
+field_size (Some f) = omega arith
 
 turned_size : (b : Bool) (e : SExpr Constant) → expr_size (turned_round b e) ≤ expr_size e + 1
 turned_size false e = omega arith
@@ -235,11 +235,15 @@ module _ (world : World) (order : List Home) where
   body_sized h on None es k = omega arith
   body_sized h on (Some i) es k = omega (arith, k)
 
+  next_sized : (h : Home) (on : Bool) (i : Option ℕ) (es : SRow Constant) → row_size es ≤ 200 → expr_size (invoked_next world order h on i es) ≤ 203
+  next_sized h on None es k = omega arith
+  next_sized h on (Some i) es k = omega (arith, k)
+
   super_sized : (sp : Spot) (p : Option Part) → HasFewNames world order sp.home → expr_size (invoked_super world order sp p) ≤ 203
   super_sized sp None k = omega arith
   super_sized sp (Some p) k =
       let xs = block_parameters world order sp.home p.name in
-      body_sized sp.home sp.escaping (next_given p.behind) (first_locals 0 xs) (omega (arith, first_size 0 xs, parameters_few sp.home p.name k))
+      next_sized sp.home sp.escaping (next_given p.behind) (first_locals 0 xs) (omega (arith, first_size 0 xs, parameters_few sp.home p.name k))
 
   invoked_sized : (c : Callee) (sp : Spot) (row asides : SRow Constant → SRow Constant) (n : ℕ) (ks : Table) (w v : ℕ) → CalleeFew c → HasFewNames world order sp.home → Front w row → Front v asides
       → expr_size (invoked world order c sp row asides n ks) ≤ 100 * (1 + enclosed (w + v))

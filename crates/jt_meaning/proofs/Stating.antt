@@ -26,7 +26,7 @@ use Rattle.jt_meaning.specs.Layout.{Table, slot_in, globals_from, of_chain, of_b
 use Rattle.jt_meaning.specs.Programs.{pool}
 use Rattle.jt_slots.specs.Pool.{Constant, constant_in}
 use Rattle.jt_meaning.specs.Resolve.{followed, alone, fresh_targets, slot_of, set_targets, reads, handed_on, Spot, Part, place, grown, bound_table, bound_all, copied, scoped, first_body, resolved, resolved_condition, resolved_filters, resolved_values, placed_body, resolved_stmt, resolved_body, resolved_choice}
-use Rattle.jt_meaning.proofs.Both.{Both, both, bind_both, at_both, if_both, weaken, left_both, right_both, at_bind, bind_gives, bind_assoc, bind_ext, by_left, by_right, checked_both, same_both}
+use Rattle.jt_meaning.proofs.Both.{Both, both, bind_both, at_both, if_both, weaken, left_both, right_both, at_bind, bind_gives, bind_assoc, bind_ext, by_left, by_right, checked_both, same_both, deep}
 use Rattle.jt_meaning.proofs.Reading.{among_front, among_back, same_text, is_same, no_both, IsInner, all_inner, all_globals, all_top, read_top, held, put_here}
 use Rattle.jt_meaning.proofs.Agreeing.{Kept, kept_same, kept_then, kept_less, kept_out, kept_store, kept_global, Held, global_slot, global_given, limit, Fits, Agrees, agrees_kept, pairs_held, copies_held, fits_all, InLocals, in_locals}
 use Rattle.jt_meaning.proofs.Calling.{Evaluated, Rowed, Sees, PartHolds, part_kept, part_more, Good, good_kept, good_grown, around_of, Wrote, CallsMean, DefaultsLaid, Hands, Included}
@@ -485,10 +485,6 @@ module _ (world : World) (order : List Home) (calls : Calls) (scall : SCalls) (m
 
   -- ---- blocks where their tags stand
 
-  append_nothing : (t : Text) → t ≡ t ++ []
-  append_nothing [] = refl
-  append_nothing (c ∷ t) = ap (λ u. c ∷ u) (append_nothing t)
-
   run_both : {g : Got Text} (sp : Spot) (l : Option Loop) (q : Option Placement) (b j : ℕ) (S : List Text) (st : State) (m n : Memory) (w : Got Written) (k : ℕ) → Here sp q b j S st m → Kept sp.free (lim sp) m n → n.out ≡ m.out → lim sp ≤ k → Both (Wrote world order k n.globals) g w
       → Both (After sp q b j S m) (bind g (λ s. gives (put st s))) (bind w (λ z. gives (record n { globals = z.globals; out = n.out ++ z.text })))
   run_both sp l q b j S st m n w k here u o le c =
@@ -499,7 +495,7 @@ module _ (world : World) (order : List Home) (calls : Calls) (scall : SCalls) (m
   placed_both : (x : Text) (table : Table) (env : Env) (bs : List (ℕ × BlockBody)) (sp : Spot) (l : Option Loop) (q : Option Placement) (b j : ℕ) (S : List Text) (st : State) (m : Memory) → Here sp q b j S st m
       → Sees world order sp.home x env (map (λ y. held (slot_in y table) m) (block_parameters world order sp.home x)) m.globals → numbered_of world sp.home x ≡ bs
       → Both (After sp q b j S m) (bind (block_text calls sp.home (map (λ c. c.1) bs) env) (λ s. gives (put st s))) (sbody (placed_body world order sp (first_body bs) x table) l m)
-  placed_both x table env [] sp l q b j S st m here sees e = both (stays (st.out ++ []) here (kept_same sp.free (lim sp) m) (here.out ∙ append_nothing st.out))
+  placed_both x table env [] sp l q b j S st m here sees e = deep
   placed_both x table env (c ∷ cs) sp l q b j S st m here sees e =
       by_right (alone_same (run (unit world order (of_body sp.home c.0)) (reads table (block_parameters world order sp.home x))) l m
       ∙ ap (λ g. bind g (λ r. bind (scall (unit world order (of_body sp.home c.0)) r.values r.memory.globals) (λ w. gives (record r.memory { globals = w.globals; out = r.memory.out ++ w.text })))) (reads_give world order calls scall mean laid l q table (block_parameters world order sp.home x) m))

@@ -22,7 +22,7 @@ use Rattle.jt_slots.specs.Takes.{InPairs, HasParameters, ExprTakes, RowTakes}
 use Rattle.jt_rules.specs.declared.error.ScopeError.{ScopeError}
 use Rattle.jt_rules.specs.declared.error.ScopeError.TheVariants as error
 use Rattle.jt_parse.specs.Trees.{Text, Parameter}
-use Rattle.jt_inherit.specs.Chain.{Home, BlockBody, from_given, MacroBody, macros, macro_of, Callee, a_macro, a_range, a_super, a_block, a_cycle, no_callee, callee, is_loop}
+use Rattle.jt_inherit.specs.Chain.{Home, BlockBody, bodies, from_given, MacroBody, macros, macro_of, Callee, a_macro, a_range, a_super, a_block, a_cycle, no_callee, callee, is_loop}
 use Rattle.jt_slots.specs.Loops.{Field, field_named}
 use Rattle.jt_slots.specs.Filters.{Filters, some_given}
 use Rattle.jt_parse.specs.Texts.{among}
@@ -34,10 +34,11 @@ use Rattle.jt_slots.specs.Size.{row_count}
 use Rattle.jt_rules.specs.Known.{IsThere, ExprKnown, RowKnown, PairsKnown}
 use Rattle.jt_meaning.specs.Layout.{Table, slot_in, block_parameters, globals, numbered_of, default_place}
 use Rattle.jt_slots.specs.Pool.{Constant, own, known}
-use Rattle.jt_meaning.specs.Resolve.{value_or, operation_of, turned_round, tested_by, filtered_by, in_form, field_from, locals_from, filled, filled_some, first_locals, reads, Spot, Part, grown, next_given, first_body, invoked_body, invoked_super, invoked, resolved, resolved_row, resolved_asides, resolved_entries}
+use Rattle.jt_meaning.specs.Resolve.{value_or, operation_of, turned_round, tested_by, filtered_by, in_form, field_from, locals_from, filled, filled_some, first_locals, reads, Spot, Part, grown, next_given, first_body, invoked_body, invoked_next, invoked_super, invoked, resolved, resolved_row, resolved_asides, resolved_entries}
 use Rattle.jt_meaning.specs.Programs.{routines}
 use Rattle.jt_meaning.proofs.Calling.{Tail}
-use Rattle.jt_meaning.proofs.Valuing.{GivenBy, given_by, named_macro}
+use Rattle.jt_meaning.proofs.Valuing.{GivenBy, given_by, numbered_are, named_macro}
+use Rattle.jt_meaning.proofs.Reading.{no_both}
 use Rattle.jt_meaning.proofs.Finding.{macro_is, body_is}
 
 -- ---- nothing is broken where neither part is
@@ -219,29 +220,47 @@ module _ (world : World) (order : List Home) where
       (ap (world.filters.takes f) c ∙ both_first (world.filters.takes f (suc (max (count ts) (reached (world.filters.parameters f) (keywords ps))))) _ fit, r)
 
   -- a body of a block, on arguments for its parameters
-  body_takes : (l : Bool) (h : Home) (on : Bool) (x : Text) (bs : List (ℕ × BlockBody)) (cs : List BlockBody) (i : Option ℕ) (es : SRow Constant) → among h order ≡ true → Tail world order h x bs → GivenBy bs cs i → row_count es ≡ length (block_parameters world order h x) → RTakes l es
-      → ETakes l (invoked_body world order h on i es)
-  body_takes l h on x bs cs None es e t g c r = tt
-  body_takes l h on x bs [] (Some i) es e t g c r = absurd g
-  body_takes l h on x bs (d ∷ ds) (Some i) es e t g c r =
+  body_takes : (l : Bool) (h : Home) (on : Bool) (x : Text) (bs : List (ℕ × BlockBody)) (cs : List BlockBody) (i : ℕ) (es : SRow Constant) → among h order ≡ true → Tail world order h x bs → GivenBy bs cs (Some i) → row_count es ≡ length (block_parameters world order h x) → RTakes l es
+      → ETakes l (invoked_body world order h on (Some i) es)
+  body_takes l h on x bs [] i es e t g c r = absurd g
+  body_takes l h on x bs (d ∷ ds) i es e t g c r =
       let found = body_is world order h x i d (t.0 ++ g.0) g.1 e (t.1 ∙ ap (λ z. t.0 ++ z) g.2 ∙ sym (append_assoc t.0 g.0 ((i, d) ∷ g.1))) in
       (subst (λ z. HasParameters z (row_count es)) (sym found.0) (ap (λ z. length (block_parameters world order h z)) found.1 ∙ sym c), r)
 
-  abbrev pub PartTail : Home → Option Part → Type 0
-  PartTail h None = Unit {0}
-  PartTail h (Some p) = Tail world order h p.name p.behind
+  -- what `super()` goes on with
+  next_takes : (l : Bool) (h : Home) (on : Bool) (x : Text) (bs : List (ℕ × BlockBody)) (cs : List BlockBody) (o : Option ℕ) (es : SRow Constant) → among h order ≡ true → Tail world order h x bs → GivenBy bs cs o → row_count es ≡ length (block_parameters world order h x) → RTakes l es
+      → ETakes l (invoked_next world order h on o es)
+  next_takes l h on x bs cs None es e t g c r = tt
+  next_takes l h on x bs cs (Some i) es e t g c r = body_takes l h on x bs cs i es e t g c r
+
+  -- the block has a body in the chain
+  abbrev pub HasBody : Home → Text → Type 0
+  HasBody h x = bodies world.sources world.escaping h x ≡ [] → ⊥
+
+  some_body : (h : Home) (x : Text) → refused (nat_lt (length (bodies world.sources world.escaping h x)) 1) error.NotCallable ≡ None → HasBody h x
+  some_body h x k q = no_both (ap (λ bs. nat_lt (length bs) 1) q) (not_refused (nat_lt (length (bodies world.sources world.escaping h x)) 1) error.NotCallable k)
+
+  pub none_numbered : (h : Home) (x : Text) → HasBody h x → numbered_of world h x ≡ [] → ⊥
+  none_numbered h x there e = there (numbered_are world h x ∙ ap (map (λ (c : ℕ × BlockBody). c.1)) e)
+
+  -- where a body is resolved: with true, in a block
+  abbrev pub PartTail : Bool → Home → Option Part → Type 0
+  PartTail inside h None = inside ≡ false
+  PartTail inside h (Some p) = Tail world order h p.name p.behind
 
   not_false : (b : Bool) → not b ≡ false → b ≡ true
   not_false true h = refl
   not_false false h = absurd (cc)
 
-  fields_take : (l : Bool) (f : Option Field) → (is_some f ≡ true → l ≡ true) → ETakes l (field_from f)
-  fields_take l None h = tt
-  fields_take l (Some f) h = h refl
+  fields_take : (l : Bool) (f : Option Field) → is_some f ≡ true → l ≡ true → ETakes l (field_from f)
+  fields_take l None there h = absurd (cc)
+  fields_take l (Some f) there h = h
 
   attribute_takes : (w : Within) (b : Bool) (k : Text) (r : Option ScopeError) (e : SExpr Constant) → (if b then refused (not (w.in_loop && is_some (field_named k))) error.LoopOutside else r) ≡ None → (r ≡ None → ETakes w.in_loop e)
       → ETakes w.in_loop (if b then field_from (field_named k) else operation_of op.Item e (slots.pooled (own (tree.text k))))
-  attribute_takes w true k r e h f = fields_take w.in_loop (field_named k) (λ g. both_first w.in_loop (is_some (field_named k)) (not_false (w.in_loop && is_some (field_named k)) (not_refused (not (w.in_loop && is_some (field_named k))) error.LoopOutside h)))
+  attribute_takes w true k r e h f =
+      let both = not_false (w.in_loop && is_some (field_named k)) (not_refused (not (w.in_loop && is_some (field_named k))) error.LoopOutside h) in
+      fields_take w.in_loop (field_named k) (both_second w.in_loop (is_some (field_named k)) both) (both_first w.in_loop (is_some (field_named k)) both)
   attribute_takes w false k r e h f = (refl, (f h, (tt, tt)))
 
   pub row_counts : (ts : Exprs) (sp : Spot) (behind : SRow Constant) → row_count (resolved_row world order ts sp behind) ≡ count ts + row_count behind
@@ -256,7 +275,7 @@ module _ (world : World) (order : List Home) where
   entries_pair no_pairs sp = tt
   entries_pair (pair k a ps) sp = entries_pair ps sp
 
-  call_takes : (c : Callee) (sp : Spot) (w : Within) (f : Expr) (ts : Exprs) (ps : written.Pairs) → among sp.home order ≡ true → PartTail sp.home sp.part → ((b : MacroBody) → c ≡ a_macro b → (x : Text) × (macro_of x (macros world.sources sp.home) ≡ Some b))
+  call_takes : (c : Callee) (sp : Spot) (w : Within) (f : Expr) (ts : Exprs) (ps : written.Pairs) → among sp.home order ≡ true → PartTail w.in_block sp.home sp.part → ((b : MacroBody) → c ≡ a_macro b → (x : Text) × (macro_of x (macros world.sources sp.home) ≡ Some b))
       → call_broken world sp.home c w f ts ps ≡ None → ((behind : SRow Constant) → RTakes w.in_loop behind → RTakes w.in_loop (resolved_row world order ts sp behind)) → ((behind : SRow Constant) → RTakes w.in_loop behind → RTakes w.in_loop (resolved_asides world order ps sp behind))
       → ETakes w.in_loop (invoked world order c sp (resolved_row world order ts sp) (resolved_asides world order ps sp) (count ts) (locals_from sp.free (keywords ps)))
   call_takes (a_macro b) sp w f ts ps e t named h rows asides =
@@ -283,26 +302,27 @@ module _ (world : World) (order : List Home) where
       (range_takes (count ts) (both_first (nat_lt 0 (count ts)) (nat_lt (count ts) 4 && no_keywords ps) right) (both_first (nat_lt (count ts) 4) (no_keywords ps) rest) ∙ (let m : count ts ≡ row_count (resolved_row world order ts sp none) = omega (arith, n) in m), rows none tt)
   call_takes a_super sp w f ts ps e t named h rows asides = super_takes sp.part t
     where
-      super_takes : (p : Option Part) → PartTail sp.home p → ETakes w.in_loop (invoked_super world order sp p)
-      super_takes None t = tt
+      super_takes : (p : Option Part) → PartTail w.in_block sp.home p → ETakes w.in_loop (invoked_super world order sp p)
+      super_takes None t = absurd (no_both (not_false w.in_block (not_refused (not w.in_block) error.NotCallable (none_first (refused (not w.in_block) error.NotCallable) _ h))) t)
       super_takes (Some p) t =
-          body_takes w.in_loop sp.home sp.escaping p.name p.behind (from_given (map (λ d. d.1) p.behind)) (next_given p.behind) (first_locals 0 (block_parameters world order sp.home p.name)) e t (given_by p.behind)
+          next_takes w.in_loop sp.home sp.escaping p.name p.behind (from_given (map (λ d. d.1) p.behind)) (next_given p.behind) (first_locals 0 (block_parameters world order sp.home p.name)) e t (given_by p.behind)
           (locals_count 0 (block_parameters world order sp.home p.name)) (locals_take w.in_loop 0 (block_parameters world order sp.home p.name))
   call_takes (a_block x) sp w f ts ps e t named h rows asides =
-      body_takes w.in_loop sp.home sp.escaping x (numbered_of world sp.home x) (map (λ d. d.1) (numbered_of world sp.home x)) (first_body (numbered_of world sp.home x)) (reads (globals world order sp.home) (block_parameters world order sp.home x)) e ([], refl)
-      (firsts (numbered_of world sp.home x)) (reads_count (globals world order sp.home) (block_parameters world order sp.home x)) (reads_take w.in_loop (globals world order sp.home) (block_parameters world order sp.home x))
+      block_takes (numbered_of world sp.home x) refl (none_numbered sp.home x (some_body sp.home x (none_first (refused (nat_lt (length (bodies world.sources world.escaping sp.home x)) 1) error.NotCallable) _ h)))
     where
-      firsts : (bs : List (ℕ × BlockBody)) → GivenBy bs (map (λ d. d.1) bs) (first_body bs)
-      firsts [] = tt
-      firsts (b ∷ bs) = ([], bs, refl, refl)
+      block_takes : (bs : List (ℕ × BlockBody)) → numbered_of world sp.home x ≡ bs → (numbered_of world sp.home x ≡ [] → ⊥) → ETakes w.in_loop (invoked_body world order sp.home sp.escaping (first_body bs) (reads (globals world order sp.home) (block_parameters world order sp.home x)))
+      block_takes [] q there = absurd (there q)
+      block_takes (b ∷ bs) q there =
+          body_takes w.in_loop sp.home sp.escaping x (b ∷ bs) (map (λ d. d.1) (b ∷ bs)) b.0 (reads (globals world order sp.home) (block_parameters world order sp.home x)) e ([], q) ([], bs, refl, refl)
+          (reads_count (globals world order sp.home) (block_parameters world order sp.home x)) (reads_take w.in_loop (globals world order sp.home) (block_parameters world order sp.home x))
   call_takes a_cycle sp w f ts ps e t named h rows asides =
       let inside = not_false w.in_loop (not_refused (not w.in_loop) error.LoopOutside (none_first (refused (not w.in_loop) error.LoopOutside) _ h)) in
       (refl, ((tt, rows none tt), ((refl, (inside, (tt, tt))), tt)))
-  call_takes no_callee sp w f ts ps e t named h rows asides = tt
+  call_takes no_callee sp w f ts ps e t named h rows asides = absurd (cc)
 
   module _ (w : Within) where
     mutual
-      pub expr_takes : (e : Expr) (sp : Spot) → among sp.home order ≡ true → PartTail sp.home sp.part → broken world sp.home e w ≡ None → ExprKnown world.filters e → ETakes w.in_loop (resolved world order e sp)
+      pub expr_takes : (e : Expr) (sp : Spot) → among sp.home order ≡ true → PartTail w.in_block sp.home sp.part → broken world sp.home e w ≡ None → ExprKnown world.filters e → ETakes w.in_loop (resolved world order e sp)
       expr_takes (constant c) sp e t h k = tt
       expr_takes (name x) sp e t h k = slot_takes w.in_loop (slot_in x sp.table) (known 0)
       expr_takes (group a) sp e t h k = expr_takes a sp e t h k
@@ -347,17 +367,17 @@ module _ (world : World) (order : List Home) where
             expr_takes b sp e t (none_second (broken world sp.home a w) (broken world sp.home b w) rest) k.2,
           )
 
-      pub row_takes : (ts : Exprs) (sp : Spot) → among sp.home order ≡ true → PartTail sp.home sp.part → row_broken world sp.home ts w ≡ None → RowKnown world.filters ts → (behind : SRow Constant) → RTakes w.in_loop behind → RTakes w.in_loop (resolved_row world order ts sp behind)
+      pub row_takes : (ts : Exprs) (sp : Spot) → among sp.home order ≡ true → PartTail w.in_block sp.home sp.part → row_broken world sp.home ts w ≡ None → RowKnown world.filters ts → (behind : SRow Constant) → RTakes w.in_loop behind → RTakes w.in_loop (resolved_row world order ts sp behind)
       row_takes no_exprs sp e t h k behind r = r
       row_takes (expr a ts) sp e t h k behind r =
           (expr_takes a sp e t (none_first (broken world sp.home a w) (row_broken world sp.home ts w) h) k.0, row_takes ts sp e t (none_second (broken world sp.home a w) (row_broken world sp.home ts w) h) k.1 behind r)
 
-      pub asides_take : (ps : written.Pairs) (sp : Spot) → among sp.home order ≡ true → PartTail sp.home sp.part → pairs_broken world sp.home ps w ≡ None → PairsKnown world.filters ps → (behind : SRow Constant) → RTakes w.in_loop behind → RTakes w.in_loop (resolved_asides world order ps sp behind)
+      pub asides_take : (ps : written.Pairs) (sp : Spot) → among sp.home order ≡ true → PartTail w.in_block sp.home sp.part → pairs_broken world sp.home ps w ≡ None → PairsKnown world.filters ps → (behind : SRow Constant) → RTakes w.in_loop behind → RTakes w.in_loop (resolved_asides world order ps sp behind)
       asides_take no_pairs sp e t h k behind r = r
       asides_take (pair x a ps) sp e t h k behind r =
           (expr_takes a sp e t (none_first (broken world sp.home a w) (pairs_broken world sp.home ps w) h) k.0, asides_take ps (grown sp) e t (none_second (broken world sp.home a w) (pairs_broken world sp.home ps w) h) k.1 behind r)
 
-      pub entries_take : (ps : written.Pairs) (sp : Spot) → among sp.home order ≡ true → PartTail sp.home sp.part → pairs_broken world sp.home ps w ≡ None → PairsKnown world.filters ps → RTakes w.in_loop (resolved_entries world order ps sp)
+      pub entries_take : (ps : written.Pairs) (sp : Spot) → among sp.home order ≡ true → PartTail w.in_block sp.home sp.part → pairs_broken world sp.home ps w ≡ None → PairsKnown world.filters ps → RTakes w.in_loop (resolved_entries world order ps sp)
       entries_take no_pairs sp e t h k = tt
       entries_take (pair x a ps) sp e t h k =
           (tt, (expr_takes a sp e t (none_first (broken world sp.home a w) (pairs_broken world sp.home ps w) h) k.0, entries_take ps sp e t (none_second (broken world sp.home a w) (pairs_broken world sp.home ps w) h) k.1))

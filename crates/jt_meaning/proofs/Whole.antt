@@ -165,6 +165,7 @@ mutual
   expr_placed (slots.pooled c) n = (refl, refl)
   expr_placed (slots.variable s) n = (refl, refl)
   expr_placed (slots.field f) n = (refl, refl)
+  expr_placed slots.absent n = (refl, refl)
   expr_placed (slots.made m es) n = let a = row_placed es n in (omega (arith, a.0), omega (arith, a.1))
   expr_placed (slots.conjunction x y) n = let a = expr_placed x n in let b = expr_placed y (n + length (expr_values x)) in (omega (arith, a.0, b.0), omega (arith, a.1, b.1))
   expr_placed (slots.disjunction x y) n = let a = expr_placed x n in let b = expr_placed y (n + length (expr_values x)) in (omega (arith, a.0, b.0), omega (arith, a.1, b.1))

@@ -4,7 +4,6 @@ use Rattle.jt_value.specs.Tree as tree
 use Rattle.jt_value.specs.Tree.{Tree}
 use Rattle.jt_value.specs.Pairs.{Pairs}
 use Rattle.jt_value.specs.View.{items_of}
-use Rattle.jt_value.specs.declared.fault.Fault.TheVariants as faults
 use Rattle.jt_ops.specs.declared.op_id.OpId.TheVariants as op
 use Rattle.jt_ops.specs.Ranges.{ranged}
 use Rattle.jt_ops.specs.Making.{listed, mapped}
@@ -13,7 +12,7 @@ use Rattle.jt_expr.specs.Trees.{Expr, constant, name, group, list_of, map_of, at
 use Rattle.jt_meaning.specs.Operators.{unary_operation, Form, operation, negation, conjunction, disjunction, form}
 use Rattle.jt_slots.specs.Tests.{test_named}
 use Rattle.jt_slots.specs.Values.{literal, as_value}
-use Rattle.jt_slots.specs.Got.{Got, gives, fails, bind, checked}
+use Rattle.jt_slots.specs.Got.{Got, gives, deeper, bind, checked}
 use Rattle.jt_parse.specs.Trees.{Text, Parameter}
 use Rattle.jt_meaning.specs.Env.{Env, read, top}
 use Rattle.jt_inherit.specs.Chain.{Home, BlockBody, bodies, from_given, macros, Callee, a_macro, a_range, a_super, a_block, a_cycle, no_callee, callee, is_loop}
@@ -33,9 +32,9 @@ use Rattle.jt_slots.specs.Values.{literal, as_value}
 abbrev pub operated : OpId → List Tree → Got Tree
 operated o vs = checked (operators.operation o vs)
 
--- a test of values; the parser knows each test by its name
+-- a test of values; an unknown one has neither text nor fault at any depth: the parser knows each by its name
 abbrev pub asked : Option TestId → Got (List Tree) → Got Tree
-asked None g = fails faults.BadType None
+asked None g = deeper
 asked (Some t) g = bind g (λ vs. checked (as_truth (tested t vs)))
 
 -- its truth turned round, where the flag says so
@@ -54,9 +53,9 @@ combined (negation o) g h = turned true (bind g (λ v. bind h (λ w. operated o 
 combined conjunction g h = bind g (λ v. if tree.truth v then h else gives v)
 combined disjunction g h = bind g (λ v. if tree.truth v then gives v else h)
 
--- a filter of values; the parser knows each filter by its name
+-- a filter of values; an unknown one has neither text nor fault at any depth: the parser knows each by its name
 abbrev pub filtered : Filters → Option ℕ → Bool → Got (List Tree) → Got Tree
-filtered fs None escaping g = fails faults.BadType None
+filtered fs None escaping g = deeper
 filtered fs (Some f) escaping g = bind g (λ vs. checked (fs.operation f escaping vs))
 
 -- keys and values in turn
@@ -64,9 +63,9 @@ abbrev pub entries_of : Pairs → List Tree
 entries_of [] = []
 entries_of (b ∷ bs) = tree.text b.0 ∷ b.1 ∷ entries_of bs
 
--- a field of the innermost loop; the rules know each by its name
+-- a field of the innermost loop; an unknown one has neither text nor fault at any depth: the rules know each by its name
 abbrev pub field_of : Option Field → Option Loop → Got Tree
-field_of None l = gives tree.undefined
+field_of None l = deeper
 field_of (Some f) l = checked (loop_field f l)
 
 -- `loop.cycle(..)`: the one at the turn's place, round and round
@@ -80,28 +79,35 @@ abbrev pub filter_parameters : Filters → Option ℕ → List Parameter
 filter_parameters fs None = []
 filter_parameters fs (Some f) = fs.parameters f
 
--- the text of a block in an environment: the first of these bodies; the rules see to it that there is one
+-- the text of a block in an environment: the first of these bodies; no body has neither text nor fault at any depth: the rules see to it that
+-- there is one
 abbrev pub block_text : Calls → Home → List BlockBody → Env → Got Text
-block_text calls home [] env = gives []
+block_text calls home [] env = deeper
 block_text calls home (b ∷ bs) env = calls (the_block home b bs env)
 
+-- what `super()` goes on with: the first of these bodies; nothing where there is none, which the rules of chains refuse
+abbrev pub next_text : Calls → Home → List BlockBody → Env → Got Text
+next_text calls home [] env = gives []
+next_text calls home (b ∷ bs) env = calls (the_block home b bs env)
+
+-- outside a block it has neither text nor fault at any depth: the rules refuse it
 abbrev pub super_text : Calls → Home → Option Placement → Got Text
-super_text calls home None = gives []
-super_text calls home (Some p) = block_text calls home (from_given p.behind) p.env
+super_text calls home None = deeper
+super_text calls home (Some p) = next_text calls home (from_given p.behind) p.env
 
 -- a text as a value
 abbrev pub valued_text : Bool → Got Text → Got Tree
 valued_text escaping g = bind g (λ s. gives (as_value escaping s))
 
 module _ (world : World) (calls : Calls) where
-  -- a call, by what its arguments give; no other call keeps the rules
+  -- a call, by what its arguments give; any other has neither text nor fault at any depth: it breaks the rules
   abbrev pub called : Callee → Around → Env → Got (List Tree) → Got Pairs → Got Tree
   called (a_macro m) a env g h = bind g (λ vs. bind h (λ ks. valued_text a.escaping (calls (the_macro a.home m (parameters m.parameters vs ks) env.globals))))
   called a_range a env g h = bind g (λ vs. checked (ranged vs))
   called a_super a env g h = valued_text a.escaping (super_text calls a.home a.block)
   called (a_block x) a env g h = valued_text a.escaping (block_text calls a.home (bodies world.sources world.escaping a.home x) (top env.globals))
   called a_cycle a env g h = bind g (cycled a.loop)
-  called no_callee a env g h = gives tree.undefined
+  called no_callee a env g h = deeper
 
   abbrev mutual
     pub value : Expr → Around → Env → Got Tree

@@ -23,7 +23,7 @@ use Rattle.jt_meaning.specs.Expressions.{filter_parameters}
 use Rattle.jt_meaning.specs.Meaning.{is_set}
 use Rattle.jt_meaning.specs.Layout.{Table, slot_in, of_chain, of_macro, of_body, names, numbered_of, first_slot, globals, block_parameters, unit, default_place}
 use Rattle.jt_slots.specs.Slots as slots
-use Rattle.jt_slots.specs.Slots.{Slot, local, global, SExpr, pooled, variable, field, made, invoke, operator, a_list, a_map, SRow, none, aside, Targets, one, several, SStmt, put_pooled, assign, if_else, capture, run, SBody, Routine}
+use Rattle.jt_slots.specs.Slots.{Slot, local, global, SExpr, pooled, variable, field, absent, made, invoke, operator, a_list, a_map, SRow, none, aside, Targets, one, several, SStmt, put_pooled, assign, if_else, capture, run, SBody, Routine}
 use Rattle.jt_slots.specs.Locals.{body_locals}
 use Rattle.jt_slots.specs.Pool.{Constant, own, known}
 
@@ -48,13 +48,13 @@ abbrev pub turned_round : Bool → SExpr Constant → SExpr Constant
 turned_round false e = e
 turned_round true e = made (operator op.Not) (slots.item e none)
 
--- a test or a filter that there is not faults, as an operator without operands; no chain has one
+-- an unknown test, filter or field is absent; the parser and the rules know each
 abbrev pub tested_by : Option TestId → SRow Constant → SExpr Constant
-tested_by None es = made (operator op.Add) none
+tested_by None es = absent
 tested_by (Some t) es = made (slots.test t) es
 
 abbrev pub filtered_by : Option ℕ → Bool → SRow Constant → SExpr Constant
-filtered_by None escaping es = made (operator op.Add) none
+filtered_by None escaping es = absent
 filtered_by (Some f) escaping es = made (slots.filter f escaping) es
 
 abbrev pub in_form : Form → SExpr Constant → SExpr Constant → SExpr Constant
@@ -64,7 +64,7 @@ in_form conjunction a b = slots.conjunction a b
 in_form disjunction a b = slots.disjunction a b
 
 abbrev pub field_from : Option Field → SExpr Constant
-field_from None = no_value
+field_from None = absent
 field_from (Some f) = field f
 
 abbrev pub followed : SBody Constant → SBody Constant → SBody Constant
@@ -182,15 +182,20 @@ first_body (b ∷ bs) = Some b.0
 module _ (world : World) (order : List Home) where
   -- ---- calls
 
-  -- a body as a value; the empty text where there is none
+  -- a body as a value; absent where there is none: the rules see to it that there is one
   abbrev pub invoked_body : Home → Bool → Option ℕ → SRow Constant → SExpr Constant
-  invoked_body h escaping None es = pooled (own (as_value escaping []))
+  invoked_body h escaping None es = absent
   invoked_body h escaping (Some i) es = invoke (unit world order (of_body h i)) escaping es
 
-  -- the next body in the same scope: its parameters are handed on
+  -- the same where `super()` goes on; the empty text where there is none, which the rules of chains refuse
+  abbrev pub invoked_next : Home → Bool → Option ℕ → SRow Constant → SExpr Constant
+  invoked_next h escaping None es = pooled (own (as_value escaping []))
+  invoked_next h escaping (Some i) es = invoke (unit world order (of_body h i)) escaping es
+
+  -- the next body in the same scope: its parameters are handed on; outside a block it is absent: the rules refuse it
   abbrev pub invoked_super : Spot → Option Part → SExpr Constant
-  invoked_super sp None = pooled (own (as_value sp.escaping []))
-  invoked_super sp (Some p) = invoked_body sp.home sp.escaping (next_given p.behind) (first_locals 0 (block_parameters world order sp.home p.name))
+  invoked_super sp None = absent
+  invoked_super sp (Some p) = invoked_next sp.home sp.escaping (next_given p.behind) (first_locals 0 (block_parameters world order sp.home p.name))
 
   -- a call, by its arguments in front of a row, how many are given by place, and the locals that hold those given by name
   abbrev pub invoked : Callee → Spot → (SRow Constant → SRow Constant) → (SRow Constant → SRow Constant) → ℕ → Table → SExpr Constant
@@ -202,7 +207,7 @@ module _ (world : World) (order : List Home) where
       invoked_body sp.home sp.escaping (first_body (numbered_of world sp.home x)) (reads (globals world order sp.home) (block_parameters world order sp.home x))
   invoked a_cycle sp row asides n ks =
       operation_of op.Item (made a_list (row none)) (operation_of op.Remainder (field index0) (pooled (own (tree.number (pos n)))))
-  invoked no_callee sp row asides n ks = no_value
+  invoked no_callee sp row asides n ks = absent
 
   -- ---- expressions: what is given by name goes into locals behind those that hold something
 
@@ -257,9 +262,9 @@ module _ (world : World) (order : List Home) where
   resolved_values no_pairs sp line behind = behind
   resolved_values (pair x e ps) sp line behind = slots.stmt (assign (place sp line) (one (local sp.free)) (resolved e sp)) (resolved_values ps (grown sp) line behind)
 
-  -- a block where its tag stands: by the names around it, or by the globals
+  -- a block where its tag stands: by the names around it, or by the globals; a tag's own body is one of its chain's, so that there is one
   abbrev pub placed_body : Spot → Option ℕ → Text → Table → SBody Constant
-  placed_body sp None x table = slots.end
+  placed_body sp None x table = alone (slots.print (place sp 1) sp.escaping absent)
   placed_body sp (Some i) x table = alone (run (unit world order (of_body sp.home i)) (reads table (block_parameters world order sp.home x)))
 
   abbrev mutual

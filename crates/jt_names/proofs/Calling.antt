@@ -15,11 +15,11 @@ use Rattle.jt_inherit.specs.Uses.{count}
 use Rattle.jt_inherit.specs.Chain.{Home, MacroBody}
 use Rattle.jt_rules.specs.World.{World}
 use Rattle.jt_slots.specs.Pool.{Constant, own}
-use Rattle.jt_slots.specs.Slots.{SExpr, invoke, SRow, item, variable, local, made, a_list, field, pooled}
+use Rattle.jt_slots.specs.Slots.{SExpr, absent, invoke, SRow, item, variable, local, made, a_list, field, pooled}
 use Rattle.jt_slots.specs.View.{slot_view}
 use Rattle.jt_slots.specs.declared.program.Slot.{Slot}
-use Rattle.jt_meaning.specs.Layout.{Table, slot_in, of_macro, unit, default_place}
-use Rattle.jt_meaning.specs.Resolve.{operation_of, read_from, filled, invoked_body, reads, first_locals}
+use Rattle.jt_meaning.specs.Layout.{Table, slot_in, of_macro, of_body, unit, default_place}
+use Rattle.jt_meaning.specs.Resolve.{operation_of, read_from, filled, invoked_body, invoked_next, reads, first_locals}
 use Rattle.jt_names.specs.Callees.{IsSignature, text_of, unit_of}
 use Rattle.jt_names.specs.declared.callee.Signature.{Signature}
 
@@ -35,10 +35,19 @@ macro_called world order h s m is escaping front n ks =
     ∙ ap (λ ps. invoke (unit world order (of_macro h m.name)) escaping (front (filled ps n s.first_default ks))) is.takes
     ∙ ap (λ (d : ℕ). invoke (unit world order (of_macro h m.name)) escaping (front (filled m.parameters n d ks))) is.defaults
 
--- the text of a body by its unit
-pub body_text : (world : World) (order : List Home) (h : Home) (escaping : Bool) (i : Option ℕ) (es : SRow Constant) → text_of (unit_of world order h i) escaping es ≡ invoked_body world order h escaping i es
-body_text world order h escaping None es = refl
-body_text world order h escaping (Some i) es = refl
+-- the text of the next body by its unit
+pub next_text : (world : World) (order : List Home) (h : Home) (escaping : Bool) (i : Option ℕ) (es : SRow Constant) → text_of (unit_of world order h i) escaping es ≡ invoked_next world order h escaping i es
+next_text world order h escaping None es = refl
+next_text world order h escaping (Some i) es = refl
+
+-- the call of a block by the unit of its first body
+pub body_called : (world : World) (order : List Home) (h : Home) (escaping : Bool) (i : Option ℕ) (u : ℕ) (es : SRow Constant) → Some u ≡ unit_of world order h i → invoke u escaping es ≡ invoked_body world order h escaping i es
+body_called world order h escaping None u es e = absurd (cc e)
+body_called world order h escaping (Some i) u es e = let same : u ≡ unit world order (of_body h i) = cc e in ap (λ (n : ℕ). invoke n escaping es) same
+
+pub none_called : (world : World) (order : List Home) (h : Home) (escaping : Bool) (i : Option ℕ) (es : SRow Constant) → None ≡ unit_of world order h i → absent ≡ invoked_body world order h escaping i es
+none_called world order h escaping None es e = refl
+none_called world order h escaping (Some i) es e = absurd (cc e)
 
 -- one name more is read
 pub reads_next : (table : Table) (ks : List (Bor Text)) (i : ℕ) (d : Bor Text) (s : Option Slot) → i < length ks → option_map slot_view s ≡ slot_in (get_or ks i d).now table

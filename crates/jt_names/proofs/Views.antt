@@ -9,7 +9,7 @@ use Rattle.jt_slots.specs.declared.program.Maker.{Maker}
 use Rattle.jt_slots.specs.declared.program.SExpr.{SExpr, fold-roll-SExpr}
 use Rattle.jt_slots.specs.declared.program.SExpr.TheOpen.{SExpr-F}
 use Rattle.jt_slots.specs.declared.program.SExpr.TheVariants as e
-use Rattle.jt_slots.specs.declared.program.SExpr.TheVariants.{rolls-Pooled, rolls-Variable, rolls-Field, rolls-Made, rolls-Conjunction, rolls-Disjunction, rolls-Choice, rolls-Invoke}
+use Rattle.jt_slots.specs.declared.program.SExpr.TheVariants.{rolls-Pooled, rolls-Variable, rolls-Field, rolls-Absent, rolls-Made, rolls-Conjunction, rolls-Disjunction, rolls-Choice, rolls-Invoke}
 
 abbrev pub Entry : Type 0
 Entry = Option ℕ × SExpr
@@ -33,6 +33,9 @@ view-Variable s = ap expr_view (sym (rolls-Variable s)) ∙ fold-roll-SExpr (slo
 
 pub view-Field : (f : Field) → expr_view (e.Field f) ≡ slots.field (field_view f)
 view-Field f = ap expr_view (sym (rolls-Field f)) ∙ fold-roll-SExpr (slots.SExpr ℕ) expr_step (SExpr-F.Field f)
+
+pub view-Absent : expr_view e.Absent ≡ slots.absent
+view-Absent = ap expr_view (sym rolls-Absent) ∙ fold-roll-SExpr (slots.SExpr ℕ) expr_step SExpr-F.Absent
 
 pub view-Made : (k : Maker) (es : Vec Entry Global) → expr_view (e.Made k es) ≡ slots.made (maker_view k) (row_view es.items slots.none)
 view-Made k es =

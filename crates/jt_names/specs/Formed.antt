@@ -1,4 +1,4 @@
--- How an operator works, as the code keeps it.
+-- What only private clauses cite: how an operator works, as the code keeps it.
 use Rattle.jt_meaning.specs.Operators as operators
 use Rattle.jt_names.specs.declared.forms.Form.{Form}
 use Rattle.jt_names.specs.declared.forms.Form.TheVariants as f

@@ -40,8 +40,9 @@ pub enum Callee<'s> {
 /// What an expression in front of the arguments of a call names.
 pub fn callee_of<'s>(scope: &'s Scope<'_>, called: &'s Expr) -> Result<Callee<'s>, ScopeError>
     requires { IsLaidOut scope.now }
-    ensures named { IfOk result (λ k. IsCallee (world_in scope.now) (order_in scope.now) (home_in scope.now) k
-        (callee (macros (world_in scope.now).sources (home_in scope.now)) (written.expr_view called.now))) }
+    ensures named { IfOk result (λ k. IsCallee (world_in scope.now) (order_in scope.now)
+        (home_in scope.now) k (callee (macros (world_in scope.now).sources (home_in scope.now))
+        (written.expr_view called.now))) }
     ensures refused { IfErr result (λ e. e ≡ error.NoMemory) }
 {
     match called {
@@ -54,8 +55,9 @@ pub fn callee_of<'s>(scope: &'s Scope<'_>, called: &'s Expr) -> Result<Callee<'s
 /// What a name stands for that is called: a macro hides what else has its name.
 fn callee_named<'s>(scope: &'s Scope<'_>, name: &'s str) -> Result<Callee<'s>, ScopeError>
     requires { IsLaidOut scope.now }
-    ensures named { IfOk result (λ k. IsCallee (world_in scope.now) (order_in scope.now) (home_in scope.now) k
-        (named_alone (macro_of name.now (macros (world_in scope.now).sources (home_in scope.now))) name.now)) }
+    ensures named { IfOk result (λ k. IsCallee (world_in scope.now) (order_in scope.now)
+        (home_in scope.now) k (named_alone
+        (macro_of name.now (macros (world_in scope.now).sources (home_in scope.now))) name.now)) }
     ensures refused { IfErr result (λ e. e ≡ error.NoMemory) }
 {
     let here = &scope.homes[scope.home];
@@ -72,7 +74,8 @@ fn callee_named<'s>(scope: &'s Scope<'_>, name: &'s str) -> Result<Callee<'s>, S
 
 /// What a name that no macro has stands for.
 fn built_in(name: &str) -> Callee<'_>
-    ensures { (world : World) (order : List Home) (h : Home) → IsCallee world order h result (named_alone None name.now) }
+    ensures { (world : World) (order : List Home) (h : Home)
+        → IsCallee world order h result (named_alone None name.now) }
 {
     match name {
         "range" => Callee::Range,
@@ -83,7 +86,9 @@ fn built_in(name: &str) -> Callee<'_>
 
 /// What an attribute stands for that is called.
 fn callee_in<'s>(of: &Expr, name: &'s str) -> Callee<'s>
-    ensures { (world : World) (order : List Home) (h : Home) (ms : List MacroBody) → IsCallee world order h result (callee ms (trees.attribute (written.expr_view of.now) name.now)) }
+    ensures { (world : World) (order : List Home) (h : Home) (ms : List MacroBody)
+        → IsCallee world order h result
+        (callee ms (trees.attribute (written.expr_view of.now) name.now)) }
 {
     match of {
         Expr::Name(of) => member_of(of.as_str(), name),
@@ -93,7 +98,8 @@ fn callee_in<'s>(of: &Expr, name: &'s str) -> Callee<'s>
 
 /// A block by `self`, or `cycle` of a loop.
 fn member_of<'s>(of: &str, name: &'s str) -> Callee<'s>
-    ensures { (world : World) (order : List Home) (h : Home) → IsCallee world order h result (named_in of.now name.now) }
+    ensures { (world : World) (order : List Home) (h : Home)
+        → IsCallee world order h result (named_in of.now name.now) }
 {
     match of {
         "self" => Callee::Block(name),

@@ -23,10 +23,10 @@ use crate::blocks::{block_called, super_called};
 use crate::callee::{Callee, Signature, callee_of};
 use crate::filling::{fill, fill_some};
 use crate::forms::{
-    chosen, form_of, formed, literal_value, no_operation, on_one, on_two, range_of, turn_among,
-    turned, unary_operation,
+    chosen, form_of, formed, literal_value, on_one, on_two, range_of, turn_among, turned,
+    unary_operation,
 };
-use crate::lookup::{more, no_value, reading, slot};
+use crate::lookup::{absent, more, no_value, reading, slot};
 use crate::loops::{field_of, is_loop_name, told};
 use crate::pool::{add_text, add_value};
 use crate::rows::row_of;
@@ -51,7 +51,9 @@ pub fn resolve_expression(
     pool: &mut Vec<Value>,
 ) -> Result<SExpr, ScopeError>
     requires { IsLaidOut scope.now }
-    ensures placed { IfOk result (λ e. IsPlaced (expr_in scope.now (written.expr_view expr.now) spot.now) (expr_view e) (values pool.old) (values pool.new)) }
+    ensures placed { IfOk result (λ e. IsPlaced
+        (expr_in scope.now (written.expr_view expr.now) spot.now) (expr_view e) (values pool.old)
+        (values pool.new)) }
     ensures refused { IfErr result (λ e. e ≡ error.NoMemory) }
 {
     match expr {
@@ -95,7 +97,9 @@ fn resolve_list(
     pool: &mut Vec<Value>,
 ) -> Result<SExpr, ScopeError>
     requires { IsLaidOut scope.now }
-    ensures placed { IfOk result (λ e. IsPlaced (expr_in scope.now (trees.list_of (written.exprs_view row.now)) spot.now) (expr_view e) (values pool.old) (values pool.new)) }
+    ensures placed { IfOk result (λ e. IsPlaced
+        (expr_in scope.now (trees.list_of (written.exprs_view row.now)) spot.now) (expr_view e)
+        (values pool.old) (values pool.new)) }
     ensures refused { IfErr result (λ e. e ≡ error.NoMemory) }
 {
     let mut items = Vec::new(alloc);
@@ -113,7 +117,9 @@ fn resolve_map(
     pool: &mut Vec<Value>,
 ) -> Result<SExpr, ScopeError>
     requires { IsLaidOut scope.now }
-    ensures placed { IfOk result (λ e. IsPlaced (expr_in scope.now (trees.map_of (written.pairs_view pairs.now)) spot.now) (expr_view e) (values pool.old) (values pool.new)) }
+    ensures placed { IfOk result (λ e. IsPlaced
+        (expr_in scope.now (trees.map_of (written.pairs_view pairs.now)) spot.now) (expr_view e)
+        (values pool.old) (values pool.new)) }
     ensures refused { IfErr result (λ e. e ≡ error.NoMemory) }
 {
     let mut entries = Vec::new(alloc);
@@ -132,7 +138,9 @@ fn resolve_attribute(
     pool: &mut Vec<Value>,
 ) -> Result<SExpr, ScopeError>
     requires { IsLaidOut scope.now }
-    ensures placed { IfOk result (λ e. IsPlaced (expr_in scope.now (trees.attribute (written.expr_view value.now) key.now) spot.now) (expr_view e) (values pool.old) (values pool.new)) }
+    ensures placed { IfOk result (λ e. IsPlaced
+        (expr_in scope.now (trees.attribute (written.expr_view value.now) key.now) spot.now)
+        (expr_view e) (values pool.old) (values pool.new)) }
     ensures refused { IfErr result (λ e. e ≡ error.NoMemory) }
 {
     if is_loop_name(value) {
@@ -154,7 +162,9 @@ fn resolve_item(
     pool: &mut Vec<Value>,
 ) -> Result<SExpr, ScopeError>
     requires { IsLaidOut scope.now }
-    ensures placed { IfOk result (λ e. IsPlaced (expr_in scope.now (trees.item (written.expr_view value.now) (written.expr_view index.now)) spot.now) (expr_view e) (values pool.old) (values pool.new)) }
+    ensures placed { IfOk result (λ e. IsPlaced (expr_in scope.now
+        (trees.item (written.expr_view value.now) (written.expr_view index.now)) spot.now)
+        (expr_view e) (values pool.old) (values pool.new)) }
     ensures refused { IfErr result (λ e. e ≡ error.NoMemory) }
 {
     let whole = resolve_expression(alloc, scope, spot, value, pool)?;
@@ -174,7 +184,9 @@ fn resolve_binary(
     pool: &mut Vec<Value>,
 ) -> Result<SExpr, ScopeError>
     requires { IsLaidOut scope.now }
-    ensures placed { IfOk result (λ e. IsPlaced (expr_in scope.now (trees.binary operator (written.expr_view left.now) (written.expr_view right.now)) spot.now) (expr_view e) (values pool.old) (values pool.new)) }
+    ensures placed { IfOk result (λ e. IsPlaced (expr_in scope.now
+        (trees.binary operator (written.expr_view left.now) (written.expr_view right.now)) spot.now)
+        (expr_view e) (values pool.old) (values pool.new)) }
     ensures refused { IfErr result (λ e. e ≡ error.NoMemory) }
 {
     let first = resolve_expression(alloc, scope, spot, left, pool)?;
@@ -193,7 +205,9 @@ fn resolve_when(
     pool: &mut Vec<Value>,
 ) -> Result<SExpr, ScopeError>
     requires { IsLaidOut scope.now }
-    ensures placed { IfOk result (λ e. IsPlaced (expr_in scope.now (trees.when (written.expr_view condition.now) (written.expr_view value.now)) spot.now) (expr_view e) (values pool.old) (values pool.new)) }
+    ensures placed { IfOk result (λ e. IsPlaced (expr_in scope.now
+        (trees.when (written.expr_view condition.now) (written.expr_view value.now)) spot.now)
+        (expr_view e) (values pool.old) (values pool.new)) }
     ensures refused { IfErr result (λ e. e ≡ error.NoMemory) }
 {
     let asked = resolve_expression(alloc, scope, spot, condition, pool)?;
@@ -213,7 +227,10 @@ fn resolve_choice(
     pool: &mut Vec<Value>,
 ) -> Result<SExpr, ScopeError>
     requires { IsLaidOut scope.now }
-    ensures placed { IfOk result (λ e. IsPlaced (expr_in scope.now (trees.choice (written.expr_view condition.now) (written.expr_view value.now) (written.expr_view other.now)) spot.now) (expr_view e) (values pool.old) (values pool.new)) }
+    ensures placed { IfOk result (λ e. IsPlaced (expr_in scope.now (trees.choice
+        (written.expr_view condition.now) (written.expr_view value.now)
+        (written.expr_view other.now)) spot.now) (expr_view e) (values pool.old)
+        (values pool.new)) }
     ensures refused { IfErr result (λ e. e ≡ error.NoMemory) }
 {
     let asked = resolve_expression(alloc, scope, spot, condition, pool)?;
@@ -235,11 +252,14 @@ fn resolve_test(
     pool: &mut Vec<Value>,
 ) -> Result<SExpr, ScopeError>
     requires { IsLaidOut scope.now }
-    ensures placed { IfOk result (λ e. (ps : trees.Pairs) → IsPlaced (expr_in scope.now (trees.test (written.expr_view value.now) negated name.now (written.exprs_view row.now) ps) spot.now) (expr_view e) (values pool.old) (values pool.new)) }
+    ensures placed { IfOk result (λ e. (ps : trees.Pairs)
+        → IsPlaced (expr_in scope.now
+        (trees.test (written.expr_view value.now) negated name.now (written.exprs_view row.now) ps)
+        spot.now) (expr_view e) (values pool.old) (values pool.new)) }
     ensures refused { IfErr result (λ e. e ≡ error.NoMemory) }
 {
     match test_of(name) {
-        None => turned(alloc, negated, no_operation(alloc)),
+        None => turned(alloc, negated, absent()),
         Some(test) => {
             let first = resolve_expression(alloc, scope, spot, value, pool)?;
             let mut operands = row_of(alloc, first)?;
@@ -262,11 +282,14 @@ fn resolve_filter(
     pool: &mut Vec<Value>,
 ) -> Result<SExpr, ScopeError>
     requires { IsLaidOut scope.now }
-    ensures placed { IfOk result (λ e. IsPlaced (expr_in scope.now (trees.filter (written.expr_view value.now) name.now (written.exprs_view row.now) (written.pairs_view pairs.now)) spot.now) (expr_view e) (values pool.old) (values pool.new)) }
+    ensures placed { IfOk result (λ e. IsPlaced (expr_in scope.now (trees.filter
+        (written.expr_view value.now) name.now (written.exprs_view row.now)
+        (written.pairs_view pairs.now)) spot.now) (expr_view e) (values pool.old)
+        (values pool.new)) }
     ensures refused { IfErr result (λ e. e ≡ error.NoMemory) }
 {
     match filter_of(name, row, pairs) {
-        None => Ok(no_operation(alloc)),
+        None => Ok(absent()),
         Some(filter) => {
             let first = resolve_expression(alloc, scope, spot, value, pool)?;
             resolve_filtered(alloc, scope, spot, filter, first, row, pairs, pool)
@@ -287,8 +310,10 @@ pub fn resolve_filtered(
     pool: &mut Vec<Value>,
 ) -> Result<SExpr, ScopeError>
     requires { IsLaidOut scope.now }
-    ensures placed { IfOk result (λ e. (c : slots.SExpr Constant) (p : List Tree) → IsPlaced c (expr_view value) p (values pool.old)
-        → IsPlaced (filtered_in scope.now (Some (filter_id filter)) c (written.exprs_view row.now) (written.pairs_view pairs.now) spot.now) (expr_view e) p (values pool.new)) }
+    ensures placed { IfOk result (λ e. (c : slots.SExpr Constant) (p : List Tree)
+        → IsPlaced c (expr_view value) p (values pool.old)
+        → IsPlaced (filtered_in scope.now (Some (filter_id filter)) c (written.exprs_view row.now)
+        (written.pairs_view pairs.now) spot.now) (expr_view e) p (values pool.new)) }
     ensures refused { IfErr result (λ e. e ≡ error.NoMemory) }
 {
     let mut given = row_of(alloc, value)?;
@@ -318,7 +343,9 @@ fn resolve_call(
     pool: &mut Vec<Value>,
 ) -> Result<SExpr, ScopeError>
     requires { IsLaidOut scope.now }
-    ensures placed { IfOk result (λ e. IsPlaced (expr_in scope.now (trees.call (written.expr_view called.now) (written.exprs_view row.now) (written.pairs_view pairs.now)) spot.now) (expr_view e) (values pool.old) (values pool.new)) }
+    ensures placed { IfOk result (λ e. IsPlaced (expr_in scope.now (trees.call
+        (written.expr_view called.now) (written.exprs_view row.now) (written.pairs_view pairs.now))
+        spot.now) (expr_view e) (values pool.old) (values pool.new)) }
     ensures refused { IfErr result (λ e. e ≡ error.NoMemory) }
 {
     match callee_of(&*scope, &*called)? {
@@ -327,9 +354,9 @@ fn resolve_call(
         }
         Callee::Range => resolve_range(alloc, scope, spot, row, pool),
         Callee::Super => super_called(alloc, scope, spot, pool),
-        Callee::Block(name) => block_called(alloc, scope, spot, name, pool),
+        Callee::Block(name) => block_called(alloc, scope, spot, name),
         Callee::Cycle => resolve_cycle(alloc, scope, spot, row, pool),
-        Callee::Unknown => Ok(no_value()),
+        Callee::Unknown => Ok(absent()),
     }
 }
 
@@ -345,8 +372,13 @@ fn resolve_macro(
     pool: &mut Vec<Value>,
 ) -> Result<SExpr, ScopeError>
     requires { IsLaidOut scope.now }
-    ensures placed { IfOk result (λ e. IsPlaced (slots.invoke signature.entry.unit spot.now.escaping (row_in scope.now (written.exprs_view row.now) spot.now (asides_in scope.now (written.pairs_view pairs.now) spot.now
-        (resolve.filled (parameters_view signature.entry.parameters.now) (length row.now) signature.entry.first_default (resolve.locals_from spot.now.free (keywords (written.pairs_view pairs.now))))))) (expr_view e) (values pool.old) (values pool.new)) }
+    ensures placed { IfOk result (λ e. IsPlaced (slots.invoke signature.entry.unit spot.now.escaping
+        (row_in scope.now (written.exprs_view row.now) spot.now (asides_in scope.now
+        (written.pairs_view pairs.now) spot.now (resolve.filled
+        (parameters_view signature.entry.parameters.now) (length row.now)
+        signature.entry.first_default
+        (resolve.locals_from spot.now.free (keywords (written.pairs_view pairs.now)))))))
+        (expr_view e) (values pool.old) (values pool.new)) }
     ensures refused { IfErr result (λ e. e ≡ error.NoMemory) }
 {
     let mut given = Vec::new(alloc);
@@ -372,7 +404,10 @@ fn resolve_range(
     pool: &mut Vec<Value>,
 ) -> Result<SExpr, ScopeError>
     requires { IsLaidOut scope.now }
-    ensures placed { IfOk result (λ e. IsPlaced (slots.made (slots.operator (operators.range_of (length row.now))) (row_in scope.now (written.exprs_view row.now) spot.now slots.none)) (expr_view e) (values pool.old) (values pool.new)) }
+    ensures placed { IfOk result (λ e. IsPlaced (slots.made
+        (slots.operator (operators.range_of (length row.now)))
+        (row_in scope.now (written.exprs_view row.now) spot.now slots.none)) (expr_view e)
+        (values pool.old) (values pool.new)) }
     ensures refused { IfErr result (λ e. e ≡ error.NoMemory) }
 {
     let mut operands = Vec::new(alloc);
@@ -390,8 +425,12 @@ fn resolve_cycle(
     pool: &mut Vec<Value>,
 ) -> Result<SExpr, ScopeError>
     requires { IsLaidOut scope.now }
-    ensures placed { IfOk result (λ e. IsPlaced (resolve.operation_of op.Item (slots.made slots.a_list (row_in scope.now (written.exprs_view row.now) spot.now slots.none))
-        (resolve.operation_of op.Remainder (slots.field index0) (slots.pooled (own (tree.number (pos (length row.now))))))) (expr_view e) (values pool.old) (values pool.new)) }
+    ensures placed { IfOk result (λ e. IsPlaced (resolve.operation_of op.Item
+        (slots.made slots.a_list
+        (row_in scope.now (written.exprs_view row.now) spot.now slots.none))
+        (resolve.operation_of op.Remainder (slots.field index0)
+        (slots.pooled (own (tree.number (pos (length row.now))))))) (expr_view e) (values pool.old)
+        (values pool.new)) }
     ensures refused { IfErr result (λ e. e ≡ error.NoMemory) }
 {
     let items = resolve_list(alloc, scope, spot, row, pool)?;
@@ -410,7 +449,9 @@ pub fn resolve_row(
     pool: &mut Vec<Value>,
 ) -> Result<(), ScopeError>
     requires { IsLaidOut scope.now }
-    ensures led { IfOk result (λ u. (left : slots.SRow Constant) → RowLeads (row_in scope.now (written.exprs_view row.now) spot.now left) left done.old.items done.new.items (values pool.old) (values pool.new)) }
+    ensures led { IfOk result (λ u. (left : slots.SRow Constant)
+        → RowLeads (row_in scope.now (written.exprs_view row.now) spot.now left) left done.old.items
+        done.new.items (values pool.old) (values pool.new)) }
     ensures refused { IfErr result (λ e. e ≡ error.NoMemory) }
 {
     for expr in row {
@@ -431,7 +472,9 @@ pub fn resolve_asides(
     pool: &mut Vec<Value>,
 ) -> Result<(), ScopeError>
     requires { IsLaidOut scope.now }
-    ensures led { IfOk result (λ u. (left : slots.SRow Constant) → RowLeads (asides_in scope.now (written.pairs_view pairs.now) spot.now left) left done.old.items done.new.items (values pool.old) (values pool.new)) }
+    ensures led { IfOk result (λ u. (left : slots.SRow Constant)
+        → RowLeads (asides_in scope.now (written.pairs_view pairs.now) spot.now left) left
+        done.old.items done.new.items (values pool.old) (values pool.new)) }
     ensures refused { IfErr result (λ e. e ≡ error.NoMemory) }
 {
     let mut here = *spot;
@@ -455,7 +498,10 @@ fn resolve_given(
     pool: &mut Vec<Value>,
 ) -> Result<(), ScopeError>
     requires { IsLaidOut scope.now }
-    ensures led { IfOk result (λ u. (left : slots.SRow Constant) → RowLeads (row_in scope.now (written.exprs_view row.now) spot.now (asides_in scope.now (written.pairs_view pairs.now) spot.now left)) left done.old.items done.new.items (values pool.old) (values pool.new)) }
+    ensures led { IfOk result (λ u. (left : slots.SRow Constant)
+        → RowLeads (row_in scope.now (written.exprs_view row.now) spot.now
+        (asides_in scope.now (written.pairs_view pairs.now) spot.now left)) left done.old.items
+        done.new.items (values pool.old) (values pool.new)) }
     ensures refused { IfErr result (λ e. e ≡ error.NoMemory) }
 {
     resolve_row(alloc, scope, spot, row, done, pool)?;
@@ -473,7 +519,9 @@ fn resolve_entries(
     pool: &mut Vec<Value>,
 ) -> Result<(), ScopeError>
     requires { IsLaidOut scope.now }
-    ensures led { IfOk result (λ u. RowLeads (entries_in scope.now (written.pairs_view pairs.now) spot.now) slots.none done.old.items done.new.items (values pool.old) (values pool.new)) }
+    ensures led { IfOk result (λ u. RowLeads
+        (entries_in scope.now (written.pairs_view pairs.now) spot.now) slots.none done.old.items
+        done.new.items (values pool.old) (values pool.new)) }
     ensures refused { IfErr result (λ e. e ≡ error.NoMemory) }
 {
     for (key, value) in pairs {

@@ -36,8 +36,10 @@ pub fn fill(
     free: usize,
     done: &mut Vec<(Option<usize>, SExpr)>,
 ) -> Result<(), ScopeError>
-    ensures filled { IfOk result (λ u. (p : List Tree) →
-        RowLeads (resolve.filled (parameters_view parameters.now) given first_default (resolve.locals_from free (keywords (written.pairs_view pairs.now)))) slots.none done.old.items done.new.items p p) }
+    ensures filled { IfOk result (λ u. (p : List Tree)
+        → RowLeads (resolve.filled (parameters_view parameters.now) given first_default
+        (resolve.locals_from free (keywords (written.pairs_view pairs.now)))) slots.none
+        done.old.items done.new.items p p) }
     ensures refused { IfErr result (λ e. e ≡ error.NoMemory) }
 {
     let mut default = more(first_default, given)?;
@@ -71,8 +73,9 @@ pub fn fill_some(
     done: &mut Vec<(Option<usize>, SExpr)>,
     pool: &mut Vec<Value>,
 ) -> Result<(), ScopeError>
-    ensures filled { IfOk result (λ u.
-        RowLeads (resolve.filled_some (parameters_view parameters.now) given (keywords (written.pairs_view pairs.now)) (resolve.locals_from free (keywords (written.pairs_view pairs.now)))) slots.none
+    ensures filled { IfOk result (λ u. RowLeads (resolve.filled_some
+        (parameters_view parameters.now) given (keywords (written.pairs_view pairs.now))
+        (resolve.locals_from free (keywords (written.pairs_view pairs.now)))) slots.none
         done.old.items done.new.items (values pool.old) (values pool.new)) }
     ensures refused { IfErr result (λ e. e ≡ error.NoMemory) }
 {
@@ -96,8 +99,11 @@ fn given_or_default(
     free: usize,
     pool: &mut Vec<Value>,
 ) -> Result<SExpr, ScopeError>
-    ensures placed { IfOk result (λ e. IsPlaced (resolve.value_or (slot_in (parameter_view parameter.now).name (resolve.locals_from free (keywords (written.pairs_view pairs.now))))
-        (own (default_value (parameter_view parameter.now).default))) (expr_view e) (values pool.old) (values pool.new)) }
+    ensures placed { IfOk result (λ e. IsPlaced (resolve.value_or (slot_in
+        (parameter_view parameter.now).name
+        (resolve.locals_from free (keywords (written.pairs_view pairs.now))))
+        (own (default_value (parameter_view parameter.now).default))) (expr_view e)
+        (values pool.old) (values pool.new)) }
     ensures refused { IfErr result (λ e. e ≡ error.NoMemory) }
 {
     match kept(pairs, free, parameter.name.as_str())? {
@@ -108,7 +114,8 @@ fn given_or_default(
 
 /// The default of a parameter; undefined where it has none.
 fn default_of(alloc: Global, parameter: &Parameter) -> Result<Value, ScopeError>
-    ensures valued { IfOk result (λ v. view v ≡ default_value (parameter_view parameter.now).default) }
+    ensures valued { IfOk result
+        (λ v. view v ≡ default_value (parameter_view parameter.now).default) }
     ensures refused { IfErr result (λ e. e ≡ error.NoMemory) }
 {
     match &parameter.default {
@@ -119,7 +126,8 @@ fn default_of(alloc: Global, parameter: &Parameter) -> Result<Value, ScopeError>
 
 /// Whether one of the parameters is given by name.
 fn is_some_given(parameters: &[Parameter], pairs: &[(String, Expr)]) -> bool
-    ensures { result ≡ some_given (parameters_view parameters.now) (keywords (written.pairs_view pairs.now)) }
+    ensures { result
+        ≡ some_given (parameters_view parameters.now) (keywords (written.pairs_view pairs.now)) }
 {
     for parameter in parameters {
         if is_given(parameter.name.as_str(), pairs) {

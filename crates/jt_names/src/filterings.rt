@@ -12,7 +12,7 @@ ghost use Rattle.jt_layout.specs.Laid.{IsLaidOut};
 ghost use Rattle.jt_names.specs.Scoped.{values, IsPlaced, world_in, order_in, spot_in, filtered_in};
 
 use crate::expressions::resolve_filtered;
-use crate::forms::no_operation;
+use crate::lookup::absent;
 use crate::spot::Spot;
 use jt_layout::Scope;
 use jt_parse::Filtering;
@@ -31,8 +31,9 @@ pub fn resolve_filterings(
     pool: &mut Vec<Value>,
 ) -> Result<SExpr, ScopeError>
     requires { IsLaidOut scope.now }
-    ensures placed { IfOk result (λ e. IsPlaced (resolved_filters (world_in scope.now) (order_in scope.now) (filterings_view filterings.now) (spot_in scope.now spot.now) (slots.variable (slot_view value)))
-        (expr_view e) (values pool.old) (values pool.new)) }
+    ensures placed { IfOk result (λ e. IsPlaced (resolved_filters (world_in scope.now)
+        (order_in scope.now) (filterings_view filterings.now) (spot_in scope.now spot.now)
+        (slots.variable (slot_view value))) (expr_view e) (values pool.old) (values pool.new)) }
     ensures refused { IfErr result (λ e. e ≡ error.NoMemory) }
 {
     let start = pool.len();
@@ -55,16 +56,20 @@ fn resolve_filtering(
     pool: &mut Vec<Value>,
 ) -> Result<SExpr, ScopeError>
     requires { IsLaidOut scope.now }
-    ensures placed { IfOk result (λ e. (c : slots.SExpr Constant) (p : List Tree) → length p ≡ start → IsPlaced c (expr_view value) p (values pool.old)
-        → IsPlaced (filtered_in scope.now ((world_in scope.now).filters.named (filtering_view filtering.now).name (filtering_view filtering.now).arguments (filtering_view filtering.now).keywords) c (filtering_view filtering.now).arguments (filtering_view filtering.now).keywords spot.now)
-        (expr_view e) p (values pool.new)) }
+    ensures placed { IfOk result (λ e. (c : slots.SExpr Constant) (p : List Tree)
+        → length p ≡ start
+        → IsPlaced c (expr_view value) p (values pool.old)
+        → IsPlaced (filtered_in scope.now ((world_in scope.now).filters.named
+        (filtering_view filtering.now).name (filtering_view filtering.now).arguments
+        (filtering_view filtering.now).keywords) c (filtering_view filtering.now).arguments
+        (filtering_view filtering.now).keywords spot.now) (expr_view e) p (values pool.new)) }
     ensures refused { IfErr result (λ e. e ≡ error.NoMemory) }
 {
     let row = filtering.arguments.as_slice();
     let pairs = filtering.keywords.as_slice();
     let Some(filter) = filter_of(filtering.name.as_str(), row, pairs) else {
         pool.truncate(start);
-        return Ok(no_operation(alloc));
+        return Ok(absent());
     };
     resolve_filtered(alloc, scope, spot, filter, value, row, pairs, pool)
 }

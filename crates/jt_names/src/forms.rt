@@ -6,7 +6,7 @@ ghost use Rattle.jt_value.specs.Tree.{Tree};
 ghost use Rattle.jt_value.specs.View.{view};
 ghost use Rattle.jt_expr.specs.View.{literal_view};
 ghost use Rattle.jt_meaning.specs.Operators as operators;
-ghost use Rattle.jt_ops.specs.declared.op_id.OpId.TheVariants.{Add, Remainder};
+ghost use Rattle.jt_ops.specs.declared.op_id.OpId.TheVariants.{Remainder};
 ghost use Rattle.jt_meaning.specs.Resolve as resolve;
 ghost use Rattle.jt_rules.specs.declared.error.ScopeError.TheVariants as error;
 ghost use Rattle.jt_slots.specs.Loops.{index0};
@@ -111,7 +111,8 @@ fn join(escaping: bool) -> OpId
 
 /// An operation on one operand.
 pub fn on_one(alloc: Global, op: OpId, operand: SExpr) -> Result<SExpr, ScopeError>
-    ensures made { IfOk result (λ e. (a : slots.SExpr Constant) (p q : List Tree) → IsPlaced a (expr_view operand) p q
+    ensures made { IfOk result (λ e. (a : slots.SExpr Constant) (p q : List Tree)
+        → IsPlaced a (expr_view operand) p q
         → IsPlaced (slots.made (slots.operator op) (slots.item a slots.none)) (expr_view e) p q) }
     ensures refused { IfErr result (λ e. e ≡ error.NoMemory) }
 {
@@ -122,7 +123,9 @@ pub fn on_one(alloc: Global, op: OpId, operand: SExpr) -> Result<SExpr, ScopeErr
 
 /// An operation on two operands.
 pub fn on_two(alloc: Global, op: OpId, left: SExpr, right: SExpr) -> Result<SExpr, ScopeError>
-    ensures made { IfOk result (λ e. (a b : slots.SExpr Constant) (p q r : List Tree) → IsPlaced a (expr_view left) p q → IsPlaced b (expr_view right) q r
+    ensures made { IfOk result (λ e. (a b : slots.SExpr Constant) (p q r : List Tree)
+        → IsPlaced a (expr_view left) p q
+        → IsPlaced b (expr_view right) q r
         → IsPlaced (resolve.operation_of op a b) (expr_view e) p r) }
     ensures refused { IfErr result (λ e. e ≡ error.NoMemory) }
 {
@@ -134,7 +137,8 @@ pub fn on_two(alloc: Global, op: OpId, left: SExpr, right: SExpr) -> Result<SExp
 
 /// Its truth turned round, where the flag says so.
 pub fn turned(alloc: Global, negated: bool, inside: SExpr) -> Result<SExpr, ScopeError>
-    ensures made { IfOk result (λ e. (a : slots.SExpr Constant) (p q : List Tree) → IsPlaced a (expr_view inside) p q
+    ensures made { IfOk result (λ e. (a : slots.SExpr Constant) (p q : List Tree)
+        → IsPlaced a (expr_view inside) p q
         → IsPlaced (resolve.turned_round negated a) (expr_view e) p q) }
     ensures refused { IfErr result (λ e. e ≡ error.NoMemory) }
 {
@@ -147,7 +151,9 @@ pub fn turned(alloc: Global, negated: bool, inside: SExpr) -> Result<SExpr, Scop
 
 /// Two operands and what works on them.
 pub fn formed(alloc: Global, form: Form, left: SExpr, right: SExpr) -> Result<SExpr, ScopeError>
-    ensures made { IfOk result (λ e. (a b : slots.SExpr Constant) (p q r : List Tree) → IsPlaced a (expr_view left) p q → IsPlaced b (expr_view right) q r
+    ensures made { IfOk result (λ e. (a b : slots.SExpr Constant) (p q r : List Tree)
+        → IsPlaced a (expr_view left) p q
+        → IsPlaced b (expr_view right) q r
         → IsPlaced (resolve.in_form (form_view form) a b) (expr_view e) p r) }
     ensures refused { IfErr result (λ e. e ≡ error.NoMemory) }
 {
@@ -175,8 +181,11 @@ pub fn chosen(
     value: SExpr,
     other: SExpr,
 ) -> Result<SExpr, ScopeError>
-    ensures made { IfOk result (λ e. (c a b : slots.SExpr Constant) (p q r s : List Tree) → IsPlaced c (expr_view condition) p q → IsPlaced a (expr_view value) q r
-        → IsPlaced b (expr_view other) r s → IsPlaced (slots.choice c a b) (expr_view e) p s) }
+    ensures made { IfOk result (λ e. (c a b : slots.SExpr Constant) (p q r s : List Tree)
+        → IsPlaced c (expr_view condition) p q
+        → IsPlaced a (expr_view value) q r
+        → IsPlaced b (expr_view other) r s
+        → IsPlaced (slots.choice c a b) (expr_view e) p s) }
     ensures refused { IfErr result (λ e. e ≡ error.NoMemory) }
 {
     let asked = Box::new(alloc, condition)?;
@@ -184,16 +193,11 @@ pub fn chosen(
     Ok(SExpr::Choice(asked, first, Box::new(alloc, other)?))
 }
 
-/// What faults, in the stead of a test or a filter that there is not; no chain has one.
-pub fn no_operation(alloc: Global) -> SExpr
-    ensures { (p : List Tree) → IsPlaced (slots.made (slots.operator Add) slots.none) (expr_view result) p p }
-{
-    SExpr::Made(Maker::Operator(OpId::Add), Vec::new(alloc))
-}
-
 /// The place of a loop's turn among so many items, which come again and again.
 pub fn turn_among(alloc: Global, count: usize, pool: &mut Vec<Value>) -> Result<SExpr, ScopeError>
-    ensures placed { IfOk result (λ e. IsPlaced (resolve.operation_of Remainder (slots.field index0) (slots.pooled (own (tree.number (pos count))))) (expr_view e) (values pool.old) (values pool.new)) }
+    ensures placed { IfOk result (λ e. IsPlaced (resolve.operation_of Remainder (slots.field index0)
+        (slots.pooled (own (tree.number (pos count))))) (expr_view e) (values pool.old)
+        (values pool.new)) }
     ensures refused { IfErr result (λ e. e ≡ error.NoMemory) }
 {
     let number = number_of(count)?;

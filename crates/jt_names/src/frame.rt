@@ -18,7 +18,8 @@ pub struct Frame<'a> {
     pub names: Vec<&'a str>,
     pub first: usize,
     pub index: Index<'a>,
-    pub ghost indexed: { (x : Text) → place_in index.places x ≡ last_among x (texts names.items) first None },
+    pub ghost indexed: { (x : Text)
+        → place_in index.places x ≡ last_among x (texts names.items) first None },
 }
 
 impl<'a> Frame<'a> {

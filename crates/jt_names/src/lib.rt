@@ -19,7 +19,7 @@ pub use expressions::{resolve_asides, resolve_expression, resolve_row};
 pub use filterings::resolve_filterings;
 pub use frame::Frame;
 pub use jt_rules::ScopeError;
-pub use lookup::{global_slot, kept, more, no_value, reading, slot, value_or};
+pub use lookup::{absent, global_slot, kept, more, no_value, reading, slot, value_or};
 pub use pool::{add_text, add_value};
 pub use rows::reads;
 pub use spot::Spot;

@@ -8,6 +8,7 @@ ghost use Rattle.jt_meaning.specs.Layout.{slot_in};
 ghost use Rattle.jt_meaning.specs.Resolve as resolve;
 ghost use Rattle.jt_rules.specs.declared.error.ScopeError.TheVariants as error;
 ghost use Rattle.jt_slots.specs.Pool.{known};
+ghost use Rattle.jt_slots.specs.Slots as slots;
 ghost use Rattle.jt_slots.specs.View.{slot_view, expr_view};
 ghost use Rattle.jt_layout.specs.Laid.{IsLaidOut};
 ghost use Rattle.jt_names.specs.Scoped.{IsPlaced, globals_in, spot_in};
@@ -28,7 +29,9 @@ pub fn more(count: usize, by: usize) -> Result<usize, ScopeError>
 
 /// What a slot holds, or the value at a place of the pool.
 pub fn value_or(slot: Option<Slot>, place: usize) -> SExpr
-    ensures { (p : List Tree) → IsPlaced (resolve.value_or (option_map slot_view slot) (known place)) (expr_view result) p p }
+    ensures { (p : List Tree)
+        → IsPlaced (resolve.value_or (option_map slot_view slot) (known place)) (expr_view result) p
+        p }
 {
     match slot {
         Some(slot) => SExpr::Variable(slot),
@@ -38,7 +41,8 @@ pub fn value_or(slot: Option<Slot>, place: usize) -> SExpr
 
 /// What a name reads: a name that has no slot is undefined.
 pub fn reading(slot: Option<Slot>) -> SExpr
-    ensures { (p : List Tree) → IsPlaced (resolve.read_from (option_map slot_view slot)) (expr_view result) p p }
+    ensures { (p : List Tree)
+        → IsPlaced (resolve.read_from (option_map slot_view slot)) (expr_view result) p p }
 {
     value_or(slot, 0)
 }
@@ -48,6 +52,13 @@ pub fn no_value() -> SExpr
     ensures { (p : List Tree) → IsPlaced resolve.no_value (expr_view result) p p }
 {
     SExpr::Pooled(0)
+}
+
+/// What no name means.
+pub fn absent() -> SExpr
+    ensures { (p : List Tree) → IsPlaced slots.absent (expr_view result) p p }
+{
+    SExpr::Absent
 }
 
 /// The slot of a name.
@@ -79,7 +90,8 @@ pub fn global_slot(scope: &Scope<'_>, name: &str) -> Option<Slot>
 
 /// The local that holds what is given by a name.
 pub fn kept(pairs: &[(String, Expr)], free: usize, name: &str) -> Result<Option<Slot>, ScopeError>
-    ensures kept { IfOk result (λ s. option_map slot_view s ≡ slot_in name.now (resolve.locals_from free (keywords (written.pairs_view pairs.now)))) }
+    ensures kept { IfOk result (λ s. option_map slot_view s
+        ≡ slot_in name.now (resolve.locals_from free (keywords (written.pairs_view pairs.now)))) }
     ensures refused { IfErr result (λ e. e ≡ error.NoMemory) }
 {
     let mut local = free;

@@ -9,7 +9,7 @@ ghost use Rattle.jt_slots.specs.Loops.{field_named};
 ghost use Rattle.jt_slots.specs.View.{field_view, expr_view};
 ghost use Rattle.jt_names.specs.Scoped.{IsPlaced};
 
-use crate::lookup::no_value;
+use crate::lookup::absent;
 use jt_expr::Expr;
 use jt_slots::{Field, SExpr};
 
@@ -41,12 +41,13 @@ pub fn field_of(name: &str) -> Option<Field>
     }
 }
 
-/// What a loop tells, or no value.
+/// What a loop tells; an unknown field is absent.
 pub fn told(field: Option<Field>) -> SExpr
-    ensures { (p : List Tree) → IsPlaced (resolve.field_from (option_map field_view field)) (expr_view result) p p }
+    ensures { (p : List Tree)
+        → IsPlaced (resolve.field_from (option_map field_view field)) (expr_view result) p p }
 {
     match field {
         Some(field) => SExpr::Field(field),
-        None => no_value(),
+        None => absent(),
     }
 }

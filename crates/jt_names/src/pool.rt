@@ -16,7 +16,8 @@ use std::alloc::Global;
 
 /// Puts a value at the end of the pool, and gives the expression that it is.
 pub fn add_value(pool: &mut Vec<Value>, value: Value) -> Result<SExpr, ScopeError>
-    ensures placed { IfOk result (λ e. IsPlaced (slots.pooled (own (view value))) (expr_view e) (values pool.old) (values pool.new)) }
+    ensures placed { IfOk result (λ e. IsPlaced (slots.pooled (own (view value))) (expr_view e)
+        (values pool.old) (values pool.new)) }
     ensures refused { IfErr result (λ e. e ≡ error.NoMemory) }
 {
     let place = pool.len();
@@ -26,7 +27,8 @@ pub fn add_value(pool: &mut Vec<Value>, value: Value) -> Result<SExpr, ScopeErro
 
 /// Puts a text at the end of the pool, and gives the expression that it is.
 pub fn add_text(alloc: Global, text: &str, pool: &mut Vec<Value>) -> Result<SExpr, ScopeError>
-    ensures placed { IfOk result (λ e. IsPlaced (slots.pooled (own (tree.text text.now))) (expr_view e) (values pool.old) (values pool.new)) }
+    ensures placed { IfOk result (λ e. IsPlaced (slots.pooled (own (tree.text text.now)))
+        (expr_view e) (values pool.old) (values pool.new)) }
     ensures refused { IfErr result (λ e. e ≡ error.NoMemory) }
 {
     add_value(pool, Value::text(alloc, text)?)

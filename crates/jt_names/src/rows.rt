@@ -25,7 +25,9 @@ pub fn reads(
     names: &[&str],
 ) -> Result<Vec<(Option<usize>, SExpr)>, ScopeError>
     requires { IsLaidOut scope.now }
-    ensures read { IfOk result (λ row. (p : List Tree) → RowLeads (resolve.reads (spot_in scope.now spot.now).table (texts names.now)) slots.none [] row.items p p) }
+    ensures read { IfOk result (λ row. (p : List Tree)
+        → RowLeads (resolve.reads (spot_in scope.now spot.now).table (texts names.now)) slots.none
+        [] row.items p p) }
     ensures refused { IfErr result (λ e. e ≡ error.NoMemory) }
 {
     let mut row = Vec::new(alloc);
@@ -37,7 +39,9 @@ pub fn reads(
 
 /// The first so many locals, in a row.
 pub fn first_locals(alloc: Global, count: usize) -> Result<Vec<(Option<usize>, SExpr)>, ScopeError>
-    ensures read { IfOk result (λ row. (xs : List Text) (p : List Tree) → length xs ≡ count → RowLeads (resolve.first_locals 0 xs) slots.none [] row.items p p) }
+    ensures read { IfOk result (λ row. (xs : List Text) (p : List Tree)
+        → length xs ≡ count
+        → RowLeads (resolve.first_locals 0 xs) slots.none [] row.items p p) }
     ensures refused { IfErr result (λ e. e ≡ error.NoMemory) }
 {
     let mut row = Vec::new(alloc);

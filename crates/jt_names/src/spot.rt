@@ -22,7 +22,9 @@ impl<'s, 'a> Spot<'s, 'a> {
 
     /// The same where no scope is around, so that names are globals.
     pub fn outside(self) -> Spot<'s, 'a>
-        ensures { (scope : Scope) → spot_in scope result ≡ record (spot_in scope self.entry) { table = globals_in scope } }
+        ensures { (scope : Scope)
+            → spot_in scope result
+            ≡ record (spot_in scope self.entry) { table = globals_in scope } }
     {
         Spot {
             frames: &self.frames[..0],

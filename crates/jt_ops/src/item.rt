@@ -109,7 +109,8 @@ fn at(items: &[Value], place: usize) -> Option<&Value>
 
 /// The character that an index names, as a plain text.
 fn character(alloc: Global, text: &str, index: i64, limits: Limits) -> Result<Value, OpError>
-    ensures { Answers result (limited_by limits (Ok (or_undefined (indexed_character text.now index)))) }
+    ensures { Answers result
+        (limited_by limits (Ok (or_undefined (indexed_character text.now index)))) }
 {
     match nth_character(text, index) {
         Some(c) => single(alloc, c, limits),
@@ -128,7 +129,8 @@ fn single(alloc: Global, c: char, limits: Limits) -> Result<Value, OpError>
 /// The character that an index names.
 fn nth_character(text: &str, index: i64) -> Option<char>
     ensures { result
-        ≡ option_and_then (slice_get (chars text.now)) (items.place index (length (chars text.now))) }
+        ≡ option_and_then (slice_get (chars text.now))
+        (items.place index (length (chars text.now))) }
 {
     match place(index, character_count(text)) {
         Some(place) => character_at(text, place),

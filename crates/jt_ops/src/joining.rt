@@ -95,7 +95,8 @@ pub(crate) fn join_escaping(
     right: &Value,
     limits: Limits,
 ) -> Result<Value, OpError>
-    ensures { Answers result (limited_by limits (joined_escaping (view left.now) (view right.now))) }
+    ensures { Answers result
+        (limited_by limits (joined_escaping (view left.now) (view right.now))) }
 {
     match (left, right) {
         (Value::Markup(s), Value::Markup(t)) => {
@@ -132,7 +133,8 @@ pub(crate) fn add_owned(
 
 /// A list with the items of another behind its own. Where other values share it, they keep what they have.
 fn appended(mut list: Rc<ValueList>, more: &ValueList, limits: Limits) -> Result<Value, OpError>
-    ensures { Answers result (limited_by limits (Ok (tree.list (joined_items list.value more.now)))) }
+    ensures { Answers result
+        (limited_by limits (Ok (tree.list (joined_items list.value more.now)))) }
 {
     let (size, nesting) = joined_measure(&list, more);
     allow(size, nesting, limits)?;
@@ -156,7 +158,8 @@ fn joined_lists(
 
 /// Copies of the items of two lists.
 fn joined_copies(alloc: Global, items: &[Value], more: &[Value]) -> Result<Vec<Value>, NoMemory>
-    ensures { IfOk result (λ v. items_view v.items ≡ joined_items (items_view items.now) (items_view more.now)) }
+    ensures { IfOk result
+        (λ v. items_view v.items ≡ joined_items (items_view items.now) (items_view more.now)) }
 {
     let mut joined = Vec::with_capacity(alloc, items.len() + more.len())?;
     append_copies(&mut joined, items)?;
@@ -168,8 +171,10 @@ fn joined_copies(alloc: Global, items: &[Value], more: &[Value]) -> Result<Vec<V
 /// greater.
 #[tactic(auto, using(jt_value::proofs::Lists::joined_size, jt_value::proofs::Lists::joined_nesting))]
 fn joined_measure(list: &ValueList, more: &ValueList) -> (u64, u32)
-    ensures size { result.0 ≡ min (tree.size (tree.list (joined_items list.now more.now))) (2 ^ 64 - 1) }
-    ensures nesting { result.1 ≡ min (tree.nesting (tree.list (joined_items list.now more.now))) (2 ^ 32 - 1) }
+    ensures size { result.0
+        ≡ min (tree.size (tree.list (joined_items list.now more.now))) (2 ^ 64 - 1) }
+    ensures nesting { result.1
+        ≡ min (tree.nesting (tree.list (joined_items list.now more.now))) (2 ^ 32 - 1) }
 {
     (
         list.size().saturating_add(more.size() - 1),
@@ -179,8 +184,8 @@ fn joined_measure(list: &ValueList, more: &ValueList) -> (u64, u32)
 
 /// Puts copies of some items behind others.
 fn append_copies(into: &mut Vec<Value>, items: &[Value]) -> Result<(), NoMemory>
-    ensures { OnOk result
-        (items_view into.new.items ≡ joined_items (items_view into.old.items) (items_view items.now)) }
+    ensures { OnOk result (items_view into.new.items
+        ≡ joined_items (items_view into.old.items) (items_view items.now)) }
 {
     for item in items {
         into.push(item.clone()?)?;

@@ -92,15 +92,21 @@ impl OpId {
         }
     }
 
+    /// How many operands the operator takes: 1, 2 or 3.
+    pub fn operands(self) -> usize
+        ensures { result ≡ op_operands self }
+    {
+        match self {
+            OpId::Negate | OpId::Plus | OpId::Not | OpId::RangeToStop => 1,
+            OpId::RangeByStep => 3,
+            _ => 2,
+        }
+    }
+
     /// Whether the operator takes this many operands.
     pub fn takes(self, values: usize) -> bool
         ensures { result ≡ (values == op_operands self) }
     {
-        let operands = match self {
-            OpId::Negate | OpId::Plus | OpId::Not | OpId::RangeToStop => 1,
-            OpId::RangeByStep => 3,
-            _ => 2,
-        };
-        values == operands
+        values == self.operands()
     }
 }

@@ -40,7 +40,8 @@ pub(crate) fn misfit_of_text(other: &Value) -> Fault
 
 /// The fault of three operands that fit no case.
 pub(crate) fn misfit_of_three(first: &Value, second: &Value, third: &Value) -> Fault
-    ensures { result ≡ operands.misfit_of_three (view first.now) (view second.now) (view third.now) }
+    ensures { result
+        ≡ operands.misfit_of_three (view first.now) (view second.now) (view third.now) }
 {
     match (first, second, third) {
         (Value::Undefined, _, _) => Fault::Undefined,

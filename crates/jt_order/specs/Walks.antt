@@ -1,4 +1,4 @@
--- A walk over a graph, depth first: what is known of its marks and of the numbers that are done.
+-- What only private clauses cite: a walk over a graph, depth first: what is known of its marks and of the numbers that are done.
 use Rattle.std.specs.Prelude.{◌≡◌, ℕ, ◌<◌, ◌≤◌, Bool, true, false, List, length, reverse, slice_get, unwrap_or}
 use Rattle.std.specs.List.{AllByRecursion, count_by}
 use Rattle.jt_order.specs.Graph.{Graph, among, AreOrdered, Reaches}

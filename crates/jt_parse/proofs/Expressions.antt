@@ -1,5 +1,5 @@
 -- A state behind what is read of an expression or of a statement's first tag.
-use Rattle.std.proofs.Common.{◌≡◌, ℕ, suc, ◌+◌, ◌-◌, ◌<◌, ◌≤◌, nat_lt, true, false, List, ◌∷◌, length, refl, sym, subst, arith, Result, Ok, Err}
+use Rattle.std.proofs.Common.{◌≡◌, ℕ, suc, ◌+◌, ◌-◌, ◌<◌, ◌≤◌, nat_lt, true, false, List, [], ◌∷◌, length, refl, sym, subst, ◌∙◌, append-nil, arith, Result, Ok, Err}
 use Rattle.std.proofs.lemmas.Bool.Decides.{nat_tests}
 use Rattle.jt_scan.specs.Cut.{Token}
 use Rattle.jt_expr.specs.Trees.{Expr, levels}
@@ -7,12 +7,16 @@ use Rattle.jt_parse.specs.Tags.{Head, Says, says_if, says_for, says_set, says_te
 use Rattle.jt_parse.specs.Trees.{Body, end, Branches}
 use Rattle.jt_parse.specs.Reading.{Frame, in_branch, then_branch, State, state, After, ElifTag}
 use Rattle.jt_parse.specs.Gives.{GivesOnly, Refuses}
-use Rattle.jt_expr.specs.Grammar.{Tokens, Spells, whole}
+use Rattle.jt_expr.specs.Grammar.{Tokens, word, Spells, whole}
+use Rattle.jt_expr.specs.Promises.{Leads}
 use Rattle.jt_expr.specs.View.{expr_view}
 use Rattle.jt_expr.specs.declared.tree.Expr.{Expr as Tree}
 use Rattle.jt_expr.specs.declared.error.ExprError.{ExprError}
 use Rattle.jt_expr.specs.declared.error.ExprError.TheVariants as fault
 use Rattle.jt_parse.specs.Gives.{refusal_at}
+use Rattle.jt_parse.specs.HeadView.{head_view}
+use Rattle.jt_parse.specs.Readers.{ReadsHead}
+use Rattle.jt_parse.specs.declared.heads.Head.{Head as First}
 use Rattle.jt_parse.specs.declared.error.ParseError.{ParseError}
 use Rattle.jt_parse.specs.declared.error.ParseError.TheVariants as e
 
@@ -93,3 +97,19 @@ expression_refused limit line ts fault.TooDeep none deep filters tests = deep re
 expression_refused limit line ts fault.UnknownFilter none deep filters tests = filters refl
 expression_refused limit line ts fault.UnknownTest none deep filters tests = tests refl
 expression_refused limit line ts fault.NoMemory none deep filters tests = tt
+
+-- ---- the first tag of a statement
+
+module _ (m line : ℕ) (w : List ℕ) (ts : Tokens) where
+  whole_leads : (h : Head) → Says line h (word w ∷ ts) → Leads (λ a x. Says line a (word w ∷ x)) h ts []
+  whole_leads h d = (ts, sym (append-nil ts), d)
+
+  pub head_found : (h : First) → ReadsHead line m w ts (Ok h) [] → GivesOnly head_view (λ a. Says line a (word w ∷ ts)) head_levels (suc m) (Ok h)
+  head_found h g = (subst (λ x. Says line (head_view h) (word w ∷ x)) (sym (g.0.1 ∙ append-nil g.0.0)) g.0.2, g.1, λ b d. (g.2 b [] (whole_leads b d) refl).0)
+
+  pub head_refused : (f : ExprError) → ReadsHead line m w ts (Err f) [] → GivesOnly head_view (λ a. Says line a (word w ∷ ts)) head_levels (suc m) (Err (refusal_at line f))
+  head_refused fault.Syntax g = λ b d. g b [] (whole_leads b d) refl
+  head_refused fault.TooDeep g = λ b d. g b [] (whole_leads b d) refl
+  head_refused fault.UnknownFilter g = absurd g
+  head_refused fault.UnknownTest g = absurd g
+  head_refused fault.NoMemory g = tt

@@ -2,9 +2,10 @@ pub mod Bodies
 pub mod Expressions
 pub mod Texts
 pub mod Views
-pub mod Rows
-pub mod TagsComplete
-pub mod TagsSound
+pub mod Fronts
+pub mod Separating
+pub mod Parts
+pub mod ParameterLists
 pub mod FirstTags
 pub mod Levels
 pub mod Complete
@@ -12,7 +13,6 @@ pub mod Sound
 pub mod Exact
 pub mod Answers
 pub mod Sides
-pub mod Given
 pub mod Placing
 pub mod Checking
 pub mod Steps

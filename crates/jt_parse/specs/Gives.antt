@@ -1,4 +1,4 @@
--- What the functions of the parser give.
+-- What only private clauses cite: what the functions of the parser give.
 use Rattle.std.specs.Prelude.{◌≡◌, ℕ, ◌≤◌, ◌<◌, List, map, reverse, Bool, true, false, Some, None, Result, Ok, Err}
 use Rattle.jt_expr.specs.View.{expr_view}
 use Rattle.jt_expr.specs.declared.error.ExprError.{ExprError}

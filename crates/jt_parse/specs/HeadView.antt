@@ -1,14 +1,9 @@
--- What contracts see of the first tags of statements, and what their readers give.
-use Rattle.std.specs.Prelude.{◌≡◌, List, map, string_bytes, String, option_map, Result, Ok, Err}
+-- What only private clauses cite: what contracts see of the first tags of statements.
+use Rattle.std.specs.Prelude.{List, map, string_bytes, String, option_map}
 use Rattle.std.specs.declared.alloc.Global.{Global}
 use Rattle.jt_expr.specs.Trees as expressions
-use Rattle.jt_expr.specs.Grammar.{Tokens}
-use Rattle.jt_expr.specs.Reading.{Outcome, Reader, Fault, syntax, deep}
-use Rattle.jt_expr.specs.Cursor.{Refuses}
 use Rattle.jt_expr.specs.View.{expr_view, pairs_view}
 use Rattle.jt_expr.specs.declared.tree.Expr.{Expr}
-use Rattle.jt_expr.specs.declared.error.ExprError.{ExprError}
-use Rattle.jt_expr.specs.declared.error.ExprError.TheVariants as e
 use Rattle.jt_parse.specs.Trees.{Text}
 use Rattle.jt_parse.specs.Tags as tags
 use Rattle.jt_parse.specs.View.{names_view, filterings_view, parameters_view, stmt_view}
@@ -17,16 +12,6 @@ use Rattle.jt_parse.specs.declared.heads.Opening.{Opening}
 use Rattle.jt_parse.specs.declared.heads.Opening.TheVariants as o
 use Rattle.jt_parse.specs.declared.heads.Head.{Head}
 use Rattle.jt_parse.specs.declared.heads.Head.TheVariants as h
-
--- a value, as the reader has it
-abbrev pub GivesBy : {A B : Type 0} → (A → B) → Outcome B → Result A ExprError → Tokens → Type 0
-GivesBy f o (Ok a) new = o ≡ Ok (f a, new)
-GivesBy f o (Err x) new = Refuses o x
-
--- whatever tokens are left, the value, and these tokens
-abbrev pub GivesAll : {A B : Type 0} → (A → B) → Reader B → Result A ExprError → Type 0
-GivesAll f r (Ok a) = (ts : Tokens) → r ts ≡ Ok (f a, ts)
-GivesAll f r (Err x) = (ts : Tokens) → Refuses (r ts) x
 
 abbrev pub value_view : String Global × Expr → Text × expressions.Expr
 value_view p = (string_bytes p.0, expr_view p.1)
@@ -50,11 +35,3 @@ head_view (h.Statement s) = tags.a_statement (stmt_view s)
 head_view (h.If c) = tags.an_if (expr_view c)
 head_view (h.Loop l) = tags.a_loop (loop_view l)
 head_view (h.Opening o) = tags.an_opening (opening_view o)
-
-abbrev pub GivesWhole : Result tags.Head Fault → Result Head ExprError → Type 0
-GivesWhole r (Ok x) = r ≡ Ok (head_view x)
-GivesWhole r (Err e.Syntax) = r ≡ Err syntax
-GivesWhole r (Err e.TooDeep) = r ≡ Err deep
-GivesWhole r (Err e.UnknownFilter) = ⊥
-GivesWhole r (Err e.UnknownTest) = ⊥
-GivesWhole r (Err e.NoMemory) = Unit {0}

@@ -6,10 +6,10 @@ pub mod Kept
 pub mod Names
 pub mod PlaceView
 pub mod Places
+pub mod Readers
 pub mod Reading
 pub mod Refusals
 pub mod SideView
-pub mod TagReading
 pub mod Tags
 pub mod Texts
 pub mod Trees

@@ -1,4 +1,4 @@
--- What contracts see of places.
+-- What only private clauses cite: what contracts see of places.
 use Rattle.jt_parse.specs.Places as places
 use Rattle.jt_parse.specs.declared.places.Place.{Place}
 use Rattle.jt_parse.specs.declared.places.Place.TheVariants as p

@@ -1,5 +1,5 @@
--- Which state each piece leads to where statements are read one piece after the other. What tags spell is said by the relations of the
--- grammar. Only clauses of private functions cite this.
+-- What only private clauses cite: which state each piece leads to where statements are read one piece after the other. What tags spell is said by the relations of the
+-- grammar.
 use Rattle.std.specs.Prelude.{◌≡◌, ℕ, suc, ◌+◌, ◌≤◌, ◌<◌, Bool, true, false, ◌&&◌, List, [], ◌∷◌, length, codes, encode_utf8_all, bytes_eq, if◌then◌else◌, Result, Ok, Err}
 use Rattle.std.specs.List.{list_any}
 use Rattle.jt_scan.specs.declared.segment.Kind.TheVariants as kind

@@ -1,4 +1,4 @@
--- What contracts see of the sides of a text.
+-- What only private clauses cite: what contracts see of the sides of a text.
 use Rattle.std.specs.Prelude.{ℕ, Bool, List}
 use Rattle.jt_scan.specs.Cut.{is_space}
 use Rattle.jt_scan.specs.declared.segment.Segment.{Segment}

@@ -1,4 +1,4 @@
--- Words of ASCII letters.
+-- What only private clauses cite: words of ASCII letters.
 use Rattle.std.specs.Prelude.{ℕ, Bool, true, ◌&&◌, List, [], ◌∷◌, nat_lt}
 
 -- each byte is ASCII

@@ -25,7 +25,8 @@ pub(crate) fn expression(
     levels: u8,
     line: u32,
 ) -> Result<Expr, ParseError>
-    ensures { GivesOnly expr_view (λ e. Spells whole e (map token_view tokens.now)) tree_levels levels result }
+    ensures { GivesOnly expr_view (λ e. Spells whole e (map token_view tokens.now)) tree_levels
+        levels result }
 {
     match jt_expr::expression(alloc, tokens, levels) {
         Ok(expr) => Ok(expr),
@@ -41,7 +42,9 @@ pub(crate) fn head(
     levels: u8,
     line: u32,
 ) -> Result<Head, ParseError>
-    ensures { GivesOnly head_view (λ h. Says line h (word_token (chars word.now) ∷ map token_view tokens.now)) head_levels (suc levels) result }
+    ensures { GivesOnly head_view
+        (λ h. Says line h (word_token (chars word.now) ∷ map token_view tokens.now)) head_levels
+        (suc levels) result }
 {
     match read_head(alloc, word, tokens, levels, line) {
         Ok(head) => Ok(head),

@@ -47,7 +47,8 @@ pub struct Frame {
 
 /// One statement behind the others.
 pub fn push_statement(body: &mut Vec<Stmt>, statement: Stmt) -> Result<(), ParseError>
-    ensures pushed { IfOk result (λ u. body_view body.new.items ≡ reading.then_one (body_view body.old.items) (stmt_view statement)) }
+    ensures pushed { IfOk result (λ u. body_view body.new.items
+        ≡ reading.then_one (body_view body.old.items) (stmt_view statement)) }
     ensures refused { IfErr result (λ e. e ≡ error.NoMemory) }
 {
     body.push(statement)?;
@@ -61,7 +62,9 @@ pub fn push_branch(
     condition: Expr,
     body: Vec<Stmt>,
 ) -> Result<(), ParseError>
-    ensures pushed { IfOk result (λ u. branches_view branches.new.items ≡ reading.then_branch (branches_view branches.old.items) line (expr_view condition) (body_view body.items)) }
+    ensures pushed { IfOk result (λ u. branches_view branches.new.items
+        ≡ reading.then_branch (branches_view branches.old.items) line (expr_view condition)
+        (body_view body.items)) }
     ensures refused { IfErr result (λ e. e ≡ error.NoMemory) }
 {
     branches.push((line, condition, body))?;
@@ -78,7 +81,8 @@ pub fn pop_frame(frames: &mut Vec<Frame>) -> Option<Frame>
 
 /// One frame more.
 pub fn push_frame(frames: &mut Vec<Frame>, frame: Frame) -> Result<(), ParseError>
-    ensures pushed { IfOk result (λ u. frames_view frames.new.items ≡ frame_view frame ∷ frames_view frames.old.items) }
+    ensures pushed { IfOk result
+        (λ u. frames_view frames.new.items ≡ frame_view frame ∷ frames_view frames.old.items) }
     ensures refused { IfErr result (λ e. e ≡ error.NoMemory) }
 {
     frames.push(frame)?;
@@ -87,14 +91,16 @@ pub fn push_frame(frames: &mut Vec<Frame>, frame: Frame) -> Result<(), ParseErro
 
 /// The statement of branches and an else part.
 fn if_statement(branches: Vec<(u32, Expr, Vec<Stmt>)>, other: Vec<Stmt>) -> Stmt
-    ensures { stmt_view result ≡ trees.choose (branches_view branches.items) (body_view other.items) }
+    ensures { stmt_view result
+        ≡ trees.choose (branches_view branches.items) (body_view other.items) }
 {
     Stmt::If(branches, other)
 }
 
 /// A loop with an else part.
 fn for_statement(line: u32, head: Loop, body: Vec<Stmt>, other: Vec<Stmt>) -> Stmt
-    ensures { stmt_view result ≡ tags.looped line (loop_view head) (body_view body.items) (body_view other.items) }
+    ensures { stmt_view result
+        ≡ tags.looped line (loop_view head) (body_view body.items) (body_view other.items) }
 {
     let Loop {
         targets,
@@ -125,7 +131,8 @@ pub fn finished(
     body: Vec<Stmt>,
 ) -> Result<(Vec<Stmt>, Stmt), ParseError>
     ensures before { IfOk result (λ p. body_view p.0.items ≡ reading.before (frame_view frame)) }
-    ensures finished { IfOk result (λ p. stmt_view p.1 ≡ reading.finished (body_view body.items) (frame_view frame)) }
+    ensures finished { IfOk result
+        (λ p. stmt_view p.1 ≡ reading.finished (body_view body.items) (frame_view frame)) }
     ensures refused { IfErr result (λ e. e ≡ error.NoMemory) }
 {
     let Frame { before, line, kind } = frame;
@@ -169,7 +176,8 @@ fn is_end_of(opening: &Opening, word: &str) -> bool
 
 /// Whether the tag with this word ends the frame.
 pub fn ends_frame(frame: &Frame, word: &str, tokens: &[Token<'_>]) -> bool
-    ensures { result ≡ reading.ends_frame (chars word.now) (map token_view tokens.now) (frame_view frame.now) }
+    ensures { result
+        ≡ reading.ends_frame (chars word.now) (map token_view tokens.now) (frame_view frame.now) }
 {
     match &frame.kind {
         Kind::Branch(_, _, _) | Kind::Else(_) => is_word(word, "endif") && tokens.is_empty(),

@@ -148,7 +148,8 @@ fn is_start(side: Side) -> bool
 
 /// The part that is removed at the right end.
 fn removed_right(text: &str, options: Options, start: bool, right: Side) -> &str
-    ensures value { chars result.now ≡ spec.removed_right options start (side_view right) (chars text.now) }
+    ensures value { chars result.now
+        ≡ spec.removed_right options start (side_view right) (chars text.now) }
     ensures end { EndsWith (chars text.now) (chars result.now) }
 {
     match right {
@@ -167,7 +168,8 @@ fn removed_right(text: &str, options: Options, start: bool, right: Side) -> &str
 
 /// What is left of a text between two sides.
 pub fn kept(text: &str, options: Options, left: Side, right: Side) -> &str
-    ensures { chars result.now ≡ spec.kept options (side_view left) (side_view right) (chars text.now) }
+    ensures { chars result.now
+        ≡ spec.kept options (side_view left) (side_view right) (chars text.now) }
 {
     let front = after_left(text, options, left);
     let end = removed_right(text, options, is_start(left), right);

@@ -45,7 +45,8 @@ fn condition_unknown(condition: &Option<Expr>, named: Named) -> bool
 
 /// The same for the tag of a loop.
 fn check_loop(line: u32, over: &Expr, condition: &Option<Expr>) -> Result<(), ParseError>
-    ensures { GivesNames (spec.unknown_in line (λ u. has_unknown u (expr_view over.now) || spec.condition_unknown u (option_map expr_view condition.now))) result }
+    ensures { GivesNames (spec.unknown_in line (λ u. has_unknown u (expr_view over.now)
+        || spec.condition_unknown u (option_map expr_view condition.now))) result }
 {
     let filters = has_unknown(over, Named::Filter) || condition_unknown(condition, Named::Filter);
     let tests = has_unknown(over, Named::Test) || condition_unknown(condition, Named::Test);
@@ -54,7 +55,8 @@ fn check_loop(line: u32, over: &Expr, condition: &Option<Expr>) -> Result<(), Pa
 
 /// The same for a tag with values.
 fn check_values(line: u32, values: &Vec<(String, Expr)>) -> Result<(), ParseError>
-    ensures { GivesNames (spec.unknown_in line (λ u. pairs_have_unknown u (pairs_view values.now.items))) result }
+    ensures { GivesNames
+        (spec.unknown_in line (λ u. pairs_have_unknown u (pairs_view values.now.items))) result }
 {
     let filters = any_unknown_pair(values, Named::Filter);
     let tests = any_unknown_pair(values, Named::Test);
@@ -84,7 +86,9 @@ fn filterings_unknown(filters: &Vec<Filtering>, named: Named) -> bool
 
 /// The same for a filter tag.
 fn check_filters(line: u32, filters: &Vec<Filtering>) -> Result<(), ParseError>
-    ensures { GivesNames (spec.unknown_in line (λ u. spec.filterings_unknown u (filterings_view filters.now.items))) result }
+    ensures { GivesNames
+        (spec.unknown_in line (λ u. spec.filterings_unknown u (filterings_view filters.now.items)))
+        result }
 {
     let unknown_filters = filterings_unknown(filters, Named::Filter);
     let unknown_tests = filterings_unknown(filters, Named::Test);

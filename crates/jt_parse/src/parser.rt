@@ -52,8 +52,10 @@ struct Parser {
 
 /// How many levels an expression may have in a statement with so many others around it.
 fn levels_left(outer: usize, line: u32) -> Result<u8, ParseError>
-    ensures left { IfOk result (λ n. (n ≡ max_levels - suc outer) × (nat_lt outer max_levels ≡ true)) }
-    ensures refused { IfErr result (λ e. (e ≡ error.TooDeep line) × (nat_lt outer max_levels ≡ false)) }
+    ensures left { IfOk result
+        (λ n. (n ≡ max_levels - suc outer) × (nat_lt outer max_levels ≡ true)) }
+    ensures refused { IfErr result
+        (λ e. (e ≡ error.TooDeep line) × (nat_lt outer max_levels ≡ false)) }
 {
     if outer < MAX_LEVELS {
         Ok((MAX_LEVELS - outer - 1) as u8)
@@ -72,7 +74,9 @@ fn depth(frames: &Vec<Frame>) -> usize
 impl Parser {
     /// `{{ e }}`
     fn print_tag(&mut self, line: u32, tokens: &[Token<'_>]) -> Result<(), ParseError>
-        ensures { GivesState (reading.PrintTag max_levels line (map token_view tokens.now) (state_view self.old)) result self.new }
+        ensures { GivesState
+            (reading.PrintTag max_levels line (map token_view tokens.now) (state_view self.old))
+            result self.new }
     {
         let levels = levels_left(depth(&self.frames), line)?;
         let printed = expression(self.alloc, tokens, levels, line)?;
@@ -82,7 +86,9 @@ impl Parser {
 
     /// One open statement more.
     fn open(&mut self, line: u32, kind: Kind) -> Result<(), ParseError>
-        ensures opened { IfOk result (λ u. state_view self.new ≡ reading.state trees.end (frame_by (state_view self.old).body line kind ∷ (state_view self.old).frames)) }
+        ensures opened { IfOk result (λ u. state_view self.new
+            ≡ reading.state trees.end
+            (frame_by (state_view self.old).body line kind ∷ (state_view self.old).frames)) }
         ensures refused { IfErr result (λ e. e ≡ error.NoMemory) }
     {
         let before = mem::replace(&mut self.body, Vec::new(self.alloc));
@@ -91,7 +97,8 @@ impl Parser {
 
     /// What follows the first tag of a statement.
     fn headed(&mut self, line: u32, head: Head) -> Result<(), ParseError>
-        ensures headed { IfOk result (λ u. state_view self.new ≡ reading.headed line (head_view head) (state_view self.old)) }
+        ensures headed { IfOk result (λ u.
+            state_view self.new ≡ reading.headed line (head_view head) (state_view self.old)) }
         ensures refused { IfErr result (λ e. e ≡ error.NoMemory) }
     {
         match head {
@@ -107,7 +114,8 @@ impl Parser {
 
     /// The first tag of a statement.
     fn head_tag(&mut self, line: u32, word: &str, tokens: &[Token<'_>]) -> Result<(), ParseError>
-        ensures { GivesState (reading.HeadTag max_levels line (chars word.now) (map token_view tokens.now) (state_view self.old)) result self.new }
+        ensures { GivesState (reading.HeadTag max_levels line (chars word.now)
+            (map token_view tokens.now) (state_view self.old)) result self.new }
     {
         let levels = levels_left(depth(&self.frames), line)?;
         let head = head(self.alloc, word, tokens, levels, line)?;
@@ -117,7 +125,8 @@ impl Parser {
 
     /// `{% elif c %}`
     fn elif_tag(&mut self, line: u32, tokens: &[Token<'_>]) -> Result<(), ParseError>
-        ensures { GivesState (reading.ElifTag max_levels line (map token_view tokens.now) (state_view self.old).body (state_view self.old).frames) result self.new }
+        ensures { GivesState (reading.ElifTag max_levels line (map token_view tokens.now)
+            (state_view self.old).body (state_view self.old).frames) result self.new }
     {
         let Some(frame) = pop_frame(&mut self.frames) else {
             return Err(ParseError::Syntax { line });
@@ -145,7 +154,9 @@ impl Parser {
 
     /// What the else part of a frame is read in.
     fn else_by(&mut self, line: u32) -> Result<(), ParseError>
-        ensures { GivesState (λ o. o ≡ reading.else_by (state_view self.old).body (state_view self.old).frames) result self.new }
+        ensures { GivesState
+            (λ o. o ≡ reading.else_by (state_view self.old).body (state_view self.old).frames)
+            result self.new }
     {
         let Some(frame) = pop_frame(&mut self.frames) else {
             return Err(ParseError::Syntax { line });
@@ -179,7 +190,9 @@ impl Parser {
     /// `{% else %}`
     #[tactic(auto, unfolding(crate::specs::Reading::else_tag))]
     fn else_tag(&mut self, line: u32, tokens: &[Token<'_>]) -> Result<(), ParseError>
-        ensures { GivesState (λ o. o ≡ reading.else_tag (map token_view tokens.now) (state_view self.old).body (state_view self.old).frames) result self.new }
+        ensures { GivesState (λ o. o
+            ≡ reading.else_tag (map token_view tokens.now) (state_view self.old).body
+            (state_view self.old).frames) result self.new }
     {
         if !tokens.is_empty() {
             return Err(ParseError::Syntax { line });
@@ -190,7 +203,9 @@ impl Parser {
     /// A tag that ends a statement.
     #[tactic(auto, unfolding(crate::specs::Reading::end_tag))]
     fn end_tag(&mut self, line: u32, word: &str, tokens: &[Token<'_>]) -> Result<(), ParseError>
-        ensures { GivesState (λ o. o ≡ reading.end_tag (chars word.now) (map token_view tokens.now) (state_view self.old).body (state_view self.old).frames) result self.new }
+        ensures { GivesState (λ o. o
+            ≡ reading.end_tag (chars word.now) (map token_view tokens.now)
+            (state_view self.old).body (state_view self.old).frames) result self.new }
     {
         let Some(frame) = pop_frame(&mut self.frames) else {
             return Err(ParseError::Syntax { line });
@@ -208,7 +223,8 @@ impl Parser {
     /// A block tag, by its first word.
     #[tactic(auto, unfolding(crate::specs::Reading::role))]
     fn block_tag(&mut self, line: u32, word: &str, tokens: &[Token<'_>]) -> Result<(), ParseError>
-        ensures { GivesState (reading.BlockTag (reading.role (chars word.now)) max_levels line (chars word.now) (map token_view tokens.now) (state_view self.old)) result self.new }
+        ensures { GivesState (reading.BlockTag (reading.role (chars word.now)) max_levels line
+            (chars word.now) (map token_view tokens.now) (state_view self.old)) result self.new }
     {
         if is_word(word, "elif") {
             self.elif_tag(line, tokens)
@@ -223,7 +239,8 @@ impl Parser {
 
     /// A tag.
     fn tag(&mut self, kind: TagKind, line: u32, tokens: &[Token<'_>]) -> Result<(), ParseError>
-        ensures { GivesState (reading.Steps max_levels (state_view self.old) (kept.tag kind line (map token_view tokens.now))) result self.new }
+        ensures { GivesState (reading.Steps max_levels (state_view self.old)
+            (kept.tag kind line (map token_view tokens.now))) result self.new }
     {
         match kind {
             TagKind::Variable => self.print_tag(line, tokens),
@@ -236,7 +253,9 @@ impl Parser {
 
     /// What is left of a text.
     fn text(&mut self, text: &str) -> Result<(), ParseError>
-        ensures { GivesState (reading.Runs max_levels (state_view self.old) (kept.with_text (chars text.now) [])) result self.new }
+        ensures { GivesState
+            (reading.Runs max_levels (state_view self.old) (kept.with_text (chars text.now) []))
+            result self.new }
     {
         if text.is_empty() {
             return Ok(());
@@ -248,7 +267,9 @@ impl Parser {
 
     /// One segment, between two sides.
     fn step(&mut self, segment: &Segment<'_>, left: Side, right: Side) -> Result<(), ParseError>
-        ensures { GivesState (reading.Runs max_levels (state_view self.old) (kept.with_segment segment.now.options (side_view left) (side_view right) (segment_view segment.now) [])) result self.new }
+        ensures { GivesState (reading.Runs max_levels (state_view self.old)
+            (kept.with_segment segment.now.options (side_view left) (side_view right)
+            (segment_view segment.now) [])) result self.new }
     {
         let options = segment.options;
         match &segment.part {
@@ -266,7 +287,8 @@ impl Parser {
 
 /// The tree that all the segments spell, as the reader has it.
 fn read(alloc: Global, segments: &[Segment<'_>]) -> Result<Template, ParseError>
-    ensures { GivesTemplate (reading.Parsed max_levels (kept.pieces (reads_of segments.now))) result }
+    ensures { GivesTemplate (reading.Parsed max_levels (kept.pieces (reads_of segments.now)))
+        result }
 {
     let mut parser = Parser {
         alloc,
@@ -303,13 +325,17 @@ fn read_known(alloc: Global, segments: &[Segment<'_>]) -> Result<Template, Parse
 /// line is that of the tag in which the fault was found, and of a statement that is never closed
 /// its first tag's.
 pub fn parse(alloc: Global, segments: &[Segment<'_>]) -> Result<Template, ParseError>
-    ensures spelled { IfOk result
-        (λ t. Spelled (body_of t) (kept.pieces (reads_of segments.now)) × (body_levels (body_of t) ≤ max_levels)) }
+    ensures spelled { IfOk result (λ t. Spelled (body_of t) (kept.pieces (reads_of segments.now))
+        × (body_levels (body_of t) ≤ max_levels)) }
     ensures known { IfOk result (λ t. body_unknown (body_of t) ≡ None) }
-    ensures only { (b : Body) → Spelled b (kept.pieces (reads_of segments.now)) → body_levels b ≤ max_levels → body_unknown b ≡ None →
-        MatchResult result (λ t. body_of t ≡ b) (λ e. e ≡ error.NoMemory) }
+    ensures only { (b : Body)
+        → Spelled b (kept.pieces (reads_of segments.now))
+        → body_levels b ≤ max_levels
+        → body_unknown b ≡ None
+        → MatchResult result (λ t. body_of t ≡ b) (λ e. e ≡ error.NoMemory) }
     ensures refused { IfErr result (λ e. IsRefusal e (kept.pieces (reads_of segments.now))) }
-    ensures weighs { IfOk result (λ t. body_weight (body_of t) ≤ cut.weight_of (cut_of segments.now)) }
+    ensures weighs { IfOk result
+        (λ t. body_weight (body_of t) ≤ cut.weight_of (cut_of segments.now)) }
     ensures short { IfOk result (λ t. body_bytes (body_of t) ≤ bytes_of (cut_of segments.now)) }
 {
     expression_laws();

@@ -1,18 +1,22 @@
 //! The tags of statements, read token by token.
 
-ghost use Rattle.std.specs.Prelude.{◌≡◌, ◌≤◌, ◌<◌, ◌∷◌, length, map, option_map, string_bytes, IsTrue, IfOk, true, false};
+ghost use Rattle.std.specs.Prelude.{◌≡◌, ℕ, [], map, option_map, string_bytes, codes};
 ghost use Rattle.std.specs.Str.{chars};
 ghost use Rattle.jt_scan.specs.View.{token_view};
 ghost use Rattle.jt_scan.specs.declared.segment.Sign.TheVariants as sign;
+ghost use Rattle.jt_expr.specs.Trees.{levels as tree_levels};
+ghost use Rattle.jt_expr.specs.Grammar.{whole, Spells};
+ghost use Rattle.jt_expr.specs.Promises.{Reads, EndsAt, OpensNone, level_of_form};
 ghost use Rattle.jt_expr.specs.View.{expr_view, literal_view};
-ghost use Rattle.jt_expr.specs.Cursor.{ahead, GivesDone};
-ghost use Rattle.jt_parse.specs.Words.{is_plain};
-ghost use Rattle.jt_parse.specs.Tags.{defaults_last};
-ghost use Rattle.jt_parse.specs.TagReading as spec;
-ghost use Rattle.jt_expr.specs.Reading as reading;
-ghost use Rattle.jt_expr.specs.Gives.{level_of_form};
-ghost use Rattle.jt_parse.specs.View.{names_view, filtering_view, filterings_view, parameter_view, parameters_view};
-ghost use Rattle.jt_parse.specs.HeadView.{GivesBy, GivesAll, GivesWhole, value_view, values_view, head_view};
+ghost use Rattle.jt_expr.specs.Cursor.{ahead};
+ghost use Rattle.jt_expr.specs.Words.{letters_of};
+ghost use Rattle.jt_parse.specs.Trees.{condition_levels};
+ghost use Rattle.jt_parse.specs.Tags.{Separated, IsName, IsValue, IsFiltering, IsParameter};
+ghost use Rattle.jt_parse.specs.Tags.{Parameters, Condition, Context, missing_words, defaults_last};
+ghost use Rattle.jt_parse.specs.Readers as readers;
+ghost use Rattle.jt_parse.specs.View.{names_view, filtering_view, filterings_view};
+ghost use Rattle.jt_parse.specs.View.{parameter_view, parameters_view};
+ghost use Rattle.jt_parse.specs.HeadView.{value_view, values_view};
 
 use crate::expression::is_word;
 use crate::heads::{Head, Loop, Opening};
@@ -24,10 +28,8 @@ use jt_scan::{Sign, Token, text_value};
 use std::alloc::Global;
 
 /// Takes the word, which must stand in front.
-#[tactic(auto, unfolding(crate::specs::TagReading::expect_word))]
 fn expect_word(cursor: &mut Cursor<'_>, word: &str) -> Result<(), ExprError>
-    requires { IsTrue (is_plain word.now) }
-    ensures { GivesDone (spec.expect_word word.now (ahead cursor.old)) result (ahead cursor.new) }
+    ensures { readers.TakesWord (letters_of word.now) (ahead cursor.old) result (ahead cursor.new) }
 {
     if cursor.eat_word(word) {
         Ok(())
@@ -37,9 +39,9 @@ fn expect_word(cursor: &mut Cursor<'_>, word: &str) -> Result<(), ExprError>
 }
 
 /// A name.
-#[tactic(auto, unfolding(crate::specs::TagReading::target_at))]
 fn target(alloc: Global, cursor: &mut Cursor<'_>) -> Result<String, ExprError>
-    ensures { GivesBy string_bytes (spec.target_at (ahead cursor.old)) result (ahead cursor.new) }
+    ensures { readers.ReadsFlat string_bytes IsName readers.Anything
+        (ahead cursor.old) result (ahead cursor.new) }
 {
     let name = cursor.name()?;
     Ok(copy_of(alloc, name)?)
@@ -47,7 +49,8 @@ fn target(alloc: Global, cursor: &mut Cursor<'_>) -> Result<String, ExprError>
 
 /// `a, b`
 fn targets(alloc: Global, cursor: &mut Cursor<'_>) -> Result<Vec<String>, ExprError>
-    ensures { GivesBy (λ v. names_view v.items) (spec.separated spec.target_at sign.Comma (length (ahead cursor.old)) (ahead cursor.old)) result (ahead cursor.new) }
+    ensures { readers.ReadsFlat (λ v. names_view v.items) (Separated IsName sign.Comma)
+        (readers.NoSign sign.Comma) (ahead cursor.old) result (ahead cursor.new) }
 {
     let mut found = Vec::new(alloc);
     for _turn in 0..cursor.left() {
@@ -67,16 +70,17 @@ fn expression(
     levels: u8,
     form: Form,
 ) -> Result<Expr, ExprError>
-    ensures { GivesBy expr_view (reading.read levels (level_of_form form) (ahead cursor.old)) result (ahead cursor.new) }
+    ensures { Reads expr_view (Spells (level_of_form form)) (EndsAt (level_of_form form))
+        tree_levels levels (ahead cursor.old) result (ahead cursor.new) }
 {
     let Part { expr, .. } = read(alloc, cursor, levels, form)?;
     Ok(Box::into_inner(expr))
 }
 
 /// `a = e`
-#[tactic(auto, unfolding(crate::specs::TagReading::value_at))]
 fn value(alloc: Global, cursor: &mut Cursor<'_>, levels: u8) -> Result<(String, Expr), ExprError>
-    ensures { GivesBy value_view (spec.value_at levels (ahead cursor.old)) result (ahead cursor.new) }
+    ensures { Reads value_view IsValue (EndsAt whole) readers.value_levels levels
+        (ahead cursor.old) result (ahead cursor.new) }
 {
     let name = target(alloc, cursor)?;
     cursor.expect(Sign::Assign)?;
@@ -90,7 +94,8 @@ fn values(
     cursor: &mut Cursor<'_>,
     levels: u8,
 ) -> Result<Vec<(String, Expr)>, ExprError>
-    ensures { GivesBy (λ v. values_view v.items) (spec.separated (spec.value_at levels) sign.Comma (length (ahead cursor.old)) (ahead cursor.old)) result (ahead cursor.new) }
+    ensures { Reads (λ v. values_view v.items) (Separated IsValue sign.Comma) readers.NoToken
+        (readers.most readers.value_levels) levels (ahead cursor.old) result (ahead cursor.new) }
 {
     let mut found = Vec::new(alloc);
     for _turn in 0..cursor.left() {
@@ -104,9 +109,9 @@ fn values(
 }
 
 /// `f(a)`
-#[tactic(auto, unfolding(crate::specs::TagReading::filtering_at))]
 fn filtering(alloc: Global, cursor: &mut Cursor<'_>, levels: u8) -> Result<Filtering, ExprError>
-    ensures { GivesBy filtering_view (spec.filtering_at levels (ahead cursor.old)) result (ahead cursor.new) }
+    ensures { Reads filtering_view IsFiltering OpensNone readers.one_filtering_levels levels
+        (ahead cursor.old) result (ahead cursor.new) }
 {
     let name = target(alloc, cursor)?;
     let Parts { items, pairs, .. } = arguments(alloc, cursor, levels)?;
@@ -123,7 +128,9 @@ fn filterings(
     cursor: &mut Cursor<'_>,
     levels: u8,
 ) -> Result<Vec<Filtering>, ExprError>
-    ensures { GivesBy (λ v. filterings_view v.items) (spec.separated (spec.filtering_at levels) sign.Pipe (length (ahead cursor.old)) (ahead cursor.old)) result (ahead cursor.new) }
+    ensures { Reads (λ v. filterings_view v.items) (Separated IsFiltering sign.Pipe) readers.NoToken
+        (readers.most readers.one_filtering_levels) levels
+        (ahead cursor.old) result (ahead cursor.new) }
 {
     let mut found = Vec::new(alloc);
     for _turn in 0..cursor.left() {
@@ -137,9 +144,9 @@ fn filterings(
 }
 
 /// A number, a text or a constant.
-#[tactic(auto, unfolding(crate::specs::TagReading::literal_at))]
 fn literal(alloc: Global, cursor: &mut Cursor<'_>) -> Result<Literal, ExprError>
-    ensures { GivesBy literal_view (spec.literal_at (ahead cursor.old)) result (ahead cursor.new) }
+    ensures { readers.ReadsFlat literal_view readers.IsLiteral readers.Anything
+        (ahead cursor.old) result (ahead cursor.new) }
 {
     match cursor.take() {
         Some(Token::Number(number)) => Ok(Literal::Number(number)),
@@ -153,9 +160,9 @@ fn literal(alloc: Global, cursor: &mut Cursor<'_>) -> Result<Literal, ExprError>
 }
 
 /// A parameter's default, if it has one.
-#[tactic(auto, unfolding(crate::specs::TagReading::default_at))]
 fn default_of(alloc: Global, cursor: &mut Cursor<'_>) -> Result<Option<Literal>, ExprError>
-    ensures { GivesBy (option_map literal_view) (spec.default_at (ahead cursor.old)) result (ahead cursor.new) }
+    ensures { readers.ReadsFlat (option_map literal_view) readers.IsDefault
+        (readers.NoSign sign.Assign) (ahead cursor.old) result (ahead cursor.new) }
 {
     if !cursor.eat(Sign::Assign) {
         return Ok(None);
@@ -165,9 +172,9 @@ fn default_of(alloc: Global, cursor: &mut Cursor<'_>) -> Result<Option<Literal>,
 }
 
 /// `a`, or `a = 1`
-#[tactic(auto, unfolding(crate::specs::TagReading::parameter_at))]
 fn parameter(alloc: Global, cursor: &mut Cursor<'_>) -> Result<Parameter, ExprError>
-    ensures { GivesBy parameter_view (spec.parameter_at (ahead cursor.old)) result (ahead cursor.new) }
+    ensures { readers.ReadsFlat parameter_view IsParameter (readers.NoSign sign.Assign)
+        (ahead cursor.old) result (ahead cursor.new) }
 {
     let name = target(alloc, cursor)?;
     let default = default_of(alloc, cursor)?;
@@ -176,7 +183,8 @@ fn parameter(alloc: Global, cursor: &mut Cursor<'_>) -> Result<Parameter, ExprEr
 
 /// `a, b = 1`
 fn parameter_row(alloc: Global, cursor: &mut Cursor<'_>) -> Result<Vec<Parameter>, ExprError>
-    ensures { GivesBy (λ v. parameters_view v.items) (spec.separated spec.parameter_at sign.Comma (length (ahead cursor.old)) (ahead cursor.old)) result (ahead cursor.new) }
+    ensures { readers.ReadsFlat (λ v. parameters_view v.items) (Separated IsParameter sign.Comma)
+        readers.NoParameter (ahead cursor.old) result (ahead cursor.new) }
 {
     let mut found = Vec::new(alloc);
     for _turn in 0..cursor.left() {
@@ -205,9 +213,9 @@ fn defaults_are_last(parameters: &[Parameter]) -> bool
 }
 
 /// The parameters of a macro, up to the closing parenthesis.
-#[tactic(auto, unfolding(crate::specs::TagReading::parameters_at))]
 fn parameters(alloc: Global, cursor: &mut Cursor<'_>) -> Result<Vec<Parameter>, ExprError>
-    ensures { GivesBy (λ v. parameters_view v.items) (spec.parameters_at (ahead cursor.old)) result (ahead cursor.new) }
+    ensures { readers.ReadsFlat (λ v. parameters_view v.items) Parameters readers.Anything
+        (ahead cursor.old) result (ahead cursor.new) }
 {
     if cursor.eat(Sign::RightParen) {
         return Ok(Vec::new(alloc));
@@ -221,9 +229,9 @@ fn parameters(alloc: Global, cursor: &mut Cursor<'_>) -> Result<Vec<Parameter>, 
 }
 
 /// The condition of a loop, if it has one.
-#[tactic(auto, unfolding(crate::specs::TagReading::condition_at))]
 fn condition(alloc: Global, cursor: &mut Cursor<'_>, levels: u8) -> Result<Option<Expr>, ExprError>
-    ensures { GivesBy (option_map expr_view) (spec.condition_at levels (ahead cursor.old)) result (ahead cursor.new) }
+    ensures { Reads (option_map expr_view) Condition readers.NoToken condition_levels levels
+        (ahead cursor.old) result (ahead cursor.new) }
 {
     if !cursor.eat_word("if") {
         return Ok(None);
@@ -233,9 +241,9 @@ fn condition(alloc: Global, cursor: &mut Cursor<'_>, levels: u8) -> Result<Optio
 }
 
 /// A text literal.
-#[tactic(auto, unfolding(crate::specs::TagReading::text_at))]
 fn text(alloc: Global, cursor: &mut Cursor<'_>) -> Result<String, ExprError>
-    ensures { GivesBy string_bytes (spec.text_at (ahead cursor.old)) result (ahead cursor.new) }
+    ensures { readers.ReadsFlat string_bytes readers.IsText readers.Anything
+        (ahead cursor.old) result (ahead cursor.new) }
 {
     match cursor.take() {
         Some(Token::Text(raw)) => Ok(text_value(alloc, raw)?),
@@ -244,9 +252,9 @@ fn text(alloc: Global, cursor: &mut Cursor<'_>) -> Result<String, ExprError>
 }
 
 /// Whether `ignore missing` is said.
-#[tactic(auto, unfolding(crate::specs::TagReading::missing_at))]
 fn missing(cursor: &mut Cursor<'_>) -> Result<bool, ExprError>
-    ensures { GivesBy (λ b. b) (spec.missing_at (ahead cursor.old)) result (ahead cursor.new) }
+    ensures { readers.ReadsFlat (λ b. b) (λ b x. x ≡ missing_words b)
+        (readers.NoWord (codes "ignore")) (ahead cursor.old) result (ahead cursor.new) }
 {
     if !cursor.eat_word("ignore") {
         return Ok(false);
@@ -256,9 +264,9 @@ fn missing(cursor: &mut Cursor<'_>) -> Result<bool, ExprError>
 }
 
 /// Whether an included template sees the names around.
-#[tactic(auto, unfolding(crate::specs::TagReading::context_at))]
 fn context(cursor: &mut Cursor<'_>) -> Result<bool, ExprError>
-    ensures { GivesBy (λ b. b) (spec.context_at (ahead cursor.old)) result (ahead cursor.new) }
+    ensures { readers.ReadsFlat (λ b. b) Context readers.NoToken
+        (ahead cursor.old) result (ahead cursor.new) }
 {
     if cursor.eat_word("with") {
         expect_word(cursor, "context")?;
@@ -272,18 +280,18 @@ fn context(cursor: &mut Cursor<'_>) -> Result<bool, ExprError>
 }
 
 /// `if c`
-#[tactic(auto, unfolding(crate::specs::TagReading::if_head))]
 fn if_head(alloc: Global, cursor: &mut Cursor<'_>, levels: u8) -> Result<Head, ExprError>
-    ensures { GivesBy head_view (spec.if_head levels (ahead cursor.old)) result (ahead cursor.new) }
+    ensures { (line : ℕ) → readers.ReadsHead line levels (codes "if")
+        (ahead cursor.old) result (ahead cursor.new) }
 {
     let condition = expression(alloc, cursor, levels, Form::Whole)?;
     Ok(Head::If(condition))
 }
 
 /// `for a, b in e if c`
-#[tactic(auto, unfolding(crate::specs::TagReading::for_head))]
 fn for_head(alloc: Global, cursor: &mut Cursor<'_>, levels: u8) -> Result<Head, ExprError>
-    ensures { GivesBy head_view (spec.for_head levels (ahead cursor.old)) result (ahead cursor.new) }
+    ensures { (line : ℕ) → readers.ReadsHead line levels (codes "for")
+        (ahead cursor.old) result (ahead cursor.new) }
 {
     let targets = targets(alloc, cursor)?;
     expect_word(cursor, "in")?;
@@ -298,7 +306,7 @@ fn for_head(alloc: Global, cursor: &mut Cursor<'_>, levels: u8) -> Result<Head, 
 
 /// The one name of a text that is captured.
 fn only_name(names: Vec<String>) -> Result<Head, ExprError>
-    ensures { GivesAll head_view (spec.text_by (names_view names.items)) result }
+    ensures { readers.GivesText (names_view names.items) result }
 {
     let mut names = names;
     let Some(name) = names.pop() else {
@@ -312,14 +320,14 @@ fn only_name(names: Vec<String>) -> Result<Head, ExprError>
 }
 
 /// `set a, b = e`, or `set a`
-#[tactic(auto, unfolding(crate::specs::TagReading::set_head))]
 fn set_head(
     alloc: Global,
     cursor: &mut Cursor<'_>,
     levels: u8,
     line: u32,
 ) -> Result<Head, ExprError>
-    ensures { GivesBy head_view (spec.set_head levels line (ahead cursor.old)) result (ahead cursor.new) }
+    ensures { readers.ReadsHead line levels (codes "set")
+        (ahead cursor.old) result (ahead cursor.new) }
 {
     let names = targets(alloc, cursor)?;
     if !cursor.eat(Sign::Assign) {
@@ -330,9 +338,9 @@ fn set_head(
 }
 
 /// `with a = e, b = f`
-#[tactic(auto, unfolding(crate::specs::TagReading::with_head))]
 fn with_head(alloc: Global, cursor: &mut Cursor<'_>, levels: u8) -> Result<Head, ExprError>
-    ensures { GivesBy head_view (spec.with_head levels (ahead cursor.old)) result (ahead cursor.new) }
+    ensures { (line : ℕ) → readers.ReadsHead line levels (codes "with")
+        (ahead cursor.old) result (ahead cursor.new) }
 {
     if cursor.left() == 0 {
         return Ok(Head::Opening(Opening::Values(Vec::new(alloc))));
@@ -342,18 +350,18 @@ fn with_head(alloc: Global, cursor: &mut Cursor<'_>, levels: u8) -> Result<Head,
 }
 
 /// `filter f(a)|g`
-#[tactic(auto, unfolding(crate::specs::TagReading::filter_head))]
 fn filter_head(alloc: Global, cursor: &mut Cursor<'_>, levels: u8) -> Result<Head, ExprError>
-    ensures { GivesBy head_view (spec.filter_head levels (ahead cursor.old)) result (ahead cursor.new) }
+    ensures { (line : ℕ) → readers.ReadsHead line levels (codes "filter")
+        (ahead cursor.old) result (ahead cursor.new) }
 {
     let found = filterings(alloc, cursor, levels)?;
     Ok(Head::Opening(Opening::Filters(found)))
 }
 
 /// `autoescape true`, or `false`
-#[tactic(auto, unfolding(crate::specs::TagReading::autoescape_head))]
 fn autoescape_head(cursor: &mut Cursor<'_>) -> Result<Head, ExprError>
-    ensures { GivesBy head_view (spec.autoescape_head (ahead cursor.old)) result (ahead cursor.new) }
+    ensures { (line limit : ℕ) → readers.ReadsHead line limit (codes "autoescape")
+        (ahead cursor.old) result (ahead cursor.new) }
 {
     if cursor.eat_word("true") {
         return Ok(Head::Opening(Opening::Escaping(true)));
@@ -365,9 +373,9 @@ fn autoescape_head(cursor: &mut Cursor<'_>) -> Result<Head, ExprError>
 }
 
 /// `macro f(a, b=1)`
-#[tactic(auto, unfolding(crate::specs::TagReading::macro_head))]
 fn macro_head(alloc: Global, cursor: &mut Cursor<'_>) -> Result<Head, ExprError>
-    ensures { GivesBy head_view (spec.macro_head (ahead cursor.old)) result (ahead cursor.new) }
+    ensures { (line limit : ℕ) → readers.ReadsHead line limit (codes "macro")
+        (ahead cursor.old) result (ahead cursor.new) }
 {
     let name = target(alloc, cursor)?;
     cursor.expect(Sign::LeftParen)?;
@@ -376,9 +384,9 @@ fn macro_head(alloc: Global, cursor: &mut Cursor<'_>) -> Result<Head, ExprError>
 }
 
 /// `include "x" ignore missing without context`
-#[tactic(auto, unfolding(crate::specs::TagReading::include_head))]
 fn include_head(alloc: Global, cursor: &mut Cursor<'_>, line: u32) -> Result<Head, ExprError>
-    ensures { GivesBy head_view (spec.include_head line (ahead cursor.old)) result (ahead cursor.new) }
+    ensures { (limit : ℕ) → readers.ReadsHead line limit (codes "include")
+        (ahead cursor.old) result (ahead cursor.new) }
 {
     let name = text(alloc, cursor)?;
     let missing = missing(cursor)?;
@@ -387,18 +395,18 @@ fn include_head(alloc: Global, cursor: &mut Cursor<'_>, line: u32) -> Result<Hea
 }
 
 /// `extends "x"`
-#[tactic(auto, unfolding(crate::specs::TagReading::extends_head))]
 fn extends_head(alloc: Global, cursor: &mut Cursor<'_>, line: u32) -> Result<Head, ExprError>
-    ensures { GivesBy head_view (spec.extends_head line (ahead cursor.old)) result (ahead cursor.new) }
+    ensures { (limit : ℕ) → readers.ReadsHead line limit (codes "extends")
+        (ahead cursor.old) result (ahead cursor.new) }
 {
     let name = text(alloc, cursor)?;
     Ok(Head::Statement(Stmt::Extends(line, name)))
 }
 
 /// `block b scoped required`
-#[tactic(auto, unfolding(crate::specs::TagReading::block_head))]
 fn block_head(alloc: Global, cursor: &mut Cursor<'_>) -> Result<Head, ExprError>
-    ensures { GivesBy head_view (spec.block_head (ahead cursor.old)) result (ahead cursor.new) }
+    ensures { (line limit : ℕ) → readers.ReadsHead line limit (codes "block")
+        (ahead cursor.old) result (ahead cursor.new) }
 {
     let name = target(alloc, cursor)?;
     let scoped = cursor.eat_word("scoped");
@@ -407,7 +415,6 @@ fn block_head(alloc: Global, cursor: &mut Cursor<'_>) -> Result<Head, ExprError>
 }
 
 /// A statement's first tag, by its first word.
-#[tactic(auto, unfolding(crate::specs::TagReading::head_at))]
 fn head(
     alloc: Global,
     cursor: &mut Cursor<'_>,
@@ -415,7 +422,8 @@ fn head(
     line: u32,
     word: &str,
 ) -> Result<Head, ExprError>
-    ensures { GivesBy head_view (spec.head_at levels line (chars word.now) (ahead cursor.old)) result (ahead cursor.new) }
+    ensures { readers.ReadsHead line levels (chars word.now)
+        (ahead cursor.old) result (ahead cursor.new) }
 {
     if is_word(word, "if") {
         if_head(alloc, cursor, levels)
@@ -450,7 +458,7 @@ pub fn read_head(
     levels: u8,
     line: u32,
 ) -> Result<Head, ExprError>
-    ensures { GivesWhole (spec.all_of (spec.head_at levels line (chars word.now) (map token_view tokens.now))) result }
+    ensures { readers.ReadsHead line levels (chars word.now) (map token_view tokens.now) result [] }
 {
     let mut cursor = Cursor { rest: tokens };
     let found = head(alloc, &mut cursor, levels, line, word)?;

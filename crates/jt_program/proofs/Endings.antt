@@ -1,7 +1,10 @@
 -- How lines and commands end, by the parts that they end in.
-use Rattle.std.proofs.Common.{◌≡◌, ◌≢◌, ◌∙◌, ℕ, List, Option, None, Some, String, Global, Result, Ok, Err, ap, codes, option_map, refl}
+use Rattle.std.proofs.Common.{◌≡◌, ◌≢◌, ◌⊎◌, Contains, inl, inr, ⊎_elim, ◌∙◌, ℕ, List, Option, None, Some, String, Global, Result, Ok, Err, ap, codes, option_map, refl, string_bytes, subst}
 use Rattle.std.specs.Io.KnownBytes.{Keeps}
 use Rattle.clap.specs.Words.{Row, Text as Word}
+use Rattle.jt_scan.specs.declared.options.Options.{Options as ScanOptions}
+use Rattle.jt_inherit.specs.Chains.{Given}
+use Rattle.jt_parse.specs.Trees.{Text}
 use Rattle.jt_line.specs.Line.{IsAsked, IsCommand}
 use Rattle.jt_line.specs.declared.Command.{Command}
 use Rattle.jt_line.specs.declared.Command.TheVariants as command
@@ -12,16 +15,47 @@ use Rattle.jt_line.specs.declared.JobError.TheVariants as job_error
 use Rattle.jt_budget.specs.declared.Budget.{Budget}
 use Rattle.jt_program.specs.declared.messages.Failure.{Failure}
 use Rattle.jt_program.specs.declared.messages.Failure.TheVariants as failure
-use Rattle.jt_program.specs.Commands.{Answers, Ending, IsCompile, IsUnread, LineEnds}
+use Rattle.jt_program.specs.Commands.{Answers, Compiles, Ending, IsCompile, IsOfContext, IsPath, IsUnread, LineEnds}
 use Rattle.jt_program.specs.Ending.{code_of, of_line, status_of}
-use Rattle.jt_program.specs.Files.{Known}
+use Rattle.jt_program.specs.Files.{IsLibrary, IsOfDirectory, Known, path_in}
 
--- a file fails, or memory runs out, whatever the context is
-pub unread_any : (files : Known) (context : Option (String Global)) (e : Failure) → IsUnread files None (Err e) → IsUnread files context (Err e)
-unread_any files context (failure.File path) h = h
-unread_any files context failure.NoMemory h = tt
-unread_any files context (failure.Context e) h = absurd h
-unread_any files context e h = absurd h
+module _ (files : Known) where
+  -- a file fails that is asked for, or memory runs out, whatever else is asked for
+  pub unread_more : (asks more : Text → Type 0) (context : Option (String Global)) (e : Failure) → ((path : Text) → asks path → more path ⊎ IsOfContext context path)
+      → IsUnread files asks None (Err e) → IsUnread files more context (Err e)
+  unread_more asks more context (failure.File path) among h = (h.0, ⊎_elim (λ asked. among (string_bytes path) asked) (λ none. absurd none) h.1)
+  unread_more asks more context failure.NoMemory among h = tt
+  unread_more asks more context (failure.Context e) among h = absurd h
+  unread_more asks more context e among h = absurd h
+
+  -- a file fails that is listed in a directory, or memory runs out
+  pub unread_listed : (dir : Text) (names : List Text) (name : Text) (e : Failure) → files.lists dir names → Contains names name
+      → IsUnread files (IsPath (path_in dir name)) None (Err e) → IsUnread files (IsOfDirectory files dir) None (Err e)
+  unread_listed dir names name e listed there h =
+      unread_more (IsPath (path_in dir name)) (IsOfDirectory files dir) None e (λ path asked. inl (inr (names, name, listed, there, asked))) h
+
+  -- there is no context, whatever else is asked for
+  pub unread_context : (asks : Text → Type 0) (context : Option (String Global)) (e : Failure) → IsUnread files (IsOfContext context) context (Err e)
+      → IsUnread files asks context (Err e)
+  unread_context asks context (failure.File path) h = (h.0, inr (⊎_elim (λ asked. asked) (λ asked. asked) h.1))
+  unread_context asks context failure.NoMemory h = tt
+  unread_context asks context (failure.Context e) h = h
+  unread_context asks context e h = absurd h
+
+  -- the file for an image fails, or memory runs out
+  pub unwritten : (after : Known) (dir name out : Text) (options : ScanOptions) (sources : Given) (e : Failure) → IsLibrary files dir sources
+      → IsUnread files (IsPath out) None (Err e) → IsUnread files (IsOfDirectory files dir) None (Err e) ⊎ Compiles files after dir name out options (Err e)
+  unwritten after dir name out options sources (failure.File path) library h =
+      let at : string_bytes path ≡ out = ⊎_elim (λ asked. asked) (λ none. absurd none) h.1 in
+      let compiles : Compiles files after dir name out options (Err (failure.File path)) = record {
+        sources = sources;
+        library = library;
+        written = (at, subst files.fails at h.0);
+      } in
+      inr compiles
+  unwritten after dir name out options sources failure.NoMemory library h = inl tt
+  unwritten after dir name out options sources (failure.Context e) library h = absurd h
+  unwritten after dir name out options sources e library h = absurd h
 
 module _ (files after : Known) (found : Option (Word × List Row)) where
   -- a job that ends is the end of its line

@@ -1,9 +1,10 @@
 -- One file more among the sources of a directory.
-use Rattle.std.proofs.Common.{◌≡◌, ◌≢◌, ◌≤◌, ◌<◌, ◌⊎◌, inl, inr, ⊎_elim, ℕ, List, [], ◌∷◌, ◌++◌, Bool, true, false, Option, Some, None, bytes_eq, ◌∙◌, length, refl, sym, subst, arith}
+use Rattle.std.proofs.Common.{◌≡◌, ◌≢◌, ◌≤◌, ◌<◌, ◌⊎◌, inl, inr, ⊎_elim, ℕ, List, [], ◌∷◌, ◌++◌, Bool, true, false, Option, Some, None, bytes_eq, ◌∙◌, length, refl, sym, subst, arith, map, String, Global, string_bytes}
 use Rattle.std.specs.Prelude.{Contains, IsPermutation}
 use Rattle.std.specs.Str.{IsUtf8}
-use Rattle.std.proofs.lemmas.List.Elements.{Contains-append_left, Contains-push, Contains-push_cases}
+use Rattle.std.proofs.lemmas.List.Elements.{Contains-append_left, Contains-append_right, Contains-push, Contains-push_cases}
 use Rattle.std.proofs.lemmas.List.Sorted.{Contains-permutation, IsPermutation-sym}
+use Rattle.std.proofs.lemmas.List.{map-append}
 use Rattle.std.proofs.lemmas.Bool.{false≢true}
 use Rattle.std.proofs.lemmas.Slice.Eq.{bytes_eq-Decides}
 use Rattle.jt_inherit.specs.Chains.{Given}
@@ -62,3 +63,13 @@ module _ (files : Known) (dir : Text) where
 pub nil_of : {X : Type 0} (xs : List X) (n : ℕ) → length xs ≡ n → n ≡ 0 → xs ≡ []
 nil_of [] n e z = refl
 nil_of (x ∷ xs) n e z = absurd (omega (arith, e, z))
+
+-- a name that stands between others is listed, in whatever order
+pub listed_between : (given : List Text) (before left : List (String Global)) (name : String Global) → IsPermutation given (map string_bytes (before ++ name ∷ left))
+    → Contains given (string_bytes name)
+listed_between given before left name p =
+    let names = map string_bytes (before ++ name ∷ left) in
+    let there : Contains (map string_bytes before ++ string_bytes name ∷ map string_bytes left) (string_bytes name) =
+    Contains-append_right (map string_bytes before) (string_bytes name ∷ map string_bytes left) (string_bytes name) (0, omega arith, refl) in
+    Contains-permutation names given (string_bytes name) (IsPermutation-sym given names p)
+    (subst (λ (ns : List Text). Contains ns (string_bytes name)) (sym (map-append string_bytes before (name ∷ left))) there)

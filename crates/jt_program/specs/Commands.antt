@@ -29,7 +29,7 @@ use Rattle.jt_program.specs.declared.messages.Failure.{Failure}
 use Rattle.jt_program.specs.declared.messages.Failure.TheVariants as failure
 use Rattle.jt_machine.specs.Sinks.{TookFront}
 use Rattle.jt_program.specs.Ending.{code_of, status_of}
-use Rattle.jt_program.specs.Files.{Known, IsLibrary}
+use Rattle.jt_program.specs.Files.{Known, IsLibrary, IsOfDirectory}
 use Rattle.jt_program.specs.Program.{ComesTo, IsCounted, IsImage, IsImageOf, IsNoContext, IsNoImage, RendersTo, scan_options}
 
 -- how a command ends: with the text that it prints, or with a failure
@@ -37,6 +37,15 @@ abbrev pub Ending : Type 0
 Ending = Result (String Global) Failure
 
 -- ---- what is read
+
+-- the path is this one
+abbrev pub IsPath : Text → Text → Type 0
+IsPath asked path = path ≡ asked
+
+-- the path is that of the context's file, where there is one
+abbrev pub IsOfContext : Option (String Global) → Text → Type 0
+IsOfContext None path = ⊥
+IsOfContext (Some asked) path = path ≡ string_bytes asked
 
 module _ (files : Known) where
   -- the context that a file spells, or the empty one where there is no file
@@ -49,13 +58,15 @@ module _ (files : Known) where
   HasNoContext None e = ⊥
   HasNoContext (Some path) e = (bytes : List ℕ) × files.holds (string_bytes path) bytes × IsNoContext bytes e
 
-  -- what a command needs isn't there: a file fails, the file of the context spells none, or memory ran out
-  abbrev pub IsUnread : Option (String Global) → Ending → Type 0
-  IsUnread context (Ok text) = ⊥
-  IsUnread context (Err (failure.File path)) = files.fails (string_bytes path)
-  IsUnread context (Err (failure.Context e)) = HasNoContext context (failure.Context e)
-  IsUnread context (Err failure.NoMemory) = Unit {0}
-  IsUnread context (Err e) = ⊥
+  -- What a command needs isn't there: a file fails that it asks for, or that of the context, the file of the context
+  -- spells none, or memory ran out.
+  abbrev pub IsUnread : (Text → Type 0) → Option (String Global) → Ending → Type 0
+  IsUnread asks context (Ok text) = ⊥
+  IsUnread asks context (Err (failure.File path)) =
+      files.fails (string_bytes path) × (asks (string_bytes path) ⊎ IsOfContext context (string_bytes path))
+  IsUnread asks context (Err (failure.Context e)) = HasNoContext context (failure.Context e)
+  IsUnread asks context (Err failure.NoMemory) = Unit {0}
+  IsUnread asks context (Err e) = ⊥
 
 -- ---- the commands
 
@@ -68,12 +79,13 @@ abbrev pub IsChecked : List ℕ → Ending → Type 0
 IsChecked bytes (Ok text) = (n : ℕ × ℕ) × IsCounted bytes n × (string_bytes text ≡ counts_line n)
 IsChecked bytes (Err e) = IsNoImage bytes e
 
--- the file at a path holds an image of the entry's template, and nothing is printed; or why there is none
-abbrev pub IsWritten : Known → Text → Given → Text → ScanOptions → Ending → Type 0
-IsWritten after out sources entry options (Ok text) =
+-- the file at a path holds an image of the entry's template, and nothing is printed; or why not: that file fails, or there is no image
+abbrev pub IsWritten : Known → Known → Text → Given → Text → ScanOptions → Ending → Type 0
+IsWritten files after out sources entry options (Ok text) =
     (string_bytes text ≡ []) × ((bytes : List ℕ) × after.holds out bytes × IsImage sources entry options bytes)
-IsWritten after out sources entry options (Err (failure.Template e)) = IsUncompiled sources entry options e
-IsWritten after out sources entry options (Err e) = ⊥
+IsWritten files after out sources entry options (Err (failure.File path)) = IsPath out (string_bytes path) × files.fails out
+IsWritten files after out sources entry options (Err (failure.Template e)) = IsUncompiled sources entry options e
+IsWritten files after out sources entry options (Err e) = ⊥
 
 module _ (files : Known) where
   -- the image at a path is verified
@@ -112,9 +124,10 @@ module _ (files : Known) where
   AreStarts (p ∷ ps) [] = ⊥
   AreStarts (p ∷ ps) (s ∷ ss) = IsStart p s × AreStarts ps ss
 
-  -- a pair gives no session: a file fails, that of the context spells none, or that of the image is none that is accepted
+  -- a pair gives no session: one of its files fails, that of the context spells none, or that of the image is none that is accepted
   abbrev pub IsNoStart : Pair → Failure → Type 0
-  IsNoStart p e = IsUnread files (Some p.context) (Err e) ⊎ ((bytes : List ℕ) × files.holds (string_bytes p.image) bytes × IsNoImage bytes e)
+  IsNoStart p e = IsUnread files (IsPath (string_bytes p.image)) (Some p.context) (Err e)
+      ⊎ ((bytes : List ℕ) × files.holds (string_bytes p.image) bytes × IsNoImage bytes e)
 
   -- The images of pairs run for their contexts in turns, each as if alone: the line of each, whatever the turns are; or why there is none.
   -- The host is full only where there are more than 64.
@@ -130,7 +143,7 @@ module _ (files after : Known) where
   pub record Compiles (dir name out : Text) (options : ScanOptions) (e : Ending) : Type 0 where
     pub sources : Given
     pub library : IsLibrary files dir sources
-    pub written : IsWritten after out sources name options e
+    pub written : IsWritten files after out sources name options e
 
   -- each file but the one at the path holds what it held
   abbrev pub ChangesOnly : Text → Type 0
@@ -139,11 +152,15 @@ module _ (files after : Known) where
   -- What a command comes to, by what is known of the files before it and after it.
   abbrev pub CommandEnds : Command → LineOptions → Budget → Ending → Type 0
   CommandEnds (command.Compile dir name out) o b e = ChangesOnly (string_bytes out)
-      × (IsUnread files None e ⊎ Compiles (string_bytes dir) (string_bytes name) (string_bytes out) (scan_options o) e)
-  CommandEnds (command.Check image) o b e = IsUnread files None e ⊎ Checks files (string_bytes image) e
-  CommandEnds (command.Run image context) o b e = IsUnread files context e ⊎ Runs files (string_bytes image) context b e
+      × (IsUnread files (IsOfDirectory files (string_bytes dir)) None e
+      ⊎ Compiles (string_bytes dir) (string_bytes name) (string_bytes out) (scan_options o) e)
+  CommandEnds (command.Check image) o b e =
+      IsUnread files (IsPath (string_bytes image)) None e ⊎ Checks files (string_bytes image) e
+  CommandEnds (command.Run image context) o b e =
+      IsUnread files (IsPath (string_bytes image)) context e ⊎ Runs files (string_bytes image) context b e
   CommandEnds (command.Render dir name context) o b e =
-      IsUnread files context e ⊎ Renders files (string_bytes dir) (string_bytes name) (scan_options o) context b e
+      IsUnread files (IsOfDirectory files (string_bytes dir)) context e
+      ⊎ Renders files (string_bytes dir) (string_bytes name) (scan_options o) context b e
   CommandEnds (command.Turns sessions) o b e = TakesTurns files sessions.items b e
 
   abbrev pub JobEnds : Job → Ending → Type 0

@@ -1,5 +1,5 @@
 -- What is known of files, by their paths.
-use Rattle.std.specs.Prelude.{ℕ, List, Option, Some, None, ◌++◌, codes, Contains}
+use Rattle.std.specs.Prelude.{◌≡◌, ◌⊎◌, ℕ, List, Option, Some, None, ◌++◌, codes, Contains}
 use Rattle.std.specs.Str.{IsUtf8}
 use Rattle.jt_inherit.specs.Chains.{Given}
 use Rattle.jt_parse.specs.Trees.{Text}
@@ -20,6 +20,11 @@ anything = record { holds = λ path bytes. Unit {0}; lists = λ dir names. Unit 
 -- the path of a file directly in a directory
 abbrev pub path_in : Text → Text → Text
 path_in dir name = dir ++ (codes "/" ++ name)
+
+-- the directory, or one of the files that are listed in it
+abbrev pub IsOfDirectory : Known → Text → Text → Type 0
+IsOfDirectory files dir path = (path ≡ dir)
+    ⊎ ((names : List Text) × (name : Text) × files.lists dir names × Contains names name × (path ≡ path_in dir name))
 
 -- what a directory of these names gives for a name: the bytes of its file where they are a text, and nothing otherwise
 abbrev pub IsSource : Known → Text → List Text → Text → Option Text → Type 0

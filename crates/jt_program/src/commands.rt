@@ -122,7 +122,8 @@ pub fn render_text(
     context: &Context,
     budget: Budget,
 ) -> Result<String, Failure>
-    ensures { RendersTo (source_of templates.now) name.now options (pairs_of context.now) budget result }
+    ensures { RendersTo (source_of templates.now) name.now options (pairs_of context.now) budget
+        result }
 {
     match render(alloc, name, templates, options, context, budget) {
         Ok(outcome) => text_of(outcome),

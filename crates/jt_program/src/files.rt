@@ -20,7 +20,8 @@ pub trait Files {
 
     /// The names of the regular files directly in `dir`, in no order.
     fn list(&self, dir: &str) -> Result<Vec<String>, FileError>
-        ensures names { IfOk result (λ names. (known self.now).lists dir.now (map string_bytes names.items)) }
+        ensures names { IfOk result
+            (λ names. (known self.now).lists dir.now (map string_bytes names.items)) }
         ensures failed { IsErrOf result FileError.Failed → (known self.now).fails dir.now };
 
     /// The bytes of the file at `path`.
@@ -31,6 +32,9 @@ pub trait Files {
     /// Makes `bytes` the contents of the file at `path`. Where that fails the file may hold anything.
     fn write(&mut self, path: &str, bytes: &[u8]) -> Result<(), FileError>
         ensures written { OnOk result ((known self.new).holds path.now bytes.now) }
-        ensures others { (other bytes : List ℕ) → other ≢ path.now → (known self.old).holds other bytes → (known self.new).holds other bytes }
+        ensures others { (other bytes : List ℕ)
+            → other ≢ path.now
+            → (known self.old).holds other bytes
+            → (known self.new).holds other bytes }
         ensures failed { IsErrOf result FileError.Failed → (known self.old).fails path.now };
 }

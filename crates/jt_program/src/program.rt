@@ -6,9 +6,9 @@ ghost use Rattle.clap.specs.Walk.{texts};
 ghost use Rattle.clap.specs.Words.{subcommand_of};
 ghost use Rattle.jt_value.specs.ContextView.{pairs_of};
 ghost use Rattle.jt_line.specs.Line.{Takes, Asks, program_app};
-ghost use Rattle.jt_program.specs.Commands.{Answers, ChangesOnly, Checks, Compiles, Ending, IsCompile, IsContextAt, IsUnread, JobEnds, LineEnds, Renders, Runs, Tells};
+ghost use Rattle.jt_program.specs.Commands.{Answers, ChangesOnly, Checks, Compiles, Ending, IsCompile, IsContextAt, IsOfContext, IsPath, IsUnread, JobEnds, LineEnds, Renders, Runs, Tells};
 ghost use Rattle.jt_program.specs.Ending.{IfUntaken, code_of, status_of};
-ghost use Rattle.jt_program.specs.Files.{AreSources, IsLibrary};
+ghost use Rattle.jt_program.specs.Files.{AreSources, IsLibrary, IsOfDirectory, path_in};
 ghost use Rattle.jt_program.specs.Templates.{source_of};
 
 use crate::commands::{context_of, counts_of, image_of, render_text, run_image, scan_options};
@@ -42,8 +42,11 @@ pub fn perform<F: Files, W: Sink, E: Write>(
     ensures usage { ¬ Takes (texts words.now) → (result ≡ 2) ⊎ (result ≡ 6) }
     ensures taken { Takes (texts words.now) → result ≢ 2 }
     // it tells how the command of the line ended, over the files as they were
-    ensures ends { result ≢ 2 → result ≢ 6 → (e : Ending)
-        × Answers (F.known files.old) (F.known files.new) (subcommand_of program_app (texts words.now)) e
+    ensures ends { result ≢ 2
+        → result ≢ 6
+        → (e : Ending)
+        × Answers (F.known files.old) (F.known files.new)
+        (subcommand_of program_app (texts words.now)) e
         × Tells (W.taken out.old) (W.taken out.new) (W.failed out.new) e result }
     // where it is 0 nothing was added to standard error
     ensures silent { result ≡ 0 → errors.new ≡ errors.old }
@@ -88,10 +91,13 @@ fn print<W: Sink, E: Write>(text: String, out: &mut W, errors: &mut E) -> u8
 /// Does what the line asks for, but for printing. The text is what it prints.
 fn done<F: Files>(alloc: Global, words: &[&str], files: &mut F) -> Result<String, Failure>
     ensures usage { ¬ Takes (texts words.now) → IfUntaken result }
-    ensures taken { Takes (texts words.now) → IfErr result (λ e. (status_of e ≢ Status.Usage) × (e ≢ Failure.Output)) }
+    ensures taken { Takes (texts words.now)
+        → IfErr result (λ e. (status_of e ≢ Status.Usage) × (e ≢ Failure.Output)) }
     ensures kept { ¬ Asks (codes "compile") (texts words.now) → files.new ≡ files.old }
-    ensures unwritten { IfErr result (λ e. status_of e ≢ Status.File → status_of e ≢ Status.Memory → files.new ≡ files.old) }
-    ensures ends { LineEnds (F.known files.old) (F.known files.new) (subcommand_of program_app (texts words.now)) result }
+    ensures unwritten { IfErr result
+        (λ e. status_of e ≢ Status.File → status_of e ≢ Status.Memory → files.new ≡ files.old) }
+    ensures ends { LineEnds (F.known files.old) (F.known files.new)
+        (subcommand_of program_app (texts words.now)) result }
 {
     let job = job(alloc, words)?;
     carried_out(alloc, job, files)
@@ -101,7 +107,8 @@ fn done<F: Files>(alloc: Global, words: &[&str], files: &mut F) -> Result<String
 fn carried_out<F: Files>(alloc: Global, job: Job, files: &mut F) -> Result<String, Failure>
     ensures ends { JobEnds (F.known files.old) (F.known files.new) job result }
     ensures kept { ¬ IsCompile job.command → files.new ≡ files.old }
-    ensures unwritten { IfErr result (λ e. status_of e ≢ Status.File → status_of e ≢ Status.Memory → files.new ≡ files.old) }
+    ensures unwritten { IfErr result
+        (λ e. status_of e ≢ Status.File → status_of e ≢ Status.Memory → files.new ≡ files.old) }
     ensures other { IfErr result (λ e. (status_of e ≢ Status.Usage) × (e ≢ Failure.Output)) }
 {
     let Job {
@@ -132,9 +139,12 @@ fn compile_to<F: Files>(
     out: String,
 ) -> Result<String, Failure>
     ensures only { ChangesOnly (F.known files.old) (F.known files.new) (string_bytes out) }
-    ensures ends { IsUnread (F.known files.old) None result
-        ⊎ Compiles (F.known files.old) (F.known files.new) (string_bytes dir) name.now (string_bytes out) options result }
-    ensures unwritten { IfErr result (λ e. status_of e ≢ Status.File → status_of e ≢ Status.Memory → files.new ≡ files.old) }
+    ensures ends { IsUnread (F.known files.old)
+        (IsOfDirectory (F.known files.old) (string_bytes dir)) None result
+        ⊎ Compiles (F.known files.old) (F.known files.new) (string_bytes dir) name.now
+        (string_bytes out) options result }
+    ensures unwritten { IfErr result
+        (λ e. status_of e ≢ Status.File → status_of e ≢ Status.Memory → files.new ≡ files.old) }
 {
     let templates = templates_in(alloc, files, dir)?;
     let bytes = image_of(alloc, name, &templates, options)?;
@@ -144,7 +154,8 @@ fn compile_to<F: Files>(
 
 /// The line that says how large the image at a path is.
 fn check_at<F: Files>(alloc: Global, files: &F, image: String) -> Result<String, Failure>
-    ensures { IsUnread (F.known files.now) None result ⊎ Checks (F.known files.now) (string_bytes image) result }
+    ensures { IsUnread (F.known files.now) (IsPath (string_bytes image)) None result
+        ⊎ Checks (F.known files.now) (string_bytes image) result }
 {
     let bytes = bytes_at(files, image)?;
     let (units, instructions) = counts_of(alloc, &bytes)?;
@@ -159,7 +170,8 @@ fn run_at<F: Files>(
     context: Option<String>,
     budget: Budget,
 ) -> Result<String, Failure>
-    ensures { IsUnread (F.known files.now) context result ⊎ Runs (F.known files.now) (string_bytes image) context budget result }
+    ensures { IsUnread (F.known files.now) (IsPath (string_bytes image)) context result
+        ⊎ Runs (F.known files.now) (string_bytes image) context budget result }
 {
     let bytes = bytes_at(files, image)?;
     let context = context_at(alloc, files, context)?;
@@ -176,7 +188,8 @@ fn render_in<F: Files>(
     context: Option<String>,
     budget: Budget,
 ) -> Result<String, Failure>
-    ensures { IsUnread (F.known files.now) context result
+    ensures { IsUnread (F.known files.now)
+        (IsOfDirectory (F.known files.now) (string_bytes dir)) context result
         ⊎ Renders (F.known files.now) (string_bytes dir) name.now options context budget result }
 {
     let templates = templates_in(alloc, files, dir)?;
@@ -190,8 +203,11 @@ pub fn context_at<F: Files>(
     files: &F,
     path: Option<String>,
 ) -> Result<Context, Failure>
-    ensures given { IfOk result (λ context. IsContextAt (F.known files.now) path (pairs_of context)) }
-    ensures err { IfErr result (λ e. IsUnread (F.known files.now) path (Err e)) }
+    ensures given { IfOk result
+        (λ context. IsContextAt (F.known files.now) path (pairs_of context)) }
+    // no file is asked for but that of the context
+    ensures err { IfErr result
+        (λ e. IsUnread (F.known files.now) (IsOfContext path) path (Err e)) }
 {
     match path {
         Some(path) => {
@@ -204,8 +220,10 @@ pub fn context_at<F: Files>(
 
 /// The bytes of the file at `path`.
 pub fn bytes_at<F: Files>(files: &F, path: String) -> Result<Vec<u8>, Failure>
-    ensures held { IfOk result (λ bytes. (F.known files.now).holds (string_bytes path) bytes.items) }
-    ensures err { IfErr result (λ e. IsUnread (F.known files.now) None (Err e)) }
+    ensures held { IfOk result
+        (λ bytes. (F.known files.now).holds (string_bytes path) bytes.items) }
+    ensures err { IfErr result
+        (λ e. IsUnread (F.known files.now) (IsPath (string_bytes path)) None (Err e)) }
 {
     match files.read(path.as_str()) {
         Ok(bytes) => Ok(bytes),
@@ -217,7 +235,8 @@ pub fn bytes_at<F: Files>(files: &F, path: String) -> Result<Vec<u8>, Failure>
 fn put_at<F: Files>(files: &mut F, path: String, bytes: &[u8]) -> Result<(), Failure>
     ensures written { OnOk result ((F.known files.new).holds (string_bytes path) bytes.now) }
     ensures only { ChangesOnly (F.known files.old) (F.known files.new) (string_bytes path) }
-    ensures err { IfErr result (λ e. IsUnread (F.known files.old) None (Err e)) }
+    ensures err { IfErr result
+        (λ e. IsUnread (F.known files.old) (IsPath (string_bytes path)) None (Err e)) }
 {
     match files.write(path.as_str(), bytes) {
         Ok(()) => Ok(()),
@@ -227,7 +246,8 @@ fn put_at<F: Files>(files: &mut F, path: String, bytes: &[u8]) -> Result<(), Fai
 
 /// The names of the files directly in `dir`, in the order of their bytes.
 fn names_in<F: Files>(files: &F, dir: &str) -> Result<Vec<String>, FileError>
-    ensures listed { IfOk result (λ names. (given : List (List ℕ)) × (F.known files.now).lists dir.now given
+    ensures listed { IfOk result (λ names. (given : List (List ℕ))
+        × (F.known files.now).lists dir.now given
         × IsPermutation given (map string_bytes names.items)) }
     ensures sorted { IfOk result (λ names. IsSorted string_cmp names.items) }
     ensures failed { IsErrOf result FileError.Failed → (F.known files.now).fails dir.now }
@@ -239,8 +259,10 @@ fn names_in<F: Files>(files: &F, dir: &str) -> Result<Vec<String>, FileError>
 
 /// The templates of the files directly in `dir`, by their names. A file that is no text is none.
 fn templates_in<F: Files>(alloc: Global, files: &F, dir: String) -> Result<Templates, Failure>
-    ensures library { IfOk result (λ templates. IsLibrary (F.known files.now) (string_bytes dir) (source_of templates)) }
-    ensures err { IfErr result (λ e. IsUnread (F.known files.now) None (Err e)) }
+    ensures library { IfOk result
+        (λ templates. IsLibrary (F.known files.now) (string_bytes dir) (source_of templates)) }
+    ensures err { IfErr result (λ e. IsUnread (F.known files.now)
+        (IsOfDirectory (F.known files.now) (string_bytes dir)) None (Err e)) }
 {
     let names = match names_in(files, dir.as_str()) {
         Ok(names) => names,
@@ -261,9 +283,12 @@ fn read_into<F: Files>(
     dir: &str,
     name: String,
 ) -> Result<(), Failure>
-    ensures read { OnOk result ((names : List (List ℕ)) → AreSources (F.known files.now) dir.now names (source_of templates.old)
-        → AreSources (F.known files.now) dir.now (names ++ string_bytes name ∷ []) (source_of templates.new)) }
-    ensures err { IfErr result (λ e. IsUnread (F.known files.now) None (Err e)) }
+    ensures read { OnOk result ((names : List (List ℕ))
+        → AreSources (F.known files.now) dir.now names (source_of templates.old)
+        → AreSources (F.known files.now) dir.now (names ++ string_bytes name ∷ [])
+        (source_of templates.new)) }
+    ensures err { IfErr result (λ e. IsUnread (F.known files.now)
+        (IsPath (path_in dir.now (string_bytes name))) None (Err e)) }
 {
     let path = format!(in alloc; "{dir}/{name}")?;
     let bytes = bytes_at(files, path)?;

@@ -25,8 +25,11 @@ impl Templates {
 
     /// Takes the source of the template of a name, in place of any that it has.
     pub fn insert(&mut self, name: String, source: String) -> Result<(), AllocError>
-        ensures taken { OnOk result (source_of self.new (string_bytes name) ≡ Some (string_bytes source)) }
-        ensures others { OnOk result ((other : List ℕ) → other ≢ string_bytes name → source_of self.new other ≡ source_of self.old other) }
+        ensures taken { OnOk result
+            (source_of self.new (string_bytes name) ≡ Some (string_bytes source)) }
+        ensures others { OnOk result ((other : List ℕ)
+            → other ≢ string_bytes name
+            → source_of self.new other ≡ source_of self.old other) }
     {
         self.sources.insert(name, source)?;
         Ok(())

@@ -31,8 +31,10 @@ pub fn run_turns<F: Files>(
 
 /// The images at paths with the contexts of files.
 fn starts_at<F: Files>(alloc: Global, files: &F, pairs: Vec<Pair>) -> Result<Vec<Start>, Failure>
-    ensures starts { IfOk result (λ starts. AreStarts (F.known files.now) pairs.items starts.items) }
-    ensures err { IfErr result (λ e. (e ≡ Failure.NoMemory) ⊎ ((p : LinePair) × Contains pairs.items p × IsNoStart (F.known files.now) p e)) }
+    ensures starts { IfOk result
+        (λ starts. AreStarts (F.known files.now) pairs.items starts.items) }
+    ensures err { IfErr result (λ e. (e ≡ Failure.NoMemory)
+        ⊎ ((p : LinePair) × Contains pairs.items p × IsNoStart (F.known files.now) p e)) }
 {
     let mut starts = Vec::with_capacity(alloc, pairs.len())?;
     for pair in pairs {

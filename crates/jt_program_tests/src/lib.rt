@@ -3,6 +3,8 @@
 #![tactic(auto)]
 
 #[cfg(test)]
+mod answers;
+#[cfg(test)]
 mod commands;
 #[cfg(test)]
 mod refusals;
@@ -10,3 +12,5 @@ mod refusals;
 mod rows;
 #[cfg(test)]
 mod sessions;
+#[cfg(test)]
+mod worked;

@@ -1,9 +1,9 @@
 //! What `turns` prints and answers.
 
-use jt_machine::IoSink;
-use jt_program::{FileError, Files, perform};
-use std::alloc::Global;
-use std::process::Abort;
+use crate::answers::answered;
+use crate::rows::rows_hold;
+use jt_program::{FileError, Files};
+use std::alloc::{AllocError, Global};
 use std::test::Fail;
 
 /// Files in memory, by their paths. `memory` gives none for want of memory.
@@ -15,7 +15,7 @@ struct Disk {
 
 impl Disk {
     /// One file more.
-    fn put(&mut self, path: &str, bytes: &[u8]) -> Result<(), FileError> {
+    fn put(&mut self, path: &str, bytes: &[u8]) -> Result<(), AllocError> {
         let path = String::from_str(self.alloc, path)?;
         self.files
             .push((path, Vec::from_slice(self.alloc, bytes)?))?;
@@ -47,199 +47,170 @@ impl Files for Disk {
     }
 
     fn write(&mut self, path: &str, bytes: &[u8]) -> Result<(), FileError> {
-        self.put(path, bytes)
+        Ok(self.put(path, bytes)?)
     }
 }
 
-/// A disk with these templates in `d`, their images by their names, and the contexts `none` (of no name), `x` (`x` is 5) and `bad`.
-fn made_disk(rt: &(impl Abort + AllocGlobal)) -> Result<Disk, Fail> {
-    let alloc = rt.alloc();
+/// Templates, one a line, each behind its name.
+const TEMPLATES: &str =
+    r"row: {% set x = 1 %}{% for i in [1, 2] %}{{ x }}{% set x = 9 %}{% endfor %}{{ x }}
+    nope: {{ nope.x }}
+    x: {{ x }}{{ x }}
+    accent: é";
+
+/// Puts a template into `d`, and its image under the name.
+fn put_template(disk: &mut Disk, row: &str) -> Result<(), Fail> {
+    let alloc = disk.alloc;
+    let (name, source) = row.trim().split_once(": ").ok_or("a template has no name")?;
+    disk.put(format!(in alloc; "d/{name}")?.as_str(), source.as_bytes())?;
+    let line = format!(in alloc; "compile d {name} {name}")?;
+    if answered(alloc, disk, line.as_str())?.as_str() != "0 [][]" {
+        return Err(Fail::from("a template does not compile"));
+    }
+    Ok(())
+}
+
+/// A disk with the templates in `d`, their images by their names, and the contexts `none` (of no
+/// name), `x` (`x` is 5) and `bad`.
+fn made_disk(alloc: Global) -> Result<Disk, Fail> {
     let mut disk = Disk {
         alloc,
         files: Vec::new(alloc),
     };
-    let templates = [
-        (
-            "row",
-            "{% set x = 1 %}{% for i in [1, 2] %}{{ x }}{% set x = 9 %}{% endfor %}{{ x }}",
-        ),
-        ("nope", "{{ nope.x }}"),
-        ("x", "{{ x }}{{ x }}"),
-        ("accent", "\u{e9}"),
-    ];
-    for (name, source) in templates {
-        let path = format!(in alloc; "d/{name}")?;
-        put(&mut disk, path.as_str(), source.as_bytes())?;
+    for row in TEMPLATES.lines() {
+        put_template(&mut disk, row)?;
     }
-    for (name, _) in templates {
-        let words = ["compile", "d", name, name];
-        shows(rt, &mut disk, words.as_slice(), 0, "", "");
-    }
-    put(&mut disk, "none.json", b"{}")?;
-    put(&mut disk, "x.json", b"{\"x\": 5}")?;
-    put(&mut disk, "bad.json", b"[1]")?;
+    disk.put("none.json", b"{}")?;
+    disk.put("x.json", b"{\"x\": 5}")?;
+    disk.put("bad.json", b"[1]")?;
     Ok(disk)
 }
 
-fn put(disk: &mut Disk, path: &str, bytes: &[u8]) -> Result<(), Fail> {
-    match disk.put(path, bytes) {
-        Ok(()) => Ok(()),
-        Err(_) => Err(Fail::from("no memory")),
+/// What a line comes to over the disk.
+fn answered_of_disk(alloc: Global, line: &str) -> Result<String, Fail> {
+    answered(alloc, &mut made_disk(alloc)?, line)
+}
+
+/// What some sessions come to in turns of a slice.
+fn in_turns(alloc: Global, words: &str, slice: &str) -> Result<String, Fail> {
+    answered_of_disk(
+        alloc,
+        format!(in alloc; "turns --slice={slice} {words}")?.as_str(),
+    )
+}
+
+/// What some sessions come to in turns of one instruction; they come to the same in longer ones.
+fn turned(alloc: Global, words: &str) -> Result<String, Fail> {
+    let first = in_turns(alloc, words, "1")?;
+    for slice in "3 100 1000000".split(' ') {
+        if in_turns(alloc, words, slice)?.as_str() != first.as_str() {
+            return Ok(format!(in alloc; "{first}, and not so in turns of {slice}")?);
+        }
     }
-}
-
-/// Checks the status of a run over the disk, what it prints, and the first line of what it says.
-fn shows(
-    rt: &(impl Abort + AllocGlobal),
-    disk: &mut Disk,
-    words: &[&str],
-    status: u8,
-    out: &str,
-    errors: &str,
-) {
-    let alloc = rt.alloc();
-    let mut printed = IoSink::new(Vec::new(alloc));
-    let mut said = Vec::new(alloc);
-    let got = perform(alloc, words, disk, &mut printed, &mut said);
-    let said = std::str::from_utf8(said.as_slice()).unwrap_or("");
-    assert_eq!(rt; got, status, "{words:?} {said}");
-    assert_eq!(rt;
-        std::str::from_utf8(printed.into_inner().as_slice()),
-        Ok(out),
-        "{words:?}"
-    );
-    assert_eq!(rt; said.lines().next().unwrap_or(""), errors, "{words:?}");
-}
-
-/// Checks the lines that the sessions of some words come to, in turns of a slice.
-fn gives_lines(
-    rt: &(impl Abort + AllocGlobal),
-    disk: &mut Disk,
-    slice: &str,
-    words: &[&str],
-    lines: &str,
-) -> Result<(), Fail> {
-    let mut line = Vec::from_slice(rt.alloc(), &["turns", slice])?;
-    line.extend_from_slice(words)?;
-    shows(rt, disk, line.as_slice(), 0, lines, "");
-    Ok(())
+    Ok(first)
 }
 
 #[test]
 fn each_session_has_its_line(rt: HostRuntime) -> Result<(), Fail> {
-    let mut disk = made_disk(&rt)?;
-    let rows: [(&[&str], &str); 5] = [
-        (
-            &["row", "none.json", "nope", "none.json"],
-            "1 text 3:111\n2 fault F2 Undefined\n",
-        ),
-        (&["x", "x.json"], "1 text 2:55\n"),
-        (
-            &["x", "none.json", "accent", "none.json", "x", "x.json"],
-            "1 text 0:\n2 text 2:\u{e9}\n3 text 2:55\n",
-        ),
-        (
-            &["--fuel", "1", "row", "none.json", "accent", "none.json"],
-            "1 spent Fuel\n2 spent Fuel\n",
-        ),
-        (
-            &["row", "none.json", "--output=2", "accent", "none.json"],
-            "1 spent Output\n2 text 2:\u{e9}\n",
-        ),
-    ];
-    for (words, lines) in rows {
-        for slice in ["--slice=1", "--slice=3", "--slice=100", "--slice=1000000"] {
-            gives_lines(&rt, &mut disk, slice, words, lines)?;
-        }
-    }
-    Ok(())
+    rows_hold(
+        &rt,
+        turned,
+        r"row none.json nope none.json => 0 [1 text 3:111␤2 fault F2 Undefined␤][]
+        x x.json => 0 [1 text 2:55␤][]
+        x none.json accent none.json x x.json => 0 [1 text 0:␤2 text 2:é␤3 text 2:55␤][]
+        --fuel 1 row none.json accent none.json => 0 [1 spent Fuel␤2 spent Fuel␤][]
+        row none.json --output=2 accent none.json => 0 [1 spent Output␤2 text 2:é␤][]",
+    )
 }
 
 #[test]
 fn words_come_in_pairs(rt: HostRuntime) -> Result<(), Fail> {
-    let mut disk = made_disk(&rt)?;
-    let rows: [&[&str]; 4] = [
-        &["turns"],
-        &["turns", "row"],
-        &["turns", "--slice", "5"],
-        &["turns", "row", "none.json", "nope"],
-    ];
-    for words in rows {
-        shows(&rt, &mut disk, words, 2, "", "jt: usage");
+    rows_hold(
+        &rt,
+        answered_of_disk,
+        r"turns => 2 [][jt: usage]
+        turns row => 2 [][jt: usage]
+        turns --slice 5 => 2 [][jt: usage]
+        turns row none.json nope => 2 [][jt: usage]",
+    )
+}
+
+/// What a slice comes to, without what is said of it.
+fn answered_of_slice(alloc: Global, slice: &str) -> Result<String, Fail> {
+    let answer = in_turns(alloc, "row none.json", slice)?;
+    match answer.split_once("][") {
+        Some((front, _)) => Ok(String::from_str(alloc, front)?),
+        None => Ok(answer),
     }
-    for slice in ["--slice=0", "--slice=1000001", "--slice=-1", "--slice=x"] {
-        let words = ["turns", slice, "row", "none.json"];
-        let mut said = Vec::new(rt.alloc());
-        let mut printed = IoSink::new(Vec::new(rt.alloc()));
-        let got = perform(
-            rt.alloc(),
-            words.as_slice(),
-            &mut disk,
-            &mut printed,
-            &mut said,
-        );
-        assert_eq!(rt; got, 2, "{slice}");
-        assert!(rt; printed.into_inner().is_empty(), "{slice}");
-    }
-    Ok(())
+}
+
+#[test]
+fn a_slice_is_in_its_range(rt: HostRuntime) -> Result<(), Fail> {
+    rows_hold(
+        &rt,
+        answered_of_slice,
+        r"0 => 2 [
+        1000001 => 2 [
+        -1 => 2 [
+        x => 2 [",
+    )
 }
 
 #[test]
 fn a_pair_that_gives_no_session_has_its_line(rt: HostRuntime) -> Result<(), Fail> {
-    let mut disk = made_disk(&rt)?;
-    let rows: [(&[&str], u8, &str); 7] = [
-        (&["turns", "no", "none.json"], 5, "jt: file no"),
-        (&["turns", "row", "no"], 5, "jt: file no"),
-        (&["turns", "row", "bad.json"], 3, "jt: refused X2 NotObject"),
-        (
-            &["turns", "x.json", "bad.json"],
-            3,
-            "jt: refused X2 NotObject",
-        ),
-        (
-            &["turns", "x.json", "none.json"],
-            3,
-            "jt: refused I1 BadMagic",
-        ),
-        (
-            &["turns", "row", "bad.json", "no", "none.json"],
-            3,
-            "jt: refused X2 NotObject",
-        ),
-        (
-            &["turns", "row", "none.json", "memory", "none.json"],
-            6,
-            "jt: no memory",
-        ),
-    ];
-    for (words, status, line) in rows {
-        shows(&rt, &mut disk, words, status, "", line);
+    rows_hold(
+        &rt,
+        answered_of_disk,
+        r"turns no none.json => 5 [][jt: file no␤]
+        turns row no => 5 [][jt: file no␤]
+        turns row bad.json => 3 [][jt: refused X2 NotObject␤]
+        turns x.json bad.json => 3 [][jt: refused X2 NotObject␤]
+        turns x.json none.json => 3 [][jt: refused I1 BadMagic␤]
+        turns row bad.json no none.json => 3 [][jt: refused X2 NotObject␤]
+        turns row none.json memory none.json => 6 [][jt: no memory␤]",
+    )
+}
+
+/// The words of a line with so many sessions of `row`.
+fn line_of_many(alloc: Global, count: u32) -> Result<String, Fail> {
+    let mut line = String::from_str(alloc, "turns")?;
+    for _ in 0..count {
+        line.push_str(" row none.json")?;
     }
-    Ok(())
+    Ok(line)
+}
+
+/// What so many sessions of `row` come to.
+fn lines_of_many(alloc: Global, count: u32) -> Result<String, Fail> {
+    let mut lines = String::from_str(alloc, "0 [")?;
+    for id in 1..=count {
+        lines.push_str(format!(in alloc; "{id} text 3:111\n")?.as_str())?;
+    }
+    lines.push_str("][]")?;
+    Ok(lines)
+}
+
+/// What so many sessions come to, and those of the words behind the number: `a line of each`, or
+/// the answer.
+fn answered_of_many(alloc: Global, asked: &str) -> Result<String, Fail> {
+    let (count, words) = asked.split_once(" ").unwrap_or((asked, ""));
+    let count = count.parse::<u32>()?;
+    let mut line = line_of_many(alloc, count)?;
+    line.push(' ')?;
+    line.push_str(words)?;
+    let answer = answered_of_disk(alloc, line.as_str())?;
+    if answer.as_str() == lines_of_many(alloc, count)?.as_str() {
+        return Ok(String::from_str(alloc, "a line of each")?);
+    }
+    Ok(answer)
 }
 
 #[test]
 fn no_more_than_64_sessions_are_opened(rt: HostRuntime) -> Result<(), Fail> {
-    let alloc = rt.alloc();
-    let mut disk = made_disk(&rt)?;
-    let mut words = Vec::new(alloc);
-    let mut lines = String::new(alloc);
-    words.push("turns")?;
-    for id in 1..=64u32 {
-        words.push("row")?;
-        words.push("none.json")?;
-        lines.push_str(format!(in alloc; "{id} text 3:111\n")?.as_str())?;
-    }
-    shows(&rt, &mut disk, words.as_slice(), 0, lines.as_str(), "");
-    words.push("nope")?;
-    words.push("none.json")?;
-    shows(
+    rows_hold(
         &rt,
-        &mut disk,
-        words.as_slice(),
-        3,
-        "",
-        "jt: refused H2 Full",
-    );
-    Ok(())
+        answered_of_many,
+        r"64 => a line of each
+        64 nope none.json => 3 [][jt: refused H2 Full␤]",
+    )
 }

@@ -22,7 +22,8 @@ use std::alloc::Global;
 
 /// The default of a parameter; undefined where it has none.
 fn default_of(alloc: Global, parameter: &Parameter) -> Result<Value, ScopeError>
-    ensures valued { IfOk result (λ v. view v ≡ default_value (parameter_view parameter.now).default) }
+    ensures valued { IfOk result
+        (λ v. view v ≡ default_value (parameter_view parameter.now).default) }
     ensures refused { IfErr result (λ e. e ≡ error.NoMemory) }
 {
     match &parameter.default {
@@ -40,7 +41,8 @@ fn add_defaults(
     parameters: &[Parameter],
     pool: &mut Vec<Value>,
 ) -> Result<(), ScopeError>
-    ensures added { IfOk result (λ _. values pool.new ≡ values pool.old ++ map (λ p. default_value (parameter_view p).default) parameters.now) }
+    ensures added { IfOk result (λ _. values pool.new
+        ≡ values pool.old ++ map (λ p. default_value (parameter_view p).default) parameters.now) }
     ensures refused { IfErr result (λ e. e ≡ error.NoMemory) }
 {
     for parameter in parameters {
@@ -51,7 +53,8 @@ fn add_defaults(
 
 /// Adds the defaults of macros.
 fn add_macros(alloc: Global, macros: &[Macro<'_>], pool: &mut Vec<Value>) -> Result<(), ScopeError>
-    ensures added { IfOk result (λ _. (ts : List Template) → values pool.new ≡ values pool.old ++ defaults_of (map (macro_view ts) macros.now)) }
+    ensures added { IfOk result (λ _. (ts : List Template)
+        → values pool.new ≡ values pool.old ++ defaults_of (map (macro_view ts) macros.now)) }
     ensures refused { IfErr result (λ e. e ≡ error.NoMemory) }
 {
     for entry in macros {
@@ -63,7 +66,8 @@ fn add_macros(alloc: Global, macros: &[Macro<'_>], pool: &mut Vec<Value>) -> Res
 /// A pool with undefined and the defaults of all macros.
 pub(crate) fn shared_values(alloc: Global, scope: &Scope<'_>) -> Result<Vec<Value>, ScopeError>
     requires { IsLaidOut scope.now }
-    ensures shared { IfOk result (λ vs. values vs ≡ layout.shared (world_in scope.now) (order_in scope.now)) }
+    ensures shared { IfOk result
+        (λ vs. values vs ≡ layout.shared (world_in scope.now) (order_in scope.now)) }
     ensures refused { IfErr result (λ e. e ≡ error.NoMemory) }
 {
     let mut pool = Vec::new(alloc);

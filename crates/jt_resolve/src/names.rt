@@ -30,7 +30,8 @@ fn strings_of(alloc: Global, names: &[&str]) -> Result<Vec<String>, ScopeError>
 
 /// The names of templates.
 pub(crate) fn template_names(alloc: Global, pages: &[Page]) -> Result<Vec<String>, ScopeError>
-    ensures same { IfOk result (λ ss. map string_bytes ss.items ≡ map (λ t. t.name) (pages_view pages.now)) }
+    ensures same { IfOk result
+        (λ ss. map string_bytes ss.items ≡ map (λ t. t.name) (pages_view pages.now)) }
     ensures refused { IfErr result (λ e. e ≡ error.NoMemory) }
 {
     let mut strings = Vec::with_capacity(alloc, pages.len())?;
@@ -43,7 +44,8 @@ pub(crate) fn template_names(alloc: Global, pages: &[Page]) -> Result<Vec<String
 /// The names of the entry's chain, by their slots.
 pub(crate) fn entry_names(alloc: Global, scope: &Scope<'_>) -> Result<Vec<String>, ScopeError>
     requires { IsLaidOut scope.now }
-    ensures named { IfOk result (λ ss. map string_bytes ss.items ≡ layout.names (world_in scope.now) (order_in scope.now) (home_at (order_in scope.now) 0)) }
+    ensures named { IfOk result (λ ss. map string_bytes ss.items
+        ≡ layout.names (world_in scope.now) (order_in scope.now) (home_at (order_in scope.now) 0)) }
     ensures refused { IfErr result (λ e. e ≡ error.NoMemory) }
 {
     strings_of(alloc, &scope.homes[0].names)
@@ -52,7 +54,8 @@ pub(crate) fn entry_names(alloc: Global, scope: &Scope<'_>) -> Result<Vec<String
 /// How many globals the chains have.
 pub(crate) fn count_globals(scope: &Scope<'_>) -> Result<usize, ScopeError>
     requires { IsLaidOut scope.now }
-    ensures counted { IfOk result (λ n. n ≡ programs.count_globals (world_in scope.now) (order_in scope.now) (order_in scope.now)) }
+    ensures counted { IfOk result (λ n.
+        n ≡ programs.count_globals (world_in scope.now) (order_in scope.now) (order_in scope.now)) }
     ensures refused { IfErr result (λ e. e ≡ error.NoMemory) }
 {
     let mut globals = 0;

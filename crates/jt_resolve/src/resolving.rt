@@ -23,10 +23,13 @@ use std::alloc::Global;
 ///
 /// The rule that the chains break; `NoMemory` where a growth was refused.
 pub fn resolve(alloc: Global, chain: &Chain) -> Result<Program, ScopeError>
-    ensures resolved { IfOk result (λ p. program_of p ≡
-        program (world_of (chain_view chain.now)) (chain_view chain.now).order (home_at (chain_view chain.now).order 0)) }
-    ensures kept { OnOk result (KeepsRules (world_of (chain_view chain.now)) (chain_view chain.now).order) }
-    ensures refused { IfErr result (λ e. Breaks e (world_of (chain_view chain.now)) (chain_view chain.now).order) }
+    ensures resolved { IfOk result (λ p. program_of p
+        ≡ program (world_of (chain_view chain.now)) (chain_view chain.now).order
+        (home_at (chain_view chain.now).order 0)) }
+    ensures kept { OnOk result
+        (KeepsRules (world_of (chain_view chain.now)) (chain_view chain.now).order) }
+    ensures refused { IfErr result
+        (λ e. Breaks e (world_of (chain_view chain.now)) (chain_view chain.now).order) }
 {
     check_rules(alloc, chain)?;
     let scope = lay_out(alloc, chain)?;

@@ -21,7 +21,9 @@ pub(crate) fn resolve_homes(
     pool: &mut Vec<Value>,
 ) -> Result<Vec<Routine>, ScopeError>
     requires { IsLaidOut scope }
-    ensures put { IfOk result (λ rs. AreRoutines (templates_in scope.entry) (programs.routines (world_in scope.entry) (order_in scope.entry)) [] rs.items (values pool.old) (values pool.new)) }
+    ensures put { IfOk result (λ rs. AreRoutines (templates_in scope.entry)
+        (programs.routines (world_in scope.entry) (order_in scope.entry)) [] rs.items
+        (values pool.old) (values pool.new)) }
     ensures refused { IfErr result (λ e. e ≡ error.NoMemory) }
 {
     let mut routines = Vec::new(alloc);

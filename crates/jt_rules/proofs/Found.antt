@@ -1,20 +1,19 @@
 -- The first rule that calls, filters and tests break.
-use Rattle.std.proofs.Common.{◌≡◌, ℕ, ◌+◌, ◌<◌, ◌≤◌, refl, sym, ap, ◌∙◌, List, [], ◌∷◌, length, drop, get_or, Bool, true, Option, Some, None, Vec, Box, String, Global, string_bytes}
+use Rattle.std.proofs.Common.{◌≡◌, ℕ, ◌+◌, ◌<◌, refl, sym, ap, ◌∙◌, List, [], ◌∷◌, length, drop, get_or, Bool, true, Option, Some, None, Vec, Box, String, Global, string_bytes}
 use Rattle.std.specs.Prelude.{option_map}
-use Rattle.std.proofs.lemmas.List.{drop_more, at_drop_all}
+use Rattle.std.proofs.lemmas.List.{drop_more}
 use Rattle.std.specs.Option.{option_or}
 use Rattle.jt_expr.specs.View.{expr_view, exprs_view, pairs_view}
 use Rattle.jt_expr.specs.declared.tree.Expr.{Expr}
 use Rattle.jt_expr.specs.declared.tree.Expr.TheVariants as e
-use Rattle.jt_rules.proofs.Shown.{shown_Call, shown_Filter, shown_Test, shown_If, shown_For, shown_With}
-use Rattle.jt_rules.proofs.Turns.{or_grouped, or_three, or_none, some_first, none_first, filterings_turn}
+use Rattle.jt_rules.proofs.Shown.{shown_Call, shown_Filter, shown_Test, shown_If, shown_For}
+use Rattle.jt_rules.proofs.Turns.{or_three, or_none, some_first, none_first, filterings_turn}
 use Rattle.jt_parse.specs.Trees.{Text}
 use Rattle.jt_parse.specs.View.{stmt_view, body_view, branches_view, names_view, filtering_view, filterings_view}
 use Rattle.jt_parse.specs.declared.tree.Filtering.{Filtering}
 use Rattle.jt_parse.specs.declared.tree.Stmt.{Stmt}
 use Rattle.jt_parse.specs.declared.tree.Stmt.TheVariants as statement
 use Rattle.jt_inherit.specs.Chain.{Home, callee, macros}
-use Rattle.jt_inherit.specs.Uses.{count, keywords}
 use Rattle.jt_inherit.specs.declared.linked.Chain.{Chain}
 use Rattle.jt_slots.specs.Filters.{Filters}
 use Rattle.jt_slots.specs.Tests.{test_named}
@@ -152,11 +151,6 @@ module _ (world : World) (home : Home) (w : rules.Within) where
   abbrev in_body : List Stmt → Found
   in_body ss = rules.body_broken world home (body_view ss) w
 
-  choice_is : (s : Stmt) (bs : Vec Branch Global) (other : Vec Stmt Global) (ls : List Branch) → s ≡ statement.If bs other → ls ≡ bs.items
-      → rules.stmt_broken world home (stmt_view s) w ≡ option_or (in_branches ls) (in_body other.items)
-  choice_is s bs other ls is el =
-      ap (λ z. rules.stmt_broken world home z w) (ap stmt_view is ∙ shown_If bs other) ∙ ap (λ (z : List Branch). option_or (in_branches z) (in_body other.items)) (sym el)
-
   -- a branch breaks a rule
   pub branch_found : (ls : List Branch) (i : ℕ) (b : Branch) (e : ScopeError) → i < length ls → b ≡ get_or ls i b
       → in_branches (drop i ls) ≡ in_branches ls → option_or (rules.broken world home (expr_view b.1) w) (in_body b.2.items) ≡ Some e → Some e ≡ in_branches ls
@@ -165,32 +159,25 @@ module _ (world : World) (home : Home) (w : rules.Within) where
       ap (λ z. rules.branches_broken world home z w) (branches_left ls i b lt at) ∙ ap (λ z. option_or z (in_branches (drop (i + 1) ls))) h in
       sym here ∙ before
 
-  pub choice_found : (s : Stmt) (bs : Vec Branch Global) (other : Vec Stmt Global) (ls : List Branch) (o : List Stmt) (r1 r2 o1 : Found) → s ≡ statement.If bs other → ls ≡ bs.items → o ≡ other.items
-      → r1 ≡ in_branches ls → r2 ≡ in_body o → o1 ≡ option_or r1 r2 → o1 ≡ rules.stmt_broken world home (stmt_view s) w
-  choice_found s bs other ls o r1 r2 o1 is el eo h1 h2 k1 =
-      k1 ∙ ap (λ z. option_or z r2) h1 ∙ ap (option_or (in_branches ls)) (h2 ∙ ap (λ (z : List Stmt). in_body z) eo) ∙ sym (choice_is s bs other ls is el)
+  -- a choice and a loop, by what their parts break
+  pub choice_is : (s : Stmt) (bs : Vec Branch Global) (other : Vec Stmt Global) (ls : List Branch) (o : List Stmt) → s ≡ statement.If bs other → ls ≡ bs.items → o ≡ other.items
+      → option_or (in_branches ls) (in_body o) ≡ rules.stmt_broken world home (stmt_view s) w
+  choice_is s bs other ls o is el eo =
+      ap (λ (z : List Branch). option_or (in_branches z) (in_body o)) el ∙ ap (λ (z : List Stmt). option_or (in_branches bs.items) (in_body z)) eo
+      ∙ sym (ap (λ z. rules.stmt_broken world home z w) (ap stmt_view is ∙ shown_If bs other))
 
-  pub loop_found : (s : Stmt) (line : ℕ) (xs : Vec (String Global) Global) (e : Expr) (c : Option Expr) (body other : Vec Stmt Global) (ys : List (String Global)) (b o : List Stmt) (r1 r2 r3 o1 o2 : Found)
-      → s ≡ statement.For line xs e c body other → ys ≡ xs.items → b ≡ body.items → o ≡ other.items
-      → r1 ≡ option_or (rules.broken world home (expr_view e) w) (option_or (rules.all_used world home (names_view ys)) (rules.condition_broken world home (option_map expr_view c) w))
-      → r2 ≡ rules.body_broken world home (body_view b) (record w { in_loop = true }) → r3 ≡ in_body o → o1 ≡ option_or r2 r3 → o2 ≡ option_or r1 o1 → o2 ≡ rules.stmt_broken world home (stmt_view s) w
-  loop_found s line xs e c body other ys b o r1 r2 r3 o1 o2 is ex eb eo h1 h2 h3 k1 k2 =
-      let first = rules.broken world home (expr_view e) w in
-      let names = λ (z : List (String Global)). rules.all_used world home (names_view z) in
+  abbrev pub head_part : Expr → List (String Global) → Option Expr → Found
+  head_part e ys c = option_or (rules.broken world home (expr_view e) w) (option_or (rules.all_used world home (names_view ys)) (rules.condition_broken world home (option_map expr_view c) w))
+
+  abbrev pub turns_part : List Stmt → List Stmt → Found
+  turns_part b o = option_or (rules.body_broken world home (body_view b) (record w { in_loop = true })) (in_body o)
+
+  pub loop_is : (s : Stmt) (line : ℕ) (xs : Vec (String Global) Global) (e : Expr) (c : Option Expr) (body other : Vec Stmt Global) (ys : List (String Global)) (b o : List Stmt)
+      → s ≡ statement.For line xs e c body other → ys ≡ xs.items → b ≡ body.items → o ≡ other.items → option_or (head_part e ys c) (turns_part b o) ≡ rules.stmt_broken world home (stmt_view s) w
+  loop_is s line xs e c body other ys b o is ex eb eo =
+      let names = rules.all_used world home (names_view xs.items) in
       let when = rules.condition_broken world home (option_map expr_view c) w in
-      let turns = λ (z : List Stmt). rules.body_broken world home (body_view z) (record w { in_loop = true }) in
-      k2 ∙ ap (λ z. option_or z o1) (h1 ∙ ap (λ (z : List (String Global)). option_or first (option_or (names z) when)) ex)
-      ∙ ap (option_or (option_or first (option_or (names xs.items) when)))
-      (k1 ∙ ap (λ z. option_or z r3) (h2 ∙ ap turns eb) ∙ ap (option_or (turns body.items)) (h3 ∙ ap (λ (z : List Stmt). in_body z) eo))
-      ∙ or_three first (names xs.items) when (option_or (turns body.items) (in_body other.items))
+      ap (λ (z : List (String Global)). option_or (head_part e z c) (turns_part b o)) ex
+      ∙ ap (λ (z : List Stmt). option_or (head_part e xs.items c) (turns_part z o)) eb ∙ ap (λ (z : List Stmt). option_or (head_part e xs.items c) (turns_part body.items z)) eo
+      ∙ or_three (rules.broken world home (expr_view e) w) names when (turns_part body.items other.items)
       ∙ sym (ap (λ z. rules.stmt_broken world home z w) (ap stmt_view is ∙ shown_For line xs e c body other))
-
-  pub with_found : (s : Stmt) (line : ℕ) (ps : Vec Entry Global) (body : Vec Stmt Global) (qs : List Entry) (b : List Stmt) (r1 r2 o1 : Found) → s ≡ statement.With line ps body → qs ≡ ps.items → b ≡ body.items
-      → r1 ≡ option_or (rules.pairs_broken world home (pairs_view qs) w) (rules.all_used world home (keywords (pairs_view qs))) → r2 ≡ in_body b → o1 ≡ option_or r1 r2 → o1 ≡ rules.stmt_broken world home (stmt_view s) w
-  with_found s line ps body qs b r1 r2 o1 is eq eb h1 h2 k1 =
-      let values = λ (z : List Entry). rules.pairs_broken world home (pairs_view z) w in
-      let names = λ (z : List Entry). rules.all_used world home (keywords (pairs_view z)) in
-      k1 ∙ ap (λ z. option_or z r2) (h1 ∙ ap (λ (z : List Entry). option_or (values z) (names z)) eq)
-      ∙ ap (option_or (option_or (values ps.items) (names ps.items))) (h2 ∙ ap (λ (z : List Stmt). in_body z) eb)
-      ∙ or_grouped (values ps.items) (names ps.items) (in_body body.items)
-      ∙ sym (ap (λ z. rules.stmt_broken world home z w) (ap stmt_view is ∙ shown_With line ps body))

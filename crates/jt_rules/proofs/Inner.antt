@@ -1,5 +1,5 @@
 -- Names inside the arguments of a filter, one argument after the other.
-use Rattle.std.proofs.Common.{◌≡◌, ℕ, suc, ◌+◌, ◌<◌, ◌-◌, ◌==◌, Bool, true, false, ◌&&◌, List, [], ◌∷◌, drop, length, length-drop, get_or, refl, sym, ap, ◌∙◌, arith, Option, Some, None, String, Global, string_bytes}
+use Rattle.std.proofs.Common.{◌≡◌, ℕ, suc, ◌+◌, ◌<◌, ◌-◌, ◌==◌, Bool, true, false, ◌&&◌, List, ◌∷◌, drop, length, length-drop, get_or, refl, sym, ap, ◌∙◌, arith, Option, Some, None, string_bytes}
 use Rattle.std.specs.Prelude.{option_and_then}
 use Rattle.std.proofs.lemmas.Bool.Decides.{nat_tests}
 use Rattle.std.proofs.lemmas.List.{drop_more}

@@ -12,7 +12,7 @@ use Rattle.jt_inherit.specs.Chain.{Home, Template, templates}
 use Rattle.jt_inherit.specs.Layers.{layer_view}
 use Rattle.jt_inherit.specs.declared.layers.Layer.{Layer}
 use Rattle.jt_inherit.specs.Places.{home_at}
-use Rattle.jt_inherit.specs.Uses.{count, keywords, own_names}
+use Rattle.jt_inherit.specs.Uses.{count, own_names}
 use Rattle.jt_inherit.specs.Pages.{home_name}
 use Rattle.jt_inherit.specs.declared.linked.Home as written
 use Rattle.std.proofs.lemmas.Bool.Decides.{nat_tests}
@@ -23,7 +23,6 @@ use Rattle.jt_rules.specs.Standing.{world_in, home_in}
 use Rattle.jt_rules.specs.World.{World}
 use Rattle.jt_rules.specs.declared.error.ScopeError.{ScopeError}
 use Rattle.jt_rules.specs.declared.error.ScopeError.TheVariants as error
-use mathlib.Core.Logic.{inl}
 
 abbrev Found : Type 0
 Found = Option ScopeError

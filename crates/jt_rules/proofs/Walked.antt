@@ -1,6 +1,6 @@
 -- The walk finds a broken rule where there is one: what it answers is broken, and where it answers none no rule is.
-use Rattle.std.proofs.Common.{◌≡◌, refl, sym, ap, ◌∙◌, subst, arith, ℕ, ◌<◌, ◌≤◌, Bool, true, false, not, ◌&&◌, ◌||◌, if◌then◌else◌, List, [], ◌∷◌, ◌++◌, map, length, nat_lt, Option, Some, None, append_assoc}
-use Rattle.std.specs.Prelude.{◌⊎◌, IsTrue, codes, flat_map}
+use Rattle.std.proofs.Common.{◌≡◌, refl, sym, ap, ◌∙◌, subst, arith, ℕ, ◌<◌, ◌≤◌, Bool, true, false, not, ◌&&◌, ◌||◌, if◌then◌else◌, List, [], ◌∷◌, ◌++◌, length, nat_lt, Option, Some, None}
+use Rattle.std.specs.Prelude.{◌⊎◌, codes, flat_map}
 use Rattle.std.specs.Option.{option_or, is_some}
 use Rattle.std.specs.Str.{bytes_eq}
 use Rattle.std.proofs.lemmas.Bool.Decides.{nat_tests}
@@ -12,11 +12,11 @@ use Rattle.jt_parse.specs.Trees.{Text, Parameter, Filtering, Stmt, data_of, prin
 use Rattle.jt_parse.specs.Texts.{repeated}
 use Rattle.jt_ops.specs.declared.test_id.TestId.{TestId}
 use Rattle.jt_inherit.specs.Uses.{count, keywords}
-use Rattle.jt_inherit.specs.Chain.{Home, Template, MacroBody, BlockBody, templates, bodies, macros, macro_of, Callee, a_macro, a_range, a_super, a_block, a_cycle, no_callee, named_alone, named_in, callee, is_loop}
+use Rattle.jt_inherit.specs.Chain.{Home, Template, MacroBody, templates, bodies, macros, macro_of, Callee, a_macro, a_range, a_super, a_block, a_cycle, no_callee, named_alone, callee, is_loop}
 use Rattle.jt_slots.specs.Loops.{Field, field_named}
 use Rattle.jt_slots.specs.Tests.{test_named}
-use Rattle.jt_rules.specs.Arguments.{callee_takes, test_takes, filter_fits, filter_takes, names_rightly}
-use Rattle.jt_rules.specs.Rules.{ForSome, IsOnlyCalled, MisusesLoop, LoopOutside, MacroAsValue, CannotBeCalled, NotCallable, BadArguments, TooManyParameters, BindsTooMany, BrokenIn, Broken, KeepsRules, Breaks, names_counted}
+use Rattle.jt_rules.specs.Arguments.{callee_takes, test_takes, filter_takes, names_rightly}
+use Rattle.jt_rules.specs.Rules.{ForSome, IsOnlyCalled, MisusesLoop, LoopOutside, MacroAsValue, CannotBeCalled, NotCallable, BadArguments, TooManyParameters, BrokenIn, Broken, KeepsRules, Breaks, names_counted}
 use Rattle.jt_rules.specs.Spots.{Within, Use, reads, binds, asks_loop, calls, filters, tests, declares, Spot, at, bound, parameter_names, is_called_by_name, expr_spots, row_spots, pair_spots, condition_spots, filtering_spots, outside, stmt_spots, body_spots, branch_spots, chain_spots}
 use Rattle.jt_rules.specs.Walk.{read_alone, unless, test_broken, filter_broken, refused, is_macro, used, all_used, call_broken, broken, called_broken, row_broken, pairs_broken, condition_broken, filtering_broken, macro_broken, stmt_broken, body_broken, branches_broken, templates_broken, chains_broken}
 use Rattle.jt_rules.specs.World.{World}

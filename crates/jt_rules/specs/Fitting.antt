@@ -1,4 +1,4 @@
--- Whether arguments fit the parameters of a filter.
+-- What only private clauses cite: whether arguments fit the parameters of a filter.
 use Rattle.std.specs.Prelude.{ℕ, suc, max, Bool, not, ◌&&◌, List, map, drop, Some}
 use Rattle.std.specs.List.{list_any}
 use Rattle.jt_filters.specs.FilterIds.{accepts}

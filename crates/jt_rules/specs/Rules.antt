@@ -1,5 +1,5 @@
 -- The static rules of names and calls, one predicate each, of one place of a chain. They are lexical, so a tag that never runs counts.
-use Rattle.std.specs.Prelude.{◌≡◌, ◌≢◌, ℕ, ◌+◌, ◌<◌, Bool, true, false, IsTrue, ◌⊎◌, List, [], ◌∷◌, length, codes, Option, None}
+use Rattle.std.specs.Prelude.{◌≡◌, ◌≢◌, ℕ, ◌+◌, ◌<◌, false, IsTrue, ◌⊎◌, List, [], ◌∷◌, length, codes, None}
 use Rattle.std.specs.Option.{is_some}
 use Rattle.jt_expr.specs.Trees.{Expr, name, attribute}
 use Rattle.jt_inherit.specs.Uses.{count, keywords, own_names}

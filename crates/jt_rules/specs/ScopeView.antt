@@ -1,4 +1,4 @@
--- What contracts see of a scope: its chain.
+-- What only private clauses cite: what contracts see of a scope: its chain.
 use Rattle.std.specs.Prelude.{Option, Some, None}
 use Rattle.jt_expr.specs.Trees.{Expr, name}
 use Rattle.jt_parse.specs.Trees.{Text}

@@ -1,4 +1,4 @@
--- What is known of a chain by name: the parameters of its macros, and the names of its blocks.
+-- What only private clauses cite: what is known of a chain by name: the parameters of its macros, and the names of its blocks.
 use Rattle.std.specs.Prelude.{◌≡◌, ◌⊎◌, ℕ, ℤ, Bool, not, nat_lt, List, length, Option, Some, None, option_map}
 use mathlib.Core.Path.{refl}
 use mathlib.Core.Logic.{inl, inr}

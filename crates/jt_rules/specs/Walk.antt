@@ -1,5 +1,5 @@
--- The walk that finds the first broken rule, from left to right, as the code takes it. What the rules are stands in specs/Rules: only private clauses
--- and lemmas cite this.
+-- The walk that finds the first broken rule, from left to right, as the code takes it. What the rules are stands in specs/Rules. One law, that of
+-- specs/Laws, ties the walk to those predicates, for the proofs above; no public clause of what does something speaks of it.
 use Rattle.std.specs.Prelude.{ℕ, nat_lt, Bool, true, false, not, ◌&&◌, ◌||◌, List, [], ◌∷◌, length, codes, Option, Some, None, if◌then◌else◌}
 use Rattle.std.specs.Option.{option_or, is_some}
 use Rattle.std.specs.Str.{bytes_eq}

@@ -60,7 +60,8 @@ pub(crate) fn parameter_names<'a>(
     alloc: Global,
     parameters: &'a [Parameter],
 ) -> Result<Vec<&'a str>, AllocError>
-    ensures { IfOk result (λ names. texts names.items ≡ rules.parameter_names (parameters_view parameters.now)) }
+    ensures { IfOk result
+        (λ names. texts names.items ≡ rules.parameter_names (parameters_view parameters.now)) }
 {
     let mut names = Vec::with_capacity(alloc, parameters.len())?;
     for parameter in parameters {
@@ -109,7 +110,8 @@ fn set_of<'a>(alloc: Global, names: &[&'a str]) -> Result<BTreeSet<&'a str>, All
 
 /// Whether each name is among those that are known.
 fn all_known(alloc: Global, names: &[&str], known: &[&str]) -> Result<bool, AllocError>
-    ensures { IfOk result (λ b. b ≡ not (list_any (λ k. not (among k (texts known.now))) (texts names.now))) }
+    ensures { IfOk result
+        (λ b. b ≡ not (list_any (λ k. not (among k (texts known.now))) (texts names.now))) }
 {
     let set = set_of(alloc, known)?;
     for name in names {
@@ -128,8 +130,11 @@ fn names_fit(
     filled: usize,
     names: &[&str],
 ) -> Result<bool, AllocError>
-    ensures { IfOk result (λ b. b ≡ (not (repeated (texts names.now))
-        && not (list_any (λ k. not (among k (rules.parameter_names (drop filled (parameters_view parameters.now))))) (texts names.now)))) }
+    ensures { IfOk result (λ b. b
+        ≡ (not (repeated (texts names.now))
+        && not (list_any
+        (λ k. not (among k (rules.parameter_names (drop filled (parameters_view parameters.now)))))
+        (texts names.now)))) }
 {
     if any_repeated(alloc, names)? {
         return Ok(false);
@@ -146,7 +151,9 @@ pub(crate) fn fits(
     row: &[Expr],
     pairs: &[(String, Expr)],
 ) -> Result<bool, AllocError>
-    ensures { IfOk result (λ b. b ≡ rules.fits (parameters_view parameters.now) (count (exprs_view row.now)) (keywords (pairs_view pairs.now))) }
+    ensures { IfOk result (λ b. b
+        ≡ rules.fits (parameters_view parameters.now) (count (exprs_view row.now))
+        (keywords (pairs_view pairs.now))) }
 {
     if parameters.len() < row.len() {
         return Ok(false);
@@ -167,7 +174,8 @@ pub(crate) fn range_broken(row: &[Expr], pairs: &[(String, Expr)]) -> Option<Sco
 /// What the arguments of a test break.
 #[tactic(auto, using(crate::proofs::Shown::counted, crate::proofs::Shown::keyless))]
 pub(crate) fn test_broken(name: &str, row: &[Expr], pairs: &[(String, Expr)]) -> Option<ScopeError>
-    ensures { result ≡ rules.test_broken (test_named name.now) (exprs_view row.now) (pairs_view pairs.now) }
+    ensures { result
+        ≡ rules.test_broken (test_named name.now) (exprs_view row.now) (pairs_view pairs.now) }
 {
     let test = test_of(name)?;
     unless(test.takes(row.len() + 1) && pairs.is_empty())
@@ -220,7 +228,10 @@ pub(crate) fn filter_broken(
     row: &[Expr],
     pairs: &[(String, Expr)],
 ) -> Result<Option<ScopeError>, AllocError>
-    ensures { IfOk result (λ o. o ≡ rules.filter_broken the_filters (the_filters.named name.now (exprs_view row.now) (pairs_view pairs.now)) (exprs_view row.now) (pairs_view pairs.now)) }
+    ensures { IfOk result (λ o. o
+        ≡ rules.filter_broken the_filters
+        (the_filters.named name.now (exprs_view row.now) (pairs_view pairs.now))
+        (exprs_view row.now) (pairs_view pairs.now)) }
 {
     match filter_of(name, row, pairs) {
         Some(filter) => Ok(unless(filter_accepts(alloc, filter, row, pairs)?)),
@@ -235,7 +246,10 @@ fn filter_accepts(
     row: &[Expr],
     pairs: &[(String, Expr)],
 ) -> Result<bool, AllocError>
-    ensures { IfOk result (λ b. b ≡ (filter_takes filter (filter_parameters filter) (length row.now) (keywords (pairs_view pairs.now)) && names_well filter (exprs_view row.now) (pairs_view pairs.now))) }
+    ensures { IfOk result (λ b. b
+        ≡ (filter_takes filter (filter_parameters filter) (length row.now)
+        (keywords (pairs_view pairs.now))
+        && names_well filter (exprs_view row.now) (pairs_view pairs.now))) }
 {
     if !filter_fits(alloc, filter, row.len(), pairs)? {
         return Ok(false);
@@ -251,7 +265,8 @@ fn filter_fits(
     pairs: &[(String, Expr)],
 ) -> Result<bool, AllocError>
     requires { filled < 2 ^ 63 }
-    ensures { IfOk result (λ b. b ≡ filter_takes filter (filter_parameters filter) filled (keywords (pairs_view pairs.now))) }
+    ensures { IfOk result (λ b. b
+        ≡ filter_takes filter (filter_parameters filter) filled (keywords (pairs_view pairs.now))) }
 {
     if pairs.is_empty() {
         return Ok(filter.takes(filled + 1));
@@ -270,7 +285,8 @@ fn filter_takes(
     names: &[&str],
 ) -> Result<bool, AllocError>
     requires { filled < 2 ^ 63 }
-    ensures { IfOk result (λ b. b ≡ filter_takes filter (parameters_view parameters.now) filled (texts names.now)) }
+    ensures { IfOk result
+        (λ b. b ≡ filter_takes filter (parameters_view parameters.now) filled (texts names.now)) }
 {
     let from = filled.min(parameters.len());
     let values = filled.max(reached(parameters, names)) + 1;

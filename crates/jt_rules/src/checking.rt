@@ -37,8 +37,10 @@ const MAX_NAMES: usize = 65_535;
 ///
 /// A rule that the chains break; `NoMemory` where a growth was refused.
 pub fn check_rules(alloc: Global, chain: &Chain) -> Result<(), ScopeError>
-    ensures kept { OnOk result (KeepsRules (world_of (chain_view chain.now)) (chain_view chain.now).order) }
-    ensures refused { IfErr result (λ e. Breaks e (world_of (chain_view chain.now)) (chain_view chain.now).order) }
+    ensures kept { OnOk result
+        (KeepsRules (world_of (chain_view chain.now)) (chain_view chain.now).order) }
+    ensures refused { IfErr result
+        (λ e. Breaks e (world_of (chain_view chain.now)) (chain_view chain.now).order) }
 {
     if let Some(rule) = chains_broken(alloc, chain)? {
         return Err(rule);
@@ -52,7 +54,8 @@ pub fn check_rules(alloc: Global, chain: &Chain) -> Result<(), ScopeError>
 
 /// The first rule that the chains break by their forms.
 fn chains_broken(alloc: Global, chain: &Chain) -> Result<Option<ScopeError>, AllocError>
-    ensures { IfOk result (λ o. o ≡ rules.chains_broken (world_in chain.now) (chain_view chain.now).order) }
+    ensures { IfOk result
+        (λ o. o ≡ rules.chains_broken (world_in chain.now) (chain_view chain.now).order) }
 {
     for home in 0..chain.homes.len() {
         let scope = Scope::new(alloc, chain, home)?;
@@ -65,7 +68,9 @@ fn chains_broken(alloc: Global, chain: &Chain) -> Result<Option<ScopeError>, All
 
 /// The first rule that the templates of a chain break.
 fn templates_broken(scope: &Scope<'_>) -> Result<Option<ScopeError>, AllocError>
-    ensures { IfOk result (λ o. o ≡ rules.templates_broken (its_world scope.now) (its_home scope.now) (templates (its_world scope.now).sources (its_home scope.now))) }
+    ensures { IfOk result (λ o. o
+        ≡ rules.templates_broken (its_world scope.now) (its_home scope.now)
+        (templates (its_world scope.now).sources (its_home scope.now))) }
 {
     let layers = scope.chain.layers(scope.alloc, scope.home)?;
     for layer in layers.iter() {
@@ -78,7 +83,9 @@ fn templates_broken(scope: &Scope<'_>) -> Result<Option<ScopeError>, AllocError>
 
 /// The first rule that the statements of a template break.
 fn template_broken(scope: &Scope<'_>, body: &[Stmt]) -> Result<Option<ScopeError>, AllocError>
-    ensures { IfOk result (λ o. o ≡ option_or (rules.body_broken (its_world scope.now) (its_home scope.now) (body_view body.now) (record { in_loop = false; in_block = false }))
+    ensures { IfOk result (λ o. o
+        ≡ option_or (rules.body_broken (its_world scope.now) (its_home scope.now)
+        (body_view body.now) (record { in_loop = false; in_block = false }))
         (rules.refused (nat_lt 4096 (body_bound (body_view body.now))) error.TooManySlots)) }
 {
     let around = Within {
@@ -94,7 +101,8 @@ fn template_broken(scope: &Scope<'_>, body: &[Stmt]) -> Result<Option<ScopeError
 
 /// Whether the chains read or bind few enough names, once a chain.
 fn has_few_names(alloc: Global, chain: &Chain) -> Result<bool, AllocError>
-    ensures { IfOk result (λ b. b ≡ nat_le (rules.names_counted (world_in chain.now) (chain_view chain.now).order) 65535) }
+    ensures { IfOk result (λ b.
+        b ≡ nat_le (rules.names_counted (world_in chain.now) (chain_view chain.now).order) 65535) }
 {
     let mut left = MAX_NAMES;
     for home in 0..chain.homes.len() {
@@ -109,7 +117,8 @@ fn has_few_names(alloc: Global, chain: &Chain) -> Result<bool, AllocError>
 /// How many different names a chain reads or binds.
 fn count_names(alloc: Global, chain: &Chain, home: usize) -> Result<usize, AllocError>
     requires { home < length chain.now.homes.items }
-    ensures { IfOk result (λ n. n ≡ length (ascending (own_names (world_in chain.now).sources (home_in chain.now home)))) }
+    ensures { IfOk result (λ n.
+        n ≡ length (ascending (own_names (world_in chain.now).sources (home_in chain.now home)))) }
 {
     Ok(own_names(alloc, chain, home)?.len())
 }

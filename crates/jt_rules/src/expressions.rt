@@ -85,7 +85,9 @@ fn name_call_broken(
     row: &[Expr],
     pairs: &[(String, Expr)],
 ) -> Result<Option<ScopeError>, AllocError>
-    ensures { IfOk result (λ o. o ≡ rules.call_broken (its_world scope.now) (its_home scope.now) (named_alone (macro_of name.now (macros (its_world scope.now).sources (its_home scope.now))) name.now)
+    ensures { IfOk result (λ o. o
+        ≡ rules.call_broken (its_world scope.now) (its_home scope.now) (named_alone
+        (macro_of name.now (macros (its_world scope.now).sources (its_home scope.now))) name.now)
         (within_view within) (trees.name name.now) (exprs_view row.now) (pairs_view pairs.now)) }
 {
     if let Some(parameters) = scope.parameters_of(name) {
@@ -101,7 +103,10 @@ fn name_call_broken(
 /// What a call of `super` breaks.
 #[tactic(auto, using(crate::proofs::Shown::counted, crate::proofs::Shown::keyless))]
 fn super_broken(within: Within, row: &[Expr], pairs: &[(String, Expr)]) -> Option<ScopeError>
-    ensures { result ≡ option_or (rules.refused (not within.in_block) error.NotCallable) (rules.unless ((count (exprs_view row.now) == 0) && rules.no_keywords (pairs_view pairs.now))) }
+    ensures { result
+        ≡ option_or (rules.refused (not within.in_block) error.NotCallable)
+        (rules.unless
+        ((count (exprs_view row.now) == 0) && rules.no_keywords (pairs_view pairs.now))) }
 {
     let outside = refused(!within.in_block, ScopeError::NotCallable);
     outside.or(unless(row.is_empty() && pairs.is_empty()))
@@ -115,8 +120,11 @@ fn self_broken(
     row: &[Expr],
     pairs: &[(String, Expr)],
 ) -> Option<ScopeError>
-    ensures { result ≡ option_or (rules.refused (not (is_block (its_world scope.now) (its_home scope.now) block.now)) error.NotCallable)
-        (rules.unless ((count (exprs_view row.now) == 0) && rules.no_keywords (pairs_view pairs.now))) }
+    ensures { result
+        ≡ option_or (rules.refused
+        (not (is_block (its_world scope.now) (its_home scope.now) block.now)) error.NotCallable)
+        (rules.unless
+        ((count (exprs_view row.now) == 0) && rules.no_keywords (pairs_view pairs.now))) }
 {
     let unknown = refused(!scope.is_block(block), ScopeError::NotCallable);
     unknown.or(unless(row.is_empty() && pairs.is_empty()))
@@ -125,7 +133,10 @@ fn self_broken(
 /// What a call of `loop.cycle` breaks.
 #[tactic(auto, using(crate::proofs::Shown::counted, crate::proofs::Shown::keyless))]
 fn cycle_broken(within: Within, row: &[Expr], pairs: &[(String, Expr)]) -> Option<ScopeError>
-    ensures { result ≡ option_or (rules.refused (not within.in_loop) error.LoopOutside) (rules.unless (nat_lt 0 (count (exprs_view row.now)) && rules.no_keywords (pairs_view pairs.now))) }
+    ensures { result
+        ≡ option_or (rules.refused (not within.in_loop) error.LoopOutside)
+        (rules.unless
+        (nat_lt 0 (count (exprs_view row.now)) && rules.no_keywords (pairs_view pairs.now))) }
 {
     let given = row.len();
     let outside = refused(!within.in_loop, ScopeError::LoopOutside);
@@ -142,7 +153,9 @@ fn field_call_broken(
     row: &[Expr],
     pairs: &[(String, Expr)],
 ) -> Option<ScopeError>
-    ensures { result ≡ rules.call_broken (its_world scope.now) (its_home scope.now) (named_in of.now field.now) (within_view within) (trees.name of.now) (exprs_view row.now) (pairs_view pairs.now) }
+    ensures { result
+        ≡ rules.call_broken (its_world scope.now) (its_home scope.now) (named_in of.now field.now)
+        (within_view within) (trees.name of.now) (exprs_view row.now) (pairs_view pairs.now) }
 {
     match (of, field) {
         ("self", _) => self_broken(scope, field, row, pairs),
@@ -160,7 +173,9 @@ fn call_broken(
     row: &[Expr],
     pairs: &[(String, Expr)],
 ) -> Result<Option<ScopeError>, AllocError>
-    ensures { IfOk result (λ o. o ≡ rules.call_broken (its_world scope.now) (its_home scope.now) (callee (macros (its_world scope.now).sources (its_home scope.now)) (expr_view called.now))
+    ensures { IfOk result (λ o. o
+        ≡ rules.call_broken (its_world scope.now) (its_home scope.now)
+        (callee (macros (its_world scope.now).sources (its_home scope.now)) (expr_view called.now))
         (within_view within) (expr_view called.now) (exprs_view row.now) (pairs_view pairs.now)) }
 {
     match called {
@@ -191,7 +206,9 @@ pub(crate) fn broken(
     within: Within,
     expr: &Expr,
 ) -> Result<Option<ScopeError>, AllocError>
-    ensures { IfOk result (λ o. o ≡ rules.broken (its_world scope.now) (its_home scope.now) (expr_view expr.now) (within_view within)) }
+    ensures { IfOk result (λ o. o
+        ≡ rules.broken (its_world scope.now) (its_home scope.now) (expr_view expr.now)
+        (within_view within)) }
 {
     match expr {
         Expr::Constant(_) => Ok(None),
@@ -242,7 +259,9 @@ fn called_broken(
     within: Within,
     called: &Expr,
 ) -> Result<Option<ScopeError>, AllocError>
-    ensures { IfOk result (λ o. o ≡ rules.called_broken (its_world scope.now) (its_home scope.now) (expr_view called.now) (within_view within)) }
+    ensures { IfOk result (λ o. o
+        ≡ rules.called_broken (its_world scope.now) (its_home scope.now) (expr_view called.now)
+        (within_view within)) }
 {
     match called {
         Expr::Constant(_) => Ok(None),
@@ -290,8 +309,10 @@ fn both_broken(
     first: &Expr,
     second: &Expr,
 ) -> Result<Option<ScopeError>, AllocError>
-    ensures { IfOk result (λ o. o ≡ option_or (rules.broken (its_world scope.now) (its_home scope.now) (expr_view first.now) (within_view within))
-        (rules.broken (its_world scope.now) (its_home scope.now) (expr_view second.now) (within_view within))) }
+    ensures { IfOk result (λ o. o
+        ≡ option_or (rules.broken (its_world scope.now) (its_home scope.now) (expr_view first.now)
+        (within_view within)) (rules.broken (its_world scope.now) (its_home scope.now)
+        (expr_view second.now) (within_view within))) }
 {
     let first = broken(scope, within, first)?;
     let second = broken(scope, within, second)?;
@@ -306,7 +327,9 @@ fn attribute_broken(
     value: &Expr,
     field: &str,
 ) -> Result<Option<ScopeError>, AllocError>
-    ensures { IfOk result (λ o. o ≡ rules.broken (its_world scope.now) (its_home scope.now) (trees.attribute (expr_view value.now) field.now) (within_view within)) }
+    ensures { IfOk result (λ o. o
+        ≡ rules.broken (its_world scope.now) (its_home scope.now)
+        (trees.attribute (expr_view value.now) field.now) (within_view within)) }
 {
     if names_loop(value) {
         let right = within.in_loop && is_field(field);
@@ -324,7 +347,9 @@ fn field_read_broken(
     value: &Expr,
     field: &str,
 ) -> Result<Option<ScopeError>, AllocError>
-    ensures { IfOk result (λ o. o ≡ rules.called_broken (its_world scope.now) (its_home scope.now) (trees.attribute (expr_view value.now) field.now) (within_view within)) }
+    ensures { IfOk result (λ o. o
+        ≡ rules.called_broken (its_world scope.now) (its_home scope.now)
+        (trees.attribute (expr_view value.now) field.now) (within_view within)) }
 {
     match name_of(value) {
         Some(of) => Ok(refused(of == "loop" && field != "cycle", ScopeError::LoopOutside)),
@@ -339,7 +364,9 @@ pub(crate) fn row_broken(
     within: Within,
     row: &[Expr],
 ) -> Result<Option<ScopeError>, AllocError>
-    ensures { IfOk result (λ o. o ≡ rules.row_broken (its_world scope.now) (its_home scope.now) (exprs_view row.now) (within_view within)) }
+    ensures { IfOk result (λ o. o
+        ≡ rules.row_broken (its_world scope.now) (its_home scope.now) (exprs_view row.now)
+        (within_view within)) }
 {
     for expr in row {
         if let Some(rule) = broken(scope, within, expr)? {
@@ -356,7 +383,9 @@ pub(crate) fn pairs_broken(
     within: Within,
     pairs: &[(String, Expr)],
 ) -> Result<Option<ScopeError>, AllocError>
-    ensures { IfOk result (λ o. o ≡ rules.pairs_broken (its_world scope.now) (its_home scope.now) (pairs_view pairs.now) (within_view within)) }
+    ensures { IfOk result (λ o. o
+        ≡ rules.pairs_broken (its_world scope.now) (its_home scope.now) (pairs_view pairs.now)
+        (within_view within)) }
 {
     for (_, value) in pairs {
         if let Some(rule) = broken(scope, within, value)? {

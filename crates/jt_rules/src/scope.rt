@@ -33,8 +33,10 @@ pub(crate) struct Scope<'a> {
     /// The names of blocks.
     blocks: BTreeSet<&'a str>,
     ghost stands: { home < length chain.now.homes.items },
-    ghost knows_macros: { KnowsMacros chain.now home macros } by { KnowsMacros-prop chain.now home macros },
-    ghost knows_blocks: { KnowsBlocks chain.now home blocks } by { KnowsBlocks-prop chain.now home blocks },
+    ghost knows_macros: { KnowsMacros chain.now home
+        macros } by { KnowsMacros-prop chain.now home macros },
+    ghost knows_blocks: { KnowsBlocks chain.now home
+        blocks } by { KnowsBlocks-prop chain.now home blocks },
 }
 
 impl<'a> Scope<'a> {
@@ -69,7 +71,9 @@ impl<'a> Scope<'a> {
 
     /// The parameters of the macro of a name.
     pub(crate) fn parameters_of(&self, name: &str) -> Option<&'a [Parameter]>
-        ensures { option_map (λ ps. parameters_view ps.now) result ≡ parameters_of (macro_of name.now (macros (its_world self.now).sources (its_home self.now))) }
+        ensures { option_map (λ ps. parameters_view ps.now) result
+            ≡ parameters_of
+            (macro_of name.now (macros (its_world self.now).sources (its_home self.now))) }
     {
         match self.macros.get(name) {
             Some(parameters) => Some(*parameters),
@@ -90,7 +94,8 @@ fn macros_by_name<'a>(
     alloc: Global,
     macros: &[Macro<'a>],
 ) -> Result<BTreeMap<&'a str, &'a [Parameter]>, AllocError>
-    ensures { IfOk result (λ m. (ts : List Template) (x : Text) → parameters_at m x ≡ parameters_of (macro_of x (map (macro_view ts) macros.now))) }
+    ensures { IfOk result (λ m. (ts : List Template) (x : Text)
+        → parameters_at m x ≡ parameters_of (macro_of x (map (macro_view ts) macros.now))) }
 {
     let mut by_name = BTreeMap::new(alloc);
     for entry in macros {
@@ -103,7 +108,8 @@ fn macros_by_name<'a>(
 
 /// The names of blocks.
 fn block_names<'a>(alloc: Global, blocks: &[Block<'a>]) -> Result<BTreeSet<&'a str>, AllocError>
-    ensures { IfOk result (λ s. (ts : List Template) (x : Text) → is_among s x ≡ list_any (λ b. bytes_eq b.name x) (map (block_view ts) blocks.now)) }
+    ensures { IfOk result (λ s. (ts : List Template) (x : Text)
+        → is_among s x ≡ list_any (λ b. bytes_eq b.name x) (map (block_view ts) blocks.now)) }
 {
     let mut names = BTreeSet::new(alloc);
     for block in blocks {

@@ -49,7 +49,9 @@ fn condition_broken(
     within: Within,
     condition: &Option<Expr>,
 ) -> Result<Option<ScopeError>, AllocError>
-    ensures { IfOk result (λ o. o ≡ rules.condition_broken (its_world scope.now) (its_home scope.now) (option_map expr_view condition.now) (within_view within)) }
+    ensures { IfOk result (λ o. o
+        ≡ rules.condition_broken (its_world scope.now) (its_home scope.now)
+        (option_map expr_view condition.now) (within_view within)) }
 {
     let around = Within {
         in_loop: false,
@@ -63,7 +65,8 @@ fn condition_broken(
 
 /// The first rule that targets break.
 fn targets_broken(scope: &Scope<'_>, targets: &[String]) -> Result<Option<ScopeError>, AllocError>
-    ensures { IfOk result (λ o. o ≡ rules.all_used (its_world scope.now) (its_home scope.now) (names_view targets.now)) }
+    ensures { IfOk result (λ o.
+        o ≡ rules.all_used (its_world scope.now) (its_home scope.now) (names_view targets.now)) }
 {
     Ok(all_used(scope, &target_names(scope.alloc, targets)?))
 }
@@ -74,8 +77,10 @@ fn bindings_broken(
     within: Within,
     pairs: &[(String, Expr)],
 ) -> Result<Option<ScopeError>, AllocError>
-    ensures { IfOk result (λ o. o ≡ option_or (rules.pairs_broken (its_world scope.now) (its_home scope.now) (pairs_view pairs.now) (within_view within))
-        (rules.all_used (its_world scope.now) (its_home scope.now) (keywords (pairs_view pairs.now)))) }
+    ensures { IfOk result (λ o. o
+        ≡ option_or (rules.pairs_broken (its_world scope.now) (its_home scope.now)
+        (pairs_view pairs.now) (within_view within)) (rules.all_used (its_world scope.now)
+        (its_home scope.now) (keywords (pairs_view pairs.now)))) }
 {
     if let Some(rule) = pairs_broken(scope, within, pairs)? {
         return Ok(Some(rule));
@@ -91,9 +96,12 @@ fn head_broken(
     items: &Expr,
     condition: &Option<Expr>,
 ) -> Result<Option<ScopeError>, AllocError>
-    ensures { IfOk result (λ o. o ≡ option_or (rules.broken (its_world scope.now) (its_home scope.now) (expr_view items.now) (within_view within))
-        (option_or (rules.all_used (its_world scope.now) (its_home scope.now) (names_view targets.now))
-        (rules.condition_broken (its_world scope.now) (its_home scope.now) (option_map expr_view condition.now) (within_view within)))) }
+    ensures { IfOk result (λ o. o
+        ≡ option_or (rules.broken (its_world scope.now) (its_home scope.now) (expr_view items.now)
+        (within_view within)) (option_or
+        (rules.all_used (its_world scope.now) (its_home scope.now) (names_view targets.now))
+        (rules.condition_broken (its_world scope.now) (its_home scope.now)
+        (option_map expr_view condition.now) (within_view within)))) }
 {
     if let Some(rule) = broken(scope, within, items)? {
         return Ok(Some(rule));
@@ -111,7 +119,9 @@ fn set_broken(
     targets: &[String],
     value: &Expr,
 ) -> Result<Option<ScopeError>, AllocError>
-    ensures { IfOk result (λ o. o ≡ option_or (rules.broken (its_world scope.now) (its_home scope.now) (expr_view value.now) (within_view within))
+    ensures { IfOk result (λ o. o
+        ≡ option_or (rules.broken (its_world scope.now) (its_home scope.now) (expr_view value.now)
+        (within_view within))
         (rules.all_used (its_world scope.now) (its_home scope.now) (names_view targets.now))) }
 {
     if let Some(rule) = broken(scope, within, value)? {
@@ -126,7 +136,9 @@ fn filtering_broken(
     within: Within,
     filtering: &Filtering,
 ) -> Result<Option<ScopeError>, AllocError>
-    ensures { IfOk result (λ o. o ≡ rules.filtering_broken (its_world scope.now) (its_home scope.now) (filtering_view filtering.now ∷ []) (within_view within)) }
+    ensures { IfOk result (λ o. o
+        ≡ rules.filtering_broken (its_world scope.now) (its_home scope.now)
+        (filtering_view filtering.now ∷ []) (within_view within)) }
 {
     let arguments = &filtering.arguments;
     let keywords = &filtering.keywords;
@@ -145,7 +157,9 @@ fn filterings_broken(
     within: Within,
     filterings: &[Filtering],
 ) -> Result<Option<ScopeError>, AllocError>
-    ensures { IfOk result (λ o. o ≡ rules.filtering_broken (its_world scope.now) (its_home scope.now) (filterings_view filterings.now) (within_view within)) }
+    ensures { IfOk result (λ o. o
+        ≡ rules.filtering_broken (its_world scope.now) (its_home scope.now)
+        (filterings_view filterings.now) (within_view within)) }
 {
     for filtering in filterings {
         if let Some(rule) = filtering_broken(scope, within, filtering)? {
@@ -161,13 +175,73 @@ fn macro_broken(
     name: &str,
     parameters: &[Parameter],
 ) -> Result<Option<ScopeError>, AllocError>
-    ensures { IfOk result (λ o. o ≡ rules.macro_broken (its_world scope.now) (its_home scope.now) name.now (parameters_view parameters.now)) }
+    ensures { IfOk result (λ o. o
+        ≡ rules.macro_broken (its_world scope.now) (its_home scope.now) name.now
+        (parameters_view parameters.now)) }
 {
     let names = parameter_names(scope.alloc, parameters)?;
     let own = read_alone(name).or(all_used(scope, &names));
     let again = unless(!any_repeated(scope.alloc, &names)?);
     let many = refused(MAX_PARAMETERS < parameters.len(), ScopeError::TooManySlots);
     Ok(own.or(again.or(many)))
+}
+
+/// The first rule that a choice breaks.
+#[cycle(body)]
+fn choice_broken(
+    scope: &Scope<'_>,
+    within: Within,
+    branches: &[(u32, Expr, Vec<Stmt>)],
+    other: &[Stmt],
+) -> Result<Option<ScopeError>, AllocError>
+    ensures { IfOk result (λ o. o
+        ≡ option_or (rules.branches_broken (its_world scope.now) (its_home scope.now)
+        (branches_view branches.now) (within_view within))
+        (rules.body_broken (its_world scope.now) (its_home scope.now) (body_view other.now)
+        (within_view within))) }
+{
+    if let Some(rule) = branches_broken(scope, within, branches)? {
+        return Ok(Some(rule));
+    }
+    body_broken(scope, within, other)
+}
+
+/// The first rule that the two bodies of a loop break.
+#[cycle(body)]
+fn turns_broken(
+    scope: &Scope<'_>,
+    within: Within,
+    inside: &[Stmt],
+    otherwise: &[Stmt],
+) -> Result<Option<ScopeError>, AllocError>
+    ensures { IfOk result (λ o. o
+        ≡ option_or (rules.body_broken (its_world scope.now) (its_home scope.now)
+        (body_view inside.now) (record (within_view within) { in_loop = true }))
+        (rules.body_broken (its_world scope.now) (its_home scope.now) (body_view otherwise.now)
+        (within_view within))) }
+{
+    if let Some(rule) = body_broken(scope, in_a_loop(within), inside)? {
+        return Ok(Some(rule));
+    }
+    body_broken(scope, within, otherwise)
+}
+
+/// The rule that is broken first, or else the first one that the statements behind it break.
+#[cycle(body)]
+fn or_body_broken(
+    scope: &Scope<'_>,
+    within: Within,
+    first: Option<ScopeError>,
+    inside: &[Stmt],
+) -> Result<Option<ScopeError>, AllocError>
+    ensures { IfOk result (λ o. o
+        ≡ option_or first (rules.body_broken (its_world scope.now) (its_home scope.now)
+        (body_view inside.now) (within_view within))) }
+{
+    match first {
+        Some(rule) => Ok(Some(rule)),
+        None => body_broken(scope, within, inside),
+    }
 }
 
 /// The first rule that a statement breaks.
@@ -177,43 +251,37 @@ fn statement_broken(
     within: Within,
     statement: &Stmt,
 ) -> Result<Option<ScopeError>, AllocError>
-    ensures { IfOk result (λ o. o ≡ rules.stmt_broken (its_world scope.now) (its_home scope.now) (stmt_view statement.now) (within_view within)) }
+    ensures { IfOk result (λ o. o
+        ≡ rules.stmt_broken (its_world scope.now) (its_home scope.now) (stmt_view statement.now)
+        (within_view within)) }
 {
     match statement {
         Stmt::Data(_) | Stmt::Include(..) | Stmt::Extends(..) => Ok(None),
         Stmt::Print(_, expr) => broken(scope, within, expr),
-        Stmt::If(branches, other) => {
-            let first = branches_broken(scope, within, branches)?;
-            let last = body_broken(scope, within, other)?;
-            Ok(first.or(last))
-        }
+        Stmt::If(branches, other) => choice_broken(scope, within, branches, other),
         Stmt::For(_, targets, items, condition, inside, other) => {
-            let head = head_broken(scope, within, targets, items, condition)?;
-            let turns = body_broken(scope, in_a_loop(within), inside)?;
-            let other = body_broken(scope, within, other)?;
-            Ok(head.or(turns.or(other)))
+            match head_broken(scope, within, targets, items, condition)? {
+                Some(rule) => Ok(Some(rule)),
+                None => turns_broken(scope, within, inside, other),
+            }
         }
         Stmt::Set(_, targets, value) => set_broken(scope, within, targets, value),
         Stmt::SetBlock(_, name, inside) => {
             let target = used(scope, name);
-            let inside = body_broken(scope, within, inside)?;
-            Ok(target.or(inside))
+            or_body_broken(scope, within, target, inside)
         }
         Stmt::With(_, pairs, inside) => {
             let head = bindings_broken(scope, within, pairs)?;
-            let inside = body_broken(scope, within, inside)?;
-            Ok(head.or(inside))
+            or_body_broken(scope, within, head, inside)
         }
         Stmt::FilterBlock(_, filterings, inside) => {
             let head = filterings_broken(scope, within, filterings)?;
-            let inside = body_broken(scope, within, inside)?;
-            Ok(head.or(inside))
+            or_body_broken(scope, within, head, inside)
         }
         Stmt::Autoescape(_, _, inside) => body_broken(scope, within, inside),
         Stmt::Macro(_, name, parameters, inside) => {
             let head = macro_broken(scope, name, parameters)?;
-            let inside = body_broken(scope, IN_A_MACRO, inside)?;
-            Ok(head.or(inside))
+            or_body_broken(scope, IN_A_MACRO, head, inside)
         }
         Stmt::Block(_, _, _, _, inside) => body_broken(scope, IN_A_BLOCK, inside),
     }
@@ -226,7 +294,9 @@ fn branches_broken(
     within: Within,
     branches: &[(u32, Expr, Vec<Stmt>)],
 ) -> Result<Option<ScopeError>, AllocError>
-    ensures { IfOk result (λ o. o ≡ rules.branches_broken (its_world scope.now) (its_home scope.now) (branches_view branches.now) (within_view within)) }
+    ensures { IfOk result (λ o. o
+        ≡ rules.branches_broken (its_world scope.now) (its_home scope.now)
+        (branches_view branches.now) (within_view within)) }
 {
     for (_, condition, inside) in branches {
         if let Some(rule) = broken(scope, within, condition)? {
@@ -246,7 +316,9 @@ pub(crate) fn body_broken(
     within: Within,
     body: &[Stmt],
 ) -> Result<Option<ScopeError>, AllocError>
-    ensures { IfOk result (λ o. o ≡ rules.body_broken (its_world scope.now) (its_home scope.now) (body_view body.now) (within_view within)) }
+    ensures { IfOk result (λ o. o
+        ≡ rules.body_broken (its_world scope.now) (its_home scope.now) (body_view body.now)
+        (within_view within)) }
 {
     for statement in body {
         if let Some(rule) = statement_broken(scope, within, statement)? {

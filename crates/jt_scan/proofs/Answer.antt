@@ -28,7 +28,7 @@ only_memory (error.BadCharacter n) o ss h g = cc
 only_memory (error.BadEscape n) o ss h g = cc
 only_memory (error.NumberTooLarge n) o ss h g = cc
 only_memory (error.UnclosedRaw n) o ss h g = cc
-only_memory error.SourceTooLong o ss h g = cc
+only_memory (error.SourceTooLong n) o ss h g = cc
 only_memory error.NoMemory o ss h g = refl
 
 pub answers_only : {V : Type 0} (f : V → List Segment) (x : Text) (r : Result V ScanError) → Answers f x r → (ss : List Segment) → IsCut ss x → MatchResult r (λ v. f v ≡ ss) (λ e. e ≡ error.NoMemory)
@@ -43,7 +43,7 @@ MayBe (error.BadCharacter n) = Unit {0}
 MayBe (error.BadEscape n) = Unit {0}
 MayBe (error.NumberTooLarge n) = Unit {0}
 MayBe (error.UnclosedRaw n) = Unit {0}
-MayBe error.SourceTooLong = ⊥
+MayBe (error.SourceTooLong n) = ⊥
 MayBe error.NoMemory = ⊥
 
 broken_may : {k : Kind} {n depth : ℕ} {e : ScanError} {x : Text} → IsBroken k n depth e x → MayBe e
@@ -74,7 +74,7 @@ holds (error.BadCharacter n) x h = found _ x h
 holds (error.BadEscape n) x h = found _ x h
 holds (error.NumberTooLarge n) x h = found _ x h
 holds (error.UnclosedRaw n) x h = found _ x h
-holds error.SourceTooLong x h = cuts_may (found _ x h).1
+holds (error.SourceTooLong n) x h = cuts_may (found _ x h).1
 holds error.NoMemory x h = tt
 
 pub answers_refused : {V : Type 0} (f : V → List Segment) (x : Text) (r : Result V ScanError) → Answers f x r → IfErr r (λ e. IsRefusal e x)

@@ -30,7 +30,7 @@ given_along (error.BadCharacter n) o p f g = f g
 given_along (error.BadEscape n) o p f g = f g
 given_along (error.NumberTooLarge n) o p f g = f g
 given_along (error.UnclosedRaw n) o p f g = f g
-given_along error.SourceTooLong o p f g = f g
+given_along (error.SourceTooLong n) o p f g = f g
 given_along error.NoMemory o p f g = tt
 
 pub no_memory_given : {A : Type 0} (e : ScanError) (o : Result A ScanError) → e ≡ error.NoMemory → IsGiven e o

@@ -45,5 +45,5 @@ IsRefusal (BadCharacter n) source = IsFaultOf (BadCharacter n) source
 IsRefusal (BadEscape n) source = IsFaultOf (BadEscape n) source
 IsRefusal (NumberTooLarge n) source = IsFaultOf (NumberTooLarge n) source
 IsRefusal (UnclosedRaw n) source = IsFaultOf (UnclosedRaw n) source
-IsRefusal SourceTooLong source = ⊥
+IsRefusal (SourceTooLong n) source = ⊥
 IsRefusal NoMemory source = Unit {0}

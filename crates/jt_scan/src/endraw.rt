@@ -43,7 +43,8 @@ fn ends_raw(text: &str) -> bool
 
 /// What is in front of the first `endraw` tag, and what is from there on.
 pub fn split_raw(text: &str) -> (&str, &str)
-    ensures { spec.clear_run cut.ends_raw (chars text.now) ≡ (chars result.0.now, chars result.1.now) }
+    ensures { spec.clear_run cut.ends_raw (chars text.now)
+        ≡ (chars result.0.now, chars result.1.now) }
 {
     let mut rest = text;
     'raw: while let Some((_c, more)) = first(rest) {

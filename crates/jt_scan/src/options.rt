@@ -18,7 +18,13 @@ pub struct Options {
 impl Options {
     /// The usual options: what is printed is escaped, and an LF at the end is dropped.
     pub fn new() -> Options
-        ensures { result ≡ record { trim_blocks = false; lstrip_blocks = false; keep_trailing_newline = false; autoescape = true } }
+        ensures { result
+            ≡ record {
+              trim_blocks = false;
+              lstrip_blocks = false;
+              keep_trailing_newline = false;
+              autoescape = true;
+            } }
     {
         Options {
             trim_blocks: false,

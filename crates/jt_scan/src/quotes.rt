@@ -99,7 +99,8 @@ fn escape_of(c: char) -> Escape
 fn some_digits(text: &str, base: u32, most: usize, start: u64) -> (usize, u64, &str)
     ensures missing { length (literal.some_digits base most (chars text.now)).0 + result.0 ≡ most }
     ensures number { result.1
-        ≡ min (literal.number_from base start (literal.some_digits base most (chars text.now)).0) (2 ^ 64 - 1) }
+        ≡ min (literal.number_from base start (literal.some_digits base most (chars text.now)).0)
+        (2 ^ 64 - 1) }
     ensures rest { chars result.2.now ≡ (literal.some_digits base most (chars text.now)).1 }
 {
     let mut missing = most;
@@ -126,7 +127,8 @@ fn character(code: u64) -> Option<char>
 /// The character of an octal escape, whose first digit is given, and what is behind it.
 fn read_octal(c: char, more: &str) -> Option<(Piece, &str)>
     ensures { MatchOption result (literal.escape_by literal.octal c (chars more.now) ≡ None)
-        (λ p. literal.escape_by literal.octal c (chars more.now) ≡ Some (piece_text p.0, chars p.1.now)) }
+        (λ p.
+        literal.escape_by literal.octal c (chars more.now) ≡ Some (piece_text p.0, chars p.1.now)) }
 {
     let (_missing, code, rest) = some_digits(more, 8, 2, u64::from(digit_value(c)));
     Some((Piece::Character(character(code)?), rest))

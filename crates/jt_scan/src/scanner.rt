@@ -5,6 +5,7 @@ ghost use Rattle.std.specs.Str.{chars};
 ghost use Rattle.jt_scan.specs.Cut as cut;
 ghost use Rattle.jt_scan.specs.Refused.{IsRefusal};
 ghost use Rattle.jt_scan.specs.Scanning as spec;
+ghost use Rattle.jt_scan.specs.SourceView.{max_source_len};
 ghost use Rattle.jt_scan.specs.View.{token_view, part_view, cut_of, HaveOptions};
 ghost use Rattle.jt_scan.specs.declared.error.ScanError.TheVariants as error;
 
@@ -109,7 +110,8 @@ fn push_segment<'a>(
     part: Part<'a>,
 ) -> Result<(), ScanError>
     requires { HaveOptions options segments.old.items }
-    ensures cut { IfOk result (λ u. cut_of segments.new.items ≡ cut_of segments.old.items ++ (part_view part.entry ∷ [])) }
+    ensures cut { IfOk result (λ u.
+        cut_of segments.new.items ≡ cut_of segments.old.items ++ (part_view part.entry ∷ [])) }
     ensures options { IfOk result (λ u. HaveOptions options segments.new.items) }
     ensures refused { IfErr result (λ e. e ≡ error.NoMemory) }
 {
@@ -123,8 +125,9 @@ fn read_segments<'a>(
     text: &'a str,
     options: Options,
 ) -> Result<Vec<Segment<'a>>, ScanError>
-    requires { length text.now ≤ 1048576 }
-    ensures cut { let outcome = spec.cut (chars text.now) (length (chars text.now) + 1) (chars text.now) in
+    requires { length text.now ≤ max_source_len }
+    ensures cut { let outcome = spec.cut (chars text.now) (length (chars text.now) + 1)
+        (chars text.now) in
         MatchResult result (λ v. outcome ≡ Ok (cut_of v.items)) (λ e. spec.IsGiven e outcome) }
     ensures options { IfOk result (λ v. HaveOptions options v.items) }
 {

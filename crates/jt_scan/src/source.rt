@@ -3,6 +3,7 @@
 ghost use Rattle.std.specs.Prelude.{◌≡◌, ◌+◌, ◌*◌, ◌<◌, ◌≤◌, ◌≢◌, length, MatchResult, Err, IfOk, false, [], ◌∷◌, ◌++◌};
 ghost use Rattle.std.specs.String.{string_bytes};
 ghost use Rattle.jt_scan.specs.LineEnds.{normalized, lf_ends, without_first_lf, ends_with_lf, without_last_lf};
+ghost use Rattle.jt_scan.specs.SourceView.{max_source_len};
 ghost use Rattle.jt_scan.specs.declared.error.ScanError.TheVariants as error;
 
 use crate::error::ScanError;
@@ -24,26 +25,28 @@ pub struct Source {
 impl Model for Source {
     ghost use Rattle.std.specs.Prelude.{◌≤◌};
     ghost use Rattle.std.specs.String.{string_len, string_bytes};
-    ghost use Rattle.jt_scan.specs.SourceView.{Held};
+    ghost use Rattle.jt_scan.specs.SourceView.{Held, max_source_len};
 
     ghost Value = { Held };
 
     ghost view = { λ s. record { text = string_bytes s.text; options = s.options } };
 
-    ghost invariant = { λ s. string_len s.text ≤ 1048576 };
+    ghost invariant = { λ s. string_len s.text ≤ max_source_len };
 }
 
 impl Source {
     /// The source of a template. A text of more than [`MAX_SOURCE_LEN`] bytes is refused. CR LF
     /// and CR become LF, and then one LF at the end is dropped, unless the options keep it.
     pub fn new(alloc: Global, text: &str, options: Options) -> Result<Source, ScanError>
-        ensures long { 1048576 < length text.now → result ≡ Err error.SourceTooLong }
-        ensures short { length text.now ≤ 1048576 → MatchResult result
-            (λ s. s ≡ record { text = normalized options.keep_trailing_newline text.now; options = options })
+        ensures long { max_source_len < length text.now → result ≡ Err (error.SourceTooLong 1) }
+        ensures short { length text.now ≤ max_source_len
+            → MatchResult result (λ s. s
+            ≡ record
+            { text = normalized options.keep_trailing_newline text.now; options = options })
             (λ e. e ≡ error.NoMemory) }
     {
         if text.len() > MAX_SOURCE_LEN {
-            return Err(ScanError::SourceTooLong);
+            return Err(ScanError::SourceTooLong { line: 1 });
         }
         let text = normalize(alloc, text, options.keep_trailing_newline)?;
         Ok(Source { text, options })
@@ -52,7 +55,7 @@ impl Source {
     /// The text that is scanned.
     pub fn text(&self) -> &str
         ensures value { result.now ≡ self.now.text }
-        ensures short { length result.now ≤ 1048576 }
+        ensures short { length result.now ≤ max_source_len }
     {
         self.text.as_str()
     }

@@ -25,8 +25,8 @@ pub enum Front<'a> {
 
 /// The number whose first digit is given, and what is behind it.
 fn number_token(c: char, more: &str, line: u32) -> Result<(Token<'_>, &str), ScanError>
-    ensures { MatchResult result
-        (λ p. spec.numbered line (spec.number_at c (chars more.now)) ≡ Ok (token_view p.0, chars p.1.now))
+    ensures { MatchResult result (λ p.
+        spec.numbered line (spec.number_at c (chars more.now)) ≡ Ok (token_view p.0, chars p.1.now))
         (λ e. spec.IsGiven e (spec.numbered line (spec.number_at c (chars more.now)))) }
 {
     let (number, rest) = read_number(c, more);
@@ -126,9 +126,9 @@ pub fn read_tokens<'a>(
     kind: Kind,
     line: u32,
 ) -> Result<(Vec<Token<'a>>, Mark, &'a str), ScanError>
-    ensures { let outcome = spec.inside kind line (length (chars text.now) + 1) 0 (chars text.now) in
-        MatchResult result
-        (λ p. outcome ≡ Ok ((map token_view p.0.items, p.1), chars p.2.now))
+    ensures { let outcome = spec.inside kind line (length (chars text.now) + 1) 0 (chars text.now)
+        in
+        MatchResult result (λ p. outcome ≡ Ok ((map token_view p.0.items, p.1), chars p.2.now))
         (λ e. spec.IsGiven e outcome) }
 {
     let mut tokens = Vec::new(alloc);

@@ -28,6 +28,7 @@ mutual
   expr_counted (slots.pooled k) n = refl
   expr_counted (slots.variable s) n = refl
   expr_counted (slots.field f) n = refl
+  expr_counted slots.absent n = refl
   expr_counted (slots.made k es) n = row_counted es n
   expr_counted (slots.conjunction a b) n = both_counted _ _ _ _ (expr_counted a _) (expr_counted b _)
   expr_counted (slots.disjunction a b) n = both_counted _ _ _ _ (expr_counted a _) (expr_counted b _)

@@ -14,7 +14,7 @@ use Rattle.jt_rules.specs.World.{World}
 use Rattle.jt_slots.specs.Slots as slots
 use Rattle.jt_slots.specs.Slots.{SBody}
 use Rattle.jt_meaning.specs.Layout.{Key, of_chain, of_macro, of_body, same_key, place_of, chain_keys, numbered_bodies, names, names_in, first_slot, unit, block_parameters, Table}
-use Rattle.jt_meaning.specs.Resolve.{Spot, followed, alone, handed_on, reads, placed_body}
+use Rattle.jt_meaning.specs.Resolve.{Spot, place, followed, alone, handed_on, reads, placed_body}
 use Rattle.jt_layout.specs.declared.scope.Scope.{Scope}
 use Rattle.jt_names.specs.Scoped.{RowLeads, world_in, order_in, spot_in}
 use Rattle.jt_names.specs.declared.spot.Spot as code_spot
@@ -77,3 +77,9 @@ pub block_run : (world : World) (order : List Home) (sp : Spot) (found : Option 
     → alone (slots.run u (reads table (block_parameters world order sp.home x))) ≡ placed_body world order sp found x table
 block_run world order sp None x table u e = absurd (cc e)
 block_run world order sp (Some i) x table u e = let same : u ≡ unit world order (of_body sp.home i) = cc e in ap (λ n. alone (slots.run n (reads table (block_parameters world order sp.home x)))) same
+
+-- a block without a body
+pub block_absent : (world : World) (order : List Home) (sp : Spot) (found : Option ℕ) (x : Text) (table : Table) → None ≡ option_map (λ j. unit world order (of_body sp.home j)) found
+    → alone (slots.print (place sp 1) sp.escaping slots.absent) ≡ placed_body world order sp found x table
+block_absent world order sp None x table e = refl
+block_absent world order sp (Some i) x table e = absurd (cc e)

@@ -1,4 +1,4 @@
--- How many locals the parts of rows and of targets use.
+-- What only private clauses cite: how many locals the parts of rows and of targets use.
 use Rattle.std.specs.Prelude.{ℕ, suc, Option, Some, None}
 use Rattle.jt_slots.specs.Locals.{slot_locals}
 use Rattle.jt_slots.specs.Slots.{Slot}

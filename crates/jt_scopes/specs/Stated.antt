@@ -1,4 +1,4 @@
--- What the statements of a chain are resolved to, in the tables that the code keeps, and with the places of the pool that it fills.
+-- What only private clauses cite: what the statements of a chain are resolved to, in the tables that the code keeps, and with the places of the pool that it fills.
 use Rattle.std.specs.Prelude.{◌≡◌, ℕ, Bool, ◌+◌, List, [], ◌++◌, length, Option, Some, None, option_map, Vec, if◌then◌else◌, ◌==◌}
 use Rattle.std.specs.declared.alloc.Global.{Global}
 use Rattle.jt_value.specs.Tree.{Tree}

@@ -44,7 +44,10 @@ fn framed_by<'a>(
     spot: &Spot<'_, 'a>,
     names: Vec<&'a str>,
 ) -> Result<Vec<Rc<Frame<'a>>>, ScopeError>
-    ensures framed { IfOk result (λ fs. (t : Table) → framed (map (λ f. f.value) fs.items) t ≡ bound_table (texts names.entry.items) spot.now.free (framed (map (λ f. f.value) spot.now.frames.now) t)) }
+    ensures framed { IfOk result (λ fs. (t : Table)
+        → framed (map (λ f. f.value) fs.items) t
+        ≡ bound_table (texts names.entry.items) spot.now.free
+        (framed (map (λ f. f.value) spot.now.frames.now) t)) }
     ensures refused { IfErr result (λ e. e ≡ error.NoMemory) }
 {
     let mut frames = Vec::new(alloc);
@@ -62,8 +65,10 @@ pub fn entered<'a>(
     spot: &Spot<'_, 'a>,
     names: Vec<&'a str>,
 ) -> Result<Inside<'a>, ScopeError>
-    ensures bound { IfOk result (λ i. (s : Scope) (fr : Bor (List (Rc Frame Global))) → fr.now ≡ i.frames.items
-        → spot_in s (record spot.now { frames = fr; free = i.free }) ≡ bound_all (texts names.entry.items) (spot_in s spot.now)) }
+    ensures bound { IfOk result (λ i. (s : Scope) (fr : Bor (List (Rc Frame Global)))
+        → fr.now ≡ i.frames.items
+        → spot_in s (record spot.now { frames = fr; free = i.free })
+        ≡ bound_all (texts names.entry.items) (spot_in s spot.now)) }
     ensures refused { IfErr result (λ e. e ≡ error.NoMemory) }
 {
     let free = more(spot.free, names.len())?;
@@ -80,8 +85,10 @@ pub fn put_copies(
     done: &mut Vec<SStmt>,
 ) -> Result<(), ScopeError>
     requires { IsLaidOut scope.now }
-    ensures put { IfOk result (λ u. (behind : SBody Constant) (p : List Tree) → BodyLeads (templates_in scope.now)
-        (copied (line_in scope.now spot.now 1) (spot_in scope.now spot.now).table spot.now.free (texts names.now) behind) behind done.old.items done.new.items p p) }
+    ensures put { IfOk result (λ u. (behind : SBody Constant) (p : List Tree)
+        → BodyLeads (templates_in scope.now) (copied (line_in scope.now spot.now 1)
+        (spot_in scope.now spot.now).table spot.now.free (texts names.now) behind) behind
+        done.old.items done.new.items p p) }
     ensures refused { IfErr result (λ e. e ≡ error.NoMemory) }
 {
     let mut local = spot.free;
@@ -125,7 +132,8 @@ pub fn parameters_of<'a>(
     alloc: Global,
     parameters: &'a [Parameter],
 ) -> Result<Vec<&'a str>, ScopeError>
-    ensures same { IfOk result (λ ks. texts ks.items ≡ map (λ p. p.name) (parameters_view parameters.now)) }
+    ensures same { IfOk result
+        (λ ks. texts ks.items ≡ map (λ p. p.name) (parameters_view parameters.now)) }
     ensures refused { IfErr result (λ e. e ≡ error.NoMemory) }
 {
     let mut found = Vec::with_capacity(alloc, parameters.len())?;

@@ -55,7 +55,8 @@ fn aside_locals(kept: Option<usize>) -> Result<usize, ScopeError>
 
 /// The locals of slots.
 fn slots_locals(slots: &[Option<Slot>]) -> Result<usize, ScopeError>
-    ensures counted { IfOk result (λ n. n ≡ locals.slots_locals (map (option_map slot_view) slots.now)) }
+    ensures counted { IfOk result
+        (λ n. n ≡ locals.slots_locals (map (option_map slot_view) slots.now)) }
     ensures refused { IfErr result (λ e. e ≡ error.NoMemory) }
 {
     let mut most = 0;
@@ -86,6 +87,7 @@ fn expr_locals(expr: &SExpr) -> Result<usize, ScopeError>
         SExpr::Pooled(_) => Ok(0),
         SExpr::Variable(slot) => slot_locals(*slot),
         SExpr::Field(_) => Ok(0),
+        SExpr::Absent => Ok(0),
         SExpr::Made(_, row) => row_locals(row),
         SExpr::Conjunction(left, right) => {
             let first = expr_locals(left)?;
@@ -120,7 +122,8 @@ fn row_locals(row: &[(Option<usize>, SExpr)]) -> Result<usize, ScopeError>
 
 /// The locals of a condition, if there is one.
 fn condition_locals(condition: &Option<SExpr>) -> Result<usize, ScopeError>
-    ensures counted { IfOk result (λ n. n ≡ locals.condition_locals (option_map expr_view condition.now)) }
+    ensures counted { IfOk result
+        (λ n. n ≡ locals.condition_locals (option_map expr_view condition.now)) }
     ensures refused { IfErr result (λ e. e ≡ error.NoMemory) }
 {
     match condition {
@@ -132,7 +135,9 @@ fn condition_locals(condition: &Option<SExpr>) -> Result<usize, ScopeError>
 /// The locals of a statement.
 #[cycle(statements)]
 fn stmt_locals(statement: &SStmt) -> Result<usize, ScopeError>
-    ensures counted { IfOk result (λ n. (templates : List Text) (behind : SBody ℕ) → locals.body_locals (stmt_view templates statement.now behind) ≡ max n (locals.body_locals behind)) }
+    ensures counted { IfOk result (λ n. (templates : List Text) (behind : SBody ℕ)
+        → locals.body_locals (stmt_view templates statement.now behind)
+        ≡ max n (locals.body_locals behind)) }
     ensures refused { IfErr result (λ e. e ≡ error.NoMemory) }
 {
     match statement {
@@ -169,7 +174,9 @@ fn stmt_locals(statement: &SStmt) -> Result<usize, ScopeError>
 /// The locals of statements.
 #[cycle(statements)]
 pub fn body_locals(body: &[SStmt]) -> Result<usize, ScopeError>
-    ensures counted { IfOk result (λ n. (templates : List Text) (behind : SBody ℕ) → locals.body_locals (body_view templates body.now behind) ≡ max n (locals.body_locals behind)) }
+    ensures counted { IfOk result (λ n. (templates : List Text) (behind : SBody ℕ)
+        → locals.body_locals (body_view templates body.now behind)
+        ≡ max n (locals.body_locals behind)) }
     ensures refused { IfErr result (λ e. e ≡ error.NoMemory) }
 {
     let mut most = 0;

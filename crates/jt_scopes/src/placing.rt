@@ -14,9 +14,9 @@ ghost use Rattle.jt_value.specs.Tree.{Tree};
 ghost use Rattle.jt_parse.specs.Trees.{Body};
 ghost use Rattle.jt_scopes.specs.Stated.{Led, line_in, stmt_in};
 
-use crate::putting::{put_assign, put_run};
+use crate::putting::{put_assign, put_print, put_run};
 use jt_layout::Scope;
-use jt_names::{Spot, block_arguments, first_body, more, no_value, reading, slot};
+use jt_names::{Spot, absent, block_arguments, first_body, more, no_value, reading, slot};
 use jt_rules::ScopeError;
 use jt_slots::{SExpr, SStmt, Slot, Targets};
 use std::alloc::Global;
@@ -24,7 +24,10 @@ use std::alloc::Global;
 /// What an included chain is handed under a name: what the name reads, or nothing.
 fn handed(scope: &Scope<'_>, spot: &Spot<'_, '_>, with_context: bool, name: &str) -> SExpr
     requires { IsLaidOut scope.now }
-    ensures { (p : List Tree) → IsPlaced (resolve.read_from (slot_in name.now (if with_context then (spot_in scope.now spot.now).table else []))) (expr_view result) p p }
+    ensures { (p : List Tree)
+        → IsPlaced (resolve.read_from
+        (slot_in name.now (if with_context then (spot_in scope.now spot.now).table else [])))
+        (expr_view result) p p }
 {
     if with_context {
         reading(slot(scope, spot, name))
@@ -44,8 +47,10 @@ fn hand_on(
     done: &mut Vec<SStmt>,
 ) -> Result<(), ScopeError>
     requires { IsLaidOut scope.now }
-    ensures put { IfOk result (λ u. (p : List Tree) → Led (templates_in scope.now)
-        (resolve.handed_on (line_in scope.now spot.now line) (if with_context then (spot_in scope.now spot.now).table else []) first (texts names.now)) done.old.items done.new.items p p) }
+    ensures put { IfOk result (λ u. (p : List Tree)
+        → Led (templates_in scope.now) (resolve.handed_on (line_in scope.now spot.now line)
+        (if with_context then (spot_in scope.now spot.now).table else []) first (texts names.now))
+        done.old.items done.new.items p p) }
     ensures refused { IfErr result (λ e. e ≡ error.NoMemory) }
 {
     let mut global = first;
@@ -68,7 +73,10 @@ pub fn put_include(
     done: &mut Vec<SStmt>,
 ) -> Result<(), ScopeError>
     requires { IsLaidOut scope.now }
-    ensures put { IfOk result (λ u. (missing : Bool) (p : List Tree) → Led (templates_in scope.now) (stmt_in scope.now (trees.include line name.now missing with_context) spot.now) done.old.items done.new.items p p) }
+    ensures put { IfOk result (λ u. (missing : Bool) (p : List Tree)
+        → Led (templates_in scope.now)
+        (stmt_in scope.now (trees.include line name.now missing with_context) spot.now)
+        done.old.items done.new.items p p) }
     ensures refused { IfErr result (λ e. e ≡ error.NoMemory) }
 {
     if scope.sources.place(name).is_none() {
@@ -93,12 +101,14 @@ pub fn put_include(
 /// Where a block's parameters are read: where its tag stands, or among the globals where the tag
 /// does not say `scoped`.
 fn seen_by<'s, 'a>(spot: &Spot<'s, 'a>, scoped: bool) -> Spot<'s, 'a>
-    ensures { (s : Scope) → (spot_in s result).table ≡ (if scoped then (spot_in s spot.now).table else globals_in s) }
+    ensures { (s : Scope)
+        → (spot_in s result).table ≡ (if scoped then (spot_in s spot.now).table else globals_in s) }
 {
     if scoped { *spot } else { spot.outside() }
 }
 
-/// Puts a block where its tag stands behind other statements.
+/// Puts a block where its tag stands behind other statements. What a block without a body prints is
+/// absent.
 pub fn put_block(
     alloc: Global,
     scope: &Scope<'_>,
@@ -108,11 +118,14 @@ pub fn put_block(
     done: &mut Vec<SStmt>,
 ) -> Result<(), ScopeError>
     requires { IsLaidOut scope.now }
-    ensures put { IfOk result (λ u. (line : ℕ) (required : Bool) (body : Body) (p : List Tree) → Led (templates_in scope.now) (stmt_in scope.now (trees.block line name.now scoped required body) spot.now) done.old.items done.new.items p p) }
+    ensures put { IfOk result (λ u. (line : ℕ) (required : Bool) (body : Body) (p : List Tree)
+        → Led (templates_in scope.now)
+        (stmt_in scope.now (trees.block line name.now scoped required body) spot.now) done.old.items
+        done.new.items p p) }
     ensures refused { IfErr result (λ e. e ≡ error.NoMemory) }
 {
     let Some(unit) = first_body(scope, name)? else {
-        return Ok(());
+        return put_print(spot, 1, absent(), done);
     };
     let row = block_arguments(alloc, scope, &seen_by(spot, scoped), name)?;
     put_run(unit, row, done)

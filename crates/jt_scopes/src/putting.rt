@@ -27,7 +27,9 @@ pub fn put_data(
     done: &mut Vec<SStmt>,
     pool: &mut Vec<Value>,
 ) -> Result<(), ScopeError>
-    ensures put { IfOk result (λ u. (templates : List Text) → Led templates (alone (slots.put_pooled (own (tree.text text.now)))) done.old.items done.new.items (values pool.old) (values pool.new)) }
+    ensures put { IfOk result (λ u. (templates : List Text)
+        → Led templates (alone (slots.put_pooled (own (tree.text text.now)))) done.old.items
+        done.new.items (values pool.old) (values pool.new)) }
     ensures refused { IfErr result (λ e. e ≡ error.NoMemory) }
 {
     let place = pool.len();
@@ -43,8 +45,10 @@ pub fn put_print(
     value: SExpr,
     done: &mut Vec<SStmt>,
 ) -> Result<(), ScopeError>
-    ensures put { IfOk result (λ u. (s : Scope) (c : slots.SExpr Constant) (p q : List Tree) → IsPlaced c (expr_view value) p q
-        → Led (templates_in s) (alone (slots.print (line_in s spot.now line) spot.now.escaping c)) done.old.items done.new.items p q) }
+    ensures put { IfOk result (λ u. (s : Scope) (c : slots.SExpr Constant) (p q : List Tree)
+        → IsPlaced c (expr_view value) p q
+        → Led (templates_in s) (alone (slots.print (line_in s spot.now line) spot.now.escaping c))
+        done.old.items done.new.items p q) }
     ensures refused { IfErr result (λ e. e ≡ error.NoMemory) }
 {
     let place = Place {
@@ -63,8 +67,11 @@ pub fn put_assign(
     value: SExpr,
     done: &mut Vec<SStmt>,
 ) -> Result<(), ScopeError>
-    ensures put { IfOk result (λ u. (s : Scope) (c : slots.SExpr Constant) (p q : List Tree) → IsPlaced c (expr_view value) p q
-        → Led (templates_in s) (alone (slots.assign (line_in s spot.now line) (targets_view targets) c)) done.old.items done.new.items p q) }
+    ensures put { IfOk result (λ u. (s : Scope) (c : slots.SExpr Constant) (p q : List Tree)
+        → IsPlaced c (expr_view value) p q
+        → Led (templates_in s)
+        (alone (slots.assign (line_in s spot.now line) (targets_view targets) c)) done.old.items
+        done.new.items p q) }
     ensures refused { IfErr result (λ e. e ≡ error.NoMemory) }
 {
     let place = Place {
@@ -81,7 +88,10 @@ pub fn put_choice(
     other: Vec<SStmt>,
     done: &mut Vec<SStmt>,
 ) -> Result<(), ScopeError>
-    ensures put { IfOk result (λ u. (templates : List Text) (whole last : SBody Constant) (p q r : List Tree) → ChoiceLeads templates whole last branches.items p q → IsBody templates last other.items q r
+    ensures put { IfOk result (λ u. (templates : List Text) (whole last : SBody Constant)
+        (p q r : List Tree)
+        → ChoiceLeads templates whole last branches.items p q
+        → IsBody templates last other.items q r
         → Led templates whole done.old.items done.new.items p r) }
     ensures refused { IfErr result (λ e. e ≡ error.NoMemory) }
 {
@@ -100,9 +110,15 @@ pub fn put_loop(
     other: Vec<SStmt>,
     done: &mut Vec<SStmt>,
 ) -> Result<(), ScopeError>
-    ensures put { IfOk result (λ u. (s : Scope) (c : slots.SExpr Constant) (k : Option (slots.SExpr Constant)) (turn last : SBody Constant) (p q r t v : List Tree)
-        → IsPlaced c (expr_view items) p q → IsAsked k condition q r → IsBody (templates_in s) turn body.items r t → IsBody (templates_in s) last other.items t v
-        → Led (templates_in s) (alone (slots.for_each (line_in s spot.now line) (targets_view targets) c k turn last)) done.old.items done.new.items p v) }
+    ensures put { IfOk result (λ u. (s : Scope) (c : slots.SExpr Constant)
+        (k : Option (slots.SExpr Constant)) (turn last : SBody Constant) (p q r t v : List Tree)
+        → IsPlaced c (expr_view items) p q
+        → IsAsked k condition q r
+        → IsBody (templates_in s) turn body.items r t
+        → IsBody (templates_in s) last other.items t v
+        → Led (templates_in s)
+        (alone (slots.for_each (line_in s spot.now line) (targets_view targets) c k turn last))
+        done.old.items done.new.items p v) }
     ensures refused { IfErr result (λ e. e ≡ error.NoMemory) }
 {
     let place = Place {
@@ -120,8 +136,11 @@ pub fn put_capture(
     body: Vec<SStmt>,
     done: &mut Vec<SStmt>,
 ) -> Result<(), ScopeError>
-    ensures put { IfOk result (λ u. (templates : List Text) (whole : SBody Constant) (p q : List Tree) → IsBody templates whole body.items p q
-        → Led templates (alone (slots.capture escaping (slot_view slot) whole)) done.old.items done.new.items p q) }
+    ensures put { IfOk result (λ u. (templates : List Text) (whole : SBody Constant)
+        (p q : List Tree)
+        → IsBody templates whole body.items p q
+        → Led templates (alone (slots.capture escaping (slot_view slot) whole)) done.old.items
+        done.new.items p q) }
     ensures refused { IfErr result (λ e. e ≡ error.NoMemory) }
 {
     done.push(SStmt::Capture(escaping, slot, body))?;
@@ -134,7 +153,8 @@ pub fn put_run(
     row: Vec<(Option<usize>, SExpr)>,
     done: &mut Vec<SStmt>,
 ) -> Result<(), ScopeError>
-    ensures put { IfOk result (λ u. (templates : List Text) (es : SRow Constant) (p q : List Tree) → RowLeads es slots.none [] row.items p q
+    ensures put { IfOk result (λ u. (templates : List Text) (es : SRow Constant) (p q : List Tree)
+        → RowLeads es slots.none [] row.items p q
         → Led templates (alone (slots.run unit es)) done.old.items done.new.items p q) }
     ensures refused { IfErr result (λ e. e ≡ error.NoMemory) }
 {

@@ -33,7 +33,9 @@ use std::alloc::Global;
 
 /// At the top of a template, where names are globals.
 fn top_spot<'s, 'a>(scope: &'s Scope<'a>, template: usize) -> Spot<'s, 'a>
-    ensures { spot_in scope.now result ≡ resolve.top_spot (world_in scope.now) (order_in scope.now) (home_in scope.now) (name_at (chain_view scope.now.chain.now).templates template) }
+    ensures { spot_in scope.now result
+        ≡ resolve.top_spot (world_in scope.now) (order_in scope.now) (home_in scope.now)
+        (name_at (chain_view scope.now.chain.now).templates template) }
 {
     Spot {
         template,
@@ -54,8 +56,10 @@ fn resolve_routine<'a>(
     pool: &mut Vec<Value>,
 ) -> Result<Routine, ScopeError>
     requires { IsLaidOut scope.now }
-    ensures made { IfOk result (λ r. IsRoutine (templates_in scope.now) (resolve.resolved_routine (world_in scope.now) (order_in scope.now) (texts parameters.entry.items) (body_view body.now) (spot_in scope.now spot.now))
-        r (values pool.old) (values pool.new)) }
+    ensures made { IfOk result (λ r. IsRoutine (templates_in scope.now)
+        (resolve.resolved_routine (world_in scope.now) (order_in scope.now)
+        (texts parameters.entry.items) (body_view body.now) (spot_in scope.now spot.now)) r
+        (values pool.old) (values pool.new)) }
     ensures refused { IfErr result (λ e. e ≡ error.NoMemory) }
 {
     let count = parameters.len();
@@ -99,7 +103,9 @@ fn resolve_if_set<'a>(
     pool: &mut Vec<Value>,
 ) -> Result<(), ScopeError>
     requires { IsLaidOut scope.now }
-    ensures led { IfOk result (λ u. Led (templates_in scope.now) (if is_set (stmt_view statement.now) then stmt_in scope.now (stmt_view statement.now) spot.now else slots.end) done.old.items done.new.items (values pool.old) (values pool.new)) }
+    ensures led { IfOk result (λ u. Led (templates_in scope.now) (if is_set
+        (stmt_view statement.now) then stmt_in scope.now (stmt_view statement.now) spot.now else
+        slots.end) done.old.items done.new.items (values pool.old) (values pool.new)) }
     ensures refused { IfErr result (λ e. e ≡ error.NoMemory) }
 {
     if sets_names(statement) {
@@ -118,7 +124,9 @@ fn resolve_sets<'a>(
     pool: &mut Vec<Value>,
 ) -> Result<(), ScopeError>
     requires { IsLaidOut scope.now }
-    ensures led { IfOk result (λ u. Led (templates_in scope.now) (resolve.resolved_sets (world_in scope.now) (order_in scope.now) (body_view body.now) (spot_in scope.now spot.now)) done.old.items done.new.items (values pool.old) (values pool.new)) }
+    ensures led { IfOk result (λ u. Led (templates_in scope.now) (resolve.resolved_sets
+        (world_in scope.now) (order_in scope.now) (body_view body.now) (spot_in scope.now spot.now))
+        done.old.items done.new.items (values pool.old) (values pool.new)) }
     ensures refused { IfErr result (λ e. e ≡ error.NoMemory) }
 {
     for statement in body {
@@ -137,7 +145,9 @@ fn resolve_layer<'a>(
     pool: &mut Vec<Value>,
 ) -> Result<(), ScopeError>
     requires { IsLaidOut scope.now }
-    ensures led { IfOk result (λ u. Led (templates_in scope.now) (layer_in scope.now (layer_view (chain_view scope.now.chain.now).templates layer.now) is_root) done.old.items done.new.items (values pool.old) (values pool.new)) }
+    ensures led { IfOk result (λ u. Led (templates_in scope.now) (layer_in scope.now
+        (layer_view (chain_view scope.now.chain.now).templates layer.now) is_root) done.old.items
+        done.new.items (values pool.old) (values pool.new)) }
     ensures refused { IfErr result (λ e. e ≡ error.NoMemory) }
 {
     let spot = top_spot(scope, layer.template);
@@ -156,8 +166,10 @@ fn resolve_layers<'a>(
     pool: &mut Vec<Value>,
 ) -> Result<(), ScopeError>
     requires { IsLaidOut scope.now }
-    ensures led { IfOk result (λ u. Led (templates_in scope.now) (resolve.resolved_chain (world_in scope.now) (order_in scope.now) (home_in scope.now) (map (layer_view (chain_view scope.now.chain.now).templates) layers.now))
-        done.old.items done.new.items (values pool.old) (values pool.new)) }
+    ensures led { IfOk result (λ u. Led (templates_in scope.now) (resolve.resolved_chain
+        (world_in scope.now) (order_in scope.now) (home_in scope.now)
+        (map (layer_view (chain_view scope.now.chain.now).templates) layers.now)) done.old.items
+        done.new.items (values pool.old) (values pool.new)) }
     ensures refused { IfErr result (λ e. e ≡ error.NoMemory) }
 {
     for (place, layer) in layers.iter().enumerate() {
@@ -175,7 +187,9 @@ fn resolve_chain<'a>(
 ) -> Result<Routine, ScopeError>
     requires laid { IsLaidOut scope.now }
     requires there { scope.now.home < length scope.now.chain.now.homes.items }
-    ensures made { IfOk result (λ r. IsRoutine (templates_in scope.now) (resolve.chain_routine (world_in scope.now) (order_in scope.now) (home_in scope.now)) r (values pool.old) (values pool.new)) }
+    ensures made { IfOk result (λ r. IsRoutine (templates_in scope.now)
+        (resolve.chain_routine (world_in scope.now) (order_in scope.now) (home_in scope.now)) r
+        (values pool.old) (values pool.new)) }
     ensures refused { IfErr result (λ e. e ≡ error.NoMemory) }
 {
     let layers = scope.chain.layers(alloc, scope.home)?;
@@ -197,8 +211,10 @@ fn resolve_macros<'a>(
     pool: &mut Vec<Value>,
 ) -> Result<(), ScopeError>
     requires { IsLaidOut scope.now }
-    ensures put { IfOk result (λ u. AllLed (templates_in scope.now) (map (resolve.macro_routine (world_in scope.now) (order_in scope.now) (home_in scope.now)) (macros (world_in scope.now).sources (home_in scope.now)))
-        routines.old.items routines.new.items (values pool.old) (values pool.new)) }
+    ensures put { IfOk result (λ u. AllLed (templates_in scope.now) (map
+        (resolve.macro_routine (world_in scope.now) (order_in scope.now) (home_in scope.now))
+        (macros (world_in scope.now).sources (home_in scope.now))) routines.old.items
+        routines.new.items (values pool.old) (values pool.new)) }
     ensures refused { IfErr result (λ e. e ≡ error.NoMemory) }
 {
     let here = &scope.homes[scope.home];
@@ -229,7 +245,9 @@ fn block_parameters<'a>(
     name: &str,
 ) -> Result<Vec<&'a str>, ScopeError>
     requires { IsLaidOut scope.now }
-    ensures same { IfOk result (λ ks. texts ks.items ≡ layout.block_parameters (world_in scope.now) (order_in scope.now) (home_in scope.now) name.now) }
+    ensures same { IfOk result (λ ks. texts ks.items
+        ≡ layout.block_parameters (world_in scope.now) (order_in scope.now) (home_in scope.now)
+        name.now) }
     ensures refused { IfErr result (λ e. e ≡ error.NoMemory) }
 {
     let here = &scope.homes[scope.home];
@@ -247,8 +265,10 @@ fn resolve_blocks<'a>(
     pool: &mut Vec<Value>,
 ) -> Result<(), ScopeError>
     requires { IsLaidOut scope.now }
-    ensures put { IfOk result (λ u. AllLed (templates_in scope.now) (programs.body_routines (world_in scope.now) (order_in scope.now) (home_in scope.now) (numbered_bodies (world_in scope.now) (home_in scope.now)))
-        routines.old.items routines.new.items (values pool.old) (values pool.new)) }
+    ensures put { IfOk result (λ u. AllLed (templates_in scope.now) (programs.body_routines
+        (world_in scope.now) (order_in scope.now) (home_in scope.now)
+        (numbered_bodies (world_in scope.now) (home_in scope.now))) routines.old.items
+        routines.new.items (values pool.old) (values pool.new)) }
     ensures refused { IfErr result (λ e. e ≡ error.NoMemory) }
 {
     let here = &scope.homes[scope.home];
@@ -275,7 +295,9 @@ pub fn resolve_home<'a>(
 ) -> Result<(), ScopeError>
     requires laid { IsLaidOut scope.now }
     requires there { scope.now.home < length scope.now.chain.now.homes.items }
-    ensures put { IfOk result (λ u. AreRoutines (templates_in scope.now) (programs.chain_routines (world_in scope.now) (order_in scope.now) (home_in scope.now)) routines.old.items routines.new.items (values pool.old) (values pool.new)) }
+    ensures put { IfOk result (λ u. AreRoutines (templates_in scope.now)
+        (programs.chain_routines (world_in scope.now) (order_in scope.now) (home_in scope.now))
+        routines.old.items routines.new.items (values pool.old) (values pool.new)) }
     ensures refused { IfErr result (λ e. e ≡ error.NoMemory) }
 {
     routines.push(resolve_chain(alloc, scope, pool)?)?;

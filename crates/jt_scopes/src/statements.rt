@@ -38,7 +38,9 @@ pub fn resolve_body<'a>(
     pool: &mut Vec<Value>,
 ) -> Result<(), ScopeError>
     requires { IsLaidOut scope.now }
-    ensures led { IfOk result (λ u. Led (templates_in scope.now) (body_in scope.now (body_view body.now) spot.now) done.old.items done.new.items (values pool.old) (values pool.new)) }
+    ensures led { IfOk result (λ u. Led (templates_in scope.now)
+        (body_in scope.now (body_view body.now) spot.now) done.old.items done.new.items
+        (values pool.old) (values pool.new)) }
     ensures refused { IfErr result (λ e. e ≡ error.NoMemory) }
 {
     for statement in body {
@@ -58,7 +60,9 @@ pub fn resolve_statement<'a>(
     pool: &mut Vec<Value>,
 ) -> Result<(), ScopeError>
     requires { IsLaidOut scope.now }
-    ensures led { IfOk result (λ u. Led (templates_in scope.now) (stmt_in scope.now (stmt_view statement.now) spot.now) done.old.items done.new.items (values pool.old) (values pool.new)) }
+    ensures led { IfOk result (λ u. Led (templates_in scope.now)
+        (stmt_in scope.now (stmt_view statement.now) spot.now) done.old.items done.new.items
+        (values pool.old) (values pool.new)) }
     ensures refused { IfErr result (λ e. e ≡ error.NoMemory) }
 {
     match statement {
@@ -115,8 +119,10 @@ fn resolve_branch<'a>(
     pool: &mut Vec<Value>,
 ) -> Result<(Place, SExpr, Vec<SStmt>), ScopeError>
     requires { IsLaidOut scope.now }
-    ensures made { IfOk result (λ b. IsBranch (templates_in scope.now) (line_in scope.now spot.now line) (expr_in scope.now (written.expr_view condition.now) spot.now) (body_in scope.now (body_view body.now) spot.now)
-        b (values pool.old) (values pool.new)) }
+    ensures made { IfOk result (λ b. IsBranch (templates_in scope.now)
+        (line_in scope.now spot.now line)
+        (expr_in scope.now (written.expr_view condition.now) spot.now)
+        (body_in scope.now (body_view body.now) spot.now) b (values pool.old) (values pool.new)) }
     ensures refused { IfErr result (λ e. e ≡ error.NoMemory) }
 {
     let place = Place {
@@ -140,8 +146,12 @@ fn resolve_turn<'a>(
     pool: &mut Vec<Value>,
 ) -> Result<(Option<SExpr>, Vec<SStmt>), ScopeError>
     requires { IsLaidOut scope.now }
-    ensures led { IfOk result (λ t. IsTurn scope.now (resolve.resolved_condition (world_in scope.now) (order_in scope.now) (option_map written.expr_view condition.now) (resolve.bound_all (names_view names.now) (spot_in scope.now spot.now)))
-        (scoped_in scope.now (body_view body.now) (resolve.bound_all (names_view names.now) (spot_in scope.now spot.now))) t.0 t.1.items (values pool.old) (values pool.new)) }
+    ensures led { IfOk result (λ t. IsTurn scope.now (resolve.resolved_condition
+        (world_in scope.now) (order_in scope.now) (option_map written.expr_view condition.now)
+        (resolve.bound_all (names_view names.now) (spot_in scope.now spot.now)))
+        (scoped_in scope.now (body_view body.now)
+        (resolve.bound_all (names_view names.now) (spot_in scope.now spot.now))) t.0 t.1.items
+        (values pool.old) (values pool.new)) }
     ensures refused { IfErr result (λ e. e ≡ error.NoMemory) }
 {
     let inner = entered(alloc, spot, texts_of(alloc, names)?)?;
@@ -168,8 +178,10 @@ pub fn resolve_within<'a>(
     pool: &mut Vec<Value>,
 ) -> Result<(), ScopeError>
     requires { IsLaidOut scope.now }
-    ensures led { IfOk result (λ u. Led (templates_in scope.now) (scoped_in scope.now (body_view body.now) (resolve.bound_all (texts names.entry.items) (spot_in scope.now spot.now)))
-        done.old.items done.new.items (values pool.old) (values pool.new)) }
+    ensures led { IfOk result (λ u. Led (templates_in scope.now) (scoped_in scope.now
+        (body_view body.now)
+        (resolve.bound_all (texts names.entry.items) (spot_in scope.now spot.now))) done.old.items
+        done.new.items (values pool.old) (values pool.new)) }
     ensures refused { IfErr result (λ e. e ≡ error.NoMemory) }
 {
     let inner = entered(alloc, spot, names)?;
@@ -193,7 +205,9 @@ fn resolve_scoped<'a>(
     pool: &mut Vec<Value>,
 ) -> Result<(), ScopeError>
     requires { IsLaidOut scope.now }
-    ensures led { IfOk result (λ u. Led (templates_in scope.now) (scoped_in scope.now (body_view body.now) (spot_in scope.now spot.now)) done.old.items done.new.items (values pool.old) (values pool.new)) }
+    ensures led { IfOk result (λ u. Led (templates_in scope.now)
+        (scoped_in scope.now (body_view body.now) (spot_in scope.now spot.now)) done.old.items
+        done.new.items (values pool.old) (values pool.new)) }
     ensures refused { IfErr result (λ e. e ≡ error.NoMemory) }
 {
     let names = set_names(alloc, body)?;
@@ -217,7 +231,9 @@ fn resolve_inside<'a>(
     pool: &mut Vec<Value>,
 ) -> Result<Vec<SStmt>, ScopeError>
     requires { IsLaidOut scope.now }
-    ensures led { IfOk result (λ ss. IsBody (templates_in scope.now) (scoped_in scope.now (body_view body.now) (spot_in scope.now spot.now)) ss.items (values pool.old) (values pool.new)) }
+    ensures led { IfOk result (λ ss. IsBody (templates_in scope.now)
+        (scoped_in scope.now (body_view body.now) (spot_in scope.now spot.now)) ss.items
+        (values pool.old) (values pool.new)) }
     ensures refused { IfErr result (λ e. e ≡ error.NoMemory) }
 {
     let mut done = Vec::new(alloc);
@@ -235,7 +251,9 @@ fn resolve_whole<'a>(
     pool: &mut Vec<Value>,
 ) -> Result<Vec<SStmt>, ScopeError>
     requires { IsLaidOut scope.now }
-    ensures led { IfOk result (λ ss. IsBody (templates_in scope.now) (body_in scope.now (body_view body.now) spot.now) ss.items (values pool.old) (values pool.new)) }
+    ensures led { IfOk result (λ ss. IsBody (templates_in scope.now)
+        (body_in scope.now (body_view body.now) spot.now) ss.items (values pool.old)
+        (values pool.new)) }
     ensures refused { IfErr result (λ e. e ≡ error.NoMemory) }
 {
     let mut done = Vec::new(alloc);
@@ -256,7 +274,8 @@ fn resolve_filtered<'a>(
     pool: &mut Vec<Value>,
 ) -> Result<(), ScopeError>
     requires { IsLaidOut scope.now }
-    ensures led { IfOk result (λ u. Led (templates_in scope.now) (stmt_in scope.now (trees.filter_block line (filterings_view filterings.now) (body_view body.now)) spot.now)
+    ensures led { IfOk result (λ u. Led (templates_in scope.now) (stmt_in scope.now
+        (trees.filter_block line (filterings_view filterings.now) (body_view body.now)) spot.now)
         done.old.items done.new.items (values pool.old) (values pool.new)) }
     ensures refused { IfErr result (λ e. e ≡ error.NoMemory) }
 {
@@ -281,7 +300,9 @@ fn resolve_set_block<'a>(
     pool: &mut Vec<Value>,
 ) -> Result<(), ScopeError>
     requires { IsLaidOut scope.now }
-    ensures led { IfOk result (λ u. (line : ℕ) → Led (templates_in scope.now) (stmt_in scope.now (trees.set_block line name.now (body_view body.now)) spot.now)
+    ensures led { IfOk result (λ u. (line : ℕ)
+        → Led (templates_in scope.now)
+        (stmt_in scope.now (trees.set_block line name.now (body_view body.now)) spot.now)
         done.old.items done.new.items (values pool.old) (values pool.new)) }
     ensures refused { IfErr result (λ e. e ≡ error.NoMemory) }
 {
@@ -302,7 +323,8 @@ fn resolve_with<'a>(
     pool: &mut Vec<Value>,
 ) -> Result<(), ScopeError>
     requires { IsLaidOut scope.now }
-    ensures led { IfOk result (λ u. Led (templates_in scope.now) (stmt_in scope.now (trees.with_values line (written.pairs_view pairs.now) (body_view body.now)) spot.now)
+    ensures led { IfOk result (λ u. Led (templates_in scope.now) (stmt_in scope.now
+        (trees.with_values line (written.pairs_view pairs.now) (body_view body.now)) spot.now)
         done.old.items done.new.items (values pool.old) (values pool.new)) }
     ensures refused { IfErr result (λ e. e ≡ error.NoMemory) }
 {
@@ -323,7 +345,9 @@ fn resolve_escaping<'a>(
     pool: &mut Vec<Value>,
 ) -> Result<(), ScopeError>
     requires { IsLaidOut scope.now }
-    ensures led { IfOk result (λ u. (line : ℕ) → Led (templates_in scope.now) (stmt_in scope.now (trees.autoescape line escaping (body_view body.now)) spot.now)
+    ensures led { IfOk result (λ u. (line : ℕ)
+        → Led (templates_in scope.now)
+        (stmt_in scope.now (trees.autoescape line escaping (body_view body.now)) spot.now)
         done.old.items done.new.items (values pool.old) (values pool.new)) }
     ensures refused { IfErr result (λ e. e ≡ error.NoMemory) }
 {
@@ -342,7 +366,9 @@ fn resolve_print(
     pool: &mut Vec<Value>,
 ) -> Result<(), ScopeError>
     requires { IsLaidOut scope.now }
-    ensures led { IfOk result (λ u. Led (templates_in scope.now) (stmt_in scope.now (trees.print line (written.expr_view value.now)) spot.now) done.old.items done.new.items (values pool.old) (values pool.new)) }
+    ensures led { IfOk result (λ u. Led (templates_in scope.now)
+        (stmt_in scope.now (trees.print line (written.expr_view value.now)) spot.now) done.old.items
+        done.new.items (values pool.old) (values pool.new)) }
     ensures refused { IfErr result (λ e. e ≡ error.NoMemory) }
 {
     let shown = resolve_expression(alloc, scope, spot, value, pool)?;
@@ -361,7 +387,9 @@ fn resolve_set(
     pool: &mut Vec<Value>,
 ) -> Result<(), ScopeError>
     requires { IsLaidOut scope.now }
-    ensures led { IfOk result (λ u. Led (templates_in scope.now) (stmt_in scope.now (trees.set line (names_view names.now) (written.expr_view value.now)) spot.now) done.old.items done.new.items (values pool.old) (values pool.new)) }
+    ensures led { IfOk result (λ u. Led (templates_in scope.now) (stmt_in scope.now
+        (trees.set line (names_view names.now) (written.expr_view value.now)) spot.now)
+        done.old.items done.new.items (values pool.old) (values pool.new)) }
     ensures refused { IfErr result (λ e. e ≡ error.NoMemory) }
 {
     let given = resolve_expression(alloc, scope, spot, value, pool)?;
@@ -378,7 +406,9 @@ fn resolve_condition(
     pool: &mut Vec<Value>,
 ) -> Result<Option<SExpr>, ScopeError>
     requires { IsLaidOut scope.now }
-    ensures asked { IfOk result (λ k. IsAsked (resolve.resolved_condition (world_in scope.now) (order_in scope.now) (option_map written.expr_view condition.now) (spot_in scope.now spot.now)) k (values pool.old) (values pool.new)) }
+    ensures asked { IfOk result (λ k. IsAsked (resolve.resolved_condition (world_in scope.now)
+        (order_in scope.now) (option_map written.expr_view condition.now)
+        (spot_in scope.now spot.now)) k (values pool.old) (values pool.new)) }
     ensures refused { IfErr result (λ e. e ≡ error.NoMemory) }
 {
     match condition {
@@ -399,7 +429,9 @@ fn resolve_values(
     pool: &mut Vec<Value>,
 ) -> Result<(), ScopeError>
     requires { IsLaidOut scope.now }
-    ensures led { IfOk result (λ u. (behind : SBody Constant) → BodyLeads (templates_in scope.now) (values_in scope.now (written.pairs_view pairs.now) spot.now line behind) behind
+    ensures led { IfOk result (λ u. (behind : SBody Constant)
+        → BodyLeads (templates_in scope.now)
+        (values_in scope.now (written.pairs_view pairs.now) spot.now line behind) behind
         done.old.items done.new.items (values pool.old) (values pool.new)) }
     ensures refused { IfErr result (λ e. e ≡ error.NoMemory) }
 {

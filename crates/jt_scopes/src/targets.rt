@@ -36,7 +36,9 @@ fn kept_slot(
     name: &str,
 ) -> Option<Slot>
     requires { IsLaidOut scope.now }
-    ensures { option_map slot_view result ≡ slot_if (last_among name.now (texts last.now.names.items) last.now.first None) place (slot_in name.now (spot_in scope.now spot.now).table) }
+    ensures { option_map slot_view result
+        ≡ slot_if (last_among name.now (texts last.now.names.items) last.now.first None) place
+        (slot_in name.now (spot_in scope.now spot.now).table) }
 {
     match last.index.place(name) {
         Some(there) => {
@@ -58,7 +60,8 @@ fn kept_slots(
     names: &[String],
 ) -> Result<Vec<Option<Slot>>, ScopeError>
     requires { IsLaidOut scope.now }
-    ensures kept { IfOk result (λ ss. map (option_map slot_view) ss.items ≡ resolve.kept_slots (spot_in scope.now spot.now).table (names_view names.now)) }
+    ensures kept { IfOk result (λ ss. map (option_map slot_view) ss.items
+        ≡ resolve.kept_slots (spot_in scope.now spot.now).table (names_view names.now)) }
     ensures refused { IfErr result (λ e. e ≡ error.NoMemory) }
 {
     let last = Frame::new(alloc, texts_of(alloc, names)?, 0)?;
@@ -77,7 +80,8 @@ pub fn set_targets(
     names: &[String],
 ) -> Result<Targets, ScopeError>
     requires { IsLaidOut scope.now }
-    ensures taken { IfOk result (λ t. targets_view t ≡ resolve.set_targets (spot_in scope.now spot.now).table (names_view names.now)) }
+    ensures taken { IfOk result (λ t. targets_view t
+        ≡ resolve.set_targets (spot_in scope.now spot.now).table (names_view names.now)) }
     ensures refused { IfErr result (λ e. e ≡ error.NoMemory) }
 {
     if let [name] = names {
@@ -92,7 +96,8 @@ fn fresh_slots(
     first: usize,
     names: &[String],
 ) -> Result<Vec<Option<Slot>>, ScopeError>
-    ensures fresh { IfOk result (λ ss. map (option_map slot_view) ss.items ≡ resolve.fresh first (names_view names.now)) }
+    ensures fresh { IfOk result
+        (λ ss. map (option_map slot_view) ss.items ≡ resolve.fresh first (names_view names.now)) }
     ensures refused { IfErr result (λ e. e ≡ error.NoMemory) }
 {
     let mut slots = Vec::with_capacity(alloc, names.len())?;
@@ -106,7 +111,8 @@ fn fresh_slots(
 
 /// What takes the items of a loop: locals from one on.
 pub fn fresh_targets(alloc: Global, first: usize, names: &[String]) -> Result<Targets, ScopeError>
-    ensures taken { IfOk result (λ t. targets_view t ≡ resolve.fresh_targets first (names_view names.now)) }
+    ensures taken { IfOk result
+        (λ t. targets_view t ≡ resolve.fresh_targets first (names_view names.now)) }
     ensures refused { IfErr result (λ e. e ≡ error.NoMemory) }
 {
     if let [_] = names {

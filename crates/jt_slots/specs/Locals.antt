@@ -1,6 +1,6 @@
 -- How many locals a resolved body uses: one more than the last one that is stored or loaded.
 use Rattle.std.specs.Prelude.{ℕ, suc, max, List, [], ◌∷◌, Option, Some, None}
-use Rattle.jt_slots.specs.Slots.{Slot, local, global, SExpr, pooled, variable, field, made, conjunction, disjunction, choice, invoke, SRow, none, item, aside, Targets, one, several, SStmt, put_pooled, print, assign, if_else, for_each, capture, run, SBody, end, stmt}
+use Rattle.jt_slots.specs.Slots.{Slot, local, global, SExpr, pooled, variable, field, absent, made, conjunction, disjunction, choice, invoke, SRow, none, item, aside, Targets, one, several, SStmt, put_pooled, print, assign, if_else, for_each, capture, run, SBody, end, stmt}
 
 abbrev pub slot_locals : Slot → ℕ
 slot_locals (local i) = suc i
@@ -21,6 +21,7 @@ module _ {K : Type 0} where
     expr_locals (pooled k) = 0
     expr_locals (variable s) = slot_locals s
     expr_locals (field f) = 0
+    expr_locals absent = 0
     expr_locals (made k es) = row_locals es
     expr_locals (conjunction a b) = max (expr_locals a) (expr_locals b)
     expr_locals (disjunction a b) = max (expr_locals a) (expr_locals b)

@@ -2,7 +2,7 @@
 use Rattle.std.specs.Prelude.{ℕ, ◌+◌, List, [], ◌∷◌, ◌++◌, length, Option, Some, None}
 use Rattle.jt_value.specs.Tree.{Tree}
 use Rattle.jt_slots.specs.Loops.{tree_at}
-use Rattle.jt_slots.specs.Slots.{SExpr, pooled, variable, field, made, conjunction, disjunction, choice, invoke, SRow, none, item, aside, SStmt, put_pooled, print, assign, if_else, for_each, capture, run, SBody, end, stmt, Routine}
+use Rattle.jt_slots.specs.Slots.{SExpr, pooled, variable, field, absent, made, conjunction, disjunction, choice, invoke, SRow, none, item, aside, SStmt, put_pooled, print, assign, if_else, for_each, capture, run, SBody, end, stmt, Routine}
 
 -- a value that takes a place of the pool where it stands, or one of those in front of the pool
 pub data Constant : Type 0 where
@@ -24,6 +24,7 @@ abbrev mutual
   expr_values (pooled k) = constant_values k
   expr_values (variable s) = []
   expr_values (field f) = []
+  expr_values absent = []
   expr_values (made k es) = row_values es
   expr_values (conjunction a b) = expr_values a ++ expr_values b
   expr_values (disjunction a b) = expr_values a ++ expr_values b
@@ -68,6 +69,7 @@ abbrev mutual
   placed_expr (pooled k) n = pooled (placed k n)
   placed_expr (variable s) n = variable s
   placed_expr (field f) n = field f
+  placed_expr absent n = absent
   placed_expr (made k es) n = made k (placed_row es n)
   placed_expr (conjunction a b) n = conjunction (placed_expr a n) (placed_expr b (n + length (expr_values a)))
   placed_expr (disjunction a b) n = disjunction (placed_expr a n) (placed_expr b (n + length (expr_values a)))

@@ -1,6 +1,6 @@
 -- How large resolved trees are, in instructions and entries: what each form stands for, before any code exists.
 use Rattle.std.specs.Prelude.{ℕ, suc, ◌+◌, max, List, [], ◌∷◌, length, Option, Some, None}
-use Rattle.jt_slots.specs.Slots.{SExpr, pooled, variable, field, made, conjunction, disjunction, choice, invoke, SRow, none, item, aside, Targets, one, several, SStmt, put_pooled, print, assign, if_else, for_each, capture, run, SBody, end, stmt, Routine}
+use Rattle.jt_slots.specs.Slots.{SExpr, pooled, variable, field, absent, made, conjunction, disjunction, choice, invoke, SRow, none, item, aside, Targets, one, several, SStmt, put_pooled, print, assign, if_else, for_each, capture, run, SBody, end, stmt, Routine}
 
 -- the values of a row
 abbrev pub row_count : {K : Type 0} → SRow K → ℕ
@@ -26,6 +26,7 @@ module _ {K : Type 0} where
     expr_size (pooled k) = 1
     expr_size (variable s) = 1
     expr_size (field f) = 1
+    expr_size absent = 0
     expr_size (made k es) = row_size es + 1
     expr_size (conjunction a b) = expr_size a + 4 + expr_size b
     expr_size (disjunction a b) = expr_size a + 4 + expr_size b
@@ -71,6 +72,7 @@ module _ {K : Type 0} where
     expr_height (pooled k) = 1
     expr_height (variable s) = 1
     expr_height (field f) = 1
+    expr_height absent = 1
     expr_height (made k es) = max 1 (row_height es)
     expr_height (conjunction a b) = max (expr_height a) (max 2 (expr_height b))
     expr_height (disjunction a b) = max (expr_height a) (max 2 (expr_height b))

@@ -38,6 +38,8 @@ mutual
     variable : Slot → SExpr K
     -- of the innermost loop
     field : Field → SExpr K
+    -- what no name means: it has no instruction, and neither text nor fault at any depth
+    absent : SExpr K
     made : Maker → SRow K → SExpr K
     -- the first if it is false, else the second; the first if it is true, else the second
     conjunction : SExpr K → SExpr K → SExpr K
@@ -180,6 +182,7 @@ module _ {K : Type 0} (filters : Filters) (constant : K → Tree) (call : SCalls
     svalue (pooled k) l m = valued m (constant k)
     svalue (variable s) l m = valued m (load s m)
     svalue (field f) l m = bind (checked (loop_field f l)) (valued m)
+    svalue absent l m = deeper
     svalue (made k es) l m = bind (svalues es l m) (λ r. bind (checked (make filters k r.values)) (valued r.memory))
     svalue (conjunction a b) l m = bind (svalue a l m) (λ r. if tree.truth r.value then svalue b l r.memory else gives r)
     svalue (disjunction a b) l m = bind (svalue a l m) (λ r. if tree.truth r.value then gives r else svalue b l r.memory)

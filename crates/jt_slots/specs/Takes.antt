@@ -5,7 +5,7 @@ use Rattle.jt_ops.specs.OpTable.{op_operands}
 use Rattle.jt_ops.specs.TestTable.{test_values}
 use Rattle.jt_slots.specs.Filters.{Filters}
 use Rattle.jt_slots.specs.Size.{row_count}
-use Rattle.jt_slots.specs.Slots.{Maker, operator, test, filter, a_list, a_map, SExpr, pooled, variable, field, made, conjunction, disjunction, choice, invoke, SRow, none, item, aside, SStmt, put_pooled, print, assign, if_else, for_each, capture, run, SBody, end, stmt, Routine}
+use Rattle.jt_slots.specs.Slots.{Maker, operator, test, filter, a_list, a_map, SExpr, pooled, variable, field, absent, made, conjunction, disjunction, choice, invoke, SRow, none, item, aside, SStmt, put_pooled, print, assign, if_else, for_each, capture, run, SBody, end, stmt, Routine}
 
 -- keys and values in turn
 abbrev pub InPairs : ℕ → Type 0
@@ -32,6 +32,8 @@ module _ {K : Type 0} (fs : Filters) (rs : List (Routine K)) where
     ExprTakes l (pooled k) = Unit {0}
     ExprTakes l (variable s) = Unit {0}
     ExprTakes l (field f) = IsTrue l
+    -- each name has a meaning
+    ExprTakes l absent = ⊥
     ExprTakes l (made k es) = MakerTakes fs k (row_count es) × RowTakes l es
     ExprTakes l (conjunction a b) = ExprTakes l a × ExprTakes l b
     ExprTakes l (disjunction a b) = ExprTakes l a × ExprTakes l b

@@ -64,6 +64,7 @@ abbrev pub expr_step : SExpr-F (slots.SExpr ℕ) → slots.SExpr ℕ
 expr_step (SExpr-F.Pooled i) = slots.pooled i
 expr_step (SExpr-F.Variable s) = slots.variable (slot_view s)
 expr_step (SExpr-F.Field f) = slots.field (field_view f)
+expr_step SExpr-F.Absent = slots.absent
 expr_step (SExpr-F.Made k es) = slots.made (maker_view k) (row_front es.items slots.none)
 expr_step (SExpr-F.Conjunction a b) = slots.conjunction a.value b.value
 expr_step (SExpr-F.Disjunction a b) = slots.disjunction a.value b.value

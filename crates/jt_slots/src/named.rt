@@ -61,7 +61,8 @@ fn replace_parameters(alloc: Global) -> Result<Vec<Parameter>, AllocError>
 
 /// One argument alone.
 fn one(alloc: Global, name: &str, default: Option<Literal>) -> Result<Vec<Parameter>, AllocError>
-    ensures { IfOk result (λ ps. parameters_view ps.items ≡ record { name = name.now; default = option_map literal_view default } ∷ []) }
+    ensures { IfOk result (λ ps. parameters_view ps.items
+        ≡ record { name = name.now; default = option_map literal_view default } ∷ []) }
 {
     let only = parameter(alloc, name, default)?;
     Ok(vec![in alloc; only]?)
@@ -69,7 +70,8 @@ fn one(alloc: Global, name: &str, default: Option<Literal>) -> Result<Vec<Parame
 
 /// An argument, and what it is where it is not given.
 fn parameter(alloc: Global, name: &str, default: Option<Literal>) -> Result<Parameter, AllocError>
-    ensures { IfOk result (λ p. parameter_view p ≡ record { name = name.now; default = option_map literal_view default }) }
+    ensures { IfOk result (λ p.
+        parameter_view p ≡ record { name = name.now; default = option_map literal_view default }) }
 {
     let name = String::from_str(alloc, name)?;
     Ok(Parameter { name, default })

@@ -69,6 +69,8 @@ pub enum SExpr {
     Variable(Slot),
     /// What the innermost loop tells.
     Field(Field),
+    /// What no name means: it has no instruction.
+    Absent,
     /// What is made of the values of a row.
     Made(Maker, Vec<(Option<usize>, SExpr)>),
     /// The first if it is false, else the second.

@@ -1,6 +1,7 @@
 //! Rows of expressions, with their trees or their refusals.
 
-use jt_expr::{Expr, ExprError, Literal, check_names, expression};
+use crate::rows::rows_hold;
+use jt_expr::{Expr, Literal, check_names, expression};
 use jt_scan::{Options, Part, Source, Token, scan};
 use std::alloc::{AllocError, Global};
 use std::test::Fail;
@@ -102,15 +103,15 @@ fn tell_tag(alloc: Global, told: &mut String, tokens: &[Token<'_>]) -> Result<()
     }
 }
 
-/// What the tags of a text hold.
-fn told(alloc: Global, text: &str) -> Result<String, AllocError> {
+/// What the tags of a text hold, without the space in front.
+fn told(alloc: Global, text: &str) -> Result<String, Fail> {
     let source = match Source::new(alloc, text, Options::new()) {
         Ok(source) => source,
-        Err(e) => return format!(in alloc; "{e:?}"),
+        Err(e) => return Ok(format!(in alloc; "{e:?}")?),
     };
     let segments = match scan(alloc, &source) {
         Ok(segments) => segments,
-        Err(e) => return format!(in alloc; "{e:?}"),
+        Err(e) => return Ok(format!(in alloc; "{e:?}")?),
     };
     let mut told = String::new(alloc);
     for segment in segments.as_slice() {
@@ -118,111 +119,106 @@ fn told(alloc: Global, text: &str) -> Result<String, AllocError> {
             tell_tag(alloc, &mut told, tag.tokens.as_slice())?;
         }
     }
-    Ok(told)
+    Ok(String::from_str(alloc, told.trim_start())?)
 }
 
 #[test]
 fn expressions_are_read(rt: HostRuntime) -> Result<(), Fail> {
-    let rows = [
-        (
-            "{{ 1 + 2 * 3 - a }}",
-            " (Subtract (Add 1 (Multiply 2 3)) a)",
-        ),
-        ("{{ 2 ** 3 ** 2 }}", " (Power (Power 2 3) 2)"),
-        (
-            "{{ a ~ 'b' ~ \"c\" }}",
-            " (Concatenate (Concatenate a 'b') 'c')",
-        ),
-        ("{{ 7 // 2 % 2 }}", " (Remainder (FloorDivide 7 2) 2)"),
-        ("{{ not a in b }}", " (Not (In a b))"),
-        ("{{ a not in b }}", " (NotIn a b)"),
-        (
-            "{{ a or b and not c == 1 }}",
-            " (Or a (And b (Not (Equal c 1))))",
-        ),
-        ("{{ -a.b[0]|f }}", " P3 UnknownFilter"),
-        ("{{ -a.b[0] }}", " (Negate (item (.b a) 0))"),
-        ("{{ -a|abs }}", " (|abs (Negate a))"),
-        (
-            "{{ a|join('x')|d(1, boolean=true) }}",
-            " (|d (|join a 'x') 1 boolean: true)",
-        ),
-        ("{{ -a is even }}", " (is even (Negate a))"),
-        ("{{ +(1, ) }}", " P1 Syntax"),
-        ("{{ (a) }}", " (group a)"),
-        ("{{ [] }}{{ [1, [2], ] }}", " (list) (list 1 (list 2))"),
-        ("{{ {} }}{{ {\"a\": 1,}.a }}", " (map) (.a (map a: 1))"),
-        ("{{ a.if.True }}", " (.True (.if a))"),
-        ("{{ f()(1, k=2) }}", " (call (call f) 1 k: 2)"),
-        ("{{ a if b else c if d }}", " (if b a (if d c))"),
-        ("{{ a if b or c }}", " (if (Or b c) a)"),
-        (
-            "{{ a is eq b.c == true }}",
-            " (Equal (is eq a (.c b)) true)",
-        ),
-        ("{{ a is not in [1] }}", " (is not in a (list 1))"),
-        ("{{ a is defined and None }}", " (And (is defined a) none)"),
-        ("{{ a is divisibleby(by=3) }}", " (is divisibleby a by: 3)"),
-        ("{{ 7 is not odd }}", " (is not odd 7)"),
-        ("{{ 1 < (2 < 3) }}", " (Less 1 (group (Less 2 3)))"),
-        ("{{ 0x1F + 0b1_0 }}", " (Add 31 2)"),
-        ("{{ 1_000 * 00 }}", " (Multiply 1000 0)"),
-        (
-            "{{ -9223372036854775807 }}",
-            " (Negate 9223372036854775807)",
-        ),
-        (r#"{{ "\x41\103\d" }}"#, r" 'AC\d'"),
-    ];
-    for (text, want) in rows {
-        assert_eq!(rt; told(rt.alloc(), text)?.as_str(), want, "{text}");
-    }
-    Ok(())
+    rows_hold(
+        &rt,
+        told,
+        r#"{{ 1 + 2 * 3 - a }} => (Subtract (Add 1 (Multiply 2 3)) a)
+        {{ 2 ** 3 ** 2 }} => (Power (Power 2 3) 2)
+        {{ a ~ 'b' ~ "c" }} => (Concatenate (Concatenate a 'b') 'c')
+        {{ 7 // 2 % 2 }} => (Remainder (FloorDivide 7 2) 2)
+        {{ not a in b }} => (Not (In a b))
+        {{ a not in b }} => (NotIn a b)
+        {{ a or b and not c == 1 }} => (Or a (And b (Not (Equal c 1))))
+        {{ -a.b[0]|f }} => P3 UnknownFilter
+        {{ -a.b[0] }} => (Negate (item (.b a) 0))
+        {{ -a|abs }} => (|abs (Negate a))
+        {{ a|join('x')|d(1, boolean=true) }} => (|d (|join a 'x') 1 boolean: true)
+        {{ -a is even }} => (is even (Negate a))
+        {{ +(1, ) }} => P1 Syntax
+        {{ (a) }} => (group a)
+        {{ [] }}{{ [1, [2], ] }} => (list) (list 1 (list 2))
+        {{ {} }}{{ {"a": 1,}.a }} => (map) (.a (map a: 1))
+        {{ a.if.True }} => (.True (.if a))
+        {{ f()(1, k=2) }} => (call (call f) 1 k: 2)
+        {{ a if b else c if d }} => (if b a (if d c))
+        {{ a if b or c }} => (if (Or b c) a)
+        {{ a is eq b.c == true }} => (Equal (is eq a (.c b)) true)
+        {{ a is not in [1] }} => (is not in a (list 1))
+        {{ a is defined and None }} => (And (is defined a) none)
+        {{ a is divisibleby(by=3) }} => (is divisibleby a by: 3)
+        {{ 7 is not odd }} => (is not odd 7)
+        {{ 1 < (2 < 3) }} => (Less 1 (group (Less 2 3)))
+        {{ 0x1F + 0b1_0 }} => (Add 31 2)
+        {{ 1_000 * 00 }} => (Multiply 1000 0)
+        {{ -9223372036854775807 }} => (Negate 9223372036854775807)
+        {{ "\x41\103\d" }} => 'AC\d'"#,
+    )
 }
 
 #[test]
 fn no_expressions(rt: HostRuntime) -> Result<(), Fail> {
-    let rows = [
-        ("{{ }}", " P1 Syntax"),
-        ("{{ 1 + }}", " P1 Syntax"),
-        ("{{ 007 }}", " P1 Syntax"),
-        ("{{ a b }}", " P1 Syntax"),
-        ("{{ 1 < 2 < 3 }}", " P1 Syntax"),
-        ("{{ a if b if c }}", " P1 Syntax"),
-        ("{{ if }}", " P1 Syntax"),
-        ("{{ a is }}", " P1 Syntax"),
-        ("{{ a is not }}", " P1 Syntax"),
-        ("{{ a is eq and }}", " P1 Syntax"),
-        ("{{ f(k=1, 2) }}", " P1 Syntax"),
-        ("{{ {a: 1} }}", " P1 Syntax"),
-        ("{{ a is whole }}", " P4 UnknownTest"),
-        ("{{ 1|nope }}", " P3 UnknownFilter"),
-        ("{{ (a|f) is whole }}", " P3 UnknownFilter"),
-        ("{{ a is whole or b|f }}", " P3 UnknownFilter"),
-        ("{{ a|map('f') }}", " P3 UnknownFilter"),
-        ("{{ a|map('upper', b|f) }}", " P3 UnknownFilter"),
-        ("{{ a|select('whole') }}", " P4 UnknownTest"),
-        ("{{ a|rejectattr(k, 'whole') }}", " P4 UnknownTest"),
-        ("{{ a|select('whole')|f }}", " P3 UnknownFilter"),
-    ];
-    for (text, want) in rows {
-        assert_eq!(rt; told(rt.alloc(), text)?.as_str(), want, "{text}");
-    }
-    Ok(())
+    rows_hold(
+        &rt,
+        told,
+        r"{{ }} => P1 Syntax
+        {{ 1 + }} => P1 Syntax
+        {{ 007 }} => P1 Syntax
+        {{ a b }} => P1 Syntax
+        {{ 1 < 2 < 3 }} => P1 Syntax
+        {{ a if b if c }} => P1 Syntax
+        {{ if }} => P1 Syntax
+        {{ a is }} => P1 Syntax
+        {{ a is not }} => P1 Syntax
+        {{ a is eq and }} => P1 Syntax
+        {{ f(k=1, 2) }} => P1 Syntax
+        {{ {a: 1} }} => P1 Syntax
+        {{ a is whole }} => P4 UnknownTest
+        {{ 1|nope }} => P3 UnknownFilter
+        {{ (a|f) is whole }} => P3 UnknownFilter
+        {{ a is whole or b|f }} => P3 UnknownFilter
+        {{ a|map('f') }} => P3 UnknownFilter
+        {{ a|map('upper', b|f) }} => P3 UnknownFilter
+        {{ a|select('whole') }} => P4 UnknownTest
+        {{ a|rejectattr(k, 'whole') }} => P4 UnknownTest
+        {{ a|select('whole')|f }} => P3 UnknownFilter",
+    )
 }
 
-#[test]
-fn levels(rt: HostRuntime) -> Result<(), Fail> {
-    let mut tokens = Vec::new(rt.alloc());
+/// 98 times `not` before `true`.
+fn nots(alloc: Global) -> Result<Vec<Token<'static>>, AllocError> {
+    let mut tokens = Vec::new(alloc);
     for _n in 0..98 {
         tokens.push(Token::Name("not"))?;
     }
     tokens.push(Token::Name("true"))?;
-    assert!(rt; expression(rt.alloc(), tokens.as_slice(), 99).is_ok());
-    assert!(rt;
-        matches!(
-            expression(rt.alloc(), tokens.as_slice(), 98),
-            Err(ExprError::TooDeep)
-        )
-    );
-    Ok(())
+    Ok(tokens)
+}
+
+/// Whether tokens are read within so many levels.
+fn told_within(alloc: Global, tokens: &[Token<'_>], levels: u8) -> Result<String, AllocError> {
+    match expression(alloc, tokens, levels) {
+        Ok(_) => String::from_str(alloc, "read"),
+        Err(e) => format!(in alloc; "{e}"),
+    }
+}
+
+/// Whether those tokens are read within so many levels.
+fn read_within(alloc: Global, levels: &str) -> Result<String, Fail> {
+    let levels = levels.parse::<u8>()?;
+    Ok(told_within(alloc, nots(alloc)?.as_slice(), levels)?)
+}
+
+#[test]
+fn levels(rt: HostRuntime) -> Result<(), Fail> {
+    rows_hold(
+        &rt,
+        read_within,
+        r"99 => read
+        98 => P2 TooDeep",
+    )
 }

@@ -21,6 +21,8 @@ mod plain_rows;
 #[cfg(test)]
 mod rendering;
 #[cfg(test)]
+mod rows;
+#[cfg(test)]
 mod scan;
 #[cfg(test)]
 mod sessions;

@@ -1,5 +1,6 @@
 //! Rows of sources, with their trees or their refusals.
 
+use crate::rows::rows_hold;
 use jt_expr::{Expr, Literal};
 use jt_parse::{Filtering, Parameter, Stmt, parse};
 use jt_scan::{Options, Source, scan};
@@ -210,19 +211,19 @@ fn tell_bodies(told: &mut String, statement: &Stmt) -> Result<(), AllocError> {
 }
 
 /// What the tree of a text is, or its refusal.
-fn told(alloc: Global, text: &str) -> Result<String, AllocError> {
+fn told(alloc: Global, text: &str) -> Result<String, Fail> {
     told_with(alloc, text, Options::new())
 }
 
 /// The same under these options.
-fn told_with(alloc: Global, text: &str, options: Options) -> Result<String, AllocError> {
+fn told_with(alloc: Global, text: &str, options: Options) -> Result<String, Fail> {
     let source = match Source::new(alloc, text, options) {
         Ok(source) => source,
-        Err(e) => return format!(in alloc; "{e:?}"),
+        Err(e) => return Ok(format!(in alloc; "{e:?}")?),
     };
     let segments = match scan(alloc, &source) {
         Ok(segments) => segments,
-        Err(e) => return format!(in alloc; "{e:?}"),
+        Err(e) => return Ok(format!(in alloc; "{e:?}")?),
     };
     match parse(alloc, &segments) {
         Ok(template) => {
@@ -230,186 +231,115 @@ fn told_with(alloc: Global, text: &str, options: Options) -> Result<String, Allo
             tell(&mut told, template.body())?;
             Ok(told)
         }
-        Err(e) => format!(in alloc; "{e}: {e:?}"),
+        Err(e) => Ok(format!(in alloc; "{e}: {e:?}")?),
     }
 }
 
 #[test]
 fn sources_are_parsed(rt: HostRuntime) -> Result<(), Fail> {
-    let rows = [
-        ("", ""),
-        ("a{# b #}{{ c }}", "<a>{c}"),
-        (
-            "{% if a %}x{% elif b %}y{% else %}z{% endif %}",
-            "[a?<x>|b?<y>|:<z>]",
-        ),
-        (
-            "{% if true %}{% if False %}{% endif %}{{ none }}{% endif %}!",
-            "[T?[F?|:]{N}|:]<!>",
-        ),
-        ("{{ endif }}{{ truex }}", "{endif}{truex}"),
-        ("{{ a b }}", "P1 Syntax: Syntax { line: 1 }"),
-        ("{{ if }}", "P1 Syntax: Syntax { line: 1 }"),
-        ("{{ }}", "P1 Syntax: Syntax { line: 1 }"),
-        ("{{ 1 }}{{ 'a' }}", "{0}{a}"),
-        ("{{ 1 + 2 }}{{ 7 is odd }}", "{..}{..}"),
-        ("{% if not a %}b{% endif %}", "[..?<b>|:]"),
-        ("{{ 1 < 2 < 3 }}", "P1 Syntax: Syntax { line: 1 }"),
-        ("{{ 007 }}", "P1 Syntax: Syntax { line: 1 }"),
-        ("{{ 1 is nope }}", "P4 UnknownTest: UnknownTest { line: 1 }"),
-        (
-            "{{ 1|nope }}",
-            "P3 UnknownFilter: UnknownFilter { line: 1 }",
-        ),
-        (
-            "{{ a is nope or 1|nope }}{{ 2|nope }}",
-            "P3 UnknownFilter: UnknownFilter { line: 1 }",
-        ),
-        (
-            "{{ a is nope }}\n{{ 1|nope }}",
-            "P4 UnknownTest: UnknownTest { line: 1 }",
-        ),
-        (
-            "{% if a %}{{ b }}{% else %}{{ c }}\n{{ d is nope }}{% endif %}{{ 1|nope }}",
-            "P4 UnknownTest: UnknownTest { line: 2 }",
-        ),
-        ("\n{{ a|b }}", "P3 UnknownFilter: UnknownFilter { line: 2 }"),
-        (
-            "{% if a %}{% elif b is\nc %}{% endif %}",
-            "P4 UnknownTest: UnknownTest { line: 1 }",
-        ),
-        ("{{ a is b }}\n{{ ( }}", "P1 Syntax: Syntax { line: 2 }"),
-        ("{% 'if' a %}", "P1 Syntax: Syntax { line: 1 }"),
-        ("\n{% %}", "P1 Syntax: Syntax { line: 2 }"),
-        ("{% else %}", "P1 Syntax: Syntax { line: 1 }"),
-        (
-            "{% if a %}{% else x %}{% endif %}",
-            "P1 Syntax: Syntax { line: 1 }",
-        ),
-        (
-            "{% if a %}{% else %}{% else %}{% endif %}",
-            "P1 Syntax: Syntax { line: 1 }",
-        ),
-        (
-            "{% if a %}{% else %}\n{% elif b %}{% endif %}",
-            "P1 Syntax: Syntax { line: 2 }",
-        ),
-        (
-            "{% if a %}\n\n{% endif x %}",
-            "P1 Syntax: Syntax { line: 3 }",
-        ),
-        ("\n{% if a %}\n{{ b }}", "P1 Syntax: Syntax { line: 2 }"),
-        ("{% for %}", "P1 Syntax: Syntax { line: 1 }"),
-        ("{{ 1|abs }}{{ a|join('x')|upper }}", "{..}{..}"),
-    ];
-    for (text, want) in rows {
-        assert_eq!(rt; told(rt.alloc(), text)?.as_str(), want, "{text}");
-    }
-    Ok(())
+    rows_hold(
+        &rt,
+        told,
+        r"∅ => ∅
+        a{# b #}{{ c }} => <a>{c}
+        {% if a %}x{% elif b %}y{% else %}z{% endif %} => [a?<x>|b?<y>|:<z>]
+        {% if true %}{% if False %}{% endif %}{{ none }}{% endif %}! => [T?[F?|:]{N}|:]<!>
+        {{ endif }}{{ truex }} => {endif}{truex}
+        {{ a b }} => P1 Syntax: Syntax { line: 1 }
+        {{ if }} => P1 Syntax: Syntax { line: 1 }
+        {{ }} => P1 Syntax: Syntax { line: 1 }
+        {{ 1 }}{{ 'a' }} => {0}{a}
+        {{ 1 + 2 }}{{ 7 is odd }} => {..}{..}
+        {% if not a %}b{% endif %} => [..?<b>|:]
+        {{ 1 < 2 < 3 }} => P1 Syntax: Syntax { line: 1 }
+        {{ 007 }} => P1 Syntax: Syntax { line: 1 }
+        {{ 1 is nope }} => P4 UnknownTest: UnknownTest { line: 1 }
+        {{ 1|nope }} => P3 UnknownFilter: UnknownFilter { line: 1 }
+        {{ a is nope or 1|nope }}{{ 2|nope }} => P3 UnknownFilter: UnknownFilter { line: 1 }
+        {{ a is nope }}␤{{ 1|nope }} => P4 UnknownTest: UnknownTest { line: 1 }
+        {% if a %}{{ b }}{% else %}{{ c }}␤{{ d is nope }}{% endif %}{{ 1|nope }} => P4 UnknownTest: UnknownTest { line: 2 }
+        ␤{{ a|b }} => P3 UnknownFilter: UnknownFilter { line: 2 }
+        {% if a %}{% elif b is␤c %}{% endif %} => P4 UnknownTest: UnknownTest { line: 1 }
+        {{ a is b }}␤{{ ( }} => P1 Syntax: Syntax { line: 2 }
+        {% 'if' a %} => P1 Syntax: Syntax { line: 1 }
+        ␤{% %} => P1 Syntax: Syntax { line: 2 }
+        {% else %} => P1 Syntax: Syntax { line: 1 }
+        {% if a %}{% else x %}{% endif %} => P1 Syntax: Syntax { line: 1 }
+        {% if a %}{% else %}{% else %}{% endif %} => P1 Syntax: Syntax { line: 1 }
+        {% if a %}{% else %}␤{% elif b %}{% endif %} => P1 Syntax: Syntax { line: 2 }
+        {% if a %}␤␤{% endif x %} => P1 Syntax: Syntax { line: 3 }
+        ␤{% if a %}␤{{ b }} => P1 Syntax: Syntax { line: 2 }
+        ␤{% if a %}␤{% elif b %}␤c => P1 Syntax: Syntax { line: 2 }
+        ␤{% if a %}␤{% else %}␤c => P1 Syntax: Syntax { line: 2 }
+        {{ 1 + }} => P1 Syntax: Syntax { line: 1 }
+        {% for %} => P1 Syntax: Syntax { line: 1 }
+        {{ 1|abs }}{{ a|join('x')|upper }} => {..}{..}",
+    )
 }
 
 #[test]
 fn statements_are_parsed(rt: HostRuntime) -> Result<(), Fail> {
-    let rows = [
-        ("{% for a in b %}x{% endfor %}", "(for a=b:<x>|)"),
-        (
-            "{% for a, b in c if d %}x{% else %}y{% endfor %}",
-            "(for a,b=c?d:<x>|<y>)",
-        ),
-        ("{% set a = 1 %}{% set a, b = c %}", "(set a=0)(set a,b=c)"),
-        ("{% set a %}x{% endset %}", "(set a:<x>)"),
-        (
-            "{% with a = b, c = d %}x{% endwith %}{% with %}{% endwith %}",
-            "(with a=b;c=d;:<x>)(with :)",
-        ),
-        (
-            "{% filter upper|trim %}x{% endfilter %}",
-            "(filter|upper|trim:<x>)",
-        ),
-        (
-            "{% autoescape false %}x{% endautoescape %}{% autoescape true %}{% endautoescape %}",
-            "(plain:<x>)(escape:)",
-        ),
-        (
-            "{% macro m(a, b=1) %}x{% endmacro %}",
-            "(macro m a,b=,:<x>)",
-        ),
-        (
-            "{% include 'x' %}{% include 'y' ignore missing without context %}",
-            "(include x)(include y?!)",
-        ),
-        (
-            "{% extends 'x' %}{% block b %}y{% endblock b %}",
-            "(extends x)(block b:<y>)",
-        ),
-        (
-            "{% block b scoped required %}{% endblock %}",
-            "(block b scoped required:)",
-        ),
-        (
-            "{% block b %}{% endblock c %}",
-            "P1 Syntax: Syntax { line: 1 }",
-        ),
-        (
-            "{% if a %}{% macro m() %}{% endmacro %}{% endif %}",
-            "P1 Syntax: Syntax { line: 1 }",
-        ),
-        (
-            "{% autoescape a %}{% endautoescape %}",
-            "P1 Syntax: Syntax { line: 1 }",
-        ),
-        (
-            "{% filter nope %}{% endfilter %}",
-            "P3 UnknownFilter: UnknownFilter { line: 1 }",
-        ),
-        ("{% endfor %}", "P1 Syntax: Syntax { line: 1 }"),
-        ("{% for a in b %}", "P1 Syntax: Syntax { line: 1 }"),
-    ];
-    for (text, want) in rows {
-        assert_eq!(rt; told(rt.alloc(), text)?.as_str(), want, "{text}");
-    }
-    Ok(())
+    rows_hold(
+        &rt,
+        told,
+        r"{% for a in b %}x{% endfor %} => (for a=b:<x>|)
+        {% for a, b in c if d %}x{% else %}y{% endfor %} => (for a,b=c?d:<x>|<y>)
+        {% set a = 1 %}{% set a, b = c %} => (set a=0)(set a,b=c)
+        {% set a %}x{% endset %} => (set a:<x>)
+        {% with a = b, c = d %}x{% endwith %}{% with %}{% endwith %} => (with a=b;c=d;:<x>)(with :)
+        {% filter upper|trim %}x{% endfilter %} => (filter|upper|trim:<x>)
+        {% autoescape false %}x{% endautoescape %}{% autoescape true %}{% endautoescape %} => (plain:<x>)(escape:)
+        {% macro m(a, b=1) %}x{% endmacro %} => (macro m a,b=,:<x>)
+        {% include 'x' %}{% include 'y' ignore missing without context %} => (include x)(include y?!)
+        {% extends 'x' %}{% block b %}y{% endblock b %} => (extends x)(block b:<y>)
+        {% block b scoped required %}{% endblock %} => (block b scoped required:)
+        {% block b %}{% endblock c %} => P1 Syntax: Syntax { line: 1 }
+        {% if a %}{% macro m() %}{% endmacro %}{% endif %} => P1 Syntax: Syntax { line: 1 }
+        {% autoescape a %}{% endautoescape %} => P1 Syntax: Syntax { line: 1 }
+        {% filter nope %}{% endfilter %} => P3 UnknownFilter: UnknownFilter { line: 1 }
+        {% endfor %} => P1 Syntax: Syntax { line: 1 }
+        {% for a in b %} => P1 Syntax: Syntax { line: 1 }",
+    )
 }
 
 #[test]
-fn data_is_kept_by_marks_and_options(rt: HostRuntime) -> Result<(), Fail> {
-    let rows = [
-        ("a {{- b -}} c", "<a>{b}<c>"),
-        ("a\n {%- if b %} c {% endif -%}\n d", "<a>[b?< c >|:]<d>"),
-        (" {{- a }}", "{a}"),
-        ("{{ a }}\nb", "{a}<\nb>"),
-        ("a {#- b -#} c", "<a><c>"),
-        ("a {%- raw -%} b {%- endraw -%} c", "<a><b><c>"),
-        ("{% raw %} {{ a }} {% endraw %}", "< {{ a }} >"),
-        ("a\n", "<a>"),
-    ];
-    for (text, want) in rows {
-        assert_eq!(rt; told(rt.alloc(), text)?.as_str(), want, "{text}");
-    }
+fn data_is_kept_by_marks(rt: HostRuntime) -> Result<(), Fail> {
+    rows_hold(
+        &rt,
+        told,
+        r"a {{- b -}} c => <a>{b}<c>
+        a␤ {%- if b %} c {% endif -%}␤ d => <a>[b?< c >|:]<d>
+        ␠{{- a }} => {a}
+        {{ a }}␤b => {a}<␤b>
+        a {#- b -#} c => <a><c>
+        a {%- raw -%} b {%- endraw -%} c => <a><b><c>
+        {% raw %} {{ a }} {% endraw %} => < {{ a }} >
+        a␤ => <a>",
+    )
+}
+
+/// The same where blocks are trimmed on both sides.
+fn told_of_trimmed(alloc: Global, text: &str) -> Result<String, Fail> {
     let trimming = Options {
         trim_blocks: true,
         lstrip_blocks: true,
         ..Options::new()
     };
-    let rows = [
-        (
-            "a\n  {% if b %}\nc\n  {% endif %}\n\nd",
-            "<a\n>[b?<c\n>|:]<\nd>",
-        ),
-        ("a\n  {%+ if b +%}\nc{% endif %}", "<a\n  >[b?<\nc>|:]"),
-        ("a  {% if b %}{% endif %}", "<a  >[b?|:]"),
-        ("{{ a }}\nb", "{a}<\nb>"),
-        ("\t{# a #}\nb", "<b>"),
-        ("\t{% raw %}\n b\n {% endraw %}\nc", "< b\n><c>"),
-    ];
-    for (text, want) in rows {
-        assert_eq!(rt;
-            told_with(rt.alloc(), text, trimming)?.as_str(),
-            want,
-            "{text}"
-        );
-    }
-    Ok(())
+    told_with(alloc, text, trimming)
+}
+
+#[test]
+fn data_is_kept_by_options(rt: HostRuntime) -> Result<(), Fail> {
+    rows_hold(
+        &rt,
+        told_of_trimmed,
+        r"a␤  {% if b %}␤c␤  {% endif %}␤␤d => <a␤>[b?<c␤>|:]<␤d>
+        a␤  {%+ if b +%}␤c{% endif %} => <a␤  >[b?<␤c>|:]
+        a  {% if b %}{% endif %} => <a  >[b?|:]
+        {{ a }}␤b => {a}<␤b>
+        ␉{# a #}␤b => <b>
+        ␉{% raw %}␤ b␤ {% endraw %}␤c => < b␤><c>",
+    )
 }
 
 /// So many `if`s inside one another.
@@ -426,31 +356,28 @@ fn nested(alloc: Global, count: usize, closed: bool) -> Result<String, AllocErro
     Ok(text)
 }
 
+/// What so many `if`s inside one another come to, closed or not: `[` of a tree, or the refusal.
+fn told_of_nested(alloc: Global, asked: &str) -> Result<String, Fail> {
+    let (kind, count) = asked.split_once(" ").ok_or("a row has no number")?;
+    let text = nested(alloc, count.parse::<usize>()?, kind == "closed")?;
+    let answer = told(alloc, text.as_str())?;
+    if answer.starts_with("[") {
+        return Ok(String::from_str(alloc, "[")?);
+    }
+    Ok(answer)
+}
+
 #[test]
 fn levels_are_limited(rt: HostRuntime) -> Result<(), Fail> {
-    let alloc = rt.alloc();
-    let rows = [
-        (99, true, "["),
-        (100, true, "P"),
-        (200, false, "P"),
-        (99, false, "P"),
-    ];
-    for (count, closed, want) in rows {
-        let text = nested(alloc, count, closed)?;
-        let answer = told(alloc, text.as_str())?;
-        assert!(rt; answer.starts_with(want), "{count}");
-    }
-    let deep = nested(alloc, 100, true)?;
-    assert_eq!(rt;
-        told(alloc, deep.as_str())?.as_str(),
-        "P2 TooDeep: TooDeep { line: 1 }"
-    );
-    let long = nested(alloc, 104_857, false)?;
-    assert_eq!(rt;
-        told(alloc, long.as_str())?.as_str(),
-        "P2 TooDeep: TooDeep { line: 1 }"
-    );
-    Ok(())
+    rows_hold(
+        &rt,
+        told_of_nested,
+        r"closed 99 => [
+        closed 100 => P2 TooDeep: TooDeep { line: 1 }
+        open 200 => P2 TooDeep: TooDeep { line: 1 }
+        open 99 => P1 Syntax: Syntax { line: 1 }
+        open 104857 => P2 TooDeep: TooDeep { line: 1 }",
+    )
 }
 
 /// So many times `not` in a print.
@@ -463,15 +390,17 @@ fn negated(alloc: Global, count: usize) -> Result<String, AllocError> {
     Ok(text)
 }
 
+/// What they come to.
+fn told_of_negated(alloc: Global, count: &str) -> Result<String, Fail> {
+    told(alloc, negated(alloc, count.parse::<usize>()?)?.as_str())
+}
+
 #[test]
 fn levels_of_expressions_are_limited(rt: HostRuntime) -> Result<(), Fail> {
-    let alloc = rt.alloc();
-    let most = negated(alloc, 98)?;
-    assert_eq!(rt; told(alloc, most.as_str())?.as_str(), "{..}");
-    let deep = negated(alloc, 99)?;
-    assert_eq!(rt;
-        told(alloc, deep.as_str())?.as_str(),
-        "P2 TooDeep: TooDeep { line: 1 }"
-    );
-    Ok(())
+    rows_hold(
+        &rt,
+        told_of_negated,
+        r"98 => {..}
+        99 => P2 TooDeep: TooDeep { line: 1 }",
+    )
 }

@@ -1,6 +1,7 @@
 //! Rows of sources whose text is written in pieces.
 
 use crate::rendering::templates_of;
+use crate::rows::rows_hold;
 use jt_codegen::compile;
 use jt_line::DEFAULT;
 use jt_machine::{Ended, IoSink, RunToError, Sink, run_to};
@@ -57,12 +58,14 @@ fn told(alloc: Global, answer: Result<Ended, RunToError>) -> Result<String, Fail
     }
 }
 
-// What is written of a source, how its run is answered, and whether the sink has failed.
-fn written(alloc: Global, source: &str, left: usize) -> Result<String, Fail> {
+// What is written of a source, how its run is answered, and whether the sink has failed. A row is
+// the number of bytes that the writer takes, and the source.
+fn written(alloc: Global, asked: &str) -> Result<String, Fail> {
+    let (left, source) = asked.split_once(" ").ok_or("a row has no source")?;
     let verified = image_of(alloc, source)?;
     let mut sink = IoSink::new(Slow {
         taken: String::new(alloc),
-        left,
+        left: left.parse::<usize>()?,
     });
     let answer = run_to(alloc, &verified, &Context::new(alloc), DEFAULT, &mut sink);
     let has_failed = sink.has_failed();
@@ -73,14 +76,12 @@ fn written(alloc: Global, source: &str, left: usize) -> Result<String, Fail> {
 
 #[test]
 fn sources_are_written_in_pieces(rt: HostRuntime) -> Result<(), Fail> {
-    for (source, left, wanted) in [
-        ("a{{ nope.x }}", 99, "a, fault F2 Undefined, false"),
-        ("{% set c %}zz{% endset %}a", 99, "a, whole, false"),
-        ("Hello", 2, "He, write, true"),
-        ("Hello", 5, "Hello, whole, false"),
-    ] {
-        let found = written(rt.alloc(), source, left)?;
-        assert_eq!(rt; found.as_str(), wanted, "{source}");
-    }
-    Ok(())
+    rows_hold(
+        &rt,
+        written,
+        r"99 a{{ nope.x }} => a, fault F2 Undefined, false
+        99 {% set c %}zz{% endset %}a => a, whole, false
+        2 Hello => He, write, true
+        5 Hello => Hello, whole, false",
+    )
 }

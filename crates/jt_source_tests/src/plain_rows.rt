@@ -5,8 +5,8 @@ use crate::ended::End;
 use crate::plain::plain_end;
 use crate::rendering::{
     CHAINS, FILTERS, MACROS, OVER_ITEMS, STATEMENTS, Shelf, WHITESPACE, WORKED, templates_of,
-    unfolded,
 };
+use crate::rows::unfolded;
 use jt_budget::Budget;
 use jt_codegen::compile;
 use jt_host::context_from_json;
@@ -141,26 +141,35 @@ struct Case<'a> {
     context: &'a Context,
 }
 
+// The ends of a case on the machine, in place and on the plain machine.
+fn ends_of(alloc: Global, case: &Case<'_>, budget: Budget) -> Result<[String; 3], Fail> {
+    let plain = plain_end(alloc, case.verified.image(), case.context, budget);
+    Ok([
+        told(alloc, run(alloc, case.verified, case.context, budget))?,
+        told(alloc, run_view(alloc, &case.in_place, case.context, budget))?,
+        told_plainly(alloc, plain)?,
+    ])
+}
+
+// Nothing where the machines agree on a case, and else the three ends.
+fn difference(alloc: Global, case: &Case<'_>, budget: Budget) -> Result<String, Fail> {
+    let [found, in_place, plain] = ends_of(alloc, case, budget)?;
+    if found.as_str() == plain.as_str() && in_place.as_str() == plain.as_str() {
+        return Ok(String::new(alloc));
+    }
+    Ok(format!(in alloc; "{found}, {in_place}, {plain}")?)
+}
+
 // Whether the machines agree on a case with every fuel, within the other limits of a budget.
 fn agree_within(
     rt: &(impl Abort + AllocGlobal),
     case: &Case<'_>,
     limits: Budget,
 ) -> Result<(), Fail> {
-    let alloc = rt.alloc();
     let name = case.name;
     for fuel in 0..=MOST_FUEL {
-        let budget = Budget { fuel, ..limits };
-        let end = plain_end(alloc, case.verified.image(), case.context, budget);
-        let wanted = told_plainly(alloc, end)?;
-        let found = told(alloc, run(alloc, case.verified, case.context, budget))?;
-        assert_eq!(rt; found.as_str(), wanted.as_str(), "{name}, fuel {fuel}");
-        let found = told(alloc, run_view(alloc, &case.in_place, case.context, budget))?;
-        assert_eq!(rt;
-            found.as_str(),
-            wanted.as_str(),
-            "{name} in place, fuel {fuel}"
-        );
+        let found = difference(rt.alloc(), case, Budget { fuel, ..limits })?;
+        assert_eq!(rt; found.as_str(), "", "{name}, fuel {fuel}");
     }
     Ok(())
 }
@@ -195,23 +204,38 @@ fn context_of(alloc: Global, value: Value) -> Result<Context, Fail> {
     }
 }
 
-#[test]
-fn images_end_as_on_the_plain_machine(rt: HostRuntime) -> Result<(), Fail> {
-    let alloc = rt.alloc();
-    let empty = Context::new(alloc);
-    let seven = context_of(alloc, Value::Int(7))?;
-    let list = context_of(alloc, Value::list(alloc, vec![in alloc; Value::Int(1)]?)?)?;
+// The image that is written with two digits a byte.
+fn image_of(alloc: Global, digits: &str) -> Result<Verified, Fail> {
+    match decode(alloc, &bytes_of(alloc, digits)?) {
+        Ok(image) => verified_of(alloc, image),
+        Err(_) => Err(Fail::from("decode")),
+    }
+}
+
+// Whether the machines agree on each image for a context.
+fn images_agree(rt: &(impl Abort + AllocGlobal), context: &Context) -> Result<(), Fail> {
     for row in IMAGES.trim().lines() {
         let (name, digits) = row.trim().split_once(": ").ok_or("a row has no image")?;
-        let Ok(image) = decode(alloc, &bytes_of(alloc, digits)?) else {
-            return Err(Fail::from("decode"));
-        };
-        let verified = verified_of(alloc, image)?;
-        agree(&rt, name, &verified, &empty)?;
-        agree(&rt, name, &verified, &seven)?;
-        agree(&rt, name, &verified, &list)?;
+        agree(rt, name, &image_of(rt.alloc(), digits)?, context)?;
     }
     Ok(())
+}
+
+#[test]
+fn images_end_as_on_the_plain_machine(rt: HostRuntime) -> Result<(), Fail> {
+    images_agree(&rt, &Context::new(rt.alloc()))
+}
+
+#[test]
+fn images_end_so_for_a_number(rt: HostRuntime) -> Result<(), Fail> {
+    images_agree(&rt, &context_of(rt.alloc(), Value::Int(7))?)
+}
+
+#[test]
+fn images_end_so_for_a_list(rt: HostRuntime) -> Result<(), Fail> {
+    let alloc = rt.alloc();
+    let list = Value::list(alloc, vec![in alloc; Value::Int(1)]?)?;
+    images_agree(&rt, &context_of(alloc, list)?)
 }
 
 // Whether the machines agree on the image of sources, where these are not refused.
@@ -247,13 +271,23 @@ fn rows_agree(rt: &(impl Abort + AllocGlobal), rows: &str) -> Result<(), Fail> {
 
 #[test]
 fn rows_end_as_on_the_plain_machine(rt: HostRuntime) -> Result<(), Fail> {
-    for rows in [
-        WORKED, STATEMENTS, CHAINS, MACROS, FILTERS, OVER_ITEMS, WHITESPACE,
-    ] {
-        rows_agree(&rt, rows)?;
-    }
-    Ok(())
+    rows_agree(&rt, WORKED)?;
+    rows_agree(&rt, STATEMENTS)?;
+    rows_agree(&rt, CHAINS)?;
+    rows_agree(&rt, MACROS)?;
+    rows_agree(&rt, FILTERS)?;
+    rows_agree(&rt, OVER_ITEMS)?;
+    rows_agree(&rt, WHITESPACE)
 }
+
+/// Sources without a row, one a line.
+const SOURCES: &str = r"∅
+    x
+    Hello
+    {% macro m() %}{{ m() }}{% endmacro %}{{ m() }}
+    {{ '=' * 80 }}
+    a␍␤b␍c
+    ␠ {% if true %}␤  x␤  {% endif %}␤";
 
 #[test]
 fn sources_without_a_row_end_as_on_the_plain_machine(rt: HostRuntime) -> Result<(), Fail> {
@@ -262,16 +296,9 @@ fn sources_without_a_row_end_as_on_the_plain_machine(rt: HostRuntime) -> Result<
         lstrip_blocks: true,
         ..Options::new()
     };
-    for source in [
-        "",
-        "x",
-        "Hello",
-        "{% macro m() %}{{ m() }}{% endmacro %}{{ m() }}",
-        "{{ '=' * 80 }}",
-        "a\r\nb\rc",
-        "  {% if true %}\n  x\n  {% endif %}\n",
-    ] {
-        sources_agree(&rt, source, trimming)?;
+    for source in SOURCES.lines() {
+        let source = unfolded(rt.alloc(), source.trim())?;
+        sources_agree(&rt, &source, trimming)?;
     }
     Ok(())
 }

@@ -1,11 +1,13 @@
 //! Rows of templates with their texts, faults and refusals.
 //!
 //! A row is `name: source` for each template but the entry's, perhaps the context before them, and the entry's source last,
-//! with `¦` between them; behind ` => ` stand the text in brackets, or the code of a fault or of a refusal. `␤` is an LF.
+//! with `¦` between them; behind ` => ` stand the text in brackets, or the code of a fault or of a
+//! refusal. `␤` is an LF, as `rows` says.
 
 ghost use Rattle.std.specs.Prelude.{bytes_eq, option_map, string_bytes};
 ghost use Rattle.std.specs.List.{find};
 
+use crate::rows::rows_hold;
 use jt_host::{RenderError, context_from_json, render};
 use jt_inherit::Library;
 use jt_line::DEFAULT;
@@ -13,7 +15,6 @@ use jt_machine::Outcome;
 use jt_scan::Options;
 use std::alloc::{AllocError, Global};
 use std::mem::replace;
-use std::process::Abort;
 use std::test::Fail;
 
 /// Templates by their names.
@@ -23,7 +24,8 @@ pub(crate) struct Shelf {
 }
 
 impl Library for Shelf {
-    ghost sources = { λ s name. option_map (λ p. string_bytes p.1) (find (λ p. bytes_eq (string_bytes p.0) name) s.templates.items) };
+    ghost sources = { λ s name. option_map (λ p. string_bytes p.1)
+        (find (λ p. bytes_eq (string_bytes p.0) name) s.templates.items) };
 
     fn source(&self, name: &str) -> Option<&str> {
         match self.templates.iter().find(|pair| pair.0.as_str() == name) {
@@ -31,15 +33,6 @@ impl Library for Shelf {
             None => None,
         }
     }
-}
-
-/// A row with its line ends.
-pub(crate) fn unfolded(alloc: Global, row: &str) -> Result<String, AllocError> {
-    let mut text = String::with_capacity(alloc, row.len())?;
-    for character in row.chars() {
-        text.push(if character == '␤' { '\n' } else { character })?;
-    }
-    Ok(text)
 }
 
 /// The parts of a row.
@@ -103,20 +96,6 @@ fn told(alloc: Global, row: &str) -> Result<String, Fail> {
         Err(RenderError::NoMemory) => String::from_str(alloc, "NoMemory")?,
     };
     Ok(text)
-}
-
-/// Checks rows, one a line.
-fn rows_hold(rt: &(impl Abort + AllocGlobal), rows: &str) -> Result<(), Fail> {
-    for row in rows.lines() {
-        let Some((asked, wanted)) = row.trim_start().split_once(" => ") else {
-            return Err(Fail::from("a row has no =>"));
-        };
-        let asked = unfolded(rt.alloc(), asked)?;
-        let found = told(rt.alloc(), asked.as_str())?;
-        let wanted = unfolded(rt.alloc(), wanted)?;
-        assert_eq!(rt; found.as_str(), wanted.as_str(), "{row}");
-    }
-    Ok(())
 }
 
 /// What the language gives, an example of each form.
@@ -192,7 +171,7 @@ pub(crate) const WORKED: &str = r##"{"name": "World"}¦Hello {{ name }}!␤ => [
 
 #[test]
 fn worked_rows_hold(rt: HostRuntime) -> Result<(), Fail> {
-    rows_hold(&rt, WORKED)
+    rows_hold(&rt, told, WORKED)
 }
 
 /// Loops, `set`, `with`, `filter` and `autoescape`.
@@ -249,7 +228,7 @@ pub(crate) const STATEMENTS: &str = r##"{% set a, b %}{% endset %} => P1
 
 #[test]
 fn statements_hold(rt: HostRuntime) -> Result<(), Fail> {
-    rows_hold(&rt, STATEMENTS)
+    rows_hold(&rt, told, STATEMENTS)
 }
 
 /// Templates that extend and include others.
@@ -306,7 +285,7 @@ pub(crate) const CHAINS: &str = r##"{{ super() }} => V3
 
 #[test]
 fn chains_hold(rt: HostRuntime) -> Result<(), Fail> {
-    rows_hold(&rt, CHAINS)
+    rows_hold(&rt, told, CHAINS)
 }
 
 /// Macros and their calls.
@@ -336,7 +315,7 @@ pub(crate) const MACROS: &str = r##"{{ m() }}{% macro m() %}x{% endmacro %} => [
 
 #[test]
 fn macros_hold(rt: HostRuntime) -> Result<(), Fail> {
-    rows_hold(&rt, MACROS)
+    rows_hold(&rt, told, MACROS)
 }
 
 /// Filters.
@@ -393,7 +372,7 @@ pub(crate) const FILTERS: &str = r##"{{ true|abs }} => F1
 
 #[test]
 fn filters_hold(rt: HostRuntime) -> Result<(), Fail> {
-    rows_hold(&rt, FILTERS)
+    rows_hold(&rt, told, FILTERS)
 }
 
 /// Filters that go over Items.
@@ -473,7 +452,7 @@ pub(crate) const OVER_ITEMS: &str = r##"{{ [1, 2, 3]|select("odd")|join(",") }} 
 
 #[test]
 fn filters_over_items_hold(rt: HostRuntime) -> Result<(), Fail> {
-    rows_hold(&rt, OVER_ITEMS)
+    rows_hold(&rt, told, OVER_ITEMS)
 }
 
 /// Marks, raw text and comments.
@@ -500,5 +479,5 @@ pub(crate) const WHITESPACE: &str = r##"{{ "a" -}} ␤ b => [ab]
 
 #[test]
 fn whitespace_hold(rt: HostRuntime) -> Result<(), Fail> {
-    rows_hold(&rt, WHITESPACE)
+    rows_hold(&rt, told, WHITESPACE)
 }

@@ -1,5 +1,6 @@
 //! Rows of sources, with their segments or their refusal.
 
+use crate::rows::rows_hold;
 use jt_scan::{
     Kind, MAX_SOURCE_LEN, Mark, Marks, Options, Part, ScanError, Segment, Source, Tag, Token, scan,
     text_value,
@@ -71,14 +72,14 @@ fn tell_marks(alloc: Global, marks: &Marks) -> Result<String, AllocError> {
 }
 
 /// What the segments of a text are, or its refusal.
-fn told(alloc: Global, text: &str) -> Result<String, AllocError> {
+fn told(alloc: Global, text: &str) -> Result<String, Fail> {
     let source = match Source::new(alloc, text, Options::new()) {
         Ok(source) => source,
-        Err(e) => return format!(in alloc; "{e:?}"),
+        Err(e) => return Ok(format!(in alloc; "{e:?}")?),
     };
     let segments = match scan(alloc, &source) {
         Ok(segments) => segments,
-        Err(e) => return format!(in alloc; "{e:?}"),
+        Err(e) => return Ok(format!(in alloc; "{e:?}")?),
     };
     let mut told = String::new(alloc);
     for segment in segments.as_slice() {
@@ -89,109 +90,84 @@ fn told(alloc: Global, text: &str) -> Result<String, AllocError> {
 
 #[test]
 fn sources_are_cut(rt: HostRuntime) -> Result<(), Fail> {
-    let rows = [
-        ("", ""),
-        ("a b", "<a b>"),
-        ("a\r\nb\rc\n", "<a\nb\nc>"),
-        ("a\n\n", "<a\n>"),
-        ("\r\r\n\n", "<\n\n>"),
-        ("{{ x }}", "v1:x;"),
-        ("{{\tnot\u{b}x_1\n}}", "v1:not;x_1;"),
-        ("é{{é_1 ß}}è", "<é>v1:é_1;ß;<è>"),
-        ("a\n{# b\n{{ #}{% if x %}", "<a\n>r# b\n{{ #b3:if;x;"),
-        ("{# a #} b #}", "r# a #< b #}>"),
-        ("{{}}{%%}{##}", "v1:b1:r##"),
-        ("{ { } }{", "<{ { } }{>"),
-        ("{{ a***-b }}", "v1:a;Power;Times;Minus;b;"),
-        ("{{ a<=b>==c }}", "v1:a;LessEqual;b;GreaterEqual;Assign;c;"),
-        ("{% a%%}", "b1:a;Percent;"),
-        ("{{ 0x1F + 0b1_0 }}", "v1:31;Plus;2;"),
-        (
-            "{{ 007 0b 1_ 1__0 0x 0_0 0O17}}",
-            "v1:0;7;0;b;1;_;1;__0;0;x;0;15;",
-        ),
-        ("{{ 9_223_372_036854775807 }}", "v1:9223372036854775807;"),
-        ("{{ 9223372036854775808 }}", "NumberTooLarge { line: 1 }"),
-        (
-            "{{\n0xfffffffffffffffffffff }}",
-            "NumberTooLarge { line: 1 }",
-        ),
-        (r#"{{ "\x41\103\d" }}"#, r"v1:'AC\d';"),
-        (
-            r#"{{ '\'"\\' "\12341" "\u00e9\U0001F600" }}"#,
-            "v1:''\"\\';'S41';'é😀';",
-        ),
-        ("{{ 'a\\\nb' \"a\nb\" }}", "v1:'ab';'a\nb';"),
-        (
-            r"{{ '\a\b\t\n\v\f\r' }}",
-            "v1:'\u{7}\u{8}\t\n\u{b}\u{c}\r';",
-        ),
-        (r#"{{ "\x4" }}"#, "BadEscape { line: 1 }"),
-        (r#"{{ "\ud800" }}"#, "BadEscape { line: 1 }"),
-        (r#"{{ "\U00110000" }}"#, "BadEscape { line: 1 }"),
-        (r#"{{ "\N{DASH}" }}"#, "BadEscape { line: 1 }"),
-        (r#"{{ "x }}"#, "UnclosedText { line: 1 }"),
-        (r#"{{ "x\" }}"#, "UnclosedText { line: 1 }"),
-        (r#"{{ "}}" }}"#, "v1:'}}';"),
-        (
-            r#"{{ {"a": {"b": 1}} }}"#,
-            "v1:LeftBrace;'a';Colon;LeftBrace;'b';Colon;1;RightBrace;RightBrace;",
-        ),
-        (
-            "{{ {{}}}}}",
-            "v1:LeftBrace;LeftBrace;RightBrace;RightBrace;<}>",
-        ),
-        (
-            "{% } %} {% {%} %}",
-            "b1:RightBrace;< >b1:LeftBrace;Percent;RightBrace;",
-        ),
-        ("{{ } }}", "v1:RightBrace;"),
-        ("{{ { }}", "UnclosedTag { line: 1 }"),
-        ("{{ a\u{a0}b }}", "BadCharacter { line: 1 }"),
-        ("{{ a/b }}", "BadCharacter { line: 1 }"),
-        ("{{ !a }}", "BadCharacter { line: 1 }"),
-        ("a{{{ x }}", "UnclosedTag { line: 1 }"),
-        ("{{ a }}\n\r\n{{\n? }}", "BadCharacter { line: 3 }"),
-        ("{{ a %}", "UnclosedTag { line: 1 }"),
-        ("{{ a ", "UnclosedTag { line: 1 }"),
-        ("\n{%", "UnclosedTag { line: 2 }"),
-        ("\n\n{# #", "UnclosedTag { line: 3 }"),
-    ];
-    for (text, want) in rows {
-        assert_eq!(rt; told(rt.alloc(), text)?.as_str(), want, "{text}");
-    }
-    Ok(())
+    rows_hold(
+        &rt,
+        told,
+        r#"∅ => ∅
+        a b => <a b>
+        a␍␤b␍c␤ => <a␤b␤c>
+        a␤␤ => <a␤>
+        ␍␍␤␤ => <␤␤>
+        {{ x }} => v1:x;
+        {{␉not␋x_1␤}} => v1:not;x_1;
+        é{{é_1 ß}}è => <é>v1:é_1;ß;<è>
+        a␤{# b␤{{ #}{% if x %} => <a␤>r# b␤{{ #b3:if;x;
+        {# a #} b #} => r# a #< b #}>
+        {{}}{%%}{##} => v1:b1:r##
+        { { } }{ => <{ { } }{>
+        {{ a***-b }} => v1:a;Power;Times;Minus;b;
+        {{ a<=b>==c }} => v1:a;LessEqual;b;GreaterEqual;Assign;c;
+        {% a%%} => b1:a;Percent;
+        {{ 0x1F + 0b1_0 }} => v1:31;Plus;2;
+        {{ 007 0b 1_ 1__0 0x 0_0 0O17}} => v1:0;7;0;b;1;_;1;__0;0;x;0;15;
+        {{ 9_223_372_036854775807 }} => v1:9223372036854775807;
+        {{ 9223372036854775808 }} => NumberTooLarge { line: 1 }
+        {{␤0xfffffffffffffffffffff }} => NumberTooLarge { line: 1 }
+        {{ "\x41\103\d" }} => v1:'AC\d';
+        {{ '\'"\\' "\12341" "\u00e9\U0001F600" }} => v1:''"\';'S41';'é😀';
+        {{ 'a\␤b' "a␤b" }} => v1:'ab';'a␤b';
+        {{ '\a\b\t\n\v\f\r' }} => v1:'␇␈␉␤␋␌␍';
+        {{ "\x4" }} => BadEscape { line: 1 }
+        {{ "\ud800" }} => BadEscape { line: 1 }
+        {{ "\U00110000" }} => BadEscape { line: 1 }
+        {{ "\N{DASH}" }} => BadEscape { line: 1 }
+        {{ "x }} => UnclosedText { line: 1 }
+        {{ "x\" }} => UnclosedText { line: 1 }
+        ␤{{ "x }} => UnclosedText { line: 2 }
+        ␤␤{{␤"\x4" }} => BadEscape { line: 3 }
+        ␤{{ 9223372036854775808 }} => NumberTooLarge { line: 2 }
+        {{ "}}" }} => v1:'}}';
+        {{ {"a": {"b": 1}} }} => v1:LeftBrace;'a';Colon;LeftBrace;'b';Colon;1;RightBrace;RightBrace;
+        {{ {{}}}}} => v1:LeftBrace;LeftBrace;RightBrace;RightBrace;<}>
+        {% } %} {% {%} %} => b1:RightBrace;< >b1:LeftBrace;Percent;RightBrace;
+        {{ } }} => v1:RightBrace;
+        {{ { }} => UnclosedTag { line: 1 }
+        {{ a⍽b }} => BadCharacter { line: 1 }
+        {{ a/b }} => BadCharacter { line: 1 }
+        {{ !a }} => BadCharacter { line: 1 }
+        a{{{ x }} => UnclosedTag { line: 1 }
+        {{ a }}␤␍␤{{␤? }} => BadCharacter { line: 3 }
+        {{ a %} => UnclosedTag { line: 1 }
+        {{ a␠ => UnclosedTag { line: 1 }
+        ␤{% => UnclosedTag { line: 2 }
+        ␤␤{# # => UnclosedTag { line: 3 }"#,
+    )
 }
 
 #[test]
 fn marks_and_raw_text_are_cut(rt: HostRuntime) -> Result<(), Fail> {
-    let rows = [
-        ("{{- a -}}", "v-1:a;-"),
-        ("{{+ a }}{{ b +}}", "v+1:a;v1:b;Plus;"),
-        ("{{ a+}}", "v1:a;Plus;"),
-        ("{%- a -%}{%+ b +%}", "b-1:a;-b+1:b;+"),
-        ("{%-%}{{-}}", "b-1:v-1:"),
-        ("{%--%}{%+-%}", "b-1:-b+1:-"),
-        (
-            "{#- a -#}{#+ b +#}{#-#}{#--#}",
-            "-r-#- a -#+r+#+ b +#-r#-#-r-#--#",
-        ),
-        ("{{ a - }}", "v1:a;Minus;"),
-        ("{{- -1 -}}", "v-1:Minus;1;-"),
-        ("{% raw %}a{{ b }}{# c{% endraw %}d", "r<a{{ b }}{# c>r<d>"),
-        ("{%- raw -%} a {%+ endraw +%}", "-r-< a >+r+"),
-        ("{%raw%}{%endraw%}", "r<>r"),
-        ("{% raw %}{% raw %}{% endraw %}", "r<{% raw %}>r"),
-        ("{% raw %}{% endraw x %}{% endraw %}", "r<{% endraw x %}>r"),
-        ("{% raw %}a", "UnclosedRaw { line: 1 }"),
-        ("\n{% raw %}{{ endraw }}", "UnclosedRaw { line: 2 }"),
-        ("{% raw x %}", "b1:raw;x;"),
-        ("{{ raw }}", "v1:raw;"),
-    ];
-    for (text, want) in rows {
-        assert_eq!(rt; told(rt.alloc(), text)?.as_str(), want, "{text}");
-    }
-    Ok(())
+    rows_hold(
+        &rt,
+        told,
+        r"{{- a -}} => v-1:a;-
+        {{+ a }}{{ b +}} => v+1:a;v1:b;Plus;
+        {{ a+}} => v1:a;Plus;
+        {%- a -%}{%+ b +%} => b-1:a;-b+1:b;+
+        {%-%}{{-}} => b-1:v-1:
+        {%--%}{%+-%} => b-1:-b+1:-
+        {#- a -#}{#+ b +#}{#-#}{#--#} => -r-#- a -#+r+#+ b +#-r#-#-r-#--#
+        {{ a - }} => v1:a;Minus;
+        {{- -1 -}} => v-1:Minus;1;-
+        {% raw %}a{{ b }}{# c{% endraw %}d => r<a{{ b }}{# c>r<d>
+        {%- raw -%} a {%+ endraw +%} => -r-< a >+r+
+        {%raw%}{%endraw%} => r<>r
+        {% raw %}{% raw %}{% endraw %} => r<{% raw %}>r
+        {% raw %}{% endraw x %}{% endraw %} => r<{% endraw x %}>r
+        {% raw %}a => UnclosedRaw { line: 1 }
+        ␤{% raw %}{{ endraw }} => UnclosedRaw { line: 2 }
+        {% raw x %} => b1:raw;x;
+        {{ raw }} => v1:raw;",
+    )
 }
 
 /// A text with the same piece so many times behind its beginning.
@@ -211,38 +187,35 @@ fn filled(
     Ok(text)
 }
 
-#[test]
-fn long_sources_are_answered(rt: HostRuntime) -> Result<(), Fail> {
-    let rows = [
-        ("{{ 1", "0", 1_000_000, "}}", "NumberTooLarge { line: 1 }"),
-        ("{{ 0", "_0", 500_000, "}}", "v1:0;"),
-        ("{{ ", "\"\"", 500_000, "", "UnclosedTag { line: 1 }"),
-        ("{{ '", "\\", 1_000_000, "", "UnclosedText { line: 1 }"),
-        ("{{ '", "\\x41", 250_000, "\\x4'}}", "BadEscape { line: 1 }"),
-        ("{{ ", "{", 1_000_000, "", "UnclosedTag { line: 1 }"),
-        ("{{ ", "} ", 500_000, "/", "BadCharacter { line: 1 }"),
-        (
-            "{% raw %}",
-            "{% endraw",
-            100_000,
-            "",
-            "UnclosedRaw { line: 1 }",
-        ),
-        ("{% raw %}", "{%-", 300_000, "", "UnclosedRaw { line: 1 }"),
-    ];
-    for (start, piece, times, end, want) in rows {
-        let text = filled(rt.alloc(), start, piece, times, end)?;
-        assert_eq!(rt;
-            told(rt.alloc(), text.as_str())?.as_str(),
-            want,
-            "{start}{piece}"
-        );
-    }
-    Ok(())
+/// What a long source is cut into. A row is how many times a piece stands, what stands before, the
+/// piece, and what stands behind.
+fn told_of_long(alloc: Global, asked: &str) -> Result<String, Fail> {
+    let (times, rest) = asked.split_once('¦').ok_or("a row has no number")?;
+    let (start, rest) = rest.split_once('¦').ok_or("a row has no piece")?;
+    let (piece, end) = rest.split_once('¦').ok_or("a row has no end")?;
+    let text = filled(alloc, start, piece, times.parse::<u32>()?, end)?;
+    told(alloc, text.as_str())
 }
 
 #[test]
-fn options_and_length(rt: HostRuntime) -> Result<(), Fail> {
+fn long_sources_are_answered(rt: HostRuntime) -> Result<(), Fail> {
+    rows_hold(
+        &rt,
+        told_of_long,
+        r#"1000000¦{{ 1¦0¦}} => NumberTooLarge { line: 1 }
+        500000¦{{ 0¦_0¦}} => v1:0;
+        500000¦{{ ¦""¦ => UnclosedTag { line: 1 }
+        1000000¦{{ '¦\¦ => UnclosedText { line: 1 }
+        250000¦{{ '¦\x41¦\x4'}} => BadEscape { line: 1 }
+        1000000¦{{ ¦{¦ => UnclosedTag { line: 1 }
+        500000¦{{ ¦} ¦/ => BadCharacter { line: 1 }
+        100000¦{% raw %}¦{% endraw¦ => UnclosedRaw { line: 1 }
+        300000¦{% raw %}¦{%-¦ => UnclosedRaw { line: 1 }"#,
+    )
+}
+
+#[test]
+fn options_are_kept(rt: HostRuntime) -> Result<(), Fail> {
     let alloc = rt.alloc();
     let keeping = Options {
         keep_trailing_newline: true,
@@ -250,31 +223,62 @@ fn options_and_length(rt: HostRuntime) -> Result<(), Fail> {
     };
     let source = Source::new(alloc, "a\r\n", keeping);
     assert!(rt; matches!(&source, Ok(s) if s.text() == "a\n" && s.options() == keeping));
+    Ok(())
+}
+
+/// Whether so many line ends behind the first `MAX_SOURCE_LEN` are a source.
+fn made_of_ends(alloc: Global, more: &str) -> Result<String, Fail> {
     let mut text = String::with_capacity(alloc, MAX_SOURCE_LEN + 1)?;
     for _n in 0..MAX_SOURCE_LEN {
         text.push('\n')?;
     }
-    assert!(rt; Source::new(alloc, text.as_str(), Options::new()).is_ok());
-    text.push('\n')?;
-    let refused = Source::new(alloc, text.as_str(), Options::new());
-    assert!(rt; matches!(refused, Err(ScanError::SourceTooLong)));
-    Ok(())
+    if more == "1" {
+        text.push('\n')?;
+    }
+    match Source::new(alloc, text.as_str(), Options::new()) {
+        Ok(_) => Ok(String::from_str(alloc, "a source")?),
+        Err(e) => Ok(format!(in alloc; "{e:?}")?),
+    }
+}
+
+#[test]
+fn sources_have_a_greatest_length(rt: HostRuntime) -> Result<(), Fail> {
+    rows_hold(
+        &rt,
+        made_of_ends,
+        r"0 => a source
+        1 => SourceTooLong { line: 1 }",
+    )
+}
+
+/// What a refusal prints as.
+fn printed(alloc: Global, asked: &str) -> Result<String, Fail> {
+    let refusal = match asked {
+        "UnclosedTag" => ScanError::UnclosedTag { line: 1 },
+        "UnclosedText" => ScanError::UnclosedText { line: 1 },
+        "BadCharacter" => ScanError::BadCharacter { line: 1 },
+        "BadEscape" => ScanError::BadEscape { line: 1 },
+        "NumberTooLarge" => ScanError::NumberTooLarge { line: 1 },
+        "UnclosedRaw" => ScanError::UnclosedRaw { line: 1 },
+        "SourceTooLong" => ScanError::SourceTooLong { line: 1 },
+        "NoMemory" => ScanError::NoMemory,
+        _ => return Err(Fail::from("there is no such refusal")),
+    };
+    Ok(format!(in alloc; "{refusal}")?)
 }
 
 #[test]
 fn refusals_have_names(rt: HostRuntime) -> Result<(), Fail> {
-    let rows = [
-        (ScanError::UnclosedTag { line: 1 }, "S1 UnclosedTag"),
-        (ScanError::UnclosedText { line: 1 }, "S2 UnclosedText"),
-        (ScanError::BadCharacter { line: 1 }, "S3 BadCharacter"),
-        (ScanError::BadEscape { line: 1 }, "S4 BadEscape"),
-        (ScanError::NumberTooLarge { line: 1 }, "S5 NumberTooLarge"),
-        (ScanError::UnclosedRaw { line: 1 }, "S6 UnclosedRaw"),
-        (ScanError::SourceTooLong, "S7 SourceTooLong"),
-        (ScanError::NoMemory, "S8 NoMemory"),
-    ];
-    for (refusal, name) in rows {
-        assert_eq!(rt; format!(in rt.alloc(); "{refusal}")?.as_str(), name);
-    }
-    Ok(())
+    rows_hold(
+        &rt,
+        printed,
+        r"UnclosedTag => S1 UnclosedTag
+        UnclosedText => S2 UnclosedText
+        BadCharacter => S3 BadCharacter
+        BadEscape => S4 BadEscape
+        NumberTooLarge => S5 NumberTooLarge
+        UnclosedRaw => S6 UnclosedRaw
+        SourceTooLong => S7 SourceTooLong
+        NoMemory => S8 NoMemory",
+    )
 }

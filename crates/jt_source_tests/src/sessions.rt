@@ -2,11 +2,12 @@
 
 ghost use Rattle.std.specs.Prelude.{Some, None, if◌then◌else◌, codes, bytes_eq};
 
+use crate::rows::rows_hold;
 use jt_codegen::compile;
-use jt_host::{Host, HostError};
+use jt_host::Host;
 use jt_inherit::Library;
 use jt_line::DEFAULT;
-use jt_machine::{Outcome, Progress};
+use jt_machine::Outcome;
 use jt_scan::Options;
 use jt_value::Context;
 use jt_verify::{Verified, verify};
@@ -48,7 +49,7 @@ fn opened(alloc: Global, host: &mut Host, source: &str) -> Result<u64, Fail> {
 }
 
 // An outcome in words.
-fn told(alloc: Global, outcome: Option<Outcome>) -> Result<String, Fail> {
+fn told(alloc: Global, outcome: Option<&Outcome>) -> Result<String, Fail> {
     match outcome {
         Some(Outcome::Text(text)) => Ok(format!(in alloc; "text {text}")?),
         Some(Outcome::Fault(fault)) => Ok(format!(in alloc; "fault {fault}")?),
@@ -57,9 +58,59 @@ fn told(alloc: Global, outcome: Option<Outcome>) -> Result<String, Fail> {
     }
 }
 
-#[test]
-fn two_sessions_take_turns(rt: HostRuntime) -> Result<(), Fail> {
-    let alloc = rt.alloc();
+// The id of one session more, or the refusal.
+fn opened_more(alloc: Global, host: &mut Host, source: &str) -> Result<String, Fail> {
+    match host.open(image_of(alloc, source)?, &Context::new(alloc), DEFAULT) {
+        Ok(id) => Ok(format!(in alloc; "{id}")?),
+        Err((_, refusal)) => Ok(format!(in alloc; "{refusal:?}")?),
+    }
+}
+
+// What a host says of the outcome of a session.
+fn looked_at(alloc: Global, host: &Host, id: u64) -> Result<String, Fail> {
+    match host.outcome(id) {
+        Ok(outcome) => told(alloc, outcome),
+        Err(refusal) => Ok(format!(in alloc; "{refusal:?}")?),
+    }
+}
+
+// What a host answers when it closes a session.
+fn closed(alloc: Global, host: &mut Host, id: u64) -> Result<String, Fail> {
+    match host.close(id) {
+        Ok(outcome) => told(alloc, outcome.as_ref()),
+        Err(refusal) => Ok(format!(in alloc; "{refusal:?}")?),
+    }
+}
+
+// What a host answers to one call: `open x` opens a session of the source `x`, and `turn 1`,
+// `outcome 1` and `close 1` are of the session 1.
+fn answered(alloc: Global, host: &mut Host, call: &str) -> Result<String, Fail> {
+    let (name, of) = call.split_once(" ").ok_or("a call has no session")?;
+    match name {
+        "open" => opened_more(alloc, host, of),
+        "outcome" => looked_at(alloc, host, of.parse::<u64>()?),
+        "close" => closed(alloc, host, of.parse::<u64>()?),
+        _ => {
+            let answer = host.turn(of.parse::<u64>()?, 1);
+            Ok(format!(in alloc; "{answer:?}")?)
+        }
+    }
+}
+
+// What a host answers to the calls of a row, in their order.
+fn all_answered(alloc: Global, host: &mut Host, calls: &str) -> Result<String, Fail> {
+    let mut answers = String::new(alloc);
+    for call in calls.split(", ") {
+        if !answers.is_empty() {
+            answers.push_str(", ")?;
+        }
+        answers.push_str(answered(alloc, host, call)?.as_str())?;
+    }
+    Ok(answers)
+}
+
+// The answers of a host of two sessions, each of which took 200 turns of one instruction.
+fn answered_by_two(alloc: Global, calls: &str) -> Result<String, Fail> {
     let mut host = Host::new(alloc);
     let first = opened(
         alloc,
@@ -67,44 +118,45 @@ fn two_sessions_take_turns(rt: HostRuntime) -> Result<(), Fail> {
         "{% set x = 1 %}{% for i in [1, 2] %}{{ x }}{% set x = 9 %}{% endfor %}{{ x }}",
     )?;
     let second = opened(alloc, &mut host, "{{ nope.x }}")?;
-    assert_eq!(rt; first, 1);
-    assert_eq!(rt; second, 2);
     for _ in 0..200 {
         let _ = host.turn(first, 1);
         let _ = host.turn(second, 1);
     }
-    assert!(rt; host.turn(first, 1) == Ok(Progress::Done));
-    assert!(rt; matches!(host.outcome(second), Ok(Some(Outcome::Fault(_)))));
-    let Ok(first) = host.close(first) else {
-        return Err(Fail::from("close"));
-    };
-    assert_eq!(rt; told(alloc, first)?.as_str(), "text 111");
-    let Ok(second) = host.close(second) else {
-        return Err(Fail::from("close"));
-    };
-    assert_eq!(rt; told(alloc, second)?.as_str(), "fault F2 Undefined");
-    Ok(())
+    all_answered(alloc, &mut host, calls)
+}
+
+#[test]
+fn two_sessions_take_turns(rt: HostRuntime) -> Result<(), Fail> {
+    rows_hold(
+        &rt,
+        answered_by_two,
+        "turn 1, outcome 2, close 1, close 2 => Ok(Done), fault F2 Undefined, text 111, fault F2 Undefined",
+    )
+}
+
+// A host of 64 sessions, with the ids 1 to 64.
+fn full_host(alloc: Global) -> Result<Host, Fail> {
+    let mut host = Host::new(alloc);
+    for wanted in 1..=64u64 {
+        if opened(alloc, &mut host, "x")? != wanted {
+            return Err(Fail::from("another id"));
+        }
+    }
+    Ok(host)
+}
+
+// The answers of a host of 64 sessions.
+fn answered_by_many(alloc: Global, calls: &str) -> Result<String, Fail> {
+    all_answered(alloc, &mut full_host(alloc)?, calls)
 }
 
 #[test]
 fn sixty_four_sessions_are_open(rt: HostRuntime) -> Result<(), Fail> {
-    let alloc = rt.alloc();
-    let mut host = Host::new(alloc);
-    for wanted in 1..=64u64 {
-        assert_eq!(rt; opened(alloc, &mut host, "x")?, wanted);
-    }
-    match host.open(image_of(alloc, "x")?, &Context::new(alloc), DEFAULT) {
-        Ok(_) => return Err(Fail::from("a host of 65 sessions")),
-        Err((_, refusal)) => assert!(rt; refusal == HostError::Full),
-    }
-    let Ok(outcome) = host.close(1) else {
-        return Err(Fail::from("close"));
-    };
-    assert_eq!(rt; told(alloc, outcome)?.as_str(), "none");
-    assert_eq!(rt; opened(alloc, &mut host, "x")?, 65);
-    assert!(rt; host.turn(1, 5) == Err(HostError::NoSession));
-    assert!(rt; matches!(host.outcome(1), Err(HostError::NoSession)));
-    assert!(rt; matches!(host.close(1), Err(HostError::NoSession)));
-    assert!(rt; matches!(host.outcome(2), Ok(None)));
-    Ok(())
+    rows_hold(
+        &rt,
+        answered_by_many,
+        r"open x, close 1, open x => Full, none, 65
+        close 1, open x, turn 1, outcome 1 => none, 65, Err(NoSession), NoSession
+        close 1, open x, close 1, outcome 2 => none, 65, NoSession, none",
+    )
 }

@@ -1,4 +1,4 @@
--- Where sessions that take turns stand in a host. Only private clauses cite it.
+-- What only private clauses cite: where sessions that take turns stand in a host.
 use Rattle.std.specs.Prelude.{◌≡◌, ℕ, ◌+◌, Bool, true, false, List, [], ◌∷◌, ◌++◌, length, Some, is_some, option_to_list}
 use Rattle.std.specs.List.{list_all}
 use Rattle.jt_value.specs.ContextView.{pairs_of}

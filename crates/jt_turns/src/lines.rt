@@ -13,7 +13,8 @@ use std::alloc::{AllocError, Global};
 pub(crate) fn lines(alloc: Global, host: &Host, count: u64) -> Result<String, AllocError>
     requires numbered { IsNumbered count host.now.sessions }
     requires ended { have_ended host.now.sessions ≡ true }
-    ensures { IfOk result (λ text. string_bytes text ≡ session_lines 1 (outcomes host.now.sessions)) }
+    ensures { IfOk result
+        (λ text. string_bytes text ≡ session_lines 1 (outcomes host.now.sessions)) }
 {
     let mut text = String::new(alloc);
     'ids: for before in 0..count {

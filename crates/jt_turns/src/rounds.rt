@@ -28,7 +28,8 @@ fn run_each(host: &mut Host, count: u64, slice: u32) -> Result<bool, HostError>
     requires numbered { IsNumbered count host.old.sessions }
     ensures moved { OnOk result (HaveMoved host.old.sessions host.new.sessions) }
     ensures left { OnOk result (fuel_left host.new.sessions ≤ fuel_left host.old.sessions) }
-    ensures going { IfOk result (λ going. going ≡ true → fuel_left host.new.sessions < fuel_left host.old.sessions) }
+    ensures going { IfOk result
+        (λ going. going ≡ true → fuel_left host.new.sessions < fuel_left host.old.sessions) }
     ensures ended { IfOk result (λ going. going ≡ false → have_ended host.new.sessions ≡ true) }
     ensures err { IfErr result (λ e. e ≡ HostError.NoMemory) }
 {
@@ -43,7 +44,8 @@ fn run_each(host: &mut Host, count: u64, slice: u32) -> Result<bool, HostError>
 
 /// Gives a session a turn, and says whether it goes on still.
 fn turn(host: &mut Host, id: u64, slice: u32) -> Result<bool, HostError>
-    ensures turned { IfOk result (λ goes_on. HadTurn host.old host.new id slice (progress_of goes_on)) }
+    ensures turned { IfOk result
+        (λ goes_on. HadTurn host.old host.new id slice (progress_of goes_on)) }
     ensures refused { IfErr result (TurnRefused id slice host.old host.new) }
 {
     match host.turn(id, slice) {

@@ -50,8 +50,12 @@ pub fn take_turns(
 
 /// Opens the session of an image.
 fn open(host: &mut Host, start: Start, budget: Budget) -> Result<(), HostError>
-    ensures opened { OnOk result ((ss : List Start) → Stands (budget_view budget) ss host.old → Stands (budget_view budget) (ss ++ start ∷ []) host.new) }
-    ensures refused { IfErr result (λ e. (ss : List Start) → Stands (budget_view budget) ss host.old → TakesTurns (budget_view budget) (ss ++ start ∷ []) (Err e)) }
+    ensures opened { OnOk result ((ss : List Start)
+        → Stands (budget_view budget) ss host.old
+        → Stands (budget_view budget) (ss ++ start ∷ []) host.new) }
+    ensures refused { IfErr result (λ e. (ss : List Start)
+        → Stands (budget_view budget) ss host.old
+        → TakesTurns (budget_view budget) (ss ++ start ∷ []) (Err e)) }
 {
     let Start { code, context } = start;
     match host.open(code, &context, budget) {

@@ -19,7 +19,9 @@ use std::collections::BTreeSet;
 /// The different names that a chain reads or binds.
 pub fn own_names(alloc: Global, chain: &Chain, home: usize) -> Result<BTreeSet<&str>, AllocError>
     requires { home < length chain.now.homes.items }
-    ensures { IfOk result (λ s. texts s.keys ≡ ascending (uses.own_names (sources_of (chain_view chain.now)) (home_at (chain_view chain.now).order home))) }
+    ensures { IfOk result (λ s. texts s.keys
+        ≡ ascending (uses.own_names (sources_of (chain_view chain.now))
+        (home_at (chain_view chain.now).order home))) }
 {
     let mut names = BTreeSet::new(alloc);
     let layers = chain.layers(alloc, home)?;
@@ -32,7 +34,9 @@ pub fn own_names(alloc: Global, chain: &Chain, home: usize) -> Result<BTreeSet<&
 /// The different names that the scopes of a chain bind.
 pub fn scope_names(alloc: Global, chain: &Chain, home: usize) -> Result<BTreeSet<&str>, AllocError>
     requires { home < length chain.now.homes.items }
-    ensures { IfOk result (λ s. texts s.keys ≡ uses.scope_names (sources_of (chain_view chain.now)) (home_at (chain_view chain.now).order home)) }
+    ensures { IfOk result (λ s. texts s.keys
+        ≡ uses.scope_names (sources_of (chain_view chain.now))
+        (home_at (chain_view chain.now).order home)) }
 {
     let mut found = Vec::new(alloc);
     let layers = chain.layers(alloc, home)?;

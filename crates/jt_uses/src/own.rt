@@ -35,7 +35,8 @@ pub(crate) fn add_name<'a>(names: &mut BTreeSet<&'a str>, name: &'a str) -> Resu
 #[tactic(auto, using(crate::proofs::Inserted::inserted_both, crate::proofs::Shown::shown_Map, crate::proofs::Shown::shown_Call, crate::proofs::Shown::shown_Filter, crate::proofs::Shown::shown_Test))]
 #[cycle(gather)]
 fn add_expression<'a>(names: &mut BTreeSet<&'a str>, expr: &'a Expr) -> Result<(), AllocError>
-    ensures { IfOk result (λ u. texts names.new.keys ≡ all_inserted (expr_names (expr_view expr.now)) (texts names.old.keys)) }
+    ensures { IfOk result (λ u. texts names.new.keys
+        ≡ all_inserted (expr_names (expr_view expr.now)) (texts names.old.keys)) }
 {
     match expr {
         Expr::Constant(_) => Ok(()),
@@ -82,7 +83,9 @@ fn add_both<'a>(
     first: &'a Expr,
     second: &'a Expr,
 ) -> Result<(), AllocError>
-    ensures { IfOk result (λ u. texts names.new.keys ≡ all_inserted (expr_names (expr_view first.now) ++ expr_names (expr_view second.now)) (texts names.old.keys)) }
+    ensures { IfOk result (λ u. texts names.new.keys
+        ≡ all_inserted (expr_names (expr_view first.now) ++ expr_names (expr_view second.now))
+        (texts names.old.keys)) }
 {
     add_expression(names, first)?;
     add_expression(names, second)?;
@@ -92,7 +95,10 @@ fn add_both<'a>(
 /// Adds the names of what has an attribute; `loop` is none.
 #[cycle(gather)]
 fn add_of_attribute<'a>(names: &mut BTreeSet<&'a str>, value: &'a Expr) -> Result<(), AllocError>
-    ensures { IfOk result (λ u. texts names.new.keys ≡ all_inserted (if is_loop (expr_view value.now) then [] else expr_names (expr_view value.now)) (texts names.old.keys)) }
+    ensures { IfOk result (λ u. texts names.new.keys
+        ≡ all_inserted
+        (if is_loop (expr_view value.now) then [] else expr_names (expr_view value.now))
+        (texts names.old.keys)) }
 {
     if is_loop_name(value) {
         return Ok(());
@@ -103,7 +109,8 @@ fn add_of_attribute<'a>(names: &mut BTreeSet<&'a str>, value: &'a Expr) -> Resul
 /// Adds the names of a row of expressions.
 #[cycle(gather)]
 fn add_row<'a>(names: &mut BTreeSet<&'a str>, row: &'a [Expr]) -> Result<(), AllocError>
-    ensures { IfOk result (λ u. texts names.new.keys ≡ all_inserted (row_names (exprs_view row.now)) (texts names.old.keys)) }
+    ensures { IfOk result (λ u. texts names.new.keys
+        ≡ all_inserted (row_names (exprs_view row.now)) (texts names.old.keys)) }
 {
     for expr in row {
         add_expression(names, expr)?;
@@ -117,7 +124,8 @@ fn add_pairs<'a>(
     names: &mut BTreeSet<&'a str>,
     pairs: &'a [(String, Expr)],
 ) -> Result<(), AllocError>
-    ensures { IfOk result (λ u. texts names.new.keys ≡ all_inserted (pair_names (pairs_view pairs.now)) (texts names.old.keys)) }
+    ensures { IfOk result (λ u. texts names.new.keys
+        ≡ all_inserted (pair_names (pairs_view pairs.now)) (texts names.old.keys)) }
 {
     for (_, value) in pairs {
         add_expression(names, value)?;
@@ -127,7 +135,8 @@ fn add_pairs<'a>(
 
 /// Adds the names of targets.
 fn add_targets<'a>(names: &mut BTreeSet<&'a str>, targets: &'a [String]) -> Result<(), AllocError>
-    ensures { IfOk result (λ u. texts names.new.keys ≡ all_inserted (names_view targets.now) (texts names.old.keys)) }
+    ensures { IfOk result
+        (λ u. texts names.new.keys ≡ all_inserted (names_view targets.now) (texts names.old.keys)) }
 {
     for target in targets {
         add_name(names, target.as_str())?;
@@ -140,7 +149,8 @@ fn add_keywords<'a>(
     names: &mut BTreeSet<&'a str>,
     pairs: &'a [(String, Expr)],
 ) -> Result<(), AllocError>
-    ensures { IfOk result (λ u. texts names.new.keys ≡ all_inserted (keywords (pairs_view pairs.now)) (texts names.old.keys)) }
+    ensures { IfOk result (λ u. texts names.new.keys
+        ≡ all_inserted (keywords (pairs_view pairs.now)) (texts names.old.keys)) }
 {
     for (name, _) in pairs {
         add_name(names, name.as_str())?;
@@ -153,7 +163,9 @@ fn add_parameters<'a>(
     names: &mut BTreeSet<&'a str>,
     parameters: &'a [Parameter],
 ) -> Result<(), AllocError>
-    ensures { IfOk result (λ u. texts names.new.keys ≡ all_inserted (map (λ p. p.name) (parameters_view parameters.now)) (texts names.old.keys)) }
+    ensures { IfOk result (λ u. texts names.new.keys
+        ≡ all_inserted (map (λ p. p.name) (parameters_view parameters.now))
+        (texts names.old.keys)) }
 {
     for parameter in parameters {
         add_name(names, parameter.name.as_str())?;
@@ -166,7 +178,9 @@ fn add_condition<'a>(
     names: &mut BTreeSet<&'a str>,
     condition: &'a Option<Expr>,
 ) -> Result<(), AllocError>
-    ensures { IfOk result (λ u. texts names.new.keys ≡ all_inserted (condition_names (option_map expr_view condition.now)) (texts names.old.keys)) }
+    ensures { IfOk result (λ u. texts names.new.keys
+        ≡ all_inserted (condition_names (option_map expr_view condition.now))
+        (texts names.old.keys)) }
 {
     match condition {
         Some(condition) => add_expression(names, condition),
@@ -180,7 +194,8 @@ fn add_filterings<'a>(
     names: &mut BTreeSet<&'a str>,
     filterings: &'a [Filtering],
 ) -> Result<(), AllocError>
-    ensures { IfOk result (λ u. texts names.new.keys ≡ all_inserted (filtering_names (filterings_view filterings.now)) (texts names.old.keys)) }
+    ensures { IfOk result (λ u. texts names.new.keys
+        ≡ all_inserted (filtering_names (filterings_view filterings.now)) (texts names.old.keys)) }
 {
     for filtering in filterings {
         add_row(names, &filtering.arguments)?;
@@ -197,7 +212,10 @@ fn add_head<'a>(
     targets: &'a [String],
     condition: &'a Option<Expr>,
 ) -> Result<(), AllocError>
-    ensures { IfOk result (λ u. texts names.new.keys ≡ all_inserted (expr_names (expr_view items.now) ++ (names_view targets.now ++ condition_names (option_map expr_view condition.now))) (texts names.old.keys)) }
+    ensures { IfOk result (λ u. texts names.new.keys
+        ≡ all_inserted (expr_names (expr_view items.now)
+        ++ (names_view targets.now ++ condition_names (option_map expr_view condition.now)))
+        (texts names.old.keys)) }
 {
     add_expression(names, items)?;
     add_targets(names, targets)?;
@@ -212,7 +230,9 @@ fn add_set<'a>(
     targets: &'a [String],
     value: &'a Expr,
 ) -> Result<(), AllocError>
-    ensures { IfOk result (λ u. texts names.new.keys ≡ all_inserted (expr_names (expr_view value.now) ++ names_view targets.now) (texts names.old.keys)) }
+    ensures { IfOk result (λ u. texts names.new.keys
+        ≡ all_inserted (expr_names (expr_view value.now) ++ names_view targets.now)
+        (texts names.old.keys)) }
 {
     add_expression(names, value)?;
     add_targets(names, targets)?;
@@ -225,7 +245,8 @@ fn add_branches<'a>(
     names: &mut BTreeSet<&'a str>,
     branches: &'a [(u32, Expr, Vec<Stmt>)],
 ) -> Result<(), AllocError>
-    ensures { IfOk result (λ u. texts names.new.keys ≡ all_inserted (branch_names (branches_view branches.now)) (texts names.old.keys)) }
+    ensures { IfOk result (λ u. texts names.new.keys
+        ≡ all_inserted (branch_names (branches_view branches.now)) (texts names.old.keys)) }
 {
     for (_, condition, body) in branches {
         add_expression(names, condition)?;
@@ -238,7 +259,8 @@ fn add_branches<'a>(
 #[tactic(auto, using(crate::proofs::Inserted::inserted_both, crate::proofs::Shown::shown_For, crate::proofs::Shown::shown_Set, crate::proofs::Shown::shown_With, crate::proofs::Shown::shown_FilterBlock, crate::proofs::Shown::shown_Macro))]
 #[cycle(add)]
 fn add_statement<'a>(names: &mut BTreeSet<&'a str>, statement: &'a Stmt) -> Result<(), AllocError>
-    ensures { IfOk result (λ u. texts names.new.keys ≡ all_inserted (stmt_names (stmt_view statement.now)) (texts names.old.keys)) }
+    ensures { IfOk result (λ u. texts names.new.keys
+        ≡ all_inserted (stmt_names (stmt_view statement.now)) (texts names.old.keys)) }
 {
     match statement {
         Stmt::Data(_) | Stmt::Include(..) | Stmt::Extends(..) => Ok(()),
@@ -287,7 +309,8 @@ pub(crate) fn add_statements<'a>(
     names: &mut BTreeSet<&'a str>,
     body: &'a [Stmt],
 ) -> Result<(), AllocError>
-    ensures { IfOk result (λ u. texts names.new.keys ≡ all_inserted (body_names (body_view body.now)) (texts names.old.keys)) }
+    ensures { IfOk result (λ u. texts names.new.keys
+        ≡ all_inserted (body_names (body_view body.now)) (texts names.old.keys)) }
 {
     for statement in body {
         add_statement(names, statement)?;

@@ -13,7 +13,8 @@ use std::alloc::AllocError;
 
 /// Adds the keys of pairs.
 fn add_keys<'a>(found: &mut Vec<&'a str>, pairs: &'a [(String, Expr)]) -> Result<(), AllocError>
-    ensures { IfOk result (λ _. texts found.new.items ≡ texts found.old.items ++ keywords (pairs_view pairs.now)) }
+    ensures { IfOk result
+        (λ _. texts found.new.items ≡ texts found.old.items ++ keywords (pairs_view pairs.now)) }
 {
     for (name, _) in pairs {
         found.push(name.as_str())?;
@@ -26,7 +27,8 @@ fn add_parameters<'a>(
     found: &mut Vec<&'a str>,
     parameters: &'a [Parameter],
 ) -> Result<(), AllocError>
-    ensures { IfOk result (λ _. texts found.new.items ≡ texts found.old.items ++ map (λ p. p.name) (parameters_view parameters.now)) }
+    ensures { IfOk result (λ _. texts found.new.items
+        ≡ texts found.old.items ++ map (λ p. p.name) (parameters_view parameters.now)) }
 {
     for parameter in parameters {
         found.push(parameter.name.as_str())?;
@@ -37,7 +39,8 @@ fn add_parameters<'a>(
 /// Adds the names that the scopes in statements bind.
 #[cycle(scopes)]
 pub(crate) fn add_scopes<'a>(found: &mut Vec<&'a str>, body: &'a [Stmt]) -> Result<(), AllocError>
-    ensures { IfOk result (λ _. texts found.new.items ≡ texts found.old.items ++ scope_names_in (body_view body.now)) }
+    ensures { IfOk result (λ _.
+        texts found.new.items ≡ texts found.old.items ++ scope_names_in (body_view body.now)) }
 {
     for statement in body {
         add_scope(found, statement)?;
@@ -48,7 +51,9 @@ pub(crate) fn add_scopes<'a>(found: &mut Vec<&'a str>, body: &'a [Stmt]) -> Resu
 /// Adds what a scope of its own sets, and the names that the scopes in it bind.
 #[cycle(scopes)]
 fn add_inside<'a>(found: &mut Vec<&'a str>, body: &'a [Stmt]) -> Result<(), AllocError>
-    ensures { IfOk result (λ _. texts found.new.items ≡ texts found.old.items ++ (set_in (body_view body.now) ++ scope_names_in (body_view body.now))) }
+    ensures { IfOk result (λ _. texts found.new.items
+        ≡ texts found.old.items
+        ++ (set_in (body_view body.now) ++ scope_names_in (body_view body.now))) }
 {
     add_sets(found, body)?;
     add_scopes(found, body)?;
@@ -58,7 +63,8 @@ fn add_inside<'a>(found: &mut Vec<&'a str>, body: &'a [Stmt]) -> Result<(), Allo
 /// Adds those of one statement.
 #[cycle(scopes)]
 fn add_scope<'a>(found: &mut Vec<&'a str>, statement: &'a Stmt) -> Result<(), AllocError>
-    ensures { IfOk result (λ _. texts found.new.items ≡ texts found.old.items ++ scope_names_by (stmt_view statement.now)) }
+    ensures { IfOk result (λ _.
+        texts found.new.items ≡ texts found.old.items ++ scope_names_by (stmt_view statement.now)) }
 {
     match statement {
         Stmt::If(branches, other) => {

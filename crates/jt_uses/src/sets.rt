@@ -13,7 +13,8 @@ pub(crate) fn add_targets<'a>(
     found: &mut Vec<&'a str>,
     targets: &'a [String],
 ) -> Result<(), AllocError>
-    ensures { IfOk result (λ _. texts found.new.items ≡ texts found.old.items ++ names_view targets.now) }
+    ensures { IfOk result
+        (λ _. texts found.new.items ≡ texts found.old.items ++ names_view targets.now) }
 {
     for target in targets {
         found.push(target.as_str())?;
@@ -24,7 +25,8 @@ pub(crate) fn add_targets<'a>(
 /// Adds the names that statements set in their scope.
 #[cycle(sets)]
 pub(crate) fn add_sets<'a>(found: &mut Vec<&'a str>, body: &'a [Stmt]) -> Result<(), AllocError>
-    ensures { IfOk result (λ _. texts found.new.items ≡ texts found.old.items ++ set_in (body_view body.now)) }
+    ensures { IfOk result
+        (λ _. texts found.new.items ≡ texts found.old.items ++ set_in (body_view body.now)) }
 {
     for statement in body {
         add_set(found, statement)?;
@@ -35,7 +37,8 @@ pub(crate) fn add_sets<'a>(found: &mut Vec<&'a str>, body: &'a [Stmt]) -> Result
 /// Adds those of one statement.
 #[cycle(sets)]
 fn add_set<'a>(found: &mut Vec<&'a str>, statement: &'a Stmt) -> Result<(), AllocError>
-    ensures { IfOk result (λ _. texts found.new.items ≡ texts found.old.items ++ set_by (stmt_view statement.now)) }
+    ensures { IfOk result
+        (λ _. texts found.new.items ≡ texts found.old.items ++ set_by (stmt_view statement.now)) }
 {
     match statement {
         Stmt::Set(_, targets, _) => add_targets(found, targets),

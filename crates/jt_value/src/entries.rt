@@ -31,7 +31,8 @@ pub fn has(entries: &[(String, Value)], key: &str) -> bool
 
 /// Whether the entries have each key of the others.
 pub fn has_all_keys(entries: &[(String, Value)], others: &[(String, Value)]) -> bool
-    ensures { result ≡ all_keys (λ k. has_key k (entries_view entries.now)) (entries_view others.now) }
+    ensures { result
+        ≡ all_keys (λ k. has_key k (entries_view entries.now)) (entries_view others.now) }
 {
     for other in others {
         if !has(entries, other.0.as_str()) {

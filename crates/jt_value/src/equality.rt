@@ -15,7 +15,10 @@ impl Value {
     /// item, maps by their keys' first values in any order; none equals none, and undefined undefined.
     pub fn equals(&self, other: &Value) -> bool
         ensures value { result ≡ equal (view self.now) (view other.now) }
-        ensures maps { (es fs : Entries) → view self.now ≡ tree.map es → view other.now ≡ tree.map fs → IsTrue result ↔ AgreeAtEachKey es fs }
+        ensures maps { (es fs : Entries)
+            → view self.now ≡ tree.map es
+            → view other.now ≡ tree.map fs
+            → IsTrue result ↔ AgreeAtEachKey es fs }
     {
         are_equal(self, other)
     }
@@ -91,7 +94,8 @@ fn are_items_equal(items: &[Value], others: &[Value]) -> bool
 
 #[cycle(equality)]
 fn are_maps_equal(entries: &[(String, Value)], others: &[(String, Value)]) -> bool
-    ensures { result ≡ equal (tree.map (entries_view entries.now)) (tree.map (entries_view others.now)) }
+    ensures { result
+        ≡ equal (tree.map (entries_view entries.now)) (tree.map (entries_view others.now)) }
 {
     if have_same_keys(entries, others) {
         return are_values_equal_in_place(entries, others);
@@ -103,7 +107,10 @@ fn are_maps_equal(entries: &[(String, Value)], others: &[(String, Value)]) -> bo
 #[cycle(equality)]
 fn are_values_equal_in_place(entries: &[(String, Value)], others: &[(String, Value)]) -> bool
     requires { same_keys (entries_view entries.now) (entries_view others.now) ≡ true }
-    ensures { result ≡ all_keys (λ k. equal_at (entries_view entries.now) k (entry_of k (entries_view others.now))) (entries_view entries.now) }
+    ensures { result
+        ≡ all_keys
+        (λ k. equal_at (entries_view entries.now) k (entry_of k (entries_view others.now)))
+        (entries_view entries.now) }
 {
     let mut index = 0;
     for (key, value) in entries {
@@ -118,7 +125,10 @@ fn are_values_equal_in_place(entries: &[(String, Value)], others: &[(String, Val
 /// Whether the first value of each key of the entries equals that key's first value in the others.
 #[cycle(equality)]
 fn are_first_values_equal(entries: &[(String, Value)], others: &[(String, Value)]) -> bool
-    ensures { result ≡ all_keys (λ k. equal_at (entries_view entries.now) k (entry_of k (entries_view others.now))) (entries_view entries.now) }
+    ensures { result
+        ≡ all_keys
+        (λ k. equal_at (entries_view entries.now) k (entry_of k (entries_view others.now)))
+        (entries_view entries.now) }
 {
     let mut index = 0;
     for (key, value) in entries {
@@ -134,7 +144,9 @@ fn are_first_values_equal(entries: &[(String, Value)], others: &[(String, Value)
 /// Whether the value equals the first value of the key.
 #[cycle(equality)]
 fn is_first_value(value: &Value, key: &str, entries: &[(String, Value)]) -> bool
-    ensures { result ≡ option_map_or (equal (view value.now)) (entry_of key.now (entries_view entries.now)) false }
+    ensures { result
+        ≡ option_map_or (equal (view value.now)) (entry_of key.now (entries_view entries.now))
+        false }
 {
     match first_value(entries, key) {
         Some(first) => are_equal(value, first),

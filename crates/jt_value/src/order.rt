@@ -17,7 +17,10 @@ impl Value {
     /// For all other operands `Undefined` if one of them is undefined, else `BadType`.
     pub fn compare(&self, other: &Value) -> Result<Ordering, Fault>
         ensures value { result ≡ order (view self.now) (view other.now) }
-        ensures code_points { (cs ds : List ℕ) → Spells cs (view self.now) → Spells ds (view other.now) → result ≡ Ok (slice_cmp nat_cmp cs ds) }
+        ensures code_points { (cs ds : List ℕ)
+            → Spells cs (view self.now)
+            → Spells ds (view other.now)
+            → result ≡ Ok (slice_cmp nat_cmp cs ds) }
     {
         ordering_of(self, other)
     }

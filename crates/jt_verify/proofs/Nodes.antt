@@ -155,9 +155,11 @@ module _ (ns : List Node) (ls : List ℕ) (a : IsArena ns ls) where
   pub pops_nothing : (h : Handle) (n : ℕ) → h.values < n → h.node ≡ 0 → (go : Shape → Result Leads Flaw) → pops_many n (shape_in (lists_of ns) h) go ≡ Err flaw.MissingOperand
   pops_nothing h n l z = pops_too_many n h.values (get_or (lists_of ns) h.node []) flaw.MissingOperand l (λ go. ap (λ (s : Shape). pops s go) (at_bottom h z))
 
-  pub pops_a_mark : (h : Handle) (n : ℕ) (x : Node) → h.values < n → 0 < h.node → slice_get ns (h.node - 1) ≡ Some x → (go : Shape → Result Leads Flaw) → pops_many n (shape_in (lists_of ns) h) go ≡ Err flaw.WrongKind
-  pops_a_mark h n x l some is =
-      let k = node_is h.node x some is in
+  pub pops_a_mark : (h : Handle) (n : ℕ) → h.values < n → 0 < h.node → IsIn (lists_of ns) h → (go : Shape → Result Leads Flaw) → pops_many n (shape_in (lists_of ns) h) go ≡ Err flaw.WrongKind
+  pops_a_mark h n l some within =
+      let found = some_node ns (h.node - 1) (omega (arith, a.len)) in
+      let x = found.0 in
+      let k = node_is h.node x some found.1 in
       pops_too_many n h.values (get_or (lists_of ns) h.node []) flaw.WrongKind l (λ go. ap (λ (s : Shape). pops s go) k.0 ∙ wrong x.mark (shape_in (lists_of ns) x.below) go)
     where
       wrong : (m : Mark) (s : Shape) (go : Shape → Result Leads Flaw) → pops (kind_of m ∷ s) go ≡ Err flaw.WrongKind

@@ -59,8 +59,10 @@ impl Arena {
     pub(crate) fn is_equal(&self, left: Handle, right: Handle) -> bool
         requires left { IsIn self.now left }
         requires right { IsIn self.now right }
-        ensures { MatchBool result (shape_in self.now left ≡ shape_in self.now right) (shape_in self.now left ≢ shape_in self.now right) }
+        ensures { MatchBool result (shape_in self.now left ≡ shape_in self.now right)
+            (shape_in self.now left ≢ shape_in self.now right) }
     {
+        // Only read, so that the arena's law is known here.
         let _nodes = &self.nodes;
         is_same(left, right)
     }
@@ -92,7 +94,8 @@ impl Arena {
         requires { IsIn self.now shape }
         ensures { PopsMany self.now count (shape_in self.now shape) result }
     {
-        let nodes = self.nodes.as_slice();
+        // Only read, so that the arena's law is known here.
+        let _nodes = &self.nodes;
         if count <= shape.values as usize {
             return Ok(Handle {
                 values: shape.values - count as u32,
@@ -102,7 +105,6 @@ impl Arena {
         if shape.node == 0 {
             return Err(Flaw::MissingOperand);
         }
-        let _node = node_at(nodes, shape.node);
         Err(Flaw::WrongKind)
     }
 
@@ -156,7 +158,8 @@ impl Arena {
     pub(crate) fn push(&mut self, shape: Handle, mark: Mark) -> Result<Handle, AllocError>
         requires within { IsIn self.old shape }
         requires small { length (shape_in self.old shape) < max_entries }
-        ensures shape { IfOk result (λ h. shape_in self.new h ≡ kind_of mark ∷ shape_in self.old shape) }
+        ensures shape { IfOk result
+            (λ h. shape_in self.new h ≡ kind_of mark ∷ shape_in self.old shape) }
         ensures within { IfOk result (λ h. IsIn self.new h) }
         ensures kept { IsKept self.old self.new }
     {
@@ -179,7 +182,8 @@ fn push_in(
     requires height { height ≡ length (shape_in (lists_of nodes.old.items) shape) + 1 }
     ensures arena { IsArena nodes.new.items links.new.items }
     ensures kept { IsKept (lists_of nodes.old.items) (lists_of nodes.new.items) }
-    ensures node { IfOk result (λ k. StandsFor (lists_of nodes.new.items) k (kind_of mark ∷ shape_in (lists_of nodes.old.items) shape)) }
+    ensures node { IfOk result (λ k. StandsFor (lists_of nodes.new.items) k
+        (kind_of mark ∷ shape_in (lists_of nodes.old.items) shape)) }
 {
     match find(
         nodes.as_slice(),
@@ -215,8 +219,10 @@ fn add(
     requires { place < length links.old.items }
     ensures node { IfOk result (λ k. k ≡ length nodes.old.items + 1) }
     ensures nodes { OnOk result (nodes.new.items ≡ nodes.old.items ++ added ∷ []) }
-    ensures links { IfOk result (λ k. links.new.items ≡ slice_set (links.old.items ++ 0 ∷ 0 ∷ 0 ∷ []) place k) }
-    ensures err { OnErr result ((nodes.new.items ≡ nodes.old.items) × (links.new.items ≡ links.old.items)) }
+    ensures links { IfOk result
+        (λ k. links.new.items ≡ slice_set (links.old.items ++ 0 ∷ 0 ∷ 0 ∷ []) place k) }
+    ensures err { OnErr result
+        ((nodes.new.items ≡ nodes.old.items) × (links.new.items ≡ links.old.items)) }
 {
     let Ok(last) = u32::try_from(nodes.len()) else {
         return Err(AllocError);

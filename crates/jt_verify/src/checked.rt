@@ -71,10 +71,7 @@ fn accept<C: Code>(alloc: Global, code: C) -> Result<Checked<C>, (C, Refusal)>
     ensures exact { IfErr result (λ e. IsTyped (C.code code) → e.1 ≡ Refusal.NoMemory) }
 {
     match verify_code(alloc, &code) {
-        Ok(()) => {
-            let _units = code.units();
-            Ok(Checked { inner: code })
-        }
+        Ok(()) => Ok(Checked { inner: code }),
         Err(refusal) => Err((code, refusal)),
     }
 }

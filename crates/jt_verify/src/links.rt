@@ -140,7 +140,8 @@ fn link_at(links: &[u32], place: usize) -> u32
 
 // Whether a node is this mark on this handle.
 fn is_entry(node: Node, mark: Mark, below: Handle) -> bool
-    ensures { MatchBool result ((node.mark ≡ mark) × (node.below ≡ below)) (node.mark ≡ mark → node.below ≢ below) }
+    ensures { MatchBool result ((node.mark ≡ mark) × (node.below ≡ below))
+        (node.mark ≡ mark → node.below ≢ below) }
 {
     is_same_mark(node.mark, mark) && is_same(node.below, below)
 }

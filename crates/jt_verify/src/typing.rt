@@ -114,7 +114,10 @@ fn push_value(arena: &Arena, shape: Handle) -> Handle
 // To the next instruction.
 fn goes_on(header: &UnitHeader, point: usize, shape: Handle) -> Result<Outcome, EffectError>
     requires { point < header.now.instructions }
-    ensures gives { (u : Section) → header.now ≡ header_of u → (t : Lists) → EffectGives t result (goes_on_of u point (shape_in t shape)) }
+    ensures gives { (u : Section)
+        → header.now ≡ header_of u
+        → (t : Lists)
+        → EffectGives t result (goes_on_of u point (shape_in t shape)) }
     ensures within { IfOk result (λ e. AreWithin header.now.instructions e.leads) }
     ensures plain { IfOk result (λ e. (e.shape ≡ shape) × (e.mark ≡ None)) }
 {
@@ -155,9 +158,13 @@ fn opens(
 ) -> Result<Outcome, EffectError>
     requires point { point < header.now.instructions }
     requires within { IsIn arena.now shape }
-    ensures gives { (u : Section) → header.now ≡ header_of u → EffectGives arena.now result (goes_on_of u point (kind_of mark ∷ shape_in arena.now shape)) }
+    ensures gives { (u : Section)
+        → header.now ≡ header_of u
+        → EffectGives arena.now result
+        (goes_on_of u point (kind_of mark ∷ shape_in arena.now shape)) }
     ensures within { IfOk result (λ e. AreWithin header.now.instructions e.leads) }
-    ensures small { IfOk result (λ e. (e.shape ≡ shape) × (length (shape_in arena.now e.shape) < max_entries)) }
+    ensures small { IfOk result
+        (λ e. (e.shape ≡ shape) × (length (shape_in arena.now e.shape) < max_entries)) }
 {
     let instructions = header.instructions;
     if point + 1 >= instructions {
@@ -176,7 +183,10 @@ fn opens(
 
 // To the target of a jump.
 fn jumps(header: &UnitHeader, target: u32, shape: Handle) -> Result<Outcome, EffectError>
-    ensures gives { (u : Section) → header.now ≡ header_of u → (t : Lists) → EffectGives t result (jumps_of u target (shape_in t shape)) }
+    ensures gives { (u : Section)
+        → header.now ≡ header_of u
+        → (t : Lists)
+        → EffectGives t result (jumps_of u target (shape_in t shape)) }
     ensures within { IfOk result (λ e. AreWithin header.now.instructions e.leads) }
     ensures plain { IfOk result (λ e. (e.shape ≡ shape) × (e.mark ≡ None)) }
 {
@@ -202,7 +212,10 @@ fn branches(
     shape: Handle,
 ) -> Result<Outcome, EffectError>
     requires { point < header.now.instructions }
-    ensures gives { (u : Section) → header.now ≡ header_of u → (t : Lists) → EffectGives t result (branches_of u point target (shape_in t shape)) }
+    ensures gives { (u : Section)
+        → header.now ≡ header_of u
+        → (t : Lists)
+        → EffectGives t result (branches_of u point target (shape_in t shape)) }
     ensures within { IfOk result (λ e. AreWithin header.now.instructions e.leads) }
     ensures plain { IfOk result (λ e. (e.shape ≡ shape) × (e.mark ≡ None)) }
 {
@@ -228,7 +241,10 @@ fn makes(at: At<'_>, count: usize) -> Result<Outcome, EffectError>
     requires point { at.point < at.header.now.instructions }
     requires within { IsIn at.arena.now at.shape }
     requires small { length (shape_in at.arena.now at.shape) ≤ max_entries }
-    ensures gives { (u : Section) → at.entry.header.now ≡ header_of u → EffectGives at.entry.arena.now result (makes_of u at.entry.point count (shape_in at.entry.arena.now at.entry.shape)) }
+    ensures gives { (u : Section)
+        → at.entry.header.now ≡ header_of u
+        → EffectGives at.entry.arena.now result
+        (makes_of u at.entry.point count (shape_in at.entry.arena.now at.entry.shape)) }
     ensures within { IfOk result (λ e. AreWithin at.entry.header.now.instructions e.leads) }
     ensures plain { IfOk result (λ e. IsIn at.entry.arena.now e.shape × (e.mark ≡ None)) }
 {
@@ -246,7 +262,10 @@ fn spreads(
 ) -> Result<Outcome, EffectError>
     requires point { point < header.now.instructions }
     requires within { IsIn arena.now shape }
-    ensures gives { (u : Section) → header.now ≡ header_of u → EffectGives arena.now result (goes_on_of u point (pushes count (shape_in arena.now shape))) }
+    ensures gives { (u : Section)
+        → header.now ≡ header_of u
+        → EffectGives arena.now result
+        (goes_on_of u point (pushes count (shape_in arena.now shape))) }
     ensures within { IfOk result (λ e. AreWithin header.now.instructions e.leads) }
     ensures plain { IfOk result (λ e. IsIn arena.now e.shape × (e.mark ≡ None)) }
 {
@@ -276,7 +295,10 @@ fn calls<C: Code>(code: &C, at: At<'_>, unit: u32) -> Result<Outcome, EffectErro
     requires point { at.point < at.header.now.instructions }
     requires within { IsIn at.arena.now at.shape }
     requires small { length (shape_in at.arena.now at.shape) ≤ max_entries }
-    ensures gives { (u : Section) → at.entry.header.now ≡ header_of u → EffectGives at.entry.arena.now result (calls_of u at.entry.point (slice_get (C.code code.now).units unit) (shape_in at.entry.arena.now at.entry.shape)) }
+    ensures gives { (u : Section)
+        → at.entry.header.now ≡ header_of u
+        → EffectGives at.entry.arena.now result (calls_of u at.entry.point
+        (slice_get (C.code code.now).units unit) (shape_in at.entry.arena.now at.entry.shape)) }
     ensures within { IfOk result (λ e. AreWithin at.entry.header.now.instructions e.leads) }
     ensures plain { IfOk result (λ e. IsIn at.entry.arena.now e.shape × (e.mark ≡ None)) }
 {
@@ -292,25 +314,12 @@ fn calls<C: Code>(code: &C, at: At<'_>, unit: u32) -> Result<Outcome, EffectErro
     goes_on(at.header, at.point, push_value(at.arena, below))
 }
 
-// How many operands an operator takes.
-fn operands(operator: OpId) -> usize
-    ensures { result ≡ op_operands operator }
-{
-    if operator.takes(1) {
-        1
-    } else if operator.takes(2) {
-        2
-    } else {
-        3
-    }
-}
-
 // How many operands the operator of an id takes, if there is one.
 fn operands_of(operator: u8) -> Option<usize>
     ensures { result ≡ option_map op_operands (operator_of operator) }
 {
     match OpId::by_id(operator) {
-        Some(operator) => Some(operands(operator)),
+        Some(operator) => Some(operator.operands()),
         None => None,
     }
 }
@@ -378,7 +387,10 @@ fn loads(at: At<'_>, there: bool) -> Result<Outcome, EffectError>
     requires point { at.point < at.header.now.instructions }
     requires within { IsIn at.arena.now at.shape }
     requires small { length (shape_in at.arena.now at.shape) ≤ max_entries }
-    ensures gives { (u : Section) → at.entry.header.now ≡ header_of u → EffectGives at.entry.arena.now result (require there flaw.BadIndex (goes_on_of u at.entry.point (kind.Value ∷ shape_in at.entry.arena.now at.entry.shape))) }
+    ensures gives { (u : Section)
+        → at.entry.header.now ≡ header_of u
+        → EffectGives at.entry.arena.now result (require there flaw.BadIndex
+        (goes_on_of u at.entry.point (kind.Value ∷ shape_in at.entry.arena.now at.entry.shape))) }
     ensures within { IfOk result (λ e. AreWithin at.entry.header.now.instructions e.leads) }
     ensures plain { IfOk result (λ e. IsIn at.entry.arena.now e.shape × (e.mark ≡ None)) }
 {
@@ -392,7 +404,10 @@ fn loads(at: At<'_>, there: bool) -> Result<Outcome, EffectError>
 fn stores(at: At<'_>, there: bool) -> Result<Outcome, EffectError>
     requires point { at.point < at.header.now.instructions }
     requires within { IsIn at.arena.now at.shape }
-    ensures gives { (u : Section) → at.entry.header.now ≡ header_of u → EffectGives at.entry.arena.now result (require there flaw.BadIndex (pops (shape_in at.entry.arena.now at.entry.shape) (λ r. goes_on_of u at.entry.point r))) }
+    ensures gives { (u : Section)
+        → at.entry.header.now ≡ header_of u
+        → EffectGives at.entry.arena.now result (require there flaw.BadIndex
+        (pops (shape_in at.entry.arena.now at.entry.shape) (λ r. goes_on_of u at.entry.point r))) }
     ensures within { IfOk result (λ e. AreWithin at.entry.header.now.instructions e.leads) }
     ensures plain { IfOk result (λ e. IsIn at.entry.arena.now e.shape × (e.mark ≡ None)) }
 {
@@ -406,7 +421,10 @@ fn stores(at: At<'_>, there: bool) -> Result<Outcome, EffectError>
 fn stays(at: At<'_>, there: bool) -> Result<Outcome, EffectError>
     requires point { at.point < at.header.now.instructions }
     requires within { IsIn at.arena.now at.shape }
-    ensures gives { (u : Section) → at.entry.header.now ≡ header_of u → EffectGives at.entry.arena.now result (require there flaw.BadIndex (goes_on_of u at.entry.point (shape_in at.entry.arena.now at.entry.shape))) }
+    ensures gives { (u : Section)
+        → at.entry.header.now ≡ header_of u
+        → EffectGives at.entry.arena.now result (require there flaw.BadIndex
+        (goes_on_of u at.entry.point (shape_in at.entry.arena.now at.entry.shape))) }
     ensures within { IfOk result (λ e. AreWithin at.entry.header.now.instructions e.leads) }
     ensures plain { IfOk result (λ e. IsIn at.entry.arena.now e.shape × (e.mark ≡ None)) }
 {
@@ -421,7 +439,10 @@ fn copies(at: At<'_>) -> Result<Outcome, EffectError>
     requires point { at.point < at.header.now.instructions }
     requires within { IsIn at.arena.now at.shape }
     requires small { length (shape_in at.arena.now at.shape) ≤ max_entries }
-    ensures gives { (u : Section) → at.entry.header.now ≡ header_of u → EffectGives at.entry.arena.now result (pops (shape_in at.entry.arena.now at.entry.shape) (λ r. goes_on_of u at.entry.point (kind.Value ∷ kind.Value ∷ r))) }
+    ensures gives { (u : Section)
+        → at.entry.header.now ≡ header_of u
+        → EffectGives at.entry.arena.now result (pops (shape_in at.entry.arena.now at.entry.shape)
+        (λ r. goes_on_of u at.entry.point (kind.Value ∷ kind.Value ∷ r))) }
     ensures within { IfOk result (λ e. AreWithin at.entry.header.now.instructions e.leads) }
     ensures plain { IfOk result (λ e. IsIn at.entry.arena.now e.shape × (e.mark ≡ None)) }
 {
@@ -433,7 +454,10 @@ fn copies(at: At<'_>) -> Result<Outcome, EffectError>
 fn tests(at: At<'_>, target: u32) -> Result<Outcome, EffectError>
     requires point { at.point < at.header.now.instructions }
     requires within { IsIn at.arena.now at.shape }
-    ensures gives { (u : Section) → at.entry.header.now ≡ header_of u → EffectGives at.entry.arena.now result (pops (shape_in at.entry.arena.now at.entry.shape) (λ r. branches_of u at.entry.point target r)) }
+    ensures gives { (u : Section)
+        → at.entry.header.now ≡ header_of u
+        → EffectGives at.entry.arena.now result (pops (shape_in at.entry.arena.now at.entry.shape)
+        (λ r. branches_of u at.entry.point target r)) }
     ensures within { IfOk result (λ e. AreWithin at.entry.header.now.instructions e.leads) }
     ensures plain { IfOk result (λ e. IsIn at.entry.arena.now e.shape × (e.mark ≡ None)) }
 {
@@ -446,7 +470,11 @@ fn operates(at: At<'_>, operator: u8) -> Result<Outcome, EffectError>
     requires point { at.point < at.header.now.instructions }
     requires within { IsIn at.arena.now at.shape }
     requires small { length (shape_in at.arena.now at.shape) ≤ max_entries }
-    ensures gives { (u : Section) → at.entry.header.now ≡ header_of u → EffectGives at.entry.arena.now result (require (is_some (operator_of operator)) flaw.BadIndex (makes_of u at.entry.point (operands_in (operator_of operator)) (shape_in at.entry.arena.now at.entry.shape))) }
+    ensures gives { (u : Section)
+        → at.entry.header.now ≡ header_of u
+        → EffectGives at.entry.arena.now result (require (is_some (operator_of operator))
+        flaw.BadIndex (makes_of u at.entry.point (operands_in (operator_of operator))
+        (shape_in at.entry.arena.now at.entry.shape))) }
     ensures within { IfOk result (λ e. AreWithin at.entry.header.now.instructions e.leads) }
     ensures plain { IfOk result (λ e. IsIn at.entry.arena.now e.shape × (e.mark ≡ None)) }
 {
@@ -461,7 +489,10 @@ fn makes_by(at: At<'_>, there: bool, count: u16) -> Result<Outcome, EffectError>
     requires point { at.point < at.header.now.instructions }
     requires within { IsIn at.arena.now at.shape }
     requires small { length (shape_in at.arena.now at.shape) ≤ max_entries }
-    ensures gives { (u : Section) → at.entry.header.now ≡ header_of u → EffectGives at.entry.arena.now result (require there flaw.BadIndex (makes_of u at.entry.point count (shape_in at.entry.arena.now at.entry.shape))) }
+    ensures gives { (u : Section)
+        → at.entry.header.now ≡ header_of u
+        → EffectGives at.entry.arena.now result (require there flaw.BadIndex
+        (makes_of u at.entry.point count (shape_in at.entry.arena.now at.entry.shape))) }
     ensures within { IfOk result (λ e. AreWithin at.entry.header.now.instructions e.leads) }
     ensures plain { IfOk result (λ e. IsIn at.entry.arena.now e.shape × (e.mark ≡ None)) }
 {
@@ -475,9 +506,13 @@ fn makes_by(at: At<'_>, there: bool, count: u16) -> Result<Outcome, EffectError>
 fn starts(at: At<'_>) -> Result<Outcome, EffectError>
     requires point { at.point < at.header.now.instructions }
     requires within { IsIn at.arena.now at.shape }
-    ensures gives { (u : Section) → at.entry.header.now ≡ header_of u → EffectGives at.entry.arena.now result (pops (shape_in at.entry.arena.now at.entry.shape) (λ r. goes_on_of u at.entry.point (kind.Frame ∷ r))) }
+    ensures gives { (u : Section)
+        → at.entry.header.now ≡ header_of u
+        → EffectGives at.entry.arena.now result (pops (shape_in at.entry.arena.now at.entry.shape)
+        (λ r. goes_on_of u at.entry.point (kind.Frame ∷ r))) }
     ensures within { IfOk result (λ e. AreWithin at.entry.header.now.instructions e.leads) }
-    ensures small { IfOk result (λ e. IsIn at.entry.arena.now e.shape × (length (shape_in at.entry.arena.now e.shape) < max_entries)) }
+    ensures small { IfOk result (λ e. IsIn at.entry.arena.now e.shape
+        × (length (shape_in at.entry.arena.now e.shape) < max_entries)) }
 {
     let below = pop_value(at.arena, at.shape)?;
     opens(at.arena, at.header, at.point, below, Mark::Frame)
@@ -487,7 +522,11 @@ fn starts(at: At<'_>) -> Result<Outcome, EffectError>
 fn turns(at: At<'_>, target: u32) -> Result<Outcome, EffectError>
     requires point { at.point < at.header.now.instructions }
     requires within { IsIn at.arena.now at.shape }
-    ensures gives { (u : Section) → at.entry.header.now ≡ header_of u → EffectGives at.entry.arena.now result (pops_frame (shape_in at.entry.arena.now at.entry.shape) (λ r. branches_of u at.entry.point target (kind.Frame ∷ r))) }
+    ensures gives { (u : Section)
+        → at.entry.header.now ≡ header_of u
+        → EffectGives at.entry.arena.now result (pops_frame
+        (shape_in at.entry.arena.now at.entry.shape)
+        (λ r. branches_of u at.entry.point target (kind.Frame ∷ r))) }
     ensures within { IfOk result (λ e. AreWithin at.entry.header.now.instructions e.leads) }
     ensures plain { IfOk result (λ e. IsIn at.entry.arena.now e.shape × (e.mark ≡ None)) }
 {
@@ -500,7 +539,11 @@ fn reads(at: At<'_>, field: u8, above: u32) -> Result<Outcome, EffectError>
     requires point { at.point < at.header.now.instructions }
     requires within { IsIn at.arena.now at.shape }
     requires small { length (shape_in at.arena.now at.shape) ≤ max_entries }
-    ensures gives { (u : Section) → at.entry.header.now ≡ header_of u → EffectGives at.entry.arena.now result (require (is_some (field_of field)) flaw.BadIndex (on_frame (slice_get (shape_in at.entry.arena.now at.entry.shape) above) (goes_on_of u at.entry.point (kind.Value ∷ shape_in at.entry.arena.now at.entry.shape)))) }
+    ensures gives { (u : Section)
+        → at.entry.header.now ≡ header_of u
+        → EffectGives at.entry.arena.now result (require (is_some (field_of field)) flaw.BadIndex
+        (on_frame (slice_get (shape_in at.entry.arena.now at.entry.shape) above)
+        (goes_on_of u at.entry.point (kind.Value ∷ shape_in at.entry.arena.now at.entry.shape)))) }
     ensures within { IfOk result (λ e. AreWithin at.entry.header.now.instructions e.leads) }
     ensures plain { IfOk result (λ e. IsIn at.entry.arena.now e.shape × (e.mark ≡ None)) }
 {
@@ -515,7 +558,10 @@ fn reads(at: At<'_>, field: u8, above: u32) -> Result<Outcome, EffectError>
 fn keeps(at: At<'_>, above: u32) -> Result<Outcome, EffectError>
     requires point { at.point < at.header.now.instructions }
     requires within { IsIn at.arena.now at.shape }
-    ensures gives { (u : Section) → at.entry.header.now ≡ header_of u → EffectGives at.entry.arena.now result (pops (shape_in at.entry.arena.now at.entry.shape) (λ r. on_frame (slice_get r above) (goes_on_of u at.entry.point r))) }
+    ensures gives { (u : Section)
+        → at.entry.header.now ≡ header_of u
+        → EffectGives at.entry.arena.now result (pops (shape_in at.entry.arena.now at.entry.shape)
+        (λ r. on_frame (slice_get r above) (goes_on_of u at.entry.point r))) }
     ensures within { IfOk result (λ e. AreWithin at.entry.header.now.instructions e.leads) }
     ensures plain { IfOk result (λ e. IsIn at.entry.arena.now e.shape × (e.mark ≡ None)) }
 {
@@ -528,7 +574,11 @@ fn keeps(at: At<'_>, above: u32) -> Result<Outcome, EffectError>
 fn rewinds(at: At<'_>) -> Result<Outcome, EffectError>
     requires point { at.point < at.header.now.instructions }
     requires within { IsIn at.arena.now at.shape }
-    ensures gives { (u : Section) → at.entry.header.now ≡ header_of u → EffectGives at.entry.arena.now result (pops_frame (shape_in at.entry.arena.now at.entry.shape) (λ r. goes_on_of u at.entry.point (kind.Frame ∷ r))) }
+    ensures gives { (u : Section)
+        → at.entry.header.now ≡ header_of u
+        → EffectGives at.entry.arena.now result (pops_frame
+        (shape_in at.entry.arena.now at.entry.shape)
+        (λ r. goes_on_of u at.entry.point (kind.Frame ∷ r))) }
     ensures within { IfOk result (λ e. AreWithin at.entry.header.now.instructions e.leads) }
     ensures plain { IfOk result (λ e. IsIn at.entry.arena.now e.shape × (e.mark ≡ None)) }
 {
@@ -541,7 +591,11 @@ fn ends(at: At<'_>) -> Result<Outcome, EffectError>
     requires point { at.point < at.header.now.instructions }
     requires within { IsIn at.arena.now at.shape }
     requires small { length (shape_in at.arena.now at.shape) ≤ max_entries }
-    ensures gives { (u : Section) → at.entry.header.now ≡ header_of u → EffectGives at.entry.arena.now result (pops_frame (shape_in at.entry.arena.now at.entry.shape) (λ r. goes_on_of u at.entry.point (kind.Value ∷ r))) }
+    ensures gives { (u : Section)
+        → at.entry.header.now ≡ header_of u
+        → EffectGives at.entry.arena.now result (pops_frame
+        (shape_in at.entry.arena.now at.entry.shape)
+        (λ r. goes_on_of u at.entry.point (kind.Value ∷ r))) }
     ensures within { IfOk result (λ e. AreWithin at.entry.header.now.instructions e.leads) }
     ensures plain { IfOk result (λ e. IsIn at.entry.arena.now e.shape × (e.mark ≡ None)) }
 {
@@ -554,7 +608,11 @@ fn captures(at: At<'_>, flag: u8) -> Result<Outcome, EffectError>
     requires point { at.point < at.header.now.instructions }
     requires within { IsIn at.arena.now at.shape }
     requires small { length (shape_in at.arena.now at.shape) ≤ max_entries }
-    ensures gives { (u : Section) → at.entry.header.now ≡ header_of u → EffectGives at.entry.arena.now result (require (nat_lt flag 2) flaw.BadIndex (pops_capture (shape_in at.entry.arena.now at.entry.shape) (λ r. goes_on_of u at.entry.point (kind.Value ∷ r)))) }
+    ensures gives { (u : Section)
+        → at.entry.header.now ≡ header_of u
+        → EffectGives at.entry.arena.now result (require (nat_lt flag 2) flaw.BadIndex
+        (pops_capture (shape_in at.entry.arena.now at.entry.shape)
+        (λ r. goes_on_of u at.entry.point (kind.Value ∷ r)))) }
     ensures within { IfOk result (λ e. AreWithin at.entry.header.now.instructions e.leads) }
     ensures plain { IfOk result (λ e. IsIn at.entry.arena.now e.shape × (e.mark ≡ None)) }
 {
@@ -569,7 +627,10 @@ fn captures(at: At<'_>, flag: u8) -> Result<Outcome, EffectError>
 fn unpacks(at: At<'_>, count: u32) -> Result<Outcome, EffectError>
     requires point { at.point < at.header.now.instructions }
     requires within { IsIn at.arena.now at.shape }
-    ensures gives { (u : Section) → at.entry.header.now ≡ header_of u → EffectGives at.entry.arena.now result (pops (shape_in at.entry.arena.now at.entry.shape) (λ r. goes_on_of u at.entry.point (pushes count r))) }
+    ensures gives { (u : Section)
+        → at.entry.header.now ≡ header_of u
+        → EffectGives at.entry.arena.now result (pops (shape_in at.entry.arena.now at.entry.shape)
+        (λ r. goes_on_of u at.entry.point (pushes count r))) }
     ensures within { IfOk result (λ e. AreWithin at.entry.header.now.instructions e.leads) }
     ensures plain { IfOk result (λ e. IsIn at.entry.arena.now e.shape × (e.mark ≡ None)) }
 {
@@ -581,7 +642,11 @@ fn unpacks(at: At<'_>, count: u32) -> Result<Outcome, EffectError>
 fn returns(at: At<'_>) -> Result<Outcome, EffectError>
     requires point { at.point < at.header.now.instructions }
     requires within { IsIn at.arena.now at.shape }
-    ensures gives { (u : Section) → at.entry.header.now ≡ header_of u → EffectGives at.entry.arena.now result (require (may_return_of u.kind (shape_in at.entry.arena.now at.entry.shape)) flaw.BadReturn (Ok (record { shape = shape_in at.entry.arena.now at.entry.shape; points = [] }))) }
+    ensures gives { (u : Section)
+        → at.entry.header.now ≡ header_of u
+        → EffectGives at.entry.arena.now result (require
+        (may_return_of u.kind (shape_in at.entry.arena.now at.entry.shape)) flaw.BadReturn
+        (Ok (record { shape = shape_in at.entry.arena.now at.entry.shape; points = [] }))) }
     ensures within { IfOk result (λ e. AreWithin at.entry.header.now.instructions e.leads) }
     ensures plain { IfOk result (λ e. IsIn at.entry.arena.now e.shape × (e.mark ≡ None)) }
 {
@@ -607,10 +672,14 @@ pub(crate) fn effect<C: Code>(
     requires point { at.point < at.header.now.instructions }
     requires inside { IsIn at.arena.now at.shape }
     requires small { length (shape_in at.arena.now at.shape) ≤ max_entries }
-    ensures gives { (u : Section) → at.entry.header.now ≡ header_of u → EffectGives at.entry.arena.now result (effect_of (C.code code.now) u at.entry.point instruction (shape_in at.entry.arena.now at.entry.shape)) }
+    ensures gives { (u : Section)
+        → at.entry.header.now ≡ header_of u
+        → EffectGives at.entry.arena.now result (effect_of (C.code code.now) u at.entry.point
+        instruction (shape_in at.entry.arena.now at.entry.shape)) }
     ensures within { IfOk result (λ e. AreWithin at.entry.header.now.instructions e.leads) }
     ensures inside { IfOk result (λ e. IsIn at.entry.arena.now e.shape) }
-    ensures small { IfOk result (λ e. IsSome e.mark → length (shape_in at.entry.arena.now e.shape) < max_entries) }
+    ensures small { IfOk result
+        (λ e. IsSome e.mark → length (shape_in at.entry.arena.now e.shape) < max_entries) }
 {
     let locals = u32::from(at.header.locals);
     match instruction {

@@ -1,6 +1,7 @@
 //! The verifier: it follows each path through a unit, and keeps the shape of each point that it comes to.
 ghost use Rattle.std.specs.Prelude.{◌≡◌, ◌<◌, ◌≤◌, [], ◌∷◌, ◌++◌, None, length, replicate, IfOk, IfErr, OnOk, MatchResult};
 ghost use Rattle.std.specs.List.{AllByRecursion};
+ghost use Rattle.jt_image.specs.IsCode.{IsCode};
 ghost use Rattle.jt_image.specs.Typed.{IsTyped, IsTypedUnit, Equal, max_entries};
 ghost use Rattle.jt_verify.specs.Arena.{shape_in, IsIn, IsKept};
 ghost use Rattle.jt_verify.specs.Typing.{AreWithin};
@@ -53,7 +54,9 @@ fn arrive(
     requires point { path.point < length shapes.now }
     requires shape { IsIn arena.now path.shape }
     requires shapes { AllByRecursion (IsInIf arena.now) shapes.now }
-    ensures { MatchResult result (λ is_known. Arrives (table_in arena.now shapes.now) (path_in arena.now path) is_known) (λ e. Clashes (table_in arena.now shapes.now) unit (path_in arena.now path) e) }
+    ensures { MatchResult result
+        (λ is_known. Arrives (table_in arena.now shapes.now) (path_in arena.now path) is_known)
+        (λ e. Clashes (table_in arena.now shapes.now) unit (path_in arena.now path) e) }
 {
     let point = path.point;
     if arena.height(path.shape) > MAX_ENTRIES {
@@ -84,7 +87,8 @@ fn step<C: Code>(
     requires point { path.point < header.now.instructions }
     requires shape { IsIn arena.old path.shape }
     requires small { length (shape_in arena.old path.shape) ≤ max_entries }
-    ensures steps { Steps arena.new (C.code code.now) (unit_of (C.code code.now) unit) unit path.point (shape_in arena.old path.shape) result }
+    ensures steps { Steps arena.new (C.code code.now) (unit_of (C.code code.now) unit) unit
+        path.point (shape_in arena.old path.shape) result }
     ensures within { IfOk result (λ a. AreWithin header.now.instructions a.leads) }
     ensures shape { IfOk result (λ a. IsIn arena.new a.shape) }
     ensures kept { IsKept arena.old arena.new }
@@ -142,10 +146,16 @@ fn follow<C: Code>(
     paths: &mut Vec<Path>,
 ) -> Result<(), Refusal>
     requires unit { IsUnit (C.code code.now) unit header.now }
-    requires works { Works (C.code code.now) (unit_of (C.code code.now) unit) arena.old shapes.old.items (paths.old.items ++ path ∷ []) }
-    ensures ok { OnOk result (Works (C.code code.now) (unit_of (C.code code.now) unit) arena.new shapes.new.items paths.new.items) }
-    ensures less { OnOk result (work_left (table_in arena.new shapes.new.items) (paths_in arena.new paths.new.items) < work_left (table_in arena.old shapes.old.items) (paths_in arena.old (paths.old.items ++ path ∷ []))) }
-    ensures err { IfErr result (λ e. RefusesUnit (C.code code.now) (unit_of (C.code code.now) unit) unit e) }
+    requires works { Works (C.code code.now) (unit_of (C.code code.now) unit) arena.old
+        shapes.old.items (paths.old.items ++ path ∷ []) }
+    ensures ok { OnOk result (Works (C.code code.now) (unit_of (C.code code.now) unit) arena.new
+        shapes.new.items paths.new.items) }
+    ensures less { OnOk result (work_left (table_in arena.new shapes.new.items)
+        (paths_in arena.new paths.new.items)
+        < work_left (table_in arena.old shapes.old.items)
+        (paths_in arena.old (paths.old.items ++ path ∷ []))) }
+    ensures err { IfErr result
+        (λ e. RefusesUnit (C.code code.now) (unit_of (C.code code.now) unit) unit e) }
 {
     let is_known = arrive(arena, shapes, unit, path)?;
     if is_known {
@@ -176,8 +186,10 @@ fn verify_unit<C: Code>(
     header: &UnitHeader,
 ) -> Result<(), Refusal>
     requires unit { IsUnit (C.code code.now) unit header.now }
-    ensures ok { OnOk result (IsTypedUnit Equal (C.code code.now) (unit_of (C.code code.now) unit)) }
-    ensures err { IfErr result (λ e. RefusesUnit (C.code code.now) (unit_of (C.code code.now) unit) unit e) }
+    ensures ok { OnOk result
+        (IsTypedUnit Equal (C.code code.now) (unit_of (C.code code.now) unit)) }
+    ensures err { IfErr result
+        (λ e. RefusesUnit (C.code code.now) (unit_of (C.code code.now) unit) unit e) }
 {
     if header.instructions == 0 {
         return Err(Refusal::Flaw {
@@ -215,6 +227,7 @@ pub fn verify_code<C: Code>(alloc: Global, code: &C) -> Result<(), Refusal>
     ensures err { IfErr result (λ r. RefusalHolds (C.code code.now) r) }
     // A typed code is refused only for want of memory.
     ensures exact { IfErr result (λ r. IsTyped (C.code code.now) → r ≡ Refusal.NoMemory) }
+    ensures whole { IsCode (C.code code.now) }
 {
     'units: for unit in 0..code.units() {
         let Some(header) = code.unit(unit) else {

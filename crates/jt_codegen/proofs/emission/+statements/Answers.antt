@@ -12,38 +12,9 @@ use Rattle.jt_lower.specs.Emission.{Puts}
 use Rattle.jt_codegen.specs.Statements.{Emits}
 use Rattle.jt_codegen.proofs.Depths.{loop_depth}
 use Rattle.jt_codegen.proofs.Fronts.{view-If, view-For, view-Capture, view-PutPooled, view-Print, view-Assign, view-Run}
-use Rattle.jt_codegen.proofs.Putting.{puts_then, puts_call, puts_when, puts_turns, reserved_within}
-use Rattle.jt_codegen.proofs.Emitting.{stands_itself, stands_raised, emits_one, emits_as, emits_alone, leads_more, leads_all, Opens, opens_more, opens_within, emits_branches}
+use Rattle.jt_codegen.proofs.Putting.{puts_then, puts_call, puts_when, puts_turns}
+use Rattle.jt_codegen.proofs.Emitting.{stands_itself, stands_raised, emits_one, emits_as, emits_alone, leads_more, leads_all, Opens, opens_more, emits_branches}
 use Rattle.jt_codegen.proofs.emission.+statements.Goals as goal
-
--- ---- jumps are there when they are written
-
-pub emit_statement-end_branch-requires : goal.emit_statement-end_branch-requires
-emit_statement-end_branch-requires t c =
-    let body = emits_alone c.args.above c.begin_choice.new.self c.emit_statements.new.code (body_view [] c.deref.result.now) (c.in_ok-emit_statements-in-If.ensures [] c.args.above (stands_itself c.args.above)) in
-    reserved_within c.emit_expression-in-loop-condition.new.code c.begin_choice.new.self c.emit_statements.new.code (op.JumpIfFalse 0) c.in_ok-choice-in-If.choice (body_asm (body_view [] c.deref.result.now slots.end) c.args.above) c.in_ok-choice-in-If.ensures body
-
-pub emit_statement-close_all-requires : goal.emit_statement-close_all-requires
-emit_statement-close_all-requires t c =
-    let l = c.loop-condition in
-    let bs = c.deref-condition-items.result.now in
-    let s = stands_itself c.args.above in
-    opens_within [] c.args.above c.args.code.now l.code c.emit_statements-in-If.new.code bs (drop l.condition-index bs) (body_view [] c.deref-in-If.result.now) l.ends.items c.deref-in-If-2.result.now (l.invariant [] c.args.above s) (c.in_ok-emit_statements-in-If-2.ensures [] c.args.above s) c.deref-in-If-2.ensures.value
-
-pub emit_loop-end_turns-requires : goal.emit_loop-end_turns-requires
-emit_loop-end_turns-requires t c =
-    let o = None in
-    let item : Asm = both (one o (op.LoopGet 0 0)) (take_asm o (targets_view c.args.targets.now)) in
-    let b : Asm = body_asm (body_view [] c.args.body.now slots.end) 0 in
-    let body = emits_alone 0 c.emit_item.new.code c.emit_statements.new.code (body_view [] c.args.body.now) (c.in_ok-emit_statements.ensures [] 0 (stands_itself 0)) in
-    reserved_within c.emit_condition.new.code c.begin_turns.new.self c.emit_statements.new.code (op.LoopNext 0) c.in_ok-top.top (both item b) c.in_ok-top.ensures
-    (puts_then c.begin_turns.new.self c.emit_item.new.code c.emit_statements.new.code item b (c.in_ok-emit_item.ensures o) body)
-
-pub emit_loop-end_when-requires : goal.emit_loop-end_when-requires
-emit_loop-end_when-requires t c =
-    let h = c.args.above in
-    let other = emits_alone h c.begin_choice.new.self c.emit_statements-2.new.code (body_view [] c.args.other.now) (c.in_ok-emit_statements-2.ensures [] h (stands_itself h)) in
-    reserved_within c.put-2.new.self c.begin_choice.new.self c.emit_statements-2.new.code (op.JumpIfFalse 0) c.in_ok-choice.choice (body_asm (body_view [] c.args.other.now slots.end) h) c.in_ok-choice.ensures other
 
 -- ---- statements that hold no others
 

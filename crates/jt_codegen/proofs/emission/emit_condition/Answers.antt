@@ -4,19 +4,9 @@ use Rattle.jt_image.specs.declared.instruction.Instruction.TheVariants as op
 use Rattle.jt_slots.specs.View.{targets_view, expr_view}
 use Rattle.jt_lower.specs.Asm.{Asm, one, both, each}
 use Rattle.jt_lower.specs.Lower.{expr_asm, take_asm, kept_asm}
-use Rattle.jt_codegen.proofs.Putting.{puts_then, puts_as, puts_turns, reserved_within}
+use Rattle.jt_codegen.proofs.Putting.{puts_then, puts_as, puts_turns}
 use Rattle.jt_codegen.proofs.Emitting.{stands_itself}
 use Rattle.jt_codegen.proofs.emission.emit_condition.Goals as goal
-
-pub end_turns-requires : goal.end_turns-requires
-end_turns-requires c =
-    let o = None in
-    let item : Asm = both (one o (op.LoopGet 0 0)) (take_asm o (targets_view c.args.targets.now)) in
-    let x : Asm = expr_asm o (expr_view c.in-Some.tested) 0 in
-    let keep : Asm = one o (op.LoopKeep 0) in
-    reserved_within c.args.code.now c.begin_turns.new.self c.put.new.self (op.LoopNext 0) c.in_ok-top-in-Some.top (both item (both x keep)) c.in_ok-top-in-Some.ensures
-    (puts_then c.begin_turns.new.self c.emit_item.new.code c.put.new.self item (both x keep) (c.in_ok-emit_item-in-Some.ensures o)
-    (puts_then c.emit_item.new.code c.emit_expression.new.code c.put.new.self x keep (c.in_ok-emit_expression-in-Some.ensures o 0 (stands_itself 0)) (c.in_ok-put-in-Some.ensures o (op.LoopKeep 0) refl)))
 
 pub returns-in_ok-put-in-Some-2 : goal.returns-in_ok-put-in-Some-2
 returns-in_ok-put-in-Some-2 c = λ o.

@@ -4,4 +4,4 @@ use Rattle.jt_codegen.proofs.Tabled.{Made}
 use Rattle.jt_codegen.proofs.tables.units_of.Given as goal
 
 abbrev pub invariant-loop-routine : goal.invariant-loop-routine
-invariant-loop-routine l = (templates : List Text) → Made templates l.units.items l.routines (drop l.routine-index l.routines)
+invariant-loop-routine l = (templates : List Text) → Made templates l.units.items l.left l.routines (drop l.routine-index l.routines)

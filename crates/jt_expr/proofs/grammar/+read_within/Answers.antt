@@ -1,7 +1,7 @@
 use Rattle.std.proofs.Common.{◌≡◌, ap, arith}
 use Rattle.jt_expr.specs.Cursor.{ahead}
 use Rattle.jt_expr.specs.Reading.{read}
-use Rattle.jt_expr.specs.Gives.{level_of_form}
+use Rattle.jt_expr.specs.Promises.{level_of_form}
 use Rattle.jt_expr.proofs.Turns.{deeper}
 use Rattle.jt_expr.proofs.grammar.+read_within.Goals as goal
 

@@ -1,7 +1,7 @@
 use Rattle.std.proofs.Common.{◌≡◌, ◌<◌, ◌≤◌, None, length, ap, subst, arith, IsUtf8}
 use Rattle.std.proofs.lemmas.Str.{IsUtf8-string_bytes}
 use Rattle.jt_scan.specs.Cut.{weight_of}
-use Rattle.jt_scan.specs.SourceView.{Held}
+use Rattle.jt_scan.specs.SourceView.{Held, max_source_len}
 use Rattle.jt_scan.specs.View.{cut_of}
 use Rattle.jt_parse.specs.Bytes.{bytes_of}
 use Rattle.jt_scan.specs.LineEnds.{normalized}
@@ -42,21 +42,21 @@ returns-in-Ok-parse-clause-short c =
 
 pub returns-in-Ok-parse-clause-spelled : goal.returns-in-Ok-parse-clause-spelled
 returns-in-Ok-parse-clause-spelled c =
-    let short : length c.args.text.now ≤ 1048576 = limited c.args.text.now (λ long. let no = c.in-Ok.ensures.long long in absurd (cc)) in
+    let short : length c.args.text.now ≤ max_source_len = limited c.args.text.now (λ long. let no = c.in-Ok.ensures.long long in absurd (cc)) in
     let text : c.in-Ok.source.text ≡ normalized c.args.options.keep_trailing_newline c.args.text.now = taken c.args.options c.args.text.now c.in-Ok.source (λ long. let no = c.in-Ok.ensures.long long in absurd (cc)) c.in-Ok.ensures.short in
     tree_found c.args.options c.args.text.now c.in-Ok.source (c.in-Ok.ensures.short short) c.in-Ok-scan.segments.items c.in-Ok-parse.template short c.in-Ok-scan.ensures.cut c.in-Ok-scan.ensures.options
     (subst (λ z. Spelled (body_of c.in-Ok-parse.template) (pieces (reads_of z)) × (body_levels (body_of c.in-Ok-parse.template) ≤ 100)) c.as_slice.ensures.value c.in-Ok-parse.ensures.spelled) c.in-Ok-parse.ensures.known
 
 pub returns-in-Ok-parse-clause-only : goal.returns-in-Ok-parse-clause-only
 returns-in-Ok-parse-clause-only c =
-    let short : length c.args.text.now ≤ 1048576 = limited c.args.text.now (λ long. let no = c.in-Ok.ensures.long long in absurd (cc)) in
+    let short : length c.args.text.now ≤ max_source_len = limited c.args.text.now (λ long. let no = c.in-Ok.ensures.long long in absurd (cc)) in
     λ b t.
     only_tree c.args.options c.args.text.now c.in-Ok.source (c.in-Ok.ensures.short short) c.in-Ok-scan.segments.items c.in-Ok-scan.ensures.options c.in-Ok-scan.ensures.only c.in-Ok-parse.template
     (subst (λ z. (d : Body) → Spelled d (pieces (reads_of z)) → body_levels d ≤ 100 → body_unknown d ≡ None → body_of c.in-Ok-parse.template ≡ d) c.as_slice.ensures.value c.in-Ok-parse.ensures.only) b t
 
 pub returns-clause-refused : goal.returns-clause-refused
 returns-clause-refused c =
-    let short : length c.args.text.now ≤ 1048576 = limited c.args.text.now (λ long. let no = c.in-Ok.ensures.long long in absurd (cc)) in
+    let short : length c.args.text.now ≤ max_source_len = limited c.args.text.now (λ long. let no = c.in-Ok.ensures.long long in absurd (cc)) in
     let e = c.in-Err-parse.refusal in
     let none = no_tree c.args.options c.args.text.now c.in-Ok.source (c.in-Ok.ensures.short short) c.in-Ok-scan.segments.items c.in-Ok-scan.ensures.options c.in-Ok-scan.ensures.only e in
     unspelled c.args.options c.args.text.now c.in-Ok.source (c.in-Ok.ensures.short short) c.in-Ok-scan.segments.items c.args.name.now e c.unparsed.result c.in-Ok-scan.ensures.cut c.in-Ok-scan.ensures.options

@@ -10,41 +10,11 @@ use Rattle.jt_slots.specs.View.{slot_view, field_view, maker_view, expr_view, ro
 use Rattle.jt_lower.specs.Asm.{Asm, nil, one, both, choose, invoke}
 use Rattle.jt_lower.specs.Lower.{maker, told_as, flag, load_of, expr_asm, row_asm}
 use Rattle.jt_lower.specs.Emission.{Given}
-use Rattle.jt_lower.proofs.Patched.{puts_nothing, puts_then, puts_as, puts_call, puts_choice, reserved_within, ended_within}
-use Rattle.jt_lower.proofs.Viewed.{view_Pooled, view_Variable, view_Field, seen_made, seen_conjunction, seen_disjunction, seen_choice, seen_invoke}
-use Rattle.jt_lower.proofs.Rows.{stands_raised, row_item, row_aside}
+use Rattle.jt_lower.proofs.Patched.{puts_nothing, puts_then, puts_as, puts_call, puts_choice}
+use Rattle.jt_lower.proofs.Viewed.{view_Pooled, view_Variable, view_Field, view_Absent, seen_made, seen_conjunction, seen_disjunction, seen_choice, seen_invoke}
+use Rattle.jt_lower.proofs.Rows.{stands_raised, row_item, row_aside, row_ends}
 use Rattle.jt_lower.proofs.expressions.+expressions.Goals as goal
 use Rattle.jt_lower.proofs.expressions.+expressions.Goals.{emit_row-in-Some+in_ok-put-in-Some, emit_row-in-None}
-
--- ---- jumps are there when they are written
-
-pub emit_conjunction-end_branch-requires : goal.emit_conjunction-end_branch-requires
-emit_conjunction-end_branch-requires t c =
-    let o = None in
-    let b : Asm = expr_asm o (expr_view c.args.right.now) c.args.above in
-    reserved_within c.put.new.self c.begin_choice.new.self c.emit_expression-2.new.code (op.JumpIfFalse 0) c.in_ok-choice.choice (both (one o op.Drop) b) c.in_ok-choice.ensures
-    (puts_then c.begin_choice.new.self c.put-2.new.self c.emit_expression-2.new.code (one o op.Drop) b
-    (c.in_ok-put-2.ensures o op.Drop refl) (c.in_ok-emit_expression-2.ensures o c.args.above (record { same = λ l. refl; above = λ l. l })))
-
-pub emit_disjunction-close-requires : goal.emit_disjunction-close-requires
-emit_disjunction-close-requires t c =
-    let o = None in
-    let b : Asm = expr_asm o (expr_view c.args.right.now) c.args.above in
-    ended_within c.begin_choice.new.self c.end_branch.new.self c.emit_expression-2.new.code c.in_ok-choice.choice c.in_ok-last.last (both (one o op.Drop) b) c.in_ok-last.ensures
-    (puts_then c.end_branch.new.self c.put-2.new.self c.emit_expression-2.new.code (one o op.Drop) b
-    (c.in_ok-put-2.ensures o op.Drop refl) (c.in_ok-emit_expression-2.ensures o c.args.above (record { same = λ l. refl; above = λ l. l })))
-
-pub emit_choice-end_branch-requires : goal.emit_choice-end_branch-requires
-emit_choice-end_branch-requires t c =
-    let o = None in
-    reserved_within c.emit_expression.new.code c.begin_choice.new.self c.emit_expression-2.new.code (op.JumpIfFalse 0) c.in_ok-choice.choice (expr_asm o (expr_view c.args.taken.now) c.args.above) c.in_ok-choice.ensures
-    (c.in_ok-emit_expression-2.ensures o c.args.above (record { same = λ l. refl; above = λ l. l }))
-
-pub emit_choice-close-requires : goal.emit_choice-close-requires
-emit_choice-close-requires t c =
-    let o = None in
-    ended_within c.emit_expression-2.new.code c.end_branch.new.self c.emit_expression-3.new.code c.in_ok-choice.choice c.in_ok-last.last (expr_asm o (expr_view c.args.other.now) c.args.above) c.in_ok-last.ensures
-    (c.in_ok-emit_expression-3.ensures o c.args.above (record { same = λ l. refl; above = λ l. l }))
 
 -- ---- what holds no others
 
@@ -63,6 +33,10 @@ emit_expression-returns-in_ok-put-in-Field t c = λ o h s.
     let f = c.in-Field.told in
     let i = op.LoopGet (field_id (told_as (field_view f))) h in
     puts_as c.args.code.now c.put-in-Field.new.self (expr_asm o (expr_view c.args.expr.now) h) (one o i) (ap (λ x. expr_asm o x h) (ap expr_view c.in-Field.is ∙ view_Field f)) (c.in_ok-put-in-Field.ensures o i (c.told_of.ensures h s))
+
+pub emit_expression-returns-in-Absent : goal.emit_expression-returns-in-Absent
+emit_expression-returns-in-Absent t c = λ o h s.
+    puts_as c.args.code.now c.args.code.now (expr_asm o (expr_view c.args.expr.now) h) nil (ap (λ x. expr_asm o x h) (ap expr_view c.in-Absent.is ∙ view_Absent)) (puts_nothing c.args.code.now)
 
 -- ---- what holds others
 
@@ -182,3 +156,8 @@ emit_row-loop-kept-preserved t c = λ o h s.
           (row_item o es l.kept-index e c.args.code.now l.code c.emit_expression.new.code all l.top w.saturating_add-top.result c.loop-kept-test.true c.loop-kept-item.is w.in-None.is (omega arith)
           (λ k r. c.in_ok-emit_expression.ensures o k r) (l.invariant o h s))
     ]
+
+pub emit_row-returns : goal.emit_row-returns
+emit_row-returns t c = λ o h s.
+    let l = c.loop-kept in
+    row_ends o c.args.row.now l.kept-index c.args.code.now l.code (row_asm o (row_view c.args.row.now none) h) l.top (omega arith) (l.invariant o h s)

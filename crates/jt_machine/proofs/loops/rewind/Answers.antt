@@ -13,5 +13,5 @@ pub returns : goal.returns
 returns c =
     let e : rewind (config_view c.args.state.now) ≡ step_on (with_entry (frame (loop_over (values_view c.pop_frame-frame.result.kept.items))) (config_view c.pay.new.state)) =
     rw c.pop_frame-frame.ensures (c.in_default.ensures.rest (λ e. step_on (with_entry (frame (loop_over (values_view c.pop_frame-frame.result.kept.items))) e))) in
-    let on = rw (c.in_ok-push.ensures, c.in_ok-loop_of.ensures) at c.step_on.ensures in
+    let on = rw (c.in_ok-push.ensures, c.in_ok-loop_of.ensures) at c.step_on.ensures.next in
     rw e on

@@ -10,9 +10,9 @@ use Rattle.jt_machine.proofs.runs.run_code.Goals as goal
 pub steps-init : goal.steps-init
 steps-init g c =
     record {
-      reached = (0, ap Goes (sym c.in_ok-state.ensures));
-      same = λ o e. rw c.in_ok-state.ensures at e;
-      depth = omega (arith, ap (λ (x : Config). x.left.depth) c.in_ok-state.ensures, ap (λ (x : Config). length x.machine.callers) c.in_ok-state.ensures);
+      reached = (0, ap Goes (sym c.in_ok-state.ensures.state));
+      same = λ o e. rw c.in_ok-state.ensures.state at e;
+      depth = c.in_ok-state.ensures.depth;
     }
 
 pub step-requires-clause-not_wrong : goal.step-requires-clause-not_wrong

@@ -14,9 +14,9 @@ steps-init g c =
     let x = pairs_of c.args.context.now in
     let b = budget_view c.args.budget in
     record {
-      so_far = nothing_yet k x b (g.W.Sink.taken c.args.sink.now) (config_view c.in_ok-state.state) c.in_ok-state.ensures;
+      so_far = nothing_yet k x b (g.W.Sink.taken c.args.sink.now) (config_view c.in_ok-state.state) c.in_ok-state.ensures.state;
       works = c.requires.works;
-      depth = omega (arith, ap (λ (y : Config). y.left.depth) c.in_ok-state.ensures, ap (λ (y : Config). length y.machine.callers) c.in_ok-state.ensures);
+      depth = c.in_ok-state.ensures.depth;
     }
 
 pub step-requires-clause-not_wrong : goal.step-requires-clause-not_wrong

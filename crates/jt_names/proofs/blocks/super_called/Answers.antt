@@ -16,27 +16,23 @@ use Rattle.jt_meaning.specs.Layout.{counted_from, numbered_bodies, block_paramet
 use Rattle.jt_meaning.specs.Resolve.{Part, invoked_super, next_given, first_locals}
 use Rattle.jt_names.specs.Callees.{text_of, unit_of}
 use Rattle.jt_names.specs.Scoped.{values, IsPlaced, RowLeads, part_from, part_at, world_in, order_in, home_in, spot_in}
-use Rattle.jt_names.proofs.Calling.{body_text}
-use Rattle.jt_names.proofs.Leading.{row_same}
+use Rattle.jt_names.proofs.Calling.{next_text}
 use Rattle.jt_names.proofs.Numbered.{counted_left, counted_end, next_within}
-use Rattle.jt_names.proofs.Views.{Entry}
 use Rattle.jt_names.proofs.blocks.super_called.Goals.{in-Some-index+in_ok-more-in-Some-index, in-None}
 use Rattle.jt_names.proofs.blocks.super_called.Goals as goal
 
 pub returns-in_default-clause-placed : goal.returns-in_default-clause-placed
 returns-in_default-clause-placed c =
     let s = c.args.scope.now in
-    let sp = spot_in s c.args.spot.now in
-    IfOk-weaker c.text_by.result _ _ (λ e k.
-    let P : Option Part → Type 0 = λ o. IsPlaced (invoked_super (world_in s) (order_in s) sp o) (expr_view e) (values c.args.pool.now) (values c.text_by.new.pool) in
-    subst P (sym (ap (part_at (numbered_bodies (world_in s) (home_in s))) c.in_default.is)) (k slots.none (λ p.
-    let Q : List Entry → Type 0 = λ l. RowLeads slots.none slots.none [] l p p in
-    subst Q (sym c.new.ensures.items) (row_same slots.none [] p)))) c.text_by.ensures.placed
+    let pool = values c.args.pool.now in
+    let P : Option Part → Type 0 = λ o. IsPlaced (invoked_super (world_in s) (order_in s) (spot_in s c.args.spot.now) o) (expr_view c.absent.result) pool pool in
+    subst P (sym (ap (part_at (numbered_bodies (world_in s) (home_in s))) c.in_default.is)) (c.absent.ensures pool)
 
 pub returns-in_default-get-clause-placed : goal.returns-in_default-get-clause-placed
 returns-in_default-get-clause-placed c =
     let s = c.args.scope.now in
     let world = world_in s in
+    let order = order_in s in
     let h = home_in s in
     let sp = spot_in s c.args.spot.now in
     let here = c.index-here.result.now in
@@ -48,11 +44,9 @@ returns-in_default-get-clause-placed c =
     let value : length c.deref.result.now ≡ length here.blocks.items = ap length c.deref.ensures.value in
     let outside : length c.deref.result.now ≤ i = c.in_default-get.ensures.lookup.3 in
     let past : length bs ≤ i = omega arith in
-    IfOk-weaker c.text_by-in_default-get.result _ _ (λ e k.
-    let P : Option Part → Type 0 = λ o. IsPlaced (invoked_super world (order_in s) sp o) (expr_view e) (values c.args.pool.now) (values c.text_by-in_default-get.new.pool) in
-    subst P (sym (ap (part_at (numbered_bodies world h)) c.in-Some.is ∙ ap part_from (counted_end i bs past))) (k slots.none (λ p.
-    let Q : List Entry → Type 0 = λ l. RowLeads slots.none slots.none [] l p p in
-    subst Q (sym c.new-in_default-get.ensures.items) (row_same slots.none [] p)))) c.text_by-in_default-get.ensures.placed
+    let pool = values c.args.pool.now in
+    let P : Option Part → Type 0 = λ o. IsPlaced (invoked_super world order sp o) (expr_view c.absent-in_default-get.result) pool pool in
+    subst P (sym (ap (part_at (numbered_bodies world h)) c.in-Some.is ∙ ap part_from (counted_end i bs past))) (c.absent-in_default-get.ensures pool)
 
 pub returns-clause-placed : goal.returns-clause-placed
 returns-clause-placed c =
@@ -92,8 +86,8 @@ returns-clause-placed c =
     let xs = block_parameters world order h body.name.now in
     let es = first_locals 0 xs in
     let n : length xs ≡ length c.parameters_of.result.now = sym (ap length c.parameters_of.ensures) ∙ length-map c.parameters_of.result.now (λ k. k.now) in
-    IfOk-weaker c.text_by-2.result _ _ (λ e k.
-    let P : Option Part → Type 0 = λ o. IsPlaced (invoked_super world order sp o) (expr_view e) (values c.args.pool.now) (values c.text_by-2.new.pool) in
-    let Q : slots.SExpr Constant → Type 0 = λ z. IsPlaced z (expr_view e) (values c.args.pool.now) (values c.text_by-2.new.pool) in
+    IfOk-weaker c.text_by.result _ _ (λ e k.
+    let P : Option Part → Type 0 = λ o. IsPlaced (invoked_super world order sp o) (expr_view e) (values c.args.pool.now) (values c.text_by.new.pool) in
+    let Q : slots.SExpr Constant → Type 0 = λ z. IsPlaced z (expr_view e) (values c.args.pool.now) (values c.text_by.new.pool) in
     subst P (sym (ap (part_at (numbered_bodies world h)) c.in-Some.is ∙ ap part_from left))
-    (subst Q (ap (λ u. text_of u escaping es) unit ∙ body_text world order h escaping (next_given behind) es) (k es (λ p. c.in_ok-row.ensures.read xs p n)))) c.text_by-2.ensures.placed
+    (subst Q (ap (λ u. text_of u escaping es) unit ∙ next_text world order h escaping (next_given behind) es) (k es (λ p. c.in_ok-row.ensures.read xs p n)))) c.text_by.ensures.placed

@@ -220,8 +220,8 @@ resolve_filter-returns-in-None-clause-placed t c =
     let ps = pairs_view c.args.pairs.now in
     let p = values c.args.pool.now in
     let named : (world_in s).filters.named c.args.name.now ts ps ≡ None = named_is c.args.name.now ts ps ∙ ap (option_map filter_id) (sym c.filter_of.ensures ∙ c.in-None.is) in
-    let P : Option ℕ → Type 0 = λ o. IsPlaced (filtered_in s o a ts ps c.args.spot.now) (coded c.no_operation.result) p p in
-    subst P (sym named) (c.no_operation.ensures p)
+    let P : Option ℕ → Type 0 = λ o. IsPlaced (filtered_in s o a ts ps c.args.spot.now) (coded c.absent.result) p p in
+    subst P (sym named) (c.absent.ensures p)
 
 pub resolve_filter-returns-in_ok-first-in-Some-clause-placed : goal.resolve_filter-returns-in_ok-first-in-Some-clause-placed
 resolve_filter-returns-in_ok-first-in-Some-clause-placed t c =
@@ -373,8 +373,8 @@ resolve_call-returns-in-Block-clause-placed t c =
     let Q : Callee → Type 0 = λ z. IsCallee (world_in s) (order_in s) (home_in s) z k in
     let is : k ≡ a_block c.in-Block.name.now = subst Q c.in-Block.is c.in_ok-signature.ensures.named in
     IfOk-weaker c.block_called.result _ _ (λ e h.
-    let P : chain.Callee → Type 0 = λ z. IsPlaced (invoked (world_in s) (order_in s) z (spot_in s spot) (λ y. row_in s ts spot y) (λ y. asides_in s ps spot y) (count ts) ks) (coded e) (values c.args.pool.now) (values c.block_called.new.pool) in
-    subst P (sym is) (h (λ y. row_in s ts spot y) (λ y. asides_in s ps spot y) (count ts) ks)) c.block_called.ensures.placed
+    let P : chain.Callee → Type 0 = λ z. IsPlaced (invoked (world_in s) (order_in s) z (spot_in s spot) (λ y. row_in s ts spot y) (λ y. asides_in s ps spot y) (count ts) ks) (coded e) (values c.args.pool.now) (values c.args.pool.now) in
+    subst P (sym is) (h (λ y. row_in s ts spot y) (λ y. asides_in s ps spot y) (count ts) ks (values c.args.pool.now))) c.block_called.ensures.placed
 
 pub resolve_call-returns-in-Unknown-clause-placed : goal.resolve_call-returns-in-Unknown-clause-placed
 resolve_call-returns-in-Unknown-clause-placed t c =
@@ -386,8 +386,8 @@ resolve_call-returns-in-Unknown-clause-placed t c =
     let k = callee (macros (world_in s).sources (home_in s)) (expr_view c.args.called.now) in
     let Q : Callee → Type 0 = λ z. IsCallee (world_in s) (order_in s) (home_in s) z k in
     let is : k ≡ no_callee = subst Q c.in-Unknown.is c.in_ok-signature.ensures.named in
-    let P : chain.Callee → Type 0 = λ z. IsPlaced (invoked (world_in s) (order_in s) z (spot_in s spot) (λ y. row_in s ts spot y) (λ y. asides_in s ps spot y) (count ts) ks) (coded c.no_value.result) (values c.args.pool.now) (values c.args.pool.now) in
-    subst P (sym is) (c.no_value.ensures (values c.args.pool.now))
+    let P : chain.Callee → Type 0 = λ z. IsPlaced (invoked (world_in s) (order_in s) z (spot_in s spot) (λ y. row_in s ts spot y) (λ y. asides_in s ps spot y) (count ts) ks) (coded c.absent.result) (values c.args.pool.now) (values c.args.pool.now) in
+    subst P (sym is) (c.absent.ensures (values c.args.pool.now))
 
 -- ---- what is left is less deep
 

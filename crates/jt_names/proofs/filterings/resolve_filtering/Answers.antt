@@ -28,11 +28,11 @@ returns-in_default-clause-placed c = λ k p n h.
     let pairs : pairs_view c.as_slice-pairs.result.now ≡ f.keywords = ap pairs_view c.as_slice-pairs.ensures.value in
     let written = written_as c.as_str.ensures.value row pairs in
     let named : (world_in s).filters.named f.name f.arguments f.keywords ≡ None = named_is f.name f.arguments f.keywords ∙ ap (option_map filter_id) (sym written ∙ sym c.filter_of.ensures ∙ c.in_default.is) in
-    let P : Option ℕ → Type 0 = λ o. IsPlaced (filtered_in s o k f.arguments f.keywords c.args.spot.now) (expr_view c.no_operation.result) p (values c.truncate.new.self) in
-    let Q : List Tree → Type 0 = λ r. IsPlaced (filtered_in s None k f.arguments f.keywords c.args.spot.now) (expr_view c.no_operation.result) p r in
+    let P : Option ℕ → Type 0 = λ o. IsPlaced (filtered_in s o k f.arguments f.keywords c.args.spot.now) (expr_view c.absent.result) p (values c.truncate.new.self) in
+    let Q : List Tree → Type 0 = λ r. IsPlaced (filtered_in s None k f.arguments f.keywords c.args.spot.now) (expr_view c.absent.result) p r in
     let cut : p ≡ values c.truncate.new.self =
     sym (take_at p (expr_values k) c.args.start n) ∙ ap (take c.args.start) (sym h.pooled) ∙ take-map view c.args.start c.args.pool.now.items ∙ ap (map view) (sym c.truncate.ensures.items) in
-    subst P (sym named) (subst Q cut (c.no_operation.ensures p))
+    subst P (sym named) (subst Q cut (c.absent.ensures p))
 
 pub returns-clause-placed : goal.returns-clause-placed
 returns-clause-placed c =

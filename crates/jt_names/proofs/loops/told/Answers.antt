@@ -1,4 +1,4 @@
 use Rattle.jt_names.proofs.loops.told.Goals as goal
 
 pub returns-in-None : goal.returns-in-None
-returns-in-None c = rw c.in-None.is c.no_value.ensures
+returns-in-None c = rw c.in-None.is c.absent.ensures

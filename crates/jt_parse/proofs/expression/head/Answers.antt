@@ -5,7 +5,7 @@ use Rattle.jt_expr.specs.Grammar.{word}
 use Rattle.jt_parse.specs.Tags.{Says, head_levels}
 use Rattle.jt_parse.specs.HeadView.{head_view}
 use Rattle.jt_parse.specs.Gives.{GivesOnly}
-use Rattle.jt_parse.proofs.FirstTags.{head_found, head_refused}
+use Rattle.jt_parse.proofs.Expressions.{head_found, head_refused}
 use Rattle.jt_parse.proofs.expression.head.Goals as goal
 
 pub returns-in-Ok : goal.returns-in-Ok

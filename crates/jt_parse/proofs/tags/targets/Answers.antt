@@ -1,30 +1,38 @@
-use Rattle.std.proofs.Common.{rules, length, ap}
-use Rattle.jt_scan.specs.declared.segment.Sign.TheVariants as sign
-use Rattle.jt_expr.specs.Cursor.{ahead, Refuses}
-use Rattle.jt_parse.specs.TagReading as spec
+use Rattle.std.proofs.Common.{rules, ap, Ok, Err, String, Global, Vec, string_bytes}
+use Rattle.jt_scan.specs.declared.segment.Sign.TheVariants as s
+use Rattle.jt_expr.specs.Cursor.{ahead}
+use Rattle.jt_expr.specs.declared.error.ExprError.TheVariants as e
+use Rattle.jt_parse.specs.Tags.{Separated, IsName}
+use Rattle.jt_parse.specs.Readers.{Anything, NoSign, ReadsFlat}
 use Rattle.jt_parse.specs.View.{names_view}
-use Rattle.std.proofs.Common.{string_bytes}
-use Rattle.jt_parse.proofs.Rows.{row_starts, row_last, row_next, row_refused, row_ends, pushed}
+use Rattle.jt_parse.proofs.Fronts.{sign_taken, sign_left, no_sign}
+use Rattle.jt_parse.proofs.Separating.{first_turn, turn_refused, next_turn, last_turn, no_turn, flat, name_row, pushed}
 use Rattle.jt_parse.proofs.tags.targets.Goals as goal
 
 pub loop-turn-init : goal.loop-turn-init
-loop-turn-init c = row_starts spec.target_at sign.Comma _ _ _ _ c.left-turn-end.ensures (ap names_view c.new-found.ensures.items)
+loop-turn-init c =
+    first_turn (λ (n : String Global). string_bytes n) (λ (v : Vec (String Global) Global). names_view v.items) IsName s.Comma Anything (NoSign s.Comma) name_row (λ a. 0) 0 (ahead c.args.cursor.now)
+    _ _ c.left-turn-end.ensures (ap names_view c.new-found.ensures.items)
 
 pub returns-in_err-name : goal.returns-in_err-name
 returns-in_err-name c =
-    let q : Refuses (spec.separated spec.target_at sign.Comma (length (ahead c.args.cursor.now)) (ahead c.args.cursor.now)) c.in_err-name.field-0.0 =
-    row_refused spec.target_at sign.Comma _ _ _ _ _ c.loop-turn.invariant c.loop-turn-test.true _ c.in_err-name.ensures in
+    let q : ReadsFlat (λ (v : Vec (String Global) Global). names_view v.items) (Separated IsName s.Comma) (NoSign s.Comma) (ahead c.args.cursor.now) (Err c.in_err-name.field-0.0) (ahead c.target.new.cursor) =
+    flat (λ (v : Vec (String Global) Global). names_view v.items) (Separated IsName s.Comma) (NoSign s.Comma) (ahead c.args.cursor.now) (Err c.in_err-name.field-0.0) (ahead c.target.new.cursor) (turn_refused (λ (n : String Global). string_bytes n) (λ (v : Vec (String Global) Global). names_view v.items) IsName s.Comma Anything (NoSign s.Comma) name_row (λ a. 0) 0 (ahead c.args.cursor.now)
+    _ _ _ _ _ _ c.loop-turn.invariant _ c.in_err-name.ensures) in
     search rules
 
 pub returns-then-not-eat : goal.returns-then-not-eat
 returns-then-not-eat c =
-    row_last spec.target_at sign.Comma _ _ _ _ _ c.loop-turn.invariant c.loop-turn-test.true _ _ c.in_ok-name.ensures
-    c.eat.result c.eat.ensures.found c.if-not-eat.true _ c.eat.ensures.rest _ (pushed string_bytes _ _ _ c.in_ok-push.ensures.items)
+    rw (sign_left s.Comma (ahead c.target.new.cursor) (ahead c.eat.new.self) c.eat.result c.eat.ensures.found c.eat.ensures.rest c.if-not-eat.true)
+    (flat (λ (v : Vec (String Global) Global). names_view v.items) (Separated IsName s.Comma) (NoSign s.Comma) (ahead c.args.cursor.now) (Ok c.push.new.self) (ahead c.target.new.cursor) (last_turn (λ (n : String Global). string_bytes n) (λ (v : Vec (String Global) Global). names_view v.items) IsName s.Comma Anything (NoSign s.Comma) name_row (λ a. 0) 0 (ahead c.args.cursor.now)
+    _ _ _ _ _ c.loop-turn.invariant c.in_ok-name.name c.in_ok-name.ensures c.push.new.self (pushed string_bytes _ _ _ c.in_ok-push.ensures.items) (no_sign s.Comma _ _ c.eat.result c.eat.ensures.found c.eat.ensures.rest c.if-not-eat.true)))
 
 pub loop-turn-preserved : goal.loop-turn-preserved
 loop-turn-preserved c =
-    row_next spec.target_at sign.Comma _ _ _ _ _ c.loop-turn.invariant c.loop-turn-test.true _ _ c.in_ok-name.ensures
-    c.eat.result c.eat.ensures.found c.if-not-eat.false _ c.eat.ensures.rest _ (pushed string_bytes _ _ _ c.in_ok-push.ensures.items)
+    next_turn (λ (n : String Global). string_bytes n) (λ (v : Vec (String Global) Global). names_view v.items) IsName s.Comma Anything (NoSign s.Comma) name_row (λ a. 0) 0 (ahead c.args.cursor.now)
+    _ _ _ _ _ c.loop-turn.invariant c.in_ok-name.name c.in_ok-name.ensures _ (sign_taken s.Comma _ _ c.eat.result c.eat.ensures.found c.eat.ensures.rest c.if-not-eat.false) _ (pushed string_bytes _ _ _ c.in_ok-push.ensures.items)
 
 pub returns : goal.returns
-returns c = row_ends spec.target_at sign.Comma _ _ _ _ _ c.loop-turn.invariant c.loop-turn-test.false
+returns c =
+    flat (λ (v : Vec (String Global) Global). names_view v.items) (Separated IsName s.Comma) (NoSign s.Comma) (ahead c.args.cursor.now) (Err e.Syntax) (ahead c.loop-turn.cursor) (no_turn (λ (n : String Global). string_bytes n) (λ (v : Vec (String Global) Global). names_view v.items) IsName s.Comma Anything (NoSign s.Comma) name_row (λ a. 0) 0 (ahead c.args.cursor.now)
+    _ _ _ _ (ahead c.loop-turn.cursor) c.loop-turn.invariant c.loop-turn-test.false)

@@ -1,13 +1,16 @@
-use Rattle.std.proofs.Common.{◌≡◌, ◌-◌, length}
-use Rattle.jt_scan.specs.declared.segment.Sign.TheVariants as sign
+use Rattle.std.proofs.Common.{String, Global, Vec}
+use Rattle.jt_scan.specs.declared.segment.Sign.TheVariants as s
 use Rattle.jt_expr.specs.Cursor.{ahead}
-use Rattle.jt_expr.specs.Reading.{◌>>=◌}
-use Rattle.jt_parse.specs.TagReading as spec
-use Rattle.jt_parse.specs.HeadView.{values_view}
-use Rattle.jt_parse.proofs.Rows.{after_list}
+use Rattle.jt_expr.specs.declared.tree.Expr.{Expr}
+use Rattle.jt_expr.specs.Grammar.{whole}
+use Rattle.jt_expr.specs.Promises.{EndsAt}
+use Rattle.jt_parse.specs.Tags.{IsValue}
+use Rattle.jt_parse.specs.Readers.{NoToken, value_levels}
+use Rattle.jt_parse.specs.HeadView.{value_view, values_view}
+use Rattle.jt_parse.proofs.Separating.{Turn, value_row}
 use Rattle.jt_parse.proofs.tags.values.Given as goal
 
 abbrev pub invariant-loop-turn : goal.invariant-loop-turn
 invariant-loop-turn l =
-    spec.separated (spec.value_at l.levels) sign.Comma (length (ahead l.fn.cursor)) (ahead l.fn.cursor)
-    ≡ (spec.separated (spec.value_at l.levels) sign.Comma (l._turn-end - l._turn) (ahead l.cursor) >>= after_list (values_view l.found.items))
+    Turn value_view (λ (v : Vec (String Global × Expr) Global). values_view v.items) IsValue s.Comma (EndsAt whole) NoToken value_row value_levels l.levels (ahead l.fn.cursor)
+    l._turn l._turn-end (values_view l.found.items) (ahead l.cursor)

@@ -1,9 +1,13 @@
-use Rattle.std.proofs.Common.{◌≡◌, ◌∙◌, ◌++◌, ◌∷◌, [], List, ℕ, ap, append-nil, append_assoc, map, rules, string_bytes, subst, sym}
+use Rattle.std.proofs.Common.{◌≡◌, ◌∙◌, ◌++◌, ◌∷◌, [], Err, Global, List, None, String, ℕ, ap, append-nil, append_assoc, map, rules, string_bytes, subst, sym}
+use Rattle.std.specs.Prelude.{IsPermutation}
 use Rattle.std.proofs.lemmas.List.{map_push}
+use Rattle.std.proofs.lemmas.Result.{err_from_is_err_and}
 use Rattle.jt_parse.specs.Trees.{Text}
-use Rattle.jt_program.specs.Files.{AreSources, IsLibrary}
+use Rattle.jt_program.specs.Commands.{IsPath, IsUnread}
+use Rattle.jt_program.specs.Files.{AreSources, IsLibrary, path_in}
 use Rattle.jt_program.specs.Templates.{source_of}
-use Rattle.jt_program.proofs.Gathering.{nil_of, reordered}
+use Rattle.jt_program.proofs.Endings.{unread_listed}
+use Rattle.jt_program.proofs.Gathering.{listed_between, nil_of, reordered}
 use Rattle.jt_program.proofs.program.templates_in.Goals as goal
 
 pub loop-name-preserved : goal.loop-name-preserved
@@ -38,3 +42,19 @@ returns-clause-library g c =
       each = reordered files (string_bytes c.args.dir) listed.0 (map string_bytes c.in-Ok.names.items) sources listed.2 each;
     } in
     library
+
+pub returns-in_err-read_into-clause-err : goal.returns-in_err-read_into-clause-err
+returns-in_err-read_into-clause-err g c =
+    let p = err_from_is_err_and c.from_residual.result c.from_residual.ensures.1 in
+    let files = g.F.Files.known c.args.files.now in
+    let dir : c.as_str.result.now ≡ string_bytes c.args.dir = search rules in
+    let same_dir : c.as_str-in-loop-name.result.now ≡ string_bytes c.args.dir = search rules in
+    let left = c.next.new.self.rest.items in
+    let all : c.into_iter-name-iterator.result.rest.items ≡ c.loop-name.yielded ++ c.in-Some.name ∷ left = c.loop-name.invariant.0 ∙ ap (λ names. c.loop-name.yielded ++ names) c.in-Some.ensures.steps.0 in
+    let given : c.into_iter-name-iterator.result.rest.items ≡ c.in-Ok.names.items = search rules in
+    let listed = c.in-Ok.ensures.listed in
+    let order = subst (λ (names : List (String Global)). IsPermutation listed.0 (map string_bytes names)) (sym given ∙ all) listed.2 in
+    let there = listed_between listed.0 c.loop-name.yielded left c.in-Some.name order in
+    let unread = subst (λ (d : Text). IsUnread files (IsPath (path_in d (string_bytes c.in-Some.name))) None (Err c.in_err-read_into.field-0.0)) same_dir c.in_err-read_into.ensures.err in
+    rw (p.1, p.2)
+    (unread_listed files (string_bytes c.args.dir) listed.0 (string_bytes c.in-Some.name) c.in_err-read_into.field-0.0 (subst (λ (d : Text). files.lists d listed.0) dir listed.1) there unread)

@@ -2,6 +2,7 @@ use Rattle.std.proofs.Common.{◌≡◌, ◌+◌, ◌<◌, length, subst, rules,
 use Rattle.std.proofs.lemmas.Bool.Decides.{nat_tests}
 use Rattle.std.specs.Str.{chars}
 use Rattle.jt_scan.specs.Scanning.{cut, IsGiven}
+use Rattle.jt_scan.specs.SourceView.{max_source_len}
 use Rattle.jt_scan.specs.View.{part_view, cut_of}
 use Rattle.jt_scan.proofs.Turns.{IsCutOff, cut_ends, segments_refused, segments_go_on, ends_with, leaves_less, line_is, lines_fit, line_goes_on, not_empty, no_chars, few_chars}
 use Rattle.jt_scan.proofs.scanner.read_segments.Goals as goal
@@ -21,12 +22,12 @@ before-requires c =
 
 pub overflow_cast-line : goal.overflow_cast-line
 overflow_cast-line c =
-    let f = lines_fit c.segments.line (chars c.args.text.now) (chars c.segments.rest.now) (chars c.before-in-segments.result.now) (chars c.in_ok-found.behind.now) 1048576 c.segments.invariant.1 c.before-in-segments.ensures (omega (arith, few_chars c.args.text.now c.utf8.text, c.requires)) in
+    let f = lines_fit c.segments.line (chars c.args.text.now) (chars c.segments.rest.now) (chars c.before-in-segments.result.now) (chars c.in_ok-found.behind.now) max_source_len c.segments.invariant.1 c.before-in-segments.ensures (omega (arith, few_chars c.args.text.now c.utf8.text, c.requires)) in
     omega (arith, f, c.lines.ensures)
 
 pub overflow_add-line : goal.overflow_add-line
 overflow_add-line c =
-    let f = lines_fit c.segments.line (chars c.args.text.now) (chars c.segments.rest.now) (chars c.before-in-segments.result.now) (chars c.in_ok-found.behind.now) 1048576 c.segments.invariant.1 c.before-in-segments.ensures (omega (arith, few_chars c.args.text.now c.utf8.text, c.requires)) in
+    let f = lines_fit c.segments.line (chars c.args.text.now) (chars c.segments.rest.now) (chars c.before-in-segments.result.now) (chars c.in_ok-found.behind.now) max_source_len c.segments.invariant.1 c.before-in-segments.ensures (omega (arith, few_chars c.args.text.now c.utf8.text, c.requires)) in
     omega (arith, f, c.lines.ensures)
 
 pub segments-smaller : goal.segments-smaller

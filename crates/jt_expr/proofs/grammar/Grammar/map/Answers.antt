@@ -4,7 +4,7 @@ use Rattle.jt_expr.proofs.Heights.{height_of_row, height_of_entries}
 use Rattle.jt_expr.proofs.grammar.Grammar.map.Goals as goal
 
 pub overflow_add-result : goal.overflow_add-result
-overflow_add-result g c = omega (arith, c.requires.small, height_of_row _ _ _ _ c.in_ok-parts.parts c.in_ok-parts.ensures)
+overflow_add-result g c = omega (arith, c.args.self.now.small, height_of_row _ _ _ _ c.in_ok-parts.parts c.in_ok-parts.ensures)
 
 pub invariant_of-result : goal.invariant_of-result
 invariant_of-result g c =

@@ -1,5 +1,6 @@
 use Rattle.std.proofs.Common.{suc, rules}
-use Rattle.jt_expr.specs.Cursor.{ahead, Refuses}
+use Rattle.jt_expr.specs.Cursor.{ahead}
+use Rattle.jt_expr.specs.Gives.{Refuses}
 use Rattle.jt_expr.specs.Reading.{read, postfix_step, read_postfix}
 use Rattle.jt_expr.proofs.Loops.{loop_next, loop_ends, loop_refused, loop_too_deep}
 use Rattle.jt_expr.proofs.grammar.Grammar.postfix.Goals as goal

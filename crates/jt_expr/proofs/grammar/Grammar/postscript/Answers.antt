@@ -1,5 +1,6 @@
 use Rattle.std.proofs.Common.{suc, rules}
-use Rattle.jt_expr.specs.Cursor.{ahead, Refuses}
+use Rattle.jt_expr.specs.Cursor.{ahead}
+use Rattle.jt_expr.specs.Gives.{Refuses}
 use Rattle.jt_expr.specs.Reading.{read, postscript_step, read_postscript}
 use Rattle.jt_expr.proofs.Loops.{loop_next, loop_ends, loop_refused, loop_too_deep}
 use Rattle.jt_expr.proofs.grammar.Grammar.postscript.Goals as goal

@@ -1,6 +1,6 @@
 use Rattle.std.proofs.Common.{suc, rules, length}
-use Rattle.jt_expr.specs.Cursor.{ahead, Refuses}
-use Rattle.jt_expr.specs.Gives.{row_view}
+use Rattle.jt_expr.specs.Cursor.{ahead}
+use Rattle.jt_expr.specs.Gives.{Refuses, row_view}
 use Rattle.jt_expr.specs.Reading.{read, row}
 use Rattle.jt_expr.proofs.Collected.{row_starts, row_closed, row_last, row_next, row_refused, row_ends}
 use Rattle.jt_expr.proofs.grammar.Grammar.row.Goals as goal

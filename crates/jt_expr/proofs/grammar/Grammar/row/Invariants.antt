@@ -1,6 +1,7 @@
 use Rattle.std.proofs.Common.{◌≡◌, ◌-◌, suc, length}
 use Rattle.jt_expr.specs.Cursor.{ahead}
-use Rattle.jt_expr.specs.Gives.{row_view, parts_view}
+use Rattle.jt_expr.specs.Gives.{row_view}
+use Rattle.jt_expr.specs.Promises.{parts_view}
 use Rattle.jt_expr.specs.Reading.{read, row, ◌>>=◌}
 use Rattle.jt_expr.proofs.Collected.{after_found}
 use Rattle.jt_expr.proofs.grammar.Grammar.row.Given as goal

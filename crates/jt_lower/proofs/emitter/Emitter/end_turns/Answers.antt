@@ -1,13 +1,7 @@
 use Rattle.std.proofs.Common.{◌≡◌, length, None, arith, subst}
 use Rattle.jt_image.specs.declared.instruction.Instruction.TheVariants as op
-use Rattle.jt_lower.specs.Asm.{one}
-use Rattle.jt_lower.specs.Emission.{Puts, Patches}
+use Rattle.jt_lower.specs.Emission.{Patches}
 use Rattle.jt_lower.proofs.emitter.Emitter.end_turns.Goals as goal
-
-pub patch-requires : goal.patch-requires
-patch-requires c =
-    let p : Puts c.args.self.now (one None (op.Jump c.args.top)) c.put.new.self = c.in_ok-put.ensures None (op.Jump c.args.top) c.jump_of.ensures in
-    omega (arith, p.len, c.requires)
 
 pub returns : goal.returns
 returns c = let len : c.len.result ≡ length c.put.new.self.code.items = omega (arith, c.len.ensures, c.put.new.self.code.ok.0) in record {

@@ -1,7 +1,6 @@
-use Rattle.std.proofs.Common.{◌∙◌, length, sym, ap, arith}
+use Rattle.std.proofs.Common.{◌∙◌, sym, ap}
 use Rattle.jt_value.specs.ContextView.{pairs_of}
 use Rattle.jt_image.specs.Code.{Code}
-use Rattle.jt_image.specs.Config.{Config}
 use Rattle.jt_image.specs.Run.{Goes, start}
 use Rattle.jt_machine.specs.View.{budget_view}
 use Rattle.jt_machine.proofs.Slicing.{runs_in_slices}
@@ -24,6 +23,6 @@ invariant_of-result-in-Ok c =
       context = x;
       budget = b;
       steps = 0;
-      reached = ap Goes (ap (λ (k : Code). start k x b) (sym c.image-2.ensures.image) ∙ sym c.in-Ok.ensures);
-      depth = omega (arith, ap (λ (y : Config). y.left.depth) c.in-Ok.ensures, ap (λ (y : Config). length y.machine.callers) c.in-Ok.ensures);
+      reached = ap Goes (ap (λ (k : Code). start k x b) (sym c.image-2.ensures.image) ∙ sym c.in-Ok.ensures.state);
+      depth = c.in-Ok.ensures.depth;
     }

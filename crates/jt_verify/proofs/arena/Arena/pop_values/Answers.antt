@@ -1,10 +1,8 @@
-use Rattle.std.proofs.Common.{◌≡◌, ◌-◌, List, [], get_or, Some, Result, Err, subst, arith}
-use Rattle.std.specs.Prelude.{slice_get}
+use Rattle.std.proofs.Common.{◌≡◌, ◌-◌, [], get_or, Result, Err, sym, subst, arith}
 use Rattle.jt_image.specs.declared.kind.Flaw.{Flaw}
 use Rattle.jt_image.specs.declared.kind.Flaw.TheVariants as flaw
 use Rattle.jt_image.specs.Effect.{Shape, Leads, pops_many}
-use Rattle.jt_verify.specs.declared.links.Node.{Node}
-use Rattle.jt_verify.specs.Arena.{Lists, shape_in}
+use Rattle.jt_verify.specs.Arena.{Lists, shape_in, IsIn}
 use Rattle.jt_verify.proofs.Values.{length-pushes, pops_values}
 use Rattle.jt_verify.proofs.Nodes.{pops_nothing, pops_a_mark}
 use Rattle.jt_verify.proofs.arena.Arena.pop_values.Goals as goal
@@ -25,7 +23,7 @@ returns-then-shape-eq0 c =
 
 pub returns : goal.returns
 returns c =
-    let node = c.node_at-node.result in
-    let found = subst (λ (ns : List Node). slice_get ns (c.args.shape.node - 1) ≡ Some node) c.as_slice-nodes.ensures c.node_at-node.ensures in
-    let is = pops_a_mark c.self.inside.nodes.items c.self.inside.links.items c.self.invariant c.args.shape c.args.count node (omega (arith, c.if-count-shape.false)) (omega (arith, c.if-shape-eq0.false)) found in
+    let ns = c.self.inside.nodes.items in
+    let within = subst (λ (t : Lists). IsIn t c.args.shape) (sym c.self.view_is) c.requires in
+    let is = pops_a_mark ns c.self.inside.links.items c.self.invariant c.args.shape c.args.count (omega (arith, c.if-count-shape.false)) (omega (arith, c.if-shape-eq0.false)) within in
     subst (λ (t : Lists). (go : Shape → Result Leads Flaw) → pops_many c.args.count (shape_in t c.args.shape) go ≡ Err flaw.WrongKind) c.self.view_is is

@@ -1,9 +1,0 @@
-use Rattle.std.proofs.Common.{◌≡◌, ◌-◌, suc}
-use Rattle.jt_expr.specs.View.{expr_view}
-use Rattle.jt_expr.specs.Cursor.{ahead}
-use Rattle.jt_expr.specs.Grammar.{concatenation}
-use Rattle.jt_expr.specs.Reading.{read, loop, chain_step, read_concatenation, read_product}
-use Rattle.jt_expr.proofs.grammar.Grammar.concatenation.Given as goal
-
-abbrev pub invariant-loop-turn : goal.invariant-loop-turn
-invariant-loop-turn g l = read_concatenation (read l.self.below) (suc l.self.below) (ahead l.fn.cursor) ≡ loop (chain_step (read l.self.below) (suc l.self.below) concatenation (read_product (read l.self.below) (suc l.self.below))) (l._turn-end - l._turn) (expr_view l.left.expr.value) (ahead l.cursor)

@@ -1,0 +1,31 @@
+//! Output that escaped texts take.
+ghost use Rattle.std.specs.Prelude.{◌≡◌, ◌-◌, ◌<◌, ◌≤◌, IfErr, OnOk, length};
+ghost use Rattle.jt_escape.specs.Escaping.{escaped, escaped_byte};
+
+use jt_budget::{Budget, Spent};
+
+// How many bytes are written for one.
+fn escaped_len(byte: u8) -> u64
+    ensures { result ≡ length (escaped_byte byte) }
+{
+    match byte {
+        b'&' | b'\'' | b'"' => 5,
+        b'<' | b'>' => 4,
+        _ => 1,
+    }
+}
+
+/// Takes as many bytes from the output as the escaped text has. More than are left are refused.
+pub(crate) fn emit_escaped(left: &mut Budget, text: &str) -> Result<(), Spent>
+    ensures ok { OnOk result ((length (escaped text.now) ≤ left.old.output)
+        × (left.new ≡ record left.old { output = left.old.output - length (escaped text.now) })) }
+    ensures err { IfErr result (λ e. (e ≡ Spent.Output)
+        × (left.old.output < length (escaped text.now)) × (left.new ≡ left.old)) }
+{
+    let mut rest = *left;
+    'bytes: for byte in text.as_bytes() {
+        rest.emit(escaped_len(*byte))?;
+    }
+    *left = rest;
+    Ok(())
+}

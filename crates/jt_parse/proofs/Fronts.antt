@@ -1,0 +1,203 @@
+-- What stands in front of tokens, and what a refusal of a part says of the whole.
+use Rattle.std.proofs.Common.{◌≡◌, ℕ, ◌<◌, ◌≤◌, Bool, true, false, ◌==◌, cond, [], ◌∷◌, length, drop, encode_utf8_all, refl, sym, ap, subst, ◌∙◌, arith, Ok, Err, String, Global, string_bytes, Result}
+use Rattle.std.proofs.lemmas.Bool.Decides.{nat_tests}
+use Rattle.std.proofs.lemmas.Slice.Eq.{bytes_eq-Decides}
+use Rattle.jt_scan.specs.declared.segment.Sign.{Sign}
+use Rattle.jt_scan.specs.declared.segment.Sign.TheVariants as s
+use Rattle.jt_scan.specs.Cut as cut
+use Rattle.jt_scan.specs.Cut.{Token}
+use Rattle.jt_expr.specs.declared.error.ExprError.{ExprError}
+use Rattle.jt_expr.specs.declared.error.ExprError.TheVariants as e
+use Rattle.jt_expr.specs.Grammar.{Tokens, word, is_reserved}
+use Rattle.jt_expr.specs.Front.{code, sees, says, past}
+use Rattle.jt_expr.specs.Promises.{Leads, Reads}
+use Rattle.jt_expr.specs.Cursor.{TakesSign, TakesAName}
+use Rattle.jt_parse.specs.Trees.{Text}
+use Rattle.jt_parse.specs.Tags.{IsName, a_name}
+use Rattle.jt_parse.specs.Readers.{TakesWord, Anything, ReadsFlat}
+
+-- ---- tests of the first token
+
+uncode : ℕ → Sign
+uncode n =
+    cond (n == 0) s.Plus (cond (n == 1) s.Minus (cond (n == 2) s.Times (cond (n == 3) s.Percent (cond (n == 4) s.Tilde (cond (n == 5) s.Less (cond (n == 6) s.Greater (cond (n == 7) s.Assign
+    (cond (n == 8) s.Dot (cond (n == 9) s.Comma (cond (n == 10) s.Colon (cond (n == 11) s.Pipe (cond (n == 12) s.LeftParen (cond (n == 13) s.RightParen (cond (n == 14) s.LeftBracket (cond (n == 15) s.RightBracket
+    (cond (n == 16) s.LeftBrace (cond (n == 17) s.RightBrace (cond (n == 18) s.Power (cond (n == 19) s.FloorDivide (cond (n == 20) s.Equal (cond (n == 21) s.NotEqual (cond (n == 22) s.LessEqual s.GreaterEqual))))))))))))))))))))))
+
+uncode_code : (k : Sign) → uncode (code k) ≡ k
+unfolding uncode
+uncode_code s.Plus = refl
+uncode_code s.Minus = refl
+uncode_code s.Times = refl
+uncode_code s.Percent = refl
+uncode_code s.Tilde = refl
+uncode_code s.Less = refl
+uncode_code s.Greater = refl
+uncode_code s.Assign = refl
+uncode_code s.Dot = refl
+uncode_code s.Comma = refl
+uncode_code s.Colon = refl
+uncode_code s.Pipe = refl
+uncode_code s.LeftParen = refl
+uncode_code s.RightParen = refl
+uncode_code s.LeftBracket = refl
+uncode_code s.RightBracket = refl
+uncode_code s.LeftBrace = refl
+uncode_code s.RightBrace = refl
+uncode_code s.Power = refl
+uncode_code s.FloorDivide = refl
+uncode_code s.Equal = refl
+uncode_code s.NotEqual = refl
+uncode_code s.LessEqual = refl
+uncode_code s.GreaterEqual = refl
+
+same_sign : (j k : Sign) → (code j == code k) ≡ true → j ≡ k
+same_sign j k e = let same : code j ≡ code k = grind (arith, nat_tests) in sym (uncode_code j) ∙ ap uncode same ∙ uncode_code k
+
+sees_sound : (k : Sign) (ts : Tokens) → sees k ts ≡ true → ts ≡ cut.sign k ∷ drop 1 ts
+sees_sound k [] e = cc
+sees_sound k (cut.name x ∷ ts) e = cc
+sees_sound k (cut.number n ∷ ts) e = cc
+sees_sound k (cut.text v ∷ ts) e = cc
+sees_sound k (cut.sign j ∷ ts) e = ap (λ i. cut.sign i ∷ ts) (same_sign j k e)
+
+eqb_self : (n : ℕ) → (n == n) ≡ true
+eqb_self n = grind (arith, nat_tests)
+
+says_sound : (w : Text) (ts : Tokens) → says w ts ≡ true → ts ≡ word w ∷ drop 1 ts
+says_sound w [] e = cc
+says_sound w (cut.name x ∷ ts) e = ap (λ y. cut.name y ∷ ts) ((bytes_eq-Decides x w).0 e)
+says_sound w (cut.number n ∷ ts) e = cc
+says_sound w (cut.text v ∷ ts) e = cc
+says_sound w (cut.sign k ∷ ts) e = cc
+
+pub true_is_false : {G : Type 0} → true ≡ false → G
+true_is_false e = absurd (cc)
+
+module _ (k : Sign) (ts new : Tokens) (b : Bool) (found : b ≡ sees k ts) (rest : new ≡ past (sees k ts) ts) where
+  pub sign_taken : b ≡ true → ts ≡ cut.sign k ∷ new
+  sign_taken h = let s : sees k ts ≡ true = sym found ∙ h in sees_sound k ts s ∙ ap (λ w. cut.sign k ∷ w) (sym (rest ∙ ap (λ c. past c ts) s))
+
+  pub sign_left : b ≡ false → new ≡ ts
+  sign_left h = rest ∙ ap (λ c. past c ts) (sym found ∙ h)
+
+  pub no_sign : b ≡ false → (w : Tokens) → ts ≡ cut.sign k ∷ w → ⊥
+  no_sign h w e = true_is_false (sym (eqb_self (code k)) ∙ sym (ap (sees k) e) ∙ sym found ∙ h)
+
+module _ (x : Text) (ts new : Tokens) (b : Bool) (found : b ≡ says x ts) (rest : new ≡ past (says x ts) ts) where
+  pub word_taken : b ≡ true → ts ≡ word x ∷ new
+  word_taken h = let s : says x ts ≡ true = sym found ∙ h in says_sound x ts s ∙ ap (λ w. word x ∷ w) (sym (rest ∙ ap (λ c. past c ts) s))
+
+  pub word_left : b ≡ false → new ≡ ts
+  word_left h = rest ∙ ap (λ c. past c ts) (sym found ∙ h)
+
+  pub no_word : b ≡ false → (w : Tokens) → ts ≡ word x ∷ w → ⊥
+  no_word h w e = true_is_false (sym ((bytes_eq-Decides x x).1 refl) ∙ sym (ap (says x) e) ∙ sym found ∙ h)
+
+-- ---- equations of tokens
+
+pub tokens_tail : (t r : Token) (u v : Tokens) → ◌≡◌ {A = Tokens} (t ∷ u) (r ∷ v) → (t ≡ r) × (u ≡ v)
+tokens_tail t r u v e = (cc, cc)
+
+pub behind : (t : Token) (ts u v : Tokens) → ts ≡ t ∷ u → ts ≡ t ∷ v → u ≡ v
+behind t ts u v e f = (tokens_tail t t u v (sym e ∙ f)).1
+
+pub same_name : (x y : Text) → ◌≡◌ {A = Token} (cut.name x) (cut.name y) → x ≡ y
+same_name x y e = cc
+
+pub same_text : (x y : Text) → ◌≡◌ {A = Token} (cut.text x) (cut.text y) → x ≡ y
+same_text x y e = cc
+
+pub no_tokens : {G : Type 0} (t : Token) (u : Tokens) → ◌≡◌ {A = Tokens} [] (t ∷ u) → G
+no_tokens t u e = absurd (cc)
+
+pub no_length : (ts : Tokens) → length ts ≡ 0 → ts ≡ []
+no_length [] e = refl
+no_length (t ∷ ts) e = absurd (omega (arith, e))
+
+-- ---- refusals
+
+-- of a part, where whatever is the whole has a part there
+module _ {P R A C : Type 0} (show : P → A) (view : R → C) (One : A → Tokens → Type 0) (Form : C → Tokens → Type 0) (EndsOne Ends : Tokens → Type 0) (level : A → ℕ) (height : C → ℕ) (m limit : ℕ) (ts u : Tokens) where
+  pub part_refused : ((c : C) (v : Tokens) → Leads Form c ts v → Ends v → (a : A) × (w : Tokens) × Leads One a u w × EndsOne w × (m < level a → limit < height c))
+      → (x : ExprError) (r w : Tokens) → Reads show One EndsOne level m u (Err x) r → Reads view Form Ends height limit ts (Err x) w
+  part_refused f e.Syntax r w g = λ c v l end. let q = f c v l end in g q.0 q.1 q.2 q.3
+  part_refused f e.TooDeep r w g = λ c v l end. let q = f c v l end in q.4 (g q.0 q.1 q.2 q.3)
+  part_refused f e.UnknownFilter r w g = g
+  part_refused f e.UnknownTest r w g = g
+  part_refused f e.NoMemory r w g = tt
+
+-- of a sign or a word, where whatever is the whole has it there
+module _ {R C : Type 0} (view : R → C) (Form : C → Tokens → Type 0) (Ends : Tokens → Type 0) (height : C → ℕ) (limit : ℕ) (ts u : Tokens) where
+  pub sign_refused : (k : Sign) → ((c : C) (v : Tokens) → Leads Form c ts v → Ends v → (w : Tokens) × (u ≡ cut.sign k ∷ w))
+      → (x : ExprError) (r w : Tokens) → TakesSign k u (Err x) r → Reads view Form Ends height limit ts (Err x) w
+  sign_refused k f e.Syntax r w g = λ c v l end. let q = f c v l end in g q.0 q.1
+  sign_refused k f e.TooDeep r w g = absurd g
+  sign_refused k f e.UnknownFilter r w g = g
+  sign_refused k f e.UnknownTest r w g = g
+  sign_refused k f e.NoMemory r w g = tt
+
+  pub word_refused : (x : Text) → ((c : C) (v : Tokens) → Leads Form c ts v → Ends v → (w : Tokens) × (u ≡ word x ∷ w))
+      → (f : ExprError) (r w : Tokens) → TakesWord x u (Err f) r → Reads view Form Ends height limit ts (Err f) w
+  word_refused x f e.Syntax r w g = λ c v l end. let q = f c v l end in g q.0 q.1
+  word_refused x f e.TooDeep r w g = absurd g
+  word_refused x f e.UnknownFilter r w g = g
+  word_refused x f e.UnknownTest r w g = g
+  word_refused x f e.NoMemory r w g = tt
+
+-- ---- names
+
+abbrev pub NameRead : Tokens → Result (String Global) ExprError → Tokens → Type 0
+NameRead = ReadsFlat string_bytes IsName Anything
+
+pub leads_name : (a : Text) (ts v : Tokens) → Leads IsName a ts v → (x : Text) × (ts ≡ cut.name x ∷ v) × (is_reserved x ≡ false) × (a ≡ encode_utf8_all x)
+leads_name a ts v (y, e, a_name {x} h) = (x, e, h, refl)
+
+pub name_leads : (x : Text) (ts v : Tokens) → ts ≡ cut.name x ∷ v → is_reserved x ≡ false → Leads IsName (encode_utf8_all x) ts v
+name_leads x ts v e h = (cut.name x ∷ [], e, a_name h)
+
+pub name_read : (n : String Global) (x : Text) (ts u : Tokens) → ts ≡ cut.name x ∷ u → is_reserved x ≡ false → string_bytes n ≡ encode_utf8_all x → NameRead ts (Ok n) u
+name_read n x ts u e h is = (
+  subst (λ z. Leads IsName z ts u) (sym is) (name_leads x ts u e h),
+  omega arith,
+  λ b v l any.
+      let p = leads_name b ts v l in
+      let same = tokens_tail (cut.name p.0) (cut.name x) v u (sym p.1 ∙ e) in
+      (p.3 ∙ ap encode_utf8_all (same_name p.0 x same.0) ∙ sym is, same.1),
+)
+
+pub name_refused : (x : ExprError) (ts r w : Tokens) → TakesAName ts (Err x) r → NameRead ts (Err x) w
+name_refused e.Syntax ts r w g = λ b v l any. let p = leads_name b ts v l in g p.0 v p.1 p.2
+name_refused e.TooDeep ts r w g = absurd g
+name_refused e.UnknownFilter ts r w g = g
+name_refused e.UnknownTest ts r w g = g
+name_refused e.NoMemory ts r w g = tt
+
+-- what stands behind a name that is read
+pub behind_name : (n : String Global) (ts u : Tokens) → NameRead ts (Ok n) u → (x : Text) (v : Tokens) → ts ≡ cut.name x ∷ v → is_reserved x ≡ false
+    → (encode_utf8_all x ≡ string_bytes n) × (v ≡ u)
+behind_name n ts u g x v e h = g.2 (encode_utf8_all x) v (name_leads x ts v e h) tt
+
+-- ---- the last part
+
+-- what is promised of the whole, by what is answered of its last part
+abbrev pub Whole : {Q R B C : Type 0} → (Q → B) → (R → C) → (B → C) → (C → Tokens → Type 0) → (Tokens → Type 0) → (C → ℕ) → ℕ → Tokens → Result Q ExprError → Tokens → Type 0
+Whole {R = R} show view made Form Ends height limit ts (Ok q) rest = (r : R) → view r ≡ made (show q) → Reads view Form Ends height limit ts (Ok r) rest
+Whole show view made Form Ends height limit ts (Err x) rest = (w : Tokens) → Reads view Form Ends height limit ts (Err x) w
+
+-- where whatever is the whole has that part at its end, and is made of it
+module _ {Q R B C : Type 0} (show : Q → B) (view : R → C) (Last : B → Tokens → Type 0) (Form : C → Tokens → Type 0) (EndsLast Ends : Tokens → Type 0) (level : B → ℕ) (height : C → ℕ) (m limit : ℕ) (ts u : Tokens) (made : B → C)
+    (into : (c : C) (v : Tokens) → Leads Form c ts v → Ends v → (b : B) × Leads Last b u v × (c ≡ made b)) (out : (b : B) (v : Tokens) → Leads Last b u v → Leads Form (made b) ts v)
+    (ends : (v : Tokens) → Ends v → EndsLast v) (fits : (b : B) → level b ≤ m → height (made b) ≤ limit) (over : (b : B) → m < level b → limit < height (made b)) where
+  pub last_part : (q : Result Q ExprError) (w : Tokens) → Reads show Last EndsLast level m u q w → Whole show view made Form Ends height limit ts q w
+  last_part (Ok q) w g = λ r is. (
+    subst (λ z. Leads Form z ts w) (sym is) (out (show q) w g.0),
+    subst (λ z. height z ≤ limit) (sym is) (fits (show q) g.1),
+    λ c v l end.
+        let p = into c v l end in
+        let only = g.2 p.0 v p.1 (ends v end) in
+        (p.2 ∙ ap made only.0 ∙ sym is, only.1),
+  )
+  last_part (Err x) w g = λ z.
+      part_refused show view Last Form EndsLast Ends level height m limit ts u
+      (λ c v l end. let p = into c v l end in (p.0, v, p.1, ends v end, λ less. subst (λ y. limit < height y) (sym p.2) (over p.0 less))) x w z g

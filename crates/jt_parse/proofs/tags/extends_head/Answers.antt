@@ -1,0 +1,20 @@
+use Rattle.std.proofs.Common.{rules, ap, codes, ℕ, Ok, Err}
+use Rattle.jt_expr.specs.Cursor.{ahead}
+use Rattle.jt_parse.specs.Readers.{ReadsHead}
+use Rattle.jt_parse.specs.Tags.{a_statement}
+use Rattle.jt_parse.specs.declared.heads.Head.TheVariants as h
+use Rattle.jt_parse.specs.declared.tree.Stmt.TheVariants as stmt
+use Rattle.jt_parse.proofs.FirstTags.{extends_last, view_extends}
+use Rattle.jt_parse.proofs.tags.extends_head.Goals as goal
+
+pub returns-in_err-name : goal.returns-in_err-name
+returns-in_err-name c =
+    let q : (limit : ℕ) → ReadsHead c.args.line limit (codes "extends") (ahead c.args.cursor.now) (Err c.in_err-name.field-0.0) (ahead c.text.new.cursor) =
+    λ limit. extends_last c.args.line limit (ahead c.args.cursor.now) (Err c.in_err-name.field-0.0) _ c.in_err-name.ensures _ in
+    search rules
+
+pub returns : goal.returns
+returns c = λ limit.
+    extends_last c.args.line limit (ahead c.args.cursor.now)
+    (Ok c.in_ok-name.name) (ahead c.text.new.cursor) c.in_ok-name.ensures
+    (h.Statement (stmt.Extends c.args.line c.in_ok-name.name)) (ap (λ z. a_statement z) (view_extends c.args.line c.in_ok-name.name))

@@ -1,0 +1,32 @@
+use Rattle.std.proofs.Common.{rules, ap, codes, ℕ, Ok, Err}
+use Rattle.jt_expr.specs.Cursor.{ahead}
+use Rattle.jt_parse.specs.Readers.{ReadsHead}
+use Rattle.jt_parse.specs.Tags.{a_statement}
+use Rattle.jt_parse.specs.declared.heads.Head.TheVariants as h
+use Rattle.jt_parse.specs.declared.tree.Stmt.TheVariants as stmt
+use Rattle.jt_parse.proofs.FirstTags.{include_unnamed, include_ignoring, include_last, view_include}
+use Rattle.jt_parse.proofs.tags.include_head.Goals as goal
+
+pub returns-in_err-name : goal.returns-in_err-name
+returns-in_err-name c =
+    let q : (limit : ℕ) → ReadsHead c.args.line limit (codes "include") (ahead c.args.cursor.now) (Err c.in_err-name.field-0.0) (ahead c.text.new.cursor) =
+    λ limit. include_unnamed c.args.line limit (ahead c.args.cursor.now) _ _ _ c.in_err-name.ensures in
+    search rules
+
+pub returns-in_err-missing : goal.returns-in_err-missing
+returns-in_err-missing c =
+    let q : (limit : ℕ) → ReadsHead c.args.line limit (codes "include") (ahead c.args.cursor.now) (Err c.in_err-missing.field-0.0) (ahead c.missing.new.cursor) =
+    λ limit. include_ignoring c.args.line limit (ahead c.args.cursor.now) c.in_ok-name.name (ahead c.text.new.cursor) c.in_ok-name.ensures _ _ _ c.in_err-missing.ensures in
+    search rules
+
+pub returns-in_err-context : goal.returns-in_err-context
+returns-in_err-context c =
+    let q : (limit : ℕ) → ReadsHead c.args.line limit (codes "include") (ahead c.args.cursor.now) (Err c.in_err-context.field-0.0) (ahead c.context.new.cursor) =
+    λ limit. include_last c.args.line limit (ahead c.args.cursor.now) c.in_ok-name.name (ahead c.text.new.cursor) c.in_ok-name.ensures c.in_ok-missing.missing (ahead c.missing.new.cursor) c.in_ok-missing.ensures (Err c.in_err-context.field-0.0) _ c.in_err-context.ensures _ in
+    search rules
+
+pub returns : goal.returns
+returns c = λ limit.
+    include_last c.args.line limit (ahead c.args.cursor.now) c.in_ok-name.name (ahead c.text.new.cursor) c.in_ok-name.ensures c.in_ok-missing.missing (ahead c.missing.new.cursor) c.in_ok-missing.ensures
+    (Ok c.in_ok-context.context) (ahead c.context.new.cursor) c.in_ok-context.ensures
+    (h.Statement (stmt.Include c.args.line c.in_ok-name.name c.in_ok-missing.missing c.in_ok-context.context)) (ap (λ z. a_statement z) (view_include c.args.line c.in_ok-name.name c.in_ok-missing.missing c.in_ok-context.context))

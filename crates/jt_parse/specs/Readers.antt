@@ -1,0 +1,87 @@
+-- What only private clauses cite: what the readers of a tag's parts give: what jt_expr's `Reads` says, of the forms of Tags.
+use Rattle.std.specs.Prelude.{◌≡◌, ℕ, max, List, [], ◌∷◌, suc, encode_utf8_all, Option, Some, None, Result, Ok, Err}
+use Rattle.jt_scan.specs.declared.segment.Sign.{Sign}
+use Rattle.jt_scan.specs.declared.segment.Sign.TheVariants as s
+use Rattle.jt_scan.specs.Cut as cut
+use Rattle.jt_expr.specs.declared.error.ExprError.{ExprError}
+use Rattle.jt_expr.specs.declared.error.ExprError.TheVariants as e
+use Rattle.jt_expr.specs.Trees.{Expr, Literal, levels, exprs_levels, pairs_levels}
+use Rattle.jt_expr.specs.Grammar.{Tokens, word}
+use Rattle.jt_expr.specs.Promises.{Reads}
+use Rattle.jt_parse.specs.Trees.{Text, Filtering}
+use Rattle.jt_parse.specs.Tags.{literal_token, Says, an_opening, a_text, head_levels}
+use Rattle.jt_parse.specs.HeadView.{head_view}
+use Rattle.jt_parse.specs.declared.heads.Head.{Head}
+
+-- the word, or it does not stand in front
+abbrev pub TakesWord : List ℕ → Tokens → Result (Unit {0}) ExprError → Tokens → Type 0
+TakesWord w ts (Ok x) new = ts ≡ word w ∷ new
+TakesWord w ts (Err e.Syntax) new = (v : Tokens) → ts ≡ word w ∷ v → ⊥
+TakesWord w ts (Err e.TooDeep) new = ⊥
+TakesWord w ts (Err e.UnknownFilter) new = ⊥
+TakesWord w ts (Err e.UnknownTest) new = ⊥
+TakesWord w ts (Err e.NoMemory) new = ⊥
+
+-- ---- what stands behind a form
+
+abbrev pub Anything : Tokens → Type 0
+Anything v = Unit {0}
+
+abbrev pub NoToken : Tokens → Type 0
+NoToken v = v ≡ []
+
+abbrev pub NoSign : Sign → Tokens → Type 0
+NoSign k v = (w : Tokens) → v ≡ cut.sign k ∷ w → ⊥
+
+abbrev pub NoWord : List ℕ → Tokens → Type 0
+NoWord x v = (w : Tokens) → v ≡ word x ∷ w → ⊥
+
+-- no parameter goes on, and no other follows
+abbrev pub NoParameter : Tokens → Type 0
+NoParameter v = NoSign s.Assign v × NoSign s.Comma v
+
+-- ---- forms
+
+-- a text literal
+abbrev pub IsText : Text → Tokens → Type 0
+IsText a x = (v : List ℕ) × (x ≡ cut.text v ∷ []) × (a ≡ encode_utf8_all v)
+
+abbrev pub IsLiteral : Literal → Tokens → Type 0
+IsLiteral l x = (t : cut.Token) × (x ≡ t ∷ []) × (literal_token t ≡ Some l)
+
+-- of a parameter
+abbrev pub IsDefault : Option Literal → Tokens → Type 0
+IsDefault None x = x ≡ []
+IsDefault (Some l) x = (t : cut.Token) × (x ≡ cut.sign s.Assign ∷ t ∷ []) × (literal_token t ≡ Some l)
+
+-- ---- levels
+
+abbrev pub value_levels : Text × Expr → ℕ
+value_levels p = levels p.1
+
+abbrev pub one_filtering_levels : Filtering → ℕ
+one_filtering_levels f = max (exprs_levels f.arguments) (pairs_levels f.keywords)
+
+-- the most levels of one of the parts
+abbrev pub most : {A : Type 0} → (A → ℕ) → List A → ℕ
+most level [] = 0
+most level (a ∷ bs) = max (level a) (most level bs)
+
+-- ---- readers
+
+-- of a form without expressions
+abbrev pub ReadsFlat : {A B : Type 0} → (A → B) → (B → Tokens → Type 0) → (Tokens → Type 0) → Tokens → Result A ExprError → Tokens → Type 0
+ReadsFlat view Form Ends ts result rest = Reads view Form Ends (λ b. 0) 0 ts result rest
+
+-- of what stands behind the first word of a statement's tag, where expressions may have so many levels
+abbrev pub ReadsHead : ℕ → ℕ → List ℕ → Tokens → Result Head ExprError → Tokens → Type 0
+ReadsHead line limit w ts result rest = Reads head_view (λ h x. Says line h (word w ∷ x)) NoToken head_levels (suc limit) ts result rest
+
+-- the only one of the names, as that of a text that is captured
+abbrev pub GivesText : List Text → Result Head ExprError → Type 0
+GivesText names (Ok h) = (x : Text) × (names ≡ x ∷ []) × (head_view h ≡ an_opening (a_text x))
+GivesText names (Err e.Syntax) = (x : Text) → names ≡ x ∷ [] → ⊥
+GivesText names (Err e.TooDeep) = ⊥
+GivesText names (Err e.UnknownFilter) = ⊥
+GivesText names (Err e.UnknownTest) = ⊥
+GivesText names (Err e.NoMemory) = ⊥
