@@ -42,9 +42,13 @@ template n (Some body) = record { name = n; body = body } ∷ []
 abbrev pub Home : Type 0
 Home = Text
 
--- the templates from the entry to the root: no chain has more than 16
+-- the greatest number of templates in a chain
+abbrev pub max_templates : ℕ
+max_templates = 16
+
+-- the templates from the entry to the root: no chain has more than the greatest number
 abbrev pub templates : Sources → Home → List Template
-templates sources home = flat_map (λ n. template n (sources n)) (names_up sources 16 (Some home))
+templates sources home = flat_map (λ n. template n (sources n)) (names_up sources max_templates (Some home))
 
 -- ---- blocks
 

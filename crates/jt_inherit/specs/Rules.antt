@@ -1,10 +1,10 @@
 -- The static rules of chains: what a refusal of each name says of sources and an entry.
-use Rattle.std.specs.Prelude.{ℕ, ◌<◌, Bool, true, false, not, ◌&&◌, ◌||◌, ◌==◌, ◌⊎◌, IsTrue, List, [], ◌∷◌, ◌++◌, map, flat_map, length, Some, nat_lt}
+use Rattle.std.specs.Prelude.{ℕ, suc, ◌<◌, Bool, true, false, not, ◌&&◌, ◌||◌, ◌==◌, ◌⊎◌, IsTrue, List, [], ◌∷◌, ◌++◌, map, flat_map, length, Some, nat_lt}
 use Rattle.std.specs.Option.{is_none}
 use Rattle.std.specs.List.{list_any}
 use Rattle.jt_inherit.specs.Names.{IsName}
 use Rattle.jt_parse.specs.Trees.{Text}
-use Rattle.jt_inherit.specs.Chain.{Sources, Home, names_up, templates, BlockBody, blocks_in, all_bodies, bodies, from_given, macros}
+use Rattle.jt_inherit.specs.Chain.{Sources, Home, names_up, max_templates, templates, BlockBody, blocks_in, all_bodies, bodies, from_given, macros}
 use Rattle.jt_parse.specs.Texts.{among, repeated}
 use Rattle.jt_inherit.specs.Includes.{included, needs_in}
 use Rattle.jt_inherit.specs.Supers.{calls_super}
@@ -27,9 +27,9 @@ lacks_super [] = false
 lacks_super (b ∷ bs) = (calls_super b.body && is_empty (from_given bs)) || lacks_super bs
 
 module _ (sources : Sources) (escaping : Bool) where
-  -- the first 17 names on the way to the root
+  -- the names on the way to the root, one more than a chain may have at most
   abbrev pub way : Home → List Text
-  way h = names_up sources 17 (Some h)
+  way h = names_up sources (suc max_templates) (Some h)
 
   -- the names that a chain asks for: its templates, and the included ones that may not be missing; with true, the others too
   abbrev pub asked : Bool → Home → List Text
@@ -50,7 +50,7 @@ module _ (sources : Sources) (escaping : Bool) where
 
   -- the way to the root ends within 16 templates, and each of them has a source
   abbrev pub is_whole : Home → Bool
-  is_whole h = not (repeated (way h)) && (nat_lt (length (way h)) 17 && not (list_any (λ n. is_none (sources n)) (way h)))
+  is_whole h = not (repeated (way h)) && (nat_lt (length (way h)) (suc max_templates) && not (list_any (λ n. is_none (sources n)) (way h)))
 
   -- of some whole chain that is reached
   abbrev pub InSomeChain : Home → (Home → Bool) → Type 0
@@ -71,7 +71,7 @@ module _ (sources : Sources) (escaping : Bool) where
   -- C4: the first 17 names differ, or more than 1,024 chains are reached
   abbrev pub ChainTooLong : Home → Type 0
   ChainTooLong entry =
-      Somewhere entry (λ h. IsTrue ((length (way h) == 17) && not (repeated (way h))))
+      Somewhere entry (λ h. IsTrue ((length (way h) == suc max_templates) && not (repeated (way h))))
       ⊎ ((hs : List Home) × (max_chains < length hs) × IsTrue (not (repeated hs)) × ((h : Home) → IsTrue (among h hs) → Reaches entry h))
 
   -- C5: one block name twice in a template

@@ -6,7 +6,7 @@ use Rattle.jt_parse.specs.Texts.{repeated}
 use Rattle.jt_parse.specs.Trees.{Text, body_weight}
 use Rattle.jt_scan.specs.declared.options.Options.{Options}
 use Rattle.jt_inherit.specs.Along.{ArePlaces, templates_at}
-use Rattle.jt_inherit.specs.Chain.{Sources, Template, extends_of, sources_in}
+use Rattle.jt_inherit.specs.Chain.{max_templates, Sources, Template, extends_of, sources_in}
 use Rattle.jt_inherit.specs.Chains.{Given, AreRead, IsOnly}
 use Rattle.jt_inherit.specs.Small.{source_len}
 
@@ -33,4 +33,4 @@ pub record IsWay (ts : List Template) (h : Text) (is : List ℕ) (p : Option Tex
   pub places : ArePlaces ts is
   pub leads : Leads (sources_in ts) (Some h) (templates_at ts is) p
   pub once : repeated (map (λ t. t.name) (templates_at ts is)) ≡ false
-  pub few : length is ≤ 16
+  pub few : length is ≤ max_templates

@@ -86,14 +86,17 @@ impl<W: Write> Sink for IoSink<W> {
 ///
 /// # Errors
 ///
-/// Where the sink refuses a piece, and so has failed. What it took is then a beginning of the bytes.
+/// Where the sink had failed, and then nothing is put, or refuses a piece, and so has failed. What it took is then a beginning of the bytes.
 pub fn put_all<W: Sink>(sink: &mut W, bytes: &[u8]) -> Result<(), SinkFailed>
-    requires { W.failed sink.old ≡ false }
+    ensures idle { W.failed sink.old ≡ true → sink.new ≡ sink.old }
     ensures all { OnOk result (Appends (W.taken sink.old) (W.taken sink.new) bytes.now) }
     ensures works { OnOk result (W.failed sink.new ≡ false) }
     ensures front { OnErr result (TookFront bytes.now (W.taken sink.old) (W.taken sink.new)) }
     ensures fails { OnErr result (W.failed sink.new ≡ true) }
 {
+    if sink.has_failed() {
+        return Err(SinkFailed);
+    }
     let mut rest = bytes;
     'pieces: while !rest.is_empty() {
         let count = sink.put(rest)?;

@@ -8,9 +8,8 @@ use Rattle.jt_scan.specs.declared.segment.Sign.TheVariants as s
 use Rattle.jt_scan.specs.declared.options.Options.{Options}
 use Rattle.jt_scan.specs.declared.segment.Segment.{Segment as Part}
 use Rattle.jt_scan.specs.View.{cut_of, segment_view}
-use Rattle.jt_scan.specs.Scanning.{EndsWith}
 use Rattle.jt_scan.specs.Cut as cut
-use Rattle.jt_scan.specs.Cut.{Segment}
+use Rattle.jt_scan.specs.Cut.{EndsWith, Segment}
 use Rattle.jt_expr.specs.Trees.{Expr, Pairs}
 use Rattle.jt_expr.specs.Grammar.{Tokens, word, Level, Spells}
 use Rattle.jt_expr.specs.Sizes.{expr_bytes, exprs_bytes, pairs_bytes, tokens_bytes}

@@ -4,8 +4,7 @@ use Rattle.std.proofs.lemmas.Bool.{cases_lt}
 use Rattle.std.proofs.lemmas.Str.{encodes-chars, encodes-append, length-le-encodes, chars-nil}
 use Rattle.std.specs.Str.{chars}
 use lib.Utf8.{encodes}
-use Rattle.jt_scan.specs.Cut.{Text, is_space, after_space}
-use Rattle.jt_scan.specs.Scanning.{EndsWith}
+use Rattle.jt_scan.specs.Cut.{Text, EndsWith, is_space, after_space}
 use Rattle.jt_parse.specs.Kept.{after_lf, all_pass, ending, ending_starts, without_end, Side, is_start, after_left, removed_right, kept}
 use Rattle.jt_scan.specs.declared.options.Options.{Options}
 

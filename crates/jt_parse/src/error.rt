@@ -4,7 +4,7 @@ use std::alloc::{AllocError, AllocFailed};
 use thiserror::Error;
 
 /// Why segments are no template. The line is that of the tag in which the fault was found, and of
-/// an `if` that is never closed its own tag's.
+/// a statement that is never closed its first tag's. Want of memory has no line.
 #[derive(Clone, Copy, Debug, Drop, Error, PartialEq, Eq)]
 pub enum ParseError {
     /// No tree is spelled so.

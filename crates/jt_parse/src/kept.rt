@@ -2,7 +2,7 @@
 
 ghost use Rattle.std.specs.Prelude.{◌≡◌, []};
 ghost use Rattle.std.specs.Str.{chars};
-ghost use Rattle.jt_scan.specs.Scanning.{EndsWith};
+ghost use Rattle.jt_scan.specs.Cut.{EndsWith};
 ghost use Rattle.jt_scan.specs.View.{part_view};
 ghost use Rattle.jt_parse.specs.Kept as spec;
 ghost use Rattle.jt_parse.specs.SideView.{side_view, ahead_view, test_of};

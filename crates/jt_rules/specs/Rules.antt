@@ -14,6 +14,18 @@ use Rattle.jt_rules.specs.World.{World}
 use Rattle.jt_rules.specs.declared.error.ScopeError.{ScopeError}
 use Rattle.jt_rules.specs.declared.error.ScopeError.TheVariants as error
 
+-- the greatest number of a macro's parameters
+abbrev pub max_parameters : ℕ
+max_parameters = 255
+
+-- the greatest number of names that a template binds, each counted as often as written
+abbrev pub max_bindings : ℕ
+max_bindings = 4096
+
+-- the greatest number of names that the chains read or bind, each counted once a chain
+abbrev pub max_names : ℕ
+max_names = 65535
+
 -- of one of these
 abbrev pub ForSome : {A : Type 0} → (A → Type 0) → List A → Type 0
 ForSome P [] = ⊥
@@ -69,14 +81,14 @@ module _ (world : World) (home : Home) where
   BadArguments (declares x ps) w = IsTrue (repeated (parameter_names ps))
   BadArguments u w = ⊥
 
-  -- V5, of a macro: more than 255 parameters
+  -- V5, of a macro: too many parameters
   abbrev pub TooManyParameters : Use → Within → Type 0
-  TooManyParameters (declares x ps) w = 255 < length ps
+  TooManyParameters (declares x ps) w = max_parameters < length ps
   TooManyParameters u w = ⊥
 
-  -- V5, of a template: more than 4,096 names are bound, counted as often as written
+  -- V5, of a template: too many names are bound, counted as often as written
   abbrev pub BindsTooMany : Template → Type 0
-  BindsTooMany t = 4096 < body_bound t.body
+  BindsTooMany t = max_bindings < body_bound t.body
 
   -- at one of the chain's places
   abbrev pub Somewhere : (Use → Within → Type 0) → Type 0
@@ -96,9 +108,9 @@ abbrev pub names_counted : World → List Home → ℕ
 names_counted world [] = 0
 names_counted world (h ∷ hs) = length (ascending (own_names world.sources h)) + names_counted world hs
 
--- a rule is broken in one of the chains; V5, of all chains: they read or bind more than 65,535 names
+-- a rule is broken in one of the chains; V5, of all chains: they read or bind too many names
 abbrev pub Broken : ScopeError → World → List Home → Type 0
-Broken error.TooManySlots world order = ForSome (λ h. BrokenIn world h error.TooManySlots) order ⊎ (65535 < names_counted world order)
+Broken error.TooManySlots world order = ForSome (λ h. BrokenIn world h error.TooManySlots) order ⊎ (max_names < names_counted world order)
 Broken rule world order = ForSome (λ h. BrokenIn world h rule) order
 
 -- no rule is broken

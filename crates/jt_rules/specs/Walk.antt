@@ -17,6 +17,7 @@ use Rattle.jt_rules.specs.World.{World}
 pub use Rattle.jt_rules.specs.Spots.{Within, parameter_names}
 pub use Rattle.jt_rules.specs.Arguments.{no_keywords, fits, reached, is_filled, filter_fits}
 pub use Rattle.jt_rules.specs.Rules.{names_counted}
+use Rattle.jt_rules.specs.Rules.{max_parameters, max_bindings}
 use Rattle.jt_rules.specs.Arguments.{callee_takes, test_takes}
 use Rattle.jt_ops.specs.declared.test_id.TestId.{TestId}
 use Rattle.jt_parse.specs.Texts.{repeated}
@@ -129,7 +130,7 @@ module _ (world : World) (home : Home) where
   -- a macro's own name and its parameters
   abbrev pub macro_broken : Text → List Parameter → Option ScopeError
   macro_broken x ps =
-      option_or (read_alone x) (option_or (all_used (parameter_names ps)) (option_or (unless (not (repeated (parameter_names ps)))) (refused (nat_lt 255 (length ps)) error.TooManySlots)))
+      option_or (read_alone x) (option_or (all_used (parameter_names ps)) (option_or (unless (not (repeated (parameter_names ps)))) (refused (nat_lt max_parameters (length ps)) error.TooManySlots)))
 
   abbrev mutual
     pub stmt_broken : Stmt → Within → Option ScopeError
@@ -156,11 +157,11 @@ module _ (world : World) (home : Home) where
     branches_broken no_branches w = None
     branches_broken (branch line c body rest) w = option_or (option_or (broken c w) (body_broken body w)) (branches_broken rest w)
 
-  -- of the templates of a chain; a template binds at most 4,096 names, as often as written
+  -- of the templates of a chain; a template binds so many names at most, counted as often as written
   abbrev pub templates_broken : List Template → Option ScopeError
   templates_broken [] = None
   templates_broken (t ∷ ts) =
-      option_or (option_or (body_broken t.body (record { in_loop = false; in_block = false })) (refused (nat_lt 4096 (body_bound t.body)) error.TooManySlots)) (templates_broken ts)
+      option_or (option_or (body_broken t.body (record { in_loop = false; in_block = false })) (refused (nat_lt max_bindings (body_bound t.body)) error.TooManySlots)) (templates_broken ts)
 
 -- the first rule that the chains break
 abbrev pub chains_broken : World → List Home → Option ScopeError

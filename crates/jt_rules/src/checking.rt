@@ -9,7 +9,7 @@ ghost use Rattle.jt_inherit.specs.Chain.{templates};
 ghost use Rattle.jt_inherit.specs.Uses.{own_names};
 ghost use Rattle.jt_inherit.specs.View.{chain_view};
 ghost use Rattle.jt_rules.specs.Walk as rules;
-ghost use Rattle.jt_rules.specs.Rules.{KeepsRules, Breaks};
+ghost use Rattle.jt_rules.specs.Rules.{KeepsRules, Breaks, max_bindings, max_names};
 ghost use Rattle.jt_rules.specs.ScopeView.{its_world, its_home};
 ghost use Rattle.jt_rules.specs.Standing.{world_in, home_in};
 ghost use Rattle.jt_rules.specs.World.{world_of};
@@ -86,7 +86,7 @@ fn template_broken(scope: &Scope<'_>, body: &[Stmt]) -> Result<Option<ScopeError
     ensures { IfOk result (λ o. o
         ≡ option_or (rules.body_broken (its_world scope.now) (its_home scope.now)
         (body_view body.now) (record { in_loop = false; in_block = false }))
-        (rules.refused (nat_lt 4096 (body_bound (body_view body.now))) error.TooManySlots)) }
+        (rules.refused (nat_lt max_bindings (body_bound (body_view body.now))) error.TooManySlots)) }
 {
     let around = Within {
         in_loop: false,
@@ -102,7 +102,7 @@ fn template_broken(scope: &Scope<'_>, body: &[Stmt]) -> Result<Option<ScopeError
 /// Whether the chains read or bind few enough names, once a chain.
 fn has_few_names(alloc: Global, chain: &Chain) -> Result<bool, AllocError>
     ensures { IfOk result (λ b.
-        b ≡ nat_le (rules.names_counted (world_in chain.now) (chain_view chain.now).order) 65535) }
+        b ≡ nat_le (rules.names_counted (world_in chain.now) (chain_view chain.now).order) max_names) }
 {
     let mut left = MAX_NAMES;
     for home in 0..chain.homes.len() {

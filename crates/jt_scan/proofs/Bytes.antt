@@ -9,8 +9,8 @@ use Rattle.std.proofs.Math.Seq.{drop-append_seam, take-length, drop-length}
 use Rattle.std.specs.Str.{chars, IsCharBoundary}
 use lib.Utf8.{encode, encodes}
 use Rattle.memchr.specs.Find.{IsFirst, FindsNeedle, OccursAt}
-use Rattle.jt_scan.specs.Cut.{Text, begins, opens, ends_comment, NoneBegins}
-use Rattle.jt_scan.specs.Scanning.{EndsWith, clear_run, is_second, OpensAt}
+use Rattle.jt_scan.specs.Cut.{Text, EndsWith, begins, opens, ends_comment, NoneBegins}
+use Rattle.jt_scan.specs.Scanning.{clear_run, is_second, OpensAt}
 use Rattle.jt_scan.proofs.Steps.{both, Stops, clear_of}
 
 -- ---- an end of a text

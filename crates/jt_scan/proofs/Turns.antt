@@ -11,12 +11,12 @@ use Rattle.jt_scan.specs.declared.segment.Kind.TheVariants.{Variable, Block}
 use Rattle.jt_scan.specs.declared.segment.Sign.{Sign}
 use Rattle.jt_scan.specs.declared.segment.Sign.TheVariants as s
 use Rattle.jt_scan.specs.Cut as cuts
-use Rattle.jt_scan.specs.Cut.{Text, Token, Segment, data_of, comment, begins, closes, braces, opens, ends_comment, is_space, IsSegment, some_data, a_tag, a_comment, a_raw, Inside, closed, space, token, closer, closing_text, closer_at, mark_text, first_mark, behind_mark, marks, comment_marks, after_word, endraw_closed, endraw_named, endraw_at, ends_raw, raw, second, starts_name, name, line_at, lines, after_space}
+use Rattle.jt_scan.specs.Cut.{Text, EndsWith, Token, Segment, data_of, comment, begins, closes, braces, opens, ends_comment, is_space, IsSegment, some_data, a_tag, a_comment, a_raw, Inside, closed, space, token, closer, closing_text, closer_at, mark_text, first_mark, behind_mark, marks, comment_marks, after_word, endraw_closed, endraw_named, endraw_at, ends_raw, raw, second, starts_name, name, line_at, lines, after_space}
 use Rattle.jt_scan.specs.declared.segment.Mark.{Mark}
 use Rattle.jt_scan.specs.declared.segment.Mark.TheVariants as m
 use Rattle.jt_scan.specs.declared.segment.Marks.{Marks}
 use Rattle.jt_scan.proofs.Tables.{closer_says, marked}
-use Rattle.jt_scan.specs.Scanning.{Outcome, ◌>>=◌, EndsWith, Tokens, closing, spells, counted, front_by, token_at, front_at, with_token, then_inside, inside, tag_at, run, clear_run, raw_at, ended_comment, comment_at, segment_at, with_segment, then_cut, cut, IsGiven}
+use Rattle.jt_scan.specs.Scanning.{Outcome, ◌>>=◌, Tokens, closing, spells, counted, front_by, token_at, front_at, with_token, then_inside, inside, tag_at, run, clear_run, raw_at, ended_comment, comment_at, segment_at, with_segment, then_cut, cut, IsGiven}
 use Rattle.jt_scan.proofs.Steps.{Stops, by_test, opener_says, clear_says, run_says}
 use Rattle.jt_scan.proofs.InsideLaws.{IsFront, front_says}
 use Rattle.jt_scan.proofs.CutLaws.{segment_says}

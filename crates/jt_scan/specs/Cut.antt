@@ -310,6 +310,10 @@ pub data Cuts (source : Text) (Ends : Text → Type 0) : List Segment → Text �
 abbrev pub IsCut : List Segment → Text → Type 0
 IsCut ss source = Cuts source (λ x. x ≡ []) ss source
 
+-- the text ends with the other one
+abbrev pub EndsWith : Text → Text → Type 0
+EndsWith x rest = (y : Text) × (x ≡ y ++ rest)
+
 -- ---- how much stands in segments
 
 -- a text counts 2, and every other token 1

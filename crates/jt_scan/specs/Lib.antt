@@ -6,3 +6,4 @@ pub mod Scanning
 pub mod SourceView
 pub mod Refused
 pub mod View
+pub mod PartView

@@ -1,4 +1,4 @@
--- What the scanner computes. No public contract names it: the cut is found by it.
+-- What the scanner computes: the cut is found by it. Private clauses and proofs alone cite it.
 use Rattle.std.specs.Prelude.{◌≡◌, ℕ, pos, zero, suc, ◌+◌, ◌*◌, nat_lt, Bool, true, false, ◌==◌, List, [], ◌∷◌, ◌++◌, ◌||◌, slice_index, length, drop, Option, Some, None, ◌&&◌, Result, Ok, Err, if◌then◌else◌}
 use Rattle.unicode_ident.specs.Ident.{is_xid_continue}
 use Rattle.jt_scan.specs.declared.error.ScanError.{ScanError}
@@ -241,10 +241,6 @@ cut source (suc m) (c ∷ cs) = then_cut (segment_at (line_at source (c ∷ cs))
 abbrev pub IsGiven : {A : Type 0} → ScanError → Result A ScanError → Type 0
 IsGiven NoMemory o = Unit {0}
 IsGiven e o = o ≡ Err e
-
--- the text ends with the other one
-abbrev pub EndsWith : Text → Text → Type 0
-EndsWith x rest = (y : Text) × (x ≡ y ++ rest)
 
 -- the byte behind `{` that makes an opener of the two
 abbrev pub is_second : ℕ → Bool

@@ -7,16 +7,8 @@ use Rattle.jt_scan.specs.declared.segment.Part.{Part}
 use Rattle.jt_scan.specs.declared.segment.Part.TheVariants as s
 use Rattle.jt_scan.specs.declared.segment.Token.{Token}
 use Rattle.jt_scan.specs.declared.segment.Token.TheVariants as t
-use Rattle.jt_scan.specs.declared.tokens.Front.{Front}
-use Rattle.jt_scan.specs.declared.tokens.Front.TheVariants as f
 use Rattle.jt_scan.specs.Cut as cut
-use Rattle.jt_scan.specs.Literals.{Text, unescaped}
-use Rattle.jt_scan.specs.Literals as literal
-use Rattle.jt_scan.specs.declared.quotes.Escape.{Escape}
-use Rattle.jt_scan.specs.declared.quotes.Escape.TheVariants as e
-use Rattle.jt_scan.specs.declared.quotes.Piece.{Piece}
-use Rattle.jt_scan.specs.declared.quotes.Piece.TheVariants as p
-use Rattle.jt_scan.specs.Scanning as scanning
+use Rattle.jt_scan.specs.Literals.{unescaped}
 
 abbrev pub token_view : Token → cut.Token
 token_view (t.Name x) = cut.name (chars x.now)
@@ -41,22 +33,3 @@ cut_of = map segment_view
 abbrev pub HaveOptions : Options → List Segment → Type 0
 HaveOptions o [] = Unit {0}
 HaveOptions o (s ∷ ss) = (s.options ≡ o) × HaveOptions o ss
-
-abbrev pub front_view : Front → scanning.Front
-front_view (f.Closer mark) = scanning.closing mark
-front_view (f.Token t) = scanning.spells (token_view t)
-
--- what a character means behind a backslash
-abbrev pub escape_view : Escape → literal.Escape
-escape_view e.Drops = literal.drops
-escape_view (e.Gives c) = literal.gives c
-escape_view e.Octal = literal.octal
-escape_view (e.Hexadecimal n) = literal.hexadecimal n
-escape_view e.Refused = literal.refused
-escape_view e.Stays = literal.stays
-
--- the characters of a piece of a text
-abbrev pub piece_text : Piece → Text
-piece_text p.Nothing = []
-piece_text (p.Character c) = c ∷ []
-piece_text (p.Pair c) = 92 ∷ c ∷ []

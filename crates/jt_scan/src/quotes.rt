@@ -6,7 +6,7 @@ ghost use Rattle.std.specs.String.{string_bytes};
 ghost use lib.Utf8.{scalar};
 ghost use Rattle.jt_scan.specs.Literals as literal;
 ghost use Rattle.jt_scan.specs.Scanning as spec;
-ghost use Rattle.jt_scan.specs.View.{escape_view, piece_text};
+ghost use Rattle.jt_scan.specs.PartView.{escape_view, piece_text};
 
 use crate::numbers::{digit_value, grown, plain_digit};
 use crate::text::{before, first};

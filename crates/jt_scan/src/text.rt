@@ -77,7 +77,7 @@ pub fn behind_name(text: &str) -> &str
 
 /// The part of a text before its end.
 pub fn before<'a>(text: &'a str, end: &str) -> &'a str
-    requires { spec.EndsWith (chars text.now) (chars end.now) }
+    requires { cut.EndsWith (chars text.now) (chars end.now) }
     ensures { chars text.now ≡ chars result.now ++ chars end.now }
 {
     &text[..text.len() - end.len()]

@@ -4,7 +4,8 @@ ghost use Rattle.std.specs.Prelude.{◌≡◌, ◌<◌, ◌+◌, ◌-◌, ◌^�
 ghost use Rattle.std.specs.Str.{chars};
 ghost use Rattle.jt_scan.specs.Cut as cut;
 ghost use Rattle.jt_scan.specs.Scanning as spec;
-ghost use Rattle.jt_scan.specs.View.{token_view, front_view};
+ghost use Rattle.jt_scan.specs.View.{token_view};
+ghost use Rattle.jt_scan.specs.PartView.{front_view};
 
 use crate::error::ScanError;
 use crate::marks::read_closer;

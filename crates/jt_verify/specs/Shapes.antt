@@ -1,12 +1,10 @@
--- What is below the top of a shape, and how two shapes differ.
-use Rattle.std.specs.Prelude.{◌≡◌, ◌≢◌, ◌⊎◌, ◌<◌, [], ◌∷◌, length, Result, Ok, Err}
+-- What is below the top of a shape. Private clauses and proofs alone cite it.
+use Rattle.std.specs.Prelude.{◌≡◌, ◌<◌, [], ◌∷◌, length, Result, Ok, Err}
 use Rattle.jt_image.specs.declared.kind.Kind.{Kind}
 use Rattle.jt_image.specs.declared.kind.Kind.TheVariants as kind
 use Rattle.jt_image.specs.declared.kind.Flaw.{Flaw}
 use Rattle.jt_image.specs.declared.kind.Flaw.TheVariants as flaw
 use Rattle.jt_image.specs.Effect.{Shape}
-use Rattle.jt_verify.specs.declared.refusal.Refusal.{Refusal}
-use Rattle.jt_verify.specs.declared.refusal.Refusal.TheVariants as refusal
 use Rattle.jt_verify.specs.declared.links.Handle.{Handle}
 use Rattle.jt_verify.specs.Arena.{Lists, shape_in, IsIn}
 
@@ -39,7 +37,3 @@ Below t below (Err f) = below ≡ Err f
 -- the shape is that kind on the handle
 abbrev pub IsTopped : Lists → Kind → Handle → Shape → Type 0
 IsTopped t k b s = (s ≡ k ∷ shape_in t b) × IsIn t b × (length (shape_in t b) < length s)
-
--- shapes of other lengths, or of one length with other kinds; the place is not known
-abbrev pub Differ : Shape → Shape → Refusal → Type 0
-Differ l r e = ((e ≡ refusal.Flaw flaw.DepthDiffers 0 0) × (length l ≢ length r)) ⊎ ((e ≡ refusal.Flaw flaw.KindDiffers 0 0) × (length l ≡ length r) × (l ≢ r))

@@ -1,6 +1,6 @@
 //! Shapes: the kinds of the entries of an activation.
 ghost use Rattle.std.specs.Prelude.{◌≡◌, ◌≢◌, [], ◌∷◌, length, OnOk, OnErr, MatchBool, MatchResult};
-ghost use Rattle.jt_verify.specs.Shapes.{Differ};
+ghost use Rattle.jt_verify.specs.Differing.{Differ};
 
 use crate::refusal::Refusal;
 use jt_image::{Flaw, Kind};

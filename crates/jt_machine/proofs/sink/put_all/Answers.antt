@@ -7,7 +7,7 @@ use Rattle.jt_machine.proofs.sink.put_all.Goals as goal
 pub pieces-init : goal.pieces-init
 pieces-init g c = record {
   took = none_taken c.args.bytes.now (g.W.Sink.taken c.args.sink.now);
-  works = c.requires;
+  works = c.if-branch.false;
 }
 
 pub pieces-preserved : goal.pieces-preserved

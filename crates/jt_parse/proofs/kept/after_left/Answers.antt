@@ -1,6 +1,6 @@
 use Rattle.std.proofs.Common.{sym, subst}
 use Rattle.std.specs.Str.{chars}
-use Rattle.jt_scan.specs.Scanning.{EndsWith}
+use Rattle.jt_scan.specs.Cut.{EndsWith}
 use Rattle.jt_parse.proofs.Sides.{space_end, lf_end}
 use Rattle.jt_parse.proofs.kept.after_left.Goals as goal
 

@@ -1,6 +1,6 @@
 use Rattle.std.proofs.Common.{sym, subst}
 use Rattle.std.specs.Str.{chars}
-use Rattle.jt_scan.specs.Scanning.{EndsWith}
+use Rattle.jt_scan.specs.Cut.{EndsWith}
 use Rattle.jt_parse.proofs.Sides.{empty_end}
 use Rattle.jt_parse.proofs.kept.removed_right.Goals as goal
 
