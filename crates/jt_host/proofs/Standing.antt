@@ -101,10 +101,11 @@ replied_at w i p n e t r a h g m =
     let s : advanced n a.session ≡ t = sym (g ∙ ap (λ (f : ℕ × Session). advanced n f.1) h) in
     ap (λ (o : Option Session). turning_reply o n) (found i p w.sessions a) ∙ ap (λ (u : Session). turns.told (told_of u.status)) s ∙ ap turns.told m
 
-pub lost_at : (w : World) (i p : ℕ) (e : ℕ × Session) (t : Session) (a : IsAt i p w.sessions) → e ≡ (i, a.session) → t ≡ lost_session e.1 → IsLost i w (with_sessions w (slice_set w.sessions p (e.0, t)))
-lost_at w i p e t a h g = record {
+pub lost_at : (w : World) (i p : ℕ) (e : ℕ × Session) (t : Session) (a : IsAt i p w.sessions) → e ≡ (i, a.session) → t ≡ lost_session e.1 → outcome_of e.1 ≡ None → IsLost i w (with_sessions w (slice_set w.sessions p (e.0, t)))
+lost_at w i p e t a h g u = record {
   session = a.session;
   found = found i p w.sessions a;
+  unended = ap (λ (f : ℕ × Session). outcome_of f.1) (sym h) ∙ u;
   lost = ap (with_sessions w) (set_at i p w.sessions e t a h ∙ ap (λ (u : Session). replace i u w.sessions) (g ∙ ap (λ (f : ℕ × Session). lost_session f.1) h));
 }
 

@@ -145,10 +145,11 @@ pub record SessionsRunAlone : Type 0 where
 
 -- ---- refusals
 
--- what a turn that is refused leaves: no session has the id, or the session was lost since a growth was refused, and others are as they were
+-- what a turn that a refused growth ends leaves: the session, which had no outcome yet, is lost, and others are as they were
 pub record IsLost (i : ℕ) (old new : World) : Type 0 where
   pub session : Session
   pub found : find i old.sessions ≡ Some session
+  pub unended : outcome_of session ≡ None
   pub lost : new ≡ with_sessions old (replace i (lost_session session) old.sessions)
 
 abbrev pub TurnRefused : ℕ → ℕ → World → World → HostError → Type 0

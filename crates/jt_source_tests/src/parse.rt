@@ -303,6 +303,29 @@ fn statements_are_parsed(rt: HostRuntime) -> Result<(), Fail> {
 }
 
 #[test]
+fn refusals_have_the_line_of_their_tag(rt: HostRuntime) -> Result<(), Fail> {
+    rows_hold(
+        &rt,
+        told,
+        r"␤{% if 1 + %}{% endif %} => P1 Syntax: Syntax { line: 2 }
+        {% if a %}␤{% elif 1 + %}{% endif %} => P1 Syntax: Syntax { line: 2 }
+        {% if a %}␤{% else x %}{% endif %} => P1 Syntax: Syntax { line: 2 }
+        {% if a %}␤{% endfor %} => P1 Syntax: Syntax { line: 2 }
+        ␤{% else %} => P1 Syntax: Syntax { line: 2 }
+        ␤{% endfor %} => P1 Syntax: Syntax { line: 2 }
+        a␤{% extends 'x' %} => P1 Syntax: Syntax { line: 2 }
+        {% extends 'x' %}␤{{ a }} => P1 Syntax: Syntax { line: 2 }
+        {% extends 'x' %}␤{% if a %}␤{% endif %} => P1 Syntax: Syntax { line: 2 }
+        {% extends 'x' %}␤{% include 'y' %} => P1 Syntax: Syntax { line: 2 }
+        {% if a %}␤{% macro m() %}␤{% endmacro %}{% endif %} => P1 Syntax: Syntax { line: 2 }
+        {% macro m() %}␤{% block b %}␤{% endblock %}{% endmacro %} => P1 Syntax: Syntax { line: 2 }
+        ␤{% block b required %}␤x{% endblock %} => P1 Syntax: Syntax { line: 2 }
+        {% if a %}␤{% elif b is nope %}␤{% endif %} => P4 UnknownTest: UnknownTest { line: 2 }
+        ␤{% filter nope %}␤{% endfilter %} => P3 UnknownFilter: UnknownFilter { line: 2 }",
+    )
+}
+
+#[test]
 fn data_is_kept_by_marks(rt: HostRuntime) -> Result<(), Fail> {
     rows_hold(
         &rt,
@@ -342,11 +365,11 @@ fn data_is_kept_by_options(rt: HostRuntime) -> Result<(), Fail> {
     )
 }
 
-/// So many `if`s inside one another.
+/// So many `if`s inside one another, each on a line of its own.
 fn nested(alloc: Global, count: usize, closed: bool) -> Result<String, AllocError> {
     let mut text = String::new(alloc);
     for _ in 0..count {
-        text.push_str("{% if a %}")?;
+        text.push_str("{% if a %}\n")?;
     }
     if closed {
         for _ in 0..count {
@@ -373,16 +396,16 @@ fn levels_are_limited(rt: HostRuntime) -> Result<(), Fail> {
         &rt,
         told_of_nested,
         r"closed 99 => [
-        closed 100 => P2 TooDeep: TooDeep { line: 1 }
-        open 200 => P2 TooDeep: TooDeep { line: 1 }
-        open 99 => P1 Syntax: Syntax { line: 1 }
-        open 104857 => P2 TooDeep: TooDeep { line: 1 }",
+        closed 100 => P2 TooDeep: TooDeep { line: 100 }
+        open 200 => P2 TooDeep: TooDeep { line: 100 }
+        open 99 => P1 Syntax: Syntax { line: 99 }
+        open 95325 => P2 TooDeep: TooDeep { line: 100 }",
     )
 }
 
-/// So many times `not` in a print.
+/// So many times `not` in a print on the second line.
 fn negated(alloc: Global, count: usize) -> Result<String, AllocError> {
-    let mut text = String::from_str(alloc, "{{ ")?;
+    let mut text = String::from_str(alloc, "\n{{ ")?;
     for _ in 0..count {
         text.push_str("not ")?;
     }
@@ -400,7 +423,7 @@ fn levels_of_expressions_are_limited(rt: HostRuntime) -> Result<(), Fail> {
     rows_hold(
         &rt,
         told_of_negated,
-        r"98 => {..}
-        99 => P2 TooDeep: TooDeep { line: 1 }",
+        r"98 => <␤>{..}
+        99 => P2 TooDeep: TooDeep { line: 2 }",
     )
 }

@@ -25,4 +25,4 @@ returns-in-Err-clause-refused c =
     let w : World = record { last = c.self.inside.last; sessions = c.self.inside.sessions.items } in
     let a = subst (λ (xs : List (ℕ × Session)). IsAt c.args.id c.in-Some.place xs) c.deref.ensures.value c.in-Some.ensures.some in
     let e : c.index_mut.result.now ≡ (c.args.id, a.session) = c.index_mut.ensures.value ∙ there c.args.id c.in-Some.place w.sessions c.index_mut.result.now a in
-    subst (λ (v : World). IsLost c.args.id v (with_sessions w (slice_set w.sessions c.in-Some.place (c.index_mut.result.now.0, c.advance.new.self)))) c.self.view_is (lost_at w c.args.id c.in-Some.place c.index_mut.result.now c.advance.new.self a e c.in-Err.ensures.lost)
+    subst (λ (v : World). IsLost c.args.id v (with_sessions w (slice_set w.sessions c.in-Some.place (c.index_mut.result.now.0, c.advance.new.self)))) c.self.view_is (lost_at w c.args.id c.in-Some.place c.index_mut.result.now c.advance.new.self a e c.in-Err.ensures.lost c.in-Err.ensures.unended)
