@@ -5,7 +5,7 @@ use Rattle.clap.specs.Words.{Row, Text as Word}
 use Rattle.jt_scan.specs.declared.options.Options.{Options as ScanOptions}
 use Rattle.jt_inherit.specs.Chains.{Given}
 use Rattle.jt_parse.specs.Trees.{Text}
-use Rattle.jt_line.specs.Line.{IsAsked, IsCommand}
+use Rattle.jt_line.specs.Line.{IsAsked, IsCommand, word_of}
 use Rattle.jt_line.specs.declared.Command.{Command}
 use Rattle.jt_line.specs.declared.Command.TheVariants as command
 use Rattle.jt_line.specs.declared.Job.{Job}
@@ -15,7 +15,7 @@ use Rattle.jt_line.specs.declared.JobError.TheVariants as job_error
 use Rattle.jt_budget.specs.declared.Budget.{Budget}
 use Rattle.jt_program.specs.declared.messages.Failure.{Failure}
 use Rattle.jt_program.specs.declared.messages.Failure.TheVariants as failure
-use Rattle.jt_program.specs.Commands.{Answers, Compiles, Ending, IsCompile, IsOfContext, IsPath, IsUnread, LineEnds}
+use Rattle.jt_program.specs.Commands.{Answers, ChangesOnly, CommandEnds, Compiles, Ending, IsCompile, IsOfContext, IsPath, IsUnread, JobEnds, LineEnds, out_of}
 use Rattle.jt_program.specs.Ending.{code_of, of_line, status_of}
 use Rattle.jt_program.specs.Files.{IsLibrary, IsOfDirectory, Known, path_in}
 
@@ -83,6 +83,23 @@ named name rows k o b n h is = absurd is
 pub compile_asked : (found : Option (Word × List Row)) (j : Job) → IsAsked found j → IsCompile j.command → option_map (λ c. c.0) found ≡ Some (codes "compile")
 compile_asked None j h is = absurd h
 compile_asked (Some c) j h is = ap Some (named c.0 c.1 j.command j.options j.budget j.slice h is)
+
+module _ (files after : Known) where
+  -- a command changes no file but that of OUT, where one that doesn't compile changes none
+  only_of : (name : Word) (rows : List Row) (k : Command) (o : Options) (b : Budget) (n : ℕ) (e : Ending) → IsCommand name rows k o b n → CommandEnds files after k o b e
+      → ((IsCompile k → ⊥) → ChangesOnly files after (word_of (codes "OUT") rows)) → ChangesOnly files after (word_of (codes "OUT") rows)
+  only_of name rows (command.Compile dir template out) o b n e is ends kept = subst (ChangesOnly files after) is.3 ends.0
+  only_of name rows k o b n e is ends kept = kept (λ compiles. compiles)
+
+  -- so it is with the line of a job
+  pub only_out : (found : Option (Word × List Row)) (j : Job) (e : Ending) → IsAsked found j → JobEnds files after j e → ((IsCompile j.command → ⊥) → ChangesOnly files after (out_of found))
+      → ChangesOnly files after (out_of found)
+  only_out None j e asked ends kept = absurd asked
+  only_out (Some c) j e asked ends kept = only_of c.0 c.1 j.command j.options j.budget j.slice e asked ends kept
+
+-- the same files differ nowhere
+pub same_files : (files : Known) (path : Text) → ChangesOnly files files path
+same_files files path other bytes differs = (λ h. h, λ h. h)
 
 -- what is known to be the same is kept
 pub keeps_itself : (known : Option (List ℕ)) → Keeps known known

@@ -1,5 +1,5 @@
 -- What each command comes to: what it reads from the files, how it ends and what it leaves.
-use Rattle.std.specs.Prelude.{◌≡◌, ◌≢◌, ◌⊎◌, ◌<◌, ℕ, Bool, true, false, List, [], ◌∷◌, ◌++◌, length, Contains, Option, Some, None, Result, Ok, Err, String, codes, string_bytes}
+use Rattle.std.specs.Prelude.{◌≡◌, ◌≢◌, ◌↔◌, ◌⊎◌, ◌<◌, ℕ, Bool, true, false, List, [], ◌∷◌, ◌++◌, length, Contains, Option, Some, None, Result, Ok, Err, String, codes, string_bytes}
 use Rattle.std.specs.Fmt.{decimal}
 use Rattle.std.specs.declared.alloc.Global.{Global}
 use Rattle.std.specs.Io.KnownBytes.{Appends, Keeps}
@@ -16,7 +16,7 @@ use Rattle.jt_host.specs.Json.{IsContext}
 use Rattle.jt_host.specs.Turns.{max_sessions}
 use Rattle.jt_host.specs.declared.HostError.TheVariants as host_error
 use Rattle.jt_host.specs.Rendering.{IsRefused as IsUncompiled}
-use Rattle.jt_line.specs.Line.{IsAsked}
+use Rattle.jt_line.specs.Line.{IsAsked, word_of}
 use Rattle.jt_line.specs.declared.Command.{Command}
 use Rattle.jt_line.specs.declared.Command.TheVariants as command
 use Rattle.jt_line.specs.declared.Job.{Job}
@@ -145,9 +145,9 @@ module _ (files after : Known) where
     pub library : IsLibrary files dir sources
     pub written : IsWritten files after out sources name options e
 
-  -- each file but the one at the path holds what it held
+  -- at every path but this one there are the bytes that were there, and none where there were none
   abbrev pub ChangesOnly : Text → Type 0
-  ChangesOnly path = (other bytes : List ℕ) → other ≢ path → files.holds other bytes → after.holds other bytes
+  ChangesOnly path = (other bytes : List ℕ) → other ≢ path → (after.holds other bytes) ↔ (files.holds other bytes)
 
   -- What a command comes to, by what is known of the files before it and after it.
   abbrev pub CommandEnds : Command → LineOptions → Budget → Ending → Type 0
@@ -177,6 +177,11 @@ module _ (files after : Known) where
   LineEnds found (Err (failure.Usage text)) = Unit {0}
   LineEnds found (Err failure.NoMemory) = Unit {0}
   LineEnds found e = Answers found e
+
+-- OUT of a line of `compile`: no other line has one
+abbrev pub out_of : Option (Word × List Row) → Text
+out_of None = []
+out_of (Some c) = word_of (codes "OUT") c.1
 
 -- the command is `compile`
 abbrev pub IsCompile : Command → Type 0

@@ -1,6 +1,6 @@
 //! What the program asks of a file system.
 
-ghost use Rattle.std.specs.Prelude.{◌≢◌, ℕ, List, map, IfOk, IsErrOf, OnOk, string_bytes};
+ghost use Rattle.std.specs.Prelude.{◌≢◌, ◌↔◌, ℕ, List, map, IfOk, IsErrOf, OnOk, string_bytes};
 ghost use Rattle.jt_program.specs.Files.{Known, anything};
 
 /// Why a file could not be listed, read or written.
@@ -30,11 +30,11 @@ pub trait Files {
         ensures failed { IsErrOf result FileError.Failed → (known self.now).fails path.now };
 
     /// Makes `bytes` the contents of the file at `path`. Where that fails the file may hold anything.
+    /// At every other path there are the same bytes as before, or none as before.
     fn write(&mut self, path: &str, bytes: &[u8]) -> Result<(), FileError>
         ensures written { OnOk result ((known self.new).holds path.now bytes.now) }
         ensures others { (other bytes : List ℕ)
             → other ≢ path.now
-            → (known self.old).holds other bytes
-            → (known self.new).holds other bytes }
+            → ((known self.new).holds other bytes) ↔ ((known self.old).holds other bytes) }
         ensures failed { IsErrOf result FileError.Failed → (known self.old).fails path.now };
 }

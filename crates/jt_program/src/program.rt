@@ -6,7 +6,7 @@ ghost use Rattle.clap.specs.Walk.{texts};
 ghost use Rattle.clap.specs.Words.{subcommand_of};
 ghost use Rattle.jt_value.specs.ContextView.{pairs_of};
 ghost use Rattle.jt_line.specs.Line.{Takes, Asks, program_app};
-ghost use Rattle.jt_program.specs.Commands.{Answers, ChangesOnly, Checks, Compiles, Ending, IsCompile, IsContextAt, IsOfContext, IsPath, IsUnread, JobEnds, LineEnds, Renders, Runs, Tells};
+ghost use Rattle.jt_program.specs.Commands.{Answers, ChangesOnly, Checks, Compiles, Ending, IsCompile, IsContextAt, IsOfContext, IsPath, IsUnread, JobEnds, LineEnds, Renders, Runs, Tells, out_of};
 ghost use Rattle.jt_program.specs.Ending.{IfUntaken, code_of, status_of};
 ghost use Rattle.jt_program.specs.Files.{AreSources, IsLibrary, IsOfDirectory, path_in};
 ghost use Rattle.jt_program.specs.Templates.{source_of};
@@ -54,7 +54,11 @@ pub fn perform<F: Files, W: Sink, E: Write>(
     ensures untouched { result ≢ 0 → result ≢ 5 → out.new ≡ out.old }
     // so it is where it had failed before
     ensures failed_before { W.failed out.old ≡ true → out.new ≡ out.old }
-    // the files are as they were, but where a template was to be compiled and nothing refused it
+    // whatever the status is, there is no change to the files but at OUT of a line of `compile`
+    ensures only { ChangesOnly (F.known files.old) (F.known files.new)
+        (out_of (subcommand_of program_app (texts words.now))) }
+    // they are as they were, but where a template was to be compiled and nothing refused it
+    ensures untaken { ¬ Takes (texts words.now) → files.new ≡ files.old }
     ensures kept { ¬ Asks (codes "compile") (texts words.now) → files.new ≡ files.old }
     ensures unwritten { result ≢ 0 → result ≢ 5 → result ≢ 6 → files.new ≡ files.old }
 {
@@ -79,9 +83,6 @@ fn print<W: Sink, E: Write>(text: String, out: &mut W, errors: &mut E) -> u8
     ensures failed_before { W.failed out.old ≡ true → out.new ≡ out.old }
     ensures silent { result ≡ 0 → errors.new ≡ errors.old }
 {
-    if out.has_failed() {
-        return report(errors, &Failure::Output);
-    }
     match put_all(out, text.as_bytes()) {
         Ok(()) => Status::Done.code(),
         Err(_) => report(errors, &Failure::Output),
@@ -93,6 +94,9 @@ fn done<F: Files>(alloc: Global, words: &[&str], files: &mut F) -> Result<String
     ensures usage { ¬ Takes (texts words.now) → IfUntaken result }
     ensures taken { Takes (texts words.now)
         → IfErr result (λ e. (status_of e ≢ Status.Usage) × (e ≢ Failure.Output)) }
+    ensures only { ChangesOnly (F.known files.old) (F.known files.new)
+        (out_of (subcommand_of program_app (texts words.now))) }
+    ensures untaken { ¬ Takes (texts words.now) → files.new ≡ files.old }
     ensures kept { ¬ Asks (codes "compile") (texts words.now) → files.new ≡ files.old }
     ensures unwritten { IfErr result
         (λ e. status_of e ≢ Status.File → status_of e ≢ Status.Memory → files.new ≡ files.old) }

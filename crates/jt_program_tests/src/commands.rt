@@ -338,6 +338,8 @@ fn renders_for_contexts(rt: HostRuntime) -> Result<(), Fail> {
         {{ x }} ;; {"x":"<"} ;; --no-autoescape => 0 [<][]
         {{ "=" * 8 }} ;; {} ;; --output 8 => 0 [========][]
         {{ "=" * 8 }} ;; {} ;; --output 7 => 4 [][jt: spent Output␤]
+        {{ "=" * 80 }} ;; {} ;; --output 80 => 0 [================================================================================][]
+        {{ "=" * 80 }} ;; {} ;; --output 79 => 4 [][jt: spent Output␤]
         a ;; {} ;; --fuel 0 => 4 [][jt: spent Fuel␤]
         {{ x }} ;; {"x":"long"} ;; --size 4 => 4 [][jt: spent Size␤]
         {{ x }} ;; {"x":[[1]]} ;; --nesting 1 => 4 [][jt: spent Nesting␤]

@@ -98,6 +98,7 @@ fn sources_have_their_lines(rt: HostRuntime) -> Result<(), Fail> {
         {{ range(1, 2, 0) }} => 1 [][jt: fault F8 Range␤]
         {{ "a"|replace("", "b") }} => 1 [][jt: fault F9 BadArgument␤]
         {% macro m() %}{{ m() }}{% endmacro %}{{ m() }} => 4 [][jt: spent Depth␤]
+        {% macro m() %}{{ m() }}{% endmacro %}{{ m() }} ;; --depth 10 => 4 [][jt: spent Depth␤]
         a ;; --fuel 0 => 4 [][jt: spent Fuel␤]
         a ;; --output 0 => 4 [][jt: spent Output␤]
         {{ [1] }} ;; --size 0 => 4 [][jt: spent Size␤]
@@ -148,6 +149,15 @@ fn limits_of_sources_have_their_lines(rt: HostRuntime) -> Result<(), Fail> {
         99¦{{ ¦not ¦true }} => 3 [][jt: refused P2 TooDeep in t line 1␤]
         99¦a␤{{ ¦not ¦true }} => 3 [][jt: refused P2 TooDeep in t line 2␤]
         1025¦{{ [¦1, ¦1] }} => 3 [][jt: refused G3 StackTooDeep␤]",
+    )
+}
+
+#[test]
+fn long_sources_are_rendered(rt: HostRuntime) -> Result<(), Fail> {
+    rows_hold(
+        &rt,
+        rendered_long,
+        r"2000¦{% set x = 0 %}¦{% set x = x + 1 %}¦{{ x }} => 0 [2000][]",
     )
 }
 

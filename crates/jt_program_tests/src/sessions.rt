@@ -1,55 +1,10 @@
 //! What `turns` prints and answers.
 
 use crate::answers::answered;
+use crate::disk::Disk;
 use crate::rows::rows_hold;
-use jt_program::{FileError, Files};
-use std::alloc::{AllocError, Global};
+use std::alloc::Global;
 use std::test::Fail;
-
-/// Files in memory, by their paths. `memory` gives none for want of memory.
-#[derive(Drop)]
-struct Disk {
-    alloc: Global,
-    files: Vec<(String, Vec<u8>)>,
-}
-
-impl Disk {
-    /// One file more.
-    fn put(&mut self, path: &str, bytes: &[u8]) -> Result<(), AllocError> {
-        let path = String::from_str(self.alloc, path)?;
-        self.files
-            .push((path, Vec::from_slice(self.alloc, bytes)?))?;
-        Ok(())
-    }
-}
-
-impl Files for Disk {
-    fn list(&self, dir: &str) -> Result<Vec<String>, FileError> {
-        let mut names = Vec::new(self.alloc);
-        for file in self.files.iter() {
-            if let Some((front, name)) = file.0.as_str().split_once('/') {
-                if front == dir {
-                    names.push(String::from_str(self.alloc, name)?)?;
-                }
-            }
-        }
-        Ok(names)
-    }
-
-    fn read(&self, path: &str) -> Result<Vec<u8>, FileError> {
-        if path == "memory" {
-            return Err(FileError::NoMemory);
-        }
-        match self.files.iter().find(|file| file.0.as_str() == path) {
-            Some(file) => Ok(Vec::from_slice(self.alloc, file.1.as_slice())?),
-            None => Err(FileError::Failed),
-        }
-    }
-
-    fn write(&mut self, path: &str, bytes: &[u8]) -> Result<(), FileError> {
-        Ok(self.put(path, bytes)?)
-    }
-}
 
 /// Templates, one a line, each behind its name.
 const TEMPLATES: &str =
@@ -59,8 +14,7 @@ const TEMPLATES: &str =
     accent: é";
 
 /// Puts a template into `d`, and its image under the name.
-fn put_template(disk: &mut Disk, row: &str) -> Result<(), Fail> {
-    let alloc = disk.alloc;
+fn put_template(alloc: Global, disk: &mut Disk, row: &str) -> Result<(), Fail> {
     let (name, source) = row.trim().split_once(": ").ok_or("a template has no name")?;
     disk.put(format!(in alloc; "d/{name}")?.as_str(), source.as_bytes())?;
     let line = format!(in alloc; "compile d {name} {name}")?;
@@ -73,12 +27,9 @@ fn put_template(disk: &mut Disk, row: &str) -> Result<(), Fail> {
 /// A disk with the templates in `d`, their images by their names, and the contexts `none` (of no
 /// name), `x` (`x` is 5) and `bad`.
 fn made_disk(alloc: Global) -> Result<Disk, Fail> {
-    let mut disk = Disk {
-        alloc,
-        files: Vec::new(alloc),
-    };
+    let mut disk = Disk::new(alloc);
     for row in TEMPLATES.lines() {
-        put_template(&mut disk, row)?;
+        put_template(alloc, &mut disk, row)?;
     }
     disk.put("none.json", b"{}")?;
     disk.put("x.json", b"{\"x\": 5}")?;

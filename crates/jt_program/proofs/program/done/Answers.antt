@@ -2,8 +2,8 @@ use Rattle.std.proofs.Common.{rules}
 use Rattle.clap.specs.Walk.{texts}
 use Rattle.clap.specs.Words.{subcommand_of}
 use Rattle.jt_line.specs.Line.{program_app}
-use Rattle.jt_program.specs.Commands.{Answers}
-use Rattle.jt_program.proofs.Endings.{line_ends}
+use Rattle.jt_program.specs.Commands.{Answers, out_of}
+use Rattle.jt_program.proofs.Endings.{line_ends, only_out, same_files}
 use Rattle.jt_program.proofs.program.done.Goals as goal
 
 pub returns-clause-ends : goal.returns-clause-ends
@@ -15,3 +15,10 @@ returns-clause-ends g c =
       ends = c.carried_out.ensures.ends;
     } in
     line_ends _ _ found c.carried_out.result answers
+
+pub returns-clause-only : goal.returns-clause-only
+returns-clause-only g c =
+    let found = subcommand_of program_app (texts c.args.words.now) in
+    let files = g.F.Files.known c.args.files.now in
+    only_out files (g.F.Files.known c.carried_out.new.files) found c.in_ok-job.job c.carried_out.result c.in_ok-job.ensures.asked c.carried_out.ensures.ends
+    (λ not. rw (c.carried_out.ensures.kept not) (same_files files (out_of found)))
