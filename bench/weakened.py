@@ -32,7 +32,7 @@ LAYERS = [
     ("jt_resolve", "src/resolving.rt", "resolve", "resolved"),
     ("jt_lower", "src/laws.rt", "low_laws", ""),
     ("jt_codegen", "src/compiling.rt", "compile", "compiled"),
-    ("jt_image", "src/viewing.rt", "view", "found"),
+    ("jt_image", "src/assembling.rt", "assemble", "ok"),
     ("jt_verify", "src/checked.rt", "verify", "ok"),
     ("jt_budget", "src/budget.rt", "charge", "err"),
     ("jt_machine", "src/runs.rt", "run", "outcome"),
@@ -54,7 +54,7 @@ def without(text, call, clause):
         depth += {"{": 1, "}": -1}.get(text[end], 0)
         end += 1
     # (the clause stays, so the goals of the call's other clauses keep their names)
-    return f"{text[: at.end()]} Unit {{0}} }}{text[end:]}"
+    return f"{text[: at.end()]} Prim.Unit {{0}} }}{text[end:]}"
 
 
 def unanswered(text, clause):

@@ -25,6 +25,15 @@ impl<'a, R> Machine<'a, R> {
 }
 
 impl From<io::Error> for FileError {
+    ghost use Rattle.std.specs.Prelude.{◌≡◌, ◌≢◌};
+    ghost use Rattle.std.specs.IoError.{error_kind};
+    ghost use Rattle.std.specs.declared.io.ErrorKind.TheVariants.{OutOfMemory};
+    ghost use Rattle.jt_program.specs.declared.files.FileError.TheVariants.{Failed, NoMemory};
+
+    // want of memory is told apart from every other error
+    ghost from_gives = { λ error e. (error_kind error ≡ OutOfMemory → e ≡ NoMemory)
+        × (error_kind error ≢ OutOfMemory → e ≡ Failed) };
+
     fn from(error: io::Error) -> FileError {
         if error.kind() == io::ErrorKind::OutOfMemory {
             FileError::NoMemory
