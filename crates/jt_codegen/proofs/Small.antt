@@ -7,7 +7,7 @@ use Rattle.jt_value.specs.Tree as tree
 use Rattle.jt_value.specs.Tree.{Tree}
 use Rattle.jt_image.specs.Code.{Name, Section}
 use Rattle.jt_image.specs.Spelling.{name_bytes, constant_bytes}
-use Rattle.jt_image.specs.IsCode.{IsInstruction, max_locals}
+use Rattle.jt_image.specs.IsCode.{IsInstruction, max_count, max_locals}
 use Rattle.jt_image.specs.Typed.{max_entries}
 use Rattle.jt_image.specs.Parts.{KeepsLimits, IsWritable}
 use Rattle.jt_image.specs.Laws.{CodeLaws}
@@ -91,7 +91,7 @@ module _ (laws : CodeLaws) (low : LowLaws) (world : World) (order : List Home) (
     limits : KeepsLimits (compiled p)
     limits = record {
       names = omega (arith, sized.names, numbered_len 0 p.names);
-      texts = numbered_texts (λ x. length x < 2 ^ 16) 0 p.names (all_each (λ x. length x ≤ 2000) (λ x. length x < 2 ^ 16) (λ x h. omega (arith, h)) p.names short.names);
+      texts = numbered_texts (λ x. length x ≤ max_count) 0 p.names (all_each (λ x. length x ≤ 2000) (λ x. length x ≤ max_count) (λ x h. omega (arith, h)) p.names short.names);
       constants = omega (arith, sized.constants, weight, mapped_len constant_of p.pool);
       units = omega (arith, sized.units, weight, few, mapped_len unit_of p.routines);
       locals = units_locals (200 + chains_weight world.sources order) p.routines (omega (arith, weight)) sized.locals;

@@ -2,7 +2,7 @@
 
 ghost use Rattle.std.specs.Prelude.{◌≡◌, ◌≤◌, List, length, map, string_bytes, Some, IfOk, IfErr};
 ghost use Rattle.jt_value.specs.View.{view};
-ghost use Rattle.jt_image.specs.IsCode.{total_len, max_instructions};
+ghost use Rattle.jt_image.specs.IsCode.{total_len, max_count, max_instructions};
 ghost use Rattle.jt_image.specs.Parts.{each_of, section_of_unit, code_of_parts};
 ghost use Rattle.jt_image.specs.View.{names_view, constant_view, constants_view};
 ghost use Rattle.jt_parse.specs.Trees.{Text};
@@ -68,7 +68,7 @@ fn units_of(alloc: Global, routines: &[Routine]) -> Result<Vec<Unit>, EmitError>
 
 /// Names with their slots, from the first one on.
 fn names_of(alloc: Global, names: &[String]) -> Result<Vec<(u16, String)>, EmitError>
-    requires { length names.now ≤ 65535 }
+    requires { length names.now ≤ max_count }
     ensures named { IfOk result
         (λ ns. names_view ns.items ≡ numbered 0 (map string_bytes names.now)) }
     ensures refused { IfErr result (λ e. e ≡ NoMemory) }

@@ -1,11 +1,17 @@
 -- What the private functions say of a string to which they append.
-use Rattle.std.specs.Prelude.{◌≡◌, ℕ, Bool, List, ◌++◌, flat_map, Option, Some, None, option_map, Result, Ok, Err, String, string_bytes}
+use Rattle.std.specs.Prelude.{◌≡◌, ℕ, Bool, true, ◌&&◌, List, ◌++◌, flat_map, Option, Some, None, option_map, Result, Ok, Err, String, string_bytes}
 use Rattle.std.specs.declared.alloc.Global.{Global}
-use Rattle.jt_value.specs.Tree.{Items}
+use Rattle.std.specs.Option.{is_some}
+use Rattle.jt_value.specs.Tree.{Items, no_items, item, printed}
 use Rattle.jt_value.specs.declared.fault.Fault.TheVariants as fault
 use Rattle.jt_value.specs.declared.fault.ValueError.{ValueError}
 use Rattle.jt_value.specs.declared.fault.ValueError.TheVariants as error
 use Rattle.jt_escape.specs.Joining.{pieces}
+
+-- whether each item has a printed text
+abbrev pub are_printable : Items → Bool
+are_printable no_items = true
+are_printable (item t ts) = is_some (printed t) && are_printable ts
 
 -- the items' pieces, each behind a text
 abbrev pub led_pieces : Bool → List ℕ → Items → Option (List ℕ)

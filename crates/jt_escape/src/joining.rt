@@ -1,21 +1,26 @@
 //! The rule of filter `join`.
-ghost use Rattle.std.specs.Prelude.{◌≡◌, ◌++◌, OnOk, if◌then◌else◌, option_map, string_bytes};
+ghost use Rattle.std.specs.Prelude.{◌≡◌, ◌++◌, Bool, IfErr, IsOk, IsSome, OnOk, if◌then◌else◌, option_map, string_bytes};
 ghost use Rattle.std.specs.List.{join_by};
+ghost use Rattle.std.specs.Option.{is_some};
+ghost use Rattle.jt_value.specs.Tree.{printed};
 ghost use Rattle.jt_value.specs.View.{view, items_view};
 ghost use Rattle.jt_escape.specs.Escaping.{escaped};
 ghost use Rattle.jt_escape.specs.Joining.{is_markup, has_markup, piece, pieces, joined_text, joined_plain, joined_as_markup, joined_markup, IsAnswer};
-ghost use Rattle.jt_escape.specs.Appending.{led_pieces, Appends, Makes};
+ghost use Rattle.jt_escape.specs.Appending.{are_printable, led_pieces, Appends, Makes};
 
 use crate::escaping::append_escaped;
 use itoa::Buffer;
-use jt_value::{Value, ValueError};
+use jt_value::{Fault, Value, ValueError};
 use std::alloc::{AllocError, Global};
 
 /// The items' printed texts with the separator's between them, as `join` gives them under
 /// autoescaping: markup where an item or the separator is, with all else escaped, and else a plain
 /// text. The only fault is `Unprintable`, the separator's included where there is nothing to separate.
 pub fn join_markup(alloc: Global, items: &[Value], separator: &Value) -> Result<Value, ValueError>
-    ensures { IsAnswer (joined_markup (items_view items.now) (view separator.now)) result }
+    ensures answer { IsAnswer (joined_markup (items_view items.now) (view separator.now)) result }
+    // Only where the join is a value is want of memory answered.
+    ensures memory { IfErr result (λ e. e ≡ ValueError.NoMemory
+        → IsOk (joined_markup (items_view items.now) (view separator.now))) }
 {
     if is_markup(separator) || has_markup(items) {
         return join_as_markup(alloc, items, separator);
@@ -26,14 +31,19 @@ pub fn join_markup(alloc: Global, items: &[Value], separator: &Value) -> Result<
 /// The items' printed texts with the separator's between them, as `join` gives them without
 /// autoescaping: a plain text. The only fault is `Unprintable`.
 pub fn join_plain(alloc: Global, items: &[Value], separator: &Value) -> Result<Value, ValueError>
-    ensures { IsAnswer (joined_plain (items_view items.now) (view separator.now)) result }
+    ensures answer { IsAnswer (joined_plain (items_view items.now) (view separator.now)) result }
+    // Only where the join is a value is want of memory answered.
+    ensures memory { IfErr result (λ e. e ≡ ValueError.NoMemory
+        → IsOk (joined_plain (items_view items.now) (view separator.now))) }
 {
     let text = join_text(alloc, items, separator, false)?;
     Ok(Value::from_text(text)?)
 }
 
 fn join_as_markup(alloc: Global, items: &[Value], separator: &Value) -> Result<Value, ValueError>
-    ensures { IsAnswer (joined_as_markup (items_view items.now) (view separator.now)) result }
+    ensures answer { IsAnswer (joined_as_markup (items_view items.now) (view separator.now)) result }
+    ensures memory { IfErr result (λ e. e ≡ ValueError.NoMemory
+        → IsOk (joined_as_markup (items_view items.now) (view separator.now))) }
 {
     let text = join_text(alloc, items, separator, true)?;
     Ok(Value::from_markup(text)?)
@@ -59,15 +69,49 @@ fn has_markup(items: &[Value]) -> bool
     false
 }
 
-/// The separator is printed first: its fault is an argument's, and counts before the items'.
+fn is_printable(value: &Value) -> bool
+    ensures { result ≡ is_some (printed (view value.now)) }
+{
+    match value {
+        Value::List(_) | Value::Map(_) => false,
+        _ => true,
+    }
+}
+
+fn are_printable(items: &[Value]) -> bool
+    ensures { result ≡ are_printable (items_view items.now) }
+{
+    for item in items {
+        if !is_printable(item) {
+            return false;
+        }
+    }
+    true
+}
+
+/// Whether the separator and each item have a printed text.
+fn have_texts(items: &[Value], separator: &Value) -> bool
+    ensures { (escaping : Bool)
+        → is_some (joined_text escaping (items_view items.now) (view separator.now)) ≡ result }
+{
+    is_printable(separator) && are_printable(items)
+}
+
+/// The fault is looked for before anything is built. The separator is printed in every case.
 fn join_text(
     alloc: Global,
     items: &[Value],
     separator: &Value,
     escaping: bool,
 ) -> Result<String, ValueError>
-    ensures { Makes (joined_text escaping (items_view items.now) (view separator.now)) result }
+    ensures text { Makes (joined_text escaping (items_view items.now) (view separator.now))
+        result }
+    ensures memory { IfErr result (λ e. e ≡ ValueError.NoMemory
+        → IsSome (joined_text escaping (items_view items.now) (view separator.now))) }
 {
+    if !have_texts(items, separator) {
+        return Err(ValueError::Fault(Fault::Unprintable));
+    }
     let mut between = String::new(alloc);
     append_piece(separator, escaping, &mut between)?;
     join_between(alloc, items, &between, escaping)

@@ -11,7 +11,7 @@ use Rattle.jt_image.specs.declared.error.ImageError.TheVariants.{BadMagic, BadVe
 use Rattle.jt_image.specs.declared.instruction.Instruction.{Instruction}
 use Rattle.jt_image.specs.Code.{Constant, undefined, nothing, truth_value, number, text, markup, Name, Section, Code}
 use Rattle.jt_image.specs.Spelling.{magic, version, name_bytes, constant_bytes, header_bytes, wire_of, instruction_bytes, spelling}
-use Rattle.jt_image.specs.IsCode.{IsName, IsConstant, IsSection, total_len, HasEntry, IsCode, max_locals, max_instructions, max_bytes}
+use Rattle.jt_image.specs.IsCode.{IsName, IsConstant, IsSection, total_len, HasEntry, IsCode, max_count, max_locals, max_instructions, max_bytes}
 use Rattle.jt_image.specs.Reading.{is_used, may_follow}
 use Rattle.jt_image.specs.Parts.{AreInOrder, IsUnitInOrder, HasTables, KeepsLimits, IsRefusal, Finds, IsWritable, IsHeld, Starts, IsShort}
 use Rattle.jt_image.proofs.Found.{AllGood, wide16, wide32, wide64}
@@ -104,14 +104,14 @@ named_next globals before n h =
     let below : nat_lt n.slot globals ≡ true = lt-ltb _ _ h.slot.below in
     rw (below, h.slot.free, h.next.follows) refl
 
-pub short_names : (ns : List Name) → AllByRecursion (λ n. length n.text < 2 ^ 16) ns → AllByRecursion (λ n. IsUtf8 n.text) ns → AllByRecursion IsShort ns
-short_names ns fits utf8 = all_both (λ n. length n.text < 2 ^ 16) (λ n. IsUtf8 n.text) IsShort ns (λ n short text. record { fits = short; utf8 = text }) fits utf8
+pub short_names : (ns : List Name) → AllByRecursion (λ n. length n.text ≤ max_count) ns → AllByRecursion (λ n. IsUtf8 n.text) ns → AllByRecursion IsShort ns
+short_names ns fits utf8 = all_both (λ n. length n.text ≤ max_count) (λ n. IsUtf8 n.text) IsShort ns (λ n short text. record { fits = omega (arith, short); utf8 = text }) fits utf8
 
 -- ---- the whole
 
 -- the limits are kept exactly where the spelling is short enough, its length counted by parts
 pub limits_from : (k : Code) (names constants tables : ℕ) → names ≡ min (length (flat_map name_bytes k.names)) (2 ^ 64 - 1) → constants ≡ min (length (flat_map constant_bytes k.constants)) (2 ^ 64 - 1) → tables ≡ min (names + constants) (2 ^ 64 - 1)
-    → length k.names < 2 ^ 16 → length k.constants < 2 ^ 16 → length k.units < 2 ^ 16 → total_len k.units ≤ max_instructions → AllByRecursion (λ n. length n.text < 2 ^ 16) k.names → AllByRecursion (λ u. u.locals ≤ max_locals) k.units
+    → length k.names ≤ max_count → length k.constants ≤ max_count → length k.units ≤ max_count → total_len k.units ≤ max_instructions → AllByRecursion (λ n. length n.text ≤ max_count) k.names → AllByRecursion (λ u. u.locals ≤ max_locals) k.units
     → (14 + tables + 8 * (length k.units + total_len k.units) ≤ max_bytes) ↔ KeepsLimits k
 limits_from k names constants tables a b t count_names count_constants count_units instructions texts locals = (
   λ le. record { names = count_names; texts = texts; constants = count_constants; units = count_units; locals = locals; instructions = instructions; bytes = omega (arith, le, a, b, t, spelled_len k) },
@@ -167,13 +167,13 @@ is_code k held tables limits =
     let short = short_names k.names limits.texts held.names in
     record {
       globals = held.globals;
-      count_names = limits.names;
+      count_names = omega (arith, limits.names);
       names = are_named k.globals k.names short tables.names.slots tables.names.some;
       ascend = tables.names.ascend;
       distinct = tables.names.distinct;
-      count_constants = limits.constants;
+      count_constants = omega (arith, limits.constants);
       constants = constants_fit k.constants (omega (arith, spelled_len k, limits.bytes)) held.constants;
-      count_units = limits.units;
+      count_units = omega (arith, limits.units);
       units = sections_fit k.units held.units tables.units limits.locals;
       entry = tables.entry;
       instructions = limits.instructions;
@@ -194,10 +194,10 @@ code_tables k is = record {
 
 code_limits : (k : Code) → IsCode k → KeepsLimits k
 code_limits k is = record {
-  names = is.count_names;
-  texts = all_weaker (IsName k.globals) (λ n. length n.text < 2 ^ 16) k.names (λ n h. h.fits) is.names;
-  constants = is.count_constants;
-  units = is.count_units;
+  names = omega (arith, is.count_names);
+  texts = all_weaker (IsName k.globals) (λ n. length n.text ≤ max_count) k.names (λ n h. omega (arith, h.fits)) is.names;
+  constants = omega (arith, is.count_constants);
+  units = omega (arith, is.count_units);
   locals = all_weaker IsSection (λ u. u.locals ≤ max_locals) k.units (λ u h. h.locals) is.units;
   instructions = is.instructions;
   bytes = is.bytes;

@@ -9,7 +9,7 @@ use Rattle.jt_image.specs.declared.parts.Parts.{Parts}
 use Rattle.jt_image.specs.Code.{Constant, undefined, nothing, truth_value, number, text, markup, Name, Section, Code}
 use Rattle.jt_image.specs.View.{names_view, constants_view}
 use Rattle.jt_image.specs.Spelling.{spelling}
-use Rattle.jt_image.specs.IsCode.{Ascend, AreDistinct, IsInstruction, HasEntry, total_len, max_locals, max_instructions, max_bytes}
+use Rattle.jt_image.specs.IsCode.{Ascend, AreDistinct, IsInstruction, HasEntry, total_len, max_count, max_locals, max_instructions, max_bytes}
 use Rattle.jt_image.specs.Reading.{instruction_of}
 
 abbrev pub in_front : {A : Type 0} → Option A → Option (List A) → Option (List A)
@@ -53,10 +53,10 @@ pub record HasTables (k : Code) : Type 0 where
 
 -- tables and names are not too long for their fields, and the limits are kept; so a constant's text fits its field too
 pub record KeepsLimits (k : Code) : Type 0 where
-  pub names : length k.names < 2 ^ 16
-  pub texts : AllByRecursion (λ n. length n.text < 2 ^ 16) k.names
-  pub constants : length k.constants < 2 ^ 16
-  pub units : length k.units < 2 ^ 16
+  pub names : length k.names ≤ max_count
+  pub texts : AllByRecursion (λ n. length n.text ≤ max_count) k.names
+  pub constants : length k.constants ≤ max_count
+  pub units : length k.units ≤ max_count
   pub locals : AllByRecursion (λ u. u.locals ≤ max_locals) k.units
   pub instructions : total_len k.units ≤ max_instructions
   pub bytes : length (spelling k) ≤ max_bytes

@@ -3,7 +3,7 @@ ghost use Rattle.std.specs.Prelude.{◌≡◌, ◌+◌, ◌-◌, ◌*◌, ◌<�
 ghost use Rattle.std.specs.List.{flat_map, AllByRecursion};
 ghost use Rattle.jt_image.specs.Code.{Code};
 ghost use Rattle.jt_image.specs.View.{names_view, constant_view, constants_view, section_view, sections_view};
-ghost use Rattle.jt_image.specs.IsCode.{IsInstruction, total_len, max_locals, max_instructions, max_bytes, IsCode};
+ghost use Rattle.jt_image.specs.IsCode.{IsInstruction, total_len, max_count, max_locals, max_instructions, max_bytes, IsCode};
 ghost use Rattle.jt_image.specs.Spelling.{name_bytes, constant_bytes};
 ghost use Rattle.jt_image.specs.Reading.{instruction_of, is_used, may_follow, IsTable};
 ghost use Rattle.jt_image.specs.Parts.{each_of, section_of_unit, code_with, code_of_parts, AreInOrder, IsUnitInOrder, KeepsLimits, IsRefusal, Finds, IsWritable, IsHeld, Starts, IsShort};
@@ -129,7 +129,8 @@ fn constants_len(constants: &[Constant]) -> usize
 }
 
 fn texts_fit(names: &[(u16, String)]) -> bool
-    ensures { IsTrue result ↔ AllByRecursion (λ n. length n.text < 2 ^ 16) (names_view names.now) }
+    ensures { IsTrue result
+        ↔ AllByRecursion (λ n. length n.text ≤ max_count) (names_view names.now) }
 {
     'names: for name in names {
         if name.1.len() > MAX_COUNT {
@@ -153,7 +154,7 @@ fn locals_fit(sections: &[Section]) -> bool
 
 // whether the image is small enough: the numbers of a unit take eight bytes, and so does an instruction
 fn is_small(tables: usize, units: usize, instructions: u32) -> bool
-    requires units { units < 2 ^ 16 }
+    requires units { units ≤ max_count }
     requires instructions { instructions ≤ max_instructions }
     ensures { IsTrue result ↔ (14 + tables + 8 * (units + instructions) ≤ max_bytes) }
 {

@@ -1,5 +1,5 @@
 -- Segments with their options, and the tree that they spell.
-use Rattle.std.proofs.Common.{◌≡◌, ℕ, ◌<◌, ◌≤◌, List, [], ◌∷◌, length, map, refl, sym, ap, subst, ◌∙◌, chars, ⊎_elim, Some, None, arith}
+use Rattle.std.proofs.Common.{◌≡◌, ◌<◌, ◌≤◌, List, [], ◌∷◌, length, map, refl, sym, ap, subst, ◌∙◌, chars, ⊎_elim, Some, None, arith}
 use Rattle.std.proofs.lemmas.Bool.{cases_lt}
 use Rattle.jt_scan.specs.Cut as cut
 use Rattle.jt_scan.specs.Cut.{Text, IsCut}
@@ -16,7 +16,7 @@ use Rattle.jt_parse.specs.Kept.{Read, pieces}
 use Rattle.jt_parse.specs.Names.{body_unknown}
 use Rattle.jt_parse.specs.Refusals.{IsRefusal}
 use Rattle.jt_parse.specs.Trees.{Body, body_levels}
-use Rattle.jt_parse.specs.View.{body_of, reads_of, read_view}
+use Rattle.jt_parse.specs.View.{body_of, reads_of}
 use Rattle.jt_parse.specs.declared.error.ParseError.{ParseError}
 use Rattle.jt_parse.specs.declared.error.ParseError.TheVariants as parse_error
 use Rattle.jt_parse.specs.declared.tree.Template.{Template}

@@ -1,21 +1,19 @@
 -- Chains that were followed: what is known of them stays as more is found.
-use Rattle.std.proofs.Common.{◌≡◌, ℕ, zero, suc, ◌+◌, ◌<◌, ◌≤◌, Bool, true, false, not, cond, ◌||◌, if◌then◌else◌, List, [], ◌∷◌, ◌++◌, length, map, refl, sym, ap, subst, ◌∙◌, arith, ◌⊎◌, ⊎_elim, inl, inr, Option, Some, None, length-append, get_or, string_bytes, String, Vec, Global}
-use Rattle.std.specs.Prelude.{slice_get, flat_map, filter, unwrap_or}
+use Rattle.std.proofs.Common.{◌≡◌, ℕ, zero, suc, ◌<◌, ◌≤◌, Bool, true, false, not, cond, ◌||◌, if◌then◌else◌, List, [], ◌∷◌, ◌++◌, length, map, refl, sym, ap, subst, ◌∙◌, arith, ◌⊎◌, ⊎_elim, inr, Some, None, length-append, get_or, string_bytes, String, Vec, Global}
+use Rattle.std.specs.Prelude.{slice_get, flat_map, filter}
 use Rattle.std.specs.List.{AllByRecursion}
 use Rattle.std.specs.Option.{is_some, option_to_list}
 use Rattle.std.specs.Str.{bytes_eq}
-use Rattle.std.proofs.lemmas.Option.{slice_get_within}
 use Rattle.std.proofs.lemmas.List.{append_assoc}
 use Rattle.jt_scan.specs.declared.options.Options.{Options}
-use Rattle.jt_parse.specs.Texts.{among, repeated}
-use Rattle.jt_parse.specs.Trees.{Text, Body}
-use Rattle.jt_inherit.specs.Along.{ArePlaces, templates_at, includes_along, body_at}
-use Rattle.jt_inherit.specs.Chain.{Sources, Template, templates, sources_in}
+use Rattle.jt_parse.specs.Texts.{among}
+use Rattle.jt_parse.specs.Trees.{Text}
+use Rattle.jt_inherit.specs.Along.{ArePlaces, templates_at, includes_along}
+use Rattle.jt_inherit.specs.Chain.{Template, templates, sources_in}
 use Rattle.jt_inherit.specs.Chains.{Given, IsRead}
-use Rattle.jt_inherit.specs.Found.{AreNext, IsMet, IsNeedFault, IsNextFault, IsFollowed, AreFollowed, AreFound, known_of, chosen}
+use Rattle.jt_inherit.specs.Found.{AreNext, IsMet, IsNeedFault, IsNextFault, IsFollowed, AreFollowed, AreFound, chosen}
 use Rattle.jt_inherit.specs.Includes.{included, needs_in}
 use Rattle.jt_inherit.specs.Needs.{Need, needed, includes_in}
-use Rattle.jt_inherit.specs.Parts.{name_at}
 use Rattle.jt_inherit.specs.Places.{home_at}
 use Rattle.jt_inherit.specs.Refusals.{Breaks}
 use Rattle.jt_inherit.specs.Rules.{Asks, Reaches, here, asked, way}

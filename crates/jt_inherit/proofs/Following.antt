@@ -1,10 +1,9 @@
 -- What is found where a chain is followed: the numbers of the chains that it includes.
-use Rattle.std.proofs.Common.{◌≡◌, ℕ, zero, suc, ◌+◌, ◌<◌, ◌≤◌, Bool, true, false, not, cond, ◌||◌, if◌then◌else◌, List, [], ◌∷◌, ◌++◌, length, map, take, drop, get_or, refl, sym, ap, subst, ◌∙◌, arith, inl, inr, ◌⊎◌, ⊎_elim, Option, Some, None, length-append}
-use Rattle.std.specs.Prelude.{slice_get, filter}
+use Rattle.std.proofs.Common.{◌≡◌, ℕ, zero, suc, ◌+◌, ◌<◌, ◌≤◌, Bool, true, false, not, cond, ◌||◌, if◌then◌else◌, List, [], ◌∷◌, ◌++◌, length, map, take, drop, get_or, refl, sym, ap, subst, ◌∙◌, arith, inl, inr, ◌⊎◌, ⊎_elim, Some, length-append}
+use Rattle.std.specs.Prelude.{slice_get}
 use Rattle.std.specs.List.{AllByRecursion}
 use Rattle.std.specs.Str.{bytes_eq}
 use Rattle.std.proofs.lemmas.List.{append-nil, append_assoc, take_more, drop_more}
-use Rattle.std.proofs.lemmas.Option.{slice_get_within}
 use Rattle.jt_scan.specs.declared.options.Options.{Options}
 use Rattle.jt_parse.specs.Texts.{among, repeated}
 use Rattle.jt_parse.specs.Trees.{Text}
@@ -14,8 +13,7 @@ use Rattle.jt_inherit.specs.Needs.{Need, needed, need_view, needs_view}
 use Rattle.jt_inherit.specs.declared.error.ChainError.{ChainError}
 use Rattle.jt_inherit.specs.declared.error.ChainError.TheVariants as error
 use Rattle.jt_inherit.specs.declared.statements.Include.{Include}
-use Rattle.jt_inherit.proofs.Among.{same, reflexive, or_true, or_false, once_more, among_front, among_behind, among_cases}
-use Rattle.jt_inherit.proofs.Leads.{last_at}
+use Rattle.jt_inherit.proofs.Among.{reflexive, or_true, once_more, among_front, among_behind, among_cases}
 
 -- ---- names among others
 

@@ -1,33 +1,22 @@
 -- Templates on the way of a chain: their names, sources and weights.
-use Rattle.std.proofs.Common.{◌≡◌, ℕ, zero, suc, ◌+◌, ◌<◌, ◌≤◌, ◌==◌, Bool, true, false, not, ◌&&◌, ◌||◌, nat_lt, List, [], ◌∷◌, ◌++◌, length, map, refl, sym, ap, subst, ◌∙◌, arith, inl, inr, ⊎_elim, Option, Some, None, IsTrue}
-use Rattle.std.specs.Prelude.{flat_map, filter, slice_get, option_map}
+use Rattle.std.proofs.Common.{◌≡◌, ℕ, zero, suc, ◌≤◌, ◌==◌, Bool, true, false, ◌&&◌, ◌||◌, nat_lt, List, [], ◌∷◌, map, refl, sym, ap, subst, ◌∙◌, arith, Option, Some, None}
+use Rattle.std.specs.Prelude.{slice_get, option_map}
 use Rattle.std.specs.List.{AllByRecursion, list_any}
-use Rattle.std.specs.Option.{is_some, is_none}
+use Rattle.std.specs.Option.{is_none}
 use Rattle.std.specs.Str.{bytes_eq}
-use Rattle.std.proofs.lemmas.List.{append-nil}
 use Rattle.std.proofs.lemmas.Bool.Decides.{nat_tests}
 use Rattle.jt_scan.specs.declared.options.Options.{Options}
 use Rattle.jt_parse.specs.Bytes.{body_bytes}
 use Rattle.jt_parse.specs.Texts.{among, repeated}
-use Rattle.jt_parse.specs.Trees.{Text, Body}
-use Rattle.jt_inherit.specs.Chain.{Sources, Template, templates, extends_of, parent_of, names_up, sources_in, macros, all_bodies}
+use Rattle.jt_parse.specs.Trees.{Text}
+use Rattle.jt_inherit.specs.Chain.{Sources, Template, extends_of, parent_of, names_up}
 use Rattle.jt_inherit.specs.Chains.{Given, IsRead}
-use Rattle.jt_inherit.specs.Checks.{lacks_body, lacks_next}
-use Rattle.jt_inherit.specs.Includes.{included, needs_in, InOrder, AllIn}
-use Rattle.jt_inherit.specs.Kept.{KeepAll, BreakOne, their_blocks, their_macros, any_double}
 use Rattle.jt_inherit.specs.Names.{IsName}
 use Rattle.jt_inherit.specs.Pages.{names_at}
-use Rattle.jt_inherit.specs.Refusals.{Breaks}
-use Rattle.jt_inherit.specs.Rules as rules
-use Rattle.jt_inherit.specs.Rules.{Somewhere, Reaches, here, through, asked, way, is_whole, KeepsRules}
-use Rattle.jt_inherit.specs.Small.{templates_weight, templates_len, chains_weight, chains_len, source_len}
-use Rattle.jt_inherit.specs.View.{Seen}
-use Rattle.jt_inherit.specs.Ways.{Leads, IsWay, IsWithin}
-use Rattle.jt_inherit.specs.declared.error.ChainError.{ChainError}
-use Rattle.jt_inherit.specs.declared.error.ChainError.TheVariants as error
-use Rattle.jt_inherit.proofs.Among.{same, reflexive, or_true, both_false}
-use Rattle.jt_inherit.proofs.Leads.{names, names_to_root, templates_to_root}
-use Rattle.jt_inherit.proofs.Placed.{length-map, given_templates}
+use Rattle.jt_inherit.specs.Small.{templates_weight, templates_len, source_len}
+use Rattle.jt_inherit.specs.Ways.{Leads, IsWithin}
+use Rattle.jt_inherit.proofs.Among.{same, or_true, both_false}
+use Rattle.jt_inherit.proofs.Leads.{names}
 
 -- ---- names on the way
 

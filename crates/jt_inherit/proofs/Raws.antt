@@ -1,10 +1,9 @@
 -- What is behind a mark, a closer, or an `endraw` tag has no more bytes.
-use Rattle.std.proofs.Common.{◌≡◌, ℕ, ◌+◌, ◌≤◌, ◌==◌, Bool, true, false, List, [], ◌∷◌, ◌++◌, drop, codes, refl, ap, arith, Option, Some, None}
+use Rattle.std.proofs.Common.{◌≡◌, ◌≤◌, ◌==◌, Bool, true, false, [], ◌∷◌, drop, codes, refl, ap, arith, Option, Some, None}
 use Rattle.jt_scan.specs.Cut.{Text, closer, closing_text, mark_text, behind_mark, is_mark, is_space, after_space, after_word, closer_at, first_mark, marks, endraw_closed, endraw_named, endraw_at, begins}
 use Rattle.jt_scan.specs.declared.segment.Kind.{Kind}
 use Rattle.jt_scan.specs.declared.segment.Kind.TheVariants as kind
 use Rattle.jt_scan.specs.declared.segment.Mark.{Mark}
-use Rattle.jt_scan.specs.declared.segment.Mark.TheVariants as m
 use Rattle.jt_scan.specs.declared.segment.Marks.{Marks}
 use Rattle.jt_scan.proofs.Steps.{by_test}
 use Rattle.jt_scan.proofs.Tables.{closer_says}

@@ -1,6 +1,6 @@
 -- The rules on the templates of a chain, by what is found at their places.
 use Rattle.std.proofs.Common.{◌≡◌, ℕ, Bool, List, [], ◌∷◌, map, refl, sym, ap, ◌∙◌, Some}
-use Rattle.std.specs.Prelude.{slice_get, flat_map}
+use Rattle.std.specs.Prelude.{slice_get}
 use Rattle.jt_parse.specs.Texts.{repeated}
 use Rattle.jt_inherit.specs.Along.{macros_along, blocks_along}
 use Rattle.jt_inherit.specs.Chain.{Template, MacroBody, macros_in, blocks_in}

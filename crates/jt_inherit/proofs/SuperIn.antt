@@ -1,5 +1,5 @@
 -- Whether `super()` is called in branches.
-use Rattle.std.proofs.Common.{◌≡◌, ℕ, ◌+◌, ◌<◌, Bool, true, false, ◌||◌, List, length, drop, get_or, refl, sym, ap, ◌∙◌, Vec, Global}
+use Rattle.std.proofs.Common.{◌≡◌, ℕ, ◌+◌, ◌<◌, Bool, true, false, ◌||◌, List, length, drop, get_or, refl, ap, ◌∙◌, Vec, Global}
 use Rattle.jt_expr.specs.View.{expr_view}
 use Rattle.jt_parse.specs.View.{stmt_view, body_view, branches_view}
 use Rattle.jt_parse.specs.declared.tree.Stmt.{Stmt}

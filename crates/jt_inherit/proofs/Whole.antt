@@ -1,5 +1,5 @@
 -- The chains that an entry reaches, all of them followed and checked, in an order of what they include.
-use Rattle.std.proofs.Common.{◌≡◌, ◌≢◌, ◌↔◌, ℕ, zero, suc, ◌+◌, ◌*◌, ◌<◌, ◌≤◌, ◌==◌, Bool, true, false, not, ◌&&◌, ◌||◌, if◌then◌else◌, nat_lt, List, [], ◌∷◌, ◌++◌, length, map, refl, sym, ap, subst, ◌∙◌, arith, inl, inr, ◌⊎◌, ⊎_elim, Option, Some, None, IsTrue, Vec, Global}
+use Rattle.std.proofs.Common.{◌≡◌, ◌≢◌, ◌↔◌, ℕ, zero, suc, ◌+◌, ◌*◌, ◌<◌, ◌≤◌, ◌==◌, Bool, true, false, not, ◌&&◌, ◌||◌, if◌then◌else◌, nat_lt, List, [], ◌∷◌, ◌++◌, length, map, refl, sym, ap, subst, ◌∙◌, arith, inl, inr, ◌⊎◌, ⊎_elim, Option, Some, None}
 use Rattle.std.specs.Prelude.{slice_get, unwrap_or}
 use Rattle.std.specs.List.{AllByRecursion, list_any}
 use Rattle.std.specs.Option.{is_some, is_none}
@@ -14,8 +14,8 @@ use Rattle.jt_scan.specs.declared.options.Options.{Options}
 use Rattle.jt_parse.specs.Texts.{among, repeated}
 use Rattle.jt_parse.specs.Trees.{Text, Body}
 use Rattle.jt_inherit.specs.Along.{ArePlaces, templates_at, includes_along}
-use Rattle.jt_inherit.specs.Chain.{Template, templates, sources_in, names_up, macros, all_bodies}
-use Rattle.jt_inherit.specs.Chains.{Given, IsRead, IsChain}
+use Rattle.jt_inherit.specs.Chain.{Template, templates, sources_in, macros, all_bodies}
+use Rattle.jt_inherit.specs.Chains.{Given, IsChain}
 use Rattle.jt_inherit.specs.Checks.{lacks_body, lacks_next}
 use Rattle.jt_inherit.specs.Found.{AreFound, IsFollowed, AreFollowed, IsMet, BreaksAt, HasHomes, chosen}
 use Rattle.jt_inherit.specs.Includes.{included, InOrder}
@@ -38,10 +38,9 @@ use Rattle.jt_inherit.proofs.Among.{same, both_false, or_true, or_false, among_c
 use Rattle.jt_inherit.proofs.Fewer.{few_chains}
 use Rattle.jt_inherit.proofs.Finding.{none_read, few_way, way_names, asked_way, placed_templates, included_is, whole_way, some_source}
 use Rattle.jt_inherit.proofs.Following.{text_among}
-use Rattle.jt_inherit.proofs.Growing.{reaches_then}
 use Rattle.jt_inherit.proofs.Leads.{names, few_templates, all_at_places}
 use Rattle.jt_inherit.proofs.OnWay.{never, and_false, and_true, too_few, few_names, all_named, have_sources, all_among, repeated_up, weigh, names_placed}
-use Rattle.jt_inherit.proofs.Ordered.{home_there, home_among, number_of, names_in_order, reached_in_order, no_cycle, first_in_order, no_more, named_among}
+use Rattle.jt_inherit.proofs.Ordered.{home_among, number_of, names_in_order, reached_in_order, no_cycle, first_in_order, no_more, named_among}
 use Rattle.jt_inherit.proofs.Placed.{length-map, given_templates}
 
 -- ---- chains by their numbers

@@ -1,7 +1,6 @@
 -- What contracts see of the parts of a chain, and not where they lie in memory; and what each chain keeps.
-use Rattle.std.specs.Prelude.{◌≡◌, ℕ, ◌<◌, false, List, [], ◌∷◌, length, map, Option, Some, option_map, slice_get, string_bytes, ⊤}
-use Rattle.std.specs.Coded.{×_prop, Unit-prop, Coded-set, coded_ℕ, coded_list, coded_option, coded_bool}
-use Rattle.jt_parse.specs.Texts.{repeated}
+use Rattle.std.specs.Prelude.{◌≡◌, ℕ, List, [], ◌∷◌, map, Option, Some, option_map, slice_get, string_bytes, ⊤}
+use Rattle.std.specs.Coded.{×_prop, Unit-prop, Coded-set, coded_ℕ, coded_list, coded_option}
 use Rattle.jt_parse.specs.Trees.{Text}
 use Rattle.jt_parse.specs.View.{body_of}
 use Rattle.jt_inherit.specs.Chain.{Template, templates, sources_in}

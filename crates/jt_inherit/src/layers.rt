@@ -1,6 +1,6 @@
 //! The templates of a chain.
 
-ghost use Rattle.std.specs.Prelude.{◌≡◌, ◌<◌, length, map, IfOk};
+ghost use Rattle.std.specs.Prelude.{◌≡◌, ◌<◌, ◌≤◌, [], length, map, IfOk};
 ghost use Rattle.jt_inherit.specs.Along.{ArePlaces, layers_along};
 ghost use Rattle.jt_inherit.specs.Chain.{templates};
 ghost use Rattle.jt_inherit.specs.Pages.{pages_view};
@@ -40,13 +40,18 @@ fn layers_at<'a>(
 }
 
 impl Chain {
-    /// The templates of a chain, from the entry's to the root.
+    /// The templates of a chain, from the entry's to the root. A chain that isn't there has none.
     pub fn layers(&self, alloc: Global, home: usize) -> Result<Vec<Layer<'_>>, AllocError>
-        requires { home < length self.now.homes.items }
-        ensures { IfOk result (λ ls. map (layer_view (chain_view self.now).templates) ls.items
+        ensures there { home < length self.now.homes.items
+            → IfOk result (λ ls. map (layer_view (chain_view self.now).templates) ls.items
             ≡ templates (sources_of (chain_view self.now))
             (home_at (chain_view self.now).order home)) }
+        ensures nowhere { length self.now.homes.items ≤ home
+            → IfOk result (λ ls. ls.items ≡ []) }
     {
-        layers_at(alloc, &self.templates, &self.homes[home].templates)
+        match self.homes.get(home) {
+            Some(found) => layers_at(alloc, &self.templates, &found.templates),
+            None => Ok(Vec::new(alloc)),
+        }
     }
 }

@@ -1,6 +1,6 @@
 //! The macros of a chain, and the bodies of its blocks.
 
-ghost use Rattle.std.specs.Prelude.{◌≡◌, ◌<◌, ◌++◌, length, map, slice_get, Some, IfOk, unwrap_or, option_map, []};
+ghost use Rattle.std.specs.Prelude.{◌≡◌, ◌<◌, ◌≤◌, ◌++◌, length, map, slice_get, Some, IfOk, unwrap_or, option_map, []};
 ghost use Rattle.jt_parse.specs.View.{stmt_view, body_view};
 ghost use Rattle.jt_inherit.specs.Chain.{macros, macros_in, all_bodies, blocks_of, blocks_in};
 ghost use Rattle.jt_inherit.specs.Pages.{pages_view};
@@ -204,27 +204,34 @@ pub(crate) fn blocks_at<'a>(
 }
 
 impl Chain {
-    /// All macros of a chain, those of the entry's template first.
+    /// All macros of a chain, those of the entry's template first. A chain that isn't there has
+    /// none.
     pub fn macros(&self, alloc: Global, home: usize) -> Result<Vec<Macro<'_>>, AllocError>
-        requires { home < length self.now.homes.items }
-        ensures { IfOk result (λ ms. map (macro_view (chain_view self.now).templates) ms.items ≡
+        ensures there { home < length self.now.homes.items
+            → IfOk result (λ ms. map (macro_view (chain_view self.now).templates) ms.items ≡
             macros (sources_of (chain_view self.now)) (home_at (chain_view self.now).order home)) }
+        ensures nowhere { length self.now.homes.items ≤ home
+            → IfOk result (λ ms. ms.items ≡ []) }
     {
-        macros_at(alloc, &self.templates, &self.homes[home].templates)
+        match self.homes.get(home) {
+            Some(found) => macros_at(alloc, &self.templates, &found.templates),
+            None => Ok(Vec::new(alloc)),
+        }
     }
 
-    /// The bodies of all blocks of a chain, those of the entry's template first.
+    /// The bodies of all blocks of a chain, those of the entry's template first. A chain that isn't
+    /// there has none.
     pub fn blocks(&self, alloc: Global, home: usize) -> Result<Vec<Block<'_>>, AllocError>
-        requires { home < length self.now.homes.items }
-        ensures { IfOk result (λ bs. map (block_view (chain_view self.now).templates) bs.items
+        ensures there { home < length self.now.homes.items
+            → IfOk result (λ bs. map (block_view (chain_view self.now).templates) bs.items
             ≡ all_bodies (sources_of (chain_view self.now)) self.now.autoescape
             (home_at (chain_view self.now).order home)) }
+        ensures nowhere { length self.now.homes.items ≤ home
+            → IfOk result (λ bs. bs.items ≡ []) }
     {
-        blocks_at(
-            alloc,
-            &self.templates,
-            &self.homes[home].templates,
-            self.autoescape,
-        )
+        match self.homes.get(home) {
+            Some(found) => blocks_at(alloc, &self.templates, &found.templates, self.autoescape),
+            None => Ok(Vec::new(alloc)),
+        }
     }
 }

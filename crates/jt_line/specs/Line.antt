@@ -1,6 +1,6 @@
 -- What a line asks for. How a line is read is clap's written rule: `fault_of` lists what is wrong
 -- with it, and `subcommand_of` gives its command with the rows of what was found.
-use Rattle.std.specs.Prelude.{◌≡◌, ◌≢◌, ◌<◌, ◌≤◌, ◌^◌, ◌%◌, ◌⊎◌, ℕ, length, ◌∷◌, Bool, true, false, not, List, [], Option, Some, None, codes, pos, unwrap_or, option_map, IfSome, String}
+use Rattle.std.specs.Prelude.{◌≡◌, ◌≢◌, ◌<◌, ◌≤◌, ◌^◌, ◌%◌, ◌⊎◌, ℕ, length, ◌∷◌, Bool, true, false, not, List, [], Option, Some, None, codes, pos, unwrap_or, option_map, IfSome, Result, IfOk, IsOkAnd, String}
 use Rattle.std.specs.declared.alloc.Global.{Global}
 use Rattle.std.specs.String.{string_bytes}
 use Rattle.std.specs.Str.Parse.{IsNumeral, digits_value, without_leading_plus}
@@ -33,10 +33,23 @@ flag_rule name = record (new_rule name) { long = Some name; action = Some SetTru
 abbrev pub word_rule : Text → Rule
 word_rule name = record (new_rule name) { required = true }
 
+-- a command of this rule, with no argument that is for its subcommands too
+abbrev pub IsApp : {E : Type 0} → Result Built E → App → Type 0
+IsApp made a = IfOk made (λ c. (app_of c ≡ a) × ((fields_of c).has_globals ≡ false))
+
+-- a command was made of another, and is the other with this change
+abbrev pub Becomes : {E : Type 0} → (App → App) → Result Built E → Result Built E → Type 0
+Becomes change old new = IfOk new (λ c. IsOkAnd old (λ b.
+    (app_of c ≡ change (app_of b)) × ((fields_of c).has_globals ≡ (fields_of b).has_globals)))
+
 -- a command with one more argument, for itself alone
-abbrev pub Adds : Built → Rule → Built → Type 0
-Adds old rule new = (app_of new ≡ with_rule (app_of old) rule)
-    × ((fields_of new).has_globals ≡ (fields_of old).has_globals)
+abbrev pub Adds : {E : Type 0} → Rule → Result Built E → Result Built E → Type 0
+Adds rule old new = Becomes (λ a. with_rule a rule) old new
+
+-- a command with one more subcommand
+abbrev pub AddsCommand : {E : Type 0} → Result Built E → Result Built E → Result Built E → Type 0
+AddsCommand old part new = IfOk new (λ c. IsOkAnd old (λ b. IsOkAnd part (λ d.
+    (fields_of d).has_globals ≡ false → app_of c ≡ with_subcommand (app_of b) (app_of d).top)))
 
 -- a command with the options of a budget, each a whole number in the range of its type
 abbrev pub with_budget : App → App
@@ -81,10 +94,14 @@ render_app = with_budget (with_flags (with_rule (with_rule (with_rule (new_app (
 abbrev pub pairs_rule : Rule
 pairs_rule = record (new_rule (codes "PAIRS")) { action = Some Append }
 
+-- the most instructions that a turn may have
+abbrev pub max_slice : ℕ
+max_slice = 1000000
+
 -- `turns IMAGE CONTEXT ..`, where a turn has so many instructions
 abbrev pub turns_app : App
 turns_app = with_budget (with_rule (with_rule (new_app (codes "turns")) pairs_rule)
-    (option_rule (codes "slice") (parser.Signed (pos 1) (pos 1000000))))
+    (option_rule (codes "slice") (parser.Signed (pos 1) (pos max_slice))))
 
 -- the program: a command, and then the words and options of that command
 abbrev pub program_app : App
@@ -151,7 +168,7 @@ IsBudget rows b = IsGiven 64 usual_budget.fuel (one_of (codes "fuel") rows) b.fu
 
 -- how many instructions a turn has: 1 to 1,000,000, or the usual number where the option isn't given
 abbrev pub IsSlice : List Row → ℕ → Type 0
-IsSlice rows n = IsGiven 32 usual_slice (one_of (codes "slice") rows) n × (1 ≤ n) × (n ≤ 1000000)
+IsSlice rows n = IsGiven 32 usual_slice (one_of (codes "slice") rows) n × (1 ≤ n) × (n ≤ max_slice)
 
 -- a flag, by the text of its row: `true` where it is given, and `false` or none where it isn't. A
 -- line that gives a flag twice, or with a value, is not taken
@@ -246,7 +263,7 @@ HasNumbers rows = IfSome (one_of (codes "fuel") rows) (IsNumber 64)
 -- the option of a turn that is given has a number in its range
 abbrev pub HasSlice : List Row → Type 0
 HasSlice rows = IfSome (one_of (codes "slice") rows) (λ text. IsNumber 32 text
-    × (1 ≤ digits_value 10 (without_leading_plus text)) × (digits_value 10 (without_leading_plus text) ≤ 1000000))
+    × (1 ≤ digits_value 10 (without_leading_plus text)) × (digits_value 10 (without_leading_plus text) ≤ max_slice))
 
 -- each flag has the text of one
 abbrev pub HasSwitches : List Row → Type 0

@@ -15,7 +15,7 @@ use Rattle.jt_image.specs.declared.instruction.Instruction.TheVariants as op
 use Rattle.jt_image.specs.declared.loop_field.LoopField.TheVariants as of_loop
 use Rattle.jt_image.specs.Code.{Code}
 use Rattle.jt_image.specs.Config.{Frame, Entry, value, frame, capture, State}
-use Rattle.jt_image.specs.Loops.{trees_of, loop_over, item_at, field_of, field_id}
+use Rattle.jt_image.specs.Loops.{trees_of, loop_over, item_at, field_of, field_id, told}
 use Rattle.jt_image.specs.Step as step
 use Rattle.jt_image.specs.Ids.{operator_of, operands_of, filter_of, test_of}
 use Rattle.jt_image.specs.Step.{Plain, broken, goes, plain, as_frame, on_values, push, push_given, told_by, piled, spreads, unpacks, begins, makes, operated, filtered_by, tested_by, with_entries, put_printed, constant_value, text_of}
@@ -31,7 +31,7 @@ use Rattle.jt_slots.specs.Got.{Place, Got, gives, fails, deeper, bind, checked, 
 use Rattle.jt_slots.specs.Values.{shown, shown_text, bytes_of, as_value}
 use Rattle.jt_parse.specs.Trees.{Text}
 use Rattle.jt_slots.specs.TheFilters.{the_filters}
-use Rattle.jt_slots.specs.Loops.{Field, Loop, result_listed, items_of_value, tree_at, loop_field}
+use Rattle.jt_slots.specs.Loops.{Field, Loop, result_listed, items_of_value, tree_at}
 use Rattle.jt_slots.specs.Slots as slots
 use Rattle.jt_slots.specs.Slots.{Slot, local, global, Maker, SExpr, SRow, Targets, SStmt, SBody, Routine, Program, Memory, Valued, Listed, Written, SCalls, load, put_at, store, store_if, store_each, take, make, valued, sturns, sgone_over, in_front, svalue, svalues, skept, smeaning, smeanings}
 use Rattle.jt_lower.specs.Asm.{Asm, nil, one, both, choose, when, each, invoke, Ran, does, bad, and_then, of_plain, turns, of_written, into_buffers, called, run}
@@ -324,11 +324,11 @@ module _ (p : Program) (call : SCalls) (has : HasPool (compiled p) p.pool) (keep
       → Does q (KeptValue out) (ValueOn es bs) (code (expr_asm q (slots.field x) h) (at_bufs es bs m)) (Means (slots.field x) l m)
   field_does x q false h l es bs out m e fr w = absurd cc
   field_does x q true h l es bs out m e fr w =
-      same_run q (KeptValue out) (ValueOn es bs) _ (of_plain q (push_given (loop_field x l) es (at_bufs es bs m))) (Means (slots.field x) l m)
+      same_run q (KeptValue out) (ValueOn es bs) _ (of_plain q (push_given (told (told_as x) fr.0) es (at_bufs es bs m))) (Means (slots.field x) l m)
       (ap (λ y. of_plain q (as_frame y broken (λ f. push_given (told_by (field_of (field_id (told_as x))) f) es (at_bufs es bs m)))) fr.1
-      ∙ ap (λ y. of_plain q (push_given (told_by y fr.0) es (at_bufs es bs m))) (has_field (told_as x))
-      ∙ ap (λ y. of_plain q (push_given y es (at_bufs es bs m))) (told_same x fr.0 l fr.2))
-      (checked_does (loop_field x l) q es bs out m es w)
+      ∙ ap (λ y. of_plain q (push_given (told_by y fr.0) es (at_bufs es bs m))) (has_field (told_as x)))
+      (same_meaning q (KeptValue out) (ValueOn es bs) _ (Means (slots.field x) l m) (bind (checked (told (told_as x) fr.0)) (valued m)) (ap (λ g. bind g (valued m)) (sym (told_same x fr.0 l fr.2)))
+      (checked_does (told (told_as x) fr.0) q es bs out m es w))
 
   load_does : (s : Slot) (q : Option Place) (es : List Entry) (bs : List (List ℕ)) (m : Memory) → code (one q (load_of s)) (at_bufs es bs m) ≡ does (at_bufs (value (load s m) ∷ es) bs m)
   load_does (local i) q es bs m = refl

@@ -11,6 +11,7 @@ use Rattle.jt_image.specs.declared.loop_field.LoopField.TheVariants as of_loop
 use Rattle.jt_image.specs.Config.{Frame}
 use Rattle.jt_image.specs.Loops as image
 use Rattle.jt_image.specs.Loops.{trees_of, field_id, field_of, told}
+use Rattle.jt_slots.specs.Got.{checked}
 use Rattle.jt_slots.specs.Loops as loops
 use Rattle.jt_slots.specs.Loops.{Field, Loop, items_listed, tree_at, tree_before, field_at}
 use Rattle.jt_lower.specs.Lower.{told_as}
@@ -75,7 +76,7 @@ told_at loops.previtem items kept zero h = refl
 told_at loops.previtem items kept (suc b) h = refl
 told_at loops.nextitem items kept b h = refl
 
-pub told_same : (x : Field) (f : Frame) (l : Option Loop) → IsTurn f l → told (told_as x) f ≡ loops.loop_field x l
+pub told_same : (x : Field) (f : Frame) (l : Option Loop) → IsTurn f l → checked (told (told_as x) f) ≡ loops.loop_field x l
 told_same x f l t =
-    ap (λ n. told (told_as x) (record { items = f.items; position = n; kept = f.kept })) t.position
-    ∙ told_at x f.items f.kept t.before t.within ∙ ap (loops.loop_field x) (sym t.loop)
+    ap (λ n. checked (told (told_as x) (record { items = f.items; position = n; kept = f.kept }))) t.position
+    ∙ ap checked (told_at x f.items f.kept t.before t.within) ∙ ap (loops.loop_field x) (sym t.loop)

@@ -9,3 +9,4 @@ pub mod Slicing
 pub mod Sinking
 pub mod AtOnce
 pub mod Stacking
+pub mod Spreading

@@ -4,8 +4,9 @@ ghost use Rattle.std.specs.Str.{chars};
 ghost use Rattle.jt_value.specs.Tree as tree;
 ghost use Rattle.jt_value.specs.Iteration.{character_items, key_items, items_of_tree};
 ghost use Rattle.jt_value.specs.View.{view, items_view, entries_view};
-ghost use Rattle.jt_machine.specs.Iterating.{AreItems};
+ghost use Rattle.jt_machine.specs.Iterating.{counted, AreItems};
 
+use jt_ops::character_count;
 use jt_value::{Fault, NoMemory, Value, ValueError, ValueList};
 use std::alloc::Global;
 use std::rc::Rc;
@@ -23,6 +24,20 @@ pub(crate) fn items_of(alloc: Global, value: Value) -> Result<Vec<Value>, ValueE
         Value::None => Err(ValueError::Fault(Fault::NotIterable)),
         Value::Bool(_) => Err(ValueError::Fault(Fault::NotIterable)),
         Value::Int(_) => Err(ValueError::Fault(Fault::NotIterable)),
+    }
+}
+
+/// How many items a value gives, or its fault. Nothing is built.
+pub(crate) fn count_of(value: &Value) -> Result<usize, Fault>
+    ensures { result ≡ counted (items_of_tree (view value.now)) }
+{
+    match value {
+        Value::Undefined => Ok(0),
+        Value::List(list) => Ok(list.items().len()),
+        Value::Map(map) => Ok(map.entries().len()),
+        Value::Text(text) => Ok(character_count(text.as_str())),
+        Value::Markup(text) => Ok(character_count(text.as_str())),
+        Value::None | Value::Bool(_) | Value::Int(_) => Err(Fault::NotIterable),
     }
 }
 

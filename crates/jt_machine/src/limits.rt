@@ -1,5 +1,7 @@
 //! Values against the limits of a budget.
 ghost use Rattle.std.specs.Prelude.{◌≡◌, option_map};
+ghost use Rattle.jt_value.specs.Tree as tree;
+ghost use Rattle.jt_value.specs.Tree.{Tree};
 ghost use Rattle.jt_value.specs.View.{view};
 ghost use Rattle.jt_image.specs.Run.{limit_of};
 ghost use Rattle.jt_machine.specs.View.{budget_view, limit_view};
@@ -15,6 +17,19 @@ pub(crate) fn passed_limit(value: &Value, budget: &Budget) -> Option<Spent>
     let _size = budget.size;
     let _nesting = budget.nesting;
     match budget.fits(value.size(), value.nesting()) {
+        Ok(()) => None,
+        Err(spent) => Some(spent),
+    }
+}
+
+/// The limit that a value of this size passes which is neither a list nor a map.
+pub(crate) fn flat_limit(size: u64, budget: &Budget) -> Option<Spent>
+    ensures { (t : Tree)
+        → tree.size t ≡ size
+        → tree.nesting t ≡ 0
+        → option_map limit_view result ≡ limit_of (budget_view budget.now) t }
+{
+    match budget.fits(size, 0) {
         Ok(()) => None,
         Err(spent) => Some(spent),
     }

@@ -52,8 +52,10 @@ pub(crate) fn pay_for(state: &mut State, value: &Value) -> Option<Outcome>
 /// Puts a value on top and goes on, or says which limit it passes.
 pub(crate) fn push(state: &mut State, value: Value) -> Result<Option<Outcome>, NoMemory>
     requires { state.old.point + 1 < 2 ^ 64 }
-    ensures { IfOk result
+    ensures next { IfOk result
         (λ r. pushes (view value) (config_view state.old) steps_on ≡ next_view r state.new) }
+    // Only a value within the limits takes memory.
+    ensures memory { OnErr result (GoesOn (pushes (view value) (config_view state.old) steps_on)) }
 {
     if let Some(spent) = passed_limit(&value, &state.left) {
         return Ok(Some(Outcome::Spent(spent)));
@@ -65,8 +67,9 @@ pub(crate) fn push(state: &mut State, value: Value) -> Result<Option<Outcome>, N
 pub(crate) fn push_fitting(state: &mut State, value: Value) -> Result<Option<Outcome>, NoMemory>
     requires room { state.old.point + 1 < 2 ^ 64 }
     requires fits { limit_of (budget_view state.old.left) (view value) ≡ None }
-    ensures { IfOk result
+    ensures next { IfOk result
         (λ r. pushes (view value) (config_view state.old) steps_on ≡ next_view r state.new) }
+    ensures memory { OnErr result (GoesOn (pushes (view value) (config_view state.old) steps_on)) }
 {
     state.stack.push(Entry::Value(value))?;
     step_on(state)

@@ -1,5 +1,5 @@
 //! Writers of pieces.
-ghost use Rattle.std.specs.Prelude.{◌≡◌, ◌≢◌, ◌<◌, ◌≤◌, ℕ, Bool, true, false, List, [], length, take, Option, IfOk, OnOk, OnErr};
+ghost use Rattle.std.specs.Prelude.{◌≡◌, ◌≢◌, ◌<◌, ◌≤◌, ℕ, Bool, true, false, List, [], length, take, Option, IfOk, IsErr, OnOk, OnErr};
 ghost use Rattle.std.specs.Io.KnownBytes.{Appends};
 ghost use Rattle.jt_machine.specs.Sinks.{TookFront};
 
@@ -20,8 +20,10 @@ pub trait Sink {
     ghost failed: { Self → Bool };
 
     /// Takes a beginning of the piece and answers its length, which is 0 only for an empty piece; or refuses, and takes nothing.
+    /// A sink that has failed refuses every piece.
     fn put(&mut self, piece: &[u8]) -> Result<usize, SinkFailed>
-        requires works { failed self.old ≡ false }
+        ensures idle { failed self.old ≡ true → self.new ≡ self.old }
+        ensures refuses { failed self.old ≡ true → IsErr result }
         ensures within { IfOk result (λ n. n ≤ length piece.now) }
         ensures some { IfOk result (λ n. piece.now ≢ [] → 0 < n) }
         ensures took { IfOk result
@@ -68,6 +70,9 @@ impl<W: Write> Sink for IoSink<W> {
     ghost failed = { λ s. s.failed };
 
     fn put(&mut self, piece: &[u8]) -> Result<usize, SinkFailed> {
+        if self.failed {
+            return Err(SinkFailed);
+        }
         match self.writer.write(piece) {
             Ok(count) if count > 0 || piece.is_empty() => Ok(count),
             _ => {

@@ -1,22 +1,27 @@
 //! Values unpacked.
-ghost use Rattle.std.specs.Prelude.{◌≡◌, ◌≢◌, ◌+◌, ◌-◌, ◌<◌, ◌^◌, min, map, IfOk, OnOk};
+ghost use Rattle.std.specs.Prelude.{◌≡◌, ◌≢◌, ◌+◌, ◌-◌, ◌<◌, ◌^◌, min, map, IfOk, IfSome, IfNone, OnOk, OnErr};
+ghost use Rattle.std.specs.Str.{chars};
 ghost use Rattle.jt_value.specs.Tree as tree;
-ghost use Rattle.jt_value.specs.Iteration.{items_of_tree};
-ghost use Rattle.jt_value.specs.View.{view};
+ghost use Rattle.jt_value.specs.Iteration.{character_items, key_items, items_of_tree};
+ghost use Rattle.jt_value.specs.View.{view, entries_view};
+ghost use Rattle.jt_image.specs.Config.{Config};
+ghost use Rattle.jt_image.specs.Loops.{trees_of};
 ghost use Rattle.jt_image.specs.Step.{greatest, piled};
-ghost use Rattle.jt_image.specs.Run.{Wrong};
+ghost use Rattle.jt_image.specs.Run.{Ends, Wrong};
 ghost use Rattle.jt_machine.specs.Activations.{with_running};
 ghost use Rattle.jt_machine.specs.Entries.{values_view};
-ghost use Rattle.jt_machine.specs.Parts.{iterating, spread as spread_next, unpack as unpack_next};
-ghost use Rattle.jt_machine.specs.View.{config_view, next_view, AreSized};
+ghost use Rattle.jt_machine.specs.Iterating.{AreFitting};
+ghost use Rattle.jt_machine.specs.Parts.{iterating, piled_on, spread as spread_next, unpack as unpack_next, GoesOn};
+ghost use Rattle.jt_machine.specs.View.{budget_view, config_view, next_view, outcome_view, AreSized};
 
 use crate::entries::Entry;
-use crate::items::items_of;
+use crate::items::{count_of, items_of};
 use crate::maps::pop_last;
 use crate::outcome::Outcome;
 use crate::parts::{pay_for, step_on};
 use crate::stack::Stack;
 use crate::state::State;
+use jt_budget::Budget;
 use jt_value::{Fault, NoMemory, Value, ValueError};
 use std::alloc::Global;
 
@@ -55,24 +60,83 @@ fn push_all(stack: &mut Stack, values: Vec<Value>) -> Result<(), NoMemory>
     Ok(())
 }
 
-// Puts that many values on top and goes on, or says how the run ends.
-fn spread(state: &mut State, count: u32, values: Vec<Value>) -> Result<Option<Outcome>, NoMemory>
+// The greatest size of the characters of a text, each as a text.
+fn greatest_character(text: &str) -> u64
+    ensures { result ≡ greatest tree.size (trees_of (character_items (chars text.now))) }
+{
+    let mut most = 0u64;
+    'characters: for c in text.chars() {
+        most = most.max(1 + c.len_utf8() as u64);
+    }
+    most
+}
+
+// The greatest size of the keys of a map, each as a text.
+fn greatest_key(entries: &[(String, Value)]) -> u64
+    ensures { result ≡ greatest tree.size (trees_of (key_items (entries_view entries.now))) }
+{
+    let mut most = 0u64;
+    'entries: for entry in entries {
+        most = most.max(1 + entry.0.len() as u64);
+    }
+    most
+}
+
+// The greatest size of the items that a value gives.
+fn greatest_item(value: &Value) -> u64
+    ensures { IfOk (items_of_tree (view value.now))
+        (λ ts. result ≡ min (greatest tree.size (trees_of ts)) (2 ^ 64 - 1)) }
+{
+    match value {
+        Value::List(list) => greatest_size(list.items()),
+        Value::Map(map) => greatest_key(map.entries()),
+        Value::Text(text) => greatest_character(text.as_str()),
+        Value::Markup(text) => greatest_character(text.as_str()),
+        _ => 0,
+    }
+}
+
+// The greatest nesting of the items that a value gives: only a list has items that are nested.
+#[tactic(auto, using(crate::proofs::Spreading::characters_flat, crate::proofs::Spreading::keys_flat))]
+fn deepest_item(value: &Value) -> u32
+    ensures { IfOk (items_of_tree (view value.now))
+        (λ ts. result ≡ min (greatest tree.nesting (trees_of ts)) (2 ^ 32 - 1)) }
+{
+    match value {
+        Value::List(list) => greatest_nesting(list.items()),
+        _ => 0,
+    }
+}
+
+// How the run ends where a value does not give that many items within the limits. Nothing is built.
+fn refusal(value: &Value, count: u32, budget: &Budget) -> Option<Outcome>
+    ensures ends { IfSome result (λ o. (c : Config)
+        → c.left ≡ budget_view budget.now
+        → iterating (items_of_tree (view value.now)) (λ ts. spread_next count ts c)
+        ≡ Ends (outcome_view o)) }
+    ensures fits { IfNone result
+        (AreFitting count (items_of_tree (view value.now)) (budget_view budget.now)) }
+{
+    // Only read, so that the limits are known to have fewer bits than what is counted.
+    let _size = budget.size;
+    let _nesting = budget.nesting;
+    match count_of(value) {
+        Err(fault) => Some(Outcome::Fault(fault)),
+        Ok(found) if found != count as usize => Some(Outcome::Fault(Fault::Unpack)),
+        Ok(_) => match budget.fits(greatest_item(value), deepest_item(value)) {
+            Ok(()) => None,
+            Err(spent) => Some(Outcome::Spent(spent)),
+        },
+    }
+}
+
+// Puts all of the values on top and goes on.
+fn push_values(state: &mut State, values: Vec<Value>) -> Result<Option<Outcome>, NoMemory>
     requires { state.old.point + 1 < 2 ^ 64 }
-    ensures { IfOk result (λ r. spread_next count (values_view values.items) (config_view state.old)
+    ensures { IfOk result
+        (λ r. piled_on (values_view values.items) (config_view state.old)
         ≡ next_view r state.new) }
 {
-    if values.len() != count as usize {
-        return Ok(Some(Outcome::Fault(Fault::Unpack)));
-    }
-    // Only read, so that the limits are known to have fewer bits than what is counted.
-    let _size = state.left.size;
-    let _nesting = state.left.nesting;
-    if let Err(spent) = state
-        .left
-        .fits(greatest_size(&values), greatest_nesting(&values))
-    {
-        return Ok(Some(Outcome::Spent(spent)));
-    }
     push_all(&mut state.stack, values)?;
     step_on(state)
 }
@@ -85,12 +149,17 @@ fn spread_items(
     value: Value,
 ) -> Result<Option<Outcome>, NoMemory>
     requires { state.old.point + 1 < 2 ^ 64 }
-    ensures { IfOk result (λ r. iterating (items_of_tree (view value))
+    ensures next { IfOk result (λ r. iterating (items_of_tree (view value))
         (λ ts. spread_next count ts (config_view state.old))
         ≡ next_view r state.new) }
+    ensures memory { OnErr result (GoesOn (iterating (items_of_tree (view value))
+        (λ ts. spread_next count ts (config_view state.old)))) }
 {
+    if let Some(outcome) = refusal(&value, count, &state.left) {
+        return Ok(Some(outcome));
+    }
     match items_of(alloc, value) {
-        Ok(items) => spread(state, count, items),
+        Ok(items) => push_values(state, items),
         Err(ValueError::Fault(fault)) => Ok(Some(Outcome::Fault(fault))),
         Err(ValueError::NoMemory) => Err(NoMemory),
     }
@@ -105,7 +174,10 @@ pub(crate) fn unpack(
     requires not_wrong { unpack_next count (config_view state.old) ≢ Wrong }
     requires sized { AreSized state.old }
     requires room { state.old.point + 1 < 2 ^ 64 }
-    ensures { IfOk result (λ r. unpack_next count (config_view state.old) ≡ next_view r state.new) }
+    ensures next { IfOk result
+        (λ r. unpack_next count (config_view state.old) ≡ next_view r state.new) }
+    // Only items that are put take memory.
+    ensures memory { OnErr result (GoesOn (unpack_next count (config_view state.old))) }
 {
     let value = state.stack.pop();
     if let Some(outcome) = pay_for(state, &value) {

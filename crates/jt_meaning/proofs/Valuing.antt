@@ -1,6 +1,6 @@
 -- An expression means the same by names and by slots.
 use Rattle.std.proofs.Common.{◌≡◌, ℕ, zero, suc, pos, ◌<◌, ◌≤◌, Bool, true, false, if◌then◌else◌, List, [], ◌∷◌, ◌++◌, length, map, Option, Some, None, refl, sym, ap, ◌∙◌, subst, arith, append_assoc}
-use Rattle.std.specs.Prelude.{unwrap_or, Result, Ok, Err, filter, codes}
+use Rattle.std.specs.Prelude.{unwrap_or, Result, filter, codes}
 use Rattle.std.specs.Str.{bytes_eq}
 use Rattle.jt_value.specs.Tree as tree
 use Rattle.jt_value.specs.Tree.{Tree}
@@ -228,12 +228,13 @@ module _ (world : World) (order : List Home) (calls : Calls) (scall : SCalls) (m
   on_two o e k m = two_after (seen e m) (λ n. seen k n) (λ vs n. bind (operated o vs) (valued n))
 
   -- a result over a memory that was kept
-  done : {b g : ℕ} {m n : Memory} (r : Result Tree Fault) → Kept b g m n → n.out ≡ m.out → Both (Evaluated b g m) (checked r) (bind (checked r) (valued n))
-  done (Ok v) u o = both (record { value = refl; kept = u; out = o })
-  done (Err e) u o = fault
+  done : {b g : ℕ} {m n : Memory} (r : Got Tree) → Kept b g m n → n.out ≡ m.out → Both (Evaluated b g m) r (bind r (valued n))
+  done (gives v) u o = both (record { value = refl; kept = u; out = o })
+  done (fails e p) u o = fault
+  done deeper u o = deep
 
   done_as : {b g : ℕ} {m n : Memory} (r s : Result Tree Fault) → r ≡ s → Kept b g m n → n.out ≡ m.out → Both (Evaluated b g m) (checked r) (bind (checked s) (valued n))
-  done_as r s e u o = by_left (ap checked e) (done s u o)
+  done_as r s e u o = by_left (ap checked e) (done (checked s) u o)
 
   made_both : {b g : ℕ} {m : Memory} {h : Got (List Tree)} (k : Maker) (o : List Tree → Result Tree Fault) (es : SRow Constant) → ((vs : List Tree) → o vs ≡ make fs k vs)
       → Both (Rowed b g m) h (seen_row es m) → Both (Evaluated b g m) (bind h (λ vs. checked (o vs))) (seen (made k es) m)
@@ -459,10 +460,10 @@ module _ (world : World) (order : List Home) (calls : Calls) (scall : SCalls) (m
   cycle_both {m = m} sp n h es u =
       by_right (on_two op.Item (made a_list es) left m ∙ bind_assoc (seen_row es m) (λ r. gives (record { value = tree.list (items_of r.values); memory = r.memory })) (λ r. bind (seen left r.memory) (λ s. bind (operated op.Item (r.value ∷ s.value ∷ [])) (valued s.memory))))
       (bind_both u (λ vs r w.
-      let rest : Both (Evaluated sp.free (end sp) r.memory) (bind (checked (loop_field index0 l)) (λ i. operated op.Remainder (i ∷ tree.number (pos (length vs)) ∷ []))) (seen left r.memory) =
+      let rest : Both (Evaluated sp.free (end sp) r.memory) (bind (loop_field index0 l) (λ i. operated op.Remainder (i ∷ tree.number (pos (length vs)) ∷ []))) (seen left r.memory) =
       two_both {k = gives (tree.number (pos (length vs)))} op.Remainder (slots.field index0) (slots.pooled (own (tree.number (pos n)))) (done (loop_field index0 l) (kept_same sp.free (end sp) r.memory) refl)
       (λ o k f. both (record { value = ap (λ z. tree.number (pos z)) (sym w.1); kept = kept_same sp.free (end sp) o; out = refl })) in
-      by_left (sym (bind_assoc (checked (loop_field index0 l)) (λ i. operated op.Remainder (i ∷ tree.number (pos (length vs)) ∷ [])) (λ k. operated op.Item (tree.list (items_of vs) ∷ k ∷ []))))
+      by_left (sym (bind_assoc (loop_field index0 l) (λ i. operated op.Remainder (i ∷ tree.number (pos (length vs)) ∷ [])) (λ k. operated op.Item (tree.list (items_of vs) ∷ k ∷ []))))
       (bind_both rest (λ k s z.
       done_as (operators.operation op.Item (tree.list (items_of vs) ∷ k ∷ [])) (operators.operation op.Item (tree.list (items_of r.values) ∷ s.value ∷ []))
       (ap (λ y. operators.operation op.Item (tree.list (items_of y) ∷ k ∷ [])) (sym w.0.values) ∙ ap (λ y. operators.operation op.Item (tree.list (items_of r.values) ∷ y ∷ [])) (sym z.value))

@@ -63,15 +63,15 @@ abbrev pub entries_of : Pairs → List Tree
 entries_of [] = []
 entries_of (b ∷ bs) = tree.text b.0 ∷ b.1 ∷ entries_of bs
 
--- a field of the innermost loop; an unknown one has neither text nor fault at any depth: the rules know each by its name
+-- a field of the innermost loop; an unknown one, and each outside a loop, has neither text nor fault at any depth: the rules refuse both
 abbrev pub field_of : Option Field → Option Loop → Got Tree
 field_of None l = deeper
-field_of (Some f) l = checked (loop_field f l)
+field_of (Some f) l = loop_field f l
 
--- `loop.cycle(..)`: the one at the turn's place, round and round
+-- `loop.cycle(..)`: the one at the turn's place, round and round; outside a loop it has neither text nor fault at any depth
 abbrev pub cycled : Option Loop → List Tree → Got Tree
 cycled l vs =
-    bind (checked (loop_field index0 l)) (λ i. bind (operated op.Remainder (i ∷ tree.number (pos (length vs)) ∷ [])) (λ k.
+    bind (loop_field index0 l) (λ i. bind (operated op.Remainder (i ∷ tree.number (pos (length vs)) ∷ [])) (λ k.
     operated op.Item (tree.list (items_of vs) ∷ k ∷ [])))
 
 -- the parameters of a filter, none where there is no such filter

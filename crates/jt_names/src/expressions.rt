@@ -440,7 +440,7 @@ fn resolve_cycle(
 
 /// Resolves a row of expressions, behind others that are resolved.
 #[cycle(resolve)]
-pub fn resolve_row(
+pub(crate) fn resolve_row(
     alloc: Global,
     scope: &Scope<'_>,
     spot: &Spot<'_, '_>,
@@ -463,7 +463,7 @@ pub fn resolve_row(
 
 /// Resolves what is given by name, behind others that are resolved: each is kept aside in a local.
 #[cycle(resolve)]
-pub fn resolve_asides(
+pub(crate) fn resolve_asides(
     alloc: Global,
     scope: &Scope<'_>,
     spot: &Spot<'_, '_>,

@@ -15,11 +15,9 @@ mod rows;
 mod spot;
 
 pub use blocks::{block_arguments, first_body};
-pub use expressions::{resolve_asides, resolve_expression, resolve_row};
+pub use expressions::resolve_expression;
 pub use filterings::resolve_filterings;
 pub use frame::Frame;
 pub use jt_rules::ScopeError;
-pub use lookup::{absent, global_slot, kept, more, no_value, reading, slot, value_or};
-pub use pool::{add_text, add_value};
-pub use rows::reads;
+pub use lookup::{absent, more, no_value, reading, slot};
 pub use spot::Spot;

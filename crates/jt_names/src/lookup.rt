@@ -28,7 +28,7 @@ pub fn more(count: usize, by: usize) -> Result<usize, ScopeError>
 }
 
 /// What a slot holds, or the value at a place of the pool.
-pub fn value_or(slot: Option<Slot>, place: usize) -> SExpr
+pub(crate) fn value_or(slot: Option<Slot>, place: usize) -> SExpr
     ensures { (p : List Tree)
         → IsPlaced (resolve.value_or (option_map slot_view slot) (known place)) (expr_view result) p
         p }
@@ -77,7 +77,7 @@ pub fn slot(scope: &Scope<'_>, spot: &Spot<'_, '_>, name: &str) -> Option<Slot>
 }
 
 /// The slot of a name among the globals of the chain that is resolved.
-pub fn global_slot(scope: &Scope<'_>, name: &str) -> Option<Slot>
+pub(crate) fn global_slot(scope: &Scope<'_>, name: &str) -> Option<Slot>
     requires { IsLaidOut scope.now }
     ensures { option_map slot_view result ≡ slot_in name.now (globals_in scope.now) }
 {
@@ -89,7 +89,11 @@ pub fn global_slot(scope: &Scope<'_>, name: &str) -> Option<Slot>
 }
 
 /// The local that holds what is given by a name.
-pub fn kept(pairs: &[(String, Expr)], free: usize, name: &str) -> Result<Option<Slot>, ScopeError>
+pub(crate) fn kept(
+    pairs: &[(String, Expr)],
+    free: usize,
+    name: &str,
+) -> Result<Option<Slot>, ScopeError>
     ensures kept { IfOk result (λ s. option_map slot_view s
         ≡ slot_in name.now (resolve.locals_from free (keywords (written.pairs_view pairs.now)))) }
     ensures refused { IfErr result (λ e. e ≡ error.NoMemory) }

@@ -15,7 +15,7 @@ use jt_value::Value;
 use std::alloc::Global;
 
 /// Puts a value at the end of the pool, and gives the expression that it is.
-pub fn add_value(pool: &mut Vec<Value>, value: Value) -> Result<SExpr, ScopeError>
+pub(crate) fn add_value(pool: &mut Vec<Value>, value: Value) -> Result<SExpr, ScopeError>
     ensures placed { IfOk result (λ e. IsPlaced (slots.pooled (own (view value))) (expr_view e)
         (values pool.old) (values pool.new)) }
     ensures refused { IfErr result (λ e. e ≡ error.NoMemory) }
@@ -26,7 +26,11 @@ pub fn add_value(pool: &mut Vec<Value>, value: Value) -> Result<SExpr, ScopeErro
 }
 
 /// Puts a text at the end of the pool, and gives the expression that it is.
-pub fn add_text(alloc: Global, text: &str, pool: &mut Vec<Value>) -> Result<SExpr, ScopeError>
+pub(crate) fn add_text(
+    alloc: Global,
+    text: &str,
+    pool: &mut Vec<Value>,
+) -> Result<SExpr, ScopeError>
     ensures placed { IfOk result (λ e. IsPlaced (slots.pooled (own (tree.text text.now)))
         (expr_view e) (values pool.old) (values pool.new)) }
     ensures refused { IfErr result (λ e. e ≡ error.NoMemory) }

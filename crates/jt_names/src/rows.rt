@@ -18,7 +18,7 @@ use jt_slots::{SExpr, Slot};
 use std::alloc::Global;
 
 /// What names read, in a row.
-pub fn reads(
+pub(crate) fn reads(
     alloc: Global,
     scope: &Scope<'_>,
     spot: &Spot<'_, '_>,

@@ -1,7 +1,9 @@
 -- Walks: what a mark that changes leaves, and what is known when a number is done.
-use Rattle.std.proofs.Common.{◌≡◌, ℕ, zero, suc, ◌+◌, ◌<◌, ◌≤◌, ◌==◌, Bool, true, false, not, cond, ◌||◌, List, [], ◌∷◌, ◌++◌, length, take, reverse, get_or, set, refl, sym, ap, subst, ◌∙◌, arith}
+use Rattle.std.proofs.Common.{◌≡◌, ℕ, zero, suc, ◌+◌, ◌<◌, ◌≤◌, ◌==◌, Bool, true, false, not, cond, ◌||◌, List, [], ◌∷◌, ◌++◌, Result, Ok, Err, length, take, reverse, get_or, set, refl, sym, ap, subst, ◌∙◌, arith}
+use Rattle.std.proofs.Math.ListN.{replicate}
+use Rattle.std.specs.Result.{IsErrAnd}
 use Rattle.std.specs.List.{AllByRecursion, count_by}
-use Rattle.std.proofs.lemmas.List.{get_or_default, reverse-append, get_or-set_same, get_or-set_other, length-set}
+use Rattle.std.proofs.lemmas.List.{get_or_default, reverse-append, get_or-set_same, get_or-set_other, length-replicate, length-set}
 use Rattle.std.proofs.lemmas.List.Sums.{sum_by-set}
 use Rattle.std.proofs.lemmas.Option.{unwrap_or-slice_get}
 use Rattle.std.proofs.lemmas.Bool.Decides.{nat_tests}
@@ -33,6 +35,9 @@ or_true false b h = h
 pub either : {P : Type 0} (b : Bool) → (b ≡ true → P) → (b ≡ false → P) → P
 either true f g = f refl
 either false f g = g refl
+
+pub never : {P : Type 0} → false ≡ true → P
+never h = absurd (cc)
 
 -- ---- marks
 
@@ -127,6 +132,26 @@ pub one_more : {g : Graph} {i j k : ℕ} → Reaches g i j → among k (next_of 
 one_more (step a) h = further a (step h)
 one_more (further a r) h = further a (one_more r h)
 
+-- ---- a walk begins
+
+new_at : (n j : ℕ) → get_or (replicate n New) j New ≡ New
+new_at zero j = refl
+new_at (suc n) zero = refl
+new_at (suc n) (suc j) = new_at n j
+
+pub all_new : (ms : List Mark) (n j : ℕ) → ms ≡ replicate n New → mark_of ms j ≡ New
+all_new ms n j e = ap (λ is. mark_of is j) e ∙ unwrap_or-slice_get (replicate n New) j New ∙ new_at n j
+
+pub new_walk : (g : Graph) (w : Walk) (n : ℕ) → w.marks.items ≡ replicate n New → n ≡ length g → w.done.items ≡ [] → IsWalk g w
+new_walk g w n new e d =
+    let none : done_of w ≡ [] = ap reverse d in
+    record {
+      each = ap length new ∙ length-replicate n New ∙ e;
+      told = λ j. ap is_done (all_new w.marks.items n j new) ∙ sym (ap (among j) none);
+      within = subst (AllByRecursion (λ j. j < length g)) (sym none) tt;
+      ordered = subst (AreOrdered g) (sym none) tt;
+    }
+
 -- ---- a number opens
 
 pub opened_walk : (g : Graph) (v w : Walk) (i : ℕ) → i < length g → mark_of v.marks.items i ≡ New → w.marks.items ≡ set v.marks.items i Open → w.done.items ≡ v.done.items → IsWalk g v → IsWalk g w
@@ -219,6 +244,11 @@ goes_both u v w p q =
     let a = p.fewer in
     let b = q.fewer in
     record { opens = λ j. q.opens j ∙ p.opens j; dones = λ j h. q.dones j (p.dones j h); fewer = omega arith }
+
+-- the error of a call that is passed on
+pub passed_on : {A E : Type 0} (r : Result A E) (e f : E) → IsErrAnd r (λ y. y ≡ e) → r ≡ Err f → e ≡ f
+passed_on (Ok x) e f h is = absurd h
+passed_on (Err y) e f h is = let same : y ≡ f = cc in sym h ∙ same
 
 -- ---- a walk goes through all numbers
 

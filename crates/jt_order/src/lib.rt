@@ -1,6 +1,7 @@
 //! An order of the numbers of a graph in which each stands before those that come next.
 #![tactic(auto)]
 
+mod closed;
 mod error;
 mod ordering;
 mod walk;

@@ -1,7 +1,7 @@
 -- Ends of texts, and what is removed there.
-use Rattle.std.proofs.Common.{◌≡◌, ℕ, ◌-◌, ◌<◌, ◌≤◌, ◌==◌, ◌&&◌, Bool, true, false, List, [], ◌∷◌, ◌++◌, length, take, refl, sym, ap, subst, ◌∙◌, arith, append_assoc, append-nil, length-append, IsUtf8, ⊎_elim}
+use Rattle.std.proofs.Common.{◌≡◌, ◌≢◌, ℕ, ◌-◌, ◌<◌, ◌≤◌, ◌==◌, ◌&&◌, Bool, true, false, List, [], ◌∷◌, ◌++◌, length, take, refl, sym, ap, subst, ◌∙◌, arith, append_assoc, append-nil, length-append, IsUtf8, ⊎_elim}
 use Rattle.std.proofs.lemmas.Bool.{cases_lt}
-use Rattle.std.proofs.lemmas.Str.{encodes-chars, encodes-append, length-le-encodes, chars-nil}
+use Rattle.std.proofs.lemmas.Str.{encodes-chars, encodes-append, length-le-encodes, chars-append, chars-nil}
 use Rattle.std.specs.Str.{chars}
 use lib.Utf8.{encodes}
 use Rattle.jt_scan.specs.Cut.{Text, EndsWith, is_space, after_space}
@@ -131,7 +131,7 @@ strictly a b e lt =
     omega (arith, ap length (ap encodes e.1 ∙ encodes-append e.0 b), length-append (encodes e.0) (encodes b), length-le-encodes e.0, ap length e.1, length-append e.0 b)
 
 -- an end with fewer bytes than another is an end of that
-pub shorter_end : (t a b : List ℕ) → IsUtf8 a → IsUtf8 b → EndsWith (chars t) (chars a) → EndsWith (chars t) (chars b) → length b < length a → EndsWith (chars a) (chars b)
+shorter_end : (t a b : List ℕ) → IsUtf8 a → IsUtf8 b → EndsWith (chars t) (chars a) → EndsWith (chars t) (chars b) → length b < length a → EndsWith (chars a) (chars b)
 shorter_end t a b u v e f lt =
     ⊎_elim
     (λ (gt : length (chars a) < length (chars b)).
@@ -148,17 +148,32 @@ take_front x y =
     front [] y = refl
     front (c ∷ x) y = ap (λ z. c ∷ z) (front x y)
 
+-- a part in front of an end, in bytes and in characters
+pub chars_cut : (a b r : List ℕ) (n : ℕ) → IsUtf8 r → a ≡ take (length a - n) a ++ b → r ≡ take (length a - n) a → chars a ≡ chars r ++ chars b
+chars_cut a b r n u e t = ap chars (e ∙ ap (λ z. z ++ b) (sym t)) ∙ chars-append r b u
+
 pub kept_between : (front end r : Text) → front ≡ r ++ end → r ≡ without_end (length end) front
 kept_between front end r e = sym (ap (λ z. take (length z - length end) z) e ∙ take_front r end)
 
 -- an end with no fewer bytes than another has no fewer characters
-pub nothing_between : (t a b : List ℕ) → IsUtf8 a → IsUtf8 b → EndsWith (chars t) (chars a) → EndsWith (chars t) (chars b) → length a ≤ length b → [] ≡ without_end (length (chars b)) (chars a)
+nothing_between : (t a b : List ℕ) → IsUtf8 a → IsUtf8 b → EndsWith (chars t) (chars a) → EndsWith (chars t) (chars b) → length a ≤ length b → [] ≡ without_end (length (chars b)) (chars a)
 nothing_between t a b u v e f le =
     ⊎_elim
     (λ (lt : length (chars b) < length (chars a)).
     absurd (omega (arith, bytes_of a u, bytes_of b v, strictly (chars a) (chars b) (end_of_end e.0 (chars a) f.0 (chars b) (sym e.1 ∙ f.1) (omega arith)) lt)))
     (λ (ge : length (chars a) ≤ length (chars b)). let n : length (chars a) - length (chars b) ≡ 0 = omega arith in rw n refl)
     (cases_lt (length (chars b)) (length (chars a)))
+
+-- of two ends of a text, where one does not end with the other in bytes, nothing of it is left
+pub nothing_left : (t a b : List ℕ) → IsUtf8 a → IsUtf8 b → EndsWith (chars t) (chars a) → EndsWith (chars t) (chars b) → ((y : List ℕ) → a ≢ y ++ b) → [] ≡ without_end (length (chars b)) (chars a)
+nothing_left t a b u v e f apart =
+    ⊎_elim
+    (λ (lt : length b < length a). let w = bytes_end a b u v (shorter_end t a b u v e f lt) in absurd (apart w.0 w.1))
+    (λ (le : length a ≤ length b). nothing_between t a b u v e f le)
+    (cases_lt (length b) (length a))
+  where
+    bytes_end : (x y : List ℕ) → IsUtf8 x → IsUtf8 y → EndsWith (chars x) (chars y) → EndsWith x y
+    bytes_end x y p q w = (encodes w.0, sym (encodes-chars x p) ∙ ap encodes w.1 ∙ encodes-append w.0 (chars y) ∙ ap (λ z. encodes w.0 ++ z) (encodes-chars y q))
 
 pub turned : (r b : Bool) → r ≡ b → r ≡ true → b ≡ true
 turned r b e h = sym e ∙ h

@@ -7,7 +7,7 @@ ghost use Rattle.jt_scan.specs.View.{part_view};
 ghost use Rattle.jt_parse.specs.Kept as spec;
 ghost use Rattle.jt_parse.specs.SideView.{side_view, ahead_view, test_of};
 
-use jt_scan::{Kind, Mark, Options, Part, Segment, before, behind_space, first};
+use jt_scan::{Kind, Mark, Options, Part, Segment, behind_space, first};
 
 /// What stands beside a text.
 #[derive(Clone, Copy)]
@@ -173,9 +173,8 @@ pub fn kept(text: &str, options: Options, left: Side, right: Side) -> &str
 {
     let front = after_left(text, options, left);
     let end = removed_right(text, options, is_start(left), right);
-    if end.len() < front.len() {
-        before(front, end)
-    } else {
-        no_end()
+    match front.strip_suffix(end) {
+        Some(rest) => rest,
+        None => no_end(),
     }
 }

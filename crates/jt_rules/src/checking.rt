@@ -86,7 +86,8 @@ fn template_broken(scope: &Scope<'_>, body: &[Stmt]) -> Result<Option<ScopeError
     ensures { IfOk result (λ o. o
         ≡ option_or (rules.body_broken (its_world scope.now) (its_home scope.now)
         (body_view body.now) (record { in_loop = false; in_block = false }))
-        (rules.refused (nat_lt max_bindings (body_bound (body_view body.now))) error.TooManySlots)) }
+        (rules.refused (nat_lt max_bindings (body_bound (body_view body.now)))
+        error.TooManySlots)) }
 {
     let around = Within {
         in_loop: false,
@@ -101,8 +102,8 @@ fn template_broken(scope: &Scope<'_>, body: &[Stmt]) -> Result<Option<ScopeError
 
 /// Whether the chains read or bind few enough names, once a chain.
 fn has_few_names(alloc: Global, chain: &Chain) -> Result<bool, AllocError>
-    ensures { IfOk result (λ b.
-        b ≡ nat_le (rules.names_counted (world_in chain.now) (chain_view chain.now).order) max_names) }
+    ensures { IfOk result (λ b. b
+        ≡ nat_le (rules.names_counted (world_in chain.now) (chain_view chain.now).order) max_names) }
 {
     let mut left = MAX_NAMES;
     for home in 0..chain.homes.len() {

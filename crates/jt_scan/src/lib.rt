@@ -21,4 +21,4 @@ pub use quotes::text_value;
 pub use scanner::scan;
 pub use segment::{Kind, Mark, Marks, Part, Segment, Sign, Tag, Token};
 pub use source::{MAX_SOURCE_LEN, Source};
-pub use text::{before, behind_space, first};
+pub use text::{behind_space, first};

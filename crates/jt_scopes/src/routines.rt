@@ -1,6 +1,6 @@
 //! Resolves the routines of a chain: the chain, its macros, and the bodies of its blocks.
 
-ghost use Rattle.std.specs.Prelude.{◌≡◌, ◌<◌, map, length, IfOk, IfErr, if◌then◌else◌};
+ghost use Rattle.std.specs.Prelude.{◌≡◌, map, IfOk, IfErr, if◌then◌else◌};
 ghost use Rattle.jt_inherit.specs.Chain.{macros};
 ghost use Rattle.jt_inherit.specs.Layers.{layer_view};
 ghost use Rattle.jt_inherit.specs.Parts.{name_at};
@@ -185,8 +185,7 @@ fn resolve_chain<'a>(
     scope: &Scope<'a>,
     pool: &mut Vec<Value>,
 ) -> Result<Routine, ScopeError>
-    requires laid { IsLaidOut scope.now }
-    requires there { scope.now.home < length scope.now.chain.now.homes.items }
+    requires { IsLaidOut scope.now }
     ensures made { IfOk result (λ r. IsRoutine (templates_in scope.now)
         (resolve.chain_routine (world_in scope.now) (order_in scope.now) (home_in scope.now)) r
         (values pool.old) (values pool.new)) }
@@ -293,8 +292,7 @@ pub fn resolve_home<'a>(
     routines: &mut Vec<Routine>,
     pool: &mut Vec<Value>,
 ) -> Result<(), ScopeError>
-    requires laid { IsLaidOut scope.now }
-    requires there { scope.now.home < length scope.now.chain.now.homes.items }
+    requires { IsLaidOut scope.now }
     ensures put { IfOk result (λ u. AreRoutines (templates_in scope.now)
         (programs.chain_routines (world_in scope.now) (order_in scope.now) (home_in scope.now))
         routines.old.items routines.new.items (values pool.old) (values pool.new)) }

@@ -7,6 +7,7 @@ use Rattle.jt_value.specs.Iteration.{items_of_tree}
 use Rattle.jt_value.specs.declared.fault.Fault.{Fault}
 use Rattle.jt_value.specs.declared.fault.Fault.TheVariants as faults
 use Rattle.jt_parse.specs.Trees.{Text}
+use Rattle.jt_slots.specs.Got.{Got, deeper, checked}
 
 abbrev pub items_listed : Items → List Tree
 items_listed no_items = []
@@ -70,7 +71,7 @@ field_at total l = counted (length l.items)
 field_at previtem l = Ok (tree_before l.items l.before)
 field_at nextitem l = Ok (tree_at l.items (suc l.before))
 
--- outside a loop there is none, and the rules forbid it
-abbrev pub loop_field : Field → Option Loop → Result Tree Fault
-loop_field f None = Ok tree.undefined
-loop_field f (Some l) = field_at f l
+-- outside a loop it has neither value nor fault at any depth: the rules refuse it
+abbrev pub loop_field : Field → Option Loop → Got Tree
+loop_field f None = deeper
+loop_field f (Some l) = checked (field_at f l)

@@ -181,7 +181,7 @@ module _ {K : Type 0} (filters : Filters) (constant : K → Tree) (call : SCalls
     pub svalue : SExpr K → Option Loop → Memory → Got Valued
     svalue (pooled k) l m = valued m (constant k)
     svalue (variable s) l m = valued m (load s m)
-    svalue (field f) l m = bind (checked (loop_field f l)) (valued m)
+    svalue (field f) l m = bind (loop_field f l) (valued m)
     svalue absent l m = deeper
     svalue (made k es) l m = bind (svalues es l m) (λ r. bind (checked (make filters k r.values)) (valued r.memory))
     svalue (conjunction a b) l m = bind (svalue a l m) (λ r. if tree.truth r.value then svalue b l r.memory else gives r)

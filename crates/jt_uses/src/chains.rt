@@ -16,10 +16,10 @@ use jt_parse::Stmt;
 use std::alloc::{AllocError, Global};
 use std::collections::BTreeSet;
 
-/// The different names that a chain reads or binds.
+/// The different names that a chain reads or binds. A chain that isn't there has none.
 pub fn own_names(alloc: Global, chain: &Chain, home: usize) -> Result<BTreeSet<&str>, AllocError>
-    requires { home < length chain.now.homes.items }
-    ensures { IfOk result (λ s. texts s.keys
+    ensures { home < length chain.now.homes.items
+        → IfOk result (λ s. texts s.keys
         ≡ ascending (uses.own_names (sources_of (chain_view chain.now))
         (home_at (chain_view chain.now).order home))) }
 {
@@ -31,10 +31,10 @@ pub fn own_names(alloc: Global, chain: &Chain, home: usize) -> Result<BTreeSet<&
     Ok(names)
 }
 
-/// The different names that the scopes of a chain bind.
+/// The different names that the scopes of a chain bind. A chain that isn't there has none.
 pub fn scope_names(alloc: Global, chain: &Chain, home: usize) -> Result<BTreeSet<&str>, AllocError>
-    requires { home < length chain.now.homes.items }
-    ensures { IfOk result (λ s. texts s.keys
+    ensures { home < length chain.now.homes.items
+        → IfOk result (λ s. texts s.keys
         ≡ uses.scope_names (sources_of (chain_view chain.now))
         (home_at (chain_view chain.now).order home)) }
 {

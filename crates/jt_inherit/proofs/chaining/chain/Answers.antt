@@ -7,7 +7,7 @@ use Rattle.jt_inherit.specs.Chain.{sources_in}
 use Rattle.jt_inherit.specs.Chains.{IsChain}
 use Rattle.jt_inherit.specs.Found.{HasHomes, found_templates, found_homes}
 use Rattle.jt_inherit.specs.Includes.{InOrder}
-use Rattle.jt_inherit.specs.Pages.{AreWhole, home_name}
+use Rattle.jt_inherit.specs.Pages.{home_name}
 use Rattle.jt_inherit.specs.Places.{home_at}
 use Rattle.jt_inherit.specs.SetView.{strings}
 use Rattle.jt_inherit.specs.Small.{chains_weight, chains_len}
@@ -46,19 +46,6 @@ returns-in_err-check_chains-clause-refused g c =
     rw (p.1, p.2)
     (chain_breaks given c.args.options c.args.entry.now ts ks hs ws ns found c.in_ok-found.ensures.root all e c.in_err-check_chains.ensures.broken)
 
-pub order-requires : goal.order-requires
-order-requires g c =
-    let given = g.L.Library.sources c.args.library.now in
-    let f = c.in_ok-found.found in
-    let ts = found_templates f in
-    let ks = strings f.names.keys in
-    let hs = found_homes f in
-    let ws = graph_of f.ways.items in
-    let ns = graph_of f.next.items in
-    let found = c.in_ok-found.ensures.found in
-    let all : length ws ≡ length hs = length-map (λ (v : Vec ℕ Global). v.items) f.ways.items ∙ c.in_ok-found.ensures.all in
-    subst (λ (z : List (Vec ℕ Global)). IsClosed (graph_of z)) (sym c.deref.ensures.value) (closed given c.args.options c.args.entry.now ts ks hs ws ns found c.in_ok-found.ensures.root all)
-
 pub returns-in_err-order-clause-refused : goal.returns-in_err-order-clause-refused
 returns-in_err-order-clause-refused g c =
     let given = g.L.Library.sources c.args.library.now in
@@ -88,7 +75,8 @@ homes_in-requires-clause-within g c =
     let all : length ws ≡ length hs = length-map (λ (v : Vec ℕ Global). v.items) f.ways.items ∙ c.in_ok-found.ensures.all in
     let kept = c.in_ok-check_chains.ensures.kept in
     let is = c.in_ok-order.order.items in
-    let o : IsOrder ns is = subst (λ (z : List (Vec ℕ Global)). IsOrder (graph_of z) is) c.deref.ensures.value c.in_ok-order.ensures.ordered in
+    let own : IsClosed (graph_of c.deref.result.now) = subst (λ (z : List (Vec ℕ Global)). IsClosed (graph_of z)) (sym c.deref.ensures.value) (closed given c.args.options c.args.entry.now ts ks hs ws ns found c.in_ok-found.ensures.root all) in
+    let o : IsOrder ns is = subst (λ (z : List (Vec ℕ Global)). IsOrder (graph_of z) is) c.deref.ensures.value (c.in_ok-order.ensures.ordered own) in
     let lens : length ns ≡ length f.ways.items = next_len given ts hs hs ws ns found.followed ∙ length-map (λ (v : Vec ℕ Global). v.items) f.ways.items in
     subst (λ z. AllByRecursion (λ i. i < length f.ways.items) z) (sym c.deref-2.ensures.value) (subst (λ n. AllByRecursion (λ i. i < n) is) lens o.within)
 
@@ -105,7 +93,8 @@ invariant_of-result g c =
     let all : length ws ≡ length hs = length-map (λ (v : Vec ℕ Global). v.items) f.ways.items ∙ c.in_ok-found.ensures.all in
     let kept = c.in_ok-check_chains.ensures.kept in
     let is = c.in_ok-order.order.items in
-    let o : IsOrder ns is = subst (λ (z : List (Vec ℕ Global)). IsOrder (graph_of z) is) c.deref.ensures.value c.in_ok-order.ensures.ordered in
+    let own : IsClosed (graph_of c.deref.result.now) = subst (λ (z : List (Vec ℕ Global)). IsClosed (graph_of z)) (sym c.deref.ensures.value) (closed given c.args.options c.args.entry.now ts ks hs ws ns found c.in_ok-found.ensures.root all) in
+    let o : IsOrder ns is = subst (λ (z : List (Vec ℕ Global)). IsOrder (graph_of z) is) c.deref.ensures.value (c.in_ok-order.ensures.ordered own) in
     let homes = c.in_ok-homes.homes.items in
     let has : HasHomes hs ws is homes = subst (λ z. HasHomes hs ws z homes) c.deref-2.ensures.value c.in_ok-homes.ensures in
     let named = homes_named hs ws is homes has in
@@ -129,7 +118,8 @@ returns-clause-chained g c =
     let all : length ws ≡ length hs = length-map (λ (v : Vec ℕ Global). v.items) f.ways.items ∙ c.in_ok-found.ensures.all in
     let kept = c.in_ok-check_chains.ensures.kept in
     let is = c.in_ok-order.order.items in
-    let o : IsOrder ns is = subst (λ (z : List (Vec ℕ Global)). IsOrder (graph_of z) is) c.deref.ensures.value c.in_ok-order.ensures.ordered in
+    let own : IsClosed (graph_of c.deref.result.now) = subst (λ (z : List (Vec ℕ Global)). IsClosed (graph_of z)) (sym c.deref.ensures.value) (closed given c.args.options c.args.entry.now ts ks hs ws ns found c.in_ok-found.ensures.root all) in
+    let o : IsOrder ns is = subst (λ (z : List (Vec ℕ Global)). IsOrder (graph_of z) is) c.deref.ensures.value (c.in_ok-order.ensures.ordered own) in
     let homes = c.in_ok-homes.homes.items in
     let has : HasHomes hs ws is homes = subst (λ z. HasHomes hs ws z homes) c.deref-2.ensures.value c.in_ok-homes.ensures in
     let named = homes_named hs ws is homes has in
@@ -149,7 +139,8 @@ returns-clause-weighs g c =
     let all : length ws ≡ length hs = length-map (λ (v : Vec ℕ Global). v.items) f.ways.items ∙ c.in_ok-found.ensures.all in
     let kept = c.in_ok-check_chains.ensures.kept in
     let is = c.in_ok-order.order.items in
-    let o : IsOrder ns is = subst (λ (z : List (Vec ℕ Global)). IsOrder (graph_of z) is) c.deref.ensures.value c.in_ok-order.ensures.ordered in
+    let own : IsClosed (graph_of c.deref.result.now) = subst (λ (z : List (Vec ℕ Global)). IsClosed (graph_of z)) (sym c.deref.ensures.value) (closed given c.args.options c.args.entry.now ts ks hs ws ns found c.in_ok-found.ensures.root all) in
+    let o : IsOrder ns is = subst (λ (z : List (Vec ℕ Global)). IsOrder (graph_of z) is) c.deref.ensures.value (c.in_ok-order.ensures.ordered own) in
     let homes = c.in_ok-homes.homes.items in
     let has : HasHomes hs ws is homes = subst (λ z. HasHomes hs ws z homes) c.deref-2.ensures.value c.in_ok-homes.ensures in
     let named = homes_named hs ws is homes has in
@@ -173,7 +164,8 @@ returns-clause-few g c =
     let all : length ws ≡ length hs = length-map (λ (v : Vec ℕ Global). v.items) f.ways.items ∙ c.in_ok-found.ensures.all in
     let kept = c.in_ok-check_chains.ensures.kept in
     let is = c.in_ok-order.order.items in
-    let o : IsOrder ns is = subst (λ (z : List (Vec ℕ Global)). IsOrder (graph_of z) is) c.deref.ensures.value c.in_ok-order.ensures.ordered in
+    let own : IsClosed (graph_of c.deref.result.now) = subst (λ (z : List (Vec ℕ Global)). IsClosed (graph_of z)) (sym c.deref.ensures.value) (closed given c.args.options c.args.entry.now ts ks hs ws ns found c.in_ok-found.ensures.root all) in
+    let o : IsOrder ns is = subst (λ (z : List (Vec ℕ Global)). IsOrder (graph_of z) is) c.deref.ensures.value (c.in_ok-order.ensures.ordered own) in
     let homes = c.in_ok-homes.homes.items in
     let has : HasHomes hs ws is homes = subst (λ z. HasHomes hs ws z homes) c.deref-2.ensures.value c.in_ok-homes.ensures in
     let named = homes_named hs ws is homes has in
@@ -239,7 +231,8 @@ returns-clause-only g c =
     let all : length ws ≡ length hs = length-map (λ (v : Vec ℕ Global). v.items) f.ways.items ∙ c.in_ok-found.ensures.all in
     let kept = c.in_ok-check_chains.ensures.kept in
     let is = c.in_ok-order.order.items in
-    let o : IsOrder ns is = subst (λ (z : List (Vec ℕ Global)). IsOrder (graph_of z) is) c.deref.ensures.value c.in_ok-order.ensures.ordered in
+    let own : IsClosed (graph_of c.deref.result.now) = subst (λ (z : List (Vec ℕ Global)). IsClosed (graph_of z)) (sym c.deref.ensures.value) (closed given c.args.options c.args.entry.now ts ks hs ws ns found c.in_ok-found.ensures.root all) in
+    let o : IsOrder ns is = subst (λ (z : List (Vec ℕ Global)). IsOrder (graph_of z) is) c.deref.ensures.value (c.in_ok-order.ensures.ordered own) in
     λ d i.
     one_chain given c.args.options c.args.entry.now (record { templates = ts; order = map (home_at hs) is; escaping = c.args.options.autoescape }) d
     (chained given c.args.options c.args.entry.now ts ks hs ws ns found c.in_ok-found.ensures.root all kept is o) i found.known.only

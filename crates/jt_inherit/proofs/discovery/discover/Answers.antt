@@ -1,4 +1,4 @@
-use Rattle.std.proofs.Common.{◌≡◌, ap, length, arith, string_bytes, map, ◌∙◌}
+use Rattle.std.proofs.Common.{ap, arith, string_bytes}
 use Rattle.jt_order.specs.View.{graph_of}
 use Rattle.jt_inherit.specs.Found.{found_templates, found_homes}
 use Rattle.jt_inherit.specs.Pages.{pages_view}

@@ -1,15 +1,12 @@
-use Rattle.std.proofs.Common.{◌≡◌, true, ◌⊎◌, ◌++◌, ◌∷◌, [], List, ℕ, Some, None, sym, ap, subst, ◌∙◌, arith, length, string_bytes, Vec, Global}
-use Rattle.std.specs.Prelude.{slice_get}
+use Rattle.std.proofs.Common.{◌≡◌, true, ◌⊎◌, ◌++◌, ◌∷◌, [], List, ℕ, sym, ap, subst, ◌∙◌, arith, length, string_bytes, Vec, Global}
 use Rattle.std.specs.List.{AllByRecursion}
 use Rattle.std.proofs.lemmas.Result.{err_from_is_err_and}
 use Rattle.jt_order.specs.View.{graph_of}
 use Rattle.jt_parse.specs.Texts.{among}
-use Rattle.jt_parse.specs.Trees.{Text}
 use Rattle.jt_inherit.specs.Along.{ArePlaces, includes_along}
-use Rattle.jt_inherit.specs.Chain.{Template}
 use Rattle.jt_inherit.specs.Found.{AreFound, AreNext, IsMet, IsNeedFault, IsNextFault, chosen, found_templates, found_homes}
 use Rattle.jt_inherit.specs.Needs.{needed}
-use Rattle.jt_inherit.specs.Pages.{page_view, pages_view}
+use Rattle.jt_inherit.specs.Pages.{pages_view}
 use Rattle.jt_inherit.specs.Places.{home_at}
 use Rattle.jt_inherit.specs.SetView.{strings}
 use Rattle.jt_inherit.specs.Ways.{AreKnown}

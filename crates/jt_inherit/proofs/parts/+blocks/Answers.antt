@@ -1,11 +1,11 @@
-use Rattle.std.proofs.Common.{◌≡◌, ℕ, Bool, Vec, Global, List, ◌++◌, refl, sym, ap, ◌∙◌, arith, rules}
+use Rattle.std.proofs.Common.{◌≡◌, ℕ, Bool, Vec, Global, List, ◌++◌, refl, sym, ap, ◌∙◌, rules}
 use Rattle.std.proofs.lemmas.List.{at_drop_all, append-nil}
 use Rattle.std.proofs.lemmas.Result.{IfOk-weaker}
 use Rattle.jt_parse.specs.View.{stmt_view, body_view, branches_view}
 use Rattle.jt_parse.specs.declared.tree.Stmt.{Stmt, the_lemmas}
 use Rattle.jt_parse.specs.declared.tree.Stmt.TheVariants.{Autoescape}
 use Rattle.jt_parse.specs.Trees as trees
-use Rattle.jt_inherit.specs.Chain.{BlockBody, blocks_of, blocks_in, blocks_under}
+use Rattle.jt_inherit.specs.Chain.{blocks_of, blocks_in, blocks_under}
 use Rattle.jt_inherit.specs.Pages.{pages_view}
 use Rattle.jt_inherit.specs.Parts.{blocks_view, name_at}
 use Rattle.jt_inherit.proofs.Shown.{Branch}

@@ -1,4 +1,4 @@
-use Rattle.std.proofs.Common.{List, length, sym, ap, ◌∙◌, arith}
+use Rattle.std.proofs.Common.{List, sym, ap, ◌∙◌, arith}
 use Rattle.jt_parse.specs.Texts.{repeated}
 use Rattle.jt_inherit.specs.Checks.{block_names}
 use Rattle.jt_inherit.specs.Pages.{page_view, pages_view}

@@ -1,4 +1,4 @@
-use Rattle.std.proofs.Common.{◌≡◌, ◌++◌, ◌∷◌, [], ◌&&◌, not, List, take, sym, ap, subst, ◌∙◌}
+use Rattle.std.proofs.Common.{◌∷◌, [], ◌&&◌, not, List, take, sym, ap, subst, ◌∙◌}
 use Rattle.jt_parse.specs.Texts.{among}
 use Rattle.jt_inherit.specs.Checks.{block_names}
 use Rattle.jt_inherit.specs.SetView.{texts}

@@ -1,4 +1,4 @@
-use Rattle.std.proofs.Common.{◌≡◌, ◌++◌, ◌∷◌, ◌&&◌, ◌||◌, [], List, not, length, sym, ap, subst, ◌∙◌, arith}
+use Rattle.std.proofs.Common.{◌≡◌, ◌++◌, ◌∷◌, ◌&&◌, ◌||◌, [], List, not, sym, ap, ◌∙◌, arith}
 use Rattle.std.specs.Option.{option_to_list}
 use Rattle.std.specs.Str.{bytes_eq}
 use Rattle.std.proofs.lemmas.List.{append_assoc}
@@ -7,7 +7,7 @@ use Rattle.jt_inherit.specs.Checks.{lacks_next}
 use Rattle.jt_inherit.specs.Parts.{block_view, blocks_view}
 use Rattle.jt_inherit.specs.Supers.{calls_super}
 use Rattle.jt_inherit.specs.declared.parts.Block.{Block}
-use Rattle.jt_inherit.proofs.Checked.{any_text, has_given, HaveNext, next_more, next_lacking, all_next, no_items}
+use Rattle.jt_inherit.proofs.Checked.{any_text, has_given, next_more, next_lacking, all_next, no_items}
 use Rattle.jt_inherit.proofs.rules.any_lacks_next.Goals as goal
 
 pub returns-then-is_lacking : goal.returns-then-is_lacking

@@ -1,4 +1,4 @@
-use Rattle.std.proofs.Common.{◌≡◌, ◌++◌, ℕ, List, length}
+use Rattle.std.proofs.Common.{◌≡◌, ◌++◌, List, length}
 use Rattle.jt_parse.specs.Trees.{Text}
 use Rattle.jt_parse.specs.Texts.{among}
 use Rattle.jt_inherit.specs.Chain.{Template}

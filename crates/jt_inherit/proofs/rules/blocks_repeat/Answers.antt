@@ -1,4 +1,4 @@
-use Rattle.std.proofs.Common.{sym, ap, ◌∙◌}
+use Rattle.std.proofs.Common.{sym, ◌∙◌}
 use Rattle.jt_inherit.specs.SetView.{texts}
 use Rattle.jt_inherit.specs.declared.parts.Block.{Block}
 use Rattle.jt_inherit.proofs.Checked.{repeat_found, repeat_goes}

@@ -1,6 +1,4 @@
 use Rattle.std.proofs.Common.{not, ap, ◌∙◌}
-use Rattle.jt_parse.specs.Texts.{among}
-use Rattle.jt_inherit.specs.SetView.{texts}
 use Rattle.jt_inherit.proofs.Checked.{any_text, not_not}
 use Rattle.jt_inherit.proofs.rules.note.Goals as goal
 

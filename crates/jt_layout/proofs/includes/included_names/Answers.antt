@@ -24,4 +24,4 @@ returns c =
     let ls = c.deref-layer-items.result.now in
     let ended = at_drop_all (λ (z : List Layer). texts l.found.items ++ flat_map names_of z) ls l.layer-index c.loop-layer-test.false in
     sym (append-nil (texts l.found.items)) ∙ sym ended ∙ l.invariant ∙ ap (flat_map names_of) c.deref-layer-items.ensures.value
-    ∙ seen (chain_view c.args.chain.now).templates c.in_ok-layers.layers.items ∙ ap (flat_map (λ (t : Template). needs_in true t.body)) c.in_ok-layers.ensures
+    ∙ seen (chain_view c.args.chain.now).templates c.in_ok-layers.layers.items ∙ ap (flat_map (λ (t : Template). needs_in true t.body)) (c.in_ok-layers.ensures.there c.requires)

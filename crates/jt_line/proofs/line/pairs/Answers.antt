@@ -1,4 +1,4 @@
-use Rattle.std.proofs.Common.{◌≡◌, ◌<◌, ◌+◌, ℕ, Bor, get_or, length, ◌*◌, ◌∙◌, ◌++◌, ◌∷◌, [], List, ap, ap₂, sym, take, map, string_bytes, arith}
+use Rattle.std.proofs.Common.{◌≡◌, ◌<◌, ◌+◌, ℕ, Bor, get_or, length, ◌*◌, ◌∙◌, ◌++◌, ◌∷◌, [], List, ap, ap₂, sym, take, string_bytes, arith}
 use Rattle.std.proofs.Math.Seq.{take-length}
 use Rattle.clap.specs.Walk.{texts}
 use Rattle.jt_line.specs.Line.{words_of_pairs}

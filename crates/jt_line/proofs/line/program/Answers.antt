@@ -1,6 +1,7 @@
-use Rattle.std.proofs.Common.{◌≡◌, ◌∙◌, ap, ap₂, codes, rules, true}
-use Rattle.std.proofs.lemmas.Result.{IfOk-weaker}
+use Rattle.std.proofs.Common.{◌≡◌, Ok, codes, rules, true}
 use Rattle.clap.specs.Words.{App, app_of, new_app, with_subcommand}
+use Rattle.jt_line.specs.Line.{check_app, compile_app, render_app, run_app, turns_app}
+use Rattle.jt_line.proofs.Adding.{command_added}
 use Rattle.jt_line.proofs.line.program.Goals as goal
 
 abbrev top : App → App
@@ -10,15 +11,14 @@ top a = record a {
 
 pub returns : goal.returns
 returns c =
-    let base : app_of c.subcommand_required-program.result ≡ top (new_app (codes "jt")) = search rules in
-    let first = c.in_ok-program.ensures.shape c.in_ok-compile_command.ensures.1
-    ∙ ap₂ with_subcommand base (ap (λ (a : App). a.top) c.in_ok-compile_command.ensures.0) in
-    let second = c.in_ok-program-2.ensures.shape c.in_ok-check_command.ensures.1
-    ∙ ap₂ with_subcommand first (ap (λ (a : App). a.top) c.in_ok-check_command.ensures.0) in
-    let third = c.in_ok-program-3.ensures.shape c.in_ok-run_command.ensures.1
-    ∙ ap₂ with_subcommand second (ap (λ (a : App). a.top) c.in_ok-run_command.ensures.0) in
-    let fourth = c.in_ok-program-4.ensures.shape c.in_ok-render_command.ensures.1
-    ∙ ap₂ with_subcommand third (ap (λ (a : App). a.top) c.in_ok-render_command.ensures.0) in
-    IfOk-weaker c.subcommand-5.result _ _
-    (λ r h. h.shape c.in_ok-turns_command.ensures.1 ∙ ap₂ with_subcommand fourth (ap (λ (a : App). a.top) c.in_ok-turns_command.ensures.0))
-    c.subcommand-5.ensures
+    let a = top (new_app (codes "jt")) in
+    let new : app_of c.subcommand_required-program.result ≡ a = search rules in
+    let b = with_subcommand a compile_app.top in
+    let d = with_subcommand b check_app.top in
+    let e = with_subcommand d run_app.top in
+    let f = with_subcommand e render_app.top in
+    let compile = command_added a compile_app (Ok c.subcommand_required-program.result) c.compile_command.result c.add_command-with_compile.result new c.compile_command.ensures c.add_command-with_compile.ensures in
+    let check = command_added b check_app c.add_command-with_compile.result c.check_command.result c.add_command-with_check.result compile c.check_command.ensures c.add_command-with_check.ensures in
+    let run = command_added d run_app c.add_command-with_check.result c.run_command.result c.add_command-with_run.result check c.run_command.ensures c.add_command-with_run.ensures in
+    let render = command_added e render_app c.add_command-with_run.result c.render_command.result c.add_command-with_render.result run c.render_command.ensures c.add_command-with_render.ensures in
+    command_added f turns_app c.add_command-with_render.result c.turns_command.result c.add_command.result render c.turns_command.ensures c.add_command.ensures

@@ -11,5 +11,5 @@ pub returns : goal.returns
 returns c =
     let e : end_loop (config_view c.args.state.now) ≡ push (truth_value (eqb c.pop_frame-frame.result.position 0)) (config_view c.pay.new.state) step_on =
     rw c.pop_frame-frame.ensures (c.in_default.ensures.rest (λ e. push (truth_value (eqb c.pop_frame-frame.result.position 0)) e step_on)) in
-    let h = rw c.truth_value-fresh.ensures at c.push.ensures in
+    let h = rw c.truth_value-fresh.ensures at c.push.ensures.next in
     rw e h

@@ -1,7 +1,8 @@
-use Rattle.std.proofs.Common.{◌≡◌, true, ◌∙◌, ◌+◌, arith}
+use Rattle.std.proofs.Common.{◌≡◌, true, Err, ap, ◌∙◌, ◌+◌, arith}
+use Rattle.jt_order.specs.declared.error.OrderError.TheVariants.{Cycle}
 use Rattle.jt_order.specs.View.{graph_of}
 use Rattle.jt_order.specs.Walks.{is_done, mark_of}
-use Rattle.jt_order.proofs.Walked.{none_lead, before_next, all_ordered, graph_len}
+use Rattle.jt_order.proofs.Walked.{none_lead, before_next, all_ordered, graph_len, passed_on}
 use Rattle.jt_order.proofs.ordering.order.Goals as goal
 
 pub visit-requires-clause-lead : goal.visit-requires-clause-lead
@@ -17,5 +18,9 @@ loop-number-preserved c = record {
 pub returns-clause-ordered : goal.returns-clause-ordered
 returns-clause-ordered c =
     let g = graph_of c.args.next.now in
-    all_ordered g c.loop-number.walk c.reverse.new.self.items c.reverse.ensures.items c.loop-number.invariant.walked
+    λ closed. all_ordered g c.loop-number.walk c.reverse.new.self.items c.reverse.ensures.items c.loop-number.invariant.walked
     (λ j lt. c.loop-number.invariant.reached j (omega (arith, lt, graph_len c.args.next.now, c.loop-number-test.false)))
+
+pub returns-in_err-visit-clause-cycle : goal.returns-in_err-visit-clause-cycle
+returns-in_err-visit-clause-cycle c is =
+    c.in_err-visit.ensures.cycle (ap (λ e. Err e) (passed_on c.from_residual-in_err-visit.result c.in_err-visit.field-0.0 Cycle c.from_residual-in_err-visit.ensures.1 is))

@@ -1,11 +1,12 @@
-use Rattle.std.proofs.Common.{◌≡◌, ◌<◌, ◌+◌, true, cond, length, refl, sym, ap, ◌∙◌, arith, slice_index_or}
+use Rattle.std.proofs.Common.{◌≡◌, ◌<◌, ◌+◌, true, Err, cond, length, refl, sym, ap, ◌∙◌, arith, slice_index_or}
 use Rattle.std.specs.Vec.{with_item}
 use Rattle.jt_order.specs.Graph.{among, next_of}
 use Rattle.jt_order.specs.View.{graph_of}
-use Rattle.jt_order.specs.Walks.{is_done, mark_of}
+use Rattle.jt_order.specs.Walks.{is_done, is_open, mark_of}
+use Rattle.jt_order.specs.declared.error.OrderError.TheVariants.{Cycle}
 use Rattle.jt_order.specs.declared.walk.Mark.TheVariants.{New, Open, Done}
 use Rattle.jt_order.specs.declared.walk.Walk.{Walk}
-use Rattle.jt_order.proofs.Walked.{read_mark, next_at, graph_len, next_within, among_take, among_all, among_at, lead_next, done_walk, done_goes, still_open, goes_both, fewer_news, told_set, itself}
+use Rattle.jt_order.proofs.Walked.{read_mark, next_at, graph_len, next_within, among_take, among_all, among_at, lead_next, opened_walk, done_walk, done_goes, still_open, goes_none, goes_both, fewer_news, told_set, itself, never, passed_on}
 use Rattle.jt_order.proofs.walk.+visit.Goals as goal
 
 pub visit-requires : goal.visit-requires
@@ -65,3 +66,36 @@ returns-clause-done t c =
     let l = c.loop-other in
     let lw : c.args.number < length l.walk.marks.items = omega (arith, l.invariant.walked.each, graph_len c.args.next.now, c.requires.within) in
     told_set is_done l.walk.marks.items c.args.number c.args.number Done lw ∙ ap (λ b. cond b true (is_done (mark_of l.walk.marks.items c.args.number))) (itself c.args.number)
+
+pub loop-other-init : goal.loop-other-init
+loop-other-init t c =
+    let g = graph_of c.args.next.now in
+    let v = c.args.walk.now in
+    let lv : c.args.number < length v.marks.items = omega (arith, c.requires.walked.each, graph_len c.args.next.now, c.requires.within) in
+    let lg : c.args.number < length g = omega (arith, graph_len c.args.next.now, c.requires.within) in
+    let new : mark_of v.marks.items c.args.number ≡ New = read_mark v.marks.items c.args.number c.index.result.now lv c.index.ensures ∙ c.in-New.is in
+    let u : Walk = record { marks = with_item v.marks c.args.number Open; done = v.done } in
+    record {
+      walked = opened_walk g v u c.args.number lg new refl refl c.requires.walked;
+      goes = goes_none u;
+      reached = λ j h. never h;
+    }
+
+pub index_mut-requires-2 : goal.index_mut-requires-2
+index_mut-requires-2 t c = omega (arith, c.loop-other.invariant.walked.each, graph_len c.args.next.now, c.requires.within)
+
+pub returns-in_err-visit-clause-cycle : goal.returns-in_err-visit-clause-cycle
+returns-in_err-visit-clause-cycle t c is =
+    c.in_err-visit.ensures.cycle (ap (λ e. Err e) (passed_on c.from_residual.result c.in_err-visit.field-0.0 Cycle c.from_residual.ensures.1 is))
+
+pub returns-in-Open-clause-cycle : goal.returns-in-Open-clause-cycle
+returns-in-Open-clause-cycle t c is =
+    let ms = c.args.walk.now.marks.items in
+    let lv : c.args.number < length ms = omega (arith, c.requires.walked.each, graph_len c.args.next.now, c.requires.within) in
+    (c.args.number, c.requires.lead c.args.number (ap is_open (read_mark ms c.args.number c.index.result.now lv c.index.ensures ∙ c.in-Open.is)))
+
+pub returns-in-Done-clause-done : goal.returns-in-Done-clause-done
+returns-in-Done-clause-done t c =
+    let ms = c.args.walk.now.marks.items in
+    let lv : c.args.number < length ms = omega (arith, c.requires.walked.each, graph_len c.args.next.now, c.requires.within) in
+    ap is_done (read_mark ms c.args.number c.index.result.now lv c.index.ensures ∙ c.in-Done.is)

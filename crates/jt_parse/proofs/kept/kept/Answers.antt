@@ -1,17 +1,21 @@
-use Rattle.std.proofs.Common.{◌∙◌, ◌<◌, ◌≤◌, length, arith}
-use Rattle.std.proofs.lemmas.Bool.Decides.{nat_tests}
+use Rattle.std.proofs.Common.{◌∙◌, IsUtf8, rules}
 use Rattle.std.specs.Str.{chars}
 use Rattle.jt_parse.specs.SideView.{side_view}
-use Rattle.jt_parse.proofs.Sides.{shorter_end, nothing_between, kept_of}
+use Rattle.jt_parse.proofs.Sides.{chars_cut, kept_between, nothing_left, kept_of}
 use Rattle.jt_parse.proofs.kept.kept.Goals as goal
 
-pub before-requires : goal.before-requires
-before-requires c =
-    let lt : length c.removed_right-end.result.now < length c.after_left-front.result.now = grind (arith, nat_tests) in
-    shorter_end c.args.text.now c.after_left-front.result.now c.removed_right-end.result.now c.after_left-front.utf8 c.removed_right-end.utf8 c.after_left-front.ensures.end c.removed_right-end.ensures.end lt
+pub returns-in-Some : goal.returns-in-Some
+returns-in-Some c =
+    let front = c.after_left-front.result.now in
+    let end = c.removed_right-end.result.now in
+    let cut = c.in-Some.ensures.cases in
+    let whole : IsUtf8 c.in-Some.rest.now = search rules in
+    kept_between (chars front) (chars end) (chars c.in-Some.rest.now) (chars_cut front end c.in-Some.rest.now cut.0 whole cut.1.1 cut.2)
+    ∙ kept_of c.args.options (side_view c.args.left) (side_view c.args.right) (chars c.args.text.now) _ _ _ c.is_start.ensures c.after_left-front.ensures.value c.removed_right-end.ensures.value
 
-pub returns-else-end-front : goal.returns-else-end-front
-returns-else-end-front c =
-    let le : length c.after_left-front.result.now ≤ length c.removed_right-end.result.now = grind (arith, nat_tests) in
-    c.no_end.ensures ∙ nothing_between c.args.text.now c.after_left-front.result.now c.removed_right-end.result.now c.after_left-front.utf8 c.removed_right-end.utf8 c.after_left-front.ensures.end c.removed_right-end.ensures.end le
+pub returns-in-None : goal.returns-in-None
+returns-in-None c =
+    let front = c.after_left-front.result.now in
+    let end = c.removed_right-end.result.now in
+    c.no_end.ensures ∙ nothing_left c.args.text.now front end c.after_left-front.utf8 c.removed_right-end.utf8 c.after_left-front.ensures.end c.removed_right-end.ensures.end c.in-None.ensures.cases
     ∙ kept_of c.args.options (side_view c.args.left) (side_view c.args.right) (chars c.args.text.now) _ _ _ c.is_start.ensures c.after_left-front.ensures.value c.removed_right-end.ensures.value

@@ -2,7 +2,6 @@ use Rattle.std.proofs.Common.{◌+◌, ◌<◌, ◌≤◌, List, [], length, map
 use Rattle.std.specs.Prelude.{flat_map}
 use Rattle.std.proofs.lemmas.List.{at_drop_all}
 use Rattle.jt_inherit.specs.Chain.{Home}
-use Rattle.jt_inherit.specs.Pages.{home_name}
 use Rattle.jt_inherit.specs.Places.{home_at}
 use Rattle.jt_inherit.specs.View.{chain_view}
 use Rattle.jt_inherit.specs.declared.linked.Chain.{Chain}
@@ -12,7 +11,7 @@ use Rattle.jt_names.specs.Scoped.{values, world_in, order_in, templates_in}
 use Rattle.jt_scopes.specs.Routines.{AreRoutines}
 use Rattle.jt_resolve.proofs.Homes.{homes_left}
 use Rattle.jt_resolve.proofs.Leading.{Lead, lead_first, lead_turn, lead_last}
-use Rattle.jt_resolve.proofs.Moving.{length-map, moved}
+use Rattle.jt_resolve.proofs.Moving.{moved}
 use Rattle.jt_resolve.proofs.routines.resolve_homes.Goals as goal
 
 pub resolve_home-requires : goal.resolve_home-requires
@@ -20,10 +19,7 @@ resolve_home-requires c =
     let l = c.loop-home in
     let same = ap (λ (ch : Chain). length (chain_view ch).order) l.invariant.same in
     let lt : l.home < length l.scope.homes.items = omega (arith, c.loop-home-test.true, c.len-home-end.ensures, c.args.scope.homes.ok.0, c.requires.all_homes, l.invariant.laid.all_homes, same) in
-    record {
-      laid = moved l.scope l.home l.invariant.laid lt;
-      there = omega (arith, lt, l.invariant.laid.all_homes, length-map home_name l.scope.chain.now.homes.items);
-    }
+    moved l.scope l.home l.invariant.laid lt
 
 pub loop-home-init : goal.loop-home-init
 loop-home-init c =

@@ -18,7 +18,7 @@ returns-in-Some c =
     let l = c.layer-item.result in
     some_first (page_broken world home (body_view l.body.now)) (rules.templates_broken world home (shown_layers ts (drop (i + 1) ls))) c.in-Some.rule (sym c.in_ok-rule.ensures ∙ c.in-Some.is)
     ∙ sym (layers_left world home ts ls i l c.loop-layer-test.true c.layer-item.is) ∙ c.loop-layer.invariant
-    ∙ ap (λ z. rules.templates_broken world home (shown_layers ts z)) c.deref-layer-items.ensures.value ∙ ap (rules.templates_broken world home) (its_layers s.chain.now s.home c.in_ok-layers.layers.items c.in_ok-layers.ensures)
+    ∙ ap (λ z. rules.templates_broken world home (shown_layers ts z)) c.deref-layer-items.ensures.value ∙ ap (rules.templates_broken world home) (its_layers s.chain.now s.home c.in_ok-layers.layers.items (c.in_ok-layers.ensures.there s.stands))
 
 pub returns : goal.returns
 returns c =
@@ -27,4 +27,4 @@ returns c =
     let home = its_home s in
     let ts = (chain_view s.chain.now).templates in
     sym (at_drop_all (λ z. rules.templates_broken world home (shown_layers ts z)) c.deref-layer-items.result.now c.loop-layer.layer-index c.loop-layer-test.false) ∙ c.loop-layer.invariant
-    ∙ ap (λ z. rules.templates_broken world home (shown_layers ts z)) c.deref-layer-items.ensures.value ∙ ap (rules.templates_broken world home) (its_layers s.chain.now s.home c.in_ok-layers.layers.items c.in_ok-layers.ensures)
+    ∙ ap (λ z. rules.templates_broken world home (shown_layers ts z)) c.deref-layer-items.ensures.value ∙ ap (rules.templates_broken world home) (its_layers s.chain.now s.home c.in_ok-layers.layers.items (c.in_ok-layers.ensures.there s.stands))

@@ -1,10 +1,11 @@
-use Rattle.std.proofs.Common.{◌≡◌, List, Vec, Global, map, sym, ap, ◌∙◌}
+use borrow.Author.Tests.{ltb-true}
+use Rattle.std.proofs.Common.{◌≡◌, ◌<◌, length, get_or, subst, List, Vec, Global, sym, ap, ◌∙◌}
 use Rattle.jt_inherit.specs.Along.{along}
 use Rattle.jt_inherit.specs.Chain.{BlockBody, blocks_in}
 use Rattle.jt_parse.specs.Trees.{Text, Body}
-use Rattle.jt_inherit.specs.Pages.{pages_view, home_name}
+use Rattle.jt_inherit.specs.Pages.{pages_view}
 use Rattle.jt_inherit.specs.Parts.{blocks_view}
-use Rattle.jt_inherit.specs.Places.{home_at}
+use Rattle.jt_inherit.specs.declared.linked.Home.{Home}
 use Rattle.jt_inherit.specs.declared.linked.Page.{Page}
 use Rattle.jt_inherit.specs.declared.parts.Block.{Block}
 use Rattle.jt_inherit.proofs.Placed.{home_places, home_along, if_ok}
@@ -13,12 +14,16 @@ use Rattle.jt_inherit.proofs.linked.Chain.blocks.Goals as goal
 pub blocks_at-requires : goal.blocks_at-requires
 blocks_at-requires c =
     let self = c.args.self.now in
-    home_places self.templates.items c.deref.result.now self.homes.items c.args.home c.index.result.now c.deref-2.result.now c.deref.ensures.value c.deref-2.ensures.value c.requires c.index.ensures self.once self.whole
+    let lt : c.args.home < length self.homes.items = subst (λ (z : List Home). c.args.home < length z) c.deref.ensures.value (ltb-true _ _ (sym c.in-Some.ensures.lookup.0)) in
+    let at : c.in-Some.found.now ≡ get_or self.homes.items c.args.home c.in-Some.found.now = subst (λ (z : List Home). c.in-Some.found.now ≡ get_or z c.args.home c.in-Some.found.now) c.deref.ensures.value c.in-Some.ensures.lookup.1 in
+    home_places self.templates.items c.deref-in-Some.result.now self.homes.items c.args.home c.in-Some.found.now c.deref-in-Some-2.result.now c.deref-in-Some.ensures.value c.deref-in-Some-2.ensures.value lt at self.once self.whole
 
-pub returns : goal.returns
-returns c =
+pub returns-in-Some-clause-there : goal.returns-in-Some-clause-there
+returns-in-Some-clause-there c =
     let self = c.args.self.now in
+    let lt : c.args.home < length self.homes.items = subst (λ (z : List Home). c.args.home < length z) c.deref.ensures.value (ltb-true _ _ (sym c.in-Some.ensures.lookup.0)) in
+    let at : c.in-Some.found.now ≡ get_or self.homes.items c.args.home c.in-Some.found.now = subst (λ (z : List Home). c.in-Some.found.now ≡ get_or z c.args.home c.in-Some.found.now) c.deref.ensures.value c.in-Some.ensures.lookup.1 in
     let g : Text → Body → List BlockBody = (λ n b. blocks_in n b self.autoescape) in
-    let along_is = home_along self.templates.items c.deref.result.now self.homes.items c.args.home c.index.result.now c.deref-2.result.now c.deref.ensures.value c.deref-2.ensures.value c.requires c.index.ensures self.once self.whole g in
-    if_ok (λ (v : Vec Block Global). blocks_view (pages_view c.deref.result.now) v.items ≡ along (pages_view c.deref.result.now) g c.deref-2.result.now) _ c.blocks_at.result
-    (λ v p. ap (λ (z : List Page). blocks_view (pages_view z) v.items) (sym c.deref.ensures.value) ∙ p ∙ along_is) c.blocks_at.ensures
+    let along_is = home_along self.templates.items c.deref-in-Some.result.now self.homes.items c.args.home c.in-Some.found.now c.deref-in-Some-2.result.now c.deref-in-Some.ensures.value c.deref-in-Some-2.ensures.value lt at self.once self.whole g in
+    λ there. if_ok (λ (v : Vec Block Global). blocks_view (pages_view c.deref-in-Some.result.now) v.items ≡ along (pages_view c.deref-in-Some.result.now) g c.deref-in-Some-2.result.now) _ c.blocks_at.result
+    (λ v p. ap (λ (z : List Page). blocks_view (pages_view z) v.items) (sym c.deref-in-Some.ensures.value) ∙ p ∙ along_is) c.blocks_at.ensures

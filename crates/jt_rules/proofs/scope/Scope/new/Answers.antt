@@ -12,12 +12,12 @@ pub invariant_of-result-clause-knows_macros : goal.invariant_of-result-clause-kn
 unfolding world_in home_in
 invariant_of-result-clause-knows_macros c = λ x.
     let ts = (chain_view c.args.chain.now).templates in
-    c.in_ok-macros.ensures ts x ∙ ap (λ ms. parameters_of (macro_of x (map (macro_view ts) ms))) c.deref.ensures.value ∙ ap (λ ms. parameters_of (macro_of x ms)) c.in_ok-parts.ensures
+    c.in_ok-macros.ensures ts x ∙ ap (λ ms. parameters_of (macro_of x (map (macro_view ts) ms))) c.deref.ensures.value ∙ ap (λ ms. parameters_of (macro_of x ms)) (c.in_ok-parts.ensures.there c.requires)
 
 pub invariant_of-result-clause-knows_blocks : goal.invariant_of-result-clause-knows_blocks
 unfolding world_in home_in
 invariant_of-result-clause-knows_blocks c = λ x.
     let seen = chain_view c.args.chain.now in
     let ts = seen.templates in
-    c.in_ok-blocks.ensures ts x ∙ ap (λ bs. any_named x (map (block_view ts) bs)) c.deref-2.ensures.value ∙ ap (any_named x) c.in_ok-bodies.ensures
+    c.in_ok-blocks.ensures ts x ∙ ap (λ bs. any_named x (map (block_view ts) bs)) c.deref-2.ensures.value ∙ ap (any_named x) (c.in_ok-bodies.ensures.there c.requires)
     ∙ any_filtered (λ b. bytes_eq b.name x) (all_bodies (sources_of seen) seen.escaping (home_at seen.order c.args.home))
