@@ -1,5 +1,5 @@
 -- The words of `turns`, two by two.
-use Rattle.std.proofs.Common.{◌≡◌, ◌≢◌, ◌∙◌, ◌+◌, ◌*◌, ◌<◌, ◌%◌, ℕ, List, [], ◌∷◌, ◌++◌, length, Option, Some, None, ap, refl, sym, subst, codes, arith, take, suc, get_or, append_assoc, Bor, option_map}
+use Rattle.std.proofs.Common.{◌≡◌, ◌≢◌, ◌∙◌, ◌+◌, ◌*◌, ◌<◌, ◌%◌, ℕ, List, [], ◌∷◌, ◌++◌, length, Option, Some, None, inl, inr, ap, refl, sym, subst, codes, arith, take, suc, get_or, append_assoc, Bor, option_map}
 use Rattle.std.proofs.Math.Seq.{take-suc}
 use Rattle.std.proofs.lemmas.List.{length-map, map-append}
 use Rattle.clap.specs.Walk.{texts}
@@ -10,7 +10,7 @@ use Rattle.jt_line.specs.declared.jobs.Command.TheVariants as command
 use Rattle.jt_line.specs.declared.jobs.Job.{Job}
 use Rattle.jt_line.specs.declared.jobs.Options.{Options}
 use Rattle.jt_line.specs.declared.jobs.Pair.{Pair}
-use Rattle.jt_line.specs.Line.{ArePaired, ComeInPairs, IsAsked, IsCommand, pair_words, words_of_pairs}
+use Rattle.jt_line.specs.Line.{ArePaired, ComeInPairs, IsAsked, IsCommand, IsKnown, pair_words, words_of_pairs}
 use Rattle.std.specs.Prelude.{IfSome, slice_get, string_bytes, unwrap_or}
 
 -- two words a pair
@@ -89,3 +89,23 @@ pub come_of : (words : List (Bor Text)) (all : List Text) → texts words ≡ al
 come_of words all e paired =
     let same : length words ≡ length all = sym (length-map words (λ (s : Bor Text). s.now)) ∙ ap length e in
     (subst (λ (n : ℕ). 0 < n) (sym same) paired.0, ap (λ n. n % 2) same ∙ paired.1)
+
+-- a known name is one of five
+pub no_other : (o : Option Text) (name : Text) → o ≡ Some name → IsKnown o → name ≢ codes "compile" → name ≢ codes "check"
+    → name ≢ codes "run" → name ≢ codes "render" → name ≢ codes "turns" → ⊥
+no_other o name same known a b d e f = elim known [
+  | inl x ↦ let is : name ≡ codes "compile" = cc in a is
+  | inr (inl x) ↦ let is : name ≡ codes "check" = cc in b is
+  | inr (inr (inl x)) ↦ let is : name ≡ codes "run" = cc in d is
+  | inr (inr (inr (inl x))) ↦ let is : name ≡ codes "render" = cc in e is
+  | inr (inr (inr (inr x))) ↦ let is : name ≡ codes "turns" = cc in f is
+]
+
+pub no_name : (o : Option Text) → o ≡ None → IsKnown o → ⊥
+no_name o none known = elim known [
+  | inl x ↦ absurd (cc)
+  | inr (inl x) ↦ absurd (cc)
+  | inr (inr (inl x)) ↦ absurd (cc)
+  | inr (inr (inr (inl x))) ↦ absurd (cc)
+  | inr (inr (inr (inr x))) ↦ absurd (cc)
+]

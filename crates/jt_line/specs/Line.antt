@@ -1,12 +1,10 @@
 -- What a line asks for. How a line is read is clap's written rule: `fault_of` lists what is wrong
 -- with it, and `subcommand_of` gives its command with the rows of what was found.
-use Rattle.std.specs.Prelude.{◌≡◌, ◌≢◌, ◌<◌, ◌≤◌, ◌^◌, ◌%◌, ◌⊎◌, ℕ, length, ◌∷◌, Bool, true, false, not, List, [], Option, Some, None, codes, pos, unwrap_or, option_map, IfSome, Result, IfOk, IsOkAnd, String}
+use Rattle.std.specs.Prelude.{◌≡◌, ◌≢◌, ◌<◌, ◌≤◌, ◌^◌, ◌%◌, ◌⊎◌, ℕ, length, ◌∷◌, Bool, true, false, not, List, [], Option, Some, None, codes, pos, unwrap_or, option_map, IfSome, String}
 use Rattle.std.specs.declared.alloc.Global.{Global}
 use Rattle.std.specs.String.{string_bytes}
 use Rattle.std.specs.Str.Parse.{IsNumeral, digits_value, without_leading_plus}
-use Rattle.clap.specs.Words.{App, app_of, Row, Rule, Text, all_of, first_of, new_app, new_rule, one_of, with_rule, with_subcommand, fault_of, subcommand_of}
-use Rattle.clap.specs.declared.builder.Command.{Command as Built}
-use Rattle.clap.specs.declared.builder.Command.TheViews.{out-Command as fields_of}
+use Rattle.clap.specs.Words.{App, Row, Rule, Text, all_of, first_of, new_app, new_rule, one_of, with_rule, with_subcommand, fault_of, subcommand_of}
 use Rattle.clap.specs.declared.builder.ArgAction.TheVariants.{Append, SetTrue}
 use Rattle.clap.specs.declared.builder.ValueParser.{ValueParser}
 use Rattle.clap.specs.declared.builder.ValueParser.TheVariants as parser
@@ -32,24 +30,6 @@ flag_rule name = record (new_rule name) { long = Some name; action = Some SetTru
 -- a word that has to be there
 abbrev pub word_rule : Text → Rule
 word_rule name = record (new_rule name) { required = true }
-
--- a command of this rule, with no argument that is for its subcommands too
-abbrev pub IsApp : {E : Type 0} → Result Built E → App → Type 0
-IsApp made a = IfOk made (λ c. (app_of c ≡ a) × ((fields_of c).has_globals ≡ false))
-
--- a command was made of another, and is the other with this change
-abbrev pub Becomes : {E : Type 0} → (App → App) → Result Built E → Result Built E → Type 0
-Becomes change old new = IfOk new (λ c. IsOkAnd old (λ b.
-    (app_of c ≡ change (app_of b)) × ((fields_of c).has_globals ≡ (fields_of b).has_globals)))
-
--- a command with one more argument, for itself alone
-abbrev pub Adds : {E : Type 0} → Rule → Result Built E → Result Built E → Type 0
-Adds rule old new = Becomes (λ a. with_rule a rule) old new
-
--- a command with one more subcommand
-abbrev pub AddsCommand : {E : Type 0} → Result Built E → Result Built E → Result Built E → Type 0
-AddsCommand old part new = IfOk new (λ c. IsOkAnd old (λ b. IsOkAnd part (λ d.
-    (fields_of d).has_globals ≡ false → app_of c ≡ with_subcommand (app_of b) (app_of d).top)))
 
 -- a command with the options of a budget, each a whole number in the range of its type
 abbrev pub with_budget : App → App

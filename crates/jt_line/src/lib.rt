@@ -1,6 +1,7 @@
 //! What a command line of `jt` asks for.
 #![tactic(auto)]
 
+mod grammar;
 mod jobs;
 mod line;
 

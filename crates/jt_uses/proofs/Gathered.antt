@@ -1,5 +1,5 @@
 -- Lists that are gathered from statements, one by one.
-use Rattle.std.proofs.Common.{◌≡◌, ℕ, ◌+◌, ◌<◌, List, [], ◌∷◌, ◌++◌, length, drop, get_or, refl, sym, ap, ◌∙◌, append_assoc, Vec, Global, String, Option}
+use Rattle.std.proofs.Common.{◌≡◌, ℕ, ◌+◌, ◌<◌, List, ◌++◌, length, drop, get_or, sym, ap, ◌∙◌, append_assoc, Vec, Global, String, Option}
 use Rattle.std.specs.Prelude.{option_map}
 use Rattle.jt_expr.specs.Trees as expressions
 use Rattle.jt_expr.specs.View.{expr_view}

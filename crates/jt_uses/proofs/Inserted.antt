@@ -1,24 +1,22 @@
 -- Names that are put in order, one by one.
-use Rattle.std.proofs.Common.{◌≡◌, ℕ, ◌+◌, ◌<◌, length, drop, get_or, String, Global, string_bytes, Vec, map, if◌then◌else◌, List, [], ◌∷◌, ◌++◌, refl, sym, ap, ◌∙◌}
+use Rattle.std.proofs.Common.{◌≡◌, ℕ, ◌+◌, ◌<◌, length, drop, get_or, if◌then◌else◌, List, [], ◌∷◌, ◌++◌, Result, Ok, Err, IfOk, append_assoc, refl, sym, ap, ◌∙◌}
 use Rattle.std.specs.declared.cmp.Ordering.{Ordering}
 use Rattle.std.specs.declared.cmp.Ordering.TheVariants.{Less, Equal, Greater}
 use Rattle.std.specs.Ordering.{nat_cmp, is_lt, is_eq, match_ordering}
 use Rattle.std.specs.Cmp.Lexicographic.{slice_cmp}
 use Rattle.std.specs.Str.{bytes_eq}
 use Rattle.std.specs.BTreeSet.{insert_key}
+use Rattle.std.specs.Prelude.{IsOk}
 use Rattle.std.proofs.lemmas.Cmp.{nat_list_eq_equiv}
 use Rattle.std.proofs.lemmas.Map.Text.{is_eq-slice_cmp}
 use denote.Ref.{Bor}
 use Rattle.jt_parse.specs.Trees.{Text}
-use Rattle.jt_parse.specs.Trees as trees
 use Rattle.jt_expr.specs.View as written
 use Rattle.jt_parse.specs.View as parsed
 use Rattle.jt_expr.specs.declared.tree.Expr.{Expr}
 use Rattle.std.proofs.lemmas.List.{drop_more}
 use Rattle.jt_parse.specs.declared.tree.Stmt.{Stmt}
 use Rattle.jt_parse.specs.declared.tree.Filtering.{Filtering}
-use Rattle.jt_parse.specs.declared.tree.Stmt.TheVariants.{If}
-use Rattle.jt_uses.proofs.Views.{view-If}
 use Rattle.jt_inherit.specs.Uses.{expr_names, row_names, pair_names, stmt_names, body_names, branch_names, filtering_names}
 use Rattle.jt_uses.proofs.Left.{Branch, Entry, row_left, pairs_left, statements_left, branches_left}
 use Rattle.jt_parse.specs.Texts.{inserted, all_inserted}
@@ -34,6 +32,13 @@ inserted_both (x ∷ xs) ys ns = inserted_both xs ys (inserted x ns)
 
 pub both_inserted : (xs ys ns ms ns' : List Text) → ms ≡ all_inserted xs ns → ns' ≡ all_inserted ys ms → ns' ≡ all_inserted (xs ++ ys) ns
 both_inserted xs ys ns ms ns' e f = f ∙ ap (all_inserted ys) e ∙ sym (inserted_both xs ys ns)
+
+-- what was done before went well, and so did what was done then
+pub then_is : {E : Type 0} (first last : Result (Unit {0}) E) (xs ys zs ns ms ns' : List Text) → IfOk first (λ u. ms ≡ all_inserted xs ns)
+    → IfOk last (λ u. IsOk first × (ns' ≡ all_inserted ys ms)) → xs ++ ys ≡ zs → IfOk last (λ u. ns' ≡ all_inserted zs ns)
+then_is first (Err x) xs ys zs ns ms ns' e f same = cc
+then_is (Err x) (Ok v) xs ys zs ns ms ns' e f same = let bad = f.0 in absurd (cc)
+then_is (Ok u) (Ok v) xs ys zs ns ms ns' e f same = both_inserted xs ys ns ms ns' e f.1 ∙ ap (λ l. all_inserted l ns) same
 
 abbrev pub name_cmp : Bor Text → Bor Text → Ordering
 name_cmp x y = slice_cmp nat_cmp x.now y.now
@@ -67,14 +72,6 @@ branch_added bs i b ns ns' lt is e =
     ap (all_inserted rest) e ∙ sym (inserted_both second rest (all_inserted first ns)) ∙ sym (inserted_both first (second ++ rest) ns)
     ∙ ap (λ c. all_inserted (branch_names c) ns) (sym (branches_left bs i b lt is))
 
-pub choice_added : (s : Stmt) (bs : Vec Branch Global) (other : Vec Stmt Global) (bs' : List Branch) (other' : List Stmt) (ns ms ns' : List Text) → s ≡ If bs other → bs' ≡ bs.items → other' ≡ other.items
-    → ms ≡ all_inserted (branch_names (parsed.branches_view bs')) ns → ns' ≡ all_inserted (body_names (parsed.body_view other')) ms → ns' ≡ all_inserted (stmt_names (parsed.stmt_view s)) ns
-choice_added s bs other bs' other' ns ms ns' is p q e f =
-    f ∙ ap (all_inserted (body_names (parsed.body_view other'))) e ∙ sym (inserted_both (branch_names (parsed.branches_view bs')) (body_names (parsed.body_view other')) ns)
-    ∙ ap (λ (x : List Branch). all_inserted (branch_names (parsed.branches_view x) ++ body_names (parsed.body_view other')) ns) p
-    ∙ ap (λ (x : List Stmt). all_inserted (branch_names (parsed.branches_view bs.items) ++ body_names (parsed.body_view x)) ns) q
-    ∙ ap (λ b. all_inserted (stmt_names b) ns) (sym (view-If bs other) ∙ ap parsed.stmt_view (sym is))
-
 pub expression_added : (ts : List Expr) (i : ℕ) (t : Expr) (ns ns' : List Text) → i < length ts → t ≡ get_or ts i t → ns' ≡ all_inserted (expr_names (written.expr_view t)) ns
     → all_inserted (row_names (written.exprs_view (drop (i + 1) ts))) ns' ≡ all_inserted (row_names (written.exprs_view (drop i ts))) ns
 expression_added ts i t ns ns' lt is e =
@@ -87,14 +84,15 @@ entry_added ps i p ns ns' lt is e =
     let rest = pair_names (written.pairs_view (drop (i + 1) ps)) in
     ap (all_inserted rest) e ∙ sym (inserted_both (expr_names (written.expr_view p.1)) rest ns) ∙ ap (λ r. all_inserted (pair_names r) ns) (sym (pairs_left ps i p lt is))
 
-pub filtering_added : (fs : List Filtering) (i : ℕ) (f : Filtering) (us : List Expr) (qs : List Entry) (ns ms ns' : List Text) → i < length fs → f ≡ get_or fs i f → us ≡ f.arguments.items → qs ≡ f.keywords.items
-    → ms ≡ all_inserted (row_names (written.exprs_view us)) ns → ns' ≡ all_inserted (pair_names (written.pairs_view qs)) ms
+pub filtering_added : (fs : List Filtering) (i : ℕ) (f : Filtering) (us : List Expr) (qs : List Entry) (ns ns' : List Text) → i < length fs → f ≡ get_or fs i f → us ≡ f.arguments.items → qs ≡ f.keywords.items
+    → ns' ≡ all_inserted (row_names (written.exprs_view us) ++ pair_names (written.pairs_view qs)) ns
     → all_inserted (filtering_names (parsed.filterings_view (drop (i + 1) fs))) ns' ≡ all_inserted (filtering_names (parsed.filterings_view (drop i fs))) ns
-filtering_added fs i f us qs ns ms ns' lt is a b e h =
+filtering_added fs i f us qs ns ns' lt is a b e =
     let rest = filtering_names (parsed.filterings_view (drop (i + 1) fs)) in
     let first = row_names (written.exprs_view f.arguments.items) in
     let second = pair_names (written.pairs_view f.keywords.items) in
-    ap (all_inserted rest) (h ∙ ap (λ (z : List Entry). all_inserted (pair_names (written.pairs_view z)) ms) b ∙ ap (all_inserted second) (e ∙ ap (λ (z : List Expr). all_inserted (row_names (written.exprs_view z)) ns) a))
-    ∙ sym (inserted_both second rest (all_inserted first ns)) ∙ sym (inserted_both first (second ++ rest) ns)
+    ap (all_inserted rest) (e ∙ ap (λ (z : List Entry). all_inserted (row_names (written.exprs_view us) ++ pair_names (written.pairs_view z)) ns) b
+    ∙ ap (λ (z : List Expr). all_inserted (row_names (written.exprs_view z) ++ second) ns) a)
+    ∙ sym (inserted_both (first ++ second) rest ns) ∙ ap (λ l. all_inserted l ns) (append_assoc first second rest)
     ∙ ap (λ (z : Filtering). all_inserted (row_names (written.exprs_view z.arguments.items) ++ (pair_names (written.pairs_view z.keywords.items) ++ rest)) ns) is
     ∙ ap (λ (z : List Filtering). all_inserted (filtering_names (parsed.filterings_view z)) ns) (sym (drop_more fs i f lt))

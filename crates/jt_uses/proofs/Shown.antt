@@ -1,10 +1,10 @@
 -- Expressions as they are written, by their forms, and what a caller of a function counts in them.
-use Rattle.std.proofs.Common.{◌≡◌, ℕ, suc, ◌+◌, ◌<◌, Bool, false, List, [], ◌∷◌, length, drop, get_or, refl, sym, ap, ◌∙◌, arith, nat_eq, Option, Some, None, Result, Ok, Err, IfOk, Vec, Box, String, Global, string_bytes}
+use Rattle.std.proofs.Common.{◌≡◌, ℕ, Bool, List, sym, ap, ◌∙◌, Option, Vec, Box, String, Global, string_bytes}
 use Rattle.std.proofs.Common.{rules}
 use Rattle.std.specs.Prelude.{option_map}
 use Rattle.jt_expr.specs.Trees as trees
 use Rattle.jt_parse.specs.Trees as written
-use Rattle.jt_parse.specs.View.{stmt_view, body_view, names_view, filterings_view, parameters_view}
+use Rattle.jt_parse.specs.View.{stmt_view, body_view, branches_view, names_view, filterings_view, parameters_view}
 use Rattle.jt_parse.specs.declared.tree.Stmt.{Stmt, the_lemmas}
 use Rattle.jt_parse.specs.declared.tree.Stmt.TheVariants as statement
 use Rattle.jt_parse.specs.declared.tree.Filtering.{Filtering}
@@ -13,19 +13,11 @@ use Rattle.jt_expr.specs.declared.tree.BinaryOperator.{BinaryOperator}
 use Rattle.jt_expr.specs.View.{expr_view, exprs_view, pairs_view}
 use Rattle.jt_expr.specs.declared.tree.Expr.{Expr}
 use Rattle.jt_expr.specs.declared.tree.Expr.TheVariants as e
-use Rattle.jt_uses.proofs.Views.{view-Attribute, view-Item, view-Map, view-Call, view-Filter, view-Test, view-Binary, view-When, view-Choice}
+use Rattle.jt_uses.proofs.Views.{view-Attribute, view-Item, view-Map, view-Call, view-Filter, view-Test, view-Binary, view-When, view-Choice, view-If}
+use Rattle.jt_uses.proofs.Left.{Branch}
 
 pub shown_Map : (ps : Vec (String Global × Expr) Global) → expr_view (e.Map ps) ≡ trees.map_of (pairs_view ps.items)
 shown_Map ps = view-Map ps
-
-pub shown_Call : (a : Box Expr Global) (ts : Vec Expr Global) (ps : Vec (String Global × Expr) Global) → expr_view (e.Call a ts ps) ≡ trees.call (expr_view a.value) (exprs_view ts.items) (pairs_view ps.items)
-shown_Call a ts ps = view-Call a ts ps
-
-pub shown_Filter : (a : Box Expr Global) (x : String Global) (ts : Vec Expr Global) (ps : Vec (String Global × Expr) Global) → expr_view (e.Filter a x ts ps) ≡ trees.filter (expr_view a.value) (string_bytes x) (exprs_view ts.items) (pairs_view ps.items)
-shown_Filter a x ts ps = view-Filter a x ts ps
-
-pub shown_Test : (a : Box Expr Global) (n : Bool) (x : String Global) (ts : Vec Expr Global) (ps : Vec (String Global × Expr) Global) → expr_view (e.Test a n x ts ps) ≡ trees.test (expr_view a.value) n (string_bytes x) (exprs_view ts.items) (pairs_view ps.items)
-shown_Test a n x ts ps = view-Test a n x ts ps
 
 -- ---- by what stands behind the references
 
@@ -76,11 +68,44 @@ shown_For line xs e c body other = search (rules, the_lemmas)
 pub shown_Set : (line : ℕ) (xs : Vec (String Global) Global) (e : Expr) → stmt_view (statement.Set line xs e) ≡ written.set line (names_view xs.items) (expr_view e)
 shown_Set line xs e = search (rules, the_lemmas)
 
-pub shown_With : (line : ℕ) (ps : Vec (String Global × Expr) Global) (body : Vec Stmt Global) → stmt_view (statement.With line ps body) ≡ written.with_values line (pairs_view ps.items) (body_view body.items)
+shown_SetBlock : (line : ℕ) (x : String Global) (body : Vec Stmt Global) → stmt_view (statement.SetBlock line x body) ≡ written.set_block line (string_bytes x) (body_view body.items)
+shown_SetBlock line x body = search (rules, the_lemmas)
+
+shown_With : (line : ℕ) (ps : Vec (String Global × Expr) Global) (body : Vec Stmt Global) → stmt_view (statement.With line ps body) ≡ written.with_values line (pairs_view ps.items) (body_view body.items)
 shown_With line ps body = search (rules, the_lemmas)
 
-pub shown_FilterBlock : (line : ℕ) (fs : Vec Filtering Global) (body : Vec Stmt Global) → stmt_view (statement.FilterBlock line fs body) ≡ written.filter_block line (filterings_view fs.items) (body_view body.items)
+shown_FilterBlock : (line : ℕ) (fs : Vec Filtering Global) (body : Vec Stmt Global) → stmt_view (statement.FilterBlock line fs body) ≡ written.filter_block line (filterings_view fs.items) (body_view body.items)
 shown_FilterBlock line fs body = search (rules, the_lemmas)
 
-pub shown_Macro : (line : ℕ) (x : String Global) (ps : Vec Parameter Global) (body : Vec Stmt Global) → stmt_view (statement.Macro line x ps body) ≡ written.macro line (string_bytes x) (parameters_view ps.items) (body_view body.items)
+shown_Macro : (line : ℕ) (x : String Global) (ps : Vec Parameter Global) (body : Vec Stmt Global) → stmt_view (statement.Macro line x ps body) ≡ written.macro line (string_bytes x) (parameters_view ps.items) (body_view body.items)
 shown_Macro line x ps body = search (rules, the_lemmas)
+
+-- ---- by what stands behind the references
+
+pub shown_if : (s : Stmt) (bs : Vec Branch Global) (other : Vec Stmt Global) (bs' : List Branch) (other' : List Stmt) → s ≡ statement.If bs other → bs' ≡ bs.items → other' ≡ other.items
+    → written.choose (branches_view bs') (body_view other') ≡ stmt_view s
+shown_if s bs other bs' other' is p q = rw (p, q) (sym (ap stmt_view is ∙ view-If bs other))
+
+pub shown_for : (s : Stmt) (line : ℕ) (xs : Vec (String Global) Global) (e : Expr) (c : Option Expr) (body other : Vec Stmt Global) (xs' : List (String Global)) (body' other' : List Stmt)
+    → s ≡ statement.For line xs e c body other → xs' ≡ xs.items → body' ≡ body.items → other' ≡ other.items
+    → written.for_each line (names_view xs') (expr_view e) (option_map expr_view c) (body_view body') (body_view other') ≡ stmt_view s
+shown_for s line xs e c body other xs' body' other' is p q r = rw (p, q, r) (sym (ap stmt_view is ∙ shown_For line xs e c body other))
+
+pub shown_set : (s : Stmt) (line : ℕ) (xs : Vec (String Global) Global) (e : Expr) (xs' : List (String Global)) → s ≡ statement.Set line xs e → xs' ≡ xs.items → written.set line (names_view xs') (expr_view e) ≡ stmt_view s
+shown_set s line xs e xs' is p = rw p (sym (ap stmt_view is ∙ shown_Set line xs e))
+
+pub shown_set_block : (s : Stmt) (line : ℕ) (x : String Global) (body : Vec Stmt Global) (x' : written.Text) (body' : List Stmt) → s ≡ statement.SetBlock line x body → x' ≡ string_bytes x → body' ≡ body.items
+    → written.set_block line x' (body_view body') ≡ stmt_view s
+shown_set_block s line x body x' body' is p q = rw (p, q) (sym (ap stmt_view is ∙ shown_SetBlock line x body))
+
+pub shown_with : (s : Stmt) (line : ℕ) (ps : Vec (String Global × Expr) Global) (body : Vec Stmt Global) (ps' : List (String Global × Expr)) (body' : List Stmt) → s ≡ statement.With line ps body → ps' ≡ ps.items → body' ≡ body.items
+    → written.with_values line (pairs_view ps') (body_view body') ≡ stmt_view s
+shown_with s line ps body ps' body' is p q = rw (p, q) (sym (ap stmt_view is ∙ shown_With line ps body))
+
+pub shown_filters : (s : Stmt) (line : ℕ) (fs : Vec Filtering Global) (body : Vec Stmt Global) (fs' : List Filtering) (body' : List Stmt) → s ≡ statement.FilterBlock line fs body → fs' ≡ fs.items → body' ≡ body.items
+    → written.filter_block line (filterings_view fs') (body_view body') ≡ stmt_view s
+shown_filters s line fs body fs' body' is p q = rw (p, q) (sym (ap stmt_view is ∙ shown_FilterBlock line fs body))
+
+pub shown_macro : (s : Stmt) (line : ℕ) (x : String Global) (ps : Vec Parameter Global) (body : Vec Stmt Global) (ps' : List Parameter) (body' : List Stmt) → s ≡ statement.Macro line x ps body → ps' ≡ ps.items → body' ≡ body.items
+    → written.macro line (string_bytes x) (parameters_view ps') (body_view body') ≡ stmt_view s
+shown_macro s line x ps body ps' body' is p q = rw (p, q) (sym (ap stmt_view is ∙ shown_Macro line x ps body))

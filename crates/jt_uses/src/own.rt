@@ -1,6 +1,6 @@
 //! The different names that a chain reads or binds.
 
-ghost use Rattle.std.specs.Prelude.{◌≡◌, ◌++◌, if◌then◌else◌, [], map, option_map, IfOk};
+ghost use Rattle.std.specs.Prelude.{◌≡◌, ◌++◌, if◌then◌else◌, [], map, option_map, IfOk, IsOk};
 ghost use Rattle.jt_expr.specs.View.{expr_view, exprs_view, pairs_view};
 ghost use Rattle.jt_parse.specs.Texts.{inserted, all_inserted};
 ghost use Rattle.jt_inherit.specs.Chain.{is_loop};
@@ -32,7 +32,7 @@ pub(crate) fn add_name<'a>(names: &mut BTreeSet<&'a str>, name: &'a str) -> Resu
 }
 
 /// Adds the names of an expression.
-#[tactic(auto, using(crate::proofs::Inserted::inserted_both, crate::proofs::Shown::shown_Map, crate::proofs::Shown::shown_Call, crate::proofs::Shown::shown_Filter, crate::proofs::Shown::shown_Test))]
+#[tactic(auto, using(crate::proofs::Shown::shown_Map))]
 #[cycle(gather)]
 fn add_expression<'a>(names: &mut BTreeSet<&'a str>, expr: &'a Expr) -> Result<(), AllocError>
     ensures { IfOk result (λ u. texts names.new.keys
@@ -46,33 +46,61 @@ fn add_expression<'a>(names: &mut BTreeSet<&'a str>, expr: &'a Expr) -> Result<(
         Expr::Map(pairs) => add_pairs(names, pairs),
         Expr::Attribute(value, _) => add_of_attribute(names, value),
         Expr::Item(value, index) => add_both(names, value, index),
-        Expr::Call(_, row, pairs) => {
-            add_row(names, row)?;
-            add_pairs(names, pairs)?;
-            Ok(())
-        }
+        Expr::Call(_, row, pairs) => then_arguments(names, Ok(()), row, pairs),
         Expr::Filter(value, _, row, pairs) => {
-            add_expression(names, value)?;
-            add_row(names, row)?;
-            add_pairs(names, pairs)?;
-            Ok(())
+            let input = add_expression(names, value);
+            then_arguments(names, input, row, pairs)
         }
         Expr::Test(value, _, _, row, pairs) => {
-            add_expression(names, value)?;
-            add_row(names, row)?;
-            add_pairs(names, pairs)?;
-            Ok(())
+            let input = add_expression(names, value);
+            then_arguments(names, input, row, pairs)
         }
         Expr::Unary(_, operand) => add_expression(names, operand),
         Expr::Binary(_, left, right) => add_both(names, left, right),
         Expr::When(condition, value) => add_both(names, condition, value),
         Expr::Choice(condition, value, other) => {
-            add_expression(names, condition)?;
-            add_expression(names, value)?;
-            add_expression(names, other)?;
-            Ok(())
+            let first = add_expression(names, condition);
+            let second = then_expression(names, first, value);
+            then_expression(names, second, other)
         }
     }
+}
+
+// Each `then` function takes how it went before as a `Result`, so that the many arms of its callers have
+// no early exit: a match with many of them is dear to prove.
+
+/// Adds the names of an expression, behind others.
+#[cycle(gather)]
+fn then_expression<'a>(
+    names: &mut BTreeSet<&'a str>,
+    before: Result<(), AllocError>,
+    expr: &'a Expr,
+) -> Result<(), AllocError>
+    ensures { IfOk result (λ u. IsOk before × (texts names.new.keys
+        ≡ all_inserted (expr_names (expr_view expr.now)) (texts names.old.keys))) }
+{
+    before?;
+    add_expression(names, expr)?;
+    Ok(())
+}
+
+/// Adds the names of arguments by place and by name, behind others.
+#[tactic(auto, using(crate::proofs::Inserted::inserted_both))]
+#[cycle(gather)]
+fn then_arguments<'a>(
+    names: &mut BTreeSet<&'a str>,
+    before: Result<(), AllocError>,
+    row: &'a [Expr],
+    pairs: &'a [(String, Expr)],
+) -> Result<(), AllocError>
+    ensures { IfOk result (λ u. IsOk before × (texts names.new.keys
+        ≡ all_inserted (row_names (exprs_view row.now) ++ pair_names (pairs_view pairs.now))
+        (texts names.old.keys))) }
+{
+    before?;
+    add_row(names, row)?;
+    add_pairs(names, pairs)?;
+    Ok(())
 }
 
 /// Adds the names of two expressions.
@@ -188,19 +216,34 @@ fn add_condition<'a>(
     }
 }
 
-/// Adds the names of the filters of a filter tag.
-#[tactic(auto, using(crate::proofs::Inserted::inserted_both))]
-fn add_filterings<'a>(
+/// Adds the names of the filters of a filter tag, behind others.
+fn then_filterings<'a>(
     names: &mut BTreeSet<&'a str>,
+    before: Result<(), AllocError>,
     filterings: &'a [Filtering],
 ) -> Result<(), AllocError>
-    ensures { IfOk result (λ u. texts names.new.keys
-        ≡ all_inserted (filtering_names (filterings_view filterings.now)) (texts names.old.keys)) }
+    ensures { IfOk result (λ u. IsOk before × (texts names.new.keys
+        ≡ all_inserted (filtering_names (filterings_view filterings.now)) (texts names.old.keys))) }
 {
+    before?;
     for filtering in filterings {
-        add_row(names, &filtering.arguments)?;
-        add_pairs(names, &filtering.keywords)?;
+        then_arguments(names, Ok(()), &filtering.arguments, &filtering.keywords)?;
     }
+    Ok(())
+}
+
+/// Adds the names of the values of a `with` tag, and what it binds.
+#[tactic(auto, using(crate::proofs::Inserted::inserted_both))]
+fn add_bindings<'a>(
+    names: &mut BTreeSet<&'a str>,
+    pairs: &'a [(String, Expr)],
+) -> Result<(), AllocError>
+    ensures { IfOk result (λ u. texts names.new.keys
+        ≡ all_inserted (pair_names (pairs_view pairs.now) ++ keywords (pairs_view pairs.now))
+        (texts names.old.keys)) }
+{
+    add_pairs(names, pairs)?;
+    add_keywords(names, pairs)?;
     Ok(())
 }
 
@@ -256,7 +299,7 @@ fn add_branches<'a>(
 }
 
 /// Adds the names of a statement.
-#[tactic(auto, using(crate::proofs::Inserted::inserted_both, crate::proofs::Shown::shown_For, crate::proofs::Shown::shown_Set, crate::proofs::Shown::shown_With, crate::proofs::Shown::shown_FilterBlock, crate::proofs::Shown::shown_Macro))]
+#[tactic(auto, using(crate::proofs::Shown::shown_Set))]
 #[cycle(add)]
 fn add_statement<'a>(names: &mut BTreeSet<&'a str>, statement: &'a Stmt) -> Result<(), AllocError>
     ensures { IfOk result (λ u. texts names.new.keys
@@ -266,41 +309,49 @@ fn add_statement<'a>(names: &mut BTreeSet<&'a str>, statement: &'a Stmt) -> Resu
         Stmt::Data(_) | Stmt::Include(..) | Stmt::Extends(..) => Ok(()),
         Stmt::Print(_, expr) => add_expression(names, expr),
         Stmt::If(branches, other) => {
-            add_branches(names, branches)?;
-            add_statements(names, other)?;
-            Ok(())
+            let head = add_branches(names, branches);
+            then_statements(names, head, other)
         }
         Stmt::For(_, targets, items, condition, inside, other) => {
-            add_head(names, items, targets, condition)?;
-            add_statements(names, inside)?;
-            add_statements(names, other)?;
-            Ok(())
+            let head = add_head(names, items, targets, condition);
+            let turns = then_statements(names, head, inside);
+            then_statements(names, turns, other)
         }
         Stmt::Set(_, targets, value) => add_set(names, targets, value),
         Stmt::SetBlock(_, name, inside) => {
-            add_name(names, name.as_str())?;
-            add_statements(names, inside)?;
-            Ok(())
+            let head = add_name(names, name.as_str());
+            then_statements(names, head, inside)
         }
         Stmt::With(_, pairs, inside) => {
-            add_pairs(names, pairs)?;
-            add_keywords(names, pairs)?;
-            add_statements(names, inside)?;
-            Ok(())
+            let head = add_bindings(names, pairs);
+            then_statements(names, head, inside)
         }
         Stmt::FilterBlock(_, filterings, inside) => {
-            add_statements(names, inside)?;
-            add_filterings(names, filterings)?;
-            Ok(())
+            let body = add_statements(names, inside);
+            then_filterings(names, body, filterings)
         }
         Stmt::Autoescape(_, _, inside) => add_statements(names, inside),
         Stmt::Macro(_, _, parameters, inside) => {
-            add_parameters(names, parameters)?;
-            add_statements(names, inside)?;
-            Ok(())
+            let head = add_parameters(names, parameters);
+            then_statements(names, head, inside)
         }
         Stmt::Block(_, _, _, _, inside) => add_statements(names, inside),
     }
+}
+
+/// Adds the names of statements, behind others.
+#[cycle(add)]
+fn then_statements<'a>(
+    names: &mut BTreeSet<&'a str>,
+    before: Result<(), AllocError>,
+    body: &'a [Stmt],
+) -> Result<(), AllocError>
+    ensures { IfOk result (λ u. IsOk before × (texts names.new.keys
+        ≡ all_inserted (body_names (body_view body.now)) (texts names.old.keys))) }
+{
+    before?;
+    add_statements(names, body)?;
+    Ok(())
 }
 
 /// Adds the names of statements.

@@ -16,6 +16,9 @@ decreases-add_statement l = 3 * size-Stmt l.statement.now
 abbrev pub decreases-add_statements : goal.decreases-add_statements
 decreases-add_statements l = 3 * most (λ x. size-Stmt x) l.body.now + 1
 
+abbrev pub decreases-then_statements : goal.decreases-then_statements
+decreases-then_statements l = 3 * most (λ x. size-Stmt x) l.body.now + 2
+
 abbrev pub decreases-add_branches : goal.decreases-add_branches
 decreases-add_branches l = 3 * most (λ (b : Branch). most (λ x. size-Stmt x) b.2.items) l.branches.now + 2
 

@@ -1,6 +1,6 @@
 use Rattle.std.proofs.Common.{◌≡◌, drop}
 use Rattle.jt_uses.specs.Names.{texts}
-use Rattle.jt_expr.specs.View.{exprs_view, pairs_view}
+use Rattle.jt_expr.specs.View.{pairs_view}
 use Rattle.jt_inherit.specs.Uses as uses
 use Rattle.jt_parse.specs.Texts.{all_inserted}
 use Rattle.jt_uses.proofs.own.add_keywords.Given as goal

@@ -3,7 +3,7 @@ use Rattle.jt_uses.specs.Names.{texts}
 use Rattle.jt_parse.specs.View as parsed
 use Rattle.jt_inherit.specs.Uses as uses
 use Rattle.jt_parse.specs.Texts.{all_inserted}
-use Rattle.jt_uses.proofs.own.add_filterings.Given as goal
+use Rattle.jt_uses.proofs.own.then_filterings.Given as goal
 
 abbrev pub invariant-loop-filtering : goal.invariant-loop-filtering
 invariant-loop-filtering l = all_inserted (uses.filtering_names (parsed.filterings_view (drop l.filtering-index l.filterings))) (texts l.names.keys) ≡ all_inserted (uses.filtering_names (parsed.filterings_view l.filterings)) (texts l.initial.names.keys)
