@@ -124,29 +124,56 @@ fn enclosing(line: u32, opening: Opening, body: Vec<Stmt>) -> Stmt
     }
 }
 
-/// The statement that ends, and what is before it.
-pub fn finished(
+/// The statement of branches whose last one ends, with no else part.
+fn ended_branch(
     alloc: Global,
-    frame: Frame,
+    branches: Vec<(u32, Expr, Vec<Stmt>)>,
+    line: u32,
+    condition: Expr,
     body: Vec<Stmt>,
-) -> Result<(Vec<Stmt>, Stmt), ParseError>
-    ensures before { IfOk result (λ p. body_view p.0.items ≡ reading.before (frame_view frame)) }
-    ensures finished { IfOk result
-        (λ p. stmt_view p.1 ≡ reading.finished (body_view body.items) (frame_view frame)) }
+) -> Result<Stmt, ParseError>
+    ensures ended { IfOk result (λ s. stmt_view s
+        ≡ trees.choose (reading.then_branch (branches_view branches.items) line
+        (expr_view condition) (body_view body.items)) trees.end) }
     ensures refused { IfErr result (λ e. e ≡ error.NoMemory) }
 {
-    let Frame { before, line, kind } = frame;
+    let mut branches = branches;
+    push_branch(&mut branches, line, condition, body)?;
+    Ok(if_statement(branches, Vec::new(alloc)))
+}
+
+/// The statement that ends.
+fn finished(alloc: Global, line: u32, kind: Kind, body: Vec<Stmt>) -> Result<Stmt, ParseError>
+    ensures finished { (before : trees.Body) → IfOk result (λ s. stmt_view s
+        ≡ reading.finished (body_view body.items) (frame_by before line kind)) }
+    ensures refused { IfErr result (λ e. e ≡ error.NoMemory) }
+{
     match kind {
         Kind::Branch(branches, first, condition) => {
-            let mut branches = branches;
-            push_branch(&mut branches, first, condition, body)?;
-            Ok((before, if_statement(branches, Vec::new(alloc))))
+            ended_branch(alloc, branches, first, condition, body)
         }
-        Kind::Else(branches) => Ok((before, if_statement(branches, body))),
-        Kind::Loop(head) => Ok((before, for_statement(line, head, body, Vec::new(alloc)))),
-        Kind::LoopElse(head, inside) => Ok((before, for_statement(line, head, inside, body))),
-        Kind::Opening(opening) => Ok((before, enclosing(line, opening, body))),
+        Kind::Else(branches) => Ok(if_statement(branches, body)),
+        Kind::Loop(head) => Ok(for_statement(line, head, body, Vec::new(alloc))),
+        Kind::LoopElse(head, inside) => Ok(for_statement(line, head, inside, body)),
+        Kind::Opening(opening) => Ok(enclosing(line, opening, body)),
     }
+}
+
+/// The statements before a frame, with the one that ends behind them.
+pub fn closed(alloc: Global, frame: Frame, body: Vec<Stmt>) -> Result<Vec<Stmt>, ParseError>
+    ensures closed { IfOk result (λ v. body_view v.items
+        ≡ reading.then_one (reading.before (frame_view frame))
+        (reading.finished (body_view body.items) (frame_view frame))) }
+    ensures refused { IfErr result (λ e. e ≡ error.NoMemory) }
+{
+    let Frame {
+        mut before,
+        line,
+        kind,
+    } = frame;
+    let statement = finished(alloc, line, kind, body)?;
+    push_statement(&mut before, statement)?;
+    Ok(before)
 }
 
 /// Whether the tokens behind the word end a statement: there are none, or a block's name.

@@ -24,7 +24,7 @@ ghost use Rattle.jt_parse.specs.declared.error.ParseError.TheVariants as error;
 use crate::error::ParseError;
 use crate::expression::{copy_of, expression, head, is_word};
 use crate::frames::{
-    Frame, Kind, ends_frame, finished, is_end_word, pop_frame, push_branch, push_frame,
+    Frame, Kind, closed, ends_frame, is_end_word, pop_frame, push_branch, push_frame,
     push_statement,
 };
 use crate::heads::Head;
@@ -214,9 +214,7 @@ impl Parser {
             return Err(ParseError::Syntax { line });
         }
         let body = mem::replace(&mut self.body, Vec::new(self.alloc));
-        let (before, statement) = finished(self.alloc, frame, body)?;
-        self.body = before;
-        push_statement(&mut self.body, statement)?;
+        self.body = closed(self.alloc, frame, body)?;
         Ok(())
     }
 
