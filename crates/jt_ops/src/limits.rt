@@ -128,7 +128,7 @@ pub(crate) fn made(built: Result<Value, NoMemory>) -> Result<Value, OpError>
         → Answers result wanted }
 {
     match built {
-        Ok(value) => Ok(value),
+        Ok(new) => Ok(new),
         Err(_) => Err(OpError::NoMemory),
     }
 }
