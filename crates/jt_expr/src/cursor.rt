@@ -33,7 +33,7 @@ impl<'a> Cursor<'a> {
         ensures { result ≡ front.sees sign (ahead self.now) }
     {
         match self.rest {
-            [Token::Sign(found), ..] => *found == sign,
+            [Token::Sign(found), ..] => code(*found) == code(sign),
             _ => false,
         }
     }
@@ -299,4 +299,11 @@ impl<'a> Cursor<'a> {
             None
         }
     }
+}
+
+/// The place of a sign in the list of all.
+fn code(sign: Sign) -> u8
+    ensures { result ≡ front.code sign }
+{
+    sign as u8
 }

@@ -3,6 +3,7 @@ pub mod Applied
 pub mod TextKeys
 pub mod Built
 pub mod Characters
+pub mod FilterNames
 pub mod FilterRows
 pub mod Firsts
 pub mod Folds

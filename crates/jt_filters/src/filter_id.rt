@@ -1,5 +1,6 @@
 //! The filters, and the id, names and arguments of each.
-ghost use Rattle.std.specs.Prelude.{◌≡◌, ◌&&◌, Some, IfSome, Contains, nat_le, option_map};
+ghost use Rattle.std.specs.Prelude.{◌≡◌, ◌&&◌, ◌+◌, ◌∷◌, [], Some, IfSome, Contains, nat_le, option_map, position};
+ghost use Rattle.std.specs.Str.{bytes_eq};
 ghost use Rattle.jt_filters.specs.FilterTable as table;
 ghost use Rattle.jt_filters.specs.FilterTable.{filter_id, filter_names, least_values, most_values, place_of, filter_of_name, filter_meant, with_only};
 
@@ -227,16 +228,14 @@ impl FilterId {
     pub fn place(self, argument: &str) -> Option<usize>
         ensures { result ≡ place_of self argument.now }
     {
-        match (self, argument) {
-            (FilterId::Attr, "name") => Some(1),
-            (FilterId::Default, "default_value") => Some(1),
-            (FilterId::Default, "boolean") => Some(2),
-            (FilterId::Int, "default") => Some(1),
-            (FilterId::Join, "d") => Some(1),
-            (FilterId::Replace, "old") => Some(1),
-            (FilterId::Replace, "new") => Some(2),
-            (FilterId::Sort, "reverse") => Some(1),
-            (FilterId::MapAttribute, "attribute") => Some(1),
+        match self {
+            FilterId::Attr => place_of_one("name", argument),
+            FilterId::Default => place_of_two("default_value", "boolean", argument),
+            FilterId::Int => place_of_one("default", argument),
+            FilterId::Join => place_of_one("d", argument),
+            FilterId::Replace => place_of_two("old", "new", argument),
+            FilterId::Sort => place_of_one("reverse", argument),
+            FilterId::MapAttribute => place_of_one("attribute", argument),
             _ => None,
         }
     }
@@ -272,5 +271,28 @@ impl FilterId {
             | FilterId::SelectAttr => false,
             _ => true,
         }
+    }
+}
+
+/// The place of an argument, where one may be given by name.
+fn place_of_one(first: &str, argument: &str) -> Option<usize>
+    ensures { result
+        ≡ option_map (λ i. i + 1) (position (λ other. bytes_eq other argument.now) (first.now ∷ [])) }
+{
+    if first == argument { Some(1) } else { None }
+}
+
+/// The place of an argument, where two may be given by name.
+fn place_of_two(first: &str, second: &str, argument: &str) -> Option<usize>
+    ensures { result
+        ≡ option_map (λ i. i + 1)
+        (position (λ other. bytes_eq other argument.now) (first.now ∷ second.now ∷ [])) }
+{
+    if first == argument {
+        Some(1)
+    } else if second == argument {
+        Some(2)
+    } else {
+        None
     }
 }

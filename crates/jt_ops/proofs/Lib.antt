@@ -2,4 +2,6 @@ pub mod Answering
 pub mod Finding
 pub mod Loops
 pub mod Numbers
+pub mod Pieces
 pub mod Places
+pub mod TestNames

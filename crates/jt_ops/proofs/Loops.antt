@@ -1,11 +1,13 @@
 -- Lists and texts, one more at the end.
-use Rattle.std.proofs.Common.{◌≡◌, ℕ, zero, suc, ◌+◌, ◌*◌, ◌/◌, ◌%◌, ◌<◌, ◌≤◌, List, [], ◌∷◌, ◌++◌, length, take, get_or, ℤ, pos, negsuc, ◌+ℤ◌, ◌*ℤ◌, refl, sym, ap, ◌∙◌, append_assoc, add-one, arith, length-append}
+use Rattle.std.proofs.Common.{◌≡◌, ℕ, zero, suc, ◌+◌, ◌*◌, ◌/◌, ◌%◌, ◌<◌, ◌≤◌, true, false, List, [], ◌∷◌, ◌++◌, length, take, get_or, ℤ, pos, negsuc, ◌+ℤ◌, ◌*ℤ◌, refl, sym, ap, ◌∙◌, append_assoc, add-one, arith, length-append}
 use Rattle.std.specs.List.{repeat}
 use Rattle.std.specs.Int.{div_ceil, w64}
-use Rattle.std.specs.Prelude.{◌≢◌, ◌≤ℤ◌, ◌-ℤ◌, FitsSigned}
+use Rattle.std.specs.Int.Signed.{lt_z}
+use Rattle.std.specs.Prelude.{◌≢◌, ◌≤ℤ◌, ◌-ℤ◌, FitsSigned, unsigned_abs}
 use Rattle.std.proofs.Common.{⊎_elim}
 use Rattle.std.proofs.Math.Nat.{mul-le-mul_right}
-use Rattle.std.proofs.lemmas.Bool.{cases_eq}
+use Rattle.std.proofs.lemmas.Bool.{cases_eq, false≢true}
+use Rattle.std.proofs.lemmas.Bool.Decides.{nat_tests}
 use Rattle.std.proofs.lemmas.Int.{ints, to_z-of_z}
 use Rattle.std.proofs.Common.{to_z, of_z}
 use Rattle.std.proofs.lemmas.List.{append-nil}
@@ -138,3 +140,43 @@ count_is start stop step n f g h e =
 pub listed_is : (start step : ℤ) (n : ℕ) (ts : Items) → FitsSigned w64 start → FitsSigned w64 step → ts ≡ stepped n (to_z w64 (of_z w64 start)) (to_z w64 (of_z w64 step)) → ts ≡ stepped n start step
 listed_is start step n ts f g e =
     e ∙ ap (λ (x : ℤ). stepped n x (to_z w64 (of_z w64 step))) (to_z-of_z w64 start f) ∙ ap (stepped n start) (to_z-of_z w64 step g)
+
+-- the same of a number of them, at arguments that a call sees by their bits
+pub inside_counted : (start stop step : ℤ) (n : ℕ) → pos 0 ≢ step → FitsSigned w64 start → FitsSigned w64 stop → FitsSigned w64 step → n ≡ range_count start stop step
+    → (k : ℕ) → k < n → FitsSigned w64 (to_z w64 (of_z w64 start) +ℤ pos k *ℤ to_z w64 (of_z w64 step))
+inside_counted start stop step n nonzero f g h is k lt = rw (to_z-of_z w64 start f, to_z-of_z w64 step h) (inside start stop step nonzero f g k (subst (λ m. k < m) is lt))
+
+-- the list of so many numbers, at arguments that a call sees by their bits
+pub listed_all : (start stop step : ℤ) (n : ℕ) → FitsSigned w64 start → FitsSigned w64 step → n ≡ range_count start stop step
+    → list (stepped n (to_z w64 (of_z w64 start)) (to_z w64 (of_z w64 step))) ≡ list (stepped (range_count start stop step) start step)
+listed_all start stop step n f g is =
+    ap list (listed_is start step n _ f g refl) ∙ ap (λ (m : ℕ). list (stepped m start step)) is
+
+-- the size of a step of 64 bits, which a call sees by its bits
+step_size : (step : ℤ) (s : ℕ) → FitsSigned w64 step → s ≡ unsigned_abs (to_z w64 (of_z w64 step)) → s ≡ unsigned_abs step
+step_size step s f e = e ∙ ap unsigned_abs (to_z-of_z w64 step f)
+
+pub step_positive : (step : ℤ) (s : ℕ) → FitsSigned w64 step → pos 0 ≢ step → s ≡ unsigned_abs (to_z w64 (of_z w64 step)) → 0 < s
+step_positive (pos zero) s f nonzero e = absurd (nonzero refl)
+step_positive (pos (suc n)) s f nonzero e = omega (arith, step_size (pos (suc n)) s f e)
+step_positive (negsuc n) s f nonzero e = omega (arith, step_size (negsuc n) s f e)
+
+far : (x y : ℤ) (d : ℕ) → FitsSigned w64 x → FitsSigned w64 y → d ≡ distance (to_z w64 (of_z w64 x)) (to_z w64 (of_z w64 y)) → d ≡ distance x y
+far x y d f g e = e ∙ ap (λ z. distance z (to_z w64 (of_z w64 y))) (to_z-of_z w64 x f) ∙ ap (distance x) (to_z-of_z w64 y g)
+
+-- how many numbers there are, downwards and upwards
+pub count_down : (start stop step : ℤ) (d s n : ℕ) → FitsSigned w64 start → FitsSigned w64 stop → FitsSigned w64 step → lt_z (to_z w64 (of_z w64 step)) (pos 0) ≡ true
+    → d ≡ distance (to_z w64 (of_z w64 stop)) (to_z w64 (of_z w64 start)) → s ≡ unsigned_abs (to_z w64 (of_z w64 step)) → n ≡ div_ceil d s → n ≡ range_count start stop step
+count_down start stop (pos k) d s n f g h lt ed es en =
+    let l : lt_z (pos k) (pos 0) ≡ true = subst (λ z. lt_z z (pos 0) ≡ true) (to_z-of_z w64 (pos k) h) lt in
+    absurd (grind (arith, nat_tests))
+count_down start stop (negsuc k) d s n f g h lt ed es en =
+    en ∙ ap (λ x. div_ceil x s) (far stop start d g f ed) ∙ ap (div_ceil (distance stop start)) (step_size (negsuc k) s h es)
+
+pub count_up : (start stop step : ℤ) (d s n : ℕ) → FitsSigned w64 start → FitsSigned w64 stop → FitsSigned w64 step → lt_z (to_z w64 (of_z w64 step)) (pos 0) ≡ false
+    → d ≡ distance (to_z w64 (of_z w64 start)) (to_z w64 (of_z w64 stop)) → s ≡ unsigned_abs (to_z w64 (of_z w64 step)) → n ≡ div_ceil d s → n ≡ range_count start stop step
+count_up start stop (pos k) d s n f g h lt ed es en =
+    en ∙ ap (λ x. div_ceil x s) (far start stop d f g ed) ∙ ap (div_ceil (distance start stop)) (step_size (pos k) s h es)
+count_up start stop (negsuc k) d s n f g h lt ed es en =
+    let l : lt_z (negsuc k) (pos 0) ≡ false = subst (λ z. lt_z z (pos 0) ≡ false) (to_z-of_z w64 (negsuc k) h) lt in
+    absurd (false≢true (sym l))

@@ -9,7 +9,7 @@ ghost use Rattle.jt_ops.specs.ItemOf.{item_of, item_at, indexed_item, indexed_ch
 ghost use Rattle.jt_ops.specs.ItemOf as items;
 ghost use Rattle.jt_ops.specs.Limited.{limited_by, Answers};
 
-use crate::limits::{Limits, OpError, allow, copy_within, within};
+use crate::limits::{Limits, OpError, allow, copy_within, made, within};
 use jt_value::{Fault, NoMemory, Value};
 use std::alloc::Global;
 
@@ -123,7 +123,7 @@ fn single(alloc: Global, c: char, limits: Limits) -> Result<Value, OpError>
     ensures { Answers result (limited_by limits (Ok (tree.text (encode_utf8 c)))) }
 {
     allow(c.len_utf8() as u64 + 1, 0, limits)?;
-    Ok(Value::from_text(text_of(alloc, c)?)?)
+    made(text_of(alloc, c))
 }
 
 /// The character that an index names.
@@ -153,10 +153,10 @@ fn character_at(text: &str, place: usize) -> Option<char>
 }
 
 /// The text of one character.
-fn text_of(alloc: Global, c: char) -> Result<String, NoMemory>
-    ensures { IfOk result (λ s. string_bytes s ≡ encode_utf8 c) }
+fn text_of(alloc: Global, c: char) -> Result<Value, NoMemory>
+    ensures { IfOk result (λ v. view v ≡ tree.text (encode_utf8 c)) }
 {
     let mut text = String::new(alloc);
     text.push(c)?;
-    Ok(text)
+    Value::from_text(text)
 }

@@ -1,5 +1,5 @@
 //! Sums, products and joins of texts and lists.
-ghost use Rattle.std.specs.Prelude.{◌≡◌, ◌-◌, ◌^◌, min, Ok, IfOk, OnOk};
+ghost use Rattle.std.specs.Prelude.{◌≡◌, ◌-◌, ◌^◌, min, Ok, Err, IfOk, IfErr, OnOk};
 ghost use Rattle.jt_value.specs.Tree as tree;
 ghost use Rattle.jt_value.specs.Payload.{joined_items};
 ghost use Rattle.jt_value.specs.View.{view, items_view};
@@ -7,7 +7,7 @@ ghost use Rattle.jt_ops.specs.Joining.{added, multiplied, joined, joined_escapin
 ghost use Rattle.jt_ops.specs.Limited.{limited_by, Answers};
 
 use crate::arithmetic::{product, sum};
-use crate::limits::{Limits, OpError, allow, number_within};
+use crate::limits::{Limits, OpError, allow, made, number_within};
 use crate::operands::misfit;
 use crate::text::{Kind, Piece, concatenated, repeated};
 use itoa::Buffer;
@@ -127,8 +127,15 @@ pub(crate) fn add_owned(
 {
     match (left, right) {
         (Value::List(list), Value::List(more)) => appended(list, &more, limits),
-        (left, right) => add(alloc, &left, &right, limits),
+        (left, right) => add_lent(alloc, left, right, limits),
     }
+}
+
+/// Operator `+`, which drops its operands.
+fn add_lent(alloc: Global, left: Value, right: Value, limits: Limits) -> Result<Value, OpError>
+    ensures { Answers result (limited_by limits (added (view left) (view right))) }
+{
+    add(alloc, &left, &right, limits)
 }
 
 /// A list with the items of another behind its own. Where other values share it, they keep what they have.
@@ -136,10 +143,29 @@ fn appended(mut list: Rc<ValueList>, more: &ValueList, limits: Limits) -> Result
     ensures { Answers result
         (limited_by limits (Ok (tree.list (joined_items list.value more.now)))) }
 {
-    let (size, nesting) = joined_measure(&list, more);
-    allow(size, nesting, limits)?;
-    Rc::make_mut(&mut list)?.append(more.items())?;
+    append_within(&mut list, more, limits)?;
     Ok(Value::List(list))
+}
+
+/// Puts the items of another list behind a list's own, under the limits.
+fn append_within(list: &mut Rc<ValueList>, more: &ValueList, limits: Limits) -> Result<(), OpError>
+    ensures ok { OnOk result (limited_by limits (Ok (tree.list (joined_items list.old.value more.now)))
+        ≡ Ok (tree.list list.new.value)) }
+    ensures refused { IfErr result (λ e. Answers (Err e)
+        (limited_by limits (Ok (tree.list (joined_items list.old.value more.now))))) }
+{
+    let measure = joined_measure(list, more);
+    allow(measure.0, measure.1, limits)?;
+    append(list, more)?;
+    Ok(())
+}
+
+/// Puts the items of another list behind a list's own.
+fn append(list: &mut Rc<ValueList>, more: &ValueList) -> Result<(), NoMemory>
+    ensures { OnOk result (list.new.value ≡ joined_items list.old.value more.now) }
+{
+    Rc::make_mut(list)?.append(more.items())?;
+    Ok(())
 }
 
 /// The items of two lists.
@@ -153,18 +179,18 @@ fn joined_lists(
 {
     let (size, nesting) = joined_measure(list, more);
     allow(size, nesting, limits)?;
-    Ok(Value::list(alloc, joined_copies(alloc, list.items(), more.items())?)?)
+    made(joined_copies(alloc, list.items(), more.items()))
 }
 
-/// Copies of the items of two lists.
-fn joined_copies(alloc: Global, items: &[Value], more: &[Value]) -> Result<Vec<Value>, NoMemory>
-    ensures { IfOk result
-        (λ v. items_view v.items ≡ joined_items (items_view items.now) (items_view more.now)) }
+/// The list of copies of the items of two lists.
+fn joined_copies(alloc: Global, items: &[Value], more: &[Value]) -> Result<Value, NoMemory>
+    ensures { IfOk result (λ v. view v
+        ≡ tree.list (joined_items (items_view items.now) (items_view more.now))) }
 {
     let mut joined = Vec::with_capacity(alloc, items.len() + more.len())?;
     append_copies(&mut joined, items)?;
     append_copies(&mut joined, more)?;
-    Ok(joined)
+    Value::list(alloc, joined)
 }
 
 /// The size and the nesting of the list of two lists' items, each the greatest number where it is

@@ -1,8 +1,10 @@
 //! Limits of an operation's result, and why an operation has none.
-ghost use Rattle.std.specs.Prelude.{◌≡◌, ◌-◌, ◌^◌, min, Ok, Err, OnOk, IfErr};
+ghost use Rattle.std.specs.Prelude.{◌≡◌, ◌-◌, ◌^◌, min, true, Result, Ok, Err, OnOk, IfOk, IfErr};
+ghost use Rattle.jt_value.specs.Payload.{has_payload};
 ghost use Rattle.jt_value.specs.Tree.{Tree};
 ghost use Rattle.jt_value.specs.Tree as tree;
 ghost use Rattle.jt_value.specs.View.{view};
+ghost use Rattle.jt_ops.specs.declared.limits.OpError.{OpError};
 ghost use Rattle.jt_ops.specs.Arithmetic.{as_number};
 ghost use Rattle.jt_ops.specs.Limited.{limited_by, Answers};
 ghost use Rattle.jt_ops.specs.Operation.{as_truth};
@@ -115,6 +117,20 @@ pub fn within(value: Value, limits: Limits) -> Result<Value, OpError>
 {
     allow(value.size(), value.nesting(), limits)?;
     Ok(value)
+}
+
+/// What was built once its measures were allowed.
+pub(crate) fn made(built: Result<Value, NoMemory>) -> Result<Value, OpError>
+    ensures { (wanted : Result Tree OpError) → (t : Tree)
+        → wanted ≡ Ok t
+        → has_payload t ≡ true
+        → IfOk built (λ v. view v ≡ t)
+        → Answers result wanted }
+{
+    match built {
+        Ok(new) => Ok(new),
+        Err(_) => Err(OpError::NoMemory),
+    }
 }
 
 /// A copy of a value, under the limits.

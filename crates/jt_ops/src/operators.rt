@@ -73,8 +73,22 @@ pub fn binary_owned(
 {
     match op {
         OpId::Add => add_owned(alloc, left, right, limits),
-        _ => binary(alloc, op, &left, &right, limits),
+        _ => binary_lent(alloc, op, left, right, limits),
     }
+}
+
+/// What `binary` gives of operands that are then dropped.
+fn binary_lent(
+    alloc: Global,
+    op: OpId,
+    left: Value,
+    right: Value,
+    limits: Limits,
+) -> Result<Value, OpError>
+    requires { op_operands op ≡ 2 }
+    ensures { Answers result (limited_by limits (operation op (view left ∷ view right ∷ []))) }
+{
+    binary(alloc, op, &left, &right, limits)
 }
 
 /// An operator of one operand, under limits.

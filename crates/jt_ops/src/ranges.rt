@@ -7,7 +7,7 @@ ghost use Rattle.jt_ops.specs.Limited.{limited_by, Answers};
 ghost use Rattle.jt_ops.specs.Ranges.{ranged, numbers_between, range_count, stepped};
 ghost use Rattle.jt_ops.specs.Ranges as ranges;
 
-use crate::limits::{Limits, OpError, allow};
+use crate::limits::{Limits, OpError, allow, made};
 use crate::operands::{misfit, misfit_of_one, misfit_of_three};
 use jt_value::{Fault, NoMemory, Value};
 use std::alloc::Global;
@@ -96,7 +96,6 @@ fn numbers(
 }
 
 /// The list of the numbers from a start by a step, before a stop, measured before it is built.
-#[tactic(auto, using(crate::proofs::Loops::inside))]
 fn list_of(
     alloc: Global,
     start: i64,
@@ -110,7 +109,7 @@ fn list_of(
 {
     let count = count(start, stop, step);
     allow(count.saturating_add(1), 1, limits)?;
-    Ok(Value::list(alloc, listed(alloc, start, step, count)?)?)
+    made(listed(alloc, start, step, count))
 }
 
 /// How many of the numbers from a start by a step lie before a stop.
@@ -118,12 +117,11 @@ fn count(start: i64, stop: i64, step: i64) -> u64
     requires { pos 0 ≢ step }
     ensures { result ≡ range_count start stop step }
 {
-    let (low, high) = if step < 0 {
-        (stop, start)
+    if step < 0 {
+        distance(stop, start).div_ceil(step.unsigned_abs())
     } else {
-        (start, stop)
-    };
-    distance(low, high).div_ceil(step.unsigned_abs())
+        distance(start, stop).div_ceil(step.unsigned_abs())
+    }
 }
 
 /// How far a number lies above another, 0 if it doesn't.
@@ -133,10 +131,10 @@ fn distance(low: i64, high: i64) -> u64
     if low < high { high.abs_diff(low) } else { 0 }
 }
 
-/// So many numbers from a start by a step, each of which has 64 bits.
-fn listed(alloc: Global, start: i64, step: i64, count: u64) -> Result<Vec<Value>, NoMemory>
+/// The list of so many numbers from a start by a step, each of which has 64 bits.
+fn listed(alloc: Global, start: i64, step: i64, count: u64) -> Result<Value, NoMemory>
     requires { (k : ℕ) → k < count → FitsSigned w64 (start +ℤ pos k *ℤ step) }
-    ensures { IfOk result (λ v. items_view v.items ≡ stepped count start step) }
+    ensures { IfOk result (λ v. view v ≡ tree.list (stepped count start step)) }
 {
     let mut numbers = Vec::with_capacity(alloc, count as usize)?;
     let mut next = start;
@@ -144,7 +142,7 @@ fn listed(alloc: Global, start: i64, step: i64, count: u64) -> Result<Vec<Value>
         numbers.push(Value::Int(next))?;
         next = sum_in_range(next, step);
     }
-    Ok(numbers)
+    Value::list(alloc, numbers)
 }
 
 /// The sum of two numbers. Where it has no 64 bits, which is behind the last number, any other.

@@ -7,7 +7,7 @@ ghost use Rattle.jt_ops.specs.Pieces.{of_kind, written};
 ghost use Rattle.jt_ops.specs.Joining.{times};
 ghost use Rattle.jt_ops.specs.Limited.{limited_by, Answers};
 
-use crate::limits::{Limits, OpError, allow};
+use crate::limits::{Limits, OpError, allow, made};
 use jt_escape::escape_into;
 use jt_value::{NoMemory, Value};
 use std::alloc::Global;
@@ -99,10 +99,23 @@ pub(crate) fn concatenated(
 {
     let len = left.len().saturating_add(right.len());
     allow(len.saturating_add(1), 0, limits)?;
-    let mut text = String::with_capacity(alloc, len as usize)?;
+    made(text_of_two(alloc, left, right, kind, len as usize))
+}
+
+/// The same, in a string that has room for so many bytes at first.
+fn text_of_two(
+    alloc: Global,
+    left: &Piece<'_>,
+    right: &Piece<'_>,
+    kind: Kind,
+    room: usize,
+) -> Result<Value, NoMemory>
+    ensures { IfOk result (λ v. view v ≡ of_kind kind (written left.now ++ written right.now)) }
+{
+    let mut text = String::with_capacity(alloc, room)?;
     left.write(&mut text)?;
     right.write(&mut text)?;
-    Ok(kind.value(text)?)
+    kind.value(text)
 }
 
 /// The text of one piece.
@@ -111,9 +124,16 @@ pub fn alone(alloc: Global, piece: &Piece<'_>, kind: Kind, limits: Limits) -> Re
 {
     let len = piece.len();
     allow(len.saturating_add(1), 0, limits)?;
-    let mut text = String::with_capacity(alloc, len as usize)?;
+    made(text_of_one(alloc, piece, kind, len as usize))
+}
+
+/// The same, in a string that has room for so many bytes at first.
+fn text_of_one(alloc: Global, piece: &Piece<'_>, kind: Kind, room: usize) -> Result<Value, NoMemory>
+    ensures { IfOk result (λ v. view v ≡ of_kind kind (written piece.now)) }
+{
+    let mut text = String::with_capacity(alloc, room)?;
     piece.write(&mut text)?;
-    Ok(kind.value(text)?)
+    kind.value(text)
 }
 
 /// A text, repeated; nothing for 0 and below.
@@ -131,7 +151,7 @@ pub(crate) fn repeated(
     let count = repetitions(text, number);
     let len = (text.len() as u64).saturating_mul(count);
     allow(len.saturating_add(1), 0, limits)?;
-    Ok(kind.value(repetition(alloc, text, count, len as usize)?)?)
+    made(repetition(alloc, text, count, kind, len as usize))
 }
 
 /// How often a text is to be written for a number of repetitions: an empty one never.
@@ -149,12 +169,18 @@ fn repetitions(text: &str, number: i64) -> u64
 
 /// A text, so many times, in a string that has room for so many bytes at first.
 #[tactic(auto, using(crate::proofs::Loops::repeat_more))]
-fn repetition(alloc: Global, text: &str, count: u64, room: usize) -> Result<String, NoMemory>
-    ensures { IfOk result (λ s. string_bytes s ≡ repeat count text.now) }
+fn repetition(
+    alloc: Global,
+    text: &str,
+    count: u64,
+    kind: Kind,
+    room: usize,
+) -> Result<Value, NoMemory>
+    ensures { IfOk result (λ v. view v ≡ of_kind kind (repeat count text.now)) }
 {
     let mut repeated = String::with_capacity(alloc, room)?;
     for _ in 0..count {
         repeated.push_str(text)?;
     }
-    Ok(repeated)
+    kind.value(repeated)
 }
