@@ -10,3 +10,5 @@ pub mod Sinking
 pub mod AtOnce
 pub mod Stacking
 pub mod Spreading
+pub mod Holding
+pub mod Weighing

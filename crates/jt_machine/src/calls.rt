@@ -1,11 +1,11 @@
 //! Calls, and how they come back.
-ghost use Rattle.std.specs.Prelude.{◌≡◌, ◌≢◌, ◌+◌, ◌<◌, ◌≤◌, ◌^◌, Option, IfOk, length};
+ghost use Rattle.std.specs.Prelude.{◌≡◌, ◌≢◌, ◌+◌, ◌<◌, ◌≤◌, ◌^◌, Option, IfOk, OnErr, length};
 ghost use Rattle.jt_image.specs.Code.{Section};
 ghost use Rattle.jt_image.specs.IsCode.{IsCode};
 ghost use Rattle.jt_image.specs.Step.{locals_of};
 ghost use Rattle.jt_image.specs.Run.{Wrong};
 ghost use Rattle.jt_machine.specs.Entries.{values_view};
-ghost use Rattle.jt_machine.specs.Parts.{call as call_next, return_from, went_back, back_with};
+ghost use Rattle.jt_machine.specs.Parts.{call as call_next, return_from, went_back, back_with, GoesOn};
 ghost use Rattle.jt_machine.specs.StackView.{caller_view};
 ghost use Rattle.jt_machine.specs.View.{config_view, next_view, given_view};
 
@@ -45,19 +45,22 @@ pub(crate) fn call<C: Code>(
     requires whole { IsCode (C.code code.now) }
     requires not_wrong { call_next (C.code code.now) unit (config_view state.old) ≢ Wrong }
     requires room { state.old.point + 1 < 2 ^ 64 }
-    ensures { IfOk result
+    ensures next { IfOk result
         (λ r. call_next (C.code code.now) unit (config_view state.old) ≡ next_view r state.new) }
+    // Only a call that begins takes memory.
+    ensures memory { OnErr result
+        (GoesOn (call_next (C.code code.now) unit (config_view state.old))) }
 {
     let Some(header) = code.unit(unit as usize) else {
         unreachable!()
     };
-    let arguments = take_values(alloc, &mut state.stack, usize::from(header.parameters))?;
     if let Some(outcome) = pay(state, 1) {
         return Ok(Some(outcome));
     }
     if let Err(spent) = state.left.enter() {
         return Ok(Some(Outcome::Spent(spent)));
     }
+    let arguments = take_values(alloc, &mut state.stack, usize::from(header.parameters))?;
     let locals = locals_with(arguments, header.locals)?;
     let around = mem::replace(&mut state.locals, locals);
     state.stack.enter(state.unit, state.point + 1, around)?;

@@ -12,6 +12,7 @@ mod loops;
 mod machine;
 mod making;
 mod maps;
+mod measure;
 mod outcome;
 mod parts;
 mod runs;

@@ -1,20 +1,26 @@
 //! Instructions that make one value of several.
-ghost use Rattle.std.specs.Prelude.{◌≡◌, ◌≢◌, ◌≤◌, ◌+◌, ◌*◌, ◌-◌, ◌/◌, ◌<◌, ◌^◌, ◌∷◌, [], min, length, map, option_map, List, Result, Some, None, IfOk};
-ghost use Rattle.jt_value.specs.Tree.{Tree, items_size};
-ghost use Rattle.jt_value.specs.View.{view, items_view};
+ghost use Rattle.std.specs.Prelude.{◌≡◌, ◌≢◌, ◌≤◌, ◌+◌, ◌*◌, ◌-◌, ◌/◌, ◌<◌, ◌^◌, ◌∷◌, [], true, length, map, nat_le, take, List, Result, Some, None, IfOk, OnErr};
+ghost use Rattle.jt_value.specs.Tree as tree;
+ghost use Rattle.jt_value.specs.Tree.{Tree};
+ghost use Rattle.jt_value.specs.View.{view};
 ghost use Rattle.jt_value.specs.declared.fault.Fault.{Fault};
 ghost use Rattle.jt_ops.specs.Limited.{limited, limited_by, Answers};
 ghost use Rattle.jt_ops.specs.Operation.{operation};
 ghost use Rattle.jt_ops.specs.OpTable.{op_operands};
+ghost use Rattle.jt_ops.specs.Testing.{as_answer, tested as tested_of};
+ghost use Rattle.jt_ops.specs.TestTable.{test_values};
+ghost use Rattle.jt_filters.specs.Filtering.{filtered as filtered_of};
 ghost use Rattle.jt_filters.specs.FilterTable.{least_values, most_values};
 ghost use Rattle.jt_image.specs.Ids.{operator_of, filter_of, test_of};
 ghost use Rattle.jt_image.specs.Step.{listed, mapped};
 ghost use Rattle.jt_image.specs.Run.{Wrong, limit_of};
-ghost use Rattle.jt_machine.specs.Parts.{make, operate as operate_next, apply_filter as filter_next, apply_test as test_next, answering, push as pushes, step_on as steps_on};
-ghost use Rattle.jt_machine.specs.View.{budget_view, config_view, next_view, values_on, HasValues, AreSized, AreFew};
-ghost use Rattle.jt_machine.specs.Making.{makes_with, Answered, AreMany};
+ghost use Rattle.jt_machine.specs.Activations.{with_running};
+ghost use Rattle.jt_machine.specs.Parts.{make, made, operate as operate_next, apply_filter as filter_next, apply_test as test_next, answering, push as pushes, step_on as steps_on, values_at, below, GoesOn};
+ghost use Rattle.jt_machine.specs.View.{budget_view, config_view, next_view, continues, values_on, HasValues, AreSized, AreFew};
 
-use crate::maps::map_of;
+use crate::limits::list_limit;
+use crate::maps::{map_of, map_refusal};
+use crate::measure::sizes;
 use crate::outcome::Outcome;
 use crate::parts::{pay, push, push_fitting};
 use crate::stack::Stack;
@@ -23,15 +29,9 @@ use jt_budget::{Budget, Spent};
 use jt_filters::{
     FilterId, Limits, OpError, OpId, TestId, apply, binary_owned, range, test, unary,
 };
-use jt_value::{NoMemory, Value, ValueError};
+use jt_value::{NoMemory, Value};
 use std::alloc::Global;
-
-// The values that an instruction took and paid for, or how the run ends.
-#[derive(Drop)]
-enum Taken {
-    Paid(Vec<Value>),
-    Unpaid(Outcome),
-}
+use std::array::from_fn;
 
 // Takes that many values from the top, the deepest first.
 pub(crate) fn take_values(
@@ -52,34 +52,19 @@ pub(crate) fn take_values(
     Ok(values)
 }
 
-// The sizes of values added up, or the greatest number where the sum is greater.
-fn sizes(values: &[Value]) -> u64
-    ensures { result ≡ min (items_size (items_view values.now)) (2 ^ 64 - 1) }
-{
-    let mut total = 0u64;
-    'values: for value in values {
-        total = total.saturating_add(value.size());
-    }
-    total
-}
-
-// Takes that many values and pays for their sizes.
-fn take_paid(alloc: Global, state: &mut State, count: usize) -> Result<Taken, NoMemory>
+// Takes the cost of an instruction that reads that many values at the top whole, or says that it does not suffice. The values stay.
+fn pay_values(state: &mut State, count: usize) -> Option<Outcome>
     requires has { HasValues count state.old.stack.running }
     requires sized { AreSized state.old }
     requires few { AreFew state.old }
-    ensures next { IfOk result (λ o. (f : List Tree → Result Tree Fault)
-        → make count f (config_view state.old) ≡ makes_with f o state.new) }
-    ensures many { IfOk result (λ o. AreMany count o) }
-    ensures point { state.new.point ≡ state.old.point }
+    ensures rest { (f : List Tree → Result Tree Fault)
+        → make count f (config_view state.old) ≡ continues result state.new (made count f) }
+    ensures same { state.new ≡ record state.old { left = state.new.left } }
 {
     // Only read, so that the limit is known to have 32 bits: the sum of the sizes is then what it is.
     let _size = state.left.size;
-    let values = take_values(alloc, &mut state.stack, count)?;
-    if let Some(outcome) = pay(state, 1 + sizes(&values) / 64) {
-        return Ok(Taken::Unpaid(outcome));
-    }
-    Ok(Taken::Paid(values))
+    let total = sizes(state.stack.top_entries(count));
+    pay(state, 1 + total / 64)
 }
 
 // Puts what an operation gave on top and goes on, or says how the run ends.
@@ -89,10 +74,13 @@ fn push_answer(
 ) -> Result<Option<Outcome>, NoMemory>
     requires room { state.old.point + 1 < 2 ^ 64 }
     requires fits { IfOk answer (λ v. limit_of (budget_view state.old.left) (view v) ≡ None) }
-    ensures { (r : Result Tree Fault)
-        → Answered answer (limited state.old.left.size state.old.left.nesting r)
+    ensures next { (r : Result Tree Fault)
+        → Answers answer (limited state.old.left.size state.old.left.nesting r)
         → IfOk result (λ o.
         answering r (λ t. pushes t (config_view state.old) steps_on) ≡ next_view o state.new) }
+    ensures memory { (r : Result Tree Fault)
+        → Answers answer (limited state.old.left.size state.old.left.nesting r)
+        → OnErr result (GoesOn (answering r (λ t. pushes t (config_view state.old) steps_on))) }
 {
     match answer {
         Ok(value) => push_fitting(state, value),
@@ -103,35 +91,63 @@ fn push_answer(
     }
 }
 
-// What an operator gives on its operands, the left one first.
+// Takes the value at the top.
+fn pop_one(stack: &mut Stack) -> Value
+    requires { HasValues 1 stack.old.running }
+    ensures values { values_at 1 stack.old.running ≡ view result ∷ [] }
+    ensures taken { stack.new ≡ with_running (below 1 stack.old.running) stack.old }
+{
+    stack.pop()
+}
+
+// Takes two values from the top, the deeper one first.
+fn pop_two(stack: &mut Stack) -> (Value, Value)
+    requires { HasValues 2 stack.old.running }
+    ensures values { values_at 2 stack.old.running ≡ view result.0 ∷ view result.1 ∷ [] }
+    ensures taken { stack.new ≡ with_running (below 2 stack.old.running) stack.old }
+{
+    let last = stack.pop();
+    let first = stack.pop();
+    (first, last)
+}
+
+// Takes three values from the top, the deepest first.
+fn pop_three(stack: &mut Stack) -> (Value, Value, Value)
+    requires { HasValues 3 stack.old.running }
+    ensures values { values_at 3 stack.old.running
+        ≡ view result.0 ∷ view result.1 ∷ view result.2 ∷ [] }
+    ensures taken { stack.new ≡ with_running (below 3 stack.old.running) stack.old }
+{
+    let last = stack.pop();
+    let second = stack.pop();
+    let first = stack.pop();
+    (first, second, last)
+}
+
+// What an operator gives on its operands, which are taken from the top.
 fn operated(
     alloc: Global,
     operator: OpId,
-    mut operands: Vec<Value>,
+    stack: &mut Stack,
     limits: Limits,
 ) -> Result<Value, OpError>
-    requires { length operands.items ≡ op_operands operator }
-    ensures { Answers result (limited_by limits (operation operator (map view operands.items))) }
+    requires { HasValues (op_operands operator) stack.old.running }
+    ensures answers { Answers result (limited_by limits
+        (operation operator (values_at (op_operands operator) stack.old.running))) }
+    ensures taken { stack.new
+        ≡ with_running (below (op_operands operator) stack.old.running) stack.old }
 {
-    match operands.as_slice() {
-        [operand] => unary(alloc, operator, operand, limits),
-        [_, _] => {
-            let (left, right) = two_of(&mut operands);
-            binary_owned(alloc, operator, left, right, limits)
-        }
-        _ => range(alloc, &operands, limits),
+    let count = operator.operands();
+    if count == 1 {
+        let operand = pop_one(stack);
+        return unary(alloc, operator, &operand, limits);
     }
-}
-
-// Two values, taken out.
-fn two_of(values: &mut Vec<Value>) -> (Value, Value)
-    requires { length values.old.items ≡ 2 }
-    ensures { values.old.items ≡ result.0 ∷ result.1 ∷ [] }
-{
-    match (values.pop(), values.pop()) {
-        (Some(right), Some(left)) => (left, right),
-        _ => unreachable!(),
+    if count == 2 {
+        let (left, right) = pop_two(stack);
+        return binary_owned(alloc, operator, left, right, limits);
     }
+    let (start, stop, step) = pop_three(stack);
+    range(alloc, &[start, stop, step], limits)
 }
 
 // The limits of a budget on values.
@@ -155,18 +171,82 @@ pub(crate) fn operate(
     requires sized { AreSized state.old }
     requires few { AreFew state.old }
     requires room { state.old.point + 1 < 2 ^ 64 }
-    ensures { IfOk result
+    ensures next { IfOk result
         (λ r. operate_next operator (config_view state.old) ≡ next_view r state.new) }
+    // Only a value within the limits takes memory.
+    ensures memory { OnErr result (GoesOn (operate_next operator (config_view state.old))) }
 {
     let Some(operator) = operator_by(operator) else {
         unreachable!()
     };
-    let values = match take_paid(alloc, state, operator.operands())? {
-        Taken::Paid(values) => values,
-        Taken::Unpaid(outcome) => return Ok(Some(outcome)),
-    };
-    let answer = operated(alloc, operator, values, limits_of(&state.left));
+    if let Some(outcome) = pay_values(state, operator.operands()) {
+        return Ok(Some(outcome));
+    }
+    let limits = limits_of(&state.left);
+    let answer = operated(alloc, operator, &mut state.stack, limits);
     push_answer(state, answer)
+}
+
+// What a filter gives on its values, which are taken from the top.
+fn filtered(
+    alloc: Global,
+    filter: FilterId,
+    stack: &mut Stack,
+    count: usize,
+    escaping: bool,
+    limits: Limits,
+) -> Result<Value, OpError>
+    requires has { HasValues count stack.old.running }
+    requires least { nat_le (least_values filter) count ≡ true }
+    requires most { nat_le count (most_values filter) ≡ true }
+    ensures answers { Answers result
+        (limited_by limits (filtered_of filter escaping (values_at count stack.old.running))) }
+    ensures taken { stack.new ≡ with_running (below count stack.old.running) stack.old }
+{
+    if count == 1 {
+        let value = pop_one(stack);
+        return apply(alloc, filter, &[value], escaping, limits);
+    }
+    if count == 2 {
+        let (value, argument) = pop_two(stack);
+        return apply(alloc, filter, &[value, argument], escaping, limits);
+    }
+    filtered_many(alloc, filter, stack, count, escaping, limits)
+}
+
+// The same of any number of values. They stand in a row of as many as a filter can take, so that no memory is taken for them.
+#[inline(never)]
+fn filtered_many(
+    alloc: Global,
+    filter: FilterId,
+    stack: &mut Stack,
+    count: usize,
+    escaping: bool,
+    limits: Limits,
+) -> Result<Value, OpError>
+    requires has { HasValues count stack.old.running }
+    requires least { nat_le (least_values filter) count ≡ true }
+    requires most { nat_le count (most_values filter) ≡ true }
+    ensures answers { Answers result
+        (limited_by limits (filtered_of filter escaping (values_at count stack.old.running))) }
+    ensures taken { stack.new ≡ with_running (below count stack.old.running) stack.old }
+{
+    let mut row: [Value; 255] = from_fn(|_| Value::Undefined);
+    fill_row(stack, &mut row, count);
+    apply(alloc, filter, &row[..count], escaping, limits)
+}
+
+// Takes that many values from the top into the first places of a row, the deepest first.
+fn fill_row(stack: &mut Stack, row: &mut [Value], count: usize)
+    requires has { HasValues count stack.old.running }
+    requires room { count ≤ length row.old }
+    ensures values { map view (take count row.new) ≡ values_at count stack.old.running }
+    ensures taken { stack.new ≡ with_running (below count stack.old.running) stack.old }
+    ensures len { length row.new ≡ length row.old }
+{
+    'values: for taken in 0..count {
+        row[count - 1 - taken] = stack.pop();
+    }
 }
 
 /// Takes that many values, the input deepest, and puts what a filter gives on them in their place. Flag 1 says that it
@@ -182,23 +262,39 @@ pub(crate) fn apply_filter(
     requires sized { AreSized state.old }
     requires few { AreFew state.old }
     requires room { state.old.point + 1 < 2 ^ 64 }
-    ensures { IfOk result
+    ensures next { IfOk result
         (λ r. filter_next id count flag (config_view state.old) ≡ next_view r state.new) }
+    // Only a value within the limits takes memory.
+    ensures memory { OnErr result (GoesOn (filter_next id count flag (config_view state.old))) }
 {
     let Some(filter) = filter_by(id) else {
         unreachable!()
     };
-    let values = match take_paid(alloc, state, count)? {
-        Taken::Paid(values) => values,
-        Taken::Unpaid(outcome) => return Ok(Some(outcome)),
-    };
-    let answer = apply(alloc, filter, &values, flag == 1, limits_of(&state.left));
+    if let Some(outcome) = pay_values(state, count) {
+        return Ok(Some(outcome));
+    }
+    let limits = limits_of(&state.left);
+    let answer = filtered(alloc, filter, &mut state.stack, count, flag == 1, limits);
     push_answer(state, answer)
+}
+
+// Whether a test holds of its values, which are taken from the top.
+fn tested(id: TestId, stack: &mut Stack, count: usize) -> Result<bool, OpError>
+    requires has { HasValues count stack.old.running }
+    requires many { count ≡ test_values id }
+    ensures answer { result ≡ as_answer (tested_of id (values_at count stack.old.running)) }
+    ensures taken { stack.new ≡ with_running (below count stack.old.running) stack.old }
+{
+    if count == 1 {
+        let value = pop_one(stack);
+        return test(id, &[value]);
+    }
+    let (value, argument) = pop_two(stack);
+    test(id, &[value, argument])
 }
 
 /// Takes that many values, the tested one deepest, and puts whether the test holds in their place.
 pub(crate) fn apply_test(
-    alloc: Global,
     state: &mut State,
     id: u8,
     count: usize,
@@ -207,17 +303,17 @@ pub(crate) fn apply_test(
     requires sized { AreSized state.old }
     requires few { AreFew state.old }
     requires room { state.old.point + 1 < 2 ^ 64 }
-    ensures { IfOk result
+    ensures next { IfOk result
         (λ r. test_next id count (config_view state.old) ≡ next_view r state.new) }
+    ensures memory { OnErr result (GoesOn (test_next id count (config_view state.old))) }
 {
     let Some(id) = test_by(id) else {
         unreachable!()
     };
-    let values = match take_paid(alloc, state, count)? {
-        Taken::Paid(values) => values,
-        Taken::Unpaid(outcome) => return Ok(Some(outcome)),
-    };
-    match test(id, &values) {
+    if let Some(outcome) = pay_values(state, count) {
+        return Ok(Some(outcome));
+    }
+    match tested(id, &mut state.stack, count) {
         Ok(truth) => push(state, Value::Bool(truth)),
         Err(error) => push_answer(state, Err(error)),
     }
@@ -233,12 +329,20 @@ pub(crate) fn make_list(
     requires sized { AreSized state.old }
     requires few { AreFew state.old }
     requires room { state.old.point + 1 < 2 ^ 64 }
-    ensures { IfOk result (λ r. make count listed (config_view state.old) ≡ next_view r state.new) }
+    ensures next { IfOk result
+        (λ r. make count listed (config_view state.old) ≡ next_view r state.new) }
+    // Only a list within the limits takes memory.
+    ensures memory { OnErr result (GoesOn (make count listed (config_view state.old))) }
 {
-    match take_paid(alloc, state, count)? {
-        Taken::Paid(values) => push(state, Value::list(alloc, values)?),
-        Taken::Unpaid(outcome) => Ok(Some(outcome)),
+    if let Some(outcome) = pay_values(state, count) {
+        return Ok(Some(outcome));
     }
+    if let Some(spent) = list_limit(state.stack.top_entries(count), &state.left) {
+        return Ok(Some(Outcome::Spent(spent)));
+    }
+    let values = take_values(alloc, &mut state.stack, count)?;
+    let list = Value::list(alloc, values)?;
+    push_fitting(state, list)
 }
 
 /// Takes that many keys and values in turn and puts their map in their place.
@@ -251,17 +355,20 @@ pub(crate) fn make_map(
     requires sized { AreSized state.old }
     requires few { AreFew state.old }
     requires room { state.old.point + 1 < 2 ^ 64 }
-    ensures { IfOk result (λ r. make count mapped (config_view state.old) ≡ next_view r state.new) }
+    ensures next { IfOk result
+        (λ r. make count mapped (config_view state.old) ≡ next_view r state.new) }
+    // Only a map within the limits takes memory.
+    ensures memory { OnErr result (GoesOn (make count mapped (config_view state.old))) }
 {
-    let values = match take_paid(alloc, state, count)? {
-        Taken::Paid(values) => values,
-        Taken::Unpaid(outcome) => return Ok(Some(outcome)),
-    };
-    match map_of(alloc, values) {
-        Ok(map) => push(state, map),
-        Err(ValueError::Fault(fault)) => Ok(Some(Outcome::Fault(fault))),
-        Err(ValueError::NoMemory) => Err(NoMemory),
+    if let Some(outcome) = pay_values(state, count) {
+        return Ok(Some(outcome));
     }
+    if let Some(outcome) = map_refusal(state.stack.top_entries(count), &state.left) {
+        return Ok(Some(outcome));
+    }
+    let values = take_values(alloc, &mut state.stack, count)?;
+    let map = map_of(alloc, values)?;
+    push_fitting(state, map)
 }
 
 // The operator of an id.

@@ -1,26 +1,49 @@
 //! Maps of keys and values in turn.
-ghost use Rattle.std.specs.Prelude.{◌≡◌, ◌<◌, ◌∷◌, [], true, length, map, reverse, List, IfOk, IfSome, IfNone, OnOk, string_bytes};
+ghost use Rattle.std.specs.Prelude.{◌≡◌, ◌<◌, ◌∷◌, [], true, length, map, reverse, List, Ok, IfOk, IfSome, IfNone, OnOk, string_bytes};
 ghost use Rattle.std.specs.List.{list_all};
 ghost use Rattle.jt_value.specs.Tree.{Tree, Entries, no_entries};
 ghost use Rattle.jt_value.specs.View.{view, entries_view};
 ghost use Rattle.jt_ops.specs.Testing.{is_text};
-ghost use Rattle.jt_escape.specs.Joining.{IsAnswer};
+ghost use Rattle.jt_image.specs.Config.{Config};
 ghost use Rattle.jt_image.specs.Step.{mapped, keys_of, key_bytes, put_entry, put_entries};
-ghost use Rattle.jt_machine.specs.Making.{key_fault as key_fault_of, keys_fault as keys_fault_of, first_fault as first_fault_of, upward, HasTextKeys};
+ghost use Rattle.jt_image.specs.Run.{Ends};
+ghost use Rattle.jt_machine.specs.Entries.{entry_view, held, all_held};
+ghost use Rattle.jt_machine.specs.Making.{key_fault as key_fault_of, keys_fault as keys_fault_of, first_fault as first_fault_of, upward, HasTextKeys, IsWithin};
+ghost use Rattle.jt_machine.specs.Parts.{answering, push as pushes, step_on as steps_on};
+ghost use Rattle.jt_machine.specs.View.{budget_view, outcome_view};
 
+use crate::entries::Entry;
+use crate::limits::map_limit;
+use crate::outcome::Outcome;
 use indexmap::IndexMap;
-use jt_value::{Fault, NoMemory, Value, ValueError};
+use jt_budget::Budget;
+use jt_value::{Fault, NoMemory, Value};
 use std::alloc::Global;
 
-/// The map of keys and values in turn. A key that is there keeps its place and takes the later value.
-pub(crate) fn map_of(alloc: Global, values: Vec<Value>) -> Result<Value, ValueError>
-    ensures { IsAnswer (mapped (map view values.items)) result }
+/// The map of keys and values in turn, where each key is a text. A key that is there keeps its place and takes the later value.
+pub(crate) fn map_of(alloc: Global, values: Vec<Value>) -> Result<Value, NoMemory>
+    requires { list_all is_text (keys_of (map view values.items)) ≡ true }
+    ensures { IfOk result (λ v. mapped (map view values.items) ≡ Ok (view v)) }
 {
-    if let Some(fault) = keys_fault(&values) {
-        return Err(ValueError::Fault(fault));
-    }
     let entries = entries_of(alloc, values)?;
-    Ok(Value::map(alloc, entries)?)
+    Value::map(alloc, entries)
+}
+
+/// How the run ends where keys and values in turn give no map within the limits. Nothing is built.
+pub(crate) fn map_refusal(pairs: &[Entry], budget: &Budget) -> Option<Outcome>
+    ensures ends { IfSome result (λ o. (c : Config)
+        → c.left ≡ budget_view budget.now
+        → answering (mapped (all_held pairs.now)) (λ t. pushes t c steps_on)
+        ≡ Ends (outcome_view o)) }
+    ensures fits { IfNone result (IsWithin (budget_view budget.now) (mapped (all_held pairs.now))) }
+{
+    if let Some(fault) = keys_fault(pairs) {
+        return Some(Outcome::Fault(fault));
+    }
+    match map_limit(pairs, budget) {
+        Some(spent) => Some(Outcome::Spent(spent)),
+        None => None,
+    }
 }
 
 // The fault of a key: one that is no text has one.
@@ -45,14 +68,25 @@ fn first_fault(one: Option<Fault>, other: Option<Fault>) -> Option<Fault>
     }
 }
 
-// The fault of the keys, where keys and values stand in turn.
-fn keys_fault(values: &[Value]) -> Option<Fault>
-    ensures { result ≡ keys_fault_of (map view values.now) }
+// The fault of the key that an entry holds.
+fn held_fault(key: &Entry) -> Option<Fault>
+    ensures { result ≡ key_fault_of (held (entry_view key.now)) }
 {
-    match values {
+    match key {
+        Entry::Value(key) => key_fault(key),
+        Entry::Frame(_) => Some(Fault::Undefined),
+        Entry::Capture => Some(Fault::Undefined),
+    }
+}
+
+// The fault of the keys, where keys and values stand in turn.
+fn keys_fault(pairs: &[Entry]) -> Option<Fault>
+    ensures { result ≡ keys_fault_of (all_held pairs.now) }
+{
+    match pairs {
         [] => None,
-        [key] => key_fault(key),
-        [key, _, behind @ ..] => first_fault(key_fault(key), keys_fault(behind)),
+        [key] => held_fault(key),
+        [key, _, behind @ ..] => first_fault(held_fault(key), keys_fault(behind)),
     }
 }
 

@@ -5,45 +5,75 @@ use Rattle.jt_value.specs.View.{view}
 use Rattle.jt_image.specs.Code.{Section}
 use Rattle.jt_image.specs.declared.code.UnitHeader.{UnitHeader}
 use Rattle.jt_image.specs.Config as config
-use Rattle.jt_image.specs.Config.{Config}
-use Rattle.jt_image.specs.Step.{entered, locals_of}
-use Rattle.jt_image.specs.Run.{Next, Goes, Ends}
+use Rattle.jt_image.specs.Step.{locals_of}
+use Rattle.jt_image.specs.Run.{Ends}
+use Rattle.jt_machine.specs.declared.state.State.{State}
 use Rattle.jt_machine.specs.Parts.{enter, call_section}
 use Rattle.jt_machine.specs.Entries.{values_view}
 use Rattle.jt_machine.specs.View.{config_view, limit_view}
-use Rattle.jt_machine.proofs.Taking.{called_is, call_values, call_gives, not_entered, has_entered, section_at, taken_count}
+use Rattle.jt_machine.proofs.Pieces.{on_err}
+use Rattle.jt_machine.proofs.Taking.{called, called_is, call_values, call_pays, not_entered, has_entered, section_at, taken_count, values_are, has_same}
 use Rattle.jt_machine.proofs.calls.call.Goals as goal
+
+pub returns-in-Some-pay-clause-next : goal.returns-in-Some-pay-clause-next
+returns-in-Some-pay-clause-next g c =
+    let k = g.C.Code.code c.args.code.now in
+    let x = called_is (slice_get k.units c.args.unit) c.in-Some.header c.in-Some.ensures in
+    let there = call_values c.args.unit x.0 (config_view c.args.state.now) (rw x.1 at c.requires.not_wrong) in
+    ap (λ (o : Option Section). call_section c.args.unit o (config_view c.args.state.now)) x.1
+    ∙ call_pays c.args.unit x.0 (config_view c.args.state.now) there ∙ c.in-Some-pay.ensures.rest (λ e. enter e (called c.args.unit x.0))
+
+pub returns-in-Err-clause-next : goal.returns-in-Err-clause-next
+returns-in-Err-clause-next g c =
+    let k = g.C.Code.code c.args.code.now in
+    let x = called_is (slice_get k.units c.args.unit) c.in-Some.header c.in-Some.ensures in
+    let there = call_values c.args.unit x.0 (config_view c.args.state.now) (rw x.1 at c.requires.not_wrong) in
+    ap (λ (o : Option Section). call_section c.args.unit o (config_view c.args.state.now)) x.1
+    ∙ call_pays c.args.unit x.0 (config_view c.args.state.now) there
+    ∙ c.in_default-pay.ensures.rest (λ e. enter e (called c.args.unit x.0))
+    ∙ not_entered (config_view c.pay.new.state) (called c.args.unit x.0) c.in-Err.ensures.err.1
+    ∙ ap (λ s. Ends (config.spent (limit_view s))) (sym c.in-Err.ensures.err.0)
 
 pub take_values-requires : goal.take_values-requires
 take_values-requires g c =
     let k = g.C.Code.code c.args.code.now in
     let x = called_is (slice_get k.units c.args.unit) c.in-Some.header c.in-Some.ensures in
     let n : c.from.result ≡ x.0.parameters = c.from.ensures ∙ ap (λ (h : UnitHeader). h.parameters) x.2 in
-    let here = rw x.1 at c.requires.not_wrong in
-    rw n (call_values c.args.unit x.0 (config_view c.args.state.now) here)
+    let there = call_values c.args.unit x.0 (config_view c.args.state.now) (rw x.1 at c.requires.not_wrong) in
+    rw n (has_same x.0.parameters c.pay.new.state.stack.running c.args.state.now.stack.running (ap (λ (s : State). s.stack.running) c.in_default-pay.ensures.same) there)
 
-pub returns-in-Some-pay : goal.returns-in-Some-pay
-returns-in-Some-pay g c =
+pub returns-in_err-arguments-clause-memory : goal.returns-in_err-arguments-clause-memory
+returns-in_err-arguments-clause-memory g c =
     let k = g.C.Code.code c.args.code.now in
     let x = called_is (slice_get k.units c.args.unit) c.in-Some.header c.in-Some.ensures in
-    let n : c.from.result ≡ x.0.parameters = c.from.ensures ∙ ap (λ (h : UnitHeader). h.parameters) x.2 in
-    let taken = rw n at c.in_ok-arguments.ensures.taken in
-    ap (λ (o : Option Section). call_section c.args.unit o (config_view c.args.state.now)) x.1
-    ∙ call_gives c.args.unit x.0 (config_view c.args.state.now) (map view c.in_ok-arguments.arguments.items) c.take_values.new.stack.running taken
-    ∙ (rw c.in_ok-arguments.ensures.callers at (c.in-Some-pay.ensures.rest (λ e. enter e (λ f. Goes (record f { machine = entered c.args.unit x.0 (map view c.in_ok-arguments.arguments.items) f.machine.state.entries f.machine })))))
+    let there = call_values c.args.unit x.0 (config_view c.args.state.now) (rw x.1 at c.requires.not_wrong) in
+    let e = ap (λ (o : Option Section). call_section c.args.unit o (config_view c.args.state.now)) x.1
+    ∙ call_pays c.args.unit x.0 (config_view c.args.state.now) there
+    ∙ c.in_default-pay.ensures.rest (λ e. enter e (called c.args.unit x.0))
+    ∙ has_entered (config_view c.pay.new.state) (called c.args.unit x.0) c.in_default-enter.ensures.ok.0 in
+    on_err c.from_residual.result (rw e tt)
 
-pub returns-in-Err : goal.returns-in-Err
-returns-in-Err g c =
+pub returns-in_err-locals-clause-memory : goal.returns-in_err-locals-clause-memory
+returns-in_err-locals-clause-memory g c =
     let k = g.C.Code.code c.args.code.now in
     let x = called_is (slice_get k.units c.args.unit) c.in-Some.header c.in-Some.ensures in
-    let n : c.from.result ≡ x.0.parameters = c.from.ensures ∙ ap (λ (h : UnitHeader). h.parameters) x.2 in
-    let taken = rw n at c.in_ok-arguments.ensures.taken in
-    let go : Config → Next = λ f. Goes (record f { machine = entered c.args.unit x.0 (map view c.in_ok-arguments.arguments.items) f.machine.state.entries f.machine }) in
-    ap (λ (o : Option Section). call_section c.args.unit o (config_view c.args.state.now)) x.1
-    ∙ call_gives c.args.unit x.0 (config_view c.args.state.now) (map view c.in_ok-arguments.arguments.items) c.take_values.new.stack.running taken
-    ∙ (rw c.in_ok-arguments.ensures.callers at (c.in_default-pay.ensures.rest (λ e. enter e go)))
-    ∙ not_entered (config_view c.pay.new.state) go c.in-Err.ensures.err.1
-    ∙ ap (λ s. Ends (config.spent (limit_view s))) (sym c.in-Err.ensures.err.0)
+    let there = call_values c.args.unit x.0 (config_view c.args.state.now) (rw x.1 at c.requires.not_wrong) in
+    let e = ap (λ (o : Option Section). call_section c.args.unit o (config_view c.args.state.now)) x.1
+    ∙ call_pays c.args.unit x.0 (config_view c.args.state.now) there
+    ∙ c.in_default-pay.ensures.rest (λ e. enter e (called c.args.unit x.0))
+    ∙ has_entered (config_view c.pay.new.state) (called c.args.unit x.0) c.in_default-enter.ensures.ok.0 in
+    on_err c.from_residual-in_err-locals.result (rw e tt)
+
+pub returns-in_err-enter-clause-memory : goal.returns-in_err-enter-clause-memory
+returns-in_err-enter-clause-memory g c =
+    let k = g.C.Code.code c.args.code.now in
+    let x = called_is (slice_get k.units c.args.unit) c.in-Some.header c.in-Some.ensures in
+    let there = call_values c.args.unit x.0 (config_view c.args.state.now) (rw x.1 at c.requires.not_wrong) in
+    let e = ap (λ (o : Option Section). call_section c.args.unit o (config_view c.args.state.now)) x.1
+    ∙ call_pays c.args.unit x.0 (config_view c.args.state.now) there
+    ∙ c.in_default-pay.ensures.rest (λ e. enter e (called c.args.unit x.0))
+    ∙ has_entered (config_view c.pay.new.state) (called c.args.unit x.0) c.in_default-enter.ensures.ok.0 in
+    on_err c.from_residual-in_err-enter.result (rw e tt)
 
 pub locals_with-requires : goal.locals_with-requires
 locals_with-requires g c =
@@ -51,22 +81,23 @@ locals_with-requires g c =
     let x = called_is (slice_get k.units c.args.unit) c.in-Some.header c.in-Some.ensures in
     let n : c.from.result ≡ x.0.parameters = c.from.ensures ∙ ap (λ (h : UnitHeader). h.parameters) x.2 in
     let taken = rw n at c.in_ok-arguments.ensures.taken in
-    let many = taken_count x.0.parameters [] c.args.state.now.stack.running (map view c.in_ok-arguments.arguments.items) c.take_values.new.stack.running taken in
+    let many = taken_count x.0.parameters [] c.pay.new.state.stack.running (map view c.in_ok-arguments.arguments.items) c.take_values.new.stack.running taken in
     let section = section_at k.units c.args.unit x.0 c.requires.whole.units x.1 in
     omega (arith, many, section.within, length-map c.in_ok-arguments.arguments.items view, ap (λ (h : UnitHeader). h.locals) x.2)
 
-pub returns : goal.returns
-returns g c =
+pub returns-clause-next : goal.returns-clause-next
+returns-clause-next g c =
     let k = g.C.Code.code c.args.code.now in
     let x = called_is (slice_get k.units c.args.unit) c.in-Some.header c.in-Some.ensures in
+    let there = call_values c.args.unit x.0 (config_view c.args.state.now) (rw x.1 at c.requires.not_wrong) in
     let n : c.from.result ≡ x.0.parameters = c.from.ensures ∙ ap (λ (h : UnitHeader). h.parameters) x.2 in
-    let taken = rw n at c.in_ok-arguments.ensures.taken in
     let us = map view c.in_ok-arguments.arguments.items in
-    let go : Config → Next = λ f. Goes (record f { machine = entered c.args.unit x.0 us f.machine.state.entries f.machine }) in
+    let are = values_are x.0.parameters c.pay.new.state.stack.running us c.take_values.new.stack.running (rw n at c.in_ok-arguments.ensures.taken) in
     let m : c.in-Some.header.locals ≡ x.0.locals = ap (λ (h : UnitHeader). h.locals) x.2 in
     let locals : values_view c.in_ok-locals.locals.items ≡ locals_of x.0.locals us = c.in_ok-locals.ensures ∙ ap (λ (z : ℕ). locals_of z us) m in
     let e = ap (λ (o : Option Section). call_section c.args.unit o (config_view c.args.state.now)) x.1
-    ∙ call_gives c.args.unit x.0 (config_view c.args.state.now) us c.take_values.new.stack.running taken
-    ∙ (rw c.in_ok-arguments.ensures.callers at (c.in_default-pay.ensures.rest (λ e. enter e go)))
-    ∙ has_entered (config_view c.pay.new.state) go c.in_default-enter.ensures.ok.0 in
-    rw (c.in_ok-enter.ensures, c.replace-around.ensures.value, c.replace-around.ensures.after, locals, c.in_default-enter.ensures.ok.1) e
+    ∙ call_pays c.args.unit x.0 (config_view c.args.state.now) there
+    ∙ c.in_default-pay.ensures.rest (λ e. enter e (called c.args.unit x.0))
+    ∙ has_entered (config_view c.pay.new.state) (called c.args.unit x.0) c.in_default-enter.ensures.ok.0 in
+    let f = rw (are.0, are.1) at e in
+    rw (c.in_ok-enter.ensures, c.replace-around.ensures.value, c.replace-around.ensures.after, locals, c.in_default-enter.ensures.ok.1, c.in_ok-arguments.ensures.callers) f

@@ -1,45 +1,63 @@
-use Rattle.std.proofs.Common.{◌≡◌, ◌∙◌, map, Some}
+use Rattle.std.proofs.Common.{◌≡◌, ◌∙◌, Some, ap}
 use Rattle.std.specs.Prelude.{◌==◌}
-use Rattle.jt_value.specs.View.{view}
-use Rattle.jt_ops.specs.Limited.{limited}
+use Rattle.jt_ops.specs.Limited.{limited, Answers}
 use Rattle.jt_filters.specs.Filtering.{filtered}
 use Rattle.jt_image.specs.Step.{filtered_by}
-use Rattle.jt_machine.specs.Parts.{apply_filter, answering, push, step_on}
-use Rattle.jt_machine.specs.Making.{Answered}
+use Rattle.jt_machine.specs.declared.state.State.{State}
+use Rattle.jt_machine.specs.Parts.{apply_filter, made, values_at}
 use Rattle.jt_machine.specs.View.{budget_view, config_view}
-use Rattle.jt_machine.proofs.Taking.{makes_of, filter_is, by_operation, answers_fit}
+use Rattle.jt_machine.proofs.Taking.{makes_of, filter_is, answers_fit, has_same}
 use Rattle.jt_machine.proofs.making.apply_filter.Goals as goal
 
-pub take_paid-requires-clause-has : goal.take_paid-requires-clause-has
-take_paid-requires-clause-has c =
+pub pay_values-requires-clause-has : goal.pay_values-requires-clause-has
+pay_values-requires-clause-has c =
     let is = filter_is c.args.id c.args.count c.args.flag c.in-Some.filter (config_view c.args.state.now) c.in-Some.ensures c.requires.not_wrong in
     makes_of c.args.count (filtered_by (Some c.in-Some.filter) (c.args.flag == 1)) (config_view c.args.state.now) (λ w. c.requires.not_wrong (is.makes ∙ w))
 
-pub apply-answer-requires-clause-least : goal.apply-answer-requires-clause-least
-apply-answer-requires-clause-least c =
+pub returns-in-Some-pay_values-clause-next : goal.returns-in-Some-pay_values-clause-next
+returns-in-Some-pay_values-clause-next c =
     let is = filter_is c.args.id c.args.count c.args.flag c.in-Some.filter (config_view c.args.state.now) c.in-Some.ensures c.requires.not_wrong in
-    let many = rw c.in-Paid.is at c.in_ok-values.ensures.many in
-    rw (c.deref.ensures.value, many) is.least
+    is.makes ∙ c.in-Some-pay_values.ensures.rest (filtered_by (Some c.in-Some.filter) (c.args.flag == 1))
 
-pub apply-answer-requires-clause-most : goal.apply-answer-requires-clause-most
-apply-answer-requires-clause-most c =
+pub filtered-answer-requires-clause-has : goal.filtered-answer-requires-clause-has
+filtered-answer-requires-clause-has c =
     let is = filter_is c.args.id c.args.count c.args.flag c.in-Some.filter (config_view c.args.state.now) c.in-Some.ensures c.requires.not_wrong in
-    let many = rw c.in-Paid.is at c.in_ok-values.ensures.many in
-    rw (c.deref.ensures.value, many) is.most
+    let there = makes_of c.args.count (filtered_by (Some c.in-Some.filter) (c.args.flag == 1)) (config_view c.args.state.now) (λ w. c.requires.not_wrong (is.makes ∙ w)) in
+    has_same c.args.count c.pay_values.new.state.stack.running c.args.state.now.stack.running (ap (λ (s : State). s.stack.running) c.in_default-pay_values.ensures.same) there
+
+pub filtered-answer-requires-clause-least : goal.filtered-answer-requires-clause-least
+filtered-answer-requires-clause-least c =
+    (filter_is c.args.id c.args.count c.args.flag c.in-Some.filter (config_view c.args.state.now) c.in-Some.ensures c.requires.not_wrong).least
+
+pub filtered-answer-requires-clause-most : goal.filtered-answer-requires-clause-most
+filtered-answer-requires-clause-most c =
+    (filter_is c.args.id c.args.count c.args.flag c.in-Some.filter (config_view c.args.state.now) c.in-Some.ensures c.requires.not_wrong).most
 
 pub push_answer-requires-clause-fits : goal.push_answer-requires-clause-fits
 push_answer-requires-clause-fits c =
-    let left = c.take_paid.new.state.left in
-    let given = filtered c.in-Some.filter (c.args.flag == 1) (map view c.in-Paid.values.items) in
-    let a : Answered c.apply-answer.result (limited left.size left.nesting given) = by_operation _ _ (rw (c.limits_of.ensures.size, c.limits_of.ensures.nesting, c.deref.ensures.value) at c.apply-answer.ensures) in
-    answers_fit (budget_view left) given c.apply-answer.result a
+    let left = c.pay_values.new.state.left in
+    let given = filtered c.in-Some.filter (c.args.flag == 1) (values_at c.args.count c.pay_values.new.state.stack.running) in
+    let a : Answers c.filtered-answer.result (limited left.size left.nesting given) = rw (c.limits_of-limits.ensures.size, c.limits_of-limits.ensures.nesting) at c.filtered-answer.ensures.answers in
+    answers_fit (budget_view left) given c.filtered-answer.result a
 
-pub returns : goal.returns
-returns c =
-    let left = c.take_paid.new.state.left in
-    let given = filtered c.in-Some.filter (c.args.flag == 1) (map view c.in-Paid.values.items) in
+pub returns-clause-next : goal.returns-clause-next
+returns-clause-next c =
+    let left = c.pay_values.new.state.left in
+    let given = filtered c.in-Some.filter (c.args.flag == 1) (values_at c.args.count c.pay_values.new.state.stack.running) in
     let is = filter_is c.args.id c.args.count c.args.flag c.in-Some.filter (config_view c.args.state.now) c.in-Some.ensures c.requires.not_wrong in
-    let a : Answered c.apply-answer.result (limited left.size left.nesting given) = by_operation _ _ (rw (c.limits_of.ensures.size, c.limits_of.ensures.nesting, c.deref.ensures.value) at c.apply-answer.ensures) in
-    let next = rw c.in-Paid.is at (c.in_ok-values.ensures.next (filtered_by (Some c.in-Some.filter) (c.args.flag == 1))) in
-    let e : apply_filter c.args.id c.args.count c.args.flag (config_view c.args.state.now) ≡ answering given (λ t. push t (config_view c.take_paid.new.state) step_on) = is.makes ∙ next in
-    rw e (c.push_answer.ensures given a)
+    let a : Answers c.filtered-answer.result (limited left.size left.nesting given) = rw (c.limits_of-limits.ensures.size, c.limits_of-limits.ensures.nesting) at c.filtered-answer.ensures.answers in
+    let e : apply_filter c.args.id c.args.count c.args.flag (config_view c.args.state.now) ≡ made c.args.count (filtered_by (Some c.in-Some.filter) (c.args.flag == 1)) (config_view c.pay_values.new.state) =
+    is.makes ∙ c.in_default-pay_values.ensures.rest (filtered_by (Some c.in-Some.filter) (c.args.flag == 1)) in
+    let h = rw c.filtered-answer.ensures.taken at (c.push_answer.ensures.next given a) in
+    rw e h
+
+pub returns-clause-memory : goal.returns-clause-memory
+returns-clause-memory c =
+    let left = c.pay_values.new.state.left in
+    let given = filtered c.in-Some.filter (c.args.flag == 1) (values_at c.args.count c.pay_values.new.state.stack.running) in
+    let is = filter_is c.args.id c.args.count c.args.flag c.in-Some.filter (config_view c.args.state.now) c.in-Some.ensures c.requires.not_wrong in
+    let a : Answers c.filtered-answer.result (limited left.size left.nesting given) = rw (c.limits_of-limits.ensures.size, c.limits_of-limits.ensures.nesting) at c.filtered-answer.ensures.answers in
+    let e : apply_filter c.args.id c.args.count c.args.flag (config_view c.args.state.now) ≡ made c.args.count (filtered_by (Some c.in-Some.filter) (c.args.flag == 1)) (config_view c.pay_values.new.state) =
+    is.makes ∙ c.in_default-pay_values.ensures.rest (filtered_by (Some c.in-Some.filter) (c.args.flag == 1)) in
+    let h = rw c.filtered-answer.ensures.taken at (c.push_answer.ensures.memory given a) in
+    rw e h

@@ -1,32 +1,58 @@
-use Rattle.std.proofs.Common.{◌≡◌, ◌∙◌, map, Some, Err}
-use Rattle.jt_value.specs.View.{view}
-use Rattle.jt_ops.specs.Limited.{limited}
+use Rattle.std.proofs.Common.{◌≡◌, ◌∙◌, Some, Ok, Err, ap, sym}
+use Rattle.jt_ops.specs.Limited.{limited, Answers}
 use Rattle.jt_ops.specs.Operation.{as_truth}
 use Rattle.jt_ops.specs.Testing.{tested}
 use Rattle.jt_image.specs.Step.{tested_by}
-use Rattle.jt_machine.specs.Parts.{apply_test, answering, push, step_on}
-use Rattle.jt_machine.specs.Making.{Answered}
+use Rattle.jt_machine.specs.declared.state.State.{State}
+use Rattle.jt_machine.specs.Parts.{apply_test, made, values_at}
 use Rattle.jt_machine.specs.View.{config_view}
-use Rattle.jt_machine.proofs.Taking.{makes_of, test_is, test_answers}
+use Rattle.jt_machine.proofs.Taking.{makes_of, test_is, test_answers, truth_given, has_same}
 use Rattle.jt_machine.proofs.making.apply_test.Goals as goal
 
-pub take_paid-requires-clause-has : goal.take_paid-requires-clause-has
-take_paid-requires-clause-has c =
+pub pay_values-requires-clause-has : goal.pay_values-requires-clause-has
+pay_values-requires-clause-has c =
     let is = test_is c.args.id c.args.count c.in-Some.id (config_view c.args.state.now) c.in-Some.ensures c.requires.not_wrong in
     makes_of c.args.count (tested_by (Some c.in-Some.id)) (config_view c.args.state.now) (λ w. c.requires.not_wrong (is.1 ∙ w))
 
-pub test-requires : goal.test-requires
-test-requires c =
+pub returns-in-Some-pay_values-clause-next : goal.returns-in-Some-pay_values-clause-next
+returns-in-Some-pay_values-clause-next c =
     let is = test_is c.args.id c.args.count c.in-Some.id (config_view c.args.state.now) c.in-Some.ensures c.requires.not_wrong in
-    let many = rw c.in-Paid.is at c.in_ok-values.ensures.many in
-    rw (c.deref.ensures.value, many) is.0
+    is.1 ∙ c.in-Some-pay_values.ensures.rest (tested_by (Some c.in-Some.id))
 
-pub returns : goal.returns
-returns c =
-    let left = c.take_paid.new.state.left in
-    let truth = tested c.in-Some.id (map view c.in-Paid.values.items) in
+pub tested-requires-clause-has : goal.tested-requires-clause-has
+tested-requires-clause-has c =
     let is = test_is c.args.id c.args.count c.in-Some.id (config_view c.args.state.now) c.in-Some.ensures c.requires.not_wrong in
-    let a : Answered (Err c.in-Err.error) (limited left.size left.nesting (as_truth truth)) = test_answers left.size left.nesting truth c.in-Err.error (rw c.deref.ensures.value at c.in-Err.ensures) in
-    let next = rw c.in-Paid.is at (c.in_ok-values.ensures.next (tested_by (Some c.in-Some.id))) in
-    let e : apply_test c.args.id c.args.count (config_view c.args.state.now) ≡ answering (as_truth truth) (λ t. push t (config_view c.take_paid.new.state) step_on) = is.1 ∙ next in
-    rw e (c.push_answer.ensures (as_truth truth) a)
+    let there = makes_of c.args.count (tested_by (Some c.in-Some.id)) (config_view c.args.state.now) (λ w. c.requires.not_wrong (is.1 ∙ w)) in
+    has_same c.args.count c.pay_values.new.state.stack.running c.args.state.now.stack.running (ap (λ (s : State). s.stack.running) c.in_default-pay_values.ensures.same) there
+
+pub tested-requires-clause-many : goal.tested-requires-clause-many
+tested-requires-clause-many c = (test_is c.args.id c.args.count c.in-Some.id (config_view c.args.state.now) c.in-Some.ensures c.requires.not_wrong).0
+
+pub returns-in-Ok-clause-next : goal.returns-in-Ok-clause-next
+returns-in-Ok-clause-next c =
+    let truth = tested c.in-Some.id (values_at c.args.count c.pay_values.new.state.stack.running) in
+    let is = test_is c.args.id c.args.count c.in-Some.id (config_view c.args.state.now) c.in-Some.ensures c.requires.not_wrong in
+    let e : apply_test c.args.id c.args.count (config_view c.args.state.now) ≡ made c.args.count (tested_by (Some c.in-Some.id)) (config_view c.pay_values.new.state) = is.1 ∙ c.in_default-pay_values.ensures.rest (tested_by (Some c.in-Some.id)) in
+    let given = truth_given c.in-Ok.truth truth c.in-Ok.ensures.answer in
+    let h = rw c.in-Ok.ensures.taken at c.push.ensures.next in
+    rw (e, given) h
+
+pub returns-in-Err-clause-next : goal.returns-in-Err-clause-next
+returns-in-Err-clause-next c =
+    let left = c.pay_values.new.state.left in
+    let truth = tested c.in-Some.id (values_at c.args.count c.pay_values.new.state.stack.running) in
+    let is = test_is c.args.id c.args.count c.in-Some.id (config_view c.args.state.now) c.in-Some.ensures c.requires.not_wrong in
+    let a : Answers (Err c.in-Err.error) (limited left.size left.nesting (as_truth truth)) = test_answers left.size left.nesting truth c.in-Err.error c.in-Err.ensures.answer in
+    let e : apply_test c.args.id c.args.count (config_view c.args.state.now) ≡ made c.args.count (tested_by (Some c.in-Some.id)) (config_view c.pay_values.new.state) = is.1 ∙ c.in_default-pay_values.ensures.rest (tested_by (Some c.in-Some.id)) in
+    let h = rw c.in-Err.ensures.taken at (c.push_answer.ensures.next (as_truth truth) a) in
+    rw e h
+
+pub returns-in-Err-clause-memory : goal.returns-in-Err-clause-memory
+returns-in-Err-clause-memory c =
+    let left = c.pay_values.new.state.left in
+    let truth = tested c.in-Some.id (values_at c.args.count c.pay_values.new.state.stack.running) in
+    let is = test_is c.args.id c.args.count c.in-Some.id (config_view c.args.state.now) c.in-Some.ensures c.requires.not_wrong in
+    let a : Answers (Err c.in-Err.error) (limited left.size left.nesting (as_truth truth)) = test_answers left.size left.nesting truth c.in-Err.error c.in-Err.ensures.answer in
+    let e : apply_test c.args.id c.args.count (config_view c.args.state.now) ≡ made c.args.count (tested_by (Some c.in-Some.id)) (config_view c.pay_values.new.state) = is.1 ∙ c.in_default-pay_values.ensures.rest (tested_by (Some c.in-Some.id)) in
+    let h = rw c.in-Err.ensures.taken at (c.push_answer.ensures.memory (as_truth truth) a) in
+    rw e h

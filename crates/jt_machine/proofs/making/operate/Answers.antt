@@ -1,37 +1,52 @@
-use Rattle.std.proofs.Common.{◌≡◌, ◌∙◌, map, Some}
-use Rattle.jt_value.specs.View.{view}
-use Rattle.jt_ops.specs.Limited.{limited}
+use Rattle.std.proofs.Common.{◌≡◌, ◌∙◌, Some, ap, sym}
+use Rattle.jt_ops.specs.Limited.{limited, Answers}
 use Rattle.jt_ops.specs.Operation.{operation}
 use Rattle.jt_ops.specs.OpTable.{op_operands}
 use Rattle.jt_image.specs.Step.{operated}
-use Rattle.jt_machine.specs.Parts.{operate, answering, push, step_on}
-use Rattle.jt_machine.specs.Making.{Answered}
+use Rattle.jt_machine.specs.declared.state.State.{State}
+use Rattle.jt_machine.specs.Parts.{operate, made, values_at}
 use Rattle.jt_machine.specs.View.{budget_view, config_view}
-use Rattle.jt_machine.proofs.Taking.{makes_of, operate_is, by_operation, answers_fit}
+use Rattle.jt_machine.proofs.Taking.{makes_of, operate_is, answers_fit, has_same}
 use Rattle.jt_machine.proofs.making.operate.Goals as goal
 
-pub take_paid-requires-clause-has : goal.take_paid-requires-clause-has
-take_paid-requires-clause-has c =
+pub pay_values-requires-clause-has : goal.pay_values-requires-clause-has
+pay_values-requires-clause-has c =
     rw c.operands.ensures (makes_of (op_operands c.in-Some.operator) (operated (Some c.in-Some.operator)) (config_view c.args.state.now) (λ w. c.requires.not_wrong (operate_is c.args.operator c.in-Some.operator (config_view c.args.state.now) c.in-Some.ensures ∙ w)))
+
+pub returns-in-Some-pay_values-clause-next : goal.returns-in-Some-pay_values-clause-next
+returns-in-Some-pay_values-clause-next c =
+    operate_is c.args.operator c.in-Some.operator (config_view c.args.state.now) c.in-Some.ensures ∙ (rw c.operands.ensures at (c.in-Some-pay_values.ensures.rest (operated (Some c.in-Some.operator))))
 
 pub operated-answer-requires : goal.operated-answer-requires
 operated-answer-requires c =
-    let many = rw c.in-Paid.is at c.in_ok-values.ensures.many in
-    rw many c.operands.ensures
+    let there = makes_of (op_operands c.in-Some.operator) (operated (Some c.in-Some.operator)) (config_view c.args.state.now) (λ w. c.requires.not_wrong (operate_is c.args.operator c.in-Some.operator (config_view c.args.state.now) c.in-Some.ensures ∙ w)) in
+    has_same (op_operands c.in-Some.operator) c.pay_values.new.state.stack.running c.args.state.now.stack.running (ap (λ (s : State). s.stack.running) c.in_default-pay_values.ensures.same) there
 
 pub push_answer-requires-clause-fits : goal.push_answer-requires-clause-fits
 push_answer-requires-clause-fits c =
-    let left = c.take_paid.new.state.left in
-    let given = operation c.in-Some.operator (map view c.in-Paid.values.items) in
-    let a : Answered c.operated-answer.result (limited left.size left.nesting given) = by_operation _ _ (rw (c.limits_of.ensures.size, c.limits_of.ensures.nesting) at c.operated-answer.ensures) in
+    let left = c.pay_values.new.state.left in
+    let given = operation c.in-Some.operator (values_at (op_operands c.in-Some.operator) c.pay_values.new.state.stack.running) in
+    let a : Answers c.operated-answer.result (limited left.size left.nesting given) = rw (c.limits_of-limits.ensures.size, c.limits_of-limits.ensures.nesting) at c.operated-answer.ensures.answers in
     answers_fit (budget_view left) given c.operated-answer.result a
 
-pub returns : goal.returns
-returns c =
-    let left = c.take_paid.new.state.left in
-    let given = operation c.in-Some.operator (map view c.in-Paid.values.items) in
-    let a : Answered c.operated-answer.result (limited left.size left.nesting given) = by_operation _ _ (rw (c.limits_of.ensures.size, c.limits_of.ensures.nesting) at c.operated-answer.ensures) in
-    let next = rw (c.in-Paid.is, c.operands.ensures) at (c.in_ok-values.ensures.next (operated (Some c.in-Some.operator))) in
-    let e : operate c.args.operator (config_view c.args.state.now) ≡ answering given (λ t. push t (config_view c.take_paid.new.state) step_on) =
+pub returns-clause-next : goal.returns-clause-next
+returns-clause-next c =
+    let left = c.pay_values.new.state.left in
+    let given = operation c.in-Some.operator (values_at (op_operands c.in-Some.operator) c.pay_values.new.state.stack.running) in
+    let a : Answers c.operated-answer.result (limited left.size left.nesting given) = rw (c.limits_of-limits.ensures.size, c.limits_of-limits.ensures.nesting) at c.operated-answer.ensures.answers in
+    let next = rw c.operands.ensures at (c.in_default-pay_values.ensures.rest (operated (Some c.in-Some.operator))) in
+    let e : operate c.args.operator (config_view c.args.state.now) ≡ made (op_operands c.in-Some.operator) (operated (Some c.in-Some.operator)) (config_view c.pay_values.new.state) =
     operate_is c.args.operator c.in-Some.operator (config_view c.args.state.now) c.in-Some.ensures ∙ next in
-    rw e (c.push_answer.ensures given a)
+    let h = rw c.operated-answer.ensures.taken at (c.push_answer.ensures.next given a) in
+    rw e h
+
+pub returns-clause-memory : goal.returns-clause-memory
+returns-clause-memory c =
+    let left = c.pay_values.new.state.left in
+    let given = operation c.in-Some.operator (values_at (op_operands c.in-Some.operator) c.pay_values.new.state.stack.running) in
+    let a : Answers c.operated-answer.result (limited left.size left.nesting given) = rw (c.limits_of-limits.ensures.size, c.limits_of-limits.ensures.nesting) at c.operated-answer.ensures.answers in
+    let next = rw c.operands.ensures at (c.in_default-pay_values.ensures.rest (operated (Some c.in-Some.operator))) in
+    let e : operate c.args.operator (config_view c.args.state.now) ≡ made (op_operands c.in-Some.operator) (operated (Some c.in-Some.operator)) (config_view c.pay_values.new.state) =
+    operate_is c.args.operator c.in-Some.operator (config_view c.args.state.now) c.in-Some.ensures ∙ next in
+    let h = rw c.operated-answer.ensures.taken at (c.push_answer.ensures.memory given a) in
+    rw e h

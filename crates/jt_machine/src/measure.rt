@@ -1,0 +1,121 @@
+//! What values at the top weigh, before a value is made of them.
+ghost use Rattle.std.specs.Prelude.{◌≡◌, ◌-◌, ◌+◌, ◌^◌, ℕ, min, max, length, if◌then◌else◌};
+ghost use Rattle.jt_value.specs.Tree.{size, nesting, items_size, items_nesting};
+ghost use Rattle.jt_value.specs.View.{view, items_of};
+ghost use Rattle.jt_image.specs.Step.{key_bytes};
+ghost use Rattle.jt_machine.specs.Entries.{entry_view, held, all_held};
+ghost use Rattle.jt_machine.specs.Making.{is_named as is_named_in, lasting_size, lasting_nesting};
+
+use crate::entries::Entry;
+use jt_value::Value;
+
+// The size of the value that an entry holds.
+fn held_size(entry: &Entry) -> u64
+    ensures { result ≡ min (size (held (entry_view entry.now))) (2 ^ 64 - 1) }
+{
+    match entry {
+        Entry::Value(value) => value.size(),
+        Entry::Frame(_) => 1,
+        Entry::Capture => 1,
+    }
+}
+
+// The nesting of the value that an entry holds.
+fn held_nesting(entry: &Entry) -> u32
+    ensures { result ≡ min (nesting (held (entry_view entry.now))) (2 ^ 32 - 1) }
+{
+    match entry {
+        Entry::Value(value) => value.nesting(),
+        Entry::Frame(_) => 0,
+        Entry::Capture => 0,
+    }
+}
+
+/// The sizes of the values that entries hold added up, or the greatest number where the sum is greater.
+pub(crate) fn sizes(entries: &[Entry]) -> u64
+    ensures { result ≡ min (items_size (items_of (all_held entries.now))) (2 ^ 64 - 1) }
+{
+    let mut total = 0u64;
+    'entries: for entry in entries {
+        total = total.saturating_add(held_size(entry));
+    }
+    total
+}
+
+/// The greatest nesting of the values that entries hold.
+pub(crate) fn deepest(entries: &[Entry]) -> u32
+    ensures { result ≡ min (items_nesting (items_of (all_held entries.now))) (2 ^ 32 - 1) }
+{
+    let mut most = 0u32;
+    'entries: for entry in entries {
+        most = most.max(held_nesting(entry));
+    }
+    most
+}
+
+// The text of a key.
+fn text_of(value: &Value) -> &str
+    ensures { result.now ≡ key_bytes (view value.now) }
+{
+    match value {
+        Value::Text(text) => text.as_str(),
+        Value::Markup(text) => text.as_str(),
+        _ => "",
+    }
+}
+
+// The text of the key that an entry holds.
+fn key_of(entry: &Entry) -> &str
+    ensures { result.now ≡ key_bytes (held (entry_view entry.now)) }
+{
+    match entry {
+        Entry::Value(value) => text_of(value),
+        Entry::Frame(_) => "",
+        Entry::Capture => "",
+    }
+}
+
+// Whether a key is among keys and values in turn.
+fn is_named(key: &str, pairs: &[Entry]) -> bool
+    ensures { result ≡ is_named_in key.now (all_held pairs.now) }
+{
+    match pairs {
+        [other, _, behind @ ..] => key == key_of(other) || is_named(key, behind),
+        _ => false,
+    }
+}
+
+// What keys and values in turn weigh, with one key and its value more; nothing more where the key is named again.
+fn weighed(key: &Entry, value: &Entry, named: bool, rest: (u64, u32)) -> (u64, u32)
+    ensures size { (n : ℕ)
+        → rest.0 ≡ min n (2 ^ 64 - 1)
+        → result.0 ≡ min (n + (if named then 0 else 1 + length (key_bytes (held (entry_view key.now)))
+        + size (held (entry_view value.now)))) (2 ^ 64 - 1) }
+    ensures nesting { (n : ℕ)
+        → rest.1 ≡ min n (2 ^ 32 - 1)
+        → result.1 ≡ min (max n (if named then 0 else nesting (held (entry_view value.now))))
+        (2 ^ 32 - 1) }
+{
+    if named {
+        return rest;
+    }
+    let weight = held_size(value).saturating_add(1 + key_of(key).len() as u64);
+    (
+        rest.0.saturating_add(weight),
+        rest.1.max(held_nesting(value)),
+    )
+}
+
+/// The size and the nesting that keys and values in turn have as entries of a map, where of a key that is given twice the last value
+/// counts.
+pub(crate) fn lasting(pairs: &[Entry]) -> (u64, u32)
+    ensures size { result.0 ≡ min (lasting_size (all_held pairs.now)) (2 ^ 64 - 1) }
+    ensures nesting { result.1 ≡ min (lasting_nesting (all_held pairs.now)) (2 ^ 32 - 1) }
+{
+    match pairs {
+        [key, value, behind @ ..] => {
+            weighed(key, value, is_named(key_of(key), behind), lasting(behind))
+        }
+        _ => (0, 0),
+    }
+}
