@@ -1,24 +1,13 @@
-//! Tests of images, the verifier, budgets and runs through their public calls. They stand apart from the crates that they
-//! test, so that the gate proves each crate once.
+//! Calls of images, the verifier and runs that the program does not make. All that it shows stands in rows/images.txt.
 #![tactic(auto)]
 
 #[cfg(test)]
-mod budget;
-#[cfg(test)]
-mod image;
-#[cfg(test)]
-mod large;
-#[cfg(test)]
-mod loops;
-#[cfg(test)]
-mod machine;
+mod parts;
 #[cfg(test)]
 mod pieces;
 #[cfg(test)]
 mod rows;
 #[cfg(test)]
-mod running;
+mod shapes;
 #[cfg(test)]
 mod slices;
-#[cfg(test)]
-mod verify;

@@ -1,10 +1,9 @@
 //! Runs whose text is written in pieces.
 
 use crate::rows::rows_hold;
-use crate::running::AMPLE;
 use jt_budget::Budget;
-use jt_image::{Constant, Image, Instr, Parts, Unit, assemble};
-use jt_machine::{Ended, IoSink, RunToError, Sink, run_to};
+use jt_image::decode;
+use jt_machine::{IoSink, Sink, run_to};
 use jt_value::Context;
 use jt_verify::{Verified, verify};
 use std::alloc::Global;
@@ -35,60 +34,24 @@ impl io::Write for Slow {
     }
 }
 
-// An instruction by its word: `a`, `zz` and `Hello` put these texts, `number` and `drop` put and drop a number, `begin` and `end` are a
-// capture, `loop` begins a loop and `over` ends one.
-fn instr(word: &str) -> Result<Instr, Fail> {
-    let (op, a, c) = match word {
-        "a" => (9, 0, 0),
-        "zz" => (9, 0, 1),
-        "Hello" => (9, 0, 2),
-        "number" => (1, 0, 3),
-        "drop" => (6, 0, 0),
-        "begin" => (24, 0, 0),
-        "end" => (25, 0, 0),
-        "loop" => (18, 0, 0),
-        "over" => (23, 0, 0),
-        "return" => (28, 0, 0),
-        _ => return Err(Fail::from("no instruction")),
-    };
-    Ok(Instr { op, a, b: 0, c })
-}
+// The beginning of an image: the constants `a`, `zz`, `Hello` and 7, and one unit, up to how many instructions it has.
+const HEAD: [u8; 50] = [
+    0x4a, 0x54, 0x42, 0x43, 1, 0, 0, 0, 0, 0, 4, 0, 5, 1, 0, 0, 0, 0x61, 5, 2, 0, 0, 0, 0x7a, 0x7a,
+    5, 5, 0, 0, 0, 0x48, 0x65, 0x6c, 0x6c, 0x6f, 4, 7, 0, 0, 0, 0, 0, 0, 0, 1, 0, 0, 0, 0, 0,
+];
 
-// The image of one unit with these instructions.
-fn image_of(alloc: Global, words: &str) -> Result<Image, Fail> {
-    let mut code = Vec::new(alloc);
+// The image of some instructions, which are opcodes and fields c with blanks between.
+fn image_of(alloc: Global, words: &str) -> Result<Verified, Fail> {
+    let count = u8::try_from(words.split(' ').count() / 2)?;
+    let mut bytes = Vec::new(alloc);
+    bytes.extend_from_slice(&HEAD)?;
+    bytes.extend_from_slice(&[count, 0, 0, 0])?;
     for word in words.split(' ') {
-        code.push(instr(word)?)?;
+        bytes.extend_from_slice(&[word.parse::<u8>()?, 0, 0, 0])?;
     }
-    let unit = Unit {
-        parameters: 0,
-        kind: 0,
-        locals: 0,
-        code,
-    };
-    let constants = vec![in alloc;
-        Constant::Text(String::from_str(alloc, "a")?),
-        Constant::Text(String::from_str(alloc, "zz")?),
-        Constant::Text(String::from_str(alloc, "Hello")?),
-        Constant::Int(7),
-    ]?;
-    let parts = Parts {
-        globals: 0,
-        names: Vec::new(alloc),
-        constants,
-        units: vec![in alloc; unit]?,
-    };
-    Ok(assemble(alloc, parts).ok().ok_or("the parts are no code")?)
-}
-
-// How a run is answered whose text is written.
-fn told(alloc: Global, answer: Result<Ended, RunToError>) -> Result<String, Fail> {
-    match answer {
-        Ok(Ended::Whole) => Ok(String::from_str(alloc, "whole")?),
-        Ok(Ended::Fault(fault)) => Ok(format!(in alloc; "fault {fault:?}")?),
-        Ok(Ended::Spent(spent)) => Ok(format!(in alloc; "spent {spent}")?),
-        Err(RunToError::NoMemory) => Ok(String::from_str(alloc, "no memory")?),
-        Err(RunToError::Write) => Ok(String::from_str(alloc, "write")?),
+    match verify(alloc, decode(alloc, &bytes)?) {
+        Ok(verified) => Ok(verified),
+        Err(_) => Err(Fail::from("verify")),
     }
 }
 
@@ -97,37 +60,38 @@ fn told(alloc: Global, answer: Result<Ended, RunToError>) -> Result<String, Fail
 fn written(alloc: Global, asked: &str) -> Result<String, Fail> {
     let (left, rest) = asked.split_once(" ").ok_or("a row has no fuel")?;
     let (fuel, words) = rest.split_once(" ").ok_or("a row has no instructions")?;
-    let verified: Verified = match verify(alloc, image_of(alloc, words)?) {
-        Ok(verified) => verified,
-        Err(_) => return Err(Fail::from("verify")),
+    let (left, fuel) = (left.parse::<usize>()?, fuel.parse::<u64>()?);
+    let budget = Budget {
+        fuel,
+        depth: 64,
+        output: 1_000,
+        size: 1_000,
+        nesting: 32,
     };
+    let verified = image_of(alloc, words)?;
     let mut sink = IoSink::new(Slow {
         taken: String::new(alloc),
-        left: left.parse::<usize>()?,
+        left,
     });
-    let budget = Budget {
-        fuel: fuel.parse::<u64>()?,
-        ..AMPLE
-    };
     let answer = run_to(alloc, &verified, &Context::new(alloc), budget, &mut sink);
     let has_failed = sink.has_failed();
-    let answer = told(alloc, answer)?;
     let written = sink.into_inner().taken;
-    Ok(format!(in alloc; "{written}, {answer}, {has_failed}")?)
+    Ok(format!(in alloc; "{answer:?} {has_failed} [{written}]")?)
 }
 
+// 9 puts a text, 1 and 6 put and drop a value, 24 and 25 are a capture, 18 begins a loop and 28 returns.
 #[test]
 fn what_is_emitted_is_written(rt: HostRuntime) -> Result<(), Fail> {
     rows_hold(
         &rt,
         written,
-        r"9 99 Hello return => Hello, whole, false
-        9 99 a number loop over drop return => a, fault NotIterable, false
-        9 1 a a return => a, spent Fuel, false
-        9 99 begin zz end drop a return => a, whole, false
-        9 99 a begin zz number loop over drop end drop return => a, fault NotIterable, false
-        9 2 begin zz end drop a return => , spent Fuel, false
-        2 99 Hello return => He, write, true
-        0 99 begin zz end drop return => , whole, false",
+        r"9 99 9 2 28 0 => Ok(Whole) false [Hello]
+        9 99 9 0 1 3 18 0 23 0 6 0 28 0 => Ok(Fault(NotIterable)) false [a]
+        9 1 9 0 9 0 28 0 => Ok(Spent(Fuel)) false [a]
+        9 99 24 0 9 1 25 0 6 0 9 0 28 0 => Ok(Whole) false [a]
+        9 99 9 0 24 0 9 1 1 3 18 0 23 0 6 0 25 0 6 0 28 0 => Ok(Fault(NotIterable)) false [a]
+        9 2 24 0 9 1 25 0 6 0 28 0 => Ok(Spent(Fuel)) false []
+        2 99 9 2 28 0 => Err(Write) true [He]
+        0 99 24 0 9 1 25 0 6 0 28 0 => Ok(Whole) false []",
     )
 }

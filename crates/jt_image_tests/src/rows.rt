@@ -23,12 +23,12 @@ pub(crate) fn rows_hold<F: Fn(Global, &str) -> Result<String, Fail>>(
 }
 
 /// The numbers of a row, with blanks between.
-pub(crate) fn numbers<const N: usize>(asked: &str) -> Result<[u64; N], Fail> {
+pub(crate) fn numbers<const N: usize>(asked: &str) -> Result<[u32; N], Fail> {
     let mut found = [0; N];
     let mut words = asked.split(' ');
     for place in found.iter_mut() {
         let word = words.next().ok_or("a row has too few numbers")?;
-        *place = word.parse::<u64>()?;
+        *place = word.parse::<u32>()?;
     }
     if words.next().is_some() {
         return Err(Fail::from("a row has too many numbers"));

@@ -1,0 +1,65 @@
+//! Printed texts, contexts, operators on operands that are kept, and errors as texts.
+
+use jt_ops::{Limits, OpId, binary};
+use jt_value::{Context, Fault, NoMemory, Value, ValueError};
+use std::alloc::Global;
+use std::test::Fail;
+
+#[test]
+fn values_print(rt: HostRuntime) -> Result<(), Fail> {
+    let alloc = rt.alloc();
+    let rows = [
+        (Value::Undefined, ""),
+        (Value::None, "None"),
+        (Value::Bool(true), "True"),
+        (Value::Int(-50), "-50"),
+        (Value::markup(alloc, "<b>")?, "<b>"),
+    ];
+    for (value, wanted) in rows.iter() {
+        assert_eq!(rt; value.printed(alloc)?.as_str(), *wanted);
+    }
+    let list = Value::list(alloc, Vec::new(alloc))?;
+    assert!(rt; matches!(list.printed(alloc), Err(ValueError::Fault(Fault::Unprintable))));
+    Ok(())
+}
+
+/// Whether a number is added to a context.
+fn is_added(alloc: Global, context: &mut Context, name: &str, number: i64) -> bool {
+    match String::from_str(alloc, name) {
+        Ok(name) => context.insert(name, Value::Int(number)).is_ok(),
+        Err(_) => false,
+    }
+}
+
+#[test]
+fn a_name_keeps_its_last_value(rt: HostRuntime) {
+    let alloc = rt.alloc();
+    let mut context = Context::new(alloc);
+    let first = is_added(alloc, &mut context, "a", 1);
+    let second = is_added(alloc, &mut context, "b", 2);
+    let third = is_added(alloc, &mut context, "a", 3);
+    assert!(rt; first && second && third && context.get("c").is_none());
+    assert!(rt; matches!((context.get("a"), context.get("b")), (Some(Value::Int(3)), Some(Value::Int(2)))));
+}
+
+#[test]
+fn operands_are_kept(rt: HostRuntime) -> Result<(), Fail> {
+    let alloc = rt.alloc();
+    let limits = Limits {
+        size: 3,
+        nesting: 1,
+    };
+    let left = Value::text(alloc, "a")?;
+    let sum = binary(alloc, OpId::Add, &left, &left, limits)?;
+    assert_eq!(rt; (sum.as_text(), left.as_text()), (Some("aa"), Some("a")));
+    assert!(rt; binary(alloc, OpId::Add, &sum, &left, limits).is_err());
+    Ok(())
+}
+
+#[test]
+fn errors_print(rt: HostRuntime) -> Result<(), Fail> {
+    let alloc = rt.alloc();
+    let told = format!(in alloc; "{NoMemory}, {}, {}", ValueError::NoMemory, ValueError::Fault(Fault::Range))?;
+    assert_eq!(rt; told.as_str(), "no memory, no memory, F8 Range");
+    Ok(())
+}

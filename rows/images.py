@@ -1,0 +1,296 @@
+#!/usr/bin/env python3
+"""Checks a built `jt` against rows of images: rows/images.py PROGRAM [FILE ..] (without files rows/images.txt)
+
+Each row of a file is a line; so are comments, which begin with `#`, and names of spellings. How images are spelled stands in
+images_bytes.py; they are made here, and no other part of the project is needed.
+
+    def NAME = SPELLING
+    SPELLING ¦ NUMBERS ¦ CONTEXT => ANSWER      the numbers of the budget, as `fuel 5 depth 1`, and the context may be left out
+    each beginning of SPELLING => ANSWER        each proper one
+    each change of SPELLING ¦ .. => any         each byte changed in some ways
+    each unused field => ANSWER                 a byte that is not 0 in a field that an instruction does not use
+    values of Filter 3 => 1 to 3                an instruction with other numbers of values than these is refused (`Op`, `Filter`, `Test`)
+
+A context is JSON, in which "a"*62 is a text of 62 letters. An ANSWER is one of
+
+    [x]                         the text x, in which ␤ is an LF; `62 bytes` is a text of so many bytes
+    F6 NotIterable, Fuel        a fault, a spent number
+    K5 JumpOut unit 0 point 0   a refusal
+    ok                          an image that is accepted, and ends with a text, a fault or a spent number
+    any                         such an image, or a refusal
+
+Each answer is seen three times: `jt check` tells how many units and instructions an accepted image has, `jt run` how it ends, and
+`jt turns`, in slices of some instructions, the same in its own words; a refusal is told by all three. The status and both outputs are compared.
+Whether bytes are an image, and else their first fault, is read here too, and the program and each row must agree with that.
+
+A line that is no row, a file without rows and a program that is not there have failed. The last line is 'N passed, M failed', and
+the status is 1 where one failed.
+"""
+import concurrent.futures
+import itertools
+import json
+import os
+import pathlib
+import re
+import struct
+import subprocess
+import sys
+import tempfile
+
+import images_bytes
+from images_bytes import Fault, Malformed
+
+HERE = pathlib.Path(__file__).resolve().parent
+SPENT = ("Fuel", "Depth", "Output", "Size", "Nesting")
+NUMBERS = ("fuel", "depth", "output", "size", "nesting")
+SLICES = ("1", "2", "3", "7", "100", "1000000")
+REFUSAL = re.compile(r"I[1-8] \w+|K[1-9] \w+ unit \d+ point \d+")
+FAULT = re.compile(r"F[1-9] \w+")
+VALUES = re.compile(r"values of (Op|Filter|Test) (\d+)")
+TO = re.compile(r"(\d+) to (\d+)")
+
+
+class Row:
+    """A line: what it asks of which images, under which budget, for which context, and what is wanted."""
+
+    def __init__(self, text, named):
+        asked, arrow, self.wanted = text.rpartition(" => ")
+        if not arrow or not self.wanted:
+            raise Malformed("a row has no answer")
+        spelling, *rest = asked.split(" ¦ ")
+        self.spelling, self.named = spelling.strip(), named
+        contexts = [part for part in rest if part.lstrip().startswith("{")]
+        if len(contexts) > 1 or len(rest) > len(contexts) + 1:
+            raise Malformed("a row has too many parts")
+        self.context = context_of(contexts[0]) if contexts else b"{}"
+        self.budget = [word for part in rest if part not in contexts for word in budget(part.split())]
+
+    def image(self, spelling):
+        return images_bytes.image(spelling, self.named)
+
+    def cases(self):
+        """Its images, each with what is wanted of it."""
+        for begins, sweep in SWEEPS.items():
+            if self.spelling.startswith(begins):
+                found = list(sweep(self, self.spelling.removeprefix(begins)))
+                if not found:
+                    raise Malformed("no images")
+                return found
+        return [(self.image(self.spelling), self.wanted)]
+
+
+def context_of(text):
+    """The JSON of a context, with its repeated texts written out."""
+    text = re.sub(r'"([^"])"\*(\d+)', lambda found: json.dumps(found[1] * int(found[2])), text.strip())
+    json.loads(text)
+    return text.encode()
+
+
+def budget(words):
+    """Numbers of a budget as words of the program's line."""
+    if not words or len(words) % 2 or any(word not in NUMBERS for word in words[::2]):
+        raise Malformed(f"no numbers: {words}")
+    return [word if at % 2 else f"--{word}" for at, word in enumerate(words)]
+
+
+def beginnings(row, spelling):
+    data = row.image(spelling)
+    return [(data[:count], row.wanted) for count in range(len(data))]
+
+
+def changes(row, spelling):
+    """A bit, the highest bit and all bits of each byte changed, and one more and one less; and the byte as 0."""
+    data = row.image(spelling)
+    if row.wanted != "any":
+        raise Malformed("changed bytes have any answer")
+    for at, byte in enumerate(data):
+        values = {byte ^ 1, byte ^ 128, byte ^ 255, (byte + 1) % 256, (byte - 1) % 256, 0}
+        for value in sorted(values - {byte}):
+            yield data[:at] + bytes([value]) + data[at + 1:], "any"
+
+
+def unused_fields(row, _):
+    """Each field of each instruction, behind the only one that is reached."""
+    for opcode, used in images_bytes.FIELDS.items():
+        yield row.image(f"unit Return, op {opcode} 0 0 0"), "ok"
+        for field, values in zip("abc", ((1, 128), (1, 256), (1, 1 << 8, 1 << 16, 1 << 31))):
+            for value in values:
+                words = " ".join(str(value if field == one else 0) for one in "abc")
+                yield row.image(f"unit Return, op {opcode} {words}"), "ok" if field in used else row.wanted
+
+
+def values(row, _):
+    """An instruction behind one value less than it is to take, and behind all."""
+    found, wanted = VALUES.fullmatch(row.spelling), TO.fullmatch(row.wanted)
+    if not found or not wanted:
+        raise Malformed("no numbers of values")
+    word, least, most = f"{found[1]} {found[2]}", int(wanted[1]), int(wanted[2])
+    for count in (least, most) if found[1] == "Op" else sorted({0, 1, least - 1, least, most, most + 1, 256}):
+        last = {"Op": word, "Filter": f"{word} {count} 0", "Test": f"{word} {count}"}[found[1]]
+        for there in (count - 1, count) if count else (0,):
+            flaw = "K6 BadIndex" if not least <= count <= most else "K1 MissingOperand" if there < count else None
+            answer = f"{flaw} unit 0 point {there}" if flaw else "ok"
+            yield row.image(f"constants undefined | unit {there}*Const 0, {last}, Drop, Return"), answer
+
+
+SWEEPS = {"each beginning of ": beginnings, "each change of ": changes, "each unused field": unused_fields, "values of ": values}
+
+
+class Bench:
+    """Runs the program over files of one folder."""
+
+    def __init__(self, program, folder):
+        self.program, self.folder, self.numbers = program, pathlib.Path(folder), itertools.count()
+
+    def path(self, data):
+        """A new file with these bytes."""
+        path = self.folder / f"{os.getpid()}-{next(self.numbers)}"
+        path.write_bytes(data)
+        return str(path)
+
+    def run(self, *words):
+        """The status, the output and the line on standard error."""
+        done = subprocess.run([self.program, *words], stdin=subprocess.DEVNULL, capture_output=True, timeout=100)
+        return done.returncode, done.stdout, done.stderr.decode(errors="replace")
+
+    def answers(self, data, context, words):
+        """What the three commands say of an image."""
+        image, context = self.path(data), self.path(context)
+        found = (self.run("check", image), self.run("run", image, context, *words),
+                 self.run("turns", image, context, "--slice", SLICES[len(data) % len(SLICES)], *words))
+        os.remove(image)
+        return found
+
+
+def refused(fault):
+    return 3, b"", f"jt: refused {fault}\n"
+
+
+def read(data):
+    """What `jt check` is to say of bytes, as they are read here, where the verifier accepts them; and whether they are an image."""
+    try:
+        return (0, b"ok units=%d instructions=%d\n" % images_bytes.counts(data), ""), True
+    except Fault as fault:
+        return refused(fault), False
+
+
+def text_ending(data):
+    return (0, data, ""), b"1 text %d:%s\n" % (len(data), data)
+
+
+def ended(wanted, found):
+    """What `jt run` and `jt turns` are to say of a run that ends so."""
+    if wanted.startswith("[") and wanted.endswith("]"):
+        return text_ending(wanted[1:-1].replace("␤", "\n").encode())
+    if re.fullmatch(r"\d+ bytes", wanted):
+        return text_ending(found[1] if found[0] == 0 and len(found[1]) == int(wanted.split()[0]) else b"another text")
+    if wanted in SPENT:
+        return (4, b"", f"jt: spent {wanted}\n"), f"1 spent {wanted}\n".encode()
+    if FAULT.fullmatch(wanted):
+        return (1, b"", f"jt: fault {wanted}\n"), f"1 fault {wanted}\n".encode()
+    raise Malformed(f"no answer: {wanted!r}")
+
+
+def as_it_ended(run):
+    """What `jt turns` is to say of a run that ended with a text, a fault or a spent number."""
+    status, text, line = run
+    if status == 0:
+        return text_ending(text)[1]
+    return ("1" + line.removeprefix("jt:")).encode() if status in (1, 4) else b"no other status"
+
+
+def differing(named, found, wanted):
+    return [] if found == wanted else [f"{named} {str(found)[:300]}, wanted {str(wanted)[:300]}"]
+
+
+def wanted_of(wanted, counted, is_image, found):
+    """What the three commands are to say."""
+    check, run, _ = found
+    if REFUSAL.fullmatch(wanted):
+        return (refused(wanted),) * 3
+    if not is_image:
+        return (counted,) * 3
+    if wanted == "any" and check[2].startswith("jt: refused K"):
+        return (check,) * 3
+    if wanted in ("ok", "any"):
+        return counted, run, (0, as_it_ended(run), "")
+    ends, line = ended(wanted, run)
+    return counted, ends, (0, line, "")
+
+
+def misread(wanted, counted, is_image):
+    """Whether a row wants another refusal of bytes than is read here."""
+    return wanted != "any" and (counted != refused(wanted) if wanted.startswith("I") else not is_image)
+
+
+def differences(bench, data, context, words, wanted):
+    """Where the program says something else of an image than is wanted."""
+    counted, is_image = read(data)
+    found = bench.answers(data, context, words)
+    three = zip(("check", "run", "turns"), found, wanted_of(wanted, counted, is_image, found))
+    different = [text for named, one, other in three for text in differing(named, one, other)]
+    if misread(wanted, counted, is_image):
+        different.append(f"by the reading here {counted}")
+    return [f"{data[:200].hex()}: {text}" for text in different]
+
+
+def judged(*case):
+    try:
+        return differences(*case)
+    except (ValueError, Malformed, subprocess.TimeoutExpired) as error:
+        return [str(error)]
+
+
+def row_of(line, named):
+    """The row of a line with its cases, or what is wrong with it; none of a comment and a name."""
+    if not line or line.startswith("#"):
+        return None
+    try:
+        if line.startswith("def "):
+            name, equals, spelling = line[4:].partition(" = ")
+            if not equals or name in named:
+                raise Malformed("a name has no spelling, or has one already")
+            named[name] = spelling.strip()
+            return None
+        row = Row(line, named)
+        return row, row.cases()
+    except (ValueError, struct.error, Malformed) as error:
+        return str(error)
+
+
+def rows_of(path):
+    """The rows of a file: where each stands, and the row with its cases or what is wrong with it."""
+    named, found = {}, []
+    for count, line in enumerate(pathlib.Path(path).read_text(encoding="utf-8").splitlines(), 1):
+        row = row_of(line.strip(), named)
+        if row is not None:
+            found.append((f"{path}:{count}: {line.strip()[:200]}", row))
+    return found or [(str(path), "no rows")]
+
+
+def all_judged(program, rows):
+    """Of each row where the program says something else."""
+    with tempfile.TemporaryDirectory() as folder, concurrent.futures.ProcessPoolExecutor(os.cpu_count()) as pool:
+        bench = Bench(program, folder)
+        asked = [[] if isinstance(row, str) else
+                 [pool.submit(judged, bench, data, row[0].context, row[0].budget, wanted) for data, wanted in row[1]] for _, row in rows]
+        return [[row] if isinstance(row, str) else [text for case in cases for text in case.result()]
+                for (_, row), cases in zip(rows, asked)]
+
+
+def main(words):
+    if not words or not os.path.isfile(words[0]) or not os.access(words[0], os.X_OK):
+        print(f"rows/images.py: no program {words[:1]}\n0 passed, 1 failed")
+        return 1
+    rows = [row for path in words[1:] or [HERE / "images.txt"] for row in rows_of(path)]
+    found = all_judged(os.path.abspath(words[0]), rows)
+    for (line, _), different in zip(rows, found):
+        for text in [line, *different[:5]] if different else []:
+            print(text)
+    failed = sum(1 for different in found if different)
+    print(f"{len(rows) - failed} passed, {failed} failed")
+    return 1 if failed else 0
+
+
+if __name__ == "__main__":
+    sys.exit(main(sys.argv[1:]))

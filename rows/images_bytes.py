@@ -1,0 +1,275 @@
+"""Images as bytes: the bytes that a spelling of parts stands for, and what bytes are. Written from docs/image.md.
+
+A spelling is a list of parts with ` | ` between them. Parts of one kind add up.
+
+    globals 2 1:a 0:b       two globals; slot 1 has the name a, slot 0 the name b, in the order of the table
+    globals 9 all           nine globals, slot I with the name I in five digits
+    constants 7 'a' m"<b>"  a number, a text and markup; also true, false, none and undefined. 'a'*9 repeats a text; ␤ is an LF
+    copies 9 'a'            nine constants that are alike
+    unit CODE               a unit of kind 0 without parameters and locals; `unit 2 1 3: CODE` has 2 parameters, kind 1, 3 locals
+    units 9: CODE           nine units of kind 0 without parameters and locals
+    bytes 4a54 42           these bytes in place of all parts
+    at 28 0a00              the bytes 0a and 00 in place of those at 28
+    cut 5                   the first five bytes alone
+    and 00                  one byte more
+    NAME                    the parts of a spelling that has this name
+
+CODE is instructions with `, ` between: `Emit 1`, with the fields that the instruction has, in the order a, b, c. `3*Dup` is three
+of them, a field `+2` or `-2` the number of the instruction two behind or before it, and `op 13 5 1 0` an opcode with all its fields.
+"""
+import re
+import struct
+
+TABLE = """Const c, Load c, Store c, GLoad c, GStore c, Drop, Dup, Emit a, Data c, Jump c, JumpIfFalse c, JumpIfTrue c, Op a,
+    Filter a b c, Test a b, MakeList c, MakeMap c, LoopStart, LoopNext c, LoopGet a c, LoopKeep c, LoopRewind, LoopEnd,
+    CaptureBegin, CaptureEnd a, Unpack c, Call c, Return"""
+INSTRUCTIONS = [row.split() for row in TABLE.split(",")]
+FIELDS = {opcode: "".join(row[1:]) for opcode, row in enumerate(INSTRUCTIONS, 1)}
+OPCODES = {row[0]: opcode for opcode, row in enumerate(INSTRUCTIONS, 1)}
+PLAIN = {"undefined": 0, "none": 1, "false": 2, "true": 3}
+MAX_BYTES, MAX_LOCALS, MAX_INSTRUCTIONS = 16_777_216, 4_096, 262_144
+CONSTANT = re.compile(r"""(m?)(["'])(.*?)\2(?:\*(\d+))?(?=\s|$)|(-?\d+)(?=\s|$)|(undefined|none|false|true)(?=\s|$)""")
+
+
+class Malformed(Exception):
+    """A spelling that says nothing."""
+
+
+def number(word):
+    if not re.fullmatch(r"\d+", word):
+        raise Malformed(f"{word!r} is no number")
+    return int(word)
+
+
+def counted(size, items):
+    """Spellings behind their number."""
+    return struct.pack(size, len(items)) + b"".join(items)
+
+
+def instruction(word):
+    """The four fields of an instruction, and which of them are counted from its point."""
+    name, *fields = word.split()
+    if name == "op" and len(fields) == 4:
+        return [number(field) for field in fields], []
+    if name not in OPCODES or len(fields) != len(FIELDS[OPCODES[name]]):
+        raise Malformed(f"no instruction: {word!r}")
+    named = dict(zip(FIELDS[OPCODES[name]], fields))
+    relative = [at for at, field in enumerate("abc", 1) if named.get(field, "0")[0] in "+-"]
+    return [OPCODES[name], *(int(named[field]) if at in relative else number(named.get(field, "0")) for at, field in enumerate("abc", 1))], relative
+
+
+def placed(fields, relative, point):
+    """The eight bytes of an instruction at a point."""
+    return struct.pack("<BBHI", *(value + point if at in relative else value for at, value in enumerate(fields)))
+
+
+def code(text):
+    """The instructions of a unit, as bytes."""
+    found = []
+    for word in filter(None, (word.strip() for word in text.split(","))):
+        times, _, one = word.rpartition("*")
+        fields, relative = instruction(one)
+        times, point = number(times or "1"), len(found)
+        found += [placed(fields, relative, point + more) for more in range(times)] if relative else [placed(fields, [], 0)] * times
+    return found
+
+
+def constant(found):
+    """The bytes of a constant."""
+    markup, _, text, times, digits, plain = found.groups()
+    if plain:
+        return bytes([PLAIN[plain]])
+    if digits:
+        return struct.pack("<Bq", 4, int(digits))
+    text = text.replace("␤", "\n").encode() * int(times or "1")
+    return struct.pack("<BI", 6 if markup else 5, len(text)) + text
+
+
+def constants(text):
+    found, at = [], 0
+    while text[at:].strip():
+        at += len(text[at:]) - len(text[at:].lstrip())
+        one = CONSTANT.match(text, at)
+        if not one:
+            raise Malformed(f"no constant: {text[at:]!r}")
+        found.append(constant(one))
+        at = one.end()
+    return found
+
+
+def name(slot, text):
+    return struct.pack("<HH", slot, len(text.encode())) + text.encode()
+
+
+def names(count, words):
+    """The table of names."""
+    if words == ["all"]:
+        return [name(slot, f"{slot:05}") for slot in range(count)]
+    pairs = [word.split(":") for word in words]
+    return [name(number(slot), text) for slot, text in pairs]
+
+
+class Parts:
+    """The parts of an image, and what is done to its bytes."""
+
+    def __init__(self):
+        self.globals, self.names, self.constants, self.units, self.whole, self.edits = 0, [], [], [], None, []
+
+    def unit(self, text, times=1):
+        numbers, colon, behind = text.partition(":")
+        header = [number(word) for word in numbers.split()] if colon else [0, 0, 0]
+        self.units += [(header, code(behind if colon else text))] * times
+
+    def add(self, part):
+        word, _, rest = part.partition(" ")
+        if word == "globals":
+            self.globals = number(rest.split()[0])
+            self.names += names(self.globals, rest.split()[1:])
+        elif word == "constants":
+            self.constants += constants(rest)
+        elif word == "copies":
+            times, _, text = rest.partition(" ")
+            self.constants += constants(text) * number(times)
+        elif word == "unit":
+            self.unit(rest)
+        elif word == "units":
+            times, _, text = rest.partition(":")
+            self.unit(text, number(times))
+        elif word == "bytes":
+            self.whole = bytes.fromhex(rest)
+        elif word in ("at", "cut", "and"):
+            self.edits.append((word, rest))
+        else:
+            raise Malformed(f"no part: {part!r}")
+
+    def spelled(self):
+        if self.whole is not None:
+            return self.whole
+        header = struct.pack("<4sHH", b"JTBC", 1, self.globals)
+        units = [struct.pack("<BBHI", *numbers, len(lines)) for numbers, lines in self.units]
+        lines = b"".join(b"".join(lines) for _, lines in self.units)
+        return header + counted("<H", self.names) + counted("<H", self.constants) + counted("<H", units) + lines
+
+
+def edited(data, word, rest):
+    if word == "cut":
+        return data[:number(rest)]
+    if word == "and":
+        return data + bytes.fromhex(rest)
+    at, _, new = rest.partition(" ")
+    new = bytes.fromhex(new)
+    if not new or number(at) + len(new) > len(data):
+        raise Malformed(f"no bytes at {rest!r}")
+    return data[:int(at)] + new + data[int(at) + len(new):]
+
+
+def image(spelling, named):
+    """The bytes that a spelling stands for."""
+    parts = Parts()
+    for part in expanded(spelling, named):
+        parts.add(part)
+    data = parts.spelled()
+    for word, rest in parts.edits:
+        data = edited(data, word, rest)
+    return data
+
+
+def expanded(spelling, named):
+    """The parts of a spelling, with those of a name in its place."""
+    found = []
+    for part in (part.strip() for part in spelling.split(" | ")):
+        found += expanded(named[part], named) if part in named else [part]
+    return found
+
+
+class Fault(Exception):
+    """The first fault of bytes that are no image."""
+
+
+class Reader:
+    """Reads the fields of bytes from the front."""
+
+    def __init__(self, data):
+        self.data, self.at = data, 0
+
+    def take(self, count):
+        if self.at + count > len(self.data):
+            raise Fault("I3 Truncated")
+        self.at += count
+        return self.data[self.at - count:self.at]
+
+    def uint(self, size):
+        return int.from_bytes(self.take(size), "little")
+
+    def text(self, size):
+        try:
+            return self.take(size).decode("utf-8")
+        except UnicodeDecodeError:
+            raise Fault("I5 BadText") from None
+
+
+def expect(holds, fault):
+    if not holds:
+        raise Fault(fault)
+
+
+def read_names(reader, globals_):
+    slots, last = set(), b""
+    for _ in range(reader.uint(2)):
+        slot = reader.uint(2)
+        expect(slot < globals_ and slot not in slots, "I7 BadTable")
+        slots.add(slot)
+        text = reader.text(reader.uint(2)).encode()
+        expect(text > last, "I7 BadTable")
+        last = text
+
+
+def read_constants(reader):
+    for _ in range(reader.uint(2)):
+        tag = reader.uint(1)
+        expect(tag <= 6, "I7 BadTable")
+        if tag == 4:
+            reader.take(8)
+        elif tag > 4:
+            reader.text(reader.uint(4))
+
+
+def read_units(reader):
+    """How many units there are, and how many instructions they have together."""
+    count = reader.uint(2)
+    expect(count > 0, "I7 BadTable")
+    total = 0
+    for unit in range(count):
+        parameters = reader.uint(1)
+        expect(unit > 0 or parameters == 0, "I7 BadTable")
+        kind = reader.uint(1)
+        expect(kind == 0 or kind == 1 and unit > 0, "I7 BadTable")
+        local = reader.uint(2)
+        expect(local <= MAX_LOCALS, "I8 LimitPassed")
+        expect(parameters <= local, "I7 BadTable")
+        total += reader.uint(4)
+        expect(total <= MAX_INSTRUCTIONS, "I8 LimitPassed")
+    return count, total
+
+
+def read_instruction(reader):
+    opcode = reader.uint(1)
+    expect(opcode in FIELDS, "I6 BadOpcode")
+    for field, size in zip("abc", (1, 2, 4)):
+        value = reader.uint(size)
+        expect(value == 0 or field in FIELDS[opcode], "I6 BadOpcode")
+
+
+def counts(data):
+    """How many units and instructions the image has that bytes spell; else their first fault, as `Fault`."""
+    expect(len(data) <= MAX_BYTES, "I8 LimitPassed")
+    reader = Reader(data)
+    expect(reader.take(4) == b"JTBC", "I1 BadMagic")
+    expect(reader.uint(2) == 1, "I2 BadVersion")
+    read_names(reader, reader.uint(2))
+    read_constants(reader)
+    units, instructions = read_units(reader)
+    for _ in range(instructions):
+        read_instruction(reader)
+    expect(reader.at == len(data), "I4 Trailing")
+    return units, instructions
