@@ -34,6 +34,23 @@ view-For : (line : ℕ) (xs : Vec (String Global) Global) (e : Expr) (c : Option
     → stmt_view (For line xs e c body other) ≡ trees.for_each line (names_view xs.items) (expr_view e) (option_map expr_view c) (body_view body.items) (body_view other.items)
 view-For line xs e c body other = search (rules, the_lemmas)
 
+-- one statement more, and one branch more
+pub statement_added : (ss : List Stmt) (i : ℕ) (s : Stmt) (old new : List Text) → i < length ss → s ≡ get_or ss i s → new ≡ old ++ needs_by true (stmt_view s)
+    → new ++ needs_in true (body_view (drop (i + 1) ss)) ≡ old ++ needs_in true (body_view (drop i ss))
+statement_added ss i s old new lt is e =
+    let rest = needs_in true (body_view (drop (i + 1) ss)) in
+    ap (λ l. l ++ rest) e ∙ append_assoc old (needs_by true (stmt_view s)) rest
+    ∙ ap (λ (z : Stmt). old ++ (needs_by true (stmt_view z) ++ rest)) is
+    ∙ ap (λ (z : List Stmt). old ++ needs_in true (body_view z)) (sym (drop_more ss i s lt))
+
+pub branch_added : (bs : List Branch) (i : ℕ) (b : Branch) (old new : List Text) → i < length bs → b ≡ get_or bs i b → new ≡ old ++ needs_in true (body_view b.2.items)
+    → new ++ needs_under true (branches_view (drop (i + 1) bs)) ≡ old ++ needs_under true (branches_view (drop i bs))
+branch_added bs i b old new lt is e =
+    let rest = needs_under true (branches_view (drop (i + 1) bs)) in
+    ap (λ l. l ++ rest) e ∙ append_assoc old (needs_in true (body_view b.2.items)) rest
+    ∙ ap (λ (z : Branch). old ++ (needs_in true (body_view z.2.items) ++ rest)) is
+    ∙ ap (λ (z : List Branch). old ++ needs_under true (branches_view z)) (sym (drop_more bs i b lt))
+
 -- the branches, and then the else part
 pub choice_added : (s : Stmt) (bs : Vec Branch Global) (other : Vec Stmt Global) (bs' : List Branch) (other' : List Stmt) (old mid new : List Text)
     → s ≡ If bs other → bs' ≡ bs.items → other' ≡ other.items → mid ≡ old ++ needs_under true (branches_view bs') → new ≡ mid ++ needs_in true (body_view other')

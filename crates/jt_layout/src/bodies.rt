@@ -25,6 +25,16 @@ use jt_rules::ScopeError;
 use jt_uses::scope_names;
 use std::alloc::Global;
 
+/// The first body of each block.
+fn first_bodies<'a>(alloc: Global, blocks: &[Block<'a>]) -> Result<Index<'a>, ScopeError>
+    ensures placed { IfOk result (λ i. (x : Text)
+        → place_in i.places x ≡ first_of x 0 (map (λ k. k.name.now) blocks.now)) }
+    ensures refused { IfErr result (λ e. e ≡ error.NoMemory) }
+{
+    let names = block_names(alloc, blocks)?;
+    Index::of(alloc, &names, 0)
+}
+
 /// For each body the next one of its block that is not required.
 fn next_bodies(alloc: Global, blocks: &[Block<'_>]) -> Result<Vec<Option<usize>>, ScopeError>
     ensures next { IfOk result (λ ns.
@@ -97,11 +107,10 @@ pub(crate) fn bodies_of<'a>(
         is_scoped (world_of (chain_view chain.now)) (home_at (chain_view chain.now).order home) x) }
     ensures refused { IfErr result (λ e. e ≡ error.NoMemory) }
 {
-    let all = chain.blocks(alloc, home)?;
-    let names = block_names(alloc, &all)?;
-    let firsts = Index::of(alloc, &names, 0)?;
-    let nexts = next_bodies(alloc, &all)?;
     let scope_names = list_of(alloc, scope_names(alloc, chain, home)?)?;
+    let all = chain.blocks(alloc, home)?;
+    let firsts = first_bodies(alloc, &all)?;
+    let nexts = next_bodies(alloc, &all)?;
     let scoped = scoped_blocks(alloc, &all)?;
     Ok(Bodies {
         all,

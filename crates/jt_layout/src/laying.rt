@@ -32,6 +32,44 @@ struct Placed<'a> {
     behind: Front,
 }
 
+/// The units of a chain's first macro and of its first body, and what is in front of the next one.
+#[derive(Clone, Copy)]
+struct Places {
+    macro_unit: usize,
+    body_unit: usize,
+    behind: Front,
+}
+
+/// The places of a chain with so many names, macros and bodies, and with this end of its defaults.
+fn places_of(
+    front: Front,
+    names: usize,
+    macros: usize,
+    bodies: usize,
+    end: usize,
+) -> Result<Places, ScopeError>
+    ensures macro_unit { IfOk result (λ p. p.macro_unit ≡ front.unit + 1) }
+    ensures body_unit { IfOk result (λ p. p.body_unit ≡ p.macro_unit + macros) }
+    ensures slot { IfOk result (λ p. p.behind.slot ≡ front.slot + names) }
+    ensures unit { IfOk result (λ p. p.behind.unit ≡ p.body_unit + bodies) }
+    ensures default { IfOk result (λ p. p.behind.default ≡ end) }
+    ensures refused { IfErr result (λ e. e ≡ error.NoMemory) }
+{
+    let macro_unit = more(front.unit, 1)?;
+    let body_unit = more(macro_unit, macros)?;
+    let slot = more(front.slot, names)?;
+    let unit = more(body_unit, bodies)?;
+    Ok(Places {
+        macro_unit,
+        body_unit,
+        behind: Front {
+            slot,
+            unit,
+            default: end,
+        },
+    })
+}
+
 /// Lays out one chain.
 fn lay_chain<'a>(
     alloc: Global,
@@ -54,20 +92,15 @@ fn lay_chain<'a>(
     let slots = Index::of(alloc, &names, front.slot)?;
     let macros = macros_of(alloc, chain, home, front.default)?;
     let bodies = bodies_of(alloc, chain, home)?;
-    let macro_unit = more(front.unit, 1)?;
-    let body_unit = more(macro_unit, macros.all.len())?;
-    let behind = Front {
-        slot: more(front.slot, names.len())?,
-        unit: more(body_unit, bodies.all.len())?,
-        default: macros.defaults.end,
-    };
+    let end = macros.defaults.end;
+    let places = places_of(front, names.len(), macros.all.len(), bodies.all.len(), end)?;
     let laid = Laid {
         names,
         slots,
         first_slot: front.slot,
         unit: front.unit,
-        macro_unit,
-        body_unit,
+        macro_unit: places.macro_unit,
+        body_unit: places.body_unit,
         macros: macros.all,
         called: macros.called,
         defaults: macros.defaults.places,
@@ -77,7 +110,10 @@ fn lay_chain<'a>(
         scope_names: bodies.scope_names,
         scoped: bodies.scoped,
     };
-    Ok(Placed { laid, behind })
+    Ok(Placed {
+        laid,
+        behind: places.behind,
+    })
 }
 
 /// The tables of all chains, and how many units they have.

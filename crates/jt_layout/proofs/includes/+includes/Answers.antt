@@ -1,10 +1,23 @@
-use Rattle.std.proofs.Common.{List, ◌++◌, sym, ◌∙◌, true}
+use Rattle.std.proofs.Common.{List, ◌++◌, ap, sym, ◌∙◌, true}
 use Rattle.std.proofs.lemmas.List.{at_drop_all, append-nil}
-use Rattle.jt_parse.specs.View.{branches_view}
-use Rattle.jt_inherit.specs.Includes.{needs_under}
+use Rattle.jt_parse.specs.View.{body_view, branches_view}
+use Rattle.jt_inherit.specs.Includes.{needs_in, needs_under}
 use Rattle.jt_uses.specs.Names.{texts}
-use Rattle.jt_layout.proofs.Included.{Branch, choice_added, loop_added}
+use Rattle.jt_layout.proofs.Included.{Branch, branch_added, choice_added, loop_added, statement_added}
 use Rattle.jt_layout.proofs.includes.+includes.Goals as goal
+
+pub add_included-loop-statement-preserved : goal.add_included-loop-statement-preserved
+add_included-loop-statement-preserved t c =
+    let l = c.loop-statement in
+    statement_added c.args.body.now l.statement-index c.statement-item.result (texts l.found.items) (texts c.add_statement.new.found.items) c.loop-statement-test.true c.statement-item.is c.in_ok-add_statement.ensures
+    ∙ l.invariant
+
+pub add_statement-loop-body-preserved : goal.add_statement-loop-body-preserved
+add_statement-loop-body-preserved t c =
+    let l = c.loop-body in
+    let b = c.loop-body-item.result in
+    branch_added c.deref-body-items.result.now l.body-index b (texts l.found.items) (texts c.add_included.new.found.items) c.loop-body-test.true c.loop-body-item.is
+    (c.in_ok-add_included-in-If.ensures ∙ ap (λ z. texts l.found.items ++ needs_in true (body_view z)) c.deref.ensures.value) ∙ l.invariant
 
 pub add_statement-returns-in_ok-add_included-in-If-2 : goal.add_statement-returns-in_ok-add_included-in-If-2
 add_statement-returns-in_ok-add_included-in-If-2 t c =

@@ -9,6 +9,7 @@ use Rattle.jt_inherit.specs.Layers.{layer_view}
 use Rattle.jt_inherit.specs.View.{chain_view}
 use Rattle.jt_inherit.specs.declared.layers.Layer.{Layer}
 use Rattle.jt_uses.specs.Names.{texts}
+use Rattle.jt_layout.proofs.Included.{layer_turn}
 use Rattle.jt_layout.proofs.includes.included_names.Goals as goal
 
 abbrev names_of : Layer → List Text
@@ -17,6 +18,12 @@ names_of y = needs_in true (body_view y.body.now)
 seen : (ts : List Template) (ls : List Layer) → flat_map names_of ls ≡ flat_map (λ t. needs_in true t.body) (map (layer_view ts) ls)
 seen ts [] = refl
 seen ts (y ∷ ls) = ap (λ l. names_of y ++ l) (seen ts ls)
+
+pub loop-layer-preserved : goal.loop-layer-preserved
+loop-layer-preserved c =
+    let l = c.loop-layer in
+    layer_turn names_of c.deref-layer-items.result.now l.layer-index c.layer-item.result (texts l.found.items) (texts c.add_included.new.found.items) c.loop-layer-test.true c.layer-item.is c.in_ok-add_included.ensures
+    ∙ l.invariant
 
 pub returns : goal.returns
 returns c =

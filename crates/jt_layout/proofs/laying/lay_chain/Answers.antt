@@ -28,14 +28,15 @@ returns-clause-laid c =
     let named = ap texts c.deref.ensures.value ∙ c.requires.named in
     let slot = slot_here W O h (rest a i lt f) f s in
     let count : length ms.all.items ≡ length (macros W.sources h) = sym (length-map (macro_view (chain_view a).templates) ms.all.items) ∙ ap length c.in_ok-macros.ensures.all in
-    let unit : c.in_ok-body_unit.body_unit ≡ c.in_ok-macro_unit.macro_unit + length (macros W.sources h) = omega (arith, c.in_ok-body_unit.ensures.added, c.len.ensures, ms.all.ok.0, count) in
+    let ps = c.in_ok-places.places in
+    let unit : ps.body_unit ≡ ps.macro_unit + length (macros W.sources h) = omega (arith, c.in_ok-places.ensures.body_unit, c.len-2.ensures, ms.all.ok.0, count) in
     let l : Laid = record {
       names = c.args.names;
       slots = c.in_ok-slots.slots;
       first_slot = f.slot;
       unit = f.unit;
-      macro_unit = c.in_ok-macro_unit.macro_unit;
-      body_unit = c.in_ok-body_unit.body_unit;
+      macro_unit = ps.macro_unit;
+      body_unit = ps.body_unit;
       macros = ms.all;
       called = ms.called;
       defaults = ms.defaults.places;
@@ -51,9 +52,9 @@ returns-clause-laid c =
       from = sym slot;
       chain_unit = sym (chain_unit W O h (rest a i lt f) f s);
       all_macros = c.in_ok-macros.ensures.all;
-      by_names = λ x. is_called a i lt f s l c.in_ok-macros.ensures.all c.in_ok-macros.ensures.defaults c.in_ok-macro_unit.ensures.added x _ (c.in_ok-macros.ensures.called x);
+      by_names = λ x. is_called a i lt f s l c.in_ok-macros.ensures.all c.in_ok-macros.ensures.defaults c.in_ok-places.ensures.macro_unit x _ (c.in_ok-macros.ensures.called x);
       all_blocks = c.in_ok-bodies.ensures.all;
-      body_units = λ k under. body_units a i lt f s bs.all.items c.in_ok-bodies.ensures.all _ _ k unit c.in_ok-macro_unit.ensures.added under;
+      body_units = λ k under. body_units a i lt f s bs.all.items c.in_ok-bodies.ensures.all _ _ k unit c.in_ok-places.ensures.macro_unit under;
       firsts = λ x. firsts_laid a i lt f s bs.all.items c.in_ok-bodies.ensures.all x _ (c.in_ok-bodies.ensures.firsts x);
       nexts = λ k n e b cs d. next_at (layout.numbered_bodies W h) k n (ap (λ ns. slice_get ns k) (sym c.in_ok-bodies.ensures.nexts) ∙ e) (k, b) cs d;
       all_next = count_next a i lt f s bs.all.items c.in_ok-bodies.ensures.all bs.nexts.items c.in_ok-bodies.ensures.nexts;
@@ -73,8 +74,9 @@ returns-clause-behind c =
     let s = here a i lt f c.requires.front in
     let count : length ms.all.items ≡ length (macros W.sources h) = sym (length-map (macro_view (chain_view a).templates) ms.all.items) ∙ ap length c.in_ok-macros.ensures.all in
     let slots : length c.args.names.items ≡ length (layout.names W (its_order a) h) = sym (length-map (λ k. k.now) c.args.names.items) ∙ ap length c.requires.named in
-    let units : c.in_ok-more-2.field-0 ≡ (f.unit + 1) + length ms.all.items + length bs.all.items =
-    omega (arith, c.in_ok-more-2.ensures.added, c.in_ok-body_unit.ensures.added, c.in_ok-macro_unit.ensures.added, c.len.ensures, c.len-3.ensures, ms.all.ok.0, bs.all.ok.0) in
-    let slots_are : c.in_ok-more.field-0 ≡ f.slot + length c.args.names.items = omega (arith, c.in_ok-more.ensures.added, c.len-2.ensures, c.args.names.ok.0) in
-    behind a i lt f s _ (length c.args.names.items) (length ms.all.items) (length bs.all.items) slots_are slots units count
-    (count_blocks a i lt f s bs.all.items c.in_ok-bodies.ensures.all) c.in_ok-macros.ensures.ended
+    let g = c.in_ok-places.places.behind in
+    let units : g.unit ≡ (f.unit + 1) + length ms.all.items + length bs.all.items =
+    omega (arith, c.in_ok-places.ensures.unit, c.in_ok-places.ensures.body_unit, c.in_ok-places.ensures.macro_unit, c.len-2.ensures, c.len-3.ensures, ms.all.ok.0, bs.all.ok.0) in
+    let slots_are : g.slot ≡ f.slot + length c.args.names.items = omega (arith, c.in_ok-places.ensures.slot, c.len.ensures, c.args.names.ok.0) in
+    behind a i lt f s g (length c.args.names.items) (length ms.all.items) (length bs.all.items) slots_are slots units count
+    (count_blocks a i lt f s bs.all.items c.in_ok-bodies.ensures.all) (c.in_ok-places.ensures.default ∙ c.in_ok-macros.ensures.ended)
