@@ -12,7 +12,7 @@ use jt_filters::{FilterId, Naming};
 use jt_ops::TestId;
 
 /// What has a name that may have no meaning.
-#[derive(Clone, Copy, Debug, PartialEq, Eq)]
+#[derive(Clone, Copy)]
 pub enum Named {
     Filter,
     Test,

@@ -85,7 +85,7 @@ pub enum Element {
 }
 
 /// What is read one level deeper.
-#[derive(Clone, Copy, Debug, PartialEq, Eq)]
+#[derive(Clone, Copy)]
 pub enum Form {
     Whole,
     Disjunction,
@@ -95,7 +95,7 @@ pub enum Form {
 }
 
 /// A level at which any number of operators may stand between operands, from the loosest.
-#[derive(Clone, Copy, Debug, PartialEq, Eq)]
+#[derive(Clone, Copy)]
 pub enum Chain {
     Disjunction,
     Conjunction,
@@ -106,7 +106,7 @@ pub enum Chain {
 }
 
 /// What a row holds.
-#[derive(Clone, Copy, Debug, PartialEq, Eq)]
+#[derive(Clone, Copy)]
 pub enum Row {
     /// The items of a list.
     Items,

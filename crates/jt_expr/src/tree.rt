@@ -59,7 +59,7 @@ pub enum BinaryOperator {
 }
 
 /// What stands for itself.
-#[derive(Debug, Drop)]
+#[derive(Drop)]
 pub enum Literal {
     /// A number.
     Number(i64),

@@ -1,6 +1,6 @@
 //! Images to bytes.
-ghost use Rattle.std.specs.Prelude.{◌≡◌, ◌<◌, ◌^◌, ◌++◌, length, IfOk, OnOk};
-ghost use Rattle.std.specs.Int.{w16, w32, to_le_bytes};
+ghost use Rattle.std.specs.Prelude.{◌≡◌, ◌<◌, ◌^◌, ◌++◌, ◌∷◌, [], length, IfOk, OnOk};
+ghost use Rattle.std.specs.Int.{w16, w32, w64, to_le_bytes, cast_unsigned};
 ghost use Rattle.std.specs.List.{flat_map, AllByRecursion};
 ghost use Rattle.jt_image.specs.View.{name_view, names_view, constant_view, constants_view, section_view, sections_view};
 ghost use Rattle.jt_image.specs.IsCode.{IsConstant};
@@ -41,11 +41,28 @@ fn put_names(out: &mut Vec<u8>, names: &[(u16, String)]) -> Result<(), NoMemory>
     Ok(())
 }
 
-fn put_text(out: &mut Vec<u8>, text: &str) -> Result<(), NoMemory>
+fn put_tag(out: &mut Vec<u8>, tag: u8) -> Result<(), NoMemory>
+    ensures { OnOk result (out.new.items ≡ out.old.items ++ tag ∷ []) }
+{
+    out.push(tag)?;
+    Ok(())
+}
+
+fn put_number(out: &mut Vec<u8>, tag: u8, number: i64) -> Result<(), NoMemory>
+    ensures { OnOk result
+        (out.new.items ≡ out.old.items ++ tag ∷ to_le_bytes w64 (cast_unsigned w64 number)) }
+{
+    out.push(tag)?;
+    out.extend_from_slice(&number.to_le_bytes())?;
+    Ok(())
+}
+
+fn put_text(out: &mut Vec<u8>, tag: u8, text: &str) -> Result<(), NoMemory>
     requires { length text.now < 2 ^ 32 }
     ensures { OnOk result
-        (out.new.items ≡ out.old.items ++ (to_le_bytes w32 (length text.now) ++ text.now)) }
+        (out.new.items ≡ out.old.items ++ tag ∷ (to_le_bytes w32 (length text.now) ++ text.now)) }
 {
+    out.push(tag)?;
     out.extend_from_slice(&(text.len() as u32).to_le_bytes())?;
     out.extend_from_slice(text.as_bytes())?;
     Ok(())
@@ -57,24 +74,14 @@ fn put_constant(out: &mut Vec<u8>, constant: &Constant) -> Result<(), NoMemory>
         (out.new.items ≡ out.old.items ++ constant_bytes (constant_view constant.now)) }
 {
     match constant {
-        Constant::Undefined => out.push(0)?,
-        Constant::None => out.push(1)?,
-        Constant::Bool(false) => out.push(2)?,
-        Constant::Bool(true) => out.push(3)?,
-        Constant::Int(number) => {
-            out.push(4)?;
-            out.extend_from_slice(&number.to_le_bytes())?;
-        }
-        Constant::Text(text) => {
-            out.push(5)?;
-            put_text(out, text.as_str())?;
-        }
-        Constant::Markup(text) => {
-            out.push(6)?;
-            put_text(out, text.as_str())?;
-        }
+        Constant::Undefined => put_tag(out, 0),
+        Constant::None => put_tag(out, 1),
+        Constant::Bool(false) => put_tag(out, 2),
+        Constant::Bool(true) => put_tag(out, 3),
+        Constant::Int(number) => put_number(out, 4, *number),
+        Constant::Text(text) => put_text(out, 5, text.as_str()),
+        Constant::Markup(text) => put_text(out, 6, text.as_str()),
     }
-    Ok(())
 }
 
 fn put_constants(out: &mut Vec<u8>, constants: &[Constant]) -> Result<(), NoMemory>
@@ -146,15 +153,22 @@ pub fn encode(alloc: Global, image: &Image) -> Result<Vec<u8>, NoMemory>
     ensures { IfOk result (λ v. v.items ≡ spelling image.now) }
 {
     let mut out = Vec::new(alloc);
-    out.extend_from_slice(b"JTBC")?;
-    put_count(&mut out, 1)?;
-    put_count(&mut out, usize::from(image.globals))?;
-    put_count(&mut out, image.names.len())?;
-    put_names(&mut out, &image.names)?;
-    put_count(&mut out, image.constants.len())?;
-    put_constants(&mut out, &image.constants)?;
-    put_count(&mut out, image.units.len())?;
-    put_headers(&mut out, &image.units)?;
-    put_codes(&mut out, &image.units)?;
+    put_image(&mut out, image)?;
     Ok(out)
+}
+
+fn put_image(out: &mut Vec<u8>, image: &Image) -> Result<(), NoMemory>
+    ensures { OnOk result (out.new.items ≡ out.old.items ++ spelling image.now) }
+{
+    out.extend_from_slice(b"JTBC")?;
+    put_count(out, 1)?;
+    put_count(out, usize::from(image.globals))?;
+    put_count(out, image.names.len())?;
+    put_names(out, &image.names)?;
+    put_count(out, image.constants.len())?;
+    put_constants(out, &image.constants)?;
+    put_count(out, image.units.len())?;
+    put_headers(out, &image.units)?;
+    put_codes(out, &image.units)?;
+    Ok(())
 }

@@ -2,6 +2,7 @@
 ghost use Rattle.std.specs.Prelude.{◌≡◌, length, option_map, slice_get};
 ghost use Rattle.jt_image.specs.IsCode.{IsCode, total_len};
 ghost use Rattle.jt_image.specs.Readers.{constant_ref_view, header_of, instruction_at};
+ghost use Rattle.jt_image.specs.View.{constant_view};
 
 use crate::code::{Code, ConstantRef, UnitHeader};
 use crate::instruction::Instruction;
@@ -16,6 +17,22 @@ pub enum Constant {
     Int(i64),
     Text(String),
     Markup(String),
+}
+
+impl Constant {
+    /// The constant, with its text lent.
+    fn lent(&self) -> ConstantRef<'_>
+        ensures { constant_ref_view result ≡ constant_view self.now }
+    {
+        match self {
+            Constant::Undefined => ConstantRef::Undefined,
+            Constant::None => ConstantRef::None,
+            Constant::Bool(truth) => ConstantRef::Bool(*truth),
+            Constant::Int(number) => ConstantRef::Int(*number),
+            Constant::Text(text) => ConstantRef::Text(text.as_str()),
+            Constant::Markup(text) => ConstantRef::Markup(text.as_str()),
+        }
+    }
 }
 
 /// A unit: its numbers and its instructions.
@@ -76,13 +93,8 @@ impl Code for Image {
 
     fn constant(&self, index: usize) -> Option<ConstantRef<'_>> {
         match self.constants.get(index) {
+            Some(constant) => Some(constant.lent()),
             None => None,
-            Some(Constant::Undefined) => Some(ConstantRef::Undefined),
-            Some(Constant::None) => Some(ConstantRef::None),
-            Some(Constant::Bool(truth)) => Some(ConstantRef::Bool(*truth)),
-            Some(Constant::Int(number)) => Some(ConstantRef::Int(*number)),
-            Some(Constant::Text(text)) => Some(ConstantRef::Text(text.as_str())),
-            Some(Constant::Markup(text)) => Some(ConstantRef::Markup(text.as_str())),
         }
     }
 

@@ -8,7 +8,7 @@ ghost use Rattle.jt_image.specs.Reading.{uses_none, uses_a, uses_ab, uses_ac, us
 use crate::instruction::Instruction;
 
 /// The four fields of an instruction. A field that the instruction does not use is 0.
-#[derive(Clone, Copy, Debug, PartialEq, Eq)]
+#[derive(Clone, Copy, PartialEq, Eq)]
 pub struct Instr {
     /// The opcode.
     pub op: u8,
