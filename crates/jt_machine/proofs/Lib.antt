@@ -12,3 +12,4 @@ pub mod Stacking
 pub mod Spreading
 pub mod Holding
 pub mod Weighing
+pub mod Growing

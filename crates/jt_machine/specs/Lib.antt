@@ -12,3 +12,4 @@ pub mod Session
 pub mod SessionCode
 pub mod StageView
 pub mod AtOnce
+pub mod Growing

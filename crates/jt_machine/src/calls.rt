@@ -89,15 +89,19 @@ fn go_on(state: &mut State, caller: Caller)
 }
 
 // Lets a caller go on with what the unit gives, or says which limit it passes.
+#[tactic(auto, using(crate::proofs::Returning::back_goes_on, crate::proofs::Pieces::on_err))]
 fn resume(
     state: &mut State,
     caller: Caller,
     given: Option<Value>,
 ) -> Result<Option<Outcome>, NoMemory>
     requires { state.old.left.depth + 1 < 2 ^ 32 }
-    ensures { IfOk result (λ r. back_with (caller_view caller state.old.stack.running)
+    ensures next { IfOk result (λ r. back_with (caller_view caller state.old.stack.running)
         state.old.stack.callers (given_view given) (config_view state.old)
         ≡ next_view r state.new) }
+    // Only a value within the limits takes memory.
+    ensures memory { OnErr result (GoesOn (back_with (caller_view caller state.old.stack.running)
+        state.old.stack.callers (given_view given) (config_view state.old))) }
 {
     let Some(value) = given else {
         go_on(state, caller);
@@ -114,9 +118,12 @@ fn resume(
 /// Goes back to the caller with what the unit gives, or ends with the text of the buffer.
 pub(crate) fn finish(alloc: Global, state: &mut State) -> Result<Option<Outcome>, NoMemory>
     requires depth { state.old.left.depth + length state.old.stack.callers < 2 ^ 32 }
-    ensures { IfOk result (λ r. (u : Option Section)
+    ensures next { IfOk result (λ r. (u : Option Section)
         → return_from u (config_view state.old) ≢ Wrong
         → return_from u (config_view state.old) ≡ next_view r state.new) }
+    ensures memory { OnErr result ((u : Option Section)
+        → return_from u (config_view state.old) ≢ Wrong
+        → GoesOn (return_from u (config_view state.old))) }
 {
     if let Some(outcome) = pay(state, 1) {
         return Ok(Some(outcome));

@@ -1,11 +1,12 @@
 //! Runs that stop and go on.
-ghost use Rattle.std.specs.Prelude.{◌≡◌, None, IfOk, IfErr, IfNone, OnOk, OnErr, option_map, option_copied, Some};
+ghost use Rattle.std.specs.Prelude.{◌≡◌, ◌<◌, None, IfOk, IfErr, IfNone, OnOk, OnErr, option_map, option_copied, Some};
 ghost use Rattle.jt_value.specs.Pairs.{Pairs};
 ghost use Rattle.jt_value.specs.ContextView.{pairs_of};
 ghost use Rattle.jt_image.specs.IsCode.{IsCode};
 ghost use Rattle.jt_image.specs.Typed.{IsTyped};
 ghost use Rattle.jt_image.specs.Config as config;
 ghost use Rattle.jt_image.specs.Run.{IsSafe, after};
+ghost use Rattle.jt_machine.specs.Growing.{ComesToGrow};
 ghost use Rattle.jt_machine.specs.Session.{SessionLaws, led, told_of};
 ghost use Rattle.jt_machine.specs.StageView.{stage_view, IsReached, IsUnderway};
 ghost use Rattle.jt_machine.specs.View.{config_view, next_view};
@@ -54,6 +55,7 @@ impl Model for Machine {
 }
 
 impl Machine {
+    ghost use Rattle.jt_machine.specs.Growing.{HasTables, MayLose};
     ghost use Rattle.jt_machine.specs.Session.{started, advanced, lost_session, is_lost, outcome_of, told_of, RunsInSlices};
     ghost use Rattle.jt_machine.specs.View.{budget_view, outcome_view};
 
@@ -72,6 +74,8 @@ impl Machine {
         ensures started { IfOk result
             (λ m. m ≡ started verified (pairs_of context.now) (budget_view budget)) }
         ensures back { IfErr result (λ e. e.0 ≡ verified) }
+        // Only the tables take memory.
+        ensures memory { OnErr result (HasTables verified) }
         // Every run of the image has one outcome, stays within its fuel and is never wrong.
         ensures safe { (x : Pairs) (b : config.Budget) → IsSafe verified x b }
         // In slices it comes to that outcome.
@@ -104,6 +108,8 @@ impl Machine {
         ensures steps { OnOk result (self.new ≡ advanced k self.old) }
         ensures progress { IfOk result (λ p. told_of self.new.status ≡ Some p) }
         ensures lost { OnErr result (self.new ≡ lost_session self.old) }
+        // Memory is wanted only where one of these steps goes on and puts something.
+        ensures memory { OnErr result (MayLose k self.old) }
         // A run that has ended wants no memory.
         ensures unended { IfErr result (λ e. outcome_of self.old ≡ None) }
     {
@@ -173,6 +179,8 @@ fn go_on<C: Code>(
     requires reached { IsReached (C.code code.now) state }
     ensures steps { IfOk result
         (λ r. stage_view r.0 ≡ led (after (C.code code.now) k (config_view state))) }
+    ensures memory { OnErr result
+        ((h : ComesToGrow (C.code code.now) (config_view state)) × (h.steps < k)) }
     ensures underway { IfOk result (λ r. IsUnderway (C.code code.now) r.0) }
     ensures progress { IfOk result (λ r. told_of (stage_view r.0) ≡ Some r.1) }
 {
@@ -194,6 +202,8 @@ fn take_steps<C: Code>(
     requires reached { IsReached (C.code code.now) state.old }
     ensures steps { IfOk result
         (λ r. after (C.code code.now) k (config_view state.old) ≡ next_view r state.new) }
+    ensures memory { OnErr result
+        ((h : ComesToGrow (C.code code.now) (config_view state.old)) × (h.steps < k)) }
     ensures reached { IfOk result (λ r. IfNone r (IsReached (C.code code.now) state.new)) }
 {
     code_laws();

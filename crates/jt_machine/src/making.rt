@@ -67,8 +67,8 @@ fn pay_values(state: &mut State, count: usize) -> Option<Outcome>
     pay(state, 1 + total / 64)
 }
 
-// Puts what an operation gave on top and goes on, or says how the run ends.
-fn push_answer(
+/// Puts what an operation gave on top and goes on, or says how the run ends.
+pub(crate) fn push_answer(
     state: &mut State,
     answer: Result<Value, OpError>,
 ) -> Result<Option<Outcome>, NoMemory>
@@ -150,8 +150,8 @@ fn operated(
     range(alloc, &[start, stop, step], limits)
 }
 
-// The limits of a budget on values.
-fn limits_of(budget: &Budget) -> Limits
+/// The limits of a budget on values.
+pub(crate) fn limits_of(budget: &Budget) -> Limits
     ensures size { result.size ≡ budget.now.size }
     ensures nesting { result.nesting ≡ budget.now.nesting }
 {

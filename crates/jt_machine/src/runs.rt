@@ -1,11 +1,12 @@
 //! Whole runs.
-ghost use Rattle.std.specs.Prelude.{IfOk};
+ghost use Rattle.std.specs.Prelude.{IfOk, OnErr};
 ghost use Rattle.jt_value.specs.Pairs.{Pairs};
 ghost use Rattle.jt_value.specs.ContextView.{pairs_of};
 ghost use Rattle.jt_image.specs.IsCode.{IsCode};
 ghost use Rattle.jt_image.specs.Typed.{IsTyped};
 ghost use Rattle.jt_image.specs.Config as config;
 ghost use Rattle.jt_image.specs.Run.{Run, IsSafe};
+ghost use Rattle.jt_machine.specs.Growing.{MayWant};
 ghost use Rattle.jt_machine.specs.View.{budget_view, outcome_view};
 
 use crate::at_once::hurry;
@@ -28,6 +29,9 @@ pub fn run(
     // The outcome is that of the run.
     ensures outcome { IfOk result
         (λ o. Run verified.now (pairs_of context.now) (budget_view budget) (outcome_view o)) }
+    // Memory is wanted only for the tables at the start, and at a step that goes on and puts something.
+    ensures memory { OnErr result
+        (MayWant verified.now (pairs_of context.now) (budget_view budget)) }
     // Every run of the image has one outcome, stays within its fuel and is never wrong.
     ensures safe { (x : Pairs) (b : config.Budget) → IsSafe verified.now x b }
 {
@@ -45,6 +49,9 @@ pub fn run_view(
     // The outcome is that of the run.
     ensures outcome { IfOk result
         (λ o. Run verified.now (pairs_of context.now) (budget_view budget) (outcome_view o)) }
+    // Memory is wanted only for the tables at the start, and at a step that goes on and puts something.
+    ensures memory { OnErr result
+        (MayWant verified.now (pairs_of context.now) (budget_view budget)) }
     // Every run of the code has one outcome, stays within its fuel and is never wrong.
     ensures safe { (x : Pairs) (b : config.Budget) → IsSafe verified.now x b }
 {
@@ -61,8 +68,10 @@ fn run_code<C: Code>(
 ) -> Result<Outcome, NoMemory>
     requires whole { IsCode (C.code code.now) }
     requires typed { IsTyped (C.code code.now) }
-    ensures { IfOk result
+    ensures outcome { IfOk result
         (λ o. Run (C.code code.now) (pairs_of context.now) (budget_view budget) (outcome_view o)) }
+    ensures memory { OnErr result
+        (MayWant (C.code code.now) (pairs_of context.now) (budget_view budget)) }
 {
     code_laws();
     if let Some(spent) = context_passes(code, context, &budget) {

@@ -1,11 +1,12 @@
 //! How a run starts: the context is tested, and fills the globals.
-ghost use Rattle.std.specs.Prelude.{◌≡◌, ◌+◌, ◌<◌, ◌^◌, IfOk, OnOk, Some, length, option_map, slice_get, slice_set, unwrap_or, replicate};
+ghost use Rattle.std.specs.Prelude.{◌≡◌, ◌+◌, ◌<◌, ◌^◌, IfOk, OnOk, OnErr, Some, length, option_map, slice_get, slice_set, unwrap_or, replicate};
 ghost use Rattle.jt_value.specs.Tree as tree;
 ghost use Rattle.jt_value.specs.View.{view};
 ghost use Rattle.jt_value.specs.Pairs.{look};
 ghost use Rattle.jt_value.specs.ContextView.{pairs_of};
 ghost use Rattle.jt_image.specs.Run.{limit_of_named, passed, filled, entry_locals as entry_locals_of, start as start_of};
 ghost use Rattle.jt_machine.specs.Entries.{values_view};
+ghost use Rattle.jt_machine.specs.Growing.{HasTables};
 ghost use Rattle.jt_machine.specs.View.{budget_view, limit_view, config_view};
 
 use crate::limits::passed_limit;
@@ -75,7 +76,8 @@ fn fill(
 }
 
 fn undefined_values(alloc: Global, count: u16) -> Result<Vec<Value>, NoMemory>
-    ensures { IfOk result (λ vs. values_view vs.items ≡ replicate count tree.undefined) }
+    ensures values { IfOk result (λ vs. values_view vs.items ≡ replicate count tree.undefined) }
+    ensures memory { OnErr result (0 < count) }
 {
     let mut values = Vec::new(alloc);
     'values: for _ in 0..count {
@@ -86,9 +88,11 @@ fn undefined_values(alloc: Global, count: u16) -> Result<Vec<Value>, NoMemory>
 
 // The globals: the context's values by their names, and others undefined.
 fn globals_of<C: Code>(alloc: Global, code: &C, context: &Context) -> Result<Vec<Value>, NoMemory>
-    ensures { IfOk result (λ gs. values_view gs.items
+    ensures values { IfOk result (λ gs. values_view gs.items
         ≡ filled (pairs_of context.now) (C.code code.now).names
         (replicate (C.code code.now).globals tree.undefined)) }
+    ensures memory { OnErr result
+        (0 < length (C.code code.now).names + (C.code code.now).globals) }
 {
     let mut globals = undefined_values(alloc, code.globals())?;
     'names: for i in 0..code.names() {
@@ -120,6 +124,8 @@ pub(crate) fn start<C: Code>(
     ensures state { IfOk result (λ s.
         config_view s ≡ start_of (C.code code.now) (pairs_of context.now) (budget_view budget)) }
     ensures depth { IfOk result (λ s. s.left.depth + length s.stack.callers < 2 ^ 32) }
+    // Only the tables take memory.
+    ensures memory { OnErr result (HasTables (C.code code.now)) }
 {
     // Only read, so that the depth is known to have 32 bits.
     let _depth = budget.depth;

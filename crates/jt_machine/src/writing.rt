@@ -8,6 +8,7 @@ ghost use Rattle.jt_image.specs.Typed.{IsTyped};
 ghost use Rattle.jt_image.specs.Config as config;
 ghost use Rattle.jt_image.specs.Run.{IsSafe};
 ghost use Rattle.jt_machine.specs.Emitting.{HasWritten, HasBegun, outcome_of, emitted_by, config_behind, text_written};
+ghost use Rattle.jt_machine.specs.Growing.{MayWant};
 ghost use Rattle.jt_machine.specs.Sinks.{TookFront};
 ghost use Rattle.jt_machine.specs.View.{budget_view, config_view, outcome_view};
 
@@ -80,6 +81,9 @@ pub fn run_to<W: Sink>(
     ensures write { IfErr result (λ e. e ≡ RunToError.Write → W.failed sink.new ≡ true) }
     ensures memory { IfErr result (λ e. e ≡ RunToError.NoMemory → W.failed sink.new ≡ false) }
     ensures still { OnOk result (W.failed sink.new ≡ false) }
+    // Memory is wanted only for the tables at the start, and at a step that goes on and puts something.
+    ensures wanted { IfErr result (λ e. e ≡ RunToError.NoMemory
+        → MayWant verified.now (pairs_of context.now) (budget_view budget)) }
     // Every run of the image has one outcome, stays within its fuel and is never wrong.
     ensures safe { (x : Pairs) (b : config.Budget) → IsSafe verified.now x b }
 {
@@ -105,6 +109,8 @@ fn write_code<C: Code, W: Sink>(
     ensures write { IfErr result (λ e. e ≡ RunToError.Write → W.failed sink.new ≡ true) }
     ensures memory { IfErr result (λ e. e ≡ RunToError.NoMemory → W.failed sink.new ≡ false) }
     ensures still { OnOk result (W.failed sink.new ≡ false) }
+    ensures wanted { IfErr result (λ e. e ≡ RunToError.NoMemory
+        → MayWant (C.code code.now) (pairs_of context.now) (budget_view budget)) }
 {
     code_laws();
     if let Some(spent) = context_passes(code, context, &budget) {

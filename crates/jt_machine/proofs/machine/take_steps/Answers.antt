@@ -2,7 +2,9 @@ use Rattle.std.proofs.Common.{◌≡◌, ◌+◌, ◌<◌, ◌^◌, ◌∙◌, s
 use Rattle.jt_image.specs.Config.{Config}
 use Rattle.jt_image.specs.Run.{next, after, Goes, Ends}
 use Rattle.jt_image.specs.Laws.{IsSound}
+use Rattle.jt_machine.specs.Growing.{ComesToGrow}
 use Rattle.jt_machine.specs.View.{config_view, outcome_view}
+use Rattle.jt_machine.proofs.Pieces.{on_err}
 use Rattle.jt_machine.proofs.Steps.{reached_sound, reached_next}
 use Rattle.jt_machine.proofs.Slicing.{reached_on, one_more, all_made, ended_within}
 use Rattle.jt_machine.proofs.machine.take_steps.Goals as goal
@@ -22,7 +24,7 @@ step-requires-clause-depth g c = c.steps.invariant.reached.depth
 pub steps-preserved : goal.steps-preserved
 steps-preserved g c =
     let k = g.C.Code.code c.args.code.now in
-    let e : next k (config_view c.steps.state) ≡ Goes (config_view c.step.new.state) = c.in_ok-outcome.ensures ∙ rw c.in_default.is refl in
+    let e : next k (config_view c.steps.state) ≡ Goes (config_view c.step.new.state) = c.in_ok-outcome.ensures.next ∙ rw c.in_default.is refl in
     record {
       so_far = one_more k c.steps.counter (config_view c.args.state.now) (config_view c.steps.state) (config_view c.step.new.state) c.steps.invariant.so_far e;
       reached = reached_on c.code_laws.ensures k c.requires.whole c.requires.typed c.steps.state c.step.new.state c.steps.invariant.reached e;
@@ -32,7 +34,7 @@ pub returns-in-Some-clause-steps : goal.returns-in-Some-clause-steps
 returns-in-Some-clause-steps g c =
     let k = g.C.Code.code c.args.code.now in
     let o = outcome_view c.in-Some.outcome in
-    let e : next k (config_view c.steps.state) ≡ Ends o = c.in_ok-outcome.ensures ∙ rw c.in-Some.is refl in
+    let e : next k (config_view c.steps.state) ≡ Ends o = c.in_ok-outcome.ensures.next ∙ rw c.in-Some.is refl in
     ended_within k c.steps.counter c.args.k (config_view c.args.state.now) (config_view c.steps.state) o c.steps.invariant.so_far e c.steps-test.true
 
 pub returns-clause-steps : goal.returns-clause-steps
@@ -40,3 +42,8 @@ returns-clause-steps g c = all_made (g.C.Code.code c.args.code.now) c.steps.coun
 
 pub returns-clause-reached : goal.returns-clause-reached
 returns-clause-reached g c = c.steps.invariant.reached
+
+pub returns-in_err-outcome-clause-memory : goal.returns-in_err-outcome-clause-memory
+returns-in_err-outcome-clause-memory g c =
+    let comes : ComesToGrow (g.C.Code.code c.args.code.now) (config_view c.args.state.now) = record { steps = c.steps.counter; last = config_view c.steps.state; reached = c.steps.invariant.so_far; grows = c.in_err-outcome.ensures.memory } in
+    on_err c.from_residual.result (comes, c.steps-test.true)

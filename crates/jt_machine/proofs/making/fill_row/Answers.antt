@@ -40,7 +40,7 @@ values-preserved c =
     let before : found (suc p) (map view (drop (suc p) (take n row))) c.values.stack.running ≡ values_on n c.args.stack.now.running = rw left at c.values.invariant.left in
     record {
       left = ap (λ (q : ℕ). found p (map view (drop p (take n (slice_set row q v)))) c.pop.new.self.running) place ∙ ap (λ (vs : List Value). found p (map view vs) c.pop.new.self.running) written
-      ∙ sym (one_taken (suc p) p (map view (drop (suc p) (take n row))) c.values.stack.running c.pop.new.self.running (view v) refl top) ∙ before;
+          ∙ sym (one_taken (suc p) p (map view (drop (suc p) (take n row))) c.values.stack.running c.pop.new.self.running (view v) refl top) ∙ before;
       callers = sym same ∙ c.values.invariant.callers;
       len = simp length-set len;
     }

@@ -1,8 +1,10 @@
-use Rattle.std.proofs.Common.{◌≡◌, ◌∙◌, sym, refl, ap, None, List, length, arith}
+use Rattle.std.proofs.Common.{◌≡◌, ◌∙◌, sym, refl, ap, inl, inr, None, List, length, arith}
 use Rattle.jt_value.specs.ContextView.{pairs_of}
 use Rattle.jt_image.specs.Config.{Caller, Config}
-use Rattle.jt_image.specs.Run.{next, Goes, Ends, passed}
+use Rattle.jt_image.specs.Run.{next, Goes, Ends, passed, start}
 use Rattle.jt_machine.specs.View.{budget_view, config_view, outcome_view}
+use Rattle.jt_machine.specs.Growing.{ComesToGrow}
+use Rattle.jt_machine.proofs.Pieces.{on_err}
 use Rattle.jt_machine.proofs.AtOnce.{reached_gone, ending_gone}
 use Rattle.jt_machine.proofs.Steps.{ending_now, ending_back, reached_next, reached_sound}
 use Rattle.jt_machine.proofs.runs.run_code.Goals as goal
@@ -39,7 +41,7 @@ step-requires-clause-depth g c = omega (arith, c.steps.invariant.depth, c.hurry.
 pub steps-preserved : goal.steps-preserved
 steps-preserved g c =
     let k = g.C.Code.code c.args.code.now in
-    let e : next k (config_view c.hurry.new.state) ≡ Goes (config_view c.step.new.state) = c.in_ok-outcome.ensures ∙ rw c.in_default-2.is refl in
+    let e : next k (config_view c.hurry.new.state) ≡ Goes (config_view c.step.new.state) = c.in_ok-outcome.ensures.next ∙ rw c.in_default-2.is refl in
     let r = reached_gone k (pairs_of c.args.context.now) (budget_view c.args.budget) c.steps.state c.hurry.new.state c.steps.invariant.reached c.hurry.ensures in
     record {
       reached = reached_next k (pairs_of c.args.context.now) (budget_view c.args.budget) (config_view c.hurry.new.state) (config_view c.step.new.state) r e;
@@ -50,18 +52,30 @@ steps-preserved g c =
 pub steps-smaller : goal.steps-smaller
 steps-smaller g c =
     let k = g.C.Code.code c.args.code.now in
-    let e : next k (config_view c.hurry.new.state) ≡ Goes (config_view c.step.new.state) = c.in_ok-outcome.ensures ∙ rw c.in_default-2.is refl in
+    let e : next k (config_view c.hurry.new.state) ≡ Goes (config_view c.step.new.state) = c.in_ok-outcome.ensures.next ∙ rw c.in_default-2.is refl in
     let r = reached_gone k (pairs_of c.args.context.now) (budget_view c.args.budget) c.steps.state c.hurry.new.state c.steps.invariant.reached c.hurry.ensures in
     let less = (reached_sound c.code_laws.ensures k c.requires.whole c.requires.typed (pairs_of c.args.context.now) (budget_view c.args.budget) (config_view c.hurry.new.state) r).takes (config_view c.step.new.state) e in
     omega (arith, less, c.hurry.ensures.fuel)
 
-pub returns-in-Some-2 : goal.returns-in-Some-2
-returns-in-Some-2 g c =
+pub returns-in-Some-2-clause-outcome : goal.returns-in-Some-2-clause-outcome
+returns-in-Some-2-clause-outcome g c =
     let k = g.C.Code.code c.args.code.now in
     let o = outcome_view c.in-Some-2.outcome in
     let x = pairs_of c.args.context.now in
     let b = budget_view c.args.budget in
-    let e : next k (config_view c.hurry.new.state) ≡ Ends o = c.in_ok-outcome.ensures ∙ rw c.in-Some-2.is refl in
+    let e : next k (config_view c.hurry.new.state) ≡ Ends o = c.in_ok-outcome.ensures.next ∙ rw c.in-Some-2.is refl in
     let r = c.steps.invariant.same o (ending_gone k c.steps.state c.hurry.new.state o c.hurry.ensures (ending_now k (config_view c.hurry.new.state) o e)) in
     let n : passed b x k.names ≡ None = sym c.in_default.ensures in
     rw n r
+
+pub returns-in_err-state-clause-memory : goal.returns-in_err-state-clause-memory
+returns-in_err-state-clause-memory g c = on_err c.from_residual.result (sym c.in_default.ensures, inl c.in_err-state.ensures.memory)
+
+pub returns-in_err-outcome-clause-memory : goal.returns-in_err-outcome-clause-memory
+returns-in_err-outcome-clause-memory g c =
+    let k = g.C.Code.code c.args.code.now in
+    let x = pairs_of c.args.context.now in
+    let b = budget_view c.args.budget in
+    let r = reached_gone k x b c.steps.state c.hurry.new.state c.steps.invariant.reached c.hurry.ensures in
+    let comes : ComesToGrow k (start k x b) = record { steps = r.0; last = config_view c.hurry.new.state; reached = r.1; grows = c.in_err-outcome.ensures.memory } in
+    on_err c.from_residual-in_err-outcome.result (sym c.in_default.ensures, inr comes)

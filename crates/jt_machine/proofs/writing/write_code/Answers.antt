@@ -1,4 +1,4 @@
-use Rattle.std.proofs.Common.{◌≡◌, ◌+◌, ◌<◌, ◌^◌, ◌∙◌, [], None, Option, ℕ, List, length, sym, refl, ap, arith}
+use Rattle.std.proofs.Common.{◌≡◌, ◌+◌, ◌<◌, ◌^◌, ◌∙◌, [], None, Option, ℕ, List, length, sym, refl, ap, inl, inr, arith}
 use Rattle.std.proofs.KnownBytes.{Appends-nil}
 use Rattle.jt_value.specs.ContextView.{pairs_of}
 use Rattle.jt_image.specs.Config.{Config}
@@ -6,6 +6,7 @@ use Rattle.jt_image.specs.Run.{next, start, Goes, Ends, passed, IsSafe}
 use Rattle.jt_machine.specs.Emitting.{emitted_by}
 use Rattle.jt_machine.specs.View.{budget_view, config_view, outcome_view}
 use Rattle.jt_machine.proofs.Pieces.{nothing_yet, was_sent, went_on, whole_run, cut_short, text_is, on_err}
+use Rattle.jt_machine.proofs.Growing.{if_err_given, so_far_grows}
 use Rattle.jt_machine.proofs.writing.write_code.Goals as goal
 
 pub steps-init : goal.steps-init
@@ -37,7 +38,7 @@ steps-preserved g c =
     let x = pairs_of c.args.context.now in
     let b = budget_view c.args.budget in
     let s = was_sent c.code_laws.ensures k c.requires.whole c.requires.typed x b (g.W.Sink.taken c.args.sink.now) (g.W.Sink.taken c.steps.sink) (g.W.Sink.taken c.send.new.sink) (config_view c.steps.state) (config_view c.send.new.state) tt c.steps.invariant.so_far c.in_ok-send.ensures.all c.in_ok-send.ensures.emptied in
-    let e : next k (config_view c.send.new.state) ≡ Goes (config_view c.step.new.state) = c.in_ok-outcome.ensures ∙ rw c.in_default-2.is refl in
+    let e : next k (config_view c.send.new.state) ≡ Goes (config_view c.step.new.state) = c.in_ok-outcome.ensures.next ∙ rw c.in_default-2.is refl in
     record {
       so_far = went_on k x b (g.W.Sink.taken c.args.sink.now) (g.W.Sink.taken c.send.new.sink) (config_view c.send.new.state) (config_view c.step.new.state) tt s.so_far e;
       works = c.in_ok-send.ensures.works;
@@ -50,7 +51,7 @@ steps-smaller g c =
     let x = pairs_of c.args.context.now in
     let b = budget_view c.args.budget in
     let s = was_sent c.code_laws.ensures k c.requires.whole c.requires.typed x b (g.W.Sink.taken c.args.sink.now) (g.W.Sink.taken c.steps.sink) (g.W.Sink.taken c.send.new.sink) (config_view c.steps.state) (config_view c.send.new.state) tt c.steps.invariant.so_far c.in_ok-send.ensures.all c.in_ok-send.ensures.emptied in
-    let e : next k (config_view c.send.new.state) ≡ Goes (config_view c.step.new.state) = c.in_ok-outcome.ensures ∙ rw c.in_default-2.is refl in
+    let e : next k (config_view c.send.new.state) ≡ Goes (config_view c.step.new.state) = c.in_ok-outcome.ensures.next ∙ rw c.in_default-2.is refl in
     omega (arith, s.sound.takes (config_view c.step.new.state) e, ap (λ (y : Config). y.left.fuel) c.in_ok-send.ensures.emptied)
 
 pub returns-in_err-state-clause-begun : goal.returns-in_err-state-clause-begun
@@ -96,7 +97,7 @@ returns-in_err-close-clause-begun g c =
     let d = config_view c.send.new.state in
     let o = outcome_view c.in-Some-2.outcome in
     let s = was_sent c.code_laws.ensures k c.requires.whole c.requires.typed x b (g.W.Sink.taken c.args.sink.now) (g.W.Sink.taken c.steps.sink) mid (config_view c.steps.state) d tt c.steps.invariant.so_far c.in_ok-send.ensures.all c.in_ok-send.ensures.emptied in
-    let e : next k d ≡ Ends o = c.in_ok-outcome.ensures ∙ rw c.in-Some-2.is refl in
+    let e : next k d ≡ Ends o = c.in_ok-outcome.ensures.next ∙ rw c.in-Some-2.is refl in
     let t = c.in_err-close.ensures.front in
     on_err c.from_residual-in_err-close.result (cut_short k x b (g.W.Sink.taken c.args.sink.now) mid (g.W.Sink.taken c.close.new.sink) d t.1.front t.0 n safe tt s.so_far (text_is k d o tt e s.empty ∙ t.1.parts) t.1.taken)
 
@@ -110,5 +111,16 @@ returns-in-Some-2-clause-ended g c =
     let d = config_view c.send.new.state in
     let o = outcome_view c.in-Some-2.outcome in
     let s = was_sent c.code_laws.ensures k c.requires.whole c.requires.typed x b (g.W.Sink.taken c.args.sink.now) (g.W.Sink.taken c.steps.sink) mid (config_view c.steps.state) d tt c.steps.invariant.so_far c.in_ok-send.ensures.all c.in_ok-send.ensures.emptied in
-    let e : next k d ≡ Ends o = c.in_ok-outcome.ensures ∙ rw c.in-Some-2.is refl in
+    let e : next k d ≡ Ends o = c.in_ok-outcome.ensures.next ∙ rw c.in-Some-2.is refl in
     whole_run k x b (g.W.Sink.taken c.args.sink.now) mid (g.W.Sink.taken c.close.new.sink) d o c.in_ok-close.field-0 n tt s.so_far s.empty e c.in_ok-close.ensures.ended c.in_ok-close.ensures.all
+
+pub returns-in_err-state-clause-wanted : goal.returns-in_err-state-clause-wanted
+returns-in_err-state-clause-wanted g c = if_err_given c.from_residual.result _ _ (sym c.in_default.ensures, inl c.in_err-state.ensures.memory)
+
+pub returns-in_err-outcome-clause-wanted : goal.returns-in_err-outcome-clause-wanted
+returns-in_err-outcome-clause-wanted g c =
+    let k = g.C.Code.code c.args.code.now in
+    let x = pairs_of c.args.context.now in
+    let b = budget_view c.args.budget in
+    let s = was_sent c.code_laws.ensures k c.requires.whole c.requires.typed x b (g.W.Sink.taken c.args.sink.now) (g.W.Sink.taken c.steps.sink) (g.W.Sink.taken c.send.new.sink) (config_view c.steps.state) (config_view c.send.new.state) tt c.steps.invariant.so_far c.in_ok-send.ensures.all c.in_ok-send.ensures.emptied in
+    if_err_given c.from_residual-in_err-outcome.result _ _ (sym c.in_default.ensures, inr (so_far_grows k x b (g.W.Sink.taken c.args.sink.now) (g.W.Sink.taken c.send.new.sink) (config_view c.send.new.state) tt s.so_far c.in_err-outcome.ensures.memory))
