@@ -6,7 +6,8 @@ use Rattle.std.specs.Option.{option_or}
 use Rattle.jt_expr.specs.View.{expr_view, exprs_view, pairs_view}
 use Rattle.jt_expr.specs.declared.tree.Expr.{Expr}
 use Rattle.jt_expr.specs.declared.tree.Expr.TheVariants as e
-use Rattle.jt_rules.proofs.Shown.{shown_Call, shown_Filter, shown_Test, shown_If, shown_For}
+use Rattle.jt_expr.specs.declared.tree.BinaryOperator.{BinaryOperator}
+use Rattle.jt_rules.proofs.Shown.{shown_Call, shown_Filter, shown_Test, shown_Item, shown_Binary, shown_When, shown_Choice, shown_If, shown_For}
 use Rattle.jt_rules.proofs.Turns.{or_three, or_none, some_first, none_first, filterings_turn}
 use Rattle.jt_parse.specs.Trees.{Text}
 use Rattle.jt_parse.specs.View.{stmt_view, body_view, branches_view, names_view, filtering_view, filterings_view}
@@ -22,7 +23,7 @@ use Rattle.jt_rules.specs.Walk as rules
 use Rattle.jt_rules.specs.World.{World}
 use Rattle.jt_rules.specs.Standing.{world_in}
 use Rattle.jt_rules.specs.declared.error.ScopeError.{ScopeError}
-use Rattle.jt_rules.proofs.Left.{Entry, Branch, branches_left}
+use Rattle.jt_rules.proofs.Left.{Entry, Branch, branches_left, pairs_left, row_left}
 
 abbrev Found : Type 0
 Found = Option ScopeError
@@ -106,6 +107,66 @@ module _ (world : World) (home : Home) (w : rules.Within) where
       → o1 ≡ option_or r3 r4 → o2 ≡ option_or r2 o1 → o2 ≡ rules.called_broken world home (expr_view x) w
   test_called x f vs rs p b y ts ps r2 r3 r4 o1 o2 is ef ev er h2 h3 h4 k1 k2 =
       applied f vs rs p ts ps r2 r3 r4 o1 o2 ef ev er h2 h3 h4 k1 k2 ∙ ap (λ z. rules.called_broken world home z w) (sym (ap expr_view is ∙ shown_Test p b y ts ps))
+
+  -- ---- operators and choices, as they are read and where they are called
+
+  pub item_read : (x a b : Expr) (p q : Box Expr Global) → x ≡ e.Item p q → a ≡ p.value → b ≡ q.value
+      → option_or (rules.broken world home (expr_view a) w) (rules.broken world home (expr_view b) w) ≡ rules.broken world home (expr_view x) w
+  item_read x a b p q is f g = rw (f, g) (ap (λ z. rules.broken world home z w) (sym (ap expr_view is ∙ shown_Item p q)))
+
+  pub binary_read : (x a b : Expr) (o : BinaryOperator) (p q : Box Expr Global) → x ≡ e.Binary o p q → a ≡ p.value → b ≡ q.value
+      → option_or (rules.broken world home (expr_view a) w) (rules.broken world home (expr_view b) w) ≡ rules.broken world home (expr_view x) w
+  binary_read x a b o p q is f g = rw (f, g) (ap (λ z. rules.broken world home z w) (sym (ap expr_view is ∙ shown_Binary o p q)))
+
+  pub when_read : (x a b : Expr) (p q : Box Expr Global) → x ≡ e.When p q → a ≡ p.value → b ≡ q.value
+      → option_or (rules.broken world home (expr_view a) w) (rules.broken world home (expr_view b) w) ≡ rules.broken world home (expr_view x) w
+  when_read x a b p q is f g = rw (f, g) (ap (λ z. rules.broken world home z w) (sym (ap expr_view is ∙ shown_When p q)))
+
+  pub choice_read : (x a b d : Expr) (p q r : Box Expr Global) → x ≡ e.Choice p q r → a ≡ p.value → b ≡ q.value → d ≡ r.value
+      → option_or (rules.broken world home (expr_view a) w) (option_or (rules.broken world home (expr_view b) w) (rules.broken world home (expr_view d) w)) ≡ rules.broken world home (expr_view x) w
+  choice_read x a b d p q r is f g h = rw (f, g, h) (ap (λ z. rules.broken world home z w) (sym (ap expr_view is ∙ shown_Choice p q r)))
+
+  pub item_called : (x a b : Expr) (p q : Box Expr Global) → x ≡ e.Item p q → a ≡ p.value → b ≡ q.value
+      → option_or (rules.broken world home (expr_view a) w) (rules.broken world home (expr_view b) w) ≡ rules.called_broken world home (expr_view x) w
+  item_called x a b p q is f g = rw (f, g) (ap (λ z. rules.called_broken world home z w) (sym (ap expr_view is ∙ shown_Item p q)))
+
+  pub binary_called : (x a b : Expr) (o : BinaryOperator) (p q : Box Expr Global) → x ≡ e.Binary o p q → a ≡ p.value → b ≡ q.value
+      → option_or (rules.broken world home (expr_view a) w) (rules.broken world home (expr_view b) w) ≡ rules.called_broken world home (expr_view x) w
+  binary_called x a b o p q is f g = rw (f, g) (ap (λ z. rules.called_broken world home z w) (sym (ap expr_view is ∙ shown_Binary o p q)))
+
+  pub when_called : (x a b : Expr) (p q : Box Expr Global) → x ≡ e.When p q → a ≡ p.value → b ≡ q.value
+      → option_or (rules.broken world home (expr_view a) w) (rules.broken world home (expr_view b) w) ≡ rules.called_broken world home (expr_view x) w
+  when_called x a b p q is f g = rw (f, g) (ap (λ z. rules.called_broken world home z w) (sym (ap expr_view is ∙ shown_When p q)))
+
+  pub choice_called : (x a b d : Expr) (p q r : Box Expr Global) → x ≡ e.Choice p q r → a ≡ p.value → b ≡ q.value → d ≡ r.value
+      → option_or (rules.broken world home (expr_view a) w) (option_or (rules.broken world home (expr_view b) w) (rules.broken world home (expr_view d) w)) ≡ rules.called_broken world home (expr_view x) w
+  choice_called x a b d p q r is f g h = rw (f, g, h) (ap (λ z. rules.called_broken world home z w) (sym (ap expr_view is ∙ shown_Choice p q r)))
+
+  -- ---- rows and pairs
+
+  pub row_some : (ts : List Expr) (i : ℕ) (t : Expr) (r : Found) (e : ScopeError) → i < length ts → t ≡ get_or ts i t → r ≡ rules.broken world home (expr_view t) w → r ≡ Some e
+      → Some e ≡ rules.row_broken world home (exprs_view (drop i ts)) w
+  row_some ts i t r e lt at h k =
+      some_first (rules.broken world home (expr_view t) w) (rules.row_broken world home (exprs_view (drop (i + 1) ts)) w) e (sym h ∙ k)
+      ∙ sym (ap (λ z. rules.row_broken world home z w) (row_left ts i t lt at))
+
+  pub row_none : (ts : List Expr) (i : ℕ) (t : Expr) (r : Found) → i < length ts → t ≡ get_or ts i t → r ≡ rules.broken world home (expr_view t) w → r ≡ None
+      → rules.row_broken world home (exprs_view (drop (i + 1) ts)) w ≡ rules.row_broken world home (exprs_view (drop i ts)) w
+  row_none ts i t r lt at h k =
+      none_first (rules.broken world home (expr_view t) w) (rules.row_broken world home (exprs_view (drop (i + 1) ts)) w) (sym h ∙ k)
+      ∙ sym (ap (λ z. rules.row_broken world home z w) (row_left ts i t lt at))
+
+  pub pairs_some : (ps : List Entry) (i : ℕ) (p : Entry) (r : Found) (e : ScopeError) → i < length ps → p ≡ get_or ps i p → r ≡ rules.broken world home (expr_view p.1) w → r ≡ Some e
+      → Some e ≡ rules.pairs_broken world home (pairs_view (drop i ps)) w
+  pairs_some ps i p r e lt at h k =
+      some_first (rules.broken world home (expr_view p.1) w) (rules.pairs_broken world home (pairs_view (drop (i + 1) ps)) w) e (sym h ∙ k)
+      ∙ sym (ap (λ z. rules.pairs_broken world home z w) (pairs_left ps i p lt at))
+
+  pub pairs_none : (ps : List Entry) (i : ℕ) (p : Entry) (r : Found) → i < length ps → p ≡ get_or ps i p → r ≡ rules.broken world home (expr_view p.1) w → r ≡ None
+      → rules.pairs_broken world home (pairs_view (drop (i + 1) ps)) w ≡ rules.pairs_broken world home (pairs_view (drop i ps)) w
+  pairs_none ps i p r lt at h k =
+      none_first (rules.broken world home (expr_view p.1) w) (rules.pairs_broken world home (pairs_view (drop (i + 1) ps)) w) (sym h ∙ k)
+      ∙ sym (ap (λ z. rules.pairs_broken world home z w) (pairs_left ps i p lt at))
 
   -- ---- a filter of a filter tag
 

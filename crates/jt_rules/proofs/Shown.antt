@@ -8,7 +8,8 @@ use Rattle.jt_expr.specs.View.{pairs_of, expr_step, expr_view, exprs_view, pairs
 use Rattle.jt_expr.specs.declared.tree.Expr.{Expr, fold-roll-Expr}
 use Rattle.jt_expr.specs.declared.tree.Expr.TheOpen.{Expr-F}
 use Rattle.jt_expr.specs.declared.tree.Expr.TheVariants as e
-use Rattle.jt_expr.specs.declared.tree.Expr.TheVariants.{rolls-Map, rolls-Call, rolls-Filter, rolls-Test}
+use Rattle.jt_expr.specs.declared.tree.Expr.TheVariants.{rolls-Map, rolls-Call, rolls-Filter, rolls-Test, rolls-Item, rolls-Binary, rolls-When, rolls-Choice}
+use Rattle.jt_expr.specs.declared.tree.BinaryOperator.{BinaryOperator}
 use Rattle.jt_parse.specs.Trees as written
 use Rattle.jt_parse.specs.View.{stmts_of, branches_of, stmt_step, stmt_view, body_view, branches_view, names_view, filterings_view, parameters_view}
 use Rattle.jt_parse.specs.declared.tree.Stmt.{Stmt, the_lemmas, fold-roll-Stmt}
@@ -50,6 +51,18 @@ pub shown_Test : (a : Box Expr Global) (n : Bool) (x : String Global) (ts : Vec 
 shown_Test a n x ts ps =
     ap expr_view (sym (rolls-Test a n x ts ps)) ∙ fold-roll-Expr trees.Expr expr_step (Expr-F.Test a n x ts ps)
     ∙ ap (trees.test (expr_view a.value) n (string_bytes x) (exprs_view ts.items)) (pairs-map _ (λ p. refl) (λ p. refl) ps.items)
+
+pub shown_Item : (a b : Box Expr Global) → expr_view (e.Item a b) ≡ trees.item (expr_view a.value) (expr_view b.value)
+shown_Item a b = ap expr_view (sym (rolls-Item a b)) ∙ fold-roll-Expr trees.Expr expr_step (Expr-F.Item a b)
+
+pub shown_Binary : (op : BinaryOperator) (a b : Box Expr Global) → expr_view (e.Binary op a b) ≡ trees.binary op (expr_view a.value) (expr_view b.value)
+shown_Binary op a b = ap expr_view (sym (rolls-Binary op a b)) ∙ fold-roll-Expr trees.Expr expr_step (Expr-F.Binary op a b)
+
+pub shown_When : (c a : Box Expr Global) → expr_view (e.When c a) ≡ trees.when (expr_view c.value) (expr_view a.value)
+shown_When c a = ap expr_view (sym (rolls-When c a)) ∙ fold-roll-Expr trees.Expr expr_step (Expr-F.When c a)
+
+pub shown_Choice : (c a b : Box Expr Global) → expr_view (e.Choice c a b) ≡ trees.choice (expr_view c.value) (expr_view a.value) (expr_view b.value)
+shown_Choice c a b = ap expr_view (sym (rolls-Choice c a b)) ∙ fold-roll-Expr trees.Expr expr_step (Expr-F.Choice c a b)
 
 pub counted : (ts : List Expr) → count (exprs_view ts) ≡ length ts
 counted [] = refl

@@ -1,6 +1,7 @@
 -- The first rule that is broken, of what is left of lists, and of several one behind the other.
 use Rattle.std.proofs.Common.{◌≡◌, ℕ, suc, ◌+◌, ◌<◌, ◌≤◌, Bool, true, false, List, [], ◌∷◌, length, map, drop, get_or, nat_lt, nat_le, refl, sym, ap, ◌∙◌, arith, Option, Some, None, Result, Ok, Err, IfOk}
 use Rattle.std.specs.Option.{option_or}
+use Rattle.std.specs.Prelude.{IsOkAnd}
 use Rattle.std.proofs.lemmas.List.{drop_more}
 use Rattle.std.proofs.lemmas.Option.{unwrap_or-slice_get}
 use Rattle.jt_parse.specs.Texts.{ascending}
@@ -38,6 +39,37 @@ or_three (Some e) b c d = refl
 pub or_none : (a : Found) → option_or a None ≡ a
 or_none None = refl
 or_none (Some e) = refl
+
+-- the first of two results, and of what is behind them
+pub either_is : {E : Type 0} (first second both : Result Found E) (a b : Found) → IfOk first (λ o. o ≡ a) → IfOk second (λ o. o ≡ b)
+    → IfOk both (λ o. IsOkAnd first (λ x. IsOkAnd second (λ y. o ≡ option_or x y))) → IfOk both (λ o. o ≡ option_or a b)
+either_is first second (Err e) a b p q k = cc
+either_is (Err e) second (Ok o) a b p q k = absurd k
+either_is (Ok x) (Err e) (Ok o) a b p q k = absurd k
+either_is (Ok x) (Ok y) (Ok o) a b p q k = k ∙ (ap (λ z. option_or z y) p ∙ ap (option_or a) q)
+
+pub part : {E : Type 0} (first last : Result Found E) (P : Found → Type 0) (c v : Found) → IfOk first P
+    → IfOk last (λ o. IsOkAnd first (λ z. o ≡ option_or z c)) → ((x : Found) → P x → option_or x c ≡ v) → IfOk last (λ o. o ≡ v)
+part first (Err e) P c v p l g = cc
+part (Err e) (Ok o) P c v p l g = absurd l
+part (Ok x) (Ok o) P c v p l g = l ∙ g x p
+
+pub parts : {E : Type 0} (first second both last : Result Found E) (P Q : Found → Type 0) (c v : Found) → IfOk first P → IfOk second Q
+    → IfOk both (λ o. IsOkAnd first (λ x. IsOkAnd second (λ y. o ≡ option_or x y))) → IfOk last (λ o. IsOkAnd both (λ z. o ≡ option_or z c))
+    → ((x y : Found) → P x → Q y → option_or x (option_or y c) ≡ v) → IfOk last (λ o. o ≡ v)
+parts first second both (Err e) P Q c v p q k l g = cc
+parts first second (Err e) (Ok o) P Q c v p q k l g = absurd l
+parts (Err e) second (Ok m) (Ok o) P Q c v p q k l g = absurd k
+parts (Ok x) (Err e) (Ok m) (Ok o) P Q c v p q k l g = absurd k
+parts (Ok x) (Ok y) (Ok m) (Ok o) P Q c v p q k l g = l ∙ (ap (λ z. option_or z c) k ∙ (or_grouped x y c ∙ g x y p q))
+
+-- the first of two results, behind another
+pub behind : {E : Type 0} (before rest last : Result Found E) (b : Found) → IfOk rest (λ o. o ≡ b)
+    → IfOk last (λ o. IsOkAnd before (λ x. IsOkAnd rest (λ y. o ≡ option_or x y))) → IfOk last (λ o. IsOkAnd before (λ x. o ≡ option_or x b))
+behind before rest (Err e) b q k = cc
+behind (Err e) rest (Ok o) b q k = absurd k
+behind (Ok x) (Err e) (Ok o) b q k = absurd k
+behind (Ok x) (Ok y) (Ok o) b q k = k ∙ ap (option_or x) q
 
 -- the first of two is broken, or it isn't
 pub some_first : (a rest : Found) (e : ScopeError) → a ≡ Some e → Some e ≡ option_or a rest

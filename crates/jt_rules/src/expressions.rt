@@ -1,6 +1,6 @@
 //! The static rules of expressions: the first that is broken, from left to right.
 
-ghost use Rattle.std.specs.Prelude.{◌≡◌, ◌&&◌, ◌==◌, nat_lt, not, is_some, IfOk, option_map};
+ghost use Rattle.std.specs.Prelude.{◌≡◌, ◌&&◌, ◌==◌, nat_lt, not, is_some, IfOk, IsOkAnd, option_map};
 ghost use Rattle.std.specs.Option.{option_or};
 ghost use Rattle.jt_expr.specs.Trees as trees;
 ghost use Rattle.jt_expr.specs.View.{expr_view, exprs_view, pairs_view};
@@ -198,8 +198,23 @@ fn name_of(expr: &Expr) -> Option<&str>
     }
 }
 
+// The arms of the two functions below have no early exit: a match with many of them is dear to prove.
+
+/// The first of two rules.
+fn either(
+    first: Result<Option<ScopeError>, AllocError>,
+    second: Result<Option<ScopeError>, AllocError>,
+) -> Result<Option<ScopeError>, AllocError>
+    ensures { IfOk result
+        (λ o. IsOkAnd first (λ a. IsOkAnd second (λ b. o ≡ option_or a b))) }
+{
+    let first = first?;
+    let second = second?;
+    Ok(first.or(second))
+}
+
 /// The first rule that an expression breaks.
-#[tactic(auto, using(crate::proofs::Shown::shown_Map, crate::proofs::Shown::shown_Call, crate::proofs::Shown::shown_Filter, crate::proofs::Shown::shown_Test))]
+#[tactic(auto, using(crate::proofs::Shown::shown_Map))]
 #[cycle(broken)]
 pub(crate) fn broken(
     scope: &Scope<'_>,
@@ -219,40 +234,31 @@ pub(crate) fn broken(
         Expr::Attribute(value, field) => attribute_broken(scope, within, value, field),
         Expr::Item(value, index) => both_broken(scope, within, value, index),
         Expr::Call(called, row, pairs) => {
-            let callee = called_broken(scope, within, called)?;
-            let call = call_broken(scope, within, called, row, pairs)?;
-            let places = row_broken(scope, within, row)?;
-            let keywords = pairs_broken(scope, within, pairs)?;
-            Ok(callee.or(call.or(places.or(keywords))))
+            let callee = called_broken(scope, within, called);
+            let call = call_broken(scope, within, called, row, pairs);
+            or_arguments_broken(scope, within, either(callee, call), row, pairs)
         }
         Expr::Filter(value, name, row, pairs) => {
-            let call = filter_broken(scope.alloc, name, row, pairs)?;
-            let input = broken(scope, within, value)?;
-            let places = row_broken(scope, within, row)?;
-            let keywords = pairs_broken(scope, within, pairs)?;
-            Ok(call.or(input.or(places.or(keywords))))
+            let call = filter_broken(scope.alloc, name, row, pairs);
+            let input = broken(scope, within, value);
+            or_arguments_broken(scope, within, either(call, input), row, pairs)
         }
         Expr::Test(value, _, name, row, pairs) => {
             let call = test_broken(name, row, pairs);
-            let input = broken(scope, within, value)?;
-            let places = row_broken(scope, within, row)?;
-            let keywords = pairs_broken(scope, within, pairs)?;
-            Ok(call.or(input.or(places.or(keywords))))
+            let input = broken(scope, within, value);
+            or_arguments_broken(scope, within, either(Ok(call), input), row, pairs)
         }
         Expr::Unary(_, operand) => broken(scope, within, operand),
         Expr::Binary(_, left, right) => both_broken(scope, within, left, right),
         Expr::When(condition, value) => both_broken(scope, within, condition, value),
         Expr::Choice(condition, value, other) => {
-            let first = broken(scope, within, condition)?;
-            let second = broken(scope, within, value)?;
-            let third = broken(scope, within, other)?;
-            Ok(first.or(second.or(third)))
+            three_broken(scope, within, condition, value, other)
         }
     }
 }
 
 /// The first rule that what is called breaks, where the named forms are no values that are read.
-#[tactic(auto, using(crate::proofs::Shown::shown_Map, crate::proofs::Shown::shown_Call, crate::proofs::Shown::shown_Filter, crate::proofs::Shown::shown_Test))]
+#[tactic(auto, using(crate::proofs::Shown::shown_Map))]
 #[cycle(broken)]
 fn called_broken(
     scope: &Scope<'_>,
@@ -272,31 +278,22 @@ fn called_broken(
         Expr::Attribute(value, field) => field_read_broken(scope, within, value, field),
         Expr::Item(value, index) => both_broken(scope, within, value, index),
         Expr::Call(inner, row, pairs) => {
-            let callee = called_broken(scope, within, inner)?;
-            let places = row_broken(scope, within, row)?;
-            let keywords = pairs_broken(scope, within, pairs)?;
-            Ok(callee.or(places.or(keywords)))
+            let callee = called_broken(scope, within, inner);
+            or_arguments_broken(scope, within, callee, row, pairs)
         }
         Expr::Filter(value, _, row, pairs) => {
-            let input = broken(scope, within, value)?;
-            let places = row_broken(scope, within, row)?;
-            let keywords = pairs_broken(scope, within, pairs)?;
-            Ok(input.or(places.or(keywords)))
+            let input = broken(scope, within, value);
+            or_arguments_broken(scope, within, input, row, pairs)
         }
         Expr::Test(value, _, _, row, pairs) => {
-            let input = broken(scope, within, value)?;
-            let places = row_broken(scope, within, row)?;
-            let keywords = pairs_broken(scope, within, pairs)?;
-            Ok(input.or(places.or(keywords)))
+            let input = broken(scope, within, value);
+            or_arguments_broken(scope, within, input, row, pairs)
         }
         Expr::Unary(_, operand) => broken(scope, within, operand),
         Expr::Binary(_, left, right) => both_broken(scope, within, left, right),
         Expr::When(condition, value) => both_broken(scope, within, condition, value),
         Expr::Choice(condition, value, other) => {
-            let first = broken(scope, within, condition)?;
-            let second = broken(scope, within, value)?;
-            let third = broken(scope, within, other)?;
-            Ok(first.or(second.or(third)))
+            three_broken(scope, within, condition, value, other)
         }
     }
 }
@@ -314,9 +311,48 @@ fn both_broken(
         (within_view within)) (rules.broken (its_world scope.now) (its_home scope.now)
         (expr_view second.now) (within_view within))) }
 {
-    let first = broken(scope, within, first)?;
-    let second = broken(scope, within, second)?;
-    Ok(first.or(second))
+    let first = broken(scope, within, first);
+    let second = broken(scope, within, second);
+    either(first, second)
+}
+
+/// The first rule that three expressions break.
+#[cycle(broken)]
+fn three_broken(
+    scope: &Scope<'_>,
+    within: Within,
+    first: &Expr,
+    second: &Expr,
+    third: &Expr,
+) -> Result<Option<ScopeError>, AllocError>
+    ensures { IfOk result (λ o. o
+        ≡ option_or (rules.broken (its_world scope.now) (its_home scope.now) (expr_view first.now)
+        (within_view within)) (option_or (rules.broken (its_world scope.now) (its_home scope.now)
+        (expr_view second.now) (within_view within)) (rules.broken (its_world scope.now)
+        (its_home scope.now) (expr_view third.now) (within_view within)))) }
+{
+    let first = broken(scope, within, first);
+    let others = both_broken(scope, within, second, third);
+    either(first, others)
+}
+
+/// The rule that is broken before arguments, or else the first one that they break.
+#[cycle(broken)]
+fn or_arguments_broken(
+    scope: &Scope<'_>,
+    within: Within,
+    before: Result<Option<ScopeError>, AllocError>,
+    row: &[Expr],
+    pairs: &[(String, Expr)],
+) -> Result<Option<ScopeError>, AllocError>
+    ensures { IfOk result (λ o. IsOkAnd before (λ first. o
+        ≡ option_or first (option_or (rules.row_broken (its_world scope.now) (its_home scope.now)
+        (exprs_view row.now) (within_view within)) (rules.pairs_broken (its_world scope.now)
+        (its_home scope.now) (pairs_view pairs.now) (within_view within))))) }
+{
+    let places = row_broken(scope, within, row);
+    let keywords = pairs_broken(scope, within, pairs);
+    either(before, either(places, keywords))
 }
 
 /// The first rule that an attribute breaks.
