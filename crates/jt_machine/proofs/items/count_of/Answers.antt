@@ -1,4 +1,4 @@
-use Rattle.std.proofs.Common.{refl, ap, ◌∙◌}
+use Rattle.std.proofs.Common.{ap, ◌∙◌}
 use Rattle.jt_value.specs.View.{view}
 use Rattle.jt_machine.proofs.Spreading.{list_counted, map_counted, text_counted, markup_counted}
 use Rattle.jt_machine.proofs.items.count_of.Goals as goal

@@ -1,9 +1,9 @@
-use Rattle.std.proofs.Common.{◌≡◌, ◌∷◌, ◌∙◌, true, false, List, length, cond, refl, sym, ap}
+use Rattle.std.proofs.Common.{◌≡◌, ◌∷◌, ◌∙◌, true, false, List, length, cond, refl, ap}
 use Rattle.std.specs.Prelude.{nat_lt}
-use Rattle.jt_image.specs.Config.{Frame, Entry, frame}
+use Rattle.jt_image.specs.Config.{Entry, frame}
 use Rattle.jt_image.specs.Loops.{advanced}
 use Rattle.jt_machine.specs.declared.state.State.{State}
-use Rattle.jt_machine.specs.Parts.{step_on, next_turn}
+use Rattle.jt_machine.specs.Parts.{next_turn}
 use Rattle.jt_machine.specs.View.{config_view}
 use Rattle.jt_machine.proofs.Steps.{turn_frame, turned, turn_is}
 use Rattle.jt_machine.proofs.loops.next_turn.Goals as goal

@@ -1,11 +1,9 @@
-use Rattle.std.proofs.Common.{◌≡◌, ◌+◌, ◌<◌, ◌^◌, ◌∙◌, suc, length, sym, refl, ap, arith}
-use Rattle.jt_image.specs.Config.{Config}
-use Rattle.jt_image.specs.Run.{next, after, Goes, Ends}
-use Rattle.jt_image.specs.Laws.{IsSound}
+use Rattle.std.proofs.Common.{◌≡◌, ◌∙◌, refl}
+use Rattle.jt_image.specs.Run.{next, Goes, Ends}
 use Rattle.jt_machine.specs.Growing.{ComesToGrow}
 use Rattle.jt_machine.specs.View.{config_view, outcome_view}
 use Rattle.jt_machine.proofs.Pieces.{on_err}
-use Rattle.jt_machine.proofs.Steps.{reached_sound, reached_next}
+use Rattle.jt_machine.proofs.Steps.{reached_sound}
 use Rattle.jt_machine.proofs.Slicing.{reached_on, one_more, all_made, ended_within}
 use Rattle.jt_machine.proofs.machine.take_steps.Goals as goal
 

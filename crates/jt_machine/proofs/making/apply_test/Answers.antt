@@ -1,4 +1,4 @@
-use Rattle.std.proofs.Common.{◌≡◌, ◌∙◌, Some, Ok, Err, ap, sym}
+use Rattle.std.proofs.Common.{◌≡◌, ◌∙◌, Some, Err, ap}
 use Rattle.jt_ops.specs.Limited.{limited, Answers}
 use Rattle.jt_ops.specs.Operation.{as_truth}
 use Rattle.jt_ops.specs.Testing.{tested}

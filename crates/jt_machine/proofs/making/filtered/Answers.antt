@@ -1,4 +1,4 @@
-use Rattle.std.proofs.Common.{◌≡◌, ℕ, subst, sym, arith}
+use Rattle.std.proofs.Common.{◌≡◌, ℕ, subst}
 use Rattle.jt_machine.specs.View.{HasValues}
 use Rattle.jt_machine.proofs.making.filtered.Goals as goal
 

@@ -3,7 +3,7 @@ use Rattle.jt_value.specs.View.{view}
 use Rattle.jt_image.specs.Step.{mapped, with_entries}
 use Rattle.jt_machine.specs.declared.state.State.{State}
 use Rattle.jt_machine.specs.Making.{IsWithin}
-use Rattle.jt_machine.specs.Parts.{make, made, answering, push, step_on, with_state, values_at, below}
+use Rattle.jt_machine.specs.Parts.{make, made, with_state, values_at, below}
 use Rattle.jt_machine.specs.View.{budget_view, config_view}
 use Rattle.jt_machine.proofs.Pieces.{on_err}
 use Rattle.jt_machine.proofs.Taking.{makes_of, has_same, values_are}

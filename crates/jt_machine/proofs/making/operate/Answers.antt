@@ -1,4 +1,4 @@
-use Rattle.std.proofs.Common.{◌≡◌, ◌∙◌, Some, ap, sym}
+use Rattle.std.proofs.Common.{◌≡◌, ◌∙◌, Some, ap}
 use Rattle.jt_ops.specs.Limited.{limited, Answers}
 use Rattle.jt_ops.specs.Operation.{operation}
 use Rattle.jt_ops.specs.OpTable.{op_operands}

@@ -1,7 +1,6 @@
-use Rattle.std.proofs.Common.{◌≡◌, ◌∙◌, ℕ, sym, subst, arith}
+use Rattle.std.proofs.Common.{◌≡◌, ℕ, subst, arith}
 use Rattle.jt_ops.specs.OpTable.{op_operands}
 use Rattle.jt_machine.specs.View.{HasValues}
-use Rattle.jt_machine.proofs.Taking.{few_operands, range_of}
 use Rattle.jt_machine.proofs.making.operated.Goals as goal
 
 pub pop_one-operand-requires : goal.pop_one-operand-requires

@@ -1,7 +1,7 @@
-use Rattle.std.proofs.Common.{◌≡◌, ◌∙◌, ◌-◌, ◌+◌, ◌∷◌, suc, List, map, reverse, refl, sym, ap, arith}
+use Rattle.std.proofs.Common.{◌≡◌, ◌∙◌, ◌-◌, ◌+◌, ◌∷◌, suc, map, reverse, sym, ap, arith}
 use Rattle.indexmap.proofs.ReorderLemmas.{map-reverse}
 use Rattle.jt_value.specs.View.{view}
-use Rattle.jt_image.specs.Config.{value, Caller}
+use Rattle.jt_image.specs.Config.{value}
 use Rattle.jt_machine.specs.Activations.{Activations}
 use Rattle.jt_machine.proofs.Taking.{more_is, one_taken, none_left, pushed}
 use Rattle.jt_machine.proofs.making.take_values.Goals as goal

@@ -1,6 +1,5 @@
-use Rattle.std.proofs.Common.{◌≡◌, ◌∙◌, ℕ, subst, sym, arith}
+use Rattle.std.proofs.Common.{◌≡◌, ℕ, subst}
 use Rattle.jt_machine.specs.View.{HasValues}
-use Rattle.jt_machine.proofs.Taking.{few_tested}
 use Rattle.jt_machine.proofs.making.tested.Goals as goal
 
 pub pop_one-value-requires : goal.pop_one-value-requires

@@ -1,10 +1,6 @@
-use Rattle.std.proofs.Common.{◌≡◌, ◌∙◌, sym, ap, refl, None}
-use Rattle.jt_value.specs.Tree as tree
-use Rattle.jt_value.specs.Tree.{no_entries}
-use Rattle.jt_image.specs.Step.{put_entries}
+use Rattle.std.proofs.Common.{sym}
 use Rattle.jt_machine.specs.Entries.{all_held}
 use Rattle.jt_machine.specs.View.{budget_view, limit_view}
-use Rattle.jt_machine.proofs.Mapping.{no_fault, a_fault, mapped_is}
 use Rattle.jt_machine.proofs.Weighing.{fault_ends, spent_ends, texts_within}
 use Rattle.jt_machine.proofs.maps.map_refusal.Goals as goal
 

@@ -1,4 +1,4 @@
-use Rattle.std.proofs.Common.{◌≡◌, ◌∙◌, ◌-◌, List, length, take, drop, min, sym, ap}
+use Rattle.std.proofs.Common.{◌∙◌, ◌-◌, List, length, take, drop, min, sym, ap}
 use Rattle.jt_machine.specs.declared.entries.Entry.{Entry}
 use Rattle.jt_machine.specs.Entries.{all_held}
 use Rattle.jt_machine.specs.Making.{lasting_size, lasting_nesting}

@@ -1,6 +1,6 @@
 use Rattle.std.proofs.Common.{◌≡◌, ◌∙◌, sym, refl, ap, inl, inr, None, List, length, arith}
 use Rattle.jt_value.specs.ContextView.{pairs_of}
-use Rattle.jt_image.specs.Config.{Caller, Config}
+use Rattle.jt_image.specs.Config.{Caller}
 use Rattle.jt_image.specs.Run.{next, Goes, Ends, passed, start}
 use Rattle.jt_machine.specs.View.{budget_view, config_view, outcome_view}
 use Rattle.jt_machine.specs.Growing.{ComesToGrow}

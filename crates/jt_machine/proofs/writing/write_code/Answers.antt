@@ -1,8 +1,8 @@
-use Rattle.std.proofs.Common.{◌≡◌, ◌+◌, ◌<◌, ◌^◌, ◌∙◌, [], None, Option, ℕ, List, length, sym, refl, ap, inl, inr, arith}
+use Rattle.std.proofs.Common.{◌≡◌, ◌∙◌, [], None, length, sym, refl, ap, inl, inr, arith}
 use Rattle.std.proofs.KnownBytes.{Appends-nil}
 use Rattle.jt_value.specs.ContextView.{pairs_of}
 use Rattle.jt_image.specs.Config.{Config}
-use Rattle.jt_image.specs.Run.{next, start, Goes, Ends, passed, IsSafe}
+use Rattle.jt_image.specs.Run.{next, start, Goes, Ends, passed}
 use Rattle.jt_machine.specs.Emitting.{emitted_by}
 use Rattle.jt_machine.specs.View.{budget_view, config_view, outcome_view}
 use Rattle.jt_machine.proofs.Pieces.{nothing_yet, was_sent, went_on, whole_run, cut_short, text_is, on_err}
