@@ -16,12 +16,13 @@ A context is JSON, in which "a"*62 is a text of 62 letters. An ANSWER is one of
     [x]                         the text x, in which ␤ is an LF; `62 bytes` is a text of so many bytes
     F6 NotIterable, Fuel        a fault, a spent number
     K5 JumpOut unit 0 point 0   a refusal
-    ok                          an image that is accepted, and ends with a text, a fault or a spent number
-    any                         such an image, or a refusal
+    ok                          an image that is accepted
+    any                         an image that ends with a text, a fault or a spent number, or a refusal
 
-Each answer is seen three times: `jt check` tells how many units and instructions an accepted image has, `jt run` how it ends, and
-`jt turns`, in slices of some instructions, the same in its own words; a refusal is told by all three. The status and both outputs are compared.
-Whether bytes are an image, and else their first fault, is read here too, and the program and each row must agree with that.
+`jt check` has to tell how many units and instructions an accepted image has, `jt run` how it ends, and `jt turns`, in slices of some
+instructions, the same in its own words; a refusal is seen by one of the first two, which read bytes in place, and by the last one,
+which decodes them. The status and both outputs are compared. Whether bytes are an image, and else their first fault, is read here
+too, and the program and each row must agree with that.
 
 A line that is no row, a file without rows and a program that is not there have failed. The last line is 'N passed, M failed', and
 the status is 1 where one failed.
@@ -44,6 +45,7 @@ HERE = pathlib.Path(__file__).resolve().parent
 SPENT = ("Fuel", "Depth", "Output", "Size", "Nesting")
 NUMBERS = ("fuel", "depth", "output", "size", "nesting")
 SLICES = ("1", "2", "3", "7", "100", "1000000")
+COMMANDS = ("check", "run", "turns")
 REFUSAL = re.compile(r"I[1-8] \w+|K[1-9] \w+ unit \d+ point \d+")
 FAULT = re.compile(r"F[1-9] \w+")
 VALUES = re.compile(r"values of (Op|Filter|Test) (\d+)")
@@ -99,13 +101,12 @@ def beginnings(row, spelling):
 
 
 def changes(row, spelling):
-    """A bit, the highest bit and all bits of each byte changed, and one more and one less; and the byte as 0."""
+    """The lowest bit, the highest one and all bits of each byte changed."""
     data = row.image(spelling)
     if row.wanted != "any":
         raise Malformed("changed bytes have any answer")
     for at, byte in enumerate(data):
-        values = {byte ^ 1, byte ^ 128, byte ^ 255, (byte + 1) % 256, (byte - 1) % 256, 0}
-        for value in sorted(values - {byte}):
+        for value in (byte ^ 1, byte ^ 128, byte ^ 255):
             yield data[:at] + bytes([value]) + data[at + 1:], "any"
 
 
@@ -125,9 +126,9 @@ def values(row, _):
     if not found or not wanted:
         raise Malformed("no numbers of values")
     word, least, most = f"{found[1]} {found[2]}", int(wanted[1]), int(wanted[2])
-    for count in (least, most) if found[1] == "Op" else sorted({0, 1, least - 1, least, most, most + 1, 256}):
+    for count in (least, most) if found[1] == "Op" else sorted({0, least - 1, least, most, most + 1, 256}):
         last = {"Op": word, "Filter": f"{word} {count} 0", "Test": f"{word} {count}"}[found[1]]
-        for there in (count - 1, count) if count else (0,):
+        for there in (count - 1, count) if least <= count <= most else (count,):
             flaw = "K6 BadIndex" if not least <= count <= most else "K1 MissingOperand" if there < count else None
             answer = f"{flaw} unit 0 point {there}" if flaw else "ok"
             yield row.image(f"constants undefined | unit {there}*Const 0, {last}, Drop, Return"), answer
@@ -153,11 +154,12 @@ class Bench:
         done = subprocess.run([self.program, *words], stdin=subprocess.DEVNULL, capture_output=True, timeout=100)
         return done.returncode, done.stdout, done.stderr.decode(errors="replace")
 
-    def answers(self, data, context, words):
-        """What the three commands say of an image."""
+    def answers(self, commands, data, context, words):
+        """What commands say of an image."""
         image, context = self.path(data), self.path(context)
-        found = (self.run("check", image), self.run("run", image, context, *words),
-                 self.run("turns", image, context, "--slice", SLICES[len(data) % len(SLICES)], *words))
+        slices = ["--slice", SLICES[len(data) % len(SLICES)]]
+        behind = {"check": [], "run": [context, *words], "turns": [context, *slices, *words]}
+        found = {command: self.run(command, image, *behind[command]) for command in commands}
         os.remove(image)
         return found
 
@@ -203,19 +205,25 @@ def differing(named, found, wanted):
     return [] if found == wanted else [f"{named} {str(found)[:300]}, wanted {str(wanted)[:300]}"]
 
 
+def commands_of(wanted, data, is_image):
+    """The commands that show an answer: `jt check` and `jt run` read bytes in place, `jt turns` decodes them."""
+    if wanted == "ok":
+        return ("check",)
+    if is_image and not REFUSAL.fullmatch(wanted):
+        return COMMANDS
+    return (COMMANDS[len(data) % 2], "turns")
+
+
 def wanted_of(wanted, counted, is_image, found):
-    """What the three commands are to say."""
-    check, run, _ = found
+    """What the commands are to say."""
     if REFUSAL.fullmatch(wanted):
-        return (refused(wanted),) * 3
-    if not is_image:
-        return (counted,) * 3
-    if wanted == "any" and check[2].startswith("jt: refused K"):
-        return (check,) * 3
-    if wanted in ("ok", "any"):
-        return counted, run, (0, as_it_ended(run), "")
-    ends, line = ended(wanted, run)
-    return counted, ends, (0, line, "")
+        return dict.fromkeys(COMMANDS, refused(wanted))
+    if wanted == "ok" or not is_image:
+        return dict.fromkeys(COMMANDS, counted)
+    if wanted == "any" and found["check"][2].startswith("jt: refused K"):
+        return dict.fromkeys(COMMANDS, found["check"])
+    ends, line = (found["run"], as_it_ended(found["run"])) if wanted == "any" else ended(wanted, found["run"])
+    return {"check": counted, "run": ends, "turns": (0, line, "")}
 
 
 def misread(wanted, counted, is_image):
@@ -226,9 +234,9 @@ def misread(wanted, counted, is_image):
 def differences(bench, data, context, words, wanted):
     """Where the program says something else of an image than is wanted."""
     counted, is_image = read(data)
-    found = bench.answers(data, context, words)
-    three = zip(("check", "run", "turns"), found, wanted_of(wanted, counted, is_image, found))
-    different = [text for named, one, other in three for text in differing(named, one, other)]
+    found = bench.answers(commands_of(wanted, data, is_image), data, context, words)
+    answers = wanted_of(wanted, counted, is_image, found)
+    different = [text for command in found for text in differing(command, found[command], answers[command])]
     if misread(wanted, counted, is_image):
         different.append(f"by the reading here {counted}")
     return [f"{data[:200].hex()}: {text}" for text in different]
