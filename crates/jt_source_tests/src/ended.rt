@@ -1,14 +1,14 @@
-//! How a step of the plain machine ends a run.
+//! Why the plain machine's run stops.
 
 use jt_budget::Spent;
 use jt_filters::OpError;
 use jt_value::{Fault, NoMemory, ValueError};
 use std::alloc::{AllocError, AllocFailed};
 
-/// The end of a run: its outcome, a state that has no next one, or a growth that was refused.
-#[derive(Drop)]
+/// The end of a run: done, a fault, a number that did not suffice, a state that has no next one, or a growth that was refused.
+#[derive(Clone, Copy)]
 pub(crate) enum End {
-    Text(String),
+    Done,
     Fault(Fault),
     Spent(Spent),
     Wrong,

@@ -1,13 +1,9 @@
-//! Tests of what makes code of sources, from the scanner to the compiler, through their public calls. They stand apart from
-//! the crates that they test, so that the gate proves each crate once.
+//! Tests of what makes code of sources and runs it, through public calls: what the program doesn't show. The machine beside a plain one,
+//! texts that are written in pieces, and hosts. The rows of the language are run over the program itself.
 #![tactic(auto)]
 
 #[cfg(test)]
 mod ended;
-#[cfg(test)]
-mod expr;
-#[cfg(test)]
-mod parse;
 #[cfg(test)]
 mod pieces;
 #[cfg(test)]
@@ -19,10 +15,10 @@ mod plain_making;
 #[cfg(test)]
 mod plain_rows;
 #[cfg(test)]
-mod rendering;
-#[cfg(test)]
 mod rows;
 #[cfg(test)]
-mod scan;
-#[cfg(test)]
 mod sessions;
+#[cfg(test)]
+mod shelf;
+#[cfg(test)]
+mod sources;

@@ -1,5 +1,8 @@
 //! A plain machine: a list of activations, the running one last, each with its own point, locals and entries. It follows the table
 //! of instructions word by word and shares with the machine only values, and what operators, filters and tests give.
+//!
+//! It keeps every value that was made, and is told of one by its place among them: what holds no value is let go for nothing, so the
+//! prover has little to do.
 
 use crate::ended::End;
 use crate::plain_loops::Loop;
@@ -9,11 +12,14 @@ use jt_image::{Code, ConstantRef, Image, Instruction};
 use jt_value::{Context, Value};
 use std::alloc::Global;
 
-/// An entry of an activation.
-#[derive(Drop)]
+/// The place of the value undefined, the first one.
+pub(crate) const UNDEFINED: usize = 0;
+
+/// An entry of an activation: the place of a value or of a loop, or a capture.
+#[derive(Clone, Copy)]
 pub(crate) enum Entry {
-    Value(Value),
-    Loop(Loop),
+    Value(usize),
+    Loop(usize),
     Capture,
 }
 
@@ -22,7 +28,7 @@ pub(crate) enum Entry {
 pub(crate) struct Activation {
     unit: usize,
     pub(crate) point: usize,
-    locals: Vec<Value>,
+    locals: Vec<usize>,
     entries: Vec<Entry>,
 }
 
@@ -32,35 +38,27 @@ pub(crate) struct Plain<'a> {
     pub(crate) alloc: Global,
     image: &'a Image,
     activations: Vec<Activation>,
-    globals: Vec<Value>,
+    pub(crate) values: Vec<Value>,
+    pub(crate) loops: Vec<Loop>,
+    globals: Vec<usize>,
     buffers: Vec<String>,
     pub(crate) left: Budget,
 }
 
-/// How the run of an image ends.
-pub(crate) fn plain_end(alloc: Global, image: &Image, context: &Context, budget: Budget) -> End {
-    match begun(alloc, image, context, budget) {
-        Ok(plain) => carried_on(plain, budget.fuel),
-        Err(end) => end,
-    }
-}
-
-// A run at its first instruction.
-fn begun<'a>(
+/// The text of a run of an image, or how it ends without one.
+pub(crate) fn plain_end(
     alloc: Global,
-    image: &'a Image,
+    image: &Image,
     context: &Context,
     budget: Budget,
-) -> Result<Plain<'a>, End> {
-    let mut globals = undefined(alloc, usize::from(image.globals()))?;
-    for i in 0..image.names() {
-        let (slot, name) = image.name(i).ok_or(End::Wrong)?;
-        if let Some(value) = context.get(name) {
-            fit(value, &budget)?;
-            let slot = globals.get_mut(usize::from(slot)).ok_or(End::Wrong)?;
-            *slot = value.try_clone(alloc)?;
-        }
-    }
+) -> Result<String, End> {
+    let mut plain = begun(alloc, image, budget)?;
+    plain.bind(context)?;
+    carried_on(plain, budget.fuel)
+}
+
+// A run at its first instruction, where no name has a value.
+fn begun(alloc: Global, image: &Image, budget: Budget) -> Result<Plain<'_>, End> {
     let header = image.unit(0).ok_or(End::Wrong)?;
     let first = Activation {
         unit: 0,
@@ -72,29 +70,36 @@ fn begun<'a>(
         alloc,
         image,
         activations: vec![in alloc; first]?,
-        globals,
+        values: vec![in alloc; Value::Undefined]?,
+        loops: Vec::new(alloc),
+        globals: undefined(alloc, usize::from(image.globals()))?,
         buffers: vec![in alloc; String::new(alloc)]?,
         left: budget,
     })
 }
 
 // The end of a run: an instruction costs at least 1, so there is one after as many steps as there is fuel and one more.
-fn carried_on(plain: Plain<'_>, fuel: u64) -> End {
+fn carried_on(plain: Plain<'_>, fuel: u64) -> Result<String, End> {
     let mut plain = plain;
-    for _ in 0..fuel.saturating_add(1) {
-        if let Err(end) = plain.step() {
-            return end;
+    let mut ended = Ok(());
+    for _ in 0..=fuel {
+        if ended.is_ok() {
+            ended = plain.step();
         }
     }
-    End::Wrong
+    match (ended, plain.buffers.pop()) {
+        (Err(End::Done), Some(text)) => Ok(text),
+        (Err(end), _) => Err(end),
+        (Ok(()), _) => Err(End::Wrong),
+    }
 }
 
-fn undefined(alloc: Global, count: usize) -> Result<Vec<Value>, End> {
-    let mut values = Vec::new(alloc);
+fn undefined(alloc: Global, count: usize) -> Result<Vec<usize>, End> {
+    let mut places = Vec::new(alloc);
     for _ in 0..count {
-        values.push(Value::Undefined)?;
+        places.push(UNDEFINED)?;
     }
-    Ok(values)
+    Ok(places)
 }
 
 /// Tests a value against the limits, its size first.
@@ -109,6 +114,20 @@ pub(crate) fn fit(value: &Value, left: &Budget) -> Result<(), End> {
 }
 
 impl Plain<'_> {
+    // Gives the globals that have a name the values of a context.
+    fn bind(&mut self, context: &Context) -> Result<(), End> {
+        for i in 0..self.image.names() {
+            let (slot, name) = self.image.name(i).ok_or(End::Wrong)?;
+            if let Some(value) = context.get(name) {
+                fit(value, &self.left)?;
+                let copy = value.try_clone(self.alloc)?;
+                let place = self.kept(copy)?;
+                self.set_global(usize::from(slot), place)?;
+            }
+        }
+        Ok(())
+    }
+
     fn step(&mut self) -> Result<(), End> {
         let running = self.running()?;
         let (unit, point) = (running.unit, running.point);
@@ -133,10 +152,7 @@ impl Plain<'_> {
             Instruction::Store { local } => self.store(local as usize),
             Instruction::GLoad { global } => self.load_global(global as usize),
             Instruction::GStore { global } => self.store_global(global as usize),
-            Instruction::Drop => {
-                self.pop()?;
-                self.pay(1)
-            }
+            Instruction::Drop => self.let_go(),
             Instruction::Dup => self.double(),
             Instruction::Emit { flag } => self.emit(flag == 1),
             Instruction::Data { constant } => self.data(constant as usize),
@@ -180,55 +196,66 @@ impl Plain<'_> {
         Ok(())
     }
 
+    /// The value at a place.
+    pub(crate) fn value(&self, place: usize) -> Result<&Value, End> {
+        self.values.get(place).ok_or(End::Wrong)
+    }
+
+    // Keeps a value, and tells its place.
+    fn kept(&mut self, value: Value) -> Result<usize, End> {
+        let place = self.values.len();
+        self.values.push(value)?;
+        Ok(place)
+    }
+
     pub(crate) fn push_entry(&mut self, entry: Entry) -> Result<(), End> {
         self.running()?.entries.push(entry)?;
         Ok(())
     }
 
+    /// Puts the value at a place on top, where it fits.
+    pub(crate) fn push_at(&mut self, place: usize) -> Result<(), End> {
+        fit(self.value(place)?, &self.left)?;
+        self.push_entry(Entry::Value(place))
+    }
+
+    /// Puts a new value on top, where it fits.
     pub(crate) fn push(&mut self, value: Value) -> Result<(), End> {
-        fit(&value, &self.left)?;
-        self.push_entry(Entry::Value(value))
+        let place = self.kept(value)?;
+        self.push_at(place)
     }
 
     pub(crate) fn pop_entry(&mut self) -> Result<Entry, End> {
-        match self.running()?.entries.pop() {
-            Some(entry) => Ok(entry),
-            None => Err(End::Wrong),
-        }
+        self.running()?.entries.pop().ok_or(End::Wrong)
     }
 
-    pub(crate) fn pop(&mut self) -> Result<Value, End> {
+    pub(crate) fn pop(&mut self) -> Result<usize, End> {
         match self.pop_entry()? {
-            Entry::Value(value) => Ok(value),
+            Entry::Value(place) => Ok(place),
             _ => Err(End::Wrong),
         }
     }
 
-    // That many values from the top, the deepest first.
-    pub(crate) fn pop_many(&mut self, count: usize) -> Result<Vec<Value>, End> {
-        let mut values = Vec::new(self.alloc);
+    // The places of that many values from the top, the deepest first.
+    pub(crate) fn pop_many(&mut self, count: usize) -> Result<Vec<usize>, End> {
+        let mut places = Vec::new(self.alloc);
         for _ in 0..count {
-            values.push(self.pop()?)?;
+            places.push(self.pop()?)?;
         }
-        values.reverse();
-        Ok(values)
+        places.reverse();
+        Ok(places)
     }
 
-    // The entry that has so many above it.
-    fn entry_at(&mut self, above: usize) -> Result<&mut Entry, End> {
-        let entries = &mut self.running()?.entries;
-        let Some(place) = entries.len().checked_sub(1) else {
-            return Err(End::Wrong);
-        };
-        let Some(place) = place.checked_sub(above) else {
-            return Err(End::Wrong);
-        };
-        entries.get_mut(place).ok_or(End::Wrong)
-    }
-
+    // The loop that has so many entries above it.
     pub(crate) fn loop_at(&mut self, above: usize) -> Result<&mut Loop, End> {
-        match self.entry_at(above)? {
-            Entry::Loop(running) => Ok(running),
+        let entries = &self.running()?.entries;
+        let depth = above.saturating_add(1);
+        let place = entries.len().checked_sub(depth).ok_or(End::Wrong)?;
+        match entries.get(place) {
+            Some(Entry::Loop(place)) => {
+                let place = *place;
+                self.loops.get_mut(place).ok_or(End::Wrong)
+            }
             _ => Err(End::Wrong),
         }
     }
@@ -240,9 +267,9 @@ impl Plain<'_> {
     }
 
     fn branch(&mut self, target: u32, when: bool) -> Result<(), End> {
-        let truth = self.pop()?.truth();
+        let place = self.pop()?;
         self.pay(1)?;
-        if truth == when {
+        if self.value(place)?.truth() == when {
             self.running()?.point = target as usize;
         }
         Ok(())
@@ -263,40 +290,44 @@ impl Plain<'_> {
 
     fn load(&mut self, local: usize) -> Result<(), End> {
         self.pay(1)?;
-        let alloc = self.alloc;
-        let value = self.running()?.locals.get(local).ok_or(End::Wrong)?;
-        let copy = value.try_clone(alloc)?;
-        self.push(copy)
+        let place = *self.running()?.locals.get(local).ok_or(End::Wrong)?;
+        self.push_at(place)
     }
 
     fn store(&mut self, local: usize) -> Result<(), End> {
-        let value = self.pop()?;
+        let place = self.pop()?;
         self.pay(1)?;
-        *self.running()?.locals.get_mut(local).ok_or(End::Wrong)? = value;
+        *self.running()?.locals.get_mut(local).ok_or(End::Wrong)? = place;
         Ok(())
     }
 
     fn load_global(&mut self, global: usize) -> Result<(), End> {
         self.pay(1)?;
-        let value = self.globals.get(global).ok_or(End::Wrong)?;
-        let copy = value.try_clone(self.alloc)?;
-        self.push(copy)
+        let place = *self.globals.get(global).ok_or(End::Wrong)?;
+        self.push_at(place)
     }
 
     fn store_global(&mut self, global: usize) -> Result<(), End> {
-        let value = self.pop()?;
+        let place = self.pop()?;
         self.pay(1)?;
-        *self.globals.get_mut(global).ok_or(End::Wrong)? = value;
+        self.set_global(global, place)
+    }
+
+    fn set_global(&mut self, global: usize, place: usize) -> Result<(), End> {
+        *self.globals.get_mut(global).ok_or(End::Wrong)? = place;
         Ok(())
     }
 
+    fn let_go(&mut self) -> Result<(), End> {
+        self.pop()?;
+        self.pay(1)
+    }
+
     fn double(&mut self) -> Result<(), End> {
+        let place = self.pop()?;
         self.pay(1)?;
-        let alloc = self.alloc;
-        let value = self.pop()?;
-        let copy = value.try_clone(alloc)?;
-        self.push_entry(Entry::Value(value))?;
-        self.push(copy)
+        self.push_entry(Entry::Value(place))?;
+        self.push_at(place)
     }
 
     // Puts a text into the innermost buffer.
@@ -311,15 +342,23 @@ impl Plain<'_> {
     }
 
     fn emit(&mut self, escaping: bool) -> Result<(), End> {
-        let value = self.pop()?;
-        self.pay(1 + value.size() / 64)?;
+        let place = self.pop()?;
+        let cost = 1 + self.value(place)?.size() / 64;
+        self.pay(cost)?;
+        let text = self.printed(place, escaping)?;
+        self.put(&text)
+    }
+
+    // What a value prints as.
+    fn printed(&self, place: usize, escaping: bool) -> Result<String, End> {
+        let value = self.value(place)?;
         let text = value.printed(self.alloc)?;
-        if !escaping || matches!(&value, Value::Markup(_)) {
-            return self.put(&text);
+        if !escaping || matches!(value, Value::Markup(_)) {
+            return Ok(text);
         }
         let mut escaped = String::new(self.alloc);
         escape_into(&text, &mut escaped)?;
-        self.put(&escaped)
+        Ok(escaped)
     }
 
     fn data(&mut self, index: usize) -> Result<(), End> {
@@ -342,9 +381,7 @@ impl Plain<'_> {
             return Err(End::Wrong);
         };
         self.pay(1)?;
-        let Some(text) = self.buffers.pop() else {
-            return Err(End::Wrong);
-        };
+        let text = self.buffers.pop().ok_or(End::Wrong)?;
         let value = if is_markup {
             Value::from_markup(text)?
         } else {
@@ -357,12 +394,12 @@ impl Plain<'_> {
         let header = self.image.unit(unit).ok_or(End::Wrong)?;
         let mut locals = self.pop_many(usize::from(header.parameters))?;
         self.pay(1)?;
-        let Some(depth) = self.left.depth.checked_sub(1) else {
-            return Err(End::Spent(Spent::Depth));
+        self.left.depth = match self.left.depth.checked_sub(1) {
+            Some(depth) => depth,
+            None => return Err(End::Spent(Spent::Depth)),
         };
-        self.left.depth = depth;
         for _ in locals.len()..usize::from(header.locals) {
-            locals.push(Value::Undefined)?;
+            locals.push(UNDEFINED)?;
         }
         self.activations.push(Activation {
             unit,
@@ -376,20 +413,15 @@ impl Plain<'_> {
     // Back to the caller with what the unit gives, or the end of the run.
     fn come_back(&mut self) -> Result<(), End> {
         self.pay(1)?;
-        let Some(ended) = self.activations.pop() else {
-            return Err(End::Wrong);
-        };
+        let given = self.running()?.entries.pop();
+        self.activations.pop();
         if self.activations.is_empty() {
-            return Err(match self.buffers.pop() {
-                Some(text) => End::Text(text),
-                None => End::Wrong,
-            });
+            return Err(End::Done);
         }
         self.left.depth = self.left.depth.saturating_add(1);
-        let mut entries = ended.entries;
-        match entries.pop() {
+        match given {
             None => Ok(()),
-            Some(Entry::Value(value)) => self.push(value),
+            Some(Entry::Value(place)) => self.push_at(place),
             Some(_) => Err(End::Wrong),
         }
     }

@@ -1,89 +1,97 @@
 //! The plain machine's loops.
 
 use crate::ended::End;
-use crate::plain::{Entry, Plain};
+use crate::plain::{Entry, Plain, UNDEFINED};
 use jt_image::LoopField;
 use jt_value::{Fault, Value};
 use std::alloc::Global;
+use std::mem::replace;
 
-/// A loop: its items, how many were taken, and those kept.
+/// A loop: the places of its items, how many were taken, and those kept.
 #[derive(Drop)]
 pub(crate) struct Loop {
-    items: Vec<Value>,
+    items: Vec<usize>,
     position: usize,
-    kept: Vec<Value>,
+    kept: Vec<usize>,
 }
 
-/// The items of a value.
-pub(crate) fn items_of(alloc: Global, value: &Value) -> Result<Vec<Value>, End> {
-    let mut items = Vec::new(alloc);
+/// What a loop tells: the value at a place, a number or a truth value.
+#[derive(Clone, Copy)]
+enum Told {
+    Place(usize),
+    Number(i128),
+    Truth(bool),
+}
+
+// Puts the items of a value behind others.
+fn put_items(alloc: Global, value: &Value, into: &mut Vec<Value>) -> Result<(), End> {
     if let Some(text) = value.as_text() {
-        for c in text.chars() {
-            let mut one = String::new(alloc);
-            one.push(c)?;
-            items.push(Value::from_text(one)?)?;
-        }
-        return Ok(items);
+        return put_characters(alloc, text, into);
     }
     if let Some(entries) = value.as_map() {
-        for entry in entries {
-            items.push(Value::text(alloc, &entry.0)?)?;
-        }
-        return Ok(items);
+        return put_keys(alloc, entries, into);
     }
-    if let Some(list) = value.as_list() {
-        for item in list {
-            items.push(item.try_clone(alloc)?)?;
-        }
-        return Ok(items);
-    }
-    match value {
-        Value::Undefined => Ok(items),
+    match (value.as_list(), value) {
+        (Some(list), _) => put_copies(alloc, list, into),
+        (None, Value::Undefined) => Ok(()),
         _ => Err(End::Fault(Fault::NotIterable)),
     }
 }
 
-// The item of a number, counted from 1, or undefined.
-fn item(alloc: Global, items: &[Value], number: usize) -> Result<Value, End> {
-    let Some(index) = number.checked_sub(1) else {
-        return Ok(Value::Undefined);
-    };
-    match items.get(index) {
-        Some(value) => Ok(value.try_clone(alloc)?),
-        None => Ok(Value::Undefined),
+fn put_characters(alloc: Global, text: &str, into: &mut Vec<Value>) -> Result<(), End> {
+    for c in text.chars() {
+        let mut one = String::new(alloc);
+        one.push(c)?;
+        into.push(Value::from_text(one)?)?;
     }
+    Ok(())
 }
 
-fn number(n: i128) -> Result<Value, End> {
-    match i64::try_from(n) {
-        Ok(number) => Ok(Value::Int(number)),
-        Err(_) => Err(End::Fault(Fault::Overflow)),
+fn put_keys(alloc: Global, entries: &[(String, Value)], into: &mut Vec<Value>) -> Result<(), End> {
+    for entry in entries {
+        into.push(Value::text(alloc, &entry.0)?)?;
     }
+    Ok(())
+}
+
+fn put_copies(alloc: Global, list: &[Value], into: &mut Vec<Value>) -> Result<(), End> {
+    for item in list {
+        into.push(item.try_clone(alloc)?)?;
+    }
+    Ok(())
 }
 
 impl Loop {
+    // The place of the item of a number, counted from 1.
+    fn item(&self, number: usize) -> usize {
+        match number.checked_sub(1) {
+            Some(index) => *self.items.get(index).unwrap_or(&UNDEFINED),
+            None => UNDEFINED,
+        }
+    }
+
     // What the loop tells of its turn.
-    fn told(&self, alloc: Global, field: LoopField) -> Result<Value, End> {
+    fn told(&self, field: LoopField) -> Told {
         let p = self.position as i128;
         let n = self.items.len() as i128;
         match field {
-            LoopField::Item => item(alloc, &self.items, self.position),
-            LoopField::Index => number(p),
-            LoopField::Index0 => number(p - 1),
-            LoopField::RevIndex => number(n - p + 1),
-            LoopField::RevIndex0 => number(n - p),
-            LoopField::First => Ok(Value::Bool(p == 1)),
-            LoopField::Last => Ok(Value::Bool(p == n)),
-            LoopField::Length => number(n),
-            LoopField::Previous => item(alloc, &self.items, self.position.saturating_sub(1)),
-            LoopField::Next => item(alloc, &self.items, self.position.saturating_add(1)),
+            LoopField::Item => Told::Place(self.item(self.position)),
+            LoopField::Index => Told::Number(p),
+            LoopField::Index0 => Told::Number(p - 1),
+            LoopField::RevIndex => Told::Number(n - p + 1),
+            LoopField::RevIndex0 => Told::Number(n - p),
+            LoopField::First => Told::Truth(p == 1),
+            LoopField::Last => Told::Truth(p == n),
+            LoopField::Length => Told::Number(n),
+            LoopField::Previous => Told::Place(self.item(self.position.saturating_sub(1))),
+            LoopField::Next => Told::Place(self.item(self.position.saturating_add(1))),
         }
     }
 
     // Keeps the current item, if there is one.
-    fn keep(&mut self, alloc: Global) -> Result<(), End> {
+    fn keep(&mut self) -> Result<(), End> {
         if self.position > 0 {
-            let current = item(alloc, &self.items, self.position)?;
+            let current = self.item(self.position);
             self.kept.push(current)?;
         }
         Ok(())
@@ -91,28 +99,32 @@ impl Loop {
 }
 
 impl Plain<'_> {
-    pub(crate) fn start_loop(&mut self) -> Result<(), End> {
-        let value = self.pop()?;
-        self.pay(1 + value.size() / 64)?;
-        let items = items_of(self.alloc, &value)?;
-        self.push_loop(items)
+    /// The places of a value's items, which are new values.
+    pub(crate) fn items_at(&mut self, place: usize) -> Result<Vec<usize>, End> {
+        let alloc = self.alloc;
+        let before = self.values.len();
+        let value = self.value(place)?.try_clone(alloc)?;
+        put_items(alloc, &value, &mut self.values)?;
+        let mut places = Vec::new(alloc);
+        for place in before..self.values.len() {
+            places.push(place)?;
+        }
+        Ok(places)
     }
 
-    // Puts a loop over items on top, before its first turn.
-    fn push_loop(&mut self, items: Vec<Value>) -> Result<(), End> {
-        let kept = Vec::new(self.alloc);
-        self.push_entry(Entry::Loop(Loop {
+    pub(crate) fn start_loop(&mut self) -> Result<(), End> {
+        let place = self.pop()?;
+        let cost = 1 + self.value(place)?.size() / 64;
+        self.pay(cost)?;
+        let items = self.items_at(place)?;
+        let started = Loop {
             items,
             position: 0,
-            kept,
-        }))
-    }
-
-    fn pop_loop(&mut self) -> Result<Loop, End> {
-        match self.pop_entry()? {
-            Entry::Loop(running) => Ok(running),
-            _ => Err(End::Wrong),
-        }
+            kept: Vec::new(self.alloc),
+        };
+        let place = self.loops.len();
+        self.loops.push(started)?;
+        self.push_entry(Entry::Loop(place))
     }
 
     pub(crate) fn next_turn(&mut self, target: u32) -> Result<(), End> {
@@ -120,39 +132,45 @@ impl Plain<'_> {
         if running.position >= running.items.len() {
             return self.jump(target);
         }
-        self.pay(1)?;
-        let running = self.loop_at(0)?;
         running.position = running.position.saturating_add(1);
-        Ok(())
+        self.pay(1)
     }
 
     pub(crate) fn loop_field(&mut self, field: u8, above: usize) -> Result<(), End> {
         let field = LoopField::by_id(field).ok_or(End::Wrong)?;
         self.pay(1)?;
-        let alloc = self.alloc;
-        let value = self.loop_at(above)?.told(alloc, field)?;
-        self.push(value)
+        match self.loop_at(above)?.told(field) {
+            Told::Place(place) => self.push_at(place),
+            Told::Truth(truth) => self.push(Value::Bool(truth)),
+            Told::Number(n) => match i64::try_from(n) {
+                Ok(number) => self.push(Value::Int(number)),
+                Err(_) => Err(End::Fault(Fault::Overflow)),
+            },
+        }
     }
 
     pub(crate) fn keep(&mut self, above: usize) -> Result<(), End> {
-        let truth = self.pop()?.truth();
+        let place = self.pop()?;
         self.pay(1)?;
-        let alloc = self.alloc;
-        if truth {
-            self.loop_at(above)?.keep(alloc)?;
+        if self.value(place)?.truth() {
+            self.loop_at(above)?.keep()?;
         }
         Ok(())
     }
 
     pub(crate) fn rewind(&mut self) -> Result<(), End> {
-        let ended = self.pop_loop()?;
         self.pay(1)?;
-        self.push_loop(ended.kept)
+        let nothing = Vec::new(self.alloc);
+        let running = self.loop_at(0)?;
+        running.items = replace(&mut running.kept, nothing);
+        running.position = 0;
+        Ok(())
     }
 
     pub(crate) fn end_loop(&mut self) -> Result<(), End> {
-        let ended = self.pop_loop()?;
+        let is_new = self.loop_at(0)?.position == 0;
+        self.pop_entry()?;
         self.pay(1)?;
-        self.push(Value::Bool(ended.position == 0))
+        self.push(Value::Bool(is_new))
     }
 }

@@ -2,10 +2,9 @@
 
 use crate::ended::End;
 use crate::plain::Plain;
-use crate::plain_loops::items_of;
 use indexmap::IndexMap;
 use jt_budget::Spent;
-use jt_filters::{FilterId, Limits, OpId, TestId, apply, binary, range, test, unary};
+use jt_filters::{FilterId, Limits, OpError, OpId, TestId, apply, binary, range, test, unary};
 use jt_value::{Fault, Value};
 use std::alloc::Global;
 
@@ -19,28 +18,31 @@ fn operated(
     if !operator.takes(operands.len()) {
         return Err(End::Wrong);
     }
-    match operands {
-        [operand] => Ok(unary(alloc, operator, operand, limits)?),
-        [left, right] => Ok(binary(alloc, operator, left, right, limits)?),
-        [_, _, _] => Ok(range(alloc, operands, limits)?),
-        _ => Err(End::Wrong),
+    let made = match operands {
+        [operand] => unary(alloc, operator, operand, limits),
+        [left, right] => binary(alloc, operator, left, right, limits),
+        [_, _, _] => range(alloc, operands, limits),
+        _ => Err(OpError::NoMemory),
+    };
+    Ok(made?)
+}
+
+// How many operands an operator takes.
+fn operands_of(operator: OpId) -> usize {
+    if operator.takes(3) {
+        return 3;
     }
+    if operator.takes(2) { 2 } else { 1 }
 }
 
 // The map of keys and values in turn.
-fn map_of(alloc: Global, values: Vec<Value>) -> Result<Value, End> {
+fn map_of(alloc: Global, values: &[Value]) -> Result<Value, End> {
+    check_keys(values)?;
     let mut map = IndexMap::new(alloc);
-    let mut key: Option<String> = None;
-    for value in values {
-        match key {
-            Some(name) => {
-                map.insert(name, value)?;
-                key = None;
-            }
-            None => {
-                let text = value.as_text().ok_or(End::Wrong)?;
-                key = Some(String::from_str(alloc, text)?);
-            }
+    for pair in values.chunks(2) {
+        if let [key, value] = pair {
+            let name = String::from_str(alloc, key.as_text().unwrap_or(""))?;
+            map.insert(name, value.try_clone(alloc)?)?;
         }
     }
     Ok(Value::map(alloc, map)?)
@@ -72,28 +74,42 @@ impl Plain<'_> {
         }
     }
 
+    // What it costs to take the values at some places.
+    fn cost(&self, places: &[usize]) -> Result<u64, End> {
+        let mut sizes = 0u64;
+        for place in places {
+            sizes = sizes.saturating_add(self.value(*place)?.size());
+        }
+        Ok(1 + sizes / 64)
+    }
+
+    // The values at some places.
+    fn values_at(&self, places: &[usize]) -> Result<Vec<Value>, End> {
+        let mut values = Vec::new(self.alloc);
+        for place in places {
+            values.push(self.value(*place)?.try_clone(self.alloc)?)?;
+        }
+        Ok(values)
+    }
+
     // That many values from the top, the deepest first, paid for by their sizes.
     fn take(&mut self, count: usize) -> Result<Vec<Value>, End> {
-        let values = self.pop_many(count)?;
-        let mut sizes = 0u64;
-        for value in &values {
-            sizes = sizes.saturating_add(value.size());
-        }
-        self.pay(1 + sizes / 64)?;
-        Ok(values)
+        let places = self.pop_many(count)?;
+        let cost = self.cost(&places)?;
+        self.pay(cost)?;
+        self.values_at(&places)
+    }
+
+    // Puts on top what was made.
+    fn push_made(&mut self, made: Result<Value, End>) -> Result<(), End> {
+        self.push(made?)
     }
 
     pub(crate) fn operate(&mut self, id: u8) -> Result<(), End> {
         let operator = OpId::by_id(id).ok_or(End::Wrong)?;
-        let mut count = 1;
-        for n in 1..4 {
-            if operator.takes(n) {
-                count = n;
-            }
-        }
-        let operands = self.take(count)?;
-        let value = operated(self.alloc, operator, &operands, self.limits())?;
-        self.push(value)
+        let operands = self.take(operands_of(operator))?;
+        let made = operated(self.alloc, operator, &operands, self.limits());
+        self.push_made(made)
     }
 
     pub(crate) fn filter(&mut self, id: u8, count: usize, escaping: bool) -> Result<(), End> {
@@ -102,8 +118,8 @@ impl Plain<'_> {
         if !filter.takes(values.len()) {
             return Err(End::Wrong);
         }
-        let value = apply(self.alloc, filter, &values, escaping, self.limits())?;
-        self.push(value)
+        let made = apply(self.alloc, filter, &values, escaping, self.limits());
+        self.push(made?)
     }
 
     pub(crate) fn test(&mut self, id: u8, count: usize) -> Result<(), End> {
@@ -124,26 +140,30 @@ impl Plain<'_> {
 
     pub(crate) fn make_map(&mut self, entries: usize) -> Result<(), End> {
         let values = self.take(entries.saturating_mul(2))?;
-        check_keys(&values)?;
-        let map = map_of(self.alloc, values)?;
-        self.push(map)
+        let made = map_of(self.alloc, &values);
+        self.push_made(made)
     }
 
     // The items of a value, the last one on top: the sizes of all are tested first.
     pub(crate) fn unpack(&mut self, count: usize) -> Result<(), End> {
-        let value = self.pop()?;
-        self.pay(1 + value.size() / 64)?;
-        let items = items_of(self.alloc, &value)?;
+        let place = self.pop()?;
+        let cost = 1 + self.value(place)?.size() / 64;
+        self.pay(cost)?;
+        let items = self.items_at(place)?;
         if items.len() != count {
             return Err(End::Fault(Fault::Unpack));
         }
         for item in &items {
-            if item.size() > u64::from(self.left.size) {
+            if self.value(*item)?.size() > u64::from(self.left.size) {
                 return Err(End::Spent(Spent::Size));
             }
         }
-        for item in items {
-            self.push(item)?;
+        self.push_all(&items)
+    }
+
+    fn push_all(&mut self, places: &[usize]) -> Result<(), End> {
+        for place in places {
+            self.push_at(*place)?;
         }
         Ok(())
     }

@@ -1,20 +1,18 @@
 //! The machine comes to the same end as the plain machine, with every fuel from 0 to 200: on images written by hand, and on those of
-//! all rows of sources.
+//! rows of sources.
 
 use crate::ended::End;
 use crate::plain::plain_end;
-use crate::rendering::{
-    CHAINS, FILTERS, MACROS, OVER_ITEMS, STATEMENTS, Shelf, WHITESPACE, WORKED, templates_of,
-};
 use crate::rows::unfolded;
+use crate::shelf::{image_of, templates_of, verified_of};
+use crate::sources::{CHAINS, FILTERS, MACROS, OVER_ITEMS, STATEMENTS, WHITESPACE, WORKED};
 use jt_budget::Budget;
-use jt_codegen::compile;
 use jt_host::context_from_json;
 use jt_image::{Image, decode, encode, view};
 use jt_machine::{Outcome, run, run_view};
 use jt_scan::Options;
-use jt_value::{Context, NoMemory, Value};
-use jt_verify::{Verified, VerifiedView, verify, verify_view};
+use jt_value::Context;
+use jt_verify::{Verified, VerifiedView, verify_view};
 use std::alloc::Global;
 use std::process::Abort;
 use std::test::Fail;
@@ -95,13 +93,7 @@ fn bytes_of(alloc: Global, digits: &str) -> Result<Vec<u8>, Fail> {
     Ok(bytes)
 }
 
-fn verified_of(alloc: Global, image: Image) -> Result<Verified, Fail> {
-    match verify(alloc, image) {
-        Ok(verified) => Ok(verified),
-        Err(_) => Err(Fail::from("verify")),
-    }
-}
-
+// An image in place.
 fn view_of(alloc: Global, bytes: &[u8]) -> Result<VerifiedView<'_>, Fail> {
     let Ok(view) = view(alloc, bytes) else {
         return Err(Fail::from("view"));
@@ -109,26 +101,6 @@ fn view_of(alloc: Global, bytes: &[u8]) -> Result<VerifiedView<'_>, Fail> {
     match verify_view(alloc, view) {
         Ok(verified) => Ok(verified),
         Err(_) => Err(Fail::from("verify_view")),
-    }
-}
-
-// The end of a run of the machine, in words.
-fn told(alloc: Global, answer: Result<Outcome, NoMemory>) -> Result<String, Fail> {
-    match answer? {
-        Outcome::Text(text) => Ok(format!(in alloc; "text {text}")?),
-        Outcome::Fault(fault) => Ok(format!(in alloc; "fault {fault:?}")?),
-        Outcome::Spent(spent) => Ok(format!(in alloc; "spent {spent}")?),
-    }
-}
-
-// The end of a run of the plain machine, in the same words.
-fn told_plainly(alloc: Global, end: End) -> Result<String, Fail> {
-    match end {
-        End::Text(text) => Ok(format!(in alloc; "text {text}")?),
-        End::Fault(fault) => Ok(format!(in alloc; "fault {fault:?}")?),
-        End::Spent(spent) => Ok(format!(in alloc; "spent {spent}")?),
-        End::Wrong => Err(Fail::from("the plain machine is stuck")),
-        End::Refused => Err(Fail::from("the plain machine has no memory")),
     }
 }
 
@@ -141,26 +113,25 @@ struct Case<'a> {
     context: &'a Context,
 }
 
-// The ends of a case on the machine, in place and on the plain machine.
-fn ends_of(alloc: Global, case: &Case<'_>, budget: Budget) -> Result<[String; 3], Fail> {
-    let plain = plain_end(alloc, case.verified.image(), case.context, budget);
-    Ok([
-        told(alloc, run(alloc, case.verified, case.context, budget))?,
-        told(alloc, run_view(alloc, &case.in_place, case.context, budget))?,
-        told_plainly(alloc, plain)?,
-    ])
-}
-
-// Nothing where the machines agree on a case, and else the three ends.
-fn difference(alloc: Global, case: &Case<'_>, budget: Budget) -> Result<String, Fail> {
-    let [found, in_place, plain] = ends_of(alloc, case, budget)?;
-    if found.as_str() == plain.as_str() && in_place.as_str() == plain.as_str() {
-        return Ok(String::new(alloc));
+// Whether a run of the machine ends as one of the plain machine, which neither is stuck nor lacks memory.
+fn ends_so(outcome: &Outcome, plain: &Result<String, End>) -> bool {
+    match (outcome, plain) {
+        (Outcome::Text(text), Ok(plain)) => text.as_str() == plain.as_str(),
+        (Outcome::Fault(fault), Err(End::Fault(plain))) => fault == plain,
+        (Outcome::Spent(spent), Err(End::Spent(plain))) => spent == plain,
+        _ => false,
     }
-    Ok(format!(in alloc; "{found}, {in_place}, {plain}")?)
 }
 
-// Whether the machines agree on a case with every fuel, within the other limits of a budget.
+// Whether the machines agree on a case.
+fn agree(alloc: Global, case: &Case<'_>, budget: Budget) -> Result<bool, Fail> {
+    let plain = plain_end(alloc, case.verified.image(), case.context, budget);
+    let found = run(alloc, case.verified, case.context, budget)?;
+    let in_place = run_view(alloc, &case.in_place, case.context, budget)?;
+    Ok(ends_so(&found, &plain) && ends_so(&in_place, &plain))
+}
+
+// Whether they agree on it with every fuel, within the other limits of a budget.
 fn agree_within(
     rt: &(impl Abort + AllocGlobal),
     case: &Case<'_>,
@@ -168,14 +139,16 @@ fn agree_within(
 ) -> Result<(), Fail> {
     let name = case.name;
     for fuel in 0..=MOST_FUEL {
-        let found = difference(rt.alloc(), case, Budget { fuel, ..limits })?;
-        assert_eq!(rt; found.as_str(), "", "{name}, fuel {fuel}");
+        assert!(rt;
+            agree(rt.alloc(), case, Budget { fuel, ..limits })?,
+            "{name}, fuel {fuel}"
+        );
     }
     Ok(())
 }
 
-// Whether the machines agree on an image for a context.
-fn agree(
+// Whether they agree on an accepted image for a context within each of the limits.
+fn agree_for(
     rt: &(impl Abort + AllocGlobal),
     name: &str,
     verified: &Verified,
@@ -189,99 +162,71 @@ fn agree(
         in_place: view_of(alloc, &bytes)?,
         context,
     };
-    for limits in [AMPLE, NARROW, TINY] {
-        agree_within(rt, &case, limits)?;
-    }
-    Ok(())
+    agree_within(rt, &case, AMPLE)?;
+    agree_within(rt, &case, NARROW)?;
+    agree_within(rt, &case, TINY)
 }
 
-// A context in which `n` is a value.
-fn context_of(alloc: Global, value: Value) -> Result<Context, Fail> {
-    let mut context = Context::new(alloc);
-    match context.insert(String::from_str(alloc, "n")?, value) {
-        Ok(()) => Ok(context),
-        Err(_) => Err(Fail::from("insert")),
-    }
+// The same of an image and the text of a context.
+fn agree_on(
+    rt: &(impl Abort + AllocGlobal),
+    name: &str,
+    image: Image,
+    context: &str,
+) -> Result<(), Fail> {
+    let verified = verified_of(rt.alloc(), image)?;
+    let context = context_from_json(rt.alloc(), context)?;
+    agree_for(rt, name, &verified, &context)
 }
 
-// The image that is written with two digits a byte.
-fn image_of(alloc: Global, digits: &str) -> Result<Verified, Fail> {
-    match decode(alloc, &bytes_of(alloc, digits)?) {
-        Ok(image) => verified_of(alloc, image),
-        Err(_) => Err(Fail::from("decode")),
-    }
-}
-
-// Whether the machines agree on each image for a context.
-fn images_agree(rt: &(impl Abort + AllocGlobal), context: &Context) -> Result<(), Fail> {
+// Whether they agree on each of the images for a context.
+fn agree_on_images(rt: &(impl Abort + AllocGlobal), context: &str) -> Result<(), Fail> {
     for row in IMAGES.trim().lines() {
         let (name, digits) = row.trim().split_once(": ").ok_or("a row has no image")?;
-        agree(rt, name, &image_of(rt.alloc(), digits)?, context)?;
+        let Ok(image) = decode(rt.alloc(), &bytes_of(rt.alloc(), digits)?) else {
+            return Err(Fail::from("decode"));
+        };
+        agree_on(rt, name, image, context)?;
     }
     Ok(())
 }
 
 #[test]
 fn images_end_as_on_the_plain_machine(rt: HostRuntime) -> Result<(), Fail> {
-    images_agree(&rt, &Context::new(rt.alloc()))
+    agree_on_images(&rt, "{}")?;
+    agree_on_images(&rt, r#"{"n": 7}"#)?;
+    agree_on_images(&rt, r#"{"n": [1]}"#)
 }
 
-#[test]
-fn images_end_so_for_a_number(rt: HostRuntime) -> Result<(), Fail> {
-    images_agree(&rt, &context_of(rt.alloc(), Value::Int(7))?)
-}
-
-#[test]
-fn images_end_so_for_a_list(rt: HostRuntime) -> Result<(), Fail> {
-    let alloc = rt.alloc();
-    let list = Value::list(alloc, vec![in alloc; Value::Int(1)]?)?;
-    images_agree(&rt, &context_of(alloc, list)?)
-}
-
-// Whether the machines agree on the image of sources, where these are not refused.
-fn sources_agree(
+// Whether they agree on the images of rows of sources, one a line.
+fn agree_on_rows(
     rt: &(impl Abort + AllocGlobal),
-    asked: &str,
+    rows: &str,
     options: Options,
 ) -> Result<(), Fail> {
-    let alloc = rt.alloc();
-    let (shelf, context) = templates_of(alloc, asked)?;
-    let Ok(image) = compile(alloc, "t", &shelf, options) else {
-        return Ok(());
-    };
-    let verified = verified_of(alloc, image)?;
-    let Ok(context) = context_from_json(alloc, &context) else {
-        return Err(Fail::from("a row has no context"));
-    };
-    agree(rt, asked, &verified, &context)
-}
-
-// The same of rows, one a line.
-fn rows_agree(rt: &(impl Abort + AllocGlobal), rows: &str) -> Result<(), Fail> {
     for row in rows.lines() {
-        let (asked, _) = row
-            .trim_start()
-            .split_once(" => ")
-            .ok_or("a row has no =>")?;
-        let asked = unfolded(rt.alloc(), asked)?;
-        sources_agree(rt, &asked, Options::new())?;
+        let text = unfolded(rt.alloc(), row.trim())?;
+        let image = image_of(rt.alloc(), &text, options)?;
+        let (_, context) = templates_of(rt.alloc(), &text)?;
+        agree_on(rt, row, image, context)?;
     }
     Ok(())
 }
 
 #[test]
-fn rows_end_as_on_the_plain_machine(rt: HostRuntime) -> Result<(), Fail> {
-    rows_agree(&rt, WORKED)?;
-    rows_agree(&rt, STATEMENTS)?;
-    rows_agree(&rt, CHAINS)?;
-    rows_agree(&rt, MACROS)?;
-    rows_agree(&rt, FILTERS)?;
-    rows_agree(&rt, OVER_ITEMS)?;
-    rows_agree(&rt, WHITESPACE)
+fn sources_end_as_on_the_plain_machine(rt: HostRuntime) -> Result<(), Fail> {
+    let usual = Options::new();
+    agree_on_rows(&rt, WORKED, usual)?;
+    agree_on_rows(&rt, STATEMENTS, usual)?;
+    agree_on_rows(&rt, CHAINS, usual)?;
+    agree_on_rows(&rt, MACROS, usual)?;
+    agree_on_rows(&rt, FILTERS, usual)?;
+    agree_on_rows(&rt, OVER_ITEMS, usual)?;
+    agree_on_rows(&rt, WHITESPACE, usual)
 }
 
-/// Sources without a row, one a line.
-const SOURCES: &str = r"∅
+/// Sources that are read with trimmed blocks, one a line.
+const TRIMMED: &str = r"∅
     x
     Hello
     {% macro m() %}{{ m() }}{% endmacro %}{{ m() }}
@@ -290,15 +235,11 @@ const SOURCES: &str = r"∅
     ␠ {% if true %}␤  x␤  {% endif %}␤";
 
 #[test]
-fn sources_without_a_row_end_as_on_the_plain_machine(rt: HostRuntime) -> Result<(), Fail> {
+fn trimmed_sources_end_as_on_the_plain_machine(rt: HostRuntime) -> Result<(), Fail> {
     let trimming = Options {
         trim_blocks: true,
         lstrip_blocks: true,
         ..Options::new()
     };
-    for source in SOURCES.lines() {
-        let source = unfolded(rt.alloc(), source.trim())?;
-        sources_agree(&rt, &source, trimming)?;
-    }
-    Ok(())
+    agree_on_rows(&rt, TRIMMED, trimming)
 }

@@ -1,162 +1,79 @@
-//! Sessions that take turns.
-
-ghost use Rattle.std.specs.Prelude.{Some, None, if◌then◌else◌, codes, bytes_eq};
+//! Hosts, call by call.
 
 use crate::rows::rows_hold;
-use jt_codegen::compile;
-use jt_host::Host;
-use jt_inherit::Library;
+use crate::shelf::{image_of, verified_of};
+use jt_host::{ContextError, Host, HostError};
 use jt_line::DEFAULT;
-use jt_machine::Outcome;
-use jt_scan::Options;
+use jt_scan::{Options, ScanError};
 use jt_value::Context;
-use jt_verify::{Verified, verify};
 use std::alloc::Global;
 use std::test::Fail;
 
-/// One template, under the name `t`.
-#[derive(Drop)]
-struct One<'a> {
-    source: &'a str,
-}
-
-impl Library for One<'_> {
-    ghost sources = { λ s name. if bytes_eq name (codes "t") then Some s.source.now else None };
-
-    fn source(&self, name: &str) -> Option<&str> {
-        if name == "t" { Some(self.source) } else { None }
+// The answer to the last of so many calls: opens sessions of a source.
+fn opened(alloc: Global, host: &mut Host, count: u32, source: &str) -> Result<String, Fail> {
+    let mut answer = String::new(alloc);
+    for _ in 0..count {
+        let verified = verified_of(alloc, image_of(alloc, source, Options::new())?)?;
+        answer = match host.open(verified, &Context::new(alloc), DEFAULT) {
+            Ok(id) => format!(in alloc; "{id}")?,
+            Err((_, refusal)) => format!(in alloc; "{refusal:?}")?,
+        };
     }
+    Ok(answer)
 }
 
-// The image of a source.
-fn image_of(alloc: Global, source: &str) -> Result<Verified, Fail> {
-    let Ok(image) = compile(alloc, "t", &One { source }, Options::new()) else {
-        return Err(Fail::from("compile"));
-    };
-    match verify(alloc, image) {
-        Ok(verified) => Ok(verified),
-        Err(_) => Err(Fail::from("verify")),
+// The answer to the last of so many turns of one instruction.
+fn turned(alloc: Global, host: &mut Host, count: u32, id: u64) -> Result<String, Fail> {
+    let mut answer = host.turn(id, 0);
+    for _ in 0..count {
+        answer = host.turn(id, 1);
     }
+    Ok(format!(in alloc; "{answer:?}")?)
 }
 
-// Opens a session of a source.
-fn opened(alloc: Global, host: &mut Host, source: &str) -> Result<u64, Fail> {
-    let verified = image_of(alloc, source)?;
-    match host.open(verified, &Context::new(alloc), DEFAULT) {
-        Ok(id) => Ok(id),
-        Err(_) => Err(Fail::from("open")),
-    }
-}
-
-// An outcome in words.
-fn told(alloc: Global, outcome: Option<&Outcome>) -> Result<String, Fail> {
-    match outcome {
-        Some(Outcome::Text(text)) => Ok(format!(in alloc; "text {text}")?),
-        Some(Outcome::Fault(fault)) => Ok(format!(in alloc; "fault {fault}")?),
-        Some(Outcome::Spent(spent)) => Ok(format!(in alloc; "spent {spent}")?),
-        None => Ok(String::from_str(alloc, "none")?),
-    }
-}
-
-// The id of one session more, or the refusal.
-fn opened_more(alloc: Global, host: &mut Host, source: &str) -> Result<String, Fail> {
-    match host.open(image_of(alloc, source)?, &Context::new(alloc), DEFAULT) {
-        Ok(id) => Ok(format!(in alloc; "{id}")?),
-        Err((_, refusal)) => Ok(format!(in alloc; "{refusal:?}")?),
-    }
-}
-
-// What a host says of the outcome of a session.
-fn looked_at(alloc: Global, host: &Host, id: u64) -> Result<String, Fail> {
-    match host.outcome(id) {
-        Ok(outcome) => told(alloc, outcome),
-        Err(refusal) => Ok(format!(in alloc; "{refusal:?}")?),
-    }
-}
-
-// What a host answers when it closes a session.
-fn closed(alloc: Global, host: &mut Host, id: u64) -> Result<String, Fail> {
-    match host.close(id) {
-        Ok(outcome) => told(alloc, outcome.as_ref()),
-        Err(refusal) => Ok(format!(in alloc; "{refusal:?}")?),
-    }
-}
-
-// What a host answers to one call: `open x` opens a session of the source `x`, and `turn 1`,
-// `outcome 1` and `close 1` are of the session 1.
+// What a host answers: `open 3 x` opens three sessions of the source `x`, `turn 3 1` gives the session 1 three turns,
+// and `outcome 1` and `close 1` are of the session 1.
 fn answered(alloc: Global, host: &mut Host, call: &str) -> Result<String, Fail> {
     let (name, of) = call.split_once(" ").ok_or("a call has no session")?;
+    let (count, behind) = of.split_once(" ").unwrap_or(("1", of));
     match name {
-        "open" => opened_more(alloc, host, of),
-        "outcome" => looked_at(alloc, host, of.parse::<u64>()?),
-        "close" => closed(alloc, host, of.parse::<u64>()?),
-        _ => {
-            let answer = host.turn(of.parse::<u64>()?, 1);
-            Ok(format!(in alloc; "{answer:?}")?)
-        }
+        "open" => opened(alloc, host, count.parse::<u32>()?, behind),
+        "turn" => turned(alloc, host, count.parse::<u32>()?, behind.parse::<u64>()?),
+        "outcome" => Ok(format!(in alloc; "{:?}", host.outcome(of.parse::<u64>()?))?),
+        _ => Ok(format!(in alloc; "{:?}", host.close(of.parse::<u64>()?))?),
     }
 }
 
-// What a host answers to the calls of a row, in their order.
-fn all_answered(alloc: Global, host: &mut Host, calls: &str) -> Result<String, Fail> {
+// What a new host answers to the calls of a row, in their order.
+fn all_answered(alloc: Global, calls: &str) -> Result<String, Fail> {
+    let mut host = Host::new(alloc);
     let mut answers = String::new(alloc);
-    for call in calls.split(", ") {
-        if !answers.is_empty() {
-            answers.push_str(", ")?;
-        }
-        answers.push_str(answered(alloc, host, call)?.as_str())?;
+    for call in calls.split("; ") {
+        answers.push_str(answered(alloc, &mut host, call)?.as_str())?;
+        answers.push(';')?;
     }
     Ok(answers)
 }
 
-// The answers of a host of two sessions, each of which took 200 turns of one instruction.
-fn answered_by_two(alloc: Global, calls: &str) -> Result<String, Fail> {
-    let mut host = Host::new(alloc);
-    let first = opened(
-        alloc,
-        &mut host,
-        "{% set x = 1 %}{% for i in [1, 2] %}{{ x }}{% set x = 9 %}{% endfor %}{{ x }}",
-    )?;
-    let second = opened(alloc, &mut host, "{{ nope.x }}")?;
-    for _ in 0..200 {
-        let _ = host.turn(first, 1);
-        let _ = host.turn(second, 1);
-    }
-    all_answered(alloc, &mut host, calls)
-}
-
 #[test]
-fn two_sessions_take_turns(rt: HostRuntime) -> Result<(), Fail> {
+fn hosts_answer(rt: HostRuntime) -> Result<(), Fail> {
     rows_hold(
         &rt,
-        answered_by_two,
-        "turn 1, outcome 2, close 1, close 2 => Ok(Done), fault F2 Undefined, text 111, fault F2 Undefined",
+        all_answered,
+        r#"open 1 {% set x = 1 %}{% for i in [1, 2] %}{{ x }}{% set x = 9 %}{% endfor %}{{ x }}; turn 1 1; turn 199 1; outcome 1; close 1; close 1 => 1;Ok(Going);Ok(Done);Ok(Some(Text("111")));Ok(Some(Text("111")));Err(NoSession);
+        open 2 {{ nope.x }}; turn 9 2; turn 9 2; outcome 2; outcome 1; close 1; close 2 => 2;Ok(Done);Ok(Done);Ok(Some(Fault(Undefined)));Ok(None);Ok(None);Ok(Some(Fault(Undefined)));
+        open 64 x; open 1 x; close 1; open 1 x; close 65; open 1 x; turn 1 1; outcome 1; close 0; outcome 2 => 64;Full;Ok(None);65;Ok(None);66;Err(NoSession);Err(NoSession);Err(NoSession);Ok(None);"#,
     )
 }
 
-// A host of 64 sessions, with the ids 1 to 64.
-fn full_host(alloc: Global) -> Result<Host, Fail> {
-    let mut host = Host::new(alloc);
-    for wanted in 1..=64u64 {
-        if opened(alloc, &mut host, "x")? != wanted {
-            return Err(Fail::from("another id"));
-        }
-    }
-    Ok(host)
-}
-
-// The answers of a host of 64 sessions.
-fn answered_by_many(alloc: Global, calls: &str) -> Result<String, Fail> {
-    all_answered(alloc, &mut full_host(alloc)?, calls)
-}
-
 #[test]
-fn sixty_four_sessions_are_open(rt: HostRuntime) -> Result<(), Fail> {
-    rows_hold(
-        &rt,
-        answered_by_many,
-        r"open x, close 1, open x => Full, none, 65
-        close 1, open x, turn 1, outcome 1 => none, 65, Err(NoSession), NoSession
-        close 1, open x, close 1, outcome 2 => none, 65, NoSession, none",
-    )
+fn want_of_memory_has_names(rt: HostRuntime) -> Result<(), Fail> {
+    let (source, context, host) = (
+        ScanError::NoMemory,
+        ContextError::NoMemory,
+        HostError::NoMemory,
+    );
+    let found = format!(in rt.alloc(); "{source}, {context}, {host}")?;
+    assert_eq!(rt; found.as_str(), "S8 NoMemory, X5 NoMemory, H3 NoMemory");
+    Ok(())
 }
