@@ -12,9 +12,9 @@ use Rattle.jt_slots.specs.Slots as slots
 use Rattle.jt_slots.specs.Slots.{SBody}
 use Rattle.jt_meaning.specs.Resolve.{followed, resolved_chain}
 use Rattle.jt_layout.specs.declared.scope.Scope.{Scope}
-use Rattle.jt_names.specs.Scoped.{world_in, order_in, home_in}
+use Rattle.jt_scopes.specs.Scoped.{world_in, order_in, home_in}
 use Rattle.jt_scopes.specs.Stated.{layer_in}
-use Rattle.jt_scopes.proofs.Leading.{followed_end, followed_again}
+use Rattle.jt_scopes.proofs.LeadingBodies.{followed_end, followed_again}
 
 -- a statement that is kept where it sets names
 pub sets_next : (b : Bool) (a rest left : SBody Constant) → followed (if b then a else slots.end) (followed rest left) ≡ followed (if b then followed a rest else rest) left

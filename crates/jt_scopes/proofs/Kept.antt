@@ -6,7 +6,7 @@ use Rattle.std.specs.Str.{bytes_eq}
 use Rattle.jt_parse.specs.Texts.{among}
 use Rattle.jt_parse.specs.Trees.{Text}
 use Rattle.jt_slots.specs.Slots.{Slot}
-use Rattle.jt_names.specs.Names.{last_among}
+use Rattle.jt_scopes.specs.Names.{last_among}
 use Rattle.jt_scopes.specs.Stated.{slot_if}
 
 -- where none of the names is the same

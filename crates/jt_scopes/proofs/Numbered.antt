@@ -16,7 +16,7 @@ use Rattle.jt_meaning.specs.Programs.{body_routines}
 use Rattle.jt_meaning.specs.Resolve as resolve
 use Rattle.jt_meaning.specs.Resolve.{resolved_routine, macro_routine, top_spot}
 use Rattle.jt_layout.specs.declared.scope.Scope.{Scope}
-use Rattle.jt_names.specs.Scoped.{world_in, order_in, home_in, templates_in, globals_in, part_at, part_from}
+use Rattle.jt_scopes.specs.Scoped.{world_in, order_in, home_in, templates_in, globals_in, part_at, part_from}
 use Rattle.jt_scopes.specs.Routines.{IsRoutine, RoutinesLead}
 use Rattle.jt_scopes.proofs.Routing.{Planned, routine_lead, routine_as, routines_of}
 

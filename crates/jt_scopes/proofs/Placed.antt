@@ -16,8 +16,8 @@ use Rattle.jt_slots.specs.declared.program.Slot.TheVariants as s
 use Rattle.jt_meaning.specs.Layout.{Table, slot_in}
 use Rattle.jt_meaning.specs.Resolve.{Spot, slot_of, bound_table, bound_all}
 use Rattle.jt_uses.specs.Names.{texts}
-use Rattle.jt_names.specs.Scoped.{framed}
-use Rattle.jt_names.specs.declared.frame.Frame.{Frame}
+use Rattle.jt_scopes.specs.Scoped.{framed}
+use Rattle.jt_scopes.specs.declared.frame.Frame.{Frame}
 
 -- the name of the template that a tag stands in
 pub name_shown : (ts : List Template) (i : ℕ) → unwrap_or (slice_get (map (λ t. t.name) ts) i) [] ≡ name_at ts i

@@ -1,5 +1,5 @@
 -- Routines that were put behind one another.
-use Rattle.std.proofs.Common.{◌≡◌, ℕ, ◌+◌, List, [], ◌∷◌, ◌++◌, length, map, sym, ap, ◌∙◌, subst, max, Vec, Global, append_assoc, append-nil, length-append}
+use Rattle.std.proofs.Common.{◌≡◌, ℕ, ◌+◌, List, [], ◌∷◌, ◌++◌, length, map, refl, sym, ap, ◌∙◌, arith, subst, max, Vec, Global, append_assoc, append-nil, length-append}
 use Rattle.std.proofs.lemmas.List.{map-append}
 use Rattle.jt_value.specs.Tree.{Tree}
 use Rattle.jt_parse.specs.Trees.{Text, Body}
@@ -16,7 +16,7 @@ use Rattle.jt_slots.specs.declared.program.Routine.{Routine}
 use Rattle.jt_scopes.specs.Routines.{IsRoutine, AreRoutines, RoutinesLead, AllLed}
 use Rattle.jt_scopes.specs.Stated.{IsBody}
 use Rattle.jt_scopes.proofs.Counted.{body_counted, max_zero}
-use Rattle.jt_scopes.proofs.Leading.{body_shown, body_pooled}
+use Rattle.jt_scopes.proofs.LeadingBodies.{body_shown, body_pooled}
 
 abbrev pub Planned : Type 0
 Planned = slots.Routine Constant
@@ -73,3 +73,43 @@ module _ (templates : List Text) where
   routine_as world order xs ys b c sp sq r p q h e f g =
       let P : Planned → Type 0 = λ z. IsRoutine templates z r p q in
       subst P (ap (λ z. resolved_routine world order z b sp) e ∙ ap (λ z. resolved_routine world order ys z sp) f ∙ ap (resolved_routine world order ys c) g) h
+
+-- ---- the routines of all chains
+
+pub values_append : (cs ds : List Planned) → routines_values (cs ++ ds) ≡ routines_values cs ++ routines_values ds
+values_append [] ds = refl
+values_append (c ∷ cs) ds = ap (λ vs. body_values c.body ++ vs) (values_append cs ds) ∙ sym (append_assoc (body_values c.body) (routines_values cs) (routines_values ds))
+
+pub placed_append : (cs ds : List Planned) (n : ℕ) → placed_routines (cs ++ ds) n ≡ placed_routines cs n ++ placed_routines ds (n + length (routines_values cs))
+placed_append [] ds n = (let e : n ≡ n + 0 = omega arith in ap (placed_routines ds) e)
+placed_append (c ∷ cs) ds n =
+    let k = length (body_values c.body) in
+    let e : n + k + length (routines_values cs) ≡ n + length (body_values c.body ++ routines_values cs) = omega (arith, length-append (body_values c.body) (routines_values cs)) in
+    ap (λ rs. placed_routine c n ∷ rs) (placed_append cs ds (n + k))
+    ∙ ap (λ m. placed_routine c n ∷ (placed_routines cs (n + k) ++ placed_routines ds m)) e
+
+module _ (ts : List Text) (whole : List Planned) (before : List Routine) (old : List Tree) where
+  -- all are left to do
+  pub lead_first : RoutinesLead ts whole whole before before old old
+  lead_first = record { shown = refl; pooled = refl }
+
+  -- one part less is left
+  pub lead_turn : (part left : List Planned) (now after : List Routine) (at new : List Tree) → RoutinesLead ts whole (part ++ left) before now old at → AreRoutines ts part now after at new
+      → RoutinesLead ts whole left before after old new
+  lead_turn part left now after at new l a =
+      let grown : length new ≡ length at + length (routines_values part) = ap length a.pooled ∙ length-append at (routines_values part) in
+      record {
+        shown = ap (λ rs. rs ++ placed_routines left (length new)) a.shown
+            ∙ append_assoc (map (routine_view ts) now) (placed_routines part (length at)) (placed_routines left (length new))
+            ∙ ap (λ n. map (routine_view ts) now ++ (placed_routines part (length at) ++ placed_routines left n)) grown
+            ∙ ap (λ rs. map (routine_view ts) now ++ rs) (sym (placed_append part left (length at)))
+            ∙ l.shown;
+        pooled = ap (λ vs. vs ++ routines_values left) a.pooled ∙ append_assoc at (routines_values part) (routines_values left) ∙ ap (λ vs. at ++ vs) (sym (values_append part left)) ∙ l.pooled;
+      }
+
+-- none is left
+pub lead_last : (ts : List Text) (whole : List Planned) (after : List Routine) (old new : List Tree) → RoutinesLead ts whole [] [] after old new → AreRoutines ts whole [] after old new
+lead_last ts whole after old new l = record {
+  shown = sym (append-nil (map (routine_view ts) after)) ∙ l.shown;
+  pooled = sym (append-nil new) ∙ l.pooled;
+}

@@ -16,8 +16,8 @@ use Rattle.jt_slots.specs.Slots.{SBody}
 use Rattle.jt_meaning.specs.Layout.{Key, of_chain, of_macro, of_body, same_key, place_of, chain_keys, numbered_bodies, names, names_in, first_slot, unit, block_parameters, Table}
 use Rattle.jt_meaning.specs.Resolve.{Spot, place, followed, alone, handed_on, reads, placed_body}
 use Rattle.jt_layout.specs.declared.scope.Scope.{Scope}
-use Rattle.jt_names.specs.Scoped.{RowLeads, world_in, order_in, spot_in}
-use Rattle.jt_names.specs.declared.spot.Spot as code_spot
+use Rattle.jt_scopes.specs.Scoped.{RowLeads, world_in, order_in, spot_in}
+use Rattle.jt_scopes.specs.declared.spot.Spot as code_spot
 use Rattle.jt_scopes.specs.Stated.{line_in, stmt_in}
 use Rattle.jt_scopes.proofs.Fronts.{Entry}
 

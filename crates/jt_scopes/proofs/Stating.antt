@@ -29,12 +29,12 @@ use Rattle.jt_meaning.specs.Layout.{Table, slot_in}
 use Rattle.jt_meaning.specs.Resolve.{Spot, read_from, followed, alone, copied, handed_on, resolved, resolved_values, resolved_body, resolved_condition, resolved_filters, grown, kept_slots, fresh_targets, bound_all, place}
 use Rattle.jt_uses.specs.Names.{texts}
 use Rattle.jt_layout.specs.declared.scope.Scope.{Scope}
-use Rattle.jt_names.specs.Names.{last_among}
-use Rattle.jt_names.specs.declared.frame.Frame.{Frame}
-use Rattle.jt_names.specs.declared.spot.Spot as code_spot
-use Rattle.jt_names.specs.Scoped.{IsPlaced, BodyLeads, world_in, order_in, spot_in, templates_in, expr_in}
+use Rattle.jt_scopes.specs.Names.{last_among}
+use Rattle.jt_scopes.specs.declared.frame.Frame.{Frame}
+use Rattle.jt_scopes.specs.declared.spot.Spot as code_spot
+use Rattle.jt_scopes.specs.Scoped.{IsPlaced, BodyLeads, world_in, order_in, spot_in, templates_in, expr_in}
 use Rattle.jt_scopes.specs.Stated.{Led, IsAsked, IsTurn, slot_if, line_in, stmt_in, body_in, choice_in, scoped_in, values_in}
-use Rattle.jt_scopes.proofs.Leading.{led_of, lead_of, lead_both}
+use Rattle.jt_scopes.proofs.LeadingBodies.{led_of, lead_of, lead_both}
 use Rattle.jt_scopes.proofs.Shown.{Branch, names_left, view-If, view-For}
 use Rattle.jt_scopes.proofs.Kept.{slot_kept}
 

@@ -1,4 +1,4 @@
--- What the routines of chains are, with the places of the pool that they fill.
+-- What only private clauses cite: what the routines of chains are, with the places of the pool that they fill.
 use Rattle.std.specs.Prelude.{◌≡◌, List, ◌++◌, length, map}
 use Rattle.jt_value.specs.Tree.{Tree}
 use Rattle.jt_parse.specs.Trees.{Text}

@@ -18,8 +18,8 @@ use Rattle.jt_slots.specs.declared.program.SStmt.{SStmt}
 use Rattle.jt_meaning.specs.Resolve as resolve
 use Rattle.jt_meaning.specs.Resolve.{followed}
 use Rattle.jt_layout.specs.declared.scope.Scope.{Scope}
-use Rattle.jt_names.specs.declared.spot.Spot.{Spot}
-use Rattle.jt_names.specs.Scoped.{IsPlaced, BodyLeads, world_in, order_in, home_in, spot_in, templates_in}
+use Rattle.jt_scopes.specs.declared.spot.Spot.{Spot}
+use Rattle.jt_scopes.specs.Scoped.{IsPlaced, BodyLeads, world_in, order_in, home_in, spot_in, templates_in}
 
 -- the place of a branch's tag, its condition and its statements
 abbrev pub Branch : Type 0

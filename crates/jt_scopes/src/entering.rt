@@ -4,14 +4,14 @@ ghost use Rattle.std.specs.Prelude.{◌≡◌, List, map, IfOk, IfErr};
 ghost use Rattle.std.specs.declared.alloc.Global.{Global};
 ghost use Rattle.std.specs.declared.rc.Rc.{Rc};
 ghost use denote.Ref.{Bor};
-ghost use Rattle.jt_names.specs.declared.frame.Frame.{Frame};
+ghost use Rattle.jt_scopes.specs.declared.frame.Frame.{Frame};
 ghost use Rattle.jt_expr.specs.View.{pairs_view};
 ghost use Rattle.jt_inherit.specs.Uses.{keywords};
 ghost use Rattle.jt_layout.specs.Laid.{IsLaidOut};
 ghost use Rattle.jt_meaning.specs.Layout.{Table};
 ghost use Rattle.jt_layout.specs.declared.scope.Scope.{Scope};
 ghost use Rattle.jt_meaning.specs.Resolve.{bound_all, bound_table, copied};
-ghost use Rattle.jt_names.specs.Scoped.{BodyLeads, framed, spot_in, templates_in};
+ghost use Rattle.jt_scopes.specs.Scoped.{BodyLeads, framed, spot_in, templates_in};
 ghost use Rattle.jt_parse.specs.View.{names_view, parameters_view};
 ghost use Rattle.jt_rules.specs.declared.error.ScopeError.TheVariants as error;
 ghost use Rattle.jt_slots.specs.Pool.{Constant};
@@ -20,10 +20,12 @@ ghost use Rattle.jt_value.specs.Tree.{Tree};
 ghost use Rattle.jt_uses.specs.Names.{texts};
 ghost use Rattle.jt_scopes.specs.Stated.{line_in};
 
+use crate::frame::Frame;
+use crate::lookup::{more, reading, slot};
 use crate::putting::put_assign;
+use crate::spot::Spot;
 use jt_expr::Expr;
 use jt_layout::Scope;
-use jt_names::{Frame, Spot, more, reading, slot};
 use jt_parse::Parameter;
 use jt_rules::ScopeError;
 use jt_slots::{SStmt, Slot, Targets};
@@ -32,7 +34,7 @@ use std::rc::Rc;
 
 /// The scopes around a place further inside, and the first local that holds nothing there.
 #[derive(Drop)]
-pub struct Inside<'a> {
+pub(crate) struct Inside<'a> {
     pub frames: Vec<Rc<Frame<'a>>>,
     pub free: usize,
 }
@@ -60,7 +62,7 @@ fn framed_by<'a>(
 }
 
 /// Enters a scope that has these names.
-pub fn entered<'a>(
+pub(crate) fn entered<'a>(
     alloc: Global,
     spot: &Spot<'_, 'a>,
     names: Vec<&'a str>,
@@ -78,7 +80,7 @@ pub fn entered<'a>(
 
 /// Puts what the names read, into locals from the first that holds nothing, behind other
 /// statements.
-pub fn put_copies(
+pub(crate) fn put_copies(
     scope: &Scope<'_>,
     spot: &Spot<'_, '_>,
     names: &[&str],
@@ -101,7 +103,7 @@ pub fn put_copies(
 }
 
 /// Texts as they stand in a tree.
-pub fn texts_of<'a>(alloc: Global, names: &'a [String]) -> Result<Vec<&'a str>, ScopeError>
+pub(crate) fn texts_of<'a>(alloc: Global, names: &'a [String]) -> Result<Vec<&'a str>, ScopeError>
     ensures same { IfOk result (λ ks. texts ks.items ≡ names_view names.now) }
     ensures refused { IfErr result (λ e. e ≡ error.NoMemory) }
 {
@@ -113,7 +115,7 @@ pub fn texts_of<'a>(alloc: Global, names: &'a [String]) -> Result<Vec<&'a str>, 
 }
 
 /// The names of what is given by name.
-pub fn keywords_of<'a>(
+pub(crate) fn keywords_of<'a>(
     alloc: Global,
     pairs: &'a [(String, Expr)],
 ) -> Result<Vec<&'a str>, ScopeError>
@@ -128,7 +130,7 @@ pub fn keywords_of<'a>(
 }
 
 /// The names of parameters.
-pub fn parameters_of<'a>(
+pub(crate) fn parameters_of<'a>(
     alloc: Global,
     parameters: &'a [Parameter],
 ) -> Result<Vec<&'a str>, ScopeError>

@@ -1,13 +1,33 @@
 //! Names to slots: a chain becomes a program.
+//!
+//! `resolve` (resolving) checks the rules, has the chains laid out, and resolves one chain after the other (homes): its
+//! statements (routines, statements), and the expressions in them (expressions), where names stand in frames (frame, spot)
+//! and values in a pool (pool, shared).
 #![tactic(auto)]
 
+mod blocks;
+mod callee;
 mod entering;
+mod expressions;
+mod filling;
+mod filterings;
+mod forms;
+mod frame;
+mod homes;
 mod locals;
+mod lookup;
+mod loops;
 mod placing;
+mod pool;
+mod program_names;
 mod putting;
+mod resolving;
 mod routines;
+mod rows;
+mod shared;
+mod spot;
 mod statements;
 mod targets;
 
 pub use jt_rules::ScopeError;
-pub use routines::resolve_home;
+pub use resolving::resolve;

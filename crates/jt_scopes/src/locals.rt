@@ -9,12 +9,12 @@ ghost use Rattle.jt_slots.specs.Slots as slots;
 ghost use Rattle.jt_slots.specs.Slots.{SBody};
 ghost use Rattle.jt_slots.specs.View.{slot_view, targets_view, expr_view, row_view, stmt_view, body_view};
 
-use jt_names::more;
+use crate::lookup::more;
 use jt_rules::ScopeError;
 use jt_slots::{SExpr, SStmt, Slot, Targets};
 
 /// The larger one of two numbers.
-pub fn larger(left: usize, right: usize) -> usize
+pub(crate) fn larger(left: usize, right: usize) -> usize
     ensures { result ≡ max left right }
 {
     left.max(right)
@@ -173,7 +173,7 @@ fn stmt_locals(statement: &SStmt) -> Result<usize, ScopeError>
 
 /// The locals of statements.
 #[cycle(statements)]
-pub fn body_locals(body: &[SStmt]) -> Result<usize, ScopeError>
+pub(crate) fn body_locals(body: &[SStmt]) -> Result<usize, ScopeError>
     ensures counted { IfOk result (λ n. (templates : List Text) (behind : SBody ℕ)
         → locals.body_locals (body_view templates body.now behind)
         ≡ max n (locals.body_locals behind)) }

@@ -5,7 +5,7 @@ ghost use Rattle.jt_layout.specs.Laid.{IsLaidOut};
 ghost use Rattle.jt_layout.specs.declared.scope.Scope.{Scope};
 ghost use Rattle.jt_meaning.specs.Resolve as resolve;
 ghost use Rattle.jt_meaning.specs.Layout.{slot_in};
-ghost use Rattle.jt_names.specs.Scoped.{IsPlaced, globals_in, spot_in, templates_in};
+ghost use Rattle.jt_scopes.specs.Scoped.{IsPlaced, globals_in, spot_in, templates_in};
 ghost use Rattle.jt_parse.specs.Trees as trees;
 ghost use Rattle.jt_rules.specs.declared.error.ScopeError.TheVariants as error;
 ghost use Rattle.jt_slots.specs.View.{expr_view};
@@ -14,9 +14,11 @@ ghost use Rattle.jt_value.specs.Tree.{Tree};
 ghost use Rattle.jt_parse.specs.Trees.{Body};
 ghost use Rattle.jt_scopes.specs.Stated.{Led, line_in, stmt_in};
 
+use crate::blocks::{block_arguments, first_body};
+use crate::lookup::{absent, more, no_value, reading, slot};
 use crate::putting::{put_assign, put_print, put_run};
+use crate::spot::Spot;
 use jt_layout::Scope;
-use jt_names::{Spot, absent, block_arguments, first_body, more, no_value, reading, slot};
 use jt_rules::ScopeError;
 use jt_slots::{SExpr, SStmt, Slot, Targets};
 use std::alloc::Global;
@@ -63,7 +65,7 @@ fn hand_on(
 }
 
 /// Puts an included chain behind other statements: it is handed its names.
-pub fn put_include(
+pub(crate) fn put_include(
     alloc: Global,
     scope: &Scope<'_>,
     spot: &Spot<'_, '_>,
@@ -109,7 +111,7 @@ fn seen_by<'s, 'a>(spot: &Spot<'s, 'a>, scoped: bool) -> Spot<'s, 'a>
 
 /// Puts a block where its tag stands behind other statements. What a block without a body prints is
 /// absent.
-pub fn put_block(
+pub(crate) fn put_block(
     alloc: Global,
     scope: &Scope<'_>,
     spot: &Spot<'_, '_>,

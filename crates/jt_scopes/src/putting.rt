@@ -5,7 +5,7 @@ ghost use Rattle.jt_value.specs.Tree as tree;
 ghost use Rattle.jt_value.specs.Tree.{Tree};
 ghost use Rattle.jt_layout.specs.declared.scope.Scope.{Scope};
 ghost use Rattle.jt_meaning.specs.Resolve.{alone};
-ghost use Rattle.jt_names.specs.Scoped.{values, IsPlaced, RowLeads, templates_in};
+ghost use Rattle.jt_scopes.specs.Scoped.{values, IsPlaced, RowLeads, templates_in};
 ghost use Rattle.jt_parse.specs.Trees.{Text};
 ghost use Rattle.jt_rules.specs.declared.error.ScopeError.TheVariants as error;
 ghost use Rattle.jt_slots.specs.Pool.{Constant, own};
@@ -14,14 +14,14 @@ ghost use Rattle.jt_slots.specs.Slots.{SBody, SRow};
 ghost use Rattle.jt_slots.specs.View.{expr_view, slot_view, targets_view};
 ghost use Rattle.jt_scopes.specs.Stated.{Led, IsBody, IsAsked, ChoiceLeads, line_in};
 
-use jt_names::Spot;
+use crate::spot::Spot;
 use jt_rules::ScopeError;
 use jt_slots::{Place, SExpr, SStmt, Slot, Targets};
 use jt_value::Value;
 use std::alloc::Global;
 
 /// Puts a text outside tags behind other statements.
-pub fn put_data(
+pub(crate) fn put_data(
     alloc: Global,
     text: &str,
     done: &mut Vec<SStmt>,
@@ -39,7 +39,7 @@ pub fn put_data(
 }
 
 /// Puts what prints a value behind other statements.
-pub fn put_print(
+pub(crate) fn put_print(
     spot: &Spot<'_, '_>,
     line: u32,
     value: SExpr,
@@ -60,7 +60,7 @@ pub fn put_print(
 }
 
 /// Puts what takes a value behind other statements.
-pub fn put_assign(
+pub(crate) fn put_assign(
     spot: &Spot<'_, '_>,
     line: u32,
     targets: Targets,
@@ -83,7 +83,7 @@ pub fn put_assign(
 }
 
 /// Puts branches and the else part behind other statements.
-pub fn put_choice(
+pub(crate) fn put_choice(
     branches: Vec<(Place, SExpr, Vec<SStmt>)>,
     other: Vec<SStmt>,
     done: &mut Vec<SStmt>,
@@ -100,7 +100,7 @@ pub fn put_choice(
 }
 
 /// Puts a loop behind other statements.
-pub fn put_loop(
+pub(crate) fn put_loop(
     spot: &Spot<'_, '_>,
     line: u32,
     targets: Targets,
@@ -130,7 +130,7 @@ pub fn put_loop(
 }
 
 /// Puts what keeps the text of statements in a slot behind others.
-pub fn put_capture(
+pub(crate) fn put_capture(
     escaping: bool,
     slot: Slot,
     body: Vec<SStmt>,
@@ -148,7 +148,7 @@ pub fn put_capture(
 }
 
 /// Puts what a routine prints on a row of arguments behind other statements.
-pub fn put_run(
+pub(crate) fn put_run(
     unit: usize,
     row: Vec<(Option<usize>, SExpr)>,
     done: &mut Vec<SStmt>,

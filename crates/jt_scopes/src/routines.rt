@@ -11,7 +11,7 @@ ghost use Rattle.jt_meaning.specs.Layout.{numbered_bodies};
 ghost use Rattle.jt_meaning.specs.Meaning.{is_set};
 ghost use Rattle.jt_meaning.specs.Programs as programs;
 ghost use Rattle.jt_meaning.specs.Resolve as resolve;
-ghost use Rattle.jt_names.specs.Scoped.{values, world_in, order_in, home_in, spot_in, templates_in};
+ghost use Rattle.jt_scopes.specs.Scoped.{values, world_in, order_in, home_in, spot_in, templates_in};
 ghost use Rattle.jt_parse.specs.View.{stmt_view, body_view};
 ghost use Rattle.jt_rules.specs.declared.error.ScopeError.TheVariants as error;
 ghost use Rattle.jt_slots.specs.Slots as slots;
@@ -21,10 +21,10 @@ ghost use Rattle.jt_scopes.specs.Stated.{Led, stmt_in, layer_in};
 
 use crate::entering::parameters_of;
 use crate::locals::{body_locals, larger};
+use crate::spot::Spot;
 use crate::statements::{resolve_body, resolve_statement, resolve_within};
 use jt_inherit::Layer;
 use jt_layout::Scope;
-use jt_names::Spot;
 use jt_parse::Stmt;
 use jt_rules::ScopeError;
 use jt_slots::{Routine, SStmt};
@@ -286,7 +286,7 @@ fn resolve_blocks<'a>(
 }
 
 /// Resolves a chain with its macros and the bodies of its blocks, behind other routines.
-pub fn resolve_home<'a>(
+pub(crate) fn resolve_home<'a>(
     alloc: Global,
     scope: &Scope<'a>,
     routines: &mut Vec<Routine>,

@@ -4,7 +4,7 @@ ghost use Rattle.std.specs.Prelude.{◌≡◌, ℕ, option_map, IfOk, IfErr};
 ghost use Rattle.jt_expr.specs.View as written;
 ghost use Rattle.jt_layout.specs.Laid.{IsLaidOut};
 ghost use Rattle.jt_meaning.specs.Resolve as resolve;
-ghost use Rattle.jt_names.specs.Scoped.{values, BodyLeads, expr_in, spot_in, templates_in, world_in, order_in};
+ghost use Rattle.jt_scopes.specs.Scoped.{values, BodyLeads, expr_in, spot_in, templates_in, world_in, order_in};
 ghost use Rattle.jt_parse.specs.Trees as trees;
 ghost use Rattle.jt_parse.specs.View.{stmt_view, body_view, filterings_view, names_view};
 ghost use Rattle.jt_rules.specs.declared.error.ScopeError.TheVariants as error;
@@ -14,12 +14,15 @@ ghost use Rattle.jt_uses.specs.Names.{texts};
 ghost use Rattle.jt_scopes.specs.Stated.{Led, IsBody, IsAsked, IsBranch, IsTurn, line_in, stmt_in, body_in, scoped_in, values_in};
 
 use crate::entering::{entered, keywords_of, put_copies, texts_of};
+use crate::expressions::resolve_expression;
+use crate::filterings::resolve_filterings;
+use crate::lookup::more;
 use crate::placing::{put_block, put_include};
 use crate::putting::{put_assign, put_capture, put_choice, put_data, put_loop, put_print};
+use crate::spot::Spot;
 use crate::targets::{fresh_targets, set_slot, set_targets};
 use jt_expr::Expr;
 use jt_layout::Scope;
-use jt_names::{Spot, more, resolve_expression, resolve_filterings};
 use jt_parse::{Filtering, Stmt};
 use jt_rules::ScopeError;
 use jt_slots::{Place, SExpr, SStmt, Slot, Targets};
@@ -29,7 +32,7 @@ use std::alloc::Global;
 
 /// Resolves statements, behind others that are resolved.
 #[cycle(resolve)]
-pub fn resolve_body<'a>(
+pub(crate) fn resolve_body<'a>(
     alloc: Global,
     scope: &Scope<'a>,
     spot: &Spot<'_, 'a>,
@@ -51,7 +54,7 @@ pub fn resolve_body<'a>(
 
 /// Resolves a statement, behind others that are resolved.
 #[cycle(resolve)]
-pub fn resolve_statement<'a>(
+pub(crate) fn resolve_statement<'a>(
     alloc: Global,
     scope: &Scope<'a>,
     spot: &Spot<'_, 'a>,
@@ -168,7 +171,7 @@ fn resolve_turn<'a>(
 /// Resolves a body in a scope of its own, where names are in locals from the first that holds
 /// nothing, behind other statements.
 #[cycle(resolve)]
-pub fn resolve_within<'a>(
+pub(crate) fn resolve_within<'a>(
     alloc: Global,
     scope: &Scope<'a>,
     spot: &Spot<'_, 'a>,

@@ -4,8 +4,8 @@ ghost use Rattle.std.specs.Prelude.{◌≡◌, None, map, IfOk, IfErr, option_ma
 ghost use Rattle.jt_layout.specs.Laid.{IsLaidOut};
 ghost use Rattle.jt_meaning.specs.Resolve as resolve;
 ghost use Rattle.jt_meaning.specs.Layout.{slot_in};
-ghost use Rattle.jt_names.specs.Names.{last_among};
-ghost use Rattle.jt_names.specs.Scoped.{spot_in};
+ghost use Rattle.jt_scopes.specs.Names.{last_among};
+ghost use Rattle.jt_scopes.specs.Scoped.{spot_in};
 ghost use Rattle.jt_parse.specs.View.{names_view};
 ghost use Rattle.jt_rules.specs.declared.error.ScopeError.TheVariants as error;
 ghost use Rattle.jt_slots.specs.View.{slot_view, targets_view};
@@ -13,14 +13,16 @@ ghost use Rattle.jt_uses.specs.Names.{texts};
 ghost use Rattle.jt_scopes.specs.Stated.{slot_if};
 
 use crate::entering::texts_of;
+use crate::frame::Frame;
+use crate::lookup::{more, slot};
+use crate::spot::Spot;
 use jt_layout::Scope;
-use jt_names::{Frame, Spot, more, slot};
 use jt_rules::ScopeError;
 use jt_slots::{Slot, Targets};
 use std::alloc::Global;
 
 /// The slot of a name that is set.
-pub fn set_slot(scope: &Scope<'_>, spot: &Spot<'_, '_>, name: &str) -> Slot
+pub(crate) fn set_slot(scope: &Scope<'_>, spot: &Spot<'_, '_>, name: &str) -> Slot
     requires { IsLaidOut scope.now }
     ensures { slot_view result ≡ resolve.slot_of name.now (spot_in scope.now spot.now).table }
 {
@@ -73,7 +75,7 @@ fn kept_slots(
 }
 
 /// What takes the value of a tag that sets names.
-pub fn set_targets(
+pub(crate) fn set_targets(
     alloc: Global,
     scope: &Scope<'_>,
     spot: &Spot<'_, '_>,
@@ -110,7 +112,11 @@ fn fresh_slots(
 }
 
 /// What takes the items of a loop: locals from one on.
-pub fn fresh_targets(alloc: Global, first: usize, names: &[String]) -> Result<Targets, ScopeError>
+pub(crate) fn fresh_targets(
+    alloc: Global,
+    first: usize,
+    names: &[String],
+) -> Result<Targets, ScopeError>
     ensures taken { IfOk result
         (λ t. targets_view t ≡ resolve.fresh_targets first (names_view names.now)) }
     ensures refused { IfErr result (λ e. e ≡ error.NoMemory) }

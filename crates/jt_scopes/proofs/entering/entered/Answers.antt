@@ -4,8 +4,8 @@ use Rattle.std.specs.declared.rc.Rc.{Rc}
 use denote.Ref.{Bor}
 use Rattle.jt_parse.specs.Trees.{Text}
 use Rattle.jt_uses.specs.Names.{texts}
-use Rattle.jt_names.specs.Scoped.{framed, globals_in, spot_in}
-use Rattle.jt_names.specs.declared.frame.Frame.{Frame}
+use Rattle.jt_scopes.specs.Scoped.{framed, globals_in, spot_in}
+use Rattle.jt_scopes.specs.declared.frame.Frame.{Frame}
 use Rattle.jt_scopes.proofs.Placed.{spot_bound}
 use Rattle.jt_scopes.proofs.entering.entered.Goals as goal
 

@@ -1,8 +1,8 @@
 use Rattle.std.proofs.Common.{List, map, take_all, ap, ◌∙◌, arith, Global}
 use Rattle.std.specs.declared.rc.Rc.{Rc}
 use Rattle.jt_uses.specs.Names.{texts}
-use Rattle.jt_names.specs.Scoped.{framed}
-use Rattle.jt_names.specs.declared.frame.Frame.{Frame}
+use Rattle.jt_scopes.specs.Scoped.{framed}
+use Rattle.jt_scopes.specs.declared.frame.Frame.{Frame}
 use Rattle.jt_meaning.specs.Resolve.{bound_table}
 use Rattle.jt_scopes.proofs.Placed.{entered_more}
 use Rattle.jt_scopes.proofs.entering.framed_by.Goals as goal

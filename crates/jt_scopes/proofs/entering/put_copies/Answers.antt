@@ -5,9 +5,9 @@ use Rattle.jt_parse.specs.Trees.{Text}
 use Rattle.jt_meaning.specs.Resolve.{copied}
 use Rattle.jt_slots.specs.View.{expr_view}
 use Rattle.jt_uses.specs.Names.{texts}
-use Rattle.jt_names.specs.Scoped.{spot_in, templates_in}
+use Rattle.jt_scopes.specs.Scoped.{spot_in, templates_in}
 use Rattle.jt_scopes.specs.Stated.{line_in}
-use Rattle.jt_scopes.proofs.Leading.{lead_both, lead_left}
+use Rattle.jt_scopes.proofs.LeadingBodies.{lead_both, lead_left}
 use Rattle.jt_scopes.proofs.Stating.{copy_step}
 use Rattle.jt_scopes.proofs.entering.put_copies.Goals as goal
 

@@ -4,7 +4,7 @@ use Rattle.jt_meaning.specs.Resolve.{copied}
 use Rattle.jt_slots.specs.Pool.{Constant}
 use Rattle.jt_slots.specs.Slots.{SBody}
 use Rattle.jt_uses.specs.Names.{texts}
-use Rattle.jt_names.specs.Scoped.{BodyLeads, spot_in, templates_in}
+use Rattle.jt_scopes.specs.Scoped.{BodyLeads, spot_in, templates_in}
 use Rattle.jt_scopes.specs.Stated.{line_in}
 use Rattle.jt_scopes.proofs.entering.put_copies.Given as goal
 

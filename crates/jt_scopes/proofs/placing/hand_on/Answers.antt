@@ -6,9 +6,9 @@ use Rattle.jt_parse.specs.Trees.{Text}
 use Rattle.jt_meaning.specs.Resolve.{handed_on, followed}
 use Rattle.jt_slots.specs.View.{expr_view}
 use Rattle.jt_uses.specs.Names.{texts}
-use Rattle.jt_names.specs.Scoped.{spot_in, templates_in}
+use Rattle.jt_scopes.specs.Scoped.{spot_in, templates_in}
 use Rattle.jt_scopes.specs.Stated.{line_in}
-use Rattle.jt_scopes.proofs.Leading.{lead_both, lead_left}
+use Rattle.jt_scopes.proofs.LeadingBodies.{lead_both, lead_left}
 use Rattle.jt_scopes.proofs.Stating.{hand_step}
 use Rattle.jt_scopes.proofs.placing.hand_on.Goals as goal
 

@@ -4,7 +4,7 @@ use Rattle.jt_meaning.specs.Resolve.{handed_on, followed}
 use Rattle.jt_slots.specs.Pool.{Constant}
 use Rattle.jt_slots.specs.Slots.{SBody}
 use Rattle.jt_uses.specs.Names.{texts}
-use Rattle.jt_names.specs.Scoped.{BodyLeads, spot_in, templates_in}
+use Rattle.jt_scopes.specs.Scoped.{BodyLeads, spot_in, templates_in}
 use Rattle.jt_scopes.specs.Stated.{line_in}
 use Rattle.jt_scopes.proofs.placing.hand_on.Given as goal
 

@@ -4,8 +4,8 @@ use Rattle.std.proofs.lemmas.Result.{IfOk-weaker}
 use Rattle.jt_slots.specs.Slots as slots
 use Rattle.jt_meaning.specs.Layout.{Table, block_parameters, numbered_of}
 use Rattle.jt_meaning.specs.Resolve.{alone, reads, first_body}
-use Rattle.jt_names.specs.Scoped.{world_in, order_in, home_in, globals_in, spot_in, templates_in}
-use Rattle.jt_scopes.proofs.Leading.{led_of}
+use Rattle.jt_scopes.specs.Scoped.{world_in, order_in, home_in, globals_in, spot_in, templates_in}
+use Rattle.jt_scopes.proofs.LeadingBodies.{led_of}
 use Rattle.jt_scopes.proofs.Standing.{block_run, block_absent}
 use Rattle.jt_scopes.proofs.placing.put_block.Goals as goal
 

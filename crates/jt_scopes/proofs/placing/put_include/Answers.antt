@@ -5,8 +5,8 @@ use Rattle.jt_slots.specs.Slots as slots
 use Rattle.jt_meaning.specs.Layout.{of_chain, first_slot, names, unit}
 use Rattle.jt_layout.specs.Laid.{IsChainAt}
 use Rattle.jt_uses.specs.Names.{texts}
-use Rattle.jt_names.specs.Scoped.{world_in, order_in, templates_in}
-use Rattle.jt_scopes.proofs.Leading.{led_of, led_both}
+use Rattle.jt_scopes.specs.Scoped.{world_in, order_in, templates_in}
+use Rattle.jt_scopes.proofs.LeadingBodies.{led_of, led_both}
 use Rattle.jt_scopes.proofs.Standing.{no_row, absent_names, absent_unit, include_shown}
 use Rattle.jt_scopes.proofs.placing.put_include.Goals as goal
 

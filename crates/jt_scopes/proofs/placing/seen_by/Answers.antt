@@ -1,6 +1,6 @@
 use Rattle.std.proofs.Common.{sym, ap, ◌∙◌}
 use Rattle.std.specs.Prelude.{if◌then◌else◌}
-use Rattle.jt_names.specs.Scoped.{globals_in, spot_in}
+use Rattle.jt_scopes.specs.Scoped.{globals_in, spot_in}
 use Rattle.jt_meaning.specs.Resolve.{Spot}
 use Rattle.jt_scopes.proofs.placing.seen_by.Goals as goal
 

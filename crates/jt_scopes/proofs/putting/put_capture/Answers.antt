@@ -1,4 +1,4 @@
-use Rattle.jt_scopes.proofs.Leading.{capture_led}
+use Rattle.jt_scopes.proofs.LeadingBodies.{capture_led}
 use Rattle.jt_scopes.proofs.putting.put_capture.Goals as goal
 
 pub returns-clause-put : goal.returns-clause-put

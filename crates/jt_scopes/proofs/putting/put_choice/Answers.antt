@@ -1,4 +1,4 @@
-use Rattle.jt_scopes.proofs.Leading.{choice_led}
+use Rattle.jt_scopes.proofs.LeadingBodies.{choice_led}
 use Rattle.jt_scopes.proofs.putting.put_choice.Goals as goal
 
 pub returns-clause-put : goal.returns-clause-put

@@ -2,8 +2,8 @@ use Rattle.std.proofs.Common.{sym, ◌∙◌}
 use Rattle.std.proofs.lemmas.List.{length-map}
 use Rattle.jt_value.specs.Tree as tree
 use Rattle.jt_value.specs.View.{view}
-use Rattle.jt_names.specs.Scoped.{values}
-use Rattle.jt_scopes.proofs.Leading.{data_led, value_push}
+use Rattle.jt_scopes.specs.Scoped.{values}
+use Rattle.jt_scopes.proofs.LeadingBodies.{data_led, value_push}
 use Rattle.jt_scopes.proofs.putting.put_data.Goals as goal
 
 pub returns-clause-put : goal.returns-clause-put

@@ -1,7 +1,7 @@
 use Rattle.jt_inherit.specs.View.{chain_view}
-use Rattle.jt_names.specs.Scoped.{templates_in}
+use Rattle.jt_scopes.specs.Scoped.{templates_in}
 use Rattle.jt_scopes.specs.Stated.{line_in}
-use Rattle.jt_scopes.proofs.Leading.{loop_led}
+use Rattle.jt_scopes.proofs.LeadingBodies.{loop_led}
 use Rattle.jt_scopes.proofs.Placed.{place_shown}
 use Rattle.jt_scopes.proofs.putting.put_loop.Goals as goal
 

@@ -1,4 +1,4 @@
-use Rattle.jt_scopes.proofs.Leading.{run_led}
+use Rattle.jt_scopes.proofs.LeadingBodies.{run_led}
 use Rattle.jt_scopes.proofs.putting.put_run.Goals as goal
 
 pub returns-clause-put : goal.returns-clause-put

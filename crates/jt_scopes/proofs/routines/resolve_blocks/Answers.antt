@@ -3,7 +3,7 @@ use Rattle.jt_inherit.specs.Parts.{block_view}
 use Rattle.jt_inherit.specs.View.{chain_view}
 use Rattle.jt_meaning.specs.Layout.{numbered_bodies}
 use Rattle.jt_meaning.specs.Programs.{body_routines}
-use Rattle.jt_names.specs.Scoped.{world_in, order_in, home_in, templates_in}
+use Rattle.jt_scopes.specs.Scoped.{world_in, order_in, home_in, templates_in}
 use Rattle.jt_scopes.proofs.Routing.{routines_both, routines_left}
 use Rattle.jt_scopes.proofs.Numbered.{numbered_end, block_routine}
 use Rattle.jt_scopes.proofs.routines.resolve_blocks.Goals as goal

@@ -1,7 +1,7 @@
 use Rattle.std.proofs.Common.{List, ◌++◌, drop}
 use Rattle.jt_meaning.specs.Layout.{numbered_bodies}
 use Rattle.jt_meaning.specs.Programs.{body_routines}
-use Rattle.jt_names.specs.Scoped.{values, world_in, order_in, home_in, templates_in}
+use Rattle.jt_scopes.specs.Scoped.{values, world_in, order_in, home_in, templates_in}
 use Rattle.jt_scopes.specs.Routines.{RoutinesLead}
 use Rattle.jt_scopes.proofs.Routing.{Planned}
 use Rattle.jt_scopes.proofs.routines.resolve_blocks.Given as goal

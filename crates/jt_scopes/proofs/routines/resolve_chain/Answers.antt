@@ -8,9 +8,9 @@ use Rattle.jt_inherit.specs.declared.layers.Layer.{Layer}
 use Rattle.jt_slots.specs.Locals.{body_locals}
 use Rattle.jt_slots.specs.View.{body_view}
 use Rattle.jt_slots.specs.declared.program.SStmt.{SStmt}
-use Rattle.jt_names.specs.Scoped.{values, world_in, order_in, home_in, templates_in}
+use Rattle.jt_scopes.specs.Scoped.{values, world_in, order_in, home_in, templates_in}
 use Rattle.jt_meaning.specs.Resolve.{resolved_chain}
-use Rattle.jt_scopes.proofs.Leading.{led_begun, led_of}
+use Rattle.jt_scopes.proofs.LeadingBodies.{led_begun, led_of}
 use Rattle.jt_scopes.proofs.Routing.{locals_same, routine_made}
 use Rattle.jt_scopes.proofs.routines.resolve_chain.Goals as goal
 

@@ -1,6 +1,6 @@
 use Rattle.std.proofs.Common.{[], ◌∷◌}
 use Rattle.std.proofs.lemmas.Result.{IfOk-weaker}
-use Rattle.jt_names.specs.Scoped.{world_in, order_in, home_in, templates_in}
+use Rattle.jt_scopes.specs.Scoped.{world_in, order_in, home_in, templates_in}
 use Rattle.jt_meaning.specs.Resolve.{chain_routine}
 use Rattle.jt_scopes.proofs.Routing.{routine_lead, all_both, all_done}
 use Rattle.jt_scopes.proofs.routines.resolve_home.Goals as goal

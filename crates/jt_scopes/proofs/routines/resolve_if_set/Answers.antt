@@ -3,9 +3,9 @@ use Rattle.std.specs.Prelude.{if◌then◌else◌}
 use Rattle.std.proofs.lemmas.Result.{IfOk-weaker}
 use Rattle.jt_parse.specs.View.{stmt_view}
 use Rattle.jt_slots.specs.Slots as slots
-use Rattle.jt_names.specs.Scoped.{templates_in}
+use Rattle.jt_scopes.specs.Scoped.{templates_in}
 use Rattle.jt_scopes.specs.Stated.{stmt_in}
-use Rattle.jt_scopes.proofs.Leading.{led_of, led_nothing}
+use Rattle.jt_scopes.proofs.LeadingBodies.{led_of, led_nothing}
 use Rattle.jt_scopes.proofs.routines.resolve_if_set.Goals as goal
 
 pub returns-then-sets_names-clause-led : goal.returns-then-sets_names-clause-led

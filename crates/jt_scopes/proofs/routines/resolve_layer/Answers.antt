@@ -4,9 +4,9 @@ use Rattle.jt_parse.specs.View.{body_view}
 use Rattle.jt_inherit.specs.Layers.{layer_view}
 use Rattle.jt_inherit.specs.View.{chain_view}
 use Rattle.jt_meaning.specs.Resolve.{Spot, resolved_body, resolved_sets}
-use Rattle.jt_names.specs.Scoped.{world_in, order_in, templates_in}
+use Rattle.jt_scopes.specs.Scoped.{world_in, order_in, templates_in}
 use Rattle.jt_scopes.specs.Stated.{layer_in}
-use Rattle.jt_scopes.proofs.Leading.{led_of}
+use Rattle.jt_scopes.proofs.LeadingBodies.{led_of}
 use Rattle.jt_scopes.proofs.routines.resolve_layer.Goals as goal
 
 pub returns-then-is_root-clause-led : goal.returns-then-is_root-clause-led

@@ -4,8 +4,8 @@ use Rattle.jt_inherit.specs.Layers.{layer_view}
 use Rattle.jt_inherit.specs.View.{chain_view}
 use Rattle.jt_inherit.specs.declared.layers.Layer.{Layer}
 use Rattle.jt_meaning.specs.Resolve.{followed, resolved_chain}
-use Rattle.jt_names.specs.Scoped.{world_in, order_in, home_in, templates_in}
-use Rattle.jt_scopes.proofs.Leading.{lead_both, lead_of, lead_left}
+use Rattle.jt_scopes.specs.Scoped.{world_in, order_in, home_in, templates_in}
+use Rattle.jt_scopes.proofs.LeadingBodies.{lead_both, lead_of, lead_left}
 use Rattle.jt_scopes.proofs.Chained.{layers_turn, root_here}
 use Rattle.jt_scopes.proofs.routines.resolve_layers.Goals as goal
 

@@ -4,7 +4,7 @@ use Rattle.jt_inherit.specs.View.{chain_view}
 use Rattle.jt_meaning.specs.Resolve.{followed, resolved_chain}
 use Rattle.jt_slots.specs.Pool.{Constant}
 use Rattle.jt_slots.specs.Slots.{SBody}
-use Rattle.jt_names.specs.Scoped.{values, BodyLeads, world_in, order_in, home_in, templates_in}
+use Rattle.jt_scopes.specs.Scoped.{values, BodyLeads, world_in, order_in, home_in, templates_in}
 use Rattle.jt_scopes.proofs.routines.resolve_layers.Given as goal
 
 abbrev pub invariant-loop-place : goal.invariant-loop-place

@@ -5,7 +5,7 @@ use Rattle.jt_inherit.specs.Parts.{macro_view}
 use Rattle.jt_inherit.specs.View.{chain_view}
 use Rattle.jt_inherit.specs.declared.parts.Macro.{Macro}
 use Rattle.jt_meaning.specs.Resolve.{macro_routine}
-use Rattle.jt_names.specs.Scoped.{world_in, order_in, home_in, templates_in}
+use Rattle.jt_scopes.specs.Scoped.{world_in, order_in, home_in, templates_in}
 use Rattle.jt_scopes.proofs.Routing.{routines_both, routines_of, routines_left}
 use Rattle.jt_scopes.proofs.Numbered.{macro_lead, macros_same}
 use Rattle.jt_scopes.proofs.routines.resolve_macros.Goals as goal

@@ -4,7 +4,7 @@ use Rattle.jt_inherit.specs.View.{chain_view}
 use Rattle.jt_meaning.specs.Resolve.{macro_routine}
 use Rattle.jt_scopes.specs.Routines.{RoutinesLead}
 use Rattle.jt_scopes.proofs.Routing.{Planned}
-use Rattle.jt_names.specs.Scoped.{values, world_in, order_in, home_in, templates_in}
+use Rattle.jt_scopes.specs.Scoped.{values, world_in, order_in, home_in, templates_in}
 use Rattle.jt_scopes.proofs.routines.resolve_macros.Given as goal
 
 abbrev pub invariant-loop-called : goal.invariant-loop-called

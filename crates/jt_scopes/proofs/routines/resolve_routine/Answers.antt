@@ -8,9 +8,9 @@ use Rattle.jt_slots.specs.declared.program.SStmt.{SStmt}
 use Rattle.jt_uses.specs.Names.{texts}
 use Rattle.jt_slots.specs.Locals.{body_locals}
 use Rattle.jt_meaning.specs.Resolve.{bound_all}
-use Rattle.jt_names.specs.Scoped.{values, spot_in, templates_in}
+use Rattle.jt_scopes.specs.Scoped.{values, spot_in, templates_in}
 use Rattle.jt_scopes.specs.Stated.{scoped_in}
-use Rattle.jt_scopes.proofs.Leading.{led_begun}
+use Rattle.jt_scopes.proofs.LeadingBodies.{led_begun}
 use Rattle.jt_scopes.proofs.Routing.{locals_same, routine_made}
 use Rattle.jt_scopes.proofs.routines.resolve_routine.Goals as goal
 

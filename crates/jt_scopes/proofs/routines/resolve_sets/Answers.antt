@@ -4,10 +4,10 @@ use Rattle.jt_parse.specs.View.{stmt_view, body_view}
 use Rattle.jt_parse.specs.declared.tree.Stmt.{Stmt}
 use Rattle.jt_meaning.specs.Meaning.{is_set}
 use Rattle.jt_meaning.specs.Resolve.{followed, resolved_sets}
-use Rattle.jt_names.specs.Scoped.{world_in, order_in, spot_in, templates_in}
+use Rattle.jt_scopes.specs.Scoped.{world_in, order_in, spot_in, templates_in}
 use Rattle.jt_scopes.specs.Stated.{stmt_in}
 use Rattle.jt_scopes.proofs.Chained.{sets_next}
-use Rattle.jt_scopes.proofs.Leading.{lead_both, lead_of, lead_left}
+use Rattle.jt_scopes.proofs.LeadingBodies.{lead_both, lead_of, lead_left}
 use Rattle.jt_scopes.proofs.Shown.{statements_left}
 use Rattle.jt_scopes.proofs.routines.resolve_sets.Goals as goal
 

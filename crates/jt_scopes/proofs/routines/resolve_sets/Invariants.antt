@@ -3,7 +3,7 @@ use Rattle.jt_meaning.specs.Resolve.{followed, resolved_sets}
 use Rattle.jt_parse.specs.View.{body_view}
 use Rattle.jt_slots.specs.Pool.{Constant}
 use Rattle.jt_slots.specs.Slots.{SBody}
-use Rattle.jt_names.specs.Scoped.{values, BodyLeads, templates_in, world_in, order_in, spot_in}
+use Rattle.jt_scopes.specs.Scoped.{values, BodyLeads, templates_in, world_in, order_in, spot_in}
 use Rattle.jt_scopes.proofs.routines.resolve_sets.Given as goal
 
 abbrev pub invariant-loop-statement : goal.invariant-loop-statement

@@ -10,9 +10,9 @@ use Rattle.jt_slots.specs.Slots as slots
 use Rattle.jt_meaning.specs.Resolve.{followed, alone, bound_all, resolved_filters}
 use Rattle.jt_inherit.specs.View.{chain_view}
 use Rattle.jt_uses.specs.Names.{texts}
-use Rattle.jt_names.specs.Scoped.{values, world_in, order_in, expr_in, spot_in, templates_in}
+use Rattle.jt_scopes.specs.Scoped.{values, world_in, order_in, expr_in, spot_in, templates_in}
 use Rattle.jt_scopes.specs.Stated.{line_in, stmt_in, body_in, choice_in, scoped_in, values_in}
-use Rattle.jt_scopes.proofs.Leading.{lead_both, lead_of, lead_left, lead_same, led_of, led_both, led_begun, followed_again, choice_same, choice_other, branch_as, branch_led}
+use Rattle.jt_scopes.proofs.LeadingBodies.{lead_both, lead_of, lead_left, lead_same, led_of, led_both, led_begun, followed_again, choice_same, choice_other, branch_as, branch_led}
 use Rattle.jt_scopes.proofs.Placed.{place_shown}
 use Rattle.jt_scopes.proofs.Shown.{Branch, statements_left, branches_left, view-Data, view-Print, view-Set, view-SetBlock, view-With, view-Autoescape, view-FilterBlock, view-Macro, view-Include, view-Extends, view-Block}
 use Rattle.jt_scopes.proofs.Smaller.{branch_smaller, other_smaller, turn_smaller, last_smaller, text_smaller, with_smaller, filtered_smaller, autoescape_smaller}

@@ -3,7 +3,7 @@ use Rattle.jt_meaning.specs.Resolve.{followed}
 use Rattle.jt_parse.specs.View.{body_view, branches_view}
 use Rattle.jt_slots.specs.Pool.{Constant}
 use Rattle.jt_slots.specs.Slots.{SBody}
-use Rattle.jt_names.specs.Scoped.{values, BodyLeads, templates_in}
+use Rattle.jt_scopes.specs.Scoped.{values, BodyLeads, templates_in}
 use Rattle.jt_scopes.specs.Stated.{ChoiceLeads, body_in, choice_in}
 use Rattle.jt_scopes.proofs.statements.+resolve.Given as goal
 

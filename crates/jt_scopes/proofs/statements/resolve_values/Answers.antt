@@ -2,9 +2,9 @@ use Rattle.std.proofs.Common.{ℕ, ◌+◌, List, drop, sym, ap, ◌∙◌, arit
 use Rattle.std.proofs.lemmas.List.{at_drop_all}
 use Rattle.jt_expr.specs.View.{expr_view, pairs_view}
 use Rattle.jt_slots.specs.Slots as slots
-use Rattle.jt_names.specs.Scoped.{expr_in, templates_in}
+use Rattle.jt_scopes.specs.Scoped.{expr_in, templates_in}
 use Rattle.jt_scopes.specs.Stated.{line_in, values_in}
-use Rattle.jt_scopes.proofs.Leading.{lead_both, lead_of, lead_left}
+use Rattle.jt_scopes.proofs.LeadingBodies.{lead_both, lead_of, lead_left}
 use Rattle.jt_scopes.proofs.Shown.{Pair, pairs_left}
 use Rattle.jt_scopes.proofs.statements.resolve_values.Goals as goal
 

@@ -2,7 +2,7 @@ use Rattle.std.proofs.Common.{drop}
 use Rattle.jt_expr.specs.View.{pairs_view}
 use Rattle.jt_slots.specs.Pool.{Constant}
 use Rattle.jt_slots.specs.Slots.{SBody}
-use Rattle.jt_names.specs.Scoped.{values, BodyLeads, templates_in}
+use Rattle.jt_scopes.specs.Scoped.{values, BodyLeads, templates_in}
 use Rattle.jt_scopes.specs.Stated.{values_in}
 use Rattle.jt_scopes.proofs.statements.resolve_values.Given as goal
 

@@ -1,5 +1,5 @@
 use Rattle.std.proofs.Common.{◌∙◌}
-use Rattle.jt_names.specs.Scoped.{spot_in}
+use Rattle.jt_scopes.specs.Scoped.{spot_in}
 use Rattle.jt_scopes.proofs.Stating.{kept_step}
 use Rattle.jt_scopes.proofs.targets.kept_slots.Goals as goal
 

@@ -1,7 +1,7 @@
 use Rattle.std.proofs.Common.{sym, ap, ◌∙◌}
 use Rattle.std.specs.Prelude.{unwrap_or}
 use Rattle.jt_slots.specs.Slots.{local}
-use Rattle.jt_names.specs.Scoped.{spot_in}
+use Rattle.jt_scopes.specs.Scoped.{spot_in}
 use Rattle.jt_scopes.proofs.Placed.{slot_of_found, viewed_or}
 use Rattle.jt_slots.specs.View.{slot_view}
 use Rattle.jt_scopes.proofs.targets.set_slot.Goals as goal

@@ -1,9 +1,0 @@
-use Rattle.std.proofs.Common.{◌≡◌, drop}
-use Rattle.jt_expr.specs.View.{pairs_view}
-use Rattle.jt_inherit.specs.Uses.{keywords}
-use Rattle.jt_parse.specs.View.{parameters_view}
-use Rattle.jt_slots.specs.Filters.{some_given}
-use Rattle.jt_names.proofs.filling.is_some_given.Given as goal
-
-abbrev pub invariant-loop-parameter : goal.invariant-loop-parameter
-invariant-loop-parameter l = some_given (parameters_view (drop l.parameter-index l.parameters)) (keywords (pairs_view l.pairs)) ≡ some_given (parameters_view l.parameters) (keywords (pairs_view l.pairs))

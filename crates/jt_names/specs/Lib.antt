@@ -1,4 +1,0 @@
-pub mod Callees
-pub mod Formed
-pub mod Names
-pub mod Scoped

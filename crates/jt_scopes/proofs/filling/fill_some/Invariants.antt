@@ -1,0 +1,12 @@
+use Rattle.std.proofs.Common.{drop}
+use Rattle.jt_expr.specs.View.{pairs_view}
+use Rattle.jt_inherit.specs.Uses.{keywords}
+use Rattle.jt_parse.specs.View.{parameters_view}
+use Rattle.jt_meaning.specs.Resolve.{filled_some, locals_from}
+use Rattle.jt_scopes.specs.Scoped.{values, RowLeads}
+use Rattle.jt_scopes.proofs.filling.fill_some.Given as goal
+
+abbrev pub invariant-loop-place : goal.invariant-loop-place
+invariant-loop-place l = RowLeads (filled_some (parameters_view l.rest) 0 (keywords (pairs_view l.pairs)) (locals_from l.free (keywords (pairs_view l.pairs))))
+    (filled_some (parameters_view (drop l.place l.rest)) 0 (keywords (pairs_view l.pairs)) (locals_from l.free (keywords (pairs_view l.pairs))))
+    l.initial.done.items l.done.items (values l.initial.pool) (values l.pool)
