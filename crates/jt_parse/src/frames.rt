@@ -181,7 +181,11 @@ pub fn unclosed(frames: Vec<Frame>) -> Option<u32>
 {
     let mut frames = frames;
     match pop_frame(&mut frames) {
-        Some(frame) => Some(frame.line),
+        Some(frame) => {
+            let line = frame.line;
+            drop(frame);
+            Some(line)
+        }
         None => None,
     }
 }

@@ -215,6 +215,7 @@ impl Parser {
             self.new }
     {
         if !ends_frame(&frame, word, tokens) {
+            drop(frame);
             return Err(ParseError::Syntax { line });
         }
         close_frame(self.alloc, frame, &mut self.body)
