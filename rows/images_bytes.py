@@ -54,8 +54,9 @@ def instruction(word):
     if name not in OPCODES or len(fields) != len(FIELDS[OPCODES[name]]):
         raise Malformed(f"no instruction: {word!r}")
     named = dict(zip(FIELDS[OPCODES[name]], fields))
-    relative = [at for at, field in enumerate("abc", 1) if named.get(field, "0")[0] in "+-"]
-    return [OPCODES[name], *(int(named[field]) if at in relative else number(named.get(field, "0")) for at, field in enumerate("abc", 1))], relative
+    words = [named.get(field, "0") for field in "abc"]
+    relative = [at for at, word in enumerate(words, 1) if word[0] in "+-"]
+    return [OPCODES[name], *(int(word) if word[0] in "+-" else number(word) for word in words)], relative
 
 
 def placed(fields, relative, point):

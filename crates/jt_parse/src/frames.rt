@@ -1,6 +1,6 @@
 //! Statements that are open.
 
-ghost use Rattle.std.specs.Prelude.{◌≡◌, ◌∷◌, [], map, bytes_eq, IfOk, IfErr, MatchOption};
+ghost use Rattle.std.specs.Prelude.{◌≡◌, ◌∷◌, [], List, map, bytes_eq, IfOk, IfErr, MatchOption};
 ghost use Rattle.std.specs.Str.{chars};
 ghost use Rattle.jt_scan.specs.View.{token_view};
 ghost use Rattle.jt_expr.specs.View.{expr_view};
@@ -19,6 +19,7 @@ use crate::tree::Stmt;
 use jt_expr::Expr;
 use jt_scan::Token;
 use std::alloc::Global;
+use std::mem;
 
 /// What is open.
 #[derive(Drop)]
@@ -159,21 +160,34 @@ fn finished(alloc: Global, line: u32, kind: Kind, body: Vec<Stmt>) -> Result<Stm
     }
 }
 
-/// The statements before a frame, with the one that ends behind them.
-pub fn closed(alloc: Global, frame: Frame, body: Vec<Stmt>) -> Result<Vec<Stmt>, ParseError>
-    ensures closed { IfOk result (λ v. body_view v.items
+/// Ends a frame, whose statements are given: they become those before it, with the one that ends
+/// behind them.
+pub fn close_frame(alloc: Global, frame: Frame, body: &mut Vec<Stmt>) -> Result<(), ParseError>
+    ensures closed { IfOk result (λ u. body_view body.new.items
         ≡ reading.then_one (reading.before (frame_view frame))
-        (reading.finished (body_view body.items) (frame_view frame))) }
+        (reading.finished (body_view body.old.items) (frame_view frame))) }
     ensures refused { IfErr result (λ e. e ≡ error.NoMemory) }
 {
-    let Frame {
-        mut before,
-        line,
-        kind,
-    } = frame;
-    let statement = finished(alloc, line, kind, body)?;
-    push_statement(&mut before, statement)?;
-    Ok(before)
+    let Frame { before, line, kind } = frame;
+    let inside = mem::replace(body, before);
+    let statement = finished(alloc, line, kind, inside)?;
+    push_statement(body, statement)
+}
+
+/// The line of the innermost frame, if one is open.
+pub fn unclosed(frames: Vec<Frame>) -> Option<u32>
+    ensures { MatchOption result (frames_view frames.items ≡ [])
+        (λ l. (f : reading.Frame) × (fs : List reading.Frame) × (frames_view frames.items ≡ f ∷ fs)) }
+{
+    let mut frames = frames;
+    match pop_frame(&mut frames) {
+        Some(frame) => {
+            let line = frame.line;
+            drop(frame);
+            Some(line)
+        }
+        None => None,
+    }
 }
 
 /// Whether the tokens behind the word end a statement: there are none, or a block's name.

@@ -17,15 +17,15 @@ ghost use Rattle.jt_parse.specs.Reading as reading;
 ghost use Rattle.jt_parse.specs.View.{body_of, reads_of};
 ghost use Rattle.jt_parse.specs.HeadView.{head_view};
 ghost use Rattle.jt_parse.specs.SideView.{side_view, ahead_view};
-ghost use Rattle.jt_parse.specs.Gives.{GivesState, GivesTemplate, GivesKnown, frame_by, frames_view, state_view};
+ghost use Rattle.jt_parse.specs.Gives.{GivesState, GivesTemplate, GivesKnown, frame_by, frame_view, frames_view, state_view};
 ghost use Rattle.jt_parse.specs.Refusals.{IsRefusal, max_levels};
 ghost use Rattle.jt_parse.specs.declared.error.ParseError.TheVariants as error;
 
 use crate::error::ParseError;
 use crate::expression::{copy_of, expression, head, is_word};
 use crate::frames::{
-    Frame, Kind, closed, ends_frame, is_end_word, pop_frame, push_branch, push_frame,
-    push_statement,
+    Frame, Kind, close_frame, ends_frame, is_end_word, pop_frame, push_branch, push_frame,
+    push_statement, unclosed,
 };
 use crate::heads::Head;
 use crate::kept::{Side, kept, side_ahead, side_behind};
@@ -200,6 +200,27 @@ impl Parser {
         self.else_by(line)
     }
 
+    /// A tag that may end the statement that was open innermost.
+    #[tactic(auto, unfolding(crate::specs::Reading::end_tag))]
+    fn close(
+        &mut self,
+        frame: Frame,
+        line: u32,
+        word: &str,
+        tokens: &[Token<'_>],
+    ) -> Result<(), ParseError>
+        ensures { GivesState (λ o. o
+            ≡ reading.end_tag (chars word.now) (map token_view tokens.now)
+            (state_view self.old).body (frame_view frame ∷ (state_view self.old).frames)) result
+            self.new }
+    {
+        if !ends_frame(&frame, word, tokens) {
+            drop(frame);
+            return Err(ParseError::Syntax { line });
+        }
+        close_frame(self.alloc, frame, &mut self.body)
+    }
+
     /// A tag that ends a statement.
     #[tactic(auto, unfolding(crate::specs::Reading::end_tag))]
     fn end_tag(&mut self, line: u32, word: &str, tokens: &[Token<'_>]) -> Result<(), ParseError>
@@ -207,15 +228,10 @@ impl Parser {
             ≡ reading.end_tag (chars word.now) (map token_view tokens.now)
             (state_view self.old).body (state_view self.old).frames) result self.new }
     {
-        let Some(frame) = pop_frame(&mut self.frames) else {
-            return Err(ParseError::Syntax { line });
-        };
-        if !ends_frame(&frame, word, tokens) {
-            return Err(ParseError::Syntax { line });
+        match pop_frame(&mut self.frames) {
+            Some(frame) => self.close(frame, line, word, tokens),
+            None => Err(ParseError::Syntax { line }),
         }
-        let body = mem::replace(&mut self.body, Vec::new(self.alloc));
-        self.body = closed(self.alloc, frame, body)?;
-        Ok(())
     }
 
     /// A block tag, by its first word.
@@ -300,8 +316,8 @@ fn read(alloc: Global, segments: &[Segment<'_>]) -> Result<Template, ParseError>
         left = side_behind(&segment.part);
         rest = behind;
     }
-    match pop_frame(&mut parser.frames) {
-        Some(frame) => Err(ParseError::Syntax { line: frame.line }),
+    match unclosed(parser.frames) {
+        Some(line) => Err(ParseError::Syntax { line }),
         None => Ok(Template { body: parser.body }),
     }
 }

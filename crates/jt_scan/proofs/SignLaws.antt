@@ -1,6 +1,7 @@
 -- A sign in front is found, the longest one, and nothing else is.
-use Rattle.std.proofs.Common.{◌≡◌, ℕ, ◌<◌, ◌&&◌, ◌==◌, Bool, true, false, [], ◌∷◌, ◌++◌, length, Option, Some, None, refl, sym, ap, ap₂, subst, ◌∙◌, arith, cond}
+use Rattle.std.proofs.Common.{◌≡◌, ℕ, ◌<◌, nat_lt, ◌&&◌, ◌||◌, ◌==◌, Bool, true, false, [], ◌∷◌, ◌++◌, length, Option, Some, None, refl, sym, ap, ap₂, subst, ◌∙◌, arith, cond}
 use Rattle.std.proofs.lemmas.Bool.Decides.{nat_tests}
+use Rattle.std.specs.Char.{is_ascii_alphabetic}
 use Rattle.jt_scan.specs.declared.segment.Sign.{Sign}
 use Rattle.jt_scan.specs.declared.segment.Sign.TheVariants as s
 use Rattle.jt_scan.specs.Cut.{Text, sign_text, goes_on, SignEnds, NoSign, starts_name, is_space}
@@ -55,57 +56,55 @@ sign_found s.LessEqual rest h = refl
 sign_found s.GreaterEqual rest h = refl
 
 -- some sign is found where a sign's spelling stands
-chosen : (t u : Sign) (b : Bool) (d : ℕ) (rest : Text) → longest (cond b (Some u) None) (Some t) rest (d ∷ rest) ≡ None → ⊥
-chosen t u true d rest h = cc
-chosen t u false d rest h = cc
+alone_there : (t : Sign) (o : Option Sign) (x : Text) → o ≡ Some t → alone o x ≡ None → ⊥
+alone_there t None x w h = cc
+alone_there t (Some s) x w h = cc
+
+longest_there : (t : Sign) (o p : Option Sign) (more x : Text) → p ≡ Some t → longest o p more x ≡ None → ⊥
+longest_there t (Some s) p more x w h = cc
+longest_there t None p more x w h = alone_there t p x w h
+
+one_there : (c : ℕ) (t : Sign) (rest : Text) → one_sign c ≡ Some t → sign_at (c ∷ rest) ≡ None → ⊥
+unfolding sign_at
+one_there c t [] w h = alone_there t (one_sign c) [] w h
+one_there c t (d ∷ more) w h = longest_there t (two_sign c d) (one_sign c) more (d ∷ more) w h
+
+two_there : (c d : ℕ) (t : Sign) (o : Option Sign) (more : Text) → two_sign c d ≡ o → o ≡ Some t → longest o (one_sign c) more (d ∷ more) ≡ None → ⊥
+two_there c d t None more e w h = cc
+two_there c d t (Some s) more e w h = cc
 
 sign_there : (t : Sign) (rest : Text) → sign_at (sign_text t ++ rest) ≡ None → ⊥
 unfolding sign_at
-sign_there s.Plus [] h = cc
-sign_there s.Plus (d ∷ rest) h = cc
-sign_there s.Minus [] h = cc
-sign_there s.Minus (d ∷ rest) h = cc
-sign_there s.Times [] h = cc
-sign_there s.Times (d ∷ rest) h = chosen s.Times s.Power (d == 42) d rest h
-sign_there s.Percent [] h = cc
-sign_there s.Percent (d ∷ rest) h = cc
-sign_there s.Tilde [] h = cc
-sign_there s.Tilde (d ∷ rest) h = cc
-sign_there s.Less [] h = cc
-sign_there s.Less (d ∷ rest) h = chosen s.Less s.LessEqual (d == 61) d rest h
-sign_there s.Greater [] h = cc
-sign_there s.Greater (d ∷ rest) h = chosen s.Greater s.GreaterEqual (d == 61) d rest h
-sign_there s.Assign [] h = cc
-sign_there s.Assign (d ∷ rest) h = chosen s.Assign s.Equal (d == 61) d rest h
-sign_there s.Dot [] h = cc
-sign_there s.Dot (d ∷ rest) h = cc
-sign_there s.Comma [] h = cc
-sign_there s.Comma (d ∷ rest) h = cc
-sign_there s.Colon [] h = cc
-sign_there s.Colon (d ∷ rest) h = cc
-sign_there s.Pipe [] h = cc
-sign_there s.Pipe (d ∷ rest) h = cc
-sign_there s.LeftParen [] h = cc
-sign_there s.LeftParen (d ∷ rest) h = cc
-sign_there s.RightParen [] h = cc
-sign_there s.RightParen (d ∷ rest) h = cc
-sign_there s.LeftBracket [] h = cc
-sign_there s.LeftBracket (d ∷ rest) h = cc
-sign_there s.RightBracket [] h = cc
-sign_there s.RightBracket (d ∷ rest) h = cc
-sign_there s.LeftBrace [] h = cc
-sign_there s.LeftBrace (d ∷ rest) h = cc
-sign_there s.RightBrace [] h = cc
-sign_there s.RightBrace (d ∷ rest) h = cc
-sign_there s.Power rest h = cc
-sign_there s.FloorDivide rest h = cc
-sign_there s.Equal rest h = cc
-sign_there s.NotEqual rest h = cc
-sign_there s.LessEqual rest h = cc
-sign_there s.GreaterEqual rest h = cc
+sign_there s.Plus rest h = one_there 43 s.Plus rest refl h
+sign_there s.Minus rest h = one_there 45 s.Minus rest refl h
+sign_there s.Times rest h = one_there 42 s.Times rest refl h
+sign_there s.Percent rest h = one_there 37 s.Percent rest refl h
+sign_there s.Tilde rest h = one_there 126 s.Tilde rest refl h
+sign_there s.Less rest h = one_there 60 s.Less rest refl h
+sign_there s.Greater rest h = one_there 62 s.Greater rest refl h
+sign_there s.Assign rest h = one_there 61 s.Assign rest refl h
+sign_there s.Dot rest h = one_there 46 s.Dot rest refl h
+sign_there s.Comma rest h = one_there 44 s.Comma rest refl h
+sign_there s.Colon rest h = one_there 58 s.Colon rest refl h
+sign_there s.Pipe rest h = one_there 124 s.Pipe rest refl h
+sign_there s.LeftParen rest h = one_there 40 s.LeftParen rest refl h
+sign_there s.RightParen rest h = one_there 41 s.RightParen rest refl h
+sign_there s.LeftBracket rest h = one_there 91 s.LeftBracket rest refl h
+sign_there s.RightBracket rest h = one_there 93 s.RightBracket rest refl h
+sign_there s.LeftBrace rest h = one_there 123 s.LeftBrace rest refl h
+sign_there s.RightBrace rest h = one_there 125 s.RightBrace rest refl h
+sign_there s.Power rest h = one_there 42 s.Times (42 ∷ rest) refl h
+sign_there s.Equal rest h = one_there 61 s.Assign (61 ∷ rest) refl h
+sign_there s.LessEqual rest h = one_there 60 s.Less (61 ∷ rest) refl h
+sign_there s.GreaterEqual rest h = one_there 62 s.Greater (61 ∷ rest) refl h
+sign_there s.FloorDivide rest h = two_there 47 47 s.FloorDivide (two_sign 47 47) rest refl refl h
+sign_there s.NotEqual rest h = two_there 33 61 s.NotEqual (two_sign 33 61) rest refl refl h
 
 pub no_sign : (x : Text) → sign_at x ≡ None → NoSign x
 no_sign x h = λ t rest e. sign_there t rest (ap sign_at (sym e) ∙ h)
+
+nothing : {G : Type 0} (u : Sign) → ◌≡◌ {A = Option Sign} None (Some u) → G
+nothing u e = cc
 
 hit : (c n : ℕ) (t u : Sign) → (c == n) ≡ true → sign_text t ≡ n ∷ [] → ◌≡◌ {A = Option Sign} (Some t) (Some u) → sign_text u ≡ c ∷ []
 hit c n t u h w e = let same : t ≡ u = cc in let is : c ≡ n = grind (arith, nat_tests) in sym (ap sign_text same) ∙ w ∙ ap (λ k. k ∷ []) (sym is)
@@ -130,7 +129,7 @@ one_says c u e =
     by_test (c == 93) _ _ _ q (λ h q. hit c 93 s.RightBracket u h refl q) (λ h q.
     by_test (c == 123) _ _ _ q (λ h q. hit c 123 s.LeftBrace u h refl q) (λ h q.
     by_test (c == 125) _ _ _ q (λ h q. hit c 125 s.RightBrace u h refl q) (λ h q.
-    cc))))))))))))))))))
+    nothing u q))))))))))))))))))
 
 hit_two : (c d m n : ℕ) (t u : Sign) → (c == m && d == n) ≡ true → sign_text t ≡ m ∷ n ∷ [] → ((x : Text) → SignEnds t x) → ◌≡◌ {A = Option Sign} (Some t) (Some u) → (sign_text u ≡ c ∷ d ∷ []) × ((x : Text) → SignEnds u x)
 hit_two c d m n t u h w a e =
@@ -170,7 +169,7 @@ two_says c d u e =
     by_test (c == 33 && d == 61) _ _ _ q (λ h q. hit_two c d 33 61 s.NotEqual u h refl ends_NotEqual q) (λ h q.
     by_test (c == 60 && d == 61) _ _ _ q (λ h q. hit_two c d 60 61 s.LessEqual u h refl ends_LessEqual q) (λ h q.
     by_test (c == 62 && d == 61) _ _ _ q (λ h q. hit_two c d 62 61 s.GreaterEqual u h refl ends_GreaterEqual q) (λ h q.
-    cc))))))
+    nothing u q))))))
 
 -- where no sign of two characters stands, one of one character is the longest
 stuck : (b : Bool) (t : Sign) (o : Option Sign) → cond b (Some t) o ≡ None → b ≡ false
@@ -235,30 +234,33 @@ sign_says [] u rest e = cc
 sign_says (c ∷ []) u rest e = let a = alone_says c [] u rest (one_sign c) refl e in short c [] u rest tt a.0 a.1
 sign_says (c ∷ d ∷ more) u rest e = long c d more u rest (two_sign c d) refl e
 
+no_name : (c : ℕ) → nat_lt c 128 ≡ true → (is_ascii_alphabetic c || (c == 95)) ≡ false → starts_name c ≡ false
+no_name c h = no_start c (grind (arith, nat_tests))
+
 -- a sign begins with no whitespace, and no other token begins with it
 pub sign_head : (t : Sign) → (c : ℕ) × (cs : Text) × (sign_text t ≡ c ∷ cs) × (starts_name c ≡ false) × (is_space c ≡ false) × (is_digit 10 c ≡ false) × (is_quote c ≡ false)
 unfolding digit_value
-sign_head s.Plus = (43, [], refl, no_start 43 (omega arith) refl, refl, refl, refl)
-sign_head s.Minus = (45, [], refl, no_start 45 (omega arith) refl, refl, refl, refl)
-sign_head s.Times = (42, [], refl, no_start 42 (omega arith) refl, refl, refl, refl)
-sign_head s.Percent = (37, [], refl, no_start 37 (omega arith) refl, refl, refl, refl)
-sign_head s.Tilde = (126, [], refl, no_start 126 (omega arith) refl, refl, refl, refl)
-sign_head s.Less = (60, [], refl, no_start 60 (omega arith) refl, refl, refl, refl)
-sign_head s.Greater = (62, [], refl, no_start 62 (omega arith) refl, refl, refl, refl)
-sign_head s.Assign = (61, [], refl, no_start 61 (omega arith) refl, refl, refl, refl)
-sign_head s.Dot = (46, [], refl, no_start 46 (omega arith) refl, refl, refl, refl)
-sign_head s.Comma = (44, [], refl, no_start 44 (omega arith) refl, refl, refl, refl)
-sign_head s.Colon = (58, [], refl, no_start 58 (omega arith) refl, refl, refl, refl)
-sign_head s.Pipe = (124, [], refl, no_start 124 (omega arith) refl, refl, refl, refl)
-sign_head s.LeftParen = (40, [], refl, no_start 40 (omega arith) refl, refl, refl, refl)
-sign_head s.RightParen = (41, [], refl, no_start 41 (omega arith) refl, refl, refl, refl)
-sign_head s.LeftBracket = (91, [], refl, no_start 91 (omega arith) refl, refl, refl, refl)
-sign_head s.RightBracket = (93, [], refl, no_start 93 (omega arith) refl, refl, refl, refl)
-sign_head s.LeftBrace = (123, [], refl, no_start 123 (omega arith) refl, refl, refl, refl)
-sign_head s.RightBrace = (125, [], refl, no_start 125 (omega arith) refl, refl, refl, refl)
-sign_head s.Power = (42, 42 ∷ [], refl, no_start 42 (omega arith) refl, refl, refl, refl)
-sign_head s.FloorDivide = (47, 47 ∷ [], refl, no_start 47 (omega arith) refl, refl, refl, refl)
-sign_head s.Equal = (61, 61 ∷ [], refl, no_start 61 (omega arith) refl, refl, refl, refl)
-sign_head s.NotEqual = (33, 61 ∷ [], refl, no_start 33 (omega arith) refl, refl, refl, refl)
-sign_head s.LessEqual = (60, 61 ∷ [], refl, no_start 60 (omega arith) refl, refl, refl, refl)
-sign_head s.GreaterEqual = (62, 61 ∷ [], refl, no_start 62 (omega arith) refl, refl, refl, refl)
+sign_head s.Plus = (43, [], refl, no_name 43 refl refl, refl, refl, refl)
+sign_head s.Minus = (45, [], refl, no_name 45 refl refl, refl, refl, refl)
+sign_head s.Times = (42, [], refl, no_name 42 refl refl, refl, refl, refl)
+sign_head s.Percent = (37, [], refl, no_name 37 refl refl, refl, refl, refl)
+sign_head s.Tilde = (126, [], refl, no_name 126 refl refl, refl, refl, refl)
+sign_head s.Less = (60, [], refl, no_name 60 refl refl, refl, refl, refl)
+sign_head s.Greater = (62, [], refl, no_name 62 refl refl, refl, refl, refl)
+sign_head s.Assign = (61, [], refl, no_name 61 refl refl, refl, refl, refl)
+sign_head s.Dot = (46, [], refl, no_name 46 refl refl, refl, refl, refl)
+sign_head s.Comma = (44, [], refl, no_name 44 refl refl, refl, refl, refl)
+sign_head s.Colon = (58, [], refl, no_name 58 refl refl, refl, refl, refl)
+sign_head s.Pipe = (124, [], refl, no_name 124 refl refl, refl, refl, refl)
+sign_head s.LeftParen = (40, [], refl, no_name 40 refl refl, refl, refl, refl)
+sign_head s.RightParen = (41, [], refl, no_name 41 refl refl, refl, refl, refl)
+sign_head s.LeftBracket = (91, [], refl, no_name 91 refl refl, refl, refl, refl)
+sign_head s.RightBracket = (93, [], refl, no_name 93 refl refl, refl, refl, refl)
+sign_head s.LeftBrace = (123, [], refl, no_name 123 refl refl, refl, refl, refl)
+sign_head s.RightBrace = (125, [], refl, no_name 125 refl refl, refl, refl, refl)
+sign_head s.Power = (42, 42 ∷ [], refl, no_name 42 refl refl, refl, refl, refl)
+sign_head s.FloorDivide = (47, 47 ∷ [], refl, no_name 47 refl refl, refl, refl, refl)
+sign_head s.Equal = (61, 61 ∷ [], refl, no_name 61 refl refl, refl, refl, refl)
+sign_head s.NotEqual = (33, 61 ∷ [], refl, no_name 33 refl refl, refl, refl, refl)
+sign_head s.LessEqual = (60, 61 ∷ [], refl, no_name 60 refl refl, refl, refl, refl)
+sign_head s.GreaterEqual = (62, 61 ∷ [], refl, no_name 62 refl refl, refl, refl, refl)

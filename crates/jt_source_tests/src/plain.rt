@@ -215,7 +215,8 @@ impl Plain<'_> {
 
     /// Puts the value at a place on top, where it fits.
     pub(crate) fn push_at(&mut self, place: usize) -> Result<(), End> {
-        fit(self.value(place)?, &self.left)?;
+        let left = self.left;
+        fit(self.value(place)?, &left)?;
         self.push_entry(Entry::Value(place))
     }
 

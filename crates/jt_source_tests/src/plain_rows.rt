@@ -4,7 +4,7 @@
 use crate::ended::End;
 use crate::plain::plain_end;
 use crate::rows::unfolded;
-use crate::shelf::{image_of, templates_of, verified_of};
+use crate::shelf::{context_of, image_of, verified_of};
 use crate::sources::{CHAINS, FILTERS, MACROS, OVER_ITEMS, STATEMENTS, WHITESPACE, WORKED};
 use jt_budget::Budget;
 use jt_host::context_from_json;
@@ -207,8 +207,7 @@ fn agree_on_rows(
     for row in rows.lines() {
         let text = unfolded(rt.alloc(), row.trim())?;
         let image = image_of(rt.alloc(), &text, options)?;
-        let (_, context) = templates_of(rt.alloc(), &text)?;
-        agree_on(rt, row, image, context)?;
+        agree_on(rt, row, image, context_of(&text))?;
     }
     Ok(())
 }

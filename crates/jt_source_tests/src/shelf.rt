@@ -29,23 +29,33 @@ impl Library for Shelf<'_> {
     }
 }
 
-/// The templates of a row, the entry's under the name `t`, and its context.
-pub(crate) fn templates_of(alloc: Global, row: &str) -> Result<(Shelf<'_>, &str), AllocError> {
-    let (front, entry) = row.rsplit_once('¦').unwrap_or(("{}", row));
+/// The templates of a row, the entry's under the name `t`.
+fn templates_of(alloc: Global, row: &str) -> Result<Shelf<'_>, AllocError> {
+    let (front, entry) = row.rsplit_once('¦').unwrap_or(("", row));
     let mut templates = vec![in alloc; ("t", entry)]?;
-    let mut context = "{}";
     for part in front.split('¦') {
         match part.split_once(": ") {
             Some(template) if !part.starts_with('{') => templates.push(template)?,
-            _ => context = part,
+            _ => {}
         }
     }
-    Ok((Shelf { templates }, context))
+    Ok(Shelf { templates })
+}
+
+/// The context of a row.
+pub(crate) fn context_of(row: &str) -> &str {
+    let (front, _) = row.rsplit_once('¦').unwrap_or(("", row));
+    for part in front.split('¦') {
+        if part.starts_with('{') {
+            return part;
+        }
+    }
+    "{}"
 }
 
 /// The image of a row.
 pub(crate) fn image_of(alloc: Global, row: &str, options: Options) -> Result<Image, Fail> {
-    let (shelf, _) = templates_of(alloc, row)?;
+    let shelf = templates_of(alloc, row)?;
     match compile(alloc, "t", &shelf, options) {
         Ok(image) => Ok(image),
         Err(_) => Err(Fail::from("compile")),

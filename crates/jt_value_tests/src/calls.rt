@@ -19,7 +19,12 @@ fn values_print(rt: HostRuntime) -> Result<(), Fail> {
         assert_eq!(rt; value.printed(alloc)?.as_str(), *wanted);
     }
     let list = Value::list(alloc, Vec::new(alloc))?;
-    assert!(rt; matches!(list.printed(alloc), Err(ValueError::Fault(Fault::Unprintable))));
+    assert!(rt;
+        matches!(
+            list.printed(alloc),
+            Err(ValueError::Fault(Fault::Unprintable))
+        )
+    );
     Ok(())
 }
 
@@ -39,7 +44,12 @@ fn a_name_keeps_its_last_value(rt: HostRuntime) {
     let second = is_added(alloc, &mut context, "b", 2);
     let third = is_added(alloc, &mut context, "a", 3);
     assert!(rt; first && second && third && context.get("c").is_none());
-    assert!(rt; matches!((context.get("a"), context.get("b")), (Some(Value::Int(3)), Some(Value::Int(2)))));
+    assert!(rt;
+        matches!(
+            (context.get("a"), context.get("b")),
+            (Some(Value::Int(3)), Some(Value::Int(2)))
+        )
+    );
 }
 
 #[test]
@@ -59,7 +69,11 @@ fn operands_are_kept(rt: HostRuntime) -> Result<(), Fail> {
 #[test]
 fn errors_print(rt: HostRuntime) -> Result<(), Fail> {
     let alloc = rt.alloc();
-    let told = format!(in alloc; "{NoMemory}, {}, {}", ValueError::NoMemory, ValueError::Fault(Fault::Range))?;
+    let told = format!(in alloc;
+        "{NoMemory}, {}, {}",
+        ValueError::NoMemory,
+        ValueError::Fault(Fault::Range)
+    )?;
     assert_eq!(rt; told.as_str(), "no memory, no memory, F8 Range");
     Ok(())
 }
