@@ -12,7 +12,7 @@ import argparse, heapq, json, os, resource, shutil, subprocess, sys, tempfile
 from kit import rt
 
 FLAGS = ["--jobs", "1"]
-TURNS = 3
+TURNS = 6
 
 
 def seconds(call):
