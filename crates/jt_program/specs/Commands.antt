@@ -1,5 +1,5 @@
 -- What each command comes to: what it reads from the files, how it ends and what it leaves.
-use Rattle.std.specs.Prelude.{◌≡◌, ◌≢◌, ◌↔◌, ◌⊎◌, ◌<◌, ℕ, Bool, true, false, List, [], ◌∷◌, ◌++◌, length, Contains, Option, Some, None, Result, Ok, Err, String, codes, string_bytes}
+use Rattle.std.specs.Prelude.{◌≡◌, ◌≢◌, ◌↔◌, ◌⊎◌, ◌<◌, ◌≤◌, ℕ, Bool, true, false, List, [], ◌∷◌, ◌++◌, length, Contains, Option, Some, None, Result, Ok, Err, String, codes, string_bytes}
 use Rattle.std.specs.Fmt.{decimal}
 use Rattle.std.specs.declared.alloc.Global.{Global}
 use Rattle.std.specs.Io.KnownBytes.{Appends, Keeps}
@@ -130,10 +130,10 @@ module _ (files : Known) where
       ⊎ ((bytes : List ℕ) × files.holds (string_bytes p.image) bytes × IsNoImage bytes e)
 
   -- The images of pairs run for their contexts in turns, each as if alone: the line of each, whatever the turns are; or why there is none.
-  -- The host is full only where there are more than 64.
+  -- There are lines of at most 64, and the host is full only where there are more.
   abbrev pub TakesTurns : List Pair → Budget → Ending → Type 0
-  TakesTurns ps b (Ok text) =
-      (ss : List Start) × AreStarts ps ss × ((os : List Outcome) × AreOutcomes (budget_view b) ss os × (string_bytes text ≡ session_lines 1 os))
+  TakesTurns ps b (Ok text) = (length ps ≤ max_sessions)
+      × ((ss : List Start) × AreStarts ps ss × ((os : List Outcome) × AreOutcomes (budget_view b) ss os × (string_bytes text ≡ session_lines 1 os)))
   TakesTurns ps b (Err failure.NoMemory) = Unit {0}
   TakesTurns ps b (Err (failure.Host e)) = (e ≡ host_error.Full) × (max_sessions < length ps)
   TakesTurns ps b (Err e) = (p : Pair) × Contains ps p × IsNoStart p e
@@ -177,6 +177,25 @@ module _ (files after : Known) where
   LineEnds found (Err (failure.Usage text)) = Unit {0}
   LineEnds found (Err failure.NoMemory) = Unit {0}
   LineEnds found e = Answers found e
+
+module _ (files : Known) where
+  -- the template of a name, from the files of a directory, compiles to an image
+  pub record HasImage (dir name : Text) (options : ScanOptions) : Type 0 where
+    pub sources : Given
+    pub library : IsLibrary files dir sources
+    pub bytes : List ℕ
+    pub image : IsImage sources name options bytes
+
+  -- the command has an image to write
+  abbrev pub WritesImage : Command → LineOptions → Type 0
+  WritesImage (command.Compile dir name out) o = HasImage (string_bytes dir) (string_bytes name) (scan_options o)
+  WritesImage c o = ⊥
+
+  -- the line asks for such a command
+  pub record LineWrites (found : Option (Word × List Row)) : Type 0 where
+    pub job : Job
+    pub asked : IsAsked found job
+    pub writes : WritesImage job.command job.options
 
 -- OUT of a line of `compile`: no other line has one
 abbrev pub out_of : Option (Word × List Row) → Text

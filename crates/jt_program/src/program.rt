@@ -6,7 +6,7 @@ ghost use Rattle.clap.specs.Walk.{texts};
 ghost use Rattle.clap.specs.Words.{subcommand_of};
 ghost use Rattle.jt_value.specs.ContextView.{pairs_of};
 ghost use Rattle.jt_line.specs.Line.{Takes, Asks, program_app};
-ghost use Rattle.jt_program.specs.Commands.{Answers, ChangesOnly, Checks, Compiles, Ending, IsCompile, IsContextAt, IsOfContext, IsPath, IsUnread, JobEnds, LineEnds, Renders, Runs, Tells, out_of};
+ghost use Rattle.jt_program.specs.Commands.{Answers, ChangesOnly, Checks, Compiles, Ending, HasImage, IsCompile, IsContextAt, IsOfContext, IsPath, IsUnread, JobEnds, LineEnds, LineWrites, Renders, Runs, Tells, WritesImage, out_of};
 ghost use Rattle.jt_program.specs.Ending.{IfUntaken, code_of, status_of};
 ghost use Rattle.jt_program.specs.Files.{AreSources, IsLibrary, IsOfDirectory, path_in};
 ghost use Rattle.jt_program.specs.Templates.{source_of};
@@ -57,7 +57,9 @@ pub fn perform<F: Files, W: Sink, E: Write>(
     // whatever the status is, there is no change to the files but at OUT of a line of `compile`
     ensures only { ChangesOnly (F.known files.old) (F.known files.new)
         (out_of (subcommand_of program_app (texts words.now))) }
-    // they are as they were, but where a template was to be compiled and nothing refused it
+    // they are as they were, but where a template was to be compiled, nothing refused it, and there is an image of it
+    ensures touched { files.new ≡ files.old
+        ⊎ LineWrites (F.known files.old) (subcommand_of program_app (texts words.now)) }
     ensures untaken { ¬ Takes (texts words.now) → files.new ≡ files.old }
     ensures kept { ¬ Asks (codes "compile") (texts words.now) → files.new ≡ files.old }
     ensures unwritten { result ≢ 0 → result ≢ 5 → result ≢ 6 → files.new ≡ files.old }
@@ -100,6 +102,8 @@ fn done<F: Files>(alloc: Global, words: &[&str], files: &mut F) -> Result<String
     ensures kept { ¬ Asks (codes "compile") (texts words.now) → files.new ≡ files.old }
     ensures unwritten { IfErr result
         (λ e. status_of e ≢ Status.File → status_of e ≢ Status.Memory → files.new ≡ files.old) }
+    ensures touched { files.new ≡ files.old
+        ⊎ LineWrites (F.known files.old) (subcommand_of program_app (texts words.now)) }
     ensures ends { LineEnds (F.known files.old) (F.known files.new)
         (subcommand_of program_app (texts words.now)) result }
 {
@@ -113,6 +117,8 @@ fn carried_out<F: Files>(alloc: Global, job: Job, files: &mut F) -> Result<Strin
     ensures kept { ¬ IsCompile job.command → files.new ≡ files.old }
     ensures unwritten { IfErr result
         (λ e. status_of e ≢ Status.File → status_of e ≢ Status.Memory → files.new ≡ files.old) }
+    ensures touched { files.new ≡ files.old
+        ⊎ WritesImage (F.known files.old) job.command job.options }
     ensures other { IfErr result (λ e. (status_of e ≢ Status.Usage) × (e ≢ Failure.Output)) }
 {
     let Job {
@@ -149,6 +155,9 @@ fn compile_to<F: Files>(
         (string_bytes out) options result }
     ensures unwritten { IfErr result
         (λ e. status_of e ≢ Status.File → status_of e ≢ Status.Memory → files.new ≡ files.old) }
+    // where there is no image nothing is written
+    ensures touched { files.new ≡ files.old
+        ⊎ HasImage (F.known files.old) (string_bytes dir) name.now options }
 {
     let templates = templates_in(alloc, files, dir)?;
     let bytes = image_of(alloc, name, &templates, options)?;
