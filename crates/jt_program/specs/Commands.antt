@@ -9,9 +9,11 @@ use Rattle.jt_value.specs.Pairs.{Pairs}
 use Rattle.jt_inherit.specs.Chains.{Given}
 use Rattle.jt_parse.specs.Trees.{Text}
 use Rattle.jt_value.specs.ContextView.{pairs_of}
+use Rattle.jt_value.specs.FaultText.{fault_text}
+use Rattle.jt_value.specs.declared.Fault.{Fault}
 use Rattle.jt_budget.specs.declared.Budget.{Budget}
-use Rattle.jt_image.specs.Config.{Outcome}
-use Rattle.jt_machine.specs.View.{budget_view}
+use Rattle.jt_image.specs.Config.{Limit, Outcome}
+use Rattle.jt_machine.specs.View.{budget_view, limit_view}
 use Rattle.jt_host.specs.Json.{IsContext}
 use Rattle.jt_host.specs.Turns.{max_sessions}
 use Rattle.jt_host.specs.declared.HostError.TheVariants as host_error
@@ -22,7 +24,7 @@ use Rattle.jt_line.specs.declared.Command.TheVariants as command
 use Rattle.jt_line.specs.declared.Job.{Job}
 use Rattle.jt_line.specs.declared.Options.{Options as LineOptions}
 use Rattle.jt_line.specs.declared.Pair.{Pair}
-use Rattle.jt_turns.specs.Lines.{session_lines}
+use Rattle.jt_turns.specs.Lines.{limit_name, session_lines}
 use Rattle.jt_turns.specs.Outcomes.{AreOutcomes}
 use Rattle.jt_turns.specs.declared.Start.{Start}
 use Rattle.jt_program.specs.declared.messages.Failure.{Failure}
@@ -217,3 +219,29 @@ Tells old new sink_failed (Ok text) status =
     ((status ≡ 0) × (sink_failed ≡ false) × Appends old new (string_bytes text))
     ⊎ ((status ≡ 5) × (sink_failed ≡ true) × TookFront (string_bytes text) old new)
 Tells old new sink_failed (Err e) status = (status ≡ code_of (status_of e)) × Keeps old new
+
+-- the line that names a fault
+abbrev pub fault_line : Fault → Text
+fault_line f = codes "jt: fault " ++ (fault_text f ++ codes "\n")
+
+-- the line that names a number of the budget, which was spent
+abbrev pub spent_line : Limit → Text
+spent_line l = codes "jt: spent " ++ (limit_name l ++ codes "\n")
+
+-- the line that names a file
+abbrev pub file_line : Text → Text
+file_line path = codes "jt: file " ++ (path ++ codes "\n")
+
+-- What stands on standard error behind what stood there: the line of a fault, a spent number or a file, or a beginning of that
+-- line, where no more was taken. Of the other lines nothing is said.
+abbrev pub Says : Option (List ℕ) → Option (List ℕ) → Failure → Type 0
+Says old new (failure.Fault f) = TookFront (fault_line f) old new
+Says old new (failure.Spent s) = TookFront (spent_line (limit_view s)) old new
+Says old new (failure.File path) = TookFront (file_line (string_bytes path)) old new
+Says old new failure.Output = TookFront (file_line (codes "-")) old new
+Says old new e = Unit {0}
+
+-- what it says of a command that failed, and of one that is done whose text could not be written
+abbrev pub Explains : Option (List ℕ) → Option (List ℕ) → Ending → ℕ → Type 0
+Explains old new (Ok text) status = status ≢ 0 → Says old new failure.Output
+Explains old new (Err e) status = Says old new e

@@ -6,14 +6,15 @@ ghost use Rattle.clap.specs.Walk.{texts};
 ghost use Rattle.clap.specs.Words.{subcommand_of};
 ghost use Rattle.jt_value.specs.ContextView.{pairs_of};
 ghost use Rattle.jt_line.specs.Line.{Takes, Asks, program_app};
-ghost use Rattle.jt_program.specs.Commands.{Answers, ChangesOnly, Checks, Compiles, Ending, HasImage, IsCompile, IsContextAt, IsOfContext, IsPath, IsUnread, JobEnds, LineEnds, LineWrites, Renders, Runs, Tells, WritesImage, out_of};
-ghost use Rattle.jt_program.specs.Ending.{IfUntaken, code_of, status_of};
+ghost use Rattle.jt_program.specs.Commands.{Answers, ChangesOnly, Checks, Compiles, Ending, Explains, HasImage, IsCompile, IsContextAt, IsOfContext, IsPath, IsUnread, JobEnds, LineEnds, LineWrites, Renders, Runs, Tells, WritesImage, out_of};
+ghost use Rattle.jt_program.specs.Ending.{IfUntaken, status_of};
 ghost use Rattle.jt_program.specs.Files.{AreSources, IsLibrary, IsOfDirectory, path_in};
 ghost use Rattle.jt_program.specs.Templates.{source_of};
 
 use crate::commands::{context_of, counts_of, image_of, render_text, run_image, scan_options};
 use crate::files::{FileError, Files};
 use crate::messages::{Failure, Status, no_file};
+use crate::reports::report;
 use crate::templates::Templates;
 use crate::turns::run_turns;
 use jt_budget::Budget;
@@ -41,13 +42,14 @@ pub fn perform<F: Files, W: Sink, E: Write>(
     // it is 2 where the program does not take the line, unless memory ran out, and only there
     ensures usage { ¬ Takes (texts words.now) → (result ≡ 2) ⊎ (result ≡ 6) }
     ensures taken { Takes (texts words.now) → result ≢ 2 }
-    // it tells how the command of the line ended, over the files as they were
+    // it tells how the command of the line ended, over the files as they were; and a fault, a spent number and a file by their lines
     ensures ends { result ≢ 2
         → result ≢ 6
         → (e : Ending)
         × Answers (F.known files.old) (F.known files.new)
         (subcommand_of program_app (texts words.now)) e
-        × Tells (W.taken out.old) (W.taken out.new) (W.failed out.new) e result }
+        × Tells (W.taken out.old) (W.taken out.new) (W.failed out.new) e result
+        × Explains (E.contents errors.old) (E.contents errors.new) e result }
     // where it is 0 nothing was added to standard error
     ensures silent { result ≡ 0 → errors.new ≡ errors.old }
     // where it is neither 0 nor 5 standard output is as it was
@@ -70,20 +72,12 @@ pub fn perform<F: Files, W: Sink, E: Write>(
     }
 }
 
-/// Says on `errors` what went wrong, and answers the status.
-pub fn report<E: Write>(errors: &mut E, failure: &Failure) -> u8
-    ensures { result ≡ code_of (status_of failure.now) }
-{
-    // Where standard error takes nothing, the status alone says how the run ended.
-    let _ = write!(errors, "{failure}");
-    failure.status().code()
-}
-
 /// Prints the text of a command that is done, and answers the status.
 fn print<W: Sink, E: Write>(text: String, out: &mut W, errors: &mut E) -> u8
     ensures told { Tells (W.taken out.old) (W.taken out.new) (W.failed out.new) (Ok text) result }
     ensures failed_before { W.failed out.old ≡ true → out.new ≡ out.old }
     ensures silent { result ≡ 0 → errors.new ≡ errors.old }
+    ensures explained { Explains (E.contents errors.old) (E.contents errors.new) (Ok text) result }
 {
     match put_all(out, text.as_bytes()) {
         Ok(()) => Status::Done.code(),
