@@ -15,7 +15,7 @@ use Rattle.jt_line.specs.declared.JobError.TheVariants as job_error
 use Rattle.jt_budget.specs.declared.Budget.{Budget}
 use Rattle.jt_program.specs.declared.messages.Failure.{Failure}
 use Rattle.jt_program.specs.declared.messages.Failure.TheVariants as failure
-use Rattle.jt_program.specs.Commands.{Answers, ChangesOnly, CommandEnds, Compiles, Ending, IsCompile, IsOfContext, IsPath, IsUnread, JobEnds, LineEnds, out_of}
+use Rattle.jt_program.specs.Commands.{Answers, ChangesOnly, CommandEnds, Compiles, Ending, IsCompile, IsOfContext, IsPath, IsUnread, JobEnds, LineEnds, LineWrites, WritesImage, out_of}
 use Rattle.jt_program.specs.Ending.{code_of, of_line, status_of}
 use Rattle.jt_program.specs.Files.{IsLibrary, IsOfDirectory, Known, path_in}
 
@@ -96,6 +96,11 @@ module _ (files after : Known) where
       → ChangesOnly files after (out_of found)
   only_out None j e asked ends kept = absurd asked
   only_out (Some c) j e asked ends kept = only_of c.0 c.1 j.command j.options j.budget j.slice e asked ends kept
+
+-- a job that has an image to write is that of a line that has one
+pub line_writes : {A : Type 0} (files : Known) (found : Option (Word × List Row)) (j : Job) → IsAsked found j → A ⊎ WritesImage files j.command j.options → A ⊎ LineWrites files found
+line_writes files found j asked (inl same) = inl same
+line_writes files found j asked (inr writes) = inr (record { job = j; asked = asked; writes = writes })
 
 -- the same files differ nowhere
 pub same_files : (files : Known) (path : Text) → ChangesOnly files files path

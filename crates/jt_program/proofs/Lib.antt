@@ -1,4 +1,5 @@
 mod Endings
 mod Gathering
+mod Saying
 mod Starting
 pub mod Taking

@@ -1,5 +1,5 @@
 -- The images and contexts of pairs, and why there are none.
-use Rattle.std.proofs.Common.{◌≡◌, ◌⊎◌, ℕ, ◌+◌, List, [], ◌∷◌, ◌++◌, length, Contains, Ok, Err, inl, inr, ap, arith, refl, suc, sym}
+use Rattle.std.proofs.Common.{◌≡◌, ◌⊎◌, ℕ, ◌+◌, List, [], ◌∷◌, ◌++◌, length, Contains, Global, String, Ok, Err, inl, inr, ap, arith, refl, suc, sym}
 use Rattle.std.proofs.lemmas.List.Elements.{Contains-append_right}
 use Rattle.jt_budget.specs.declared.Budget.{Budget}
 use Rattle.jt_machine.specs.View.{budget_view}
@@ -41,6 +41,11 @@ module _ (files : Known) where
   no_start ps b (failure.Host e) (inr (p, there, inr h)) = absurd h.2
   no_start ps b e (inl h) = absurd (cc)
   no_start ps b e (inr h) = h
+
+  -- the lines of no more than the host has place for
+  pub all_lines : (ps : List Pair) (ss : List Start) (b : Budget) (text : String Global) → AreStarts files ps ss → OutcomesOf (budget_view b) ss (Ok text)
+      → TakesTurns files ps b (Ok text)
+  all_lines ps ss b text h (few, told) = let n = as_many ps ss h in (omega (arith, n, few), (ss, h, told))
 
   -- the host has no place for so many, or no memory
   pub no_lines : (ps : List Pair) (ss : List Start) (b : Budget) (e : HostError) → AreStarts files ps ss → OutcomesOf (budget_view b) ss (Err e)

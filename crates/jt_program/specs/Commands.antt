@@ -1,5 +1,5 @@
 -- What each command comes to: what it reads from the files, how it ends and what it leaves.
-use Rattle.std.specs.Prelude.{◌≡◌, ◌≢◌, ◌↔◌, ◌⊎◌, ◌<◌, ℕ, Bool, true, false, List, [], ◌∷◌, ◌++◌, length, Contains, Option, Some, None, Result, Ok, Err, String, codes, string_bytes}
+use Rattle.std.specs.Prelude.{◌≡◌, ◌≢◌, ◌↔◌, ◌⊎◌, ◌<◌, ◌≤◌, ℕ, Bool, true, false, List, [], ◌∷◌, ◌++◌, length, Contains, Option, Some, None, Result, Ok, Err, String, codes, string_bytes}
 use Rattle.std.specs.Fmt.{decimal}
 use Rattle.std.specs.declared.alloc.Global.{Global}
 use Rattle.std.specs.Io.KnownBytes.{Appends, Keeps}
@@ -9,9 +9,11 @@ use Rattle.jt_value.specs.Pairs.{Pairs}
 use Rattle.jt_inherit.specs.Chains.{Given}
 use Rattle.jt_parse.specs.Trees.{Text}
 use Rattle.jt_value.specs.ContextView.{pairs_of}
+use Rattle.jt_value.specs.FaultText.{fault_text}
+use Rattle.jt_value.specs.declared.Fault.{Fault}
 use Rattle.jt_budget.specs.declared.Budget.{Budget}
-use Rattle.jt_image.specs.Config.{Outcome}
-use Rattle.jt_machine.specs.View.{budget_view}
+use Rattle.jt_image.specs.Config.{Limit, Outcome}
+use Rattle.jt_machine.specs.View.{budget_view, limit_view}
 use Rattle.jt_host.specs.Json.{IsContext}
 use Rattle.jt_host.specs.Turns.{max_sessions}
 use Rattle.jt_host.specs.declared.HostError.TheVariants as host_error
@@ -22,7 +24,7 @@ use Rattle.jt_line.specs.declared.Command.TheVariants as command
 use Rattle.jt_line.specs.declared.Job.{Job}
 use Rattle.jt_line.specs.declared.Options.{Options as LineOptions}
 use Rattle.jt_line.specs.declared.Pair.{Pair}
-use Rattle.jt_turns.specs.Lines.{session_lines}
+use Rattle.jt_turns.specs.Lines.{limit_name, session_lines}
 use Rattle.jt_turns.specs.Outcomes.{AreOutcomes}
 use Rattle.jt_turns.specs.declared.Start.{Start}
 use Rattle.jt_program.specs.declared.messages.Failure.{Failure}
@@ -130,10 +132,10 @@ module _ (files : Known) where
       ⊎ ((bytes : List ℕ) × files.holds (string_bytes p.image) bytes × IsNoImage bytes e)
 
   -- The images of pairs run for their contexts in turns, each as if alone: the line of each, whatever the turns are; or why there is none.
-  -- The host is full only where there are more than 64.
+  -- There are lines of at most 64, and the host is full only where there are more.
   abbrev pub TakesTurns : List Pair → Budget → Ending → Type 0
-  TakesTurns ps b (Ok text) =
-      (ss : List Start) × AreStarts ps ss × ((os : List Outcome) × AreOutcomes (budget_view b) ss os × (string_bytes text ≡ session_lines 1 os))
+  TakesTurns ps b (Ok text) = (length ps ≤ max_sessions)
+      × ((ss : List Start) × AreStarts ps ss × ((os : List Outcome) × AreOutcomes (budget_view b) ss os × (string_bytes text ≡ session_lines 1 os)))
   TakesTurns ps b (Err failure.NoMemory) = Unit {0}
   TakesTurns ps b (Err (failure.Host e)) = (e ≡ host_error.Full) × (max_sessions < length ps)
   TakesTurns ps b (Err e) = (p : Pair) × Contains ps p × IsNoStart p e
@@ -178,6 +180,25 @@ module _ (files after : Known) where
   LineEnds found (Err failure.NoMemory) = Unit {0}
   LineEnds found e = Answers found e
 
+module _ (files : Known) where
+  -- the template of a name, from the files of a directory, compiles to an image
+  pub record HasImage (dir name : Text) (options : ScanOptions) : Type 0 where
+    pub sources : Given
+    pub library : IsLibrary files dir sources
+    pub bytes : List ℕ
+    pub image : IsImage sources name options bytes
+
+  -- the command has an image to write
+  abbrev pub WritesImage : Command → LineOptions → Type 0
+  WritesImage (command.Compile dir name out) o = HasImage (string_bytes dir) (string_bytes name) (scan_options o)
+  WritesImage c o = ⊥
+
+  -- the line asks for such a command
+  pub record LineWrites (found : Option (Word × List Row)) : Type 0 where
+    pub job : Job
+    pub asked : IsAsked found job
+    pub writes : WritesImage job.command job.options
+
 -- OUT of a line of `compile`: no other line has one
 abbrev pub out_of : Option (Word × List Row) → Text
 out_of None = []
@@ -198,3 +219,29 @@ Tells old new sink_failed (Ok text) status =
     ((status ≡ 0) × (sink_failed ≡ false) × Appends old new (string_bytes text))
     ⊎ ((status ≡ 5) × (sink_failed ≡ true) × TookFront (string_bytes text) old new)
 Tells old new sink_failed (Err e) status = (status ≡ code_of (status_of e)) × Keeps old new
+
+-- the line that names a fault
+abbrev pub fault_line : Fault → Text
+fault_line f = codes "jt: fault " ++ (fault_text f ++ codes "\n")
+
+-- the line that names a number of the budget, which was spent
+abbrev pub spent_line : Limit → Text
+spent_line l = codes "jt: spent " ++ (limit_name l ++ codes "\n")
+
+-- the line that names a file
+abbrev pub file_line : Text → Text
+file_line path = codes "jt: file " ++ (path ++ codes "\n")
+
+-- What stands on standard error behind what stood there: the line of a fault, a spent number or a file, or a beginning of that
+-- line, where no more was taken. Of the other lines nothing is said.
+abbrev pub Says : Option (List ℕ) → Option (List ℕ) → Failure → Type 0
+Says old new (failure.Fault f) = TookFront (fault_line f) old new
+Says old new (failure.Spent s) = TookFront (spent_line (limit_view s)) old new
+Says old new (failure.File path) = TookFront (file_line (string_bytes path)) old new
+Says old new failure.Output = TookFront (file_line (codes "-")) old new
+Says old new e = Unit {0}
+
+-- what it says of a command that failed, and of one that is done whose text could not be written
+abbrev pub Explains : Option (List ℕ) → Option (List ℕ) → Ending → ℕ → Type 0
+Explains old new (Ok text) status = status ≢ 0 → Says old new failure.Output
+Explains old new (Err e) status = Says old new e

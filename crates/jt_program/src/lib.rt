@@ -6,11 +6,13 @@ mod files;
 mod machine;
 mod messages;
 mod program;
+mod reports;
 mod templates;
 mod turns;
 
 pub use files::{FileError, Files};
 pub use machine::Machine;
 pub use messages::{Failure, Status};
-pub use program::{perform, report};
+pub use program::perform;
+pub use reports::report;
 pub use templates::Templates;

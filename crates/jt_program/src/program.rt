@@ -6,14 +6,15 @@ ghost use Rattle.clap.specs.Walk.{texts};
 ghost use Rattle.clap.specs.Words.{subcommand_of};
 ghost use Rattle.jt_value.specs.ContextView.{pairs_of};
 ghost use Rattle.jt_line.specs.Line.{Takes, Asks, program_app};
-ghost use Rattle.jt_program.specs.Commands.{Answers, ChangesOnly, Checks, Compiles, Ending, IsCompile, IsContextAt, IsOfContext, IsPath, IsUnread, JobEnds, LineEnds, Renders, Runs, Tells, out_of};
-ghost use Rattle.jt_program.specs.Ending.{IfUntaken, code_of, status_of};
+ghost use Rattle.jt_program.specs.Commands.{Answers, ChangesOnly, Checks, Compiles, Ending, Explains, HasImage, IsCompile, IsContextAt, IsOfContext, IsPath, IsUnread, JobEnds, LineEnds, LineWrites, Renders, Runs, Tells, WritesImage, out_of};
+ghost use Rattle.jt_program.specs.Ending.{IfUntaken, status_of};
 ghost use Rattle.jt_program.specs.Files.{AreSources, IsLibrary, IsOfDirectory, path_in};
 ghost use Rattle.jt_program.specs.Templates.{source_of};
 
 use crate::commands::{context_of, counts_of, image_of, render_text, run_image, scan_options};
 use crate::files::{FileError, Files};
 use crate::messages::{Failure, Status, no_file};
+use crate::reports::report;
 use crate::templates::Templates;
 use crate::turns::run_turns;
 use jt_budget::Budget;
@@ -41,13 +42,14 @@ pub fn perform<F: Files, W: Sink, E: Write>(
     // it is 2 where the program does not take the line, unless memory ran out, and only there
     ensures usage { ¬ Takes (texts words.now) → (result ≡ 2) ⊎ (result ≡ 6) }
     ensures taken { Takes (texts words.now) → result ≢ 2 }
-    // it tells how the command of the line ended, over the files as they were
+    // it tells how the command of the line ended, over the files as they were; and a fault, a spent number and a file by their lines
     ensures ends { result ≢ 2
         → result ≢ 6
         → (e : Ending)
         × Answers (F.known files.old) (F.known files.new)
         (subcommand_of program_app (texts words.now)) e
-        × Tells (W.taken out.old) (W.taken out.new) (W.failed out.new) e result }
+        × Tells (W.taken out.old) (W.taken out.new) (W.failed out.new) e result
+        × Explains (E.contents errors.old) (E.contents errors.new) e result }
     // where it is 0 nothing was added to standard error
     ensures silent { result ≡ 0 → errors.new ≡ errors.old }
     // where it is neither 0 nor 5 standard output is as it was
@@ -57,7 +59,9 @@ pub fn perform<F: Files, W: Sink, E: Write>(
     // whatever the status is, there is no change to the files but at OUT of a line of `compile`
     ensures only { ChangesOnly (F.known files.old) (F.known files.new)
         (out_of (subcommand_of program_app (texts words.now))) }
-    // they are as they were, but where a template was to be compiled and nothing refused it
+    // they are as they were, but where a template was to be compiled, nothing refused it, and there is an image of it
+    ensures touched { files.new ≡ files.old
+        ⊎ LineWrites (F.known files.old) (subcommand_of program_app (texts words.now)) }
     ensures untaken { ¬ Takes (texts words.now) → files.new ≡ files.old }
     ensures kept { ¬ Asks (codes "compile") (texts words.now) → files.new ≡ files.old }
     ensures unwritten { result ≢ 0 → result ≢ 5 → result ≢ 6 → files.new ≡ files.old }
@@ -68,20 +72,12 @@ pub fn perform<F: Files, W: Sink, E: Write>(
     }
 }
 
-/// Says on `errors` what went wrong, and answers the status.
-pub fn report<E: Write>(errors: &mut E, failure: &Failure) -> u8
-    ensures { result ≡ code_of (status_of failure.now) }
-{
-    // Where standard error takes nothing, the status alone says how the run ended.
-    let _ = write!(errors, "{failure}");
-    failure.status().code()
-}
-
 /// Prints the text of a command that is done, and answers the status.
 fn print<W: Sink, E: Write>(text: String, out: &mut W, errors: &mut E) -> u8
     ensures told { Tells (W.taken out.old) (W.taken out.new) (W.failed out.new) (Ok text) result }
     ensures failed_before { W.failed out.old ≡ true → out.new ≡ out.old }
     ensures silent { result ≡ 0 → errors.new ≡ errors.old }
+    ensures explained { Explains (E.contents errors.old) (E.contents errors.new) (Ok text) result }
 {
     match put_all(out, text.as_bytes()) {
         Ok(()) => Status::Done.code(),
@@ -100,6 +96,8 @@ fn done<F: Files>(alloc: Global, words: &[&str], files: &mut F) -> Result<String
     ensures kept { ¬ Asks (codes "compile") (texts words.now) → files.new ≡ files.old }
     ensures unwritten { IfErr result
         (λ e. status_of e ≢ Status.File → status_of e ≢ Status.Memory → files.new ≡ files.old) }
+    ensures touched { files.new ≡ files.old
+        ⊎ LineWrites (F.known files.old) (subcommand_of program_app (texts words.now)) }
     ensures ends { LineEnds (F.known files.old) (F.known files.new)
         (subcommand_of program_app (texts words.now)) result }
 {
@@ -113,6 +111,8 @@ fn carried_out<F: Files>(alloc: Global, job: Job, files: &mut F) -> Result<Strin
     ensures kept { ¬ IsCompile job.command → files.new ≡ files.old }
     ensures unwritten { IfErr result
         (λ e. status_of e ≢ Status.File → status_of e ≢ Status.Memory → files.new ≡ files.old) }
+    ensures touched { files.new ≡ files.old
+        ⊎ WritesImage (F.known files.old) job.command job.options }
     ensures other { IfErr result (λ e. (status_of e ≢ Status.Usage) × (e ≢ Failure.Output)) }
 {
     let Job {
@@ -149,6 +149,9 @@ fn compile_to<F: Files>(
         (string_bytes out) options result }
     ensures unwritten { IfErr result
         (λ e. status_of e ≢ Status.File → status_of e ≢ Status.Memory → files.new ≡ files.old) }
+    // where there is no image nothing is written
+    ensures touched { files.new ≡ files.old
+        ⊎ HasImage (F.known files.old) (string_bytes dir) name.now options }
 {
     let templates = templates_in(alloc, files, dir)?;
     let bytes = image_of(alloc, name, &templates, options)?;

@@ -1,5 +1,5 @@
 -- A session more, or why there is none.
-use Rattle.std.proofs.Common.{◌≡◌, ◌∙◌, ℕ, ◌+◌, ◌<◌, Bool, true, false, cond, List, [], ◌∷◌, ◌++◌, length, length-append, Option, Some, None, Ok, Err, ap, arith, refl, sym, subst, string_bytes, IfOk, IfErr, Result}
+use Rattle.std.proofs.Common.{◌≡◌, ◌∙◌, ℕ, ◌+◌, ◌<◌, ◌≤◌, Bool, true, false, cond, List, [], ◌∷◌, ◌++◌, length, length-append, Option, Some, None, Ok, Err, ap, arith, refl, sym, subst, string_bytes, IfOk, IfErr, Result}
 use Rattle.std.specs.Prelude.{nat_le, String}
 use Rattle.std.specs.declared.alloc.Global.{Global}
 use Rattle.std.proofs.lemmas.Bool.Decides.{nat_tests}
@@ -20,6 +20,15 @@ use Rattle.jt_turns.proofs.Turning.{as_many, not_advanced, numbered_of}
 -- the world with one session more
 one_more : World → Session → World
 one_more w s = record { last = w.last + 1; sessions = w.sessions ++ (w.last + 1, s) ∷ [] }
+
+-- the host that opened it had place for one more
+had_place : (w : World) (i : ℕ) → opening_reply (bar w) w ≡ opened i → length w.sessions < max_sessions
+had_place w i told = go (nat_le max_sessions (length w.sessions)) refl told
+  where
+    go : (a : Bool) → nat_le max_sessions (length w.sessions) ≡ a
+        → opening_reply (cond a (Some host_error.Full) (cond (nat_le max_id w.last) (Some host_error.NoId) None)) w ≡ opened i → length w.sessions < max_sessions
+    go true f r = absurd (cc)
+    go false f r = grind (arith, nat_tests)
 
 opened_world : (w v : World) (k : Code) (x : Pairs) (b : Budget) (i : ℕ) → v ≡ after (opens k x b) w → reply (opens k x b) w ≡ opened i → v ≡ one_more w (started k x b)
 unfolding one_more
@@ -54,7 +63,11 @@ module _ (b : Budget) where
       let id : 1 + length ss ≡ w.last + 1 = omega (arith, h.0) in
       let more = subst (λ (n : ℕ). AreAll (w.sessions ++ (n, x) ∷ [])) id (one_session_more b 1 ss s w.sessions x h.1 session) in
       let last : w.last + 1 ≡ length (ss ++ s ∷ []) = ap (λ (n : ℕ). n + 1) h.0 ∙ sym (length-append ss (s ∷ [])) in
-      subst (Stands b (ss ++ s ∷ [])) (sym (opened_world w v s.code (pairs_of s.context) b i is told)) (last, more)
+      let place = had_place w i told in
+      let many = as_many b 1 ss w.sessions h.1 in
+      let one = length-append ss (s ∷ []) in
+      let few : length (ss ++ s ∷ []) ≤ max_sessions = omega (arith, place, many, one) in
+      subst (Stands b (ss ++ s ∷ [])) (sym (opened_world w v s.code (pairs_of s.context) b i is told)) (last, more, few)
     where
       AreAll : List (ℕ × Session) → Type 0
       AreAll es = AreSessions b 1 (ss ++ s ∷ []) es

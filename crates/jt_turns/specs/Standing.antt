@@ -1,12 +1,12 @@
 -- What only private clauses cite: where sessions that take turns stand in a host.
-use Rattle.std.specs.Prelude.{◌≡◌, ℕ, ◌+◌, Bool, true, false, List, [], ◌∷◌, ◌++◌, length, Some, is_some, option_to_list}
+use Rattle.std.specs.Prelude.{◌≡◌, ◌≤◌, ℕ, ◌+◌, Bool, true, false, List, [], ◌∷◌, ◌++◌, length, Some, is_some, option_to_list}
 use Rattle.std.specs.List.{list_all}
 use Rattle.jt_value.specs.ContextView.{pairs_of}
 use Rattle.jt_image.specs.Config.{Budget, Outcome}
 use Rattle.jt_machine.specs.Session.{Session, Status, advanced, outcome_of, started, going, done, lost}
 use Rattle.jt_machine.specs.declared.outcome.Progress.{Progress}
 use Rattle.jt_machine.specs.declared.outcome.Progress.TheVariants as progress
-use Rattle.jt_host.specs.Turns.{World, after, find, reply, turned, turns}
+use Rattle.jt_host.specs.Turns.{World, after, find, max_sessions, reply, turned, turns}
 use Rattle.jt_turns.specs.declared.turns.Start.{Start}
 
 module _ (b : Budget) where
@@ -21,9 +21,9 @@ module _ (b : Budget) where
   AreSessions i (s ∷ ss) [] = ⊥
   AreSessions i (s ∷ ss) (e ∷ es) = (e.0 ≡ i) × IsSession s e.1 × AreSessions (i + 1) ss es
 
-  -- the host has the sessions of the images, and no other
+  -- the host has the sessions of the images, and no other, and they are no more than it has place for
   abbrev pub Stands : List Start → World → Type 0
-  Stands ss w = (w.last ≡ length ss) × AreSessions 1 ss w.sessions
+  Stands ss w = (w.last ≡ length ss) × AreSessions 1 ss w.sessions × (length ss ≤ max_sessions)
 
 -- the ids of sessions, one after another
 abbrev pub AreNumbered : ℕ → List (ℕ × Session) → Type 0

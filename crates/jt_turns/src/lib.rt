@@ -5,4 +5,5 @@ mod lines;
 mod rounds;
 mod turns;
 
+pub use lines::limit_text;
 pub use turns::{Start, take_turns};

@@ -58,7 +58,7 @@ fn line(alloc: Global, id: u64, outcome: &Outcome) -> Result<String, AllocError>
 }
 
 /// The name of a limit.
-fn limit_text(spent: Spent) -> &'static str
+pub fn limit_text(spent: Spent) -> &'static str
     ensures { result.now ≡ limit_name (limit_view spent) }
 {
     match spent {

@@ -1,5 +1,6 @@
-use Rattle.std.proofs.Common.{string_bytes}
+use Rattle.std.proofs.Common.{inr, string_bytes}
 use Rattle.std.proofs.lemmas.Result.{err_from_is_err_and}
+use Rattle.jt_program.specs.Commands.{HasImage}
 use Rattle.jt_program.specs.Templates.{source_of}
 use Rattle.jt_program.proofs.Endings.{unwritten}
 use Rattle.jt_program.proofs.program.compile_to.Goals as goal
@@ -9,3 +10,23 @@ returns-in_err-put_at-clause-ends g c =
     let p = err_from_is_err_and c.from_residual-in_err-put_at.result c.from_residual-in_err-put_at.ensures.1 in
     rw (p.1, p.2) (unwritten (g.F.Files.known c.args.files.now) (g.F.Files.known c.put_at.new.files) (string_bytes c.args.dir) c.args.name.now (string_bytes c.args.out) c.args.options
     (source_of c.in_ok-templates.templates) c.in_err-put_at.field-0.0 c.in_ok-templates.ensures.library c.in_err-put_at.ensures.err)
+
+pub returns-in_err-put_at-clause-touched : goal.returns-in_err-put_at-clause-touched
+returns-in_err-put_at-clause-touched g c =
+    let has : HasImage (g.F.Files.known c.args.files.now) (string_bytes c.args.dir) c.args.name.now c.args.options = record {
+      sources = source_of c.in_ok-templates.templates;
+      library = c.in_ok-templates.ensures.library;
+      bytes = c.in_ok-bytes.bytes.items;
+      image = c.in_ok-bytes.ensures;
+    } in
+    inr has
+
+pub returns-clause-touched : goal.returns-clause-touched
+returns-clause-touched g c =
+    let has : HasImage (g.F.Files.known c.args.files.now) (string_bytes c.args.dir) c.args.name.now c.args.options = record {
+      sources = source_of c.in_ok-templates.templates;
+      library = c.in_ok-templates.ensures.library;
+      bytes = c.in_ok-bytes.bytes.items;
+      image = c.in_ok-bytes.ensures;
+    } in
+    inr has

@@ -3,7 +3,7 @@ use Rattle.clap.specs.Walk.{texts}
 use Rattle.clap.specs.Words.{subcommand_of}
 use Rattle.jt_line.specs.Line.{program_app}
 use Rattle.jt_program.specs.Commands.{Answers, out_of}
-use Rattle.jt_program.proofs.Endings.{line_ends, only_out, same_files}
+use Rattle.jt_program.proofs.Endings.{line_ends, line_writes, only_out, same_files}
 use Rattle.jt_program.proofs.program.done.Goals as goal
 
 pub returns-clause-ends : goal.returns-clause-ends
@@ -22,3 +22,7 @@ returns-clause-only g c =
     let files = g.F.Files.known c.args.files.now in
     only_out files (g.F.Files.known c.carried_out.new.files) found c.in_ok-job.job c.carried_out.result c.in_ok-job.ensures.asked c.carried_out.ensures.ends
     (λ not. rw (c.carried_out.ensures.kept not) (same_files files (out_of found)))
+
+pub returns-clause-touched : goal.returns-clause-touched
+returns-clause-touched g c =
+    line_writes (g.F.Files.known c.args.files.now) (subcommand_of program_app (texts c.args.words.now)) c.in_ok-job.job c.in_ok-job.ensures.asked c.carried_out.ensures.touched

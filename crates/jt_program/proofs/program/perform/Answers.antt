@@ -5,6 +5,7 @@ use Rattle.jt_program.proofs.program.perform.Goals as goal
 pub returns-in-Err-clause-ends : goal.returns-in-Err-clause-ends
 returns-in-Err-clause-ends g c u m = (
   Err c.in-Err.failure,
-  job_ends _ _ _ c.in-Err.failure (λ e. u (c.report.ensures ∙ e)) (λ e. m (c.report.ensures ∙ e)) c.in-Err.ensures.ends,
-  (c.report.ensures, keeps_itself _),
+  job_ends _ _ _ c.in-Err.failure (λ e. u (c.report.ensures.status ∙ e)) (λ e. m (c.report.ensures.status ∙ e)) c.in-Err.ensures.ends,
+  (c.report.ensures.status, keeps_itself _),
+  c.report.ensures.said,
 )

@@ -45,4 +45,4 @@ returns-in-Ok c =
     let stands = subst (λ (ss : List Start). Stands b ss c.loop-start.host) whole c.loop-start.invariant.1 in
     let es = c.run_all.new.host.sessions in
     let still = still_sessions b c.session_laws.ensures 1 c.args.starts.items c.loop-start.host.sessions es stands.1 c.in_ok-run_all.ensures.moved in
-    (outcomes es, outcomes_are b 1 c.args.starts.items es still c.in_ok-run_all.ensures.ended, c.in-Ok.ensures)
+    (stands.2, (outcomes es, outcomes_are b 1 c.args.starts.items es still c.in_ok-run_all.ensures.ended, c.in-Ok.ensures))

@@ -1,0 +1,94 @@
+//! What the program says on standard error.
+ghost use Rattle.std.specs.Prelude.{◌≡◌, ◌<◌, ◌≤◌, ◌++◌, [], codes, length, take, IfOk, OnErr, OnOk};
+ghost use Rattle.std.specs.Io.KnownBytes.{Appends};
+ghost use Rattle.jt_value.specs.FaultText.{fault_text};
+ghost use Rattle.jt_machine.specs.Sinks.{TookFront};
+ghost use Rattle.jt_program.specs.Commands.{Says};
+ghost use Rattle.jt_program.specs.Ending.{code_of, status_of};
+
+use crate::messages::Failure;
+use jt_machine::SinkFailed;
+use jt_turns::limit_text;
+use jt_value::Fault;
+use std::io::Write;
+
+/// Says on `errors` what went wrong, and answers the status.
+pub fn report<E: Write>(errors: &mut E, failure: &Failure) -> u8
+    ensures status { result ≡ code_of (status_of failure.now) }
+    // a fault, a spent number or a file is named by a line, and nothing else is said
+    ensures said { Says (E.contents errors.old) (E.contents errors.new) failure.now }
+{
+    match failure {
+        Failure::Fault(fault) => say(errors, "jt: fault ", fault_name(*fault)),
+        Failure::Spent(spent) => say(errors, "jt: spent ", limit_text(*spent)),
+        Failure::File(path) => say(errors, "jt: file ", path.as_str()),
+        Failure::Output => say(errors, "jt: file ", "-"),
+        other => {
+            let _ = write!(errors, "{other}");
+        }
+    }
+    failure.status().code()
+}
+
+/// Adds a line of two parts to `errors`. Where they take no more of it, the status alone says how the run ended.
+fn say<E: Write>(errors: &mut E, head: &str, name: &str)
+    ensures { TookFront (head.now ++ (name.now ++ codes "\n")) (E.contents errors.old)
+        (E.contents errors.new) }
+{
+    let _ = add_line(errors, head, name);
+}
+
+/// Adds a line of two parts to `errors`, or a beginning of it.
+fn add_line<E: Write>(errors: &mut E, head: &str, name: &str) -> Result<(), SinkFailed>
+    ensures { TookFront (head.now ++ (name.now ++ codes "\n")) (E.contents errors.old)
+        (E.contents errors.new) }
+{
+    add_all(errors, head.as_bytes())?;
+    add_all(errors, name.as_bytes())?;
+    add_all(errors, b"\n")
+}
+
+/// Adds all of the bytes to `errors`, or those that they take before they take none.
+fn add_all<E: Write>(errors: &mut E, bytes: &[u8]) -> Result<(), SinkFailed>
+    ensures all { OnOk result (Appends (E.contents errors.old) (E.contents errors.new) bytes.now) }
+    ensures front { OnErr result
+        (TookFront bytes.now (E.contents errors.old) (E.contents errors.new)) }
+{
+    let mut rest = bytes;
+    'pieces: while !rest.is_empty() {
+        let count = add(errors, rest)?;
+        rest = &rest[count..];
+    }
+    Ok(())
+}
+
+/// Adds a beginning of the bytes to `errors` and answers its length, unless they take none.
+fn add<E: Write>(errors: &mut E, bytes: &[u8]) -> Result<usize, SinkFailed>
+    ensures some { IfOk result (λ n. 0 < n) }
+    ensures within { IfOk result (λ n. n ≤ length bytes.now) }
+    ensures took { IfOk result
+        (λ n. Appends (E.contents errors.old) (E.contents errors.new) (take n bytes.now)) }
+    ensures nothing { OnErr result (Appends (E.contents errors.old) (E.contents errors.new) []) }
+{
+    match errors.write(bytes) {
+        Ok(count) if count > 0 => Ok(count),
+        _ => Err(SinkFailed),
+    }
+}
+
+/// The code and the name of a fault.
+fn fault_name(fault: Fault) -> &'static str
+    ensures { result.now ≡ fault_text fault }
+{
+    match fault {
+        Fault::BadType => "F1 BadType",
+        Fault::Undefined => "F2 Undefined",
+        Fault::Overflow => "F3 Overflow",
+        Fault::ZeroDivide => "F4 ZeroDivide",
+        Fault::Unprintable => "F5 Unprintable",
+        Fault::NotIterable => "F6 NotIterable",
+        Fault::Unpack => "F7 Unpack",
+        Fault::Range => "F8 Range",
+        Fault::BadArgument => "F9 BadArgument",
+    }
+}
