@@ -76,7 +76,7 @@ module _ (sources : Sources) (escaping : Bool) (entry h : Home) (reached : Reach
   names_few (suc k) (Some n) = let e = names_few k (parent_of (sources n)) in omega (arith, e)
 
   once : repeated (way sources escaping h) ≡ false
-  once = not_so (repeated (way sources escaping h)) (λ e. kept.extends_cycle (h, reached, suc max_templates, e))
+  once = not_so (repeated (way sources escaping h)) (λ e. kept.extends_cycle (h, reached, (suc max_templates, e)))
 
   short : nat_lt (length (way sources escaping h)) (suc max_templates) ≡ true
   short =

@@ -13,7 +13,7 @@ use Rattle.jt_slots.specs.Loops.{field_named}
 use Rattle.jt_rules.specs.World.{World}
 use Rattle.jt_rules.specs.declared.error.ScopeError.{ScopeError}
 use Rattle.jt_rules.specs.declared.error.ScopeError.TheVariants as error
-use Rattle.jt_rules.specs.Walk.{Within, refused, call_broken, broken, called_broken, row_broken, pairs_broken, condition_broken, filtering_broken, stmt_broken, body_broken, branches_broken}
+use Rattle.jt_rules.specs.Walk.{Within, refused, all_used, call_broken, broken, called_broken, row_broken, pairs_broken, condition_broken, filtering_broken, stmt_broken, body_broken, branches_broken}
 
 pub left_false : (a b : Bool) → (a || b) ≡ false → a ≡ false
 left_false true b e = e
@@ -25,6 +25,18 @@ right_false false b e = e
 
 both_parts : (a b c d : Option ScopeError) → a ≡ c → b ≡ d → option_or a b ≡ option_or c d
 both_parts a b c d e f = ap (λ z. option_or z b) e ∙ ap (option_or c) f
+
+first_false : (a b c : Bool) → (a || (b || c)) ≡ false → a ≡ false
+first_false a b c e = left_false a (b || c) e
+
+second_false : (a b c : Bool) → (a || (b || c)) ≡ false → b ≡ false
+second_false a b c e = left_false b c (right_false a (b || c) e)
+
+third_false : (a b c : Bool) → (a || (b || c)) ≡ false → c ≡ false
+third_false a b c e = right_false b c (right_false a (b || c) e)
+
+three_parts : (a b c d e f : Option ScopeError) → a ≡ d → b ≡ e → c ≡ f → option_or a (option_or b c) ≡ option_or d (option_or e f)
+three_parts a b c d e f g h i = both_parts a (option_or b c) d (option_or e f) g (both_parts b c e f h i)
 
 -- outside a block
 abbrev pub out_of : Within → Within
@@ -62,32 +74,17 @@ module _ (world : World) (h : Home) where
     expr_without (list_of ts) w s = row_without ts w s
     expr_without (written.map_of ps) w s = pairs_without ps w s
     expr_without (attribute a k) w s = ap (λ r. if is_loop a then refused (not (w.in_loop && is_some (field_named k))) error.LoopOutside else r) (expr_without a w s)
-    expr_without (item a b) w s = two_without a b w s
+    expr_without (item a b) w s = both_parts _ _ _ _ (expr_without a w (left_false (has_super a) (has_super b) s)) (expr_without b w (right_false (has_super a) (has_super b) s))
     expr_without (written.call f ts ps) w s =
         let s1 = right_false (is_super f) (has_super f || (row_super ts || pairs_super ps)) s in
-        both_parts _ _ _ _ (called_without f w (left_false (has_super f) (row_super ts || pairs_super ps) s1))
-        (both_parts _ _ _ _ (call_without f w ts ps (left_false (is_super f) (has_super f || (row_super ts || pairs_super ps)) s)) (rows_without ts ps w (right_false (has_super f) (row_super ts || pairs_super ps) s1)))
-    expr_without (written.filter a x ts ps) w s = ap (option_or _) (more_without a ts ps w s)
-    expr_without (written.test a n x ts ps) w s = ap (option_or _) (more_without a ts ps w s)
+        both_parts _ _ _ _ (called_without f w (first_false (has_super f) (row_super ts) (pairs_super ps) s1))
+        (three_parts _ _ _ _ _ _ (call_without f w ts ps (left_false (is_super f) (has_super f || (row_super ts || pairs_super ps)) s)) (row_without ts w (second_false (has_super f) (row_super ts) (pairs_super ps) s1)) (pairs_without ps w (third_false (has_super f) (row_super ts) (pairs_super ps) s1)))
+    expr_without (written.filter a x ts ps) w s = ap (option_or _) (three_parts _ _ _ _ _ _ (expr_without a w (first_false (has_super a) (row_super ts) (pairs_super ps) s)) (row_without ts w (second_false (has_super a) (row_super ts) (pairs_super ps) s)) (pairs_without ps w (third_false (has_super a) (row_super ts) (pairs_super ps) s)))
+    expr_without (written.test a n x ts ps) w s = ap (option_or _) (three_parts _ _ _ _ _ _ (expr_without a w (first_false (has_super a) (row_super ts) (pairs_super ps) s)) (row_without ts w (second_false (has_super a) (row_super ts) (pairs_super ps) s)) (pairs_without ps w (third_false (has_super a) (row_super ts) (pairs_super ps) s)))
     expr_without (unary o a) w s = expr_without a w s
-    expr_without (binary o a b) w s = two_without a b w s
-    expr_without (when c a) w s = two_without c a w s
-    expr_without (choice c a b) w s = three_without c a b w s
-
-    two_without : (a b : Expr) (w : Within) → (has_super a || has_super b) ≡ false → option_or (broken world h a w) (broken world h b w) ≡ option_or (broken world h a (out_of w)) (broken world h b (out_of w))
-    two_without a b w s = both_parts _ _ _ _ (expr_without a w (left_false (has_super a) (has_super b) s)) (expr_without b w (right_false (has_super a) (has_super b) s))
-
-    three_without : (c a b : Expr) (w : Within) → (has_super c || (has_super a || has_super b)) ≡ false
-        → option_or (broken world h c w) (option_or (broken world h a w) (broken world h b w)) ≡ option_or (broken world h c (out_of w)) (option_or (broken world h a (out_of w)) (broken world h b (out_of w)))
-    three_without c a b w s = both_parts _ _ _ _ (expr_without c w (left_false (has_super c) (has_super a || has_super b) s)) (two_without a b w (right_false (has_super c) (has_super a || has_super b) s))
-
-    rows_without : (ts : Exprs) (ps : written.Pairs) (w : Within) → (row_super ts || pairs_super ps) ≡ false
-        → option_or (row_broken world h ts w) (pairs_broken world h ps w) ≡ option_or (row_broken world h ts (out_of w)) (pairs_broken world h ps (out_of w))
-    rows_without ts ps w s = both_parts _ _ _ _ (row_without ts w (left_false (row_super ts) (pairs_super ps) s)) (pairs_without ps w (right_false (row_super ts) (pairs_super ps) s))
-
-    more_without : (a : Expr) (ts : Exprs) (ps : written.Pairs) (w : Within) → (has_super a || (row_super ts || pairs_super ps)) ≡ false
-        → option_or (broken world h a w) (option_or (row_broken world h ts w) (pairs_broken world h ps w)) ≡ option_or (broken world h a (out_of w)) (option_or (row_broken world h ts (out_of w)) (pairs_broken world h ps (out_of w)))
-    more_without a ts ps w s = both_parts _ _ _ _ (expr_without a w (left_false (has_super a) (row_super ts || pairs_super ps) s)) (rows_without ts ps w (right_false (has_super a) (row_super ts || pairs_super ps) s))
+    expr_without (binary o a b) w s = both_parts _ _ _ _ (expr_without a w (left_false (has_super a) (has_super b) s)) (expr_without b w (right_false (has_super a) (has_super b) s))
+    expr_without (when c a) w s = both_parts _ _ _ _ (expr_without c w (left_false (has_super c) (has_super a) s)) (expr_without a w (right_false (has_super c) (has_super a) s))
+    expr_without (choice c a b) w s = three_parts _ _ _ _ _ _ (expr_without c w (first_false (has_super c) (has_super a) (has_super b) s)) (expr_without a w (second_false (has_super c) (has_super a) (has_super b) s)) (expr_without b w (third_false (has_super c) (has_super a) (has_super b) s))
 
     called_without : (f : Expr) (w : Within) → has_super f ≡ false → called_broken world h f w ≡ called_broken world h f (out_of w)
     called_without (name x) w s = refl
@@ -97,16 +94,16 @@ module _ (world : World) (h : Home) where
     called_without (list_of ts) w s = row_without ts w s
     called_without (written.map_of ps) w s = pairs_without ps w s
     called_without (attribute a k) w s = expr_without a w s
-    called_without (item a b) w s = two_without a b w s
+    called_without (item a b) w s = both_parts _ _ _ _ (expr_without a w (left_false (has_super a) (has_super b) s)) (expr_without b w (right_false (has_super a) (has_super b) s))
     called_without (written.call f ts ps) w s =
         let s1 = right_false (is_super f) (has_super f || (row_super ts || pairs_super ps)) s in
-        both_parts _ _ _ _ (called_without f w (left_false (has_super f) (row_super ts || pairs_super ps) s1)) (rows_without ts ps w (right_false (has_super f) (row_super ts || pairs_super ps) s1))
-    called_without (written.filter a x ts ps) w s = more_without a ts ps w s
-    called_without (written.test a n x ts ps) w s = more_without a ts ps w s
+        three_parts _ _ _ _ _ _ (called_without f w (first_false (has_super f) (row_super ts) (pairs_super ps) s1)) (row_without ts w (second_false (has_super f) (row_super ts) (pairs_super ps) s1)) (pairs_without ps w (third_false (has_super f) (row_super ts) (pairs_super ps) s1))
+    called_without (written.filter a x ts ps) w s = three_parts _ _ _ _ _ _ (expr_without a w (first_false (has_super a) (row_super ts) (pairs_super ps) s)) (row_without ts w (second_false (has_super a) (row_super ts) (pairs_super ps) s)) (pairs_without ps w (third_false (has_super a) (row_super ts) (pairs_super ps) s))
+    called_without (written.test a n x ts ps) w s = three_parts _ _ _ _ _ _ (expr_without a w (first_false (has_super a) (row_super ts) (pairs_super ps) s)) (row_without ts w (second_false (has_super a) (row_super ts) (pairs_super ps) s)) (pairs_without ps w (third_false (has_super a) (row_super ts) (pairs_super ps) s))
     called_without (unary o a) w s = expr_without a w s
-    called_without (binary o a b) w s = two_without a b w s
-    called_without (when c a) w s = two_without c a w s
-    called_without (choice c a b) w s = three_without c a b w s
+    called_without (binary o a b) w s = both_parts _ _ _ _ (expr_without a w (left_false (has_super a) (has_super b) s)) (expr_without b w (right_false (has_super a) (has_super b) s))
+    called_without (when c a) w s = both_parts _ _ _ _ (expr_without c w (left_false (has_super c) (has_super a) s)) (expr_without a w (right_false (has_super c) (has_super a) s))
+    called_without (choice c a b) w s = three_parts _ _ _ _ _ _ (expr_without c w (first_false (has_super c) (has_super a) (has_super b) s)) (expr_without a w (second_false (has_super c) (has_super a) (has_super b) s)) (expr_without b w (third_false (has_super c) (has_super a) (has_super b) s))
 
     row_without : (ts : Exprs) (w : Within) → row_super ts ≡ false → row_broken world h ts w ≡ row_broken world h ts (out_of w)
     row_without no_exprs w s = refl
@@ -138,7 +135,7 @@ module _ (world : World) (h : Home) where
         both_parts _ _ _ _ (expr_without e w (left_false (has_super e) (condition_super c || (calls_super body || calls_super other)) s))
         (ap (option_or _) (both_parts _ _ _ _ (condition_without c w (left_false (condition_super c) (calls_super body || calls_super other) s1))
         (both_parts _ _ _ _ (body_without body (record w { in_loop = true }) (left_false (calls_super body) (calls_super other) s2)) (body_without other w (right_false (calls_super body) (calls_super other) s2)))))
-    stmt_without (set line xs e) w s = ap (λ z. option_or z _) (expr_without e w s)
+    stmt_without (set line xs e) w s = ap (λ z. option_or z (all_used world h xs)) (expr_without e w s)
     stmt_without (set_block line x body) w s = ap (option_or _) (body_without body w s)
     stmt_without (with_values line ps body) w s =
         both_parts _ _ _ _ (pairs_without ps w (left_false (pairs_super ps) (calls_super body) s)) (ap (option_or _) (body_without body w (right_false (pairs_super ps) (calls_super body) s)))
