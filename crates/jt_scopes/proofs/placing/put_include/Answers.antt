@@ -42,8 +42,8 @@ returns-clause-put c =
     (ap texts c.deref.ensures.value ∙ laid.named ∙ ap (names world order) at.1) (laid.chain_unit ∙ ap (λ z. unit world order (of_chain z)) at.1))
     (led_both T _ _ _ _ _ _ _ _ (c.in_ok-hand_on.ensures.put p) (h T slots.none p p (no_row _ c.new-2.ensures.items p)))) c.put_run-2.ensures.put
 
-pub returns-in-is_none-clause-put : goal.returns-in-is_none-clause-put
-returns-in-is_none-clause-put c =
+pub returns-then-is_none-clause-put : goal.returns-then-is_none-clause-put
+returns-then-is_none-clause-put c =
     let scope = c.args.scope.now in
     let x = c.args.name.now in
     let none : is_none ((world_in scope).sources x) ≡ true = sym (c.requires.sources x) ∙ ap is_none (sym c.place.ensures) ∙ ap not (c.is_none.ensures ∙ ap not c.if-is_none.true) in

@@ -7,8 +7,8 @@ use Rattle.jt_scopes.specs.Stated.{Led}
 use Rattle.jt_scopes.proofs.LeadingBodies.{led_nothing}
 use Rattle.jt_scopes.proofs.placing.put_missing.Goals as goal
 
-pub returns-in-ignore_missing-clause-put : goal.returns-in-ignore_missing-clause-put
-returns-in-ignore_missing-clause-put c = λ s p.
+pub returns-then-ignore_missing-clause-put : goal.returns-then-ignore_missing-clause-put
+returns-then-ignore_missing-clause-put c = λ s p.
     let es = c.args.done.now.items in
     let P : Bool → Type 0 = λ b. Led (templates_in s) (left_out (spot_in s c.args.spot.now) c.args.line b) es es p p in
     subst P (sym c.if-ignore_missing.true) (led_nothing (templates_in s) es p)
