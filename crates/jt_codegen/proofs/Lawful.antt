@@ -48,7 +48,6 @@ default_pooled : (l : Option Literal) → IsPooled (default_value l)
 default_pooled None = tt
 default_pooled (Some l) = literal_pooled l
 
-
 module _ (front globals_count : ℕ) (some : 0 < front) where
   abbrev E : SExpr Constant → Type 0
   E = ExprLawful front globals_count

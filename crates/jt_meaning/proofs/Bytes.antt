@@ -43,7 +43,6 @@ literal_is (written.text x) = refl
 literal_is (written.truth b) = refl
 literal_is written.nothing = refl
 
-
 abbrev expr_count : SExpr Constant → ℕ
 expr_count e = bytes_in (expr_values e)
 
