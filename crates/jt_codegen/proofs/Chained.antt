@@ -8,6 +8,7 @@ use Rattle.jt_parse.specs.Trees.{Text}
 use Rattle.jt_inherit.specs.Chain.{Home, Template}
 use Rattle.jt_inherit.specs.Chains.{Given, IsRead, IsChain}
 use Rattle.jt_inherit.specs.Includes.{InOrder}
+use Rattle.jt_inherit.specs.Rules.{Reaches}
 use Rattle.jt_inherit.specs.View.{Seen, sources_of}
 use Rattle.jt_rules.specs.Known.{ChainsKnown}
 use Rattle.jt_rules.specs.Rules.{KeepsRules}
@@ -51,6 +52,9 @@ module _ (low : LowLaws) (programs : ProgramLaws) (given : Given) (entry : Text)
   ordered : InOrder world.sources order
   ordered = subst (InOrder (sources_of c)) is.begins is.order
 
+  reached : AllByRecursion (Reaches world.sources world.escaping entry) order
+  reached = subst (AllByRecursion (Reaches (sources_of c) c.escaping entry)) is.begins is.reached
+
   keeps : KeepsRules world order
   keeps = subst (KeepsRules world) is.begins kept
 
@@ -61,7 +65,7 @@ module _ (low : LowLaws) (programs : ProgramLaws) (given : Given) (entry : Text)
   p = program world order entry
 
   pub fits : AreLow (routines world order) → ProgramFits p
-  fits few = low.fits (names world order entry) (count_globals world order order) (shared world order) (routines world order) (program_lawful world entry is.included (programs.takes world entry is.included ordered keeps known)) few
+  fits few = low.fits (names world order entry) (count_globals world order order) (shared world order) (routines world order) (program_lawful world entry is.included (programs.takes world entry is.included ordered reached is.rules keeps known)) few
 
   pub image_compiled : AreLow (routines world order) → IsCode (compiled p) → IsCompiled given entry options (compiled p)
   image_compiled few whole =

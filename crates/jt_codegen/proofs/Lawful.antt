@@ -16,7 +16,7 @@ use Rattle.jt_expr.specs.Trees.{Expr, Literal, constant, name, group, list_of, m
 use Rattle.jt_meaning.specs.Operators.{Form, operation, negation, conjunction, disjunction, form}
 use Rattle.jt_slots.specs.Got.{Place}
 use Rattle.jt_slots.specs.Tests.{test_named}
-use Rattle.jt_slots.specs.Values.{literal, as_value}
+use Rattle.jt_slots.specs.Values.{literal}
 use Rattle.jt_inherit.specs.Uses.{count, keywords, set_in, own_names}
 use Rattle.jt_inherit.specs.Includes.{included}
 use Rattle.jt_parse.specs.Trees.{Text, Parameter, Filtering, Stmt, data_of, print, choose, for_each, set, set_block, with_values, filter_block, autoescape, macro, include, extends, block, Body, end, stmt, Branches, no_branches, branch}
@@ -34,7 +34,7 @@ use Rattle.jt_slots.specs.Slots.{Slot, local, global, SExpr, SRow, Targets, one,
 use Rattle.jt_slots.specs.Takes.{BodyTakes}
 use Rattle.jt_slots.specs.TheFilters.{the_filters}
 use Rattle.jt_slots.specs.Pool.{Constant, own, known}
-use Rattle.jt_meaning.specs.Resolve.{value_or, read_from, turned_round, tested_by, filtered_by, in_form, field_from, followed, locals_from, fresh, fresh_targets, kept_slots, slot_of, set_targets, filled, filled_some, first_locals, reads, handed_on, Part, Spot, place, grown, bound_table, bound_all, copied, scoped, next_given, first_body, invoked_body, invoked_next, invoked_super, invoked, resolved, resolved_row, resolved_asides, resolved_entries, resolved_condition, resolved_filters, resolved_values, placed_body, resolved_stmt, resolved_body, resolved_choice, top_spot, resolved_sets, resolved_chain, resolved_routine, chain_routine, macro_routine}
+use Rattle.jt_meaning.specs.Resolve.{value_or, read_from, turned_round, tested_by, filtered_by, in_form, field_from, followed, locals_from, fresh, fresh_targets, kept_slots, slot_of, set_targets, filled, filled_some, first_locals, reads, handed_on, Part, Spot, place, left_out, grown, bound_table, bound_all, copied, scoped, next_given, first_body, invoked_body, invoked_super, invoked, resolved, resolved_row, resolved_asides, resolved_entries, resolved_condition, resolved_filters, resolved_values, placed_body, resolved_stmt, resolved_body, resolved_choice, top_spot, resolved_sets, resolved_chain, resolved_routine, chain_routine, macro_routine}
 use Rattle.jt_lower.specs.Fits.{IsBare, IsPooled}
 use Rattle.jt_lower.specs.Lawful.{ConstantLawful, SlotLawful, ExprLawful, RowLawful, SomeLawful, SlotsLawful, TargetsLawful, ConditionLawful, BodyLawful, RoutineLawful, AreLawful}
 
@@ -47,10 +47,6 @@ literal_pooled written.nothing = tt
 default_pooled : (l : Option Literal) → IsPooled (default_value l)
 default_pooled None = tt
 default_pooled (Some l) = literal_pooled l
-
-as_pooled : (b : Bool) (s : Text) → IsPooled (as_value b s)
-as_pooled true s = tt
-as_pooled false s = tt
 
 module _ (front globals_count : ℕ) (some : 0 < front) where
   abbrev E : SExpr Constant → Type 0
@@ -209,13 +205,9 @@ module _ (front globals_count : ℕ) (some : 0 < front) where
     body_fined h on None es k = tt
     body_fined h on (Some i) es k = k
 
-    next_fined : (h : Home) (on : Bool) (i : Option ℕ) (es : SRow Constant) → R es → E (invoked_next world order h on i es)
-    next_fined h on None es k = as_pooled on []
-    next_fined h on (Some i) es k = k
-
     super_fined : (sp : Spot) (p : Option Part) → E (invoked_super world order sp p)
     super_fined sp None = tt
-    super_fined sp (Some p) = let xs = block_parameters world order sp.home p.name in next_fined sp.home sp.escaping (next_given p.behind) (first_locals 0 xs) (first_fine 0 xs)
+    super_fined sp (Some p) = let xs = block_parameters world order sp.home p.name in body_fined sp.home sp.escaping (next_given p.behind) (first_locals 0 xs) (first_fine 0 xs)
 
     globals_of_fine : (h : Home) → Fine (globals world order h)
     globals_of_fine h = globals_fine (first_slot world order h) (names world order h) (few h)
@@ -305,10 +297,11 @@ module _ (front globals_count : ℕ) (some : 0 < front) where
     seen_fine true t h = h
     seen_fine false t h = tt
 
-    include_fined : (sp : Spot) (line : ℕ) (m : Text) (c : Bool) (b : Bool) → Fine sp.table
-        → B (if b then slots.end else followed (handed_on (place sp line) (if c then sp.table else []) (first_slot world order m) (names world order m)) (slots.stmt (run (unit world order (of_chain m)) slots.none) slots.end))
-    include_fined sp line m c true t = tt
-    include_fined sp line m c false t =
+    include_fined : (sp : Spot) (line : ℕ) (m : Text) (missing c : Bool) (b : Bool) → Fine sp.table
+        → B (if b then left_out sp line missing else followed (handed_on (place sp line) (if c then sp.table else []) (first_slot world order m) (names world order m)) (slots.stmt (run (unit world order (of_chain m)) slots.none) slots.end))
+    include_fined sp line m true c true t = tt
+    include_fined sp line m false c true t = (tt, tt)
+    include_fined sp line m missing c false t =
         followed_fine (handed_on (place sp line) (if c then sp.table else []) (first_slot world order m) (names world order m)) (slots.stmt (run (unit world order (of_chain m)) slots.none) slots.end)
         (handed_fine (place sp line) (if c then sp.table else []) (first_slot world order m) (names world order m) (few m) (seen_fine c sp.table t)) ((tt, tt), tt)
 
@@ -345,7 +338,7 @@ module _ (front globals_count : ℕ) (some : 0 < front) where
           let inner = record sp { escaping = on } in
           scope_fined body inner t (all_fined body (bound_all (set_in body) inner) i (bound_fine (set_in body) sp.free sp.table t))
       stmt_fined (macro line x ps body) sp i t = tt
-      stmt_fined (include line m missing with_context) sp i t = include_fined sp line m with_context (is_none (world.sources m)) t
+      stmt_fined (include line m missing with_context) sp i t = include_fined sp line m missing with_context (is_none (world.sources m)) t
       stmt_fined (extends line m) sp i t = tt
       stmt_fined (block line x is required body) sp i t =
           placed_fined sp (first_body (numbered_of world sp.home x)) x (if is then sp.table else globals world order sp.home) (table_fine is sp t)

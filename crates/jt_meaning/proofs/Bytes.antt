@@ -22,9 +22,9 @@ use Rattle.jt_meaning.specs.Layout.{Table, slot_in, names, numbered_of, globals,
 use Rattle.jt_slots.specs.Slots as slots
 use Rattle.jt_slots.specs.Slots.{Slot, local, SExpr, SRow, Targets, one, several, SBody, variable, run}
 use Rattle.jt_slots.specs.Pool.{Constant, own, known, expr_values, row_values, condition_values, stmt_values, body_values}
-use Rattle.jt_meaning.specs.Resolve.{value_or, turned_round, tested_by, filtered_by, in_form, field_from, followed, locals_from, fresh_targets, set_targets, filled, filled_some, first_locals, reads, handed_on, Part, Spot, place, grown, bound_all, copied, scoped, next_given, first_body, invoked_body, invoked_next, invoked_super, invoked, resolved, resolved_row, resolved_asides, resolved_entries, resolved_condition, resolved_filters, resolved_values, placed_body, resolved_stmt, resolved_body, resolved_choice}
+use Rattle.jt_meaning.specs.Resolve.{value_or, turned_round, tested_by, filtered_by, in_form, field_from, followed, locals_from, fresh_targets, set_targets, filled, filled_some, first_locals, reads, handed_on, Part, Spot, place, grown, bound_all, copied, scoped, next_given, first_body, invoked_body, invoked_super, invoked, resolved, resolved_row, resolved_asides, resolved_entries, resolved_condition, resolved_filters, resolved_values, placed_body, resolved_stmt, resolved_body, resolved_choice, left_out}
 use Rattle.jt_meaning.specs.Bytes.{value_bytes}
-use Rattle.jt_slots.specs.Values.{literal, as_value}
+use Rattle.jt_slots.specs.Values.{literal}
 use Rattle.jt_expr.specs.Sizes.{literal_bytes, expr_bytes, exprs_bytes, pairs_bytes}
 use Rattle.jt_parse.specs.Bytes.{condition_bytes, filtering_bytes, stmt_bytes, body_bytes, branch_bytes}
 
@@ -42,10 +42,6 @@ literal_is (written.number n) = refl
 literal_is (written.text x) = refl
 literal_is (written.truth b) = refl
 literal_is written.nothing = refl
-
-empty_is : (b : Bool) → value_bytes (as_value b []) ≡ 0
-empty_is true = refl
-empty_is false = refl
 
 abbrev expr_count : SExpr Constant → ℕ
 expr_count e = bytes_in (expr_values e)
@@ -151,15 +147,11 @@ module _ (world : World) (order : List Home) where
   body_counted h on None es k = omega arith
   body_counted h on (Some i) es k = omega (arith, k)
 
-  next_counted : (h : Home) (on : Bool) (i : Option ℕ) (es : SRow Constant) → row_count es ≡ 0 → expr_count (invoked_next world order h on i es) ≤ 0
-  next_counted h on None es k = omega (arith, empty_is on)
-  next_counted h on (Some i) es k = omega (arith, k)
-
   super_counted : (sp : Spot) (p : Option Part) → expr_count (invoked_super world order sp p) ≤ 0
   super_counted sp None = omega arith
   super_counted sp (Some p) =
       let xs = block_parameters world order sp.home p.name in
-      next_counted sp.home sp.escaping (next_given p.behind) (first_locals 0 xs) (first_count 0 xs)
+      body_counted sp.home sp.escaping (next_given p.behind) (first_locals 0 xs) (first_count 0 xs)
 
   invoked_counted : (c : Callee) (sp : Spot) (row asides : SRow Constant → SRow Constant) (n : ℕ) (ks : Table) (w v : ℕ) → Front w row → Front v asides
       → expr_count (invoked world order c sp row asides n ks) ≤ w + v
@@ -276,10 +268,11 @@ module _ (world : World) (order : List Home) where
       let xs = block_parameters world order sp.home x in
       omega (arith, reads_count t xs, bytes_append (row_values (reads t xs)) [])
 
-  include_counted : (sp : Spot) (line : ℕ) (n : Text) (c : Bool) (b : Bool)
-      → body_count (if b then slots.end else followed (handed_on (place sp line) (if c then sp.table else []) (first_slot world order n) (names world order n)) (slots.stmt (run (unit world order (of_chain n)) slots.none) slots.end)) ≡ 0
-  include_counted sp line n c true = refl
-  include_counted sp line n c false =
+  include_counted : (sp : Spot) (line : ℕ) (n : Text) (missing c : Bool) (b : Bool)
+      → body_count (if b then left_out sp line missing else followed (handed_on (place sp line) (if c then sp.table else []) (first_slot world order n) (names world order n)) (slots.stmt (run (unit world order (of_chain n)) slots.none) slots.end)) ≡ 0
+  include_counted sp line n true c true = refl
+  include_counted sp line n false c true = refl
+  include_counted sp line n missing c false =
       let xs = names world order n in
       let hs = handed_on (place sp line) (if c then sp.table else []) (first_slot world order n) xs in
       omega (arith, followed_count hs (slots.stmt (run (unit world order (of_chain n)) slots.none) slots.end), handed_count (place sp line) (if c then sp.table else []) (first_slot world order n) xs)
@@ -323,7 +316,7 @@ module _ (world : World) (order : List Home) where
         let inner = record sp { escaping = on } in
         omega (arith, scope_counted body inner (all_counted body (bound_all (set_in body) inner) k))
     stmt_counted (macro line x ps body) sp k = omega arith
-    stmt_counted (include line n missing with_context) sp k = omega (arith, include_counted sp line n with_context (is_none (world.sources n)))
+    stmt_counted (include line n missing with_context) sp k = omega (arith, include_counted sp line n missing with_context (is_none (world.sources n)))
     stmt_counted (extends line n) sp k = omega arith
     stmt_counted (block line x is required body) sp k =
         omega (arith, placed_counted sp (first_body (numbered_of world sp.home x)) x (if is then sp.table else globals world order sp.home))

@@ -22,7 +22,7 @@ use Rattle.jt_meaning.specs.Layout.{Table, slot_in, globals_from, names, numbere
 use Rattle.jt_slots.specs.Slots as slots
 use Rattle.jt_slots.specs.Slots.{Slot, local, global, SExpr, SRow, Targets, one, several, SBody, variable, run}
 use Rattle.jt_slots.specs.Pool.{Constant, own, known}
-use Rattle.jt_meaning.specs.Resolve.{value_or, turned_round, tested_by, filtered_by, in_form, field_from, followed, locals_from, fresh, fresh_targets, kept_slots, set_targets, filled, filled_some, first_locals, reads, handed_on, Part, Spot, place, grown, bound_table, bound_all, slot_of, copied, scoped, next_given, first_body, invoked_body, invoked_next, invoked_super, invoked, resolved, resolved_row, resolved_asides, resolved_entries, resolved_condition, resolved_filters, resolved_values, placed_body, resolved_stmt, resolved_body, resolved_choice}
+use Rattle.jt_meaning.specs.Resolve.{value_or, turned_round, tested_by, filtered_by, in_form, field_from, followed, locals_from, fresh, fresh_targets, kept_slots, set_targets, filled, filled_some, first_locals, reads, handed_on, Part, Spot, place, grown, bound_table, bound_all, slot_of, copied, scoped, next_given, first_body, invoked_body, invoked_super, invoked, resolved, resolved_row, resolved_asides, resolved_entries, resolved_condition, resolved_filters, resolved_values, placed_body, resolved_stmt, resolved_body, resolved_choice, left_out}
 use Rattle.jt_slots.specs.Locals.{slot_locals, slots_locals, targets_locals, expr_locals, row_locals, condition_locals, body_locals}
 use Rattle.jt_meaning.specs.Measure.{stmt_own, body_own, branch_own}
 use Rattle.jt_meaning.proofs.Sizing.{is_some_weight}
@@ -190,15 +190,11 @@ module _ (n : ℕ) (some : 1 ≤ n) where
     body_localed h on None es k = omega arith
     body_localed h on (Some i) es k = k
 
-    next_localed : (h : Home) (on : Bool) (i : Option ℕ) (es : SRow Constant) → row_locals es ≤ n → expr_locals (invoked_next world order h on i es) ≤ n
-    next_localed h on None es k = omega arith
-    next_localed h on (Some i) es k = k
-
     super_localed : (sp : Spot) (p : Option Part) → expr_locals (invoked_super world order sp p) ≤ n
     super_localed sp None = omega arith
     super_localed sp (Some p) =
         let xs = block_parameters world order sp.home p.name in
-        next_localed sp.home sp.escaping (next_given p.behind) (first_locals 0 xs) (first_local 0 xs (omega (arith, few sp.home p.name)))
+        body_localed sp.home sp.escaping (next_given p.behind) (first_locals 0 xs) (first_local 0 xs (omega (arith, few sp.home p.name)))
 
     invoked_localed : (c : Callee) (sp : Spot) (row asides : SRow Constant → SRow Constant) (m : ℕ) (ks : Table) → Below ks → Front row → Front asides → expr_locals (invoked world order c sp row asides m ks) ≤ n
     invoked_localed (a_macro x) sp row asides m ks h r a =
@@ -297,10 +293,11 @@ module _ (n : ℕ) (some : 1 ≤ n) where
     seen_below true t h = h
     seen_below false t h = tt
 
-    include_localed : (sp : Spot) (line : ℕ) (m : Text) (c : Bool) (b : Bool) → Below sp.table
-        → body_locals (if b then slots.end else followed (handed_on (place sp line) (if c then sp.table else []) (first_slot world order m) (names world order m)) (slots.stmt (run (unit world order (of_chain m)) slots.none) slots.end)) ≤ n
-    include_localed sp line m c true t = omega arith
-    include_localed sp line m c false t =
+    include_localed : (sp : Spot) (line : ℕ) (m : Text) (missing c : Bool) (b : Bool) → Below sp.table
+        → body_locals (if b then left_out sp line missing else followed (handed_on (place sp line) (if c then sp.table else []) (first_slot world order m) (names world order m)) (slots.stmt (run (unit world order (of_chain m)) slots.none) slots.end)) ≤ n
+    include_localed sp line m true c true t = omega arith
+    include_localed sp line m false c true t = omega arith
+    include_localed sp line m missing c false t =
         let xs = names world order m in
         let hs = handed_on (place sp line) (if c then sp.table else []) (first_slot world order m) xs in
         omega (arith, followed_local hs (slots.stmt (run (unit world order (of_chain m)) slots.none) slots.end), handed_local (place sp line) (if c then sp.table else []) (first_slot world order m) xs (seen_below c sp.table t))
@@ -336,7 +333,7 @@ module _ (n : ℕ) (some : 1 ≤ n) where
           let inner = record sp { escaping = on } in
           scope_localed body inner (t) (omega (arith, k)) (all_localed body (bound_all (set_in body) inner) (bound_below (set_in body) (sp.free) (sp.table) (omega (arith, k, in_few body)) (t)) (omega (arith, k)))
       stmt_localed (macro line x ps body) sp t k = omega arith
-      stmt_localed (include line m missing with_context) sp t k = include_localed sp line m with_context (is_none (world.sources m)) t
+      stmt_localed (include line m missing with_context) sp t k = include_localed sp line m missing with_context (is_none (world.sources m)) t
       stmt_localed (extends line m) sp t k = omega arith
       stmt_localed (block line x is required body) sp t k =
           placed_localed sp (first_body (numbered_of world sp.home x)) x (if is then sp.table else globals world order sp.home) (table_below is sp t)

@@ -22,7 +22,7 @@ use Rattle.jt_meaning.specs.Layout.{Table, slot_in, names, numbered_of, globals,
 use Rattle.jt_slots.specs.Slots as slots
 use Rattle.jt_slots.specs.Slots.{Slot, local, SExpr, SRow, Targets, one, several, SBody, variable, run}
 use Rattle.jt_slots.specs.Pool.{Constant, own, known}
-use Rattle.jt_meaning.specs.Resolve.{value_or, turned_round, tested_by, filtered_by, in_form, field_from, followed, locals_from, fresh_targets, set_targets, filled, filled_some, first_locals, reads, handed_on, Part, Spot, place, grown, bound_all, copied, scoped, next_given, first_body, invoked_body, invoked_next, invoked_super, invoked, resolved, resolved_row, resolved_asides, resolved_entries, resolved_condition, resolved_filters, resolved_values, placed_body, resolved_stmt, resolved_body, resolved_choice}
+use Rattle.jt_meaning.specs.Resolve.{value_or, turned_round, tested_by, filtered_by, in_form, field_from, followed, locals_from, fresh_targets, set_targets, filled, filled_some, first_locals, reads, handed_on, Part, Spot, place, grown, bound_all, copied, scoped, next_given, first_body, invoked_body, invoked_super, invoked, resolved, resolved_row, resolved_asides, resolved_entries, resolved_condition, resolved_filters, resolved_values, placed_body, resolved_stmt, resolved_body, resolved_choice, left_out}
 use Rattle.jt_slots.specs.Size.{targets_height, expr_height, row_height, condition_height, body_height}
 use Rattle.jt_meaning.specs.Measure.{HasAtMost}
 use Rattle.jt_parse.specs.Trees.{stmt_bound, body_bound, branch_bound}
@@ -188,15 +188,11 @@ module _ (world : World) (order : List Home) (q : ℕ) where
   body_low h on None es k = omega arith
   body_low h on (Some i) es k = omega (arith, k)
 
-  next_low : (h : Home) (on : Bool) (i : Option ℕ) (es : SRow Constant) → row_height es ≤ q → expr_height (invoked_next world order h on i es) ≤ 1 + q
-  next_low h on None es k = omega arith
-  next_low h on (Some i) es k = omega (arith, k)
-
   super_low : (sp : Spot) (p : Option Part) → ((x : Text) → length (block_parameters world order sp.home x) ≤ q) → expr_height (invoked_super world order sp p) ≤ 1 + q
   super_low sp None k = omega arith
   super_low sp (Some p) k =
       let xs = block_parameters world order sp.home p.name in
-      next_low sp.home sp.escaping (next_given p.behind) (first_locals 0 xs) (omega (arith, first_low 0 xs, k p.name))
+      body_low sp.home sp.escaping (next_given p.behind) (first_locals 0 xs) (omega (arith, first_low 0 xs, k p.name))
 
   -- rows in front of others
   abbrev RowLow : ℕ → (SRow Constant → SRow Constant) → Type 0
@@ -309,10 +305,11 @@ module _ (world : World) (order : List Home) (q : ℕ) where
   placed_low sp None x t k = omega arith
   placed_low sp (Some i) x t k = omega (arith, reads_low t (block_parameters world order sp.home x), k)
 
-  include_low : (sp : Spot) (line : ℕ) (n : Text) (c : Bool) (b : Bool)
-      → body_height (if b then slots.end else followed (handed_on (place sp line) (if c then sp.table else []) (first_slot world order n) (names world order n)) (slots.stmt (run (unit world order (of_chain n)) slots.none) slots.end)) ≤ 1
-  include_low sp line n c true = omega arith
-  include_low sp line n c false =
+  include_low : (sp : Spot) (line : ℕ) (n : Text) (missing c : Bool) (b : Bool)
+      → body_height (if b then left_out sp line missing else followed (handed_on (place sp line) (if c then sp.table else []) (first_slot world order n) (names world order n)) (slots.stmt (run (unit world order (of_chain n)) slots.none) slots.end)) ≤ 1
+  include_low sp line n true c true = omega arith
+  include_low sp line n false c true = omega arith
+  include_low sp line n missing c false =
       let xs = names world order n in
       let hs = handed_on (place sp line) (if c then sp.table else []) (first_slot world order n) xs in
       omega (arith, followed_low hs (slots.stmt (run (unit world order (of_chain n)) slots.none) slots.end), handed_low (place sp line) (if c then sp.table else []) (first_slot world order n) xs)
@@ -341,7 +338,7 @@ module _ (world : World) (order : List Home) (q : ℕ) where
         let inner = record sp { escaping = on } in
         omega (arith, scope_low body inner (all_low body (bound_all (set_in body) inner) k (omega (arith, g))))
     stmt_low (macro line x ps body) sp k g = omega arith
-    stmt_low (include line n missing with_context) sp k g = omega (arith, include_low sp line n with_context (is_none (world.sources n)))
+    stmt_low (include line n missing with_context) sp k g = omega (arith, include_low sp line n missing with_context (is_none (world.sources n)))
     stmt_low (extends line n) sp k g = omega arith
     stmt_low (block line x is required body) sp k g =
         omega (arith, placed_low sp (first_body (numbered_of world sp.home x)) x (if is then sp.table else globals world order sp.home) (k.blocks x))

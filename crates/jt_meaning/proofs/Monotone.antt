@@ -10,7 +10,7 @@ use Rattle.jt_expr.specs.Trees as written
 use Rattle.jt_expr.specs.Trees.{Expr, constant, name, group, list_of, map_of, attribute, item, unary, binary, when, choice, Exprs, no_exprs, expr, no_pairs, pair}
 use Rattle.jt_slots.specs.Got.{Place, Got, gives, fails, deeper, bind, at}
 use Rattle.jt_meaning.specs.Operators.{Form, operation, negation, conjunction, disjunction, form}
-use Rattle.jt_meaning.specs.Expressions.{asked, turned, either, combined, filtered, block_text, next_text, super_text, called, value, values, named_values}
+use Rattle.jt_meaning.specs.Expressions.{asked, turned, either, combined, filtered, block_text, super_text, called, value, values, named_values}
 use Rattle.jt_slots.specs.Tests.{test_named}
 use Rattle.jt_parse.specs.Trees.{Text, Filtering, Stmt, data_of, print, choose, for_each, set, set_block, with_values, filter_block, autoescape, macro, include, extends, block, Body, end, stmt, Branches, no_branches, branch}
 use Rattle.jt_meaning.specs.Env.{Env, inside, top}
@@ -74,13 +74,9 @@ module _ (world : World) (c d : Calls) (under : (x : Called) → Under (c x) (d 
   block_under h [] env = same
   block_under h (b ∷ bs) env = under _
 
-  next_under : (h : Home) (bs : List BlockBody) (env : Env) → Under (next_text c h bs env) (next_text d h bs env)
-  next_under h [] env = same
-  next_under h (b ∷ bs) env = under _
-
   super_under : (h : Home) (q : Option Placement) → Under (super_text c h q) (super_text d h q)
   super_under h None = same
-  super_under h (Some q) = next_under h (from_given q.behind) q.env
+  super_under h (Some q) = block_under h (from_given q.behind) q.env
 
   called_under : (f : Callee) (a : Around) (env : Env) {g g' : Got (List Tree)} {k k' : Got Pairs} → Under g g' → Under k k' → Under (called world c f a env g k) (called world d f a env g' k')
   called_under (a_macro m) a env u w = bound u (λ vs. bound w (λ ks. bound (under _) (λ s. same)))

@@ -13,6 +13,7 @@ use Rattle.jt_rules.specs.Known.{ChainsKnown}
 use Rattle.jt_meaning.specs.Layout.{shared}
 use Rattle.jt_meaning.specs.Programs.{routines, program}
 use Rattle.jt_inherit.specs.Includes.{InOrder}
+use Rattle.jt_inherit.specs.Rules.{Reaches, KeepsRules}
 use Rattle.jt_rules.specs.Walk.{chains_broken}
 use Rattle.jt_meaning.proofs.Ordering.{Every}
 use Rattle.jt_meaning.proofs.Served.{routines_serve}
@@ -72,8 +73,9 @@ module _ (fs : Filters) (rs : List (Routine Constant)) (k : ℕ) where
   all_placed [] n h = tt
   all_placed (q ∷ qs) n h = (body_placed false q.body n h.0, all_placed qs (n + length (body_values q.body)) h.1)
 
-pub program_takes : (world : World) (entry : Home) (rest : List Home) → InOrder world.sources (entry ∷ rest) → chains_broken world (entry ∷ rest) ≡ None → ChainsKnown world (entry ∷ rest)
+pub program_takes : (world : World) (entry : Home) (rest : List Home) → InOrder world.sources (entry ∷ rest) → AllByRecursion (Reaches world.sources world.escaping entry) (entry ∷ rest) → KeepsRules world.sources world.escaping entry
+    → chains_broken world (entry ∷ rest) ≡ None → ChainsKnown world (entry ∷ rest)
     → AllByRecursion (λ r. BodyTakes world.filters (program world (entry ∷ rest) entry).routines false r.body) (program world (entry ∷ rest) entry).routines
-program_takes world entry rest ordered kept known =
+program_takes world entry rest ordered reached unbroken kept known =
     all_placed world.filters (routines world (entry ∷ rest)) (length (shared world (entry ∷ rest))) (routines world (entry ∷ rest)) (length (shared world (entry ∷ rest)))
-    (routines_serve world (entry ∷ rest) (entry ∷ rest) ordered (λ h e. e) kept known)
+    (routines_serve world (entry ∷ rest) (entry ∷ rest) entry ordered (λ h e. e) reached unbroken kept known)

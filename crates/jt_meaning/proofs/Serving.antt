@@ -1,5 +1,5 @@
 -- Where the rules are kept and each test and filter is known, each routine of a program gets as many values as it takes.
-use Rattle.std.proofs.Common.{◌≡◌, ℕ, suc, ◌+◌, Bool, true, false, if◌then◌else◌, List, [], ◌∷◌, length, Option, Some, None, refl, sym, ap, ◌∙◌, subst, inl, inr}
+use Rattle.std.proofs.Common.{◌≡◌, ℕ, suc, ◌+◌, Bool, true, false, if◌then◌else◌, List, [], ◌∷◌, ◌++◌, length, Option, Some, None, refl, sym, ap, ◌∙◌, subst, inl, inr}
 use Rattle.std.specs.Option.{option_or, is_none}
 use Rattle.jt_expr.specs.Trees as written
 use Rattle.jt_expr.specs.Trees.{Expr}
@@ -18,7 +18,7 @@ use Rattle.jt_slots.specs.Takes.{HasParameters, ConditionTakes, BodyTakes}
 use Rattle.jt_rules.specs.Known.{ExprKnown, ConditionKnown, FilteringKnown, StmtKnown, BodyKnown, BranchesKnown}
 use Rattle.jt_meaning.specs.Layout.{Table, slot_in, of_chain, block_parameters, globals, numbered_of, unit, names, first_slot}
 use Rattle.jt_slots.specs.Pool.{Constant, known}
-use Rattle.jt_meaning.specs.Resolve.{followed, alone, reads, handed_on, filled_some, locals_from, Spot, place, grown, bound_all, copied, scoped, first_body, resolved_row, resolved_asides, resolved_condition, resolved_filters, resolved_values, placed_body, resolved_stmt, resolved_body, resolved_choice}
+use Rattle.jt_meaning.specs.Resolve.{followed, alone, reads, handed_on, filled_some, locals_from, Spot, place, left_out, grown, bound_all, copied, scoped, first_body, resolved_row, resolved_asides, resolved_condition, resolved_filters, resolved_values, placed_body, resolved_stmt, resolved_body, resolved_choice}
 use Rattle.jt_rules.specs.Walk.{Within, filter_broken, all_used, used, broken, row_broken, pairs_broken, condition_broken, filtering_broken, stmt_broken, body_broken, branches_broken}
 use Rattle.jt_meaning.proofs.Calling.{Included}
 use Rattle.jt_meaning.proofs.Stating.{Each, each_front, each_back}
@@ -83,13 +83,27 @@ module _ (world : World) (order : List Home) where
   abbrev pub Embodied : Home → List BlockBody → Type 0
   Embodied h bs = Each (λ b. HasBody world order h b.name) bs
 
+  -- the name has a source
+  abbrev pub HasSource : Text → Type 0
+  HasSource x = is_none (world.sources x) ≡ false
+
+  -- names that are included, and those among them that may not be missing
+  abbrev pub Needed : Home → List Text → List Text → Type 0
+  Needed h xs ys = Each (Included world order h) xs × Each HasSource ys
+
+  pub needed_front : (h : Home) (xs ys us vs : List Text) → Needed h (xs ++ ys) (us ++ vs) → Needed h xs us
+  needed_front h xs ys us vs n = (each_front (Included world order h) xs ys n.0, each_front HasSource us vs n.1)
+
+  pub needed_back : (h : Home) (xs ys us vs : List Text) → Needed h (xs ++ ys) (us ++ vs) → Needed h ys vs
+  needed_back h xs ys us vs n = (each_back (Included world order h) xs ys n.0, each_back HasSource us vs n.1)
+
   mutual
-    pub stmt_takes : (s : Stmt) (sp : Spot) (w : Within) → among sp.home order ≡ true → PartTail world order w.in_block sp.home sp.part → stmt_broken world sp.home s w ≡ None → StmtKnown world.filters s → Each (Included world order sp.home) (needs_by true s) → Embodied sp.home (blocks_of sp.template s sp.escaping) → BTakes w.in_loop (resolved_stmt world order s sp)
+    pub stmt_takes : (s : Stmt) (sp : Spot) (w : Within) → among sp.home order ≡ true → PartTail world order w.in_block sp.home sp.part → stmt_broken world sp.home s w ≡ None → StmtKnown world.filters s → Needed sp.home (needs_by true s) (needs_by false s) → Embodied sp.home (blocks_of sp.template s sp.escaping) → BTakes w.in_loop (resolved_stmt world order s sp)
     stmt_takes (data_of s) sp w e t h k n d = (tt, tt)
     stmt_takes (print line a) sp w e t h k n d = (expr_takes world order w a sp e t h k, tt)
     stmt_takes (choose bs other) sp w e t h k n d =
-        choice_takes bs sp w (resolved_body world order other sp) e t (none_first (branches_broken world sp.home bs w) (body_broken world sp.home other w) h) k.0 (each_front (Included world order sp.home) (needs_under true bs) (needs_in true other) n) (each_front (λ b. HasBody world order sp.home b.name) (blocks_under sp.template bs sp.escaping) (blocks_in sp.template other sp.escaping) d)
-        (body_serves other sp w e t (none_second (branches_broken world sp.home bs w) (body_broken world sp.home other w) h) k.1 (each_back (Included world order sp.home) (needs_under true bs) (needs_in true other) n) (each_back (λ b. HasBody world order sp.home b.name) (blocks_under sp.template bs sp.escaping) (blocks_in sp.template other sp.escaping) d))
+        choice_takes bs sp w (resolved_body world order other sp) e t (none_first (branches_broken world sp.home bs w) (body_broken world sp.home other w) h) k.0 (needed_front sp.home (needs_under true bs) (needs_in true other) (needs_under false bs) (needs_in false other) n) (each_front (λ b. HasBody world order sp.home b.name) (blocks_under sp.template bs sp.escaping) (blocks_in sp.template other sp.escaping) d)
+        (body_serves other sp w e t (none_second (branches_broken world sp.home bs w) (body_broken world sp.home other w) h) k.1 (needed_back sp.home (needs_under true bs) (needs_in true other) (needs_under false bs) (needs_in false other) n) (each_back (λ b. HasBody world order sp.home b.name) (blocks_under sp.template bs sp.escaping) (blocks_in sp.template other sp.escaping) d))
     stmt_takes (for_each line xs a c body other) sp w e t h k n d =
         let h1 = none_second (broken world sp.home a w) _ h in
         let h2 = none_second (all_used world sp.home xs) _ h1 in
@@ -98,8 +112,8 @@ module _ (world : World) (order : List Home) where
             expr_takes world order w a sp e t (none_first (broken world sp.home a w) _ h) k.0,
             condition_takes w c (bound_all xs sp) e t (none_first (condition_broken world sp.home c w) _ h2) k.1,
             copied_takes true (place sp 1) (bound_all xs sp).table (bound_all xs sp).free (set_in body) (resolved_body world order body (bound_all (set_in body) (bound_all xs sp)))
-                (body_serves body (bound_all (set_in body) (bound_all xs sp)) (record w { in_loop = true }) e t (none_first (body_broken world sp.home body (record w { in_loop = true })) _ h3) k.2 (each_front (Included world order sp.home) (needs_in true body) (needs_in true other) n) (each_front (λ b. HasBody world order sp.home b.name) (blocks_in sp.template body sp.escaping) (blocks_in sp.template other sp.escaping) d)),
-            body_serves other sp w e t (none_second (body_broken world sp.home body (record w { in_loop = true })) _ h3) k.3 (each_back (Included world order sp.home) (needs_in true body) (needs_in true other) n) (each_back (λ b. HasBody world order sp.home b.name) (blocks_in sp.template body sp.escaping) (blocks_in sp.template other sp.escaping) d),
+                (body_serves body (bound_all (set_in body) (bound_all xs sp)) (record w { in_loop = true }) e t (none_first (body_broken world sp.home body (record w { in_loop = true })) _ h3) k.2 (needed_front sp.home (needs_in true body) (needs_in true other) (needs_in false body) (needs_in false other) n) (each_front (λ b. HasBody world order sp.home b.name) (blocks_in sp.template body sp.escaping) (blocks_in sp.template other sp.escaping) d)),
+            body_serves other sp w e t (none_second (body_broken world sp.home body (record w { in_loop = true })) _ h3) k.3 (needed_back sp.home (needs_in true body) (needs_in true other) (needs_in false body) (needs_in false other) n) (each_back (λ b. HasBody world order sp.home b.name) (blocks_in sp.template body sp.escaping) (blocks_in sp.template other sp.escaping) d),
           ),
           tt,
         )
@@ -122,10 +136,14 @@ module _ (world : World) (order : List Home) where
     stmt_takes (macro line x ps body) sp w e t h k n d = tt
     stmt_takes (include line x ignore_missing with_context) sp w e t h k n d = including (is_none (world.sources x)) refl
       where
+        missing : (i : Bool) → is_none (world.sources x) ≡ true → Each HasSource (needs_by false (include line x i with_context)) → BTakes w.in_loop (left_out sp line i)
+        missing true f s = tt
+        missing false f s = absurd (no_both f s.0)
+
         including : (c : Bool) → is_none (world.sources x) ≡ c
-            → BTakes w.in_loop (if c then slots.end else followed (handed_on (place sp line) (if with_context then sp.table else []) (first_slot world order x) (names world order x)) (alone (run (unit world order (of_chain x)) none)))
-        including true f = tt
-        including false f = by_source n.0
+            → BTakes w.in_loop (if c then left_out sp line ignore_missing else followed (handed_on (place sp line) (if with_context then sp.table else []) (first_slot world order x) (names world order x)) (alone (run (unit world order (of_chain x)) none)))
+        including true f = missing ignore_missing f n.1
+        including false f = by_source n.0.0
           where
             by_source : Included world order sp.home x → BTakes w.in_loop (followed (handed_on (place sp line) (if with_context then sp.table else []) (first_slot world order x) (names world order x)) (alone (run (unit world order (of_chain x)) none)))
             by_source (inl g) = absurd (no_both g f)
@@ -136,22 +154,22 @@ module _ (world : World) (order : List Home) where
     stmt_takes (extends line x) sp w e t h k n d = tt
     stmt_takes (block line x scoped required body) sp w e t h k n d = placed_takes w.in_loop sp x (if scoped then sp.table else globals world order sp.home) (numbered_of world sp.home x) e d.0 refl
 
-    pub body_serves : (c : Body) (sp : Spot) (w : Within) → among sp.home order ≡ true → PartTail world order w.in_block sp.home sp.part → body_broken world sp.home c w ≡ None → BodyKnown world.filters c → Each (Included world order sp.home) (needs_in true c) → Embodied sp.home (blocks_in sp.template c sp.escaping) → BTakes w.in_loop (resolved_body world order c sp)
+    pub body_serves : (c : Body) (sp : Spot) (w : Within) → among sp.home order ≡ true → PartTail world order w.in_block sp.home sp.part → body_broken world sp.home c w ≡ None → BodyKnown world.filters c → Needed sp.home (needs_in true c) (needs_in false c) → Embodied sp.home (blocks_in sp.template c sp.escaping) → BTakes w.in_loop (resolved_body world order c sp)
     body_serves end sp w e t h k n d = tt
     body_serves (stmt s rest) sp w e t h k n d =
         followed_takes w.in_loop (resolved_stmt world order s sp) (resolved_body world order rest sp)
-        (stmt_takes s sp w e t (none_first (stmt_broken world sp.home s w) (body_broken world sp.home rest w) h) k.0 (each_front (Included world order sp.home) (needs_by true s) (needs_in true rest) n) (each_front (λ b. HasBody world order sp.home b.name) (blocks_of sp.template s sp.escaping) (blocks_in sp.template rest sp.escaping) d))
-        (body_serves rest sp w e t (none_second (stmt_broken world sp.home s w) (body_broken world sp.home rest w) h) k.1 (each_back (Included world order sp.home) (needs_by true s) (needs_in true rest) n) (each_back (λ b. HasBody world order sp.home b.name) (blocks_of sp.template s sp.escaping) (blocks_in sp.template rest sp.escaping) d))
+        (stmt_takes s sp w e t (none_first (stmt_broken world sp.home s w) (body_broken world sp.home rest w) h) k.0 (needed_front sp.home (needs_by true s) (needs_in true rest) (needs_by false s) (needs_in false rest) n) (each_front (λ b. HasBody world order sp.home b.name) (blocks_of sp.template s sp.escaping) (blocks_in sp.template rest sp.escaping) d))
+        (body_serves rest sp w e t (none_second (stmt_broken world sp.home s w) (body_broken world sp.home rest w) h) k.1 (needed_back sp.home (needs_by true s) (needs_in true rest) (needs_by false s) (needs_in false rest) n) (each_back (λ b. HasBody world order sp.home b.name) (blocks_of sp.template s sp.escaping) (blocks_in sp.template rest sp.escaping) d))
 
-    pub choice_takes : (bs : Branches) (sp : Spot) (w : Within) (other : SBody Constant) → among sp.home order ≡ true → PartTail world order w.in_block sp.home sp.part → branches_broken world sp.home bs w ≡ None → BranchesKnown world.filters bs → Each (Included world order sp.home) (needs_under true bs) → Embodied sp.home (blocks_under sp.template bs sp.escaping)
+    pub choice_takes : (bs : Branches) (sp : Spot) (w : Within) (other : SBody Constant) → among sp.home order ≡ true → PartTail world order w.in_block sp.home sp.part → branches_broken world sp.home bs w ≡ None → BranchesKnown world.filters bs → Needed sp.home (needs_under true bs) (needs_under false bs) → Embodied sp.home (blocks_under sp.template bs sp.escaping)
         → BTakes w.in_loop other → BTakes w.in_loop (resolved_choice world order bs sp other)
     choice_takes no_branches sp w other e t h k n d r = r
     choice_takes (branch line c body rest) sp w other e t h k n d r =
         let h1 = none_first (option_or (broken world sp.home c w) (body_broken world sp.home body w)) (branches_broken world sp.home rest w) h in (
           (
             expr_takes world order w c sp e t (none_first (broken world sp.home c w) (body_broken world sp.home body w) h1) k.0,
-            body_serves body sp w e t (none_second (broken world sp.home c w) (body_broken world sp.home body w) h1) k.1 (each_front (Included world order sp.home) (needs_in true body) (needs_under true rest) n) (each_front (λ b. HasBody world order sp.home b.name) (blocks_in sp.template body sp.escaping) (blocks_under sp.template rest sp.escaping) d),
-            choice_takes rest sp w other e t (none_second (option_or (broken world sp.home c w) (body_broken world sp.home body w)) (branches_broken world sp.home rest w) h) k.2 (each_back (Included world order sp.home) (needs_in true body) (needs_under true rest) n) (each_back (λ b. HasBody world order sp.home b.name) (blocks_in sp.template body sp.escaping) (blocks_under sp.template rest sp.escaping) d) r,
+            body_serves body sp w e t (none_second (broken world sp.home c w) (body_broken world sp.home body w) h1) k.1 (needed_front sp.home (needs_in true body) (needs_under true rest) (needs_in false body) (needs_under false rest) n) (each_front (λ b. HasBody world order sp.home b.name) (blocks_in sp.template body sp.escaping) (blocks_under sp.template rest sp.escaping) d),
+            choice_takes rest sp w other e t (none_second (option_or (broken world sp.home c w) (body_broken world sp.home body w)) (branches_broken world sp.home rest w) h) k.2 (needed_back sp.home (needs_in true body) (needs_under true rest) (needs_in false body) (needs_under false rest) n) (each_back (λ b. HasBody world order sp.home b.name) (blocks_in sp.template body sp.escaping) (blocks_under sp.template rest sp.escaping) d) r,
           ),
           tt,
         )

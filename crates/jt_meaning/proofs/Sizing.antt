@@ -25,7 +25,7 @@ use Rattle.jt_meaning.specs.Layout.{Table, slot_in, names, numbered_of, globals,
 use Rattle.jt_slots.specs.Slots as slots
 use Rattle.jt_slots.specs.Slots.{Slot, local, SExpr, SRow, Targets, one, several, SBody, variable, run}
 use Rattle.jt_slots.specs.Pool.{Constant, own, known}
-use Rattle.jt_meaning.specs.Resolve.{value_or, turned_round, tested_by, filtered_by, in_form, field_from, followed, locals_from, fresh, fresh_targets, kept_slots, set_targets, filled, filled_some, first_locals, reads, handed_on, Part, Spot, place, grown, bound_all, copied, scoped, next_given, first_body, invoked_body, invoked_next, invoked_super, invoked, resolved, resolved_row, resolved_asides, resolved_entries, resolved_condition, resolved_filters, resolved_values, placed_body, resolved_stmt, resolved_body, resolved_choice}
+use Rattle.jt_meaning.specs.Resolve.{value_or, turned_round, tested_by, filtered_by, in_form, field_from, followed, locals_from, fresh, fresh_targets, kept_slots, set_targets, filled, filled_some, first_locals, reads, handed_on, Part, Spot, place, grown, bound_all, copied, scoped, next_given, first_body, invoked_body, invoked_super, invoked, resolved, resolved_row, resolved_asides, resolved_entries, resolved_condition, resolved_filters, resolved_values, placed_body, resolved_stmt, resolved_body, resolved_choice, left_out}
 use Rattle.jt_slots.specs.Size.{targets_size, expr_size, row_size, condition_size, body_size}
 use Rattle.jt_meaning.specs.Measure.{stmt_own, body_own, branch_own, IsFew}
 use Rattle.jt_meaning.specs.Layout.{scopes}
@@ -235,15 +235,11 @@ module _ (world : World) (order : List Home) where
   body_sized h on None es k = omega arith
   body_sized h on (Some i) es k = omega (arith, k)
 
-  next_sized : (h : Home) (on : Bool) (i : Option ℕ) (es : SRow Constant) → row_size es ≤ 200 → expr_size (invoked_next world order h on i es) ≤ 203
-  next_sized h on None es k = omega arith
-  next_sized h on (Some i) es k = omega (arith, k)
-
   super_sized : (sp : Spot) (p : Option Part) → HasFewNames world order sp.home → expr_size (invoked_super world order sp p) ≤ 203
   super_sized sp None k = omega arith
   super_sized sp (Some p) k =
       let xs = block_parameters world order sp.home p.name in
-      next_sized sp.home sp.escaping (next_given p.behind) (first_locals 0 xs) (omega (arith, first_size 0 xs, parameters_few sp.home p.name k))
+      body_sized sp.home sp.escaping (next_given p.behind) (first_locals 0 xs) (omega (arith, first_size 0 xs, parameters_few sp.home p.name k))
 
   invoked_sized : (c : Callee) (sp : Spot) (row asides : SRow Constant → SRow Constant) (n : ℕ) (ks : Table) (w v : ℕ) → CalleeFew c → HasFewNames world order sp.home → Front w row → Front v asides
       → expr_size (invoked world order c sp row asides n ks) ≤ 100 * (1 + enclosed (w + v))
@@ -345,10 +341,11 @@ module _ (world : World) (order : List Home) where
   placed_sized sp None x t k = omega arith
   placed_sized sp (Some i) x t k = omega (arith, reads_size t (block_parameters world order sp.home x), parameters_few sp.home x k)
 
-  include_sized : (sp : Spot) (line : ℕ) (n : Text) (c : Bool) (b : Bool) → length (names world order n) ≤ 200
-      → body_size (if b then slots.end else followed (handed_on (place sp line) (if c then sp.table else []) (first_slot world order n) (names world order n)) (slots.stmt (run (unit world order (of_chain n)) slots.none) slots.end)) ≤ 401
-  include_sized sp line n c true k = omega arith
-  include_sized sp line n c false k =
+  include_sized : (sp : Spot) (line : ℕ) (n : Text) (missing c : Bool) (b : Bool) → length (names world order n) ≤ 200
+      → body_size (if b then left_out sp line missing else followed (handed_on (place sp line) (if c then sp.table else []) (first_slot world order n) (names world order n)) (slots.stmt (run (unit world order (of_chain n)) slots.none) slots.end)) ≤ 401
+  include_sized sp line n true c true k = omega arith
+  include_sized sp line n false c true k = omega arith
+  include_sized sp line n missing c false k =
       let xs = names world order n in
       let hs = handed_on (place sp line) (if c then sp.table else []) (first_slot world order n) xs in
       omega (arith, k, followed_size hs (slots.stmt (run (unit world order (of_chain n)) slots.none) slots.end), handed_size (place sp line) (if c then sp.table else []) (first_slot world order n) xs)
@@ -376,7 +373,7 @@ module _ (world : World) (order : List Home) where
     stmt_sized (filter_block line fs body) sp k = omega (arith, scope_sized body (grown sp) (all_sized body (bound_all (set_in body) (grown sp)) k), filters_sized fs (grown sp) (variable (local sp.free)) k)
     stmt_sized (autoescape line on body) sp k = omega (arith, scope_sized body (record sp { escaping = on }) (all_sized body (bound_all (set_in body) (record sp { escaping = on })) k))
     stmt_sized (macro line x ps body) sp k = omega arith
-    stmt_sized (include line n missing with_context) sp k = omega (arith, include_sized sp line n with_context (is_none (world.sources n)) ((k.names n).0))
+    stmt_sized (include line n missing with_context) sp k = omega (arith, include_sized sp line n missing with_context (is_none (world.sources n)) ((k.names n).0))
     stmt_sized (extends line n) sp k = omega arith
     stmt_sized (block line x is required body) sp k =
         omega (arith, placed_sized sp (first_body (numbered_of world sp.home x)) x (if is then sp.table else globals world order sp.home) (k.names sp.home))

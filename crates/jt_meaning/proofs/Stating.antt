@@ -18,14 +18,14 @@ use Rattle.jt_rules.specs.World.{World}
 use Rattle.jt_meaning.specs.Around.{Placement, State, the_chain, Calls}
 use Rattle.jt_inherit.specs.Uses.{keywords, expr_names, row_names, pair_names, condition_names, filtering_names, stmt_names, body_names, branch_names, set_by, set_in, set_under}
 use Rattle.jt_meaning.specs.Expressions.{block_text, value, named_values}
-use Rattle.jt_meaning.specs.Meaning.{put, within, captured, turns, gone_over, kept, through, meaning, meanings, chosen}
+use Rattle.jt_meaning.specs.Meaning.{put, within, captured, turns, gone_over, without_source, kept, through, meaning, meanings, chosen}
 use Rattle.jt_inherit.specs.Includes.{needs_by, needs_in, needs_under}
 use Rattle.jt_slots.specs.Slots as slots
 use Rattle.jt_slots.specs.Slots.{Slot, local, global, Targets, one, several, SExpr, SStmt, SBody, none, assign, capture, run, Memory, Valued, Listed, Written, SCalls, load, put_at, store, store_if, take, in_front, sturns, sgone_over, svalue, svalues, skept, smeaning, smeanings}
 use Rattle.jt_meaning.specs.Layout.{Table, slot_in, globals_from, of_chain, of_body, names, first_slot, globals, block_parameters, is_scoped, numbered_of, unit}
 use Rattle.jt_meaning.specs.Programs.{pool}
 use Rattle.jt_slots.specs.Pool.{Constant, constant_in}
-use Rattle.jt_meaning.specs.Resolve.{followed, alone, fresh_targets, slot_of, set_targets, reads, handed_on, Spot, Part, place, grown, bound_table, bound_all, copied, scoped, first_body, resolved, resolved_condition, resolved_filters, resolved_values, placed_body, resolved_stmt, resolved_body, resolved_choice}
+use Rattle.jt_meaning.specs.Resolve.{followed, alone, fresh_targets, slot_of, set_targets, reads, handed_on, Spot, Part, place, left_out, grown, bound_table, bound_all, copied, scoped, first_body, resolved, resolved_condition, resolved_filters, resolved_values, placed_body, resolved_stmt, resolved_body, resolved_choice}
 use Rattle.jt_meaning.proofs.Both.{Both, both, bind_both, at_both, if_both, weaken, left_both, right_both, at_bind, bind_gives, bind_assoc, bind_ext, by_left, by_right, checked_both, same_both, deep}
 use Rattle.jt_meaning.proofs.Reading.{among_front, among_back, same_text, is_same, no_both, IsInner, all_inner, all_globals, all_top, read_top, held, put_here}
 use Rattle.jt_meaning.proofs.Agreeing.{Kept, kept_same, kept_then, kept_less, kept_out, kept_store, kept_global, Held, global_slot, global_given, limit, Fits, Agrees, agrees_kept, pairs_held, copies_held, fits_all, InLocals, in_locals}
@@ -687,9 +687,13 @@ module _ (world : World) (order : List Home) (calls : Calls) (scall : SCalls) (m
     stmt_same (include line k ignore_missing with_context) sp l q b j S st m h i o n d =
         including (is_none (world.sources k)) refl
       where
-        including : (c : Bool) → is_none (world.sources k) ≡ c → Both (After sp q b j S m) (if c then gives st else bind (calls (the_chain k (if with_context then seen st.env else []))) (λ s. gives (put st s)))
-            (sbody (if c then slots.end else followed (handed_on (place sp line) (if with_context then sp.table else []) (first_slot world order k) (names world order k)) (alone (run (unit world order (of_chain k)) none))) l m)
-        including true e = both (record { here = h; kept = kept_same b j m })
+        missing : (i : Bool) → Both (After sp q b j S m) (without_source i st) (sbody (left_out sp line i) l m)
+        missing true = both (record { here = h; kept = kept_same b j m })
+        missing false = by_right (alone_same (slots.print (place sp line) sp.escaping slots.absent) l m) deep
+
+        including : (c : Bool) → is_none (world.sources k) ≡ c → Both (After sp q b j S m) (if c then without_source ignore_missing st else bind (calls (the_chain k (if with_context then seen st.env else []))) (λ s. gives (put st s)))
+            (sbody (if c then left_out sp line ignore_missing else followed (handed_on (place sp line) (if with_context then sp.table else []) (first_slot world order k) (names world order k)) (alone (run (unit world order (of_chain k)) none))) l m)
+        including true e = missing ignore_missing
         including false e = by_source n.0
           where
             by_source : Included world order sp.home k → Both (After sp q b j S m) (bind (calls (the_chain k (if with_context then seen st.env else []))) (λ s. gives (put st s)))

@@ -34,7 +34,7 @@ use Rattle.jt_slots.specs.Size.{row_count}
 use Rattle.jt_rules.specs.Known.{IsThere, ExprKnown, RowKnown, PairsKnown}
 use Rattle.jt_meaning.specs.Layout.{Table, slot_in, block_parameters, globals, numbered_of, default_place}
 use Rattle.jt_slots.specs.Pool.{Constant, own, known}
-use Rattle.jt_meaning.specs.Resolve.{value_or, operation_of, turned_round, tested_by, filtered_by, in_form, field_from, locals_from, filled, filled_some, first_locals, reads, Spot, Part, grown, next_given, first_body, invoked_body, invoked_next, invoked_super, invoked, resolved, resolved_row, resolved_asides, resolved_entries}
+use Rattle.jt_meaning.specs.Resolve.{value_or, operation_of, turned_round, tested_by, filtered_by, in_form, field_from, locals_from, filled, filled_some, first_locals, reads, Spot, Part, grown, next_given, first_body, invoked_body, invoked_super, invoked, resolved, resolved_row, resolved_asides, resolved_entries}
 use Rattle.jt_meaning.specs.Programs.{routines}
 use Rattle.jt_meaning.proofs.Calling.{Tail}
 use Rattle.jt_meaning.proofs.Valuing.{GivenBy, given_by, numbered_are, named_macro}
@@ -228,10 +228,10 @@ module _ (world : World) (order : List Home) where
       (subst (λ z. HasParameters z (row_count es)) (sym found.0) (ap (λ z. length (block_parameters world order h z)) found.1 ∙ sym c), r)
 
   -- what `super()` goes on with
-  next_takes : (l : Bool) (h : Home) (on : Bool) (x : Text) (bs : List (ℕ × BlockBody)) (cs : List BlockBody) (o : Option ℕ) (es : SRow Constant) → among h order ≡ true → Tail world order h x bs → GivenBy bs cs o → row_count es ≡ length (block_parameters world order h x) → RTakes l es
-      → ETakes l (invoked_next world order h on o es)
-  next_takes l h on x bs cs None es e t g c r = tt
-  next_takes l h on x bs cs (Some i) es e t g c r = body_takes l h on x bs cs i es e t g c r
+  next_takes : (l : Bool) (h : Home) (on : Bool) (x : Text) (bs : List (ℕ × BlockBody)) (cs : List BlockBody) (o : Option ℕ) (es : SRow Constant) → (o ≡ None → ⊥) → among h order ≡ true → Tail world order h x bs → GivenBy bs cs o
+      → row_count es ≡ length (block_parameters world order h x) → RTakes l es → ETakes l (invoked_body world order h on o es)
+  next_takes l h on x bs cs None es there e t g c r = absurd (there refl)
+  next_takes l h on x bs cs (Some i) es there e t g c r = body_takes l h on x bs cs i es e t g c r
 
   -- the block has a body in the chain
   abbrev pub HasBody : Home → Text → Type 0
@@ -243,10 +243,15 @@ module _ (world : World) (order : List Home) where
   pub none_numbered : (h : Home) (x : Text) → HasBody h x → numbered_of world h x ≡ [] → ⊥
   none_numbered h x there e = there (numbered_are world h x ∙ ap (map (λ (c : ℕ × BlockBody). c.1)) e)
 
-  -- where a body is resolved: with true, in a block
+  -- where a block's body is resolved: with true, `super()` can go on
+  pub record InPart (goes_on : Bool) (h : Home) (p : Part) : Type 0 where
+    pub tail : Tail world order h p.name p.behind
+    pub next : goes_on ≡ true → next_given p.behind ≡ None → ⊥
+
+  -- where a body is resolved: outside a block `super()` cannot go on
   abbrev pub PartTail : Bool → Home → Option Part → Type 0
-  PartTail inside h None = inside ≡ false
-  PartTail inside h (Some p) = Tail world order h p.name p.behind
+  PartTail goes_on h None = goes_on ≡ false
+  PartTail goes_on h (Some p) = InPart goes_on h p
 
   not_false : (b : Bool) → not b ≡ false → b ≡ true
   not_false true h = refl
@@ -302,10 +307,13 @@ module _ (world : World) (order : List Home) where
       (range_takes (count ts) (both_first (nat_lt 0 (count ts)) (nat_lt (count ts) 4 && no_keywords ps) right) (both_first (nat_lt (count ts) 4) (no_keywords ps) rest) ∙ (let m : count ts ≡ row_count (resolved_row world order ts sp none) = omega (arith, n) in m), rows none tt)
   call_takes a_super sp w f ts ps e t named h rows asides = super_takes sp.part t
     where
+      inside : w.in_block ≡ true
+      inside = not_false w.in_block (not_refused (not w.in_block) error.NotCallable (none_first (refused (not w.in_block) error.NotCallable) _ h))
+
       super_takes : (p : Option Part) → PartTail w.in_block sp.home p → ETakes w.in_loop (invoked_super world order sp p)
-      super_takes None t = absurd (no_both (not_false w.in_block (not_refused (not w.in_block) error.NotCallable (none_first (refused (not w.in_block) error.NotCallable) _ h))) t)
+      super_takes None t = absurd (no_both inside t)
       super_takes (Some p) t =
-          next_takes w.in_loop sp.home sp.escaping p.name p.behind (from_given (map (λ d. d.1) p.behind)) (next_given p.behind) (first_locals 0 (block_parameters world order sp.home p.name)) e t (given_by p.behind)
+          next_takes w.in_loop sp.home sp.escaping p.name p.behind (from_given (map (λ d. d.1) p.behind)) (next_given p.behind) (first_locals 0 (block_parameters world order sp.home p.name)) (t.next inside) e t.tail (given_by p.behind)
           (locals_count 0 (block_parameters world order sp.home p.name)) (locals_take w.in_loop 0 (block_parameters world order sp.home p.name))
   call_takes (a_block x) sp w f ts ps e t named h rows asides =
       block_takes (numbered_of world sp.home x) refl (none_numbered sp.home x (some_body sp.home x (none_first (refused (nat_lt (length (bodies world.sources world.escaping sp.home x)) 1) error.NotCallable) _ h)))

@@ -21,7 +21,7 @@ use Rattle.jt_slots.specs.Got.{Got, gives, fails, deeper, bind, checked}
 use Rattle.jt_meaning.specs.Operators.{unary_operation, Form, operation, negation, conjunction, disjunction, form, range_of}
 use Rattle.jt_slots.specs.Tests.{test_named}
 use Rattle.jt_slots.specs.Values.{literal, as_value}
-use Rattle.jt_meaning.specs.Expressions.{operated, asked, turned, either, combined, filtered, filter_parameters, entries_of, field_of, cycled, block_text, next_text, super_text, valued_text, called, value, values, named_values}
+use Rattle.jt_meaning.specs.Expressions.{operated, asked, turned, either, combined, filtered, filter_parameters, entries_of, field_of, cycled, block_text, super_text, valued_text, called, value, values, named_values}
 use Rattle.jt_inherit.specs.Uses.{count, keywords, expr_names, row_names, pair_names}
 use Rattle.jt_parse.specs.Trees.{Text, Parameter}
 use Rattle.jt_meaning.specs.Env.{Env, read, top}
@@ -35,7 +35,7 @@ use Rattle.jt_slots.specs.Slots.{Slot, local, global, Maker, operator, a_list, a
 use Rattle.jt_meaning.specs.Layout.{Table, slot_in, first_slot, of_macro, of_body, names, globals, block_parameters, is_scoped, numbered_of, numbered_bodies, counted_from, unit, default_place}
 use Rattle.jt_meaning.specs.Programs.{pool}
 use Rattle.jt_slots.specs.Pool.{Constant, own, known, constant_in}
-use Rattle.jt_meaning.specs.Resolve.{no_value, value_or, read_from, operation_of, turned_round, tested_by, filtered_by, in_form, field_from, locals_from, filled, filled_some, first_locals, reads, Spot, Part, grown, next_given, first_body, invoked_body, invoked_next, invoked_super, invoked, resolved, resolved_row, resolved_asides, resolved_entries}
+use Rattle.jt_meaning.specs.Resolve.{no_value, value_or, read_from, operation_of, turned_round, tested_by, filtered_by, in_form, field_from, locals_from, filled, filled_some, first_locals, reads, Spot, Part, grown, next_given, first_body, invoked_body, invoked_super, invoked, resolved, resolved_row, resolved_asides, resolved_entries}
 use Rattle.jt_meaning.proofs.Both.{Both, both, fault, deep, bind_both, if_both, weaken, right_both, bind_gives, bind_assoc, bind_ext, by_left, by_right}
 use Rattle.jt_meaning.proofs.Reading.{among_front, among_back, held, put_here}
 use Rattle.jt_meaning.proofs.Agreeing.{Kept, kept_same, kept_then, kept_less, kept_store, Held, limit, global_given}
@@ -386,15 +386,6 @@ module _ (world : World) (order : List Home) (calls : Calls) (scall : SCalls) (m
       by_right (ap (λ g. bind g (λ z. bind (scall (unit world order (of_body sp.home i)) z.values z.memory.globals) (λ w. valued (record z.memory { globals = w.globals }) (as_value on w.text)))) r)
       (text_both sp on (calls (the_block sp.home c cs env)) (scall (unit world order (of_body sp.home i)) vs m.globals) m (kept_same sp.free (end sp) m) refl call')
 
-  -- the same where `super()` goes on
-  next_both : {m : Memory} (sp : Spot) (on : Bool) (cs : List BlockBody) (o : Option ℕ) (env : Env) (es : SRow Constant) (x : Text) (bs : List (ℕ × BlockBody)) (vs : List Tree)
-      → Known world order sp.home → Tail world order sp.home x bs → GivenBy bs cs o → seen_row es m ≡ gives (record { values = vs; memory = m }) → Sees world order sp.home x env vs m.globals
-      → Same sp m (valued_text on (next_text calls sp.home cs env)) (invoked_next world order sp.home on o es)
-  next_both {m = m} sp on [] None env es x bs vs kn tail given r sees = both (record { value = refl; kept = kept_same sp.free (end sp) m; out = refl })
-  next_both sp on [] (Some i) env es x bs vs kn tail given r sees = absurd given
-  next_both sp on (c ∷ cs) None env es x bs vs kn tail given r sees = absurd given
-  next_both sp on (c ∷ cs) (Some i) env es x bs vs kn tail given r sees = body_both sp on (c ∷ cs) (Some i) env es x bs vs kn tail given r sees
-
   -- a value that needs nothing
   given_both : {m : Memory} (sp : Spot) (v : Tree) → Both (Evaluated sp.free (end sp) m) (gives v) (gives (record { value = v; memory = m }))
   given_both {m = m} sp v = both (record { value = refl; kept = kept_same sp.free (end sp) m; out = refl })
@@ -498,7 +489,7 @@ module _ (world : World) (order : List Home) (calls : Calls) (scall : SCalls) (m
       super_both None (Some z) e f h = absurd h
       super_both (Some p) None e f h = absurd h
       super_both (Some p) (Some z) e f h =
-          next_both sp sp.escaping (from_given z.behind) (next_given p.behind) z.env (first_locals 0 (block_parameters world order sp.home p.name)) p.name p.behind (map (read z.env) (block_parameters world order sp.home p.name)) g.known h.tail
+          body_both sp sp.escaping (from_given z.behind) (next_given p.behind) z.env (first_locals 0 (block_parameters world order sp.home p.name)) p.name p.behind (map (read z.env) (block_parameters world order sp.home p.name)) g.known h.tail
           (subst (λ bs. GivenBy p.behind (from_given bs) (next_given p.behind)) (sym h.behind) (given_by p.behind))
           (locals_give 0 (block_parameters world order sp.home p.name) (map (read z.env) (block_parameters world order sp.home p.name)) m (map_length (read z.env) (block_parameters world order sp.home p.name)) h.parameters) h.sees
   call_both {m = m} (a_block x) sp env ts ps g named row passed =

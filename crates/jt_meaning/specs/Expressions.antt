@@ -85,15 +85,10 @@ abbrev pub block_text : Calls → Home → List BlockBody → Env → Got Text
 block_text calls home [] env = deeper
 block_text calls home (b ∷ bs) env = calls (the_block home b bs env)
 
--- what `super()` goes on with: the first of these bodies; nothing where there is none, which the rules of chains refuse
-abbrev pub next_text : Calls → Home → List BlockBody → Env → Got Text
-next_text calls home [] env = gives []
-next_text calls home (b ∷ bs) env = calls (the_block home b bs env)
-
--- outside a block it has neither text nor fault at any depth: the rules refuse it
+-- what `super()` goes on with; outside a block it has neither text nor fault at any depth: the rules refuse it
 abbrev pub super_text : Calls → Home → Option Placement → Got Text
 super_text calls home None = deeper
-super_text calls home (Some p) = next_text calls home (from_given p.behind) p.env
+super_text calls home (Some p) = block_text calls home (from_given p.behind) p.env
 
 -- a text as a value
 abbrev pub valued_text : Bool → Got Text → Got Tree

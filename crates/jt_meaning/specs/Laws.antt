@@ -17,6 +17,7 @@ use Rattle.jt_meaning.specs.Meaning.{mean}
 use Rattle.jt_slots.specs.Slots.{smean}
 use Rattle.jt_meaning.specs.Programs.{program}
 use Rattle.jt_inherit.specs.Includes.{InOrder}
+use Rattle.jt_inherit.specs.Rules as chains
 use Rattle.jt_rules.specs.Rules.{KeepsRules}
 use Rattle.jt_rules.specs.Known.{ChainsKnown}
 use Rattle.jt_slots.specs.Takes.{BodyTakes}
@@ -32,8 +33,10 @@ pub record ProgramLaws : Type 0 where
   pub means : (world : World) (entry : Home) (rest : List Home) → InOrder world.sources (entry ∷ rest) → (context : Pairs) (n : ℕ) → smean world.filters (program world (entry ∷ rest) entry) context n ≡ mean world entry context n
   -- a text or a fault at a depth of calls is the same at every greater depth
   pub stays : (world : World) (entry : Home) (context : Pairs) (n m : ℕ) → n ≤ m → Stays (mean world entry context n) (mean world entry context m)
-  -- where the rules are kept and each test and filter is known, each operation and each routine gets as many values as it takes
-  pub takes : (world : World) (entry : Home) (rest : List Home) → InOrder world.sources (entry ∷ rest) → KeepsRules world (entry ∷ rest) → ChainsKnown world (entry ∷ rest)
+  -- where the entry reaches each chain, the rules are kept and each test and filter is known, each operation and each routine gets as many values
+  -- as it takes
+  pub takes : (world : World) (entry : Home) (rest : List Home) → InOrder world.sources (entry ∷ rest) → AllByRecursion (chains.Reaches world.sources world.escaping entry) (entry ∷ rest)
+      → chains.KeepsRules world.sources world.escaping entry → KeepsRules world (entry ∷ rest) → ChainsKnown world (entry ∷ rest)
       → AllByRecursion (λ r. BodyTakes world.filters (program world (entry ∷ rest) entry).routines false r.body) (program world (entry ∷ rest) entry).routines
   -- where names and parameters are few, the program is as small as the weight of its chains says
   pub sized : (world : World) (entry : Home) (rest : List Home) → AreFew world (entry ∷ rest) → IsSized world (entry ∷ rest) (program world (entry ∷ rest) entry)

@@ -69,6 +69,12 @@ is_set s = false
 abbrev pub text_of : Got State → Got Text
 text_of g = bind g (λ st. gives st.out)
 
+-- an include of a name without a source: with true it may be missing, and gives nothing; with false it has neither text nor fault at any depth:
+-- the rules refuse it
+abbrev pub without_source : Bool → State → Got State
+without_source true st = gives st
+without_source false st = deeper
+
 module _ (world : World) (calls : Calls) where
   -- the items for which the condition holds, each with the targets bound
   abbrev pub kept : Option Expr → List Text → Around → Env → List Tree → Got (List Tree)
@@ -105,9 +111,8 @@ module _ (world : World) (calls : Calls) where
     meaning (autoescape line on body) a st = within [] (meanings body (record a { escaping = on })) st
     meaning (block line x scoped required body) a st =
         bind (block_text calls a.home (bodies world.sources world.escaping a.home x) (if scoped then st.env else top st.env.globals)) (λ s. gives (put st s))
-    -- a name without a source gives nothing; the rules refuse it unless it may be missing
     meaning (include line n ignore_missing with_context) a st =
-        if is_none (world.sources n) then gives st
+        if is_none (world.sources n) then without_source ignore_missing st
         else bind (calls (the_chain n (if with_context then seen st.env else []))) (λ s. gives (put st s))
     -- they give no text where they stand
     meaning (macro line x ps body) a st = gives st

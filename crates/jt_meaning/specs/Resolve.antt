@@ -11,7 +11,7 @@ use Rattle.jt_expr.specs.Trees.{Expr, constant, name, group, list_of, map_of, at
 use Rattle.jt_slots.specs.Got.{Place}
 use Rattle.jt_meaning.specs.Operators.{unary_operation, Form, operation, negation, conjunction, disjunction, form, range_of}
 use Rattle.jt_slots.specs.Tests.{test_named}
-use Rattle.jt_slots.specs.Values.{literal, as_value}
+use Rattle.jt_slots.specs.Values.{literal}
 use Rattle.jt_inherit.specs.Uses.{count, keywords, set_in}
 use Rattle.jt_parse.specs.Trees.{Text, Parameter, Filtering, Stmt, data_of, print, choose, for_each, set, set_block, with_values, filter_block, autoescape, macro, include, extends, block, Body, end, stmt, Branches, no_branches, branch}
 use Rattle.jt_inherit.specs.Chain.{Home, Template, templates, BlockBody, MacroBody, macros, Callee, a_macro, a_range, a_super, a_block, a_cycle, no_callee, callee, is_loop}
@@ -149,6 +149,11 @@ pub record Spot : Type 0 where
 abbrev pub place : Spot → ℕ → Place
 place sp line = record { template = sp.template; line = line }
 
+-- an include of a name without a source: with true it may be missing, and nothing is put; with false it is absent: the rules refuse it
+abbrev pub left_out : Spot → ℕ → Bool → SBody Constant
+left_out sp line true = slots.end
+left_out sp line false = alone (slots.print (place sp line) sp.escaping absent)
+
 -- one local more holds something
 abbrev pub grown : Spot → Spot
 grown sp = record sp { free = suc sp.free }
@@ -187,15 +192,10 @@ module _ (world : World) (order : List Home) where
   invoked_body h escaping None es = absent
   invoked_body h escaping (Some i) es = invoke (unit world order (of_body h i)) escaping es
 
-  -- the same where `super()` goes on; the empty text where there is none, which the rules of chains refuse
-  abbrev pub invoked_next : Home → Bool → Option ℕ → SRow Constant → SExpr Constant
-  invoked_next h escaping None es = pooled (own (as_value escaping []))
-  invoked_next h escaping (Some i) es = invoke (unit world order (of_body h i)) escaping es
-
   -- the next body in the same scope: its parameters are handed on; outside a block it is absent: the rules refuse it
   abbrev pub invoked_super : Spot → Option Part → SExpr Constant
   invoked_super sp None = absent
-  invoked_super sp (Some p) = invoked_next sp.home sp.escaping (next_given p.behind) (first_locals 0 (block_parameters world order sp.home p.name))
+  invoked_super sp (Some p) = invoked_body sp.home sp.escaping (next_given p.behind) (first_locals 0 (block_parameters world order sp.home p.name))
 
   -- a call, by its arguments in front of a row, how many are given by place, and the locals that hold those given by name
   abbrev pub invoked : Callee → Spot → (SRow Constant → SRow Constant) → (SRow Constant → SRow Constant) → ℕ → Table → SExpr Constant
@@ -284,7 +284,7 @@ module _ (world : World) (order : List Home) where
     resolved_stmt (autoescape line on body) sp = scoped (set_in body) (record sp { escaping = on }) (resolved_body body)
     resolved_stmt (macro line x ps body) sp = slots.end
     resolved_stmt (include line n ignore_missing with_context) sp =
-        if is_none (world.sources n) then slots.end
+        if is_none (world.sources n) then left_out sp line ignore_missing
         else followed (handed_on (place sp line) (if with_context then sp.table else []) (first_slot world order n) (names world order n)) (alone (run (unit world order (of_chain n)) none))
     resolved_stmt (extends line n) sp = slots.end
     resolved_stmt (block line x scoped required body) sp =

@@ -19,8 +19,8 @@ use Rattle.jt_slots.specs.Slots.{SExpr, absent, invoke, SRow, item, variable, lo
 use Rattle.jt_slots.specs.View.{slot_view}
 use Rattle.jt_slots.specs.declared.program.Slot.{Slot}
 use Rattle.jt_meaning.specs.Layout.{Table, slot_in, of_macro, of_body, unit, default_place}
-use Rattle.jt_meaning.specs.Resolve.{operation_of, read_from, filled, invoked_body, invoked_next, reads, first_locals}
-use Rattle.jt_scopes.specs.Callees.{IsSignature, text_of, unit_of}
+use Rattle.jt_meaning.specs.Resolve.{operation_of, read_from, filled, invoked_body, reads, first_locals}
+use Rattle.jt_scopes.specs.Callees.{IsSignature, unit_of}
 use Rattle.jt_scopes.specs.declared.callee.Signature.{Signature}
 
 pub count_length : (ts : List Expr) → count (exprs_view ts) ≡ length ts
@@ -34,11 +34,6 @@ macro_called world order h s m is escaping front n ks =
     ap (λ (u : ℕ). invoke u escaping (front (filled (parameters_view s.parameters.now) n s.first_default ks))) is.runs
     ∙ ap (λ ps. invoke (unit world order (of_macro h m.name)) escaping (front (filled ps n s.first_default ks))) is.takes
     ∙ ap (λ (d : ℕ). invoke (unit world order (of_macro h m.name)) escaping (front (filled m.parameters n d ks))) is.defaults
-
--- the text of the next body by its unit
-pub next_text : (world : World) (order : List Home) (h : Home) (escaping : Bool) (i : Option ℕ) (es : SRow Constant) → text_of (unit_of world order h i) escaping es ≡ invoked_next world order h escaping i es
-next_text world order h escaping None es = refl
-next_text world order h escaping (Some i) es = refl
 
 -- the call of a block by the unit of its first body
 pub body_called : (world : World) (order : List Home) (h : Home) (escaping : Bool) (i : Option ℕ) (u : ℕ) (es : SRow Constant) → Some u ≡ unit_of world order h i → invoke u escaping es ≡ invoked_body world order h escaping i es

@@ -14,7 +14,7 @@ use Rattle.jt_rules.specs.World.{World}
 use Rattle.jt_slots.specs.Slots as slots
 use Rattle.jt_slots.specs.Slots.{SBody}
 use Rattle.jt_meaning.specs.Layout.{Key, of_chain, of_macro, of_body, same_key, place_of, chain_keys, numbered_bodies, names, names_in, first_slot, unit, block_parameters, Table}
-use Rattle.jt_meaning.specs.Resolve.{Spot, place, followed, alone, handed_on, reads, placed_body}
+use Rattle.jt_meaning.specs.Resolve.{Spot, place, left_out, followed, alone, handed_on, reads, placed_body}
 use Rattle.jt_layout.specs.declared.scope.Scope.{Scope}
 use Rattle.jt_scopes.specs.Scoped.{RowLeads, world_in, order_in, spot_in}
 use Rattle.jt_scopes.specs.declared.spot.Spot as code_spot
@@ -29,6 +29,10 @@ no_row es e p = let P : List Entry → Type 0 = λ l. RowLeads slots.none slots.
 neither : (a b : Bool) → (a || b) ≡ false → (a ≡ false) × (b ≡ false)
 neither true b e = absurd (cc e)
 neither false b e = (refl, e)
+
+if_true : {A : Type 0} (b : Bool) (x y : A) → b ≡ true → (if b then x else y) ≡ x
+if_true true x y e = refl
+if_true false x y e = absurd (cc e)
 
 if_false : {A : Type 0} (b : Bool) (x y : A) → b ≡ false → (if b then x else y) ≡ y
 if_false true x y e = absurd (cc e)
@@ -71,7 +75,14 @@ include_shown s spot line x missing context n xs u there e f g =
     let table : Table = if context then (spot_in s spot).table else [] in
     let part = λ (m : ℕ) (ys : List Text) (w : ℕ). followed (handed_on (line_in s spot line) table m ys) (alone (slots.run w slots.none)) in
     ap (λ m. part m xs u) e ∙ ap (λ ys. part (first_slot (world_in s) (order_in s) x) ys u) f ∙ ap (λ w. part (first_slot (world_in s) (order_in s) x) (names (world_in s) (order_in s) x) w) g
-    ∙ sym (if_false (is_none ((world_in s).sources x)) slots.end (part (first_slot (world_in s) (order_in s) x) (names (world_in s) (order_in s) x) (unit (world_in s) (order_in s) (of_chain x))) there)
+    ∙ sym (if_false (is_none ((world_in s).sources x)) (left_out (spot_in s spot) line missing) (part (first_slot (world_in s) (order_in s) x) (names (world_in s) (order_in s) x) (unit (world_in s) (order_in s) (of_chain x))) there)
+
+-- an included name without a source
+pub include_missing : (s : Scope) (spot : code_spot.Spot) (line : ℕ) (x : Text) (missing context : Bool) → is_none ((world_in s).sources x) ≡ true → left_out (spot_in s spot) line missing ≡ stmt_in s (trees.include line x missing context) spot
+include_missing s spot line x missing context none =
+    let table : Table = if context then (spot_in s spot).table else [] in
+    sym (if_true (is_none ((world_in s).sources x)) (left_out (spot_in s spot) line missing)
+    (followed (handed_on (line_in s spot line) table (first_slot (world_in s) (order_in s) x) (names (world_in s) (order_in s) x)) (alone (slots.run (unit (world_in s) (order_in s) (of_chain x)) slots.none))) none)
 
 pub block_run : (world : World) (order : List Home) (sp : Spot) (found : Option ℕ) (x : Text) (table : Table) (u : ℕ) → Some u ≡ option_map (λ j. unit world order (of_body sp.home j)) found
     → alone (slots.run u (reads table (block_parameters world order sp.home x))) ≡ placed_body world order sp found x table

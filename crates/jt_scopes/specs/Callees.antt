@@ -1,13 +1,10 @@
 -- What only private clauses cite: what stands in front of the arguments of a call, as the code keeps it.
-use Rattle.std.specs.Prelude.{◌≡◌, ℕ, Bool, List, [], Option, Some, None, option_map}
+use Rattle.std.specs.Prelude.{◌≡◌, ℕ, List, Option, option_map}
 use Rattle.jt_parse.specs.View.{parameters_view}
 use Rattle.jt_inherit.specs.Chain as chain
 use Rattle.jt_inherit.specs.Chain.{Home, MacroBody}
 use Rattle.jt_rules.specs.World.{World}
 use Rattle.jt_meaning.specs.Layout.{of_macro, of_body, unit, default_place}
-use Rattle.jt_slots.specs.Pool.{Constant, own}
-use Rattle.jt_slots.specs.Slots.{SExpr, pooled, invoke, SRow}
-use Rattle.jt_slots.specs.Values.{as_value}
 use Rattle.jt_scopes.specs.declared.callee.Signature.{Signature}
 use Rattle.jt_scopes.specs.declared.callee.Callee.{Callee}
 use Rattle.jt_scopes.specs.declared.callee.Callee.TheVariants as c
@@ -30,8 +27,3 @@ module _ (world : World) (order : List Home) (h : Home) where
   -- the unit of a body
   abbrev pub unit_of : Option ℕ → Option ℕ
   unit_of i = option_map (λ j. unit world order (of_body h j)) i
-
--- the text of a unit on a row of arguments; the empty text where there is no unit
-abbrev pub text_of : Option ℕ → Bool → SRow Constant → SExpr Constant
-text_of None escaping es = pooled (own (as_value escaping []))
-text_of (Some u) escaping es = invoke u escaping es

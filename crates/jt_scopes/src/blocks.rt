@@ -7,21 +7,19 @@ ghost use Rattle.jt_inherit.specs.Chain as chain;
 ghost use Rattle.jt_layout.specs.Laid.{IsLaidOut};
 ghost use Rattle.jt_meaning.specs.Layout as layout;
 ghost use Rattle.jt_meaning.specs.Resolve as resolve;
-ghost use Rattle.jt_scopes.specs.Callees.{text_of, unit_of};
-ghost use Rattle.jt_scopes.specs.Scoped.{values, IsPlaced, RowLeads, world_in, order_in, home_in, spot_in};
+ghost use Rattle.jt_scopes.specs.Callees.{unit_of};
+ghost use Rattle.jt_scopes.specs.Scoped.{IsPlaced, RowLeads, world_in, order_in, home_in, spot_in};
 ghost use Rattle.jt_rules.specs.declared.error.ScopeError.TheVariants as error;
 ghost use Rattle.jt_slots.specs.Pool.{Constant};
 ghost use Rattle.jt_slots.specs.Slots as slots;
 ghost use Rattle.jt_slots.specs.View.{expr_view};
 
 use crate::lookup::{absent, more};
-use crate::pool::add_value;
 use crate::rows::{first_locals, reads};
 use crate::spot::Spot;
 use jt_layout::Scope;
 use jt_rules::ScopeError;
 use jt_slots::SExpr;
-use jt_value::Value;
 use std::alloc::Global;
 
 /// The unit of the first body of a block, if it has one.
@@ -93,42 +91,17 @@ pub(crate) fn block_called(
     Ok(SExpr::Invoke(unit, spot.escaping, row))
 }
 
-/// The text of a unit on a row of arguments; the empty text where there is no unit.
-fn text_by(
-    alloc: Global,
-    escaping: bool,
-    unit: Option<usize>,
-    row: Vec<(Option<usize>, SExpr)>,
-    pool: &mut Vec<Value>,
-) -> Result<SExpr, ScopeError>
-    ensures placed { IfOk result (λ e. (es : slots.SRow Constant)
-        → ((p : List Tree) → RowLeads es slots.none [] row.items p p)
-        → IsPlaced (text_of unit escaping es) (expr_view e) (values pool.old) (values pool.new)) }
-    ensures refused { IfErr result (λ e. e ≡ error.NoMemory) }
-{
-    if let Some(unit) = unit {
-        return Ok(SExpr::Invoke(unit, escaping, row));
-    }
-    let empty = if escaping {
-        Value::markup(alloc, "")?
-    } else {
-        Value::text(alloc, "")?
-    };
-    add_value(pool, empty)
-}
-
 /// Resolves the call of the next body of the block that this one belongs to: its parameters are
-/// handed on. Outside a block it is absent.
+/// handed on. Outside a block, and where no body is behind, it is absent.
 pub(crate) fn super_called(
     alloc: Global,
     scope: &Scope<'_>,
     spot: &Spot<'_, '_>,
-    pool: &mut Vec<Value>,
 ) -> Result<SExpr, ScopeError>
     requires { IsLaidOut scope.now }
-    ensures placed { IfOk result (λ e. IsPlaced (resolve.invoked_super (world_in scope.now)
-        (order_in scope.now) (spot_in scope.now spot.now) (spot_in scope.now spot.now).part)
-        (expr_view e) (values pool.old) (values pool.new)) }
+    ensures placed { IfOk result (λ e. (p : List Tree)
+        → IsPlaced (resolve.invoked_super (world_in scope.now) (order_in scope.now)
+        (spot_in scope.now spot.now) (spot_in scope.now spot.now).part) (expr_view e) p p) }
     ensures refused { IfErr result (λ e. e ≡ error.NoMemory) }
 {
     let here = &scope.homes[scope.home];
@@ -138,10 +111,10 @@ pub(crate) fn super_called(
     let Some(body) = here.blocks.get(place) else {
         return Ok(absent());
     };
-    let next = match here.next_bodies[place] {
-        Some(next) => Some(more(here.body_unit, next)?),
-        None => None,
+    let Some(next) = here.next_bodies[place] else {
+        return Ok(absent());
     };
+    let unit = more(here.body_unit, next)?;
     let row = first_locals(alloc, parameters_of(scope, body.name).len())?;
-    text_by(alloc, spot.escaping, next, row, pool)
+    Ok(SExpr::Invoke(unit, spot.escaping, row))
 }

@@ -353,7 +353,7 @@ fn resolve_call(
             resolve_macro(alloc, scope, spot, signature, row, pairs, pool)
         }
         Callee::Range => resolve_range(alloc, scope, spot, row, pool),
-        Callee::Super => super_called(alloc, scope, spot, pool),
+        Callee::Super => super_called(alloc, scope, spot),
         Callee::Block(name) => block_called(alloc, scope, spot, name),
         Callee::Cycle => resolve_cycle(alloc, scope, spot, row, pool),
         Callee::Unknown => Ok(absent()),

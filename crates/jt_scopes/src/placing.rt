@@ -64,6 +64,25 @@ fn hand_on(
     Ok(())
 }
 
+/// Puts an included name without a source behind other statements: nothing where it may be missing,
+/// else what prints what is absent.
+fn put_missing(
+    spot: &Spot<'_, '_>,
+    line: u32,
+    ignore_missing: bool,
+    done: &mut Vec<SStmt>,
+) -> Result<(), ScopeError>
+    ensures put { IfOk result (λ u. (s : Scope) (p : List Tree)
+        → Led (templates_in s) (resolve.left_out (spot_in s spot.now) line ignore_missing)
+        done.old.items done.new.items p p) }
+    ensures refused { IfErr result (λ e. e ≡ error.NoMemory) }
+{
+    if ignore_missing {
+        return Ok(());
+    }
+    put_print(spot, line, absent(), done)
+}
+
 /// Puts an included chain behind other statements: it is handed its names.
 pub(crate) fn put_include(
     alloc: Global,
@@ -71,18 +90,19 @@ pub(crate) fn put_include(
     spot: &Spot<'_, '_>,
     line: u32,
     name: &str,
+    ignore_missing: bool,
     with_context: bool,
     done: &mut Vec<SStmt>,
 ) -> Result<(), ScopeError>
     requires { IsLaidOut scope.now }
-    ensures put { IfOk result (λ u. (missing : Bool) (p : List Tree)
+    ensures put { IfOk result (λ u. (p : List Tree)
         → Led (templates_in scope.now)
-        (stmt_in scope.now (trees.include line name.now missing with_context) spot.now)
+        (stmt_in scope.now (trees.include line name.now ignore_missing with_context) spot.now)
         done.old.items done.new.items p p) }
     ensures refused { IfErr result (λ e. e ≡ error.NoMemory) }
 {
     if scope.sources.place(name).is_none() {
-        return Ok(());
+        return put_missing(spot, line, ignore_missing, done);
     }
     let Some(place) = scope.places.place(name) else {
         return put_run(scope.units, Vec::new(alloc), done);

@@ -103,8 +103,17 @@ pub(crate) fn resolve_statement<'a>(
         }
         Stmt::Macro(_, _, _, _) => Ok(()),
         Stmt::Extends(_, _) => Ok(()),
-        Stmt::Include(line, name, _, with_context) => {
-            put_include(alloc, scope, spot, *line, name, *with_context, done)
+        Stmt::Include(line, name, ignore_missing, with_context) => {
+            put_include(
+                alloc,
+                scope,
+                spot,
+                *line,
+                name,
+                *ignore_missing,
+                *with_context,
+                done,
+            )
         }
         Stmt::Block(_, name, scoped, _, _) => put_block(alloc, scope, spot, name, *scoped, done),
     }

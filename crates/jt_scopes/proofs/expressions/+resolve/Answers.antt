@@ -359,8 +359,8 @@ resolve_call-returns-in-Super-clause-placed t c =
     let Q : Callee → Type 0 = λ z. IsCallee (world_in s) (order_in s) (home_in s) z k in
     let is : k ≡ a_super = subst Q c.in-Super.is c.in_ok-signature.ensures.named in
     IfOk-weaker c.super_called.result _ _ (λ e h.
-    let P : chain.Callee → Type 0 = λ z. IsPlaced (invoked (world_in s) (order_in s) z (spot_in s spot) (λ y. row_in s ts spot y) (λ y. asides_in s ps spot y) (count ts) ks) (coded e) (values c.args.pool.now) (values c.super_called.new.pool) in
-    subst P (sym is) h) c.super_called.ensures.placed
+    let P : chain.Callee → Type 0 = λ z. IsPlaced (invoked (world_in s) (order_in s) z (spot_in s spot) (λ y. row_in s ts spot y) (λ y. asides_in s ps spot y) (count ts) ks) (coded e) (values c.args.pool.now) (values c.args.pool.now) in
+    subst P (sym is) (h (values c.args.pool.now))) c.super_called.ensures.placed
 
 pub resolve_call-returns-in-Block-clause-placed : goal.resolve_call-returns-in-Block-clause-placed
 resolve_call-returns-in-Block-clause-placed t c =

@@ -217,8 +217,8 @@ resolve_statement-returns-in-Extends-clause-led t c = λ left.
 pub resolve_statement-returns-in-Include-clause-led : goal.resolve_statement-returns-in-Include-clause-led
 resolve_statement-returns-in-Include-clause-led t c =
     IfOk-weaker c.put_include.result _ _ (λ u h. stmt_as c.args.scope.now c.args.spot.now _ _ _ _ _ _
-    (ap (λ z. trees.include c.in-Include.line z c.in-Include.field-2 c.in-Include.with_context) c.deref-in-Include.ensures ∙ sym (ap stmt_view c.in-Include.is ∙ view-Include c.in-Include.line c.in-Include.name c.in-Include.field-2 c.in-Include.with_context))
-    (h c.in-Include.field-2 (values c.args.pool.now))) c.put_include.ensures.put
+    (ap (λ z. trees.include c.in-Include.line z c.in-Include.ignore_missing c.in-Include.with_context) c.deref-in-Include.ensures ∙ sym (ap stmt_view c.in-Include.is ∙ view-Include c.in-Include.line c.in-Include.name c.in-Include.ignore_missing c.in-Include.with_context))
+    (h (values c.args.pool.now))) c.put_include.ensures.put
 
 pub resolve_statement-returns-in-Block-clause-led : goal.resolve_statement-returns-in-Block-clause-led
 resolve_statement-returns-in-Block-clause-led t c =

@@ -1,0 +1,159 @@
+-- Where `super()` is not called, a tree breaks the same rule in a block and outside.
+use Rattle.std.proofs.Common.{◌≡◌, Bool, true, false, ◌&&◌, if◌then◌else◌, List, [], ◌∷◌, Option, Some, None, refl, ap, ◌∙◌}
+use Rattle.std.specs.Prelude.{not, ◌||◌, codes}
+use Rattle.std.specs.Option.{option_or, is_some}
+use Rattle.std.specs.Str.{bytes_eq}
+use Rattle.jt_expr.specs.Trees as written
+use Rattle.jt_expr.specs.Trees.{Expr, constant, name, group, list_of, attribute, item, unary, binary, when, choice, Exprs, no_exprs, expr, no_pairs, pair}
+use Rattle.jt_inherit.specs.Chain.{Home, MacroBody, macros, macro_of, Callee, a_range, a_super, a_block, a_cycle, no_callee, named_alone, callee, is_loop}
+use Rattle.jt_inherit.specs.Supers.{is_super, has_super, row_super, pairs_super, condition_super, filtering_super, stmt_super, calls_super, branches_super}
+use Rattle.jt_inherit.specs.Uses.{keywords}
+use Rattle.jt_parse.specs.Trees.{Text, Filtering, Stmt, data_of, print, choose, for_each, set, set_block, with_values, filter_block, autoescape, macro, include, extends, block, Body, end, stmt, Branches, no_branches, branch}
+use Rattle.jt_slots.specs.Loops.{field_named}
+use Rattle.jt_rules.specs.World.{World}
+use Rattle.jt_rules.specs.declared.error.ScopeError.{ScopeError}
+use Rattle.jt_rules.specs.declared.error.ScopeError.TheVariants as error
+use Rattle.jt_rules.specs.Walk.{Within, refused, all_used, call_broken, broken, called_broken, row_broken, pairs_broken, condition_broken, filtering_broken, stmt_broken, body_broken, branches_broken}
+
+pub left_false : (a b : Bool) → (a || b) ≡ false → a ≡ false
+left_false true b e = e
+left_false false b e = refl
+
+pub right_false : (a b : Bool) → (a || b) ≡ false → b ≡ false
+right_false true b e = absurd (cc)
+right_false false b e = e
+
+both_parts : (a b c d : Option ScopeError) → a ≡ c → b ≡ d → option_or a b ≡ option_or c d
+both_parts a b c d e f = ap (λ z. option_or z b) e ∙ ap (option_or c) f
+
+first_false : (a b c : Bool) → (a || (b || c)) ≡ false → a ≡ false
+first_false a b c e = left_false a (b || c) e
+
+second_false : (a b c : Bool) → (a || (b || c)) ≡ false → b ≡ false
+second_false a b c e = left_false b c (right_false a (b || c) e)
+
+third_false : (a b c : Bool) → (a || (b || c)) ≡ false → c ≡ false
+third_false a b c e = right_false b c (right_false a (b || c) e)
+
+three_parts : (a b c d e f : Option ScopeError) → a ≡ d → b ≡ e → c ≡ f → option_or a (option_or b c) ≡ option_or d (option_or e f)
+three_parts a b c d e f g h i = both_parts a (option_or b c) d (option_or e f) g (both_parts b c e f h i)
+
+-- outside a block
+abbrev pub out_of : Within → Within
+out_of w = record w { in_block = false }
+
+module _ (world : World) (h : Home) where
+  abbrev CallSame : Callee → Within → Expr → Exprs → written.Pairs → Type 0
+  CallSame c w f ts ps = call_broken world h c w f ts ps ≡ call_broken world h c (out_of w) f ts ps
+
+  alone_without : (r s : Bool) (w : Within) (f : Expr) (ts : Exprs) (ps : written.Pairs) → s ≡ false → CallSame (if r then a_range else if s then a_super else no_callee) w f ts ps
+  alone_without true s w f ts ps e = refl
+  alone_without false true w f ts ps e = absurd (cc)
+  alone_without false false w f ts ps e = refl
+
+  named_without : (m : Option MacroBody) (x : Text) (w : Within) (f : Expr) (ts : Exprs) (ps : written.Pairs) → bytes_eq x (codes "super") ≡ false → CallSame (named_alone m x) w f ts ps
+  named_without (Some m) x w f ts ps e = refl
+  named_without None x w f ts ps e = alone_without (bytes_eq x (codes "range")) (bytes_eq x (codes "super")) w f ts ps e
+
+  member_without : (r s t : Bool) (x : Text) (w : Within) (f : Expr) (ts : Exprs) (ps : written.Pairs) → CallSame (if r then a_block x else if s then (if t then a_cycle else no_callee) else no_callee) w f ts ps
+  member_without true s t x w f ts ps = refl
+  member_without false true true x w f ts ps = refl
+  member_without false true false x w f ts ps = refl
+  member_without false false t x w f ts ps = refl
+
+  call_without : (f : Expr) (w : Within) (ts : Exprs) (ps : written.Pairs) → is_super f ≡ false → CallSame (callee (macros world.sources h) f) w f ts ps
+  call_without (name x) w ts ps e = named_without (macro_of x (macros world.sources h)) x w (name x) ts ps e
+  call_without (attribute (name of) x) w ts ps e = member_without (bytes_eq of (codes "self")) (bytes_eq of (codes "loop")) (bytes_eq x (codes "cycle")) x w (attribute (name of) x) ts ps
+  call_without f w ts ps e = refl
+
+  mutual
+    pub expr_without : (e : Expr) (w : Within) → has_super e ≡ false → broken world h e w ≡ broken world h e (out_of w)
+    expr_without (constant l) w s = refl
+    expr_without (name x) w s = refl
+    expr_without (group a) w s = expr_without a w s
+    expr_without (list_of ts) w s = row_without ts w s
+    expr_without (written.map_of ps) w s = pairs_without ps w s
+    expr_without (attribute a k) w s = ap (λ r. if is_loop a then refused (not (w.in_loop && is_some (field_named k))) error.LoopOutside else r) (expr_without a w s)
+    expr_without (item a b) w s = both_parts _ _ _ _ (expr_without a w (left_false (has_super a) (has_super b) s)) (expr_without b w (right_false (has_super a) (has_super b) s))
+    expr_without (written.call f ts ps) w s =
+        let s1 = right_false (is_super f) (has_super f || (row_super ts || pairs_super ps)) s in
+        both_parts _ _ _ _ (called_without f w (first_false (has_super f) (row_super ts) (pairs_super ps) s1))
+        (three_parts _ _ _ _ _ _ (call_without f w ts ps (left_false (is_super f) (has_super f || (row_super ts || pairs_super ps)) s)) (row_without ts w (second_false (has_super f) (row_super ts) (pairs_super ps) s1)) (pairs_without ps w (third_false (has_super f) (row_super ts) (pairs_super ps) s1)))
+    expr_without (written.filter a x ts ps) w s = ap (option_or _) (three_parts _ _ _ _ _ _ (expr_without a w (first_false (has_super a) (row_super ts) (pairs_super ps) s)) (row_without ts w (second_false (has_super a) (row_super ts) (pairs_super ps) s)) (pairs_without ps w (third_false (has_super a) (row_super ts) (pairs_super ps) s)))
+    expr_without (written.test a n x ts ps) w s = ap (option_or _) (three_parts _ _ _ _ _ _ (expr_without a w (first_false (has_super a) (row_super ts) (pairs_super ps) s)) (row_without ts w (second_false (has_super a) (row_super ts) (pairs_super ps) s)) (pairs_without ps w (third_false (has_super a) (row_super ts) (pairs_super ps) s)))
+    expr_without (unary o a) w s = expr_without a w s
+    expr_without (binary o a b) w s = both_parts _ _ _ _ (expr_without a w (left_false (has_super a) (has_super b) s)) (expr_without b w (right_false (has_super a) (has_super b) s))
+    expr_without (when c a) w s = both_parts _ _ _ _ (expr_without c w (left_false (has_super c) (has_super a) s)) (expr_without a w (right_false (has_super c) (has_super a) s))
+    expr_without (choice c a b) w s = three_parts _ _ _ _ _ _ (expr_without c w (first_false (has_super c) (has_super a) (has_super b) s)) (expr_without a w (second_false (has_super c) (has_super a) (has_super b) s)) (expr_without b w (third_false (has_super c) (has_super a) (has_super b) s))
+
+    called_without : (f : Expr) (w : Within) → has_super f ≡ false → called_broken world h f w ≡ called_broken world h f (out_of w)
+    called_without (name x) w s = refl
+    called_without (attribute (name of) k) w s = refl
+    called_without (constant l) w s = refl
+    called_without (group a) w s = expr_without a w s
+    called_without (list_of ts) w s = row_without ts w s
+    called_without (written.map_of ps) w s = pairs_without ps w s
+    called_without (attribute a k) w s = expr_without a w s
+    called_without (item a b) w s = both_parts _ _ _ _ (expr_without a w (left_false (has_super a) (has_super b) s)) (expr_without b w (right_false (has_super a) (has_super b) s))
+    called_without (written.call f ts ps) w s =
+        let s1 = right_false (is_super f) (has_super f || (row_super ts || pairs_super ps)) s in
+        three_parts _ _ _ _ _ _ (called_without f w (first_false (has_super f) (row_super ts) (pairs_super ps) s1)) (row_without ts w (second_false (has_super f) (row_super ts) (pairs_super ps) s1)) (pairs_without ps w (third_false (has_super f) (row_super ts) (pairs_super ps) s1))
+    called_without (written.filter a x ts ps) w s = three_parts _ _ _ _ _ _ (expr_without a w (first_false (has_super a) (row_super ts) (pairs_super ps) s)) (row_without ts w (second_false (has_super a) (row_super ts) (pairs_super ps) s)) (pairs_without ps w (third_false (has_super a) (row_super ts) (pairs_super ps) s))
+    called_without (written.test a n x ts ps) w s = three_parts _ _ _ _ _ _ (expr_without a w (first_false (has_super a) (row_super ts) (pairs_super ps) s)) (row_without ts w (second_false (has_super a) (row_super ts) (pairs_super ps) s)) (pairs_without ps w (third_false (has_super a) (row_super ts) (pairs_super ps) s))
+    called_without (unary o a) w s = expr_without a w s
+    called_without (binary o a b) w s = both_parts _ _ _ _ (expr_without a w (left_false (has_super a) (has_super b) s)) (expr_without b w (right_false (has_super a) (has_super b) s))
+    called_without (when c a) w s = both_parts _ _ _ _ (expr_without c w (left_false (has_super c) (has_super a) s)) (expr_without a w (right_false (has_super c) (has_super a) s))
+    called_without (choice c a b) w s = three_parts _ _ _ _ _ _ (expr_without c w (first_false (has_super c) (has_super a) (has_super b) s)) (expr_without a w (second_false (has_super c) (has_super a) (has_super b) s)) (expr_without b w (third_false (has_super c) (has_super a) (has_super b) s))
+
+    row_without : (ts : Exprs) (w : Within) → row_super ts ≡ false → row_broken world h ts w ≡ row_broken world h ts (out_of w)
+    row_without no_exprs w s = refl
+    row_without (expr a ts) w s = both_parts _ _ _ _ (expr_without a w (left_false (has_super a) (row_super ts) s)) (row_without ts w (right_false (has_super a) (row_super ts) s))
+
+    pairs_without : (ps : written.Pairs) (w : Within) → pairs_super ps ≡ false → pairs_broken world h ps w ≡ pairs_broken world h ps (out_of w)
+    pairs_without no_pairs w s = refl
+    pairs_without (pair k a ps) w s = both_parts _ _ _ _ (expr_without a w (left_false (has_super a) (pairs_super ps) s)) (pairs_without ps w (right_false (has_super a) (pairs_super ps) s))
+
+  condition_without : (c : Option Expr) (w : Within) → condition_super c ≡ false → condition_broken world h c w ≡ condition_broken world h c (out_of w)
+  condition_without None w s = refl
+  condition_without (Some c) w s = expr_without c (record w { in_loop = false }) s
+
+  filtering_without : (fs : List Filtering) (w : Within) → filtering_super fs ≡ false → filtering_broken world h fs w ≡ filtering_broken world h fs (out_of w)
+  filtering_without [] w s = refl
+  filtering_without (f ∷ fs) w s =
+      let s1 = right_false (row_super f.arguments) (pairs_super f.keywords || filtering_super fs) s in
+      ap (option_or _) (both_parts _ _ _ _ (row_without f.arguments w (left_false (row_super f.arguments) (pairs_super f.keywords || filtering_super fs) s))
+      (both_parts _ _ _ _ (pairs_without f.keywords w (left_false (pairs_super f.keywords) (filtering_super fs) s1)) (filtering_without fs w (right_false (pairs_super f.keywords) (filtering_super fs) s1))))
+
+  mutual
+    stmt_without : (t : Stmt) (w : Within) → stmt_super t ≡ false → stmt_broken world h t w ≡ stmt_broken world h t (out_of w)
+    stmt_without (data_of x) w s = refl
+    stmt_without (print line e) w s = expr_without e w s
+    stmt_without (choose bs other) w s = both_parts _ _ _ _ (branches_without bs w (left_false (branches_super bs) (calls_super other) s)) (body_without other w (right_false (branches_super bs) (calls_super other) s))
+    stmt_without (for_each line xs e c body other) w s =
+        let s1 = right_false (has_super e) (condition_super c || (calls_super body || calls_super other)) s in
+        let s2 = right_false (condition_super c) (calls_super body || calls_super other) s1 in
+        both_parts _ _ _ _ (expr_without e w (left_false (has_super e) (condition_super c || (calls_super body || calls_super other)) s))
+        (ap (option_or _) (both_parts _ _ _ _ (condition_without c w (left_false (condition_super c) (calls_super body || calls_super other) s1))
+        (both_parts _ _ _ _ (body_without body (record w { in_loop = true }) (left_false (calls_super body) (calls_super other) s2)) (body_without other w (right_false (calls_super body) (calls_super other) s2)))))
+    stmt_without (set line xs e) w s = ap (λ z. option_or z (all_used world h xs)) (expr_without e w s)
+    stmt_without (set_block line x body) w s = ap (option_or _) (body_without body w s)
+    stmt_without (with_values line ps body) w s =
+        both_parts _ _ _ _ (pairs_without ps w (left_false (pairs_super ps) (calls_super body) s)) (ap (option_or _) (body_without body w (right_false (pairs_super ps) (calls_super body) s)))
+    stmt_without (filter_block line fs body) w s =
+        both_parts _ _ _ _ (filtering_without fs w (right_false (calls_super body) (filtering_super fs) s)) (body_without body w (left_false (calls_super body) (filtering_super fs) s))
+    stmt_without (autoescape line on body) w s = body_without body w s
+    stmt_without (macro line x ps body) w s = refl
+    stmt_without (include line n missing with_context) w s = refl
+    stmt_without (extends line n) w s = refl
+    stmt_without (block line x scoped required body) w s = refl
+
+    pub body_without : (b : Body) (w : Within) → calls_super b ≡ false → body_broken world h b w ≡ body_broken world h b (out_of w)
+    body_without end w s = refl
+    body_without (stmt t rest) w s = both_parts _ _ _ _ (stmt_without t w (left_false (stmt_super t) (calls_super rest) s)) (body_without rest w (right_false (stmt_super t) (calls_super rest) s))
+
+    branches_without : (bs : Branches) (w : Within) → branches_super bs ≡ false → branches_broken world h bs w ≡ branches_broken world h bs (out_of w)
+    branches_without no_branches w s = refl
+    branches_without (branch line c body rest) w s =
+        let s1 = right_false (has_super c) (calls_super body || branches_super rest) s in
+        both_parts _ _ _ _ (both_parts _ _ _ _ (expr_without c w (left_false (has_super c) (calls_super body || branches_super rest) s)) (body_without body w (left_false (calls_super body) (branches_super rest) s1)))
+        (branches_without rest w (right_false (calls_super body) (branches_super rest) s1))
