@@ -8,11 +8,11 @@ measured, over all that stands below them. With --keep the figures are kept in F
 again. Below the table stand the sums, and how long the gate would take on 4 and on 2 processors, from a replay of rt's order of
 work with these figures: on an idle machine, and without the short time in which the tests and the program run.
 """
-import argparse, heapq, json, os, resource, shutil, subprocess, sys, tempfile
+import argparse, glob, heapq, json, os, resource, shutil, subprocess, sys, tempfile
 from kit import rt
 
 FLAGS = ["--jobs", "1"]
-TURNS = 6
+TURNS = 10
 
 
 def seconds(call):
@@ -48,7 +48,8 @@ def edits(crate, most):
 
 def measured(crate, most):
     """What one crate costs; the crates below it are built."""
-    found = {"lines": crate.count(rb"\n"), "below": [it.name for it in crate.below()], "proof": seconds(lambda: proof(crate, False))}
+    sources = sum(open(file, "rb").read().count(b"\n") for file in glob.glob(f"{crate.folder}/src/*.rt"))
+    found = {"lines": crate.count(rb"\n"), "sources": sources, "below": [it.name for it in crate.below()], "proof": seconds(lambda: proof(crate, False))}
     if crate.has_tests():
         found["tests"] = seconds(lambda: proof(crate, True))
     if rt.edits_of(crate)[0]:
@@ -66,8 +67,9 @@ def all_edits(costs):
 def dealt(crates):
     """The crates that have each turn, as .ci/run deals them out."""
     turns = [[] for _ in range(TURNS)]
-    for name in sorted((it for it in crates if crates[it].get("edits")), key=lambda it: (-crates[it]["edits"], it)):
-        min(turns, key=lambda turn: sum(crates[it]["edits"] for it in turn)).append(name)
+    weight = {it: 100 * costs["edits"] + costs["sources"] for it, costs in crates.items() if costs.get("edits")}
+    for name in sorted(weight, key=lambda it: (-weight[it], it)):
+        min(turns, key=lambda turn: sum(weight[it] for it in turn)).append(name)
     return turns
 
 

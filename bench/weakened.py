@@ -13,6 +13,7 @@ from kit import rt, sums
 
 # a layer, the file and the name of its call, and the clause's name, if it has one
 LAYERS = [
+    ("jt_ids", "src/filter_id.rt", "named", ""),
     ("jt_value", "src/making.rt", "as_list", ""),
     ("jt_escape", "src/escaping.rt", "escape_into", "ok"),
     ("jt_ops", "src/operators.rt", "unary", ""),
@@ -24,7 +25,7 @@ LAYERS = [
     ("jt_inherit", "src/chaining.rt", "chain", "only"),
     ("jt_uses", "src/chains.rt", "own_names", ""),
     ("jt_slots", "src/named.rt", "filter_parameters", ""),
-    ("jt_rules", "src/checking.rt", "check_rules", "kept"),
+    ("jt_checks", "src/checking.rt", "check_rules", "kept"),
     ("jt_meaning", "src/laws.rt", "program_laws", ""),
     ("jt_layout", "src/laying.rt", "lay_out", "laid"),
     ("jt_scopes", "src/resolving.rt", "resolve", "resolved"),

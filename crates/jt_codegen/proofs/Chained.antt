@@ -5,11 +5,11 @@ use Rattle.jt_scan.specs.declared.options.Options.{Options}
 use Rattle.jt_image.specs.IsCode.{IsCode}
 use Rattle.jt_parse.specs.Names.{body_unknown}
 use Rattle.jt_parse.specs.Trees.{Text}
-use Rattle.jt_inherit.specs.Chain.{Home, Template}
+use Rattle.jt_chains.specs.Chain.{Home, Template}
 use Rattle.jt_inherit.specs.Chains.{Given, IsRead, IsChain}
-use Rattle.jt_inherit.specs.Includes.{InOrder}
-use Rattle.jt_inherit.specs.Rules.{Reaches}
-use Rattle.jt_inherit.specs.View.{Seen, sources_of}
+use Rattle.jt_chains.specs.Includes.{InOrder}
+use Rattle.jt_chains.specs.Rules.{Reaches}
+use Rattle.jt_chains.specs.View.{Seen, sources_of}
 use Rattle.jt_rules.specs.Known.{ChainsKnown}
 use Rattle.jt_rules.specs.Rules.{KeepsRules}
 use Rattle.jt_rules.specs.World.{World, world_of}

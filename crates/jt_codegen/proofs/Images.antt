@@ -11,13 +11,14 @@ use Rattle.jt_image.specs.Parts.{HasTables}
 use Rattle.jt_image.specs.Laws.{CodeLaws}
 use Rattle.jt_parse.specs.Bytes.{body_bytes}
 use Rattle.jt_parse.specs.Trees.{Text}
-use Rattle.jt_inherit.specs.Chain.{Home}
+use Rattle.jt_chains.specs.Chain.{Home}
 use Rattle.jt_inherit.specs.Chains.{Given, IsChain}
-use Rattle.jt_inherit.specs.Places.{home_at}
+use Rattle.jt_chains.specs.Places.{home_at}
 use Rattle.jt_inherit.specs.Refusals as inherit
-use Rattle.jt_inherit.specs.Small.{chains_weight, chains_len, source_len, IsSmall}
-use Rattle.jt_inherit.specs.Uses.{body_names}
-use Rattle.jt_inherit.specs.View.{Seen, sources_of}
+use Rattle.jt_chains.specs.Weights.{chains_weight}
+use Rattle.jt_inherit.specs.Small.{chains_len, source_len, IsSmall}
+use Rattle.jt_chains.specs.Uses.{body_names}
+use Rattle.jt_chains.specs.View.{Seen, sources_of}
 use Rattle.jt_inherit.specs.declared.error.ChainError.{ChainError}
 use Rattle.jt_inherit.specs.declared.error.ChainError.TheVariants as chain_error
 use Rattle.jt_rules.specs.Rules as rules

@@ -4,20 +4,20 @@ use Rattle.std.specs.Prelude.{not, if◌then◌else◌, flat_map, option_map, co
 use Rattle.std.specs.Str.{bytes_eq}
 use Rattle.std.specs.Option.{option_or}
 use Rattle.std.specs.List.{list_any, find, AllByRecursion}
-use Rattle.jt_ops.specs.declared.test_id.TestId.{TestId}
-use Rattle.jt_ops.specs.TestTable.{test_names}
+use Rattle.jt_ids.specs.declared.test_id.TestId.{TestId}
+use Rattle.jt_ids.specs.TestTable.{test_names, tests}
 use Rattle.jt_expr.specs.declared.named.Named.TheVariants as n
-use Rattle.jt_expr.specs.Named.{all_tests, is_test, is_filter, only_name, filter_written, inside_unknown, filter_unknown, has_unknown, exprs_have_unknown, pairs_have_unknown}
-use Rattle.jt_filters.specs.FilterTable.{filters, filter_id, filter_names, with_only}
-use Rattle.jt_filters.specs.declared.filter_id.FilterId.{FilterId}
-use Rattle.jt_filters.specs.declared.filter_id.FilterId.TheVariants as which
+use Rattle.jt_expr.specs.Named.{is_test, is_filter, only_name, filter_written, inside_unknown, filter_unknown, has_unknown, exprs_have_unknown, pairs_have_unknown}
+use Rattle.jt_ids.specs.FilterTable.{filters, filter_id, filter_names, with_only}
+use Rattle.jt_ids.specs.declared.filter_id.FilterId.{FilterId}
+use Rattle.jt_ids.specs.declared.filter_id.FilterId.TheVariants as which
 use Rattle.jt_expr.specs.Trees as written
 use Rattle.jt_expr.specs.Trees.{Expr, constant, name, group, list_of, map_of, attribute, item, filter, test, unary, binary, when, choice, Exprs, no_exprs, expr, Pairs, no_pairs, pair}
 use Rattle.jt_parse.specs.Names.{blamed, unknown_in, condition_unknown, filtering_unknown, filterings_unknown, stmt_unknown, body_unknown, branch_unknown}
 use Rattle.jt_parse.specs.Trees.{Text, Filtering, Stmt, data_of, print, choose, for_each, set, set_block, with_values, filter_block, autoescape, macro, include, extends, block, Body, end, stmt, Branches, no_branches, branch}
-use Rattle.jt_inherit.specs.Chain.{Sources, Home, Template, sources_in, template, names_up}
+use Rattle.jt_chains.specs.Chain.{Sources, Home, Template, sources_in, template, names_up}
 use Rattle.jt_slots.specs.Filters.{Filters}
-use Rattle.jt_slots.specs.Tests.{tests, test_named}
+use Rattle.jt_slots.specs.Tests.{test_named}
 use Rattle.jt_slots.specs.TheFilters.{the_filters}
 use Rattle.jt_rules.specs.World.{World}
 use Rattle.jt_rules.specs.Known.{IsThere, ExprKnown, RowKnown, PairsKnown, ConditionKnown, FilteringKnown, StmtKnown, BodyKnown, BranchesKnown, TemplatesKnown, ChainsKnown}
@@ -39,7 +39,7 @@ not_false false e = absurd cc
 abbrev has_name : Text → TestId → Bool
 has_name x t = list_any (bytes_eq x) (test_names t)
 
-any_test : (x : Text) → is_test x ≡ list_any (has_name x) all_tests
+any_test : (x : Text) → is_test x ≡ list_any (has_name x) tests
 unfolding is_test
 any_test x = refl
 

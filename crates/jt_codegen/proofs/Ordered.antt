@@ -4,7 +4,7 @@ use Rattle.std.specs.List.{AllByRecursion}
 use Rattle.jt_image.specs.IsCode.{Ascend, AreDistinct}
 use Rattle.jt_image.specs.Parts.{IsUnitInOrder, HasTables}
 use Rattle.jt_parse.specs.Trees.{Text}
-use Rattle.jt_inherit.specs.Chain.{Home}
+use Rattle.jt_chains.specs.Chain.{Home}
 use Rattle.jt_rules.specs.World.{World}
 use Rattle.jt_meaning.specs.Ascends.{Above, Ascends}
 use Rattle.jt_meaning.specs.Layout.{names, shared}

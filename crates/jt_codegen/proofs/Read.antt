@@ -10,11 +10,11 @@ use Rattle.std.proofs.lemmas.Slice.Eq.{bytes_eq-Decides}
 use Rattle.jt_parse.specs.Bytes.{body_bytes}
 use Rattle.jt_parse.specs.Texts.{inserted, all_inserted, ascending}
 use Rattle.jt_parse.specs.Trees.{Text, Body}
-use Rattle.jt_inherit.specs.Chain.{Sources, Home, Template, sources_in, template, templates, names_up}
+use Rattle.jt_chains.specs.Chain.{Sources, Home, Template, sources_in, template, templates, names_up}
 use Rattle.jt_inherit.specs.Chains.{Given}
 use Rattle.jt_inherit.specs.Small.{source_len, templates_len, chains_len}
-use Rattle.jt_inherit.specs.Includes.{included}
-use Rattle.jt_inherit.specs.Uses.{body_names, own_names}
+use Rattle.jt_chains.specs.Includes.{included}
+use Rattle.jt_chains.specs.Uses.{body_names, own_names}
 use Rattle.jt_rules.specs.World.{World}
 use Rattle.jt_meaning.specs.Layout.{names_in}
 

@@ -12,8 +12,8 @@ use Rattle.jt_image.specs.Typed.{max_entries}
 use Rattle.jt_image.specs.Parts.{KeepsLimits, IsWritable}
 use Rattle.jt_image.specs.Laws.{CodeLaws}
 use Rattle.jt_parse.specs.Trees.{Text}
-use Rattle.jt_inherit.specs.Chain.{Home}
-use Rattle.jt_inherit.specs.Small.{chains_weight}
+use Rattle.jt_chains.specs.Chain.{Home}
+use Rattle.jt_chains.specs.Weights.{chains_weight}
 use Rattle.jt_rules.specs.World.{World}
 use Rattle.jt_meaning.specs.Bytes.{value_bytes, IsShort}
 use Rattle.jt_meaning.specs.Measure.{IsSized}

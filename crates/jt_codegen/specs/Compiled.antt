@@ -11,9 +11,9 @@ use Rattle.jt_image.specs.Run.{Run}
 use Rattle.jt_image.specs.Enough.{Enough}
 use Rattle.jt_slots.specs.Got.{Place, gives, fails}
 use Rattle.jt_parse.specs.Trees.{Text}
-use Rattle.jt_inherit.specs.Chain.{Home}
+use Rattle.jt_chains.specs.Chain.{Home}
 use Rattle.jt_inherit.specs.Chains.{Given, IsChain}
-use Rattle.jt_inherit.specs.View.{Seen}
+use Rattle.jt_chains.specs.View.{Seen}
 use Rattle.jt_rules.specs.Rules.{KeepsRules}
 use Rattle.jt_rules.specs.World.{World, world_of}
 use Rattle.jt_meaning.specs.Meaning.{mean}

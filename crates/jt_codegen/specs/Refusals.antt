@@ -3,7 +3,7 @@ use Rattle.std.specs.Prelude.{◌≢◌}
 use Rattle.jt_scan.specs.declared.options.Options.{Options}
 use Rattle.jt_parse.specs.Trees.{Text}
 use Rattle.jt_inherit.specs.Chains.{Given, IsChain}
-use Rattle.jt_inherit.specs.View.{Seen}
+use Rattle.jt_chains.specs.View.{Seen}
 use Rattle.jt_inherit.specs.Refusals as inherit
 use Rattle.jt_inherit.specs.declared.error.ChainError.{ChainError}
 use Rattle.jt_inherit.specs.declared.error.ChainError.TheVariants as chain_error

@@ -4,9 +4,9 @@ use Rattle.std.specs.List.{list_any}
 use Rattle.std.proofs.lemmas.List.Folds.{list_any_at}
 use Rattle.std.proofs.lemmas.Map.Views.{Contains-from_any}
 use Rattle.std.proofs.lemmas.Slice.Eq.{bytes_eq-Decides}
-use Rattle.jt_filters.specs.declared.filter_id.FilterId.{FilterId}
-use Rattle.jt_filters.specs.declared.filter_id.FilterId.TheVariants as f
-use Rattle.jt_filters.specs.FilterTable.{filters, filter_names}
+use Rattle.jt_ids.specs.declared.filter_id.FilterId.{FilterId}
+use Rattle.jt_ids.specs.declared.filter_id.FilterId.TheVariants as f
+use Rattle.jt_ids.specs.FilterTable.{filters, filter_names}
 use Rattle.jt_expr.specs.Named.{is_filter}
 use Rattle.jt_expr.specs.Trees.{Text}
 use Rattle.jt_expr.proofs.Branches.{false_unless}

@@ -4,40 +4,40 @@ use Rattle.std.specs.List.{list_any}
 use Rattle.std.proofs.lemmas.List.Folds.{list_any_at}
 use Rattle.std.proofs.lemmas.Map.Views.{Contains-from_any}
 use Rattle.std.proofs.lemmas.Slice.Eq.{bytes_eq-Decides}
-use Rattle.jt_ops.specs.declared.test_id.TestId.{TestId}
-use Rattle.jt_ops.specs.declared.test_id.TestId.TheVariants as t
-use Rattle.jt_ops.specs.TestTable.{test_names}
+use Rattle.jt_ids.specs.declared.test_id.TestId.{TestId}
+use Rattle.jt_ids.specs.declared.test_id.TestId.TheVariants as t
+use Rattle.jt_ids.specs.TestTable.{test_names, tests}
 use Rattle.jt_expr.specs.declared.tree.Expr.{Expr}
 use Rattle.jt_expr.specs.declared.named.Named.{Named}
 use Rattle.jt_expr.specs.Trees.{Text}
 use Rattle.jt_expr.specs.View.{expr_view, exprs_view, pairs_view}
-use Rattle.jt_expr.specs.Named.{all_tests, is_test, has_unknown, exprs_have_unknown, pairs_have_unknown}
+use Rattle.jt_expr.specs.Named.{is_test, has_unknown, exprs_have_unknown, pairs_have_unknown}
 use Rattle.jt_expr.proofs.Branches.{false_unless}
 
 contained : (x : Text) (ks : List Text) → Contains ks x → list_any (bytes_eq x) ks ≡ true
 contained x ks c = list_any_at (bytes_eq x) ks c.0 x c.1 ((bytes_eq-Decides x (get_or ks c.0 x)).1 (sym c.2))
 
-one_of : (p : TestId → Bool) (i : TestId) → p i ≡ true → list_any p all_tests ≡ true
-one_of p t.Boolean h = list_any_at p all_tests 0 t.Boolean (omega arith) h
-one_of p t.Defined h = list_any_at p all_tests 1 t.Boolean (omega arith) h
-one_of p t.DivisibleBy h = list_any_at p all_tests 2 t.Boolean (omega arith) h
-one_of p t.Equal h = list_any_at p all_tests 3 t.Boolean (omega arith) h
-one_of p t.NotEqual h = list_any_at p all_tests 4 t.Boolean (omega arith) h
-one_of p t.Escaped h = list_any_at p all_tests 5 t.Boolean (omega arith) h
-one_of p t.Even h = list_any_at p all_tests 6 t.Boolean (omega arith) h
-one_of p t.Odd h = list_any_at p all_tests 7 t.Boolean (omega arith) h
-one_of p t.False h = list_any_at p all_tests 8 t.Boolean (omega arith) h
-one_of p t.True h = list_any_at p all_tests 9 t.Boolean (omega arith) h
-one_of p t.GreaterOrEqual h = list_any_at p all_tests 10 t.Boolean (omega arith) h
-one_of p t.Greater h = list_any_at p all_tests 11 t.Boolean (omega arith) h
-one_of p t.LessOrEqual h = list_any_at p all_tests 12 t.Boolean (omega arith) h
-one_of p t.Less h = list_any_at p all_tests 13 t.Boolean (omega arith) h
-one_of p t.In h = list_any_at p all_tests 14 t.Boolean (omega arith) h
-one_of p t.Integer h = list_any_at p all_tests 15 t.Boolean (omega arith) h
-one_of p t.Mapping h = list_any_at p all_tests 16 t.Boolean (omega arith) h
-one_of p t.None h = list_any_at p all_tests 17 t.Boolean (omega arith) h
-one_of p t.String h = list_any_at p all_tests 18 t.Boolean (omega arith) h
-one_of p t.Undefined h = list_any_at p all_tests 19 t.Boolean (omega arith) h
+one_of : (p : TestId → Bool) (i : TestId) → p i ≡ true → list_any p tests ≡ true
+one_of p t.Boolean h = list_any_at p tests 0 t.Boolean (omega arith) h
+one_of p t.Defined h = list_any_at p tests 1 t.Boolean (omega arith) h
+one_of p t.DivisibleBy h = list_any_at p tests 2 t.Boolean (omega arith) h
+one_of p t.Equal h = list_any_at p tests 3 t.Boolean (omega arith) h
+one_of p t.NotEqual h = list_any_at p tests 4 t.Boolean (omega arith) h
+one_of p t.Escaped h = list_any_at p tests 5 t.Boolean (omega arith) h
+one_of p t.Even h = list_any_at p tests 6 t.Boolean (omega arith) h
+one_of p t.Odd h = list_any_at p tests 7 t.Boolean (omega arith) h
+one_of p t.False h = list_any_at p tests 8 t.Boolean (omega arith) h
+one_of p t.True h = list_any_at p tests 9 t.Boolean (omega arith) h
+one_of p t.GreaterOrEqual h = list_any_at p tests 10 t.Boolean (omega arith) h
+one_of p t.Greater h = list_any_at p tests 11 t.Boolean (omega arith) h
+one_of p t.LessOrEqual h = list_any_at p tests 12 t.Boolean (omega arith) h
+one_of p t.Less h = list_any_at p tests 13 t.Boolean (omega arith) h
+one_of p t.In h = list_any_at p tests 14 t.Boolean (omega arith) h
+one_of p t.Integer h = list_any_at p tests 15 t.Boolean (omega arith) h
+one_of p t.Mapping h = list_any_at p tests 16 t.Boolean (omega arith) h
+one_of p t.None h = list_any_at p tests 17 t.Boolean (omega arith) h
+one_of p t.String h = list_any_at p tests 18 t.Boolean (omega arith) h
+one_of p t.Undefined h = list_any_at p tests 19 t.Boolean (omega arith) h
 
 none_of : (p : TestId → Bool) (is : List TestId) → ((i : TestId) → p i ≡ false) → list_any p is ≡ false
 none_of p [] f = refl
@@ -51,7 +51,7 @@ pub test_found : (x : Text) (r : Option TestId) → IfSome r (λ i. Contains (te
 unfolding is_test
 test_found x (Some i) found only = sym (one_of (λ j. list_any (bytes_eq x) (test_names j)) i (contained x (test_names i) found))
 test_found x None found only =
-    sym (none_of (λ j. list_any (bytes_eq x) (test_names j)) all_tests
+    sym (none_of (λ j. list_any (bytes_eq x) (test_names j)) tests
     (λ i. false_unless (list_any (bytes_eq x) (test_names i)) (λ h. same_test i (only i (Contains-from_any (λ y z q. (bytes_eq-Decides y z).0 q) x (test_names i) h)))))
 
 -- ---- rows

@@ -1,27 +1,20 @@
 -- Filters and tests whose names have a meaning. A filter's arguments may name filters and tests too.
 use Rattle.std.specs.Prelude.{◌≡◌, ℕ, suc, Bool, true, false, not, ◌||◌, List, [], ◌∷◌, Option, Some, None, bytes_eq}
 use Rattle.std.specs.List.{list_any}
-use Rattle.jt_ops.specs.declared.test_id.TestId.{TestId}
-use Rattle.jt_ops.specs.declared.test_id.TestId.TheVariants as test_of
-use Rattle.jt_ops.specs.TestTable.{test_names}
-use Rattle.jt_filters.specs.FilterTable.{filters, filter_names, filter_meant, named_at}
-use Rattle.jt_filters.specs.declared.filter_id.FilterId.{FilterId}
-use Rattle.jt_filters.specs.declared.filter_id.Naming.{Naming}
-use Rattle.jt_filters.specs.declared.filter_id.Naming.TheVariants as naming
+use Rattle.jt_ids.specs.TestTable.{test_names, tests}
+use Rattle.jt_ids.specs.FilterTable.{filters, filter_names, filter_meant, named_at}
+use Rattle.jt_ids.specs.declared.filter_id.FilterId.{FilterId}
+use Rattle.jt_ids.specs.declared.filter_id.Naming.{Naming}
+use Rattle.jt_ids.specs.declared.filter_id.Naming.TheVariants as naming
 use Rattle.jt_expr.specs.declared.named.Named.{Named}
 use Rattle.jt_expr.specs.declared.named.Named.TheVariants as n
 use Rattle.jt_expr.specs.declared.error.ExprError.{ExprError}
 use Rattle.jt_expr.specs.declared.error.ExprError.TheVariants as e
 use Rattle.jt_expr.specs.Trees.{Text, text, Expr, constant, name, group, list_of, map_of, attribute, item, call, filter, test, unary, binary, when, choice, Exprs, no_exprs, expr, Pairs, no_pairs, pair}
 
-abbrev pub all_tests : List TestId
-all_tests =
-    test_of.Boolean ∷ test_of.Defined ∷ test_of.DivisibleBy ∷ test_of.Equal ∷ test_of.NotEqual ∷ test_of.Escaped ∷ test_of.Even ∷ test_of.Odd ∷ test_of.False ∷ test_of.True
-    ∷ test_of.GreaterOrEqual ∷ test_of.Greater ∷ test_of.LessOrEqual ∷ test_of.Less ∷ test_of.In ∷ test_of.Integer ∷ test_of.Mapping ∷ test_of.None ∷ test_of.String ∷ test_of.Undefined ∷ []
-
 -- a test has the name
 unfoldable pub is_test : Text → Bool
-is_test x = list_any (λ t. list_any (bytes_eq x) (test_names t)) all_tests
+is_test x = list_any (λ t. list_any (bytes_eq x) (test_names t)) tests
 
 -- a filter has the name
 unfoldable pub is_filter : Text → Bool

@@ -1,15 +1,14 @@
 //! Filters and tests whose names have a meaning, those too that a filter's arguments name.
 
 ghost use Rattle.std.specs.Prelude.{◌≡◌, MatchResult, option_map};
-ghost use Rattle.jt_filters.specs.FilterTable.{named_at};
+ghost use Rattle.jt_ids.specs.FilterTable.{named_at};
 ghost use Rattle.jt_expr.specs.Trees.{no_exprs};
 ghost use Rattle.jt_expr.specs.View.{expr_view, exprs_view, pairs_view};
 ghost use Rattle.jt_expr.specs.Named as spec;
 
 use crate::error::ExprError;
 use crate::tree::{Expr, Literal};
-use jt_filters::{FilterId, Naming};
-use jt_ops::TestId;
+use jt_ids::{FilterId, Naming, TestId};
 
 /// What has a name that may have no meaning.
 #[derive(Clone, Copy)]

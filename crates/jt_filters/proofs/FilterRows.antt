@@ -4,13 +4,13 @@ use Rattle.jt_value.specs.declared.fault.Fault.{Fault}
 use Rattle.jt_value.specs.declared.fault.Fault.TheVariants as fault
 use Rattle.jt_value.specs.Tree.{Tree, undefined, nothing, truth_value, number, text, markup, printed}
 use Rattle.jt_escape.specs.Escaping.{escaped}
-use Rattle.jt_ops.specs.declared.op_id.OpId.TheVariants as op
-use Rattle.jt_ops.specs.declared.test_id.TestId.TheVariants as test
+use Rattle.jt_ids.specs.declared.op_id.OpId.TheVariants as op
+use Rattle.jt_ids.specs.declared.test_id.TestId.TheVariants as test
 use Rattle.jt_ops.specs.Making.{mapped}
 use Rattle.jt_ops.specs.Making.{listed as listed_all}
 use Rattle.jt_ops.specs.Operation.{operation, as_truth}
 use Rattle.jt_ops.specs.Testing.{tested, is_markup}
-use Rattle.jt_filters.specs.declared.filter_id.FilterId.TheVariants as filter
+use Rattle.jt_ids.specs.declared.filter_id.FilterId.TheVariants as filter
 use Rattle.std.specs.Char.{encode_utf8}
 use Rattle.std.specs.Fmt.{digits}
 use Rattle.std.specs.Str.{chars}

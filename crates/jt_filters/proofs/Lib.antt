@@ -3,7 +3,6 @@ pub mod Applied
 pub mod TextKeys
 pub mod Built
 pub mod Characters
-pub mod FilterNames
 pub mod FilterRows
 pub mod Firsts
 pub mod Folds
@@ -15,7 +14,6 @@ pub mod Measured
 pub mod Measures
 pub mod Merges
 pub mod MergeSteps
-pub mod Named
 pub mod Numerals
 pub mod Orders
 pub mod Payloads

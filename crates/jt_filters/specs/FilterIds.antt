@@ -3,8 +3,8 @@ use Rattle.std.specs.Prelude.{ℕ, Bool, false, ◌&&◌, List, Option, Some, No
 use Rattle.std.specs.List.{find}
 use Rattle.jt_value.specs.Tree.{Tree, undefined}
 use Rattle.jt_value.specs.declared.fault.Fault.{Fault}
-use Rattle.jt_filters.specs.declared.filter_id.FilterId.{FilterId}
-use Rattle.jt_filters.specs.FilterTable.{filter_id, filters, least_values, most_values}
+use Rattle.jt_ids.specs.declared.filter_id.FilterId.{FilterId}
+use Rattle.jt_ids.specs.FilterTable.{filter_id, filters, least_values, most_values}
 use Rattle.jt_filters.specs.Filtering.{filtered}
 
 -- the filter of an id, if there is one

@@ -4,8 +4,8 @@ use Rattle.std.specs.Prelude.{Bool, List, [], ◌∷◌, Result, Err, if◌then�
 use Rattle.jt_value.specs.declared.fault.Fault.{Fault}
 use Rattle.jt_value.specs.declared.fault.Fault.TheVariants.{BadType}
 use Rattle.jt_value.specs.Tree.{Tree}
-use Rattle.jt_filters.specs.declared.filter_id.FilterId.{FilterId}
-use Rattle.jt_filters.specs.FilterTable.{may_be_inner}
+use Rattle.jt_ids.specs.declared.filter_id.FilterId.{FilterId}
+use Rattle.jt_ids.specs.FilterTable.{may_be_inner}
 use Rattle.jt_filters.specs.Listing.{on_items}
 use Rattle.jt_filters.specs.Mapping.{gathered_by, giving}
 use Rattle.jt_filters.specs.Single.{single}

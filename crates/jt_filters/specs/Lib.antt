@@ -1,6 +1,5 @@
 pub mod Codes
 pub mod FilterIds
-pub mod FilterTable
 pub mod Filtering
 pub mod Kinds
 pub mod Listing

@@ -1,29 +1,22 @@
 -- Filters that call a filter or a test on each item, or look up its attribute: the name comes first, and its arguments behind it.
-use Rattle.std.specs.Prelude.{ℕ, ◌+◌, ◌==◌, Bool, true, false, ◌&&◌, nat_le, List, [], ◌∷◌, length, find, Option, Some, None, Result, Ok, Err, if◌then◌else◌}
-use Rattle.std.specs.List.{list_any}
-use Rattle.std.specs.Str.{bytes_eq}
+use Rattle.std.specs.Prelude.{ℕ, ◌+◌, ◌==◌, Bool, true, false, ◌&&◌, nat_le, List, [], ◌∷◌, length, Option, Some, None, Result, Ok, Err, if◌then◌else◌}
 use Rattle.jt_value.specs.declared.fault.Fault.{Fault}
 use Rattle.jt_value.specs.declared.fault.Fault.TheVariants.{BadType, BadArgument}
 use Rattle.jt_value.specs.Payload.{joined_items, text_of}
 use Rattle.jt_value.specs.Tree.{Tree, text, list, Items, no_items, item, truth}
-use Rattle.jt_ops.specs.declared.test_id.TestId.{TestId}
+use Rattle.jt_ids.specs.declared.test_id.TestId.{TestId}
 use Rattle.jt_ops.specs.ItemOf.{item_of}
-use Rattle.jt_ops.specs.Tables.{tests}
-use Rattle.jt_ops.specs.TestTable.{test_names, test_values}
+use Rattle.jt_ids.specs.TestTable.{test_of_name, test_values}
 use Rattle.jt_ops.specs.Testing.{tested, turned_round}
-use Rattle.jt_filters.specs.declared.filter_id.FilterId.{FilterId}
-use Rattle.jt_filters.specs.declared.filter_id.FilterId.TheVariants as filter
-use Rattle.jt_filters.specs.FilterTable.{filter_of_name, may_be_inner, least_values, most_values}
+use Rattle.jt_ids.specs.declared.filter_id.FilterId.{FilterId}
+use Rattle.jt_ids.specs.declared.filter_id.FilterId.TheVariants as filter
+use Rattle.jt_ids.specs.FilterTable.{filter_of_name, may_be_inner, least_values, most_values}
 use Rattle.jt_filters.specs.Single.{single}
 
 -- what a value names: only a text, markup or not, names something
 abbrev pub named_by : {A : Type 0} → (List ℕ → Option A) → Option (List ℕ) → Option A
 named_by look (Some name) = look name
 named_by look None = None
-
--- the test of a name
-abbrev pub test_named : List ℕ → Option TestId
-test_named name = find (λ test. list_any (bytes_eq name) (test_names test)) tests
 
 -- the filter of a name that `map` may call; none of those here
 abbrev pub if_inner : Option FilterId → Option FilterId
@@ -78,7 +71,7 @@ judgement_of (Some test) arguments =
 -- the judgement by a test's name and its arguments, or by a value's truth where there is no name
 abbrev pub judgement : List Tree → Result (Tree → Result Bool Fault) Fault
 judgement [] = Ok (λ t. Ok (truth t))
-judgement (name ∷ arguments) = judgement_of (named_by test_named (text_of name)) arguments
+judgement (name ∷ arguments) = judgement_of (named_by test_of_name (text_of name)) arguments
 
 -- to keep the values that pass, or those that fail
 abbrev pub passing : Bool → Result Bool Fault → Result Bool Fault

@@ -7,8 +7,8 @@ use Rattle.jt_value.specs.Tree.{Tree, undefined, truth_value, number, text, trut
 use Rattle.jt_ops.specs.Arithmetic.{on_number}
 use Rattle.jt_ops.specs.ItemOf.{item_of}
 use Rattle.jt_ops.specs.Testing.{is_text, is_undefined}
-use Rattle.jt_filters.specs.declared.filter_id.FilterId.{FilterId}
-use Rattle.jt_filters.specs.declared.filter_id.FilterId.TheVariants as filter
+use Rattle.jt_ids.specs.declared.filter_id.FilterId.{FilterId}
+use Rattle.jt_ids.specs.declared.filter_id.FilterId.TheVariants as filter
 use Rattle.jt_filters.specs.Listing.{on_items, first_item, last_item, listed, length_of, reversed, pairs_of, joined_by}
 use Rattle.jt_filters.specs.Numbers.{absolute, as_int, total}
 use Rattle.jt_filters.specs.Ordering.{sorted_list, best_item, sorted_pairs, distinct}

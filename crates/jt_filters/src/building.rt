@@ -6,7 +6,6 @@ ghost use Rattle.jt_filters.specs.Operands.{tree_of, Builds};
 ghost use Rattle.jt_filters.specs.Operands as operands;
 
 use crate::attributes::attribute;
-use crate::filter_id::FilterId;
 use crate::joining::join;
 use crate::listing::{dictsort, items, list, reverse};
 use crate::operand::Operand;
@@ -15,6 +14,7 @@ use crate::scalars::{abs, best_item, first, int, last, length, or_default, sum};
 use crate::sorting::sort;
 use crate::texts::{capitalize, escape, force_escape, lower, safe, string, trim, upper};
 use crate::unique::unique;
+use jt_ids::FilterId;
 use jt_value::{Fault, Value, ValueError};
 use std::alloc::Global;
 

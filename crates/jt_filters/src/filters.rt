@@ -2,16 +2,16 @@
 ghost use Rattle.std.specs.Prelude.{◌≡◌, ◌∷◌, true, map, length, nat_le};
 ghost use Rattle.jt_value.specs.View.{view};
 ghost use Rattle.jt_ops.specs.Limited.{limited_by, Answers};
-ghost use Rattle.jt_filters.specs.FilterTable.{least_values, most_values};
+ghost use Rattle.jt_ids.specs.FilterTable.{least_values, most_values};
 ghost use Rattle.jt_filters.specs.Filtering.{filtered};
 ghost use Rattle.jt_filters.specs.Operands.{tree_of, measured, Builds};
 
 use crate::building::build;
-use crate::filter_id::FilterId;
 use crate::mapping::{mapped, mapped_measure};
 use crate::measuring::measure;
 use crate::operand::Operand;
 use crate::unique::unique_under;
+use jt_ids::FilterId;
 use jt_ops::{Limits, OpError, allow};
 use jt_value::{Fault, Value, ValueError};
 use std::alloc::Global;

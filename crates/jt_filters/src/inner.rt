@@ -1,7 +1,7 @@
 //! What is made of each item: it is kept or not, or replaced by its attribute or by what a filter gives of it.
 ghost use Rattle.std.specs.Prelude.{◌≡◌, ◌+◌, [], ◌∷◌, ◌++◌, map, length, Ok, IfErr, OnOk, option_map};
 ghost use Rattle.jt_value.specs.View.{view, items_view};
-ghost use Rattle.jt_ops.specs.TestTable.{test_values};
+ghost use Rattle.jt_ids.specs.TestTable.{test_values};
 ghost use Rattle.jt_ops.specs.Testing as testing;
 ghost use Rattle.jt_filters.specs.Mapping.{part_of, if_kept, in_front, alone};
 ghost use Rattle.jt_filters.specs.Operands.{tree_of, chosen};
@@ -9,10 +9,10 @@ ghost use Rattle.jt_filters.specs.Rows.{judges, Judges, kept, gives, Gives, row_
 
 use crate::attributes::item_of;
 use crate::building::build;
-use crate::filter_id::FilterId;
 use crate::measuring::measure;
 use crate::operand::Operand;
-use jt_ops::{TestId, test_of, test_of_text};
+use jt_ids::{FilterId, TestId};
+use jt_ops::{test_of, test_of_text};
 use jt_value::{Fault, NoMemory, Value, ValueError};
 use std::alloc::Global;
 

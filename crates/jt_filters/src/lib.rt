@@ -4,7 +4,6 @@
 mod attributes;
 mod building;
 mod codes;
-mod filter_id;
 mod filters;
 mod folding;
 mod inner;
@@ -21,6 +20,6 @@ mod sorting;
 mod texts;
 mod unique;
 
-pub use filter_id::{FilterId, Naming};
 pub use filters::apply;
-pub use jt_ops::{Limits, OpError, OpId, TestId, binary, binary_owned, range, test, unary};
+pub use jt_ids::{FilterId, Naming, OpId, TestId};
+pub use jt_ops::{Limits, OpError, binary, binary_owned, range, test, unary};

@@ -4,15 +4,15 @@ ghost use Rattle.jt_value.specs.Payload.{text_of};
 ghost use Rattle.jt_value.specs.View.{view, items_view};
 ghost use Rattle.jt_filters.specs.Listing.{on_items};
 ghost use Rattle.jt_filters.specs.Mapping as the;
-ghost use Rattle.jt_filters.specs.Mapping.{named_by, test_named, filter_named, gathered, gathered_by, as_list};
+ghost use Rattle.jt_ids.specs.TestTable.{test_of_name};
+ghost use Rattle.jt_filters.specs.Mapping.{named_by, filter_named, gathered, gathered_by, as_list};
 ghost use Rattle.jt_filters.specs.Operands.{tree_of, items_in, measured, Builds};
 ghost use Rattle.jt_filters.specs.Rows.{Judges, judging, gives, Gives, changing, row_measured, RowFault};
 
-use crate::filter_id::FilterId;
 use crate::inner::{Change, InnerCall, Judge, Selection};
 use crate::item_list::{ItemList, items_of};
 use crate::operand::Operand;
-use jt_ops::TestId;
+use jt_ids::{FilterId, TestId};
 use jt_value::{Fault, Value, ValueError};
 use std::alloc::Global;
 
@@ -228,7 +228,7 @@ fn inner_filter(name: &Value) -> Option<FilterId>
 fn inner_by_name(name: &str) -> Option<FilterId>
     ensures { result ≡ filter_named name.now }
 {
-    match FilterId::of_name(name) {
+    match FilterId::by_name(name) {
         Some(filter) => {
             if filter.may_be_inner() {
                 Some(filter)
@@ -242,19 +242,12 @@ fn inner_by_name(name: &str) -> Option<FilterId>
 
 /// The test that a value names.
 fn named_test(name: &Value) -> Option<TestId>
-    ensures { result ≡ named_by test_named (text_of (view name.now)) }
+    ensures { result ≡ named_by test_of_name (text_of (view name.now)) }
 {
     match name.as_text() {
-        Some(name) => test_by_name(name),
+        Some(name) => TestId::by_name(name),
         None => None,
     }
-}
-
-/// The test of a name.
-fn test_by_name(name: &str) -> Option<TestId>
-    ensures { result ≡ test_named name.now }
-{
-    TestId::by_name(name)
 }
 
 /// The judgement by a test's name and its arguments, or by truth where there is no name.

@@ -7,7 +7,6 @@ ghost use Rattle.jt_filters.specs.Operands.{tree_of, measured};
 ghost use Rattle.jt_filters.specs.Operands as operands;
 
 use crate::attributes::attribute;
-use crate::filter_id::FilterId;
 use crate::joining::join_measure;
 use crate::listing::{dictsort_measure, listed_measure, pairs_of_measure, reversed_measure};
 use crate::operand::Operand;
@@ -16,6 +15,7 @@ use crate::scalars::{abs, best_item, first, int, last, length, or_default, sum};
 use crate::sorting::sort_measure;
 use crate::texts::{escape_measure, force_escape_measure, printed_measure, trim_measure};
 use crate::unique::unique_measure;
+use jt_ids::FilterId;
 use jt_value::{Fault, Value};
 use std::alloc::Global;
 

@@ -1,5 +1,1 @@
-pub mod Json
 pub mod Rendering
-pub mod Turns
-pub mod WorldCode
-pub mod Places

@@ -1,13 +1,10 @@
-//! Contexts from JSON, templates rendered in one call, and sessions that take turns.
+//! What a host of templates calls: contexts from JSON, templates rendered in one call, and sessions that take turns.
 #![tactic(auto)]
 
-mod contexts;
 mod error;
-mod numbers;
 mod rendering;
-mod sessions;
 
-pub use contexts::context_from_json;
-pub use error::{ContextError, HostError, RenderError};
+pub use error::RenderError;
+pub use jt_contexts::{ContextError, context_from_json};
+pub use jt_sessions::{Host, HostError};
 pub use rendering::render;
-pub use sessions::Host;

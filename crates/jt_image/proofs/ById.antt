@@ -3,16 +3,15 @@ use Rattle.std.proofs.Common.{◌≡◌, ℕ, Bool, true, false, cond, eqb, List
 use Rattle.std.specs.Prelude.{IfSome}
 use Rattle.std.specs.List.{find}
 use Rattle.std.proofs.lemmas.Bool.{eqb-true}
-use Rattle.jt_ops.specs.declared.op_id.OpId.{OpId}
-use Rattle.jt_ops.specs.declared.op_id.OpId.TheVariants as op
-use Rattle.jt_ops.specs.declared.test_id.TestId.{TestId}
-use Rattle.jt_ops.specs.declared.test_id.TestId.TheVariants as test
-use Rattle.jt_ops.specs.OpTable.{op_id}
-use Rattle.jt_filters.specs.declared.filter_id.FilterId.{FilterId}
-use Rattle.jt_filters.specs.declared.filter_id.FilterId.TheVariants as filter
-use Rattle.jt_filters.specs.FilterTable.{filter_id, filters}
-use Rattle.jt_ops.specs.TestTable.{test_id}
-use Rattle.jt_ops.specs.Tables.{operators, tests}
+use Rattle.jt_ids.specs.declared.op_id.OpId.{OpId}
+use Rattle.jt_ids.specs.declared.op_id.OpId.TheVariants as op
+use Rattle.jt_ids.specs.declared.test_id.TestId.{TestId}
+use Rattle.jt_ids.specs.declared.test_id.TestId.TheVariants as test
+use Rattle.jt_ids.specs.OpTable.{op_id, operators}
+use Rattle.jt_ids.specs.declared.filter_id.FilterId.{FilterId}
+use Rattle.jt_ids.specs.declared.filter_id.FilterId.TheVariants as filter
+use Rattle.jt_ids.specs.FilterTable.{filter_id, filters}
+use Rattle.jt_ids.specs.TestTable.{test_id, tests}
 use Rattle.jt_image.specs.Ids.{operator_of, filter_of, test_of}
 
 -- what is found passes the test

@@ -9,10 +9,10 @@ use Rattle.std.proofs.lemmas.Bool.{cases_lt}
 use Rattle.std.proofs.lemmas.Bool.Decides.{nat_tests}
 use Rattle.jt_parse.specs.Texts.{among, repeated}
 use Rattle.jt_parse.specs.Trees.{Text, Body}
-use Rattle.jt_inherit.specs.Chain.{Sources, Template, template, templates, extends_of, parent_of, names_up, blocks_in}
+use Rattle.jt_chains.specs.Chain.{Sources, Template, template, templates, extends_of, parent_of, names_up, blocks_in}
 use Rattle.jt_inherit.specs.Checks.{lacks_body, lacks_next}
 use Rattle.jt_inherit.specs.Kept.{their_blocks, their_macros, any_double}
-use Rattle.jt_inherit.specs.Rules.{Asks, Reaches, here, InSomeChain, is_whole, way, BadName, ExtendsCycle, ChainTooLong, DoubleBlock, RequiredNotGiven, NoSuper, IncludeCycle, MacroTwice}
+use Rattle.jt_chains.specs.Rules.{Asks, Reaches, here, InSomeChain, is_whole, way, BadName, ExtendsCycle, ChainTooLong, DoubleBlock, RequiredNotGiven, NoSuper, IncludeCycle, MacroTwice}
 use Rattle.jt_inherit.proofs.Among.{reflexive, or_true, or_false, both_false, among_front}
 use Rattle.jt_inherit.proofs.Growing.{Carries, carries_up, front_carried, names_more, templates_more, up_more, up_some, on_way, on_first, included_more, reaches_more, reaches_next, asked_more}
 use Rattle.jt_inherit.proofs.OnWay.{and_true}

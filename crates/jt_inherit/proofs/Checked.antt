@@ -10,14 +10,14 @@ use denote.Ref.{Bor}
 use Rattle.jt_parse.specs.Texts.{among, repeated}
 use Rattle.jt_parse.specs.Trees.{Text, end}
 use Rattle.std.specs.Option.{option_to_list}
-use Rattle.jt_inherit.specs.Along.{body_at, templates_at}
+use Rattle.jt_chains.specs.Along.{body_at, templates_at}
 use Rattle.jt_inherit.specs.Kept.{any_double}
-use Rattle.jt_inherit.specs.Chain.{Template, BlockBody, from_given, blocks_in}
+use Rattle.jt_chains.specs.Chain.{Template, BlockBody, from_given, blocks_in}
 use Rattle.jt_inherit.specs.Checks.{named, lacks_body, lacks_next, block_names}
-use Rattle.jt_inherit.specs.Parts.{block_view, blocks_view, name_at}
-use Rattle.jt_inherit.specs.declared.parts.Block.{Block}
-use Rattle.jt_inherit.specs.Rules.{is_required, lacks_super, is_empty}
-use Rattle.jt_inherit.specs.Supers.{calls_super}
+use Rattle.jt_chains.specs.Parts.{block_view, blocks_view, name_at}
+use Rattle.jt_chains.specs.declared.parts.Block.{Block}
+use Rattle.jt_chains.specs.Rules.{is_required, lacks_super, is_empty}
+use Rattle.jt_chains.specs.Supers.{calls_super}
 use Rattle.jt_inherit.specs.SetView.{texts}
 use Rattle.jt_inherit.proofs.Among.{same, reflexive, symmetric, or_false, or_true, both_false, among_next, once_more}
 

@@ -5,10 +5,10 @@ use Rattle.std.specs.Option.{is_some}
 use Rattle.std.specs.Str.{bytes_eq}
 use Rattle.jt_parse.specs.Texts.{among, repeated}
 use Rattle.jt_parse.specs.Trees.{Text, Stmt, data_of, print, choose, for_each, set, set_block, with_values, filter_block, autoescape, macro, include, extends, block, Body, end, stmt, Branches, no_branches, branch, stmt_weight, body_weight, branch_weight}
-use Rattle.jt_inherit.specs.Chain.{Sources, Home, Template, templates}
-use Rattle.jt_inherit.specs.Includes.{needs_by, needs_in, needs_under, included, AllIn, InOrder}
-use Rattle.jt_inherit.specs.Rules.{Reaches, here, through}
-use Rattle.jt_inherit.specs.Small.{templates_weight, chains_weight}
+use Rattle.jt_chains.specs.Chain.{Sources, Home, Template, templates}
+use Rattle.jt_chains.specs.Includes.{needs_by, needs_in, needs_under, included, AllIn, InOrder}
+use Rattle.jt_chains.specs.Rules.{Reaches, here, through}
+use Rattle.jt_chains.specs.Weights.{templates_weight, chains_weight}
 use Rattle.jt_inherit.proofs.Among.{same, reflexive, both_false, among_front, among_behind}
 use Rattle.jt_inherit.proofs.Ordered.{no_more}
 

@@ -8,15 +8,16 @@ use Rattle.std.proofs.lemmas.List.{append_assoc}
 use Rattle.jt_scan.specs.declared.options.Options.{Options}
 use Rattle.jt_parse.specs.Texts.{among}
 use Rattle.jt_parse.specs.Trees.{Text}
-use Rattle.jt_inherit.specs.Along.{ArePlaces, templates_at, includes_along}
-use Rattle.jt_inherit.specs.Chain.{Template, templates, sources_in}
+use Rattle.jt_chains.specs.Along.{ArePlaces, templates_at}
+use Rattle.jt_inherit.specs.Along.{includes_along}
+use Rattle.jt_chains.specs.Chain.{Template, templates, sources_in}
 use Rattle.jt_inherit.specs.Chains.{Given, IsRead}
 use Rattle.jt_inherit.specs.Found.{AreNext, IsMet, IsNeedFault, IsNextFault, IsFollowed, AreFollowed, AreFound, chosen}
-use Rattle.jt_inherit.specs.Includes.{included, needs_in}
+use Rattle.jt_chains.specs.Includes.{included, needs_in}
 use Rattle.jt_inherit.specs.Needs.{Need, needed, includes_in}
-use Rattle.jt_inherit.specs.Places.{home_at}
+use Rattle.jt_chains.specs.Places.{home_at}
 use Rattle.jt_inherit.specs.Refusals.{Breaks}
-use Rattle.jt_inherit.specs.Rules.{Asks, Reaches, here, asked, way}
+use Rattle.jt_chains.specs.Rules.{Asks, Reaches, here, asked, way}
 use Rattle.jt_inherit.specs.Ways.{AreKnown, IsWay}
 use Rattle.jt_inherit.specs.declared.error.ChainError.{ChainError}
 use Rattle.jt_inherit.specs.declared.error.ChainError.TheVariants as error
@@ -25,11 +26,11 @@ use Rattle.jt_inherit.proofs.Following.{met_grows, numbers_grow, text_among}
 use Rattle.jt_inherit.proofs.Growing.{reach_more, ask_more, reaches_next}
 use Rattle.jt_inherit.proofs.Leads.{names, names_to_root, templates_grow, way_grows, few_templates, templates_to_root, asked_breaks}
 use Rattle.jt_inherit.proofs.Needed.{by_templates}
-use Rattle.jt_inherit.proofs.Placed.{along_templates, map_at, length-map}
+use Rattle.jt_chains.proofs.Placed.{along_templates, map_at, length-map}
 use Rattle.jt_order.specs.View.{graph_of}
-use Rattle.jt_inherit.specs.Pages.{page_view, pages_view}
+use Rattle.jt_chains.specs.Pages.{page_view, pages_view}
 use Rattle.jt_inherit.specs.SetView.{strings}
-use Rattle.jt_inherit.specs.declared.linked.Page.{Page}
+use Rattle.jt_chains.specs.declared.linked.Page.{Page}
 
 -- ---- templates at places
 

@@ -6,9 +6,9 @@ use Rattle.std.specs.Str.{bytes_eq}
 use Rattle.std.proofs.lemmas.List.{append_assoc}
 use Rattle.jt_parse.specs.Texts.{among}
 use Rattle.jt_parse.specs.Trees.{Text, Body}
-use Rattle.jt_inherit.specs.Chain.{Sources, Template, template, templates, extends_of, parent_of, names_up, sources_in}
-use Rattle.jt_inherit.specs.Includes.{included, needs_in}
-use Rattle.jt_inherit.specs.Rules.{Asks, Reaches, here, through, asked, way}
+use Rattle.jt_chains.specs.Chain.{Sources, Template, template, templates, extends_of, parent_of, names_up, sources_in}
+use Rattle.jt_chains.specs.Includes.{included, needs_in}
+use Rattle.jt_chains.specs.Rules.{Asks, Reaches, here, through, asked, way}
 use Rattle.jt_inherit.proofs.Among.{same, reflexive, or_true, among_front, among_behind, among_cases}
 use Rattle.jt_inherit.proofs.Leads.{more_sources}
 

@@ -9,20 +9,20 @@ use Rattle.std.proofs.lemmas.List.{append-nil, append_assoc, drop_more}
 use Rattle.jt_scan.specs.declared.options.Options.{Options}
 use Rattle.jt_parse.specs.Texts.{among, repeated}
 use Rattle.jt_parse.specs.Trees.{Text, Body, end}
-use Rattle.jt_inherit.specs.Along.{ArePlaces, templates_at}
-use Rattle.jt_inherit.specs.Chain.{Sources, Template, template, templates, extends_of, parent_of, names_up, sources_in}
+use Rattle.jt_chains.specs.Along.{ArePlaces, templates_at}
+use Rattle.jt_chains.specs.Chain.{Sources, Template, template, templates, extends_of, parent_of, names_up, sources_in}
 use Rattle.jt_inherit.specs.Chains.{Given, IsRead, IsOnly}
 use Rattle.jt_inherit.specs.Faults.{IsFaultOf}
-use Rattle.jt_inherit.specs.Includes.{needs_in}
-use Rattle.jt_inherit.specs.Pages.{page_view, pages_view}
-use Rattle.jt_inherit.specs.declared.linked.Page.{Page}
+use Rattle.jt_chains.specs.Includes.{needs_in}
+use Rattle.jt_chains.specs.Pages.{page_view, pages_view}
+use Rattle.jt_chains.specs.declared.linked.Page.{Page}
 use Rattle.jt_inherit.specs.Refusals.{Breaks}
-use Rattle.jt_inherit.specs.Rules.{Reaches, asked, way}
+use Rattle.jt_chains.specs.Rules.{Reaches, asked, way}
 use Rattle.jt_inherit.specs.Ways.{Leads, AreKnown, IsWay, IsWithin}
 use Rattle.jt_inherit.specs.declared.error.ChainError.{ChainError}
 use Rattle.jt_inherit.specs.declared.error.ChainError.TheVariants as error
 use Rattle.jt_inherit.proofs.Among.{reflexive, or_false, among_front, among_next, once_more, comes_again, map_more, all_more}
-use Rattle.jt_inherit.proofs.Placed.{length-map, only_one, map_at, place_within}
+use Rattle.jt_chains.proofs.Placed.{length-map, only_one, map_at, place_within}
 
 abbrev pub names : List Template → List Text
 names = map (λ t. t.name)

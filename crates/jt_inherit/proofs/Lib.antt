@@ -6,7 +6,6 @@ pub mod Escapes
 pub mod Fewer
 pub mod Finding
 pub mod Following
-pub mod Gathered
 pub mod Growing
 pub mod Leads
 pub mod Lengths
@@ -16,10 +15,8 @@ pub mod Naming
 pub mod Needed
 pub mod OnWay
 pub mod Ordered
-pub mod Placed
 pub mod Raws
 pub mod Ruled
 pub mod Settled
-pub mod Shown
 pub mod SuperIn
 pub mod Whole

@@ -6,10 +6,10 @@ use Rattle.jt_order.specs.Graph.{Graph, next_of}
 use Rattle.jt_order.specs.View.{graph_of}
 use Rattle.jt_parse.specs.Trees.{Text}
 use Rattle.jt_inherit.specs.Found.{HasHomes}
-use Rattle.jt_inherit.specs.Pages.{home_name}
-use Rattle.jt_inherit.specs.Places.{home_at}
-use Rattle.jt_inherit.specs.declared.linked.Home.{Home}
-use Rattle.jt_inherit.proofs.Placed.{map_at}
+use Rattle.jt_chains.specs.Pages.{home_name}
+use Rattle.jt_chains.specs.Places.{home_at}
+use Rattle.jt_chains.specs.declared.linked.Home.{Home}
+use Rattle.jt_chains.proofs.Placed.{map_at}
 
 pub way_number : (vs us : List (Vec ℕ Global)) (i : ℕ) (v : Vec ℕ Global) (is : List ℕ) → us ≡ vs → i < length us → v ≡ get_or us i v → is ≡ v.items → next_of (graph_of vs) i ≡ is
 way_number vs us i v is e lt at items =

@@ -10,7 +10,7 @@ use Rattle.jt_parse.specs.Texts.{among}
 use Rattle.jt_parse.specs.Trees.{Text}
 use Rattle.jt_inherit.specs.SetView.{strings}
 use Rattle.jt_inherit.proofs.Among.{same, symmetric, map_more}
-use Rattle.jt_inherit.proofs.Placed.{map_at}
+use Rattle.jt_chains.proofs.Placed.{map_at}
 
 pub any_string : (x : Text) (ks : List (String Global)) → list_any (λ k. bytes_eq x (string_bytes k)) ks ≡ among x (strings ks)
 any_string x [] = refl

@@ -1,7 +1,7 @@
 -- When a text is a name.
 use Rattle.std.proofs.Common.{ℕ, ◌<◌, ◌≤◌, ◌==◌, Bool, true, false, List, [], ◌∷◌, length, refl, arith, All, IsTrue, ◌↔◌, MatchBool}
 use Rattle.std.specs.List.{slice_split, AllWithin, HoldsAt}
-use Rattle.jt_inherit.specs.Names.{Text, IsNameByte, IsPart, IsName}
+use Rattle.jt_chains.specs.Names.{Text, IsNameByte, IsPart, IsName}
 
 -- the parts of a name
 abbrev pub parts : Text → List Text

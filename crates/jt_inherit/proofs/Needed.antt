@@ -4,8 +4,8 @@ use Rattle.std.specs.Prelude.{flat_map}
 use Rattle.std.proofs.lemmas.List.{append-nil, append_assoc}
 use Rattle.jt_parse.specs.Trees as trees
 use Rattle.jt_parse.specs.Trees.{Text, Body, Branches}
-use Rattle.jt_inherit.specs.Chain.{Template}
-use Rattle.jt_inherit.specs.Includes.{needs_by, needs_in, needs_under}
+use Rattle.jt_chains.specs.Chain.{Template}
+use Rattle.jt_chains.specs.Includes.{needs_by, needs_in, needs_under}
 use Rattle.jt_inherit.specs.Needs.{Need, needed, includes_of, includes_in, includes_under}
 
 pub needed-append : (all : Bool) (ns ms : List Need) → needed all (ns ++ ms) ≡ needed all ns ++ needed all ms

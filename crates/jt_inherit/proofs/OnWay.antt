@@ -9,11 +9,12 @@ use Rattle.jt_scan.specs.declared.options.Options.{Options}
 use Rattle.jt_parse.specs.Bytes.{body_bytes}
 use Rattle.jt_parse.specs.Texts.{among, repeated}
 use Rattle.jt_parse.specs.Trees.{Text}
-use Rattle.jt_inherit.specs.Chain.{Sources, Template, extends_of, parent_of, names_up}
+use Rattle.jt_chains.specs.Chain.{Sources, Template, extends_of, parent_of, names_up}
 use Rattle.jt_inherit.specs.Chains.{Given, IsRead}
-use Rattle.jt_inherit.specs.Names.{IsName}
-use Rattle.jt_inherit.specs.Pages.{names_at}
-use Rattle.jt_inherit.specs.Small.{templates_weight, templates_len, source_len}
+use Rattle.jt_chains.specs.Names.{IsName}
+use Rattle.jt_chains.specs.Pages.{names_at}
+use Rattle.jt_chains.specs.Weights.{templates_weight}
+use Rattle.jt_inherit.specs.Small.{templates_len, source_len}
 use Rattle.jt_inherit.specs.Ways.{Leads, IsWithin}
 use Rattle.jt_inherit.proofs.Among.{same, or_true, both_false}
 use Rattle.jt_inherit.proofs.Leads.{names}

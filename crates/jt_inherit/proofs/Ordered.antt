@@ -8,10 +8,10 @@ use Rattle.jt_order.specs.Graph as graph
 use Rattle.jt_order.specs.Graph.{Graph, next_of, AreOrdered}
 use Rattle.jt_parse.specs.Texts.{among, repeated}
 use Rattle.jt_parse.specs.Trees.{Text}
-use Rattle.jt_inherit.specs.Chain.{Sources}
-use Rattle.jt_inherit.specs.Includes.{included, AllIn, InOrder}
-use Rattle.jt_inherit.specs.Places.{home_at}
-use Rattle.jt_inherit.specs.Rules.{Reaches, here, through}
+use Rattle.jt_chains.specs.Chain.{Sources}
+use Rattle.jt_chains.specs.Includes.{included, AllIn, InOrder}
+use Rattle.jt_chains.specs.Places.{home_at}
+use Rattle.jt_chains.specs.Rules.{Reaches, here, through}
 use Rattle.jt_inherit.proofs.Among.{same, reflexive, or_true, or_false, both_false}
 
 equal : (i j : ℕ) → (i == j) ≡ true → i ≡ j

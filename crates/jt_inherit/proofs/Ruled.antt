@@ -2,14 +2,14 @@
 use Rattle.std.proofs.Common.{◌≡◌, ℕ, Bool, List, [], ◌∷◌, map, refl, sym, ap, ◌∙◌, Some}
 use Rattle.std.specs.Prelude.{slice_get}
 use Rattle.jt_parse.specs.Texts.{repeated}
-use Rattle.jt_inherit.specs.Along.{macros_along, blocks_along}
-use Rattle.jt_inherit.specs.Chain.{Template, MacroBody, macros_in, blocks_in}
+use Rattle.jt_chains.specs.Along.{macros_along, blocks_along}
+use Rattle.jt_chains.specs.Chain.{Template, MacroBody, macros_in, blocks_in}
 use Rattle.jt_inherit.specs.Checks.{lacks_body, lacks_next, macro_names}
 use Rattle.jt_inherit.specs.Kept.{their_blocks, their_macros}
-use Rattle.jt_inherit.specs.Parts.{macros_view, blocks_view}
-use Rattle.jt_inherit.specs.declared.parts.Block.{Block}
-use Rattle.jt_inherit.specs.declared.parts.Macro.{Macro}
-use Rattle.jt_inherit.proofs.Placed.{along_templates}
+use Rattle.jt_chains.specs.Parts.{macros_view, blocks_view}
+use Rattle.jt_chains.specs.declared.parts.Block.{Block}
+use Rattle.jt_chains.specs.declared.parts.Macro.{Macro}
+use Rattle.jt_chains.proofs.Placed.{along_templates}
 
 macros_seen : (ts : List Template) (ms : List Macro) → map (λ (m : MacroBody). m.name) (macros_view ts ms) ≡ macro_names ms
 macros_seen ts [] = refl

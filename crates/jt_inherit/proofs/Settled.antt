@@ -6,12 +6,12 @@ use Rattle.std.specs.Str.{bytes_eq}
 use Rattle.jt_scan.specs.declared.options.Options.{Options}
 use Rattle.jt_parse.specs.Texts.{among}
 use Rattle.jt_parse.specs.Trees.{Text, Body}
-use Rattle.jt_inherit.specs.Chain.{Sources, Template, sources_in}
+use Rattle.jt_chains.specs.Chain.{Sources, Template, sources_in}
 use Rattle.jt_inherit.specs.Chains.{Given, IsTree, IsRead, IsOnly, IsChain}
 use Rattle.jt_inherit.specs.Refusals.{Breaks, Shows, HasFault, IsUncut, IsUnspelled}
-use Rattle.jt_inherit.specs.Rules as rules
-use Rattle.jt_inherit.specs.Rules.{Asks, here, asked, KeepsRules}
-use Rattle.jt_inherit.specs.View.{Seen, sources_of}
+use Rattle.jt_chains.specs.Rules as rules
+use Rattle.jt_chains.specs.Rules.{Asks, here, asked, KeepsRules}
+use Rattle.jt_chains.specs.View.{Seen, sources_of}
 use Rattle.jt_inherit.specs.declared.error.ChainError.{ChainError}
 use Rattle.jt_inherit.specs.declared.error.ChainError.TheVariants as error
 use Rattle.jt_inherit.proofs.Among.{same, or_true}

@@ -4,8 +4,8 @@ use Rattle.jt_expr.specs.View.{expr_view}
 use Rattle.jt_parse.specs.View.{stmt_view, body_view, branches_view}
 use Rattle.jt_parse.specs.declared.tree.Stmt.{Stmt}
 use Rattle.jt_parse.specs.declared.tree.Stmt.TheVariants.{If}
-use Rattle.jt_inherit.specs.Supers.{has_super, stmt_super, calls_super, branches_super}
-use Rattle.jt_inherit.proofs.Shown.{Branch, branches_left, view-If}
+use Rattle.jt_chains.specs.Supers.{has_super, stmt_super, calls_super, branches_super}
+use Rattle.jt_chains.proofs.Shown.{Branch, branches_left, view-If}
 
 or_true : (a b : Bool) → b ≡ true → (a || b) ≡ true
 or_true true b h = refl

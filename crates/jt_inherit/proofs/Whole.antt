@@ -13,27 +13,29 @@ use Rattle.jt_order.specs.declared.error.OrderError.TheVariants as order
 use Rattle.jt_scan.specs.declared.options.Options.{Options}
 use Rattle.jt_parse.specs.Texts.{among, repeated}
 use Rattle.jt_parse.specs.Trees.{Text, Body}
-use Rattle.jt_inherit.specs.Along.{ArePlaces, templates_at, includes_along}
-use Rattle.jt_inherit.specs.Chain.{Template, templates, sources_in, macros, all_bodies}
+use Rattle.jt_chains.specs.Along.{ArePlaces, templates_at}
+use Rattle.jt_inherit.specs.Along.{includes_along}
+use Rattle.jt_chains.specs.Chain.{Template, templates, sources_in, macros, all_bodies}
 use Rattle.jt_inherit.specs.Chains.{Given, IsChain}
 use Rattle.jt_inherit.specs.Checks.{lacks_body, lacks_next}
 use Rattle.jt_inherit.specs.Found.{AreFound, IsFollowed, AreFollowed, IsMet, BreaksAt, HasHomes, chosen}
-use Rattle.jt_inherit.specs.Includes.{included, InOrder}
+use Rattle.jt_chains.specs.Includes.{included, InOrder}
 use Rattle.jt_inherit.specs.Kept.{KeepAll, BreakOne, their_blocks, their_macros, any_double}
-use Rattle.jt_inherit.specs.Names.{IsName}
+use Rattle.jt_chains.specs.Names.{IsName}
 use Rattle.jt_inherit.specs.Needs.{Need, needed}
-use Rattle.jt_inherit.specs.Pages.{home_name, names_at, AreWhole}
-use Rattle.jt_inherit.specs.Places.{home_at}
+use Rattle.jt_chains.specs.Pages.{home_name, names_at, AreWhole}
+use Rattle.jt_chains.specs.Places.{home_at}
 use Rattle.jt_inherit.specs.Refusals.{Breaks}
 use Rattle.jt_inherit.specs.Refused.{gives}
-use Rattle.jt_inherit.specs.Rules as rules
-use Rattle.jt_inherit.specs.Rules.{Asks, Reaches, here, asked, way, is_whole, KeepsRules}
-use Rattle.jt_inherit.specs.Small.{templates_weight, templates_len, chains_weight, chains_len}
-use Rattle.jt_inherit.specs.View.{Seen}
+use Rattle.jt_chains.specs.Rules as rules
+use Rattle.jt_chains.specs.Rules.{Asks, Reaches, here, asked, way, is_whole, KeepsRules}
+use Rattle.jt_chains.specs.Weights.{templates_weight, chains_weight}
+use Rattle.jt_inherit.specs.Small.{templates_len, chains_len}
+use Rattle.jt_chains.specs.View.{Seen}
 use Rattle.jt_inherit.specs.Ways.{AreKnown, IsWay, IsWithin}
 use Rattle.jt_inherit.specs.declared.error.ChainError.{ChainError}
 use Rattle.jt_inherit.specs.declared.error.ChainError.TheVariants as error
-use Rattle.jt_inherit.specs.declared.linked.Home.{Home}
+use Rattle.jt_chains.specs.declared.linked.Home.{Home}
 use Rattle.jt_inherit.proofs.Among.{same, both_false, or_true, or_false, among_cases}
 use Rattle.jt_inherit.proofs.Fewer.{few_chains}
 use Rattle.jt_inherit.proofs.Finding.{none_read, few_way, way_names, asked_way, placed_templates, included_is, whole_way, some_source}
@@ -41,7 +43,7 @@ use Rattle.jt_inherit.proofs.Following.{text_among}
 use Rattle.jt_inherit.proofs.Leads.{names, few_templates, all_at_places}
 use Rattle.jt_inherit.proofs.OnWay.{never, and_false, and_true, too_few, few_names, all_named, have_sources, all_among, repeated_up, weigh, names_placed}
 use Rattle.jt_inherit.proofs.Ordered.{home_among, number_of, names_in_order, reached_in_order, no_cycle, first_in_order, no_more, named_among}
-use Rattle.jt_inherit.proofs.Placed.{length-map, given_templates}
+use Rattle.jt_chains.proofs.Placed.{length-map, given_templates}
 
 -- ---- chains by their numbers
 

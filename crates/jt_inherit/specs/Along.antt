@@ -1,41 +1,8 @@
--- What only private clauses cite: the templates at some places, in this order.
-use Rattle.std.specs.Prelude.{ℕ, Bool, ◌<◌, List, [], ◌∷◌, ◌++◌, length, slice_get, unwrap_or, option_map}
-use Rattle.std.specs.List.{AllByRecursion}
-use Rattle.std.specs.Option.{option_to_list}
-use Rattle.jt_parse.specs.Trees.{Text, Body, end}
-use Rattle.jt_inherit.specs.Chain.{Template, MacroBody, BlockBody, macros_in, blocks_in}
+-- What only private clauses cite: the includes of the templates at some places, in this order.
+use Rattle.std.specs.Prelude.{ℕ, List}
+use Rattle.jt_chains.specs.Along.{along}
+use Rattle.jt_chains.specs.Chain.{Template}
 use Rattle.jt_inherit.specs.Needs.{Need, includes_in}
-use Rattle.jt_inherit.specs.Parts.{name_at}
 
-module _ (ts : List Template) where
-  -- places of templates
-  abbrev pub ArePlaces : List ℕ → Type 0
-  ArePlaces = AllByRecursion (λ i. i < length ts)
-
-  -- the templates themselves
-  abbrev pub templates_at : List ℕ → List Template
-  templates_at [] = []
-  templates_at (i ∷ is) = option_to_list (slice_get ts i) ++ templates_at is
-
-  -- the tree of the template at a place
-  abbrev pub body_at : ℕ → Body
-  body_at i = unwrap_or (option_map (λ t. t.body) (slice_get ts i)) end
-
-  -- what the templates have, one behind the other
-  abbrev pub along : {A : Type 0} → (Text → Body → List A) → List ℕ → List A
-  along g [] = []
-  along g (i ∷ is) = g (name_at ts i) (body_at i) ++ along g is
-
-  -- their macros, the bodies of their blocks, and their includes
-  abbrev pub macros_along : List ℕ → List MacroBody
-  macros_along = along macros_in
-
-  abbrev pub blocks_along : Bool → List ℕ → List BlockBody
-  blocks_along escaping = along (λ n b. blocks_in n b escaping)
-
-  abbrev pub includes_along : List ℕ → List Need
-  includes_along = along (λ n b. includes_in b)
-
-  -- the templates themselves
-  abbrev pub layers_along : List ℕ → List Template
-  layers_along = along (λ n b. record { name = n; body = b } ∷ [])
+abbrev pub includes_along : List Template → List ℕ → List Need
+includes_along ts = along ts (λ n b. includes_in b)

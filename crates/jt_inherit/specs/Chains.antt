@@ -11,11 +11,11 @@ use Rattle.jt_parse.specs.Names.{body_unknown}
 use Rattle.jt_parse.specs.Refusals.{max_levels}
 use Rattle.jt_parse.specs.Texts.{among, repeated}
 use Rattle.jt_parse.specs.Trees.{Text, Body, body_levels}
-use Rattle.jt_inherit.specs.Chain.{Home, Template}
-use Rattle.jt_inherit.specs.Includes.{InOrder}
-use Rattle.jt_inherit.specs.Names.{IsName}
-use Rattle.jt_inherit.specs.Rules.{Asks, Reaches, KeepsRules}
-use Rattle.jt_inherit.specs.View.{Seen, sources_of}
+use Rattle.jt_chains.specs.Chain.{Home, Template}
+use Rattle.jt_chains.specs.Includes.{InOrder}
+use Rattle.jt_chains.specs.Names.{IsName}
+use Rattle.jt_chains.specs.Rules.{Asks, Reaches, KeepsRules}
+use Rattle.jt_chains.specs.View.{Seen, sources_of}
 
 -- the source of each name, as it is given
 abbrev pub Given : Type 0

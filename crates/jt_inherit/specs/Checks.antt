@@ -3,10 +3,10 @@ use Rattle.std.specs.Prelude.{Bool, List, map, filter}
 use Rattle.std.specs.List.{list_any}
 use Rattle.std.specs.Str.{bytes_eq}
 use Rattle.jt_parse.specs.Trees.{Text}
-use Rattle.jt_inherit.specs.Chain.{BlockBody}
-use Rattle.jt_inherit.specs.Rules.{is_required, lacks_super}
-use Rattle.jt_inherit.specs.declared.parts.Macro.{Macro}
-use Rattle.jt_inherit.specs.declared.parts.Block.{Block}
+use Rattle.jt_chains.specs.Chain.{BlockBody}
+use Rattle.jt_chains.specs.Rules.{is_required, lacks_super}
+use Rattle.jt_chains.specs.declared.parts.Macro.{Macro}
+use Rattle.jt_chains.specs.declared.parts.Block.{Block}
 
 -- those of one block
 abbrev pub named : Text → List BlockBody → List BlockBody

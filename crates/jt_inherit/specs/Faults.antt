@@ -7,7 +7,7 @@ use Rattle.jt_parse.specs.Trees.{Text}
 use Rattle.jt_parse.specs.declared.error.ParseError.{ParseError}
 use Rattle.jt_parse.specs.declared.error.ParseError.TheVariants as parse_error
 use Rattle.jt_inherit.specs.Chains.{Given, HasNoTree}
-use Rattle.jt_inherit.specs.Names.{IsName}
+use Rattle.jt_chains.specs.Names.{IsName}
 use Rattle.jt_inherit.specs.Refusals.{IsUncut, IsUnspelled}
 use Rattle.jt_inherit.specs.declared.error.ChainError.{ChainError}
 use Rattle.jt_inherit.specs.declared.error.ChainError.TheVariants as error

@@ -6,21 +6,22 @@ use Rattle.jt_order.specs.View.{graph_of}
 use Rattle.jt_parse.specs.Texts.{among, repeated}
 use Rattle.jt_parse.specs.Trees.{Text}
 use Rattle.jt_scan.specs.declared.options.Options.{Options}
-use Rattle.jt_inherit.specs.Along.{includes_along, templates_at}
-use Rattle.jt_inherit.specs.Chain.{Template, sources_in}
+use Rattle.jt_chains.specs.Along.{templates_at}
+use Rattle.jt_inherit.specs.Along.{includes_along}
+use Rattle.jt_chains.specs.Chain.{Template, sources_in}
 use Rattle.jt_inherit.specs.Chains.{Given}
 use Rattle.jt_inherit.specs.Faults.{IsFaultOf}
 use Rattle.jt_inherit.specs.Kept.{BreakOne}
-use Rattle.jt_inherit.specs.Names.{IsName}
+use Rattle.jt_chains.specs.Names.{IsName}
 use Rattle.jt_inherit.specs.Needs.{Need, needed}
-use Rattle.jt_inherit.specs.Pages.{pages_view, home_name}
-use Rattle.jt_inherit.specs.Places.{home_at}
-use Rattle.jt_inherit.specs.Rules.{max_chains, Asks, Reaches}
+use Rattle.jt_chains.specs.Pages.{pages_view, home_name}
+use Rattle.jt_chains.specs.Places.{home_at}
+use Rattle.jt_chains.specs.Rules.{max_chains, Asks, Reaches}
 use Rattle.jt_inherit.specs.SetView.{strings}
 use Rattle.jt_inherit.specs.Ways.{AreKnown, IsWay}
 use Rattle.jt_inherit.specs.declared.discovery.Found.{Found}
 use Rattle.jt_inherit.specs.declared.error.ChainError.{ChainError}
-use Rattle.jt_inherit.specs.declared.linked.Home.{Home}
+use Rattle.jt_chains.specs.declared.linked.Home.{Home}
 use Rattle.jt_inherit.specs.declared.error.ChainError.TheVariants as error
 
 -- a template that is included is known, or it may be missing, and is: its name is a good one without a source

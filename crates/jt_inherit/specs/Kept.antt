@@ -2,7 +2,7 @@
 use Rattle.std.specs.Prelude.{◌≡◌, true, false, Bool, List, map, flat_map}
 use Rattle.std.specs.List.{list_any}
 use Rattle.jt_parse.specs.Texts.{repeated}
-use Rattle.jt_inherit.specs.Chain.{Template, BlockBody, MacroBody, blocks_in, macros_in}
+use Rattle.jt_chains.specs.Chain.{Template, BlockBody, MacroBody, blocks_in, macros_in}
 use Rattle.jt_inherit.specs.Checks.{lacks_body, lacks_next}
 use Rattle.jt_inherit.specs.declared.error.ChainError.{ChainError}
 use Rattle.jt_inherit.specs.declared.error.ChainError.TheVariants as error

@@ -14,10 +14,10 @@ use Rattle.jt_parse.specs.Texts.{among}
 use Rattle.jt_parse.specs.Trees.{Text}
 use Rattle.jt_parse.specs.declared.error.ParseError.{ParseError}
 use Rattle.jt_parse.specs.declared.error.ParseError.TheVariants as parse_error
-use Rattle.jt_inherit.specs.Chain.{Sources, Template, sources_in}
+use Rattle.jt_chains.specs.Chain.{Sources, Template, sources_in}
 use Rattle.jt_inherit.specs.Chains.{Given, scanned, HasNoTree, AreRead, IsOnly}
-use Rattle.jt_inherit.specs.Rules as rules
-use Rattle.jt_inherit.specs.Rules.{Somewhere, asked}
+use Rattle.jt_chains.specs.Rules as rules
+use Rattle.jt_chains.specs.Rules.{Somewhere, asked}
 use Rattle.jt_inherit.specs.declared.error.ChainError.{ChainError}
 use Rattle.jt_inherit.specs.declared.error.ChainError.TheVariants as error
 

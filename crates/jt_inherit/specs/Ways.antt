@@ -5,8 +5,8 @@ use Rattle.jt_parse.specs.Bytes.{body_bytes}
 use Rattle.jt_parse.specs.Texts.{repeated}
 use Rattle.jt_parse.specs.Trees.{Text, body_weight}
 use Rattle.jt_scan.specs.declared.options.Options.{Options}
-use Rattle.jt_inherit.specs.Along.{ArePlaces, templates_at}
-use Rattle.jt_inherit.specs.Chain.{max_templates, Sources, Template, extends_of, sources_in}
+use Rattle.jt_chains.specs.Along.{ArePlaces, templates_at}
+use Rattle.jt_chains.specs.Chain.{max_templates, Sources, Template, extends_of, sources_in}
 use Rattle.jt_inherit.specs.Chains.{Given, AreRead, IsOnly}
 use Rattle.jt_inherit.specs.Small.{source_len}
 

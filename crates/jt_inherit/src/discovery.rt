@@ -7,10 +7,10 @@ ghost use Rattle.jt_inherit.specs.Refusals.{Breaks};
 use crate::error::ChainError;
 use crate::including::{next_chains, read_includes};
 use crate::library::Library;
-use crate::linked::Page;
 use crate::sets::put;
 use crate::way::read_way;
 use indexmap::IndexSet;
+use jt_chains::Page;
 use jt_scan::Options;
 use std::alloc::{AllocError, Global};
 

@@ -4,22 +4,23 @@ ghost use Rattle.std.specs.Prelude.{◌≡◌, ◌≤◌, ◌++◌, ◌∷◌, [
 ghost use Rattle.std.specs.List.{AllByRecursion};
 ghost use Rattle.jt_parse.specs.Texts.{among, repeated};
 ghost use Rattle.jt_parse.specs.Trees.{Text};
-ghost use Rattle.jt_inherit.specs.Along.{ArePlaces, includes_along};
-ghost use Rattle.jt_inherit.specs.Chain.{Template};
+ghost use Rattle.jt_chains.specs.Along.{ArePlaces};
+ghost use Rattle.jt_inherit.specs.Along.{includes_along};
+ghost use Rattle.jt_chains.specs.Chain.{Template};
 ghost use Rattle.jt_inherit.specs.Found.{IsMet, IsFaultAt, IsNeedFault, AreNext, AddsNext, IsNextFault, known_of, chosen};
 ghost use Rattle.jt_inherit.specs.Needs.{need_view, needed, needs_view};
-ghost use Rattle.jt_inherit.specs.Pages.{pages_view};
+ghost use Rattle.jt_chains.specs.Pages.{pages_view};
 ghost use Rattle.jt_inherit.specs.SetView.{strings};
 ghost use Rattle.jt_inherit.specs.Ways.{AreKnown};
 
 use crate::error::ChainError;
 use crate::library::Library;
-use crate::linked::Page;
 use crate::reading::read_page;
 use crate::sets::{find, put};
 use crate::shelf::add_page;
 use crate::statements::{Include, add_includes};
 use indexmap::IndexSet;
+use jt_chains::Page;
 use jt_scan::Options;
 use std::alloc::{AllocError, Global};
 

@@ -2,7 +2,7 @@
 
 ghost use Rattle.std.specs.Prelude.{◌≡◌, ◌↔◌, ◌==◌, All, IsTrue};
 ghost use Rattle.std.specs.List.{slice_split};
-ghost use Rattle.jt_inherit.specs.Names.{IsNameByte, IsPart, IsName};
+ghost use Rattle.jt_chains.specs.Names.{IsNameByte, IsPart, IsName};
 
 /// The greatest length of a name, in bytes.
 const MAX_NAME_LEN: usize = 255;

@@ -6,14 +6,14 @@ ghost use Rattle.jt_parse.specs.Trees.{Body, body_weight};
 ghost use Rattle.jt_parse.specs.View.{body_of};
 ghost use Rattle.jt_inherit.specs.Chains.{IsTree, IsRead, IsOnly};
 ghost use Rattle.jt_inherit.specs.Faults.{IsFault, IsFaultOf, IsScan, IsParse};
-ghost use Rattle.jt_inherit.specs.Names.{IsName};
-ghost use Rattle.jt_inherit.specs.Pages.{page_view};
+ghost use Rattle.jt_chains.specs.Names.{IsName};
+ghost use Rattle.jt_chains.specs.Pages.{page_view};
 ghost use Rattle.jt_inherit.specs.Ways.{IsWithin};
 
 use crate::error::ChainError;
 use crate::library::Library;
-use crate::linked::Page;
 use crate::names::is_name;
+use jt_chains::Page;
 use jt_parse::{ParseError, Template, parse};
 use jt_scan::{Options, ScanError, Source, scan};
 use std::alloc::Global;

@@ -4,19 +4,18 @@ ghost use Rattle.std.specs.Prelude.{◌≡◌, ◌&&◌, ◌||◌, ◌++◌, ◌
 ghost use Rattle.std.specs.Str.{bytes_eq};
 ghost use Rattle.jt_parse.specs.Texts.{among, repeated};
 ghost use Rattle.jt_parse.specs.Trees.{Text};
-ghost use Rattle.jt_inherit.specs.Along.{ArePlaces, templates_at};
-ghost use Rattle.jt_inherit.specs.Chain.{Template};
+ghost use Rattle.jt_chains.specs.Along.{ArePlaces, templates_at};
+ghost use Rattle.jt_chains.specs.Chain.{Template};
 ghost use Rattle.jt_inherit.specs.Checks.{lacks_body, lacks_next, block_names, macro_names};
 ghost use Rattle.jt_inherit.specs.Kept as spec;
-ghost use Rattle.jt_inherit.specs.Pages.{pages_view};
-ghost use Rattle.jt_inherit.specs.Parts.{blocks_view};
+ghost use Rattle.jt_chains.specs.Pages.{pages_view};
+ghost use Rattle.jt_chains.specs.Parts.{blocks_view};
 ghost use Rattle.jt_inherit.specs.SetView.{texts};
 
 use crate::error::ChainError;
-use crate::linked::Page;
-use crate::parts::{Block, Macro, blocks_at, blocks_of_page, macros_at};
 use crate::supers::calls_super;
 use indexmap::IndexSet;
+use jt_chains::{Block, Macro, Page, blocks_at, blocks_of_page, macros_at};
 use std::alloc::{AllocError, Global};
 
 /// Adds a name; whether it was there before.

@@ -3,18 +3,18 @@
 ghost use Rattle.std.specs.Prelude.{◌≡◌, ◌⊎◌, ◌++◌, ◌∷◌, [], false, List, map, slice_get, Some, OnOk, IfOk, IfErr, IsTrue, string_bytes};
 ghost use Rattle.jt_parse.specs.Texts.{among};
 ghost use Rattle.jt_parse.specs.Trees.{Text};
-ghost use Rattle.jt_inherit.specs.Chain.{Template};
+ghost use Rattle.jt_chains.specs.Chain.{Template};
 ghost use Rattle.jt_inherit.specs.Faults.{IsFaultOf};
-ghost use Rattle.jt_inherit.specs.Pages.{pages_view};
+ghost use Rattle.jt_chains.specs.Pages.{pages_view};
 ghost use Rattle.jt_inherit.specs.SetView.{strings};
 ghost use Rattle.jt_inherit.specs.Ways.{AreKnown};
 
 use crate::error::ChainError;
 use crate::library::Library;
-use crate::linked::Page;
 use crate::reading::read_page;
 use crate::sets::{find, put};
 use indexmap::IndexSet;
+use jt_chains::Page;
 use jt_scan::Options;
 use std::alloc::{AllocError, Global};
 

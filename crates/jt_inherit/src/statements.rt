@@ -3,7 +3,7 @@
 
 ghost use Rattle.std.specs.Prelude.{◌≡◌, ◌++◌, option_map, IfOk};
 ghost use Rattle.jt_parse.specs.View.{stmt_view, body_view};
-ghost use Rattle.jt_inherit.specs.Chain.{extends_of};
+ghost use Rattle.jt_chains.specs.Chain.{extends_of};
 ghost use Rattle.jt_inherit.specs.Needs.{includes_of, includes_in, needs_view};
 
 use jt_parse::Stmt;

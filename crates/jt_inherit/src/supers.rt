@@ -2,7 +2,7 @@
 
 ghost use Rattle.std.specs.Prelude.{◌≡◌, option_map};
 ghost use Rattle.jt_expr.specs.View.{expr_view, exprs_view, pairs_view};
-ghost use Rattle.jt_inherit.specs.Supers as spec;
+ghost use Rattle.jt_chains.specs.Supers as spec;
 ghost use Rattle.jt_parse.specs.View.{stmt_view, body_view, branches_view, filtering_view, filterings_view};
 
 use jt_parse::{Expr, Filtering, Stmt};

@@ -4,20 +4,20 @@ ghost use Rattle.std.specs.Prelude.{◌≡◌, ◌⊎◌, ◌++◌, List, map, N
 ghost use Rattle.jt_parse.specs.Texts.{among};
 ghost use Rattle.jt_parse.specs.Trees.{Text};
 ghost use Rattle.jt_parse.specs.View.{body_of};
-ghost use Rattle.jt_inherit.specs.Along.{ArePlaces, templates_at};
-ghost use Rattle.jt_inherit.specs.Chain.{Template, extends_of, sources_in};
-ghost use Rattle.jt_inherit.specs.Pages.{pages_view};
+ghost use Rattle.jt_chains.specs.Along.{ArePlaces, templates_at};
+ghost use Rattle.jt_chains.specs.Chain.{Template, extends_of, sources_in};
+ghost use Rattle.jt_chains.specs.Pages.{pages_view};
 ghost use Rattle.jt_inherit.specs.Refusals.{Breaks};
-ghost use Rattle.jt_inherit.specs.Rules.{Reaches};
+ghost use Rattle.jt_chains.specs.Rules.{Reaches};
 ghost use Rattle.jt_inherit.specs.SetView.{strings};
 ghost use Rattle.jt_inherit.specs.Ways.{AreKnown, IsWay};
 
 use crate::error::ChainError;
 use crate::library::Library;
-use crate::linked::Page;
 use crate::shelf::read_place;
 use crate::statements::parent_of;
 use indexmap::IndexSet;
+use jt_chains::Page;
 use jt_scan::Options;
 use std::alloc::{AllocError, Global};
 

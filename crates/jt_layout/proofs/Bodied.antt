@@ -4,9 +4,9 @@ use Rattle.std.specs.Prelude.{slice_get, filter}
 use Rattle.std.proofs.lemmas.List.{drop_more, drop-set}
 use Rattle.std.specs.Str.{bytes_eq}
 use Rattle.jt_parse.specs.Trees.{Text}
-use Rattle.jt_inherit.specs.Chain.{Template, BlockBody}
-use Rattle.jt_inherit.specs.Parts.{block_view}
-use Rattle.jt_inherit.specs.declared.parts.Block.{Block}
+use Rattle.jt_chains.specs.Chain.{Template, BlockBody}
+use Rattle.jt_chains.specs.Parts.{block_view}
+use Rattle.jt_chains.specs.declared.parts.Block.{Block}
 use Rattle.jt_meaning.specs.Layout.{counted_from}
 use Rattle.jt_meaning.specs.Resolve.{next_given}
 use Rattle.jt_layout.specs.Places.{nexts}

@@ -4,9 +4,9 @@ use Rattle.std.specs.Prelude.{slice_get}
 use Rattle.std.specs.Str.{bytes_eq}
 use Rattle.jt_parse.specs.Trees.{Text}
 use Rattle.jt_parse.specs.View.{parameters_view}
-use Rattle.jt_inherit.specs.Chain.{Home, Template, macro_of}
-use Rattle.jt_inherit.specs.Parts.{macro_view}
-use Rattle.jt_inherit.specs.declared.parts.Macro.{Macro}
+use Rattle.jt_chains.specs.Chain.{Home, Template, macro_of}
+use Rattle.jt_chains.specs.Parts.{macro_view}
+use Rattle.jt_chains.specs.declared.parts.Macro.{Macro}
 use Rattle.jt_meaning.specs.Layout.{Key, of_macro, place_of, first_default}
 use Rattle.jt_layout.specs.Places.{first_of, defaults_from}
 use Rattle.jt_layout.proofs.Firsts.{reflexive}

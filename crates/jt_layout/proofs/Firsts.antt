@@ -9,10 +9,10 @@ use Rattle.std.specs.Str.{bytes_eq}
 use denote.Ref.{Bor}
 use Rattle.jt_parse.specs.Texts.{among}
 use Rattle.jt_parse.specs.Trees.{Text}
-use Rattle.jt_inherit.specs.Chain.{Home, Template, BlockBody, sources_in}
-use Rattle.jt_inherit.specs.Pages.{home_name}
-use Rattle.jt_inherit.specs.Places.{home_at}
-use Rattle.jt_inherit.specs.declared.linked.Home as linked
+use Rattle.jt_chains.specs.Chain.{Home, Template, BlockBody, sources_in}
+use Rattle.jt_chains.specs.Pages.{home_name}
+use Rattle.jt_chains.specs.Places.{home_at}
+use Rattle.jt_chains.specs.declared.linked.Home as linked
 use Rattle.jt_slots.specs.Slots.{global}
 use Rattle.jt_meaning.specs.Layout.{slot_in, globals_from, counted_from}
 use Rattle.jt_meaning.specs.Resolve.{first_body}

@@ -4,7 +4,7 @@ use Rattle.std.specs.Prelude.{flat_map}
 use Rattle.std.specs.Str.{bytes_eq}
 use Rattle.jt_parse.specs.Texts.{among}
 use Rattle.jt_parse.specs.Trees.{Text}
-use Rattle.jt_inherit.specs.Chain.{Home, BlockBody, MacroBody, macros, all_bodies}
+use Rattle.jt_chains.specs.Chain.{Home, BlockBody, MacroBody, macros, all_bodies}
 use Rattle.jt_rules.specs.World.{World}
 use Rattle.jt_meaning.specs.Layout.{Key, of_chain, of_macro, of_body, same_key, place_of, chain_keys, unit, names, counted_from, numbered_bodies, first_in, first_slot, default_in, default_place, defaults_of, first_default}
 use Rattle.jt_layout.specs.Front.{home_of, Stands}

@@ -10,7 +10,7 @@ use Rattle.jt_parse.specs.View.{names_view, stmts_of, branches_of, stmt_step, st
 use Rattle.jt_parse.specs.declared.tree.Stmt.{Stmt, the_lemmas, fold-roll-Stmt}
 use Rattle.jt_parse.specs.declared.tree.Stmt.TheOpen.{Stmt-F}
 use Rattle.jt_parse.specs.declared.tree.Stmt.TheVariants.{If, For, rolls-If}
-use Rattle.jt_inherit.specs.Includes.{needs_by, needs_in, needs_under}
+use Rattle.jt_chains.specs.Includes.{needs_by, needs_in, needs_under}
 
 abbrev pub Branch : Type 0
 Branch = ℕ × Expr × Vec Stmt Global

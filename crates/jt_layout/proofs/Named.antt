@@ -14,10 +14,10 @@ use Rattle.std.proofs.lemmas.Map.Text.{is_eq-slice_cmp}
 use denote.Ref.{Bor}
 use Rattle.jt_parse.specs.Trees.{Text}
 use Rattle.jt_parse.specs.Texts.{inserted, all_inserted, ascending}
-use Rattle.jt_inherit.specs.Chain.{Home, Sources}
-use Rattle.jt_inherit.specs.Includes.{included}
-use Rattle.jt_inherit.specs.Places.{home_at}
-use Rattle.jt_inherit.specs.Uses.{own_names}
+use Rattle.jt_chains.specs.Chain.{Home, Sources}
+use Rattle.jt_chains.specs.Includes.{included}
+use Rattle.jt_chains.specs.Places.{home_at}
+use Rattle.jt_chains.specs.Uses.{own_names}
 use Rattle.jt_rules.specs.World.{World}
 use Rattle.jt_meaning.specs.Layout.{names_in}
 use Rattle.jt_uses.specs.Names.{texts}

@@ -5,16 +5,16 @@ use Rattle.std.specs.Option.{is_some, is_none}
 use Rattle.std.specs.Str.{bytes_eq}
 use Rattle.jt_parse.specs.Texts.{among}
 use Rattle.jt_parse.specs.Trees.{Text}
-use Rattle.jt_inherit.specs.Chain.{Home, Sources, Template, BlockBody, MacroBody, macros, macro_of, all_bodies, sources_in}
-use Rattle.jt_inherit.specs.Includes.{InOrder}
-use Rattle.jt_inherit.specs.Pages.{home_name, page_view, pages_view}
-use Rattle.jt_inherit.specs.Parts.{macro_view, block_view}
-use Rattle.jt_inherit.specs.Places.{home_at}
-use Rattle.jt_inherit.specs.Uses as uses
-use Rattle.jt_inherit.specs.View.{chain_view, sources_of}
-use Rattle.jt_inherit.specs.declared.linked.Chain.{Chain}
-use Rattle.jt_inherit.specs.declared.linked.Page.{Page}
-use Rattle.jt_inherit.specs.declared.parts.Block.{Block}
+use Rattle.jt_chains.specs.Chain.{Home, Sources, Template, BlockBody, MacroBody, macros, macro_of, all_bodies, sources_in}
+use Rattle.jt_chains.specs.Includes.{InOrder}
+use Rattle.jt_chains.specs.Pages.{home_name, page_view, pages_view}
+use Rattle.jt_chains.specs.Parts.{macro_view, block_view}
+use Rattle.jt_chains.specs.Places.{home_at}
+use Rattle.jt_chains.specs.Uses as uses
+use Rattle.jt_chains.specs.View.{chain_view, sources_of}
+use Rattle.jt_chains.specs.declared.linked.Chain.{Chain}
+use Rattle.jt_chains.specs.declared.linked.Page.{Page}
+use Rattle.jt_chains.specs.declared.parts.Block.{Block}
 use Rattle.jt_rules.specs.World.{World}
 use Rattle.jt_slots.specs.Slots.{global}
 use Rattle.jt_meaning.specs.Layout.{slot_in, globals_from, counted_from, of_macro, of_body, place_of, first_default, default_place, numbered_of, names, scopes, block_parameters, is_scoped, unit, defaults_of}

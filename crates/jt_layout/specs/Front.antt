@@ -2,10 +2,10 @@
 use Rattle.std.specs.Prelude.{◌≡◌, ℕ, ◌+◌, true, List, length, flat_map}
 use Rattle.jt_parse.specs.Texts.{among}
 use Rattle.jt_parse.specs.Trees.{Text}
-use Rattle.jt_inherit.specs.Chain.{Home}
-use Rattle.jt_inherit.specs.Places.{home_at}
-use Rattle.jt_inherit.specs.View.{chain_view}
-use Rattle.jt_inherit.specs.declared.linked.Chain.{Chain}
+use Rattle.jt_chains.specs.Chain.{Home}
+use Rattle.jt_chains.specs.Places.{home_at}
+use Rattle.jt_chains.specs.View.{chain_view}
+use Rattle.jt_chains.specs.declared.linked.Chain.{Chain}
 use Rattle.jt_rules.specs.World.{World, world_of}
 use Rattle.jt_meaning.specs.Layout.{Key, of_chain, of_macro, of_body, chain_keys, place_of, keys, unit, first_in, first_slot, default_in, default_place}
 use Rattle.jt_layout.specs.declared.front.Front.{Front}

@@ -4,11 +4,11 @@ use Rattle.std.specs.Str.{bytes_eq}
 use Rattle.std.specs.Option.{is_some, is_none}
 use Rattle.jt_parse.specs.Texts.{among}
 use Rattle.jt_parse.specs.Trees.{Text}
-use Rattle.jt_inherit.specs.Chain.{Home, Template, BlockBody, macros, macro_of, all_bodies}
-use Rattle.jt_inherit.specs.Parts.{macro_view, block_view}
-use Rattle.jt_inherit.specs.Places.{home_at}
-use Rattle.jt_inherit.specs.View.{chain_view}
-use Rattle.jt_inherit.specs.declared.parts.Macro.{Macro}
+use Rattle.jt_chains.specs.Chain.{Home, Template, BlockBody, macros, macro_of, all_bodies}
+use Rattle.jt_chains.specs.Parts.{macro_view, block_view}
+use Rattle.jt_chains.specs.Places.{home_at}
+use Rattle.jt_chains.specs.View.{chain_view}
+use Rattle.jt_chains.specs.declared.parts.Macro.{Macro}
 use Rattle.jt_rules.specs.World.{World, world_of}
 use Rattle.jt_slots.specs.Slots.{global}
 use Rattle.jt_meaning.specs.Layout.{slot_in, globals, of_chain, of_macro, of_body, keys, names, numbered_of, numbered_bodies, first_slot, unit, default_place, block_parameters}

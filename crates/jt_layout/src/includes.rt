@@ -2,13 +2,13 @@
 
 ghost use Rattle.std.specs.Prelude.{◌≡◌, ◌<◌, ◌++◌, true, length, flat_map, IfOk};
 ghost use Rattle.jt_parse.specs.View.{stmt_view, body_view};
-ghost use Rattle.jt_inherit.specs.Chain.{templates};
-ghost use Rattle.jt_inherit.specs.Includes.{needs_by, needs_in};
-ghost use Rattle.jt_inherit.specs.Places.{home_at};
-ghost use Rattle.jt_inherit.specs.View.{chain_view, sources_of};
+ghost use Rattle.jt_chains.specs.Chain.{templates};
+ghost use Rattle.jt_chains.specs.Includes.{needs_by, needs_in};
+ghost use Rattle.jt_chains.specs.Places.{home_at};
+ghost use Rattle.jt_chains.specs.View.{chain_view, sources_of};
 ghost use Rattle.jt_uses.specs.Names.{texts};
 
-use jt_inherit::Chain;
+use jt_chains::Chain;
 use jt_parse::Stmt;
 use std::alloc::{AllocError, Global};
 

@@ -1,7 +1,7 @@
 //! How one chain is laid out.
 
 use crate::index::Index;
-use jt_inherit::{Block, Macro};
+use jt_chains::{Block, Macro};
 
 /// How one chain is laid out: its names in slots of globals, its macros and its bodies as units.
 #[derive(Drop)]

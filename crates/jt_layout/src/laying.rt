@@ -3,7 +3,7 @@
 ghost use Rattle.std.specs.Prelude.{◌≡◌, ◌<◌, ◌+◌, ℕ, true, false, length, drop, IfOk, IfErr, get_or};
 ghost use Rattle.std.specs.Option.{is_none};
 ghost use Rattle.jt_parse.specs.Trees.{Text};
-ghost use Rattle.jt_inherit.specs.View.{chain_view};
+ghost use Rattle.jt_chains.specs.View.{chain_view};
 ghost use Rattle.jt_rules.specs.declared.error.ScopeError.TheVariants as error;
 ghost use Rattle.jt_meaning.specs.Layout as layout;
 ghost use Rattle.jt_uses.specs.Names.{texts};
@@ -21,7 +21,7 @@ use crate::laid::Laid;
 use crate::lists::{chain_names, template_names};
 use crate::macros::macros_of;
 use crate::scope::Scope;
-use jt_inherit::Chain;
+use jt_chains::Chain;
 use jt_rules::ScopeError;
 use std::alloc::Global;
 

@@ -1,10 +1,10 @@
 //! The names of templates, chains, macros and blocks, in their order.
 
 ghost use Rattle.std.specs.Prelude.{◌≡◌, map, IfOk, string_bytes};
-ghost use Rattle.jt_inherit.specs.Pages.{home_name};
+ghost use Rattle.jt_chains.specs.Pages.{home_name};
 ghost use Rattle.jt_uses.specs.Names.{texts};
 
-use jt_inherit::{Block, Home, Macro, Page};
+use jt_chains::{Block, Home, Macro, Page};
 use std::alloc::{AllocError, Global};
 use std::collections::BTreeSet;
 

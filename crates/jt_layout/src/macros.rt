@@ -2,10 +2,10 @@
 
 ghost use Rattle.std.specs.Prelude.{◌≡◌, ◌<◌, ◌+◌, List, length, map, IfOk, IfErr};
 ghost use Rattle.jt_parse.specs.Trees.{Text};
-ghost use Rattle.jt_inherit.specs.Chain.{Template, macros};
-ghost use Rattle.jt_inherit.specs.Parts.{macro_view};
-ghost use Rattle.jt_inherit.specs.Places.{home_at};
-ghost use Rattle.jt_inherit.specs.View.{chain_view, sources_of};
+ghost use Rattle.jt_chains.specs.Chain.{Template, macros};
+ghost use Rattle.jt_chains.specs.Parts.{macro_view};
+ghost use Rattle.jt_chains.specs.Places.{home_at};
+ghost use Rattle.jt_chains.specs.View.{chain_view, sources_of};
 ghost use Rattle.jt_rules.specs.declared.error.ScopeError.TheVariants as error;
 ghost use Rattle.jt_meaning.specs.Layout.{defaults_of};
 ghost use Rattle.jt_layout.specs.Names.{place_in};
@@ -14,7 +14,7 @@ ghost use Rattle.jt_layout.specs.Places.{first_of, defaults_from};
 use crate::count::more;
 use crate::index::Index;
 use crate::lists::macro_names;
-use jt_inherit::{Chain, Macro};
+use jt_chains::{Chain, Macro};
 use jt_rules::ScopeError;
 use std::alloc::Global;
 

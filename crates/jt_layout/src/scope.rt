@@ -2,7 +2,7 @@
 
 use crate::index::Index;
 use crate::laid::Laid;
-use jt_inherit::Chain;
+use jt_chains::Chain;
 
 /// The tables of all chains, and the one of them that is resolved.
 #[derive(Drop)]

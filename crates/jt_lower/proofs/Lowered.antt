@@ -19,12 +19,12 @@ use Rattle.jt_image.specs.Loops.{trees_of, loop_over, item_at, field_of, field_i
 use Rattle.jt_image.specs.Step as step
 use Rattle.jt_image.specs.Ids.{operator_of, operands_of, filter_of, test_of}
 use Rattle.jt_image.specs.Step.{Plain, broken, goes, plain, as_frame, on_values, push, push_given, told_by, piled, spreads, unpacks, begins, makes, operated, filtered_by, tested_by, with_entries, put_printed, constant_value, text_of}
-use Rattle.jt_ops.specs.declared.op_id.OpId.{OpId}
-use Rattle.jt_ops.specs.declared.op_id.OpId.TheVariants as o
-use Rattle.jt_ops.specs.declared.test_id.TestId.{TestId}
-use Rattle.jt_ops.specs.declared.test_id.TestId.TheVariants as t
-use Rattle.jt_ops.specs.OpTable.{op_id, op_operands}
-use Rattle.jt_ops.specs.TestTable.{test_id}
+use Rattle.jt_ids.specs.declared.op_id.OpId.{OpId}
+use Rattle.jt_ids.specs.declared.op_id.OpId.TheVariants as o
+use Rattle.jt_ids.specs.declared.test_id.TestId.{TestId}
+use Rattle.jt_ids.specs.declared.test_id.TestId.TheVariants as t
+use Rattle.jt_ids.specs.OpTable.{op_id, op_operands}
+use Rattle.jt_ids.specs.TestTable.{test_id}
 use Rattle.jt_ops.specs.Making.{listed, mapped}
 use Rattle.jt_slots.specs.Takes.{InPairs}
 use Rattle.jt_slots.specs.Got.{Place, Got, gives, fails, deeper, bind, checked, at}

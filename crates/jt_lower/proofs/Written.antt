@@ -4,16 +4,16 @@ use Rattle.std.specs.Prelude.{slice_get, ◌==◌, IsTrue}
 use Rattle.std.specs.List.{find, AllByRecursion}
 use Rattle.std.proofs.lemmas.Option.{slice_get_within}
 use Rattle.std.proofs.lemmas.Bool.Decides.{nat_tests}
-use Rattle.jt_ops.specs.declared.op_id.OpId.{OpId}
-use Rattle.jt_ops.specs.declared.op_id.OpId.TheVariants as operators
-use Rattle.jt_ops.specs.declared.test_id.TestId.{TestId}
-use Rattle.jt_ops.specs.declared.test_id.TestId.TheVariants as tests
-use Rattle.jt_ops.specs.OpTable.{op_id}
-use Rattle.jt_ops.specs.TestTable.{test_id}
-use Rattle.jt_filters.specs.declared.filter_id.FilterId.{FilterId}
-use Rattle.jt_filters.specs.declared.filter_id.FilterId.TheVariants as filters
-use Rattle.jt_filters.specs.FilterTable as table
-use Rattle.jt_filters.specs.FilterTable.{filter_id}
+use Rattle.jt_ids.specs.declared.op_id.OpId.{OpId}
+use Rattle.jt_ids.specs.declared.op_id.OpId.TheVariants as operators
+use Rattle.jt_ids.specs.declared.test_id.TestId.{TestId}
+use Rattle.jt_ids.specs.declared.test_id.TestId.TheVariants as tests
+use Rattle.jt_ids.specs.OpTable.{op_id}
+use Rattle.jt_ids.specs.TestTable.{test_id}
+use Rattle.jt_ids.specs.declared.filter_id.FilterId.{FilterId}
+use Rattle.jt_ids.specs.declared.filter_id.FilterId.TheVariants as filters
+use Rattle.jt_ids.specs.FilterTable as table
+use Rattle.jt_ids.specs.FilterTable.{filter_id}
 use Rattle.jt_filters.specs.FilterIds.{filter_of, accepts}
 use Rattle.jt_image.specs.declared.instruction.Instruction.TheVariants as op
 use Rattle.jt_image.specs.declared.loop_field.LoopField.{LoopField}

@@ -3,8 +3,8 @@
 use Rattle.std.specs.Prelude.{◌≡◌, ℕ, ◌<◌, ◌≤◌, Bool, true, false, IsTrue, List, [], ◌∷◌, length, Option, Some, None, slice_get}
 use Rattle.jt_value.specs.Tree as tree
 use Rattle.jt_value.specs.Tree.{Tree}
-use Rattle.jt_ops.specs.OpTable.{op_operands}
-use Rattle.jt_ops.specs.TestTable.{test_values}
+use Rattle.jt_ids.specs.OpTable.{op_operands}
+use Rattle.jt_ids.specs.TestTable.{test_values}
 use Rattle.jt_filters.specs.FilterIds.{filter_of, accepts}
 use Rattle.jt_image.specs.Typed.{max_entries}
 use Rattle.jt_slots.specs.Takes.{InPairs}

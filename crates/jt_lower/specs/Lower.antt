@@ -2,8 +2,8 @@
 use Rattle.std.specs.Prelude.{ℕ, zero, suc, Bool, true, false, List, [], ◌∷◌, ◌++◌, length, map, Option, Some, None}
 use Rattle.jt_value.specs.Tree as tree
 use Rattle.jt_value.specs.Tree.{Tree}
-use Rattle.jt_ops.specs.OpTable.{op_id}
-use Rattle.jt_ops.specs.TestTable.{test_id}
+use Rattle.jt_ids.specs.OpTable.{op_id}
+use Rattle.jt_ids.specs.TestTable.{test_id}
 use Rattle.jt_image.specs.declared.instruction.Instruction.{Instruction}
 use Rattle.jt_image.specs.declared.instruction.Instruction.TheVariants as op
 use Rattle.jt_image.specs.declared.loop_field.LoopField.{LoopField}

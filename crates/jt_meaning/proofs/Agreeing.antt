@@ -6,7 +6,7 @@ use Rattle.jt_value.specs.Pairs.{Pairs}
 use Rattle.jt_parse.specs.Trees.{Text}
 use Rattle.jt_meaning.specs.Env.{Env, read, bound, all_bound}
 use Rattle.jt_slots.specs.Values.{value_in}
-use Rattle.jt_inherit.specs.Chain.{Home}
+use Rattle.jt_chains.specs.Chain.{Home}
 use Rattle.jt_slots.specs.Loops.{tree_at}
 use Rattle.jt_rules.specs.World.{World}
 use Rattle.jt_slots.specs.Slots.{Slot, local, global, Memory, load, put_at, store}

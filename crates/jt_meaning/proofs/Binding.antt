@@ -7,7 +7,7 @@ use Rattle.jt_value.specs.Pairs.{Pairs}
 use Rattle.jt_slots.specs.Got.{bind, checked}
 use Rattle.jt_parse.specs.Trees.{Text}
 use Rattle.jt_meaning.specs.Env.{Env, read, bound, all_bound}
-use Rattle.jt_inherit.specs.Chain.{Home}
+use Rattle.jt_chains.specs.Chain.{Home}
 use Rattle.jt_slots.specs.Loops.{items_of_value}
 use Rattle.jt_parse.specs.Texts.{among}
 use Rattle.jt_rules.specs.World.{World}

@@ -6,7 +6,7 @@ use Rattle.jt_value.specs.Tree.{Tree}
 use Rattle.jt_value.specs.Pairs.{Pairs}
 use Rattle.jt_parse.specs.Trees.{Text, Parameter}
 use Rattle.jt_meaning.specs.Env.{Env, read}
-use Rattle.jt_inherit.specs.Chain.{Home, BlockBody, MacroBody, macros, macro_of}
+use Rattle.jt_chains.specs.Chain.{Home, BlockBody, MacroBody, macros, macro_of}
 use Rattle.jt_parse.specs.Texts.{among}
 use Rattle.jt_slots.specs.Filters.{default_value}
 use Rattle.jt_slots.specs.Loops.{Loop, tree_at}

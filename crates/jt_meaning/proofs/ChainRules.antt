@@ -8,10 +8,10 @@ use Rattle.std.proofs.lemmas.Bool.Decides.{nat_tests}
 use Rattle.std.proofs.lemmas.List.Folds.{list_any-append}
 use Rattle.jt_parse.specs.Texts.{repeated}
 use Rattle.jt_parse.specs.Trees.{Text}
-use Rattle.jt_inherit.specs.Chain.{Sources, Home, Template, parent_of, names_up, max_templates, templates, BlockBody, all_bodies, bodies, from_given}
-use Rattle.jt_inherit.specs.Includes.{needs_in}
-use Rattle.jt_inherit.specs.Rules.{is_empty, lacks_super, way, asked, Reaches, is_whole, KeepsRules}
-use Rattle.jt_inherit.specs.Supers.{calls_super}
+use Rattle.jt_chains.specs.Chain.{Sources, Home, Template, parent_of, names_up, max_templates, templates, BlockBody, all_bodies, bodies, from_given}
+use Rattle.jt_chains.specs.Includes.{needs_in}
+use Rattle.jt_chains.specs.Rules.{is_empty, lacks_super, way, asked, Reaches, is_whole, KeepsRules}
+use Rattle.jt_chains.specs.Supers.{calls_super}
 use Rattle.jt_meaning.specs.Resolve.{next_given}
 use Rattle.jt_meaning.proofs.Ordering.{Every}
 use Rattle.jt_meaning.proofs.Reading.{no_both}

@@ -12,14 +12,14 @@ use Rattle.std.proofs.lemmas.Cmp.{nat_list_cmp_total}
 use Rattle.std.proofs.lemmas.Map.Text.{is_eq-slice_cmp}
 use Rattle.jt_parse.specs.Texts.{among, repeated, inserted, all_inserted, ascending}
 use Rattle.jt_parse.specs.Trees.{Text, Parameter, data_of, print, choose, for_each, set, set_block, with_values, filter_block, autoescape, macro, include, extends, block, Body, end, stmt}
-use Rattle.jt_inherit.specs.Chain.{Home, Template, templates, MacroBody, macros_in}
-use Rattle.jt_inherit.specs.Includes.{included}
-use Rattle.jt_inherit.specs.Small.{NamesFew}
-use Rattle.jt_inherit.specs.Uses.{stmt_names, body_names, own_names, scope_names_in, scope_names}
-use Rattle.jt_inherit.specs.View.{Seen, sources_of}
+use Rattle.jt_chains.specs.Chain.{Home, Template, templates, MacroBody, macros_in}
+use Rattle.jt_chains.specs.Includes.{included}
+use Rattle.jt_chains.specs.Weights.{NamesFew}
+use Rattle.jt_chains.specs.Uses.{stmt_names, body_names, own_names, scope_names_in, scope_names}
+use Rattle.jt_chains.specs.View.{Seen, sources_of}
 use Rattle.jt_slots.specs.TheFilters.{the_filters, filter_of, parameters_of, with_defaults, defaults}
-use Rattle.jt_filters.specs.declared.filter_id.FilterId.{FilterId}
-use Rattle.jt_filters.specs.FilterTable.{argument_names}
+use Rattle.jt_ids.specs.declared.filter_id.FilterId.{FilterId}
+use Rattle.jt_ids.specs.FilterTable.{argument_names}
 use Rattle.jt_rules.specs.World.{World, world_of}
 use Rattle.jt_rules.specs.Walk.{Within, parameter_names, body_broken, stmt_broken, macro_broken, read_alone, all_used, unless, templates_broken, chains_broken}
 use Rattle.jt_rules.specs.declared.error.ScopeError.{ScopeError}

@@ -9,15 +9,15 @@ use Rattle.jt_slots.specs.Got.{gives, bind}
 use Rattle.jt_slots.specs.Slots.{with_locals, local, global, Memory, SCalls, Routine, smeanings, sperformed, scalls}
 use Rattle.jt_parse.specs.Trees.{Text, Parameter, Body, end, stmt}
 use Rattle.jt_meaning.specs.Env.{Env, read, inside, top}
-use Rattle.jt_inherit.specs.Chain.{Home, Template, templates, BlockBody, MacroBody, macros, macro_of}
+use Rattle.jt_chains.specs.Chain.{Home, Template, templates, BlockBody, MacroBody, macros, macro_of}
 use Rattle.jt_slots.specs.Loops.{tree_at}
 use Rattle.jt_parse.specs.Texts.{among}
 use Rattle.jt_slots.specs.Filters.{default_value}
 use Rattle.jt_rules.specs.World.{World}
 use Rattle.jt_meaning.specs.Around.{Placement, State, the_macro, the_block, the_chain, Calls}
 use Rattle.jt_meaning.specs.Meaning.{is_set, meaning, meanings, sets, rendered, performed, calls_below, mean}
-use Rattle.jt_inherit.specs.Uses.{stmt_names, body_names, set_in}
-use Rattle.jt_inherit.specs.Includes.{needs_by, needs_in, InOrder}
+use Rattle.jt_chains.specs.Uses.{stmt_names, body_names, set_in}
+use Rattle.jt_chains.specs.Includes.{needs_by, needs_in, InOrder}
 use Rattle.jt_meaning.specs.Layout.{Table, slot_in, of_macro, of_body, names, first_slot, globals, block_parameters, is_scoped, unit, defaults_of, first_default, default_in, default_place}
 use Rattle.jt_slots.specs.Pool.{Constant, constant_in, routines_values}
 use Rattle.jt_meaning.specs.Resolve.{followed, Spot, Part, bound_table, bound_all, scoped, resolved_stmt, resolved_body, resolved_sets, top_spot, resolved_chain, chain_routine, macro_routine, body_routine}

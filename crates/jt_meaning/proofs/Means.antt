@@ -8,7 +8,7 @@ use Rattle.jt_slots.specs.Got.{Got, gives, bind}
 use Rattle.jt_slots.specs.Slots.{with_locals, global, Written, scalls, globals_of, smean}
 use Rattle.jt_parse.specs.Trees.{Text}
 use Rattle.jt_slots.specs.Values.{value_in}
-use Rattle.jt_inherit.specs.Chain.{Home}
+use Rattle.jt_chains.specs.Chain.{Home}
 use Rattle.jt_slots.specs.Loops.{tree_at}
 use Rattle.jt_parse.specs.Texts.{among}
 use Rattle.jt_rules.specs.World.{World}
@@ -16,7 +16,7 @@ use Rattle.jt_meaning.specs.Meaning.{calls_below, mean}
 use Rattle.jt_meaning.specs.Layout.{slot_in, globals_from, names, first_in, first_slot, shared}
 use Rattle.jt_slots.specs.Pool.{constant_in, routines_values, placed_routines}
 use Rattle.jt_meaning.specs.Programs.{routines, pool, count_globals, program}
-use Rattle.jt_inherit.specs.Includes.{InOrder}
+use Rattle.jt_chains.specs.Includes.{InOrder}
 use Rattle.jt_meaning.proofs.Both.{Both, both, fault, deep}
 use Rattle.jt_meaning.proofs.Reading.{same_text, same_is}
 use Rattle.jt_meaning.proofs.Agreeing.{Held, GlobalsAgree}

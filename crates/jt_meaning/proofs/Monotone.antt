@@ -5,7 +5,7 @@ use Rattle.std.specs.Option.{is_none}
 use Rattle.jt_value.specs.Tree as tree
 use Rattle.jt_value.specs.Tree.{Tree}
 use Rattle.jt_value.specs.Pairs.{Pairs}
-use Rattle.jt_ops.specs.declared.test_id.TestId.{TestId}
+use Rattle.jt_ids.specs.declared.test_id.TestId.{TestId}
 use Rattle.jt_expr.specs.Trees as written
 use Rattle.jt_expr.specs.Trees.{Expr, constant, name, group, list_of, map_of, attribute, item, unary, binary, when, choice, Exprs, no_exprs, expr, no_pairs, pair}
 use Rattle.jt_slots.specs.Got.{Place, Got, gives, fails, deeper, bind, at}
@@ -14,7 +14,7 @@ use Rattle.jt_meaning.specs.Expressions.{asked, turned, either, combined, filter
 use Rattle.jt_slots.specs.Tests.{test_named}
 use Rattle.jt_parse.specs.Trees.{Text, Filtering, Stmt, data_of, print, choose, for_each, set, set_block, with_values, filter_block, autoescape, macro, include, extends, block, Body, end, stmt, Branches, no_branches, branch}
 use Rattle.jt_meaning.specs.Env.{Env, inside, top}
-use Rattle.jt_inherit.specs.Chain.{Home, Template, templates, BlockBody, bodies, from_given, macros, Callee, a_macro, a_range, a_super, a_block, a_cycle, no_callee, callee, is_loop}
+use Rattle.jt_chains.specs.Chain.{Home, Template, templates, BlockBody, bodies, from_given, macros, Callee, a_macro, a_range, a_super, a_block, a_cycle, no_callee, callee, is_loop}
 use Rattle.jt_slots.specs.Loops.{Loop}
 use Rattle.jt_slots.specs.Filters.{Filters}
 use Rattle.jt_rules.specs.World.{World}

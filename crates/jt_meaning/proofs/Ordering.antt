@@ -6,15 +6,15 @@ use Rattle.std.specs.List.{list_any}
 use Rattle.std.specs.Str.{bytes_eq}
 use Rattle.jt_parse.specs.Texts.{ascending, among}
 use Rattle.jt_parse.specs.Trees.{Text, Stmt, data_of, print, choose, for_each, set, set_block, with_values, filter_block, autoescape, macro, include, extends, block, Body, end, stmt, Branches, no_branches, branch}
-use Rattle.jt_inherit.specs.Chain.{Home, Template, templates, BlockBody, blocks_of, blocks_in, blocks_under, all_bodies, MacroBody, macros_in, macros, macro_of}
+use Rattle.jt_chains.specs.Chain.{Home, Template, templates, BlockBody, blocks_of, blocks_in, blocks_under, all_bodies, MacroBody, macros_in, macros, macro_of}
 use Rattle.jt_rules.specs.World.{World}
-use Rattle.jt_inherit.specs.Uses.{keywords, expr_names, pair_names, condition_names, filtering_names, stmt_names, body_names, branch_names, own_names}
-use Rattle.jt_inherit.specs.Includes.{needs_by, needs_in, needs_under, included, AllIn, InOrder}
+use Rattle.jt_chains.specs.Uses.{keywords, expr_names, pair_names, condition_names, filtering_names, stmt_names, body_names, branch_names, own_names}
+use Rattle.jt_chains.specs.Includes.{needs_by, needs_in, needs_under, included, AllIn, InOrder}
 use Rattle.jt_meaning.specs.Layout.{names_in, names, first_in, first_slot, is_scoped, defaults_of, first_default, shared, default_in, default_place, numbered_bodies, counted_from}
 use Rattle.jt_meaning.proofs.Reading.{same_text, same_is, no_both, among_front, among_back, each_among}
 use Rattle.jt_meaning.proofs.Valuing.{counted_are}
 use Rattle.jt_meaning.proofs.Calling.{Hands, Included}
-use Rattle.jt_inherit.specs.Uses.{set_in, scope_names_in, scope_names}
+use Rattle.jt_chains.specs.Uses.{set_in, scope_names_in, scope_names}
 use Rattle.jt_meaning.proofs.Scopes.{names_of, scopes_bound, templates_bind, ascending_among}
 use Rattle.jt_meaning.proofs.Stating.{Each, each_front, each_back, Scoping, a_tag, a_name, named, scoped_by, scoped_in, scoped_under, Proper, names_proper, behind_proper}
 use Rattle.jt_meaning.proofs.Among.{Among, AllAmong, all_ascending}

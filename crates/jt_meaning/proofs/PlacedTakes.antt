@@ -2,7 +2,7 @@
 use Rattle.std.proofs.Common.{◌≡◌, ℕ, zero, suc, ◌+◌, Bool, true, false, List, [], ◌∷◌, length, Option, Some, None, refl, sym, ap, subst}
 use Rattle.std.specs.Prelude.{slice_get}
 use Rattle.std.specs.List.{AllByRecursion}
-use Rattle.jt_inherit.specs.Chain.{Home}
+use Rattle.jt_chains.specs.Chain.{Home}
 use Rattle.jt_slots.specs.Filters.{Filters}
 use Rattle.jt_rules.specs.World.{World}
 use Rattle.jt_slots.specs.Slots.{SExpr, pooled, variable, field, absent, made, conjunction, disjunction, choice, invoke, SRow, none, item, aside, SStmt, put_pooled, print, assign, if_else, for_each, capture, run, SBody, end, stmt, Routine}
@@ -12,8 +12,8 @@ use Rattle.jt_slots.specs.Pool.{Constant, expr_values, condition_values, stmt_va
 use Rattle.jt_rules.specs.Known.{ChainsKnown}
 use Rattle.jt_meaning.specs.Layout.{shared}
 use Rattle.jt_meaning.specs.Programs.{routines, program}
-use Rattle.jt_inherit.specs.Includes.{InOrder}
-use Rattle.jt_inherit.specs.Rules.{Reaches, KeepsRules}
+use Rattle.jt_chains.specs.Includes.{InOrder}
+use Rattle.jt_chains.specs.Rules.{Reaches, KeepsRules}
 use Rattle.jt_rules.specs.Walk.{chains_broken}
 use Rattle.jt_meaning.proofs.Ordering.{Every}
 use Rattle.jt_meaning.proofs.Served.{routines_serve}

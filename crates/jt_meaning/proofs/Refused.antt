@@ -6,9 +6,9 @@ use Rattle.jt_rules.specs.declared.error.ScopeError.TheVariants as error
 use Rattle.jt_expr.specs.Trees.{no_exprs, no_pairs}
 use Rattle.jt_parse.specs.Trees.{Text, Body, end}
 use Rattle.jt_rules.specs.Walk.{chains_broken}
-use Rattle.jt_inherit.specs.Chain.{Sources}
-use Rattle.jt_inherit.specs.Includes.{InOrder}
-use Rattle.jt_inherit.specs.Rules.{here, Missing, ExtendsCycle, DoubleBlock, RequiredNotGiven, NoSuper, IncludeCycle, MacroTwice}
+use Rattle.jt_chains.specs.Chain.{Sources}
+use Rattle.jt_chains.specs.Includes.{InOrder}
+use Rattle.jt_chains.specs.Rules.{here, Missing, ExtendsCycle, DoubleBlock, RequiredNotGiven, NoSuper, IncludeCycle, MacroTwice}
 use Rattle.jt_meaning.proofs.Small.{name, num, listing, call, Call, pair, of, Filter, body, print, For, block, Block, Macro, Include, extends, parameter, exprs, source, world}
 
 abbrev among_these : List (Text × Body) → Sources

@@ -6,8 +6,8 @@ use Rattle.std.specs.Cmp.Lexicographic.{slice_cmp}
 use Rattle.std.specs.Str.{bytes_eq}
 use Rattle.jt_parse.specs.Texts.{inserted, all_inserted, ascending}
 use Rattle.jt_parse.specs.Trees.{Text, Stmt, data_of, print, choose, for_each, set, set_block, with_values, filter_block, autoescape, macro, include, extends, block, Body, end, stmt, Branches, no_branches, branch}
-use Rattle.jt_inherit.specs.Chain.{Home, Template, templates}
-use Rattle.jt_inherit.specs.Uses.{keywords, expr_names, pair_names, condition_names, filtering_names, stmt_names, body_names, branch_names, set_in, scope_names_by, scope_names_in, scope_names_under, scope_names}
+use Rattle.jt_chains.specs.Chain.{Home, Template, templates}
+use Rattle.jt_chains.specs.Uses.{keywords, expr_names, pair_names, condition_names, filtering_names, stmt_names, body_names, branch_names, set_in, scope_names_by, scope_names_in, scope_names_under, scope_names}
 use Rattle.jt_rules.specs.World.{World}
 use Rattle.jt_meaning.proofs.Among.{Among, AllAmong, all_ascending}
 use Rattle.jt_meaning.proofs.Reading.{same_text, is_same, no_both, among_front, among_back, each_among}

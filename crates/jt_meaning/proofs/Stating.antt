@@ -12,14 +12,14 @@ use Rattle.jt_slots.specs.Got.{Place, Got, gives, bind, checked, at}
 use Rattle.jt_slots.specs.Values.{shown, value_in, as_value}
 use Rattle.jt_parse.specs.Trees.{Text, Filtering, Stmt, data_of, print, choose, for_each, set, set_block, with_values, filter_block, autoescape, macro, include, extends, block, Body, end, stmt, Branches, no_branches, branch}
 use Rattle.jt_meaning.specs.Env.{Env, read, all_bound, inside, top, seen_in, seen, first_of}
-use Rattle.jt_inherit.specs.Chain.{Home, BlockBody}
+use Rattle.jt_chains.specs.Chain.{Home, BlockBody}
 use Rattle.jt_slots.specs.Loops.{Loop, items_of_value, tree_at}
 use Rattle.jt_rules.specs.World.{World}
 use Rattle.jt_meaning.specs.Around.{Placement, State, the_chain, Calls}
-use Rattle.jt_inherit.specs.Uses.{keywords, expr_names, row_names, pair_names, condition_names, filtering_names, stmt_names, body_names, branch_names, set_by, set_in, set_under}
+use Rattle.jt_chains.specs.Uses.{keywords, expr_names, row_names, pair_names, condition_names, filtering_names, stmt_names, body_names, branch_names, set_by, set_in, set_under}
 use Rattle.jt_meaning.specs.Expressions.{block_text, value, named_values}
 use Rattle.jt_meaning.specs.Meaning.{put, within, captured, turns, gone_over, without_source, kept, through, meaning, meanings, chosen}
-use Rattle.jt_inherit.specs.Includes.{needs_by, needs_in, needs_under}
+use Rattle.jt_chains.specs.Includes.{needs_by, needs_in, needs_under}
 use Rattle.jt_slots.specs.Slots as slots
 use Rattle.jt_slots.specs.Slots.{Slot, local, global, Targets, one, several, SExpr, SStmt, SBody, none, assign, capture, run, Memory, Valued, Listed, Written, SCalls, load, put_at, store, store_if, take, in_front, sturns, sgone_over, svalue, svalues, skept, smeaning, smeanings}
 use Rattle.jt_meaning.specs.Layout.{Table, slot_in, globals_from, of_chain, of_body, names, first_slot, globals, block_parameters, is_scoped, numbered_of, unit}

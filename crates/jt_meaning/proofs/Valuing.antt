@@ -7,9 +7,9 @@ use Rattle.jt_value.specs.Tree.{Tree}
 use Rattle.jt_value.specs.Pairs.{Pairs, look}
 use Rattle.jt_value.specs.View.{items_of}
 use Rattle.jt_value.specs.declared.fault.Fault.{Fault}
-use Rattle.jt_ops.specs.declared.op_id.OpId.{OpId}
-use Rattle.jt_ops.specs.declared.op_id.OpId.TheVariants as op
-use Rattle.jt_ops.specs.declared.test_id.TestId.{TestId}
+use Rattle.jt_ids.specs.declared.op_id.OpId.{OpId}
+use Rattle.jt_ids.specs.declared.op_id.OpId.TheVariants as op
+use Rattle.jt_ids.specs.declared.test_id.TestId.{TestId}
 use Rattle.jt_ops.specs.Operation as operators
 use Rattle.jt_ops.specs.Operation.{as_truth}
 use Rattle.jt_ops.specs.Testing.{tested}
@@ -22,10 +22,10 @@ use Rattle.jt_meaning.specs.Operators.{unary_operation, Form, operation, negatio
 use Rattle.jt_slots.specs.Tests.{test_named}
 use Rattle.jt_slots.specs.Values.{literal, as_value}
 use Rattle.jt_meaning.specs.Expressions.{operated, asked, turned, either, combined, filtered, filter_parameters, entries_of, field_of, cycled, block_text, super_text, valued_text, called, value, values, named_values}
-use Rattle.jt_inherit.specs.Uses.{count, keywords, expr_names, row_names, pair_names}
+use Rattle.jt_chains.specs.Uses.{count, keywords, expr_names, row_names, pair_names}
 use Rattle.jt_parse.specs.Trees.{Text, Parameter}
 use Rattle.jt_meaning.specs.Env.{Env, read, top}
-use Rattle.jt_inherit.specs.Chain.{Home, BlockBody, bodies, all_bodies, from_given, MacroBody, macros, macro_of, Callee, a_macro, a_range, a_super, a_block, a_cycle, no_callee, callee, named_alone, is_loop}
+use Rattle.jt_chains.specs.Chain.{Home, BlockBody, bodies, all_bodies, from_given, MacroBody, macros, macro_of, Callee, a_macro, a_range, a_super, a_block, a_cycle, no_callee, callee, named_alone, is_loop}
 use Rattle.jt_slots.specs.Loops.{Loop, Field, index0, field_named, loop_field}
 use Rattle.jt_slots.specs.Filters.{Filters, default_value, parameters, some_given, by_name, arguments}
 use Rattle.jt_rules.specs.World.{World}

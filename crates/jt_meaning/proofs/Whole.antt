@@ -4,11 +4,11 @@ use Rattle.std.specs.Prelude.{flat_map, filter, map}
 use Rattle.std.specs.List.{AllByRecursion}
 use Rattle.std.specs.Str.{bytes_eq}
 use Rattle.jt_parse.specs.Trees.{Text, Parameter, parameters_weight, Stmt, data_of, print, choose, for_each, set, set_block, with_values, filter_block, autoescape, macro, include, extends, block, stmt_weight, Body, end, stmt, body_weight, Branches, no_branches, branch, branch_weight}
-use Rattle.jt_inherit.specs.Chain.{Home, Template, templates, BlockBody, blocks_of, blocks_in, blocks_under, all_bodies, MacroBody, macros_in, macros}
+use Rattle.jt_chains.specs.Chain.{Home, Template, templates, BlockBody, blocks_of, blocks_in, blocks_under, all_bodies, MacroBody, macros_in, macros}
 use Rattle.jt_slots.specs.Filters.{default_value}
 use Rattle.jt_rules.specs.World.{World}
 use Rattle.jt_meaning.specs.Meaning.{is_set}
-use Rattle.jt_inherit.specs.Uses.{set_in}
+use Rattle.jt_chains.specs.Uses.{set_in}
 use Rattle.jt_meaning.specs.Layout.{first_slot, names, block_parameters, counted_from, numbered_bodies, shared, defaults_of}
 use Rattle.jt_slots.specs.Slots as slots
 use Rattle.jt_slots.specs.Slots.{SExpr, SRow, SStmt, SBody, Routine}
@@ -18,7 +18,7 @@ use Rattle.jt_meaning.specs.Programs.{body_routines, chain_routines, routines, c
 use Rattle.jt_slots.specs.Size.{expr_size, row_size, condition_size, stmt_size, body_size, routines_size, expr_height, row_height, condition_height, stmt_height, body_height}
 use Rattle.jt_slots.specs.Locals.{body_locals}
 use Rattle.jt_meaning.specs.Measure.{stmt_own, body_own, branch_own, IsFew, HasAtMost, AreFew, IsSized}
-use Rattle.jt_inherit.specs.Small.{templates_weight, chains_weight}
+use Rattle.jt_chains.specs.Weights.{templates_weight, chains_weight}
 use Rattle.jt_meaning.proofs.Sizing.{parameters_few, followed_size, stmt_sized, all_sized, scope_sized}
 use Rattle.jt_meaning.proofs.Locality.{Below, globals_below, bound_below, scope_localed, stmt_localed, all_localed}
 use Rattle.jt_meaning.proofs.Locality as locality
@@ -28,7 +28,7 @@ use Rattle.jt_parse.specs.Trees.{body_bound}
 use Rattle.jt_meaning.specs.Layout.{scopes}
 use Rattle.jt_meaning.specs.Layout.{is_scoped}
 use Rattle.jt_meaning.proofs.Free.{stmt_free, body_free, AllPaid, MacrosPaid, body_paid, templates_bound, templates_pay, chain_blocks, chain_macros, scopes_few}
-use Rattle.jt_inherit.specs.Uses.{scope_names}
+use Rattle.jt_chains.specs.Uses.{scope_names}
 use Rattle.jt_parse.specs.Texts.{among}
 
 -- ---- each body counts once: in its template, or as a block's or a macro's

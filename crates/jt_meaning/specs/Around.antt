@@ -4,7 +4,7 @@ use Rattle.jt_value.specs.Pairs.{Pairs}
 use Rattle.jt_slots.specs.Got.{Place, Got}
 use Rattle.jt_parse.specs.Trees.{Text}
 use Rattle.jt_meaning.specs.Env.{Env}
-use Rattle.jt_inherit.specs.Chain.{Home, BlockBody, MacroBody}
+use Rattle.jt_chains.specs.Chain.{Home, BlockBody, MacroBody}
 use Rattle.jt_slots.specs.Loops.{Loop}
 
 -- a block's body that is being printed: the bodies behind it, and the environment of its placement

@@ -4,7 +4,7 @@ use Rattle.jt_value.specs.Tree as tree
 use Rattle.jt_value.specs.Tree.{Tree}
 use Rattle.jt_value.specs.Pairs.{Pairs}
 use Rattle.jt_value.specs.View.{items_of}
-use Rattle.jt_ops.specs.declared.op_id.OpId.TheVariants as op
+use Rattle.jt_ids.specs.declared.op_id.OpId.TheVariants as op
 use Rattle.jt_ops.specs.Ranges.{ranged}
 use Rattle.jt_ops.specs.Making.{listed, mapped}
 use Rattle.jt_expr.specs.Trees as trees
@@ -15,17 +15,17 @@ use Rattle.jt_slots.specs.Values.{literal, as_value}
 use Rattle.jt_slots.specs.Got.{Got, gives, deeper, bind, checked}
 use Rattle.jt_parse.specs.Trees.{Text, Parameter}
 use Rattle.jt_meaning.specs.Env.{Env, read, top}
-use Rattle.jt_inherit.specs.Chain.{Home, BlockBody, bodies, from_given, macros, Callee, a_macro, a_range, a_super, a_block, a_cycle, no_callee, callee, is_loop}
+use Rattle.jt_chains.specs.Chain.{Home, BlockBody, bodies, from_given, macros, Callee, a_macro, a_range, a_super, a_block, a_cycle, no_callee, callee, is_loop}
 use Rattle.jt_slots.specs.Loops.{Loop, Field, index0, field_named, loop_field}
 use Rattle.jt_slots.specs.Filters.{Filters, parameters, arguments}
 use Rattle.jt_rules.specs.World.{World}
 use Rattle.jt_meaning.specs.Around.{Placement, Around, the_macro, the_block, Calls}
-use Rattle.jt_ops.specs.declared.op_id.OpId.{OpId}
-use Rattle.jt_ops.specs.declared.test_id.TestId.{TestId}
+use Rattle.jt_ids.specs.declared.op_id.OpId.{OpId}
+use Rattle.jt_ids.specs.declared.test_id.TestId.{TestId}
 use Rattle.jt_ops.specs.Operation as operators
 use Rattle.jt_ops.specs.Operation.{as_truth}
 use Rattle.jt_ops.specs.Testing.{tested}
-use Rattle.jt_inherit.specs.Uses.{keywords}
+use Rattle.jt_chains.specs.Uses.{keywords}
 use Rattle.jt_slots.specs.Values.{literal, as_value}
 
 -- an operation on values

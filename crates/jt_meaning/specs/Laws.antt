@@ -4,11 +4,11 @@ use Rattle.std.specs.List.{AllByRecursion}
 use Rattle.jt_value.specs.Pairs.{Pairs}
 use Rattle.jt_slots.specs.Got.{Got, deeper}
 use Rattle.jt_parse.specs.Trees.{Text}
-use Rattle.jt_inherit.specs.Chain.{Home}
-use Rattle.jt_inherit.specs.Small.{NamesFew}
-use Rattle.jt_inherit.specs.View.{Seen, sources_of}
+use Rattle.jt_chains.specs.Chain.{Home}
+use Rattle.jt_chains.specs.Weights.{NamesFew}
+use Rattle.jt_chains.specs.View.{Seen, sources_of}
 use Rattle.jt_parse.specs.Bytes.{body_bytes}
-use Rattle.jt_inherit.specs.Chain.{templates}
+use Rattle.jt_chains.specs.Chain.{templates}
 use Rattle.jt_meaning.specs.Bytes.{IsShort}
 use Rattle.jt_meaning.specs.Ascends.{Ascends}
 use Rattle.jt_meaning.specs.Layout.{names}
@@ -16,8 +16,8 @@ use Rattle.jt_rules.specs.World.{World, world_of}
 use Rattle.jt_meaning.specs.Meaning.{mean}
 use Rattle.jt_slots.specs.Slots.{smean}
 use Rattle.jt_meaning.specs.Programs.{program}
-use Rattle.jt_inherit.specs.Includes.{InOrder}
-use Rattle.jt_inherit.specs.Rules as chains
+use Rattle.jt_chains.specs.Includes.{InOrder}
+use Rattle.jt_chains.specs.Rules as chains
 use Rattle.jt_rules.specs.Rules.{KeepsRules}
 use Rattle.jt_rules.specs.Known.{ChainsKnown}
 use Rattle.jt_slots.specs.Takes.{BodyTakes}

@@ -6,11 +6,11 @@ use Rattle.jt_value.specs.Tree as tree
 use Rattle.jt_value.specs.Tree.{Tree}
 use Rattle.jt_parse.specs.Texts.{among, ascending}
 use Rattle.jt_parse.specs.Trees.{Text}
-use Rattle.jt_inherit.specs.Chain.{Home, BlockBody, all_bodies, MacroBody, macros}
+use Rattle.jt_chains.specs.Chain.{Home, BlockBody, all_bodies, MacroBody, macros}
 use Rattle.jt_slots.specs.Filters.{default_value}
 use Rattle.jt_rules.specs.World.{World}
-use Rattle.jt_inherit.specs.Uses.{own_names, scope_names}
-use Rattle.jt_inherit.specs.Includes.{included}
+use Rattle.jt_chains.specs.Uses.{own_names, scope_names}
+use Rattle.jt_chains.specs.Includes.{included}
 use Rattle.jt_slots.specs.Slots.{Slot, global}
 
 -- where each visible name is kept, the innermost first

@@ -10,12 +10,12 @@ use Rattle.jt_slots.specs.Got.{Place, Got, gives, fails, deeper, bind, checked, 
 use Rattle.jt_slots.specs.Values.{shown, as_value}
 use Rattle.jt_parse.specs.Trees.{Text, Filtering, Stmt, data_of, print, choose, for_each, set, set_block, with_values, filter_block, autoescape, macro, include, extends, block, Body, end, stmt, Branches, no_branches, branch}
 use Rattle.jt_meaning.specs.Env.{Env, all_bound, inside, top, seen}
-use Rattle.jt_inherit.specs.Chain.{Home, Template, templates, bodies}
+use Rattle.jt_chains.specs.Chain.{Home, Template, templates, bodies}
 use Rattle.jt_slots.specs.Loops.{Loop, items_of_value}
 use Rattle.jt_slots.specs.Filters.{arguments}
 use Rattle.jt_rules.specs.World.{World}
 use Rattle.jt_meaning.specs.Around.{Around, State, Called, the_macro, the_block, the_chain, Calls, tag}
-use Rattle.jt_inherit.specs.Uses.{keywords}
+use Rattle.jt_chains.specs.Uses.{keywords}
 use Rattle.jt_meaning.specs.Expressions.{filtered, filter_parameters, block_text, value, values, named_values}
 
 -- ---- targets

@@ -3,8 +3,8 @@ use Rattle.std.specs.Prelude.{ℕ, ◌+◌, ◌*◌, ◌≤◌, max, List, lengt
 use Rattle.std.specs.List.{AllByRecursion}
 use Rattle.jt_expr.specs.Trees.{weight, pairs_weight}
 use Rattle.jt_parse.specs.Trees.{Text, Stmt, data_of, print, choose, for_each, set, set_block, with_values, filter_block, autoescape, macro, include, extends, block, Body, end, stmt, Branches, no_branches, branch, condition_weight, filtering_weight}
-use Rattle.jt_inherit.specs.Small.{chains_weight}
-use Rattle.jt_inherit.specs.Chain.{Home, macros}
+use Rattle.jt_chains.specs.Weights.{chains_weight}
+use Rattle.jt_chains.specs.Chain.{Home, macros}
 use Rattle.jt_rules.specs.World.{World}
 use Rattle.jt_meaning.specs.Layout.{names, scopes, block_parameters}
 use Rattle.jt_slots.specs.Slots.{Program}

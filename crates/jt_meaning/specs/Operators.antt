@@ -1,7 +1,7 @@
 -- The operators of the language, by the operations that they stand for.
 use Rattle.std.specs.Prelude.{ℕ, zero, suc, Bool, true, false}
-use Rattle.jt_ops.specs.declared.op_id.OpId.{OpId}
-use Rattle.jt_ops.specs.declared.op_id.OpId.TheVariants as op
+use Rattle.jt_ids.specs.declared.op_id.OpId.{OpId}
+use Rattle.jt_ids.specs.declared.op_id.OpId.TheVariants as op
 use Rattle.jt_expr.specs.declared.tree.UnaryOperator.{UnaryOperator}
 use Rattle.jt_expr.specs.declared.tree.UnaryOperator.TheVariants as u
 use Rattle.jt_expr.specs.declared.tree.BinaryOperator.{BinaryOperator}

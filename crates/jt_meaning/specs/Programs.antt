@@ -2,7 +2,7 @@
 use Rattle.std.specs.Prelude.{ℕ, ◌+◌, List, [], ◌∷◌, ◌++◌, length, map, flat_map, filter}
 use Rattle.std.specs.Str.{bytes_eq}
 use Rattle.jt_value.specs.Tree.{Tree}
-use Rattle.jt_inherit.specs.Chain.{Home, BlockBody, macros}
+use Rattle.jt_chains.specs.Chain.{Home, BlockBody, macros}
 use Rattle.jt_rules.specs.World.{World}
 use Rattle.jt_meaning.specs.Layout.{names, numbered_bodies, shared}
 use Rattle.jt_slots.specs.Slots.{Routine, Program}

@@ -4,4 +4,3 @@ pub mod Loops
 pub mod Numbers
 pub mod Pieces
 pub mod Places
-pub mod TestNames

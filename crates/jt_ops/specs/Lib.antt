@@ -1,6 +1,3 @@
-pub mod OpTable
-pub mod TestTable
-pub mod Tables
 pub mod Limited
 pub mod Operands
 pub mod Arithmetic

@@ -4,8 +4,8 @@ use Rattle.jt_value.specs.declared.fault.Fault.{Fault}
 use Rattle.jt_value.specs.declared.fault.Fault.TheVariants.{BadType}
 use Rattle.jt_value.specs.Equality.{equal}
 use Rattle.jt_value.specs.Tree.{Tree, truth_value, truth}
-use Rattle.jt_ops.specs.declared.op_id.OpId.{OpId}
-use Rattle.jt_ops.specs.declared.op_id.OpId.TheVariants as op
+use Rattle.jt_ids.specs.declared.op_id.OpId.{OpId}
+use Rattle.jt_ids.specs.declared.op_id.OpId.TheVariants as op
 use Rattle.jt_ops.specs.Arithmetic.{on_numbers, on_number, difference, quotient, remainder, power, negation, same_number}
 use Rattle.jt_ops.specs.Comparing.{compared, is_less, is_less_or_equal, is_greater, is_greater_or_equal}
 use Rattle.jt_ops.specs.ItemOf.{item_of}

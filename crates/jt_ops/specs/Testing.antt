@@ -7,8 +7,8 @@ use Rattle.jt_value.specs.Order.{misfit}
 use Rattle.jt_value.specs.Tree.{Tree, undefined, nothing, truth_value, number, text, markup, map}
 use Rattle.jt_ops.specs.declared.limits.OpError.{OpError}
 use Rattle.jt_ops.specs.declared.limits.OpError.TheVariants as error
-use Rattle.jt_ops.specs.declared.test_id.TestId.{TestId}
-use Rattle.jt_ops.specs.declared.test_id.TestId.TheVariants as test
+use Rattle.jt_ids.specs.declared.test_id.TestId.{TestId}
+use Rattle.jt_ids.specs.declared.test_id.TestId.TheVariants as test
 use Rattle.jt_ops.specs.Arithmetic.{is_zero, remainder}
 use Rattle.jt_ops.specs.Comparing.{compared, is_less, is_less_or_equal, is_greater, is_greater_or_equal}
 use Rattle.jt_ops.specs.Membership.{is_in}

@@ -3,7 +3,7 @@ ghost use Rattle.std.specs.Prelude.{◌≡◌, ◌∷◌, []};
 ghost use Rattle.jt_value.specs.View.{view};
 ghost use Rattle.jt_ops.specs.Limited.{limited_by, Answers};
 ghost use Rattle.jt_ops.specs.Operation.{operation};
-ghost use Rattle.jt_ops.specs.OpTable.{op_operands};
+ghost use Rattle.jt_ids.specs.OpTable.{op_operands};
 
 use crate::arithmetic::{floor_divide, modulo, negate, plus, raise, subtract};
 use crate::comparing::{greater, greater_or_equal, less, less_or_equal};
@@ -11,8 +11,8 @@ use crate::item::item;
 use crate::joining::{add, add_owned, join, join_escaping, multiply};
 use crate::limits::{Limits, OpError, number_within, truth_within, within};
 use crate::membership::is_in;
-use crate::op_id::OpId;
 use crate::ranges::{range_from, range_to};
+use jt_ids::OpId;
 use jt_value::Value;
 use std::alloc::Global;
 

@@ -2,7 +2,7 @@
 ghost use Rattle.std.specs.Prelude.{◌≡◌, ◌+◌, ◌∷◌, [], ℕ, List, map, length};
 ghost use Rattle.jt_value.specs.Tree as tree;
 ghost use Rattle.jt_value.specs.View.{view};
-ghost use Rattle.jt_ops.specs.TestTable.{test_values};
+ghost use Rattle.jt_ids.specs.TestTable.{test_values};
 ghost use Rattle.jt_ops.specs.Testing.{tested, as_answer};
 ghost use Rattle.jt_ops.specs.Testing as testing;
 
@@ -11,7 +11,7 @@ use crate::comparing::{compare_text, equals_text, greater, greater_or_equal, les
 use crate::limits::OpError;
 use crate::membership::{is_in, text_is_in};
 use crate::operands::{misfit, misfit_of_one, misfit_of_text};
-use crate::test_id::TestId;
+use jt_ids::TestId;
 use jt_value::{Fault, Value};
 use std::cmp::Ordering;
 

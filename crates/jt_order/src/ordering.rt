@@ -1,6 +1,6 @@
 //! An order of numbers.
 
-ghost use Rattle.std.specs.Prelude.{◌≡◌, IfOk};
+ghost use Rattle.std.specs.Prelude.{◌≡◌, [], IfOk};
 ghost use Rattle.jt_order.specs.Graph.{HasCycle, IsClosed, IsOrder};
 ghost use Rattle.jt_order.specs.View.{graph_of};
 
@@ -19,6 +19,7 @@ use std::alloc::Global;
 pub fn order(alloc: Global, next: &[Vec<usize>]) -> Result<Vec<usize>, OrderError>
     ensures ordered { IsClosed (graph_of next.now)
         → IfOk result (λ is. IsOrder (graph_of next.now) is.items) }
+    ensures elsewhere { ¬ IsClosed (graph_of next.now) → IfOk result (λ is. is.items ≡ []) }
     ensures cycle { result ≡ Err OrderError.Cycle → HasCycle (graph_of next.now) }
 {
     if !is_closed(next) {

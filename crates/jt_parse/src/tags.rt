@@ -463,6 +463,7 @@ pub fn read_head(
     let mut cursor = Cursor { rest: tokens };
     let found = head(alloc, &mut cursor, levels, line, word)?;
     if cursor.left() > 0 {
+        drop(found);
         return Err(ExprError::Syntax);
     }
     Ok(found)

@@ -3,8 +3,8 @@ use Rattle.std.proofs.Common.{◌≡◌, ◌⊎◌, ℕ, ◌+◌, List, [], ◌�
 use Rattle.std.proofs.lemmas.List.Elements.{Contains-append_right}
 use Rattle.jt_budget.specs.declared.Budget.{Budget}
 use Rattle.jt_machine.specs.View.{budget_view}
-use Rattle.jt_host.specs.declared.HostError.{HostError}
-use Rattle.jt_host.specs.declared.HostError.TheVariants as host_error
+use Rattle.jt_sessions.specs.declared.HostError.{HostError}
+use Rattle.jt_sessions.specs.declared.HostError.TheVariants as host_error
 use Rattle.jt_line.specs.declared.Pair.{Pair}
 use Rattle.jt_turns.specs.Outcomes.{TakesTurns as OutcomesOf}
 use Rattle.jt_turns.specs.declared.Start.{Start}

@@ -14,9 +14,9 @@ use Rattle.jt_value.specs.declared.Fault.{Fault}
 use Rattle.jt_budget.specs.declared.Budget.{Budget}
 use Rattle.jt_image.specs.Config.{Limit, Outcome}
 use Rattle.jt_machine.specs.View.{budget_view, limit_view}
-use Rattle.jt_host.specs.Json.{IsContext}
-use Rattle.jt_host.specs.Turns.{max_sessions}
-use Rattle.jt_host.specs.declared.HostError.TheVariants as host_error
+use Rattle.jt_contexts.specs.Json.{IsContext}
+use Rattle.jt_sessions.specs.Turns.{max_sessions}
+use Rattle.jt_sessions.specs.declared.HostError.TheVariants as host_error
 use Rattle.jt_host.specs.Rendering.{IsRefused as IsUncompiled}
 use Rattle.jt_line.specs.Line.{IsAsked, word_of}
 use Rattle.jt_line.specs.declared.Command.{Command}

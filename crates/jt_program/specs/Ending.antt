@@ -13,10 +13,10 @@ use Rattle.jt_image.specs.declared.ImageError.{ImageError}
 use Rattle.jt_image.specs.declared.ImageError.TheVariants as image_error
 use Rattle.jt_codegen.specs.declared.error.CompileError.{CompileError}
 use Rattle.jt_codegen.specs.declared.error.CompileError.TheVariants as compile_error
-use Rattle.jt_host.specs.declared.ContextError.{ContextError}
-use Rattle.jt_host.specs.declared.ContextError.TheVariants as context_error
-use Rattle.jt_host.specs.declared.HostError.{HostError}
-use Rattle.jt_host.specs.declared.HostError.TheVariants as host_error
+use Rattle.jt_contexts.specs.declared.ContextError.{ContextError}
+use Rattle.jt_contexts.specs.declared.ContextError.TheVariants as context_error
+use Rattle.jt_sessions.specs.declared.HostError.{HostError}
+use Rattle.jt_sessions.specs.declared.HostError.TheVariants as host_error
 use Rattle.jt_host.specs.declared.RenderError.{RenderError}
 use Rattle.jt_host.specs.declared.RenderError.TheVariants as render_error
 use Rattle.jt_verify.specs.declared.Refusal.{Refusal}

@@ -18,9 +18,9 @@ use Rattle.jt_image.specs.Run.{Run}
 use Rattle.jt_image.specs.Typed.{IsTyped}
 use Rattle.jt_image.specs.declared.ImageError.TheVariants as image_error
 use Rattle.jt_budget.specs.declared.Budget.{Budget}
-use Rattle.jt_host.specs.Json.{IsContext, Holds}
+use Rattle.jt_contexts.specs.Json.{IsContext, Holds}
 use Rattle.jt_host.specs.Rendering.{IsRefused as IsUncompiled, IsRendered}
-use Rattle.jt_host.specs.declared.ContextError.TheVariants as context_error
+use Rattle.jt_contexts.specs.declared.ContextError.TheVariants as context_error
 use Rattle.jt_line.specs.Line.{IsAsked}
 use Rattle.jt_line.specs.declared.Command.{Command}
 use Rattle.jt_line.specs.declared.Command.TheVariants as command

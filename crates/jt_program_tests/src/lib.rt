@@ -1,9 +1,6 @@
-//! What the program's contract tells of files of which all is known, and a test of its public calls over them. What its commands
-//! print and answer stands in the rows that are run over the program itself.
+//! A test of the program's public calls over files in memory. What its commands print and answer stands in the rows that are run
+//! over the program itself.
 #![tactic(auto)]
 
-mod disk;
-mod over_disk;
-
-pub use disk::Disk;
-pub use over_disk::performed;
+#[cfg(test)]
+mod lines;

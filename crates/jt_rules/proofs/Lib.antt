@@ -1,15 +1,1 @@
-pub mod Bound
-pub mod Fields
-pub mod Filled
-pub mod Filtered
-pub mod Fits
-pub mod Forms
-pub mod Found
-pub mod Inner
-pub mod Known
-pub mod Left
-pub mod Named
-pub mod Sets
-pub mod Shown
-pub mod Turns
 pub mod Walked

@@ -10,9 +10,9 @@ use Rattle.jt_expr.specs.Trees as trees
 use Rattle.jt_expr.specs.Trees.{Expr, constant, name, group, list_of, map_of, attribute, item, call, filter, test, unary, binary, when, choice, Exprs, no_exprs, expr, no_pairs, pair}
 use Rattle.jt_parse.specs.Trees.{Text, Parameter, Filtering, Stmt, data_of, print, choose, for_each, set, set_block, with_values, filter_block, autoescape, macro, include, extends, block, Body, end, stmt, Branches, no_branches, branch, body_bound}
 use Rattle.jt_parse.specs.Texts.{repeated}
-use Rattle.jt_ops.specs.declared.test_id.TestId.{TestId}
-use Rattle.jt_inherit.specs.Uses.{count, keywords}
-use Rattle.jt_inherit.specs.Chain.{Home, Template, MacroBody, templates, bodies, macros, macro_of, Callee, a_macro, a_range, a_super, a_block, a_cycle, no_callee, named_alone, callee, is_loop}
+use Rattle.jt_ids.specs.declared.test_id.TestId.{TestId}
+use Rattle.jt_chains.specs.Uses.{count, keywords}
+use Rattle.jt_chains.specs.Chain.{Home, Template, MacroBody, templates, bodies, macros, macro_of, Callee, a_macro, a_range, a_super, a_block, a_cycle, no_callee, named_alone, callee, is_loop}
 use Rattle.jt_slots.specs.Loops.{Field, field_named}
 use Rattle.jt_slots.specs.Tests.{test_named}
 use Rattle.jt_rules.specs.Arguments.{callee_takes, test_takes, filter_takes, names_rightly}

@@ -1,6 +1,6 @@
 -- What holds of every chain that keeps the rules.
 use Rattle.std.specs.Prelude.{◌≡◌, List, None}
-use Rattle.jt_inherit.specs.Chain.{Home}
+use Rattle.jt_chains.specs.Chain.{Home}
 use Rattle.jt_rules.specs.Rules.{KeepsRules}
 use Rattle.jt_rules.specs.Walk.{chains_broken}
 use Rattle.jt_rules.specs.World.{World}

@@ -5,6 +5,3 @@ pub mod Rules
 pub mod Walk
 pub mod Laws
 pub mod Known
-pub mod Standing
-pub mod Fitting
-pub mod ScopeView

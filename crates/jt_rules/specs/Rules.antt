@@ -2,8 +2,8 @@
 use Rattle.std.specs.Prelude.{◌≡◌, ◌≢◌, ℕ, ◌+◌, ◌<◌, false, IsTrue, ◌⊎◌, List, [], ◌∷◌, length, codes, None}
 use Rattle.std.specs.Option.{is_some}
 use Rattle.jt_expr.specs.Trees.{Expr, name, attribute}
-use Rattle.jt_inherit.specs.Uses.{count, keywords, own_names}
-use Rattle.jt_inherit.specs.Chain.{Home, Template, templates, bodies, macros, macro_of, Callee, a_super, a_block, no_callee, callee, is_loop}
+use Rattle.jt_chains.specs.Uses.{count, keywords, own_names}
+use Rattle.jt_chains.specs.Chain.{Home, Template, templates, bodies, macros, macro_of, Callee, a_super, a_block, no_callee, callee, is_loop}
 use Rattle.jt_parse.specs.Texts.{ascending, repeated}
 use Rattle.jt_parse.specs.Trees.{Text, body_bound}
 use Rattle.jt_slots.specs.Loops.{field_named}

@@ -2,8 +2,8 @@
 use Rattle.std.specs.Prelude.{Bool, true, false, if◌then◌else◌, List, [], ◌∷◌, ◌++◌, map, flat_map, Option, Some, None}
 use Rattle.jt_expr.specs.Trees.{Expr, constant, name, group, list_of, map_of, attribute, item, call, filter, test, unary, binary, when, choice, Exprs, no_exprs, expr, Pairs, no_pairs, pair}
 use Rattle.jt_parse.specs.Trees.{Text, Parameter, Filtering, Stmt, data_of, print, choose, for_each, set, set_block, with_values, filter_block, autoescape, macro, include, extends, block, Body, end, stmt, Branches, no_branches, branch}
-use Rattle.jt_inherit.specs.Chain.{Home, Sources, templates, is_loop}
-use Rattle.jt_inherit.specs.Uses.{keywords}
+use Rattle.jt_chains.specs.Chain.{Home, Sources, templates, is_loop}
+use Rattle.jt_chains.specs.Uses.{keywords}
 
 -- what stands around: a loop of the same block or macro body, and a block
 pub record Within : Type 0 where

@@ -1,7 +1,7 @@
 -- What templates are read with.
 use Rattle.std.specs.Prelude.{Bool}
-use Rattle.jt_inherit.specs.Chain.{Sources}
-use Rattle.jt_inherit.specs.View.{Seen, sources_of}
+use Rattle.jt_chains.specs.Chain.{Sources}
+use Rattle.jt_chains.specs.View.{Seen, sources_of}
 use Rattle.jt_slots.specs.Filters.{Filters}
 use Rattle.jt_slots.specs.TheFilters.{the_filters}
 

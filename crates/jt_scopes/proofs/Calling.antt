@@ -4,15 +4,15 @@ use Rattle.std.specs.Prelude.{option_map, pos}
 use Rattle.std.proofs.lemmas.List.{drop_more}
 use denote.Ref.{Bor}
 use Rattle.jt_value.specs.Tree as tree
-use Rattle.jt_ops.specs.declared.op_id.OpId.TheVariants as op
+use Rattle.jt_ids.specs.declared.op_id.OpId.TheVariants as op
 use Rattle.jt_slots.specs.Loops.{index0}
 use Rattle.jt_expr.specs.View.{exprs_view}
 use Rattle.jt_expr.specs.declared.tree.Expr.{Expr}
 use Rattle.jt_parse.specs.View.{parameters_view}
 use Rattle.jt_parse.specs.Trees.{Text}
 use Rattle.jt_uses.specs.Names.{texts}
-use Rattle.jt_inherit.specs.Uses.{count}
-use Rattle.jt_inherit.specs.Chain.{Home, MacroBody}
+use Rattle.jt_chains.specs.Uses.{count}
+use Rattle.jt_chains.specs.Chain.{Home, MacroBody}
 use Rattle.jt_rules.specs.World.{World}
 use Rattle.jt_slots.specs.Pool.{Constant, own}
 use Rattle.jt_slots.specs.Slots.{SExpr, absent, invoke, SRow, item, variable, local, made, a_list, field, pooled}

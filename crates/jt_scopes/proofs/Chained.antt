@@ -4,9 +4,9 @@ use Rattle.std.specs.Prelude.{if◌then◌else◌, ◌==◌}
 use Rattle.std.proofs.Common.{length-drop}
 use Rattle.std.proofs.lemmas.Bool.Decides.{nat_tests}
 use Rattle.std.proofs.lemmas.List.{drop_more}
-use Rattle.jt_inherit.specs.Chain.{Template}
-use Rattle.jt_inherit.specs.Layers.{layer_view}
-use Rattle.jt_inherit.specs.declared.layers.Layer.{Layer}
+use Rattle.jt_chains.specs.Chain.{Template}
+use Rattle.jt_chains.specs.Layers.{layer_view}
+use Rattle.jt_chains.specs.declared.layers.Layer.{Layer}
 use Rattle.jt_slots.specs.Pool.{Constant}
 use Rattle.jt_slots.specs.Slots as slots
 use Rattle.jt_slots.specs.Slots.{SBody}

@@ -1,10 +1,10 @@
 -- The filters by their ids.
 use Rattle.std.proofs.Common.{◌≡◌, refl, ap, Some}
 use Rattle.std.specs.Prelude.{option_map}
-use Rattle.jt_filters.specs.FilterTable.{filter_id}
+use Rattle.jt_ids.specs.FilterTable.{filter_id}
 use Rattle.jt_filters.specs.FilterIds.{filter_of}
-use Rattle.jt_filters.specs.declared.filter_id.FilterId.{FilterId}
-use Rattle.jt_filters.specs.declared.filter_id.FilterId.TheVariants as filter
+use Rattle.jt_ids.specs.declared.filter_id.FilterId.{FilterId}
+use Rattle.jt_ids.specs.declared.filter_id.FilterId.TheVariants as filter
 use Rattle.jt_expr.specs.Trees.{Exprs, Pairs}
 use Rattle.jt_parse.specs.Trees.{Text}
 use Rattle.jt_meaning.specs.Expressions as meant

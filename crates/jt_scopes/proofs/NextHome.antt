@@ -1,7 +1,7 @@
 -- From one chain to the next.
 use Rattle.std.proofs.Common.{◌≡◌, ℕ, zero, suc, ◌+◌, ◌<◌, List, [], ◌∷◌, length, drop, refl, sym, ap, ◌∙◌, add-one, arith}
-use Rattle.jt_inherit.specs.Chain.{Home}
-use Rattle.jt_inherit.specs.Places.{home_at}
+use Rattle.jt_chains.specs.Chain.{Home}
+use Rattle.jt_chains.specs.Places.{home_at}
 use Rattle.jt_layout.specs.Laid.{IsLaidOut}
 use Rattle.jt_layout.specs.declared.scope.Scope.{Scope}
 

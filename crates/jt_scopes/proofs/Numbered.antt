@@ -4,13 +4,13 @@ use Rattle.std.proofs.lemmas.List.{length-map, at_drop_all, drop_more}
 use Rattle.jt_value.specs.Tree.{Tree}
 use Rattle.jt_parse.specs.Trees.{Text}
 use Rattle.jt_parse.specs.View.{body_view, parameters_view}
-use Rattle.jt_inherit.specs.Chain.{BlockBody, MacroBody, all_bodies}
-use Rattle.jt_inherit.specs.Parts.{block_view, macro_view, name_at}
-use Rattle.jt_inherit.specs.View.{chain_view}
-use Rattle.jt_inherit.specs.declared.parts.Block.{Block}
-use Rattle.jt_inherit.specs.declared.parts.Macro.{Macro}
+use Rattle.jt_chains.specs.Chain.{BlockBody, MacroBody, all_bodies}
+use Rattle.jt_chains.specs.Parts.{block_view, macro_view, name_at}
+use Rattle.jt_chains.specs.View.{chain_view}
+use Rattle.jt_chains.specs.declared.parts.Block.{Block}
+use Rattle.jt_chains.specs.declared.parts.Macro.{Macro}
 use Rattle.jt_slots.specs.declared.program.Routine.{Routine}
-use Rattle.jt_inherit.specs.Chain.{Template}
+use Rattle.jt_chains.specs.Chain.{Template}
 use Rattle.jt_meaning.specs.Layout.{counted_from, numbered_bodies, block_parameters}
 use Rattle.jt_meaning.specs.Programs.{body_routines}
 use Rattle.jt_meaning.specs.Resolve as resolve

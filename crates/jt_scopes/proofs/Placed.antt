@@ -6,8 +6,8 @@ use Rattle.std.proofs.lemmas.List.{map-append}
 use Rattle.std.proofs.lemmas.Option.{slice_get-map}
 use Rattle.std.specs.Str.{bytes_eq}
 use Rattle.jt_parse.specs.Trees.{Text}
-use Rattle.jt_inherit.specs.Chain.{Template}
-use Rattle.jt_inherit.specs.Parts.{name_at}
+use Rattle.jt_chains.specs.Chain.{Template}
+use Rattle.jt_chains.specs.Parts.{name_at}
 use Rattle.jt_slots.specs.Got as got
 use Rattle.jt_slots.specs.Slots.{Slot, local}
 use Rattle.jt_slots.specs.View.{place_view, slot_view}

@@ -2,7 +2,7 @@
 use Rattle.std.proofs.Common.{◌≡◌, ℕ, zero, suc, ◌+◌, ◌<◌, ◌≤◌, Bool, true, false, List, [], ◌∷◌, length, drop, get_or, refl, ap, ◌∙◌, arith, Option, Some, if◌then◌else◌}
 use Rattle.std.specs.Prelude.{filter}
 use Rattle.std.proofs.lemmas.List.{drop_more, at_drop_all}
-use Rattle.jt_inherit.specs.Chain.{BlockBody}
+use Rattle.jt_chains.specs.Chain.{BlockBody}
 use Rattle.jt_meaning.specs.Layout.{counted_from}
 use Rattle.jt_meaning.specs.Resolve.{first_body, next_given}
 

@@ -3,7 +3,7 @@ use Rattle.std.proofs.Common.{◌≡◌, ℕ, ◌+◌, List, [], ◌∷◌, ◌+
 use Rattle.std.proofs.lemmas.List.{map-append}
 use Rattle.jt_value.specs.Tree.{Tree}
 use Rattle.jt_parse.specs.Trees.{Text, Body}
-use Rattle.jt_inherit.specs.Chain.{Home}
+use Rattle.jt_chains.specs.Chain.{Home}
 use Rattle.jt_rules.specs.World.{World}
 use Rattle.jt_meaning.specs.Resolve.{Spot, resolved_routine}
 use Rattle.jt_slots.specs.Locals.{body_locals}

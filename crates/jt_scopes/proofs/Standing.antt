@@ -5,11 +5,11 @@ use Rattle.std.specs.Option.{is_none}
 use Rattle.std.specs.Str.{bytes_eq}
 use Rattle.jt_value.specs.Tree.{Tree}
 use Rattle.jt_parse.specs.Texts.{among, ascending}
-use Rattle.jt_inherit.specs.Includes.{included}
-use Rattle.jt_inherit.specs.Uses.{own_names}
+use Rattle.jt_chains.specs.Includes.{included}
+use Rattle.jt_chains.specs.Uses.{own_names}
 use Rattle.jt_parse.specs.Trees as trees
 use Rattle.jt_parse.specs.Trees.{Text, Body}
-use Rattle.jt_inherit.specs.Chain.{Home, macros, BlockBody, MacroBody}
+use Rattle.jt_chains.specs.Chain.{Home, macros, BlockBody, MacroBody}
 use Rattle.jt_rules.specs.World.{World}
 use Rattle.jt_slots.specs.Slots as slots
 use Rattle.jt_slots.specs.Slots.{SBody}

@@ -8,8 +8,8 @@ use Rattle.jt_expr.specs.Trees as expressions
 use Rattle.jt_expr.specs.Trees.{Pairs, no_pairs, pair}
 use Rattle.jt_expr.specs.View.{expr_view}
 use Rattle.jt_expr.specs.declared.tree.Expr.{Expr}
-use Rattle.jt_inherit.specs.Chain.{Home}
-use Rattle.jt_inherit.specs.Uses.{set_in}
+use Rattle.jt_chains.specs.Chain.{Home}
+use Rattle.jt_chains.specs.Uses.{set_in}
 use Rattle.jt_rules.specs.World.{World}
 use Rattle.jt_parse.specs.Trees as trees
 use Rattle.jt_parse.specs.Trees.{Text}

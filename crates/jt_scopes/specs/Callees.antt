@@ -1,8 +1,8 @@
 -- What only private clauses cite: what stands in front of the arguments of a call, as the code keeps it.
 use Rattle.std.specs.Prelude.{◌≡◌, ℕ, List, Option, option_map}
 use Rattle.jt_parse.specs.View.{parameters_view}
-use Rattle.jt_inherit.specs.Chain as chain
-use Rattle.jt_inherit.specs.Chain.{Home, MacroBody}
+use Rattle.jt_chains.specs.Chain as chain
+use Rattle.jt_chains.specs.Chain.{Home, MacroBody}
 use Rattle.jt_rules.specs.World.{World}
 use Rattle.jt_meaning.specs.Layout.{of_macro, of_body, unit, default_place}
 use Rattle.jt_scopes.specs.declared.callee.Signature.{Signature}

@@ -7,11 +7,11 @@ use Rattle.jt_value.specs.Tree.{Tree}
 use Rattle.jt_value.specs.View.{view}
 use Rattle.jt_value.specs.declared.value.Value.{Value}
 use Rattle.jt_parse.specs.Trees.{Text}
-use Rattle.jt_inherit.specs.Chain.{Home, BlockBody}
-use Rattle.jt_inherit.specs.Parts.{name_at}
-use Rattle.jt_inherit.specs.Uses.{count, keywords}
-use Rattle.jt_inherit.specs.Places.{home_at}
-use Rattle.jt_inherit.specs.View.{chain_view}
+use Rattle.jt_chains.specs.Chain.{Home, BlockBody}
+use Rattle.jt_chains.specs.Parts.{name_at}
+use Rattle.jt_chains.specs.Uses.{count, keywords}
+use Rattle.jt_chains.specs.Places.{home_at}
+use Rattle.jt_chains.specs.View.{chain_view}
 use Rattle.jt_rules.specs.World.{World, world_of}
 use Rattle.jt_slots.specs.Pool.{Constant, expr_values, row_values, body_values, placed_expr, placed_row, placed_body}
 use Rattle.jt_expr.specs.Trees as trees

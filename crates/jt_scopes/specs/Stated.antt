@@ -5,8 +5,8 @@ use Rattle.jt_value.specs.Tree.{Tree}
 use Rattle.jt_parse.specs.Trees as trees
 use Rattle.jt_parse.specs.Trees.{Text, Branches}
 use Rattle.jt_expr.specs.Trees as expressions
-use Rattle.jt_inherit.specs.Chain.{Template}
-use Rattle.jt_inherit.specs.Uses.{set_in}
+use Rattle.jt_chains.specs.Chain.{Template}
+use Rattle.jt_chains.specs.Uses.{set_in}
 use Rattle.jt_slots.specs.Got as got
 use Rattle.jt_slots.specs.Pool.{Constant, condition_values, body_values, placed_condition, placed_body}
 use Rattle.jt_slots.specs.Slots as slots

@@ -3,7 +3,7 @@
 ghost use Rattle.std.specs.Prelude.{◌≡◌, ℕ, List, [], IfOk, IfErr};
 ghost use Rattle.jt_value.specs.Tree.{Tree};
 ghost use Rattle.jt_uses.specs.Names.{texts};
-ghost use Rattle.jt_inherit.specs.Chain as chain;
+ghost use Rattle.jt_chains.specs.Chain as chain;
 ghost use Rattle.jt_layout.specs.Laid.{IsLaidOut};
 ghost use Rattle.jt_meaning.specs.Layout as layout;
 ghost use Rattle.jt_meaning.specs.Resolve as resolve;

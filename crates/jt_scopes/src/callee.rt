@@ -3,7 +3,7 @@
 ghost use Rattle.std.specs.Prelude.{◌≡◌, List, None, IfOk, IfErr};
 ghost use Rattle.jt_expr.specs.Trees as trees;
 ghost use Rattle.jt_expr.specs.View as written;
-ghost use Rattle.jt_inherit.specs.Chain.{Home, MacroBody, macros, macro_of, callee, named_alone, named_in};
+ghost use Rattle.jt_chains.specs.Chain.{Home, MacroBody, macros, macro_of, callee, named_alone, named_in};
 ghost use Rattle.jt_layout.specs.Laid.{IsLaidOut};
 ghost use Rattle.jt_scopes.specs.Callees.{IsCallee};
 ghost use Rattle.jt_scopes.specs.Scoped.{world_in, order_in, home_in};

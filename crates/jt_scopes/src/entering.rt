@@ -6,7 +6,7 @@ ghost use Rattle.std.specs.declared.rc.Rc.{Rc};
 ghost use denote.Ref.{Bor};
 ghost use Rattle.jt_scopes.specs.declared.frame.Frame.{Frame};
 ghost use Rattle.jt_expr.specs.View.{pairs_view};
-ghost use Rattle.jt_inherit.specs.Uses.{keywords};
+ghost use Rattle.jt_chains.specs.Uses.{keywords};
 ghost use Rattle.jt_layout.specs.Laid.{IsLaidOut};
 ghost use Rattle.jt_meaning.specs.Layout.{Table};
 ghost use Rattle.jt_layout.specs.declared.scope.Scope.{Scope};

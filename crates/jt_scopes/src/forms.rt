@@ -6,7 +6,7 @@ ghost use Rattle.jt_value.specs.Tree.{Tree};
 ghost use Rattle.jt_value.specs.View.{view};
 ghost use Rattle.jt_expr.specs.View.{literal_view};
 ghost use Rattle.jt_meaning.specs.Operators as operators;
-ghost use Rattle.jt_ops.specs.declared.op_id.OpId.TheVariants.{Remainder};
+ghost use Rattle.jt_ids.specs.declared.op_id.OpId.TheVariants.{Remainder};
 ghost use Rattle.jt_meaning.specs.Resolve as resolve;
 ghost use Rattle.jt_rules.specs.declared.error.ScopeError.TheVariants as error;
 ghost use Rattle.jt_slots.specs.Loops.{index0};
@@ -19,7 +19,7 @@ ghost use Rattle.jt_scopes.specs.Scoped.{values, IsPlaced};
 
 use crate::pool::add_value;
 use jt_expr::{BinaryOperator, Literal, UnaryOperator};
-use jt_ops::OpId;
+use jt_ids::OpId;
 use jt_rules::ScopeError;
 use jt_slots::{Field, Maker, SExpr};
 use jt_value::Value;

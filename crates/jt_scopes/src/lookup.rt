@@ -3,7 +3,7 @@
 ghost use Rattle.std.specs.Prelude.{◌≡◌, ◌+◌, List, option_map, IfOk, IfErr};
 ghost use Rattle.jt_value.specs.Tree.{Tree};
 ghost use Rattle.jt_expr.specs.View as written;
-ghost use Rattle.jt_inherit.specs.Uses.{keywords};
+ghost use Rattle.jt_chains.specs.Uses.{keywords};
 ghost use Rattle.jt_meaning.specs.Layout.{slot_in};
 ghost use Rattle.jt_meaning.specs.Resolve as resolve;
 ghost use Rattle.jt_rules.specs.declared.error.ScopeError.TheVariants as error;

@@ -3,7 +3,7 @@
 ghost use Rattle.std.specs.Prelude.{◌≡◌, List, option_map};
 ghost use Rattle.jt_value.specs.Tree.{Tree};
 ghost use Rattle.jt_expr.specs.View as written;
-ghost use Rattle.jt_inherit.specs.Chain.{is_loop};
+ghost use Rattle.jt_chains.specs.Chain.{is_loop};
 ghost use Rattle.jt_meaning.specs.Resolve as resolve;
 ghost use Rattle.jt_slots.specs.Loops.{field_named};
 ghost use Rattle.jt_slots.specs.View.{field_view, expr_view};

@@ -1,8 +1,8 @@
 //! The names of a program, and how many globals it has.
 
 ghost use Rattle.std.specs.Prelude.{◌≡◌, map, IfOk, IfErr, string_bytes};
-ghost use Rattle.jt_inherit.specs.Pages.{pages_view};
-ghost use Rattle.jt_inherit.specs.Places.{home_at};
+ghost use Rattle.jt_chains.specs.Pages.{pages_view};
+ghost use Rattle.jt_chains.specs.Places.{home_at};
 ghost use Rattle.jt_layout.specs.Laid.{IsLaidOut};
 ghost use Rattle.jt_meaning.specs.Layout as layout;
 ghost use Rattle.jt_meaning.specs.Programs as programs;
@@ -11,7 +11,7 @@ ghost use Rattle.jt_rules.specs.declared.error.ScopeError.TheVariants as error;
 ghost use Rattle.jt_uses.specs.Names.{texts};
 
 use crate::lookup::more;
-use jt_inherit::Page;
+use jt_chains::Page;
 use jt_layout::Scope;
 use jt_rules::ScopeError;
 use std::alloc::Global;

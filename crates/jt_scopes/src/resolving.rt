@@ -1,8 +1,8 @@
 //! Resolves a chain: its names to slots, and its literals and data to places of a pool.
 
 ghost use Rattle.std.specs.Prelude.{◌≡◌, IfOk, OnOk, IfErr};
-ghost use Rattle.jt_inherit.specs.Places.{home_at};
-ghost use Rattle.jt_inherit.specs.View.{chain_view};
+ghost use Rattle.jt_chains.specs.Places.{home_at};
+ghost use Rattle.jt_chains.specs.View.{chain_view};
 ghost use Rattle.jt_rules.specs.Rules.{KeepsRules, Breaks};
 ghost use Rattle.jt_rules.specs.World.{world_of};
 ghost use Rattle.jt_meaning.specs.Programs.{program};
@@ -11,9 +11,10 @@ ghost use Rattle.jt_slots.specs.View.{program_of};
 use crate::homes::resolve_homes;
 use crate::program_names::{count_globals, entry_names, template_names};
 use crate::shared::shared_values;
-use jt_inherit::Chain;
+use jt_chains::Chain;
+use jt_checks::check_rules;
 use jt_layout::lay_out;
-use jt_rules::{ScopeError, check_rules};
+use jt_rules::ScopeError;
 use jt_slots::Program;
 use std::alloc::Global;
 

@@ -1,10 +1,10 @@
 //! Resolves the routines of a chain: the chain, its macros, and the bodies of its blocks.
 
 ghost use Rattle.std.specs.Prelude.{◌≡◌, map, IfOk, IfErr, if◌then◌else◌};
-ghost use Rattle.jt_inherit.specs.Chain.{macros};
-ghost use Rattle.jt_inherit.specs.Layers.{layer_view};
-ghost use Rattle.jt_inherit.specs.Parts.{name_at};
-ghost use Rattle.jt_inherit.specs.View.{chain_view};
+ghost use Rattle.jt_chains.specs.Chain.{macros};
+ghost use Rattle.jt_chains.specs.Layers.{layer_view};
+ghost use Rattle.jt_chains.specs.Parts.{name_at};
+ghost use Rattle.jt_chains.specs.View.{chain_view};
 ghost use Rattle.jt_layout.specs.Laid.{IsLaidOut};
 ghost use Rattle.jt_meaning.specs.Layout as layout;
 ghost use Rattle.jt_meaning.specs.Layout.{numbered_bodies};
@@ -23,7 +23,7 @@ use crate::entering::parameters_of;
 use crate::locals::{body_locals, larger};
 use crate::spot::Spot;
 use crate::statements::{resolve_body, resolve_statement, resolve_within};
-use jt_inherit::Layer;
+use jt_chains::Layer;
 use jt_layout::Scope;
 use jt_parse::Stmt;
 use jt_rules::ScopeError;

@@ -1,8 +1,8 @@
 //! The values in front of a pool.
 
 ghost use Rattle.std.specs.Prelude.{◌≡◌, ◌++◌, List, map, IfOk, IfErr};
-ghost use Rattle.jt_inherit.specs.Chain.{Template};
-ghost use Rattle.jt_inherit.specs.Parts.{macro_view};
+ghost use Rattle.jt_chains.specs.Chain.{Template};
+ghost use Rattle.jt_chains.specs.Parts.{macro_view};
 ghost use Rattle.jt_layout.specs.Laid.{IsLaidOut};
 ghost use Rattle.jt_meaning.specs.Layout as layout;
 ghost use Rattle.jt_meaning.specs.Layout.{defaults_of};
@@ -12,8 +12,8 @@ ghost use Rattle.jt_rules.specs.declared.error.ScopeError.TheVariants as error;
 ghost use Rattle.jt_slots.specs.Filters.{default_value};
 ghost use Rattle.jt_value.specs.View.{view};
 
+use jt_chains::Macro;
 use jt_expr::Literal;
-use jt_inherit::Macro;
 use jt_layout::Scope;
 use jt_parse::Parameter;
 use jt_rules::ScopeError;

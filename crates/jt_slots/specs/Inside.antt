@@ -1,12 +1,12 @@
 -- Names inside the arguments of a filter: of a filter or a test that is called on each item, with the arguments behind its name, and of an
 -- attribute's key. They are text literals.
 use Rattle.std.specs.Prelude.{ℕ, suc, Bool, true, false, ◌&&◌, ◌==◌, Option, Some, None, option_and_then, nat_le}
-use Rattle.jt_ops.specs.declared.test_id.TestId.{TestId}
-use Rattle.jt_ops.specs.TestTable.{test_values}
-use Rattle.jt_filters.specs.declared.filter_id.FilterId.{FilterId}
-use Rattle.jt_filters.specs.declared.filter_id.Naming.{Naming}
-use Rattle.jt_filters.specs.declared.filter_id.Naming.TheVariants as naming
-use Rattle.jt_filters.specs.FilterTable.{filter_of_name, least_values, most_values, may_be_inner, named_at, place_of}
+use Rattle.jt_ids.specs.declared.test_id.TestId.{TestId}
+use Rattle.jt_ids.specs.TestTable.{test_values}
+use Rattle.jt_ids.specs.declared.filter_id.FilterId.{FilterId}
+use Rattle.jt_ids.specs.declared.filter_id.Naming.{Naming}
+use Rattle.jt_ids.specs.declared.filter_id.Naming.TheVariants as naming
+use Rattle.jt_ids.specs.FilterTable.{filter_of_name, least_values, most_values, may_be_inner, named_at, place_of}
 use Rattle.jt_expr.specs.Named.{literal_text}
 use Rattle.jt_expr.specs.Trees as trees
 use Rattle.jt_expr.specs.Trees.{Text, Exprs, no_exprs, expr, count, no_pairs, pair}

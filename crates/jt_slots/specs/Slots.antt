@@ -6,8 +6,8 @@ use Rattle.jt_value.specs.Tree.{Tree}
 use Rattle.jt_value.specs.Pairs.{Pairs}
 use Rattle.jt_value.specs.declared.fault.Fault.{Fault}
 use Rattle.jt_value.specs.declared.fault.Fault.TheVariants as faults
-use Rattle.jt_ops.specs.declared.op_id.OpId.{OpId}
-use Rattle.jt_ops.specs.declared.test_id.TestId.{TestId}
+use Rattle.jt_ids.specs.declared.op_id.OpId.{OpId}
+use Rattle.jt_ids.specs.declared.test_id.TestId.{TestId}
 use Rattle.jt_ops.specs.Operation.{operation, as_truth}
 use Rattle.jt_ops.specs.Testing.{tested}
 use Rattle.jt_ops.specs.Making.{listed, mapped}

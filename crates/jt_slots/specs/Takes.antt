@@ -1,8 +1,8 @@
 -- Each operation of a resolved tree gets as many values as it takes, and each routine as many as it has parameters; a field of a loop stands in a
 -- loop of its routine.
 use Rattle.std.specs.Prelude.{◌≡◌, ℕ, zero, suc, Bool, true, false, IsTrue, List, Option, Some, None, slice_get}
-use Rattle.jt_ops.specs.OpTable.{op_operands}
-use Rattle.jt_ops.specs.TestTable.{test_values}
+use Rattle.jt_ids.specs.OpTable.{op_operands}
+use Rattle.jt_ids.specs.TestTable.{test_values}
 use Rattle.jt_slots.specs.Filters.{Filters}
 use Rattle.jt_slots.specs.Size.{row_count}
 use Rattle.jt_slots.specs.Slots.{Maker, operator, test, filter, a_list, a_map, SExpr, pooled, variable, field, absent, made, conjunction, disjunction, choice, invoke, SRow, none, item, aside, SStmt, put_pooled, print, assign, if_else, for_each, capture, run, SBody, end, stmt, Routine}

@@ -1,8 +1,8 @@
 -- The filters of the language, as templates name them.
 use Rattle.std.specs.Prelude.{false, pos, List, [], ◌∷◌, Option, Some, None, option_map}
-use Rattle.jt_filters.specs.declared.filter_id.FilterId.{FilterId}
-use Rattle.jt_filters.specs.declared.filter_id.FilterId.TheVariants as filter
-use Rattle.jt_filters.specs.FilterTable.{filter_id, argument_names}
+use Rattle.jt_ids.specs.declared.filter_id.FilterId.{FilterId}
+use Rattle.jt_ids.specs.declared.filter_id.FilterId.TheVariants as filter
+use Rattle.jt_ids.specs.FilterTable.{filter_id, argument_names}
 unfoldable pub use Rattle.jt_filters.specs.FilterIds.{filter_of}
 use Rattle.jt_filters.specs.FilterIds.{accepts, filtered_by}
 unfoldable pub use Rattle.jt_expr.specs.Named.{filter_written}

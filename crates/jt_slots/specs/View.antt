@@ -2,7 +2,7 @@
 use Rattle.std.specs.Prelude.{ℕ, List, [], ◌∷◌, map, string_bytes, Vec, Option, Some, None, option_map, slice_get, unwrap_or}
 use Rattle.std.specs.declared.alloc.Global.{Global}
 use Rattle.jt_value.specs.View.{view}
-use Rattle.jt_filters.specs.FilterTable.{filter_id}
+use Rattle.jt_ids.specs.FilterTable.{filter_id}
 use Rattle.jt_parse.specs.Trees.{Text}
 use Rattle.jt_slots.specs.Got as got
 use Rattle.jt_slots.specs.Loops as loops

@@ -1,8 +1,7 @@
 //! Resolved templates: each name is a slot of the locals or of the globals, each literal and each piece of data a place in a pool of
 //! values, each macro, block and chain a routine.
 
-use jt_filters::FilterId;
-use jt_ops::{OpId, TestId};
+use jt_ids::{FilterId, OpId, TestId};
 use jt_value::Value;
 
 /// Where a tag stands: the place of its template among those of the program, and its line.

@@ -3,15 +3,7 @@
 #![tactic(auto)]
 
 #[cfg(test)]
-mod ended;
-#[cfg(test)]
 mod pieces;
-#[cfg(test)]
-mod plain;
-#[cfg(test)]
-mod plain_loops;
-#[cfg(test)]
-mod plain_making;
 #[cfg(test)]
 mod plain_rows;
 #[cfg(test)]

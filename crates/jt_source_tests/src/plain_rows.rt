@@ -1,15 +1,14 @@
 //! The machine comes to the same end as the plain machine, with every fuel from 0 to 200: on images written by hand, and on those of
 //! rows of sources.
 
-use crate::ended::End;
-use crate::plain::plain_end;
 use crate::rows::unfolded;
 use crate::shelf::{context_of, image_of, verified_of};
 use crate::sources::{CHAINS, FILTERS, MACROS, OVER_ITEMS, STATEMENTS, WHITESPACE, WORKED};
 use jt_budget::Budget;
-use jt_host::context_from_json;
+use jt_contexts::context_from_json;
 use jt_image::{Image, decode, encode, view};
 use jt_machine::{Outcome, run, run_view};
+use jt_plain::{End, plain_end};
 use jt_scan::Options;
 use jt_value::Context;
 use jt_verify::{Verified, VerifiedView, verify_view};

@@ -2,9 +2,10 @@
 
 use crate::rows::rows_hold;
 use crate::shelf::{image_of, verified_of};
-use jt_host::{ContextError, Host, HostError};
+use jt_contexts::ContextError;
 use jt_line::DEFAULT;
 use jt_scan::{Options, ScanError};
+use jt_sessions::{Host, HostError};
 use jt_value::Context;
 use std::alloc::Global;
 use std::test::Fail;

@@ -8,9 +8,9 @@ use Rattle.jt_value.specs.ContextView.{pairs_of}
 use Rattle.jt_image.specs.Code.{Code}
 use Rattle.jt_image.specs.Config.{Budget}
 use Rattle.jt_machine.specs.Session.{Session, SessionLaws, started}
-use Rattle.jt_host.specs.declared.HostError.{HostError}
-use Rattle.jt_host.specs.declared.HostError.TheVariants as host_error
-use Rattle.jt_host.specs.Turns.{World, after, bar, max_id, max_sessions, opened, opening, opening_reply, opens, reply, OpenRefused}
+use Rattle.jt_sessions.specs.declared.HostError.{HostError}
+use Rattle.jt_sessions.specs.declared.HostError.TheVariants as host_error
+use Rattle.jt_sessions.specs.Turns.{World, after, bar, max_id, max_sessions, opened, opening, opening_reply, opens, reply, OpenRefused}
 use Rattle.jt_turns.specs.declared.turns.Start.{Start}
 use Rattle.jt_turns.specs.Outcomes.{TakesTurns}
 use Rattle.jt_turns.specs.Standing.{AreSessions, IsNumbered, IsSession, Stands}

@@ -8,7 +8,7 @@ use Rattle.jt_image.specs.Config as config
 use Rattle.jt_image.specs.Config.{Budget, Outcome}
 use Rattle.jt_image.specs.Run.{Run, passed, RunFrom, Next, Goes, Ends, Wrong, after, start}
 use Rattle.jt_machine.specs.Session.{Session, SessionLaws, advanced, begun, led, moved, outcome_of, end_of, started}
-use Rattle.jt_host.specs.Turns.{find, replace}
+use Rattle.jt_sessions.specs.Turns.{find, replace}
 use Rattle.jt_turns.specs.declared.turns.Start.{Start}
 use Rattle.jt_turns.specs.Standing.{AreSessions, IsSession, fuel_left, fuel_of}
 

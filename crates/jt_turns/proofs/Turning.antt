@@ -8,9 +8,9 @@ use Rattle.jt_image.specs.Config.{Budget, Outcome}
 use Rattle.jt_machine.specs.Session.{Session, Status, SessionLaws, advanced, end_of, going, done, lost, is_lost, moved, outcome_of, told_of}
 use Rattle.jt_machine.specs.declared.outcome.Progress.{Progress}
 use Rattle.jt_machine.specs.declared.outcome.Progress.TheVariants as progress
-use Rattle.jt_host.specs.declared.HostError.{HostError}
-use Rattle.jt_host.specs.declared.HostError.TheVariants as host_error
-use Rattle.jt_host.specs.Turns.{World, find, replace, turning, turning_reply, refused, told, turned, OutcomeRefused, TurnRefused}
+use Rattle.jt_sessions.specs.declared.HostError.{HostError}
+use Rattle.jt_sessions.specs.declared.HostError.TheVariants as host_error
+use Rattle.jt_sessions.specs.Turns.{World, find, replace, turning, turning_reply, refused, told, turned, OutcomeRefused, TurnRefused}
 use Rattle.jt_turns.specs.declared.turns.Start.{Start}
 use Rattle.jt_turns.specs.Lines.{session_line, session_lines}
 use Rattle.jt_turns.specs.Outcomes.{AreOutcomes}

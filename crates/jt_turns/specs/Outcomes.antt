@@ -4,9 +4,9 @@ use Rattle.std.specs.declared.alloc.Global.{Global}
 use Rattle.jt_value.specs.ContextView.{pairs_of}
 use Rattle.jt_image.specs.Config.{Budget, Outcome}
 use Rattle.jt_image.specs.Run.{Run}
-use Rattle.jt_host.specs.Turns.{max_sessions}
-use Rattle.jt_host.specs.declared.HostError.{HostError}
-use Rattle.jt_host.specs.declared.HostError.TheVariants as host_error
+use Rattle.jt_sessions.specs.Turns.{max_sessions}
+use Rattle.jt_sessions.specs.declared.HostError.{HostError}
+use Rattle.jt_sessions.specs.declared.HostError.TheVariants as host_error
 use Rattle.jt_turns.specs.declared.turns.Start.{Start}
 use Rattle.jt_turns.specs.Lines.{session_lines}
 

@@ -6,7 +6,7 @@ use Rattle.jt_image.specs.Config.{Budget, Outcome}
 use Rattle.jt_machine.specs.Session.{Session, Status, advanced, outcome_of, started, going, done, lost}
 use Rattle.jt_machine.specs.declared.outcome.Progress.{Progress}
 use Rattle.jt_machine.specs.declared.outcome.Progress.TheVariants as progress
-use Rattle.jt_host.specs.Turns.{World, after, find, max_sessions, reply, turned, turns}
+use Rattle.jt_sessions.specs.Turns.{World, after, find, max_sessions, reply, turned, turns}
 use Rattle.jt_turns.specs.declared.turns.Start.{Start}
 
 module _ (b : Budget) where

@@ -5,8 +5,8 @@ ghost use Rattle.jt_turns.specs.Lines.{limit_name, session_line, session_lines};
 ghost use Rattle.jt_turns.specs.Standing.{IsNumbered, OutcomeAt, have_ended, outcomes};
 
 use jt_budget::Spent;
-use jt_host::Host;
 use jt_machine::Outcome;
+use jt_sessions::Host;
 use std::alloc::{AllocError, Global};
 
 /// The lines of the sessions 1 to `count`, which have ended.

@@ -1,10 +1,10 @@
 //! Turns of all sessions of a host, until each has ended.
 ghost use Rattle.std.specs.Prelude.{◌≡◌, ◌≤◌, ◌<◌, true, false, IfOk, IfErr, OnOk};
-ghost use Rattle.jt_host.specs.Turns.{TurnRefused};
+ghost use Rattle.jt_sessions.specs.Turns.{TurnRefused};
 ghost use Rattle.jt_turns.specs.Standing.{HadTurn, HaveMoved, IsNumbered, fuel_left, have_ended, progress_of};
 
-use jt_host::{Host, HostError};
 use jt_machine::{Progress, session_laws};
+use jt_sessions::{Host, HostError};
 
 /// Gives the sessions 1 to `count` turns, until all have ended.
 pub(crate) fn run_all(host: &mut Host, count: u64, slice: u32) -> Result<(), HostError>

@@ -17,7 +17,7 @@ use Rattle.jt_expr.specs.declared.tree.Expr.{Expr}
 use Rattle.std.proofs.lemmas.List.{drop_more}
 use Rattle.jt_parse.specs.declared.tree.Stmt.{Stmt}
 use Rattle.jt_parse.specs.declared.tree.Filtering.{Filtering}
-use Rattle.jt_inherit.specs.Uses.{expr_names, row_names, pair_names, stmt_names, body_names, branch_names, filtering_names}
+use Rattle.jt_chains.specs.Uses.{expr_names, row_names, pair_names, stmt_names, body_names, branch_names, filtering_names}
 use Rattle.jt_uses.proofs.Left.{Branch, Entry, row_left, pairs_left, statements_left, branches_left}
 use Rattle.jt_parse.specs.Texts.{inserted, all_inserted}
 use Rattle.jt_uses.specs.Names.{texts}

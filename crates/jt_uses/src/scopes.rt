@@ -2,7 +2,7 @@
 
 ghost use Rattle.std.specs.Prelude.{◌≡◌, ◌++◌, map, IfOk};
 ghost use Rattle.jt_expr.specs.View.{pairs_view};
-ghost use Rattle.jt_inherit.specs.Uses.{keywords, set_in, scope_names_by, scope_names_in};
+ghost use Rattle.jt_chains.specs.Uses.{keywords, set_in, scope_names_by, scope_names_in};
 ghost use Rattle.jt_parse.specs.View.{stmt_view, body_view, parameters_view};
 ghost use Rattle.jt_uses.specs.Names.{texts};
 

@@ -1,7 +1,7 @@
 //! The names that a body sets in its own scope.
 
 ghost use Rattle.std.specs.Prelude.{◌≡◌, ◌++◌, IfOk};
-ghost use Rattle.jt_inherit.specs.Uses.{set_by, set_in};
+ghost use Rattle.jt_chains.specs.Uses.{set_by, set_in};
 ghost use Rattle.jt_parse.specs.View.{stmt_view, body_view, names_view};
 ghost use Rattle.jt_uses.specs.Names.{texts};
 

@@ -7,7 +7,7 @@ ghost use Rattle.jt_image.specs.Ids.{operator_of, operands_of as operands_in, fi
 ghost use Rattle.jt_image.specs.Loops.{field_of};
 ghost use Rattle.jt_image.specs.Readers.{header_of};
 ghost use Rattle.jt_image.specs.Typed.{max_entries};
-ghost use Rattle.jt_ops.specs.OpTable.{op_operands};
+ghost use Rattle.jt_ids.specs.OpTable.{op_operands};
 ghost use Rattle.jt_verify.specs.Arena.{Lists, shape_in, IsIn, kind_of};
 ghost use Rattle.jt_verify.specs.Shapes.{below_value, below_frame, below_capture, Below, IsTopped};
 ghost use Rattle.jt_verify.specs.Typing.{EffectGives, AreWithin, FindsFrame, Fits};
@@ -16,7 +16,7 @@ ghost use Rattle.jt_image.specs.declared.kind.Flaw.TheVariants as flaw;
 
 use crate::arena::Arena;
 use crate::links::{Handle, Mark};
-use jt_filters::{FilterId, OpId, TestId};
+use jt_ids::{FilterId, OpId, TestId};
 use jt_image::{Code, ConstantRef, Flaw, Instruction, Kind, LoopField, MAX_ENTRIES, UnitHeader};
 
 /// The points that an instruction leads to.

@@ -1,5 +1,5 @@
 use Rattle.std.proofs.Common.{ap, ◌∙◌}
-use Rattle.jt_filters.specs.FilterTable.{filter_meant}
+use Rattle.jt_ids.specs.FilterTable.{filter_meant}
 use Rattle.jt_expr.specs.Named.{filter_written}
 use Rattle.jt_expr.proofs.named.filter_of.Goals as goal
 

@@ -3,16 +3,17 @@ use Rattle.std.specs.List.{AllByRecursion}
 use Rattle.std.proofs.lemmas.Result.{err_from_is_err_and}
 use Rattle.jt_order.specs.Graph.{IsClosed, IsOrder}
 use Rattle.jt_order.specs.View.{graph_of}
-use Rattle.jt_inherit.specs.Chain.{sources_in}
+use Rattle.jt_chains.specs.Chain.{sources_in}
 use Rattle.jt_inherit.specs.Chains.{IsChain}
 use Rattle.jt_inherit.specs.Found.{HasHomes, found_templates, found_homes}
-use Rattle.jt_inherit.specs.Includes.{InOrder}
-use Rattle.jt_inherit.specs.Pages.{home_name}
-use Rattle.jt_inherit.specs.Places.{home_at}
+use Rattle.jt_chains.specs.Includes.{InOrder}
+use Rattle.jt_chains.specs.Pages.{home_name}
+use Rattle.jt_chains.specs.Places.{home_at}
 use Rattle.jt_inherit.specs.SetView.{strings}
-use Rattle.jt_inherit.specs.Small.{chains_weight, chains_len}
+use Rattle.jt_chains.specs.Weights.{chains_weight}
+use Rattle.jt_inherit.specs.Small.{chains_len}
 use Rattle.jt_inherit.proofs.OnWay.{all_short}
-use Rattle.jt_inherit.proofs.Placed.{length-map}
+use Rattle.jt_chains.proofs.Placed.{length-map}
 use Rattle.jt_inherit.proofs.Settled.{no_chain, one_chain}
 use Rattle.jt_inherit.proofs.Whole.{ways_placed, next_len, closed, chain_breaks, order_breaks, in_order, chained, weighs, few_homes, some_homes, all_whole, homes_named}
 use Rattle.jt_inherit.proofs.chaining.chain.Goals as goal

@@ -1,13 +1,13 @@
 use Rattle.std.proofs.Common.{◌<◌, List, ℕ, length, sym, ap, subst, arith, Vec, Global}
 use Rattle.std.proofs.lemmas.Result.{err_from_is_err_and}
 use Rattle.jt_order.specs.View.{graph_of}
-use Rattle.jt_inherit.specs.Along.{ArePlaces, templates_at}
+use Rattle.jt_chains.specs.Along.{ArePlaces, templates_at}
 use Rattle.jt_inherit.specs.Found.{found_templates}
 use Rattle.jt_inherit.specs.Kept.{BreakOne}
-use Rattle.jt_inherit.specs.Pages.{pages_view}
-use Rattle.jt_inherit.specs.declared.linked.Page.{Page}
+use Rattle.jt_chains.specs.Pages.{pages_view}
+use Rattle.jt_chains.specs.declared.linked.Page.{Page}
 use Rattle.jt_inherit.proofs.Listed.{way_number}
-use Rattle.jt_inherit.proofs.Placed.{length-map}
+use Rattle.jt_chains.proofs.Placed.{length-map}
 use Rattle.jt_inherit.proofs.Whole.{at_number}
 use Rattle.jt_inherit.proofs.chaining.check_chains.Goals as goal
 

@@ -1,7 +1,7 @@
 use Rattle.std.proofs.Common.{take}
 use Rattle.std.specs.List.{AllByRecursion}
 use Rattle.jt_order.specs.View.{graph_of}
-use Rattle.jt_inherit.specs.Along.{templates_at}
+use Rattle.jt_chains.specs.Along.{templates_at}
 use Rattle.jt_inherit.specs.Found.{found_templates}
 use Rattle.jt_inherit.specs.Kept.{KeepAll}
 use Rattle.jt_inherit.proofs.chaining.check_chains.Given as goal

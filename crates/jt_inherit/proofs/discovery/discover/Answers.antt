@@ -1,11 +1,11 @@
 use Rattle.std.proofs.Common.{ap, arith, string_bytes}
 use Rattle.jt_order.specs.View.{graph_of}
 use Rattle.jt_inherit.specs.Found.{found_templates, found_homes}
-use Rattle.jt_inherit.specs.Pages.{pages_view}
-use Rattle.jt_inherit.specs.Places.{home_at}
+use Rattle.jt_chains.specs.Pages.{pages_view}
+use Rattle.jt_chains.specs.Places.{home_at}
 use Rattle.jt_inherit.specs.SetView.{strings}
 use Rattle.jt_inherit.proofs.Finding.{found_first, followed_len}
-use Rattle.jt_inherit.proofs.Placed.{length-map}
+use Rattle.jt_chains.proofs.Placed.{length-map}
 use Rattle.jt_inherit.proofs.discovery.discover.Goals as goal
 
 pub chains-init : goal.chains-init

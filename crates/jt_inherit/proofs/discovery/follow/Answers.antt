@@ -3,19 +3,20 @@ use Rattle.std.specs.List.{AllByRecursion}
 use Rattle.std.proofs.lemmas.Result.{err_from_is_err_and}
 use Rattle.jt_order.specs.View.{graph_of}
 use Rattle.jt_parse.specs.Texts.{among}
-use Rattle.jt_inherit.specs.Along.{ArePlaces, includes_along}
+use Rattle.jt_chains.specs.Along.{ArePlaces}
+use Rattle.jt_inherit.specs.Along.{includes_along}
 use Rattle.jt_inherit.specs.Found.{AreFound, AreNext, IsMet, IsNeedFault, IsNextFault, chosen, found_templates, found_homes}
 use Rattle.jt_inherit.specs.Needs.{needed}
-use Rattle.jt_inherit.specs.Pages.{pages_view}
-use Rattle.jt_inherit.specs.Places.{home_at}
+use Rattle.jt_chains.specs.Pages.{pages_view}
+use Rattle.jt_chains.specs.Places.{home_at}
 use Rattle.jt_inherit.specs.SetView.{strings}
 use Rattle.jt_inherit.specs.Ways.{AreKnown}
 use Rattle.jt_inherit.specs.declared.error.ChainError.TheVariants as error
-use Rattle.jt_inherit.specs.declared.linked.Page.{Page}
+use Rattle.jt_chains.specs.declared.linked.Page.{Page}
 use Rattle.jt_inherit.proofs.Among.{map_more}
 use Rattle.jt_inherit.proofs.Finding.{home_number, known_names, need_breaks, next_breaks, found_more, way_there, both_pages}
 use Rattle.jt_inherit.proofs.Following.{text_among}
-use Rattle.jt_inherit.proofs.Placed.{length-map}
+use Rattle.jt_chains.proofs.Placed.{length-map}
 use Rattle.jt_inherit.proofs.discovery.follow.Goals as goal
 
 pub returns-in_err-way-clause-refused : goal.returns-in_err-way-clause-refused

@@ -1,8 +1,8 @@
 use Rattle.std.proofs.Common.{sym, ap, ◌∙◌, get_or}
 use Rattle.jt_parse.specs.View.{body_view}
 use Rattle.jt_inherit.specs.Needs.{includes_in, needs_view}
-use Rattle.jt_inherit.specs.Pages.{pages_view}
-use Rattle.jt_inherit.proofs.Placed.{along_turn, page_at, place_within}
+use Rattle.jt_chains.specs.Pages.{pages_view}
+use Rattle.jt_chains.proofs.Placed.{along_turn, page_at, place_within}
 use Rattle.jt_inherit.proofs.including.includes_at.Goals as goal
 
 pub loop-place-preserved : goal.loop-place-preserved

@@ -1,7 +1,7 @@
 use Rattle.std.proofs.Common.{◌≡◌, ◌++◌, drop}
 use Rattle.jt_inherit.specs.Along.{includes_along}
 use Rattle.jt_inherit.specs.Needs.{needs_view}
-use Rattle.jt_inherit.specs.Pages.{pages_view}
+use Rattle.jt_chains.specs.Pages.{pages_view}
 use Rattle.jt_inherit.proofs.including.includes_at.Given as goal
 
 abbrev pub invariant-loop-place : goal.invariant-loop-place

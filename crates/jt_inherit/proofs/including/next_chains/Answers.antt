@@ -3,7 +3,7 @@ use Rattle.std.proofs.lemmas.Result.{err_from_is_err_and}
 use Rattle.jt_inherit.specs.Along.{includes_along}
 use Rattle.jt_inherit.specs.Found.{IsNextFault, chosen}
 use Rattle.jt_inherit.specs.Needs.{needs_view}
-use Rattle.jt_inherit.specs.Pages.{pages_view}
+use Rattle.jt_chains.specs.Pages.{pages_view}
 use Rattle.jt_inherit.specs.SetView.{strings}
 use Rattle.jt_inherit.proofs.Following.{next_turn, fault_turn}
 use Rattle.jt_inherit.proofs.including.next_chains.Goals as goal

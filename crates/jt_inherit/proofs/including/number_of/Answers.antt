@@ -3,7 +3,7 @@ use Rattle.std.specs.Prelude.{slice_get}
 use Rattle.jt_inherit.specs.SetView.{strings}
 use Rattle.jt_inherit.proofs.Following.{text_among}
 use Rattle.jt_inherit.proofs.Leads.{last_at}
-use Rattle.jt_inherit.proofs.Placed.{length-map}
+use Rattle.jt_chains.proofs.Placed.{length-map}
 use Rattle.jt_inherit.proofs.including.number_of.Goals as goal
 
 pub returns-in-Some-clause-put : goal.returns-in-Some-clause-put

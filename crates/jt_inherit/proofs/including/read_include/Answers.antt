@@ -2,8 +2,8 @@ use Rattle.std.proofs.Common.{◌≡◌, ◌++◌, ◌∷◌, [], List, false, i
 use Rattle.std.proofs.lemmas.List.{append_assoc}
 use Rattle.jt_parse.specs.Texts.{among}
 use Rattle.jt_parse.specs.Trees.{Text}
-use Rattle.jt_inherit.specs.Chain.{Template}
-use Rattle.jt_inherit.specs.Pages.{page_view, pages_view}
+use Rattle.jt_chains.specs.Chain.{Template}
+use Rattle.jt_chains.specs.Pages.{page_view, pages_view}
 use Rattle.jt_inherit.specs.SetView.{strings}
 use Rattle.jt_inherit.specs.Ways.{AreKnown}
 use Rattle.jt_inherit.proofs.Among.{among_next, among_last}

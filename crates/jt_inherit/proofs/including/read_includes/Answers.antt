@@ -5,7 +5,7 @@ use Rattle.jt_parse.specs.Texts.{among}
 use Rattle.jt_inherit.specs.Along.{includes_along}
 use Rattle.jt_inherit.specs.Found.{IsMet}
 use Rattle.jt_inherit.specs.Needs.{needed, needs_view}
-use Rattle.jt_inherit.specs.Pages.{pages_view}
+use Rattle.jt_chains.specs.Pages.{pages_view}
 use Rattle.jt_inherit.specs.SetView.{strings}
 use Rattle.jt_inherit.proofs.Following.{asked_at, need_fault, met_turn, met_grows}
 use Rattle.jt_inherit.proofs.including.read_includes.Goals as goal

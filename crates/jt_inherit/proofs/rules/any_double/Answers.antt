@@ -1,14 +1,11 @@
 use Rattle.std.proofs.Common.{List, sym, ap, ◌∙◌, arith}
 use Rattle.jt_parse.specs.Texts.{repeated}
 use Rattle.jt_inherit.specs.Checks.{block_names}
-use Rattle.jt_inherit.specs.Pages.{page_view, pages_view}
-use Rattle.jt_inherit.specs.declared.parts.Block.{Block}
+use Rattle.jt_chains.specs.Pages.{page_view, pages_view}
+use Rattle.jt_chains.specs.declared.parts.Block.{Block}
 use Rattle.jt_inherit.proofs.Checked.{double_found, double_none}
-use Rattle.jt_inherit.proofs.Placed.{length-map, place_within}
+use Rattle.jt_chains.proofs.Placed.{length-map, place_within}
 use Rattle.jt_inherit.proofs.rules.any_double.Goals as goal
-
-pub blocks_of_page-requires : goal.blocks_of_page-requires
-blocks_of_page-requires c = place_within c.args.pages.now c.args.places.now c.loop-place.place-index c.loop-place-test.true c.requires
 
 pub returns-then-branch : goal.returns-then-branch
 returns-then-branch c =

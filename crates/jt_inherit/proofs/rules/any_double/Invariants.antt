@@ -1,7 +1,7 @@
 use Rattle.std.proofs.Common.{◌≡◌, drop}
-use Rattle.jt_inherit.specs.Along.{templates_at}
+use Rattle.jt_chains.specs.Along.{templates_at}
 use Rattle.jt_inherit.specs.Kept.{any_double}
-use Rattle.jt_inherit.specs.Pages.{pages_view}
+use Rattle.jt_chains.specs.Pages.{pages_view}
 use Rattle.jt_inherit.proofs.rules.any_double.Given as goal
 
 abbrev pub invariant-loop-place : goal.invariant-loop-place

@@ -2,9 +2,9 @@ use Rattle.std.proofs.Common.{◌∷◌, [], ◌&&◌, not, List, take, sym, ap,
 use Rattle.jt_parse.specs.Texts.{among}
 use Rattle.jt_inherit.specs.Checks.{block_names}
 use Rattle.jt_inherit.specs.SetView.{texts}
-use Rattle.jt_inherit.specs.declared.parts.Block.{Block}
+use Rattle.jt_chains.specs.declared.parts.Block.{Block}
 use Rattle.jt_inherit.proofs.Checked.{AreGiven, among_set, body_lacking, body_goes, take_next, take_all, all_given, map_append}
-use Rattle.jt_inherit.specs.Parts.{blocks_view}
+use Rattle.jt_chains.specs.Parts.{blocks_view}
 use Rattle.jt_inherit.proofs.rules.any_lacks_body.Goals as goal
 
 pub returns-then-is_lacking : goal.returns-then-is_lacking

@@ -1,9 +1,9 @@
 use Rattle.std.proofs.Common.{◌≡◌, List, take}
 use Rattle.jt_parse.specs.Trees.{Text}
 use Rattle.jt_parse.specs.Texts.{among}
-use Rattle.jt_inherit.specs.Chain.{Template}
+use Rattle.jt_chains.specs.Chain.{Template}
 use Rattle.jt_inherit.specs.Checks.{block_names}
-use Rattle.jt_inherit.specs.Parts.{blocks_view}
+use Rattle.jt_chains.specs.Parts.{blocks_view}
 use Rattle.jt_inherit.specs.SetView.{texts}
 use Rattle.jt_inherit.proofs.Checked.{AreGiven}
 use Rattle.jt_inherit.proofs.rules.any_lacks_body.Given as goal

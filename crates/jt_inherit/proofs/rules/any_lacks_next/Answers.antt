@@ -4,9 +4,9 @@ use Rattle.std.specs.Str.{bytes_eq}
 use Rattle.std.proofs.lemmas.List.{append_assoc}
 use Rattle.jt_parse.specs.View.{body_view}
 use Rattle.jt_inherit.specs.Checks.{lacks_next}
-use Rattle.jt_inherit.specs.Parts.{block_view, blocks_view}
-use Rattle.jt_inherit.specs.Supers.{calls_super}
-use Rattle.jt_inherit.specs.declared.parts.Block.{Block}
+use Rattle.jt_chains.specs.Parts.{block_view, blocks_view}
+use Rattle.jt_chains.specs.Supers.{calls_super}
+use Rattle.jt_chains.specs.declared.parts.Block.{Block}
 use Rattle.jt_inherit.proofs.Checked.{any_text, has_given, next_more, next_lacking, all_next, no_items}
 use Rattle.jt_inherit.proofs.rules.any_lacks_next.Goals as goal
 

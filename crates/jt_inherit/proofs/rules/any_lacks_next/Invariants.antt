@@ -1,10 +1,10 @@
 use Rattle.std.proofs.Common.{◌≡◌, ◌++◌, List, length}
 use Rattle.jt_parse.specs.Trees.{Text}
 use Rattle.jt_parse.specs.Texts.{among}
-use Rattle.jt_inherit.specs.Chain.{Template}
-use Rattle.jt_inherit.specs.Parts.{blocks_view}
+use Rattle.jt_chains.specs.Chain.{Template}
+use Rattle.jt_chains.specs.Parts.{blocks_view}
 use Rattle.jt_inherit.specs.SetView.{texts}
-use Rattle.jt_inherit.specs.declared.parts.Block.{Block}
+use Rattle.jt_chains.specs.declared.parts.Block.{Block}
 use Rattle.jt_inherit.proofs.Checked.{has_given, HaveNext}
 use Rattle.jt_inherit.proofs.rules.any_lacks_next.Given as goal
 

@@ -1,11 +1,11 @@
 use Rattle.std.proofs.Common.{List, sym, ap, ◌∙◌}
 use Rattle.jt_parse.specs.Texts.{repeated}
 use Rattle.jt_inherit.specs.Checks.{lacks_body, macro_names}
-use Rattle.jt_inherit.specs.Pages.{pages_view}
-use Rattle.jt_inherit.specs.Parts.{blocks_view}
-use Rattle.jt_inherit.specs.declared.parts.Block.{Block}
-use Rattle.jt_inherit.specs.declared.parts.Macro.{Macro}
-use Rattle.jt_inherit.specs.Along.{templates_at}
+use Rattle.jt_chains.specs.Pages.{pages_view}
+use Rattle.jt_chains.specs.Parts.{blocks_view}
+use Rattle.jt_chains.specs.declared.parts.Block.{Block}
+use Rattle.jt_chains.specs.declared.parts.Macro.{Macro}
+use Rattle.jt_chains.specs.Along.{templates_at}
 use Rattle.jt_inherit.proofs.Finding.{placed_templates}
 use Rattle.jt_inherit.proofs.Ruled.{macros_told, bodies_told, next_told}
 use Rattle.jt_inherit.proofs.rules.check_rules.Goals as goal

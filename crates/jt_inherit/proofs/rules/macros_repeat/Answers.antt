@@ -1,6 +1,6 @@
 use Rattle.std.proofs.Common.{sym, ◌∙◌}
 use Rattle.jt_inherit.specs.SetView.{texts}
-use Rattle.jt_inherit.specs.declared.parts.Macro.{Macro}
+use Rattle.jt_chains.specs.declared.parts.Macro.{Macro}
 use Rattle.jt_inherit.proofs.Checked.{repeat_found, repeat_goes}
 use Rattle.jt_inherit.proofs.rules.macros_repeat.Goals as goal
 

@@ -3,7 +3,7 @@ use Rattle.std.specs.Prelude.{slice_get}
 use Rattle.std.proofs.lemmas.List.{append-nil}
 use Rattle.jt_parse.specs.Texts.{among}
 use Rattle.jt_parse.specs.Trees.{Text}
-use Rattle.jt_inherit.specs.Pages.{page_view, pages_view}
+use Rattle.jt_chains.specs.Pages.{page_view, pages_view}
 use Rattle.jt_inherit.specs.SetView.{strings}
 use Rattle.jt_inherit.specs.Ways.{AreKnown}
 use Rattle.jt_inherit.proofs.Among.{among_last}

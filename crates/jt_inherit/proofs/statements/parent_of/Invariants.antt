@@ -1,6 +1,6 @@
 use Rattle.std.proofs.Common.{◌≡◌, drop}
 use Rattle.jt_parse.specs.View.{body_view}
-use Rattle.jt_inherit.specs.Chain.{extends_of}
+use Rattle.jt_chains.specs.Chain.{extends_of}
 use Rattle.jt_inherit.proofs.statements.parent_of.Given as goal
 
 abbrev pub invariant-loop-statement : goal.invariant-loop-statement

@@ -1,6 +1,6 @@
 use Rattle.std.proofs.Common.{◌≡◌, drop}
 use Rattle.jt_parse.specs.View.{body_view, branches_view}
-use Rattle.jt_inherit.specs.Supers.{calls_super, branches_super}
+use Rattle.jt_chains.specs.Supers.{calls_super, branches_super}
 use Rattle.jt_inherit.proofs.supers.+statements.Given as goal
 
 abbrev pub invariant-calls_super-loop-statement : goal.invariant-calls_super-loop-statement

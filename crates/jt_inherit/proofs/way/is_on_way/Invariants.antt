@@ -1,7 +1,7 @@
 use Rattle.std.proofs.Common.{◌≡◌, drop}
 use Rattle.jt_parse.specs.Texts.{among}
-use Rattle.jt_inherit.specs.Along.{templates_at}
-use Rattle.jt_inherit.specs.Pages.{pages_view}
+use Rattle.jt_chains.specs.Along.{templates_at}
+use Rattle.jt_chains.specs.Pages.{pages_view}
 use Rattle.jt_inherit.proofs.Leads.{names}
 use Rattle.jt_inherit.proofs.way.is_on_way.Given as goal
 

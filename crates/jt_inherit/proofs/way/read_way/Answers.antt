@@ -3,12 +3,12 @@ use Rattle.std.specs.Prelude.{option_map}
 use Rattle.std.proofs.lemmas.Option.{slice_get_within}
 use Rattle.std.proofs.lemmas.Result.{err_from_is_err_and}
 use Rattle.jt_inherit.specs.Faults.{IsFaultOf}
-use Rattle.jt_inherit.specs.Pages.{page_view, pages_view}
+use Rattle.jt_chains.specs.Pages.{page_view, pages_view}
 use Rattle.jt_inherit.specs.SetView.{strings}
 use Rattle.jt_inherit.specs.Ways.{IsWay}
 use Rattle.jt_inherit.proofs.Growing.{reach_more}
 use Rattle.jt_inherit.proofs.Leads.{names, length_names, on_way, way_turn, way_from, grown_both, cycle_breaks, long_breaks, fault_breaks}
-use Rattle.jt_inherit.proofs.Placed.{length-map, map_at}
+use Rattle.jt_chains.proofs.Placed.{length-map, map_at}
 use Rattle.jt_inherit.proofs.way.read_way.Goals as goal
 
 pub returns-then-is_on_way-clause-refused : goal.returns-then-is_on_way-clause-refused

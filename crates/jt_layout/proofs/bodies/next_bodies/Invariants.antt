@@ -2,8 +2,8 @@ use Rattle.std.proofs.Common.{◌≡◌, ◌≤◌, List, length, map, drop}
 use Rattle.std.specs.Prelude.{filter}
 use Rattle.std.specs.Str.{bytes_eq}
 use Rattle.jt_parse.specs.Trees.{Text}
-use Rattle.jt_inherit.specs.Chain.{Template}
-use Rattle.jt_inherit.specs.Parts.{block_view}
+use Rattle.jt_chains.specs.Chain.{Template}
+use Rattle.jt_chains.specs.Parts.{block_view}
 use Rattle.jt_meaning.specs.Layout.{counted_from}
 use Rattle.jt_meaning.specs.Resolve.{next_given}
 use Rattle.jt_layout.specs.Names.{place_in}

@@ -1,7 +1,7 @@
 use Rattle.std.proofs.Common.{◌≡◌, ◌+◌, ◌-◌, ◌<◌, ◌≤◌, length, drop, sym, ap, ◌∙◌, arith, if◌then◌else◌}
 use Rattle.std.specs.Str.{bytes_eq}
-use Rattle.jt_inherit.specs.Pages.{home_name}
-use Rattle.jt_inherit.specs.View.{chain_view}
+use Rattle.jt_chains.specs.Pages.{home_name}
+use Rattle.jt_chains.specs.View.{chain_view}
 use Rattle.jt_rules.specs.World.{world_of}
 use Rattle.jt_meaning.specs.Layout.{names_in}
 use Rattle.jt_uses.specs.Names.{texts}

@@ -1,6 +1,6 @@
 use Rattle.std.proofs.Common.{◌≡◌, ◌≤◌, length, drop}
 use Rattle.jt_parse.specs.Trees.{Text}
-use Rattle.jt_inherit.specs.View.{chain_view}
+use Rattle.jt_chains.specs.View.{chain_view}
 use Rattle.jt_rules.specs.World.{world_of}
 use Rattle.jt_meaning.specs.Layout.{names_in}
 use Rattle.jt_layout.specs.Places.{names_at}

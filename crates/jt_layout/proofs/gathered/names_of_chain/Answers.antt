@@ -6,8 +6,8 @@ use Rattle.std.proofs.Common.{◌<◌, length, arith}
 use denote.Ref.{Bor}
 use Rattle.jt_parse.specs.Trees.{Text}
 use Rattle.jt_parse.specs.Texts.{all_inserted}
-use Rattle.jt_inherit.specs.Pages.{home_name}
-use Rattle.jt_inherit.specs.View.{chain_view, sources_of}
+use Rattle.jt_chains.specs.Pages.{home_name}
+use Rattle.jt_chains.specs.View.{chain_view, sources_of}
 use Rattle.jt_rules.specs.World.{world_of}
 use Rattle.jt_meaning.specs.Layout.{names_in}
 use Rattle.jt_uses.specs.Names.{texts}

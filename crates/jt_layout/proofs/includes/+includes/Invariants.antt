@@ -1,6 +1,6 @@
 use Rattle.std.proofs.Common.{◌≡◌, ◌++◌, true, drop}
 use Rattle.jt_parse.specs.View.{body_view, branches_view}
-use Rattle.jt_inherit.specs.Includes.{needs_in, needs_under}
+use Rattle.jt_chains.specs.Includes.{needs_in, needs_under}
 use Rattle.jt_uses.specs.Names.{texts}
 use Rattle.jt_layout.proofs.includes.+includes.Given as goal
 

@@ -3,11 +3,11 @@ use Rattle.std.specs.Prelude.{flat_map}
 use Rattle.std.proofs.lemmas.List.{at_drop_all, append-nil}
 use Rattle.jt_parse.specs.Trees.{Text}
 use Rattle.jt_parse.specs.View.{body_view}
-use Rattle.jt_inherit.specs.Chain.{Template}
-use Rattle.jt_inherit.specs.Includes.{needs_in}
-use Rattle.jt_inherit.specs.Layers.{layer_view}
-use Rattle.jt_inherit.specs.View.{chain_view}
-use Rattle.jt_inherit.specs.declared.layers.Layer.{Layer}
+use Rattle.jt_chains.specs.Chain.{Template}
+use Rattle.jt_chains.specs.Includes.{needs_in}
+use Rattle.jt_chains.specs.Layers.{layer_view}
+use Rattle.jt_chains.specs.View.{chain_view}
+use Rattle.jt_chains.specs.declared.layers.Layer.{Layer}
 use Rattle.jt_uses.specs.Names.{texts}
 use Rattle.jt_layout.proofs.Included.{layer_turn}
 use Rattle.jt_layout.proofs.includes.included_names.Goals as goal

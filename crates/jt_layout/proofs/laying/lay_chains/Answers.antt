@@ -2,8 +2,8 @@ use Rattle.std.proofs.Common.{◌≡◌, ℕ, ◌+◌, ◌<◌, ◌≤◌, [], �
 use Rattle.std.specs.Prelude.{flat_map}
 use Rattle.std.specs.Str.{bytes_eq}
 use Rattle.std.proofs.lemmas.List.{at_drop_all}
-use Rattle.jt_inherit.specs.Pages.{home_name}
-use Rattle.jt_inherit.specs.View.{chain_view}
+use Rattle.jt_chains.specs.Pages.{home_name}
+use Rattle.jt_chains.specs.View.{chain_view}
 use Rattle.jt_meaning.specs.Layout as layout
 use Rattle.jt_layout.specs.Front.{its_world, its_order, its_home}
 use Rattle.jt_layout.specs.Laid.{IsLaid}

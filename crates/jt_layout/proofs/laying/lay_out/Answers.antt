@@ -1,6 +1,6 @@
 use Rattle.std.proofs.Common.{map, sym, ap, ◌∙◌, arith, string_bytes}
-use Rattle.jt_inherit.specs.Pages.{home_name}
-use Rattle.jt_inherit.specs.declared.linked.Page.{Page}
+use Rattle.jt_chains.specs.Pages.{home_name}
+use Rattle.jt_chains.specs.declared.linked.Page.{Page}
 use Rattle.jt_uses.specs.Names.{texts}
 use Rattle.jt_layout.specs.Front.{its_order}
 use Rattle.jt_layout.specs.Places.{first_of}

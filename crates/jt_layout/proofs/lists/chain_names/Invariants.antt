@@ -1,5 +1,5 @@
 use Rattle.std.proofs.Common.{◌≡◌, ◌++◌, map, drop}
-use Rattle.jt_inherit.specs.Pages.{home_name}
+use Rattle.jt_chains.specs.Pages.{home_name}
 use Rattle.jt_uses.specs.Names.{texts}
 use Rattle.jt_layout.proofs.lists.chain_names.Given as goal
 

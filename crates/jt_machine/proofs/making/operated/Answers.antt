@@ -1,5 +1,5 @@
 use Rattle.std.proofs.Common.{◌≡◌, ℕ, subst, arith}
-use Rattle.jt_ops.specs.OpTable.{op_operands}
+use Rattle.jt_ids.specs.OpTable.{op_operands}
 use Rattle.jt_machine.specs.View.{HasValues}
 use Rattle.jt_machine.proofs.making.operated.Goals as goal
 

@@ -1,4 +1,4 @@
-use Rattle.std.proofs.Common.{[], Some, sym, ap, ◌∙◌, subst}
+use Rattle.std.proofs.Common.{[], sym, ◌∙◌, subst}
 use Rattle.jt_slots.specs.Slots as slots
 use Rattle.jt_slots.specs.View.{expr_view}
 use Rattle.jt_slots.specs.declared.program.SExpr.TheVariants as e

@@ -1,9 +1,9 @@
 use Rattle.std.proofs.Common.{◌≡◌, ◌+◌, ◌<◌, length, sym, ap, ◌∙◌, arith, Some}
 use Rattle.std.proofs.lemmas.List.{length-map}
 use Rattle.std.specs.Str.{bytes_eq}
-use Rattle.jt_inherit.specs.Chain.{all_bodies}
-use Rattle.jt_inherit.specs.Parts.{block_view}
-use Rattle.jt_inherit.specs.View.{chain_view}
+use Rattle.jt_chains.specs.Chain.{all_bodies}
+use Rattle.jt_chains.specs.Parts.{block_view}
+use Rattle.jt_chains.specs.View.{chain_view}
 use Rattle.jt_meaning.specs.Layout.{numbered_of}
 use Rattle.jt_meaning.specs.Resolve as resolve
 use Rattle.jt_scopes.specs.Callees.{unit_of}

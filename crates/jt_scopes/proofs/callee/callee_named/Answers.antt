@@ -1,10 +1,10 @@
 use Rattle.std.proofs.Common.{◌≡◌, ℕ, sym, ap, ◌∙◌, subst, Option}
 use Rattle.std.proofs.lemmas.Option.{get_or_from_slice_get}
 use Rattle.jt_parse.specs.View.{parameters_view}
-use Rattle.jt_inherit.specs.Chain.{named_alone}
-use Rattle.jt_inherit.specs.Parts.{macro_view}
-use Rattle.jt_inherit.specs.View.{chain_view}
-use Rattle.jt_inherit.specs.declared.parts.Macro.{Macro}
+use Rattle.jt_chains.specs.Chain.{named_alone}
+use Rattle.jt_chains.specs.Parts.{macro_view}
+use Rattle.jt_chains.specs.View.{chain_view}
+use Rattle.jt_chains.specs.declared.parts.Macro.{Macro}
 use Rattle.jt_layout.specs.Laid.{IsCalled}
 use Rattle.jt_scopes.specs.Scoped.{world_in, order_in, home_in}
 use Rattle.jt_scopes.proofs.callee.callee_named.Goals as goal

@@ -1,7 +1,7 @@
 use Rattle.std.proofs.Common.{ap, ◌∙◌, subst}
 use Rattle.jt_expr.specs.Trees as trees
 use Rattle.jt_expr.specs.View.{expr_view}
-use Rattle.jt_inherit.specs.Chain.{macros, callee}
+use Rattle.jt_chains.specs.Chain.{macros, callee}
 use Rattle.jt_scopes.specs.Callees.{IsCallee}
 use Rattle.jt_scopes.specs.Scoped.{world_in, order_in, home_in}
 use Rattle.jt_scopes.proofs.Trees.{shown_attribute}

@@ -3,17 +3,17 @@ use Rattle.std.specs.Prelude.{option_map}
 use Rattle.std.proofs.lemmas.List.{at_drop_all}
 use Rattle.std.proofs.lemmas.Result.{IfOk-weaker}
 use Rattle.jt_value.specs.Tree as tree
-use Rattle.jt_ops.specs.declared.op_id.OpId.{OpId}
-use Rattle.jt_ops.specs.declared.op_id.OpId.TheVariants as op
-use Rattle.jt_ops.specs.declared.test_id.TestId.{TestId}
+use Rattle.jt_ids.specs.declared.op_id.OpId.{OpId}
+use Rattle.jt_ids.specs.declared.op_id.OpId.TheVariants as op
+use Rattle.jt_ids.specs.declared.test_id.TestId.{TestId}
 use Rattle.jt_expr.specs.Trees as trees
 use Rattle.jt_expr.specs.View.{expr_view, exprs_view, pairs_view}
 use Rattle.jt_expr.specs.declared.tree.Expr.{Expr}
-use Rattle.jt_filters.specs.FilterTable.{filter_id}
+use Rattle.jt_ids.specs.FilterTable.{filter_id}
 use Rattle.jt_parse.specs.View.{parameters_view}
-use Rattle.jt_inherit.specs.Chain as chain
-use Rattle.jt_inherit.specs.Chain.{macros, callee, a_macro, a_range, a_super, a_block, a_cycle, no_callee}
-use Rattle.jt_inherit.specs.Uses.{count, keywords}
+use Rattle.jt_chains.specs.Chain as chain
+use Rattle.jt_chains.specs.Chain.{macros, callee, a_macro, a_range, a_super, a_block, a_cycle, no_callee}
+use Rattle.jt_chains.specs.Uses.{count, keywords}
 use Rattle.jt_meaning.specs.Operators.{Form, range_of}
 use Rattle.jt_meaning.specs.Resolve.{operation_of, in_form, field_from, filled, filled_some, tested_by, turned_round, locals_from, invoked}
 use Rattle.jt_meaning.specs.Expressions.{filter_parameters}

@@ -2,7 +2,7 @@ use Rattle.std.proofs.Common.{◌≡◌, ℕ, ◌+◌, List, drop, sym, ap, ◌�
 use Rattle.std.specs.Prelude.{option_map}
 use Rattle.std.proofs.lemmas.List.{at_drop_all}
 use Rattle.jt_expr.specs.View.{pairs_view}
-use Rattle.jt_inherit.specs.Uses.{keywords}
+use Rattle.jt_chains.specs.Uses.{keywords}
 use Rattle.jt_parse.specs.View.{parameter_view, parameters_view}
 use Rattle.jt_parse.specs.declared.tree.Parameter.{Parameter}
 use Rattle.jt_slots.specs.Pool.{known}

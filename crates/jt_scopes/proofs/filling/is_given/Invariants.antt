@@ -1,6 +1,6 @@
 use Rattle.std.proofs.Common.{◌≡◌, drop}
 use Rattle.jt_expr.specs.View.{pairs_view}
-use Rattle.jt_inherit.specs.Uses.{keywords}
+use Rattle.jt_chains.specs.Uses.{keywords}
 use Rattle.jt_parse.specs.Texts.{among}
 use Rattle.jt_scopes.proofs.filling.is_given.Given as goal
 

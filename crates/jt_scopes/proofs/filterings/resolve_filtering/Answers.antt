@@ -6,7 +6,7 @@ use Rattle.jt_value.specs.Tree.{Tree}
 use Rattle.jt_value.specs.View.{view}
 use Rattle.jt_expr.specs.Trees as trees
 use Rattle.jt_expr.specs.View.{exprs_view, pairs_view}
-use Rattle.jt_filters.specs.FilterTable.{filter_id}
+use Rattle.jt_ids.specs.FilterTable.{filter_id}
 use Rattle.jt_parse.specs.Trees.{Text}
 use Rattle.jt_parse.specs.View.{filtering_view}
 use Rattle.jt_slots.specs.Pool.{expr_values}

@@ -1,10 +1,10 @@
 use Rattle.std.proofs.Common.{◌+◌, ◌<◌, ◌≤◌, List, [], length, map, drop, refl, sym, ap, subst, arith}
 use Rattle.std.specs.Prelude.{flat_map}
 use Rattle.std.proofs.lemmas.List.{at_drop_all}
-use Rattle.jt_inherit.specs.Chain.{Home}
-use Rattle.jt_inherit.specs.Places.{home_at}
-use Rattle.jt_inherit.specs.View.{chain_view}
-use Rattle.jt_inherit.specs.declared.linked.Chain.{Chain}
+use Rattle.jt_chains.specs.Chain.{Home}
+use Rattle.jt_chains.specs.Places.{home_at}
+use Rattle.jt_chains.specs.View.{chain_view}
+use Rattle.jt_chains.specs.declared.linked.Chain.{Chain}
 use Rattle.jt_rules.specs.World.{world_of}
 use Rattle.jt_meaning.specs.Programs as programs
 use Rattle.jt_scopes.specs.Scoped.{values, world_in, order_in, templates_in}

@@ -2,7 +2,7 @@ use Rattle.std.proofs.Common.{◌≡◌, ◌+◌, ◌<◌, length, drop, get_or,
 use Rattle.std.proofs.lemmas.List.{length-map}
 use denote.Ref.{Bor}
 use Rattle.jt_parse.specs.Trees.{Text}
-use Rattle.jt_inherit.specs.Places.{home_at}
+use Rattle.jt_chains.specs.Places.{home_at}
 use Rattle.jt_meaning.specs.Layout as layout
 use Rattle.jt_meaning.specs.Programs as programs
 use Rattle.jt_scopes.specs.Scoped.{world_in, order_in}

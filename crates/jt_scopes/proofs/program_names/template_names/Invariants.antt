@@ -1,5 +1,5 @@
 use Rattle.std.proofs.Common.{◌≡◌, ◌++◌, map, drop, string_bytes}
-use Rattle.jt_inherit.specs.Pages.{pages_view}
+use Rattle.jt_chains.specs.Pages.{pages_view}
 use Rattle.jt_scopes.proofs.program_names.template_names.Given as goal
 
 abbrev pub invariant-loop-page : goal.invariant-loop-page

@@ -1,4 +1,4 @@
-use Rattle.jt_inherit.specs.View.{chain_view}
+use Rattle.jt_chains.specs.View.{chain_view}
 use Rattle.jt_scopes.specs.Scoped.{templates_in}
 use Rattle.jt_scopes.specs.Stated.{line_in}
 use Rattle.jt_scopes.proofs.LeadingBodies.{print_led}

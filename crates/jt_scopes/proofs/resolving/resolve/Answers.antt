@@ -1,9 +1,9 @@
 use Rattle.std.proofs.Common.{◌≡◌, List, map, sym, ap, subst, ◌∙◌}
-use Rattle.jt_inherit.specs.Pages.{pages_view}
-use Rattle.jt_inherit.specs.Places.{home_at}
-use Rattle.jt_inherit.specs.View.{chain_view}
-use Rattle.jt_inherit.specs.declared.linked.Chain.{Chain}
-use Rattle.jt_inherit.specs.declared.linked.Page.{Page}
+use Rattle.jt_chains.specs.Pages.{pages_view}
+use Rattle.jt_chains.specs.Places.{home_at}
+use Rattle.jt_chains.specs.View.{chain_view}
+use Rattle.jt_chains.specs.declared.linked.Chain.{Chain}
+use Rattle.jt_chains.specs.declared.linked.Page.{Page}
 use Rattle.jt_rules.specs.World.{world_of}
 use Rattle.jt_meaning.specs.Programs.{program}
 use Rattle.jt_slots.specs.View.{program_of}

@@ -1,6 +1,6 @@
 use Rattle.std.proofs.Common.{◌+◌, ◌++◌, map, drop, ap, ◌∙◌, arith}
-use Rattle.jt_inherit.specs.Parts.{block_view}
-use Rattle.jt_inherit.specs.View.{chain_view}
+use Rattle.jt_chains.specs.Parts.{block_view}
+use Rattle.jt_chains.specs.View.{chain_view}
 use Rattle.jt_meaning.specs.Layout.{numbered_bodies}
 use Rattle.jt_meaning.specs.Programs.{body_routines}
 use Rattle.jt_scopes.specs.Scoped.{world_in, order_in, home_in, templates_in}

@@ -1,8 +1,8 @@
 use Rattle.std.proofs.Common.{sym, ap, ◌∙◌}
 use Rattle.std.proofs.lemmas.Result.{IfOk-weaker}
 use Rattle.jt_parse.specs.View.{body_view}
-use Rattle.jt_inherit.specs.Layers.{layer_view}
-use Rattle.jt_inherit.specs.View.{chain_view}
+use Rattle.jt_chains.specs.Layers.{layer_view}
+use Rattle.jt_chains.specs.View.{chain_view}
 use Rattle.jt_meaning.specs.Resolve.{Spot, resolved_body, resolved_sets}
 use Rattle.jt_scopes.specs.Scoped.{world_in, order_in, templates_in}
 use Rattle.jt_scopes.specs.Stated.{layer_in}

@@ -1,8 +1,8 @@
 use Rattle.std.proofs.Common.{refl, ◌+◌, List, map, drop, arith}
 use Rattle.std.proofs.lemmas.List.{at_drop_all}
-use Rattle.jt_inherit.specs.Layers.{layer_view}
-use Rattle.jt_inherit.specs.View.{chain_view}
-use Rattle.jt_inherit.specs.declared.layers.Layer.{Layer}
+use Rattle.jt_chains.specs.Layers.{layer_view}
+use Rattle.jt_chains.specs.View.{chain_view}
+use Rattle.jt_chains.specs.declared.layers.Layer.{Layer}
 use Rattle.jt_meaning.specs.Resolve.{followed, resolved_chain}
 use Rattle.jt_scopes.specs.Scoped.{world_in, order_in, home_in, templates_in}
 use Rattle.jt_scopes.proofs.LeadingBodies.{lead_both, lead_of, lead_left}

@@ -1,6 +1,6 @@
 use Rattle.std.proofs.Common.{map, drop}
-use Rattle.jt_inherit.specs.Layers.{layer_view}
-use Rattle.jt_inherit.specs.View.{chain_view}
+use Rattle.jt_chains.specs.Layers.{layer_view}
+use Rattle.jt_chains.specs.View.{chain_view}
 use Rattle.jt_meaning.specs.Resolve.{followed, resolved_chain}
 use Rattle.jt_slots.specs.Pool.{Constant}
 use Rattle.jt_slots.specs.Slots.{SBody}

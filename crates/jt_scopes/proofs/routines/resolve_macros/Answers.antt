@@ -1,9 +1,9 @@
 use Rattle.std.proofs.Common.{List, ◌++◌, map, sym, ap, ◌∙◌, arith}
 use Rattle.std.proofs.lemmas.List.{at_drop_all}
-use Rattle.jt_inherit.specs.Chain.{MacroBody}
-use Rattle.jt_inherit.specs.Parts.{macro_view}
-use Rattle.jt_inherit.specs.View.{chain_view}
-use Rattle.jt_inherit.specs.declared.parts.Macro.{Macro}
+use Rattle.jt_chains.specs.Chain.{MacroBody}
+use Rattle.jt_chains.specs.Parts.{macro_view}
+use Rattle.jt_chains.specs.View.{chain_view}
+use Rattle.jt_chains.specs.declared.parts.Macro.{Macro}
 use Rattle.jt_meaning.specs.Resolve.{macro_routine}
 use Rattle.jt_scopes.specs.Scoped.{world_in, order_in, home_in, templates_in}
 use Rattle.jt_scopes.proofs.Routing.{routines_both, routines_of, routines_left}

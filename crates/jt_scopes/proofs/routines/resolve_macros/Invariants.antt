@@ -1,6 +1,6 @@
 use Rattle.std.proofs.Common.{List, ◌++◌, map, drop}
-use Rattle.jt_inherit.specs.Parts.{macro_view}
-use Rattle.jt_inherit.specs.View.{chain_view}
+use Rattle.jt_chains.specs.Parts.{macro_view}
+use Rattle.jt_chains.specs.View.{chain_view}
 use Rattle.jt_meaning.specs.Resolve.{macro_routine}
 use Rattle.jt_scopes.specs.Routines.{RoutinesLead}
 use Rattle.jt_scopes.proofs.Routing.{Planned}

@@ -1,6 +1,6 @@
 use Rattle.std.proofs.Common.{◌≡◌, ◌++◌, List, map, drop}
-use Rattle.jt_inherit.specs.Chain.{Template}
-use Rattle.jt_inherit.specs.Parts.{macro_view}
+use Rattle.jt_chains.specs.Chain.{Template}
+use Rattle.jt_chains.specs.Parts.{macro_view}
 use Rattle.jt_meaning.specs.Layout.{defaults_of}
 use Rattle.jt_scopes.specs.Scoped.{values}
 use Rattle.jt_scopes.proofs.shared.add_macros.Given as goal

@@ -1,8 +1,8 @@
 use Rattle.std.proofs.Common.{◌++◌, ◌<◌, length, map, get_or, sym, ap, ◌∙◌, arith}
 use Rattle.std.specs.Prelude.{flat_map}
-use Rattle.jt_inherit.specs.Chain.{macros}
-use Rattle.jt_inherit.specs.Parts.{macro_view}
-use Rattle.jt_inherit.specs.View.{chain_view}
+use Rattle.jt_chains.specs.Chain.{macros}
+use Rattle.jt_chains.specs.Parts.{macro_view}
+use Rattle.jt_chains.specs.View.{chain_view}
 use Rattle.jt_meaning.specs.Layout.{defaults_of}
 use Rattle.jt_scopes.specs.Scoped.{values, world_in, order_in}
 use Rattle.jt_scopes.proofs.SharedValues.{part_put}

@@ -1,6 +1,6 @@
 use Rattle.std.proofs.Common.{◌≡◌, ◌++◌, drop}
 use Rattle.std.specs.Prelude.{flat_map}
-use Rattle.jt_inherit.specs.Chain.{macros}
+use Rattle.jt_chains.specs.Chain.{macros}
 use Rattle.jt_meaning.specs.Layout as layout
 use Rattle.jt_meaning.specs.Layout.{defaults_of}
 use Rattle.jt_scopes.specs.Scoped.{values, world_in, order_in}

@@ -8,7 +8,7 @@ use Rattle.jt_parse.specs.View.{names_view, filterings_view, stmt_view, body_vie
 use Rattle.jt_parse.specs.declared.tree.Stmt.{Stmt}
 use Rattle.jt_slots.specs.Slots as slots
 use Rattle.jt_meaning.specs.Resolve.{followed, alone, bound_all, resolved_filters}
-use Rattle.jt_inherit.specs.View.{chain_view}
+use Rattle.jt_chains.specs.View.{chain_view}
 use Rattle.jt_uses.specs.Names.{texts}
 use Rattle.jt_scopes.specs.Scoped.{values, world_in, order_in, expr_in, spot_in, templates_in}
 use Rattle.jt_scopes.specs.Stated.{line_in, stmt_in, body_in, choice_in, scoped_in, values_in}

@@ -1,5 +1,6 @@
-use Rattle.jt_slots.proofs.ByName.{test_found}
+use Rattle.jt_slots.specs.Tests.{test_named}
 use Rattle.jt_slots.proofs.named.test_of.Goals as goal
 
 pub returns : goal.returns
-returns c = test_found c.args.name.now c.by_name.result c.by_name.ensures.found c.by_name.ensures.only
+unfolding test_named
+returns c = c.by_name.ensures.value

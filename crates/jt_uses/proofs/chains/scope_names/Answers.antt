@@ -1,11 +1,11 @@
 use Rattle.std.proofs.Common.{◌≡◌, ℕ, ◌+◌, ◌<◌, ◌++◌, List, append_assoc, length, map, drop, get_or, sym, ap, ◌∙◌}
 use Rattle.std.specs.Prelude.{flat_map}
 use Rattle.std.proofs.lemmas.List.{drop_more}
-use Rattle.jt_inherit.specs.Chain.{Template}
-use Rattle.jt_inherit.specs.Layers.{layer_view}
-use Rattle.jt_inherit.specs.Uses.{scope_names_in}
-use Rattle.jt_inherit.specs.View.{chain_view}
-use Rattle.jt_inherit.specs.declared.layers.Layer.{Layer}
+use Rattle.jt_chains.specs.Chain.{Template}
+use Rattle.jt_chains.specs.Layers.{layer_view}
+use Rattle.jt_chains.specs.Uses.{scope_names_in}
+use Rattle.jt_chains.specs.View.{chain_view}
+use Rattle.jt_chains.specs.declared.layers.Layer.{Layer}
 use Rattle.jt_parse.specs.Trees.{Text}
 use Rattle.jt_parse.specs.View.{body_view}
 use Rattle.jt_uses.specs.Names.{texts}

@@ -1,8 +1,8 @@
 use Rattle.std.proofs.Common.{◌≡◌, ◌++◌, drop, map}
 use Rattle.std.specs.Prelude.{flat_map}
-use Rattle.jt_inherit.specs.Layers.{layer_view}
-use Rattle.jt_inherit.specs.Uses.{scope_names_in}
-use Rattle.jt_inherit.specs.View.{chain_view}
+use Rattle.jt_chains.specs.Layers.{layer_view}
+use Rattle.jt_chains.specs.Uses.{scope_names_in}
+use Rattle.jt_chains.specs.View.{chain_view}
 use Rattle.jt_uses.specs.Names.{texts}
 use Rattle.jt_uses.proofs.chains.scope_names.Given as goal
 

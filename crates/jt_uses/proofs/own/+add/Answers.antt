@@ -1,6 +1,6 @@
 use Rattle.std.proofs.Common.{◌≡◌, List, map, [], ◌∷◌, ◌++◌, ◌∙◌, append_assoc, ap, refl}
 use Rattle.jt_parse.specs.View as parsed
-use Rattle.jt_inherit.specs.Uses.{body_names, branch_names, filtering_names, condition_names, expr_names, keywords, pair_names, stmt_names}
+use Rattle.jt_chains.specs.Uses.{body_names, branch_names, filtering_names, condition_names, expr_names, keywords, pair_names, stmt_names}
 use Rattle.jt_parse.specs.Texts.{all_inserted}
 use Rattle.jt_uses.specs.Names.{texts}
 use Rattle.jt_uses.proofs.Inserted.{statement_added, branch_added, then_is}

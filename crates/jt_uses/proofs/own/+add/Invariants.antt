@@ -4,7 +4,7 @@ use Rattle.jt_parse.specs.declared.tree.Stmt.{size-Stmt}
 use Rattle.jt_uses.proofs.Left.{Branch}
 use Rattle.jt_uses.specs.Names.{texts}
 use Rattle.jt_parse.specs.View as parsed
-use Rattle.jt_inherit.specs.Uses as uses
+use Rattle.jt_chains.specs.Uses as uses
 use Rattle.jt_parse.specs.Texts.{all_inserted}
 use Rattle.jt_uses.proofs.own.+add.Given as goal
 

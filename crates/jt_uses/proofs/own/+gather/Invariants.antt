@@ -4,7 +4,7 @@ use denote.Param.Weighed.{most}
 use Rattle.jt_expr.specs.declared.tree.Expr.{size-Expr}
 use Rattle.jt_uses.specs.Names.{texts}
 use Rattle.jt_expr.specs.View.{exprs_view, pairs_view}
-use Rattle.jt_inherit.specs.Uses as uses
+use Rattle.jt_chains.specs.Uses as uses
 use Rattle.jt_parse.specs.Texts.{all_inserted}
 use Rattle.jt_uses.proofs.own.+gather.Given as goal
 

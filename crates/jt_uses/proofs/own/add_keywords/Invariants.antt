@@ -1,7 +1,7 @@
 use Rattle.std.proofs.Common.{◌≡◌, drop}
 use Rattle.jt_uses.specs.Names.{texts}
 use Rattle.jt_expr.specs.View.{pairs_view}
-use Rattle.jt_inherit.specs.Uses as uses
+use Rattle.jt_chains.specs.Uses as uses
 use Rattle.jt_parse.specs.Texts.{all_inserted}
 use Rattle.jt_uses.proofs.own.add_keywords.Given as goal
 

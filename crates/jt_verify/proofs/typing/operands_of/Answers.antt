@@ -1,6 +1,6 @@
 use Rattle.std.proofs.Common.{Some, None, ap}
 use Rattle.std.specs.Prelude.{option_map}
-use Rattle.jt_ops.specs.OpTable.{op_operands}
+use Rattle.jt_ids.specs.OpTable.{op_operands}
 use Rattle.jt_image.proofs.ById.{operator_is}
 use Rattle.jt_verify.proofs.typing.operands_of.Goals as goal
 

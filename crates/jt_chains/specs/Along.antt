@@ -1,0 +1,37 @@
+-- The templates at some places, in this order, and what they have.
+use Rattle.std.specs.Prelude.{ℕ, Bool, ◌<◌, List, [], ◌∷◌, ◌++◌, length, slice_get, unwrap_or, option_map}
+use Rattle.std.specs.List.{AllByRecursion}
+use Rattle.std.specs.Option.{option_to_list}
+use Rattle.jt_parse.specs.Trees.{Text, Body, end}
+use Rattle.jt_chains.specs.Chain.{Template, MacroBody, BlockBody, macros_in, blocks_in}
+use Rattle.jt_chains.specs.Parts.{name_at}
+
+module _ (ts : List Template) where
+  -- places of templates
+  abbrev pub ArePlaces : List ℕ → Type 0
+  ArePlaces = AllByRecursion (λ i. i < length ts)
+
+  -- the templates themselves
+  abbrev pub templates_at : List ℕ → List Template
+  templates_at [] = []
+  templates_at (i ∷ is) = option_to_list (slice_get ts i) ++ templates_at is
+
+  -- the tree of the template at a place
+  abbrev pub body_at : ℕ → Body
+  body_at i = unwrap_or (option_map (λ t. t.body) (slice_get ts i)) end
+
+  -- what the templates have, one behind the other
+  abbrev pub along : {A : Type 0} → (Text → Body → List A) → List ℕ → List A
+  along g [] = []
+  along g (i ∷ is) = g (name_at ts i) (body_at i) ++ along g is
+
+  -- their macros, and the bodies of their blocks
+  abbrev pub macros_along : List ℕ → List MacroBody
+  macros_along = along macros_in
+
+  abbrev pub blocks_along : Bool → List ℕ → List BlockBody
+  blocks_along escaping = along (λ n b. blocks_in n b escaping)
+
+  -- the templates themselves
+  abbrev pub layers_along : List ℕ → List Template
+  layers_along = along (λ n b. record { name = n; body = b } ∷ [])

@@ -1,0 +1,13 @@
+pub mod Along
+pub mod Chain
+pub mod Includes
+pub mod Layers
+pub mod Names
+pub mod Pages
+pub mod Parts
+pub mod Places
+pub mod Rules
+pub mod Supers
+pub mod Uses
+pub mod View
+pub mod Weights

@@ -1,0 +1,24 @@
+-- What contracts see of the macros and of the bodies of a chain.
+use Rattle.std.specs.Prelude.{ℕ, List, [], map, slice_get, unwrap_or, option_map}
+use Rattle.jt_parse.specs.Trees.{Text}
+use Rattle.jt_parse.specs.View.{parameters_view, body_view}
+use Rattle.jt_chains.specs.Chain.{Template, MacroBody, BlockBody}
+use Rattle.jt_chains.specs.declared.parts.Macro.{Macro}
+use Rattle.jt_chains.specs.declared.parts.Block.{Block}
+
+-- the name of the template at a place
+abbrev pub name_at : List Template → ℕ → Text
+name_at ts i = unwrap_or (option_map (λ t. t.name) (slice_get ts i)) []
+
+module _ (ts : List Template) where
+  abbrev pub macro_view : Macro → MacroBody
+  macro_view m = record { name = m.name.now; template = name_at ts m.template; parameters = parameters_view m.parameters.now; body = body_view m.body.now }
+
+  abbrev pub block_view : Block → BlockBody
+  block_view b = record { template = name_at ts b.template; name = b.name.now; scoped = b.scoped; required = b.required; escaping = b.escaping; body = body_view b.body.now }
+
+  abbrev pub macros_view : List Macro → List MacroBody
+  macros_view = map macro_view
+
+  abbrev pub blocks_view : List Block → List BlockBody
+  blocks_view = map block_view

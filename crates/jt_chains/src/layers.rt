@@ -1,0 +1,57 @@
+//! The templates of a chain.
+
+ghost use Rattle.std.specs.Prelude.{◌≡◌, ◌<◌, ◌≤◌, [], length, map, IfOk};
+ghost use Rattle.jt_chains.specs.Along.{ArePlaces, layers_along};
+ghost use Rattle.jt_chains.specs.Chain.{templates};
+ghost use Rattle.jt_chains.specs.Pages.{pages_view};
+ghost use Rattle.jt_chains.specs.Layers.{layer_view};
+ghost use Rattle.jt_chains.specs.Places.{home_at};
+ghost use Rattle.jt_chains.specs.View.{chain_view, sources_of};
+
+use crate::linked::{Chain, Page};
+use jt_parse::Stmt;
+use std::alloc::{AllocError, Global};
+
+/// A template of a chain: its place among all that were read, and its statements.
+#[derive(Clone, Copy)]
+pub struct Layer<'a> {
+    pub template: usize,
+    pub body: &'a [Stmt],
+}
+
+/// The templates at these places.
+fn layers_at<'a>(
+    alloc: Global,
+    pages: &'a [Page],
+    places: &[usize],
+) -> Result<Vec<Layer<'a>>, AllocError>
+    requires { ArePlaces (pages_view pages.now) places.now }
+    ensures { IfOk result (λ ls. map (layer_view (pages_view pages.now)) ls.items
+        ≡ layers_along (pages_view pages.now) places.now) }
+{
+    let mut found = Vec::with_capacity(alloc, places.len())?;
+    for place in places {
+        found.push(Layer {
+            template: *place,
+            body: pages[*place].template.body(),
+        })?;
+    }
+    Ok(found)
+}
+
+impl Chain {
+    /// The templates of a chain, from the entry's to the root. A chain that isn't there has none.
+    pub fn layers(&self, alloc: Global, home: usize) -> Result<Vec<Layer<'_>>, AllocError>
+        ensures there { home < length self.now.homes.items
+            → IfOk result (λ ls. map (layer_view (chain_view self.now).templates) ls.items
+            ≡ templates (sources_of (chain_view self.now))
+            (home_at (chain_view self.now).order home)) }
+        ensures nowhere { length self.now.homes.items ≤ home
+            → IfOk result (λ ls. ls.items ≡ []) }
+    {
+        match self.homes.get(home) {
+            Some(found) => layers_at(alloc, &self.templates, &found.templates),
+            None => Ok(Vec::new(alloc)),
+        }
+    }
+}

@@ -1,0 +1,14 @@
+pub mod Bound
+pub mod Fields
+pub mod Filled
+pub mod Filtered
+pub mod Fits
+pub mod Forms
+pub mod Found
+pub mod Inner
+pub mod Known
+pub mod Left
+pub mod Named
+pub mod Sets
+pub mod Shown
+pub mod Turns

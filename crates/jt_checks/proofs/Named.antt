@@ -1,0 +1,112 @@
+-- Macros and blocks of a chain, by their names.
+use Rattle.std.proofs.Common.{◌≡◌, ℕ, suc, ◌+◌, ◌<◌, Bool, true, false, cond, not, ◌||◌, if◌then◌else◌, List, [], ◌∷◌, length, map, drop, get_or, nat_lt, refl, sym, ap, ◌∙◌, arith, Option, Some, None}
+use Rattle.std.specs.Prelude.{option_map, filter}
+use Rattle.std.specs.List.{list_any}
+use Rattle.std.specs.Option.{option_or, is_some}
+use Rattle.std.specs.Ordering.{nat_cmp}
+use Rattle.std.specs.Cmp.Lexicographic.{slice_cmp}
+use Rattle.std.specs.Str.{bytes_eq}
+use Rattle.std.specs.BTreeMap as sorted
+use Rattle.std.specs.BTreeSet as set
+use Rattle.std.proofs.lemmas.Bool.Decides.{nat_tests}
+use Rattle.std.proofs.lemmas.List.{drop_more}
+use Rattle.std.proofs.lemmas.Map.Text.{is_eq-slice_cmp}
+use Rattle.std.proofs.lemmas.Slice.Eq.{bytes_eq-Decides}
+use denote.Ref.{Bor}
+use Rattle.jt_parse.specs.Trees.{Text, Parameter}
+use Rattle.jt_parse.specs.View.{parameters_view}
+use Rattle.jt_parse.specs.declared.tree.Parameter as written
+use Rattle.jt_chains.specs.Chain.{Template, MacroBody, BlockBody, macro_of}
+use Rattle.jt_chains.specs.Parts.{macro_view, block_view}
+use Rattle.jt_chains.specs.declared.parts.Macro.{Macro}
+use Rattle.jt_chains.specs.declared.parts.Block.{Block}
+use Rattle.jt_checks.specs.Standing.{ByName, Names, parameters_of, parameters_at, is_among}
+use Rattle.jt_checks.proofs.Sets.{name_cmp, among_added}
+
+abbrev Given : Type 0
+Given = Option (List Parameter)
+
+-- the parameters, where this is the name
+abbrev pub if_named : Text → List Parameter → Text → Given → Given
+if_named name ps x rest = if bytes_eq name x then Some ps else rest
+
+pub first_macro : (ts : List Template) (m : Macro) (ms : List MacroBody) (x : Text) → parameters_of (macro_of x (macro_view ts m ∷ ms)) ≡ if_named m.name.now (parameters_view m.parameters.now) x (parameters_of (macro_of x ms))
+first_macro ts m ms x = by (bytes_eq m.name.now x)
+  where
+    by : (b : Bool) → parameters_of (if b then Some (macro_view ts m) else macro_of x ms) ≡ (if b then Some (parameters_view m.parameters.now) else parameters_of (macro_of x ms))
+    by true = refl
+    by false = refl
+
+same_name : (x y : Text) → bytes_eq x y ≡ true → x ≡ y
+same_name x y = (bytes_eq-Decides x y).0
+
+absent : {A B : Type 0} (f : A → B) (o : Option A) → is_some o ≡ false → option_map f o ≡ None
+absent f (Some a) e = absurd (cc)
+absent f None e = refl
+
+-- a name that is there already keeps its parameters
+pub macro_kept : (m : ByName) (name x : Text) (ps : List Parameter) (rest : Given) → is_some (sorted.get_by (λ k. slice_cmp nat_cmp name k.now) m) ≡ true
+    → option_or (parameters_at m x) rest ≡ option_or (parameters_at m x) (if_named name ps x rest)
+macro_kept m name x ps rest there = by (bytes_eq name x) refl
+  where
+    some_first : {A B : Type 0} (f : A → B) (o : Option A) → is_some o ≡ true → (r s : Option B) → option_or (option_map f o) r ≡ option_or (option_map f o) s
+    some_first f (Some a) e r s = refl
+    some_first f None e r s = absurd (cc)
+
+    by : (b : Bool) → bytes_eq name x ≡ b → option_or (parameters_at m x) rest ≡ option_or (parameters_at m x) (if b then Some ps else rest)
+    by false e = refl
+    by true e =
+        some_first (λ qs. parameters_view qs.now) (sorted.get_by (λ k. slice_cmp nat_cmp x k.now) m)
+        (ap (λ z. is_some (sorted.get_by (λ k. slice_cmp nat_cmp z k.now) m)) (sym (same_name name x e)) ∙ there) rest (Some ps)
+
+-- and one that isn't there gets them
+pub macro_put : (m n : ByName) (k : Bor Text) (v : Bor (List written.Parameter)) (x : Text) (rest : Given) → is_some (sorted.get_by (λ q. slice_cmp nat_cmp k.now q.now) m) ≡ false → sorted.Updates name_cmp m n k (Some v)
+    → option_or (parameters_at n x) rest ≡ option_or (parameters_at m x) (if_named k.now (parameters_view v.now) x rest)
+macro_put m n k v x rest new u = ap (λ o. option_or (option_map shown o) rest) (u.0 (record { ref_ptr = (0, 0); now = x }) ∙ ap (λ b. cond b (Some v) (found x)) (is_eq-slice_cmp k.now x)) ∙ by (bytes_eq k.now x) refl
+  where
+    shown : Bor (List written.Parameter) → List Parameter
+    shown qs = parameters_view qs.now
+
+    found : Text → Option (Bor (List written.Parameter))
+    found y = sorted.get_by (λ q. slice_cmp nat_cmp y q.now) m
+
+    by : (b : Bool) → bytes_eq k.now x ≡ b → option_or (option_map shown (cond b (Some v) (found x))) rest ≡ option_or (option_map shown (found x)) (if b then Some (shown v) else rest)
+    by false e = refl
+    by true e = ap (λ o. option_or o (Some (shown v))) (sym (absent shown (found x) (ap (λ z. is_some (found z)) (sym (same_name k.now x e)) ∙ new)))
+
+pub macros_left : (ts : List Template) (ms : List Macro) (i : ℕ) (m : Macro) (x : Text) → i < length ms → m ≡ get_or ms i m
+    → parameters_of (macro_of x (map (macro_view ts) (drop i ms))) ≡ if_named m.name.now (parameters_view m.parameters.now) x (parameters_of (macro_of x (map (macro_view ts) (drop (i + 1) ms))))
+macros_left ts ms i m x lt is =
+    ap (λ (l : List Macro). parameters_of (macro_of x (map (macro_view ts) l))) (drop_more ms i m lt)
+    ∙ ap (λ (z : Macro). parameters_of (macro_of x (macro_view ts z ∷ map (macro_view ts) (drop (i + 1) ms)))) (sym is)
+    ∙ first_macro ts m (map (macro_view ts) (drop (i + 1) ms)) x
+
+-- ---- blocks
+
+abbrev pub any_named : Text → List BlockBody → Bool
+any_named x bs = list_any (λ b. bytes_eq b.name x) bs
+
+moved : (a b c : Bool) → ((a || b) || c) ≡ (b || (a || c))
+moved true true c = refl
+moved true false c = refl
+moved false b c = refl
+
+pub block_put : (ts : List Template) (bs : List Block) (i : ℕ) (b : Block) (m n : Names) (x : Text) → i < length bs → b ≡ get_or bs i b → set.Updates name_cmp m n b.name true
+    → (is_among n x || any_named x (map (block_view ts) (drop (i + 1) bs))) ≡ (is_among m x || any_named x (map (block_view ts) (drop i bs)))
+block_put ts bs i b m n x lt is u =
+    let rest = any_named x (map (block_view ts) (drop (i + 1) bs)) in
+    ap (λ c. c || rest) (among_added m n b.name u x) ∙ moved (bytes_eq b.name.now x) (is_among m x) rest
+    ∙ ap (λ (z : Block). is_among m x || (bytes_eq z.name.now x || rest)) is
+    ∙ ap (λ (l : List Block). is_among m x || any_named x (map (block_view ts) l)) (sym (drop_more bs i b lt))
+
+some_left : (n : ℕ) → true ≡ not (nat_lt (suc n) 1)
+some_left n = grind (arith, nat_tests)
+
+-- some are left exactly where one passes the test
+pub any_filtered : {A : Type 0} (f : A → Bool) (xs : List A) → list_any f xs ≡ not (nat_lt (length (filter f xs)) 1)
+any_filtered f [] = refl
+any_filtered f (x ∷ xs) = by (f x) (any_filtered f xs)
+  where
+    by : (b : Bool) → list_any f xs ≡ not (nat_lt (length (filter f xs)) 1) → (b || list_any f xs) ≡ not (nat_lt (length (cond b (x ∷ filter f xs) (filter f xs))) 1)
+    by true h = some_left (length (filter f xs))
+    by false h = h

@@ -1,0 +1,160 @@
+use Rattle.std.proofs.Common.{◌≡◌, ◌∙◌, Ok, refl}
+use Rattle.std.specs.Option.{option_or}
+use Rattle.jt_expr.specs.View.{exprs_view, pairs_view}
+use Rattle.jt_slots.specs.Tests.{test_named}
+use Rattle.jt_rules.specs.Walk as rules
+use Rattle.jt_checks.specs.ScopeView.{its_world, its_home, within_view}
+use Rattle.jt_checks.proofs.Found.{its_filters, found_call, found_inner, found_filter, found_test, filter_called, test_called, item_read, binary_read, when_read, choice_read, item_called, binary_called, when_called, choice_called, row_some, row_none, pairs_some, pairs_none}
+use Rattle.jt_checks.proofs.Turns.{behind, either_is, equal_found, part, parts}
+use Rattle.jt_checks.proofs.expressions.+broken.Goals as goal
+
+pub broken-returns-in-Call : goal.broken-returns-in-Call
+broken-returns-in-Call t c =
+    let s = c.args.scope.now in
+    let w = within_view c.args.within in
+    let rest = option_or (rules.row_broken (its_world s) (its_home s) (exprs_view c.deref-in-Call-5.result.now) w) (rules.pairs_broken (its_world s) (its_home s) (pairs_view c.deref-in-Call-6.result.now) w) in
+    parts c.called_broken-callee.result c.call_broken-call.result c.either.result c.or_arguments_broken.result _ _ rest _
+    c.called_broken-callee.ensures c.call_broken-call.ensures c.either.ensures c.or_arguments_broken.ensures
+    (λ x y p q. found_call (its_world s) (its_home s) w c.args.expr.now c.deref-in-Call.result.now c.deref-in-Call-2.result.now c.deref-in-Call-3.result.now c.deref-in-Call-5.result.now
+    c.deref-in-Call-4.result.now c.deref-in-Call-6.result.now c.in-Call.called c.in-Call.row c.in-Call.pairs x y _ _ _ _ _
+    c.in-Call.is c.deref-in-Call.ensures c.deref-in-Call-2.ensures c.deref-in-Call-3.ensures.value c.deref-in-Call-4.ensures.value c.deref-in-Call-5.ensures.value c.deref-in-Call-6.ensures.value
+    p q refl refl refl refl refl)
+
+pub broken-returns-in-Filter : goal.broken-returns-in-Filter
+broken-returns-in-Filter t c =
+    let s = c.args.scope.now in
+    let w = within_view c.args.within in
+    let rest = option_or (rules.row_broken (its_world s) (its_home s) (exprs_view c.deref-in-Filter-5.result.now) w) (rules.pairs_broken (its_world s) (its_home s) (pairs_view c.deref-in-Filter-6.result.now) w) in
+    parts c.filter_broken-call.result c.broken-input.result c.either-in-Filter.result c.or_arguments_broken-in-Filter.result _ _ rest _
+    c.filter_broken-call.ensures c.broken-input.ensures c.either-in-Filter.ensures c.or_arguments_broken-in-Filter.ensures
+    (λ x y p q. found_filter (its_world s) (its_home s) w (its_filters s.chain.now) c.args.expr.now c.deref-in-Filter-4.result.now c.deref-in-Filter.result.now c.deref-in-Filter-2.result.now c.deref-in-Filter-5.result.now
+    c.deref-in-Filter-3.result.now c.deref-in-Filter-6.result.now c.in-Filter.value c.in-Filter.name c.in-Filter.row c.in-Filter.pairs x y _ _ _ _ _
+    c.in-Filter.is c.deref-in-Filter.ensures c.deref-in-Filter-2.ensures.value c.deref-in-Filter-3.ensures.value c.deref-in-Filter-4.ensures c.deref-in-Filter-5.ensures.value c.deref-in-Filter-6.ensures.value
+    p q refl refl refl refl refl)
+
+pub broken-returns-in-Test : goal.broken-returns-in-Test
+broken-returns-in-Test t c =
+    let s = c.args.scope.now in
+    let w = within_view c.args.within in
+    let rest = option_or (rules.row_broken (its_world s) (its_home s) (exprs_view c.deref-in-Test-5.result.now) w) (rules.pairs_broken (its_world s) (its_home s) (pairs_view c.deref-in-Test-6.result.now) w) in
+    let call = rules.test_broken (test_named c.deref-in-Test.result.now) (exprs_view c.deref-in-Test-2.result.now) (pairs_view c.deref-in-Test-3.result.now) in
+    parts (Ok c.test_broken-call.result) c.broken-input-in-Test.result c.either-in-Test.result c.or_arguments_broken-in-Test.result (λ o. o ≡ call) _ rest _
+    c.test_broken-call.ensures c.broken-input-in-Test.ensures c.either-in-Test.ensures c.or_arguments_broken-in-Test.ensures
+    (λ x y p q. found_test (its_world s) (its_home s) w c.args.expr.now c.deref-in-Test-4.result.now c.deref-in-Test.result.now c.deref-in-Test-2.result.now c.deref-in-Test-5.result.now c.deref-in-Test-3.result.now c.deref-in-Test-6.result.now
+    c.in-Test.value c.in-Test.field-1 c.in-Test.name c.in-Test.row c.in-Test.pairs x y _ _ _ _ _
+    c.in-Test.is c.deref-in-Test.ensures c.deref-in-Test-2.ensures.value c.deref-in-Test-3.ensures.value c.deref-in-Test-4.ensures c.deref-in-Test-5.ensures.value c.deref-in-Test-6.ensures.value
+    p q refl refl refl refl refl)
+
+pub called_broken-returns-in-Call : goal.called_broken-returns-in-Call
+called_broken-returns-in-Call t c =
+    let s = c.args.scope.now in
+    let w = within_view c.args.within in
+    let rest = option_or (rules.row_broken (its_world s) (its_home s) (exprs_view c.deref-in-Call-2.result.now) w) (rules.pairs_broken (its_world s) (its_home s) (pairs_view c.deref-in-Call-3.result.now) w) in
+    part c.called_broken-callee.result c.or_arguments_broken.result _ rest _ c.called_broken-callee.ensures c.or_arguments_broken.ensures
+    (λ x p. found_inner (its_world s) (its_home s) w c.args.called.now c.deref-in-Call.result.now c.deref-in-Call-2.result.now c.deref-in-Call-3.result.now c.in-Call.inner c.in-Call.row c.in-Call.pairs x _ _ _ _
+    c.in-Call.is c.deref-in-Call.ensures c.deref-in-Call-2.ensures.value c.deref-in-Call-3.ensures.value p refl refl refl refl)
+
+pub called_broken-returns-in-Filter : goal.called_broken-returns-in-Filter
+called_broken-returns-in-Filter t c =
+    let s = c.args.scope.now in
+    let w = within_view c.args.within in
+    let rest = option_or (rules.row_broken (its_world s) (its_home s) (exprs_view c.deref-in-Filter-2.result.now) w) (rules.pairs_broken (its_world s) (its_home s) (pairs_view c.deref-in-Filter-3.result.now) w) in
+    part c.broken-input.result c.or_arguments_broken-in-Filter.result _ rest _ c.broken-input.ensures c.or_arguments_broken-in-Filter.ensures
+    (λ x p. filter_called (its_world s) (its_home s) w c.args.called.now c.deref-in-Filter.result.now c.deref-in-Filter-2.result.now c.deref-in-Filter-3.result.now c.in-Filter.value c.in-Filter.field-1 c.in-Filter.row c.in-Filter.pairs x _ _ _ _
+    c.in-Filter.is c.deref-in-Filter.ensures c.deref-in-Filter-2.ensures.value c.deref-in-Filter-3.ensures.value p refl refl refl refl)
+
+pub called_broken-returns-in-Test : goal.called_broken-returns-in-Test
+called_broken-returns-in-Test t c =
+    let s = c.args.scope.now in
+    let w = within_view c.args.within in
+    let rest = option_or (rules.row_broken (its_world s) (its_home s) (exprs_view c.deref-in-Test-2.result.now) w) (rules.pairs_broken (its_world s) (its_home s) (pairs_view c.deref-in-Test-3.result.now) w) in
+    part c.broken-input-in-Test.result c.or_arguments_broken-in-Test.result _ rest _ c.broken-input-in-Test.ensures c.or_arguments_broken-in-Test.ensures
+    (λ x p. test_called (its_world s) (its_home s) w c.args.called.now c.deref-in-Test.result.now c.deref-in-Test-2.result.now c.deref-in-Test-3.result.now c.in-Test.value c.in-Test.field-1 c.in-Test.field-2 c.in-Test.row c.in-Test.pairs x _ _ _ _
+    c.in-Test.is c.deref-in-Test.ensures c.deref-in-Test-2.ensures.value c.deref-in-Test-3.ensures.value p refl refl refl refl)
+
+pub both_broken-returns : goal.both_broken-returns
+both_broken-returns t c = either_is c.broken-first.result c.broken-second.result c.either.result _ _ c.broken-first.ensures c.broken-second.ensures c.either.ensures
+
+pub three_broken-returns : goal.three_broken-returns
+three_broken-returns t c = either_is c.broken-first.result c.both_broken-others.result c.either.result _ _ c.broken-first.ensures c.both_broken-others.ensures c.either.ensures
+
+pub or_arguments_broken-returns : goal.or_arguments_broken-returns
+or_arguments_broken-returns t c =
+    let s = c.args.scope.now in
+    let w = within_view c.args.within in
+    let places = rules.row_broken (its_world s) (its_home s) (exprs_view c.args.row.now) w in
+    let keywords = rules.pairs_broken (its_world s) (its_home s) (pairs_view c.args.pairs.now) w in
+    behind c.args.before c.either.result c.either-2.result (option_or places keywords)
+    (either_is c.row_broken-places.result c.pairs_broken-keywords.result c.either.result places keywords c.row_broken-places.ensures c.pairs_broken-keywords.ensures c.either.ensures) c.either-2.ensures
+
+pub broken-returns-in-Item : goal.broken-returns-in-Item
+broken-returns-in-Item t c =
+    let s = c.args.scope.now in
+    equal_found c.both_broken.result _ _ (item_read (its_world s) (its_home s) (within_view c.args.within) c.args.expr.now c.deref-in-Item.result.now c.deref-in-Item-2.result.now c.in-Item.value c.in-Item.index
+    c.in-Item.is c.deref-in-Item.ensures c.deref-in-Item-2.ensures) c.both_broken.ensures
+
+pub broken-returns-in-Binary : goal.broken-returns-in-Binary
+broken-returns-in-Binary t c =
+    let s = c.args.scope.now in
+    equal_found c.both_broken-in-Binary.result _ _ (binary_read (its_world s) (its_home s) (within_view c.args.within) c.args.expr.now c.deref-in-Binary.result.now c.deref-in-Binary-2.result.now c.in-Binary.field-0 c.in-Binary.left c.in-Binary.right
+    c.in-Binary.is c.deref-in-Binary.ensures c.deref-in-Binary-2.ensures) c.both_broken-in-Binary.ensures
+
+pub broken-returns-in-When : goal.broken-returns-in-When
+broken-returns-in-When t c =
+    let s = c.args.scope.now in
+    equal_found c.both_broken-in-When.result _ _ (when_read (its_world s) (its_home s) (within_view c.args.within) c.args.expr.now c.deref-in-When.result.now c.deref-in-When-2.result.now c.in-When.condition c.in-When.value
+    c.in-When.is c.deref-in-When.ensures c.deref-in-When-2.ensures) c.both_broken-in-When.ensures
+
+pub broken-returns-in-Choice : goal.broken-returns-in-Choice
+broken-returns-in-Choice t c =
+    let s = c.args.scope.now in
+    equal_found c.three_broken.result _ _ (choice_read (its_world s) (its_home s) (within_view c.args.within) c.args.expr.now c.deref-in-Choice.result.now c.deref-in-Choice-2.result.now c.deref-in-Choice-3.result.now
+    c.in-Choice.condition c.in-Choice.value c.in-Choice.other c.in-Choice.is c.deref-in-Choice.ensures c.deref-in-Choice-2.ensures c.deref-in-Choice-3.ensures) c.three_broken.ensures
+
+pub called_broken-returns-in-Item : goal.called_broken-returns-in-Item
+called_broken-returns-in-Item t c =
+    let s = c.args.scope.now in
+    equal_found c.both_broken.result _ _ (item_called (its_world s) (its_home s) (within_view c.args.within) c.args.called.now c.deref-in-Item.result.now c.deref-in-Item-2.result.now c.in-Item.value c.in-Item.index
+    c.in-Item.is c.deref-in-Item.ensures c.deref-in-Item-2.ensures) c.both_broken.ensures
+
+pub called_broken-returns-in-Binary : goal.called_broken-returns-in-Binary
+called_broken-returns-in-Binary t c =
+    let s = c.args.scope.now in
+    equal_found c.both_broken-in-Binary.result _ _ (binary_called (its_world s) (its_home s) (within_view c.args.within) c.args.called.now c.deref-in-Binary.result.now c.deref-in-Binary-2.result.now c.in-Binary.field-0 c.in-Binary.left c.in-Binary.right
+    c.in-Binary.is c.deref-in-Binary.ensures c.deref-in-Binary-2.ensures) c.both_broken-in-Binary.ensures
+
+pub called_broken-returns-in-When : goal.called_broken-returns-in-When
+called_broken-returns-in-When t c =
+    let s = c.args.scope.now in
+    equal_found c.both_broken-in-When.result _ _ (when_called (its_world s) (its_home s) (within_view c.args.within) c.args.called.now c.deref-in-When.result.now c.deref-in-When-2.result.now c.in-When.condition c.in-When.value
+    c.in-When.is c.deref-in-When.ensures c.deref-in-When-2.ensures) c.both_broken-in-When.ensures
+
+pub called_broken-returns-in-Choice : goal.called_broken-returns-in-Choice
+called_broken-returns-in-Choice t c =
+    let s = c.args.scope.now in
+    equal_found c.three_broken.result _ _ (choice_called (its_world s) (its_home s) (within_view c.args.within) c.args.called.now c.deref-in-Choice.result.now c.deref-in-Choice-2.result.now c.deref-in-Choice-3.result.now
+    c.in-Choice.condition c.in-Choice.value c.in-Choice.other c.in-Choice.is c.deref-in-Choice.ensures c.deref-in-Choice-2.ensures c.deref-in-Choice-3.ensures) c.three_broken.ensures
+
+pub row_broken-loop-expr-preserved : goal.row_broken-loop-expr-preserved
+row_broken-loop-expr-preserved t c =
+    let s = c.args.scope.now in
+    row_none (its_world s) (its_home s) (within_view c.args.within) c.args.row.now c.loop-expr.expr-index c.expr-item.result c.in_ok-rule.field-0 c.loop-expr-test.true c.expr-item.is c.in_ok-rule.ensures c.in_default.is
+    ∙ c.loop-expr.invariant
+
+pub row_broken-returns-in-Some : goal.row_broken-returns-in-Some
+row_broken-returns-in-Some t c =
+    let s = c.args.scope.now in
+    row_some (its_world s) (its_home s) (within_view c.args.within) c.args.row.now c.loop-expr.expr-index c.expr-item.result c.in_ok-rule.field-0 c.in-Some.rule c.loop-expr-test.true c.expr-item.is c.in_ok-rule.ensures c.in-Some.is
+    ∙ c.loop-expr.invariant
+
+pub pairs_broken-loop-value-preserved : goal.pairs_broken-loop-value-preserved
+pairs_broken-loop-value-preserved t c =
+    let s = c.args.scope.now in
+    pairs_none (its_world s) (its_home s) (within_view c.args.within) c.args.pairs.now c.loop-value.value-index c.loop-value-item.result c.in_ok-rule.field-0 c.loop-value-test.true c.loop-value-item.is c.in_ok-rule.ensures c.in_default.is
+    ∙ c.loop-value.invariant
+
+pub pairs_broken-returns-in-Some : goal.pairs_broken-returns-in-Some
+pairs_broken-returns-in-Some t c =
+    let s = c.args.scope.now in
+    pairs_some (its_world s) (its_home s) (within_view c.args.within) c.args.pairs.now c.loop-value.value-index c.loop-value-item.result c.in_ok-rule.field-0 c.in-Some.rule c.loop-value-test.true c.loop-value-item.is c.in_ok-rule.ensures c.in-Some.is
+    ∙ c.loop-value.invariant

@@ -1,0 +1,53 @@
+use Rattle.std.proofs.Common.{refl, sym, ap, ◌∙◌}
+use Rattle.std.specs.Option.{option_or}
+use Rattle.jt_parse.specs.View.{stmt_view, body_view}
+use Rattle.jt_rules.specs.Walk as rules
+use Rattle.jt_checks.specs.ScopeView.{its_world, its_home, within_view}
+use Rattle.jt_checks.proofs.Found.{branch_found, choice_is, loop_is, head_part, turns_part}
+use Rattle.jt_checks.proofs.Turns.{equal_found, some_first, none_first}
+use Rattle.jt_checks.proofs.statements.+body.Goals as goal
+
+pub branches_broken-returns-in-Some : goal.branches_broken-returns-in-Some
+branches_broken-returns-in-Some t c =
+    let s = c.args.scope.now in
+    let w = within_view c.args.within in
+    let b = c.loop-condition-item.result in
+    branch_found (its_world s) (its_home s) w c.args.branches.now c.loop-condition.condition-index b c.in-Some.rule c.loop-condition-test.true c.loop-condition-item.is c.loop-condition.invariant
+    (ap (λ z. option_or z (rules.body_broken (its_world s) (its_home s) (body_view b.2.items) w)) (sym c.in_ok-rule.ensures ∙ c.in-Some.is))
+
+pub branches_broken-returns-in-Some-2 : goal.branches_broken-returns-in-Some-2
+branches_broken-returns-in-Some-2 t c =
+    let s = c.args.scope.now in
+    let w = within_view c.args.within in
+    let b = c.loop-condition-item.result in
+    let inside = rules.body_broken (its_world s) (its_home s) (body_view b.2.items) w in
+    branch_found (its_world s) (its_home s) w c.args.branches.now c.loop-condition.condition-index b c.in-Some-2.rule c.loop-condition-test.true c.loop-condition-item.is c.loop-condition.invariant
+    (ap (λ z. option_or z inside) (sym c.in_ok-rule.ensures ∙ c.in_default.is)
+    ∙ ap (λ z. rules.body_broken (its_world s) (its_home s) (body_view z) w) (sym c.deref.ensures.value) ∙ sym c.in_ok-rule-2.ensures ∙ c.in-Some-2.is)
+
+pub statement_broken-returns-in-If : goal.statement_broken-returns-in-If
+statement_broken-returns-in-If t c =
+    let s = c.args.scope.now in
+    equal_found c.choice_broken.result _ _ (choice_is (its_world s) (its_home s) (within_view c.args.within) c.args.statement.now c.in-If.branches c.in-If.other c.deref.result.now c.deref-in-If.result.now
+    c.in-If.is c.deref.ensures.value c.deref-in-If.ensures.value) c.choice_broken.ensures
+
+pub statement_broken-returns-in-Some : goal.statement_broken-returns-in-Some
+statement_broken-returns-in-Some t c =
+    let s = c.args.scope.now in
+    let w = within_view c.args.within in
+    some_first (head_part (its_world s) (its_home s) w c.in-For.items c.deref-in-For.result.now c.in-For.condition) (turns_part (its_world s) (its_home s) w c.in-For.inside.items c.in-For.other.items) c.in-Some.rule
+    (sym c.in_ok-rule-in-For.ensures ∙ c.in-Some.is)
+    ∙ (loop_is (its_world s) (its_home s) w c.args.statement.now c.in-For.field-0 c.in-For.targets c.in-For.items c.in-For.condition c.in-For.inside c.in-For.other c.deref-in-For.result.now c.in-For.inside.items c.in-For.other.items
+    c.in-For.is c.deref-in-For.ensures.value refl refl)
+
+pub statement_broken-returns-in-None : goal.statement_broken-returns-in-None
+statement_broken-returns-in-None t c =
+    let s = c.args.scope.now in
+    let w = within_view c.args.within in
+    let head = head_part (its_world s) (its_home s) w c.in-For.items c.deref-in-For.result.now c.in-For.condition in
+    let turns = turns_part (its_world s) (its_home s) w c.deref-in-None.result.now c.deref-in-None-2.result.now in
+    equal_found c.turns_broken.result turns (rules.stmt_broken (its_world s) (its_home s) (stmt_view c.args.statement.now) w)
+    (none_first head turns (sym c.in_ok-rule-in-For.ensures ∙ c.in-None.is)
+    ∙ (loop_is (its_world s) (its_home s) w c.args.statement.now c.in-For.field-0 c.in-For.targets c.in-For.items c.in-For.condition c.in-For.inside c.in-For.other c.deref-in-For.result.now c.deref-in-None.result.now c.deref-in-None-2.result.now
+    c.in-For.is c.deref-in-For.ensures.value c.deref-in-None.ensures.value c.deref-in-None-2.ensures.value))
+    c.turns_broken.ensures

@@ -1,0 +1,92 @@
+-- What only private clauses cite: what is known of a chain by name: the parameters of its macros, and the names of its blocks.
+use Rattle.std.specs.Prelude.{◌≡◌, ◌⊎◌, ℕ, ℤ, Bool, not, nat_lt, List, length, Option, Some, None, option_map}
+use mathlib.Core.Path.{refl}
+use mathlib.Core.Logic.{inl, inr}
+use Rattle.std.specs.Coded.{Coded, Coded-set, coded_ℕ, coded_ℤ, coded_bool, coded_list, coded_option, coded×, coded⊎, code_by, Π_prop}
+use Rattle.std.specs.Ordering.{nat_cmp}
+use Rattle.std.specs.Cmp.Lexicographic.{slice_cmp}
+use Rattle.std.specs.BTreeMap as sorted
+use Rattle.std.specs.BTreeMap.{BTreeMap}
+use Rattle.std.specs.BTreeSet as set
+use Rattle.std.specs.BTreeSet.{BTreeSet}
+use denote.Ref.{Bor}
+use Rattle.jt_expr.specs.Trees.{Literal, number, text, truth, nothing}
+use Rattle.jt_parse.specs.Trees as trees
+use Rattle.jt_parse.specs.Trees.{Text}
+use Rattle.jt_parse.specs.View.{parameters_view}
+use Rattle.jt_parse.specs.declared.tree.Parameter.{Parameter}
+use Rattle.jt_chains.specs.Chain.{Home, MacroBody, macros, macro_of, bodies}
+use Rattle.jt_chains.specs.Places.{home_at}
+use Rattle.jt_chains.specs.View.{chain_view}
+use Rattle.jt_chains.specs.declared.linked.Chain.{Chain}
+pub use Rattle.jt_uses.specs.Names.{texts}
+use Rattle.jt_rules.specs.World.{World, world_of}
+
+-- the parameters of a macro, if there is one
+abbrev pub parameters_of : Option MacroBody → Option (List trees.Parameter)
+parameters_of None = None
+parameters_of (Some m) = Some m.parameters
+
+abbrev pub ByName : Type 0
+ByName = BTreeMap (Bor Text) (Bor (List Parameter))
+
+abbrev pub parameters_at : ByName → Text → Option (List trees.Parameter)
+parameters_at m x = option_map (λ ps. parameters_view ps.now) (sorted.get_by (λ k. slice_cmp nat_cmp x k.now) m)
+
+abbrev pub Names : Type 0
+Names = BTreeSet (Bor Text)
+
+abbrev pub is_among : Names → Text → Bool
+is_among s x = set.contains_by (λ k. slice_cmp nat_cmp x k.now) s
+
+unfoldable pub world_in : Chain → World
+world_in c = world_of (chain_view c)
+
+unfoldable pub home_in : Chain → ℕ → Home
+home_in c i = home_at (chain_view c).order i
+
+abbrev pub is_block : World → Home → Text → Bool
+is_block world home x = not (nat_lt (length (bodies world.sources world.escaping home x)) 1)
+
+-- a map has the parameters of each macro of a chain
+abbrev pub KnowsMacros : Chain → ℕ → ByName → Type 0
+KnowsMacros c i m = (x : Text) → parameters_at m x ≡ parameters_of (macro_of x (macros (world_in c).sources (home_in c i)))
+
+-- a set has the name of each block of a chain
+abbrev pub KnowsBlocks : Chain → ℕ → Names → Type 0
+KnowsBlocks c i s = (x : Text) → is_among s x ≡ is_block (world_in c) (home_in c i) x
+
+-- ---- both are propositions: a literal and a parameter have codes
+
+abbrev literal_code : Literal → ℤ ⊎ (Text ⊎ Option Bool)
+literal_code (number n) = inl n
+literal_code (text x) = inr (inl x)
+literal_code (truth b) = inr (inr (Some b))
+literal_code nothing = inr (inr None)
+
+abbrev literal_of : ℤ ⊎ (Text ⊎ Option Bool) → Literal
+literal_of (inl n) = number n
+literal_of (inr (inl x)) = text x
+literal_of (inr (inr (Some b))) = truth b
+literal_of (inr (inr None)) = nothing
+
+literal_back : (l : Literal) → literal_of (literal_code l) ≡ l
+literal_back (number n) = refl
+literal_back (text x) = refl
+literal_back (truth b) = refl
+literal_back nothing = refl
+
+coded_text : Coded Text
+coded_text = coded_list coded_ℕ
+
+coded_literal : Coded Literal
+coded_literal = code_by (ℤ ⊎ (Text ⊎ Option Bool)) (coded⊎ coded_ℤ (coded⊎ coded_text (coded_option coded_bool))) literal_code literal_of literal_back
+
+coded_parameter : Coded trees.Parameter
+coded_parameter = code_by (Text × Option Literal) (coded× coded_text (coded_option coded_literal)) (λ p. (p.name, p.default)) (λ c. record { name = c.0; default = c.1 }) (λ p. refl)
+
+pub KnowsMacros-prop : (c : Chain) (i : ℕ) (m : ByName) → IsProp (KnowsMacros c i m)
+KnowsMacros-prop c i m = Π_prop (λ x. Coded-set (coded_option (coded_list coded_parameter)) (parameters_at m x) (parameters_of (macro_of x (macros (world_in c).sources (home_in c i)))))
+
+pub KnowsBlocks-prop : (c : Chain) (i : ℕ) (s : Names) → IsProp (KnowsBlocks c i s)
+KnowsBlocks-prop c i s = Π_prop (λ x. Coded-set coded_bool (is_among s x) (is_block (world_in c) (home_in c i) x))

@@ -1,0 +1,300 @@
+//! Whether arguments fit what they are given to.
+
+ghost use Rattle.std.specs.Prelude.{◌≡◌, ◌<◌, ◌≤◌, ◌^◌, ◌&&◌, not, length, drop, IfOk};
+ghost use Rattle.std.specs.List.{list_any};
+ghost use Rattle.jt_expr.specs.View.{exprs_view, pairs_view};
+ghost use Rattle.jt_parse.specs.Texts.{among, repeated};
+ghost use Rattle.jt_parse.specs.Trees.{Text};
+ghost use Rattle.jt_parse.specs.View.{names_view, parameter_view, parameters_view};
+ghost use Rattle.jt_chains.specs.Uses.{count, keywords};
+ghost use Rattle.jt_slots.specs.TheFilters.{the_filters, filter_parameters};
+ghost use Rattle.jt_slots.specs.Inside.{names_well};
+ghost use Rattle.jt_slots.specs.Tests.{test_named};
+ghost use Rattle.jt_rules.specs.Walk as rules;
+ghost use Rattle.jt_checks.specs.Fitting.{filter_takes};
+ghost use Rattle.jt_checks.specs.Standing.{texts, is_among};
+
+use crate::inside::are_names_well;
+use jt_expr::Expr;
+use jt_ids::FilterId;
+use jt_parse::Parameter;
+use jt_rules::ScopeError;
+use jt_slots::{filter_of, filter_parameters, test_of};
+use std::alloc::{AllocError, Global};
+use std::collections::BTreeSet;
+
+/// The rule, where something is wrong.
+pub(crate) fn refused(wrong: bool, rule: ScopeError) -> Option<ScopeError>
+    ensures { result ≡ rules.refused wrong rule }
+{
+    if wrong { Some(rule) } else { None }
+}
+
+/// What arguments break that ought to be right.
+pub(crate) fn unless(right: bool) -> Option<ScopeError>
+    ensures { result ≡ rules.unless right }
+{
+    if right {
+        None
+    } else {
+        Some(ScopeError::BadArguments)
+    }
+}
+
+/// The names of arguments that are given by name, or the keys of a map.
+pub(crate) fn keywords_of<'a>(
+    alloc: Global,
+    pairs: &'a [(String, Expr)],
+) -> Result<Vec<&'a str>, AllocError>
+    ensures { IfOk result (λ names. texts names.items ≡ keywords (pairs_view pairs.now)) }
+{
+    let mut names = Vec::with_capacity(alloc, pairs.len())?;
+    for (name, _) in pairs {
+        names.push(name.as_str())?;
+    }
+    Ok(names)
+}
+
+/// The names of parameters.
+pub(crate) fn parameter_names<'a>(
+    alloc: Global,
+    parameters: &'a [Parameter],
+) -> Result<Vec<&'a str>, AllocError>
+    ensures { IfOk result
+        (λ names. texts names.items ≡ rules.parameter_names (parameters_view parameters.now)) }
+{
+    let mut names = Vec::with_capacity(alloc, parameters.len())?;
+    for parameter in parameters {
+        names.push(parameter.name.as_str())?;
+    }
+    Ok(names)
+}
+
+/// The names of targets.
+pub(crate) fn target_names<'a>(
+    alloc: Global,
+    targets: &'a [String],
+) -> Result<Vec<&'a str>, AllocError>
+    ensures { IfOk result (λ names. texts names.items ≡ names_view targets.now) }
+{
+    let mut names = Vec::with_capacity(alloc, targets.len())?;
+    for target in targets {
+        names.push(target.as_str())?;
+    }
+    Ok(names)
+}
+
+/// Whether one of the names comes again.
+pub(crate) fn any_repeated(alloc: Global, names: &[&str]) -> Result<bool, AllocError>
+    ensures { IfOk result (λ b. b ≡ repeated (texts names.now)) }
+{
+    let mut seen = BTreeSet::new(alloc);
+    for name in names {
+        if !seen.insert(*name)? {
+            return Ok(true);
+        }
+    }
+    Ok(false)
+}
+
+/// The names, each once.
+fn set_of<'a>(alloc: Global, names: &[&'a str]) -> Result<BTreeSet<&'a str>, AllocError>
+    ensures { IfOk result (λ s. (x : Text) → is_among s x ≡ among x (texts names.now)) }
+{
+    let mut set = BTreeSet::new(alloc);
+    for name in names {
+        set.insert(*name)?;
+    }
+    Ok(set)
+}
+
+/// Whether each name is among those that are known.
+fn all_known(alloc: Global, names: &[&str], known: &[&str]) -> Result<bool, AllocError>
+    ensures { IfOk result
+        (λ b. b ≡ not (list_any (λ k. not (among k (texts known.now))) (texts names.now))) }
+{
+    let set = set_of(alloc, known)?;
+    for name in names {
+        if !set.contains(*name) {
+            return Ok(false);
+        }
+    }
+    Ok(true)
+}
+
+/// Whether names are given once each, and only to parameters behind those that are filled by
+/// place.
+fn names_fit(
+    alloc: Global,
+    parameters: &[Parameter],
+    filled: usize,
+    names: &[&str],
+) -> Result<bool, AllocError>
+    ensures { IfOk result (λ b. b
+        ≡ (not (repeated (texts names.now))
+        && not (list_any
+        (λ k. not (among k (rules.parameter_names (drop filled (parameters_view parameters.now)))))
+        (texts names.now)))) }
+{
+    if any_repeated(alloc, names)? {
+        return Ok(false);
+    }
+    let from = filled.min(parameters.len());
+    let left = parameter_names(alloc, &parameters[from..])?;
+    all_known(alloc, names, &left)
+}
+
+/// Whether arguments fit the parameters of a macro.
+pub(crate) fn fits(
+    alloc: Global,
+    parameters: &[Parameter],
+    row: &[Expr],
+    pairs: &[(String, Expr)],
+) -> Result<bool, AllocError>
+    ensures { IfOk result (λ b. b
+        ≡ rules.fits (parameters_view parameters.now) (count (exprs_view row.now))
+        (keywords (pairs_view pairs.now))) }
+{
+    if parameters.len() < row.len() {
+        return Ok(false);
+    }
+    let names = keywords_of(alloc, pairs)?;
+    names_fit(alloc, parameters, row.len(), &names)
+}
+
+/// What the arguments of `range` break.
+#[tactic(auto, using(crate::proofs::Shown::counted, crate::proofs::Shown::keyless))]
+pub(crate) fn range_broken(row: &[Expr], pairs: &[(String, Expr)]) -> Option<ScopeError>
+    ensures { result ≡ rules.range_broken (exprs_view row.now) (pairs_view pairs.now) }
+{
+    let given = row.len();
+    unless(0 < given && given < 4 && pairs.is_empty())
+}
+
+/// What the arguments of a test break.
+#[tactic(auto, using(crate::proofs::Shown::counted, crate::proofs::Shown::keyless))]
+pub(crate) fn test_broken(name: &str, row: &[Expr], pairs: &[(String, Expr)]) -> Option<ScopeError>
+    ensures { result
+        ≡ rules.test_broken (test_named name.now) (exprs_view row.now) (pairs_view pairs.now) }
+{
+    let test = test_of(name)?;
+    unless(test.takes(row.len() + 1) && pairs.is_empty())
+}
+
+/// Whether a parameter is among the names.
+fn is_given(parameter: &Parameter, names: &[&str]) -> bool
+    ensures { result ≡ among (parameter_view parameter.now).name (texts names.now) }
+{
+    for name in names {
+        if *name == parameter.name.as_str() {
+            return true;
+        }
+    }
+    false
+}
+
+/// How many of the parameters come before the last one that is given by name, with it.
+fn reached(parameters: &[Parameter], names: &[&str]) -> usize
+    ensures value { result ≡ rules.reached (parameters_view parameters.now) (texts names.now) }
+    ensures within { result ≤ length parameters.now }
+{
+    let mut last = parameters.len();
+    while 0 < last {
+        if is_given(&parameters[last - 1], names) {
+            return last;
+        }
+        last -= 1;
+    }
+    0
+}
+
+/// Whether each parameter up to the last one that is given by name is given, or has a default.
+fn is_filled(parameters: &[Parameter], names: &[&str]) -> bool
+    ensures { result ≡ rules.is_filled (parameters_view parameters.now) 0 (texts names.now) }
+{
+    let counted = &parameters[..reached(parameters, names)];
+    for parameter in counted {
+        if !is_given(parameter, names) && parameter.default.is_none() {
+            return false;
+        }
+    }
+    true
+}
+
+/// What the arguments of a filter break.
+pub(crate) fn filter_broken(
+    alloc: Global,
+    name: &str,
+    row: &[Expr],
+    pairs: &[(String, Expr)],
+) -> Result<Option<ScopeError>, AllocError>
+    ensures { IfOk result (λ o. o
+        ≡ rules.filter_broken the_filters
+        (the_filters.named name.now (exprs_view row.now) (pairs_view pairs.now))
+        (exprs_view row.now) (pairs_view pairs.now)) }
+{
+    match filter_of(name, row, pairs) {
+        Some(filter) => Ok(unless(filter_accepts(alloc, filter, row, pairs)?)),
+        None => Ok(None),
+    }
+}
+
+/// Whether a filter takes these arguments, and what they name is named rightly.
+fn filter_accepts(
+    alloc: Global,
+    filter: FilterId,
+    row: &[Expr],
+    pairs: &[(String, Expr)],
+) -> Result<bool, AllocError>
+    ensures { IfOk result (λ b. b
+        ≡ (filter_takes filter (filter_parameters filter) (length row.now)
+        (keywords (pairs_view pairs.now))
+        && names_well filter (exprs_view row.now) (pairs_view pairs.now))) }
+{
+    if !filter_fits(alloc, filter, row.len(), pairs)? {
+        return Ok(false);
+    }
+    Ok(are_names_well(filter, row, pairs))
+}
+
+/// Whether a filter takes so many arguments by place, and these by name.
+fn filter_fits(
+    alloc: Global,
+    filter: FilterId,
+    filled: usize,
+    pairs: &[(String, Expr)],
+) -> Result<bool, AllocError>
+    requires { filled < 2 ^ 63 }
+    ensures { IfOk result (λ b. b
+        ≡ filter_takes filter (filter_parameters filter) filled (keywords (pairs_view pairs.now))) }
+{
+    if pairs.is_empty() {
+        return Ok(filter.takes(filled + 1));
+    }
+    let parameters = filter_parameters(alloc, filter)?;
+    let names = keywords_of(alloc, pairs)?;
+    filter_takes(alloc, filter, &parameters, filled, &names)
+}
+
+/// Whether a filter with these parameters takes so many arguments by place, and others by name.
+fn filter_takes(
+    alloc: Global,
+    filter: FilterId,
+    parameters: &[Parameter],
+    filled: usize,
+    names: &[&str],
+) -> Result<bool, AllocError>
+    requires { filled < 2 ^ 63 }
+    ensures { IfOk result
+        (λ b. b ≡ filter_takes filter (parameters_view parameters.now) filled (texts names.now)) }
+{
+    let from = filled.min(parameters.len());
+    let values = filled.max(reached(parameters, names)) + 1;
+    if !filter.takes(values) {
+        return Ok(false);
+    }
+    if !is_filled(&parameters[from..], names) {
+        return Ok(false);
+    }
+    names_fit(alloc, parameters, filled, names)
+}

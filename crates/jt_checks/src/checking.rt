@@ -1,0 +1,125 @@
+//! Whether chains keep the static rules of names and calls.
+
+ghost use Rattle.std.specs.Prelude.{◌≡◌, ◌<◌, nat_lt, nat_le, false, length, IfOk, OnOk, IfErr};
+ghost use Rattle.std.specs.Option.{option_or};
+ghost use Rattle.jt_parse.specs.Texts.{ascending};
+ghost use Rattle.jt_parse.specs.Trees.{body_bound};
+ghost use Rattle.jt_parse.specs.View.{body_view};
+ghost use Rattle.jt_chains.specs.Chain.{templates};
+ghost use Rattle.jt_chains.specs.Uses.{own_names};
+ghost use Rattle.jt_chains.specs.View.{chain_view};
+ghost use Rattle.jt_rules.specs.Walk as rules;
+ghost use Rattle.jt_rules.specs.Rules.{KeepsRules, Breaks, max_bindings, max_names};
+ghost use Rattle.jt_checks.specs.ScopeView.{its_world, its_home};
+ghost use Rattle.jt_checks.specs.Standing.{world_in, home_in};
+ghost use Rattle.jt_rules.specs.World.{world_of};
+ghost use Rattle.jt_rules.specs.declared.error.ScopeError.TheVariants as error;
+
+use crate::arguments::refused;
+use crate::bindings::bound_in;
+use crate::scope::{Scope, Within};
+use crate::statements::body_broken;
+use jt_chains::Chain;
+use jt_parse::Stmt;
+use jt_rules::ScopeError;
+use jt_uses::own_names;
+use std::alloc::{AllocError, Global};
+
+/// The greatest number of names that a template binds, as often as written.
+const MAX_BINDINGS: usize = 4_096;
+
+/// The greatest number of names that the chains read or bind, once a chain.
+const MAX_NAMES: usize = 65_535;
+
+/// Whether the chains keep the rules of names and calls.
+///
+/// # Errors
+///
+/// A rule that the chains break; `NoMemory` where a growth was refused.
+pub fn check_rules(alloc: Global, chain: &Chain) -> Result<(), ScopeError>
+    ensures kept { OnOk result
+        (KeepsRules (world_of (chain_view chain.now)) (chain_view chain.now).order) }
+    ensures refused { IfErr result
+        (λ e. Breaks e (world_of (chain_view chain.now)) (chain_view chain.now).order) }
+{
+    if let Some(rule) = chains_broken(alloc, chain)? {
+        return Err(rule);
+    }
+    if has_few_names(alloc, chain)? {
+        Ok(())
+    } else {
+        Err(ScopeError::TooManySlots)
+    }
+}
+
+/// The first rule that the chains break by their forms.
+fn chains_broken(alloc: Global, chain: &Chain) -> Result<Option<ScopeError>, AllocError>
+    ensures { IfOk result
+        (λ o. o ≡ rules.chains_broken (world_in chain.now) (chain_view chain.now).order) }
+{
+    for home in 0..chain.homes.len() {
+        let scope = Scope::new(alloc, chain, home)?;
+        if let Some(rule) = templates_broken(&scope)? {
+            return Ok(Some(rule));
+        }
+    }
+    Ok(None)
+}
+
+/// The first rule that the templates of a chain break.
+fn templates_broken(scope: &Scope<'_>) -> Result<Option<ScopeError>, AllocError>
+    ensures { IfOk result (λ o. o
+        ≡ rules.templates_broken (its_world scope.now) (its_home scope.now)
+        (templates (its_world scope.now).sources (its_home scope.now))) }
+{
+    let layers = scope.chain.layers(scope.alloc, scope.home)?;
+    for layer in layers.iter() {
+        if let Some(rule) = template_broken(scope, layer.body)? {
+            return Ok(Some(rule));
+        }
+    }
+    Ok(None)
+}
+
+/// The first rule that the statements of a template break.
+fn template_broken(scope: &Scope<'_>, body: &[Stmt]) -> Result<Option<ScopeError>, AllocError>
+    ensures { IfOk result (λ o. o
+        ≡ option_or (rules.body_broken (its_world scope.now) (its_home scope.now)
+        (body_view body.now) (record { in_loop = false; in_block = false }))
+        (rules.refused (nat_lt max_bindings (body_bound (body_view body.now)))
+        error.TooManySlots)) }
+{
+    let around = Within {
+        in_loop: false,
+        in_block: false,
+    };
+    if let Some(rule) = body_broken(scope, around, body)? {
+        return Ok(Some(rule));
+    }
+    let bound = bound_in(body);
+    Ok(refused(MAX_BINDINGS < bound, ScopeError::TooManySlots))
+}
+
+/// Whether the chains read or bind few enough names, once a chain.
+fn has_few_names(alloc: Global, chain: &Chain) -> Result<bool, AllocError>
+    ensures { IfOk result (λ b. b
+        ≡ nat_le (rules.names_counted (world_in chain.now) (chain_view chain.now).order) max_names) }
+{
+    let mut left = MAX_NAMES;
+    for home in 0..chain.homes.len() {
+        let Some(less) = left.checked_sub(count_names(alloc, chain, home)?) else {
+            return Ok(false);
+        };
+        left = less;
+    }
+    Ok(true)
+}
+
+/// How many different names a chain reads or binds.
+fn count_names(alloc: Global, chain: &Chain, home: usize) -> Result<usize, AllocError>
+    requires { home < length chain.now.homes.items }
+    ensures { IfOk result (λ n.
+        n ≡ length (ascending (own_names (world_in chain.now).sources (home_in chain.now home)))) }
+{
+    Ok(own_names(alloc, chain, home)?.len())
+}

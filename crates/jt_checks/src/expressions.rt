@@ -1,0 +1,432 @@
+//! The static rules of expressions: the first that is broken, from left to right.
+
+ghost use Rattle.std.specs.Prelude.{◌≡◌, ◌&&◌, ◌==◌, nat_lt, not, is_some, IfOk, IsOkAnd, option_map};
+ghost use Rattle.std.specs.Option.{option_or};
+ghost use Rattle.jt_expr.specs.Trees as trees;
+ghost use Rattle.jt_expr.specs.View.{expr_view, exprs_view, pairs_view};
+ghost use Rattle.jt_chains.specs.Chain.{callee, macros, named_alone, named_in, macro_of, is_loop};
+ghost use Rattle.jt_chains.specs.Uses.{count};
+ghost use Rattle.jt_parse.specs.Trees.{Text};
+ghost use Rattle.jt_slots.specs.Loops.{field_named};
+ghost use Rattle.jt_rules.specs.Walk as rules;
+ghost use Rattle.jt_checks.specs.Standing.{texts, is_block};
+ghost use Rattle.jt_checks.specs.ScopeView.{its_world, its_home, within_view, name_in};
+ghost use Rattle.jt_rules.specs.declared.error.ScopeError.TheVariants as error;
+
+use crate::arguments::{filter_broken, fits, range_broken, refused, test_broken, unless};
+use crate::scope::{Scope, Within};
+use jt_expr::Expr;
+use jt_rules::ScopeError;
+use std::alloc::AllocError;
+
+/// What a name breaks that is read by itself.
+pub(crate) fn read_alone(name: &str) -> Option<ScopeError>
+    ensures { result ≡ rules.read_alone name.now }
+{
+    match name {
+        "loop" => Some(ScopeError::LoopOutside),
+        "self" | "super" | "range" => Some(ScopeError::NotCallable),
+        _ => None,
+    }
+}
+
+/// What a name breaks that is read as a value, or bound.
+pub(crate) fn used(scope: &Scope<'_>, name: &str) -> Option<ScopeError>
+    ensures { result ≡ rules.used (its_world scope.now) (its_home scope.now) name.now }
+{
+    read_alone(name).or(refused(scope.is_macro(name), ScopeError::MacroAsValue))
+}
+
+/// The first rule that names break which are read or bound.
+pub(crate) fn all_used(scope: &Scope<'_>, names: &[&str]) -> Option<ScopeError>
+    ensures { result ≡ rules.all_used (its_world scope.now) (its_home scope.now) (texts names.now) }
+{
+    for name in names {
+        if let Some(rule) = used(scope, name) {
+            return Some(rule);
+        }
+    }
+    None
+}
+
+/// Whether `loop` has a field of this name.
+fn is_field(name: &str) -> bool
+    ensures { result ≡ is_some (field_named name.now) }
+{
+    matches!(
+        name,
+        "index"
+            | "index0"
+            | "revindex"
+            | "revindex0"
+            | "first"
+            | "last"
+            | "length"
+            | "previtem"
+            | "nextitem"
+    )
+}
+
+/// Whether an expression is the bare name `loop`.
+pub(crate) fn names_loop(expr: &Expr) -> bool
+    ensures { result ≡ is_loop (expr_view expr.now) }
+{
+    match expr {
+        Expr::Name(name) => name.as_str() == "loop",
+        _ => false,
+    }
+}
+
+/// What a call of a bare name breaks by itself.
+fn name_call_broken(
+    scope: &Scope<'_>,
+    within: Within,
+    name: &str,
+    row: &[Expr],
+    pairs: &[(String, Expr)],
+) -> Result<Option<ScopeError>, AllocError>
+    ensures { IfOk result (λ o. o
+        ≡ rules.call_broken (its_world scope.now) (its_home scope.now) (named_alone
+        (macro_of name.now (macros (its_world scope.now).sources (its_home scope.now))) name.now)
+        (within_view within) (trees.name name.now) (exprs_view row.now) (pairs_view pairs.now)) }
+{
+    if let Some(parameters) = scope.parameters_of(name) {
+        return Ok(unless(fits(scope.alloc, parameters, row, pairs)?));
+    }
+    Ok(match name {
+        "range" => range_broken(row, pairs),
+        "super" => super_broken(within, row, pairs),
+        _ => Some(ScopeError::NotCallable),
+    })
+}
+
+/// What a call of `super` breaks.
+#[tactic(auto, using(crate::proofs::Shown::counted, crate::proofs::Shown::keyless))]
+fn super_broken(within: Within, row: &[Expr], pairs: &[(String, Expr)]) -> Option<ScopeError>
+    ensures { result
+        ≡ option_or (rules.refused (not within.in_block) error.NotCallable)
+        (rules.unless
+        ((count (exprs_view row.now) == 0) && rules.no_keywords (pairs_view pairs.now))) }
+{
+    let outside = refused(!within.in_block, ScopeError::NotCallable);
+    outside.or(unless(row.is_empty() && pairs.is_empty()))
+}
+
+/// What a call of `self.b` breaks.
+#[tactic(auto, using(crate::proofs::Shown::counted, crate::proofs::Shown::keyless, crate::proofs::Known::not_not))]
+fn self_broken(
+    scope: &Scope<'_>,
+    block: &str,
+    row: &[Expr],
+    pairs: &[(String, Expr)],
+) -> Option<ScopeError>
+    ensures { result
+        ≡ option_or (rules.refused
+        (not (is_block (its_world scope.now) (its_home scope.now) block.now)) error.NotCallable)
+        (rules.unless
+        ((count (exprs_view row.now) == 0) && rules.no_keywords (pairs_view pairs.now))) }
+{
+    let unknown = refused(!scope.is_block(block), ScopeError::NotCallable);
+    unknown.or(unless(row.is_empty() && pairs.is_empty()))
+}
+
+/// What a call of `loop.cycle` breaks.
+#[tactic(auto, using(crate::proofs::Shown::counted, crate::proofs::Shown::keyless))]
+fn cycle_broken(within: Within, row: &[Expr], pairs: &[(String, Expr)]) -> Option<ScopeError>
+    ensures { result
+        ≡ option_or (rules.refused (not within.in_loop) error.LoopOutside)
+        (rules.unless
+        (nat_lt 0 (count (exprs_view row.now)) && rules.no_keywords (pairs_view pairs.now))) }
+{
+    let given = row.len();
+    let outside = refused(!within.in_loop, ScopeError::LoopOutside);
+    outside.or(unless(0 < given && pairs.is_empty()))
+}
+
+/// What a call breaks by itself that goes by an attribute: `self.b` and `loop.cycle`.
+#[tactic(auto, using(crate::proofs::Known::not_not))]
+fn field_call_broken(
+    scope: &Scope<'_>,
+    within: Within,
+    of: &str,
+    field: &str,
+    row: &[Expr],
+    pairs: &[(String, Expr)],
+) -> Option<ScopeError>
+    ensures { result
+        ≡ rules.call_broken (its_world scope.now) (its_home scope.now) (named_in of.now field.now)
+        (within_view within) (trees.name of.now) (exprs_view row.now) (pairs_view pairs.now) }
+{
+    match (of, field) {
+        ("self", _) => self_broken(scope, field, row, pairs),
+        ("loop", "cycle") => cycle_broken(within, row, pairs),
+        _ => Some(ScopeError::NotCallable),
+    }
+}
+
+/// What a call breaks by itself, by what it names.
+#[tactic(auto, using(crate::proofs::Forms::attribute_callee))]
+fn call_broken(
+    scope: &Scope<'_>,
+    within: Within,
+    called: &Expr,
+    row: &[Expr],
+    pairs: &[(String, Expr)],
+) -> Result<Option<ScopeError>, AllocError>
+    ensures { IfOk result (λ o. o
+        ≡ rules.call_broken (its_world scope.now) (its_home scope.now)
+        (callee (macros (its_world scope.now).sources (its_home scope.now)) (expr_view called.now))
+        (within_view within) (expr_view called.now) (exprs_view row.now) (pairs_view pairs.now)) }
+{
+    match called {
+        Expr::Name(name) => name_call_broken(scope, within, name, row, pairs),
+        Expr::Attribute(value, field) => match name_of(value) {
+            Some(of) => Ok(field_call_broken(scope, within, of, field, row, pairs)),
+            None => Ok(Some(ScopeError::NotCallable)),
+        },
+        _ => Ok(Some(ScopeError::NotCallable)),
+    }
+}
+
+/// The name that an expression is, if it is one.
+fn name_of(expr: &Expr) -> Option<&str>
+    ensures { option_map (λ x. x.now) result ≡ name_in (expr_view expr.now) }
+{
+    match expr {
+        Expr::Name(name) => Some(name.as_str()),
+        _ => None,
+    }
+}
+
+// The arms of the two functions below have no early exit: a match with many of them is dear to prove.
+
+/// The first of two rules.
+fn either(
+    first: Result<Option<ScopeError>, AllocError>,
+    second: Result<Option<ScopeError>, AllocError>,
+) -> Result<Option<ScopeError>, AllocError>
+    ensures { IfOk result
+        (λ o. IsOkAnd first (λ a. IsOkAnd second (λ b. o ≡ option_or a b))) }
+{
+    let first = first?;
+    let second = second?;
+    Ok(first.or(second))
+}
+
+/// The first rule that an expression breaks.
+#[tactic(auto, using(crate::proofs::Shown::shown_Map))]
+#[cycle(broken)]
+pub(crate) fn broken(
+    scope: &Scope<'_>,
+    within: Within,
+    expr: &Expr,
+) -> Result<Option<ScopeError>, AllocError>
+    ensures { IfOk result (λ o. o
+        ≡ rules.broken (its_world scope.now) (its_home scope.now) (expr_view expr.now)
+        (within_view within)) }
+{
+    match expr {
+        Expr::Constant(_) => Ok(None),
+        Expr::Name(name) => Ok(used(scope, name)),
+        Expr::Group(inside) => broken(scope, within, inside),
+        Expr::List(row) => row_broken(scope, within, row),
+        Expr::Map(pairs) => pairs_broken(scope, within, pairs),
+        Expr::Attribute(value, field) => attribute_broken(scope, within, value, field),
+        Expr::Item(value, index) => both_broken(scope, within, value, index),
+        Expr::Call(called, row, pairs) => {
+            let callee = called_broken(scope, within, called);
+            let call = call_broken(scope, within, called, row, pairs);
+            or_arguments_broken(scope, within, either(callee, call), row, pairs)
+        }
+        Expr::Filter(value, name, row, pairs) => {
+            let call = filter_broken(scope.alloc, name, row, pairs);
+            let input = broken(scope, within, value);
+            or_arguments_broken(scope, within, either(call, input), row, pairs)
+        }
+        Expr::Test(value, _, name, row, pairs) => {
+            let call = test_broken(name, row, pairs);
+            let input = broken(scope, within, value);
+            or_arguments_broken(scope, within, either(Ok(call), input), row, pairs)
+        }
+        Expr::Unary(_, operand) => broken(scope, within, operand),
+        Expr::Binary(_, left, right) => both_broken(scope, within, left, right),
+        Expr::When(condition, value) => both_broken(scope, within, condition, value),
+        Expr::Choice(condition, value, other) => {
+            three_broken(scope, within, condition, value, other)
+        }
+    }
+}
+
+/// The first rule that what is called breaks, where the named forms are no values that are read.
+#[tactic(auto, using(crate::proofs::Shown::shown_Map))]
+#[cycle(broken)]
+fn called_broken(
+    scope: &Scope<'_>,
+    within: Within,
+    called: &Expr,
+) -> Result<Option<ScopeError>, AllocError>
+    ensures { IfOk result (λ o. o
+        ≡ rules.called_broken (its_world scope.now) (its_home scope.now) (expr_view called.now)
+        (within_view within)) }
+{
+    match called {
+        Expr::Constant(_) => Ok(None),
+        Expr::Name(name) => Ok(refused(name.as_str() == "loop", ScopeError::LoopOutside)),
+        Expr::Group(inside) => broken(scope, within, inside),
+        Expr::List(row) => row_broken(scope, within, row),
+        Expr::Map(pairs) => pairs_broken(scope, within, pairs),
+        Expr::Attribute(value, field) => field_read_broken(scope, within, value, field),
+        Expr::Item(value, index) => both_broken(scope, within, value, index),
+        Expr::Call(inner, row, pairs) => {
+            let callee = called_broken(scope, within, inner);
+            or_arguments_broken(scope, within, callee, row, pairs)
+        }
+        Expr::Filter(value, _, row, pairs) => {
+            let input = broken(scope, within, value);
+            or_arguments_broken(scope, within, input, row, pairs)
+        }
+        Expr::Test(value, _, _, row, pairs) => {
+            let input = broken(scope, within, value);
+            or_arguments_broken(scope, within, input, row, pairs)
+        }
+        Expr::Unary(_, operand) => broken(scope, within, operand),
+        Expr::Binary(_, left, right) => both_broken(scope, within, left, right),
+        Expr::When(condition, value) => both_broken(scope, within, condition, value),
+        Expr::Choice(condition, value, other) => {
+            three_broken(scope, within, condition, value, other)
+        }
+    }
+}
+
+/// The first rule that two expressions break.
+#[cycle(broken)]
+fn both_broken(
+    scope: &Scope<'_>,
+    within: Within,
+    first: &Expr,
+    second: &Expr,
+) -> Result<Option<ScopeError>, AllocError>
+    ensures { IfOk result (λ o. o
+        ≡ option_or (rules.broken (its_world scope.now) (its_home scope.now) (expr_view first.now)
+        (within_view within)) (rules.broken (its_world scope.now) (its_home scope.now)
+        (expr_view second.now) (within_view within))) }
+{
+    let first = broken(scope, within, first);
+    let second = broken(scope, within, second);
+    either(first, second)
+}
+
+/// The first rule that three expressions break.
+#[cycle(broken)]
+fn three_broken(
+    scope: &Scope<'_>,
+    within: Within,
+    first: &Expr,
+    second: &Expr,
+    third: &Expr,
+) -> Result<Option<ScopeError>, AllocError>
+    ensures { IfOk result (λ o. o
+        ≡ option_or (rules.broken (its_world scope.now) (its_home scope.now) (expr_view first.now)
+        (within_view within)) (option_or (rules.broken (its_world scope.now) (its_home scope.now)
+        (expr_view second.now) (within_view within)) (rules.broken (its_world scope.now)
+        (its_home scope.now) (expr_view third.now) (within_view within)))) }
+{
+    let first = broken(scope, within, first);
+    let others = both_broken(scope, within, second, third);
+    either(first, others)
+}
+
+/// The rule that is broken before arguments, or else the first one that they break.
+#[cycle(broken)]
+fn or_arguments_broken(
+    scope: &Scope<'_>,
+    within: Within,
+    before: Result<Option<ScopeError>, AllocError>,
+    row: &[Expr],
+    pairs: &[(String, Expr)],
+) -> Result<Option<ScopeError>, AllocError>
+    ensures { IfOk result (λ o. IsOkAnd before (λ first. o
+        ≡ option_or first (option_or (rules.row_broken (its_world scope.now) (its_home scope.now)
+        (exprs_view row.now) (within_view within)) (rules.pairs_broken (its_world scope.now)
+        (its_home scope.now) (pairs_view pairs.now) (within_view within))))) }
+{
+    let places = row_broken(scope, within, row);
+    let keywords = pairs_broken(scope, within, pairs);
+    either(before, either(places, keywords))
+}
+
+/// The first rule that an attribute breaks.
+#[cycle(broken)]
+fn attribute_broken(
+    scope: &Scope<'_>,
+    within: Within,
+    value: &Expr,
+    field: &str,
+) -> Result<Option<ScopeError>, AllocError>
+    ensures { IfOk result (λ o. o
+        ≡ rules.broken (its_world scope.now) (its_home scope.now)
+        (trees.attribute (expr_view value.now) field.now) (within_view within)) }
+{
+    if names_loop(value) {
+        let right = within.in_loop && is_field(field);
+        return Ok(refused(!right, ScopeError::LoopOutside));
+    }
+    broken(scope, within, value)
+}
+
+/// The first rule that an attribute breaks which is called.
+#[tactic(auto, using(crate::proofs::Forms::attribute_read))]
+#[cycle(broken)]
+fn field_read_broken(
+    scope: &Scope<'_>,
+    within: Within,
+    value: &Expr,
+    field: &str,
+) -> Result<Option<ScopeError>, AllocError>
+    ensures { IfOk result (λ o. o
+        ≡ rules.called_broken (its_world scope.now) (its_home scope.now)
+        (trees.attribute (expr_view value.now) field.now) (within_view within)) }
+{
+    match name_of(value) {
+        Some(of) => Ok(refused(of == "loop" && field != "cycle", ScopeError::LoopOutside)),
+        None => broken(scope, within, value),
+    }
+}
+
+/// The first rule that a row of expressions breaks.
+#[cycle(broken)]
+pub(crate) fn row_broken(
+    scope: &Scope<'_>,
+    within: Within,
+    row: &[Expr],
+) -> Result<Option<ScopeError>, AllocError>
+    ensures { IfOk result (λ o. o
+        ≡ rules.row_broken (its_world scope.now) (its_home scope.now) (exprs_view row.now)
+        (within_view within)) }
+{
+    for expr in row {
+        if let Some(rule) = broken(scope, within, expr)? {
+            return Ok(Some(rule));
+        }
+    }
+    Ok(None)
+}
+
+/// The first rule that values behind their keys break.
+#[cycle(broken)]
+pub(crate) fn pairs_broken(
+    scope: &Scope<'_>,
+    within: Within,
+    pairs: &[(String, Expr)],
+) -> Result<Option<ScopeError>, AllocError>
+    ensures { IfOk result (λ o. o
+        ≡ rules.pairs_broken (its_world scope.now) (its_home scope.now) (pairs_view pairs.now)
+        (within_view within)) }
+{
+    for (_, value) in pairs {
+        if let Some(rule) = broken(scope, within, value)? {
+            return Ok(Some(rule));
+        }
+    }
+    Ok(None)
+}

@@ -1,0 +1,329 @@
+//! The static rules of statements: the first that is broken, from left to right.
+
+ghost use Rattle.std.specs.Prelude.{◌≡◌, ◌∷◌, [], option_map, true, IfOk};
+ghost use Rattle.std.specs.Option.{option_or};
+ghost use Rattle.jt_expr.specs.View.{expr_view, pairs_view};
+ghost use Rattle.jt_parse.specs.View.{stmt_view, body_view, branches_view, names_view, filtering_view, filterings_view, parameters_view};
+ghost use Rattle.jt_chains.specs.Uses.{keywords};
+ghost use Rattle.jt_rules.specs.Walk as rules;
+ghost use Rattle.jt_checks.specs.ScopeView.{its_world, its_home, within_view};
+
+use crate::arguments::{
+    any_repeated, filter_broken, keywords_of, parameter_names, refused, target_names, unless,
+};
+use crate::expressions::{all_used, broken, pairs_broken, read_alone, row_broken, used};
+use crate::scope::{Scope, Within};
+use jt_expr::Expr;
+use jt_parse::{Filtering, Parameter, Stmt};
+use jt_rules::ScopeError;
+use std::alloc::AllocError;
+
+/// The greatest number of a macro's parameters.
+const MAX_PARAMETERS: usize = 255;
+
+/// What stands around the body of a macro.
+const IN_A_MACRO: Within = Within {
+    in_loop: false,
+    in_block: false,
+};
+
+/// What stands around the body of a block.
+const IN_A_BLOCK: Within = Within {
+    in_loop: false,
+    in_block: true,
+};
+
+/// What stands around the body of a loop.
+fn in_a_loop(within: Within) -> Within
+    ensures { result ≡ record within { in_loop = true } }
+{
+    Within {
+        in_loop: true,
+        in_block: within.in_block,
+    }
+}
+
+/// The first rule that the condition of a loop breaks: `loop` is not there yet.
+fn condition_broken(
+    scope: &Scope<'_>,
+    within: Within,
+    condition: &Option<Expr>,
+) -> Result<Option<ScopeError>, AllocError>
+    ensures { IfOk result (λ o. o
+        ≡ rules.condition_broken (its_world scope.now) (its_home scope.now)
+        (option_map expr_view condition.now) (within_view within)) }
+{
+    let around = Within {
+        in_loop: false,
+        in_block: within.in_block,
+    };
+    match condition {
+        Some(condition) => broken(scope, around, condition),
+        None => Ok(None),
+    }
+}
+
+/// The first rule that targets break.
+fn targets_broken(scope: &Scope<'_>, targets: &[String]) -> Result<Option<ScopeError>, AllocError>
+    ensures { IfOk result (λ o.
+        o ≡ rules.all_used (its_world scope.now) (its_home scope.now) (names_view targets.now)) }
+{
+    Ok(all_used(scope, &target_names(scope.alloc, targets)?))
+}
+
+/// The first rule that values and the names for them break.
+fn bindings_broken(
+    scope: &Scope<'_>,
+    within: Within,
+    pairs: &[(String, Expr)],
+) -> Result<Option<ScopeError>, AllocError>
+    ensures { IfOk result (λ o. o
+        ≡ option_or (rules.pairs_broken (its_world scope.now) (its_home scope.now)
+        (pairs_view pairs.now) (within_view within)) (rules.all_used (its_world scope.now)
+        (its_home scope.now) (keywords (pairs_view pairs.now)))) }
+{
+    if let Some(rule) = pairs_broken(scope, within, pairs)? {
+        return Ok(Some(rule));
+    }
+    Ok(all_used(scope, &keywords_of(scope.alloc, pairs)?))
+}
+
+/// The first rule that the head of a loop breaks.
+fn head_broken(
+    scope: &Scope<'_>,
+    within: Within,
+    targets: &[String],
+    items: &Expr,
+    condition: &Option<Expr>,
+) -> Result<Option<ScopeError>, AllocError>
+    ensures { IfOk result (λ o. o
+        ≡ option_or (rules.broken (its_world scope.now) (its_home scope.now) (expr_view items.now)
+        (within_view within)) (option_or
+        (rules.all_used (its_world scope.now) (its_home scope.now) (names_view targets.now))
+        (rules.condition_broken (its_world scope.now) (its_home scope.now)
+        (option_map expr_view condition.now) (within_view within)))) }
+{
+    if let Some(rule) = broken(scope, within, items)? {
+        return Ok(Some(rule));
+    }
+    if let Some(rule) = targets_broken(scope, targets)? {
+        return Ok(Some(rule));
+    }
+    condition_broken(scope, within, condition)
+}
+
+/// The first rule that an assignment breaks.
+fn set_broken(
+    scope: &Scope<'_>,
+    within: Within,
+    targets: &[String],
+    value: &Expr,
+) -> Result<Option<ScopeError>, AllocError>
+    ensures { IfOk result (λ o. o
+        ≡ option_or (rules.broken (its_world scope.now) (its_home scope.now) (expr_view value.now)
+        (within_view within))
+        (rules.all_used (its_world scope.now) (its_home scope.now) (names_view targets.now))) }
+{
+    if let Some(rule) = broken(scope, within, value)? {
+        return Ok(Some(rule));
+    }
+    targets_broken(scope, targets)
+}
+
+/// The first rule that one filter of a filter tag breaks.
+fn filtering_broken(
+    scope: &Scope<'_>,
+    within: Within,
+    filtering: &Filtering,
+) -> Result<Option<ScopeError>, AllocError>
+    ensures { IfOk result (λ o. o
+        ≡ rules.filtering_broken (its_world scope.now) (its_home scope.now)
+        (filtering_view filtering.now ∷ []) (within_view within)) }
+{
+    let arguments = &filtering.arguments;
+    let keywords = &filtering.keywords;
+    if let Some(rule) = filter_broken(scope.alloc, &filtering.name, arguments, keywords)? {
+        return Ok(Some(rule));
+    }
+    if let Some(rule) = row_broken(scope, within, arguments)? {
+        return Ok(Some(rule));
+    }
+    pairs_broken(scope, within, keywords)
+}
+
+/// The first rule that the filters of a filter tag break.
+fn filterings_broken(
+    scope: &Scope<'_>,
+    within: Within,
+    filterings: &[Filtering],
+) -> Result<Option<ScopeError>, AllocError>
+    ensures { IfOk result (λ o. o
+        ≡ rules.filtering_broken (its_world scope.now) (its_home scope.now)
+        (filterings_view filterings.now) (within_view within)) }
+{
+    for filtering in filterings {
+        if let Some(rule) = filtering_broken(scope, within, filtering)? {
+            return Ok(Some(rule));
+        }
+    }
+    Ok(None)
+}
+
+/// The first rule that a macro's own name and its parameters break.
+fn macro_broken(
+    scope: &Scope<'_>,
+    name: &str,
+    parameters: &[Parameter],
+) -> Result<Option<ScopeError>, AllocError>
+    ensures { IfOk result (λ o. o
+        ≡ rules.macro_broken (its_world scope.now) (its_home scope.now) name.now
+        (parameters_view parameters.now)) }
+{
+    let names = parameter_names(scope.alloc, parameters)?;
+    let own = read_alone(name).or(all_used(scope, &names));
+    let again = unless(!any_repeated(scope.alloc, &names)?);
+    let many = refused(MAX_PARAMETERS < parameters.len(), ScopeError::TooManySlots);
+    Ok(own.or(again.or(many)))
+}
+
+/// The first rule that a choice breaks.
+#[cycle(body)]
+fn choice_broken(
+    scope: &Scope<'_>,
+    within: Within,
+    branches: &[(u32, Expr, Vec<Stmt>)],
+    other: &[Stmt],
+) -> Result<Option<ScopeError>, AllocError>
+    ensures { IfOk result (λ o. o
+        ≡ option_or (rules.branches_broken (its_world scope.now) (its_home scope.now)
+        (branches_view branches.now) (within_view within))
+        (rules.body_broken (its_world scope.now) (its_home scope.now) (body_view other.now)
+        (within_view within))) }
+{
+    if let Some(rule) = branches_broken(scope, within, branches)? {
+        return Ok(Some(rule));
+    }
+    body_broken(scope, within, other)
+}
+
+/// The first rule that the two bodies of a loop break.
+#[cycle(body)]
+fn turns_broken(
+    scope: &Scope<'_>,
+    within: Within,
+    inside: &[Stmt],
+    otherwise: &[Stmt],
+) -> Result<Option<ScopeError>, AllocError>
+    ensures { IfOk result (λ o. o
+        ≡ option_or (rules.body_broken (its_world scope.now) (its_home scope.now)
+        (body_view inside.now) (record (within_view within) { in_loop = true }))
+        (rules.body_broken (its_world scope.now) (its_home scope.now) (body_view otherwise.now)
+        (within_view within))) }
+{
+    if let Some(rule) = body_broken(scope, in_a_loop(within), inside)? {
+        return Ok(Some(rule));
+    }
+    body_broken(scope, within, otherwise)
+}
+
+/// The rule that is broken first, or else the first one that the statements behind it break.
+#[cycle(body)]
+fn or_body_broken(
+    scope: &Scope<'_>,
+    within: Within,
+    first: Option<ScopeError>,
+    inside: &[Stmt],
+) -> Result<Option<ScopeError>, AllocError>
+    ensures { IfOk result (λ o. o
+        ≡ option_or first (rules.body_broken (its_world scope.now) (its_home scope.now)
+        (body_view inside.now) (within_view within))) }
+{
+    match first {
+        Some(rule) => Ok(Some(rule)),
+        None => body_broken(scope, within, inside),
+    }
+}
+
+/// The first rule that a statement breaks.
+#[cycle(body)]
+fn statement_broken(
+    scope: &Scope<'_>,
+    within: Within,
+    statement: &Stmt,
+) -> Result<Option<ScopeError>, AllocError>
+    ensures { IfOk result (λ o. o
+        ≡ rules.stmt_broken (its_world scope.now) (its_home scope.now) (stmt_view statement.now)
+        (within_view within)) }
+{
+    match statement {
+        Stmt::Data(_) | Stmt::Include(..) | Stmt::Extends(..) => Ok(None),
+        Stmt::Print(_, expr) => broken(scope, within, expr),
+        Stmt::If(branches, other) => choice_broken(scope, within, branches, other),
+        Stmt::For(_, targets, items, condition, inside, other) => {
+            match head_broken(scope, within, targets, items, condition)? {
+                Some(rule) => Ok(Some(rule)),
+                None => turns_broken(scope, within, inside, other),
+            }
+        }
+        Stmt::Set(_, targets, value) => set_broken(scope, within, targets, value),
+        Stmt::SetBlock(_, name, inside) => {
+            let target = used(scope, name);
+            or_body_broken(scope, within, target, inside)
+        }
+        Stmt::With(_, pairs, inside) => {
+            let head = bindings_broken(scope, within, pairs)?;
+            or_body_broken(scope, within, head, inside)
+        }
+        Stmt::FilterBlock(_, filterings, inside) => {
+            let head = filterings_broken(scope, within, filterings)?;
+            or_body_broken(scope, within, head, inside)
+        }
+        Stmt::Autoescape(_, _, inside) => body_broken(scope, within, inside),
+        Stmt::Macro(_, name, parameters, inside) => {
+            let head = macro_broken(scope, name, parameters)?;
+            or_body_broken(scope, IN_A_MACRO, head, inside)
+        }
+        Stmt::Block(_, _, _, _, inside) => body_broken(scope, IN_A_BLOCK, inside),
+    }
+}
+
+/// The first rule that the branches of a choice break.
+#[cycle(body)]
+fn branches_broken(
+    scope: &Scope<'_>,
+    within: Within,
+    branches: &[(u32, Expr, Vec<Stmt>)],
+) -> Result<Option<ScopeError>, AllocError>
+    ensures { IfOk result (λ o. o
+        ≡ rules.branches_broken (its_world scope.now) (its_home scope.now)
+        (branches_view branches.now) (within_view within)) }
+{
+    for (_, condition, inside) in branches {
+        if let Some(rule) = broken(scope, within, condition)? {
+            return Ok(Some(rule));
+        }
+        if let Some(rule) = body_broken(scope, within, inside)? {
+            return Ok(Some(rule));
+        }
+    }
+    Ok(None)
+}
+
+/// The first rule that statements break.
+#[cycle(body)]
+pub(crate) fn body_broken(
+    scope: &Scope<'_>,
+    within: Within,
+    body: &[Stmt],
+) -> Result<Option<ScopeError>, AllocError>
+    ensures { IfOk result (λ o. o
+        ≡ rules.body_broken (its_world scope.now) (its_home scope.now) (body_view body.now)
+        (within_view within)) }
+{
+    for statement in body {
+        if let Some(rule) = statement_broken(scope, within, statement)? {
+            return Ok(Some(rule));
+        }
+    }
+    Ok(None)
+}

@@ -1,0 +1,71 @@
+use Rattle.std.proofs.Common.{◌≡◌, ◌∙◌, ◌++◌, [], ◌∷◌, Some, List, ap, append_assoc, map, string_bytes, string_cmp, subst, sym, refl, append-nil}
+use Rattle.std.specs.List.Sorted.{IsStrictlySortedBy}
+use Rattle.std.specs.Map.{keys_of}
+use Rattle.std.proofs.lemmas.List.{map-append}
+use Rattle.std.proofs.lemmas.Result.{err_from_is_err_and}
+use Rattle.serde_json.specs.View.{members_view}
+use Rattle.jt_value.specs.Pairs.{pairs}
+use Rattle.jt_value.specs.View.{view}
+use Rattle.jt_contexts.proofs.Members.{Member, entries_from, item_flaw, items_from, member_flaw, nil_of, one_more, pairs-insert, put_last, shown, unless_failed, value_in}
+use Rattle.jt_contexts.proofs.contexts.+values.Goals as goal
+
+pub entries_of-loop-key-init : goal.entries_of-loop-key-init
+entries_of-loop-key-init t c = (sym c.into_iter-key-iterator.ensures.into_iter_gives.0, ap (λ es. map Some (pairs es)) (sym c.new-entries.ensures.empty))
+
+pub entries_of-returns-in_err-value-clause-err : goal.entries_of-returns-in_err-value-clause-err
+entries_of-returns-in_err-value-clause-err t c =
+    let done = c.loop-key.yielded in
+    let m : Member = (c.in-Some.key, c.in-Some.member) in
+    let left = c.next.new.self in
+    let all : c.args.members.entries ≡ done ++ m ∷ left = c.loop-key.invariant.0 ∙ ap (λ es. done ++ es) c.in-Some.ensures.steps in
+    let p = err_from_is_err_and c.from_residual.result c.from_residual.ensures.1 in
+    rw (p.1, p.2, all) (member_flaw done m left c.in_err-value.field-0.0 c.in_err-value.ensures.err)
+
+pub entries_of-loop-key-preserved : goal.entries_of-loop-key-preserved
+entries_of-loop-key-preserved t c =
+    let done = c.loop-key.yielded in
+    let m : Member = (c.in-Some.key, c.in-Some.member) in
+    let left = c.next.new.self in
+    let all : c.args.members.entries ≡ done ++ m ∷ left = c.loop-key.invariant.0 ∙ ap (λ es. done ++ es) c.in-Some.ensures.steps in
+    let ordered = subst (λ es. IsStrictlySortedBy string_cmp (keys_of es)) all c.into_iter-key-iterator.ensures.into_iter_gives.5 in
+    let new = unless_failed c.insert.result _ c.if-is_err.ensures.value c.insert.ensures.entries in
+    let old = pairs c.loop-key.entries.entries in
+    let last = put_last done m left old (view c.in_ok-value.value) ordered c.loop-key.invariant.1 in
+    let given : shown m ≡ Some (string_bytes c.in-Some.key, view c.in_ok-value.value) = rw c.in_ok-value.ensures.ok refl in
+    let now : pairs c.insert.new.self.entries ≡ old ++ (string_bytes c.in-Some.key, view c.in_ok-value.value) ∷ [] =
+    ap pairs new ∙ (pairs-insert c.in-Some.key c.in_ok-value.value c.loop-key.entries.entries ∙ last) in
+    (all ∙ sym (append_assoc done (m ∷ []) left), rw now (one_more shown done old m (string_bytes c.in-Some.key, view c.in_ok-value.value) c.loop-key.invariant.1 given))
+
+pub entries_of-returns-clause-ok : goal.entries_of-returns-clause-ok
+entries_of-returns-clause-ok t c =
+    let done = c.loop-key.yielded in
+    let all : c.args.members.entries ≡ done = c.loop-key.invariant.0 ∙ (ap (λ es. done ++ es) c.in-None.ensures.steps.0 ∙ append-nil done) in
+    rw all (entries_from done c.loop-key.entries.entries c.loop-key.invariant.1)
+
+pub items_of-loop-item-init : goal.items_of-loop-item-init
+items_of-loop-item-init t c = (sym c.into_iter-item-iterator.ensures.into_iter_gives.0, ap (λ vs. map Some (map view vs)) (sym c.in_ok-values.ensures.items))
+
+pub items_of-returns-in_err-value_of-clause-err : goal.items_of-returns-in_err-value_of-clause-err
+items_of-returns-in_err-value_of-clause-err t c =
+    let done = c.loop-item.yielded in
+    let left = c.next.new.self.rest.items in
+    let all : c.args.items.items ≡ done ++ c.in-Some.item ∷ left = c.loop-item.invariant.0 ∙ ap (λ js. done ++ js) c.in-Some.ensures.steps.0 in
+    let p = err_from_is_err_and c.from_residual-in_err-value_of.result c.from_residual-in_err-value_of.ensures.1 in
+    rw (p.1, p.2, all) (item_flaw done c.in-Some.item left c.in_err-value_of.field-0.0 c.in_err-value_of.ensures.err)
+
+pub items_of-loop-item-preserved : goal.items_of-loop-item-preserved
+items_of-loop-item-preserved t c =
+    let done = c.loop-item.yielded in
+    let left = c.next.new.self.rest.items in
+    let all : c.args.items.items ≡ done ++ c.in-Some.item ∷ left = c.loop-item.invariant.0 ∙ ap (λ js. done ++ js) c.in-Some.ensures.steps.0 in
+    let v = c.in_ok-value_of.field-0 in
+    let now : map view c.push.new.self.items ≡ map view c.loop-item.values.items ++ view v ∷ [] =
+    ap (map view) c.in_ok-push.ensures.items ∙ map-append view c.loop-item.values.items (v ∷ []) in
+    (all ∙ sym (append_assoc done (c.in-Some.item ∷ []) left), rw now (one_more value_in done (map view c.loop-item.values.items) c.in-Some.item (view v) c.loop-item.invariant.1 c.in_ok-value_of.ensures.ok))
+
+pub items_of-returns-clause-ok : goal.items_of-returns-clause-ok
+items_of-returns-clause-ok t c =
+    let done = c.loop-item.yielded in
+    let none : c.loop-item.item-iterator.rest.items ≡ [] = nil_of c.loop-item.item-iterator.rest.items c.loop-item.item-iterator.rest.len (sym c.loop-item.item-iterator.rest.ok.0) c.in-None.ensures.steps.0 in
+    let all : c.args.items.items ≡ done = c.loop-item.invariant.0 ∙ (ap (λ js. done ++ js) none ∙ append-nil done) in
+    rw all (items_from done c.loop-item.values.items c.loop-item.invariant.1)

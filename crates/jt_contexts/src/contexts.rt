@@ -1,0 +1,117 @@
+//! Contexts from JSON.
+ghost use Rattle.std.specs.Prelude.{◌≡◌, IfOk, IfErr, map};
+ghost use Rattle.serde_json.specs.Errors.{IsMemory};
+ghost use Rattle.serde_json.specs.View.{view as json_view, items_view as json_items, members_view};
+ghost use Rattle.jt_value.specs.ContextView.{pairs_of};
+ghost use Rattle.jt_value.specs.View.{view, items_view, entries_view};
+ghost use Rattle.jt_contexts.specs.Json.{value_of as value_of_json, items_of as items_of_json, entries_of as entries_of_json, pairs_in};
+ghost use Rattle.jt_contexts.specs.Json.{IsContext, Holds, Flaw, ItemsFlaw, MembersFlaw};
+
+use crate::error::ContextError;
+use crate::numbers::number_value;
+use indexmap::IndexMap;
+use jt_value::{Context, Value};
+use serde_json::Map;
+use std::alloc::Global;
+
+/// The context whose names have the values of the members of a JSON object, in byte order of the names.
+///
+/// `null` is none, and a map has its entries in byte order of their keys. Of a key that stands
+/// twice the last value counts.
+///
+/// # Errors
+///
+/// `NotJson` where the text is no JSON, nests deeper than 127 or has a number too large for the
+/// float that it would be; `NotObject` where the JSON is no object; `NotWhole` where a number has a
+/// point or an exponent, is below -2^63 or above 2^64 - 1, or is `-0`; `OutOfRange` where one is
+/// 2^63 to 2^64 - 1; `NoMemory` where a growth was refused.
+pub fn context_from_json(alloc: Global, text: &str) -> Result<Context, ContextError>
+    ensures ok { IfOk result (λ c. IsContext text.now (pairs_of c)) }
+    ensures err { IfErr result (Holds text.now) }
+{
+    match serde_json::Value::from_str(alloc, text) {
+        Ok(serde_json::Value::Object(members)) => context_of(alloc, members),
+        Ok(_other) => Err(ContextError::NotObject),
+        Err(error) => Err(unread(&error)),
+    }
+}
+
+/// Why a text was not read.
+fn unread(error: &serde_json::Error) -> ContextError
+    ensures memory { IsMemory error.now → result ≡ ContextError.NoMemory }
+    ensures text { ¬ IsMemory error.now → result ≡ ContextError.NotJson }
+{
+    if error.is_memory() {
+        ContextError::NoMemory
+    } else {
+        ContextError::NotJson
+    }
+}
+
+/// The context of the members of an object.
+fn context_of(
+    alloc: Global,
+    members: Map<String, serde_json::Value>,
+) -> Result<Context, ContextError>
+    ensures ok { IfOk result (λ c. pairs_in (members_view members.entries) ≡ Some (pairs_of c)) }
+    ensures err { IfErr result (MembersFlaw (members_view members.entries)) }
+{
+    let mut context = Context::new(alloc);
+    for (name, member) in members {
+        let value = value_of(alloc, member)?;
+        if context.insert(name, value).is_err() {
+            return Err(ContextError::NoMemory);
+        }
+    }
+    Ok(context)
+}
+
+/// The value that JSON stands for.
+#[cycle(values)]
+fn value_of(alloc: Global, json: serde_json::Value) -> Result<Value, ContextError>
+    ensures ok { IfOk result (λ v. value_of_json (json_view json) ≡ Some (view v)) }
+    ensures err { IfErr result (Flaw (json_view json)) }
+{
+    match json {
+        serde_json::Value::Null => Ok(Value::None),
+        serde_json::Value::Bool(truth) => Ok(Value::Bool(truth)),
+        serde_json::Value::Number(number) => number_value(&number),
+        serde_json::Value::String(text) => Ok(Value::from_text(text)?),
+        serde_json::Value::Array(items) => Ok(Value::list(alloc, items_of(alloc, items)?)?),
+        serde_json::Value::Object(members) => Ok(Value::map(alloc, entries_of(alloc, members)?)?),
+    }
+}
+
+/// The values of the items of an array.
+#[cycle(values)]
+fn items_of(alloc: Global, items: Vec<serde_json::Value>) -> Result<Vec<Value>, ContextError>
+    ensures ok { IfOk result
+        (λ vs. items_of_json (json_items items.items) ≡ Some (items_view vs.items)) }
+    ensures err { IfErr result (ItemsFlaw (json_items items.items)) }
+{
+    let mut values = Vec::with_capacity(alloc, items.len())?;
+    for item in items {
+        values.push(value_of(alloc, item)?)?;
+    }
+    Ok(values)
+}
+
+/// The entries of the members of an object.
+#[cycle(values)]
+fn entries_of(
+    alloc: Global,
+    members: Map<String, serde_json::Value>,
+) -> Result<IndexMap<String, Value>, ContextError>
+    ensures ok { IfOk result
+        (λ m. entries_of_json (members_view members.entries) ≡ Some (entries_view m.entries)) }
+    ensures err { IfErr result (MembersFlaw (members_view members.entries)) }
+{
+    let mut entries = IndexMap::new(alloc);
+    for (key, member) in members {
+        let value = value_of(alloc, member)?;
+        if entries.insert(key, value).is_err() {
+            return Err(ContextError::NoMemory);
+        }
+    }
+    Ok(entries)
+}

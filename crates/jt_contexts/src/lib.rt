@@ -1,0 +1,9 @@
+//! Contexts from JSON.
+#![tactic(auto)]
+
+mod contexts;
+mod error;
+mod numbers;
+
+pub use contexts::context_from_json;
+pub use error::ContextError;

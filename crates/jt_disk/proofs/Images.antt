@@ -1,0 +1,83 @@
+-- What a line leaves on a disk, from what the program tells.
+use Rattle.std.proofs.Common.{◌≡◌, ◌≢◌, ◌↔◌, ◌∙◌, Bool, Err, Global, List, None, Ok, Option, Some, String, arith, codes, inl, inr, refl, string_bytes, subst, sym, ℕ}
+use Rattle.std.specs.Prelude.{Contains, IsSome}
+use Rattle.std.specs.Str.{IsUtf8}
+use Rattle.clap.specs.Words.{Row, Text as Word}
+use Rattle.jt_budget.specs.declared.Budget.{Budget}
+use Rattle.jt_line.specs.Line.{IsCommand, word_of}
+use Rattle.jt_line.specs.declared.Command.{Command}
+use Rattle.jt_line.specs.declared.Command.TheVariants as command
+use Rattle.jt_line.specs.declared.Options.{Options}
+use Rattle.jt_program.specs.declared.Failure.{Failure}
+use Rattle.jt_program.specs.declared.Failure.TheVariants as failure
+use Rattle.jt_program.specs.Commands.{Answers, ChangesOnly, CommandEnds, Ending, Tells}
+use Rattle.jt_program.specs.Ending.{code_of, status_of}
+use Rattle.jt_program.specs.Files.{IsLibrary, IsSource, path_in}
+use Rattle.jt_program.specs.Program.{IsImage, scan_options}
+use Rattle.jt_disk.specs.declared.disk.Disk.{Disk}
+use Rattle.jt_disk.specs.Disk.{AreNamesIn, IsName, file_at, known_of}
+use Rattle.jt_disk.specs.Images.{AreTextsIn, HoldsImage, IfCompiled}
+
+-- what has the same values is the same
+same_value : (x y : Option (List ℕ)) → ((v : List ℕ) → (x ≡ Some v) ↔ (y ≡ Some v)) → x ≡ y
+same_value None None h = refl
+same_value None (Some v) h = (h v).1 refl
+same_value (Some v) y h = sym ((h v).0 refl)
+
+-- a disk that changes only at a path holds at each other one what it held
+pub same_file : (old new : Disk) (out path : List ℕ) → ChangesOnly (known_of old) (known_of new) out → path ≢ out → file_at new path ≡ file_at old path
+same_file old new out path only other = same_value (file_at new path) (file_at old path) (λ bytes. only path bytes other)
+
+-- a source of a directory is the text of its file
+source_is : (disk : Disk) (dir : List ℕ) (names : List (List ℕ)) (name source : List ℕ) → AreNamesIn disk dir names
+    → (o : Option (List ℕ)) → IsSource (known_of disk) dir names name o
+    → (o ≡ Some source) ↔ (IsName name × (file_at disk (path_in dir name) ≡ Some source) × IsUtf8 source)
+source_is disk dir names name source listed (Some text) h = (
+  λ e. let same : text ≡ source = cc in (((listed name).0 h.0).0, cc, subst IsUtf8 same h.2),
+  λ t. sym h.1 ∙ t.1,
+)
+source_is disk dir names name source listed None h = (
+  λ e. absurd (cc),
+  λ t. let there : IsSome (file_at disk (path_in dir name)) = rw t.1 refl in
+      let found = h ((listed name).1 (t.0, there)) in
+      let same : source ≡ found.0 = cc in
+      absurd (found.2 (subst IsUtf8 same t.2)),
+)
+
+texts_in : (disk : Disk) (dir : List ℕ) (sources : List ℕ → Option (List ℕ)) → IsLibrary (known_of disk) dir sources → AreTextsIn disk dir sources
+texts_in disk dir sources library name source = source_is disk dir library.names name source library.listed (sources name) (library.each name)
+
+-- a line of `compile` that is done leaves the image
+image_held : (old new : Disk) (name : Word) (rows : List Row) (k : Command) (o : Options) (b : Budget) (n : ℕ) (text : String Global) → IsCommand name rows k o b n
+    → CommandEnds (known_of old) (known_of new) k o b (Ok text) → name ≡ codes "compile" → HoldsImage old new rows
+image_held old new name rows (command.Compile dir template out) o b n text is (only, inl unread) named = absurd unread
+image_held old new name rows (command.Compile dir template out) o b n text is (only, inr compiles) named =
+    let written = compiles.written.1 in
+    record {
+      sources = compiles.sources;
+      texts = subst (λ (d : List ℕ). AreTextsIn old d compiles.sources) is.1 (texts_in old (string_bytes dir) compiles.sources compiles.library);
+      options = o;
+      asked = is.4;
+      bytes = written.0;
+      held = subst (λ (path : List ℕ). file_at new path ≡ Some written.0) is.3 written.1;
+      image = subst (λ (t : List ℕ). IsImage compiles.sources t (scan_options o) written.0) is.2 written.2;
+    }
+image_held old new name rows k o b n text is ends named = absurd (cc)
+
+-- no failure has the status 0
+not_done : (e : Failure) → code_of (status_of e) ≡ 0 → ⊥
+not_done (failure.Fault f) h = absurd (omega (arith, h))
+not_done e h = absurd (omega (arith, h))
+
+ended : (old new : Disk) (found : Option (Word × List Row)) (taken left : Option (List ℕ)) (sink_failed : Bool) (e : Ending) (status : ℕ) → Answers (known_of old) (known_of new) found e
+    → Tells taken left sink_failed e status → status ≡ 0 → IfCompiled old new found
+ended old new None taken left sink_failed e status answers tells done = tt
+ended old new (Some c) taken left sink_failed (Ok text) status answers tells done =
+    let job = answers.job in
+    image_held old new c.0 c.1 job.command job.options job.budget job.slice text answers.asked answers.ends
+ended old new (Some c) taken left sink_failed (Err e) status answers tells done = absurd (not_done e (sym tells.0 ∙ done))
+
+-- a run that is done, of which the program tells how it ended
+pub compiled : (old new : Disk) (found : Option (Word × List Row)) (taken left : Option (List ℕ)) (sink_failed : Bool) (status : ℕ)
+    → (e : Ending) × Answers (known_of old) (known_of new) found e × Tells taken left sink_failed e status → status ≡ 0 → IfCompiled old new found
+compiled old new found taken left sink_failed status (e, answers, tells) done = ended old new found taken left sink_failed e status answers tells done

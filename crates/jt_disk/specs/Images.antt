@@ -1,0 +1,30 @@
+-- What a line leaves on a disk.
+use Rattle.std.specs.Prelude.{◌≡◌, ◌↔◌, ℕ, List, Option, Some, None, codes}
+use Rattle.std.specs.Str.{IsUtf8}
+use Rattle.clap.specs.Words.{Row, Text as Word}
+use Rattle.jt_line.specs.Line.{IsOptions, word_of}
+use Rattle.jt_line.specs.declared.Options.{Options}
+use Rattle.jt_program.specs.Files.{path_in}
+use Rattle.jt_program.specs.Program.{IsImage, scan_options}
+use Rattle.jt_disk.specs.declared.disk.Disk.{Disk}
+use Rattle.jt_disk.specs.Disk.{IsName, file_at}
+
+-- the sources are the texts among the files directly in the directory, by the files' names, and no others
+abbrev pub AreTextsIn : Disk → List ℕ → (List ℕ → Option (List ℕ)) → Type 0
+AreTextsIn disk dir sources = (name source : List ℕ)
+    → (sources name ≡ Some source) ↔ (IsName name × (file_at disk (path_in dir name) ≡ Some source) × IsUtf8 source)
+
+-- the disk holds at OUT the bytes of an image of the template NAME, from the texts that it held in DIR before
+pub record HoldsImage (old new : Disk) (rows : List Row) : Type 0 where
+  pub sources : List ℕ → Option (List ℕ)
+  pub texts : AreTextsIn old (word_of (codes "DIR") rows) sources
+  pub options : Options
+  pub asked : IsOptions rows options
+  pub bytes : List ℕ
+  pub held : file_at new (word_of (codes "OUT") rows) ≡ Some bytes
+  pub image : IsImage sources (word_of (codes "NAME") rows) (scan_options options) bytes
+
+-- so it is where the line is one of `compile`
+abbrev pub IfCompiled : Disk → Disk → Option (Word × List Row) → Type 0
+IfCompiled old new None = Unit {0}
+IfCompiled old new (Some c) = c.0 ≡ codes "compile" → HoldsImage old new c.1

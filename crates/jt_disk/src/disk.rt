@@ -1,0 +1,83 @@
+//! Files in memory, of which a contract says all that is to be known.
+
+ghost use Rattle.std.specs.Prelude.{◌≡◌, ◌≢◌, ℕ, List, Some, None, OnOk, IfSome, IfNone};
+ghost use Rattle.jt_program.specs.Files.{path_in};
+ghost use Rattle.jt_disk.specs.Disk.{IsName, file_at, known_of};
+
+use jt_program::{FileError, Files};
+use std::alloc::{AllocError, Global};
+use std::collections::BTreeMap;
+
+/// Files in memory, by their paths. `memory` gives none for want of memory.
+#[derive(Drop)]
+pub struct Disk {
+    alloc: Global,
+    files: BTreeMap<String, Vec<u8>>,
+}
+
+impl Disk {
+    /// No file.
+    pub fn new(alloc: Global) -> Disk
+        ensures { (path : List ℕ) → file_at result path ≡ None }
+    {
+        Disk {
+            alloc,
+            files: BTreeMap::new(alloc),
+        }
+    }
+
+    /// Makes `bytes` the contents of the file at `path`.
+    pub fn put(&mut self, path: &str, bytes: &[u8]) -> Result<(), AllocError>
+        ensures put { OnOk result (file_at self.new path.now ≡ Some bytes.now) }
+        ensures others { (other : List ℕ)
+            → other ≢ path.now
+            → file_at self.new other ≡ file_at self.old other }
+    {
+        let path = String::from_str(self.alloc, path)?;
+        let bytes = Vec::from_slice(self.alloc, bytes)?;
+        self.files.insert(path, bytes)?;
+        Ok(())
+    }
+}
+
+/// The name of a file directly in `dir`, by its path.
+fn name_in<'a>(dir: &str, path: &'a str) -> Option<&'a str>
+    ensures name { IfSome result
+        (λ name. (path.now ≡ path_in dir.now name.now) × IsName name.now) }
+    ensures none { IfNone result
+        ((name : List ℕ) → path.now ≡ path_in dir.now name → ¬ IsName name) }
+{
+    let name = path.strip_prefix(dir)?.strip_prefix('/')?;
+    if name.contains('/') {
+        return None;
+    }
+    Some(name)
+}
+
+impl Files for Disk {
+    ghost known = { known_of };
+
+    fn list(&self, dir: &str) -> Result<Vec<String>, FileError> {
+        let mut names = Vec::new(self.alloc);
+        for path in self.files.keys() {
+            if let Some(name) = name_in(dir, path.as_str()) {
+                names.push(String::from_str(self.alloc, name)?)?;
+            }
+        }
+        Ok(names)
+    }
+
+    fn read(&self, path: &str) -> Result<Vec<u8>, FileError> {
+        if path == "memory" {
+            return Err(FileError::NoMemory);
+        }
+        match self.files.get(path) {
+            Some(bytes) => Ok(Vec::from_slice(self.alloc, bytes.as_slice())?),
+            None => Err(FileError::Failed),
+        }
+    }
+
+    fn write(&mut self, path: &str, bytes: &[u8]) -> Result<(), FileError> {
+        Ok(self.put(path, bytes)?)
+    }
+}

@@ -1,0 +1,35 @@
+//! What the program tells of a disk, of which all is known.
+
+ghost use Rattle.std.specs.Prelude.{◌≡◌, ◌≢◌, ℕ, List, codes};
+ghost use Rattle.clap.specs.Walk.{texts};
+ghost use Rattle.clap.specs.Words.{subcommand_of};
+ghost use Rattle.jt_line.specs.Line.{Asks, program_app};
+ghost use Rattle.jt_program.specs.Commands.{out_of};
+ghost use Rattle.jt_disk.specs.Disk.{file_at};
+ghost use Rattle.jt_disk.specs.Images.{IfCompiled};
+
+use crate::disk::Disk;
+use jt_machine::Sink;
+use jt_program::perform;
+use std::alloc::Global;
+use std::io::Write;
+
+/// Does over a disk what `words` ask for, and answers the status.
+pub fn performed<W: Sink, E: Write>(
+    alloc: Global,
+    words: &[&str],
+    disk: &mut Disk,
+    out: &mut W,
+    errors: &mut E,
+) -> u8
+    // where it is 0, and the line one of `compile`, the disk holds the image
+    ensures compiled { result ≡ 0
+        → IfCompiled disk.old disk.new (subcommand_of program_app (texts words.now)) }
+    // whatever it is, the disk holds at each path but OUT what it held there, or nothing
+    ensures others { (path : List ℕ)
+        → path ≢ out_of (subcommand_of program_app (texts words.now))
+        → file_at disk.new path ≡ file_at disk.old path }
+    ensures kept { ¬ Asks (codes "compile") (texts words.now) → disk.new ≡ disk.old }
+{
+    perform(alloc, words, disk, out, errors)
+}

@@ -1,3 +1,0 @@
-mod Members
-pub mod Alone
-pub mod Standing

@@ -1,0 +1,3 @@
+pub mod FilterTable
+pub mod OpTable
+pub mod TestTable

@@ -1,0 +1,302 @@
+//! The filters, and the id, names and arguments of each.
+ghost use Rattle.std.specs.Prelude.{◌≡◌, ◌&&◌, ◌+◌, ◌∷◌, [], Some, IfSome, Contains, nat_le, option_map, position};
+ghost use Rattle.std.specs.Str.{bytes_eq};
+ghost use Rattle.jt_ids.specs.FilterTable as table;
+ghost use Rattle.jt_ids.specs.FilterTable.{filter_id, filter_names, least_values, most_values, place_of, filter_of_name, filter_meant, with_only};
+
+/// A filter.
+#[derive(Clone, Copy, Debug, PartialEq, Eq)]
+pub enum FilterId {
+    Abs,
+    Attr,
+    Capitalize,
+    Default,
+    DictSort,
+    Escape,
+    First,
+    ForceEscape,
+    Int,
+    Items,
+    Join,
+    Last,
+    Length,
+    List,
+    Lower,
+    Map,
+    Max,
+    Min,
+    Reject,
+    RejectAttr,
+    Replace,
+    Reverse,
+    Safe,
+    Select,
+    SelectAttr,
+    Sort,
+    String,
+    Sum,
+    Trim,
+    Unique,
+    Upper,
+    /// `map` by an attribute.
+    MapAttribute,
+}
+
+/// What an argument of a filter names.
+#[derive(Clone, Copy, Debug, PartialEq, Eq)]
+pub enum Naming {
+    /// The filter that is called on each item.
+    Filter,
+    /// The test that each item is put to.
+    Test,
+    /// The key of an attribute.
+    Key,
+}
+
+impl FilterId {
+    /// The id of the filter in an image.
+    pub fn id(self) -> u8
+        ensures { result ≡ filter_id self }
+    {
+        match self {
+            FilterId::Abs => 0,
+            FilterId::Attr => 1,
+            FilterId::Capitalize => 2,
+            FilterId::Default => 3,
+            FilterId::DictSort => 4,
+            FilterId::Escape => 5,
+            FilterId::First => 6,
+            FilterId::ForceEscape => 7,
+            FilterId::Int => 8,
+            FilterId::Items => 9,
+            FilterId::Join => 10,
+            FilterId::Last => 11,
+            FilterId::Length => 12,
+            FilterId::List => 13,
+            FilterId::Lower => 14,
+            FilterId::Map => 15,
+            FilterId::Max => 16,
+            FilterId::Min => 17,
+            FilterId::Reject => 18,
+            FilterId::RejectAttr => 19,
+            FilterId::Replace => 20,
+            FilterId::Reverse => 21,
+            FilterId::Safe => 22,
+            FilterId::Select => 23,
+            FilterId::SelectAttr => 24,
+            FilterId::Sort => 25,
+            FilterId::String => 26,
+            FilterId::Sum => 27,
+            FilterId::Trim => 28,
+            FilterId::Unique => 29,
+            FilterId::Upper => 30,
+            FilterId::MapAttribute => 31,
+        }
+    }
+
+    /// The filter of an id; none where no filter has it.
+    pub fn by_id(id: u8) -> Option<FilterId>
+        ensures found { IfSome result (λ filter. filter_id filter ≡ id) }
+        ensures only { (filter : FilterId) → filter_id filter ≡ id → result ≡ Some filter }
+    {
+        match id {
+            0 => Some(FilterId::Abs),
+            1 => Some(FilterId::Attr),
+            2 => Some(FilterId::Capitalize),
+            3 => Some(FilterId::Default),
+            4 => Some(FilterId::DictSort),
+            5 => Some(FilterId::Escape),
+            6 => Some(FilterId::First),
+            7 => Some(FilterId::ForceEscape),
+            8 => Some(FilterId::Int),
+            9 => Some(FilterId::Items),
+            10 => Some(FilterId::Join),
+            11 => Some(FilterId::Last),
+            12 => Some(FilterId::Length),
+            13 => Some(FilterId::List),
+            14 => Some(FilterId::Lower),
+            15 => Some(FilterId::Map),
+            16 => Some(FilterId::Max),
+            17 => Some(FilterId::Min),
+            18 => Some(FilterId::Reject),
+            19 => Some(FilterId::RejectAttr),
+            20 => Some(FilterId::Replace),
+            21 => Some(FilterId::Reverse),
+            22 => Some(FilterId::Safe),
+            23 => Some(FilterId::Select),
+            24 => Some(FilterId::SelectAttr),
+            25 => Some(FilterId::Sort),
+            26 => Some(FilterId::String),
+            27 => Some(FilterId::Sum),
+            28 => Some(FilterId::Trim),
+            29 => Some(FilterId::Unique),
+            30 => Some(FilterId::Upper),
+            31 => Some(FilterId::MapAttribute),
+            _ => None,
+        }
+    }
+
+    /// The filter of a name; none where no filter has it. `map` by an attribute has no name of its own.
+    pub fn by_name(name: &str) -> Option<FilterId>
+        ensures found { IfSome result (λ filter. Contains (filter_names filter) name.now) }
+        ensures only { (filter : FilterId)
+            → Contains (filter_names filter) name.now
+            → result ≡ Some filter }
+        ensures value { result ≡ filter_of_name name.now }
+    {
+        FilterId::matching(name)
+    }
+
+    /// The filter of a name, by the names one after the other.
+    fn matching(name: &str) -> Option<FilterId>
+        ensures found { IfSome result (λ filter. Contains (filter_names filter) name.now) }
+        ensures only { (filter : FilterId)
+            → Contains (filter_names filter) name.now
+            → result ≡ Some filter }
+    {
+        match name {
+            "abs" => Some(FilterId::Abs),
+            "attr" => Some(FilterId::Attr),
+            "capitalize" => Some(FilterId::Capitalize),
+            "default" | "d" => Some(FilterId::Default),
+            "dictsort" => Some(FilterId::DictSort),
+            "escape" | "e" => Some(FilterId::Escape),
+            "first" => Some(FilterId::First),
+            "forceescape" => Some(FilterId::ForceEscape),
+            "int" => Some(FilterId::Int),
+            "items" => Some(FilterId::Items),
+            "join" => Some(FilterId::Join),
+            "last" => Some(FilterId::Last),
+            "length" | "count" => Some(FilterId::Length),
+            "list" => Some(FilterId::List),
+            "lower" => Some(FilterId::Lower),
+            "map" => Some(FilterId::Map),
+            "max" => Some(FilterId::Max),
+            "min" => Some(FilterId::Min),
+            "reject" => Some(FilterId::Reject),
+            "rejectattr" => Some(FilterId::RejectAttr),
+            "replace" => Some(FilterId::Replace),
+            "reverse" => Some(FilterId::Reverse),
+            "safe" => Some(FilterId::Safe),
+            "select" => Some(FilterId::Select),
+            "selectattr" => Some(FilterId::SelectAttr),
+            "sort" => Some(FilterId::Sort),
+            "string" => Some(FilterId::String),
+            "sum" => Some(FilterId::Sum),
+            "trim" => Some(FilterId::Trim),
+            "unique" => Some(FilterId::Unique),
+            "upper" => Some(FilterId::Upper),
+            _ => None,
+        }
+    }
+
+    /// The filter that a name means, where `only` is the name of its only argument, if it has just one and that is given by its
+    /// name: `map(attribute=key)` is another filter than `map`.
+    pub fn named(name: &str, only: Option<&str>) -> Option<FilterId>
+        ensures { result ≡ filter_meant name.now (option_map (λ s. s.now) only.entry) }
+    {
+        match FilterId::by_name(name) {
+            Some(filter) => Some(filter.with_only(only)),
+            None => None,
+        }
+    }
+
+    /// What the filter of a name is where its only argument is given by this name, if it is.
+    fn with_only(self, only: Option<&str>) -> FilterId
+        ensures { Some result ≡ with_only (Some self) (option_map (λ s. s.now) only.entry) }
+    {
+        match (self, only) {
+            (FilterId::Map, Some("attribute")) => FilterId::MapAttribute,
+            _ => self,
+        }
+    }
+
+    /// Whether the filter takes this many values, its input among them.
+    pub fn takes(self, values: usize) -> bool
+        ensures { result ≡ (nat_le (least_values self) values && nat_le values (most_values self)) }
+    {
+        let (least, most) = match self {
+            FilterId::Default => (1, 3),
+            FilterId::Int | FilterId::Join | FilterId::Sort => (1, 2),
+            FilterId::Replace => (3, 3),
+            FilterId::Attr | FilterId::MapAttribute => (2, 2),
+            FilterId::Select | FilterId::Reject => (1, 255),
+            FilterId::Map | FilterId::SelectAttr | FilterId::RejectAttr => (2, 255),
+            _ => (1, 1),
+        };
+        least <= values && values <= most
+    }
+
+    /// The place among the values of an argument that is given by its name, where the input has place 0; none where the filter
+    /// has no such argument.
+    pub fn place(self, argument: &str) -> Option<usize>
+        ensures { result ≡ place_of self argument.now }
+    {
+        match self {
+            FilterId::Attr => place_of_one("name", argument),
+            FilterId::Default => place_of_two("default_value", "boolean", argument),
+            FilterId::Int => place_of_one("default", argument),
+            FilterId::Join => place_of_one("d", argument),
+            FilterId::Replace => place_of_two("old", "new", argument),
+            FilterId::Sort => place_of_one("reverse", argument),
+            FilterId::MapAttribute => place_of_one("attribute", argument),
+            _ => None,
+        }
+    }
+
+    /// What the value at a place names, where the input has place 0: the filter or the test that is called on each item, with the
+    /// values behind it as arguments, or an attribute's key. In a template these are text literals.
+    pub fn named_at(self, place: usize) -> Option<Naming>
+        ensures { result ≡ table.named_at self place }
+    {
+        match (self, place) {
+            (FilterId::Map, 1) => Some(Naming::Filter),
+            (FilterId::Select, 1) => Some(Naming::Test),
+            (FilterId::Reject, 1) => Some(Naming::Test),
+            (FilterId::SelectAttr, 1) => Some(Naming::Key),
+            (FilterId::SelectAttr, 2) => Some(Naming::Test),
+            (FilterId::RejectAttr, 1) => Some(Naming::Key),
+            (FilterId::RejectAttr, 2) => Some(Naming::Test),
+            (FilterId::MapAttribute, 1) => Some(Naming::Key),
+            _ => None,
+        }
+    }
+
+    /// Whether `map` may call the filter: one that names a filter, a test or an attribute it may not.
+    pub fn may_be_inner(self) -> bool
+        ensures { result ≡ table.may_be_inner self }
+    {
+        match self {
+            FilterId::Map
+            | FilterId::MapAttribute
+            | FilterId::Reject
+            | FilterId::RejectAttr
+            | FilterId::Select
+            | FilterId::SelectAttr => false,
+            _ => true,
+        }
+    }
+}
+
+/// The place of an argument, where one may be given by name.
+fn place_of_one(first: &str, argument: &str) -> Option<usize>
+    ensures { result
+        ≡ option_map (λ i. i + 1) (position (λ other. bytes_eq other argument.now) (first.now ∷ [])) }
+{
+    if first == argument { Some(1) } else { None }
+}
+
+/// The place of an argument, where two may be given by name.
+fn place_of_two(first: &str, second: &str, argument: &str) -> Option<usize>
+    ensures { result
+        ≡ option_map (λ i. i + 1)
+        (position (λ other. bytes_eq other argument.now) (first.now ∷ second.now ∷ [])) }
+{
+    if first == argument {
+        Some(1)
+    } else if second == argument {
+        Some(2)
+    } else {
+        None
+    }
+}

@@ -1,0 +1,112 @@
+//! The operators, and the id by which an image names each.
+ghost use Rattle.std.specs.Prelude.{◌≡◌, ◌==◌, Some, IfSome};
+ghost use Rattle.jt_ids.specs.OpTable.{op_id, op_operands};
+
+/// An operator.
+#[derive(Clone, Copy, Debug, PartialEq, Eq)]
+pub enum OpId {
+    Add,
+    Subtract,
+    Multiply,
+    FloorDivide,
+    Remainder,
+    Power,
+    Negate,
+    Plus,
+    Not,
+    Join,
+    JoinEscaping,
+    Equal,
+    NotEqual,
+    Less,
+    LessOrEqual,
+    Greater,
+    GreaterOrEqual,
+    In,
+    Item,
+    RangeToStop,
+    RangeFromStart,
+    RangeByStep,
+}
+
+impl OpId {
+    /// The id of the operator in an image.
+    pub fn id(self) -> u8
+        ensures { result ≡ op_id self }
+    {
+        match self {
+            OpId::Add => 0,
+            OpId::Subtract => 1,
+            OpId::Multiply => 2,
+            OpId::FloorDivide => 3,
+            OpId::Remainder => 4,
+            OpId::Power => 5,
+            OpId::Negate => 6,
+            OpId::Plus => 7,
+            OpId::Not => 8,
+            OpId::Join => 9,
+            OpId::JoinEscaping => 10,
+            OpId::Equal => 11,
+            OpId::NotEqual => 12,
+            OpId::Less => 13,
+            OpId::LessOrEqual => 14,
+            OpId::Greater => 15,
+            OpId::GreaterOrEqual => 16,
+            OpId::In => 17,
+            OpId::Item => 18,
+            OpId::RangeToStop => 19,
+            OpId::RangeFromStart => 20,
+            OpId::RangeByStep => 21,
+        }
+    }
+
+    /// The operator of an id; none where no operator has it.
+    pub fn by_id(id: u8) -> Option<OpId>
+        ensures found { IfSome result (λ op. op_id op ≡ id) }
+        ensures only { (op : OpId) → op_id op ≡ id → result ≡ Some op }
+    {
+        match id {
+            0 => Some(OpId::Add),
+            1 => Some(OpId::Subtract),
+            2 => Some(OpId::Multiply),
+            3 => Some(OpId::FloorDivide),
+            4 => Some(OpId::Remainder),
+            5 => Some(OpId::Power),
+            6 => Some(OpId::Negate),
+            7 => Some(OpId::Plus),
+            8 => Some(OpId::Not),
+            9 => Some(OpId::Join),
+            10 => Some(OpId::JoinEscaping),
+            11 => Some(OpId::Equal),
+            12 => Some(OpId::NotEqual),
+            13 => Some(OpId::Less),
+            14 => Some(OpId::LessOrEqual),
+            15 => Some(OpId::Greater),
+            16 => Some(OpId::GreaterOrEqual),
+            17 => Some(OpId::In),
+            18 => Some(OpId::Item),
+            19 => Some(OpId::RangeToStop),
+            20 => Some(OpId::RangeFromStart),
+            21 => Some(OpId::RangeByStep),
+            _ => None,
+        }
+    }
+
+    /// How many operands the operator takes: 1, 2 or 3.
+    pub fn operands(self) -> usize
+        ensures { result ≡ op_operands self }
+    {
+        match self {
+            OpId::Negate | OpId::Plus | OpId::Not | OpId::RangeToStop => 1,
+            OpId::RangeByStep => 3,
+            _ => 2,
+        }
+    }
+
+    /// Whether the operator takes this many operands.
+    pub fn takes(self, values: usize) -> bool
+        ensures { result ≡ (values == op_operands self) }
+    {
+        values == self.operands()
+    }
+}

@@ -1,0 +1,145 @@
+//! The tests, and the id and names of each.
+ghost use Rattle.std.specs.Prelude.{◌≡◌, ◌==◌, Some, IfSome, Contains};
+ghost use Rattle.jt_ids.specs.TestTable.{test_id, test_values, test_names, test_of_name};
+
+/// A test.
+#[derive(Clone, Copy, Debug, PartialEq, Eq)]
+pub enum TestId {
+    Boolean,
+    Defined,
+    DivisibleBy,
+    Equal,
+    NotEqual,
+    Escaped,
+    Even,
+    Odd,
+    False,
+    True,
+    GreaterOrEqual,
+    Greater,
+    LessOrEqual,
+    Less,
+    In,
+    Integer,
+    Mapping,
+    None,
+    String,
+    Undefined,
+}
+
+impl TestId {
+    /// The id of the test in an image.
+    pub fn id(self) -> u8
+        ensures { result ≡ test_id self }
+    {
+        match self {
+            TestId::Boolean => 0,
+            TestId::Defined => 1,
+            TestId::DivisibleBy => 2,
+            TestId::Equal => 3,
+            TestId::NotEqual => 4,
+            TestId::Escaped => 5,
+            TestId::Even => 6,
+            TestId::Odd => 7,
+            TestId::False => 8,
+            TestId::True => 9,
+            TestId::GreaterOrEqual => 10,
+            TestId::Greater => 11,
+            TestId::LessOrEqual => 12,
+            TestId::Less => 13,
+            TestId::In => 14,
+            TestId::Integer => 15,
+            TestId::Mapping => 16,
+            TestId::None => 17,
+            TestId::String => 18,
+            TestId::Undefined => 19,
+        }
+    }
+
+    /// The test of an id; none where no test has it.
+    pub fn by_id(id: u8) -> Option<TestId>
+        ensures found { IfSome result (λ test. test_id test ≡ id) }
+        ensures only { (test : TestId) → test_id test ≡ id → result ≡ Some test }
+    {
+        match id {
+            0 => Some(TestId::Boolean),
+            1 => Some(TestId::Defined),
+            2 => Some(TestId::DivisibleBy),
+            3 => Some(TestId::Equal),
+            4 => Some(TestId::NotEqual),
+            5 => Some(TestId::Escaped),
+            6 => Some(TestId::Even),
+            7 => Some(TestId::Odd),
+            8 => Some(TestId::False),
+            9 => Some(TestId::True),
+            10 => Some(TestId::GreaterOrEqual),
+            11 => Some(TestId::Greater),
+            12 => Some(TestId::LessOrEqual),
+            13 => Some(TestId::Less),
+            14 => Some(TestId::In),
+            15 => Some(TestId::Integer),
+            16 => Some(TestId::Mapping),
+            17 => Some(TestId::None),
+            18 => Some(TestId::String),
+            19 => Some(TestId::Undefined),
+            _ => None,
+        }
+    }
+
+    /// The test of a name; none where no test has it.
+    pub fn by_name(name: &str) -> Option<TestId>
+        ensures found { IfSome result (λ test. Contains (test_names test) name.now) }
+        ensures only { (test : TestId) → Contains (test_names test) name.now → result ≡ Some test }
+        ensures value { result ≡ test_of_name name.now }
+    {
+        TestId::matching(name)
+    }
+
+    /// The test of a name, by the names one after the other.
+    fn matching(name: &str) -> Option<TestId>
+        ensures found { IfSome result (λ test. Contains (test_names test) name.now) }
+        ensures only { (test : TestId) → Contains (test_names test) name.now → result ≡ Some test }
+    {
+        match name {
+            "boolean" => Some(TestId::Boolean),
+            "defined" => Some(TestId::Defined),
+            "divisibleby" => Some(TestId::DivisibleBy),
+            "eq" | "equalto" => Some(TestId::Equal),
+            "ne" => Some(TestId::NotEqual),
+            "escaped" => Some(TestId::Escaped),
+            "even" => Some(TestId::Even),
+            "odd" => Some(TestId::Odd),
+            "false" => Some(TestId::False),
+            "true" => Some(TestId::True),
+            "ge" => Some(TestId::GreaterOrEqual),
+            "gt" | "greaterthan" => Some(TestId::Greater),
+            "le" => Some(TestId::LessOrEqual),
+            "lt" | "lessthan" => Some(TestId::Less),
+            "in" => Some(TestId::In),
+            "integer" => Some(TestId::Integer),
+            "mapping" => Some(TestId::Mapping),
+            "none" => Some(TestId::None),
+            "string" => Some(TestId::String),
+            "undefined" => Some(TestId::Undefined),
+            _ => None,
+        }
+    }
+
+    /// Whether the test takes this many values, the tested one among them.
+    pub fn takes(self, values: usize) -> bool
+        ensures { result ≡ (values == test_values self) }
+    {
+        let wanted = match self {
+            TestId::DivisibleBy
+            | TestId::Equal
+            | TestId::NotEqual
+            | TestId::GreaterOrEqual
+            | TestId::Greater
+            | TestId::LessOrEqual
+            | TestId::Less
+            | TestId::In => 2,
+            _ => 1,
+        };
+        values == wanted
+    }
+}

@@ -1,0 +1,89 @@
+//! Lines over a disk: their statuses, what a sink took of what they print, and what they say.
+
+use jt_disk::{Disk, performed};
+use jt_machine::IoSink;
+use std::alloc::Global;
+use std::io;
+use std::test::Fail;
+
+/// A writer that takes one byte a call, and fails once, when it took `left` of them.
+#[derive(Drop)]
+struct Flaky {
+    taken: String,
+    left: usize,
+}
+
+impl io::Write for Flaky {
+    fn write(&mut self, buf: &[u8]) -> io::Result<usize> {
+        let Some(byte) = buf.first() else {
+            return Ok(0);
+        };
+        if self.left == 0 || self.taken.push(char::from(*byte)).is_err() {
+            self.left = usize::MAX;
+            return Err(io::Error::from(io::ErrorKind::BrokenPipe));
+        }
+        self.left -= 1;
+        Ok(1)
+    }
+
+    fn flush(&mut self) -> io::Result<()> {
+        Ok(())
+    }
+}
+
+/// Does over a disk what a line asks for, and answers the status.
+fn status(
+    alloc: Global,
+    line: &str,
+    disk: &mut Disk,
+    out: &mut IoSink<Flaky>,
+    errors: &mut Flaky,
+) -> Result<u8, Fail> {
+    let mut words = Vec::new(alloc);
+    for word in line.split_whitespace() {
+        words.push(word)?;
+    }
+    Ok(performed(alloc, &words, disk, out, errors))
+}
+
+/// The statuses of two lines over a disk of two templates, what a sink took of both that fails behind `left` bytes,
+/// and what was said.
+fn ended(alloc: Global, left: usize, lines: &str) -> Result<String, Fail> {
+    let mut disk = Disk::new(alloc);
+    disk.put("d/a", b"x{{ 1 }}")?;
+    disk.put("d/e/b", b"y")?;
+    let taken = String::new(alloc);
+    let mut out = IoSink::new(Flaky { taken, left });
+    let mut errors = Flaky {
+        taken: String::new(alloc),
+        left: usize::MAX,
+    };
+    let (line, behind) = lines.split_once(" ; ").ok_or("a row has one line")?;
+    let first = status(alloc, line, &mut disk, &mut out, &mut errors)?;
+    let second = status(alloc, behind, &mut disk, &mut out, &mut errors)?;
+    let printed = out.into_inner().taken;
+    Ok(format!(in alloc; "{first} {second} [{printed}][{}]", errors.taken)?)
+}
+
+/// Rows `bytes taken: line ; line => statuses [printed][said]`.
+const ROWS: &str = r"9: compile d a out ; run out => 0 0 [x1][]
+    9: compile d/e b out ; run out => 0 0 [y][]
+    9: compile d b out ; run out => 3 5 [][jt: refused C1 Missing/jt: file out/]
+    9: compile d a d/a ; run out => 0 5 [][jt: file out/]
+    9: check d/a ; run out => 3 5 [][jt: refused I1 BadMagic/jt: file out/]
+    9: run d/b ; run memory => 5 6 [][jt: file d/b/jt: no memory/]
+    9: compile memory a out ; run out => 3 5 [][jt: refused C1 Missing/jt: file out/]
+    2: render d a ; render d/e b => 0 5 [x1][jt: file -/]
+    1: render d a ; render d/e b => 5 5 [x][jt: file -/jt: file -/]";
+
+#[test]
+fn lines_leave_their_images(rt: HostRuntime) -> Result<(), Fail> {
+    for row in ROWS.lines() {
+        let (left, row) = row.trim().split_once(": ").ok_or("a row has no number")?;
+        let (lines, wanted) = row.split_once(" => ").ok_or("a row has no =>")?;
+        let found = ended(rt.alloc(), left.parse::<usize>()?, lines)?;
+        let said = found.replace(rt.alloc(), "\n", "/")?;
+        assert_eq!(rt; said.as_str(), wanted, "{lines}");
+    }
+    Ok(())
+}

@@ -1,8 +1,0 @@
-use Rattle.std.proofs.Common.{◌≡◌, ◌+◌, drop}
-use Rattle.jt_inherit.specs.View.{chain_view}
-use Rattle.jt_rules.specs.Walk as rules
-use Rattle.jt_rules.specs.Standing.{world_in}
-use Rattle.jt_rules.proofs.checking.has_few_names.Given as goal
-
-abbrev pub invariant-loop-home : goal.invariant-loop-home
-invariant-loop-home l = l.left + rules.names_counted (world_in l.chain) (chain_view l.chain).order ≡ 65535 + rules.names_counted (world_in l.chain) (drop l.home (chain_view l.chain).order)
