@@ -103,7 +103,8 @@ fn template_broken(scope: &Scope<'_>, body: &[Stmt]) -> Result<Option<ScopeError
 /// Whether the chains read or bind few enough names, once a chain.
 fn has_few_names(alloc: Global, chain: &Chain) -> Result<bool, AllocError>
     ensures { IfOk result (λ b. b
-        ≡ nat_le (rules.names_counted (world_in chain.now) (chain_view chain.now).order) max_names) }
+        ≡ nat_le (rules.names_counted (world_in chain.now) (chain_view chain.now).order)
+        max_names) }
 {
     let mut left = MAX_NAMES;
     for home in 0..chain.homes.len() {

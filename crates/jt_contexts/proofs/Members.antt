@@ -1,6 +1,6 @@
 -- The values of items and members, one after another.
-use Rattle.std.proofs.Common.{◌≡◌, ◌∙◌, ◌++◌, ◌||◌, ℕ, Bool, true, false, List, [], ◌∷◌, Option, Some, None, String, Global, Ordering, Less, ap, ap₂, refl, sym, cond, map, option_map, string_bytes, string_cmp, nat_cmp, is_eq, bytes_eq, length, arith}
-use Rattle.std.specs.Prelude.{option_and_then, OnOk, Result, Ok, Err}
+use Rattle.std.proofs.Common.{◌≡◌, ◌∙◌, ◌++◌, ◌||◌, ℕ, Bool, true, false, List, [], ◌∷◌, Option, Some, None, String, Global, Less, ap, ap₂, refl, sym, cond, map, option_map, string_bytes, string_cmp, nat_cmp, is_eq, bytes_eq, length, arith}
+use Rattle.std.specs.Prelude.{OnOk, Result, Ok, Err}
 use Rattle.std.specs.Result.{is_err}
 use Rattle.std.specs.List.{AllByRecursion}
 use Rattle.std.specs.List.Sorted.{IsStrictlySortedBy}
@@ -10,10 +10,9 @@ use Rattle.std.specs.Cmp.Lexicographic.{slice_cmp, nat_list_eq_equiv}
 use Rattle.std.proofs.lemmas.List.{map-append}
 use Rattle.std.proofs.lemmas.Map.Text.{is_eq-slice_cmp}
 use Rattle.indexmap.specs.IndexMap.{insert_entry}
-use Rattle.serde_json.specs.Data.{Num, Data, Items, Members}
+use Rattle.serde_json.specs.Data.{Num}
 use Rattle.serde_json.specs.View.{view as json_view, items_view as json_items, members_view}
 use Rattle.serde_json.specs.declared.value.Value.{Value as Json}
-use Rattle.jt_value.specs.Tree as tree
 use Rattle.jt_value.specs.Tree.{Tree}
 use Rattle.jt_value.specs.Pairs.{Pairs, pairs, put}
 use Rattle.jt_value.specs.View.{view, items_view, entries_view}

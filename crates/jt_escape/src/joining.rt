@@ -41,7 +41,8 @@ pub fn join_plain(alloc: Global, items: &[Value], separator: &Value) -> Result<V
 }
 
 fn join_as_markup(alloc: Global, items: &[Value], separator: &Value) -> Result<Value, ValueError>
-    ensures answer { IsAnswer (joined_as_markup (items_view items.now) (view separator.now)) result }
+    ensures answer { IsAnswer (joined_as_markup (items_view items.now) (view separator.now))
+        result }
     ensures memory { IfErr result (λ e. e ≡ ValueError.NoMemory
         → IsOk (joined_as_markup (items_view items.now) (view separator.now))) }
 {

@@ -1,5 +1,5 @@
 -- Filters and tests whose names have a meaning. A filter's arguments may name filters and tests too.
-use Rattle.std.specs.Prelude.{◌≡◌, ℕ, suc, Bool, true, false, not, ◌||◌, List, [], ◌∷◌, Option, Some, None, bytes_eq}
+use Rattle.std.specs.Prelude.{◌≡◌, ℕ, suc, Bool, true, false, not, ◌||◌, Option, Some, None, bytes_eq}
 use Rattle.std.specs.List.{list_any}
 use Rattle.jt_ids.specs.TestTable.{test_names, tests}
 use Rattle.jt_ids.specs.FilterTable.{filters, filter_names, filter_meant, named_at}

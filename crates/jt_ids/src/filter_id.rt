@@ -281,7 +281,8 @@ impl FilterId {
 /// The place of an argument, where one may be given by name.
 fn place_of_one(first: &str, argument: &str) -> Option<usize>
     ensures { result
-        ≡ option_map (λ i. i + 1) (position (λ other. bytes_eq other argument.now) (first.now ∷ [])) }
+        ≡ option_map (λ i. i + 1)
+        (position (λ other. bytes_eq other argument.now) (first.now ∷ [])) }
 {
     if first == argument { Some(1) } else { None }
 }

@@ -22,7 +22,7 @@ fn field(number: usize) -> Option<u32>
 }
 
 /// Pushes a constant.
-pub fn constant_of(place: usize) -> Option<Instruction>
+pub(crate) fn constant_of(place: usize) -> Option<Instruction>
     ensures { Given result (op.Const place) }
 {
     match field(place) {
@@ -42,7 +42,7 @@ pub fn data_of(place: usize) -> Option<Instruction>
 }
 
 /// Pushes what a slot holds.
-pub fn load_of(slot: Slot) -> Option<Instruction>
+pub(crate) fn load_of(slot: Slot) -> Option<Instruction>
     ensures { Given result (load_of (slot_view slot)) }
 {
     match slot {
@@ -141,7 +141,7 @@ fn told_as(told: Field) -> LoopField
 }
 
 /// Pushes a field of the loop that has so many entries above it.
-pub fn told_of(told: Field, above: usize) -> Option<Instruction>
+pub(crate) fn told_of(told: Field, above: usize) -> Option<Instruction>
     ensures { (h : ℕ)
         → StandsFor above h
         → Given result (op.LoopGet (field_id (told_as (field_view told))) h) }
@@ -163,7 +163,7 @@ pub fn flag(escaping: bool) -> u8
 }
 
 /// Makes one value of that many.
-pub fn made_of(made: Maker, count: usize) -> Option<Instruction>
+pub(crate) fn made_of(made: Maker, count: usize) -> Option<Instruction>
     ensures { Given result (maker (maker_view made) count) }
 {
     match made {

@@ -89,7 +89,8 @@ fn is_named(key: &str, pairs: &[Entry]) -> bool
 fn weighed(key: &Entry, value: &Entry, named: bool, rest: (u64, u32)) -> (u64, u32)
     ensures size { (n : ℕ)
         → rest.0 ≡ min n (2 ^ 64 - 1)
-        → result.0 ≡ min (n + (if named then 0 else 1 + length (key_bytes (held (entry_view key.now)))
+        → result.0 ≡ min (n + (if named then 0
+        else 1 + length (key_bytes (held (entry_view key.now)))
         + size (held (entry_view value.now)))) (2 ^ 64 - 1) }
     ensures nesting { (n : ℕ)
         → rest.1 ≡ min n (2 ^ 32 - 1)

@@ -149,7 +149,8 @@ fn appended(mut list: Rc<ValueList>, more: &ValueList, limits: Limits) -> Result
 
 /// Puts the items of another list behind a list's own, under the limits.
 fn append_within(list: &mut Rc<ValueList>, more: &ValueList, limits: Limits) -> Result<(), OpError>
-    ensures ok { OnOk result (limited_by limits (Ok (tree.list (joined_items list.old.value more.now)))
+    ensures ok { OnOk result
+        (limited_by limits (Ok (tree.list (joined_items list.old.value more.now)))
         ≡ Ok (tree.list list.new.value)) }
     ensures refused { IfErr result (λ e. Answers (Err e)
         (limited_by limits (Ok (tree.list (joined_items list.old.value more.now))))) }

@@ -47,7 +47,7 @@ pub struct Frame {
 }
 
 /// One statement behind the others.
-pub fn push_statement(body: &mut Vec<Stmt>, statement: Stmt) -> Result<(), ParseError>
+pub(crate) fn push_statement(body: &mut Vec<Stmt>, statement: Stmt) -> Result<(), ParseError>
     ensures pushed { IfOk result (λ u. body_view body.new.items
         ≡ reading.then_one (body_view body.old.items) (stmt_view statement)) }
     ensures refused { IfErr result (λ e. e ≡ error.NoMemory) }
@@ -57,7 +57,7 @@ pub fn push_statement(body: &mut Vec<Stmt>, statement: Stmt) -> Result<(), Parse
 }
 
 /// One branch behind the others.
-pub fn push_branch(
+pub(crate) fn push_branch(
     branches: &mut Vec<(u32, Expr, Vec<Stmt>)>,
     line: u32,
     condition: Expr,
@@ -73,7 +73,7 @@ pub fn push_branch(
 }
 
 /// Takes the innermost frame.
-pub fn pop_frame(frames: &mut Vec<Frame>) -> Option<Frame>
+pub(crate) fn pop_frame(frames: &mut Vec<Frame>) -> Option<Frame>
     ensures { MatchOption result (frames_view frames.old.items ≡ [])
         (λ f. frames_view frames.old.items ≡ frame_view f ∷ frames_view frames.new.items) }
 {
@@ -81,7 +81,7 @@ pub fn pop_frame(frames: &mut Vec<Frame>) -> Option<Frame>
 }
 
 /// One frame more.
-pub fn push_frame(frames: &mut Vec<Frame>, frame: Frame) -> Result<(), ParseError>
+pub(crate) fn push_frame(frames: &mut Vec<Frame>, frame: Frame) -> Result<(), ParseError>
     ensures pushed { IfOk result
         (λ u. frames_view frames.new.items ≡ frame_view frame ∷ frames_view frames.old.items) }
     ensures refused { IfErr result (λ e. e ≡ error.NoMemory) }
@@ -162,7 +162,11 @@ fn finished(alloc: Global, line: u32, kind: Kind, body: Vec<Stmt>) -> Result<Stm
 
 /// Ends a frame, whose statements are given: they become those before it, with the one that ends
 /// behind them.
-pub fn close_frame(alloc: Global, frame: Frame, body: &mut Vec<Stmt>) -> Result<(), ParseError>
+pub(crate) fn close_frame(
+    alloc: Global,
+    frame: Frame,
+    body: &mut Vec<Stmt>,
+) -> Result<(), ParseError>
     ensures closed { IfOk result (λ u. body_view body.new.items
         ≡ reading.then_one (reading.before (frame_view frame))
         (reading.finished (body_view body.old.items) (frame_view frame))) }
@@ -175,9 +179,10 @@ pub fn close_frame(alloc: Global, frame: Frame, body: &mut Vec<Stmt>) -> Result<
 }
 
 /// The line of the innermost frame, if one is open.
-pub fn unclosed(frames: Vec<Frame>) -> Option<u32>
+pub(crate) fn unclosed(frames: Vec<Frame>) -> Option<u32>
     ensures { MatchOption result (frames_view frames.items ≡ [])
-        (λ l. (f : reading.Frame) × (fs : List reading.Frame) × (frames_view frames.items ≡ f ∷ fs)) }
+        (λ l. (f : reading.Frame) × (fs : List reading.Frame)
+        × (frames_view frames.items ≡ f ∷ fs)) }
 {
     let mut frames = frames;
     match pop_frame(&mut frames) {
@@ -216,7 +221,7 @@ fn is_end_of(opening: &Opening, word: &str) -> bool
 }
 
 /// Whether the tag with this word ends the frame.
-pub fn ends_frame(frame: &Frame, word: &str, tokens: &[Token<'_>]) -> bool
+pub(crate) fn ends_frame(frame: &Frame, word: &str, tokens: &[Token<'_>]) -> bool
     ensures { result
         ≡ reading.ends_frame (chars word.now) (map token_view tokens.now) (frame_view frame.now) }
 {
@@ -228,7 +233,7 @@ pub fn ends_frame(frame: &Frame, word: &str, tokens: &[Token<'_>]) -> bool
 }
 
 /// Whether the word ends some statement.
-pub fn is_end_word(word: &str) -> bool
+pub(crate) fn is_end_word(word: &str) -> bool
     ensures { result ≡ reading.is_end_word (chars word.now) }
 {
     is_word(word, "endif")

@@ -42,7 +42,7 @@ fn side_of(kind: Kind, mark: Mark) -> Side
 }
 
 /// What a segment is for the text behind it.
-pub fn side_behind(part: &Part<'_>) -> Side
+pub(crate) fn side_behind(part: &Part<'_>) -> Side
     ensures { side_view result ≡ spec.side_behind (part_view part.now) }
 {
     match part {
@@ -66,7 +66,7 @@ fn side_before(part: &Part<'_>) -> Side
 }
 
 /// What the first of the segments is for the text before it.
-pub fn side_ahead(segments: &[Segment<'_>]) -> Side
+pub(crate) fn side_ahead(segments: &[Segment<'_>]) -> Side
     ensures { side_view result ≡ ahead_view segments.now }
 {
     match segments {
@@ -167,7 +167,7 @@ fn removed_right(text: &str, options: Options, start: bool, right: Side) -> &str
 }
 
 /// What is left of a text between two sides.
-pub fn kept(text: &str, options: Options, left: Side, right: Side) -> &str
+pub(crate) fn kept(text: &str, options: Options, left: Side, right: Side) -> &str
     ensures { chars result.now
         ≡ spec.kept options (side_view left) (side_view right) (chars text.now) }
 {

@@ -451,7 +451,7 @@ fn head(
 }
 
 /// What the first tag of a statement says, whose first word is given with all tokens behind it.
-pub fn read_head(
+pub(crate) fn read_head(
     alloc: Global,
     word: &str,
     tokens: &[Token<'_>],

@@ -1,8 +1,7 @@
 -- What each command comes to.
-use Rattle.std.specs.Prelude.{◌≡◌, ◌≢◌, ◌⊎◌, ℕ, List, [], length, Option, Some, None, Result, Ok, Err, String, Vec, string_bytes}
+use Rattle.std.specs.Prelude.{◌≡◌, ◌≢◌, ◌⊎◌, ℕ, List, length, Result, Ok, Err, String, Vec}
 use Rattle.std.specs.declared.alloc.Global.{Global}
 use Rattle.std.specs.Str.{IsUtf8}
-use Rattle.clap.specs.Words.{Row, Text as Word}
 use Rattle.jt_scan.specs.declared.options.Options.{Options}
 use Rattle.jt_value.specs.Pairs.{Pairs}
 use Rattle.jt_value.specs.ContextView.{pairs_of}
@@ -21,17 +20,11 @@ use Rattle.jt_budget.specs.declared.Budget.{Budget}
 use Rattle.jt_contexts.specs.Json.{IsContext, Holds}
 use Rattle.jt_host.specs.Rendering.{IsRefused as IsUncompiled, IsRendered}
 use Rattle.jt_contexts.specs.declared.ContextError.TheVariants as context_error
-use Rattle.jt_line.specs.Line.{IsAsked}
-use Rattle.jt_line.specs.declared.Command.{Command}
-use Rattle.jt_line.specs.declared.Command.TheVariants as command
-use Rattle.jt_line.specs.declared.Job.{Job}
 use Rattle.jt_line.specs.declared.Options.{Options as LineOptions}
 use Rattle.jt_verify.specs.Refusing.{RefusalHolds}
 use Rattle.jt_machine.specs.View.{budget_view, outcome_view}
 use Rattle.jt_machine.specs.declared.Outcome.{Outcome}
 use Rattle.jt_machine.specs.declared.Outcome.TheVariants as outcome
-use Rattle.jt_verify.specs.declared.Refusal.{Refusal}
-use Rattle.jt_verify.specs.declared.Refusal.TheVariants as refusal
 use Rattle.jt_program.specs.declared.messages.Failure.{Failure}
 use Rattle.jt_program.specs.declared.messages.Failure.TheVariants as failure
 

@@ -17,7 +17,7 @@ use jt_verify::{Verified, VerifiedView, verify, verify_view};
 use std::alloc::Global;
 
 /// How templates are read, by what the line asks for.
-pub fn scan_options(options: jt_line::Options) -> Options
+pub(crate) fn scan_options(options: jt_line::Options) -> Options
     ensures { result ≡ options_of options }
 {
     Options {
@@ -29,7 +29,7 @@ pub fn scan_options(options: jt_line::Options) -> Options
 }
 
 /// The context that the bytes of a file spell.
-pub fn context_of(alloc: Global, bytes: &[u8]) -> Result<Context, Failure>
+pub(crate) fn context_of(alloc: Global, bytes: &[u8]) -> Result<Context, Failure>
     ensures { GivesContext bytes.now result }
 {
     let Ok(text) = std::str::from_utf8(bytes) else {
@@ -42,7 +42,7 @@ pub fn context_of(alloc: Global, bytes: &[u8]) -> Result<Context, Failure>
 }
 
 /// The bytes of the image of the template of a name.
-pub fn image_of(
+pub(crate) fn image_of(
     alloc: Global,
     name: &str,
     templates: &Templates,
@@ -75,7 +75,7 @@ fn verified_of(alloc: Global, bytes: &[u8]) -> Result<VerifiedView<'_>, Failure>
 }
 
 /// The image that bytes spell, verified.
-pub fn verified_image(alloc: Global, bytes: &[u8]) -> Result<Verified, Failure>
+pub(crate) fn verified_image(alloc: Global, bytes: &[u8]) -> Result<Verified, Failure>
     ensures { VerifiesTo bytes.now result }
 {
     let image = match decode(alloc, bytes) {
@@ -89,7 +89,7 @@ pub fn verified_image(alloc: Global, bytes: &[u8]) -> Result<Verified, Failure>
 }
 
 /// How many units and instructions the image has that bytes spell, where it is accepted.
-pub fn counts_of(alloc: Global, bytes: &[u8]) -> Result<(usize, usize), Failure>
+pub(crate) fn counts_of(alloc: Global, bytes: &[u8]) -> Result<(usize, usize), Failure>
     ensures { ChecksTo bytes.now result }
 {
     let verified = verified_of(alloc, bytes)?;
@@ -98,7 +98,7 @@ pub fn counts_of(alloc: Global, bytes: &[u8]) -> Result<(usize, usize), Failure>
 }
 
 /// The text of the image that bytes spell, run for a context.
-pub fn run_image(
+pub(crate) fn run_image(
     alloc: Global,
     bytes: &[u8],
     context: &Context,
@@ -114,7 +114,7 @@ pub fn run_image(
 }
 
 /// The text of the template of a name for a context.
-pub fn render_text(
+pub(crate) fn render_text(
     alloc: Global,
     name: &str,
     templates: &Templates,

@@ -139,7 +139,7 @@ impl From<JobError> for Failure {
 }
 
 /// What a fault of the file at a path comes to.
-pub fn no_file(error: FileError, path: String) -> Failure
+pub(crate) fn no_file(error: FileError, path: String) -> Failure
     ensures { result ≡ of_file error path }
 {
     match error {
@@ -149,7 +149,7 @@ pub fn no_file(error: FileError, path: String) -> Failure
 }
 
 /// What bytes that are no image come to.
-pub fn no_image(error: ImageError) -> Failure
+pub(crate) fn no_image(error: ImageError) -> Failure
     ensures { result ≡ of_image error }
 {
     match error {
@@ -159,7 +159,7 @@ pub fn no_image(error: ImageError) -> Failure
 }
 
 /// What an image that is refused comes to.
-pub fn no_code(refusal: Refusal) -> Failure
+pub(crate) fn no_code(refusal: Refusal) -> Failure
     ensures { result ≡ of_code refusal }
 {
     match refusal {
@@ -169,7 +169,7 @@ pub fn no_code(refusal: Refusal) -> Failure
 }
 
 /// What a template that does not compile comes to.
-pub fn no_template(refusal: CompileError) -> Failure
+pub(crate) fn no_template(refusal: CompileError) -> Failure
     ensures { result ≡ of_compile refusal }
 {
     match refusal {
@@ -179,7 +179,7 @@ pub fn no_template(refusal: CompileError) -> Failure
 }
 
 /// What a file that gives no context comes to.
-pub fn no_context(error: ContextError) -> Failure
+pub(crate) fn no_context(error: ContextError) -> Failure
     ensures { result ≡ of_context error }
 {
     match error {
@@ -189,7 +189,7 @@ pub fn no_context(error: ContextError) -> Failure
 }
 
 /// What a host that refuses comes to.
-pub fn no_session(error: HostError) -> Failure
+pub(crate) fn no_session(error: HostError) -> Failure
     ensures { result ≡ of_host error }
 {
     match error {
@@ -199,7 +199,7 @@ pub fn no_session(error: HostError) -> Failure
 }
 
 /// What templates that are not rendered come to.
-pub fn unrendered(refusal: RenderError) -> Failure
+pub(crate) fn unrendered(refusal: RenderError) -> Failure
     ensures { result ≡ of_render refusal }
 {
     match refusal {
@@ -209,7 +209,7 @@ pub fn unrendered(refusal: RenderError) -> Failure
 }
 
 /// The text that a run ended with, or what it failed by.
-pub fn text_of(outcome: Outcome) -> Result<String, Failure>
+pub(crate) fn text_of(outcome: Outcome) -> Result<String, Failure>
     ensures { result ≡ of_outcome outcome }
 {
     match outcome {

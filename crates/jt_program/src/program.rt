@@ -205,7 +205,7 @@ fn render_in<F: Files>(
 }
 
 /// The context in a file, or the empty one where there is no file.
-pub fn context_at<F: Files>(
+pub(crate) fn context_at<F: Files>(
     alloc: Global,
     files: &F,
     path: Option<String>,
@@ -226,7 +226,7 @@ pub fn context_at<F: Files>(
 }
 
 /// The bytes of the file at `path`.
-pub fn bytes_at<F: Files>(files: &F, path: String) -> Result<Vec<u8>, Failure>
+pub(crate) fn bytes_at<F: Files>(files: &F, path: String) -> Result<Vec<u8>, Failure>
     ensures held { IfOk result
         (λ bytes. (F.known files.now).holds (string_bytes path) bytes.items) }
     ensures err { IfErr result

@@ -13,7 +13,7 @@ use jt_turns::{Start, take_turns};
 use std::alloc::Global;
 
 /// The lines of the images at paths, which run for the contexts of files in turns of so many instructions.
-pub fn run_turns<F: Files>(
+pub(crate) fn run_turns<F: Files>(
     alloc: Global,
     files: &F,
     pairs: Vec<Pair>,

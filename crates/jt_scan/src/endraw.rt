@@ -23,7 +23,7 @@ fn behind_endraw(text: &str) -> Option<&str>
 
 /// The marks of the `endraw` tag in front, and what is behind the tag.
 #[tactic(auto, unfolding(crate::specs::Cut::endraw_at))]
-pub fn read_endraw(text: &str) -> Option<(Marks, &str)>
+pub(crate) fn read_endraw(text: &str) -> Option<(Marks, &str)>
     ensures { MatchOption result (cut.endraw_at (chars text.now) ≡ None)
         (λ p. cut.endraw_at (chars text.now) ≡ Some (p.0, chars p.1.now)) }
 {
@@ -42,7 +42,7 @@ fn ends_raw(text: &str) -> bool
 }
 
 /// What is in front of the first `endraw` tag, and what is from there on.
-pub fn split_raw(text: &str) -> (&str, &str)
+pub(crate) fn split_raw(text: &str) -> (&str, &str)
     ensures { spec.clear_run cut.ends_raw (chars text.now)
         ≡ (chars result.0.now, chars result.1.now) }
 {

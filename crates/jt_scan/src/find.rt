@@ -45,7 +45,7 @@ fn find_opener(text: &[u8]) -> Option<usize>
 }
 
 /// The data in front of the first opener, and what is from there on.
-pub fn split_data(text: &str) -> (&str, &str)
+pub(crate) fn split_data(text: &str) -> (&str, &str)
     ensures { spec.clear_run cut.opens (chars text.now) ≡ (chars result.0.now, chars result.1.now) }
 {
     let end = find_opener(text.as_bytes()).unwrap_or(text.len());
@@ -60,7 +60,7 @@ fn find_end(text: &[u8]) -> Option<usize>
 }
 
 /// What is in front of the first `#}`, and what is from there on.
-pub fn split_comment(text: &str) -> (&str, &str)
+pub(crate) fn split_comment(text: &str) -> (&str, &str)
     ensures { spec.clear_run cut.ends_comment (chars text.now)
         ≡ (chars result.0.now, chars result.1.now) }
 {

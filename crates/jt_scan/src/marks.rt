@@ -19,7 +19,7 @@ fn mark_of(c: char) -> Mark
 }
 
 /// The mark in front, and what is behind it.
-pub fn read_mark(text: &str) -> (Mark, &str)
+pub(crate) fn read_mark(text: &str) -> (Mark, &str)
     ensures mark { result.0 ≡ cut.first_mark (chars text.now) }
     ensures rest { chars result.1.now ≡ cut.behind_mark (chars text.now) }
 {
@@ -47,7 +47,7 @@ fn last_mark(text: &str) -> Mark
 }
 
 /// The marks of a comment between whose delimiters the text stands.
-pub fn comment_marks(text: &str) -> Marks
+pub(crate) fn comment_marks(text: &str) -> Marks
     ensures { result ≡ cut.comment_marks (chars text.now) }
 {
     let (opening, rest) = read_mark(text);
@@ -75,7 +75,7 @@ fn may_close(kind: Kind, mark: Mark) -> bool
 }
 
 /// The mark of the closer in front, and what is behind it.
-pub fn read_closer(text: &str, kind: Kind) -> Option<(Mark, &str)>
+pub(crate) fn read_closer(text: &str, kind: Kind) -> Option<(Mark, &str)>
     ensures { MatchOption result (cut.closer_at kind (chars text.now) ≡ None)
         (λ p. cut.closer_at kind (chars text.now) ≡ Some (p.0, chars p.1.now)) }
 {

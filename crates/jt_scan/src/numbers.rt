@@ -9,7 +9,7 @@ use crate::text::first;
 
 #[tactic(auto, unfolding(crate::specs::Literals::digit_value))]
 /// The value of a digit, of a letter in either case. A character that is none has 16.
-pub fn digit_value(c: char) -> u32
+pub(crate) fn digit_value(c: char) -> u32
     ensures { result ≡ literal.digit_value c }
 {
     match c {
@@ -21,7 +21,7 @@ pub fn digit_value(c: char) -> u32
 }
 
 /// The digit of the base in front, and what is behind it.
-pub fn plain_digit(text: &str, base: u32) -> Option<(u32, &str)>
+pub(crate) fn plain_digit(text: &str, base: u32) -> Option<(u32, &str)>
     ensures { MatchOption result (spec.plain_digit base (chars text.now) ≡ None)
         (λ p. spec.plain_digit base (chars text.now) ≡ Some (p.0, chars p.1.now)) }
 {
@@ -52,7 +52,7 @@ fn next_digit(text: &str, base: u32) -> Option<(u32, &str)>
 }
 
 /// The number with one digit more, or the greatest of its type where it is greater.
-pub fn grown(number: u64, base: u32, digit: u32) -> u64
+pub(crate) fn grown(number: u64, base: u32, digit: u32) -> u64
     ensures { result ≡ min (min (number * base) (2 ^ 64 - 1) + digit) (2 ^ 64 - 1) }
 {
     number
@@ -102,7 +102,7 @@ fn named_base(text: &str) -> Option<(u32, &str)>
 
 /// The number whose first digit is given, or the greatest of its type where it is greater, and
 /// what is behind it.
-pub fn read_number(c: char, more: &str) -> (u64, &str)
+pub(crate) fn read_number(c: char, more: &str) -> (u64, &str)
     ensures value { result.0 ≡ min (spec.number_at c (chars more.now)).0 (2 ^ 64 - 1) }
     ensures rest { chars result.1.now ≡ (spec.number_at c (chars more.now)).1 }
 {

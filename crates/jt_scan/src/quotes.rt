@@ -37,7 +37,7 @@ pub enum Piece {
 }
 
 /// Whether the character is a quote.
-pub fn is_quote(c: char) -> bool
+pub(crate) fn is_quote(c: char) -> bool
     ensures { result ≡ literal.is_quote c }
 {
     c == '"' || c == '\''
@@ -52,7 +52,7 @@ fn is_bare(c: char, wanted: char, escaped: bool) -> bool
 
 /// What is in front of the second quote, and what is behind it. The character behind a backslash
 /// is none.
-pub fn split_quoted(text: &str, quote: char) -> Option<(&str, &str)>
+pub(crate) fn split_quoted(text: &str, quote: char) -> Option<(&str, &str)>
     ensures { MatchOption result (spec.enclosed_at quote false (chars text.now) ≡ None)
         (λ p. spec.enclosed_at quote false (chars text.now) ≡ Some (chars p.0.now, chars p.1.now)) }
 {
@@ -176,7 +176,7 @@ fn read_piece(c: char, more: &str) -> Option<(Piece, &str)>
 }
 
 /// Whether every escape has a meaning.
-pub fn has_meaning(raw: &str) -> bool
+pub(crate) fn has_meaning(raw: &str) -> bool
     ensures { result ≡ (literal.pieces 0 (chars raw.now)).1 }
 {
     let mut rest = raw;

@@ -61,7 +61,7 @@ fn two_sign(c: char, d: char) -> Option<Sign>
 
 #[tactic(auto, unfolding(crate::specs::Scanning::sign_at))]
 /// The longest sign in front, and what is behind it.
-pub fn read_sign(text: &str) -> Option<(Sign, &str)>
+pub(crate) fn read_sign(text: &str) -> Option<(Sign, &str)>
     ensures { MatchOption result (spec.sign_at (chars text.now) ≡ None)
         (λ p. spec.sign_at (chars text.now) ≡ Some (p.0, chars p.1.now)) }
 {

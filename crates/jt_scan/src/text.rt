@@ -18,7 +18,7 @@ pub fn first(text: &str) -> Option<(char, &str)>
 }
 
 /// What is behind the two characters, where they stand in front.
-pub fn behind_pair(text: &str, one: char, two: char) -> Option<&str>
+pub(crate) fn behind_pair(text: &str, one: char, two: char) -> Option<&str>
     ensures { MatchOption result (cut.begins one two (chars text.now) ≡ false)
         (λ rest. chars text.now ≡ one ∷ two ∷ chars rest.now) }
 {
@@ -39,7 +39,7 @@ fn is_space(c: char) -> bool
 }
 
 /// Whether a name may start with the character.
-pub fn starts_name(c: char) -> bool
+pub(crate) fn starts_name(c: char) -> bool
     ensures { result ≡ cut.starts_name c }
 {
     is_xid_start(c) || c == '_'
@@ -62,7 +62,7 @@ pub fn behind_space(text: &str) -> &str
 
 #[tactic(auto, unfolding(crate::specs::Scanning::run))]
 /// What is behind the characters in front that go on with a name.
-pub fn behind_name(text: &str) -> &str
+pub(crate) fn behind_name(text: &str) -> &str
     ensures { chars result.now ≡ (spec.run (chars text.now)).1 }
 {
     let mut rest = text;
@@ -76,7 +76,7 @@ pub fn behind_name(text: &str) -> &str
 }
 
 /// The part of a text before its end.
-pub fn before<'a>(text: &'a str, end: &str) -> &'a str
+pub(crate) fn before<'a>(text: &'a str, end: &str) -> &'a str
     requires { cut.EndsWith (chars text.now) (chars end.now) }
     ensures { chars text.now ≡ chars result.now ++ chars end.now }
 {
@@ -84,7 +84,7 @@ pub fn before<'a>(text: &'a str, end: &str) -> &'a str
 }
 
 /// The number of line ends.
-pub fn lines(text: &str) -> usize
+pub(crate) fn lines(text: &str) -> usize
     ensures { result ≡ cut.lines (chars text.now) }
 {
     let mut count = 0;
@@ -97,7 +97,7 @@ pub fn lines(text: &str) -> usize
 }
 
 /// Whether a word is the known one, of ASCII letters.
-pub fn is_word(word: &str, known: &str) -> bool
+pub(crate) fn is_word(word: &str, known: &str) -> bool
     requires { IsTrue (is_plain known.now) }
     ensures { result ≡ bytes_eq (chars word.now) known.now }
 {

@@ -121,7 +121,7 @@ fn braces(depth: usize, token: Token<'_>) -> usize
 }
 
 /// The tokens of a tag's inside up to its closer with the closer's mark, and what is behind it.
-pub fn read_tokens<'a>(
+pub(crate) fn read_tokens<'a>(
     alloc: Global,
     text: &'a str,
     kind: Kind,

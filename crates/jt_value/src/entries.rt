@@ -6,7 +6,7 @@ ghost use Rattle.jt_value.specs.View.{view, entries_view};
 use crate::value::Value;
 
 /// The first value of a key.
-pub fn first_value<'a>(entries: &'a [(String, Value)], key: &str) -> Option<&'a Value>
+pub(crate) fn first_value<'a>(entries: &'a [(String, Value)], key: &str) -> Option<&'a Value>
     ensures { option_map view (option_copied result) ≡ entry_of key.now (entries_view entries.now) }
 {
     for entry in entries {
@@ -18,7 +18,7 @@ pub fn first_value<'a>(entries: &'a [(String, Value)], key: &str) -> Option<&'a 
 }
 
 /// Whether a key is there.
-pub fn has(entries: &[(String, Value)], key: &str) -> bool
+pub(crate) fn has(entries: &[(String, Value)], key: &str) -> bool
     ensures { result ≡ has_key key.now (entries_view entries.now) }
 {
     for entry in entries {
@@ -30,7 +30,7 @@ pub fn has(entries: &[(String, Value)], key: &str) -> bool
 }
 
 /// Whether the entries have each key of the others.
-pub fn has_all_keys(entries: &[(String, Value)], others: &[(String, Value)]) -> bool
+pub(crate) fn has_all_keys(entries: &[(String, Value)], others: &[(String, Value)]) -> bool
     ensures { result
         ≡ all_keys (λ k. has_key k (entries_view entries.now)) (entries_view others.now) }
 {
@@ -43,7 +43,7 @@ pub fn has_all_keys(entries: &[(String, Value)], others: &[(String, Value)]) -> 
 }
 
 /// Whether both have the same keys at the same places.
-pub fn have_same_keys(entries: &[(String, Value)], others: &[(String, Value)]) -> bool
+pub(crate) fn have_same_keys(entries: &[(String, Value)], others: &[(String, Value)]) -> bool
     ensures { result ≡ same_keys (entries_view entries.now) (entries_view others.now) }
 {
     if entries.len() != others.len() {

@@ -1,9 +1,8 @@
-use Rattle.std.proofs.Common.{◌≡◌, ◌∙◌, ◌++◌, [], ◌∷◌, Some, List, ap, append_assoc, map, string_bytes, string_cmp, subst, sym, refl, append-nil}
+use Rattle.std.proofs.Common.{◌≡◌, ◌∙◌, ◌++◌, [], ◌∷◌, Some, ap, append_assoc, map, string_bytes, string_cmp, subst, sym, refl, append-nil}
 use Rattle.std.specs.List.Sorted.{IsStrictlySortedBy}
 use Rattle.std.specs.Map.{keys_of}
 use Rattle.std.proofs.lemmas.List.{map-append}
 use Rattle.std.proofs.lemmas.Result.{err_from_is_err_and}
-use Rattle.serde_json.specs.View.{members_view}
 use Rattle.jt_value.specs.Pairs.{pairs}
 use Rattle.jt_value.specs.View.{view}
 use Rattle.jt_contexts.proofs.Members.{Member, entries_from, item_flaw, items_from, member_flaw, nil_of, one_more, pairs-insert, put_last, shown, unless_failed, value_in}

@@ -1,12 +1,9 @@
-use Rattle.std.proofs.Common.{◌≡◌, ◌∙◌, ◌++◌, [], ◌∷◌, Some, List, ap, append_assoc, map, string_bytes, string_cmp, subst, sym, refl, List, append-nil}
+use Rattle.std.proofs.Common.{◌≡◌, ◌∙◌, ◌++◌, [], ◌∷◌, Some, ap, append_assoc, map, string_bytes, string_cmp, subst, sym, refl, append-nil}
 use Rattle.std.specs.List.Sorted.{IsStrictlySortedBy}
 use Rattle.std.specs.Map.{keys_of}
 use Rattle.std.proofs.lemmas.Result.{err_from_is_err_and}
-use Rattle.serde_json.specs.View.{members_view}
 use Rattle.jt_value.specs.ContextView.{pairs_of}
-use Rattle.jt_value.specs.Tree.{Tree}
 use Rattle.jt_value.specs.View.{view}
-use Rattle.jt_contexts.specs.Json.{MembersFlaw, pairs_in}
 use Rattle.jt_contexts.proofs.Members.{Member, member_flaw, one_more, pairs_from, put_last, shown, unless_failed}
 use Rattle.jt_contexts.proofs.contexts.context_of.Goals as goal
 
