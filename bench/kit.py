@@ -17,3 +17,27 @@ def stamp(crate):
 
 
 rt.rtlib.Crate.stamp = stamp
+
+
+def copied(to):
+    """Copies the tree that this is called in to a folder, but for what rt made."""
+    for it in ("crates.txt", "HANDLES"):
+        shutil.copy(it, to)
+    shutil.copytree("crates", f"{to}/crates", symlinks=True, ignore=shutil.ignore_patterns("out"))
+    # (rt looks for no tree above this one)
+    os.mkdir(f"{to}/.git")
+
+
+def give(root, is_wanted):
+    """Gives a copy the wanted libraries as `rt ci` kept them on this machine, and returns the first that is not kept as it stands, if one is not."""
+    os.chdir(root)
+    crates = rt.crates_of(root)
+    kept = rt.Kept(crates)
+    for crate in [it for it in crates if it.makes_rlib() and is_wanted(it)]:
+        os.makedirs(f"{crate.folder}/out", exist_ok=True)
+        if not kept.give(crate, False, kept.key(crate)):
+            return crate.name
+        kept.is_built(crate)
+        with open(f"{crate.folder}/out/rlib/stamp", "w", encoding="utf-8") as it:
+            it.write(crate.stamp())
+    return None

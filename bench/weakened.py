@@ -2,14 +2,13 @@
 """Shows that each layer's contract is needed: has a clause of one public call say nothing, in a copy, and tells which crate above is
 then no longer proved: bench/weakened.py [CRATE ..]
 
-A developer's tool, run by hand over kept work (`rt all check` makes it): it prints a table as Markdown, a row for each layer of LAYERS
-or for the crates that are named. The layer itself must still be proved without the clause (a clause that says nothing can only
+A developer's tool, run by hand over the libraries that `.ci/run` kept on this machine: it prints a table as Markdown, a row for each layer
+of LAYERS or for the crates that are named. The layer itself must still be proved without the clause (a clause that says nothing can only
 help it); then the crates that stand on it are checked, from the lowest, until one is not proved. The status is 0 where each layer's
-clause was missed. The copy below TMPDIR shares its files with the crates by hard links, but for the kept work of those that a row
-checks, so TMPDIR must lie on their file system, and some gigabytes must be free.
+clause was missed. It works in a copy of the tree below TMPDIR.
 """
 import glob, os, pathlib, re, shutil, subprocess, sys, tempfile
-from kit import rt, sums
+from kit import copied, give, rt
 
 # a layer, the file and the name of its call, and the clause's name, if it has one
 LAYERS = [
@@ -22,9 +21,11 @@ LAYERS = [
     ("jt_expr", "src/tag.rt", "expression", "spelled"),
     ("jt_parse", "src/parser.rt", "parse", "spelled"),
     ("jt_order", "src/ordering.rt", "order", "ordered"),
+    ("jt_chains", "src/layers.rt", "layers", "there"),
     ("jt_inherit", "src/chaining.rt", "chain", "only"),
     ("jt_uses", "src/chains.rt", "own_names", ""),
     ("jt_slots", "src/named.rt", "filter_parameters", ""),
+    ("jt_rules", "src/laws.rt", "rules_laws", ""),
     ("jt_checks", "src/checking.rt", "check_rules", "kept"),
     ("jt_meaning", "src/laws.rt", "program_laws", ""),
     ("jt_layout", "src/laying.rt", "lay_out", "laid"),
@@ -35,9 +36,12 @@ LAYERS = [
     ("jt_verify", "src/checked.rt", "verify", "ok"),
     ("jt_budget", "src/budget.rt", "charge", "err"),
     ("jt_machine", "src/runs.rt", "run", "outcome"),
+    ("jt_contexts", "src/contexts.rt", "context_from_json", "ok"),
+    ("jt_sessions", "src/sessions.rt", "turn", "turns"),
     ("jt_line", "src/line.rt", "job", "asked"),
     ("jt_host", "src/rendering.rt", "render", "rendered"),
     ("jt_turns", "src/turns.rt", "take_turns", ""),
+    ("jt_program", "src/program.rt", "perform", "kept"),
 ]
 
 
@@ -63,8 +67,9 @@ def unanswered(text, clause):
 
 
 def first_goal(crate):
-    """Whether the crate is proved, and the first goal that is not."""
-    words = [*rt.rtlib.guarded(), rt.rtlib.RATTLE, "check", *crate.words(["--jobs", "2"]), *rt.rtlib.KEPT]
+    """Whether the crate is proved, of which its library is built then, and the first goal that is not."""
+    verb, more = ("build", ["--statements", "-o", crate.rlib]) if crate.makes_rlib() else ("check", [])
+    words = [*rt.rtlib.guarded(), rt.rtlib.RATTLE, verb, *crate.words(["--jobs", "2"], keeps=False), *more]
     how = {"cwd": crate.folder, "stdin": subprocess.DEVNULL, "stdout": subprocess.PIPE, "stderr": subprocess.STDOUT, "errors": "replace"}
     ran = subprocess.run(words, **how)
     open_goal = re.search(r"(?m)^fn (\S+): not proved", ran.stdout)
@@ -93,26 +98,22 @@ def row(root, layer, file, call, clause):
 
 
 def set_apart(crate):
-    """Gives the crate kept work of its own, which a check may write to, and puts its library aside."""
-    made, shared = f"{crate.folder}/out", f"{crate.folder}/shared"
-    if not os.path.isdir(shared):
-        os.rename(made, shared)
-        os.makedirs(f"{made}/incremental")
-        if os.path.isdir(f"{shared}/incremental"):
-            shutil.copytree(f"{shared}/incremental", f"{made}/incremental", dirs_exist_ok=True)
+    """Puts the crate's kept library aside, so that the crate has none."""
+    if os.path.isdir(f"{crate.folder}/out"):
+        os.rename(f"{crate.folder}/out", f"{crate.folder}/kept")
+    os.makedirs(f"{crate.folder}/out/rlib")
 
 
 def put_back(crates):
     """Has the crates' libraries stand again as they were before a row."""
     for crate in crates:
-        made, shared = f"{crate.folder}/out", f"{crate.folder}/shared"
-        shutil.rmtree(made)
-        os.rename(shared, made)
+        shutil.rmtree(f"{crate.folder}/out")
+        if os.path.isdir(f"{crate.folder}/kept"):
+            os.rename(f"{crate.folder}/kept", f"{crate.folder}/out")
 
 
 def missed(root, layer, said):
     """Goes up from the layer until a crate is not proved."""
-    sums.clear()
     apart = []
     try:
         weaker = {layer}
@@ -126,25 +127,19 @@ def missed(root, layer, said):
             if not proved:
                 return (f"{said} {crate.name}: `{goal}` |", True) if crate.name != layer else (f"{said} not proved itself |", False)
             weaker.add(crate.name)
-            sums.clear()
-            if crate.makes_rlib() and crate.build_rlib(["--jobs", "2"], anew=False):
-                return f"{said} {crate.name} has no library |", False
         return f"{said} **none** |", False
     finally:
         put_back(apart)
 
 
-def linked(file, to):
-    """A hard link to a file that rt made, and a copy of any other."""
-    return os.link(file, to) if "/out/" in file else shutil.copy2(file, to)
-
-
 def main(names):
     layers = [it for it in LAYERS if not names or it[0] in names]
     with tempfile.TemporaryDirectory(prefix="weakened-") as room:
-        for it in ("crates.txt", "HANDLES"):
-            shutil.copy(it, room)
-        shutil.copytree("crates", f"{room}/crates", symlinks=True, copy_function=linked)
+        copied(room)
+        lacking = give(room, lambda crate: True)
+        if lacking:
+            print(f"{lacking} is not kept as it stands: .ci/run makes it", file=sys.stderr)
+            return 2
         print("| Layer | Call and clause | The first crate above that is not proved without it |\n|---|---|---|")
         answers = []
         for layer in layers:

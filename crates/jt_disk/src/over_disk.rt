@@ -1,11 +1,11 @@
 //! What the program tells of a disk, of which all is known.
 
-ghost use Rattle.std.specs.Prelude.{◌≡◌, ◌≢◌, ℕ, List, codes};
+ghost use Rattle.std.specs.Prelude.{◌≡◌, ◌≢◌, ◌⊎◌, ℕ, List, codes};
 ghost use Rattle.clap.specs.Walk.{texts};
 ghost use Rattle.clap.specs.Words.{subcommand_of};
-ghost use Rattle.jt_line.specs.Line.{Asks, program_app};
-ghost use Rattle.jt_program.specs.Commands.{out_of};
-ghost use Rattle.jt_disk.specs.Disk.{file_at};
+ghost use Rattle.jt_line.specs.Line.{Asks, Takes, program_app};
+ghost use Rattle.jt_program.specs.Commands.{Answers, Ending, Explains, Tells, out_of};
+ghost use Rattle.jt_disk.specs.Disk.{file_at, known_of};
 ghost use Rattle.jt_disk.specs.Images.{IfCompiled};
 
 use crate::disk::Disk;
@@ -30,6 +30,16 @@ pub fn performed<W: Sink, E: Write>(
         → path ≢ out_of (subcommand_of program_app (texts words.now))
         → file_at disk.new path ≡ file_at disk.old path }
     ensures kept { ¬ Asks (codes "compile") (texts words.now) → disk.new ≡ disk.old }
+    // it tells how the command of the line ended, over all that is known of the disk
+    ensures ends { result ≢ 2
+        → result ≢ 6
+        → (e : Ending)
+        × Answers (known_of disk.old) (known_of disk.new)
+        (subcommand_of program_app (texts words.now)) e
+        × Tells (W.taken out.old) (W.taken out.new) (W.failed out.new) e result
+        × Explains (E.contents errors.old) (E.contents errors.new) e result }
+    ensures usage { ¬ Takes (texts words.now) → (result ≡ 2) ⊎ (result ≡ 6) }
+    ensures taken { Takes (texts words.now) → result ≢ 2 }
 {
     perform(alloc, words, disk, out, errors)
 }

@@ -1,0 +1,35 @@
+#!/usr/bin/env python3
+"""Runs a command of rt in a crate over the libraries that `rt ci` kept on this machine, so that none below it is proved again:
+bench/over_kept.py CRATE plant --minutes 30, or check, or any other.
+
+A developer's tool. It works in a copy of the tree below TMPDIR, of which nothing comes back: what the command prints is its answer. A
+crate above others is checked sooner so than by rt itself, since what `rt ci` keeps of a library are its statements alone. The status is
+that of the command, or 2 where a library below the crate is not kept as it stands: `rt ci CRATE` makes it.
+"""
+import os, shutil, subprocess, sys, tempfile
+from kit import copied, give, rt
+
+
+def refused(why):
+    print(why, file=sys.stderr)
+    return 2
+
+
+def main(name, *words):
+    with tempfile.TemporaryDirectory(prefix="over-kept-") as room:
+        root = os.path.realpath(room)
+        copied(root)
+        crate = next((it for it in rt.crates_of(root) if it.name == name), None)
+        if crate is None:
+            return refused(f"there is no crate {name}")
+        below = {it.name for it in crate.below()}
+        lacking = give(root, lambda it: it.name in below)
+        if lacking:
+            return refused(f"{lacking} is not kept as it stands: rt ci {name} makes it")
+        return subprocess.run([shutil.which("rt"), *words], cwd=crate.folder).returncode
+
+
+if __name__ == "__main__":
+    if len(sys.argv) < 3:
+        sys.exit(refused(__doc__))
+    sys.exit(main(*sys.argv[1:]))
