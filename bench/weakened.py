@@ -41,7 +41,7 @@ LAYERS = [
     ("jt_line", "src/line.rt", "job", "asked"),
     ("jt_host", "src/rendering.rt", "render", "rendered"),
     ("jt_turns", "src/turns.rt", "take_turns", ""),
-    ("jt_program", "src/program.rt", "perform", "kept"),
+    ("jt_program", "src/program.rt", "perform", "ends"),
 ]
 
 
@@ -85,7 +85,9 @@ def row(root, layer, file, call, clause):
     if weaker is None:
         return f"{said} has no such clause |", False
     texts = {place: (text, weaker)}
-    for answers in glob.glob(f"{root}/crates/{layer}/proofs/{file[4:-3]}/**/{call}/Answers.antt", recursive=True):
+    # (those of a method stand where its type does)
+    at = [f"{root}/crates/{layer}/proofs/{it}**/{call}/Answers.antt" for it in (f"{file[4:-3]}/", "")]
+    for answers in glob.glob(at[0], recursive=True) or glob.glob(at[1], recursive=True):
         was = rt.rtlib.text_of(answers)
         texts[answers] = (was, unanswered(was, clause))
     try:
