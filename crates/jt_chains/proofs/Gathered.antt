@@ -1,14 +1,14 @@
 -- Lists that are gathered from statements, one by one.
 use Rattle.std.proofs.Common.{◌≡◌, ℕ, ◌+◌, ◌<◌, List, ◌++◌, length, drop, get_or, sym, ap, ◌∙◌, append_assoc, Vec, Global, String, Option}
 use Rattle.std.specs.Prelude.{option_map}
-use Rattle.jt_expr.specs.Trees as expressions
-use Rattle.jt_expr.specs.View.{expr_view}
-use Rattle.jt_parse.specs.Trees as trees
-use Rattle.jt_parse.specs.Trees.{Body, Branches}
-use Rattle.jt_parse.specs.View.{names_view, stmt_view, body_view, branches_view}
-use Rattle.jt_expr.specs.declared.tree.Expr.{Expr}
-use Rattle.jt_parse.specs.declared.tree.Stmt.{Stmt}
-use Rattle.jt_parse.specs.declared.tree.Stmt.TheVariants.{If, For}
+use Rattle.jt_trees.specs.Expressions as expressions
+use Rattle.jt_trees.specs.ExpressionView.{expr_view}
+use Rattle.jt_trees.specs.Statements as trees
+use Rattle.jt_trees.specs.Statements.{Body, Branches}
+use Rattle.jt_trees.specs.StatementView.{names_view, stmt_view, body_view, branches_view}
+use Rattle.jt_trees.specs.declared.expression.Expr.{Expr}
+use Rattle.jt_trees.specs.declared.statement.Stmt.{Stmt}
+use Rattle.jt_trees.specs.declared.statement.Stmt.TheVariants.{If, For}
 use Rattle.jt_chains.proofs.Shown.{Branch, statements_left, branches_left, view-If, view-For}
 
 -- what one statement, statements, and branches give
@@ -37,7 +37,7 @@ module _ {A : Type 0} (f : trees.Stmt → List A) (F : Body → List A) (G : Bra
       ∙ ap (λ l. old ++ l) (sym (cons (branches_view bs.items) (body_view other.items)) ∙ ap f (sym (view-If bs other) ∙ ap stmt_view (sym is)))
 
   -- the body of a loop, and then its else part
-  pub loop_added : ((l : ℕ) (xs : List trees.Text) (e : expressions.Expr) (c : Option expressions.Expr) (a b : Body) → f (trees.for_each l xs e c a b) ≡ F a ++ F b)
+  pub loop_added : ((l : ℕ) (xs : List expressions.Text) (e : expressions.Expr) (c : Option expressions.Expr) (a b : Body) → f (trees.for_each l xs e c a b) ≡ F a ++ F b)
       → (s : Stmt) (line : ℕ) (xs : Vec (String Global) Global) (e : Expr) (c : Option Expr) (body other : Vec Stmt Global) (body' other' : List Stmt) (old mid new : List A)
       → s ≡ For line xs e c body other → body' ≡ body.items → other' ≡ other.items → mid ≡ old ++ F (body_view body') → new ≡ mid ++ F (body_view other') → new ≡ old ++ f (stmt_view s)
   loop_added cons s line xs e c body other body' other' old mid new is p q h g =

@@ -7,11 +7,12 @@ use Rattle.std.proofs.lemmas.Option.{slice_get_within}
 use Rattle.std.proofs.lemmas.Cmp.{nat_list_eq_equiv}
 use Rattle.std.proofs.lemmas.Slice.Eq.{bytes_eq-Decides}
 use Rattle.std.specs.Str.{bytes_eq}
-use Rattle.jt_parse.specs.Trees.{Text, Body, end}
-use Rattle.jt_parse.specs.View.{body_of}
+use Rattle.jt_trees.specs.Expressions.{Text}
+use Rattle.jt_trees.specs.Statements.{Body, end}
+use Rattle.jt_trees.specs.StatementView.{body_of}
 use Rattle.jt_chains.specs.Along.{ArePlaces, body_at, along}
 use Rattle.jt_chains.specs.Chain.{Sources, Template, template, templates, names_up, sources_in}
-use Rattle.jt_parse.specs.Texts.{among, repeated}
+use Rattle.jt_trees.specs.Texts.{among, repeated}
 use Rattle.jt_chains.specs.Pages.{page_view, pages_view, home_name, names_at, AreWhole}
 use Rattle.jt_chains.specs.Parts.{name_at}
 use Rattle.jt_chains.specs.Places.{home_at}

@@ -2,20 +2,18 @@
 use Rattle.std.proofs.Common.{◌≡◌, ℕ, ◌+◌, ◌<◌, List, [], ◌∷◌, length, map, drop, get_or, refl, sym, ap, ◌∙◌, Bool, Box, Vec, Global, String, string_bytes, Option, rules}
 use Rattle.std.specs.Prelude.{option_map}
 use Rattle.std.proofs.lemmas.List.{drop_more}
-use Rattle.jt_expr.specs.View.{expr_view}
-use Rattle.jt_expr.specs.declared.tree.Expr.{Expr}
-use Rattle.jt_parse.specs.Trees as trees
-use Rattle.jt_expr.specs.Trees as expressions
-use Rattle.jt_expr.specs.Trees.{pair}
-use Rattle.jt_expr.specs.View.{pairs_of, expr_step, exprs_view, pairs_view}
-use Rattle.jt_expr.specs.declared.tree.Expr.{fold-roll-Expr}
-use Rattle.jt_expr.specs.declared.tree.Expr.TheOpen.{Expr-F}
-use Rattle.jt_expr.specs.declared.tree.Expr.TheVariants as e
-use Rattle.jt_expr.specs.declared.tree.Expr.TheVariants.{rolls-Map, rolls-Call, rolls-Filter, rolls-Test}
-use Rattle.jt_parse.specs.View.{names_view, stmts_of, branches_of, stmt_step, stmt_view, body_view, branches_view}
-use Rattle.jt_parse.specs.declared.tree.Stmt.{Stmt, the_lemmas, fold-roll-Stmt}
-use Rattle.jt_parse.specs.declared.tree.Stmt.TheOpen.{Stmt-F}
-use Rattle.jt_parse.specs.declared.tree.Stmt.TheVariants.{If, For, rolls-If}
+use Rattle.jt_trees.specs.ExpressionView.{expr_view, pairs_of, expr_step, exprs_view, pairs_view}
+use Rattle.jt_trees.specs.declared.expression.Expr.{Expr, fold-roll-Expr}
+use Rattle.jt_trees.specs.Statements as trees
+use Rattle.jt_trees.specs.Expressions as expressions
+use Rattle.jt_trees.specs.Expressions.{pair}
+use Rattle.jt_trees.specs.declared.expression.Expr.TheOpen.{Expr-F}
+use Rattle.jt_trees.specs.declared.expression.Expr.TheVariants as e
+use Rattle.jt_trees.specs.declared.expression.Expr.TheVariants.{rolls-Map, rolls-Call, rolls-Filter, rolls-Test}
+use Rattle.jt_trees.specs.StatementView.{names_view, stmts_of, branches_of, stmt_step, stmt_view, body_view, branches_view}
+use Rattle.jt_trees.specs.declared.statement.Stmt.{Stmt, the_lemmas, fold-roll-Stmt}
+use Rattle.jt_trees.specs.declared.statement.Stmt.TheOpen.{Stmt-F}
+use Rattle.jt_trees.specs.declared.statement.Stmt.TheVariants.{If, For, rolls-If}
 
 abbrev pub Branch : Type 0
 Branch = ℕ × Expr × Vec Stmt Global

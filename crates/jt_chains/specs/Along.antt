@@ -2,7 +2,8 @@
 use Rattle.std.specs.Prelude.{ℕ, Bool, ◌<◌, List, [], ◌∷◌, ◌++◌, length, slice_get, unwrap_or, option_map}
 use Rattle.std.specs.List.{AllByRecursion}
 use Rattle.std.specs.Option.{option_to_list}
-use Rattle.jt_parse.specs.Trees.{Text, Body, end}
+use Rattle.jt_trees.specs.Expressions.{Text}
+use Rattle.jt_trees.specs.Statements.{Body, end}
 use Rattle.jt_chains.specs.Chain.{Template, MacroBody, BlockBody, macros_in, blocks_in}
 use Rattle.jt_chains.specs.Parts.{name_at}
 

@@ -1,8 +1,8 @@
 -- Chains: the templates from an entry to the root, the bodies of their blocks, and what can be called in them.
 use Rattle.std.specs.Prelude.{ℕ, zero, suc, Bool, false, List, [], ◌∷◌, ◌++◌, flat_map, filter, Option, Some, None, codes, if◌then◌else◌}
 use Rattle.std.specs.Str.{bytes_eq}
-use Rattle.jt_expr.specs.Trees.{Expr, name, attribute}
-use Rattle.jt_parse.specs.Trees.{Text, Parameter, Stmt, choose, for_each, set_block, with_values, filter_block, autoescape, macro, extends, block, Body, end, stmt, Branches, no_branches, branch}
+use Rattle.jt_trees.specs.Expressions.{Expr, name, attribute, Text}
+use Rattle.jt_trees.specs.Statements.{Parameter, Stmt, choose, for_each, set_block, with_values, filter_block, autoescape, macro, extends, block, Body, end, stmt, Branches, no_branches, branch}
 
 -- the trees of a library's sources by their names; none where a name has no source
 abbrev pub Sources : Type 0

@@ -2,8 +2,9 @@
 use Rattle.std.specs.Prelude.{Bool, true, not, ◌||◌, IsTrue, if◌then◌else◌, List, [], ◌∷◌, ◌++◌, flat_map, filter}
 use Rattle.std.specs.Coded.{×_prop, Unit-prop, Coded-set, coded_bool}
 use Rattle.std.specs.Option.{is_some}
-use Rattle.jt_parse.specs.Texts.{among}
-use Rattle.jt_parse.specs.Trees.{Text, Stmt, choose, for_each, set_block, with_values, filter_block, autoescape, macro, include, block, Body, end, stmt, Branches, no_branches, branch}
+use Rattle.jt_trees.specs.Texts.{among}
+use Rattle.jt_trees.specs.Expressions.{Text}
+use Rattle.jt_trees.specs.Statements.{Stmt, choose, for_each, set_block, with_values, filter_block, autoescape, macro, include, block, Body, end, stmt, Branches, no_branches, branch}
 use Rattle.jt_chains.specs.Chain.{Sources, Home, templates}
 
 -- ---- the templates that a template includes, as often as they stand there: all, or those alone that may not be missing

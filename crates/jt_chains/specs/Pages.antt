@@ -1,8 +1,8 @@
 -- What contracts see of the parts of a chain, and not where they lie in memory; and what each chain keeps.
 use Rattle.std.specs.Prelude.{◌≡◌, ℕ, List, [], ◌∷◌, map, Option, Some, option_map, slice_get, string_bytes, ⊤}
 use Rattle.std.specs.Coded.{×_prop, Unit-prop, Coded-set, coded_ℕ, coded_list, coded_option}
-use Rattle.jt_parse.specs.Trees.{Text}
-use Rattle.jt_parse.specs.View.{body_of}
+use Rattle.jt_trees.specs.Expressions.{Text}
+use Rattle.jt_trees.specs.StatementView.{body_of}
 use Rattle.jt_chains.specs.Chain.{Template, templates, sources_in}
 use Rattle.jt_chains.specs.declared.linked.Page.{Page}
 use Rattle.jt_chains.specs.declared.linked.Home.{Home}

@@ -1,7 +1,7 @@
 -- What contracts see of the macros and of the bodies of a chain.
 use Rattle.std.specs.Prelude.{ℕ, List, [], map, slice_get, unwrap_or, option_map}
-use Rattle.jt_parse.specs.Trees.{Text}
-use Rattle.jt_parse.specs.View.{parameters_view, body_view}
+use Rattle.jt_trees.specs.Expressions.{Text}
+use Rattle.jt_trees.specs.StatementView.{parameters_view, body_view}
 use Rattle.jt_chains.specs.Chain.{Template, MacroBody, BlockBody}
 use Rattle.jt_chains.specs.declared.parts.Macro.{Macro}
 use Rattle.jt_chains.specs.declared.parts.Block.{Block}

@@ -3,9 +3,9 @@ use Rattle.std.specs.Prelude.{ℕ, suc, ◌<◌, Bool, true, false, not, ◌&&�
 use Rattle.std.specs.Option.{is_none}
 use Rattle.std.specs.List.{list_any}
 use Rattle.jt_chains.specs.Names.{IsName}
-use Rattle.jt_parse.specs.Trees.{Text}
+use Rattle.jt_trees.specs.Expressions.{Text}
 use Rattle.jt_chains.specs.Chain.{Sources, Home, names_up, max_templates, templates, BlockBody, blocks_in, all_bodies, bodies, from_given, macros}
-use Rattle.jt_parse.specs.Texts.{among, repeated}
+use Rattle.jt_trees.specs.Texts.{among, repeated}
 use Rattle.jt_chains.specs.Includes.{included, needs_in}
 use Rattle.jt_chains.specs.Supers.{calls_super}
 

@@ -1,9 +1,9 @@
 -- Whether a block's body calls `super()`, inner blocks apart.
 use Rattle.std.specs.Prelude.{Bool, false, ◌||◌, List, [], ◌∷◌, codes, Option, Some, None}
 use Rattle.std.specs.Str.{bytes_eq}
-use Rattle.jt_expr.specs.Trees as trees
-use Rattle.jt_expr.specs.Trees.{Expr, constant, name, group, list_of, map_of, attribute, item, call, filter, test, unary, binary, when, choice, Exprs, no_exprs, expr, no_pairs, pair}
-use Rattle.jt_parse.specs.Trees.{Filtering, Stmt, print, choose, for_each, set, set_block, with_values, filter_block, autoescape, Body, end, stmt, Branches, no_branches, branch}
+use Rattle.jt_trees.specs.Expressions as trees
+use Rattle.jt_trees.specs.Expressions.{Expr, constant, name, group, list_of, map_of, attribute, item, call, filter, test, unary, binary, when, choice, Exprs, no_exprs, expr, no_pairs, pair}
+use Rattle.jt_trees.specs.Statements.{Filtering, Stmt, print, choose, for_each, set, set_block, with_values, filter_block, autoescape, Body, end, stmt, Branches, no_branches, branch}
 
 abbrev pub is_super : Expr → Bool
 is_super (name x) = bytes_eq x (codes "super")

@@ -1,10 +1,10 @@
 -- Names that trees read or bind, and chains that they include.
 use Rattle.std.specs.Prelude.{if◌then◌else◌, List, [], ◌∷◌, ◌++◌, map, flat_map, Option, Some, None}
-use Rattle.jt_expr.specs.Trees.{Expr, constant, name, group, list_of, map_of, attribute, item, call, filter, test, unary, binary, when, choice, Exprs, no_exprs, expr, Pairs, no_pairs, pair}
-pub use Rattle.jt_expr.specs.Trees.{count}
+use Rattle.jt_trees.specs.Expressions.{Expr, constant, name, group, list_of, map_of, attribute, item, call, filter, test, unary, binary, when, choice, Exprs, no_exprs, expr, Pairs, no_pairs, pair, Text}
+pub use Rattle.jt_trees.specs.Expressions.{count}
 use Rattle.jt_chains.specs.Chain.{is_loop, Sources, Home, templates}
-use Rattle.jt_parse.specs.Texts.{ascending}
-use Rattle.jt_parse.specs.Trees.{Text, Filtering, Stmt, data_of, print, choose, for_each, set, set_block, with_values, filter_block, autoescape, macro, include, extends, block, Body, end, stmt, Branches, no_branches, branch}
+use Rattle.jt_trees.specs.Texts.{ascending}
+use Rattle.jt_trees.specs.Statements.{Filtering, Stmt, data_of, print, choose, for_each, set, set_block, with_values, filter_block, autoescape, macro, include, extends, block, Body, end, stmt, Branches, no_branches, branch}
 
 -- the names of arguments that are given by name, or the keys of a map
 abbrev pub keywords : Pairs → List Text

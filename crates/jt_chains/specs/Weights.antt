@@ -1,7 +1,8 @@
 -- What chains weigh, and how many names they read or bind.
 use Rattle.std.specs.Prelude.{ℕ, ◌+◌, ◌≤◌, List, [], ◌∷◌, length, Contains}
 use Rattle.std.specs.List.{AllByRecursion}
-use Rattle.jt_parse.specs.Trees.{Text, body_weight}
+use Rattle.jt_trees.specs.Expressions.{Text}
+use Rattle.jt_trees.specs.Statements.{body_weight}
 use Rattle.jt_chains.specs.Chain.{Sources, Home, Template, templates}
 use Rattle.jt_chains.specs.Uses.{own_names}
 use Rattle.jt_chains.specs.View.{Seen, sources_of}

@@ -9,7 +9,7 @@ ghost use Rattle.jt_chains.specs.Places.{home_at};
 ghost use Rattle.jt_chains.specs.View.{chain_view, sources_of};
 
 use crate::linked::{Chain, Page};
-use jt_parse::Stmt;
+use jt_trees::Stmt;
 use std::alloc::{AllocError, Global};
 
 /// A template of a chain: its place among all that were read, and its statements.

@@ -4,9 +4,9 @@ ghost use Rattle.std.specs.Prelude.{◌≡◌, ◌<◌, false, length, map};
 ghost use Rattle.jt_chains.specs.Chain.{sources_in};
 ghost use Rattle.jt_chains.specs.Includes.{InOrder, InOrder-prop};
 ghost use Rattle.jt_chains.specs.Pages.{AreWhole, AreWhole-prop, pages_view, home_name};
-ghost use Rattle.jt_parse.specs.Texts.{repeated};
+ghost use Rattle.jt_trees.specs.Texts.{repeated};
 
-use jt_parse::Template;
+use jt_trees::Template;
 
 /// A template that was read, with its name.
 #[derive(Drop)]

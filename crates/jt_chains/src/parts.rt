@@ -1,7 +1,7 @@
 //! The macros of a chain, and the bodies of its blocks.
 
 ghost use Rattle.std.specs.Prelude.{◌≡◌, ◌<◌, ◌≤◌, ◌++◌, length, map, slice_get, Some, IfOk, unwrap_or, option_map, []};
-ghost use Rattle.jt_parse.specs.View.{stmt_view, body_view};
+ghost use Rattle.jt_trees.specs.StatementView.{stmt_view, body_view};
 ghost use Rattle.jt_chains.specs.Chain.{macros, macros_in, all_bodies, blocks_of, blocks_in};
 ghost use Rattle.jt_chains.specs.Pages.{pages_view};
 ghost use Rattle.jt_chains.specs.Parts.{macro_view, block_view, macros_view, blocks_view, name_at};
@@ -10,7 +10,7 @@ ghost use Rattle.jt_chains.specs.Places.{home_at};
 ghost use Rattle.jt_chains.specs.View.{chain_view, sources_of};
 
 use crate::linked::{Chain, Page};
-use jt_parse::{Parameter, Stmt};
+use jt_trees::{Parameter, Stmt};
 use std::alloc::{AllocError, Global};
 
 /// A macro: its name, the place of its template, its parameters and its body.

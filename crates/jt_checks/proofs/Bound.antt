@@ -1,13 +1,13 @@
 -- How often statements bind names, by their forms.
 use Rattle.std.proofs.Common.{◌≡◌, ℕ, suc, ◌+◌, ◌<◌, ◌≤◌, min, List, [], ◌∷◌, length, drop, refl, ap, ◌∙◌, arith, Option, Vec, String, Global}
 use Rattle.std.proofs.lemmas.List.{at_drop_all}
-use Rattle.jt_expr.specs.View.{pairs_view}
-use Rattle.jt_expr.specs.declared.tree.Expr.{Expr}
-use Rattle.jt_parse.specs.Trees.{stmt_bound, body_bound, branch_bound, pairs_count}
-use Rattle.jt_parse.specs.View.{stmt_view, body_view, branches_view, names_view, parameters_view}
-use Rattle.jt_parse.specs.declared.tree.Parameter.{Parameter}
-use Rattle.jt_parse.specs.declared.tree.Stmt.{Stmt}
-use Rattle.jt_parse.specs.declared.tree.Stmt.TheVariants as statement
+use Rattle.jt_trees.specs.ExpressionView.{pairs_view}
+use Rattle.jt_trees.specs.declared.expression.Expr.{Expr}
+use Rattle.jt_trees.specs.Statements.{stmt_bound, body_bound, branch_bound, pairs_count}
+use Rattle.jt_trees.specs.StatementView.{stmt_view, body_view, branches_view, names_view, parameters_view}
+use Rattle.jt_trees.specs.declared.statement.Parameter.{Parameter}
+use Rattle.jt_trees.specs.declared.statement.Stmt.{Stmt}
+use Rattle.jt_trees.specs.declared.statement.Stmt.TheVariants as statement
 use Rattle.jt_checks.proofs.Fits.{viewed_length}
 use Rattle.jt_checks.proofs.Left.{Branch, Entry}
 use Rattle.jt_checks.proofs.Shown.{shown_If, shown_For, shown_Set, shown_With, shown_Macro}

@@ -3,7 +3,7 @@ use Rattle.std.proofs.Common.{◌≡◌, Bool, true, false, if◌then◌else◌,
 use Rattle.std.specs.Option.{is_some}
 use Rattle.std.specs.Str.{bytes_eq}
 use Rattle.std.proofs.lemmas.Slice.Eq.{bytes_eq-Decides}
-use Rattle.jt_parse.specs.Trees.{Text}
+use Rattle.jt_trees.specs.Expressions.{Text}
 use Rattle.jt_slots.specs.Loops.{Field, index, index0, revindex, revindex0, first, last, total, previtem, nextitem, fields, field_among, field_named}
 
 unlike : (k x : Text) → (x ≡ k → ⊥) → bytes_eq k x ≡ false

@@ -3,12 +3,12 @@ use Rattle.std.proofs.Common.{◌≡◌, ℕ, zero, suc, ◌+◌, ◌<◌, Bool,
 use Rattle.std.specs.Option.{is_some}
 use Rattle.std.specs.Prelude.{option_map}
 use Rattle.std.proofs.lemmas.List.{drop_more}
-use Rattle.jt_expr.specs.View.{literal_view}
-use Rattle.jt_parse.specs.Texts.{among}
-use Rattle.jt_parse.specs.Trees as trees
-use Rattle.jt_parse.specs.Trees.{Text}
-use Rattle.jt_parse.specs.View.{parameters_view}
-use Rattle.jt_parse.specs.declared.tree.Parameter.{Parameter}
+use Rattle.jt_trees.specs.ExpressionView.{literal_view}
+use Rattle.jt_trees.specs.Texts.{among}
+use Rattle.jt_trees.specs.Statements as trees
+use Rattle.jt_trees.specs.Expressions.{Text}
+use Rattle.jt_trees.specs.StatementView.{parameters_view}
+use Rattle.jt_trees.specs.declared.statement.Parameter.{Parameter}
 use Rattle.jt_slots.specs.Filters.{some_given}
 use Rattle.jt_rules.specs.Walk as rules
 

@@ -4,16 +4,16 @@ use Rattle.std.specs.Prelude.{option_map, map}
 use Rattle.std.specs.List.{list_any}
 use Rattle.std.specs.Option.{is_some}
 use Rattle.std.proofs.lemmas.Bool.Decides.{nat_tests}
-use Rattle.jt_expr.specs.Trees as trees
-use Rattle.jt_expr.specs.Trees.{Exprs}
-use Rattle.jt_expr.specs.View.{pairs_view}
-use Rattle.jt_filters.specs.FilterIds.{filter_of, accepts}
+use Rattle.jt_trees.specs.Expressions as trees
+use Rattle.jt_trees.specs.Expressions.{Exprs, Text}
+use Rattle.jt_trees.specs.ExpressionView.{pairs_view}
+use Rattle.jt_filtering.specs.FilterIds.{filter_of, accepts}
 use Rattle.jt_ids.specs.FilterTable.{filter_id}
 use Rattle.jt_ids.specs.declared.filter_id.FilterId.{FilterId}
 use Rattle.jt_ids.specs.declared.filter_id.FilterId.TheVariants as filter
 use Rattle.jt_chains.specs.Uses.{count, keywords}
-use Rattle.jt_parse.specs.Texts.{among, repeated}
-use Rattle.jt_parse.specs.Trees.{Text, Parameter}
+use Rattle.jt_trees.specs.Texts.{among, repeated}
+use Rattle.jt_trees.specs.Statements.{Parameter}
 use Rattle.jt_slots.specs.Filters.{some_given}
 use Rattle.jt_slots.specs.Inside.{names_well, inside_of}
 use Rattle.jt_slots.specs.TheFilters.{the_filters, filter_written, filter_parameters, parameters_of}

@@ -2,14 +2,14 @@
 use Rattle.std.proofs.Common.{◌≡◌, ℕ, zero, suc, ◌+◌, ◌<◌, ◌≤◌, ◌-◌, min, max, Some, take, length-drop, nat_lt, Bool, true, false, not, ◌&&◌, List, [], ◌∷◌, length, drop, refl, sym, ap, ◌∙◌, arith, Result, Ok, Err, IfOk}
 use Rattle.std.specs.List.{list_any}
 use Rattle.std.proofs.lemmas.Bool.Decides.{nat_tests}
-use Rattle.jt_expr.specs.View.{exprs_view}
-use Rattle.jt_expr.specs.declared.tree.Expr.{Expr}
-use Rattle.jt_parse.specs.Texts.{among, repeated}
-use Rattle.jt_parse.specs.Trees.{Text}
-use Rattle.jt_parse.specs.View.{parameters_view}
-use Rattle.jt_parse.specs.declared.tree.Parameter.{Parameter}
+use Rattle.jt_trees.specs.ExpressionView.{exprs_view}
+use Rattle.jt_trees.specs.declared.expression.Expr.{Expr}
+use Rattle.jt_trees.specs.Texts.{among, repeated}
+use Rattle.jt_trees.specs.Expressions.{Text}
+use Rattle.jt_trees.specs.StatementView.{parameters_view}
+use Rattle.jt_trees.specs.declared.statement.Parameter.{Parameter}
 use Rattle.jt_chains.specs.Uses.{count}
-use Rattle.jt_filters.specs.FilterIds.{accepts}
+use Rattle.jt_filtering.specs.FilterIds.{accepts}
 use Rattle.jt_ids.specs.declared.filter_id.FilterId.{FilterId}
 use Rattle.jt_checks.specs.Fitting.{filter_takes}
 use Rattle.jt_rules.specs.Walk as rules

@@ -1,8 +1,7 @@
 -- Attributes, by what has them.
 use Rattle.std.proofs.Common.{◌≡◌, List, not, ◌&&◌, refl, codes, Option, Some, None}
 use Rattle.std.specs.Str.{bytes_eq}
-use Rattle.jt_expr.specs.Trees.{Expr, constant, name, group, list_of, map_of, attribute, item, call, filter, test, unary, binary, when, choice}
-use Rattle.jt_parse.specs.Trees.{Text}
+use Rattle.jt_trees.specs.Expressions.{Expr, constant, name, group, list_of, map_of, attribute, item, call, filter, test, unary, binary, when, choice, Text}
 use Rattle.jt_chains.specs.Chain.{Home, MacroBody, Callee, no_callee, callee, named_in}
 use Rattle.jt_rules.specs.Walk as rules
 use Rattle.jt_checks.specs.ScopeView.{name_in}

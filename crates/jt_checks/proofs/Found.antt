@@ -3,17 +3,17 @@ use Rattle.std.proofs.Common.{◌≡◌, ℕ, ◌+◌, ◌<◌, refl, sym, ap, �
 use Rattle.std.specs.Prelude.{option_map}
 use Rattle.std.proofs.lemmas.List.{drop_more}
 use Rattle.std.specs.Option.{option_or}
-use Rattle.jt_expr.specs.View.{expr_view, exprs_view, pairs_view}
-use Rattle.jt_expr.specs.declared.tree.Expr.{Expr}
-use Rattle.jt_expr.specs.declared.tree.Expr.TheVariants as e
-use Rattle.jt_expr.specs.declared.tree.BinaryOperator.{BinaryOperator}
+use Rattle.jt_trees.specs.ExpressionView.{expr_view, exprs_view, pairs_view}
+use Rattle.jt_trees.specs.declared.expression.Expr.{Expr}
+use Rattle.jt_trees.specs.declared.expression.Expr.TheVariants as e
+use Rattle.jt_trees.specs.declared.expression.BinaryOperator.{BinaryOperator}
 use Rattle.jt_checks.proofs.Shown.{shown_Call, shown_Filter, shown_Test, shown_Item, shown_Binary, shown_When, shown_Choice, shown_If, shown_For}
 use Rattle.jt_checks.proofs.Turns.{or_three, or_none, some_first, none_first, filterings_turn}
-use Rattle.jt_parse.specs.Trees.{Text}
-use Rattle.jt_parse.specs.View.{stmt_view, body_view, branches_view, names_view, filtering_view, filterings_view}
-use Rattle.jt_parse.specs.declared.tree.Filtering.{Filtering}
-use Rattle.jt_parse.specs.declared.tree.Stmt.{Stmt}
-use Rattle.jt_parse.specs.declared.tree.Stmt.TheVariants as statement
+use Rattle.jt_trees.specs.Expressions.{Text}
+use Rattle.jt_trees.specs.StatementView.{stmt_view, body_view, branches_view, names_view, filtering_view, filterings_view}
+use Rattle.jt_trees.specs.declared.statement.Filtering.{Filtering}
+use Rattle.jt_trees.specs.declared.statement.Stmt.{Stmt}
+use Rattle.jt_trees.specs.declared.statement.Stmt.TheVariants as statement
 use Rattle.jt_chains.specs.Chain.{Home, callee, macros}
 use Rattle.jt_chains.specs.declared.linked.Chain.{Chain}
 use Rattle.jt_slots.specs.Filters.{Filters}

@@ -13,9 +13,10 @@ use Rattle.std.proofs.lemmas.List.{drop_more}
 use Rattle.std.proofs.lemmas.Map.Text.{is_eq-slice_cmp}
 use Rattle.std.proofs.lemmas.Slice.Eq.{bytes_eq-Decides}
 use denote.Ref.{Bor}
-use Rattle.jt_parse.specs.Trees.{Text, Parameter}
-use Rattle.jt_parse.specs.View.{parameters_view}
-use Rattle.jt_parse.specs.declared.tree.Parameter as written
+use Rattle.jt_trees.specs.Expressions.{Text}
+use Rattle.jt_trees.specs.Statements.{Parameter}
+use Rattle.jt_trees.specs.StatementView.{parameters_view}
+use Rattle.jt_trees.specs.declared.statement.Parameter as written
 use Rattle.jt_chains.specs.Chain.{Template, MacroBody, BlockBody, macro_of}
 use Rattle.jt_chains.specs.Parts.{macro_view, block_view}
 use Rattle.jt_chains.specs.declared.parts.Macro.{Macro}

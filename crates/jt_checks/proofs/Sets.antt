@@ -9,8 +9,8 @@ use Rattle.std.specs.declared.cmp.Ordering.{Ordering}
 use Rattle.std.proofs.lemmas.Cmp.{nat_list_eq_equiv}
 use Rattle.std.proofs.lemmas.Map.Text.{is_eq-slice_cmp}
 use denote.Ref.{Bor}
-use Rattle.jt_parse.specs.Trees.{Text}
-use Rattle.jt_parse.specs.Texts.{among, repeated}
+use Rattle.jt_trees.specs.Expressions.{Text}
+use Rattle.jt_trees.specs.Texts.{among, repeated}
 use Rattle.jt_checks.specs.Standing.{Names, is_among, texts}
 
 pub symmetric : (x y : Text) → bytes_eq x y ≡ bytes_eq y x

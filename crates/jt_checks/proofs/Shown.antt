@@ -2,22 +2,22 @@
 use Rattle.std.proofs.Common.{◌≡◌, ℕ, suc, Bool, false, List, [], ◌∷◌, length, map, refl, sym, ap, ◌∙◌, arith, rules, nat_eq, Option, Vec, Box, String, Global, string_bytes}
 use Rattle.std.specs.Prelude.{option_map}
 use Rattle.std.proofs.lemmas.Bool.Decides.{nat_tests}
-use Rattle.jt_expr.specs.Trees as trees
-use Rattle.jt_expr.specs.Trees.{pair}
-use Rattle.jt_expr.specs.View.{pairs_of, expr_step, expr_view, exprs_view, pairs_view}
-use Rattle.jt_expr.specs.declared.tree.Expr.{Expr, fold-roll-Expr}
-use Rattle.jt_expr.specs.declared.tree.Expr.TheOpen.{Expr-F}
-use Rattle.jt_expr.specs.declared.tree.Expr.TheVariants as e
-use Rattle.jt_expr.specs.declared.tree.Expr.TheVariants.{rolls-Map, rolls-Call, rolls-Filter, rolls-Test, rolls-Item, rolls-Binary, rolls-When, rolls-Choice}
-use Rattle.jt_expr.specs.declared.tree.BinaryOperator.{BinaryOperator}
-use Rattle.jt_parse.specs.Trees as written
-use Rattle.jt_parse.specs.View.{stmts_of, branches_of, stmt_step, stmt_view, body_view, branches_view, names_view, filterings_view, parameters_view}
-use Rattle.jt_parse.specs.declared.tree.Stmt.{Stmt, the_lemmas, fold-roll-Stmt}
-use Rattle.jt_parse.specs.declared.tree.Stmt.TheOpen.{Stmt-F}
-use Rattle.jt_parse.specs.declared.tree.Stmt.TheVariants as statement
-use Rattle.jt_parse.specs.declared.tree.Stmt.TheVariants.{rolls-If}
-use Rattle.jt_parse.specs.declared.tree.Filtering.{Filtering}
-use Rattle.jt_parse.specs.declared.tree.Parameter.{Parameter}
+use Rattle.jt_trees.specs.Expressions as trees
+use Rattle.jt_trees.specs.Expressions.{pair}
+use Rattle.jt_trees.specs.ExpressionView.{pairs_of, expr_step, expr_view, exprs_view, pairs_view}
+use Rattle.jt_trees.specs.declared.expression.Expr.{Expr, fold-roll-Expr}
+use Rattle.jt_trees.specs.declared.expression.Expr.TheOpen.{Expr-F}
+use Rattle.jt_trees.specs.declared.expression.Expr.TheVariants as e
+use Rattle.jt_trees.specs.declared.expression.Expr.TheVariants.{rolls-Map, rolls-Call, rolls-Filter, rolls-Test, rolls-Item, rolls-Binary, rolls-When, rolls-Choice}
+use Rattle.jt_trees.specs.declared.expression.BinaryOperator.{BinaryOperator}
+use Rattle.jt_trees.specs.Statements as written
+use Rattle.jt_trees.specs.StatementView.{stmts_of, branches_of, stmt_step, stmt_view, body_view, branches_view, names_view, filterings_view, parameters_view}
+use Rattle.jt_trees.specs.declared.statement.Stmt.{Stmt, the_lemmas, fold-roll-Stmt}
+use Rattle.jt_trees.specs.declared.statement.Stmt.TheOpen.{Stmt-F}
+use Rattle.jt_trees.specs.declared.statement.Stmt.TheVariants as statement
+use Rattle.jt_trees.specs.declared.statement.Stmt.TheVariants.{rolls-If}
+use Rattle.jt_trees.specs.declared.statement.Filtering.{Filtering}
+use Rattle.jt_trees.specs.declared.statement.Parameter.{Parameter}
 use Rattle.jt_chains.specs.Uses.{count}
 use Rattle.jt_rules.specs.Arguments.{no_keywords}
 use Rattle.jt_checks.proofs.Left.{Branch, Entry}

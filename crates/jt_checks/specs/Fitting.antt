@@ -1,10 +1,11 @@
 -- What only private clauses cite: whether arguments fit the parameters of a filter.
 use Rattle.std.specs.Prelude.{ℕ, suc, max, Bool, not, ◌&&◌, List, map, drop, Some}
 use Rattle.std.specs.List.{list_any}
-use Rattle.jt_filters.specs.FilterIds.{accepts}
+use Rattle.jt_filtering.specs.FilterIds.{accepts}
 use Rattle.jt_ids.specs.declared.filter_id.FilterId.{FilterId}
-use Rattle.jt_parse.specs.Texts.{among, repeated}
-use Rattle.jt_parse.specs.Trees.{Text, Parameter}
+use Rattle.jt_trees.specs.Texts.{among, repeated}
+use Rattle.jt_trees.specs.Expressions.{Text}
+use Rattle.jt_trees.specs.Statements.{Parameter}
 use Rattle.jt_rules.specs.Arguments.{reached, is_filled}
 
 -- a filter with these parameters takes `n` arguments by place, and others by name

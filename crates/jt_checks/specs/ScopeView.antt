@@ -1,7 +1,6 @@
 -- What only private clauses cite: what contracts see of a scope: its chain.
 use Rattle.std.specs.Prelude.{Option, Some, None}
-use Rattle.jt_expr.specs.Trees.{Expr, name}
-use Rattle.jt_parse.specs.Trees.{Text}
+use Rattle.jt_trees.specs.Expressions.{Expr, name, Text}
 use Rattle.jt_chains.specs.Chain.{Home}
 use Rattle.jt_checks.specs.Standing.{world_in, home_in}
 use Rattle.jt_rules.specs.World.{World}

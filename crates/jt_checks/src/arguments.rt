@@ -2,10 +2,10 @@
 
 ghost use Rattle.std.specs.Prelude.{◌≡◌, ◌<◌, ◌≤◌, ◌^◌, ◌&&◌, not, length, drop, IfOk};
 ghost use Rattle.std.specs.List.{list_any};
-ghost use Rattle.jt_expr.specs.View.{exprs_view, pairs_view};
-ghost use Rattle.jt_parse.specs.Texts.{among, repeated};
-ghost use Rattle.jt_parse.specs.Trees.{Text};
-ghost use Rattle.jt_parse.specs.View.{names_view, parameter_view, parameters_view};
+ghost use Rattle.jt_trees.specs.ExpressionView.{exprs_view, pairs_view};
+ghost use Rattle.jt_trees.specs.Texts.{among, repeated};
+ghost use Rattle.jt_trees.specs.Expressions.{Text};
+ghost use Rattle.jt_trees.specs.StatementView.{names_view, parameter_view, parameters_view};
 ghost use Rattle.jt_chains.specs.Uses.{count, keywords};
 ghost use Rattle.jt_slots.specs.TheFilters.{the_filters, filter_parameters};
 ghost use Rattle.jt_slots.specs.Inside.{names_well};
@@ -15,11 +15,10 @@ ghost use Rattle.jt_checks.specs.Fitting.{filter_takes};
 ghost use Rattle.jt_checks.specs.Standing.{texts, is_among};
 
 use crate::inside::are_names_well;
-use jt_expr::Expr;
 use jt_ids::FilterId;
-use jt_parse::Parameter;
 use jt_rules::ScopeError;
 use jt_slots::{filter_of, filter_parameters, test_of};
+use jt_trees::{Expr, Parameter};
 use std::alloc::{AllocError, Global};
 use std::collections::BTreeSet;
 

@@ -1,10 +1,10 @@
 //! How often a template binds names, as often as written.
 
 ghost use Rattle.std.specs.Prelude.{◌≡◌, ◌^◌, ◌-◌, min};
-ghost use Rattle.jt_parse.specs.Trees.{stmt_bound, body_bound};
-ghost use Rattle.jt_parse.specs.View.{stmt_view, body_view};
+ghost use Rattle.jt_trees.specs.Statements.{stmt_bound, body_bound};
+ghost use Rattle.jt_trees.specs.StatementView.{stmt_view, body_view};
 
-use jt_parse::Stmt;
+use jt_trees::Stmt;
 
 /// How often a statement binds names; the greatest number where it is more.
 #[cycle(bound)]

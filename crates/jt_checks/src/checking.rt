@@ -2,9 +2,9 @@
 
 ghost use Rattle.std.specs.Prelude.{◌≡◌, ◌<◌, nat_lt, nat_le, false, length, IfOk, OnOk, IfErr};
 ghost use Rattle.std.specs.Option.{option_or};
-ghost use Rattle.jt_parse.specs.Texts.{ascending};
-ghost use Rattle.jt_parse.specs.Trees.{body_bound};
-ghost use Rattle.jt_parse.specs.View.{body_view};
+ghost use Rattle.jt_trees.specs.Texts.{ascending};
+ghost use Rattle.jt_trees.specs.Statements.{body_bound};
+ghost use Rattle.jt_trees.specs.StatementView.{body_view};
 ghost use Rattle.jt_chains.specs.Chain.{templates};
 ghost use Rattle.jt_chains.specs.Uses.{own_names};
 ghost use Rattle.jt_chains.specs.View.{chain_view};
@@ -20,8 +20,8 @@ use crate::bindings::bound_in;
 use crate::scope::{Scope, Within};
 use crate::statements::body_broken;
 use jt_chains::Chain;
-use jt_parse::Stmt;
 use jt_rules::ScopeError;
+use jt_trees::Stmt;
 use jt_uses::own_names;
 use std::alloc::{AllocError, Global};
 

@@ -2,11 +2,11 @@
 
 ghost use Rattle.std.specs.Prelude.{◌≡◌, ◌&&◌, ◌==◌, nat_lt, not, is_some, IfOk, IsOkAnd, option_map};
 ghost use Rattle.std.specs.Option.{option_or};
-ghost use Rattle.jt_expr.specs.Trees as trees;
-ghost use Rattle.jt_expr.specs.View.{expr_view, exprs_view, pairs_view};
+ghost use Rattle.jt_trees.specs.Expressions as trees;
+ghost use Rattle.jt_trees.specs.ExpressionView.{expr_view, exprs_view, pairs_view};
 ghost use Rattle.jt_chains.specs.Chain.{callee, macros, named_alone, named_in, macro_of, is_loop};
 ghost use Rattle.jt_chains.specs.Uses.{count};
-ghost use Rattle.jt_parse.specs.Trees.{Text};
+ghost use Rattle.jt_trees.specs.Expressions.{Text};
 ghost use Rattle.jt_slots.specs.Loops.{field_named};
 ghost use Rattle.jt_rules.specs.Walk as rules;
 ghost use Rattle.jt_checks.specs.Standing.{texts, is_block};
@@ -15,8 +15,8 @@ ghost use Rattle.jt_rules.specs.declared.error.ScopeError.TheVariants as error;
 
 use crate::arguments::{filter_broken, fits, range_broken, refused, test_broken, unless};
 use crate::scope::{Scope, Within};
-use jt_expr::Expr;
 use jt_rules::ScopeError;
+use jt_trees::Expr;
 use std::alloc::AllocError;
 
 /// What a name breaks that is read by itself.

@@ -3,14 +3,14 @@
 ghost use Rattle.std.specs.Prelude.{◌≡◌, ◌<◌, List, length, map, option_map, IfOk};
 ghost use Rattle.std.specs.List.{list_any};
 ghost use Rattle.std.specs.Str.{bytes_eq};
-ghost use Rattle.jt_parse.specs.Trees.{Text};
-ghost use Rattle.jt_parse.specs.View.{parameters_view};
+ghost use Rattle.jt_trees.specs.Expressions.{Text};
+ghost use Rattle.jt_trees.specs.StatementView.{parameters_view};
 ghost use Rattle.jt_chains.specs.Chain.{Template, macros, macro_of};
 ghost use Rattle.jt_chains.specs.Parts.{macro_view, block_view};
 ghost use Rattle.jt_checks.specs.Standing.{KnowsMacros, KnowsMacros-prop, KnowsBlocks, KnowsBlocks-prop, parameters_of, parameters_at, is_among, is_block};
 
 use jt_chains::{Block, Chain, Macro};
-use jt_parse::Parameter;
+use jt_trees::Parameter;
 use std::alloc::{AllocError, Global};
 use std::collections::{BTreeMap, BTreeSet};
 

@@ -2,8 +2,8 @@
 
 ghost use Rattle.std.specs.Prelude.{◌≡◌, ◌∷◌, [], option_map, true, IfOk};
 ghost use Rattle.std.specs.Option.{option_or};
-ghost use Rattle.jt_expr.specs.View.{expr_view, pairs_view};
-ghost use Rattle.jt_parse.specs.View.{stmt_view, body_view, branches_view, names_view, filtering_view, filterings_view, parameters_view};
+ghost use Rattle.jt_trees.specs.ExpressionView.{expr_view, pairs_view};
+ghost use Rattle.jt_trees.specs.StatementView.{stmt_view, body_view, branches_view, names_view, filtering_view, filterings_view, parameters_view};
 ghost use Rattle.jt_chains.specs.Uses.{keywords};
 ghost use Rattle.jt_rules.specs.Walk as rules;
 ghost use Rattle.jt_checks.specs.ScopeView.{its_world, its_home, within_view};
@@ -13,9 +13,8 @@ use crate::arguments::{
 };
 use crate::expressions::{all_used, broken, pairs_broken, read_alone, row_broken, used};
 use crate::scope::{Scope, Within};
-use jt_expr::Expr;
-use jt_parse::{Filtering, Parameter, Stmt};
 use jt_rules::ScopeError;
+use jt_trees::{Expr, Filtering, Parameter, Stmt};
 use std::alloc::AllocError;
 
 /// The greatest number of a macro's parameters.

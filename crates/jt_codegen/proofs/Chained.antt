@@ -4,7 +4,7 @@ use Rattle.std.specs.List.{AllByRecursion}
 use Rattle.jt_scan.specs.declared.options.Options.{Options}
 use Rattle.jt_image.specs.IsCode.{IsCode}
 use Rattle.jt_parse.specs.Names.{body_unknown}
-use Rattle.jt_parse.specs.Trees.{Text}
+use Rattle.jt_trees.specs.Expressions.{Text}
 use Rattle.jt_chains.specs.Chain.{Home, Template}
 use Rattle.jt_inherit.specs.Chains.{Given, IsRead, IsChain}
 use Rattle.jt_chains.specs.Includes.{InOrder}

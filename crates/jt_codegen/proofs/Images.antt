@@ -9,8 +9,8 @@ use Rattle.jt_image.specs.IsCode.{IsCode}
 use Rattle.jt_image.specs.Typed.{max_entries}
 use Rattle.jt_image.specs.Parts.{HasTables}
 use Rattle.jt_image.specs.Laws.{CodeLaws}
-use Rattle.jt_parse.specs.Bytes.{body_bytes}
-use Rattle.jt_parse.specs.Trees.{Text}
+use Rattle.jt_trees.specs.Sizes.{body_bytes}
+use Rattle.jt_trees.specs.Expressions.{Text}
 use Rattle.jt_chains.specs.Chain.{Home}
 use Rattle.jt_inherit.specs.Chains.{Given, IsChain}
 use Rattle.jt_chains.specs.Places.{home_at}

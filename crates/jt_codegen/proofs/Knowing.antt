@@ -7,14 +7,15 @@ use Rattle.std.specs.List.{list_any, find, AllByRecursion}
 use Rattle.jt_ids.specs.declared.test_id.TestId.{TestId}
 use Rattle.jt_ids.specs.TestTable.{test_names, tests}
 use Rattle.jt_expr.specs.declared.named.Named.TheVariants as n
-use Rattle.jt_expr.specs.Named.{is_test, is_filter, only_name, filter_written, inside_unknown, filter_unknown, has_unknown, exprs_have_unknown, pairs_have_unknown}
+use Rattle.jt_trees.specs.Written.{only_name, filter_written}
+use Rattle.jt_expr.specs.Named.{is_test, is_filter, inside_unknown, filter_unknown, has_unknown, exprs_have_unknown, pairs_have_unknown}
 use Rattle.jt_ids.specs.FilterTable.{filters, filter_id, filter_names, with_only}
 use Rattle.jt_ids.specs.declared.filter_id.FilterId.{FilterId}
 use Rattle.jt_ids.specs.declared.filter_id.FilterId.TheVariants as which
-use Rattle.jt_expr.specs.Trees as written
-use Rattle.jt_expr.specs.Trees.{Expr, constant, name, group, list_of, map_of, attribute, item, filter, test, unary, binary, when, choice, Exprs, no_exprs, expr, Pairs, no_pairs, pair}
+use Rattle.jt_trees.specs.Expressions as written
+use Rattle.jt_trees.specs.Expressions.{Expr, constant, name, group, list_of, map_of, attribute, item, filter, test, unary, binary, when, choice, Exprs, no_exprs, expr, Pairs, no_pairs, pair, Text}
 use Rattle.jt_parse.specs.Names.{blamed, unknown_in, condition_unknown, filtering_unknown, filterings_unknown, stmt_unknown, body_unknown, branch_unknown}
-use Rattle.jt_parse.specs.Trees.{Text, Filtering, Stmt, data_of, print, choose, for_each, set, set_block, with_values, filter_block, autoescape, macro, include, extends, block, Body, end, stmt, Branches, no_branches, branch}
+use Rattle.jt_trees.specs.Statements.{Filtering, Stmt, data_of, print, choose, for_each, set, set_block, with_values, filter_block, autoescape, macro, include, extends, block, Body, end, stmt, Branches, no_branches, branch}
 use Rattle.jt_chains.specs.Chain.{Sources, Home, Template, sources_in, template, names_up}
 use Rattle.jt_slots.specs.Filters.{Filters}
 use Rattle.jt_slots.specs.Tests.{test_named}

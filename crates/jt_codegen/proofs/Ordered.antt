@@ -3,7 +3,7 @@ use Rattle.std.proofs.Common.{◌≢◌, ℕ, suc, ◌+◌, ◌<◌, ◌≤◌, 
 use Rattle.std.specs.List.{AllByRecursion}
 use Rattle.jt_image.specs.IsCode.{Ascend, AreDistinct}
 use Rattle.jt_image.specs.Parts.{IsUnitInOrder, HasTables}
-use Rattle.jt_parse.specs.Trees.{Text}
+use Rattle.jt_trees.specs.Expressions.{Text}
 use Rattle.jt_chains.specs.Chain.{Home}
 use Rattle.jt_rules.specs.World.{World}
 use Rattle.jt_meaning.specs.Ascends.{Above, Ascends}

@@ -7,9 +7,10 @@ use Rattle.std.specs.Ordering.{nat_cmp, is_lt}
 use Rattle.std.specs.Cmp.Lexicographic.{slice_cmp}
 use Rattle.std.specs.Str.{bytes_eq}
 use Rattle.std.proofs.lemmas.Slice.Eq.{bytes_eq-Decides}
-use Rattle.jt_parse.specs.Bytes.{body_bytes}
-use Rattle.jt_parse.specs.Texts.{inserted, all_inserted, ascending}
-use Rattle.jt_parse.specs.Trees.{Text, Body}
+use Rattle.jt_trees.specs.Sizes.{body_bytes}
+use Rattle.jt_trees.specs.Texts.{inserted, all_inserted, ascending}
+use Rattle.jt_trees.specs.Expressions.{Text}
+use Rattle.jt_trees.specs.Statements.{Body}
 use Rattle.jt_chains.specs.Chain.{Sources, Home, Template, sources_in, template, templates, names_up}
 use Rattle.jt_inherit.specs.Chains.{Given}
 use Rattle.jt_inherit.specs.Small.{source_len, templates_len, chains_len}

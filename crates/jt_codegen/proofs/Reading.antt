@@ -7,7 +7,7 @@ use Rattle.jt_image.specs.declared.wire.Instr.{Instr}
 use Rattle.jt_image.specs.Spelling.{wire_of}
 use Rattle.jt_image.specs.Reading.{instruction_of}
 use Rattle.jt_image.specs.Parts.{in_front, each_of, section_of_unit}
-use Rattle.jt_parse.specs.Trees.{Text}
+use Rattle.jt_trees.specs.Expressions.{Text}
 use Rattle.jt_slots.specs.Slots.{end}
 use Rattle.jt_slots.specs.View.{body_view, routine_view}
 use Rattle.jt_slots.specs.declared.program.Routine.{Routine}

@@ -11,7 +11,7 @@ use Rattle.jt_image.specs.IsCode.{IsInstruction, max_count, max_locals}
 use Rattle.jt_image.specs.Typed.{max_entries}
 use Rattle.jt_image.specs.Parts.{KeepsLimits, IsWritable}
 use Rattle.jt_image.specs.Laws.{CodeLaws}
-use Rattle.jt_parse.specs.Trees.{Text}
+use Rattle.jt_trees.specs.Expressions.{Text}
 use Rattle.jt_chains.specs.Chain.{Home}
 use Rattle.jt_chains.specs.Weights.{chains_weight}
 use Rattle.jt_rules.specs.World.{World}

@@ -9,12 +9,12 @@ use Rattle.jt_scan.specs.declared.segment.Sign.{Sign}
 use Rattle.jt_scan.specs.declared.segment.Sign.TheVariants as s
 use Rattle.jt_scan.specs.Cut as cut
 use Rattle.jt_scan.specs.Cut.{Token, Segment, Inside, IsSegment, Cuts}
-use Rattle.jt_expr.specs.Trees.{Expr, Pairs}
+use Rattle.jt_trees.specs.Expressions.{Expr, Pairs, Text}
 use Rattle.jt_expr.specs.Grammar as g
 use Rattle.jt_expr.specs.Grammar.{Tokens, word, Level, operator_tokens, is_tokens, Row, Parts, no_parts, put, Spells, Goes, Primary, Arguments, TestArguments, Holds, IsPart}
 use Rattle.jt_parse.specs.Kept as kept
 use Rattle.jt_parse.specs.Kept.{Side, Piece, with_text, with_segment, side_ahead, side_behind, pieces_from}
-use Rattle.jt_parse.specs.Trees.{Text, Parameter, Filtering, Body, Branches}
+use Rattle.jt_trees.specs.Statements.{Parameter, Filtering, Body, Branches}
 use Rattle.jt_parse.specs.Tags as tags
 use Rattle.jt_parse.specs.Tags.{Separated, IsName, IsValue, pairs_of, Values, IsFiltering, IsParameter, Parameters, Loop, Opening, a_text, values, filters, escaping, a_macro, a_block, Head, a_statement, an_if, a_loop, an_opening, made, looped, Condition, Says}
 use Rattle.jt_parse.specs.Grammar as grammar

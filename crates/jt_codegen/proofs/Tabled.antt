@@ -10,7 +10,7 @@ use Rattle.jt_image.specs.IsCode.{total_len, max_instructions}
 use Rattle.jt_image.specs.declared.parts.Unit as given
 use Rattle.jt_image.specs.View.{name_view, names_view}
 use Rattle.jt_image.specs.Parts.{in_front, each_of, section_of_unit}
-use Rattle.jt_parse.specs.Trees.{Text}
+use Rattle.jt_trees.specs.Expressions.{Text}
 use Rattle.jt_slots.specs.View.{routine_view, templates_of, program_of}
 use Rattle.jt_slots.specs.declared.program.Routine.{Routine}
 use Rattle.jt_slots.specs.declared.program.Program.{Program}

@@ -1,7 +1,7 @@
 -- What a refusal to compile says of a library and an entry.
 use Rattle.std.specs.Prelude.{◌≢◌}
 use Rattle.jt_scan.specs.declared.options.Options.{Options}
-use Rattle.jt_parse.specs.Trees.{Text}
+use Rattle.jt_trees.specs.Expressions.{Text}
 use Rattle.jt_inherit.specs.Chains.{Given, IsChain}
 use Rattle.jt_chains.specs.View.{Seen}
 use Rattle.jt_inherit.specs.Refusals as inherit

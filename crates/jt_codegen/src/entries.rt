@@ -2,7 +2,7 @@
 
 ghost use Rattle.std.specs.Prelude.{◌≡◌, ◌&&◌, ◌≤◌, ◌↔◌, nat_le, ℕ, List, Option, option_map, map, IsTrue};
 ghost use Rattle.std.specs.List.{AllByRecursion};
-ghost use Rattle.jt_parse.specs.Trees.{Text};
+ghost use Rattle.jt_trees.specs.Expressions.{Text};
 ghost use Rattle.jt_slots.specs.Size.{targets_height, condition_height, body_height};
 ghost use Rattle.jt_slots.specs.Slots as slots;
 ghost use Rattle.jt_slots.specs.Slots.{SBody};

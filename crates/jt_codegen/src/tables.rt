@@ -5,7 +5,7 @@ ghost use Rattle.jt_value.specs.View.{view};
 ghost use Rattle.jt_image.specs.IsCode.{total_len, max_count, max_instructions};
 ghost use Rattle.jt_image.specs.Parts.{each_of, section_of_unit, code_of_parts};
 ghost use Rattle.jt_image.specs.View.{names_view, constant_view, constants_view};
-ghost use Rattle.jt_parse.specs.Trees.{Text};
+ghost use Rattle.jt_trees.specs.Expressions.{Text};
 ghost use Rattle.jt_slots.specs.View.{routine_view, program_of};
 ghost use Rattle.jt_lower.specs.Lower.{constant_of, numbered, unit_of, compiled};
 ghost use Rattle.jt_codegen.specs.Units.{RefusesUnits, RefusesCode};

@@ -5,9 +5,9 @@ use Rattle.jt_scan.specs.declared.segment.Sign.{Sign}
 use Rattle.jt_scan.specs.declared.segment.Sign.TheVariants as s
 use Rattle.jt_scan.specs.Cut as cut
 use Rattle.jt_scan.specs.Cut.{Token}
-use Rattle.jt_expr.specs.declared.tree.BinaryOperator.{BinaryOperator}
-use Rattle.jt_expr.specs.declared.tree.BinaryOperator.TheVariants as o
-use Rattle.jt_expr.specs.Trees.{Text, Expr}
+use Rattle.jt_trees.specs.declared.expression.BinaryOperator.{BinaryOperator}
+use Rattle.jt_trees.specs.declared.expression.BinaryOperator.TheVariants as o
+use Rattle.jt_trees.specs.Expressions.{Text, Expr}
 use Rattle.jt_expr.specs.Grammar.{Tokens, word, is_operand, Level, whole, disjunction, conjunction, inversion, comparison, sum, concatenation, product, power, postscript, signed, postfix, next, is_chain, operator_tokens, is_tokens, begins_argument, Row, items, entries, arguments, keywords, closer, Parts, Spells, plain, an_if, an_if_else, chain, inverted, upright, compared, alone, postscripts, minus, plus, unsigned, postfixes, Goes, stay, operated, filtered, tested, attributed, indexed, called, Primary, a_number, a_text, a_constant, a_name, a_group, a_list, a_map, Holds, closed, last, more, IsPart, without_key, an_entry, by_name}
 use Rattle.jt_expr.specs.Front.{code, sees, says}
 use Rattle.jt_expr.proofs.Branches.{operand_says, literal_is_operand, name_is_operand}

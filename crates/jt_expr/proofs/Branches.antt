@@ -8,7 +8,7 @@ use Rattle.jt_scan.specs.declared.segment.Sign.{Sign}
 use Rattle.jt_scan.specs.declared.segment.Sign.TheVariants as s
 use Rattle.jt_scan.specs.Cut as cut
 use Rattle.jt_scan.specs.Cut.{Token}
-use Rattle.jt_expr.specs.Trees.{Text, Literal, truth, nothing}
+use Rattle.jt_trees.specs.Expressions.{Text, Literal, truth, nothing}
 use Rattle.jt_expr.specs.Grammar.{Tokens, word, reserved, is_reserved, literal_of, is_literal, is_operand}
 use Rattle.jt_expr.specs.Front.{code, sees, says}
 

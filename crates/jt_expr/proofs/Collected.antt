@@ -2,7 +2,7 @@
 use Rattle.std.proofs.Common.{◌≡◌, ℕ, suc, ◌+◌, ◌-◌, ◌<◌, ◌≤◌, max, Bool, true, false, if◌then◌else◌, drop, sym, Option, Some, None, Ok, Err, refl, ap, ◌∙◌, arith}
 use Rattle.jt_scan.specs.declared.segment.Sign.TheVariants as s
 use Rattle.jt_expr.specs.declared.error.ExprError.{ExprError}
-use Rattle.jt_expr.specs.Trees.{Text, Expr, levels, Exprs, no_exprs, expr, Pairs, no_pairs, pair, exprs_levels, pairs_levels}
+use Rattle.jt_trees.specs.Expressions.{Text, Expr, levels, Exprs, no_exprs, expr, Pairs, no_pairs, pair, exprs_levels, pairs_levels}
 use Rattle.jt_expr.specs.Grammar.{Tokens, Level, Row, closer, behind_key, Parts, no_parts, put}
 use Rattle.jt_expr.specs.Front.{sees}
 use Rattle.jt_expr.specs.Reading.{syntax, Reader, Outcome, ◌>>=◌, expect, part, row}

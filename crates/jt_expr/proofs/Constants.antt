@@ -1,6 +1,6 @@
 -- The constants that words are.
 use Rattle.std.proofs.Common.{◌≡◌, true, false, codes, Option, Some, None, subst, bytes_eq}
-use Rattle.jt_expr.specs.Trees.{Text, Literal, truth, nothing}
+use Rattle.jt_trees.specs.Expressions.{Text, Literal, truth, nothing}
 use Rattle.jt_expr.specs.Grammar.{literal_of}
 use Rattle.jt_expr.proofs.Branches.{by_test}
 

@@ -4,9 +4,9 @@ use Rattle.std.specs.Prelude.{IsErrOf}
 use Rattle.jt_expr.specs.declared.error.ExprError.{ExprError}
 use Rattle.jt_expr.specs.declared.error.ExprError.TheVariants as e
 use Rattle.jt_expr.specs.declared.part.Part.{Part}
-use Rattle.jt_expr.specs.declared.tree.Expr.{Expr as Tree}
-use Rattle.jt_expr.specs.View.{expr_view}
-use Rattle.jt_expr.specs.Trees.{Expr, levels}
+use Rattle.jt_trees.specs.declared.expression.Expr.{Expr as Tree}
+use Rattle.jt_trees.specs.ExpressionView.{expr_view}
+use Rattle.jt_trees.specs.Expressions.{Expr, levels}
 use Rattle.jt_expr.specs.Grammar.{Tokens, Spells, whole}
 use Rattle.jt_expr.specs.Promises.{Leads, Reads, EndsAt, the_end}
 

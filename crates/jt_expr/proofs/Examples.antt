@@ -2,9 +2,9 @@
 use Rattle.std.proofs.Common.{◌≡◌, ℕ, pos, true, false, [], ◌∷◌, codes, refl, Result, Ok, Err}
 use Rattle.jt_scan.specs.declared.segment.Sign.TheVariants as s
 use Rattle.jt_scan.specs.Cut as cut
-use Rattle.jt_expr.specs.declared.tree.UnaryOperator.TheVariants as u
-use Rattle.jt_expr.specs.declared.tree.BinaryOperator.TheVariants as o
-use Rattle.jt_expr.specs.Trees.{Expr, constant, number, truth, name, list_of, map_of, attribute, call, filter, test, unary, binary, when, choice, no_exprs, expr, no_pairs, pair}
+use Rattle.jt_trees.specs.declared.expression.UnaryOperator.TheVariants as u
+use Rattle.jt_trees.specs.declared.expression.BinaryOperator.TheVariants as o
+use Rattle.jt_trees.specs.Expressions.{Expr, constant, number, truth, name, list_of, map_of, attribute, call, filter, test, unary, binary, when, choice, no_exprs, expr, no_pairs, pair}
 use Rattle.jt_expr.specs.Grammar.{Tokens, word, whole}
 use Rattle.jt_expr.specs.Reading.{Fault, Outcome, syntax, deep, read, read_at, read_whole, read_inversion, read_comparison, read_postscript, read_signed, read_postfix, primary, loop, arguments_at, chain_step, else_part, if_part, entry_key, expect, filter_step, keyword, name_at, opened, operator, part, postfix_step, postscript_step, row, test_arguments, test_step, word_at, read_chain}
 

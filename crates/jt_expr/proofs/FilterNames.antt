@@ -8,7 +8,7 @@ use Rattle.jt_ids.specs.declared.filter_id.FilterId.{FilterId}
 use Rattle.jt_ids.specs.declared.filter_id.FilterId.TheVariants as f
 use Rattle.jt_ids.specs.FilterTable.{filters, filter_names}
 use Rattle.jt_expr.specs.Named.{is_filter}
-use Rattle.jt_expr.specs.Trees.{Text}
+use Rattle.jt_trees.specs.Expressions.{Text}
 use Rattle.jt_expr.proofs.Branches.{false_unless}
 
 contained : (x : Text) (ks : List Text) → Contains ks x → list_any (bytes_eq x) ks ≡ true

@@ -3,8 +3,8 @@ use Rattle.std.proofs.Common.{◌≡◌, ℕ, suc, ◌≤◌, length, Result, Ok
 use Rattle.jt_expr.specs.declared.error.ExprError.{ExprError}
 use Rattle.jt_expr.specs.declared.part.Part.{Part}
 use Rattle.jt_expr.specs.declared.part.Parts.{Parts}
-use Rattle.jt_expr.specs.Trees.{exprs_levels, pairs_levels}
-use Rattle.jt_expr.specs.View.{expr_view, exprs_view, pairs_view}
+use Rattle.jt_trees.specs.Expressions.{exprs_levels, pairs_levels}
+use Rattle.jt_trees.specs.ExpressionView.{expr_view, exprs_view, pairs_view}
 use Rattle.jt_expr.specs.Promises.{parts_view}
 use Rattle.jt_expr.specs.Grammar.{Tokens, Level, Row, items, entries}
 use Rattle.jt_expr.specs.Reading.{read, row}

@@ -2,7 +2,7 @@
 use Rattle.std.proofs.Common.{◌≡◌, ℕ, suc, ◌+◌, ◌-◌, ◌<◌, ◌≤◌, Option, Some, None, Ok, Err, ap, ◌∙◌, arith}
 use Rattle.jt_expr.specs.declared.error.ExprError.{ExprError}
 use Rattle.jt_expr.specs.declared.error.ExprError.TheVariants as e
-use Rattle.jt_expr.specs.Trees.{Expr}
+use Rattle.jt_trees.specs.Expressions.{Expr}
 use Rattle.jt_expr.specs.Grammar.{Tokens}
 use Rattle.jt_expr.specs.Reading.{deep, Reader, Outcome, ◌>>=◌, again, loop}
 use Rattle.jt_expr.specs.Gives.{Refuses}

@@ -7,8 +7,8 @@ use Rattle.jt_expr.specs.declared.error.ExprError.{ExprError}
 use Rattle.jt_expr.specs.declared.error.ExprError.TheVariants as e
 use Rattle.jt_expr.specs.declared.part.Part.{Part}
 use Rattle.jt_expr.specs.declared.part.Parts.{Parts as Row}
-use Rattle.jt_expr.specs.Trees.{Expr, levels}
-use Rattle.jt_expr.specs.View.{expr_view}
+use Rattle.jt_trees.specs.Expressions.{Expr, levels}
+use Rattle.jt_trees.specs.ExpressionView.{expr_view}
 use Rattle.jt_expr.specs.Grammar.{Tokens, Level, whole, disjunction, conjunction, inversion, comparison, sum, concatenation, product, power, postscript, signed, postfix, Parts, Spells, Arguments}
 use Rattle.jt_expr.specs.Front.{sees}
 use Rattle.jt_expr.specs.Reading.{Outcome, Fault, syntax, deep, cap, read, arguments_at}

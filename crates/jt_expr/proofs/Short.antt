@@ -2,9 +2,10 @@
 use Rattle.std.proofs.Common.{◌≡◌, ℕ, ◌+◌, ◌≤◌, [], ◌∷◌, ◌++◌, length, codes, arith, Option, Some, None}
 use Rattle.jt_scan.specs.declared.segment.Sign.TheVariants as s
 use Rattle.jt_scan.specs.Cut as cut
-use Rattle.jt_expr.specs.Trees.{Text, Literal, Expr}
+use Rattle.jt_trees.specs.Expressions.{Text, Literal, Expr}
 use Rattle.jt_expr.specs.Grammar.{Tokens, word, literal_of, Level, operator_tokens, is_tokens, Row, closer, Parts, no_parts, put, Spells, plain, an_if, an_if_else, chain, inverted, upright, compared, alone, postscripts, minus, plus, unsigned, postfixes, Goes, stay, operated, filtered, tested, attributed, indexed, called, Primary, a_number, a_text, a_constant, a_name, a_group, a_list, a_map, Arguments, without, within, TestArguments, as_filter, bare, Holds, closed, last, more, IsPart, without_key, an_entry, by_name}
-use Rattle.jt_expr.specs.Sizes.{literal_bytes, expr_bytes, exprs_bytes, pairs_bytes, tokens_bytes}
+use Rattle.jt_trees.specs.Sizes.{literal_bytes, expr_bytes, exprs_bytes, pairs_bytes}
+use Rattle.jt_expr.specs.Sizes.{tokens_bytes}
 use Rattle.jt_expr.proofs.Constants.{each_constant}
 
 bytes-append : (x y : Tokens) → tokens_bytes (x ++ y) ≡ tokens_bytes x + tokens_bytes y

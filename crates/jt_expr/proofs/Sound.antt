@@ -5,10 +5,10 @@ use Rattle.jt_scan.specs.declared.segment.Sign.{Sign}
 use Rattle.jt_scan.specs.declared.segment.Sign.TheVariants as s
 use Rattle.jt_scan.specs.Cut as cut
 use Rattle.jt_scan.specs.Cut.{Token}
-use Rattle.jt_expr.specs.declared.tree.UnaryOperator.TheVariants as u
-use Rattle.jt_expr.specs.declared.tree.BinaryOperator.{BinaryOperator}
-use Rattle.jt_expr.specs.declared.tree.BinaryOperator.TheVariants as o
-use Rattle.jt_expr.specs.Trees.{Text, Literal, Expr, group, list_of, map_of, attribute, item, call, filter, test, unary, binary, when, choice, no_exprs, expr, no_pairs, levels}
+use Rattle.jt_trees.specs.declared.expression.UnaryOperator.TheVariants as u
+use Rattle.jt_trees.specs.declared.expression.BinaryOperator.{BinaryOperator}
+use Rattle.jt_trees.specs.declared.expression.BinaryOperator.TheVariants as o
+use Rattle.jt_trees.specs.Expressions.{Text, Literal, Expr, group, list_of, map_of, attribute, item, call, filter, test, unary, binary, when, choice, no_exprs, expr, no_pairs, levels}
 use Rattle.jt_expr.specs.Grammar.{Tokens, word, is_reserved, literal_of, names_test, Level, whole, disjunction, conjunction, inversion, comparison, sum, concatenation, product, power, postscript, signed, postfix, next, is_chain, level_of, operator_tokens, is_tokens, begins_argument, Row, items, entries, arguments, keywords, closer, takes_plain, takes_names, behind_key, Parts, no_parts, put, Spells, plain, an_if, an_if_else, chain, inverted, upright, compared, alone, postscripts, minus, plus, unsigned, postfixes, Goes, stay, operated, filtered, tested, attributed, indexed, called, Primary, a_number, a_text, a_constant, a_name, a_group, a_list, a_map, Arguments, without, within, TestArguments, as_filter, bare, Holds, closed, last, more, IsPart, without_key, an_entry, by_name}
 use Rattle.jt_expr.specs.Reading as r
 use Rattle.jt_expr.specs.Front.{sees, says, past}

@@ -7,10 +7,10 @@ use Rattle.std.proofs.lemmas.Slice.Eq.{bytes_eq-Decides}
 use Rattle.jt_ids.specs.declared.test_id.TestId.{TestId}
 use Rattle.jt_ids.specs.declared.test_id.TestId.TheVariants as t
 use Rattle.jt_ids.specs.TestTable.{test_names, tests}
-use Rattle.jt_expr.specs.declared.tree.Expr.{Expr}
+use Rattle.jt_trees.specs.declared.expression.Expr.{Expr}
 use Rattle.jt_expr.specs.declared.named.Named.{Named}
-use Rattle.jt_expr.specs.Trees.{Text}
-use Rattle.jt_expr.specs.View.{expr_view, exprs_view, pairs_view}
+use Rattle.jt_trees.specs.Expressions.{Text}
+use Rattle.jt_trees.specs.ExpressionView.{expr_view, exprs_view, pairs_view}
 use Rattle.jt_expr.specs.Named.{is_test, has_unknown, exprs_have_unknown, pairs_have_unknown}
 use Rattle.jt_expr.proofs.Branches.{false_unless}
 

@@ -1,6 +1,6 @@
 -- What only private clauses cite: parts of a row that are collected from the front.
 use Rattle.std.specs.Prelude.{Option, Some, None}
-use Rattle.jt_expr.specs.Trees.{Text, Expr, Exprs, no_exprs, expr, Pairs, no_pairs, pair}
+use Rattle.jt_trees.specs.Expressions.{Text, Expr, Exprs, no_exprs, expr, Pairs, no_pairs, pair}
 use Rattle.jt_expr.specs.Grammar.{Parts}
 
 abbrev pub then_exprs : Exprs → Exprs → Exprs

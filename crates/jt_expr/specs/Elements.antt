@@ -1,8 +1,8 @@
 -- What only private clauses cite: one part of a row, with what tells whether more follow.
 use Rattle.std.specs.Prelude.{ℕ, Option, drop, if◌then◌else◌, Ok}
 use Rattle.jt_scan.specs.declared.segment.Sign.TheVariants as s
-use Rattle.jt_expr.specs.declared.tree.UnaryOperator.{UnaryOperator}
-use Rattle.jt_expr.specs.Trees.{Text, Expr, unary}
+use Rattle.jt_trees.specs.declared.expression.UnaryOperator.{UnaryOperator}
+use Rattle.jt_trees.specs.Expressions.{Text, Expr, unary}
 use Rattle.jt_expr.specs.Grammar.{Level, Row, closer}
 use Rattle.jt_expr.specs.Front.{sees}
 use Rattle.jt_expr.specs.Reading.{Outcome, Reader, ◌>>=◌, expect, part}

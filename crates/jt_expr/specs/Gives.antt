@@ -20,9 +20,9 @@ use Rattle.jt_expr.specs.declared.rows.Element.{Element}
 use Rattle.jt_expr.specs.declared.rows.Element.TheVariants as l
 use Rattle.jt_expr.specs.declared.rows.Step.{Step}
 use Rattle.jt_expr.specs.declared.rows.Step.TheVariants.{Grown, Ended}
-use Rattle.jt_expr.specs.declared.tree.BinaryOperator.{BinaryOperator}
-use Rattle.jt_expr.specs.Trees.{Text, Expr, levels}
-use Rattle.jt_expr.specs.View.{expr_view}
+use Rattle.jt_trees.specs.declared.expression.BinaryOperator.{BinaryOperator}
+use Rattle.jt_trees.specs.Expressions.{Text, Expr, levels}
+use Rattle.jt_trees.specs.ExpressionView.{expr_view}
 use Rattle.jt_expr.specs.Promises.{parts_view, level_of_form}
 use Rattle.jt_expr.specs.Grammar as grammar
 use Rattle.jt_expr.specs.Grammar.{Tokens, Level, next}

@@ -5,10 +5,10 @@ use Rattle.jt_scan.specs.declared.segment.Sign.{Sign}
 use Rattle.jt_scan.specs.declared.segment.Sign.TheVariants as s
 use Rattle.jt_scan.specs.Cut as cut
 use Rattle.jt_scan.specs.Cut.{Token}
-use Rattle.jt_expr.specs.declared.tree.UnaryOperator.TheVariants as u
-use Rattle.jt_expr.specs.declared.tree.BinaryOperator.{BinaryOperator}
-use Rattle.jt_expr.specs.declared.tree.BinaryOperator.TheVariants as o
-use Rattle.jt_expr.specs.Trees.{Text, Literal, number, text, truth, nothing, Expr, constant, name, group, list_of, map_of, attribute, item, call, filter, test, unary, binary, when, choice, Exprs, no_exprs, expr, Pairs, no_pairs, pair}
+use Rattle.jt_trees.specs.declared.expression.UnaryOperator.TheVariants as u
+use Rattle.jt_trees.specs.declared.expression.BinaryOperator.{BinaryOperator}
+use Rattle.jt_trees.specs.declared.expression.BinaryOperator.TheVariants as o
+use Rattle.jt_trees.specs.Expressions.{Text, Literal, number, text, truth, nothing, Expr, constant, name, group, list_of, map_of, attribute, item, call, filter, test, unary, binary, when, choice, Exprs, no_exprs, expr, Pairs, no_pairs, pair}
 
 abbrev pub Tokens : Type 0
 Tokens = List Token

@@ -1,9 +1,7 @@
-pub mod Trees
 pub mod Grammar
 pub mod Front
 pub mod Reading
 pub mod Words
-pub mod View
 pub mod Cursor
 pub mod Elements
 pub mod Collecting

@@ -2,7 +2,7 @@
 use Rattle.std.specs.Prelude.{◌≡◌, ℕ, suc, Bool, true, false, not, ◌||◌, Option, Some, None, bytes_eq}
 use Rattle.std.specs.List.{list_any}
 use Rattle.jt_ids.specs.TestTable.{test_names, tests}
-use Rattle.jt_ids.specs.FilterTable.{filters, filter_names, filter_meant, named_at}
+use Rattle.jt_ids.specs.FilterTable.{filters, filter_names, named_at}
 use Rattle.jt_ids.specs.declared.filter_id.FilterId.{FilterId}
 use Rattle.jt_ids.specs.declared.filter_id.Naming.{Naming}
 use Rattle.jt_ids.specs.declared.filter_id.Naming.TheVariants as naming
@@ -10,7 +10,8 @@ use Rattle.jt_expr.specs.declared.named.Named.{Named}
 use Rattle.jt_expr.specs.declared.named.Named.TheVariants as n
 use Rattle.jt_expr.specs.declared.error.ExprError.{ExprError}
 use Rattle.jt_expr.specs.declared.error.ExprError.TheVariants as e
-use Rattle.jt_expr.specs.Trees.{Text, text, Expr, constant, name, group, list_of, map_of, attribute, item, call, filter, test, unary, binary, when, choice, Exprs, no_exprs, expr, Pairs, no_pairs, pair}
+use Rattle.jt_trees.specs.Written.{literal_text, filter_written}
+use Rattle.jt_trees.specs.Expressions.{Text, Expr, constant, name, group, list_of, map_of, attribute, item, call, filter, test, unary, binary, when, choice, Exprs, no_exprs, expr, Pairs, no_pairs, pair}
 
 -- a test has the name
 unfoldable pub is_test : Text → Bool
@@ -27,20 +28,6 @@ unknown_filter n.Test x = false
 abbrev pub unknown_test : Named → Text → Bool
 unknown_test n.Filter x = false
 unknown_test n.Test x = not (is_test x)
-
--- the text of a text literal; in parentheses it is none
-abbrev pub literal_text : Expr → Option Text
-literal_text (constant (text x)) = Some x
-literal_text t = None
-
--- the name of the only argument, where there is one alone and it is given by its name
-abbrev pub only_name : Exprs → Pairs → Option Text
-only_name no_exprs (pair x t no_pairs) = Some x
-only_name ts ps = None
-
--- the filter that a name means, with its arguments as they are written
-unfoldable pub filter_written : Text → Exprs → Pairs → Option FilterId
-filter_written x ts ps = filter_meant x (only_name ts ps)
 
 -- a name that an argument gives; the key of an attribute always has a meaning
 abbrev pub unknown_naming : Named → Naming → Text → Bool

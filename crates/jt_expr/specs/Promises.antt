@@ -9,9 +9,10 @@ use Rattle.jt_expr.specs.declared.error.ExprError.TheVariants as e
 use Rattle.jt_expr.specs.declared.part.Parts.{Parts as Row}
 use Rattle.jt_expr.specs.declared.rows.Form.{Form}
 use Rattle.jt_expr.specs.declared.rows.Form.TheVariants as f
-use Rattle.jt_expr.specs.Trees.{Expr, exprs_levels, pairs_levels, weight}
-use Rattle.jt_expr.specs.Sizes.{expr_bytes, tokens_bytes}
-use Rattle.jt_expr.specs.View.{exprs_view, pairs_view}
+use Rattle.jt_trees.specs.Expressions.{Expr, exprs_levels, pairs_levels, weight}
+use Rattle.jt_trees.specs.Sizes.{expr_bytes}
+use Rattle.jt_expr.specs.Sizes.{tokens_bytes}
+use Rattle.jt_trees.specs.ExpressionView.{exprs_view, pairs_view}
 use Rattle.jt_expr.specs.Grammar.{Tokens, word, Level, whole, disjunction, inversion, signed, postfix, Parts, Spells}
 
 abbrev pub parts_view : Row → Parts

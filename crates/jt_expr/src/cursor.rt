@@ -10,9 +10,9 @@ ghost use Rattle.jt_expr.specs.Gives.{level_of_chain, Operates, TakesName, Takes
 
 use crate::error::ExprError;
 use crate::rows::Chain;
-use crate::tree::BinaryOperator;
 use crate::words::{is_operand, is_reserved, is_word};
 use jt_scan::{Sign, Token};
+use jt_trees::BinaryOperator;
 
 /// The tokens that are still to be read.
 #[derive(Drop)]

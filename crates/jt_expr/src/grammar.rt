@@ -3,14 +3,14 @@
 
 ghost use Rattle.std.specs.Prelude.{◌≡◌, ◌≤◌, ◌<◌, ◌^◌, suc, max, length, true, false, codes, encode_utf8_all, IfOk};
 ghost use Rattle.std.specs.Str.{chars};
-ghost use Rattle.jt_expr.specs.Trees as trees;
-ghost use Rattle.jt_expr.specs.View.{expr_view, exprs_view, pairs_view};
+ghost use Rattle.jt_trees.specs.Expressions as trees;
+ghost use Rattle.jt_trees.specs.ExpressionView.{expr_view, exprs_view, pairs_view};
 ghost use Rattle.jt_expr.specs.Front as front;
 ghost use Rattle.jt_expr.specs.Reading as spec;
 ghost use Rattle.jt_expr.specs.Grammar as grammar;
 ghost use Rattle.jt_expr.specs.Elements as elements;
 ghost use Rattle.jt_expr.specs.Cursor.{ahead};
-ghost use Rattle.jt_expr.specs.Trees.{levels};
+ghost use Rattle.jt_trees.specs.Expressions.{levels};
 ghost use Rattle.jt_expr.specs.Grammar.{Spells, Arguments};
 ghost use Rattle.jt_expr.specs.Promises.{Reads, EndsAt, OpensNone, parts_levels};
 ghost use Rattle.jt_expr.specs.Promises.{level_of_form, parts_view};
@@ -21,12 +21,12 @@ ghost use Rattle.jt_scan.specs.declared.segment.Sign.TheVariants as sign;
 
 use crate::cursor::Cursor;
 use crate::error::ExprError;
+use crate::making;
 use crate::part::{Part, Parts};
 use crate::rows::{Chain, Element, Form, Keyed, Row, Step};
-use crate::tree;
-use crate::tree::{BinaryOperator, Literal, UnaryOperator};
 use crate::words::{is_reserved, literal_of};
 use jt_scan::{Sign, Token, text_value};
+use jt_trees::{BinaryOperator, Literal, UnaryOperator};
 use std::alloc::Global;
 
 /// The rules, over the reader of what lies deeper.
@@ -66,7 +66,7 @@ impl<F: Fn(Global, &mut Cursor<'_>, usize, Form) -> Result<Part, ExprError>> Gra
             (encode_utf8_all (chars name.now))) result }
     {
         let height = self.around(value.height)?;
-        let expr = tree::make_attribute(self.alloc, value.expr, name)?;
+        let expr = making::make_attribute(self.alloc, value.expr, name)?;
         Ok(Part { expr, height })
     }
 
@@ -76,7 +76,7 @@ impl<F: Fn(Global, &mut Cursor<'_>, usize, Form) -> Result<Part, ExprError>> Gra
             (trees.item (expr_view value.expr.value) (expr_view index.expr.value)) result }
     {
         let height = self.around(value.height.max(index.height))?;
-        let expr = tree::make_item(self.alloc, value.expr, index.expr)?;
+        let expr = making::make_item(self.alloc, value.expr, index.expr)?;
         Ok(Part { expr, height })
     }
 
@@ -86,7 +86,7 @@ impl<F: Fn(Global, &mut Cursor<'_>, usize, Form) -> Result<Part, ExprError>> Gra
             (exprs_view arguments.items.items) (pairs_view arguments.pairs.items)) result }
     {
         let height = self.around(value.height.max(arguments.height))?;
-        let expr = tree::make_call(self.alloc, value.expr, arguments.items, arguments.pairs)?;
+        let expr = making::make_call(self.alloc, value.expr, arguments.items, arguments.pairs)?;
         Ok(Part { expr, height })
     }
 
@@ -97,7 +97,7 @@ impl<F: Fn(Global, &mut Cursor<'_>, usize, Form) -> Result<Part, ExprError>> Gra
             (pairs_view arguments.pairs.items)) result }
     {
         let height = self.around(value.height.max(arguments.height))?;
-        let expr = tree::make_filter(
+        let expr = making::make_filter(
             self.alloc,
             value.expr,
             name,
@@ -120,7 +120,7 @@ impl<F: Fn(Global, &mut Cursor<'_>, usize, Form) -> Result<Part, ExprError>> Gra
             (pairs_view arguments.pairs.items)) result }
     {
         let height = self.around(value.height.max(arguments.height))?;
-        let expr = tree::make_test(
+        let expr = making::make_test(
             self.alloc,
             value.expr,
             negated,
@@ -137,7 +137,7 @@ impl<F: Fn(Global, &mut Cursor<'_>, usize, Form) -> Result<Part, ExprError>> Gra
             (trees.binary op (expr_view left.expr.value) (expr_view right.expr.value)) result }
     {
         let height = self.around(left.height.max(right.height))?;
-        let expr = tree::make_binary(self.alloc, op, left.expr, right.expr)?;
+        let expr = making::make_binary(self.alloc, op, left.expr, right.expr)?;
         Ok(Part { expr, height })
     }
 
@@ -147,7 +147,7 @@ impl<F: Fn(Global, &mut Cursor<'_>, usize, Form) -> Result<Part, ExprError>> Gra
             (trees.when (expr_view condition.expr.value) (expr_view value.expr.value)) result }
     {
         let height = self.around(condition.height.max(value.height))?;
-        let expr = tree::make_when(self.alloc, condition.expr, value.expr)?;
+        let expr = making::make_when(self.alloc, condition.expr, value.expr)?;
         Ok(Part { expr, height })
     }
 
@@ -157,7 +157,7 @@ impl<F: Fn(Global, &mut Cursor<'_>, usize, Form) -> Result<Part, ExprError>> Gra
             (expr_view value.expr.value) (expr_view other.expr.value)) result }
     {
         let height = self.around(condition.height.max(value.height.max(other.height)))?;
-        let expr = tree::make_choice(self.alloc, condition.expr, value.expr, other.expr)?;
+        let expr = making::make_choice(self.alloc, condition.expr, value.expr, other.expr)?;
         Ok(Part { expr, height })
     }
 
@@ -173,7 +173,7 @@ impl<F: Fn(Global, &mut Cursor<'_>, usize, Form) -> Result<Part, ExprError>> Gra
                 None => Ok(None),
             },
             Row::Arguments | Row::Keywords => match cursor.keyword() {
-                Some(name) => Ok(Some(tree::copy_of(self.alloc, name)?)),
+                Some(name) => Ok(Some(making::copy_of(self.alloc, name)?)),
                 None => Ok(None),
             },
         }
@@ -251,7 +251,7 @@ impl<F: Fn(Global, &mut Cursor<'_>, usize, Form) -> Result<Part, ExprError>> Gra
             return Err(ExprError::Syntax);
         }
         Ok(Part {
-            expr: tree::make_group(self.alloc, inner.expr)?,
+            expr: making::make_group(self.alloc, inner.expr)?,
             height: inner.height + 1,
         })
     }
@@ -265,7 +265,7 @@ impl<F: Fn(Global, &mut Cursor<'_>, usize, Form) -> Result<Part, ExprError>> Gra
     {
         let parts = self.row(cursor, Row::Items)?;
         Ok(Part {
-            expr: tree::make_list(self.alloc, parts.items)?,
+            expr: making::make_list(self.alloc, parts.items)?,
             height: parts.height + 1,
         })
     }
@@ -279,7 +279,7 @@ impl<F: Fn(Global, &mut Cursor<'_>, usize, Form) -> Result<Part, ExprError>> Gra
     {
         let parts = self.row(cursor, Row::Entries)?;
         Ok(Part {
-            expr: tree::make_map(self.alloc, parts.pairs)?,
+            expr: making::make_map(self.alloc, parts.pairs)?,
             height: parts.height + 1,
         })
     }
@@ -292,7 +292,7 @@ impl<F: Fn(Global, &mut Cursor<'_>, usize, Form) -> Result<Part, ExprError>> Gra
     {
         if let Some(literal) = literal_of(word) {
             return Ok(Part {
-                expr: tree::make_constant(self.alloc, literal)?,
+                expr: making::make_constant(self.alloc, literal)?,
                 height: 1,
             });
         }
@@ -300,7 +300,7 @@ impl<F: Fn(Global, &mut Cursor<'_>, usize, Form) -> Result<Part, ExprError>> Gra
             return Err(ExprError::Syntax);
         }
         Ok(Part {
-            expr: tree::make_name(self.alloc, word)?,
+            expr: making::make_name(self.alloc, word)?,
             height: 1,
         })
     }
@@ -316,13 +316,13 @@ impl<F: Fn(Global, &mut Cursor<'_>, usize, Form) -> Result<Part, ExprError>> Gra
         match cursor.take() {
             Some(Token::Name(word)) => self.word(cursor, word),
             Some(Token::Number(value)) => Ok(Part {
-                expr: tree::make_constant(self.alloc, Literal::Number(value))?,
+                expr: making::make_constant(self.alloc, Literal::Number(value))?,
                 height: 1,
             }),
             Some(Token::Text(raw)) => {
                 let text = text_value(self.alloc, raw)?;
                 Ok(Part {
-                    expr: tree::make_constant(self.alloc, Literal::Text(text))?,
+                    expr: making::make_constant(self.alloc, Literal::Text(text))?,
                     height: 1,
                 })
             }
@@ -390,7 +390,7 @@ impl<F: Fn(Global, &mut Cursor<'_>, usize, Form) -> Result<Part, ExprError>> Gra
     {
         let value = self.inner(cursor, form)?;
         Ok(Part {
-            expr: tree::make_unary(self.alloc, op, value.expr)?,
+            expr: making::make_unary(self.alloc, op, value.expr)?,
             height: value.height + 1,
         })
     }

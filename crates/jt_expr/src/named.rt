@@ -1,14 +1,14 @@
 //! Filters and tests whose names have a meaning, those too that a filter's arguments name.
 
-ghost use Rattle.std.specs.Prelude.{◌≡◌, MatchResult, option_map};
+ghost use Rattle.std.specs.Prelude.{◌≡◌, MatchResult};
 ghost use Rattle.jt_ids.specs.FilterTable.{named_at};
-ghost use Rattle.jt_expr.specs.Trees.{no_exprs};
-ghost use Rattle.jt_expr.specs.View.{expr_view, exprs_view, pairs_view};
+ghost use Rattle.jt_trees.specs.ExpressionView.{expr_view, exprs_view, pairs_view};
+ghost use Rattle.jt_trees.specs.Written.{literal_text};
 ghost use Rattle.jt_expr.specs.Named as spec;
 
 use crate::error::ExprError;
-use crate::tree::{Expr, Literal};
 use jt_ids::{FilterId, Naming, TestId};
+use jt_trees::{Expr, filter_of, literal_text};
 
 /// What has a name that may have no meaning.
 #[derive(Clone, Copy)]
@@ -69,46 +69,6 @@ fn is_unknown_filter(name: &str, named: Named) -> bool
     }
 }
 
-/// The text of a text literal; in parentheses it is none.
-pub fn literal_text(expr: &Expr) -> Option<&str>
-    ensures { option_map (λ s. s.now) result ≡ spec.literal_text (expr_view expr.now) }
-{
-    match expr {
-        Expr::Constant(Literal::Text(text)) => Some(text.as_str()),
-        _ => None,
-    }
-}
-
-/// The name of the only argument, where there is one alone and it is given by its name.
-fn only_name<'a>(items: &[Expr], pairs: &'a [(String, Expr)]) -> Option<&'a str>
-    ensures { option_map (λ s. s.now) result
-        ≡ spec.only_name (exprs_view items.now) (pairs_view pairs.now) }
-{
-    match items {
-        [] => single_name(pairs),
-        _ => None,
-    }
-}
-
-/// The name of the only argument by name, where there is one alone.
-fn single_name(pairs: &[(String, Expr)]) -> Option<&str>
-    ensures { option_map (λ s. s.now) result ≡ spec.only_name no_exprs (pairs_view pairs.now) }
-{
-    match pairs {
-        [] => None,
-        [(name, _)] => Some(name.as_str()),
-        _ => None,
-    }
-}
-
-/// The filter that a name means, with its arguments as they are written; none where no filter has
-/// the name. `map` whose only argument is given by the name `attribute` is another filter than `map`.
-pub fn filter_of(name: &str, items: &[Expr], pairs: &[(String, Expr)]) -> Option<FilterId>
-    ensures { result ≡ spec.filter_written name.now (exprs_view items.now) (pairs_view pairs.now) }
-{
-    FilterId::named(name, only_name(items, pairs))
-}
-
 /// Whether a name that an argument gives is what is looked for.
 fn is_unknown_naming(naming: Naming, name: &str, named: Named) -> bool
     ensures { result ≡ spec.unknown_naming named naming name.now }
@@ -124,7 +84,7 @@ fn is_unknown_naming(naming: Naming, name: &str, named: Named) -> bool
 fn argument_unknown(filter: FilterId, place: usize, argument: &Expr, named: Named) -> bool
     ensures { result
         ≡ spec.argument_unknown named (named_at filter place)
-        (spec.literal_text (expr_view argument.now)) }
+        (literal_text (expr_view argument.now)) }
 {
     let Some(naming) = filter.named_at(place) else {
         return false;

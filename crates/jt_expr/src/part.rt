@@ -1,10 +1,10 @@
 //! Trees with the number of their levels.
 
 ghost use Rattle.std.specs.Prelude.{◌≡◌, max};
-ghost use Rattle.jt_expr.specs.Trees.{levels, exprs_levels, pairs_levels};
-ghost use Rattle.jt_expr.specs.View.{expr_view, exprs_view, pairs_view};
+ghost use Rattle.jt_trees.specs.Expressions.{levels, exprs_levels, pairs_levels};
+ghost use Rattle.jt_trees.specs.ExpressionView.{expr_view, exprs_view, pairs_view};
 
-use crate::tree::Expr;
+use jt_trees::Expr;
 
 /// A tree with its levels.
 #[derive(Drop)]

@@ -2,7 +2,7 @@
 
 ghost use Rattle.std.specs.Prelude.{◌≡◌, OnOk, Some, None, option_map, string_bytes};
 ghost use Rattle.jt_expr.specs.Grammar as grammar;
-ghost use Rattle.jt_expr.specs.View.{expr_view};
+ghost use Rattle.jt_trees.specs.ExpressionView.{expr_view};
 ghost use Rattle.jt_expr.specs.Promises.{parts_view};
 ghost use Rattle.jt_expr.specs.Gives.{row_view, keyed_view};
 ghost use Rattle.jt_expr.specs.Collecting.{then_part};

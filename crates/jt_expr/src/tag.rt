@@ -2,9 +2,9 @@
 
 ghost use Rattle.std.specs.Prelude.{◌≡◌, ◌≤◌, ◌<◌, map, IfOk, MatchResult, IsErrOf, []};
 ghost use Rattle.jt_scan.specs.View.{token_view};
-ghost use Rattle.jt_expr.specs.Trees as trees;
-ghost use Rattle.jt_expr.specs.Trees.{levels};
-ghost use Rattle.jt_expr.specs.View.{expr_view};
+ghost use Rattle.jt_trees.specs.Expressions as trees;
+ghost use Rattle.jt_trees.specs.Expressions.{levels};
+ghost use Rattle.jt_trees.specs.ExpressionView.{expr_view};
 ghost use Rattle.jt_expr.specs.Grammar.{Spells, whole};
 ghost use Rattle.jt_expr.specs.Promises.{Reads};
 
@@ -13,8 +13,8 @@ use crate::error::ExprError;
 use crate::grammar;
 use crate::part::Part;
 use crate::rows::Form;
-use crate::tree::Expr;
 use jt_scan::Token;
+use jt_trees::Expr;
 use std::alloc::Global;
 
 /// The expression that all the tokens spell, of at most so many levels.

@@ -4,9 +4,9 @@ ghost use Rattle.std.specs.Prelude.{◌≡◌, option_map, bytes_eq};
 ghost use Rattle.std.specs.Str.{chars};
 ghost use Rattle.jt_expr.specs.Words.{letters_of};
 ghost use Rattle.jt_expr.specs.Grammar as grammar;
-ghost use Rattle.jt_expr.specs.View.{literal_view};
+ghost use Rattle.jt_trees.specs.ExpressionView.{literal_view};
 
-use crate::tree::Literal;
+use jt_trees::Literal;
 
 /// What a word is that stands for itself.
 pub fn literal_of(word: &str) -> Option<Literal>

@@ -1,14 +1,5 @@
 pub mod Codes
-pub mod FilterIds
-pub mod Filtering
-pub mod Kinds
-pub mod Listing
-pub mod Mapping
-pub mod Numbers
 pub mod Operands
-pub mod Ordering
 pub mod Ranks
 pub mod Rows
 pub mod Seen
-pub mod Single
-pub mod Texts

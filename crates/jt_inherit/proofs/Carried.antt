@@ -7,8 +7,9 @@ use Rattle.std.specs.Str.{bytes_eq}
 use Rattle.std.proofs.lemmas.List.{append-nil}
 use Rattle.std.proofs.lemmas.Bool.{cases_lt}
 use Rattle.std.proofs.lemmas.Bool.Decides.{nat_tests}
-use Rattle.jt_parse.specs.Texts.{among, repeated}
-use Rattle.jt_parse.specs.Trees.{Text, Body}
+use Rattle.jt_trees.specs.Texts.{among, repeated}
+use Rattle.jt_trees.specs.Expressions.{Text}
+use Rattle.jt_trees.specs.Statements.{Body}
 use Rattle.jt_chains.specs.Chain.{Sources, Template, template, templates, extends_of, parent_of, names_up, blocks_in}
 use Rattle.jt_inherit.specs.Checks.{lacks_body, lacks_next}
 use Rattle.jt_inherit.specs.Kept.{their_blocks, their_macros, any_double}

@@ -7,8 +7,9 @@ use Rattle.std.proofs.lemmas.Option.{slice_get-get_or}
 use Rattle.std.specs.List.{list_any}
 use Rattle.std.specs.Str.{bytes_eq}
 use denote.Ref.{Bor}
-use Rattle.jt_parse.specs.Texts.{among, repeated}
-use Rattle.jt_parse.specs.Trees.{Text, end}
+use Rattle.jt_trees.specs.Texts.{among, repeated}
+use Rattle.jt_trees.specs.Expressions.{Text}
+use Rattle.jt_trees.specs.Statements.{end}
 use Rattle.std.specs.Option.{option_to_list}
 use Rattle.jt_chains.specs.Along.{body_at, templates_at}
 use Rattle.jt_inherit.specs.Kept.{any_double}

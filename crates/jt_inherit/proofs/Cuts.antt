@@ -15,11 +15,12 @@ use Rattle.jt_parse.specs.Grammar.{Spelled}
 use Rattle.jt_parse.specs.Kept.{Read, pieces}
 use Rattle.jt_parse.specs.Names.{body_unknown}
 use Rattle.jt_parse.specs.Refusals.{IsRefusal}
-use Rattle.jt_parse.specs.Trees.{Body, body_levels}
-use Rattle.jt_parse.specs.View.{body_of, reads_of}
+use Rattle.jt_trees.specs.Statements.{Body, body_levels}
+use Rattle.jt_trees.specs.StatementView.{body_of}
+use Rattle.jt_parse.specs.View.{reads_of}
 use Rattle.jt_parse.specs.declared.error.ParseError.{ParseError}
 use Rattle.jt_parse.specs.declared.error.ParseError.TheVariants as parse_error
-use Rattle.jt_parse.specs.declared.tree.Template.{Template}
+use Rattle.jt_trees.specs.declared.statement.Template.{Template}
 use Rattle.jt_inherit.specs.Chains.{Given, IsTree, HasNoTree, IsOnly}
 use Rattle.jt_inherit.specs.Faults.{IsFault, IsScan, IsParse}
 use Rattle.jt_inherit.specs.Refusals.{IsUncut, IsUnspelled}

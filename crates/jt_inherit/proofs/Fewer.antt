@@ -3,8 +3,9 @@ use Rattle.std.proofs.Common.{◌≡◌, suc, ◌+◌, ◌*◌, ◌≤◌, Bool,
 use Rattle.std.specs.Prelude.{not, flat_map, filter, IsTrue}
 use Rattle.std.specs.Option.{is_some}
 use Rattle.std.specs.Str.{bytes_eq}
-use Rattle.jt_parse.specs.Texts.{among, repeated}
-use Rattle.jt_parse.specs.Trees.{Text, Stmt, data_of, print, choose, for_each, set, set_block, with_values, filter_block, autoescape, macro, include, extends, block, Body, end, stmt, Branches, no_branches, branch, stmt_weight, body_weight, branch_weight}
+use Rattle.jt_trees.specs.Texts.{among, repeated}
+use Rattle.jt_trees.specs.Expressions.{Text}
+use Rattle.jt_trees.specs.Statements.{Stmt, data_of, print, choose, for_each, set, set_block, with_values, filter_block, autoescape, macro, include, extends, block, Body, end, stmt, Branches, no_branches, branch, stmt_weight, body_weight, branch_weight}
 use Rattle.jt_chains.specs.Chain.{Sources, Home, Template, templates}
 use Rattle.jt_chains.specs.Includes.{needs_by, needs_in, needs_under, included, AllIn, InOrder}
 use Rattle.jt_chains.specs.Rules.{Reaches, here, through}

@@ -4,7 +4,7 @@ use Rattle.std.specs.Prelude.{unwrap_or}
 use Rattle.std.proofs.lemmas.List.{take_more}
 use Rattle.jt_order.specs.Graph.{Graph, next_of}
 use Rattle.jt_order.specs.View.{graph_of}
-use Rattle.jt_parse.specs.Trees.{Text}
+use Rattle.jt_trees.specs.Expressions.{Text}
 use Rattle.jt_inherit.specs.Found.{HasHomes}
 use Rattle.jt_chains.specs.Pages.{home_name}
 use Rattle.jt_chains.specs.Places.{home_at}

@@ -6,8 +6,8 @@ use Rattle.std.specs.Option.{is_some}
 use Rattle.std.specs.Str.{bytes_eq}
 use Rattle.std.proofs.lemmas.List.{get_or_default}
 use Rattle.std.proofs.lemmas.List.Quantifiers.{position-Some}
-use Rattle.jt_parse.specs.Texts.{among}
-use Rattle.jt_parse.specs.Trees.{Text}
+use Rattle.jt_trees.specs.Texts.{among}
+use Rattle.jt_trees.specs.Expressions.{Text}
 use Rattle.jt_inherit.specs.SetView.{strings}
 use Rattle.jt_inherit.proofs.Among.{same, symmetric, map_more}
 use Rattle.jt_chains.proofs.Placed.{map_at}

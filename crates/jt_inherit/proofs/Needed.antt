@@ -2,8 +2,9 @@
 use Rattle.std.proofs.Common.{◌≡◌, Bool, not, ◌||◌, if◌then◌else◌, List, [], ◌∷◌, ◌++◌, refl, sym, ap, ◌∙◌}
 use Rattle.std.specs.Prelude.{flat_map}
 use Rattle.std.proofs.lemmas.List.{append-nil, append_assoc}
-use Rattle.jt_parse.specs.Trees as trees
-use Rattle.jt_parse.specs.Trees.{Text, Body, Branches}
+use Rattle.jt_trees.specs.Statements as trees
+use Rattle.jt_trees.specs.Expressions.{Text}
+use Rattle.jt_trees.specs.Statements.{Body, Branches}
 use Rattle.jt_chains.specs.Chain.{Template}
 use Rattle.jt_chains.specs.Includes.{needs_by, needs_in, needs_under}
 use Rattle.jt_inherit.specs.Needs.{Need, needed, includes_of, includes_in, includes_under}

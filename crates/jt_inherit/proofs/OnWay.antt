@@ -6,9 +6,9 @@ use Rattle.std.specs.Option.{is_none}
 use Rattle.std.specs.Str.{bytes_eq}
 use Rattle.std.proofs.lemmas.Bool.Decides.{nat_tests}
 use Rattle.jt_scan.specs.declared.options.Options.{Options}
-use Rattle.jt_parse.specs.Bytes.{body_bytes}
-use Rattle.jt_parse.specs.Texts.{among, repeated}
-use Rattle.jt_parse.specs.Trees.{Text}
+use Rattle.jt_trees.specs.Sizes.{body_bytes}
+use Rattle.jt_trees.specs.Texts.{among, repeated}
+use Rattle.jt_trees.specs.Expressions.{Text}
 use Rattle.jt_chains.specs.Chain.{Sources, Template, extends_of, parent_of, names_up}
 use Rattle.jt_inherit.specs.Chains.{Given, IsRead}
 use Rattle.jt_chains.specs.Names.{IsName}

@@ -6,8 +6,8 @@ use Rattle.std.specs.Str.{bytes_eq}
 use Rattle.std.proofs.lemmas.Bool.Decides.{nat_tests}
 use Rattle.jt_order.specs.Graph as graph
 use Rattle.jt_order.specs.Graph.{Graph, next_of, AreOrdered}
-use Rattle.jt_parse.specs.Texts.{among, repeated}
-use Rattle.jt_parse.specs.Trees.{Text}
+use Rattle.jt_trees.specs.Texts.{among, repeated}
+use Rattle.jt_trees.specs.Expressions.{Text}
 use Rattle.jt_chains.specs.Chain.{Sources}
 use Rattle.jt_chains.specs.Includes.{included, AllIn, InOrder}
 use Rattle.jt_chains.specs.Places.{home_at}

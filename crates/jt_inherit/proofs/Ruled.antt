@@ -1,7 +1,7 @@
 -- The rules on the templates of a chain, by what is found at their places.
 use Rattle.std.proofs.Common.{◌≡◌, ℕ, Bool, List, [], ◌∷◌, map, refl, sym, ap, ◌∙◌, Some}
 use Rattle.std.specs.Prelude.{slice_get}
-use Rattle.jt_parse.specs.Texts.{repeated}
+use Rattle.jt_trees.specs.Texts.{repeated}
 use Rattle.jt_chains.specs.Along.{macros_along, blocks_along}
 use Rattle.jt_chains.specs.Chain.{Template, MacroBody, macros_in, blocks_in}
 use Rattle.jt_inherit.specs.Checks.{lacks_body, lacks_next, macro_names}

@@ -4,8 +4,9 @@ use Rattle.std.specs.List.{AllByRecursion, list_any}
 use Rattle.std.specs.Option.{is_some, is_none}
 use Rattle.std.specs.Str.{bytes_eq}
 use Rattle.jt_scan.specs.declared.options.Options.{Options}
-use Rattle.jt_parse.specs.Texts.{among}
-use Rattle.jt_parse.specs.Trees.{Text, Body}
+use Rattle.jt_trees.specs.Texts.{among}
+use Rattle.jt_trees.specs.Expressions.{Text}
+use Rattle.jt_trees.specs.Statements.{Body}
 use Rattle.jt_chains.specs.Chain.{Sources, Template, sources_in}
 use Rattle.jt_inherit.specs.Chains.{Given, IsTree, IsRead, IsOnly, IsChain}
 use Rattle.jt_inherit.specs.Refusals.{Breaks, Shows, HasFault, IsUncut, IsUnspelled}

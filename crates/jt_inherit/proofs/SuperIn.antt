@@ -1,9 +1,9 @@
 -- Whether `super()` is called in branches.
 use Rattle.std.proofs.Common.{◌≡◌, ℕ, ◌+◌, ◌<◌, Bool, true, false, ◌||◌, List, length, drop, get_or, refl, ap, ◌∙◌, Vec, Global}
-use Rattle.jt_expr.specs.View.{expr_view}
-use Rattle.jt_parse.specs.View.{stmt_view, body_view, branches_view}
-use Rattle.jt_parse.specs.declared.tree.Stmt.{Stmt}
-use Rattle.jt_parse.specs.declared.tree.Stmt.TheVariants.{If}
+use Rattle.jt_trees.specs.ExpressionView.{expr_view}
+use Rattle.jt_trees.specs.StatementView.{stmt_view, body_view, branches_view}
+use Rattle.jt_trees.specs.declared.statement.Stmt.{Stmt}
+use Rattle.jt_trees.specs.declared.statement.Stmt.TheVariants.{If}
 use Rattle.jt_chains.specs.Supers.{has_super, stmt_super, calls_super, branches_super}
 use Rattle.jt_chains.proofs.Shown.{Branch, branches_left, view-If}
 

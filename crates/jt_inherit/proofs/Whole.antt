@@ -11,8 +11,9 @@ use Rattle.jt_order.specs.Graph.{Graph, next_of, IsClosed, HasCycle, IsOrder}
 use Rattle.jt_order.specs.declared.error.OrderError.{OrderError}
 use Rattle.jt_order.specs.declared.error.OrderError.TheVariants as order
 use Rattle.jt_scan.specs.declared.options.Options.{Options}
-use Rattle.jt_parse.specs.Texts.{among, repeated}
-use Rattle.jt_parse.specs.Trees.{Text, Body}
+use Rattle.jt_trees.specs.Texts.{among, repeated}
+use Rattle.jt_trees.specs.Expressions.{Text}
+use Rattle.jt_trees.specs.Statements.{Body}
 use Rattle.jt_chains.specs.Along.{ArePlaces, templates_at}
 use Rattle.jt_inherit.specs.Along.{includes_along}
 use Rattle.jt_chains.specs.Chain.{Template, templates, sources_in, macros, all_bodies}

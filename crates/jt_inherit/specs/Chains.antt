@@ -9,8 +9,9 @@ use Rattle.jt_parse.specs.Grammar.{Spelled}
 use Rattle.jt_parse.specs.Kept.{pieces}
 use Rattle.jt_parse.specs.Names.{body_unknown}
 use Rattle.jt_parse.specs.Refusals.{max_levels}
-use Rattle.jt_parse.specs.Texts.{among, repeated}
-use Rattle.jt_parse.specs.Trees.{Text, Body, body_levels}
+use Rattle.jt_trees.specs.Texts.{among, repeated}
+use Rattle.jt_trees.specs.Expressions.{Text}
+use Rattle.jt_trees.specs.Statements.{Body, body_levels}
 use Rattle.jt_chains.specs.Chain.{Home, Template}
 use Rattle.jt_chains.specs.Includes.{InOrder}
 use Rattle.jt_chains.specs.Names.{IsName}

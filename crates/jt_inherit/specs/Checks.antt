@@ -2,7 +2,7 @@
 use Rattle.std.specs.Prelude.{Bool, List, map, filter}
 use Rattle.std.specs.List.{list_any}
 use Rattle.std.specs.Str.{bytes_eq}
-use Rattle.jt_parse.specs.Trees.{Text}
+use Rattle.jt_trees.specs.Expressions.{Text}
 use Rattle.jt_chains.specs.Chain.{BlockBody}
 use Rattle.jt_chains.specs.Rules.{is_required, lacks_super}
 use Rattle.jt_chains.specs.declared.parts.Macro.{Macro}

@@ -3,7 +3,7 @@ use Rattle.std.specs.Prelude.{◌≡◌, ◌≢◌, Some, None, string_bytes}
 use Rattle.jt_scan.specs.declared.error.ScanError.{ScanError}
 use Rattle.jt_scan.specs.declared.error.ScanError.TheVariants as scan_error
 use Rattle.jt_scan.specs.declared.options.Options.{Options}
-use Rattle.jt_parse.specs.Trees.{Text}
+use Rattle.jt_trees.specs.Expressions.{Text}
 use Rattle.jt_parse.specs.declared.error.ParseError.{ParseError}
 use Rattle.jt_parse.specs.declared.error.ParseError.TheVariants as parse_error
 use Rattle.jt_inherit.specs.Chains.{Given, HasNoTree}

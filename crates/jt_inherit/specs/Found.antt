@@ -3,8 +3,8 @@ use Rattle.std.specs.Prelude.{◌≡◌, ℕ, ◌<◌, ◌≤◌, ◌⊎◌, tru
 use Rattle.std.specs.List.{AllByRecursion}
 use Rattle.jt_order.specs.Graph.{next_of}
 use Rattle.jt_order.specs.View.{graph_of}
-use Rattle.jt_parse.specs.Texts.{among, repeated}
-use Rattle.jt_parse.specs.Trees.{Text}
+use Rattle.jt_trees.specs.Texts.{among, repeated}
+use Rattle.jt_trees.specs.Expressions.{Text}
 use Rattle.jt_scan.specs.declared.options.Options.{Options}
 use Rattle.jt_chains.specs.Along.{templates_at}
 use Rattle.jt_inherit.specs.Along.{includes_along}

@@ -1,7 +1,7 @@
 -- What only private clauses cite: the rules on the blocks and macros of the templates of a chain.
 use Rattle.std.specs.Prelude.{◌≡◌, true, false, Bool, List, map, flat_map}
 use Rattle.std.specs.List.{list_any}
-use Rattle.jt_parse.specs.Texts.{repeated}
+use Rattle.jt_trees.specs.Texts.{repeated}
 use Rattle.jt_chains.specs.Chain.{Template, BlockBody, MacroBody, blocks_in, macros_in}
 use Rattle.jt_inherit.specs.Checks.{lacks_body, lacks_next}
 use Rattle.jt_inherit.specs.declared.error.ChainError.{ChainError}

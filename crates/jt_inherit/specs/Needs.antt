@@ -1,6 +1,7 @@
 -- What only private clauses cite: the includes of a template, in the order of the source.
 use Rattle.std.specs.Prelude.{Bool, not, ◌||◌, if◌then◌else◌, List, [], ◌∷◌, ◌++◌, map}
-use Rattle.jt_parse.specs.Trees.{Text, Stmt, choose, for_each, set_block, with_values, filter_block, autoescape, macro, include, block, Body, end, stmt, Branches, no_branches, branch}
+use Rattle.jt_trees.specs.Expressions.{Text}
+use Rattle.jt_trees.specs.Statements.{Stmt, choose, for_each, set_block, with_values, filter_block, autoescape, macro, include, block, Body, end, stmt, Branches, no_branches, branch}
 use Rattle.jt_inherit.specs.declared.statements.Include.{Include}
 
 -- the name of a template, and whether it may be missing

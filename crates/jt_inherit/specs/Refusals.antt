@@ -10,8 +10,8 @@ use Rattle.jt_scan.specs.declared.error.ScanError.TheVariants as scan_error
 use Rattle.jt_scan.specs.declared.options.Options.{Options}
 use Rattle.jt_parse.specs.Kept.{pieces}
 use Rattle.jt_parse.specs.Refusals as parser
-use Rattle.jt_parse.specs.Texts.{among}
-use Rattle.jt_parse.specs.Trees.{Text}
+use Rattle.jt_trees.specs.Texts.{among}
+use Rattle.jt_trees.specs.Expressions.{Text}
 use Rattle.jt_parse.specs.declared.error.ParseError.{ParseError}
 use Rattle.jt_parse.specs.declared.error.ParseError.TheVariants as parse_error
 use Rattle.jt_chains.specs.Chain.{Sources, Template, sources_in}

@@ -1,7 +1,7 @@
 -- How long the sources of chains are, and which chains are small.
 use Rattle.std.specs.Prelude.{ℕ, ◌+◌, ◌≤◌, List, [], ◌∷◌, Option, Some, None, length}
 use Rattle.jt_scan.specs.declared.options.Options.{Options}
-use Rattle.jt_parse.specs.Trees.{Text}
+use Rattle.jt_trees.specs.Expressions.{Text}
 use Rattle.jt_chains.specs.Chain.{Sources, Home, Template, templates}
 use Rattle.jt_chains.specs.View.{Seen, sources_of}
 use Rattle.jt_chains.specs.Weights.{NamesFew}

@@ -1,9 +1,10 @@
 -- What only private clauses cite: ways: how templates lead from one name to another.
 use Rattle.std.specs.Prelude.{◌≡◌, ℕ, ◌≤◌, false, List, [], ◌∷◌, Option, Some, None, length, map}
 use Rattle.std.specs.List.{AllByRecursion}
-use Rattle.jt_parse.specs.Bytes.{body_bytes}
-use Rattle.jt_parse.specs.Texts.{repeated}
-use Rattle.jt_parse.specs.Trees.{Text, body_weight}
+use Rattle.jt_trees.specs.Sizes.{body_bytes}
+use Rattle.jt_trees.specs.Texts.{repeated}
+use Rattle.jt_trees.specs.Expressions.{Text}
+use Rattle.jt_trees.specs.Statements.{body_weight}
 use Rattle.jt_scan.specs.declared.options.Options.{Options}
 use Rattle.jt_chains.specs.Along.{ArePlaces, templates_at}
 use Rattle.jt_chains.specs.Chain.{max_templates, Sources, Template, extends_of, sources_in}

@@ -1,9 +1,9 @@
 //! Reading: the tree that the source of a template spells.
 
 ghost use Rattle.std.specs.Prelude.{◌≡◌, ◌≤◌, length, string_bytes, IfOk, IfErr};
-ghost use Rattle.jt_parse.specs.Bytes.{body_bytes};
-ghost use Rattle.jt_parse.specs.Trees.{Body, body_weight};
-ghost use Rattle.jt_parse.specs.View.{body_of};
+ghost use Rattle.jt_trees.specs.Sizes.{body_bytes};
+ghost use Rattle.jt_trees.specs.Statements.{Body, body_weight};
+ghost use Rattle.jt_trees.specs.StatementView.{body_of};
 ghost use Rattle.jt_inherit.specs.Chains.{IsTree, IsRead, IsOnly};
 ghost use Rattle.jt_inherit.specs.Faults.{IsFault, IsFaultOf, IsScan, IsParse};
 ghost use Rattle.jt_chains.specs.Names.{IsName};
@@ -14,8 +14,9 @@ use crate::error::ChainError;
 use crate::library::Library;
 use crate::names::is_name;
 use jt_chains::Page;
-use jt_parse::{ParseError, Template, parse};
+use jt_parse::{ParseError, parse};
 use jt_scan::{Options, ScanError, Source, scan};
+use jt_trees::Template;
 use std::alloc::Global;
 
 /// Reads the template of a name from the library.

@@ -2,8 +2,8 @@
 
 ghost use Rattle.std.specs.Prelude.{◌≡◌, ◌&&◌, ◌||◌, ◌++◌, ◌∷◌, [], List, not, IfOk, IfErr, OnOk, if◌then◌else◌};
 ghost use Rattle.std.specs.Str.{bytes_eq};
-ghost use Rattle.jt_parse.specs.Texts.{among, repeated};
-ghost use Rattle.jt_parse.specs.Trees.{Text};
+ghost use Rattle.jt_trees.specs.Texts.{among, repeated};
+ghost use Rattle.jt_trees.specs.Expressions.{Text};
 ghost use Rattle.jt_chains.specs.Along.{ArePlaces, templates_at};
 ghost use Rattle.jt_chains.specs.Chain.{Template};
 ghost use Rattle.jt_inherit.specs.Checks.{lacks_body, lacks_next, block_names, macro_names};

@@ -1,7 +1,7 @@
 //! Sets of names, in the order in which they were put.
 
 ghost use Rattle.std.specs.Prelude.{◌≡◌, ◌++◌, ◌∷◌, [], false, slice_get, Some, MatchOption, OnOk};
-ghost use Rattle.jt_parse.specs.Texts.{among};
+ghost use Rattle.jt_trees.specs.Texts.{among};
 ghost use Rattle.jt_inherit.specs.SetView.{strings};
 
 use indexmap::IndexSet;

@@ -1,8 +1,8 @@
 //! Templates that were read, each once, with their names beside them.
 
 ghost use Rattle.std.specs.Prelude.{◌≡◌, ◌⊎◌, ◌++◌, ◌∷◌, [], false, List, map, slice_get, Some, OnOk, IfOk, IfErr, IsTrue, string_bytes};
-ghost use Rattle.jt_parse.specs.Texts.{among};
-ghost use Rattle.jt_parse.specs.Trees.{Text};
+ghost use Rattle.jt_trees.specs.Texts.{among};
+ghost use Rattle.jt_trees.specs.Expressions.{Text};
 ghost use Rattle.jt_chains.specs.Chain.{Template};
 ghost use Rattle.jt_inherit.specs.Faults.{IsFaultOf};
 ghost use Rattle.jt_chains.specs.Pages.{pages_view};

@@ -2,11 +2,11 @@
 //! includes.
 
 ghost use Rattle.std.specs.Prelude.{◌≡◌, ◌++◌, option_map, IfOk};
-ghost use Rattle.jt_parse.specs.View.{stmt_view, body_view};
+ghost use Rattle.jt_trees.specs.StatementView.{stmt_view, body_view};
 ghost use Rattle.jt_chains.specs.Chain.{extends_of};
 ghost use Rattle.jt_inherit.specs.Needs.{includes_of, includes_in, needs_view};
 
-use jt_parse::Stmt;
+use jt_trees::Stmt;
 use std::alloc::AllocError;
 
 /// An include: the template's name, and whether it may be missing.

@@ -1,11 +1,11 @@
 //! Whether a block's body calls `super()`, inner blocks apart.
 
 ghost use Rattle.std.specs.Prelude.{◌≡◌, option_map};
-ghost use Rattle.jt_expr.specs.View.{expr_view, exprs_view, pairs_view};
+ghost use Rattle.jt_trees.specs.ExpressionView.{expr_view, exprs_view, pairs_view};
 ghost use Rattle.jt_chains.specs.Supers as spec;
-ghost use Rattle.jt_parse.specs.View.{stmt_view, body_view, branches_view, filtering_view, filterings_view};
+ghost use Rattle.jt_trees.specs.StatementView.{stmt_view, body_view, branches_view, filtering_view, filterings_view};
 
-use jt_parse::{Expr, Filtering, Stmt};
+use jt_trees::{Expr, Filtering, Stmt};
 
 /// Whether an expression is the name `super`.
 fn is_super(expr: &Expr) -> bool

@@ -1,9 +1,9 @@
 //! The way from a chain's entry to the root.
 
 ghost use Rattle.std.specs.Prelude.{◌≡◌, ◌⊎◌, ◌++◌, List, map, None, OnOk, IfOk, IfErr, IsTrue, option_map, string_bytes};
-ghost use Rattle.jt_parse.specs.Texts.{among};
-ghost use Rattle.jt_parse.specs.Trees.{Text};
-ghost use Rattle.jt_parse.specs.View.{body_of};
+ghost use Rattle.jt_trees.specs.Texts.{among};
+ghost use Rattle.jt_trees.specs.Expressions.{Text};
+ghost use Rattle.jt_trees.specs.StatementView.{body_of};
 ghost use Rattle.jt_chains.specs.Along.{ArePlaces, templates_at};
 ghost use Rattle.jt_chains.specs.Chain.{Template, extends_of, sources_in};
 ghost use Rattle.jt_chains.specs.Pages.{pages_view};

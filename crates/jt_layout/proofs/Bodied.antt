@@ -3,7 +3,7 @@ use Rattle.std.proofs.Common.{◌≡◌, ℕ, zero, suc, ◌+◌, ◌<◌, Bool,
 use Rattle.std.specs.Prelude.{slice_get, filter}
 use Rattle.std.proofs.lemmas.List.{drop_more, drop-set}
 use Rattle.std.specs.Str.{bytes_eq}
-use Rattle.jt_parse.specs.Trees.{Text}
+use Rattle.jt_trees.specs.Expressions.{Text}
 use Rattle.jt_chains.specs.Chain.{Template, BlockBody}
 use Rattle.jt_chains.specs.Parts.{block_view}
 use Rattle.jt_chains.specs.declared.parts.Block.{Block}

@@ -7,8 +7,8 @@ use Rattle.std.proofs.lemmas.Cmp.{nat_list_eq_equiv}
 use Rattle.std.proofs.lemmas.Slice.Eq.{bytes_eq-Decides}
 use Rattle.std.specs.Str.{bytes_eq}
 use denote.Ref.{Bor}
-use Rattle.jt_parse.specs.Texts.{among}
-use Rattle.jt_parse.specs.Trees.{Text}
+use Rattle.jt_trees.specs.Texts.{among}
+use Rattle.jt_trees.specs.Expressions.{Text}
 use Rattle.jt_chains.specs.Chain.{Home, Template, BlockBody, sources_in}
 use Rattle.jt_chains.specs.Pages.{home_name}
 use Rattle.jt_chains.specs.Places.{home_at}

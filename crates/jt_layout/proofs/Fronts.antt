@@ -2,8 +2,8 @@
 use Rattle.std.proofs.Common.{◌≡◌, ℕ, zero, suc, ◌+◌, ◌<◌, ◌==◌, Bool, true, false, not, ◌&&◌, ◌||◌, List, [], ◌∷◌, ◌++◌, length, map, refl, sym, ap, ◌∙◌, if◌then◌else◌, arith, length-append, append_assoc, rules}
 use Rattle.std.specs.Prelude.{flat_map}
 use Rattle.std.specs.Str.{bytes_eq}
-use Rattle.jt_parse.specs.Texts.{among}
-use Rattle.jt_parse.specs.Trees.{Text}
+use Rattle.jt_trees.specs.Texts.{among}
+use Rattle.jt_trees.specs.Expressions.{Text}
 use Rattle.jt_chains.specs.Chain.{Home, BlockBody, MacroBody, macros, all_bodies}
 use Rattle.jt_rules.specs.World.{World}
 use Rattle.jt_meaning.specs.Layout.{Key, of_chain, of_macro, of_body, same_key, place_of, chain_keys, unit, names, counted_from, numbered_bodies, first_in, first_slot, default_in, default_place, defaults_of, first_default}

@@ -2,14 +2,14 @@
 use Rattle.std.proofs.Common.{◌≡◌, ℕ, ◌+◌, ◌<◌, true, List, [], ◌∷◌, ◌++◌, length, map, drop, get_or, refl, sym, ap, ◌∙◌, append_assoc, Vec, Global, String, Option, rules}
 use Rattle.std.specs.Prelude.{option_map, flat_map}
 use Rattle.std.proofs.lemmas.List.{drop_more}
-use Rattle.jt_expr.specs.View.{expr_view}
-use Rattle.jt_expr.specs.declared.tree.Expr.{Expr}
-use Rattle.jt_parse.specs.Trees as trees
-use Rattle.jt_parse.specs.Trees.{Text}
-use Rattle.jt_parse.specs.View.{names_view, stmts_of, branches_of, stmt_step, stmt_view, body_view, branches_view}
-use Rattle.jt_parse.specs.declared.tree.Stmt.{Stmt, the_lemmas, fold-roll-Stmt}
-use Rattle.jt_parse.specs.declared.tree.Stmt.TheOpen.{Stmt-F}
-use Rattle.jt_parse.specs.declared.tree.Stmt.TheVariants.{If, For, rolls-If}
+use Rattle.jt_trees.specs.ExpressionView.{expr_view}
+use Rattle.jt_trees.specs.declared.expression.Expr.{Expr}
+use Rattle.jt_trees.specs.Statements as trees
+use Rattle.jt_trees.specs.Expressions.{Text}
+use Rattle.jt_trees.specs.StatementView.{names_view, stmts_of, branches_of, stmt_step, stmt_view, body_view, branches_view}
+use Rattle.jt_trees.specs.declared.statement.Stmt.{Stmt, the_lemmas, fold-roll-Stmt}
+use Rattle.jt_trees.specs.declared.statement.Stmt.TheOpen.{Stmt-F}
+use Rattle.jt_trees.specs.declared.statement.Stmt.TheVariants.{If, For, rolls-If}
 use Rattle.jt_chains.specs.Includes.{needs_by, needs_in, needs_under}
 
 abbrev pub Branch : Type 0

@@ -12,8 +12,8 @@ use Rattle.std.proofs.lemmas.Cmp.{nat_list_eq_equiv}
 use Rattle.std.proofs.lemmas.List.{drop_more}
 use Rattle.std.proofs.lemmas.Map.Text.{is_eq-slice_cmp}
 use denote.Ref.{Bor}
-use Rattle.jt_parse.specs.Trees.{Text}
-use Rattle.jt_parse.specs.Texts.{inserted, all_inserted, ascending}
+use Rattle.jt_trees.specs.Expressions.{Text}
+use Rattle.jt_trees.specs.Texts.{inserted, all_inserted, ascending}
 use Rattle.jt_chains.specs.Chain.{Home, Sources}
 use Rattle.jt_chains.specs.Includes.{included}
 use Rattle.jt_chains.specs.Places.{home_at}

@@ -1,7 +1,7 @@
 -- What only private clauses cite: what is in front of a chain.
 use Rattle.std.specs.Prelude.{◌≡◌, ℕ, ◌+◌, true, List, length, flat_map}
-use Rattle.jt_parse.specs.Texts.{among}
-use Rattle.jt_parse.specs.Trees.{Text}
+use Rattle.jt_trees.specs.Texts.{among}
+use Rattle.jt_trees.specs.Expressions.{Text}
 use Rattle.jt_chains.specs.Chain.{Home}
 use Rattle.jt_chains.specs.Places.{home_at}
 use Rattle.jt_chains.specs.View.{chain_view}

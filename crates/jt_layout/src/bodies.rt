@@ -4,7 +4,7 @@ ghost use Rattle.std.specs.Prelude.{◌≡◌, ◌<◌, ◌&&◌, List, length, 
 ghost use Rattle.std.specs.List.{list_any};
 ghost use Rattle.std.specs.Option.{is_some};
 ghost use Rattle.std.specs.Str.{bytes_eq};
-ghost use Rattle.jt_parse.specs.Trees.{Text};
+ghost use Rattle.jt_trees.specs.Expressions.{Text};
 ghost use Rattle.jt_chains.specs.Chain.{Template, all_bodies};
 ghost use Rattle.jt_chains.specs.Parts.{block_view};
 ghost use Rattle.jt_chains.specs.Places.{home_at};

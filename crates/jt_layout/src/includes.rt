@@ -1,7 +1,7 @@
 //! The names that templates include.
 
 ghost use Rattle.std.specs.Prelude.{◌≡◌, ◌<◌, ◌++◌, true, length, flat_map, IfOk};
-ghost use Rattle.jt_parse.specs.View.{stmt_view, body_view};
+ghost use Rattle.jt_trees.specs.StatementView.{stmt_view, body_view};
 ghost use Rattle.jt_chains.specs.Chain.{templates};
 ghost use Rattle.jt_chains.specs.Includes.{needs_by, needs_in};
 ghost use Rattle.jt_chains.specs.Places.{home_at};
@@ -9,7 +9,7 @@ ghost use Rattle.jt_chains.specs.View.{chain_view, sources_of};
 ghost use Rattle.jt_uses.specs.Names.{texts};
 
 use jt_chains::Chain;
-use jt_parse::Stmt;
+use jt_trees::Stmt;
 use std::alloc::{AllocError, Global};
 
 /// Adds the names that statements include, as often as they stand there.

@@ -2,7 +2,7 @@
 
 ghost use Rattle.std.specs.Prelude.{◌≡◌, ◌<◌, ◌+◌, ℕ, true, false, length, drop, IfOk, IfErr, get_or};
 ghost use Rattle.std.specs.Option.{is_none};
-ghost use Rattle.jt_parse.specs.Trees.{Text};
+ghost use Rattle.jt_trees.specs.Expressions.{Text};
 ghost use Rattle.jt_chains.specs.View.{chain_view};
 ghost use Rattle.jt_rules.specs.declared.error.ScopeError.TheVariants as error;
 ghost use Rattle.jt_meaning.specs.Layout as layout;

@@ -1,7 +1,7 @@
 //! The macros of a chain by their names, and the places of their defaults.
 
 ghost use Rattle.std.specs.Prelude.{◌≡◌, ◌<◌, ◌+◌, List, length, map, IfOk, IfErr};
-ghost use Rattle.jt_parse.specs.Trees.{Text};
+ghost use Rattle.jt_trees.specs.Expressions.{Text};
 ghost use Rattle.jt_chains.specs.Chain.{Template, macros};
 ghost use Rattle.jt_chains.specs.Parts.{macro_view};
 ghost use Rattle.jt_chains.specs.Places.{home_at};

@@ -22,7 +22,7 @@ use Rattle.jt_image.specs.Laws.{HasRuns}
 use Rattle.jt_slots.specs.Got.{Place, Got, gives, fails, deeper, bind}
 use Rattle.jt_slots.specs.Values.{bytes_of}
 use Rattle.jt_slots.specs.Slots.{with_locals, Routine, Program, Memory, Written, SCalls, smeanings, sperformed, scalls, globals_of, smean}
-use Rattle.jt_parse.specs.Trees.{Text}
+use Rattle.jt_trees.specs.Expressions.{Text}
 use Rattle.jt_slots.specs.TheFilters.{the_filters}
 use Rattle.jt_slots.specs.Loops.{tree_at}
 use Rattle.jt_lower.specs.Asm.{flat, places, Ran, of_written, run}

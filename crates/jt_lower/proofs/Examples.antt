@@ -11,7 +11,7 @@ use Rattle.jt_image.specs.Ids.{operator_of, filter_of}
 use Rattle.jt_image.specs.Loops.{field_of}
 use Rattle.jt_image.specs.FreeRun.{Finished, Failed, exec, start_machine}
 use Rattle.jt_slots.specs.Got.{Place, gives, fails, deeper}
-use Rattle.jt_parse.specs.Trees.{Text}
+use Rattle.jt_trees.specs.Expressions.{Text}
 use Rattle.jt_slots.specs.TheFilters.{the_filters}
 use Rattle.jt_slots.specs.Loops as loops
 use Rattle.jt_slots.specs.Slots.{local, global, operator, filter, SExpr, pooled, variable, field, made, invoke, none, item, aside, several, SBody, put_pooled, print, if_else, for_each, capture, run, end, stmt, Routine, Program, smean}

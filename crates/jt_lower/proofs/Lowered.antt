@@ -29,7 +29,7 @@ use Rattle.jt_ops.specs.Making.{listed, mapped}
 use Rattle.jt_slots.specs.Takes.{InPairs}
 use Rattle.jt_slots.specs.Got.{Place, Got, gives, fails, deeper, bind, checked, at}
 use Rattle.jt_slots.specs.Values.{shown, shown_text, bytes_of, as_value}
-use Rattle.jt_parse.specs.Trees.{Text}
+use Rattle.jt_trees.specs.Expressions.{Text}
 use Rattle.jt_slots.specs.TheFilters.{the_filters}
 use Rattle.jt_slots.specs.Loops.{Field, Loop, result_listed, items_of_value, tree_at}
 use Rattle.jt_slots.specs.Slots as slots

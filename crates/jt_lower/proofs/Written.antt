@@ -14,7 +14,7 @@ use Rattle.jt_ids.specs.declared.filter_id.FilterId.{FilterId}
 use Rattle.jt_ids.specs.declared.filter_id.FilterId.TheVariants as filters
 use Rattle.jt_ids.specs.FilterTable as table
 use Rattle.jt_ids.specs.FilterTable.{filter_id}
-use Rattle.jt_filters.specs.FilterIds.{filter_of, accepts}
+use Rattle.jt_filtering.specs.FilterIds.{filter_of, accepts}
 use Rattle.jt_image.specs.declared.instruction.Instruction.TheVariants as op
 use Rattle.jt_image.specs.declared.loop_field.LoopField.{LoopField}
 use Rattle.jt_image.specs.declared.loop_field.LoopField.TheVariants as of_loop

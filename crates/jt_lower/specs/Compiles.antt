@@ -13,7 +13,7 @@ use Rattle.jt_image.specs.Run.{Run}
 use Rattle.jt_image.specs.Enough.{Enough}
 use Rattle.jt_image.specs.FreeRun.{start_machine}
 use Rattle.jt_slots.specs.Got.{Place, gives, fails}
-use Rattle.jt_parse.specs.Trees.{Text}
+use Rattle.jt_trees.specs.Expressions.{Text}
 use Rattle.jt_slots.specs.TheFilters.{the_filters}
 use Rattle.jt_slots.specs.Slots.{Routine, Program, smean_of, smean}
 use Rattle.jt_slots.specs.Pool.{Constant, constant_in, routines_values, placed_routines}

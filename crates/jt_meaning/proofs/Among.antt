@@ -5,8 +5,8 @@ use Rattle.std.specs.Str.{bytes_eq}
 use Rattle.std.proofs.lemmas.Slice.Eq.{bytes_eq-Decides}
 use Rattle.std.specs.Ordering.{nat_cmp, is_lt}
 use Rattle.std.specs.Cmp.Lexicographic.{slice_cmp}
-use Rattle.jt_parse.specs.Trees.{Text}
-use Rattle.jt_parse.specs.Texts.{inserted, all_inserted, ascending}
+use Rattle.jt_trees.specs.Expressions.{Text}
+use Rattle.jt_trees.specs.Texts.{inserted, all_inserted, ascending}
 
 -- the text is one of these
 abbrev pub Among : Text → List Text → Type 0

@@ -4,10 +4,11 @@ use Rattle.std.specs.Prelude.{IsTrue}
 use Rattle.std.specs.Option.{is_none}
 use Rattle.jt_value.specs.Tree.{Tree}
 use Rattle.jt_value.specs.Pairs.{Pairs}
-use Rattle.jt_parse.specs.Trees.{Text, Parameter}
+use Rattle.jt_trees.specs.Expressions.{Text}
+use Rattle.jt_trees.specs.Statements.{Parameter}
 use Rattle.jt_meaning.specs.Env.{Env, read}
 use Rattle.jt_chains.specs.Chain.{Home, BlockBody, MacroBody, macros, macro_of}
-use Rattle.jt_parse.specs.Texts.{among}
+use Rattle.jt_trees.specs.Texts.{among}
 use Rattle.jt_slots.specs.Filters.{default_value}
 use Rattle.jt_slots.specs.Loops.{Loop, tree_at}
 use Rattle.jt_rules.specs.World.{World}

@@ -6,8 +6,8 @@ use Rattle.std.specs.Option.{is_none}
 use Rattle.std.specs.List.{list_any}
 use Rattle.std.proofs.lemmas.Bool.Decides.{nat_tests}
 use Rattle.std.proofs.lemmas.List.Folds.{list_any-append}
-use Rattle.jt_parse.specs.Texts.{repeated}
-use Rattle.jt_parse.specs.Trees.{Text}
+use Rattle.jt_trees.specs.Texts.{repeated}
+use Rattle.jt_trees.specs.Expressions.{Text}
 use Rattle.jt_chains.specs.Chain.{Sources, Home, Template, parent_of, names_up, max_templates, templates, BlockBody, all_bodies, bodies, from_given}
 use Rattle.jt_chains.specs.Includes.{needs_in}
 use Rattle.jt_chains.specs.Rules.{is_empty, lacks_super, way, asked, Reaches, is_whole, KeepsRules}

@@ -10,8 +10,9 @@ use Rattle.std.specs.Cmp.Lexicographic.{slice_cmp}
 use Rattle.std.specs.Str.{bytes_eq}
 use Rattle.std.proofs.lemmas.Cmp.{nat_list_cmp_total}
 use Rattle.std.proofs.lemmas.Map.Text.{is_eq-slice_cmp}
-use Rattle.jt_parse.specs.Texts.{among, repeated, inserted, all_inserted, ascending}
-use Rattle.jt_parse.specs.Trees.{Text, Parameter, data_of, print, choose, for_each, set, set_block, with_values, filter_block, autoescape, macro, include, extends, block, Body, end, stmt}
+use Rattle.jt_trees.specs.Texts.{among, repeated, inserted, all_inserted, ascending}
+use Rattle.jt_trees.specs.Expressions.{Text}
+use Rattle.jt_trees.specs.Statements.{Parameter, data_of, print, choose, for_each, set, set_block, with_values, filter_block, autoescape, macro, include, extends, block, Body, end, stmt}
 use Rattle.jt_chains.specs.Chain.{Home, Template, templates, MacroBody, macros_in}
 use Rattle.jt_chains.specs.Includes.{included}
 use Rattle.jt_chains.specs.Weights.{NamesFew}
@@ -295,7 +296,7 @@ module _ (world : World) (h : Home) where
 
 -- ---- filters
 
-defaults_len : (xs : List Text) (ds : List (Option Rattle.jt_expr.specs.Trees.Literal)) → length (with_defaults xs ds) ≤ length ds
+defaults_len : (xs : List Text) (ds : List (Option Rattle.jt_trees.specs.Expressions.Literal)) → length (with_defaults xs ds) ≤ length ds
 defaults_len [] ds = omega arith
 defaults_len (x ∷ xs) [] = omega arith
 defaults_len (x ∷ xs) (d ∷ ds) = let l = defaults_len xs ds in omega (arith, l)

@@ -2,9 +2,9 @@
 use Rattle.std.proofs.Common.{◌≡◌, ℕ, suc, ◌≤◌, Bool, true, false, if◌then◌else◌, List, [], ◌∷◌, ◌++◌, map, Option, Some, None, refl, sym, ap, ◌∙◌, subst, arith}
 use Rattle.std.specs.Prelude.{◌&&◌, ◌||◌, ◌==◌, flat_map, filter, slice_get}
 use Rattle.std.specs.Str.{bytes_eq}
-use Rattle.jt_parse.specs.Trees.{Text}
+use Rattle.jt_trees.specs.Expressions.{Text}
 use Rattle.jt_chains.specs.Chain.{Home, BlockBody, all_bodies, MacroBody, macros, macro_of}
-use Rattle.jt_parse.specs.Texts.{among}
+use Rattle.jt_trees.specs.Texts.{among}
 use Rattle.jt_rules.specs.World.{World}
 use Rattle.jt_slots.specs.Slots.{Routine}
 use Rattle.jt_meaning.specs.Layout.{Key, of_chain, of_macro, of_body, same_key, place_of, counted_from, numbered_bodies, numbered_of, chain_keys, unit}

@@ -6,9 +6,9 @@ use Rattle.std.specs.List.{AllByRecursion}
 use Rattle.std.specs.Ordering.{nat_cmp, is_lt}
 use Rattle.std.specs.Cmp.Lexicographic.{slice_cmp}
 use Rattle.std.specs.Str.{bytes_eq}
-use Rattle.jt_expr.specs.Trees.{Pairs, no_pairs, pair, weight, pairs_weight}
-use Rattle.jt_parse.specs.Texts.{inserted, all_inserted, ascending}
-use Rattle.jt_parse.specs.Trees.{Text, Parameter, parameters_weight, condition_weight, filtering_weight, Stmt, data_of, print, choose, for_each, set, set_block, with_values, filter_block, autoescape, macro, include, extends, block, stmt_weight, stmt_bound, Body, end, stmt, body_weight, body_bound, Branches, no_branches, branch, branch_weight, branch_bound, pairs_count}
+use Rattle.jt_trees.specs.Expressions.{Pairs, no_pairs, pair, weight, pairs_weight, Text}
+use Rattle.jt_trees.specs.Texts.{inserted, all_inserted, ascending}
+use Rattle.jt_trees.specs.Statements.{Parameter, parameters_weight, condition_weight, filtering_weight, Stmt, data_of, print, choose, for_each, set, set_block, with_values, filter_block, autoescape, macro, include, extends, block, stmt_weight, stmt_bound, Body, end, stmt, body_weight, body_bound, Branches, no_branches, branch, branch_weight, branch_bound, pairs_count}
 use Rattle.jt_chains.specs.Chain.{Template, BlockBody, blocks_of, blocks_in, blocks_under, MacroBody, macros_in}
 use Rattle.jt_chains.specs.Weights.{templates_weight}
 use Rattle.jt_chains.specs.Uses.{keywords, set_by, set_in, set_under, scope_names_by, scope_names_in, scope_names_under}

@@ -4,9 +4,9 @@
 -- {%block b scoped%}{%endblock%}{{[a,..,_,Qa,..,Zu,1,..,1,self.b()]}}
 use Rattle.std.proofs.Common.{◌≡◌, ℕ, zero, suc, true, false, List, [], ◌∷◌, ◌++◌, length, refl}
 use Rattle.std.specs.Prelude.{map, codes}
-use Rattle.jt_expr.specs.Trees as e
-use Rattle.jt_expr.specs.Trees.{Expr, Exprs, no_exprs, expr}
-use Rattle.jt_parse.specs.Trees.{Text, Body, body_weight}
+use Rattle.jt_trees.specs.Expressions as e
+use Rattle.jt_trees.specs.Expressions.{Expr, Exprs, no_exprs, expr, Text}
+use Rattle.jt_trees.specs.Statements.{Body, body_weight}
 use Rattle.jt_rules.specs.World.{World}
 use Rattle.jt_meaning.specs.Layout.{names}
 use Rattle.jt_meaning.specs.Resolve.{chain_routine}

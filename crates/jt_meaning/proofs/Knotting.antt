@@ -7,11 +7,12 @@ use Rattle.jt_value.specs.Tree.{Tree}
 use Rattle.jt_value.specs.Pairs.{Pairs}
 use Rattle.jt_slots.specs.Got.{gives, bind}
 use Rattle.jt_slots.specs.Slots.{with_locals, local, global, Memory, SCalls, Routine, smeanings, sperformed, scalls}
-use Rattle.jt_parse.specs.Trees.{Text, Parameter, Body, end, stmt}
+use Rattle.jt_trees.specs.Expressions.{Text}
+use Rattle.jt_trees.specs.Statements.{Parameter, Body, end, stmt}
 use Rattle.jt_meaning.specs.Env.{Env, read, inside, top}
 use Rattle.jt_chains.specs.Chain.{Home, Template, templates, BlockBody, MacroBody, macros, macro_of}
 use Rattle.jt_slots.specs.Loops.{tree_at}
-use Rattle.jt_parse.specs.Texts.{among}
+use Rattle.jt_trees.specs.Texts.{among}
 use Rattle.jt_slots.specs.Filters.{default_value}
 use Rattle.jt_rules.specs.World.{World}
 use Rattle.jt_meaning.specs.Around.{Placement, State, the_macro, the_block, the_chain, Calls}

@@ -7,12 +7,12 @@ use Rattle.std.specs.Prelude.{codes}
 use Rattle.jt_value.specs.Tree as tree
 use Rattle.jt_ids.specs.declared.op_id.OpId.TheVariants as op
 use Rattle.jt_ids.specs.declared.test_id.TestId.{TestId}
-use Rattle.jt_expr.specs.Trees.{Expr, constant, name, group, list_of, map_of, attribute, item, call, filter, test, unary, binary, when, choice, Exprs, no_exprs, expr, Pairs, no_pairs, pair, weight, enclosed, perhaps_enclosed, exprs_weight, pairs_weight}
+use Rattle.jt_trees.specs.Expressions.{Expr, constant, name, group, list_of, map_of, attribute, item, call, filter, test, unary, binary, when, choice, Exprs, no_exprs, expr, Pairs, no_pairs, pair, weight, enclosed, perhaps_enclosed, exprs_weight, pairs_weight, Text}
 use Rattle.jt_meaning.specs.Operators.{Form, operation, negation, conjunction, disjunction, form}
 use Rattle.jt_slots.specs.Got.{Place}
 use Rattle.jt_slots.specs.Tests.{test_named}
 use Rattle.jt_chains.specs.Uses.{count, keywords, set_in}
-use Rattle.jt_parse.specs.Trees.{Text, Parameter, Filtering, Stmt, data_of, print, choose, for_each, set, set_block, with_values, filter_block, autoescape, macro, include, extends, block, Body, end, stmt, Branches, no_branches, branch, condition_weight, filtering_weight}
+use Rattle.jt_trees.specs.Statements.{Parameter, Filtering, Stmt, data_of, print, choose, for_each, set, set_block, with_values, filter_block, autoescape, macro, include, extends, block, Body, end, stmt, Branches, no_branches, branch, condition_weight, filtering_weight, stmt_bound, body_bound, branch_bound}
 use Rattle.jt_chains.specs.Chain.{Home, MacroBody, macros, macro_of, Callee, a_macro, a_range, a_super, a_block, a_cycle, no_callee, named_alone, named_in, callee, is_loop}
 use Rattle.jt_slots.specs.Loops.{Field, field_named}
 use Rattle.jt_slots.specs.Filters.{default_value, some_given}
@@ -25,7 +25,6 @@ use Rattle.jt_slots.specs.Pool.{Constant, own, known}
 use Rattle.jt_meaning.specs.Resolve.{value_or, turned_round, tested_by, filtered_by, in_form, field_from, followed, locals_from, fresh_targets, set_targets, filled, filled_some, first_locals, reads, handed_on, Part, Spot, place, grown, bound_all, copied, scoped, next_given, first_body, invoked_body, invoked_super, invoked, resolved, resolved_row, resolved_asides, resolved_entries, resolved_condition, resolved_filters, resolved_values, placed_body, resolved_stmt, resolved_body, resolved_choice, left_out}
 use Rattle.jt_slots.specs.Size.{targets_height, expr_height, row_height, condition_height, body_height}
 use Rattle.jt_meaning.specs.Measure.{HasAtMost}
-use Rattle.jt_parse.specs.Trees.{stmt_bound, body_bound, branch_bound}
 use Rattle.jt_meaning.proofs.Free.{stmt_free, body_free, branch_free}
 use Rattle.jt_meaning.proofs.Sizing.{expr_some, operator_some, is_some_weight, kept_len, fresh_len}
 

@@ -6,11 +6,11 @@ use Rattle.jt_value.specs.Tree.{Tree}
 use Rattle.jt_value.specs.Pairs.{Pairs}
 use Rattle.jt_slots.specs.Got.{Got, gives, bind}
 use Rattle.jt_slots.specs.Slots.{with_locals, global, Written, scalls, globals_of, smean}
-use Rattle.jt_parse.specs.Trees.{Text}
+use Rattle.jt_trees.specs.Expressions.{Text}
 use Rattle.jt_slots.specs.Values.{value_in}
 use Rattle.jt_chains.specs.Chain.{Home}
 use Rattle.jt_slots.specs.Loops.{tree_at}
-use Rattle.jt_parse.specs.Texts.{among}
+use Rattle.jt_trees.specs.Texts.{among}
 use Rattle.jt_rules.specs.World.{World}
 use Rattle.jt_meaning.specs.Meaning.{calls_below, mean}
 use Rattle.jt_meaning.specs.Layout.{slot_in, globals_from, names, first_in, first_slot, shared}

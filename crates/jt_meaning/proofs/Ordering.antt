@@ -4,8 +4,9 @@ use Rattle.std.specs.Prelude.{not, ◌&&◌, ◌||◌, flat_map, filter}
 use Rattle.std.specs.Option.{is_some, is_none}
 use Rattle.std.specs.List.{list_any}
 use Rattle.std.specs.Str.{bytes_eq}
-use Rattle.jt_parse.specs.Texts.{ascending, among}
-use Rattle.jt_parse.specs.Trees.{Text, Stmt, data_of, print, choose, for_each, set, set_block, with_values, filter_block, autoescape, macro, include, extends, block, Body, end, stmt, Branches, no_branches, branch}
+use Rattle.jt_trees.specs.Texts.{ascending, among}
+use Rattle.jt_trees.specs.Expressions.{Text}
+use Rattle.jt_trees.specs.Statements.{Stmt, data_of, print, choose, for_each, set, set_block, with_values, filter_block, autoescape, macro, include, extends, block, Body, end, stmt, Branches, no_branches, branch}
 use Rattle.jt_chains.specs.Chain.{Home, Template, templates, BlockBody, blocks_of, blocks_in, blocks_under, all_bodies, MacroBody, macros_in, macros, macro_of}
 use Rattle.jt_rules.specs.World.{World}
 use Rattle.jt_chains.specs.Uses.{keywords, expr_names, pair_names, condition_names, filtering_names, stmt_names, body_names, branch_names, own_names}

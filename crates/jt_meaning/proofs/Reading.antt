@@ -7,7 +7,7 @@ use Rattle.std.proofs.lemmas.Slice.Eq.{bytes_eq-Decides}
 use Rattle.jt_value.specs.Tree as tree
 use Rattle.jt_value.specs.Tree.{Tree}
 use Rattle.jt_value.specs.Pairs.{Pairs, look}
-use Rattle.jt_parse.specs.Trees.{Text}
+use Rattle.jt_trees.specs.Expressions.{Text}
 use Rattle.jt_meaning.specs.Env.{Env, first_of, read, bound, all_bound}
 use Rattle.jt_slots.specs.Values.{value_in}
 use Rattle.jt_slots.specs.Loops.{tree_at}

@@ -3,8 +3,8 @@ use Rattle.std.proofs.Common.{◌≡◌, refl}
 use Rattle.std.specs.Prelude.{true, false, List, [], ◌∷◌, codes, Some, None, Option}
 use Rattle.jt_rules.specs.declared.error.ScopeError.{ScopeError}
 use Rattle.jt_rules.specs.declared.error.ScopeError.TheVariants as error
-use Rattle.jt_expr.specs.Trees.{no_exprs, no_pairs}
-use Rattle.jt_parse.specs.Trees.{Text, Body, end}
+use Rattle.jt_trees.specs.Expressions.{no_exprs, no_pairs, Text}
+use Rattle.jt_trees.specs.Statements.{Body, end}
 use Rattle.jt_rules.specs.Walk.{chains_broken}
 use Rattle.jt_chains.specs.Chain.{Sources}
 use Rattle.jt_chains.specs.Includes.{InOrder}

@@ -4,8 +4,9 @@ use Rattle.std.specs.Prelude.{flat_map}
 use Rattle.std.specs.Ordering.{nat_cmp, is_lt}
 use Rattle.std.specs.Cmp.Lexicographic.{slice_cmp}
 use Rattle.std.specs.Str.{bytes_eq}
-use Rattle.jt_parse.specs.Texts.{inserted, all_inserted, ascending}
-use Rattle.jt_parse.specs.Trees.{Text, Stmt, data_of, print, choose, for_each, set, set_block, with_values, filter_block, autoescape, macro, include, extends, block, Body, end, stmt, Branches, no_branches, branch}
+use Rattle.jt_trees.specs.Texts.{inserted, all_inserted, ascending}
+use Rattle.jt_trees.specs.Expressions.{Text}
+use Rattle.jt_trees.specs.Statements.{Stmt, data_of, print, choose, for_each, set, set_block, with_values, filter_block, autoescape, macro, include, extends, block, Body, end, stmt, Branches, no_branches, branch}
 use Rattle.jt_chains.specs.Chain.{Home, Template, templates}
 use Rattle.jt_chains.specs.Uses.{keywords, expr_names, pair_names, condition_names, filtering_names, stmt_names, body_names, branch_names, set_in, scope_names_by, scope_names_in, scope_names_under, scope_names}
 use Rattle.jt_rules.specs.World.{World}

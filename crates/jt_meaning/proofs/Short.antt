@@ -4,11 +4,10 @@ use Rattle.std.specs.Prelude.{flat_map, filter}
 use Rattle.std.specs.List.{AllByRecursion}
 use Rattle.std.specs.Str.{bytes_eq}
 use Rattle.jt_value.specs.Tree.{Tree}
-use Rattle.jt_expr.specs.Trees as written
-use Rattle.jt_expr.specs.Trees.{Expr, constant, name, group, list_of, map_of, attribute, item, call, test, unary, binary, when, choice, Exprs, no_exprs, expr, Pairs, no_pairs, pair}
-use Rattle.jt_expr.specs.Sizes.{expr_bytes, exprs_bytes, pairs_bytes}
-use Rattle.jt_parse.specs.Bytes.{texts_bytes, condition_bytes, filtering_bytes, default_bytes, parameters_bytes, stmt_bytes, body_bytes, branch_bytes}
-use Rattle.jt_parse.specs.Trees.{Text, Parameter, Filtering, Stmt, data_of, print, choose, for_each, set, set_block, with_values, filter_block, autoescape, macro, include, extends, block, Body, end, stmt, Branches, no_branches, branch}
+use Rattle.jt_trees.specs.Expressions as written
+use Rattle.jt_trees.specs.Expressions.{Expr, constant, name, group, list_of, map_of, attribute, item, call, test, unary, binary, when, choice, Exprs, no_exprs, expr, Pairs, no_pairs, pair, Text}
+use Rattle.jt_trees.specs.Sizes.{expr_bytes, exprs_bytes, pairs_bytes, texts_bytes, condition_bytes, filtering_bytes, default_bytes, parameters_bytes, stmt_bytes, body_bytes, branch_bytes}
+use Rattle.jt_trees.specs.Statements.{Parameter, Filtering, Stmt, data_of, print, choose, for_each, set, set_block, with_values, filter_block, autoescape, macro, include, extends, block, Body, end, stmt, Branches, no_branches, branch}
 use Rattle.jt_chains.specs.Chain.{Home, Template, templates, BlockBody, blocks_of, blocks_in, blocks_under, all_bodies, MacroBody, macros_in, macros, is_loop}
 use Rattle.jt_chains.specs.Uses.{keywords, set_in, expr_names, row_names, pair_names, condition_names, filtering_names, stmt_names, body_names, branch_names, own_names}
 use Rattle.jt_slots.specs.Filters.{default_value}

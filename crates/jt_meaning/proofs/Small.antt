@@ -7,12 +7,12 @@ use Rattle.jt_value.specs.Tree.{Tree}
 use Rattle.jt_value.specs.Pairs.{Pairs}
 use Rattle.jt_value.specs.declared.fault.Fault.{Fault}
 use Rattle.jt_value.specs.declared.fault.Fault.TheVariants as faults
-use Rattle.jt_expr.specs.declared.tree.BinaryOperator.TheVariants as o
-use Rattle.jt_expr.specs.Trees as e
-use Rattle.jt_expr.specs.Trees.{Expr, Exprs, no_exprs, expr, no_pairs}
+use Rattle.jt_trees.specs.declared.expression.BinaryOperator.TheVariants as o
+use Rattle.jt_trees.specs.Expressions as e
+use Rattle.jt_trees.specs.Expressions.{Expr, Exprs, no_exprs, expr, no_pairs, Text}
 use Rattle.jt_slots.specs.Got.{Got, gives, fails, deeper}
-use Rattle.jt_parse.specs.Trees as s
-use Rattle.jt_parse.specs.Trees.{Text, Parameter, Filtering, Stmt, Body, end, stmt, no_branches, branch}
+use Rattle.jt_trees.specs.Statements as s
+use Rattle.jt_trees.specs.Statements.{Parameter, Filtering, Stmt, Body, end, stmt, no_branches, branch}
 use Rattle.jt_slots.specs.Loops.{items_of_value}
 use Rattle.jt_slots.specs.Filters.{Filters}
 use Rattle.jt_rules.specs.World.{World}

@@ -3,7 +3,8 @@ use Rattle.std.proofs.Common.{◌≡◌, ℕ, suc, ◌+◌, ◌*◌, max, ◌≤
 use Rattle.std.specs.Prelude.{flat_map, filter, map}
 use Rattle.std.specs.List.{AllByRecursion}
 use Rattle.std.specs.Str.{bytes_eq}
-use Rattle.jt_parse.specs.Trees.{Text, Parameter, parameters_weight, Stmt, data_of, print, choose, for_each, set, set_block, with_values, filter_block, autoescape, macro, include, extends, block, stmt_weight, Body, end, stmt, body_weight, Branches, no_branches, branch, branch_weight}
+use Rattle.jt_trees.specs.Expressions.{Text}
+use Rattle.jt_trees.specs.Statements.{Parameter, parameters_weight, Stmt, data_of, print, choose, for_each, set, set_block, with_values, filter_block, autoescape, macro, include, extends, block, stmt_weight, Body, end, stmt, body_weight, Branches, no_branches, branch, branch_weight, body_bound}
 use Rattle.jt_chains.specs.Chain.{Home, Template, templates, BlockBody, blocks_of, blocks_in, blocks_under, all_bodies, MacroBody, macros_in, macros}
 use Rattle.jt_slots.specs.Filters.{default_value}
 use Rattle.jt_rules.specs.World.{World}
@@ -24,12 +25,11 @@ use Rattle.jt_meaning.proofs.Locality.{Below, globals_below, bound_below, scope_
 use Rattle.jt_meaning.proofs.Locality as locality
 use Rattle.jt_meaning.proofs.Constants.{followed_count, stmt_counted, all_counted, scope_counted}
 use Rattle.jt_meaning.proofs.Lowness.{followed_low, stmt_low, all_low, scope_low}
-use Rattle.jt_parse.specs.Trees.{body_bound}
 use Rattle.jt_meaning.specs.Layout.{scopes}
 use Rattle.jt_meaning.specs.Layout.{is_scoped}
 use Rattle.jt_meaning.proofs.Free.{stmt_free, body_free, AllPaid, MacrosPaid, body_paid, templates_bound, templates_pay, chain_blocks, chain_macros, scopes_few}
 use Rattle.jt_chains.specs.Uses.{scope_names}
-use Rattle.jt_parse.specs.Texts.{among}
+use Rattle.jt_trees.specs.Texts.{among}
 
 -- ---- each body counts once: in its template, or as a block's or a macro's
 

@@ -3,12 +3,12 @@ use Rattle.std.proofs.Common.{◌≡◌, Bool, true, false, ◌&&◌, if◌then�
 use Rattle.std.specs.Prelude.{not, ◌||◌, codes}
 use Rattle.std.specs.Option.{option_or, is_some}
 use Rattle.std.specs.Str.{bytes_eq}
-use Rattle.jt_expr.specs.Trees as written
-use Rattle.jt_expr.specs.Trees.{Expr, constant, name, group, list_of, attribute, item, unary, binary, when, choice, Exprs, no_exprs, expr, no_pairs, pair}
+use Rattle.jt_trees.specs.Expressions as written
+use Rattle.jt_trees.specs.Expressions.{Expr, constant, name, group, list_of, attribute, item, unary, binary, when, choice, Exprs, no_exprs, expr, no_pairs, pair, Text}
 use Rattle.jt_chains.specs.Chain.{Home, MacroBody, macros, macro_of, Callee, a_range, a_super, a_block, a_cycle, no_callee, named_alone, callee, is_loop}
 use Rattle.jt_chains.specs.Supers.{is_super, has_super, row_super, pairs_super, condition_super, filtering_super, stmt_super, calls_super, branches_super}
 use Rattle.jt_chains.specs.Uses.{keywords}
-use Rattle.jt_parse.specs.Trees.{Text, Filtering, Stmt, data_of, print, choose, for_each, set, set_block, with_values, filter_block, autoescape, macro, include, extends, block, Body, end, stmt, Branches, no_branches, branch}
+use Rattle.jt_trees.specs.Statements.{Filtering, Stmt, data_of, print, choose, for_each, set, set_block, with_values, filter_block, autoescape, macro, include, extends, block, Body, end, stmt, Branches, no_branches, branch}
 use Rattle.jt_slots.specs.Loops.{field_named}
 use Rattle.jt_rules.specs.World.{World}
 use Rattle.jt_rules.specs.declared.error.ScopeError.{ScopeError}

@@ -2,7 +2,7 @@
 use Rattle.std.specs.Prelude.{ℕ, Bool, List, Option}
 use Rattle.jt_value.specs.Pairs.{Pairs}
 use Rattle.jt_slots.specs.Got.{Place, Got}
-use Rattle.jt_parse.specs.Trees.{Text}
+use Rattle.jt_trees.specs.Expressions.{Text}
 use Rattle.jt_meaning.specs.Env.{Env}
 use Rattle.jt_chains.specs.Chain.{Home, BlockBody, MacroBody}
 use Rattle.jt_slots.specs.Loops.{Loop}

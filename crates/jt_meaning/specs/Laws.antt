@@ -3,11 +3,11 @@ use Rattle.std.specs.Prelude.{◌≡◌, ℕ, ◌≤◌, false, List, ◌∷◌}
 use Rattle.std.specs.List.{AllByRecursion}
 use Rattle.jt_value.specs.Pairs.{Pairs}
 use Rattle.jt_slots.specs.Got.{Got, deeper}
-use Rattle.jt_parse.specs.Trees.{Text}
+use Rattle.jt_trees.specs.Expressions.{Text}
 use Rattle.jt_chains.specs.Chain.{Home}
 use Rattle.jt_chains.specs.Weights.{NamesFew}
 use Rattle.jt_chains.specs.View.{Seen, sources_of}
-use Rattle.jt_parse.specs.Bytes.{body_bytes}
+use Rattle.jt_trees.specs.Sizes.{body_bytes}
 use Rattle.jt_chains.specs.Chain.{templates}
 use Rattle.jt_meaning.specs.Bytes.{IsShort}
 use Rattle.jt_meaning.specs.Ascends.{Ascends}

@@ -5,10 +5,10 @@ use Rattle.jt_value.specs.Tree as tree
 use Rattle.jt_value.specs.Tree.{Tree}
 use Rattle.jt_value.specs.Pairs.{Pairs}
 use Rattle.jt_value.specs.declared.fault.Fault.TheVariants as faults
-use Rattle.jt_expr.specs.Trees.{Expr}
+use Rattle.jt_trees.specs.Expressions.{Expr, Text}
 use Rattle.jt_slots.specs.Got.{Place, Got, gives, fails, deeper, bind, checked, at}
 use Rattle.jt_slots.specs.Values.{shown, as_value}
-use Rattle.jt_parse.specs.Trees.{Text, Filtering, Stmt, data_of, print, choose, for_each, set, set_block, with_values, filter_block, autoescape, macro, include, extends, block, Body, end, stmt, Branches, no_branches, branch}
+use Rattle.jt_trees.specs.Statements.{Filtering, Stmt, data_of, print, choose, for_each, set, set_block, with_values, filter_block, autoescape, macro, include, extends, block, Body, end, stmt, Branches, no_branches, branch}
 use Rattle.jt_meaning.specs.Env.{Env, all_bound, inside, top, seen}
 use Rattle.jt_chains.specs.Chain.{Home, Template, templates, bodies}
 use Rattle.jt_slots.specs.Loops.{Loop, items_of_value}

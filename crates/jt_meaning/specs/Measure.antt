@@ -1,8 +1,8 @@
 -- The measure of small chains: what each body weighs without the bodies of its blocks and macros, and what a program is at most.
 use Rattle.std.specs.Prelude.{ℕ, ◌+◌, ◌*◌, ◌≤◌, max, List, length}
 use Rattle.std.specs.List.{AllByRecursion}
-use Rattle.jt_expr.specs.Trees.{weight, pairs_weight}
-use Rattle.jt_parse.specs.Trees.{Text, Stmt, data_of, print, choose, for_each, set, set_block, with_values, filter_block, autoescape, macro, include, extends, block, Body, end, stmt, Branches, no_branches, branch, condition_weight, filtering_weight}
+use Rattle.jt_trees.specs.Expressions.{weight, pairs_weight, Text}
+use Rattle.jt_trees.specs.Statements.{Stmt, data_of, print, choose, for_each, set, set_block, with_values, filter_block, autoescape, macro, include, extends, block, Body, end, stmt, Branches, no_branches, branch, condition_weight, filtering_weight}
 use Rattle.jt_chains.specs.Weights.{chains_weight}
 use Rattle.jt_chains.specs.Chain.{Home, macros}
 use Rattle.jt_rules.specs.World.{World}

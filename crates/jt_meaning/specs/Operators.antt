@@ -2,10 +2,10 @@
 use Rattle.std.specs.Prelude.{ℕ, zero, suc, Bool, true, false}
 use Rattle.jt_ids.specs.declared.op_id.OpId.{OpId}
 use Rattle.jt_ids.specs.declared.op_id.OpId.TheVariants as op
-use Rattle.jt_expr.specs.declared.tree.UnaryOperator.{UnaryOperator}
-use Rattle.jt_expr.specs.declared.tree.UnaryOperator.TheVariants as u
-use Rattle.jt_expr.specs.declared.tree.BinaryOperator.{BinaryOperator}
-use Rattle.jt_expr.specs.declared.tree.BinaryOperator.TheVariants as o
+use Rattle.jt_trees.specs.declared.expression.UnaryOperator.{UnaryOperator}
+use Rattle.jt_trees.specs.declared.expression.UnaryOperator.TheVariants as u
+use Rattle.jt_trees.specs.declared.expression.BinaryOperator.{BinaryOperator}
+use Rattle.jt_trees.specs.declared.expression.BinaryOperator.TheVariants as o
 
 abbrev pub unary_operation : UnaryOperator → OpId
 unary_operation u.Negate = op.Negate

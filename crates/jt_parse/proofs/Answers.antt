@@ -1,11 +1,11 @@
 -- What is answered of pieces.
-use Rattle.std.proofs.Common.{◌≡◌, ℕ, ◌<◌, ◌≤◌, arith, List, true, false, refl, ap, ◌∙◌, None, Result, Ok, Err, IfOk, IfErr, MatchResult}
+use Rattle.std.proofs.Common.{◌≡◌, ℕ, ◌<◌, ◌≤◌, arith, List, true, false, refl, sym, ap, subst, ◌∙◌, None, Result, Ok, Err, IfOk, IfErr, MatchResult}
 use Rattle.jt_expr.specs.declared.named.Named.{Named}
 use Rattle.jt_expr.specs.declared.named.Named.TheVariants as named
-use Rattle.jt_parse.specs.Trees.{Body, body_levels}
+use Rattle.jt_trees.specs.Statements.{Body, body_levels, body_weight}
 use Rattle.jt_parse.specs.Kept.{Piece, pieces}
-use Rattle.jt_parse.specs.Trees.{body_weight}
-use Rattle.jt_parse.specs.Bytes.{body_bytes, bytes_of}
+use Rattle.jt_trees.specs.Sizes.{body_bytes}
+use Rattle.jt_parse.specs.Bytes.{bytes_of}
 use Rattle.jt_scan.specs.Cut.{weight_of}
 use Rattle.jt_scan.specs.View.{cut_of}
 use Rattle.jt_scan.specs.declared.segment.Segment.{Segment as Part}
@@ -16,22 +16,26 @@ use Rattle.jt_parse.specs.Names.{body_unknown}
 use Rattle.jt_parse.specs.Places.{is_placed}
 use Rattle.jt_parse.specs.Grammar.{Spelled}
 use Rattle.jt_parse.specs.Reading.{Fault, Parsed}
-use Rattle.jt_parse.specs.View.{body_of, reads_of}
-use Rattle.jt_parse.specs.Gives.{GivesTemplate, GivesNames, GivesPlaces, IsNone, not_read, misplaced, GivesKnown, Finds}
+use Rattle.jt_trees.specs.StatementView.{body_of}
+use Rattle.jt_parse.specs.View.{reads_of}
+use Rattle.jt_parse.specs.Gives.{GivesBody, GivesNames, GivesPlaces, IsNone, not_read, misplaced, GivesKnown, Finds}
 use Rattle.jt_parse.specs.Refusals.{HoldsUnknown, IsRefusal}
 use Rattle.jt_parse.specs.declared.error.ParseError.{ParseError}
 use Rattle.jt_parse.specs.declared.error.ParseError.TheVariants as e
-use Rattle.jt_parse.specs.declared.tree.Template.{Template}
+use Rattle.jt_trees.specs.declared.statement.Template.{Template}
 use Rattle.jt_parse.proofs.Exact.{exact, is_read, syntax_only, deep_only}
 
 -- ---- what is read, its places, and its names
 
-pub refused_read : (O : Result Body Fault → Type 0) (f : ParseError) → GivesTemplate O (Err f) → GivesKnown O (Err f)
+pub refused_read : (O : Result Body Fault → Type 0) (f : ParseError) → GivesBody O (Err f) → GivesKnown O (Err f)
 refused_read O (e.Syntax l) g = not_read g
 refused_read O (e.TooDeep l) g = g
 refused_read O (e.UnknownFilter l) g = absurd g
 refused_read O (e.UnknownTest l) g = absurd g
 refused_read O e.NoMemory g = tt
+
+pub known_body : (O : Result Body Fault → Type 0) (b : Body) (t : Template) → body_of t ≡ b → O (Ok b) → is_placed b ≡ true → body_unknown b ≡ None → GivesKnown O (Ok t)
+known_body O b t e is p k = subst (λ z. O (Ok z) × (is_placed z ≡ true) × (body_unknown z ≡ None)) (sym e) (is, p, k)
 
 pub found_misplaced : (O : Result Body Fault → Type 0) (b : Body) (f : ParseError) → O (Ok b) → GivesPlaces (is_placed b) (Err f) → GivesKnown O (Err f)
 found_misplaced O b (e.Syntax l) is g = misplaced (b, is, g)

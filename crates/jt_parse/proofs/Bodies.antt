@@ -1,6 +1,6 @@
 -- Statements and branches behind others, and tests.
 use Rattle.std.proofs.Common.{◌≡◌, Bool, true, false, cond, refl, ap}
-use Rattle.jt_parse.specs.Trees.{Body, end, stmt, Branches, no_branches, branch}
+use Rattle.jt_trees.specs.Statements.{Body, end, stmt, Branches, no_branches, branch}
 use Rattle.jt_parse.specs.Reading.{then_all, then_branches}
 
 pub all_end : (a : Body) → then_all a end ≡ a

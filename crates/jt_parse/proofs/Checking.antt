@@ -3,17 +3,17 @@ use Rattle.std.proofs.Common.{◌≡◌, ℕ, ◌+◌, ◌<◌, List, length, dr
 use Rattle.std.specs.Option.{option_or}
 use Rattle.std.proofs.lemmas.List.{drop_more}
 use Rattle.jt_expr.specs.Named.{has_unknown}
-use Rattle.jt_expr.specs.View.{expr_view}
+use Rattle.jt_trees.specs.ExpressionView.{expr_view}
 use Rattle.jt_expr.specs.declared.named.Named.TheVariants as named
-use Rattle.jt_expr.specs.declared.tree.Expr.{Expr}
+use Rattle.jt_trees.specs.declared.expression.Expr.{Expr}
 use Rattle.jt_parse.specs.Names.{Found, unknown_in, stmt_unknown, body_unknown, branch_unknown}
-use Rattle.jt_parse.specs.View.{stmt_view, body_view, branches_view}
+use Rattle.jt_trees.specs.StatementView.{stmt_view, body_view, branches_view}
 use Rattle.jt_parse.specs.Gives.{GivesNames}
 use Rattle.jt_parse.specs.declared.error.ParseError.{ParseError}
 use Rattle.jt_parse.specs.declared.error.ParseError.TheVariants as e
-use Rattle.jt_parse.specs.declared.tree.Stmt.{Stmt}
-use Rattle.jt_parse.specs.declared.tree.Stmt.TheVariants.{If}
-use Rattle.jt_parse.proofs.Views.{view-If}
+use Rattle.jt_trees.specs.declared.statement.Stmt.{Stmt}
+use Rattle.jt_trees.specs.declared.statement.Stmt.TheVariants.{If}
+use Rattle.jt_trees.proofs.StatementViews.{view-If}
 
 abbrev pub Branch : Type 0
 Branch = ℕ × Expr × Vec Stmt Global

@@ -2,10 +2,10 @@
 use Rattle.std.proofs.Common.{◌≡◌, ℕ, suc, ◌+◌, ◌≤◌, max, true, List, [], ◌∷◌, ◌++◌, length, codes, refl, sym, ap, subst, ◌∙◌, append_assoc, append-nil, arith, Result, Ok, encode_utf8_all, bytes_eq}
 use Rattle.std.proofs.lemmas.Slice.Eq.{bytes_eq-Decides}
 use Rattle.jt_scan.specs.Cut.{Token}
-use Rattle.jt_expr.specs.Trees.{Expr, levels}
+use Rattle.jt_trees.specs.Expressions.{Expr, levels}
 use Rattle.jt_expr.specs.Grammar as expressions
 use Rattle.jt_expr.specs.Grammar.{word, Spells}
-use Rattle.jt_parse.specs.Trees.{Stmt, data_of, print, choose, Body, end, stmt, Branches, no_branches, branch, stmt_levels, body_levels, branch_levels}
+use Rattle.jt_trees.specs.Statements.{Stmt, data_of, print, choose, Body, end, stmt, Branches, no_branches, branch, stmt_levels, body_levels, branch_levels}
 use Rattle.jt_parse.specs.Kept.{Piece}
 use Rattle.jt_parse.specs.Tags.{Loop, Opening, a_text, values, filters, escaping, a_macro, a_block, Head, made, looped, Says, says_if, says_for, says_set, says_text, says_with, says_filter, says_autoescape, says_macro, says_include, says_extends, says_block, Ends, by_word, by_name, opening_levels, loop_levels, head_levels}
 use Rattle.jt_parse.specs.Grammar.{block, Forms, nothing_more, some_data, a_print, one_tag, an_if_statement, a_for_statement, enclosed, GoesOn, no_elif, an_elif, Otherwise, no_else, an_else}

@@ -1,7 +1,7 @@
 -- What all the segments spell, and what is answered.
 use Rattle.std.proofs.Common.{◌≡◌, ℕ, ◌<◌, ◌≤◌, List, [], ◌∷◌, ap, Result, Ok, Err}
 use Rattle.jt_parse.specs.Kept.{Piece}
-use Rattle.jt_parse.specs.Trees.{Body, body_levels}
+use Rattle.jt_trees.specs.Statements.{Body, body_levels}
 use Rattle.jt_parse.specs.Grammar.{Forms}
 use Rattle.jt_parse.specs.Reading.{Fault, syntax, deep, State, state, Parsed, whole, stopped, left_open}
 use Rattle.jt_parse.proofs.Levels.{Within, fits, beyond}

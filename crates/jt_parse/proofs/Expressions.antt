@@ -2,15 +2,15 @@
 use Rattle.std.proofs.Common.{◌≡◌, ℕ, suc, ◌+◌, ◌-◌, ◌<◌, ◌≤◌, nat_lt, true, false, List, [], ◌∷◌, length, refl, sym, subst, ◌∙◌, append-nil, arith, Result, Ok, Err}
 use Rattle.std.proofs.lemmas.Bool.Decides.{nat_tests}
 use Rattle.jt_scan.specs.Cut.{Token}
-use Rattle.jt_expr.specs.Trees.{Expr, levels}
+use Rattle.jt_trees.specs.Expressions.{Expr, levels}
 use Rattle.jt_parse.specs.Tags.{Head, Says, says_if, says_for, says_set, says_text, says_with, says_filter, says_autoescape, says_macro, says_include, says_extends, says_block, head_levels}
-use Rattle.jt_parse.specs.Trees.{Body, end, Branches}
+use Rattle.jt_trees.specs.Statements.{Body, end, Branches}
 use Rattle.jt_parse.specs.Reading.{Frame, in_branch, then_branch, State, state, After, ElifTag}
 use Rattle.jt_parse.specs.Gives.{GivesOnly, Refuses}
 use Rattle.jt_expr.specs.Grammar.{Tokens, word, Spells, whole}
 use Rattle.jt_expr.specs.Promises.{Leads}
-use Rattle.jt_expr.specs.View.{expr_view}
-use Rattle.jt_expr.specs.declared.tree.Expr.{Expr as Tree}
+use Rattle.jt_trees.specs.ExpressionView.{expr_view}
+use Rattle.jt_trees.specs.declared.expression.Expr.{Expr as Tree}
 use Rattle.jt_expr.specs.declared.error.ExprError.{ExprError}
 use Rattle.jt_expr.specs.declared.error.ExprError.TheVariants as fault
 use Rattle.jt_parse.specs.Gives.{refusal_at}

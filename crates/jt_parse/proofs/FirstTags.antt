@@ -6,25 +6,25 @@ use Rattle.jt_scan.specs.Cut as cut
 use Rattle.jt_scan.specs.Cut.{Token}
 use Rattle.jt_expr.specs.declared.error.ExprError.{ExprError}
 use Rattle.jt_expr.specs.declared.error.ExprError.TheVariants as e
-use Rattle.jt_expr.specs.declared.tree.Expr.{Expr as Tree}
-use Rattle.jt_expr.specs.Trees.{Expr, Pairs, pair, levels, pairs_levels}
+use Rattle.jt_trees.specs.declared.expression.Expr.{Expr as Tree}
+use Rattle.jt_trees.specs.Expressions.{Expr, Pairs, pair, levels, pairs_levels, Text}
 use Rattle.jt_expr.specs.Grammar.{Tokens, word, is_reserved, whole, disjunction, Spells}
 use Rattle.jt_expr.specs.Front.{says, past}
 use Rattle.jt_expr.specs.Promises.{Leads, Reads, EndsAt, the_end, an_if}
-use Rattle.jt_expr.specs.View.{expr_view, pairs_view}
+use Rattle.jt_trees.specs.ExpressionView.{expr_view, pairs_view}
 use Rattle.jt_expr.specs.Cursor.{TakesSign}
-use Rattle.jt_parse.specs.Trees as trees
-use Rattle.jt_parse.specs.Trees.{Text, Filtering, Parameter, condition_levels, filtering_levels}
+use Rattle.jt_trees.specs.Statements as trees
+use Rattle.jt_trees.specs.Statements.{Filtering, Parameter, condition_levels, filtering_levels}
 use Rattle.jt_parse.specs.Tags as tags
 use Rattle.jt_parse.specs.Tags.{Separated, only, also, IsName, a_name, IsValue, pairs_of, Values, no_values, some_values, IsFiltering, Parameters, Condition, no_condition, a_condition, flag, Context, missing_words, truth_word, Head, a_loop, a_statement, an_opening, a_text, values, filters, escaping, a_macro, a_block, Says, says_if, says_for, says_set, says_text, says_with, says_filter, says_autoescape, says_macro, says_include, says_extends, says_block, head_levels}
 use Rattle.jt_parse.specs.Readers.{TakesWord, Anything, NoToken, NoSign, NoWord, IsText, value_levels, one_filtering_levels, most, ReadsFlat, ReadsHead, GivesText}
-use Rattle.jt_parse.specs.View.{names_view, filterings_view, parameters_view, stmt_view}
+use Rattle.jt_trees.specs.StatementView.{names_view, filterings_view, parameters_view, stmt_view}
 use Rattle.jt_parse.specs.HeadView.{values_view, head_view}
 use Rattle.jt_parse.specs.declared.heads.Head.{Head as Read}
-use Rattle.jt_parse.specs.declared.tree.Stmt.{the_lemmas}
-use Rattle.jt_parse.specs.declared.tree.Stmt.TheVariants as stmt
-use Rattle.jt_parse.specs.declared.tree.Filtering.{Filtering as Filter}
-use Rattle.jt_parse.specs.declared.tree.Parameter.{Parameter as Declared}
+use Rattle.jt_trees.specs.declared.statement.Stmt.{the_lemmas}
+use Rattle.jt_trees.specs.declared.statement.Stmt.TheVariants as stmt
+use Rattle.jt_trees.specs.declared.statement.Filtering.{Filtering as Filter}
+use Rattle.jt_trees.specs.declared.statement.Parameter.{Parameter as Declared}
 use Rattle.jt_parse.proofs.Fronts.{tokens_tail, behind, same_name, no_length, no_tokens, part_refused, sign_refused, word_refused, Whole, last_part, NameRead, leads_name, name_leads, behind_name}
 use Rattle.jt_parse.proofs.ParameterLists.{ParametersRead}
 use Rattle.jt_parse.proofs.Parts.{TextRead, leads_text, IsMissing}

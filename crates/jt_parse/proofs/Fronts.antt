@@ -12,7 +12,7 @@ use Rattle.jt_expr.specs.Grammar.{Tokens, word, is_reserved}
 use Rattle.jt_expr.specs.Front.{code, sees, says, past}
 use Rattle.jt_expr.specs.Promises.{Leads, Reads}
 use Rattle.jt_expr.specs.Cursor.{TakesSign, TakesAName}
-use Rattle.jt_parse.specs.Trees.{Text}
+use Rattle.jt_trees.specs.Expressions.{Text}
 use Rattle.jt_parse.specs.Tags.{IsName, a_name}
 use Rattle.jt_parse.specs.Readers.{TakesWord, Anything, ReadsFlat}
 

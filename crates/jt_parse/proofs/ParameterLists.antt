@@ -8,11 +8,11 @@ use Rattle.jt_expr.specs.declared.error.ExprError.TheVariants as e
 use Rattle.jt_expr.specs.Grammar.{Tokens}
 use Rattle.jt_expr.specs.Promises.{Leads}
 use Rattle.jt_expr.specs.Cursor.{TakesSign}
-use Rattle.jt_parse.specs.Trees.{Parameter}
+use Rattle.jt_trees.specs.Statements.{Parameter}
 use Rattle.jt_parse.specs.Tags.{Separated, only, also, IsParameter, plain, with_default, defaults_last, Parameters, no_parameters, some_parameters}
 use Rattle.jt_parse.specs.Readers.{Anything, NoSign, NoParameter, ReadsFlat}
-use Rattle.jt_parse.specs.View.{parameters_view}
-use Rattle.jt_parse.specs.declared.tree.Parameter.{Parameter as Declared}
+use Rattle.jt_trees.specs.StatementView.{parameters_view}
+use Rattle.jt_trees.specs.declared.statement.Parameter.{Parameter as Declared}
 use Rattle.jt_parse.proofs.Fronts.{true_is_false, behind, part_refused, sign_refused}
 
 abbrev pub ParametersRead : Tokens → Result (Vec Declared Global) ExprError → Tokens → Type 0

@@ -5,21 +5,21 @@ use Rattle.jt_scan.specs.Cut as cut
 use Rattle.jt_scan.specs.Cut.{Token}
 use Rattle.jt_expr.specs.declared.error.ExprError.{ExprError}
 use Rattle.jt_expr.specs.declared.error.ExprError.TheVariants as e
-use Rattle.jt_expr.specs.declared.tree.Expr.{Expr as Tree}
-use Rattle.jt_expr.specs.declared.tree.Literal.{Literal as Constant}
+use Rattle.jt_trees.specs.declared.expression.Expr.{Expr as Tree}
+use Rattle.jt_trees.specs.declared.expression.Literal.{Literal as Constant}
 use Rattle.jt_expr.specs.declared.part.Parts.{Parts as Row}
-use Rattle.jt_expr.specs.Trees.{Literal, Expr, Exprs, Pairs, levels}
+use Rattle.jt_trees.specs.Expressions.{Literal, Expr, Exprs, Pairs, levels, Text}
 use Rattle.jt_expr.specs.Grammar.{Tokens, word, is_reserved, whole, Spells, Arguments}
 use Rattle.jt_expr.specs.Promises.{Leads, Reads, EndsAt, the_end, OpensNone, parts_levels, parts_view}
-use Rattle.jt_expr.specs.View.{expr_view, literal_view}
+use Rattle.jt_trees.specs.ExpressionView.{expr_view, literal_view}
 use Rattle.jt_expr.specs.Cursor.{TakesSign}
-use Rattle.jt_parse.specs.Trees.{Text, Parameter, Filtering, condition_levels}
+use Rattle.jt_trees.specs.Statements.{Parameter, Filtering, condition_levels}
 use Rattle.jt_parse.specs.Tags.{IsName, IsValue, a_value, IsFiltering, a_filter, literal_token, IsParameter, plain, with_default, Condition, no_condition, a_condition, Context, unsaid, with_context, without_context, missing_words}
 use Rattle.jt_parse.specs.Readers.{TakesWord, Anything, NoToken, NoSign, NoWord, IsText, IsLiteral, IsDefault, value_levels, one_filtering_levels, ReadsFlat}
 use Rattle.jt_parse.specs.HeadView.{value_view}
-use Rattle.jt_parse.specs.View.{filtering_view, parameter_view}
-use Rattle.jt_parse.specs.declared.tree.Filtering.{Filtering as Filter}
-use Rattle.jt_parse.specs.declared.tree.Parameter.{Parameter as Declared}
+use Rattle.jt_trees.specs.StatementView.{filtering_view, parameter_view}
+use Rattle.jt_trees.specs.declared.statement.Filtering.{Filtering as Filter}
+use Rattle.jt_trees.specs.declared.statement.Parameter.{Parameter as Declared}
 use Rattle.jt_parse.proofs.Fronts.{tokens_tail, behind, same_text, no_tokens, Whole, last_part, part_refused, sign_refused, word_refused, NameRead, leads_name, name_leads, behind_name}
 
 -- ---- a = e

@@ -1,18 +1,18 @@
 -- Where the statements of a template stand, one after the other.
 use Rattle.std.proofs.Common.{◌≡◌, ℕ, ◌+◌, ◌<◌, ◌&&◌, Bool, true, false, not, List, length, drop, get_or, refl, sym, ap, ◌∙◌, Option, Some, None, Vec, Global}
 use Rattle.std.proofs.lemmas.List.{drop_more}
-use Rattle.jt_expr.specs.View.{expr_view}
-use Rattle.jt_expr.specs.declared.tree.Expr.{Expr}
-use Rattle.jt_parse.specs.Trees as trees
-use Rattle.jt_parse.specs.Trees.{Body}
+use Rattle.jt_trees.specs.ExpressionView.{expr_view}
+use Rattle.jt_trees.specs.declared.expression.Expr.{Expr}
+use Rattle.jt_trees.specs.Statements as trees
+use Rattle.jt_trees.specs.Statements.{Body}
 use Rattle.jt_parse.specs.Places as places
 use Rattle.jt_parse.specs.Places.{is_placed, is_child, within, stmt_placed, body_placed, branches_placed}
 use Rattle.jt_parse.specs.PlaceView.{place_view}
-use Rattle.jt_parse.specs.View.{stmt_view, body_view, branches_view}
+use Rattle.jt_trees.specs.StatementView.{stmt_view, body_view, branches_view}
 use Rattle.jt_parse.specs.declared.places.Place.{Place}
-use Rattle.jt_parse.specs.declared.tree.Stmt.{Stmt}
-use Rattle.jt_parse.specs.declared.tree.Stmt.TheVariants.{If}
-use Rattle.jt_parse.proofs.Views.{view-If}
+use Rattle.jt_trees.specs.declared.statement.Stmt.{Stmt}
+use Rattle.jt_trees.specs.declared.statement.Stmt.TheVariants.{If}
+use Rattle.jt_trees.proofs.StatementViews.{view-If}
 
 -- what is left, with nothing read yet but whitespace, or at this place
 abbrev pub placed_by : Option Place → Body → Bool

@@ -3,7 +3,7 @@ use Rattle.std.proofs.Common.{◌≡◌, ℕ, ◌<◌, ◌≤◌, List, [], ◌�
 use Rattle.std.proofs.lemmas.List.{take_rest}
 use Rattle.jt_scan.specs.View.{segment_view}
 use Rattle.jt_scan.specs.declared.segment.Segment.{Segment}
-use Rattle.jt_parse.specs.Trees.{Body}
+use Rattle.jt_trees.specs.Statements.{Body}
 use Rattle.jt_parse.specs.Kept.{Side, nothing, side_ahead, side_behind, with_segment, pieces_from}
 use Rattle.jt_parse.specs.View.{reads_of}
 use Rattle.jt_parse.specs.Reading.{Fault, syntax, Frame, State, state, Runs, ended, start, Parsed, whole, left_open}

@@ -7,10 +7,10 @@ use Rattle.jt_scan.specs.Cut as cut
 use Rattle.jt_expr.specs.declared.error.ExprError.{ExprError}
 use Rattle.jt_expr.specs.declared.error.ExprError.TheVariants as e
 use Rattle.jt_scan.specs.Cut.{Token}
-use Rattle.jt_expr.specs.Trees.{Expr}
+use Rattle.jt_trees.specs.Expressions.{Expr, Text}
 use Rattle.jt_expr.specs.Grammar.{Tokens, whole}
 use Rattle.jt_expr.specs.Promises.{Leads, Reads, EndsAt, the_end, a_comma, OpensNone}
-use Rattle.jt_parse.specs.Trees.{Text, Filtering, Parameter}
+use Rattle.jt_trees.specs.Statements.{Filtering, Parameter}
 use Rattle.jt_parse.specs.Tags.{Separated, only, also, IsName, a_name, IsValue, a_value, IsFiltering, a_filter, IsParameter, plain, with_default}
 use Rattle.jt_parse.proofs.Fronts.{no_tokens}
 use Rattle.jt_parse.specs.Readers.{Anything, NoToken, NoSign, NoParameter, most, ReadsFlat}

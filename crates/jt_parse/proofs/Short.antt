@@ -10,12 +10,13 @@ use Rattle.jt_scan.specs.declared.segment.Segment.{Segment as Part}
 use Rattle.jt_scan.specs.View.{cut_of, segment_view}
 use Rattle.jt_scan.specs.Cut as cut
 use Rattle.jt_scan.specs.Cut.{EndsWith, Segment}
-use Rattle.jt_expr.specs.Trees.{Expr, Pairs}
+use Rattle.jt_trees.specs.Expressions.{Expr, Pairs, Text}
 use Rattle.jt_expr.specs.Grammar.{Tokens, word, Level, Spells}
-use Rattle.jt_expr.specs.Sizes.{expr_bytes, exprs_bytes, pairs_bytes, tokens_bytes}
+use Rattle.jt_trees.specs.Sizes.{expr_bytes, exprs_bytes, pairs_bytes, texts_bytes, condition_bytes, filtering_bytes, default_bytes, parameters_bytes, stmt_bytes, body_bytes, branch_bytes}
+use Rattle.jt_expr.specs.Sizes.{tokens_bytes}
 use Rattle.jt_expr.specs.Promises.{ExpressionLaws}
-use Rattle.jt_parse.specs.Trees.{Text, Filtering, Parameter, Body, Branches}
-use Rattle.jt_parse.specs.Bytes.{texts_bytes, condition_bytes, filtering_bytes, default_bytes, parameters_bytes, stmt_bytes, body_bytes, branch_bytes, segment_bytes, bytes_of}
+use Rattle.jt_trees.specs.Statements.{Filtering, Parameter, Body, Branches}
+use Rattle.jt_parse.specs.Bytes.{segment_bytes, bytes_of}
 use Rattle.jt_parse.specs.Kept as kept
 use Rattle.jt_parse.specs.Kept.{Piece, Side, pieces_from, with_segment, with_text, side_ahead, side_behind, block_side, variable_side, after_left, without_end, after_lf}
 use Rattle.jt_scan.specs.declared.segment.Mark.TheVariants as m

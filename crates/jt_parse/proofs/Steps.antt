@@ -6,7 +6,7 @@ use Rattle.jt_scan.specs.Cut.{Text, Token, Segment}
 use Rattle.std.specs.Str.{chars}
 use Rattle.std.proofs.lemmas.Str.{chars-nil}
 use Rattle.jt_scan.proofs.Turns.{not_empty}
-use Rattle.jt_parse.specs.Trees.{data_of}
+use Rattle.jt_trees.specs.Statements.{data_of}
 use Rattle.jt_parse.specs.Kept.{tag, Side, nothing, side_ahead, side_behind, Piece, Read, with_text, with_segment, kept, block_side, pieces_from}
 use Rattle.jt_parse.specs.Reading.{Fault, syntax, deep, State, grown, Steps, Runs, ended, refused, went_on, start, Parsed, stopped}
 use Rattle.jt_scan.specs.declared.segment.Kind.{Kind}

@@ -6,11 +6,11 @@ use Rattle.jt_scan.specs.declared.segment.Segment.{Segment as Part}
 use Rattle.jt_scan.specs.View.{cut_of, segment_view}
 use Rattle.jt_scan.specs.Cut as cut
 use Rattle.jt_scan.specs.Cut.{Token, Segment, weight, weight_of, tokens_weight}
-use Rattle.jt_expr.specs.Trees as e
-use Rattle.jt_expr.specs.Trees.{Expr, Exprs, Pairs, Literal, exprs_weight, pairs_weight, perhaps_enclosed, literal_weight}
+use Rattle.jt_trees.specs.Expressions as e
+use Rattle.jt_trees.specs.Expressions.{Expr, Exprs, Pairs, Literal, exprs_weight, pairs_weight, perhaps_enclosed, literal_weight, Text}
 use Rattle.jt_expr.specs.Grammar.{Tokens, word, is_reserved, Level, postfix, postscript, Spells, unsigned, postfixes, postscripts, stay, filtered, a_number, a_text, a_constant, Arguments}
 use Rattle.jt_expr.specs.Promises.{ExpressionLaws}
-use Rattle.jt_parse.specs.Trees.{Text, Filtering, Parameter, Body, Branches, stmt_weight, body_weight, branch_weight, condition_weight, filtering_weight, default_weight, parameters_weight}
+use Rattle.jt_trees.specs.Statements.{Filtering, Parameter, Body, Branches, stmt_weight, body_weight, branch_weight, condition_weight, filtering_weight, default_weight, parameters_weight}
 use Rattle.jt_parse.specs.Kept as kept
 use Rattle.jt_parse.specs.Kept.{Piece, Read, Side, pieces_from, with_segment, with_text, side_ahead, side_behind, block_side}
 use Rattle.jt_scan.specs.declared.options.Options.{Options}

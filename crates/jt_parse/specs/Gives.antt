@@ -1,20 +1,22 @@
 -- What only private clauses cite: what the functions of the parser give.
-use Rattle.std.specs.Prelude.{◌≡◌, ℕ, ◌≤◌, ◌<◌, List, map, reverse, Bool, true, false, Some, None, Result, Ok, Err}
-use Rattle.jt_expr.specs.View.{expr_view}
+use Rattle.std.specs.Prelude.{◌≡◌, ℕ, ◌≤◌, ◌<◌, List, map, reverse, Bool, true, false, Some, None, Result, Ok, Err, Vec}
+use Rattle.std.specs.declared.alloc.Global.{Global}
+use Rattle.jt_trees.specs.ExpressionView.{expr_view}
 use Rattle.jt_expr.specs.declared.error.ExprError.{ExprError}
 use Rattle.jt_expr.specs.declared.error.ExprError.TheVariants as fault
 use Rattle.jt_expr.specs.declared.named.Named.{Named}
 use Rattle.jt_expr.specs.declared.named.Named.TheVariants as named
 use Rattle.jt_parse.specs.Names.{Found, body_unknown}
 use Rattle.jt_parse.specs.Places.{is_placed}
-use Rattle.jt_parse.specs.Trees.{Body}
+use Rattle.jt_trees.specs.Statements.{Body}
 use Rattle.jt_parse.specs.Reading as reading
 use Rattle.jt_parse.specs.Reading.{Fault, syntax, deep, State, state, Frame}
-use Rattle.jt_parse.specs.View.{body_view, branches_view, body_of}
+use Rattle.jt_trees.specs.StatementView.{body_view, branches_view, body_of}
 use Rattle.jt_parse.specs.HeadView.{loop_view, opening_view}
 use Rattle.jt_parse.specs.declared.error.ParseError.{ParseError}
 use Rattle.jt_parse.specs.declared.error.ParseError.TheVariants as e
-use Rattle.jt_parse.specs.declared.tree.Template.{Template}
+use Rattle.jt_trees.specs.declared.statement.Stmt.{Stmt}
+use Rattle.jt_trees.specs.declared.statement.Template.{Template}
 use Rattle.jt_parse.specs.declared.frames.Frame.{Frame as Open}
 use Rattle.jt_parse.specs.declared.frames.Kind.{Kind}
 use Rattle.jt_parse.specs.declared.frames.Kind.TheVariants as k
@@ -59,9 +61,9 @@ abbrev pub GivesState : (Result State Fault → Type 0) → Result (Unit {0}) Pa
 GivesState O (Ok u) new = O (Ok (state_view new))
 GivesState O (Err f) new = Refuses O f
 
-abbrev pub GivesTemplate : (Result Body Fault → Type 0) → Result Template ParseError → Type 0
-GivesTemplate O (Ok t) = O (Ok (body_of t))
-GivesTemplate O (Err f) = Refuses O f
+abbrev pub GivesBody : (Result Body Fault → Type 0) → Result (Vec Stmt Global) ParseError → Type 0
+GivesBody O (Ok b) = O (Ok (body_view b.items))
+GivesBody O (Err f) = Refuses O f
 
 -- a refusal of an expression, in a tag of the line
 abbrev pub refusal_at : ℕ → ExprError → ParseError

@@ -3,9 +3,9 @@
 use Rattle.std.specs.Prelude.{◌≡◌, ℕ, true, List, [], ◌∷◌, ◌++◌, codes, encode_utf8_all}
 use Rattle.jt_scan.specs.declared.segment.Kind.TheVariants as kind
 use Rattle.jt_scan.specs.Cut.{Token}
-use Rattle.jt_expr.specs.Trees.{Expr}
+use Rattle.jt_trees.specs.Expressions.{Expr}
 use Rattle.jt_expr.specs.Grammar.{word, whole, Spells}
-use Rattle.jt_parse.specs.Trees.{Stmt, data_of, print, choose, Body, end, stmt, Branches, no_branches, branch}
+use Rattle.jt_trees.specs.Statements.{Stmt, data_of, print, choose, Body, end, stmt, Branches, no_branches, branch}
 use Rattle.jt_parse.specs.Kept as kept
 use Rattle.jt_parse.specs.Kept.{Piece}
 use Rattle.jt_parse.specs.Tags.{Loop, Opening, a_statement, an_if, a_loop, an_opening, made, looped, Says, Ends}

@@ -1,12 +1,12 @@
 -- What only private clauses cite: what contracts see of the first tags of statements.
 use Rattle.std.specs.Prelude.{List, map, string_bytes, String, option_map}
 use Rattle.std.specs.declared.alloc.Global.{Global}
-use Rattle.jt_expr.specs.Trees as expressions
-use Rattle.jt_expr.specs.View.{expr_view, pairs_view}
-use Rattle.jt_expr.specs.declared.tree.Expr.{Expr}
-use Rattle.jt_parse.specs.Trees.{Text}
+use Rattle.jt_trees.specs.Expressions as expressions
+use Rattle.jt_trees.specs.ExpressionView.{expr_view, pairs_view}
+use Rattle.jt_trees.specs.declared.expression.Expr.{Expr}
+use Rattle.jt_trees.specs.Expressions.{Text}
 use Rattle.jt_parse.specs.Tags as tags
-use Rattle.jt_parse.specs.View.{names_view, filterings_view, parameters_view, stmt_view}
+use Rattle.jt_trees.specs.StatementView.{names_view, filterings_view, parameters_view, stmt_view}
 use Rattle.jt_parse.specs.declared.heads.Loop.{Loop}
 use Rattle.jt_parse.specs.declared.heads.Opening.{Opening}
 use Rattle.jt_parse.specs.declared.heads.Opening.TheVariants as o

@@ -11,7 +11,5 @@ pub mod Reading
 pub mod Refusals
 pub mod SideView
 pub mod Tags
-pub mod Texts
-pub mod Trees
 pub mod View
 pub mod Words

@@ -4,8 +4,8 @@ use Rattle.std.specs.Option.{option_or}
 use Rattle.jt_expr.specs.declared.named.Named.{Named}
 use Rattle.jt_expr.specs.declared.named.Named.TheVariants as named
 use Rattle.jt_expr.specs.Named.{has_unknown, exprs_have_unknown, pairs_have_unknown, filter_unknown}
-use Rattle.jt_expr.specs.Trees.{Expr}
-use Rattle.jt_parse.specs.Trees.{Filtering, Stmt, data_of, print, choose, for_each, set, set_block, with_values, filter_block, autoescape, macro, include, extends, block, Body, end, stmt, Branches, no_branches, branch}
+use Rattle.jt_trees.specs.Expressions.{Expr}
+use Rattle.jt_trees.specs.Statements.{Filtering, Stmt, data_of, print, choose, for_each, set, set_block, with_values, filter_block, autoescape, macro, include, extends, block, Body, end, stmt, Branches, no_branches, branch}
 
 -- a tag, by its line, and whether a filter or a test in it is to blame
 abbrev pub Found : Type 0

@@ -5,10 +5,10 @@ use Rattle.jt_scan.specs.declared.segment.Sign.TheVariants as s
 use Rattle.jt_scan.specs.Cut as cut
 use Rattle.jt_expr.specs.declared.error.ExprError.{ExprError}
 use Rattle.jt_expr.specs.declared.error.ExprError.TheVariants as e
-use Rattle.jt_expr.specs.Trees.{Expr, Literal, levels, exprs_levels, pairs_levels}
+use Rattle.jt_trees.specs.Expressions.{Expr, Literal, levels, exprs_levels, pairs_levels, Text}
 use Rattle.jt_expr.specs.Grammar.{Tokens, word}
 use Rattle.jt_expr.specs.Promises.{Reads}
-use Rattle.jt_parse.specs.Trees.{Text, Filtering}
+use Rattle.jt_trees.specs.Statements.{Filtering}
 use Rattle.jt_parse.specs.Tags.{literal_token, Says, an_opening, a_text, head_levels}
 use Rattle.jt_parse.specs.HeadView.{head_view}
 use Rattle.jt_parse.specs.declared.heads.Head.{Head}

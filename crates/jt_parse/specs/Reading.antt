@@ -5,10 +5,10 @@ use Rattle.std.specs.List.{list_any}
 use Rattle.jt_scan.specs.declared.segment.Kind.TheVariants as kind
 use Rattle.jt_scan.specs.Cut as cut
 use Rattle.jt_scan.specs.Cut.{Token}
-use Rattle.jt_expr.specs.Trees.{Expr, levels}
+use Rattle.jt_trees.specs.Expressions.{Expr, levels, Text}
 use Rattle.jt_expr.specs.Grammar as expressions
 use Rattle.jt_expr.specs.Grammar.{word, Spells}
-use Rattle.jt_parse.specs.Trees.{Text, Stmt, data_of, print, choose, Body, end, stmt, Branches, no_branches, branch}
+use Rattle.jt_trees.specs.Statements.{Stmt, data_of, print, choose, Body, end, stmt, Branches, no_branches, branch}
 use Rattle.jt_parse.specs.Kept as kept
 use Rattle.jt_parse.specs.Kept.{Piece}
 use Rattle.jt_parse.specs.Tags.{Loop, Opening, a_block, Head, a_statement, an_if, a_loop, an_opening, made, looped, end_word, Says, head_levels}

@@ -2,7 +2,7 @@
 use Rattle.std.specs.Prelude.{◌≡◌, ℕ, ◌<◌, ◌≤◌, List, Some}
 use Rattle.jt_expr.specs.declared.named.Named.{Named}
 use Rattle.jt_expr.specs.declared.named.Named.TheVariants as named
-use Rattle.jt_parse.specs.Trees.{Body, body_levels}
+use Rattle.jt_trees.specs.Statements.{Body, body_levels}
 use Rattle.jt_parse.specs.Kept.{Piece}
 use Rattle.jt_parse.specs.Grammar.{Spelled}
 use Rattle.jt_parse.specs.Names.{body_unknown}

@@ -4,11 +4,11 @@ use Rattle.jt_scan.specs.declared.segment.Sign.{Sign}
 use Rattle.jt_scan.specs.declared.segment.Sign.TheVariants as s
 use Rattle.jt_scan.specs.Cut as cut
 use Rattle.jt_scan.specs.Cut.{Token}
-use Rattle.jt_expr.specs.Trees as expressions
-use Rattle.jt_expr.specs.Trees.{Literal, Expr, Exprs, Pairs, no_pairs, pair, levels, pairs_levels}
+use Rattle.jt_trees.specs.Expressions as expressions
+use Rattle.jt_trees.specs.Expressions.{Literal, Expr, Exprs, Pairs, no_pairs, pair, levels, pairs_levels, Text}
 use Rattle.jt_expr.specs.Grammar.{Tokens, word, is_reserved, literal_of, whole, disjunction, Spells, Arguments}
-use Rattle.jt_parse.specs.Trees as trees
-use Rattle.jt_parse.specs.Trees.{Text, Parameter, Filtering, Stmt, Body, condition_levels, filtering_levels, stmt_levels}
+use Rattle.jt_trees.specs.Statements as trees
+use Rattle.jt_trees.specs.Statements.{Parameter, Filtering, Stmt, Body, condition_levels, filtering_levels, stmt_levels}
 
 -- ---- rows
 

@@ -1,71 +1,8 @@
--- What contracts see of trees: statements and branches, and not where they lie in memory.
-use Rattle.std.specs.Prelude.{ℕ, List, [], ◌∷◌, map, string_bytes, Vec, String, option_map}
-use Rattle.std.specs.declared.alloc.Global.{Global}
-use Rattle.jt_parse.specs.Trees as trees
-use Rattle.jt_parse.specs.Trees.{Text, Body, end, Branches, no_branches}
-use Rattle.jt_expr.specs.declared.tree.Expr.{Expr}
-use Rattle.jt_expr.specs.View.{expr_view, exprs_view, pairs_view, literal_view}
-use Rattle.jt_parse.specs.declared.tree.Filtering.{Filtering}
-use Rattle.jt_parse.specs.declared.tree.Parameter.{Parameter}
-use Rattle.jt_parse.specs.declared.tree.Stmt.{Stmt, fold-Stmt}
-use Rattle.jt_parse.specs.declared.tree.Stmt.TheOpen.{Stmt-F}
-use Rattle.jt_parse.specs.declared.tree.Template.{Template}
+-- What contracts see of segments: each with its options.
+use Rattle.std.specs.Prelude.{List, map}
 use Rattle.jt_scan.specs.declared.segment.Segment.{Segment}
 use Rattle.jt_scan.specs.View.{segment_view}
 use Rattle.jt_parse.specs.Kept.{Read}
-
-abbrev pub stmts_of : List trees.Stmt → Body
-stmts_of [] = end
-stmts_of (s ∷ ss) = trees.stmt s (stmts_of ss)
-
-abbrev pub branches_of : List (ℕ × Expr × Vec trees.Stmt Global) → Branches
-branches_of [] = no_branches
-branches_of (b ∷ bs) = trees.branch b.0 (expr_view b.1) (stmts_of b.2.items) (branches_of bs)
-
-abbrev pub names_view : List (String Global) → List Text
-names_view = map string_bytes
-
-abbrev pub filtering_view : Filtering → trees.Filtering
-filtering_view f = record { name = string_bytes f.name; arguments = exprs_view f.arguments.items; keywords = pairs_view f.keywords.items }
-
-abbrev pub filterings_view : List Filtering → List trees.Filtering
-filterings_view = map filtering_view
-
-abbrev pub parameter_view : Parameter → trees.Parameter
-parameter_view p = record { name = string_bytes p.name; default = option_map literal_view p.default }
-
-abbrev pub parameters_view : List Parameter → List trees.Parameter
-parameters_view = map parameter_view
-
--- one statement, with each statement inside already seen as its tree
-abbrev pub stmt_step : Stmt-F trees.Stmt → trees.Stmt
-stmt_step (Stmt-F.Data s) = trees.data_of (string_bytes s)
-stmt_step (Stmt-F.Print line c) = trees.print line (expr_view c)
-stmt_step (Stmt-F.If bs other) = trees.choose (branches_of bs.items) (stmts_of other.items)
-stmt_step (Stmt-F.For line xs e c body other) = trees.for_each line (names_view xs.items) (expr_view e) (option_map expr_view c) (stmts_of body.items) (stmts_of other.items)
-stmt_step (Stmt-F.Set line xs e) = trees.set line (names_view xs.items) (expr_view e)
-stmt_step (Stmt-F.SetBlock line x body) = trees.set_block line (string_bytes x) (stmts_of body.items)
-stmt_step (Stmt-F.With line ps body) = trees.with_values line (pairs_view ps.items) (stmts_of body.items)
-stmt_step (Stmt-F.FilterBlock line fs body) = trees.filter_block line (filterings_view fs.items) (stmts_of body.items)
-stmt_step (Stmt-F.Autoescape line on body) = trees.autoescape line on (stmts_of body.items)
-stmt_step (Stmt-F.Macro line x ps body) = trees.macro line (string_bytes x) (parameters_view ps.items) (stmts_of body.items)
-stmt_step (Stmt-F.Include line n missing context) = trees.include line (string_bytes n) missing context
-stmt_step (Stmt-F.Extends line n) = trees.extends line (string_bytes n)
-stmt_step (Stmt-F.Block line x scoped required body) = trees.block line (string_bytes x) scoped required (stmts_of body.items)
-
-abbrev pub stmt_view : Stmt → trees.Stmt
-stmt_view = fold-Stmt trees.Stmt stmt_step
-
-abbrev pub body_view : List Stmt → Body
-body_view ss = stmts_of (map stmt_view ss)
-
-abbrev pub branches_view : List (ℕ × Expr × Vec Stmt Global) → Branches
-branches_view [] = no_branches
-branches_view (b ∷ bs) = trees.branch b.0 (expr_view b.1) (body_view b.2.items) (branches_view bs)
-
--- the statements of a template
-abbrev pub body_of : Template → Body
-body_of t = body_view t.body.items
 
 -- the segments of a source, each with its options
 abbrev pub read_view : Segment → Read

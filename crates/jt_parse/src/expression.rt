@@ -3,9 +3,9 @@
 ghost use Rattle.std.specs.Prelude.{◌≡◌, ◌≤◌, ◌∷◌, suc, map, bytes_eq, encode_utf8_all, string_bytes, IfOk, IsTrue};
 ghost use Rattle.std.specs.Str.{chars};
 ghost use Rattle.jt_scan.specs.View.{token_view};
-ghost use Rattle.jt_expr.specs.Trees.{levels as tree_levels};
+ghost use Rattle.jt_trees.specs.Expressions.{levels as tree_levels};
 ghost use Rattle.jt_expr.specs.Grammar.{word as word_token, whole, Spells};
-ghost use Rattle.jt_expr.specs.View.{expr_view};
+ghost use Rattle.jt_trees.specs.ExpressionView.{expr_view};
 ghost use Rattle.jt_parse.specs.Words.{is_plain};
 ghost use Rattle.jt_parse.specs.Tags.{Says, head_levels};
 ghost use Rattle.jt_parse.specs.HeadView.{head_view};
@@ -14,8 +14,9 @@ ghost use Rattle.jt_parse.specs.Gives.{GivesOnly, refusal_at};
 use crate::error::ParseError;
 use crate::heads::Head;
 use crate::tags::read_head;
-use jt_expr::{Expr, ExprError};
+use jt_expr::ExprError;
 use jt_scan::Token;
+use jt_trees::Expr;
 use std::alloc::{AllocError, Global};
 
 /// The expression of a tag of the line, of at most so many levels.

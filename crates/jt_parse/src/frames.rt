@@ -3,11 +3,11 @@
 ghost use Rattle.std.specs.Prelude.{◌≡◌, ◌∷◌, [], List, map, bytes_eq, IfOk, IfErr, MatchOption};
 ghost use Rattle.std.specs.Str.{chars};
 ghost use Rattle.jt_scan.specs.View.{token_view};
-ghost use Rattle.jt_expr.specs.View.{expr_view};
-ghost use Rattle.jt_parse.specs.Trees as trees;
+ghost use Rattle.jt_trees.specs.ExpressionView.{expr_view};
+ghost use Rattle.jt_trees.specs.Statements as trees;
 ghost use Rattle.jt_parse.specs.Tags as tags;
 ghost use Rattle.jt_parse.specs.Reading as reading;
-ghost use Rattle.jt_parse.specs.View.{stmt_view, body_view, branches_view};
+ghost use Rattle.jt_trees.specs.StatementView.{stmt_view, body_view, branches_view};
 ghost use Rattle.jt_parse.specs.HeadView.{loop_view, opening_view};
 ghost use Rattle.jt_parse.specs.Gives.{frame_view, frame_by, frames_view};
 ghost use Rattle.jt_parse.specs.declared.error.ParseError.TheVariants as error;
@@ -15,9 +15,8 @@ ghost use Rattle.jt_parse.specs.declared.error.ParseError.TheVariants as error;
 use crate::error::ParseError;
 use crate::expression::{is_name, is_word};
 use crate::heads::{Loop, Opening};
-use crate::tree::Stmt;
-use jt_expr::Expr;
 use jt_scan::Token;
+use jt_trees::{Expr, Stmt};
 use std::alloc::Global;
 use std::mem;
 

@@ -1,7 +1,6 @@
 //! What the first tag of a statement says.
 
-use crate::tree::{Filtering, Parameter, Stmt};
-use jt_expr::Expr;
+use jt_trees::{Expr, Filtering, Parameter, Stmt};
 
 /// `for a, b in e if c`
 #[derive(Drop)]

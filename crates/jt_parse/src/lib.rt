@@ -1,4 +1,4 @@
-//! Trees of templates.
+//! The tree that the segments of a template spell.
 #![tactic(auto)]
 
 mod error;
@@ -10,9 +10,9 @@ mod names;
 mod parser;
 mod places;
 mod tags;
-mod tree;
 
 pub use error::ParseError;
-pub use jt_expr::{BinaryOperator, Expr, Literal, UnaryOperator};
+pub use jt_trees::{
+    BinaryOperator, Expr, Filtering, Literal, Parameter, Stmt, Template, UnaryOperator,
+};
 pub use parser::{MAX_LEVELS, parse};
-pub use tree::{Filtering, Parameter, Stmt, Template};

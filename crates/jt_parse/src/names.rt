@@ -1,15 +1,15 @@
 //! The names of filters and tests in a template that have no meaning.
 
 ghost use Rattle.std.specs.Prelude.{◌≡◌, ◌||◌, true, false, option_map};
-ghost use Rattle.jt_expr.specs.View.{expr_view, pairs_view};
+ghost use Rattle.jt_trees.specs.ExpressionView.{expr_view, pairs_view};
 ghost use Rattle.jt_expr.specs.Named.{has_unknown, pairs_have_unknown};
 ghost use Rattle.jt_parse.specs.Names as spec;
-ghost use Rattle.jt_parse.specs.View.{stmt_view, body_view, filtering_view, filterings_view};
+ghost use Rattle.jt_trees.specs.StatementView.{stmt_view, body_view, filtering_view, filterings_view};
 ghost use Rattle.jt_parse.specs.Gives.{GivesNames};
 
 use crate::error::ParseError;
-use crate::tree::{Filtering, Stmt};
-use jt_expr::{Expr, Named, any_unknown, any_unknown_pair, has_unknown, is_filter_unknown};
+use jt_expr::{Named, any_unknown, any_unknown_pair, has_unknown, is_filter_unknown};
+use jt_trees::{Expr, Filtering, Stmt};
 
 /// Refuses a tag of the line, if a filter or a test in it has no meaning.
 fn check_tag(line: u32, filters: bool, tests: bool) -> Result<(), ParseError>

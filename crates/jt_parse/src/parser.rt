@@ -8,16 +8,18 @@ ghost use Rattle.std.specs.Str.{chars};
 ghost use Rattle.jt_scan.specs.Cut as cut;
 ghost use Rattle.jt_scan.specs.View.{token_view, segment_view, cut_of};
 ghost use Rattle.jt_parse.specs.Names.{body_unknown};
-ghost use Rattle.jt_parse.specs.Trees as trees;
-ghost use Rattle.jt_parse.specs.Trees.{Body, body_levels, body_weight};
-ghost use Rattle.jt_parse.specs.Bytes.{body_bytes, bytes_of};
+ghost use Rattle.jt_trees.specs.Statements as trees;
+ghost use Rattle.jt_trees.specs.Statements.{Body, body_levels, body_weight};
+ghost use Rattle.jt_trees.specs.Sizes.{body_bytes};
+ghost use Rattle.jt_parse.specs.Bytes.{bytes_of};
 ghost use Rattle.jt_parse.specs.Grammar.{Spelled};
 ghost use Rattle.jt_parse.specs.Kept as kept;
 ghost use Rattle.jt_parse.specs.Reading as reading;
-ghost use Rattle.jt_parse.specs.View.{body_of, reads_of};
+ghost use Rattle.jt_trees.specs.StatementView.{body_of};
+ghost use Rattle.jt_parse.specs.View.{reads_of};
 ghost use Rattle.jt_parse.specs.HeadView.{head_view};
 ghost use Rattle.jt_parse.specs.SideView.{side_view, ahead_view};
-ghost use Rattle.jt_parse.specs.Gives.{GivesState, GivesTemplate, GivesKnown, frame_by, frame_view, frames_view, state_view};
+ghost use Rattle.jt_parse.specs.Gives.{GivesState, GivesBody, GivesKnown, frame_by, frame_view, frames_view, state_view};
 ghost use Rattle.jt_parse.specs.Refusals.{IsRefusal, max_levels};
 ghost use Rattle.jt_parse.specs.declared.error.ParseError.TheVariants as error;
 
@@ -31,9 +33,9 @@ use crate::heads::Head;
 use crate::kept::{Side, kept, side_ahead, side_behind};
 use crate::names::check_body;
 use crate::places::check_places;
-use crate::tree::{Stmt, Template};
 use jt_expr::expression_laws;
 use jt_scan::{Kind as TagKind, Part, Segment, Token};
+use jt_trees::{Stmt, Template};
 use std::alloc::Global;
 use std::mem;
 
@@ -300,9 +302,8 @@ impl Parser {
 }
 
 /// The tree that all the segments spell, as the reader has it.
-fn read(alloc: Global, segments: &[Segment<'_>]) -> Result<Template, ParseError>
-    ensures { GivesTemplate (reading.Parsed max_levels (kept.pieces (reads_of segments.now)))
-        result }
+fn read(alloc: Global, segments: &[Segment<'_>]) -> Result<Vec<Stmt>, ParseError>
+    ensures { GivesBody (reading.Parsed max_levels (kept.pieces (reads_of segments.now))) result }
 {
     let mut parser = Parser {
         alloc,
@@ -318,7 +319,7 @@ fn read(alloc: Global, segments: &[Segment<'_>]) -> Result<Template, ParseError>
     }
     match unclosed(parser.frames) {
         Some(line) => Err(ParseError::Syntax { line }),
-        None => Ok(Template { body: parser.body }),
+        None => Ok(parser.body),
     }
 }
 
@@ -326,10 +327,10 @@ fn read(alloc: Global, segments: &[Segment<'_>]) -> Result<Template, ParseError>
 fn read_known(alloc: Global, segments: &[Segment<'_>]) -> Result<Template, ParseError>
     ensures { GivesKnown (reading.Parsed max_levels (kept.pieces (reads_of segments.now))) result }
 {
-    let template = read(alloc, segments)?;
-    check_places(&template.body)?;
-    check_body(&template.body)?;
-    Ok(template)
+    let body = read(alloc, segments)?;
+    check_places(&body)?;
+    check_body(&body)?;
+    Ok(Template::new(body))
 }
 
 /// The tree that the segments spell, with what the whitespace rules leave of the text between tags,

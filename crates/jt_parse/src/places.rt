@@ -4,12 +4,11 @@ ghost use Rattle.std.specs.Prelude.{◌≡◌, true, false};
 ghost use Rattle.jt_scan.specs.Cut as cut;
 ghost use Rattle.jt_parse.specs.Places as spec;
 ghost use Rattle.jt_parse.specs.Gives.{GivesPlaces};
-ghost use Rattle.jt_parse.specs.View.{stmt_view, body_view, branches_view};
+ghost use Rattle.jt_trees.specs.StatementView.{stmt_view, body_view, branches_view};
 ghost use Rattle.jt_parse.specs.PlaceView.{place_view};
 
 use crate::error::ParseError;
-use crate::tree::Stmt;
-use jt_expr::Expr;
+use jt_trees::{Expr, Stmt};
 
 /// Where a statement stands.
 #[derive(Clone, Copy, PartialEq, Eq)]

@@ -4,27 +4,24 @@ ghost use Rattle.std.specs.Prelude.{◌≡◌, ℕ, [], map, option_map, string_
 ghost use Rattle.std.specs.Str.{chars};
 ghost use Rattle.jt_scan.specs.View.{token_view};
 ghost use Rattle.jt_scan.specs.declared.segment.Sign.TheVariants as sign;
-ghost use Rattle.jt_expr.specs.Trees.{levels as tree_levels};
+ghost use Rattle.jt_trees.specs.Expressions.{levels as tree_levels};
 ghost use Rattle.jt_expr.specs.Grammar.{whole, Spells};
 ghost use Rattle.jt_expr.specs.Promises.{Reads, EndsAt, OpensNone, level_of_form};
-ghost use Rattle.jt_expr.specs.View.{expr_view, literal_view};
+ghost use Rattle.jt_trees.specs.ExpressionView.{expr_view, literal_view};
 ghost use Rattle.jt_expr.specs.Cursor.{ahead};
 ghost use Rattle.jt_expr.specs.Words.{letters_of};
-ghost use Rattle.jt_parse.specs.Trees.{condition_levels};
+ghost use Rattle.jt_trees.specs.Statements.{condition_levels};
 ghost use Rattle.jt_parse.specs.Tags.{Separated, IsName, IsValue, IsFiltering, IsParameter};
 ghost use Rattle.jt_parse.specs.Tags.{Parameters, Condition, Context, missing_words, defaults_last};
 ghost use Rattle.jt_parse.specs.Readers as readers;
-ghost use Rattle.jt_parse.specs.View.{names_view, filtering_view, filterings_view};
-ghost use Rattle.jt_parse.specs.View.{parameter_view, parameters_view};
+ghost use Rattle.jt_trees.specs.StatementView.{names_view, filtering_view, filterings_view, parameter_view, parameters_view};
 ghost use Rattle.jt_parse.specs.HeadView.{value_view, values_view};
 
 use crate::expression::is_word;
 use crate::heads::{Head, Loop, Opening};
-use crate::tree::{Filtering, Parameter, Stmt};
-use jt_expr::{
-    Cursor, Expr, ExprError, Form, Literal, Part, Parts, arguments, copy_of, literal_of, read,
-};
+use jt_expr::{Cursor, ExprError, Form, Part, Parts, arguments, copy_of, literal_of, read};
 use jt_scan::{Sign, Token, text_value};
+use jt_trees::{Expr, Filtering, Literal, Parameter, Stmt};
 use std::alloc::Global;
 
 /// Takes the word, which must stand in front.

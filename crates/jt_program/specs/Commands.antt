@@ -7,7 +7,7 @@ use Rattle.clap.specs.Words.{Row, Text as Word}
 use Rattle.jt_scan.specs.declared.options.Options.{Options as ScanOptions}
 use Rattle.jt_value.specs.Pairs.{Pairs}
 use Rattle.jt_inherit.specs.Chains.{Given}
-use Rattle.jt_parse.specs.Trees.{Text}
+use Rattle.jt_trees.specs.Expressions.{Text}
 use Rattle.jt_value.specs.ContextView.{pairs_of}
 use Rattle.jt_value.specs.FaultText.{fault_text}
 use Rattle.jt_value.specs.declared.Fault.{Fault}

@@ -2,7 +2,7 @@
 use Rattle.std.specs.Prelude.{◌≡◌, ◌⊎◌, ℕ, List, Option, Some, None, ◌++◌, codes, Contains}
 use Rattle.std.specs.Str.{IsUtf8}
 use Rattle.jt_inherit.specs.Chains.{Given}
-use Rattle.jt_parse.specs.Trees.{Text}
+use Rattle.jt_trees.specs.Expressions.{Text}
 
 -- Files as their host knows them: what it can be asked, and what it can answer.
 pub record Known : Type 1 where

@@ -7,7 +7,7 @@ use Rattle.jt_value.specs.Pairs.{Pairs}
 use Rattle.jt_value.specs.ContextView.{pairs_of}
 use Rattle.jt_value.specs.declared.Context.{Context}
 use Rattle.jt_inherit.specs.Chains.{Given}
-use Rattle.jt_parse.specs.Trees.{Text}
+use Rattle.jt_trees.specs.Expressions.{Text}
 use Rattle.jt_codegen.specs.Compiled.{IsCompiled}
 use Rattle.jt_image.specs.Code.{Code}
 use Rattle.jt_image.specs.Spelling.{spelling}

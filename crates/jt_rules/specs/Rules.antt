@@ -1,11 +1,11 @@
 -- The static rules of names and calls, one predicate each, of one place of a chain. They are lexical, so a tag that never runs counts.
 use Rattle.std.specs.Prelude.{◌≡◌, ◌≢◌, ℕ, ◌+◌, ◌<◌, false, IsTrue, ◌⊎◌, List, [], ◌∷◌, length, codes, None}
 use Rattle.std.specs.Option.{is_some}
-use Rattle.jt_expr.specs.Trees.{Expr, name, attribute}
+use Rattle.jt_trees.specs.Expressions.{Expr, name, attribute, Text}
 use Rattle.jt_chains.specs.Uses.{count, keywords, own_names}
 use Rattle.jt_chains.specs.Chain.{Home, Template, templates, bodies, macros, macro_of, Callee, a_super, a_block, no_callee, callee, is_loop}
-use Rattle.jt_parse.specs.Texts.{ascending, repeated}
-use Rattle.jt_parse.specs.Trees.{Text, body_bound}
+use Rattle.jt_trees.specs.Texts.{ascending, repeated}
+use Rattle.jt_trees.specs.Statements.{body_bound}
 use Rattle.jt_slots.specs.Loops.{field_named}
 use Rattle.jt_slots.specs.Tests.{test_named}
 use Rattle.jt_rules.specs.Arguments.{callee_takes, test_takes, filter_takes, names_rightly}

@@ -6,10 +6,10 @@ use denote.Ref.{Bor}
 use Rattle.jt_value.specs.Tree as tree
 use Rattle.jt_ids.specs.declared.op_id.OpId.TheVariants as op
 use Rattle.jt_slots.specs.Loops.{index0}
-use Rattle.jt_expr.specs.View.{exprs_view}
-use Rattle.jt_expr.specs.declared.tree.Expr.{Expr}
-use Rattle.jt_parse.specs.View.{parameters_view}
-use Rattle.jt_parse.specs.Trees.{Text}
+use Rattle.jt_trees.specs.ExpressionView.{exprs_view}
+use Rattle.jt_trees.specs.declared.expression.Expr.{Expr}
+use Rattle.jt_trees.specs.StatementView.{parameters_view}
+use Rattle.jt_trees.specs.Expressions.{Text}
 use Rattle.jt_uses.specs.Names.{texts}
 use Rattle.jt_chains.specs.Uses.{count}
 use Rattle.jt_chains.specs.Chain.{Home, MacroBody}

@@ -2,9 +2,9 @@
 use Rattle.std.proofs.Common.{◌≡◌, ◌<◌, List, rules, Bool, Vec, Box, String, Global}
 use Rattle.std.specs.Prelude.{max}
 use denote.Param.Weighed.{most}
-use Rattle.jt_expr.specs.declared.tree.Expr.{Expr, size-Expr}
-use Rattle.jt_expr.specs.declared.tree.Expr.TheVariants as e
-use Rattle.jt_expr.specs.declared.tree.Expr.TheViews.{the_lemmas}
+use Rattle.jt_trees.specs.declared.expression.Expr.{Expr, size-Expr}
+use Rattle.jt_trees.specs.declared.expression.Expr.TheVariants as e
+use Rattle.jt_trees.specs.declared.expression.Expr.TheViews.{the_lemmas}
 
 below_call : (p : Box Expr Global) (ts : Vec Expr Global) (ps : Vec (String Global × Expr) Global)
     → max (most (λ y. size-Expr y) ts.items) (most (λ y. size-Expr y.1) ps.items) < size-Expr (e.Call p ts ps)

@@ -1,9 +1,9 @@
 -- Filters one after the other.
 use Rattle.std.proofs.Common.{◌≡◌, ℕ, ◌+◌, ◌<◌, List, [], ◌∷◌, ◌++◌, length, take, get_or, refl, sym, ap, ◌∙◌}
 use Rattle.std.proofs.lemmas.List.{take_more, map-append}
-use Rattle.jt_parse.specs.Trees as trees
-use Rattle.jt_parse.specs.View.{filtering_view, filterings_view}
-use Rattle.jt_parse.specs.declared.tree.Filtering.{Filtering}
+use Rattle.jt_trees.specs.Statements as trees
+use Rattle.jt_trees.specs.StatementView.{filtering_view, filterings_view}
+use Rattle.jt_trees.specs.declared.statement.Filtering.{Filtering}
 use Rattle.jt_slots.specs.Pool.{Constant}
 use Rattle.jt_slots.specs.Slots.{SExpr}
 use Rattle.jt_meaning.specs.Resolve.{resolved_filters}

@@ -1,7 +1,7 @@
 -- What a resolved statement puts in front of others.
 use Rattle.std.proofs.Common.{◌≡◌, ℕ, Bool, List, [], ◌∷◌, ◌++◌, map, Option, refl, sym, ap, ◌∙◌, rules, Vec, Global}
 use Rattle.std.specs.Prelude.{option_map}
-use Rattle.jt_parse.specs.Trees.{Text}
+use Rattle.jt_trees.specs.Expressions.{Text}
 use Rattle.jt_slots.specs.Slots as slots
 use Rattle.jt_slots.specs.Slots.{SBody, none}
 use Rattle.jt_slots.specs.View.{Front, slot_view, targets_view, place_view, expr_view, row_view, body_front, choice_front, stmt_step, stmt_view, body_view, choice_view}

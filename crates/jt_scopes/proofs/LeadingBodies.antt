@@ -5,7 +5,7 @@ use Rattle.std.proofs.lemmas.List.{map-append}
 use Rattle.jt_value.specs.Tree.{Tree}
 use Rattle.jt_value.specs.View.{view}
 use Rattle.jt_value.specs.declared.value.Value.{Value}
-use Rattle.jt_parse.specs.Trees.{Text}
+use Rattle.jt_trees.specs.Expressions.{Text}
 use Rattle.jt_slots.specs.Got.{Place}
 use Rattle.jt_slots.specs.Pool.{Constant, own, expr_values, condition_values, stmt_values, body_values, placed_expr, placed_condition, placed_stmt, placed_body}
 use Rattle.jt_slots.specs.Slots as slots

@@ -1,7 +1,7 @@
 -- Expressions and rows that were put behind one another.
 use Rattle.std.proofs.Common.{◌≡◌, ℕ, ◌+◌, List, [], ◌∷◌, ◌++◌, length, refl, sym, ap, ◌∙◌, subst, Bool, Some, None, append_assoc, append-nil, length-append}
 use Rattle.jt_value.specs.Tree.{Tree}
-use Rattle.jt_expr.specs.Trees as trees
+use Rattle.jt_trees.specs.Expressions as trees
 use Rattle.jt_slots.specs.Pool.{Constant, own, known, expr_values, row_values, placed_expr, placed_row}
 use Rattle.jt_slots.specs.Slots as slots
 use Rattle.jt_slots.specs.Slots.{SExpr, SRow, Maker}

@@ -1,12 +1,12 @@
 -- What is left of a row, of pairs and of statements.
 use Rattle.std.proofs.Common.{◌≡◌, ℕ, ◌+◌, ◌<◌, List, length, drop, get_or, sym, ap, ◌∙◌, String, Global, string_bytes, Vec}
 use Rattle.std.proofs.lemmas.List.{drop_more}
-use Rattle.jt_expr.specs.Trees as expressions
-use Rattle.jt_expr.specs.View as written
-use Rattle.jt_expr.specs.declared.tree.Expr.{Expr}
-use Rattle.jt_parse.specs.Trees as trees
-use Rattle.jt_parse.specs.View as parsed
-use Rattle.jt_parse.specs.declared.tree.Stmt.{Stmt}
+use Rattle.jt_trees.specs.Expressions as expressions
+use Rattle.jt_trees.specs.ExpressionView as written
+use Rattle.jt_trees.specs.declared.expression.Expr.{Expr}
+use Rattle.jt_trees.specs.Statements as trees
+use Rattle.jt_trees.specs.StatementView as parsed
+use Rattle.jt_trees.specs.declared.statement.Stmt.{Stmt}
 
 abbrev pub Pair : Type 0
 Pair = String Global × Expr

@@ -2,8 +2,8 @@
 use Rattle.std.proofs.Common.{◌≡◌, ℕ, zero, suc, ◌+◌, ◌<◌, ◌≤◌, List, [], ◌∷◌, ◌++◌, length, map, drop, get_or, refl, sym, ap, ◌∙◌, arith, Some, zero-add, add-zero, add-one}
 use Rattle.std.proofs.lemmas.List.{length-map, at_drop_all, drop_more}
 use Rattle.jt_value.specs.Tree.{Tree}
-use Rattle.jt_parse.specs.Trees.{Text}
-use Rattle.jt_parse.specs.View.{body_view, parameters_view}
+use Rattle.jt_trees.specs.Expressions.{Text}
+use Rattle.jt_trees.specs.StatementView.{body_view, parameters_view}
 use Rattle.jt_chains.specs.Chain.{BlockBody, MacroBody, all_bodies}
 use Rattle.jt_chains.specs.Parts.{block_view, macro_view, name_at}
 use Rattle.jt_chains.specs.View.{chain_view}

@@ -1,10 +1,10 @@
 -- Parameters that no argument by place fills.
 use Rattle.std.proofs.Common.{◌≡◌, ℕ, zero, suc, ◌+◌, List, [], ◌∷◌, drop, length, ◌<◌, get_or, refl, sym, ap, ◌∙◌, arith, Bool, true, false, if◌then◌else◌}
 use Rattle.std.proofs.lemmas.List.{drop-map, drop_more}
-use Rattle.jt_parse.specs.Trees.{Text}
-use Rattle.jt_parse.specs.View.{parameter_view, parameters_view}
-use Rattle.jt_parse.specs.declared.tree.Parameter.{Parameter}
-use Rattle.jt_parse.specs.Trees as trees
+use Rattle.jt_trees.specs.Expressions.{Text}
+use Rattle.jt_trees.specs.StatementView.{parameter_view, parameters_view}
+use Rattle.jt_trees.specs.declared.statement.Parameter.{Parameter}
+use Rattle.jt_trees.specs.Statements as trees
 use Rattle.jt_slots.specs.Filters.{some_given, default_value}
 use Rattle.jt_slots.specs.Pool.{own}
 use Rattle.jt_slots.specs.Slots as slots

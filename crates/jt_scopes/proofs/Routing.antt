@@ -2,7 +2,8 @@
 use Rattle.std.proofs.Common.{◌≡◌, ℕ, ◌+◌, List, [], ◌∷◌, ◌++◌, length, map, refl, sym, ap, ◌∙◌, arith, subst, max, Vec, Global, append_assoc, append-nil, length-append}
 use Rattle.std.proofs.lemmas.List.{map-append}
 use Rattle.jt_value.specs.Tree.{Tree}
-use Rattle.jt_parse.specs.Trees.{Text, Body}
+use Rattle.jt_trees.specs.Expressions.{Text}
+use Rattle.jt_trees.specs.Statements.{Body}
 use Rattle.jt_chains.specs.Chain.{Home}
 use Rattle.jt_rules.specs.World.{World}
 use Rattle.jt_meaning.specs.Resolve.{Spot, resolved_routine}

@@ -3,18 +3,18 @@ use Rattle.std.proofs.Common.{◌≡◌, ℕ, ◌+◌, ◌<◌, List, [], ◌∷
 use Rattle.std.specs.Prelude.{option_map}
 use Rattle.std.proofs.lemmas.List.{drop_more}
 use denote.Ref.{Bor}
-use Rattle.jt_expr.specs.View.{expr_view, pairs_view}
-use Rattle.jt_expr.specs.Trees as expressions
-use Rattle.jt_expr.specs.declared.tree.Expr.{Expr}
-use Rattle.jt_parse.specs.Trees as trees
-use Rattle.jt_parse.specs.Trees.{Text}
-use Rattle.jt_parse.specs.View.{names_view, filterings_view, parameters_view, stmts_of, branches_of, stmt_step, stmt_view, body_view, branches_view}
-use Rattle.jt_parse.specs.declared.tree.Filtering.{Filtering}
-use Rattle.jt_parse.specs.declared.tree.Parameter.{Parameter}
-use Rattle.jt_parse.specs.declared.tree.Stmt.{Stmt, fold-roll-Stmt}
-use Rattle.jt_parse.specs.declared.tree.Stmt.TheOpen.{Stmt-F}
-use Rattle.jt_parse.specs.declared.tree.Stmt.TheVariants as v
-use Rattle.jt_parse.specs.declared.tree.Stmt.TheVariants.{rolls-Data, rolls-Print, rolls-If, rolls-For, rolls-Set, rolls-SetBlock, rolls-With, rolls-FilterBlock, rolls-Autoescape, rolls-Macro, rolls-Include, rolls-Extends, rolls-Block}
+use Rattle.jt_trees.specs.ExpressionView.{expr_view, pairs_view}
+use Rattle.jt_trees.specs.Expressions as expressions
+use Rattle.jt_trees.specs.declared.expression.Expr.{Expr}
+use Rattle.jt_trees.specs.Statements as trees
+use Rattle.jt_trees.specs.Expressions.{Text}
+use Rattle.jt_trees.specs.StatementView.{names_view, filterings_view, parameters_view, stmts_of, branches_of, stmt_step, stmt_view, body_view, branches_view}
+use Rattle.jt_trees.specs.declared.statement.Filtering.{Filtering}
+use Rattle.jt_trees.specs.declared.statement.Parameter.{Parameter}
+use Rattle.jt_trees.specs.declared.statement.Stmt.{Stmt, fold-roll-Stmt}
+use Rattle.jt_trees.specs.declared.statement.Stmt.TheOpen.{Stmt-F}
+use Rattle.jt_trees.specs.declared.statement.Stmt.TheVariants as v
+use Rattle.jt_trees.specs.declared.statement.Stmt.TheVariants.{rolls-Data, rolls-Print, rolls-If, rolls-For, rolls-Set, rolls-SetBlock, rolls-With, rolls-FilterBlock, rolls-Autoescape, rolls-Macro, rolls-Include, rolls-Extends, rolls-Block}
 use Rattle.jt_uses.specs.Names.{texts}
 
 abbrev pub Branch : Type 0

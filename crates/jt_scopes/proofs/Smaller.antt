@@ -1,10 +1,10 @@
 -- The parts of a statement are smaller than it.
 use Rattle.std.proofs.Common.{◌≡◌, ℕ, ◌<◌, List, length, get_or, Vec, Global, String, Bool, Option, rules}
 use denote.Param.Weighed.{most}
-use Rattle.jt_expr.specs.declared.tree.Expr.{Expr}
-use Rattle.jt_parse.specs.declared.tree.Filtering.{Filtering}
-use Rattle.jt_parse.specs.declared.tree.Stmt.{Stmt, size-Stmt, the_lemmas}
-use Rattle.jt_parse.specs.declared.tree.Stmt.TheVariants as v
+use Rattle.jt_trees.specs.declared.expression.Expr.{Expr}
+use Rattle.jt_trees.specs.declared.statement.Filtering.{Filtering}
+use Rattle.jt_trees.specs.declared.statement.Stmt.{Stmt, size-Stmt, the_lemmas}
+use Rattle.jt_trees.specs.declared.statement.Stmt.TheVariants as v
 use Rattle.jt_scopes.proofs.Shown.{Branch, Pair}
 
 abbrev pub deepest : List Stmt → ℕ

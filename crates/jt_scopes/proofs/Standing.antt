@@ -4,11 +4,12 @@ use Rattle.std.specs.Prelude.{if◌then◌else◌, option_map, ◌||◌}
 use Rattle.std.specs.Option.{is_none}
 use Rattle.std.specs.Str.{bytes_eq}
 use Rattle.jt_value.specs.Tree.{Tree}
-use Rattle.jt_parse.specs.Texts.{among, ascending}
+use Rattle.jt_trees.specs.Texts.{among, ascending}
 use Rattle.jt_chains.specs.Includes.{included}
 use Rattle.jt_chains.specs.Uses.{own_names}
-use Rattle.jt_parse.specs.Trees as trees
-use Rattle.jt_parse.specs.Trees.{Text, Body}
+use Rattle.jt_trees.specs.Statements as trees
+use Rattle.jt_trees.specs.Expressions.{Text}
+use Rattle.jt_trees.specs.Statements.{Body}
 use Rattle.jt_chains.specs.Chain.{Home, macros, BlockBody, MacroBody}
 use Rattle.jt_rules.specs.World.{World}
 use Rattle.jt_slots.specs.Slots as slots

@@ -4,19 +4,18 @@ use Rattle.std.proofs.lemmas.List.{drop_more, map-append}
 use Rattle.std.specs.Prelude.{if◌then◌else◌, option_map}
 use denote.Ref.{Bor}
 use Rattle.jt_value.specs.Tree.{Tree}
-use Rattle.jt_expr.specs.Trees as expressions
-use Rattle.jt_expr.specs.Trees.{Pairs, no_pairs, pair}
-use Rattle.jt_expr.specs.View.{expr_view}
-use Rattle.jt_expr.specs.declared.tree.Expr.{Expr}
+use Rattle.jt_trees.specs.Expressions as expressions
+use Rattle.jt_trees.specs.Expressions.{Pairs, no_pairs, pair, Text}
+use Rattle.jt_trees.specs.ExpressionView.{expr_view}
+use Rattle.jt_trees.specs.declared.expression.Expr.{Expr}
 use Rattle.jt_chains.specs.Chain.{Home}
 use Rattle.jt_chains.specs.Uses.{set_in}
 use Rattle.jt_rules.specs.World.{World}
-use Rattle.jt_parse.specs.Trees as trees
-use Rattle.jt_parse.specs.Trees.{Text}
-use Rattle.jt_parse.specs.Texts.{among}
-use Rattle.jt_parse.specs.View.{names_view, stmt_view, body_view, branches_view}
-use Rattle.jt_parse.specs.declared.tree.Stmt.{Stmt}
-use Rattle.jt_parse.specs.declared.tree.Stmt.TheVariants as v
+use Rattle.jt_trees.specs.Statements as trees
+use Rattle.jt_trees.specs.Texts.{among}
+use Rattle.jt_trees.specs.StatementView.{names_view, stmt_view, body_view, branches_view}
+use Rattle.jt_trees.specs.declared.statement.Stmt.{Stmt}
+use Rattle.jt_trees.specs.declared.statement.Stmt.TheVariants as v
 use Rattle.jt_slots.specs.Got.{Place}
 use Rattle.jt_slots.specs.Pool.{Constant}
 use Rattle.jt_slots.specs.Slots as slots

@@ -1,15 +1,15 @@
 -- Expressions as they are written, form by form.
 use Rattle.std.proofs.Common.{◌≡◌, List, [], ◌∷◌, map, refl, sym, ap, ◌∙◌, Bool, Vec, Box, String, Global, string_bytes}
-use Rattle.jt_expr.specs.Trees as trees
-use Rattle.jt_expr.specs.Trees.{pair}
-use Rattle.jt_expr.specs.View.{pairs_of, expr_step, expr_view, exprs_view, pairs_view, literal_view}
-use Rattle.jt_expr.specs.declared.tree.Literal.{Literal}
-use Rattle.jt_expr.specs.declared.tree.UnaryOperator.{UnaryOperator}
-use Rattle.jt_expr.specs.declared.tree.BinaryOperator.{BinaryOperator}
-use Rattle.jt_expr.specs.declared.tree.Expr.{Expr, fold-roll-Expr}
-use Rattle.jt_expr.specs.declared.tree.Expr.TheOpen.{Expr-F}
-use Rattle.jt_expr.specs.declared.tree.Expr.TheVariants as e
-use Rattle.jt_expr.specs.declared.tree.Expr.TheVariants.{rolls-Constant, rolls-Name, rolls-Group, rolls-List, rolls-Map, rolls-Attribute, rolls-Item, rolls-Call, rolls-Filter, rolls-Test, rolls-Unary, rolls-Binary, rolls-When, rolls-Choice}
+use Rattle.jt_trees.specs.Expressions as trees
+use Rattle.jt_trees.specs.Expressions.{pair}
+use Rattle.jt_trees.specs.ExpressionView.{pairs_of, expr_step, expr_view, exprs_view, pairs_view, literal_view}
+use Rattle.jt_trees.specs.declared.expression.Literal.{Literal}
+use Rattle.jt_trees.specs.declared.expression.UnaryOperator.{UnaryOperator}
+use Rattle.jt_trees.specs.declared.expression.BinaryOperator.{BinaryOperator}
+use Rattle.jt_trees.specs.declared.expression.Expr.{Expr, fold-roll-Expr}
+use Rattle.jt_trees.specs.declared.expression.Expr.TheOpen.{Expr-F}
+use Rattle.jt_trees.specs.declared.expression.Expr.TheVariants as e
+use Rattle.jt_trees.specs.declared.expression.Expr.TheVariants.{rolls-Constant, rolls-Name, rolls-Group, rolls-List, rolls-Map, rolls-Attribute, rolls-Item, rolls-Call, rolls-Filter, rolls-Test, rolls-Unary, rolls-Binary, rolls-When, rolls-Choice}
 
 -- a view of each pair that keeps the key, and shows the expression
 pairs-map : (g : String Global × Expr → String Global × trees.Expr) → ((p : String Global × Expr) → (g p).0 ≡ p.0) → ((p : String Global × Expr) → (g p).1 ≡ expr_view p.1)

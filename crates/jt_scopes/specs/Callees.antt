@@ -1,6 +1,6 @@
 -- What only private clauses cite: what stands in front of the arguments of a call, as the code keeps it.
 use Rattle.std.specs.Prelude.{◌≡◌, ℕ, List, Option, option_map}
-use Rattle.jt_parse.specs.View.{parameters_view}
+use Rattle.jt_trees.specs.StatementView.{parameters_view}
 use Rattle.jt_chains.specs.Chain as chain
 use Rattle.jt_chains.specs.Chain.{Home, MacroBody}
 use Rattle.jt_rules.specs.World.{World}

@@ -1,7 +1,7 @@
 -- What only private clauses cite: what the routines of chains are, with the places of the pool that they fill.
 use Rattle.std.specs.Prelude.{◌≡◌, List, ◌++◌, length, map}
 use Rattle.jt_value.specs.Tree.{Tree}
-use Rattle.jt_parse.specs.Trees.{Text}
+use Rattle.jt_trees.specs.Expressions.{Text}
 use Rattle.jt_slots.specs.Pool.{Constant, body_values, routines_values, placed_routine, placed_routines}
 use Rattle.jt_slots.specs.Slots as slots
 use Rattle.jt_slots.specs.View.{routine_view}

@@ -6,7 +6,7 @@ use Rattle.std.specs.Prelude.{filter}
 use Rattle.jt_value.specs.Tree.{Tree}
 use Rattle.jt_value.specs.View.{view}
 use Rattle.jt_value.specs.declared.value.Value.{Value}
-use Rattle.jt_parse.specs.Trees.{Text}
+use Rattle.jt_trees.specs.Expressions.{Text}
 use Rattle.jt_chains.specs.Chain.{Home, BlockBody}
 use Rattle.jt_chains.specs.Parts.{name_at}
 use Rattle.jt_chains.specs.Uses.{count, keywords}
@@ -14,7 +14,7 @@ use Rattle.jt_chains.specs.Places.{home_at}
 use Rattle.jt_chains.specs.View.{chain_view}
 use Rattle.jt_rules.specs.World.{World, world_of}
 use Rattle.jt_slots.specs.Pool.{Constant, expr_values, row_values, body_values, placed_expr, placed_row, placed_body}
-use Rattle.jt_expr.specs.Trees as trees
+use Rattle.jt_trees.specs.Expressions as trees
 use Rattle.jt_slots.specs.Slots as slots
 use Rattle.jt_slots.specs.Slots.{SRow, SBody}
 use Rattle.jt_slots.specs.View.{row_view, body_view}

@@ -2,9 +2,10 @@
 use Rattle.std.specs.Prelude.{◌≡◌, ℕ, Bool, ◌+◌, List, [], ◌++◌, length, Option, Some, None, option_map, Vec, if◌then◌else◌, ◌==◌}
 use Rattle.std.specs.declared.alloc.Global.{Global}
 use Rattle.jt_value.specs.Tree.{Tree}
-use Rattle.jt_parse.specs.Trees as trees
-use Rattle.jt_parse.specs.Trees.{Text, Branches}
-use Rattle.jt_expr.specs.Trees as expressions
+use Rattle.jt_trees.specs.Statements as trees
+use Rattle.jt_trees.specs.Expressions.{Text}
+use Rattle.jt_trees.specs.Statements.{Branches}
+use Rattle.jt_trees.specs.Expressions as expressions
 use Rattle.jt_chains.specs.Chain.{Template}
 use Rattle.jt_chains.specs.Uses.{set_in}
 use Rattle.jt_slots.specs.Got as got

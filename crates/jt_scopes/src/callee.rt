@@ -1,8 +1,8 @@
 //! What stands in front of the arguments of a call.
 
 ghost use Rattle.std.specs.Prelude.{◌≡◌, List, None, IfOk, IfErr};
-ghost use Rattle.jt_expr.specs.Trees as trees;
-ghost use Rattle.jt_expr.specs.View as written;
+ghost use Rattle.jt_trees.specs.Expressions as trees;
+ghost use Rattle.jt_trees.specs.ExpressionView as written;
 ghost use Rattle.jt_chains.specs.Chain.{Home, MacroBody, macros, macro_of, callee, named_alone, named_in};
 ghost use Rattle.jt_layout.specs.Laid.{IsLaidOut};
 ghost use Rattle.jt_scopes.specs.Callees.{IsCallee};
@@ -11,10 +11,9 @@ ghost use Rattle.jt_rules.specs.World.{World};
 ghost use Rattle.jt_rules.specs.declared.error.ScopeError.TheVariants as error;
 
 use crate::lookup::more;
-use jt_expr::Expr;
 use jt_layout::Scope;
-use jt_parse::Parameter;
 use jt_rules::ScopeError;
+use jt_trees::{Expr, Parameter};
 
 /// How a macro is called: its parameters, its unit, and the place of its first default.
 #[derive(Clone, Copy)]

@@ -3,13 +3,13 @@
 ghost use Rattle.std.specs.Prelude.{◌≡◌, List, drop, IfOk, IfErr};
 ghost use Rattle.jt_value.specs.Tree.{Tree};
 ghost use Rattle.jt_value.specs.View.{view};
-ghost use Rattle.jt_expr.specs.View as written;
+ghost use Rattle.jt_trees.specs.ExpressionView as written;
 ghost use Rattle.jt_chains.specs.Uses.{keywords};
 ghost use Rattle.jt_meaning.specs.Layout.{slot_in};
 ghost use Rattle.jt_meaning.specs.Resolve as resolve;
 ghost use Rattle.jt_scopes.specs.Scoped.{values, IsPlaced, RowLeads};
-ghost use Rattle.jt_parse.specs.Texts.{among};
-ghost use Rattle.jt_parse.specs.View.{parameter_view, parameters_view};
+ghost use Rattle.jt_trees.specs.Texts.{among};
+ghost use Rattle.jt_trees.specs.StatementView.{parameter_view, parameters_view};
 ghost use Rattle.jt_rules.specs.declared.error.ScopeError.TheVariants as error;
 ghost use Rattle.jt_slots.specs.Filters.{some_given, default_value};
 ghost use Rattle.jt_slots.specs.Pool.{own};
@@ -19,10 +19,9 @@ ghost use Rattle.jt_slots.specs.View.{expr_view};
 use crate::forms::literal_value;
 use crate::lookup::{kept, more, value_or};
 use crate::pool::add_value;
-use jt_expr::Expr;
-use jt_parse::Parameter;
 use jt_rules::ScopeError;
 use jt_slots::SExpr;
+use jt_trees::{Expr, Parameter};
 use jt_value::Value;
 use std::alloc::Global;
 

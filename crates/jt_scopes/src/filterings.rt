@@ -2,7 +2,7 @@
 
 ghost use Rattle.std.specs.Prelude.{◌≡◌, List, length, IfOk, IfErr};
 ghost use Rattle.jt_value.specs.Tree.{Tree};
-ghost use Rattle.jt_parse.specs.View.{filtering_view, filterings_view};
+ghost use Rattle.jt_trees.specs.StatementView.{filtering_view, filterings_view};
 ghost use Rattle.jt_meaning.specs.Resolve.{resolved_filters};
 ghost use Rattle.jt_rules.specs.declared.error.ScopeError.TheVariants as error;
 ghost use Rattle.jt_slots.specs.Pool.{Constant};
@@ -15,9 +15,9 @@ use crate::expressions::resolve_filtered;
 use crate::lookup::absent;
 use crate::spot::Spot;
 use jt_layout::Scope;
-use jt_parse::Filtering;
 use jt_rules::ScopeError;
 use jt_slots::{SExpr, Slot, filter_of};
+use jt_trees::Filtering;
 use jt_value::Value;
 use std::alloc::Global;
 

@@ -4,7 +4,7 @@ ghost use Rattle.std.specs.Prelude.{◌≡◌, pos, IfOk, IfErr, List};
 ghost use Rattle.jt_value.specs.Tree as tree;
 ghost use Rattle.jt_value.specs.Tree.{Tree};
 ghost use Rattle.jt_value.specs.View.{view};
-ghost use Rattle.jt_expr.specs.View.{literal_view};
+ghost use Rattle.jt_trees.specs.ExpressionView.{literal_view};
 ghost use Rattle.jt_meaning.specs.Operators as operators;
 ghost use Rattle.jt_ids.specs.declared.op_id.OpId.TheVariants.{Remainder};
 ghost use Rattle.jt_meaning.specs.Resolve as resolve;
@@ -18,10 +18,10 @@ ghost use Rattle.jt_scopes.specs.Formed.{form_view};
 ghost use Rattle.jt_scopes.specs.Scoped.{values, IsPlaced};
 
 use crate::pool::add_value;
-use jt_expr::{BinaryOperator, Literal, UnaryOperator};
 use jt_ids::OpId;
 use jt_rules::ScopeError;
 use jt_slots::{Field, Maker, SExpr};
+use jt_trees::{BinaryOperator, Literal, UnaryOperator};
 use jt_value::Value;
 use std::alloc::Global;
 

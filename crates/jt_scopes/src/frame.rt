@@ -1,7 +1,7 @@
 //! Names of a scope, in locals one behind the other.
 
 ghost use Rattle.std.specs.Prelude.{◌≡◌, IfOk, IfErr, None};
-ghost use Rattle.jt_parse.specs.Trees.{Text};
+ghost use Rattle.jt_trees.specs.Expressions.{Text};
 ghost use Rattle.jt_rules.specs.declared.error.ScopeError.TheVariants as error;
 ghost use Rattle.jt_layout.specs.Names.{place_in};
 ghost use Rattle.jt_uses.specs.Names.{texts};

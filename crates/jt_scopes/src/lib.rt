@@ -1,8 +1,8 @@
 //! Names to slots: a chain becomes a program.
 //!
-//! `resolve` (resolving) checks the rules, has the chains laid out, and resolves one chain after the other (homes): its
-//! statements (routines, statements), and the expressions in them (expressions), where names stand in frames (frame, spot)
-//! and values in a pool (pool, shared).
+//! `resolved` (resolving) has the chains laid out, and resolves one chain after the other (homes): its statements (routines,
+//! statements), and the expressions in them (expressions), where names stand in frames (frame, spot) and values in a pool
+//! (pool, shared). Whether the chains keep the rules is another crate's matter.
 #![tactic(auto)]
 
 mod blocks;
@@ -30,4 +30,4 @@ mod statements;
 mod targets;
 
 pub use jt_rules::ScopeError;
-pub use resolving::resolve;
+pub use resolving::resolved;

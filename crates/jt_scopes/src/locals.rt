@@ -1,7 +1,7 @@
 //! How many locals resolved statements use: one more than the last one that is stored or loaded.
 
 ghost use Rattle.std.specs.Prelude.{◌≡◌, ℕ, List, max, option_map, map, IfOk, IfErr};
-ghost use Rattle.jt_parse.specs.Trees.{Text};
+ghost use Rattle.jt_trees.specs.Expressions.{Text};
 ghost use Rattle.jt_rules.specs.declared.error.ScopeError.TheVariants as error;
 ghost use Rattle.jt_scopes.specs.Counts as counts;
 ghost use Rattle.jt_slots.specs.Locals as locals;

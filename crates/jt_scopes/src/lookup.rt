@@ -2,7 +2,7 @@
 
 ghost use Rattle.std.specs.Prelude.{◌≡◌, ◌+◌, List, option_map, IfOk, IfErr};
 ghost use Rattle.jt_value.specs.Tree.{Tree};
-ghost use Rattle.jt_expr.specs.View as written;
+ghost use Rattle.jt_trees.specs.ExpressionView as written;
 ghost use Rattle.jt_chains.specs.Uses.{keywords};
 ghost use Rattle.jt_meaning.specs.Layout.{slot_in};
 ghost use Rattle.jt_meaning.specs.Resolve as resolve;
@@ -14,10 +14,10 @@ ghost use Rattle.jt_layout.specs.Laid.{IsLaidOut};
 ghost use Rattle.jt_scopes.specs.Scoped.{IsPlaced, globals_in, spot_in};
 
 use crate::spot::Spot;
-use jt_expr::Expr;
 use jt_layout::Scope;
 use jt_rules::ScopeError;
 use jt_slots::{SExpr, Slot};
+use jt_trees::Expr;
 
 /// One more, or so many more.
 pub(crate) fn more(count: usize, by: usize) -> Result<usize, ScopeError>

@@ -2,7 +2,7 @@
 
 ghost use Rattle.std.specs.Prelude.{◌≡◌, List, option_map};
 ghost use Rattle.jt_value.specs.Tree.{Tree};
-ghost use Rattle.jt_expr.specs.View as written;
+ghost use Rattle.jt_trees.specs.ExpressionView as written;
 ghost use Rattle.jt_chains.specs.Chain.{is_loop};
 ghost use Rattle.jt_meaning.specs.Resolve as resolve;
 ghost use Rattle.jt_slots.specs.Loops.{field_named};
@@ -10,8 +10,8 @@ ghost use Rattle.jt_slots.specs.View.{field_view, expr_view};
 ghost use Rattle.jt_scopes.specs.Scoped.{IsPlaced};
 
 use crate::lookup::absent;
-use jt_expr::Expr;
 use jt_slots::{Field, SExpr};
+use jt_trees::Expr;
 
 /// Whether an expression is the bare name `loop`.
 pub(crate) fn is_loop_name(expr: &Expr) -> bool

@@ -6,12 +6,12 @@ ghost use Rattle.jt_layout.specs.declared.scope.Scope.{Scope};
 ghost use Rattle.jt_meaning.specs.Resolve as resolve;
 ghost use Rattle.jt_meaning.specs.Layout.{slot_in};
 ghost use Rattle.jt_scopes.specs.Scoped.{IsPlaced, globals_in, spot_in, templates_in};
-ghost use Rattle.jt_parse.specs.Trees as trees;
+ghost use Rattle.jt_trees.specs.Statements as trees;
 ghost use Rattle.jt_rules.specs.declared.error.ScopeError.TheVariants as error;
 ghost use Rattle.jt_slots.specs.View.{expr_view};
 ghost use Rattle.jt_uses.specs.Names.{texts};
 ghost use Rattle.jt_value.specs.Tree.{Tree};
-ghost use Rattle.jt_parse.specs.Trees.{Body};
+ghost use Rattle.jt_trees.specs.Statements.{Body};
 ghost use Rattle.jt_scopes.specs.Stated.{Led, line_in, stmt_in};
 
 use crate::blocks::{block_arguments, first_body};

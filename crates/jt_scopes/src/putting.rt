@@ -6,7 +6,7 @@ ghost use Rattle.jt_value.specs.Tree.{Tree};
 ghost use Rattle.jt_layout.specs.declared.scope.Scope.{Scope};
 ghost use Rattle.jt_meaning.specs.Resolve.{alone};
 ghost use Rattle.jt_scopes.specs.Scoped.{values, IsPlaced, RowLeads, templates_in};
-ghost use Rattle.jt_parse.specs.Trees.{Text};
+ghost use Rattle.jt_trees.specs.Expressions.{Text};
 ghost use Rattle.jt_rules.specs.declared.error.ScopeError.TheVariants as error;
 ghost use Rattle.jt_slots.specs.Pool.{Constant, own};
 ghost use Rattle.jt_slots.specs.Slots as slots;

@@ -7,16 +7,15 @@ ghost use Rattle.jt_layout.specs.Laid.{IsLaidOut};
 ghost use Rattle.jt_meaning.specs.Layout as layout;
 ghost use Rattle.jt_meaning.specs.Layout.{defaults_of};
 ghost use Rattle.jt_scopes.specs.Scoped.{values, world_in, order_in};
-ghost use Rattle.jt_parse.specs.View.{parameter_view};
+ghost use Rattle.jt_trees.specs.StatementView.{parameter_view};
 ghost use Rattle.jt_rules.specs.declared.error.ScopeError.TheVariants as error;
 ghost use Rattle.jt_slots.specs.Filters.{default_value};
 ghost use Rattle.jt_value.specs.View.{view};
 
 use jt_chains::Macro;
-use jt_expr::Literal;
 use jt_layout::Scope;
-use jt_parse::Parameter;
 use jt_rules::ScopeError;
+use jt_trees::{Literal, Parameter};
 use jt_value::Value;
 use std::alloc::Global;
 

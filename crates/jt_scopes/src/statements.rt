@@ -1,12 +1,12 @@
 //! Resolves statements: names to slots, and literals and data to places of a pool.
 
 ghost use Rattle.std.specs.Prelude.{◌≡◌, ℕ, option_map, IfOk, IfErr};
-ghost use Rattle.jt_expr.specs.View as written;
+ghost use Rattle.jt_trees.specs.ExpressionView as written;
 ghost use Rattle.jt_layout.specs.Laid.{IsLaidOut};
 ghost use Rattle.jt_meaning.specs.Resolve as resolve;
 ghost use Rattle.jt_scopes.specs.Scoped.{values, BodyLeads, expr_in, spot_in, templates_in, world_in, order_in};
-ghost use Rattle.jt_parse.specs.Trees as trees;
-ghost use Rattle.jt_parse.specs.View.{stmt_view, body_view, filterings_view, names_view};
+ghost use Rattle.jt_trees.specs.Statements as trees;
+ghost use Rattle.jt_trees.specs.StatementView.{stmt_view, body_view, filterings_view, names_view};
 ghost use Rattle.jt_rules.specs.declared.error.ScopeError.TheVariants as error;
 ghost use Rattle.jt_slots.specs.Pool.{Constant};
 ghost use Rattle.jt_slots.specs.Slots.{SBody};
@@ -21,11 +21,10 @@ use crate::placing::{put_block, put_include};
 use crate::putting::{put_assign, put_capture, put_choice, put_data, put_loop, put_print};
 use crate::spot::Spot;
 use crate::targets::{fresh_targets, set_slot, set_targets};
-use jt_expr::Expr;
 use jt_layout::Scope;
-use jt_parse::{Filtering, Stmt};
 use jt_rules::ScopeError;
 use jt_slots::{Place, SExpr, SStmt, Slot, Targets};
+use jt_trees::{Expr, Filtering, Stmt};
 use jt_uses::set_names;
 use jt_value::Value;
 use std::alloc::Global;

@@ -6,7 +6,7 @@ ghost use Rattle.jt_meaning.specs.Resolve as resolve;
 ghost use Rattle.jt_meaning.specs.Layout.{slot_in};
 ghost use Rattle.jt_scopes.specs.Names.{last_among};
 ghost use Rattle.jt_scopes.specs.Scoped.{spot_in};
-ghost use Rattle.jt_parse.specs.View.{names_view};
+ghost use Rattle.jt_trees.specs.StatementView.{names_view};
 ghost use Rattle.jt_rules.specs.declared.error.ScopeError.TheVariants as error;
 ghost use Rattle.jt_slots.specs.View.{slot_view, targets_view};
 ghost use Rattle.jt_uses.specs.Names.{texts};

@@ -4,11 +4,11 @@ use Rattle.jt_value.specs.Tree as tree
 use Rattle.jt_value.specs.Tree.{Tree}
 use Rattle.jt_value.specs.Pairs.{Pairs, look}
 use Rattle.jt_value.specs.declared.fault.Fault.{Fault}
-use Rattle.jt_expr.specs.Trees as trees
-use Rattle.jt_expr.specs.Trees.{Literal, Exprs}
-use Rattle.jt_parse.specs.Texts.{among}
+use Rattle.jt_trees.specs.Expressions as trees
+use Rattle.jt_trees.specs.Expressions.{Literal, Exprs, Text}
+use Rattle.jt_trees.specs.Texts.{among}
 use Rattle.jt_slots.specs.Values.{literal}
-use Rattle.jt_parse.specs.Trees.{Text, Parameter}
+use Rattle.jt_trees.specs.Statements.{Parameter}
 
 pub record Filters : Type 0 where
   -- the filter that a name means, with its arguments as they are written, by its number

@@ -7,9 +7,9 @@ use Rattle.jt_ids.specs.declared.filter_id.FilterId.{FilterId}
 use Rattle.jt_ids.specs.declared.filter_id.Naming.{Naming}
 use Rattle.jt_ids.specs.declared.filter_id.Naming.TheVariants as naming
 use Rattle.jt_ids.specs.FilterTable.{filter_of_name, least_values, most_values, may_be_inner, named_at, place_of}
-use Rattle.jt_expr.specs.Named.{literal_text}
-use Rattle.jt_expr.specs.Trees as trees
-use Rattle.jt_expr.specs.Trees.{Text, Exprs, no_exprs, expr, count, no_pairs, pair}
+use Rattle.jt_trees.specs.Written.{literal_text}
+use Rattle.jt_trees.specs.Expressions as trees
+use Rattle.jt_trees.specs.Expressions.{Text, Exprs, no_exprs, expr, count, no_pairs, pair}
 use Rattle.jt_slots.specs.Tests.{test_named}
 
 -- a filter is called that `map` may call, with as many values as it takes; one that there is not is the parser's matter

@@ -6,7 +6,7 @@ use Rattle.jt_value.specs.Tree.{Tree, Items, no_items, item}
 use Rattle.jt_value.specs.Iteration.{items_of_tree}
 use Rattle.jt_value.specs.declared.fault.Fault.{Fault}
 use Rattle.jt_value.specs.declared.fault.Fault.TheVariants as faults
-use Rattle.jt_parse.specs.Trees.{Text}
+use Rattle.jt_trees.specs.Expressions.{Text}
 use Rattle.jt_slots.specs.Got.{Got, deeper, checked}
 
 abbrev pub items_listed : Items → List Tree

@@ -13,7 +13,7 @@ use Rattle.jt_ops.specs.Testing.{tested}
 use Rattle.jt_ops.specs.Making.{listed, mapped}
 use Rattle.jt_slots.specs.Got.{Place, Got, gives, fails, deeper, bind, checked, at}
 use Rattle.jt_slots.specs.Values.{shown, bytes_of, value_in, as_value}
-use Rattle.jt_parse.specs.Trees.{Text}
+use Rattle.jt_trees.specs.Expressions.{Text}
 use Rattle.jt_slots.specs.Loops.{Loop, Field, loop_field, items_of_value, tree_at}
 use Rattle.jt_slots.specs.Filters.{Filters}
 

@@ -3,12 +3,12 @@ use Rattle.std.specs.Prelude.{false, pos, List, [], ◌∷◌, Option, Some, Non
 use Rattle.jt_ids.specs.declared.filter_id.FilterId.{FilterId}
 use Rattle.jt_ids.specs.declared.filter_id.FilterId.TheVariants as filter
 use Rattle.jt_ids.specs.FilterTable.{filter_id, argument_names}
-unfoldable pub use Rattle.jt_filters.specs.FilterIds.{filter_of}
-use Rattle.jt_filters.specs.FilterIds.{accepts, filtered_by}
-unfoldable pub use Rattle.jt_expr.specs.Named.{filter_written}
-use Rattle.jt_expr.specs.Trees as trees
-use Rattle.jt_expr.specs.Trees.{Literal}
-use Rattle.jt_parse.specs.Trees.{Text, Parameter}
+unfoldable pub use Rattle.jt_filtering.specs.FilterIds.{filter_of}
+use Rattle.jt_filtering.specs.FilterIds.{accepts, filtered_by}
+unfoldable pub use Rattle.jt_trees.specs.Written.{filter_written}
+use Rattle.jt_trees.specs.Expressions as trees
+use Rattle.jt_trees.specs.Expressions.{Literal, Text}
+use Rattle.jt_trees.specs.Statements.{Parameter}
 use Rattle.jt_slots.specs.Filters.{Filters}
 use Rattle.jt_slots.specs.Inside.{inside_of}
 

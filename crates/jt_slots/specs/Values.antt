@@ -5,9 +5,8 @@ use Rattle.jt_value.specs.Tree.{Tree}
 use Rattle.jt_value.specs.Pairs.{Pairs, look}
 use Rattle.jt_value.specs.declared.fault.Fault.TheVariants as faults
 use Rattle.jt_escape.specs.Escaping.{escaped}
-use Rattle.jt_expr.specs.Trees as trees
-use Rattle.jt_expr.specs.Trees.{Literal}
-use Rattle.jt_parse.specs.Trees.{Text}
+use Rattle.jt_trees.specs.Expressions as trees
+use Rattle.jt_trees.specs.Expressions.{Literal, Text}
 use Rattle.jt_slots.specs.Got.{Got, gives, fails}
 
 abbrev pub literal : Literal → Tree

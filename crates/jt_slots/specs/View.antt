@@ -3,7 +3,7 @@ use Rattle.std.specs.Prelude.{ℕ, List, [], ◌∷◌, map, string_bytes, Vec, 
 use Rattle.std.specs.declared.alloc.Global.{Global}
 use Rattle.jt_value.specs.View.{view}
 use Rattle.jt_ids.specs.FilterTable.{filter_id}
-use Rattle.jt_parse.specs.Trees.{Text}
+use Rattle.jt_trees.specs.Expressions.{Text}
 use Rattle.jt_slots.specs.Got as got
 use Rattle.jt_slots.specs.Loops as loops
 use Rattle.jt_slots.specs.Slots as slots

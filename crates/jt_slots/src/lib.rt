@@ -4,6 +4,6 @@
 mod named;
 mod program;
 
-pub use jt_expr::filter_of;
+pub use jt_trees::filter_of;
 pub use named::{filter_parameters, test_of};
 pub use program::{Field, Maker, Place, Program, Routine, SExpr, SStmt, Slot, Targets};

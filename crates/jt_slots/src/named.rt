@@ -1,15 +1,14 @@
 //! Tests by their names, and the arguments of filters.
 
 ghost use Rattle.std.specs.Prelude.{◌≡◌, ◌∷◌, [], option_map, IfOk};
-ghost use Rattle.jt_expr.specs.View.{literal_view};
-ghost use Rattle.jt_parse.specs.View.{parameter_view, parameters_view};
+ghost use Rattle.jt_trees.specs.ExpressionView.{literal_view};
+ghost use Rattle.jt_trees.specs.StatementView.{parameter_view, parameters_view};
 ghost use Rattle.jt_ids.specs.declared.filter_id.FilterId.TheVariants as filter;
 ghost use Rattle.jt_slots.specs.Tests as tests;
 ghost use Rattle.jt_slots.specs.TheFilters as the;
 
-use jt_expr::Literal;
 use jt_ids::{FilterId, TestId};
-use jt_parse::Parameter;
+use jt_trees::{Literal, Parameter};
 use std::alloc::{AllocError, Global};
 
 /// The test of a name; none where no test has it.

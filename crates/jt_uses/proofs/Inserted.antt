@@ -10,16 +10,16 @@ use Rattle.std.specs.Prelude.{IsOk}
 use Rattle.std.proofs.lemmas.Cmp.{nat_list_eq_equiv}
 use Rattle.std.proofs.lemmas.Map.Text.{is_eq-slice_cmp}
 use denote.Ref.{Bor}
-use Rattle.jt_parse.specs.Trees.{Text}
-use Rattle.jt_expr.specs.View as written
-use Rattle.jt_parse.specs.View as parsed
-use Rattle.jt_expr.specs.declared.tree.Expr.{Expr}
+use Rattle.jt_trees.specs.Expressions.{Text}
+use Rattle.jt_trees.specs.ExpressionView as written
+use Rattle.jt_trees.specs.StatementView as parsed
+use Rattle.jt_trees.specs.declared.expression.Expr.{Expr}
 use Rattle.std.proofs.lemmas.List.{drop_more}
-use Rattle.jt_parse.specs.declared.tree.Stmt.{Stmt}
-use Rattle.jt_parse.specs.declared.tree.Filtering.{Filtering}
+use Rattle.jt_trees.specs.declared.statement.Stmt.{Stmt}
+use Rattle.jt_trees.specs.declared.statement.Filtering.{Filtering}
 use Rattle.jt_chains.specs.Uses.{expr_names, row_names, pair_names, stmt_names, body_names, branch_names, filtering_names}
 use Rattle.jt_uses.proofs.Left.{Branch, Entry, row_left, pairs_left, statements_left, branches_left}
-use Rattle.jt_parse.specs.Texts.{inserted, all_inserted}
+use Rattle.jt_trees.specs.Texts.{inserted, all_inserted}
 use Rattle.jt_uses.specs.Names.{texts}
 
 pub symmetric : (x y : Text) → bytes_eq x y ≡ bytes_eq y x

@@ -1,12 +1,12 @@
 -- What is left of rows, pairs, statements and branches.
 use Rattle.std.proofs.Common.{◌≡◌, ℕ, ◌+◌, ◌<◌, List, length, drop, get_or, sym, ap, ◌∙◌, String, Global, string_bytes, Vec}
 use Rattle.std.proofs.lemmas.List.{drop_more}
-use Rattle.jt_parse.specs.Trees as trees
-use Rattle.jt_expr.specs.Trees as expressions
-use Rattle.jt_expr.specs.View as written
-use Rattle.jt_parse.specs.View as parsed
-use Rattle.jt_expr.specs.declared.tree.Expr.{Expr}
-use Rattle.jt_parse.specs.declared.tree.Stmt.{Stmt}
+use Rattle.jt_trees.specs.Statements as trees
+use Rattle.jt_trees.specs.Expressions as expressions
+use Rattle.jt_trees.specs.ExpressionView as written
+use Rattle.jt_trees.specs.StatementView as parsed
+use Rattle.jt_trees.specs.declared.expression.Expr.{Expr}
+use Rattle.jt_trees.specs.declared.statement.Stmt.{Stmt}
 
 pub statements_left : (ss : List Stmt) (i : ℕ) (s : Stmt) → i < length ss → s ≡ get_or ss i s → parsed.body_view (drop i ss) ≡ trees.stmt (parsed.stmt_view s) (parsed.body_view (drop (i + 1) ss))
 statements_left ss i s lt is = ap parsed.body_view (drop_more ss i s lt) ∙ ap (λ (z : Stmt). trees.stmt (parsed.stmt_view z) (parsed.body_view (drop (i + 1) ss))) (sym is)

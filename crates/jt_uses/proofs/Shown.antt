@@ -2,17 +2,18 @@
 use Rattle.std.proofs.Common.{◌≡◌, ℕ, Bool, List, sym, ap, ◌∙◌, Option, Vec, Box, String, Global, string_bytes}
 use Rattle.std.proofs.Common.{rules}
 use Rattle.std.specs.Prelude.{option_map}
-use Rattle.jt_expr.specs.Trees as trees
-use Rattle.jt_parse.specs.Trees as written
-use Rattle.jt_parse.specs.View.{stmt_view, body_view, branches_view, names_view, filterings_view, parameters_view}
-use Rattle.jt_parse.specs.declared.tree.Stmt.{Stmt, the_lemmas}
-use Rattle.jt_parse.specs.declared.tree.Stmt.TheVariants as statement
-use Rattle.jt_parse.specs.declared.tree.Filtering.{Filtering}
-use Rattle.jt_parse.specs.declared.tree.Parameter.{Parameter}
-use Rattle.jt_expr.specs.declared.tree.BinaryOperator.{BinaryOperator}
-use Rattle.jt_expr.specs.View.{expr_view, exprs_view, pairs_view}
-use Rattle.jt_expr.specs.declared.tree.Expr.{Expr}
-use Rattle.jt_expr.specs.declared.tree.Expr.TheVariants as e
+use Rattle.jt_trees.specs.Expressions as trees
+use Rattle.jt_trees.specs.Expressions.{Text}
+use Rattle.jt_trees.specs.Statements as written
+use Rattle.jt_trees.specs.StatementView.{stmt_view, body_view, branches_view, names_view, filterings_view, parameters_view}
+use Rattle.jt_trees.specs.declared.statement.Stmt.{Stmt, the_lemmas}
+use Rattle.jt_trees.specs.declared.statement.Stmt.TheVariants as statement
+use Rattle.jt_trees.specs.declared.statement.Filtering.{Filtering}
+use Rattle.jt_trees.specs.declared.statement.Parameter.{Parameter}
+use Rattle.jt_trees.specs.declared.expression.BinaryOperator.{BinaryOperator}
+use Rattle.jt_trees.specs.ExpressionView.{expr_view, exprs_view, pairs_view}
+use Rattle.jt_trees.specs.declared.expression.Expr.{Expr}
+use Rattle.jt_trees.specs.declared.expression.Expr.TheVariants as e
 use Rattle.jt_uses.proofs.Views.{view-Attribute, view-Item, view-Map, view-Call, view-Filter, view-Test, view-Binary, view-When, view-Choice, view-If}
 use Rattle.jt_uses.proofs.Left.{Branch}
 
@@ -94,7 +95,7 @@ shown_for s line xs e c body other xs' body' other' is p q r = rw (p, q, r) (sym
 pub shown_set : (s : Stmt) (line : ℕ) (xs : Vec (String Global) Global) (e : Expr) (xs' : List (String Global)) → s ≡ statement.Set line xs e → xs' ≡ xs.items → written.set line (names_view xs') (expr_view e) ≡ stmt_view s
 shown_set s line xs e xs' is p = rw p (sym (ap stmt_view is ∙ shown_Set line xs e))
 
-pub shown_set_block : (s : Stmt) (line : ℕ) (x : String Global) (body : Vec Stmt Global) (x' : written.Text) (body' : List Stmt) → s ≡ statement.SetBlock line x body → x' ≡ string_bytes x → body' ≡ body.items
+pub shown_set_block : (s : Stmt) (line : ℕ) (x : String Global) (body : Vec Stmt Global) (x' : Text) (body' : List Stmt) → s ≡ statement.SetBlock line x body → x' ≡ string_bytes x → body' ≡ body.items
     → written.set_block line x' (body_view body') ≡ stmt_view s
 shown_set_block s line x body x' body' is p q = rw (p, q) (sym (ap stmt_view is ∙ shown_SetBlock line x body))
 

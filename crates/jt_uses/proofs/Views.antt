@@ -1,18 +1,18 @@
 -- Expressions and statements as they are written, by their forms.
 use Rattle.std.proofs.Common.{◌≡◌, List, [], ◌∷◌, map, refl, sym, ap, ◌∙◌, Bool, Vec, Box, String, Global, string_bytes, ℕ}
-use Rattle.jt_expr.specs.Trees as trees
-use Rattle.jt_expr.specs.Trees.{pair}
-use Rattle.jt_expr.specs.View.{pairs_of, expr_step, expr_view, exprs_view, pairs_view}
-use Rattle.jt_expr.specs.declared.tree.BinaryOperator.{BinaryOperator}
-use Rattle.jt_expr.specs.declared.tree.Expr.{Expr, fold-roll-Expr}
-use Rattle.jt_expr.specs.declared.tree.Expr.TheOpen.{Expr-F}
-use Rattle.jt_expr.specs.declared.tree.Expr.TheVariants as e
-use Rattle.jt_expr.specs.declared.tree.Expr.TheVariants.{rolls-Map, rolls-Attribute, rolls-Item, rolls-Call, rolls-Filter, rolls-Test, rolls-Binary, rolls-When, rolls-Choice}
-use Rattle.jt_parse.specs.Trees as written
-use Rattle.jt_parse.specs.View.{stmts_of, branches_of, stmt_step, stmt_view, body_view, branches_view}
-use Rattle.jt_parse.specs.declared.tree.Stmt.{Stmt, fold-roll-Stmt}
-use Rattle.jt_parse.specs.declared.tree.Stmt.TheOpen.{Stmt-F}
-use Rattle.jt_parse.specs.declared.tree.Stmt.TheVariants.{If, rolls-If}
+use Rattle.jt_trees.specs.Expressions as trees
+use Rattle.jt_trees.specs.Expressions.{pair}
+use Rattle.jt_trees.specs.ExpressionView.{pairs_of, expr_step, expr_view, exprs_view, pairs_view}
+use Rattle.jt_trees.specs.declared.expression.BinaryOperator.{BinaryOperator}
+use Rattle.jt_trees.specs.declared.expression.Expr.{Expr, fold-roll-Expr}
+use Rattle.jt_trees.specs.declared.expression.Expr.TheOpen.{Expr-F}
+use Rattle.jt_trees.specs.declared.expression.Expr.TheVariants as e
+use Rattle.jt_trees.specs.declared.expression.Expr.TheVariants.{rolls-Map, rolls-Attribute, rolls-Item, rolls-Call, rolls-Filter, rolls-Test, rolls-Binary, rolls-When, rolls-Choice}
+use Rattle.jt_trees.specs.Statements as written
+use Rattle.jt_trees.specs.StatementView.{stmts_of, branches_of, stmt_step, stmt_view, body_view, branches_view}
+use Rattle.jt_trees.specs.declared.statement.Stmt.{Stmt, fold-roll-Stmt}
+use Rattle.jt_trees.specs.declared.statement.Stmt.TheOpen.{Stmt-F}
+use Rattle.jt_trees.specs.declared.statement.Stmt.TheVariants.{If, rolls-If}
 use Rattle.jt_uses.proofs.Left.{Branch}
 
 -- a view of each pair that keeps the key, and shows the expression

@@ -1,8 +1,8 @@
 //! The names of chains.
 
 ghost use Rattle.std.specs.Prelude.{◌≡◌, ◌<◌, length, IfOk};
-ghost use Rattle.jt_parse.specs.Texts.{ascending};
-ghost use Rattle.jt_parse.specs.View.{body_view};
+ghost use Rattle.jt_trees.specs.Texts.{ascending};
+ghost use Rattle.jt_trees.specs.StatementView.{body_view};
 ghost use Rattle.jt_chains.specs.Places.{home_at};
 ghost use Rattle.jt_chains.specs.Uses as uses;
 ghost use Rattle.jt_chains.specs.View.{chain_view, sources_of};
@@ -12,7 +12,7 @@ use crate::own::{add_name, add_statements};
 use crate::scopes::add_scopes;
 use crate::sets::add_sets;
 use jt_chains::Chain;
-use jt_parse::Stmt;
+use jt_trees::Stmt;
 use std::alloc::{AllocError, Global};
 use std::collections::BTreeSet;
 

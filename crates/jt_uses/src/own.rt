@@ -1,15 +1,14 @@
 //! The different names that a chain reads or binds.
 
 ghost use Rattle.std.specs.Prelude.{◌≡◌, ◌++◌, if◌then◌else◌, [], map, option_map, IfOk, IsOk};
-ghost use Rattle.jt_expr.specs.View.{expr_view, exprs_view, pairs_view};
-ghost use Rattle.jt_parse.specs.Texts.{inserted, all_inserted};
+ghost use Rattle.jt_trees.specs.ExpressionView.{expr_view, exprs_view, pairs_view};
+ghost use Rattle.jt_trees.specs.Texts.{inserted, all_inserted};
 ghost use Rattle.jt_chains.specs.Chain.{is_loop};
-ghost use Rattle.jt_parse.specs.View.{stmt_view, body_view, branches_view, names_view, filterings_view, parameters_view};
+ghost use Rattle.jt_trees.specs.StatementView.{stmt_view, body_view, branches_view, names_view, filterings_view, parameters_view};
 ghost use Rattle.jt_chains.specs.Uses.{expr_names, row_names, pair_names, condition_names, filtering_names, stmt_names, body_names, branch_names, keywords};
 ghost use Rattle.jt_uses.specs.Names.{texts};
 
-use jt_expr::Expr;
-use jt_parse::{Filtering, Parameter, Stmt};
+use jt_trees::{Expr, Filtering, Parameter, Stmt};
 use std::alloc::AllocError;
 use std::collections::BTreeSet;
 

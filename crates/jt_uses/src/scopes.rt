@@ -1,14 +1,13 @@
 //! The names that scopes bind: targets of loops, parameters, values of `with`, and what is set in a scope.
 
 ghost use Rattle.std.specs.Prelude.{◌≡◌, ◌++◌, map, IfOk};
-ghost use Rattle.jt_expr.specs.View.{pairs_view};
+ghost use Rattle.jt_trees.specs.ExpressionView.{pairs_view};
 ghost use Rattle.jt_chains.specs.Uses.{keywords, set_in, scope_names_by, scope_names_in};
-ghost use Rattle.jt_parse.specs.View.{stmt_view, body_view, parameters_view};
+ghost use Rattle.jt_trees.specs.StatementView.{stmt_view, body_view, parameters_view};
 ghost use Rattle.jt_uses.specs.Names.{texts};
 
 use crate::sets::{add_sets, add_targets};
-use jt_expr::Expr;
-use jt_parse::{Parameter, Stmt};
+use jt_trees::{Expr, Parameter, Stmt};
 use std::alloc::AllocError;
 
 /// Adds the keys of pairs.

@@ -2,10 +2,10 @@
 
 ghost use Rattle.std.specs.Prelude.{◌≡◌, ◌++◌, IfOk};
 ghost use Rattle.jt_chains.specs.Uses.{set_by, set_in};
-ghost use Rattle.jt_parse.specs.View.{stmt_view, body_view, names_view};
+ghost use Rattle.jt_trees.specs.StatementView.{stmt_view, body_view, names_view};
 ghost use Rattle.jt_uses.specs.Names.{texts};
 
-use jt_parse::Stmt;
+use jt_trees::Stmt;
 use std::alloc::AllocError;
 
 /// Adds the names of targets.

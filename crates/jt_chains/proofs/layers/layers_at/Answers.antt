@@ -1,7 +1,8 @@
 use Rattle.std.proofs.Common.{List, [], ◌∷◌, map, sym, ap, ◌∙◌, get_or}
 use Rattle.std.proofs.lemmas.List.{map-append}
-use Rattle.jt_parse.specs.Trees.{Text, Body}
-use Rattle.jt_parse.specs.View.{body_view}
+use Rattle.jt_trees.specs.Expressions.{Text}
+use Rattle.jt_trees.specs.Statements.{Body}
+use Rattle.jt_trees.specs.StatementView.{body_view}
 use Rattle.jt_chains.specs.Chain.{Template}
 use Rattle.jt_chains.specs.Layers.{layer_view}
 use Rattle.jt_chains.specs.Pages.{pages_view}

@@ -1,10 +1,10 @@
 use Rattle.std.proofs.Common.{◌≡◌, ℕ, Bool, Vec, Global, List, ◌++◌, refl, sym, ap, ◌∙◌, rules}
 use Rattle.std.proofs.lemmas.List.{at_drop_all, append-nil}
 use Rattle.std.proofs.lemmas.Result.{IfOk-weaker}
-use Rattle.jt_parse.specs.View.{stmt_view, body_view, branches_view}
-use Rattle.jt_parse.specs.declared.tree.Stmt.{Stmt, the_lemmas}
-use Rattle.jt_parse.specs.declared.tree.Stmt.TheVariants.{Autoescape}
-use Rattle.jt_parse.specs.Trees as trees
+use Rattle.jt_trees.specs.StatementView.{stmt_view, body_view, branches_view}
+use Rattle.jt_trees.specs.declared.statement.Stmt.{Stmt, the_lemmas}
+use Rattle.jt_trees.specs.declared.statement.Stmt.TheVariants.{Autoescape}
+use Rattle.jt_trees.specs.Statements as trees
 use Rattle.jt_chains.specs.Chain.{blocks_of, blocks_in, blocks_under}
 use Rattle.jt_chains.specs.Pages.{pages_view}
 use Rattle.jt_chains.specs.Parts.{blocks_view, name_at}

@@ -1,5 +1,5 @@
 use Rattle.std.proofs.Common.{◌≡◌, ◌++◌, drop}
-use Rattle.jt_parse.specs.View.{body_view}
+use Rattle.jt_trees.specs.StatementView.{body_view}
 use Rattle.jt_chains.specs.Chain.{macros_in}
 use Rattle.jt_chains.specs.Pages.{pages_view}
 use Rattle.jt_chains.specs.Parts.{macros_view, name_at}

@@ -1,5 +1,5 @@
 use Rattle.std.proofs.Common.{length, drop, take, max, ◌-◌, ap, refl, ◌∙◌}
-use Rattle.jt_parse.specs.View.{parameters_view}
+use Rattle.jt_trees.specs.StatementView.{parameters_view}
 use Rattle.jt_checks.specs.Fitting.{filter_takes}
 use Rattle.jt_checks.specs.Standing.{texts}
 use Rattle.jt_checks.proofs.Fits.{equal_ok, named_well, not_taken, not_filled, filled_well}

@@ -1,6 +1,6 @@
 use Rattle.std.proofs.Common.{length, ◌∙◌, ap}
-use Rattle.jt_expr.specs.View.{exprs_view, pairs_view}
-use Rattle.jt_parse.specs.View.{parameters_view}
+use Rattle.jt_trees.specs.ExpressionView.{exprs_view, pairs_view}
+use Rattle.jt_trees.specs.StatementView.{parameters_view}
 use Rattle.jt_chains.specs.Uses.{count, keywords}
 use Rattle.jt_rules.specs.Walk as rules
 use Rattle.jt_checks.specs.Standing.{texts}

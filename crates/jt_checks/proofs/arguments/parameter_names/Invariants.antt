@@ -1,6 +1,6 @@
 use Rattle.std.proofs.Common.{◌≡◌, ◌++◌, drop}
 use Rattle.jt_checks.specs.Standing.{texts}
-use Rattle.jt_parse.specs.View as parsed
+use Rattle.jt_trees.specs.StatementView as parsed
 use Rattle.jt_rules.specs.Walk as rules
 use Rattle.jt_checks.proofs.arguments.parameter_names.Given as goal
 

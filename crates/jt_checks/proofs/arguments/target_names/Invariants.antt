@@ -1,6 +1,6 @@
 use Rattle.std.proofs.Common.{◌≡◌, ◌++◌, drop}
 use Rattle.jt_checks.specs.Standing.{texts}
-use Rattle.jt_parse.specs.View as parsed
+use Rattle.jt_trees.specs.StatementView as parsed
 use Rattle.jt_checks.proofs.arguments.target_names.Given as goal
 
 abbrev pub invariant-loop-target : goal.invariant-loop-target

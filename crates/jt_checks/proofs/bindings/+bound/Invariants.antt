@@ -1,6 +1,6 @@
 use Rattle.std.proofs.Common.{◌≡◌, ◌+◌, ◌-◌, ◌^◌, ◌<◌, min, drop}
-use Rattle.jt_parse.specs.View as parsed
-use Rattle.jt_parse.specs.Trees.{body_bound, branch_bound}
+use Rattle.jt_trees.specs.StatementView as parsed
+use Rattle.jt_trees.specs.Statements.{body_bound, branch_bound}
 use Rattle.jt_checks.proofs.bindings.+bound.Given as goal
 
 abbrev pub invariant-bound_in-loop-statement : goal.invariant-bound_in-loop-statement

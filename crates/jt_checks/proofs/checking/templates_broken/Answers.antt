@@ -1,6 +1,6 @@
 use Rattle.std.proofs.Common.{◌+◌, drop, sym, ap, ◌∙◌}
 use Rattle.std.proofs.lemmas.List.{at_drop_all}
-use Rattle.jt_parse.specs.View.{body_view}
+use Rattle.jt_trees.specs.StatementView.{body_view}
 use Rattle.jt_chains.specs.View.{chain_view}
 use Rattle.jt_rules.specs.Walk as rules
 use Rattle.jt_checks.specs.ScopeView.{its_world, its_home}

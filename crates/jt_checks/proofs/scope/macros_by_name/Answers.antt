@@ -2,7 +2,7 @@ use Rattle.std.proofs.Common.{◌+◌, drop, map, sym, ap, ◌∙◌}
 use Rattle.std.specs.Option.{option_or}
 use Rattle.jt_chains.specs.Chain.{macro_of}
 use Rattle.jt_chains.specs.Parts.{macro_view}
-use Rattle.jt_parse.specs.View.{parameters_view}
+use Rattle.jt_trees.specs.StatementView.{parameters_view}
 use Rattle.jt_checks.specs.Standing.{parameters_of, parameters_at}
 use Rattle.jt_checks.proofs.Named.{macro_kept, macro_put, macros_left}
 use Rattle.jt_checks.proofs.scope.macros_by_name.Goals as goal

@@ -1,6 +1,6 @@
 use Rattle.std.proofs.Common.{refl, sym, ap, ◌∙◌}
 use Rattle.std.specs.Option.{option_or}
-use Rattle.jt_parse.specs.View.{stmt_view, body_view}
+use Rattle.jt_trees.specs.StatementView.{stmt_view, body_view}
 use Rattle.jt_rules.specs.Walk as rules
 use Rattle.jt_checks.specs.ScopeView.{its_world, its_home, within_view}
 use Rattle.jt_checks.proofs.Found.{branch_found, choice_is, loop_is, head_part, turns_part}

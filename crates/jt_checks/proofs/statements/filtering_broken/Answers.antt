@@ -1,6 +1,6 @@
 use Rattle.std.proofs.Common.{ap, ◌∙◌}
-use Rattle.jt_expr.specs.View.{exprs_view, pairs_view}
-use Rattle.jt_parse.specs.View.{filtering_view}
+use Rattle.jt_trees.specs.ExpressionView.{exprs_view, pairs_view}
+use Rattle.jt_trees.specs.StatementView.{filtering_view}
 use Rattle.std.proofs.Common.{[], ◌∷◌}
 use Rattle.jt_rules.specs.Walk as rules
 use Rattle.jt_checks.specs.ScopeView.{its_world, its_home, within_view}

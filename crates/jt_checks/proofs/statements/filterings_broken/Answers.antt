@@ -1,5 +1,5 @@
 use Rattle.std.proofs.Common.{◌+◌, [], ◌∷◌, drop, sym, ◌∙◌}
-use Rattle.jt_parse.specs.View.{filtering_view, filterings_view}
+use Rattle.jt_trees.specs.StatementView.{filtering_view, filterings_view}
 use Rattle.jt_rules.specs.Walk as rules
 use Rattle.jt_checks.specs.ScopeView.{its_world, its_home, within_view}
 use Rattle.jt_checks.proofs.Found.{filterings_left}

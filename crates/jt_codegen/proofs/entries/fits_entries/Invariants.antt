@@ -1,5 +1,5 @@
 use Rattle.std.proofs.Common.{List, drop}
-use Rattle.jt_parse.specs.Trees.{Text}
+use Rattle.jt_trees.specs.Expressions.{Text}
 use Rattle.jt_codegen.proofs.Below.{SameLow}
 use Rattle.jt_codegen.proofs.entries.fits_entries.Given as goal
 

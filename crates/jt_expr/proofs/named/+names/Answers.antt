@@ -1,9 +1,9 @@
 use Rattle.std.proofs.Common.{◌≡◌, true, ◌∙◌, sym, ap, arith, string_bytes}
 use Rattle.std.proofs.lemmas.Grind.{common_steps}
-use Rattle.jt_expr.specs.View.{expr_view, exprs_view, pairs_view}
+use Rattle.jt_trees.specs.ExpressionView.{expr_view, exprs_view, pairs_view}
 use Rattle.jt_expr.proofs.Alone.{any_first, any_second, any_third}
 use Rattle.jt_expr.specs.Named as spec
-use Rattle.jt_expr.proofs.Views.{view-Map, view-Call, view-Filter, view-Test}
+use Rattle.jt_trees.proofs.ExpressionViews.{view-Map, view-Call, view-Filter, view-Test}
 use Rattle.jt_expr.proofs.named.+names.Goals as goal
 use Rattle.jt_expr.proofs.named.+names.Goals.{has_unknown-then-has_unknown-3, has_unknown-else-has_unknown-3, has_unknown-then-is_filter_unknown, has_unknown-else-is_filter_unknown}
 

@@ -1,5 +1,5 @@
 use Rattle.std.proofs.Common.{◌≡◌, drop}
-use Rattle.jt_expr.specs.View.{exprs_view, pairs_view}
+use Rattle.jt_trees.specs.ExpressionView.{exprs_view, pairs_view}
 use Rattle.jt_expr.specs.Named.{exprs_have_unknown, pairs_have_unknown}
 use Rattle.jt_expr.proofs.named.+names.Given as goal
 

@@ -1,5 +1,5 @@
 use Rattle.std.proofs.Common.{◌≡◌, ◌+◌, drop}
-use Rattle.jt_expr.specs.View.{exprs_view}
+use Rattle.jt_trees.specs.ExpressionView.{exprs_view}
 use Rattle.jt_expr.specs.Named.{arguments_unknown}
 use Rattle.jt_expr.proofs.named.arguments_unknown.Given as goal
 

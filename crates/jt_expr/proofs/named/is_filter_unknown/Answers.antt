@@ -1,6 +1,7 @@
 use Rattle.std.proofs.Common.{sym, ap, ◌∙◌, ◌||◌}
-use Rattle.jt_expr.specs.View.{exprs_view, pairs_view}
-use Rattle.jt_expr.specs.Named.{filter_unknown, filter_written, inside_unknown}
+use Rattle.jt_trees.specs.ExpressionView.{exprs_view, pairs_view}
+use Rattle.jt_trees.specs.Written.{filter_written}
+use Rattle.jt_expr.specs.Named.{filter_unknown, inside_unknown}
 use Rattle.jt_expr.proofs.named.is_filter_unknown.Goals as goal
 
 pub returns-then-is_unknown_filter : goal.returns-then-is_unknown_filter

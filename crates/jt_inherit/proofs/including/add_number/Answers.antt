@@ -1,6 +1,6 @@
 use Rattle.std.proofs.Common.{◌∷◌, [], List, sym, subst}
 use Rattle.std.proofs.lemmas.Result.{err_from_is_err_and}
-use Rattle.jt_parse.specs.Trees.{Text}
+use Rattle.jt_trees.specs.Expressions.{Text}
 use Rattle.jt_inherit.specs.Found.{AreNext}
 use Rattle.jt_inherit.specs.SetView.{strings}
 use Rattle.jt_inherit.proofs.Following.{text_among, one_known, next_one, number_fault}

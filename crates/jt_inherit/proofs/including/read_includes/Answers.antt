@@ -1,7 +1,7 @@
 use Rattle.std.proofs.Common.{◌≡◌, true, inr, ⊎_elim, take, refl, sym, ap, subst, ◌∙◌}
 use Rattle.std.specs.List.{AllByRecursion}
 use Rattle.std.proofs.lemmas.Result.{err_from_is_err_and}
-use Rattle.jt_parse.specs.Texts.{among}
+use Rattle.jt_trees.specs.Texts.{among}
 use Rattle.jt_inherit.specs.Along.{includes_along}
 use Rattle.jt_inherit.specs.Found.{IsMet}
 use Rattle.jt_inherit.specs.Needs.{needed, needs_view}

@@ -1,5 +1,5 @@
 use Rattle.std.proofs.Common.{string_bytes, sym, ap, ◌∙◌}
-use Rattle.jt_parse.specs.View.{body_of}
+use Rattle.jt_trees.specs.StatementView.{body_of}
 use Rattle.jt_inherit.proofs.Cuts.{only_read}
 use Rattle.jt_inherit.proofs.reading.read_page.Goals as goal
 

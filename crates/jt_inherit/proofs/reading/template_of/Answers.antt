@@ -9,8 +9,9 @@ use Rattle.jt_parse.specs.Grammar.{Spelled}
 use Rattle.jt_parse.specs.Kept.{pieces}
 use Rattle.jt_parse.specs.Refusals.{IsRefusal}
 use Rattle.jt_parse.specs.Names.{body_unknown}
-use Rattle.jt_parse.specs.Trees.{Body, body_levels}
-use Rattle.jt_parse.specs.View.{body_of, reads_of}
+use Rattle.jt_trees.specs.Statements.{Body, body_levels}
+use Rattle.jt_trees.specs.StatementView.{body_of}
+use Rattle.jt_parse.specs.View.{reads_of}
 use Rattle.jt_parse.specs.declared.error.ParseError.TheVariants as parse_error
 use Rattle.jt_inherit.proofs.Cuts.{limited, tree_found, only_tree, no_tree, unspelled}
 use Rattle.jt_inherit.proofs.Lengths.{taken, few_chars, few_bytes, cut_short}

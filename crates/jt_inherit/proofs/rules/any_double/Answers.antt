@@ -1,5 +1,5 @@
 use Rattle.std.proofs.Common.{List, sym, ap, ◌∙◌, arith}
-use Rattle.jt_parse.specs.Texts.{repeated}
+use Rattle.jt_trees.specs.Texts.{repeated}
 use Rattle.jt_inherit.specs.Checks.{block_names}
 use Rattle.jt_chains.specs.Pages.{page_view, pages_view}
 use Rattle.jt_chains.specs.declared.parts.Block.{Block}

@@ -1,5 +1,5 @@
 use Rattle.std.proofs.Common.{◌∷◌, [], ◌&&◌, not, List, take, sym, ap, subst, ◌∙◌}
-use Rattle.jt_parse.specs.Texts.{among}
+use Rattle.jt_trees.specs.Texts.{among}
 use Rattle.jt_inherit.specs.Checks.{block_names}
 use Rattle.jt_inherit.specs.SetView.{texts}
 use Rattle.jt_chains.specs.declared.parts.Block.{Block}

@@ -2,7 +2,7 @@ use Rattle.std.proofs.Common.{◌≡◌, ◌++◌, ◌∷◌, ◌&&◌, ◌||◌
 use Rattle.std.specs.Option.{option_to_list}
 use Rattle.std.specs.Str.{bytes_eq}
 use Rattle.std.proofs.lemmas.List.{append_assoc}
-use Rattle.jt_parse.specs.View.{body_view}
+use Rattle.jt_trees.specs.StatementView.{body_view}
 use Rattle.jt_inherit.specs.Checks.{lacks_next}
 use Rattle.jt_chains.specs.Parts.{block_view, blocks_view}
 use Rattle.jt_chains.specs.Supers.{calls_super}

@@ -1,6 +1,6 @@
 use Rattle.std.proofs.Common.{◌≡◌, ◌++◌, List, length}
-use Rattle.jt_parse.specs.Trees.{Text}
-use Rattle.jt_parse.specs.Texts.{among}
+use Rattle.jt_trees.specs.Expressions.{Text}
+use Rattle.jt_trees.specs.Texts.{among}
 use Rattle.jt_chains.specs.Chain.{Template}
 use Rattle.jt_chains.specs.Parts.{blocks_view}
 use Rattle.jt_inherit.specs.SetView.{texts}

@@ -1,5 +1,5 @@
 use Rattle.std.proofs.Common.{List, sym, ap, ◌∙◌}
-use Rattle.jt_parse.specs.Texts.{repeated}
+use Rattle.jt_trees.specs.Texts.{repeated}
 use Rattle.jt_inherit.specs.Checks.{lacks_body, macro_names}
 use Rattle.jt_chains.specs.Pages.{pages_view}
 use Rattle.jt_chains.specs.Parts.{blocks_view}

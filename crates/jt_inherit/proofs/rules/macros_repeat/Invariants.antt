@@ -1,5 +1,5 @@
 use Rattle.std.proofs.Common.{◌≡◌, false, take}
-use Rattle.jt_parse.specs.Texts.{repeated}
+use Rattle.jt_trees.specs.Texts.{repeated}
 use Rattle.jt_inherit.specs.Checks.{macro_names}
 use Rattle.jt_inherit.specs.SetView.{texts}
 use Rattle.jt_inherit.proofs.rules.macros_repeat.Given as goal

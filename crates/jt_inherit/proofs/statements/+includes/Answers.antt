@@ -1,6 +1,6 @@
 use Rattle.std.proofs.Common.{List, ◌++◌, refl, sym, ◌∙◌}
 use Rattle.std.proofs.lemmas.List.{at_drop_all, append-nil}
-use Rattle.jt_parse.specs.View.{branches_view}
+use Rattle.jt_trees.specs.StatementView.{branches_view}
 use Rattle.jt_inherit.specs.Needs.{includes_of, includes_in, includes_under, needs_view}
 use Rattle.jt_chains.proofs.Shown.{Branch}
 use Rattle.jt_chains.proofs.Gathered.{choice_added, loop_added}

@@ -1,5 +1,5 @@
 use Rattle.std.proofs.Common.{◌≡◌, ◌++◌, drop}
-use Rattle.jt_parse.specs.View.{body_view, branches_view}
+use Rattle.jt_trees.specs.StatementView.{body_view, branches_view}
 use Rattle.jt_inherit.specs.Needs.{includes_in, includes_under, needs_view}
 use Rattle.jt_inherit.proofs.statements.+includes.Given as goal
 

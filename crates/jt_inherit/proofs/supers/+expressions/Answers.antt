@@ -1,6 +1,6 @@
 use Rattle.std.proofs.Common.{◌∙◌, sym, ap, arith}
 use Rattle.std.proofs.lemmas.Grind.{common_steps}
-use Rattle.jt_expr.specs.View.{expr_view}
+use Rattle.jt_trees.specs.ExpressionView.{expr_view}
 use Rattle.jt_chains.specs.Supers as spec
 use Rattle.jt_chains.proofs.Shown.{view-Map, view-Call, view-Filter, view-Test}
 use Rattle.jt_inherit.proofs.supers.+expressions.Goals as goal

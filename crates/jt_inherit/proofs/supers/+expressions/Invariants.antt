@@ -1,5 +1,5 @@
 use Rattle.std.proofs.Common.{◌≡◌, drop}
-use Rattle.jt_expr.specs.View.{exprs_view, pairs_view}
+use Rattle.jt_trees.specs.ExpressionView.{exprs_view, pairs_view}
 use Rattle.jt_chains.specs.Supers.{row_super, pairs_super}
 use Rattle.jt_inherit.proofs.supers.+expressions.Given as goal
 

@@ -1,5 +1,5 @@
 use Rattle.std.proofs.Common.{◌≡◌, drop}
-use Rattle.jt_parse.specs.View.{filterings_view}
+use Rattle.jt_trees.specs.StatementView.{filterings_view}
 use Rattle.jt_chains.specs.Supers.{filtering_super}
 use Rattle.jt_inherit.proofs.supers.filters_super.Given as goal
 

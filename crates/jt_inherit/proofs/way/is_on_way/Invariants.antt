@@ -1,5 +1,5 @@
 use Rattle.std.proofs.Common.{◌≡◌, drop}
-use Rattle.jt_parse.specs.Texts.{among}
+use Rattle.jt_trees.specs.Texts.{among}
 use Rattle.jt_chains.specs.Along.{templates_at}
 use Rattle.jt_chains.specs.Pages.{pages_view}
 use Rattle.jt_inherit.proofs.Leads.{names}

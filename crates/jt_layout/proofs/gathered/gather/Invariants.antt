@@ -1,5 +1,5 @@
 use Rattle.std.proofs.Common.{◌≡◌, ◌≤◌, length, drop}
-use Rattle.jt_parse.specs.Trees.{Text}
+use Rattle.jt_trees.specs.Expressions.{Text}
 use Rattle.jt_chains.specs.View.{chain_view}
 use Rattle.jt_rules.specs.World.{world_of}
 use Rattle.jt_meaning.specs.Layout.{names_in}

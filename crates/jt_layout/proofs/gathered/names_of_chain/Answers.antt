@@ -4,8 +4,8 @@ use Rattle.std.specs.Option.{is_some, is_none}
 use Rattle.std.proofs.lemmas.List.{at_drop_all}
 use Rattle.std.proofs.Common.{◌<◌, length, arith}
 use denote.Ref.{Bor}
-use Rattle.jt_parse.specs.Trees.{Text}
-use Rattle.jt_parse.specs.Texts.{all_inserted}
+use Rattle.jt_trees.specs.Expressions.{Text}
+use Rattle.jt_trees.specs.Texts.{all_inserted}
 use Rattle.jt_chains.specs.Pages.{home_name}
 use Rattle.jt_chains.specs.View.{chain_view, sources_of}
 use Rattle.jt_rules.specs.World.{world_of}

@@ -1,6 +1,6 @@
 use Rattle.std.proofs.Common.{List, ◌++◌, ap, sym, ◌∙◌, true}
 use Rattle.std.proofs.lemmas.List.{at_drop_all, append-nil}
-use Rattle.jt_parse.specs.View.{body_view, branches_view}
+use Rattle.jt_trees.specs.StatementView.{body_view, branches_view}
 use Rattle.jt_chains.specs.Includes.{needs_in, needs_under}
 use Rattle.jt_uses.specs.Names.{texts}
 use Rattle.jt_layout.proofs.Included.{Branch, branch_added, choice_added, loop_added, statement_added}

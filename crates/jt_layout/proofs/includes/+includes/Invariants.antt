@@ -1,5 +1,5 @@
 use Rattle.std.proofs.Common.{◌≡◌, ◌++◌, true, drop}
-use Rattle.jt_parse.specs.View.{body_view, branches_view}
+use Rattle.jt_trees.specs.StatementView.{body_view, branches_view}
 use Rattle.jt_chains.specs.Includes.{needs_in, needs_under}
 use Rattle.jt_uses.specs.Names.{texts}
 use Rattle.jt_layout.proofs.includes.+includes.Given as goal

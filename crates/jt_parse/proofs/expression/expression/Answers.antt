@@ -1,8 +1,8 @@
 use Rattle.std.proofs.Common.{map, subst, sym, Err}
 use Rattle.jt_scan.specs.View.{token_view}
-use Rattle.jt_expr.specs.Trees.{levels}
+use Rattle.jt_trees.specs.Expressions.{levels}
 use Rattle.jt_expr.specs.Grammar.{Spells, whole}
-use Rattle.jt_expr.specs.View.{expr_view}
+use Rattle.jt_trees.specs.ExpressionView.{expr_view}
 use Rattle.jt_parse.specs.Gives.{GivesOnly}
 use Rattle.jt_parse.proofs.Expressions.{expression_refused}
 use Rattle.jt_parse.proofs.expression.expression.Goals as goal

@@ -1,4 +1,4 @@
-use Rattle.jt_parse.proofs.Views.{view-If}
+use Rattle.jt_trees.proofs.StatementViews.{view-If}
 use Rattle.jt_parse.proofs.frames.if_statement.Goals as goal
 
 pub returns : goal.returns

@@ -1,5 +1,5 @@
 use Rattle.std.proofs.Common.{ap, ◌∙◌}
-use Rattle.jt_parse.specs.View.{branches_view}
+use Rattle.jt_trees.specs.StatementView.{branches_view}
 use Rattle.jt_parse.proofs.Views.{branches-push}
 use Rattle.jt_parse.proofs.frames.push_branch.Goals as goal
 

@@ -1,5 +1,5 @@
 use Rattle.std.proofs.Common.{ap, ◌∙◌}
-use Rattle.jt_parse.specs.View.{body_view}
+use Rattle.jt_trees.specs.StatementView.{body_view}
 use Rattle.jt_parse.proofs.Views.{body-push}
 use Rattle.jt_parse.proofs.frames.push_statement.Goals as goal
 

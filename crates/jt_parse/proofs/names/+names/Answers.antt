@@ -2,7 +2,7 @@ use Rattle.std.proofs.Common.{List, Err, ap, sym, subst, ◌∙◌}
 use Rattle.std.proofs.lemmas.List.{at_drop_all}
 use Rattle.std.proofs.lemmas.Result.{err_from_is_err_and}
 use Rattle.jt_parse.specs.Names.{branch_unknown}
-use Rattle.jt_parse.specs.View.{branches_view}
+use Rattle.jt_trees.specs.StatementView.{branches_view}
 use Rattle.jt_parse.specs.Gives.{GivesNames}
 use Rattle.jt_parse.proofs.Checking.{Branch, condition_refused, inside_refused, branches_refused, other_checked}
 use Rattle.jt_parse.proofs.names.+names.Goals as goal

@@ -1,5 +1,5 @@
 use Rattle.std.proofs.Common.{◌≡◌, drop}
-use Rattle.jt_parse.specs.View.{body_view, branches_view}
+use Rattle.jt_trees.specs.StatementView.{body_view, branches_view}
 use Rattle.jt_parse.specs.Names.{body_unknown, branch_unknown}
 use Rattle.jt_parse.proofs.names.+names.Given as goal
 

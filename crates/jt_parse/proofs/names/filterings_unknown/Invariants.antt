@@ -1,5 +1,5 @@
 use Rattle.std.proofs.Common.{◌≡◌, drop}
-use Rattle.jt_parse.specs.View.{filterings_view}
+use Rattle.jt_trees.specs.StatementView.{filterings_view}
 use Rattle.jt_parse.specs.Names.{filterings_unknown}
 use Rattle.jt_parse.proofs.names.filterings_unknown.Given as goal
 

@@ -1,5 +1,5 @@
 use Rattle.std.proofs.lemmas.Result.{err_from_is_err_and}
-use Rattle.jt_parse.specs.View.{body_view}
+use Rattle.jt_trees.specs.StatementView.{body_view}
 use Rattle.jt_parse.specs.SideView.{side_view}
 use Rattle.jt_parse.specs.Gives.{state_view, frames_view}
 use Rattle.jt_parse.proofs.Segments.{segment_read, segment_refused, closed_all, stays_open}

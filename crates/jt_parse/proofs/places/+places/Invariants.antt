@@ -1,5 +1,5 @@
 use Rattle.std.proofs.Common.{◌≡◌, drop}
-use Rattle.jt_parse.specs.View.{body_view, branches_view}
+use Rattle.jt_trees.specs.StatementView.{body_view, branches_view}
 use Rattle.jt_parse.specs.Places.{within, body_placed, branches_placed}
 use Rattle.jt_parse.specs.PlaceView.{place_view}
 use Rattle.jt_parse.proofs.places.+places.Given as goal

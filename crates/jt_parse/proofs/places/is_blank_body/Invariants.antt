@@ -1,5 +1,5 @@
 use Rattle.std.proofs.Common.{◌≡◌, drop}
-use Rattle.jt_parse.specs.View.{body_view}
+use Rattle.jt_trees.specs.StatementView.{body_view}
 use Rattle.jt_parse.specs.Places.{is_blank_body}
 use Rattle.jt_parse.proofs.places.is_blank_body.Given as goal
 

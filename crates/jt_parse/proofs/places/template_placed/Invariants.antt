@@ -1,5 +1,5 @@
 use Rattle.std.proofs.Common.{◌≡◌, drop}
-use Rattle.jt_parse.specs.View.{body_view}
+use Rattle.jt_trees.specs.StatementView.{body_view}
 use Rattle.jt_parse.specs.Places.{is_placed}
 use Rattle.jt_parse.proofs.Placing.{placed_by}
 use Rattle.jt_parse.proofs.places.template_placed.Given as goal

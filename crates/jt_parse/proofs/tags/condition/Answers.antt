@@ -1,8 +1,8 @@
 use Rattle.std.proofs.Common.{rules, refl, codes, Some, Ok, Err, option_map}
 use Rattle.jt_expr.specs.Promises.{Reads}
 use Rattle.jt_expr.specs.Cursor.{ahead}
-use Rattle.jt_expr.specs.View.{expr_view}
-use Rattle.jt_parse.specs.Trees.{condition_levels}
+use Rattle.jt_trees.specs.ExpressionView.{expr_view}
+use Rattle.jt_trees.specs.Statements.{condition_levels}
 use Rattle.jt_parse.specs.Tags.{Condition}
 use Rattle.jt_parse.specs.Readers.{NoToken}
 use Rattle.jt_parse.proofs.Fronts.{word_taken, word_left, no_word}

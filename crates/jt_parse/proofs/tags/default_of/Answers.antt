@@ -1,7 +1,7 @@
 use Rattle.std.proofs.Common.{rules, refl, Some, Ok, Err, option_map}
 use Rattle.jt_scan.specs.declared.segment.Sign.TheVariants as s
 use Rattle.jt_expr.specs.Cursor.{ahead}
-use Rattle.jt_expr.specs.View.{literal_view}
+use Rattle.jt_trees.specs.ExpressionView.{literal_view}
 use Rattle.jt_parse.specs.Readers.{ReadsFlat, IsDefault, NoSign}
 use Rattle.jt_parse.proofs.Fronts.{sign_taken}
 use Rattle.jt_parse.proofs.Parts.{default_last}

@@ -1,6 +1,6 @@
 use Rattle.std.proofs.Common.{◌≡◌, drop}
 use Rattle.jt_parse.specs.Tags.{defaults_last, defaults_from}
-use Rattle.jt_parse.specs.View.{parameters_view}
+use Rattle.jt_trees.specs.StatementView.{parameters_view}
 use Rattle.jt_parse.proofs.tags.defaults_are_last.Given as goal
 
 abbrev pub invariant-loop-parameter : goal.invariant-loop-parameter

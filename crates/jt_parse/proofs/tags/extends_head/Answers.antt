@@ -3,7 +3,7 @@ use Rattle.jt_expr.specs.Cursor.{ahead}
 use Rattle.jt_parse.specs.Readers.{ReadsHead}
 use Rattle.jt_parse.specs.Tags.{a_statement}
 use Rattle.jt_parse.specs.declared.heads.Head.TheVariants as h
-use Rattle.jt_parse.specs.declared.tree.Stmt.TheVariants as stmt
+use Rattle.jt_trees.specs.declared.statement.Stmt.TheVariants as stmt
 use Rattle.jt_parse.proofs.FirstTags.{extends_last, view_extends}
 use Rattle.jt_parse.proofs.tags.extends_head.Goals as goal
 

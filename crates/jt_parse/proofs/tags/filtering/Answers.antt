@@ -3,7 +3,7 @@ use Rattle.jt_expr.specs.Promises.{Reads, OpensNone}
 use Rattle.jt_expr.specs.Cursor.{ahead}
 use Rattle.jt_parse.specs.Tags.{IsFiltering}
 use Rattle.jt_parse.specs.Readers.{one_filtering_levels}
-use Rattle.jt_parse.specs.View.{filtering_view}
+use Rattle.jt_trees.specs.StatementView.{filtering_view}
 use Rattle.jt_parse.proofs.Parts.{filtering_unnamed, filtering_last}
 use Rattle.jt_parse.proofs.tags.filtering.Goals as goal
 

@@ -2,10 +2,10 @@ use Rattle.std.proofs.Common.{rules, ap, Err, Global, Vec}
 use Rattle.jt_scan.specs.declared.segment.Sign.TheVariants as s
 use Rattle.jt_expr.specs.Cursor.{ahead}
 use Rattle.jt_expr.specs.Promises.{Reads, OpensNone}
-use Rattle.jt_parse.specs.declared.tree.Filtering.{Filtering}
+use Rattle.jt_trees.specs.declared.statement.Filtering.{Filtering}
 use Rattle.jt_parse.specs.Tags.{Separated, IsFiltering}
 use Rattle.jt_parse.specs.Readers.{NoToken, one_filtering_levels, most}
-use Rattle.jt_parse.specs.View.{filtering_view, filterings_view}
+use Rattle.jt_trees.specs.StatementView.{filtering_view, filterings_view}
 use Rattle.jt_parse.proofs.Fronts.{sign_taken, sign_left, no_sign}
 use Rattle.jt_parse.proofs.Separating.{first_turn, turn_refused, next_turn, last_turn, no_turn, filtering_row, pushed}
 use Rattle.jt_parse.proofs.tags.filterings.Goals as goal

@@ -2,10 +2,10 @@ use Rattle.std.proofs.Common.{rules, ap, sym, ◌∙◌, Some, Ok}
 use Rattle.std.proofs.lemmas.Int.{to_z-of_z}
 use mir.Syntax.{w64}
 use Rattle.jt_scan.specs.View.{token_view}
-use Rattle.jt_expr.specs.Trees.{text}
+use Rattle.jt_trees.specs.Expressions.{text}
 use Rattle.jt_expr.specs.Cursor.{ahead}
-use Rattle.jt_expr.specs.View.{literal_view}
-use Rattle.jt_expr.specs.declared.tree.Literal.TheVariants as l
+use Rattle.jt_trees.specs.ExpressionView.{literal_view}
+use Rattle.jt_trees.specs.declared.expression.Literal.TheVariants as l
 use Rattle.jt_parse.specs.Tags.{literal_token}
 use Rattle.jt_parse.specs.Readers.{IsLiteral, Anything, ReadsFlat}
 use Rattle.jt_parse.proofs.Parts.{literal_read}

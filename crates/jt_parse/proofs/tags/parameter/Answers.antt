@@ -3,7 +3,7 @@ use Rattle.jt_scan.specs.declared.segment.Sign.TheVariants as s
 use Rattle.jt_expr.specs.Cursor.{ahead}
 use Rattle.jt_parse.specs.Tags.{IsParameter}
 use Rattle.jt_parse.specs.Readers.{ReadsFlat, NoSign}
-use Rattle.jt_parse.specs.View.{parameter_view}
+use Rattle.jt_trees.specs.StatementView.{parameter_view}
 use Rattle.jt_parse.proofs.Parts.{parameter_unnamed, parameter_last}
 use Rattle.jt_parse.proofs.tags.parameter.Goals as goal
 

@@ -2,10 +2,10 @@ use Rattle.std.proofs.Common.{rules, ap, Ok, Err, Global, Vec}
 use Rattle.jt_scan.specs.declared.segment.Sign.TheVariants as s
 use Rattle.jt_expr.specs.Cursor.{ahead}
 use Rattle.jt_expr.specs.declared.error.ExprError.TheVariants as e
-use Rattle.jt_parse.specs.declared.tree.Parameter.{Parameter}
+use Rattle.jt_trees.specs.declared.statement.Parameter.{Parameter}
 use Rattle.jt_parse.specs.Tags.{Separated, IsParameter}
 use Rattle.jt_parse.specs.Readers.{NoSign, NoParameter, ReadsFlat}
-use Rattle.jt_parse.specs.View.{parameter_view, parameters_view}
+use Rattle.jt_trees.specs.StatementView.{parameter_view, parameters_view}
 use Rattle.jt_parse.proofs.Fronts.{sign_taken, sign_left, no_sign}
 use Rattle.jt_parse.proofs.Separating.{first_turn, turn_refused, next_turn, last_turn, no_turn, flat, parameter_row, pushed}
 use Rattle.jt_parse.proofs.tags.parameter_row.Goals as goal

@@ -1,10 +1,10 @@
 use Rattle.std.proofs.Common.{Global, Vec}
 use Rattle.jt_scan.specs.declared.segment.Sign.TheVariants as s
 use Rattle.jt_expr.specs.Cursor.{ahead}
-use Rattle.jt_parse.specs.declared.tree.Parameter.{Parameter}
+use Rattle.jt_trees.specs.declared.statement.Parameter.{Parameter}
 use Rattle.jt_parse.specs.Tags.{IsParameter}
 use Rattle.jt_parse.specs.Readers.{NoSign, NoParameter}
-use Rattle.jt_parse.specs.View.{parameter_view, parameters_view}
+use Rattle.jt_trees.specs.StatementView.{parameter_view, parameters_view}
 use Rattle.jt_parse.proofs.Separating.{Turn, parameter_row}
 use Rattle.jt_parse.proofs.tags.parameter_row.Given as goal
 

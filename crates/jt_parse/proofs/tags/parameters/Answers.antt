@@ -2,7 +2,7 @@ use Rattle.std.proofs.Common.{rules, Err, ap, sym, ◌∙◌, ◌≡◌, true, f
 use Rattle.jt_scan.specs.declared.segment.Sign.TheVariants as s
 use Rattle.jt_expr.specs.Cursor.{ahead}
 use Rattle.jt_parse.specs.Tags.{defaults_last}
-use Rattle.jt_parse.specs.View.{parameters_view}
+use Rattle.jt_trees.specs.StatementView.{parameters_view}
 use Rattle.jt_parse.proofs.Fronts.{sign_taken, sign_left, no_sign}
 use Rattle.jt_parse.proofs.ParameterLists.{ParametersRead, closed_at_once, row_refused, not_closed, defaults_first, parameters_read}
 use Rattle.jt_parse.proofs.tags.parameters.Goals as goal

@@ -4,7 +4,7 @@ use Rattle.jt_expr.specs.Cursor.{ahead}
 use Rattle.jt_parse.specs.Readers.{ReadsHead}
 use Rattle.jt_parse.specs.Tags.{a_statement}
 use Rattle.jt_parse.specs.declared.heads.Head.TheVariants as h
-use Rattle.jt_parse.specs.declared.tree.Stmt.TheVariants as stmt
+use Rattle.jt_trees.specs.declared.statement.Stmt.TheVariants as stmt
 use Rattle.jt_parse.proofs.Fronts.{sign_taken, sign_left, no_sign}
 use Rattle.jt_parse.proofs.FirstTags.{set_unnamed, set_last, captures, view_set}
 use Rattle.jt_parse.proofs.tags.set_head.Goals as goal

@@ -4,7 +4,7 @@ use Rattle.jt_expr.specs.Cursor.{ahead}
 use Rattle.jt_expr.specs.declared.error.ExprError.TheVariants as e
 use Rattle.jt_parse.specs.Tags.{Separated, IsName}
 use Rattle.jt_parse.specs.Readers.{Anything, NoSign, ReadsFlat}
-use Rattle.jt_parse.specs.View.{names_view}
+use Rattle.jt_trees.specs.StatementView.{names_view}
 use Rattle.jt_parse.proofs.Fronts.{sign_taken, sign_left, no_sign}
 use Rattle.jt_parse.proofs.Separating.{first_turn, turn_refused, next_turn, last_turn, no_turn, flat, name_row, pushed}
 use Rattle.jt_parse.proofs.tags.targets.Goals as goal

@@ -3,7 +3,7 @@ use Rattle.jt_scan.specs.declared.segment.Sign.TheVariants as s
 use Rattle.jt_expr.specs.Cursor.{ahead}
 use Rattle.jt_parse.specs.Tags.{IsName}
 use Rattle.jt_parse.specs.Readers.{Anything, NoSign}
-use Rattle.jt_parse.specs.View.{names_view}
+use Rattle.jt_trees.specs.StatementView.{names_view}
 use Rattle.jt_parse.proofs.Separating.{Turn, name_row}
 use Rattle.jt_parse.proofs.tags.targets.Given as goal
 

@@ -1,7 +1,7 @@
 use Rattle.std.proofs.Common.{String, Global, Vec}
 use Rattle.jt_scan.specs.declared.segment.Sign.TheVariants as s
 use Rattle.jt_expr.specs.Cursor.{ahead}
-use Rattle.jt_expr.specs.declared.tree.Expr.{Expr}
+use Rattle.jt_trees.specs.declared.expression.Expr.{Expr}
 use Rattle.jt_expr.specs.Grammar.{whole}
 use Rattle.jt_expr.specs.Promises.{EndsAt}
 use Rattle.jt_parse.specs.Tags.{IsValue}

@@ -4,7 +4,7 @@ use Rattle.jt_parse.specs.Readers.{ReadsHead}
 use Rattle.jt_parse.specs.declared.heads.Head.TheVariants as h
 use Rattle.jt_parse.specs.declared.heads.Opening.TheVariants as o
 use Rattle.jt_parse.specs.Tags.{an_opening, values}
-use Rattle.jt_expr.specs.View.{pairs_view}
+use Rattle.jt_trees.specs.ExpressionView.{pairs_view}
 use Rattle.jt_parse.proofs.FirstTags.{with_none, with_last, values_pairs}
 use Rattle.jt_parse.proofs.tags.with_head.Goals as goal
 

@@ -1,6 +1,6 @@
 use Rattle.std.proofs.Common.{◌≡◌, ℕ, sym, ap, ◌∙◌, subst, Option}
 use Rattle.std.proofs.lemmas.Option.{get_or_from_slice_get}
-use Rattle.jt_parse.specs.View.{parameters_view}
+use Rattle.jt_trees.specs.StatementView.{parameters_view}
 use Rattle.jt_chains.specs.Chain.{named_alone}
 use Rattle.jt_chains.specs.Parts.{macro_view}
 use Rattle.jt_chains.specs.View.{chain_view}

@@ -1,6 +1,6 @@
 use Rattle.std.proofs.Common.{ap, ◌∙◌, subst}
-use Rattle.jt_expr.specs.Trees as trees
-use Rattle.jt_expr.specs.View.{expr_view}
+use Rattle.jt_trees.specs.Expressions as trees
+use Rattle.jt_trees.specs.ExpressionView.{expr_view}
 use Rattle.jt_chains.specs.Chain.{macros, callee}
 use Rattle.jt_scopes.specs.Callees.{IsCallee}
 use Rattle.jt_scopes.specs.Scoped.{world_in, order_in, home_in}

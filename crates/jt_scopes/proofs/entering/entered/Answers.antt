@@ -2,7 +2,7 @@ use Rattle.std.proofs.Common.{◌+◌, List, map, sym, ap, ◌∙◌, Global}
 use Rattle.std.proofs.lemmas.List.{length-map}
 use Rattle.std.specs.declared.rc.Rc.{Rc}
 use denote.Ref.{Bor}
-use Rattle.jt_parse.specs.Trees.{Text}
+use Rattle.jt_trees.specs.Expressions.{Text}
 use Rattle.jt_uses.specs.Names.{texts}
 use Rattle.jt_scopes.specs.Scoped.{framed, globals_in, spot_in}
 use Rattle.jt_scopes.specs.declared.frame.Frame.{Frame}

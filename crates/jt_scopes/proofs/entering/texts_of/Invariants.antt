@@ -1,5 +1,5 @@
 use Rattle.std.proofs.Common.{◌≡◌, ◌++◌, drop}
-use Rattle.jt_parse.specs.View.{names_view}
+use Rattle.jt_trees.specs.StatementView.{names_view}
 use Rattle.jt_uses.specs.Names.{texts}
 use Rattle.jt_scopes.proofs.entering.texts_of.Given as goal
 

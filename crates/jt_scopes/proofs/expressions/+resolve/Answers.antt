@@ -6,11 +6,11 @@ use Rattle.jt_value.specs.Tree as tree
 use Rattle.jt_ids.specs.declared.op_id.OpId.{OpId}
 use Rattle.jt_ids.specs.declared.op_id.OpId.TheVariants as op
 use Rattle.jt_ids.specs.declared.test_id.TestId.{TestId}
-use Rattle.jt_expr.specs.Trees as trees
-use Rattle.jt_expr.specs.View.{expr_view, exprs_view, pairs_view}
-use Rattle.jt_expr.specs.declared.tree.Expr.{Expr}
+use Rattle.jt_trees.specs.Expressions as trees
+use Rattle.jt_trees.specs.ExpressionView.{expr_view, exprs_view, pairs_view}
+use Rattle.jt_trees.specs.declared.expression.Expr.{Expr}
 use Rattle.jt_ids.specs.FilterTable.{filter_id}
-use Rattle.jt_parse.specs.View.{parameters_view}
+use Rattle.jt_trees.specs.StatementView.{parameters_view}
 use Rattle.jt_chains.specs.Chain as chain
 use Rattle.jt_chains.specs.Chain.{macros, callee, a_macro, a_range, a_super, a_block, a_cycle, no_callee}
 use Rattle.jt_chains.specs.Uses.{count, keywords}

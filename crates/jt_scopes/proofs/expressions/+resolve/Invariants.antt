@@ -1,8 +1,8 @@
 use Rattle.std.proofs.Common.{◌+◌, ◌*◌, drop}
 use Rattle.std.specs.Prelude.{max}
 use denote.Param.Weighed.{most}
-use Rattle.jt_expr.specs.View.{exprs_view, pairs_view}
-use Rattle.jt_expr.specs.declared.tree.Expr.{size-Expr}
+use Rattle.jt_trees.specs.ExpressionView.{exprs_view, pairs_view}
+use Rattle.jt_trees.specs.declared.expression.Expr.{size-Expr}
 use Rattle.jt_slots.specs.Pool.{Constant}
 use Rattle.jt_slots.specs.Slots.{SRow}
 use Rattle.jt_scopes.specs.Scoped.{values, RowLeads, row_in, asides_in, entries_in}

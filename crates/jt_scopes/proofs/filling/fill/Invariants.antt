@@ -1,8 +1,8 @@
 use Rattle.std.proofs.Common.{List, drop}
 use Rattle.jt_value.specs.Tree.{Tree}
-use Rattle.jt_expr.specs.View.{pairs_view}
+use Rattle.jt_trees.specs.ExpressionView.{pairs_view}
 use Rattle.jt_chains.specs.Uses.{keywords}
-use Rattle.jt_parse.specs.View.{parameters_view}
+use Rattle.jt_trees.specs.StatementView.{parameters_view}
 use Rattle.jt_meaning.specs.Resolve.{filled, locals_from}
 use Rattle.jt_scopes.specs.Scoped.{RowLeads}
 use Rattle.jt_scopes.proofs.filling.fill.Given as goal

@@ -1,9 +1,9 @@
 use Rattle.std.proofs.Common.{◌≡◌, ◌+◌, ◌-◌, length, take, length-drop, List, ◌∷◌, drop, sym, ap, ◌∙◌, arith, true, false}
 use Rattle.std.proofs.lemmas.List.{at_drop_all, take_all}
-use Rattle.jt_expr.specs.View.{pairs_view}
+use Rattle.jt_trees.specs.ExpressionView.{pairs_view}
 use Rattle.jt_chains.specs.Uses.{keywords}
-use Rattle.jt_parse.specs.View.{parameter_view, parameters_view}
-use Rattle.jt_parse.specs.declared.tree.Parameter.{Parameter}
+use Rattle.jt_trees.specs.StatementView.{parameter_view, parameters_view}
+use Rattle.jt_trees.specs.declared.statement.Parameter.{Parameter}
 use Rattle.jt_slots.specs.Filters.{some_given, default_value}
 use Rattle.jt_slots.specs.Pool.{own}
 use Rattle.jt_meaning.specs.Layout.{slot_in}

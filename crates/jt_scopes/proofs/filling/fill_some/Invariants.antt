@@ -1,7 +1,7 @@
 use Rattle.std.proofs.Common.{drop}
-use Rattle.jt_expr.specs.View.{pairs_view}
+use Rattle.jt_trees.specs.ExpressionView.{pairs_view}
 use Rattle.jt_chains.specs.Uses.{keywords}
-use Rattle.jt_parse.specs.View.{parameters_view}
+use Rattle.jt_trees.specs.StatementView.{parameters_view}
 use Rattle.jt_meaning.specs.Resolve.{filled_some, locals_from}
 use Rattle.jt_scopes.specs.Scoped.{values, RowLeads}
 use Rattle.jt_scopes.proofs.filling.fill_some.Given as goal

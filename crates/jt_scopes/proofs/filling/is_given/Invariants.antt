@@ -1,7 +1,7 @@
 use Rattle.std.proofs.Common.{◌≡◌, drop}
-use Rattle.jt_expr.specs.View.{pairs_view}
+use Rattle.jt_trees.specs.ExpressionView.{pairs_view}
 use Rattle.jt_chains.specs.Uses.{keywords}
-use Rattle.jt_parse.specs.Texts.{among}
+use Rattle.jt_trees.specs.Texts.{among}
 use Rattle.jt_scopes.proofs.filling.is_given.Given as goal
 
 abbrev pub invariant-loop-key : goal.invariant-loop-key

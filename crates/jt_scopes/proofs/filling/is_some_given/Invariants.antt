@@ -1,7 +1,7 @@
 use Rattle.std.proofs.Common.{◌≡◌, drop}
-use Rattle.jt_expr.specs.View.{pairs_view}
+use Rattle.jt_trees.specs.ExpressionView.{pairs_view}
 use Rattle.jt_chains.specs.Uses.{keywords}
-use Rattle.jt_parse.specs.View.{parameters_view}
+use Rattle.jt_trees.specs.StatementView.{parameters_view}
 use Rattle.jt_slots.specs.Filters.{some_given}
 use Rattle.jt_scopes.proofs.filling.is_some_given.Given as goal
 

@@ -4,11 +4,11 @@ use Rattle.std.proofs.lemmas.List.{take_at, take-map}
 use Rattle.std.proofs.lemmas.Result.{IfOk-weaker}
 use Rattle.jt_value.specs.Tree.{Tree}
 use Rattle.jt_value.specs.View.{view}
-use Rattle.jt_expr.specs.Trees as trees
-use Rattle.jt_expr.specs.View.{exprs_view, pairs_view}
+use Rattle.jt_trees.specs.Expressions as trees
+use Rattle.jt_trees.specs.ExpressionView.{exprs_view, pairs_view}
 use Rattle.jt_ids.specs.FilterTable.{filter_id}
-use Rattle.jt_parse.specs.Trees.{Text}
-use Rattle.jt_parse.specs.View.{filtering_view}
+use Rattle.jt_trees.specs.Expressions.{Text}
+use Rattle.jt_trees.specs.StatementView.{filtering_view}
 use Rattle.jt_slots.specs.Pool.{expr_values}
 use Rattle.jt_slots.specs.TheFilters as the
 use Rattle.jt_slots.specs.View.{expr_view}

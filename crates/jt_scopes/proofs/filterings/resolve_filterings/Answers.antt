@@ -1,8 +1,8 @@
 use Rattle.std.proofs.Common.{◌≡◌, List, length, sym, ◌∙◌, subst, arith, append-nil}
 use Rattle.std.proofs.lemmas.List.{take_all, length-map}
 use Rattle.jt_value.specs.View.{view}
-use Rattle.jt_parse.specs.View.{filterings_view}
-use Rattle.jt_parse.specs.declared.tree.Filtering.{Filtering}
+use Rattle.jt_trees.specs.StatementView.{filterings_view}
+use Rattle.jt_trees.specs.declared.statement.Filtering.{Filtering}
 use Rattle.jt_slots.specs.Pool.{Constant}
 use Rattle.jt_slots.specs.Slots.{SExpr, variable}
 use Rattle.jt_slots.specs.View.{slot_view, expr_view}

@@ -1,5 +1,5 @@
 use Rattle.std.proofs.Common.{take}
-use Rattle.jt_parse.specs.View.{filterings_view}
+use Rattle.jt_trees.specs.StatementView.{filterings_view}
 use Rattle.jt_slots.specs.Slots.{variable}
 use Rattle.jt_slots.specs.View.{slot_view, expr_view}
 use Rattle.jt_meaning.specs.Resolve.{resolved_filters}

@@ -1,5 +1,5 @@
 use Rattle.std.proofs.Common.{◌≡◌, ℕ, List, drop, max}
-use Rattle.jt_parse.specs.Trees.{Text}
+use Rattle.jt_trees.specs.Expressions.{Text}
 use Rattle.jt_slots.specs.Locals.{body_locals}
 use Rattle.jt_slots.specs.Slots.{SBody}
 use Rattle.jt_slots.specs.View.{body_view}

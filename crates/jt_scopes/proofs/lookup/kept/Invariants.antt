@@ -1,5 +1,5 @@
 use Rattle.std.proofs.Common.{◌≡◌, drop}
-use Rattle.jt_expr.specs.View.{pairs_view}
+use Rattle.jt_trees.specs.ExpressionView.{pairs_view}
 use Rattle.jt_chains.specs.Uses.{keywords}
 use Rattle.jt_meaning.specs.Layout.{slot_in}
 use Rattle.jt_meaning.specs.Resolve.{locals_from}

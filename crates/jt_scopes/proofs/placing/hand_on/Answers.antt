@@ -2,7 +2,7 @@ use Rattle.std.proofs.Common.{List, [], arith}
 use Rattle.std.specs.Prelude.{if◌then◌else◌}
 use Rattle.std.proofs.lemmas.List.{at_drop_all}
 use denote.Ref.{Bor}
-use Rattle.jt_parse.specs.Trees.{Text}
+use Rattle.jt_trees.specs.Expressions.{Text}
 use Rattle.jt_meaning.specs.Resolve.{handed_on, followed}
 use Rattle.jt_slots.specs.View.{expr_view}
 use Rattle.jt_uses.specs.Names.{texts}

@@ -1,7 +1,7 @@
 use Rattle.std.proofs.Common.{sym, ap, ◌∙◌}
 use Rattle.std.specs.Prelude.{if◌then◌else◌}
 use Rattle.std.proofs.lemmas.Result.{IfOk-weaker}
-use Rattle.jt_parse.specs.View.{stmt_view}
+use Rattle.jt_trees.specs.StatementView.{stmt_view}
 use Rattle.jt_slots.specs.Slots as slots
 use Rattle.jt_scopes.specs.Scoped.{templates_in}
 use Rattle.jt_scopes.specs.Stated.{stmt_in}

@@ -1,8 +1,8 @@
 use Rattle.std.proofs.Common.{List, length, max, sym, ap, ◌∙◌}
 use Rattle.std.proofs.lemmas.List.{length-map}
 use denote.Ref.{Bor}
-use Rattle.jt_parse.specs.Trees.{Text}
-use Rattle.jt_parse.specs.View as written
+use Rattle.jt_trees.specs.Expressions.{Text}
+use Rattle.jt_trees.specs.StatementView as written
 use Rattle.jt_slots.specs.View.{body_view}
 use Rattle.jt_slots.specs.declared.program.SStmt.{SStmt}
 use Rattle.jt_uses.specs.Names.{texts}

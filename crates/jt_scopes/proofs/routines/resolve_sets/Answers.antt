@@ -1,7 +1,7 @@
 use Rattle.std.proofs.Common.{◌+◌, List, drop, sym, ap, ◌∙◌, arith}
 use Rattle.std.proofs.lemmas.List.{at_drop_all}
-use Rattle.jt_parse.specs.View.{stmt_view, body_view}
-use Rattle.jt_parse.specs.declared.tree.Stmt.{Stmt}
+use Rattle.jt_trees.specs.StatementView.{stmt_view, body_view}
+use Rattle.jt_trees.specs.declared.statement.Stmt.{Stmt}
 use Rattle.jt_meaning.specs.Meaning.{is_set}
 use Rattle.jt_meaning.specs.Resolve.{followed, resolved_sets}
 use Rattle.jt_scopes.specs.Scoped.{world_in, order_in, spot_in, templates_in}

@@ -1,6 +1,6 @@
 use Rattle.std.proofs.Common.{◌≡◌, List, [], length, drop}
 use Rattle.jt_value.specs.Tree.{Tree}
-use Rattle.jt_parse.specs.Trees.{Text}
+use Rattle.jt_trees.specs.Expressions.{Text}
 use Rattle.jt_meaning.specs.Resolve as resolve
 use Rattle.jt_scopes.specs.Scoped.{RowLeads}
 use Rattle.jt_scopes.proofs.rows.first_locals.Given as goal

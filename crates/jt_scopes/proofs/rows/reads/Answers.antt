@@ -2,7 +2,7 @@ use Rattle.std.proofs.Common.{◌+◌, List, drop, arith}
 use Rattle.std.specs.Prelude.{option_map}
 use Rattle.std.proofs.lemmas.List.{at_drop_all}
 use denote.Ref.{Bor}
-use Rattle.jt_parse.specs.Trees.{Text}
+use Rattle.jt_trees.specs.Expressions.{Text}
 use Rattle.jt_uses.specs.Names.{texts}
 use Rattle.jt_slots.specs.View.{slot_view}
 use Rattle.jt_meaning.specs.Resolve as resolve

@@ -1,5 +1,5 @@
 use Rattle.std.proofs.Common.{◌≡◌, ◌++◌, map, drop}
-use Rattle.jt_parse.specs.View.{parameter_view}
+use Rattle.jt_trees.specs.StatementView.{parameter_view}
 use Rattle.jt_slots.specs.Filters.{default_value}
 use Rattle.jt_scopes.specs.Scoped.{values}
 use Rattle.jt_scopes.proofs.shared.add_defaults.Given as goal

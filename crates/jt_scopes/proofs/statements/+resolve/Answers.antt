@@ -2,10 +2,10 @@ use Rattle.std.proofs.Common.{◌+◌, List, drop, sym, ap, ◌∙◌, arith}
 use Rattle.std.specs.Prelude.{string_bytes}
 use Rattle.std.proofs.lemmas.List.{at_drop_all}
 use Rattle.std.proofs.lemmas.Result.{IfOk-weaker}
-use Rattle.jt_expr.specs.View.{expr_view, pairs_view}
-use Rattle.jt_parse.specs.Trees as trees
-use Rattle.jt_parse.specs.View.{names_view, filterings_view, stmt_view, body_view, branches_view}
-use Rattle.jt_parse.specs.declared.tree.Stmt.{Stmt}
+use Rattle.jt_trees.specs.ExpressionView.{expr_view, pairs_view}
+use Rattle.jt_trees.specs.Statements as trees
+use Rattle.jt_trees.specs.StatementView.{names_view, filterings_view, stmt_view, body_view, branches_view}
+use Rattle.jt_trees.specs.declared.statement.Stmt.{Stmt}
 use Rattle.jt_slots.specs.Slots as slots
 use Rattle.jt_meaning.specs.Resolve.{followed, alone, bound_all, resolved_filters}
 use Rattle.jt_chains.specs.View.{chain_view}

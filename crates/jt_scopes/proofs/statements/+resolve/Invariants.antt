@@ -1,6 +1,6 @@
 use Rattle.std.proofs.Common.{drop}
 use Rattle.jt_meaning.specs.Resolve.{followed}
-use Rattle.jt_parse.specs.View.{body_view, branches_view}
+use Rattle.jt_trees.specs.StatementView.{body_view, branches_view}
 use Rattle.jt_slots.specs.Pool.{Constant}
 use Rattle.jt_slots.specs.Slots.{SBody}
 use Rattle.jt_scopes.specs.Scoped.{values, BodyLeads, templates_in}

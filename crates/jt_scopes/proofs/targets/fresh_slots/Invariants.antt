@@ -1,7 +1,7 @@
 use Rattle.std.proofs.Common.{◌≡◌, ◌++◌, map, drop}
 use Rattle.std.specs.Prelude.{option_map}
 use Rattle.jt_meaning.specs.Resolve.{fresh}
-use Rattle.jt_parse.specs.View.{names_view}
+use Rattle.jt_trees.specs.StatementView.{names_view}
 use Rattle.jt_slots.specs.View.{slot_view}
 use Rattle.jt_scopes.proofs.targets.fresh_slots.Given as goal
 

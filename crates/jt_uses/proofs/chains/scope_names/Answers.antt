@@ -6,8 +6,8 @@ use Rattle.jt_chains.specs.Layers.{layer_view}
 use Rattle.jt_chains.specs.Uses.{scope_names_in}
 use Rattle.jt_chains.specs.View.{chain_view}
 use Rattle.jt_chains.specs.declared.layers.Layer.{Layer}
-use Rattle.jt_parse.specs.Trees.{Text}
-use Rattle.jt_parse.specs.View.{body_view}
+use Rattle.jt_trees.specs.Expressions.{Text}
+use Rattle.jt_trees.specs.StatementView.{body_view}
 use Rattle.jt_uses.specs.Names.{texts}
 use Rattle.jt_uses.proofs.chains.scope_names.Goals as goal
 

@@ -1,11 +1,11 @@
 use Rattle.std.proofs.Common.{◌≡◌, List, map, [], ◌∷◌, ◌++◌, ◌∙◌, append_assoc, ap, refl}
-use Rattle.jt_parse.specs.View as parsed
+use Rattle.jt_trees.specs.StatementView as parsed
 use Rattle.jt_chains.specs.Uses.{body_names, branch_names, filtering_names, condition_names, expr_names, keywords, pair_names, stmt_names}
-use Rattle.jt_parse.specs.Texts.{all_inserted}
+use Rattle.jt_trees.specs.Texts.{all_inserted}
 use Rattle.jt_uses.specs.Names.{texts}
 use Rattle.jt_uses.proofs.Inserted.{statement_added, branch_added, then_is}
 use Rattle.jt_uses.proofs.Shown.{shown_if, shown_for, shown_set_block, shown_with, shown_filters, shown_macro}
-use Rattle.jt_expr.specs.View.{expr_view, pairs_view}
+use Rattle.jt_trees.specs.ExpressionView.{expr_view, pairs_view}
 use Rattle.std.specs.Prelude.{option_map}
 use Rattle.jt_uses.proofs.own.+add.Goals as goal
 

@@ -1,11 +1,11 @@
 use Rattle.std.proofs.Common.{◌≡◌, ◌+◌, ◌*◌, drop}
 use denote.Param.Weighed.{most}
-use Rattle.jt_parse.specs.declared.tree.Stmt.{size-Stmt}
+use Rattle.jt_trees.specs.declared.statement.Stmt.{size-Stmt}
 use Rattle.jt_uses.proofs.Left.{Branch}
 use Rattle.jt_uses.specs.Names.{texts}
-use Rattle.jt_parse.specs.View as parsed
+use Rattle.jt_trees.specs.StatementView as parsed
 use Rattle.jt_chains.specs.Uses as uses
-use Rattle.jt_parse.specs.Texts.{all_inserted}
+use Rattle.jt_trees.specs.Texts.{all_inserted}
 use Rattle.jt_uses.proofs.own.+add.Given as goal
 
 -- ---- how deep the statements are that are left, and who hands its own on

@@ -1,8 +1,8 @@
 use Rattle.std.proofs.Common.{◌++◌, append_assoc, ap, refl, ◌∙◌}
 use Rattle.std.proofs.lemmas.Result.{IfOk-weaker}
-use Rattle.jt_expr.specs.View.{expr_view, exprs_view, pairs_view}
+use Rattle.jt_trees.specs.ExpressionView.{expr_view, exprs_view, pairs_view}
 use Rattle.jt_chains.specs.Uses.{expr_names, row_names, pair_names}
-use Rattle.jt_parse.specs.Texts.{all_inserted}
+use Rattle.jt_trees.specs.Texts.{all_inserted}
 use Rattle.jt_uses.specs.Names.{texts}
 use Rattle.jt_uses.proofs.Inserted.{expression_added, entry_added, then_is}
 use Rattle.jt_uses.proofs.Shown.{shown_item, shown_binary, shown_when, shown_choice, shown_test, shown_call, shown_filter}

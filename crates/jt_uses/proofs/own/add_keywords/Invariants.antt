@@ -1,8 +1,8 @@
 use Rattle.std.proofs.Common.{◌≡◌, drop}
 use Rattle.jt_uses.specs.Names.{texts}
-use Rattle.jt_expr.specs.View.{pairs_view}
+use Rattle.jt_trees.specs.ExpressionView.{pairs_view}
 use Rattle.jt_chains.specs.Uses as uses
-use Rattle.jt_parse.specs.Texts.{all_inserted}
+use Rattle.jt_trees.specs.Texts.{all_inserted}
 use Rattle.jt_uses.proofs.own.add_keywords.Given as goal
 
 abbrev pub invariant-loop-name : goal.invariant-loop-name

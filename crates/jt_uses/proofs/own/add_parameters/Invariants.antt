@@ -1,7 +1,7 @@
 use Rattle.std.proofs.Common.{◌≡◌, drop, map}
 use Rattle.jt_uses.specs.Names.{texts}
-use Rattle.jt_parse.specs.View as parsed
-use Rattle.jt_parse.specs.Texts.{all_inserted}
+use Rattle.jt_trees.specs.StatementView as parsed
+use Rattle.jt_trees.specs.Texts.{all_inserted}
 use Rattle.jt_uses.proofs.own.add_parameters.Given as goal
 
 abbrev pub invariant-loop-parameter : goal.invariant-loop-parameter

@@ -1,8 +1,8 @@
 use Rattle.std.proofs.Common.{◌≡◌, drop}
 use Rattle.jt_uses.specs.Names.{texts}
-use Rattle.jt_parse.specs.View as parsed
+use Rattle.jt_trees.specs.StatementView as parsed
 use Rattle.jt_chains.specs.Uses as uses
-use Rattle.jt_parse.specs.Texts.{all_inserted}
+use Rattle.jt_trees.specs.Texts.{all_inserted}
 use Rattle.jt_uses.proofs.own.then_filterings.Given as goal
 
 abbrev pub invariant-loop-filtering : goal.invariant-loop-filtering

@@ -1,6 +1,6 @@
 use Rattle.std.proofs.Common.{List, ◌++◌, refl, sym, ap, ◌∙◌}
 use Rattle.std.proofs.lemmas.List.{at_drop_all, append-nil}
-use Rattle.jt_parse.specs.View.{body_view, branches_view}
+use Rattle.jt_trees.specs.StatementView.{body_view, branches_view}
 use Rattle.jt_chains.specs.Uses.{scope_names_by, scope_names_in, scope_names_under}
 use Rattle.jt_uses.specs.Names.{texts}
 use Rattle.jt_uses.proofs.Left.{Branch}

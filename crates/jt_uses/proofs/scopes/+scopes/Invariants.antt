@@ -1,5 +1,5 @@
 use Rattle.std.proofs.Common.{◌≡◌, ◌++◌, drop}
-use Rattle.jt_parse.specs.View.{body_view, branches_view}
+use Rattle.jt_trees.specs.StatementView.{body_view, branches_view}
 use Rattle.jt_chains.specs.Uses.{scope_names_in, scope_names_under}
 use Rattle.jt_uses.specs.Names.{texts}
 use Rattle.jt_uses.proofs.scopes.+scopes.Given as goal

@@ -3,7 +3,8 @@ use Rattle.std.proofs.Common.{◌≡◌, ◌<◌, length, get_or, subst, List, [
 use Rattle.std.specs.Prelude.{flat_map}
 use Rattle.jt_chains.specs.Along.{along}
 use Rattle.jt_chains.specs.Chain.{Template, templates, sources_in}
-use Rattle.jt_parse.specs.Trees.{Text, Body}
+use Rattle.jt_trees.specs.Expressions.{Text}
+use Rattle.jt_trees.specs.Statements.{Body}
 use Rattle.jt_chains.specs.Layers.{layer_view}
 use Rattle.jt_chains.specs.Pages.{pages_view, home_name}
 use Rattle.jt_chains.specs.Places.{home_at}

@@ -2,7 +2,8 @@ use borrow.Author.Tests.{ltb-true}
 use Rattle.std.proofs.Common.{◌≡◌, ◌<◌, length, get_or, subst, List, Vec, Global, sym, ap, ◌∙◌}
 use Rattle.jt_chains.specs.Along.{along}
 use Rattle.jt_chains.specs.Chain.{MacroBody, macros_in}
-use Rattle.jt_parse.specs.Trees.{Text, Body}
+use Rattle.jt_trees.specs.Expressions.{Text}
+use Rattle.jt_trees.specs.Statements.{Body}
 use Rattle.jt_chains.specs.Pages.{pages_view}
 use Rattle.jt_chains.specs.Parts.{macros_view}
 use Rattle.jt_chains.specs.declared.linked.Home.{Home}

@@ -1,7 +1,7 @@
 use Rattle.std.proofs.Common.{◌≡◌, ℕ, ◌-◌, suc}
 use Rattle.jt_expr.specs.declared.rows.Chain.{Chain}
 use Rattle.jt_expr.specs.declared.rows.Chain.TheVariants as c
-use Rattle.jt_expr.specs.View.{expr_view}
+use Rattle.jt_trees.specs.ExpressionView.{expr_view}
 use Rattle.jt_expr.specs.Cursor.{ahead}
 use Rattle.jt_expr.specs.Gives.{level_of_chain, operand_of}
 use Rattle.jt_expr.specs.Reading.{read, loop, chain_step, read_chain}

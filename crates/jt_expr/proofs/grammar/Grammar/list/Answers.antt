@@ -1,5 +1,5 @@
 use Rattle.std.proofs.Common.{ap, arith}
-use Rattle.jt_expr.specs.Trees.{levels}
+use Rattle.jt_trees.specs.Expressions.{levels}
 use Rattle.jt_expr.proofs.Heights.{height_of_row, height_of_items}
 use Rattle.jt_expr.proofs.grammar.Grammar.list.Goals as goal
 

@@ -1,5 +1,5 @@
 use Rattle.std.proofs.Common.{◌≡◌, ◌-◌, suc}
-use Rattle.jt_expr.specs.View.{expr_view}
+use Rattle.jt_trees.specs.ExpressionView.{expr_view}
 use Rattle.jt_expr.specs.Cursor.{ahead}
 use Rattle.jt_expr.specs.Reading.{read, loop, postfix_step, read_postfix}
 use Rattle.jt_expr.proofs.grammar.Grammar.postfix.Given as goal

@@ -1,5 +1,5 @@
 use Rattle.std.proofs.Common.{◌≡◌, ◌-◌, suc}
-use Rattle.jt_expr.specs.View.{expr_view}
+use Rattle.jt_trees.specs.ExpressionView.{expr_view}
 use Rattle.jt_expr.specs.Cursor.{ahead}
 use Rattle.jt_expr.specs.Reading.{read, loop, postscript_step, read_postscript}
 use Rattle.jt_expr.proofs.grammar.Grammar.postscript.Given as goal

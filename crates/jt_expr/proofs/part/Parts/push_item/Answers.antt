@@ -1,7 +1,7 @@
 use Rattle.std.proofs.Common.{◌∙◌, ap, arith}
 use Rattle.jt_expr.specs.Collecting.{then_exprs}
-use Rattle.jt_expr.specs.Trees.{Exprs, Pairs, expr, exprs_levels, no_exprs}
-use Rattle.jt_expr.specs.View.{expr_view, exprs_view, pairs_view}
+use Rattle.jt_trees.specs.Expressions.{Exprs, Pairs, expr, exprs_levels, no_exprs}
+use Rattle.jt_trees.specs.ExpressionView.{expr_view, exprs_view, pairs_view}
 use Rattle.jt_expr.proofs.Views.{exprs-push}
 use Rattle.jt_expr.proofs.Collected.{exprs_levels-one}
 use Rattle.jt_expr.proofs.part.Parts.push_item.Goals as goal

@@ -1,7 +1,7 @@
 use Rattle.std.proofs.Common.{◌∙◌, ap, arith, string_bytes}
 use Rattle.jt_expr.specs.Collecting.{then_pairs}
-use Rattle.jt_expr.specs.Trees.{Exprs, Pairs, no_pairs, pair, pairs_levels}
-use Rattle.jt_expr.specs.View.{expr_view, exprs_view, pairs_view}
+use Rattle.jt_trees.specs.Expressions.{Exprs, Pairs, no_pairs, pair, pairs_levels}
+use Rattle.jt_trees.specs.ExpressionView.{expr_view, exprs_view, pairs_view}
 use Rattle.jt_expr.proofs.Views.{pairs-push}
 use Rattle.jt_expr.proofs.Collected.{pairs_levels-one}
 use Rattle.jt_expr.proofs.part.Parts.push_pair.Goals as goal

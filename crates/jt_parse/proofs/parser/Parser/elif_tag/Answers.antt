@@ -1,8 +1,8 @@
 use Rattle.std.proofs.Common.{map, rules, ap, ◌∙◌, ◌∷◌}
 use Rattle.std.proofs.lemmas.Result.{err_from_is_err_and}
 use Rattle.jt_scan.specs.View.{token_view}
-use Rattle.jt_expr.specs.View.{expr_view}
-use Rattle.jt_parse.specs.View.{body_view, branches_view}
+use Rattle.jt_trees.specs.ExpressionView.{expr_view}
+use Rattle.jt_trees.specs.StatementView.{body_view, branches_view}
 use Rattle.jt_parse.specs.Gives.{frames_view, frame_by}
 use Rattle.jt_parse.proofs.Expressions.{elif_over, elif_refused, elif_ok}
 use Rattle.jt_parse.proofs.parser.Parser.elif_tag.Goals as goal

@@ -1,13 +1,13 @@
 use Rattle.std.proofs.Common.{suc, ◌+◌, length, map, ap, ◌∙◌}
 use Rattle.std.proofs.lemmas.Result.{err_from_is_err_and}
 use Rattle.jt_scan.specs.View.{token_view}
-use Rattle.jt_expr.specs.Trees.{levels}
+use Rattle.jt_trees.specs.Expressions.{levels}
 use Rattle.jt_expr.specs.Grammar.{Spells, whole}
-use Rattle.jt_expr.specs.View.{expr_view}
-use Rattle.jt_parse.specs.Trees.{print}
+use Rattle.jt_trees.specs.ExpressionView.{expr_view}
+use Rattle.jt_trees.specs.Statements.{print}
 use Rattle.jt_parse.specs.Reading.{grown, state, then_one}
 use Rattle.jt_parse.specs.Gives.{state_view}
-use Rattle.jt_parse.proofs.Views.{view-Print}
+use Rattle.jt_trees.proofs.StatementViews.{view-Print}
 use Rattle.jt_parse.proofs.Expressions.{after_refused, no_room, expression_over, one_left, fitting}
 use Rattle.jt_parse.proofs.parser.Parser.print_tag.Goals as goal
 

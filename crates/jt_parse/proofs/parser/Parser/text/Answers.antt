@@ -1,10 +1,10 @@
 use Rattle.std.proofs.Common.{◌≡◌, ◌<◌, length, ap, ◌∙◌, arith}
 use Rattle.std.proofs.lemmas.Bool.Decides.{nat_tests}
-use Rattle.jt_parse.specs.Trees.{data_of}
+use Rattle.jt_trees.specs.Statements.{data_of}
 use Rattle.jt_parse.specs.Reading.{state, then_one}
 use Rattle.jt_parse.specs.Gives.{state_view}
 use Rattle.jt_parse.proofs.Steps.{text_none, text_some}
-use Rattle.jt_parse.proofs.Views.{view-Data}
+use Rattle.jt_trees.proofs.StatementViews.{view-Data}
 use Rattle.jt_parse.proofs.parser.Parser.text.Goals as goal
 
 pub returns-then-is_empty : goal.returns-then-is_empty

@@ -1,7 +1,7 @@
 use Rattle.std.proofs.Common.{List, None, sym, ap, ◌∙◌, arith}
 use Rattle.std.proofs.lemmas.List.{at_drop_all}
 use denote.Ref.{Bor}
-use Rattle.jt_parse.specs.Trees.{Text}
+use Rattle.jt_trees.specs.Expressions.{Text}
 use Rattle.jt_layout.specs.Names.{place_in}
 use Rattle.jt_uses.specs.Names.{texts}
 use Rattle.jt_scopes.specs.Names.{last_among}

@@ -1,0 +1,159 @@
+//! Expressions from their parts.
+
+ghost use Rattle.std.specs.Prelude.{◌≡◌, IfOk};
+ghost use Rattle.jt_trees.specs.Expressions as trees;
+ghost use Rattle.jt_trees.specs.ExpressionView.{literal_view, expr_view, exprs_view, pairs_view};
+ghost use Rattle.std.specs.Prelude.{string_bytes, encode_utf8_all};
+ghost use Rattle.std.specs.Str.{chars};
+
+use jt_trees::{BinaryOperator, Expr, Literal, UnaryOperator};
+use std::alloc::{AllocError, Global};
+
+/// The bytes of a text, in memory of its own.
+pub fn copy_of(alloc: Global, text: &str) -> Result<String, AllocError>
+    ensures { IfOk result (λ s. string_bytes s ≡ encode_utf8_all (chars text.now)) }
+{
+    String::from_str(alloc, text)
+}
+
+pub(crate) fn make_constant(alloc: Global, literal: Literal) -> Result<Box<Expr>, AllocError>
+    ensures { IfOk result (λ e. expr_view e.value ≡ trees.constant (literal_view literal)) }
+{
+    Ok(Box::new(alloc, Expr::Constant(literal))?)
+}
+
+pub(crate) fn make_name(alloc: Global, text: &str) -> Result<Box<Expr>, AllocError>
+    ensures { IfOk result (λ e. expr_view e.value ≡ trees.name (encode_utf8_all (chars text.now))) }
+{
+    let name = copy_of(alloc, text)?;
+    Ok(Box::new(alloc, Expr::Name(name))?)
+}
+
+pub(crate) fn make_group(alloc: Global, inner: Box<Expr>) -> Result<Box<Expr>, AllocError>
+    ensures { IfOk result (λ e. expr_view e.value ≡ trees.group (expr_view inner.value)) }
+{
+    Ok(Box::new(alloc, Expr::Group(inner))?)
+}
+
+pub(crate) fn make_list(alloc: Global, items: Vec<Expr>) -> Result<Box<Expr>, AllocError>
+    ensures { IfOk result (λ e. expr_view e.value ≡ trees.list_of (exprs_view items.items)) }
+{
+    Ok(Box::new(alloc, Expr::List(items))?)
+}
+
+pub(crate) fn make_map(alloc: Global, pairs: Vec<(String, Expr)>) -> Result<Box<Expr>, AllocError>
+    ensures { IfOk result (λ e. expr_view e.value ≡ trees.map_of (pairs_view pairs.items)) }
+{
+    Ok(Box::new(alloc, Expr::Map(pairs))?)
+}
+
+pub(crate) fn make_attribute(
+    alloc: Global,
+    a: Box<Expr>,
+    text: &str,
+) -> Result<Box<Expr>, AllocError>
+    ensures { IfOk result (λ e. expr_view e.value
+        ≡ trees.attribute (expr_view a.value) (encode_utf8_all (chars text.now))) }
+{
+    let name = copy_of(alloc, text)?;
+    Ok(Box::new(alloc, Expr::Attribute(a, name))?)
+}
+
+pub(crate) fn make_item(
+    alloc: Global,
+    a: Box<Expr>,
+    index: Box<Expr>,
+) -> Result<Box<Expr>, AllocError>
+    ensures { IfOk result
+        (λ e. expr_view e.value ≡ trees.item (expr_view a.value) (expr_view index.value)) }
+{
+    Ok(Box::new(alloc, Expr::Item(a, index))?)
+}
+
+pub(crate) fn make_call(
+    alloc: Global,
+    a: Box<Expr>,
+    items: Vec<Expr>,
+    pairs: Vec<(String, Expr)>,
+) -> Result<Box<Expr>, AllocError>
+    ensures { IfOk result (λ e. expr_view e.value
+        ≡ trees.call (expr_view a.value) (exprs_view items.items) (pairs_view pairs.items)) }
+{
+    Ok(Box::new(alloc, Expr::Call(a, items, pairs))?)
+}
+
+pub(crate) fn make_filter(
+    alloc: Global,
+    a: Box<Expr>,
+    text: &str,
+    items: Vec<Expr>,
+    pairs: Vec<(String, Expr)>,
+) -> Result<Box<Expr>, AllocError>
+    ensures { IfOk result (λ e. expr_view e.value
+        ≡ trees.filter (expr_view a.value) (encode_utf8_all (chars text.now))
+        (exprs_view items.items) (pairs_view pairs.items)) }
+{
+    let name = copy_of(alloc, text)?;
+    Ok(Box::new(alloc, Expr::Filter(a, name, items, pairs))?)
+}
+
+pub(crate) fn make_test(
+    alloc: Global,
+    a: Box<Expr>,
+    negated: bool,
+    text: &str,
+    items: Vec<Expr>,
+    pairs: Vec<(String, Expr)>,
+) -> Result<Box<Expr>, AllocError>
+    ensures { IfOk result (λ e. expr_view e.value
+        ≡ trees.test (expr_view a.value) negated (encode_utf8_all (chars text.now))
+        (exprs_view items.items) (pairs_view pairs.items)) }
+{
+    let name = copy_of(alloc, text)?;
+    Ok(Box::new(alloc, Expr::Test(a, negated, name, items, pairs))?)
+}
+
+pub(crate) fn make_unary(
+    alloc: Global,
+    op: UnaryOperator,
+    a: Box<Expr>,
+) -> Result<Box<Expr>, AllocError>
+    ensures { IfOk result (λ e. expr_view e.value ≡ trees.unary op (expr_view a.value)) }
+{
+    Ok(Box::new(alloc, Expr::Unary(op, a))?)
+}
+
+pub(crate) fn make_binary(
+    alloc: Global,
+    op: BinaryOperator,
+    a: Box<Expr>,
+    b: Box<Expr>,
+) -> Result<Box<Expr>, AllocError>
+    ensures { IfOk result
+        (λ e. expr_view e.value ≡ trees.binary op (expr_view a.value) (expr_view b.value)) }
+{
+    Ok(Box::new(alloc, Expr::Binary(op, a, b))?)
+}
+
+pub(crate) fn make_when(
+    alloc: Global,
+    condition: Box<Expr>,
+    a: Box<Expr>,
+) -> Result<Box<Expr>, AllocError>
+    ensures { IfOk result
+        (λ e. expr_view e.value ≡ trees.when (expr_view condition.value) (expr_view a.value)) }
+{
+    Ok(Box::new(alloc, Expr::When(condition, a))?)
+}
+
+pub(crate) fn make_choice(
+    alloc: Global,
+    condition: Box<Expr>,
+    a: Box<Expr>,
+    b: Box<Expr>,
+) -> Result<Box<Expr>, AllocError>
+    ensures { IfOk result (λ e. expr_view e.value
+        ≡ trees.choice (expr_view condition.value) (expr_view a.value) (expr_view b.value)) }
+{
+    Ok(Box::new(alloc, Expr::Choice(condition, a, b))?)
+}

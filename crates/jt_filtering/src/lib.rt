@@ -1,0 +1,2 @@
+//! What each filter gives, a value or a fault: definitions alone.
+#![tactic(auto)]

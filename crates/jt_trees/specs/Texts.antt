@@ -1,0 +1,30 @@
+-- Lists of texts.
+use Rattle.std.specs.Prelude.{Bool, false, ◌||◌, List, [], ◌∷◌, if◌then◌else◌}
+use Rattle.std.specs.Ordering.{nat_cmp, is_lt}
+use Rattle.std.specs.Cmp.Lexicographic.{slice_cmp}
+use Rattle.std.specs.Str.{bytes_eq}
+use Rattle.jt_trees.specs.Expressions.{Text}
+
+-- whether a text is among others
+abbrev pub among : Text → List Text → Bool
+among x [] = false
+among x (y ∷ ys) = bytes_eq y x || among x ys
+
+-- whether one of them comes again
+abbrev pub repeated : List Text → Bool
+repeated [] = false
+repeated (x ∷ xs) = among x xs || repeated xs
+
+-- a text at its place among ascending ones; one that is there isn't put again
+abbrev pub inserted : Text → List Text → List Text
+inserted x [] = x ∷ []
+inserted x (y ∷ ys) = if bytes_eq y x then y ∷ ys else if is_lt (slice_cmp nat_cmp x y) then x ∷ y ∷ ys else y ∷ inserted x ys
+
+-- ascending texts, with each of these at its place
+abbrev pub all_inserted : List Text → List Text → List Text
+all_inserted [] ns = ns
+all_inserted (x ∷ xs) ns = all_inserted xs (inserted x ns)
+
+-- the different ones of these texts, in ascending order
+abbrev pub ascending : List Text → List Text
+ascending xs = all_inserted xs []

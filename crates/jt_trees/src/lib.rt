@@ -1,0 +1,10 @@
+//! Templates and expressions as trees, as they are written: no name is looked up yet.
+#![tactic(auto)]
+
+mod expression;
+mod statement;
+mod written;
+
+pub use expression::{BinaryOperator, Expr, Literal, UnaryOperator};
+pub use statement::{Filtering, Parameter, Stmt, Template};
+pub use written::{filter_of, literal_text};
