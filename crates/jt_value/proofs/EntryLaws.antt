@@ -19,6 +19,15 @@ has_key-entry_of k (entry l t es) = by (bytes_eq l k) (has_key-entry_of k es)
     by true rest = refl
     by false rest = rest
 
+-- a key whose first values on both sides are equal is there on the other side
+pub has_key-there : (es fs : Entries) (k : List ℕ) → equal_at es k (entry_of k fs) ≡ true → has_key k fs ≡ true
+has_key-there es fs k h = has_key-entry_of k fs ∙ by (entry_of k es) (entry_of k fs) (sym (equal_at-entry_of es k (entry_of k fs)) ∙ h)
+  where
+    by : (o p : Option Tree) → option_map_or (λ t. option_map_or (equal t) p false) o false ≡ true → is_some p ≡ true
+    by None p e = absurd (true≢false (sym e))
+    by (Some t) None e = absurd (true≢false (sym e))
+    by (Some t) (Some u) e = refl
+
 -- the entry in front counts for its own key, and for no other
 pub entry_of-own : (k : List ℕ) (t : Tree) (es : Entries) → entry_of k (entry k t es) ≡ Some t
 entry_of-own k t es = ap (λ b. cond b (Some t) (entry_of k es)) (reflexive k)

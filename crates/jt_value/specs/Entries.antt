@@ -1,6 +1,8 @@
 -- The entries of a map by their keys. A map that a caller gave may have one key twice: its first value counts.
 use Rattle.std.specs.Prelude.{ℕ, List, [], ◌∷◌, Bool, true, false, ◌&&◌, Option, Some, None, if◌then◌else◌}
 use Rattle.std.specs.Str.{bytes_eq}
+use Rattle.std.specs.Ordering.{nat_cmp, is_lt}
+use Rattle.std.specs.Cmp.Lexicographic.{slice_cmp}
 use Rattle.jt_value.specs.Tree.{Tree, Entries, no_entries, entry}
 
 -- the first value of a key
@@ -28,3 +30,12 @@ abbrev pub same_keys : Entries → Entries → Bool
 same_keys no_entries no_entries = true
 same_keys (entry k t es) (entry l u fs) = bytes_eq k l && same_keys es fs
 same_keys es fs = false
+
+-- whether each key stands before the next one, in byte order
+abbrev pub stands_before : List ℕ → Entries → Bool
+stands_before k no_entries = true
+stands_before k (entry l t es) = is_lt (slice_cmp nat_cmp k l)
+
+abbrev pub ascends : Entries → Bool
+ascends no_entries = true
+ascends (entry k t es) = stands_before k es && ascends es

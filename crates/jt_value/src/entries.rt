@@ -1,6 +1,8 @@
 //! The entries of a map by their keys. A key that stands twice has its first value.
 ghost use Rattle.std.specs.Prelude.{◌≡◌, option_map, option_copied};
-ghost use Rattle.jt_value.specs.Entries.{entry_of, has_key, all_keys, same_keys};
+ghost use Rattle.std.specs.Cmp.Lexicographic.{slice_cmp};
+ghost use Rattle.std.specs.Ordering.{nat_cmp, is_lt};
+ghost use Rattle.jt_value.specs.Entries.{entry_of, has_key, all_keys, same_keys, ascends};
 ghost use Rattle.jt_value.specs.View.{view, entries_view};
 
 use crate::value::Value;
@@ -55,6 +57,25 @@ pub(crate) fn have_same_keys(entries: &[(String, Value)], others: &[(String, Val
             return false;
         }
         index += 1;
+    }
+    true
+}
+
+/// Whether a key stands before another one, in byte order.
+fn is_before(key: &str, other: &str) -> bool
+    ensures { result ≡ is_lt (slice_cmp nat_cmp key.now other.now) }
+{
+    key < other
+}
+
+/// Whether each key stands before the next one, in byte order, as in an object of JSON.
+pub(crate) fn ascend(entries: &[(String, Value)]) -> bool
+    ensures { result ≡ ascends (entries_view entries.now) }
+{
+    for next in 1..entries.len() {
+        if !is_before(entries[next - 1].0.as_str(), entries[next].0.as_str()) {
+            return false;
+        }
     }
     true
 }

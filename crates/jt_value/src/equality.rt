@@ -7,7 +7,7 @@ ghost use Rattle.jt_value.specs.Entries.{entry_of, all_keys, same_keys};
 ghost use Rattle.jt_value.specs.Equality.{equal, equal_items, equal_at, truth_number, AgreeAtEachKey};
 ghost use Rattle.jt_value.specs.View.{view, items_view, entries_view};
 
-use crate::entries::{first_value, has, has_all_keys, have_same_keys};
+use crate::entries::{ascend, first_value, has, has_all_keys, have_same_keys};
 use crate::value::Value;
 
 impl Value {
@@ -99,6 +99,10 @@ fn are_maps_equal(entries: &[(String, Value)], others: &[(String, Value)]) -> bo
 {
     if have_same_keys(entries, others) {
         return are_values_equal_in_place(entries, others);
+    }
+    // In byte order, the same keys would stand at the same places.
+    if ascend(entries) && ascend(others) {
+        return false;
     }
     has_all_keys(entries, others) && are_first_values_equal(entries, others)
 }

@@ -4,6 +4,7 @@ use Rattle.jt_value.specs.Equality.{equal, equal_at}
 use Rattle.jt_value.specs.Falls.{sizes-items, sizes-entries}
 use Rattle.jt_value.specs.Tree.{items_size, entries_size}
 use Rattle.jt_value.specs.View.{view, entries_view}
+use Rattle.jt_value.proofs.Ascending.{apart}
 use Rattle.jt_value.proofs.Equalities.{items_differ, passes, fails, equal_at-first, equal_at-same, seen, found, and_known, same_keys-all, same_length}
 use Rattle.jt_value.specs.declared.payload.ValueList.TheDeep.{size-Value}
 use Rattle.jt_value.proofs.Lists.{Pair}
@@ -62,6 +63,10 @@ are_maps_equal-returns-then-have_same_keys t c =
     let fs = entries_view c.args.others.now in
     c.are_values_equal_in_place.ensures
     ∙ and_known (all_keys (λ k. equal_at es k (entry_of k fs)) es) (all_keys (λ k. has_key k es) fs) (same_keys-all es fs (sym (c.if-have_same_keys.ensures)))
+
+pub are_maps_equal-returns-then-ascend-2 : goal.are_maps_equal-returns-then-ascend-2
+are_maps_equal-returns-then-ascend-2 t c =
+    sym (apart (entries_view c.args.entries.now) (entries_view c.args.others.now) (sym c.if-ascend.ensures) (sym c.if-ascend-2.ensures) (sym c.if-have_same_keys.ensures))
 
 pub are_values_equal_in_place-bounds-others-index : goal.are_values_equal_in_place-bounds-others-index
 are_values_equal_in_place-bounds-others-index t c =
