@@ -1,3 +1,1 @@
-pub mod Gathered
 pub mod Placed
-pub mod Shown

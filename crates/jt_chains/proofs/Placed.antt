@@ -1,8 +1,8 @@
 -- Templates by their places.
-use Rattle.std.proofs.Common.{◌≡◌, ℕ, zero, suc, ◌+◌, ◌<◌, Bool, true, false, ◌||◌, if◌then◌else◌, List, [], ◌∷◌, ◌++◌, length, map, drop, get_or, refl, sym, ap, subst, ◌∙◌, arith, Option, Some, None, Result, Ok, Err, IfOk}
+use Rattle.std.proofs.Common.{◌≡◌, ℕ, zero, suc, ◌+◌, ◌<◌, Bool, true, false, ◌||◌, if◌then◌else◌, List, [], ◌∷◌, ◌++◌, length, map, drop, get_or, refl, sym, ap, subst, ◌∙◌, arith, Option, Some, None}
 use Rattle.std.specs.Prelude.{slice_get, flat_map, unwrap_or, option_map}
 use Rattle.std.specs.List.{AllByRecursion}
-use Rattle.std.proofs.lemmas.List.{drop_more, append_assoc}
+use Rattle.std.proofs.lemmas.List.{drop_more, append_assoc, length-map}
 use Rattle.std.proofs.lemmas.Option.{slice_get_within}
 use Rattle.std.proofs.lemmas.Cmp.{nat_list_eq_equiv}
 use Rattle.std.proofs.lemmas.Slice.Eq.{bytes_eq-Decides}
@@ -34,17 +34,13 @@ map_at f [] i x lt is = absurd (omega arith)
 map_at f (y ∷ ys) zero x lt is = ap (λ z. Some (f z)) (sym is)
 map_at f (y ∷ ys) (suc i) x lt is = map_at f ys i x (omega arith) is
 
-pub length-map : {X Y : Type 0} (f : X → Y) (xs : List X) → length (map f xs) ≡ length xs
-length-map f [] = refl
-length-map f (x ∷ xs) = ap suc (length-map f xs)
-
 -- the tree of the page at a place
 pub page_at : (ps : List Page) (i : ℕ) (p : Page) → i < length ps → p ≡ get_or ps i p → body_at (pages_view ps) i ≡ body_of p.template
 page_at ps i p lt is = ap (λ o. unwrap_or (option_map (λ (t : Template). t.body) o) end) (map_at page_view ps i p lt is)
 
 -- a place among pages is one among what contracts see of them
 pub place_within : (ps : List Page) (is : List ℕ) (k : ℕ) → k < length is → ArePlaces (pages_view ps) is → get_or is k 0 < length ps
-place_within ps is k lt a = omega (arith, number_at (λ i. i < length (pages_view ps)) is k lt a, length-map page_view ps)
+place_within ps is k lt a = omega (arith, number_at (λ i. i < length (pages_view ps)) is k lt a, length-map ps page_view)
 
 -- ---- one behind the other
 
@@ -201,7 +197,3 @@ module _ (ps qs : List Page) (hs : List Home) (i : ℕ) (h : Home) (is : List �
       ap (λ (z : List Page). along (pages_view z) g is) same_pages ∙ ap (along (pages_view ps) g) same_places
       ∙ along_templates g (pages_view ps) h.templates.items (templates (sources_in (pages_view ps)) (home_name h)) there
       ∙ ap (λ n. flat_map (λ t. g t.name t.body) (templates (sources_in (pages_view ps)) n)) (sym (name_of_home hs i h lt at))
-
-pub if_ok : {A E : Type 0} (P Q : A → Type 0) (r : Result A E) → ((a : A) → P a → Q a) → IfOk r P → IfOk r Q
-if_ok P Q (Ok a) f p = f a p
-if_ok P Q (Err e) f p = tt

@@ -9,8 +9,8 @@ use Rattle.jt_trees.specs.declared.statement.Parameter.{Parameter}
 use Rattle.jt_trees.specs.declared.statement.Stmt.{Stmt}
 use Rattle.jt_trees.specs.declared.statement.Stmt.TheVariants as statement
 use Rattle.jt_checks.proofs.Fits.{viewed_length}
-use Rattle.jt_checks.proofs.Left.{Branch, Entry}
-use Rattle.jt_checks.proofs.Shown.{shown_If, shown_For, shown_Set, shown_With, shown_Macro}
+use Rattle.jt_trees.proofs.Left.{Branch, Entry}
+use Rattle.jt_trees.proofs.StatementViews.{view_If, view_For, view_Set, view_With, view_Macro}
 
 named_length : (xs : List (String Global)) → length (names_view xs) ≡ length xs
 named_length [] = refl
@@ -25,7 +25,7 @@ module _ (m : ℕ) (s : Stmt) where
   pub for_bound : (line : ℕ) (xs : Vec (String Global) Global) (e : Expr) (c : Option Expr) (body other : Vec Stmt Global) (b o : List Stmt) (n p q r k : ℕ) → s ≡ statement.For line xs e c body other
       → b ≡ body.items → o ≡ other.items → n ≡ min (body_bound (body_view b)) m → p ≡ min (body_bound (body_view o)) m → q ≡ min (n + p) m → k ≡ length xs.items → r ≡ min (k + q) m → r ≡ min (stmt_bound (stmt_view s)) m
   for_bound line xs e c body other b o n p q r k is eb eo en ep eq ek er =
-      let t : stmt_bound (stmt_view s) ≡ length (names_view xs.items) + body_bound (body_view body.items) + body_bound (body_view other.items) = ap (λ z. stmt_bound (stmt_view z)) is ∙ ap stmt_bound (shown_For line xs e c body other) in
+      let t : stmt_bound (stmt_view s) ≡ length (names_view xs.items) + body_bound (body_view body.items) + body_bound (body_view other.items) = ap (λ z. stmt_bound (stmt_view z)) is ∙ ap stmt_bound (view_For line xs e c body other) in
       let l = named_length xs.items in
       let u : body_bound (body_view b) ≡ body_bound (body_view body.items) = ap (λ z. body_bound (body_view z)) eb in
       let v : body_bound (body_view o) ≡ body_bound (body_view other.items) = ap (λ z. body_bound (body_view z)) eo in
@@ -33,14 +33,14 @@ module _ (m : ℕ) (s : Stmt) where
 
   pub set_bound : (line : ℕ) (xs : Vec (String Global) Global) (e : Expr) (r : ℕ) → s ≡ statement.Set line xs e → r ≡ length xs.items → r < suc m → r ≡ min (stmt_bound (stmt_view s)) m
   set_bound line xs e r is er lt =
-      let t : stmt_bound (stmt_view s) ≡ length (names_view xs.items) = ap (λ z. stmt_bound (stmt_view z)) is ∙ ap stmt_bound (shown_Set line xs e) in
+      let t : stmt_bound (stmt_view s) ≡ length (names_view xs.items) = ap (λ z. stmt_bound (stmt_view z)) is ∙ ap stmt_bound (view_Set line xs e) in
       let l = named_length xs.items in
       omega arith
 
   pub with_bound : (line : ℕ) (ps : Vec Entry Global) (body : Vec Stmt Global) (b : List Stmt) (n r k : ℕ) → s ≡ statement.With line ps body → b ≡ body.items → n ≡ min (body_bound (body_view b)) m
       → k ≡ length ps.items → r ≡ min (k + n) m → r ≡ min (stmt_bound (stmt_view s)) m
   with_bound line ps body b n r k is eb en ek er =
-      let t : stmt_bound (stmt_view s) ≡ pairs_count (pairs_view ps.items) + body_bound (body_view body.items) = ap (λ z. stmt_bound (stmt_view z)) is ∙ ap stmt_bound (shown_With line ps body) in
+      let t : stmt_bound (stmt_view s) ≡ pairs_count (pairs_view ps.items) + body_bound (body_view body.items) = ap (λ z. stmt_bound (stmt_view z)) is ∙ ap stmt_bound (view_With line ps body) in
       let l = pairs_length ps.items in
       let u : body_bound (body_view b) ≡ body_bound (body_view body.items) = ap (λ z. body_bound (body_view z)) eb in
       omega arith
@@ -48,7 +48,7 @@ module _ (m : ℕ) (s : Stmt) where
   pub macro_bound : (line : ℕ) (x : String Global) (ps : Vec Parameter Global) (body : Vec Stmt Global) (b : List Stmt) (n r k : ℕ) → s ≡ statement.Macro line x ps body → b ≡ body.items → n ≡ min (body_bound (body_view b)) m
       → k ≡ length ps.items → r ≡ min (k + n) m → r ≡ min (stmt_bound (stmt_view s)) m
   macro_bound line x ps body b n r k is eb en ek er =
-      let t : stmt_bound (stmt_view s) ≡ length (parameters_view ps.items) + body_bound (body_view body.items) = ap (λ z. stmt_bound (stmt_view z)) is ∙ ap stmt_bound (shown_Macro line x ps body) in
+      let t : stmt_bound (stmt_view s) ≡ length (parameters_view ps.items) + body_bound (body_view body.items) = ap (λ z. stmt_bound (stmt_view z)) is ∙ ap stmt_bound (view_Macro line x ps body) in
       let l = viewed_length ps.items in
       let u : body_bound (body_view b) ≡ body_bound (body_view body.items) = ap (λ z. body_bound (body_view z)) eb in
       omega arith
@@ -56,7 +56,7 @@ module _ (m : ℕ) (s : Stmt) where
   pub choice_bound : (bs : Vec Branch Global) (other : Vec Stmt Global) (ls : List Branch) (o : List Stmt) (i n r : ℕ) → s ≡ statement.If bs other → ls ≡ bs.items → o ≡ other.items → n ≡ min (body_bound (body_view o)) m
       → length ls ≤ i → r < suc m → min (r + branch_bound (branches_view (drop i ls))) m ≡ min (n + branch_bound (branches_view ls)) m → r ≡ min (stmt_bound (stmt_view s)) m
   choice_bound bs other ls o i n r is el eo en le lt h =
-      let t : stmt_bound (stmt_view s) ≡ branch_bound (branches_view bs.items) + body_bound (body_view other.items) = ap (λ z. stmt_bound (stmt_view z)) is ∙ ap stmt_bound (shown_If bs other) in
+      let t : stmt_bound (stmt_view s) ≡ branch_bound (branches_view bs.items) + body_bound (body_view other.items) = ap (λ z. stmt_bound (stmt_view z)) is ∙ ap stmt_bound (view_If bs other) in
       let u : branch_bound (branches_view ls) ≡ branch_bound (branches_view bs.items) = ap (λ z. branch_bound (branches_view z)) el in
       let v : body_bound (body_view o) ≡ body_bound (body_view other.items) = ap (λ z. body_bound (body_view z)) eo in
       let w : branch_bound (branches_view (drop i ls)) ≡ 0 = at_drop_all (λ (z : List Branch). branch_bound (branches_view z)) ls i le in

@@ -21,7 +21,7 @@ use Rattle.jt_checks.specs.Fitting.{filter_takes}
 use Rattle.jt_rules.specs.Walk as rules
 use Rattle.jt_rules.specs.declared.error.ScopeError.{ScopeError}
 use Rattle.jt_checks.proofs.Filled.{none_reached}
-use Rattle.jt_checks.proofs.Left.{Entry}
+use Rattle.jt_trees.proofs.Left.{Entry}
 
 pub known_filter : (f : FilterId) → filter_of (filter_id f) ≡ Some f
 unfolding filter_of

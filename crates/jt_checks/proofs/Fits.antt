@@ -14,7 +14,7 @@ use Rattle.jt_ids.specs.declared.filter_id.FilterId.{FilterId}
 use Rattle.jt_checks.specs.Fitting.{filter_takes}
 use Rattle.jt_rules.specs.Walk as rules
 use Rattle.jt_checks.proofs.Filled.{filled_behind}
-use Rattle.jt_checks.proofs.Shown.{counted}
+use Rattle.jt_checks.proofs.Counted.{counted}
 
 pub equal_ok : {E : Type 0} → (r : Result Bool E) (u v : Bool) → u ≡ v → IfOk r (λ b. b ≡ u) → IfOk r (λ b. b ≡ v)
 equal_ok (Ok b) u v e h = h ∙ e

@@ -7,7 +7,8 @@ use Rattle.jt_trees.specs.ExpressionView.{expr_view, exprs_view, pairs_view}
 use Rattle.jt_trees.specs.declared.expression.Expr.{Expr}
 use Rattle.jt_trees.specs.declared.expression.Expr.TheVariants as e
 use Rattle.jt_trees.specs.declared.expression.BinaryOperator.{BinaryOperator}
-use Rattle.jt_checks.proofs.Shown.{shown_Call, shown_Filter, shown_Test, shown_Item, shown_Binary, shown_When, shown_Choice, shown_If, shown_For}
+use Rattle.jt_trees.proofs.ExpressionViews.{view_Call, view_Filter, view_Test, view_Item, view_Binary, view_When, view_Choice}
+use Rattle.jt_trees.proofs.StatementViews.{view_If, view_For}
 use Rattle.jt_checks.proofs.Turns.{or_three, or_none, some_first, none_first, filterings_turn}
 use Rattle.jt_trees.specs.Expressions.{Text}
 use Rattle.jt_trees.specs.StatementView.{stmt_view, body_view, branches_view, names_view, filtering_view, filterings_view}
@@ -23,7 +24,7 @@ use Rattle.jt_rules.specs.Walk as rules
 use Rattle.jt_rules.specs.World.{World}
 use Rattle.jt_checks.specs.Standing.{world_in}
 use Rattle.jt_rules.specs.declared.error.ScopeError.{ScopeError}
-use Rattle.jt_checks.proofs.Left.{Entry, Branch, branches_left, pairs_left, row_left}
+use Rattle.jt_trees.proofs.Left.{Entry, Branch, branches_left, pairs_left, row_left}
 
 abbrev Found : Type 0
 Found = Option ScopeError
@@ -46,7 +47,7 @@ module _ (world : World) (home : Home) (w : rules.Within) where
       let e3 : r3 ≡ rules.row_broken world home (exprs_view ts.items) w = h3 ∙ ap (λ z. rules.row_broken world home (exprs_view z) w) ev in
       let e4 : r4 ≡ rules.pairs_broken world home (pairs_view ps.items) w = h4 ∙ ap (λ z. rules.pairs_broken world home (pairs_view z) w) er in
       k3 ∙ ap (λ z. option_or z o2) e1 ∙ ap (option_or _) (k2 ∙ ap (λ z. option_or z o1) e2 ∙ ap (option_or _) (k1 ∙ ap (λ z. option_or z r4) e3 ∙ ap (option_or _) e4))
-      ∙ ap (λ z. rules.broken world home z w) (sym (ap expr_view is ∙ shown_Call p ts ps))
+      ∙ ap (λ z. rules.broken world home z w) (sym (ap expr_view is ∙ view_Call p ts ps))
 
   pub found_inner : (x f : Expr) (us : List Expr) (qs : List Entry) (p : Box Expr Global) (ts : Vec Expr Global) (ps : Vec Entry Global) (r1 r2 r3 o1 o2 : Found)
       → x ≡ e.Call p ts ps → f ≡ p.value → us ≡ ts.items → qs ≡ ps.items
@@ -57,7 +58,7 @@ module _ (world : World) (home : Home) (w : rules.Within) where
       let e2 : r2 ≡ rules.row_broken world home (exprs_view ts.items) w = h2 ∙ ap (λ z. rules.row_broken world home (exprs_view z) w) eu in
       let e3 : r3 ≡ rules.pairs_broken world home (pairs_view ps.items) w = h3 ∙ ap (λ z. rules.pairs_broken world home (pairs_view z) w) eq in
       k2 ∙ ap (λ z. option_or z o1) e1 ∙ ap (option_or _) (k1 ∙ ap (λ z. option_or z r3) e2 ∙ ap (option_or _) e3)
-      ∙ ap (λ z. rules.called_broken world home z w) (sym (ap expr_view is ∙ shown_Call p ts ps))
+      ∙ ap (λ z. rules.called_broken world home z w) (sym (ap expr_view is ∙ view_Call p ts ps))
 
   -- a call by a name, and then the input and the arguments
   applied : (f : Expr) (vs : List Expr) (rs : List Entry) (p : Box Expr Global) (ts : Vec Expr Global) (ps : Vec Entry Global) (r2 r3 r4 o1 o2 : Found)
@@ -81,7 +82,7 @@ module _ (world : World) (home : Home) (w : rules.Within) where
       let e1 : r1 ≡ c world.filters (string_bytes y) ts.items ps.items =
       h1 ∙ ap (λ z. c the_filters z us qs) en ∙ ap (λ z. c the_filters (string_bytes y) z qs) eu ∙ ap (c the_filters (string_bytes y) ts.items) eq ∙ ap (λ z. c z (string_bytes y) ts.items ps.items) (sym ours) in
       k3 ∙ ap (λ z. option_or z o2) e1 ∙ ap (option_or _) (applied f vs rs p ts ps r2 r3 r4 o1 o2 ef ev er h2 h3 h4 k1 k2)
-      ∙ ap (λ z. rules.broken world home z w) (sym (ap expr_view is ∙ shown_Filter p y ts ps))
+      ∙ ap (λ z. rules.broken world home z w) (sym (ap expr_view is ∙ view_Filter p y ts ps))
 
   pub found_test : (x f : Expr) (n : Text) (us vs : List Expr) (qs rs : List Entry) (p : Box Expr Global) (b : Bool) (y : String Global) (ts : Vec Expr Global) (ps : Vec Entry Global) (r1 r2 r3 r4 o1 o2 o3 : Found)
       → x ≡ e.Test p b y ts ps → n ≡ string_bytes y → us ≡ ts.items → qs ≡ ps.items → f ≡ p.value → vs ≡ ts.items → rs ≡ ps.items
@@ -92,55 +93,55 @@ module _ (world : World) (home : Home) (w : rules.Within) where
       let c = λ (m : Text) (ys : List Expr) (zs : List Entry). rules.test_broken (test_named m) (exprs_view ys) (pairs_view zs) in
       let e1 : r1 ≡ c (string_bytes y) ts.items ps.items = h1 ∙ ap (λ z. c z us qs) en ∙ ap (λ z. c (string_bytes y) z qs) eu ∙ ap (c (string_bytes y) ts.items) eq in
       k3 ∙ ap (λ z. option_or z o2) e1 ∙ ap (option_or _) (applied f vs rs p ts ps r2 r3 r4 o1 o2 ef ev er h2 h3 h4 k1 k2)
-      ∙ ap (λ z. rules.broken world home z w) (sym (ap expr_view is ∙ shown_Test p b y ts ps))
+      ∙ ap (λ z. rules.broken world home z w) (sym (ap expr_view is ∙ view_Test p b y ts ps))
 
   pub filter_called : (x f : Expr) (vs : List Expr) (rs : List Entry) (p : Box Expr Global) (y : String Global) (ts : Vec Expr Global) (ps : Vec Entry Global) (r2 r3 r4 o1 o2 : Found)
       → x ≡ e.Filter p y ts ps → f ≡ p.value → vs ≡ ts.items → rs ≡ ps.items
       → r2 ≡ rules.broken world home (expr_view f) w → r3 ≡ rules.row_broken world home (exprs_view vs) w → r4 ≡ rules.pairs_broken world home (pairs_view rs) w
       → o1 ≡ option_or r3 r4 → o2 ≡ option_or r2 o1 → o2 ≡ rules.called_broken world home (expr_view x) w
   filter_called x f vs rs p y ts ps r2 r3 r4 o1 o2 is ef ev er h2 h3 h4 k1 k2 =
-      applied f vs rs p ts ps r2 r3 r4 o1 o2 ef ev er h2 h3 h4 k1 k2 ∙ ap (λ z. rules.called_broken world home z w) (sym (ap expr_view is ∙ shown_Filter p y ts ps))
+      applied f vs rs p ts ps r2 r3 r4 o1 o2 ef ev er h2 h3 h4 k1 k2 ∙ ap (λ z. rules.called_broken world home z w) (sym (ap expr_view is ∙ view_Filter p y ts ps))
 
   pub test_called : (x f : Expr) (vs : List Expr) (rs : List Entry) (p : Box Expr Global) (b : Bool) (y : String Global) (ts : Vec Expr Global) (ps : Vec Entry Global) (r2 r3 r4 o1 o2 : Found)
       → x ≡ e.Test p b y ts ps → f ≡ p.value → vs ≡ ts.items → rs ≡ ps.items
       → r2 ≡ rules.broken world home (expr_view f) w → r3 ≡ rules.row_broken world home (exprs_view vs) w → r4 ≡ rules.pairs_broken world home (pairs_view rs) w
       → o1 ≡ option_or r3 r4 → o2 ≡ option_or r2 o1 → o2 ≡ rules.called_broken world home (expr_view x) w
   test_called x f vs rs p b y ts ps r2 r3 r4 o1 o2 is ef ev er h2 h3 h4 k1 k2 =
-      applied f vs rs p ts ps r2 r3 r4 o1 o2 ef ev er h2 h3 h4 k1 k2 ∙ ap (λ z. rules.called_broken world home z w) (sym (ap expr_view is ∙ shown_Test p b y ts ps))
+      applied f vs rs p ts ps r2 r3 r4 o1 o2 ef ev er h2 h3 h4 k1 k2 ∙ ap (λ z. rules.called_broken world home z w) (sym (ap expr_view is ∙ view_Test p b y ts ps))
 
   -- ---- operators and choices, as they are read and where they are called
 
   pub item_read : (x a b : Expr) (p q : Box Expr Global) → x ≡ e.Item p q → a ≡ p.value → b ≡ q.value
       → option_or (rules.broken world home (expr_view a) w) (rules.broken world home (expr_view b) w) ≡ rules.broken world home (expr_view x) w
-  item_read x a b p q is f g = rw (f, g) (ap (λ z. rules.broken world home z w) (sym (ap expr_view is ∙ shown_Item p q)))
+  item_read x a b p q is f g = rw (f, g) (ap (λ z. rules.broken world home z w) (sym (ap expr_view is ∙ view_Item p q)))
 
   pub binary_read : (x a b : Expr) (o : BinaryOperator) (p q : Box Expr Global) → x ≡ e.Binary o p q → a ≡ p.value → b ≡ q.value
       → option_or (rules.broken world home (expr_view a) w) (rules.broken world home (expr_view b) w) ≡ rules.broken world home (expr_view x) w
-  binary_read x a b o p q is f g = rw (f, g) (ap (λ z. rules.broken world home z w) (sym (ap expr_view is ∙ shown_Binary o p q)))
+  binary_read x a b o p q is f g = rw (f, g) (ap (λ z. rules.broken world home z w) (sym (ap expr_view is ∙ view_Binary o p q)))
 
   pub when_read : (x a b : Expr) (p q : Box Expr Global) → x ≡ e.When p q → a ≡ p.value → b ≡ q.value
       → option_or (rules.broken world home (expr_view a) w) (rules.broken world home (expr_view b) w) ≡ rules.broken world home (expr_view x) w
-  when_read x a b p q is f g = rw (f, g) (ap (λ z. rules.broken world home z w) (sym (ap expr_view is ∙ shown_When p q)))
+  when_read x a b p q is f g = rw (f, g) (ap (λ z. rules.broken world home z w) (sym (ap expr_view is ∙ view_When p q)))
 
   pub choice_read : (x a b d : Expr) (p q r : Box Expr Global) → x ≡ e.Choice p q r → a ≡ p.value → b ≡ q.value → d ≡ r.value
       → option_or (rules.broken world home (expr_view a) w) (option_or (rules.broken world home (expr_view b) w) (rules.broken world home (expr_view d) w)) ≡ rules.broken world home (expr_view x) w
-  choice_read x a b d p q r is f g h = rw (f, g, h) (ap (λ z. rules.broken world home z w) (sym (ap expr_view is ∙ shown_Choice p q r)))
+  choice_read x a b d p q r is f g h = rw (f, g, h) (ap (λ z. rules.broken world home z w) (sym (ap expr_view is ∙ view_Choice p q r)))
 
   pub item_called : (x a b : Expr) (p q : Box Expr Global) → x ≡ e.Item p q → a ≡ p.value → b ≡ q.value
       → option_or (rules.broken world home (expr_view a) w) (rules.broken world home (expr_view b) w) ≡ rules.called_broken world home (expr_view x) w
-  item_called x a b p q is f g = rw (f, g) (ap (λ z. rules.called_broken world home z w) (sym (ap expr_view is ∙ shown_Item p q)))
+  item_called x a b p q is f g = rw (f, g) (ap (λ z. rules.called_broken world home z w) (sym (ap expr_view is ∙ view_Item p q)))
 
   pub binary_called : (x a b : Expr) (o : BinaryOperator) (p q : Box Expr Global) → x ≡ e.Binary o p q → a ≡ p.value → b ≡ q.value
       → option_or (rules.broken world home (expr_view a) w) (rules.broken world home (expr_view b) w) ≡ rules.called_broken world home (expr_view x) w
-  binary_called x a b o p q is f g = rw (f, g) (ap (λ z. rules.called_broken world home z w) (sym (ap expr_view is ∙ shown_Binary o p q)))
+  binary_called x a b o p q is f g = rw (f, g) (ap (λ z. rules.called_broken world home z w) (sym (ap expr_view is ∙ view_Binary o p q)))
 
   pub when_called : (x a b : Expr) (p q : Box Expr Global) → x ≡ e.When p q → a ≡ p.value → b ≡ q.value
       → option_or (rules.broken world home (expr_view a) w) (rules.broken world home (expr_view b) w) ≡ rules.called_broken world home (expr_view x) w
-  when_called x a b p q is f g = rw (f, g) (ap (λ z. rules.called_broken world home z w) (sym (ap expr_view is ∙ shown_When p q)))
+  when_called x a b p q is f g = rw (f, g) (ap (λ z. rules.called_broken world home z w) (sym (ap expr_view is ∙ view_When p q)))
 
   pub choice_called : (x a b d : Expr) (p q r : Box Expr Global) → x ≡ e.Choice p q r → a ≡ p.value → b ≡ q.value → d ≡ r.value
       → option_or (rules.broken world home (expr_view a) w) (option_or (rules.broken world home (expr_view b) w) (rules.broken world home (expr_view d) w)) ≡ rules.called_broken world home (expr_view x) w
-  choice_called x a b d p q r is f g h = rw (f, g, h) (ap (λ z. rules.called_broken world home z w) (sym (ap expr_view is ∙ shown_Choice p q r)))
+  choice_called x a b d p q r is f g h = rw (f, g, h) (ap (λ z. rules.called_broken world home z w) (sym (ap expr_view is ∙ view_Choice p q r)))
 
   -- ---- rows and pairs
 
@@ -225,7 +226,7 @@ module _ (world : World) (home : Home) (w : rules.Within) where
       → option_or (in_branches ls) (in_body o) ≡ rules.stmt_broken world home (stmt_view s) w
   choice_is s bs other ls o is el eo =
       ap (λ (z : List Branch). option_or (in_branches z) (in_body o)) el ∙ ap (λ (z : List Stmt). option_or (in_branches bs.items) (in_body z)) eo
-      ∙ sym (ap (λ z. rules.stmt_broken world home z w) (ap stmt_view is ∙ shown_If bs other))
+      ∙ sym (ap (λ z. rules.stmt_broken world home z w) (ap stmt_view is ∙ view_If bs other))
 
   abbrev pub head_part : Expr → List (String Global) → Option Expr → Found
   head_part e ys c = option_or (rules.broken world home (expr_view e) w) (option_or (rules.all_used world home (names_view ys)) (rules.condition_broken world home (option_map expr_view c) w))
@@ -241,4 +242,4 @@ module _ (world : World) (home : Home) (w : rules.Within) where
       ap (λ (z : List (String Global)). option_or (head_part e z c) (turns_part b o)) ex
       ∙ ap (λ (z : List Stmt). option_or (head_part e xs.items c) (turns_part z o)) eb ∙ ap (λ (z : List Stmt). option_or (head_part e xs.items c) (turns_part body.items z)) eo
       ∙ or_three (rules.broken world home (expr_view e) w) names when (turns_part body.items other.items)
-      ∙ sym (ap (λ z. rules.stmt_broken world home z w) (ap stmt_view is ∙ shown_For line xs e c body other))
+      ∙ sym (ap (λ z. rules.stmt_broken world home z w) (ap stmt_view is ∙ view_For line xs e c body other))

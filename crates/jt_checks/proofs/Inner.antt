@@ -11,8 +11,8 @@ use Rattle.jt_ids.specs.declared.filter_id.FilterId.{FilterId}
 use Rattle.jt_ids.specs.declared.filter_id.FilterId.TheVariants as filter
 use Rattle.jt_ids.specs.declared.filter_id.Naming.{Naming}
 use Rattle.jt_slots.specs.Inside.{argument_well, row_well, pairs_well}
-use Rattle.jt_checks.proofs.Left.{Entry}
-use Rattle.jt_checks.proofs.Shown.{counted}
+use Rattle.jt_trees.proofs.Left.{Entry}
+use Rattle.jt_checks.proofs.Counted.{counted}
 
 -- without a name of an only argument, a name means the filter that has it
 pub alone : (o : Option FilterId) → with_only o None ≡ o

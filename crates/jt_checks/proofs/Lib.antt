@@ -1,4 +1,5 @@
 pub mod Bound
+pub mod Counted
 pub mod Fields
 pub mod Filled
 pub mod Filtered
@@ -7,8 +8,6 @@ pub mod Forms
 pub mod Found
 pub mod Inner
 pub mod Known
-pub mod Left
 pub mod Named
 pub mod Sets
-pub mod Shown
 pub mod Turns

@@ -162,7 +162,7 @@ pub(crate) fn fits(
 }
 
 /// What the arguments of `range` break.
-#[tactic(auto, using(crate::proofs::Shown::counted, crate::proofs::Shown::keyless))]
+#[tactic(auto, using(crate::proofs::Counted::counted, crate::proofs::Counted::keyless))]
 pub(crate) fn range_broken(row: &[Expr], pairs: &[(String, Expr)]) -> Option<ScopeError>
     ensures { result ≡ rules.range_broken (exprs_view row.now) (pairs_view pairs.now) }
 {
@@ -171,7 +171,7 @@ pub(crate) fn range_broken(row: &[Expr], pairs: &[(String, Expr)]) -> Option<Sco
 }
 
 /// What the arguments of a test break.
-#[tactic(auto, using(crate::proofs::Shown::counted, crate::proofs::Shown::keyless))]
+#[tactic(auto, using(crate::proofs::Counted::counted, crate::proofs::Counted::keyless))]
 pub(crate) fn test_broken(name: &str, row: &[Expr], pairs: &[(String, Expr)]) -> Option<ScopeError>
     ensures { result
         ≡ rules.test_broken (test_named name.now) (exprs_view row.now) (pairs_view pairs.now) }

@@ -101,7 +101,7 @@ fn name_call_broken(
 }
 
 /// What a call of `super` breaks.
-#[tactic(auto, using(crate::proofs::Shown::counted, crate::proofs::Shown::keyless))]
+#[tactic(auto, using(crate::proofs::Counted::counted, crate::proofs::Counted::keyless))]
 fn super_broken(within: Within, row: &[Expr], pairs: &[(String, Expr)]) -> Option<ScopeError>
     ensures { result
         ≡ option_or (rules.refused (not within.in_block) error.NotCallable)
@@ -113,7 +113,7 @@ fn super_broken(within: Within, row: &[Expr], pairs: &[(String, Expr)]) -> Optio
 }
 
 /// What a call of `self.b` breaks.
-#[tactic(auto, using(crate::proofs::Shown::counted, crate::proofs::Shown::keyless, crate::proofs::Known::not_not))]
+#[tactic(auto, using(crate::proofs::Counted::counted, crate::proofs::Counted::keyless, crate::proofs::Known::not_not))]
 fn self_broken(
     scope: &Scope<'_>,
     block: &str,
@@ -131,7 +131,7 @@ fn self_broken(
 }
 
 /// What a call of `loop.cycle` breaks.
-#[tactic(auto, using(crate::proofs::Shown::counted, crate::proofs::Shown::keyless))]
+#[tactic(auto, using(crate::proofs::Counted::counted, crate::proofs::Counted::keyless))]
 fn cycle_broken(within: Within, row: &[Expr], pairs: &[(String, Expr)]) -> Option<ScopeError>
     ensures { result
         ≡ option_or (rules.refused (not within.in_loop) error.LoopOutside)
@@ -214,7 +214,7 @@ fn either(
 }
 
 /// The first rule that an expression breaks.
-#[tactic(auto, using(crate::proofs::Shown::shown_Map))]
+#[tactic(auto, using(jt_trees::proofs::ExpressionViews::view_Map))]
 #[cycle(broken)]
 pub(crate) fn broken(
     scope: &Scope<'_>,
@@ -258,7 +258,7 @@ pub(crate) fn broken(
 }
 
 /// The first rule that what is called breaks, where the named forms are no values that are read.
-#[tactic(auto, using(crate::proofs::Shown::shown_Map))]
+#[tactic(auto, using(jt_trees::proofs::ExpressionViews::view_Map))]
 #[cycle(broken)]
 fn called_broken(
     scope: &Scope<'_>,

@@ -16,7 +16,7 @@ use Rattle.jt_slots.specs.declared.program.SStmt as given
 use Rattle.jt_slots.specs.declared.program.Routine as given_routine
 use Rattle.jt_slots.specs.declared.program.SStmt.TheVariants as v
 use Rattle.jt_slots.specs.Size.{expr_height, targets_height, condition_height, stmt_height, body_height}
-use Rattle.jt_codegen.proofs.Fronts.{SBranch, view-If, view-For, view-Capture}
+use Rattle.jt_slots.proofs.StatementViews.{SBranch, view_If, view_For, view_Capture}
 
 -- both are few enough where the greater one is
 pub both_low : (a b c : ℕ) → nat_le (max a b) c ≡ nat_le a c && nat_le b c
@@ -69,7 +69,7 @@ module _ (room : ℕ) (templates : List Text) where
       let k = body_height (body_view templates other' end) in
       let form = λ (l m : List given.SStmt). slots.for_each (place_view templates p) (targets_view xs) (expr_view e) (option_map expr_view c) (body_view templates l end) (body_view templates m end) in
       passes_one room (stmt_view templates s) (form body' other') (((h && t) && (w && b)) && o)
-      (λ behind. ap (λ q. stmt_view templates q behind) is ∙ view-For templates p xs e c body other behind ∙ ap (λ l. slots.stmt (form l other.items) behind) (sym same_body) ∙ ap (λ l. slots.stmt (form body' l) behind) (sym same_other))
+      (λ behind. ap (λ q. stmt_view templates q behind) is ∙ view_For templates p xs e c body other behind ∙ ap (λ l. slots.stmt (form l other.items) behind) (sym same_body) ∙ ap (λ l. slots.stmt (form body' l) behind) (sym same_other))
       (sym (loop_low x y z u k some
       ∙ ap (λ q. q && ((nat_le x (room - 1) && (nat_le y (room - 1) && nat_le z (room - 1))) && nat_le k room)) (sym is_h)
       ∙ ap (λ q. h && ((q && (nat_le y (room - 1) && nat_le z (room - 1))) && nat_le k room)) (sym is_t)
@@ -82,7 +82,7 @@ module _ (room : ℕ) (templates : List Text) where
       → Passes room (stmt_view templates s) b
   capture_passes s escaping x body body' b some is same is_b =
       let form = λ (l : List given.SStmt). slots.capture escaping (slot_view x) (body_view templates l end) in
-      passes_one room (stmt_view templates s) (form body') b (λ behind. ap (λ q. stmt_view templates q behind) is ∙ view-Capture templates escaping x body behind ∙ ap (λ l. slots.stmt (form l) behind) (sym same))
+      passes_one room (stmt_view templates s) (form body') b (λ behind. ap (λ q. stmt_view templates q behind) is ∙ view_Capture templates escaping x body behind ∙ ap (λ l. slots.stmt (form l) behind) (sym same))
       (sym (raised (body_height (body_view templates body' end)) room some ∙ passes_alone (room - 1) (body_view templates body') b is_b))
 
   -- ---- branches
@@ -155,7 +155,7 @@ module _ (room : ℕ) (templates : List Text) where
 
   if_view : (x : given.SStmt) (bs : Vec SBranch Global) (other : Vec given.SStmt Global) (bs' : List SBranch) (other' : List given.SStmt) → x ≡ v.If bs other → bs' ≡ bs.items → other' ≡ other.items → (behind : SBody ℕ) → stmt_view templates x behind ≡ choice_view templates bs' (body_view templates other') behind
   if_view x bs other bs' other' is p q behind =
-      ap (λ z. stmt_view templates z behind) is ∙ view-If templates bs other behind
+      ap (λ z. stmt_view templates z behind) is ∙ view_If templates bs other behind
       ∙ ap (λ (l : List SBranch). choice_view templates l (body_view templates other.items) behind) (sym p)
       ∙ ap (λ (l : List given.SStmt). choice_view templates bs' (body_view templates l) behind) (sym q)
 

@@ -1,9 +1,7 @@
 -- The code of statements, put behind other code.
-use Rattle.std.proofs.Common.{◌≡◌, ℕ, zero, suc, ◌+◌, ◌-◌, ◌<◌, ◌≤◌, ◌^◌, Bool, true, false, List, [], ◌∷◌, ◌++◌, length, drop, get_or, Option, Some, refl, sym, ap, ◌∙◌, subst, arith, length-append}
-use Rattle.std.specs.Prelude.{min, nat_lt, option_map}
-use Rattle.std.specs.List.{AllByRecursion}
+use Rattle.std.proofs.Common.{◌≡◌, ℕ, ◌+◌, ◌-◌, ◌<◌, ◌≤◌, List, [], ◌∷◌, ◌++◌, length, drop, get_or, Option, Some, refl, sym, ap, ◌∙◌, subst, arith, length-append}
+use Rattle.std.specs.Prelude.{option_map}
 use Rattle.std.proofs.lemmas.List.{drop_more, at_drop_all}
-use Rattle.std.proofs.lemmas.Bool.Decides.{nat_tests}
 use Rattle.jt_image.specs.declared.instruction.Instruction.TheVariants as op
 use Rattle.jt_trees.specs.Expressions.{Text}
 use Rattle.jt_slots.specs.Got.{Place}
@@ -17,15 +15,8 @@ use Rattle.jt_lower.specs.Lower.{expr_asm, store_if_of, stores_asm, stmt_asm, bo
 use Rattle.jt_lower.specs.Emission.{StandsFor, Puts, Reserves, Patches, Ends}
 use Rattle.jt_lower.specs.declared.emitter.Emitter.{Emitter}
 use Rattle.jt_codegen.specs.Statements.{slots_view, Emits, Closes}
-use Rattle.jt_codegen.proofs.Fronts.{SBranch}
-use Rattle.jt_codegen.proofs.Putting.{puts_nothing, puts_then, puts_last, puts_first, puts_choice}
-
-pub stands_raised : (n m h : ℕ) → m ≡ min (n + 1) 18446744073709551615 → StandsFor n h → StandsFor m (suc h)
-stands_raised n m h same s = through (nat_lt n (2 ^ 32)) refl
-  where
-    through : (b : Bool) → nat_lt n (2 ^ 32) ≡ b → StandsFor m (suc h)
-    through true e = let lt : n < 2 ^ 32 = grind (arith, nat_tests, e) in let is : n ≡ h = s.same lt in record { same = λ k. omega (arith, is, same, k, lt); above = λ k. omega (arith, is, same, k, lt) }
-    through false e = let le : 2 ^ 32 ≤ n = grind (arith, nat_tests, e) in let is : 2 ^ 32 ≤ h = s.above le in record { same = λ k. absurd (omega (arith, same, k, le)); above = λ k. omega (arith, is) }
+use Rattle.jt_slots.proofs.StatementViews.{SBranch}
+use Rattle.jt_lower.proofs.Patched.{puts_nothing, puts_then, puts_last, puts_first, puts_choice}
 
 pub stands_itself : (n : ℕ) → StandsFor n n
 stands_itself n = record { same = λ l. refl; above = λ l. l }

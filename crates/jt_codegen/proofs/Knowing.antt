@@ -2,14 +2,13 @@
 use Rattle.std.proofs.Common.{◌≡◌, ℕ, Bool, true, false, ◌||◌, List, [], ◌∷◌, ◌++◌, Option, Some, None, refl, sym, ◌∙◌, subst}
 use Rattle.std.specs.Prelude.{not, if◌then◌else◌, flat_map, option_map, codes}
 use Rattle.std.specs.Str.{bytes_eq}
-use Rattle.std.specs.Option.{option_or}
-use Rattle.std.specs.List.{list_any, find, AllByRecursion}
-use Rattle.jt_ids.specs.declared.test_id.TestId.{TestId}
-use Rattle.jt_ids.specs.TestTable.{test_names, tests}
+use Rattle.std.specs.Option.{is_some, option_or}
+use Rattle.std.specs.List.{AllByRecursion}
+use Rattle.jt_ids.specs.TestTable.{test_of_name}
 use Rattle.jt_expr.specs.declared.named.Named.TheVariants as n
 use Rattle.jt_trees.specs.Written.{only_name, filter_written}
 use Rattle.jt_expr.specs.Named.{is_test, is_filter, inside_unknown, filter_unknown, has_unknown, exprs_have_unknown, pairs_have_unknown}
-use Rattle.jt_ids.specs.FilterTable.{filters, filter_id, filter_names, with_only}
+use Rattle.jt_ids.specs.FilterTable.{filter_id, filter_of_name, with_only}
 use Rattle.jt_ids.specs.declared.filter_id.FilterId.{FilterId}
 use Rattle.jt_ids.specs.declared.filter_id.FilterId.TheVariants as which
 use Rattle.jt_trees.specs.Expressions as written
@@ -25,40 +24,30 @@ use Rattle.jt_rules.specs.Known.{IsThere, ExprKnown, RowKnown, PairsKnown, Condi
 
 -- ---- a test or a filter that is known is found
 
-found : {K : Type 0} (p : K → Bool) (ts : List K) → list_any p ts ≡ true → IsThere (find p ts)
-found p [] h = absurd cc
-found p (t ∷ ts) h = through (p t) h (found p ts)
-  where
-    through : (b : Bool) → (b || list_any p ts) ≡ true → (list_any p ts ≡ true → IsThere (find p ts)) → IsThere (if b then Some t else find p ts)
-    through true e f = tt
-    through false e f = f e
+there : {K : Type 0} (o : Option K) → is_some o ≡ true → IsThere o
+there None h = absurd cc
+there (Some k) h = tt
 
 not_false : (b : Bool) → not b ≡ false → b ≡ true
 not_false true e = refl
 not_false false e = absurd cc
 
-abbrev has_name : Text → TestId → Bool
-has_name x t = list_any (bytes_eq x) (test_names t)
-
-any_test : (x : Text) → is_test x ≡ list_any (has_name x) tests
+seen_test : (x : Text) → is_test x ≡ is_some (test_of_name x)
 unfolding is_test
-any_test x = refl
+seen_test x = refl
 
-named_test : (x : Text) → test_named x ≡ find (has_name x) tests
+named_test : (x : Text) → test_named x ≡ test_of_name x
 unfolding test_named
 named_test x = refl
 
 test_found : (x : Text) → not (is_test x) ≡ false → IsThere (test_named x)
-test_found x h = subst IsThere (sym (named_test x)) (found (has_name x) tests (sym (any_test x) ∙ not_false (is_test x) h))
+test_found x h = subst IsThere (sym (named_test x)) (there (test_of_name x) (sym (seen_test x) ∙ not_false (is_test x) h))
 
-abbrev has_filter_name : Text → FilterId → Bool
-has_filter_name x f = list_any (bytes_eq x) (filter_names f)
-
-any_filter : (x : Text) → is_filter x ≡ list_any (has_filter_name x) filters
+seen_filter : (x : Text) → is_filter x ≡ is_some (filter_of_name x)
 unfolding is_filter
-any_filter x = refl
+seen_filter x = refl
 
-named_filter : (x : Text) (ts : Exprs) (ps : Pairs) → the_filters.named x ts ps ≡ option_map filter_id (with_only (find (has_filter_name x) filters) (only_name ts ps))
+named_filter : (x : Text) (ts : Exprs) (ps : Pairs) → the_filters.named x ts ps ≡ option_map filter_id (with_only (filter_of_name x) (only_name ts ps))
 unfolding the_filters filter_written
 named_filter x ts ps = refl
 
@@ -76,7 +65,7 @@ there_with_only (Some g) only h = tt
 -- a name that some filter has is one of the filters', with any arguments
 pub filter_there : (x : Text) (ts : Exprs) (ps : Pairs) → is_filter x ≡ true → IsThere (the_filters.named x ts ps)
 filter_there x ts ps h =
-    subst IsThere (sym (named_filter x ts ps)) (there_with_only (find (has_filter_name x) filters) (only_name ts ps) (found (has_filter_name x) filters (sym (any_filter x) ∙ h)))
+    subst IsThere (sym (named_filter x ts ps)) (there_with_only (filter_of_name x) (only_name ts ps) (there (filter_of_name x) (sym (seen_filter x) ∙ h)))
 
 -- ---- trees
 

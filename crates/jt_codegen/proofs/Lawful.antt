@@ -30,13 +30,14 @@ use Rattle.jt_meaning.specs.Layout.{Table, slot_in, globals_from, defaults_of, f
 use Rattle.jt_meaning.specs.Meaning.{is_set}
 use Rattle.jt_meaning.specs.Programs.{body_routines, chain_routines, routines, count_globals, program}
 use Rattle.jt_slots.specs.Slots as slots
-use Rattle.jt_slots.specs.Slots.{Slot, local, global, SExpr, SRow, Targets, one, several, SBody, variable, run, Routine}
+use Rattle.jt_slots.specs.Slots.{Slot, local, SExpr, SRow, SBody, variable, run, Routine}
 use Rattle.jt_slots.specs.Takes.{BodyTakes}
 use Rattle.jt_slots.specs.TheFilters.{the_filters}
 use Rattle.jt_slots.specs.Pool.{Constant, own, known}
 use Rattle.jt_meaning.specs.Resolve.{value_or, read_from, turned_round, tested_by, filtered_by, in_form, field_from, followed, locals_from, fresh, fresh_targets, kept_slots, slot_of, set_targets, filled, filled_some, first_locals, reads, handed_on, Part, Spot, place, left_out, grown, bound_table, bound_all, copied, scoped, next_given, first_body, invoked_body, invoked_super, invoked, resolved, resolved_row, resolved_asides, resolved_entries, resolved_condition, resolved_filters, resolved_values, placed_body, resolved_stmt, resolved_body, resolved_choice, top_spot, resolved_sets, resolved_chain, resolved_routine, chain_routine, macro_routine}
 use Rattle.jt_lower.specs.Fits.{IsBare, IsPooled}
 use Rattle.jt_lower.specs.Lawful.{ConstantLawful, SlotLawful, ExprLawful, RowLawful, SomeLawful, SlotsLawful, TargetsLawful, ConditionLawful, BodyLawful, RoutineLawful, AreLawful}
+use Rattle.jt_lower.proofs.Fitting.{all_append}
 
 literal_pooled : (l : Literal) → IsPooled (literal l)
 literal_pooled (written.number n) = tt
@@ -359,10 +360,6 @@ same_is x = (bytes_eq-Decides x x).1 refl
 same_text : (x y : Text) → bytes_eq x y ≡ true → x ≡ y
 same_text x y e = (bytes_eq-Decides x y).0 e
 
-append_all : {A : Type 0} (P : A → Type 0) (xs ys : List A) → AllByRecursion P xs → AllByRecursion P ys → AllByRecursion P (xs ++ ys)
-append_all P [] ys h k = k
-append_all P (x ∷ xs) ys h k = (h.0, append_all P xs ys h.1 k)
-
 module _ (world : World) (order : List Home) where
   abbrev front_count : ℕ
   front_count = length (shared world order)
@@ -531,9 +528,9 @@ module _ (world : World) (order : List Home) where
   routines_of [] i = tt
   routines_of (h ∷ hs) i =
       let here = i h (ap (λ b. b || among h hs) (same_is h)) in
-      append_all Good (chain_routines world order h) (flat_map (chain_routines world order) hs) (
+      all_append Good (chain_routines world order h) (flat_map (chain_routines world order) hs) (
         record { body = chain_lawful h here (templates world.sources h); locals = omega arith },
-        append_all Good (map (macro_routine world order h) (macros world.sources h)) (body_routines world order h (numbered_bodies world h)) (macros_lawful h here (macros world.sources h)) (bodies_lawful h here (numbered_bodies world h)),
+        all_append Good (map (macro_routine world order h) (macros world.sources h)) (body_routines world order h (numbered_bodies world h)) (macros_lawful h here (macros world.sources h)) (bodies_lawful h here (numbered_bodies world h)),
       )
       (routines_of hs (λ g j. i g (later (bytes_eq h g) (among g hs) j)))
     where
@@ -543,7 +540,7 @@ module _ (world : World) (order : List Home) where
 
   defaults_pooled : (ms : List MacroBody) → AllByRecursion IsPooled (defaults_of ms)
   defaults_pooled [] = tt
-  defaults_pooled (m ∷ ms) = append_all IsPooled (map (λ p. default_value p.default) m.parameters) (defaults_of ms) (each m.parameters) (defaults_pooled ms)
+  defaults_pooled (m ∷ ms) = all_append IsPooled (map (λ p. default_value p.default) m.parameters) (defaults_of ms) (each m.parameters) (defaults_pooled ms)
     where
       each : (ps : List Parameter) → AllByRecursion IsPooled (map (λ p. default_value p.default) ps)
       each [] = tt
@@ -551,7 +548,7 @@ module _ (world : World) (order : List Home) where
 
   front_pooled : (hs : List Home) → AllByRecursion IsPooled (flat_map (λ h. defaults_of (macros world.sources h)) hs)
   front_pooled [] = tt
-  front_pooled (h ∷ hs) = append_all IsPooled (defaults_of (macros world.sources h)) (flat_map (λ g. defaults_of (macros world.sources g)) hs) (defaults_pooled (macros world.sources h)) (front_pooled hs)
+  front_pooled (h ∷ hs) = all_append IsPooled (defaults_of (macros world.sources h)) (flat_map (λ g. defaults_of (macros world.sources g)) hs) (defaults_pooled (macros world.sources h)) (front_pooled hs)
 
 -- the program of chains in order, each operation of which gets as many values as it takes, is lawful
 pub program_lawful : (world : World) (entry : Home) (rest : List Home)

@@ -1,6 +1,4 @@
 pub mod Depths
-pub mod Fronts
-pub mod Putting
 pub mod Emitting
 pub mod Reading
 pub mod Tabled

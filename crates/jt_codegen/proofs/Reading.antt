@@ -17,7 +17,7 @@ use Rattle.jt_lower.specs.Emission.{HasPlace, Puts}
 use Rattle.jt_lower.specs.declared.emitter.Emitter.{Emitter}
 use Rattle.jt_codegen.specs.Statements.{Emits}
 use Rattle.jt_codegen.specs.Units.{FitsUnit}
-use Rattle.jt_codegen.proofs.Putting.{puts_then}
+use Rattle.jt_lower.proofs.Patched.{puts_then}
 use Rattle.jt_codegen.proofs.Emitting.{emits_alone}
 
 read_wire : (i : Instruction) → instruction_of (wire_of i) ≡ Some i

@@ -1,5 +1,6 @@
 -- The parameters and the locals of the routines of chains.
-use Rattle.std.proofs.Common.{◌≡◌, ℕ, suc, ◌≤◌, ◌+◌, Bool, true, false, if◌then◌else◌, List, [], ◌∷◌, length, map, refl, ap, arith}
+use Rattle.std.proofs.Common.{ℕ, ◌≤◌, ◌+◌, Bool, true, false, if◌then◌else◌, List, [], ◌∷◌, length, map, arith}
+use Rattle.std.proofs.lemmas.List.{length-map}
 use Rattle.std.specs.Prelude.{flat_map, filter}
 use Rattle.std.specs.List.{AllByRecursion}
 use Rattle.std.specs.Str.{bytes_eq}
@@ -13,11 +14,7 @@ use Rattle.jt_meaning.specs.Resolve.{chain_routine, macro_routine, body_routine}
 use Rattle.jt_slots.specs.Slots.{Routine}
 use Rattle.jt_slots.specs.Pool.{Constant, body_values, placed_routines}
 use Rattle.jt_lower.specs.Lower.{unit_of}
-use Rattle.jt_codegen.proofs.Read.{all_append}
-
-mapped_len : {A B : Type 0} (f : A → B) (xs : List A) → length (map f xs) ≡ length xs
-mapped_len f [] = refl
-mapped_len f (x ∷ xs) = ap suc (mapped_len f xs)
+use Rattle.jt_lower.proofs.Fitting.{all_append}
 
 -- said of parameters and locals alone
 abbrev pub Of : {K : Type 0} → (ℕ → ℕ → Type 0) → Routine K → Type 0
@@ -82,7 +79,7 @@ parameters_few world entry rest n few = units_so Few world order (λ h. omega ar
 
     each : (h : Home) (ms : List MacroBody) → AllByRecursion (λ m. length m.parameters ≤ 200) ms → AllByRecursion (λ m. Of Few (macro_routine world order h m)) ms
     each h [] g = tt
-    each h (m ∷ ms) g = (omega (arith, g.0, mapped_len (λ (p : Parameter). p.name) m.parameters), each h ms g.1)
+    each h (m ∷ ms) g = (omega (arith, g.0, length-map m.parameters (λ (p : Parameter). p.name)), each h ms g.1)
 
     all : (hs : List Home) → AllByRecursion (IsFew world order) hs → AllByRecursion (λ h. AllByRecursion (λ m. Of Few (macro_routine world order h m)) (macros world.sources h)) hs
     all [] g = tt

@@ -1,5 +1,6 @@
 -- The code of small chains has place in an image.
 use Rattle.std.proofs.Common.{◌≡◌, ℕ, suc, ◌+◌, ◌*◌, max, ◌<◌, ◌≤◌, ◌^◌, true, false, List, [], ◌∷◌, ◌++◌, length, map, refl, ap, arith, length-append}
+use Rattle.std.proofs.lemmas.List.{length-map}
 use Rattle.std.specs.Int.{w16, w32, w64, to_le_bytes, cast_unsigned}
 use Rattle.std.specs.List.{flat_map, AllByRecursion}
 use Rattle.std.proofs.lemmas.List.Concat.{flat_map-cons}
@@ -26,10 +27,6 @@ use Rattle.jt_codegen.specs.Units.{FitsImage}
 use Rattle.jt_codegen.proofs.Read.{all_each}
 use Rattle.jt_codegen.proofs.Tabled.{numbered_len}
 use Rattle.jt_codegen.proofs.Ordered.{numbered_texts}
-
-mapped_len : {A B : Type 0} (f : A → B) (xs : List A) → length (map f xs) ≡ length xs
-mapped_len f [] = refl
-mapped_len f (x ∷ xs) = ap suc (mapped_len f xs)
 
 -- ---- bytes
 
@@ -92,11 +89,11 @@ module _ (laws : CodeLaws) (low : LowLaws) (world : World) (order : List Home) (
     limits = record {
       names = omega (arith, sized.names, numbered_len 0 p.names);
       texts = numbered_texts (λ x. length x ≤ max_count) 0 p.names (all_each (λ x. length x ≤ 2000) (λ x. length x ≤ max_count) (λ x h. omega (arith, h)) p.names short.names);
-      constants = omega (arith, sized.constants, weight, mapped_len constant_of p.pool);
-      units = omega (arith, sized.units, weight, few, mapped_len unit_of p.routines);
+      constants = omega (arith, sized.constants, weight, length-map p.pool constant_of);
+      units = omega (arith, sized.units, weight, few, length-map p.routines unit_of);
       locals = units_locals (200 + chains_weight world.sources order) p.routines (omega (arith, weight)) sized.locals;
       instructions = omega (arith, low.sized p, sized.instructions, weight, few);
-      bytes = omega (arith, laws.spelled (compiled p), names_spelled 0 p.names short.names, constants_spelled p.pool short.pool, mapped_len unit_of p.routines, low.sized p, sized.names, sized.constants, sized.units, sized.instructions, weight, few);
+      bytes = omega (arith, laws.spelled (compiled p), names_spelled 0 p.names short.names, constants_spelled p.pool short.pool, length-map p.routines unit_of, low.sized p, sized.names, sized.constants, sized.units, sized.instructions, weight, few);
     }
 
     pub small_fits : ProgramFits p → AllByRecursion (λ u. u.parameters ≤ 200) (compiled p).units → FitsImage (compiled p)

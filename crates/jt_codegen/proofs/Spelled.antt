@@ -16,13 +16,13 @@ use Rattle.jt_parse.specs.Kept as kept
 use Rattle.jt_parse.specs.Kept.{Side, Piece, with_text, with_segment, side_ahead, side_behind, pieces_from}
 use Rattle.jt_trees.specs.Statements.{Parameter, Filtering, Body, Branches}
 use Rattle.jt_parse.specs.Tags as tags
-use Rattle.jt_parse.specs.Tags.{Separated, IsName, IsValue, pairs_of, Values, IsFiltering, IsParameter, Parameters, Loop, Opening, a_text, values, filters, escaping, a_macro, a_block, Head, a_statement, an_if, a_loop, an_opening, made, looped, Condition, Says}
+use Rattle.jt_parse.specs.Tags.{Separated, IsName, IsValue, pairs_of, Values, IsFiltering, IsParameter, Parameters, Opening, a_text, values, filters, escaping, a_macro, a_block, Head, a_statement, an_if, a_loop, an_opening, made, looped, Condition, Says}
 use Rattle.jt_parse.specs.Grammar as grammar
 use Rattle.jt_parse.specs.Grammar.{block, Forms, GoesOn, Otherwise}
 use Rattle.jt_chains.specs.Chain.{is_loop, Template}
 use Rattle.jt_inherit.specs.Chains.{Given, IsRead}
 use Rattle.jt_chains.specs.Uses.{keywords, expr_names, row_names, pair_names, condition_names, filtering_names, stmt_names, body_names, branch_names}
-use Rattle.jt_codegen.proofs.Read.{all_append}
+use Rattle.jt_lower.proofs.Fitting.{all_append}
 
 all_front : {A : Type 0} (P : A → Type 0) (xs ys : List A) → AllByRecursion P (xs ++ ys) → AllByRecursion P xs
 all_front P [] ys h = tt

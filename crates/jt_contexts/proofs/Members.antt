@@ -1,15 +1,13 @@
 -- The values of items and members, one after another.
-use Rattle.std.proofs.Common.{◌≡◌, ◌∙◌, ◌++◌, ◌||◌, ℕ, Bool, true, false, List, [], ◌∷◌, Option, Some, None, String, Global, Less, ap, ap₂, refl, sym, cond, map, option_map, string_bytes, string_cmp, nat_cmp, is_eq, bytes_eq, length, arith}
+use Rattle.std.proofs.Common.{◌≡◌, ◌∙◌, ◌++◌, ◌||◌, ℕ, Bool, true, false, List, [], ◌∷◌, Option, Some, None, String, Global, Less, ap, ap₂, refl, sym, map, option_map, string_bytes, string_cmp, nat_cmp, is_eq, bytes_eq, length, arith}
 use Rattle.std.specs.Prelude.{OnOk, Result, Ok, Err}
 use Rattle.std.specs.Result.{is_err}
 use Rattle.std.specs.List.{AllByRecursion}
 use Rattle.std.specs.List.Sorted.{IsStrictlySortedBy}
 use Rattle.std.specs.Map.{keys_of}
-use Rattle.std.specs.String.{string_eq}
-use Rattle.std.specs.Cmp.Lexicographic.{slice_cmp, nat_list_eq_equiv}
+use Rattle.std.specs.Cmp.Lexicographic.{slice_cmp}
 use Rattle.std.proofs.lemmas.List.{map-append}
 use Rattle.std.proofs.lemmas.Map.Text.{is_eq-slice_cmp}
-use Rattle.indexmap.specs.IndexMap.{insert_entry}
 use Rattle.serde_json.specs.Data.{Num}
 use Rattle.serde_json.specs.View.{view as json_view, items_view as json_items, members_view}
 use Rattle.serde_json.specs.declared.value.Value.{Value as Json}
@@ -107,16 +105,6 @@ put_last (d ∷ done) m rest (p ∷ ps) t s e =
     rw other (ap (λ qs. p ∷ qs) (put_last done m rest ps t s.1 (rest_of (shown d) (Some p) _ _ e)))
 
 -- the pairs of a map with one more
-pub pairs-insert : (k : String Global) (v : Value) (es : List (String Global × Value)) → pairs (insert_entry string_eq es k v) ≡ put (string_bytes k) (view v) (pairs es)
-pairs-insert k v [] = refl
-pairs-insert k v (e ∷ es) =
-    ap (λ b. pairs (cond b ((e.0, v) ∷ es) (e ∷ insert_entry string_eq es k v))) (nat_list_eq_equiv.symm (string_bytes k) (string_bytes e.0)) ∙ by (bytes_eq (string_bytes e.0) (string_bytes k)) (pairs-insert k v es)
-  where
-    by : (b : Bool) → pairs (insert_entry string_eq es k v) ≡ put (string_bytes k) (view v) (pairs es)
-        → pairs (cond b ((e.0, v) ∷ es) (e ∷ insert_entry string_eq es k v)) ≡ cond b ((string_bytes e.0, view v) ∷ pairs es) ((string_bytes e.0, view e.1) ∷ put (string_bytes k) (view v) (pairs es))
-    by true rest = refl
-    by false rest = ap (λ ps. (string_bytes e.0, view e.1) ∷ ps) rest
-
 -- ---- what is wrong with one is wrong with all
 
 or_right : (a b : Bool) → b ≡ true → (a || b) ≡ true

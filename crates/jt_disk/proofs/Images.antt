@@ -1,10 +1,10 @@
 -- What a line leaves on a disk, from what the program tells.
 use Rattle.std.proofs.Common.{◌≡◌, ◌≢◌, ◌↔◌, ◌∙◌, Bool, Err, Global, List, None, Ok, Option, Some, String, arith, codes, inl, inr, refl, string_bytes, subst, sym, ℕ}
-use Rattle.std.specs.Prelude.{Contains, IsSome}
+use Rattle.std.specs.Prelude.{IsSome}
 use Rattle.std.specs.Str.{IsUtf8}
 use Rattle.clap.specs.Words.{Row, Text as Word}
 use Rattle.jt_budget.specs.declared.Budget.{Budget}
-use Rattle.jt_line.specs.Line.{IsCommand, word_of}
+use Rattle.jt_line.specs.Line.{IsCommand}
 use Rattle.jt_line.specs.declared.Command.{Command}
 use Rattle.jt_line.specs.declared.Command.TheVariants as command
 use Rattle.jt_line.specs.declared.Options.{Options}

@@ -7,15 +7,9 @@ use Rattle.std.proofs.lemmas.Slice.Eq.{bytes_eq-Decides}
 use Rattle.jt_scan.specs.declared.segment.Sign.{Sign}
 use Rattle.jt_scan.specs.declared.segment.Sign.TheVariants as s
 use Rattle.jt_scan.specs.Cut as cut
-use Rattle.jt_scan.specs.Cut.{Token}
 use Rattle.jt_trees.specs.Expressions.{Text, Literal, truth, nothing}
 use Rattle.jt_expr.specs.Grammar.{Tokens, word, reserved, is_reserved, literal_of, is_literal, is_operand}
 use Rattle.jt_expr.specs.Front.{code, sees, says}
-
--- what goes on from a test
-pub by_test : {A G : Type 0} (b : Bool) (x y z : A) → cond b x y ≡ z → (b ≡ true → x ≡ z → G) → (b ≡ false → y ≡ z → G) → G
-by_test true x y z e hit miss = hit refl e
-by_test false x y z e hit miss = miss refl e
 
 pub false_unless : (b : Bool) → (b ≡ true → ⊥) → b ≡ false
 false_unless true f = absurd (f refl)

@@ -2,7 +2,7 @@
 use Rattle.std.proofs.Common.{◌≡◌, true, false, codes, Option, Some, None, subst, bytes_eq}
 use Rattle.jt_trees.specs.Expressions.{Text, Literal, truth, nothing}
 use Rattle.jt_expr.specs.Grammar.{literal_of}
-use Rattle.jt_expr.proofs.Branches.{by_test}
+use Rattle.jt_scan.proofs.Steps.{by_test}
 
 same_literal : (P : Literal → Type 0) (m l : Literal) → ◌≡◌ {A = Option Literal} (Some m) (Some l) → P m → P l
 same_literal P m l e h = let q : m ≡ l = cc in subst P q h

@@ -8,7 +8,7 @@ use Rattle.jt_trees.specs.Sizes.{literal_bytes, expr_bytes, exprs_bytes, pairs_b
 use Rattle.jt_expr.specs.Sizes.{tokens_bytes}
 use Rattle.jt_expr.proofs.Constants.{each_constant}
 
-bytes-append : (x y : Tokens) → tokens_bytes (x ++ y) ≡ tokens_bytes x + tokens_bytes y
+pub bytes-append : (x y : Tokens) → tokens_bytes (x ++ y) ≡ tokens_bytes x + tokens_bytes y
 bytes-append [] y = omega arith
 bytes-append (t ∷ x) y = omega (arith, bytes-append x y)
 

@@ -12,8 +12,9 @@ use Rattle.jt_trees.specs.Expressions.{Text, Literal, Expr, group, list_of, map_
 use Rattle.jt_expr.specs.Grammar.{Tokens, word, is_reserved, literal_of, names_test, Level, whole, disjunction, conjunction, inversion, comparison, sum, concatenation, product, power, postscript, signed, postfix, next, is_chain, level_of, operator_tokens, is_tokens, begins_argument, Row, items, entries, arguments, keywords, closer, takes_plain, takes_names, behind_key, Parts, no_parts, put, Spells, plain, an_if, an_if_else, chain, inverted, upright, compared, alone, postscripts, minus, plus, unsigned, postfixes, Goes, stay, operated, filtered, tested, attributed, indexed, called, Primary, a_number, a_text, a_constant, a_name, a_group, a_list, a_map, Arguments, without, within, TestArguments, as_filter, bare, Holds, closed, last, more, IsPart, without_key, an_entry, by_name}
 use Rattle.jt_expr.specs.Reading as r
 use Rattle.jt_expr.specs.Front.{sees, says, past}
-use Rattle.jt_expr.specs.Reading.{cap, deep, syntax, Reader, Outcome, ◌>>=◌, operator, key_at, keyword, entry_key, read, read_at, again, loop, chain_step, chain_by, filter_step, test_step, postscript_step, postfix_step, read_whole, read_disjunction, read_conjunction, read_inversion, read_comparison, read_sum, read_concatenation, read_product, read_power, read_postscript, read_signed, read_postfix, expect, word_at, name_at, unreserved, if_part, else_part}
-use Rattle.jt_expr.proofs.Branches.{by_test, says_sound, sees_sound, false_not}
+use Rattle.jt_expr.specs.Reading.{cap, Reader, Outcome, ◌>>=◌, operator, key_at, keyword, entry_key, read, read_at, again, loop, chain_step, chain_by, filter_step, test_step, postscript_step, postfix_step, read_whole, read_disjunction, read_conjunction, read_inversion, read_comparison, read_sum, read_concatenation, read_product, read_power, read_postscript, read_signed, read_postfix, expect, word_at, name_at, unreserved, if_part, else_part}
+use Rattle.jt_scan.proofs.Steps.{by_test}
+use Rattle.jt_expr.proofs.Branches.{says_sound, sees_sound, false_not}
 use Rattle.jt_expr.proofs.Begins.{begins, begins_primary}
 use Rattle.jt_expr.specs.Promises.{parts_levels}
 use Rattle.jt_expr.proofs.Complete.{with_key, put_levels}

@@ -1,27 +1,11 @@
 -- Texts and their characters.
-use Rattle.std.proofs.Common.{◌≡◌, ℕ, zero, suc, ◌<◌, Bool, true, false, ◌&&◌, List, [], ◌∷◌, slice_index, refl, sym, ap, ◌∙◌, arith, chars, bytes_eq, encode_utf8_all, IsUtf8, if◌then◌else◌}
+use Rattle.std.proofs.Common.{◌≡◌, ℕ, Bool, true, false, List, refl, sym, ap, ◌∙◌, chars, bytes_eq, encode_utf8_all, IsUtf8, if◌then◌else◌}
 use Rattle.std.specs.Bool.{one_answer}
-use lib.Utf8.{scalars}
-use Rattle.std.specs.Str.{is_utf8}
-use Rattle.std.proofs.lemmas.Bool.Decides.{nat_tests}
 use Rattle.std.proofs.lemmas.Slice.Eq.{bytes_eq-Decides}
-use Rattle.std.proofs.lemmas.Str.{chars-IsAscii, is_utf8-from_IsUtf8}
-use Rattle.jt_expr.specs.Words.{is_plain, letters_of}
-
-both : (a b : Bool) → (a && b) ≡ true → (a ≡ true) × (b ≡ true)
-both true b e = (refl, e)
-both false b e = absurd (cc)
-
--- the characters of a text spell its bytes
-pub spelled_again : (t : List ℕ) → IsUtf8 t → encode_utf8_all (chars t) ≡ t
-unfolding is_utf8
-spelled_again t u =
-    (bytes_eq-Decides (encode_utf8_all (chars t)) t).0 (both (scalars (chars t)) (bytes_eq (encode_utf8_all (chars t)) t) (is_utf8-from_IsUtf8 t u)).1
-
-plain_ascii : (w : List ℕ) → is_plain w ≡ true → (i : ℕ) → slice_index w i < 128
-plain_ascii [] e i = omega arith
-plain_ascii (c ∷ cs) e zero = let b = (both _ (is_plain cs) e).0 in grind (arith, nat_tests)
-plain_ascii (c ∷ cs) e (suc i) = plain_ascii cs (both _ (is_plain cs) e).1 i
+use Rattle.std.proofs.lemmas.Str.{chars-IsAscii}
+use Rattle.jt_scan.specs.Words.{is_plain}
+use Rattle.jt_expr.specs.Words.{letters_of}
+use Rattle.jt_scan.proofs.Words.{spelled_again, plain_ascii}
 
 -- a word's letters are its characters
 letters_are_chars : (w : List ℕ) (b : Bool) → is_plain w ≡ b → (if b then w else chars w) ≡ chars w

@@ -9,7 +9,7 @@ use Rattle.jt_trees.specs.Expressions.{Text, Literal, Expr, weight, exprs_weight
 use Rattle.jt_expr.specs.Grammar.{Tokens, word, literal_of, Level, operator_tokens, is_tokens, Row, items, entries, arguments, keywords, closer, takes_names, behind_key, Parts, no_parts, put, Spells, plain, an_if, an_if_else, chain, inverted, upright, compared, alone, postscripts, minus, plus, unsigned, postfixes, Goes, stay, operated, filtered, tested, attributed, indexed, called, Primary, a_number, a_text, a_constant, a_name, a_group, a_list, a_map, Arguments, without, within, TestArguments, as_filter, bare, Holds, closed, last, more, IsPart, without_key, an_entry, by_name}
 use Rattle.jt_expr.proofs.Constants.{each_constant}
 
-weight-append : (x y : Tokens) → tokens_weight (x ++ y) ≡ tokens_weight x + tokens_weight y
+pub weight-append : (x y : Tokens) → tokens_weight (x ++ y) ≡ tokens_weight x + tokens_weight y
 weight-append [] y = omega arith
 weight-append (t ∷ x) y = omega (arith, weight-append x y)
 

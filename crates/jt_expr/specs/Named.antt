@@ -1,8 +1,8 @@
 -- Filters and tests whose names have a meaning. A filter's arguments may name filters and tests too.
-use Rattle.std.specs.Prelude.{◌≡◌, ℕ, suc, Bool, true, false, not, ◌||◌, Option, Some, None, bytes_eq}
-use Rattle.std.specs.List.{list_any}
-use Rattle.jt_ids.specs.TestTable.{test_names, tests}
-use Rattle.jt_ids.specs.FilterTable.{filters, filter_names, named_at}
+use Rattle.std.specs.Prelude.{◌≡◌, ℕ, suc, Bool, true, false, not, ◌||◌, Option, Some, None}
+use Rattle.std.specs.Option.{is_some}
+use Rattle.jt_ids.specs.TestTable.{test_of_name}
+use Rattle.jt_ids.specs.FilterTable.{filter_of_name, named_at}
 use Rattle.jt_ids.specs.declared.filter_id.FilterId.{FilterId}
 use Rattle.jt_ids.specs.declared.filter_id.Naming.{Naming}
 use Rattle.jt_ids.specs.declared.filter_id.Naming.TheVariants as naming
@@ -15,11 +15,11 @@ use Rattle.jt_trees.specs.Expressions.{Text, Expr, constant, name, group, list_o
 
 -- a test has the name
 unfoldable pub is_test : Text → Bool
-is_test x = list_any (λ t. list_any (bytes_eq x) (test_names t)) tests
+is_test x = is_some (test_of_name x)
 
 -- a filter has the name
 unfoldable pub is_filter : Text → Bool
-is_filter x = list_any (λ f. list_any (bytes_eq x) (filter_names f)) filters
+is_filter x = is_some (filter_of_name x)
 
 abbrev pub unknown_filter : Named → Text → Bool
 unknown_filter n.Filter x = not (is_filter x)

@@ -1,11 +1,7 @@
 -- Words that code names.
-use Rattle.std.specs.Prelude.{ℕ, Bool, true, ◌&&◌, List, [], ◌∷◌, nat_lt, if◌then◌else◌}
+use Rattle.std.specs.Prelude.{ℕ, List, if◌then◌else◌}
 use Rattle.std.specs.Str.{chars}
-
--- each byte is ASCII
-abbrev pub is_plain : List ℕ → Bool
-is_plain [] = true
-is_plain (c ∷ cs) = nat_lt c 128 && is_plain cs
+use Rattle.jt_scan.specs.Words.{is_plain}
 
 -- the characters of a word; those of a word of ASCII are its bytes, so that a literal computes
 abbrev pub letters_of : List ℕ → List ℕ

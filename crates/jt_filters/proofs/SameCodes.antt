@@ -19,6 +19,7 @@ use Rattle.jt_value.specs.Tree.{Tree, Items, no_items, item, Entries, no_entries
 use Rattle.jt_filters.specs.Codes.{number_code, text_code, Rows, rows_code, code, items_code, rows, item_code}
 use Rattle.jt_filtering.specs.Ordering.{fold, alike}
 use Rattle.jt_filters.proofs.Inserted.{cmp, lookup-inserted, sorted-inserted, same_rows}
+use Rattle.jt_value.proofs.Equalities.{holds_of}
 
 pub folded_text : (t : Tree) (s : List ℕ) → Some s ≡ text_of t → item_code t ≡ text_code (fold s)
 folded_text (tree.text r) s e = let f : s ≡ r = cc in ap (λ (x : List ℕ). text_code (fold x)) (sym f)
@@ -79,15 +80,6 @@ left false b e = e
 right : (a b : Bool) → (a && b) ≡ true → b ≡ true
 right true b e = e
 right false b e = absurd (true≢false (sym e))
-
--- a test of all keys holds of each that is there
-holds_of : (test : List ℕ → Bool) (es : Entries) (k : List ℕ) → all_keys test es ≡ true → has_key k es ≡ true → test k ≡ true
-holds_of test no_entries k all there = absurd (true≢false (sym there))
-holds_of test (entry l t es) k all there = by (bytes_eq l k) refl there (holds_of test es k (right (test l) (all_keys test es) all))
-  where
-    by : (b : Bool) → bytes_eq l k ≡ b → cond b true (has_key k es) ≡ true → (has_key k es ≡ true → test k ≡ true) → test k ≡ true
-    by true e p rest = ap test (sym ((bytes_eq-Decides l k).0 e)) ∙ left (test l) (all_keys test es) all
-    by false e p rest = rest p
 
 -- equal maps have the same rows, where equal values at a key have the same code
 same_maps : (es fs : Entries) → ((k : List ℕ) (o : Option Tree) → equal_at es k o ≡ true → option_map code (entry_of k es) ≡ option_map code o)

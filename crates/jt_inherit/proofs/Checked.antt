@@ -2,7 +2,7 @@
 use Rattle.std.proofs.Common.{◌≡◌, ℕ, zero, suc, ◌+◌, ◌<◌, ◌≤◌, Bool, true, false, not, cond, ◌&&◌, ◌||◌, if◌then◌else◌, List, [], ◌∷◌, ◌++◌, length, map, take, drop, get_or, refl, sym, ap, subst, ◌∙◌, arith}
 use Rattle.std.specs.Prelude.{slice_get, unwrap_or, option_map}
 use Rattle.std.proofs.Common.{Some}
-use Rattle.std.proofs.lemmas.List.{drop_more}
+use Rattle.std.proofs.lemmas.List.{drop_more, map-append}
 use Rattle.std.proofs.lemmas.Option.{slice_get-get_or}
 use Rattle.std.specs.List.{list_any}
 use Rattle.std.specs.Str.{bytes_eq}
@@ -187,10 +187,6 @@ take_suc (y ∷ ys) (suc i) x lt is = ap (λ l. y ∷ l) (take_suc ys i x (omega
 pub take_next : {X : Type 0} (xs : List X) (i : ℕ) (x : X) → i < length xs → x ≡ get_or xs i x → take (i + 1) xs ≡ take i xs ++ x ∷ []
 take_next xs i x lt is = (let e : i + 1 ≡ suc i = omega arith in ap (λ n. take n xs) e) ∙ take_suc xs i x lt is
 
-pub map_append : {X Y : Type 0} (f : X → Y) (xs ys : List X) → map f (xs ++ ys) ≡ map f xs ++ map f ys
-map_append f [] ys = refl
-map_append f (x ∷ xs) ys = ap (λ l. f x ∷ l) (map_append f xs ys)
-
 pub take_all : {X : Type 0} (xs : List X) (i : ℕ) → length xs ≤ i → take i xs ≡ xs
 take_all [] zero le = refl
 take_all [] (suc i) le = refl
@@ -201,13 +197,13 @@ module _ {X : Type 0} (f : X → Text) (xs : List X) (i : ℕ) (x : X) (lt : i <
   pub repeat_found : (ks : List Text) → ks ≡ map f (take i xs) → among (f x) ks ≡ true → repeated (map f xs) ≡ true
   repeat_found ks e h =
       let p = parted xs i x lt is in
-      ap (λ l. repeated (map f l)) p.1 ∙ ap repeated (map_append f (take i xs) (x ∷ p.0)) ∙ again (f x) (map f (take i xs)) (map f p.0) (ap (among (f x)) (sym e) ∙ h)
+      ap (λ l. repeated (map f l)) p.1 ∙ ap repeated (map-append f (take i xs) (x ∷ p.0)) ∙ again (f x) (map f (take i xs)) (map f p.0) (ap (among (f x)) (sym e) ∙ h)
 
   pub repeat_goes : (ks ms : List Text) (b : Bool) → ks ≡ map f (take i xs) → repeated ks ≡ false → b ≡ among (f x) ks → ms ≡ (if b then ks else ks ++ f x ∷ []) → b ≡ false
       → (ms ≡ map f (take (i + 1) xs)) × (repeated ms ≡ false)
   repeat_goes ks ms b e o k m off =
       let added : ms ≡ ks ++ f x ∷ [] = m ∙ ap (λ c. if c then ks else ks ++ f x ∷ []) off in (
-        added ∙ ap (λ l. l ++ f x ∷ []) e ∙ sym (map_append f (take i xs) (x ∷ [])) ∙ ap (map f) (sym (take_next xs i x lt is)),
+        added ∙ ap (λ l. l ++ f x ∷ []) e ∙ sym (map-append f (take i xs) (x ∷ [])) ∙ ap (map f) (sym (take_next xs i x lt is)),
         ap repeated added ∙ once_more (f x) ks o (sym k ∙ off),
       )
 
@@ -255,7 +251,7 @@ module _ (ts : List Template) (xs : List Block) (i : ℕ) (x : Block) (lt : i < 
       let p = parted xs i x lt is in
       let a = and_both (not (among x.name.now ks)) x.required both in
       let n : among x.name.now (names_of (blocks_view ts (take i xs))) ≡ false = ap (among x.name.now) (names_seen ts (take i xs)) ∙ sym (h x.name.now) ∙ not_true (among x.name.now ks) a.0 in
-      ap (λ l. lacks_body (blocks_view ts l)) p.1 ∙ ap lacks_body (map_append (block_view ts) (take i xs) (x ∷ p.0)) ∙ none_given (blocks_view ts (take i xs)) (block_view ts x) (blocks_view ts p.0) n a.1
+      ap (λ l. lacks_body (blocks_view ts l)) p.1 ∙ ap lacks_body (map-append (block_view ts) (take i xs) (x ∷ p.0)) ∙ none_given (blocks_view ts (take i xs)) (block_view ts x) (blocks_view ts p.0) n a.1
     where
       and_both : (a b : Bool) → (a && b) ≡ true → (a ≡ true) × (b ≡ true)
       and_both true b e = (refl, e)
@@ -268,7 +264,7 @@ module _ (ts : List Template) (xs : List Block) (i : ℕ) (x : Block) (lt : i < 
   pub body_goes : (ks : List Text) → ((y : Text) → among y ks ≡ among y (block_names (take i xs))) → AreGiven (blocks_view ts (take i xs)) → (not (among x.name.now ks) && x.required) ≡ false
       → AreGiven (blocks_view ts (take (i + 1) xs))
   body_goes ks h g off =
-      let e : blocks_view ts (take (i + 1) xs) ≡ blocks_view ts (take i xs) ++ block_view ts x ∷ [] = ap (blocks_view ts) (take_next xs i x lt is) ∙ map_append (block_view ts) (take i xs) (x ∷ []) in
+      let e : blocks_view ts (take (i + 1) xs) ≡ blocks_view ts (take i xs) ++ block_view ts x ∷ [] = ap (blocks_view ts) (take_next xs i x lt is) ∙ map-append (block_view ts) (take i xs) (x ∷ []) in
       let n : among x.name.now (names_of (blocks_view ts (take i xs))) ≡ among x.name.now ks = ap (among x.name.now) (names_seen ts (take i xs)) ∙ sym (h x.name.now) in
       subst AreGiven (sym e) (given_more (blocks_view ts (take i xs)) (block_view ts x) g (ap (λ c. not c && x.required) n ∙ off))
 
@@ -315,7 +311,7 @@ module _ (e : Bool) (ts : List Template) (is : List ℕ) (k : ℕ) (lt : k < len
 pub next_lacking : (ts : List Template) (qs : List Block) (b : Block) (rest : List Block) → (not (has_given b.name.now (blocks_view ts rest)) && calls_super (block_view ts b).body) ≡ true → lacks_next (blocks_view ts (qs ++ b ∷ rest)) ≡ true
 next_lacking ts qs b rest h =
     let a = and_both (not (has_given b.name.now (blocks_view ts rest))) (calls_super (block_view ts b).body) h in
-    ap lacks_next (map_append (block_view ts) qs (b ∷ rest)) ∙ none_next (blocks_view ts qs) (block_view ts b) (blocks_view ts rest) (not_true (has_given b.name.now (blocks_view ts rest)) a.0) a.1
+    ap lacks_next (map-append (block_view ts) qs (b ∷ rest)) ∙ none_next (blocks_view ts qs) (block_view ts b) (blocks_view ts rest) (not_true (has_given b.name.now (blocks_view ts rest)) a.0) a.1
   where
     and_both : (a b : Bool) → (a && b) ≡ true → (a ≡ true) × (b ≡ true)
     and_both true b e = (refl, e)

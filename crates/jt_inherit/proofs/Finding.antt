@@ -4,7 +4,7 @@ use Rattle.std.specs.Prelude.{slice_get, flat_map, filter}
 use Rattle.std.specs.List.{AllByRecursion}
 use Rattle.std.specs.Option.{is_some, option_to_list}
 use Rattle.std.specs.Str.{bytes_eq}
-use Rattle.std.proofs.lemmas.List.{append_assoc}
+use Rattle.std.proofs.lemmas.List.{append_assoc, length-map}
 use Rattle.jt_scan.specs.declared.options.Options.{Options}
 use Rattle.jt_trees.specs.Texts.{among}
 use Rattle.jt_trees.specs.Expressions.{Text}
@@ -26,7 +26,7 @@ use Rattle.jt_inherit.proofs.Following.{met_grows, numbers_grow, text_among}
 use Rattle.jt_inherit.proofs.Growing.{reach_more, ask_more, reaches_next}
 use Rattle.jt_inherit.proofs.Leads.{names, names_to_root, templates_grow, way_grows, few_templates, templates_to_root, asked_breaks}
 use Rattle.jt_inherit.proofs.Needed.{by_templates}
-use Rattle.jt_chains.proofs.Placed.{along_templates, map_at, length-map}
+use Rattle.jt_chains.proofs.Placed.{along_templates, map_at}
 use Rattle.jt_order.specs.View.{graph_of}
 use Rattle.jt_chains.specs.Pages.{page_view, pages_view}
 use Rattle.jt_inherit.specs.SetView.{strings}
@@ -296,7 +296,7 @@ followed_len given ts hs (g ∷ gs) (w ∷ ws) (n ∷ ns) a = omega (arith, foll
 pub home_number : (keys ks : List (String Global)) (ws : List (Vec ℕ Global)) (k : String Global) (i : ℕ) (h : Text) → ks ≡ keys → i ≡ length ws → i < length ks → k ≡ get_or ks i k → h ≡ string_bytes k
     → slice_get (strings keys) (length (graph_of ws)) ≡ Some h
 home_number keys ks ws k i h e at lt is named =
-    let len : length (graph_of ws) ≡ i = length-map (λ (v : Vec ℕ Global). v.items) ws ∙ sym at in
+    let len : length (graph_of ws) ≡ i = length-map ws (λ (v : Vec ℕ Global). v.items) ∙ sym at in
     ap (λ z. slice_get (strings z) (length (graph_of ws))) (sym e) ∙ ap (slice_get (strings ks)) len ∙ map_at string_bytes ks i k lt is ∙ ap (λ (x : Text). Some x) (sym named)
 
 pub known_names : (given : Given) (options : Options) (ts : List Template) (ks : List Text) → AreKnown given options ts ks → AreKnown given options ts (names ts)

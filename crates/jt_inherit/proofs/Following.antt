@@ -3,7 +3,7 @@ use Rattle.std.proofs.Common.{◌≡◌, ℕ, zero, suc, ◌+◌, ◌<◌, ◌�
 use Rattle.std.specs.Prelude.{slice_get}
 use Rattle.std.specs.List.{AllByRecursion}
 use Rattle.std.specs.Str.{bytes_eq}
-use Rattle.std.proofs.lemmas.List.{append-nil, append_assoc, take_more, drop_more}
+use Rattle.std.proofs.lemmas.List.{append-nil, append_assoc, take_more, drop_more, map-append}
 use Rattle.jt_scan.specs.declared.options.Options.{Options}
 use Rattle.jt_trees.specs.Texts.{among, repeated}
 use Rattle.jt_trees.specs.Expressions.{Text}
@@ -85,10 +85,6 @@ numbers_grow xs ys (i ∷ is) (n ∷ ns) e =
     let r : map (slice_get xs) is ≡ map Some ns = cc in
     ap (λ o. o ∷ map (slice_get (xs ++ ys)) is) (at_front xs ys i n h) ∙ ap (λ l. Some n ∷ l) (numbers_grow xs ys is ns r)
 
-map-both : {X Y : Type 0} (f : X → Y) (xs ys : List X) → map f (xs ++ ys) ≡ map f xs ++ map f ys
-map-both f [] ys = refl
-map-both f (x ∷ xs) ys = ap (λ l. f x ∷ l) (map-both f xs ys)
-
 pub next_both : (a b c xs ys : List Text) (is js : List ℕ) → AreNext a b xs is → AreNext b c ys js → AreNext a c (xs ++ ys) (is ++ js)
 next_both a b c xs ys is js p q = record {
   more = p.more ++ q.more;
@@ -96,9 +92,9 @@ next_both a b c xs ys is js p q = record {
   once = q.once;
   few = q.few;
   from = λ h i. ⊎_elim (λ m. ⊎_elim (λ k. inl k) (λ k. inr (among_front h xs ys k)) (p.from h m)) (λ m. inr (among_behind h xs ys m)) (q.from h i);
-  numbered = map-both (slice_get c) is js
+  numbered = map-append (slice_get c) is js
       ∙ ap (λ l. l ++ map (slice_get c) js) (subst (λ z. map (slice_get z) is ≡ map Some xs) (sym q.grown) (numbers_grow b q.more is xs p.numbered))
-      ∙ ap (λ l. map Some xs ++ l) q.numbered ∙ sym (map-both Some xs ys);
+      ∙ ap (λ l. map Some xs ++ l) q.numbered ∙ sym (map-append Some xs ys);
 }
 
 -- a refusal at a name is one of all names

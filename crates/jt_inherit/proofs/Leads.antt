@@ -5,7 +5,7 @@ use Rattle.std.specs.Option.{option_to_list}
 use Rattle.std.proofs.lemmas.Option.{slice_get_within, slice_get-get_or}
 use Rattle.std.specs.List.{AllByRecursion}
 use Rattle.std.specs.Str.{bytes_eq}
-use Rattle.std.proofs.lemmas.List.{append-nil, append_assoc, drop_more}
+use Rattle.std.proofs.lemmas.List.{append-nil, append_assoc, drop_more, length-map}
 use Rattle.jt_scan.specs.declared.options.Options.{Options}
 use Rattle.jt_trees.specs.Texts.{among, repeated}
 use Rattle.jt_trees.specs.Expressions.{Text}
@@ -23,7 +23,7 @@ use Rattle.jt_inherit.specs.Ways.{Leads, AreKnown, IsWay, IsWithin}
 use Rattle.jt_inherit.specs.declared.error.ChainError.{ChainError}
 use Rattle.jt_inherit.specs.declared.error.ChainError.TheVariants as error
 use Rattle.jt_inherit.proofs.Among.{reflexive, or_false, among_front, among_next, once_more, comes_again, map_more, all_more}
-use Rattle.jt_chains.proofs.Placed.{length-map, only_one, map_at, place_within}
+use Rattle.jt_chains.proofs.Placed.{only_one, map_at, place_within}
 
 abbrev pub names : List Template → List Text
 names = map (λ t. t.name)
@@ -243,7 +243,7 @@ module _ (given : Given) (options : Options) (root : Text) (ts : List Template) 
     where
       seventeen : (n : Text) (us : List Template) → length us ≡ 16 → repeated (names us ++ n ∷ []) ≡ false → ((length (names us ++ n ∷ []) == 17) && not (repeated (names us ++ n ∷ []))) ≡ true
       seventeen n us len o =
-          let count : length (names us ++ n ∷ []) ≡ 17 = length-append (names us) (n ∷ []) ∙ ap (λ k. k + 1) (length-map (λ (u : Template). u.name) us ∙ len) in
+          let count : length (names us ++ n ∷ []) ≡ 17 = length-append (names us) (n ∷ []) ∙ ap (λ k. k + 1) (length-map us (λ (u : Template). u.name) ∙ len) in
           ap (λ k. (k == 17) && not (repeated (names us ++ n ∷ []))) count ∙ ap not o
 
   -- a refusal of a template that the chain asks for
@@ -293,7 +293,7 @@ pages_longer ps qs p e = ap length (pages_more ps qs p e) ∙ length-append (pag
 -- the name of the last page at its place
 pub page_last : (ps qs : List Page) (p : Page) (n : Text) (k : ℕ) → qs ≡ ps ++ p ∷ [] → string_bytes p.name ≡ n → k ≡ length ps → slice_get (names (pages_view qs)) k ≡ Some n
 page_last ps qs p n k e is at =
-    let len : k ≡ length (names (pages_view ps)) = omega (arith, at, length_names (pages_view ps), length-map page_view ps) in
+    let len : k ≡ length (names (pages_view ps)) = omega (arith, at, length_names (pages_view ps), length-map ps page_view) in
     ap (λ ts. slice_get (names ts) k) (pages_more ps qs p e) ∙ ap (λ l. slice_get l k) (map_more (λ (t : Template). t.name) (pages_view ps) (page_view p))
     ∙ ap (slice_get (names (pages_view ps) ++ string_bytes p.name ∷ [])) len ∙ last_at (names (pages_view ps)) (string_bytes p.name) ∙ ap (λ (x : Text). Some x) is
 

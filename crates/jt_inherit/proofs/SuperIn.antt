@@ -5,7 +5,8 @@ use Rattle.jt_trees.specs.StatementView.{stmt_view, body_view, branches_view}
 use Rattle.jt_trees.specs.declared.statement.Stmt.{Stmt}
 use Rattle.jt_trees.specs.declared.statement.Stmt.TheVariants.{If}
 use Rattle.jt_chains.specs.Supers.{has_super, stmt_super, calls_super, branches_super}
-use Rattle.jt_chains.proofs.Shown.{Branch, branches_left, view-If}
+use Rattle.jt_trees.proofs.Left.{Branch, branches_left}
+use Rattle.jt_trees.proofs.StatementViews.{view_If}
 
 or_true : (a b : Bool) → b ≡ true → (a || b) ≡ true
 or_true true b h = refl
@@ -21,4 +22,4 @@ in_body bs i b lt is h =
     ∙ or_true (has_super (expr_view b.1)) (calls_super (body_view b.2.items) || branches_super (branches_view (drop (i + 1) bs))) (ap (λ c. c || branches_super (branches_view (drop (i + 1) bs))) h)
 
 pub in_if : (s : Stmt) (bs : Vec Branch Global) (other : Vec Stmt Global) → s ≡ If bs other → stmt_super (stmt_view s) ≡ (branches_super (branches_view bs.items) || calls_super (body_view other.items))
-in_if s bs other is = ap stmt_super (ap stmt_view is ∙ view-If bs other)
+in_if s bs other is = ap stmt_super (ap stmt_view is ∙ view_If bs other)

@@ -1,5 +1,6 @@
 -- The chains that an entry reaches, all of them followed and checked, in an order of what they include.
 use Rattle.std.proofs.Common.{◌≡◌, ◌≢◌, ◌↔◌, ℕ, zero, suc, ◌+◌, ◌*◌, ◌<◌, ◌≤◌, ◌==◌, Bool, true, false, not, ◌&&◌, ◌||◌, if◌then◌else◌, nat_lt, List, [], ◌∷◌, ◌++◌, length, map, refl, sym, ap, subst, ◌∙◌, arith, inl, inr, ◌⊎◌, ⊎_elim, Option, Some, None}
+use Rattle.std.proofs.lemmas.List.{length-map}
 use Rattle.std.specs.Prelude.{slice_get, unwrap_or}
 use Rattle.std.specs.List.{AllByRecursion, list_any}
 use Rattle.std.specs.Option.{is_some, is_none}
@@ -44,7 +45,7 @@ use Rattle.jt_inherit.proofs.Following.{text_among}
 use Rattle.jt_inherit.proofs.Leads.{names, few_templates, all_at_places}
 use Rattle.jt_inherit.proofs.OnWay.{never, and_false, and_true, too_few, few_names, all_named, have_sources, all_among, repeated_up, weigh, names_placed}
 use Rattle.jt_inherit.proofs.Ordered.{home_among, number_of, names_in_order, reached_in_order, no_cycle, first_in_order, no_more, named_among}
-use Rattle.jt_chains.proofs.Placed.{length-map, given_templates}
+use Rattle.jt_chains.proofs.Placed.{given_templates}
 
 -- ---- chains by their numbers
 
@@ -165,7 +166,7 @@ module _ (given : Given) (options : Options) (ts : List Template) {ks : List Tex
       let s = sources_in ts in
       subst (λ xs. (not (repeated xs) && (nat_lt (length xs) 17 && not (list_any (λ n. is_none (s n)) xs))) ≡ true) (sym (way_names ts options.autoescape h is w))
       (and_true (not (repeated (names us))) (nat_lt (length (names us)) 17 && not (list_any (λ n. is_none (s n)) (names us))) (ap not w.once)
-      (and_true (nat_lt (length (names us)) 17) (not (list_any (λ n. is_none (s n)) (names us))) (few_names (length (names us)) (omega (arith, few_way ts options.autoescape h is w, length-map (λ (t : Template). t.name) us)))
+      (and_true (nat_lt (length (names us)) 17) (not (list_any (λ n. is_none (s n)) (names us))) (few_names (length (names us)) (omega (arith, few_way ts options.autoescape h is w, length-map us (λ (t : Template). t.name))))
       (ap not (have_sources s us held))))
 
   -- a rule on blocks or macros that is broken
@@ -306,7 +307,7 @@ module _ (given : Given) (options : Options) (entry : Text) (ts : List Template)
           let us = templates_at ts k.0 in
           let le : length us ≤ 16 = omega (arith, few_templates ts k.0, k.1.few) in
           never ((length (way (sources_in ts) options.autoescape y.0) == 17) && not (repeated (way (sources_in ts) options.autoescape y.0)))
-          (ap (λ xs. (length xs == 17) && not (repeated xs)) (way_names ts options.autoescape y.0 k.0 k.1) ∙ too_few (length (names us)) (not (repeated (names us))) (omega (arith, le, length-map (λ (t : Template). t.name) us))) y.2)
+          (ap (λ xs. (length xs == 17) && not (repeated xs)) (way_names ts options.autoescape y.0 k.0 k.1) ∙ too_few (length (names us)) (not (repeated (names us))) (omega (arith, le, length-map us (λ (t : Template). t.name)))) y.2)
           (λ y.
           let le = no_more y.0 hs (not_true (repeated y.0) y.2) (λ h a. in_homes h (ordered (y.3 h a))) in
           let gt : 1024 < length y.0 = y.1 in

@@ -11,10 +11,6 @@ use Rattle.jt_meaning.specs.Layout.{Key, of_macro, place_of, first_default}
 use Rattle.jt_layout.specs.Places.{first_of, defaults_from}
 use Rattle.jt_layout.proofs.Firsts.{reflexive}
 
-pub length-map : {X Y : Type 0} (f : X → Y) (xs : List X) → length (map f xs) ≡ length xs
-length-map f [] = refl
-length-map f (x ∷ xs) = ap suc (length-map f xs)
-
 module _ (ts : List Template) (x : Text) where
   -- what the first macro of the name is, at its place
   pub record AtFirst (ms : List Macro) (j : ℕ) : Type 0 where

@@ -1,6 +1,6 @@
 -- Places of the first of some names.
 use Rattle.std.proofs.Common.{◌≡◌, ℕ, zero, suc, ◌+◌, ◌<◌, Bool, true, false, ◌||◌, cond, List, [], ◌∷◌, length, map, drop, get_or, refl, sym, ap, subst, ◌∙◌, Option, Some, None, if◌then◌else◌, add-one, arith}
-use Rattle.std.specs.Prelude.{slice_get, unwrap_or, option_map, filter}
+use Rattle.std.specs.Prelude.{option_map, filter}
 use Rattle.std.specs.Option.{is_none}
 use Rattle.std.proofs.lemmas.List.{drop_more}
 use Rattle.std.proofs.lemmas.Cmp.{nat_list_eq_equiv}
@@ -10,9 +10,7 @@ use denote.Ref.{Bor}
 use Rattle.jt_trees.specs.Texts.{among}
 use Rattle.jt_trees.specs.Expressions.{Text}
 use Rattle.jt_chains.specs.Chain.{Home, Template, BlockBody, sources_in}
-use Rattle.jt_chains.specs.Pages.{home_name}
 use Rattle.jt_chains.specs.Places.{home_at}
-use Rattle.jt_chains.specs.declared.linked.Home as linked
 use Rattle.jt_slots.specs.Slots.{global}
 use Rattle.jt_meaning.specs.Layout.{slot_in, globals_from, counted_from}
 use Rattle.jt_meaning.specs.Resolve.{first_body}
@@ -96,15 +94,6 @@ is_chain x order (Some i) e =
     (omega (arith, r.2), ap (home_at order) is ∙ r.3)
 
 -- ---- chains by their places
-
-map_at : {X Y : Type 0} (f : X → Y) (xs : List X) (i : ℕ) (x : X) → i < length xs → x ≡ get_or xs i x → slice_get (map f xs) i ≡ Some (f x)
-map_at f [] i x lt is = absurd (omega arith)
-map_at f (y ∷ ys) zero x lt is = ap (λ z. Some (f z)) (sym is)
-map_at f (y ∷ ys) (suc i) x lt is = map_at f ys i x (omega arith) is
-
--- the name of the chain at a place
-pub name_of_home : (hs : List linked.Home) (i : ℕ) (h : linked.Home) → i < length hs → h ≡ get_or hs i h → home_at (map home_name hs) i ≡ home_name h
-name_of_home hs i h lt is = ap (λ o. unwrap_or o []) (map_at home_name hs i h lt is)
 
 pub home_get : (hs : List Home) (i : ℕ) → get_or hs i [] ≡ home_at hs i
 home_get [] i = refl

@@ -1,5 +1,6 @@
 -- What is in front of a chain, one chain more.
 use Rattle.std.proofs.Common.{◌≡◌, ℕ, zero, suc, ◌+◌, ◌<◌, ◌==◌, Bool, true, false, not, ◌&&◌, ◌||◌, List, [], ◌∷◌, ◌++◌, length, map, refl, sym, ap, ◌∙◌, if◌then◌else◌, arith, length-append, append_assoc, rules}
+use Rattle.std.proofs.lemmas.List.{length-map}
 use Rattle.std.specs.Prelude.{flat_map}
 use Rattle.std.specs.Str.{bytes_eq}
 use Rattle.jt_trees.specs.Texts.{among}
@@ -10,7 +11,6 @@ use Rattle.jt_meaning.specs.Layout.{Key, of_chain, of_macro, of_body, same_key, 
 use Rattle.jt_layout.specs.Front.{home_of, Stands}
 use Rattle.jt_layout.specs.declared.front.Front.{Front}
 use Rattle.jt_layout.proofs.Bodied.{length-counted}
-use Rattle.jt_layout.proofs.Called.{length-map}
 use Rattle.jt_layout.proofs.Firsts.{same, reflexive, or_right}
 
 -- a chain that is behind another has another name
@@ -102,8 +102,8 @@ module _ (world : World) (h : Home) where
   pub count_keys : length (chain_keys world h) ≡ suc (length ms + length bs)
   count_keys =
       let all = length-append macro_keys body_keys in
-      let first = length-map (λ (m : MacroBody). of_macro h m.name) ms in
-      let second = length-map (λ (b : ℕ × BlockBody). of_body h b.0) (numbered_bodies world h) in
+      let first = length-map ms (λ (m : MacroBody). of_macro h m.name) in
+      let second = length-map (numbered_bodies world h) (λ (b : ℕ × BlockBody). of_body h b.0) in
       let third = length-counted 0 bs in
       omega (arith, all, first, second, third)
 

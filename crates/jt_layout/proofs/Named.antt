@@ -1,19 +1,13 @@
 -- Names that are put in order, and names of chains.
-use Rattle.std.proofs.Common.{◌≡◌, ℕ, ◌+◌, ◌<◌, Bool, true, false, cond, length, drop, get_or, Vec, Global, if◌then◌else◌, List, [], ◌∷◌, ◌++◌, refl, sym, ap, ◌∙◌, Option, Some, None, Result, Ok, Err, IfOk}
+use Rattle.std.proofs.Common.{◌≡◌, ℕ, ◌+◌, ◌<◌, Bool, true, false, cond, length, drop, get_or, Vec, Global, if◌then◌else◌, List, [], ◌∷◌, ◌++◌, refl, sym, ap, ◌∙◌, Option, Some, None}
 use Rattle.std.specs.Prelude.{flat_map, filter}
 use Rattle.std.specs.Option.{is_some, is_none}
-use Rattle.std.specs.declared.cmp.Ordering.{Ordering}
-use Rattle.std.specs.declared.cmp.Ordering.TheVariants.{Less, Equal, Greater}
-use Rattle.std.specs.Ordering.{nat_cmp, is_lt, is_eq, match_ordering}
-use Rattle.std.specs.Cmp.Lexicographic.{slice_cmp}
 use Rattle.std.specs.Str.{bytes_eq}
 use Rattle.std.specs.BTreeSet.{insert_key}
-use Rattle.std.proofs.lemmas.Cmp.{nat_list_eq_equiv}
 use Rattle.std.proofs.lemmas.List.{drop_more}
-use Rattle.std.proofs.lemmas.Map.Text.{is_eq-slice_cmp}
 use denote.Ref.{Bor}
 use Rattle.jt_trees.specs.Expressions.{Text}
-use Rattle.jt_trees.specs.Texts.{inserted, all_inserted, ascending}
+use Rattle.jt_trees.specs.Texts.{all_inserted, ascending}
 use Rattle.jt_chains.specs.Chain.{Home, Sources}
 use Rattle.jt_chains.specs.Includes.{included}
 use Rattle.jt_chains.specs.Places.{home_at}
@@ -23,30 +17,7 @@ use Rattle.jt_meaning.specs.Layout.{names_in}
 use Rattle.jt_uses.specs.Names.{texts}
 use Rattle.jt_layout.specs.Places.{texts_of}
 use Rattle.jt_layout.proofs.Firsts.{same, reflexive, homes_left}
-
-symmetric : (x y : Text) → bytes_eq x y ≡ bytes_eq y x
-symmetric x y = nat_list_eq_equiv.symm x y
-
--- first these and then those
-pub inserted_both : (xs ys ns : List Text) → all_inserted (xs ++ ys) ns ≡ all_inserted ys (all_inserted xs ns)
-inserted_both [] ys ns = refl
-inserted_both (x ∷ xs) ys ns = inserted_both xs ys (inserted x ns)
-
-abbrev pub name_cmp : Bor Text → Bor Text → Ordering
-name_cmp x y = slice_cmp nat_cmp x.now y.now
-
--- a name that goes into a set
-pub key_inserted : (ks : List (Bor Text)) (x : Bor Text) → texts (insert_key name_cmp ks x) ≡ inserted x.now (texts ks)
-key_inserted [] x = refl
-key_inserted (y ∷ ys) x =
-    through (slice_cmp nat_cmp x.now y.now) (key_inserted ys x)
-    ∙ ap (λ b. if b then texts (y ∷ ys) else if is_lt (slice_cmp nat_cmp x.now y.now) then x.now ∷ texts (y ∷ ys) else y.now ∷ inserted x.now (texts ys)) (is_eq-slice_cmp x.now y.now ∙ symmetric x.now y.now)
-  where
-    through : (o : Ordering) → texts (insert_key name_cmp ys x) ≡ inserted x.now (texts ys)
-        → texts (match_ordering o (x ∷ y ∷ ys) (y ∷ ys) (y ∷ insert_key name_cmp ys x)) ≡ (if is_eq o then texts (y ∷ ys) else if is_lt o then x.now ∷ texts (y ∷ ys) else y.now ∷ inserted x.now (texts ys))
-    through Less h = refl
-    through Equal h = refl
-    through Greater h = ap (λ l. y.now ∷ l) h
+use Rattle.jt_uses.proofs.Inserted.{inserted_both, name_cmp, key_inserted}
 
 -- one name more goes into a set
 pub key_turn : (ks : List (Bor Text)) (i : ℕ) (d : Bor Text) (old new : List (Bor Text)) → i < length ks → new ≡ insert_key name_cmp old (get_or ks i d)
@@ -122,7 +93,3 @@ module _ (world : World) (order : List Home) (i : ℕ) (lt : i < length order) w
       by : (b : Bool) → bytes_eq h x ≡ b → (if b then ns else old) ≡ names_in world (drop i order) x
       by true q = e ∙ ap (names_in world (drop i order)) (same h x q)
       by false q = g ∙ ap (λ b. if b then others else names_in world behind x) (sym q) ∙ ap (λ l. names_in world l x) (sym (homes_left order i lt))
-
-pub if_ok : {A E : Type 0} (P Q : A → Type 0) (r : Result A E) → ((a : A) → P a → Q a) → IfOk r P → IfOk r Q
-if_ok P Q (Ok a) f p = f a p
-if_ok P Q (Err e) f p = tt

@@ -1,5 +1,6 @@
 -- The table of a chain.
 use Rattle.std.proofs.Common.{◌≡◌, ℕ, zero, suc, ◌+◌, ◌<◌, true, false, not, ◌||◌, List, [], ◌∷◌, ◌++◌, length, map, drop, get_or, refl, sym, ap, subst, ◌∙◌, Option, Some, None, if◌then◌else◌, arith, add-one, string_bytes}
+use Rattle.std.proofs.lemmas.List.{length-map}
 use Rattle.std.specs.Prelude.{slice_get, option_map}
 use Rattle.std.specs.Option.{is_some, is_none}
 use Rattle.std.specs.Str.{bytes_eq}
@@ -25,7 +26,7 @@ use Rattle.jt_layout.specs.Places.{first_of, defaults_from, nexts}
 use Rattle.jt_layout.specs.declared.front.Front.{Front}
 use Rattle.jt_layout.specs.declared.laid.Laid.{Laid}
 use Rattle.jt_layout.proofs.Bodied.{length-counted, length-nexts}
-use Rattle.jt_layout.proofs.Called.{length-map, first_macro, no_macro}
+use Rattle.jt_layout.proofs.Called.{first_macro, no_macro}
 use Rattle.jt_layout.proofs.Firsts.{same, reflexive, or_right, in_slots, first_bodies, homes_left, of_sources}
 use Rattle.jt_layout.proofs.Fronts.{apart, macro_unit, body_unit, default_here, front_turn, count_keys}
 
@@ -61,7 +62,7 @@ module _ (c : Chain) (i : ℕ) (lt : i < length c.homes.items) (f : Front) where
   rest = drop (i + 1) O
 
   within : i < length O
-  within = omega (arith, lt, length-map home_name c.homes.items)
+  within = omega (arith, lt, length-map c.homes.items home_name)
 
   abbrev Here : Type 0
   Here = Stands W O (h ∷ rest) f
@@ -94,7 +95,7 @@ module _ (c : Chain) (i : ℕ) (lt : i < length c.homes.items) (f : Front) where
     -- the bodies
     module _ (bs : List Block) (all : map (block_view ts) bs ≡ all_bodies W.sources W.escaping h) where
       pub count_blocks : length bs ≡ length (all_bodies W.sources W.escaping h)
-      count_blocks = sym (length-map (block_view ts) bs) ∙ ap length all
+      count_blocks = sym (length-map bs (block_view ts)) ∙ ap length all
 
       pub body_units : (u m k : ℕ) → u ≡ m + length (macros W.sources h) → m ≡ f.unit + 1 → k < length bs → u + k ≡ unit W O (of_body h k)
       body_units u m k e g lt' =
@@ -132,7 +133,7 @@ each_more P (x ∷ xs) y all last (suc i) t lt is = each_more (λ j. P (suc j)) 
 
 module _ (c : Chain) (i : ℕ) (lt : i < length c.homes.items) where
   inside : i < length (its_order c)
-  inside = omega (arith, lt, length-map home_name c.homes.items)
+  inside = omega (arith, lt, length-map c.homes.items home_name)
 
   pub among_left : among (its_home c i) (drop i (its_order c)) ≡ true
   among_left = ap (among (its_home c i)) (homes_left (its_order c) i inside) ∙ ap (λ b. b || among (its_home c i) (drop (i + 1) (its_order c))) (reflexive (its_home c i))

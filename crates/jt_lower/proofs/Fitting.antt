@@ -46,7 +46,7 @@ pool_whole (t ∷ ts) before =
 
 -- ---- lists
 
-all_append : {A : Type 0} (P : A → Type 0) (xs ys : List A) → AllByRecursion P xs → AllByRecursion P ys → AllByRecursion P (xs ++ ys)
+pub all_append : {A : Type 0} (P : A → Type 0) (xs ys : List A) → AllByRecursion P xs → AllByRecursion P ys → AllByRecursion P (xs ++ ys)
 all_append P [] ys h g = g
 all_append P (x ∷ xs) ys h g = (h.0, all_append P xs ys h.1 g)
 

@@ -9,7 +9,6 @@ pub mod Typed
 pub mod Sized
 pub mod Fitting
 pub mod Patched
-pub mod Viewed
 pub mod Rows
 pub mod Lows
 pub mod Written

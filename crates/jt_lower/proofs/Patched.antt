@@ -1,5 +1,5 @@
 -- Instructions put behind others, and jumps that are written when their target is known.
-use Rattle.std.proofs.Common.{◌≡◌, ℕ, ◌+◌, ◌<◌, ◌^◌, false, List, [], ◌∷◌, ◌++◌, length, map, refl, sym, ap, ◌∙◌, subst, arith, Option, None, append_assoc, append-nil, length-append}
+use Rattle.std.proofs.Common.{◌≡◌, ℕ, ◌+◌, ◌<◌, ◌≤◌, ◌^◌, false, List, [], ◌∷◌, ◌++◌, length, map, refl, sym, ap, ◌∙◌, subst, arith, Option, None, append_assoc, append-nil, length-append}
 use Rattle.std.specs.Prelude.{slice_set}
 use Rattle.std.specs.List.{AllByRecursion}
 use Rattle.std.proofs.Math.Seq.{set-append_seam}
@@ -272,3 +272,17 @@ puts_turns c1 c2 c3 new a top begins pa ends =
 -- a call is its instruction
 pub puts_call : (c d : Emitter) (o : Option Place) (u : ℕ) → Puts c (one o (op.Call u)) d → Puts c (invoke o u) d
 puts_call c d o u p = record { limit = p.limit; kept = p.kept; emitted = p.emitted; place = λ h k. p.place (record { len = h.len; fields = h.fields }) k }
+
+pub puts_last : (c d : Emitter) (a : Asm) → Puts c a d → Puts c (both a nil) d
+puts_last c d a p = puts_then c d d a nil p (puts_nothing d)
+
+pub puts_first : (c d : Emitter) (a : Asm) → Puts c (both a nil) d → Puts c a d
+puts_first c d a p =
+    let n = length c.code.items in
+    let same : flat (both a nil) n ≡ flat a n = append-nil (flat a n) in
+    record {
+      limit = p.limit;
+      kept = p.kept;
+      emitted = λ h. p.emitted h ∙ ap (λ is. c.code.items ++ W is) same;
+      place = λ h k. p.place (record { len = subst (λ is. n + length is ≤ c.limit) (sym same) h.len; fields = subst (AllByRecursion IsInstruction) (sym same) h.fields }) k;
+    }

@@ -13,7 +13,7 @@ use Rattle.jt_lower.specs.Lower.{half, expr_asm, row_asm}
 use Rattle.jt_lower.specs.Emission.{StandsFor, Puts}
 use Rattle.jt_lower.specs.declared.emitter.Emitter.{Emitter}
 use Rattle.jt_lower.proofs.Patched.{puts_nothing, puts_then}
-use Rattle.jt_lower.proofs.Viewed.{Entry, row_left}
+use Rattle.jt_slots.proofs.ExpressionViews.{Entry, row_left}
 
 pub halved : (n : ℕ) → half n ≡ n / 2
 halved zero = omega arith

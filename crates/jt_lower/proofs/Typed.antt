@@ -4,7 +4,7 @@ use Rattle.std.specs.Prelude.{slice_get, nat_lt, IsTrue, ◌&&◌, ◌==◌}
 use Rattle.std.specs.List.{AllByRecursion}
 use Rattle.std.specs.Option.{is_some, option_map}
 use Rattle.std.proofs.Math.Seq.{get_or-append_seam}
-use Rattle.std.proofs.lemmas.Option.{slice_get-get_or, slice_get-map}
+use Rattle.std.proofs.lemmas.Option.{slice_get-get_or, slice_get-map, slice_get_within}
 use Rattle.std.proofs.lemmas.List.{length-map}
 use Rattle.jt_image.specs.declared.instruction.Instruction.{Instruction}
 use Rattle.jt_image.specs.declared.instruction.Instruction.TheVariants as op
@@ -38,11 +38,6 @@ there : {A : Type 0} (xs : List A) (n : ℕ) → n < length xs → (x : A) × (s
 there [] n lt = absurd (omega arith)
 there (x ∷ xs) zero lt = (x, refl)
 there (x ∷ xs) (suc n) lt = there xs n (omega arith)
-
-within : {A : Type 0} (xs : List A) (n : ℕ) (x : A) → slice_get xs n ≡ Some x → n < length xs
-within [] n x e = absurd cc
-within (y ∷ xs) zero x e = omega arith
-within (y ∷ xs) (suc n) x e = omega (arith, within xs n x e)
 
 -- in units of so many locals
 module _ (k : Code) (count : ℕ) where
@@ -459,7 +454,7 @@ unit_typed p r f =
     let fine = fr.fine sh (omega (arith, length-append is (op.Return ∷ []))) (shapes_front k n sh 0 fr.shapes ([] ∷ []) has) back.0 in
     let all : AllFine k n u refl sh 0 u.code = fine_append k n u refl sh 0 (0 + length is) is (op.Return ∷ []) refl fine.1 (([], back.0, omega arith, (record { shape = []; points = [] }, refl, tt)), tt) in
     let each : (q : ℕ) (s : Shape) → slice_get sh q ≡ Some s → (i : Instruction) × (slice_get u.code q ≡ Some i) × FineAt k n u refl sh q i = λ q s e.
-    let x = there u.code q (omega (arith, within sh q s e)) in (x.0, x.1, fine_at k n u refl sh u.code 0 q q x.0 (omega arith) all x.1) in (
+    let x = there u.code q (omega (arith, slice_get_within sh q s e)) in (x.0, x.1, fine_at k n u refl sh u.code 0 q q x.0 (omega arith) all x.1) in (
       λ q. slice_get sh q,
       record {
         start = fine.0;

@@ -1,5 +1,6 @@
 -- Where an image's tables have place for a program, the fields of each instruction have place for what it holds.
-use Rattle.std.proofs.Common.{◌≡◌, ℕ, zero, suc, ◌+◌, ◌<◌, ◌≤◌, ◌^◌, Bool, true, false, if◌then◌else◌, List, [], ◌∷◌, ◌++◌, length, map, Option, Some, None, refl, sym, ap, ◌∙◌, arith}
+use Rattle.std.proofs.Common.{◌≡◌, ℕ, zero, suc, ◌+◌, ◌<◌, ◌≤◌, ◌^◌, Bool, true, false, if◌then◌else◌, List, [], ◌∷◌, length, map, Option, Some, None, refl, sym, ap, ◌∙◌, arith}
+use Rattle.std.proofs.lemmas.List.{length-map}
 use Rattle.std.specs.Prelude.{slice_get, ◌==◌, IsTrue}
 use Rattle.std.specs.List.{find, AllByRecursion}
 use Rattle.std.proofs.lemmas.Option.{slice_get_within}
@@ -31,10 +32,7 @@ use Rattle.jt_lower.specs.Asm.{Asm, nil, one, both, choose, when, each, invoke, 
 use Rattle.jt_lower.specs.Lower.{half, flag, maker, told_as, load_of, store_of, store_if_of, expr_asm, row_asm, stores_asm, take_asm, kept_asm, stmt_asm, body_asm, unit_of, constant_of, compiled}
 use Rattle.jt_lower.specs.Fits.{MakerFits, TakesRow, SlotFits, ExprFits, RowFits, SomeFits, SlotsFit, TargetsFit, ConditionFits, StmtFits, BodyFits, RoutineFits, ProgramFits}
 use Rattle.jt_lower.proofs.Sized.{asm_size, flat_size}
-
-all_append : {A : Type 0} (P : A → Type 0) (xs ys : List A) → AllByRecursion P xs → AllByRecursion P ys → AllByRecursion P (xs ++ ys)
-all_append P [] ys h g = g
-all_append P (x ∷ xs) ys h g = (h.0, all_append P xs ys h.1 g)
+use Rattle.jt_lower.proofs.Fitting.{all_append}
 
 -- ---- jumps have place where points have, and so all instructions have where those do that don't jump
 
@@ -281,10 +279,6 @@ routine_written p r pool globals units locals len fits =
     let plain : Plain (both a (one None op.Return)) = (body_plain p r.locals pool globals (omega (arith, locals)) units false r.body 0 fits.body (omega (arith, fits.low)), tt) in
     flat_fits (both a (one None op.Return)) 0 plain (omega (arith, len, flat_size (both a (one None op.Return)) 0))
 
-mapped_len : {A B : Type 0} (f : A → B) (xs : List A) → length (map f xs) ≡ length xs
-mapped_len f [] = refl
-mapped_len f (x ∷ xs) = ap suc (mapped_len f xs)
-
 routines_written : (p : Program) → length p.pool ≤ 2 ^ 32 → p.globals ≤ 2 ^ 32 → length p.routines ≤ 2 ^ 32 → (rs : List (Routine ℕ)) → ((u : ℕ) (r : Routine ℕ) → slice_get rs u ≡ Some r → RoutineFits p r)
     → AllByRecursion (λ u. u.locals ≤ max_locals) (map unit_of rs) → total_len (map unit_of rs) ≤ max_instructions → AllByRecursion Written (map unit_of rs)
 routines_written p pool globals units [] fits locals len = tt
@@ -293,4 +287,4 @@ routines_written p pool globals units (r ∷ rs) fits locals len =
 
 pub program_written : (p : Program) → ProgramFits p → p.globals < 2 ^ 16 → KeepsLimits (compiled p) → AllByRecursion (λ u. AllByRecursion IsInstruction u.code) (compiled p).units
 program_written p fit globals limits =
-    routines_written p (omega (arith, limits.constants, mapped_len constant_of p.pool)) (omega (arith, globals)) (omega (arith, limits.units, mapped_len unit_of p.routines)) p.routines fit.routines limits.locals limits.instructions
+    routines_written p (omega (arith, limits.constants, length-map p.pool constant_of)) (omega (arith, globals)) (omega (arith, limits.units, length-map p.routines unit_of)) p.routines fit.routines limits.locals limits.instructions

@@ -31,6 +31,7 @@ use Rattle.jt_meaning.specs.Measure.{HasFewNames, IsFew, AreFew}
 use Rattle.jt_meaning.proofs.Among.{Among, AllAmong}
 use Rattle.jt_meaning.proofs.Reading.{same_text, is_same, no_both, among_front, among_back, each_among}
 use Rattle.jt_meaning.proofs.Scopes.{ascending_among, all_among, templates_bind}
+use Rattle.jt_meaning.proofs.Free.{all_append}
 
 -- ---- names in order ascend strictly
 
@@ -281,10 +282,6 @@ module _ (world : World) (h : Home) where
     body_few t (stmt (include line n i w) rest) a o = body_few t rest a o
     body_few t (stmt (extends line n) rest) a o = body_few t rest a o
     body_few t (stmt (block line x s r body) rest) a o = body_few t rest (among_back (stmt_names (block line x s r body)) (body_names rest) ns a) o
-
-    all_append : {A : Type 0} (P : A → Type 0) (xs ys : List A) → AllByRecursion P xs → AllByRecursion P ys → AllByRecursion P (xs ++ ys)
-    all_append P [] ys a b = b
-    all_append P (x ∷ xs) ys a b = (a.0, all_append P xs ys a.1 b)
 
     macros_few : (ts : List Template) → AllAmong (flat_map (λ t. body_names t.body) ts) ns → templates_broken world h ts ≡ None → AllByRecursion Few (flat_map (λ t. macros_in t.name t.body) ts)
     macros_few [] a e = tt

@@ -1,5 +1,6 @@
 -- The routine that a key finds.
 use Rattle.std.proofs.Common.{◌≡◌, ℕ, suc, ◌≤◌, Bool, true, false, if◌then◌else◌, List, [], ◌∷◌, ◌++◌, map, Option, Some, None, refl, sym, ap, ◌∙◌, subst, arith}
+use Rattle.std.proofs.lemmas.List.{map-append}
 use Rattle.std.specs.Prelude.{◌&&◌, ◌||◌, ◌==◌, flat_map, filter, slice_get}
 use Rattle.std.specs.Str.{bytes_eq}
 use Rattle.jt_trees.specs.Expressions.{Text}
@@ -26,10 +27,6 @@ place_finds k (p ∷ ps) = through (same_key p.0 k) (place_finds k ps)
         → slice_get (p.1 ∷ map (λ q. q.1) ps) (if b then 0 else suc (place_of k (map (λ q. q.0) ps))) ≡ (if b then Some p.1 else assoc k ps)
     through true e = refl
     through false e = e
-
-map_append : {A B : Type 0} (f : A → B) (xs ys : List A) → map f (xs ++ ys) ≡ map f xs ++ map f ys
-map_append f [] ys = refl
-map_append f (x ∷ xs) ys = ap (λ zs. f x ∷ zs) (map_append f xs ys)
 
 -- a list of keys without this one is passed over
 abbrev Passes : {A : Type 0} → Key → List (Key × A) → Type 0
@@ -84,25 +81,25 @@ module _ (world : World) (order : List Home) where
 
   chain_keys_are : (h : Home) → map (λ p. p.0) (keyed h) ≡ chain_keys world h
   chain_keys_are h =
-      ap (λ ks. of_chain h ∷ ks) (map_append (λ p. p.0) (macros_keyed h (macros world.sources h)) (bodies_keyed h (numbered_bodies world h))
+      ap (λ ks. of_chain h ∷ ks) (map-append (λ p. p.0) (macros_keyed h (macros world.sources h)) (bodies_keyed h (numbered_bodies world h))
       ∙ ap (λ ks. ks ++ map (λ p. p.0) (bodies_keyed h (numbered_bodies world h))) (macro_keys h (macros world.sources h))
       ∙ ap (λ ks. map (λ m. of_macro h m.name) (macros world.sources h) ++ ks) (body_keys h (numbered_bodies world h)))
 
   chain_routines_are : (h : Home) → map (λ p. p.1) (keyed h) ≡ chain_routines world order h
   chain_routines_are h =
-      ap (λ rs. chain_routine world order h ∷ rs) (map_append (λ p. p.1) (macros_keyed h (macros world.sources h)) (bodies_keyed h (numbered_bodies world h))
+      ap (λ rs. chain_routine world order h ∷ rs) (map-append (λ p. p.1) (macros_keyed h (macros world.sources h)) (bodies_keyed h (numbered_bodies world h))
       ∙ ap (λ rs. rs ++ map (λ p. p.1) (bodies_keyed h (numbered_bodies world h))) (macro_routines_are h (macros world.sources h))
       ∙ ap (λ rs. map (macro_routine world order h) (macros world.sources h) ++ rs) (body_routines_are h (numbered_bodies world h)))
 
   all_keys_are : (hs : List Home) → map (λ p. p.0) (flat_map keyed hs) ≡ flat_map (chain_keys world) hs
   all_keys_are [] = refl
   all_keys_are (h ∷ hs) =
-      map_append (λ p. p.0) (keyed h) (flat_map keyed hs) ∙ ap (λ ks. ks ++ map (λ p. p.0) (flat_map keyed hs)) (chain_keys_are h) ∙ ap (λ ks. chain_keys world h ++ ks) (all_keys_are hs)
+      map-append (λ p. p.0) (keyed h) (flat_map keyed hs) ∙ ap (λ ks. ks ++ map (λ p. p.0) (flat_map keyed hs)) (chain_keys_are h) ∙ ap (λ ks. chain_keys world h ++ ks) (all_keys_are hs)
 
   all_routines_are : (hs : List Home) → map (λ p. p.1) (flat_map keyed hs) ≡ flat_map (chain_routines world order) hs
   all_routines_are [] = refl
   all_routines_are (h ∷ hs) =
-      map_append (λ p. p.1) (keyed h) (flat_map keyed hs) ∙ ap (λ rs. rs ++ map (λ p. p.1) (flat_map keyed hs)) (chain_routines_are h) ∙ ap (λ rs. chain_routines world order h ++ rs) (all_routines_are hs)
+      map-append (λ p. p.1) (keyed h) (flat_map keyed hs) ∙ ap (λ rs. rs ++ map (λ p. p.1) (flat_map keyed hs)) (chain_routines_are h) ∙ ap (λ rs. chain_routines world order h ++ rs) (all_routines_are hs)
 
   unit_finds : (k : Key) (r : Routine Constant) → assoc k (flat_map keyed order) ≡ Some r → slice_get (routines world order) (unit world order k) ≡ Some r
   unit_finds k r e =
@@ -283,7 +280,7 @@ module _ (world : World) (order : List Home) where
   pub chain_is : (h : Home) → among h order ≡ true → slice_get (routines world order) (unit world order (of_chain h)) ≡ Some (chain_routine world order h)
   chain_is h e = unit_finds (of_chain h) (chain_routine world order h) (chain_found h order e)
 
-  macro_named : (x : Text) (b : MacroBody) (ms : List MacroBody) → macro_of x ms ≡ Some b → b.name ≡ x
+  pub macro_named : (x : Text) (b : MacroBody) (ms : List MacroBody) → macro_of x ms ≡ Some b → b.name ≡ x
   macro_named x b [] e = absurd (nothing e)
     where
       nothing : None ≡ Some b → ⊥

@@ -1,6 +1,7 @@
 -- What each body weighs without the names that are bound in it, each with the token behind it: these pay for the parameters that a call loads, and
 -- for the values that several targets take.
 use Rattle.std.proofs.Common.{◌≡◌, ℕ, suc, ◌+◌, ◌*◌, ◌≤◌, Bool, true, false, if◌then◌else◌, List, [], ◌∷◌, ◌++◌, length, arith, refl, length-append}
+use Rattle.std.proofs.lemmas.List.{length-map}
 use Rattle.std.specs.Prelude.{flat_map, map}
 use Rattle.std.specs.List.{AllByRecursion}
 use Rattle.std.specs.Ordering.{nat_cmp, is_lt}
@@ -98,7 +99,7 @@ macros_more : (w n v m : ℕ) → n ≤ m → w + 2 * m ≤ v + 2 * n → (ms : 
 macros_more w n v m l e [] p = tt
 macros_more w n v m l e (b ∷ bs) p = (record { body = paid_more w n v m l e b.body p.0.body; parameters = let f = p.0.parameters in omega (arith, l, f) }, macros_more w n v m l e bs p.1)
 
-all_append : {A : Type 0} (P : A → Type 0) (xs ys : List A) → AllByRecursion P xs → AllByRecursion P ys → AllByRecursion P (xs ++ ys)
+pub all_append : {A : Type 0} (P : A → Type 0) (xs ys : List A) → AllByRecursion P xs → AllByRecursion P ys → AllByRecursion P (xs ++ ys)
 all_append P [] ys a b = b
 all_append P (x ∷ xs) ys a b = (a.0, all_append P xs ys a.1 b)
 
@@ -203,10 +204,6 @@ keywords_count : (ps : Pairs) → length (keywords ps) ≡ pairs_count ps
 keywords_count no_pairs = refl
 keywords_count (pair x e ps) = omega (arith, keywords_count ps)
 
-mapped_len : {A B : Type 0} (f : A → B) (xs : List A) → length (map f xs) ≡ length xs
-mapped_len f [] = refl
-mapped_len f (x ∷ xs) = omega (arith, mapped_len f xs)
-
 mutual
   stmt_scopes : (s : Stmt) → length (set_by s) + length (scope_names_by s) ≤ stmt_bound s
   stmt_scopes (choose bs other) = omega (arith, branch_scopes bs, body_scopes other, length-append (set_under bs) (set_in other), length-append (scope_names_under bs) (scope_names_in other))
@@ -218,7 +215,7 @@ mutual
   stmt_scopes (autoescape line on body) = omega (arith, body_scopes body, length-append (set_in body) (scope_names_in body))
   stmt_scopes (block line x scoped required body) = omega (arith, body_scopes body, length-append (set_in body) (scope_names_in body))
   stmt_scopes (macro line x ps body) =
-      omega (arith, body_scopes body, mapped_len (λ (p : Parameter). p.name) ps, length-append (map (λ (p : Parameter). p.name) ps) (set_in body ++ scope_names_in body), length-append (set_in body) (scope_names_in body))
+      omega (arith, body_scopes body, length-map ps (λ (p : Parameter). p.name), length-append (map (λ (p : Parameter). p.name) ps) (set_in body ++ scope_names_in body), length-append (set_in body) (scope_names_in body))
   stmt_scopes (set line xs e) = omega arith
   stmt_scopes (data_of d) = omega arith
   stmt_scopes (print line e) = omega arith

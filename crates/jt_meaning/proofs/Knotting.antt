@@ -1,5 +1,6 @@
 -- Calls mean the same by names and by slots, at each depth; and so do whole chains.
 use Rattle.std.proofs.Common.{◌≡◌, ℕ, zero, suc, ◌+◌, ◌<◌, ◌≤◌, Bool, true, false, if◌then◌else◌, List, [], ◌∷◌, ◌++◌, length, map, Option, Some, None, refl, sym, ap, ◌∙◌, subst, arith, append_assoc, ◌⊎◌, inl, inr}
+use Rattle.std.proofs.lemmas.List.{length-map}
 use Rattle.std.specs.Prelude.{◌||◌, flat_map, max, slice_get}
 use Rattle.std.specs.Str.{bytes_eq}
 use Rattle.jt_value.specs.Tree as tree
@@ -29,7 +30,7 @@ use Rattle.jt_meaning.proofs.Reading.{same_text, is_same, no_both, among_front, 
 use Rattle.jt_meaning.proofs.Agreeing.{Kept, kept_same, kept_then, Held, global_slot, global_given, globals_apart, limit, Fits, GlobalsAgree, fits_all}
 use Rattle.jt_meaning.proofs.Calling.{Sees, Tail, Good, around_of, Wrote, CallsMean, DefaultsAt, DefaultsLaid, Included}
 use Rattle.jt_meaning.proofs.Stating.{set_among, in_among, Each, each_front, each_back, scoped_by, scoped_in, Proper, followed_same, Owns, of_top, of_scope, Here, scope_both, good_bound, inside_inner, stmt_same, body_same}
-use Rattle.jt_meaning.proofs.Finding.{chain_is, macro_is, body_is}
+use Rattle.jt_meaning.proofs.Finding.{chain_is, macro_named, macro_is, body_is}
 use Rattle.jt_meaning.specs.Layout.{scopes}
 use Rattle.jt_meaning.proofs.Scopes.{among_or_not}
 use Rattle.jt_meaning.proofs.Ordering.{Every, Belongs, templates_belong, scopes_known, macro_belongs, body_belongs}
@@ -112,24 +113,10 @@ module _ (world : World) (order : List Home) where
 
   defaults_laid : DefaultsLaid world order
   defaults_laid h e x b m =
-      let n = named x b (macros world.sources h) m in
+      let n = macro_named world order x b (macros world.sources h) m in
       defaults_at (default_place world order h b.name) b.parameters
       (held_one tree.undefined (flat_map (λ g. defaults_of (macros world.sources g)) order ++ routines_values (routines world order)) (default_in world order order h b.name) (map (λ p. default_value p.default) b.parameters)
       (defaults_among h b.name b order (routines_values (routines world order)) e (ap (λ z. macro_of z (macros world.sources h)) n ∙ m)))
-    where
-      named : (x : Text) (b : MacroBody) (ms : List MacroBody) → macro_of x ms ≡ Some b → b.name ≡ x
-      named x b [] e = absurd (nothing e)
-        where
-          nothing : None ≡ Some b → ⊥
-          nothing q = cc
-      named x b (m ∷ ms) e = through (bytes_eq m.name x) refl e (λ f. named x b ms f)
-        where
-          is_it : Some m ≡ Some b → m ≡ b
-          is_it q = cc
-
-          through : (c : Bool) → bytes_eq m.name x ≡ c → (if c then Some m else macro_of x ms) ≡ Some b → (macro_of x ms ≡ Some b → b.name ≡ x) → b.name ≡ x
-          through true p e f = ap (λ z. z.name) (sym (is_it e)) ∙ same_text m.name x p
-          through false p e f = f e
 
   abbrev lim : Home → ℕ
   lim h = limit world order h
@@ -173,10 +160,6 @@ module _ (world : World) (order : List Home) where
   left_max : (a b : ℕ) → a ≤ max a b
   left_max a b = omega arith
 
-  values_count : {A B : Type 0} (f : A → B) (xs : List A) → length (map f xs) ≡ length xs
-  values_count f [] = refl
-  values_count f (x ∷ xs) = ap suc (values_count f xs)
-
   -- the text of a routine's body
   routine_both : (n : ℕ) (calls : Calls) (scall : SCalls) (mean : CallsMean world order calls scall) (ordered : InOrder world.sources order) (h : Home) (e : among h order ≡ true) (body : Body) (sp : Spot) (q : Option Placement) (env : Env) (m : Memory)
       → sp.home ≡ h → Good world order sp q env m → IsInner env → m.out ≡ [] → AllAmong (body_names body) (names world order sp.home) → Each (Included world order sp.home) (needs_in true body) → Each (Proper world order sp.home) (scoped_in body) → AllAmong (set_in body) (scopes world order sp.home)
@@ -203,7 +186,7 @@ module _ (world : World) (order : List Home) where
           let pn = map (λ p. p.name) b.parameters in
           let r = macro_routine world order h b in
           let start_memory : Memory = record { locals = with_locals r.locals vs; globals = ts; out = [] } in
-          let same_count : length (map (λ p. p.1) ps) ≡ length pn = values_count (λ p. p.1) ps ∙ sym (values_count (λ p. p.0) ps) ∙ ap length nm in
+          let same_count : length (map (λ p. p.1) ps) ≡ length pn = length-map ps (λ p. p.1) ∙ sym (length-map ps (λ p. p.0)) ∙ ap length nm in
           let room = left_max (length pn) (body_locals (scoped (set_in b.body) (bound_all pn sp) (resolved_body world order b.body))) in
           let fit : 0 + length (map (λ p. p.1) ps) ≤ r.locals = omega (arith, same_count, room) in
           let bel = macro_belongs world order ordered h e x b m in
@@ -223,7 +206,7 @@ module _ (world : World) (order : List Home) where
           let r = body_routine world order h c behind in
           let start_memory : Memory = record { locals = with_locals r.locals vs; globals = ts; out = [] } in
           let seen : Sees world order h c.name env vs ts = subst (λ z. Sees world order h z env vs ts) (sym found.1) sees in
-          let count : length (map (read env) ps) ≡ length ps = values_count (read env) ps in
+          let count : length (map (read env) ps) ≡ length ps = length-map ps (read env) in
           let room = left_max (length ps) (body_locals (scoped (set_in c.body) (bound_all ps sp) (resolved_body world order c.body))) in
           let fit : 0 + length (map (read env) ps) ≤ r.locals = omega (arith, count, room) in
           let given : Held vs 0 (map (read env) ps) = subst (λ z. Held z 0 (map (read env) ps)) (sym seen.arguments) (subst (λ z. Held z 0 (map (read env) ps)) (append_empty (map (read env) ps)) (held_first (map (read env) ps) [])) in

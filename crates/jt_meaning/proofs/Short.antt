@@ -27,10 +27,7 @@ use Rattle.jt_meaning.specs.Resolve.{followed, Part, bound_all, resolved_stmt, r
 use Rattle.jt_meaning.proofs.Among.{Among, AllAmong}
 use Rattle.jt_meaning.proofs.Bytes.{bytes_in, literal_is, Bare, Three, stmt_counted, all_counted, scope_counted}
 use Rattle.jt_meaning.proofs.Few.{names_from}
-
-all_append : {A : Type 0} (P : A → Type 0) (xs ys : List A) → AllByRecursion P xs → AllByRecursion P ys → AllByRecursion P (xs ++ ys)
-all_append P [] ys a b = b
-all_append P (x ∷ xs) ys a b = (a.0, all_append P xs ys a.1 b)
+use Rattle.jt_meaning.proofs.Free.{all_append}
 
 -- ---- values
 

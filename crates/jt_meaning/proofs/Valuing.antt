@@ -1,5 +1,6 @@
 -- An expression means the same by names and by slots.
 use Rattle.std.proofs.Common.{◌≡◌, ℕ, zero, suc, pos, ◌<◌, ◌≤◌, Bool, true, false, if◌then◌else◌, List, [], ◌∷◌, ◌++◌, length, map, Option, Some, None, refl, sym, ap, ◌∙◌, subst, arith, append_assoc}
+use Rattle.std.proofs.lemmas.List.{length-map}
 use Rattle.std.specs.Prelude.{unwrap_or, Result, filter, codes}
 use Rattle.std.specs.Str.{bytes_eq}
 use Rattle.jt_value.specs.Tree as tree
@@ -31,7 +32,7 @@ use Rattle.jt_slots.specs.Filters.{Filters, default_value, parameters, some_give
 use Rattle.jt_rules.specs.World.{World}
 use Rattle.jt_meaning.specs.Around.{Placement, the_macro, the_block, Calls}
 use Rattle.jt_slots.specs.Slots as slots
-use Rattle.jt_slots.specs.Slots.{Slot, local, global, Maker, operator, a_list, a_map, SExpr, made, SRow, none, Memory, Valued, Listed, Written, SCalls, load, put_at, store, make, valued, in_front, svalue, svalues}
+use Rattle.jt_slots.specs.Slots.{Slot, local, Maker, operator, a_list, a_map, SExpr, made, SRow, none, Memory, Valued, Listed, Written, SCalls, load, store, make, valued, in_front, svalue, svalues}
 use Rattle.jt_meaning.specs.Layout.{Table, slot_in, first_slot, of_macro, of_body, names, globals, block_parameters, is_scoped, numbered_of, numbered_bodies, counted_from, unit, default_place}
 use Rattle.jt_meaning.specs.Programs.{pool}
 use Rattle.jt_slots.specs.Pool.{Constant, own, known, constant_in}
@@ -56,10 +57,6 @@ prefixed_values (v ∷ vs) r = ap (λ ts. v ∷ ts) (prefixed_values vs r)
 prefixed_memory : (vs : List Tree) (r : Listed) → (prefixed vs r).memory ≡ r.memory
 prefixed_memory [] r = refl
 prefixed_memory (v ∷ vs) r = prefixed_memory vs r
-
-pub map_length : {A B : Type 0} (f : A → B) (xs : List A) → length (map f xs) ≡ length xs
-map_length f [] = refl
-map_length f (x ∷ xs) = ap suc (map_length f xs)
 
 append_none : (vs : List Tree) → vs ++ [] ≡ vs
 append_none [] = refl
@@ -491,7 +488,7 @@ module _ (world : World) (order : List Home) (calls : Calls) (scall : SCalls) (m
       super_both (Some p) (Some z) e f h =
           body_both sp sp.escaping (from_given z.behind) (next_given p.behind) z.env (first_locals 0 (block_parameters world order sp.home p.name)) p.name p.behind (map (read z.env) (block_parameters world order sp.home p.name)) g.known h.tail
           (subst (λ bs. GivenBy p.behind (from_given bs) (next_given p.behind)) (sym h.behind) (given_by p.behind))
-          (locals_give 0 (block_parameters world order sp.home p.name) (map (read z.env) (block_parameters world order sp.home p.name)) m (map_length (read z.env) (block_parameters world order sp.home p.name)) h.parameters) h.sees
+          (locals_give 0 (block_parameters world order sp.home p.name) (map (read z.env) (block_parameters world order sp.home p.name)) m (length-map (block_parameters world order sp.home p.name) (read z.env)) h.parameters) h.sees
   call_both {m = m} (a_block x) sp env ts ps g named row passed =
       subst (λ bs. Same sp m (valued_text sp.escaping (block_text calls sp.home bs (top env.globals))) (invoked_body world order sp.home sp.escaping (first_body (numbered_of world sp.home x)) (reads (globals world order sp.home) (block_parameters world order sp.home x))))
       (sym (numbered_are world sp.home x))

@@ -1,5 +1,6 @@
 -- A program is as small as the weight of its chains says: each body is a part of one unit.
 use Rattle.std.proofs.Common.{◌≡◌, ℕ, suc, ◌+◌, ◌*◌, max, ◌≤◌, Bool, true, false, if◌then◌else◌, List, [], ◌∷◌, ◌++◌, length, Option, Some, None, arith, refl, length-append}
+use Rattle.std.proofs.lemmas.List.{length-map}
 use Rattle.std.specs.Prelude.{flat_map, filter, map}
 use Rattle.std.specs.List.{AllByRecursion}
 use Rattle.std.specs.Str.{bytes_eq}
@@ -318,10 +319,6 @@ values_append : (a b : List (Routine Constant)) → length (routines_values (a +
 values_append [] b = omega arith
 values_append (r ∷ a) b = omega (arith, values_append a b, length-append (body_values r.body) (routines_values (a ++ b)), length-append (body_values r.body) (routines_values a))
 
-mapped_len : {A B : Type 0} (f : A → B) (xs : List A) → length (map f xs) ≡ length xs
-mapped_len f [] = refl
-mapped_len f (x ∷ xs) = omega (arith, mapped_len f xs)
-
 module _ (world : World) (order : List Home) (h : Home) (k : (f : ℕ) → length (world.filters.parameters f) ≤ 3) where
   sets_counted : (b : Body) (t : Text) → length (body_values (resolved_sets world order b (top_spot world order h t))) ≤ body_own b
   sets_counted end t = omega arith
@@ -349,7 +346,7 @@ module _ (world : World) (order : List Home) (h : Home) (k : (f : ℕ) → lengt
         scope_counted world order m.body sp (all_counted world order m.body (bound_all (set_in m.body) sp) k),
         length-append (body_values r.body) (routines_values (map (macro_routine world order h) ms)),
         length-append (map (λ p. default_value p.default) m.parameters) (defaults_of ms),
-        mapped_len (λ (p : Parameter). default_value p.default) m.parameters,
+        length-map m.parameters (λ (p : Parameter). default_value p.default),
       )
 
   blocks_counted : (n : ℕ) (bs : List BlockBody) → length (routines_values (body_routines world order h (counted_from n bs))) ≤ bodies_own bs
@@ -468,7 +465,7 @@ module _ (world : World) (order : List Home) (n : ℕ) (some : 1 ≤ n) (few : (
   macros_localed : (ms : List MacroBody) → AllByRecursion (λ m. length m.parameters ≤ 200) ms → 200 + macros_own ms ≤ n → AllByRecursion (Holds n) (map (macro_routine world order h) ms)
   macros_localed [] f k = tt
   macros_localed (m ∷ ms) f k =
-      let l = mapped_len (λ (p : Parameter). p.name) m.parameters in
+      let l = length-map m.parameters (λ (p : Parameter). p.name) in
       (omega (arith, k, f.0, l, routine_localed (map (λ p. p.name) m.parameters) m.body (top_spot world order h m.template) (top m.template) (omega (arith, k, f.0, l))), macros_localed ms f.1 (omega (arith, k)))
 
   blocks_localed : (i : ℕ) (bs : List BlockBody) → ((x : Text) → length (block_parameters world order h x) ≤ 200) → 200 + bodies_own bs ≤ n → AllByRecursion (Holds n) (body_routines world order h (counted_from i bs))

@@ -1,5 +1,5 @@
--- Statements and branches behind others, and tests.
-use Rattle.std.proofs.Common.{◌≡◌, Bool, true, false, cond, refl, ap}
+-- Statements and branches behind others.
+use Rattle.std.proofs.Common.{◌≡◌, refl, ap}
 use Rattle.jt_trees.specs.Statements.{Body, end, stmt, Branches, no_branches, branch}
 use Rattle.jt_parse.specs.Reading.{then_all, then_branches}
 
@@ -18,8 +18,3 @@ branches_end (branch l c b a) = ap (branch l c b) (branches_end a)
 pub branches_all : (a b c : Branches) → then_branches (then_branches a b) c ≡ then_branches a (then_branches b c)
 branches_all no_branches b c = refl
 branches_all (branch l x y a) b c = ap (branch l x y) (branches_all a b c)
-
--- what goes on from a test
-pub by_test : {A G : Type 0} (b : Bool) (x y z : A) → cond b x y ≡ z → (b ≡ true → x ≡ z → G) → (b ≡ false → y ≡ z → G) → G
-by_test true x y z e hit miss = hit refl e
-by_test false x y z e hit miss = miss refl e

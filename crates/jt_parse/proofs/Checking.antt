@@ -13,7 +13,7 @@ use Rattle.jt_parse.specs.declared.error.ParseError.{ParseError}
 use Rattle.jt_parse.specs.declared.error.ParseError.TheVariants as e
 use Rattle.jt_trees.specs.declared.statement.Stmt.{Stmt}
 use Rattle.jt_trees.specs.declared.statement.Stmt.TheVariants.{If}
-use Rattle.jt_trees.proofs.StatementViews.{view-If}
+use Rattle.jt_trees.proofs.StatementViews.{view_If}
 
 abbrev pub Branch : Type 0
 Branch = ℕ × Expr × Vec Stmt Global
@@ -72,7 +72,7 @@ inside_refused bs i b f lt is c g = branch_refused bs i b f lt is (fault_behind 
 -- ---- an `if`
 
 choice_is : (s : Stmt) (bs : Vec Branch Global) (other : Vec Stmt Global) → s ≡ If bs other → stmt_unknown (stmt_view s) ≡ option_or (branch_unknown (branches_view bs.items)) (body_unknown (body_view other.items))
-choice_is s bs other is = ap stmt_unknown (ap stmt_view is ∙ view-If bs other)
+choice_is s bs other is = ap stmt_unknown (ap stmt_view is ∙ view_If bs other)
 
 pub branches_refused : (s : Stmt) (bs : Vec Branch Global) (other : Vec Stmt Global) (f : ParseError) → s ≡ If bs other → GivesNames (branch_unknown (branches_view bs.items)) (Err f)
     → GivesNames (stmt_unknown (stmt_view s)) (Err f)

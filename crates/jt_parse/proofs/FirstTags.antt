@@ -1,9 +1,8 @@
 -- The first tags of statements: what stands behind the first word, and what is promised of it from what is promised of its parts.
-use Rattle.std.proofs.Common.{◌≡◌, ℕ, suc, ◌<◌, ◌≤◌, Bool, true, false, List, [], ◌∷◌, ◌++◌, length, codes, bytes_eq, encode_utf8_all, refl, sym, ap, subst, ◌∙◌, append_assoc, append-nil, arith, Option, option_map, rules, Result, Ok, Err, String, Global, Vec, string_bytes}
+use Rattle.std.proofs.Common.{◌≡◌, ℕ, suc, ◌<◌, ◌≤◌, Bool, true, false, List, [], ◌∷◌, ◌++◌, length, codes, bytes_eq, encode_utf8_all, refl, sym, ap, subst, ◌∙◌, append_assoc, append-nil, arith, Option, option_map, Result, Ok, Err, String, Global, Vec, string_bytes}
 use Rattle.std.proofs.lemmas.Slice.Eq.{bytes_eq-Decides}
 use Rattle.jt_scan.specs.declared.segment.Sign.TheVariants as s
 use Rattle.jt_scan.specs.Cut as cut
-use Rattle.jt_scan.specs.Cut.{Token}
 use Rattle.jt_expr.specs.declared.error.ExprError.{ExprError}
 use Rattle.jt_expr.specs.declared.error.ExprError.TheVariants as e
 use Rattle.jt_trees.specs.declared.expression.Expr.{Expr as Tree}
@@ -18,11 +17,9 @@ use Rattle.jt_trees.specs.Statements.{Filtering, Parameter, condition_levels, fi
 use Rattle.jt_parse.specs.Tags as tags
 use Rattle.jt_parse.specs.Tags.{Separated, only, also, IsName, a_name, IsValue, pairs_of, Values, no_values, some_values, IsFiltering, Parameters, Condition, no_condition, a_condition, flag, Context, missing_words, truth_word, Head, a_loop, a_statement, an_opening, a_text, values, filters, escaping, a_macro, a_block, Says, says_if, says_for, says_set, says_text, says_with, says_filter, says_autoescape, says_macro, says_include, says_extends, says_block, head_levels}
 use Rattle.jt_parse.specs.Readers.{TakesWord, Anything, NoToken, NoSign, NoWord, IsText, value_levels, one_filtering_levels, most, ReadsFlat, ReadsHead, GivesText}
-use Rattle.jt_trees.specs.StatementView.{names_view, filterings_view, parameters_view, stmt_view}
+use Rattle.jt_trees.specs.StatementView.{names_view, filterings_view, parameters_view}
 use Rattle.jt_parse.specs.HeadView.{values_view, head_view}
 use Rattle.jt_parse.specs.declared.heads.Head.{Head as Read}
-use Rattle.jt_trees.specs.declared.statement.Stmt.{the_lemmas}
-use Rattle.jt_trees.specs.declared.statement.Stmt.TheVariants as stmt
 use Rattle.jt_trees.specs.declared.statement.Filtering.{Filtering as Filter}
 use Rattle.jt_trees.specs.declared.statement.Parameter.{Parameter as Declared}
 use Rattle.jt_parse.proofs.Fronts.{tokens_tail, behind, same_name, no_length, no_tokens, part_refused, sign_refused, word_refused, Whole, last_part, NameRead, leads_name, name_leads, behind_name}
@@ -612,14 +609,3 @@ module _ (line m : ℕ) (w : List ℕ) (ts : Tokens) where
 
   pub none_left : (h : Read) (u : Tokens) → ReadsHead line m w ts (Ok h) u → length u ≡ 0 → ReadsHead line m w ts (Ok h) []
   none_left h u g none = subst (λ z. ReadsHead line m w ts (Ok h) z) (no_length u none) g
-
--- ---- views of whole statements
-
-pub view_set : (line : ℕ) (ns : Vec (String Global) Global) (t : Tree) → stmt_view (stmt.Set line ns t) ≡ trees.set line (names_view ns.items) (expr_view t)
-view_set line ns t = search (rules, the_lemmas)
-
-pub view_include : (line : ℕ) (n : String Global) (missing context : Bool) → stmt_view (stmt.Include line n missing context) ≡ trees.include line (string_bytes n) missing context
-view_include line n missing context = search (rules, the_lemmas)
-
-pub view_extends : (line : ℕ) (n : String Global) → stmt_view (stmt.Extends line n) ≡ trees.extends line (string_bytes n)
-view_extends line n = search (rules, the_lemmas)

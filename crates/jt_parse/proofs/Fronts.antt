@@ -1,75 +1,21 @@
 -- What stands in front of tokens, and what a refusal of a part says of the whole.
-use Rattle.std.proofs.Common.{◌≡◌, ℕ, ◌<◌, ◌≤◌, Bool, true, false, ◌==◌, cond, [], ◌∷◌, length, drop, encode_utf8_all, refl, sym, ap, subst, ◌∙◌, arith, Ok, Err, String, Global, string_bytes, Result}
-use Rattle.std.proofs.lemmas.Bool.Decides.{nat_tests}
+use Rattle.std.proofs.Common.{◌≡◌, ℕ, ◌<◌, ◌≤◌, Bool, true, false, [], ◌∷◌, length, encode_utf8_all, refl, sym, ap, subst, ◌∙◌, arith, Ok, Err, String, Global, string_bytes, Result}
 use Rattle.std.proofs.lemmas.Slice.Eq.{bytes_eq-Decides}
 use Rattle.jt_scan.specs.declared.segment.Sign.{Sign}
-use Rattle.jt_scan.specs.declared.segment.Sign.TheVariants as s
 use Rattle.jt_scan.specs.Cut as cut
 use Rattle.jt_scan.specs.Cut.{Token}
 use Rattle.jt_expr.specs.declared.error.ExprError.{ExprError}
 use Rattle.jt_expr.specs.declared.error.ExprError.TheVariants as e
 use Rattle.jt_expr.specs.Grammar.{Tokens, word, is_reserved}
-use Rattle.jt_expr.specs.Front.{code, sees, says, past}
+use Rattle.jt_expr.specs.Front.{sees, says, past}
 use Rattle.jt_expr.specs.Promises.{Leads, Reads}
 use Rattle.jt_expr.specs.Cursor.{TakesSign, TakesAName}
 use Rattle.jt_trees.specs.Expressions.{Text}
 use Rattle.jt_parse.specs.Tags.{IsName, a_name}
 use Rattle.jt_parse.specs.Readers.{TakesWord, Anything, ReadsFlat}
+use Rattle.jt_expr.proofs.Branches.{says_sound, sees_sound, sees_self}
 
 -- ---- tests of the first token
-
-uncode : ℕ → Sign
-uncode n =
-    cond (n == 0) s.Plus (cond (n == 1) s.Minus (cond (n == 2) s.Times (cond (n == 3) s.Percent (cond (n == 4) s.Tilde (cond (n == 5) s.Less (cond (n == 6) s.Greater (cond (n == 7) s.Assign
-    (cond (n == 8) s.Dot (cond (n == 9) s.Comma (cond (n == 10) s.Colon (cond (n == 11) s.Pipe (cond (n == 12) s.LeftParen (cond (n == 13) s.RightParen (cond (n == 14) s.LeftBracket (cond (n == 15) s.RightBracket
-    (cond (n == 16) s.LeftBrace (cond (n == 17) s.RightBrace (cond (n == 18) s.Power (cond (n == 19) s.FloorDivide (cond (n == 20) s.Equal (cond (n == 21) s.NotEqual (cond (n == 22) s.LessEqual s.GreaterEqual))))))))))))))))))))))
-
-uncode_code : (k : Sign) → uncode (code k) ≡ k
-unfolding uncode
-uncode_code s.Plus = refl
-uncode_code s.Minus = refl
-uncode_code s.Times = refl
-uncode_code s.Percent = refl
-uncode_code s.Tilde = refl
-uncode_code s.Less = refl
-uncode_code s.Greater = refl
-uncode_code s.Assign = refl
-uncode_code s.Dot = refl
-uncode_code s.Comma = refl
-uncode_code s.Colon = refl
-uncode_code s.Pipe = refl
-uncode_code s.LeftParen = refl
-uncode_code s.RightParen = refl
-uncode_code s.LeftBracket = refl
-uncode_code s.RightBracket = refl
-uncode_code s.LeftBrace = refl
-uncode_code s.RightBrace = refl
-uncode_code s.Power = refl
-uncode_code s.FloorDivide = refl
-uncode_code s.Equal = refl
-uncode_code s.NotEqual = refl
-uncode_code s.LessEqual = refl
-uncode_code s.GreaterEqual = refl
-
-same_sign : (j k : Sign) → (code j == code k) ≡ true → j ≡ k
-same_sign j k e = let same : code j ≡ code k = grind (arith, nat_tests) in sym (uncode_code j) ∙ ap uncode same ∙ uncode_code k
-
-sees_sound : (k : Sign) (ts : Tokens) → sees k ts ≡ true → ts ≡ cut.sign k ∷ drop 1 ts
-sees_sound k [] e = cc
-sees_sound k (cut.name x ∷ ts) e = cc
-sees_sound k (cut.number n ∷ ts) e = cc
-sees_sound k (cut.text v ∷ ts) e = cc
-sees_sound k (cut.sign j ∷ ts) e = ap (λ i. cut.sign i ∷ ts) (same_sign j k e)
-
-eqb_self : (n : ℕ) → (n == n) ≡ true
-eqb_self n = grind (arith, nat_tests)
-
-says_sound : (w : Text) (ts : Tokens) → says w ts ≡ true → ts ≡ word w ∷ drop 1 ts
-says_sound w [] e = cc
-says_sound w (cut.name x ∷ ts) e = ap (λ y. cut.name y ∷ ts) ((bytes_eq-Decides x w).0 e)
-says_sound w (cut.number n ∷ ts) e = cc
-says_sound w (cut.text v ∷ ts) e = cc
-says_sound w (cut.sign k ∷ ts) e = cc
 
 pub true_is_false : {G : Type 0} → true ≡ false → G
 true_is_false e = absurd (cc)
@@ -82,7 +28,7 @@ module _ (k : Sign) (ts new : Tokens) (b : Bool) (found : b ≡ sees k ts) (rest
   sign_left h = rest ∙ ap (λ c. past c ts) (sym found ∙ h)
 
   pub no_sign : b ≡ false → (w : Tokens) → ts ≡ cut.sign k ∷ w → ⊥
-  no_sign h w e = true_is_false (sym (eqb_self (code k)) ∙ sym (ap (sees k) e) ∙ sym found ∙ h)
+  no_sign h w e = true_is_false (sym (sees_self k w) ∙ sym (ap (sees k) e) ∙ sym found ∙ h)
 
 module _ (x : Text) (ts new : Tokens) (b : Bool) (found : b ≡ says x ts) (rest : new ≡ past (says x ts) ts) where
   pub word_taken : b ≡ true → ts ≡ word x ∷ new

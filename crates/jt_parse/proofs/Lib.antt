@@ -1,6 +1,5 @@
 pub mod Bodies
 pub mod Expressions
-pub mod Texts
 pub mod Views
 pub mod Fronts
 pub mod Separating

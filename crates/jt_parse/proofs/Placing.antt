@@ -1,9 +1,5 @@
 -- Where the statements of a template stand, one after the other.
-use Rattle.std.proofs.Common.{◌≡◌, ℕ, ◌+◌, ◌<◌, ◌&&◌, Bool, true, false, not, List, length, drop, get_or, refl, sym, ap, ◌∙◌, Option, Some, None, Vec, Global}
-use Rattle.std.proofs.lemmas.List.{drop_more}
-use Rattle.jt_trees.specs.ExpressionView.{expr_view}
-use Rattle.jt_trees.specs.declared.expression.Expr.{Expr}
-use Rattle.jt_trees.specs.Statements as trees
+use Rattle.std.proofs.Common.{◌≡◌, ℕ, ◌+◌, ◌<◌, ◌&&◌, Bool, true, false, not, List, length, drop, get_or, refl, ap, ◌∙◌, Option, Some, None, Vec, Global}
 use Rattle.jt_trees.specs.Statements.{Body}
 use Rattle.jt_parse.specs.Places as places
 use Rattle.jt_parse.specs.Places.{is_placed, is_child, within, stmt_placed, body_placed, branches_placed}
@@ -12,28 +8,20 @@ use Rattle.jt_trees.specs.StatementView.{stmt_view, body_view, branches_view}
 use Rattle.jt_parse.specs.declared.places.Place.{Place}
 use Rattle.jt_trees.specs.declared.statement.Stmt.{Stmt}
 use Rattle.jt_trees.specs.declared.statement.Stmt.TheVariants.{If}
-use Rattle.jt_trees.proofs.StatementViews.{view-If}
+use Rattle.jt_trees.proofs.Left.{Branch, branches_left}
+use Rattle.jt_trees.proofs.StatementViews.{view_If}
 
 -- what is left, with nothing read yet but whitespace, or at this place
 abbrev pub placed_by : Option Place → Body → Bool
 placed_by None b = is_placed b
 placed_by (Some p) b = body_placed (place_view p) b
 
-abbrev pub Branch : Type 0
-Branch = ℕ × Expr × Vec Stmt Global
-
--- what is left of branches
-pub branches_left : (bs : List Branch) (i : ℕ) (b : Branch) → i < length bs → b ≡ get_or bs i b → branches_view (drop i bs) ≡ trees.branch b.0 (expr_view b.1) (body_view b.2.items) (branches_view (drop (i + 1) bs))
-branches_left bs i b lt is =
-    ap (λ (z : List Branch). branches_view z) (drop_more bs i b lt)
-    ∙ ap (λ (z : Branch). trees.branch z.0 (expr_view z.1) (body_view z.2.items) (branches_view (drop (i + 1) bs))) (sym is)
-
 pub branch_misplaced : (q : places.Place) (bs : List Branch) (i : ℕ) (b : Branch) → i < length bs → b ≡ get_or bs i b → body_placed q (body_view b.2.items) ≡ false → branches_placed q (branches_view (drop i bs)) ≡ false
 branch_misplaced q bs i b lt is bad = ap (branches_placed q) (branches_left bs i b lt is) ∙ ap (λ c. c && branches_placed q (branches_view (drop (i + 1) bs))) bad
 
 choice_is : (p : places.Place) (s : Stmt) (bs : Vec Branch Global) (other : Vec Stmt Global) → s ≡ If bs other
     → stmt_placed p (stmt_view s) ≡ (not (is_child p) && (branches_placed (within p) (branches_view bs.items) && body_placed (within p) (body_view other.items)))
-choice_is p s bs other is = ap (stmt_placed p) (ap stmt_view is ∙ view-If bs other)
+choice_is p s bs other is = ap (stmt_placed p) (ap stmt_view is ∙ view_If bs other)
 
 never : (a b : Bool) → (a && (false && b)) ≡ false
 never true b = refl

@@ -18,19 +18,14 @@ use Rattle.jt_expr.specs.Promises.{ExpressionLaws}
 use Rattle.jt_trees.specs.Statements.{Filtering, Parameter, Body, Branches}
 use Rattle.jt_parse.specs.Bytes.{segment_bytes, bytes_of}
 use Rattle.jt_parse.specs.Kept as kept
-use Rattle.jt_parse.specs.Kept.{Piece, Side, pieces_from, with_segment, with_text, side_ahead, side_behind, block_side, variable_side, after_left, without_end, after_lf}
+use Rattle.jt_parse.specs.Kept.{Piece, Side, pieces_from, with_segment, with_text, side_ahead, side_behind, block_side, variable_side, after_left, after_lf}
 use Rattle.jt_scan.specs.declared.segment.Mark.TheVariants as m
 use Rattle.jt_parse.specs.View.{reads_of}
 use Rattle.jt_parse.specs.Tags.{Separated, only, also, IsName, a_name, IsValue, a_value, pairs_of, Values, no_values, some_values, IsFiltering, a_filter, IsParameter, plain, with_default, Parameters, no_parameters, some_parameters, Opening, a_text as set_text, values, filters, escaping, a_macro, a_block, Head, a_statement, an_if, a_loop, an_opening, made, Condition, no_condition, a_condition, Says, says_if, says_for, says_set, says_text, says_with, says_filter, says_autoescape, says_macro, says_include, says_extends, says_block}
 use Rattle.jt_parse.specs.Grammar.{block, Forms, nothing_more, some_data, a_print, one_tag, an_if_statement, a_for_statement, enclosed, GoesOn, no_elif, an_elif, Otherwise, no_else, an_else}
 use Rattle.jt_parse.proofs.Weighs.{literal_spelled, filter_spelled}
 use Rattle.jt_parse.proofs.Sides.{space_end, lf_end, whole_end}
-
--- ---- tokens
-
-tokens-append : (x y : Tokens) → tokens_bytes (x ++ y) ≡ tokens_bytes x + tokens_bytes y
-tokens-append [] y = omega arith
-tokens-append (t ∷ x) y = omega (arith, tokens-append x y)
+use Rattle.jt_expr.proofs.Short.{bytes-append}
 
 -- ---- rows
 
@@ -40,7 +35,7 @@ sums f (a ∷ bs) = f a + sums f bs
 
 sep_short : {A : Type 0} {One : A → Tokens → Type 0} {k : Sign} (f : A → ℕ) → ((a : A) (x : Tokens) → One a x → f a ≤ tokens_bytes x) → {bs : List A} {x : Tokens} → Separated One k bs x → sums f bs ≤ tokens_bytes x
 sep_short f here (only {a} {x} d) = omega (arith, here a x d)
-sep_short {k = k} f here (also {a} {bs} {x} {y} d g) = omega (arith, here a x d, sep_short f here g, tokens-append x (cut.sign k ∷ y))
+sep_short {k = k} f here (also {a} {bs} {x} {y} d g) = omega (arith, here a x d, sep_short f here g, bytes-append x (cut.sign k ∷ y))
 
 abbrev text_length : Text → ℕ
 text_length x = length x
@@ -67,7 +62,7 @@ module _ (laws : ExpressionLaws) where
   one_filter f = length f.name + exprs_bytes f.arguments + pairs_bytes f.keywords
 
   filter_short : (a : Filtering) (x : Tokens) → IsFiltering a x → one_filter a ≤ tokens_bytes x
-  filter_short a x (a_filter {x = n} {y = y} h d) = omega (arith, spells_short (filter_spelled {n = n} h d), tokens-append y [])
+  filter_short a x (a_filter {x = n} {y = y} h d) = omega (arith, spells_short (filter_spelled {n = n} h d), bytes-append y [])
 
   filters_sum : (bs : List Filtering) → sums one_filter bs ≡ filtering_bytes bs
   filters_sum [] = refl
@@ -84,7 +79,7 @@ module _ (laws : ExpressionLaws) where
   parameters_short : {ps : List Parameter} {x : Tokens} → Parameters ps x → parameters_bytes ps ≤ tokens_bytes x
   parameters_short no_parameters = omega arith
   parameters_short (some_parameters {ps} {x} d h) =
-      omega (arith, sep_short (λ (a : Parameter). length a.name + default_bytes a.default) parameter_short d, parameters_sum ps, tokens-append x (cut.sign s.RightParen ∷ []))
+      omega (arith, sep_short (λ (a : Parameter). length a.name + default_bytes a.default) parameter_short d, parameters_sum ps, bytes-append x (cut.sign s.RightParen ∷ []))
 
   values_short : {ps : Pairs} {x : Tokens} → Values ps x → pairs_bytes ps ≤ tokens_bytes x
   values_short no_values = omega arith
@@ -113,8 +108,8 @@ module _ (laws : ExpressionLaws) where
   says_short : {line : ℕ} {h : Head} {x : Tokens} → Says line h x → head_bytes h ≤ tokens_bytes x
   says_short (says_if d) = omega (arith, spells_short d)
   says_short (says_for {ts} {x = x} {y} {z} g d f) =
-      omega (arith, sep_short text_length name_short g, names_sum ts, spells_short d, condition_short f, tokens-append x (word (codes "in") ∷ (y ++ z)), tokens-append y z)
-  says_short (says_set {ts} {x = x} {y} g d) = omega (arith, sep_short text_length name_short g, names_sum ts, spells_short d, tokens-append x (cut.sign s.Assign ∷ y))
+      omega (arith, sep_short text_length name_short g, names_sum ts, spells_short d, condition_short f, bytes-append x (word (codes "in") ∷ (y ++ z)), bytes-append y z)
+  says_short (says_set {ts} {x = x} {y} g d) = omega (arith, sep_short text_length name_short g, names_sum ts, spells_short d, bytes-append x (cut.sign s.Assign ∷ y))
   says_short (says_text h) = omega arith
   says_short (says_with d) = omega (arith, values_short d)
   says_short (says_filter {fs} d) = omega (arith, sep_short one_filter filter_short d, filters_sum fs)

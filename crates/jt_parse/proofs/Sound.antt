@@ -13,8 +13,9 @@ use Rattle.jt_parse.specs.Kept.{Piece}
 use Rattle.jt_parse.specs.Tags.{Loop, Opening, a_text, values, filters, escaping, a_macro, a_block, Head, a_statement, an_if, a_loop, an_opening, made, looped, Says, Ends, by_word, by_name, end_word}
 use Rattle.jt_parse.specs.Grammar.{block, Forms, nothing_more, some_data, a_print, one_tag, an_if_statement, a_for_statement, enclosed, GoesOn, no_elif, an_elif, Otherwise, no_else, an_else}
 use Rattle.jt_parse.specs.Reading as reading
-use Rattle.jt_parse.specs.Reading.{then_all, then_one, then_branches, then_branch, Frame, in_branch, in_else, in_loop, in_loop_else, in_opening, Fault, syntax, deep, State, state, headed, After, PrintTag, HeadTag, ElifTag, Role, is_elif, is_else, is_end, is_head, role, BlockTag, Steps, Runs, ended, refused, went_on, start, else_tag, names_end, none_left, ends_frame, finished, end_tag, is_end_word}
-use Rattle.jt_parse.proofs.Bodies.{all_end, all_all, branches_all, by_test}
+use Rattle.jt_parse.specs.Reading.{then_all, then_one, then_branches, then_branch, Frame, in_branch, in_else, in_loop, in_loop_else, in_opening, Fault, syntax, State, state, headed, PrintTag, HeadTag, ElifTag, Role, is_elif, is_else, is_end, is_head, role, BlockTag, Steps, Runs, ended, refused, went_on, start, else_tag, names_end, none_left, ends_frame, finished, end_tag, is_end_word}
+use Rattle.jt_parse.proofs.Bodies.{all_end, all_all, branches_all}
+use Rattle.jt_scan.proofs.Steps.{by_test}
 
 abbrev endif : ℕ → Piece
 endif last = block last (word (codes "endif") ∷ [])

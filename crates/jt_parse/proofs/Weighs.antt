@@ -7,22 +7,17 @@ use Rattle.jt_scan.specs.View.{cut_of, segment_view}
 use Rattle.jt_scan.specs.Cut as cut
 use Rattle.jt_scan.specs.Cut.{Token, Segment, weight, weight_of, tokens_weight}
 use Rattle.jt_trees.specs.Expressions as e
-use Rattle.jt_trees.specs.Expressions.{Expr, Exprs, Pairs, Literal, exprs_weight, pairs_weight, perhaps_enclosed, literal_weight, Text}
+use Rattle.jt_trees.specs.Expressions.{Expr, Exprs, Pairs, Literal, exprs_weight, pairs_weight, perhaps_enclosed, Text}
 use Rattle.jt_expr.specs.Grammar.{Tokens, word, is_reserved, Level, postfix, postscript, Spells, unsigned, postfixes, postscripts, stay, filtered, a_number, a_text, a_constant, Arguments}
 use Rattle.jt_expr.specs.Promises.{ExpressionLaws}
 use Rattle.jt_trees.specs.Statements.{Filtering, Parameter, Body, Branches, stmt_weight, body_weight, branch_weight, condition_weight, filtering_weight, default_weight, parameters_weight}
 use Rattle.jt_parse.specs.Kept as kept
-use Rattle.jt_parse.specs.Kept.{Piece, Read, Side, pieces_from, with_segment, with_text, side_ahead, side_behind, block_side}
+use Rattle.jt_parse.specs.Kept.{Piece, Side, pieces_from, with_segment, with_text, side_ahead, side_behind, block_side}
 use Rattle.jt_scan.specs.declared.options.Options.{Options}
 use Rattle.jt_parse.specs.View.{reads_of}
 use Rattle.jt_parse.specs.Tags.{Separated, only, also, IsName, a_name, IsValue, a_value, pairs_of, Values, no_values, some_values, IsFiltering, a_filter, literal_token, IsParameter, plain, with_default, Parameters, no_parameters, some_parameters, Opening, a_text as set_text, values, filters, escaping, a_macro, a_block, Head, a_statement, an_if, a_loop, an_opening, made, Condition, no_condition, a_condition, Says, says_if, says_for, says_set, says_text, says_with, says_filter, says_autoescape, says_macro, says_include, says_extends, says_block, Ends, by_word, by_name}
 use Rattle.jt_parse.specs.Grammar.{block, Forms, nothing_more, some_data, a_print, one_tag, an_if_statement, a_for_statement, enclosed, GoesOn, no_elif, an_elif, Otherwise, no_else, an_else}
-
--- ---- tokens
-
-tokens-append : (x y : Tokens) → tokens_weight (x ++ y) ≡ tokens_weight x + tokens_weight y
-tokens-append [] y = omega arith
-tokens-append (t ∷ x) y = omega (arith, tokens-append x y)
+use Rattle.jt_expr.proofs.Weighs.{weight-append}
 
 -- a literal and a filter, as expressions
 pub literal_spelled : (t : Token) (l : Literal) → literal_token t ≡ Some l → Spells postfix (e.constant l) (t ∷ [])
@@ -43,7 +38,7 @@ sums f (a ∷ bs) = 1 + f a + sums f bs
 
 sep_weighs : {A : Type 0} {One : A → Tokens → Type 0} {k : Sign} (f : A → ℕ) → ((a : A) (x : Tokens) → One a x → f a ≤ tokens_weight x) → {bs : List A} {x : Tokens} → Separated One k bs x → sums f bs ≤ 1 + tokens_weight x
 sep_weighs f here (only {a} {x} d) = omega (arith, here a x d)
-sep_weighs {k = k} f here (also {a} {bs} {x} {y} d g) = omega (arith, here a x d, sep_weighs f here g, tokens-append x (cut.sign k ∷ y))
+sep_weighs {k = k} f here (also {a} {bs} {x} {y} d g) = omega (arith, here a x d, sep_weighs f here g, weight-append x (cut.sign k ∷ y))
 
 name_weighs : (a : Text) (x : Tokens) → IsName a x → 1 ≤ tokens_weight x
 name_weighs a x (a_name h) = omega arith
@@ -67,7 +62,7 @@ module _ (laws : ExpressionLaws) where
   one_filter f = 1 + perhaps_enclosed (exprs_weight f.arguments + pairs_weight 2 f.keywords)
 
   filter_weighs : (a : Filtering) (x : Tokens) → IsFiltering a x → one_filter a ≤ tokens_weight x
-  filter_weighs a x (a_filter {x = n} {y = y} h d) = omega (arith, spells_weighs (filter_spelled {n = n} h d), tokens-append y [])
+  filter_weighs a x (a_filter {x = n} {y = y} h d) = omega (arith, spells_weighs (filter_spelled {n = n} h d), weight-append y [])
 
   filters_sum : (bs : List Filtering) → sums one_filter bs ≡ filtering_weight bs
   filters_sum [] = refl
@@ -84,7 +79,7 @@ module _ (laws : ExpressionLaws) where
   parameters_weigh : {ps : List Parameter} {x : Tokens} → Parameters ps x → parameters_weight ps ≤ tokens_weight x
   parameters_weigh no_parameters = omega arith
   parameters_weigh (some_parameters {ps} {x} d h) =
-      omega (arith, sep_weighs (λ (a : Parameter). 1 + default_weight a.default) parameter_weighs d, parameters_sum ps, tokens-append x (cut.sign s.RightParen ∷ []))
+      omega (arith, sep_weighs (λ (a : Parameter). 1 + default_weight a.default) parameter_weighs d, parameters_sum ps, weight-append x (cut.sign s.RightParen ∷ []))
 
   values_weigh : {ps : Pairs} {x : Tokens} → Values ps x → pairs_weight 2 ps ≤ 1 + tokens_weight x
   values_weigh no_values = omega arith
@@ -113,8 +108,8 @@ module _ (laws : ExpressionLaws) where
   says_weighs : {line : ℕ} {h : Head} {x : Tokens} → Says line h x → head_weight h ≤ tokens_weight x
   says_weighs (says_if d) = omega (arith, spells_weighs d)
   says_weighs (says_for {ts} {x = x} {y} {z} g d f) =
-      omega (arith, sep_weighs (λ (a : Text). 1) name_weighs g, names_sum ts, spells_weighs d, condition_weighs f, tokens-append x (word (codes "in") ∷ (y ++ z)), tokens-append y z)
-  says_weighs (says_set {ts} {x = x} {y} g d) = omega (arith, sep_weighs (λ (a : Text). 1) name_weighs g, names_sum ts, spells_weighs d, tokens-append x (cut.sign s.Assign ∷ y))
+      omega (arith, sep_weighs (λ (a : Text). 1) name_weighs g, names_sum ts, spells_weighs d, condition_weighs f, weight-append x (word (codes "in") ∷ (y ++ z)), weight-append y z)
+  says_weighs (says_set {ts} {x = x} {y} g d) = omega (arith, sep_weighs (λ (a : Text). 1) name_weighs g, names_sum ts, spells_weighs d, weight-append x (cut.sign s.Assign ∷ y))
   says_weighs (says_text h) = omega arith
   says_weighs (says_with d) = omega (arith, values_weigh d)
   says_weighs (says_filter {fs} d) = omega (arith, sep_weighs one_filter filter_weighs d, filters_sum fs)

@@ -12,4 +12,3 @@ pub mod Refusals
 pub mod SideView
 pub mod Tags
 pub mod View
-pub mod Words

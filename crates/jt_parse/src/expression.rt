@@ -6,7 +6,7 @@ ghost use Rattle.jt_scan.specs.View.{token_view};
 ghost use Rattle.jt_trees.specs.Expressions.{levels as tree_levels};
 ghost use Rattle.jt_expr.specs.Grammar.{word as word_token, whole, Spells};
 ghost use Rattle.jt_trees.specs.ExpressionView.{expr_view};
-ghost use Rattle.jt_parse.specs.Words.{is_plain};
+ghost use Rattle.jt_scan.specs.Words.{is_plain};
 ghost use Rattle.jt_parse.specs.Tags.{Says, head_levels};
 ghost use Rattle.jt_parse.specs.HeadView.{head_view};
 ghost use Rattle.jt_parse.specs.Gives.{GivesOnly, refusal_at};

@@ -1,5 +1,5 @@
 -- How lines and commands end, by the parts that they end in.
-use Rattle.std.proofs.Common.{◌≡◌, ◌≢◌, ◌⊎◌, Contains, inl, inr, ⊎_elim, ◌∙◌, ℕ, List, Option, None, Some, String, Global, Result, Ok, Err, ap, codes, option_map, refl, string_bytes, subst}
+use Rattle.std.proofs.Common.{◌≡◌, ◌≢◌, ◌⊎◌, Contains, inl, inr, ⊎_elim, ℕ, List, Option, None, Some, String, Global, Err, ap, codes, option_map, refl, string_bytes, subst}
 use Rattle.std.specs.Io.KnownBytes.{Keeps}
 use Rattle.clap.specs.Words.{Row, Text as Word}
 use Rattle.jt_scan.specs.declared.options.Options.{Options as ScanOptions}

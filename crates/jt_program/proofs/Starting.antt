@@ -1,5 +1,5 @@
 -- The images and contexts of pairs, and why there are none.
-use Rattle.std.proofs.Common.{◌≡◌, ◌⊎◌, ℕ, ◌+◌, List, [], ◌∷◌, ◌++◌, length, Contains, Global, String, Ok, Err, inl, inr, ap, arith, refl, suc, sym}
+use Rattle.std.proofs.Common.{◌≡◌, ◌⊎◌, ◌+◌, List, [], ◌∷◌, ◌++◌, length, Contains, Global, String, Ok, Err, inl, inr, ap, arith, refl, suc}
 use Rattle.std.proofs.lemmas.List.Elements.{Contains-append_right}
 use Rattle.jt_budget.specs.declared.Budget.{Budget}
 use Rattle.jt_machine.specs.View.{budget_view}

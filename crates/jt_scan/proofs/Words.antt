@@ -18,7 +18,7 @@ unfolding is_utf8
 spelled_again t u =
     (bytes_eq-Decides (encode_utf8_all (chars t)) t).0 (both (scalars (chars t)) (bytes_eq (encode_utf8_all (chars t)) t) (is_utf8-from_IsUtf8 t u)).1
 
-plain_ascii : (w : List ℕ) → is_plain w ≡ true → (i : ℕ) → slice_index w i < 128
+pub plain_ascii : (w : List ℕ) → is_plain w ≡ true → (i : ℕ) → slice_index w i < 128
 plain_ascii [] e i = omega arith
 plain_ascii (c ∷ cs) e zero = let b = (both _ (is_plain cs) e).0 in grind (arith, nat_tests)
 plain_ascii (c ∷ cs) e (suc i) = plain_ascii cs (both _ (is_plain cs) e).1 i

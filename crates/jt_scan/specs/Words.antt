@@ -1,4 +1,4 @@
--- Words of ASCII letters. Private clauses and proofs alone cite it.
+-- Words of ASCII letters.
 use Rattle.std.specs.Prelude.{ℕ, Bool, true, ◌&&◌, List, [], ◌∷◌, nat_lt}
 
 -- each byte is ASCII

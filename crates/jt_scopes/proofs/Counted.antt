@@ -16,7 +16,8 @@ use Rattle.jt_slots.specs.declared.program.SStmt as code_stmt
 use Rattle.jt_slots.specs.declared.program.SStmt.TheVariants as s
 use Rattle.jt_scopes.specs.Counts.{aside_locals, target_locals}
 use Rattle.jt_scopes.specs.Stated.{Branch}
-use Rattle.jt_scopes.proofs.Fronts.{Entry, view-PutPooled, view-Print, view-Assign, view-If, view-For, view-Capture, view-Run}
+use Rattle.jt_slots.proofs.ExpressionViews.{Entry}
+use Rattle.jt_slots.proofs.StatementViews.{view_PutPooled, view_Print, view_Assign, view_If, view_For, view_Capture, view_Run}
 
 -- ---- places of the pool make no difference
 
@@ -136,20 +137,20 @@ branch_step templates bs i b us n k m m' r lt is body asked taken more so =
 
 module _ (templates : List Text) (x : code_stmt.SStmt) (behind : SBody ℕ) where
   pub put_counted : (i : ℕ) → x ≡ s.PutPooled i → body_locals (stmt_view templates x behind) ≡ max 0 (body_locals behind)
-  put_counted i e = ap (λ (z : code_stmt.SStmt). body_locals (stmt_view templates z behind)) e ∙ ap body_locals (view-PutPooled templates i behind)
+  put_counted i e = ap (λ (z : code_stmt.SStmt). body_locals (stmt_view templates z behind)) e ∙ ap body_locals (view_PutPooled templates i behind)
 
   pub print_counted : (p : Place) (escaping : Bool) (e : code.SExpr) (n : ℕ) → x ≡ s.Print p escaping e → n ≡ expr_locals (expr_view e) → body_locals (stmt_view templates x behind) ≡ max n (body_locals behind)
-  print_counted p escaping e n is f = ap (λ (z : code_stmt.SStmt). body_locals (stmt_view templates z behind)) is ∙ ap body_locals (view-Print templates p escaping e behind) ∙ ap (λ m. max m (body_locals behind)) (sym f)
+  print_counted p escaping e n is f = ap (λ (z : code_stmt.SStmt). body_locals (stmt_view templates z behind)) is ∙ ap body_locals (view_Print templates p escaping e behind) ∙ ap (λ m. max m (body_locals behind)) (sym f)
 
   pub assign_counted : (p : Place) (xs : Targets) (e : code.SExpr) (m n k : ℕ) → x ≡ s.Assign p xs e → m ≡ targets_locals (targets_view xs) → n ≡ expr_locals (expr_view e) → k ≡ max m n → body_locals (stmt_view templates x behind) ≡ max k (body_locals behind)
   assign_counted p xs e m n k is f g h =
-      ap (λ (z : code_stmt.SStmt). body_locals (stmt_view templates z behind)) is ∙ ap body_locals (view-Assign templates p xs e behind)
+      ap (λ (z : code_stmt.SStmt). body_locals (stmt_view templates z behind)) is ∙ ap body_locals (view_Assign templates p xs e behind)
       ∙ ap (λ z. max z (body_locals behind)) (ap (λ z. max z (expr_locals (expr_view e))) (sym f) ∙ ap (max m) (sym g) ∙ sym h)
 
   pub choice_done : (bs : Vec Branch Global) (other : Vec code_stmt.SStmt Global) (m n : ℕ) → x ≡ s.If bs other → ((b : SBody ℕ) → body_locals (body_view templates other.items b) ≡ max m (body_locals b)) → n ≡ max m (branches_locals templates bs.items)
       → body_locals (stmt_view templates x behind) ≡ max n (body_locals behind)
   choice_done bs other m n is f h =
-      ap (λ (z : code_stmt.SStmt). body_locals (stmt_view templates z behind)) is ∙ ap body_locals (view-If templates bs other behind) ∙ choice_counted templates bs.items (body_view templates other.items) m f behind
+      ap (λ (z : code_stmt.SStmt). body_locals (stmt_view templates z behind)) is ∙ ap body_locals (view_If templates bs other behind) ∙ choice_counted templates bs.items (body_view templates other.items) m f behind
       ∙ ap (λ z. max z (body_locals behind)) (turned (branches_locals templates bs.items) m ∙ sym h)
     where
       turned : (a b : ℕ) → max a b ≡ max b a
@@ -159,7 +160,7 @@ module _ (templates : List Text) (x : code_stmt.SStmt) (behind : SBody ℕ) wher
       → k ≡ condition_locals (option_map expr_view c) → ((b : SBody ℕ) → body_locals (body_view templates body.items b) ≡ max t (body_locals b)) → ((b : SBody ℕ) → body_locals (body_view templates other.items b) ≡ max l (body_locals b))
       → r ≡ max m (max (max n k) (max t l)) → body_locals (stmt_view templates x behind) ≡ max r (body_locals behind)
   loop_counted p xs e c body other m n k t l r is f g h a b z =
-      ap (λ (z : code_stmt.SStmt). body_locals (stmt_view templates z behind)) is ∙ ap body_locals (view-For templates p xs e c body other behind)
+      ap (λ (z : code_stmt.SStmt). body_locals (stmt_view templates z behind)) is ∙ ap body_locals (view_For templates p xs e c body other behind)
       ∙ ap (λ z. max z (body_locals behind))
       (ap (λ u. max u (max (max (expr_locals (expr_view e)) (condition_locals (option_map expr_view c))) (max (body_locals (body_view templates body.items slots.end)) (body_locals (body_view templates other.items slots.end))))) (sym f)
       ∙ ap (λ u. max m (max (max u (condition_locals (option_map expr_view c))) (max (body_locals (body_view templates body.items slots.end)) (body_locals (body_view templates other.items slots.end))))) (sym g)
@@ -170,8 +171,8 @@ module _ (templates : List Text) (x : code_stmt.SStmt) (behind : SBody ℕ) wher
   pub capture_counted : (escaping : Bool) (y : code_slot.Slot) (body : Vec code_stmt.SStmt Global) (m n k : ℕ) → x ≡ s.Capture escaping y body → m ≡ slot_locals (slot_view y) → ((b : SBody ℕ) → body_locals (body_view templates body.items b) ≡ max n (body_locals b)) → k ≡ max m n
       → body_locals (stmt_view templates x behind) ≡ max k (body_locals behind)
   capture_counted escaping y body m n k is f g h =
-      ap (λ (z : code_stmt.SStmt). body_locals (stmt_view templates z behind)) is ∙ ap body_locals (view-Capture templates escaping y body behind)
+      ap (λ (z : code_stmt.SStmt). body_locals (stmt_view templates z behind)) is ∙ ap body_locals (view_Capture templates escaping y body behind)
       ∙ ap (λ z. max z (body_locals behind)) (ap (λ z. max z (body_locals (body_view templates body.items slots.end))) (sym f) ∙ ap (max m) (g slots.end ∙ max_zero n) ∙ sym h)
 
   pub run_counted : (u : ℕ) (es : Vec Entry Global) (n : ℕ) → x ≡ s.Run u es → n ≡ row_locals (row_view es.items slots.none) → body_locals (stmt_view templates x behind) ≡ max n (body_locals behind)
-  run_counted u es n is f = ap (λ (z : code_stmt.SStmt). body_locals (stmt_view templates z behind)) is ∙ ap body_locals (view-Run templates u es behind) ∙ ap (λ m. max m (body_locals behind)) (sym f)
+  run_counted u es n is f = ap (λ (z : code_stmt.SStmt). body_locals (stmt_view templates z behind)) is ∙ ap body_locals (view_Run templates u es behind) ∙ ap (λ m. max m (body_locals behind)) (sym f)

@@ -21,7 +21,8 @@ use Rattle.jt_meaning.specs.Resolve.{followed, alone}
 use Rattle.jt_scopes.specs.Scoped.{IsPlaced, RowLeads, BodyLeads}
 use Rattle.jt_scopes.specs.Stated.{Branch, Led, IsBody, IsAsked, IsBranch, StandsFor, ChoiceLeads}
 use Rattle.jt_scopes.proofs.LeadingRows.{grown_by}
-use Rattle.jt_scopes.proofs.Fronts.{Entry, view-PutPooled, view-Print, view-Assign, view-If, view-For, view-Capture, view-Run, body_push, joined, choice_push}
+use Rattle.jt_slots.proofs.ExpressionViews.{Entry}
+use Rattle.jt_slots.proofs.StatementViews.{view_PutPooled, view_Print, view_Assign, view_If, view_For, view_Capture, view_Run, body_push, joined, choice_push}
 
 -- ---- bodies
 
@@ -98,27 +99,27 @@ module _ (templates : List Text) where
       → ts ≡ ss ++ s.Print at escaping e ∷ [] → Led templates (alone (slots.print pl escaping c)) ss ts p q
   print_led at pl escaping c e ss ts p q f h =
       stmt_led (slots.print pl escaping c) (s.Print at escaping e) ss ts p q
-      (λ behind. view-Print templates at escaping e behind ∙ ap (λ z. slots.stmt (slots.print z escaping (expr_view e)) behind) f ∙ ap (λ z. slots.stmt (slots.print pl escaping z) behind) h.shown) h.pooled
+      (λ behind. view_Print templates at escaping e behind ∙ ap (λ z. slots.stmt (slots.print z escaping (expr_view e)) behind) f ∙ ap (λ z. slots.stmt (slots.print pl escaping z) behind) h.shown) h.pooled
 
   pub assign_led : (at : code_place.Place) (pl : Place) (xs : code_targets.Targets) (c : SExpr Constant) (e : code.SExpr) (ss ts : List code_stmt.SStmt) (p q : List Tree) → place_view templates at ≡ pl → IsPlaced c (expr_view e) p q
       → ts ≡ ss ++ s.Assign at xs e ∷ [] → Led templates (alone (slots.assign pl (targets_view xs) c)) ss ts p q
   assign_led at pl xs c e ss ts p q f h =
       stmt_led (slots.assign pl (targets_view xs) c) (s.Assign at xs e) ss ts p q
-      (λ behind. view-Assign templates at xs e behind ∙ ap (λ z. slots.stmt (slots.assign z (targets_view xs) (expr_view e)) behind) f ∙ ap (λ z. slots.stmt (slots.assign pl (targets_view xs) z) behind) h.shown) h.pooled
+      (λ behind. view_Assign templates at xs e behind ∙ ap (λ z. slots.stmt (slots.assign z (targets_view xs) (expr_view e)) behind) f ∙ ap (λ z. slots.stmt (slots.assign pl (targets_view xs) z) behind) h.shown) h.pooled
 
   pub run_led : (u : ℕ) (es : SRow Constant) (row : Vec Entry Global) (ss ts : List code_stmt.SStmt) (p q : List Tree) → RowLeads es slots.none [] row.items p q
       → ts ≡ ss ++ s.Run u row ∷ [] → Led templates (alone (slots.run u es)) ss ts p q
   run_led u es row ss ts p q h =
-      stmt_led (slots.run u es) (s.Run u row) ss ts p q (λ behind. view-Run templates u row behind ∙ ap (λ z. slots.stmt (slots.run u z) behind) h.shown) (sym (append-nil q) ∙ h.pooled)
+      stmt_led (slots.run u es) (s.Run u row) ss ts p q (λ behind. view_Run templates u row behind ∙ ap (λ z. slots.stmt (slots.run u z) behind) h.shown) (sym (append-nil q) ∙ h.pooled)
 
   pub capture_led : (escaping : Bool) (x : code_slot.Slot) (w : SBody Constant) (body : Vec code_stmt.SStmt Global) (ss ts : List code_stmt.SStmt) (p q : List Tree) → IsBody templates w body.items p q
       → ts ≡ ss ++ s.Capture escaping x body ∷ [] → Led templates (alone (slots.capture escaping (slot_view x) w)) ss ts p q
   capture_led escaping x w body ss ts p q h =
       stmt_led (slots.capture escaping (slot_view x) w) (s.Capture escaping x body) ss ts p q
-      (λ behind. view-Capture templates escaping x body behind ∙ ap (λ z. slots.stmt (slots.capture escaping (slot_view x) z) behind) (body_shown w body.items p q h)) (body_pooled w body.items p q h)
+      (λ behind. view_Capture templates escaping x body behind ∙ ap (λ z. slots.stmt (slots.capture escaping (slot_view x) z) behind) (body_shown w body.items p q h)) (body_pooled w body.items p q h)
 
   pub data_led : (v : Tree) (i : ℕ) (ss ts : List code_stmt.SStmt) (p q : List Tree) → i ≡ length p → q ≡ p ++ v ∷ [] → ts ≡ ss ++ s.PutPooled i ∷ [] → Led templates (alone (slots.put_pooled (own v))) ss ts p q
-  data_led v i ss ts p q e = stmt_led (slots.put_pooled (own v)) (s.PutPooled i) ss ts p q (λ behind. view-PutPooled templates i behind ∙ ap (λ n. slots.stmt (slots.put_pooled n) behind) e)
+  data_led v i ss ts p q e = stmt_led (slots.put_pooled (own v)) (s.PutPooled i) ss ts p q (λ behind. view_PutPooled templates i behind ∙ ap (λ n. slots.stmt (slots.put_pooled n) behind) e)
 
   pub loop_led : (at : code_place.Place) (pl : Place) (xs : code_targets.Targets) (c : SExpr Constant) (e : code.SExpr) (k : Option (SExpr Constant)) (d : Option code.SExpr) (turn last : SBody Constant)
       (body other : Vec code_stmt.SStmt Global) (ss ts : List code_stmt.SStmt) (p q r t v : List Tree) → place_view templates at ≡ pl → IsPlaced c (expr_view e) p q → IsAsked k d q r → IsBody templates turn body.items r t
@@ -130,7 +131,7 @@ module _ (templates : List Text) where
       grown_by r (body_values turn) t (body_pooled turn body.items r t b) ∙ ap (λ n. n + length (body_values turn)) second in
       let seen = λ (z : Place) (y : SExpr ℕ) (w : Option (SExpr ℕ)) (m n : SBody ℕ) (behind : SBody ℕ). slots.stmt (slots.for_each z (targets_view xs) y w m n) behind in
       stmt_led (slots.for_each pl (targets_view xs) c k turn last) (s.For at xs e d body other) ss ts p v
-      (λ behind. view-For templates at xs e d body other behind
+      (λ behind. view_For templates at xs e d body other behind
       ∙ ap (λ z. seen z (expr_view e) (option_map expr_view d) (body_view templates body.items slots.end) (body_view templates other.items slots.end) behind) f
       ∙ ap (λ z. seen pl z (option_map expr_view d) (body_view templates body.items slots.end) (body_view templates other.items slots.end) behind) h.shown
       ∙ ap (λ z. seen pl (placed_expr c (length p)) z (body_view templates body.items slots.end) (body_view templates other.items slots.end) behind) (g.shown ∙ ap (placed_condition k) first)
@@ -227,6 +228,6 @@ module _ (templates : List Text) where
       (record { alone = body_shown last other.items q r g; before = (g left).shown; until = grown_by q (body_values last) r (body_pooled last other.items q r g) }) in
       record {
         shown = ap (λ l. body_view templates l (placed_body left (length r))) e ∙ body_push templates ss (s.If bs other) (placed_body left (length r))
-            ∙ ap (body_view templates ss) (view-If templates bs other (placed_body left (length r)) ∙ all.before);
+            ∙ ap (body_view templates ss) (view_If templates bs other (placed_body left (length r)) ∙ all.before);
         pooled = ap (λ l. l ++ body_values left) (body_pooled last other.items q r g ∙ h.pooled) ∙ append_assoc p (body_values whole) (body_values left) ∙ ap (λ l. p ++ l) (sym (followed_values whole left));
       }

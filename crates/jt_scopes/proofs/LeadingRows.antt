@@ -10,7 +10,7 @@ use Rattle.jt_slots.specs.declared.program.SExpr as code
 use Rattle.jt_scopes.specs.Scoped.{IsPlaced, RowLeads, expr_in}
 use Rattle.jt_layout.specs.declared.scope.Scope.{Scope}
 use Rattle.jt_scopes.specs.declared.spot.Spot.{Spot}
-use Rattle.jt_scopes.proofs.Views.{Entry, row_push}
+use Rattle.jt_slots.proofs.ExpressionViews.{Entry, row_push}
 
 -- ---- expressions
 

@@ -5,7 +5,7 @@ use Rattle.jt_trees.specs.declared.expression.Expr.{Expr}
 use Rattle.jt_trees.specs.declared.statement.Filtering.{Filtering}
 use Rattle.jt_trees.specs.declared.statement.Stmt.{Stmt, size-Stmt, the_lemmas}
 use Rattle.jt_trees.specs.declared.statement.Stmt.TheVariants as v
-use Rattle.jt_scopes.proofs.Shown.{Branch, Pair}
+use Rattle.jt_trees.proofs.Left.{Branch, Entry}
 
 abbrev pub deepest : List Stmt → ℕ
 deepest us = most (λ y. size-Stmt y) us
@@ -25,7 +25,7 @@ last_smaller x line xs e c body other us is f = search (rules, the_lemmas)
 pub text_smaller : (x : Stmt) (line : ℕ) (n : String Global) (body : Vec Stmt Global) (us : List Stmt) → x ≡ v.SetBlock line n body → us ≡ body.items → deepest us < size-Stmt x
 text_smaller x line n body us is e = search (rules, the_lemmas)
 
-pub with_smaller : (x : Stmt) (line : ℕ) (ps : Vec Pair Global) (body : Vec Stmt Global) (us : List Stmt) → x ≡ v.With line ps body → us ≡ body.items → deepest us < size-Stmt x
+pub with_smaller : (x : Stmt) (line : ℕ) (ps : Vec Entry Global) (body : Vec Stmt Global) (us : List Stmt) → x ≡ v.With line ps body → us ≡ body.items → deepest us < size-Stmt x
 with_smaller x line ps body us is e = search (rules, the_lemmas)
 
 pub filtered_smaller : (x : Stmt) (line : ℕ) (fs : Vec Filtering Global) (body : Vec Stmt Global) (us : List Stmt) → x ≡ v.FilterBlock line fs body → us ≡ body.items → deepest us < size-Stmt x

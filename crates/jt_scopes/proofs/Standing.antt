@@ -9,18 +9,16 @@ use Rattle.jt_chains.specs.Includes.{included}
 use Rattle.jt_chains.specs.Uses.{own_names}
 use Rattle.jt_trees.specs.Statements as trees
 use Rattle.jt_trees.specs.Expressions.{Text}
-use Rattle.jt_trees.specs.Statements.{Body}
 use Rattle.jt_chains.specs.Chain.{Home, macros, BlockBody, MacroBody}
 use Rattle.jt_rules.specs.World.{World}
 use Rattle.jt_slots.specs.Slots as slots
-use Rattle.jt_slots.specs.Slots.{SBody}
 use Rattle.jt_meaning.specs.Layout.{Key, of_chain, of_macro, of_body, same_key, place_of, chain_keys, numbered_bodies, names, names_in, first_slot, unit, block_parameters, Table}
 use Rattle.jt_meaning.specs.Resolve.{Spot, place, left_out, followed, alone, handed_on, reads, placed_body}
 use Rattle.jt_layout.specs.declared.scope.Scope.{Scope}
 use Rattle.jt_scopes.specs.Scoped.{RowLeads, world_in, order_in, spot_in}
 use Rattle.jt_scopes.specs.declared.spot.Spot as code_spot
 use Rattle.jt_scopes.specs.Stated.{line_in, stmt_in}
-use Rattle.jt_scopes.proofs.Fronts.{Entry}
+use Rattle.jt_slots.proofs.ExpressionViews.{Entry}
 
 pub no_row : (es : List Entry) → es ≡ [] → (p : List Tree) → RowLeads slots.none slots.none [] es p p
 no_row es e p = let P : List Entry → Type 0 = λ l. RowLeads slots.none slots.none [] l p p in subst P (sym e) (record { shown = refl; pooled = refl })

@@ -34,7 +34,8 @@ use Rattle.jt_scopes.specs.declared.spot.Spot as code_spot
 use Rattle.jt_scopes.specs.Scoped.{IsPlaced, BodyLeads, world_in, order_in, spot_in, templates_in, expr_in}
 use Rattle.jt_scopes.specs.Stated.{Led, IsAsked, IsTurn, slot_if, line_in, stmt_in, body_in, choice_in, scoped_in, values_in}
 use Rattle.jt_scopes.proofs.LeadingBodies.{led_of, lead_of, lead_both}
-use Rattle.jt_scopes.proofs.Shown.{Branch, names_left, view-If, view-For}
+use Rattle.jt_trees.proofs.Left.{Branch, names_left}
+use Rattle.jt_trees.proofs.StatementViews.{view_If, view_For}
 use Rattle.jt_scopes.proofs.Kept.{slot_kept}
 
 -- ---- copies of names
@@ -84,7 +85,7 @@ module _ (s : Scope) (spot : code_spot.Spot) (x : Stmt) where
       → choice_in s (branches_view cs) spot (body_in s (body_view us) spot) ≡ stmt_in s (stmt_view x) spot
   if_shown bs other cs us is e f =
       ap (λ z. choice_in s (branches_view z) spot (body_in s (body_view us) spot)) e ∙ ap (λ z. choice_in s (branches_view bs.items) spot (body_in s (body_view z) spot)) f
-      ∙ sym (ap (λ z. stmt_in s z spot) (ap stmt_view is ∙ view-If bs other))
+      ∙ sym (ap (λ z. stmt_in s z spot) (ap stmt_view is ∙ view_If bs other))
 
   pub loop_shown : (line : ℕ) (xs : Vec (String Global) Global) (e : Expr) (k : Option Expr) (body other : Vec Stmt Global) (ns ms : List (String Global)) (us os : List Stmt) (tv : Targets)
       → x ≡ v.For line xs e k body other → ns ≡ xs.items → ms ≡ xs.items → us ≡ body.items → os ≡ other.items → tv ≡ fresh_targets spot.free (names_view ms)
@@ -95,7 +96,7 @@ module _ (s : Scope) (spot : code_spot.Spot) (x : Stmt) where
       (scoped_in s (body_view m) (bound_all (names_view n) (spot_in s spot))) (body_in s (body_view o) spot)) in
       let T : Targets = fresh_targets spot.free (names_view xs.items) in
       ap (λ z. F z ns us os) (taken ∙ ap (λ n. fresh_targets spot.free (names_view n)) g) ∙ ap (λ n. F T n us os) f ∙ ap (λ m. F T xs.items m os) h ∙ ap (λ o. F T xs.items body.items o) j
-      ∙ sym (ap (λ z. stmt_in s z spot) (ap stmt_view is ∙ view-For line xs e k body other))
+      ∙ sym (ap (λ z. stmt_in s z spot) (ap stmt_view is ∙ view_For line xs e k body other))
 
 -- a filter tag: its text, and what its filters make of it
 pub filter_shown : (s : Scope) (spot : code_spot.Spot) (line : ℕ) (fs : List trees.Filtering) (b : trees.Body) (n : ℕ) → n ≡ spot.free + 1

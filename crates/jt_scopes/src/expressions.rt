@@ -40,7 +40,7 @@ use jt_value::Value;
 use std::alloc::Global;
 
 /// Resolves an expression.
-#[tactic(auto, using(crate::proofs::Trees::shown))]
+#[tactic(auto, using(jt_trees::proofs::ExpressionViews::view_List, jt_trees::proofs::ExpressionViews::view_Map, jt_trees::proofs::ExpressionViews::view_Attribute))]
 #[cycle(resolve)]
 pub(crate) fn resolve_expression(
     alloc: Global,

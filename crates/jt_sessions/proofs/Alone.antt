@@ -1,5 +1,5 @@
 -- Each session is what it would be alone.
-use Rattle.std.proofs.Common.{◌≡◌, ◌≢◌, ℕ, zero, suc, ◌+◌, ◌-◌, ◌<◌, ◌≤◌, Bool, true, false, cond, List, [], ◌∷◌, ◌++◌, length, Option, Some, None, refl, sym, ap, subst, ◌∙◌, arith, length-append}
+use Rattle.std.proofs.Common.{◌≡◌, ◌≢◌, ℕ, suc, ◌+◌, ◌-◌, ◌<◌, ◌≤◌, Bool, true, false, cond, List, [], ◌∷◌, ◌++◌, length, Option, Some, None, refl, sym, ap, subst, ◌∙◌, arith, length-append}
 use Rattle.std.specs.Prelude.{option_map, ◌==◌, nat_le}
 use Rattle.std.proofs.lemmas.Bool.Decides.{nat_tests}
 use Rattle.std.proofs.lemmas.Bool.{eqb-true, eq-eqb}
@@ -10,8 +10,7 @@ use Rattle.jt_machine.specs.Session.{Session, started, advanced, told_of}
 use Rattle.jt_machine.specs.declared.Progress.{Progress}
 use Rattle.jt_sessions.specs.declared.error.HostError.{HostError}
 use Rattle.jt_sessions.specs.declared.error.HostError.TheVariants as error
-use Rattle.jt_sessions.specs.Turns.{World, empty, max_sessions, max_id, Event, opens, turns, closes, Reply, opened, turned, closed, refused, find, replace, remove, with_sessions, bar, opening, turning, after, opening_reply, told, turning_reply, closing_reply, reply, come, own, alone, is_opened, count_opened, RunsAlone, SessionsRunAlone}
-use Rattle.jt_sessions.specs.Places.{IsAt}
+use Rattle.jt_sessions.specs.Turns.{World, empty, max_sessions, max_id, Event, opens, turns, closes, opened, find, replace, remove, bar, opening, turning, after, opening_reply, told, turning_reply, closing_reply, reply, come, own, alone, is_opened, count_opened, RunsAlone, SessionsRunAlone}
 
 -- ---- numbers
 

@@ -1,19 +1,22 @@
--- What some statements are seen as.
-use Rattle.std.proofs.Common.{◌≡◌, ℕ, List, [], ◌∷◌, map, refl, sym, ap, ◌∙◌, rules, Vec, Global, string_bytes}
+-- What each form of statement is seen as.
+use Rattle.std.proofs.Common.{◌≡◌, ℕ, List, [], ◌∷◌, map, refl, sym, ap, ◌∙◌, Bool, Vec, Global, String, string_bytes, Option}
+use Rattle.std.specs.Prelude.{option_map}
+use Rattle.jt_trees.specs.Expressions.{Text}
+use Rattle.jt_trees.specs.ExpressionView.{expr_view, pairs_view}
 use Rattle.jt_trees.specs.Statements as trees
-use Rattle.jt_trees.specs.Statements.{Body, end, Branches, no_branches}
-use Rattle.jt_trees.specs.ExpressionView.{expr_view}
+use Rattle.jt_trees.specs.StatementView.{names_view, filterings_view, parameters_view, stmts_of, branches_of, stmt_step, stmt_view, body_view, branches_view}
 use Rattle.jt_trees.specs.declared.expression.Expr.{Expr}
-use Rattle.jt_trees.specs.StatementView.{stmts_of, branches_of, stmt_step, stmt_view, body_view, branches_view}
-use Rattle.jt_trees.specs.declared.statement.Stmt.{Stmt, the_lemmas, fold-roll-Stmt}
+use Rattle.jt_trees.specs.declared.statement.Filtering.{Filtering}
+use Rattle.jt_trees.specs.declared.statement.Parameter.{Parameter}
+use Rattle.jt_trees.specs.declared.statement.Stmt.{Stmt, fold-roll-Stmt}
 use Rattle.jt_trees.specs.declared.statement.Stmt.TheOpen.{Stmt-F}
-use Rattle.jt_trees.specs.declared.statement.Stmt.TheVariants as s
-use Rattle.jt_trees.specs.declared.statement.Stmt.TheVariants.{rolls-If, rolls-Data, rolls-Print}
+use Rattle.jt_trees.specs.declared.statement.Stmt.TheVariants as v
+use Rattle.jt_trees.specs.declared.statement.Stmt.TheVariants.{rolls-Data, rolls-Print, rolls-If, rolls-For, rolls-Set, rolls-SetBlock, rolls-With, rolls-FilterBlock, rolls-Autoescape, rolls-Macro, rolls-Include, rolls-Extends, rolls-Block}
+use Rattle.jt_trees.proofs.Left.{Branch, Entry}
 
 -- a view of each branch that keeps line and condition, and shows each statement inside
-branches-map : (g : ℕ × Expr × Vec Stmt Global → ℕ × Expr × Vec trees.Stmt Global) → ((b : ℕ × Expr × Vec Stmt Global) → (g b).0 ≡ b.0)
-    → ((b : ℕ × Expr × Vec Stmt Global) → (g b).1 ≡ b.1) → ((b : ℕ × Expr × Vec Stmt Global) → (g b).2.items ≡ map stmt_view b.2.items)
-    → (bs : List (ℕ × Expr × Vec Stmt Global)) → branches_of (map g bs) ≡ branches_view bs
+branches-map : (g : Branch → ℕ × Expr × Vec trees.Stmt Global) → ((b : Branch) → (g b).0 ≡ b.0) → ((b : Branch) → (g b).1 ≡ b.1)
+    → ((b : Branch) → (g b).2.items ≡ map stmt_view b.2.items) → (bs : List Branch) → branches_of (map g bs) ≡ branches_view bs
 branches-map g p q r [] = refl
 branches-map g p q r (b ∷ bs) =
     ap (λ l. trees.branch l (expr_view (g b).1) (stmts_of (g b).2.items) (branches_of (map g bs))) (p b)
@@ -21,13 +24,71 @@ branches-map g p q r (b ∷ bs) =
     ∙ ap (λ v. trees.branch b.0 (expr_view b.1) (stmts_of v) (branches_of (map g bs))) (r b)
     ∙ ap (trees.branch b.0 (expr_view b.1) (body_view b.2.items)) (branches-map g p q r bs)
 
-pub view-Data : (d : _) → stmt_view (s.Data d) ≡ trees.data_of (string_bytes d)
-view-Data d = search (rules, the_lemmas)
+pub view_Data : (t : String Global) → stmt_view (v.Data t) ≡ trees.data_of (string_bytes t)
+view_Data t = ap stmt_view (sym (rolls-Data t)) ∙ fold-roll-Stmt trees.Stmt stmt_step (Stmt-F.Data t)
 
-pub view-Print : (line : ℕ) (e : Expr) → stmt_view (s.Print line e) ≡ trees.print line (expr_view e)
-view-Print line e = search (rules, the_lemmas)
+pub view_Print : (line : ℕ) (e : Expr) → stmt_view (v.Print line e) ≡ trees.print line (expr_view e)
+view_Print line e = ap stmt_view (sym (rolls-Print line e)) ∙ fold-roll-Stmt trees.Stmt stmt_step (Stmt-F.Print line e)
 
-pub view-If : (bs : Vec (ℕ × Expr × Vec Stmt Global) Global) (other : Vec Stmt Global) → stmt_view (s.If bs other) ≡ trees.choose (branches_view bs.items) (body_view other.items)
-view-If bs other =
+pub view_If : (bs : Vec Branch Global) (other : Vec Stmt Global) → stmt_view (v.If bs other) ≡ trees.choose (branches_view bs.items) (body_view other.items)
+view_If bs other =
     ap stmt_view (sym (rolls-If bs other)) ∙ fold-roll-Stmt trees.Stmt stmt_step (Stmt-F.If bs other)
     ∙ ap (λ z. trees.choose z (body_view other.items)) (branches-map _ (λ b. refl) (λ b. refl) (λ b. refl) bs.items)
+
+pub view_For : (line : ℕ) (xs : Vec (String Global) Global) (e : Expr) (c : Option Expr) (body other : Vec Stmt Global)
+    → stmt_view (v.For line xs e c body other) ≡ trees.for_each line (names_view xs.items) (expr_view e) (option_map expr_view c) (body_view body.items) (body_view other.items)
+view_For line xs e c body other = ap stmt_view (sym (rolls-For line xs e c body other)) ∙ fold-roll-Stmt trees.Stmt stmt_step (Stmt-F.For line xs e c body other)
+
+pub view_Set : (line : ℕ) (xs : Vec (String Global) Global) (e : Expr) → stmt_view (v.Set line xs e) ≡ trees.set line (names_view xs.items) (expr_view e)
+view_Set line xs e = ap stmt_view (sym (rolls-Set line xs e)) ∙ fold-roll-Stmt trees.Stmt stmt_step (Stmt-F.Set line xs e)
+
+pub view_SetBlock : (line : ℕ) (x : String Global) (body : Vec Stmt Global) → stmt_view (v.SetBlock line x body) ≡ trees.set_block line (string_bytes x) (body_view body.items)
+view_SetBlock line x body = ap stmt_view (sym (rolls-SetBlock line x body)) ∙ fold-roll-Stmt trees.Stmt stmt_step (Stmt-F.SetBlock line x body)
+
+pub view_With : (line : ℕ) (ps : Vec Entry Global) (body : Vec Stmt Global) → stmt_view (v.With line ps body) ≡ trees.with_values line (pairs_view ps.items) (body_view body.items)
+view_With line ps body = ap stmt_view (sym (rolls-With line ps body)) ∙ fold-roll-Stmt trees.Stmt stmt_step (Stmt-F.With line ps body)
+
+pub view_FilterBlock : (line : ℕ) (fs : Vec Filtering Global) (body : Vec Stmt Global) → stmt_view (v.FilterBlock line fs body) ≡ trees.filter_block line (filterings_view fs.items) (body_view body.items)
+view_FilterBlock line fs body = ap stmt_view (sym (rolls-FilterBlock line fs body)) ∙ fold-roll-Stmt trees.Stmt stmt_step (Stmt-F.FilterBlock line fs body)
+
+pub view_Autoescape : (line : ℕ) (on : Bool) (body : Vec Stmt Global) → stmt_view (v.Autoescape line on body) ≡ trees.autoescape line on (body_view body.items)
+view_Autoescape line on body = ap stmt_view (sym (rolls-Autoescape line on body)) ∙ fold-roll-Stmt trees.Stmt stmt_step (Stmt-F.Autoescape line on body)
+
+pub view_Macro : (line : ℕ) (x : String Global) (ps : Vec Parameter Global) (body : Vec Stmt Global) → stmt_view (v.Macro line x ps body) ≡ trees.macro line (string_bytes x) (parameters_view ps.items) (body_view body.items)
+view_Macro line x ps body = ap stmt_view (sym (rolls-Macro line x ps body)) ∙ fold-roll-Stmt trees.Stmt stmt_step (Stmt-F.Macro line x ps body)
+
+pub view_Include : (line : ℕ) (n : String Global) (missing context : Bool) → stmt_view (v.Include line n missing context) ≡ trees.include line (string_bytes n) missing context
+view_Include line n missing context = ap stmt_view (sym (rolls-Include line n missing context)) ∙ fold-roll-Stmt trees.Stmt stmt_step (Stmt-F.Include line n missing context)
+
+pub view_Extends : (line : ℕ) (n : String Global) → stmt_view (v.Extends line n) ≡ trees.extends line (string_bytes n)
+view_Extends line n = ap stmt_view (sym (rolls-Extends line n)) ∙ fold-roll-Stmt trees.Stmt stmt_step (Stmt-F.Extends line n)
+
+pub view_Block : (line : ℕ) (x : String Global) (scoped required : Bool) (body : Vec Stmt Global) → stmt_view (v.Block line x scoped required body) ≡ trees.block line (string_bytes x) scoped required (body_view body.items)
+view_Block line x scoped required body = ap stmt_view (sym (rolls-Block line x scoped required body)) ∙ fold-roll-Stmt trees.Stmt stmt_step (Stmt-F.Block line x scoped required body)
+
+-- ---- by what stands behind the references
+
+pub shown_if : (s : Stmt) (bs : Vec Branch Global) (other : Vec Stmt Global) (bs' : List Branch) (other' : List Stmt) → s ≡ v.If bs other → bs' ≡ bs.items → other' ≡ other.items
+    → trees.choose (branches_view bs') (body_view other') ≡ stmt_view s
+shown_if s bs other bs' other' is p q = rw (p, q) (sym (ap stmt_view is ∙ view_If bs other))
+
+pub shown_for : (s : Stmt) (line : ℕ) (xs : Vec (String Global) Global) (e : Expr) (c : Option Expr) (body other : Vec Stmt Global) (xs' : List (String Global)) (body' other' : List Stmt)
+    → s ≡ v.For line xs e c body other → xs' ≡ xs.items → body' ≡ body.items → other' ≡ other.items
+    → trees.for_each line (names_view xs') (expr_view e) (option_map expr_view c) (body_view body') (body_view other') ≡ stmt_view s
+shown_for s line xs e c body other xs' body' other' is p q r = rw (p, q, r) (sym (ap stmt_view is ∙ view_For line xs e c body other))
+
+pub shown_set_block : (s : Stmt) (line : ℕ) (x : String Global) (body : Vec Stmt Global) (x' : Text) (body' : List Stmt) → s ≡ v.SetBlock line x body → x' ≡ string_bytes x → body' ≡ body.items
+    → trees.set_block line x' (body_view body') ≡ stmt_view s
+shown_set_block s line x body x' body' is p q = rw (p, q) (sym (ap stmt_view is ∙ view_SetBlock line x body))
+
+pub shown_with : (s : Stmt) (line : ℕ) (ps : Vec Entry Global) (body : Vec Stmt Global) (ps' : List Entry) (body' : List Stmt) → s ≡ v.With line ps body → ps' ≡ ps.items → body' ≡ body.items
+    → trees.with_values line (pairs_view ps') (body_view body') ≡ stmt_view s
+shown_with s line ps body ps' body' is p q = rw (p, q) (sym (ap stmt_view is ∙ view_With line ps body))
+
+pub shown_filters : (s : Stmt) (line : ℕ) (fs : Vec Filtering Global) (body : Vec Stmt Global) (fs' : List Filtering) (body' : List Stmt) → s ≡ v.FilterBlock line fs body → fs' ≡ fs.items → body' ≡ body.items
+    → trees.filter_block line (filterings_view fs') (body_view body') ≡ stmt_view s
+shown_filters s line fs body fs' body' is p q = rw (p, q) (sym (ap stmt_view is ∙ view_FilterBlock line fs body))
+
+pub shown_macro : (s : Stmt) (line : ℕ) (x : String Global) (ps : Vec Parameter Global) (body : Vec Stmt Global) (ps' : List Parameter) (body' : List Stmt) → s ≡ v.Macro line x ps body → ps' ≡ ps.items → body' ≡ body.items
+    → trees.macro line (string_bytes x) (parameters_view ps') (body_view body') ≡ stmt_view s
+shown_macro s line x ps body ps' body' is p q = rw (p, q) (sym (ap stmt_view is ∙ view_Macro line x ps body))

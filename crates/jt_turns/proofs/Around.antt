@@ -1,5 +1,5 @@
 -- A round of turns, one turn further.
-use Rattle.std.proofs.Common.{◌≡◌, ◌∙◌, ℕ, ◌+◌, ◌<◌, ◌≤◌, Bool, true, false, if◌then◌else◌, List, length, ap, arith, refl, sym, take, subst}
+use Rattle.std.proofs.Common.{◌≡◌, ℕ, ◌+◌, ◌<◌, ◌≤◌, Bool, true, false, if◌then◌else◌, List, arith, sym, take, subst}
 use Rattle.std.proofs.Math.Numerals.{add-one}
 use Rattle.jt_machine.specs.Session.{Session, SessionLaws}
 use Rattle.jt_machine.specs.declared.outcome.Progress.TheVariants as progress

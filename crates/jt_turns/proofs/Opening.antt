@@ -1,13 +1,12 @@
 -- A session more, or why there is none.
-use Rattle.std.proofs.Common.{◌≡◌, ◌∙◌, ℕ, ◌+◌, ◌<◌, ◌≤◌, Bool, true, false, cond, List, [], ◌∷◌, ◌++◌, length, length-append, Option, Some, None, Ok, Err, ap, arith, refl, sym, subst, string_bytes, IfOk, IfErr, Result}
-use Rattle.std.specs.Prelude.{nat_le, String}
-use Rattle.std.specs.declared.alloc.Global.{Global}
+use Rattle.std.proofs.Common.{◌≡◌, ◌∙◌, ℕ, ◌+◌, ◌<◌, ◌≤◌, Bool, true, false, cond, List, [], ◌∷◌, ◌++◌, length, length-append, Option, Some, None, Err, ap, arith, refl, sym, subst}
+use Rattle.std.specs.Prelude.{nat_le}
 use Rattle.std.proofs.lemmas.Bool.Decides.{nat_tests}
 use Rattle.jt_value.specs.Pairs.{Pairs}
 use Rattle.jt_value.specs.ContextView.{pairs_of}
 use Rattle.jt_image.specs.Code.{Code}
 use Rattle.jt_image.specs.Config.{Budget}
-use Rattle.jt_machine.specs.Session.{Session, SessionLaws, started}
+use Rattle.jt_machine.specs.Session.{Session, started}
 use Rattle.jt_sessions.specs.declared.HostError.{HostError}
 use Rattle.jt_sessions.specs.declared.HostError.TheVariants as host_error
 use Rattle.jt_sessions.specs.Turns.{World, after, bar, max_id, max_sessions, opened, opening, opening_reply, opens, reply, OpenRefused}

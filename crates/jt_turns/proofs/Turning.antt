@@ -14,7 +14,7 @@ use Rattle.jt_sessions.specs.Turns.{World, find, replace, turning, turning_reply
 use Rattle.jt_turns.specs.declared.turns.Start.{Start}
 use Rattle.jt_turns.specs.Lines.{session_line, session_lines}
 use Rattle.jt_turns.specs.Outcomes.{AreOutcomes}
-use Rattle.jt_turns.specs.Standing.{AreNumbered, AreSessions, HadTurn, HaveMoved, IsNumbered, IsSession, fuel_left, fuel_of, have_ended, outcomes}
+use Rattle.jt_turns.specs.Standing.{AreNumbered, AreSessions, HadTurn, HaveMoved, IsNumbered, IsSession, fuel_left, have_ended, outcomes}
 use Rattle.jt_turns.proofs.Fuel.{less, no_more}
 use Rattle.jt_turns.proofs.Sessions.{false_true, moved_session, replaced_fuel, run_of}
 

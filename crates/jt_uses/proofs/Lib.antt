@@ -1,5 +1,1 @@
-pub mod Gathered
 pub mod Inserted
-pub mod Left
-pub mod Shown
-pub mod Views

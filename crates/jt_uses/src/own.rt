@@ -31,7 +31,7 @@ pub(crate) fn add_name<'a>(names: &mut BTreeSet<&'a str>, name: &'a str) -> Resu
 }
 
 /// Adds the names of an expression.
-#[tactic(auto, using(crate::proofs::Shown::shown_Map))]
+#[tactic(auto, using(jt_trees::proofs::ExpressionViews::view_Map))]
 #[cycle(gather)]
 fn add_expression<'a>(names: &mut BTreeSet<&'a str>, expr: &'a Expr) -> Result<(), AllocError>
     ensures { IfOk result (λ u. texts names.new.keys
@@ -298,7 +298,7 @@ fn add_branches<'a>(
 }
 
 /// Adds the names of a statement.
-#[tactic(auto, using(crate::proofs::Shown::shown_Set))]
+#[tactic(auto, using(jt_trees::proofs::StatementViews::view_Set))]
 #[cycle(add)]
 fn add_statement<'a>(names: &mut BTreeSet<&'a str>, statement: &'a Stmt) -> Result<(), AllocError>
     ensures { IfOk result (λ u. texts names.new.keys

@@ -1,9 +1,8 @@
 -- What is known of an arena: no two handles stand for one shape.
-use Rattle.std.proofs.Common.{◌≡◌, ◌≢◌, ℕ, zero, suc, ◌+◌, ◌-◌, ◌*◌, ◌/◌, ◌%◌, ◌<◌, ◌≤◌, Bool, true, false, List, [], ◌∷◌, ◌++◌, length, get_or, Some, None, Result, Ok, Err, MatchBool, refl, sym, ap, subst, ◌∙◌, arith}
+use Rattle.std.proofs.Common.{◌≡◌, ◌≢◌, ℕ, zero, suc, ◌+◌, ◌-◌, ◌*◌, ◌/◌, ◌%◌, ◌<◌, ◌≤◌, Bool, true, false, List, [], ◌∷◌, ◌++◌, length, get_or, Some, None, Result, Err, MatchBool, refl, sym, ap, subst, ◌∙◌, arith}
 use Rattle.std.specs.Prelude.{slice_get}
 use Rattle.std.proofs.lemmas.List.{length-append, get_or_append_left}
 use Rattle.jt_image.specs.declared.kind.Kind.{Kind}
-use Rattle.jt_image.specs.declared.kind.Kind.TheVariants as kind
 use Rattle.jt_image.specs.declared.kind.Flaw.{Flaw}
 use Rattle.jt_image.specs.declared.kind.Flaw.TheVariants as flaw
 use Rattle.jt_image.specs.Effect.{Shape, Leads, pops, pops_many, pushes}
@@ -13,7 +12,7 @@ use Rattle.jt_verify.specs.declared.links.Handle.{Handle}
 use Rattle.jt_verify.specs.declared.links.Node.{Node}
 use Rattle.jt_verify.specs.declared.links.Link.{Link}
 use Rattle.jt_verify.specs.declared.links.Link.TheVariants as link
-use Rattle.jt_verify.specs.Arena.{Lists, shape_in, IsIn, entered, grow, lists_of, kind_of, digit_of, IsNode, Finds, here, along, KeepsLinks, LeadsTo, AreLinks, Finding, IsHeight, IsSound, IsArena}
+use Rattle.jt_verify.specs.Arena.{Lists, shape_in, IsIn, entered, grow, lists_of, kind_of, digit_of, IsNode, Finds, here, along, KeepsLinks, AreLinks, Finding, IsHeight, IsArena}
 use Rattle.jt_verify.proofs.Numbers.{some_node, node_within}
 use Rattle.jt_verify.proofs.Values.{HasNoValue, pushes_same, length-pushes, pops_too_many, below_values, at_end}
 

@@ -1,15 +1,14 @@
-use Rattle.std.proofs.Common.{◌≡◌, ℕ, Bool, Vec, Global, List, ◌++◌, refl, sym, ap, ◌∙◌, rules}
+use Rattle.std.proofs.Common.{List, ◌++◌, refl, sym, ap, ◌∙◌}
 use Rattle.std.proofs.lemmas.List.{at_drop_all, append-nil}
 use Rattle.std.proofs.lemmas.Result.{IfOk-weaker}
 use Rattle.jt_trees.specs.StatementView.{stmt_view, body_view, branches_view}
-use Rattle.jt_trees.specs.declared.statement.Stmt.{Stmt, the_lemmas}
-use Rattle.jt_trees.specs.declared.statement.Stmt.TheVariants.{Autoescape}
-use Rattle.jt_trees.specs.Statements as trees
+use Rattle.jt_trees.specs.declared.statement.Stmt.{Stmt}
 use Rattle.jt_chains.specs.Chain.{blocks_of, blocks_in, blocks_under}
 use Rattle.jt_chains.specs.Pages.{pages_view}
 use Rattle.jt_chains.specs.Parts.{blocks_view, name_at}
-use Rattle.jt_chains.proofs.Shown.{Branch}
-use Rattle.jt_chains.proofs.Gathered.{choice_added, loop_added}
+use Rattle.jt_trees.proofs.Gathered.{choice_added, loop_added}
+use Rattle.jt_trees.proofs.Left.{Branch}
+use Rattle.jt_trees.proofs.StatementViews.{view_Autoescape}
 use Rattle.jt_chains.proofs.parts.+blocks.Goals as goal
 
 pub add_statement-returns-in_ok-add_blocks-in-If-2 : goal.add_statement-returns-in_ok-add_blocks-in-If-2
@@ -33,9 +32,6 @@ add_statement-returns-in_ok-add_blocks-in-For-2 t c =
     c.deref-in-For.result.now c.deref-in-For-2.result.now (blocks_view ts c.args.found.now.items) (blocks_view ts c.add_blocks-in-For.new.found.items) (blocks_view ts c.add_blocks-in-For-2.new.found.items)
     c.in-For.is c.deref-in-For.ensures.value c.deref-in-For-2.ensures.value c.in_ok-add_blocks-in-For.ensures c.in_ok-add_blocks-in-For-2.ensures
 
-view-Autoescape : (line : ℕ) (on : Bool) (body : Vec Stmt Global) → stmt_view (Autoescape line on body) ≡ trees.autoescape line on (body_view body.items)
-view-Autoescape line on body = search (rules, the_lemmas)
-
 pub add_statement-returns-in-Autoescape : goal.add_statement-returns-in-Autoescape
 add_statement-returns-in-Autoescape t c =
     let ts = pages_view c.args.spot.pages.now in
@@ -44,4 +40,4 @@ add_statement-returns-in-Autoescape t c =
     let old = blocks_view ts c.args.found.now.items in
     let added = rw c.inside.ensures at c.add_blocks-in-Autoescape.ensures in
     IfOk-weaker c.add_blocks-in-Autoescape.result _ _ (λ u g. g ∙ ap (λ (b : List Stmt). old ++ blocks_in n (body_view b) v.escaping) c.deref-in-Autoescape.ensures.value
-    ∙ ap (λ s. old ++ blocks_of n s c.args.spot.escaping) (sym (ap stmt_view v.is ∙ view-Autoescape v.field-0 v.escaping v.body))) added
+    ∙ ap (λ s. old ++ blocks_of n s c.args.spot.escaping) (sym (ap stmt_view v.is ∙ view_Autoescape v.field-0 v.escaping v.body))) added

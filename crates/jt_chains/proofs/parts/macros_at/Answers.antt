@@ -1,4 +1,4 @@
-use Rattle.std.proofs.Common.{sym, ap, ◌∙◌, get_or}
+use Rattle.std.proofs.Common.{◌∙◌}
 use Rattle.jt_trees.specs.StatementView.{body_view}
 use Rattle.jt_chains.specs.Chain.{macros_in}
 use Rattle.jt_chains.specs.Pages.{pages_view}

@@ -1,7 +1,7 @@
 use Rattle.std.proofs.Common.{length}
 use Rattle.jt_trees.specs.ExpressionView.{exprs_view, pairs_view}
 use Rattle.jt_checks.proofs.Filtered.{filter_known, filter_unknown}
-use Rattle.jt_checks.proofs.Shown.{counted}
+use Rattle.jt_checks.proofs.Counted.{counted}
 use Rattle.jt_checks.proofs.arguments.filter_broken.Goals as goal
 
 pub returns-in_ok-filter_accepts-in-Some : goal.returns-in_ok-filter_accepts-in-Some

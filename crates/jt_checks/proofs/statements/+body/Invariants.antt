@@ -1,7 +1,7 @@
 use Rattle.std.proofs.Common.{◌≡◌, ◌+◌, ◌*◌, max, drop}
 use denote.Param.Weighed.{most}
 use Rattle.jt_trees.specs.declared.statement.Stmt.{size-Stmt}
-use Rattle.jt_checks.proofs.Left.{Branch}
+use Rattle.jt_trees.proofs.Left.{Branch}
 use Rattle.jt_trees.specs.StatementView as parsed
 use Rattle.jt_rules.specs.Walk as rules
 use Rattle.jt_checks.specs.ScopeView.{its_world, its_home, within_view}

@@ -1,9 +1,9 @@
-use Rattle.std.proofs.Common.{◌≡◌, suc, ◌+◌, List, [], Some, None, drop, refl, sym, ap, ◌∙◌, subst, arith}
+use Rattle.std.proofs.Common.{◌≡◌, suc, ◌+◌, List, Some, None, drop, refl, sym, ap, ◌∙◌, subst, arith}
 use Rattle.std.specs.Prelude.{min, option_map}
 use Rattle.std.proofs.lemmas.Result.{IfOk-weaker}
 use Rattle.jt_image.specs.declared.instruction.Instruction.TheVariants as op
 use Rattle.jt_slots.specs.Slots as slots
-use Rattle.jt_slots.specs.Slots.{SBody, none}
+use Rattle.jt_slots.specs.Slots.{none}
 use Rattle.jt_slots.specs.declared.program.SStmt.{SStmt}
 use Rattle.jt_slots.specs.View.{slot_view, targets_view, place_view, expr_view, row_view, stmt_view, body_view, choice_view}
 use Rattle.jt_lower.specs.Asm.{Asm, one, both, each, when, invoke}
@@ -11,9 +11,10 @@ use Rattle.jt_lower.specs.Lower.{flag, store_of, expr_asm, row_asm, take_asm, ke
 use Rattle.jt_lower.specs.Emission.{Puts}
 use Rattle.jt_codegen.specs.Statements.{Emits}
 use Rattle.jt_codegen.proofs.Depths.{loop_depth}
-use Rattle.jt_codegen.proofs.Fronts.{view-If, view-For, view-Capture, view-PutPooled, view-Print, view-Assign, view-Run}
-use Rattle.jt_codegen.proofs.Putting.{puts_then, puts_call, puts_when, puts_turns}
-use Rattle.jt_codegen.proofs.Emitting.{stands_itself, stands_raised, emits_one, emits_as, emits_alone, leads_more, leads_all, Opens, opens_more, emits_branches}
+use Rattle.jt_slots.proofs.StatementViews.{view_If, view_For, view_Capture, view_PutPooled, view_Print, view_Assign, view_Run}
+use Rattle.jt_lower.proofs.Patched.{puts_then, puts_call, puts_when, puts_turns}
+use Rattle.jt_codegen.proofs.Emitting.{stands_itself, emits_one, emits_as, emits_alone, leads_more, leads_all, Opens, opens_more, emits_branches}
+use Rattle.jt_lower.proofs.Rows.{stands_raised}
 use Rattle.jt_codegen.proofs.emission.+statements.Goals as goal
 
 -- ---- statements that hold no others
@@ -21,7 +22,7 @@ use Rattle.jt_codegen.proofs.emission.+statements.Goals as goal
 pub emit_statement-returns-in_ok-put-in-PutPooled : goal.emit_statement-returns-in_ok-put-in-PutPooled
 emit_statement-returns-in_ok-put-in-PutPooled t c = λ ts h s.
     let i = c.in-PutPooled.place in
-    emits_as h c.args.code.now c.put.new.self (stmt_view ts c.args.statement.now) (λ b. slots.stmt (slots.put_pooled i) b) (λ b. ap (λ x. stmt_view ts x b) c.in-PutPooled.is ∙ view-PutPooled ts i b)
+    emits_as h c.args.code.now c.put.new.self (stmt_view ts c.args.statement.now) (λ b. slots.stmt (slots.put_pooled i) b) (λ b. ap (λ x. stmt_view ts x b) c.in-PutPooled.is ∙ view_PutPooled ts i b)
     (emits_one h c.args.code.now c.put.new.self (slots.put_pooled i) (c.in_ok-put-in-PutPooled.ensures None (op.Data i) c.data_of.ensures))
 
 pub emit_statement-returns-in-Print : goal.emit_statement-returns-in-Print
@@ -32,7 +33,7 @@ emit_statement-returns-in-Print t c =
     IfOk-weaker c.emit_printed.result _ _ (λ u g. λ ts h s.
     let p = place_view ts v.field-0 in
     let form = slots.print p v.escaping (expr_view v.expr) in
-    emits_as h c0 c1 (stmt_view ts c.args.statement.now) (λ b. slots.stmt form b) (λ b. ap (λ x. stmt_view ts x b) v.is ∙ view-Print ts v.field-0 v.escaping v.expr b)
+    emits_as h c0 c1 (stmt_view ts c.args.statement.now) (λ b. slots.stmt form b) (λ b. ap (λ x. stmt_view ts x b) v.is ∙ view_Print ts v.field-0 v.escaping v.expr b)
     (emits_one h c0 c1 form (g p h s))) c.emit_printed.ensures
 
 pub emit_statement-returns-in_ok-emit_targets-in-Assign : goal.emit_statement-returns-in_ok-emit_targets-in-Assign
@@ -44,7 +45,7 @@ emit_statement-returns-in_ok-emit_targets-in-Assign t c = λ ts h s.
     let c0 = c.args.code.now in
     let c1 = c.emit_expression.new.code in
     let c2 = c.emit_targets.new.code in
-    emits_as h c0 c2 (stmt_view ts c.args.statement.now) (λ b. slots.stmt form b) (λ b. ap (λ x. stmt_view ts x b) v.is ∙ view-Assign ts v.field-0 v.targets v.expr b)
+    emits_as h c0 c2 (stmt_view ts c.args.statement.now) (λ b. slots.stmt form b) (λ b. ap (λ x. stmt_view ts x b) v.is ∙ view_Assign ts v.field-0 v.targets v.expr b)
     (emits_one h c0 c2 form (puts_then c0 c1 c2 (expr_asm o (expr_view v.expr) h) (take_asm o (targets_view v.targets)) (c.in_ok-emit_expression-in-Assign.ensures o h s) (c.in_ok-emit_targets-in-Assign.ensures o)))
 
 pub emit_statement-returns-in_ok-put-in-Run : goal.emit_statement-returns-in_ok-put-in-Run
@@ -56,7 +57,7 @@ emit_statement-returns-in_ok-put-in-Run t c = λ ts h s.
     let c1 = c.emit_row.new.code in
     let c2 = c.put-in-Run.new.self in
     let row = subst (λ l. Puts c0 (row_asm None (row_view l none) h) c1) c.deref-in-Run.ensures.value (c.in_ok-emit_row-in-Run.ensures None h s) in
-    emits_as h c0 c2 (stmt_view ts c.args.statement.now) (λ b. slots.stmt form b) (λ b. ap (λ x. stmt_view ts x b) v.is ∙ view-Run ts v.routine v.row b)
+    emits_as h c0 c2 (stmt_view ts c.args.statement.now) (λ b. slots.stmt form b) (λ b. ap (λ x. stmt_view ts x b) v.is ∙ view_Run ts v.routine v.row b)
     (emits_one h c0 c2 form (puts_then c0 c1 c2 (row_asm None es h) (invoke None v.routine) row (puts_call c1 c2 None v.routine (c.in_ok-put-in-Run.ensures None (op.Call v.routine) c.call_of.ensures))))
 
 -- ---- statements that hold others
@@ -84,7 +85,7 @@ emit_statement-returns-in-Capture t c =
     let c1 = c.emit_capture.new.code in
     IfOk-weaker c.emit_capture.result _ _ (λ u g. λ ts h s.
     let form = slots.capture v.escaping (slot_view v.slot) (body_view ts v.body.items slots.end) in
-    emits_as h c0 c1 (stmt_view ts c.args.statement.now) (λ b. slots.stmt form b) (λ b. ap (λ x. stmt_view ts x b) v.is ∙ view-Capture ts v.escaping v.slot v.body b)
+    emits_as h c0 c1 (stmt_view ts c.args.statement.now) (λ b. slots.stmt form b) (λ b. ap (λ x. stmt_view ts x b) v.is ∙ view_Capture ts v.escaping v.slot v.body b)
     (emits_one h c0 c1 form (subst (λ l. Puts c0 (stmt_asm (slots.capture v.escaping (slot_view v.slot) (body_view ts l slots.end)) h) c1) c.deref-in-Capture.ensures.value (g ts h s)))) c.emit_capture.ensures
 
 pub emit_loop-returns : goal.emit_loop-returns
@@ -128,7 +129,7 @@ emit_statement-returns-in-For t c =
     let p = place_view ts v.field-0 in
     let form = λ (ds es : List SStmt). slots.for_each p (targets_view v.targets) (expr_view v.iterated) (option_map expr_view v.condition) (body_view ts ds slots.end) (body_view ts es slots.end) in
     let whole = form v.body.items v.other.items in
-    emits_as h c0 c1 (stmt_view ts c.args.statement.now) (λ b. slots.stmt whole b) (λ b. ap (λ x. stmt_view ts x b) v.is ∙ view-For ts v.field-0 v.targets v.iterated v.condition v.body v.other b)
+    emits_as h c0 c1 (stmt_view ts c.args.statement.now) (λ b. slots.stmt whole b) (λ b. ap (λ x. stmt_view ts x b) v.is ∙ view_For ts v.field-0 v.targets v.iterated v.condition v.body v.other b)
     (emits_one h c0 c1 whole (subst (λ l. Puts c0 (stmt_asm (form l v.other.items) h) c1) c.deref-in-For.ensures.value
     (subst (λ l. Puts c0 (stmt_asm (form us l) h) c1) c.deref-in-For-2.ensures.value (g ts p h s))))) c.emit_loop.ensures
 
@@ -151,7 +152,7 @@ emit_statement-returns-in_ok-emit_statements-in-If-2 t c = λ ts h s.
     let c9 = c.close_all.new.code in
     let other = subst (λ x. Emits h l.code (body_view ts x) c.emit_statements-in-If.new.code) c.deref-in-If.ensures.value (c.in_ok-emit_statements-in-If-2.ensures ts h s) in
     emits_as h c0 c9 (stmt_view ts c.args.statement.now) (λ b. choice_view ts bs (body_view ts v.other.items) b)
-    (λ b. ap (λ x. stmt_view ts x b) v.is ∙ view-If ts v.branches v.other b ∙ ap (λ x. choice_view ts x (body_view ts v.other.items) b) (sym c.deref-condition-items.ensures.value))
+    (λ b. ap (λ x. stmt_view ts x b) v.is ∙ view_If ts v.branches v.other b ∙ ap (λ x. choice_view ts x (body_view ts v.other.items) b) (sym c.deref-condition-items.ensures.value))
     (emits_branches ts h bs l.condition-index (body_view ts v.other.items) c0 l.code c.emit_statements-in-If.new.code c9 l.ends.items c.deref-in-If-2.result.now (omega arith) (l.invariant ts h s) other c.deref-in-If-2.ensures.value c.close_all.ensures)
 
 -- ---- statements in turn

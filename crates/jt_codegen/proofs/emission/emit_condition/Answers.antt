@@ -1,10 +1,10 @@
-use Rattle.std.proofs.Common.{None, refl, ap}
+use Rattle.std.proofs.Common.{refl, ap}
 use Rattle.std.specs.Prelude.{option_map}
 use Rattle.jt_image.specs.declared.instruction.Instruction.TheVariants as op
 use Rattle.jt_slots.specs.View.{targets_view, expr_view}
 use Rattle.jt_lower.specs.Asm.{Asm, one, both, each}
 use Rattle.jt_lower.specs.Lower.{expr_asm, take_asm, kept_asm}
-use Rattle.jt_codegen.proofs.Putting.{puts_then, puts_as, puts_turns}
+use Rattle.jt_lower.proofs.Patched.{puts_then, puts_as, puts_turns}
 use Rattle.jt_codegen.proofs.Emitting.{stands_itself}
 use Rattle.jt_codegen.proofs.emission.emit_condition.Goals as goal
 

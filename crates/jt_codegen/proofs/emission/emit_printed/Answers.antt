@@ -3,7 +3,7 @@ use Rattle.jt_image.specs.declared.instruction.Instruction.TheVariants as op
 use Rattle.jt_slots.specs.View.{expr_view}
 use Rattle.jt_lower.specs.Asm.{one}
 use Rattle.jt_lower.specs.Lower.{flag, expr_asm}
-use Rattle.jt_codegen.proofs.Putting.{puts_then}
+use Rattle.jt_lower.proofs.Patched.{puts_then}
 use Rattle.jt_codegen.proofs.emission.emit_printed.Goals as goal
 
 pub returns : goal.returns

@@ -7,7 +7,7 @@ use Rattle.jt_lower.specs.Asm.{one, both}
 use Rattle.jt_lower.specs.Lower.{store_of, stores_asm, take_asm}
 use Rattle.jt_lower.specs.Emission.{Given, Puts}
 use Rattle.jt_codegen.specs.Statements.{slots_view}
-use Rattle.jt_codegen.proofs.Putting.{puts_then, puts_as}
+use Rattle.jt_lower.proofs.Patched.{puts_then, puts_as}
 use Rattle.jt_codegen.proofs.targets.emit_targets.Goals as goal
 
 pub returns-in_ok-put-in-One : goal.returns-in_ok-put-in-One

@@ -5,7 +5,8 @@ use Rattle.std.proofs.lemmas.List.{map-append}
 use Rattle.std.proofs.lemmas.Result.{err_from_is_err_and}
 use Rattle.jt_value.specs.Pairs.{pairs}
 use Rattle.jt_value.specs.View.{view}
-use Rattle.jt_contexts.proofs.Members.{Member, entries_from, item_flaw, items_from, member_flaw, nil_of, one_more, pairs-insert, put_last, shown, unless_failed, value_in}
+use Rattle.jt_contexts.proofs.Members.{Member, entries_from, item_flaw, items_from, member_flaw, nil_of, one_more, put_last, shown, unless_failed, value_in}
+use Rattle.jt_value.proofs.Names.{put-insert_entry}
 use Rattle.jt_contexts.proofs.contexts.+values.Goals as goal
 
 pub entries_of-loop-key-init : goal.entries_of-loop-key-init
@@ -32,7 +33,7 @@ entries_of-loop-key-preserved t c =
     let last = put_last done m left old (view c.in_ok-value.value) ordered c.loop-key.invariant.1 in
     let given : shown m ≡ Some (string_bytes c.in-Some.key, view c.in_ok-value.value) = rw c.in_ok-value.ensures.ok refl in
     let now : pairs c.insert.new.self.entries ≡ old ++ (string_bytes c.in-Some.key, view c.in_ok-value.value) ∷ [] =
-    ap pairs new ∙ (pairs-insert c.in-Some.key c.in_ok-value.value c.loop-key.entries.entries ∙ last) in
+    ap pairs new ∙ (put-insert_entry c.in-Some.key c.in_ok-value.value c.loop-key.entries.entries ∙ last) in
     (all ∙ sym (append_assoc done (m ∷ []) left), rw now (one_more shown done old m (string_bytes c.in-Some.key, view c.in_ok-value.value) c.loop-key.invariant.1 given))
 
 pub entries_of-returns-clause-ok : goal.entries_of-returns-clause-ok

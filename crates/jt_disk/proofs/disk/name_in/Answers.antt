@@ -1,7 +1,6 @@
-use Rattle.std.proofs.Common.{◌≡◌, ◌≢◌, ◌∙◌, ◌++◌, ◌∷◌, List, None, Some, ap, arith, refl, sym, ℕ}
+use Rattle.std.proofs.Common.{◌≡◌, ◌≢◌, ◌∙◌, ◌++◌, ◌∷◌, List, None, Some, ap, arith, sym, ℕ}
 use Rattle.std.proofs.lemmas.List.{append_cancel_left}
 use Rattle.std.proofs.lemmas.Str.Pattern.{contains_char, strip_prefix_char}
-use Rattle.jt_program.specs.Files.{path_in}
 use Rattle.jt_disk.proofs.Names.{same_name, slash_at, slash_from, stripped}
 use Rattle.jt_disk.proofs.disk.name_in.Goals as goal
 

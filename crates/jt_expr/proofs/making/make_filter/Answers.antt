@@ -1,11 +1,11 @@
 use Rattle.std.proofs.Common.{◌∙◌, ap}
 use Rattle.jt_trees.specs.Expressions as trees
 use Rattle.jt_trees.specs.ExpressionView.{expr_view, exprs_view, pairs_view}
-use Rattle.jt_trees.proofs.ExpressionViews.{view-Filter}
+use Rattle.jt_trees.proofs.ExpressionViews.{view_Filter}
 use Rattle.jt_expr.proofs.making.make_filter.Goals as goal
 
 pub returns : goal.returns
 returns c =
     ap expr_view c.in_ok-new.ensures.ok
-    ∙ view-Filter c.args.a c.in_ok-name.name c.args.items c.args.pairs
+    ∙ view_Filter c.args.a c.in_ok-name.name c.args.items c.args.pairs
     ∙ ap (λ x. trees.filter (expr_view c.args.a.value) x (exprs_view c.args.items.items) (pairs_view c.args.pairs.items)) c.in_ok-name.ensures

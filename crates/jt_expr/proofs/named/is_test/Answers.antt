@@ -1,6 +1,8 @@
-use Rattle.std.proofs.Common.{◌∙◌}
-use Rattle.jt_expr.proofs.TestNames.{test_found}
+use Rattle.std.proofs.Common.{ap, ◌∙◌}
+use Rattle.std.specs.Option.{is_some}
+use Rattle.jt_expr.specs.Named.{is_test}
 use Rattle.jt_expr.proofs.named.is_test.Goals as goal
 
 pub returns : goal.returns
-returns c = c.is_some.ensures ∙ test_found c.args.name.now c.by_name.result c.by_name.ensures.found c.by_name.ensures.only
+unfolding is_test
+returns c = c.is_some.ensures ∙ ap is_some c.by_name.ensures.value

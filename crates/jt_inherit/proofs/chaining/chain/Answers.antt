@@ -1,4 +1,5 @@
 use Rattle.std.proofs.Common.{◌≡◌, ◌+◌, ◌*◌, ◌<◌, ◌≤◌, List, ℕ, length, map, sym, ap, subst, ◌∙◌, arith, Err, Vec, Global}
+use Rattle.std.proofs.lemmas.List.{length-map}
 use Rattle.std.specs.List.{AllByRecursion}
 use Rattle.std.proofs.lemmas.Result.{err_from_is_err_and}
 use Rattle.jt_order.specs.Graph.{IsClosed, IsOrder}
@@ -13,7 +14,6 @@ use Rattle.jt_inherit.specs.SetView.{strings}
 use Rattle.jt_chains.specs.Weights.{chains_weight}
 use Rattle.jt_inherit.specs.Small.{chains_len}
 use Rattle.jt_inherit.proofs.OnWay.{all_short}
-use Rattle.jt_chains.proofs.Placed.{length-map}
 use Rattle.jt_inherit.proofs.Settled.{no_chain, one_chain}
 use Rattle.jt_inherit.proofs.Whole.{ways_placed, next_len, closed, chain_breaks, order_breaks, in_order, chained, weighs, few_homes, some_homes, all_whole, homes_named}
 use Rattle.jt_inherit.proofs.chaining.chain.Goals as goal
@@ -28,7 +28,7 @@ check_chains-requires g c =
     let ws = graph_of f.ways.items in
     let ns = graph_of f.next.items in
     let found = c.in_ok-found.ensures.found in
-    let all : length ws ≡ length hs = length-map (λ (v : Vec ℕ Global). v.items) f.ways.items ∙ c.in_ok-found.ensures.all in
+    let all : length ws ≡ length hs = length-map f.ways.items (λ (v : Vec ℕ Global). v.items) ∙ c.in_ok-found.ensures.all in
     ways_placed given ts hs hs ws ns found.followed
 
 pub returns-in_err-check_chains-clause-refused : goal.returns-in_err-check_chains-clause-refused
@@ -41,7 +41,7 @@ returns-in_err-check_chains-clause-refused g c =
     let ws = graph_of f.ways.items in
     let ns = graph_of f.next.items in
     let found = c.in_ok-found.ensures.found in
-    let all : length ws ≡ length hs = length-map (λ (v : Vec ℕ Global). v.items) f.ways.items ∙ c.in_ok-found.ensures.all in
+    let all : length ws ≡ length hs = length-map f.ways.items (λ (v : Vec ℕ Global). v.items) ∙ c.in_ok-found.ensures.all in
     let e = c.in_err-check_chains.field-0.0 in
     let p = err_from_is_err_and c.from_residual-in_err-check_chains.result c.from_residual-in_err-check_chains.ensures.1 in
     rw (p.1, p.2)
@@ -57,7 +57,7 @@ returns-in_err-order-clause-refused g c =
     let ws = graph_of f.ways.items in
     let ns = graph_of f.next.items in
     let found = c.in_ok-found.ensures.found in
-    let all : length ws ≡ length hs = length-map (λ (v : Vec ℕ Global). v.items) f.ways.items ∙ c.in_ok-found.ensures.all in
+    let all : length ws ≡ length hs = length-map f.ways.items (λ (v : Vec ℕ Global). v.items) ∙ c.in_ok-found.ensures.all in
     let p = err_from_is_err_and c.from_residual-in_err-order.result c.from_residual-in_err-order.ensures.1 in
     rw p.1
     (order_breaks given c.args.options c.args.entry.now ts ks hs ws ns found c.in_ok-found.ensures.root all (graph_of c.deref.result.now) c.in_err-order.field-0.0 p.0 (ap graph_of c.deref.ensures.value) p.2
@@ -73,12 +73,12 @@ homes_in-requires-clause-within g c =
     let ws = graph_of f.ways.items in
     let ns = graph_of f.next.items in
     let found = c.in_ok-found.ensures.found in
-    let all : length ws ≡ length hs = length-map (λ (v : Vec ℕ Global). v.items) f.ways.items ∙ c.in_ok-found.ensures.all in
+    let all : length ws ≡ length hs = length-map f.ways.items (λ (v : Vec ℕ Global). v.items) ∙ c.in_ok-found.ensures.all in
     let kept = c.in_ok-check_chains.ensures.kept in
     let is = c.in_ok-order.order.items in
     let own : IsClosed (graph_of c.deref.result.now) = subst (λ (z : List (Vec ℕ Global)). IsClosed (graph_of z)) (sym c.deref.ensures.value) (closed given c.args.options c.args.entry.now ts ks hs ws ns found c.in_ok-found.ensures.root all) in
     let o : IsOrder ns is = subst (λ (z : List (Vec ℕ Global)). IsOrder (graph_of z) is) c.deref.ensures.value (c.in_ok-order.ensures.ordered own) in
-    let lens : length ns ≡ length f.ways.items = next_len given ts hs hs ws ns found.followed ∙ length-map (λ (v : Vec ℕ Global). v.items) f.ways.items in
+    let lens : length ns ≡ length f.ways.items = next_len given ts hs hs ws ns found.followed ∙ length-map f.ways.items (λ (v : Vec ℕ Global). v.items) in
     subst (λ z. AllByRecursion (λ i. i < length f.ways.items) z) (sym c.deref-2.ensures.value) (subst (λ n. AllByRecursion (λ i. i < n) is) lens o.within)
 
 pub invariant_of-result : goal.invariant_of-result
@@ -91,7 +91,7 @@ invariant_of-result g c =
     let ws = graph_of f.ways.items in
     let ns = graph_of f.next.items in
     let found = c.in_ok-found.ensures.found in
-    let all : length ws ≡ length hs = length-map (λ (v : Vec ℕ Global). v.items) f.ways.items ∙ c.in_ok-found.ensures.all in
+    let all : length ws ≡ length hs = length-map f.ways.items (λ (v : Vec ℕ Global). v.items) ∙ c.in_ok-found.ensures.all in
     let kept = c.in_ok-check_chains.ensures.kept in
     let is = c.in_ok-order.order.items in
     let own : IsClosed (graph_of c.deref.result.now) = subst (λ (z : List (Vec ℕ Global)). IsClosed (graph_of z)) (sym c.deref.ensures.value) (closed given c.args.options c.args.entry.now ts ks hs ws ns found c.in_ok-found.ensures.root all) in
@@ -101,7 +101,7 @@ invariant_of-result g c =
     let named = homes_named hs ws is homes has in
     record {
       once = found.known.read.once;
-      some = omega (arith, ap length named, length-map home_name homes, length-map (home_at hs) is, some_homes given c.args.options c.args.entry.now ts ks hs ws ns found c.in_ok-found.ensures.root all kept is o);
+      some = omega (arith, ap length named, length-map homes home_name, length-map is (home_at hs), some_homes given c.args.options c.args.entry.now ts ks hs ws ns found c.in_ok-found.ensures.root all kept is o);
       order = subst (InOrder (sources_in ts)) (sym named) (in_order given c.args.options c.args.entry.now ts ks hs ws ns found c.in_ok-found.ensures.root all kept is o);
       whole = all_whole given c.args.options c.args.entry.now ts ks hs ws ns found c.in_ok-found.ensures.root all kept is o homes has;
     }
@@ -116,7 +116,7 @@ returns-clause-chained g c =
     let ws = graph_of f.ways.items in
     let ns = graph_of f.next.items in
     let found = c.in_ok-found.ensures.found in
-    let all : length ws ≡ length hs = length-map (λ (v : Vec ℕ Global). v.items) f.ways.items ∙ c.in_ok-found.ensures.all in
+    let all : length ws ≡ length hs = length-map f.ways.items (λ (v : Vec ℕ Global). v.items) ∙ c.in_ok-found.ensures.all in
     let kept = c.in_ok-check_chains.ensures.kept in
     let is = c.in_ok-order.order.items in
     let own : IsClosed (graph_of c.deref.result.now) = subst (λ (z : List (Vec ℕ Global)). IsClosed (graph_of z)) (sym c.deref.ensures.value) (closed given c.args.options c.args.entry.now ts ks hs ws ns found c.in_ok-found.ensures.root all) in
@@ -137,7 +137,7 @@ returns-clause-weighs g c =
     let ws = graph_of f.ways.items in
     let ns = graph_of f.next.items in
     let found = c.in_ok-found.ensures.found in
-    let all : length ws ≡ length hs = length-map (λ (v : Vec ℕ Global). v.items) f.ways.items ∙ c.in_ok-found.ensures.all in
+    let all : length ws ≡ length hs = length-map f.ways.items (λ (v : Vec ℕ Global). v.items) ∙ c.in_ok-found.ensures.all in
     let kept = c.in_ok-check_chains.ensures.kept in
     let is = c.in_ok-order.order.items in
     let own : IsClosed (graph_of c.deref.result.now) = subst (λ (z : List (Vec ℕ Global)). IsClosed (graph_of z)) (sym c.deref.ensures.value) (closed given c.args.options c.args.entry.now ts ks hs ws ns found c.in_ok-found.ensures.root all) in
@@ -162,7 +162,7 @@ returns-clause-few g c =
     let ws = graph_of f.ways.items in
     let ns = graph_of f.next.items in
     let found = c.in_ok-found.ensures.found in
-    let all : length ws ≡ length hs = length-map (λ (v : Vec ℕ Global). v.items) f.ways.items ∙ c.in_ok-found.ensures.all in
+    let all : length ws ≡ length hs = length-map f.ways.items (λ (v : Vec ℕ Global). v.items) ∙ c.in_ok-found.ensures.all in
     let kept = c.in_ok-check_chains.ensures.kept in
     let is = c.in_ok-order.order.items in
     let own : IsClosed (graph_of c.deref.result.now) = subst (λ (z : List (Vec ℕ Global)). IsClosed (graph_of z)) (sym c.deref.ensures.value) (closed given c.args.options c.args.entry.now ts ks hs ws ns found c.in_ok-found.ensures.root all) in
@@ -190,7 +190,7 @@ returns-in_err-check_chains-clause-only g c =
     let ws = graph_of f.ways.items in
     let ns = graph_of f.next.items in
     let found = c.in_ok-found.ensures.found in
-    let all : length ws ≡ length hs = length-map (λ (v : Vec ℕ Global). v.items) f.ways.items ∙ c.in_ok-found.ensures.all in
+    let all : length ws ≡ length hs = length-map f.ways.items (λ (v : Vec ℕ Global). v.items) ∙ c.in_ok-found.ensures.all in
     let e = c.in_err-check_chains.field-0.0 in
     let p = err_from_is_err_and c.from_residual-in_err-check_chains.result c.from_residual-in_err-check_chains.ensures.1 in
     rw (p.1, p.2)
@@ -206,7 +206,7 @@ returns-in_err-order-clause-only g c =
     let ws = graph_of f.ways.items in
     let ns = graph_of f.next.items in
     let found = c.in_ok-found.ensures.found in
-    let all : length ws ≡ length hs = length-map (λ (v : Vec ℕ Global). v.items) f.ways.items ∙ c.in_ok-found.ensures.all in
+    let all : length ws ≡ length hs = length-map f.ways.items (λ (v : Vec ℕ Global). v.items) ∙ c.in_ok-found.ensures.all in
     let p = err_from_is_err_and c.from_residual-in_err-order.result c.from_residual-in_err-order.ensures.1 in
     rw p.1
     (λ d i. no_chain given c.args.options c.args.entry.now d i p.0
@@ -229,7 +229,7 @@ returns-clause-only g c =
     let ws = graph_of f.ways.items in
     let ns = graph_of f.next.items in
     let found = c.in_ok-found.ensures.found in
-    let all : length ws ≡ length hs = length-map (λ (v : Vec ℕ Global). v.items) f.ways.items ∙ c.in_ok-found.ensures.all in
+    let all : length ws ≡ length hs = length-map f.ways.items (λ (v : Vec ℕ Global). v.items) ∙ c.in_ok-found.ensures.all in
     let kept = c.in_ok-check_chains.ensures.kept in
     let is = c.in_ok-order.order.items in
     let own : IsClosed (graph_of c.deref.result.now) = subst (λ (z : List (Vec ℕ Global)). IsClosed (graph_of z)) (sym c.deref.ensures.value) (closed given c.args.options c.args.entry.now ts ks hs ws ns found c.in_ok-found.ensures.root all) in

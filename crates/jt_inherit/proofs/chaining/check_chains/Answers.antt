@@ -1,4 +1,5 @@
 use Rattle.std.proofs.Common.{◌<◌, List, ℕ, length, sym, ap, subst, arith, Vec, Global}
+use Rattle.std.proofs.lemmas.List.{length-map}
 use Rattle.std.proofs.lemmas.Result.{err_from_is_err_and}
 use Rattle.jt_order.specs.View.{graph_of}
 use Rattle.jt_chains.specs.Along.{ArePlaces, templates_at}
@@ -7,7 +8,6 @@ use Rattle.jt_inherit.specs.Kept.{BreakOne}
 use Rattle.jt_chains.specs.Pages.{pages_view}
 use Rattle.jt_chains.specs.declared.linked.Page.{Page}
 use Rattle.jt_inherit.proofs.Listed.{way_number}
-use Rattle.jt_chains.proofs.Placed.{length-map}
 use Rattle.jt_inherit.proofs.Whole.{at_number}
 use Rattle.jt_inherit.proofs.chaining.check_chains.Goals as goal
 
@@ -17,7 +17,7 @@ check_rules-requires c =
     let i = c.loop-way.way-index in
     let is = c.deref-in-loop-way.result.now in
     let here = way_number f.ways.items c.deref-way-items.result.now i c.way-item.result is c.deref-way-items.ensures.value c.loop-way-test.true c.way-item.is c.deref-in-loop-way.ensures.value in
-    let lt : i < length (graph_of f.ways.items) = omega (arith, c.loop-way-test.true, ap length c.deref-way-items.ensures.value, length-map (λ (v : Vec ℕ Global). v.items) f.ways.items) in
+    let lt : i < length (graph_of f.ways.items) = omega (arith, c.loop-way-test.true, ap length c.deref-way-items.ensures.value, length-map f.ways.items (λ (v : Vec ℕ Global). v.items)) in
     subst (λ (z : List Page). ArePlaces (pages_view z) is) (sym c.deref.ensures.value)
     (subst (ArePlaces (found_templates f)) here (at_number (ArePlaces (found_templates f)) (graph_of f.ways.items) i lt c.requires))
 
@@ -28,7 +28,7 @@ returns-in_err-check_rules-clause-broken c =
     let is = c.deref-in-loop-way.result.now in
     let e = c.in_err-check_rules.field-0.0 in
     let here = way_number f.ways.items c.deref-way-items.result.now i c.way-item.result is c.deref-way-items.ensures.value c.loop-way-test.true c.way-item.is c.deref-in-loop-way.ensures.value in
-    let lt : i < length (graph_of f.ways.items) = omega (arith, c.loop-way-test.true, ap length c.deref-way-items.ensures.value, length-map (λ (v : Vec ℕ Global). v.items) f.ways.items) in
+    let lt : i < length (graph_of f.ways.items) = omega (arith, c.loop-way-test.true, ap length c.deref-way-items.ensures.value, length-map f.ways.items (λ (v : Vec ℕ Global). v.items)) in
     let p = err_from_is_err_and c.from_residual.result c.from_residual.ensures.1 in
     rw (p.1, p.2)
     (record {

@@ -1,11 +1,11 @@
 use Rattle.std.proofs.Common.{ap, arith, string_bytes}
+use Rattle.std.proofs.lemmas.List.{length-map}
 use Rattle.jt_order.specs.View.{graph_of}
 use Rattle.jt_inherit.specs.Found.{found_templates, found_homes}
 use Rattle.jt_chains.specs.Pages.{pages_view}
 use Rattle.jt_chains.specs.Places.{home_at}
 use Rattle.jt_inherit.specs.SetView.{strings}
 use Rattle.jt_inherit.proofs.Finding.{found_first, followed_len}
-use Rattle.jt_chains.proofs.Placed.{length-map}
 use Rattle.jt_inherit.proofs.discovery.discover.Goals as goal
 
 pub chains-init : goal.chains-init
@@ -27,7 +27,7 @@ returns-clause-all g c =
       c.len-in-chains.ensures.len,
       c.len.ensures,
       f.ways.ok.0,
-      length-map string_bytes f.homes.keys,
+      length-map f.homes.keys string_bytes,
       followed_len _ _ _ _ _ _ c.chains.invariant.found.followed,
-      length-map (λ v. v.items) f.ways.items,
+      length-map f.ways.items (λ v. v.items),
     )

@@ -1,4 +1,5 @@
 use Rattle.std.proofs.Common.{◌≡◌, true, ◌⊎◌, ◌++◌, ◌∷◌, [], List, ℕ, sym, ap, subst, ◌∙◌, arith, length, string_bytes, Vec, Global}
+use Rattle.std.proofs.lemmas.List.{length-map}
 use Rattle.std.specs.List.{AllByRecursion}
 use Rattle.std.proofs.lemmas.Result.{err_from_is_err_and}
 use Rattle.jt_order.specs.View.{graph_of}
@@ -16,7 +17,6 @@ use Rattle.jt_chains.specs.declared.linked.Page.{Page}
 use Rattle.jt_inherit.proofs.Among.{map_more}
 use Rattle.jt_inherit.proofs.Finding.{home_number, known_names, need_breaks, next_breaks, found_more, way_there, both_pages}
 use Rattle.jt_inherit.proofs.Following.{text_among}
-use Rattle.jt_chains.proofs.Placed.{length-map}
 use Rattle.jt_inherit.proofs.discovery.follow.Goals as goal
 
 pub returns-in_err-way-clause-refused : goal.returns-in_err-way-clause-refused
@@ -29,7 +29,7 @@ returns-in_err-way-clause-refused g c =
     let ns = graph_of f.next.items in
     let h = c.deref.result.now in
     let at = home_number f.homes.keys c.as_slice-homes.result.now f.ways.items c.index-homes-len.result c.len.result h c.as_slice-homes.ensures.keys
-    (omega (arith, c.len.ensures, f.ways.ok.0)) (omega (arith, c.len.ensures, f.ways.ok.0, c.requires.more, length-map string_bytes f.homes.keys, ap length c.as_slice-homes.ensures.keys)) c.index-homes-len.is c.deref.ensures in
+    (omega (arith, c.len.ensures, f.ways.ok.0)) (omega (arith, c.len.ensures, f.ways.ok.0, c.requires.more, length-map f.homes.keys string_bytes, ap length c.as_slice-homes.ensures.keys)) c.index-homes-len.is c.deref.ensures in
     let p = err_from_is_err_and c.from_residual.result c.from_residual.ensures.1 in
     rw (p.1, p.2)
     (c.in_err-way.ensures.refused (home_at hs 0) (c.requires.found.reached h (text_among hs (length ws) h at)))
@@ -44,7 +44,7 @@ returns-in_err-fresh-clause-refused g c =
     let ns = graph_of f.next.items in
     let h = c.deref.result.now in
     let at = home_number f.homes.keys c.as_slice-homes.result.now f.ways.items c.index-homes-len.result c.len.result h c.as_slice-homes.ensures.keys
-    (omega (arith, c.len.ensures, f.ways.ok.0)) (omega (arith, c.len.ensures, f.ways.ok.0, c.requires.more, length-map string_bytes f.homes.keys, ap length c.as_slice-homes.ensures.keys)) c.index-homes-len.is c.deref.ensures in
+    (omega (arith, c.len.ensures, f.ways.ok.0)) (omega (arith, c.len.ensures, f.ways.ok.0, c.requires.more, length-map f.homes.keys string_bytes, ap length c.as_slice-homes.ensures.keys)) c.index-homes-len.is c.deref.ensures in
     let ts1 = pages_view c.read_way.new.pages.items in
     let more = c.in_ok-way.ensures.grown in
     let is = c.in_ok-way.way.items in
@@ -67,7 +67,7 @@ next_chains-requires-clause-places g c =
     let ns = graph_of f.next.items in
     let h = c.deref.result.now in
     let at = home_number f.homes.keys c.as_slice-homes.result.now f.ways.items c.index-homes-len.result c.len.result h c.as_slice-homes.ensures.keys
-    (omega (arith, c.len.ensures, f.ways.ok.0)) (omega (arith, c.len.ensures, f.ways.ok.0, c.requires.more, length-map string_bytes f.homes.keys, ap length c.as_slice-homes.ensures.keys)) c.index-homes-len.is c.deref.ensures in
+    (omega (arith, c.len.ensures, f.ways.ok.0)) (omega (arith, c.len.ensures, f.ways.ok.0, c.requires.more, length-map f.homes.keys string_bytes, ap length c.as_slice-homes.ensures.keys)) c.index-homes-len.is c.deref.ensures in
     let ts1 = pages_view c.read_way.new.pages.items in
     let more = c.in_ok-way.ensures.grown in
     let is = c.in_ok-way.way.items in
@@ -91,7 +91,7 @@ returns-in_err-next-clause-refused g c =
     let ns = graph_of f.next.items in
     let h = c.deref.result.now in
     let at = home_number f.homes.keys c.as_slice-homes.result.now f.ways.items c.index-homes-len.result c.len.result h c.as_slice-homes.ensures.keys
-    (omega (arith, c.len.ensures, f.ways.ok.0)) (omega (arith, c.len.ensures, f.ways.ok.0, c.requires.more, length-map string_bytes f.homes.keys, ap length c.as_slice-homes.ensures.keys)) c.index-homes-len.is c.deref.ensures in
+    (omega (arith, c.len.ensures, f.ways.ok.0)) (omega (arith, c.len.ensures, f.ways.ok.0, c.requires.more, length-map f.homes.keys string_bytes, ap length c.as_slice-homes.ensures.keys)) c.index-homes-len.is c.deref.ensures in
     let ts1 = pages_view c.read_way.new.pages.items in
     let more = c.in_ok-way.ensures.grown in
     let is = c.in_ok-way.way.items in
@@ -120,7 +120,7 @@ returns-clause-found g c =
     let ns = graph_of f.next.items in
     let h = c.deref.result.now in
     let at = home_number f.homes.keys c.as_slice-homes.result.now f.ways.items c.index-homes-len.result c.len.result h c.as_slice-homes.ensures.keys
-    (omega (arith, c.len.ensures, f.ways.ok.0)) (omega (arith, c.len.ensures, f.ways.ok.0, c.requires.more, length-map string_bytes f.homes.keys, ap length c.as_slice-homes.ensures.keys)) c.index-homes-len.is c.deref.ensures in
+    (omega (arith, c.len.ensures, f.ways.ok.0)) (omega (arith, c.len.ensures, f.ways.ok.0, c.requires.more, length-map f.homes.keys string_bytes, ap length c.as_slice-homes.ensures.keys)) c.index-homes-len.is c.deref.ensures in
     let ts1 = pages_view c.read_way.new.pages.items in
     let more = c.in_ok-way.ensures.grown in
     let is = c.in_ok-way.way.items in

@@ -2,8 +2,8 @@ use Rattle.std.proofs.Common.{List, ◌++◌, refl, sym, ◌∙◌}
 use Rattle.std.proofs.lemmas.List.{at_drop_all, append-nil}
 use Rattle.jt_trees.specs.StatementView.{branches_view}
 use Rattle.jt_inherit.specs.Needs.{includes_of, includes_in, includes_under, needs_view}
-use Rattle.jt_chains.proofs.Shown.{Branch}
-use Rattle.jt_chains.proofs.Gathered.{choice_added, loop_added}
+use Rattle.jt_trees.proofs.Left.{Branch}
+use Rattle.jt_trees.proofs.Gathered.{choice_added, loop_added}
 use Rattle.jt_inherit.proofs.statements.+includes.Goals as goal
 
 pub add_statement-returns-in_ok-add_includes-in-If-2 : goal.add_statement-returns-in_ok-add_includes-in-If-2

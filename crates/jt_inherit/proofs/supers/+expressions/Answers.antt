@@ -2,26 +2,26 @@ use Rattle.std.proofs.Common.{◌∙◌, sym, ap, arith}
 use Rattle.std.proofs.lemmas.Grind.{common_steps}
 use Rattle.jt_trees.specs.ExpressionView.{expr_view}
 use Rattle.jt_chains.specs.Supers as spec
-use Rattle.jt_chains.proofs.Shown.{view-Map, view-Call, view-Filter, view-Test}
+use Rattle.jt_trees.proofs.ExpressionViews.{view_Map, view_Call, view_Filter, view_Test}
 use Rattle.jt_inherit.proofs.supers.+expressions.Goals as goal
 
 pub has_super-returns-in-Map : goal.has_super-returns-in-Map
-has_super-returns-in-Map t c = c.any_super_pair.ensures ∙ sym (ap spec.has_super (ap expr_view c.in-Map.is ∙ view-Map c.in-Map.pairs))
+has_super-returns-in-Map t c = c.any_super_pair.ensures ∙ sym (ap spec.has_super (ap expr_view c.in-Map.is ∙ view_Map c.in-Map.pairs))
 
 pub has_super-returns-else-any_super : goal.has_super-returns-else-any_super
 has_super-returns-else-any_super t c =
-    let whole = ap spec.has_super (ap expr_view c.in-Call.is ∙ view-Call c.in-Call.a c.in-Call.items c.in-Call.pairs) in
+    let whole = ap spec.has_super (ap expr_view c.in-Call.is ∙ view_Call c.in-Call.a c.in-Call.items c.in-Call.pairs) in
     let last = c.any_super_pair-else-any_super.ensures in
     grind (arith, common_steps)
 
 pub has_super-returns-else-any_super-2 : goal.has_super-returns-else-any_super-2
 has_super-returns-else-any_super-2 t c =
-    let whole = ap spec.has_super (ap expr_view c.in-Filter.is ∙ view-Filter c.in-Filter.a c.in-Filter.field-1 c.in-Filter.items c.in-Filter.pairs) in
+    let whole = ap spec.has_super (ap expr_view c.in-Filter.is ∙ view_Filter c.in-Filter.a c.in-Filter.field-1 c.in-Filter.items c.in-Filter.pairs) in
     let last = c.any_super_pair-else-any_super-2.ensures in
     grind (arith, common_steps)
 
 pub has_super-returns-else-any_super-3 : goal.has_super-returns-else-any_super-3
 has_super-returns-else-any_super-3 t c =
-    let whole = ap spec.has_super (ap expr_view c.in-Test.is ∙ view-Test c.in-Test.a c.in-Test.field-1 c.in-Test.field-2 c.in-Test.items c.in-Test.pairs) in
+    let whole = ap spec.has_super (ap expr_view c.in-Test.is ∙ view_Test c.in-Test.a c.in-Test.field-1 c.in-Test.field-2 c.in-Test.items c.in-Test.pairs) in
     let last = c.any_super_pair-else-any_super-3.ensures in
     grind (arith, common_steps)

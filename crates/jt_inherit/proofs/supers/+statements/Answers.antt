@@ -2,7 +2,7 @@ use Rattle.std.proofs.Common.{◌≡◌, List, ◌||◌, true, false, sym, ap, �
 use Rattle.std.proofs.lemmas.List.{at_drop_all}
 use Rattle.jt_trees.specs.StatementView.{body_view, branches_view}
 use Rattle.jt_chains.specs.Supers.{calls_super, branches_super}
-use Rattle.jt_chains.proofs.Shown.{Branch}
+use Rattle.jt_trees.proofs.Left.{Branch}
 use Rattle.jt_inherit.proofs.SuperIn.{in_condition, in_body, in_if}
 use Rattle.jt_inherit.proofs.supers.+statements.Goals as goal
 

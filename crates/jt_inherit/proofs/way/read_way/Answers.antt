@@ -1,4 +1,5 @@
 use Rattle.std.proofs.Common.{◌≡◌, ◌+◌, ◌<◌, ◌++◌, ◌∷◌, [], length, sym, ap, subst, ◌∙◌, arith, string_bytes, Option, String, Global, length-append}
+use Rattle.std.proofs.lemmas.List.{length-map}
 use Rattle.std.specs.Prelude.{option_map}
 use Rattle.std.proofs.lemmas.Option.{slice_get_within}
 use Rattle.std.proofs.lemmas.Result.{err_from_is_err_and}
@@ -8,7 +9,7 @@ use Rattle.jt_inherit.specs.SetView.{strings}
 use Rattle.jt_inherit.specs.Ways.{IsWay}
 use Rattle.jt_inherit.proofs.Growing.{reach_more}
 use Rattle.jt_inherit.proofs.Leads.{names, length_names, on_way, way_turn, way_from, grown_both, cycle_breaks, long_breaks, fault_breaks}
-use Rattle.jt_chains.proofs.Placed.{length-map, map_at}
+use Rattle.jt_chains.proofs.Placed.{map_at}
 use Rattle.jt_inherit.proofs.way.read_way.Goals as goal
 
 pub returns-then-is_on_way-clause-refused : goal.returns-then-is_on_way-clause-refused
@@ -40,7 +41,7 @@ pub index-requires : goal.index-requires
 index-requires g c =
     let ps = c.read_place.new.pages in
     let n = c.deref-in-loop-turn-3.result.now in
-    omega (arith, slice_get_within (names (pages_view ps.items)) c.in_ok-place.place n c.in_ok-place.ensures.place, length_names (pages_view ps.items), length-map page_view ps.items, ps.ok.0)
+    omega (arith, slice_get_within (names (pages_view ps.items)) c.in_ok-place.place n c.in_ok-place.ensures.place, length_names (pages_view ps.items), length-map ps.items page_view, ps.ok.0)
 
 pub returns-in-None-clause-way : goal.returns-in-None-clause-way
 returns-in-None-clause-way g c =
@@ -52,7 +53,7 @@ returns-in-None-clause-way g c =
     let known = on_way l.pages.items c.deref.result.now l.way.items c.deref-in-loop-turn.result.now n c.deref-in-loop-turn-2.result.now c.is_on_way.result
     c.deref.ensures.value c.deref-in-loop-turn.ensures.value c.deref-in-loop-turn-2.ensures c.is_on_way.ensures in
     let within : c.in_ok-place.place < length ps =
-    omega (arith, slice_get_within (names (pages_view ps)) c.in_ok-place.place c.deref-in-loop-turn-3.result.now c.in_ok-place.ensures.place, length_names (pages_view ps), length-map page_view ps) in
+    omega (arith, slice_get_within (names (pages_view ps)) c.in_ok-place.place c.deref-in-loop-turn-3.result.now c.in_ok-place.ensures.place, length_names (pages_view ps), length-map ps page_view) in
     let few : length l.way.items < 16 = omega (arith, l.invariant.counted, c.loop-turn-test.true) in
     subst (λ (o : Option (String Global)). IsWay (pages_view ps) h c.push.new.self.items (option_map string_bytes o)) c.in-None.is
     (way_turn ts (pages_view ps) c.in_ok-place.ensures.grown.0 c.in_ok-place.ensures.grown.1 h l.way.items c.push.new.self.items c.in_ok-place.place n c.deref-in-loop-turn-3.result.now _ (page_view c.index.result.now)
@@ -66,7 +67,7 @@ returns-in-None-clause-from g c =
     let n = string_bytes l.name in
     let ps = c.read_place.new.pages.items in
     let within : c.in_ok-place.place < length ps =
-    omega (arith, slice_get_within (names (pages_view ps)) c.in_ok-place.place c.deref-in-loop-turn-3.result.now c.in_ok-place.ensures.place, length_names (pages_view ps), length-map page_view ps) in
+    omega (arith, slice_get_within (names (pages_view ps)) c.in_ok-place.place c.deref-in-loop-turn-3.result.now c.in_ok-place.ensures.place, length_names (pages_view ps), length-map ps page_view) in
     way_from ts (pages_view ps) c.in_ok-place.ensures.grown.0 c.in_ok-place.ensures.grown.1 l.way.items c.push.new.self.items c.in_ok-place.place n c.deref-in-loop-turn-3.result.now (page_view c.index.result.now)
     l.invariant.led.places c.in_ok-place.ensures.place c.deref-in-loop-turn-3.ensures c.in_ok-push.ensures.items (map_at page_view ps c.in_ok-place.place c.index.result.now within c.index.ensures)
     (strings c.args.names.now.keys) (strings l.names.keys) (strings c.read_place.new.names.keys) l.invariant.from c.in_ok-place.ensures.from
@@ -81,7 +82,7 @@ loop-turn-preserved g c =
     let known = on_way l.pages.items c.deref.result.now l.way.items c.deref-in-loop-turn.result.now n c.deref-in-loop-turn-2.result.now c.is_on_way.result
     c.deref.ensures.value c.deref-in-loop-turn.ensures.value c.deref-in-loop-turn-2.ensures c.is_on_way.ensures in
     let within : c.in_ok-place.place < length ps =
-    omega (arith, slice_get_within (names (pages_view ps)) c.in_ok-place.place c.deref-in-loop-turn-3.result.now c.in_ok-place.ensures.place, length_names (pages_view ps), length-map page_view ps) in
+    omega (arith, slice_get_within (names (pages_view ps)) c.in_ok-place.place c.deref-in-loop-turn-3.result.now c.in_ok-place.ensures.place, length_names (pages_view ps), length-map ps page_view) in
     let few : length l.way.items < 16 = omega (arith, l.invariant.counted, c.loop-turn-test.true) in
     record {
       known = c.in_ok-place.ensures.known;

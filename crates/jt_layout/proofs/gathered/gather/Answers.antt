@@ -1,4 +1,5 @@
 use Rattle.std.proofs.Common.{◌≡◌, ◌+◌, ◌-◌, ◌<◌, ◌≤◌, length, drop, sym, ap, ◌∙◌, arith, if◌then◌else◌}
+use Rattle.std.proofs.lemmas.List.{length-map}
 use Rattle.std.specs.Str.{bytes_eq}
 use Rattle.jt_chains.specs.Pages.{home_name}
 use Rattle.jt_chains.specs.View.{chain_view}
@@ -6,8 +7,7 @@ use Rattle.jt_rules.specs.World.{world_of}
 use Rattle.jt_meaning.specs.Layout.{names_in}
 use Rattle.jt_uses.specs.Names.{texts}
 use Rattle.jt_layout.specs.Places.{names_at}
-use Rattle.jt_layout.proofs.Called.{length-map}
-use Rattle.jt_layout.proofs.Firsts.{name_of_home}
+use Rattle.jt_chains.proofs.Placed.{name_of_home}
 use Rattle.jt_layout.proofs.Named.{names_turn}
 use Rattle.jt_layout.proofs.gathered.gather.Goals as goal
 
@@ -20,7 +20,7 @@ loop-left-preserved c =
     let i = l.left - 1 in
     let within : l.left ≤ length hs = l.invariant.within in
     let lt : i < length hs = omega arith in
-    let lt' : i < length order = omega (arith, length-map home_name hs) in
+    let lt' : i < length order = omega (arith, length-map hs home_name) in
     let more : l.left ≡ i + 1 = omega arith in
     let called = name_of_home hs i c.index.result.now lt c.index.ensures ∙ sym c.as_str.ensures.value in
     record {

@@ -1,7 +1,8 @@
 use Rattle.std.proofs.Common.{◌≡◌, List, ◌+◌, drop, sym, ap, ◌∙◌, Vec, Global, not, get_or}
+use Rattle.std.proofs.lemmas.Result.{IfOk-weaker}
 use Rattle.std.specs.Prelude.{flat_map, filter}
 use Rattle.std.specs.Option.{is_some, is_none}
-use Rattle.std.proofs.lemmas.List.{at_drop_all}
+use Rattle.std.proofs.lemmas.List.{at_drop_all, length-map}
 use Rattle.std.proofs.Common.{◌<◌, length, arith}
 use denote.Ref.{Bor}
 use Rattle.jt_trees.specs.Expressions.{Text}
@@ -11,8 +12,7 @@ use Rattle.jt_chains.specs.View.{chain_view, sources_of}
 use Rattle.jt_rules.specs.World.{world_of}
 use Rattle.jt_meaning.specs.Layout.{names_in}
 use Rattle.jt_uses.specs.Names.{texts}
-use Rattle.jt_layout.proofs.Called.{length-map}
-use Rattle.jt_layout.proofs.Named.{if_ok, chain_turn, none_turn, names_here}
+use Rattle.jt_layout.proofs.Named.{chain_turn, none_turn, names_here}
 use Rattle.jt_layout.proofs.gathered.names_of_chain.Goals as goal
 
 pub loop-name-preserved-then-is_none : goal.loop-name-preserved-then-is_none
@@ -42,11 +42,11 @@ returns c =
     let l = c.loop-name in
     let ks = c.deref-name-items.result.now in
     let first = texts c.in_ok-names.names.keys in
-    let lt : c.args.home < length seen.order = omega (arith, c.requires.stands, length-map home_name c.args.chain.now.homes.items) in
+    let lt : c.args.home < length seen.order = omega (arith, c.requires.stands, length-map c.args.chain.now.homes.items home_name) in
     let ended = at_drop_all (λ (z : List (Bor Text)). all_inserted (flat_map N (filter (λ m. is_some (S m)) (texts z))) (texts l.names.keys)) ks l.name-index c.loop-name-test.false in
     let all : texts l.names.keys ≡ all_inserted (flat_map N (filter (λ m. is_some (S m)) (texts ks))) first = sym ended ∙ l.invariant in
     let whole = all ∙ ap (λ (z : List (Bor Text)). all_inserted (flat_map N (filter (λ m. is_some (S m)) (texts z))) first) c.deref-name-items.ensures.value
     ∙ ap (λ (xs : List Text). all_inserted (flat_map N (filter (λ m. is_some (S m)) xs)) first) c.in_ok-included.ensures
     ∙ ap (all_inserted (flat_map N (filter (λ m. is_some (S m)) _))) (c.in_ok-names.ensures c.requires.stands) in
-    if_ok (λ (v : Vec (Bor Text) Global). v.items ≡ l.names.keys) _ c.list_of.result
+    IfOk-weaker c.list_of.result (λ (v : Vec (Bor Text) Global). v.items ≡ l.names.keys) _
     (λ v p. names_here (world_of seen) seen.order c.args.home lt (texts v.items) (ap texts p ∙ whole)) c.list_of.ensures

@@ -1,22 +1,23 @@
-use Rattle.std.proofs.Common.{List, ◌++◌, ap, sym, ◌∙◌, true}
+use Rattle.std.proofs.Common.{List, ◌++◌, refl, ap, sym, ◌∙◌, true}
 use Rattle.std.proofs.lemmas.List.{at_drop_all, append-nil}
 use Rattle.jt_trees.specs.StatementView.{body_view, branches_view}
-use Rattle.jt_chains.specs.Includes.{needs_in, needs_under}
+use Rattle.jt_chains.specs.Includes.{needs_by, needs_in, needs_under}
 use Rattle.jt_uses.specs.Names.{texts}
-use Rattle.jt_layout.proofs.Included.{Branch, branch_added, choice_added, loop_added, statement_added}
+use Rattle.jt_trees.proofs.Left.{Branch}
+use Rattle.jt_trees.proofs.Gathered.{branch_added, choice_added, loop_added, statement_added}
 use Rattle.jt_layout.proofs.includes.+includes.Goals as goal
 
 pub add_included-loop-statement-preserved : goal.add_included-loop-statement-preserved
 add_included-loop-statement-preserved t c =
     let l = c.loop-statement in
-    statement_added c.args.body.now l.statement-index c.statement-item.result (texts l.found.items) (texts c.add_statement.new.found.items) c.loop-statement-test.true c.statement-item.is c.in_ok-add_statement.ensures
+    statement_added (needs_by true) (needs_in true) (needs_under true) (λ s b. refl) c.args.body.now l.statement-index c.statement-item.result (texts l.found.items) (texts c.add_statement.new.found.items) c.loop-statement-test.true c.statement-item.is c.in_ok-add_statement.ensures
     ∙ l.invariant
 
 pub add_statement-loop-body-preserved : goal.add_statement-loop-body-preserved
 add_statement-loop-body-preserved t c =
     let l = c.loop-body in
     let b = c.loop-body-item.result in
-    branch_added c.deref-body-items.result.now l.body-index b (texts l.found.items) (texts c.add_included.new.found.items) c.loop-body-test.true c.loop-body-item.is
+    branch_added (needs_by true) (needs_in true) (needs_under true) (λ l d b bs. refl) c.deref-body-items.result.now l.body-index b (texts l.found.items) (texts c.add_included.new.found.items) c.loop-body-test.true c.loop-body-item.is
     (c.in_ok-add_included-in-If.ensures ∙ ap (λ z. texts l.found.items ++ needs_in true (body_view z)) c.deref.ensures.value) ∙ l.invariant
 
 pub add_statement-returns-in_ok-add_included-in-If-2 : goal.add_statement-returns-in_ok-add_included-in-If-2
@@ -24,12 +25,12 @@ add_statement-returns-in_ok-add_included-in-If-2 t c =
     let l = c.loop-body in
     let bs = c.deref-body-items.result.now in
     let ended = at_drop_all (λ (z : List Branch). texts l.found.items ++ needs_under true (branches_view z)) bs l.body-index c.loop-body-test.false in
-    choice_added c.args.statement.now c.in-If.branches c.in-If.other bs c.deref-in-If.result.now
+    choice_added (needs_by true) (needs_in true) (needs_under true) (λ bs b. refl) c.args.statement.now c.in-If.branches c.in-If.other bs c.deref-in-If.result.now
     (texts c.args.found.now.items) (texts l.found.items) (texts c.add_included-in-If.new.found.items) c.in-If.is c.deref-body-items.ensures.value c.deref-in-If.ensures.value
     (sym (append-nil (texts l.found.items)) ∙ sym ended ∙ l.invariant) c.in_ok-add_included-in-If-2.ensures
 
 pub add_statement-returns-in_ok-add_included-in-For-2 : goal.add_statement-returns-in_ok-add_included-in-For-2
 add_statement-returns-in_ok-add_included-in-For-2 t c =
-    loop_added c.args.statement.now c.in-For.field-0 c.in-For.field-1 c.in-For.field-2 c.in-For.field-3 c.in-For.body c.in-For.other
+    loop_added (needs_by true) (needs_in true) (needs_under true) (λ l xs e d a b. refl) c.args.statement.now c.in-For.field-0 c.in-For.field-1 c.in-For.field-2 c.in-For.field-3 c.in-For.body c.in-For.other
     c.deref-in-For.result.now c.deref-in-For-2.result.now (texts c.args.found.now.items) (texts c.add_included-in-For.new.found.items) (texts c.add_included-in-For-2.new.found.items)
     c.in-For.is c.deref-in-For.ensures.value c.deref-in-For-2.ensures.value c.in_ok-add_included-in-For.ensures c.in_ok-add_included-in-For-2.ensures

@@ -1,4 +1,5 @@
 use Rattle.std.proofs.Common.{◌≡◌, ◌+◌, length, sym, ap, ◌∙◌, arith}
+use Rattle.std.proofs.lemmas.List.{length-map}
 use Rattle.std.specs.Prelude.{slice_get}
 use Rattle.jt_chains.specs.Chain.{macros}
 use Rattle.jt_chains.specs.Parts.{macro_view}
@@ -8,7 +9,6 @@ use Rattle.jt_uses.specs.Names.{texts}
 use Rattle.jt_layout.specs.Front.{its_world, its_order, its_home}
 use Rattle.jt_layout.specs.declared.laid.Laid.{Laid}
 use Rattle.jt_layout.proofs.Bodied.{next_at}
-use Rattle.jt_layout.proofs.Called.{length-map}
 use Rattle.jt_layout.proofs.Fronts.{slot_here, chain_unit}
 use Rattle.jt_layout.proofs.Tables.{rest, here, slots_laid, is_called, body_units, firsts_laid, count_next, count_blocks, scoped_laid, behind}
 use Rattle.jt_layout.proofs.laying.lay_chain.Goals as goal
@@ -27,7 +27,7 @@ returns-clause-laid c =
     let s = here a i lt f c.requires.front in
     let named = ap texts c.deref.ensures.value ∙ c.requires.named in
     let slot = slot_here W O h (rest a i lt f) f s in
-    let count : length ms.all.items ≡ length (macros W.sources h) = sym (length-map (macro_view (chain_view a).templates) ms.all.items) ∙ ap length c.in_ok-macros.ensures.all in
+    let count : length ms.all.items ≡ length (macros W.sources h) = sym (length-map ms.all.items (macro_view (chain_view a).templates)) ∙ ap length c.in_ok-macros.ensures.all in
     let ps = c.in_ok-places.places in
     let unit : ps.body_unit ≡ ps.macro_unit + length (macros W.sources h) = omega (arith, c.in_ok-places.ensures.body_unit, c.len-2.ensures, ms.all.ok.0, count) in
     let l : Laid = record {
@@ -72,8 +72,8 @@ returns-clause-behind c =
     let h = its_home a i in
     let lt = c.requires.stands in
     let s = here a i lt f c.requires.front in
-    let count : length ms.all.items ≡ length (macros W.sources h) = sym (length-map (macro_view (chain_view a).templates) ms.all.items) ∙ ap length c.in_ok-macros.ensures.all in
-    let slots : length c.args.names.items ≡ length (layout.names W (its_order a) h) = sym (length-map (λ k. k.now) c.args.names.items) ∙ ap length c.requires.named in
+    let count : length ms.all.items ≡ length (macros W.sources h) = sym (length-map ms.all.items (macro_view (chain_view a).templates)) ∙ ap length c.in_ok-macros.ensures.all in
+    let slots : length c.args.names.items ≡ length (layout.names W (its_order a) h) = sym (length-map c.args.names.items (λ k. k.now)) ∙ ap length c.requires.named in
     let g = c.in_ok-places.places.behind in
     let units : g.unit ≡ (f.unit + 1) + length ms.all.items + length bs.all.items =
     omega (arith, c.in_ok-places.ensures.unit, c.in_ok-places.ensures.body_unit, c.in_ok-places.ensures.macro_unit, c.len-2.ensures, c.len-3.ensures, ms.all.ok.0, bs.all.ok.0) in

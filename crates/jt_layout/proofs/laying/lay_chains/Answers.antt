@@ -1,7 +1,7 @@
 use Rattle.std.proofs.Common.{◌≡◌, ℕ, ◌+◌, ◌<◌, ◌≤◌, [], ◌∷◌, length, get_or, sym, ap, subst, ◌∙◌, arith, refl, length-append, List}
 use Rattle.std.specs.Prelude.{flat_map}
 use Rattle.std.specs.Str.{bytes_eq}
-use Rattle.std.proofs.lemmas.List.{at_drop_all}
+use Rattle.std.proofs.lemmas.List.{at_drop_all, length-map}
 use Rattle.jt_chains.specs.Pages.{home_name}
 use Rattle.jt_chains.specs.View.{chain_view}
 use Rattle.jt_meaning.specs.Layout as layout
@@ -9,8 +9,7 @@ use Rattle.jt_layout.specs.Front.{its_world, its_order, its_home}
 use Rattle.jt_layout.specs.Laid.{IsLaid}
 use Rattle.jt_layout.specs.Places.{names_at}
 use Rattle.jt_layout.specs.declared.laid.Laid.{Laid}
-use Rattle.jt_layout.proofs.Called.{length-map}
-use Rattle.jt_layout.proofs.Firsts.{name_of_home}
+use Rattle.jt_chains.proofs.Placed.{name_of_home}
 use Rattle.jt_layout.proofs.Fronts.{first_front}
 use Rattle.jt_layout.proofs.Tables.{each_more, among_left, left_turn}
 use Rattle.jt_layout.proofs.laying.lay_chains.Goals as goal
@@ -62,6 +61,6 @@ returns-clause-units c =
     let a = c.args.chain.now in
     let l = c.loop-home in
     let W = its_world a in
-    let le : length (its_order a) ≤ l.home = omega (arith, c.loop-home-test.false, c.len-home-end.ensures, a.homes.ok.0, length-map home_name a.homes.items) in
+    let le : length (its_order a) ≤ l.home = omega (arith, c.loop-home-test.false, c.len-home-end.ensures, a.homes.ok.0, length-map a.homes.items home_name) in
     let none = at_drop_all (λ hs. length (flat_map (layout.chain_keys W) hs)) (its_order a) l.home le in
     omega (arith, l.invariant.stands.all, none)

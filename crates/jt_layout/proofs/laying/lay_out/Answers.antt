@@ -1,10 +1,10 @@
 use Rattle.std.proofs.Common.{map, sym, ap, ◌∙◌, arith, string_bytes}
+use Rattle.std.proofs.lemmas.List.{length-map}
 use Rattle.jt_chains.specs.Pages.{home_name}
 use Rattle.jt_chains.specs.declared.linked.Page.{Page}
 use Rattle.jt_uses.specs.Names.{texts}
 use Rattle.jt_layout.specs.Front.{its_order}
 use Rattle.jt_layout.specs.Places.{first_of}
-use Rattle.jt_layout.proofs.Called.{length-map}
 use Rattle.jt_layout.proofs.Firsts.{is_chain}
 use Rattle.jt_layout.proofs.Tables.{sources_laid}
 use Rattle.jt_layout.proofs.laying.lay_out.Goals as goal
@@ -25,7 +25,7 @@ returns-clause-laid c =
     let chains = ap texts c.deref-4.ensures.value ∙ c.in_ok-chain_names.ensures ∙ ap (map home_name) c.deref-3.ensures.value in
     record {
       inside = omega (arith, count, a.some);
-      all_homes = count ∙ sym (length-map home_name a.homes.items);
+      all_homes = count ∙ sym (length-map a.homes.items home_name);
       each = λ i l lt e. c.in_ok-tables.ensures.each i l lt e;
       all_units = c.in_ok-tables.ensures.units;
       chains = λ x. is_chain x (its_order a) _ (c.in_ok-places.ensures.placed x ∙ ap (first_of x 0) chains);

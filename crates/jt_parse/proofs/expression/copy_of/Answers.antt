@@ -1,5 +1,5 @@
 use Rattle.std.proofs.Common.{rules}
-use Rattle.jt_parse.proofs.Texts.{spelled_again}
+use Rattle.jt_scan.proofs.Words.{spelled_again}
 use Rattle.jt_parse.proofs.expression.copy_of.Goals as goal
 
 pub returns : goal.returns

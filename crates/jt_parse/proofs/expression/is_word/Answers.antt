@@ -1,5 +1,5 @@
 use Rattle.std.proofs.Common.{◌∙◌}
-use Rattle.jt_parse.proofs.Texts.{same_text}
+use Rattle.jt_scan.proofs.Words.{same_text}
 use Rattle.jt_parse.proofs.expression.is_word.Goals as goal
 
 pub returns : goal.returns

@@ -3,7 +3,8 @@ use Rattle.std.proofs.lemmas.List.{at_drop_all}
 use Rattle.jt_parse.specs.Places as spec
 use Rattle.jt_parse.specs.PlaceView.{place_view}
 use Rattle.jt_trees.specs.StatementView.{body_view, branches_view}
-use Rattle.jt_parse.proofs.Placing.{Branch, branch_misplaced, if_misplaced, if_placed}
+use Rattle.jt_trees.proofs.Left.{Branch}
+use Rattle.jt_parse.proofs.Placing.{branch_misplaced, if_misplaced, if_placed}
 use Rattle.jt_parse.proofs.places.+places.Goals as goal
 
 pub statement_placed-returns-then-not-body_placed : goal.statement_placed-returns-then-not-body_placed

@@ -4,7 +4,8 @@ use Rattle.jt_parse.specs.Readers.{ReadsHead}
 use Rattle.jt_parse.specs.Tags.{a_statement}
 use Rattle.jt_parse.specs.declared.heads.Head.TheVariants as h
 use Rattle.jt_trees.specs.declared.statement.Stmt.TheVariants as stmt
-use Rattle.jt_parse.proofs.FirstTags.{include_unnamed, include_ignoring, include_last, view_include}
+use Rattle.jt_parse.proofs.FirstTags.{include_unnamed, include_ignoring, include_last}
+use Rattle.jt_trees.proofs.StatementViews.{view_Include}
 use Rattle.jt_parse.proofs.tags.include_head.Goals as goal
 
 pub returns-in_err-name : goal.returns-in_err-name
@@ -29,4 +30,4 @@ pub returns : goal.returns
 returns c = λ limit.
     include_last c.args.line limit (ahead c.args.cursor.now) c.in_ok-name.name (ahead c.text.new.cursor) c.in_ok-name.ensures c.in_ok-missing.missing (ahead c.missing.new.cursor) c.in_ok-missing.ensures
     (Ok c.in_ok-context.context) (ahead c.context.new.cursor) c.in_ok-context.ensures
-    (h.Statement (stmt.Include c.args.line c.in_ok-name.name c.in_ok-missing.missing c.in_ok-context.context)) (ap (λ z. a_statement z) (view_include c.args.line c.in_ok-name.name c.in_ok-missing.missing c.in_ok-context.context))
+    (h.Statement (stmt.Include c.args.line c.in_ok-name.name c.in_ok-missing.missing c.in_ok-context.context)) (ap (λ z. a_statement z) (view_Include c.args.line c.in_ok-name.name c.in_ok-missing.missing c.in_ok-context.context))

@@ -6,7 +6,8 @@ use Rattle.jt_parse.specs.Tags.{a_statement}
 use Rattle.jt_parse.specs.declared.heads.Head.TheVariants as h
 use Rattle.jt_trees.specs.declared.statement.Stmt.TheVariants as stmt
 use Rattle.jt_parse.proofs.Fronts.{sign_taken, sign_left, no_sign}
-use Rattle.jt_parse.proofs.FirstTags.{set_unnamed, set_last, captures, view_set}
+use Rattle.jt_parse.proofs.FirstTags.{set_unnamed, set_last, captures}
+use Rattle.jt_trees.proofs.StatementViews.{view_Set}
 use Rattle.jt_parse.proofs.tags.set_head.Goals as goal
 
 pub returns-in_err-names : goal.returns-in_err-names
@@ -30,4 +31,4 @@ pub returns : goal.returns
 returns c =
     set_last c.args.line c.args.levels (ahead c.args.cursor.now) c.in_ok-names.names (ahead c.targets.new.cursor) c.in_ok-names.ensures (ahead c.eat.new.self) (sign_taken s.Assign _ _ c.eat.result c.eat.ensures.found c.eat.ensures.rest c.if-not-eat.false)
     (Ok c.in_ok-value.value) (ahead c.expression.new.cursor) c.in_ok-value.ensures
-    (h.Statement (stmt.Set c.args.line c.in_ok-names.names c.in_ok-value.value)) (ap (λ z. a_statement z) (view_set c.args.line c.in_ok-names.names c.in_ok-value.value))
+    (h.Statement (stmt.Set c.args.line c.in_ok-names.names c.in_ok-value.value)) (ap (λ z. a_statement z) (view_Set c.args.line c.in_ok-names.names c.in_ok-value.value))

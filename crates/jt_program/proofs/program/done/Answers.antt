@@ -1,4 +1,3 @@
-use Rattle.std.proofs.Common.{rules}
 use Rattle.clap.specs.Walk.{texts}
 use Rattle.clap.specs.Words.{subcommand_of}
 use Rattle.jt_line.specs.Line.{program_app}

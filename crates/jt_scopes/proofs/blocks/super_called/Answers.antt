@@ -18,7 +18,7 @@ use Rattle.jt_scopes.specs.Callees.{unit_of}
 use Rattle.jt_scopes.specs.Scoped.{IsPlaced, part_from, part_at, world_in, order_in, home_in, spot_in}
 use Rattle.jt_scopes.proofs.Calling.{body_called, none_called}
 use Rattle.jt_scopes.proofs.LeadingRows.{invoked_placed}
-use Rattle.jt_scopes.proofs.Views.{view-Invoke}
+use Rattle.jt_slots.proofs.ExpressionViews.{view_Invoke}
 use Rattle.jt_scopes.proofs.Places.{counted_left, counted_end, next_within}
 use Rattle.jt_scopes.proofs.blocks.super_called.Goals as goal
 
@@ -119,4 +119,4 @@ returns-clause-placed c = λ p.
     let P : Option Part → Type 0 = λ o. IsPlaced (invoked_super world order sp o) (expr_view (e.Invoke u escaping row)) p p in
     let Q : slots.SExpr Constant → Type 0 = λ z. IsPlaced z (expr_view (e.Invoke u escaping row)) p p in
     subst P (sym (ap (part_at (numbered_bodies world h)) c.in-Some.is ∙ ap part_from left))
-    (subst Q (body_called world order h escaping (next_given behind) u es unit) (invoked_placed u escaping es row.items _ p p (c.in_ok-row.ensures.read xs p n) (view-Invoke u escaping row)))
+    (subst Q (body_called world order h escaping (next_given behind) u es unit) (invoked_placed u escaping es row.items _ p p (c.in_ok-row.ensures.read xs p n) (view_Invoke u escaping row)))

@@ -4,7 +4,7 @@ use Rattle.jt_trees.specs.ExpressionView.{expr_view}
 use Rattle.jt_chains.specs.Chain.{macros, callee}
 use Rattle.jt_scopes.specs.Callees.{IsCallee}
 use Rattle.jt_scopes.specs.Scoped.{world_in, order_in, home_in}
-use Rattle.jt_scopes.proofs.Trees.{shown_attribute}
+use Rattle.jt_trees.proofs.ExpressionViews.{shown_attribute}
 use Rattle.jt_scopes.proofs.callee.callee_of.Goals as goal
 
 pub returns-in-Attribute-clause-named : goal.returns-in-Attribute-clause-named

@@ -32,9 +32,9 @@ use Rattle.jt_scopes.proofs.Calling.{count_length, macro_called, cycled}
 use Rattle.jt_scopes.proofs.Depths.{call_depth, filter_depth, test_depth}
 use Rattle.jt_scopes.proofs.Filters.{named_is, parameters_are}
 use Rattle.jt_scopes.proofs.LeadingRows.{same_tree, begun, of_whole, of_left, row_both, row_item, row_aside, made_placed, invoked_placed}
-use Rattle.jt_scopes.proofs.Left.{Pair, row_left, pairs_left}
-use Rattle.jt_scopes.proofs.Trees.{shown_item, shown_call, shown_filter, shown_test, shown_unary, shown_binary, shown_when, shown_choice}
-use Rattle.jt_scopes.proofs.Views.{view-Made, view-Invoke}
+use Rattle.jt_trees.proofs.Left.{Entry, row_left, pairs_left}
+use Rattle.jt_trees.proofs.ExpressionViews.{shown_item, shown_call, shown_filter, shown_test, shown_unary, shown_binary, shown_when, shown_choice}
+use Rattle.jt_slots.proofs.ExpressionViews.{view_Made, view_Invoke}
 use Rattle.jt_scopes.proofs.expressions.+resolve.Goals as goal
 
 pub resolve_row-loop-expr-preserved : goal.resolve_row-loop-expr-preserved
@@ -70,11 +70,11 @@ resolve_entries-loop-key-preserved t c =
 
 pub resolve_list-returns-clause-placed : goal.resolve_list-returns-clause-placed
 resolve_list-returns-clause-placed t c =
-    made_placed slots.a_list _ c.resolve_row.new.done.items _ _ _ (begun _ _ _ _ _ _ _ c.new-items.ensures.items (c.in_ok-resolve_row.ensures.led slots.none)) (view-Made m.List c.resolve_row.new.done)
+    made_placed slots.a_list _ c.resolve_row.new.done.items _ _ _ (begun _ _ _ _ _ _ _ c.new-items.ensures.items (c.in_ok-resolve_row.ensures.led slots.none)) (view_Made m.List c.resolve_row.new.done)
 
 pub resolve_map-returns-clause-placed : goal.resolve_map-returns-clause-placed
 resolve_map-returns-clause-placed t c =
-    made_placed slots.a_map _ c.resolve_entries.new.done.items _ _ _ (begun _ _ _ _ _ _ _ c.new-entries.ensures.items c.in_ok-resolve_entries.ensures.led) (view-Made m.Map c.resolve_entries.new.done)
+    made_placed slots.a_map _ c.resolve_entries.new.done.items _ _ _ (begun _ _ _ _ _ _ _ c.new-entries.ensures.items c.in_ok-resolve_entries.ensures.led) (view_Made m.Map c.resolve_entries.new.done)
 
 pub resolve_attribute-returns-clause-placed : goal.resolve_attribute-returns-clause-placed
 resolve_attribute-returns-clause-placed t c =
@@ -89,7 +89,7 @@ resolve_attribute-returns-clause-placed t c =
 pub resolve_asides-returns-clause-led : goal.resolve_asides-returns-clause-led
 resolve_asides-returns-clause-led t c = λ left.
     let l = c.loop-value in
-    of_left _ _ _ _ _ _ _ (at_drop_all (λ (z : List Pair). asides_in c.args.scope.now (pairs_view z) l.here left) c.args.pairs.now l.value-index (omega arith)) (l.invariant left)
+    of_left _ _ _ _ _ _ _ (at_drop_all (λ (z : List Entry). asides_in c.args.scope.now (pairs_view z) l.here left) c.args.pairs.now l.value-index (omega arith)) (l.invariant left)
 
 pub resolve_asides-loop-value-preserved : goal.resolve_asides-loop-value-preserved
 resolve_asides-loop-value-preserved t c = λ left.
@@ -210,7 +210,7 @@ resolve_test-returns-in_ok-resolve_row-in-Some-clause-placed t c =
     subst P (sym c.in-Some.is ∙ c.test_of.ensures) (h (slots.made (slots.test c.in-Some.test) whole) p r
     (made_placed (slots.test c.in-Some.test) whole done.items _ p r (row_both whole es slots.none [] given.items done.items p q r
     (row_item a es c.in_ok-first-in-Some.first [] given.items p q c.in_ok-first-in-Some.ensures.placed c.in_ok-operands-in-Some.ensures.alone) (c.in_ok-resolve_row-in-Some.ensures.led slots.none))
-    (view-Made (m.Test c.in-Some.test) done)))) c.turned-in-Some.ensures.made
+    (view_Made (m.Test c.in-Some.test) done)))) c.turned-in-Some.ensures.made
 
 pub resolve_filter-returns-in-None-clause-placed : goal.resolve_filter-returns-in-None-clause-placed
 resolve_filter-returns-in-None-clause-placed t c =
@@ -260,7 +260,7 @@ resolve_filtered-returns-clause-placed t c = λ k p h.
     (made_placed (slots.filter (filter_id f) spot.escaping) (slots.item k es) full.items _ p r
     (row_both (slots.item k es) es slots.none [] given.items full.items p old r (row_item k es c.args.value [] given.items p old h c.in_ok-given.ensures.alone)
     (row_both es left slots.none given.items done.items full.items old q r (c.in_ok-resolve_given.ensures.led left) c.in_ok-fill_some.ensures.filled))
-    (view-Made (m.Filter f spot.escaping) full))
+    (view_Made (m.Filter f spot.escaping) full))
 
 -- ---- calls
 
@@ -277,13 +277,13 @@ resolve_macro-returns-clause-placed t c =
     let p = values c.args.pool.now in
     let q = values c.resolve_given.new.pool in
     invoked_placed signature.unit spot.escaping es full.items _ p q (row_both es left slots.none [] done.items full.items p q q
-    (begun _ _ _ _ _ _ _ c.new-given.ensures.items (c.in_ok-resolve_given.ensures.led left)) (c.in_ok-fill.ensures.filled q)) (view-Invoke signature.unit spot.escaping full)
+    (begun _ _ _ _ _ _ _ c.new-given.ensures.items (c.in_ok-resolve_given.ensures.led left)) (c.in_ok-fill.ensures.filled q)) (view_Invoke signature.unit spot.escaping full)
 
 pub resolve_range-returns-clause-placed : goal.resolve_range-returns-clause-placed
 resolve_range-returns-clause-placed t c =
     let done = c.resolve_row.new.done in
     made_placed (slots.operator (range_of (length c.args.row.now))) _ done.items _ _ _ (begun _ _ _ _ _ _ _ c.new-operands.ensures.items (c.in_ok-resolve_row.ensures.led slots.none))
-    (view-Made (m.Operator c.range_of.result) done ∙ ap (λ o. slots.made (slots.operator o) (row_view done.items slots.none)) c.range_of.ensures)
+    (view_Made (m.Operator c.range_of.result) done ∙ ap (λ o. slots.made (slots.operator o) (row_view done.items slots.none)) c.range_of.ensures)
 
 pub resolve_cycle-returns-clause-placed : goal.resolve_cycle-returns-clause-placed
 resolve_cycle-returns-clause-placed t c =

@@ -9,7 +9,7 @@ use Rattle.jt_slots.specs.View.{slot_view, expr_view}
 use Rattle.jt_meaning.specs.Resolve.{resolved_filters}
 use Rattle.jt_scopes.specs.Scoped.{values, IsPlaced, world_in, order_in, spot_in}
 use Rattle.jt_scopes.proofs.FilterTags.{filters_next}
-use Rattle.jt_scopes.proofs.Views.{view-Variable}
+use Rattle.jt_slots.proofs.ExpressionViews.{view_Variable}
 use Rattle.jt_scopes.proofs.filterings.resolve_filterings.Goals as goal
 
 pub returns-clause-placed : goal.returns-clause-placed
@@ -20,7 +20,7 @@ returns-clause-placed c =
     subst P (take_all l.filtering-index c.args.filterings.now (omega arith)) l.invariant
 
 pub loop-filtering-init : goal.loop-filtering-init
-loop-filtering-init c = record { shown = view-Variable c.args.value; pooled = sym (append-nil (values c.args.pool.now)) }
+loop-filtering-init c = record { shown = view_Variable c.args.value; pooled = sym (append-nil (values c.args.pool.now)) }
 
 pub loop-filtering-preserved : goal.loop-filtering-preserved
 loop-filtering-preserved c =

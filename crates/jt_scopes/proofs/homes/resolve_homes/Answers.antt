@@ -9,7 +9,8 @@ use Rattle.jt_rules.specs.World.{world_of}
 use Rattle.jt_meaning.specs.Programs as programs
 use Rattle.jt_scopes.specs.Scoped.{values, world_in, order_in, templates_in}
 use Rattle.jt_scopes.specs.Routines.{AreRoutines, RoutinesLead}
-use Rattle.jt_scopes.proofs.NextHome.{homes_left, moved}
+use Rattle.jt_layout.proofs.Firsts.{homes_left}
+use Rattle.jt_scopes.proofs.NextHome.{moved}
 use Rattle.jt_scopes.proofs.Routing.{lead_first, lead_turn, lead_last}
 use Rattle.jt_scopes.proofs.homes.resolve_homes.Goals as goal
 

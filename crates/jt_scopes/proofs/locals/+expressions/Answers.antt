@@ -4,7 +4,7 @@ use Rattle.jt_slots.specs.Locals.{expr_locals, row_locals}
 use Rattle.jt_slots.specs.Slots.{none}
 use Rattle.jt_slots.specs.View.{expr_view, row_view}
 use Rattle.jt_scopes.proofs.Counted.{row_step}
-use Rattle.jt_scopes.proofs.Views.{view-Made, view-Invoke}
+use Rattle.jt_slots.proofs.ExpressionViews.{view_Made, view_Invoke}
 use Rattle.jt_scopes.proofs.locals.+expressions.Goals as goal
 
 pub row_locals-loop-kept-preserved : goal.row_locals-loop-kept-preserved
@@ -15,9 +15,9 @@ row_locals-loop-kept-preserved t c =
 
 pub expr_locals-returns-in-Made-clause-counted : goal.expr_locals-returns-in-Made-clause-counted
 expr_locals-returns-in-Made-clause-counted t c =
-    IfOk-weaker c.row_locals.result _ _ (λ n h. h ∙ ap (λ l. row_locals (row_view l none)) c.deref.ensures.value ∙ sym (ap expr_locals (ap expr_view c.in-Made.is ∙ view-Made c.in-Made.field-0 c.in-Made.row))) c.row_locals.ensures.counted
+    IfOk-weaker c.row_locals.result _ _ (λ n h. h ∙ ap (λ l. row_locals (row_view l none)) c.deref.ensures.value ∙ sym (ap expr_locals (ap expr_view c.in-Made.is ∙ view_Made c.in-Made.field-0 c.in-Made.row))) c.row_locals.ensures.counted
 
 pub expr_locals-returns-in-Invoke-clause-counted : goal.expr_locals-returns-in-Invoke-clause-counted
 expr_locals-returns-in-Invoke-clause-counted t c =
-    IfOk-weaker c.row_locals-in-Invoke.result _ _ (λ n h. h ∙ ap (λ l. row_locals (row_view l none)) c.deref-in-Invoke.ensures.value ∙ sym (ap expr_locals (ap expr_view c.in-Invoke.is ∙ view-Invoke c.in-Invoke.field-0 c.in-Invoke.field-1 c.in-Invoke.row)))
+    IfOk-weaker c.row_locals-in-Invoke.result _ _ (λ n h. h ∙ ap (λ l. row_locals (row_view l none)) c.deref-in-Invoke.ensures.value ∙ sym (ap expr_locals (ap expr_view c.in-Invoke.is ∙ view_Invoke c.in-Invoke.field-0 c.in-Invoke.field-1 c.in-Invoke.row)))
     c.row_locals-in-Invoke.ensures.counted

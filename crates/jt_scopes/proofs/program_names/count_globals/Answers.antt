@@ -6,7 +6,7 @@ use Rattle.jt_chains.specs.Places.{home_at}
 use Rattle.jt_meaning.specs.Layout as layout
 use Rattle.jt_meaning.specs.Programs as programs
 use Rattle.jt_scopes.specs.Scoped.{world_in, order_in}
-use Rattle.jt_scopes.proofs.NextHome.{homes_left}
+use Rattle.jt_layout.proofs.Firsts.{homes_left}
 use Rattle.jt_scopes.proofs.program_names.count_globals.Goals as goal
 
 pub loop-home-preserved : goal.loop-home-preserved

@@ -8,7 +8,7 @@ use Rattle.jt_scopes.specs.Scoped.{world_in, order_in, spot_in, templates_in}
 use Rattle.jt_scopes.specs.Stated.{stmt_in}
 use Rattle.jt_scopes.proofs.Chained.{sets_next}
 use Rattle.jt_scopes.proofs.LeadingBodies.{lead_both, lead_of, lead_left}
-use Rattle.jt_scopes.proofs.Shown.{statements_left}
+use Rattle.jt_trees.proofs.Left.{statements_left}
 use Rattle.jt_scopes.proofs.routines.resolve_sets.Goals as goal
 
 pub loop-statement-preserved : goal.loop-statement-preserved

@@ -6,7 +6,7 @@ use Rattle.jt_slots.specs.declared.program.SExpr.TheVariants as e
 use Rattle.jt_meaning.specs.Resolve as resolve
 use Rattle.jt_scopes.proofs.Calling.{locals_next}
 use Rattle.jt_scopes.proofs.LeadingRows.{of_whole, of_left, row_both, row_item}
-use Rattle.jt_scopes.proofs.Views.{view-Variable}
+use Rattle.jt_slots.proofs.ExpressionViews.{view_Variable}
 use Rattle.jt_scopes.proofs.rows.first_locals.Goals as goal
 
 pub returns-clause-read : goal.returns-clause-read
@@ -21,4 +21,4 @@ loop-local-preserved c = λ xs p n.
     row_both _ _ _ _ _ _ _ _ _ (l.invariant xs p n)
     (of_whole _ _ _ _ _ _ _ (locals_next xs l.local lt)
     (row_item (variable (local l.local)) (resolve.first_locals (l.local + 1) (drop (l.local + 1) xs)) (e.Variable (s.Local l.local)) l.row.items _ p p
-    (record { shown = view-Variable (s.Local l.local); pooled = sym (append-nil p) }) c.in_ok-push.ensures.items))
+    (record { shown = view_Variable (s.Local l.local); pooled = sym (append-nil p) }) c.in_ok-push.ensures.items))

@@ -6,7 +6,7 @@ use Rattle.jt_chains.specs.View.{chain_view}
 use Rattle.jt_meaning.specs.Layout.{defaults_of}
 use Rattle.jt_scopes.specs.Scoped.{values, world_in, order_in}
 use Rattle.jt_scopes.proofs.SharedValues.{part_put}
-use Rattle.jt_scopes.proofs.NextHome.{homes_left}
+use Rattle.jt_layout.proofs.Firsts.{homes_left}
 use Rattle.jt_scopes.proofs.shared.shared_values.Goals as goal
 
 pub loop-home-preserved : goal.loop-home-preserved

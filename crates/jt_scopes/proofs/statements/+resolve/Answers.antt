@@ -14,7 +14,8 @@ use Rattle.jt_scopes.specs.Scoped.{values, world_in, order_in, expr_in, spot_in,
 use Rattle.jt_scopes.specs.Stated.{line_in, stmt_in, body_in, choice_in, scoped_in, values_in}
 use Rattle.jt_scopes.proofs.LeadingBodies.{lead_both, lead_of, lead_left, lead_same, led_of, led_both, led_begun, followed_again, choice_same, choice_other, branch_as, branch_led}
 use Rattle.jt_scopes.proofs.Placed.{place_shown}
-use Rattle.jt_scopes.proofs.Shown.{Branch, statements_left, branches_left, view-Data, view-Print, view-Set, view-SetBlock, view-With, view-Autoescape, view-FilterBlock, view-Macro, view-Include, view-Extends, view-Block}
+use Rattle.jt_trees.proofs.Left.{Branch, statements_left, branches_left}
+use Rattle.jt_trees.proofs.StatementViews.{view_Data, view_Print, view_Set, view_SetBlock, view_With, view_Autoescape, view_FilterBlock, view_Macro, view_Include, view_Extends, view_Block}
 use Rattle.jt_scopes.proofs.Smaller.{branch_smaller, other_smaller, turn_smaller, last_smaller, text_smaller, with_smaller, filtered_smaller, autoescape_smaller}
 use Rattle.jt_scopes.proofs.Stating.{stmt_as, filter_shown, if_shown, loop_shown, values_led, copies_as, scope_led, scoped_as, turn_as}
 use Rattle.jt_scopes.proofs.statements.+resolve.Goals as goal
@@ -126,11 +127,11 @@ pub resolve_statement-returns-in-Data-clause-led : goal.resolve_statement-return
 resolve_statement-returns-in-Data-clause-led t c =
     let scope = c.args.scope.now in
     IfOk-weaker c.put_data.result _ _ (λ u h. stmt_as scope c.args.spot.now (trees.data_of c.deref.result.now) (stmt_view c.args.statement.now) _ _ _ _
-    (ap trees.data_of c.deref.ensures ∙ sym (ap stmt_view c.in-Data.is ∙ view-Data c.in-Data.text)) (h (templates_in scope))) c.put_data.ensures.put
+    (ap trees.data_of c.deref.ensures ∙ sym (ap stmt_view c.in-Data.is ∙ view_Data c.in-Data.text)) (h (templates_in scope))) c.put_data.ensures.put
 
 pub resolve_statement-returns-in-Print-clause-led : goal.resolve_statement-returns-in-Print-clause-led
 resolve_statement-returns-in-Print-clause-led t c =
-    IfOk-weaker c.resolve_print.result _ _ (λ u h. stmt_as c.args.scope.now c.args.spot.now _ _ _ _ _ _ (sym (ap stmt_view c.in-Print.is ∙ view-Print c.in-Print.line c.in-Print.value)) h) c.resolve_print.ensures.led
+    IfOk-weaker c.resolve_print.result _ _ (λ u h. stmt_as c.args.scope.now c.args.spot.now _ _ _ _ _ _ (sym (ap stmt_view c.in-Print.is ∙ view_Print c.in-Print.line c.in-Print.value)) h) c.resolve_print.ensures.led
 
 pub resolve_statement-loop-line-init : goal.resolve_statement-loop-line-init
 resolve_statement-loop-line-init t c = λ other. choice_same (templates_in c.args.scope.now) _ _ _ c.in_ok-made-in-If.ensures.items
@@ -173,7 +174,7 @@ resolve_statement-returns-in_ok-targets-in-For-clause-led t c =
 pub resolve_statement-returns-in-Set-clause-led : goal.resolve_statement-returns-in-Set-clause-led
 resolve_statement-returns-in-Set-clause-led t c =
     IfOk-weaker c.resolve_set.result _ _ (λ u h. stmt_as c.args.scope.now c.args.spot.now _ _ _ _ _ _ (ap (λ z. trees.set c.in-Set.line (names_view z) (expr_view c.in-Set.value)) c.deref-in-Set.ensures.value
-    ∙ sym (ap stmt_view c.in-Set.is ∙ view-Set c.in-Set.line c.in-Set.names c.in-Set.value)) h) c.resolve_set.ensures.led
+    ∙ sym (ap stmt_view c.in-Set.is ∙ view_Set c.in-Set.line c.in-Set.names c.in-Set.value)) h) c.resolve_set.ensures.led
 
 pub resolve_statement-returns-in-SetBlock-clause-led : goal.resolve_statement-returns-in-SetBlock-clause-led
 resolve_statement-returns-in-SetBlock-clause-led t c =
@@ -181,7 +182,7 @@ resolve_statement-returns-in-SetBlock-clause-led t c =
     let us = c.deref-in-SetBlock.result.now in
     IfOk-weaker c.resolve_set_block.result _ _ (λ u h. stmt_as c.args.scope.now c.args.spot.now _ _ _ _ _ _
     (ap (λ z. trees.set_block v.field-0 z (body_view us)) c.deref-in-SetBlock-2.ensures ∙ ap (λ z. trees.set_block v.field-0 (string_bytes v.name) (body_view z)) c.deref-in-SetBlock.ensures.value
-    ∙ sym (ap stmt_view v.is ∙ view-SetBlock v.field-0 v.name v.body)) (h v.field-0)) c.resolve_set_block.ensures.led
+    ∙ sym (ap stmt_view v.is ∙ view_SetBlock v.field-0 v.name v.body)) (h v.field-0)) c.resolve_set_block.ensures.led
 
 pub resolve_statement-returns-in-With-clause-led : goal.resolve_statement-returns-in-With-clause-led
 resolve_statement-returns-in-With-clause-led t c =
@@ -189,42 +190,42 @@ resolve_statement-returns-in-With-clause-led t c =
     let us = c.deref-in-With.result.now in
     IfOk-weaker c.resolve_with.result _ _ (λ u h. stmt_as c.args.scope.now c.args.spot.now _ _ _ _ _ _
     (ap (λ z. trees.with_values v.line (pairs_view z) (body_view us)) c.deref-in-With-2.ensures.value ∙ ap (λ z. trees.with_values v.line (pairs_view v.pairs.items) (body_view z)) c.deref-in-With.ensures.value
-    ∙ sym (ap stmt_view v.is ∙ view-With v.line v.pairs v.body)) h) c.resolve_with.ensures.led
+    ∙ sym (ap stmt_view v.is ∙ view_With v.line v.pairs v.body)) h) c.resolve_with.ensures.led
 
 pub resolve_statement-returns-in-FilterBlock-clause-led : goal.resolve_statement-returns-in-FilterBlock-clause-led
 resolve_statement-returns-in-FilterBlock-clause-led t c =
     let us = c.deref-in-FilterBlock.result.now in
     IfOk-weaker c.resolve_filtered.result _ _ (λ u h. stmt_as c.args.scope.now c.args.spot.now _ _ _ _ _ _
     (ap (λ z. trees.filter_block c.in-FilterBlock.line (filterings_view z) (body_view us)) c.deref-in-FilterBlock-2.ensures.value ∙ ap (λ z. trees.filter_block c.in-FilterBlock.line (filterings_view c.in-FilterBlock.filterings.items) (body_view z)) c.deref-in-FilterBlock.ensures.value
-    ∙ sym (ap stmt_view c.in-FilterBlock.is ∙ view-FilterBlock c.in-FilterBlock.line c.in-FilterBlock.filterings c.in-FilterBlock.body)) h) c.resolve_filtered.ensures.led
+    ∙ sym (ap stmt_view c.in-FilterBlock.is ∙ view_FilterBlock c.in-FilterBlock.line c.in-FilterBlock.filterings c.in-FilterBlock.body)) h) c.resolve_filtered.ensures.led
 
 pub resolve_statement-returns-in-Autoescape-clause-led : goal.resolve_statement-returns-in-Autoescape-clause-led
 resolve_statement-returns-in-Autoescape-clause-led t c =
     let v = c.in-Autoescape in
     IfOk-weaker c.resolve_escaping.result _ _ (λ u h. stmt_as c.args.scope.now c.args.spot.now _ _ _ _ _ _
-    (ap (λ z. trees.autoescape v.field-0 v.escaping (body_view z)) c.deref-in-Autoescape.ensures.value ∙ sym (ap stmt_view v.is ∙ view-Autoescape v.field-0 v.escaping v.body)) (h v.field-0)) c.resolve_escaping.ensures.led
+    (ap (λ z. trees.autoescape v.field-0 v.escaping (body_view z)) c.deref-in-Autoescape.ensures.value ∙ sym (ap stmt_view v.is ∙ view_Autoescape v.field-0 v.escaping v.body)) (h v.field-0)) c.resolve_escaping.ensures.led
 
 pub resolve_statement-returns-in-Macro-clause-led : goal.resolve_statement-returns-in-Macro-clause-led
 resolve_statement-returns-in-Macro-clause-led t c = λ left.
     let T = templates_in c.args.scope.now in
-    lead_of T left _ left _ _ _ _ (sym (ap (λ z. followed (stmt_in c.args.scope.now z c.args.spot.now) left) (ap stmt_view c.in-Macro.is ∙ view-Macro c.in-Macro.field-0 c.in-Macro.field-1 c.in-Macro.field-2 c.in-Macro.field-3))) (lead_same T left _ _)
+    lead_of T left _ left _ _ _ _ (sym (ap (λ z. followed (stmt_in c.args.scope.now z c.args.spot.now) left) (ap stmt_view c.in-Macro.is ∙ view_Macro c.in-Macro.field-0 c.in-Macro.field-1 c.in-Macro.field-2 c.in-Macro.field-3))) (lead_same T left _ _)
 
 pub resolve_statement-returns-in-Extends-clause-led : goal.resolve_statement-returns-in-Extends-clause-led
 resolve_statement-returns-in-Extends-clause-led t c = λ left.
     let T = templates_in c.args.scope.now in
-    lead_of T left _ left _ _ _ _ (sym (ap (λ z. followed (stmt_in c.args.scope.now z c.args.spot.now) left) (ap stmt_view c.in-Extends.is ∙ view-Extends c.in-Extends.field-0 c.in-Extends.field-1))) (lead_same T left _ _)
+    lead_of T left _ left _ _ _ _ (sym (ap (λ z. followed (stmt_in c.args.scope.now z c.args.spot.now) left) (ap stmt_view c.in-Extends.is ∙ view_Extends c.in-Extends.field-0 c.in-Extends.field-1))) (lead_same T left _ _)
 
 pub resolve_statement-returns-in-Include-clause-led : goal.resolve_statement-returns-in-Include-clause-led
 resolve_statement-returns-in-Include-clause-led t c =
     IfOk-weaker c.put_include.result _ _ (λ u h. stmt_as c.args.scope.now c.args.spot.now _ _ _ _ _ _
-    (ap (λ z. trees.include c.in-Include.line z c.in-Include.ignore_missing c.in-Include.with_context) c.deref-in-Include.ensures ∙ sym (ap stmt_view c.in-Include.is ∙ view-Include c.in-Include.line c.in-Include.name c.in-Include.ignore_missing c.in-Include.with_context))
+    (ap (λ z. trees.include c.in-Include.line z c.in-Include.ignore_missing c.in-Include.with_context) c.deref-in-Include.ensures ∙ sym (ap stmt_view c.in-Include.is ∙ view_Include c.in-Include.line c.in-Include.name c.in-Include.ignore_missing c.in-Include.with_context))
     (h (values c.args.pool.now))) c.put_include.ensures.put
 
 pub resolve_statement-returns-in-Block-clause-led : goal.resolve_statement-returns-in-Block-clause-led
 resolve_statement-returns-in-Block-clause-led t c =
     IfOk-weaker c.put_block.result _ _ (λ u h. stmt_as c.args.scope.now c.args.spot.now _ _ _ _ _ _
     (ap (λ z. trees.block c.in-Block.field-0 z c.in-Block.scoped c.in-Block.field-3 (body_view c.in-Block.field-4.items)) c.deref-in-Block.ensures
-    ∙ sym (ap stmt_view c.in-Block.is ∙ view-Block c.in-Block.field-0 c.in-Block.name c.in-Block.scoped c.in-Block.field-3 c.in-Block.field-4))
+    ∙ sym (ap stmt_view c.in-Block.is ∙ view_Block c.in-Block.field-0 c.in-Block.name c.in-Block.scoped c.in-Block.field-3 c.in-Block.field-4))
     (h c.in-Block.field-0 c.in-Block.field-3 (body_view c.in-Block.field-4.items) (values c.args.pool.now))) c.put_block.ensures.put
 
 -- ---- each part is smaller

@@ -5,13 +5,13 @@ use Rattle.jt_slots.specs.Slots as slots
 use Rattle.jt_scopes.specs.Scoped.{expr_in, templates_in}
 use Rattle.jt_scopes.specs.Stated.{line_in, values_in}
 use Rattle.jt_scopes.proofs.LeadingBodies.{lead_both, lead_of, lead_left}
-use Rattle.jt_scopes.proofs.Shown.{Pair, pairs_left}
+use Rattle.jt_trees.proofs.Left.{Entry, pairs_left}
 use Rattle.jt_scopes.proofs.statements.resolve_values.Goals as goal
 
 pub returns-clause-led : goal.returns-clause-led
 returns-clause-led c = λ behind.
     let l = c.loop-value in
-    lead_left (templates_in c.args.scope.now) _ _ _ _ _ _ _ (at_drop_all (λ (z : List Pair). values_in c.args.scope.now (pairs_view z) l.here c.args.line behind) c.args.pairs.now l.value-index (omega arith)) (l.invariant behind)
+    lead_left (templates_in c.args.scope.now) _ _ _ _ _ _ _ (at_drop_all (λ (z : List Entry). values_in c.args.scope.now (pairs_view z) l.here c.args.line behind) c.args.pairs.now l.value-index (omega arith)) (l.invariant behind)
 
 pub loop-value-preserved : goal.loop-value-preserved
 loop-value-preserved c = λ behind.

@@ -1,8 +1,7 @@
-use Rattle.std.proofs.Common.{◌≡◌, ◌∙◌, ◌+◌, ◌++◌, arith, rules, sym, take}
+use Rattle.std.proofs.Common.{◌≡◌, ◌∙◌, ◌+◌, arith, rules, sym}
 use Rattle.std.proofs.Math.Numerals.{add-one}
 use Rattle.jt_machine.specs.View.{outcome_view}
-use Rattle.jt_turns.specs.Lines.{session_line, session_lines}
-use Rattle.jt_turns.specs.Standing.{outcomes}
+use Rattle.jt_turns.specs.Lines.{session_line}
 use Rattle.jt_turns.proofs.Turning.{lines_more}
 use Rattle.jt_turns.proofs.lines.lines.Goals as goal
 

@@ -4,7 +4,7 @@ use Rattle.jt_chains.specs.Uses.{body_names, branch_names, filtering_names, cond
 use Rattle.jt_trees.specs.Texts.{all_inserted}
 use Rattle.jt_uses.specs.Names.{texts}
 use Rattle.jt_uses.proofs.Inserted.{statement_added, branch_added, then_is}
-use Rattle.jt_uses.proofs.Shown.{shown_if, shown_for, shown_set_block, shown_with, shown_filters, shown_macro}
+use Rattle.jt_trees.proofs.StatementViews.{shown_if, shown_for, shown_set_block, shown_with, shown_filters, shown_macro}
 use Rattle.jt_trees.specs.ExpressionView.{expr_view, pairs_view}
 use Rattle.std.specs.Prelude.{option_map}
 use Rattle.jt_uses.proofs.own.+add.Goals as goal

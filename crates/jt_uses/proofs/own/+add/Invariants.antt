@@ -1,7 +1,7 @@
 use Rattle.std.proofs.Common.{◌≡◌, ◌+◌, ◌*◌, drop}
 use denote.Param.Weighed.{most}
 use Rattle.jt_trees.specs.declared.statement.Stmt.{size-Stmt}
-use Rattle.jt_uses.proofs.Left.{Branch}
+use Rattle.jt_trees.proofs.Left.{Branch}
 use Rattle.jt_uses.specs.Names.{texts}
 use Rattle.jt_trees.specs.StatementView as parsed
 use Rattle.jt_chains.specs.Uses as uses

@@ -5,7 +5,7 @@ use Rattle.jt_chains.specs.Uses.{expr_names, row_names, pair_names}
 use Rattle.jt_trees.specs.Texts.{all_inserted}
 use Rattle.jt_uses.specs.Names.{texts}
 use Rattle.jt_uses.proofs.Inserted.{expression_added, entry_added, then_is}
-use Rattle.jt_uses.proofs.Shown.{shown_item, shown_binary, shown_when, shown_choice, shown_test, shown_call, shown_filter}
+use Rattle.jt_trees.proofs.ExpressionViews.{shown_item, shown_binary, shown_when, shown_choice, shown_test, shown_call, shown_filter}
 use Rattle.jt_uses.proofs.own.+gather.Goals as goal
 
 pub add_row-loop-expr-preserved : goal.add_row-loop-expr-preserved

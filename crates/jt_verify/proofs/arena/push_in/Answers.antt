@@ -1,4 +1,4 @@
-use Rattle.std.proofs.Common.{◌+◌, ◌≤◌, List, [], length, get_or, ap, subst, arith}
+use Rattle.std.proofs.Common.{◌≤◌, List, [], length, get_or, ap, subst, arith}
 use Rattle.jt_verify.specs.Arena.{lists_of, IsUnder}
 use Rattle.jt_verify.specs.declared.links.Node.{Node}
 use Rattle.jt_verify.proofs.Growing.{kept_same, found_pushed, vacant_pushed, pushed, kept_pushed, shape_pushed}

@@ -1,4 +1,4 @@
-use Rattle.std.proofs.Common.{◌≡◌, ◌%◌, ◌<◌, get_or, sym, ◌∙◌, arith}
+use Rattle.std.proofs.Common.{◌%◌, ◌<◌, sym, ◌∙◌, arith}
 use Rattle.jt_verify.proofs.Nodes.{link_up, vacant_here, found_here, goes_on_from}
 use Rattle.jt_verify.proofs.links.+find.Goals as goal
 

@@ -1,4 +1,4 @@
-use Rattle.std.proofs.Common.{◌<◌, arith}
+use Rattle.std.proofs.Common.{arith}
 use Rattle.std.proofs.lemmas.List.{same_lists}
 use Rattle.jt_verify.proofs.shape.are_same.Goals as goal
 

@@ -1,4 +1,4 @@
-use Rattle.std.proofs.Common.{◌≡◌, ℕ, ◌+◌, ◌<◌, length, Result, Err, ap, refl, rules, arith, inl}
+use Rattle.std.proofs.Common.{ℕ, ◌+◌, ◌<◌, length, Err, ap, rules, arith, inl}
 use Rattle.std.proofs.lemmas.Bool.{lt-ltb}
 use Rattle.jt_image.specs.declared.code.UnitHeader.{UnitHeader}
 use Rattle.jt_image.specs.Code.{Section}

@@ -1,5 +1,6 @@
 use borrow.Author.Tests.{ltb-true}
 use Rattle.std.proofs.Common.{◌≡◌, ◌<◌, length, get_or, subst, List, Vec, Global, sym, ap, ◌∙◌}
+use Rattle.std.proofs.lemmas.Result.{IfOk-weaker}
 use Rattle.jt_chains.specs.Along.{along}
 use Rattle.jt_chains.specs.Chain.{MacroBody, macros_in}
 use Rattle.jt_trees.specs.Expressions.{Text}
@@ -9,7 +10,7 @@ use Rattle.jt_chains.specs.Parts.{macros_view}
 use Rattle.jt_chains.specs.declared.linked.Home.{Home}
 use Rattle.jt_chains.specs.declared.linked.Page.{Page}
 use Rattle.jt_chains.specs.declared.parts.Macro.{Macro}
-use Rattle.jt_chains.proofs.Placed.{home_along, if_ok}
+use Rattle.jt_chains.proofs.Placed.{home_along}
 use Rattle.jt_chains.proofs.linked.Chain.macros.Goals as goal
 
 pub returns-in-Some-clause-there : goal.returns-in-Some-clause-there
@@ -19,5 +20,5 @@ returns-in-Some-clause-there c =
     let at : c.in-Some.found.now ≡ get_or self.homes.items c.args.home c.in-Some.found.now = subst (λ (z : List Home). c.in-Some.found.now ≡ get_or z c.args.home c.in-Some.found.now) c.deref.ensures.value c.in-Some.ensures.lookup.1 in
     let g : Text → Body → List MacroBody = macros_in in
     let along_is = home_along self.templates.items c.deref-in-Some.result.now self.homes.items c.args.home c.in-Some.found.now c.deref-in-Some-2.result.now c.deref-in-Some.ensures.value c.deref-in-Some-2.ensures.value lt at self.once self.whole g in
-    λ there. if_ok (λ (v : Vec Macro Global). macros_view (pages_view c.deref-in-Some.result.now) v.items ≡ along (pages_view c.deref-in-Some.result.now) g c.deref-in-Some-2.result.now) _ c.macros_at.result
+    λ there. IfOk-weaker c.macros_at.result (λ (v : Vec Macro Global). macros_view (pages_view c.deref-in-Some.result.now) v.items ≡ along (pages_view c.deref-in-Some.result.now) g c.deref-in-Some-2.result.now) _
     (λ v p. ap (λ (z : List Page). macros_view (pages_view z) v.items) (sym c.deref-in-Some.ensures.value) ∙ p ∙ along_is) c.macros_at.ensures

@@ -7,7 +7,7 @@ use Rattle.jt_trees.specs.ExpressionView.{expr_view}
 use Rattle.jt_trees.specs.Statements.{print}
 use Rattle.jt_parse.specs.Reading.{grown, state, then_one}
 use Rattle.jt_parse.specs.Gives.{state_view}
-use Rattle.jt_trees.proofs.StatementViews.{view-Print}
+use Rattle.jt_trees.proofs.StatementViews.{view_Print}
 use Rattle.jt_parse.proofs.Expressions.{after_refused, no_room, expression_over, one_left, fitting}
 use Rattle.jt_parse.proofs.parser.Parser.print_tag.Goals as goal
 
@@ -36,5 +36,5 @@ returns c =
       fitting (suc (length st.frames)) c.in_ok-levels.levels 100 (levels (expr_view c.in_ok-printed.printed))
           (one_left c.depth.result (length st.frames) 100 c.in_ok-levels.levels c.in_ok-levels.ensures.left.1 c.depth.ensures c.in_ok-levels.ensures.left.0) c.in_ok-printed.ensures.1,
       c.in_ok-printed.ensures.2,
-      ap (λ b. state b st.frames) (c.in_ok-push_statement.ensures.pushed ∙ ap (then_one st.body) (view-Print c.args.line c.in_ok-printed.printed)),
+      ap (λ b. state b st.frames) (c.in_ok-push_statement.ensures.pushed ∙ ap (then_one st.body) (view_Print c.args.line c.in_ok-printed.printed)),
     )

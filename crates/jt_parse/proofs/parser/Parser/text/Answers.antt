@@ -4,7 +4,7 @@ use Rattle.jt_trees.specs.Statements.{data_of}
 use Rattle.jt_parse.specs.Reading.{state, then_one}
 use Rattle.jt_parse.specs.Gives.{state_view}
 use Rattle.jt_parse.proofs.Steps.{text_none, text_some}
-use Rattle.jt_trees.proofs.StatementViews.{view-Data}
+use Rattle.jt_trees.proofs.StatementViews.{view_Data}
 use Rattle.jt_parse.proofs.parser.Parser.text.Goals as goal
 
 pub returns-then-is_empty : goal.returns-then-is_empty
@@ -15,4 +15,4 @@ returns c =
     let st = state_view c.args.self.now in
     let some : 0 < length c.args.text.now = grind (arith, nat_tests) in
     text_some 100 st _ c.args.text.now c.utf8.text some
-    (ap (λ b. state b st.frames) (c.in_ok-push_statement.ensures.pushed ∙ ap (then_one st.body) (view-Data c.in_ok-copy.copy ∙ ap data_of c.in_ok-copy.ensures)))
+    (ap (λ b. state b st.frames) (c.in_ok-push_statement.ensures.pushed ∙ ap (then_one st.body) (view_Data c.in_ok-copy.copy ∙ ap data_of c.in_ok-copy.ensures)))

@@ -1,4 +1,4 @@
-use Rattle.std.proofs.Common.{◌≡◌, ◌∙◌, ℕ, List, Option, Some, true, false, sym, subst}
+use Rattle.std.proofs.Common.{◌≡◌, ◌∙◌, ℕ, List, Some, true, false, sym, subst}
 use Rattle.std.specs.Prelude.{option_map, option_copied}
 use Rattle.jt_machine.specs.Session.{Session, is_lost, outcome_of}
 use Rattle.jt_machine.specs.View.{outcome_view}

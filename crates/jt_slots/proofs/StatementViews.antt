@@ -13,9 +13,7 @@ use Rattle.jt_slots.specs.declared.program.SStmt.{SStmt, the_lemmas, fold-roll-S
 use Rattle.jt_slots.specs.declared.program.SStmt.TheOpen.{SStmt-F}
 use Rattle.jt_slots.specs.declared.program.SStmt.TheVariants as s
 use Rattle.jt_slots.specs.declared.program.SStmt.TheVariants.{rolls-If, rolls-For, rolls-Capture}
-
-abbrev pub Entry : Type 0
-Entry = Option ℕ × SExpr
+use Rattle.jt_slots.proofs.ExpressionViews.{Entry}
 
 abbrev pub SBranch : Type 0
 SBranch = Place × SExpr × Vec SStmt Global
@@ -36,31 +34,31 @@ module _ (templates : List Text) where
       ∙ ap (λ (fs : List Front). shown b.0 b.1 fs rest) (r b)
       ∙ ap (λ (z : SBody ℕ). shown b.0 b.1 (map (stmt_view templates) b.2.items) z) (choice_map g p q r bs other slots.end)
 
-  pub view-If : (bs : Vec SBranch Global) (other : Vec SStmt Global) (behind : SBody ℕ) → stmt_view templates (s.If bs other) behind ≡ choice_view templates bs.items (body_view templates other.items) behind
-  view-If bs other behind =
+  pub view_If : (bs : Vec SBranch Global) (other : Vec SStmt Global) (behind : SBody ℕ) → stmt_view templates (s.If bs other) behind ≡ choice_view templates bs.items (body_view templates other.items) behind
+  view_If bs other behind =
       ap (λ (x : SStmt). stmt_view templates x behind) (sym (rolls-If bs other)) ∙ ap (λ (f : Front). f behind) (fold-roll-SStmt Front (stmt_step templates) (SStmt-F.If bs other))
       ∙ choice_map _ (λ b. refl) (λ b. refl) (λ b. refl) bs.items (body_view templates other.items) behind
 
-  pub view-For : (p : Place) (xs : Targets) (e : SExpr) (c : Option SExpr) (body other : Vec SStmt Global) (behind : SBody ℕ) → stmt_view templates (s.For p xs e c body other) behind
+  pub view_For : (p : Place) (xs : Targets) (e : SExpr) (c : Option SExpr) (body other : Vec SStmt Global) (behind : SBody ℕ) → stmt_view templates (s.For p xs e c body other) behind
       ≡ slots.stmt (slots.for_each (place_view templates p) (targets_view xs) (expr_view e) (option_map expr_view c) (body_view templates body.items slots.end) (body_view templates other.items slots.end)) behind
-  view-For p xs e c body other behind =
+  view_For p xs e c body other behind =
       ap (λ (x : SStmt). stmt_view templates x behind) (sym (rolls-For p xs e c body other)) ∙ ap (λ (f : Front). f behind) (fold-roll-SStmt Front (stmt_step templates) (SStmt-F.For p xs e c body other))
 
-  pub view-Capture : (escaping : Bool) (x : Slot) (body : Vec SStmt Global) (behind : SBody ℕ) → stmt_view templates (s.Capture escaping x body) behind ≡ slots.stmt (slots.capture escaping (slot_view x) (body_view templates body.items slots.end)) behind
-  view-Capture escaping x body behind =
+  pub view_Capture : (escaping : Bool) (x : Slot) (body : Vec SStmt Global) (behind : SBody ℕ) → stmt_view templates (s.Capture escaping x body) behind ≡ slots.stmt (slots.capture escaping (slot_view x) (body_view templates body.items slots.end)) behind
+  view_Capture escaping x body behind =
       ap (λ (z : SStmt). stmt_view templates z behind) (sym (rolls-Capture escaping x body)) ∙ ap (λ (f : Front). f behind) (fold-roll-SStmt Front (stmt_step templates) (SStmt-F.Capture escaping x body))
 
-  pub view-PutPooled : (i : ℕ) (behind : SBody ℕ) → stmt_view templates (s.PutPooled i) behind ≡ slots.stmt (slots.put_pooled i) behind
-  view-PutPooled i behind = search (rules, the_lemmas)
+  pub view_PutPooled : (i : ℕ) (behind : SBody ℕ) → stmt_view templates (s.PutPooled i) behind ≡ slots.stmt (slots.put_pooled i) behind
+  view_PutPooled i behind = search (rules, the_lemmas)
 
-  pub view-Print : (p : Place) (escaping : Bool) (e : SExpr) (behind : SBody ℕ) → stmt_view templates (s.Print p escaping e) behind ≡ slots.stmt (slots.print (place_view templates p) escaping (expr_view e)) behind
-  view-Print p escaping e behind = search (rules, the_lemmas)
+  pub view_Print : (p : Place) (escaping : Bool) (e : SExpr) (behind : SBody ℕ) → stmt_view templates (s.Print p escaping e) behind ≡ slots.stmt (slots.print (place_view templates p) escaping (expr_view e)) behind
+  view_Print p escaping e behind = search (rules, the_lemmas)
 
-  pub view-Assign : (p : Place) (xs : Targets) (e : SExpr) (behind : SBody ℕ) → stmt_view templates (s.Assign p xs e) behind ≡ slots.stmt (slots.assign (place_view templates p) (targets_view xs) (expr_view e)) behind
-  view-Assign p xs e behind = search (rules, the_lemmas)
+  pub view_Assign : (p : Place) (xs : Targets) (e : SExpr) (behind : SBody ℕ) → stmt_view templates (s.Assign p xs e) behind ≡ slots.stmt (slots.assign (place_view templates p) (targets_view xs) (expr_view e)) behind
+  view_Assign p xs e behind = search (rules, the_lemmas)
 
-  pub view-Run : (u : ℕ) (es : Vec Entry Global) (behind : SBody ℕ) → stmt_view templates (s.Run u es) behind ≡ slots.stmt (slots.run u (row_view es.items none)) behind
-  view-Run u es behind = search (rules, the_lemmas)
+  pub view_Run : (u : ℕ) (es : Vec Entry Global) (behind : SBody ℕ) → stmt_view templates (s.Run u es) behind ≡ slots.stmt (slots.run u (row_view es.items none)) behind
+  view_Run u es behind = search (rules, the_lemmas)
 
   -- ---- one statement or one branch more
 

@@ -9,9 +9,8 @@ use Rattle.jt_trees.specs.StatementView.{names_view, stmt_view, body_view, branc
 use Rattle.jt_trees.specs.declared.expression.Expr.{Expr}
 use Rattle.jt_trees.specs.declared.statement.Stmt.{Stmt}
 use Rattle.jt_trees.specs.declared.statement.Stmt.TheVariants.{If, For}
-use Rattle.jt_uses.proofs.Left.{Branch, statements_left, branches_left}
-use Rattle.jt_uses.proofs.Shown.{shown_For}
-use Rattle.jt_uses.proofs.Views.{view-If}
+use Rattle.jt_trees.proofs.Left.{Branch, statements_left, branches_left}
+use Rattle.jt_trees.proofs.StatementViews.{view_If, view_For}
 
 -- what one statement, statements, and branches give
 module _ {A : Type 0} (f : trees.Stmt → List A) (F : Body → List A) (G : Branches → List A) where
@@ -36,7 +35,7 @@ module _ {A : Type 0} (f : trees.Stmt → List A) (F : Body → List A) (G : Bra
       g ∙ ap (λ l. l ++ F (body_view other')) e ∙ append_assoc old (G (branches_view bs')) (F (body_view other'))
       ∙ ap (λ (x : List Branch). old ++ (G (branches_view x) ++ F (body_view other'))) p
       ∙ ap (λ (x : List Stmt). old ++ (G (branches_view bs.items) ++ F (body_view x))) q
-      ∙ ap (λ l. old ++ l) (sym (cons (branches_view bs.items) (body_view other.items)) ∙ ap f (sym (view-If bs other) ∙ ap stmt_view (sym is)))
+      ∙ ap (λ l. old ++ l) (sym (cons (branches_view bs.items) (body_view other.items)) ∙ ap f (sym (view_If bs other) ∙ ap stmt_view (sym is)))
 
   -- the body of a loop, and then its else part
   pub loop_added : ((l : ℕ) (xs : List expressions.Text) (e : expressions.Expr) (c : Option expressions.Expr) (a b : Body) → f (trees.for_each l xs e c a b) ≡ F a ++ F b)
@@ -47,4 +46,4 @@ module _ {A : Type 0} (f : trees.Stmt → List A) (F : Body → List A) (G : Bra
       ∙ ap (λ (x : List Stmt). old ++ (F (body_view x) ++ F (body_view other'))) p
       ∙ ap (λ (x : List Stmt). old ++ (F (body_view body.items) ++ F (body_view x))) q
       ∙ ap (λ l. old ++ l)
-      (sym (cons line (names_view xs.items) (expr_view e) (option_map expr_view c) (body_view body.items) (body_view other.items)) ∙ ap f (sym (shown_For line xs e c body other) ∙ ap stmt_view (sym is)))
+      (sym (cons line (names_view xs.items) (expr_view e) (option_map expr_view c) (body_view body.items) (body_view other.items)) ∙ ap f (sym (view_For line xs e c body other) ∙ ap stmt_view (sym is)))

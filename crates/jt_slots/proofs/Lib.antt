@@ -1,0 +1,2 @@
+pub mod ExpressionViews
+pub mod StatementViews
