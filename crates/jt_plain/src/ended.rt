@@ -5,10 +5,9 @@ use jt_filters::OpError;
 use jt_value::{Fault, NoMemory, ValueError};
 use std::alloc::{AllocError, AllocFailed};
 
-/// The end of a run: done, a fault, a number that did not suffice, a state that has no next one, or a growth that was refused.
+/// The end of a run without a text: a fault, a number that did not suffice, a state that has no next one, or a growth that was refused.
 #[derive(Clone, Copy)]
 pub enum End {
-    Done,
     Fault(Fault),
     Spent(Spent),
     Wrong,
@@ -16,24 +15,44 @@ pub enum End {
 }
 
 impl From<NoMemory> for End {
+    ghost use Rattle.std.specs.Prelude.{◌≡◌};
+    ghost use Rattle.jt_plain.specs.declared.ended.End.TheVariants.{Refused};
+
+    ghost from_gives = { λ _ e. e ≡ Refused };
+
     fn from(_refused: NoMemory) -> End {
         End::Refused
     }
 }
 
 impl From<AllocError> for End {
+    ghost use Rattle.std.specs.Prelude.{◌≡◌};
+    ghost use Rattle.jt_plain.specs.declared.ended.End.TheVariants.{Refused};
+
+    ghost from_gives = { λ _ e. e ≡ Refused };
+
     fn from(_refused: AllocError) -> End {
         End::Refused
     }
 }
 
 impl<T: Drop> From<AllocFailed<T>> for End {
+    ghost use Rattle.std.specs.Prelude.{◌≡◌};
+    ghost use Rattle.jt_plain.specs.declared.ended.End.TheVariants.{Refused};
+
+    ghost from_gives = { λ _ e. e ≡ Refused };
+
     fn from(_refused: AllocFailed<T>) -> End {
         End::Refused
     }
 }
 
 impl From<ValueError> for End {
+    ghost use Rattle.std.specs.Prelude.{◌≡◌};
+    ghost use Rattle.jt_plain.specs.Ends.{end_of_value};
+
+    ghost from_gives = { λ error e. e ≡ end_of_value error };
+
     fn from(error: ValueError) -> End {
         match error {
             ValueError::Fault(fault) => End::Fault(fault),
@@ -43,6 +62,11 @@ impl From<ValueError> for End {
 }
 
 impl From<OpError> for End {
+    ghost use Rattle.std.specs.Prelude.{◌≡◌};
+    ghost use Rattle.jt_plain.specs.Ends.{end_of_operation};
+
+    ghost from_gives = { λ error e. e ≡ end_of_operation error };
+
     fn from(error: OpError) -> End {
         match error {
             OpError::Fault(fault) => End::Fault(fault),

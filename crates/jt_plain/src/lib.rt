@@ -1,6 +1,8 @@
-//! A plain machine for tests, beside which the machine is run. It has no contract: what it comes to is what it is for.
+//! A plain machine for tests, beside which the machine is run. What it comes to is for the tests, and no contract
+//! says it: only that a text is within the output that the budget allows.
 #![tactic(auto)]
 
+mod buffers;
 mod ended;
 mod loops;
 mod machine;

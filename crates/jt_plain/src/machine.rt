@@ -4,6 +4,11 @@
 //! It keeps every value that was made, and is told of one by its place among them: what holds no value is let go for nothing, so the
 //! prover has little to do.
 
+ghost use Rattle.std.specs.Prelude.{◌≤◌, IfOk, OnOk};
+ghost use Rattle.std.specs.String.{string_len};
+ghost use Rattle.jt_plain.specs.Output.{most};
+
+use crate::buffers::Buffers;
 use crate::ended::End;
 use crate::loops::Loop;
 use jt_budget::{Budget, Spent};
@@ -32,7 +37,18 @@ pub(crate) struct Activation {
     entries: Vec<Entry>,
 }
 
-/// A run between two instructions.
+/// What an instruction leaves to do, beyond what it did to the values: nothing, a text to put, a capture to open or to close, or
+/// nothing more in the whole run.
+#[derive(Drop)]
+enum Next {
+    GoOn,
+    Put(String),
+    Open,
+    Close { is_markup: bool },
+    Done,
+}
+
+/// A run between two instructions, but for its output.
 #[derive(Drop)]
 pub(crate) struct Plain<'a> {
     pub(crate) alloc: Global,
@@ -41,20 +57,22 @@ pub(crate) struct Plain<'a> {
     pub(crate) values: Vec<Value>,
     pub(crate) loops: Vec<Loop>,
     globals: Vec<usize>,
-    buffers: Vec<String>,
     pub(crate) left: Budget,
 }
 
-/// The text of a run of an image, or how it ends without one.
+/// The text of a run of an image, or how it ends without one. The text has at most as many bytes as the budget allows to put; that it
+/// is the machine's is for the tests to show.
 pub fn plain_end(
     alloc: Global,
     image: &Image,
     context: &Context,
     budget: Budget,
-) -> Result<String, End> {
+) -> Result<String, End>
+    ensures within { IfOk result (λ text. string_len text ≤ budget.output) }
+{
     let mut plain = begun(alloc, image, budget)?;
     plain.bind(context)?;
-    carried_on(plain, budget.fuel)
+    carried_on(plain, Buffers::new(alloc, budget.output), budget.fuel)
 }
 
 // A run at its first instruction, where no name has a value.
@@ -73,25 +91,36 @@ fn begun(alloc: Global, image: &Image, budget: Budget) -> Result<Plain<'_>, End>
         values: vec![in alloc; Value::Undefined]?,
         loops: Vec::new(alloc),
         globals: undefined(alloc, usize::from(image.globals()))?,
-        buffers: vec![in alloc; String::new(alloc)]?,
         left: budget,
     })
 }
 
 // The end of a run: an instruction costs at least 1, so there is one after as many steps as there is fuel and one more.
-fn carried_on(plain: Plain<'_>, fuel: u64) -> Result<String, End> {
+fn carried_on(plain: Plain<'_>, buffers: Buffers, fuel: u64) -> Result<String, End>
+    ensures { IfOk result (λ text. string_len text ≤ most buffers) }
+{
     let mut plain = plain;
-    let mut ended = Ok(());
+    let mut buffers = buffers;
     for _ in 0..=fuel {
-        if ended.is_ok() {
-            ended = plain.step();
+        if turn(&mut plain, &mut buffers)? {
+            return Ok(buffers.text);
         }
     }
-    match (ended, plain.buffers.pop()) {
-        (Err(End::Done), Some(text)) => Ok(text),
-        (Err(end), _) => Err(end),
-        (Ok(()), _) => Err(End::Wrong),
+    Err(End::Wrong)
+}
+
+// One instruction with what it puts, and whether it was the last one.
+fn turn(plain: &mut Plain<'_>, buffers: &mut Buffers) -> Result<bool, End>
+    ensures { OnOk result (most buffers.new ≤ most buffers.old) }
+{
+    match plain.step()? {
+        Next::GoOn => {}
+        Next::Put(text) => buffers.put(&text)?,
+        Next::Open => buffers.open(plain.alloc)?,
+        Next::Close { is_markup } => plain.push_captured(buffers.close()?, is_markup)?,
+        Next::Done => return Ok(true),
     }
+    Ok(false)
 }
 
 fn undefined(alloc: Global, count: usize) -> Result<Vec<usize>, End> {
@@ -128,25 +157,32 @@ impl Plain<'_> {
         Ok(())
     }
 
-    fn step(&mut self) -> Result<(), End> {
+    fn step(&mut self) -> Result<Next, End> {
         let running = self.running()?;
         let (unit, point) = (running.unit, running.point);
         running.point = point.saturating_add(1);
         let instruction = self.image.instruction(unit, point).ok_or(End::Wrong)?;
+        match instruction {
+            Instruction::Emit { flag } => self.emit(flag == 1),
+            Instruction::Data { constant } => self.data(constant as usize),
+            Instruction::CaptureBegin => self.begin_capture(),
+            Instruction::CaptureEnd { flag } => self.end_capture(flag == 1),
+            Instruction::Return => self.come_back(),
+            _ => {
+                self.act(instruction)?;
+                Ok(Next::GoOn)
+            }
+        }
+    }
+
+    // An instruction that puts nothing, and that does not end the run.
+    fn act(&mut self, instruction: Instruction) -> Result<(), End> {
         match instruction {
             Instruction::Jump { target } => self.jump(target),
             Instruction::JumpIfFalse { target } => self.branch(target, false),
             Instruction::JumpIfTrue { target } => self.branch(target, true),
             Instruction::LoopNext { target } => self.next_turn(target),
             Instruction::Call { unit } => self.call(unit as usize),
-            Instruction::Return => self.come_back(),
-            _ => self.act(instruction),
-        }
-    }
-
-    // An instruction behind which the next one follows.
-    fn act(&mut self, instruction: Instruction) -> Result<(), End> {
-        match instruction {
             Instruction::Const { constant } => self.constant(constant as usize),
             Instruction::Load { local } => self.load(local as usize),
             Instruction::Store { local } => self.store(local as usize),
@@ -154,10 +190,6 @@ impl Plain<'_> {
             Instruction::GStore { global } => self.store_global(global as usize),
             Instruction::Drop => self.let_go(),
             Instruction::Dup => self.double(),
-            Instruction::Emit { flag } => self.emit(flag == 1),
-            Instruction::Data { constant } => self.data(constant as usize),
-            Instruction::CaptureBegin => self.begin_capture(),
-            Instruction::CaptureEnd { flag } => self.end_capture(flag == 1),
             _ => self.make(instruction),
         }
     }
@@ -331,23 +363,11 @@ impl Plain<'_> {
         self.push_at(place)
     }
 
-    // Puts a text into the innermost buffer.
-    fn put(&mut self, text: &str) -> Result<(), End> {
-        let bytes = text.len() as u64;
-        if bytes > self.left.output {
-            return Err(End::Spent(Spent::Output));
-        }
-        self.left.output -= bytes;
-        self.buffers.last_mut().ok_or(End::Wrong)?.push_str(text)?;
-        Ok(())
-    }
-
-    fn emit(&mut self, escaping: bool) -> Result<(), End> {
+    fn emit(&mut self, escaping: bool) -> Result<Next, End> {
         let place = self.pop()?;
         let cost = 1 + self.value(place)?.size() / 64;
         self.pay(cost)?;
-        let text = self.printed(place, escaping)?;
-        self.put(&text)
+        Ok(Next::Put(self.printed(place, escaping)?))
     }
 
     // What a value prints as.
@@ -362,27 +382,30 @@ impl Plain<'_> {
         Ok(escaped)
     }
 
-    fn data(&mut self, index: usize) -> Result<(), End> {
+    fn data(&mut self, index: usize) -> Result<Next, End> {
         self.pay(1)?;
         match self.image.constant(index) {
-            Some(ConstantRef::Text(text)) => self.put(text),
+            Some(ConstantRef::Text(text)) => Ok(Next::Put(String::from_str(self.alloc, text)?)),
             _ => Err(End::Wrong),
         }
     }
 
-    fn begin_capture(&mut self) -> Result<(), End> {
+    fn begin_capture(&mut self) -> Result<Next, End> {
         self.pay(1)?;
         self.push_entry(Entry::Capture)?;
-        self.buffers.push(String::new(self.alloc))?;
-        Ok(())
+        Ok(Next::Open)
     }
 
-    fn end_capture(&mut self, is_markup: bool) -> Result<(), End> {
+    fn end_capture(&mut self, is_markup: bool) -> Result<Next, End> {
         let Entry::Capture = self.pop_entry()? else {
             return Err(End::Wrong);
         };
         self.pay(1)?;
-        let text = self.buffers.pop().ok_or(End::Wrong)?;
+        Ok(Next::Close { is_markup })
+    }
+
+    // Puts a captured text on top, where it fits.
+    fn push_captured(&mut self, text: String, is_markup: bool) -> Result<(), End> {
         let value = if is_markup {
             Value::from_markup(text)?
         } else {
@@ -412,18 +435,19 @@ impl Plain<'_> {
     }
 
     // Back to the caller with what the unit gives, or the end of the run.
-    fn come_back(&mut self) -> Result<(), End> {
+    fn come_back(&mut self) -> Result<Next, End> {
         self.pay(1)?;
         let given = self.running()?.entries.pop();
         self.activations.pop();
         if self.activations.is_empty() {
-            return Err(End::Done);
+            return Ok(Next::Done);
         }
         self.left.depth = self.left.depth.saturating_add(1);
         match given {
-            None => Ok(()),
-            Some(Entry::Value(place)) => self.push_at(place),
-            Some(_) => Err(End::Wrong),
+            None => {}
+            Some(Entry::Value(place)) => self.push_at(place)?,
+            Some(_) => return Err(End::Wrong),
         }
+        Ok(Next::GoOn)
     }
 }
