@@ -13,7 +13,7 @@ use Rattle.jt_image.specs.Code.{Constant, undefined, nothing, truth_value, numbe
 use Rattle.jt_image.specs.Spelling.{magic, version, name_bytes, constant_bytes, header_bytes, wire_of, instruction_bytes, spelling}
 use Rattle.jt_image.specs.IsCode.{IsName, IsConstant, IsSection, total_len, HasEntry, IsCode, max_count, max_locals, max_instructions, max_bytes}
 use Rattle.jt_image.specs.Reading.{is_used, may_follow}
-use Rattle.jt_image.specs.Parts.{AreInOrder, IsUnitInOrder, HasTables, KeepsLimits, IsRefusal, Finds, IsWritable, IsHeld, Starts, IsShort}
+use Rattle.jt_image.specs.Parts.{AreInOrder, IsUnitInOrder, HasTables, KeepsLimits, IsRefusal, IsWritable, IsHeld, Starts, IsShort}
 use Rattle.jt_image.proofs.Found.{AllGood, wide16, wide32, wide64}
 use Rattle.jt_image.proofs.Sound.{IsNamed, code_bytes}
 use Rattle.jt_image.proofs.Whole.{are_names, ascend, distinct, HasFirst}
@@ -217,15 +217,3 @@ refused_for k BadText is r = absurd r
 
 pub only_memory : (o : Option Code) (k : Code) (e : ImageError) → o ≡ Some k → IsCode k → IsRefusal e o → e ≡ NoMemory
 only_memory o k e is code r = refused_for k e code (subst (λ (p : Option Code). IsRefusal e p) is r)
-
--- a refusal of a part is one of the whole
-pub finds_along : {X Y V W : Type 0} (view : X → Y) (seen : V → W) (e : ImageError) (o : Option Y) (p : Option W) → Finds view (Err e) o → (o ≡ None → p ≡ None) → Finds seen (Err e) p
-finds_along view seen BadOpcode o p f h = h f
-finds_along view seen NoMemory o p f h = tt
-finds_along view seen BadTable o p f h = f
-finds_along view seen LimitPassed o p f h = f
-finds_along view seen BadMagic o p f h = f
-finds_along view seen BadVersion o p f h = f
-finds_along view seen Truncated o p f h = f
-finds_along view seen Trailing o p f h = f
-finds_along view seen BadText o p f h = f

@@ -1,6 +1,6 @@
 -- The spelling of a code is read as that code.
 use Rattle.std.proofs.Common.{◌≡◌, ℕ, ◌+◌, ◌<◌, ◌≤◌, ◌^◌, Bool, true, false, cond, ltb, leb, eqb, List, [], ◌∷◌, ◌++◌, length, map, take, drop, Option, Some, None, Result, Ok, Err, refl, sym, ap, subst, ◌∙◌, arith, append_assoc}
-use Rattle.std.specs.Prelude.{ℤ, ◌==◌, ◌&&◌, ◌||◌, ◌≢◌, not, nat_lt, nat_le, IsUtf8, IfOk, MatchResult, MatchOption}
+use Rattle.std.specs.Prelude.{ℤ, ◌==◌, ◌&&◌, ◌||◌, ◌≢◌, not, nat_lt, nat_le, IsUtf8, MatchResult, MatchOption}
 use Rattle.std.specs.Int.{w16, w32, w64, to_le_bytes, cast_signed, cast_unsigned}
 use Rattle.std.specs.List.{flat_map, AllByRecursion}
 use Rattle.std.specs.Str.{bytes_eq}
@@ -20,9 +20,9 @@ use Rattle.jt_image.specs.Spelling.{magic, version, name_bytes, constant_bytes, 
 use Rattle.jt_image.specs.IsCode.{IsName, Ascend, AreDistinct, IsConstant, IsInstruction, IsSection, total_len, HasEntry, IsCode, max_locals, max_instructions, max_bytes}
 use Rattle.jt_image.specs.Reading.{◌>>=◌, Gives, check, number_at, byte_at, text_at, is_used, may_follow, slot_at, name_text_at, name_at, names_at, long_text_at, constant_of, constant_at, constants_at, Header, header_total, is_first, parameters_at, kind_at, locals_at, len_at, header_of, header_at, headers_at, known, known_of, instruction_of, instruction_at, instructions_at, section_of, section_at, sections_at, magic_at, start_at, units_at, all_names_at, all_constants_at, code_of}
 use Rattle.jt_image.proofs.ReaderParts.{header_total-push, is_first-push, is_used-push}
-use Rattle.jt_image.proofs.Found.{IsBytes, all_at, wide16, wide32, wide64, AllGood}
+use Rattle.jt_image.proofs.Found.{wide16, wide32, wide64, AllGood}
 use Rattle.jt_image.proofs.Sound.{wire_from, good_instruction, IsFree, IsNext, IsNamed, short_bytes, long_bytes, IsPlain, IsHeader, head_bytes, code_bytes, head_of, HasCode}
-use Rattle.jt_image.proofs.Whole.{IsSpelledBy, code_found, may_follow-push, AreNames, good_constant, AreConstants, good_header, HasFirst, AreUnits, units_bytes, head_spelled, length-map_of}
+use Rattle.jt_image.proofs.Whole.{may_follow-push, AreNames, good_constant, AreConstants, good_header, HasFirst, AreUnits, units_bytes, head_spelled, length-map_of}
 use Rattle.jt_image.proofs.Again.{number_again, text_again, bind_again, many_again, each_again}
 
 -- a test that holds
@@ -392,26 +392,21 @@ code_again k h =
 
 -- ---- what decode says
 
--- what is read from the bytes is spelled so
-pub is_found : (bytes : List ℕ) (r : Result Code ImageError) → IsBytes bytes → Gives (λ k. k) r (code_of bytes) → IfOk r (λ k. IsCode k × (bytes ≡ spelling k))
-is_found bytes (Ok k) fits e = all_at (code_of bytes) (IsSpelledBy bytes) k e (code_found bytes fits)
-is_found bytes (Err d) fits e = tt
-
 -- where there is a code, it is answered, unless memory ran out
 no_fault : (k : Code) (d : ImageError) (read : Result Code ImageError) → read ≡ Ok k → read ≡ Err d → ⊥
 no_fault k d read e f = cc
 
-pub is_only : (k : Code) (r read : Result Code ImageError) → read ≡ Ok k → Gives (λ k. k) r read → MatchResult r (λ i. i ≡ k) (λ e. e ≡ NoMemory)
-is_only k (Ok i) read e g = same (sym g ∙ e)
+pub is_only : {X : Type 0} (view : X → Code) (k : Code) (r : Result X ImageError) (read : Result Code ImageError) → read ≡ Ok k → Gives view r read → MatchResult r (λ x. view x ≡ k) (λ e. e ≡ NoMemory)
+is_only view k (Ok x) read e g = same (sym g ∙ e)
   where
     same : {x y : Code} → (let a : Result Code ImageError = Ok x in a ≡ Ok y) → x ≡ y
     same e = cc
-is_only k (Err NoMemory) read e g = refl
-is_only k (Err BadMagic) read e g = absurd (no_fault k BadMagic read e g)
-is_only k (Err BadVersion) read e g = absurd (no_fault k BadVersion read e g)
-is_only k (Err Truncated) read e g = absurd (no_fault k Truncated read e g)
-is_only k (Err Trailing) read e g = absurd (no_fault k Trailing read e g)
-is_only k (Err BadText) read e g = absurd (no_fault k BadText read e g)
-is_only k (Err BadOpcode) read e g = absurd (no_fault k BadOpcode read e g)
-is_only k (Err BadTable) read e g = absurd (no_fault k BadTable read e g)
-is_only k (Err LimitPassed) read e g = absurd (no_fault k LimitPassed read e g)
+is_only view k (Err NoMemory) read e g = refl
+is_only view k (Err BadMagic) read e g = absurd (no_fault k BadMagic read e g)
+is_only view k (Err BadVersion) read e g = absurd (no_fault k BadVersion read e g)
+is_only view k (Err Truncated) read e g = absurd (no_fault k Truncated read e g)
+is_only view k (Err Trailing) read e g = absurd (no_fault k Trailing read e g)
+is_only view k (Err BadText) read e g = absurd (no_fault k BadText read e g)
+is_only view k (Err BadOpcode) read e g = absurd (no_fault k BadOpcode read e g)
+is_only view k (Err BadTable) read e g = absurd (no_fault k BadTable read e g)
+is_only view k (Err LimitPassed) read e g = absurd (no_fault k LimitPassed read e g)

@@ -12,7 +12,7 @@ use Rattle.jt_image.specs.Code.{Section}
 use Rattle.jt_image.specs.Spelling.{wire_of, wire_bytes, instruction_bytes}
 use Rattle.jt_image.specs.IsCode.{IsInstruction}
 use Rattle.jt_image.specs.Reading.{◌>>=◌, Header, known, known_of, instruction_of, instruction_at, instructions_at, section_of, section_at}
-use Rattle.jt_image.specs.InPlace.{answered, instructions_in, fields_in}
+use Rattle.jt_image.specs.InPlace.{read_or, instructions_in, fields_in}
 use Rattle.jt_image.proofs.Found.{IsBytes, AllOk, all_at, Many, many_found, wide16, wide32}
 use Rattle.jt_image.proofs.Sound.{wire_at, instruction_found, good_instruction, all_instructions, many_count}
 use Rattle.jt_image.proofs.Complete.{small_wire, wired}
@@ -20,9 +20,9 @@ use Rattle.jt_image.proofs.Complete.{small_wire, wired}
 abbrev Read : Type 0
 Read = Result (List Instruction × List ℕ) ImageError
 
-pub is_answered : (r : Read) (is : List Instruction) (rest : List ℕ) → r ≡ Ok (is, rest) → r ≡ Ok (answered r, rest)
+pub is_answered : (r : Read) (is : List Instruction) (rest : List ℕ) → r ≡ Ok (is, rest) → r ≡ Ok (read_or [] r, rest)
 is_answered r is rest e =
-    let back : is ≡ answered r = sym (ap answered e) in
+    let back : is ≡ read_or [] r = sym (ap (λ (q : Read). read_or [] q) e) in
     e ∙ ap (λ (js : List Instruction). let o : Read = Ok (js, rest) in o) back
 
 pub place_gives : (h : Header) (bytes rest : List ℕ) → instructions_at h.len bytes ≡ Ok (instructions_in h.len bytes, rest) → section_at h bytes ≡ Ok (section_of h (instructions_in h.len bytes), rest)
@@ -93,7 +93,7 @@ at_point (i ∷ is) rest (suc p) h lt =
 pub placed : (n p : ℕ) (bytes : List ℕ) → IsBytes bytes → length (instructions_in n bytes) ≡ n → p < n → IsAt bytes p (slice_get (instructions_in n bytes) p)
 placed n p bytes fits len lt = by_answer (instructions_at n bytes) (many_found (λ _. instruction_at) instruction_bytes good_instruction (λ before bytes fits. instruction_found bytes fits) n [] bytes fits) len
   where
-    by_answer : (r : Read) → AllOk r (Many instruction_bytes good_instruction n [] bytes) → length (answered r) ≡ n → IsAt bytes p (slice_get (answered r) p)
+    by_answer : (r : Read) → AllOk r (Many instruction_bytes good_instruction n [] bytes) → length (read_or [] r) ≡ n → IsAt bytes p (slice_get (read_or [] r) p)
     by_answer (Err e) h len = absurd (omega (arith, len, lt))
     by_answer (Ok x) m len =
         let here = at_point m.more x.1 p (all_instructions [] m.more m.all) (omega (arith, m.count, lt)) in

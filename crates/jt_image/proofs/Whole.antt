@@ -202,7 +202,7 @@ magic_found bytes fits =
     let same : take 4 bytes ≡ magic = (bytes_eq-Decides (take 4 bytes) magic).0 e in
     record { parts = sym (take-append-drop 4 bytes) ∙ ap (λ (t : List ℕ). t ++ drop 4 bytes) same; fits = IsBytes-drop 4 bytes fits }))
 
-start_found : (bytes : List ℕ) → IsBytes bytes → AllOk (start_at bytes) (λ rest. Takes bytes (magic ++ to_le_bytes w16 version) rest)
+pub start_found : (bytes : List ℕ) → IsBytes bytes → AllOk (start_at bytes) (λ rest. Takes bytes (magic ++ to_le_bytes w16 version) rest)
 unfolding start_at
 start_found bytes fits =
     let P : List ℕ → Type 0 = λ rest. Takes bytes (magic ++ to_le_bytes w16 version) rest in

@@ -4,10 +4,9 @@ pub mod IsCode
 pub mod Reading
 pub mod View
 pub mod HeaderView
-pub mod ImageView
 pub mod Readers
 pub mod InPlace
-pub mod Viewed
+pub mod Held
 pub mod Ids
 pub mod Effect
 pub mod Typed

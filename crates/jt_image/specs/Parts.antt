@@ -7,7 +7,7 @@ use Rattle.jt_image.specs.declared.error.ImageError.TheVariants.{BadMagic, BadVe
 use Rattle.jt_image.specs.declared.parts.Unit as given
 use Rattle.jt_image.specs.declared.parts.Parts.{Parts}
 use Rattle.jt_image.specs.Code.{Constant, undefined, nothing, truth_value, number, text, markup, Name, Section, Code}
-use Rattle.jt_image.specs.View.{names_view, constants_view}
+use Rattle.jt_image.specs.View.{names_view, constants_view, units_view, IsKnownUnit}
 use Rattle.jt_image.specs.Spelling.{spelling}
 use Rattle.jt_image.specs.IsCode.{Ascend, AreDistinct, IsInstruction, HasEntry, total_len, max_count, max_locals, max_instructions, max_bytes}
 use Rattle.jt_image.specs.Reading.{instruction_of}
@@ -83,18 +83,13 @@ IsRefusal BadText k = ⊥
 
 -- ---- what the checks say of the parts of a code
 
--- what was found, seen by view, is there; BadOpcode says that there is none
-abbrev pub Finds : {X Y : Type 0} → (X → Y) → Result X ImageError → Option Y → Type 0
-Finds view (Ok x) found = found ≡ Some (view x)
-Finds view (Err BadOpcode) found = found ≡ None
-Finds view (Err NoMemory) found = Unit {0}
-Finds view (Err BadTable) found = ⊥
-Finds view (Err LimitPassed) found = ⊥
-Finds view (Err BadMagic) found = ⊥
-Finds view (Err BadVersion) found = ⊥
-Finds view (Err Truncated) found = ⊥
-Finds view (Err Trailing) found = ⊥
-Finds view (Err BadText) found = ⊥
+-- the code that the parts are seen as, whatever their instructions are
+abbrev pub code_seen : Parts → Code
+code_seen p = code_with p (units_view p.units.items)
+
+-- each of the instructions is one
+abbrev pub AreKnown : List given.Unit → Type 0
+AreKnown us = AllByRecursion IsKnownUnit us
 
 -- the numbers of a unit and of its instructions fit their fields
 pub record IsWritable (u : Section) : Type 0 where

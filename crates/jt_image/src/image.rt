@@ -2,10 +2,10 @@
 ghost use Rattle.std.specs.Prelude.{◌≡◌, length, option_map, slice_get};
 ghost use Rattle.jt_image.specs.IsCode.{IsCode, total_len};
 ghost use Rattle.jt_image.specs.Readers.{constant_ref_view, header_of, instruction_at};
-ghost use Rattle.jt_image.specs.View.{constant_view};
 
 use crate::code::{Code, ConstantRef, UnitHeader};
 use crate::instruction::Instruction;
+use crate::places::Places;
 use std::marker::Model;
 
 /// A constant.
@@ -19,110 +19,63 @@ pub enum Constant {
     Markup(String),
 }
 
-impl Constant {
-    /// The constant, with its text lent.
-    fn lent(&self) -> ConstantRef<'_>
-        ensures { constant_ref_view result ≡ constant_view self.now }
-    {
-        match self {
-            Constant::Undefined => ConstantRef::Undefined,
-            Constant::None => ConstantRef::None,
-            Constant::Bool(truth) => ConstantRef::Bool(*truth),
-            Constant::Int(number) => ConstantRef::Int(*number),
-            Constant::Text(text) => ConstantRef::Text(text.as_str()),
-            Constant::Markup(text) => ConstantRef::Markup(text.as_str()),
-        }
-    }
-}
-
-/// A unit: its numbers and its instructions.
-#[derive(Drop)]
-pub(crate) struct Section {
-    pub(crate) parameters: u8,
-    pub(crate) kind: u8,
-    pub(crate) locals: u16,
-    pub(crate) code: Vec<Instruction>,
-}
-
-/// An image. Its names are slots of globals, each with its name.
+/// An image: the bytes that spell its code. Texts and instructions are read from them as they are asked for.
 #[derive(Drop)]
 pub struct Image {
-    pub(crate) globals: u16,
-    pub(crate) names: Vec<(u16, String)>,
-    pub(crate) constants: Vec<Constant>,
-    pub(crate) units: Vec<Section>,
-    pub(crate) instructions: u32,
+    pub(crate) bytes: Vec<u8>,
+    pub(crate) places: Places,
 }
 
 impl Model for Image {
-    ghost use Rattle.std.specs.Prelude.{◌≡◌};
     ghost use Rattle.jt_image.specs.Code.{Code};
 
     ghost Value = { Code };
 
-    ghost use Rattle.jt_image.specs.ImageView.{code_view};
-    ghost use Rattle.jt_image.specs.IsCode.{IsCode, total_len};
+    ghost use Rattle.jt_image.specs.InPlace.{Spells};
+    ghost use Rattle.jt_image.specs.Held.{image_code};
 
-    ghost view = { code_view };
+    ghost view = { image_code };
 
-    ghost invariant = { λ i. IsCode (code_view i)
-        × (i.instructions ≡ total_len (code_view i).units) };
+    ghost invariant = { λ i. Spells i.bytes.items i.places };
 }
 
 impl Code for Image {
     ghost code = { λ i. i };
 
     fn globals(&self) -> u16 {
-        self.globals
+        self.places.globals
     }
 
     fn names(&self) -> usize {
-        self.names.len()
+        self.places.names.len()
     }
 
     fn name(&self, index: usize) -> Option<(u16, &str)> {
-        match self.names.get(index) {
-            Some(name) => Some((name.0, name.1.as_str())),
-            None => None,
-        }
+        self.places.name(&self.bytes, index)
     }
 
     fn constants(&self) -> usize {
-        self.constants.len()
+        self.places.constants.len()
     }
 
     fn constant(&self, index: usize) -> Option<ConstantRef<'_>> {
-        match self.constants.get(index) {
-            Some(constant) => Some(constant.lent()),
-            None => None,
-        }
+        self.places.constant(&self.bytes, index)
     }
 
     fn units(&self) -> usize {
-        self.units.len()
+        self.places.units.len()
     }
 
     fn unit(&self, unit: usize) -> Option<UnitHeader> {
-        match self.units.get(unit) {
-            Some(section) => Some(UnitHeader {
-                parameters: section.parameters,
-                kind: section.kind,
-                locals: section.locals,
-                instructions: section.code.len(),
-            }),
-            None => None,
-        }
+        self.places.unit(&self.bytes, unit)
     }
 
     fn instruction(&self, unit: usize, point: usize) -> Option<Instruction> {
-        match self.units.get(unit) {
-            Some(section) => section.code.get(point).copied(),
-            None => None,
-        }
+        self.places.instruction(&self.bytes, unit, point)
     }
 
     fn instructions(&self) -> usize {
-        self.instructions as usize
+        self.places.instructions as usize
     }
 }
 

@@ -5,84 +5,66 @@ ghost use Rattle.jt_image.specs.Readers.{constant_ref_view, header_of, instructi
 
 use crate::code::{Code, ConstantRef, UnitHeader};
 use crate::instruction::Instruction;
-use crate::places::{Place, instruction_in};
+use crate::places::Places;
 use std::marker::Model;
 
-/// A code in place: it borrows the bytes that spell it. Texts and instructions are read from them as they are asked for.
+/// A code in place: it borrows the bytes that spell it.
 #[derive(Drop)]
 pub struct View<'a> {
-    pub(crate) globals: u16,
-    pub(crate) names: Vec<(u16, &'a str)>,
-    pub(crate) constants: Vec<ConstantRef<'a>>,
-    pub(crate) units: Vec<Place<'a>>,
-    pub(crate) instructions: u32,
+    pub(crate) bytes: &'a [u8],
+    pub(crate) places: Places,
 }
 
 impl<'a> Model for View<'a> {
-    ghost use Rattle.std.specs.Prelude.{◌≡◌};
-    ghost use Rattle.std.specs.List.{AllByRecursion};
     ghost use Rattle.jt_image.specs.Code.{Code};
 
     ghost Value = { Code };
 
-    ghost use Rattle.jt_image.specs.InPlace.{IsPlace};
-    ghost use Rattle.jt_image.specs.Viewed.{viewed};
-    ghost use Rattle.jt_image.specs.IsCode.{IsCode, total_len};
+    ghost use Rattle.jt_image.specs.InPlace.{Spells};
+    ghost use Rattle.jt_image.specs.Held.{view_code};
 
-    ghost view = { viewed };
+    ghost view = { view_code };
 
-    ghost invariant = { λ v. IsCode (viewed v) × (v.instructions ≡ total_len (viewed v).units)
-        × AllByRecursion IsPlace v.units.items };
+    ghost invariant = { λ v. Spells v.bytes.now v.places };
 }
 
 impl<'a> Code for View<'a> {
     ghost code = { λ v. v };
 
     fn globals(&self) -> u16 {
-        self.globals
+        self.places.globals
     }
 
     fn names(&self) -> usize {
-        self.names.len()
+        self.places.names.len()
     }
 
     fn name(&self, index: usize) -> Option<(u16, &str)> {
-        self.names.get(index).copied()
+        self.places.name(self.bytes, index)
     }
 
     fn constants(&self) -> usize {
-        self.constants.len()
+        self.places.constants.len()
     }
 
     fn constant(&self, index: usize) -> Option<ConstantRef<'_>> {
-        self.constants.get(index).copied()
+        self.places.constant(self.bytes, index)
     }
 
     fn units(&self) -> usize {
-        self.units.len()
+        self.places.units.len()
     }
 
     fn unit(&self, unit: usize) -> Option<UnitHeader> {
-        match self.units.get(unit) {
-            Some(place) => Some(UnitHeader {
-                parameters: place.parameters,
-                kind: place.kind,
-                locals: place.locals,
-                instructions: place.len as usize,
-            }),
-            None => None,
-        }
+        self.places.unit(self.bytes, unit)
     }
 
     fn instruction(&self, unit: usize, point: usize) -> Option<Instruction> {
-        match self.units.get(unit) {
-            Some(place) => instruction_in(place.len, place.code, point),
-            None => None,
-        }
+        self.places.instruction(self.bytes, unit, point)
     }
 
     fn instructions(&self) -> usize {
-        self.instructions as usize
+        self.places.instructions as usize
     }
 }
 

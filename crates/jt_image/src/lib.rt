@@ -3,7 +3,6 @@
 
 mod assembling;
 mod code;
-mod copying;
 mod decoding;
 mod encoding;
 mod error;
@@ -17,6 +16,9 @@ mod limits;
 mod loop_field;
 mod parts;
 mod places;
+mod reading;
+mod sections;
+mod spelling;
 mod tables;
 mod units;
 mod viewing;

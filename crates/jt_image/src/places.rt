@@ -1,109 +1,96 @@
-//! Units in place: where the instructions of each one begin.
-ghost use Rattle.std.specs.Prelude.{◌≡◌, ◌<◌, ◌≤◌, length, IfOk, Some, slice_get};
-ghost use Rattle.jt_image.specs.HeaderView.{header_view, headers_view};
-ghost use Rattle.jt_image.specs.InPlace.{instructions_in, place_view, places_view, IsPlace, fields_in};
-ghost use Rattle.jt_image.specs.IsCode.{total_len};
-ghost use Rattle.std.specs.List.{AllByRecursion};
-ghost use Rattle.jt_image.specs.Reading.{Gives, instructions_at, section_at, sections_at, units_at};
+//! Where the parts of an image stand in its bytes, and how they are read there.
+ghost use Rattle.std.specs.Prelude.{◌≡◌, ◌≤◌, List, [], length, take, drop, option_map, slice_get, IsUtf8, Some};
+ghost use Rattle.std.specs.Int.{w16, w32, w64, from_le_bytes, cast_signed};
+ghost use Rattle.jt_image.specs.Code.{undefined};
+ghost use Rattle.jt_image.specs.Readers.{constant_ref_view, header_of, instruction_at};
+ghost use Rattle.jt_image.specs.Reading.{text_at, long_text_at, constant_of};
+ghost use Rattle.jt_image.specs.InPlace.{IsRead, read_or, name_in, HasName, constant_in, HasConstant, section_in, HasUnit, fields_in, code_in, AreThere};
 
-use crate::error::ImageError;
-use crate::fields::u16_at;
+use crate::code::{ConstantRef, UnitHeader};
+use crate::fields::{u16_in, u32_in, u64_in};
 use crate::instruction::Instruction;
-use crate::units::{Header, headers_at, instruction_at};
 use crate::wire::Instr;
-use std::alloc::Global;
 
 /// How many bytes an instruction takes.
 const INSTRUCTION_BYTES: usize = 8;
 
-/// A unit: its numbers, and the bytes that begin with its instructions.
+/// A unit: its numbers, and where its instructions begin.
 #[derive(Clone, Copy, Drop)]
-pub(crate) struct Place<'a> {
+pub(crate) struct Place {
     pub(crate) parameters: u8,
     pub(crate) kind: u8,
     pub(crate) locals: u16,
     pub(crate) len: u32,
-    pub(crate) code: &'a [u8],
+    pub(crate) start: u32,
 }
 
-/// Units, and how many instructions they have together.
+/// Where the parts of an image stand in its bytes. Names and constants begin at these places.
 #[derive(Drop)]
-pub(crate) struct Places<'a> {
-    pub(crate) items: Vec<Place<'a>>,
+pub(crate) struct Places {
+    pub(crate) globals: u16,
+    pub(crate) names: Vec<u32>,
+    pub(crate) constants: Vec<u32>,
+    pub(crate) units: Vec<Place>,
     pub(crate) instructions: u32,
 }
 
-// the bytes behind that many instructions
-fn behind_instructions(count: u32, bytes: &[u8]) -> Result<&[u8], ImageError>
-    ensures { Gives (λ rest. (instructions_in count bytes.now, rest.now)) result
-        (instructions_at count bytes.now) }
+// that many bytes, which were found to be a text
+fn text_in(len: usize, bytes: &[u8]) -> &str
+    requires { IsRead (text_at len bytes.now) }
+    ensures { result.now ≡ take len bytes.now }
 {
-    let mut rest = bytes;
-    'code: for _ in 0..count {
-        let (_, after) = instruction_at(rest)?;
-        rest = after;
-    }
-    Ok(rest)
+    let (front, _) = bytes.split_at(len);
+    // SAFETY: the reader tested these bytes
+    unsafe { str::from_utf8_unchecked(front) }
 }
 
-#[tactic(auto, unfolding(crate::specs::Reading::section_at))]
-fn place_at<'a>(header: &Header, bytes: &'a [u8]) -> Result<(Place<'a>, &'a [u8]), ImageError>
-    ensures gives { Gives (λ x. (place_view x.0, x.1.now)) result
-        (section_at (header_view header.now) bytes.now) }
-    ensures whole { IfOk result (λ x. IsPlace x.0) }
+// a text behind its length
+fn long_text_in(bytes: &[u8]) -> &str
+    requires { IsRead (long_text_at bytes.now) }
+    ensures { result.now ≡ read_or [] (long_text_at bytes.now) }
 {
-    let rest = behind_instructions(header.len, bytes)?;
-    let place = Place {
-        parameters: header.parameters,
-        kind: header.kind,
-        locals: header.locals,
-        len: header.len,
-        code: bytes,
-    };
-    Ok((place, rest))
+    let len = u32_in(bytes);
+    let (_, rest) = bytes.split_at(4);
+    text_in(len as usize, rest)
 }
 
-fn places_at<'a>(
-    alloc: Global,
-    headers: &[Header],
-    bytes: &'a [u8],
-) -> Result<(Vec<Place<'a>>, &'a [u8]), ImageError>
-    ensures gives { Gives (λ x. (places_view x.0.items, x.1.now)) result
-        (sections_at (headers_view headers.now) bytes.now) }
-    ensures whole { IfOk result (λ x. AllByRecursion IsPlace x.0.items) }
+/// The slot and the name at a place.
+pub(crate) fn name_in(bytes: &[u8], at: u32) -> (u16, &str)
+    requires { HasName bytes.now at }
+    ensures { record { slot = result.0; text = result.1.now } ≡ name_in bytes.now at }
 {
-    let mut places: Vec<Place<'a>> = Vec::new(alloc);
-    let mut rest = bytes;
-    'places: for header in headers {
-        let (place, after) = place_at(header, rest)?;
-        places.push(place)?;
-        rest = after;
-    }
-    Ok((places, rest))
+    let (_, front) = bytes.split_at(at as usize);
+    let slot = u16_in(front);
+    let (_, rest) = front.split_at(2);
+    let len = u16_in(rest);
+    let (_, rest) = rest.split_at(2);
+    (slot, text_in(len as usize, rest))
 }
 
-/// The units, and how many instructions they have.
-#[tactic(auto, unfolding(crate::specs::Reading::units_at))]
-pub(crate) fn all_places_at<'a>(
-    alloc: Global,
-    bytes: &'a [u8],
-) -> Result<(Places<'a>, &'a [u8]), ImageError>
-    ensures gives { Gives (λ x. (places_view x.0.items.items, x.1.now)) result
-        (units_at bytes.now) }
-    ensures total { IfOk result (λ x. x.0.instructions ≡ total_len (places_view x.0.items.items)) }
-    ensures whole { IfOk result (λ x. AllByRecursion IsPlace x.0.items.items) }
+#[tactic(auto, unfolding(crate::specs::Reading::constant_of))]
+fn constant_with(tag: u8, rest: &[u8]) -> ConstantRef<'_>
+    requires { IsRead (constant_of tag rest.now) }
+    ensures { constant_ref_view result ≡ read_or undefined (constant_of tag rest.now) }
 {
-    let (count, rest) = u16_at(bytes)?;
-    if count == 0 {
-        return Err(ImageError::BadTable);
+    match tag {
+        0 => ConstantRef::Undefined,
+        1 => ConstantRef::None,
+        2 => ConstantRef::Bool(false),
+        3 => ConstantRef::Bool(true),
+        4 => ConstantRef::Int(u64_in(rest).cast_signed()),
+        5 => ConstantRef::Text(long_text_in(rest)),
+        6 => ConstantRef::Markup(long_text_in(rest)),
+        _ => unreachable!(),
     }
-    let (headers, rest) = headers_at(alloc, count, rest)?;
-    let (items, rest) = places_at(alloc, &headers.items, rest)?;
-    let places = Places {
-        items,
-        instructions: headers.total,
-    };
-    Ok((places, rest))
+}
+
+fn constant_in(bytes: &[u8], at: u32) -> ConstantRef<'_>
+    requires { HasConstant bytes.now at }
+    ensures { constant_ref_view result ≡ constant_in bytes.now at }
+{
+    let (_, front) = bytes.split_at(at as usize);
+    let (_, rest) = front.split_at(1);
+    constant_with(front[0], rest)
 }
 
 fn fields_of(front: &[u8]) -> Instr
@@ -118,23 +105,67 @@ fn fields_of(front: &[u8]) -> Instr
     }
 }
 
-/// The instruction at a point that there is, of so many that the bytes begin with.
-pub(crate) fn instruction_below(len: u32, code: &[u8], point: usize) -> Instruction
-    requires whole { length (instructions_in len code.now) ≡ len }
-    requires below { point < len }
-    ensures { slice_get (instructions_in len code.now) point ≡ Some result }
+fn instruction_in(bytes: &[u8], unit: &Place, point: usize) -> Option<Instruction>
+    requires { HasUnit bytes.now unit.now }
+    ensures { result ≡ slice_get (section_in bytes.now unit.now).code point }
 {
-    let (_, front) = code.split_at(INSTRUCTION_BYTES * point);
-    fields_of(front).known()
-}
-
-/// The instruction at a point, of so many that the bytes begin with.
-pub(crate) fn instruction_in(len: u32, code: &[u8], point: usize) -> Option<Instruction>
-    requires { length (instructions_in len code.now) ≡ len }
-    ensures { result ≡ slice_get (instructions_in len code.now) point }
-{
-    if point >= len as usize {
+    if point >= unit.len as usize {
         return None;
     }
-    Some(instruction_below(len, code, point))
+    let (_, code) = bytes.split_at(unit.start as usize);
+    let (_, front) = code.split_at(INSTRUCTION_BYTES * point);
+    Some(fields_of(front).known())
+}
+
+impl Places {
+    /// The slot of a global, and its name.
+    pub(crate) fn name<'a>(&self, bytes: &'a [u8], index: usize) -> Option<(u16, &'a str)>
+        requires { AreThere bytes.now self.now }
+        ensures { option_map (λ n. record { slot = n.0; text = n.1.now }) result
+            ≡ slice_get (code_in bytes.now self.now).names index }
+    {
+        match self.names.get(index) {
+            Some(at) => Some(name_in(bytes, *at)),
+            None => None,
+        }
+    }
+
+    /// A constant.
+    pub(crate) fn constant<'a>(&self, bytes: &'a [u8], index: usize) -> Option<ConstantRef<'a>>
+        requires { AreThere bytes.now self.now }
+        ensures { option_map constant_ref_view result
+            ≡ slice_get (code_in bytes.now self.now).constants index }
+    {
+        match self.constants.get(index) {
+            Some(at) => Some(constant_in(bytes, *at)),
+            None => None,
+        }
+    }
+
+    /// The numbers of a unit.
+    pub(crate) fn unit(&self, bytes: &[u8], unit: usize) -> Option<UnitHeader>
+        requires { AreThere bytes.now self.now }
+        ensures { result ≡ option_map header_of (slice_get (code_in bytes.now self.now).units unit) }
+    {
+        match self.units.get(unit) {
+            Some(place) => Some(UnitHeader {
+                parameters: place.parameters,
+                kind: place.kind,
+                locals: place.locals,
+                instructions: place.len as usize,
+            }),
+            None => None,
+        }
+    }
+
+    /// An instruction of a unit.
+    pub(crate) fn instruction(&self, bytes: &[u8], unit: usize, point: usize) -> Option<Instruction>
+        requires { AreThere bytes.now self.now }
+        ensures { result ≡ instruction_at (code_in bytes.now self.now) unit point }
+    {
+        match self.units.get(unit) {
+            Some(place) => instruction_in(bytes, place, point),
+            None => None,
+        }
+    }
 }
