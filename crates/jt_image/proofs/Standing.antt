@@ -1,22 +1,26 @@
 -- What stands at places of an image's bytes: why it is there once it was read, and what it says of the bytes.
-use Rattle.std.proofs.Common.{◌≡◌, ℕ, ◌+◌, ◌-◌, ◌*◌, ◌<◌, ◌≤◌, ◌^◌, Bool, true, false, cond, ltb, eqb, List, [], ◌∷◌, ◌++◌, length, take, drop, map, get_or, Option, Result, Ok, Err, refl, sym, ap, subst, ◌∙◌, arith, append_assoc}
-use Rattle.std.specs.Prelude.{IsUtf8, slice_get}
+use Rattle.std.proofs.Common.{◌≡◌, ℕ, ◌+◌, ◌-◌, ◌<◌, ◌≤◌, ◌^◌, Bool, true, false, cond, ltb, List, [], ◌∷◌, ◌++◌, length, take, drop, get_or, Result, Ok, Err, refl, sym, ap, subst, ◌∙◌, arith, append_assoc}
+use Rattle.std.specs.Prelude.{IsUtf8}
 use Rattle.std.specs.Int.{Width, w16, w32, w64, byte_len, from_le_bytes, to_le_bytes, cast_signed}
-use Rattle.std.specs.List.{AllByRecursion}
 use Rattle.std.specs.Str.{is_utf8}
 use Rattle.std.proofs.lemmas.Str.{IsUtf8-from_is_utf8}
 use Rattle.std.proofs.lemmas.Bool.{ltb-false}
-use Rattle.std.proofs.lemmas.List.{length-append, length-drop, drop-drop, drop_at}
+use Rattle.std.proofs.lemmas.List.{length-append, length-drop, length-map, drop-drop, drop_at}
 use Rattle.jt_image.specs.declared.error.ImageError.{ImageError}
 use Rattle.jt_image.specs.declared.error.ImageError.TheVariants.{Truncated, BadText}
 use Rattle.jt_image.specs.declared.instruction.Instruction.{Instruction}
-use Rattle.jt_image.specs.Code.{Constant, undefined, number, text, markup, Name, Section}
-use Rattle.jt_image.specs.Spelling.{magic, version, name_bytes, instruction_bytes}
-use Rattle.jt_image.specs.Reading.{◌>>=◌, check, number_at, text_at, name_at, long_text_at, constant_of, constant_at, instruction_at, instructions_at, Header, header_at, headers_at, header_total, is_first, start_at}
-use Rattle.jt_image.specs.InPlace.{IsRead, read_or, bare_name_at, name_in, HasName, constant_in, HasConstant, instructions_in, AreLast}
-use Rattle.jt_image.proofs.Found.{Read, AllOk, all_at, IsBytes, IsBytes-drop, Takes, IsWide, number_found, Many, many_found, wide16}
+use Rattle.jt_image.specs.declared.version.Version.{Version}
+use Rattle.jt_image.specs.declared.version.Version.TheVariants as version
+use Rattle.jt_image.specs.Code.{Constant, undefined, number, text, markup, Name, Spot}
+use Rattle.jt_image.specs.Spelling.{magic, version_number, name_bytes, instruction_bytes, template_bytes}
+use Rattle.jt_image.specs.Reading.{◌>>=◌, check, number_at, text_at, name_at, long_text_at, constant_of, constant_at, instruction_at, instructions_at, Header, header_at, headers_at, header_total, is_first, start_at, template_at, all_templates_at, spots_at, Back, back_at, Fails}
+use Rattle.jt_image.specs.InPlace.{IsRead, read_or, bare_text_at, template_in, templates_in, HasTemplate, bare_name_at, name_in, HasName, constant_in, HasConstant, AreLast}
+use Rattle.jt_image.proofs.Found.{Read, all_at, IsBytes, IsBytes-drop, Takes, IsWide, number_found, Many, many_found, wide16}
 use Rattle.jt_image.proofs.Sound.{short_bytes, IsNamed, name_found, constant_found, instruction_found, good_instruction, head_bytes, header_found}
-use Rattle.jt_image.proofs.Whole.{good_header, start_found}
+use Rattle.jt_image.proofs.Whole.{good_header}
+use Rattle.jt_image.proofs.WholeCode.{start_found}
+use Rattle.jt_image.proofs.Behind.{IsNextText, template_found, AreTexts, templates_bytes, templates_found}
+use Rattle.jt_image.proofs.Loop.{Fails-along}
 use Rattle.jt_image.proofs.Again.{number_again, text_again, bind_again}
 
 -- ---- the last bytes
@@ -79,6 +83,30 @@ name_step globals before bytes rest n after small fits h e =
       last = takes_last bytes rest (name_bytes n) after found.0 h;
     }
 
+-- ---- templates
+
+bare_text_again : (t rest : List ℕ) → length t < 2 ^ 16 → IsUtf8 t → bare_text_at (template_bytes t ++ rest) ≡ Ok (t, rest)
+unfolding bare_text_at
+bare_text_again t rest len utf8 =
+    ap bare_text_at (append_assoc (to_le_bytes w16 (length t)) t rest)
+    ∙ bind_again (number_at w16 (to_le_bytes w16 (length t) ++ (t ++ rest))) (λ len. text_at len.0 len.1) (length t) (t ++ rest) (Ok (t, rest)) (number_again w16 (2 ^ 16) wide16 (length t) (t ++ rest) len) (text_again t rest utf8)
+
+pub record TemplateStep (bytes rest t after : List ℕ) : Type 0 where
+  pub there : HasTemplate bytes (length bytes - length rest)
+  pub is : template_in bytes (length bytes - length rest) ≡ t
+  pub last : AreLast bytes after
+
+pub template_step : (before : List (List ℕ)) (bytes rest t after : List ℕ) → IsBytes bytes → AreLast bytes rest → template_at before rest ≡ Ok (t, after) → TemplateStep bytes rest t after
+template_step before bytes rest t after fits h e =
+    let found = all_at (template_at before rest) (λ x. Takes rest (template_bytes x.0) x.1 × IsNextText before x.0) (t, after) e (template_found before rest (last_fits bytes rest fits h)) in
+    let bare : bare_text_at rest ≡ Ok (t, after) = ap bare_text_at found.0.parts ∙ bare_text_again t after found.1.fits found.1.utf8 in
+    let here = there bare_text_at bytes rest t after h bare in
+    record {
+      there = is_read (bare_text_at (drop (length bytes - length rest) bytes)) t after here;
+      is = read_as [] (bare_text_at (drop (length bytes - length rest) bytes)) t after here;
+      last = takes_last bytes rest (template_bytes t) after found.0 h;
+    }
+
 -- ---- constants
 
 pub record ConstantStep (bytes rest : List ℕ) (x : Constant) (after : List ℕ) : Type 0 where
@@ -111,6 +139,7 @@ number_read {B} w bytes f h = by (ltb (length bytes) (byte_len w)) refl h
   where
     x : ℕ × List ℕ
     x = (from_le_bytes w (take (byte_len w) bytes), drop (byte_len w) bytes)
+
     by : (b : Bool) → ltb (length bytes) (byte_len w) ≡ b → IsRead (cond b (Err Truncated) (Ok x) >>= f) → (byte_len w ≤ length bytes) × ((number_at w bytes >>= f) ≡ f x)
     by true e g = absurd g
     by false e g = (ltb-false _ _ e, rw e refl)
@@ -217,5 +246,51 @@ headers_last n bytes rest hs after fits h e =
     let m = all_at (headers_at n rest) (Many head_bytes good_header n [] rest) (hs, after) e (many_found header_at head_bytes good_header (λ before bytes fits. header_found (is_first before) (header_total before) bytes fits) n [] rest (last_fits bytes rest fits h)) in
     takes_last bytes rest _ after m.takes h
 
-pub start_last : (bytes rest : List ℕ) → IsBytes bytes → start_at bytes ≡ Ok rest → AreLast bytes rest
-start_last bytes rest fits e = takes_last bytes bytes _ rest (all_at (start_at bytes) (λ r. Takes bytes (magic ++ to_le_bytes w16 version) r) rest e (start_found bytes fits)) (all_last bytes)
+pub start_last : (bytes : List ℕ) (v : Version) (rest : List ℕ) → IsBytes bytes → start_at bytes ≡ Ok (v, rest) → AreLast bytes rest
+start_last bytes v rest fits e = takes_last bytes bytes _ rest (all_at (start_at bytes) (λ x. Takes bytes (magic ++ to_le_bytes w16 (version_number x.0)) x.1) (v, rest) e (start_found bytes fits)) (all_last bytes)
+
+pub all_templates_last : (bytes rest : List ℕ) (ts : List (List ℕ)) (after : List ℕ) → IsBytes bytes → AreLast bytes rest → all_templates_at rest ≡ Ok (ts, after) → AreLast bytes after
+all_templates_last bytes rest ts after fits h e =
+    let found = all_at (all_templates_at rest) (λ x. Takes rest (templates_bytes x.0) x.1 × AreTexts x.0) (ts, after) e (templates_found rest (last_fits bytes rest fits h)) in
+    takes_last bytes rest (templates_bytes ts) after found.0 h
+
+-- a text behind a short length
+pub record TemplateParts (bytes : List ℕ) : Type 0 where
+  pub long : 2 ≤ length bytes
+  pub text : IsRead (text_at (from_le_bytes w16 (take 2 bytes)) (drop 2 bytes))
+  pub is : read_or [] (bare_text_at bytes) ≡ take (from_le_bytes w16 (take 2 bytes)) (drop 2 bytes)
+
+pub template_read : (bytes : List ℕ) → IsRead (bare_text_at bytes) → TemplateParts bytes
+unfolding bare_text_at
+template_read bytes h =
+    let one = number_read w16 bytes (λ len. text_at len.0 len.1) h in
+    let text : IsRead (text_at (from_le_bytes w16 (take 2 bytes)) (drop 2 bytes)) = subst (λ (r : Read (List ℕ)). IsRead r) one.1 h in
+    record { long = one.0; text = text; is = ap (λ (r : Read (List ℕ)). read_or [] r) one.1 ∙ text_answer (from_le_bytes w16 (take 2 bytes)) (drop 2 bytes) text }
+
+-- ---- what stands behind the instructions in version 2
+
+module _ (n : ℕ) (bytes front places rest : List ℕ) where
+  counted : length (templates_in bytes places) ≡ length places
+  counted = length-map places (template_in bytes)
+
+  abbrev back_of : List Spot × List ℕ → Result (Back × List ℕ) ImageError
+  back_of ss = Ok (record { templates = templates_in bytes places; spots = ss.0 }, ss.1)
+
+  read_on : all_templates_at front ≡ Ok (templates_in bytes places, rest) → back_at version.Two n front ≡ (spots_at (length places) n rest >>= back_of)
+  unfolding back_at
+  read_on e =
+      ap (λ (r : Read (List (List ℕ))). r >>= λ ts. spots_at (length ts.0) n ts.1 >>= λ ss. Ok (record { templates = ts.0; spots = ss.0 }, ss.1)) e
+      ∙ ap (λ (k : ℕ). spots_at k n rest >>= back_of) counted
+
+  pub back_gives : (after : List ℕ) → all_templates_at front ≡ Ok (templates_in bytes places, rest) → spots_at (length places) n rest ≡ Ok (read_or [] (spots_at (length places) n rest), after) → AreLast bytes rest
+      → back_at version.Two n front ≡ Ok (record { templates = templates_in bytes places; spots = read_or [] (spots_at (length places) n (drop (length bytes - length rest) bytes)) }, after)
+  back_gives after e f h =
+      read_on e ∙ ap (λ (r : Read (List Spot)). r >>= back_of) f
+      ∙ ap (λ (b : List ℕ). back_of (read_or [] (spots_at (length places) n b), after)) (sym h.are)
+
+  pub back_fails : (d : ImageError) → all_templates_at front ≡ Ok (templates_in bytes places, rest) → Fails d (spots_at (length places) n rest) → Fails d (back_at version.Two n front)
+  back_fails d e f = Fails-along d (spots_at (length places) n rest) (back_at version.Two n front) f (λ g. read_on e ∙ ap (λ (r : Read (List Spot)). r >>= back_of) g)
+
+pub templates_fail : (n : ℕ) (front : List ℕ) (d : ImageError) → Fails d (all_templates_at front) → Fails d (back_at version.Two n front)
+unfolding back_at
+templates_fail n front d f = Fails-along d (all_templates_at front) (back_at version.Two n front) f (λ g. ap (λ (r : Read (List (List ℕ))). r >>= λ ts. spots_at (length ts.0) n ts.1 >>= λ ss. Ok (record { templates = ts.0; spots = ss.0 }, ss.1)) g)

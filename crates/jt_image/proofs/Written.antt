@@ -1,9 +1,8 @@
 -- What assembling needs of the parts of a code.
-use Rattle.std.proofs.Common.{◌≡◌, ◌∙◌, ℕ, zero, suc, ◌<◌, ◌^◌, List, [], ◌∷◌, ◌++◌, length, map, get_or, Option, Some, None, refl, sym, ap, arith}
+use Rattle.std.proofs.Common.{◌≡◌, ℕ, zero, suc, ◌<◌, ◌^◌, List, [], ◌∷◌, length, map, get_or, Option, Some, None, refl, ap, arith}
 use Rattle.std.specs.Prelude.{option_map, unwrap_or}
 use Rattle.std.specs.Option.{IsSome}
-use Rattle.std.specs.List.{flat_map, AllByRecursion}
-use Rattle.std.proofs.lemmas.List.Concat.{flat_map-cons}
+use Rattle.std.specs.List.{AllByRecursion}
 use Rattle.jt_image.specs.declared.instruction.Instruction.{Instruction}
 use Rattle.jt_image.specs.declared.instruction.Instruction.TheVariants as op
 use Rattle.jt_image.specs.declared.parts.Unit as given
@@ -13,7 +12,7 @@ use Rattle.jt_image.specs.IsCode.{IsInstruction, total_len}
 use Rattle.jt_image.specs.Parts.{in_front, each_of, section_of_unit, AreKnown}
 use Rattle.jt_image.specs.Reading.{instruction_of}
 use Rattle.jt_image.specs.Spelling.{wire_bytes, instruction_bytes}
-use Rattle.jt_image.specs.View.{instruction_view, unit_view, units_view}
+use Rattle.jt_image.specs.View.{instruction_view, units_view}
 use Rattle.jt_image.proofs.Sound.{wire_from}
 
 -- what holds of all that is seen holds at an index

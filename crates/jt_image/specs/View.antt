@@ -1,5 +1,5 @@
 -- What contracts see of the parts from which an image is assembled.
-use Rattle.std.specs.Prelude.{◌≡◌, ℕ, List, map, String, string_bytes, unwrap_or}
+use Rattle.std.specs.Prelude.{ℕ, List, map, String, string_bytes, unwrap_or}
 use Rattle.std.specs.List.{AllByRecursion}
 use Rattle.std.specs.Option.{IsSome}
 use Rattle.std.specs.declared.alloc.Global.{Global}
@@ -9,6 +9,7 @@ use Rattle.jt_image.specs.declared.instruction.Instruction.{Instruction}
 use Rattle.jt_image.specs.declared.instruction.Instruction.TheVariants as op
 use Rattle.jt_image.specs.declared.image.Constant.{Constant}
 use Rattle.jt_image.specs.declared.image.Constant.TheVariants as constant
+use Rattle.jt_image.specs.declared.parts.Spot as spot
 use Rattle.jt_image.specs.declared.parts.Unit as given
 use Rattle.jt_image.specs.declared.wire.Instr.{Instr}
 
@@ -43,3 +44,13 @@ units_view us = map unit_view us
 -- each instruction of the unit is one
 abbrev pub IsKnownUnit : given.Unit → Type 0
 IsKnownUnit u = AllByRecursion (λ w. IsSome (instruction_of w)) u.code.items
+
+-- the texts
+abbrev pub texts_view : List (String Global) → List (List ℕ)
+texts_view ts = map string_bytes ts
+
+abbrev pub spot_view : spot.Spot → code.Spot
+spot_view s = record { template = s.template; line = s.line }
+
+abbrev pub spots_view : List spot.Spot → List code.Spot
+spots_view ss = map spot_view ss

@@ -2,23 +2,28 @@
 ghost use Rattle.std.specs.Prelude.{◌≡◌, ◌+◌, ◌-◌, ◌*◌, ◌<◌, ◌≤◌, ◌^◌, ◌↔◌, ◌&&◌, min, not, nat_lt, List, length, string_bytes, IsTrue, IsUtf8, IfOk, IfErr, MatchResult, Some, None, Ok, Err, false};
 ghost use Rattle.std.specs.List.{flat_map, AllByRecursion};
 ghost use Rattle.jt_image.specs.Code.{Code};
-ghost use Rattle.jt_image.specs.View.{names_view, constant_view, constants_view, unit_view, units_view, IsKnownUnit};
-ghost use Rattle.jt_image.specs.IsCode.{total_len, max_count, max_locals, max_instructions, max_bytes, IsCode};
-ghost use Rattle.jt_image.specs.Spelling.{name_bytes, constant_bytes};
-ghost use Rattle.jt_image.specs.Reading.{instruction_of, is_used, may_follow, IsTable};
-ghost use Rattle.jt_image.specs.Parts.{each_of, section_of_unit, code_of_parts, code_seen, AreKnown, AreInOrder, IsUnitInOrder, KeepsLimits, IsRefusal, IsWritable, IsHeld, Starts, IsShort};
+ghost use Rattle.jt_image.specs.View.{names_view, constant_view, constants_view, unit_view, units_view, texts_view, spot_view, spots_view, IsKnownUnit};
+ghost use Rattle.jt_image.specs.IsCode.{total_len, max_count, max_locals, max_instructions, max_bytes, IsSpot, IsPlaced, IsCode};
+ghost use Rattle.jt_image.specs.Spelling.{name_bytes, constant_bytes, template_bytes, place_bytes};
+ghost use Rattle.jt_image.specs.Reading.{instruction_of, is_used, may_follow, may_follow_texts, IsTable};
+ghost use Rattle.jt_image.specs.Parts.{each_of, section_of_unit, code_of_parts, code_seen, AreKnown, AreInOrder, IsUnitInOrder, AreTemplates, KeepsLimits, IsRefusal, IsWritable, IsHeld, Starts, IsShort, IsShortText};
 ghost use Rattle.jt_image.specs.declared.error.ImageError.TheVariants.{LimitPassed, NoMemory};
 
+use crate::back::is_line;
 use crate::error::ImageError;
 use crate::image::{Constant, Image};
 use crate::limits::{MAX_BYTES, MAX_COUNT, MAX_INSTRUCTIONS, MAX_LOCALS};
-use crate::parts::{Parts, Unit};
+use crate::parts::{Parts, Spot, Unit};
 use crate::reading::read;
 use crate::spelling::spelled;
+use crate::version::Version;
 use std::alloc::{AllocError, Global};
 
 // magic, version, globals and three counts
 const FIXED_BYTES: usize = 14;
+
+// a spot's template and line
+const SPOT_BYTES: usize = 6;
 
 // whether each instruction of the unit is one
 fn is_known(unit: &Unit) -> bool
@@ -102,12 +107,54 @@ fn constants_len(constants: &[Constant]) -> usize
     len
 }
 
+// how many bytes the templates take, as for the names
+fn templates_len(templates: &[String]) -> usize
+    ensures len { result
+        ≡ min (length (flat_map template_bytes (texts_view templates.now))) (2 ^ 64 - 1) }
+    ensures utf8 { AllByRecursion IsUtf8 (texts_view templates.now) }
+{
+    let mut len: usize = 0;
+    'templates: for template in templates {
+        let text = template.as_str();
+        len = len.saturating_add(text.len()).saturating_add(2);
+    }
+    len
+}
+
+// how many bytes stand behind the instructions
+fn places_len(parts: &Parts) -> usize
+    ensures len { result
+        ≡ min (length (place_bytes parts.now.version (texts_view parts.now.templates.items)
+        (spots_view parts.now.spots.items))) (2 ^ 64 - 1) }
+    ensures utf8 { AllByRecursion IsUtf8 (texts_view parts.now.templates.items) }
+{
+    let templates = templates_len(&parts.templates);
+    match parts.version {
+        Version::One => 0,
+        Version::Two => templates
+            .saturating_add(parts.spots.len().saturating_mul(SPOT_BYTES))
+            .saturating_add(2),
+    }
+}
+
 fn texts_fit(names: &[(u16, String)]) -> bool
     ensures { IsTrue result
         ↔ AllByRecursion (λ n. length n.text ≤ max_count) (names_view names.now) }
 {
     'names: for name in names {
         if name.1.len() > MAX_COUNT {
+            return false;
+        }
+    }
+    true
+}
+
+fn templates_fit(templates: &[String]) -> bool
+    ensures { IsTrue result
+        ↔ AllByRecursion (λ t. length t ≤ max_count) (texts_view templates.now) }
+{
+    'templates: for template in templates {
+        if template.len() > MAX_COUNT {
             return false;
         }
     }
@@ -136,26 +183,36 @@ fn is_small(tables: usize, units: usize, instructions: u32) -> bool
     tables <= MAX_BYTES && FIXED_BYTES + tables + code <= MAX_BYTES
 }
 
+fn fields_fit(parts: &Parts) -> bool
+    ensures { IsTrue result
+        ↔ (AllByRecursion (λ n. length n.text ≤ max_count) (names_view parts.now.names.items)
+        × AllByRecursion (λ t. length t ≤ max_count) (texts_view parts.now.templates.items)
+        × AllByRecursion (λ u. u.locals ≤ max_locals) (units_view parts.now.units.items)) }
+{
+    texts_fit(&parts.names) && templates_fit(&parts.templates) && locals_fit(&parts.units)
+}
+
 fn keeps_limits(parts: &Parts, instructions: u32) -> bool
     requires counted { instructions ≡ total_len (units_view parts.now.units.items) }
     requires within { instructions ≤ max_instructions }
     ensures kept { IsTrue result ↔ KeepsLimits (code_seen parts.now) }
     ensures utf8 { AllByRecursion (λ n. IsUtf8 n.text) (names_view parts.now.names.items) }
     ensures held { AllByRecursion IsHeld (constants_view parts.now.constants.items) }
+    ensures templates { AllByRecursion IsUtf8 (texts_view parts.now.templates.items) }
 {
-    let tables = names_len(&parts.names).saturating_add(constants_len(&parts.constants));
-    let texts = texts_fit(&parts.names);
-    let locals = locals_fit(&parts.units);
+    let tables = names_len(&parts.names)
+        .saturating_add(constants_len(&parts.constants))
+        .saturating_add(places_len(parts));
     let most = parts
         .names
         .len()
         .max(parts.constants.len())
-        .max(parts.units.len());
+        .max(parts.units.len())
+        .max(parts.templates.len());
     if most > MAX_COUNT {
         return false;
     }
-    let fit = texts && locals;
-    fit && is_small(tables, parts.units.len(), instructions)
+    fields_fit(parts) && is_small(tables, parts.units.len(), instructions)
 }
 
 fn starts(units: &[Unit]) -> bool
@@ -176,6 +233,68 @@ fn units_are_in_order(units: &[Unit]) -> bool
         }
     }
     true
+}
+
+fn may_follow_texts(templates: &[String], text: &str) -> bool
+    ensures { result ≡ may_follow_texts (texts_view templates.now) text.now }
+{
+    match templates {
+        [] => !text.is_empty(),
+        [.., last] => last.as_str() < text,
+    }
+}
+
+fn templates_are_in_order(templates: &[String]) -> bool
+    requires { AllByRecursion IsShortText (texts_view templates.now) }
+    ensures { IsTrue result ↔ AreTemplates (texts_view templates.now) }
+{
+    'templates: for (index, template) in templates.iter().enumerate() {
+        if !may_follow_texts(&templates[..index], template.as_str()) {
+            return false;
+        }
+    }
+    true
+}
+
+fn is_spot(templates: usize, spot: Spot) -> bool
+    ensures { IsTrue result ↔ IsSpot templates (spot_view spot) }
+{
+    usize::from(spot.template) <= templates && is_line(spot.template, spot.line)
+}
+
+fn spots_are_in_order(templates: usize, spots: &[Spot]) -> bool
+    ensures { IsTrue result ↔ AllByRecursion (IsSpot templates) (spots_view spots.now) }
+{
+    'spots: for spot in spots {
+        if !is_spot(templates, *spot) {
+            return false;
+        }
+    }
+    true
+}
+
+// whether the version may have these places
+fn are_placed(parts: &Parts, instructions: u32) -> bool
+    ensures { IsTrue result
+        ↔ IsPlaced parts.now.version instructions (texts_view parts.now.templates.items)
+        (spots_view parts.now.spots.items) }
+{
+    match parts.version {
+        Version::One => parts.templates.is_empty() && parts.spots.is_empty(),
+        Version::Two => parts.spots.len() == instructions as usize,
+    }
+}
+
+fn places_are_in_order(parts: &Parts, instructions: u32) -> bool
+    requires { AllByRecursion IsShortText (texts_view parts.now.templates.items) }
+    ensures { IsTrue result
+        ↔ (AreTemplates (texts_view parts.now.templates.items)
+        × AllByRecursion (IsSpot (length (texts_view parts.now.templates.items))) (spots_view parts.now.spots.items)
+        × IsPlaced parts.now.version instructions (texts_view parts.now.templates.items) (spots_view parts.now.spots.items)) }
+{
+    templates_are_in_order(&parts.templates)
+        && spots_are_in_order(parts.templates.len(), &parts.spots)
+        && are_placed(parts, instructions)
 }
 
 fn may_follow(names: &[(u16, String)], text: &str) -> bool
@@ -233,6 +352,9 @@ fn check(alloc: Global, parts: &Parts) -> Result<(), ImageError>
     }
     let named = names_are_in_order(alloc, parts.globals, &parts.names)?;
     if !(named && starts(&parts.units) && units_are_in_order(&parts.units)) {
+        return Err(ImageError::BadTable);
+    }
+    if !places_are_in_order(parts, instructions) {
         return Err(ImageError::BadTable);
     }
     Ok(())

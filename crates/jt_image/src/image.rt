@@ -1,11 +1,13 @@
 //! An image, which contracts see as its code.
 ghost use Rattle.std.specs.Prelude.{◌≡◌, length, option_map, slice_get};
 ghost use Rattle.jt_image.specs.IsCode.{IsCode, total_len};
-ghost use Rattle.jt_image.specs.Readers.{constant_ref_view, header_of, instruction_at};
+ghost use Rattle.jt_image.specs.Readers.{constant_ref_view, header_of, instruction_at, place_ref_view, place_there, ConstantPlace, UnitStart};
+ghost use Rattle.jt_image.specs.Spelling.{spelling};
 
-use crate::code::{Code, ConstantRef, UnitHeader};
+use crate::code::{Code, ConstantRef, PlaceRef, UnitHeader};
 use crate::instruction::Instruction;
 use crate::places::Places;
+use crate::version::Version;
 use std::marker::Model;
 
 /// A constant.
@@ -42,6 +44,10 @@ impl Model for Image {
 impl Code for Image {
     ghost code = { λ i. i };
 
+    fn version(&self) -> Version {
+        self.places.version
+    }
+
     fn globals(&self) -> u16 {
         self.places.globals
     }
@@ -77,10 +83,41 @@ impl Code for Image {
     fn instructions(&self) -> usize {
         self.places.instructions as usize
     }
+
+    fn templates(&self) -> usize {
+        self.places.templates.len()
+    }
+
+    fn template(&self, index: usize) -> Option<&str> {
+        self.places.template(&self.bytes, index)
+    }
+
+    fn place(&self, unit: usize, point: usize) -> Option<PlaceRef<'_>> {
+        self.places.place(&self.bytes, unit, point)
+    }
+
+    fn bytes(&self) -> &[u8] {
+        &self.bytes
+    }
+
+    fn constant_place(&self, index: usize) -> Option<usize> {
+        self.places.constant_place(&self.bytes, index)
+    }
+
+    fn unit_place(&self, unit: usize) -> Option<usize> {
+        self.places.unit_start(&self.bytes, unit)
+    }
 }
 
 // The readers of the trait, which need no import of it.
 impl Image {
+    /// The version of its bytes.
+    pub fn version(&self) -> Version
+        ensures { result ≡ self.now.version }
+    {
+        Code::version(self)
+    }
+
     /// How many globals there are.
     pub fn globals(&self) -> u16
         ensures { result ≡ self.now.globals }
@@ -144,5 +181,33 @@ impl Image {
         ensures { result ≡ total_len self.now.units }
     {
         Code::instructions(self)
+    }
+
+    /// How many templates there are.
+    pub fn templates(&self) -> usize
+        ensures { result ≡ length self.now.templates }
+    {
+        Code::templates(self)
+    }
+
+    /// The name of a template.
+    pub fn template(&self, index: usize) -> Option<&str>
+        ensures { option_map (λ t. t.now) result ≡ slice_get self.now.templates index }
+    {
+        Code::template(self, index)
+    }
+
+    /// The place of an instruction of a unit. There are none in version 1.
+    pub fn place(&self, unit: usize, point: usize) -> Option<PlaceRef<'_>>
+        ensures { option_map place_ref_view result ≡ place_there self.now unit point }
+    {
+        Code::place(self, unit, point)
+    }
+
+    /// The bytes of the image.
+    pub fn bytes(&self) -> &[u8]
+        ensures { result.now ≡ spelling self.now }
+    {
+        Code::bytes(self)
     }
 }

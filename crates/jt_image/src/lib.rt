@@ -2,6 +2,7 @@
 #![tactic(auto)]
 
 mod assembling;
+mod back;
 mod code;
 mod decoding;
 mod encoding;
@@ -21,11 +22,13 @@ mod sections;
 mod spelling;
 mod tables;
 mod units;
+mod upgrading;
+mod version;
 mod viewing;
 mod wire;
 
 pub use assembling::assemble;
-pub use code::{Code, ConstantRef, UnitHeader};
+pub use code::{Code, ConstantRef, PlaceRef, UnitHeader};
 pub use decoding::decode;
 pub use encoding::encode;
 pub use error::ImageError;
@@ -34,8 +37,10 @@ pub use in_place::View;
 pub use instruction::Instruction;
 pub use kind::{Flaw, Kind};
 pub use laws::code_laws;
-pub use limits::{MAX_BYTES, MAX_COUNT, MAX_ENTRIES, MAX_INSTRUCTIONS, MAX_LOCALS};
+pub use limits::{MAX_BYTES, MAX_COUNT, MAX_ENTRIES, MAX_INSTRUCTIONS, MAX_LINE, MAX_LOCALS};
 pub use loop_field::LoopField;
-pub use parts::{Parts, Unit};
+pub use parts::{Parts, Spot, Unit};
+pub use upgrading::upgrade;
+pub use version::Version;
 pub use viewing::view;
 pub use wire::Instr;

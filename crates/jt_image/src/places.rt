@@ -1,37 +1,50 @@
 //! Where the parts of an image stand in its bytes, and how they are read there.
-ghost use Rattle.std.specs.Prelude.{◌≡◌, ◌≤◌, List, [], length, take, drop, option_map, slice_get, IsUtf8, Some};
+ghost use Rattle.std.specs.Prelude.{◌≡◌, ◌≤◌, ◌+◌, nat_lt, if◌then◌else◌, List, [], length, take, drop, option_map, slice_get, IsUtf8, Some, None};
+ghost use Rattle.std.specs.Option.{option_and_then};
 ghost use Rattle.std.specs.Int.{w16, w32, w64, from_le_bytes, cast_signed};
 ghost use Rattle.jt_image.specs.Code.{undefined};
-ghost use Rattle.jt_image.specs.Readers.{constant_ref_view, header_of, instruction_at};
+ghost use Rattle.jt_image.specs.Places.{place_of};
+ghost use Rattle.jt_image.specs.Readers.{constant_ref_view, header_of, instruction_at, place_ref_view, place_there, ConstantPlace, UnitStart};
+ghost use Rattle.jt_image.specs.View.{spot_view};
 ghost use Rattle.jt_image.specs.Reading.{text_at, long_text_at, constant_of};
-ghost use Rattle.jt_image.specs.InPlace.{IsRead, read_or, name_in, HasName, constant_in, HasConstant, section_in, HasUnit, fields_in, code_in, AreThere};
+ghost use Rattle.jt_image.specs.InPlace.{IsRead, read_or, name_in, HasName, constant_in, HasConstant, section_in, HasUnit, fields_in, template_in, HasTemplate, spot_in, spots_in, AreSpots, code_in, AreThere, Spells};
+ghost use Rattle.jt_image.specs.declared.version.Version.TheVariants as variant;
 
-use crate::code::{ConstantRef, UnitHeader};
+use crate::code::{ConstantRef, PlaceRef, UnitHeader};
 use crate::fields::{u16_in, u32_in, u64_in};
 use crate::instruction::Instruction;
+use crate::parts::Spot;
+use crate::version::Version;
 use crate::wire::Instr;
 
 /// How many bytes an instruction takes.
 const INSTRUCTION_BYTES: usize = 8;
 
-/// A unit: its numbers, and where its instructions begin.
+/// How many bytes a spot takes.
+const SPOT_BYTES: usize = 6;
+
+/// A unit: its numbers, where its instructions begin, and how many instructions stand before them.
 #[derive(Clone, Copy, Drop)]
-pub(crate) struct Place {
+pub(crate) struct UnitPlace {
     pub(crate) parameters: u8,
     pub(crate) kind: u8,
     pub(crate) locals: u16,
     pub(crate) len: u32,
     pub(crate) start: u32,
+    pub(crate) first: u32,
 }
 
-/// Where the parts of an image stand in its bytes. Names and constants begin at these places.
+/// Where the parts of an image stand in its bytes. Names, constants and templates begin at these places, and the spots at that one.
 #[derive(Drop)]
 pub(crate) struct Places {
+    pub(crate) version: Version,
     pub(crate) globals: u16,
     pub(crate) names: Vec<u32>,
     pub(crate) constants: Vec<u32>,
-    pub(crate) units: Vec<Place>,
+    pub(crate) units: Vec<UnitPlace>,
     pub(crate) instructions: u32,
+    pub(crate) templates: Vec<u32>,
+    pub(crate) spots: u32,
 }
 
 // that many bytes, which were found to be a text
@@ -105,7 +118,7 @@ fn fields_of(front: &[u8]) -> Instr
     }
 }
 
-fn instruction_in(bytes: &[u8], unit: &Place, point: usize) -> Option<Instruction>
+fn instruction_in(bytes: &[u8], unit: &UnitPlace, point: usize) -> Option<Instruction>
     requires { HasUnit bytes.now unit.now }
     ensures { result ≡ slice_get (section_in bytes.now unit.now).code point }
 {
@@ -115,6 +128,27 @@ fn instruction_in(bytes: &[u8], unit: &Place, point: usize) -> Option<Instructio
     let (_, code) = bytes.split_at(unit.start as usize);
     let (_, front) = code.split_at(INSTRUCTION_BYTES * point);
     Some(fields_of(front).known())
+}
+
+/// The template at a place.
+pub(crate) fn template_in(bytes: &[u8], at: u32) -> &str
+    requires { HasTemplate bytes.now at }
+    ensures { result.now ≡ template_in bytes.now at }
+{
+    let (_, front) = bytes.split_at(at as usize);
+    let len = u16_in(front);
+    let (_, rest) = front.split_at(2);
+    text_in(len as usize, rest)
+}
+
+fn spot_of(front: &[u8]) -> Spot
+    requires { 6 ≤ length front.now }
+    ensures { spot_view result ≡ spot_in front.now }
+{
+    Spot {
+        template: u16::from_le_bytes([front[0], front[1]]),
+        line: u32::from_le_bytes([front[2], front[3], front[4], front[5]]),
+    }
 }
 
 impl Places {
@@ -165,6 +199,132 @@ impl Places {
     {
         match self.units.get(unit) {
             Some(place) => instruction_in(bytes, place, point),
+            None => None,
+        }
+    }
+
+    /// The name of a template.
+    pub(crate) fn template<'a>(&self, bytes: &'a [u8], index: usize) -> Option<&'a str>
+        requires { AreThere bytes.now self.now }
+        ensures { option_map (λ t. t.now) result
+            ≡ slice_get (code_in bytes.now self.now).templates index }
+    {
+        match self.templates.get(index) {
+            Some(at) => Some(template_in(bytes, *at)),
+            None => None,
+        }
+    }
+
+    // the spot of an instruction, by its number among all of them
+    fn spot(&self, bytes: &[u8], number: usize) -> Option<Spot>
+        requires { AreThere bytes.now self.now }
+        ensures { option_map spot_view result
+            ≡ slice_get (code_in bytes.now self.now).spots number }
+    {
+        match self.version {
+            Version::One => None,
+            Version::Two => self.spot_there(bytes, number),
+        }
+    }
+
+    fn spot_there(&self, bytes: &[u8], number: usize) -> Option<Spot>
+        requires there { AreThere bytes.now self.now }
+        requires spots { AreSpots variant.Two (length self.now.templates.items) self.now.instructions
+            (drop self.now.spots bytes.now) }
+        ensures { option_map spot_view result
+            ≡ slice_get (spots_in variant.Two (length self.now.templates.items) self.now.instructions
+            (drop self.now.spots bytes.now)) number }
+    {
+        if number >= self.instructions as usize {
+            return None;
+        }
+        let (_, spots) = bytes.split_at(self.spots as usize);
+        let (_, front) = spots.split_at(SPOT_BYTES * number);
+        Some(spot_of(front))
+    }
+
+    // the place that a spot tells of
+    fn place_of<'a>(&self, bytes: &'a [u8], spot: Spot) -> Option<PlaceRef<'a>>
+        requires { AreThere bytes.now self.now }
+        ensures { option_map place_ref_view result
+            ≡ place_of (code_in bytes.now self.now).templates (spot_view spot) }
+    {
+        if spot.template == 0 {
+            return None;
+        }
+        match self.template(bytes, usize::from(spot.template) - 1) {
+            Some(template) => Some(PlaceRef {
+                template,
+                line: spot.line,
+            }),
+            None => None,
+        }
+    }
+
+    fn constant_at(&self, index: usize) -> Option<u32>
+        ensures { result ≡ slice_get self.now.constants.items index }
+    {
+        self.constants.get(index).copied()
+    }
+
+    /// Where a constant begins in the bytes.
+    pub(crate) fn constant_place(&self, _bytes: &[u8], index: usize) -> Option<usize>
+        requires { Spells _bytes.now self.now }
+        ensures { ConstantPlace (code_in _bytes.now self.now) index result }
+    {
+        match self.constant_at(index) {
+            Some(at) => Some(at as usize),
+            None => None,
+        }
+    }
+
+    /// Where the instructions of a unit begin in the bytes.
+    pub(crate) fn unit_start(&self, _bytes: &[u8], unit: usize) -> Option<usize>
+        requires { Spells _bytes.now self.now }
+        ensures { UnitStart (code_in _bytes.now self.now) unit result }
+    {
+        match self.unit_place(unit) {
+            Some(place) => Some(place.start as usize),
+            None => None,
+        }
+    }
+
+    fn unit_place(&self, unit: usize) -> Option<UnitPlace>
+        ensures { result ≡ slice_get self.now.units.items unit }
+    {
+        self.units.get(unit).copied()
+    }
+
+    fn place_in<'a>(&self, bytes: &'a [u8], unit: &UnitPlace, point: usize) -> Option<PlaceRef<'a>>
+        requires { AreThere bytes.now self.now }
+        ensures { option_map place_ref_view result
+            ≡ (if nat_lt point unit.now.len
+            then option_and_then (place_of (code_in bytes.now self.now).templates)
+            (slice_get (code_in bytes.now self.now).spots (unit.now.first + point))
+            else None) }
+    {
+        if point >= unit.len as usize {
+            return None;
+        }
+        match self.spot(bytes, unit.first as usize + point) {
+            Some(spot) => self.place_of(bytes, spot),
+            None => None,
+        }
+    }
+
+    /// The place of an instruction of a unit.
+    pub(crate) fn place<'a>(
+        &self,
+        bytes: &'a [u8],
+        unit: usize,
+        point: usize,
+    ) -> Option<PlaceRef<'a>>
+        requires { AreThere bytes.now self.now }
+        ensures { option_map place_ref_view result
+            ≡ place_there (code_in bytes.now self.now) unit point }
+    {
+        match self.unit_place(unit) {
+            Some(place) => self.place_in(bytes, &place, point),
             None => None,
         }
     }

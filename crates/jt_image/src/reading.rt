@@ -8,6 +8,7 @@ ghost use Rattle.jt_image.specs.declared.error.ImageError.TheVariants.{NoMemory}
 ghost use Rattle.jt_image.specs.InPlace.{code_in, Spells};
 ghost use Rattle.jt_image.specs.Reading.{Gives, code_of};
 
+use crate::back::back_at;
 use crate::error::ImageError;
 use crate::fields::{start_at, u16_at};
 use crate::limits::MAX_BYTES;
@@ -24,20 +25,24 @@ fn read_through(alloc: Global, bytes: &[u8]) -> Result<Places, ImageError>
     if bytes.len() > MAX_BYTES {
         return Err(ImageError::LimitPassed);
     }
-    let rest = start_at(bytes)?;
+    let (version, rest) = start_at(bytes)?;
     let (globals, rest) = u16_at(rest)?;
     let (names, rest) = all_names_at(alloc, globals, bytes, rest)?;
     let (constants, rest) = all_constants_at(alloc, bytes, rest)?;
     let (units, rest) = units_at(alloc, bytes, rest)?;
+    let (back, rest) = back_at(alloc, version, units.instructions, bytes, rest)?;
     if !rest.is_empty() {
         return Err(ImageError::Trailing);
     }
     Ok(Places {
+        version,
         globals,
         names,
         constants,
         units: units.items,
         instructions: units.instructions,
+        templates: back.templates,
+        spots: back.spots,
     })
 }
 

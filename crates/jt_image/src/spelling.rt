@@ -2,15 +2,16 @@
 ghost use Rattle.std.specs.Prelude.{◌≡◌, ◌<◌, ◌^◌, ◌++◌, ◌∷◌, [], length, map, IfOk, OnOk};
 ghost use Rattle.std.specs.Int.{w16, w32, w64, to_le_bytes, cast_unsigned};
 ghost use Rattle.std.specs.List.{flat_map, AllByRecursion};
-ghost use Rattle.jt_image.specs.View.{name_view, names_view, constant_view, constants_view, unit_view, units_view, instruction_view};
+ghost use Rattle.jt_image.specs.View.{name_view, names_view, constant_view, constants_view, unit_view, units_view, instruction_view, texts_view, spot_view, spots_view};
 ghost use Rattle.jt_image.specs.IsCode.{IsConstant, IsCode};
 ghost use Rattle.std.specs.Option.{IsSome};
 ghost use Rattle.jt_image.specs.Reading.{instruction_of};
 ghost use Rattle.jt_image.specs.Parts.{AreKnown, code_seen};
-ghost use Rattle.jt_image.specs.Spelling.{name_bytes, constant_bytes, header_bytes, instruction_bytes, spelling};
+ghost use Rattle.jt_image.specs.Spelling.{name_bytes, constant_bytes, header_bytes, instruction_bytes, template_bytes, spot_bytes, place_bytes, spelling};
 
 use crate::image::Constant;
-use crate::parts::{Parts, Unit};
+use crate::parts::{Parts, Spot, Unit};
+use crate::version::Version;
 use crate::wire::Instr;
 use jt_value::NoMemory;
 use std::alloc::Global;
@@ -23,14 +24,21 @@ fn put_count(out: &mut Vec<u8>, count: usize) -> Result<(), NoMemory>
     Ok(())
 }
 
+fn put_short_text(out: &mut Vec<u8>, text: &str) -> Result<(), NoMemory>
+    requires { length text.now < 2 ^ 16 }
+    ensures { OnOk result (out.new.items ≡ out.old.items ++ template_bytes text.now) }
+{
+    put_count(out, text.len())?;
+    out.extend_from_slice(text.as_bytes())?;
+    Ok(())
+}
+
 fn put_name(out: &mut Vec<u8>, name: &(u16, String)) -> Result<(), NoMemory>
     requires { length (name_view name.now).text < 2 ^ 16 }
     ensures { OnOk result (out.new.items ≡ out.old.items ++ name_bytes (name_view name.now)) }
 {
     out.extend_from_slice(&name.0.to_le_bytes())?;
-    put_count(out, name.1.len())?;
-    out.extend_from_slice(name.1.as_bytes())?;
-    Ok(())
+    put_short_text(out, name.1.as_str())
 }
 
 fn put_names(out: &mut Vec<u8>, names: &[(u16, String)]) -> Result<(), NoMemory>
@@ -156,13 +164,60 @@ fn put_codes(out: &mut Vec<u8>, units: &[Unit]) -> Result<(), NoMemory>
     Ok(())
 }
 
+fn put_templates(out: &mut Vec<u8>, templates: &[String]) -> Result<(), NoMemory>
+    requires { AllByRecursion (λ t. length t < 2 ^ 16) (texts_view templates.now) }
+    ensures { OnOk result
+        (out.new.items ≡ out.old.items ++ flat_map template_bytes (texts_view templates.now)) }
+{
+    'templates: for template in templates {
+        put_short_text(out, template.as_str())?;
+    }
+    Ok(())
+}
+
+fn put_spot(out: &mut Vec<u8>, spot: Spot) -> Result<(), NoMemory>
+    ensures { OnOk result (out.new.items ≡ out.old.items ++ spot_bytes (spot_view spot)) }
+{
+    out.extend_from_slice(&spot.template.to_le_bytes())?;
+    out.extend_from_slice(&spot.line.to_le_bytes())?;
+    Ok(())
+}
+
+fn put_spots(out: &mut Vec<u8>, spots: &[Spot]) -> Result<(), NoMemory>
+    ensures { OnOk result
+        (out.new.items ≡ out.old.items ++ flat_map spot_bytes (spots_view spots.now)) }
+{
+    'spots: for spot in spots {
+        put_spot(out, *spot)?;
+    }
+    Ok(())
+}
+
+// what stands behind the instructions
+fn put_places(out: &mut Vec<u8>, parts: &Parts) -> Result<(), NoMemory>
+    requires { IsCode (code_seen parts.now) }
+    ensures { OnOk result (out.new.items
+        ≡ out.old.items
+        ++ place_bytes parts.now.version (texts_view parts.now.templates.items)
+        (spots_view parts.now.spots.items)) }
+{
+    match parts.version {
+        Version::One => Ok(()),
+        Version::Two => {
+            put_count(out, parts.templates.len())?;
+            put_templates(out, &parts.templates)?;
+            put_spots(out, &parts.spots)
+        }
+    }
+}
+
 fn put_parts(out: &mut Vec<u8>, parts: &Parts) -> Result<(), NoMemory>
     requires code { IsCode (code_seen parts.now) }
     requires known { AreKnown parts.now.units.items }
     ensures { OnOk result (out.new.items ≡ out.old.items ++ spelling (code_seen parts.now)) }
 {
     out.extend_from_slice(b"JTBC")?;
-    put_count(out, 1)?;
+    put_count(out, usize::from(parts.version.number()))?;
     put_count(out, usize::from(parts.globals))?;
     put_count(out, parts.names.len())?;
     put_names(out, &parts.names)?;
@@ -171,6 +226,7 @@ fn put_parts(out: &mut Vec<u8>, parts: &Parts) -> Result<(), NoMemory>
     put_count(out, parts.units.len())?;
     put_headers(out, &parts.units)?;
     put_codes(out, &parts.units)?;
+    put_places(out, parts)?;
     Ok(())
 }
 

@@ -136,7 +136,7 @@ runs_none = refl
 meant_fault : smean the_filters program (context (two true (codes "p") ∷ tree.nothing ∷ [])) 4 ≡ fails faults.NotIterable (Some (tag 1))
 meant_fault = refl
 
-runs_fault : exec (compiled program) 200 (start_machine (compiled program) (context (two true (codes "p") ∷ tree.nothing ∷ []))) ≡ Failed faults.NotIterable
+runs_fault : exec (compiled program) 200 (start_machine (compiled program) (context (two true (codes "p") ∷ tree.nothing ∷ []))) ≡ Failed faults.NotIterable (Some (record { template = codes "page"; line = 1 }))
 unfolding field_of operator_of
 runs_fault = refl
 
@@ -167,6 +167,6 @@ meant_abs : smean the_filters (of_filter 0) with_x 1 ≡ fails faults.BadType (S
 unfolding filter_of the_filters
 meant_abs = refl
 
-runs_abs : exec (compiled (of_filter 0)) 20 (start_machine (compiled (of_filter 0)) with_x) ≡ Failed faults.BadType
+runs_abs : exec (compiled (of_filter 0)) 20 (start_machine (compiled (of_filter 0)) with_x) ≡ Failed faults.BadType (Some (record { template = codes "page"; line = 1 }))
 unfolding filter_of
 runs_abs = refl

@@ -3,6 +3,7 @@ pub mod Does
 pub mod Lowered
 pub mod Follows
 pub mod Over
+pub mod Spots
 pub mod Places
 pub mod Correct
 pub mod Typed

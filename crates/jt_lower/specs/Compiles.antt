@@ -1,5 +1,5 @@
 -- What it is for the code of a program to be right.
-use Rattle.std.specs.Prelude.{◌≡◌, ℕ, ◌<◌, ◌≤◌, ◌^◌, List, ◌++◌, Option, length}
+use Rattle.std.specs.Prelude.{◌≡◌, ℕ, ◌<◌, ◌≤◌, ◌^◌, List, ◌++◌, Option, option_map, length}
 use Rattle.std.specs.List.{AllByRecursion}
 use Rattle.jt_value.specs.Tree.{Tree}
 use Rattle.jt_value.specs.Pairs.{Pairs}
@@ -9,6 +9,7 @@ use Rattle.jt_image.specs.Parts.{KeepsLimits}
 use Rattle.jt_image.specs.Typed.{max_entries, IsTyped}
 use Rattle.jt_image.specs.Config as config
 use Rattle.jt_image.specs.Config.{Budget}
+use Rattle.jt_image.specs.Places as image
 use Rattle.jt_image.specs.Run.{Run}
 use Rattle.jt_image.specs.Enough.{Enough}
 use Rattle.jt_image.specs.FreeRun.{start_machine}
@@ -19,19 +20,20 @@ use Rattle.jt_slots.specs.Slots.{Routine, Program, smean_of, smean}
 use Rattle.jt_slots.specs.Pool.{Constant, constant_in, routines_values, placed_routines}
 use Rattle.jt_slots.specs.Loops.{tree_at}
 use Rattle.jt_lower.specs.Asm.{Asm, flat, places}
+use Rattle.jt_lower.specs.Spots.{seen}
 use Rattle.jt_lower.specs.Lower.{compiled}
 use Rattle.jt_lower.specs.Placed.{Failed, placed_exec, table_of}
 use Rattle.jt_lower.specs.Fits.{ProgramFits}
 use Rattle.jt_lower.specs.Lawful.{program_with, AreLawful, AreLow}
 use Rattle.jt_slots.specs.Size.{body_height, routines_size}
 
--- A text or a fault that the code ends with, for a context under a budget, is what the program means, where calls go at most so many
--- deep; and what the program means, some budget is enough for.
+-- A text or a fault at its place that the code ends with, for a context under a budget, is what the program means, where calls go at
+-- most so many deep; and what the program means, some budget is enough for.
 pub record DoesProgram (p : Program) : Type 0 where
   pub texts : (x : Pairs) (b : Budget) (t : Text) → Run (compiled p) x b (config.text t) → (n : ℕ) × (smean the_filters p x n ≡ gives t)
-  pub faults : (x : Pairs) (b : Budget) (f : Fault) → Run (compiled p) x b (config.fault f) → (n : ℕ) × (q : Option Place) × (smean the_filters p x n ≡ fails f q)
+  pub faults : (x : Pairs) (b : Budget) (f : Fault) (z : Option image.Place) → Run (compiled p) x b (config.fault f z) → (n : ℕ) × (q : Option Place) × (smean the_filters p x n ≡ fails f q) × (z ≡ option_map seen q)
   pub enough_text : (x : Pairs) (n : ℕ) (t : Text) → smean the_filters p x n ≡ gives t → Enough (compiled p) x (config.text t)
-  pub enough_fault : (x : Pairs) (n : ℕ) (f : Fault) (q : Option Place) → smean the_filters p x n ≡ fails f q → Enough (compiled p) x (config.fault f)
+  pub enough_fault : (x : Pairs) (n : ℕ) (f : Fault) (q : Option Place) → smean the_filters p x n ≡ fails f q → Enough (compiled p) x (config.fault f (option_map seen q))
 
 -- A fault of the run without a budget stands at an instruction that has the place that the program's meaning gives it, and the other
 -- way round.

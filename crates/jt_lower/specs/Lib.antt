@@ -1,4 +1,5 @@
 pub mod Asm
+pub mod Spots
 pub mod Lower
 pub mod Fits
 pub mod Placed

@@ -1,6 +1,6 @@
 -- Runs without a budget, with the place of the instruction that faults. What images say of places is not read here: the table of
 -- places is given.
-use Rattle.std.specs.Prelude.{ℕ, zero, suc, List, [], ◌∷◌, ◌++◌, map, Option, Some, None, slice_get}
+use Rattle.std.specs.Prelude.{ℕ, zero, suc, List, map, Option, Some, None, option_map, slice_get}
 use Rattle.std.specs.Option.{option_and_then}
 use Rattle.jt_value.specs.declared.fault.Fault.{Fault}
 use Rattle.jt_image.specs.declared.instruction.Instruction.{Instruction}
@@ -11,8 +11,8 @@ use Rattle.jt_image.specs.FreeRun as free
 use Rattle.jt_image.specs.FreeRun.{Free}
 use Rattle.jt_slots.specs.Got.{Place}
 use Rattle.jt_slots.specs.Slots.{Routine, Program}
-use Rattle.jt_lower.specs.Asm.{places}
-use Rattle.jt_lower.specs.Lower.{body_asm}
+use Rattle.jt_lower.specs.Spots.{seen}
+use Rattle.jt_lower.specs.Lower.{routine_places}
 
 -- the place of each instruction, by its unit and point
 abbrev pub Table : Type 0
@@ -39,16 +39,12 @@ abbrev pub placed_exec : Code → Table → ℕ → Machine → PlacedFree
 placed_exec k places zero m = Going
 placed_exec k places (suc n) m = placed_at k places (fetch k m.unit m.point) m (placed_exec k places n)
 
--- the same run, its places left out
-abbrev pub unplaced : PlacedFree → Free
-unplaced (Finished t) = free.Finished t
-unplaced (Failed f q) = free.Failed f
-unplaced Stuck = free.Stuck
-unplaced Going = free.Going
-
--- the places of a routine's instructions; Return has none
-abbrev pub routine_places : Routine ℕ → List (Option Place)
-routine_places r = places (body_asm r.body 0) ++ None ∷ []
+-- the same run, its places as images have them
+abbrev pub run_seen : PlacedFree → Free
+run_seen (Finished t) = free.Finished t
+run_seen (Failed f q) = free.Failed f (option_map seen q)
+run_seen Stuck = free.Stuck
+run_seen Going = free.Going
 
 abbrev pub place_in : Option (List (Option Place)) → ℕ → Option Place
 place_in None n = None

@@ -108,7 +108,7 @@ impl Machine {
         ensures steps { OnOk result (self.new ≡ advanced k self.old) }
         ensures progress { IfOk result (λ p. told_of self.new.status ≡ Some p) }
         ensures lost { OnErr result (self.new ≡ lost_session self.old) }
-        // Memory is wanted only where one of these steps goes on and puts something.
+        // Memory is wanted only where one of these steps goes on and puts something, or ends with a fault that has a place.
         ensures memory { OnErr result (MayLose k self.old) }
         // A run that has ended wants no memory.
         ensures unended { IfErr result (λ e. outcome_of self.old ≡ None) }

@@ -81,7 +81,7 @@ pub fn run_to<W: Sink>(
     ensures write { IfErr result (λ e. e ≡ RunToError.Write → W.failed sink.new ≡ true) }
     ensures memory { IfErr result (λ e. e ≡ RunToError.NoMemory → W.failed sink.new ≡ false) }
     ensures still { OnOk result (W.failed sink.new ≡ false) }
-    // Memory is wanted only for the tables at the start, and at a step that goes on and puts something.
+    // Memory is wanted only for the tables at the start, and at a step that goes on and puts something, or ends with a fault that has a place.
     ensures wanted { IfErr result (λ e. e ≡ RunToError.NoMemory
         → MayWant verified.now (pairs_of context.now) (budget_view budget)) }
     // Every run of the image has one outcome, stays within its fuel and is never wrong.
@@ -177,7 +177,7 @@ fn close<W: Sink>(outcome: Outcome, sink: &mut W) -> Result<Ended, SinkFailed>
             put_all(sink, text.as_bytes())?;
             Ok(Ended::Whole)
         }
-        Outcome::Fault(fault) => Ok(Ended::Fault(fault)),
+        Outcome::Fault(fault, place) => Ok(Ended::Fault(fault, place)),
         Outcome::Spent(spent) => Ok(Ended::Spent(spent)),
     }
 }

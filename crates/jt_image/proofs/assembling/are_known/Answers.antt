@@ -1,4 +1,4 @@
-use Rattle.std.proofs.Common.{List, subst, ◌≡◌, true, refl}
+use Rattle.std.proofs.Common.{List, subst, ◌≡◌, true}
 use Rattle.std.proofs.lemmas.List.{take_all}
 use Rattle.jt_image.specs.declared.parts.Unit as given
 use Rattle.jt_image.specs.View.{IsKnownUnit}

@@ -1,7 +1,4 @@
-use Rattle.std.proofs.Common.{ℕ, ◌∙◌, sym, ap, take, drop, arith}
-use Rattle.std.proofs.lemmas.List.{length-drop}
-use Rattle.jt_image.specs.InPlace.{IsRead}
-use Rattle.jt_image.specs.Reading.{text_at}
+use Rattle.std.proofs.Common.{sym}
 use Rattle.jt_image.proofs.Standing.{long_text_read}
 use Rattle.jt_image.proofs.places.long_text_in.Goals as goal
 

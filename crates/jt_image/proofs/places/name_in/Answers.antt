@@ -1,6 +1,5 @@
-use Rattle.std.proofs.Common.{◌∙◌, sym, ap, drop, arith}
+use Rattle.std.proofs.Common.{◌∙◌, ap, drop, arith}
 use Rattle.std.proofs.lemmas.List.{length-drop}
-use Rattle.jt_image.specs.InPlace.{name_in}
 use Rattle.jt_image.proofs.Standing.{name_read, name_is}
 use Rattle.jt_image.proofs.places.name_in.Goals as goal
 

@@ -1,9 +1,9 @@
-use Rattle.std.proofs.Common.{◌≡◌, ◌++◌, ◌∷◌, [], ◌-◌, ◌∙◌, ℕ, ap, arith, length}
+use Rattle.std.proofs.Common.{◌≡◌, ◌++◌, ◌∷◌, [], ◌-◌, ◌∙◌, ap, arith, length}
 use Rattle.std.proofs.lemmas.Result.{err_from_is_err_and}
 use Rattle.std.proofs.lemmas.List.{map_push}
 use Rattle.jt_image.specs.Code.{Name}
 use Rattle.jt_image.specs.Readers.{name_ref_view}
-use Rattle.jt_image.specs.InPlace.{name_in, names_in, HasName}
+use Rattle.jt_image.specs.InPlace.{names_in, HasName}
 use Rattle.jt_image.specs.Reading.{many_at, name_at}
 use Rattle.jt_image.proofs.Loop.{goes_on, ends, is_done}
 use Rattle.jt_image.proofs.Placed.{all_push}
