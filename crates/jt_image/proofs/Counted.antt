@@ -54,7 +54,7 @@ total_below (h ∷ hs) (suc i) = omega (arith, total_below hs i)
 counted_from : (bytes : List ℕ) (n : ℕ) (ps : List UnitPlace) (u : ℕ) (p : UnitPlace) → AllByRecursion (HasUnit bytes) ps → AreCounted n ps → slice_get ps u ≡ Some p → p.first ≡ n + total_len (take u (sections_in bytes ps))
 counted_from bytes n [] u p all h e = absurd cc
 counted_from bytes n (q ∷ ps) zero p all h e = let same : q ≡ p = cc in omega (arith, ap (λ (x : UnitPlace). x.first) same, h.0)
-counted_from bytes n (q ∷ ps) (suc u) p all h e = omega (arith, counted_from bytes (n + q.len) ps u p all.1 h.1 e, all.0)
+counted_from bytes n (q ∷ ps) (suc u) p all h e = omega (arith, counted_from bytes (n + q.len) ps u p all.1 h.1 e, all.0.1)
 
 -- a unit says how many instructions the ones before it have
 pub counted_at : (bytes : List ℕ) (ps : List UnitPlace) (u : ℕ) (p : UnitPlace) → AllByRecursion (HasUnit bytes) ps → AreCounted 0 ps → slice_get ps u ≡ Some p → p.first ≡ total_len (take u (sections_in bytes ps))
@@ -82,7 +82,7 @@ module _ (bytes : List ℕ) (p : Places) (h : AreThere bytes p) (u point : ℕ) 
       let k : Code = code_in bytes p in
       let unit : slice_get k.units u ≡ Some (section_in bytes q) = units_of bytes p.units.items u ∙ ap (option_map (section_in bytes)) e in
       let here = has_unit bytes p.units.items u q h.units e in
-      let i = some_there (section_in bytes q).code point (omega (arith, here, lt)) in
+      let i = some_there (section_in bytes q).code point (omega (arith, here.1, lt)) in
       let known : instruction_at k u point ≡ Some i.0 = ap (option_and_then (λ (s : Section). slice_get s.code point)) unit ∙ i.1 in
       let count : q.first ≡ total_len (take u k.units) = counted_at bytes p.units.items u q h.units h.counted e in
       ap (option_and_then (λ _. place_at k u point)) known
@@ -93,7 +93,7 @@ module _ (bytes : List ℕ) (p : Places) (h : AreThere bytes p) (u point : ℕ) 
       let k : Code = code_in bytes p in
       let unit : slice_get k.units u ≡ Some (section_in bytes q) = units_of bytes p.units.items u ∙ ap (option_map (section_in bytes)) e in
       let here = has_unit bytes p.units.items u q h.units e in
-      let none : instruction_at k u point ≡ None = ap (option_and_then (λ (s : Section). slice_get s.code point)) unit ∙ slice_get_past (section_in bytes q).code point (omega (arith, here, le)) in
+      let none : instruction_at k u point ≡ None = ap (option_and_then (λ (s : Section). slice_get s.code point)) unit ∙ slice_get_past (section_in bytes q).code point (omega (arith, here.1, le)) in
       ap (option_and_then (λ _. place_at k u point)) none
 
   pub place_outside : slice_get p.units.items u ≡ None → place_there (code_in bytes p) u point ≡ None
@@ -143,7 +143,7 @@ module _ (bytes : List ℕ) (p : Places) (fits : IsBytes bytes) (h : Spells byte
   unit_stands u q e =
       let code = drop q.start bytes in
       let here = has_unit bytes p.units.items u q h.there.units e in
-      let taken = instructions_taken q.len (instructions_at q.len code) code here (many_found (λ _. reading.instruction_at) instruction_bytes good_instruction (λ before bytes fits. instruction_found bytes fits) q.len [] code (IsBytes-drop q.start bytes fits)) in
+      let taken = instructions_taken q.len (instructions_at q.len code) code here.1 (many_found (λ _. reading.instruction_at) instruction_bytes good_instruction (λ before bytes fits. instruction_found bytes fits) q.len [] code (IsBytes-drop q.start bytes fits)) in
       record {
         section = section_in bytes q;
         is = units_of bytes p.units.items u ∙ ap (option_map (section_in bytes)) e;

@@ -1,10 +1,12 @@
 //! What has a code, and how its parts are read.
 ghost use Rattle.std.specs.Prelude.{◌≡◌, length, option_map, slice_get};
+ghost use Rattle.std.specs.Option.{option_and_then};
 ghost use Rattle.jt_image.specs.IsCode.{IsCode, total_len};
-ghost use Rattle.jt_image.specs.Readers.{constant_ref_view, header_of, instruction_at, place_ref_view, place_there, ConstantPlace, UnitStart};
+ghost use Rattle.jt_image.specs.Readers.{constant_ref_view, header_of, instruction_at, number_of, place_ref_view, place_there, ConstantPlace, UnitStart};
 ghost use Rattle.jt_image.specs.Spelling.{spelling};
 
 use crate::instruction::Instruction;
+use crate::stretch::Stretch;
 use crate::version::Version;
 
 /// A constant, with its text lent.
@@ -67,6 +69,10 @@ pub trait Code {
     fn constant(&self, index: usize) -> Option<ConstantRef<'_>>
         ensures { option_map constant_ref_view result ≡ slice_get (code self.now).constants index };
 
+    /// A constant that is a number. There is none where it is another value.
+    fn integer(&self, index: usize) -> Option<i64>
+        ensures { result ≡ option_and_then number_of (slice_get (code self.now).constants index) };
+
     /// How many units there are.
     fn units(&self) -> usize
         ensures count { result ≡ length (code self.now).units }
@@ -79,6 +85,10 @@ pub trait Code {
     /// An instruction of a unit.
     fn instruction(&self, unit: usize, point: usize) -> Option<Instruction>
         ensures { result ≡ instruction_at (code self.now) unit point };
+
+    /// The instructions of a unit, which are read one by one.
+    fn stretch(&self, unit: usize) -> Option<Stretch<'_>>
+        ensures { result ≡ option_map (λ u. u.code) (slice_get (code self.now).units unit) };
 
     /// How many instructions all units have.
     fn instructions(&self) -> usize

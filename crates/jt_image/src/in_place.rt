@@ -7,6 +7,7 @@ ghost use Rattle.jt_image.specs.Spelling.{spelling};
 use crate::code::{Code, ConstantRef, PlaceRef, UnitHeader};
 use crate::instruction::Instruction;
 use crate::places::Places;
+use crate::stretch::Stretch;
 use crate::version::Version;
 use std::marker::Model;
 
@@ -57,6 +58,10 @@ impl<'a> Code for View<'a> {
         self.places.constant(self.bytes, index)
     }
 
+    fn integer(&self, index: usize) -> Option<i64> {
+        self.places.integer(self.bytes, index)
+    }
+
     fn units(&self) -> usize {
         self.places.units.len()
     }
@@ -67,6 +72,10 @@ impl<'a> Code for View<'a> {
 
     fn instruction(&self, unit: usize, point: usize) -> Option<Instruction> {
         self.places.instruction(self.bytes, unit, point)
+    }
+
+    fn stretch(&self, unit: usize) -> Option<Stretch<'_>> {
+        self.places.stretch(self.bytes, unit)
     }
 
     fn instructions(&self) -> usize {

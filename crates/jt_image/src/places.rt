@@ -4,21 +4,18 @@ ghost use Rattle.std.specs.Option.{option_and_then};
 ghost use Rattle.std.specs.Int.{w16, w32, w64, from_le_bytes, cast_signed};
 ghost use Rattle.jt_image.specs.Code.{undefined};
 ghost use Rattle.jt_image.specs.Places.{place_of};
-ghost use Rattle.jt_image.specs.Readers.{constant_ref_view, header_of, instruction_at, place_ref_view, place_there, ConstantPlace, UnitStart};
+ghost use Rattle.jt_image.specs.Readers.{constant_ref_view, header_of, number_of, instruction_at, place_ref_view, place_there, ConstantPlace, UnitStart};
 ghost use Rattle.jt_image.specs.View.{spot_view};
 ghost use Rattle.jt_image.specs.Reading.{text_at, long_text_at, constant_of};
-ghost use Rattle.jt_image.specs.InPlace.{IsRead, read_or, name_in, HasName, constant_in, HasConstant, section_in, HasUnit, fields_in, template_in, HasTemplate, spot_in, spots_in, AreSpots, code_in, AreThere, Spells};
+ghost use Rattle.jt_image.specs.InPlace.{IsRead, read_or, name_in, HasName, constant_in, HasConstant, section_in, HasUnit, template_in, HasTemplate, spot_in, spots_in, AreSpots, code_in, AreThere, Spells};
 ghost use Rattle.jt_image.specs.declared.version.Version.TheVariants as variant;
 
 use crate::code::{ConstantRef, PlaceRef, UnitHeader};
 use crate::fields::{u16_in, u32_in, u64_in};
 use crate::instruction::Instruction;
 use crate::parts::Spot;
+use crate::stretch::Stretch;
 use crate::version::Version;
-use crate::wire::Instr;
-
-/// How many bytes an instruction takes.
-const INSTRUCTION_BYTES: usize = 8;
 
 /// How many bytes a spot takes.
 const SPOT_BYTES: usize = 6;
@@ -106,28 +103,37 @@ fn constant_in(bytes: &[u8], at: u32) -> ConstantRef<'_>
     constant_with(front[0], rest)
 }
 
-fn fields_of(front: &[u8]) -> Instr
-    requires { 8 ≤ length front.now }
-    ensures { result ≡ fields_in front.now }
+// the number at a place, if a number stands there
+fn integer_in(bytes: &[u8], at: u32) -> Option<i64>
+    requires { HasConstant bytes.now at }
+    ensures { result ≡ number_of (constant_in bytes.now at) }
 {
-    Instr {
-        op: front[0],
-        a: front[1],
-        b: u16::from_le_bytes([front[2], front[3]]),
-        c: u32::from_le_bytes([front[4], front[5], front[6], front[7]]),
+    let (_, front) = bytes.split_at(at as usize);
+    let (_, rest) = front.split_at(1);
+    integer_with(front[0], rest)
+}
+
+#[tactic(auto, unfolding(crate::specs::Reading::constant_of))]
+fn integer_with(tag: u8, rest: &[u8]) -> Option<i64>
+    requires { IsRead (constant_of tag rest.now) }
+    ensures { result ≡ number_of (read_or undefined (constant_of tag rest.now)) }
+{
+    match tag {
+        4 => Some(u64_in(rest).cast_signed()),
+        _ => None,
     }
 }
 
-fn instruction_in(bytes: &[u8], unit: &UnitPlace, point: usize) -> Option<Instruction>
+// the instructions of a unit
+fn stretch_in<'a>(bytes: &'a [u8], unit: &UnitPlace) -> Stretch<'a>
     requires { HasUnit bytes.now unit.now }
-    ensures { result ≡ slice_get (section_in bytes.now unit.now).code point }
+    ensures { result ≡ (section_in bytes.now unit.now).code }
 {
-    if point >= unit.len as usize {
-        return None;
-    }
     let (_, code) = bytes.split_at(unit.start as usize);
-    let (_, front) = code.split_at(INSTRUCTION_BYTES * point);
-    Some(fields_of(front).known())
+    Stretch {
+        code,
+        len: unit.len,
+    }
 }
 
 /// The template at a place.
@@ -176,6 +182,18 @@ impl Places {
         }
     }
 
+    /// A constant that is a number.
+    pub(crate) fn integer(&self, bytes: &[u8], index: usize) -> Option<i64>
+        requires { AreThere bytes.now self.now }
+        ensures { result ≡ option_and_then number_of
+            (slice_get (code_in bytes.now self.now).constants index) }
+    {
+        match self.constants.get(index) {
+            Some(at) => integer_in(bytes, *at),
+            None => None,
+        }
+    }
+
     /// The numbers of a unit.
     pub(crate) fn unit(&self, bytes: &[u8], unit: usize) -> Option<UnitHeader>
         requires { AreThere bytes.now self.now }
@@ -192,13 +210,25 @@ impl Places {
         }
     }
 
+    /// The instructions of a unit.
+    pub(crate) fn stretch<'a>(&self, bytes: &'a [u8], unit: usize) -> Option<Stretch<'a>>
+        requires { AreThere bytes.now self.now }
+        ensures { result ≡ option_map (λ u. u.code)
+            (slice_get (code_in bytes.now self.now).units unit) }
+    {
+        match self.units.get(unit) {
+            Some(place) => Some(stretch_in(bytes, place)),
+            None => None,
+        }
+    }
+
     /// An instruction of a unit.
     pub(crate) fn instruction(&self, bytes: &[u8], unit: usize, point: usize) -> Option<Instruction>
         requires { AreThere bytes.now self.now }
         ensures { result ≡ instruction_at (code_in bytes.now self.now) unit point }
     {
-        match self.units.get(unit) {
-            Some(place) => instruction_in(bytes, place, point),
+        match self.stretch(bytes, unit) {
+            Some(stretch) => stretch.get(point),
             None => None,
         }
     }
