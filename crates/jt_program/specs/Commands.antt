@@ -1,5 +1,5 @@
 -- What each command comes to: what it reads from the files, how it ends and what it leaves.
-use Rattle.std.specs.Prelude.{◌≡◌, ◌≢◌, ◌↔◌, ◌⊎◌, ◌<◌, ◌≤◌, ℕ, Bool, true, false, List, [], ◌∷◌, ◌++◌, length, Contains, Option, Some, None, Result, Ok, Err, String, codes, string_bytes}
+use Rattle.std.specs.Prelude.{◌≡◌, ◌≢◌, ◌↔◌, ◌⊎◌, ◌<◌, ◌≤◌, ℕ, Bool, true, false, List, [], ◌∷◌, ◌++◌, length, Contains, Option, Some, None, option_map, Result, Ok, Err, String, codes, string_bytes}
 use Rattle.std.specs.Fmt.{decimal}
 use Rattle.std.specs.declared.alloc.Global.{Global}
 use Rattle.std.specs.Io.KnownBytes.{Appends, Keeps}
@@ -9,11 +9,11 @@ use Rattle.jt_value.specs.Pairs.{Pairs}
 use Rattle.jt_inherit.specs.Chains.{Given}
 use Rattle.jt_trees.specs.Expressions.{Text}
 use Rattle.jt_value.specs.ContextView.{pairs_of}
-use Rattle.jt_value.specs.FaultText.{fault_text}
+use Rattle.jt_value.specs.Place.{Place}
 use Rattle.jt_value.specs.declared.Fault.{Fault}
 use Rattle.jt_budget.specs.declared.Budget.{Budget}
 use Rattle.jt_image.specs.Config.{Limit, Outcome}
-use Rattle.jt_machine.specs.View.{budget_view, limit_view}
+use Rattle.jt_machine.specs.View.{budget_view, limit_view, place_view}
 use Rattle.jt_contexts.specs.Json.{IsContext}
 use Rattle.jt_sessions.specs.Turns.{max_sessions}
 use Rattle.jt_sessions.specs.declared.HostError.TheVariants as host_error
@@ -24,7 +24,7 @@ use Rattle.jt_line.specs.declared.Command.TheVariants as command
 use Rattle.jt_line.specs.declared.Job.{Job}
 use Rattle.jt_line.specs.declared.Options.{Options as LineOptions}
 use Rattle.jt_line.specs.declared.Pair.{Pair}
-use Rattle.jt_turns.specs.Lines.{limit_name, session_lines}
+use Rattle.jt_turns.specs.Lines.{fault_told, limit_name, session_lines}
 use Rattle.jt_turns.specs.Outcomes.{AreOutcomes}
 use Rattle.jt_turns.specs.declared.Start.{Start}
 use Rattle.jt_program.specs.declared.messages.Failure.{Failure}
@@ -220,9 +220,9 @@ Tells old new sink_failed (Ok text) status =
     ⊎ ((status ≡ 5) × (sink_failed ≡ true) × TookFront (string_bytes text) old new)
 Tells old new sink_failed (Err e) status = (status ≡ code_of (status_of e)) × Keeps old new
 
--- the line that names a fault
-abbrev pub fault_line : Fault → Text
-fault_line f = codes "jt: fault " ++ (fault_text f ++ codes "\n")
+-- the line that names a fault, with its place if it has one
+abbrev pub fault_line : Fault → Option Place → Text
+fault_line f q = codes "jt: fault " ++ fault_told f q
 
 -- the line that names a number of the budget, which was spent
 abbrev pub spent_line : Limit → Text
@@ -235,7 +235,7 @@ file_line path = codes "jt: file " ++ (path ++ codes "\n")
 -- What stands on standard error behind what stood there: the line of a fault, a spent number or a file, or a beginning of that
 -- line, where no more was taken. Of the other lines nothing is said.
 abbrev pub Says : Option (List ℕ) → Option (List ℕ) → Failure → Type 0
-Says old new (failure.Fault f) = TookFront (fault_line f) old new
+Says old new (failure.Fault f q) = TookFront (fault_line f (option_map place_view q)) old new
 Says old new (failure.Spent s) = TookFront (spent_line (limit_view s)) old new
 Says old new (failure.File path) = TookFront (file_line (string_bytes path)) old new
 Says old new failure.Output = TookFront (file_line (codes "-")) old new

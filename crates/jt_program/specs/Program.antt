@@ -66,7 +66,7 @@ IsRun bytes x b o = (k : Code) × IsImageOf bytes k × Run k x (budget_view b) (
 -- what is answered is so: the text of the run, or why there is none
 abbrev pub ComesTo : List ℕ → Pairs → Budget → Result (String Global) Failure → Type 0
 ComesTo bytes x b (Ok text) = IsRun bytes x b (outcome.Text text)
-ComesTo bytes x b (Err (failure.Fault f)) = IsRun bytes x b (outcome.Fault f)
+ComesTo bytes x b (Err (failure.Fault f q)) = IsRun bytes x b (outcome.Fault f q)
 ComesTo bytes x b (Err (failure.Spent s)) = IsRun bytes x b (outcome.Spent s)
 ComesTo bytes x b (Err e) = IsNoImage bytes e
 
@@ -102,7 +102,7 @@ GivesImage sources entry options (Err other) = ⊥
 -- what is answered is so: the text of the entry's template, or why there is none
 abbrev pub RendersTo : Given → Text → Options → Pairs → Budget → Result (String Global) Failure → Type 0
 RendersTo sources entry options x b (Ok text) = IsRendered sources entry options x b (outcome.Text text)
-RendersTo sources entry options x b (Err (failure.Fault f)) = IsRendered sources entry options x b (outcome.Fault f)
+RendersTo sources entry options x b (Err (failure.Fault f q)) = IsRendered sources entry options x b (outcome.Fault f q)
 RendersTo sources entry options x b (Err (failure.Spent s)) = IsRendered sources entry options x b (outcome.Spent s)
 RendersTo sources entry options x b (Err (failure.Template e)) = IsUncompiled sources entry options e
 RendersTo sources entry options x b (Err failure.NoMemory) = Unit {0}
