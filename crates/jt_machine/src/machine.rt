@@ -11,6 +11,7 @@ ghost use Rattle.jt_machine.specs.Session.{SessionLaws, led, told_of};
 ghost use Rattle.jt_machine.specs.StageView.{stage_view, IsReached, IsUnderway};
 ghost use Rattle.jt_machine.specs.View.{config_view, next_view};
 
+use crate::at_once::hurry;
 use crate::outcome::{Outcome, Progress};
 use crate::start::{context_passes, start};
 use crate::state::State;
@@ -207,12 +208,17 @@ fn take_steps<C: Code>(
     ensures reached { IfOk result (λ r. IfNone r (IsReached (C.code code.now) state.new)) }
 {
     code_laws();
-    'steps: for _ in 0..k {
+    let mut left = u64::from(k);
+    'steps: loop {
+        left = hurry(code, state, left);
+        if left == 0 {
+            return Ok(None);
+        }
         if let Some(outcome) = step(alloc, code, state)? {
             return Ok(Some(outcome));
         }
+        left -= 1;
     }
-    Ok(None)
 }
 
 /// Slices of runs add up.

@@ -79,7 +79,7 @@ fn run_code<C: Code>(
     }
     let mut state = start(alloc, code, context, budget)?;
     'steps: loop {
-        hurry(code, &mut state);
+        hurry(code, &mut state, u64::MAX);
         if let Some(outcome) = step(alloc, code, &mut state)? {
             return Ok(outcome);
         }

@@ -12,6 +12,7 @@ ghost use Rattle.jt_machine.specs.Growing.{MayWant};
 ghost use Rattle.jt_machine.specs.Sinks.{TookFront};
 ghost use Rattle.jt_machine.specs.View.{budget_view, config_view, outcome_view};
 
+use crate::at_once::hurry;
 use crate::outcome::{Ended, Outcome};
 use crate::sink::{Sink, SinkFailed, put_all};
 use crate::start::{context_passes, start};
@@ -119,6 +120,7 @@ fn write_code<C: Code, W: Sink>(
     let mut state = start(alloc, code, context, budget)?;
     'steps: loop {
         send(&mut state, sink)?;
+        hurry(code, &mut state, u64::MAX);
         if let Some(outcome) = step(alloc, code, &mut state)? {
             return Ok(close(outcome, sink)?);
         }
