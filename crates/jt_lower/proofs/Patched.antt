@@ -11,7 +11,6 @@ use Rattle.jt_image.specs.Spelling.{wire_of}
 use Rattle.jt_image.specs.IsCode.{IsInstruction}
 use Rattle.jt_value.specs.Place.{Place}
 use Rattle.jt_trees.specs.Expressions.{Text}
-use Rattle.jt_slots.specs.declared.program.Place as given
 use Rattle.jt_lower.specs.Asm.{Asm, nil, one, both, choose, when, each, invoke, flat, places}
 use Rattle.jt_lower.specs.Emission.{places_view, Emitted, HasPlace, Puts, Reserves, Patches, Ends, EndsTurns}
 use Rattle.jt_lower.specs.declared.emitter.Emitter.{Emitter}

@@ -11,7 +11,7 @@ use Rattle.std.proofs.lemmas.Slice.Eq.{bytes_eq-Decides}
 use Rattle.std.proofs.lemmas.Option.{slice_get-map, slice_get_within}
 use Rattle.jt_image.specs.declared.instruction.Instruction.{Instruction}
 use Rattle.jt_image.specs.declared.instruction.Instruction.TheVariants as op
-use Rattle.jt_image.specs.Code.{Section, Code}
+use Rattle.jt_image.specs.Code.{Section}
 use Rattle.jt_image.specs.IsCode.{total_len}
 use Rattle.jt_image.specs.Step.{fetch}
 use Rattle.jt_image.specs.Places.{place_of, place_at}
@@ -28,20 +28,24 @@ use Rattle.jt_lower.proofs.Follows.{placed}
 -- ---- templates
 
 -- the text stands among these
-abbrev Among : Text → List Text → Type 0
+abbrev pub Among : Text → List Text → Type 0
 Among t [] = ⊥
 Among t (s ∷ ss) = (s ≡ t) ⊎ Among t ss
 
 apart : (s t : Text) → bytes_eq s t ≡ false → s ≡ t → ⊥
 apart s t e same = let other : bytes_eq s t ≡ true = (bytes_eq-Decides s t).1 same in absurd cc
 
-number_here : (t : Text) (ts : List Text) → Among t ts → slice_get ts (number_of t ts) ≡ Some t
+pub number_here : (t : Text) (ts : List Text) → Among t ts → slice_get ts (number_of t ts) ≡ Some t
 number_here t [] h = absurd h
 number_here t (s ∷ ss) h = through (bytes_eq s t) refl (number_here t ss)
   where
     through : (b : Bool) → bytes_eq s t ≡ b → (Among t ss → slice_get ss (number_of t ss) ≡ Some t) → slice_get (s ∷ ss) (if b then 0 else suc (number_of t ss)) ≡ Some t
     through true e g = ap Some ((bytes_eq-Decides s t).0 e)
     through false e g = g (⊎_elim (λ same. absurd (apart s t e same)) (λ there. there) h)
+
+-- its number is less than how many there are
+pub number_within : (t : Text) (ts : List Text) → Among t ts → number_of t ts < length ts
+number_within t ts h = slice_get_within ts (number_of t ts) t (number_here t ts h)
 
 inserted_here : (x : Text) (ys : List Text) → Among x (inserted x ys)
 inserted_here x [] = inl refl
@@ -65,7 +69,7 @@ all_kept : (t : Text) (xs ns : List Text) → Among t ns → Among t (all_insert
 all_kept t [] ns h = h
 all_kept t (x ∷ xs) ns h = all_kept t xs (inserted x ns) (inserted_kept t x ns h)
 
-all_here : (t : Text) (xs ns : List Text) → Among t xs → Among t (all_inserted xs ns)
+pub all_here : (t : Text) (xs ns : List Text) → Among t xs → Among t (all_inserted xs ns)
 all_here t [] ns h = absurd h
 all_here t (x ∷ xs) ns h =
     ⊎_elim
@@ -112,6 +116,11 @@ as_many r =
     let ps = places a in
     let is = flat a 0 in
     omega (arith, placed a 0, length-append ps (None ∷ []), length-append is (op.Return ∷ []))
+
+-- there are as many places as instructions
+pub places_len : (rs : List (Routine ℕ)) → length (flat_map routine_places rs) ≡ total_len (map unit_of rs)
+places_len [] = refl
+places_len (r ∷ rs) = length-append (routine_places r) (flat_map routine_places rs) ∙ omega (arith, as_many r, places_len rs)
 
 -- the place of a point stands behind those of the units before it
 at_number : (rs : List (Routine ℕ)) (u n : ℕ) (r : Routine ℕ) → slice_get rs u ≡ Some r → n < length (unit_of r).code → slice_get (flat_map routine_places rs) (total_len (take u (map unit_of rs)) + n) ≡ slice_get (routine_places r) n

@@ -122,7 +122,7 @@ fn emit_choice(
 ) -> Result<(), AllocError>
     ensures { OnOk result ((templates : List Text) (h : ℕ)
         → StandsFor above h
-        → Puts code.old (expr_asm o
+        → Puts templates code.old (expr_asm (tag_view templates tag)
         (slots.choice (expr_view condition.now) (expr_view taken.now) (expr_view other.now)) h)
         code.new) }
 {
