@@ -32,7 +32,7 @@ use Rattle.jt_program.specs.declared.messages.Failure.TheVariants as failure
 use Rattle.jt_machine.specs.Sinks.{TookFront}
 use Rattle.jt_program.specs.Ending.{code_of, status_of}
 use Rattle.jt_program.specs.Files.{Known, IsLibrary, IsOfDirectory}
-use Rattle.jt_program.specs.Program.{ComesTo, IsCounted, IsImage, IsImageOf, IsNoContext, IsNoImage, RendersTo, scan_options}
+use Rattle.jt_program.specs.Program.{ComesTo, IsCounted, IsImage, IsImageOf, IsNoContext, IsNoImage, IsNoUpgrade, IsUpgraded, RendersTo, scan_options}
 
 -- how a command ends: with the text that it prints, or with a failure
 abbrev pub Ending : Type 0
@@ -88,6 +88,14 @@ IsWritten files after out sources entry options (Ok text) =
 IsWritten files after out sources entry options (Err (failure.File path)) = IsPath out (string_bytes path) × files.fails out
 IsWritten files after out sources entry options (Err (failure.Template e)) = IsUncompiled sources entry options e
 IsWritten files after out sources entry options (Err e) = ⊥
+
+-- the file at a path holds the image in version 2, and nothing is printed; or why not: that file fails, or there is no such image
+abbrev pub IsRewritten : Known → Known → Text → List ℕ → Ending → Type 0
+IsRewritten files after out bytes (Ok text) =
+    (string_bytes text ≡ []) × ((new : List ℕ) × after.holds out new × IsUpgraded bytes new)
+IsRewritten files after out bytes (Err (failure.File path)) = IsPath out (string_bytes path) × files.fails out
+IsRewritten files after out bytes (Err (failure.Image e)) = IsNoUpgrade bytes e
+IsRewritten files after out bytes (Err e) = ⊥
 
 module _ (files : Known) where
   -- the image at a path is verified
@@ -147,6 +155,12 @@ module _ (files after : Known) where
     pub library : IsLibrary files dir sources
     pub written : IsWritten files after out sources name options e
 
+  -- the image at a path is written in version 2 to another
+  pub record Upgrades (image out : Text) (e : Ending) : Type 0 where
+    pub bytes : List ℕ
+    pub held : files.holds image bytes
+    pub written : IsRewritten files after out bytes e
+
   -- at every path but this one there are the bytes that were there, and none where there were none
   abbrev pub ChangesOnly : Text → Type 0
   ChangesOnly path = (other bytes : List ℕ) → other ≢ path → (after.holds other bytes) ↔ (files.holds other bytes)
@@ -164,6 +178,8 @@ module _ (files after : Known) where
       IsUnread files (IsOfDirectory files (string_bytes dir)) context e
       ⊎ Renders files (string_bytes dir) (string_bytes name) (scan_options o) context b e
   CommandEnds (command.Turns sessions) o b e = TakesTurns files sessions.items b e
+  CommandEnds (command.Upgrade image out) o b e = ChangesOnly (string_bytes out)
+      × (IsUnread files (IsPath (string_bytes image)) None e ⊎ Upgrades (string_bytes image) (string_bytes out) e)
 
   abbrev pub JobEnds : Job → Ending → Type 0
   JobEnds j = CommandEnds j.command j.options j.budget
@@ -188,9 +204,17 @@ module _ (files : Known) where
     pub bytes : List ℕ
     pub image : IsImage sources name options bytes
 
+  -- the image at a path has one in version 2
+  pub record HasUpgrade (image : Text) : Type 0 where
+    pub bytes : List ℕ
+    pub held : files.holds image bytes
+    pub new : List ℕ
+    pub upgraded : IsUpgraded bytes new
+
   -- the command has an image to write
   abbrev pub WritesImage : Command → LineOptions → Type 0
   WritesImage (command.Compile dir name out) o = HasImage (string_bytes dir) (string_bytes name) (scan_options o)
+  WritesImage (command.Upgrade image out) o = HasUpgrade (string_bytes image)
   WritesImage c o = ⊥
 
   -- the line asks for such a command
@@ -199,15 +223,16 @@ module _ (files : Known) where
     pub asked : IsAsked found job
     pub writes : WritesImage job.command job.options
 
--- OUT of a line of `compile`: no other line has one
+-- OUT of a line of `compile` or `upgrade`: no other line has one
 abbrev pub out_of : Option (Word × List Row) → Text
 out_of None = []
 out_of (Some c) = word_of (codes "OUT") c.1
 
--- the command is `compile`
-abbrev pub IsCompile : Command → Type 0
-IsCompile (command.Compile dir name out) = Unit {0}
-IsCompile c = ⊥
+-- the command is one that writes an image
+abbrev pub IsWriting : Command → Type 0
+IsWriting (command.Compile dir name out) = Unit {0}
+IsWriting (command.Upgrade image out) = Unit {0}
+IsWriting c = ⊥
 
 -- ---- what the program tells
 
