@@ -117,3 +117,33 @@ fn faults_of_places(rt: HostRuntime) -> Result<(), Fail> {
     }
     Ok(())
 }
+
+// The image of the number -7 and one instruction, Return.
+const NUMBER: [u8; 39] = [
+    0x4a, 0x54, 0x42, 0x43, 1, 0, 0, 0, 0, 0, 1, 0, 4, 0xf9, 0xff, 0xff, 0xff, 0xff, 0xff, 0xff,
+    0xff, 1, 0, 0, 0, 0, 0, 1, 0, 0, 0, 0x1c, 0, 0, 0, 0, 0, 0, 0,
+];
+
+#[test]
+fn code_is_read_in_stretches(rt: HostRuntime) -> Result<(), Fail> {
+    let image = decode(rt.alloc(), &X)?;
+    let Some(stretch) = Code::stretch(&image, 0) else {
+        return Err(Fail::from("no stretch"));
+    };
+    assert_eq!(rt;
+        (stretch.get(0), stretch.get(1), stretch.get(2)),
+        (
+            Some(Instruction::Data { constant: 0 }),
+            Some(Instruction::Return),
+            None
+        )
+    );
+    assert!(rt; Code::stretch(&image, 1).is_none());
+    assert_eq!(rt; Code::integer(&image, 0), None);
+    let seen = view(rt.alloc(), &NUMBER)?;
+    assert_eq!(rt;
+        (Code::integer(&seen, 0), Code::integer(&seen, 1)),
+        (Some(-7), None)
+    );
+    Ok(())
+}
