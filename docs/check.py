@@ -10,7 +10,7 @@ Documents are README.md, CONTRIBUTING.md, CHANGELOG.md and those of docs/, at an
     of each `Type::call`           that a crate with a type of this name has such a call
     of each call of contracts.md   that the crate of its heading has it; of each module of definitions.md, that it is in specs/
     of each example of errors.md and from-jinja.md (a line with ` => ` in a code block or a table)     that it is a row of rows/
-    of README.md                   that it has at most 7,000 bytes, and of crates.txt and it that they have the crates in one order
+    of README.md                   that it has at most 7,000 bytes, and the crates in the order of crates.txt, each behind those it names
     of docs/                       that each document is reached by links from README.md
 
 What is wrong is printed. The last line is 'N passed, M failed', and the status is 1 where one failed.
@@ -152,7 +152,14 @@ class Checks:
                         self.holds(module.exists(), file, f"no module: {crate}, {word}")
 
     def order(self):
-        """README.md, crates.txt and docs/architecture.md have the crates in one order."""
+        """README.md, crates.txt and docs/architecture.md have the crates in one order, each behind those that it names."""
+        above = set()
+        for line in (ROOT / "crates.txt").read_text(encoding="utf-8").splitlines():
+            if line.strip() and not line.startswith("#"):
+                crate, _, named = line.partition(":")
+                below = [it for it in named.split() if it in crates() and it not in above]
+                self.holds(not below, ROOT / "crates.txt", f"{crate} stands above {' '.join(below)}")
+                above.add(crate.split()[0])
         for name, behind in (("README.md", "The crates, lowest first"), ("docs/architecture.md", "| Crate | What stands in it |")):
             text = (ROOT / name).read_text(encoding="utf-8").partition(behind)[2]
             found = list(dict.fromkeys(CRATE.findall(text)))[: len(crates())]
