@@ -1,10 +1,10 @@
 //! What the program says on standard error.
-ghost use Rattle.std.specs.Prelude.{◌≡◌, ◌<◌, ◌≤◌, ◌++◌, [], codes, flat_map, length, option_map, take, IfOk, OnErr, OnOk};
+ghost use Rattle.std.specs.Prelude.{◌≡◌, ◌<◌, ◌≤◌, ◌++◌, [], codes, length, option_map, take, IfOk, OnErr, OnOk};
 ghost use Rattle.std.specs.Io.KnownBytes.{Appends};
 ghost use Rattle.jt_value.specs.FaultText.{fault_text};
 ghost use Rattle.jt_machine.specs.Sinks.{TookFront};
 ghost use Rattle.jt_machine.specs.View.{place_view};
-ghost use Rattle.jt_program.specs.Commands.{fault_line, Says};
+ghost use Rattle.jt_program.specs.Commands.{fault_line, texts_of, Says};
 ghost use Rattle.jt_program.specs.Ending.{code_of, status_of};
 
 use crate::messages::Failure;
@@ -59,16 +59,13 @@ fn say<E: Write>(errors: &mut E, head: &str, name: &str)
 
 /// Adds texts to `errors`, one behind the other, or a beginning of them.
 fn add_parts<E: Write>(errors: &mut E, parts: &[&str]) -> Result<(), SinkFailed>
-    ensures { TookFront (flat_map (λ part. part.now) parts.now) (E.contents errors.old)
+    ensures { TookFront (texts_of parts.now) (E.contents errors.old)
         (E.contents errors.new) }
 {
-    match parts {
-        [] => Ok(()),
-        [part, rest @ ..] => {
-            add_all(errors, part.as_bytes())?;
-            add_parts(errors, rest)
-        }
+    for part in parts {
+        add_all(errors, part.as_bytes())?;
     }
+    Ok(())
 }
 
 /// Adds all of the bytes to `errors`, or those that they take before they take none.
