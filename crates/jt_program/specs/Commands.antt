@@ -1,5 +1,6 @@
 -- What each command comes to: what it reads from the files, how it ends and what it leaves.
-use Rattle.std.specs.Prelude.{◌≡◌, ◌≢◌, ◌↔◌, ◌⊎◌, ◌<◌, ◌≤◌, ℕ, Bool, Bor, flat_map, true, false, List, [], ◌∷◌, ◌++◌, length, Contains, Option, Some, None, option_map, Result, Ok, Err, String, codes, string_bytes}
+use Rattle.std.specs.Prelude.{◌≡◌, ◌≢◌, ◌↔◌, ◌⊎◌, ◌<◌, ◌≤◌, ℕ, Bool, flat_map, true, false, List, [], ◌∷◌, ◌++◌, length, Contains, Option, Some, None, option_map, Result, Ok, Err, String, codes, string_bytes}
+use Rattle.std.specs.Borrow.{Bor}
 use Rattle.std.specs.Fmt.{decimal}
 use Rattle.std.specs.declared.alloc.Global.{Global}
 use Rattle.std.specs.Io.KnownBytes.{Appends, Keeps}
@@ -15,7 +16,7 @@ use Rattle.jt_budget.specs.declared.Budget.{Budget}
 use Rattle.jt_image.specs.Config.{Limit, Outcome}
 use Rattle.jt_machine.specs.View.{budget_view, limit_view, place_view}
 use Rattle.jt_contexts.specs.Json.{IsContext}
-use Rattle.jt_sessions.specs.Turns.{max_sessions}
+use Rattle.jt_sessions.specs.Turns.{World, max_sessions}
 use Rattle.jt_sessions.specs.declared.HostError.TheVariants as host_error
 use Rattle.jt_host.specs.Rendering.{IsRefused as IsUncompiled}
 use Rattle.jt_line.specs.Line.{IsAsked, word_of}
@@ -26,6 +27,7 @@ use Rattle.jt_line.specs.declared.Options.{Options as LineOptions}
 use Rattle.jt_line.specs.declared.Pair.{Pair}
 use Rattle.jt_turns.specs.Lines.{fault_told, limit_name, session_lines}
 use Rattle.jt_turns.specs.Outcomes.{AreOutcomes}
+use Rattle.jt_turns.specs.Standing.{Stands}
 use Rattle.jt_turns.specs.declared.Start.{Start}
 use Rattle.jt_program.specs.declared.messages.Failure.{Failure}
 use Rattle.jt_program.specs.declared.messages.Failure.TheVariants as failure
@@ -139,14 +141,34 @@ module _ (files : Known) where
   IsNoStart p e = IsUnread files (IsPath (string_bytes p.image)) (Some p.context) (Err e)
       ⊎ ((bytes : List ℕ) × files.holds (string_bytes p.image) bytes × IsNoImage bytes e)
 
-  -- The images of pairs run for their contexts in turns, each as if alone: the line of each, whatever the turns are; or why there is none.
-  -- There are lines of at most 64, and the host is full only where there are more.
+  -- a pair behind others is not opened: as many are open as a host has place for, though the pair is good, or it gives no session
+  abbrev pub IsNotOpened : List Pair → Pair → Failure → Type 0
+  IsNotOpened before p failure.NoMemory = Unit {0}
+  IsNotOpened before p (failure.Host e) = (e ≡ host_error.Full) × (length before ≡ max_sessions) × ((s : Start) × IsStart p s)
+  IsNotOpened before p e = IsNoStart p e
+
+  -- the sessions of the pairs are open, and the host has place for them
+  abbrev pub AreOpen : Budget → List Pair → World → Type 0
+  AreOpen b ps w = (ss : List Start) × AreStarts ps ss × Stands (budget_view b) ss w
+
+  -- The first pair that is not opened: those before it are, whatever stands behind it.
+  pub record StopsAt (ps : List Pair) (e : Failure) : Type 0 where
+    pub before : List Pair
+    pub pair : Pair
+    pub after : List Pair
+    pub parts : ps ≡ before ++ pair ∷ after
+    pub starts : List Start
+    pub opened : AreStarts before starts
+    pub few : length before ≤ max_sessions
+    pub why : IsNotOpened before pair e
+
+  -- The images of pairs run for their contexts in turns, each as if alone: the line of each, whatever the turns are, of at most 64;
+  -- or the first pair is named that is not opened.
   abbrev pub TakesTurns : List Pair → Budget → Ending → Type 0
   TakesTurns ps b (Ok text) = (length ps ≤ max_sessions)
       × ((ss : List Start) × AreStarts ps ss × ((os : List Outcome) × AreOutcomes (budget_view b) ss os × (string_bytes text ≡ session_lines 1 os)))
   TakesTurns ps b (Err failure.NoMemory) = Unit {0}
-  TakesTurns ps b (Err (failure.Host e)) = (e ≡ host_error.Full) × (max_sessions < length ps)
-  TakesTurns ps b (Err e) = (p : Pair) × Contains ps p × IsNoStart p e
+  TakesTurns ps b (Err e) = StopsAt ps e
 
 module _ (files after : Known) where
   -- the template of a name, from the files of a directory, is compiled to an image at a path
