@@ -1,5 +1,5 @@
 -- The images and contexts of pairs, and why there are none.
-use Rattle.std.proofs.Common.{◌≡◌, ◌∙◌, List, [], ◌∷◌, ◌++◌, length, Global, String, Ok, Err, inl, inr, ap, arith, refl, suc, sym}
+use Rattle.std.proofs.Common.{◌≡◌, ◌∙◌, ◌≤◌, ℕ, List, [], ◌∷◌, ◌++◌, length, Global, String, Ok, Err, inl, inr, ap, arith, refl, suc, sym}
 use Rattle.jt_budget.specs.declared.Budget.{Budget}
 use Rattle.jt_machine.specs.View.{budget_view}
 use Rattle.jt_sessions.specs.Turns.{World, max_sessions}
@@ -14,6 +14,11 @@ use Rattle.jt_program.specs.declared.messages.Failure.TheVariants as failure
 use Rattle.jt_program.specs.Commands.{AreOpen, AreStarts, IsNoStart, IsNotOpened, IsStart, StopsAt, TakesTurns}
 use Rattle.jt_program.specs.Ending.{of_host}
 use Rattle.jt_program.specs.Files.{Known}
+
+-- a list of no length
+pub nil_of : {A : Type 0} → (xs : List A) (n : ℕ) → length xs ≡ n → n ≡ 0 → xs ≡ []
+nil_of [] n e z = refl
+nil_of (x ∷ xs) n e z = absurd (omega (arith, e, z))
 
 module _ (files : Known) where
   one_start_more : (ps : List Pair) (p : Pair) (ss : List Start) (s : Start) → AreStarts files ps ss → IsStart files p s
@@ -44,7 +49,7 @@ module _ (files : Known) where
   -- the host has no place for a pair, or no memory
   pub no_place : (b : Budget) (ps : List Pair) (p : Pair) (s : Start) (w : World) (e : HostError) → IsStart files p s
       → ((ss : List Start) → Stands (budget_view b) ss w → IsFull ss e) → AreOpen files b ps w → IsNotOpened files ps p (of_host e)
-  no_place b ps p s w host_error.NoMemory is why open = tt
+  no_place b ps p s w host_error.NoMemory is why standing = tt
   no_place b ps p s w host_error.Full is why (ss, starts, stands) = (refl, sym (as_many ps ss starts) ∙ why ss stands, (s, is))
   no_place b ps p s w host_error.NoSession is why (ss, starts, stands) = absurd (why ss stands)
   no_place b ps p s w host_error.NoId is why (ss, starts, stands) = absurd (why ss stands)
@@ -52,7 +57,7 @@ module _ (files : Known) where
   -- the first pair that is not opened
   pub stops : (b : Budget) (all before : List Pair) (p : Pair) (after : List Pair) (w : World) (e : Failure) → all ≡ before ++ p ∷ after → AreOpen files b before w
       → IsNotOpened files before p e → TakesTurns files all b (Err e)
-  stops b all before p after w failure.NoMemory parts open why = tt
+  stops b all before p after w failure.NoMemory parts standing why = tt
   stops b all before p after w e parts (ss, starts, stands) why =
       let n = as_many before ss starts in
       let most = stands.2 in
