@@ -40,17 +40,19 @@ module _ (all : List ℕ) (parts : List (Bor (List ℕ))) (i : ℕ) (d : Bor (Li
   Continues = (new : Option (List ℕ)) → TookFront (texts_of (drop i parts)) old new → TookFront all first new
 
   -- one part more
-  pub part_said : (mid : Option (List ℕ)) → i < length parts → Continues → Appends old mid (get_or parts i d).now
+  pub part_said : (part : List ℕ) (mid : Option (List ℕ)) → i < length parts → part ≡ (get_or parts i d).now → Continues → Appends old mid part
       → (new : Option (List ℕ)) → TookFront (texts_of (drop (i + 1) parts)) mid new → TookFront all first new
-  part_said mid below so whole new rest =
+  part_said part mid below is so whole new rest =
+      let taken : Appends old mid (get_or parts i d).now = subst (λ (bs : List ℕ). Appends old mid bs) is whole in
       so new (subst (λ (ps : List (Bor (List ℕ))). TookFront (texts_of ps) old new) (sym (one_less parts i d below))
-      (front_behind (get_or parts i d).now (texts_of (drop (i + 1) parts)) old mid new whole rest))
+      (front_behind (get_or parts i d).now (texts_of (drop (i + 1) parts)) old mid new taken rest))
 
   -- a beginning of one part more
-  pub part_begun : (new : Option (List ℕ)) → i < length parts → Continues → TookFront (get_or parts i d).now old new → TookFront all first new
-  part_begun new below so part =
+  pub part_begun : (part : List ℕ) (new : Option (List ℕ)) → i < length parts → part ≡ (get_or parts i d).now → Continues → TookFront part old new → TookFront all first new
+  part_begun part new below is so begun =
+      let taken : TookFront (get_or parts i d).now old new = subst (λ (bs : List ℕ). TookFront bs old new) is begun in
       so new (subst (λ (ps : List (Bor (List ℕ))). TookFront (texts_of ps) old new) (sym (one_less parts i d below))
-      (front_more (get_or parts i d).now (texts_of (drop (i + 1) parts)) old new part))
+      (front_more (get_or parts i d).now (texts_of (drop (i + 1) parts)) old new taken))
 
   -- no part is left
   pub parts_said : i ≤ length parts → length parts ≤ i → Continues → TookFront all first old

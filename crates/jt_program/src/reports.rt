@@ -34,7 +34,7 @@ pub fn report<E: Write>(errors: &mut E, failure: &Failure) -> u8
 
 /// Adds the line of a fault to `errors`, with its place if it has one.
 fn say_fault<E: Write>(errors: &mut E, fault: Fault, place: Option<&Place>)
-    ensures { TookFront (fault_line fault (option_map (λ q. place_view q.now) place))
+    ensures { TookFront (fault_line fault (option_map (λ q. place_view q.now) place.entry))
         (E.contents errors.old) (E.contents errors.new) }
 {
     let name = fault_name(fault);
@@ -42,11 +42,18 @@ fn say_fault<E: Write>(errors: &mut E, fault: Fault, place: Option<&Place>)
         None => say(errors, "jt: fault ", name),
         Some(place) => {
             let mut buffer = Buffer::new();
-            let line = buffer.format(place.line);
-            let template = place.template.as_str();
-            let _ = add_parts(errors, &["jt: fault ", name, " in ", template, " line ", line, "\n"]);
+            say_place(errors, name, place.template.as_str(), buffer.format(place.line));
         }
     }
+}
+
+/// Adds the line of a fault at a place to `errors`.
+fn say_place<E: Write>(errors: &mut E, name: &str, template: &str, line: &str)
+    ensures { TookFront (codes "jt: fault " ++ (name.now ++ (codes " in " ++ (template.now
+        ++ (codes " line " ++ (line.now ++ codes "\n")))))) (E.contents errors.old)
+        (E.contents errors.new) }
+{
+    let _ = add_parts(errors, &["jt: fault ", name, " in ", template, " line ", line, "\n"]);
 }
 
 /// Adds a line of two parts to `errors`. Where they take no more of it, the status alone says how the run ended.

@@ -1,6 +1,7 @@
-use Rattle.std.proofs.Common.{inr, string_bytes}
+use Rattle.std.proofs.Common.{◌≡◌, List, inr, rules, string_bytes, subst, ℕ}
 use Rattle.std.proofs.lemmas.Result.{err_from_is_err_and}
 use Rattle.jt_program.specs.Commands.{HasUpgrade}
+use Rattle.jt_program.specs.Program.{IsUpgraded}
 use Rattle.jt_program.proofs.Endings.{not_rewritten}
 use Rattle.jt_program.proofs.program.upgrade_to.Goals as goal
 
@@ -12,20 +13,22 @@ returns-in_err-put_at-clause-ends g c =
 
 pub returns-in_err-put_at-clause-touched : goal.returns-in_err-put_at-clause-touched
 returns-in_err-put_at-clause-touched g c =
+    let same : c.deref.result.now ≡ c.in_ok-bytes.bytes.items = search rules in
     let has : HasUpgrade (g.F.Files.known c.args.files.now) (string_bytes c.args.image) = record {
       bytes = c.in_ok-bytes.bytes.items;
       held = c.in_ok-bytes.ensures.held;
       new = c.in_ok-later.later.items;
-      upgraded = c.in_ok-later.ensures;
+      upgraded = subst (λ (bs : List ℕ). IsUpgraded bs c.in_ok-later.later.items) same c.in_ok-later.ensures;
     } in
     inr has
 
 pub returns-clause-touched : goal.returns-clause-touched
 returns-clause-touched g c =
+    let same : c.deref.result.now ≡ c.in_ok-bytes.bytes.items = search rules in
     let has : HasUpgrade (g.F.Files.known c.args.files.now) (string_bytes c.args.image) = record {
       bytes = c.in_ok-bytes.bytes.items;
       held = c.in_ok-bytes.ensures.held;
       new = c.in_ok-later.later.items;
-      upgraded = c.in_ok-later.ensures;
+      upgraded = subst (λ (bs : List ℕ). IsUpgraded bs c.in_ok-later.later.items) same c.in_ok-later.ensures;
     } in
     inr has
