@@ -1,6 +1,6 @@
 -- What a line leaves on a disk, from what the program tells.
-use Rattle.std.proofs.Common.{◌≡◌, ◌≢◌, ◌↔◌, ◌∙◌, Bool, Err, Global, List, None, Ok, Option, Some, String, arith, codes, inl, inr, refl, string_bytes, subst, sym, ℕ}
-use Rattle.std.specs.Prelude.{IsSome}
+use Rattle.std.proofs.Common.{◌≡◌, ◌≢◌, ◌↔◌, ◌∙◌, Bool, Err, Global, List, None, Ok, Option, Some, String, ap, arith, codes, inl, inr, refl, string_bytes, subst, sym, ℕ}
+use Rattle.std.specs.Prelude.{IsSome, slice_get, unwrap_or}
 use Rattle.std.specs.Str.{IsUtf8}
 use Rattle.clap.specs.Words.{Row, Text as Word}
 use Rattle.jt_budget.specs.declared.Budget.{Budget}
@@ -47,6 +47,10 @@ source_is disk dir names name source listed None h = (
 texts_in : (disk : Disk) (dir : List ℕ) (sources : List ℕ → Option (List ℕ)) → IsLibrary (known_of disk) dir sources → AreTextsIn disk dir sources
 texts_in disk dir sources library name source = source_is disk dir library.names name source library.listed (sources name) (library.each name)
 
+-- the two commands that write have not one name
+two_names : codes "compile" ≡ codes "upgrade" → ⊥
+two_names e = let first : 99 ≡ 117 = ap (λ (t : Word). unwrap_or (slice_get t 0) 0) e in omega (arith, first)
+
 -- a line of `compile` that is done leaves the image
 image_held : (old new : Disk) (name : Word) (rows : List Row) (k : Command) (o : Options) (b : Budget) (n : ℕ) (text : String Global) → IsCommand name rows k o b n
     → CommandEnds (known_of old) (known_of new) k o b (Ok text) → name ≡ codes "compile" → HoldsImage old new rows
@@ -62,6 +66,7 @@ image_held old new name rows (command.Compile dir template out) o b n text is (o
       held = subst (λ (path : List ℕ). file_at new path ≡ Some written.0) is.3 written.1;
       image = subst (λ (t : List ℕ). IsImage compiles.sources t (scan_options o) written.0) is.2 written.2;
     }
+image_held old new name rows (command.Upgrade image out) o b n text is ends named = absurd (two_names (sym named ∙ is.0))
 image_held old new name rows k o b n text is ends named = absurd (cc)
 
 -- a line of `upgrade` that is done leaves the image in version 2
@@ -77,6 +82,7 @@ upgrade_held old new name rows (command.Upgrade image out) o b n text is (only, 
       held = subst (λ (path : List ℕ). file_at new path ≡ Some written.0) is.2 written.1;
       image = written.2;
     }
+upgrade_held old new name rows (command.Compile dir template out) o b n text is ends named = absurd (two_names (sym is.0 ∙ named))
 upgrade_held old new name rows k o b n text is ends named = absurd (cc)
 
 -- no failure has the status 0
