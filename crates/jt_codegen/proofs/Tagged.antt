@@ -1,5 +1,5 @@
 -- Each place that the code of chains has is that of a tag: a template of one of them, and the line of one of its tags.
-use Rattle.std.proofs.Common.{ℕ, suc, Bool, true, false, if◌then◌else◌, List, [], ◌∷◌, ◌++◌, length, map, Option, Some, None}
+use Rattle.std.proofs.Common.{ℕ, suc, Bool, true, false, if◌then◌else◌, List, [], ◌∷◌, ◌++◌, map, Option, Some, None}
 use Rattle.std.specs.Prelude.{flat_map, filter}
 use Rattle.std.specs.Str.{bytes_eq}
 use Rattle.std.specs.List.{AllByRecursion}
@@ -13,14 +13,13 @@ use Rattle.jt_rules.specs.World.{World}
 use Rattle.jt_meaning.specs.Meaning.{is_set}
 use Rattle.jt_meaning.specs.Layout.{Table, counted_from, numbered_bodies, numbered_of, globals, names, first_slot, block_parameters, of_chain, unit}
 use Rattle.jt_meaning.specs.Programs.{body_routines, chain_routines, routines, program}
-use Rattle.jt_meaning.specs.Resolve.{Spot, place, left_out, grown, bound_all, copied, scoped, handed_on, followed, first_body, resolved, resolved_values, placed_body, resolved_stmt, resolved_body, resolved_choice, resolved_sets, top_spot, resolved_chain, macro_routine}
+use Rattle.jt_meaning.specs.Resolve.{Spot, place, left_out, grown, bound_all, copied, scoped, handed_on, followed, first_body, resolved_values, placed_body, resolved_stmt, resolved_body, resolved_choice, resolved_sets, top_spot, resolved_chain, macro_routine}
 use Rattle.jt_slots.specs.Slots as slots
 use Rattle.jt_slots.specs.Slots.{SExpr, SRow, Targets, SStmt, SBody, Routine, Slot}
-use Rattle.jt_slots.specs.Pool.{Constant, stmt_values, body_values, expr_values, condition_values, placed_stmt, placed_body as pooled_body, placed_routines}
+use Rattle.jt_slots.specs.Pool.{Constant, placed_stmt, placed_body as pooled_body, placed_routines}
 use Rattle.jt_lower.specs.Asm.{Asm, nil, one, both, choose as either, when, each, invoke, places}
 use Rattle.jt_lower.specs.Lower.{expr_asm, row_asm, stores_asm, take_asm, kept_asm, stmt_asm, body_asm, routine_places, places_of}
 use Rattle.jt_lower.proofs.Fitting.{all_append}
-use Rattle.jt_codegen.proofs.Read.{all_flat}
 
 -- ---- the lines of the tags of a tree that a place may have
 

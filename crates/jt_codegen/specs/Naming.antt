@@ -1,5 +1,5 @@
 -- What only private clauses cite: places whose templates are among names.
-use Rattle.std.specs.Prelude.{ℕ, ◌<◌, List, length, Option, Some, None}
+use Rattle.std.specs.Prelude.{◌<◌, List, length, Option, Some, None}
 use Rattle.jt_value.specs.Place.{Place}
 use Rattle.jt_trees.specs.Expressions.{Text}
 use Rattle.jt_lower.specs.Spots.{number_of}
