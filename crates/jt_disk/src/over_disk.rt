@@ -29,7 +29,9 @@ pub fn performed<W: Sink, E: Write>(
     ensures others { (path : List ℕ)
         → path ≢ out_of (subcommand_of program_app (texts words.now))
         → file_at disk.new path ≡ file_at disk.old path }
-    ensures kept { ¬ Asks (codes "compile") (texts words.now) → disk.new ≡ disk.old }
+    ensures kept { ¬ Asks (codes "compile") (texts words.now)
+        → ¬ Asks (codes "upgrade") (texts words.now)
+        → disk.new ≡ disk.old }
     // it tells how the command of the line ended, over all that is known of the disk
     ensures ends { result ≢ 2
         → result ≢ 6

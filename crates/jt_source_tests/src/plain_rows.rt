@@ -116,7 +116,7 @@ struct Case<'a> {
 fn ends_so(outcome: &Outcome, plain: &Result<String, End>) -> bool {
     match (outcome, plain) {
         (Outcome::Text(text), Ok(plain)) => text.as_str() == plain.as_str(),
-        (Outcome::Fault(fault), Err(End::Fault(plain))) => fault == plain,
+        (Outcome::Fault(fault, _), Err(End::Fault(plain))) => fault == plain,
         (Outcome::Spent(spent), Err(End::Spent(plain))) => spent == plain,
         _ => false,
     }
