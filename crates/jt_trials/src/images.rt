@@ -136,7 +136,7 @@ fn ended(
     }
     Ok(match last {
         Outcome::Text(_) => 't',
-        Outcome::Fault(_) => 'f',
+        Outcome::Fault(..) => 'f',
         Outcome::Spent(_) => 's',
     })
 }
@@ -144,7 +144,7 @@ fn ended(
 fn is_same(one: &Outcome, other: &Outcome) -> bool {
     match (one, other) {
         (Outcome::Text(one), Outcome::Text(other)) => one.as_str() == other.as_str(),
-        (Outcome::Fault(one), Outcome::Fault(other)) => one == other,
+        (Outcome::Fault(one, place), Outcome::Fault(other, its)) => one == other && place == its,
         (Outcome::Spent(one), Outcome::Spent(other)) => one == other,
         _ => false,
     }
@@ -153,7 +153,7 @@ fn is_same(one: &Outcome, other: &Outcome) -> bool {
 fn ends_so(outcome: &Outcome, plain: &Result<String, End>) -> bool {
     match (outcome, plain) {
         (Outcome::Text(text), Ok(plain)) => text.as_str() == plain.as_str(),
-        (Outcome::Fault(fault), Err(End::Fault(plain))) => fault == plain,
+        (Outcome::Fault(fault, _), Err(End::Fault(plain))) => fault == plain,
         (Outcome::Spent(spent), Err(End::Spent(plain))) => spent == plain,
         _ => false,
     }

@@ -131,7 +131,7 @@ fn ended(alloc: Global, image: Image, context: &Context) -> Result<char, Stop> {
     };
     Ok(match run(alloc, &verified, context, SMALL)? {
         Outcome::Text(_) => 't',
-        Outcome::Fault(_) => 'f',
+        Outcome::Fault(..) => 'f',
         Outcome::Spent(_) => 's',
     })
 }

@@ -3,7 +3,7 @@
 use crate::calls::again;
 use crate::stop::Stop;
 use jt_escape::escape_into;
-use jt_image::{Constant, ImageError, Instruction, Parts, Unit, assemble};
+use jt_image::{Constant, Image, ImageError, Instruction, Parts, Unit, Version, assemble, upgrade};
 use jt_value::{Context, Value};
 use std::alloc::Global;
 
@@ -86,10 +86,13 @@ fn parts(alloc: Global) -> Result<Parts, Stop> {
         code,
     };
     Ok(Parts {
+        version: Version::One,
         globals: 1,
         names: vec![in alloc; (0, String::from_str(alloc, "name")?)]?,
         constants: vec![in alloc; Constant::Text(String::from_str(alloc, "text")?)]?,
         units: vec![in alloc; unit]?,
+        templates: Vec::new(alloc),
+        spots: Vec::new(alloc),
     })
 }
 
@@ -107,6 +110,29 @@ fn assembled(rt: &HostRuntime) -> Result<(), Stop> {
     match answer {
         Ok(image) => {
             println!(rt; "{} instructions", image.instructions())?;
+            upgraded(rt, image)
+        }
+        Err((_, refusal)) => {
+            println!(rt; "{refusal}")?;
+            Err(Stop::Other)
+        }
+    }
+}
+
+fn upgraded(rt: &HostRuntime, image: Image) -> Result<(), Stop> {
+    let answer = upgrade(rt.alloc(), image);
+    print!(rt; "upgrade: ")?;
+    // the image that is handed back is upgraded again
+    let answer = match answer {
+        Err((image, ImageError::NoMemory)) => {
+            again(rt)?;
+            upgrade(rt.alloc(), image)
+        }
+        answer => answer,
+    };
+    match answer {
+        Ok(image) => {
+            println!(rt; "{} bytes", image.bytes().len())?;
             Ok(())
         }
         Err((_, refusal)) => {
