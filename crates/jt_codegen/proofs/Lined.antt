@@ -1,6 +1,6 @@
 -- The lines of the tags of a tree are those of its source, which has at most 1,048,576 line ends.
-use Rattle.std.proofs.Common.{◌≡◌, ℕ, zero, suc, ◌+◌, ◌-◌, ◌*◌, ◌<◌, ◌≤◌, List, [], ◌∷◌, ◌++◌, length, map, chars, codes, ap, arith}
-use Rattle.std.specs.Str.{chars_after, continuation_len, lead_bits}
+use Rattle.std.proofs.Common.{ℕ, zero, suc, ◌+◌, ◌-◌, ◌*◌, ◌<◌, ◌≤◌, List, [], ◌∷◌, ◌++◌, length, map, codes, ap, arith}
+use Rattle.std.specs.Str.{chars, chars_after, continuation_len, lead_bits}
 use Rattle.std.specs.List.{AllByRecursion}
 use Rattle.jt_image.specs.IsCode.{max_line}
 use Rattle.jt_scan.specs.declared.options.Options.{Options}

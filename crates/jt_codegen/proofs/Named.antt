@@ -1,15 +1,14 @@
 -- The templates and spots of the code of chains: they are in order, and where chains are few, so are their templates.
-use Rattle.std.proofs.Common.{◌≡◌, ℕ, zero, suc, ◌+◌, ◌*◌, ◌<◌, ◌≤◌, List, [], ◌∷◌, ◌++◌, length, map, Option, Some, None, refl, sym, ap, ◌∙◌, arith, length-append, ⊎_elim, inl, inr}
+use Rattle.std.proofs.Common.{◌≡◌, ℕ, zero, suc, ◌+◌, ◌*◌, ◌<◌, ◌≤◌, List, [], ◌∷◌, ◌++◌, length, map, Option, Some, None, refl, sym, ap, arith, length-append, ⊎_elim, inl, inr}
 use Rattle.std.proofs.lemmas.List.{length-map}
 use Rattle.std.specs.Prelude.{flat_map}
-use Rattle.std.specs.Int.{w16, w32, to_le_bytes}
+use Rattle.std.specs.Int.{w16, to_le_bytes}
 use Rattle.std.specs.List.{AllByRecursion}
 use Rattle.std.proofs.lemmas.List.Concat.{flat_map-cons}
 use Rattle.jt_value.specs.Place.{Place}
 use Rattle.jt_scan.specs.declared.options.Options.{Options}
 use Rattle.jt_trees.specs.Expressions.{Text}
 use Rattle.jt_trees.specs.Statements.{Body}
-use Rattle.jt_trees.specs.Texts.{ascending}
 use Rattle.jt_chains.specs.Chain.{Sources, Home, Template, parent_of, names_up, sources_in, template, templates}
 use Rattle.jt_chains.specs.Names.{IsName}
 use Rattle.jt_inherit.specs.Chains.{Given, IsRead}
@@ -24,7 +23,7 @@ use Rattle.jt_lower.specs.Spots as spots
 use Rattle.jt_lower.proofs.Spots.{Among, number_within, all_here}
 use Rattle.jt_codegen.proofs.Fewer.{no_more}
 use Rattle.jt_codegen.proofs.Lined.{IsLine, first_line, tree_lined}
-use Rattle.jt_codegen.proofs.Read.{all_each, chain_has, all_inserted_all}
+use Rattle.jt_codegen.proofs.Read.{chain_has, all_inserted_all}
 use Rattle.jt_codegen.proofs.Tagged.{BodyLines, OnTag, IsTagged}
 
 -- the place of a tag: its template is one of these, and has a name

@@ -1,6 +1,7 @@
 -- Each place that the code of chains has is that of a tag: a template of one of them, and the line of one of its tags.
-use Rattle.std.proofs.Common.{ℕ, suc, Bool, true, false, if◌then◌else◌, List, [], ◌∷◌, ◌++◌, length, map, Option, Some, None}
-use Rattle.std.specs.Prelude.{flat_map}
+use Rattle.std.proofs.Common.{ℕ, suc, Bool, true, false, if◌then◌else◌, List, [], ◌∷◌, ◌++◌, map, Option, Some, None}
+use Rattle.std.specs.Prelude.{flat_map, filter}
+use Rattle.std.specs.Str.{bytes_eq}
 use Rattle.std.specs.List.{AllByRecursion}
 use Rattle.std.specs.Option.{is_none}
 use Rattle.jt_value.specs.Place.{Place}
@@ -10,16 +11,15 @@ use Rattle.jt_chains.specs.Chain.{Home, Template, templates, BlockBody, blocks_o
 use Rattle.jt_chains.specs.Uses.{keywords, set_in}
 use Rattle.jt_rules.specs.World.{World}
 use Rattle.jt_meaning.specs.Meaning.{is_set}
-use Rattle.jt_meaning.specs.Layout.{Table, counted_from, numbered_bodies, numbered_of, globals, names, first_slot}
+use Rattle.jt_meaning.specs.Layout.{Table, counted_from, numbered_bodies, numbered_of, globals, names, first_slot, block_parameters, of_chain, unit}
 use Rattle.jt_meaning.specs.Programs.{body_routines, chain_routines, routines, program}
-use Rattle.jt_meaning.specs.Resolve.{Spot, place, left_out, grown, bound_all, copied, scoped, handed_on, followed, first_body, resolved, resolved_values, placed_body, resolved_stmt, resolved_body, resolved_choice, resolved_sets, top_spot, resolved_chain, macro_routine}
+use Rattle.jt_meaning.specs.Resolve.{Spot, place, left_out, grown, bound_all, copied, scoped, handed_on, followed, first_body, resolved_values, placed_body, resolved_stmt, resolved_body, resolved_choice, resolved_sets, top_spot, resolved_chain, macro_routine}
 use Rattle.jt_slots.specs.Slots as slots
 use Rattle.jt_slots.specs.Slots.{SExpr, SRow, Targets, SStmt, SBody, Routine, Slot}
-use Rattle.jt_slots.specs.Pool.{Constant, stmt_values, body_values, expr_values, condition_values, placed_stmt, placed_body as pooled_body, placed_routines}
+use Rattle.jt_slots.specs.Pool.{Constant, placed_stmt, placed_body as pooled_body, placed_routines}
 use Rattle.jt_lower.specs.Asm.{Asm, nil, one, both, choose as either, when, each, invoke, places}
 use Rattle.jt_lower.specs.Lower.{expr_asm, row_asm, stores_asm, take_asm, kept_asm, stmt_asm, body_asm, routine_places, places_of}
 use Rattle.jt_lower.proofs.Fitting.{all_append}
-use Rattle.jt_codegen.proofs.Read.{all_flat}
 
 -- ---- the lines of the tags of a tree that a place may have
 
@@ -202,22 +202,25 @@ module _ (P : Place → Type 0) where
       block_placed sp None x table h = (h 1 first, tt)
       block_placed sp (Some i) x table h = (tt, tt)
 
-      include_placed : (sp : Spot) (line : ℕ) (m : Text) (missing with_context none : Bool) → P (place sp line)
-          → B (if none then left_out sp line missing else followed (handed_on (place sp line) (if with_context then sp.table else []) (first_slot world order m) (names world order m)) (slots.stmt (slots.run _ slots.none) slots.end))
-      include_placed sp line m missing with_context true h = left_placed sp line missing h
-      include_placed sp line m missing with_context false h =
-          followed_placed (handed_on (place sp line) (if with_context then sp.table else []) (first_slot world order m) (names world order m)) _ (handed_placed (place sp line) (if with_context then sp.table else []) (first_slot world order m) (names world order m) h) (tt, tt)
+      include_placed : (sp : Spot) (line : ℕ) (m : Text) (u : ℕ) (missing with_context none : Bool) → P (place sp line)
+          → B (if none then left_out sp line missing else followed (handed_on (place sp line) (if with_context then sp.table else []) (first_slot world order m) (names world order m)) (slots.stmt (slots.run u slots.none) slots.end))
+      include_placed sp line m u missing with_context true h = left_placed sp line missing h
+      include_placed sp line m u missing with_context false h =
+          followed_placed (handed_on (place sp line) (if with_context then sp.table else []) (first_slot world order m) (names world order m)) (slots.stmt (slots.run u slots.none) slots.end) (handed_placed (place sp line) (if with_context then sp.table else []) (first_slot world order m) (names world order m) h) (tt, tt)
 
       mutual
         stmt_placed : (s : Stmt) (sp : Spot) → IsHere sp.template → StmtLines L s → B (resolved_stmt world order s sp)
         stmt_placed (data_of t) sp h l = (tt, tt)
         stmt_placed (print line e) sp h l = (h line l, tt)
         stmt_placed (choose bs other) sp h l = choice_placed bs sp (resolved_body world order other sp) h l.0 (body_placed other sp h l.1)
-        stmt_placed (for_each line xs e c body other) sp h l = ((
-          h line l.0,
-          scope_placed (set_in body) (bound_all xs sp) (resolved_body world order body) h (body_placed body (bound_all (set_in body) (bound_all xs sp)) h l.1),
-          body_placed other sp h l.2,
-        ), tt)
+        stmt_placed (for_each line xs e c body other) sp h l = (
+          (
+            h line l.0,
+            scope_placed (set_in body) (bound_all xs sp) (resolved_body world order body) h (body_placed body (bound_all (set_in body) (bound_all xs sp)) h l.1),
+            body_placed other sp h l.2,
+          ),
+          tt,
+        )
         stmt_placed (set line xs e) sp h l = (h line l, tt)
         stmt_placed (set_block line x body) sp h l = (scope_placed (set_in body) sp (resolved_body world order body) h (body_placed body (bound_all (set_in body) sp) h l), tt)
         stmt_placed (with_values line ps body) sp h l =
@@ -229,7 +232,7 @@ module _ (P : Place → Type 0) where
             let inner = record sp { escaping = on } in
             scope_placed (set_in body) inner (resolved_body world order body) h (body_placed body (bound_all (set_in body) inner) h l)
         stmt_placed (macro line x ps body) sp h l = tt
-        stmt_placed (include line m missing with_context) sp h l = include_placed sp line m missing with_context (is_none (world.sources m)) (h line l)
+        stmt_placed (include line m missing with_context) sp h l = include_placed sp line m (unit world order (of_chain m)) missing with_context (is_none (world.sources m)) (h line l)
         stmt_placed (extends line m) sp h l = tt
         stmt_placed (block line x is required body) sp h l = block_placed sp (first_body (numbered_of world sp.home x)) x (if is then sp.table else globals world order sp.home) h
 
@@ -269,7 +272,11 @@ module _ (P : Place → Type 0) where
 
       bodies_placed : (h : Home) (bs : List (ℕ × BlockBody)) → AllByRecursion (λ b. IsTagged b.1.template b.1.body) bs → AllByRecursion Good (body_routines world order h bs)
       bodies_placed h [] g = tt
-      bodies_placed h (b ∷ bs) g = (routine_placed _ b.1.body (record (top_spot world order h b.1.template) { escaping = b.1.escaping; part = _ }) g.0.here g.0.lines, bodies_placed h bs g.1)
+      bodies_placed h (b ∷ bs) g = (
+        routine_placed (block_parameters world order h b.1.name) b.1.body
+            (record (top_spot world order h b.1.template) { escaping = b.1.escaping; part = Some (record { name = b.1.name; behind = filter (λ c. bytes_eq c.1.name b.1.name) bs }) }) g.0.here g.0.lines,
+        bodies_placed h bs g.1,
+      )
 
       macros_tagged : (t : Text) → IsHere t → (b : Body) → BodyLines L b → AllByRecursion (λ m. IsTagged m.template m.body) (macros_in t b)
       macros_tagged t h end l = tt
@@ -336,7 +343,7 @@ module _ (P : Place → Type 0) where
           all_append Good (chain_routines world order h) (flat_map (chain_routines world order) hs) (
             chain_placed h ts g.0,
             all_append Good (map (macro_routine world order h) (macros world.sources h)) (body_routines world order h (numbered_bodies world h)) (macros_placed h (macros world.sources h) (all_macros ts g.0))
-            (bodies_placed h (numbered_bodies world h) (counted_tagged 0 (flat_map (λ t. blocks_in t.name t.body world.escaping) ts) (all_blocks world.escaping ts g.0))),
+                (bodies_placed h (numbered_bodies world h) (counted_tagged 0 (flat_map (λ t. blocks_in t.name t.body world.escaping) ts) (all_blocks world.escaping ts g.0))),
           )
           (routines_placed hs g.1)
 

@@ -60,11 +60,7 @@ pub(crate) struct Emitted {
 /// # Errors
 ///
 /// `CodeTooLong` where an image has no place for it, `NoMemory` where a growth was refused.
-pub(crate) fn emit_unit(
-    alloc: Global,
-    routine: &Routine,
-    left: usize,
-) -> Result<Emitted, EmitError>
+pub(crate) fn emit_unit(alloc: Global, routine: &Routine, left: usize) -> Result<Emitted, EmitError>
     ensures emitted { IfOk result (λ e. (templates : List Text)
         → section_of_unit e.unit ≡ Some (unit_of (routine_view templates routine.now))) }
     ensures placed { IfOk result (λ e. (templates : List Text)

@@ -1,13 +1,15 @@
 //! What an image tells of places: the templates that are named, and for each place one of them and a line.
 
-ghost use Rattle.std.specs.Prelude.{◌≡◌, ◌≤◌, length, map, string_bytes, IfOk, IfErr, Bor};
+ghost use Rattle.std.specs.Prelude.{◌≡◌, ◌≤◌, ◌∷◌, [], length, map, IfOk, IfErr};
 ghost use Rattle.std.specs.List.{AllByRecursion};
 ghost use Rattle.jt_image.specs.IsCode.{max_count};
 ghost use Rattle.jt_image.specs.View.{texts_view, spot_view, spots_view};
 ghost use Rattle.jt_slots.specs.View.{place_view};
 ghost use Rattle.jt_lower.specs.Emission.{tag_view, places_view};
-ghost use Rattle.jt_lower.specs.Spots.{templates_of, number_of, spot_of};
-ghost use Rattle.jt_codegen.specs.Naming.{texts, IsNamed};
+ghost use Rattle.jt_trees.specs.Texts.{all_inserted};
+ghost use Rattle.jt_uses.specs.Names.{texts};
+ghost use Rattle.jt_lower.specs.Spots.{templates_in, templates_of, number_of, spot_of};
+ghost use Rattle.jt_codegen.specs.Naming.{IsNamed};
 ghost use Rattle.jt_codegen.specs.Units.{RefusesTemplates};
 
 use crate::emission::EmitError;
@@ -18,7 +20,7 @@ use std::collections::BTreeSet;
 
 /// What an image tells of places.
 #[derive(Drop)]
-pub(crate) struct Placed {
+pub(crate) struct PlaceTable {
     /// The names of the templates that places name, strictly ascending.
     pub(crate) templates: Vec<String>,
     /// One for each place.
@@ -30,11 +32,11 @@ pub(crate) struct Placed {
 /// # Errors
 ///
 /// `CodeTooLong` where an image has no place for so many templates, `NoMemory` where a growth was refused.
-pub(crate) fn placed(
+pub(crate) fn told_places(
     alloc: Global,
     templates: &[String],
     places: &[Option<Place>],
-) -> Result<Placed, EmitError>
+) -> Result<PlaceTable, EmitError>
     ensures named { IfOk result (λ p. texts_view p.templates.items
         ≡ templates_of (places_view (texts_view templates.now) places.now)) }
     ensures told { IfOk result (λ p. spots_view p.spots.items
@@ -49,7 +51,7 @@ pub(crate) fn placed(
     }
     let spots = spots_of(alloc, templates, &named, places)?;
     let names = copies_of(alloc, &named)?;
-    Ok(Placed {
+    Ok(PlaceTable {
         templates: names,
         spots,
     })
@@ -76,11 +78,25 @@ fn named_templates<'a>(
 {
     let mut named = BTreeSet::new(alloc);
     for tag in places {
-        if let Some(place) = tag {
-            named.insert(template_at(templates, *place))?;
-        }
+        add_template(&mut named, templates, *tag)?;
     }
     named.into_iter().collect(alloc)
+}
+
+/// Adds the template that a place names.
+fn add_template<'a>(
+    named: &mut BTreeSet<&'a str>,
+    templates: &'a [String],
+    tag: Option<Place>,
+) -> Result<(), AllocError>
+    ensures { IfOk result (λ u. texts named.new.keys
+        ≡ all_inserted (templates_in (tag_view (texts_view templates.now) tag ∷ []))
+        (texts named.old.keys)) }
+{
+    if let Some(place) = tag {
+        named.insert(template_at(templates, place))?;
+    }
+    Ok(())
 }
 
 /// How many of these names stand before this one.

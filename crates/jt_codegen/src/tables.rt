@@ -14,7 +14,7 @@ ghost use Rattle.jt_codegen.specs.Units.{RefusesUnits, RefusesCode};
 ghost use Rattle.jt_codegen.specs.declared.emission.EmitError.TheVariants.{NoMemory};
 
 use crate::emission::{EmitError, emit_unit};
-use crate::places::placed;
+use crate::places::told_places;
 use jt_image::{Constant, MAX_COUNT, MAX_INSTRUCTIONS, Parts, Unit, Version};
 use jt_slots::{Place, Program, Routine};
 use jt_value::Value;
@@ -40,7 +40,7 @@ pub(crate) fn parts_of(alloc: Global, program: &Program) -> Result<Parts, EmitEr
         return Err(EmitError::CodeTooLong);
     }
     let code = units_of(alloc, &program.routines)?;
-    let named = placed(alloc, &program.templates, &code.places)?;
+    let named = told_places(alloc, &program.templates, &code.places)?;
     Ok(Parts {
         version: Version::Two,
         globals,

@@ -12,7 +12,7 @@ use std::alloc::{AllocError, Global};
 pub struct Emitter {
     /// The instructions, by their fields.
     pub code: Vec<Instr>,
-    /// Where the tag of each instruction stands; none for those that can't fail, or whose tag is a caller's.
+    /// Where the tag of each instruction stands; none for jumps, and for what stands in no tag.
     pub places: Vec<Option<Place>>,
     /// How many there may be.
     pub limit: usize,

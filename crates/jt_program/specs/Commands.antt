@@ -1,5 +1,6 @@
 -- What each command comes to: what it reads from the files, how it ends and what it leaves.
-use Rattle.std.specs.Prelude.{◌≡◌, ◌≢◌, ◌↔◌, ◌⊎◌, ◌<◌, ◌≤◌, ℕ, Bool, true, false, List, [], ◌∷◌, ◌++◌, length, Contains, Option, Some, None, option_map, Result, Ok, Err, String, codes, string_bytes}
+use Rattle.std.specs.Prelude.{◌≡◌, ◌≢◌, ◌↔◌, ◌⊎◌, ◌<◌, ◌≤◌, ℕ, Bool, flat_map, true, false, List, [], ◌∷◌, ◌++◌, length, Contains, Option, Some, None, option_map, Result, Ok, Err, String, codes, string_bytes}
+use Rattle.std.specs.Borrow.{Bor}
 use Rattle.std.specs.Fmt.{decimal}
 use Rattle.std.specs.declared.alloc.Global.{Global}
 use Rattle.std.specs.Io.KnownBytes.{Appends, Keeps}
@@ -244,6 +245,10 @@ Tells old new sink_failed (Ok text) status =
     ((status ≡ 0) × (sink_failed ≡ false) × Appends old new (string_bytes text))
     ⊎ ((status ≡ 5) × (sink_failed ≡ true) × TookFront (string_bytes text) old new)
 Tells old new sink_failed (Err e) status = (status ≡ code_of (status_of e)) × Keeps old new
+
+-- texts, one behind the other
+abbrev pub texts_of : List (Bor Text) → Text
+texts_of = flat_map (λ s. s.now)
 
 -- the line that names a fault, with its place if it has one
 abbrev pub fault_line : Fault → Option Place → Text

@@ -181,8 +181,8 @@ fn upgrade_to<F: Files>(
     ensures touched { files.new ≡ files.old ⊎ HasUpgrade (F.known files.old) (string_bytes image) }
 {
     let bytes = bytes_at(files, image)?;
-    let new = upgraded(alloc, &bytes)?;
-    put_at(files, out, &new)?;
+    let later = upgraded(alloc, &bytes)?;
+    put_at(files, out, &later)?;
     Ok(String::new(alloc))
 }
 

@@ -1,10 +1,10 @@
 //! What the program says on standard error.
-ghost use Rattle.std.specs.Prelude.{◌≡◌, ◌<◌, ◌≤◌, ◌++◌, [], codes, flat_map, length, option_map, take, IfOk, OnErr, OnOk};
+ghost use Rattle.std.specs.Prelude.{◌≡◌, ◌<◌, ◌≤◌, ◌++◌, [], codes, length, option_map, take, IfOk, OnErr, OnOk};
 ghost use Rattle.std.specs.Io.KnownBytes.{Appends};
 ghost use Rattle.jt_value.specs.FaultText.{fault_text};
 ghost use Rattle.jt_machine.specs.Sinks.{TookFront};
 ghost use Rattle.jt_machine.specs.View.{place_view};
-ghost use Rattle.jt_program.specs.Commands.{fault_line, Says};
+ghost use Rattle.jt_program.specs.Commands.{fault_line, texts_of, Says};
 ghost use Rattle.jt_program.specs.Ending.{code_of, status_of};
 
 use crate::messages::Failure;
@@ -34,7 +34,7 @@ pub fn report<E: Write>(errors: &mut E, failure: &Failure) -> u8
 
 /// Adds the line of a fault to `errors`, with its place if it has one.
 fn say_fault<E: Write>(errors: &mut E, fault: Fault, place: Option<&Place>)
-    ensures { TookFront (fault_line fault (option_map (λ q. place_view q.now) place))
+    ensures { TookFront (fault_line fault (option_map (λ q. place_view q.now) place.entry))
         (E.contents errors.old) (E.contents errors.new) }
 {
     let name = fault_name(fault);
@@ -42,11 +42,18 @@ fn say_fault<E: Write>(errors: &mut E, fault: Fault, place: Option<&Place>)
         None => say(errors, "jt: fault ", name),
         Some(place) => {
             let mut buffer = Buffer::new();
-            let line = buffer.format(place.line);
-            let template = place.template.as_str();
-            let _ = add_parts(errors, &["jt: fault ", name, " in ", template, " line ", line, "\n"]);
+            say_place(errors, name, place.template.as_str(), buffer.format(place.line));
         }
     }
+}
+
+/// Adds the line of a fault at a place to `errors`.
+fn say_place<E: Write>(errors: &mut E, name: &str, template: &str, line: &str)
+    ensures { TookFront (codes "jt: fault " ++ (name.now ++ (codes " in " ++ (template.now
+        ++ (codes " line " ++ (line.now ++ codes "\n")))))) (E.contents errors.old)
+        (E.contents errors.new) }
+{
+    let _ = add_parts(errors, &["jt: fault ", name, " in ", template, " line ", line, "\n"]);
 }
 
 /// Adds a line of two parts to `errors`. Where they take no more of it, the status alone says how the run ended.
@@ -59,16 +66,13 @@ fn say<E: Write>(errors: &mut E, head: &str, name: &str)
 
 /// Adds texts to `errors`, one behind the other, or a beginning of them.
 fn add_parts<E: Write>(errors: &mut E, parts: &[&str]) -> Result<(), SinkFailed>
-    ensures { TookFront (flat_map (λ part. part.now) parts.now) (E.contents errors.old)
+    ensures { TookFront (texts_of parts.now) (E.contents errors.old)
         (E.contents errors.new) }
 {
-    match parts {
-        [] => Ok(()),
-        [part, rest @ ..] => {
-            add_all(errors, part.as_bytes())?;
-            add_parts(errors, rest)
-        }
+    for part in parts {
+        add_all(errors, part.as_bytes())?;
     }
+    Ok(())
 }
 
 /// Adds all of the bytes to `errors`, or those that they take before they take none.

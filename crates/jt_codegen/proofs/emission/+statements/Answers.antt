@@ -133,27 +133,27 @@ emit_statement-returns-in-For t c =
     (emits_one ts h c0 c1 whole (subst (λ l. Puts ts c0 (stmt_asm (form l v.other.items) h) c1) c.deref-in-For.ensures.value
     (subst (λ l. Puts ts c0 (stmt_asm (form us l) h) c1) c.deref-in-For-2.ensures.value (g ts h s))))) c.emit_loop.ensures
 
-pub emit_statement-loop-condition-preserved : goal.emit_statement-loop-condition-preserved
-emit_statement-loop-condition-preserved t c = λ ts h s.
-    let l = c.loop-condition in
-    let b = c.loop-condition-item.result in
-    let bs = c.deref-condition-items.result.now in
-    subst (λ es. Opens ts h c.args.code.now bs c.end_branch.new.self (drop (l.condition-index + 1) bs) es) (sym c.in_ok-push-in-If.ensures.items)
-    (opens_more ts h bs l.condition-index b c.deref.result.now c.args.code.now l.code c.emit_expression-in-loop-condition.new.code c.begin_choice.new.self c.emit_statements.new.code c.end_branch.new.self l.ends.items c.in_ok-choice-in-If.choice c.in_ok-last-in-If.last
-    c.loop-condition-test.true c.loop-condition-item.is c.deref.ensures.value (l.invariant ts h s)
+pub emit_statement-loop-tag-preserved : goal.emit_statement-loop-tag-preserved
+emit_statement-loop-tag-preserved t c = λ ts h s.
+    let l = c.loop-tag in
+    let b = c.loop-tag-item.result in
+    let bs = c.deref-tag-items.result.now in
+    subst (λ es. Opens ts h c.args.code.now bs c.end_branch.new.self (drop (l.tag-index + 1) bs) es) (sym c.in_ok-push-in-If.ensures.items)
+    (opens_more ts h bs l.tag-index b c.deref.result.now c.args.code.now l.code c.emit_expression-in-loop-tag.new.code c.begin_choice.new.self c.emit_statements.new.code c.end_branch.new.self l.ends.items c.in_ok-choice-in-If.choice c.in_ok-last-in-If.last
+    c.loop-tag-test.true c.loop-tag-item.is c.deref.ensures.value (l.invariant ts h s)
     (c.in_ok-emit_expression-in-If.ensures ts h s) c.in_ok-choice-in-If.ensures (c.in_ok-emit_statements-in-If.ensures ts h s) c.in_ok-last-in-If.ensures)
 
 pub emit_statement-returns-in_ok-emit_statements-in-If-2 : goal.emit_statement-returns-in_ok-emit_statements-in-If-2
 emit_statement-returns-in_ok-emit_statements-in-If-2 t c = λ ts h s.
-    let l = c.loop-condition in
+    let l = c.loop-tag in
     let v = c.in-If in
-    let bs = c.deref-condition-items.result.now in
+    let bs = c.deref-tag-items.result.now in
     let c0 = c.args.code.now in
     let c9 = c.close_all.new.code in
     let other = subst (λ x. Emits ts h l.code (body_view ts x) c.emit_statements-in-If.new.code) c.deref-in-If.ensures.value (c.in_ok-emit_statements-in-If-2.ensures ts h s) in
     emits_as ts h c0 c9 (stmt_view ts c.args.statement.now) (λ b. choice_view ts bs (body_view ts v.other.items) b)
-    (λ b. ap (λ x. stmt_view ts x b) v.is ∙ view_If ts v.branches v.other b ∙ ap (λ x. choice_view ts x (body_view ts v.other.items) b) (sym c.deref-condition-items.ensures.value))
-    (emits_branches ts h bs l.condition-index (body_view ts v.other.items) c0 l.code c.emit_statements-in-If.new.code c9 l.ends.items c.deref-in-If-2.result.now (omega arith) (l.invariant ts h s) other c.deref-in-If-2.ensures.value c.close_all.ensures)
+    (λ b. ap (λ x. stmt_view ts x b) v.is ∙ view_If ts v.branches v.other b ∙ ap (λ x. choice_view ts x (body_view ts v.other.items) b) (sym c.deref-tag-items.ensures.value))
+    (emits_branches ts h bs l.tag-index (body_view ts v.other.items) c0 l.code c.emit_statements-in-If.new.code c9 l.ends.items c.deref-in-If-2.result.now (omega arith) (l.invariant ts h s) other c.deref-in-If-2.ensures.value c.close_all.ensures)
 
 -- ---- statements in turn
 

@@ -19,58 +19,58 @@ steps-init g c =
 
 pub step-requires-clause-not_wrong : goal.step-requires-clause-not_wrong
 step-requires-clause-not_wrong g c =
-    let r = underway_gone (g.C.Code.code c.args.code.now) c.steps.state c.hurry.new.state c.steps.invariant.reached c.hurry.ensures.gone in
-    (reached_sound c.code_laws.ensures (g.C.Code.code c.args.code.now) c.requires.whole c.requires.typed r.context r.budget (config_view c.hurry.new.state) (r.steps, r.reached)).not_wrong
+    let r = underway_gone (g.C.Code.code c.args.code.now) c.steps.state c.hurry-left.new.state c.steps.invariant.reached c.hurry-left.ensures.gone in
+    (reached_sound c.code_laws.ensures (g.C.Code.code c.args.code.now) c.requires.whole c.requires.typed r.context r.budget (config_view c.hurry-left.new.state) (r.steps, r.reached)).not_wrong
 
 pub step-requires-clause-sized : goal.step-requires-clause-sized
 step-requires-clause-sized g c =
-    let r = underway_gone (g.C.Code.code c.args.code.now) c.steps.state c.hurry.new.state c.steps.invariant.reached c.hurry.ensures.gone in
-    (reached_sound c.code_laws.ensures (g.C.Code.code c.args.code.now) c.requires.whole c.requires.typed r.context r.budget (config_view c.hurry.new.state) (r.steps, r.reached)).sized
+    let r = underway_gone (g.C.Code.code c.args.code.now) c.steps.state c.hurry-left.new.state c.steps.invariant.reached c.hurry-left.ensures.gone in
+    (reached_sound c.code_laws.ensures (g.C.Code.code c.args.code.now) c.requires.whole c.requires.typed r.context r.budget (config_view c.hurry-left.new.state) (r.steps, r.reached)).sized
 
 pub step-requires-clause-few : goal.step-requires-clause-few
 step-requires-clause-few g c =
-    let r = underway_gone (g.C.Code.code c.args.code.now) c.steps.state c.hurry.new.state c.steps.invariant.reached c.hurry.ensures.gone in
-    (reached_sound c.code_laws.ensures (g.C.Code.code c.args.code.now) c.requires.whole c.requires.typed r.context r.budget (config_view c.hurry.new.state) (r.steps, r.reached)).few
+    let r = underway_gone (g.C.Code.code c.args.code.now) c.steps.state c.hurry-left.new.state c.steps.invariant.reached c.hurry-left.ensures.gone in
+    (reached_sound c.code_laws.ensures (g.C.Code.code c.args.code.now) c.requires.whole c.requires.typed r.context r.budget (config_view c.hurry-left.new.state) (r.steps, r.reached)).few
 
 pub step-requires-clause-depth : goal.step-requires-clause-depth
-step-requires-clause-depth g c = (underway_gone (g.C.Code.code c.args.code.now) c.steps.state c.hurry.new.state c.steps.invariant.reached c.hurry.ensures.gone).depth
+step-requires-clause-depth g c = (underway_gone (g.C.Code.code c.args.code.now) c.steps.state c.hurry-left.new.state c.steps.invariant.reached c.hurry-left.ensures.gone).depth
 
 pub steps-preserved : goal.steps-preserved
 steps-preserved g c =
     let k = g.C.Code.code c.args.code.now in
-    let e : next k (config_view c.hurry.new.state) ≡ Goes (config_view c.step.new.state) = c.in_ok-outcome.ensures.next ∙ rw c.in_default.is refl in
-    let r = underway_gone k c.steps.state c.hurry.new.state c.steps.invariant.reached c.hurry.ensures.gone in
-    let far = slice_gone k c.args.k c.steps.left c.hurry.result (config_view c.args.state.now) c.steps.state c.hurry.new.state c.steps.invariant.within c.steps.invariant.so_far c.hurry.ensures.gone c.hurry.ensures.left in
+    let e : next k (config_view c.hurry-left.new.state) ≡ Goes (config_view c.step.new.state) = c.in_ok-outcome.ensures.next ∙ rw c.in_default.is refl in
+    let r = underway_gone k c.steps.state c.hurry-left.new.state c.steps.invariant.reached c.hurry-left.ensures.gone in
+    let far = slice_gone k c.args.k c.steps.left c.hurry-left.result (config_view c.args.state.now) c.steps.state c.hurry-left.new.state c.steps.invariant.within c.steps.invariant.so_far c.hurry-left.ensures.gone c.hurry-left.ensures.left in
     record {
-      within = omega (arith, c.steps.invariant.within, c.hurry.ensures.left, c.hurry.ensures.gone.fuel);
-      so_far = slice_on k c.args.k c.hurry.result (config_view c.args.state.now) (config_view c.hurry.new.state) (config_view c.step.new.state) (omega arith) (omega (arith, c.steps.invariant.within, c.hurry.ensures.left, c.hurry.ensures.gone.fuel)) far e;
-      reached = reached_on c.code_laws.ensures k c.requires.whole c.requires.typed c.hurry.new.state c.step.new.state r e;
+      within = omega (arith, c.steps.invariant.within, c.hurry-left.ensures.left, c.hurry-left.ensures.gone.fuel);
+      so_far = slice_on k c.args.k c.hurry-left.result (config_view c.args.state.now) (config_view c.hurry-left.new.state) (config_view c.step.new.state) (omega arith) (omega (arith, c.steps.invariant.within, c.hurry-left.ensures.left, c.hurry-left.ensures.gone.fuel)) far e;
+      reached = reached_on c.code_laws.ensures k c.requires.whole c.requires.typed c.hurry-left.new.state c.step.new.state r e;
     }
 
 pub steps-smaller : goal.steps-smaller
-steps-smaller g c = omega (arith, c.hurry.ensures.left, c.hurry.ensures.gone.fuel)
+steps-smaller g c = omega (arith, c.hurry-left.ensures.left, c.hurry-left.ensures.gone.fuel)
 
 pub returns-in-Some-clause-steps : goal.returns-in-Some-clause-steps
 returns-in-Some-clause-steps g c =
     let k = g.C.Code.code c.args.code.now in
     let o = outcome_view c.in-Some.outcome in
-    let e : next k (config_view c.hurry.new.state) ≡ Ends o = c.in_ok-outcome.ensures.next ∙ rw c.in-Some.is refl in
-    let far = slice_gone k c.args.k c.steps.left c.hurry.result (config_view c.args.state.now) c.steps.state c.hurry.new.state c.steps.invariant.within c.steps.invariant.so_far c.hurry.ensures.gone c.hurry.ensures.left in
-    ended_within k (c.args.k - c.hurry.result) c.args.k (config_view c.args.state.now) (config_view c.hurry.new.state) o far e (omega (arith, c.steps.invariant.within, c.hurry.ensures.left, c.hurry.ensures.gone.fuel))
+    let e : next k (config_view c.hurry-left.new.state) ≡ Ends o = c.in_ok-outcome.ensures.next ∙ rw c.in-Some.is refl in
+    let far = slice_gone k c.args.k c.steps.left c.hurry-left.result (config_view c.args.state.now) c.steps.state c.hurry-left.new.state c.steps.invariant.within c.steps.invariant.so_far c.hurry-left.ensures.gone c.hurry-left.ensures.left in
+    ended_within k (c.args.k - c.hurry-left.result) c.args.k (config_view c.args.state.now) (config_view c.hurry-left.new.state) o far e (omega (arith, c.steps.invariant.within, c.hurry-left.ensures.left, c.hurry-left.ensures.gone.fuel))
 
 pub returns-then-left-eq0-clause-steps : goal.returns-then-left-eq0-clause-steps
 returns-then-left-eq0-clause-steps g c =
     let k = g.C.Code.code c.args.code.now in
-    let far = slice_gone k c.args.k c.steps.left c.hurry.result (config_view c.args.state.now) c.steps.state c.hurry.new.state c.steps.invariant.within c.steps.invariant.so_far c.hurry.ensures.gone c.hurry.ensures.left in
-    all_made k (c.args.k - c.hurry.result) c.args.k (config_view c.args.state.now) (config_view c.hurry.new.state) far (omega arith) (omega arith)
+    let far = slice_gone k c.args.k c.steps.left c.hurry-left.result (config_view c.args.state.now) c.steps.state c.hurry-left.new.state c.steps.invariant.within c.steps.invariant.so_far c.hurry-left.ensures.gone c.hurry-left.ensures.left in
+    all_made k (c.args.k - c.hurry-left.result) c.args.k (config_view c.args.state.now) (config_view c.hurry-left.new.state) far (omega arith) (omega arith)
 
 pub returns-then-left-eq0-clause-reached : goal.returns-then-left-eq0-clause-reached
-returns-then-left-eq0-clause-reached g c = underway_gone (g.C.Code.code c.args.code.now) c.steps.state c.hurry.new.state c.steps.invariant.reached c.hurry.ensures.gone
+returns-then-left-eq0-clause-reached g c = underway_gone (g.C.Code.code c.args.code.now) c.steps.state c.hurry-left.new.state c.steps.invariant.reached c.hurry-left.ensures.gone
 
 pub returns-in_err-outcome-clause-memory : goal.returns-in_err-outcome-clause-memory
 returns-in_err-outcome-clause-memory g c =
     let k = g.C.Code.code c.args.code.now in
-    let far = slice_gone k c.args.k c.steps.left c.hurry.result (config_view c.args.state.now) c.steps.state c.hurry.new.state c.steps.invariant.within c.steps.invariant.so_far c.hurry.ensures.gone c.hurry.ensures.left in
-    let comes : ComesToGrow k (config_view c.args.state.now) = record { steps = c.args.k - c.hurry.result; last = config_view c.hurry.new.state; reached = far; grows = c.in_err-outcome.ensures.memory } in
-    let less : c.args.k - c.hurry.result < c.args.k = omega (arith, c.steps.invariant.within, c.hurry.ensures.left, c.hurry.ensures.gone.fuel) in
+    let far = slice_gone k c.args.k c.steps.left c.hurry-left.result (config_view c.args.state.now) c.steps.state c.hurry-left.new.state c.steps.invariant.within c.steps.invariant.so_far c.hurry-left.ensures.gone c.hurry-left.ensures.left in
+    let comes : ComesToGrow k (config_view c.args.state.now) = record { steps = c.args.k - c.hurry-left.result; last = config_view c.hurry-left.new.state; reached = far; grows = c.in_err-outcome.ensures.memory } in
+    let less : c.args.k - c.hurry-left.result < c.args.k = omega (arith, c.steps.invariant.within, c.hurry-left.ensures.left, c.hurry-left.ensures.gone.fuel) in
     on_err c.from_residual.result (comes, less)
