@@ -50,7 +50,7 @@ import sys
 import tempfile
 
 HERE = pathlib.Path(__file__).resolve().parent
-FILES = ["templates.txt", "values.txt", "refusals.txt", "faults.txt", "documents.txt", "commands.txt"]
+FILES = ["templates.txt", "values.txt", "refusals.txt", "faults.txt", "documents.txt", "hostile.txt", "commands.txt"]
 KINDS = ("templates", "commands")
 SECONDS = 60
 SIGNS = str.maketrans({**dict(zip("␇␈␉␤␋␌␍␠⍽␀", "\a\b\t\n\v\f\r \u00a0\0")), "⌧": "\udcff", "∅": ""})
