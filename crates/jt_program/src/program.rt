@@ -11,7 +11,9 @@ ghost use Rattle.jt_program.specs.Ending.{IfUntaken, status_of};
 ghost use Rattle.jt_program.specs.Files.{AreSources, IsLibrary, IsOfDirectory, path_in};
 ghost use Rattle.jt_program.specs.Templates.{source_of};
 
-use crate::commands::{context_of, counts_of, image_of, render_text, run_image, scan_options, upgraded};
+use crate::commands::{
+    context_of, counts_of, image_of, render_text, run_image, scan_options, upgraded,
+};
 use crate::files::{FileError, Files};
 use crate::messages::{Failure, Status, no_file};
 use crate::reports::report;

@@ -42,7 +42,12 @@ fn say_fault<E: Write>(errors: &mut E, fault: Fault, place: Option<&Place>)
         None => say(errors, "jt: fault ", name),
         Some(place) => {
             let mut buffer = Buffer::new();
-            say_place(errors, name, place.template.as_str(), buffer.format(place.line));
+            say_place(
+                errors,
+                name,
+                place.template.as_str(),
+                buffer.format(place.line),
+            );
         }
     }
 }
@@ -53,7 +58,10 @@ fn say_place<E: Write>(errors: &mut E, name: &str, template: &str, line: &str)
         ++ (codes " line " ++ (line.now ++ codes "\n")))))) (E.contents errors.old)
         (E.contents errors.new) }
 {
-    let _ = add_parts(errors, &["jt: fault ", name, " in ", template, " line ", line, "\n"]);
+    let _ = add_parts(
+        errors,
+        &["jt: fault ", name, " in ", template, " line ", line, "\n"],
+    );
 }
 
 /// Adds a line of two parts to `errors`. Where they take no more of it, the status alone says how the run ended.
