@@ -37,6 +37,8 @@ HERE = pathlib.Path(__file__).resolve().parent
 NO_MEMORY = (6, b"", b"jt: no memory\n")
 LIMIT = 1 << 22
 PART = 400
+# What a trial says of a writer: its pieces, the call at which it fails, its calls, whether the sink has failed, the answer, the text.
+WRITTEN = re.compile(r'(\d+) (\d+) (\d+) (true|false) (.*) (".*")')
 LONG = "{% for i in range(20000) %}{{ i }},{% endfor %}"
 
 
@@ -227,8 +229,9 @@ def written(trials):
     """What is wrong with the writes of each row."""
     for row in WRITES:
         ran = subprocess.run([trials], input=f"writes {row}\n".encode(), capture_output=True, timeout=60)
-        lines = [line.split(" ", 5) for line in ran.stdout.decode().splitlines()]
-        wrong = [] if ran.returncode == 0 and len(lines) > 5 else [f"status {ran.returncode}"]
+        found = [WRITTEN.fullmatch(line) for line in ran.stdout.decode().splitlines()]
+        lines = [line.groups() for line in found if line]
+        wrong = [] if ran.returncode == 0 and len(lines) > 5 and all(found) else [f"status {ran.returncode}, {len(lines)} lines"]
         for piece in sorted({line[0] for line in lines}, key=int):
             wrong += wrong_pieces(int(piece), [line[1:] for line in lines if line[0] == piece])
         yield f"writes, {row[:40]}", [f"writes, {row[:40]}: {it}" for it in wrong]
@@ -236,10 +239,10 @@ def written(trials):
 
 def wrong_pieces(piece, lines):
     """What is wrong where a writer that takes such pieces fails at its first call, at its second one and so on."""
-    *failing, (_, calls, _, *last) = lines
-    text = json.loads(" ".join(last).partition(" ")[2])
-    if not re.match(r"(Ok\((Whole|Fault\S*)|Err)", last[0]) or last[0] == "Err(Write)" or int(calls) != len(failing):
-        yield f"pieces of {piece}: {last}, {calls} calls of {len(failing)}"
+    *failing, (_, calls, has_failed, answer, text) = lines
+    text = json.loads(text)
+    if not re.match(r"Ok\((Whole|Fault)", answer) or has_failed != "false" or int(calls) != len(failing):
+        yield f"pieces of {piece}: {answer}, {calls} calls of {len(failing)}"
     before = -1
     for n, (fails_at, calls, has_failed, answer, taken) in enumerate(failing, 1):
         taken = json.loads(taken)

@@ -32,7 +32,7 @@ HERE = pathlib.Path(__file__).resolve().parent
 EXAMPLES = HERE.parent / "examples"
 # An image's places are dealt out to so many processes, and a row of sources to so many.
 IMAGE_STEP, SOURCE_STEP = 8, 32
-SECONDS = 120
+SECONDS = 600
 DEFINED = ("X", "N", "Z", "Y", "DROPPED")
 SOURCES = {
     "greeting": ["{}", "Hello {{ name }}!\n"],
