@@ -57,15 +57,36 @@ fn changes(alloc: Global, bytes: &[u8], place: usize, context: &Context) -> Resu
 }
 
 fn letter(alloc: Global, bytes: &[u8], context: &Context) -> Result<char, Stop> {
-    match (decode(alloc, bytes), view(alloc, bytes)) {
-        (Ok(image), Ok(seen)) => {
-            if encode(alloc, &image)?.as_slice() != bytes {
-                return Ok('=');
+    match decode(alloc, bytes) {
+        Ok(image) => letter_of_image(alloc, image, bytes, context),
+        Err(error) => Ok(letter_of_none(alloc, error, bytes)),
+    }
+}
+
+/// The letter of bytes that `decode` reads: `view` has to read them too, and `encode` to give them back.
+fn letter_of_image(
+    alloc: Global,
+    image: Image,
+    bytes: &[u8],
+    context: &Context,
+) -> Result<char, Stop> {
+    match view(alloc, bytes) {
+        Ok(seen) => {
+            if encode(alloc, &image)?.as_slice() == bytes {
+                judged(alloc, image, seen, context)
+            } else {
+                Ok('=')
             }
-            judged(alloc, image, seen, context)
         }
-        (Err(error), Err(seen)) if error == seen => Ok(digit_of(error)),
-        _ => Ok('~'),
+        Err(_) => Ok('~'),
+    }
+}
+
+/// The letter of bytes that `decode` refuses: `view` has to refuse them alike.
+fn letter_of_none(alloc: Global, error: ImageError, bytes: &[u8]) -> char {
+    match view(alloc, bytes) {
+        Ok(_) => '~',
+        Err(seen) => { if seen == error { digit_of(error) } else { '~' } }
     }
 }
 
@@ -84,10 +105,36 @@ fn digit_of(error: ImageError) -> char {
 }
 
 fn judged(alloc: Global, image: Image, seen: View<'_>, context: &Context) -> Result<char, Stop> {
-    match (verify(alloc, image), verify_view(alloc, seen)) {
-        (Ok(verified), Ok(in_place)) => ended(alloc, &verified, &in_place, context),
-        (Err((_, refusal)), Err((_, seen))) if refusal == seen => Ok(letter_of(&refusal)),
-        _ => Ok('^'),
+    match verify(alloc, image) {
+        Ok(verified) => accepted(alloc, &verified, seen, context),
+        Err((_, refusal)) => Ok(refused(alloc, &refusal, seen)),
+    }
+}
+
+/// The letter of an image that is accepted: it has to be accepted in place too.
+fn accepted(
+    alloc: Global,
+    verified: &Verified,
+    seen: View<'_>,
+    context: &Context,
+) -> Result<char, Stop> {
+    match verify_view(alloc, seen) {
+        Ok(in_place) => ended(alloc, verified, &in_place, context),
+        Err(_) => Ok('^'),
+    }
+}
+
+/// The letter of an image that is refused: it has to be refused alike in place.
+fn refused(alloc: Global, refusal: &Refusal, seen: View<'_>) -> char {
+    match verify_view(alloc, seen) {
+        Ok(_) => '^',
+        Err((_, other)) => {
+            if other == *refusal {
+                letter_of(refusal)
+            } else {
+                '^'
+            }
+        }
     }
 }
 

@@ -41,15 +41,32 @@ pub(crate) fn source_answers(rt: &HostRuntime, of: &str) -> Result<(), Stop> {
     let (places, row) = Places::read(of)?;
     let text = unfolded(rt.alloc(), row)?;
     let shelf = templates_of(rt.alloc(), &text)?;
-    let Ok(context) = context_from_json(rt.alloc(), context_of(&text)) else {
-        return Err(Stop::Other);
-    };
-    let trial = Trial {
-        shelf: &shelf,
-        options: options_of(&text),
-        context: &context,
-    };
+    let context = context_in(rt.alloc(), context_of(&text))?;
+    let options = options_of(&text);
+    all_answers(rt, &shelf, options, &context, places)
+}
+
+fn context_in(alloc: Global, json: &str) -> Result<Context, Stop> {
+    match context_from_json(alloc, json) {
+        Ok(context) => Ok(context),
+        Err(_) => Err(Stop::Other),
+    }
+}
+
+/// Prints the letters of each template of a shelf.
+fn all_answers(
+    rt: &HostRuntime,
+    shelf: &Shelf<'_>,
+    options: Options,
+    context: &Context,
+    places: Places,
+) -> Result<(), Stop> {
     for (index, template) in shelf.templates.iter().enumerate() {
+        let trial = Trial {
+            shelf,
+            options,
+            context,
+        };
         template_answers(rt, &trial, places, index, *template)?;
     }
     Ok(())
