@@ -54,11 +54,11 @@ fn context_in(alloc: Global, json: &str) -> Result<Context, Stop> {
 }
 
 /// Prints the letters of each template of a shelf.
-fn all_answers(
+fn all_answers<'x>(
     rt: &HostRuntime,
-    shelf: &Shelf<'_>,
+    shelf: &'x Shelf<'x>,
     options: Options,
-    context: &Context,
+    context: &'x Context,
     places: Places,
 ) -> Result<(), Stop> {
     for (index, template) in shelf.templates.iter().enumerate() {
