@@ -1,5 +1,6 @@
 #!/usr/bin/env python3
-"""Times `jt compile` on sources of 1 MiB that are hard on a compiler: long chains, deep nesting, marks, raw text, unclosed tags.
+"""Times `jt compile` on sources of 1 MiB that are hard on a compiler: long chains, deep nesting, marks, raw text, unclosed tags, and
+sets of templates with many blocks or includes, of 1 MiB together.
 
     bench/compile.py [--jt PATH] [--bytes N] [--steps N] [--runs N] [--most SECONDS] [NAME ..]
 
@@ -97,6 +98,43 @@ def distinct_names(size):
     return "".join(source)
 
 
+def many_blocks(size):
+    """As many blocks as fit."""
+    return {"t": "".join(f"{{% block b{n:05} %}}{{% endblock %}}" for n in range(size // 33))}
+
+
+def fan(size):
+    """A template that includes 1,023 others, which take the rest in equal parts."""
+    tags = "".join(f'{{% include "p{n}" %}}' for n in range(1_023))
+    part = "{{ a }}" * ((size - len(tags)) // 1_023 // 7)
+    return {"t": tags, **{f"p{n}": part for n in range(1_023)}}
+
+
+def mesh(size):
+    """64 templates, each of which includes all behind it as often as fits."""
+    tags = lambda n: "".join(f'{{% include "p{m}" %}}' for m in range(n + 1, 64)) or "x"
+    times = max(1, size // sum(len(tags(n)) for n in range(64)))
+    return {"t": tags(0) * times, **{f"p{n}": tags(n) * times for n in range(1, 64)}}
+
+
+def tall(size):
+    """16 templates that extend one another, each of which has all blocks and calls those of the one below."""
+    count = min(200, size // 16 // 42)
+    blocks = "".join(f"{{% block b{n:03} %}}{{{{ super() }}}}{{% endblock %}}" for n in range(count))
+    base = blocks.replace("{{ super() }}", "")
+    chain = {f"p{n}": f'{{% extends "p{n + 1}" %}}{blocks}' for n in range(1, 15)}
+    return {"t": f'{{% extends "p1" %}}{blocks}', **chain, "p15": base}
+
+
+# name, the templates, the answers that are right for them
+SETS = [
+    ("many blocks", many_blocks, ["ok", "G1"]),
+    ("a fan of includes", fan, ["ok", "G1", "C4"]),
+    ("a mesh of includes", mesh, ["ok", "G1", "C4"]),
+    ("16 templates of 200 blocks", tall, ["ok", "G1"]),
+]
+
+
 def nested(opener, inner, closer, size):
     depth = (size - len(inner) - 6) // (len(opener) + len(closer))
     return "{{ " + opener * depth + inner + closer * depth + " }}"
@@ -104,8 +142,10 @@ def nested(opener, inner, closer, size):
 
 def sources(size):
     for name, head, piece, tail, answers in SOURCES:
-        yield name, nested(*piece, size) if head is None else repeat(head, piece, tail, size), answers
-    yield "distinct names", distinct_names(size), ["ok", "V5", "G1"]
+        yield name, {"t": nested(*piece, size) if head is None else repeat(head, piece, tail, size)}, answers
+    yield "distinct names", {"t": distinct_names(size)}, ["ok", "V5", "G1"]
+    for name, templates, answers in SETS:
+        yield name, templates(size), answers
 
 
 def compile_once(jt, folder):
@@ -118,11 +158,12 @@ def compile_once(jt, folder):
     return took, words[2] if words[:2] == ["jt:", "refused"] else line or f"status {ran.returncode}"
 
 
-def compile_source(jt, source, runs):
+def compile_sources(jt, templates, runs):
     """The shortest of some runs, and the answer."""
     with tempfile.TemporaryDirectory() as folder:
         os.mkdir(f"{folder}/d")
-        pathlib.Path(folder, "d", "t").write_bytes(source.encode())
+        for name, source in templates.items():
+            pathlib.Path(folder, "d", name).write_bytes(source.encode())
         found = [compile_once(jt, folder) for _ in range(runs)]
     return min(took for took, _ in found), found[0][1]
 
@@ -133,7 +174,7 @@ def main():
     for row in zip(*map(sources, asked.sizes)):
         name, answers = row[0][0], row[0][2]
         if rows.wants(name):
-            found = [compile_source(asked.jt, source, asked.runs) for _, source, _ in row]
+            found = [compile_sources(asked.jt, templates, asked.runs) for _, templates, _ in row]
             rows.tell(name, [took for took, _ in found], found[-1][1], all(answer in answers for _, answer in found))
     rows.end()
 

@@ -7,8 +7,8 @@ Without --jt it takes the program that `rt run` keeps, crates/jt_cli/out/jt_cli.
 in both cases, `numbers`, `texts` and `pairs`, a map, each of --items (1,000,000) letters, items or entries. It is rendered
 --runs times (1), and the shortest time is printed that the program took of a processor, less what a template took that
 only reads the same context. --steps N renders each row in N sizes, each twice the one before, --items being the greatest:
-a cost that grows faster than n log n shows. The last rows are no filters: a loop, calls of macros, chains of includes, and
-a join whose text would be too large. The status is 1 where a row took longer than --most (2 seconds), or where it is
+a cost that grows faster than n log n shows. Behind these come rows within the default budget, and some that are no filters: calls
+of macros, chains of includes, and a join whose text would be too large. The status is 1 where a row took longer than --most (2 seconds), or where it is
 answered otherwise than it must be.
 """
 import json, os, pathlib, tempfile
@@ -35,6 +35,7 @@ ROWS = [
     ("list of a text", "text", "{{ text|list|length }}", str),
     ("lower", "text", "{{ text|lower|length }}", str),
     ("upper", "text", "{{ text|upper|length }}", str),
+    ("map", "numbers", "{{ numbers|map('abs')|length }}", str),
     ("max", "numbers", "{{ numbers|max }}", lambda n: str(n - 1)),
     ("max of texts", "texts", "{{ texts|max }}", lambda n: f"{n - 1:07}"),
     ("min", "numbers", "{{ numbers|min }}", lambda n: "0"),
@@ -53,6 +54,17 @@ ROWS = [
     ("a loop", "numbers", "{% for x in numbers %}{% endfor %}{{ numbers|length }}", str),
     ("a loop with a condition", "numbers", "{% for x in numbers if x < 3 %}{{ x }}{% endfor %}", lambda n: "012"),
     ("a loop over range", None, "{% for x in range(N) %}{% endfor %}", lambda n: ""),
+]
+
+# The same, within the default budget.
+WITHIN = [
+    ("join, by default", "numbers", "{{ numbers|join|length }}", lambda n: "jt: spent Size"),
+    ("map, by default", "numbers", "{{ numbers|map('abs')|length }}", str),
+    ("replace, by default", "text", "{{ text|replace('a', '')|length }}", lambda n: str(n - (n + 3) // 4)),
+    ("replace to more, by default", "text", "{{ text|replace('a', 'bb')|length }}", lambda n: "jt: spent Size"),
+    ("sort, by default", "numbers", "{{ numbers|sort(true)|first }}", lambda n: str(n - 1)),
+    ("unique, by default", "numbers", "{{ numbers|unique|length }}", str),
+    ("a loop, by default", "numbers", "{% for x in numbers %}{% endfor %}", lambda n: "jt: spent Fuel"),
 ]
 
 
@@ -74,14 +86,14 @@ def rendered(jt, folder, name, options=BUDGET):
     return took, told.decode(errors="replace").strip()
 
 
-def row(jt, kind, template, n, runs):
+def row(jt, kind, template, n, runs, options=BUDGET):
     """The shortest of some runs, less reading the context, and the answer."""
     with tempfile.TemporaryDirectory() as folder:
         os.mkdir(f"{folder}/d")
         pathlib.Path(folder, "context.json").write_text(json.dumps({kind: held(kind, n)} if kind else {}))
         pathlib.Path(folder, "d", "t").write_text(template.replace("N", str(n)))
         pathlib.Path(folder, "d", "empty").write_text("")
-        found = [rendered(jt, folder, "t") for _ in range(runs)]
+        found = [rendered(jt, folder, "t", options) for _ in range(runs)]
         read = min(rendered(jt, folder, "empty")[0] for _ in range(runs))
     return max(min(took for took, _ in found) - read, 0), found[0][1]
 
@@ -105,9 +117,10 @@ def others(jt):
 def main():
     asked = sized(__doc__, "items", MILLION, runs=1, most=2.0)
     rows = Rows(asked)
-    for name, kind, template, wanted in ROWS:
+    for name, kind, template, wanted in [*ROWS, *WITHIN]:
         if rows.wants(name):
-            found = [row(asked.jt, kind, template, n, asked.runs) for n in asked.sizes]
+            options = BUDGET if (name, kind, template, wanted) in ROWS else []
+            found = [row(asked.jt, kind, template, n, asked.runs, options) for n in asked.sizes]
             is_right = all(told == wanted(n) for (_, told), n in zip(found, asked.sizes))
             rows.tell(name, [took for took, _ in found], found[-1][1], is_right)
     for name, took, answer, begins in others(asked.jt):

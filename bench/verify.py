@@ -103,6 +103,18 @@ def units():
     return [[of(CONST), of(DROP), of(RETURN)]] * 65_535
 
 
+def scattered():
+    """Jumps to everywhere, each of them forwards, from points with the same value on the stack."""
+    count = (MOST - 3) // 2
+    targets = [2 * n + 1 + 2 * (n * 48_271 % (count - n)) for n in range(count)]
+    return [of(CONST)] + [i for target in targets for i in (of(DUP), of(JUMP_IF_FALSE, target + 2))] + [of(DROP), of(RETURN)]
+
+
+def entries():
+    """As many entries as there may be at once, made and taken again and again."""
+    return filled([], [of(CONST)] * 1_024 + [of(DROP)] * 1_024, [of(RETURN)])
+
+
 IMAGES = {
     "joins": lambda: [joins()],
     "captured": lambda: [captured()],
@@ -111,6 +123,8 @@ IMAGES = {
     "marked": lambda: [marked()],
     "searched": lambda: [searched()],
     "waiting": lambda: [waiting()],
+    "scattered": lambda: [scattered()],
+    "entries": lambda: [entries()],
     "units": units,
 }
 

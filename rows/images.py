@@ -14,7 +14,7 @@ images_bytes.py; they are made here, and no other part of the project is needed.
 A context is JSON, in which "a"*62 is a text of 62 letters. An ANSWER is one of
 
     [x]                         the text x, in which ␤ is an LF; `62 bytes` is a text of so many bytes
-    F6 NotIterable, Fuel        a fault, a spent number
+    F6 NotIterable, Fuel        a fault, a spent number; `F6 NotIterable in x line 2` where the fault has a place
     K5 JumpOut unit 0 point 0   a refusal
     ok                          an image that is accepted
     any                         an image that ends with a text, a fault or a spent number, or a refusal
@@ -47,7 +47,7 @@ NUMBERS = ("fuel", "depth", "output", "size", "nesting")
 SLICES = ("1", "2", "3", "7", "100", "1000000")
 COMMANDS = ("check", "run", "turns")
 REFUSAL = re.compile(r"I[1-8] \w+|K[1-9] \w+ unit \d+ point \d+")
-FAULT = re.compile(r"F[1-9] \w+")
+FAULT = re.compile(r"F[1-9] \w+( in .+ line \d+)?")
 VALUES = re.compile(r"values of (Op|Filter|Test) (\d+)")
 TO = re.compile(r"(\d+) to (\d+)")
 

@@ -8,6 +8,10 @@ A spelling is a list of parts with ` | ` between them. Parts of one kind add up.
     copies 9 'a'            nine constants that are alike
     unit CODE               a unit of kind 0 without parameters and locals; `unit 2 1 3: CODE` has 2 parameters, kind 1, 3 locals
     units 9: CODE           nine units of kind 0 without parameters and locals
+    version 2               the version, which is 1 where nothing is said of it
+    templates 'a' "b"       the templates of version 2, in the order of the table
+    templates 9 all         nine templates, of which one has its number in five digits
+    spots 1:5 2*0:0         the spots of version 2: template 1 and line 5, then two empty ones. Without them each instruction has an empty one
     bytes 4a54 42           these bytes in place of all parts
     at 28 0a00              the bytes 0a and 00 in place of those at 28
     cut 5                   the first five bytes alone
@@ -27,7 +31,7 @@ INSTRUCTIONS = [row.split() for row in TABLE.split(",")]
 FIELDS = {opcode: "".join(row[1:]) for opcode, row in enumerate(INSTRUCTIONS, 1)}
 OPCODES = {row[0]: opcode for opcode, row in enumerate(INSTRUCTIONS, 1)}
 PLAIN = {"undefined": 0, "none": 1, "false": 2, "true": 3}
-MAX_BYTES, MAX_LOCALS, MAX_INSTRUCTIONS = 16_777_216, 4_096, 262_144
+MAX_BYTES, MAX_LOCALS, MAX_INSTRUCTIONS, MAX_LINE = 16_777_216, 4_096, 262_144, 1_048_577
 CONSTANT = re.compile(r"""(m?)(["'])(.*?)\2(?:\*(\d+))?(?=\s|$)|(-?\d+)(?=\s|$)|(undefined|none|false|true)(?=\s|$)""")
 
 
@@ -110,11 +114,44 @@ def names(count, words):
     return [name(number(slot), text) for slot, text in pairs]
 
 
+def templates(text):
+    """The table of templates."""
+    words = text.split()
+    if words[1:] == ["all"]:
+        return [name_only(f"{one:05}") for one in range(number(words[0]))]
+    found, at = [], 0
+    while text[at:].strip():
+        at += len(text[at:]) - len(text[at:].lstrip())
+        one = CONSTANT.match(text, at)
+        if not one or one[3] is None or one[1]:
+            raise Malformed(f"no template: {text[at:]!r}")
+        found.append(name_only(one[3] * int(one[4] or "1")))
+        at = one.end()
+    return found
+
+
+def name_only(text):
+    return struct.pack("<H", len(text.encode())) + text.encode()
+
+
+def spots(words):
+    """The spots that words stand for."""
+    found = []
+    for word in words:
+        times, _, one = word.rpartition("*")
+        template, colon, line = one.partition(":")
+        if not colon:
+            raise Malformed(f"no spot: {word!r}")
+        found += [struct.pack("<HI", number(template), number(line))] * number(times or "1")
+    return found
+
+
 class Parts:
     """The parts of an image, and what is done to its bytes."""
 
     def __init__(self):
         self.globals, self.names, self.constants, self.units, self.whole, self.edits = 0, [], [], [], None, []
+        self.version, self.templates, self.spots = 1, [], None
 
     def unit(self, text, times=1):
         numbers, colon, behind = text.partition(":")
@@ -136,6 +173,12 @@ class Parts:
         elif word == "units":
             times, _, text = rest.partition(":")
             self.unit(text, number(times))
+        elif word == "version":
+            self.version = number(rest)
+        elif word == "templates":
+            self.templates += templates(rest)
+        elif word == "spots":
+            self.spots = (self.spots or []) + spots(rest.split())
         elif word == "bytes":
             self.whole = bytes.fromhex(rest)
         elif word in ("at", "cut", "and"):
@@ -146,10 +189,16 @@ class Parts:
     def spelled(self):
         if self.whole is not None:
             return self.whole
-        header = struct.pack("<4sHH", b"JTBC", 1, self.globals)
+        header = struct.pack("<4sHH", b"JTBC", self.version, self.globals)
         units = [struct.pack("<BBHI", *numbers, len(lines)) for numbers, lines in self.units]
         lines = b"".join(b"".join(lines) for _, lines in self.units)
-        return header + counted("<H", self.names) + counted("<H", self.constants) + counted("<H", units) + lines
+        front = header + counted("<H", self.names) + counted("<H", self.constants) + counted("<H", units) + lines
+        return front if self.version == 1 else front + self.behind()
+
+    def behind(self):
+        """What stands behind the code in version 2."""
+        found = spots(["0:0"]) * sum(len(lines) for _, lines in self.units) if self.spots is None else self.spots
+        return counted("<H", self.templates) + b"".join(found)
 
 
 def edited(data, word, rest):
@@ -261,16 +310,38 @@ def read_instruction(reader):
         expect(value == 0 or field in FIELDS[opcode], "I6 BadOpcode")
 
 
+def read_templates(reader):
+    """How many templates there are."""
+    count, last = reader.uint(2), b""
+    for _ in range(count):
+        text = reader.text(reader.uint(2)).encode()
+        expect(text > last, "I7 BadTable")
+        last = text
+    return count
+
+
+def read_spot(reader, templates_):
+    template = reader.uint(2)
+    expect(template <= templates_, "I7 BadTable")
+    line = reader.uint(4)
+    expect(0 < line <= MAX_LINE if template else line == 0, "I7 BadTable")
+
+
 def counts(data):
     """How many units and instructions the image has that bytes spell; else their first fault, as `Fault`."""
     expect(len(data) <= MAX_BYTES, "I8 LimitPassed")
     reader = Reader(data)
     expect(reader.take(4) == b"JTBC", "I1 BadMagic")
-    expect(reader.uint(2) == 1, "I2 BadVersion")
+    version = reader.uint(2)
+    expect(version in (1, 2), "I2 BadVersion")
     read_names(reader, reader.uint(2))
     read_constants(reader)
     units, instructions = read_units(reader)
     for _ in range(instructions):
         read_instruction(reader)
+    if version == 2:
+        templates_ = read_templates(reader)
+        for _ in range(instructions):
+            read_spot(reader, templates_)
     expect(reader.at == len(data), "I4 Trailing")
     return units, instructions

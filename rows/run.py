@@ -15,8 +15,8 @@ A row of templates is `part¦..¦source => wanted`. The source is the template `
 another template, a context (it begins with `{` or `[`) or options (they begin with `--`). Wanted is one of
 
     [text]                the text, and nothing on standard error
-    F2, C1, V3, G1, X1    the fault or the refusal of that code
-    S1, P1 line 2, P1 in p line 2     a refusal with its place; of the first line of `t` where none is named
+    C1, V3, G1, X1        the refusal of that code
+    F2, S1, P1 line 2, F2 in p line 2     a fault or a refusal with its place: the first line of `t` where none is named
     Fuel                  that number of the budget is spent
     3 [][jt: ..␤]         an answer: the status, all of standard output and all of standard error. Where what is wanted on standard
                           error ends with …, more may follow
@@ -50,7 +50,7 @@ import sys
 import tempfile
 
 HERE = pathlib.Path(__file__).resolve().parent
-FILES = ["templates.txt", "values.txt", "refusals.txt", "faults.txt", "commands.txt"]
+FILES = ["templates.txt", "values.txt", "refusals.txt", "faults.txt", "documents.txt", "hostile.txt", "commands.txt"]
 KINDS = ("templates", "commands")
 SECONDS = 60
 SIGNS = str.maketrans({**dict(zip("␇␈␉␤␋␌␍␠⍽␀", "\a\b\t\n\v\f\r \u00a0\0")), "⌧": "\udcff", "∅": ""})
@@ -114,9 +114,9 @@ def answer_of(wanted):
         raise Malformed(f"nothing is wanted by {wanted[:80]!r}")
     code, where, line = found.groups()
     named = f"{code} {NAMES[code]}"
+    place = f"{where or ' in t'}{line or ' line 1'}" if code[0] in "FSP" else ""
     if code[0] == "F":
-        return f"1 [][jt: fault {named}\n]"
-    place = f"{where or ' in t'}{line or ' line 1'}" if code[0] in "SP" else ""
+        return f"1 [][jt: fault {named}{place}\n]"
     return f"3 [][jt: refused {named}{place}\n]"
 
 

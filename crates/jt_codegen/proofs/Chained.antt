@@ -79,7 +79,7 @@ module _ (low : LowLaws) (programs : ProgramLaws) (given : Given) (entry : Text)
         typed = low.typed p fit;
         does = record {
           texts = λ x b t r. let m = d.texts x b t r in (m.0, sym (means x m.0) ∙ m.1);
-          faults = λ x b f r. let m = d.faults x b f r in (m.0, m.1, sym (means x m.0) ∙ m.2);
+          faults = λ x b f q r. let m = d.faults x b f q r in (m.0, sym (means x m.0) ∙ m.1);
           enough_text = λ x n t e. d.enough_text x n t (means x n ∙ e);
           enough_fault = λ x n f q e. d.enough_fault x n f q (means x n ∙ e);
         };

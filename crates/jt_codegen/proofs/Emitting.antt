@@ -4,7 +4,7 @@ use Rattle.std.specs.Prelude.{option_map}
 use Rattle.std.proofs.lemmas.List.{drop_more, at_drop_all}
 use Rattle.jt_image.specs.declared.instruction.Instruction.TheVariants as op
 use Rattle.jt_trees.specs.Expressions.{Text}
-use Rattle.jt_slots.specs.Got.{Place}
+use Rattle.jt_value.specs.Place.{Place}
 use Rattle.jt_slots.specs.Slots as slots
 use Rattle.jt_slots.specs.Slots.{SBody}
 use Rattle.jt_slots.specs.View.{Front, slot_view, place_view, expr_view, stmt_view, body_view, choice_view}
@@ -24,33 +24,33 @@ stands_itself n = record { same = λ l. refl; above = λ l. l }
 -- ---- statements
 
 -- a statement alone in front of others
-pub emits_one : (h : ℕ) (old new : Emitter) (s : slots.SStmt ℕ) → Puts old (stmt_asm s h) new → Emits h old (λ behind. slots.stmt s behind) new
-emits_one h old new s p = λ behind final q. puts_then old new final (stmt_asm s h) (body_asm behind h) p q
+pub emits_one : (ts : List Text) (h : ℕ) (old new : Emitter) (s : slots.SStmt ℕ) → Puts ts old (stmt_asm s h) new → Emits ts h old (λ behind. slots.stmt s behind) new
+emits_one ts h old new s p = λ behind final q. puts_then ts old new final (stmt_asm s h) (body_asm behind h) p q
 
-pub emits_as : (h : ℕ) (old new : Emitter) (f g : Front) → ((behind : SBody ℕ) → f behind ≡ g behind) → Emits h old g new → Emits h old f new
-emits_as h old new f g same e = λ behind final q. subst (λ b. Puts old (body_asm b h) final) (sym (same behind)) (e behind final q)
+pub emits_as : (ts : List Text) (h : ℕ) (old new : Emitter) (f g : Front) → ((behind : SBody ℕ) → f behind ≡ g behind) → Emits ts h old g new → Emits ts h old f new
+emits_as ts h old new f g same e = λ behind final q. subst (λ b. Puts ts old (body_asm b h) final) (sym (same behind)) (e behind final q)
 
 -- statements alone
-pub emits_alone : (h : ℕ) (old new : Emitter) (f : Front) → Emits h old f new → Puts old (body_asm (f slots.end) h) new
-emits_alone h old new f e = e slots.end new (puts_nothing new)
+pub emits_alone : (ts : List Text) (h : ℕ) (old new : Emitter) (f : Front) → Emits ts h old f new → Puts ts old (body_asm (f slots.end) h) new
+emits_alone ts h old new f e = e slots.end new (puts_nothing ts new)
 
 -- whatever comes last: all stand behind the old code when those that are left stand behind the new one
-abbrev pub Leads : ℕ → Emitter → Front → Emitter → Front → Type 0
-Leads h old all now left = (behind : SBody ℕ) (final : Emitter) → Puts now (body_asm (left behind) h) final → Puts old (body_asm (all behind) h) final
+abbrev pub Leads : List Text → ℕ → Emitter → Front → Emitter → Front → Type 0
+Leads ts h old all now left = (behind : SBody ℕ) (final : Emitter) → Puts ts now (body_asm (left behind) h) final → Puts ts old (body_asm (all behind) h) final
 
 module _ (templates : List Text) (h : ℕ) where
   statements_left : (ss : List SStmt) (i : ℕ) (s : SStmt) → i < length ss → s ≡ get_or ss i s → (behind : SBody ℕ) → body_view templates (drop i ss) behind ≡ stmt_view templates s (body_view templates (drop (i + 1) ss) behind)
   statements_left ss i s lt is behind =
       ap (λ l. body_view templates l behind) (drop_more ss i s lt) ∙ ap (λ (x : SStmt). stmt_view templates x (body_view templates (drop (i + 1) ss) behind)) (sym is)
 
-  pub leads_more : (ss : List SStmt) (i : ℕ) (s : SStmt) (old now new : Emitter) (all : Front) → i < length ss → s ≡ get_or ss i s → Leads h old all now (body_view templates (drop i ss)) → Emits h now (stmt_view templates s) new
-      → Leads h old all new (body_view templates (drop (i + 1) ss))
+  pub leads_more : (ss : List SStmt) (i : ℕ) (s : SStmt) (old now new : Emitter) (all : Front) → i < length ss → s ≡ get_or ss i s → Leads templates h old all now (body_view templates (drop i ss)) → Emits templates h now (stmt_view templates s) new
+      → Leads templates h old all new (body_view templates (drop (i + 1) ss))
   leads_more ss i s old now new all lt is l e = λ behind final q.
-      l behind final (subst (λ b. Puts now (body_asm b h) final) (sym (statements_left ss i s lt is behind)) (e (body_view templates (drop (i + 1) ss) behind) final q))
+      l behind final (subst (λ b. Puts templates now (body_asm b h) final) (sym (statements_left ss i s lt is behind)) (e (body_view templates (drop (i + 1) ss) behind) final q))
 
-  pub leads_all : (ss : List SStmt) (i : ℕ) (old now : Emitter) (all : Front) → length ss ≤ i → Leads h old all now (body_view templates (drop i ss)) → Emits h old all now
+  pub leads_all : (ss : List SStmt) (i : ℕ) (old now : Emitter) (all : Front) → length ss ≤ i → Leads templates h old all now (body_view templates (drop i ss)) → Emits templates h old all now
   leads_all ss i old now all le l = λ behind final q.
-      l behind final (subst (λ b. Puts now (body_asm b h) final) (sym (at_drop_all (λ es. body_view templates es behind) ss i le)) q)
+      l behind final (subst (λ b. Puts templates now (body_asm b h) final) (sym (at_drop_all (λ es. body_view templates es behind) ss i le)) q)
 
   -- ---- branches
 
@@ -70,25 +70,25 @@ module _ (templates : List Text) (h : ℕ) where
   -- the same of branches, the last jumps of which aren't written yet: they stand at the ends, and go behind whatever comes last
   pub record Opens (old : Emitter) (all : List SBranch) (now : Emitter) (left : List SBranch) (ends : List ℕ) : Type 0 where
     pub counted : length ends + length left ≡ length all
-    pub puts : (other : Asm) (final done : Emitter) → Puts now (inner_asm left other) final → Closes final ends done → Puts old (inner_asm all other) done
+    pub puts : (other : Asm) (final done : Emitter) → Puts templates now (inner_asm left other) final → Closes final ends done → Puts templates old (inner_asm all other) done
 
   pub opens_first : (old : Emitter) (all : List SBranch) → Opens old all old all []
-  opens_first old all = record { counted = omega arith; puts = λ other final done p same. subst (λ z. Puts old (inner_asm all other) z) (sym same) p }
+  opens_first old all = record { counted = omega arith; puts = λ other final done p same. subst (λ z. Puts templates old (inner_asm all other) z) (sym same) p }
 
   closes_snoc : (final done : Emitter) (es : List ℕ) (m : ℕ) → Closes final (es ++ m ∷ []) done → (mid : Emitter) × Patches final m (op.Jump (length final.code.items)) mid × Closes mid es done
   closes_snoc final done [] m c = (done, subst (λ z. Patches z m (op.Jump (length z.code.items)) done) c.1 c.2, refl)
   closes_snoc final done (e ∷ es) m c = let r = closes_snoc final c.0 es m c.1 in (r.0, r.1, (c.0, r.2, c.2))
 
   pub opens_more : (bs : List SBranch) (i : ℕ) (b : SBranch) (ss : List SStmt) (old now c1 c2 c3 c4 : Emitter) (ends : List ℕ) (choice last : ℕ) → i < length bs → b ≡ get_or bs i b → ss ≡ b.2.items → Opens old bs now (drop i bs) ends
-      → Puts now (expr_asm (Some (place_view templates b.0)) (expr_view b.1) h) c1 → Reserves c1 (op.JumpIfFalse 0) choice c2 → Emits h c2 (body_view templates ss) c3 → Ends c3 choice last c4
+      → Puts templates now (expr_asm (Some (place_view templates b.0)) (expr_view b.1) h) c1 → Reserves c1 (op.JumpIfFalse 0) choice c2 → Emits templates h c2 (body_view templates ss) c3 → Ends c3 choice last c4
       → Opens old bs c4 (drop (i + 1) bs) (ends ++ last ∷ [])
   opens_more bs i b ss old now c1 c2 c3 c4 ends choice last lt is same o tested tests taken ended = record {
     counted = omega (arith, o.counted, length-append ends (last ∷ []), ap length (drop_more bs i b lt));
     puts = λ other final done q c.
         let r = closes_snoc final done ends last c in
         let rest = inner_asm (drop (i + 1) bs) other in
-        let whole : Puts now (both (first_asm b rest) nil) r.0 = puts_last now r.0 (first_asm b rest) (puts_then now c1 r.0 x (choose a rest) tested (puts_choice c1 c2 c3 c4 final r.0 a rest choice last tests body ended q r.1)) in
-        o.puts other r.0 done (subst (λ z. Puts now z r.0) (sym (left other)) whole) r.2;
+        let whole : Puts templates now (both (first_asm b rest) nil) r.0 = puts_last templates now r.0 (first_asm b rest) (puts_then templates now c1 r.0 x (choose a rest) tested (puts_choice templates c1 c2 c3 c4 final r.0 a rest choice last tests body ended q r.1)) in
+        o.puts other r.0 done (subst (λ z. Puts templates now z r.0) (sym (left other)) whole) r.2;
   }
     where
       x : Asm
@@ -97,8 +97,8 @@ module _ (templates : List Text) (h : ℕ) where
       a : Asm
       a = body_asm (body_view templates b.2.items slots.end) h
 
-      body : Puts c2 a c3
-      body = subst (λ l. Puts c2 (body_asm (body_view templates l slots.end) h) c3) same (emits_alone h c2 c3 (body_view templates ss) taken)
+      body : Puts templates c2 a c3
+      body = subst (λ l. Puts templates c2 (body_asm (body_view templates l slots.end) h) c3) same (emits_alone templates h c2 c3 (body_view templates ss) taken)
 
       left : (other : Asm) → inner_asm (drop i bs) other ≡ both (first_asm b (inner_asm (drop (i + 1) bs) other)) nil
       left other = ap (λ l. inner_asm l other) (drop_more bs i b lt) ∙ ap (λ (z : SBranch). both (first_asm z (inner_asm (drop (i + 1) bs) other)) nil) (sym is)
@@ -108,22 +108,22 @@ module _ (templates : List Text) (h : ℕ) where
   no_ends (x ∷ es) n e = absurd (omega (arith, e))
 
   -- branches and the else part, whole
-  pub emits_branches : (bs : List SBranch) (i : ℕ) (other : Front) (old now new done : Emitter) (ends es : List ℕ) → length bs ≤ i → Opens old bs now (drop i bs) ends → Emits h now other new → es ≡ ends → Closes new es done → Emits h old (choice_view templates bs other) done
+  pub emits_branches : (bs : List SBranch) (i : ℕ) (other : Front) (old now new done : Emitter) (ends es : List ℕ) → length bs ≤ i → Opens old bs now (drop i bs) ends → Emits templates h now other new → es ≡ ends → Closes new es done → Emits templates h old (choice_view templates bs other) done
   emits_branches bs i other old now new done ends es le o e same closes = λ behind final q. by bs (subst (λ l. Opens old bs now l ends) (at_drop_all (λ l. l) bs i le) o) behind final q
     where
       closed : Closes new ends done
       closed = subst (λ l. Closes new l done) same closes
 
-      by : (cs : List SBranch) → Opens old cs now [] ends → (behind : SBody ℕ) (final : Emitter) → Puts done (body_asm behind h) final → Puts old (body_asm (choice_view templates cs other behind) h) final
+      by : (cs : List SBranch) → Opens old cs now [] ends → (behind : SBody ℕ) (final : Emitter) → Puts templates done (body_asm behind h) final → Puts templates old (body_asm (choice_view templates cs other behind) h) final
       by [] p behind final q =
           let none = no_ends ends 0 p.counted in
           let is : done ≡ new = subst (λ l. Closes new l done) none closed in
-          p.puts (body_asm (other behind) h) final final (e behind final (subst (λ z. Puts z (body_asm behind h) final) is q)) (subst (λ l. Closes final l final) (sym none) refl)
+          p.puts (body_asm (other behind) h) final final (e behind final (subst (λ z. Puts templates z (body_asm behind h) final) is q)) (subst (λ l. Closes final l final) (sym none) refl)
       by (c ∷ cs) p behind final q =
-          let whole = p.puts (body_asm (other slots.end) h) new done (emits_alone h now new other e) closed in
+          let whole = p.puts (body_asm (other slots.end) h) new done (emits_alone templates h now new other e) closed in
           let first = first_asm c (inner_asm cs (body_asm (other slots.end) h)) in
           let seen : first_asm c (body_asm (choice_view templates cs other slots.end) h) ≡ first = ap (first_asm c) (inner_is cs other) in
-          subst (λ z. Puts old (both z (body_asm behind h)) final) (sym seen) (puts_then old done final first (body_asm behind h) (puts_first old done first whole) q)
+          subst (λ z. Puts templates old (both z (body_asm behind h)) final) (sym seen) (puts_then templates old done final first (body_asm behind h) (puts_first templates old done first whole) q)
 
 -- ---- jumps that are closed, and slots, from the last one on
 
@@ -133,11 +133,11 @@ drop_before xs at d some le =
     let next : at - 1 + 1 ≡ at = omega (arith, some) in
     drop_more xs (at - 1) d lt ∙ ap (λ n. get_or xs (at - 1) d ∷ drop n xs) next
 
-pub stores_more : (o : Option Place) (ss : List (Option Slot)) (at : ℕ) (d s : Option Slot) (c0 c1 c2 : Emitter) → 0 < at → at ≤ length ss → get_or ss (at - 1) d ≡ s → Puts c0 (stores_asm o (slots_view (drop at ss))) c1 → Puts c1 (one o (store_if_of (option_map slot_view s))) c2
-    → Puts c0 (stores_asm o (slots_view (drop (at - 1) ss))) c2
-stores_more o ss at d s c0 c1 c2 some le is p q =
+pub stores_more : (ts : List Text) (o : Option Place) (ss : List (Option Slot)) (at : ℕ) (d s : Option Slot) (c0 c1 c2 : Emitter) → 0 < at → at ≤ length ss → get_or ss (at - 1) d ≡ s → Puts ts c0 (stores_asm o (slots_view (drop at ss))) c1 → Puts ts c1 (one o (store_if_of (option_map slot_view s))) c2
+    → Puts ts c0 (stores_asm o (slots_view (drop (at - 1) ss))) c2
+stores_more ts o ss at d s c0 c1 c2 some le is p q =
     let left : drop (at - 1) ss ≡ s ∷ drop at ss = drop_before ss at d some le ∙ ap (λ x. x ∷ drop at ss) is in
-    subst (λ l. Puts c0 (stores_asm o (slots_view l)) c2) (sym left) (puts_then c0 c1 c2 (stores_asm o (slots_view (drop at ss))) (one o (store_if_of (option_map slot_view s))) p q)
+    subst (λ l. Puts ts c0 (stores_asm o (slots_view l)) c2) (sym left) (puts_then ts c0 c1 c2 (stores_asm o (slots_view (drop at ss))) (one o (store_if_of (option_map slot_view s))) p q)
 
-pub stores_all : (o : Option Place) (ss : List (Option Slot)) (at : ℕ) (c0 c1 : Emitter) → at ≤ 0 → Puts c0 (stores_asm o (slots_view (drop at ss))) c1 → Puts c0 (stores_asm o (slots_view ss)) c1
-stores_all o ss at c0 c1 le p = let none : at ≡ 0 = omega (arith, le) in subst (λ n. Puts c0 (stores_asm o (slots_view (drop n ss))) c1) none p
+pub stores_all : (ts : List Text) (o : Option Place) (ss : List (Option Slot)) (at : ℕ) (c0 c1 : Emitter) → at ≤ 0 → Puts ts c0 (stores_asm o (slots_view (drop at ss))) c1 → Puts ts c0 (stores_asm o (slots_view ss)) c1
+stores_all ts o ss at c0 c1 le p = let none : at ≡ 0 = omega (arith, le) in subst (λ n. Puts ts c0 (stores_asm o (slots_view (drop n ss))) c1) none p

@@ -39,7 +39,7 @@ use Rattle.jt_slots.specs.declared.program.Routine as given_routine
 use Rattle.jt_lower.specs.Compiles.{LowLaws}
 use Rattle.jt_lower.specs.Fits.{ProgramFits}
 use Rattle.jt_lower.specs.Lawful.{AreLow}
-use Rattle.jt_lower.specs.Lower.{compiled}
+use Rattle.jt_lower.specs.Lower.{places_of, compiled}
 use Rattle.jt_codegen.specs.Compiled.{IsOnlyChain, IsCompiled}
 use Rattle.jt_codegen.specs.Limits.{NeedsTooMany}
 use Rattle.jt_codegen.specs.Refusals.{of_chain, of_scope, of_emit, Breaks, HasProgram, NamesLimit}
@@ -52,6 +52,9 @@ use Rattle.jt_codegen.proofs.Read.{names_all, own_all, all_short}
 use Rattle.jt_codegen.proofs.Routines.{parameters_few}
 use Rattle.jt_codegen.proofs.Spelled.{read_named}
 use Rattle.jt_codegen.proofs.Small.{small_low, small_fits}
+use Rattle.jt_codegen.proofs.Lined.{IsLine, first_line}
+use Rattle.jt_codegen.proofs.Named.{IsTag, names_of, few_names, homes_tagged}
+use Rattle.jt_codegen.proofs.Tagged.{OnTag, program_placed}
 use Rattle.jt_codegen.proofs.Ordered.{tables}
 
 -- no routine needs more entries than a shape may have
@@ -145,10 +148,17 @@ module _ (code : CodeLaws) (low : LowLaws) (programs : ProgramLaws) (given : Giv
   some : AllByRecursion (λ t. AllByRecursion (λ x. 0 < length x) (body_names t.body)) c.templates
   some = read_named given options c.templates is.read.each
 
+  -- the names of the templates of the chains, and the place of each tag
+  abbrev named : List Text
+  named = names_of (sources_of c) order
+
+  tags : AllByRecursion (OnTag (IsTag named)) (places_of p)
+  tags = program_placed (IsTag named) IsLine first_line world order entry (homes_tagged given options c.templates is.read.each order)
+
   pub tables_of : (q : Program) → IsOf q → HasTables (compiled q)
   tables_of q same =
       subst (λ (r : Program). HasTables (compiled r)) (sym (of_entry q same ∙ begun))
-      (tables world entry is.included (names_all (λ x. 0 < length x) world (own_all (λ x. 0 < length x) c.templates some) order entry) (programs.ascends world order entry) (omega (arith, few_globals world order entry)))
+      (tables world entry is.included named tags (names_all (λ x. 0 < length x) world (own_all (λ x. 0 < length x) c.templates some) order entry) (programs.ascends world order entry) (omega (arith, few_globals world order entry)))
 
   lows : (q : Program) → IsOf q → Low q → AreLow (routines world c.order)
   lows q same h = low.low (routines world c.order) (length (shared world c.order)) (subst Low (of_entry q same) h)
@@ -198,7 +208,7 @@ module _ (code : CodeLaws) (low : LowLaws) (programs : ProgramLaws) (given : Giv
       pub fits_small : (q : Program) → IsOf q → FitsImage (compiled q)
       fits_small q same =
           subst (λ (r : Program). FitsImage (compiled r)) (sym (of_entry q same ∙ begun))
-          (small_fits code low world order p sized weight texts few_chains fitting (parameters_few world entry is.included (length (shared world order)) are_few))
+          (small_fits code low world order p sized weight texts few_chains named (few_names (sources_of c) order) tags fitting (parameters_few world entry is.included (length (shared world order)) are_few))
 
   pub stack_not_small : (q : Program) → IsOf q → ¬ (Low q) → chains_weight (sources_of c) c.order ≤ chains_len given (sources_of c) c.order → ¬ (IsSmall given entry options)
   stack_not_small q same n weighs = λ small. n (low_small weighs small q same)

@@ -13,3 +13,8 @@ pub mod Ordered
 pub mod Small
 pub mod Spelled
 pub mod Images
+pub mod Telling
+pub mod Tagged
+pub mod Lined
+pub mod Fewer
+pub mod Named

@@ -1,6 +1,7 @@
 -- The tables of the code of a chain are in order.
-use Rattle.std.proofs.Common.{◌≢◌, ℕ, suc, ◌+◌, ◌<◌, ◌≤◌, List, [], ◌∷◌, length, map, refl, arith}
+use Rattle.std.proofs.Common.{◌≢◌, ℕ, suc, ◌+◌, ◌<◌, ◌≤◌, List, [], ◌∷◌, length, map, refl, ◌∙◌, arith}
 use Rattle.std.specs.List.{AllByRecursion}
+use Rattle.std.proofs.lemmas.List.{length-map}
 use Rattle.jt_image.specs.IsCode.{Ascend, AreDistinct}
 use Rattle.jt_image.specs.Parts.{IsUnitInOrder, HasTables}
 use Rattle.jt_trees.specs.Expressions.{Text}
@@ -12,7 +13,11 @@ use Rattle.jt_meaning.specs.Programs.{program}
 use Rattle.jt_meaning.specs.Resolve.{chain_routine}
 use Rattle.jt_slots.specs.Slots.{Routine}
 use Rattle.jt_slots.specs.Pool.{placed_routine}
-use Rattle.jt_lower.specs.Lower.{unit_of, numbered, compiled}
+use Rattle.jt_lower.specs.Lower.{unit_of, numbered, places_of, compiled}
+use Rattle.jt_lower.specs.Spots.{templates_of, spot_of}
+use Rattle.jt_lower.proofs.Spots.{places_len}
+use Rattle.jt_codegen.proofs.Named.{IsTag, are_templates, are_spots}
+use Rattle.jt_codegen.proofs.Tagged.{OnTag}
 use Rattle.jt_codegen.proofs.Routines.{parameters_within}
 
 numbered_slots : (i m : ℕ) (xs : List Text) → i + length xs ≤ m → AllByRecursion (λ n. n.slot < m) (numbered i xs)
@@ -44,10 +49,10 @@ emitting : (rs : List (Routine ℕ)) → AllByRecursion (λ u. u.parameters ≤ 
 emitting [] h = tt
 emitting (r ∷ rs) h = ((omega arith, h.0), emitting rs h.1)
 
--- wherever no name is empty, names ascend, and there is a global for each
-pub tables : (world : World) (entry : Home) (rest : List Home) → AllByRecursion (λ x. 0 < length x) (names world (entry ∷ rest) entry) → Ascends (names world (entry ∷ rest) entry) → length (names world (entry ∷ rest) entry) ≤ (program world (entry ∷ rest) entry).globals
+-- wherever each place is that of a tag, no name is empty, names ascend, and there is a global for each
+pub tables : (world : World) (entry : Home) (rest : List Home) (ns : List Text) → AllByRecursion (OnTag (IsTag ns)) (places_of (program world (entry ∷ rest) entry)) → AllByRecursion (λ x. 0 < length x) (names world (entry ∷ rest) entry) → Ascends (names world (entry ∷ rest) entry) → length (names world (entry ∷ rest) entry) ≤ (program world (entry ∷ rest) entry).globals
     → HasTables (compiled (program world (entry ∷ rest) entry))
-tables world entry rest some ascends few =
+tables world entry rest ns tags some ascends few =
     let order = entry ∷ rest in
     let p = program world order entry in
     record {
@@ -59,4 +64,7 @@ tables world entry rest some ascends few =
       };
       units = emitting p.routines (parameters_within world order (length (shared world order)));
       entry = record { entry = unit_of (placed_routine (chain_routine world order entry) (length (shared world order))); is = refl; emits = refl; plain = refl };
+      templates = are_templates ns (places_of p) tags;
+      spots = are_spots ns (places_of p) tags;
+      placed = length-map (places_of p) (spot_of (templates_of (places_of p))) ∙ places_len p.routines;
     }

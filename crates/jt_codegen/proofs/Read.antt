@@ -78,7 +78,7 @@ module _ (P : Text → Type 0) where
       through false true k = (h, g)
       through false false k = (g.0, k)
 
-  all_inserted_all : (xs ys : List Text) → AllByRecursion P xs → AllByRecursion P ys → AllByRecursion P (all_inserted xs ys)
+  pub all_inserted_all : (xs ys : List Text) → AllByRecursion P xs → AllByRecursion P ys → AllByRecursion P (all_inserted xs ys)
   all_inserted_all [] ys h g = g
   all_inserted_all (x ∷ xs) ys h g = all_inserted_all xs (inserted x ys) h.1 (inserted_all x ys h.0 g)
 

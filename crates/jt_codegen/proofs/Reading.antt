@@ -1,5 +1,5 @@
 -- Instructions by their fields, and units.
-use Rattle.std.proofs.Common.{◌≡◌, ℕ, ◌≤◌, true, false, List, [], ◌∷◌, ◌++◌, length, map, None, Some, refl, sym, ap, ◌∙◌, subst, arith}
+use Rattle.std.proofs.Common.{◌≡◌, ℕ, ◌≤◌, true, false, List, [], ◌∷◌, ◌++◌, length, map, Option, None, Some, refl, sym, ap, ◌∙◌, subst, arith}
 use Rattle.std.specs.Prelude.{option_map}
 use Rattle.jt_image.specs.declared.instruction.Instruction.{Instruction}
 use Rattle.jt_image.specs.declared.instruction.Instruction.TheVariants as op
@@ -11,9 +11,10 @@ use Rattle.jt_trees.specs.Expressions.{Text}
 use Rattle.jt_slots.specs.Slots.{end}
 use Rattle.jt_slots.specs.View.{body_view, routine_view}
 use Rattle.jt_slots.specs.declared.program.Routine.{Routine}
-use Rattle.jt_lower.specs.Asm.{Asm, one, both, flat}
-use Rattle.jt_lower.specs.Lower.{body_asm, unit_of}
-use Rattle.jt_lower.specs.Emission.{HasPlace, Puts}
+use Rattle.jt_slots.specs.declared.program.Place.{Place}
+use Rattle.jt_lower.specs.Asm.{Asm, one, both, flat, places}
+use Rattle.jt_lower.specs.Lower.{body_asm, routine_places, unit_of}
+use Rattle.jt_lower.specs.Emission.{places_view, HasPlace, Puts}
 use Rattle.jt_lower.specs.declared.emitter.Emitter.{Emitter}
 use Rattle.jt_codegen.specs.Statements.{Emits}
 use Rattle.jt_codegen.specs.Units.{FitsUnit}
@@ -55,15 +56,15 @@ pub read_wires : (is : List Instruction) → each_of instruction_of (map wire_of
 read_wires [] = refl
 read_wires (i ∷ is) = ap (λ o. in_front o (each_of instruction_of (map wire_of is))) (read_wire i) ∙ ap (in_front (Some i)) (read_wires is)
 
-module _ (templates : List Text) (r : Routine) (c0 c1 c2 : Emitter) (empty : c0.code.items ≡ []) (whole : c0.overflowed ≡ false) (body : Emits 0 c0 (body_view templates r.body.items) c1) (last : Puts c1 (one None op.Return) c2) where
+module _ (templates : List Text) (r : Routine) (c0 c1 c2 : Emitter) (empty : c0.code.items ≡ []) (whole : c0.overflowed ≡ false) (body : Emits templates 0 c0 (body_view templates r.body.items) c1) (last : Puts templates c1 (one None op.Return) c2) where
   abbrev statements : Asm
   statements = body_asm (body_view templates r.body.items end) 0
 
   abbrev all : Asm
   all = both statements (one None op.Return)
 
-  puts : Puts c0 all c2
-  puts = puts_then c0 c1 c2 statements (one None op.Return) (emits_alone 0 c0 c1 (body_view templates r.body.items) body) last
+  puts : Puts templates c0 all c2
+  puts = puts_then templates c0 c1 c2 statements (one None op.Return) (emits_alone templates 0 c0 c1 (body_view templates r.body.items) body) last
 
   pub unit_emitted : (parameters locals : ℕ) → parameters ≡ r.parameters → locals ≡ r.locals → c2.overflowed ≡ false → section_of_unit (record { parameters = parameters; kind = 0; locals = locals; code = c2.code }) ≡ Some (unit_of (routine_view templates r))
   unit_emitted parameters locals p l fine =
@@ -72,6 +73,9 @@ module _ (templates : List Text) (r : Routine) (c0 c1 c2 : Emitter) (empty : c0.
       ap (option_map (λ (code : List Instruction). record { parameters = parameters; kind = 0; locals = locals; code = code })) (ap (each_of instruction_of) items ∙ read_wires is)
       ∙ ap (λ (n : ℕ). Some (record { parameters = n; kind = 0; locals = locals; code = is })) p
       ∙ ap (λ (n : ℕ). Some (record { parameters = r.parameters; kind = 0; locals = n; code = is })) l
+
+  pub unit_placed : c0.places.items ≡ [] → c2.overflowed ≡ false → places_view templates c2.places.items ≡ routine_places (routine_view templates r)
+  unit_placed nowhere fine = puts.tagged fine ∙ ap (λ (l : List (Option Place)). places_view templates l ++ places all) nowhere
 
   pub unit_within : (left : ℕ) → c0.limit ≡ left → length c2.code.items ≤ left
   unit_within left limited = omega (arith, c2.within, puts.limit, limited)

@@ -1,14 +1,15 @@
 -- The code of small chains has place in an image.
-use Rattle.std.proofs.Common.{◌≡◌, ℕ, suc, ◌+◌, ◌*◌, max, ◌<◌, ◌≤◌, ◌^◌, true, false, List, [], ◌∷◌, ◌++◌, length, map, refl, ap, arith, length-append}
+use Rattle.std.proofs.Common.{◌≡◌, ℕ, suc, ◌+◌, ◌*◌, max, ◌<◌, ◌≤◌, ◌^◌, true, false, List, [], ◌∷◌, ◌++◌, length, map, refl, ap, ◌∙◌, arith, length-append}
 use Rattle.std.proofs.lemmas.List.{length-map}
 use Rattle.std.specs.Int.{w16, w32, w64, to_le_bytes, cast_unsigned}
 use Rattle.std.specs.List.{flat_map, AllByRecursion}
 use Rattle.std.proofs.lemmas.List.Concat.{flat_map-cons}
 use Rattle.jt_value.specs.Tree as tree
 use Rattle.jt_value.specs.Tree.{Tree}
-use Rattle.jt_image.specs.Code.{Name, Section}
-use Rattle.jt_image.specs.Spelling.{name_bytes, constant_bytes}
-use Rattle.jt_image.specs.IsCode.{IsInstruction, max_count, max_locals}
+use Rattle.jt_image.specs.Code.{Name, Section, Spot}
+use Rattle.jt_image.specs.declared.version.Version.TheVariants as version
+use Rattle.jt_image.specs.Spelling.{name_bytes, constant_bytes, template_bytes, spot_bytes, place_bytes}
+use Rattle.jt_image.specs.IsCode.{IsInstruction, total_len, max_count, max_locals}
 use Rattle.jt_image.specs.Typed.{max_entries}
 use Rattle.jt_image.specs.Parts.{KeepsLimits, IsWritable}
 use Rattle.jt_image.specs.Laws.{CodeLaws}
@@ -22,7 +23,11 @@ use Rattle.jt_slots.specs.Size.{body_height}
 use Rattle.jt_slots.specs.Slots.{Routine, Program}
 use Rattle.jt_lower.specs.Compiles.{LowLaws}
 use Rattle.jt_lower.specs.Fits.{ProgramFits}
-use Rattle.jt_lower.specs.Lower.{unit_of, constant_of, numbered, compiled}
+use Rattle.jt_lower.specs.Lower.{unit_of, constant_of, numbered, places_of, compiled}
+use Rattle.jt_lower.specs.Spots.{templates_of, spot_of}
+use Rattle.jt_lower.proofs.Spots.{places_len}
+use Rattle.jt_codegen.proofs.Named.{IsTag, few_templates, short_templates, templates_spelled, spots_spelled}
+use Rattle.jt_codegen.proofs.Tagged.{OnTag}
 use Rattle.jt_codegen.specs.Units.{FitsImage}
 use Rattle.jt_codegen.proofs.Read.{all_each}
 use Rattle.jt_codegen.proofs.Tabled.{numbered_len}
@@ -84,7 +89,26 @@ module _ (laws : CodeLaws) (low : LowLaws) (world : World) (order : List Home) (
   pub small_low : AllByRecursion (λ r. body_height r.body ≤ max_entries) p.routines
   small_low = all_each (λ (r : Routine ℕ). 2 * body_height r.body ≤ max 2 (chains_weight world.sources order)) (λ r. body_height r.body ≤ max_entries) (λ r h. omega (arith, h, weight)) p.routines sized.entries
 
-  module _ (short : IsShort 2000 p) (few : 7 * length order ≤ chains_weight world.sources order + 7) where
+  module _ (short : IsShort 2000 p) (few : 7 * length order ≤ chains_weight world.sources order + 7) (ns : List Text) (named : length ns ≤ 16 * length order) (tags : AllByRecursion (OnTag (IsTag ns)) (places_of p)) where
+    -- the templates that are named, and a spot for each instruction
+    abbrev ts : List Text
+    ts = templates_of (places_of p)
+
+    abbrev ss : List Spot
+    ss = map (spot_of ts) (places_of p)
+
+    count_spots : length ss ≡ total_len (compiled p).units
+    count_spots = length-map (places_of p) (spot_of ts) ∙ places_len p.routines
+
+    count_templates : length ts ≤ 5000
+    count_templates = omega (arith, few_templates ns (places_of p) tags, named, few, weight)
+
+    spelled : length (place_bytes version.Two ts ss) ≡ 2 + length (flat_map template_bytes ts) + length (flat_map spot_bytes ss)
+    spelled = omega (arith, length-append (to_le_bytes w16 (length ts)) (flat_map template_bytes ts ++ flat_map spot_bytes ss), length-append (flat_map template_bytes ts) (flat_map spot_bytes ss), len16 (length ts))
+      where
+        len16 : (n : ℕ) → length (to_le_bytes w16 n) ≡ 2
+        len16 n = refl
+
     limits : KeepsLimits (compiled p)
     limits = record {
       names = omega (arith, sized.names, numbered_len 0 p.names);
@@ -93,7 +117,9 @@ module _ (laws : CodeLaws) (low : LowLaws) (world : World) (order : List Home) (
       units = omega (arith, sized.units, weight, few, length-map p.routines unit_of);
       locals = units_locals (200 + chains_weight world.sources order) p.routines (omega (arith, weight)) sized.locals;
       instructions = omega (arith, low.sized p, sized.instructions, weight, few);
-      bytes = omega (arith, laws.spelled (compiled p), names_spelled 0 p.names short.names, constants_spelled p.pool short.pool, length-map p.routines unit_of, low.sized p, sized.names, sized.constants, sized.units, sized.instructions, weight, few);
+      templates = omega (arith, count_templates);
+      template_texts = all_each (λ t. length t ≤ 255) (λ t. length t ≤ max_count) (λ t h. omega (arith, h)) ts (short_templates ns (places_of p) tags);
+      bytes = omega (arith, laws.spelled (compiled p), spelled, templates_spelled ts (short_templates ns (places_of p) tags), count_templates, spots_spelled ss, count_spots, names_spelled 0 p.names short.names, constants_spelled p.pool short.pool, length-map p.routines unit_of, low.sized p, sized.names, sized.constants, sized.units, sized.instructions, weight, few);
     }
 
     pub small_fits : ProgramFits p → AllByRecursion (λ u. u.parameters ≤ 200) (compiled p).units → FitsImage (compiled p)

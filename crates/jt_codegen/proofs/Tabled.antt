@@ -1,6 +1,6 @@
 -- The tables and the units of a program.
 use Rattle.std.proofs.Common.{◌≡◌, ℕ, suc, ◌+◌, ◌-◌, ◌<◌, ◌≤◌, List, [], ◌∷◌, ◌++◌, length, drop, get_or, map, Option, Some, None, String, string_bytes, Global, refl, sym, ap, ◌∙◌, subst, arith, append_assoc, append-nil}
-use Rattle.std.specs.Prelude.{option_map}
+use Rattle.std.specs.Prelude.{option_map, flat_map}
 use Rattle.std.proofs.lemmas.List.{map-append, drop_more, at_drop_all}
 use Rattle.jt_image.specs.Code.{Section}
 use Rattle.jt_image.specs.declared.instruction.Instruction.{Instruction}
@@ -14,8 +14,12 @@ use Rattle.jt_trees.specs.Expressions.{Text}
 use Rattle.jt_slots.specs.View.{routine_view, templates_of, program_of}
 use Rattle.jt_slots.specs.declared.program.Routine.{Routine}
 use Rattle.jt_slots.specs.declared.program.Program.{Program}
-use Rattle.jt_lower.specs.Lower.{unit_of, numbered, compiled}
-use Rattle.jt_codegen.specs.Units.{FitUnits, Refuses, RefusesUnits, RefusesCode}
+use Rattle.jt_value.specs.Place as place
+use Rattle.jt_slots.specs.declared.program.Place.{Place}
+use Rattle.jt_lower.specs.Emission.{tag_view, places_view}
+use Rattle.jt_lower.specs.Spots as spots
+use Rattle.jt_lower.specs.Lower.{unit_of, numbered, routine_places, places_of, compiled}
+use Rattle.jt_codegen.specs.Units.{FitUnits, Refuses, RefusesUnits, RefusesTemplates, RefusesCode}
 use Rattle.jt_codegen.specs.declared.emission.EmitError.{EmitError}
 use Rattle.jt_codegen.specs.declared.emission.EmitError.TheVariants as error
 
@@ -122,6 +126,28 @@ module _ (templates : List Text) where
   pub made_short : (us : List given.Unit) (n : ℕ) (rs : List Routine) (i : ℕ) → length rs ≤ i → Made us n rs (drop i rs) → total_len (units rs) ≤ max_instructions
   made_short us n rs i le m = omega (arith, m.counted, ap total_len (made_whole us n rs i le m))
 
+  -- ---- their places
+
+  abbrev pub tags : List (Option Place) → List (Option place.Place)
+  tags ps = places_view templates ps
+
+  abbrev pub all_places : List Routine → List (Option place.Place)
+  all_places rs = flat_map routine_places (map (routine_view templates) rs)
+
+  pub places_more : (ps qs : List (Option Place)) (rs : List Routine) (i : ℕ) (r : Routine) → i < length rs → r ≡ get_or rs i r → tags qs ≡ routine_places (routine_view templates r) → tags ps ++ all_places (drop i rs) ≡ all_places rs
+      → tags (ps ++ qs) ++ all_places (drop (i + 1) rs) ≡ all_places rs
+  places_more ps qs rs i r lt is e so_far =
+      let rest = drop (i + 1) rs in
+      let left : drop i rs ≡ r ∷ rest = drop_more rs i r lt ∙ ap (λ y. y ∷ rest) (sym is) in
+      ap (λ l. l ++ all_places rest) (map-append (tag_view templates) ps qs)
+      ∙ append_assoc (tags ps) (tags qs) (all_places rest)
+      ∙ ap (λ l. tags ps ++ (l ++ all_places rest)) e
+      ∙ ap (λ l. tags ps ++ all_places l) (sym left)
+      ∙ so_far
+
+  pub places_all : (ps : List (Option Place)) (rs : List Routine) (i : ℕ) → length rs ≤ i → tags ps ++ all_places (drop i rs) ≡ all_places rs → tags ps ≡ all_places rs
+  places_all ps rs i le so_far = sym (append-nil (tags ps)) ∙ ap (λ l. tags ps ++ all_places l) (sym (at_drop_all (λ l. l) rs i le)) ∙ so_far
+
   pub unit_refused : (e : EmitError) (us : List given.Unit) (n : ℕ) (rs : List Routine) (i : ℕ) (r : Routine) → i < length rs → r ≡ get_or rs i r → Refuses e n (unit r) → Made us n rs (drop i rs) → RefusesUnits e (units rs)
   unit_refused error.NoMemory us n rs i r lt is unfit m = tt
   unit_refused error.CodeTooLong us n rs i r lt is unfit m = λ h.
@@ -135,6 +161,10 @@ module _ (templates : List Text) where
 pub units_refused : (e : EmitError) (p : Program) → RefusesUnits e (units (templates_of p) p.routines.items) → RefusesCode e (compiled (program_of p))
 units_refused error.NoMemory p r = tt
 units_refused error.CodeTooLong p r = λ fits. r (record { locals = fits.limits.locals; len = fits.limits.instructions; writable = fits.writable })
+
+pub templates_refused : (e : EmitError) (p : Program) → RefusesTemplates e (spots.templates_of (places_of (program_of p))) → RefusesCode e (compiled (program_of p))
+templates_refused error.NoMemory p r = tt
+templates_refused error.CodeTooLong p r = λ fits. absurd (omega (arith, fits.limits.templates, r))
 
 pub numbered_len : (i : ℕ) (xs : List Text) → length (numbered i xs) ≡ length xs
 numbered_len i [] = refl

@@ -3,6 +3,7 @@ use Rattle.std.specs.Prelude.{◌≡◌, ℕ, List, [], ◌∷◌, length, map, 
 use Rattle.jt_image.specs.declared.instruction.Instruction.TheVariants as op
 use Rattle.jt_slots.specs.Slots as slots
 use Rattle.jt_slots.specs.Slots.{SBody}
+use Rattle.jt_trees.specs.Expressions.{Text}
 use Rattle.jt_slots.specs.View.{Front, slot_view}
 use Rattle.jt_slots.specs.declared.program.Slot.{Slot}
 use Rattle.jt_lower.specs.Lower.{body_asm}
@@ -14,8 +15,8 @@ abbrev pub slots_view : List (Option Slot) → List (Option slots.Slot)
 slots_view ss = map (option_map slot_view) ss
 
 -- whatever comes last: where its code stands behind the new code, the code of all stands behind the old one
-abbrev pub Emits : ℕ → Emitter → Front → Emitter → Type 0
-Emits h old front new = (behind : SBody ℕ) (final : Emitter) → Puts new (body_asm behind h) final → Puts old (body_asm (front behind) h) final
+abbrev pub Emits : List Text → ℕ → Emitter → Front → Emitter → Type 0
+Emits templates h old front new = (behind : SBody ℕ) (final : Emitter) → Puts templates new (body_asm behind h) final → Puts templates old (body_asm (front behind) h) final
 
 -- the jumps at these points go behind all instructions
 abbrev pub Closes : Emitter → List ℕ → Emitter → Type 0

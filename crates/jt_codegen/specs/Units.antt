@@ -2,7 +2,7 @@
 use Rattle.std.specs.Prelude.{ℕ, ◌<◌, ◌≤◌, ◌^◌, List, length}
 use Rattle.std.specs.List.{AllByRecursion}
 use Rattle.jt_image.specs.Code.{Section, Code}
-use Rattle.jt_image.specs.IsCode.{total_len, max_locals, max_instructions}
+use Rattle.jt_image.specs.IsCode.{total_len, max_count, max_locals, max_instructions}
 use Rattle.jt_image.specs.Parts.{KeepsLimits, IsWritable}
 use Rattle.jt_image.specs.declared.error.ImageError.{ImageError}
 use Rattle.jt_image.specs.declared.error.ImageError.TheVariants as image_error
@@ -30,6 +30,11 @@ pub record FitUnits (left : ℕ) (us : List Section) : Type 0 where
 abbrev pub RefusesUnits : EmitError → List Section → Type 0
 RefusesUnits error.CodeTooLong us = ¬ (FitUnits max_instructions us)
 RefusesUnits error.NoMemory us = Unit {0}
+
+-- what a refusal says of the templates that places name
+abbrev pub RefusesTemplates : EmitError → List (List ℕ) → Type 0
+RefusesTemplates error.CodeTooLong ts = max_count < length ts
+RefusesTemplates error.NoMemory ts = Unit {0}
 
 -- an image has place for the code
 pub record FitsImage (k : Code) : Type 0 where

@@ -1,21 +1,20 @@
 //! The code of resolved statements and routines.
 
-ghost use Rattle.std.specs.Prelude.{◌≡◌, ◌≤◌, ℕ, List, Option, Some, length, IfOk, IfErr, OnOk};
+ghost use Rattle.std.specs.Prelude.{◌≡◌, ◌≤◌, ℕ, List, Some, length, IfOk, IfErr, OnOk};
 ghost use Rattle.jt_image.specs.Parts.{section_of_unit};
 ghost use Rattle.jt_trees.specs.Expressions.{Text};
-ghost use Rattle.jt_slots.specs.Got.{Place};
 ghost use Rattle.jt_slots.specs.Slots as slots;
-ghost use Rattle.jt_slots.specs.View.{slot_view, targets_view, expr_view, stmt_view, body_view, routine_view};
+ghost use Rattle.jt_slots.specs.View.{slot_view, targets_view, place_view, expr_view, stmt_view, body_view, routine_view};
 ghost use Rattle.std.specs.Prelude.{option_map};
-ghost use Rattle.jt_lower.specs.Lower.{kept_asm, stmt_asm, unit_of};
-ghost use Rattle.jt_lower.specs.Emission.{StandsFor, Puts};
+ghost use Rattle.jt_lower.specs.Lower.{kept_asm, stmt_asm, unit_of, routine_places};
+ghost use Rattle.jt_lower.specs.Emission.{StandsFor, tag_view, places_view, Puts};
 ghost use Rattle.jt_codegen.specs.Statements.{Emits, Closes};
 ghost use Rattle.jt_codegen.specs.Units.{Refuses};
 
 use crate::targets::{emit_item, emit_targets};
 use jt_image::{Instruction, Unit};
 use jt_lower::{Emitter, call_of, data_of, emit_expression, emit_row, flag, store_of};
-use jt_slots::{Routine, SExpr, SStmt, Slot, Targets};
+use jt_slots::{Place, Routine, SExpr, SStmt, Slot, Targets};
 use std::alloc::{AllocError, AllocFailed, Global};
 
 /// Why no code is made.
@@ -49,21 +48,31 @@ impl<T: Drop> From<AllocFailed<T>> for EmitError {
     }
 }
 
+/// A unit, and the place of the tag of each of its instructions, if that has one.
+#[derive(Drop)]
+pub(crate) struct Emitted {
+    pub(crate) unit: Unit,
+    pub(crate) places: Vec<Option<Place>>,
+}
+
 /// The unit of a routine: its statements, and then the return. It has at most so many instructions as are left.
 ///
 /// # Errors
 ///
 /// `CodeTooLong` where an image has no place for it, `NoMemory` where a growth was refused.
-pub(crate) fn emit_unit(alloc: Global, routine: &Routine, left: usize) -> Result<Unit, EmitError>
-    ensures emitted { IfOk result (λ u. (templates : List Text)
-        → section_of_unit u ≡ Some (unit_of (routine_view templates routine.now))) }
-    ensures within { IfOk result (λ u. length u.code.items ≤ left) }
+pub(crate) fn emit_unit(alloc: Global, routine: &Routine, left: usize) -> Result<Emitted, EmitError>
+    ensures emitted { IfOk result (λ e. (templates : List Text)
+        → section_of_unit e.unit ≡ Some (unit_of (routine_view templates routine.now))) }
+    ensures placed { IfOk result (λ e. (templates : List Text)
+        → places_view templates e.places.items
+        ≡ routine_places (routine_view templates routine.now)) }
+    ensures within { IfOk result (λ e. length e.unit.code.items ≤ left) }
     ensures refused { IfErr result (λ e. (templates : List Text)
         → Refuses e left (unit_of (routine_view templates routine.now))) }
 {
     let mut code = Emitter::new(alloc, left);
     emit_statements(alloc, &mut code, &routine.body, 0)?;
-    code.put(Some(Instruction::Return))?;
+    code.put(None, Some(Instruction::Return))?;
     let Ok(parameters) = u8::try_from(routine.parameters) else {
         return Err(EmitError::CodeTooLong);
     };
@@ -73,33 +82,38 @@ pub(crate) fn emit_unit(alloc: Global, routine: &Routine, left: usize) -> Result
     if code.overflowed {
         return Err(EmitError::CodeTooLong);
     }
-    Ok(Unit {
+    let unit = Unit {
         parameters,
         kind: 0,
         locals,
         code: code.code,
+    };
+    Ok(Emitted {
+        unit,
+        places: code.places,
     })
 }
 
 /// Keeps the items for which the condition holds, in place of all.
 fn emit_condition(
     code: &mut Emitter,
+    tag: Option<Place>,
     targets: &Targets,
     condition: &Option<SExpr>,
 ) -> Result<(), AllocError>
-    ensures { OnOk result ((o : Option Place)
-        → Puts code.old (kept_asm o (targets_view targets.now) (option_map expr_view condition.now))
-        code.new) }
+    ensures { OnOk result ((templates : List Text)
+        → Puts templates code.old (kept_asm (tag_view templates tag) (targets_view targets.now)
+        (option_map expr_view condition.now)) code.new) }
 {
     match condition {
         None => Ok(()),
         Some(tested) => {
             let top = code.begin_turns()?;
-            emit_item(code, targets)?;
-            emit_expression(code, tested, 0)?;
-            code.put(Some(Instruction::LoopKeep { above: 0 }))?;
+            emit_item(code, tag, targets)?;
+            emit_expression(code, tag, tested, 0)?;
+            code.put(tag, Some(Instruction::LoopKeep { above: 0 }))?;
             code.end_turns(top)?;
-            code.put(Some(Instruction::LoopRewind))?;
+            code.put(tag, Some(Instruction::LoopRewind))?;
             Ok(())
         }
     }
@@ -108,17 +122,20 @@ fn emit_condition(
 /// Puts the code of an expression that is printed behind the others.
 fn emit_printed(
     code: &mut Emitter,
+    tag: Place,
     escaping: bool,
     expr: &SExpr,
     above: usize,
 ) -> Result<(), AllocError>
-    ensures { OnOk result ((p : Place) (h : ℕ)
+    ensures { OnOk result ((templates : List Text) (h : ℕ)
         → StandsFor above h
-        → Puts code.old (stmt_asm (slots.print p escaping (expr_view expr.now)) h) code.new) }
+        → Puts templates code.old
+        (stmt_asm (slots.print (place_view templates tag) escaping (expr_view expr.now)) h)
+        code.new) }
 {
     let printed = flag(escaping);
-    emit_expression(code, expr, above)?;
-    code.put(Some(Instruction::Emit { flag: printed }))?;
+    emit_expression(code, Some(tag), expr, above)?;
+    code.put(Some(tag), Some(Instruction::Emit { flag: printed }))?;
     Ok(())
 }
 
@@ -141,23 +158,23 @@ fn emit_statement(
 ) -> Result<(), AllocError>
     ensures { OnOk result ((templates : List Text) (h : ℕ)
         → StandsFor above h
-        → Emits h code.old (stmt_view templates statement.now) code.new) }
+        → Emits templates h code.old (stmt_view templates statement.now) code.new) }
 {
     match statement {
         SStmt::PutPooled(place) => {
-            code.put(data_of(*place))?;
+            code.put(None, data_of(*place))?;
             Ok(())
         }
-        SStmt::Print(_, escaping, expr) => emit_printed(code, *escaping, expr, above),
-        SStmt::Assign(_, targets, expr) => {
-            emit_expression(code, expr, above)?;
-            emit_targets(code, targets)?;
+        SStmt::Print(tag, escaping, expr) => emit_printed(code, *tag, *escaping, expr, above),
+        SStmt::Assign(tag, targets, expr) => {
+            emit_expression(code, Some(*tag), expr, above)?;
+            emit_targets(code, Some(*tag), targets)?;
             Ok(())
         }
         SStmt::If(branches, other) => {
             let mut ends = Vec::new(alloc);
-            for (_, condition, body) in branches {
-                emit_expression(code, condition, above)?;
+            for (tag, condition, body) in branches {
+                emit_expression(code, Some(*tag), condition, above)?;
                 let choice = code.begin_choice()?;
                 emit_statements(alloc, code, body, above)?;
                 let last = code.end_branch(choice)?;
@@ -167,17 +184,17 @@ fn emit_statement(
             close_all(code, &ends);
             Ok(())
         }
-        SStmt::For(_, targets, iterated, condition, body, other) => {
+        SStmt::For(tag, targets, iterated, condition, body, other) => {
             emit_loop(
-                alloc, code, targets, iterated, condition, body, other, above,
+                alloc, code, *tag, targets, iterated, condition, body, other, above,
             )
         }
         SStmt::Capture(escaping, slot, body) => {
             emit_capture(alloc, code, *escaping, *slot, body, above)
         }
         SStmt::Run(routine, row) => {
-            emit_row(code, row, above)?;
-            code.put(call_of(*routine))?;
+            emit_row(code, None, row, above)?;
+            code.put(None, call_of(*routine))?;
             Ok(())
         }
     }
@@ -188,6 +205,7 @@ fn emit_statement(
 fn emit_loop(
     alloc: Global,
     code: &mut Emitter,
+    tag: Place,
     targets: &Targets,
     iterated: &SExpr,
     condition: &Option<SExpr>,
@@ -195,21 +213,22 @@ fn emit_loop(
     other: &[SStmt],
     above: usize,
 ) -> Result<(), AllocError>
-    ensures { OnOk result ((templates : List Text) (p : Place) (h : ℕ)
+    ensures { OnOk result ((templates : List Text) (h : ℕ)
         → StandsFor above h
-        → Puts code.old (stmt_asm (slots.for_each p (targets_view targets.now)
+        → Puts templates code.old
+        (stmt_asm (slots.for_each (place_view templates tag) (targets_view targets.now)
         (expr_view iterated.now) (option_map expr_view condition.now)
         (body_view templates body.now slots.end) (body_view templates other.now slots.end)) h)
         code.new) }
 {
-    emit_expression(code, iterated, above)?;
-    code.put(Some(Instruction::LoopStart))?;
-    emit_condition(code, targets, condition)?;
+    emit_expression(code, Some(tag), iterated, above)?;
+    code.put(Some(tag), Some(Instruction::LoopStart))?;
+    emit_condition(code, Some(tag), targets, condition)?;
     let top = code.begin_turns()?;
-    emit_item(code, targets)?;
+    emit_item(code, Some(tag), targets)?;
     emit_statements(alloc, code, body, 0)?;
     code.end_turns(top)?;
-    code.put(Some(Instruction::LoopEnd))?;
+    code.put(Some(tag), Some(Instruction::LoopEnd))?;
     let choice = code.begin_choice()?;
     emit_statements(alloc, code, other, above)?;
     code.end_when(choice);
@@ -228,15 +247,15 @@ fn emit_capture(
 ) -> Result<(), AllocError>
     ensures { OnOk result ((templates : List Text) (h : ℕ)
         → StandsFor above h
-        → Puts code.old (stmt_asm
+        → Puts templates code.old (stmt_asm
         (slots.capture escaping (slot_view slot) (body_view templates body.now slots.end)) h)
         code.new) }
 {
     let captured = flag(escaping);
-    code.put(Some(Instruction::CaptureBegin))?;
+    code.put(None, Some(Instruction::CaptureBegin))?;
     emit_statements(alloc, code, body, above.saturating_add(1))?;
-    code.put(Some(Instruction::CaptureEnd { flag: captured }))?;
-    code.put(store_of(slot))?;
+    code.put(None, Some(Instruction::CaptureEnd { flag: captured }))?;
+    code.put(None, store_of(slot))?;
     Ok(())
 }
 
@@ -250,7 +269,7 @@ fn emit_statements(
 ) -> Result<(), AllocError>
     ensures { OnOk result ((templates : List Text) (h : ℕ)
         → StandsFor above h
-        → Emits h code.old (body_view templates body.now) code.new) }
+        → Emits templates h code.old (body_view templates body.now) code.new) }
 {
     for statement in body {
         emit_statement(alloc, code, statement, above)?;

@@ -6,6 +6,7 @@ mod emission;
 mod entries;
 mod error;
 mod image;
+mod places;
 mod tables;
 mod targets;
 

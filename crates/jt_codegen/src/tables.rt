@@ -7,13 +7,16 @@ ghost use Rattle.jt_image.specs.Parts.{each_of, section_of_unit, code_of_parts};
 ghost use Rattle.jt_image.specs.View.{names_view, constant_view, constants_view};
 ghost use Rattle.jt_trees.specs.Expressions.{Text};
 ghost use Rattle.jt_slots.specs.View.{routine_view, program_of};
-ghost use Rattle.jt_lower.specs.Lower.{constant_of, numbered, unit_of, compiled};
+ghost use Rattle.std.specs.List.{flat_map};
+ghost use Rattle.jt_lower.specs.Lower.{constant_of, numbered, unit_of, routine_places, compiled};
+ghost use Rattle.jt_lower.specs.Emission.{places_view};
 ghost use Rattle.jt_codegen.specs.Units.{RefusesUnits, RefusesCode};
 ghost use Rattle.jt_codegen.specs.declared.emission.EmitError.TheVariants.{NoMemory};
 
 use crate::emission::{EmitError, emit_unit};
-use jt_image::{Constant, MAX_COUNT, MAX_INSTRUCTIONS, Parts, Unit};
-use jt_slots::{Program, Routine};
+use crate::places::told_places;
+use jt_image::{Constant, MAX_COUNT, MAX_INSTRUCTIONS, Parts, Unit, Version};
+use jt_slots::{Place, Program, Routine};
 use jt_value::Value;
 use std::alloc::Global;
 
@@ -36,34 +39,50 @@ pub(crate) fn parts_of(alloc: Global, program: &Program) -> Result<Parts, EmitEr
     if program.names.len() > MAX_COUNT {
         return Err(EmitError::CodeTooLong);
     }
-    let units = units_of(alloc, &program.routines)?;
+    let code = units_of(alloc, &program.routines)?;
+    let named = told_places(alloc, &program.templates, &code.places)?;
     Ok(Parts {
+        version: Version::Two,
         globals,
         names: names_of(alloc, &program.names)?,
         constants: constants_of(alloc, &program.pool)?,
-        units,
+        units: code.units,
+        templates: named.templates,
+        spots: named.spots,
     })
 }
 
+/// Units, and the place of the tag of each instruction of all of them, if that has one.
+#[derive(Drop)]
+struct Units {
+    units: Vec<Unit>,
+    places: Vec<Option<Place>>,
+}
+
 /// The units of routines, each with what those before it leave of the instructions.
-fn units_of(alloc: Global, routines: &[Routine]) -> Result<Vec<Unit>, EmitError>
+fn units_of(alloc: Global, routines: &[Routine]) -> Result<Units, EmitError>
     ensures emitted { IfOk result (λ us. (templates : List Text)
-        → each_of section_of_unit us.items
+        → each_of section_of_unit us.units.items
         ≡ Some (map unit_of (map (routine_view templates) routines.now))) }
+    ensures placed { IfOk result (λ us. (templates : List Text)
+        → places_view templates us.places.items
+        ≡ flat_map routine_places (map (routine_view templates) routines.now)) }
     ensures short { IfOk result (λ us. (templates : List Text)
         → total_len (map unit_of (map (routine_view templates) routines.now)) ≤ max_instructions) }
     ensures refused { IfErr result (λ e. (templates : List Text)
         → RefusesUnits e (map unit_of (map (routine_view templates) routines.now))) }
 {
     let mut units = Vec::with_capacity(alloc, routines.len())?;
+    let mut places = Vec::new(alloc);
     let mut left = MAX_INSTRUCTIONS as usize;
     for routine in routines {
-        let unit = emit_unit(alloc, routine, left)?;
-        let made = unit.code.len();
+        let mut emitted = emit_unit(alloc, routine, left)?;
+        let made = emitted.unit.code.len();
         left -= made;
-        units.push(unit)?;
+        units.push(emitted.unit)?;
+        places.append(&mut emitted.places)?;
     }
-    Ok(units)
+    Ok(Units { units, places })
 }
 
 /// Names with their slots, from the first one on.

@@ -1,61 +1,76 @@
 //! The code that takes a value into slots, and what begins a turn of a loop.
 
-ghost use Rattle.std.specs.Prelude.{Option, None, OnOk};
+ghost use Rattle.std.specs.Prelude.{List, None, OnOk};
 ghost use Rattle.jt_image.specs.declared.instruction.Instruction.TheVariants as op;
-ghost use Rattle.jt_slots.specs.Got.{Place};
+ghost use Rattle.jt_trees.specs.Expressions.{Text};
 ghost use Rattle.jt_slots.specs.View.{targets_view};
 ghost use Rattle.jt_lower.specs.Asm.{both, one};
 ghost use Rattle.jt_lower.specs.Lower.{take_asm, stores_asm};
-ghost use Rattle.jt_lower.specs.Emission.{Puts};
+ghost use Rattle.jt_lower.specs.Emission.{tag_view, Puts};
 ghost use Rattle.jt_codegen.specs.Statements.{slots_view};
 
 use jt_image::{Instruction, LoopField};
 use jt_lower::{Emitter, store_of, unpack_of};
-use jt_slots::{Slot, Targets};
+use jt_slots::{Place, Slot, Targets};
 use std::alloc::AllocError;
 
 /// Takes a value into what takes it.
-pub(crate) fn emit_targets(code: &mut Emitter, targets: &Targets) -> Result<(), AllocError>
-    ensures { OnOk result
-        ((o : Option Place) → Puts code.old (take_asm o (targets_view targets.now)) code.new) }
+pub(crate) fn emit_targets(
+    code: &mut Emitter,
+    tag: Option<Place>,
+    targets: &Targets,
+) -> Result<(), AllocError>
+    ensures { OnOk result ((templates : List Text)
+        → Puts templates code.old (take_asm (tag_view templates tag) (targets_view targets.now))
+        code.new) }
 {
     match targets {
         Targets::One(slot) => {
-            code.put(store_of(*slot))?;
+            code.put(tag, store_of(*slot))?;
             Ok(())
         }
         Targets::Several(slots) => {
-            code.put(unpack_of(slots.len()))?;
-            emit_stores(code, slots)?;
+            code.put(tag, unpack_of(slots.len()))?;
+            emit_stores(code, tag, slots)?;
             Ok(())
         }
     }
 }
 
 /// Takes values into slots, the last one first; where there is no slot, a value is forgotten.
-fn emit_stores(code: &mut Emitter, slots: &[Option<Slot>]) -> Result<(), AllocError>
-    ensures { OnOk result
-        ((o : Option Place) → Puts code.old (stores_asm o (slots_view slots.now)) code.new) }
+fn emit_stores(
+    code: &mut Emitter,
+    tag: Option<Place>,
+    slots: &[Option<Slot>],
+) -> Result<(), AllocError>
+    ensures { OnOk result ((templates : List Text)
+        → Puts templates code.old (stores_asm (tag_view templates tag) (slots_view slots.now))
+        code.new) }
 {
     for at in (0..slots.len()).rev() {
         match slots[at] {
-            Some(slot) => code.put(store_of(slot))?,
-            None => code.put(Some(Instruction::Drop))?,
+            Some(slot) => code.put(tag, store_of(slot))?,
+            None => code.put(tag, Some(Instruction::Drop))?,
         }
     }
     Ok(())
 }
 
 /// Takes the item of a turn.
-pub(crate) fn emit_item(code: &mut Emitter, targets: &Targets) -> Result<(), AllocError>
-    ensures { OnOk result ((o : Option Place)
-        → Puts code.old (both (one o (op.LoopGet 0 0)) (take_asm o (targets_view targets.now)))
-        code.new) }
+pub(crate) fn emit_item(
+    code: &mut Emitter,
+    tag: Option<Place>,
+    targets: &Targets,
+) -> Result<(), AllocError>
+    ensures { OnOk result ((templates : List Text)
+        → Puts templates code.old (both (one (tag_view templates tag) (op.LoopGet 0 0))
+        (take_asm (tag_view templates tag) (targets_view targets.now))) code.new) }
 {
-    code.put(Some(Instruction::LoopGet {
+    let item = Instruction::LoopGet {
         field: LoopField::Item.id(),
         above: 0,
-    }))?;
-    emit_targets(code, targets)?;
+    };
+    code.put(tag, Some(item))?;
+    emit_targets(code, tag, targets)?;
     Ok(())
 }

@@ -1,6 +1,6 @@
 -- What a line leaves on a disk, from what the program tells.
-use Rattle.std.proofs.Common.{◌≡◌, ◌≢◌, ◌↔◌, ◌∙◌, Bool, Err, Global, List, None, Ok, Option, Some, String, arith, codes, inl, inr, refl, string_bytes, subst, sym, ℕ}
-use Rattle.std.specs.Prelude.{IsSome}
+use Rattle.std.proofs.Common.{◌≡◌, ◌≢◌, ◌↔◌, ◌∙◌, Bool, Err, Global, List, None, Ok, Option, Some, String, ap, arith, codes, inl, inr, refl, string_bytes, subst, sym, ℕ}
+use Rattle.std.specs.Prelude.{IsSome, slice_get, unwrap_or}
 use Rattle.std.specs.Str.{IsUtf8}
 use Rattle.clap.specs.Words.{Row, Text as Word}
 use Rattle.jt_budget.specs.declared.Budget.{Budget}
@@ -16,7 +16,7 @@ use Rattle.jt_program.specs.Files.{IsLibrary, IsSource, path_in}
 use Rattle.jt_program.specs.Program.{IsImage, scan_options}
 use Rattle.jt_disk.specs.declared.disk.Disk.{Disk}
 use Rattle.jt_disk.specs.Disk.{AreNamesIn, IsName, file_at, known_of}
-use Rattle.jt_disk.specs.Images.{AreTextsIn, HoldsImage, IfCompiled}
+use Rattle.jt_disk.specs.Images.{AreTextsIn, HoldsImage, HoldsUpgrade, IfCompiled, IfUpgraded}
 
 -- what has the same values is the same
 same_value : (x y : Option (List ℕ)) → ((v : List ℕ) → (x ≡ Some v) ↔ (y ≡ Some v)) → x ≡ y
@@ -47,6 +47,10 @@ source_is disk dir names name source listed None h = (
 texts_in : (disk : Disk) (dir : List ℕ) (sources : List ℕ → Option (List ℕ)) → IsLibrary (known_of disk) dir sources → AreTextsIn disk dir sources
 texts_in disk dir sources library name source = source_is disk dir library.names name source library.listed (sources name) (library.each name)
 
+-- the two commands that write have not one name
+two_names : codes "compile" ≡ codes "upgrade" → ⊥
+two_names e = let first : 99 ≡ 117 = ap (λ (t : Word). unwrap_or (slice_get t 0) 0) e in omega (arith, first)
+
 -- a line of `compile` that is done leaves the image
 image_held : (old new : Disk) (name : Word) (rows : List Row) (k : Command) (o : Options) (b : Budget) (n : ℕ) (text : String Global) → IsCommand name rows k o b n
     → CommandEnds (known_of old) (known_of new) k o b (Ok text) → name ≡ codes "compile" → HoldsImage old new rows
@@ -62,22 +66,45 @@ image_held old new name rows (command.Compile dir template out) o b n text is (o
       held = subst (λ (path : List ℕ). file_at new path ≡ Some written.0) is.3 written.1;
       image = subst (λ (t : List ℕ). IsImage compiles.sources t (scan_options o) written.0) is.2 written.2;
     }
+image_held old new name rows (command.Upgrade image out) o b n text is ends named = absurd (two_names (sym named ∙ is.0))
 image_held old new name rows k o b n text is ends named = absurd (cc)
+
+-- a line of `upgrade` that is done leaves the image in version 2
+upgrade_held : (old new : Disk) (name : Word) (rows : List Row) (k : Command) (o : Options) (b : Budget) (n : ℕ) (text : String Global) → IsCommand name rows k o b n
+    → CommandEnds (known_of old) (known_of new) k o b (Ok text) → name ≡ codes "upgrade" → HoldsUpgrade old new rows
+upgrade_held old new name rows (command.Upgrade image out) o b n text is (only, inl unread) named = absurd unread
+upgrade_held old new name rows (command.Upgrade image out) o b n text is (only, inr upgrades) named =
+    let written = upgrades.written.1 in
+    record {
+      bytes = upgrades.bytes;
+      was = subst (λ (path : List ℕ). file_at old path ≡ Some upgrades.bytes) is.1 upgrades.held;
+      later = written.0;
+      held = subst (λ (path : List ℕ). file_at new path ≡ Some written.0) is.2 written.1;
+      image = written.2;
+    }
+upgrade_held old new name rows (command.Compile dir template out) o b n text is ends named = absurd (two_names (sym is.0 ∙ named))
+upgrade_held old new name rows k o b n text is ends named = absurd (cc)
 
 -- no failure has the status 0
 not_done : (e : Failure) → code_of (status_of e) ≡ 0 → ⊥
-not_done (failure.Fault f) h = absurd (omega (arith, h))
+not_done (failure.Fault f q) h = absurd (omega (arith, h))
 not_done e h = absurd (omega (arith, h))
 
+-- what a line that is done leaves
+abbrev IsLeft : Disk → Disk → Option (Word × List Row) → Type 0
+IsLeft old new found = IfCompiled old new found × IfUpgraded old new found
+
 ended : (old new : Disk) (found : Option (Word × List Row)) (taken left : Option (List ℕ)) (sink_failed : Bool) (e : Ending) (status : ℕ) → Answers (known_of old) (known_of new) found e
-    → Tells taken left sink_failed e status → status ≡ 0 → IfCompiled old new found
-ended old new None taken left sink_failed e status answers tells done = tt
+    → Tells taken left sink_failed e status → status ≡ 0 → IsLeft old new found
+ended old new None taken left sink_failed e status answers tells done = (tt, tt)
 ended old new (Some c) taken left sink_failed (Ok text) status answers tells done =
-    let job = answers.job in
-    image_held old new c.0 c.1 job.command job.options job.budget job.slice text answers.asked answers.ends
+    let job = answers.job in (
+      image_held old new c.0 c.1 job.command job.options job.budget job.slice text answers.asked answers.ends,
+      upgrade_held old new c.0 c.1 job.command job.options job.budget job.slice text answers.asked answers.ends,
+    )
 ended old new (Some c) taken left sink_failed (Err e) status answers tells done = absurd (not_done e (sym tells.0 ∙ done))
 
 -- a run that is done, of which the program tells how it ended
-pub compiled : (old new : Disk) (found : Option (Word × List Row)) (taken left : Option (List ℕ)) (sink_failed : Bool) (status : ℕ)
-    → (e : Ending) × Answers (known_of old) (known_of new) found e × Tells taken left sink_failed e status → status ≡ 0 → IfCompiled old new found
-compiled old new found taken left sink_failed status (e, answers, tells) done = ended old new found taken left sink_failed e status answers tells done
+pub is_left : (old new : Disk) (found : Option (Word × List Row)) (taken left : Option (List ℕ)) (sink_failed : Bool) (status : ℕ)
+    → (e : Ending) × Answers (known_of old) (known_of new) found e × Tells taken left sink_failed e status → status ≡ 0 → IsLeft old new found
+is_left old new found taken left sink_failed status (e, answers, tells) done = ended old new found taken left sink_failed e status answers tells done

@@ -5,7 +5,7 @@ use Rattle.clap.specs.Words.{Row, Text as Word}
 use Rattle.jt_line.specs.Line.{IsOptions, word_of}
 use Rattle.jt_line.specs.declared.Options.{Options}
 use Rattle.jt_program.specs.Files.{path_in}
-use Rattle.jt_program.specs.Program.{IsImage, scan_options}
+use Rattle.jt_program.specs.Program.{IsImage, IsUpgraded, scan_options}
 use Rattle.jt_disk.specs.declared.disk.Disk.{Disk}
 use Rattle.jt_disk.specs.Disk.{IsName, file_at}
 
@@ -28,3 +28,16 @@ pub record HoldsImage (old new : Disk) (rows : List Row) : Type 0 where
 abbrev pub IfCompiled : Disk → Disk → Option (Word × List Row) → Type 0
 IfCompiled old new None = Unit {0}
 IfCompiled old new (Some c) = c.0 ≡ codes "compile" → HoldsImage old new c.1
+
+-- the disk holds at OUT in version 2 the image that it held at IN before
+pub record HoldsUpgrade (old new : Disk) (rows : List Row) : Type 0 where
+  pub bytes : List ℕ
+  pub was : file_at old (word_of (codes "IN") rows) ≡ Some bytes
+  pub later : List ℕ
+  pub held : file_at new (word_of (codes "OUT") rows) ≡ Some later
+  pub image : IsUpgraded bytes later
+
+-- so it is where the line is one of `upgrade`
+abbrev pub IfUpgraded : Disk → Disk → Option (Word × List Row) → Type 0
+IfUpgraded old new None = Unit {0}
+IfUpgraded old new (Some c) = c.0 ≡ codes "upgrade" → HoldsUpgrade old new c.1

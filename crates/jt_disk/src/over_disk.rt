@@ -6,7 +6,7 @@ ghost use Rattle.clap.specs.Words.{subcommand_of};
 ghost use Rattle.jt_line.specs.Line.{Asks, Takes, program_app};
 ghost use Rattle.jt_program.specs.Commands.{Answers, Ending, Explains, Tells, out_of};
 ghost use Rattle.jt_disk.specs.Disk.{file_at, known_of};
-ghost use Rattle.jt_disk.specs.Images.{IfCompiled};
+ghost use Rattle.jt_disk.specs.Images.{IfCompiled, IfUpgraded};
 
 use crate::disk::Disk;
 use jt_machine::Sink;
@@ -25,11 +25,16 @@ pub fn performed<W: Sink, E: Write>(
     // where it is 0, and the line one of `compile`, the disk holds the image
     ensures compiled { result ≡ 0
         → IfCompiled disk.old disk.new (subcommand_of program_app (texts words.now)) }
+    // where it is 0, and the line one of `upgrade`, the disk holds the image of IN in version 2
+    ensures upgraded { result ≡ 0
+        → IfUpgraded disk.old disk.new (subcommand_of program_app (texts words.now)) }
     // whatever it is, the disk holds at each path but OUT what it held there, or nothing
     ensures others { (path : List ℕ)
         → path ≢ out_of (subcommand_of program_app (texts words.now))
         → file_at disk.new path ≡ file_at disk.old path }
-    ensures kept { ¬ Asks (codes "compile") (texts words.now) → disk.new ≡ disk.old }
+    ensures kept { ¬ Asks (codes "compile") (texts words.now)
+        → ¬ Asks (codes "upgrade") (texts words.now)
+        → disk.new ≡ disk.old }
     // it tells how the command of the line ended, over all that is known of the disk
     ensures ends { result ≢ 2
         → result ≢ 6

@@ -1,5 +1,5 @@
 -- When parts are a code that has a spelling.
-use Rattle.std.proofs.Common.{◌≡◌, ℕ, ◌+◌, ◌-◌, ◌*◌, min, ◌<◌, ◌≤◌, ◌^◌, Bool, true, false, List, [], ◌∷◌, ◌++◌, length, Option, Some, None, Err, refl, ap, subst, ◌∙◌, arith}
+use Rattle.std.proofs.Common.{◌≡◌, ℕ, ◌+◌, ◌-◌, ◌*◌, min, ◌<◌, ◌≤◌, ◌^◌, Bool, true, false, List, [], ◌∷◌, ◌++◌, length, Option, Some, refl, ap, subst, ◌∙◌, arith}
 use Rattle.std.specs.Prelude.{◌&&◌, ◌↔◌, not, nat_lt, IsUtf8, slice_get}
 use Rattle.std.specs.Int.{w16, w32, w64, to_le_bytes}
 use Rattle.std.specs.List.{flat_map, AllByRecursion}
@@ -9,15 +9,17 @@ use Rattle.std.proofs.lemmas.Bool.{lt-ltb, ltb-true}
 use Rattle.jt_image.specs.declared.error.ImageError.{ImageError}
 use Rattle.jt_image.specs.declared.error.ImageError.TheVariants.{BadMagic, BadVersion, Truncated, Trailing, BadText, BadOpcode, BadTable, LimitPassed, NoMemory}
 use Rattle.jt_image.specs.declared.instruction.Instruction.{Instruction}
-use Rattle.jt_image.specs.Code.{Constant, undefined, nothing, truth_value, number, text, markup, Name, Section, Code}
-use Rattle.jt_image.specs.Spelling.{magic, version, name_bytes, constant_bytes, header_bytes, wire_of, instruction_bytes, spelling}
-use Rattle.jt_image.specs.IsCode.{IsName, IsConstant, IsSection, total_len, HasEntry, IsCode, max_count, max_locals, max_instructions, max_bytes}
+use Rattle.jt_image.specs.declared.version.Version.TheVariants as version
+use Rattle.jt_image.specs.Code.{Constant, undefined, nothing, truth_value, number, text, markup, Name, Section, Spot, Code}
+use Rattle.jt_image.specs.Spelling.{magic, version_number, name_bytes, constant_bytes, header_bytes, wire_of, instruction_bytes, template_bytes, spot_bytes, place_bytes, spelling}
+use Rattle.jt_image.specs.IsCode.{IsName, IsTemplate, IsConstant, IsSection, total_len, HasEntry, IsCode, max_count, max_locals, max_instructions, max_bytes}
 use Rattle.jt_image.specs.Reading.{is_used, may_follow}
-use Rattle.jt_image.specs.Parts.{AreInOrder, IsUnitInOrder, HasTables, KeepsLimits, IsRefusal, Finds, IsWritable, IsHeld, Starts, IsShort}
+use Rattle.jt_image.specs.Parts.{AreInOrder, IsUnitInOrder, HasTables, KeepsLimits, IsRefusal, IsWritable, IsHeld, Starts, IsShort, AreTemplates, IsShortText}
 use Rattle.jt_image.proofs.Found.{AllGood, wide16, wide32, wide64}
 use Rattle.jt_image.proofs.Sound.{IsNamed, code_bytes}
 use Rattle.jt_image.proofs.Whole.{are_names, ascend, distinct, HasFirst}
 use Rattle.jt_image.proofs.Complete.{named, all_clear, first_starts}
+use Rattle.jt_image.proofs.Behind.{IsNextText, are_templates as found_templates, ascend_texts, good_templates}
 use Rattle.jt_image.proofs.Passed.{all_weaker, all_both}
 
 -- ---- how long a spelling is
@@ -49,13 +51,20 @@ codes_len : (us : List Section) → length (flat_map code_bytes us) ≡ 8 * tota
 codes_len [] = omega arith
 codes_len (u ∷ us) = omega (arith, ap length (flat_map-cons code_bytes u us), length-append (code_bytes u) (flat_map code_bytes us), instructions_len u.code, codes_len us)
 
-ten : (a b c d e f g h i j : List ℕ) → length (a ++ (b ++ (c ++ (d ++ (e ++ (f ++ (g ++ (h ++ (i ++ j))))))))) ≡ length a + (length b + (length c + (length d + (length e + (length f + (length g + (length h + (length i + length j))))))))
-ten a b c d e f g h i j = simp length-append
+eleven : (a b c d e f g h i j z : List ℕ) → length (a ++ (b ++ (c ++ (d ++ (e ++ (f ++ (g ++ (h ++ (i ++ (j ++ z)))))))))) ≡ length a + (length b + (length c + (length d + (length e + (length f + (length g + (length h + (length i + (length j + length z)))))))))
+eleven a b c d e f g h i j z = simp length-append
 
-pub spelled_len : (k : Code) → length (spelling k) ≡ 14 + (length (flat_map name_bytes k.names) + length (flat_map constant_bytes k.constants)) + 8 * (length k.units + total_len k.units)
+pub spelled_len : (k : Code) → length (spelling k) ≡ 14 + (length (flat_map name_bytes k.names) + length (flat_map constant_bytes k.constants)) + 8 * (length k.units + total_len k.units) + length (place_bytes k.version k.templates k.spots)
 spelled_len k =
-    let parts = ten magic (to_le_bytes w16 version) (to_le_bytes w16 k.globals) (to_le_bytes w16 (length k.names)) (flat_map name_bytes k.names) (to_le_bytes w16 (length k.constants)) (flat_map constant_bytes k.constants) (to_le_bytes w16 (length k.units)) (flat_map header_bytes k.units) (flat_map code_bytes k.units) in
-    omega (arith, parts, wide16.len version, wide16.len k.globals, wide16.len (length k.names), wide16.len (length k.constants), wide16.len (length k.units), headers_len k.units, codes_len k.units)
+    let parts = eleven magic (to_le_bytes w16 (version_number k.version)) (to_le_bytes w16 k.globals) (to_le_bytes w16 (length k.names)) (flat_map name_bytes k.names) (to_le_bytes w16 (length k.constants)) (flat_map constant_bytes k.constants) (to_le_bytes w16 (length k.units)) (flat_map header_bytes k.units) (flat_map code_bytes k.units) (place_bytes k.version k.templates k.spots) in
+    omega (arith, parts, wide16.len (version_number k.version), wide16.len k.globals, wide16.len (length k.names), wide16.len (length k.constants), wide16.len (length k.units), headers_len k.units, codes_len k.units)
+
+spots_len : (ss : List Spot) → length (flat_map spot_bytes ss) ≡ 6 * length ss
+spots_len [] = omega arith
+spots_len (s ∷ ss) = omega (arith, ap length (flat_map-cons spot_bytes s ss), length-append (to_le_bytes w16 s.template) (to_le_bytes w32 s.line), length-append (spot_bytes s) (flat_map spot_bytes ss), wide16.len s.template, wide32.len s.line, spots_len ss)
+
+pub places_len : (ts : List (List ℕ)) (ss : List Spot) → length (place_bytes version.Two ts ss) ≡ 2 + (length (flat_map template_bytes ts) + 6 * length ss)
+places_len ts ss = omega (arith, length-append (to_le_bytes w16 (length ts)) (flat_map template_bytes ts ++ flat_map spot_bytes ss), length-append (flat_map template_bytes ts) (flat_map spot_bytes ss), wide16.len (length ts), spots_len ss)
 
 -- ---- names
 
@@ -107,15 +116,30 @@ named_next globals before n h =
 pub short_names : (ns : List Name) → AllByRecursion (λ n. length n.text ≤ max_count) ns → AllByRecursion (λ n. IsUtf8 n.text) ns → AllByRecursion IsShort ns
 short_names ns fits utf8 = all_both (λ n. length n.text ≤ max_count) (λ n. IsUtf8 n.text) IsShort ns (λ n short text. record { fits = omega (arith, short); utf8 = text }) fits utf8
 
+-- ---- templates
+
+pub short_texts : (ts : List (List ℕ)) → AllByRecursion (λ t. length t ≤ max_count) ts → AllByRecursion IsUtf8 ts → AllByRecursion IsShortText ts
+short_texts ts fits utf8 = all_both (λ t. length t ≤ max_count) IsUtf8 IsShortText ts (λ t short text. record { fits = omega (arith, short); utf8 = text }) fits utf8
+
+are_templates : (ts : List (List ℕ)) → AllByRecursion IsShortText ts → AllByRecursion (λ t. 0 < length t) ts → AllByRecursion IsTemplate ts
+are_templates ts short some = all_both IsShortText (λ t. 0 < length t) IsTemplate ts (λ t s n. record { some = n; fits = s.fits; utf8 = s.utf8 }) short some
+
+-- a template that may stand behind others
+pub in_order_texts : (ts : List (List ℕ)) → AllGood IsNextText [] ts → AreTemplates ts
+in_order_texts ts h = record { some = all_weaker IsTemplate (λ t. 0 < length t) ts (λ t is. is.some) (found_templates [] ts h); ascend = ascend_texts ts h }
+
+pub all_next_texts : (ts : List (List ℕ)) → AllByRecursion IsShortText ts → AreTemplates ts → AllGood IsNextText [] ts
+all_next_texts ts short h = good_templates ts (are_templates ts short h.some) h.ascend
+
 -- ---- the whole
 
 -- the limits are kept exactly where the spelling is short enough, its length counted by parts
-pub limits_from : (k : Code) (names constants tables : ℕ) → names ≡ min (length (flat_map name_bytes k.names)) (2 ^ 64 - 1) → constants ≡ min (length (flat_map constant_bytes k.constants)) (2 ^ 64 - 1) → tables ≡ min (names + constants) (2 ^ 64 - 1)
-    → length k.names ≤ max_count → length k.constants ≤ max_count → length k.units ≤ max_count → total_len k.units ≤ max_instructions → AllByRecursion (λ n. length n.text ≤ max_count) k.names → AllByRecursion (λ u. u.locals ≤ max_locals) k.units
+pub limits_from : (k : Code) (names constants places both tables : ℕ) → names ≡ min (length (flat_map name_bytes k.names)) (2 ^ 64 - 1) → constants ≡ min (length (flat_map constant_bytes k.constants)) (2 ^ 64 - 1) → places ≡ min (length (place_bytes k.version k.templates k.spots)) (2 ^ 64 - 1) → both ≡ min (names + constants) (2 ^ 64 - 1) → tables ≡ min (both + places) (2 ^ 64 - 1)
+    → length k.names ≤ max_count → length k.constants ≤ max_count → length k.units ≤ max_count → length k.templates ≤ max_count → total_len k.units ≤ max_instructions → AllByRecursion (λ n. length n.text ≤ max_count) k.names → AllByRecursion (λ t. length t ≤ max_count) k.templates → AllByRecursion (λ u. u.locals ≤ max_locals) k.units
     → (14 + tables + 8 * (length k.units + total_len k.units) ≤ max_bytes) ↔ KeepsLimits k
-limits_from k names constants tables a b t count_names count_constants count_units instructions texts locals = (
-  λ le. record { names = count_names; texts = texts; constants = count_constants; units = count_units; locals = locals; instructions = instructions; bytes = omega (arith, le, a, b, t, spelled_len k) },
-  λ h. omega (arith, h.bytes, a, b, t, spelled_len k),
+limits_from k names constants places both tables a b p u t count_names count_constants count_units count_templates instructions texts templates locals = (
+  λ le. record { names = count_names; texts = texts; constants = count_constants; units = count_units; locals = locals; instructions = instructions; templates = count_templates; template_texts = templates; bytes = omega (arith, le, a, b, p, u, t, spelled_len k) },
+  λ h. omega (arith, h.bytes, a, b, p, u, t, spelled_len k),
 )
 
 -- a constant of an image that is not too long fits its field
@@ -161,6 +185,7 @@ pub record AreHeld (k : Code) : Type 0 where
   pub names : AllByRecursion (λ n. IsUtf8 n.text) k.names
   pub constants : AllByRecursion IsHeld k.constants
   pub units : AllByRecursion IsWritable k.units
+  pub templates : AllByRecursion IsUtf8 k.templates
 
 pub is_code : (k : Code) → AreHeld k → HasTables k → KeepsLimits k → IsCode k
 is_code k held tables limits =
@@ -177,6 +202,11 @@ is_code k held tables limits =
       units = sections_fit k.units held.units tables.units limits.locals;
       entry = tables.entry;
       instructions = limits.instructions;
+      count_templates = omega (arith, limits.templates);
+      templates = are_templates k.templates (short_texts k.templates limits.template_texts held.templates) tables.templates.some;
+      ascend_templates = tables.templates.ascend;
+      spots = tables.spots;
+      placed = tables.placed;
       bytes = limits.bytes;
     }
 
@@ -190,6 +220,9 @@ code_tables k is = record {
   };
   units = all_weaker IsSection IsUnitInOrder k.units (λ u h. (h.kind, h.within)) is.units;
   entry = is.entry;
+  templates = record { some = all_weaker IsTemplate (λ t. 0 < length t) k.templates (λ t h. h.some) is.templates; ascend = is.ascend_templates };
+  spots = is.spots;
+  placed = is.placed;
 }
 
 code_limits : (k : Code) → IsCode k → KeepsLimits k
@@ -200,6 +233,8 @@ code_limits k is = record {
   units = omega (arith, is.count_units);
   locals = all_weaker IsSection (λ u. u.locals ≤ max_locals) k.units (λ u h. h.locals) is.units;
   instructions = is.instructions;
+  templates = omega (arith, is.count_templates);
+  template_texts = all_weaker IsTemplate (λ t. length t ≤ max_count) k.templates (λ t h. omega (arith, h.fits)) is.templates;
   bytes = is.bytes;
 }
 
@@ -217,15 +252,3 @@ refused_for k BadText is r = absurd r
 
 pub only_memory : (o : Option Code) (k : Code) (e : ImageError) → o ≡ Some k → IsCode k → IsRefusal e o → e ≡ NoMemory
 only_memory o k e is code r = refused_for k e code (subst (λ (p : Option Code). IsRefusal e p) is r)
-
--- a refusal of a part is one of the whole
-pub finds_along : {X Y V W : Type 0} (view : X → Y) (seen : V → W) (e : ImageError) (o : Option Y) (p : Option W) → Finds view (Err e) o → (o ≡ None → p ≡ None) → Finds seen (Err e) p
-finds_along view seen BadOpcode o p f h = h f
-finds_along view seen NoMemory o p f h = tt
-finds_along view seen BadTable o p f h = f
-finds_along view seen LimitPassed o p f h = f
-finds_along view seen BadMagic o p f h = f
-finds_along view seen BadVersion o p f h = f
-finds_along view seen Truncated o p f h = f
-finds_along view seen Trailing o p f h = f
-finds_along view seen BadText o p f h = f

@@ -1,6 +1,6 @@
 -- The spelling of a code is read as that code.
 use Rattle.std.proofs.Common.{◌≡◌, ℕ, ◌+◌, ◌<◌, ◌≤◌, ◌^◌, Bool, true, false, cond, ltb, leb, eqb, List, [], ◌∷◌, ◌++◌, length, map, take, drop, Option, Some, None, Result, Ok, Err, refl, sym, ap, subst, ◌∙◌, arith, append_assoc}
-use Rattle.std.specs.Prelude.{ℤ, ◌==◌, ◌&&◌, ◌||◌, ◌≢◌, not, nat_lt, nat_le, IsUtf8, IfOk, MatchResult, MatchOption}
+use Rattle.std.specs.Prelude.{ℤ, ◌==◌, ◌&&◌, ◌||◌, ◌≢◌, not, nat_lt, nat_le, IsUtf8, MatchResult, MatchOption}
 use Rattle.std.specs.Int.{w16, w32, w64, to_le_bytes, cast_signed, cast_unsigned}
 use Rattle.std.specs.List.{flat_map, AllByRecursion}
 use Rattle.std.specs.Str.{bytes_eq}
@@ -15,14 +15,16 @@ use Rattle.jt_image.specs.declared.error.ImageError.TheVariants.{BadMagic, BadVe
 use Rattle.jt_image.specs.declared.instruction.Instruction.{Instruction}
 use Rattle.jt_image.specs.declared.instruction.Instruction.TheVariants as op
 use Rattle.jt_image.specs.declared.wire.Instr.{Instr}
+use Rattle.jt_image.specs.declared.version.Version.{Version}
 use Rattle.jt_image.specs.Code.{Constant, undefined, nothing, truth_value, number, text, markup, Name, Section, Code}
-use Rattle.jt_image.specs.Spelling.{magic, version, name_bytes, constant_bytes, header_bytes, wire_of, wire_bytes, instruction_bytes, spelling}
+use Rattle.jt_image.specs.Spelling.{magic, version_number, name_bytes, constant_bytes, header_bytes, wire_of, wire_bytes, instruction_bytes, spelling}
 use Rattle.jt_image.specs.IsCode.{IsName, Ascend, AreDistinct, IsConstant, IsInstruction, IsSection, total_len, HasEntry, IsCode, max_locals, max_instructions, max_bytes}
-use Rattle.jt_image.specs.Reading.{◌>>=◌, Gives, check, number_at, byte_at, text_at, is_used, may_follow, slot_at, name_text_at, name_at, names_at, long_text_at, constant_of, constant_at, constants_at, Header, header_total, is_first, parameters_at, kind_at, locals_at, len_at, header_of, header_at, headers_at, known, known_of, instruction_of, instruction_at, instructions_at, section_of, section_at, sections_at, magic_at, start_at, units_at, all_names_at, all_constants_at, code_of}
+use Rattle.jt_image.specs.Reading.{◌>>=◌, Gives, check, number_at, byte_at, text_at, is_used, may_follow, slot_at, name_text_at, name_at, names_at, long_text_at, constant_of, constant_at, constants_at, Header, header_total, is_first, parameters_at, kind_at, locals_at, len_at, header_of, header_at, headers_at, known, known_of, instruction_of, instruction_at, instructions_at, section_of, section_at, sections_at, magic_at, version_at, start_at, Back, back_at, units_at, all_names_at, all_constants_at, code_of}
 use Rattle.jt_image.proofs.ReaderParts.{header_total-push, is_first-push, is_used-push}
-use Rattle.jt_image.proofs.Found.{IsBytes, all_at, wide16, wide32, wide64, AllGood}
+use Rattle.jt_image.proofs.Found.{wide16, wide32, wide64, AllGood}
 use Rattle.jt_image.proofs.Sound.{wire_from, good_instruction, IsFree, IsNext, IsNamed, short_bytes, long_bytes, IsPlain, IsHeader, head_bytes, code_bytes, head_of, HasCode}
-use Rattle.jt_image.proofs.Whole.{IsSpelledBy, code_found, may_follow-push, AreNames, good_constant, AreConstants, good_header, HasFirst, AreUnits, units_bytes, head_spelled, length-map_of}
+use Rattle.jt_image.proofs.Whole.{may_follow-push, AreNames, good_constant, AreConstants, good_header, HasFirst, AreUnits, head_spelled, length-map_of}
+use Rattle.jt_image.proofs.Behind.{version_again, back_bytes, back_again}
 use Rattle.jt_image.proofs.Again.{number_again, text_again, bind_again, many_again, each_again}
 
 -- a test that holds
@@ -336,19 +338,19 @@ some_units [] h = absurd (none h.entry h.is)
     none u e = cc
 some_units (u ∷ us) h = omega arith
 
-units_again : (us : List Section) → AreUnits us → units_at (units_bytes us) ≡ Ok (us, [])
+units_again : (us : List Section) (rest : List ℕ) → AreUnits us → units_at (to_le_bytes w16 (length us) ++ (flat_map header_bytes us ++ (flat_map code_bytes us ++ rest))) ≡ Ok (us, rest)
 unfolding units_at
-units_again us h =
-    let codes = flat_map code_bytes us in
+units_again us rest h =
+    let codes = flat_map code_bytes us ++ rest in
     let after = flat_map header_bytes us ++ codes in
     let good = headers_good [] us h.all (omega (arith, h.total)) (plain_first us h.first) in
     let many : headers_at (length (map head_of us)) (flat_map head_bytes (map head_of us) ++ codes) ≡ Ok (map head_of us, codes) = many_again header_at head_bytes good_header (λ before x rest g. header_again (is_first before) (header_total before) x rest g) [] (map head_of us) codes good in
     let heads : headers_at (length us) after ≡ Ok (map head_of us, codes) =
     ap (λ (n : ℕ). headers_at n after) (sym (length-map_of us)) ∙ ap (λ (t : List ℕ). headers_at (length (map head_of us)) (t ++ codes)) (sym (head_spelled us)) ∙ many in
-    let each : sections_at (map head_of us) codes ≡ Ok (us, []) = ap (sections_at (map head_of us)) (sym (append-nil codes)) ∙ each_again section_at code_bytes head_of HasCode section_again [] us [] (codes_of us h.all) in
-    bind_again (number_at w16 (units_bytes us)) (λ n. check (nat_lt 0 n.0) BadTable (headers_at n.0 n.1 >>= λ hs. sections_at hs.0 hs.1)) (length us) after (Ok (us, [])) (number_again w16 (2 ^ 16) wide16 (length us) after h.count)
+    let each : sections_at (map head_of us) codes ≡ Ok (us, rest) = each_again section_at code_bytes head_of HasCode section_again [] us rest (codes_of us h.all) in
+    bind_again (number_at w16 (to_le_bytes w16 (length us) ++ after)) (λ n. check (nat_lt 0 n.0) BadTable (headers_at n.0 n.1 >>= λ hs. sections_at hs.0 hs.1)) (length us) after (Ok (us, rest)) (number_again w16 (2 ^ 16) wide16 (length us) after h.count)
     (check_again (nat_lt 0 (length us)) BadTable (headers_at (length us) after >>= λ hs. sections_at hs.0 hs.1) (lt-ltb _ _ (some_units us h.first))
-    ∙ bind_again (headers_at (length us) after) (λ hs. sections_at hs.0 hs.1) (map head_of us) codes (Ok (us, [])) heads each)
+    ∙ bind_again (headers_at (length us) after) (λ hs. sections_at hs.0 hs.1) (map head_of us) codes (Ok (us, rest)) heads each)
 
 -- ---- the whole
 
@@ -365,11 +367,11 @@ magic_again rest =
     unless_again true d r e = absurd cc
     unless_again false d r e = refl
 
-start_again : (rest : List ℕ) → start_at (magic ++ (to_le_bytes w16 version ++ rest)) ≡ Ok rest
+start_again : (v : Version) (rest : List ℕ) → start_at (magic ++ (to_le_bytes w16 (version_number v) ++ rest)) ≡ Ok (v, rest)
 unfolding start_at
-start_again rest =
-    step_again (magic_at (magic ++ (to_le_bytes w16 version ++ rest))) (λ rest. number_at w16 rest >>= λ found. check (found.0 == version) BadVersion (Ok found.1)) (to_le_bytes w16 version ++ rest) (Ok rest) (magic_again (to_le_bytes w16 version ++ rest))
-    (bind_again (number_at w16 (to_le_bytes w16 version ++ rest)) (λ found. check (found.0 == version) BadVersion (Ok found.1)) version rest (Ok rest) (number_again w16 (2 ^ 16) wide16 version rest (omega arith)) refl)
+start_again v rest =
+    let r = to_le_bytes w16 (version_number v) ++ rest in
+    step_again (magic_at (magic ++ r)) (λ rest. version_at rest) r (Ok (v, rest)) (magic_again r) (version_again v rest)
 
 -- what a code's entry says of its units
 first_of : (k : Code) → HasEntry k → HasFirst k.units
@@ -379,39 +381,38 @@ first_of k e = record { entry = e.entry; is = e.is; emits = e.emits; plain = e.p
 pub code_again : (k : Code) → IsCode k → code_of (spelling k) ≡ Ok k
 unfolding code_of
 code_again k h =
-    let r4 = units_bytes k.units in
+    let back : Back = record { templates = k.templates; spots = k.spots } in
+    let r5 = back_bytes k.version back in
+    let r4 = to_le_bytes w16 (length k.units) ++ (flat_map header_bytes k.units ++ (flat_map code_bytes k.units ++ r5)) in
     let r3 = to_le_bytes w16 (length k.constants) ++ (flat_map constant_bytes k.constants ++ r4) in
     let r2 = to_le_bytes w16 (length k.names) ++ (flat_map name_bytes k.names ++ r3) in
     let r1 = to_le_bytes w16 k.globals ++ r2 in
+    let last : back_at k.version (total_len k.units) r5 ≡ Ok (back, []) = ap (back_at k.version (total_len k.units)) (sym (append-nil r5)) ∙ back_again k.version back (total_len k.units) [] (record { texts = record { count = h.count_templates; all = h.templates; ascend = h.ascend_templates }; spots = h.spots; placed = h.placed }) in
     check_again (nat_le (length (spelling k)) max_bytes) LimitPassed _ (le-leb _ _ h.bytes)
-    ∙ step_again (start_at (spelling k)) _ r1 (Ok k) (start_again r1)
+    ∙ bind_again (start_at (spelling k)) _ k.version r1 (Ok k) (start_again k.version r1)
     (bind_again (number_at w16 r1) _ k.globals r2 (Ok k) (number_again w16 (2 ^ 16) wide16 k.globals r2 h.globals)
     (bind_again (all_names_at k.globals r2) _ k.names r3 (Ok k) (names_again k.globals h.globals k.names r3 (record { count = h.count_names; all = h.names; ascend = h.ascend; distinct = h.distinct }))
     (bind_again (all_constants_at r3) _ k.constants r4 (Ok k) (constants_again k.constants r4 (h.count_constants, h.constants))
-    (bind_again (units_at r4) (λ units. check (length units.1 == 0) Trailing (Ok (record { globals = k.globals; names = k.names; constants = k.constants; units = units.0 }))) k.units [] (Ok k) (units_again k.units (record { count = h.count_units; all = h.units; first = first_of k h.entry; total = h.instructions })) refl))))
+    (bind_again (units_at r4) _ k.units r5 (Ok k) (units_again k.units r5 (record { count = h.count_units; all = h.units; first = first_of k h.entry; total = h.instructions }))
+    (bind_again (back_at k.version (total_len k.units) r5) (λ back. check (length back.1 == 0) Trailing (Ok (record { version = k.version; globals = k.globals; names = k.names; constants = k.constants; units = k.units; templates = back.0.templates; spots = back.0.spots }))) back [] (Ok k) last refl)))))
 
 -- ---- what decode says
-
--- what is read from the bytes is spelled so
-pub is_found : (bytes : List ℕ) (r : Result Code ImageError) → IsBytes bytes → Gives (λ k. k) r (code_of bytes) → IfOk r (λ k. IsCode k × (bytes ≡ spelling k))
-is_found bytes (Ok k) fits e = all_at (code_of bytes) (IsSpelledBy bytes) k e (code_found bytes fits)
-is_found bytes (Err d) fits e = tt
 
 -- where there is a code, it is answered, unless memory ran out
 no_fault : (k : Code) (d : ImageError) (read : Result Code ImageError) → read ≡ Ok k → read ≡ Err d → ⊥
 no_fault k d read e f = cc
 
-pub is_only : (k : Code) (r read : Result Code ImageError) → read ≡ Ok k → Gives (λ k. k) r read → MatchResult r (λ i. i ≡ k) (λ e. e ≡ NoMemory)
-is_only k (Ok i) read e g = same (sym g ∙ e)
+pub is_only : {X : Type 0} (view : X → Code) (k : Code) (r : Result X ImageError) (read : Result Code ImageError) → read ≡ Ok k → Gives view r read → MatchResult r (λ x. view x ≡ k) (λ e. e ≡ NoMemory)
+is_only view k (Ok x) read e g = same (sym g ∙ e)
   where
     same : {x y : Code} → (let a : Result Code ImageError = Ok x in a ≡ Ok y) → x ≡ y
     same e = cc
-is_only k (Err NoMemory) read e g = refl
-is_only k (Err BadMagic) read e g = absurd (no_fault k BadMagic read e g)
-is_only k (Err BadVersion) read e g = absurd (no_fault k BadVersion read e g)
-is_only k (Err Truncated) read e g = absurd (no_fault k Truncated read e g)
-is_only k (Err Trailing) read e g = absurd (no_fault k Trailing read e g)
-is_only k (Err BadText) read e g = absurd (no_fault k BadText read e g)
-is_only k (Err BadOpcode) read e g = absurd (no_fault k BadOpcode read e g)
-is_only k (Err BadTable) read e g = absurd (no_fault k BadTable read e g)
-is_only k (Err LimitPassed) read e g = absurd (no_fault k LimitPassed read e g)
+is_only view k (Err NoMemory) read e g = refl
+is_only view k (Err BadMagic) read e g = absurd (no_fault k BadMagic read e g)
+is_only view k (Err BadVersion) read e g = absurd (no_fault k BadVersion read e g)
+is_only view k (Err Truncated) read e g = absurd (no_fault k Truncated read e g)
+is_only view k (Err Trailing) read e g = absurd (no_fault k Trailing read e g)
+is_only view k (Err BadText) read e g = absurd (no_fault k BadText read e g)
+is_only view k (Err BadOpcode) read e g = absurd (no_fault k BadOpcode read e g)
+is_only view k (Err BadTable) read e g = absurd (no_fault k BadTable read e g)
+is_only view k (Err LimitPassed) read e g = absurd (no_fault k LimitPassed read e g)

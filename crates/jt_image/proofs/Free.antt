@@ -8,17 +8,19 @@ use Rattle.jt_value.specs.Pairs.{Pairs, look}
 use Rattle.jt_value.specs.declared.fault.Fault.{Fault}
 use Rattle.jt_image.specs.declared.instruction.Instruction.{Instruction}
 use Rattle.jt_image.specs.Code.{Name, Section, Code}
+use Rattle.jt_value.specs.Place.{Place}
+use Rattle.jt_image.specs.Places.{place_at}
 use Rattle.jt_image.specs.Config as config
 use Rattle.jt_image.specs.Config.{Budget, Outcome, Caller, Machine, Config}
 use Rattle.jt_image.specs.Step.{Demand, Action, goes_on, ends, faulty, wrong, action, in_tables, strict, cost, fetch}
-use Rattle.jt_image.specs.Run.{Next, Goes, Ends, spared, unless, spends, next_at, limit_of, first_of, limit_of_named, passed, start, then_goes, after, Ending, RunFrom, Run}
+use Rattle.jt_image.specs.Run.{Next, Goes, Ends, spared, unless, spends, placed, next_at, limit_of, first_of, limit_of_named, passed, start, then_goes, after, Ending, RunFrom, Run}
 use Rattle.jt_image.specs.Enough.{AtLeast, Enough}
 use Rattle.jt_image.specs.FreeRun.{Free, Finished, Failed, Stuck, Going, on_action, exec_at, exec, start_machine}
 use Rattle.jt_image.proofs.Safe.{IsFit, IsFineAction, IsReady, ready}
 
 abbrev pub strict_at : Code → Option (Section × Instruction) → Machine → (Machine → Free) → Free
 strict_at k None m go = Stuck
-strict_at k (Some (u, i)) m go = on_action (strict k u i m) go
+strict_at k (Some (u, i)) m go = on_action (place_at k m.unit m.point) (strict k u i m) go
 
 -- at most n instructions, with the tests of the tables
 abbrev pub exec_strict : Code → ℕ → Machine → Free
@@ -28,14 +30,14 @@ exec_strict k (suc n) m = strict_at k (fetch k m.unit m.point) m (exec_strict k 
 -- a run that has ended with a text or a fault
 abbrev pub IsMeant : Free → Type 0
 IsMeant (Finished t) = Unit {0}
-IsMeant (Failed f) = Unit {0}
+IsMeant (Failed f z) = Unit {0}
 IsMeant Stuck = ⊥
 IsMeant Going = ⊥
 
 -- the outcome of such a run
 abbrev pub outcome_of : Free → Outcome
 outcome_of (Finished t) = config.text t
-outcome_of (Failed f) = config.fault f
+outcome_of (Failed f z) = config.fault f z
 outcome_of Stuck = config.text []
 outcome_of Going = config.text []
 
@@ -47,59 +49,59 @@ on_machine m b = record { machine = m; left = b }
 -- what a test let through
 passes : (b : Bool) (l : config.Limit) (n : Next) (o : Free) → IsMeant o → unless b l n ≡ Ends (outcome_of o) → n ≡ Ends (outcome_of o)
 passes true l n (Finished t) h e = absurd cc
-passes true l n (Failed f) h e = absurd cc
+passes true l n (Failed f z) h e = absurd cc
 passes true l n Stuck h e = absurd h
 passes true l n Going h e = absurd h
 passes false l n o h e = e
 
 text_is : (t : List ℕ) (o : Free) → IsMeant o → Ends (config.text t) ≡ Ends (outcome_of o) → Finished t ≡ o
 text_is t (Finished s) h e = cc
-text_is t (Failed f) h e = absurd cc
+text_is t (Failed f z) h e = absurd cc
 text_is t Stuck h e = absurd h
 text_is t Going h e = absurd h
 
-fault_is : (f : Fault) (o : Free) → IsMeant o → Ends (config.fault f) ≡ Ends (outcome_of o) → Failed f ≡ o
-fault_is f (Finished s) h e = absurd cc
-fault_is f (Failed g) h e = cc
-fault_is f Stuck h e = absurd h
-fault_is f Going h e = absurd h
+fault_is : (f : Fault) (z : Option Place) (o : Free) → IsMeant o → Ends (config.fault f z) ≡ Ends (outcome_of o) → Failed f z ≡ o
+fault_is f z (Finished s) h e = absurd cc
+fault_is f z (Failed g y) h e = cc
+fault_is f z Stuck h e = absurd h
+fault_is f z Going h e = absurd h
 
-erased_step : (n : ℕ) (a : Action) (b : Budget) (go : Config → Next) (free : Machine → Free) (o : Free) → IsMeant o → ((m : Machine) (b : Budget) → go (on_machine m b) ≡ Ends (outcome_of o) → free m ≡ o)
-    → then_goes (spends n a b) go ≡ Ends (outcome_of o) → on_action a free ≡ o
-erased_step n (goes_on m d) b go free o h rest e = through (nat_lt b.fuel n) (nat_lt b.depth d.calls) (nat_lt b.output d.bytes) (nat_lt b.size d.size) (nat_lt b.nesting d.nesting) e
+erased_step : (n : ℕ) (z : Option Place) (a : Action) (b : Budget) (go : Config → Next) (free : Machine → Free) (o : Free) → IsMeant o → ((m : Machine) (b : Budget) → go (on_machine m b) ≡ Ends (outcome_of o) → free m ≡ o)
+    → then_goes (placed z (spends n a b)) go ≡ Ends (outcome_of o) → on_action z a free ≡ o
+erased_step n z (goes_on m d) b go free o h rest e = through (nat_lt b.fuel n) (nat_lt b.depth d.calls) (nat_lt b.output d.bytes) (nat_lt b.size d.size) (nat_lt b.nesting d.nesting) e
   where
     spent_is : (l : config.Limit) → Ends (config.spent l) ≡ Ends (outcome_of o) → free m ≡ o
     spent_is l e' = absurd (no_spent o h e')
       where
         no_spent : (o : Free) → IsMeant o → Ends (config.spent l) ≡ Ends (outcome_of o) → ⊥
         no_spent (Finished t) h e' = cc
-        no_spent (Failed f) h e' = cc
+        no_spent (Failed f z) h e' = cc
         no_spent Stuck h e' = h
         no_spent Going h e' = h
 
-    through : (p q r s t : Bool) → then_goes (unless p config.fuel (unless q config.depth (unless r config.output (unless s config.size (unless t config.nesting (Goes (on_machine m (spared n d b)))))))) go ≡ Ends (outcome_of o) → free m ≡ o
+    through : (p q r s t : Bool) → then_goes (placed z (unless p config.fuel (unless q config.depth (unless r config.output (unless s config.size (unless t config.nesting (Goes (on_machine m (spared n d b))))))))) go ≡ Ends (outcome_of o) → free m ≡ o
     through true q r s t e' = spent_is config.fuel e'
     through false true r s t e' = spent_is config.depth e'
     through false false true s t e' = spent_is config.output e'
     through false false false true t e' = spent_is config.size e'
     through false false false false true e' = spent_is config.nesting e'
     through false false false false false e' = rest m (spared n d b) e'
-erased_step n (ends t) b go free o h rest e = text_is t o h (passes (nat_lt b.fuel n) config.fuel (Ends (config.text t)) o h (ended (nat_lt b.fuel n) e))
+erased_step n z (ends t) b go free o h rest e = text_is t o h (passes (nat_lt b.fuel n) config.fuel (Ends (config.text t)) o h (ended (nat_lt b.fuel n) e))
   where
-    ended : (p : Bool) → then_goes (unless p config.fuel (Ends (config.text t))) go ≡ Ends (outcome_of o) → unless p config.fuel (Ends (config.text t)) ≡ Ends (outcome_of o)
+    ended : (p : Bool) → then_goes (placed z (unless p config.fuel (Ends (config.text t)))) go ≡ Ends (outcome_of o) → unless p config.fuel (Ends (config.text t)) ≡ Ends (outcome_of o)
     ended true e' = e'
     ended false e' = e'
-erased_step n (faulty f) b go free o h rest e = fault_is f o h (passes (nat_lt b.fuel n) config.fuel (Ends (config.fault f)) o h (ended (nat_lt b.fuel n) e))
+erased_step n z (faulty f) b go free o h rest e = fault_is f z o h (passes (nat_lt b.fuel n) config.fuel (Ends (config.fault f z)) o h (ended (nat_lt b.fuel n) e))
   where
-    ended : (p : Bool) → then_goes (unless p config.fuel (Ends (config.fault f))) go ≡ Ends (outcome_of o) → unless p config.fuel (Ends (config.fault f)) ≡ Ends (outcome_of o)
+    ended : (p : Bool) → then_goes (placed z (unless p config.fuel (Ends (config.fault f None)))) go ≡ Ends (outcome_of o) → unless p config.fuel (Ends (config.fault f z)) ≡ Ends (outcome_of o)
     ended true e' = e'
     ended false e' = e'
-erased_step n wrong b go free o h rest e = absurd cc
+erased_step n z wrong b go free o h rest e = absurd cc
 
 erased_at : (k : Code) (q : Option (Section × Instruction)) (m : Machine) (b : Budget) (go : Config → Next) (free : Machine → Free) (o : Free) → IsMeant o → ((m : Machine) (b : Budget) → go (on_machine m b) ≡ Ends (outcome_of o) → free m ≡ o)
     → then_goes (next_at k q (on_machine m b)) go ≡ Ends (outcome_of o) → strict_at k q m free ≡ o
 erased_at k None m b go free o h rest e = absurd cc
-erased_at k (Some (u, i)) m b go free o h rest e = erased_step (cost i m.state) (strict k u i m) b go free o h rest e
+erased_at k (Some (u, i)) m b go free o h rest e = erased_step (cost i m.state) (place_at k m.unit m.point) (strict k u i m) b go free o h rest e
 
 pub erased : (k : Code) (n : ℕ) (m : Machine) (b : Budget) (o : Free) → IsMeant o → after k n (on_machine m b) ≡ Ends (outcome_of o) → exec_strict k n m ≡ o
 erased k zero m b o h e = absurd cc
@@ -120,25 +122,25 @@ only_fuel n = record { fuel = n; depth = 0; output = 0; size = 0; nesting = 0 }
 abbrev Suffices : (Config → Next) → Machine → Free → Type 0
 Suffices go m o = (a : Budget) × ((b : Budget) → AtLeast a b → go (on_machine m b) ≡ Ends (outcome_of o))
 
-enough_step : (n : ℕ) (a : Action) (go : Config → Next) (free : Machine → Free) (o : Free) → IsMeant o → ((m : Machine) → free m ≡ o → Suffices go m o)
-    → on_action a free ≡ o → (l : Budget) × ((b : Budget) → AtLeast l b → then_goes (spends n a b) go ≡ Ends (outcome_of o))
-enough_step n (goes_on m d) go free o h rest e =
+enough_step : (n : ℕ) (z : Option Place) (a : Action) (go : Config → Next) (free : Machine → Free) (o : Free) → IsMeant o → ((m : Machine) → free m ≡ o → Suffices go m o)
+    → on_action z a free ≡ o → (l : Budget) × ((b : Budget) → AtLeast l b → then_goes (placed z (spends n a b)) go ≡ Ends (outcome_of o))
+enough_step n z (goes_on m d) go free o h rest e =
     let r = rest m e in (
       more_for n d r.0,
-      λ b at. ap (λ x. then_goes x go)
+      λ b at. ap (λ x. then_goes (placed z x) go)
           (lets b.fuel n config.fuel _ (omega (arith, at.fuel)) ∙ lets b.depth d.calls config.depth _ (omega (arith, at.depth)) ∙ lets b.output d.bytes config.output _ (omega (arith, at.output)) ∙ lets b.size d.size config.size _ (omega (arith, at.size)) ∙ lets b.nesting d.nesting config.nesting _ (omega (arith, at.nesting)))
           ∙ r.1 (spared n d b) (record { fuel = omega (arith, at.fuel); depth = omega (arith, at.depth); output = omega (arith, at.output); size = omega (arith, at.size); nesting = omega (arith, at.nesting) }),
     )
-enough_step n (ends t) go free o h rest e =
-    (only_fuel n, λ b at. ap (λ x. then_goes x go) (lets b.fuel n config.fuel (Ends (config.text t)) at.fuel) ∙ ap (λ f. Ends (outcome_of f)) e)
-enough_step n (faulty f) go free o h rest e =
-    (only_fuel n, λ b at. ap (λ x. then_goes x go) (lets b.fuel n config.fuel (Ends (config.fault f)) at.fuel) ∙ ap (λ g. Ends (outcome_of g)) e)
-enough_step n wrong go free o h rest e = absurd (subst IsMeant (sym e) h)
+enough_step n z (ends t) go free o h rest e =
+    (only_fuel n, λ b at. ap (λ x. then_goes (placed z x) go) (lets b.fuel n config.fuel (Ends (config.text t)) at.fuel) ∙ ap (λ f. Ends (outcome_of f)) e)
+enough_step n z (faulty f) go free o h rest e =
+    (only_fuel n, λ b at. ap (λ x. then_goes (placed z x) go) (lets b.fuel n config.fuel (Ends (config.fault f None)) at.fuel) ∙ ap (λ g. Ends (outcome_of g)) e)
+enough_step n z wrong go free o h rest e = absurd (subst IsMeant (sym e) h)
 
 enough_at : (k : Code) (q : Option (Section × Instruction)) (m : Machine) (go : Config → Next) (free : Machine → Free) (o : Free) → IsMeant o → ((m : Machine) → free m ≡ o → Suffices go m o)
     → strict_at k q m free ≡ o → (l : Budget) × ((b : Budget) → AtLeast l b → then_goes (next_at k q (on_machine m b)) go ≡ Ends (outcome_of o))
 enough_at k None m go free o h rest e = absurd (subst IsMeant (sym e) h)
-enough_at k (Some (u, i)) m go free o h rest e = enough_step (cost i m.state) (strict k u i m) go free o h rest e
+enough_at k (Some (u, i)) m go free o h rest e = enough_step (cost i m.state) (place_at k m.unit m.point) (strict k u i m) go free o h rest e
 
 pub enough : (k : Code) (n : ℕ) (m : Machine) (o : Free) → IsMeant o → exec_strict k n m ≡ o → Suffices (after k n) m o
 enough k zero m o h e = absurd (subst IsMeant (sym e) h)
@@ -188,7 +190,7 @@ enough_run k x n o h e =
 
 run_from_erased : (k : Code) (x : Pairs) (b : Budget) (p : Option config.Limit) (o : Free) → IsMeant o → RunFrom p k x b (outcome_of o) → (n : ℕ) × (exec_strict k n (start_machine k x) ≡ o)
 run_from_erased k x b (Some l) (Finished t) h r = absurd cc
-run_from_erased k x b (Some l) (Failed f) h r = absurd cc
+run_from_erased k x b (Some l) (Failed f z) h r = absurd cc
 run_from_erased k x b (Some l) Stuck h r = absurd h
 run_from_erased k x b (Some l) Going h r = absurd h
 run_from_erased k x b None o h r = (r.0, erased k r.0 (start_machine k x) b o h r.1)
@@ -207,17 +209,17 @@ same_action k u i m es above fine = through (in_tables k i m.state) fine
     through true f = refl
     through false f = absurd f
 
-same_on : (k : Code) (es : List config.Entry) (above : List Caller) (a : Action) (go go' : Machine → Free) → IsFineAction k es above a → ((m : Machine) → IsFit k m → go m ≡ go' m) → on_action a go ≡ on_action a go'
-same_on k es above (goes_on m d) go go' fine h = h m fine.0
-same_on k es above (ends t) go go' fine h = refl
-same_on k es above (faulty f) go go' fine h = refl
-same_on k es above wrong go go' fine h = absurd fine
+same_on : (k : Code) (z : Option Place) (es : List config.Entry) (above : List Caller) (a : Action) (go go' : Machine → Free) → IsFineAction k es above a → ((m : Machine) → IsFit k m → go m ≡ go' m) → on_action z a go ≡ on_action z a go'
+same_on k z es above (goes_on m d) go go' fine h = h m fine.0
+same_on k z es above (ends t) go go' fine h = refl
+same_on k z es above (faulty f) go go' fine h = refl
+same_on k z es above wrong go go' fine h = absurd fine
 
 same_at : (k : Code) (n : ℕ) (m : Machine) (r : IsReady k m) → ((m : Machine) → IsFit k m → exec_strict k n m ≡ exec k n m) → exec_strict k (suc n) m ≡ exec k (suc n) m
 same_at k n m r h =
-    let left : exec_strict k (suc n) m ≡ on_action (strict k r.unit r.instruction m) (exec_strict k n) = ap (λ q. strict_at k q m (exec_strict k n)) r.is in
-    let right : exec k (suc n) m ≡ on_action (action k r.unit r.instruction m) (exec k n) = ap (λ q. exec_at k q m (exec k n)) r.is in
-    left ∙ same_on k m.state.entries m.callers (strict k r.unit r.instruction m) (exec_strict k n) (exec k n) r.fine h ∙ ap (λ a. on_action a (exec k n)) (same_action k r.unit r.instruction m m.state.entries m.callers r.fine) ∙ sym right
+    let left : exec_strict k (suc n) m ≡ on_action (place_at k m.unit m.point) (strict k r.unit r.instruction m) (exec_strict k n) = ap (λ q. strict_at k q m (exec_strict k n)) r.is in
+    let right : exec k (suc n) m ≡ on_action (place_at k m.unit m.point) (action k r.unit r.instruction m) (exec k n) = ap (λ q. exec_at k q m (exec k n)) r.is in
+    left ∙ same_on k (place_at k m.unit m.point) m.state.entries m.callers (strict k r.unit r.instruction m) (exec_strict k n) (exec k n) r.fine h ∙ ap (λ a. on_action (place_at k m.unit m.point) a (exec k n)) (same_action k r.unit r.instruction m m.state.entries m.callers r.fine) ∙ sym right
 
 pub same_exec : (k : Code) (n : ℕ) (m : Machine) → IsFit k m → exec_strict k n m ≡ exec k n m
 same_exec k zero m g = refl

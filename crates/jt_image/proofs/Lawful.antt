@@ -16,6 +16,7 @@ use Rattle.jt_image.proofs.Runs.{start_good, good_after, safe}
 use Rattle.jt_image.proofs.Free.{IsMeant, outcome_of, only_fuel, enough_run, run_erased, same_exec}
 use Rattle.jt_image.proofs.Assembled.{spelled_len}
 use Rattle.jt_image.proofs.WeakJoin.{kinds}
+use Rattle.jt_image.proofs.Bare.{no_places}
 
 sizes : (n : ℕ) (es : List Entry) → AreSized n es → AllByRecursion (λ e. entry_size e ≤ n) es
 sizes n [] h = tt
@@ -49,10 +50,10 @@ module _ (k : Code) (whole : IsCode k) (typed : IsTyped k) where
     safe = λ x b. safe k whole typed x b;
     sound = λ x b n c e. sound k c (good_after k n (start k x b) c (start_good k whole typed x b) e);
     text = λ x b t r. comes x b (Finished t) tt r;
-    fault = λ x b f r. comes x b (Failed f) tt r;
+    fault = λ x b f q r. comes x b (Failed f q) tt r;
     enough_text = λ x t e. enough x (Finished t) tt e;
-    enough_fault = λ x f e. enough x (Failed f) tt e;
+    enough_fault = λ x f q e. enough x (Failed f q) tt e;
   }
 
 pub lawful : CodeLaws
-lawful = record { runs = runs; needs_kinds = kinds; spelled = spelled_len }
+lawful = record { runs = runs; needs_kinds = kinds; no_places = no_places; spelled = spelled_len }

@@ -6,7 +6,7 @@ use Rattle.jt_image.specs.declared.error.ImageError.TheVariants.{BadMagic, BadVe
 use Rattle.jt_image.specs.Reading.{Fails, many_at, each_at}
 
 -- a reader that stops at a fault of an earlier one
-Fails-along : {X Y : Type 0} (e : ImageError) (r : Result X ImageError) (t : Result Y ImageError) → Fails e r → (r ≡ Err e → t ≡ Err e) → Fails e t
+pub Fails-along : {X Y : Type 0} (e : ImageError) (r : Result X ImageError) (t : Result Y ImageError) → Fails e r → (r ≡ Err e → t ≡ Err e) → Fails e t
 Fails-along NoMemory r t f h = tt
 Fails-along BadMagic r t f h = h f
 Fails-along BadVersion r t f h = h f

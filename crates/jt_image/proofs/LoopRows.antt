@@ -1,5 +1,5 @@
 -- Runs of small codes with loops, captures and calls, computed from the definitions.
-use Rattle.std.proofs.Common.{◌≡◌, ℕ, ◌^◌, true, false, List, [], ◌∷◌, ◌++◌, Result, Ok, Err, refl}
+use Rattle.std.proofs.Common.{◌≡◌, ℕ, ◌^◌, true, false, List, [], ◌∷◌, ◌++◌, Result, None, Ok, Err, refl}
 use Rattle.std.specs.Prelude.{ℤ, pos, negsuc, replicate, map}
 use Rattle.jt_value.specs.Tree as tree
 use Rattle.jt_value.specs.Tree.{Tree}
@@ -11,6 +11,7 @@ use Rattle.jt_image.specs.declared.instruction.Instruction.TheVariants as op
 use Rattle.jt_image.specs.declared.loop_field.LoopField.TheVariants as field
 use Rattle.jt_image.specs.declared.kind.Kind.TheVariants as kind
 use Rattle.jt_image.specs.declared.kind.Flaw.TheVariants as flaw
+use Rattle.jt_image.specs.declared.version.Version.TheVariants as version
 use Rattle.jt_image.specs.Code as code
 use Rattle.jt_image.specs.Code.{Section, Code}
 use Rattle.jt_image.specs.Ids.{operator_of}
@@ -28,7 +29,7 @@ abbrev a_unit : List Instruction → Section
 a_unit is = record { parameters = 0; kind = 0; locals = 0; code = is }
 
 abbrev whole : List code.Constant → List Section → Code
-whole cs us = record { globals = 0; names = []; constants = cs; units = us }
+whole cs us = record { version = version.One; globals = 0; names = []; constants = cs; units = us; templates = []; spots = [] }
 
 abbrev runs : Code → Budget → Next
 runs k b = after k 100 (start k [] b)
@@ -165,7 +166,7 @@ keeps_none : runs (kept_code (99 ∷ [])) (ample 100) ≡ Ends (config.text yes)
 unfolding field_of operator_of
 keeps_none = refl
 
-not_iterable : runs (whole (code.truth_value true ∷ []) (a_unit (op.Const 0 ∷ op.LoopStart ∷ op.LoopEnd ∷ op.Drop ∷ op.Return ∷ []) ∷ [])) (ample 2) ≡ Ends (config.fault faults.NotIterable)
+not_iterable : runs (whole (code.truth_value true ∷ []) (a_unit (op.Const 0 ∷ op.LoopStart ∷ op.LoopEnd ∷ op.Drop ∷ op.Return ∷ []) ∷ [])) (ample 2) ≡ Ends (config.fault faults.NotIterable None)
 not_iterable = refl
 
 -- ---- captures
@@ -195,7 +196,7 @@ unpacked n = whole texts (a_unit (a_and_b (op.Unpack n ∷ op.Emit 0 ∷ op.Emit
 last_on_top : runs (unpacked 2) (ample 7) ≡ Ends (config.text (98 ∷ 97 ∷ []))
 last_on_top = refl
 
-other_count : runs (unpacked 3) (ample 4) ≡ Ends (config.fault faults.Unpack)
+other_count : runs (unpacked 3) (ample 4) ≡ Ends (config.fault faults.Unpack None)
 other_count = refl
 
 -- the size of each value is tested before the nesting of any

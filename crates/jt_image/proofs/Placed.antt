@@ -8,22 +8,23 @@ use Rattle.std.proofs.lemmas.List.Concat.{flat_map-cons}
 use Rattle.jt_image.specs.declared.error.ImageError.{ImageError}
 use Rattle.jt_image.specs.declared.instruction.Instruction.{Instruction}
 use Rattle.jt_image.specs.declared.wire.Instr.{Instr}
-use Rattle.jt_image.specs.Code.{Section}
-use Rattle.jt_image.specs.Spelling.{wire_of, wire_bytes, instruction_bytes}
-use Rattle.jt_image.specs.IsCode.{IsInstruction}
-use Rattle.jt_image.specs.Reading.{◌>>=◌, Header, known, known_of, instruction_of, instruction_at, instructions_at, section_of, section_at}
-use Rattle.jt_image.specs.InPlace.{answered, instructions_in, fields_in}
+use Rattle.jt_image.specs.Code.{Section, Spot}
+use Rattle.jt_image.specs.Spelling.{wire_of, wire_bytes, instruction_bytes, spot_bytes}
+use Rattle.jt_image.specs.IsCode.{IsInstruction, IsLine, IsSpot}
+use Rattle.jt_image.specs.Reading.{◌>>=◌, Header, known, known_of, instruction_of, instruction_at, instructions_at, section_of, section_at, spot_at, spots_at}
+use Rattle.jt_image.specs.InPlace.{read_or, instructions_in, fields_in, spot_in}
 use Rattle.jt_image.proofs.Found.{IsBytes, AllOk, all_at, Many, many_found, wide16, wide32}
 use Rattle.jt_image.proofs.Sound.{wire_at, instruction_found, good_instruction, all_instructions, many_count}
 use Rattle.jt_image.proofs.Complete.{small_wire, wired}
+use Rattle.jt_image.proofs.Behind.{good_spot, all_spots, spot_found}
 
 abbrev Read : Type 0
 Read = Result (List Instruction × List ℕ) ImageError
 
-pub is_answered : (r : Read) (is : List Instruction) (rest : List ℕ) → r ≡ Ok (is, rest) → r ≡ Ok (answered r, rest)
-is_answered r is rest e =
-    let back : is ≡ answered r = sym (ap answered e) in
-    e ∙ ap (λ (js : List Instruction). let o : Read = Ok (js, rest) in o) back
+pub is_answered : {A : Type 0} (r : Result (List A × List ℕ) ImageError) (is : List A) (rest : List ℕ) → r ≡ Ok (is, rest) → r ≡ Ok (read_or [] r, rest)
+is_answered {A} r is rest e =
+    let back : is ≡ read_or [] r = sym (ap (λ (q : Result (List A × List ℕ) ImageError). read_or [] q) e) in
+    e ∙ ap (λ (js : List A). let o : Result (List A × List ℕ) ImageError = Ok (js, rest) in o) back
 
 pub place_gives : (h : Header) (bytes rest : List ℕ) → instructions_at h.len bytes ≡ Ok (instructions_in h.len bytes, rest) → section_at h bytes ≡ Ok (section_of h (instructions_in h.len bytes), rest)
 unfolding section_at
@@ -93,8 +94,57 @@ at_point (i ∷ is) rest (suc p) h lt =
 pub placed : (n p : ℕ) (bytes : List ℕ) → IsBytes bytes → length (instructions_in n bytes) ≡ n → p < n → IsAt bytes p (slice_get (instructions_in n bytes) p)
 placed n p bytes fits len lt = by_answer (instructions_at n bytes) (many_found (λ _. instruction_at) instruction_bytes good_instruction (λ before bytes fits. instruction_found bytes fits) n [] bytes fits) len
   where
-    by_answer : (r : Read) → AllOk r (Many instruction_bytes good_instruction n [] bytes) → length (answered r) ≡ n → IsAt bytes p (slice_get (answered r) p)
+    by_answer : (r : Read) → AllOk r (Many instruction_bytes good_instruction n [] bytes) → length (read_or [] r) ≡ n → IsAt bytes p (slice_get (read_or [] r) p)
     by_answer (Err e) h len = absurd (omega (arith, len, lt))
     by_answer (Ok x) m len =
         let here = at_point m.more x.1 p (all_instructions [] m.more m.all) (omega (arith, m.count, lt)) in
         subst (λ (b : List ℕ). IsAt b p (slice_get x.0 p)) (sym m.takes.parts) (subst (λ (is : List Instruction). IsAt (flat_map instruction_bytes m.more ++ x.1) p (slice_get is p)) (sym m.is) here)
+
+-- ---- spots that stay bytes
+
+spot_fields : (s : Spot) (t : List ℕ) → s.template < 2 ^ 16 → s.line < 2 ^ 32 → spot_in (spot_bytes s ++ t) ≡ s
+spot_fields s t a b =
+    ap (λ (n : ℕ). let r : Spot = record { template = n; line = from_le_bytes w32 (to_le_bytes w32 s.line) } in r) (wide16.again s.template a)
+    ∙ ap (λ (n : ℕ). let r : Spot = record { template = s.template; line = n } in r) (wide32.again s.line b)
+
+small_line : (template line : ℕ) → IsLine template line → line < 2 ^ 32
+small_line zero line h = omega (arith, h)
+small_line (suc template) line h = omega (arith, h.1)
+
+-- six bytes stand at the number, and what they tell is this spot
+abbrev pub IsSpotAt : List ℕ → ℕ → Option Spot → Type 0
+IsSpotAt bytes i o = (6 * i + 6 ≤ length bytes) × (o ≡ Some (spot_in (drop (6 * i) bytes)))
+
+spot_front : (templates : ℕ) (s : Spot) (t : List ℕ) → templates < 2 ^ 16 → IsSpot templates s → IsSpotAt (spot_bytes s ++ t) 0 (Some s)
+spot_front templates s t small h =
+    let len : length (spot_bytes s ++ t) ≡ suc (suc (suc (suc (suc (suc (length t)))))) = refl in
+    (omega (arith, len), ap (λ (x : Spot). let o : Option Spot = Some x in o) (sym (spot_fields s t (omega (arith, h.template, small)) (small_line s.template s.line h.line))))
+
+spot_on : (s : Spot) (t : List ℕ) (i : ℕ) (o : Option Spot) → IsSpotAt t i o → IsSpotAt (spot_bytes s ++ t) (suc i) o
+spot_on s t i o h =
+    let len : length (spot_bytes s ++ t) ≡ suc (suc (suc (suc (suc (suc (length t)))))) = refl in
+    let more : 6 * suc i ≡ suc (suc (suc (suc (suc (suc (6 * i)))))) = omega arith in
+    let same : drop (6 * suc i) (spot_bytes s ++ t) ≡ drop (6 * i) t = ap (λ (n : ℕ). drop n (spot_bytes s ++ t)) more in
+    (omega (arith, len, h.0), h.1 ∙ ap (λ (b : List ℕ). let o : Option Spot = Some (spot_in b) in o) (sym same))
+
+split_spot : (s : Spot) (ss : List Spot) (rest : List ℕ) → spot_bytes s ++ (flat_map spot_bytes ss ++ rest) ≡ flat_map spot_bytes (s ∷ ss) ++ rest
+split_spot s ss rest = sym (ap (λ (b : List ℕ). b ++ rest) (flat_map-cons spot_bytes s ss) ∙ append_assoc (spot_bytes s) (flat_map spot_bytes ss) rest)
+
+spot_at_number : (templates : ℕ) (ss : List Spot) (rest : List ℕ) (i : ℕ) → templates < 2 ^ 16 → AllByRecursion (IsSpot templates) ss → i < length ss → IsSpotAt (flat_map spot_bytes ss ++ rest) i (slice_get ss i)
+spot_at_number templates [] rest i small h lt = absurd (omega (arith, lt))
+spot_at_number templates (s ∷ ss) rest zero small h lt = subst (λ (b : List ℕ). IsSpotAt b 0 (Some s)) (split_spot s ss rest) (spot_front templates s (flat_map spot_bytes ss ++ rest) small h.0)
+spot_at_number templates (s ∷ ss) rest (suc i) small h lt =
+    let more = spot_at_number templates ss rest i small h.1 (omega (arith, lt)) in
+    subst (λ (b : List ℕ). IsSpotAt b (suc i) (slice_get ss i)) (split_spot s ss rest) (spot_on s (flat_map spot_bytes ss ++ rest) i (slice_get ss i) more)
+
+pub spot_placed : (templates n i : ℕ) (bytes : List ℕ) → templates < 2 ^ 16 → IsBytes bytes → length (read_or [] (spots_at templates n bytes)) ≡ n → i < n → IsSpotAt bytes i (slice_get (read_or [] (spots_at templates n bytes)) i)
+spot_placed templates n i bytes small fits len lt = by_answer (spots_at templates n bytes) (many_found (λ _. spot_at templates) spot_bytes (good_spot templates) (λ before bytes fits. spot_found templates bytes fits) n [] bytes fits) len
+  where
+    by_answer : (r : Result (List Spot × List ℕ) ImageError) → AllOk r (Many spot_bytes (good_spot templates) n [] bytes) → length (read_or [] r) ≡ n → IsSpotAt bytes i (slice_get (read_or [] r) i)
+    by_answer (Err e) h len = absurd (omega (arith, len, lt))
+    by_answer (Ok x) m len =
+        let here = spot_at_number templates m.more x.1 i small (all_spots templates [] m.more m.all) (omega (arith, m.count, lt)) in
+        subst (λ (b : List ℕ). IsSpotAt b i (slice_get x.0 i)) (sym m.takes.parts) (subst (λ (ss : List Spot). IsSpotAt (flat_map spot_bytes m.more ++ x.1) i (slice_get ss i)) (sym m.is) here)
+
+pub spots_whole : (templates n : ℕ) (bytes rest : List ℕ) → spots_at templates n bytes ≡ Ok (read_or [] (spots_at templates n bytes), rest) → length (read_or [] (spots_at templates n bytes)) ≡ n
+spots_whole templates n bytes rest e = all_at (spots_at templates n bytes) (λ x. length x.0 ≡ 0 + n) (read_or [] (spots_at templates n bytes), rest) e (many_count (λ _. spot_at templates) n [] bytes) ∙ omega arith

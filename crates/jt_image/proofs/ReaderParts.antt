@@ -10,7 +10,7 @@ use Rattle.jt_image.specs.declared.error.ImageError.TheVariants.{BadText}
 use Rattle.std.specs.Ordering.{is_lt}
 use Rattle.std.specs.Cmp.Lexicographic.{slice_cmp}
 use Rattle.jt_image.specs.Code as code
-use Rattle.jt_image.specs.Reading.{Header, IsTable, is_used, may_follow, text_at, header_total, is_first}
+use Rattle.jt_image.specs.Reading.{Header, IsTable, is_used, may_follow, may_follow_texts, text_at, header_total, is_first}
 
 last_of : {A : Type 0} (m l : A) (ns : List A) (d : A) → get_or (m ∷ l ∷ ns) (length (m ∷ l ∷ ns) - 1) d ≡ get_or (l ∷ ns) (length (l ∷ ns) - 1) d
 last_of m l ns d =
@@ -82,3 +82,10 @@ IsTable-push used globals ns n lt t = record {
         ap (λ (i : ℕ). get_or (set used n.slot true) i false) e ∙ same ∙ sym (is_used-push s ns n ∙ same_slot n.slot s (sym e) (is_used s ns))
     at s below (inr ne) =
         get_or-set_other used n.slot s true false ne ∙ t.each s below ∙ sym (is_used-push s ns n ∙ other_slot n.slot s ne (is_used s ns))
+
+-- ---- templates
+
+pub may_follow_last_text : {A : Type 0} (view : A → List ℕ) (ts : List A) (d : A) (t : List ℕ) → 0 < length ts → may_follow_texts (map view ts) t ≡ is_lt (slice_cmp nat_cmp (view (get_or ts (length ts - 1) d)) t)
+may_follow_last_text view [] d t lt = absurd (omega arith)
+may_follow_last_text view (s ∷ []) d t lt = refl
+may_follow_last_text view (s ∷ r ∷ ts) d t lt = may_follow_last_text view (r ∷ ts) d t (omega arith) ∙ sym (ap (λ x. is_lt (slice_cmp nat_cmp (view x) t)) (last_of s r ts d))

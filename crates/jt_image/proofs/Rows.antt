@@ -1,5 +1,5 @@
 -- Runs of small codes, computed from the definitions.
-use Rattle.std.proofs.Common.{◌≡◌, ℕ, List, [], ◌∷◌, ◌++◌, Ok, Err, refl}
+use Rattle.std.proofs.Common.{◌≡◌, ℕ, List, [], ◌∷◌, ◌++◌, None, Ok, Err, refl}
 use Rattle.std.specs.Prelude.{pos, replicate}
 use Rattle.jt_value.specs.Tree as tree
 use Rattle.jt_value.specs.Pairs.{Pairs}
@@ -8,6 +8,7 @@ use Rattle.jt_image.specs.declared.instruction.Instruction.{Instruction}
 use Rattle.jt_image.specs.declared.instruction.Instruction.TheVariants as op
 use Rattle.jt_image.specs.declared.kind.Kind.TheVariants as kind
 use Rattle.jt_image.specs.declared.kind.Flaw.TheVariants as flaw
+use Rattle.jt_image.specs.declared.version.Version.TheVariants as version
 use Rattle.jt_image.specs.Code as code
 use Rattle.jt_image.specs.Code.{Section, Code}
 use Rattle.jt_image.specs.Ids.{operator_of, test_of}
@@ -19,15 +20,15 @@ use Rattle.jt_image.specs.Run.{Next, Ends, start, after}
 
 -- puts the text constant x
 abbrev x_code : Code
-x_code = record { globals = 0; names = []; constants = code.text (120 ∷ []) ∷ []; units = record { parameters = 0; kind = 0; locals = 0; code = op.Data 0 ∷ op.Return ∷ [] } ∷ [] }
+x_code = record { version = version.One; globals = 0; names = []; constants = code.text (120 ∷ []) ∷ []; units = record { parameters = 0; kind = 0; locals = 0; code = op.Data 0 ∷ op.Return ∷ [] } ∷ []; templates = []; spots = [] }
 
 -- prints the global n if it is true
 abbrev n_code : Code
-n_code = record { globals = 1; names = record { slot = 0; text = 110 ∷ [] } ∷ []; constants = []; units = record { parameters = 0; kind = 0; locals = 0; code = op.GLoad 0 ∷ op.JumpIfFalse 4 ∷ op.GLoad 0 ∷ op.Emit 0 ∷ op.Return ∷ [] } ∷ [] }
+n_code = record { version = version.One; globals = 1; names = record { slot = 0; text = 110 ∷ [] } ∷ []; constants = []; units = record { parameters = 0; kind = 0; locals = 0; code = op.GLoad 0 ∷ op.JumpIfFalse 4 ∷ op.GLoad 0 ∷ op.Emit 0 ∷ op.Return ∷ [] } ∷ []; templates = []; spots = [] }
 
 -- prints the global n, escaped
 abbrev e_code : Code
-e_code = record { globals = 1; names = record { slot = 0; text = 110 ∷ [] } ∷ []; constants = []; units = record { parameters = 0; kind = 0; locals = 0; code = op.GLoad 0 ∷ op.Emit 1 ∷ op.Return ∷ [] } ∷ [] }
+e_code = record { version = version.One; globals = 1; names = record { slot = 0; text = 110 ∷ [] } ∷ []; constants = []; units = record { parameters = 0; kind = 0; locals = 0; code = op.GLoad 0 ∷ op.Emit 1 ∷ op.Return ∷ [] } ∷ []; templates = []; spots = [] }
 
 abbrev ample : ℕ → Budget
 ample fuel = record { fuel = fuel; depth = 64; output = 1048576; size = 1048576; nesting = 32 }
@@ -53,7 +54,7 @@ no_output = refl
 none_given : after n_code 10 (start n_code [] (ample 3)) ≡ Ends (config.text [])
 none_given = refl
 
-a_list : after n_code 10 (start n_code (n_is (tree.list (tree.item one tree.no_items))) (ample 4)) ≡ Ends (config.fault faults.Unprintable)
+a_list : after n_code 10 (start n_code (n_is (tree.list (tree.item one tree.no_items))) (ample 4)) ≡ Ends (config.fault faults.Unprintable None)
 a_list = refl
 
 a_list_short : after n_code 10 (start n_code (n_is (tree.list (tree.item one tree.no_items))) (ample 3)) ≡ Ends (config.spent config.fuel)
@@ -72,7 +73,7 @@ counts_escaped = refl
 
 -- prints what these instructions leave
 abbrev printing : List code.Constant → List Instruction → Code
-printing cs is = record { globals = 0; names = []; constants = cs; units = record { parameters = 0; kind = 0; locals = 0; code = is ++ (op.Emit 0 ∷ op.Return ∷ []) } ∷ [] }
+printing cs is = record { version = version.One; globals = 0; names = []; constants = cs; units = record { parameters = 0; kind = 0; locals = 0; code = is ++ (op.Emit 0 ∷ op.Return ∷ []) } ∷ []; templates = []; spots = [] }
 
 abbrev ends_of : List code.Constant → List Instruction → ℕ → Next
 ends_of cs is fuel = after (printing cs is) 20 (start (printing cs is) [] (ample fuel))
@@ -92,7 +93,7 @@ subtracts_short : ends_of numbers (op.Const 0 ∷ op.Const 1 ∷ op.Op 1 ∷ op.
 unfolding operator_of
 subtracts_short = refl
 
-subtracts_text : ends_of numbers (op.Const 0 ∷ op.Const 2 ∷ op.Op 1 ∷ []) 5 ≡ Ends (config.fault faults.BadType)
+subtracts_text : ends_of numbers (op.Const 0 ∷ op.Const 2 ∷ op.Op 1 ∷ []) 5 ≡ Ends (config.fault faults.BadType None)
 unfolding operator_of
 subtracts_text = refl
 
@@ -110,10 +111,10 @@ second_item = refl
 doubled_key : mapped (tree.text (97 ∷ []) ∷ tree.nothing ∷ tree.text (98 ∷ []) ∷ tree.nothing ∷ tree.markup (97 ∷ []) ∷ one ∷ []) ≡ Ok (tree.map (tree.entry (97 ∷ []) one (tree.entry (98 ∷ []) tree.nothing tree.no_entries)))
 doubled_key = refl
 
-number_as_key : ends_of numbers (op.Const 0 ∷ op.Const 1 ∷ op.MakeMap 1 ∷ []) 5 ≡ Ends (config.fault faults.BadType)
+number_as_key : ends_of numbers (op.Const 0 ∷ op.Const 1 ∷ op.MakeMap 1 ∷ []) 5 ≡ Ends (config.fault faults.BadType None)
 number_as_key = refl
 
-undefined_as_key : ends_of numbers (op.Const 0 ∷ op.Const 1 ∷ op.Const 3 ∷ op.Const 1 ∷ op.MakeMap 2 ∷ []) 7 ≡ Ends (config.fault faults.Undefined)
+undefined_as_key : ends_of numbers (op.Const 0 ∷ op.Const 1 ∷ op.Const 3 ∷ op.Const 1 ∷ op.MakeMap 2 ∷ []) 7 ≡ Ends (config.fault faults.Undefined None)
 undefined_as_key = refl
 
 -- a map is nested once more than what it holds; its size is tested first

@@ -9,11 +9,13 @@ use Rattle.jt_value.specs.Pairs.{Pairs, look}
 use Rattle.jt_image.specs.declared.instruction.Instruction.{Instruction}
 use Rattle.jt_image.specs.Code.{Name, Section, Code}
 use Rattle.jt_image.specs.IsCode.{IsCode}
+use Rattle.jt_value.specs.Place.{Place}
+use Rattle.jt_image.specs.Places.{place_at}
 use Rattle.jt_image.specs.Typed.{IsTyped}
 use Rattle.jt_image.specs.Config as config
 use Rattle.jt_image.specs.Config.{Budget, Outcome, Config}
 use Rattle.jt_image.specs.Step.{Action, goes_on, ends, faulty, wrong, locals_of, strict, cost, fetch}
-use Rattle.jt_image.specs.Run.{Next, Goes, Ends, Wrong, spared, unless, spends, next_at, next, passed, filled, entry_locals, start, then_goes, after, RunFrom, cost_at, taken, then_costs, costs, IsSafe}
+use Rattle.jt_image.specs.Run.{Next, Goes, Ends, Wrong, spared, unless, spends, placed, next_at, next, passed, filled, entry_locals, start, then_goes, after, RunFrom, cost_at, taken, then_costs, costs, IsSafe}
 use Rattle.jt_image.proofs.Safe.{IsGood, depth_of, IsFineStep, length-locals_of, step_fine}
 
 -- an end within so many steps
@@ -108,7 +110,7 @@ fuel_left n (ends t) b go h = through (nat_lt b.fuel n) refl
     through false e = omega (arith, ltb-false _ _ e)
 fuel_left n (faulty f) b go h = through (nat_lt b.fuel n) refl
   where
-    through : (p : Bool) → nat_lt b.fuel n ≡ p → cond p 0 n + then_costs (unless p config.fuel (Ends (config.fault f))) go ≤ b.fuel
+    through : (p : Bool) → nat_lt b.fuel n ≡ p → cond p 0 n + then_costs (unless p config.fuel (Ends (config.fault f None))) go ≤ b.fuel
     through true e = omega arith
     through false e = omega (arith, ltb-false _ _ e)
 fuel_left n wrong b go h = through (nat_lt b.fuel n) refl
@@ -117,13 +119,29 @@ fuel_left n wrong b go h = through (nat_lt b.fuel n) refl
     through true e = omega arith
     through false e = omega (arith, ltb-false _ _ e)
 
+placed_costs : (q : Option Place) (n : Next) (go : Config → ℕ) → then_costs (placed q n) go ≡ then_costs n go
+placed_costs q (Goes c) go = refl
+placed_costs q (Ends (config.text t)) go = refl
+placed_costs q (Ends (config.fault f p)) go = refl
+placed_costs q (Ends (config.spent l)) go = refl
+placed_costs q Wrong go = refl
+
+placed_back : (q : Option Place) (n : Next) (l : config.Limit) → placed q n ≡ Ends (config.spent l) → n ≡ Ends (config.spent l)
+placed_back q (Goes c) l e = absurd cc
+placed_back q (Ends (config.text t)) l e = absurd cc
+placed_back q (Ends (config.fault f p)) l e = absurd cc
+placed_back q (Ends (config.spent m)) l e = e
+placed_back q Wrong l e = absurd cc
+
 cost_within : (k : Code) (o : Option (Section × Instruction)) (c : Config) (go : Config → ℕ) → ((d : Config) → go d ≤ d.left.fuel) → taken c.left.fuel (cost_at o c) + then_costs (next_at k o c) go ≤ c.left.fuel
 cost_within k None c go h = through (nat_lt c.left.fuel 0)
   where
     through : (p : Bool) → cond p 0 0 + 0 ≤ c.left.fuel
     through true = omega arith
     through false = omega arith
-cost_within k (Some (u, i)) c go h = fuel_left (cost i c.machine.state) (strict k u i c.machine) c.left go h
+cost_within k (Some (u, i)) c go h =
+    let n = spends (cost i c.machine.state) (strict k u i c.machine) c.left in
+    omega (arith, fuel_left (cost i c.machine.state) (strict k u i c.machine) c.left go h, placed_costs (place_at k c.machine.unit c.machine.point) n go)
 
 pub costs_within : (k : Code) (n : ℕ) (c : Config) → costs k n c ≤ c.left.fuel
 costs_within k zero c = omega arith
@@ -148,14 +166,18 @@ spent_iff n (ends t) b ok = through (nat_lt b.fuel n) refl
     through false e = (λ f. absurd cc, λ lt. absurd (omega (arith, ltb-false _ _ e)))
 spent_iff n (faulty x) b ok = through (nat_lt b.fuel n) refl
   where
-    through : (p : Bool) → nat_lt b.fuel n ≡ p → (unless p config.fuel (Ends (config.fault x)) ≡ Ends (config.spent config.fuel)) ↔ (b.fuel < n)
+    through : (p : Bool) → nat_lt b.fuel n ≡ p → (unless p config.fuel (Ends (config.fault x None)) ≡ Ends (config.spent config.fuel)) ↔ (b.fuel < n)
     through true e = (λ _. ltb-true _ _ e, λ _. refl)
     through false e = (λ f. absurd cc, λ lt. absurd (omega (arith, ltb-false _ _ e)))
 spent_iff n wrong b ok = absurd (ok refl)
 
 spent_at : (k : Code) (o : Option (Section × Instruction)) (c : Config) → next_at k o c ≢ Wrong → (next_at k o c ≡ Ends (config.spent config.fuel)) ↔ (c.left.fuel < cost_at o c)
 spent_at k None c ok = absurd (ok refl)
-spent_at k (Some (u, i)) c ok = spent_iff (cost i c.machine.state) (strict k u i c.machine) c.left ok
+spent_at k (Some (u, i)) c ok =
+    let q = place_at k c.machine.unit c.machine.point in
+    let n = spends (cost i c.machine.state) (strict k u i c.machine) c.left in
+    let iff = spent_iff (cost i c.machine.state) (strict k u i c.machine) c.left (λ w. ok (ap (placed q) w)) in
+    (λ e. iff.0 (placed_back q n config.fuel e), λ lt. ap (placed q) (iff.1 lt))
 
 -- one step more than those that led here
 then_more : (k : Code) (n : ℕ) (d : Config) (x : Next) → ((f : Config) → after k n f ≡ Goes d → after k (suc n) f ≡ Wrong) → then_goes x (after k n) ≡ Goes d → then_goes x (after k (suc n)) ≡ Wrong

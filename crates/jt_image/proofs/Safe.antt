@@ -16,6 +16,8 @@ use Rattle.jt_image.specs.declared.kind.Kind.TheVariants as kind
 use Rattle.jt_image.specs.declared.kind.Flaw.{Flaw}
 use Rattle.jt_image.specs.declared.kind.Flaw.TheVariants as flaw
 use Rattle.jt_image.specs.Code.{Section, Code}
+use Rattle.jt_value.specs.Place.{Place}
+use Rattle.jt_image.specs.Places.{place_at}
 use Rattle.jt_image.specs.Effect as effect
 use Rattle.jt_image.specs.Effect.{Shape, Leads, require, pops, pops_many, pops_frame, pops_capture, pushes, gives, calls, goes_on, jumps, branches, may_return, effect, effect_of}
 use Rattle.jt_image.specs.Typed.{Shapes, Equal, HasSame, IsTypedBy, IsTyped}
@@ -25,7 +27,7 @@ use Rattle.jt_image.specs.Config as config
 use Rattle.jt_image.specs.Config.{Budget, Outcome, Frame, Entry, value, frame, capture, kind_of, State, Caller, Machine, Config}
 use Rattle.jt_image.specs.Step as step
 use Rattle.jt_image.specs.Step.{Demand, no_demand, pushing, pushing_all, greatest, emitting, calling, Plain, goes, faults_by, broken, with_entries, push, on_value, on_values, on_frame, on_capture, as_frame, push_given, makes, put, put_printed, shown, slot, constant_value, text_of, operated, filtered_by, tested_by, begins, told_by, piled, spreads, unpacks, closes, listed, mapped, plain, Action, ends, faulty, wrong, at_point, straight, jump_on, turns, locals_of, entered, calls_unit, Given, nothing, result, disorder, given_by, resumed, back_to, action, in_tables, strict, cost, fetch}
-use Rattle.jt_image.specs.Run.{Next, Goes, Ends, Wrong, spared, unless, spends, next}
+use Rattle.jt_image.specs.Run.{Next, Goes, Ends, Wrong, spared, unless, spends, placed, next}
 
 -- the kinds of the entries
 abbrev pub kinds_of : List Entry → Shape
@@ -618,6 +620,13 @@ unless_fine : (k : Code) (fuel depth : ℕ) (b : Bool) (l : config.Limit) (n : N
 unless_fine k fuel depth true l n h = tt
 unless_fine k fuel depth false l n h = h refl
 
+placed_fine : (k : Code) (fuel depth : ℕ) (q : Option Place) (n : Next) → IsFineStep k fuel depth n → IsFineStep k fuel depth (placed q n)
+placed_fine k fuel depth q (Goes d) h = h
+placed_fine k fuel depth q (Ends (config.text t)) h = tt
+placed_fine k fuel depth q (Ends (config.fault f p)) h = tt
+placed_fine k fuel depth q (Ends (config.spent l)) h = tt
+placed_fine k fuel depth q Wrong h = h
+
 spends_fine : (k : Code) (es : List Entry) (above : List Caller) (n : ℕ) (a : Action) (b : Budget) → 1 ≤ n → AreAllSized b.size es above → IsFineAction k es above a → IsFineStep k b.fuel (b.depth + length above) (spends n a b)
 spends_fine k es above n (step.goes_on m d) b positive sized fine =
     unless_fine k b.fuel (b.depth + length above) (nat_lt b.fuel n) config.fuel _ (λ enough.
@@ -629,14 +638,14 @@ spends_fine k es above n (step.goes_on m d) b positive sized fine =
     let depth : d.calls ≤ b.depth = ltb-false _ _ deep in
     (record { fit = fine.0; sized = fine.1 b.size sized (ltb-false _ _ small) }, omega arith, omega (arith, fine.2)))))))
 spends_fine k es above n (ends t) b positive sized fine = unless_fine k b.fuel (b.depth + length above) (nat_lt b.fuel n) config.fuel (Ends (config.text t)) (λ _. tt)
-spends_fine k es above n (faulty f) b positive sized fine = unless_fine k b.fuel (b.depth + length above) (nat_lt b.fuel n) config.fuel (Ends (config.fault f)) (λ _. tt)
+spends_fine k es above n (faulty f) b positive sized fine = unless_fine k b.fuel (b.depth + length above) (nat_lt b.fuel n) config.fuel (Ends (config.fault f None)) (λ _. tt)
 spends_fine k es above n wrong b positive sized fine = absurd fine
 
 at_instruction : (k : Code) (c : Config) (g : IsGood k c) (l : Leads) (o : Option Instruction) → slice_get g.fit.unit.code c.machine.point ≡ o → Agrees k g.fit.unit g.fit.shapes l
     → effect_of k g.fit.unit c.machine.point o (kinds_of c.machine.state.entries) ≡ Ok l → IsFineStep k c.left.fuel (depth_of c) (next k c)
 at_instruction k c g l None is a e = absurd cc
 at_instruction k c g l (Some i) is a e =
-    rw (g.fit.is_unit, is) (spends_fine k c.machine.state.entries c.machine.callers (cost i c.machine.state) (strict k g.fit.unit i c.machine) c.left (cost_positive i c.machine.state) g.sized (strict_fine k c.machine g.fit l a i e))
+    rw (g.fit.is_unit, is) (placed_fine k c.left.fuel (depth_of c) (place_at k c.machine.unit c.machine.point) (spends (cost i c.machine.state) (strict k g.fit.unit i c.machine) c.left) (spends_fine k c.machine.state.entries c.machine.callers (cost i c.machine.state) (strict k g.fit.unit i c.machine) c.left (cost_positive i c.machine.state) g.sized (strict_fine k c.machine g.fit l a i e)))
 
 pub step_fine : (k : Code) (c : Config) → IsGood k c → IsFineStep k c.left.fuel (depth_of c) (next k c)
 step_fine k c g =

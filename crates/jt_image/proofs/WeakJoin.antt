@@ -6,6 +6,7 @@ use Rattle.std.specs.Str.{IsAscii}
 use Rattle.std.proofs.lemmas.Str.{IsUtf8-from_ascii}
 use Rattle.jt_image.specs.declared.instruction.Instruction.TheVariants as op
 use Rattle.jt_image.specs.declared.kind.Kind.TheVariants as kind
+use Rattle.jt_image.specs.declared.version.Version.TheVariants as version
 use Rattle.jt_image.specs.Code as code
 use Rattle.jt_image.specs.Code.{Section, Code}
 use Rattle.jt_image.specs.IsCode.{IsCode}
@@ -18,7 +19,7 @@ abbrev y_unit : Section
 y_unit = record { parameters = 0; kind = 0; locals = 0; code = op.Const 0 ∷ op.JumpIfFalse 5 ∷ op.Const 1 ∷ op.LoopStart ∷ op.Jump 6 ∷ op.CaptureBegin ∷ op.LoopEnd ∷ op.Drop ∷ op.Return ∷ [] }
 
 abbrev y_code : Code
-y_code = record { globals = 0; names = []; constants = code.truth_value false ∷ code.text (97 ∷ []) ∷ []; units = y_unit ∷ [] }
+y_code = record { version = version.One; globals = 0; names = []; constants = code.truth_value false ∷ code.text (97 ∷ []) ∷ []; units = y_unit ∷ []; templates = []; spots = [] }
 
 abbrev y_list : List Shape
 y_list = [] ∷ (kind.Value ∷ []) ∷ [] ∷ (kind.Value ∷ []) ∷ (kind.Frame ∷ []) ∷ [] ∷ (kind.Frame ∷ []) ∷ (kind.Value ∷ []) ∷ [] ∷ []
@@ -81,6 +82,11 @@ is_code = record {
   units = (record { parameters = omega arith; kind = omega arith; locals = omega arith; within = omega arith; code = (omega arith, (omega arith, (omega arith, (tt, (omega arith, (tt, (tt, (tt, (tt, tt))))))))) }, tt);
   entry = record { entry = y_unit; is = refl; emits = refl; plain = refl };
   instructions = omega arith;
+  count_templates = omega arith;
+  templates = tt;
+  ascend_templates = tt;
+  spots = tt;
+  placed = (refl, refl);
   bytes = omega arith;
 }
 

@@ -1,23 +1,20 @@
 -- What is read from all of the bytes is a code, and its spelling is the bytes.
-use Rattle.std.proofs.Common.{◌≡◌, ℕ, suc, ◌+◌, ◌<◌, ◌≤◌, ◌^◌, Bool, true, false, ltb, eqb, List, [], ◌∷◌, ◌++◌, length, map, take, drop, Some, Ok, refl, sym, ap, subst, ◌∙◌, arith, append_assoc, nat_cmp}
-use Rattle.std.specs.Prelude.{◌==◌, ◌||◌, ◌≢◌, nat_lt, nat_le, slice_get}
+use Rattle.std.proofs.Common.{◌≡◌, ℕ, suc, ◌+◌, ◌<◌, ◌≤◌, ◌^◌, Bool, true, false, eqb, List, [], ◌∷◌, ◌++◌, length, map, Some, refl, sym, ap, subst, ◌∙◌, arith, append_assoc, nat_cmp}
+use Rattle.std.specs.Prelude.{◌||◌, ◌≢◌, nat_lt, slice_get}
 use Rattle.std.specs.Int.{w16, to_le_bytes}
 use Rattle.std.specs.List.{flat_map, AllByRecursion}
 use Rattle.std.specs.Ordering.{is_lt}
-use Rattle.std.specs.Str.{bytes_eq}
 use Rattle.std.specs.Cmp.Lexicographic.{slice_cmp}
-use Rattle.std.proofs.lemmas.Slice.Eq.{bytes_eq-Decides}
-use Rattle.std.proofs.lemmas.Bool.{ltb-true, leb-true, eqb-true}
+use Rattle.std.proofs.lemmas.Bool.{ltb-true}
 use Rattle.std.proofs.lemmas.Bool.Decides.{nat_tests}
-use Rattle.std.proofs.lemmas.List.{append-nil, take-append-drop, nil_from_length}
 use Rattle.std.proofs.lemmas.List.Folds.{flat_map-map}
-use Rattle.jt_image.specs.declared.error.ImageError.TheVariants.{Truncated, BadMagic, BadVersion, BadTable, LimitPassed}
-use Rattle.jt_image.specs.Code.{Constant, Name, Section, Code}
-use Rattle.jt_image.specs.Spelling.{magic, version, name_bytes, constant_bytes, header_bytes, spelling}
-use Rattle.jt_image.specs.IsCode.{IsName, Ascend, AreDistinct, IsConstant, IsSection, total_len, IsCode, max_instructions, max_bytes}
-use Rattle.jt_image.specs.Reading.{◌>>=◌, check, number_at, is_used, may_follow, name_at, names_at, constant_at, constants_at, Header, header_total, is_first, header_at, headers_at, sections_at, magic_at, start_at, units_at, all_names_at, all_constants_at, code_of}
+use Rattle.jt_image.specs.declared.error.ImageError.TheVariants.{BadTable}
+use Rattle.jt_image.specs.Code.{Constant, Name, Section}
+use Rattle.jt_image.specs.Spelling.{name_bytes, constant_bytes, header_bytes}
+use Rattle.jt_image.specs.IsCode.{IsName, Ascend, AreDistinct, IsConstant, IsSection, total_len, max_instructions}
+use Rattle.jt_image.specs.Reading.{◌>>=◌, check, number_at, is_used, may_follow, name_at, names_at, constant_at, constants_at, Header, header_total, is_first, header_at, headers_at, sections_at, units_at, all_names_at, all_constants_at}
 use Rattle.jt_image.proofs.ReaderParts.{header_total-push}
-use Rattle.jt_image.proofs.Found.{AllOk, all_map, bind_from, check_all, unless_all, IsBytes, IsBytes-drop, Takes, Takes-then, Takes-as, Found, wide16, number_found, AllGood, Many, many_found, Each}
+use Rattle.jt_image.proofs.Found.{all_map, bind_from, check_all, IsBytes, Takes, Takes-then, Takes-as, Found, wide16, number_found, AllGood, Many, many_found, Each}
 use Rattle.jt_image.proofs.Sound.{IsNamed, name_found, constant_found, IsHeader, head_bytes, header_found, code_bytes, head_of, HasCode, sections_found}
 
 -- ---- tables of names
@@ -27,7 +24,7 @@ may_follow-push [] n t = refl
 may_follow-push (m ∷ []) n t = refl
 may_follow-push (m ∷ l ∷ ns) n t = may_follow-push (l ∷ ns) n t
 
-above_some : (s t : List ℕ) → is_lt (slice_cmp nat_cmp s t) ≡ true → 0 < length t
+pub above_some : (s t : List ℕ) → is_lt (slice_cmp nat_cmp s t) ≡ true → 0 < length t
 above_some [] [] e = absurd cc
 above_some (x ∷ s) [] e = absurd cc
 above_some s (y ∷ t) e = omega arith
@@ -82,7 +79,7 @@ pub record AreNames (globals : ℕ) (ns : List Name) : Type 0 where
 abbrev pub names_bytes : List Name → List ℕ
 names_bytes ns = to_le_bytes w16 (length ns) ++ flat_map name_bytes ns
 
-names_found : (globals : ℕ) (bytes : List ℕ) → IsBytes bytes → Found names_bytes (AreNames globals) bytes (all_names_at globals bytes)
+pub names_found : (globals : ℕ) (bytes : List ℕ) → IsBytes bytes → Found names_bytes (AreNames globals) bytes (all_names_at globals bytes)
 unfolding all_names_at
 names_found globals bytes fits =
     let P : List Name × List ℕ → Type 0 = λ x. Takes bytes (names_bytes x.0) x.1 × AreNames globals x.0 in
@@ -109,7 +106,7 @@ AreConstants cs = (length cs < 2 ^ 16) × AllByRecursion IsConstant cs
 abbrev pub constants_bytes : List Constant → List ℕ
 constants_bytes cs = to_le_bytes w16 (length cs) ++ flat_map constant_bytes cs
 
-constants_found : (bytes : List ℕ) → IsBytes bytes → Found constants_bytes AreConstants bytes (all_constants_at bytes)
+pub constants_found : (bytes : List ℕ) → IsBytes bytes → Found constants_bytes AreConstants bytes (all_constants_at bytes)
 unfolding all_constants_at
 constants_found bytes fits =
     let P : List Constant × List ℕ → Type 0 = λ x. Takes bytes (constants_bytes x.0) x.1 × AreConstants x.0 in
@@ -165,7 +162,7 @@ pub length-map_of : (us : List Section) → length (map head_of us) ≡ length u
 length-map_of [] = refl
 length-map_of (u ∷ us) = ap suc (length-map_of us)
 
-units_found : (bytes : List ℕ) → IsBytes bytes → Found units_bytes AreUnits bytes (units_at bytes)
+pub units_found : (bytes : List ℕ) → IsBytes bytes → Found units_bytes AreUnits bytes (units_at bytes)
 unfolding units_at
 units_found bytes fits =
     let P : List Section × List ℕ → Type 0 = λ x. Takes bytes (units_bytes x.0) x.1 × AreUnits x.0 in
@@ -191,61 +188,3 @@ units_found bytes fits =
         total = omega (arith, total_fits [] x.0 (omega arith) all);
       },
     )))))
-
--- ---- the whole
-
-magic_found : (bytes : List ℕ) → IsBytes bytes → AllOk (magic_at bytes) (λ rest. Takes bytes magic rest)
-unfolding magic_at
-magic_found bytes fits =
-    unless_all (ltb (length bytes) 4) Truncated (check (bytes_eq (take 4 bytes) magic) BadMagic (Ok (drop 4 bytes))) (λ rest. Takes bytes magic rest) (λ _.
-    check_all (bytes_eq (take 4 bytes) magic) BadMagic (Ok (drop 4 bytes)) (λ rest. Takes bytes magic rest) (λ e.
-    let same : take 4 bytes ≡ magic = (bytes_eq-Decides (take 4 bytes) magic).0 e in
-    record { parts = sym (take-append-drop 4 bytes) ∙ ap (λ (t : List ℕ). t ++ drop 4 bytes) same; fits = IsBytes-drop 4 bytes fits }))
-
-start_found : (bytes : List ℕ) → IsBytes bytes → AllOk (start_at bytes) (λ rest. Takes bytes (magic ++ to_le_bytes w16 version) rest)
-unfolding start_at
-start_found bytes fits =
-    let P : List ℕ → Type 0 = λ rest. Takes bytes (magic ++ to_le_bytes w16 version) rest in
-    bind_from (magic_at bytes) (λ rest. number_at w16 rest >>= λ found. check (found.0 == version) BadVersion (Ok found.1)) (λ rest. Takes bytes magic rest) P (magic_found bytes fits) (λ rest t.
-    bind_from (number_at w16 rest) (λ found. check (found.0 == version) BadVersion (Ok found.1)) (λ n. Takes rest (to_le_bytes w16 n.0) n.1 × (n.0 < 2 ^ 16)) P (number_found w16 (2 ^ 16) wide16 rest t.fits) (λ n u.
-    check_all (n.0 == version) BadVersion (Ok n.1) P (λ e.
-    Takes-then bytes magic rest (to_le_bytes w16 version) n.1 t (Takes-as rest (to_le_bytes w16 n.0) (to_le_bytes w16 version) n.1 (ap (to_le_bytes w16) (eqb-true n.0 version e)) u.0))))
-
-regroup : (m v g ln fn lc fc lu fh fu bytes r0 r1 r2 r3 r4 : List ℕ) → bytes ≡ (m ++ v) ++ r0 → r0 ≡ g ++ r1 → r1 ≡ (ln ++ fn) ++ r2 → r2 ≡ (lc ++ fc) ++ r3 → r3 ≡ (lu ++ (fh ++ fu)) ++ r4 → r4 ≡ []
-    → bytes ≡ m ++ (v ++ (g ++ (ln ++ (fn ++ (lc ++ (fc ++ (lu ++ (fh ++ fu))))))))
-regroup m v g ln fn lc fc lu fh fu bytes r0 r1 r2 r3 r4 a b c d e f = a ∙ rw (b, c, d, e, f) (simp (append_assoc, append-nil))
-
--- what code_of answers is a code, whose spelling the bytes are
-abbrev pub IsSpelledBy : List ℕ → Code → Type 0
-IsSpelledBy bytes k = IsCode k × (bytes ≡ spelling k)
-
-pub code_found : (bytes : List ℕ) → IsBytes bytes → AllOk (code_of bytes) (IsSpelledBy bytes)
-unfolding code_of
-code_found bytes fits =
-    let P : Code → Type 0 = IsSpelledBy bytes in
-    check_all (nat_le (length bytes) max_bytes) LimitPassed _ P (λ small.
-    bind_from (start_at bytes) _ (λ rest. Takes bytes (magic ++ to_le_bytes w16 version) rest) P (start_found bytes fits) (λ rest ts.
-    bind_from (number_at w16 rest) _ (λ g. Takes rest (to_le_bytes w16 g.0) g.1 × (g.0 < 2 ^ 16)) P (number_found w16 (2 ^ 16) wide16 rest ts.fits) (λ g tg.
-    bind_from (all_names_at g.0 g.1) _ (λ x. Takes g.1 (names_bytes x.0) x.1 × AreNames g.0 x.0) P (names_found g.0 g.1 tg.0.fits) (λ ns tn.
-    bind_from (all_constants_at ns.1) _ (λ x. Takes ns.1 (constants_bytes x.0) x.1 × AreConstants x.0) P (constants_found ns.1 tn.0.fits) (λ cs tc.
-    bind_from (units_at cs.1) _ (λ x. Takes cs.1 (units_bytes x.0) x.1 × AreUnits x.0) P (units_found cs.1 tc.0.fits) (λ us tu.
-    check_all (length us.1 == 0) _ _ P (λ ended.
-    let k : Code = record { globals = g.0; names = ns.0; constants = cs.0; units = us.0 } in
-    let none : us.1 ≡ [] = nil_from_length us.1 (eqb-true (length us.1) 0 ended) in
-    let whole : bytes ≡ spelling k = regroup magic (to_le_bytes w16 version) (to_le_bytes w16 g.0) (to_le_bytes w16 (length ns.0)) (flat_map name_bytes ns.0) (to_le_bytes w16 (length cs.0)) (flat_map constant_bytes cs.0) (to_le_bytes w16 (length us.0)) (flat_map header_bytes us.0) (flat_map code_bytes us.0) bytes rest g.1 ns.1 cs.1 us.1 ts.parts tg.0.parts tn.0.parts tc.0.parts tu.0.parts none in (
-      record {
-        globals = tg.1;
-        count_names = tn.1.count;
-        names = tn.1.all;
-        ascend = tn.1.ascend;
-        distinct = tn.1.distinct;
-        count_constants = tc.1.0;
-        constants = tc.1.1;
-        count_units = tu.1.count;
-        units = tu.1.all;
-        entry = record { entry = tu.1.first.entry; is = tu.1.first.is; emits = tu.1.first.emits; plain = tu.1.first.plain };
-        instructions = tu.1.total;
-        bytes = subst (λ (b : List ℕ). length b ≤ max_bytes) whole (leb-true _ _ small);
-      },
-      whole,
-    ))))))))

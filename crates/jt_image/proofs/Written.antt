@@ -1,8 +1,19 @@
--- What encoding needs of the parts of a code.
-use Rattle.std.proofs.Common.{ℕ, zero, suc, ◌<◌, ◌^◌, List, [], ◌∷◌, length, map, get_or, arith}
+-- What assembling needs of the parts of a code.
+use Rattle.std.proofs.Common.{◌≡◌, ℕ, zero, suc, ◌<◌, ◌^◌, List, [], ◌∷◌, length, map, get_or, Option, Some, None, refl, ap, arith}
+use Rattle.std.specs.Prelude.{option_map, unwrap_or}
+use Rattle.std.specs.Option.{IsSome}
 use Rattle.std.specs.List.{AllByRecursion}
+use Rattle.jt_image.specs.declared.instruction.Instruction.{Instruction}
+use Rattle.jt_image.specs.declared.instruction.Instruction.TheVariants as op
+use Rattle.jt_image.specs.declared.parts.Unit as given
+use Rattle.jt_image.specs.declared.wire.Instr.{Instr}
 use Rattle.jt_image.specs.Code.{Section}
-use Rattle.jt_image.specs.IsCode.{total_len}
+use Rattle.jt_image.specs.IsCode.{IsInstruction, total_len}
+use Rattle.jt_image.specs.Parts.{in_front, each_of, section_of_unit, AreKnown}
+use Rattle.jt_image.specs.Reading.{instruction_of}
+use Rattle.jt_image.specs.Spelling.{wire_bytes, instruction_bytes}
+use Rattle.jt_image.specs.View.{instruction_view, units_view}
+use Rattle.jt_image.proofs.Sound.{wire_from}
 
 -- what holds of all that is seen holds at an index
 pub each_fits : {A B : Type 0} (view : A → B) (P : B → Type 0) (xs : List A) (i : ℕ) (d : A) → AllByRecursion P (map view xs) → i < length xs → P (view (get_or xs i d))
@@ -13,3 +24,66 @@ each_fits view P (x ∷ xs) (suc i) d h lt = each_fits view P xs i d h.1 (omega 
 pub short_codes : (us : List Section) → total_len us < 2 ^ 32 → AllByRecursion (λ u. length u.code < 2 ^ 32) us
 short_codes [] lt = tt
 short_codes (u ∷ us) lt = (omega (arith, lt), short_codes us (omega (arith, lt)))
+
+pub each_holds : {A : Type 0} (P : A → Type 0) (xs : List A) (i : ℕ) (d : A) → AllByRecursion P xs → i < length xs → P (get_or xs i d)
+each_holds P [] i d h lt = absurd (omega arith)
+each_holds P (x ∷ xs) zero d h lt = h.0
+each_holds P (x ∷ xs) (suc i) d h lt = each_holds P xs i d h.1 (omega arith)
+
+-- ---- units as they are given
+
+pub known_bytes : (w : Instr) → IsSome (instruction_of w) → instruction_bytes (instruction_view w) ≡ wire_bytes w
+known_bytes w h = by (instruction_of w) refl h
+  where
+    by : (o : Option Instruction) → instruction_of w ≡ o → IsSome o → instruction_bytes (unwrap_or o op.Return) ≡ wire_bytes w
+    by None e g = absurd cc
+    by (Some i) e g = ap wire_bytes (wire_from w i e)
+
+known_code : (ws : List Instr) → AllByRecursion (λ w. IsSome (instruction_of w)) ws → each_of instruction_of ws ≡ Some (map instruction_view ws)
+known_code [] h = refl
+known_code (w ∷ ws) h = rw (known_one w h.0, known_code ws h.1) refl
+  where
+    known_one : (w : Instr) → IsSome (instruction_of w) → instruction_of w ≡ Some (instruction_view w)
+    known_one w h = by (instruction_of w) h
+      where
+        by : (o : Option Instruction) → IsSome o → o ≡ Some (unwrap_or o op.Return)
+        by None g = absurd cc
+        by (Some i) g = refl
+
+pub known_units : (us : List given.Unit) → AreKnown us → each_of section_of_unit us ≡ Some (units_view us)
+known_units [] h = refl
+known_units (u ∷ us) h = rw (known_code u.code.items h.0, known_units us h.1) refl
+
+unknown_code : (ws : List Instr) → ¬ (AllByRecursion (λ w. IsSome (instruction_of w)) ws) → each_of instruction_of ws ≡ None
+unknown_code [] h = absurd (h tt)
+unknown_code (w ∷ ws) h = by (instruction_of w) refl (λ n. unknown_code ws n)
+  where
+    by : (o : Option Instruction) → instruction_of w ≡ o → (¬ (AllByRecursion (λ w. IsSome (instruction_of w)) ws) → each_of instruction_of ws ≡ None) → in_front o (each_of instruction_of ws) ≡ None
+    by None e more = refl
+    by (Some i) e more = let rest : each_of instruction_of ws ≡ None = more (λ all. h (rw e refl, all)) in rw rest refl
+
+front_some : {A : Type 0} (o : Option A) (r : Option (List A)) (ys : List A) → in_front o r ≡ Some ys → IsSome o × ((zs : List A) × (r ≡ Some zs))
+front_some None r ys e = absurd cc
+front_some (Some x) None ys e = absurd cc
+front_some (Some x) (Some zs) ys e = (refl, (zs, refl))
+
+found_code : (ws : List Instr) (is : List Instruction) → each_of instruction_of ws ≡ Some is → AllByRecursion (λ w. IsSome (instruction_of w)) ws
+found_code [] is e = tt
+found_code (w ∷ ws) is e =
+    let f = front_some (instruction_of w) (each_of instruction_of ws) is e in
+    (f.0, found_code ws f.1.0 f.1.1)
+
+pub unknown_units : (us : List given.Unit) → ¬ (AreKnown us) → each_of section_of_unit us ≡ None
+unknown_units [] h = absurd (h tt)
+unknown_units (u ∷ us) h = by (each_of instruction_of u.code.items) refl (λ n. unknown_units us n)
+  where
+    by : (o : Option (List Instruction)) → each_of instruction_of u.code.items ≡ o → (¬ (AreKnown us) → each_of section_of_unit us ≡ None) → in_front (option_map (λ code. let s : Section = record { parameters = u.parameters; kind = u.kind; locals = u.locals; code = code } in s) o) (each_of section_of_unit us) ≡ None
+    by None e more = refl
+    by (Some is) e more =
+        let rest : each_of section_of_unit us ≡ None = more (λ all. h (found_code u.code.items is e, all)) in
+        rw rest refl
+
+-- the units of a code have numbers and instructions that fit their fields
+writable_code : (ws : List Instr) → ((w : Instr) → IsInstruction (instruction_view w)) → AllByRecursion IsInstruction (map instruction_view ws)
+writable_code [] f = tt
+writable_code (w ∷ ws) f = (f w, writable_code ws f)

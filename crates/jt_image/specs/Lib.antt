@@ -1,13 +1,14 @@
 pub mod Code
 pub mod Spelling
 pub mod IsCode
+pub mod Places
 pub mod Reading
 pub mod View
 pub mod HeaderView
-pub mod ImageView
 pub mod Readers
 pub mod InPlace
-pub mod Viewed
+pub mod Held
+pub mod BackView
 pub mod Ids
 pub mod Effect
 pub mod Typed
@@ -19,3 +20,4 @@ pub mod Enough
 pub mod FreeRun
 pub mod Laws
 pub mod Parts
+pub mod Upgrading

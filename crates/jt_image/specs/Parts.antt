@@ -1,5 +1,5 @@
 -- What code parts are, and what a refusal to assemble them says of it.
-use Rattle.std.specs.Prelude.{◌≡◌, ℕ, ◌<◌, ◌≤◌, ◌^◌, List, [], ◌∷◌, length, Option, Some, None, option_map, Result, Ok, Err, IsUtf8, FitsSigned}
+use Rattle.std.specs.Prelude.{◌≡◌, ℕ, ◌<◌, ◌≤◌, ◌^◌, List, [], ◌∷◌, length, Option, Some, None, option_map, IsUtf8, FitsSigned}
 use Rattle.std.specs.List.{AllByRecursion}
 use Rattle.std.specs.Int.{w64}
 use Rattle.jt_image.specs.declared.error.ImageError.{ImageError}
@@ -7,9 +7,9 @@ use Rattle.jt_image.specs.declared.error.ImageError.TheVariants.{BadMagic, BadVe
 use Rattle.jt_image.specs.declared.parts.Unit as given
 use Rattle.jt_image.specs.declared.parts.Parts.{Parts}
 use Rattle.jt_image.specs.Code.{Constant, undefined, nothing, truth_value, number, text, markup, Name, Section, Code}
-use Rattle.jt_image.specs.View.{names_view, constants_view}
+use Rattle.jt_image.specs.View.{names_view, constants_view, units_view, texts_view, spots_view, IsKnownUnit}
 use Rattle.jt_image.specs.Spelling.{spelling}
-use Rattle.jt_image.specs.IsCode.{Ascend, AreDistinct, IsInstruction, HasEntry, total_len, max_count, max_locals, max_instructions, max_bytes}
+use Rattle.jt_image.specs.IsCode.{Ascend, AreDistinct, AscendTexts, IsSpot, IsPlaced, IsInstruction, HasEntry, total_len, max_count, max_locals, max_instructions, max_bytes}
 use Rattle.jt_image.specs.Reading.{instruction_of}
 
 abbrev pub in_front : {A : Type 0} → Option A → Option (List A) → Option (List A)
@@ -28,7 +28,7 @@ section_of_unit u = option_map (λ code. record { parameters = u.parameters; kin
 
 -- these tables, with these units
 abbrev pub code_with : Parts → List Section → Code
-code_with p us = record { globals = p.globals; names = names_view p.names.items; constants = constants_view p.constants.items; units = us }
+code_with p us = record { version = p.version; globals = p.globals; names = names_view p.names.items; constants = constants_view p.constants.items; units = us; templates = texts_view p.templates.items; spots = spots_view p.spots.items }
 
 -- the code that the parts are: none where an instruction is none
 abbrev pub code_of_parts : Parts → Option Code
@@ -45,11 +45,20 @@ pub record AreInOrder (globals : ℕ) (ns : List Name) : Type 0 where
 abbrev pub IsUnitInOrder : Section → Type 0
 IsUnitInOrder u = (u.kind ≤ 1) × (u.parameters ≤ u.locals)
 
--- the tables are in order, and there is a first unit that emits and has no parameters
+-- the templates: none is empty, and they strictly ascend
+pub record AreTemplates (ts : List (List ℕ)) : Type 0 where
+  pub some : AllByRecursion (λ t. 0 < length t) ts
+  pub ascend : AscendTexts ts
+
+-- The tables are in order, and there is a first unit that emits and has no parameters. Each instruction has its spot in version 2; in
+-- version 1 there are no templates and spots.
 pub record HasTables (k : Code) : Type 0 where
   pub names : AreInOrder k.globals k.names
   pub units : AllByRecursion IsUnitInOrder k.units
   pub entry : HasEntry k
+  pub templates : AreTemplates k.templates
+  pub spots : AllByRecursion (IsSpot (length k.templates)) k.spots
+  pub placed : IsPlaced k.version (total_len k.units) k.templates k.spots
 
 -- tables and names are not too long for their fields, and the limits are kept; so a constant's text fits its field too
 pub record KeepsLimits (k : Code) : Type 0 where
@@ -59,6 +68,8 @@ pub record KeepsLimits (k : Code) : Type 0 where
   pub units : length k.units ≤ max_count
   pub locals : AllByRecursion (λ u. u.locals ≤ max_locals) k.units
   pub instructions : total_len k.units ≤ max_instructions
+  pub templates : length k.templates ≤ max_count
+  pub template_texts : AllByRecursion (λ t. length t ≤ max_count) k.templates
   pub bytes : length (spelling k) ≤ max_bytes
 
 abbrev pub BreaksTable : Option Code → Type 0
@@ -83,18 +94,13 @@ IsRefusal BadText k = ⊥
 
 -- ---- what the checks say of the parts of a code
 
--- what was found, seen by view, is there; BadOpcode says that there is none
-abbrev pub Finds : {X Y : Type 0} → (X → Y) → Result X ImageError → Option Y → Type 0
-Finds view (Ok x) found = found ≡ Some (view x)
-Finds view (Err BadOpcode) found = found ≡ None
-Finds view (Err NoMemory) found = Unit {0}
-Finds view (Err BadTable) found = ⊥
-Finds view (Err LimitPassed) found = ⊥
-Finds view (Err BadMagic) found = ⊥
-Finds view (Err BadVersion) found = ⊥
-Finds view (Err Truncated) found = ⊥
-Finds view (Err Trailing) found = ⊥
-Finds view (Err BadText) found = ⊥
+-- the code that the parts are seen as, whatever their instructions are
+abbrev pub code_seen : Parts → Code
+code_seen p = code_with p (units_view p.units.items)
+
+-- each of the instructions is one
+abbrev pub AreKnown : List given.Unit → Type 0
+AreKnown us = AllByRecursion IsKnownUnit us
 
 -- the numbers of a unit and of its instructions fit their fields
 pub record IsWritable (u : Section) : Type 0 where
@@ -119,3 +125,8 @@ Starts (u ∷ us) = (u.kind ≡ 0) × (u.parameters ≡ 0)
 pub record IsShort (n : Name) : Type 0 where
   pub fits : length n.text < 2 ^ 16
   pub utf8 : IsUtf8 n.text
+
+-- a template's text in UTF-8 that fits its field
+pub record IsShortText (t : List ℕ) : Type 0 where
+  pub fits : length t < 2 ^ 16
+  pub utf8 : IsUtf8 t

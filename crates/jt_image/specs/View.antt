@@ -1,10 +1,17 @@
--- What contracts see of the parts of an image.
-use Rattle.std.specs.Prelude.{ℕ, List, map, String, string_bytes}
+-- What contracts see of the parts from which an image is assembled.
+use Rattle.std.specs.Prelude.{ℕ, List, map, String, string_bytes, unwrap_or}
+use Rattle.std.specs.List.{AllByRecursion}
+use Rattle.std.specs.Option.{IsSome}
 use Rattle.std.specs.declared.alloc.Global.{Global}
 use Rattle.jt_image.specs.Code as code
+use Rattle.jt_image.specs.Reading.{instruction_of}
+use Rattle.jt_image.specs.declared.instruction.Instruction.{Instruction}
+use Rattle.jt_image.specs.declared.instruction.Instruction.TheVariants as op
 use Rattle.jt_image.specs.declared.image.Constant.{Constant}
 use Rattle.jt_image.specs.declared.image.Constant.TheVariants as constant
-use Rattle.jt_image.specs.declared.image.Section.{Section}
+use Rattle.jt_image.specs.declared.parts.Spot as spot
+use Rattle.jt_image.specs.declared.parts.Unit as given
+use Rattle.jt_image.specs.declared.wire.Instr.{Instr}
 
 -- a slot and its name
 abbrev pub name_view : ℕ × String Global → code.Name
@@ -24,8 +31,26 @@ constant_view (constant.Markup s) = code.markup (string_bytes s)
 abbrev pub constants_view : List Constant → List code.Constant
 constants_view cs = map constant_view cs
 
-abbrev pub section_view : Section → code.Section
-section_view s = record { parameters = s.parameters; kind = s.kind; locals = s.locals; code = s.code.items }
+-- the instruction with these fields; one that is none is seen as some instruction
+abbrev pub instruction_view : Instr → Instruction
+instruction_view w = unwrap_or (instruction_of w) op.Return
 
-abbrev pub sections_view : List Section → List code.Section
-sections_view ss = map section_view ss
+abbrev pub unit_view : given.Unit → code.Section
+unit_view u = record { parameters = u.parameters; kind = u.kind; locals = u.locals; code = map instruction_view u.code.items }
+
+abbrev pub units_view : List given.Unit → List code.Section
+units_view us = map unit_view us
+
+-- each instruction of the unit is one
+abbrev pub IsKnownUnit : given.Unit → Type 0
+IsKnownUnit u = AllByRecursion (λ w. IsSome (instruction_of w)) u.code.items
+
+-- the texts
+abbrev pub texts_view : List (String Global) → List (List ℕ)
+texts_view ts = map string_bytes ts
+
+abbrev pub spot_view : spot.Spot → code.Spot
+spot_view s = record { template = s.template; line = s.line }
+
+abbrev pub spots_view : List spot.Spot → List code.Spot
+spots_view ss = map spot_view ss

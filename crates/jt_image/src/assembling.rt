@@ -1,89 +1,68 @@
 //! Parts to images.
-ghost use Rattle.std.specs.Prelude.{◌≡◌, ◌+◌, ◌-◌, ◌*◌, ◌<◌, ◌≤◌, ◌^◌, ◌↔◌, ◌&&◌, min, not, nat_lt, List, length, string_bytes, IsTrue, IsUtf8, IfOk, IfErr, MatchResult, Some, Ok, Err};
+ghost use Rattle.std.specs.Prelude.{◌≡◌, ◌+◌, ◌-◌, ◌*◌, ◌<◌, ◌≤◌, ◌^◌, ◌↔◌, ◌&&◌, min, not, nat_lt, List, length, string_bytes, IsTrue, IsUtf8, IfOk, IfErr, MatchResult, Some, None, Ok, Err, false};
 ghost use Rattle.std.specs.List.{flat_map, AllByRecursion};
 ghost use Rattle.jt_image.specs.Code.{Code};
-ghost use Rattle.jt_image.specs.View.{names_view, constant_view, constants_view, section_view, sections_view};
-ghost use Rattle.jt_image.specs.IsCode.{IsInstruction, total_len, max_count, max_locals, max_instructions, max_bytes, IsCode};
-ghost use Rattle.jt_image.specs.Spelling.{name_bytes, constant_bytes};
-ghost use Rattle.jt_image.specs.Reading.{instruction_of, is_used, may_follow, IsTable};
-ghost use Rattle.jt_image.specs.Parts.{each_of, section_of_unit, code_with, code_of_parts, AreInOrder, IsUnitInOrder, KeepsLimits, IsRefusal, Finds, IsWritable, IsHeld, Starts, IsShort};
+ghost use Rattle.jt_image.specs.View.{names_view, constant_view, constants_view, unit_view, units_view, texts_view, spot_view, spots_view, IsKnownUnit};
+ghost use Rattle.jt_image.specs.IsCode.{total_len, max_count, max_locals, max_instructions, max_bytes, IsSpot, IsPlaced, IsCode};
+ghost use Rattle.jt_image.specs.Spelling.{name_bytes, constant_bytes, template_bytes, place_bytes};
+ghost use Rattle.jt_image.specs.Reading.{instruction_of, is_used, may_follow, may_follow_texts, IsTable};
+ghost use Rattle.jt_image.specs.Parts.{each_of, section_of_unit, code_of_parts, code_seen, AreKnown, AreInOrder, IsUnitInOrder, AreTemplates, KeepsLimits, IsRefusal, IsWritable, IsHeld, Starts, IsShort, IsShortText};
 ghost use Rattle.jt_image.specs.declared.error.ImageError.TheVariants.{LimitPassed, NoMemory};
 
+use crate::back::is_line;
 use crate::error::ImageError;
-use crate::image::{Constant, Image, Section};
-use crate::instruction::Instruction;
+use crate::image::{Constant, Image};
 use crate::limits::{MAX_BYTES, MAX_COUNT, MAX_INSTRUCTIONS, MAX_LOCALS};
-use crate::parts::{Parts, Unit};
-use crate::wire::Instr;
+use crate::parts::{Parts, Spot, Unit};
+use crate::reading::read;
+use crate::spelling::spelled;
+use crate::version::Version;
 use std::alloc::{AllocError, Global};
 
 // magic, version, globals and three counts
 const FIXED_BYTES: usize = 14;
 
-// Units, and how many instructions they have together.
-#[derive(Drop)]
-struct Units {
-    sections: Vec<Section>,
-    instructions: u32,
-}
+// a spot's template and line
+const SPOT_BYTES: usize = 6;
 
-fn instructions_of(alloc: Global, code: &[Instr]) -> Result<Vec<Instruction>, ImageError>
-    ensures finds { Finds (λ v. v.items) result (each_of instruction_of code.now) }
-    ensures fits { IfOk result (λ v. AllByRecursion IsInstruction v.items) }
+// whether each instruction of the unit is one
+fn is_known(unit: &Unit) -> bool
+    ensures known { IsTrue result ↔ IsKnownUnit unit.now }
+    ensures fits { IsTrue result → IsWritable (unit_view unit.now) }
 {
-    let mut instructions = Vec::with_capacity(alloc, code.len())?;
-    'code: for instr in code {
-        match instr.instruction() {
-            Some(instruction) => instructions.push(instruction)?,
-            None => return Err(ImageError::BadOpcode),
+    'code: for instr in &unit.code {
+        if instr.instruction().is_none() {
+            return false;
         }
     }
-    Ok(instructions)
+    true
 }
 
-fn section_with(parameters: u8, kind: u8, locals: u16, code: Vec<Instruction>) -> Section
-    requires { AllByRecursion IsInstruction code.items }
-    ensures is { result
-        ≡ record { parameters = parameters; kind = kind; locals = locals; code = code } }
-    ensures fits { IsWritable (section_view result) }
+// whether each instruction is one, so that the units are those of a code
+fn are_known(units: &[Unit]) -> bool
+    ensures known { IsTrue result → AreKnown units.now }
+    ensures fits { IsTrue result → AllByRecursion IsWritable (units_view units.now) }
+    ensures seen { IsTrue result
+        → each_of section_of_unit units.now ≡ Some (units_view units.now) }
+    ensures unknown { result ≡ false → each_of section_of_unit units.now ≡ None }
 {
-    Section {
-        parameters,
-        kind,
-        locals,
-        code,
-    }
-}
-
-fn section_of(alloc: Global, unit: &Unit) -> Result<Section, ImageError>
-    ensures finds { Finds section_view result (section_of_unit unit.now) }
-    ensures fits { IfOk result (λ s. IsWritable (section_view s)) }
-{
-    let code = instructions_of(alloc, &unit.code)?;
-    Ok(section_with(unit.parameters, unit.kind, unit.locals, code))
-}
-
-fn sections_of(alloc: Global, units: &[Unit]) -> Result<Vec<Section>, ImageError>
-    ensures finds { Finds (λ v. sections_view v.items) result (each_of section_of_unit units.now) }
-    ensures fits { IfOk result (λ v. AllByRecursion IsWritable (sections_view v.items)) }
-{
-    let mut sections = Vec::with_capacity(alloc, units.len())?;
     'units: for unit in units {
-        let section = section_of(alloc, unit)?;
-        sections.push(section)?;
+        if !is_known(unit) {
+            return false;
+        }
     }
-    Ok(sections)
+    true
 }
 
 // how many instructions all units have, unless they are too many
-fn instruction_count(sections: &[Section]) -> Result<u32, ImageError>
+fn instruction_count(units: &[Unit]) -> Result<u32, ImageError>
     ensures { MatchResult result
-        (λ n. (n ≡ total_len (sections_view sections.now)) × (n ≤ max_instructions))
-        (λ e. (e ≡ LimitPassed) × (max_instructions < total_len (sections_view sections.now))) }
+        (λ n. (n ≡ total_len (units_view units.now)) × (n ≤ max_instructions))
+        (λ e. (e ≡ LimitPassed) × (max_instructions < total_len (units_view units.now))) }
 {
     let mut total = 0;
-    'sections: for section in sections {
-        let len = section.code.len();
+    'units: for unit in units {
+        let len = unit.code.len();
         if len > (MAX_INSTRUCTIONS - total) as usize {
             return Err(ImageError::LimitPassed);
         }
@@ -128,6 +107,36 @@ fn constants_len(constants: &[Constant]) -> usize
     len
 }
 
+// how many bytes the templates take, as for the names
+fn templates_len(templates: &[String]) -> usize
+    ensures len { result
+        ≡ min (length (flat_map template_bytes (texts_view templates.now))) (2 ^ 64 - 1) }
+    ensures utf8 { AllByRecursion IsUtf8 (texts_view templates.now) }
+{
+    let mut len: usize = 0;
+    'templates: for template in templates {
+        let text = template.as_str();
+        len = len.saturating_add(text.len()).saturating_add(2);
+    }
+    len
+}
+
+// how many bytes stand behind the instructions
+fn places_len(parts: &Parts) -> usize
+    ensures len { result
+        ≡ min (length (place_bytes parts.now.version (texts_view parts.now.templates.items)
+        (spots_view parts.now.spots.items))) (2 ^ 64 - 1) }
+    ensures utf8 { AllByRecursion IsUtf8 (texts_view parts.now.templates.items) }
+{
+    let templates = templates_len(&parts.templates);
+    match parts.version {
+        Version::One => 0,
+        Version::Two => templates
+            .saturating_add(parts.spots.len().saturating_mul(SPOT_BYTES))
+            .saturating_add(2),
+    }
+}
+
 fn texts_fit(names: &[(u16, String)]) -> bool
     ensures { IsTrue result
         ↔ AllByRecursion (λ n. length n.text ≤ max_count) (names_view names.now) }
@@ -140,12 +149,24 @@ fn texts_fit(names: &[(u16, String)]) -> bool
     true
 }
 
-fn locals_fit(sections: &[Section]) -> bool
+fn templates_fit(templates: &[String]) -> bool
     ensures { IsTrue result
-        ↔ AllByRecursion (λ u. u.locals ≤ max_locals) (sections_view sections.now) }
+        ↔ AllByRecursion (λ t. length t ≤ max_count) (texts_view templates.now) }
 {
-    'sections: for section in sections {
-        if section.locals > MAX_LOCALS {
+    'templates: for template in templates {
+        if template.len() > MAX_COUNT {
+            return false;
+        }
+    }
+    true
+}
+
+fn locals_fit(units: &[Unit]) -> bool
+    ensures { IsTrue result
+        ↔ AllByRecursion (λ u. u.locals ≤ max_locals) (units_view units.now) }
+{
+    'units: for unit in units {
+        if unit.locals > MAX_LOCALS {
             return false;
         }
     }
@@ -162,46 +183,118 @@ fn is_small(tables: usize, units: usize, instructions: u32) -> bool
     tables <= MAX_BYTES && FIXED_BYTES + tables + code <= MAX_BYTES
 }
 
-fn keeps_limits(parts: &Parts, sections: &[Section], instructions: u32) -> bool
-    requires counted { instructions ≡ total_len (sections_view sections.now) }
+fn fields_fit(parts: &Parts) -> bool
+    ensures { IsTrue result
+        ↔ (AllByRecursion (λ n. length n.text ≤ max_count) (names_view parts.now.names.items)
+        × AllByRecursion (λ t. length t ≤ max_count) (texts_view parts.now.templates.items)
+        × AllByRecursion (λ u. u.locals ≤ max_locals) (units_view parts.now.units.items)) }
+{
+    texts_fit(&parts.names) && templates_fit(&parts.templates) && locals_fit(&parts.units)
+}
+
+fn keeps_limits(parts: &Parts, instructions: u32) -> bool
+    requires counted { instructions ≡ total_len (units_view parts.now.units.items) }
     requires within { instructions ≤ max_instructions }
-    ensures kept { IsTrue result ↔ KeepsLimits (code_with parts.now (sections_view sections.now)) }
+    ensures kept { IsTrue result ↔ KeepsLimits (code_seen parts.now) }
     ensures utf8 { AllByRecursion (λ n. IsUtf8 n.text) (names_view parts.now.names.items) }
     ensures held { AllByRecursion IsHeld (constants_view parts.now.constants.items) }
+    ensures templates { AllByRecursion IsUtf8 (texts_view parts.now.templates.items) }
 {
-    let tables = names_len(&parts.names).saturating_add(constants_len(&parts.constants));
-    let texts = texts_fit(&parts.names);
-    let locals = locals_fit(sections);
+    let tables = names_len(&parts.names)
+        .saturating_add(constants_len(&parts.constants))
+        .saturating_add(places_len(parts));
     let most = parts
         .names
         .len()
         .max(parts.constants.len())
-        .max(sections.len());
+        .max(parts.units.len())
+        .max(parts.templates.len());
     if most > MAX_COUNT {
         return false;
     }
-    let fit = texts && locals;
-    fit && is_small(tables, sections.len(), instructions)
+    fields_fit(parts) && is_small(tables, parts.units.len(), instructions)
 }
 
-fn starts(sections: &[Section]) -> bool
-    ensures { IsTrue result ↔ Starts (sections_view sections.now) }
+fn starts(units: &[Unit]) -> bool
+    ensures { IsTrue result ↔ Starts (units_view units.now) }
 {
-    match sections {
+    match units {
         [] => false,
         [first, ..] => first.kind == 0 && first.parameters == 0,
     }
 }
 
-fn units_are_in_order(sections: &[Section]) -> bool
-    ensures { IsTrue result ↔ AllByRecursion IsUnitInOrder (sections_view sections.now) }
+fn units_are_in_order(units: &[Unit]) -> bool
+    ensures { IsTrue result ↔ AllByRecursion IsUnitInOrder (units_view units.now) }
 {
-    'sections: for section in sections {
-        if section.kind > 1 || u16::from(section.parameters) > section.locals {
+    'units: for unit in units {
+        if unit.kind > 1 || u16::from(unit.parameters) > unit.locals {
             return false;
         }
     }
     true
+}
+
+fn may_follow_texts(templates: &[String], text: &str) -> bool
+    ensures { result ≡ may_follow_texts (texts_view templates.now) text.now }
+{
+    match templates {
+        [] => !text.is_empty(),
+        [.., last] => last.as_str() < text,
+    }
+}
+
+fn templates_are_in_order(templates: &[String]) -> bool
+    requires { AllByRecursion IsShortText (texts_view templates.now) }
+    ensures { IsTrue result ↔ AreTemplates (texts_view templates.now) }
+{
+    'templates: for (index, template) in templates.iter().enumerate() {
+        if !may_follow_texts(&templates[..index], template.as_str()) {
+            return false;
+        }
+    }
+    true
+}
+
+fn is_spot(templates: usize, spot: Spot) -> bool
+    ensures { IsTrue result ↔ IsSpot templates (spot_view spot) }
+{
+    usize::from(spot.template) <= templates && is_line(spot.template, spot.line)
+}
+
+fn spots_are_in_order(templates: usize, spots: &[Spot]) -> bool
+    ensures { IsTrue result ↔ AllByRecursion (IsSpot templates) (spots_view spots.now) }
+{
+    'spots: for spot in spots {
+        if !is_spot(templates, *spot) {
+            return false;
+        }
+    }
+    true
+}
+
+// whether the version may have these places
+fn are_placed(parts: &Parts, instructions: u32) -> bool
+    ensures { IsTrue result
+        ↔ IsPlaced parts.now.version instructions (texts_view parts.now.templates.items)
+        (spots_view parts.now.spots.items) }
+{
+    match parts.version {
+        Version::One => parts.templates.is_empty() && parts.spots.is_empty(),
+        Version::Two => parts.spots.len() == instructions as usize,
+    }
+}
+
+fn places_are_in_order(parts: &Parts, instructions: u32) -> bool
+    requires { AllByRecursion IsShortText (texts_view parts.now.templates.items) }
+    ensures { IsTrue result
+        ↔ (AreTemplates (texts_view parts.now.templates.items)
+        × AllByRecursion (IsSpot (length (texts_view parts.now.templates.items))) (spots_view parts.now.spots.items)
+        × IsPlaced parts.now.version instructions (texts_view parts.now.templates.items) (spots_view parts.now.spots.items)) }
+{
+    templates_are_in_order(&parts.templates)
+        && spots_are_in_order(parts.templates.len(), &parts.spots)
+        && are_placed(parts, instructions)
 }
 
 fn may_follow(names: &[(u16, String)], text: &str) -> bool
@@ -243,30 +336,39 @@ fn names_are_in_order(
     Ok(true)
 }
 
-// the units of the code that the parts are, if it has a spelling
-fn checked(alloc: Global, parts: &Parts) -> Result<Units, ImageError>
-    ensures is { IfOk result (λ u.
-        code_of_parts parts.now ≡ Some (code_with parts.now (sections_view u.sections.items))) }
-    ensures spelled { IfOk result
-        (λ u. IsCode (code_with parts.now (sections_view u.sections.items))) }
-    ensures counted { IfOk result
-        (λ u. u.instructions ≡ total_len (sections_view u.sections.items)) }
+// tests that the parts are a code with a spelling
+fn check(alloc: Global, parts: &Parts) -> Result<(), ImageError>
+    ensures known { IfOk result (λ _. AreKnown parts.now.units.items) }
+    ensures seen { IfOk result (λ _. code_of_parts parts.now ≡ Some (code_seen parts.now)) }
+    ensures spelled { IfOk result (λ _. IsCode (code_seen parts.now)) }
     ensures refused { IfErr result (λ e. IsRefusal e (code_of_parts parts.now)) }
 {
-    let globals = parts.globals;
-    let sections = sections_of(alloc, &parts.units)?;
-    let instructions = instruction_count(&sections)?;
-    if !keeps_limits(parts, &sections, instructions) {
+    if !are_known(&parts.units) {
+        return Err(ImageError::BadOpcode);
+    }
+    let instructions = instruction_count(&parts.units)?;
+    if !keeps_limits(parts, instructions) {
         return Err(ImageError::LimitPassed);
     }
-    let named = names_are_in_order(alloc, globals, &parts.names)?;
-    if !(named && starts(&sections) && units_are_in_order(&sections)) {
+    let named = names_are_in_order(alloc, parts.globals, &parts.names)?;
+    if !(named && starts(&parts.units) && units_are_in_order(&parts.units)) {
         return Err(ImageError::BadTable);
     }
-    Ok(Units {
-        sections,
-        instructions,
-    })
+    if !places_are_in_order(parts, instructions) {
+        return Err(ImageError::BadTable);
+    }
+    Ok(())
+}
+
+// the image of parts that have a spelling
+fn image_of(alloc: Global, parts: &Parts) -> Result<Image, ImageError>
+    ensures is { IfOk result (λ i. IsCode i × (code_of_parts parts.now ≡ Some i)) }
+    ensures refused { IfErr result (λ e. IsRefusal e (code_of_parts parts.now)) }
+{
+    check(alloc, parts)?;
+    let bytes = spelled(alloc, parts)?;
+    let places = read(alloc, &bytes)?;
+    Ok(Image { bytes, places })
 }
 
 /// The image with these parts. Else they are handed back with what is wrong with them: an instruction
@@ -285,14 +387,8 @@ pub fn assemble(alloc: Global, parts: Parts) -> Result<Image, (Parts, ImageError
     // what is named holds
     ensures named { IfErr result (λ e. IsRefusal e.1 (code_of_parts parts)) }
 {
-    match checked(alloc, &parts) {
-        Ok(units) => Ok(Image {
-            globals: parts.globals,
-            names: parts.names,
-            constants: parts.constants,
-            units: units.sections,
-            instructions: units.instructions,
-        }),
+    match image_of(alloc, &parts) {
+        Ok(image) => Ok(image),
         Err(error) => Err((parts, error)),
     }
 }

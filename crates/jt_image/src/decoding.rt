@@ -6,10 +6,9 @@ ghost use Rattle.jt_image.specs.IsCode.{IsCode};
 ghost use Rattle.jt_image.specs.declared.error.ImageError.TheVariants.{NoMemory};
 ghost use Rattle.jt_image.specs.Reading.{Gives, code_of};
 
-use crate::copying::image_of;
 use crate::error::ImageError;
 use crate::image::Image;
-use crate::viewing::view;
+use crate::reading::read;
 use std::alloc::Global;
 
 /// The image that the bytes spell, or the first fault of them.
@@ -24,6 +23,7 @@ pub fn decode(alloc: Global, bytes: &[u8]) -> Result<Image, ImageError>
         → bytes.now ≡ spelling k
         → MatchResult result (λ i. i ≡ k) (λ e. e ≡ NoMemory) }
 {
-    let view = view(alloc, bytes)?;
-    Ok(image_of(alloc, &view)?)
+    let places = read(alloc, bytes)?;
+    let bytes = Vec::from_slice(alloc, bytes)?;
+    Ok(Image { bytes, places })
 }

@@ -1,11 +1,10 @@
 //! Fields of an image: each reader answers a value and the bytes behind it.
-ghost use Rattle.std.specs.Prelude.{◌≡◌, List, length, take, drop, Ok, Err};
+ghost use Rattle.std.specs.Prelude.{◌≡◌, ◌≤◌, List, length, take, drop, Ok, Err};
 ghost use Rattle.std.specs.Int.{w16, w32, w64, from_le_bytes};
-ghost use Rattle.jt_image.specs.Reading.{Gives, number_at, byte_at, text_at, long_text_at, magic_at, start_at};
+ghost use Rattle.jt_image.specs.Reading.{Gives, number_at, byte_at, text_at, long_text_at, magic_at, version_at, start_at};
 
 use crate::error::ImageError;
-
-const VERSION: u16 = 1;
+use crate::version::Version;
 
 pub(crate) fn u8_at(bytes: &[u8]) -> Result<(u8, &[u8]), ImageError>
     ensures { Gives (λ x. (x.0, x.1.now)) result (byte_at bytes.now) }
@@ -16,15 +15,32 @@ pub(crate) fn u8_at(bytes: &[u8]) -> Result<(u8, &[u8]), ImageError>
     }
 }
 
+/// The number in the first two bytes.
+pub(crate) fn u16_in(bytes: &[u8]) -> u16
+    requires { 2 ≤ length bytes.now }
+    ensures { result ≡ from_le_bytes w16 (take 2 bytes.now) }
+{
+    let (front, _) = bytes.split_at(2);
+    u16::from_le_bytes([front[0], front[1]])
+}
+
 pub(crate) fn u16_at(bytes: &[u8]) -> Result<(u16, &[u8]), ImageError>
     ensures { Gives (λ x. (x.0, x.1.now)) result (number_at w16 bytes.now) }
 {
     if bytes.len() < 2 {
         return Err(ImageError::Truncated);
     }
-    let (front, rest) = bytes.split_at(2);
-    let number = u16::from_le_bytes([front[0], front[1]]);
-    Ok((number, rest))
+    let (_, rest) = bytes.split_at(2);
+    Ok((u16_in(bytes), rest))
+}
+
+/// The number in the first four bytes.
+pub(crate) fn u32_in(bytes: &[u8]) -> u32
+    requires { 4 ≤ length bytes.now }
+    ensures { result ≡ from_le_bytes w32 (take 4 bytes.now) }
+{
+    let (front, _) = bytes.split_at(4);
+    u32::from_le_bytes([front[0], front[1], front[2], front[3]])
 }
 
 pub(crate) fn u32_at(bytes: &[u8]) -> Result<(u32, &[u8]), ImageError>
@@ -33,9 +49,19 @@ pub(crate) fn u32_at(bytes: &[u8]) -> Result<(u32, &[u8]), ImageError>
     if bytes.len() < 4 {
         return Err(ImageError::Truncated);
     }
-    let (front, rest) = bytes.split_at(4);
-    let number = u32::from_le_bytes([front[0], front[1], front[2], front[3]]);
-    Ok((number, rest))
+    let (_, rest) = bytes.split_at(4);
+    Ok((u32_in(bytes), rest))
+}
+
+/// The number in the first eight bytes.
+pub(crate) fn u64_in(bytes: &[u8]) -> u64
+    requires { 8 ≤ length bytes.now }
+    ensures { result ≡ from_le_bytes w64 (take 8 bytes.now) }
+{
+    let (front, _) = bytes.split_at(8);
+    u64::from_le_bytes([
+        front[0], front[1], front[2], front[3], front[4], front[5], front[6], front[7],
+    ])
 }
 
 pub(crate) fn u64_at(bytes: &[u8]) -> Result<(u64, &[u8]), ImageError>
@@ -44,11 +70,8 @@ pub(crate) fn u64_at(bytes: &[u8]) -> Result<(u64, &[u8]), ImageError>
     if bytes.len() < 8 {
         return Err(ImageError::Truncated);
     }
-    let (front, rest) = bytes.split_at(8);
-    let number = u64::from_le_bytes([
-        front[0], front[1], front[2], front[3], front[4], front[5], front[6], front[7],
-    ]);
-    Ok((number, rest))
+    let (_, rest) = bytes.split_at(8);
+    Ok((u64_in(bytes), rest))
 }
 
 /// That many bytes, which are UTF-8.
@@ -89,15 +112,23 @@ fn magic_at(bytes: &[u8]) -> Result<&[u8], ImageError>
     Ok(rest)
 }
 
+#[tactic(auto, unfolding(crate::specs::Reading::version_at))]
+fn version_at(bytes: &[u8]) -> Result<(Version, &[u8]), ImageError>
+    ensures { Gives (λ x. (x.0, x.1.now)) result (version_at bytes.now) }
+{
+    let (version, rest) = u16_at(bytes)?;
+    match version {
+        1 => Ok((Version::One, rest)),
+        2 => Ok((Version::Two, rest)),
+        _ => Err(ImageError::BadVersion),
+    }
+}
+
 /// Magic and version.
 #[tactic(auto, unfolding(crate::specs::Reading::start_at))]
-pub(crate) fn start_at(bytes: &[u8]) -> Result<&[u8], ImageError>
-    ensures { Gives (λ x. x.now) result (start_at bytes.now) }
+pub(crate) fn start_at(bytes: &[u8]) -> Result<(Version, &[u8]), ImageError>
+    ensures { Gives (λ x. (x.0, x.1.now)) result (start_at bytes.now) }
 {
     let rest = magic_at(bytes)?;
-    let (version, rest) = u16_at(rest)?;
-    if version != VERSION {
-        return Err(ImageError::BadVersion);
-    }
-    Ok(rest)
+    version_at(rest)
 }

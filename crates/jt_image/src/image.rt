@@ -1,11 +1,14 @@
 //! An image, which contracts see as its code.
 ghost use Rattle.std.specs.Prelude.{◌≡◌, length, option_map, slice_get};
 ghost use Rattle.jt_image.specs.IsCode.{IsCode, total_len};
-ghost use Rattle.jt_image.specs.Readers.{constant_ref_view, header_of, instruction_at};
-ghost use Rattle.jt_image.specs.View.{constant_view};
+ghost use Rattle.jt_image.specs.Readers.{constant_ref_view, header_of, instruction_at, place_ref_view, place_there, ConstantPlace, UnitStart};
+ghost use Rattle.jt_image.specs.Spelling.{spelling};
 
-use crate::code::{Code, ConstantRef, UnitHeader};
+use crate::code::{Code, ConstantRef, PlaceRef, UnitHeader};
 use crate::instruction::Instruction;
+use crate::places::Places;
+use crate::stretch::Stretch;
+use crate::version::Version;
 use std::marker::Model;
 
 /// A constant.
@@ -19,115 +22,111 @@ pub enum Constant {
     Markup(String),
 }
 
-impl Constant {
-    /// The constant, with its text lent.
-    fn lent(&self) -> ConstantRef<'_>
-        ensures { constant_ref_view result ≡ constant_view self.now }
-    {
-        match self {
-            Constant::Undefined => ConstantRef::Undefined,
-            Constant::None => ConstantRef::None,
-            Constant::Bool(truth) => ConstantRef::Bool(*truth),
-            Constant::Int(number) => ConstantRef::Int(*number),
-            Constant::Text(text) => ConstantRef::Text(text.as_str()),
-            Constant::Markup(text) => ConstantRef::Markup(text.as_str()),
-        }
-    }
-}
-
-/// A unit: its numbers and its instructions.
-#[derive(Drop)]
-pub(crate) struct Section {
-    pub(crate) parameters: u8,
-    pub(crate) kind: u8,
-    pub(crate) locals: u16,
-    pub(crate) code: Vec<Instruction>,
-}
-
-/// An image. Its names are slots of globals, each with its name.
+/// An image: the bytes that spell its code. Texts and instructions are read from them as they are asked for.
 #[derive(Drop)]
 pub struct Image {
-    pub(crate) globals: u16,
-    pub(crate) names: Vec<(u16, String)>,
-    pub(crate) constants: Vec<Constant>,
-    pub(crate) units: Vec<Section>,
-    pub(crate) instructions: u32,
+    pub(crate) bytes: Vec<u8>,
+    pub(crate) places: Places,
 }
 
 impl Model for Image {
-    ghost use Rattle.std.specs.Prelude.{◌≡◌};
     ghost use Rattle.jt_image.specs.Code.{Code};
 
     ghost Value = { Code };
 
-    ghost use Rattle.jt_image.specs.ImageView.{code_view};
-    ghost use Rattle.jt_image.specs.IsCode.{IsCode, total_len};
+    ghost use Rattle.jt_image.specs.InPlace.{Spells};
+    ghost use Rattle.jt_image.specs.Held.{image_code};
 
-    ghost view = { code_view };
+    ghost view = { image_code };
 
-    ghost invariant = { λ i. IsCode (code_view i)
-        × (i.instructions ≡ total_len (code_view i).units) };
+    ghost invariant = { λ i. Spells i.bytes.items i.places };
 }
 
 impl Code for Image {
     ghost code = { λ i. i };
 
+    fn version(&self) -> Version {
+        self.places.version
+    }
+
     fn globals(&self) -> u16 {
-        self.globals
+        self.places.globals
     }
 
     fn names(&self) -> usize {
-        self.names.len()
+        self.places.names.len()
     }
 
     fn name(&self, index: usize) -> Option<(u16, &str)> {
-        match self.names.get(index) {
-            Some(name) => Some((name.0, name.1.as_str())),
-            None => None,
-        }
+        self.places.name(&self.bytes, index)
     }
 
     fn constants(&self) -> usize {
-        self.constants.len()
+        self.places.constants.len()
     }
 
     fn constant(&self, index: usize) -> Option<ConstantRef<'_>> {
-        match self.constants.get(index) {
-            Some(constant) => Some(constant.lent()),
-            None => None,
-        }
+        self.places.constant(&self.bytes, index)
+    }
+
+    fn integer(&self, index: usize) -> Option<i64> {
+        self.places.integer(&self.bytes, index)
     }
 
     fn units(&self) -> usize {
-        self.units.len()
+        self.places.units.len()
     }
 
     fn unit(&self, unit: usize) -> Option<UnitHeader> {
-        match self.units.get(unit) {
-            Some(section) => Some(UnitHeader {
-                parameters: section.parameters,
-                kind: section.kind,
-                locals: section.locals,
-                instructions: section.code.len(),
-            }),
-            None => None,
-        }
+        self.places.unit(&self.bytes, unit)
     }
 
     fn instruction(&self, unit: usize, point: usize) -> Option<Instruction> {
-        match self.units.get(unit) {
-            Some(section) => section.code.get(point).copied(),
-            None => None,
-        }
+        self.places.instruction(&self.bytes, unit, point)
+    }
+
+    fn stretch(&self, unit: usize) -> Option<Stretch<'_>> {
+        self.places.stretch(&self.bytes, unit)
     }
 
     fn instructions(&self) -> usize {
-        self.instructions as usize
+        self.places.instructions as usize
+    }
+
+    fn templates(&self) -> usize {
+        self.places.templates.len()
+    }
+
+    fn template(&self, index: usize) -> Option<&str> {
+        self.places.template(&self.bytes, index)
+    }
+
+    fn place(&self, unit: usize, point: usize) -> Option<PlaceRef<'_>> {
+        self.places.place(&self.bytes, unit, point)
+    }
+
+    fn bytes(&self) -> &[u8] {
+        &self.bytes
+    }
+
+    fn constant_place(&self, index: usize) -> Option<usize> {
+        self.places.constant_place(&self.bytes, index)
+    }
+
+    fn unit_place(&self, unit: usize) -> Option<usize> {
+        self.places.unit_start(&self.bytes, unit)
     }
 }
 
 // The readers of the trait, which need no import of it.
 impl Image {
+    /// The version of its bytes.
+    pub fn version(&self) -> Version
+        ensures { result ≡ self.now.version }
+    {
+        Code::version(self)
+    }
+
     /// How many globals there are.
     pub fn globals(&self) -> u16
         ensures { result ≡ self.now.globals }
@@ -191,5 +190,33 @@ impl Image {
         ensures { result ≡ total_len self.now.units }
     {
         Code::instructions(self)
+    }
+
+    /// How many templates there are.
+    pub fn templates(&self) -> usize
+        ensures { result ≡ length self.now.templates }
+    {
+        Code::templates(self)
+    }
+
+    /// The name of a template.
+    pub fn template(&self, index: usize) -> Option<&str>
+        ensures { option_map (λ t. t.now) result ≡ slice_get self.now.templates index }
+    {
+        Code::template(self, index)
+    }
+
+    /// The place of an instruction of a unit. There are none in version 1.
+    pub fn place(&self, unit: usize, point: usize) -> Option<PlaceRef<'_>>
+        ensures { option_map place_ref_view result ≡ place_there self.now unit point }
+    {
+        Code::place(self, unit, point)
+    }
+
+    /// The bytes of the image.
+    pub fn bytes(&self) -> &[u8]
+        ensures { result.now ≡ spelling self.now }
+    {
+        Code::bytes(self)
     }
 }

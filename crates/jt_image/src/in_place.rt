@@ -1,93 +1,121 @@
 //! A view: a code that is read in place, which contracts see as that code.
 ghost use Rattle.std.specs.Prelude.{◌≡◌, length, option_map, slice_get};
 ghost use Rattle.jt_image.specs.IsCode.{IsCode, total_len};
-ghost use Rattle.jt_image.specs.Readers.{constant_ref_view, header_of, instruction_at};
+ghost use Rattle.jt_image.specs.Readers.{constant_ref_view, header_of, instruction_at, place_ref_view, place_there, ConstantPlace, UnitStart};
+ghost use Rattle.jt_image.specs.Spelling.{spelling};
 
-use crate::code::{Code, ConstantRef, UnitHeader};
+use crate::code::{Code, ConstantRef, PlaceRef, UnitHeader};
 use crate::instruction::Instruction;
-use crate::places::{Place, instruction_in};
+use crate::places::Places;
+use crate::stretch::Stretch;
+use crate::version::Version;
 use std::marker::Model;
 
-/// A code in place: it borrows the bytes that spell it. Texts and instructions are read from them as they are asked for.
+/// A code in place: it borrows the bytes that spell it.
 #[derive(Drop)]
 pub struct View<'a> {
-    pub(crate) globals: u16,
-    pub(crate) names: Vec<(u16, &'a str)>,
-    pub(crate) constants: Vec<ConstantRef<'a>>,
-    pub(crate) units: Vec<Place<'a>>,
-    pub(crate) instructions: u32,
+    pub(crate) bytes: &'a [u8],
+    pub(crate) places: Places,
 }
 
 impl<'a> Model for View<'a> {
-    ghost use Rattle.std.specs.Prelude.{◌≡◌};
-    ghost use Rattle.std.specs.List.{AllByRecursion};
     ghost use Rattle.jt_image.specs.Code.{Code};
 
     ghost Value = { Code };
 
-    ghost use Rattle.jt_image.specs.InPlace.{IsPlace};
-    ghost use Rattle.jt_image.specs.Viewed.{viewed};
-    ghost use Rattle.jt_image.specs.IsCode.{IsCode, total_len};
+    ghost use Rattle.jt_image.specs.InPlace.{Spells};
+    ghost use Rattle.jt_image.specs.Held.{view_code};
 
-    ghost view = { viewed };
+    ghost view = { view_code };
 
-    ghost invariant = { λ v. IsCode (viewed v) × (v.instructions ≡ total_len (viewed v).units)
-        × AllByRecursion IsPlace v.units.items };
+    ghost invariant = { λ v. Spells v.bytes.now v.places };
 }
 
 impl<'a> Code for View<'a> {
     ghost code = { λ v. v };
 
+    fn version(&self) -> Version {
+        self.places.version
+    }
+
     fn globals(&self) -> u16 {
-        self.globals
+        self.places.globals
     }
 
     fn names(&self) -> usize {
-        self.names.len()
+        self.places.names.len()
     }
 
     fn name(&self, index: usize) -> Option<(u16, &str)> {
-        self.names.get(index).copied()
+        self.places.name(self.bytes, index)
     }
 
     fn constants(&self) -> usize {
-        self.constants.len()
+        self.places.constants.len()
     }
 
     fn constant(&self, index: usize) -> Option<ConstantRef<'_>> {
-        self.constants.get(index).copied()
+        self.places.constant(self.bytes, index)
+    }
+
+    fn integer(&self, index: usize) -> Option<i64> {
+        self.places.integer(self.bytes, index)
     }
 
     fn units(&self) -> usize {
-        self.units.len()
+        self.places.units.len()
     }
 
     fn unit(&self, unit: usize) -> Option<UnitHeader> {
-        match self.units.get(unit) {
-            Some(place) => Some(UnitHeader {
-                parameters: place.parameters,
-                kind: place.kind,
-                locals: place.locals,
-                instructions: place.len as usize,
-            }),
-            None => None,
-        }
+        self.places.unit(self.bytes, unit)
     }
 
     fn instruction(&self, unit: usize, point: usize) -> Option<Instruction> {
-        match self.units.get(unit) {
-            Some(place) => instruction_in(place.len, place.code, point),
-            None => None,
-        }
+        self.places.instruction(self.bytes, unit, point)
+    }
+
+    fn stretch(&self, unit: usize) -> Option<Stretch<'_>> {
+        self.places.stretch(self.bytes, unit)
     }
 
     fn instructions(&self) -> usize {
-        self.instructions as usize
+        self.places.instructions as usize
+    }
+
+    fn templates(&self) -> usize {
+        self.places.templates.len()
+    }
+
+    fn template(&self, index: usize) -> Option<&str> {
+        self.places.template(self.bytes, index)
+    }
+
+    fn place(&self, unit: usize, point: usize) -> Option<PlaceRef<'_>> {
+        self.places.place(self.bytes, unit, point)
+    }
+
+    fn bytes(&self) -> &[u8] {
+        self.bytes
+    }
+
+    fn constant_place(&self, index: usize) -> Option<usize> {
+        self.places.constant_place(self.bytes, index)
+    }
+
+    fn unit_place(&self, unit: usize) -> Option<usize> {
+        self.places.unit_start(self.bytes, unit)
     }
 }
 
 // The readers of the trait, which need no import of it.
 impl<'a> View<'a> {
+    /// The version of its bytes.
+    pub fn version(&self) -> Version
+        ensures { result ≡ self.now.version }
+    {
+        Code::version(self)
+    }
+
     /// How many globals there are.
     pub fn globals(&self) -> u16
         ensures { result ≡ self.now.globals }
@@ -151,5 +179,33 @@ impl<'a> View<'a> {
         ensures { result ≡ total_len self.now.units }
     {
         Code::instructions(self)
+    }
+
+    /// How many templates there are.
+    pub fn templates(&self) -> usize
+        ensures { result ≡ length self.now.templates }
+    {
+        Code::templates(self)
+    }
+
+    /// The name of a template.
+    pub fn template(&self, index: usize) -> Option<&str>
+        ensures { option_map (λ t. t.now) result ≡ slice_get self.now.templates index }
+    {
+        Code::template(self, index)
+    }
+
+    /// The place of an instruction of a unit. There are none in version 1.
+    pub fn place(&self, unit: usize, point: usize) -> Option<PlaceRef<'_>>
+        ensures { option_map place_ref_view result ≡ place_there self.now unit point }
+    {
+        Code::place(self, unit, point)
+    }
+
+    /// The bytes of the image.
+    pub fn bytes(&self) -> &[u8]
+        ensures { result.now ≡ spelling self.now }
+    {
+        Code::bytes(self)
     }
 }

@@ -2,8 +2,8 @@
 #![tactic(auto)]
 
 mod assembling;
+mod back;
 mod code;
-mod copying;
 mod decoding;
 mod encoding;
 mod error;
@@ -17,13 +17,19 @@ mod limits;
 mod loop_field;
 mod parts;
 mod places;
+mod reading;
+mod sections;
+mod spelling;
+mod stretch;
 mod tables;
 mod units;
+mod upgrading;
+mod version;
 mod viewing;
 mod wire;
 
 pub use assembling::assemble;
-pub use code::{Code, ConstantRef, UnitHeader};
+pub use code::{Code, ConstantRef, PlaceRef, UnitHeader};
 pub use decoding::decode;
 pub use encoding::encode;
 pub use error::ImageError;
@@ -32,8 +38,11 @@ pub use in_place::View;
 pub use instruction::Instruction;
 pub use kind::{Flaw, Kind};
 pub use laws::code_laws;
-pub use limits::{MAX_BYTES, MAX_COUNT, MAX_ENTRIES, MAX_INSTRUCTIONS, MAX_LOCALS};
+pub use limits::{MAX_BYTES, MAX_COUNT, MAX_ENTRIES, MAX_INSTRUCTIONS, MAX_LINE, MAX_LOCALS};
 pub use loop_field::LoopField;
-pub use parts::{Parts, Unit};
+pub use parts::{Parts, Spot, Unit};
+pub use stretch::Stretch;
+pub use upgrading::upgrade;
+pub use version::Version;
 pub use viewing::view;
 pub use wire::Instr;

@@ -14,3 +14,6 @@ pub const MAX_INSTRUCTIONS: u32 = 262_144;
 
 /// The greatest number of entries that a unit of a typed image has at once.
 pub const MAX_ENTRIES: usize = 1_024;
+
+/// The greatest line of a place.
+pub const MAX_LINE: u32 = 1_048_577;

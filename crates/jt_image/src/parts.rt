@@ -1,6 +1,7 @@
 //! What an image is assembled from.
 
 use crate::image::Constant;
+use crate::version::Version;
 use crate::wire::Instr;
 
 /// A unit: its numbers, and its instructions by their fields.
@@ -16,9 +17,20 @@ pub struct Unit {
     pub code: Vec<Instr>,
 }
 
+/// What an instruction says of its place.
+#[derive(Clone, Copy, Debug, PartialEq, Eq)]
+pub struct Spot {
+    /// The number of the template, counted from 1; 0 where there is no place.
+    pub template: u16,
+    /// The line in it, from 1 to 1,048,577; 0 where there is no place.
+    pub line: u32,
+}
+
 /// The parts of an image.
 #[derive(Drop)]
 pub struct Parts {
+    /// The version. The first one has no templates and spots.
+    pub version: Version,
     /// How many globals there are.
     pub globals: u16,
     /// The globals that the context fills, each a slot and its name. No name is empty, they strictly
@@ -28,4 +40,8 @@ pub struct Parts {
     pub constants: Vec<Constant>,
     /// The units. A run starts the first one, which emits and has no parameters.
     pub units: Vec<Unit>,
+    /// The names of templates. None is empty, and they strictly ascend by their bytes.
+    pub templates: Vec<String>,
+    /// One for each instruction, in the order of the units.
+    pub spots: Vec<Spot>,
 }

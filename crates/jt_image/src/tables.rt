@@ -1,13 +1,16 @@
-//! Reading the tables of names and constants in place: their texts stay in the bytes.
-ghost use Rattle.std.specs.Prelude.{◌≡◌, ◌<◌, ◌==◌, ◌&&◌, not, nat_lt, List, length, IfOk, Ok, Some, None, [], true, Err};
+//! Reading the tables of names and constants: what stays of them are their places in the bytes.
+ghost use Rattle.std.specs.Prelude.{◌≡◌, ◌<◌, ◌≤◌, ◌==◌, ◌&&◌, not, nat_lt, List, length, IfOk, Ok, Some, None, [], true, Err};
 ghost use Rattle.std.specs.Int.{w16, w64, cast_signed};
-ghost use Rattle.jt_image.specs.InPlace.{lent_name, lent_names, lent_constants};
-ghost use Rattle.jt_image.specs.Readers.{constant_ref_view};
+ghost use Rattle.std.specs.List.{AllByRecursion};
+ghost use Rattle.jt_image.specs.IsCode.{max_bytes};
+ghost use Rattle.jt_image.specs.InPlace.{names_in, HasName, constants_in, HasConstant, AreLast};
+ghost use Rattle.jt_image.specs.Readers.{constant_ref_view, name_ref_view};
 ghost use Rattle.jt_image.specs.Reading.{Gives, IsTable, is_used, may_follow, slot_at, name_text_at, name_at, names_at, all_names_at, constant_of, constant_at, constants_at, all_constants_at};
 
 use crate::code::ConstantRef;
 use crate::error::ImageError;
 use crate::fields::{long_text_at, text_at, u8_at, u16_at, u64_at};
+use crate::places::name_in;
 use std::alloc::Global;
 
 /// A slot that is below the globals and has no name yet.
@@ -15,15 +18,16 @@ use std::alloc::Global;
 fn slot_at<'a>(
     globals: u16,
     used: &[bool],
-    before: &[(u16, &str)],
-    bytes: &'a [u8],
+    bytes: &[u8],
+    before: &[u32],
+    rest: &'a [u8],
 ) -> Result<(u16, &'a [u8]), ImageError>
-    requires { IsTable used.now globals (lent_names before.now) }
+    requires { IsTable used.now globals (names_in bytes.now before.now) }
     ensures gives { Gives (λ x. (x.0, x.1.now)) result
-        (slot_at globals (lent_names before.now) bytes.now) }
+        (slot_at globals (names_in bytes.now before.now) rest.now) }
     ensures below { IfOk result (λ x. x.0 < globals) }
 {
-    let (slot, rest) = u16_at(bytes)?;
+    let (slot, rest) = u16_at(rest)?;
     if slot >= globals {
         return Err(ImageError::BadTable);
     }
@@ -33,26 +37,29 @@ fn slot_at<'a>(
     Ok((slot, rest))
 }
 
-fn may_follow(names: &[(u16, &str)], text: &str) -> bool
-    ensures { result ≡ may_follow (lent_names names.now) text.now }
+fn may_follow(bytes: &[u8], names: &[u32], text: &str) -> bool
+    requires { AllByRecursion (HasName bytes.now) names.now }
+    ensures { result ≡ may_follow (names_in bytes.now names.now) text.now }
 {
     match names {
         [] => !text.is_empty(),
-        [.., last] => last.1 < text,
+        [.., last] => name_in(bytes, *last).1 < text,
     }
 }
 
 #[tactic(auto, unfolding(crate::specs::Reading::name_text_at))]
 fn name_text_at<'a>(
-    before: &[(u16, &str)],
-    bytes: &'a [u8],
+    bytes: &[u8],
+    before: &[u32],
+    rest: &'a [u8],
 ) -> Result<(&'a str, &'a [u8]), ImageError>
+    requires { AllByRecursion (HasName bytes.now) before.now }
     ensures { Gives (λ x. (x.0.now, x.1.now)) result
-        (name_text_at (lent_names before.now) bytes.now) }
+        (name_text_at (names_in bytes.now before.now) rest.now) }
 {
-    let (len, rest) = u16_at(bytes)?;
+    let (len, rest) = u16_at(rest)?;
     let (text, rest) = text_at(len as usize, rest)?;
-    if !may_follow(before, text) {
+    if !may_follow(bytes, before, text) {
         return Err(ImageError::BadTable);
     }
     Ok((text, rest))
@@ -62,16 +69,18 @@ fn name_text_at<'a>(
 fn name_at<'a>(
     globals: u16,
     used: &[bool],
-    before: &[(u16, &str)],
-    bytes: &'a [u8],
+    bytes: &[u8],
+    before: &[u32],
+    rest: &'a [u8],
 ) -> Result<((u16, &'a str), &'a [u8]), ImageError>
-    requires { IsTable used.now globals (lent_names before.now) }
-    ensures gives { Gives (λ x. (lent_name x.0, x.1.now)) result
-        (name_at globals (lent_names before.now) bytes.now) }
+    requires table { IsTable used.now globals (names_in bytes.now before.now) }
+    requires there { AllByRecursion (HasName bytes.now) before.now }
+    ensures gives { Gives (λ x. (name_ref_view x.0, x.1.now)) result
+        (name_at globals (names_in bytes.now before.now) rest.now) }
     ensures below { IfOk result (λ x. x.0.0 < globals) }
 {
-    let (slot, rest) = slot_at(globals, used, before, bytes)?;
-    let (text, rest) = name_text_at(before, rest)?;
+    let (slot, rest) = slot_at(globals, used, bytes, before, rest)?;
+    let (text, rest) = name_text_at(bytes, before, rest)?;
     Ok(((slot, text), rest))
 }
 
@@ -79,18 +88,23 @@ fn names_at<'a>(
     alloc: Global,
     globals: u16,
     count: u16,
-    bytes: &'a [u8],
-) -> Result<(Vec<(u16, &'a str)>, &'a [u8]), ImageError>
-    ensures { Gives (λ x. (lent_names x.0.items, x.1.now)) result
-        (names_at globals count bytes.now) }
+    bytes: &[u8],
+    front: &'a [u8],
+) -> Result<(Vec<u32>, &'a [u8]), ImageError>
+    requires small { length bytes.now ≤ max_bytes }
+    requires last { AreLast bytes.now front.now }
+    ensures gives { Gives (λ x. (names_in bytes.now x.0.items, x.1.now)) result
+        (names_at globals count front.now) }
+    ensures there { IfOk result (λ x. AllByRecursion (HasName bytes.now) x.0.items) }
+    ensures last { IfOk result (λ x. AreLast bytes.now x.1.now) }
 {
-    let mut names: Vec<(u16, &'a str)> = Vec::new(alloc);
+    let mut names: Vec<u32> = Vec::new(alloc);
     let mut used = vec![in alloc; false; usize::from(globals)]?;
-    let mut rest = bytes;
+    let mut rest = front;
     'names: for _ in 0..count {
-        let (name, after) = name_at(globals, &used, &names, rest)?;
+        let (name, after) = name_at(globals, &used, bytes, &names, rest)?;
         used[usize::from(name.0)] = true;
-        names.push(name)?;
+        names.push((bytes.len() - rest.len()) as u32)?;
         rest = after;
     }
     Ok((names, rest))
@@ -101,12 +115,18 @@ fn names_at<'a>(
 pub(crate) fn all_names_at<'a>(
     alloc: Global,
     globals: u16,
-    bytes: &'a [u8],
-) -> Result<(Vec<(u16, &'a str)>, &'a [u8]), ImageError>
-    ensures { Gives (λ x. (lent_names x.0.items, x.1.now)) result (all_names_at globals bytes.now) }
+    bytes: &[u8],
+    front: &'a [u8],
+) -> Result<(Vec<u32>, &'a [u8]), ImageError>
+    requires small { length bytes.now ≤ max_bytes }
+    requires last { AreLast bytes.now front.now }
+    ensures gives { Gives (λ x. (names_in bytes.now x.0.items, x.1.now)) result
+        (all_names_at globals front.now) }
+    ensures there { IfOk result (λ x. AllByRecursion (HasName bytes.now) x.0.items) }
+    ensures last { IfOk result (λ x. AreLast bytes.now x.1.now) }
 {
-    let (count, rest) = u16_at(bytes)?;
-    names_at(alloc, globals, count, rest)
+    let (count, rest) = u16_at(front)?;
+    names_at(alloc, globals, count, bytes, rest)
 }
 
 #[tactic(auto, unfolding(crate::specs::Reading::constant_of))]
@@ -145,16 +165,21 @@ fn constant_at(bytes: &[u8]) -> Result<(ConstantRef<'_>, &[u8]), ImageError>
 fn constants_at<'a>(
     alloc: Global,
     count: u16,
-    bytes: &'a [u8],
-) -> Result<(Vec<ConstantRef<'a>>, &'a [u8]), ImageError>
-    ensures { Gives (λ x. (lent_constants x.0.items, x.1.now)) result
-        (constants_at count bytes.now) }
+    bytes: &[u8],
+    front: &'a [u8],
+) -> Result<(Vec<u32>, &'a [u8]), ImageError>
+    requires small { length bytes.now ≤ max_bytes }
+    requires last { AreLast bytes.now front.now }
+    ensures gives { Gives (λ x. (constants_in bytes.now x.0.items, x.1.now)) result
+        (constants_at count front.now) }
+    ensures there { IfOk result (λ x. AllByRecursion (HasConstant bytes.now) x.0.items) }
+    ensures last { IfOk result (λ x. AreLast bytes.now x.1.now) }
 {
-    let mut constants: Vec<ConstantRef<'a>> = Vec::new(alloc);
-    let mut rest = bytes;
+    let mut constants: Vec<u32> = Vec::new(alloc);
+    let mut rest = front;
     'constants: for _ in 0..count {
-        let (constant, after) = constant_at(rest)?;
-        constants.push(constant)?;
+        let (_, after) = constant_at(rest)?;
+        constants.push((bytes.len() - rest.len()) as u32)?;
         rest = after;
     }
     Ok((constants, rest))
@@ -164,10 +189,16 @@ fn constants_at<'a>(
 #[tactic(auto, unfolding(crate::specs::Reading::all_constants_at))]
 pub(crate) fn all_constants_at<'a>(
     alloc: Global,
-    bytes: &'a [u8],
-) -> Result<(Vec<ConstantRef<'a>>, &'a [u8]), ImageError>
-    ensures { Gives (λ x. (lent_constants x.0.items, x.1.now)) result (all_constants_at bytes.now) }
+    bytes: &[u8],
+    front: &'a [u8],
+) -> Result<(Vec<u32>, &'a [u8]), ImageError>
+    requires small { length bytes.now ≤ max_bytes }
+    requires last { AreLast bytes.now front.now }
+    ensures gives { Gives (λ x. (constants_in bytes.now x.0.items, x.1.now)) result
+        (all_constants_at front.now) }
+    ensures there { IfOk result (λ x. AllByRecursion (HasConstant bytes.now) x.0.items) }
+    ensures last { IfOk result (λ x. AreLast bytes.now x.1.now) }
 {
-    let (count, rest) = u16_at(bytes)?;
-    constants_at(alloc, count, rest)
+    let (count, rest) = u16_at(front)?;
+    constants_at(alloc, count, bytes, rest)
 }

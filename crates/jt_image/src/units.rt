@@ -108,6 +108,8 @@ pub(crate) fn headers_at(
     ensures gives { Gives (λ x. (headers_view x.0.items.items, x.1.now)) result
         (headers_at count bytes.now) }
     ensures total { IfOk result (λ x. x.0.total ≡ header_total (headers_view x.0.items.items)) }
+    ensures within { IfOk result
+        (λ x. header_total (headers_view x.0.items.items) ≤ max_instructions) }
 {
     let mut headers: Vec<Header> = Vec::new(alloc);
     let mut rest = bytes;

@@ -11,3 +11,5 @@ mod rows;
 mod shapes;
 #[cfg(test)]
 mod slices;
+#[cfg(test)]
+mod versions;

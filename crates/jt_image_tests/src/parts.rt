@@ -77,10 +77,13 @@ fn parts_of(alloc: Global, asked: &str) -> Result<Parts, Fail> {
     let (first, rest) = asked.split_once(" ").ok_or("a row has no name")?;
     let (second, unit) = rest.split_once(" ").ok_or("a row has one name")?;
     Ok(Parts {
+        version: Version::One,
         globals: 2,
         names: vec![in alloc; entry(alloc, first)?, entry(alloc, second)?]?,
         constants: Vec::new(alloc),
         units: vec![in alloc; unit_of(alloc, unit)?]?,
+        templates: Vec::new(alloc),
+        spots: Vec::new(alloc),
     })
 }
 

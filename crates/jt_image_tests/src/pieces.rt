@@ -86,10 +86,10 @@ fn what_is_emitted_is_written(rt: HostRuntime) -> Result<(), Fail> {
         &rt,
         written,
         r"9 99 9 2 28 0 => Ok(Whole) false [Hello]
-        9 99 9 0 1 3 18 0 23 0 6 0 28 0 => Ok(Fault(NotIterable)) false [a]
+        9 99 9 0 1 3 18 0 23 0 6 0 28 0 => Ok(Fault(NotIterable, None)) false [a]
         9 1 9 0 9 0 28 0 => Ok(Spent(Fuel)) false [a]
         9 99 24 0 9 1 25 0 6 0 9 0 28 0 => Ok(Whole) false [a]
-        9 99 9 0 24 0 9 1 1 3 18 0 23 0 6 0 25 0 6 0 28 0 => Ok(Fault(NotIterable)) false [a]
+        9 99 9 0 24 0 9 1 1 3 18 0 23 0 6 0 25 0 6 0 28 0 => Ok(Fault(NotIterable, None)) false [a]
         9 2 24 0 9 1 25 0 6 0 28 0 => Ok(Spent(Fuel)) false []
         2 99 9 2 28 0 => Err(Write) true [He]
         0 99 24 0 9 1 25 0 6 0 28 0 => Ok(Whole) false []",

@@ -9,7 +9,7 @@ use Rattle.clap.specs.Takes.{is_given}
 use Rattle.std.specs.List.{list_any}
 use Rattle.clap.specs.Walk.{Names, answers_to, finished, nothing_held, settled, stop_after, walk, walk_from, Held}
 use Rattle.clap.proofs.OnLiterals.{clap_on_literals}
-use Rattle.jt_line.specs.Line.{program_app, compile_app, check_app, run_app, render_app, turns_app, IsClear, IsKnown}
+use Rattle.jt_line.specs.Line.{program_app, compile_app, check_app, run_app, render_app, turns_app, upgrade_app, IsClear, IsKnown}
 use Rattle.jt_line.proofs.Passed.{neither}
 
 -- a command is wanted, so there is one where nothing is wrong
@@ -59,7 +59,7 @@ abbrev built_sub : App → Shape
 built_sub a = built_leaf (inherited (with_leaf_noted (marked_built program_app.top)) a.top)
 
 abbrev shapes : List Shape
-shapes = built_sub compile_app ∷ built_sub check_app ∷ built_sub run_app ∷ built_sub render_app ∷ built_sub turns_app ∷ []
+shapes = built_sub compile_app ∷ built_sub check_app ∷ built_sub run_app ∷ built_sub render_app ∷ built_sub turns_app ∷ built_sub upgrade_app ∷ []
 
 all_built : (built program_app).subs ≡ shapes
 unfolding clap_on_literals
@@ -81,18 +81,19 @@ wants_command : (built program_app).top.subcommand_required ≡ true
 unfolding clap_on_literals
 wants_command = refl
 
--- one of five
-of_five : (A B C D E : Type 0) → A ⊎ (B ⊎ (C ⊎ (D ⊎ (E ⊎ ⊥)))) → A ⊎ (B ⊎ (C ⊎ (D ⊎ E)))
-of_five A B C D E (inl a) = inl a
-of_five A B C D E (inr (inl b)) = inr (inl b)
-of_five A B C D E (inr (inr (inl c))) = inr (inr (inl c))
-of_five A B C D E (inr (inr (inr (inl d)))) = inr (inr (inr (inl d)))
-of_five A B C D E (inr (inr (inr (inr (inl e))))) = inr (inr (inr (inr e)))
-of_five A B C D E (inr (inr (inr (inr (inr none))))) = absurd none
+-- one of six
+of_six : (A B C D E F : Type 0) → A ⊎ (B ⊎ (C ⊎ (D ⊎ (E ⊎ (F ⊎ ⊥))))) → A ⊎ (B ⊎ (C ⊎ (D ⊎ (E ⊎ F))))
+of_six A B C D E F (inl a) = inl a
+of_six A B C D E F (inr (inl b)) = inr (inl b)
+of_six A B C D E F (inr (inr (inl c))) = inr (inr (inl c))
+of_six A B C D E F (inr (inr (inr (inl d)))) = inr (inr (inr (inl d)))
+of_six A B C D E F (inr (inr (inr (inr (inl e))))) = inr (inr (inr (inr (inl e))))
+of_six A B C D E F (inr (inr (inr (inr (inr (inl f)))))) = inr (inr (inr (inr (inr f))))
+of_six A B C D E F (inr (inr (inr (inr (inr (inr none)))))) = absurd none
 
 pub named : (words : List Text) → IsClear words → IsKnown (option_map (λ p. p.0) (subcommand_of program_app words))
 named words e =
     let a : App = built program_app in
     let line : List Text = argument_words program_app words in
     let stop : Option (Text × List Text) = stop_after a.top.rules (names_of a) line in
-    of_five _ _ _ _ _ (met a shapes stop all_built (level_clear a.top (names_of a) nothing_held line (is_some (entered a stop)) (entered_fault a stop) wants_command e))
+    of_six _ _ _ _ _ _ (met a shapes stop all_built (level_clear a.top (names_of a) nothing_held line (is_some (entered a stop)) (entered_fault a stop) wants_command e))

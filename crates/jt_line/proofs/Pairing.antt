@@ -41,6 +41,7 @@ paired name rows (command.Compile dir template out) o b n h = of_other rows name
 paired name rows (command.Check image) o b n h = of_other rows name (codes "check") h.0 (apart (codes "check") (λ e. omega (arith, e)))
 paired name rows (command.Run image context) o b n h = of_other rows name (codes "run") h.0 (apart (codes "run") (λ e. omega (arith, e)))
 paired name rows (command.Render dir template context) o b n h = of_other rows name (codes "render") h.0 (apart (codes "render") (λ e. omega (arith, e)))
+paired name rows (command.Upgrade image out) o b n h = of_other rows name (codes "upgrade") h.0 (apart (codes "upgrade") (λ e. omega (arith, e)))
 paired name rows (command.Turns sessions) o b n h = λ turns. come sessions.items (pair_words rows) h.1 h.2
 
 -- the words of a job that is asked for come in pairs
@@ -90,15 +91,16 @@ come_of words all e paired =
     let same : length words ≡ length all = sym (length-map words (λ (s : Bor Text). s.now)) ∙ ap length e in
     (subst (λ (n : ℕ). 0 < n) (sym same) paired.0, ap (λ n. n % 2) same ∙ paired.1)
 
--- a known name is one of five
+-- a known name is one of six
 pub no_other : (o : Option Text) (name : Text) → o ≡ Some name → IsKnown o → name ≢ codes "compile" → name ≢ codes "check"
-    → name ≢ codes "run" → name ≢ codes "render" → name ≢ codes "turns" → ⊥
-no_other o name same known a b d e f = elim known [
+    → name ≢ codes "run" → name ≢ codes "render" → name ≢ codes "turns" → name ≢ codes "upgrade" → ⊥
+no_other o name same known a b d e f g = elim known [
   | inl x ↦ let is : name ≡ codes "compile" = cc in a is
   | inr (inl x) ↦ let is : name ≡ codes "check" = cc in b is
   | inr (inr (inl x)) ↦ let is : name ≡ codes "run" = cc in d is
   | inr (inr (inr (inl x))) ↦ let is : name ≡ codes "render" = cc in e is
-  | inr (inr (inr (inr x))) ↦ let is : name ≡ codes "turns" = cc in f is
+  | inr (inr (inr (inr (inl x)))) ↦ let is : name ≡ codes "turns" = cc in f is
+  | inr (inr (inr (inr (inr x)))) ↦ let is : name ≡ codes "upgrade" = cc in g is
 ]
 
 pub no_name : (o : Option Text) → o ≡ None → IsKnown o → ⊥
@@ -107,5 +109,6 @@ no_name o none known = elim known [
   | inr (inl x) ↦ absurd (cc)
   | inr (inr (inl x)) ↦ absurd (cc)
   | inr (inr (inr (inl x))) ↦ absurd (cc)
-  | inr (inr (inr (inr x))) ↦ absurd (cc)
+  | inr (inr (inr (inr (inl x)))) ↦ absurd (cc)
+  | inr (inr (inr (inr (inr x)))) ↦ absurd (cc)
 ]

@@ -83,16 +83,20 @@ abbrev pub turns_app : App
 turns_app = with_budget (with_rule (with_rule (new_app (codes "turns")) pairs_rule)
     (option_rule (codes "slice") (parser.Signed (pos 1) (pos max_slice))))
 
+-- `upgrade IN OUT`
+abbrev pub upgrade_app : App
+upgrade_app = with_rule (with_rule (new_app (codes "upgrade")) (word_rule (codes "IN"))) (word_rule (codes "OUT"))
+
 -- the program: a command, and then the words and options of that command
 abbrev pub program_app : App
 program_app = let a = new_app (codes "jt") in
-    with_subcommand (with_subcommand (with_subcommand (with_subcommand (with_subcommand (record a {
+    with_subcommand (with_subcommand (with_subcommand (with_subcommand (with_subcommand (with_subcommand (record a {
       top = record a.top {
         no_binary_name = true;
         disable_help_subcommand = true;
         subcommand_required = true;
       };
-    }) compile_app.top) check_app.top) run_app.top) render_app.top) turns_app.top
+    }) compile_app.top) check_app.top) run_app.top) render_app.top) turns_app.top) upgrade_app.top
 
 -- nothing is wrong with the line
 abbrev pub IsClear : List Text → Type 0
@@ -205,6 +209,10 @@ IsCommand name rows (command.Render dir template context) o b n = (name ≡ code
 IsCommand name rows (command.Turns sessions) o b n = (name ≡ codes "turns")
     × (words_of_pairs sessions.items ≡ pair_words rows) × (sessions.items ≢ [])
     × (o ≡ usual_options) × IsBudget rows b × IsSlice rows n
+IsCommand name rows (command.Upgrade image out) o b n = (name ≡ codes "upgrade")
+    × (string_bytes image ≡ word_of (codes "IN") rows)
+    × (string_bytes out ≡ word_of (codes "OUT") rows)
+    × (o ≡ usual_options) × (b ≡ usual_budget) × (n ≡ usual_slice)
 
 -- the job that the command of a line asks for, by its name and what was found
 abbrev pub IsAsked : Option (Text × List Row) → Job → Type 0
@@ -215,7 +223,7 @@ IsAsked (Some c) j = IsCommand c.0 c.1 j.command j.options j.budget j.slice
 abbrev pub IsKnown : Option Text → Type 0
 IsKnown name = (name ≡ Some (codes "compile")) ⊎ ((name ≡ Some (codes "check"))
     ⊎ ((name ≡ Some (codes "run")) ⊎ ((name ≡ Some (codes "render"))
-    ⊎ (name ≡ Some (codes "turns")))))
+    ⊎ ((name ≡ Some (codes "turns")) ⊎ (name ≡ Some (codes "upgrade"))))))
 
 -- the line names this command
 abbrev pub Asks : Text → List Text → Type 0

@@ -62,6 +62,12 @@ const OUT: Argument = Argument {
     help: "The file for the image",
 };
 
+const IN: Argument = Argument {
+    name: "IN",
+    kind: Kind::Word,
+    help: "The image's file",
+};
+
 const IMAGE: Argument = Argument {
     name: "IMAGE",
     kind: Kind::Word,
@@ -140,7 +146,7 @@ const SLICE: Argument = Argument {
     help: "How many instructions a turn has, 1 to 1000000 [default: 100]",
 };
 
-const COMMANDS: [Form; 5] = [
+const COMMANDS: [Form; 6] = [
     Form {
         name: "compile",
         about: "Compiles a template into an image",
@@ -186,6 +192,11 @@ const COMMANDS: [Form; 5] = [
         name: "turns",
         about: "Runs images, each for its context, in turns",
         arguments: &[PAIRS, SLICE, FUEL, DEPTH, OUTPUT, SIZE, NESTING],
+    },
+    Form {
+        name: "upgrade",
+        about: "Writes an image in version 2, whose faults may have places",
+        arguments: &[IN, OUT],
     },
 ];
 

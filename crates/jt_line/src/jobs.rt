@@ -32,6 +32,11 @@ pub enum Command {
     Turns {
         sessions: Vec<Pair>,
     },
+    /// Write the image at a path in version 2 to another path.
+    Upgrade {
+        image: String,
+        out: String,
+    },
 }
 
 /// The files of an image and of a context.

@@ -49,6 +49,7 @@ fn asked(alloc: Global, matches: &ArgMatches<'_>) -> Result<Job, JobError>
         Some(("run", found)) => run_job(alloc, found),
         Some(("render", found)) => render_job(alloc, found),
         Some(("turns", found)) => turns_job(alloc, found),
+        Some(("upgrade", found)) => upgrade_job(alloc, found),
         _ => unreachable!(),
     }
 }
@@ -110,6 +111,20 @@ fn render_job(alloc: Global, found: &ArgMatches<'_>) -> Result<Job, JobError>
         command: jobs::Command::Render { dir, name, context },
         options: options(found),
         budget: budget(found),
+        slice: SLICE,
+    })
+}
+
+fn upgrade_job(alloc: Global, found: &ArgMatches<'_>) -> Result<Job, JobError>
+    ensures ok { IfOk result (IsAsked (Some (codes "upgrade", rows_of (found_of found.now)))) }
+    ensures err { IfErr result (λ e. e ≡ JobError.NoMemory) }
+{
+    let image = String::from_str(alloc, word(found, "IN"))?;
+    let out = String::from_str(alloc, word(found, "OUT"))?;
+    Ok(Job {
+        command: jobs::Command::Upgrade { image, out },
+        options: USUAL,
+        budget: DEFAULT,
         slice: SLICE,
     })
 }

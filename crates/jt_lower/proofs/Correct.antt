@@ -16,23 +16,24 @@ use Rattle.jt_image.specs.Config.{State, Caller, Machine}
 use Rattle.jt_image.specs.Step.{constant_value, text_of, locals_of}
 use Rattle.jt_image.specs.Run.{filled, entry_locals, Run}
 use Rattle.jt_image.specs.Enough.{Enough}
-use Rattle.jt_image.specs.FreeRun as free
-use Rattle.jt_image.specs.FreeRun.{Free, exec, start_machine, ComesTo}
+use Rattle.jt_image.specs.FreeRun.{Free, Finished, Failed, Going, exec, start_machine, ComesTo}
 use Rattle.jt_image.specs.Laws.{HasRuns}
-use Rattle.jt_slots.specs.Got.{Place, Got, gives, fails, deeper, bind}
+use Rattle.jt_value.specs.Place.{Place}
+use Rattle.jt_slots.specs.Got.{Got, gives, fails, deeper, bind}
 use Rattle.jt_slots.specs.Values.{bytes_of}
 use Rattle.jt_slots.specs.Slots.{with_locals, Routine, Program, Memory, Written, SCalls, smeanings, sperformed, scalls, globals_of, smean}
 use Rattle.jt_trees.specs.Expressions.{Text}
 use Rattle.jt_slots.specs.TheFilters.{the_filters}
 use Rattle.jt_slots.specs.Loops.{tree_at}
 use Rattle.jt_lower.specs.Asm.{flat, places, Ran, of_written, run}
-use Rattle.jt_lower.specs.Placed.{Table, PlacedFree, Finished, Failed, Going, placed_exec, unplaced, routine_places, place_in, table_of}
-use Rattle.jt_lower.specs.Lower.{body_asm, unit_of, constant_of, numbered, compiled}
+use Rattle.jt_lower.specs.Lower.{body_asm, routine_places, unit_of, constant_of, numbered, compiled}
 use Rattle.jt_lower.specs.Fits.{IsPooled, ProgramFits}
+use Rattle.jt_lower.proofs.Placed.{Table, placed_exec, place_in, table_of}
 use Rattle.jt_lower.proofs.Does.{Does}
 use Rattle.jt_lower.proofs.Lowered.{at_memory, HasPool, Keeps, CallsKeep, SizedIn, body_does}
 use Rattle.jt_lower.proofs.Follows.{HasAt, has_front, has_back, machine, Comes, Reaches, PlacesAt, places_front, fetched, step, CallsRun, flat_runs}
-use Rattle.jt_lower.proofs.Over.{longer, one_free_end, unplaced_same}
+use Rattle.jt_lower.proofs.Over.{longer, one_free_end, told_same}
+use Rattle.jt_lower.proofs.Spots.{tells}
 use Rattle.jt_lower.proofs.Places.{HasPlace, CallsPlaced, bind_has, body_has}
 
 -- ---- the pool
@@ -122,7 +123,7 @@ Follows k table m n (gives t) = (j : ℕ) × (placed_exec k table j m ≡ Finish
 Follows k table m n (fails e q) = (j : ℕ) × (placed_exec k table j m ≡ Failed e q)
 Follows k table m n deeper = (j : ℕ) × (n ≤ j) × (placed_exec k table j m ≡ Going)
 
-abbrev as_free : Got Text → PlacedFree
+abbrev as_free : Got Text → Free
 as_free (gives t) = Finished t
 as_free (fails e q) = Failed e q
 as_free deeper = Going
@@ -296,59 +297,44 @@ module _ (p : Program) (fit : ProgramFits p) where
       less n c deeper h = (h.0, omega (arith, h.1), h.2)
 
   -- a run that ends after n instructions is what it means where calls go n deep
-  over_too : (x : Pairs) (n : ℕ) (o : PlacedFree) (g : Got Text) → o ≢ Going → placed_exec k table n (start_machine k x) ≡ o → Follows k table (start_machine k x) n g → o ≡ as_free g
+  over_too : (x : Pairs) (n : ℕ) (o : Free) (g : Got Text) → o ≢ Going → placed_exec k table n (start_machine k x) ≡ o → Follows k table (start_machine k x) n g → o ≡ as_free g
   over_too x n o (gives t) over e f = one_free_end k table n f.0 (start_machine k x) o (Finished t) over (λ w. cc) e f.1
   over_too x n o (fails d q) over e f = one_free_end k table n f.0 (start_machine k x) o (Failed d q) over (λ w. cc) e f.1
   over_too x n o deeper over e f =
       let same = longer k table n f.0 (start_machine k x) o over f.1 e in
       absurd (over (sym same ∙ f.2))
 
-  -- the same without places
-  over_free : (x : Pairs) (n : ℕ) (o : Free) → o ≢ free.Going → exec k n (start_machine k x) ≡ o → o ≡ unplaced (as_free (smean the_filters p x n))
-  over_free x n o over e =
-      let r = placed_exec k table n (start_machine k x) in
-      let same : unplaced r ≡ o = unplaced_same k table n (start_machine k x) ∙ e in
-      sym same ∙ ap unplaced (over_too x n r (smean the_filters p x n) (λ w. over (sym same ∙ ap unplaced w)) refl (follows x n))
+  -- the same of the code's own run
+  over_free : (x : Pairs) (n : ℕ) (o : Free) → o ≢ Going → exec k n (start_machine k x) ≡ o → o ≡ as_free (smean the_filters p x n)
+  over_free x n o over e = over_too x n o (smean the_filters p x n) over (told_same k table (tells p) n (start_machine k x) ∙ e) (follows x n)
 
-  text_meant : (t : Text) (g : Got Text) → free.Finished t ≡ unplaced (as_free g) → g ≡ gives t
+  text_meant : (t : Text) (g : Got Text) → Finished t ≡ as_free g → g ≡ gives t
   text_meant t (gives s) e = let same : s ≡ t = cc in ap gives same
   text_meant t (fails d q) e = absurd cc
   text_meant t deeper e = absurd cc
 
-  fault_meant : (f : Fault) (g : Got Text) → free.Failed f ≡ unplaced (as_free g) → (q : Option Place) × (g ≡ fails f q)
-  fault_meant f (gives s) e = absurd cc
-  fault_meant f (fails d q) e = let same : d ≡ f = cc in (q, ap (λ x. fails x q) same)
-  fault_meant f deeper e = absurd cc
+  fault_meant : (f : Fault) (q : Option Place) (g : Got Text) → Failed f q ≡ as_free g → g ≡ fails f q
+  fault_meant f q (gives s) e = absurd cc
+  fault_meant f q (fails d r) e = let same : d ≡ f = cc in let here : r ≡ q = cc in ap (λ x. fails x r) same ∙ ap (fails f) here
+  fault_meant f q deeper e = absurd cc
 
-  placed_meant : (f : Fault) (q : Option Place) (g : Got Text) → Failed f q ≡ as_free g → g ≡ fails f q
-  placed_meant f q (gives s) e = absurd cc
-  placed_meant f q (fails d r) e = let same : d ≡ f = cc in let here : r ≡ q = cc in ap (λ x. fails x r) same ∙ ap (fails f) here
-  placed_meant f q deeper e = absurd cc
-
-  -- a fault of the machine has the place that the meaning says, and the other way round
-  pub placed_means : (x : Pairs) (n : ℕ) (f : Fault) (q : Option Place) → placed_exec k table n (start_machine k x) ≡ Failed f q → smean the_filters p x n ≡ fails f q
-  placed_means x n f q e = placed_meant f q (smean the_filters p x n) (over_too x n (Failed f q) (smean the_filters p x n) (λ w. cc) e (follows x n))
-
-  pub means_placed : (x : Pairs) (n : ℕ) (f : Fault) (q : Option Place) → smean the_filters p x n ≡ fails f q → (j : ℕ) × (placed_exec k table j (start_machine k x) ≡ Failed f q)
-  means_placed x n f q e = subst (Follows k table (start_machine k x) n) e (follows x n)
-
-  comes : (x : Pairs) (n : ℕ) (o : PlacedFree) → (j : ℕ) × (placed_exec k table j (start_machine k x) ≡ o) → ComesTo k x (unplaced o)
-  comes x n o e = (e.0, sym (unplaced_same k table e.0 (start_machine k x)) ∙ ap unplaced e.1)
+  comes : (x : Pairs) (o : Free) → (j : ℕ) × (placed_exec k table j (start_machine k x) ≡ o) → ComesTo k x o
+  comes x o e = (e.0, sym (told_same k table (tells p) e.0 (start_machine k x)) ∙ e.1)
 
   module _ (runs : HasRuns k) where
     pub enough_text : (x : Pairs) (n : ℕ) (t : Text) → smean the_filters p x n ≡ gives t → Enough k x (config.text t)
-    enough_text x n t e = runs.enough_text x t (comes x n (Finished t) (subst (Follows k table (start_machine k x) n) e (follows x n)))
+    enough_text x n t e = runs.enough_text x t (comes x (Finished t) (subst (Follows k table (start_machine k x) n) e (follows x n)))
 
-    pub enough_fault : (x : Pairs) (n : ℕ) (f : Fault) (q : Option Place) → smean the_filters p x n ≡ fails f q → Enough k x (config.fault f)
-    enough_fault x n f q e = runs.enough_fault x f (comes x n (Failed f q) (means_placed x n f q e))
+    pub enough_fault : (x : Pairs) (n : ℕ) (f : Fault) (q : Option Place) → smean the_filters p x n ≡ fails f q → Enough k x (config.fault f q)
+    enough_fault x n f q e = runs.enough_fault x f q (comes x (Failed f q) (subst (Follows k table (start_machine k x) n) e (follows x n)))
 
     pub text_means : (x : Pairs) (b : config.Budget) (t : Text) → Run k x b (config.text t) → (n : ℕ) × (smean the_filters p x n ≡ gives t)
     text_means x b t r =
         let e = runs.text x b t r in
-        (e.0, text_meant t (smean the_filters p x e.0) (over_free x e.0 (free.Finished t) (λ w. cc) e.1))
+        (e.0, text_meant t (smean the_filters p x e.0) (over_free x e.0 (Finished t) (λ w. cc) e.1))
 
-    pub fault_means : (x : Pairs) (b : config.Budget) (f : Fault) → Run k x b (config.fault f) → (n : ℕ) × (q : Option Place) × (smean the_filters p x n ≡ fails f q)
-    fault_means x b f r =
-        let e = runs.fault x b f r in
-        let g = fault_meant f (smean the_filters p x e.0) (over_free x e.0 (free.Failed f) (λ w. cc) e.1) in
-        (e.0, g.0, g.1)
+    -- a fault of the machine has the place that the meaning says
+    pub fault_means : (x : Pairs) (b : config.Budget) (f : Fault) (q : Option Place) → Run k x b (config.fault f q) → (n : ℕ) × (smean the_filters p x n ≡ fails f q)
+    fault_means x b f q r =
+        let e = runs.fault x b f q r in
+        (e.0, fault_meant f q (smean the_filters p x e.0) (over_free x e.0 (Failed f q) (λ w. cc) e.1))

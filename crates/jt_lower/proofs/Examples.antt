@@ -10,7 +10,8 @@ use Rattle.jt_ids.specs.declared.op_id.OpId.TheVariants as o
 use Rattle.jt_image.specs.Ids.{operator_of, filter_of}
 use Rattle.jt_image.specs.Loops.{field_of}
 use Rattle.jt_image.specs.FreeRun.{Finished, Failed, exec, start_machine}
-use Rattle.jt_slots.specs.Got.{Place, gives, fails, deeper}
+use Rattle.jt_value.specs.Place.{Place}
+use Rattle.jt_slots.specs.Got.{gives, fails, deeper}
 use Rattle.jt_trees.specs.Expressions.{Text}
 use Rattle.jt_slots.specs.TheFilters.{the_filters}
 use Rattle.jt_slots.specs.Loops as loops
@@ -136,7 +137,7 @@ runs_none = refl
 meant_fault : smean the_filters program (context (two true (codes "p") ∷ tree.nothing ∷ [])) 4 ≡ fails faults.NotIterable (Some (tag 1))
 meant_fault = refl
 
-runs_fault : exec (compiled program) 200 (start_machine (compiled program) (context (two true (codes "p") ∷ tree.nothing ∷ []))) ≡ Failed faults.NotIterable
+runs_fault : exec (compiled program) 200 (start_machine (compiled program) (context (two true (codes "p") ∷ tree.nothing ∷ []))) ≡ Failed faults.NotIterable (Some (record { template = codes "page"; line = 1 }))
 unfolding field_of operator_of
 runs_fault = refl
 
@@ -167,6 +168,6 @@ meant_abs : smean the_filters (of_filter 0) with_x 1 ≡ fails faults.BadType (S
 unfolding filter_of the_filters
 meant_abs = refl
 
-runs_abs : exec (compiled (of_filter 0)) 20 (start_machine (compiled (of_filter 0)) with_x) ≡ Failed faults.BadType
+runs_abs : exec (compiled (of_filter 0)) 20 (start_machine (compiled (of_filter 0)) with_x) ≡ Failed faults.BadType (Some (record { template = codes "page"; line = 1 }))
 unfolding filter_of
 runs_abs = refl

@@ -9,10 +9,11 @@ use Rattle.jt_image.specs.Code.{Section, Code}
 use Rattle.jt_image.specs.Config.{Entry, value, frame, capture, State, Caller, Machine}
 use Rattle.jt_image.specs.Loops.{advanced}
 use Rattle.jt_image.specs.Step.{Plain, goes, faults_by, broken, plain, on_value, on_values, on_frame, with_entries, goes_on, wrong, straight, no_demand, calling, locals_of, entered, calls_unit, action, fetch}
-use Rattle.jt_slots.specs.Got.{Place}
+use Rattle.jt_value.specs.Place.{Place}
 use Rattle.jt_trees.specs.Expressions.{Text}
 use Rattle.jt_slots.specs.Slots.{SCalls}
-use Rattle.jt_lower.specs.Placed.{Table, PlacedFree, Failed, Going, on_placed, placed_at, placed_exec}
+use Rattle.jt_image.specs.FreeRun.{Free, Failed, Going, on_action}
+use Rattle.jt_lower.proofs.Placed.{Table, placed_at, placed_exec}
 use Rattle.jt_lower.specs.Asm.{Asm, nil, one, both, choose, when, each, invoke, flat, places, Ran, does, stops, too_deep, bad, and_then, of_plain, turns, turns_left, of_written, into_buffers, called, run}
 
 -- the instructions stand in the code at this point
@@ -53,7 +54,7 @@ eq_told : (a b : ℕ) → (a == b) ≡ true → a ≡ b
 eq_told a b h = grind (arith, nat_tests)
 
 module _ (k : Code) (table : Table) where
-  abbrev pub exec : ℕ → Machine → PlacedFree
+  abbrev pub exec : ℕ → Machine → Free
   exec n m = placed_exec k table n m
 
   -- the machine goes from one place to another, in one step or more
@@ -108,10 +109,10 @@ module _ (k : Code) (table : Table) where
   behind n c too_deep mid to g h = h
   behind n c bad mid to g h = tt
 
-  pub step : (t : Section) (u p : ℕ) (ks : List Caller) (m : State) (i : Instruction) → fetch k u p ≡ Some (t, i) → (n : ℕ) → exec (suc n) (machine u p ks m) ≡ on_placed (table u p) (action k t i (machine u p ks m)) (exec n)
+  pub step : (t : Section) (u p : ℕ) (ks : List Caller) (m : State) (i : Instruction) → fetch k u p ≡ Some (t, i) → (n : ℕ) → exec (suc n) (machine u p ks m) ≡ on_action (table u p) (action k t i (machine u p ks m)) (exec n)
   step t u p ks m i h n = ap (λ o. placed_at k table o (machine u p ks m) (exec n)) h
 
-  straight_run : (n : ℕ) (u p : ℕ) (ks : List Caller) (m : State) (q : Option Place) (s : Plain) → table u p ≡ q → ((j : ℕ) → exec (suc j) (machine u p ks m) ≡ on_placed (table u p) (straight s (machine u p ks m)) (exec j)) → Reaches n (machine u p ks m) (of_plain q s) (machine u (p + 1) ks)
+  straight_run : (n : ℕ) (u p : ℕ) (ks : List Caller) (m : State) (q : Option Place) (s : Plain) → table u p ≡ q → ((j : ℕ) → exec (suc j) (machine u p ks m) ≡ on_action (table u p) (straight s (machine u p ks m)) (exec j)) → Reaches n (machine u p ks m) (of_plain q s) (machine u (p + 1) ks)
   straight_run n u p ks m q (goes m' d) e st = record { by = λ j. (suc j, omega arith, st j) }
   straight_run n u p ks m q (faults_by f) e st = (1, st 0 ∙ ap (Failed f) e)
   straight_run n u p ks m q broken e st = tt
@@ -135,7 +136,7 @@ module _ (k : Code) (table : Table) where
   -- a value off the top decides where to go on
   choose_run : (n : ℕ) (t : Section) (u p : ℕ) (ks : List Caller) (m : State) (ca cb : List Instruction) (ra rb : State → Ran) (es : List Entry) →
       let q = p + 1 + length ca + 1 in
-      ((j : ℕ) → exec (suc j) (machine u p ks m) ≡ on_placed (table u p) (on_value es wrong (λ v fs. goes_on (machine u (if truth v then p + 1 else q) ks (with_entries m fs)) no_demand)) (exec j)) →
+      ((j : ℕ) → exec (suc j) (machine u p ks m) ≡ on_action (table u p) (on_value es wrong (λ v fs. goes_on (machine u (if truth v then p + 1 else q) ks (with_entries m fs)) no_demand)) (exec j)) →
       fetch k u (p + 1 + length ca) ≡ Some (t, op.Jump (q + length cb)) →
       ((m : State) → Reaches n (machine u (p + 1) ks m) (ra m) (machine u (p + 1 + length ca) ks)) →
       ((m : State) → Reaches n (machine u q ks m) (rb m) (machine u (q + length cb) ks)) →
@@ -160,7 +161,7 @@ module _ (k : Code) (table : Table) where
 
   when_run : (n : ℕ) (u p : ℕ) (ks : List Caller) (m : State) (ca : List Instruction) (ra : State → Ran) (es : List Entry) →
       let q = p + 1 + length ca in
-      ((j : ℕ) → exec (suc j) (machine u p ks m) ≡ on_placed (table u p) (on_value es wrong (λ v fs. goes_on (machine u (if truth v then p + 1 else q) ks (with_entries m fs)) no_demand)) (exec j)) →
+      ((j : ℕ) → exec (suc j) (machine u p ks m) ≡ on_action (table u p) (on_value es wrong (λ v fs. goes_on (machine u (if truth v then p + 1 else q) ks (with_entries m fs)) no_demand)) (exec j)) →
       ((m : State) → Reaches n (machine u (p + 1) ks m) (ra m) (machine u q ks)) →
       Reaches n (machine u p ks m) (on_value es bad (λ v fs. if truth v then ra (with_entries m fs) else does (with_entries m fs))) (machine u q ks)
   when_run n u p ks m ca ra [] st ha = tt
@@ -180,7 +181,7 @@ module _ (k : Code) (table : Table) where
 
   -- one turn more, or the end of a loop
   turn_run : (n : ℕ) (u p q : ℕ) (ks : List Caller) (m : State) (body : State → Ran) (to : State → Machine) (es : List Entry)
-      → ((j : ℕ) → exec (suc j) (machine u p ks m) ≡ on_placed (table u p) (on_frame es wrong (λ f fs. if nat_lt f.position (length f.items) then goes_on (machine u (p + 1) ks (with_entries m (frame (advanced f) ∷ fs))) no_demand else goes_on (machine u q ks m) no_demand)) (exec j))
+      → ((j : ℕ) → exec (suc j) (machine u p ks m) ≡ on_action (table u p) (on_frame es wrong (λ f fs. if nat_lt f.position (length f.items) then goes_on (machine u (p + 1) ks (with_entries m (frame (advanced f) ∷ fs))) no_demand else goes_on (machine u q ks m) no_demand)) (exec j))
       → ((m : State) → Reaches n (machine u (p + 1) ks m) (body m) to) → Comes (machine u q ks m) (to m)
       → Reaches n (machine u p ks m) (on_frame es bad (λ f fs. if nat_lt f.position (length f.items) then body (with_entries m (frame (advanced f) ∷ fs)) else does m)) to
   turn_run n u p q ks m body to [] st hb end = tt
@@ -191,7 +192,7 @@ module _ (k : Code) (table : Table) where
       m' : State
       m' = with_entries m (frame (advanced f) ∷ es)
 
-      way : (b : Bool) → ((j : ℕ) → exec (suc j) (machine u p ks m) ≡ on_placed (table u p) (if b then goes_on (machine u (p + 1) ks m') no_demand else goes_on (machine u q ks m) no_demand) (exec j)) → Reaches n (machine u p ks m) (if b then body m' else does m) to
+      way : (b : Bool) → ((j : ℕ) → exec (suc j) (machine u p ks m) ≡ on_action (table u p) (if b then goes_on (machine u (p + 1) ks m') no_demand else goes_on (machine u q ks m) no_demand) (exec j)) → Reaches n (machine u p ks m) (if b then body m' else does m) to
       way true e = before n _ (machine u (p + 1) ks m') (body m') to (record { by = λ j. (suc j, omega arith, e j) }) (hb m')
       way false e = comes_on _ (machine u q ks m) (to m) (record { by = λ j. (suc j, omega arith, e j) }) end
 
@@ -239,7 +240,7 @@ module _ (k : Code) (table : Table) where
     -- the call's step, and then what the call does
     enter_run : (v : ℕ) (t : Section) (u p : ℕ) (ks : List Caller) (q : Option Place) (ls gs ts : List Tree) (bufs : List (List ℕ)) (es all : List Entry) → slice_get k.units v ≡ Some t →
         let m : State = record { entries = all; locals = ls; globals = gs; buffers = bufs } in
-        ((j : ℕ) → exec (suc j) (machine u p ks m) ≡ on_placed (table u p) (goes_on (entered v t ts es (machine u p ks m)) calling) (exec j)) →
+        ((j : ℕ) → exec (suc j) (machine u p ks m) ≡ on_action (table u p) (goes_on (entered v t ts es (machine u p ks m)) calling) (exec j)) →
         (b : Bool) → (length gs == k.globals) ≡ b →
         Reaches (suc n) (machine u p ks m) (if b then into_buffers q (call v ts gs) es ls bufs else bad) (machine u (p + 1) ks)
     enter_run v t u p ks q ls gs ts bufs es all is st false e = tt
@@ -251,7 +252,7 @@ module _ (k : Code) (table : Table) where
 
     -- the arguments are taken off the entries
     args_run : (v : ℕ) (t : Section) (u p : ℕ) (ks : List Caller) (q : Option Place) (m : State) (i : ℕ) (ts : List Tree) (es : List Entry) → slice_get k.units v ≡ Some t →
-        ((j : ℕ) → exec (suc j) (machine u p ks m) ≡ on_placed (table u p) (on_values i ts es wrong (λ ts fs. goes_on (entered v t ts fs (machine u p ks m)) calling)) (exec j)) →
+        ((j : ℕ) → exec (suc j) (machine u p ks m) ≡ on_action (table u p) (on_values i ts es wrong (λ ts fs. goes_on (entered v t ts fs (machine u p ks m)) calling)) (exec j)) →
         Reaches (suc n) (machine u p ks m) (on_values i ts es bad (λ ts fs. if length m.globals == k.globals then into_buffers q (call v ts m.globals) fs m.locals m.buffers else bad)) (machine u (p + 1) ks)
     args_run v t u p ks q m zero ts es is st = enter_run v t u p ks q m.locals m.globals ts m.buffers es m.entries is st (length m.globals == k.globals) refl
     args_run v t u p ks q m (suc i) ts [] is st = tt
@@ -260,7 +261,7 @@ module _ (k : Code) (table : Table) where
     args_run v t u p ks q m (suc i) ts (capture ∷ es) is st = tt
 
     invoke_run : (v : ℕ) (s : Option Section) (u p : ℕ) (ks : List Caller) (q : Option Place) (m : State) → slice_get k.units v ≡ s →
-        ((j : ℕ) → exec (suc j) (machine u p ks m) ≡ on_placed (table u p) (calls_unit v s (machine u p ks m)) (exec j)) →
+        ((j : ℕ) → exec (suc j) (machine u p ks m) ≡ on_action (table u p) (calls_unit v s (machine u p ks m)) (exec j)) →
         Reaches (suc n) (machine u p ks m) (called q k call v s m) (machine u (p + 1) ks)
     invoke_run v None u p ks q m is st = tt
     invoke_run v (Some t) u p ks q m is st = args_run v t u p ks q m t.parameters [] m.entries is st

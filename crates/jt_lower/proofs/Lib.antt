@@ -1,8 +1,10 @@
+pub mod Placed
 pub mod Told
 pub mod Does
 pub mod Lowered
 pub mod Follows
 pub mod Over
+pub mod Spots
 pub mod Places
 pub mod Correct
 pub mod Typed

@@ -9,15 +9,16 @@ use Rattle.jt_image.specs.declared.instruction.Instruction.TheVariants as op
 use Rattle.jt_image.specs.declared.wire.Instr.{Instr}
 use Rattle.jt_image.specs.Spelling.{wire_of}
 use Rattle.jt_image.specs.IsCode.{IsInstruction}
-use Rattle.jt_slots.specs.Got.{Place}
-use Rattle.jt_lower.specs.Asm.{Asm, nil, one, both, choose, when, each, invoke, flat}
-use Rattle.jt_lower.specs.Emission.{Emitted, HasPlace, Puts, Reserves, Patches, Ends, EndsTurns}
+use Rattle.jt_value.specs.Place.{Place}
+use Rattle.jt_trees.specs.Expressions.{Text}
+use Rattle.jt_lower.specs.Asm.{Asm, nil, one, both, choose, when, each, invoke, flat, places}
+use Rattle.jt_lower.specs.Emission.{places_view, Emitted, HasPlace, Puts, Reserves, Patches, Ends, EndsTurns}
 use Rattle.jt_lower.specs.declared.emitter.Emitter.{Emitter}
 
 abbrev W : List Instruction → List Instr
 W is = map wire_of is
 
--- an instruction alone; its place is no part of the code
+-- a jump alone, which has no place
 abbrev alone : Instruction → Asm
 alone i = one None i
 
@@ -161,128 +162,166 @@ place_turn m n a h =
     let ca = flat a (n + 1) in
     record { len = omega (arith, h.len, length-append ca (op.Jump n ∷ [])); fields = all_front ca (op.Jump n ∷ []) h.fields.1 }
 
+-- ---- places
+
+-- those of two parts, the second one behind a jump
+tags_parted : (q1 q2 q3 q4 q5 qa qb : List (Option Place)) → q2 ≡ q1 ++ None ∷ [] → q3 ≡ q2 ++ qa → q4 ≡ q3 ++ None ∷ [] → q5 ≡ q4 ++ qb → q5 ≡ q1 ++ None ∷ (qa ++ None ∷ qb)
+tags_parted q1 q2 q3 q4 q5 qa qb e2 e3 e4 e5 =
+    e5
+    ∙ ap (λ l. l ++ qb) (e4 ∙ ap (λ l. l ++ None ∷ []) (e3 ∙ ap (λ l. l ++ qa) e2))
+    ∙ append_assoc ((q1 ++ None ∷ []) ++ qa) (None ∷ []) qb
+    ∙ append_assoc (q1 ++ None ∷ []) qa (None ∷ qb)
+    ∙ append_assoc q1 (None ∷ []) (qa ++ None ∷ qb)
+
 -- ---- instructions behind others, as far as there is place
 
 -- the same place, by the limit and the length of the code
 place_at : (c : Emitter) (m n : ℕ) (a : Asm) → c.limit ≡ m → length c.code.items ≡ n → HasPlace m n a → HasPlace c.limit (length c.code.items) a
 place_at c m n a el en h = subst (λ k. HasPlace k (length c.code.items) a) (sym el) (subst (λ k. HasPlace m k a) (sym en) h)
 
-puts_len : (c d : Emitter) (a : Asm) → Puts c a d → d.overflowed ≡ false → length d.code.items ≡ length c.code.items + length (flat a (length c.code.items))
-puts_len c d a p h = emitted_len c.code.items d.code.items a (p.emitted h)
+module _ (templates : List Text) where
+  abbrev tags : Emitter → List (Option Place)
+  tags c = places_view templates c.places.items
 
-pub puts_nothing : (c : Emitter) → Puts c nil c
-puts_nothing c = record { limit = refl; kept = λ h. h; emitted = λ h. emitted_nothing c.code.items; place = λ h k. k }
+  puts_len : (c d : Emitter) (a : Asm) → Puts templates c a d → d.overflowed ≡ false → length d.code.items ≡ length c.code.items + length (flat a (length c.code.items))
+  puts_len c d a p h = emitted_len c.code.items d.code.items a (p.emitted h)
 
-pub puts_then : (c0 c1 c2 : Emitter) (a b : Asm) → Puts c0 a c1 → Puts c1 b c2 → Puts c0 (both a b) c2
-puts_then c0 c1 c2 a b p q =
-    let n = length c0.code.items in
-    record {
-      limit = q.limit ∙ p.limit;
-      kept = λ h. p.kept (q.kept h);
-      emitted = λ h. emitted_then c0.code.items c1.code.items c2.code.items a b (p.emitted (q.kept h)) (q.emitted h);
-      place = λ h k.
-          let k1 = p.place (place_first c0.limit n a b h) k in
-          q.place (place_at c1 c0.limit (n + length (flat a n)) b p.limit (puts_len c0 c1 a p k1) (place_second c0.limit n a b h)) k1;
-    }
+  pub puts_nothing : (c : Emitter) → Puts templates c nil c
+  puts_nothing c = record { limit = refl; kept = λ h. h; emitted = λ h. emitted_nothing c.code.items; tagged = λ h. sym (append-nil (tags c)); place = λ h k. k }
 
--- the same instructions behind another Asm
-pub puts_as : (c d : Emitter) (a b : Asm) → a ≡ b → Puts c b d → Puts c a d
-puts_as c d a b same p = subst (λ x. Puts c x d) (sym same) p
+  pub puts_then : (c0 c1 c2 : Emitter) (a b : Asm) → Puts templates c0 a c1 → Puts templates c1 b c2 → Puts templates c0 (both a b) c2
+  puts_then c0 c1 c2 a b p q =
+      let n = length c0.code.items in
+      record {
+        limit = q.limit ∙ p.limit;
+        kept = λ h. p.kept (q.kept h);
+        emitted = λ h. emitted_then c0.code.items c1.code.items c2.code.items a b (p.emitted (q.kept h)) (q.emitted h);
+        tagged = λ h. q.tagged h ∙ ap (λ l. l ++ places b) (p.tagged (q.kept h)) ∙ append_assoc (tags c0) (places a) (places b);
+        place = λ h k.
+            let k1 = p.place (place_first c0.limit n a b h) k in
+            q.place (place_at c1 c0.limit (n + length (flat a n)) b p.limit (puts_len c0 c1 a p k1) (place_second c0.limit n a b h)) k1;
+      }
 
--- both sides of a choice stand behind its test, and its jumps are written
-pub puts_choice : (c1 c2 c3 c5 z new : Emitter) (a b : Asm) (choice last : ℕ) → Reserves c1 (op.JumpIfFalse 0) choice c2 → Puts c2 a c3 → Ends c3 choice last c5 → Puts c5 b z → Patches z last (op.Jump (length z.code.items)) new → Puts c1 (choose a b) new
-puts_choice c1 c2 c3 c5 z new a b choice last tests pa ends pb closes =
-    let m = c1.limit in
-    let p = length c1.code.items in
-    let ca = flat a (p + 1) in
-    let q = p + 1 + length ca + 1 in
-    let cb = flat b q in
-    let m2 : c2.limit ≡ m = tests.puts.limit in
-    let m3 : c3.limit ≡ m = pa.limit ∙ m2 in
-    let m5 : c5.limit ≡ m = ends.patches.limit ∙ ends.reserves.puts.limit ∙ m3 in
-    record {
-      limit = closes.limit ∙ pb.limit ∙ m5;
-      kept = λ h. tests.puts.kept (pa.kept (ends.reserves.puts.kept (ends.patches.kept (pb.kept (closes.kept h)))));
-      emitted = λ h.
-          let kz = closes.kept h in
-          let k5 = pb.kept kz in
-          let k4 = ends.patches.kept k5 in
-          let k3 = ends.reserves.puts.kept k4 in
-          closes.code h ∙ choose_opened c1.code.items c2.code.items c3.code.items ends.jumped.code.items c5.code.items z.code.items a b choice last (length ends.jumped.code.items) (tests.puts.emitted (pa.kept k3)) (pa.emitted k3) (ends.reserves.puts.emitted k4) tests.at ends.reserves.at refl (ends.patches.code k5) (pb.emitted kz);
-      place = λ h k.
-          let out = op.Jump (q + length cb) ∷ cb in
-          let k2 = tests.puts.place (record { len = omega (arith, h.len); fields = (omega arith, tt) }) k in
-          let l2 : length c2.code.items ≡ p + 1 = puts_len c1 c2 (alone (op.JumpIfFalse 0)) tests.puts k2 in
-          let k3 = pa.place (place_at c2 m (p + 1) a m2 l2 (place_taken m p a b h)) k2 in
-          let l3 : length c3.code.items ≡ p + 1 + length ca = puts_len c2 c3 a pa k3 ∙ ap (λ n. n + length (flat a n)) l2 in
-          let jump : HasPlace m (p + 1 + length ca) (alone (op.Jump 0)) = record { len = omega (arith, h.len, length-append ca out); fields = (omega arith, tt) } in
-          let k4 = ends.reserves.puts.place (place_at c3 m (p + 1 + length ca) (alone (op.Jump 0)) m3 l3 jump) k3 in
-          let l4 : length ends.jumped.code.items ≡ q = puts_len c3 ends.jumped (alone (op.Jump 0)) ends.reserves.puts k4 ∙ ap (λ n. n + 1) l3 in
-          let k5 = ends.patches.place (subst (λ n. n < 2 ^ 32) (sym l4) h.fields.0) k4 in
-          let l5 : length c5.code.items ≡ q = ends.patches.len ∙ l4 in
-          let kz = pb.place (place_at c5 m q b m5 l5 (place_other m p a b h)) k5 in
-          let lz : length z.code.items ≡ q + length cb = puts_len c5 z b pb kz ∙ ap (λ n. n + length (flat b n)) l5 in
-          closes.place (subst (λ n. n < 2 ^ 32) (sym lz) (all_back ca out h.fields.1).0) kz;
-    }
+  -- the same instructions behind another Asm
+  pub puts_as : (c d : Emitter) (a b : Asm) → a ≡ b → Puts templates c b d → Puts templates c a d
+  puts_as c d a b same p = subst (λ x. Puts templates c x d) (sym same) p
 
--- what is done for a true value stands behind its test
-pub puts_when : (c1 c2 c3 new : Emitter) (a : Asm) (choice : ℕ) → Reserves c1 (op.JumpIfFalse 0) choice c2 → Puts c2 a c3 → Patches c3 choice (op.JumpIfFalse (length c3.code.items)) new → Puts c1 (when a) new
-puts_when c1 c2 c3 new a choice tests pa ends =
-    let p = length c1.code.items in
-    let ca = flat a (p + 1) in
-    record {
-      limit = ends.limit ∙ pa.limit ∙ tests.puts.limit;
-      kept = λ h. tests.puts.kept (pa.kept (ends.kept h));
-      emitted = λ h. let k3 = ends.kept h in when_opened c1.code.items c2.code.items c3.code.items new.code.items a choice tests.at (tests.puts.emitted (pa.kept k3)) (pa.emitted k3) (ends.code h);
-      place = λ h k.
-          let k2 = tests.puts.place (record { len = omega (arith, h.len); fields = (omega arith, tt) }) k in
-          let l2 : length c2.code.items ≡ p + 1 = puts_len c1 c2 (alone (op.JumpIfFalse 0)) tests.puts k2 in
-          let k3 = pa.place (place_at c2 c1.limit (p + 1) a tests.puts.limit l2 (place_when c1.limit p a h)) k2 in
-          let l3 : length c3.code.items ≡ p + 1 + length ca = puts_len c2 c3 a pa k3 ∙ ap (λ n. n + length (flat a n)) l2 in
-          ends.place (subst (λ n. n < 2 ^ 32) (sym l3) h.fields.0) k3;
-    }
+  -- both sides of a choice stand behind its test, and its jumps are written
+  pub puts_choice : (c1 c2 c3 c5 z new : Emitter) (a b : Asm) (choice last : ℕ) → Reserves c1 (op.JumpIfFalse 0) choice c2 → Puts templates c2 a c3 → Ends c3 choice last c5 → Puts templates c5 b z → Patches z last (op.Jump (length z.code.items)) new → Puts templates c1 (choose a b) new
+  puts_choice c1 c2 c3 c5 z new a b choice last tests pa ends pb closes =
+      let m = c1.limit in
+      let tp = tests.puts templates in
+      let ep = ends.reserves.puts templates in
+      let p = length c1.code.items in
+      let ca = flat a (p + 1) in
+      let q = p + 1 + length ca + 1 in
+      let cb = flat b q in
+      let m2 : c2.limit ≡ m = tp.limit in
+      let m3 : c3.limit ≡ m = pa.limit ∙ m2 in
+      let m5 : c5.limit ≡ m = ends.patches.limit ∙ ep.limit ∙ m3 in
+      record {
+        limit = closes.limit ∙ pb.limit ∙ m5;
+        kept = λ h. tp.kept (pa.kept (ep.kept (ends.patches.kept (pb.kept (closes.kept h)))));
+        emitted = λ h.
+            let kz = closes.kept h in
+            let k5 = pb.kept kz in
+            let k4 = ends.patches.kept k5 in
+            let k3 = ep.kept k4 in
+            closes.code h ∙ choose_opened c1.code.items c2.code.items c3.code.items ends.jumped.code.items c5.code.items z.code.items a b choice last (length ends.jumped.code.items) (tp.emitted (pa.kept k3)) (pa.emitted k3) (ep.emitted k4) tests.at ends.reserves.at refl (ends.patches.code k5) (pb.emitted kz);
+        tagged = λ h.
+            let kz = closes.kept h in
+            let k5 = pb.kept kz in
+            let k4 = ends.patches.kept k5 in
+            let k3 = ep.kept k4 in
+            ap (places_view templates) closes.places
+            ∙ tags_parted (tags c1) (tags c2) (tags c3) (tags c5) (tags z) (places a) (places b) (tp.tagged (pa.kept k3)) (pa.tagged k3) (ap (places_view templates) ends.patches.places ∙ ep.tagged k4) (pb.tagged kz);
+        place = λ h k.
+            let out = op.Jump (q + length cb) ∷ cb in
+            let k2 = tp.place (record { len = omega (arith, h.len); fields = (omega arith, tt) }) k in
+            let l2 : length c2.code.items ≡ p + 1 = puts_len c1 c2 (alone (op.JumpIfFalse 0)) tp k2 in
+            let k3 = pa.place (place_at c2 m (p + 1) a m2 l2 (place_taken m p a b h)) k2 in
+            let l3 : length c3.code.items ≡ p + 1 + length ca = puts_len c2 c3 a pa k3 ∙ ap (λ n. n + length (flat a n)) l2 in
+            let jump : HasPlace m (p + 1 + length ca) (alone (op.Jump 0)) = record { len = omega (arith, h.len, length-append ca out); fields = (omega arith, tt) } in
+            let k4 = ep.place (place_at c3 m (p + 1 + length ca) (alone (op.Jump 0)) m3 l3 jump) k3 in
+            let l4 : length ends.jumped.code.items ≡ q = puts_len c3 ends.jumped (alone (op.Jump 0)) ep k4 ∙ ap (λ n. n + 1) l3 in
+            let k5 = ends.patches.place (subst (λ n. n < 2 ^ 32) (sym l4) h.fields.0) k4 in
+            let l5 : length c5.code.items ≡ q = ends.patches.len ∙ l4 in
+            let kz = pb.place (place_at c5 m q b m5 l5 (place_other m p a b h)) k5 in
+            let lz : length z.code.items ≡ q + length cb = puts_len c5 z b pb kz ∙ ap (λ n. n + length (flat b n)) l5 in
+            closes.place (subst (λ n. n < 2 ^ 32) (sym lz) (all_back ca out h.fields.1).0) kz;
+      }
 
--- what is done once for each item stands behind its test, and the jumps of the loop are written
-pub puts_turns : (c1 c2 c3 new : Emitter) (a : Asm) (top : ℕ) → Reserves c1 (op.LoopNext 0) top c2 → Puts c2 a c3 → EndsTurns c3 top new → Puts c1 (each a) new
-puts_turns c1 c2 c3 new a top begins pa ends =
-    let m = c1.limit in
-    let p = length c1.code.items in
-    let ca = flat a (p + 1) in
-    let q = p + 1 + length ca + 1 in
-    let m3 : c3.limit ≡ m = pa.limit ∙ begins.puts.limit in
-    record {
-      limit = ends.patches.limit ∙ ends.goes.limit ∙ m3;
-      kept = λ h. begins.puts.kept (pa.kept (ends.goes.kept (ends.patches.kept h)));
-      emitted = λ h.
-          let k4 = ends.patches.kept h in
-          let k3 = ends.goes.kept k4 in
-          turns_opened c1.code.items c2.code.items c3.code.items ends.back.code.items new.code.items a top begins.at (begins.puts.emitted (pa.kept k3)) (pa.emitted k3) (ends.goes.emitted k4) (ends.patches.code h);
-      place = λ h k.
-          let back : p < 2 ^ 32 = (all_back ca (op.Jump p ∷ []) h.fields.1).0 in
-          let k2 = begins.puts.place (record { len = omega (arith, h.len); fields = (omega arith, tt) }) k in
-          let l2 : length c2.code.items ≡ p + 1 = puts_len c1 c2 (alone (op.LoopNext 0)) begins.puts k2 in
-          let k3 = pa.place (place_at c2 m (p + 1) a begins.puts.limit l2 (place_turn m p a h)) k2 in
-          let l3 : length c3.code.items ≡ p + 1 + length ca = puts_len c2 c3 a pa k3 ∙ ap (λ n. n + length (flat a n)) l2 in
-          let jump : HasPlace m (p + 1 + length ca) (alone (op.Jump top)) = record { len = omega (arith, h.len, length-append ca (op.Jump p ∷ [])); fields = (omega (arith, back, begins.at), tt) } in
-          let k4 = ends.goes.place (place_at c3 m (p + 1 + length ca) (alone (op.Jump top)) m3 l3 jump) k3 in
-          let l4 : length ends.back.code.items ≡ q = puts_len c3 ends.back (alone (op.Jump top)) ends.goes k4 ∙ ap (λ n. n + 1) l3 in
-          ends.patches.place (subst (λ n. n < 2 ^ 32) (sym l4) h.fields.0) k4;
-    }
+  -- what is done for a true value stands behind its test
+  pub puts_when : (c1 c2 c3 new : Emitter) (a : Asm) (choice : ℕ) → Reserves c1 (op.JumpIfFalse 0) choice c2 → Puts templates c2 a c3 → Patches c3 choice (op.JumpIfFalse (length c3.code.items)) new → Puts templates c1 (when a) new
+  puts_when c1 c2 c3 new a choice tests pa ends =
+      let tp = tests.puts templates in
+      let p = length c1.code.items in
+      let ca = flat a (p + 1) in
+      record {
+        limit = ends.limit ∙ pa.limit ∙ tp.limit;
+        kept = λ h. tp.kept (pa.kept (ends.kept h));
+        emitted = λ h. let k3 = ends.kept h in when_opened c1.code.items c2.code.items c3.code.items new.code.items a choice tests.at (tp.emitted (pa.kept k3)) (pa.emitted k3) (ends.code h);
+        tagged = λ h.
+            let k3 = ends.kept h in
+            ap (places_view templates) ends.places ∙ pa.tagged k3 ∙ ap (λ l. l ++ places a) (tp.tagged (pa.kept k3)) ∙ append_assoc (tags c1) (None ∷ []) (places a);
+        place = λ h k.
+            let k2 = tp.place (record { len = omega (arith, h.len); fields = (omega arith, tt) }) k in
+            let l2 : length c2.code.items ≡ p + 1 = puts_len c1 c2 (alone (op.JumpIfFalse 0)) tp k2 in
+            let k3 = pa.place (place_at c2 c1.limit (p + 1) a tp.limit l2 (place_when c1.limit p a h)) k2 in
+            let l3 : length c3.code.items ≡ p + 1 + length ca = puts_len c2 c3 a pa k3 ∙ ap (λ n. n + length (flat a n)) l2 in
+            ends.place (subst (λ n. n < 2 ^ 32) (sym l3) h.fields.0) k3;
+      }
 
--- a call is its instruction
-pub puts_call : (c d : Emitter) (o : Option Place) (u : ℕ) → Puts c (one o (op.Call u)) d → Puts c (invoke o u) d
-puts_call c d o u p = record { limit = p.limit; kept = p.kept; emitted = p.emitted; place = λ h k. p.place (record { len = h.len; fields = h.fields }) k }
+  -- what is done once for each item stands behind its test, and the jumps of the loop are written
+  pub puts_turns : (c1 c2 c3 new : Emitter) (a : Asm) (top : ℕ) → Reserves c1 (op.LoopNext 0) top c2 → Puts templates c2 a c3 → EndsTurns c3 top new → Puts templates c1 (each a) new
+  puts_turns c1 c2 c3 new a top begins pa ends =
+      let m = c1.limit in
+      let bp = begins.puts templates in
+      let gp = ends.goes templates in
+      let p = length c1.code.items in
+      let ca = flat a (p + 1) in
+      let q = p + 1 + length ca + 1 in
+      let m3 : c3.limit ≡ m = pa.limit ∙ bp.limit in
+      record {
+        limit = ends.patches.limit ∙ gp.limit ∙ m3;
+        kept = λ h. bp.kept (pa.kept (gp.kept (ends.patches.kept h)));
+        emitted = λ h.
+            let k4 = ends.patches.kept h in
+            let k3 = gp.kept k4 in
+            turns_opened c1.code.items c2.code.items c3.code.items ends.back.code.items new.code.items a top begins.at (bp.emitted (pa.kept k3)) (pa.emitted k3) (gp.emitted k4) (ends.patches.code h);
+        tagged = λ h.
+            let k4 = ends.patches.kept h in
+            let k3 = gp.kept k4 in
+            let back = tags ends.back in
+            ap (places_view templates) ends.patches.places
+            ∙ tags_parted (tags c1) (tags c2) (tags c3) back back (places a) [] (bp.tagged (pa.kept k3)) (pa.tagged k3) (gp.tagged k4) (sym (append-nil back));
+        place = λ h k.
+            let back : p < 2 ^ 32 = (all_back ca (op.Jump p ∷ []) h.fields.1).0 in
+            let k2 = bp.place (record { len = omega (arith, h.len); fields = (omega arith, tt) }) k in
+            let l2 : length c2.code.items ≡ p + 1 = puts_len c1 c2 (alone (op.LoopNext 0)) bp k2 in
+            let k3 = pa.place (place_at c2 m (p + 1) a bp.limit l2 (place_turn m p a h)) k2 in
+            let l3 : length c3.code.items ≡ p + 1 + length ca = puts_len c2 c3 a pa k3 ∙ ap (λ n. n + length (flat a n)) l2 in
+            let jump : HasPlace m (p + 1 + length ca) (alone (op.Jump top)) = record { len = omega (arith, h.len, length-append ca (op.Jump p ∷ [])); fields = (omega (arith, back, begins.at), tt) } in
+            let k4 = gp.place (place_at c3 m (p + 1 + length ca) (alone (op.Jump top)) m3 l3 jump) k3 in
+            let l4 : length ends.back.code.items ≡ q = puts_len c3 ends.back (alone (op.Jump top)) gp k4 ∙ ap (λ n. n + 1) l3 in
+            ends.patches.place (subst (λ n. n < 2 ^ 32) (sym l4) h.fields.0) k4;
+      }
 
-pub puts_last : (c d : Emitter) (a : Asm) → Puts c a d → Puts c (both a nil) d
-puts_last c d a p = puts_then c d d a nil p (puts_nothing d)
+  -- a call is its instruction
+  pub puts_call : (c d : Emitter) (o : Option Place) (u : ℕ) → Puts templates c (one o (op.Call u)) d → Puts templates c (invoke o u) d
+  puts_call c d o u p = record { limit = p.limit; kept = p.kept; emitted = p.emitted; tagged = p.tagged; place = λ h k. p.place (record { len = h.len; fields = h.fields }) k }
 
-pub puts_first : (c d : Emitter) (a : Asm) → Puts c (both a nil) d → Puts c a d
-puts_first c d a p =
-    let n = length c.code.items in
-    let same : flat (both a nil) n ≡ flat a n = append-nil (flat a n) in
-    record {
-      limit = p.limit;
-      kept = p.kept;
-      emitted = λ h. p.emitted h ∙ ap (λ is. c.code.items ++ W is) same;
-      place = λ h k. p.place (record { len = subst (λ is. n + length is ≤ c.limit) (sym same) h.len; fields = subst (AllByRecursion IsInstruction) (sym same) h.fields }) k;
-    }
+  pub puts_last : (c d : Emitter) (a : Asm) → Puts templates c a d → Puts templates c (both a nil) d
+  puts_last c d a p = puts_then c d d a nil p (puts_nothing d)
+
+  pub puts_first : (c d : Emitter) (a : Asm) → Puts templates c (both a nil) d → Puts templates c a d
+  puts_first c d a p =
+      let n = length c.code.items in
+      let same : flat (both a nil) n ≡ flat a n = append-nil (flat a n) in
+      record {
+        limit = p.limit;
+        kept = p.kept;
+        emitted = λ h. p.emitted h ∙ ap (λ is. c.code.items ++ W is) same;
+        tagged = λ h. p.tagged h ∙ ap (λ l. tags c ++ l) (append-nil (places a));
+        place = λ h k. p.place (record { len = subst (λ is. n + length is ≤ c.limit) (sym same) h.len; fields = subst (AllByRecursion IsInstruction) (sym same) h.fields }) k;
+      }

@@ -3,7 +3,8 @@ use Rattle.std.proofs.Common.{◌≡◌, ℕ, suc, ◌+◌, ◌/◌, ◌<◌, �
 use Rattle.std.specs.Prelude.{min, nat_lt}
 use Rattle.std.proofs.lemmas.List.{at_drop_all}
 use Rattle.std.proofs.lemmas.Bool.Decides.{nat_tests}
-use Rattle.jt_slots.specs.Got.{Place}
+use Rattle.jt_value.specs.Place.{Place}
+use Rattle.jt_trees.specs.Expressions.{Text}
 use Rattle.jt_slots.specs.Slots as slots
 use Rattle.jt_slots.specs.Slots.{none}
 use Rattle.jt_slots.specs.View.{entry_front, expr_view, row_view}
@@ -28,41 +29,41 @@ stands_raised n m h same s = through (nat_lt n (2 ^ 32)) refl
     through false e = let le : 2 ^ 32 ≤ n = grind (arith, nat_tests, e) in let is : 2 ^ 32 ≤ h = s.above le in record { same = λ k. absurd (omega (arith, same, k, le)); above = λ k. omega (arith, is) }
 
 -- the row stands behind the old code when what is left of it stands behind the new one
-pub record Leaves (o : Option Place) (old : Emitter) (all : Asm) (now : Emitter) (left : List Entry) (top : ℕ) : Type 0 where
+pub record Leaves (ts : List Text) (o : Option Place) (old : Emitter) (all : Asm) (now : Emitter) (left : List Entry) (top : ℕ) : Type 0 where
   pub height : ℕ
   pub stands : StandsFor top height
-  pub puts : (final : Emitter) → Puts now (row_asm o (row_view left none) height) final → Puts old all final
+  pub puts : (final : Emitter) → Puts ts now (row_asm o (row_view left none) height) final → Puts ts old all final
 
-pub row_begins : (o : Option Place) (es : List Entry) (c : Emitter) (top h : ℕ) → StandsFor top h → Leaves o c (row_asm o (row_view es none) h) c (drop 0 es) top
-row_begins o es c top h s = record { height = h; stands = s; puts = λ final p. p }
+pub row_begins : (ts : List Text) (o : Option Place) (es : List Entry) (c : Emitter) (top h : ℕ) → StandsFor top h → Leaves ts o c (row_asm o (row_view es none) h) c (drop 0 es) top
+row_begins ts o es c top h s = record { height = h; stands = s; puts = λ final p. p }
 
-pub row_ends : (o : Option Place) (es : List Entry) (i : ℕ) (old now : Emitter) (all : Asm) (top : ℕ) → length es ≤ i → Leaves o old all now (drop i es) top → Puts old all now
-row_ends o es i old now all top le l =
-    l.puts now (subst (λ r. Puts now (row_asm o r l.height) now) (sym (at_drop_all (λ es. row_view es none) es i le)) (puts_nothing now))
+pub row_ends : (ts : List Text) (o : Option Place) (es : List Entry) (i : ℕ) (old now : Emitter) (all : Asm) (top : ℕ) → length es ≤ i → Leaves ts o old all now (drop i es) top → Puts ts old all now
+row_ends ts o es i old now all top le l =
+    l.puts now (subst (λ r. Puts ts now (row_asm o r l.height) now) (sym (at_drop_all (λ es. row_view es none) es i le)) (puts_nothing ts now))
 
 -- one value more
-pub row_item : (o : Option Place) (es : List Entry) (i : ℕ) (e : Entry) (old now new : Emitter) (all : Asm) (top raised : ℕ) → i < length es → e ≡ get_or es i e → e.0 ≡ None → raised ≡ min (top + 1) 18446744073709551615
-    → ((h : ℕ) → StandsFor top h → Puts now (expr_asm o (expr_view e.1) h) new) → Leaves o old all now (drop i es) top → Leaves o old all new (drop (i + 1) es) raised
-row_item o es i e old now new all top raised lt is none_kept same p l =
+pub row_item : (ts : List Text) (o : Option Place) (es : List Entry) (i : ℕ) (e : Entry) (old now new : Emitter) (all : Asm) (top raised : ℕ) → i < length es → e ≡ get_or es i e → e.0 ≡ None → raised ≡ min (top + 1) 18446744073709551615
+    → ((h : ℕ) → StandsFor top h → Puts ts now (expr_asm o (expr_view e.1) h) new) → Leaves ts o old all now (drop i es) top → Leaves ts o old all new (drop (i + 1) es) raised
+row_item ts o es i e old now new all top raised lt is none_kept same p l =
     let rest = row_view (drop (i + 1) es) none in
     let x = expr_view e.1 in
     let left : row_view (drop i es) none ≡ slots.item x rest = row_left es i e lt is ∙ ap (λ k. entry_front k x rest) none_kept in
     record {
       height = suc l.height;
       stands = stands_raised top raised l.height same l.stands;
-      puts = λ final q. l.puts final (subst (λ r. Puts now (row_asm o r l.height) final) (sym left) (puts_then now new final (expr_asm o x l.height) (row_asm o rest (suc l.height)) (p l.height l.stands) q));
+      puts = λ final q. l.puts final (subst (λ r. Puts ts now (row_asm o r l.height) final) (sym left) (puts_then ts now new final (expr_asm o x l.height) (row_asm o rest (suc l.height)) (p l.height l.stands) q));
     }
 
 -- one more that is kept aside
-pub row_aside : (o : Option Place) (es : List Entry) (i : ℕ) (e : Entry) (old now mid new : Emitter) (all : Asm) (top : ℕ) (n : ℕ) → i < length es → e ≡ get_or es i e → e.0 ≡ Some n
-    → ((h : ℕ) → StandsFor top h → Puts now (expr_asm o (expr_view e.1) h) mid) → Puts mid (one o (op.Store n)) new → Leaves o old all now (drop i es) top → Leaves o old all new (drop (i + 1) es) top
-row_aside o es i e old now mid new all top n lt is some_kept p s l =
+pub row_aside : (ts : List Text) (o : Option Place) (es : List Entry) (i : ℕ) (e : Entry) (old now mid new : Emitter) (all : Asm) (top : ℕ) (n : ℕ) → i < length es → e ≡ get_or es i e → e.0 ≡ Some n
+    → ((h : ℕ) → StandsFor top h → Puts ts now (expr_asm o (expr_view e.1) h) mid) → Puts ts mid (one o (op.Store n)) new → Leaves ts o old all now (drop i es) top → Leaves ts o old all new (drop (i + 1) es) top
+row_aside ts o es i e old now mid new all top n lt is some_kept p s l =
     let rest = row_view (drop (i + 1) es) none in
     let x = expr_view e.1 in
     let left : row_view (drop i es) none ≡ slots.aside n x rest = row_left es i e lt is ∙ ap (λ k. entry_front k x rest) some_kept in
     record {
       height = l.height;
       stands = l.stands;
-      puts = λ final q. l.puts final (subst (λ r. Puts now (row_asm o r l.height) final) (sym left)
-          (puts_then now mid final (expr_asm o x l.height) (both (one o (op.Store n)) (row_asm o rest l.height)) (p l.height l.stands) (puts_then mid new final (one o (op.Store n)) (row_asm o rest l.height) s q)));
+      puts = λ final q. l.puts final (subst (λ r. Puts ts now (row_asm o r l.height) final) (sym left)
+          (puts_then ts now mid final (expr_asm o x l.height) (both (one o (op.Store n)) (row_asm o rest l.height)) (p l.height l.stands) (puts_then ts mid new final (one o (op.Store n)) (row_asm o rest l.height) s q)));
     }

@@ -5,27 +5,24 @@ use Rattle.jt_slots.specs.Slots.{Program}
 use Rattle.jt_slots.specs.TheFilters.{the_filters}
 use Rattle.jt_lower.specs.Lower.{compiled}
 use Rattle.jt_lower.specs.Fits.{ProgramFits}
-use Rattle.jt_lower.specs.Compiles.{DoesProgram, PlacesFaults, LowLaws}
+use Rattle.jt_lower.specs.Compiles.{DoesProgram, LowLaws}
 use Rattle.jt_lower.proofs.Fitting.{lawful_fits, placed_low, same_size}
 use Rattle.jt_lower.proofs.Pooled.{pooled_same}
 use Rattle.jt_lower.proofs.Follows.{placed}
 use Rattle.jt_lower.proofs.Sized.{program_sized}
 use Rattle.jt_lower.proofs.Written.{program_written}
 use Rattle.jt_lower.proofs.Typed.{compiled_typed}
-use Rattle.jt_lower.proofs.Correct.{text_means, fault_means, enough_text, enough_fault, placed_means, means_placed}
+use Rattle.jt_lower.proofs.Correct.{text_means, fault_means, enough_text, enough_fault}
 
 does_program : CodeLaws → (p : Program) → ProgramFits p → IsCode (compiled p) → DoesProgram p
 does_program laws p fit whole =
     let runs = laws.runs (compiled p) whole (compiled_typed p fit) in
     record {
       texts = λ x b t r. text_means p fit runs x b t r;
-      faults = λ x b f r. fault_means p fit runs x b f r;
+      faults = λ x b f q r. fault_means p fit runs x b f q r;
       enough_text = λ x n t e. enough_text p fit runs x n t e;
       enough_fault = λ x n f q e. enough_fault p fit runs x n f q e;
     }
 
-places_faults : (p : Program) → ProgramFits p → PlacesFaults p
-places_faults p fit = record { faults = placed_means p fit; places = means_placed p fit }
-
 pub laws_hold : CodeLaws → LowLaws
-laws_hold laws = record { fits = lawful_fits; pooled = pooled_same the_filters; typed = compiled_typed; right = does_program laws; places_faults = places_faults; one_place = placed; sized = program_sized; low = placed_low; written = program_written; same_size = same_size }
+laws_hold laws = record { fits = lawful_fits; pooled = pooled_same the_filters; typed = compiled_typed; right = does_program laws; one_place = placed; sized = program_sized; low = placed_low; written = program_written; same_size = same_size }

@@ -11,8 +11,8 @@ use Rattle.jt_image.specs.Config as config
 use Rattle.jt_image.specs.Config.{Budget}
 use Rattle.jt_image.specs.Run.{Run}
 use Rattle.jt_image.specs.Enough.{Enough}
-use Rattle.jt_image.specs.FreeRun.{start_machine}
-use Rattle.jt_slots.specs.Got.{Place, gives, fails}
+use Rattle.jt_value.specs.Place.{Place}
+use Rattle.jt_slots.specs.Got.{gives, fails}
 use Rattle.jt_trees.specs.Expressions.{Text}
 use Rattle.jt_slots.specs.TheFilters.{the_filters}
 use Rattle.jt_slots.specs.Slots.{Routine, Program, smean_of, smean}
@@ -20,27 +20,20 @@ use Rattle.jt_slots.specs.Pool.{Constant, constant_in, routines_values, placed_r
 use Rattle.jt_slots.specs.Loops.{tree_at}
 use Rattle.jt_lower.specs.Asm.{Asm, flat, places}
 use Rattle.jt_lower.specs.Lower.{compiled}
-use Rattle.jt_lower.specs.Placed.{Failed, placed_exec, table_of}
 use Rattle.jt_lower.specs.Fits.{ProgramFits}
 use Rattle.jt_lower.specs.Lawful.{program_with, AreLawful, AreLow}
 use Rattle.jt_slots.specs.Size.{body_height, routines_size}
 
--- A text or a fault that the code ends with, for a context under a budget, is what the program means, where calls go at most so many
--- deep; and what the program means, some budget is enough for.
+-- A text or a fault at its place that the code ends with, for a context under a budget, is what the program means, where calls go at
+-- most so many deep; and what the program means, some budget is enough for.
 pub record DoesProgram (p : Program) : Type 0 where
   pub texts : (x : Pairs) (b : Budget) (t : Text) → Run (compiled p) x b (config.text t) → (n : ℕ) × (smean the_filters p x n ≡ gives t)
-  pub faults : (x : Pairs) (b : Budget) (f : Fault) → Run (compiled p) x b (config.fault f) → (n : ℕ) × (q : Option Place) × (smean the_filters p x n ≡ fails f q)
+  pub faults : (x : Pairs) (b : Budget) (f : Fault) (q : Option Place) → Run (compiled p) x b (config.fault f q) → (n : ℕ) × (smean the_filters p x n ≡ fails f q)
   pub enough_text : (x : Pairs) (n : ℕ) (t : Text) → smean the_filters p x n ≡ gives t → Enough (compiled p) x (config.text t)
-  pub enough_fault : (x : Pairs) (n : ℕ) (f : Fault) (q : Option Place) → smean the_filters p x n ≡ fails f q → Enough (compiled p) x (config.fault f)
-
--- A fault of the run without a budget stands at an instruction that has the place that the program's meaning gives it, and the other
--- way round.
-pub record PlacesFaults (p : Program) : Type 0 where
-  pub faults : (x : Pairs) (n : ℕ) (f : Fault) (q : Option Place) → placed_exec (compiled p) (table_of p) n (start_machine (compiled p) x) ≡ Failed f q → smean the_filters p x n ≡ fails f q
-  pub places : (x : Pairs) (n : ℕ) (f : Fault) (q : Option Place) → smean the_filters p x n ≡ fails f q → (j : ℕ) × (placed_exec (compiled p) (table_of p) j (start_machine (compiled p) x) ≡ Failed f q)
+  pub enough_fault : (x : Pairs) (n : ℕ) (f : Fault) (q : Option Place) → smean the_filters p x n ≡ fails f q → Enough (compiled p) x (config.fault f q)
 
 -- Programs of lawful routines fit. The code of each program that fits is typed; where it has a spelling, it does what the program
--- means. Each fault is met in its place. Each instruction has one place, and there are as many as the program's size says.
+-- means. Each instruction has one place, and there are as many as the program's size says.
 pub record LowLaws : Type 0 where
   pub fits : (names : List Text) (globals : ℕ) (front : List Tree) (rs : List (Routine Constant)) → AreLawful names globals front rs → AreLow rs → ProgramFits (program_with names globals front rs)
   -- constants that have got their places in the pool mean what they meant
@@ -48,7 +41,6 @@ pub record LowLaws : Type 0 where
       → smean_of the_filters (constant_in (front ++ routines_values rs)) rs gs n ≡ smean_of the_filters (tree_at (front ++ routines_values rs)) (placed_routines rs (length front)) gs n
   pub typed : (p : Program) → ProgramFits p → IsTyped (compiled p)
   pub right : (p : Program) → ProgramFits p → IsCode (compiled p) → DoesProgram p
-  pub places_faults : (p : Program) → ProgramFits p → PlacesFaults p
   pub one_place : (a : Asm) (n : ℕ) → length (places a) ≡ length (flat a n)
   pub sized : (p : Program) → total_len (compiled p).units ≡ routines_size p.routines
   -- constants that have got their places need as many entries as before

@@ -1,13 +1,24 @@
--- Instructions that are put behind others, and jumps that are written when their target is known.
-use Rattle.std.specs.Prelude.{◌≡◌, ℕ, ◌+◌, ◌<◌, ◌≤◌, ◌^◌, false, List, ◌++◌, length, map, Option, Some, None, slice_set}
+-- Instructions that are put behind others with the places of their tags, and jumps that are written when their target is known.
+use Rattle.std.specs.Prelude.{◌≡◌, ℕ, ◌+◌, ◌<◌, ◌≤◌, ◌^◌, false, List, ◌++◌, length, map, Option, Some, None, option_map, slice_set}
 use Rattle.std.specs.List.{AllByRecursion}
 use Rattle.jt_image.specs.declared.instruction.Instruction.{Instruction}
 use Rattle.jt_image.specs.declared.instruction.Instruction.TheVariants as op
 use Rattle.jt_image.specs.declared.wire.Instr.{Instr}
 use Rattle.jt_image.specs.Spelling.{wire_of}
 use Rattle.jt_image.specs.IsCode.{IsInstruction}
-use Rattle.jt_lower.specs.Asm.{Asm, one, flat}
+use Rattle.jt_value.specs.Place.{Place}
+use Rattle.jt_trees.specs.Expressions.{Text}
+use Rattle.jt_slots.specs.View.{place_view}
+use Rattle.jt_slots.specs.declared.program.Place as given
+use Rattle.jt_lower.specs.Asm.{Asm, one, flat, places}
 use Rattle.jt_lower.specs.declared.emitter.Emitter.{Emitter}
+
+-- the place of a tag, if there is one; its template is one of these
+abbrev pub tag_view : List Text → Option given.Place → Option Place
+tag_view templates tag = option_map (place_view templates) tag
+
+abbrev pub places_view : List Text → List (Option given.Place) → List (Option Place)
+places_view templates tags = map (tag_view templates) tags
 
 -- this instruction, or none where its fields have no place for what it holds
 abbrev pub Given : Option Instruction → Instruction → Type 0
@@ -23,22 +34,24 @@ pub record HasPlace (limit n : ℕ) (a : Asm) : Type 0 where
   pub len : n + length (flat a n) ≤ limit
   pub fields : AllByRecursion IsInstruction (flat a n)
 
--- These are put behind the others where nothing overflows, and nothing does where there is place.
-pub record Puts (old : Emitter) (a : Asm) (new : Emitter) : Type 0 where
+-- These are put behind the others with their places where nothing overflows, and nothing does where there is place.
+pub record Puts (templates : List Text) (old : Emitter) (a : Asm) (new : Emitter) : Type 0 where
   pub limit : new.limit ≡ old.limit
   pub kept : new.overflowed ≡ false → old.overflowed ≡ false
   pub emitted : new.overflowed ≡ false → Emitted old.code.items a new.code.items
+  pub tagged : new.overflowed ≡ false → places_view templates new.places.items ≡ places_view templates old.places.items ++ places a
   pub place : HasPlace old.limit (length old.code.items) a → old.overflowed ≡ false → new.overflowed ≡ false
 
--- a jump behind the others, at this point
+-- a jump behind the others, at this point; it has no place
 pub record Reserves (old : Emitter) (jump : Instruction) (point : ℕ) (new : Emitter) : Type 0 where
   pub at : point ≡ length old.code.items
-  pub puts : Puts old (one None jump) new
+  pub puts : (templates : List Text) → Puts templates old (one None jump) new
 
--- this instruction in place of the one at the point, if there is one
+-- this instruction in place of the one at the point, if there is one; places stay
 pub record Patches (old : Emitter) (point : ℕ) (i : Instruction) (new : Emitter) : Type 0 where
   pub limit : new.limit ≡ old.limit
   pub len : length new.code.items ≡ length old.code.items
+  pub places : new.places.items ≡ old.places.items
   pub kept : new.overflowed ≡ false → old.overflowed ≡ false
   pub code : new.overflowed ≡ false → new.code.items ≡ slice_set old.code.items point (wire_of i)
   pub place : IsInstruction i → old.overflowed ≡ false → new.overflowed ≡ false
@@ -52,7 +65,7 @@ pub record Ends (old : Emitter) (choice last : ℕ) (new : Emitter) : Type 0 whe
 -- the way back to the test at the top, and the test goes behind it where no turn is left
 pub record EndsTurns (old : Emitter) (top : ℕ) (new : Emitter) : Type 0 where
   pub back : Emitter
-  pub goes : Puts old (one None (op.Jump top)) back
+  pub goes : (templates : List Text) → Puts templates old (one None (op.Jump top)) back
   pub patches : Patches back top (op.LoopNext (length back.code.items)) new
 
 -- a count of entries, as far as fields have place for it

@@ -1,5 +1,6 @@
 -- The code of resolved programs, its jumps still in pairs.
 use Rattle.std.specs.Prelude.{ℕ, zero, suc, Bool, true, false, List, [], ◌∷◌, ◌++◌, length, map, Option, Some, None}
+use Rattle.std.specs.List.{flat_map}
 use Rattle.jt_value.specs.Tree as tree
 use Rattle.jt_value.specs.Tree.{Tree}
 use Rattle.jt_ids.specs.OpTable.{op_id}
@@ -9,16 +10,18 @@ use Rattle.jt_image.specs.declared.instruction.Instruction.TheVariants as op
 use Rattle.jt_image.specs.declared.loop_field.LoopField.{LoopField}
 use Rattle.jt_image.specs.declared.loop_field.LoopField.TheVariants as of_loop
 use Rattle.jt_image.specs.Loops.{field_id}
+use Rattle.jt_image.specs.declared.version.Version.TheVariants as version
 use Rattle.jt_image.specs.Code as code
 use Rattle.jt_image.specs.Code.{Constant, Name, Section, Code}
-use Rattle.jt_slots.specs.Got.{Place}
+use Rattle.jt_value.specs.Place.{Place}
 use Rattle.jt_trees.specs.Expressions.{Text}
 use Rattle.jt_slots.specs.Loops as loops
 use Rattle.jt_slots.specs.Loops.{Field}
 use Rattle.jt_slots.specs.Size.{row_count}
 use Rattle.jt_slots.specs.Slots as slots
 use Rattle.jt_slots.specs.Slots.{Slot, local, global, Maker, SExpr, SRow, Targets, SStmt, SBody, Routine, Program}
-use Rattle.jt_lower.specs.Asm.{Asm, nil, one, both, choose, when, each, invoke, flat}
+use Rattle.jt_lower.specs.Asm.{Asm, nil, one, both, choose, when, each, invoke, flat, places}
+use Rattle.jt_lower.specs.Spots.{templates_of, spot_of}
 
 -- keys and values in turn are half as many entries
 abbrev pub half : ℕ → ℕ
@@ -140,6 +143,23 @@ abbrev pub numbered : ℕ → List Text → List Name
 numbered n [] = []
 numbered n (x ∷ xs) = record { slot = n; text = x } ∷ numbered (suc n) xs
 
+-- the places of a routine's instructions; Return has none
+abbrev pub routine_places : Routine ℕ → List (Option Place)
+routine_places r = places (body_asm r.body 0) ++ None ∷ []
+
+-- the places of all instructions
+abbrev pub places_of : Program → List (Option Place)
+places_of p = flat_map routine_places p.routines
+
 -- the code of a program
 abbrev pub compiled : Program → Code
-compiled p = record { globals = p.globals; names = numbered 0 p.names; constants = map constant_of p.pool; units = map unit_of p.routines }
+compiled p =
+    record {
+      version = version.Two;
+      globals = p.globals;
+      names = numbered 0 p.names;
+      constants = map constant_of p.pool;
+      units = map unit_of p.routines;
+      templates = templates_of (places_of p);
+      spots = map (spot_of (templates_of (places_of p))) (places_of p);
+    }

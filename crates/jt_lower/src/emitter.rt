@@ -4,6 +4,7 @@ ghost use Rattle.std.specs.Prelude.{◌≤◌, length};
 
 use crate::instructions::{jump_of, test_of, turn_of};
 use jt_image::{Instr, Instruction};
+use jt_slots::Place;
 use std::alloc::{AllocError, Global};
 
 /// The instructions of a unit while it is written.
@@ -11,6 +12,8 @@ use std::alloc::{AllocError, Global};
 pub struct Emitter {
     /// The instructions, by their fields.
     pub code: Vec<Instr>,
+    /// Where the tag of each instruction stands; none for jumps, and for what stands in no tag.
+    pub places: Vec<Option<Place>>,
     /// How many there may be.
     pub limit: usize,
     /// Whether there would be more, or some instruction holds more than its fields have place for: then the code means nothing.
@@ -19,44 +22,52 @@ pub struct Emitter {
 }
 
 impl Emitter {
-    ghost use Rattle.std.specs.Prelude.{◌≡◌, false, [], Option, None, IfOk, OnOk};
+    ghost use Rattle.std.specs.Prelude.{◌≡◌, false, List, [], IfOk, OnOk};
     ghost use Rattle.jt_image.specs.declared.instruction.Instruction.TheVariants as op;
-    ghost use Rattle.jt_slots.specs.Got.{Place};
+    ghost use Rattle.jt_trees.specs.Expressions.{Text};
     ghost use Rattle.jt_lower.specs.Asm.{one};
-    ghost use Rattle.jt_lower.specs.Emission.{Given, Puts, Reserves, Patches, Ends, EndsTurns};
+    ghost use Rattle.jt_lower.specs.Emission.{Given, tag_view, Puts, Reserves, Patches, Ends, EndsTurns};
 
     /// No instructions yet; there may be so many.
     pub fn new(alloc: Global, limit: usize) -> Emitter
         ensures empty { result.code.items ≡ [] }
+        ensures nowhere { result.places.items ≡ [] }
         ensures limited { result.limit ≡ limit }
         ensures whole { result.overflowed ≡ false }
     {
         Emitter {
             code: Vec::new(alloc),
+            places: Vec::new(alloc),
             limit,
             overflowed: false,
         }
     }
 
-    /// Puts an instruction behind the others; none stands for one that its fields have no place for.
-    pub fn put(&mut self, instruction: Option<Instruction>) -> Result<(), AllocError>
-        ensures { OnOk result ((o : Option Place) (i : Instruction)
+    /// Puts an instruction of a tag behind the others; none stands for one that its fields have no place for.
+    pub fn put(
+        &mut self,
+        tag: Option<Place>,
+        instruction: Option<Instruction>,
+    ) -> Result<(), AllocError>
+        ensures { OnOk result ((templates : List Text) (i : Instruction)
             → Given instruction i
-            → Puts self.old (one o i) self.new) }
+            → Puts templates self.old (one (tag_view templates tag) i) self.new) }
     {
         match instruction {
-            Some(known) => self.push(known)?,
+            Some(known) => self.push(tag, known)?,
             None => self.overflowed = true,
         }
         Ok(())
     }
 
-    /// Puts an instruction behind the others, if there may be one more.
-    fn push(&mut self, instruction: Instruction) -> Result<(), AllocError>
-        ensures { OnOk result ((o : Option Place) → Puts self.old (one o instruction) self.new) }
+    /// Puts an instruction of a tag behind the others, if there may be one more.
+    fn push(&mut self, tag: Option<Place>, instruction: Instruction) -> Result<(), AllocError>
+        ensures { OnOk result ((templates : List Text)
+            → Puts templates self.old (one (tag_view templates tag) instruction) self.new) }
     {
         if self.code.len() < self.limit {
             self.code.push(instruction.wire())?;
+            self.places.push(tag)?;
         } else {
             self.overflowed = true;
         }
@@ -68,7 +79,7 @@ impl Emitter {
         ensures { IfOk result (λ point. Reserves self.old jump point self.new) }
     {
         let point = self.code.len();
-        self.push(jump)?;
+        self.push(None, jump)?;
         Ok(point)
     }
 
@@ -137,7 +148,7 @@ impl Emitter {
     pub fn end_turns(&mut self, top: usize) -> Result<(), AllocError>
         ensures { OnOk result (EndsTurns self.old top self.new) }
     {
-        self.put(jump_of(top))?;
+        self.put(None, jump_of(top))?;
         let past = turn_of(self.code.len());
         self.patch(top, past);
         Ok(())

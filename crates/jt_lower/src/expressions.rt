@@ -1,57 +1,62 @@
 //! The code of resolved expressions.
 
-ghost use Rattle.std.specs.Prelude.{◌≡◌, ℕ, Option, OnOk};
+ghost use Rattle.std.specs.Prelude.{◌≡◌, ℕ, List, OnOk};
 ghost use Rattle.jt_slots.specs.Size.{row_count};
-ghost use Rattle.jt_slots.specs.Got.{Place};
+ghost use Rattle.jt_trees.specs.Expressions.{Text};
 ghost use Rattle.jt_slots.specs.Slots as slots;
 ghost use Rattle.jt_slots.specs.Slots.{none};
 ghost use Rattle.jt_slots.specs.View.{expr_view, row_view};
 ghost use Rattle.jt_lower.specs.Lower.{expr_asm, row_asm};
-ghost use Rattle.jt_lower.specs.Emission.{StandsFor, Puts};
+ghost use Rattle.jt_lower.specs.Emission.{StandsFor, tag_view, Puts};
 
 use crate::emitter::Emitter;
 use crate::instructions::{call_of, constant_of, flag, load_of, made_of, store_of, told_of};
 use jt_image::Instruction;
-use jt_slots::{SExpr, Slot};
+use jt_slots::{Place, SExpr, Slot};
 use std::alloc::AllocError;
 
-/// Puts the code of an expression behind the others, with so many entries above the innermost loop.
+/// Puts the code of an expression of a tag behind the others, with so many entries above the innermost loop.
 #[cycle(expressions)]
-pub fn emit_expression(code: &mut Emitter, expr: &SExpr, above: usize) -> Result<(), AllocError>
-    ensures { OnOk result ((o : Option Place) (h : ℕ)
+pub fn emit_expression(
+    code: &mut Emitter,
+    tag: Option<Place>,
+    expr: &SExpr,
+    above: usize,
+) -> Result<(), AllocError>
+    ensures { OnOk result ((templates : List Text) (h : ℕ)
         → StandsFor above h
-        → Puts code.old (expr_asm o (expr_view expr.now) h) code.new) }
+        → Puts templates code.old (expr_asm (tag_view templates tag) (expr_view expr.now) h) code.new) }
 {
     match expr {
         SExpr::Pooled(place) => {
-            code.put(constant_of(*place))?;
+            code.put(tag, constant_of(*place))?;
             Ok(())
         }
         SExpr::Variable(slot) => {
-            code.put(load_of(*slot))?;
+            code.put(tag, load_of(*slot))?;
             Ok(())
         }
         SExpr::Field(told) => {
-            code.put(told_of(*told, above))?;
+            code.put(tag, told_of(*told, above))?;
             Ok(())
         }
         SExpr::Absent => Ok(()),
         SExpr::Made(made, row) => {
-            emit_row(code, row, above)?;
-            code.put(made_of(*made, count_values(row)))?;
+            emit_row(code, tag, row, above)?;
+            code.put(tag, made_of(*made, count_values(row)))?;
             Ok(())
         }
-        SExpr::Conjunction(left, right) => emit_conjunction(code, left, right, above),
-        SExpr::Disjunction(left, right) => emit_disjunction(code, left, right, above),
+        SExpr::Conjunction(left, right) => emit_conjunction(code, tag, left, right, above),
+        SExpr::Disjunction(left, right) => emit_disjunction(code, tag, left, right, above),
         SExpr::Choice(condition, taken, other) => {
-            emit_choice(code, condition, taken, other, above)
+            emit_choice(code, tag, condition, taken, other, above)
         }
         SExpr::Invoke(routine, escaping, row) => {
             let printed = flag(*escaping);
-            code.put(Some(Instruction::CaptureBegin))?;
-            emit_row(code, row, above.saturating_add(1))?;
-            code.put(call_of(*routine))?;
-            code.put(Some(Instruction::CaptureEnd { flag: printed }))?;
+            code.put(tag, Some(Instruction::CaptureBegin))?;
+            emit_row(code, tag, row, above.saturating_add(1))?;
+            code.put(tag, call_of(*routine))?;
+            code.put(tag, Some(Instruction::CaptureEnd { flag: printed }))?;
             Ok(())
         }
     }
@@ -61,20 +66,21 @@ pub fn emit_expression(code: &mut Emitter, expr: &SExpr, above: usize) -> Result
 #[cycle(expressions)]
 fn emit_conjunction(
     code: &mut Emitter,
+    tag: Option<Place>,
     left: &SExpr,
     right: &SExpr,
     above: usize,
 ) -> Result<(), AllocError>
-    ensures { OnOk result ((o : Option Place) (h : ℕ)
+    ensures { OnOk result ((templates : List Text) (h : ℕ)
         → StandsFor above h
-        → Puts code.old
-        (expr_asm o (slots.conjunction (expr_view left.now) (expr_view right.now)) h) code.new) }
+        → Puts templates code.old
+        (expr_asm (tag_view templates tag) (slots.conjunction (expr_view left.now) (expr_view right.now)) h) code.new) }
 {
-    emit_expression(code, left, above)?;
-    code.put(Some(Instruction::Dup))?;
+    emit_expression(code, tag, left, above)?;
+    code.put(tag, Some(Instruction::Dup))?;
     let choice = code.begin_choice()?;
-    code.put(Some(Instruction::Drop))?;
-    emit_expression(code, right, above)?;
+    code.put(tag, Some(Instruction::Drop))?;
+    emit_expression(code, tag, right, above)?;
     let last = code.end_branch(choice)?;
     code.close(last);
     Ok(())
@@ -84,21 +90,22 @@ fn emit_conjunction(
 #[cycle(expressions)]
 fn emit_disjunction(
     code: &mut Emitter,
+    tag: Option<Place>,
     left: &SExpr,
     right: &SExpr,
     above: usize,
 ) -> Result<(), AllocError>
-    ensures { OnOk result ((o : Option Place) (h : ℕ)
+    ensures { OnOk result ((templates : List Text) (h : ℕ)
         → StandsFor above h
-        → Puts code.old
-        (expr_asm o (slots.disjunction (expr_view left.now) (expr_view right.now)) h) code.new) }
+        → Puts templates code.old
+        (expr_asm (tag_view templates tag) (slots.disjunction (expr_view left.now) (expr_view right.now)) h) code.new) }
 {
-    emit_expression(code, left, above)?;
-    code.put(Some(Instruction::Dup))?;
+    emit_expression(code, tag, left, above)?;
+    code.put(tag, Some(Instruction::Dup))?;
     let choice = code.begin_choice()?;
     let last = code.end_branch(choice)?;
-    code.put(Some(Instruction::Drop))?;
-    emit_expression(code, right, above)?;
+    code.put(tag, Some(Instruction::Drop))?;
+    emit_expression(code, tag, right, above)?;
     code.close(last);
     Ok(())
 }
@@ -107,22 +114,23 @@ fn emit_disjunction(
 #[cycle(expressions)]
 fn emit_choice(
     code: &mut Emitter,
+    tag: Option<Place>,
     condition: &SExpr,
     taken: &SExpr,
     other: &SExpr,
     above: usize,
 ) -> Result<(), AllocError>
-    ensures { OnOk result ((o : Option Place) (h : ℕ)
+    ensures { OnOk result ((templates : List Text) (h : ℕ)
         → StandsFor above h
-        → Puts code.old (expr_asm o
+        → Puts templates code.old (expr_asm (tag_view templates tag)
         (slots.choice (expr_view condition.now) (expr_view taken.now) (expr_view other.now)) h)
         code.new) }
 {
-    emit_expression(code, condition, above)?;
+    emit_expression(code, tag, condition, above)?;
     let choice = code.begin_choice()?;
-    emit_expression(code, taken, above)?;
+    emit_expression(code, tag, taken, above)?;
     let last = code.end_branch(choice)?;
-    emit_expression(code, other, above)?;
+    emit_expression(code, tag, other, above)?;
     code.close(last);
     Ok(())
 }
@@ -144,18 +152,19 @@ fn count_values(row: &[(Option<usize>, SExpr)]) -> usize
 #[cycle(expressions)]
 pub fn emit_row(
     code: &mut Emitter,
+    tag: Option<Place>,
     row: &[(Option<usize>, SExpr)],
     above: usize,
 ) -> Result<(), AllocError>
-    ensures { OnOk result ((o : Option Place) (h : ℕ)
+    ensures { OnOk result ((templates : List Text) (h : ℕ)
         → StandsFor above h
-        → Puts code.old (row_asm o (row_view row.now none) h) code.new) }
+        → Puts templates code.old (row_asm (tag_view templates tag) (row_view row.now none) h) code.new) }
 {
     let mut top = above;
     for (kept, expr) in row {
-        emit_expression(code, expr, top)?;
+        emit_expression(code, tag, expr, top)?;
         match kept {
-            Some(local) => code.put(store_of(Slot::Local(*local)))?,
+            Some(local) => code.put(tag, store_of(Slot::Local(*local)))?,
             None => top = top.saturating_add(1),
         }
     }

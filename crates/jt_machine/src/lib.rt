@@ -15,6 +15,7 @@ mod maps;
 mod measure;
 mod outcome;
 mod parts;
+mod placing;
 mod runs;
 mod sink;
 mod stack;
@@ -25,7 +26,7 @@ mod unpacking;
 mod writing;
 
 pub use machine::{Machine, session_laws};
-pub use outcome::{Ended, Outcome, Progress};
+pub use outcome::{Ended, Outcome, Place, Progress};
 pub use runs::{run, run_view};
 pub use sink::{IoSink, Sink, SinkFailed, put_all};
 pub use writing::{RunToError, run_to};

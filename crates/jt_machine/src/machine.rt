@@ -11,6 +11,7 @@ ghost use Rattle.jt_machine.specs.Session.{SessionLaws, led, told_of};
 ghost use Rattle.jt_machine.specs.StageView.{stage_view, IsReached, IsUnderway};
 ghost use Rattle.jt_machine.specs.View.{config_view, next_view};
 
+use crate::at_once::hurry;
 use crate::outcome::{Outcome, Progress};
 use crate::start::{context_passes, start};
 use crate::state::State;
@@ -108,7 +109,7 @@ impl Machine {
         ensures steps { OnOk result (self.new ≡ advanced k self.old) }
         ensures progress { IfOk result (λ p. told_of self.new.status ≡ Some p) }
         ensures lost { OnErr result (self.new ≡ lost_session self.old) }
-        // Memory is wanted only where one of these steps goes on and puts something.
+        // Memory is wanted only where one of these steps goes on and puts something, or ends with a fault that has a place.
         ensures memory { OnErr result (MayLose k self.old) }
         // A run that has ended wants no memory.
         ensures unended { IfErr result (λ e. outcome_of self.old ≡ None) }
@@ -207,12 +208,17 @@ fn take_steps<C: Code>(
     ensures reached { IfOk result (λ r. IfNone r (IsReached (C.code code.now) state.new)) }
 {
     code_laws();
-    'steps: for _ in 0..k {
+    let mut left = u64::from(k);
+    'steps: loop {
+        left = hurry(code, state, left);
+        if left == 0 {
+            return Ok(None);
+        }
         if let Some(outcome) = step(alloc, code, state)? {
             return Ok(Some(outcome));
         }
+        left -= 1;
     }
-    Ok(None)
 }
 
 /// Slices of runs add up.

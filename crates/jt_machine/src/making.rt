@@ -84,7 +84,7 @@ pub(crate) fn push_answer(
 {
     match answer {
         Ok(value) => push_fitting(state, value),
-        Err(OpError::Fault(fault)) => Ok(Some(Outcome::Fault(fault))),
+        Err(OpError::Fault(fault)) => Ok(Some(Outcome::Fault(fault, None))),
         Err(OpError::TooLarge) => Ok(Some(Outcome::Spent(Spent::Size))),
         Err(OpError::TooDeep) => Ok(Some(Outcome::Spent(Spent::Nesting))),
         Err(OpError::NoMemory) => Err(NoMemory),

@@ -38,7 +38,7 @@ pub(crate) fn map_refusal(pairs: &[Entry], budget: &Budget) -> Option<Outcome>
     ensures fits { IfNone result (IsWithin (budget_view budget.now) (mapped (all_held pairs.now))) }
 {
     if let Some(fault) = keys_fault(pairs) {
-        return Some(Outcome::Fault(fault));
+        return Some(Outcome::Fault(fault, None));
     }
     match map_limit(pairs, budget) {
         Some(spent) => Some(Outcome::Spent(spent)),

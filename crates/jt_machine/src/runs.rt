@@ -29,7 +29,7 @@ pub fn run(
     // The outcome is that of the run.
     ensures outcome { IfOk result
         (λ o. Run verified.now (pairs_of context.now) (budget_view budget) (outcome_view o)) }
-    // Memory is wanted only for the tables at the start, and at a step that goes on and puts something.
+    // Memory is wanted only for the tables at the start, and at a step that goes on and puts something, or ends with a fault that has a place.
     ensures memory { OnErr result
         (MayWant verified.now (pairs_of context.now) (budget_view budget)) }
     // Every run of the image has one outcome, stays within its fuel and is never wrong.
@@ -49,7 +49,7 @@ pub fn run_view(
     // The outcome is that of the run.
     ensures outcome { IfOk result
         (λ o. Run verified.now (pairs_of context.now) (budget_view budget) (outcome_view o)) }
-    // Memory is wanted only for the tables at the start, and at a step that goes on and puts something.
+    // Memory is wanted only for the tables at the start, and at a step that goes on and puts something, or ends with a fault that has a place.
     ensures memory { OnErr result
         (MayWant verified.now (pairs_of context.now) (budget_view budget)) }
     // Every run of the code has one outcome, stays within its fuel and is never wrong.
@@ -79,7 +79,7 @@ fn run_code<C: Code>(
     }
     let mut state = start(alloc, code, context, budget)?;
     'steps: loop {
-        hurry(code, &mut state);
+        hurry(code, &mut state, u64::MAX);
         if let Some(outcome) = step(alloc, code, &mut state)? {
             return Ok(outcome);
         }

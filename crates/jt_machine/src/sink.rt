@@ -1,7 +1,7 @@
 //! Writers of pieces.
 ghost use Rattle.std.specs.Prelude.{◌≡◌, ◌≢◌, ◌<◌, ◌≤◌, ℕ, Bool, true, false, List, [], length, take, Option, IfOk, IsErr, OnOk, OnErr};
 ghost use Rattle.std.specs.Io.KnownBytes.{Appends};
-ghost use Rattle.jt_machine.specs.Sinks.{TookFront};
+ghost use Rattle.jt_machine.specs.Sinks.{HasFailed, TookFront};
 
 use std::io::Write;
 use thiserror::Error;
@@ -69,7 +69,21 @@ impl<W: Write> Sink for IoSink<W> {
 
     ghost failed = { λ s. s.failed };
 
-    fn put(&mut self, piece: &[u8]) -> Result<usize, SinkFailed> {
+    fn put(&mut self, piece: &[u8]) -> Result<usize, SinkFailed>
+        ensures idle { self.old.failed ≡ true → self.new ≡ self.old }
+        ensures refuses { self.old.failed ≡ true → IsErr result }
+        ensures within { IfOk result (λ n. n ≤ length piece.now) }
+        ensures some { IfOk result (λ n. piece.now ≢ [] → 0 < n) }
+        ensures took { IfOk result (λ n. Appends (W.contents self.old.writer)
+            (W.contents self.new.writer) (take n piece.now)) }
+        ensures works { OnOk result (self.new.failed ≡ false) }
+        ensures nothing { OnErr result
+            (Appends (W.contents self.old.writer) (W.contents self.new.writer) []) }
+        ensures fails { OnErr result (self.new.failed ≡ true) }
+        // A sink that works refuses a piece only where the writer failed at it.
+        ensures why { OnErr result (self.old.failed ≡ false
+            → HasFailed (W.contents self.old.writer) (W.contents self.new.writer) piece.now) }
+    {
         if self.failed {
             return Err(SinkFailed);
         }

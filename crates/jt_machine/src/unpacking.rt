@@ -121,8 +121,8 @@ fn refusal(value: &Value, count: u32, budget: &Budget) -> Option<Outcome>
     let _size = budget.size;
     let _nesting = budget.nesting;
     match count_of(value) {
-        Err(fault) => Some(Outcome::Fault(fault)),
-        Ok(found) if found != count as usize => Some(Outcome::Fault(Fault::Unpack)),
+        Err(fault) => Some(Outcome::Fault(fault, None)),
+        Ok(found) if found != count as usize => Some(Outcome::Fault(Fault::Unpack, None)),
         Ok(_) => match budget.fits(greatest_item(value), deepest_item(value)) {
             Ok(()) => None,
             Err(spent) => Some(Outcome::Spent(spent)),
@@ -160,7 +160,7 @@ fn spread_items(
     }
     match items_of(alloc, value) {
         Ok(items) => push_values(state, items),
-        Err(ValueError::Fault(fault)) => Ok(Some(Outcome::Fault(fault))),
+        Err(ValueError::Fault(fault)) => Ok(Some(Outcome::Fault(fault, None))),
         Err(ValueError::NoMemory) => Err(NoMemory),
     }
 }

@@ -12,6 +12,7 @@ ghost use Rattle.jt_machine.specs.Growing.{MayWant};
 ghost use Rattle.jt_machine.specs.Sinks.{TookFront};
 ghost use Rattle.jt_machine.specs.View.{budget_view, config_view, outcome_view};
 
+use crate::at_once::hurry;
 use crate::outcome::{Ended, Outcome};
 use crate::sink::{Sink, SinkFailed, put_all};
 use crate::start::{context_passes, start};
@@ -81,7 +82,7 @@ pub fn run_to<W: Sink>(
     ensures write { IfErr result (λ e. e ≡ RunToError.Write → W.failed sink.new ≡ true) }
     ensures memory { IfErr result (λ e. e ≡ RunToError.NoMemory → W.failed sink.new ≡ false) }
     ensures still { OnOk result (W.failed sink.new ≡ false) }
-    // Memory is wanted only for the tables at the start, and at a step that goes on and puts something.
+    // Memory is wanted only for the tables at the start, and at a step that goes on and puts something, or ends with a fault that has a place.
     ensures wanted { IfErr result (λ e. e ≡ RunToError.NoMemory
         → MayWant verified.now (pairs_of context.now) (budget_view budget)) }
     // Every run of the image has one outcome, stays within its fuel and is never wrong.
@@ -119,6 +120,7 @@ fn write_code<C: Code, W: Sink>(
     let mut state = start(alloc, code, context, budget)?;
     'steps: loop {
         send(&mut state, sink)?;
+        hurry(code, &mut state, u64::MAX);
         if let Some(outcome) = step(alloc, code, &mut state)? {
             return Ok(close(outcome, sink)?);
         }
@@ -177,7 +179,7 @@ fn close<W: Sink>(outcome: Outcome, sink: &mut W) -> Result<Ended, SinkFailed>
             put_all(sink, text.as_bytes())?;
             Ok(Ended::Whole)
         }
-        Outcome::Fault(fault) => Ok(Ended::Fault(fault)),
+        Outcome::Fault(fault, place) => Ok(Ended::Fault(fault, place)),
         Outcome::Spent(spent) => Ok(Ended::Spent(spent)),
     }
 }

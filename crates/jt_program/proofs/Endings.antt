@@ -15,7 +15,7 @@ use Rattle.jt_line.specs.declared.JobError.TheVariants as job_error
 use Rattle.jt_budget.specs.declared.Budget.{Budget}
 use Rattle.jt_program.specs.declared.messages.Failure.{Failure}
 use Rattle.jt_program.specs.declared.messages.Failure.TheVariants as failure
-use Rattle.jt_program.specs.Commands.{Answers, ChangesOnly, CommandEnds, Compiles, Ending, IsCompile, IsOfContext, IsPath, IsUnread, JobEnds, LineEnds, LineWrites, WritesImage, out_of}
+use Rattle.jt_program.specs.Commands.{Answers, ChangesOnly, CommandEnds, Compiles, Ending, IsOfContext, IsPath, IsUnread, IsWriting, JobEnds, LineEnds, LineWrites, Upgrades, WritesImage, out_of}
 use Rattle.jt_program.specs.Ending.{code_of, of_line, status_of}
 use Rattle.jt_program.specs.Files.{IsLibrary, IsOfDirectory, Known, path_in}
 
@@ -57,6 +57,17 @@ module _ (files : Known) where
   unwritten after dir name out options sources (failure.Context e) library h = absurd h
   unwritten after dir name out options sources e library h = absurd h
 
+  -- the same of an upgrade
+  pub not_rewritten : (after : Known) (image out : Text) (bytes : List ℕ) (e : Failure) → files.holds image bytes → IsUnread files (IsPath out) None (Err e)
+      → IsUnread files (IsPath image) None (Err e) ⊎ Upgrades files after image out (Err e)
+  not_rewritten after image out bytes (failure.File path) held h =
+      let at : string_bytes path ≡ out = ⊎_elim (λ asked. asked) (λ none. absurd none) h.1 in
+      let upgrades : Upgrades files after image out (Err (failure.File path)) = record { bytes = bytes; held = held; written = (at, subst files.fails at h.0) } in
+      inr upgrades
+  not_rewritten after image out bytes failure.NoMemory held h = inl tt
+  not_rewritten after image out bytes (failure.Context e) held h = absurd h
+  not_rewritten after image out bytes e held h = absurd h
+
 module _ (files after : Known) (found : Option (Word × List Row)) where
   -- a job that ends is the end of its line
   pub line_ends : (e : Ending) → Answers files after found e → LineEnds files after found e
@@ -75,24 +86,27 @@ module _ (files after : Known) (found : Option (Word × List Row)) where
   job_ends failure.NoMemory u m h = absurd (m refl)
   job_ends e u m h = h
 
--- a command that compiles has its name
-named : (name : Word) (rows : List Row) (k : Command) (o : Options) (b : Budget) (n : ℕ) → IsCommand name rows k o b n → IsCompile k → name ≡ codes "compile"
-named name rows (command.Compile dir template out) o b n h is = h.0
+-- a command that writes an image has its name
+named : (name : Word) (rows : List Row) (k : Command) (o : Options) (b : Budget) (n : ℕ) → IsCommand name rows k o b n → IsWriting k → (name ≡ codes "compile") ⊎ (name ≡ codes "upgrade")
+named name rows (command.Compile dir template out) o b n h is = inl h.0
+named name rows (command.Upgrade image out) o b n h is = inr h.0
 named name rows k o b n h is = absurd is
 
-pub compile_asked : (found : Option (Word × List Row)) (j : Job) → IsAsked found j → IsCompile j.command → option_map (λ c. c.0) found ≡ Some (codes "compile")
-compile_asked None j h is = absurd h
-compile_asked (Some c) j h is = ap Some (named c.0 c.1 j.command j.options j.budget j.slice h is)
+pub writing_asked : (found : Option (Word × List Row)) (j : Job) → IsAsked found j → (option_map (λ c. c.0) found ≡ Some (codes "compile") → ⊥)
+    → (option_map (λ c. c.0) found ≡ Some (codes "upgrade") → ⊥) → IsWriting j.command → ⊥
+writing_asked None j h a b is = h
+writing_asked (Some c) j h a b is = ⊎_elim (λ e. a (ap Some e)) (λ e. b (ap Some e)) (named c.0 c.1 j.command j.options j.budget j.slice h is)
 
 module _ (files after : Known) where
-  -- a command changes no file but that of OUT, where one that doesn't compile changes none
+  -- a command changes no file but that of OUT, where one that writes no image changes none
   only_of : (name : Word) (rows : List Row) (k : Command) (o : Options) (b : Budget) (n : ℕ) (e : Ending) → IsCommand name rows k o b n → CommandEnds files after k o b e
-      → ((IsCompile k → ⊥) → ChangesOnly files after (word_of (codes "OUT") rows)) → ChangesOnly files after (word_of (codes "OUT") rows)
+      → ((IsWriting k → ⊥) → ChangesOnly files after (word_of (codes "OUT") rows)) → ChangesOnly files after (word_of (codes "OUT") rows)
   only_of name rows (command.Compile dir template out) o b n e is ends kept = subst (ChangesOnly files after) is.3 ends.0
-  only_of name rows k o b n e is ends kept = kept (λ compiles. compiles)
+  only_of name rows (command.Upgrade image out) o b n e is ends kept = subst (ChangesOnly files after) is.2 ends.0
+  only_of name rows k o b n e is ends kept = kept (λ writes. writes)
 
   -- so it is with the line of a job
-  pub only_out : (found : Option (Word × List Row)) (j : Job) (e : Ending) → IsAsked found j → JobEnds files after j e → ((IsCompile j.command → ⊥) → ChangesOnly files after (out_of found))
+  pub only_out : (found : Option (Word × List Row)) (j : Job) (e : Ending) → IsAsked found j → JobEnds files after j e → ((IsWriting j.command → ⊥) → ChangesOnly files after (out_of found))
       → ChangesOnly files after (out_of found)
   only_out None j e asked ends kept = absurd asked
   only_out (Some c) j e asked ends kept = only_of c.0 c.1 j.command j.options j.budget j.slice e asked ends kept

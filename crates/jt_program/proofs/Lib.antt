@@ -3,3 +3,4 @@ mod Gathering
 mod Saying
 mod Starting
 pub mod Taking
+mod Refusing

@@ -1,5 +1,6 @@
 -- What each command comes to: what it reads from the files, how it ends and what it leaves.
-use Rattle.std.specs.Prelude.{◌≡◌, ◌≢◌, ◌↔◌, ◌⊎◌, ◌<◌, ◌≤◌, ℕ, Bool, true, false, List, [], ◌∷◌, ◌++◌, length, Contains, Option, Some, None, Result, Ok, Err, String, codes, string_bytes}
+use Rattle.std.specs.Prelude.{◌≡◌, ◌≢◌, ◌↔◌, ◌⊎◌, ◌≤◌, ℕ, Bool, flat_map, true, false, List, [], ◌∷◌, ◌++◌, length, Option, Some, None, option_map, Result, Ok, Err, String, codes, string_bytes}
+use Rattle.std.specs.Borrow.{Bor}
 use Rattle.std.specs.Fmt.{decimal}
 use Rattle.std.specs.declared.alloc.Global.{Global}
 use Rattle.std.specs.Io.KnownBytes.{Appends, Keeps}
@@ -9,13 +10,13 @@ use Rattle.jt_value.specs.Pairs.{Pairs}
 use Rattle.jt_inherit.specs.Chains.{Given}
 use Rattle.jt_trees.specs.Expressions.{Text}
 use Rattle.jt_value.specs.ContextView.{pairs_of}
-use Rattle.jt_value.specs.FaultText.{fault_text}
+use Rattle.jt_value.specs.Place.{Place}
 use Rattle.jt_value.specs.declared.Fault.{Fault}
 use Rattle.jt_budget.specs.declared.Budget.{Budget}
 use Rattle.jt_image.specs.Config.{Limit, Outcome}
-use Rattle.jt_machine.specs.View.{budget_view, limit_view}
+use Rattle.jt_machine.specs.View.{budget_view, limit_view, place_view}
 use Rattle.jt_contexts.specs.Json.{IsContext}
-use Rattle.jt_sessions.specs.Turns.{max_sessions}
+use Rattle.jt_sessions.specs.Turns.{World, max_sessions}
 use Rattle.jt_sessions.specs.declared.HostError.TheVariants as host_error
 use Rattle.jt_host.specs.Rendering.{IsRefused as IsUncompiled}
 use Rattle.jt_line.specs.Line.{IsAsked, word_of}
@@ -24,15 +25,16 @@ use Rattle.jt_line.specs.declared.Command.TheVariants as command
 use Rattle.jt_line.specs.declared.Job.{Job}
 use Rattle.jt_line.specs.declared.Options.{Options as LineOptions}
 use Rattle.jt_line.specs.declared.Pair.{Pair}
-use Rattle.jt_turns.specs.Lines.{limit_name, session_lines}
+use Rattle.jt_turns.specs.Lines.{fault_told, limit_name, session_lines}
 use Rattle.jt_turns.specs.Outcomes.{AreOutcomes}
+use Rattle.jt_turns.specs.Standing.{Stands}
 use Rattle.jt_turns.specs.declared.Start.{Start}
 use Rattle.jt_program.specs.declared.messages.Failure.{Failure}
 use Rattle.jt_program.specs.declared.messages.Failure.TheVariants as failure
 use Rattle.jt_machine.specs.Sinks.{TookFront}
 use Rattle.jt_program.specs.Ending.{code_of, status_of}
 use Rattle.jt_program.specs.Files.{Known, IsLibrary, IsOfDirectory}
-use Rattle.jt_program.specs.Program.{ComesTo, IsCounted, IsImage, IsImageOf, IsNoContext, IsNoImage, RendersTo, scan_options}
+use Rattle.jt_program.specs.Program.{ComesTo, IsCounted, IsImage, IsImageOf, IsNoContext, IsNoImage, IsNoUpgrade, IsUpgraded, RendersTo, scan_options}
 
 -- how a command ends: with the text that it prints, or with a failure
 abbrev pub Ending : Type 0
@@ -89,6 +91,14 @@ IsWritten files after out sources entry options (Err (failure.File path)) = IsPa
 IsWritten files after out sources entry options (Err (failure.Template e)) = IsUncompiled sources entry options e
 IsWritten files after out sources entry options (Err e) = ⊥
 
+-- the file at a path holds the image in version 2, and nothing is printed; or why not: that file fails, or there is no such image
+abbrev pub IsRewritten : Known → Known → Text → List ℕ → Ending → Type 0
+IsRewritten files after out bytes (Ok text) =
+    (string_bytes text ≡ []) × ((new : List ℕ) × after.holds out new × IsUpgraded bytes new)
+IsRewritten files after out bytes (Err (failure.File path)) = IsPath out (string_bytes path) × files.fails out
+IsRewritten files after out bytes (Err (failure.Image e)) = IsNoUpgrade bytes e
+IsRewritten files after out bytes (Err e) = ⊥
+
 module _ (files : Known) where
   -- the image at a path is verified
   pub record Checks (image : Text) (e : Ending) : Type 0 where
@@ -131,14 +141,34 @@ module _ (files : Known) where
   IsNoStart p e = IsUnread files (IsPath (string_bytes p.image)) (Some p.context) (Err e)
       ⊎ ((bytes : List ℕ) × files.holds (string_bytes p.image) bytes × IsNoImage bytes e)
 
-  -- The images of pairs run for their contexts in turns, each as if alone: the line of each, whatever the turns are; or why there is none.
-  -- There are lines of at most 64, and the host is full only where there are more.
+  -- a pair behind others is not opened: as many are open as a host has place for, though the pair is good, or it gives no session
+  abbrev pub IsNotOpened : List Pair → Pair → Failure → Type 0
+  IsNotOpened before p failure.NoMemory = Unit {0}
+  IsNotOpened before p (failure.Host e) = (e ≡ host_error.Full) × (length before ≡ max_sessions) × ((s : Start) × IsStart p s)
+  IsNotOpened before p e = IsNoStart p e
+
+  -- the sessions of the pairs are open, and the host has place for them
+  abbrev pub AreOpen : Budget → List Pair → World → Type 0
+  AreOpen b ps w = (ss : List Start) × AreStarts ps ss × Stands (budget_view b) ss w
+
+  -- The first pair that is not opened: those before it are, whatever stands behind it.
+  pub record StopsAt (ps : List Pair) (e : Failure) : Type 0 where
+    pub before : List Pair
+    pub pair : Pair
+    pub after : List Pair
+    pub parts : ps ≡ before ++ pair ∷ after
+    pub starts : List Start
+    pub opened : AreStarts before starts
+    pub few : length before ≤ max_sessions
+    pub why : IsNotOpened before pair e
+
+  -- The images of pairs run for their contexts in turns, each as if alone: the line of each, whatever the turns are, of at most 64;
+  -- or the first pair is named that is not opened.
   abbrev pub TakesTurns : List Pair → Budget → Ending → Type 0
   TakesTurns ps b (Ok text) = (length ps ≤ max_sessions)
       × ((ss : List Start) × AreStarts ps ss × ((os : List Outcome) × AreOutcomes (budget_view b) ss os × (string_bytes text ≡ session_lines 1 os)))
   TakesTurns ps b (Err failure.NoMemory) = Unit {0}
-  TakesTurns ps b (Err (failure.Host e)) = (e ≡ host_error.Full) × (max_sessions < length ps)
-  TakesTurns ps b (Err e) = (p : Pair) × Contains ps p × IsNoStart p e
+  TakesTurns ps b (Err e) = StopsAt ps e
 
 module _ (files after : Known) where
   -- the template of a name, from the files of a directory, is compiled to an image at a path
@@ -146,6 +176,12 @@ module _ (files after : Known) where
     pub sources : Given
     pub library : IsLibrary files dir sources
     pub written : IsWritten files after out sources name options e
+
+  -- the image at a path is written in version 2 to another
+  pub record Upgrades (image out : Text) (e : Ending) : Type 0 where
+    pub bytes : List ℕ
+    pub held : files.holds image bytes
+    pub written : IsRewritten files after out bytes e
 
   -- at every path but this one there are the bytes that were there, and none where there were none
   abbrev pub ChangesOnly : Text → Type 0
@@ -164,6 +200,8 @@ module _ (files after : Known) where
       IsUnread files (IsOfDirectory files (string_bytes dir)) context e
       ⊎ Renders files (string_bytes dir) (string_bytes name) (scan_options o) context b e
   CommandEnds (command.Turns sessions) o b e = TakesTurns files sessions.items b e
+  CommandEnds (command.Upgrade image out) o b e = ChangesOnly (string_bytes out)
+      × (IsUnread files (IsPath (string_bytes image)) None e ⊎ Upgrades (string_bytes image) (string_bytes out) e)
 
   abbrev pub JobEnds : Job → Ending → Type 0
   JobEnds j = CommandEnds j.command j.options j.budget
@@ -188,9 +226,17 @@ module _ (files : Known) where
     pub bytes : List ℕ
     pub image : IsImage sources name options bytes
 
+  -- the image at a path has one in version 2
+  pub record HasUpgrade (image : Text) : Type 0 where
+    pub bytes : List ℕ
+    pub held : files.holds image bytes
+    pub new : List ℕ
+    pub upgraded : IsUpgraded bytes new
+
   -- the command has an image to write
   abbrev pub WritesImage : Command → LineOptions → Type 0
   WritesImage (command.Compile dir name out) o = HasImage (string_bytes dir) (string_bytes name) (scan_options o)
+  WritesImage (command.Upgrade image out) o = HasUpgrade (string_bytes image)
   WritesImage c o = ⊥
 
   -- the line asks for such a command
@@ -199,15 +245,16 @@ module _ (files : Known) where
     pub asked : IsAsked found job
     pub writes : WritesImage job.command job.options
 
--- OUT of a line of `compile`: no other line has one
+-- OUT of a line of `compile` or `upgrade`: no other line has one
 abbrev pub out_of : Option (Word × List Row) → Text
 out_of None = []
 out_of (Some c) = word_of (codes "OUT") c.1
 
--- the command is `compile`
-abbrev pub IsCompile : Command → Type 0
-IsCompile (command.Compile dir name out) = Unit {0}
-IsCompile c = ⊥
+-- the command is one that writes an image
+abbrev pub IsWriting : Command → Type 0
+IsWriting (command.Compile dir name out) = Unit {0}
+IsWriting (command.Upgrade image out) = Unit {0}
+IsWriting c = ⊥
 
 -- ---- what the program tells
 
@@ -220,9 +267,13 @@ Tells old new sink_failed (Ok text) status =
     ⊎ ((status ≡ 5) × (sink_failed ≡ true) × TookFront (string_bytes text) old new)
 Tells old new sink_failed (Err e) status = (status ≡ code_of (status_of e)) × Keeps old new
 
--- the line that names a fault
-abbrev pub fault_line : Fault → Text
-fault_line f = codes "jt: fault " ++ (fault_text f ++ codes "\n")
+-- texts, one behind the other
+abbrev pub texts_of : List (Bor Text) → Text
+texts_of = flat_map (λ s. s.now)
+
+-- the line that names a fault, with its place if it has one
+abbrev pub fault_line : Fault → Option Place → Text
+fault_line f q = codes "jt: fault " ++ fault_told f q
 
 -- the line that names a number of the budget, which was spent
 abbrev pub spent_line : Limit → Text
@@ -235,7 +286,7 @@ file_line path = codes "jt: file " ++ (path ++ codes "\n")
 -- What stands on standard error behind what stood there: the line of a fault, a spent number or a file, or a beginning of that
 -- line, where no more was taken. Of the other lines nothing is said.
 abbrev pub Says : Option (List ℕ) → Option (List ℕ) → Failure → Type 0
-Says old new (failure.Fault f) = TookFront (fault_line f) old new
+Says old new (failure.Fault f q) = TookFront (fault_line f (option_map place_view q)) old new
 Says old new (failure.Spent s) = TookFront (spent_line (limit_view s)) old new
 Says old new (failure.File path) = TookFront (file_line (string_bytes path)) old new
 Says old new failure.Output = TookFront (file_line (codes "-")) old new

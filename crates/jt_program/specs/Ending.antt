@@ -36,7 +36,7 @@ code_of status.Memory = 6
 
 -- the status of each failure
 abbrev pub status_of : Failure → Status
-status_of (failure.Fault f) = status.Fault
+status_of (failure.Fault f q) = status.Fault
 status_of (failure.Usage text) = status.Usage
 status_of failure.Words = status.Usage
 status_of (failure.Image e) = status.Refused
@@ -92,7 +92,7 @@ of_host e = failure.Host e
 -- what the end of a run comes to: its text, or a failure
 abbrev pub of_outcome : Outcome → Result (String Global) Failure
 of_outcome (outcome.Text text) = Ok text
-of_outcome (outcome.Fault f) = Err (failure.Fault f)
+of_outcome (outcome.Fault f q) = Err (failure.Fault f q)
 of_outcome (outcome.Spent s) = Err (failure.Spent s)
 
 -- the usage, or no memory: what a line that the program does not take comes to

@@ -14,7 +14,9 @@ use Rattle.jt_image.specs.Spelling.{spelling}
 use Rattle.jt_image.specs.IsCode.{total_len}
 use Rattle.jt_image.specs.Reading.{Gives, code_of}
 use Rattle.jt_image.specs.Run.{Run}
+use Rattle.jt_image.specs.Upgrading.{upgraded, IsNotUpgraded}
 use Rattle.jt_image.specs.Typed.{IsTyped}
+use Rattle.jt_image.specs.declared.ImageError.{ImageError}
 use Rattle.jt_image.specs.declared.ImageError.TheVariants as image_error
 use Rattle.jt_budget.specs.declared.Budget.{Budget}
 use Rattle.jt_contexts.specs.Json.{IsContext, Holds}
@@ -66,9 +68,28 @@ IsRun bytes x b o = (k : Code) × IsImageOf bytes k × Run k x (budget_view b) (
 -- what is answered is so: the text of the run, or why there is none
 abbrev pub ComesTo : List ℕ → Pairs → Budget → Result (String Global) Failure → Type 0
 ComesTo bytes x b (Ok text) = IsRun bytes x b (outcome.Text text)
-ComesTo bytes x b (Err (failure.Fault f)) = IsRun bytes x b (outcome.Fault f)
+ComesTo bytes x b (Err (failure.Fault f q)) = IsRun bytes x b (outcome.Fault f q)
 ComesTo bytes x b (Err (failure.Spent s)) = IsRun bytes x b (outcome.Spent s)
 ComesTo bytes x b (Err e) = IsNoImage bytes e
+
+-- the bytes spell a code, and others spell what it becomes in version 2
+pub record IsUpgraded (bytes new : List ℕ) : Type 0 where
+  pub code : Code
+  pub given : code_of bytes ≡ Ok code
+  pub spelled : new ≡ spelling (upgraded code)
+
+-- the bytes are no image, or its code would be too long in version 2, as the refusal says
+abbrev pub IsNoUpgrade : List ℕ → ImageError → Type 0
+IsNoUpgrade bytes e = (e ≢ image_error.NoMemory)
+    × (Gives (λ (k : Code). k) (Err e) (code_of bytes)
+    ⊎ ((k : Code) × (code_of bytes ≡ Ok k) × IsNotUpgraded e k))
+
+-- what is answered is so: the image in version 2, or why there is none
+abbrev pub UpgradesTo : List ℕ → Result (Vec ℕ Global) Failure → Type 0
+UpgradesTo bytes (Ok v) = IsUpgraded bytes v.items
+UpgradesTo bytes (Err (failure.Image e)) = IsNoUpgrade bytes e
+UpgradesTo bytes (Err failure.NoMemory) = Unit {0}
+UpgradesTo bytes (Err other) = ⊥
 
 -- ---- contexts
 
@@ -102,7 +123,7 @@ GivesImage sources entry options (Err other) = ⊥
 -- what is answered is so: the text of the entry's template, or why there is none
 abbrev pub RendersTo : Given → Text → Options → Pairs → Budget → Result (String Global) Failure → Type 0
 RendersTo sources entry options x b (Ok text) = IsRendered sources entry options x b (outcome.Text text)
-RendersTo sources entry options x b (Err (failure.Fault f)) = IsRendered sources entry options x b (outcome.Fault f)
+RendersTo sources entry options x b (Err (failure.Fault f q)) = IsRendered sources entry options x b (outcome.Fault f q)
 RendersTo sources entry options x b (Err (failure.Spent s)) = IsRendered sources entry options x b (outcome.Spent s)
 RendersTo sources entry options x b (Err (failure.Template e)) = IsUncompiled sources entry options e
 RendersTo sources entry options x b (Err failure.NoMemory) = Unit {0}

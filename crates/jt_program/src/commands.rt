@@ -1,7 +1,7 @@
 //! Images, contexts and templates as the commands need them.
 ghost use Rattle.std.specs.Prelude.{◌≡◌};
 ghost use Rattle.jt_value.specs.ContextView.{pairs_of};
-ghost use Rattle.jt_program.specs.Program.{ChecksTo, ComesTo, GivesContext, GivesImage, RendersTo, VerifiesTo, scan_options as options_of};
+ghost use Rattle.jt_program.specs.Program.{ChecksTo, ComesTo, GivesContext, GivesImage, RendersTo, UpgradesTo, VerifiesTo, scan_options as options_of};
 ghost use Rattle.jt_program.specs.Templates.{source_of};
 
 use crate::messages::{Failure, no_code, no_context, no_image, no_template, text_of, unrendered};
@@ -9,7 +9,7 @@ use crate::templates::Templates;
 use jt_budget::Budget;
 use jt_codegen::compile;
 use jt_host::{ContextError, context_from_json, render};
-use jt_image::{Code, decode, encode, view};
+use jt_image::{Code, decode, encode, upgrade, view};
 use jt_machine::run_view;
 use jt_scan::Options;
 use jt_value::Context;
@@ -53,6 +53,24 @@ pub(crate) fn image_of(
     let image = match compile(alloc, name, templates, options) {
         Ok(image) => image,
         Err(refusal) => return Err(no_template(refusal)),
+    };
+    match encode(alloc, &image) {
+        Ok(bytes) => Ok(bytes),
+        Err(_) => Err(Failure::NoMemory),
+    }
+}
+
+/// The bytes in version 2 of the image that bytes spell. It isn't verified.
+pub(crate) fn upgraded(alloc: Global, bytes: &[u8]) -> Result<Vec<u8>, Failure>
+    ensures { UpgradesTo bytes.now result }
+{
+    let image = match decode(alloc, bytes) {
+        Ok(image) => image,
+        Err(error) => return Err(no_image(error)),
+    };
+    let image = match upgrade(alloc, image) {
+        Ok(image) => image,
+        Err((_, error)) => return Err(no_image(error)),
     };
     match encode(alloc, &image) {
         Ok(bytes) => Ok(bytes),

@@ -9,7 +9,7 @@ use jt_codegen::CompileError;
 use jt_host::{ContextError, HostError, RenderError};
 use jt_image::ImageError;
 use jt_line::JobError;
-use jt_machine::Outcome;
+use jt_machine::{Outcome, Place};
 use jt_value::Fault;
 use jt_verify::Refusal;
 use std::alloc::{AllocError, AllocFailed};
@@ -53,9 +53,9 @@ pub enum Failure {
     /// The words of the line are no texts.
     #[error("jt: usage\n")]
     Words,
-    /// The template ended with a fault.
+    /// The template ended with a fault, at its place if the image tells one.
     #[error("jt: fault {0}\n")]
-    Fault(Fault),
+    Fault(Fault, Option<Place>),
     /// The bytes are no image.
     #[error("jt: refused {0}\n")]
     Image(ImageError),
@@ -93,7 +93,7 @@ impl Failure {
         match self {
             Failure::Usage(_) => Status::Usage,
             Failure::Words => Status::Usage,
-            Failure::Fault(_) => Status::Fault,
+            Failure::Fault(_, _) => Status::Fault,
             Failure::Image(_) => Status::Refused,
             Failure::Code(_) => Status::Refused,
             Failure::Template(_) => Status::Refused,
@@ -214,7 +214,7 @@ pub(crate) fn text_of(outcome: Outcome) -> Result<String, Failure>
 {
     match outcome {
         Outcome::Text(text) => Ok(text),
-        Outcome::Fault(fault) => Err(Failure::Fault(fault)),
+        Outcome::Fault(fault, place) => Err(Failure::Fault(fault, place)),
         Outcome::Spent(spent) => Err(Failure::Spent(spent)),
     }
 }

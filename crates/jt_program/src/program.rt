@@ -6,12 +6,14 @@ ghost use Rattle.clap.specs.Walk.{texts};
 ghost use Rattle.clap.specs.Words.{subcommand_of};
 ghost use Rattle.jt_value.specs.ContextView.{pairs_of};
 ghost use Rattle.jt_line.specs.Line.{Takes, Asks, program_app};
-ghost use Rattle.jt_program.specs.Commands.{Answers, ChangesOnly, Checks, Compiles, Ending, Explains, HasImage, IsCompile, IsContextAt, IsOfContext, IsPath, IsUnread, JobEnds, LineEnds, LineWrites, Renders, Runs, Tells, WritesImage, out_of};
+ghost use Rattle.jt_program.specs.Commands.{Answers, ChangesOnly, Checks, Compiles, Ending, Explains, HasImage, HasUpgrade, IsContextAt, IsOfContext, IsPath, IsUnread, IsWriting, JobEnds, LineEnds, LineWrites, Renders, Runs, Tells, Upgrades, WritesImage, out_of};
 ghost use Rattle.jt_program.specs.Ending.{IfUntaken, status_of};
 ghost use Rattle.jt_program.specs.Files.{AreSources, IsLibrary, IsOfDirectory, path_in};
 ghost use Rattle.jt_program.specs.Templates.{source_of};
 
-use crate::commands::{context_of, counts_of, image_of, render_text, run_image, scan_options};
+use crate::commands::{
+    context_of, counts_of, image_of, render_text, run_image, scan_options, upgraded,
+};
 use crate::files::{FileError, Files};
 use crate::messages::{Failure, Status, no_file};
 use crate::reports::report;
@@ -56,14 +58,16 @@ pub fn perform<F: Files, W: Sink, E: Write>(
     ensures untouched { result ≢ 0 → result ≢ 5 → out.new ≡ out.old }
     // so it is where it had failed before
     ensures failed_before { W.failed out.old ≡ true → out.new ≡ out.old }
-    // whatever the status is, there is no change to the files but at OUT of a line of `compile`
+    // whatever the status is, there is no change to the files but at OUT of a line of `compile` or `upgrade`
     ensures only { ChangesOnly (F.known files.old) (F.known files.new)
         (out_of (subcommand_of program_app (texts words.now))) }
-    // they are as they were, but where a template was to be compiled, nothing refused it, and there is an image of it
+    // they are as they were, but where a template was to be compiled or an image upgraded, nothing refused it, and there is such an image
     ensures touched { files.new ≡ files.old
         ⊎ LineWrites (F.known files.old) (subcommand_of program_app (texts words.now)) }
     ensures untaken { ¬ Takes (texts words.now) → files.new ≡ files.old }
-    ensures kept { ¬ Asks (codes "compile") (texts words.now) → files.new ≡ files.old }
+    ensures kept { ¬ Asks (codes "compile") (texts words.now)
+        → ¬ Asks (codes "upgrade") (texts words.now)
+        → files.new ≡ files.old }
     ensures unwritten { result ≢ 0 → result ≢ 5 → result ≢ 6 → files.new ≡ files.old }
 {
     match done(alloc, words, files) {
@@ -93,7 +97,9 @@ fn done<F: Files>(alloc: Global, words: &[&str], files: &mut F) -> Result<String
     ensures only { ChangesOnly (F.known files.old) (F.known files.new)
         (out_of (subcommand_of program_app (texts words.now))) }
     ensures untaken { ¬ Takes (texts words.now) → files.new ≡ files.old }
-    ensures kept { ¬ Asks (codes "compile") (texts words.now) → files.new ≡ files.old }
+    ensures kept { ¬ Asks (codes "compile") (texts words.now)
+        → ¬ Asks (codes "upgrade") (texts words.now)
+        → files.new ≡ files.old }
     ensures unwritten { IfErr result
         (λ e. status_of e ≢ Status.File → status_of e ≢ Status.Memory → files.new ≡ files.old) }
     ensures touched { files.new ≡ files.old
@@ -108,7 +114,7 @@ fn done<F: Files>(alloc: Global, words: &[&str], files: &mut F) -> Result<String
 /// Does what a job asks for, but for printing. The text is what it prints.
 fn carried_out<F: Files>(alloc: Global, job: Job, files: &mut F) -> Result<String, Failure>
     ensures ends { JobEnds (F.known files.old) (F.known files.new) job result }
-    ensures kept { ¬ IsCompile job.command → files.new ≡ files.old }
+    ensures kept { ¬ IsWriting job.command → files.new ≡ files.old }
     ensures unwritten { IfErr result
         (λ e. status_of e ≢ Status.File → status_of e ≢ Status.Memory → files.new ≡ files.old) }
     ensures touched { files.new ≡ files.old
@@ -130,6 +136,7 @@ fn carried_out<F: Files>(alloc: Global, job: Job, files: &mut F) -> Result<Strin
             render_in(alloc, files, dir, &name, options, context, budget)
         }
         Command::Turns { sessions } => run_turns(alloc, files, sessions, budget, slice),
+        Command::Upgrade { image, out } => upgrade_to(alloc, files, image, out),
     }
 }
 
@@ -156,6 +163,28 @@ fn compile_to<F: Files>(
     let templates = templates_in(alloc, files, dir)?;
     let bytes = image_of(alloc, name, &templates, options)?;
     put_at(files, out, &bytes)?;
+    Ok(String::new(alloc))
+}
+
+/// Writes the image at a path in version 2 to the file at `out`, and prints nothing.
+fn upgrade_to<F: Files>(
+    alloc: Global,
+    files: &mut F,
+    image: String,
+    out: String,
+) -> Result<String, Failure>
+    ensures only { ChangesOnly (F.known files.old) (F.known files.new) (string_bytes out) }
+    ensures ends { IsUnread (F.known files.old) (IsPath (string_bytes image)) None result
+        ⊎ Upgrades (F.known files.old) (F.known files.new) (string_bytes image) (string_bytes out)
+        result }
+    ensures unwritten { IfErr result
+        (λ e. status_of e ≢ Status.File → status_of e ≢ Status.Memory → files.new ≡ files.old) }
+    // where there is no such image nothing is written
+    ensures touched { files.new ≡ files.old ⊎ HasUpgrade (F.known files.old) (string_bytes image) }
+{
+    let bytes = bytes_at(files, image)?;
+    let later = upgraded(alloc, &bytes)?;
+    put_at(files, out, &later)?;
     Ok(String::new(alloc))
 }
 

@@ -1,13 +1,15 @@
 //! What the program says on standard error.
-ghost use Rattle.std.specs.Prelude.{◌≡◌, ◌<◌, ◌≤◌, ◌++◌, [], codes, length, take, IfOk, OnErr, OnOk};
+ghost use Rattle.std.specs.Prelude.{◌≡◌, ◌<◌, ◌≤◌, ◌++◌, [], codes, length, option_map, take, IfOk, OnErr, OnOk};
 ghost use Rattle.std.specs.Io.KnownBytes.{Appends};
 ghost use Rattle.jt_value.specs.FaultText.{fault_text};
 ghost use Rattle.jt_machine.specs.Sinks.{TookFront};
-ghost use Rattle.jt_program.specs.Commands.{Says};
+ghost use Rattle.jt_machine.specs.View.{place_view};
+ghost use Rattle.jt_program.specs.Commands.{fault_line, texts_of, Says};
 ghost use Rattle.jt_program.specs.Ending.{code_of, status_of};
 
 use crate::messages::Failure;
-use jt_machine::SinkFailed;
+use itoa::Buffer;
+use jt_machine::{Place, SinkFailed};
 use jt_turns::limit_text;
 use jt_value::Fault;
 use std::io::Write;
@@ -19,7 +21,7 @@ pub fn report<E: Write>(errors: &mut E, failure: &Failure) -> u8
     ensures said { Says (E.contents errors.old) (E.contents errors.new) failure.now }
 {
     match failure {
-        Failure::Fault(fault) => say(errors, "jt: fault ", fault_name(*fault)),
+        Failure::Fault(fault, place) => say_fault(errors, *fault, place.as_ref()),
         Failure::Spent(spent) => say(errors, "jt: spent ", limit_text(*spent)),
         Failure::File(path) => say(errors, "jt: file ", path.as_str()),
         Failure::Output => say(errors, "jt: file ", "-"),
@@ -30,22 +32,55 @@ pub fn report<E: Write>(errors: &mut E, failure: &Failure) -> u8
     failure.status().code()
 }
 
+/// Adds the line of a fault to `errors`, with its place if it has one.
+fn say_fault<E: Write>(errors: &mut E, fault: Fault, place: Option<&Place>)
+    ensures { TookFront (fault_line fault (option_map (λ q. place_view q.now) place.entry))
+        (E.contents errors.old) (E.contents errors.new) }
+{
+    let name = fault_name(fault);
+    match place {
+        None => say(errors, "jt: fault ", name),
+        Some(place) => {
+            let mut buffer = Buffer::new();
+            say_place(
+                errors,
+                name,
+                place.template.as_str(),
+                buffer.format(place.line),
+            );
+        }
+    }
+}
+
+/// Adds the line of a fault at a place to `errors`.
+fn say_place<E: Write>(errors: &mut E, name: &str, template: &str, line: &str)
+    ensures { TookFront (codes "jt: fault " ++ (name.now ++ (codes " in " ++ (template.now
+        ++ (codes " line " ++ (line.now ++ codes "\n")))))) (E.contents errors.old)
+        (E.contents errors.new) }
+{
+    let _ = add_parts(
+        errors,
+        &["jt: fault ", name, " in ", template, " line ", line, "\n"],
+    );
+}
+
 /// Adds a line of two parts to `errors`. Where they take no more of it, the status alone says how the run ended.
 fn say<E: Write>(errors: &mut E, head: &str, name: &str)
     ensures { TookFront (head.now ++ (name.now ++ codes "\n")) (E.contents errors.old)
         (E.contents errors.new) }
 {
-    let _ = add_line(errors, head, name);
+    let _ = add_parts(errors, &[head, name, "\n"]);
 }
 
-/// Adds a line of two parts to `errors`, or a beginning of it.
-fn add_line<E: Write>(errors: &mut E, head: &str, name: &str) -> Result<(), SinkFailed>
-    ensures { TookFront (head.now ++ (name.now ++ codes "\n")) (E.contents errors.old)
+/// Adds texts to `errors`, one behind the other, or a beginning of them.
+fn add_parts<E: Write>(errors: &mut E, parts: &[&str]) -> Result<(), SinkFailed>
+    ensures { TookFront (texts_of parts.now) (E.contents errors.old)
         (E.contents errors.new) }
 {
-    add_all(errors, head.as_bytes())?;
-    add_all(errors, name.as_bytes())?;
-    add_all(errors, b"\n")
+    for part in parts {
+        add_all(errors, part.as_bytes())?;
+    }
+    Ok(())
 }
 
 /// Adds all of the bytes to `errors`, or those that they take before they take none.

@@ -1,7 +1,7 @@
 //! Images that run in turns.
-ghost use Rattle.std.specs.Prelude.{◌≡◌, ◌⊎◌, IfOk, IfErr, Contains};
+ghost use Rattle.std.specs.Prelude.{◌++◌, ◌∷◌, [], List, IfOk, IfErr, OnOk};
 ghost use Rattle.jt_line.specs.declared.Pair.{Pair as LinePair};
-ghost use Rattle.jt_program.specs.Commands.{AreStarts, IsNoStart, IsStart, TakesTurns};
+ghost use Rattle.jt_program.specs.Commands.{AreOpen, IsNoStart, IsNotOpened, IsStart, TakesTurns};
 
 use crate::commands::verified_image;
 use crate::files::Files;
@@ -9,10 +9,12 @@ use crate::messages::{Failure, no_session};
 use crate::program::{bytes_at, context_at};
 use jt_budget::Budget;
 use jt_line::Pair;
-use jt_turns::{Start, take_turns};
+use jt_sessions::Host;
+use jt_turns::{Start, open_session, take_turns};
 use std::alloc::Global;
 
-/// The lines of the images at paths, which run for the contexts of files in turns of so many instructions.
+/// The lines of the images at paths, which run for the contexts of files in turns of so many instructions. Pair by pair the files are
+/// read and the session is opened, so what the first pair lacks that gives no session is answered.
 pub(crate) fn run_turns<F: Files>(
     alloc: Global,
     files: &F,
@@ -22,25 +24,37 @@ pub(crate) fn run_turns<F: Files>(
 ) -> Result<String, Failure>
     ensures { TakesTurns (F.known files.now) pairs.items budget result }
 {
-    let starts = starts_at(alloc, files, pairs)?;
-    match take_turns(alloc, starts, budget, slice) {
+    let count = pairs.len() as u64;
+    let mut host = Host::new(alloc);
+    for pair in pairs {
+        open_pair(alloc, files, &mut host, pair, budget)?;
+    }
+    match take_turns(alloc, host, count, slice) {
         Ok(lines) => Ok(lines),
-        Err(error) => Err(no_session(error)),
+        Err(_) => Err(Failure::NoMemory),
     }
 }
 
-/// The images at paths with the contexts of files.
-fn starts_at<F: Files>(alloc: Global, files: &F, pairs: Vec<Pair>) -> Result<Vec<Start>, Failure>
-    ensures starts { IfOk result
-        (λ starts. AreStarts (F.known files.now) pairs.items starts.items) }
-    ensures err { IfErr result (λ e. (e ≡ Failure.NoMemory)
-        ⊎ ((p : LinePair) × Contains pairs.items p × IsNoStart (F.known files.now) p e)) }
+/// Opens the session of a pair.
+fn open_pair<F: Files>(
+    alloc: Global,
+    files: &F,
+    host: &mut Host,
+    pair: Pair,
+    budget: Budget,
+) -> Result<(), Failure>
+    ensures opened { OnOk result ((ps : List LinePair)
+        → AreOpen (F.known files.now) budget ps host.old
+        → AreOpen (F.known files.now) budget (ps ++ pair ∷ []) host.new) }
+    ensures refused { IfErr result (λ e. (ps : List LinePair)
+        → AreOpen (F.known files.now) budget ps host.old
+        → IsNotOpened (F.known files.now) ps pair e) }
 {
-    let mut starts = Vec::with_capacity(alloc, pairs.len())?;
-    for pair in pairs {
-        starts.push(start_at(alloc, files, pair)?)?;
+    let start = start_at(alloc, files, pair)?;
+    match open_session(host, start, budget) {
+        Ok(()) => Ok(()),
+        Err(error) => Err(no_session(error)),
     }
-    Ok(starts)
 }
 
 /// The image of a pair, verified, with the context of the pair.

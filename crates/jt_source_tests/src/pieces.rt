@@ -54,10 +54,10 @@ fn sources_are_written_in_pieces(rt: HostRuntime) -> Result<(), Fail> {
     rows_hold(
         &rt,
         written,
-        r"99 a{{ nope.x }} => a, Ok(Fault(Undefined)), false
+        r#"99 a{{ nope.x }} => a, Ok(Fault(Undefined, Some(Place { template: "t", line: 1 }))), false
         99 {% set c %}zz{% endset %}a => a, Ok(Whole), false
         99 a{% for i in range(999999) %}{% endfor %} => a, Ok(Spent(Fuel)), false
         2 Hello => He, Err(Write), true
-        5 Hello => Hello, Ok(Whole), false",
+        5 Hello => Hello, Ok(Whole), false"#,
     )
 }

@@ -105,25 +105,25 @@ fn view_of(alloc: Global, bytes: &[u8]) -> Result<VerifiedView<'_>, Fail> {
 
 // An image, and the same one in place, with what it is run for.
 #[derive(Drop)]
-struct Case<'a> {
+struct Case<'a, 'b> {
     name: &'a str,
     verified: &'a Verified,
-    in_place: VerifiedView<'a>,
     context: &'a Context,
+    in_place: VerifiedView<'b>,
 }
 
 // Whether a run of the machine ends as one of the plain machine, which neither is stuck nor lacks memory.
 fn ends_so(outcome: &Outcome, plain: &Result<String, End>) -> bool {
     match (outcome, plain) {
         (Outcome::Text(text), Ok(plain)) => text.as_str() == plain.as_str(),
-        (Outcome::Fault(fault), Err(End::Fault(plain))) => fault == plain,
+        (Outcome::Fault(fault, _), Err(End::Fault(plain))) => fault == plain,
         (Outcome::Spent(spent), Err(End::Spent(plain))) => spent == plain,
         _ => false,
     }
 }
 
 // Whether the machines agree on a case.
-fn agree(alloc: Global, case: &Case<'_>, budget: Budget) -> Result<bool, Fail> {
+fn agree(alloc: Global, case: &Case<'_, '_>, budget: Budget) -> Result<bool, Fail> {
     let plain = plain_end(alloc, case.verified.image(), case.context, budget);
     let found = run(alloc, case.verified, case.context, budget)?;
     let in_place = run_view(alloc, &case.in_place, case.context, budget)?;
@@ -133,7 +133,7 @@ fn agree(alloc: Global, case: &Case<'_>, budget: Budget) -> Result<bool, Fail> {
 // Whether they agree on it with every fuel, within the other limits of a budget.
 fn agree_within(
     rt: &(impl Abort + AllocGlobal),
-    case: &Case<'_>,
+    case: &Case<'_, '_>,
     limits: Budget,
 ) -> Result<(), Fail> {
     let name = case.name;
@@ -147,19 +147,19 @@ fn agree_within(
 }
 
 // Whether they agree on an accepted image for a context within each of the limits.
-fn agree_for(
+fn agree_for<'x>(
     rt: &(impl Abort + AllocGlobal),
-    name: &str,
-    verified: &Verified,
-    context: &Context,
+    name: &'x str,
+    verified: &'x Verified,
+    context: &'x Context,
 ) -> Result<(), Fail> {
     let alloc = rt.alloc();
     let bytes = encode(alloc, verified.image())?;
     let case = Case {
         name,
         verified,
-        in_place: view_of(alloc, &bytes)?,
         context,
+        in_place: view_of(alloc, &bytes)?,
     };
     agree_within(rt, &case, AMPLE)?;
     agree_within(rt, &case, NARROW)?;

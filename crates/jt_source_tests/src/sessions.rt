@@ -62,7 +62,7 @@ fn hosts_answer(rt: HostRuntime) -> Result<(), Fail> {
         &rt,
         all_answered,
         r#"open 1 {% set x = 1 %}{% for i in [1, 2] %}{{ x }}{% set x = 9 %}{% endfor %}{{ x }}; turn 1 1; turn 199 1; outcome 1; close 1; close 1 => 1;Ok(Going);Ok(Done);Ok(Some(Text("111")));Ok(Some(Text("111")));Err(NoSession);
-        open 2 {{ nope.x }}; turn 9 2; turn 9 2; outcome 2; outcome 1; close 1; close 2 => 2;Ok(Done);Ok(Done);Ok(Some(Fault(Undefined)));Ok(None);Ok(None);Ok(Some(Fault(Undefined)));
+        open 2 {{ nope.x }}; turn 9 2; turn 9 2; outcome 2; outcome 1; close 1; close 2 => 2;Ok(Done);Ok(Done);Ok(Some(Fault(Undefined, Some(Place { template: "t", line: 1 }))));Ok(None);Ok(None);Ok(Some(Fault(Undefined, Some(Place { template: "t", line: 1 }))));
         open 64 x; open 1 x; close 1; open 1 x; close 65; open 1 x; turn 1 1; outcome 1; close 0; outcome 2 => 64;Full;Ok(None);65;Ok(None);66;Err(NoSession);Err(NoSession);Err(NoSession);Ok(None);"#,
     )
 }

@@ -8,7 +8,9 @@ use Rattle.jt_image.specs.Code.{Code, Section}
 use Rattle.jt_image.specs.Config as config
 use Rattle.jt_image.specs.Config.{Budget, Config, State}
 use Rattle.jt_image.specs.Step.{Action, goes_on, ends, faulty, wrong, cost, fetch, strict}
-use Rattle.jt_image.specs.Run.{Next, Goes, Ends, Wrong, after, next, next_at, spends, then_goes, unless}
+use Rattle.jt_image.specs.Run.{Next, Goes, Ends, Wrong, after, next, next_at, spends, placed, then_goes, unless}
+use Rattle.jt_value.specs.Place.{Place}
+use Rattle.jt_image.specs.Places.{place_at}
 use Rattle.jt_machine.specs.Session.{Status, going, done, lost, led, moved, told_of}
 use Rattle.jt_machine.specs.declared.outcome.Progress.TheVariants as progress
 use Rattle.jt_turns.specs.Standing.{fuel_of}
@@ -53,9 +55,19 @@ spent_fuel n (ends t) b c some e = let f = passed_test (nat_lt b.fuel n) config.
 spent_fuel n (faulty f) b c some e = let g = passed_test (nat_lt b.fuel n) config.fuel _ c e in let no = g.1 in absurd (cc)
 spent_fuel n wrong b c some e = absurd (cc)
 
+-- a fault's place is no matter of steps that go on
+goes_too : (q : Option Place) (n : Next) (d : Config) → placed q n ≡ Goes d → n ≡ Goes d
+goes_too q (Goes c) d e = e
+goes_too q (Ends (config.text t)) d e = absurd (cc)
+goes_too q (Ends (config.fault f p)) d e = absurd (cc)
+goes_too q (Ends (config.spent l)) d e = absurd (cc)
+goes_too q Wrong d e = absurd (cc)
+
 one_step : (k : Code) (o : Option (Section × Instruction)) (c d : Config) → next_at k o c ≡ Goes d → d.left.fuel + 1 ≤ c.left.fuel
 one_step k None c d e = absurd (cc)
-one_step k (Some p) c d e = spent_fuel (cost p.1 c.machine.state) (strict k p.0 p.1 c.machine) c.left d (positive p.1 c.machine.state) e
+one_step k (Some p) c d e =
+    let a = strict k p.0 p.1 c.machine in
+    spent_fuel (cost p.1 c.machine.state) a c.left d (positive p.1 c.machine.state) (goes_too (place_at k c.machine.unit c.machine.point) (spends (cost p.1 c.machine.state) a c.left) d e)
 
 -- so many steps take at least as much fuel
 pub steps_take : (k : Code) (n : ℕ) (c d : Config) → after k n c ≡ Goes d → d.left.fuel + n ≤ c.left.fuel

@@ -1,5 +1,5 @@
 -- A session more, or why there is none.
-use Rattle.std.proofs.Common.{◌≡◌, ◌∙◌, ℕ, ◌+◌, ◌<◌, ◌≤◌, Bool, true, false, cond, List, [], ◌∷◌, ◌++◌, length, length-append, Option, Some, None, Err, ap, arith, refl, sym, subst}
+use Rattle.std.proofs.Common.{◌≡◌, ◌∙◌, ℕ, ◌+◌, ◌<◌, ◌≤◌, Bool, true, false, cond, List, [], ◌∷◌, ◌++◌, length, length-append, Option, Some, None, ap, arith, refl, sym, subst}
 use Rattle.std.specs.Prelude.{nat_le}
 use Rattle.std.proofs.lemmas.Bool.Decides.{nat_tests}
 use Rattle.jt_value.specs.Pairs.{Pairs}
@@ -11,8 +11,8 @@ use Rattle.jt_sessions.specs.declared.HostError.{HostError}
 use Rattle.jt_sessions.specs.declared.HostError.TheVariants as host_error
 use Rattle.jt_sessions.specs.Turns.{World, after, bar, max_id, max_sessions, opened, opening, opening_reply, opens, reply, OpenRefused}
 use Rattle.jt_turns.specs.declared.turns.Start.{Start}
-use Rattle.jt_turns.specs.Outcomes.{TakesTurns}
-use Rattle.jt_turns.specs.Standing.{AreSessions, IsNumbered, IsSession, Stands}
+use Rattle.jt_turns.specs.Outcomes.{IsNotOpened}
+use Rattle.jt_turns.specs.Standing.{AreSessions, HasOpen, IsNumbered, IsSession, Stands}
 use Rattle.jt_turns.proofs.Sessions.{one_session_more}
 use Rattle.jt_turns.proofs.Turning.{as_many, not_advanced, numbered_of}
 
@@ -75,23 +75,20 @@ module _ (b : Budget) where
   standing_are_numbered ss w h = (as_many b 1 ss w.sessions h.1, numbered_of b 1 ss w.sessions h.1)
 
   -- an image that the host has no place for
-  pub refused_start : (ss : List Start) (s : Start) (w : World) (e : HostError) → Stands b ss w → OpenRefused w e → TakesTurns b (ss ++ s ∷ []) (Err e)
-  refused_start ss s w host_error.NoMemory h why = tt
-  refused_start ss s w host_error.Full h why =
+  pub refused_start : (ss : List Start) (w : World) (e : HostError) → Stands b ss w → OpenRefused w e → IsNotOpened ss e
+  refused_start ss w host_error.NoMemory h why = tt
+  refused_start ss w host_error.Full h why =
       let many = as_many b 1 ss w.sessions h.1 in
       let full = full_at (length w.sessions) w.last host_error.Full why (h.0 ∙ sym many) in
-      let one = length-append ss (s ∷ []) in
-      omega (arith, full.1, many, one)
-  refused_start ss s w host_error.NoId h why =
+      let most = h.2 in
+      omega (arith, full.1, many, most)
+  refused_start ss w host_error.NoId h why =
       let full = full_at (length w.sessions) w.last host_error.NoId why (h.0 ∙ sym (as_many b 1 ss w.sessions h.1)) in
       let no = full.0 in absurd (cc)
-  refused_start ss s w host_error.NoSession h why =
+  refused_start ss w host_error.NoSession h why =
       let full = full_at (length w.sessions) w.last host_error.NoSession why (h.0 ∙ sym (as_many b 1 ss w.sessions h.1)) in
       let no = full.0 in absurd (cc)
 
-  -- why some images give no lines holds of more
-  pub more_starts : (ss rs : List Start) (e : HostError) → TakesTurns b ss (Err e) → TakesTurns b (ss ++ rs) (Err e)
-  more_starts ss rs host_error.NoMemory h = tt
-  more_starts ss rs host_error.Full h = let n = length-append ss rs in omega (arith, n, h)
-  more_starts ss rs host_error.NoId h = h
-  more_starts ss rs host_error.NoSession h = h
+-- the sessions of images that are open are numbered from 1
+pub open_are_numbered : (n : ℕ) (w : World) → HasOpen n w → IsNumbered n w.sessions
+open_are_numbered n w (b, ss, stands, many) = subst (λ (k : ℕ). IsNumbered k w.sessions) many (standing_are_numbered b ss w stands)

@@ -1,5 +1,5 @@
 -- What turns come to: each image runs as if alone.
-use Rattle.std.specs.Prelude.{◌≡◌, ◌<◌, ◌≤◌, List, [], ◌∷◌, length, Result, Ok, Err, String, string_bytes}
+use Rattle.std.specs.Prelude.{◌≡◌, List, [], ◌∷◌, length, Result, Ok, Err, String, string_bytes}
 use Rattle.std.specs.declared.alloc.Global.{Global}
 use Rattle.jt_value.specs.ContextView.{pairs_of}
 use Rattle.jt_image.specs.Config.{Budget, Outcome}
@@ -17,10 +17,13 @@ AreOutcomes b [] (o ∷ os) = ⊥
 AreOutcomes b (s ∷ ss) [] = ⊥
 AreOutcomes b (s ∷ ss) (o ∷ os) = Run s.code (pairs_of s.context) b o × AreOutcomes b ss os
 
--- the line of each, whatever the turns are, of no more than a host has place for; or why there is none: there are more, or a growth was refused
+-- the line of each, whatever the turns are; or a growth was refused
 abbrev pub TakesTurns : Budget → List Start → Result (String Global) HostError → Type 0
-TakesTurns b ss (Ok text) =
-    (length ss ≤ max_sessions) × ((os : List Outcome) × AreOutcomes b ss os × (string_bytes text ≡ session_lines 1 os))
-TakesTurns b ss (Err host_error.Full) = max_sessions < length ss
-TakesTurns b ss (Err host_error.NoMemory) = Unit {0}
-TakesTurns b ss (Err e) = ⊥
+TakesTurns b ss (Ok text) = (os : List Outcome) × AreOutcomes b ss os × (string_bytes text ≡ session_lines 1 os)
+TakesTurns b ss (Err e) = e ≡ host_error.NoMemory
+
+-- why no session more is opened: as many as a host has place for are, or a growth was refused
+abbrev pub IsNotOpened : List Start → HostError → Type 0
+IsNotOpened ss host_error.Full = length ss ≡ max_sessions
+IsNotOpened ss host_error.NoMemory = Unit {0}
+IsNotOpened ss e = ⊥

@@ -1,4 +1,4 @@
--- What only private clauses cite: where sessions that take turns stand in a host.
+-- Where sessions that take turns stand in a host.
 use Rattle.std.specs.Prelude.{◌≡◌, ◌≤◌, ℕ, ◌+◌, Bool, true, false, List, [], ◌∷◌, ◌++◌, length, Some, is_some, option_to_list}
 use Rattle.std.specs.List.{list_all}
 use Rattle.jt_value.specs.ContextView.{pairs_of}
@@ -24,6 +24,10 @@ module _ (b : Budget) where
   -- the host has the sessions of the images, and no other, and they are no more than it has place for
   abbrev pub Stands : List Start → World → Type 0
   Stands ss w = (w.last ≡ length ss) × AreSessions 1 ss w.sessions × (length ss ≤ max_sessions)
+
+-- a host has so many sessions open, of some images
+abbrev pub HasOpen : ℕ → World → Type 0
+HasOpen n w = (b : Budget) × (ss : List Start) × Stands b ss w × (length ss ≡ n)
 
 -- the ids of sessions, one after another
 abbrev pub AreNumbered : ℕ → List (ℕ × Session) → Type 0

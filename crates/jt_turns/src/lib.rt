@@ -6,4 +6,4 @@ mod rounds;
 mod turns;
 
 pub use lines::limit_text;
-pub use turns::{Start, take_turns};
+pub use turns::{Start, open_session, take_turns};

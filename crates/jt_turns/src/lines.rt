@@ -49,7 +49,12 @@ fn line(alloc: Global, id: u64, outcome: &Outcome) -> Result<String, AllocError>
             let size = text.len();
             format!(in alloc; "{id} text {size}:{text}\n")
         }
-        Outcome::Fault(fault) => format!(in alloc; "{id} fault {fault}\n"),
+        Outcome::Fault(fault, None) => format!(in alloc; "{id} fault {fault}\n"),
+        Outcome::Fault(fault, Some(place)) => {
+            let template = place.template.as_str();
+            let line = place.line;
+            format!(in alloc; "{id} fault {fault} in {template} line {line}\n")
+        }
         Outcome::Spent(spent) => {
             let limit = limit_text(*spent);
             format!(in alloc; "{id} spent {limit}\n")

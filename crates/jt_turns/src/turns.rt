@@ -1,9 +1,9 @@
 //! Images that run in turns.
-ghost use Rattle.std.specs.Prelude.{◌≡◌, ◌++◌, ◌∷◌, [], List, Err, IfErr, OnOk};
+ghost use Rattle.std.specs.Prelude.{◌≡◌, ◌++◌, ◌∷◌, [], List, IfErr, OnOk};
 ghost use Rattle.jt_image.specs.Config.{Budget as Limits};
 ghost use Rattle.jt_machine.specs.View.{budget_view};
-ghost use Rattle.jt_turns.specs.Outcomes.{TakesTurns};
-ghost use Rattle.jt_turns.specs.Standing.{Stands};
+ghost use Rattle.jt_turns.specs.Outcomes.{IsNotOpened, TakesTurns};
+ghost use Rattle.jt_turns.specs.Standing.{HasOpen, Stands};
 
 use crate::lines::lines;
 use crate::rounds::run_all;
@@ -21,45 +21,45 @@ pub struct Start {
     pub context: Context,
 }
 
-/// Runs images side by side, each under the budget, in turns of `slice` instructions, or of one where that is 0; and answers the line
-/// of each, in their order: `1 text 5:Hello`, with the number of the text's bytes, `2 fault F2 Undefined` or `3 spent Fuel`.
+/// Opens one session more on a host: that of an image for its context, under the budget.
 ///
 /// # Errors
 ///
-/// `Full` where there are more than 64; `NoMemory` where a growth was refused.
-pub fn take_turns(
-    alloc: Global,
-    starts: Vec<Start>,
-    budget: Budget,
-    slice: u32,
-) -> Result<String, HostError>
-    ensures { TakesTurns (budget_view budget) starts.items result }
-{
-    session_laws();
-    let count = starts.len() as u64;
-    let mut host = Host::new(alloc);
-    for start in starts {
-        open(&mut host, start, budget)?;
-    }
-    run_all(&mut host, count, slice.max(1))?;
-    match lines(alloc, &host, count) {
-        Ok(text) => Ok(text),
-        Err(_) => Err(HostError::NoMemory),
-    }
-}
-
-/// Opens the session of an image.
-fn open(host: &mut Host, start: Start, budget: Budget) -> Result<(), HostError>
+/// `Full` where 64 are open; `NoMemory` where a growth was refused.
+pub fn open_session(host: &mut Host, start: Start, budget: Budget) -> Result<(), HostError>
     ensures opened { OnOk result ((ss : List Start)
         → Stands (budget_view budget) ss host.old
         → Stands (budget_view budget) (ss ++ start ∷ []) host.new) }
     ensures refused { IfErr result (λ e. (ss : List Start)
         → Stands (budget_view budget) ss host.old
-        → TakesTurns (budget_view budget) (ss ++ start ∷ []) (Err e)) }
+        → IsNotOpened ss e) }
 {
     let Start { code, context } = start;
     match host.open(code, &context, budget) {
         Ok(_) => Ok(()),
         Err((_, error)) => Err(error),
+    }
+}
+
+/// Runs the sessions 1 to `count` of a host side by side, in turns of `slice` instructions, or of one where that is 0; and answers the
+/// line of each, in their order: `1 text 5:Hello`, with the number of the text's bytes, `2 fault F2 Undefined` or `3 spent Fuel`.
+///
+/// # Errors
+///
+/// `NoMemory` where a growth was refused.
+pub fn take_turns(
+    alloc: Global,
+    mut host: Host,
+    count: u64,
+    slice: u32,
+) -> Result<String, HostError>
+    requires { HasOpen count host }
+    ensures { (b : Limits) (ss : List Start) → Stands b ss host → TakesTurns b ss result }
+{
+    session_laws();
+    run_all(&mut host, count, slice.max(1))?;
+    match lines(alloc, &host, count) {
+        Ok(text) => Ok(text),
+        Err(_) => Err(HostError::NoMemory),
     }
 }

@@ -94,13 +94,6 @@ ClashesAt (Some r) s flaw.DepthDiffers = length r ≢ length s
 ClashesAt (Some r) s flaw.KindDiffers = (length r ≡ length s) × (r ≢ s)
 ClashesAt o s f = ⊥
 
--- shapes that meet are equal, or of other lengths, or of one length with other kinds
-abbrev pub Meets : Shape → Shape → Result (Unit {0}) Flaw → Type 0
-Meets r s (Ok u) = r ≡ s
-Meets r s (Err flaw.DepthDiffers) = length r ≢ length s
-Meets r s (Err flaw.KindDiffers) = (length r ≡ length s) × (r ≢ s)
-Meets r s (Err f) = ⊥
-
 -- a path may not end at its point
 abbrev pub Clashes : Table → ℕ → Path → Refusal → Type 0
 Clashes t n x r = (f : Flaw) × (r ≡ refusal.Flaw f n x.point) × ClashesAt (shape_at t x.point) x.shape f

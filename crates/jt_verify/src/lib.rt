@@ -10,6 +10,7 @@ mod typing;
 mod verifier;
 
 pub use checked::{Checked, Verified, VerifiedView, verify, verify_view};
+pub use jt_image::{Flaw, Kind};
 pub use refusal::{Refusal, flaw_name};
 pub use shape::{Shape, join};
 pub use verifier::verify_code;

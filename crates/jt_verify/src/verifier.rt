@@ -4,8 +4,9 @@ ghost use Rattle.std.specs.List.{AllByRecursion};
 ghost use Rattle.jt_image.specs.IsCode.{IsCode};
 ghost use Rattle.jt_image.specs.Typed.{IsTyped, IsTypedUnit, Equal, max_entries};
 ghost use Rattle.jt_verify.specs.Arena.{shape_in, IsIn, IsKept};
+ghost use Rattle.jt_verify.specs.Differing.{Meets};
 ghost use Rattle.jt_verify.specs.Typing.{AreWithin};
-ghost use Rattle.jt_verify.specs.Working.{unit_of, IsUnit, Works, Arrives, Clashes, Meets, Steps, path_in, paths_in, table_in, IsInIf, handles_sent, work_left, RefusesUnit};
+ghost use Rattle.jt_verify.specs.Working.{unit_of, IsUnit, Works, Arrives, Clashes, Steps, path_in, paths_in, table_in, IsInIf, handles_sent, work_left, RefusesUnit};
 ghost use Rattle.jt_verify.specs.Refusing.{RefusalHolds};
 
 use crate::arena::Arena;

@@ -25,7 +25,7 @@ decreases-emit_loop l = 3 * max (most (λ x. size-SStmt x) l.body.now) (most (λ
 -- ---- what is left
 
 abbrev pub invariant-emit_statements-loop-statement : goal.invariant-emit_statements-loop-statement
-invariant-emit_statements-loop-statement l = (templates : List Text) (h : ℕ) → StandsFor l.above h → Leads h l.initial.code (body_view templates l.body) l.code (body_view templates (drop l.statement-index l.body))
+invariant-emit_statements-loop-statement l = (templates : List Text) (h : ℕ) → StandsFor l.above h → Leads templates h l.initial.code (body_view templates l.body) l.code (body_view templates (drop l.statement-index l.body))
 
-abbrev pub invariant-emit_statement-loop-condition : goal.invariant-emit_statement-loop-condition
-invariant-emit_statement-loop-condition l = (templates : List Text) (h : ℕ) → StandsFor l.above h → Opens templates h l.initial.code l.condition-items l.code (drop l.condition-index l.condition-items) l.ends.items
+abbrev pub invariant-emit_statement-loop-tag : goal.invariant-emit_statement-loop-tag
+invariant-emit_statement-loop-tag l = (templates : List Text) (h : ℕ) → StandsFor l.above h → Opens templates h l.initial.code l.tag-items l.code (drop l.tag-index l.tag-items) l.ends.items

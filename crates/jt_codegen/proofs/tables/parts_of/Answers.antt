@@ -15,4 +15,4 @@ returns-then-len-gt-MAX_COUNT-clause-refused c = λ fits.
 pub returns-clause-short : goal.returns-clause-short
 returns-clause-short c =
     let ts = templates_of c.args.program.now in
-    subst (λ (rs : List Routine). total_len (map unit_of (map (routine_view ts) rs)) ≤ max_instructions) c.deref.ensures.value (c.in_ok-units.ensures.short ts)
+    subst (λ (rs : List Routine). total_len (map unit_of (map (routine_view ts) rs)) ≤ max_instructions) c.deref.ensures.value (c.in_ok-code.ensures.short ts)

@@ -1,7 +1,7 @@
 use Rattle.std.proofs.Common.{◌≡◌, ◌∙◌, ap, codes, rules, true}
 use Rattle.std.proofs.lemmas.Result.{IfOk-weaker}
 use Rattle.clap.specs.Words.{App, app_of, new_app, with_subcommand}
-use Rattle.jt_line.specs.Line.{check_app, compile_app, render_app, run_app, turns_app}
+use Rattle.jt_line.specs.Line.{check_app, compile_app, render_app, run_app, turns_app, upgrade_app}
 use Rattle.jt_line.proofs.grammar.program.Goals as goal
 
 -- the program without its commands
@@ -12,7 +12,7 @@ bare = let a = new_app (codes "jt") in record a {
 
 -- with the commands of the table
 abbrev with_all : App → App
-with_all a = with_subcommand (with_subcommand (with_subcommand (with_subcommand (with_subcommand a compile_app.top) check_app.top) run_app.top) render_app.top) turns_app.top
+with_all a = with_subcommand (with_subcommand (with_subcommand (with_subcommand (with_subcommand (with_subcommand a compile_app.top) check_app.top) run_app.top) render_app.top) turns_app.top) upgrade_app.top
 
 pub returns : goal.returns
 returns c =

@@ -24,7 +24,7 @@ unreachable-unreachable c =
       | in_default-via-in-Some+in_default w ↦
           let name = w.in_default.field-0.0.now in
           let same : option_map (λ p. p.0) (subcommand_rows_of c.args.matches.now) ≡ Some name = search rules in
-          no_other _ name same c.requires.known (search rules) (search rules) (search rules) (search rules) (search rules)
+          no_other _ name same c.requires.known (search rules) (search rules) (search rules) (search rules) (search rules) (search rules)
       | in_default-via-in_default w ↦
           let same : option_map (λ p. p.0) (subcommand_rows_of c.args.matches.now) ≡ None = search rules in
           no_name _ same c.requires.known

@@ -1,12 +1,12 @@
-use Rattle.std.proofs.Common.{ℕ, ◌+◌, ◌*◌, Option, drop}
+use Rattle.std.proofs.Common.{ℕ, ◌+◌, ◌*◌, List, drop}
 use Rattle.std.specs.Prelude.{max}
 use denote.Param.Weighed.{most}
-use Rattle.jt_slots.specs.Got.{Place}
+use Rattle.jt_trees.specs.Expressions.{Text}
 use Rattle.jt_slots.specs.Slots.{none}
 use Rattle.jt_slots.specs.declared.program.SExpr.{size-SExpr}
 use Rattle.jt_slots.specs.View.{row_view}
 use Rattle.jt_lower.specs.Lower.{row_asm}
-use Rattle.jt_lower.specs.Emission.{StandsFor}
+use Rattle.jt_lower.specs.Emission.{StandsFor, tag_view}
 use Rattle.jt_lower.proofs.Rows.{Leaves}
 use Rattle.jt_lower.proofs.expressions.+expressions.Given as goal
 
@@ -30,4 +30,4 @@ decreases-emit_choice l = 2 * max (size-SExpr l.condition.now) (max (size-SExpr 
 -- ---- of a row, what is left
 
 abbrev pub invariant-emit_row-loop-kept : goal.invariant-emit_row-loop-kept
-invariant-emit_row-loop-kept l = (o : Option Place) (h : ℕ) → StandsFor l.above h → Leaves o l.initial.code (row_asm o (row_view l.row none) h) l.code (drop l.kept-index l.row) l.top
+invariant-emit_row-loop-kept l = (ts : List Text) (h : ℕ) → StandsFor l.above h → Leaves ts (tag_view ts l.tag) l.initial.code (row_asm (tag_view ts l.tag) (row_view l.row none) h) l.code (drop l.kept-index l.row) l.top

@@ -1,47 +1,76 @@
-use Rattle.std.proofs.Common.{◌≡◌, ◌∙◌, refl}
-use Rattle.jt_image.specs.Run.{next, Goes, Ends}
+use Rattle.std.proofs.Common.{◌≡◌, ◌∙◌, ℕ, ◌-◌, ◌<◌, refl, ap, arith}
+use Rattle.jt_image.specs.Run.{next, Goes, Ends, after}
 use Rattle.jt_machine.specs.Growing.{ComesToGrow}
 use Rattle.jt_machine.specs.View.{config_view, outcome_view}
+use Rattle.jt_machine.proofs.AtOnce.{slice_gone, slice_on, underway_gone}
 use Rattle.jt_machine.proofs.Pieces.{on_err}
 use Rattle.jt_machine.proofs.Steps.{reached_sound}
-use Rattle.jt_machine.proofs.Slicing.{reached_on, one_more, all_made, ended_within}
+use Rattle.jt_machine.proofs.Slicing.{reached_on, all_made, ended_within}
 use Rattle.jt_machine.proofs.machine.take_steps.Goals as goal
 
+pub steps-init : goal.steps-init
+steps-init g c =
+    let none : c.args.k - c.from-left.result ≡ 0 = omega arith in
+    record {
+      within = omega arith;
+      so_far = ap (λ (n : ℕ). after (g.C.Code.code c.args.code.now) n (config_view c.args.state.now)) none;
+      reached = c.requires.reached;
+    }
+
 pub step-requires-clause-not_wrong : goal.step-requires-clause-not_wrong
-step-requires-clause-not_wrong g c = let r = c.steps.invariant.reached in (reached_sound c.code_laws.ensures (g.C.Code.code c.args.code.now) c.requires.whole c.requires.typed r.context r.budget (config_view c.steps.state) (r.steps, r.reached)).not_wrong
+step-requires-clause-not_wrong g c =
+    let r = underway_gone (g.C.Code.code c.args.code.now) c.steps.state c.hurry-left.new.state c.steps.invariant.reached c.hurry-left.ensures.gone in
+    (reached_sound c.code_laws.ensures (g.C.Code.code c.args.code.now) c.requires.whole c.requires.typed r.context r.budget (config_view c.hurry-left.new.state) (r.steps, r.reached)).not_wrong
 
 pub step-requires-clause-sized : goal.step-requires-clause-sized
-step-requires-clause-sized g c = let r = c.steps.invariant.reached in (reached_sound c.code_laws.ensures (g.C.Code.code c.args.code.now) c.requires.whole c.requires.typed r.context r.budget (config_view c.steps.state) (r.steps, r.reached)).sized
+step-requires-clause-sized g c =
+    let r = underway_gone (g.C.Code.code c.args.code.now) c.steps.state c.hurry-left.new.state c.steps.invariant.reached c.hurry-left.ensures.gone in
+    (reached_sound c.code_laws.ensures (g.C.Code.code c.args.code.now) c.requires.whole c.requires.typed r.context r.budget (config_view c.hurry-left.new.state) (r.steps, r.reached)).sized
 
 pub step-requires-clause-few : goal.step-requires-clause-few
-step-requires-clause-few g c = let r = c.steps.invariant.reached in (reached_sound c.code_laws.ensures (g.C.Code.code c.args.code.now) c.requires.whole c.requires.typed r.context r.budget (config_view c.steps.state) (r.steps, r.reached)).few
+step-requires-clause-few g c =
+    let r = underway_gone (g.C.Code.code c.args.code.now) c.steps.state c.hurry-left.new.state c.steps.invariant.reached c.hurry-left.ensures.gone in
+    (reached_sound c.code_laws.ensures (g.C.Code.code c.args.code.now) c.requires.whole c.requires.typed r.context r.budget (config_view c.hurry-left.new.state) (r.steps, r.reached)).few
 
 pub step-requires-clause-depth : goal.step-requires-clause-depth
-step-requires-clause-depth g c = c.steps.invariant.reached.depth
+step-requires-clause-depth g c = (underway_gone (g.C.Code.code c.args.code.now) c.steps.state c.hurry-left.new.state c.steps.invariant.reached c.hurry-left.ensures.gone).depth
 
 pub steps-preserved : goal.steps-preserved
 steps-preserved g c =
     let k = g.C.Code.code c.args.code.now in
-    let e : next k (config_view c.steps.state) ≡ Goes (config_view c.step.new.state) = c.in_ok-outcome.ensures.next ∙ rw c.in_default.is refl in
+    let e : next k (config_view c.hurry-left.new.state) ≡ Goes (config_view c.step.new.state) = c.in_ok-outcome.ensures.next ∙ rw c.in_default.is refl in
+    let r = underway_gone k c.steps.state c.hurry-left.new.state c.steps.invariant.reached c.hurry-left.ensures.gone in
+    let far = slice_gone k c.args.k c.steps.left c.hurry-left.result (config_view c.args.state.now) c.steps.state c.hurry-left.new.state c.steps.invariant.within c.steps.invariant.so_far c.hurry-left.ensures.gone c.hurry-left.ensures.left in
     record {
-      so_far = one_more k c.steps.counter (config_view c.args.state.now) (config_view c.steps.state) (config_view c.step.new.state) c.steps.invariant.so_far e;
-      reached = reached_on c.code_laws.ensures k c.requires.whole c.requires.typed c.steps.state c.step.new.state c.steps.invariant.reached e;
+      within = omega (arith, c.steps.invariant.within, c.hurry-left.ensures.left, c.hurry-left.ensures.gone.fuel);
+      so_far = slice_on k c.args.k c.hurry-left.result (config_view c.args.state.now) (config_view c.hurry-left.new.state) (config_view c.step.new.state) (omega arith) (omega (arith, c.steps.invariant.within, c.hurry-left.ensures.left, c.hurry-left.ensures.gone.fuel)) far e;
+      reached = reached_on c.code_laws.ensures k c.requires.whole c.requires.typed c.hurry-left.new.state c.step.new.state r e;
     }
+
+pub steps-smaller : goal.steps-smaller
+steps-smaller g c = omega (arith, c.hurry-left.ensures.left, c.hurry-left.ensures.gone.fuel)
 
 pub returns-in-Some-clause-steps : goal.returns-in-Some-clause-steps
 returns-in-Some-clause-steps g c =
     let k = g.C.Code.code c.args.code.now in
     let o = outcome_view c.in-Some.outcome in
-    let e : next k (config_view c.steps.state) ≡ Ends o = c.in_ok-outcome.ensures.next ∙ rw c.in-Some.is refl in
-    ended_within k c.steps.counter c.args.k (config_view c.args.state.now) (config_view c.steps.state) o c.steps.invariant.so_far e c.steps-test.true
+    let e : next k (config_view c.hurry-left.new.state) ≡ Ends o = c.in_ok-outcome.ensures.next ∙ rw c.in-Some.is refl in
+    let far = slice_gone k c.args.k c.steps.left c.hurry-left.result (config_view c.args.state.now) c.steps.state c.hurry-left.new.state c.steps.invariant.within c.steps.invariant.so_far c.hurry-left.ensures.gone c.hurry-left.ensures.left in
+    ended_within k (c.args.k - c.hurry-left.result) c.args.k (config_view c.args.state.now) (config_view c.hurry-left.new.state) o far e (omega (arith, c.steps.invariant.within, c.hurry-left.ensures.left, c.hurry-left.ensures.gone.fuel))
 
-pub returns-clause-steps : goal.returns-clause-steps
-returns-clause-steps g c = all_made (g.C.Code.code c.args.code.now) c.steps.counter c.args.k (config_view c.args.state.now) (config_view c.steps.state) c.steps.invariant.so_far c.steps-test.false c.steps.auto.counter-end
+pub returns-then-left-eq0-clause-steps : goal.returns-then-left-eq0-clause-steps
+returns-then-left-eq0-clause-steps g c =
+    let k = g.C.Code.code c.args.code.now in
+    let far = slice_gone k c.args.k c.steps.left c.hurry-left.result (config_view c.args.state.now) c.steps.state c.hurry-left.new.state c.steps.invariant.within c.steps.invariant.so_far c.hurry-left.ensures.gone c.hurry-left.ensures.left in
+    all_made k (c.args.k - c.hurry-left.result) c.args.k (config_view c.args.state.now) (config_view c.hurry-left.new.state) far (omega arith) (omega arith)
 
-pub returns-clause-reached : goal.returns-clause-reached
-returns-clause-reached g c = c.steps.invariant.reached
+pub returns-then-left-eq0-clause-reached : goal.returns-then-left-eq0-clause-reached
+returns-then-left-eq0-clause-reached g c = underway_gone (g.C.Code.code c.args.code.now) c.steps.state c.hurry-left.new.state c.steps.invariant.reached c.hurry-left.ensures.gone
 
 pub returns-in_err-outcome-clause-memory : goal.returns-in_err-outcome-clause-memory
 returns-in_err-outcome-clause-memory g c =
-    let comes : ComesToGrow (g.C.Code.code c.args.code.now) (config_view c.args.state.now) = record { steps = c.steps.counter; last = config_view c.steps.state; reached = c.steps.invariant.so_far; grows = c.in_err-outcome.ensures.memory } in
-    on_err c.from_residual.result (comes, c.steps-test.true)
+    let k = g.C.Code.code c.args.code.now in
+    let far = slice_gone k c.args.k c.steps.left c.hurry-left.result (config_view c.args.state.now) c.steps.state c.hurry-left.new.state c.steps.invariant.within c.steps.invariant.so_far c.hurry-left.ensures.gone c.hurry-left.ensures.left in
+    let comes : ComesToGrow k (config_view c.args.state.now) = record { steps = c.args.k - c.hurry-left.result; last = config_view c.hurry-left.new.state; reached = far; grows = c.in_err-outcome.ensures.memory } in
+    let less : c.args.k - c.hurry-left.result < c.args.k = omega (arith, c.steps.invariant.within, c.hurry-left.ensures.left, c.hurry-left.ensures.gone.fuel) in
+    on_err c.from_residual.result (comes, less)

@@ -1,4 +1,4 @@
-use Rattle.std.proofs.Common.{◌≡◌}
+use Rattle.std.proofs.Common.{◌≡◌, ◌≤◌, ◌-◌}
 use Rattle.jt_image.specs.Run.{Goes, after}
 use Rattle.jt_machine.specs.StageView.{IsReached}
 use Rattle.jt_machine.specs.View.{config_view}
@@ -6,6 +6,10 @@ use Rattle.jt_machine.proofs.machine.take_steps.Given as goal
 
 abbrev pub invariant-steps : goal.invariant-steps
 invariant-steps g l = record {
-  so_far : after (g.C.Code.code l.code) l.counter (config_view l.fn.state) ≡ Goes (config_view l.state);
+  within : l.left ≤ l.k;
+  so_far : after (g.C.Code.code l.code) (l.k - l.left) (config_view l.fn.state) ≡ Goes (config_view l.state);
   reached : IsReached (g.C.Code.code l.code) l.state;
 }
+
+abbrev pub decreases-steps : goal.decreases-steps
+decreases-steps g l = l.left

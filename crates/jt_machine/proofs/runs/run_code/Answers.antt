@@ -20,42 +20,42 @@ steps-init g c =
 pub step-requires-clause-not_wrong : goal.step-requires-clause-not_wrong
 step-requires-clause-not_wrong g c =
     let k = g.C.Code.code c.args.code.now in
-    let r = reached_gone k (pairs_of c.args.context.now) (budget_view c.args.budget) c.steps.state c.hurry.new.state c.steps.invariant.reached c.hurry.ensures in
+    let r = reached_gone k (pairs_of c.args.context.now) (budget_view c.args.budget) c.steps.state c.hurry.new.state c.steps.invariant.reached c.hurry.ensures.gone in
     (reached_sound c.code_laws.ensures k c.requires.whole c.requires.typed (pairs_of c.args.context.now) (budget_view c.args.budget) (config_view c.hurry.new.state) r).not_wrong
 
 pub step-requires-clause-sized : goal.step-requires-clause-sized
 step-requires-clause-sized g c =
     let k = g.C.Code.code c.args.code.now in
-    let r = reached_gone k (pairs_of c.args.context.now) (budget_view c.args.budget) c.steps.state c.hurry.new.state c.steps.invariant.reached c.hurry.ensures in
+    let r = reached_gone k (pairs_of c.args.context.now) (budget_view c.args.budget) c.steps.state c.hurry.new.state c.steps.invariant.reached c.hurry.ensures.gone in
     (reached_sound c.code_laws.ensures k c.requires.whole c.requires.typed (pairs_of c.args.context.now) (budget_view c.args.budget) (config_view c.hurry.new.state) r).sized
 
 pub step-requires-clause-few : goal.step-requires-clause-few
 step-requires-clause-few g c =
     let k = g.C.Code.code c.args.code.now in
-    let r = reached_gone k (pairs_of c.args.context.now) (budget_view c.args.budget) c.steps.state c.hurry.new.state c.steps.invariant.reached c.hurry.ensures in
+    let r = reached_gone k (pairs_of c.args.context.now) (budget_view c.args.budget) c.steps.state c.hurry.new.state c.steps.invariant.reached c.hurry.ensures.gone in
     (reached_sound c.code_laws.ensures k c.requires.whole c.requires.typed (pairs_of c.args.context.now) (budget_view c.args.budget) (config_view c.hurry.new.state) r).few
 
 pub step-requires-clause-depth : goal.step-requires-clause-depth
-step-requires-clause-depth g c = omega (arith, c.steps.invariant.depth, c.hurry.ensures.depth, ap (λ (waiting : List Caller). length waiting) c.hurry.ensures.callers)
+step-requires-clause-depth g c = omega (arith, c.steps.invariant.depth, c.hurry.ensures.gone.depth, ap (λ (waiting : List Caller). length waiting) c.hurry.ensures.gone.callers)
 
 pub steps-preserved : goal.steps-preserved
 steps-preserved g c =
     let k = g.C.Code.code c.args.code.now in
     let e : next k (config_view c.hurry.new.state) ≡ Goes (config_view c.step.new.state) = c.in_ok-outcome.ensures.next ∙ rw c.in_default-2.is refl in
-    let r = reached_gone k (pairs_of c.args.context.now) (budget_view c.args.budget) c.steps.state c.hurry.new.state c.steps.invariant.reached c.hurry.ensures in
+    let r = reached_gone k (pairs_of c.args.context.now) (budget_view c.args.budget) c.steps.state c.hurry.new.state c.steps.invariant.reached c.hurry.ensures.gone in
     record {
       reached = reached_next k (pairs_of c.args.context.now) (budget_view c.args.budget) (config_view c.hurry.new.state) (config_view c.step.new.state) r e;
-      same = λ o r. c.steps.invariant.same o (ending_gone k c.steps.state c.hurry.new.state o c.hurry.ensures (ending_back k (config_view c.hurry.new.state) (config_view c.step.new.state) o e r));
-      depth = omega (arith, c.steps.invariant.depth, c.hurry.ensures.depth, ap (λ (waiting : List Caller). length waiting) c.hurry.ensures.callers, (reached_sound c.code_laws.ensures k c.requires.whole c.requires.typed (pairs_of c.args.context.now) (budget_view c.args.budget) (config_view c.hurry.new.state) r).depth (config_view c.step.new.state) e);
+      same = λ o r. c.steps.invariant.same o (ending_gone k c.steps.state c.hurry.new.state o c.hurry.ensures.gone (ending_back k (config_view c.hurry.new.state) (config_view c.step.new.state) o e r));
+      depth = omega (arith, c.steps.invariant.depth, c.hurry.ensures.gone.depth, ap (λ (waiting : List Caller). length waiting) c.hurry.ensures.gone.callers, (reached_sound c.code_laws.ensures k c.requires.whole c.requires.typed (pairs_of c.args.context.now) (budget_view c.args.budget) (config_view c.hurry.new.state) r).depth (config_view c.step.new.state) e);
     }
 
 pub steps-smaller : goal.steps-smaller
 steps-smaller g c =
     let k = g.C.Code.code c.args.code.now in
     let e : next k (config_view c.hurry.new.state) ≡ Goes (config_view c.step.new.state) = c.in_ok-outcome.ensures.next ∙ rw c.in_default-2.is refl in
-    let r = reached_gone k (pairs_of c.args.context.now) (budget_view c.args.budget) c.steps.state c.hurry.new.state c.steps.invariant.reached c.hurry.ensures in
+    let r = reached_gone k (pairs_of c.args.context.now) (budget_view c.args.budget) c.steps.state c.hurry.new.state c.steps.invariant.reached c.hurry.ensures.gone in
     let less = (reached_sound c.code_laws.ensures k c.requires.whole c.requires.typed (pairs_of c.args.context.now) (budget_view c.args.budget) (config_view c.hurry.new.state) r).takes (config_view c.step.new.state) e in
-    omega (arith, less, c.hurry.ensures.fuel)
+    omega (arith, less, c.hurry.ensures.gone.fuel)
 
 pub returns-in-Some-2-clause-outcome : goal.returns-in-Some-2-clause-outcome
 returns-in-Some-2-clause-outcome g c =
@@ -64,7 +64,7 @@ returns-in-Some-2-clause-outcome g c =
     let x = pairs_of c.args.context.now in
     let b = budget_view c.args.budget in
     let e : next k (config_view c.hurry.new.state) ≡ Ends o = c.in_ok-outcome.ensures.next ∙ rw c.in-Some-2.is refl in
-    let r = c.steps.invariant.same o (ending_gone k c.steps.state c.hurry.new.state o c.hurry.ensures (ending_now k (config_view c.hurry.new.state) o e)) in
+    let r = c.steps.invariant.same o (ending_gone k c.steps.state c.hurry.new.state o c.hurry.ensures.gone (ending_now k (config_view c.hurry.new.state) o e)) in
     let n : passed b x k.names ≡ None = sym c.in_default.ensures in
     rw n r
 
@@ -76,6 +76,6 @@ returns-in_err-outcome-clause-memory g c =
     let k = g.C.Code.code c.args.code.now in
     let x = pairs_of c.args.context.now in
     let b = budget_view c.args.budget in
-    let r = reached_gone k x b c.steps.state c.hurry.new.state c.steps.invariant.reached c.hurry.ensures in
+    let r = reached_gone k x b c.steps.state c.hurry.new.state c.steps.invariant.reached c.hurry.ensures.gone in
     let comes : ComesToGrow k (start k x b) = record { steps = r.0; last = config_view c.hurry.new.state; reached = r.1; grows = c.in_err-outcome.ensures.memory } in
     on_err c.from_residual-in_err-outcome.result (sym c.in_default.ensures, inr comes)

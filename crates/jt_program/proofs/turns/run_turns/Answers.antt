@@ -1,17 +1,44 @@
+use Rattle.std.proofs.Common.{◌≡◌, ◌∙◌, ◌++◌, ◌∷◌, [], List, ap, append-nil, append_assoc, length, rules, subst, sym, ℕ}
 use Rattle.std.proofs.lemmas.Result.{err_from_is_err_and}
-use Rattle.jt_program.proofs.Starting.{all_lines, no_lines, no_start}
+use Rattle.jt_machine.specs.View.{budget_view}
+use Rattle.jt_line.specs.declared.Pair.{Pair}
+use Rattle.jt_turns.specs.Standing.{HasOpen}
+use Rattle.jt_program.specs.Commands.{AreOpen}
+use Rattle.jt_program.proofs.Starting.{all_lines, has_open, nil_of, stops}
 use Rattle.jt_program.proofs.turns.run_turns.Goals as goal
 
-pub returns-in_err-starts : goal.returns-in_err-starts
-returns-in_err-starts g c =
+pub loop-pair-preserved : goal.loop-pair-preserved
+loop-pair-preserved g c =
+    let left = c.next.new.self.rest.items in
+    let all : c.into_iter-pair-iterator.result.rest.items ≡ c.loop-pair.yielded ++ c.in-Some.pair ∷ left = c.loop-pair.invariant.0 ∙ ap (λ ps. c.loop-pair.yielded ++ ps) c.in-Some.ensures.steps.0 in
+    (all ∙ sym (append_assoc c.loop-pair.yielded (c.in-Some.pair ∷ []) left), c.in_ok-open_pair.ensures.opened c.loop-pair.yielded c.loop-pair.invariant.1)
+
+pub returns-in_err-open_pair : goal.returns-in_err-open_pair
+returns-in_err-open_pair g c =
     let p = err_from_is_err_and c.from_residual.result c.from_residual.ensures.1 in
-    rw (p.1, p.2) (no_start (g.F.Files.known c.args.files.now) c.args.pairs.items c.args.budget c.in_err-starts.field-0.0 c.in_err-starts.ensures.err)
+    let left = c.next.new.self.rest.items in
+    let all : c.into_iter-pair-iterator.result.rest.items ≡ c.loop-pair.yielded ++ c.in-Some.pair ∷ left = c.loop-pair.invariant.0 ∙ ap (λ ps. c.loop-pair.yielded ++ ps) c.in-Some.ensures.steps.0 in
+    let given : c.into_iter-pair-iterator.result.rest.items ≡ c.args.pairs.items = search rules in
+    rw (p.1, p.2) (stops (g.F.Files.known c.args.files.now) c.args.budget c.args.pairs.items c.loop-pair.yielded c.in-Some.pair left c.loop-pair.host c.in_err-open_pair.field-0.0
+    (sym given ∙ all) c.loop-pair.invariant.1 (c.in_err-open_pair.ensures.refused c.loop-pair.yielded c.loop-pair.invariant.1))
+
+pub take_turns-requires : goal.take_turns-requires
+take_turns-requires g c =
+    let files = g.F.Files.known c.args.files.now in
+    let none : c.loop-pair.pair-iterator.rest.items ≡ [] = nil_of c.loop-pair.pair-iterator.rest.items c.loop-pair.pair-iterator.rest.len (sym c.loop-pair.pair-iterator.rest.ok.0) c.in-None.ensures.steps.0 in
+    let all : c.into_iter-pair-iterator.result.rest.items ≡ c.loop-pair.yielded = c.loop-pair.invariant.0 ∙ (ap (λ ps. c.loop-pair.yielded ++ ps) none ∙ append-nil c.loop-pair.yielded) in
+    let given : c.into_iter-pair-iterator.result.rest.items ≡ c.args.pairs.items = search rules in
+    let whole : c.loop-pair.yielded ≡ c.args.pairs.items = sym all ∙ given in
+    let opened = subst (λ (ps : List Pair). AreOpen files c.args.budget ps c.loop-pair.host) whole c.loop-pair.invariant.1 in
+    let count : length c.args.pairs.items ≡ c.len-count.result = search rules in
+    subst (λ (n : ℕ). HasOpen n c.loop-pair.host) count (has_open files c.args.budget c.args.pairs.items c.loop-pair.host opened)
 
 pub returns-in-Ok : goal.returns-in-Ok
 returns-in-Ok g c =
-    all_lines (g.F.Files.known c.args.files.now) c.args.pairs.items c.in_ok-starts.starts.items c.args.budget c.in-Ok.lines c.in_ok-starts.ensures.starts c.in-Ok.ensures
-
-pub returns-in-Err : goal.returns-in-Err
-returns-in-Err g c =
-    rw c.no_session.ensures (no_lines (g.F.Files.known c.args.files.now) c.args.pairs.items c.in_ok-starts.starts.items c.args.budget c.in-Err.error
-    c.in_ok-starts.ensures.starts c.in-Err.ensures)
+    let files = g.F.Files.known c.args.files.now in
+    let none : c.loop-pair.pair-iterator.rest.items ≡ [] = nil_of c.loop-pair.pair-iterator.rest.items c.loop-pair.pair-iterator.rest.len (sym c.loop-pair.pair-iterator.rest.ok.0) c.in-None.ensures.steps.0 in
+    let all : c.into_iter-pair-iterator.result.rest.items ≡ c.loop-pair.yielded = c.loop-pair.invariant.0 ∙ (ap (λ ps. c.loop-pair.yielded ++ ps) none ∙ append-nil c.loop-pair.yielded) in
+    let given : c.into_iter-pair-iterator.result.rest.items ≡ c.args.pairs.items = search rules in
+    let whole : c.loop-pair.yielded ≡ c.args.pairs.items = sym all ∙ given in
+    let opened = subst (λ (ps : List Pair). AreOpen files c.args.budget ps c.loop-pair.host) whole c.loop-pair.invariant.1 in
+    all_lines files c.args.budget c.args.pairs.items c.loop-pair.host c.in-Ok.lines opened (c.in-Ok.ensures (budget_view c.args.budget))

@@ -1,4 +1,4 @@
-use Rattle.std.proofs.Common.{◌≡◌, ◌≢◌, List, Some, reverse, refl, sym, ap, ◌∙◌, rules, arith, inr}
+use Rattle.std.proofs.Common.{◌≡◌, ◌≢◌, List, Some, reverse, refl, sym, ap, ◌∙◌, rules, arith}
 use Rattle.std.proofs.lemmas.Grind.{common_steps}
 use Rattle.std.proofs.lemmas.List.{reverse-reverse}
 use Rattle.jt_image.specs.declared.kind.Kind.{Kind}
@@ -15,4 +15,4 @@ returns-then-not-are_same c =
     let left : c.args.left.now ≡ reverse c.as_slice.result.now = first_of (cc, grind (arith, common_steps)) in
     let right : c.args.right.now ≡ reverse c.as_slice-2.result.now = first_of (cc, grind (arith, common_steps)) in
     let differ : c.as_slice.result.now ≢ c.as_slice-2.result.now = first_of (search rules, grind (arith, common_steps)) in
-    inr (refl, omega (arith, c.if-len.false, c.len.ensures, c.len-2.ensures), λ e. differ (reverse_same c.as_slice.result.now c.as_slice-2.result.now (sym left ∙ e ∙ right)))
+    (refl, refl, (omega (arith, c.if-len.false, c.len.ensures, c.len-2.ensures), λ e. differ (reverse_same c.as_slice.result.now c.as_slice-2.result.now (sym left ∙ e ∙ right))))

@@ -1,0 +1,95 @@
+-- What an image tells of places: templates are put in order, and places get their numbers.
+use Rattle.std.proofs.Common.{◌≡◌, ℕ, suc, ◌+◌, ◌<◌, ◌≤◌, true, false, if◌then◌else◌, List, [], ◌∷◌, ◌++◌, length, map, drop, get_or, Option, Some, None, refl, sym, ap, ◌∙◌, subst, arith, append_assoc, inl, inr}
+use Rattle.std.specs.List.{AllByRecursion}
+use Rattle.std.specs.Str.{bytes_eq}
+use Rattle.std.proofs.lemmas.List.{map-append, drop_more, at_drop_all}
+use denote.Ref.{Bor}
+use Rattle.jt_value.specs.Place as place
+use Rattle.jt_trees.specs.Expressions.{Text}
+use Rattle.jt_trees.specs.Texts.{all_inserted}
+use Rattle.jt_uses.specs.Names.{texts}
+use Rattle.jt_image.specs.Code.{Spot}
+use Rattle.jt_image.specs.View.{spot_view, spots_view}
+use Rattle.jt_image.specs.declared.parts.Spot as given
+use Rattle.jt_slots.specs.declared.program.Place.{Place}
+use Rattle.jt_lower.specs.Emission.{tag_view, places_view}
+use Rattle.jt_lower.specs.Spots.{templates_in, templates_of, number_of, spot_of}
+use Rattle.jt_lower.proofs.Spots.{Among, number_within, all_here}
+use Rattle.jt_codegen.specs.Naming.{IsNamed}
+
+-- ---- templates in order
+
+place_left : (ps : List (Option Place)) (i : ℕ) (d o : Option Place) → i < length ps → get_or ps i d ≡ o → drop i ps ≡ o ∷ drop (i + 1) ps
+place_left ps i d o lt is = drop_more ps i d lt ∙ ap (λ y. y ∷ drop (i + 1) ps) is
+
+first_inserted : (o : Option place.Place) (qs : List (Option place.Place)) (ns : List Text) → all_inserted (templates_in qs) (all_inserted (templates_in (o ∷ [])) ns) ≡ all_inserted (templates_in (o ∷ qs)) ns
+first_inserted None qs ns = refl
+first_inserted (Some q) qs ns = refl
+
+pub named_more : (ts : List Text) (ps : List (Option Place)) (i : ℕ) (d o : Option Place) (ns ns' : List Text) → i < length ps → get_or ps i d ≡ o → ns' ≡ all_inserted (templates_in (tag_view ts o ∷ [])) ns
+    → all_inserted (templates_in (places_view ts (drop (i + 1) ps))) ns' ≡ all_inserted (templates_in (places_view ts (drop i ps))) ns
+named_more ts ps i d o ns ns' lt is e =
+    let rest = drop (i + 1) ps in
+    let left = place_left ps i d o lt is in
+    ap (all_inserted (templates_in (places_view ts rest))) e
+    ∙ first_inserted (tag_view ts o) (places_view ts rest) ns
+    ∙ ap (λ l. all_inserted (templates_in (places_view ts l)) ns) (sym left)
+
+pub named_end : (ts : List Text) (ps : List (Option Place)) (i : ℕ) (ns : List Text) → length ps ≤ i → all_inserted (templates_in (places_view ts (drop i ps))) ns ≡ ns
+named_end ts ps i ns le = ap (λ l. all_inserted (templates_in (places_view ts l)) ns) (at_drop_all (λ l. l) ps i le)
+
+-- the template of each place is among those that are named
+each_named : (ns : List Text) (qs : List (Option place.Place)) → ((t : Text) → Among t (templates_in qs) → Among t ns) → AllByRecursion (IsNamed ns) qs
+each_named ns [] f = tt
+each_named ns (None ∷ qs) f = (tt, each_named ns qs f)
+each_named ns (Some q ∷ qs) f = (number_within q.template ns (f q.template (inl refl)), each_named ns qs (λ t i. f t (inr i)))
+
+pub all_named : (qs : List (Option place.Place)) → AllByRecursion (IsNamed (templates_of qs)) qs
+all_named qs = each_named (templates_of qs) qs (λ t i. all_here t (templates_in qs) [] i)
+
+-- ---- numbers
+
+-- so many were tried, and are other ones
+abbrev pub Tried : Text → List (Bor Text) → ℕ → Type 0
+Tried t ns i = number_of t (texts ns) ≡ i + number_of t (texts (drop i ns))
+
+name_left : (t : Text) (ns : List (Bor Text)) (i : ℕ) (n : Bor Text) → i < length ns → n ≡ get_or ns i n → number_of t (texts (drop i ns)) ≡ (if bytes_eq n.now t then 0 else suc (number_of t (texts (drop (i + 1) ns))))
+name_left t ns i n lt is = ap (λ l. number_of t (texts l)) (drop_more ns i n lt ∙ ap (λ y. y ∷ drop (i + 1) ns) (sym is))
+
+pub number_more : (t : Text) (ns : List (Bor Text)) (i : ℕ) (n : Bor Text) → i < length ns → n ≡ get_or ns i n → bytes_eq n.now t ≡ false → Tried t ns i → Tried t ns (i + 1)
+number_more t ns i n lt is other h =
+    let left = name_left t ns i n lt is ∙ ap (λ b. if b then 0 else suc (number_of t (texts (drop (i + 1) ns)))) other in
+    omega (arith, h, left)
+
+pub number_found : (t : Text) (ns : List (Bor Text)) (i : ℕ) (n : Bor Text) → i < length ns → n ≡ get_or ns i n → bytes_eq n.now t ≡ true → Tried t ns i → i ≡ number_of t (texts ns)
+number_found t ns i n lt is same h =
+    let left = name_left t ns i n lt is ∙ ap (λ b. if b then 0 else suc (number_of t (texts (drop (i + 1) ns)))) same in
+    omega (arith, h, left)
+
+pub number_end : (t : Text) (ns : List (Bor Text)) (i : ℕ) → length ns ≤ i → i ≤ length ns → Tried t ns i → i ≡ number_of t (texts ns)
+number_end t ns i le ge h =
+    let left : number_of t (texts (drop i ns)) ≡ 0 = ap (λ l. number_of t (texts l)) (at_drop_all (λ l. l) ns i le) in
+    omega (arith, h, left)
+
+-- ---- spots
+
+-- those of the first places, whose templates are all named
+abbrev pub Told : List Text → List Text → List (Option Place) → ℕ → List given.Spot → Type 0
+Told ts ns ps i ss = (spots_view ss ++ map (spot_of ns) (places_view ts (drop i ps)) ≡ map (spot_of ns) (places_view ts ps)) × AllByRecursion (IsNamed ns) (places_view ts (drop i ps))
+
+pub here_named : (ts ns : List Text) (ps : List (Option Place)) (i : ℕ) (d o : Option Place) (ss : List given.Spot) → i < length ps → get_or ps i d ≡ o → Told ts ns ps i ss → IsNamed ns (tag_view ts o)
+here_named ts ns ps i d o ss lt is h = (subst (λ l. AllByRecursion (IsNamed ns) (places_view ts l)) (place_left ps i d o lt is) h.1).0
+
+pub told_more : (ts ns : List Text) (ps : List (Option Place)) (i : ℕ) (d o : Option Place) (ss ss' : List given.Spot) (s : given.Spot) → i < length ps → get_or ps i d ≡ o → spot_view s ≡ spot_of ns (tag_view ts o) → ss' ≡ ss ++ s ∷ []
+    → Told ts ns ps i ss → Told ts ns ps (i + 1) ss'
+told_more ts ns ps i d o ss ss' s lt is e more h =
+    let left = place_left ps i d o lt is in
+    let rest = map (spot_of ns) (places_view ts (drop (i + 1) ps)) in (
+      ap (λ l. spots_view l ++ rest) more
+          ∙ ap (λ l. l ++ rest) (map-append spot_view ss (s ∷ []))
+          ∙ append_assoc (spots_view ss) (spot_view s ∷ []) rest
+          ∙ ap (λ (z : Spot). spots_view ss ++ z ∷ rest) e
+          ∙ ap (λ l. spots_view ss ++ map (spot_of ns) (places_view ts l)) (sym left)
+          ∙ h.0,
+      (subst (λ l. AllByRecursion (IsNamed ns) (places_view ts l)) left h.1).1,
+    )

@@ -1,0 +1,250 @@
+-- What is read behind the instructions is spelled so, and what is spelled there is read.
+use Rattle.std.proofs.Common.{◌≡◌, ℕ, zero, suc, ◌<◌, ◌≤◌, ◌^◌, Bool, true, false, cond, eqb, List, [], ◌∷◌, ◌++◌, length, Ok, Err, refl, sym, ap, subst, ◌∙◌, arith, append_assoc, nat_cmp, if◌then◌else◌}
+use Rattle.std.specs.Prelude.{◌==◌, ◌&&◌, nat_lt, nat_le, IsUtf8}
+use Rattle.std.specs.Int.{w16, w32, to_le_bytes}
+use Rattle.std.specs.List.{flat_map, AllByRecursion}
+use Rattle.std.specs.Ordering.{is_lt}
+use Rattle.std.specs.Cmp.Lexicographic.{slice_cmp}
+use Rattle.std.proofs.lemmas.Bool.{ltb-true, leb-true, eqb-true, lt-ltb, le-leb}
+use Rattle.std.proofs.lemmas.Bool.Decides.{nat_tests}
+use Rattle.jt_image.specs.declared.error.ImageError.TheVariants.{BadTable, BadVersion}
+use Rattle.jt_image.specs.declared.version.Version.{Version}
+use Rattle.jt_image.specs.declared.version.Version.TheVariants as version
+use Rattle.jt_image.specs.Code.{Spot}
+use Rattle.jt_image.specs.Spelling.{version_number, template_bytes, spot_bytes, place_bytes}
+use Rattle.jt_image.specs.IsCode.{IsTemplate, AscendTexts, IsLine, IsSpot, IsPlaced, max_line}
+use Rattle.jt_image.specs.Reading.{◌>>=◌, check, number_at, text_at, version_at, may_follow_texts, template_at, templates_at, all_templates_at, template_number_at, is_line, line_at, spot_at, spots_at, Back, back_at}
+use Rattle.jt_image.proofs.Found.{AllOk, all_map, bind_from, check_all, cond_all, IsBytes, Takes, Takes-then, Takes-as, Found, IsText, text_found, wide16, wide32, number_found, AllGood, Many, many_found}
+use Rattle.jt_image.proofs.Whole.{above_some}
+use Rattle.jt_image.proofs.Again.{number_again, text_again, bind_again, many_again}
+
+and_true : (a b : Bool) → (a && b) ≡ true → (a ≡ true) × (b ≡ true)
+and_true true b e = (refl, e)
+and_true false b e = absurd cc
+
+check_again : {A : Type 0} (b : Bool) (d : _) (r : _) → b ≡ true → check {A = A} b d r ≡ r
+check_again true d r e = refl
+check_again false d r e = absurd cc
+
+-- ---- the version
+
+pub version_found : (bytes : List ℕ) → IsBytes bytes → AllOk (version_at bytes) (λ x. Takes bytes (to_le_bytes w16 (version_number x.0)) x.1)
+unfolding version_at
+version_found bytes fits =
+    let P : Version × List ℕ → Type 0 = λ x. Takes bytes (to_le_bytes w16 (version_number x.0)) x.1 in
+    bind_from (number_at w16 bytes) _ (λ n. Takes bytes (to_le_bytes w16 n.0) n.1 × (n.0 < 2 ^ 16)) P (number_found w16 (2 ^ 16) wide16 bytes fits) (λ n t.
+    cond_all (eqb n.0 1) _ _ P (λ e. Takes-as bytes (to_le_bytes w16 n.0) (to_le_bytes w16 1) n.1 (ap (to_le_bytes w16) (eqb-true n.0 1 e)) t.0) (λ _.
+    cond_all (eqb n.0 2) _ _ P (λ e. Takes-as bytes (to_le_bytes w16 n.0) (to_le_bytes w16 2) n.1 (ap (to_le_bytes w16) (eqb-true n.0 2 e)) t.0) (λ _. tt)))
+
+pub version_again : (v : Version) (rest : List ℕ) → version_at (to_le_bytes w16 (version_number v) ++ rest) ≡ Ok (v, rest)
+unfolding version_at
+version_again version.One rest = bind_again (number_at w16 (to_le_bytes w16 1 ++ rest)) (λ found. if found.0 == 1 then Ok (version.One, found.1) else if found.0 == 2 then Ok (version.Two, found.1) else Err BadVersion) 1 rest (Ok (version.One, rest)) (number_again w16 (2 ^ 16) wide16 1 rest (omega arith)) refl
+version_again version.Two rest = bind_again (number_at w16 (to_le_bytes w16 2 ++ rest)) (λ found. if found.0 == 1 then Ok (version.One, found.1) else if found.0 == 2 then Ok (version.Two, found.1) else Err BadVersion) 2 rest (Ok (version.Two, rest)) (number_again w16 (2 ^ 16) wide16 2 rest (omega arith)) refl
+
+-- ---- templates
+
+-- a text that may stand behind these
+pub record IsNextText (before : List (List ℕ)) (t : List ℕ) : Type 0 where
+  pub fits : length t < 2 ^ 16
+  pub utf8 : IsUtf8 t
+  pub follows : may_follow_texts before t ≡ true
+
+pub template_found : (before : List (List ℕ)) (bytes : List ℕ) → IsBytes bytes → Found template_bytes (IsNextText before) bytes (template_at before bytes)
+unfolding template_at
+template_found before bytes fits =
+    let P : List ℕ × List ℕ → Type 0 = λ t. Takes bytes (template_bytes t.0) t.1 × IsNextText before t.0 in
+    bind_from (number_at w16 bytes) (λ len. text_at len.0 len.1 >>= λ t. check (may_follow_texts before t.0) BadTable (Ok t)) (λ s. Takes bytes (to_le_bytes w16 s.0) s.1 × (s.0 < 2 ^ 16)) P (number_found w16 (2 ^ 16) wide16 bytes fits) (λ len l.
+    bind_from (text_at len.0 len.1) (λ t. check (may_follow_texts before t.0) BadTable (Ok t)) (λ t. Takes len.1 t.0 t.1 × IsText len.0 t.0) P (text_found len.0 len.1 l.0.fits) (λ t u.
+    check_all (may_follow_texts before t.0) BadTable (Ok t) P (λ e. (
+      Takes-as bytes (to_le_bytes w16 len.0 ++ t.0) (template_bytes t.0) t.1 (ap (λ (n : ℕ). to_le_bytes w16 n ++ t.0) (sym u.1.0)) (Takes-then bytes (to_le_bytes w16 len.0) len.1 t.0 t.1 l.0 u.0),
+      record { fits = omega (arith, u.1.0, l.1); utf8 = u.1.1; follows = e },
+    ))))
+
+pub template_again : (before : List (List ℕ)) (t rest : List ℕ) → IsNextText before t → template_at before (template_bytes t ++ rest) ≡ Ok (t, rest)
+unfolding template_at
+template_again before t rest h =
+    ap (template_at before) (append_assoc (to_le_bytes w16 (length t)) t rest)
+    ∙ bind_again (number_at w16 (to_le_bytes w16 (length t) ++ (t ++ rest))) (λ len. text_at len.0 len.1 >>= λ t. check (may_follow_texts before t.0) BadTable (Ok t)) (length t) (t ++ rest) (Ok (t, rest)) (number_again w16 (2 ^ 16) wide16 (length t) (t ++ rest) h.fits)
+    (bind_again (text_at (length t) (t ++ rest)) (λ t. check (may_follow_texts before t.0) BadTable (Ok t)) t rest (Ok (t, rest)) (text_again t rest h.utf8)
+    (check_again (may_follow_texts before t) BadTable (Ok (t, rest)) h.follows))
+
+pub may_follow_texts-push : (before : List (List ℕ)) (s t : List ℕ) → may_follow_texts (before ++ s ∷ []) t ≡ is_lt (slice_cmp nat_cmp s t)
+may_follow_texts-push [] s t = refl
+may_follow_texts-push (r ∷ []) s t = refl
+may_follow_texts-push (r ∷ q ∷ ss) s t = may_follow_texts-push (q ∷ ss) s t
+
+follows_some : (before : List (List ℕ)) (t : List ℕ) → may_follow_texts before t ≡ true → 0 < length t
+follows_some [] t e = ltb-true _ _ e
+follows_some (s ∷ []) t e = above_some s t e
+follows_some (s ∷ r ∷ ss) t e = follows_some (r ∷ ss) t e
+
+pub are_templates : (before ts : List (List ℕ)) → AllGood IsNextText before ts → AllByRecursion IsTemplate ts
+are_templates before [] h = tt
+are_templates before (t ∷ ts) h = (record { some = follows_some before t h.0.follows; fits = h.0.fits; utf8 = h.0.utf8 }, are_templates (before ++ t ∷ []) ts h.1)
+
+ascend_from : (t : List ℕ) (before ts : List (List ℕ)) → AllGood IsNextText (before ++ t ∷ []) ts → AscendTexts (t ∷ ts)
+ascend_from t before [] h = tt
+ascend_from t before (s ∷ ts) h = (sym (may_follow_texts-push before t s) ∙ h.0.follows, ascend_from s (before ++ t ∷ []) ts h.1)
+
+pub ascend_texts : (ts : List (List ℕ)) → AllGood IsNextText [] ts → AscendTexts ts
+ascend_texts [] h = tt
+ascend_texts (t ∷ ts) h = ascend_from t [] ts h.1
+
+-- the first of these may stand behind those before
+abbrev pub StartsTexts : List (List ℕ) → List (List ℕ) → Type 0
+StartsTexts before [] = Unit {0}
+StartsTexts before (t ∷ ts) = may_follow_texts before t ≡ true
+
+next_starts : (before : List (List ℕ)) (t : List ℕ) (ts : List (List ℕ)) → AscendTexts (t ∷ ts) → StartsTexts (before ++ t ∷ []) ts
+next_starts before t [] h = tt
+next_starts before t (s ∷ ts) h = may_follow_texts-push before t s ∙ h.0
+
+rest_ascends : (t : List ℕ) (ts : List (List ℕ)) → AscendTexts (t ∷ ts) → AscendTexts ts
+rest_ascends t [] h = tt
+rest_ascends t (s ∷ ts) h = h.1
+
+all_next : (before ts : List (List ℕ)) → AllByRecursion IsTemplate ts → AscendTexts ts → StartsTexts before ts → AllGood IsNextText before ts
+all_next before [] all up starts = tt
+all_next before (t ∷ ts) all up starts = (record { fits = all.0.fits; utf8 = all.0.utf8; follows = starts }, all_next (before ++ t ∷ []) ts all.1 (rest_ascends t ts up) (next_starts before t ts up))
+
+first_starts : (ts : List (List ℕ)) → AllByRecursion IsTemplate ts → StartsTexts [] ts
+first_starts [] all = tt
+first_starts (t ∷ ts) all = lt-ltb _ _ all.0.some
+
+pub good_templates : (ts : List (List ℕ)) → AllByRecursion IsTemplate ts → AscendTexts ts → AllGood IsNextText [] ts
+good_templates ts all up = all_next [] ts all up (first_starts ts all)
+
+-- a table of templates in order
+pub record AreTexts (ts : List (List ℕ)) : Type 0 where
+  pub count : length ts < 2 ^ 16
+  pub all : AllByRecursion IsTemplate ts
+  pub ascend : AscendTexts ts
+
+abbrev pub templates_bytes : List (List ℕ) → List ℕ
+templates_bytes ts = to_le_bytes w16 (length ts) ++ flat_map template_bytes ts
+
+pub templates_found : (bytes : List ℕ) → IsBytes bytes → Found templates_bytes AreTexts bytes (all_templates_at bytes)
+unfolding all_templates_at
+templates_found bytes fits =
+    let P : List (List ℕ) × List ℕ → Type 0 = λ x. Takes bytes (templates_bytes x.0) x.1 × AreTexts x.0 in
+    bind_from (number_at w16 bytes) (λ n. templates_at n.0 n.1) (λ n. Takes bytes (to_le_bytes w16 n.0) n.1 × (n.0 < 2 ^ 16)) P (number_found w16 (2 ^ 16) wide16 bytes fits) (λ n t.
+    all_map (templates_at n.0 n.1) (Many template_bytes IsNextText n.0 [] n.1) P (many_found template_at template_bytes IsNextText template_found n.0 [] n.1 t.0.fits) (λ x m.
+    let len : length x.0 ≡ n.0 = ap length m.is ∙ m.count in
+    let all : AllGood IsNextText [] x.0 = subst (λ (ts : List (List ℕ)). AllGood IsNextText [] ts) (sym m.is) m.all in (
+      Takes-as bytes (to_le_bytes w16 n.0 ++ flat_map template_bytes m.more) (templates_bytes x.0) x.1 (ap (λ (k : ℕ). to_le_bytes w16 k ++ flat_map template_bytes m.more) (sym len) ∙ ap (λ (ts : List (List ℕ)). to_le_bytes w16 (length x.0) ++ flat_map template_bytes ts) (sym m.is)) (Takes-then bytes (to_le_bytes w16 n.0) n.1 (flat_map template_bytes m.more) x.1 t.0 m.takes),
+      record { count = omega (arith, len, t.1); all = are_templates [] x.0 all; ascend = ascend_texts x.0 all },
+    )))
+
+templates_again : (ts : List (List ℕ)) (rest : List ℕ) → AreTexts ts → all_templates_at (to_le_bytes w16 (length ts) ++ (flat_map template_bytes ts ++ rest)) ≡ Ok (ts, rest)
+unfolding all_templates_at
+templates_again ts rest h =
+    bind_again (number_at w16 (to_le_bytes w16 (length ts) ++ (flat_map template_bytes ts ++ rest))) (λ n. templates_at n.0 n.1) (length ts) (flat_map template_bytes ts ++ rest) (Ok (ts, rest)) (number_again w16 (2 ^ 16) wide16 (length ts) (flat_map template_bytes ts ++ rest) h.count)
+    (many_again template_at template_bytes IsNextText template_again [] ts rest (good_templates ts h.all h.ascend))
+
+-- ---- spots
+
+number_of_found : (templates : ℕ) (bytes : List ℕ) → IsBytes bytes → Found (to_le_bytes w16) (λ n. n ≤ templates) bytes (template_number_at templates bytes)
+unfolding template_number_at
+number_of_found templates bytes fits =
+    let P : ℕ × List ℕ → Type 0 = λ n. Takes bytes (to_le_bytes w16 n.0) n.1 × (n.0 ≤ templates) in
+    bind_from (number_at w16 bytes) (λ n. check (nat_le n.0 templates) BadTable (Ok n)) (λ s. Takes bytes (to_le_bytes w16 s.0) s.1 × (s.0 < 2 ^ 16)) P (number_found w16 (2 ^ 16) wide16 bytes fits) (λ n t.
+    check_all (nat_le n.0 templates) BadTable (Ok n) P (λ e. (t.0, leb-true _ _ e)))
+
+not_zero : (n : ℕ) → eqb (suc n) 0 ≡ false
+not_zero n = grind (arith, nat_tests)
+
+pub line_holds : (template line : ℕ) → is_line template line ≡ true → IsLine template line
+line_holds zero line e = eqb-true line 0 e
+line_holds (suc template) line e =
+    let some : (nat_lt 0 line && nat_le line max_line) ≡ true = sym (ap (λ b. cond b (eqb line 0) (nat_lt 0 line && nat_le line max_line)) (not_zero template)) ∙ e in
+    let both = and_true (nat_lt 0 line) (nat_le line max_line) some in
+    (ltb-true _ _ both.0, leb-true _ _ both.1)
+
+pub holds_line : (template line : ℕ) → IsLine template line → is_line template line ≡ true
+holds_line zero line h = rw h refl
+holds_line (suc template) line h =
+    let some : nat_lt 0 line ≡ true = lt-ltb _ _ h.0 in
+    let most : nat_le line max_line ≡ true = le-leb _ _ h.1 in
+    let both : (nat_lt 0 line && nat_le line max_line) ≡ true = rw (some, most) refl in
+    ap (λ b. cond b (eqb line 0) (nat_lt 0 line && nat_le line max_line)) (not_zero template) ∙ both
+
+line_found : (template : ℕ) (bytes : List ℕ) → IsBytes bytes → Found (to_le_bytes w32) (IsLine template) bytes (line_at template bytes)
+unfolding line_at
+line_found template bytes fits =
+    let P : ℕ × List ℕ → Type 0 = λ n. Takes bytes (to_le_bytes w32 n.0) n.1 × IsLine template n.0 in
+    bind_from (number_at w32 bytes) (λ n. check (is_line template n.0) BadTable (Ok n)) (λ s. Takes bytes (to_le_bytes w32 s.0) s.1 × (s.0 < 2 ^ 32)) P (number_found w32 (2 ^ 32) wide32 bytes fits) (λ n t.
+    check_all (is_line template n.0) BadTable (Ok n) P (λ e. (t.0, line_holds template n.0 e)))
+
+pub spot_found : (templates : ℕ) (bytes : List ℕ) → IsBytes bytes → Found spot_bytes (IsSpot templates) bytes (spot_at templates bytes)
+unfolding spot_at
+spot_found templates bytes fits =
+    let P : Spot × List ℕ → Type 0 = λ s. Takes bytes (spot_bytes s.0) s.1 × IsSpot templates s.0 in
+    bind_from (template_number_at templates bytes) (λ t. line_at t.0 t.1 >>= λ l. Ok (record { template = t.0; line = l.0 }, l.1)) (λ n. Takes bytes (to_le_bytes w16 n.0) n.1 × (n.0 ≤ templates)) P (number_of_found templates bytes fits) (λ t tt'.
+    bind_from (line_at t.0 t.1) (λ l. Ok (record { template = t.0; line = l.0 }, l.1)) (λ n. Takes t.1 (to_le_bytes w32 n.0) n.1 × IsLine t.0 n.0) P (line_found t.0 t.1 tt'.0.fits) (λ l tl.
+    (Takes-then bytes (to_le_bytes w16 t.0) t.1 (to_le_bytes w32 l.0) l.1 tt'.0 tl.0, record { template = tt'.1; line = tl.1 })))
+
+small_line : (template line : ℕ) → IsLine template line → line < 2 ^ 32
+small_line zero line h = omega (arith, h)
+small_line (suc template) line h = omega (arith, h.1)
+
+spot_again : (templates : ℕ) → templates < 2 ^ 16 → (before : List Spot) (s : Spot) (rest : List ℕ) → IsSpot templates s → spot_at templates (spot_bytes s ++ rest) ≡ Ok (s, rest)
+unfolding spot_at template_number_at line_at
+spot_again templates small before s rest h =
+    let r1 = to_le_bytes w32 s.line ++ rest in
+    let number : template_number_at templates (to_le_bytes w16 s.template ++ r1) ≡ Ok (s.template, r1) =
+    bind_again (number_at w16 (to_le_bytes w16 s.template ++ r1)) (λ n. check (nat_le n.0 templates) BadTable (Ok n)) s.template r1 (Ok (s.template, r1)) (number_again w16 (2 ^ 16) wide16 s.template r1 (omega (arith, h.template, small)))
+    (check_again (nat_le s.template templates) BadTable (Ok (s.template, r1)) (le-leb _ _ h.template)) in
+    let line : line_at s.template r1 ≡ Ok (s.line, rest) =
+    bind_again (number_at w32 r1) (λ n. check (is_line s.template n.0) BadTable (Ok n)) s.line rest (Ok (s.line, rest)) (number_again w32 (2 ^ 32) wide32 s.line rest (small_line s.template s.line h.line))
+    (check_again (is_line s.template s.line) BadTable (Ok (s.line, rest)) (holds_line s.template s.line h.line)) in
+    ap (spot_at templates) (append_assoc (to_le_bytes w16 s.template) (to_le_bytes w32 s.line) rest)
+    ∙ bind_again (template_number_at templates (to_le_bytes w16 s.template ++ r1)) (λ t. line_at t.0 t.1 >>= λ l. Ok (record { template = t.0; line = l.0 }, l.1)) s.template r1 (Ok (s, rest)) number
+    (bind_again (line_at s.template r1) (λ l. Ok (record { template = s.template; line = l.0 }, l.1)) s.line rest (Ok (s, rest)) line refl)
+
+abbrev pub good_spot : ℕ → List Spot → Spot → Type 0
+good_spot templates before s = IsSpot templates s
+
+pub all_spots : (templates : ℕ) (before ss : List Spot) → AllGood (good_spot templates) before ss → AllByRecursion (IsSpot templates) ss
+all_spots templates before [] h = tt
+all_spots templates before (s ∷ ss) h = (h.0, all_spots templates (before ++ s ∷ []) ss h.1)
+
+good_spots : (templates : ℕ) (before ss : List Spot) → AllByRecursion (IsSpot templates) ss → AllGood (good_spot templates) before ss
+good_spots templates before [] h = tt
+good_spots templates before (s ∷ ss) h = (h.0, good_spots templates (before ++ s ∷ []) ss h.1)
+
+-- ---- both
+
+-- what a version may have behind so many instructions
+pub record IsBack (v : Version) (n : ℕ) (b : Back) : Type 0 where
+  pub texts : AreTexts b.templates
+  pub spots : AllByRecursion (IsSpot (length b.templates)) b.spots
+  pub placed : IsPlaced v n b.templates b.spots
+
+abbrev pub back_bytes : Version → Back → List ℕ
+back_bytes v b = place_bytes v b.templates b.spots
+
+pub back_found : (v : Version) (n : ℕ) (bytes : List ℕ) → IsBytes bytes → Found (back_bytes v) (IsBack v n) bytes (back_at v n bytes)
+unfolding back_at
+back_found version.One n bytes fits = (record { parts = refl; fits = fits }, record { texts = record { count = omega arith; all = tt; ascend = tt }; spots = tt; placed = (refl, refl) })
+back_found version.Two n bytes fits =
+    let P : Back × List ℕ → Type 0 = λ b. Takes bytes (back_bytes version.Two b.0) b.1 × IsBack version.Two n b.0 in
+    bind_from (all_templates_at bytes) (λ ts. spots_at (length ts.0) n ts.1 >>= λ ss. Ok (record { templates = ts.0; spots = ss.0 }, ss.1)) (λ x. Takes bytes (templates_bytes x.0) x.1 × AreTexts x.0) P (templates_found bytes fits) (λ ts t.
+    bind_from (spots_at (length ts.0) n ts.1) (λ ss. Ok (record { templates = ts.0; spots = ss.0 }, ss.1)) (Many spot_bytes (good_spot (length ts.0)) n [] ts.1) P (many_found (λ _. spot_at (length ts.0)) spot_bytes (good_spot (length ts.0)) (λ before bytes fits. spot_found (length ts.0) bytes fits) n [] ts.1 t.0.fits) (λ ss m. (
+      Takes-as bytes (templates_bytes ts.0 ++ flat_map spot_bytes m.more) (back_bytes version.Two (record { templates = ts.0; spots = ss.0 })) ss.1
+          (append_assoc (to_le_bytes w16 (length ts.0)) (flat_map template_bytes ts.0) (flat_map spot_bytes m.more) ∙ ap (λ (xs : List Spot). to_le_bytes w16 (length ts.0) ++ (flat_map template_bytes ts.0 ++ flat_map spot_bytes xs)) (sym m.is))
+          (Takes-then bytes (templates_bytes ts.0) ts.1 (flat_map spot_bytes m.more) ss.1 t.0 m.takes),
+      record { texts = t.1; spots = subst (λ (xs : List Spot). AllByRecursion (IsSpot (length ts.0)) xs) (sym m.is) (all_spots (length ts.0) [] m.more m.all); placed = ap length m.is ∙ m.count },
+    )))
+
+pub back_again : (v : Version) (b : Back) (n : ℕ) (rest : List ℕ) → IsBack v n b → back_at v n (back_bytes v b ++ rest) ≡ Ok (b, rest)
+unfolding back_at
+back_again version.One b n rest h =
+    let same : (let a : Back = record { templates = []; spots = [] } in a) ≡ b = ap (λ (ts : List (List ℕ)). let a : Back = record { templates = ts; spots = [] } in a) (sym h.placed.0) ∙ ap (λ (ss : List Spot). let a : Back = record { templates = b.templates; spots = ss } in a) (sym h.placed.1) in
+    ap (λ (a : Back). let r : Back × List ℕ = (a, rest) in Ok r) same
+back_again version.Two b n rest h =
+    let ts = b.templates in
+    let r1 = flat_map spot_bytes b.spots ++ rest in
+    let spots : spots_at (length ts) n r1 ≡ Ok (b.spots, rest) = ap (λ (k : ℕ). spots_at (length ts) k r1) (sym h.placed) ∙ many_again (λ _. spot_at (length ts)) spot_bytes (good_spot (length ts)) (λ before s rest g. spot_again (length ts) h.texts.count before s rest g) [] b.spots rest (good_spots (length ts) [] b.spots h.spots) in
+    ap (back_at version.Two n) (append_assoc (to_le_bytes w16 (length ts)) (flat_map template_bytes ts ++ flat_map spot_bytes b.spots) rest ∙ ap (λ (t : List ℕ). to_le_bytes w16 (length ts) ++ t) (append_assoc (flat_map template_bytes ts) (flat_map spot_bytes b.spots) rest))
+    ∙ bind_again (all_templates_at (to_le_bytes w16 (length ts) ++ (flat_map template_bytes ts ++ r1))) (λ ts. spots_at (length ts.0) n ts.1 >>= λ ss. Ok (record { templates = ts.0; spots = ss.0 }, ss.1)) ts r1 (Ok (b, rest)) (templates_again ts r1 h.texts)
+    (bind_again (spots_at (length ts) n r1) (λ ss. Ok (record { templates = ts; spots = ss.0 }, ss.1)) b.spots rest (Ok (b, rest)) spots refl)

@@ -1,0 +1,207 @@
+-- What an image is without places: how it is spelled, and that its runs are the same.
+use Rattle.std.proofs.Common.{◌≡◌, ℕ, zero, suc, ◌+◌, ◌*◌, ◌≤◌, List, [], ◌++◌, length, take, drop, replicate, if◌then◌else◌, Option, Some, None, refl, sym, ap, ◌∙◌, arith, append_assoc}
+use Rattle.std.specs.Prelude.{slice_get}
+use Rattle.std.specs.Option.{option_and_then}
+use Rattle.std.specs.Int.{w16, to_le_bytes}
+use Rattle.std.specs.List.{flat_map, AllByRecursion}
+use Rattle.std.proofs.lemmas.List.{append-nil, length-append}
+use Rattle.std.proofs.lemmas.List.Concat.{flat_map-cons}
+use Rattle.jt_value.specs.Pairs.{Pairs}
+use Rattle.jt_image.specs.declared.instruction.Instruction.{Instruction}
+use Rattle.jt_image.specs.declared.instruction.Instruction.TheVariants as op
+use Rattle.jt_image.specs.declared.version.Version.{Version}
+use Rattle.jt_image.specs.declared.version.Version.TheVariants as version
+use Rattle.jt_image.specs.Code.{Section, Spot, Code}
+use Rattle.jt_image.specs.Spelling.{magic, name_bytes, constant_bytes, header_bytes, spot_bytes, place_bytes, spelling}
+use Rattle.jt_image.specs.IsCode.{total_len, IsSpot, IsCode, max_bytes}
+use Rattle.jt_image.specs.Places.{place_of, place_at}
+use Rattle.jt_image.specs.Upgrading.{unplaced}
+use Rattle.jt_image.specs.Config as config
+use Rattle.jt_image.specs.Config.{Budget, Outcome, Machine, Config}
+use Rattle.jt_image.specs.Step.{action, in_tables, strict, wrong, cost, fetch}
+use Rattle.jt_image.specs.Run.{Next, Goes, Ends, Wrong, spends, placed, next_at, next, passed, start, then_goes, after, RunFrom, Run}
+use Rattle.jt_image.proofs.Assembled.{spelled_len}
+use Rattle.jt_image.proofs.Sound.{code_bytes}
+
+abbrev pub no_spot : Spot
+no_spot = record { template = 0; line = 0 }
+
+-- ---- its spelling
+
+zeros : (n : ℕ) → replicate (6 * n) 0 ≡ flat_map spot_bytes (replicate n no_spot)
+zeros zero = refl
+zeros (suc n) =
+    let six : 6 * suc n ≡ suc (suc (suc (suc (suc (suc (6 * n)))))) = omega arith in
+    ap (λ (m : ℕ). replicate m 0) six ∙ ap (λ (b : List ℕ). spot_bytes no_spot ++ b) (zeros n) ∙ sym (flat_map-cons spot_bytes no_spot (replicate n no_spot))
+
+abbrev behind : Code → List ℕ
+behind k = to_le_bytes w16 k.globals
+    ++ (to_le_bytes w16 (length k.names) ++ (flat_map name_bytes k.names
+    ++ (to_le_bytes w16 (length k.constants) ++ (flat_map constant_bytes k.constants
+    ++ (to_le_bytes w16 (length k.units) ++ (flat_map header_bytes k.units ++ flat_map code_bytes k.units))))))
+
+regroup : (g ln fn lc fc lu fh fu z : List ℕ) → (g ++ (ln ++ (fn ++ (lc ++ (fc ++ (lu ++ (fh ++ fu))))))) ++ z ≡ g ++ (ln ++ (fn ++ (lc ++ (fc ++ (lu ++ (fh ++ (fu ++ z)))))))
+regroup g ln fn lc fc lu fh fu z = simp append_assoc
+
+grouped : (k : Code) (z : List ℕ) → behind k ++ z ≡ to_le_bytes w16 k.globals
+    ++ (to_le_bytes w16 (length k.names) ++ (flat_map name_bytes k.names
+    ++ (to_le_bytes w16 (length k.constants) ++ (flat_map constant_bytes k.constants
+    ++ (to_le_bytes w16 (length k.units) ++ (flat_map header_bytes k.units ++ (flat_map code_bytes k.units ++ z)))))))
+grouped k z = regroup (to_le_bytes w16 k.globals) (to_le_bytes w16 (length k.names)) (flat_map name_bytes k.names) (to_le_bytes w16 (length k.constants)) (flat_map constant_bytes k.constants) (to_le_bytes w16 (length k.units)) (flat_map header_bytes k.units) (flat_map code_bytes k.units) z
+
+none_behind : (k : Code) → k.version ≡ version.One → place_bytes k.version k.templates k.spots ≡ []
+none_behind k e = ap (λ (v : Version). place_bytes v k.templates k.spots) e
+
+-- behind magic and version, version 1 has nothing but this
+pub behind_start : (k : Code) → k.version ≡ version.One → drop 6 (spelling k) ≡ behind k
+behind_start k e = sym (grouped k (place_bytes k.version k.templates k.spots)) ∙ ap (λ (z : List ℕ). behind k ++ z) (none_behind k e) ∙ append-nil (behind k)
+
+pub unplaced_spelled : (k : Code) → k.version ≡ version.One → magic ++ (to_le_bytes w16 2 ++ (drop 6 (spelling k) ++ replicate (2 + 6 * total_len k.units) 0)) ≡ spelling (unplaced k)
+unplaced_spelled k e =
+    let n = total_len k.units in
+    let two : replicate (2 + 6 * n) 0 ≡ to_le_bytes w16 0 ++ ([] ++ replicate (6 * n) 0) = ap (λ (m : ℕ). replicate m 0) (let s : 2 + 6 * n ≡ suc (suc (6 * n)) = omega arith in s) in
+    ap (λ (b : List ℕ). magic ++ (to_le_bytes w16 2 ++ (b ++ replicate (2 + 6 * n) 0))) (behind_start k e)
+    ∙ ap (λ (z : List ℕ). magic ++ (to_le_bytes w16 2 ++ (behind k ++ z))) (two ∙ ap (λ (z : List ℕ). to_le_bytes w16 0 ++ ([] ++ z)) (zeros n))
+    ∙ ap (λ (b : List ℕ). magic ++ (to_le_bytes w16 2 ++ b)) (grouped k (place_bytes version.Two [] (replicate n no_spot)))
+
+length_zeros : (n : ℕ) → length (flat_map spot_bytes (replicate n no_spot)) ≡ 6 * n
+length_zeros zero = omega arith
+length_zeros (suc n) = omega (arith, ap length (flat_map-cons spot_bytes no_spot (replicate n no_spot)), length-append (spot_bytes no_spot) (flat_map spot_bytes (replicate n no_spot)), length_zeros n)
+
+pub unplaced_len : (k : Code) → k.version ≡ version.One → length (spelling (unplaced k)) ≡ length (spelling k) + (2 + 6 * total_len k.units)
+unplaced_len k e =
+    let behind : length (place_bytes version.Two [] (replicate (total_len k.units) no_spot)) ≡ suc (suc (length (flat_map spot_bytes (replicate (total_len k.units) no_spot)))) = refl in
+    omega (arith, spelled_len k, spelled_len (unplaced k), ap length (none_behind k e), behind, length_zeros (total_len k.units))
+
+-- ---- it is a code
+
+spots_fit : (n : ℕ) → AllByRecursion (IsSpot 0) (replicate n no_spot)
+spots_fit zero = tt
+spots_fit (suc n) = (record { template = omega arith; line = refl }, spots_fit n)
+
+length_replicate : (n : ℕ) → length (replicate n no_spot) ≡ n
+length_replicate zero = refl
+length_replicate (suc n) = ap suc (length_replicate n)
+
+pub is_unplaced : (k : Code) → IsCode k → length (spelling (unplaced k)) ≤ max_bytes → IsCode (unplaced k)
+is_unplaced k h le = record {
+  globals = h.globals;
+  count_names = h.count_names;
+  names = h.names;
+  ascend = h.ascend;
+  distinct = h.distinct;
+  count_constants = h.count_constants;
+  constants = h.constants;
+  count_units = h.count_units;
+  units = h.units;
+  entry = record { entry = h.entry.entry; is = h.entry.is; emits = h.entry.emits; plain = h.entry.plain };
+  instructions = h.instructions;
+  count_templates = omega arith;
+  templates = tt;
+  ascend_templates = tt;
+  spots = spots_fit (total_len k.units);
+  placed = length_replicate (total_len k.units);
+  bytes = le;
+}
+
+-- ---- its runs
+
+no_place : (n i : ℕ) → option_and_then (place_of []) (slice_get (replicate n no_spot) i) ≡ None
+no_place zero i = refl
+no_place (suc n) zero = refl
+no_place (suc n) (suc i) = no_place n i
+
+module _ (k : Code) (bare : k.spots ≡ []) where
+  same_place : (u p : ℕ) → place_at (unplaced k) u p ≡ place_at k u p
+  same_place u p = no_place (total_len k.units) (total_len (take u k.units) + p) ∙ sym (ap (λ (ss : List Spot). option_and_then (place_of k.templates) (slice_get ss (total_len (take u k.units) + p))) bare)
+
+  same_action : (u : Section) (i : Instruction) (m : Machine) → action (unplaced k) u i m ≡ action k u i m
+  same_action u (op.Const c) m = refl
+  same_action u (op.Load c) m = refl
+  same_action u (op.Store c) m = refl
+  same_action u (op.GLoad c) m = refl
+  same_action u (op.GStore c) m = refl
+  same_action u op.Drop m = refl
+  same_action u op.Dup m = refl
+  same_action u (op.Emit a) m = refl
+  same_action u (op.Data c) m = refl
+  same_action u (op.Jump c) m = refl
+  same_action u (op.JumpIfFalse c) m = refl
+  same_action u (op.JumpIfTrue c) m = refl
+  same_action u (op.Op a) m = refl
+  same_action u (op.Filter a b c) m = refl
+  same_action u (op.Test a b) m = refl
+  same_action u (op.MakeList c) m = refl
+  same_action u (op.MakeMap c) m = refl
+  same_action u op.LoopStart m = refl
+  same_action u (op.LoopNext c) m = refl
+  same_action u (op.LoopGet a c) m = refl
+  same_action u (op.LoopKeep c) m = refl
+  same_action u op.LoopRewind m = refl
+  same_action u op.LoopEnd m = refl
+  same_action u op.CaptureBegin m = refl
+  same_action u (op.CaptureEnd a) m = refl
+  same_action u (op.Unpack c) m = refl
+  same_action u (op.Call c) m = refl
+  same_action u op.Return m = refl
+
+  same_tables : (i : Instruction) (s : config.State) → in_tables (unplaced k) i s ≡ in_tables k i s
+  same_tables (op.Const c) s = refl
+  same_tables (op.Load c) s = refl
+  same_tables (op.Store c) s = refl
+  same_tables (op.GLoad c) s = refl
+  same_tables (op.GStore c) s = refl
+  same_tables op.Drop s = refl
+  same_tables op.Dup s = refl
+  same_tables (op.Emit a) s = refl
+  same_tables (op.Data c) s = refl
+  same_tables (op.Jump c) s = refl
+  same_tables (op.JumpIfFalse c) s = refl
+  same_tables (op.JumpIfTrue c) s = refl
+  same_tables (op.Op a) s = refl
+  same_tables (op.Filter a b c) s = refl
+  same_tables (op.Test a b) s = refl
+  same_tables (op.MakeList c) s = refl
+  same_tables (op.MakeMap c) s = refl
+  same_tables op.LoopStart s = refl
+  same_tables (op.LoopNext c) s = refl
+  same_tables (op.LoopGet a c) s = refl
+  same_tables (op.LoopKeep c) s = refl
+  same_tables op.LoopRewind s = refl
+  same_tables op.LoopEnd s = refl
+  same_tables op.CaptureBegin s = refl
+  same_tables (op.CaptureEnd a) s = refl
+  same_tables (op.Unpack c) s = refl
+  same_tables (op.Call c) s = refl
+  same_tables op.Return s = refl
+
+  same_strict : (u : Section) (i : Instruction) (m : Machine) → strict (unplaced k) u i m ≡ strict k u i m
+  same_strict u i m = ap (λ t. if t then action (unplaced k) u i m else wrong) (same_tables i m.state) ∙ ap (λ a. if in_tables k i m.state then a else wrong) (same_action u i m)
+
+  same_at : (q : Option (Section × Instruction)) (c : Config) → next_at (unplaced k) q c ≡ next_at k q c
+  same_at None c = refl
+  same_at (Some (u, i)) c =
+      ap (λ z. placed z (spends (cost i c.machine.state) (strict (unplaced k) u i c.machine) c.left)) (same_place c.machine.unit c.machine.point)
+      ∙ ap (λ a. placed (place_at k c.machine.unit c.machine.point) (spends (cost i c.machine.state) a c.left)) (same_strict u i c.machine)
+
+  same_next : (c : Config) → next (unplaced k) c ≡ next k c
+  same_next c = same_at (fetch k c.machine.unit c.machine.point) c
+
+  then_same : (n : ℕ) (x : Next) → ((c : Config) → after (unplaced k) n c ≡ after k n c) → then_goes x (after (unplaced k) n) ≡ then_goes x (after k n)
+  then_same n (Goes c) h = h c
+  then_same n (Ends o) h = refl
+  then_same n Wrong h = refl
+
+  same_after : (n : ℕ) (c : Config) → after (unplaced k) n c ≡ after k n c
+  same_after zero c = refl
+  same_after (suc n) c = ap (λ x. then_goes x (after (unplaced k) n)) (same_next c) ∙ then_same n (next k c) (λ d. same_after n d)
+
+  same_from : (p : Option config.Limit) (x : Pairs) (b : Budget) (o : Outcome) → RunFrom p k x b o → RunFrom p (unplaced k) x b o
+  same_from (Some l) x b o r = r
+  same_from None x b o r = (r.0, same_after r.0 (start k x b) ∙ r.1)
+
+  pub same_run : (x : Pairs) (b : Budget) (o : Outcome) → Run k x b o → Run (unplaced k) x b o
+  same_run x b o r = same_from (passed b x k.names) x b o r
+
+pub put_together : (out m v d z one two three four : List ℕ) → one ≡ out ++ m → two ≡ one ++ v → three ≡ two ++ d → four ≡ three ++ z → four ≡ out ++ (m ++ (v ++ (d ++ z)))
+put_together out m v d z one two three four e1 e2 e3 e4 = rw (e4, e3, e2, e1) (simp append_assoc)

@@ -1,0 +1,198 @@
+//! Reading what stands behind the instructions: templates and spots.
+ghost use Rattle.std.specs.Prelude.{◌≡◌, ◌≤◌, ◌==◌, ◌&&◌, nat_le, nat_lt, List, [], length, drop, IfOk, Ok, Err, true};
+ghost use Rattle.std.specs.Int.{w16, w32};
+ghost use Rattle.std.specs.List.{AllByRecursion};
+ghost use Rattle.jt_image.specs.IsCode.{max_bytes, max_line};
+ghost use Rattle.jt_image.specs.InPlace.{templates_in, HasTemplate, spots_in, AreSpots, AreLast};
+ghost use Rattle.jt_image.specs.declared.version.Version.TheVariants as variant;
+ghost use Rattle.jt_image.specs.BackView.{back_in};
+ghost use Rattle.jt_image.specs.View.{spot_view};
+ghost use Rattle.jt_image.specs.Reading.{Gives, may_follow_texts, template_at, templates_at, all_templates_at, template_number_at, is_line, line_at, spot_at, spots_at, back_at};
+
+use crate::error::ImageError;
+use crate::fields::{text_at, u16_at, u32_at};
+use crate::limits::MAX_LINE;
+use crate::parts::Spot;
+use crate::places::template_in;
+use crate::version::Version;
+use std::alloc::Global;
+
+/// Where the templates and the spots begin.
+#[derive(Drop)]
+pub(crate) struct Back {
+    pub(crate) templates: Vec<u32>,
+    pub(crate) spots: u32,
+}
+
+fn may_follow(bytes: &[u8], templates: &[u32], text: &str) -> bool
+    requires { AllByRecursion (HasTemplate bytes.now) templates.now }
+    ensures { result ≡ may_follow_texts (templates_in bytes.now templates.now) text.now }
+{
+    match templates {
+        [] => !text.is_empty(),
+        [.., last] => template_in(bytes, *last) < text,
+    }
+}
+
+#[tactic(auto, unfolding(crate::specs::Reading::template_at))]
+fn template_at<'a>(
+    bytes: &[u8],
+    before: &[u32],
+    rest: &'a [u8],
+) -> Result<(&'a str, &'a [u8]), ImageError>
+    requires { AllByRecursion (HasTemplate bytes.now) before.now }
+    ensures { Gives (λ x. (x.0.now, x.1.now)) result
+        (template_at (templates_in bytes.now before.now) rest.now) }
+{
+    let (len, rest) = u16_at(rest)?;
+    let (text, rest) = text_at(len as usize, rest)?;
+    if !may_follow(bytes, before, text) {
+        return Err(ImageError::BadTable);
+    }
+    Ok((text, rest))
+}
+
+fn templates_at<'a>(
+    alloc: Global,
+    count: u16,
+    bytes: &[u8],
+    front: &'a [u8],
+) -> Result<(Vec<u32>, &'a [u8]), ImageError>
+    requires small { length bytes.now ≤ max_bytes }
+    requires last { AreLast bytes.now front.now }
+    ensures gives { Gives (λ x. (templates_in bytes.now x.0.items, x.1.now)) result
+        (templates_at count front.now) }
+    ensures there { IfOk result (λ x. AllByRecursion (HasTemplate bytes.now) x.0.items) }
+    ensures last { IfOk result (λ x. AreLast bytes.now x.1.now) }
+{
+    let mut templates: Vec<u32> = Vec::new(alloc);
+    let mut rest = front;
+    'templates: for _ in 0..count {
+        let (_, after) = template_at(bytes, &templates, rest)?;
+        templates.push((bytes.len() - rest.len()) as u32)?;
+        rest = after;
+    }
+    Ok((templates, rest))
+}
+
+#[tactic(auto, unfolding(crate::specs::Reading::all_templates_at))]
+fn all_templates_at<'a>(
+    alloc: Global,
+    bytes: &[u8],
+    front: &'a [u8],
+) -> Result<(Vec<u32>, &'a [u8]), ImageError>
+    requires small { length bytes.now ≤ max_bytes }
+    requires last { AreLast bytes.now front.now }
+    ensures gives { Gives (λ x. (templates_in bytes.now x.0.items, x.1.now)) result
+        (all_templates_at front.now) }
+    ensures there { IfOk result (λ x. AllByRecursion (HasTemplate bytes.now) x.0.items) }
+    ensures last { IfOk result (λ x. AreLast bytes.now x.1.now) }
+{
+    let (count, rest) = u16_at(front)?;
+    templates_at(alloc, count, bytes, rest)
+}
+
+#[tactic(auto, unfolding(crate::specs::Reading::template_number_at))]
+fn template_number_at(templates: usize, bytes: &[u8]) -> Result<(u16, &[u8]), ImageError>
+    ensures { Gives (λ x. (x.0, x.1.now)) result (template_number_at templates bytes.now) }
+{
+    let (number, rest) = u16_at(bytes)?;
+    if usize::from(number) > templates {
+        return Err(ImageError::BadTable);
+    }
+    Ok((number, rest))
+}
+
+pub(crate) fn is_line(template: u16, line: u32) -> bool
+    ensures { result ≡ is_line template line }
+{
+    if template == 0 {
+        line == 0
+    } else {
+        0 < line && line <= MAX_LINE
+    }
+}
+
+#[tactic(auto, unfolding(crate::specs::Reading::line_at))]
+fn line_at(template: u16, bytes: &[u8]) -> Result<(u32, &[u8]), ImageError>
+    ensures { Gives (λ x. (x.0, x.1.now)) result (line_at template bytes.now) }
+{
+    let (line, rest) = u32_at(bytes)?;
+    if !is_line(template, line) {
+        return Err(ImageError::BadTable);
+    }
+    Ok((line, rest))
+}
+
+#[tactic(auto, unfolding(crate::specs::Reading::spot_at))]
+fn spot_at(templates: usize, bytes: &[u8]) -> Result<(Spot, &[u8]), ImageError>
+    ensures { Gives (λ x. (spot_view x.0, x.1.now)) result (spot_at templates bytes.now) }
+{
+    let (template, rest) = template_number_at(templates, bytes)?;
+    let (line, rest) = line_at(template, rest)?;
+    Ok((Spot { template, line }, rest))
+}
+
+// the bytes behind that many spots
+fn behind_spots(templates: usize, count: u32, bytes: &[u8]) -> Result<&[u8], ImageError>
+    ensures { Gives (λ rest. (spots_in variant.Two templates count bytes.now, rest.now)) result
+        (spots_at templates count bytes.now) }
+{
+    let mut rest = bytes;
+    'spots: for _ in 0..count {
+        let (_, after) = spot_at(templates, rest)?;
+        rest = after;
+    }
+    Ok(rest)
+}
+
+#[tactic(auto, unfolding(crate::specs::Reading::back_at))]
+fn places_at<'a>(
+    alloc: Global,
+    count: u32,
+    bytes: &[u8],
+    front: &'a [u8],
+) -> Result<(Back, &'a [u8]), ImageError>
+    requires small { length bytes.now ≤ max_bytes }
+    requires last { AreLast bytes.now front.now }
+    ensures gives { Gives (λ x. (back_in variant.Two count bytes.now x.0, x.1.now)) result
+        (back_at variant.Two count front.now) }
+    ensures templates { IfOk result
+        (λ x. AllByRecursion (HasTemplate bytes.now) x.0.templates.items) }
+    ensures spots { IfOk result (λ x. AreSpots variant.Two (length x.0.templates.items) count (drop x.0.spots bytes.now)) }
+{
+    let (templates, rest) = all_templates_at(alloc, bytes, front)?;
+    let spots = (bytes.len() - rest.len()) as u32;
+    let rest = behind_spots(templates.len(), count, rest)?;
+    Ok((Back { templates, spots }, rest))
+}
+
+/// What stands behind so many instructions.
+#[tactic(auto, unfolding(crate::specs::Reading::back_at))]
+pub(crate) fn back_at<'a>(
+    alloc: Global,
+    version: Version,
+    count: u32,
+    bytes: &[u8],
+    front: &'a [u8],
+) -> Result<(Back, &'a [u8]), ImageError>
+    requires small { length bytes.now ≤ max_bytes }
+    requires last { AreLast bytes.now front.now }
+    ensures gives { Gives (λ x. (back_in version count bytes.now x.0, x.1.now)) result
+        (back_at version count front.now) }
+    ensures templates { IfOk result
+        (λ x. AllByRecursion (HasTemplate bytes.now) x.0.templates.items) }
+    ensures spots { IfOk result
+        (λ x. AreSpots version (length x.0.templates.items) count (drop x.0.spots bytes.now)) }
+{
+    match version {
+        Version::One => {
+            let back = Back {
+                templates: Vec::new(alloc),
+                spots: 0,
+            };
+            Ok((back, front))
+        }
+        Version::Two => places_at(alloc, count, bytes, front),
+    }
+}

@@ -1,0 +1,60 @@
+//! The one pass over an image's bytes, from left to right.
+ghost use Rattle.std.specs.Prelude.{◌≡◌, ◌==◌, nat_le, List, length, IfOk, MatchResult, Ok, Err, true};
+ghost use Rattle.std.specs.Int.{w16};
+ghost use Rattle.jt_image.specs.Code.{Code};
+ghost use Rattle.jt_image.specs.IsCode.{IsCode};
+ghost use Rattle.jt_image.specs.Spelling.{spelling};
+ghost use Rattle.jt_image.specs.declared.error.ImageError.TheVariants.{NoMemory};
+ghost use Rattle.jt_image.specs.InPlace.{code_in, Spells};
+ghost use Rattle.jt_image.specs.Reading.{Gives, code_of};
+
+use crate::back::back_at;
+use crate::error::ImageError;
+use crate::fields::{start_at, u16_at};
+use crate::limits::MAX_BYTES;
+use crate::places::Places;
+use crate::sections::units_at;
+use crate::tables::{all_constants_at, all_names_at};
+use std::alloc::Global;
+
+#[tactic(auto, unfolding(crate::specs::Reading::code_of))]
+fn read_through(alloc: Global, bytes: &[u8]) -> Result<Places, ImageError>
+    ensures gives { Gives (code_in bytes.now) result (code_of bytes.now) }
+    ensures spells { IfOk result (Spells bytes.now) }
+{
+    if bytes.len() > MAX_BYTES {
+        return Err(ImageError::LimitPassed);
+    }
+    let (version, rest) = start_at(bytes)?;
+    let (globals, rest) = u16_at(rest)?;
+    let (names, rest) = all_names_at(alloc, globals, bytes, rest)?;
+    let (constants, rest) = all_constants_at(alloc, bytes, rest)?;
+    let (units, rest) = units_at(alloc, bytes, rest)?;
+    let (back, rest) = back_at(alloc, version, units.instructions, bytes, rest)?;
+    if !rest.is_empty() {
+        return Err(ImageError::Trailing);
+    }
+    Ok(Places {
+        version,
+        globals,
+        names,
+        constants,
+        units: units.items,
+        instructions: units.instructions,
+        templates: back.templates,
+        spots: back.spots,
+    })
+}
+
+/// Where the parts of the code that the bytes spell stand in them, or the first fault of them.
+pub(crate) fn read(alloc: Global, bytes: &[u8]) -> Result<Places, ImageError>
+    ensures gives { Gives (code_in bytes.now) result (code_of bytes.now) }
+    ensures spells { IfOk result (Spells bytes.now) }
+    // the spelling of a code is read as that code, unless memory runs out
+    ensures only { (k : Code)
+        → IsCode k
+        → bytes.now ≡ spelling k
+        → MatchResult result (λ p. code_in bytes.now p ≡ k) (λ e. e ≡ NoMemory) }
+{
+    read_through(alloc, bytes)
+}

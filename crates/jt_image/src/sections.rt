@@ -1,0 +1,117 @@
+//! Reading the instructions of units: what stays of them is where those of each unit begin.
+ghost use Rattle.std.specs.Prelude.{◌≡◌, ◌≤◌, length, IfOk};
+ghost use Rattle.std.specs.List.{AllByRecursion};
+ghost use Rattle.jt_image.specs.HeaderView.{header_view, headers_view};
+ghost use Rattle.jt_image.specs.InPlace.{instructions_in, section_in, sections_in, HasUnit, AreCounted, AreLast};
+ghost use Rattle.jt_image.specs.IsCode.{total_len, max_bytes, max_instructions};
+ghost use Rattle.jt_image.specs.Reading.{Gives, header_total, instructions_at, section_at, sections_at, units_at};
+
+use crate::error::ImageError;
+use crate::fields::u16_at;
+use crate::places::UnitPlace;
+use crate::units::{Header, headers_at, instruction_at};
+use std::alloc::Global;
+
+/// Units, and how many instructions they have together.
+#[derive(Drop)]
+pub(crate) struct Units {
+    pub(crate) items: Vec<UnitPlace>,
+    pub(crate) instructions: u32,
+}
+
+// the bytes behind that many instructions
+fn behind_instructions(count: u32, bytes: &[u8]) -> Result<&[u8], ImageError>
+    ensures { Gives (λ rest. (instructions_in count bytes.now, rest.now)) result
+        (instructions_at count bytes.now) }
+{
+    let mut rest = bytes;
+    'code: for _ in 0..count {
+        let (_, after) = instruction_at(rest)?;
+        rest = after;
+    }
+    Ok(rest)
+}
+
+#[tactic(auto, unfolding(crate::specs::Reading::section_at))]
+fn place_at<'a>(
+    header: &Header,
+    first: u32,
+    bytes: &[u8],
+    front: &'a [u8],
+) -> Result<(UnitPlace, &'a [u8]), ImageError>
+    requires small { length bytes.now ≤ max_bytes }
+    requires last { AreLast bytes.now front.now }
+    ensures gives { Gives (λ x. (section_in bytes.now x.0, x.1.now)) result
+        (section_at (header_view header.now) front.now) }
+    ensures there { IfOk result (λ x. HasUnit bytes.now x.0) }
+    ensures counted { IfOk result (λ x. (x.0.first ≡ first) × (x.0.len ≡ header.now.len)) }
+    ensures last { IfOk result (λ x. AreLast bytes.now x.1.now) }
+{
+    let rest = behind_instructions(header.len, front)?;
+    let place = UnitPlace {
+        parameters: header.parameters,
+        kind: header.kind,
+        locals: header.locals,
+        len: header.len,
+        start: (bytes.len() - front.len()) as u32,
+        first,
+    };
+    Ok((place, rest))
+}
+
+fn places_at<'a>(
+    alloc: Global,
+    headers: &[Header],
+    bytes: &[u8],
+    front: &'a [u8],
+) -> Result<(Vec<UnitPlace>, &'a [u8]), ImageError>
+    requires small { length bytes.now ≤ max_bytes }
+    requires last { AreLast bytes.now front.now }
+    requires within { header_total (headers_view headers.now) ≤ max_instructions }
+    ensures gives { Gives (λ x. (sections_in bytes.now x.0.items, x.1.now)) result
+        (sections_at (headers_view headers.now) front.now) }
+    ensures there { IfOk result (λ x. AllByRecursion (HasUnit bytes.now) x.0.items) }
+    ensures counted { IfOk result (λ x. AreCounted 0 x.0.items) }
+    ensures last { IfOk result (λ x. AreLast bytes.now x.1.now) }
+{
+    let mut places: Vec<UnitPlace> = Vec::new(alloc);
+    let mut rest = front;
+    let mut first = 0;
+    'places: for header in headers {
+        let (place, after) = place_at(header, first, bytes, rest)?;
+        places.push(place)?;
+        first += header.len;
+        rest = after;
+    }
+    Ok((places, rest))
+}
+
+/// The units, and how many instructions they have.
+#[tactic(auto, unfolding(crate::specs::Reading::units_at))]
+pub(crate) fn units_at<'a>(
+    alloc: Global,
+    bytes: &[u8],
+    front: &'a [u8],
+) -> Result<(Units, &'a [u8]), ImageError>
+    requires small { length bytes.now ≤ max_bytes }
+    requires last { AreLast bytes.now front.now }
+    ensures gives { Gives (λ x. (sections_in bytes.now x.0.items.items, x.1.now)) result
+        (units_at front.now) }
+    ensures total { IfOk result
+        (λ x. x.0.instructions ≡ total_len (sections_in bytes.now x.0.items.items)) }
+    ensures there { IfOk result (λ x. AllByRecursion (HasUnit bytes.now) x.0.items.items) }
+    ensures counted { IfOk result (λ x. AreCounted 0 x.0.items.items) }
+    ensures last { IfOk result (λ x. AreLast bytes.now x.1.now) }
+{
+    let (count, rest) = u16_at(front)?;
+    if count == 0 {
+        return Err(ImageError::BadTable);
+    }
+    let (headers, rest) = headers_at(alloc, count, rest)?;
+    let (items, rest) = places_at(alloc, &headers.items, bytes, rest)?;
+    let units = Units {
+        items,
+        instructions: headers.total,
+    };
+    Ok((units, rest))
+}

@@ -1,0 +1,14 @@
+-- What a code that is refused comes to.
+use Rattle.std.proofs.Common.{◌≡◌, List, Ok, ℕ}
+use Rattle.jt_image.specs.Code.{Code}
+use Rattle.jt_image.specs.Reading.{code_of}
+use Rattle.jt_image.specs.Typed.{IsTyped}
+use Rattle.jt_verify.specs.Refusing.{RefusalHolds}
+use Rattle.jt_verify.specs.declared.Refusal.{Refusal}
+use Rattle.jt_verify.specs.declared.Refusal.TheVariants as refusal
+use Rattle.jt_program.specs.Ending.{of_code}
+use Rattle.jt_program.specs.Program.{IsNoImage}
+
+pub refused_code : (bytes : List ℕ) (k : Code) (r : Refusal) → code_of bytes ≡ Ok k → RefusalHolds k r → (IsTyped k → r ≡ refusal.NoMemory) → IsNoImage bytes (of_code r)
+refused_code bytes k refusal.NoMemory read holds exact = tt
+refused_code bytes k r read holds exact = (k, read, λ typed. let none = exact typed in absurd (cc), holds)
