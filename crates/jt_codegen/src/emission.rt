@@ -3,7 +3,7 @@
 ghost use Rattle.std.specs.Prelude.{◌≡◌, ◌≤◌, ℕ, List, Option, Some, length, IfOk, IfErr, OnOk};
 ghost use Rattle.jt_image.specs.Parts.{section_of_unit};
 ghost use Rattle.jt_trees.specs.Expressions.{Text};
-ghost use Rattle.jt_slots.specs.Got.{Place};
+ghost use Rattle.jt_value.specs.Place.{Place};
 ghost use Rattle.jt_slots.specs.Slots as slots;
 ghost use Rattle.jt_slots.specs.View.{slot_view, targets_view, expr_view, stmt_view, body_view, routine_view};
 ghost use Rattle.std.specs.Prelude.{option_map};

@@ -2,7 +2,7 @@
 
 ghost use Rattle.std.specs.Prelude.{Option, None, OnOk};
 ghost use Rattle.jt_image.specs.declared.instruction.Instruction.TheVariants as op;
-ghost use Rattle.jt_slots.specs.Got.{Place};
+ghost use Rattle.jt_value.specs.Place.{Place};
 ghost use Rattle.jt_slots.specs.View.{targets_view};
 ghost use Rattle.jt_lower.specs.Asm.{both, one};
 ghost use Rattle.jt_lower.specs.Lower.{take_asm, stores_asm};

@@ -9,7 +9,8 @@ use Rattle.jt_image.specs.declared.version.Version.{Version}
 use Rattle.jt_image.specs.declared.version.Version.TheVariants as version
 use Rattle.jt_image.specs.Code.{Section, Spot, Code}
 use Rattle.jt_image.specs.IsCode.{total_len, IsPlaced, IsCode}
-use Rattle.jt_image.specs.Places.{Place, place_of, place_at}
+use Rattle.jt_value.specs.Place.{Place}
+use Rattle.jt_image.specs.Places.{place_of, place_at}
 use Rattle.jt_image.specs.Config as config
 use Rattle.jt_image.specs.Config.{Budget, Config}
 use Rattle.jt_image.specs.Step.{strict, cost, fetch}

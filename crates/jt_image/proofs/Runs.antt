@@ -9,7 +9,8 @@ use Rattle.jt_value.specs.Pairs.{Pairs, look}
 use Rattle.jt_image.specs.declared.instruction.Instruction.{Instruction}
 use Rattle.jt_image.specs.Code.{Name, Section, Code}
 use Rattle.jt_image.specs.IsCode.{IsCode}
-use Rattle.jt_image.specs.Places.{Place, place_at}
+use Rattle.jt_value.specs.Place.{Place}
+use Rattle.jt_image.specs.Places.{place_at}
 use Rattle.jt_image.specs.Typed.{IsTyped}
 use Rattle.jt_image.specs.Config as config
 use Rattle.jt_image.specs.Config.{Budget, Outcome, Config}

@@ -16,7 +16,8 @@ use Rattle.jt_image.specs.declared.kind.Kind.TheVariants as kind
 use Rattle.jt_image.specs.declared.kind.Flaw.{Flaw}
 use Rattle.jt_image.specs.declared.kind.Flaw.TheVariants as flaw
 use Rattle.jt_image.specs.Code.{Section, Code}
-use Rattle.jt_image.specs.Places.{Place, place_at}
+use Rattle.jt_value.specs.Place.{Place}
+use Rattle.jt_image.specs.Places.{place_at}
 use Rattle.jt_image.specs.Effect as effect
 use Rattle.jt_image.specs.Effect.{Shape, Leads, require, pops, pops_many, pops_frame, pops_capture, pushes, gives, calls, goes_on, jumps, branches, may_return, effect, effect_of}
 use Rattle.jt_image.specs.Typed.{Shapes, Equal, HasSame, IsTypedBy, IsTyped}

@@ -16,11 +16,11 @@ use Rattle.jt_image.specs.Config.{State, Caller, Machine}
 use Rattle.jt_image.specs.Step.{constant_value, text_of, locals_of}
 use Rattle.jt_image.specs.Run.{filled, entry_locals, Run}
 use Rattle.jt_image.specs.Enough.{Enough}
-use Rattle.jt_image.specs.Places as image
 use Rattle.jt_image.specs.FreeRun as free
 use Rattle.jt_image.specs.FreeRun.{Free, exec, start_machine, ComesTo}
 use Rattle.jt_image.specs.Laws.{HasRuns}
-use Rattle.jt_slots.specs.Got.{Place, Got, gives, fails, deeper, bind}
+use Rattle.jt_value.specs.Place.{Place}
+use Rattle.jt_slots.specs.Got.{Got, gives, fails, deeper, bind}
 use Rattle.jt_slots.specs.Values.{bytes_of}
 use Rattle.jt_slots.specs.Slots.{with_locals, Routine, Program, Memory, Written, SCalls, smeanings, sperformed, scalls, globals_of, smean}
 use Rattle.jt_trees.specs.Expressions.{Text}
@@ -318,7 +318,7 @@ module _ (p : Program) (fit : ProgramFits p) where
   text_meant t (fails d q) e = absurd cc
   text_meant t deeper e = absurd cc
 
-  fault_meant : (f : Fault) (z : Option image.Place) (g : Got Text) → free.Failed f z ≡ run_seen (as_free g) → (q : Option Place) × (g ≡ fails f q) × (z ≡ option_map seen q)
+  fault_meant : (f : Fault) (z : Option Place) (g : Got Text) → free.Failed f z ≡ run_seen (as_free g) → (q : Option Place) × (g ≡ fails f q) × (z ≡ option_map seen q)
   fault_meant f z (gives s) e = absurd cc
   fault_meant f z (fails d q) e = let same : d ≡ f = cc in let there : z ≡ option_map seen q = cc in (q, ap (λ x. fails x q) same, there)
   fault_meant f z deeper e = absurd cc
@@ -350,7 +350,7 @@ module _ (p : Program) (fit : ProgramFits p) where
         let e = runs.text x b t r in
         (e.0, text_meant t (smean the_filters p x e.0) (over_free x e.0 (free.Finished t) (λ w. cc) e.1))
 
-    pub fault_means : (x : Pairs) (b : config.Budget) (f : Fault) (z : Option image.Place) → Run k x b (config.fault f z) → (n : ℕ) × (q : Option Place) × (smean the_filters p x n ≡ fails f q) × (z ≡ option_map seen q)
+    pub fault_means : (x : Pairs) (b : config.Budget) (f : Fault) (z : Option Place) → Run k x b (config.fault f z) → (n : ℕ) × (q : Option Place) × (smean the_filters p x n ≡ fails f q) × (z ≡ option_map seen q)
     fault_means x b f z r =
         let e = runs.fault x b f z r in
         let g = fault_meant f z (smean the_filters p x e.0) (over_free x e.0 (free.Failed f z) (λ w. cc) e.1) in

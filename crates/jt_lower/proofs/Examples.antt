@@ -10,7 +10,8 @@ use Rattle.jt_ids.specs.declared.op_id.OpId.TheVariants as o
 use Rattle.jt_image.specs.Ids.{operator_of, filter_of}
 use Rattle.jt_image.specs.Loops.{field_of}
 use Rattle.jt_image.specs.FreeRun.{Finished, Failed, exec, start_machine}
-use Rattle.jt_slots.specs.Got.{Place, gives, fails, deeper}
+use Rattle.jt_value.specs.Place.{Place}
+use Rattle.jt_slots.specs.Got.{gives, fails, deeper}
 use Rattle.jt_trees.specs.Expressions.{Text}
 use Rattle.jt_slots.specs.TheFilters.{the_filters}
 use Rattle.jt_slots.specs.Loops as loops

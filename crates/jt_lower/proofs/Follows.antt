@@ -9,7 +9,7 @@ use Rattle.jt_image.specs.Code.{Section, Code}
 use Rattle.jt_image.specs.Config.{Entry, value, frame, capture, State, Caller, Machine}
 use Rattle.jt_image.specs.Loops.{advanced}
 use Rattle.jt_image.specs.Step.{Plain, goes, faults_by, broken, plain, on_value, on_values, on_frame, with_entries, goes_on, wrong, straight, no_demand, calling, locals_of, entered, calls_unit, action, fetch}
-use Rattle.jt_slots.specs.Got.{Place}
+use Rattle.jt_value.specs.Place.{Place}
 use Rattle.jt_trees.specs.Expressions.{Text}
 use Rattle.jt_slots.specs.Slots.{SCalls}
 use Rattle.jt_lower.specs.Placed.{Table, PlacedFree, Failed, Going, on_placed, placed_at, placed_exec}

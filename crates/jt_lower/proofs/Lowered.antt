@@ -27,7 +27,8 @@ use Rattle.jt_ids.specs.OpTable.{op_id, op_operands}
 use Rattle.jt_ids.specs.TestTable.{test_id}
 use Rattle.jt_ops.specs.Making.{listed, mapped}
 use Rattle.jt_slots.specs.Takes.{InPairs}
-use Rattle.jt_slots.specs.Got.{Place, Got, gives, fails, deeper, bind, checked, at}
+use Rattle.jt_value.specs.Place.{Place}
+use Rattle.jt_slots.specs.Got.{Got, gives, fails, deeper, bind, checked, at}
 use Rattle.jt_slots.specs.Values.{shown, shown_text, bytes_of, as_value}
 use Rattle.jt_trees.specs.Expressions.{Text}
 use Rattle.jt_slots.specs.TheFilters.{the_filters}

@@ -9,7 +9,7 @@ use Rattle.jt_image.specs.Step.{Action, goes_on, ends, faulty, wrong, action, fe
 use Rattle.jt_image.specs.Places.{place_at}
 use Rattle.jt_image.specs.FreeRun as free
 use Rattle.jt_image.specs.FreeRun.{Free, on_action, exec_at, exec}
-use Rattle.jt_slots.specs.Got.{Place}
+use Rattle.jt_value.specs.Place.{Place}
 use Rattle.jt_lower.specs.Spots.{seen}
 use Rattle.jt_lower.specs.Placed.{Table, PlacedFree, Going, on_placed, placed_at, placed_exec, run_seen}
 

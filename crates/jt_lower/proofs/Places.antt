@@ -2,7 +2,8 @@
 use Rattle.std.proofs.Common.{ℕ, suc, Bool, true, false, if◌then◌else◌, List, [], ◌∷◌, ◌++◌, Option, Some, None}
 use Rattle.jt_value.specs.Tree as tree
 use Rattle.jt_value.specs.Tree.{Tree}
-use Rattle.jt_slots.specs.Got.{Place, Got, gives, fails, deeper, bind, checked, at}
+use Rattle.jt_value.specs.Place.{Place}
+use Rattle.jt_slots.specs.Got.{Got, gives, fails, deeper, bind, checked, at}
 use Rattle.jt_slots.specs.Filters.{Filters}
 use Rattle.jt_slots.specs.Values.{as_value}
 use Rattle.jt_slots.specs.Loops.{Loop, items_of_value}

@@ -3,7 +3,8 @@ use Rattle.std.proofs.Common.{◌≡◌, ℕ, zero, suc, ◌+◌, Bool, true, fa
 use Rattle.std.specs.Prelude.{slice_get, unwrap_or}
 use Rattle.jt_value.specs.Tree as tree
 use Rattle.jt_value.specs.Tree.{Tree}
-use Rattle.jt_slots.specs.Got.{Place, Got, gives, fails, deeper, bind, checked, at}
+use Rattle.jt_value.specs.Place.{Place}
+use Rattle.jt_slots.specs.Got.{Got, gives, fails, deeper, bind, checked, at}
 use Rattle.jt_slots.specs.Values.{shown, bytes_of, as_value}
 use Rattle.jt_slots.specs.Slots.{with_locals, SExpr, SRow, Targets, SStmt, SBody, Routine, Memory, Valued, Listed, Written, SCalls, local, store, take, make, valued, sturns, sgone_over, in_front, svalue, svalues, skept, smeaning, smeanings, sperformed, scalls, smean_of}
 use Rattle.jt_slots.specs.Filters.{Filters}

@@ -3,7 +3,7 @@ use Rattle.std.proofs.Common.{◌≡◌, ℕ, suc, ◌+◌, ◌/◌, ◌<◌, �
 use Rattle.std.specs.Prelude.{min, nat_lt}
 use Rattle.std.proofs.lemmas.List.{at_drop_all}
 use Rattle.std.proofs.lemmas.Bool.Decides.{nat_tests}
-use Rattle.jt_slots.specs.Got.{Place}
+use Rattle.jt_value.specs.Place.{Place}
 use Rattle.jt_slots.specs.Slots as slots
 use Rattle.jt_slots.specs.Slots.{none}
 use Rattle.jt_slots.specs.View.{entry_front, expr_view, row_view}

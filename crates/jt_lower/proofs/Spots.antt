@@ -14,9 +14,8 @@ use Rattle.jt_image.specs.declared.instruction.Instruction.TheVariants as op
 use Rattle.jt_image.specs.Code.{Section, Code}
 use Rattle.jt_image.specs.IsCode.{total_len}
 use Rattle.jt_image.specs.Step.{fetch}
-use Rattle.jt_image.specs.Places as image
 use Rattle.jt_image.specs.Places.{place_of, place_at}
-use Rattle.jt_slots.specs.Got.{Place}
+use Rattle.jt_value.specs.Place.{Place}
 use Rattle.jt_slots.specs.Slots.{Routine, Program}
 use Rattle.jt_trees.specs.Expressions.{Text}
 use Rattle.jt_trees.specs.Texts.{inserted, all_inserted}
@@ -83,7 +82,7 @@ in_there (Some r ∷ qs) (suc i) q e = inr (in_there qs i q e)
 
 -- ---- spots
 
-abbrev on_line : ℕ → Text → image.Place
+abbrev on_line : ℕ → Text → Place
 on_line n t = record { template = t; line = n }
 
 -- what a spot tells, where its template stands among those

@@ -19,7 +19,7 @@ use Rattle.jt_image.specs.Effect.{Shape, Leads, require, pops_many, pushes, make
 use Rattle.jt_image.specs.Ids.{operands_of, filter_of, accepts, takes}
 use Rattle.jt_image.specs.Loops.{field_id}
 use Rattle.jt_image.specs.Typed.{Equal, HasSame, IsTypedUnit, IsTyped, max_entries}
-use Rattle.jt_slots.specs.Got.{Place}
+use Rattle.jt_value.specs.Place.{Place}
 use Rattle.jt_slots.specs.Slots as slots
 use Rattle.jt_slots.specs.Slots.{Slot, local, global, Maker, SExpr, SRow, Targets, SStmt, SBody, Routine, Program}
 use Rattle.jt_lower.specs.Asm.{Asm, nil, one, both, choose, when, each, invoke, flat}

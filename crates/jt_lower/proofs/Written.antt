@@ -24,7 +24,7 @@ use Rattle.jt_image.specs.Code.{Section}
 use Rattle.jt_image.specs.IsCode.{IsInstruction, total_len, max_locals, max_instructions}
 use Rattle.jt_image.specs.Parts.{KeepsLimits}
 use Rattle.jt_image.specs.Typed.{max_entries}
-use Rattle.jt_slots.specs.Got.{Place}
+use Rattle.jt_value.specs.Place.{Place}
 use Rattle.jt_slots.specs.Slots as slots
 use Rattle.jt_slots.specs.Slots.{Slot, local, global, Maker, SExpr, SRow, Targets, SStmt, SBody, Routine, Program}
 use Rattle.jt_slots.specs.Size.{row_count, targets_height, expr_height, row_height, condition_height, stmt_height, body_height}

@@ -9,11 +9,11 @@ use Rattle.jt_image.specs.Parts.{KeepsLimits}
 use Rattle.jt_image.specs.Typed.{max_entries, IsTyped}
 use Rattle.jt_image.specs.Config as config
 use Rattle.jt_image.specs.Config.{Budget}
-use Rattle.jt_image.specs.Places as image
 use Rattle.jt_image.specs.Run.{Run}
 use Rattle.jt_image.specs.Enough.{Enough}
 use Rattle.jt_image.specs.FreeRun.{start_machine}
-use Rattle.jt_slots.specs.Got.{Place, gives, fails}
+use Rattle.jt_value.specs.Place.{Place}
+use Rattle.jt_slots.specs.Got.{gives, fails}
 use Rattle.jt_trees.specs.Expressions.{Text}
 use Rattle.jt_slots.specs.TheFilters.{the_filters}
 use Rattle.jt_slots.specs.Slots.{Routine, Program, smean_of, smean}
@@ -31,7 +31,7 @@ use Rattle.jt_slots.specs.Size.{body_height, routines_size}
 -- most so many deep; and what the program means, some budget is enough for.
 pub record DoesProgram (p : Program) : Type 0 where
   pub texts : (x : Pairs) (b : Budget) (t : Text) → Run (compiled p) x b (config.text t) → (n : ℕ) × (smean the_filters p x n ≡ gives t)
-  pub faults : (x : Pairs) (b : Budget) (f : Fault) (z : Option image.Place) → Run (compiled p) x b (config.fault f z) → (n : ℕ) × (q : Option Place) × (smean the_filters p x n ≡ fails f q) × (z ≡ option_map seen q)
+  pub faults : (x : Pairs) (b : Budget) (f : Fault) (z : Option Place) → Run (compiled p) x b (config.fault f z) → (n : ℕ) × (q : Option Place) × (smean the_filters p x n ≡ fails f q) × (z ≡ option_map seen q)
   pub enough_text : (x : Pairs) (n : ℕ) (t : Text) → smean the_filters p x n ≡ gives t → Enough (compiled p) x (config.text t)
   pub enough_fault : (x : Pairs) (n : ℕ) (f : Fault) (q : Option Place) → smean the_filters p x n ≡ fails f q → Enough (compiled p) x (config.fault f (option_map seen q))
 

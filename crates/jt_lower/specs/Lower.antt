@@ -13,7 +13,7 @@ use Rattle.jt_image.specs.Loops.{field_id}
 use Rattle.jt_image.specs.declared.version.Version.TheVariants as version
 use Rattle.jt_image.specs.Code as code
 use Rattle.jt_image.specs.Code.{Constant, Name, Section, Code}
-use Rattle.jt_slots.specs.Got.{Place}
+use Rattle.jt_value.specs.Place.{Place}
 use Rattle.jt_trees.specs.Expressions.{Text}
 use Rattle.jt_slots.specs.Loops as loops
 use Rattle.jt_slots.specs.Loops.{Field}

@@ -9,7 +9,7 @@ use Rattle.jt_image.specs.Config.{Machine}
 use Rattle.jt_image.specs.Step.{Action, goes_on, ends, faulty, wrong, action, fetch}
 use Rattle.jt_image.specs.FreeRun as free
 use Rattle.jt_image.specs.FreeRun.{Free}
-use Rattle.jt_slots.specs.Got.{Place}
+use Rattle.jt_value.specs.Place.{Place}
 use Rattle.jt_slots.specs.Slots.{Routine, Program}
 use Rattle.jt_lower.specs.Spots.{seen}
 use Rattle.jt_lower.specs.Lower.{routine_places}

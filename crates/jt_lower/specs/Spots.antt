@@ -2,13 +2,12 @@
 use Rattle.std.specs.Prelude.{ℕ, suc, List, [], ◌∷◌, Option, Some, None, if◌then◌else◌}
 use Rattle.std.specs.Str.{bytes_eq}
 use Rattle.jt_image.specs.Code.{Spot}
-use Rattle.jt_image.specs.Places as image
-use Rattle.jt_slots.specs.Got.{Place}
+use Rattle.jt_value.specs.Place.{Place}
 use Rattle.jt_trees.specs.Expressions.{Text}
 use Rattle.jt_trees.specs.Texts.{ascending}
 
 -- a place, as images have it
-abbrev pub seen : Place → image.Place
+abbrev pub seen : Place → Place
 seen q = record { template = q.template; line = q.line }
 
 abbrev pub templates_in : List (Option Place) → List Text

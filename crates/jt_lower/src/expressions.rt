@@ -2,7 +2,7 @@
 
 ghost use Rattle.std.specs.Prelude.{◌≡◌, ℕ, Option, OnOk};
 ghost use Rattle.jt_slots.specs.Size.{row_count};
-ghost use Rattle.jt_slots.specs.Got.{Place};
+ghost use Rattle.jt_value.specs.Place.{Place};
 ghost use Rattle.jt_slots.specs.Slots as slots;
 ghost use Rattle.jt_slots.specs.Slots.{none};
 ghost use Rattle.jt_slots.specs.View.{expr_view, row_view};

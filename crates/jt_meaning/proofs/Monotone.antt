@@ -8,7 +8,8 @@ use Rattle.jt_value.specs.Pairs.{Pairs}
 use Rattle.jt_ids.specs.declared.test_id.TestId.{TestId}
 use Rattle.jt_trees.specs.Expressions as written
 use Rattle.jt_trees.specs.Expressions.{Expr, constant, name, group, list_of, map_of, attribute, item, unary, binary, when, choice, Exprs, no_exprs, expr, no_pairs, pair, Text}
-use Rattle.jt_slots.specs.Got.{Place, Got, gives, fails, deeper, bind, at}
+use Rattle.jt_value.specs.Place.{Place}
+use Rattle.jt_slots.specs.Got.{Got, gives, fails, deeper, bind, at}
 use Rattle.jt_meaning.specs.Operators.{Form, operation, negation, conjunction, disjunction, form}
 use Rattle.jt_meaning.specs.Expressions.{asked, turned, either, combined, filtered, block_text, super_text, called, value, values, named_values}
 use Rattle.jt_slots.specs.Tests.{test_named}

@@ -3,7 +3,7 @@ use Rattle.std.proofs.Common.{◌≡◌, ℕ, suc, ◌+◌, Bool, true, false, i
 use Rattle.std.specs.Option.{option_or, is_none}
 use Rattle.jt_trees.specs.Expressions as written
 use Rattle.jt_trees.specs.Expressions.{Expr, Text}
-use Rattle.jt_slots.specs.Got.{Place}
+use Rattle.jt_value.specs.Place.{Place}
 use Rattle.jt_chains.specs.Uses.{count, keywords, set_in}
 use Rattle.jt_trees.specs.Statements.{Filtering, Stmt, data_of, print, choose, for_each, set, set_block, with_values, filter_block, autoescape, macro, include, import_as, import_from, extends, block, Body, end, stmt, Branches, no_branches, branch}
 use Rattle.jt_chains.specs.Chain.{Home, a_chain, BlockBody, blocks_of, blocks_in, blocks_under}

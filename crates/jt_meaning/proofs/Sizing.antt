@@ -12,7 +12,7 @@ use Rattle.jt_trees.specs.Expressions.{Expr, Literal, constant, name, group, lis
 use Rattle.jt_trees.specs.declared.expression.BinaryOperator.{BinaryOperator}
 use Rattle.jt_trees.specs.declared.expression.BinaryOperator.TheVariants as o
 use Rattle.jt_meaning.specs.Operators.{Form, operation, negation, conjunction, disjunction, form}
-use Rattle.jt_slots.specs.Got.{Place}
+use Rattle.jt_value.specs.Place.{Place}
 use Rattle.jt_slots.specs.Tests.{test_named}
 use Rattle.jt_chains.specs.Uses.{count, keywords, set_by, set_in, set_under}
 use Rattle.jt_trees.specs.Statements.{Parameter, Filtering, Stmt, data_of, print, choose, for_each, set, set_block, with_values, filter_block, autoescape, macro, include, import_as, import_from, extends, block, Body, end, stmt, Branches, no_branches, branch, condition_weight, filtering_weight}

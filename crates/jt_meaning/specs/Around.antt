@@ -1,7 +1,8 @@
 -- What stands around an expression or a statement, and what is called from it.
 use Rattle.std.specs.Prelude.{ℕ, Bool, List, Option}
 use Rattle.jt_value.specs.Pairs.{Pairs}
-use Rattle.jt_slots.specs.Got.{Place, Got}
+use Rattle.jt_value.specs.Place.{Place}
+use Rattle.jt_slots.specs.Got.{Got}
 use Rattle.jt_trees.specs.Expressions.{Text}
 use Rattle.jt_meaning.specs.Env.{Env}
 use Rattle.jt_chains.specs.Chain.{Home, BlockBody, MacroBody}

@@ -8,7 +8,7 @@ use Rattle.jt_ids.specs.declared.op_id.OpId.{OpId}
 use Rattle.jt_ids.specs.declared.op_id.OpId.TheVariants as op
 use Rattle.jt_ids.specs.declared.test_id.TestId.{TestId}
 use Rattle.jt_trees.specs.Expressions.{Expr, constant, name, group, list_of, map_of, attribute, item, call, filter, test, unary, binary, when, choice, Exprs, no_exprs, expr, Pairs, no_pairs, pair, Text}
-use Rattle.jt_slots.specs.Got.{Place}
+use Rattle.jt_value.specs.Place.{Place}
 use Rattle.jt_meaning.specs.Operators.{unary_operation, Form, operation, negation, conjunction, disjunction, form, range_of}
 use Rattle.jt_slots.specs.Tests.{test_named}
 use Rattle.jt_slots.specs.Values.{literal}

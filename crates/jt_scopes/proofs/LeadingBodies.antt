@@ -6,7 +6,7 @@ use Rattle.jt_value.specs.Tree.{Tree}
 use Rattle.jt_value.specs.View.{view}
 use Rattle.jt_value.specs.declared.value.Value.{Value}
 use Rattle.jt_trees.specs.Expressions.{Text}
-use Rattle.jt_slots.specs.Got.{Place}
+use Rattle.jt_value.specs.Place.{Place}
 use Rattle.jt_slots.specs.Pool.{Constant, own, expr_values, condition_values, stmt_values, body_values, placed_expr, placed_condition, placed_stmt, placed_body}
 use Rattle.jt_slots.specs.Slots as slots
 use Rattle.jt_slots.specs.Slots.{SExpr, SRow, SBody}

@@ -8,7 +8,7 @@ use Rattle.std.specs.Str.{bytes_eq}
 use Rattle.jt_trees.specs.Expressions.{Text}
 use Rattle.jt_chains.specs.Chain.{Template}
 use Rattle.jt_chains.specs.Parts.{name_at}
-use Rattle.jt_slots.specs.Got as got
+use Rattle.jt_value.specs.Place as place
 use Rattle.jt_slots.specs.Slots.{Slot, local}
 use Rattle.jt_slots.specs.View.{place_view, slot_view}
 use Rattle.jt_slots.specs.declared.program.Slot as code_slot
@@ -24,7 +24,7 @@ pub name_shown : (ts : List Template) (i : ℕ) → unwrap_or (slice_get (map (�
 name_shown ts i = ap (λ o. unwrap_or o []) (slice_get-map (λ (t : Template). t.name) ts i)
 
 pub place_shown : (ts : List Template) (i line : ℕ) → place_view (map (λ t. t.name) ts) (record { template = i; line = line }) ≡ record { template = name_at ts i; line = line }
-place_shown ts i line = ap (λ (x : Text). let p : got.Place = record { template = x; line = line } in p) (name_shown ts i)
+place_shown ts i line = ap (λ (x : Text). let p : place.Place = record { template = x; line = line } in p) (name_shown ts i)
 
 -- one scope more
 pub framed_push : (fs : List Frame) (f : Frame) (t : Table) → framed (fs ++ f ∷ []) t ≡ bound_table (texts f.names.items) f.first (framed fs t)

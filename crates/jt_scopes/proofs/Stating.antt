@@ -16,7 +16,7 @@ use Rattle.jt_trees.specs.Texts.{among}
 use Rattle.jt_trees.specs.StatementView.{names_view, stmt_view, body_view, branches_view}
 use Rattle.jt_trees.specs.declared.statement.Stmt.{Stmt}
 use Rattle.jt_trees.specs.declared.statement.Stmt.TheVariants as v
-use Rattle.jt_slots.specs.Got.{Place}
+use Rattle.jt_value.specs.Place.{Place}
 use Rattle.jt_slots.specs.Pool.{Constant}
 use Rattle.jt_slots.specs.Slots as slots
 use Rattle.jt_slots.specs.Slots.{Slot, SExpr, SBody, local, global, one, Targets}

@@ -8,7 +8,7 @@ use Rattle.jt_trees.specs.Statements.{Branches}
 use Rattle.jt_trees.specs.Expressions as expressions
 use Rattle.jt_chains.specs.Chain.{Template}
 use Rattle.jt_chains.specs.Uses.{set_in}
-use Rattle.jt_slots.specs.Got as got
+use Rattle.jt_value.specs.Place as place
 use Rattle.jt_slots.specs.Pool.{Constant, condition_values, body_values, placed_condition, placed_body}
 use Rattle.jt_slots.specs.Slots as slots
 use Rattle.jt_slots.specs.Slots.{SBody}
@@ -48,7 +48,7 @@ pub record StandsFor (whole left : SBody Constant) (f : Front) (old new : ℕ) :
   pub until : new ≡ old + length (body_values whole)
 
 -- a branch: the place of its tag, its condition and its statements
-pub record IsBranch (templates : List Text) (at : got.Place) (c : slots.SExpr Constant) (whole : SBody Constant) (b : Branch) (old new : List Tree) : Type 0 where
+pub record IsBranch (templates : List Text) (at : place.Place) (c : slots.SExpr Constant) (whole : SBody Constant) (b : Branch) (old new : List Tree) : Type 0 where
   pub between : List Tree
   pub stands : place_view templates b.0 ≡ at
   pub asked : IsPlaced c (expr_view b.1) old between
@@ -67,7 +67,7 @@ slot_if (Some j) i s = if j == i then s else None
 -- ---- the parts of a chain
 
 module _ (s : Scope) where
-  abbrev pub line_in : Spot → ℕ → got.Place
+  abbrev pub line_in : Spot → ℕ → place.Place
   line_in p line = resolve.place (spot_in s p) line
 
   abbrev pub stmt_in : trees.Stmt → Spot → SBody Constant

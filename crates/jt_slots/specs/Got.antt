@@ -1,12 +1,7 @@
 -- What a computation gives: a result, a fault with the place of its tag, or that it calls deeper than asked for.
-use Rattle.std.specs.Prelude.{ℕ, Option, Some, None, Result, Ok, Err}
+use Rattle.std.specs.Prelude.{Option, Some, None, Result, Ok, Err}
 use Rattle.jt_value.specs.declared.fault.Fault.{Fault}
-use Rattle.jt_trees.specs.Expressions.{Text}
-
--- where a fault was met: the template, and the line of the tag
-pub record Place : Type 0 where
-  pub template : Text
-  pub line : ℕ
+use Rattle.jt_value.specs.Place.{Place}
 
 pub data Got (A : Type 0) : Type 0 where
   gives : A → Got A

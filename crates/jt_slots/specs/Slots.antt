@@ -11,7 +11,8 @@ use Rattle.jt_ids.specs.declared.test_id.TestId.{TestId}
 use Rattle.jt_ops.specs.Operation.{operation, as_truth}
 use Rattle.jt_ops.specs.Testing.{tested}
 use Rattle.jt_ops.specs.Making.{listed, mapped}
-use Rattle.jt_slots.specs.Got.{Place, Got, gives, fails, deeper, bind, checked, at}
+use Rattle.jt_value.specs.Place.{Place}
+use Rattle.jt_slots.specs.Got.{Got, gives, fails, deeper, bind, checked, at}
 use Rattle.jt_slots.specs.Values.{shown, bytes_of, value_in, as_value}
 use Rattle.jt_trees.specs.Expressions.{Text}
 use Rattle.jt_slots.specs.Loops.{Loop, Field, loop_field, items_of_value, tree_at}

@@ -4,7 +4,7 @@ use Rattle.std.specs.declared.alloc.Global.{Global}
 use Rattle.jt_value.specs.View.{view}
 use Rattle.jt_ids.specs.FilterTable.{filter_id}
 use Rattle.jt_trees.specs.Expressions.{Text}
-use Rattle.jt_slots.specs.Got as got
+use Rattle.jt_value.specs.Place as place
 use Rattle.jt_slots.specs.Loops as loops
 use Rattle.jt_slots.specs.Slots as slots
 use Rattle.jt_slots.specs.Slots.{SRow, SBody}
@@ -88,7 +88,7 @@ body_front [] behind = behind
 body_front (f ∷ fs) behind = f (body_front fs behind)
 
 module _ (templates : List Text) where
-  abbrev pub place_view : Place → got.Place
+  abbrev pub place_view : Place → place.Place
   place_view p = record { template = unwrap_or (slice_get templates p.template) []; line = p.line }
 
   -- each branch has the later ones in its other part, and the last one the else part

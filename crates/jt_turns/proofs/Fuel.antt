@@ -9,7 +9,8 @@ use Rattle.jt_image.specs.Config as config
 use Rattle.jt_image.specs.Config.{Budget, Config, State}
 use Rattle.jt_image.specs.Step.{Action, goes_on, ends, faulty, wrong, cost, fetch, strict}
 use Rattle.jt_image.specs.Run.{Next, Goes, Ends, Wrong, after, next, next_at, spends, placed, then_goes, unless}
-use Rattle.jt_image.specs.Places.{Place, place_at}
+use Rattle.jt_value.specs.Place.{Place}
+use Rattle.jt_image.specs.Places.{place_at}
 use Rattle.jt_machine.specs.Session.{Status, going, done, lost, led, moved, told_of}
 use Rattle.jt_machine.specs.declared.outcome.Progress.TheVariants as progress
 use Rattle.jt_turns.specs.Standing.{fuel_of}

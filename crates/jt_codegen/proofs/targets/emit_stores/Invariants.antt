@@ -1,5 +1,5 @@
 use Rattle.std.proofs.Common.{Option, drop}
-use Rattle.jt_slots.specs.Got.{Place}
+use Rattle.jt_value.specs.Place.{Place}
 use Rattle.jt_lower.specs.Lower.{stores_asm}
 use Rattle.jt_lower.specs.Emission.{Puts}
 use Rattle.jt_codegen.specs.Statements.{slots_view}

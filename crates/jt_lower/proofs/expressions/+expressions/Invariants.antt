@@ -1,7 +1,7 @@
 use Rattle.std.proofs.Common.{ℕ, ◌+◌, ◌*◌, Option, drop}
 use Rattle.std.specs.Prelude.{max}
 use denote.Param.Weighed.{most}
-use Rattle.jt_slots.specs.Got.{Place}
+use Rattle.jt_value.specs.Place.{Place}
 use Rattle.jt_slots.specs.Slots.{none}
 use Rattle.jt_slots.specs.declared.program.SExpr.{size-SExpr}
 use Rattle.jt_slots.specs.View.{row_view}
