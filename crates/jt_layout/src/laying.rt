@@ -6,6 +6,7 @@ ghost use Rattle.jt_trees.specs.Expressions.{Text};
 ghost use Rattle.jt_chains.specs.Chain.{a_chain};
 ghost use Rattle.jt_chains.specs.Pages.{home_view};
 ghost use Rattle.jt_chains.specs.View.{chain_view};
+ghost use Rattle.jt_rules.specs.World.{World};
 ghost use Rattle.jt_rules.specs.declared.error.ScopeError.TheVariants as error;
 ghost use Rattle.jt_meaning.specs.Layout as layout;
 ghost use Rattle.jt_uses.specs.Names.{texts};
@@ -55,7 +56,7 @@ struct Places {
 
 /// A chain itself is one unit; a library is never rendered.
 fn entries_of(home: &Home) -> usize
-    ensures { result ≡ length (layout.entry_keys (home_view home.now)) }
+    ensures { (w : World) → result ≡ length (layout.entry_keys w (home_view home.now)) }
 {
     if home.is_library { 0 } else { 1 }
 }
@@ -103,19 +104,20 @@ fn lay_chain<'a>(
         (drop (home + 1) (its_order chain.now)) p.behind) }
     ensures refused { IfErr result (λ e. e ≡ error.NoMemory) }
 {
+    let itself = &chain.homes[home];
     let slots = Index::of(alloc, &names, front.slot)?;
     let macros = macros_of(alloc, chain, home, front.default)?;
     let given = given_by_name(alloc, chain, home)?;
     let bodies = bodies_of(alloc, chain, home)?;
     let counts = Counts {
-        entries: entries_of(&chain.homes[home]),
+        entries: entries_of(itself),
         names: names.len(),
         macros: macros.all.len(),
         bodies: bodies.all.len(),
     };
     let places = places_of(front, counts, macros.defaults.end)?;
     let laid = Laid {
-        is_library: chain.homes[home].is_library,
+        is_library: itself.is_library,
         names,
         slots,
         first_slot: front.slot,
