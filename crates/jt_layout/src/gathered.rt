@@ -141,12 +141,12 @@ pub(crate) fn gather<'a>(
     let mut left = chain.homes.len();
     while left > 0 {
         left -= 1;
-        let home = &chain.homes[left];
-        if home.is_library {
+        let itself = &chain.homes[left];
+        if itself.is_library {
             continue;
         }
         let names = names_of_chain(alloc, chain, left, sources, &gathered)?;
-        gathered.put(home.name.as_str(), names)?;
+        gathered.put(itself.name.as_str(), names)?;
     }
     Ok(gathered)
 }

@@ -13,8 +13,8 @@ use Rattle.jt_chains.proofs.Placed.{name_of_home}
 use Rattle.jt_layout.proofs.Named.{names_turn, names_kept}
 use Rattle.jt_layout.proofs.gathered.gather.Goals as goal
 
-pub loop-left-preserved-then-home : goal.loop-left-preserved-then-home
-loop-left-preserved-then-home c =
+pub loop-left-preserved-then-itself : goal.loop-left-preserved-then-itself
+loop-left-preserved-then-itself c =
     let l = c.loop-left in
     let hs = c.args.chain.now.homes.items in
     let order = (chain_view c.args.chain.now).order in
@@ -24,8 +24,8 @@ loop-left-preserved-then-home c =
     let lt : i < length hs = omega arith in
     let lt' : i < length order = omega (arith, length-map hs home_view) in
     let more : l.left ≡ i + 1 = omega arith in
-    let n = string_bytes c.index-home.result.now.name in
-    let is : home_at order i ≡ a_library n = name_of_home hs i c.index-home.result.now lt c.index-home.ensures ∙ ap (λ b. home_named b n) c.if-home.true in
+    let n = string_bytes c.index-itself.result.now.name in
+    let is : home_at order i ≡ a_library n = name_of_home hs i c.index-itself.result.now lt c.index-itself.ensures ∙ ap (λ b. home_named b n) c.if-itself.true in
     record {
       within = omega arith;
       found = λ x. names_kept world order i lt' (names_at l.gathered.names x) n x is (l.invariant.found x ∙ ap (λ k. names_in world (drop k order) (a_chain x)) more);
@@ -42,8 +42,8 @@ loop-left-preserved c =
     let lt : i < length hs = omega arith in
     let lt' : i < length order = omega (arith, length-map hs home_view) in
     let more : l.left ≡ i + 1 = omega arith in
-    let n = string_bytes c.index-home.result.now.name in
-    let is : home_at order i ≡ a_chain n = name_of_home hs i c.index-home.result.now lt c.index-home.ensures ∙ ap (λ b. home_named b n) c.if-home.false in
+    let n = string_bytes c.index-itself.result.now.name in
+    let is : home_at order i ≡ a_chain n = name_of_home hs i c.index-itself.result.now lt c.index-itself.ensures ∙ ap (λ b. home_named b n) c.if-itself.false in
     record {
       within = omega arith;
       found = λ x. c.in_ok-put.ensures.put x
