@@ -67,10 +67,23 @@ fn callee_named<'s>(scope: &'s Scope<'_>, name: &str) -> Result<Callee<'s>, Scop
         (callee_in scope.now (trees.name name.now))) }
     ensures refused { IfErr result (λ e. e ≡ error.NoMemory) }
 {
+    match given_named(scope, name) {
+        Some(given) => callee_given(scope, given),
+        None => Ok(built_in(name)),
+    }
+}
+
+/// What a name is given to.
+fn given_named<'s>(scope: &'s Scope<'_>, name: &str) -> Option<Given<'s>>
+    requires { IsLaidOut scope.now }
+    ensures { option_map
+        (given_view (chain_view scope.now.chain.now).templates (home_in scope.now)) result
+        ≡ given_to name.now (given_in scope.now) }
+{
     let here = &scope.homes[scope.home];
     match here.given_places.place(name) {
-        Some(place) => callee_given(scope, here.given[place].given),
-        None => Ok(built_in(name)),
+        Some(place) => Some(here.given[place].given),
+        None => None,
     }
 }
 
@@ -212,9 +225,8 @@ fn library_named<'s>(scope: &'s Scope<'_>, name: &str) -> Option<&'s str>
     requires { IsLaidOut scope.now }
     ensures { option_map (λ n. n.now) result ≡ library_of (given_to name.now (given_in scope.now)) }
 {
-    let here = &scope.homes[scope.home];
-    match here.given_places.place(name) {
-        Some(place) => library_in(here.given[place].given),
+    match given_named(scope, name) {
+        Some(given) => library_in(given),
         None => None,
     }
 }

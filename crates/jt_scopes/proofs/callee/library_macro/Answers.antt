@@ -7,8 +7,8 @@ use Rattle.jt_scopes.specs.Scoped.{world_in, order_in}
 use Rattle.jt_scopes.proofs.Imported.{nowhere}
 use Rattle.jt_scopes.proofs.callee.library_macro.Goals as goal
 
-pub macro_at-requires-there : goal.macro_at-requires-there
-macro_at-requires-there c =
+pub macro_at-requires-clause-there : goal.macro_at-requires-clause-there
+macro_at-requires-clause-there c =
     let scope = c.args.scope.now in
     let P : Option ℕ → Type 0 = IsHomeAt (order_in scope) (a_library c.args.library.now) in
     let at = subst P (sym c.place.ensures ∙ c.in-Some.is) (c.requires.libraries c.args.library.now) in

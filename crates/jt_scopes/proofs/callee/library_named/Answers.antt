@@ -1,32 +1,20 @@
-use Rattle.std.proofs.Common.{◌≡◌, ℕ, sym, ap, ◌∙◌, subst, Option, Some, None}
-use Rattle.std.proofs.lemmas.Option.{get_or_from_slice_get}
-use Rattle.jt_chains.specs.Chain.{given_to}
+use Rattle.std.proofs.Common.{sym, ap, ◌∙◌}
+use Rattle.std.specs.Prelude.{option_map}
 use Rattle.jt_chains.specs.Named.{given_view}
 use Rattle.jt_chains.specs.View.{chain_view}
-use Rattle.jt_chains.specs.declared.given.Named.{Named}
-use Rattle.jt_layout.specs.Laid.{IsGiven}
 use Rattle.jt_scopes.specs.Callees.{library_of}
-use Rattle.jt_scopes.specs.Scoped.{world_in, order_in, home_in, given_in}
+use Rattle.jt_scopes.specs.Scoped.{home_in}
 use Rattle.jt_scopes.proofs.callee.library_named.Goals as goal
 
 pub returns-in-Some : goal.returns-in-Some
 returns-in-Some c =
     let scope = c.args.scope.now in
-    let x = c.args.name.now in
-    let here = c.index-here.result.now in
     let ts = (chain_view scope.chain.now).templates in
-    let laid = c.requires.each scope.home here c.requires.inside c.index-here.ensures in
-    let P : Option ℕ → Type 0 = λ o. IsGiven (world_in scope) (order_in scope) ts (home_in scope) here x o in
-    let at = subst P (sym c.place.ensures ∙ c.in-Some.is) (laid.given_names x) in
-    let found : c.index.result.now ≡ at.code = c.index.ensures ∙ get_or_from_slice_get here.given.items c.in-Some.place at.code c.index.result.now at.found in
-    c.library_in.ensures ts (home_in scope) ∙ ap (λ (z : Named). library_of (Some (given_view ts (home_in scope) z.given))) found ∙ sym (ap library_of at.meant)
+    let V = given_view ts (home_in scope) in
+    c.library_in.ensures ts (home_in scope) ∙ ap library_of (sym (ap (option_map V) c.in-Some.is) ∙ c.given_named.ensures)
 
 pub returns-in-None : goal.returns-in-None
 returns-in-None c =
     let scope = c.args.scope.now in
-    let x = c.args.name.now in
-    let here = c.index-here.result.now in
-    let laid = c.requires.each scope.home here c.requires.inside c.index-here.ensures in
-    let P : Option ℕ → Type 0 = λ o. IsGiven (world_in scope) (order_in scope) (chain_view scope.chain.now).templates (home_in scope) here x o in
-    let none : given_to x (given_in scope) ≡ None = subst P (sym c.place.ensures ∙ c.in-None.is) (laid.given_names x) in
-    sym (ap library_of none)
+    let V = given_view (chain_view scope.chain.now).templates (home_in scope) in
+    ap library_of (sym (ap (option_map V) c.in-None.is) ∙ c.given_named.ensures)
