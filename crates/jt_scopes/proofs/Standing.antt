@@ -50,15 +50,15 @@ mapped_past f k h (x ∷ xs) ys =
     let later : place_of k (map f xs ++ ys) ≡ length (map f xs) + place_of k ys = mapped_past f k h xs ys in
     ap (λ b. if b then 0 else suc (place_of k (map f xs ++ ys))) (h x) ∙ omega arith
 
-entry_past : (k : Home) (x : Text) (ys : List Key) → same_home k (a_chain x) ≡ false → place_of (of_chain x) (entry_keys k ++ ys) ≡ length (entry_keys k) + place_of (of_chain x) ys
-entry_past (a_chain n) x ys e = if_false (bytes_eq n x) 0 (suc (place_of (of_chain x) ys)) e ∙ omega arith
-entry_past (a_library n) x ys e = omega arith
+entry_past : (world : World) (k : Home) (x : Text) (ys : List Key) → same_home k (a_chain x) ≡ false → place_of (of_chain x) (entry_keys world k ++ ys) ≡ length (entry_keys world k) + place_of (of_chain x) ys
+entry_past world (a_chain n) x ys e = if_false (bytes_eq n x) 0 (suc (place_of (of_chain x) ys)) e ∙ omega arith
+entry_past world (a_library n) x ys e = omega arith
 
 pub absent_unit : (world : World) (ks : List Home) (x : Text) → listed (a_chain x) ks ≡ false → place_of (of_chain x) (flat_map (chain_keys world) ks) ≡ length (flat_map (chain_keys world) ks)
 absent_unit world [] x e = refl
 absent_unit world (k ∷ ks) x e =
     let both : (same_home k (a_chain x) ≡ false) × (listed (a_chain x) ks ≡ false) = neither (same_home k (a_chain x)) (listed (a_chain x) ks) e in
-    let es : List Key = entry_keys k in
+    let es : List Key = entry_keys world k in
     let ms : List Key = map (λ (m : MacroBody). of_macro k m.name) (macros world.sources k) in
     let bs : List Key = map (λ (b : ℕ × BlockBody). of_body k b.0) (numbered_bodies world k) in
     let rest : List Key = flat_map (chain_keys world) ks in
@@ -66,7 +66,7 @@ absent_unit world (k ∷ ks) x e =
     let past : place_of (of_chain x) (ms ++ (bs ++ rest)) ≡ length ms + place_of (of_chain x) (bs ++ rest) = mapped_past (λ (m : MacroBody). of_macro k m.name) (of_chain x) (λ m. refl) (macros world.sources k) (bs ++ rest) in
     let behind : place_of (of_chain x) (bs ++ rest) ≡ length bs + place_of (of_chain x) rest = mapped_past (λ (b : ℕ × BlockBody). of_body k b.0) (of_chain x) (λ b. refl) (numbered_bodies world k) rest in
     let found : place_of (of_chain x) (es ++ (ms ++ (bs ++ rest))) ≡ length es + (length ms + (length bs + length rest)) =
-    entry_past k x (ms ++ (bs ++ rest)) both.0 ∙ ap (λ n. length es + n) (past ∙ ap (λ n. length ms + n) (behind ∙ ap (λ n. length bs + n) last)) in
+    entry_past world k x (ms ++ (bs ++ rest)) both.0 ∙ ap (λ n. length es + n) (past ∙ ap (λ n. length ms + n) (behind ∙ ap (λ n. length bs + n) last)) in
     let same : (es ++ (ms ++ bs)) ++ rest ≡ es ++ (ms ++ (bs ++ rest)) = append_assoc es (ms ++ bs) rest ∙ ap (λ l. es ++ l) (append_assoc ms bs rest) in
     let long : length (es ++ (ms ++ (bs ++ rest))) ≡ length es + (length ms + (length bs + length rest)) =
     length-append es (ms ++ (bs ++ rest)) ∙ ap (λ n. length es + n) (length-append ms (bs ++ rest) ∙ ap (λ n. length ms + n) (length-append bs rest)) in
