@@ -4,6 +4,7 @@
 mod chaining;
 mod discovery;
 mod error;
+mod importing;
 mod including;
 mod library;
 mod names;
