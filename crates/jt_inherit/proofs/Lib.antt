@@ -7,6 +7,8 @@ pub mod Fewer
 pub mod Finding
 pub mod Following
 pub mod Growing
+pub mod Homes
+pub mod Imported
 pub mod Leads
 pub mod Lengths
 pub mod Listed
