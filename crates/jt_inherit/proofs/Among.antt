@@ -103,7 +103,7 @@ among_last old new x y e is n a = ⊎_elim (λ p. inl p) (λ q. inr (sym (only_a
 
 -- ---- different names among others are no more than these
 
-without : Text → List Text → List Text
+pub without : Text → List Text → List Text
 without x [] = []
 without x (y ∷ ys) = cond (bytes_eq y x) ys (y ∷ without x ys)
 
@@ -116,7 +116,7 @@ one_less x (y ∷ ys) a = by (bytes_eq y x) refl (one_less x ys)
     by true e r = ap suc (sym (ap (λ b. length (cond b ys (y ∷ without x ys))) e))
     by false e r = ap suc (r (sym (ap (λ b. b || among x ys) e) ∙ a) ∙ sym (ap (λ b. length (cond b ys (y ∷ without x ys))) e))
 
-still_among : (x z : Text) (ys : List Text) → bytes_eq x z ≡ false → among z ys ≡ true → among z (without x ys) ≡ true
+pub still_among : (x z : Text) (ys : List Text) → bytes_eq x z ≡ false → among z ys ≡ true → among z (without x ys) ≡ true
 unfolding without
 still_among x z [] n a = absurd (cc)
 still_among x z (y ∷ ys) n a = by (bytes_eq y x) refl (bytes_eq y z) refl (still_among x z ys n)

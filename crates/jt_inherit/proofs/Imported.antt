@@ -9,6 +9,7 @@ use Rattle.jt_trees.specs.Expressions.{Text}
 use Rattle.jt_trees.specs.Statements.{Body, Branches}
 use Rattle.jt_trees.specs.Texts.{among}
 use Rattle.jt_chains.specs.Chain.{Sources, Home, a_chain, a_library, Template, holds_macros, of_a_library, is_space, libraries_in, imports_in, all_given_from, given_from, macros, MacroBody, public_macro, Given, own}
+use Rattle.jt_chains.specs.Rules.{lacks_macros}
 use Rattle.jt_inherit.specs.Found.{known_of, chosen}
 use Rattle.jt_inherit.specs.Kept.{names_from, imported_names}
 use Rattle.jt_inherit.specs.Needs as needs
@@ -144,6 +145,24 @@ none_given s (trees.stmt (trees.extends line x) rest) h = absurd (cc)
 none_given s (trees.stmt (trees.block line x scoped required body) rest) h = absurd (cc)
 none_given s (trees.stmt (trees.import_as line n x) rest) h = absurd (cc)
 none_given s (trees.stmt (trees.import_from line n xs) rest) h = absurd (cc)
+
+pub none_lacking : (s : Sources) (b : Body) → holds_macros b ≡ true → lacks_macros s b ≡ false
+none_lacking s trees.end h = refl
+none_lacking s (trees.stmt (trees.data_of t) rest) h = none_lacking s rest (and_right (of_a_library (trees.data_of t)) (holds_macros rest) h)
+none_lacking s (trees.stmt (trees.macro line x ps body) rest) h = none_lacking s rest h
+none_lacking s (trees.stmt (trees.print line e) rest) h = absurd (cc)
+none_lacking s (trees.stmt (trees.choose bs other) rest) h = absurd (cc)
+none_lacking s (trees.stmt (trees.for_each line xs e c body other) rest) h = absurd (cc)
+none_lacking s (trees.stmt (trees.set line xs e) rest) h = absurd (cc)
+none_lacking s (trees.stmt (trees.set_block line x body) rest) h = absurd (cc)
+none_lacking s (trees.stmt (trees.with_values line ps body) rest) h = absurd (cc)
+none_lacking s (trees.stmt (trees.filter_block line fs body) rest) h = absurd (cc)
+none_lacking s (trees.stmt (trees.autoescape line on body) rest) h = absurd (cc)
+none_lacking s (trees.stmt (trees.include line n i c) rest) h = absurd (cc)
+none_lacking s (trees.stmt (trees.extends line x) rest) h = absurd (cc)
+none_lacking s (trees.stmt (trees.block line x scoped required body) rest) h = absurd (cc)
+none_lacking s (trees.stmt (trees.import_as line n x) rest) h = absurd (cc)
+none_lacking s (trees.stmt (trees.import_from line n xs) rest) h = absurd (cc)
 
 -- ---- the names that imports give
 

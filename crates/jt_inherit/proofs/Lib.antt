@@ -21,4 +21,5 @@ pub mod Raws
 pub mod Ruled
 pub mod Settled
 pub mod SuperIn
+pub mod Weighed
 pub mod Whole
